@@ -1,0 +1,25 @@
+//! The edges of a plane as numbers, for the crates that know no map.
+ghost use Rattle.std.specs.Prelude.{◌≡◌, ◌<◌, ℕ, length, All};
+
+/// The edges of a plane: each has the two tiles that it joins, and a number of registers.
+pub trait EdgeSizes {
+    ghost use Rattle.feast_base.specs.Edges.{EdgeSize, IsEdgeSize, size_at};
+    ghost use Rattle.std.specs.Prelude.{List};
+
+    ghost sizes: { Self → List EdgeSize };
+
+    /// How many edges there are. They are numbered from 0.
+    fn edges(&self) -> u32
+        ensures count { result ≡ length (sizes self.now) }
+        ensures ordered { All IsEdgeSize (sizes self.now) };
+
+    /// The two tiles of an edge, the lower first.
+    fn ends(&self, edge: u32) -> (u32, u32)
+        requires { edge < length (sizes self.now) }
+        ensures { (result.0 ≡ (size_at (sizes self.now) edge).lower) × (result.1 ≡ (size_at (sizes self.now) edge).higher) };
+
+    /// The number of registers of an edge, at least 1.
+    fn registers(&self, edge: u32) -> u32
+        requires { edge < length (sizes self.now) }
+        ensures { result ≡ (size_at (sizes self.now) edge).registers };
+}
