@@ -1,5 +1,5 @@
 -- The edges of a plane as numbers.
-use Rattle.std.specs.Prelude.{ℕ, ◌<◌, ◌≤◌, ◌^◌, List, slice_index_or}
+use Rattle.std.specs.Prelude.{ℕ, ◌<◌, ◌≤◌, List, slice_index_or}
 
 -- an edge: its two tiles, the lower one first, and its number of registers
 pub record EdgeSize : Type 0 where

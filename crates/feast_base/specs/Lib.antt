@@ -1,1 +1,5 @@
+pub mod Appending
+pub mod Digits
 pub mod Edges
+pub mod Loading
+pub mod Outside

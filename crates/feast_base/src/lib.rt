@@ -4,9 +4,20 @@
 #![tactic(auto)]
 
 mod edge_sizes;
+mod gate;
 mod memory;
+mod name;
 mod place;
+mod shelf;
+mod sink;
+mod source;
+pub mod text;
 
 pub use edge_sizes::EdgeSizes;
+pub use gate::{Gate, OpenGate};
 pub use memory::NoMemory;
+pub use name::Name;
 pub use place::{Place, Refusal};
+pub use shelf::{LoadFault, Shelf};
+pub use sink::{Sink, SinkFailed};
+pub use source::Source;

@@ -1,0 +1,46 @@
+//! Shelves, from which files are loaded.
+ghost use Rattle.std.specs.Prelude.{◌≡◌, ℕ, ◌^◌, ◌-◌, ◌<◌, List, Option, IsErrOf};
+ghost use Rattle.feast_base.specs.Outside.{File};
+ghost use Rattle.feast_base.specs.Loading.{Loads};
+
+use thiserror::Error;
+
+/// Why a load gave no file.
+#[derive(Clone, Copy, Debug, PartialEq, Eq, Error)]
+pub enum LoadFault {
+    /// There is no such file, or it can't be read.
+    #[error("unreadable")]
+    Failed,
+    /// The file is longer than the limit.
+    #[error("too long")]
+    TooLong,
+    /// Want of memory.
+    #[error("out of memory")]
+    NoMemory,
+}
+
+/// A place that files are loaded from.
+///
+/// It has three meanings. `files` are the files that it holds, where it tells them; no call
+/// changes them. `failed` are the names whose load failed, in the order of the loads. `may_fail`
+/// says of a name whether a load of it may fail from now on.
+pub trait Shelf {
+    ghost files: { Self → Option (List File) };
+
+    ghost failed: { Self → List (List ℕ) };
+
+    ghost may_fail: { Self → List ℕ → Type 0 };
+
+    /// Appends the whole file of that name to `into`, where it has at most `limit` bytes.
+    ///
+    /// `Failed` comes where there is no such file or it can't be read, and then the name is
+    /// appended to the names that failed. `TooLong` comes where the file has more bytes than
+    /// `limit`, of which `limit + 1` were appended. After a fault the earlier bytes of `into`
+    /// still stand before what was appended.
+    fn load(&mut self, name: &str, limit: usize, into: &mut Vec<u8>) -> Result<(), LoadFault>
+        requires { limit < 2 ^ 64 - 1 }
+        ensures files { files self.new ≡ files self.old }
+        ensures loads { Loads (files self.old) name.now limit (failed self.old) (failed self.new) into.old.items into.new.items result }
+        ensures cause { IsErrOf result LoadFault.Failed → may_fail self.old name.now }
+        ensures later { (n : List ℕ) → may_fail self.new n → may_fail self.old n };
+}

@@ -1,0 +1,33 @@
+//! Sinks, to which bytes are put.
+ghost use Rattle.std.specs.Prelude.{◌≡◌, ℕ, ◌+◌, ◌^◌, ◌-◌, ◌<◌, List, Option, IsErr, IsOk, length};
+ghost use Rattle.feast_base.specs.Loading.{Puts};
+
+use thiserror::Error;
+
+/// A put failed.
+#[derive(Clone, Copy, Debug, PartialEq, Eq, Error)]
+#[error("the sink failed")]
+pub struct SinkFailed;
+
+/// A place that bytes are put to.
+///
+/// It has three meanings. `written` are all bytes that were put, where it tells them. `faults` is
+/// how many faults there were; it never falls. `may_fail` says of a number of bytes whether
+/// putting so many more, in one piece or in several, may fail.
+pub trait Sink {
+    ghost written: { Self → Option (List ℕ) };
+
+    ghost faults: { Self → ℕ };
+
+    ghost may_fail: { Self → ℕ → Type 0 };
+
+    /// Appends all the bytes to what is written.
+    ///
+    /// After `SinkFailed` some of the first bytes were appended, and the number of faults rose.
+    fn put(&mut self, bytes: &[u8]) -> Result<(), SinkFailed>
+        requires some { 0 < length bytes.now }
+        requires room { faults self.old < 2 ^ 64 - 1 }
+        ensures puts { Puts (written self.old) (written self.new) (faults self.old) (faults self.new) bytes.now result }
+        ensures cause { IsErr result → may_fail self.old (length bytes.now) }
+        ensures later { IsOk result → (m : ℕ) → may_fail self.new m → may_fail self.old (length bytes.now + m) };
+}
