@@ -22,3 +22,16 @@ pub record Loads {T : Type 0} (files : Option (List File)) (name : List ℕ) (li
 abbrev pub Puts : {T : Type 0} → Option (List ℕ) → Option (List ℕ) → ℕ → ℕ → List ℕ → Result T SinkFailed → Type 0
 Puts written written' faults faults' bytes (Ok x) = Grows written written' bytes × (faults' ≡ faults)
 Puts written written' faults faults' bytes (Err e) = (front : List ℕ) × (rest : List ℕ) × (bytes ≡ front ++ rest) × Grows written written' front × (faults < faults')
+
+-- how many bytes a reading loop took, answer by answer
+abbrev pub TookBytes : {T : Type 0} → ℕ → List ℕ → Result T LoadFault → Type 0
+TookBytes limit taken (Ok x) = length taken ≤ limit
+TookBytes limit taken (Err Failed) = length taken ≤ limit
+TookBytes limit taken (Err TooLong) = length taken ≡ limit + 1
+TookBytes limit taken (Err NoMemory) = length taken ≤ limit
+
+-- a reading loop appended some bytes
+pub record Takes {T : Type 0} (limit : ℕ) (into into' : List ℕ) (result : Result T LoadFault) : Type 0 where
+  pub taken : List ℕ
+  pub appended : into' ≡ into ++ taken
+  pub bound : TookBytes limit taken result

@@ -4,20 +4,29 @@
 #![tactic(auto)]
 
 mod edge_sizes;
+mod file_shelf;
 mod gate;
+mod mem_shelf;
+mod mem_sink;
 mod memory;
 mod name;
+mod noted;
 mod place;
 mod shelf;
 mod sink;
 mod source;
+mod std_sink;
 pub mod text;
 
 pub use edge_sizes::EdgeSizes;
+pub use file_shelf::FileShelf;
 pub use gate::{Gate, OpenGate};
+pub use mem_shelf::MemShelf;
+pub use mem_sink::MemSink;
 pub use memory::NoMemory;
 pub use name::Name;
 pub use place::{Place, Refusal};
 pub use shelf::{LoadFault, Shelf};
 pub use sink::{Sink, SinkFailed};
 pub use source::Source;
+pub use std_sink::StdSink;

@@ -1,0 +1,90 @@
+//! The files of the system.
+ghost use Rattle.std.specs.Prelude.{◌≡◌, ℕ, ◌+◌, ◌-◌, ◌^◌, ◌≤◌, ◌<◌, ◌⊎◌, ◌++◌, ◌∷◌, [], List, None, length};
+ghost use Rattle.feast_base.specs.Loading.{Loads, Takes};
+
+use crate::noted::note;
+use crate::{LoadFault, Name, Shelf};
+use std::alloc::Global;
+use std::fs;
+use std::io::Read;
+use std::marker::Model;
+use std::rt::Files;
+
+/// The files of the system. It tells none of them; it is seen as the names whose load failed.
+#[derive(Drop)]
+pub struct FileShelf<'a, R: Files> {
+    rt: &'a R,
+    alloc: Global,
+    failed: Vec<Name>,
+}
+
+impl<'a, R: Files> Model for FileShelf<'a, R> {
+    ghost use Rattle.std.specs.Prelude.{List, ℕ};
+
+    ghost Value = { List (List ℕ) };
+
+    ghost view = { λ s. s.failed.items };
+}
+
+impl<'a, R: Files> FileShelf<'a, R> {
+    /// The files that `rt` opens.
+    pub fn new(rt: &'a R, alloc: Global) -> FileShelf<'a, R>
+        ensures { result ≡ [] }
+    {
+        FileShelf {
+            rt,
+            alloc,
+            failed: Vec::new(alloc),
+        }
+    }
+}
+
+/// Appends what is left of a file, but at most `limit + 1` bytes.
+fn read_whole<S: Read>(file: &mut S, limit: usize, into: &mut Vec<u8>) -> Result<(), LoadFault>
+    requires { limit < 2 ^ 64 - 1 }
+    ensures { Takes limit into.old.items into.new.items result }
+{
+    let mut buffer = [0u8; 4096];
+    let mut left = limit + 1;
+    while left > 0 {
+        let want = left.min(buffer.len());
+        let count = match file.read(&mut buffer[..want]) {
+            Ok(count) => count,
+            Err(_) => return Err(LoadFault::Failed),
+        };
+        if count == 0 {
+            return Ok(());
+        }
+        match into.extend_from_slice(&buffer[..count]) {
+            Ok(()) => {}
+            Err(_) => return Err(LoadFault::NoMemory),
+        }
+        left -= count;
+    }
+    Err(LoadFault::TooLong)
+}
+
+impl<R: Files> Shelf for FileShelf<'_, R> {
+    ghost use Rattle.std.specs.Prelude.{None};
+
+    ghost files = { λ _. None };
+
+    ghost failed = { λ s. s };
+
+    ghost may_fail = { λ _ _. Unit {0} };
+
+    /// Appends the whole file of that path to `into`, where it has at most `limit` bytes.
+    ///
+    /// `Failed` comes where it can't be opened or a read fails.
+    fn load(&mut self, name: &str, limit: usize, into: &mut Vec<u8>) -> Result<(), LoadFault> {
+        let mut file = match fs::open(self.rt, name) {
+            Ok(file) => file,
+            Err(_) => return Err(note(self.alloc, &mut self.failed, name)),
+        };
+        match read_whole(&mut file, limit, into) {
+            Ok(()) => Ok(()),
+            Err(LoadFault::Failed) => Err(note(self.alloc, &mut self.failed, name)),
+            Err(other) => Err(other),
+        }
+    }
+}

@@ -1,0 +1,98 @@
+//! The shelf in memory.
+ghost use Rattle.std.specs.Prelude.{◌≡◌, ℕ, ◌+◌, ◌-◌, ◌^◌, ◌≤◌, ◌<◌, ◌⊎◌, [], ◌∷◌, ◌++◌, List, Err, IsErrOf, Some, None, MatchOption};
+ghost use Rattle.feast_base.specs.Outside.{File, file_of};
+ghost use Rattle.feast_base.specs.Loading.{Loads};
+ghost use Rattle.feast_base.specs.Held.{next_call, LoadFails, LoadMayFail};
+
+use crate::noted::note;
+use crate::{LoadFault, Name, Shelf, Source};
+use std::alloc::Global;
+use std::marker::Model;
+
+/// Files in memory, some of whose loads fail.
+#[derive(Drop)]
+pub struct MemShelf {
+    alloc: Global,
+    files: Vec<Source>,
+    fail: Vec<u64>,
+    failed: Vec<Name>,
+    calls: u64,
+}
+
+impl Model for MemShelf {
+    ghost use Rattle.feast_base.specs.Held.{ShelfHeld};
+
+    ghost Value = { ShelfHeld };
+
+    ghost view = { λ s. record { files = s.files.items; failed = s.failed.items; calls = s.calls; fail = s.fail.items } };
+}
+
+/// The bytes of the first file of that name.
+fn found<'a>(files: &'a [Source], name: &str) -> Option<&'a [u8]>
+    ensures { MatchOption result (file_of name.now files.now ≡ None) (λ b. file_of name.now files.now ≡ Some b.now) }
+{
+    for file in files {
+        if file.name() == name {
+            return Some(file.bytes());
+        }
+    }
+    None
+}
+
+impl MemShelf {
+    /// A shelf of these files. Its loads of the numbers in `fail`, counted from 1, fail.
+    pub fn new(alloc: Global, files: Vec<Source>, fail: Vec<u64>) -> MemShelf
+        ensures { result ≡ record { files = files.items; failed = []; calls = 0; fail = fail.items } }
+    {
+        MemShelf {
+            alloc,
+            files,
+            fail,
+            failed: Vec::new(alloc),
+            calls: 0,
+        }
+    }
+}
+
+impl Shelf for MemShelf {
+    ghost files = { λ s. Some s.files };
+
+    ghost failed = { λ s. s.failed };
+
+    ghost may_fail = { LoadMayFail };
+
+    /// Appends the first file of that name to `into`, where it has at most `limit` bytes.
+    ///
+    /// `Failed` comes exactly where the number of this load is listed or no file has the name;
+    /// then nothing is appended to `into`. The count of loads stays at 2^64 - 1 once it is there.
+    fn load(&mut self, name: &str, limit: usize, into: &mut Vec<u8>) -> Result<(), LoadFault>
+        requires { limit < 2 ^ 64 - 1 }
+        ensures files { self.new.files ≡ self.old.files }
+        ensures loads { Loads (Some self.old.files) name.now limit self.old.failed self.new.failed into.old.items into.new.items result }
+        ensures cause { IsErrOf result LoadFault.Failed → LoadMayFail self.old name.now }
+        ensures later { (n : List ℕ) → LoadMayFail self.new n → LoadMayFail self.old n }
+        ensures only_where { IsErrOf result LoadFault.Failed → LoadFails self.old name.now }
+        ensures wherever { LoadFails self.old name.now → (result ≡ Err LoadFault.Failed) ⊎ (result ≡ Err LoadFault.NoMemory) }
+        ensures nothing { IsErrOf result LoadFault.Failed → into.new.items ≡ into.old.items }
+        ensures counted { self.new ≡ record self.old { calls = next_call self.old.calls; failed = self.new.failed } }
+    {
+        self.calls = self.calls.saturating_add(1);
+        if self.fail.contains(&self.calls) {
+            return Err(note(self.alloc, &mut self.failed, name));
+        }
+        let Some(bytes) = found(self.files.as_slice(), name) else {
+            return Err(note(self.alloc, &mut self.failed, name));
+        };
+        if bytes.len() > limit {
+            let (front, _) = bytes.split_at(limit + 1);
+            return match into.extend_from_slice(front) {
+                Ok(()) => Err(LoadFault::TooLong),
+                Err(_) => Err(LoadFault::NoMemory),
+            };
+        }
+        match into.extend_from_slice(bytes) {
+            Ok(()) => Ok(()),
+            Err(_) => Err(LoadFault::NoMemory),
+        }
+    }
+}
