@@ -4,3 +4,4 @@ pub mod Edges
 pub mod Held
 pub mod Loading
 pub mod Outside
+pub mod Refusals
