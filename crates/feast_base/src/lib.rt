@@ -17,6 +17,8 @@ mod shelf;
 mod sink;
 mod source;
 mod std_sink;
+#[cfg(test)]
+mod tests;
 pub mod text;
 
 pub use edge_sizes::EdgeSizes;
