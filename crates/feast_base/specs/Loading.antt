@@ -1,5 +1,5 @@
 -- What a load and a put leave, answer by answer.
-use Rattle.std.specs.Prelude.{◌≡◌, ℕ, ◌+◌, ◌<◌, ◌≤◌, List, [], ◌∷◌, ◌++◌, length, Option, Result, Ok, Err}
+use Rattle.std.specs.Prelude.{◌≡◌, ℕ, ◌+◌, ◌<◌, ◌≤◌, List, [], ◌∷◌, ◌++◌, length, take, Option, Result, Ok, Err}
 use Rattle.feast_base.specs.Outside.{File, TellsBytes, TellsLonger, TellsFront, Grows}
 use Rattle.feast_base.specs.declared.shelf.LoadFault.{LoadFault}
 use Rattle.feast_base.specs.declared.shelf.LoadFault.TheVariants.{Failed, TooLong, NoMemory}
@@ -9,7 +9,7 @@ use Rattle.feast_base.specs.declared.sink.SinkFailed.{SinkFailed}
 abbrev pub Answers : {T : Type 0} → Option (List File) → List ℕ → ℕ → List (List ℕ) → List (List ℕ) → List ℕ → Result T LoadFault → Type 0
 Answers files name limit failed failed' taken (Ok x) = (failed' ≡ failed) × (length taken ≤ limit) × TellsBytes files name taken
 Answers files name limit failed failed' taken (Err Failed) = failed' ≡ failed ++ name ∷ []
-Answers files name limit failed failed' taken (Err TooLong) = (failed' ≡ failed) × (length taken ≡ limit + 1) × TellsLonger files name limit × TellsFront files name taken
+Answers files name limit failed failed' taken (Err TooLong) = (failed' ≡ failed) × (length taken ≡ limit + 1) × TellsLonger files name limit × TellsFront files name (limit + 1) taken
 Answers files name limit failed failed' taken (Err NoMemory) = (failed' ≡ failed) × (length taken ≤ limit)
 
 -- a load: some bytes were appended to `into`, and the answer says which
@@ -17,6 +17,13 @@ pub record Loads {T : Type 0} (files : Option (List File)) (name : List ℕ) (li
   pub taken : List ℕ
   pub appended : into' ≡ into ++ taken
   pub answers : Answers files name limit failed failed' taken result
+
+-- a copy of bytes: all of them, or one past the limit where they are more
+abbrev pub Copies : {T : Type 0} → List ℕ → ℕ → List ℕ → List ℕ → Result T LoadFault → Type 0
+Copies bytes limit into into' (Ok x) = (length bytes ≤ limit) × (into' ≡ into ++ bytes)
+Copies bytes limit into into' (Err Failed) = ⊥
+Copies bytes limit into into' (Err TooLong) = (limit < length bytes) × (into' ≡ into ++ take (limit + 1) bytes)
+Copies bytes limit into into' (Err NoMemory) = into' ≡ into
 
 -- a put: all bytes and no fault, or a prefix and a fault
 abbrev pub Puts : {T : Type 0} → Option (List ℕ) → Option (List ℕ) → ℕ → ℕ → List ℕ → Result T SinkFailed → Type 0

@@ -1,5 +1,5 @@
 -- What a shelf tells of its files, and a sink of what was written.
-use Rattle.std.specs.Prelude.{◌≡◌, ℕ, ◌<◌, List, [], ◌∷◌, ◌++◌, length, Option, Some, None, if◌then◌else◌}
+use Rattle.std.specs.Prelude.{◌≡◌, ℕ, ◌<◌, List, [], ◌∷◌, ◌++◌, length, take, Option, Some, None, if◌then◌else◌}
 use Rattle.std.specs.Str.{bytes_eq}
 
 -- a file: its name and its bytes
@@ -21,10 +21,10 @@ abbrev pub TellsLonger : Option (List File) → List ℕ → ℕ → Type 0
 TellsLonger None name limit = Unit {0}
 TellsLonger (Some files) name limit = (bytes : List ℕ) × (file_of name files ≡ Some bytes) × (limit < length bytes)
 
--- where files are told, the first file of that name begins with these bytes
-abbrev pub TellsFront : Option (List File) → List ℕ → List ℕ → Type 0
-TellsFront None name front = Unit {0}
-TellsFront (Some files) name front = (rest : List ℕ) × (file_of name files ≡ Some (front ++ rest))
+-- where files are told, these are so many first bytes of the first file of that name
+abbrev pub TellsFront : Option (List File) → List ℕ → ℕ → List ℕ → Type 0
+TellsFront None name count front = Unit {0}
+TellsFront (Some files) name count front = (bytes : List ℕ) × (file_of name files ≡ Some bytes) × (front ≡ take count bytes)
 
 -- what was told has grown by this piece
 abbrev pub Grows : Option (List ℕ) → Option (List ℕ) → List ℕ → Type 0

@@ -6,46 +6,46 @@ use Rattle.feast_base.specs.declared.place.Refusal.{Refusal}
 -- the texts that show no number, each with its code
 abbrev pub plain_texts : List (ℕ × List ℕ)
 plain_texts =
-  (10, codes "bad byte") ∷
-  (11, codes "comment is not closed") ∷
-  (12, codes "number too large") ∷
-  (13, codes "too many tokens") ∷
-  (20, codes "syntax") ∷
-  (21, codes "nested too deep") ∷
-  (30, codes "name declared twice") ∷
-  (31, codes "unknown name") ∷
-  (32, codes "quark contains itself") ∷
-  (33, codes "no behave") ∷
-  (34, codes "bad constant") ∷
-  (35, codes "too many") ∷
-  (36, codes "bad width") ∷
-  (37, codes "base is not a quark") ∷
-  (38, codes "class is its own base") ∷
-  (39, codes "override does not match") ∷
-  (50, codes "wrong type") ∷
-  (51, codes "signed with unsigned") ∷
-  (52, codes "not assignable") ∷
-  (53, codes "wrong number of arguments") ∷
-  (54, codes "not an element") ∷
-  (55, codes "not in a loop") ∷
-  (56, codes "missing return") ∷
-  (60, codes "code is longer than 65536 instructions") ∷
-  (61, codes "not a code file") ∷
-  (62, codes "bad code file") ∷
-  (63, codes "code is not valid") ∷
-  (64, codes "name used twice") ∷
-  (70, codes "bad header") ∷
-  (71, codes "bad line") ∷
-  (72, codes "number out of range") ∷
-  (73, codes "unknown element") ∷
-  (74, codes "site is taken") ∷
-  (75, codes "too many attempts") ∷
-  (76, codes "missing line") ∷
-  (80, codes "bad line") ∷
-  (82, codes "not a site of the tile") ∷
-  (83, codes "not an attempt of the tile") ∷
-  (90, codes "not built yet") ∷
-  []
+    (10, codes "bad byte") ∷
+    (11, codes "comment is not closed") ∷
+    (12, codes "number too large") ∷
+    (13, codes "too many tokens") ∷
+    (20, codes "syntax") ∷
+    (21, codes "nested too deep") ∷
+    (30, codes "name declared twice") ∷
+    (31, codes "unknown name") ∷
+    (32, codes "quark contains itself") ∷
+    (33, codes "no behave") ∷
+    (34, codes "bad constant") ∷
+    (35, codes "too many") ∷
+    (36, codes "bad width") ∷
+    (37, codes "base is not a quark") ∷
+    (38, codes "class is its own base") ∷
+    (39, codes "override does not match") ∷
+    (50, codes "wrong type") ∷
+    (51, codes "signed with unsigned") ∷
+    (52, codes "not assignable") ∷
+    (53, codes "wrong number of arguments") ∷
+    (54, codes "not an element") ∷
+    (55, codes "not in a loop") ∷
+    (56, codes "missing return") ∷
+    (60, codes "code is longer than 65536 instructions") ∷
+    (61, codes "not a code file") ∷
+    (62, codes "bad code file") ∷
+    (63, codes "code is not valid") ∷
+    (64, codes "name used twice") ∷
+    (70, codes "bad header") ∷
+    (71, codes "bad line") ∷
+    (72, codes "number out of range") ∷
+    (73, codes "unknown element") ∷
+    (74, codes "site is taken") ∷
+    (75, codes "too many attempts") ∷
+    (76, codes "missing line") ∷
+    (80, codes "bad line") ∷
+    (82, codes "not a site of the tile") ∷
+    (83, codes "not an attempt of the tile") ∷
+    (90, codes "not built yet") ∷
+    []
 
 -- the text of a code in such a list
 abbrev pub text_in : ℕ → List (ℕ × List ℕ) → List ℕ
@@ -59,11 +59,11 @@ plain_text code = text_in code plain_texts
 -- the text of a code, with its number where it shows one
 abbrev pub refusal_text : ℕ → ℕ → List ℕ
 refusal_text code value =
-  if code == 40 then codes "quark takes " ++ (decimal value ++ codes " bits, at most 32")
-  else if code == 41 then codes "element takes " ++ (decimal value ++ codes " bits, at most 71")
-  else if code == 81 then codes "out of order after line " ++ decimal value
-  else if code == 84 then codes "journal has " ++ (decimal value ++ codes " records")
-  else plain_text code
+    if code == 40 then codes "quark takes " ++ (decimal value ++ codes " bits, at most 32")
+    else if code == 41 then codes "element takes " ++ (decimal value ++ codes " bits, at most 71")
+    else if code == 81 then codes "out of order after line " ++ decimal value
+    else if code == 84 then codes "journal has " ++ (decimal value ++ codes " records")
+    else plain_text code
 
 -- all codes
 abbrev pub all_codes : List ℕ
@@ -92,12 +92,12 @@ place_text name line column = (name ++ codes ":") ++ ((decimal line ++ codes ":"
 -- the line of a cause that has a place
 abbrev pub placed_line : List ℕ → Refusal → List ℕ
 placed_line name refusal =
-  place_text name refusal.place.line refusal.place.column ++ ((codes ": E" ++ (decimal refusal.code ++ codes " ")) ++ (refusal_text refusal.code refusal.value ++ codes "\n"))
+    place_text name refusal.place.line refusal.place.column ++ ((codes ": E" ++ (decimal refusal.code ++ codes " ")) ++ (refusal_text refusal.code refusal.value ++ codes "\n"))
 
 -- the line of a refusal: 0 tells of the words, 1 and 2 of a file as a whole, all other codes of a place in a file
 abbrev pub refusal_line : List ℕ → Refusal → List ℕ
 refusal_line name refusal =
-  if refusal.code == 0 then usage_line
-  else if refusal.code == 1 then unreadable_line name
-  else if refusal.code == 2 then longer_line name refusal.value
-  else placed_line name refusal
+    if refusal.code == 0 then usage_line
+    else if refusal.code == 1 then unreadable_line name
+    else if refusal.code == 2 then longer_line name refusal.value
+    else placed_line name refusal

@@ -1,7 +1,7 @@
 //! The shelf in memory.
 ghost use Rattle.std.specs.Prelude.{◌≡◌, ℕ, ◌+◌, ◌-◌, ◌^◌, ◌≤◌, ◌<◌, ◌⊎◌, [], ◌∷◌, ◌++◌, List, Err, IsErrOf, Some, None, MatchOption};
 ghost use Rattle.feast_base.specs.Outside.{File, file_of};
-ghost use Rattle.feast_base.specs.Loading.{Loads};
+ghost use Rattle.feast_base.specs.Loading.{Copies, Loads};
 ghost use Rattle.feast_base.specs.Held.{next_call, LoadFails, LoadMayFail};
 
 use crate::noted::note;
@@ -37,6 +37,23 @@ fn found<'a>(files: &'a [Source], name: &str) -> Option<&'a [u8]>
         }
     }
     None
+}
+
+/// Appends all the bytes, where they are at most `limit`, and else the first `limit + 1`.
+fn append_whole(bytes: &[u8], limit: usize, into: &mut Vec<u8>) -> Result<(), LoadFault>
+    requires { limit < 2 ^ 64 - 1 }
+    ensures { Copies bytes.now limit into.old.items into.new.items result }
+{
+    let Some((front, _)) = bytes.split_at_checked(limit + 1) else {
+        return match into.extend_from_slice(bytes) {
+            Ok(()) => Ok(()),
+            Err(_) => Err(LoadFault::NoMemory),
+        };
+    };
+    match into.extend_from_slice(front) {
+        Ok(()) => Err(LoadFault::TooLong),
+        Err(_) => Err(LoadFault::NoMemory),
+    }
 }
 
 impl MemShelf {
@@ -80,19 +97,9 @@ impl Shelf for MemShelf {
         if self.fail.contains(&self.calls) {
             return Err(note(self.alloc, &mut self.failed, name));
         }
-        let Some(bytes) = found(self.files.as_slice(), name) else {
-            return Err(note(self.alloc, &mut self.failed, name));
-        };
-        if bytes.len() > limit {
-            let (front, _) = bytes.split_at(limit + 1);
-            return match into.extend_from_slice(front) {
-                Ok(()) => Err(LoadFault::TooLong),
-                Err(_) => Err(LoadFault::NoMemory),
-            };
-        }
-        match into.extend_from_slice(bytes) {
-            Ok(()) => Ok(()),
-            Err(_) => Err(LoadFault::NoMemory),
+        match found(self.files.as_slice(), name) {
+            Some(bytes) => append_whole(bytes, limit, into),
+            None => Err(note(self.alloc, &mut self.failed, name)),
         }
     }
 }

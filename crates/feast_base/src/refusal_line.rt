@@ -7,7 +7,8 @@ use crate::text::{push, push_number};
 use crate::{NoMemory, Refusal};
 
 /// What the words of a call may be.
-const USAGE: &[u8] = b"E00 usage: feast check|code FILE.. | step|run WORLD FILE.. | replay WORLD JOURNAL FILE.. | gen N\n";
+const USAGE: &[u8] =
+    b"E00 usage: feast check|code FILE.. | step|run WORLD FILE.. | replay WORLD JOURNAL FILE.. | gen N\n";
 
 /// Appends the line that tells of a refusal of the file with this name.
 ///
@@ -103,12 +104,7 @@ fn push_text(out: &mut Vec<u8>, code: u8, value: u64) -> Result<(), NoMemory>
 }
 
 /// Appends a number between two texts.
-fn push_counted(
-    out: &mut Vec<u8>,
-    before: &[u8],
-    value: u64,
-    after: &[u8],
-) -> Result<(), NoMemory>
+fn push_counted(out: &mut Vec<u8>, before: &[u8], value: u64, after: &[u8]) -> Result<(), NoMemory>
     ensures { Appends out.old.items out.new.items result (before.now ++ (decimal value ++ after.now)) }
 {
     push(out, before)?;

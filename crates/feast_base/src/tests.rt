@@ -1,15 +1,15 @@
 //! Worked values, and each public call once.
 
+ghost use Rattle.feast_base.specs.Refusals.{IsCode};
+
 use crate::text::{push, push_hex, push_number};
 use crate::{
-    FileShelf, Gate, LoadFault, MemShelf, MemSink, Name, NoMemory, OpenGate, Place, Refusal,
-    Shelf, Sink, SinkFailed, Source, StdSink, print_refusal,
+    FileShelf, Gate, LoadFault, MemShelf, MemSink, Name, NoMemory, OpenGate, Place, Refusal, Shelf,
+    Sink, SinkFailed, Source, StdSink, print_refusal,
 };
 use std::alloc::Global;
 use std::test::Fail;
 use std::{fs, process};
-
-ghost use Rattle.feast_base.specs.Refusals.{IsCode};
 
 #[test]
 fn names_and_sources_keep_their_bytes(rt: HostRuntime) -> Result<(), Fail> {
@@ -27,15 +27,19 @@ fn a_shelf_in_memory_loads_the_first_file_of_a_name(rt: HostRuntime) -> Result<(
     let alloc = rt.alloc();
     let first = Source::new(alloc, "w", vec![in alloc; 1, 2, 3]?)?;
     let second = Source::new(alloc, "w", vec![in alloc; 4]?)?;
-    let mut shelf = MemShelf::new(
-        alloc,
-        vec![in alloc; first, second]?,
-        vec![in alloc; 2]?,
-    );
+    let mut shelf = MemShelf::new(alloc, vec![in alloc; first, second]?, vec![in alloc; 2]?);
     let mut into = vec![in alloc; 9]?;
     assert_eq!(rt; shelf.load("w", 3, &mut into), Ok(()));
-    assert_eq!(rt; shelf.load("w", 3, &mut into), Err(LoadFault::Failed), "call 2 is listed");
-    assert_eq!(rt; shelf.load("e", 3, &mut into), Err(LoadFault::Failed), "no such file");
+    assert_eq!(rt;
+        shelf.load("w", 3, &mut into),
+        Err(LoadFault::Failed),
+        "call 2 is listed"
+    );
+    assert_eq!(rt;
+        shelf.load("e", 3, &mut into),
+        Err(LoadFault::Failed),
+        "no such file"
+    );
     assert_eq!(rt; shelf.load("w", 1, &mut into), Err(LoadFault::TooLong));
     assert_eq!(rt; into.as_slice(), [9, 1, 2, 3, 1, 2].as_slice());
     Ok(())
@@ -123,7 +127,10 @@ fn texts_are_made_of_bytes_numbers_and_digits(rt: HostRuntime) -> Result<(), Fai
     push_number(&mut out, 18446744073709551615)?;
     push(&mut out, b" ")?;
     push_hex(&mut out, 0x1_0000_0000_00ab_cdef, 8)?;
-    assert_eq!(rt; out.as_slice(), b"a 18446744073709551615 00abcdef".as_slice());
+    assert_eq!(rt;
+        out.as_slice(),
+        b"a 18446744073709551615 00abcdef".as_slice()
+    );
     Ok(())
 }
 
