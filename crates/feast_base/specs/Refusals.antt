@@ -1,5 +1,5 @@
 -- The one line that tells of a refusal.
-use Rattle.std.specs.Prelude.{◌≡◌, ℕ, Bool, true, List, [], ◌∷◌, ◌++◌, codes, decimal, map, if◌then◌else◌, ◌==◌}
+use Rattle.std.specs.Prelude.{◌≡◌, ℕ, true, List, [], ◌∷◌, ◌++◌, codes, decimal, map, if◌then◌else◌, ◌==◌}
 use Rattle.std.specs.List.{list_any}
 use Rattle.feast_base.specs.declared.place.Refusal.{Refusal}
 
@@ -95,7 +95,7 @@ placed_line name refusal =
     place_text name refusal.place.line refusal.place.column ++ ((codes ": E" ++ (decimal refusal.code ++ codes " ")) ++ (refusal_text refusal.code refusal.value ++ codes "\n"))
 
 -- the line of a refusal: 0 tells of the words, 1 and 2 of a file as a whole, all other codes of a place in a file
-abbrev pub refusal_line : List ℕ → Refusal → List ℕ
+unfoldable pub refusal_line : List ℕ → Refusal → List ℕ
 refusal_line name refusal =
     if refusal.code == 0 then usage_line
     else if refusal.code == 1 then unreadable_line name

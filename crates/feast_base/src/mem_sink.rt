@@ -76,7 +76,7 @@ impl Sink for MemSink {
         requires some { 0 < length bytes.now }
         requires room { self.old.faults < 2 ^ 64 - 1 }
         ensures puts { Puts (Some self.old.written) (Some self.new.written) self.old.faults self.new.faults bytes.now result }
-        ensures cause { IsErr result → PutMayFail self.old (length bytes.now) }
+        ensures cause { IsErr result → (m : ℕ) → length bytes.now ≤ m → PutMayFail self.old m }
         ensures later { IsOk result → (m : ℕ) → PutMayFail self.new m → PutMayFail self.old (length bytes.now + m) }
         ensures exactly { IsErr result ↔ PutFails self.old (length bytes.now) }
         ensures all { OnOk result (self.new ≡ record self.old { written = self.old.written ++ bytes.now; calls = next_call self.old.calls }) }

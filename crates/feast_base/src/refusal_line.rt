@@ -16,6 +16,7 @@ const USAGE: &[u8] =
 /// unreadable, and 2 that it is longer than `value` bytes, without a place. Each other code is
 /// told as `NAME:LINE:COLUMN: ECODE TEXT`. The line ends with LF. `NoMemory` where `out` can't
 /// grow.
+#[tactic(auto, unfolding(crate::specs::Refusals::refusal_line))]
 pub fn print_refusal(name: &str, refusal: &Refusal, out: &mut Vec<u8>) -> Result<(), NoMemory>
     requires { IsCode refusal.now.code }
     ensures { Appends out.old.items out.new.items result (refusal_line name.now refusal.now) }
