@@ -16,8 +16,8 @@ is_end t p = p.0 == t || p.1 == t
 abbrev pub degree : ℕ → List (ℕ × ℕ) → ℕ
 degree t ps = length (filter (is_end t) ps)
 
-abbrev are_few : List (ℕ × ℕ) → ℕ → Bool
+abbrev pub are_few : List (ℕ × ℕ) → ℕ → Bool
 are_few ps n = list_all (λ t. nat_le (degree t ps) 8) (range_with_len 0 n)
 
-all_few : list_all (λ tx. list_all (λ ty. are_few (near_pairs tx (tx * ty)) (tx * ty)) (range_with_len 1 8)) (range_with_len 1 8) ≡ true
+pub all_few : list_all (λ tx. list_all (λ ty. are_few (near_pairs tx (tx * ty)) (tx * ty)) (range_with_len 1 8)) (range_with_len 1 8) ≡ true
 all_few = refl
