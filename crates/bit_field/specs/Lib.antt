@@ -1,1 +1,2 @@
 pub mod Atom
+pub mod Words

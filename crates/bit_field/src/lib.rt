@@ -1,2 +1,170 @@
 //! Atoms: a type number and 71 bits of state, read and written field by field.
+//!
+//! An atom is 96 bits: 16 bits of type number, 9 zero bits, 71 bits of state. Bit 0 of the state
+//! is its most significant one.
 #![tactic(auto)]
+
+ghost use Rattle.std.specs.Prelude.{◌≡◌, ℕ, ◌+◌, ◌*◌, ◌^◌, ◌<◌, ◌≤◌};
+ghost use Rattle.bit_field.specs.Atom.{AtomValue, IsAtom, field, bits_of, AreApart, LeavesGap};
+ghost use Rattle.bit_field.specs.Words.{AreWordsOf, atom_of, replaced, with_field};
+
+use std::marker::Model;
+
+const STATE_BITS: u32 = 71;
+
+/// An atom: a type number and a state.
+#[derive(Clone, Copy, Debug, PartialEq, Eq)]
+pub struct Atom {
+    kind: u16,
+    state: u128,
+}
+
+impl Model for Atom {
+    ghost use Rattle.bit_field.specs.Atom.{AtomValue, IsAtom};
+
+    ghost Value = { AtomValue };
+
+    ghost view = { λ a. record { kind = a.kind; state = a.state } };
+
+    ghost invariant = { λ a. IsAtom (record { kind = a.kind; state = a.state }) };
+
+    ghost inverse = { λ a. record { kind = a.kind; state = a.state } };
+}
+
+impl Atom {
+    /// The atom of a type and a state. The state is below 2^71.
+    pub fn new(kind: u16, state: u128) -> Atom
+        requires { state < 2 ^ 71 }
+        ensures { result ≡ record { kind = kind; state = state } }
+    {
+        Atom { kind, state }
+    }
+
+    /// The type number.
+    pub fn kind(&self) -> u16
+        ensures { result ≡ self.now.kind }
+    {
+        self.kind
+    }
+
+    /// The state, below 2^71.
+    pub fn state(&self) -> u128
+        ensures value { result ≡ self.now.state }
+        ensures bound { result < 2 ^ 71 }
+    {
+        self.state
+    }
+
+    /// The field of `width` bits from bit `first` of the state on. It has 1 to 64 bits and ends
+    /// at bit 71 at most.
+    pub fn get(&self, first: u32, width: u32) -> u64
+        requires some { 1 ≤ width }
+        requires fits { width ≤ 64 }
+        requires within { first + width ≤ 71 }
+        ensures value { result ≡ field self.now first width }
+        ensures bound { result < 2 ^ width }
+    {
+        let shift = STATE_BITS - first - width;
+        ((self.state >> shift) % (1u128 << width)) as u64
+    }
+
+    /// Sets the field of `width` bits from bit `first` of the state on, and no other bit. It has
+    /// 1 to 64 bits and ends at bit 71 at most, and the value fits it.
+    pub fn set(&mut self, first: u32, width: u32, value: u64)
+        requires some { 1 ≤ width }
+        requires fits { width ≤ 64 }
+        requires within { first + width ≤ 71 }
+        requires small { value < 2 ^ width }
+        ensures same { field self.new first width ≡ value }
+        ensures others { (other size : ℕ) → other + size ≤ 71 → AreApart first width other size → field self.new other size ≡ field self.old other size }
+        ensures kind { self.new.kind ≡ self.old.kind }
+        ensures whole { self.new ≡ with_field self.old first width value }
+    {
+        self.state = replace_bits(self.state, STATE_BITS - first - width, width, value);
+    }
+
+    /// The low 64 and the high 32 of the 96 bits.
+    pub fn to_words(&self) -> (u64, u32)
+        ensures words { AreWordsOf self.now result.0 result.1 }
+        ensures gap { LeavesGap result.1 }
+        ensures back { atom_of result.0 result.1 ≡ self.now }
+    {
+        let low = (self.state % (1u128 << 64)) as u64;
+        let high = (self.state >> 64) as u32;
+        (low, u32::from(self.kind) * 65536 + high)
+    }
+
+    /// The atom of the low 64 and the high 32 bits, of which bits 7 to 15 of the high ones are 0.
+    /// There is one such atom and no other.
+    pub fn from_words(low: u64, high: u32) -> Atom
+        requires { LeavesGap high }
+        ensures value { result ≡ atom_of low high }
+        ensures words { AreWordsOf result low high }
+        ensures only { (a : AtomValue) → IsAtom a → AreWordsOf a low high → a ≡ result }
+    {
+        let state = u128::from(high % 65536) * (1u128 << 64) + u128::from(low);
+        Atom {
+            kind: (high / 65536) as u16,
+            state,
+        }
+    }
+}
+
+// The number with the `width` bits above its low `shift` ones replaced.
+fn replace_bits(state: u128, shift: u32, width: u32, value: u64) -> u128
+    requires bound { state < 2 ^ 71 }
+    requires within { shift + width ≤ 71 }
+    requires small { value < 2 ^ width }
+    ensures value { result ≡ replaced state shift width value }
+    ensures below { result < 2 ^ 71 }
+{
+    let high = state >> shift >> width;
+    let low = state % (1u128 << shift);
+    (high * (1u128 << width) + u128::from(value)) * (1u128 << shift) + low
+}
+
+#[cfg(test)]
+mod tests {
+    use super::*;
+
+    #[test]
+    fn fields_are_counted_from_the_most_significant_bit(rt: HostRuntime) {
+        let atom = Atom::new(7, 0x55_0123_4567_89ab_cdef);
+        assert_eq!(rt; (atom.kind(), atom.state()), (7, 0x55_0123_4567_89ab_cdef));
+        let fields = [
+            (0, 1, 1),
+            (1, 1, 0),
+            (0, 7, 0x55),
+            (7, 8, 0x01),
+            (67, 4, 0xf),
+            (3, 8, 0x50),
+            (7, 64, 0x0123_4567_89ab_cdef),
+        ];
+        for (first, width, value) in fields {
+            assert_eq!(rt; atom.get(first, width), value, "{width} bits from {first}");
+        }
+    }
+
+    #[test]
+    fn a_field_is_set_in_its_place(rt: HostRuntime) {
+        let ones = (1u128 << 71) - 1;
+        let fields = [
+            (0, 1, 0, (1u128 << 70) - 1),
+            (67, 4, 0, ones - 15),
+            (7, 64, 0, 0x7f << 64),
+            (63, 8, 0x80, ones - 127),
+        ];
+        for (first, width, value, state) in fields {
+            let mut atom = Atom::new(9, ones);
+            atom.set(first, width, value);
+            assert_eq!(rt; atom, Atom::new(9, state), "{width} bits from {first}");
+        }
+    }
+
+    #[test]
+    fn words_have_the_type_on_top(rt: HostRuntime) {
+        let atom = Atom::new(0xabcd, 0x55_0123_4567_89ab_cdef);
+        assert_eq!(rt; atom.to_words(), (0x0123_4567_89ab_cdef, 0xabcd_0055));
+        assert_eq!(rt; Atom::from_words(0x0123_4567_89ab_cdef, 0xabcd_0055), atom);
+    }
+}

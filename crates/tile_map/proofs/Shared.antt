@@ -1,0 +1,195 @@
+-- The sites that two neighbours share are a rectangle, and their registers follow its rows.
+use Rattle.std.proofs.Common.{ℕ, zero, suc, ◌≡◌, ◌≢◌, ◌+◌, ◌-◌, ◌*◌, ◌/◌, ◌%◌, ◌<◌, ◌≤◌, min, max, Bool, true, false, ◌&&◌, ◌==◌, List, [], ◌∷◌, length, get_or, cond, refl, sym, ap, ◌∙◌, subst, arith, ◌⊎◌, inl, inr, ⊎_elim, Option, Some, None}
+use Rattle.std.specs.Prelude.{nat_le, nat_lt, filter, position, All, slice_get}
+use Rattle.std.specs.List.{position_or_len}
+use Rattle.std.specs.Option.{option_map}
+use Rattle.std.proofs.lemmas.Bool.Decides.{nat_tests}
+use Rattle.std.proofs.lemmas.Nat.{rows}
+use Rattle.std.proofs.lemmas.List.Sums.{position_or_len_is}
+use Rattle.std.proofs.lemmas.List.Elements.{filter_passes}
+use Rattle.std.proofs.lemmas.Option.{slice_get-get_or}
+use Rattle.tile_map.specs.Plane.{Site, MapValue, IsMap, site, tiles_of, sites_of, is_held}
+use Rattle.tile_map.specs.Edges.{are_neighbours, pairs_of, pair_at, shared_by, shared_of, register_of}
+use Rattle.tile_map.proofs.Lists.{both, together}
+use Rattle.tile_map.proofs.Blocks.{block, block_length, block_get, IsBlock, filter_block}
+use Rattle.tile_map.proofs.Spans.{test_le, test_lt, left_of, right_of, top_of, bottom_of, spans_meet, held_inside, held_span, not_left, not_right, not_above, not_under}
+use Rattle.tile_map.proofs.Pairs.{Joined, edge_joined, neighbours_near}
+
+-- the columns and rows that two tiles hold together
+abbrev pub left_both : MapValue → ℕ × ℕ → ℕ
+left_both m p = max (left_of m p.0) (left_of m p.1)
+
+abbrev pub right_both : MapValue → ℕ × ℕ → ℕ
+right_both m p = min (right_of m p.0) (right_of m p.1)
+
+abbrev pub top_both : MapValue → ℕ × ℕ → ℕ
+top_both m p = max (top_of m p.0) (top_of m p.1)
+
+abbrev pub bottom_both : MapValue → ℕ × ℕ → ℕ
+bottom_both m p = min (bottom_of m p.0) (bottom_of m p.1)
+
+record Near (m : MapValue) (t u : ℕ) : Type 0 where
+  pub left : t % m.tx ≤ u % m.tx + 1
+  pub right : u % m.tx ≤ t % m.tx + 1
+  pub up : t / m.tx ≤ u / m.tx + 1
+  pub down : u / m.tx ≤ t / m.tx + 1
+
+near_of : (m : MapValue) → IsMap m → (t u : ℕ) → are_neighbours m t u ≡ true → Near m t u
+near_of m k t u h =
+    let near = both _ _ (sym (neighbours_near m k t u) ∙ h) in
+    let parts = both _ _ near.1 in
+    let x = both _ _ parts.0 in
+    let y = both _ _ parts.1 in
+    record { left = test_le _ _ x.0; right = test_le _ _ x.1; up = test_le _ _ y.0; down = test_le _ _ y.1 }
+
+pub column_low : (m : MapValue) → IsMap m → (t : ℕ) → t < tiles_of m → t % m.tx < m.tx
+column_low m k t lt = grind (arith, rows, k.tx_low)
+
+pub row_low : (m : MapValue) → IsMap m → (t : ℕ) → t < tiles_of m → t / m.tx < m.ty
+row_low m k t lt = grind (arith, rows, k.tx_low)
+
+false_left : (a b : Bool) → a ≡ false → (a && b) ≡ false
+false_left true b h = absurd (cc (h))
+false_left false b h = refl
+
+false_right : (a b : Bool) → b ≡ false → (a && b) ≡ false
+false_right true b h = h
+false_right false b h = refl
+
+-- one of two numbers is the greater
+max_cases : (a b x : ℕ) → x < max a b → (x < a) ⊎ (x < b)
+max_cases a b x h = grind arith
+
+min_cases : (a b x : ℕ) → min a b ≤ x → (a ≤ x) ⊎ (b ≤ x)
+min_cases a b x h = grind arith
+
+shared_is_block : (m : MapValue) → IsMap m → (p : ℕ × ℕ) → Joined m p → IsBlock (λ s. is_held m p.0 s && is_held m p.1 s) (m.tx * m.w) (m.ty * m.h) (left_both m p) (right_both m p) (top_both m p) (bottom_both m p)
+shared_is_block m k p j =
+    let near = near_of m k p.0 p.1 j.near in
+    let a = column_low m k p.0 j.low in
+    let b = column_low m k p.1 j.high in
+    let c = row_low m k p.0 j.low in
+    let d = row_low m k p.1 j.high in
+    record {
+      across = spans_meet (m.tx * m.w) m.w (p.0 % m.tx) (p.1 % m.tx) m.tx k.w_low a b refl near.left near.right;
+      across_end = omega arith;
+      down = spans_meet (m.ty * m.h) m.h (p.0 / m.tx) (p.1 / m.tx) m.ty k.h_low c d refl near.up near.down;
+      down_end = omega arith;
+      within = λ u v e f g h. together _ _ (held_inside m p.0 u v j.low (omega arith) (omega arith) (omega arith) (omega arith)) (held_inside m p.1 u v j.high (omega arith) (omega arith) (omega arith) (omega arith));
+      left = λ u v h. fails u v (λ t. not_left m t u v) (max_cases _ _ u h);
+      right = λ u v h lt. fails u v (λ t. not_right m t u v) (min_cases _ _ u h);
+      above = λ u v h. fails u v (λ t. not_above m t u v) (max_cases _ _ v h);
+      under = λ u v h lt. fails u v (λ t. not_under m t u v) (min_cases _ _ v h);
+    }
+  where
+    fails : {P : ℕ → Type 0} (u v : ℕ) → ((t : ℕ) → P t → is_held m t (site u v) ≡ false) → (P p.0) ⊎ (P p.1) → (is_held m p.0 (site u v) && is_held m p.1 (site u v)) ≡ false
+    fails u v h (inl a) = false_left _ _ (h p.0 a)
+    fails u v h (inr b) = false_right _ _ (h p.1 b)
+
+pub shared_block : (m : MapValue) → IsMap m → (p : ℕ × ℕ) → Joined m p → shared_by m p ≡ block (left_both m p) (right_both m p - left_both m p) (top_both m p) (bottom_both m p - top_both m p)
+shared_block m k p j = filter_block m (λ s. is_held m p.0 s && is_held m p.1 s) (left_both m p) (right_both m p) (top_both m p) (bottom_both m p) (shared_is_block m k p j)
+
+pub shared_length : (m : MapValue) → IsMap m → (p : ℕ × ℕ) → Joined m p → length (shared_by m p) ≡ (right_both m p - left_both m p) * (bottom_both m p - top_both m p)
+shared_length m k p j =
+    ap length (shared_block m k p j) ∙ block_length (left_both m p) (right_both m p - left_both m p) (top_both m p) (bottom_both m p - top_both m p) ∙ omega arith
+
+-- whether a site is the one at (u, v)
+abbrev pub is_site : ℕ → ℕ → Site → Bool
+is_site u v q = q.x == u && q.y == v
+
+row_column : (e n k : ℕ) → e < k * n → (e ≡ e / n * n + e % n) × (e / n < k) × (e % n < n)
+row_column e n k h = grind (arith, rows)
+
+-- the site at a place of a block
+block_at : (x n y k e : ℕ) (d : Site) → e < k * n → get_or (block x n y k) e d ≡ site (x + e % n) (y + e / n)
+block_at x n y k e d h =
+    let r = row_column e n k h in
+    ap (λ i. get_or (block x n y k) i d) r.0 ∙ block_get x n y k (e / n) (e % n) d r.1 r.2
+
+same_place : (x y n e i j : ℕ) → e ≡ e / n * n + e % n → x + e % n ≡ x + j → y + e / n ≡ y + i → e ≡ i * n + j
+same_place x y n e i j whole p q =
+    let a : e % n ≡ j = omega (arith, p) in
+    let b : e / n ≡ i = omega (arith, q) in
+    whole ∙ λ k. b k * n + a k
+
+is_site-same : (u v : ℕ) → is_site u v (site u v) ≡ true
+is_site-same u v = grind (arith, nat_tests)
+
+is_site-is : (u v : ℕ) (q : Site) → is_site u v q ≡ true → (q.x ≡ u) × (q.y ≡ v)
+is_site-is u v q h = grind (arith, nat_tests)
+
+bool_cases : (b : Bool) → (b ≡ true) ⊎ (b ≡ false)
+bool_cases true = inl refl
+bool_cases false = inr refl
+
+times_row : (i k n j : ℕ) → i < k → j < n → i * n + j < k * n
+times_row i k n j a b = grind (arith, rows)
+
+-- no other place of a block has its site
+block_before : (x n y k i j e : ℕ) (d : Site) → i < k → j < n → e < i * n + j → is_site (x + j) (y + i) (get_or (block x n y k) e d) ≡ false
+block_before x n y k i j e d a b lt = ⊎_elim (λ h. absurd (apart h)) (λ h. h) (bool_cases (is_site (x + j) (y + i) (get_or (block x n y k) e d)))
+  where
+    apart : is_site (x + j) (y + i) (get_or (block x n y k) e d) ≡ true → ⊥
+    apart h =
+        let small : e < k * n = omega (arith, lt, times_row i k n j a b) in
+        let at = block_at x n y k e d small in
+        let r = row_column e n k small in
+        let s = is_site-is (x + j) (y + i) (site (x + e % n) (y + e / n)) (ap (is_site (x + j) (y + i)) (sym at) ∙ h) in
+        omega (arith, lt, same_place x y n e i j r.0 s.0 s.1)
+
+position_of_len : {X : Type 0} (p : X → Bool) (xs : List X) (i : ℕ) → position_or_len p xs ≡ i → i < length xs → position p xs ≡ Some i
+position_of_len p xs i e lt =
+    let test : nat_lt (position_or_len p xs) (length xs) ≡ true = grind (arith, nat_tests, e, lt) in
+    ap (λ b. cond b (Some (position_or_len p xs)) None) test ∙ ap Some e
+
+-- the place of a site in a block
+pub block_position : (x n y k i j : ℕ) → i < k → j < n → position (is_site (x + j) (y + i)) (block x n y k) ≡ Some (i * n + j)
+block_position x n y k i j a b =
+    let p = is_site (x + j) (y + i) in
+    let d = site 0 0 in
+    let lt : i * n + j < length (block x n y k) = omega (arith, block_length x n y k, times_row i k n j a b) in
+    let upto : i * n + j ≤ length (block x n y k) = omega (arith, lt) in
+    let at : p (get_or (block x n y k) (i * n + j) d) ≡ true = ap p (block_get x n y k i j d a b) ∙ is_site-same (x + j) (y + i) in
+    position_of_len p (block x n y k) (i * n + j) (position_or_len_is p (block x n y k) (i * n + j) d upto (λ e le. block_before x n y k i j e d a b le) (λ h. at)) lt
+
+-- a site has its register by its row and column among the shared sites
+pub register_at : (m : MapValue) → IsMap m → (e x y : ℕ) → Joined m (pair_at m e) → is_held m (pair_at m e).0 (site x y) ≡ true → is_held m (pair_at m e).1 (site x y) ≡ true →
+    register_of m e (site x y) ≡ Some (1 + 2 * ((y - top_both m (pair_at m e)) * (right_both m (pair_at m e) - left_both m (pair_at m e)) + (x - left_both m (pair_at m e))))
+register_at m k e x y joined a b =
+    let p = pair_at m e in
+    let s = held_span m p.0 x y a in
+    let t = held_span m p.1 x y b in
+    let left = left_both m p in
+    let right = right_both m p in
+    let top = top_both m p in
+    let bottom = bottom_both m p in
+    let column : left + (x - left) ≡ x = omega (arith, s.1, t.1) in
+    let row : top + (y - top) ≡ y = omega (arith, s.3, t.3) in
+    let within : x - left < right - left = omega (arith, s.1, s.2, t.1, t.2) in
+    let under : y - top < bottom - top = omega (arith, s.3, s.4, t.3, t.4) in
+    let found = block_position left (right - left) top (bottom - top) (y - top) (x - left) under within in
+    let found' : position (is_site x y) (block left (right - left) top (bottom - top)) ≡ Some ((y - top) * (right - left) + (x - left)) =
+        ap (λ (q : ℕ × ℕ). position (is_site q.0 q.1) (block left (right - left) top (bottom - top))) (λ i. (sym column i, sym row i)) ∙ found in
+    ap (option_map (λ k. 1 + 2 * k)) (ap (position (is_site x y)) (shared_block m k p joined) ∙ found')
+
+-- what no entry passes has no position
+position_none : {X : Type 0} (p : X → Bool) (xs : List X) (d : X) → ((k : ℕ) → k < length xs → p (get_or xs k d) ≡ false) → position p xs ≡ None
+position_none p xs d h =
+    let e = position_or_len_is p xs (length xs) d (omega arith) h (λ lt. absurd (omega (arith, lt))) in
+    let test : nat_lt (position_or_len p xs) (length xs) ≡ false = grind (arith, nat_tests, e) in
+    ap (λ b. cond b (Some (position_or_len p xs)) None) test
+
+-- a site that one end does not hold has no register
+pub register_none : (m : MapValue) (e x y : ℕ) → (is_held m (pair_at m e).0 (site x y) && is_held m (pair_at m e).1 (site x y)) ≡ false → register_of m e (site x y) ≡ None
+register_none m e x y out = ap (option_map (λ k. 1 + 2 * k)) (position_none (is_site x y) (shared_of m e) (site 0 0) fails)
+  where
+    fails : (k : ℕ) → k < length (shared_of m e) → is_site x y (get_or (shared_of m e) k (site 0 0)) ≡ false
+    fails k lt = ⊎_elim (λ h. absurd (other h)) (λ h. h) (bool_cases (is_site x y (get_or (shared_of m e) k (site 0 0))))
+      where
+        other : is_site x y (get_or (shared_of m e) k (site 0 0)) ≡ true → ⊥
+        other h =
+            let q = get_or (shared_of m e) k (site 0 0) in
+            let s = is_site-is x y q h in
+            let passes : (is_held m (pair_at m e).0 q && is_held m (pair_at m e).1 q) ≡ true = filter_passes (λ s. is_held m (pair_at m e).0 s && is_held m (pair_at m e).1 s) (sites_of m) k (site 0 0) lt in
+            let same : q ≡ site x y = λ i. record { x = s.0 i; y = s.1 i } in
+            cc (ap (λ r. is_held m (pair_at m e).0 r && is_held m (pair_at m e).1 r) same, passes, out)

@@ -1,0 +1,77 @@
+-- The plane: tx by ty tiles of w by h sites each, their rectangles, and what a tile owns and holds.
+use Rattle.std.specs.Prelude.{ℕ, ◌≤◌, ◌+◌, ◌-◌, ◌*◌, ◌/◌, ◌%◌, List, Bool, ◌&&◌, nat_le, nat_lt, map, flat_map}
+use Rattle.std.specs.List.{range_with_len}
+
+-- a site: x grows east, y grows south
+pub record Site : Type 0 where
+  pub x : ℕ
+  pub y : ℕ
+
+-- a plane: how many tiles there are in a row and in a column, and how many sites a tile has in each
+pub record MapValue : Type 0 where
+  pub tx : ℕ
+  pub ty : ℕ
+  pub w : ℕ
+  pub h : ℕ
+
+-- 1 to 8 tiles each way, of 8 to 64 sites each way
+pub record IsMap (m : MapValue) : Type 0 where
+  pub tx_low : 1 ≤ m.tx
+  pub tx_high : m.tx ≤ 8
+  pub ty_low : 1 ≤ m.ty
+  pub ty_high : m.ty ≤ 8
+  pub w_low : 8 ≤ m.w
+  pub w_high : m.w ≤ 64
+  pub h_low : 8 ≤ m.h
+  pub h_high : m.h ≤ 64
+
+abbrev pub site : ℕ → ℕ → Site
+site x y = record { x = x; y = y }
+
+-- tile t stands in column t % tx and row t / tx of the tiles
+abbrev pub tiles_of : MapValue → ℕ
+tiles_of m = m.tx * m.ty
+
+-- whether the plane has the site
+abbrev pub is_live : MapValue → Site → Bool
+is_live m s = nat_lt s.x (m.tx * m.w) && nat_lt s.y (m.ty * m.h)
+
+-- all sites, row by row
+abbrev pub sites_of : MapValue → List Site
+sites_of m = flat_map (λ y. map (λ x. site x y) (range_with_len 0 (m.tx * m.w))) (range_with_len 0 (m.ty * m.h))
+
+-- whether x is in the a-th of parts of one size
+abbrev pub is_inside : ℕ → ℕ → ℕ → Bool
+is_inside size a x = nat_le (a * size) x && nat_lt x ((a + 1) * size)
+
+-- whether x is at most 4 outside the a-th of parts of one size
+abbrev pub is_around : ℕ → ℕ → ℕ → Bool
+is_around size a x = nat_le (a * size) (x + 4) && nat_lt x ((a + 1) * size + 4)
+
+-- whether the a-th and the b-th of parts of one size meet, once one is widened by 1 on both sides
+abbrev pub is_meeting : ℕ → ℕ → ℕ → Bool
+is_meeting size a b = nat_le (a * size) ((b + 1) * size) && nat_le (b * size) ((a + 1) * size)
+
+-- whether the rectangle of tile t has the site
+abbrev pub is_owned : MapValue → ℕ → Site → Bool
+is_owned m t s = nat_lt t (tiles_of m) && (is_inside m.w (t % m.tx) s.x && is_inside m.h (t / m.tx) s.y)
+
+-- the tile whose rectangle has the site
+abbrev pub owner_of : MapValue → Site → ℕ
+owner_of m s = s.y / m.h * m.tx + s.x / m.w
+
+-- the site at a position of tile t's rectangle, in row order
+abbrev pub site_in : MapValue → ℕ → ℕ → Site
+site_in m t k = site (t % m.tx * m.w + k % m.w) (t / m.tx * m.h + k / m.w)
+
+-- whether tile t holds the site: it is one of the plane's, and at most 4 outside t's rectangle
+abbrev pub is_held : MapValue → ℕ → Site → Bool
+is_held m t s = nat_lt t (tiles_of m) && is_live m s && (is_around m.w (t % m.tx) s.x && is_around m.h (t / m.tx) s.y)
+
+-- how far two coordinates are apart
+abbrev pub apart : ℕ → ℕ → ℕ
+apart a b = (a - b) + (b - a)
+
+-- whether a site is a live one of the window at c
+abbrev pub in_window : MapValue → Site → Site → Bool
+in_window m c s = is_live m s && nat_le (apart c.x s.x + apart c.y s.y) 4
