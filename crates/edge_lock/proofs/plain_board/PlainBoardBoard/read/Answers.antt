@@ -1,0 +1,37 @@
+use Rattle.std.proofs.Common.{arith, refl, sym, ap, ◌∙◌, subst, ◌<◌}
+use Rattle.edge_lock.specs.declared.history.Access.TheVariants.{Read}
+use Rattle.edge_lock.specs.EndLists.{EndLists, IsHeld, replace_at, after_access}
+use Rattle.edge_lock.specs.PlainEdges.{PlainEdgeValue, own_lists, edge_after_try}
+use Rattle.edge_lock.specs.PlainBoard.{plain_board_value, registers_on, end_on, lists_on, Moved, reads}
+use Rattle.edge_lock.proofs.Boards.{SameEnds, done, inside_at, there_at, regs_at}
+use Rattle.edge_lock.proofs.plain_board.PlainBoardBoard.read.Goals as goal
+
+pub returns-clause-lists : goal.returns-clause-lists
+returns-clause-lists c =
+    let b = plain_board_value c.self.inside.acting c.self.inside.edges.items in let e = c.args.edge in let x = c.index_mut-it.result.now in let y = c.read.new.self in let end = c.end_of-end.result in
+    let seen = c.self.view_is in
+    let some_registers : 0 < registers_on b e = omega (arith, c.requires.edge, ap (λ v. registers_on v e) seen) in
+    let can_be = ap (λ v. lists_on v e) (sym seen) in
+    let there = there_at b e end x some_registers c.index_mut-it.ensures.value c.end_of-end.ensures.end in
+    let d = done b e end x y (reads c.args.register) some_registers (inside_at b e some_registers) c.index_mut-it.ensures.value c.end_of-end.ensures.end (c.read.ensures.edge ∙ ap (λ n. Rattle.edge_lock.specs.PlainEdges.edge_after_access (Read c.args.register n) x) c.read.ensures.value.0) (subst (λ (z : PlainEdgeValue). SameEnds x z) (sym c.read.ensures.edge) record { lower = refl; higher = refl; registers = refl }) (subst (λ (l : EndLists). IsHeld l) (can_be ∙ sym there) c.requires.held, omega (arith, c.requires.edge, ap (λ v. registers_on v e) seen, regs_at b e x some_registers c.index_mut-it.ensures.value)) in
+    d.lists ∙ (ap (replace_at (lists_on b) e) (c.read.ensures.own ∙ ap (after_access (Read c.args.register c.read.result)) d.here) ∙ ap (λ v. replace_at (lists_on v) e (after_access (Read c.args.register c.read.result) (lists_on v e))) seen)
+
+pub returns-clause-edges : goal.returns-clause-edges
+returns-clause-edges c =
+    let b = plain_board_value c.self.inside.acting c.self.inside.edges.items in let e = c.args.edge in let x = c.index_mut-it.result.now in let y = c.read.new.self in let end = c.end_of-end.result in
+    let seen = c.self.view_is in
+    let some_registers : 0 < registers_on b e = omega (arith, c.requires.edge, ap (λ v. registers_on v e) seen) in
+    let can_be = ap (λ v. lists_on v e) (sym seen) in
+    let there = there_at b e end x some_registers c.index_mut-it.ensures.value c.end_of-end.ensures.end in
+    let d = done b e end x y (reads c.args.register) some_registers (inside_at b e some_registers) c.index_mut-it.ensures.value c.end_of-end.ensures.end (c.read.ensures.edge ∙ ap (λ n. Rattle.edge_lock.specs.PlainEdges.edge_after_access (Read c.args.register n) x) c.read.ensures.value.0) (subst (λ (z : PlainEdgeValue). SameEnds x z) (sym c.read.ensures.edge) record { lower = refl; higher = refl; registers = refl }) (subst (λ (l : EndLists). IsHeld l) (can_be ∙ sym there) c.requires.held, omega (arith, c.requires.edge, ap (λ v. registers_on v e) seen, regs_at b e x some_registers c.index_mut-it.ensures.value)) in
+    (d.registers ∙ ap registers_on seen, d.ends ∙ ap end_on seen)
+
+pub returns-clause-moved : goal.returns-clause-moved
+returns-clause-moved c =
+    let b = plain_board_value c.self.inside.acting c.self.inside.edges.items in let e = c.args.edge in let x = c.index_mut-it.result.now in let y = c.read.new.self in let end = c.end_of-end.result in
+    let seen = c.self.view_is in
+    let some_registers : 0 < registers_on b e = omega (arith, c.requires.edge, ap (λ v. registers_on v e) seen) in
+    let can_be = ap (λ v. lists_on v e) (sym seen) in
+    let there = there_at b e end x some_registers c.index_mut-it.ensures.value c.end_of-end.ensures.end in
+    let d = done b e end x y (reads c.args.register) some_registers (inside_at b e some_registers) c.index_mut-it.ensures.value c.end_of-end.ensures.end (c.read.ensures.edge ∙ ap (λ n. Rattle.edge_lock.specs.PlainEdges.edge_after_access (Read c.args.register n) x) c.read.ensures.value.0) (subst (λ (z : PlainEdgeValue). SameEnds x z) (sym c.read.ensures.edge) record { lower = refl; higher = refl; registers = refl }) (subst (λ (l : EndLists). IsHeld l) (can_be ∙ sym there) c.requires.held, omega (arith, c.requires.edge, ap (λ v. registers_on v e) seen, regs_at b e x some_registers c.index_mut-it.ensures.value)) in
+    subst (λ v. Moved v (plain_board_value c.self.inside.acting (Rattle.std.specs.Prelude.slice_set c.self.inside.edges.items e y))) seen d.moved

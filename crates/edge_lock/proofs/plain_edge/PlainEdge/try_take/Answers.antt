@@ -1,0 +1,25 @@
+use Rattle.std.proofs.Common.{arith, sym, ap, ◌∙◌, subst, ◌≡◌, ◌+◌, ◌*◌}
+use Rattle.edge_lock.specs.History.{open_hold}
+use Rattle.edge_lock.specs.SharedRule.{lock_word}
+use Rattle.edge_lock.specs.EndLists.{IsFree, IsNew}
+use Rattle.edge_lock.specs.PlainEdges.{PlainEdgeValue, own_lists, view_of, IsKept, Answers}
+use Rattle.edge_lock.proofs.PlainKeeps as keeps
+use Rattle.edge_lock.proofs.plain_edge.PlainEdge.try_take.Goals as goal
+use Rattle.edge_lock.proofs.plain_edge.PlainEdge.try_take.Goals.{then-found-eq0, else-found-eq0}
+
+pub compare_exchange-found-requires : goal.compare_exchange-found-requires
+compare_exchange-found-requires c =
+    let w : 1 + 2 * c.args.attempt + c.from.result ≡ 1 + 2 * c.args.attempt + c.args.end = omega (arith, c.from.ensures) in
+    let free = subst (λ (x : PlainEdgeValue). IsFree (own_lists c.args.end x)) (sym c.self.view_is) c.requires.free in
+    let new = subst (λ (x : PlainEdgeValue). IsNew c.args.attempt (own_lists c.args.end x)) (sym c.self.view_is) c.requires.attempt.1 in
+    (c.self.invariant.2, omega (arith, c.self.invariant.0), keeps.tries _ _ _ c.args.end c.args.attempt _ c.self.inside.seat.me c.self.invariant.3 c.requires.end w free new.holds new.refusals)
+
+pub returns-clause-answer : goal.returns-clause-answer
+returns-clause-answer c =
+    let found = c.compare_exchange-found.result in
+    let is = c.compare_exchange-found.ensures.2.1 ∙ ap (λ (x : PlainEdgeValue). lock_word (open_hold x.holds)) c.self.view_is in
+    let kept = subst (λ (x : PlainEdgeValue). IsKept (view_of x)) c.self.view_is c.self.invariant.4 in
+    elim c.if-found-eq0.branch [
+      | then-found-eq0 w ↦ subst (Answers c.args.end c.args.self.now) (sym w.result-is) (keeps.answers_got c.args.end found c.args.self.now is w.if-found-eq0.true)
+      | else-found-eq0 w ↦ subst (Answers c.args.end c.args.self.now) (sym w.result-is) (keeps.answers_busy c.args.end found c.args.self.now kept c.requires.end c.requires.free is w.if-found-eq0.false)
+    ]

@@ -1,0 +1,121 @@
+-- The history of one edge: who had it, what was read and written meanwhile, and who was refused.
+-- An edge has two ends, 0 and 1. Its registers are words that only the end with the open hold reads and writes.
+use Rattle.std.specs.Prelude.{◌≡◌, ℕ, ◌+◌, ◌-◌, ◌*◌, ◌/◌, ◌<◌, ◌==◌, false, cond, List, [], ◌∷◌, ◌++◌, map, filter, All}
+use mathlib.Core.Option.{Option, none, some}
+use Rattle.bit_field.specs.Atom.{LeavesGap}
+use Rattle.edge_lock.specs.declared.history.Access.{Access}
+use Rattle.edge_lock.specs.declared.history.Access.TheVariants.{Read, Write}
+use Rattle.edge_lock.specs.declared.history.Hold.{Hold}
+use Rattle.edge_lock.specs.declared.history.Refusal.{Refusal}
+
+-- the holds of one end, in order
+abbrev pub own : ℕ → List Hold → List Hold
+own end holds = filter (λ hold. hold.end == end) holds
+
+-- all reads and writes of these holds, in order
+abbrev pub trace : List Hold → List Access
+trace [] = []
+trace (hold ∷ holds) = hold.accesses ++ trace holds
+
+-- what a register has after these accesses, where it had `start` before
+abbrev pub written : List Access → ℕ → ℕ → ℕ
+written [] register start = start
+written (Read at value ∷ accesses) register start = written accesses register start
+written (Write at value ∷ accesses) register start = written accesses register (cond (register == at) value start)
+
+-- a register after these holds; each is 0 at first
+abbrev pub value : List Hold → ℕ → ℕ
+value holds register = written (trace holds) register 0
+
+-- each read gives the last value written to its register before it, else 0
+abbrev pub ReadsTrue : List Access → Type 0
+ReadsTrue accesses = (before : List Access) (register value : ℕ) (rest : List Access) → accesses ≡ before ++ Read register value ∷ rest → value ≡ written before register 0
+
+-- what a hold finds in a register: the value of its first read of it, made before any write to it
+abbrev pub found_value : List Access → ℕ → Option ℕ
+found_value [] register = none
+found_value (Read at value ∷ accesses) register = cond (register == at) (some value) (found_value accesses register)
+found_value (Write at value ∷ accesses) register = cond (register == at) none (found_value accesses register)
+
+-- how many shared sites an edge of so many registers has: one register is the clock, and each site takes two
+abbrev pub sites_of : ℕ → ℕ
+sites_of registers = (registers - 1) / 2
+
+-- the second register of each shared site takes only words whose bits 7 to 15 are 0
+abbrev pub IsAllowed : ℕ → ℕ → ℕ → Type 0
+IsAllowed sites register value = (site : ℕ) → site < sites → register ≡ 2 + 2 * site → LeavesGap value
+
+abbrev pub IsAllowedAccess : ℕ → Access → Type 0
+IsAllowedAccess sites (Read register value) = Unit {0}
+IsAllowedAccess sites (Write register value) = IsAllowed sites register value
+
+-- only the last hold may be open
+abbrev pub OnlyLastOpen : List Hold → Type 0
+OnlyLastOpen [] = Unit {0}
+OnlyLastOpen (hold ∷ []) = Unit {0}
+OnlyLastOpen (hold ∷ next ∷ holds) = (hold.is_open ≡ false) × OnlyLastOpen (next ∷ holds)
+
+-- the last hold, where it is open
+abbrev pub open_hold : List Hold → Option Hold
+open_hold [] = none
+open_hold (hold ∷ []) = cond hold.is_open (some hold) none
+open_hold (hold ∷ next ∷ holds) = open_hold (next ∷ holds)
+
+-- whose hold it is: the end and its attempt
+abbrev pub key : Hold → ℕ × ℕ
+key hold = (hold.end, hold.attempt)
+
+abbrev pub keys : List Hold → List (ℕ × ℕ)
+keys holds = map key holds
+
+-- the attempts by which one end got the edge
+abbrev pub attempts_of : ℕ → List (ℕ × ℕ) → List ℕ
+attempts_of end [] = []
+attempts_of end (key ∷ keys) = cond (key.0 == end) (key.1 ∷ attempts_of end keys) (attempts_of end keys)
+
+-- each number is smaller than all that follow it
+abbrev pub IsRising : List ℕ → Type 0
+IsRising [] = Unit {0}
+IsRising (number ∷ numbers) = All (λ later. number < later) numbers × IsRising numbers
+
+abbrev pub refused_attempt : Refusal → ℕ
+refused_attempt refusal = refusal.attempt
+
+-- if the hold is the end's own, it comes before that end's attempt
+abbrev pub IsBefore : ℕ → ℕ → ℕ × ℕ → Type 0
+IsBefore end attempt key = key.0 ≡ end → key.1 < attempt
+
+-- if the hold is the end's own, it comes after that end's attempt
+abbrev pub IsAfter : ℕ → ℕ → ℕ × ℕ → Type 0
+IsAfter end attempt key = key.0 ≡ end → attempt < key.1
+
+-- A refusal names a hold of the other end. That hold lies after every hold of the refused end with a smaller attempt
+-- and before every one with a greater attempt, and no hold of the refused end has the refused attempt.
+pub record IsPlaced (keys : List (ℕ × ℕ)) (end : ℕ) (refusal : Refusal) : Type 0 where
+  pub before : List (ℕ × ℕ)
+  pub after : List (ℕ × ℕ)
+  pub splits : keys ≡ before ++ (1 - end, refusal.holder) ∷ after
+  pub earlier : All (IsBefore end refusal.attempt) before
+  pub later : All (IsAfter end refusal.attempt) after
+
+-- one end's side of the history: the attempts of its holds rise, those of its refusals rise, and each refusal is placed
+pub record IsSide (keys : List (ℕ × ℕ)) (end : ℕ) (refusals : List Refusal) : Type 0 where
+  pub rise : IsRising (attempts_of end keys)
+  pub refusals_rise : IsRising (map refused_attempt refusals)
+  pub fits : All (IsPlaced keys end) refusals
+
+abbrev pub IsEnd : ℕ × ℕ → Type 0
+IsEnd key = key.0 < 2
+
+-- the holds of an edge with so many shared sites
+pub record IsHistory (sites : ℕ) (holds : List Hold) : Type 0 where
+  pub ends : All IsEnd (keys holds)
+  pub only_last : OnlyLastOpen holds
+  pub reads : ReadsTrue (trace holds)
+  pub writes : All (IsAllowedAccess sites) (trace holds)
+
+-- the whole history of an edge: the holds of both ends in one list, and the refusals of each end
+pub record IsEdgeHistory (sites : ℕ) (all : List Hold) (low high : List Refusal) : Type 0 where
+  pub holds : IsHistory sites all
+  pub lower : IsSide (keys all) 0 low
+  pub higher : IsSide (keys all) 1 high

@@ -1,0 +1,7 @@
+pub mod History
+pub mod EndLists
+pub mod SharedRule
+pub mod Passes
+pub mod SharedEnds
+pub mod PlainEdges
+pub mod PlainBoard

@@ -1,0 +1,101 @@
+-- What contracts see of the plain board, and how the acting tile's end moves it.
+use Rattle.std.specs.Prelude.{◌≡◌, ℕ, ◌-◌, ◌<◌, ◌==◌, ◌||◌, Bool, true, cond, List, [], length, slice_index_or, slice_set}
+use mathlib.Core.Option.{Option, none, some}
+use Rattle.feast_base.specs.Edges.{EdgeSize}
+use Rattle.edge_lock.specs.declared.board.Take.TheVariants.{Got, Busy}
+use Rattle.edge_lock.specs.declared.history.Access.TheVariants.{Read, Write}
+use Rattle.edge_lock.specs.declared.history.Hold.{Hold}
+use Rattle.edge_lock.specs.History.{value, open_hold, sites_of, IsAllowed}
+use Rattle.edge_lock.specs.EndLists.{EndLists, IsFree, IsHeld, IsNew}
+use Rattle.edge_lock.specs.PlainEdges.{PlainEdgeValue, plain_edge_value, plain_view, own_lists, edge_after_try, edge_after_access, edge_after_give, IsKept, view_of}
+
+-- a plain board: the tile whose end acts, and the edges
+pub record PlainBoardValue : Type 0 where
+  pub acting : ℕ
+  pub edges : List PlainEdgeValue
+
+abbrev pub plain_board_value : ℕ → List PlainEdgeValue → PlainBoardValue
+plain_board_value acting edges = record { acting = acting; edges = edges }
+
+abbrev pub no_edge : PlainEdgeValue
+no_edge = plain_edge_value 0 0 (plain_view 0 [] [] [])
+
+-- the edge of a number
+abbrev pub edge_at : PlainBoardValue → ℕ → PlainEdgeValue
+edge_at board edge = slice_index_or board.edges edge no_edge
+
+-- which end of the edge the tile is
+abbrev pub end_of : PlainEdgeValue → ℕ → ℕ
+end_of edge tile = cond (edge.lower == tile) 0 1
+
+-- whether the tile is an end of the edge
+abbrev pub is_end : PlainEdgeValue → ℕ → Bool
+is_end edge tile = (edge.lower == tile) || (edge.higher == tile)
+
+-- by an edge's number: how many registers it has, 0 where it is no edge of the acting tile
+abbrev pub registers_on : PlainBoardValue → ℕ → ℕ
+registers_on board edge = cond (is_end (edge_at board edge) board.acting) (edge_at board edge).registers 0
+
+-- which end of the edge the acting tile is
+abbrev pub end_on : PlainBoardValue → ℕ → ℕ
+end_on board edge = end_of (edge_at board edge) board.acting
+
+-- what the acting tile's end did on the edge
+abbrev pub lists_on : PlainBoardValue → ℕ → EndLists
+lists_on board edge = own_lists (end_on board edge) (edge_at board edge)
+
+-- what the other end did on the edge
+abbrev pub other_lists_on : PlainBoardValue → ℕ → EndLists
+other_lists_on board edge = own_lists (1 - end_on board edge) (edge_at board edge)
+
+-- a call of the board on one edge
+pub data Call : Type 0 where
+  tries : ℕ → Call
+  reads : ℕ → Call
+  writes : ℕ → ℕ → Call
+  gives : Call
+
+-- when an end may make the call
+abbrev pub MayCall : ℕ → Call → PlainEdgeValue → Type 0
+MayCall end (tries attempt) edge = IsFree (own_lists end edge) × IsNew attempt (own_lists end edge)
+MayCall end (reads register) edge = IsHeld (own_lists end edge) × (register < edge.registers)
+MayCall end (writes register value) edge = IsHeld (own_lists end edge) × (register < edge.registers) × IsAllowed (sites_of edge.registers) register value
+MayCall end gives edge = IsHeld (own_lists end edge)
+
+-- a try gets the edge exactly where nobody has it, and is refused by the hold that is open
+abbrev pub tried_at : Option Hold → ℕ → ℕ → PlainEdgeValue → PlainEdgeValue
+tried_at none end attempt edge = edge_after_try end attempt Got edge
+tried_at (some hold) end attempt edge = edge_after_try end attempt (Busy hold.attempt) edge
+
+-- the edge after the call of an end
+abbrev pub effect_of : ℕ → Call → PlainEdgeValue → PlainEdgeValue
+effect_of end (tries attempt) edge = tried_at (open_hold edge.holds) end attempt edge
+effect_of end (reads register) edge = edge_after_access (Read register (value edge.holds register)) edge
+effect_of end (writes register value) edge = edge_after_access (Write register value) edge
+effect_of end gives edge = edge_after_give edge
+
+-- The one board comes from the other by one call of the acting tile's end on one edge. All other edges stay, and so does the acting tile.
+pub record IsCall (old new : PlainBoardValue) : Type 0 where
+  pub edge : ℕ
+  pub call : Call
+  pub inside : edge < length old.edges
+  pub ours : is_end (edge_at old edge) old.acting ≡ true
+  pub can : MayCall (end_on old edge) call (edge_at old edge)
+  pub is : new ≡ plain_board_value old.acting (slice_set old.edges edge (effect_of (end_on old edge) call (edge_at old edge)))
+
+-- some list of calls by the acting tile's end leads from the one board to the other
+pub data Moved : PlainBoardValue → PlainBoardValue → Type 0 where
+  stays : (board : PlainBoardValue) → Moved board board
+  goes : (old between new : PlainBoardValue) → IsCall old between → Moved between new → Moved old new
+
+pub moved_on : (old between new : PlainBoardValue) → Moved old between → Moved between new → Moved old new
+moved_on old between new (stays _) later = later
+moved_on old between new (goes _ next _ call rest) later = goes old next new call (moved_on next between new rest later)
+
+-- an edge of this size on which nothing has happened
+abbrev pub untouched_edge : EdgeSize → PlainEdgeValue
+untouched_edge size = plain_edge_value size.lower size.higher (plain_view size.registers [] [] [])
+
+-- the edge keeps one history, with the refusals of both ends
+abbrev pub IsKeptEdge : PlainEdgeValue → Type 0
+IsKeptEdge edge = IsKept (view_of edge)

@@ -1,0 +1,48 @@
+-- What contracts see of one tile's end of its shared edges.
+use Rattle.std.specs.Prelude.{◌≡◌, ℕ, ◌==◌, cond, suc, List, [], ◌∷◌, map, slice_get, Some}
+use Rattle.edge_lock.specs.EndLists.{EndLists, end_lists}
+use Rattle.edge_lock.specs.Passes.{EdgeValue, PassValue}
+
+pub record SharedEndValue : Type 0 where
+  pub tile : ℕ
+  pub passes : List PassValue
+
+abbrev pub shared_end_value : ℕ → List PassValue → SharedEndValue
+shared_end_value tile passes = record { tile = tile; passes = passes }
+
+-- the pass was made with the edge that stands at its number
+abbrev pub IsPassOf : List EdgeValue → PassValue → Type 0
+IsPassOf edges pass = slice_get edges pass.of.number ≡ Some pass.of
+
+-- by an edge's number: how many registers it has, 0 where there is no pass of it
+abbrev pub registers_at : List PassValue → ℕ → ℕ
+registers_at [] edge = 0
+registers_at (pass ∷ passes) edge = cond (pass.of.number == edge) pass.of.registers (registers_at passes edge)
+
+-- which end the pass of an edge is
+abbrev pub end_at : List PassValue → ℕ → ℕ
+end_at [] edge = 0
+end_at (pass ∷ passes) edge = cond (pass.of.number == edge) pass.end (end_at passes edge)
+
+-- what the pass of an edge did
+abbrev pub lists_at : List PassValue → ℕ → EndLists
+lists_at [] edge = end_lists [] []
+lists_at (pass ∷ passes) edge = cond (pass.of.number == edge) pass.lists (lists_at passes edge)
+
+-- the position of the pass of an edge
+abbrev pub place : List PassValue → ℕ → ℕ
+place [] edge = 0
+place (pass ∷ passes) edge = cond (pass.of.number == edge) 0 (suc (place passes edge))
+
+-- which edge and which end a pass is of
+pub record EdgeAndEnd : Type 0 where
+  pub of : EdgeValue
+  pub end : ℕ
+
+abbrev pub edge_and_end : PassValue → EdgeAndEnd
+edge_and_end pass = record { of = pass.of; end = pass.end }
+
+-- the passes are of the same edges and the same ends, in the same order
+pub record SamePasses (old new : SharedEndValue) : Type 0 where
+  pub tile : new.tile ≡ old.tile
+  pub passes : map edge_and_end new.passes ≡ map edge_and_end old.passes

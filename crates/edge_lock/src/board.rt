@@ -1,0 +1,98 @@
+//! What a tile sees of its edges, whether it has them alone or with tiles of other threads.
+ghost use Rattle.std.specs.Prelude.{◌≡◌, ◌<◌, ℕ, true, []};
+ghost use mathlib.Core.Option.{Option, none, some};
+ghost use Rattle.edge_lock.specs.declared.history.Access.TheVariants.{Read, Write};
+ghost use Rattle.edge_lock.specs.EndLists.{IsNew, IsFree};
+
+/// What a try to take an edge gave.
+#[derive(Clone, Copy, PartialEq, Eq, Debug)]
+pub enum Take {
+    /// The tile has the edge now.
+    Got,
+    /// The tile at the other end has the edge.
+    Busy {
+        /// The attempt of the other tile that has it.
+        holder_attempt: u64,
+    },
+}
+
+/// One tile's end of its edges.
+///
+/// Contracts see the tile, its edges with their numbers of registers, and what this end did on each
+/// of them: a list of holds and a list of refusals. A call changes the lists of the named edge
+/// alone, and neither the tile nor its edges. Each call needs an edge of the tile.
+pub trait Board {
+    ghost use Rattle.edge_lock.specs.History.{IsAllowed, sites_of};
+    ghost use Rattle.edge_lock.specs.EndLists.{EndLists, IsHeld, IsFree, IsNew, HasNoWrite, Shows, after_try, after_access, after_give, known_value, replace_at};
+
+    // The tile whose end it is.
+    ghost tile: { Self → ℕ };
+
+    // By an edge's number: how many registers it has, and 0 where it is no edge of the tile.
+    ghost registers: { Self → ℕ → ℕ };
+
+    // Which end of the edge the tile is.
+    ghost end_of: { Self → ℕ → ℕ };
+
+    // The holds and refusals of this end on the edge.
+    ghost lists: { Self → ℕ → EndLists };
+
+    // What calls may do to a board, beyond this end's own lists. Each implementation says what it is.
+    ghost moved: { Self → Self → Type 0 };
+
+    /// Tries to take an edge that this end has not. Got begins a hold; Busy notes a refusal with
+    /// the attempt of the other end that has the edge. The attempt is greater than each that this
+    /// end tried on the edge before.
+    fn try_take(&mut self, edge: u32, attempt: u64) -> Take
+        requires edge { 0 < registers self.old edge }
+        requires free { IsFree (lists self.old edge) }
+        requires attempt { (attempt < 1000000) × IsNew attempt (lists self.old edge) }
+        ensures lists { lists self.new ≡ replace_at (lists self.old) edge (after_try (end_of self.old edge) attempt result (lists self.old edge)) }
+        ensures tile { tile self.new ≡ tile self.old }
+        ensures edges { (registers self.new ≡ registers self.old) × (end_of self.new ≡ end_of self.old) }
+        ensures moved { moved self.old self.new };
+
+    /// What a register of an edge has that this end has: what this hold last read or wrote there,
+    /// where it did. The second register of a shared site has bits 7 to 15 equal to 0.
+    fn read(&mut self, edge: u32, register: u32) -> u64
+        requires edge { register < registers self.old edge }
+        requires held { IsHeld (lists self.old edge) }
+        ensures value { Shows (known_value (lists self.old edge) register) result × IsAllowed (sites_of (registers self.old edge)) register result }
+        ensures lists { lists self.new ≡ replace_at (lists self.old) edge (after_access (Read register result) (lists self.old edge)) }
+        ensures tile { tile self.new ≡ tile self.old }
+        ensures edges { (registers self.new ≡ registers self.old) × (end_of self.new ≡ end_of self.old) }
+        ensures moved { moved self.old self.new };
+
+    /// Changes a register of an edge that this end has. A word for the second register of a shared
+    /// site has bits 7 to 15 equal to 0.
+    fn write(&mut self, edge: u32, register: u32, value: u64)
+        requires edge { register < registers self.old edge }
+        requires held { IsHeld (lists self.old edge) }
+        requires value { IsAllowed (sites_of (registers self.old edge)) register value }
+        ensures lists { lists self.new ≡ replace_at (lists self.old) edge (after_access (Write register value) (lists self.old edge)) }
+        ensures tile { tile self.new ≡ tile self.old }
+        ensures edges { (registers self.new ≡ registers self.old) × (end_of self.new ≡ end_of self.old) }
+        ensures moved { moved self.old self.new };
+
+    /// Gives an edge back that this end has.
+    fn give(&mut self, edge: u32)
+        requires edge { 0 < registers self.old edge }
+        requires held { IsHeld (lists self.old edge) }
+        ensures lists { lists self.new ≡ replace_at (lists self.old) edge (after_give (lists self.old edge)) }
+        ensures tile { tile self.new ≡ tile self.old }
+        ensures edges { (registers self.new ≡ registers self.old) × (end_of self.new ≡ end_of self.old) }
+        ensures moved { moved self.old self.new };
+
+    /// Gives an edge back on which this hold has written nothing.
+    fn give_back(&mut self, edge: u32)
+        requires edge { 0 < registers self.old edge }
+        requires held { IsHeld (lists self.old edge) × HasNoWrite (lists self.old edge) }
+        ensures lists { lists self.new ≡ replace_at (lists self.old) edge (after_give (lists self.old edge)) }
+        ensures tile { tile self.new ≡ tile self.old }
+        ensures edges { (registers self.new ≡ registers self.old) × (end_of self.new ≡ end_of self.old) }
+        ensures moved { moved self.old self.new };
+
+    ghost moved_same: { (x : Self) → moved x x };
+
+    ghost moved_on: { (x y z : Self) → moved x y → moved y z → moved x z };
+}

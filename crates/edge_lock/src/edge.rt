@@ -1,0 +1,209 @@
+//! An edge that two threads share: the edge, its two passes, and the edge when both are done.
+ghost use Rattle.std.specs.Prelude.{◌≡◌, ◌<◌, ◌≤◌, ◌+◌, ◌*◌, ℕ, [], List, IfOk};
+ghost use mathlib.Core.Option.{none};
+ghost use Rattle.edge_lock.specs.declared.history.Access.TheVariants.{Read, Write};
+ghost use Rattle.edge_lock.specs.History.{value, sites_of, IsAllowed};
+ghost use Rattle.edge_lock.specs.EndLists.{IsNew, IsFree, IsHeld, after_try, after_access, after_give, known_value, Shows};
+ghost use Rattle.edge_lock.specs.Passes.{with_lists, IsFresh, IsClosed};
+
+use crate::board::Take;
+use crate::edge_steps::{
+    CLAIMS, Change, Claim, EdgeRule, Ends, FIRST_REGISTER, Give, LOCK, Look, Settle, Tell, Try, View,
+};
+use atomic_table::{Seat, Table};
+use feast_base::NoMemory;
+use std::alloc::Global;
+use std::marker::Model;
+
+/// An edge that two ends share. Contracts see its number and how many registers it has.
+#[derive(Drop)]
+pub struct Edge {
+    table: Table<(), View, u32, EdgeRule, Global>,
+    number: u32,
+}
+
+impl Model for Edge {
+    ghost use Rattle.std.specs.Prelude.{◌≡◌, ◌+◌};
+    ghost use Rattle.edge_lock.specs.Passes.{EdgeValue, edge_value};
+
+    ghost Value = { EdgeValue };
+
+    ghost view = { λ e. edge_value e.table.shared.table_id e.number e.table.shared.key };
+
+    ghost invariant = { λ e. e.table.shared.table_id.words ≡ 3 + e.table.shared.key };
+}
+
+/// One end's right to take an edge. Contracts see of which edge and which end it is, and what that
+/// end did: its holds and its refusals, in order.
+#[derive(Drop)]
+pub struct Pass {
+    seat: Seat<(), View>,
+    edge: u32,
+    end: u32,
+}
+
+impl Model for Pass {
+    ghost use Rattle.std.specs.Prelude.{◌<◌};
+    ghost use Rattle.edge_lock.specs.SharedRule.{lists_in, registers_in};
+    ghost use Rattle.edge_lock.specs.Passes.{PassValue, edge_value, pass_value, IsPaired};
+
+    ghost Value = { PassValue };
+
+    ghost view = { λ p. pass_value (edge_value p.seat.table_id p.edge (registers_in p.seat.me.0)) p.end (lists_in p.seat.me.0) };
+
+    ghost invariant = { λ p. (p.end < 2) × IsPaired (registers_in p.seat.me.0) p.end p.seat.me };
+}
+
+impl Pass {
+    /// The number of the edge that the pass was made with.
+    pub fn edge(&self) -> u32
+        ensures { result ≡ self.now.of.number }
+    {
+        self.edge
+    }
+}
+
+/// An edge whose two ends are done. Contracts see its one history, the refusals of each end, and
+/// how many registers it has.
+#[derive(Drop)]
+pub struct Closed {
+    table: Table<(), View, u32, EdgeRule, Global>,
+    seat: Seat<(), View>,
+}
+
+impl Model for Closed {
+    ghost use Rattle.std.specs.Prelude.{◌≡◌, ◌+◌};
+    ghost use Rattle.edge_lock.specs.Passes.{ClosedValue, closed_value, IsSettled};
+
+    ghost Value = { ClosedValue };
+
+    ghost view = { λ c. closed_value c.table.shared.key c.seat.me.0 };
+
+    ghost invariant = { λ c. (c.table.shared.table_id.words ≡ 3 + c.table.shared.key) × (c.seat.table_id ≡ c.table.shared.table_id) × IsSettled c.seat.me };
+}
+
+impl Closed {
+    /// What a register has at the end of the history. It changes no register and no history.
+    pub fn word(&mut self, register: u32) -> u64
+        requires { register < self.old.registers }
+        ensures same { self.new ≡ self.old }
+        ensures value { result ≡ value self.old.holds register }
+    {
+        let word = register as usize + FIRST_REGISTER;
+        let table = &self.table;
+        table.shared.load::<Tell>(&mut self.seat, word)
+    }
+}
+
+impl Edge {
+    /// An edge of this number whose registers are all 0, with a pass for each end, the first for
+    /// end 0.
+    ///
+    /// `NoMemory`: there was no memory for the words.
+    pub fn new(alloc: Global, edge: u32, registers: u32) -> Result<(Edge, Pass, Pass), NoMemory>
+        ensures edge { IfOk result (λ r. (r.0.number ≡ edge) × (r.0.registers ≡ registers)) }
+        ensures passes { IfOk result (λ r. IsFresh r.1 r.0 0 × IsFresh r.2 r.0 1) }
+    {
+        let Ok(words) = Vec::from_elem(alloc, 0u64, FIRST_REGISTER + registers as usize) else {
+            return Err(NoMemory);
+        };
+        let Ok((table, mut seat)) = Table::of_words(alloc, words.as_slice(), &registers) else {
+            return Err(NoMemory);
+        };
+        table.shared.fetch_add::<Claim>(&mut seat, CLAIMS, 1);
+        let mut other = table.shared.split_seat::<Ends>(&mut seat);
+        table.shared.fetch_add::<Claim>(&mut other, CLAIMS, 1);
+        let lower = Pass { seat, edge, end: 0 };
+        let higher = Pass {
+            seat: other,
+            edge,
+            end: 1,
+        };
+        let edge = Edge {
+            table,
+            number: edge,
+        };
+        Ok((edge, lower, higher))
+    }
+
+    /// Puts what both ends did together. The holds of both passes are one history, each end's own
+    /// once and in order, and every refusal names a hold of the other end, at its place.
+    pub fn close(self, lower: Pass, higher: Pass) -> Closed
+        requires lower { (lower.of ≡ self) × (lower.end ≡ 0) × IsFree lower.lists }
+        requires higher { (higher.of ≡ self) × (higher.end ≡ 1) × IsFree higher.lists }
+        ensures registers { result.registers ≡ self.registers }
+        ensures history { IsClosed result lower.lists higher.lists }
+    {
+        let Edge { table, number: _ } = self;
+        let Pass {
+            mut seat,
+            edge: _,
+            end: _,
+        } = lower;
+        let Pass {
+            seat: other,
+            edge: _,
+            end: _,
+        } = higher;
+        table.shared.join_seat::<Ends>(&mut seat, other);
+        table.shared.load::<Settle>(&mut seat, 0);
+        Closed { table, seat }
+    }
+
+    /// One exchange of the lock word. Where it finds 0 the end has the edge from then on, else the
+    /// word that it found names the attempt of the other end's hold.
+    pub(crate) fn try_take(&self, pass: &mut Pass, attempt: u64) -> Take
+        requires edge { pass.old.of ≡ self.now }
+        requires free { IsFree pass.old.lists }
+        requires attempt { (attempt < 1000000) × IsNew attempt pass.old.lists }
+        ensures { pass.new ≡ with_lists pass.old (after_try pass.old.end attempt result pass.old.lists) }
+    {
+        let word = 1 + 2 * attempt + u64::from(pass.end);
+        let found = self
+            .table
+            .shared
+            .compare_exchange::<Try>(&mut pass.seat, LOCK, 0, word);
+        if found == 0 {
+            Take::Got
+        } else {
+            Take::Busy {
+                holder_attempt: (found - 1) / 2,
+            }
+        }
+    }
+
+    /// What a register has.
+    pub(crate) fn read(&self, pass: &mut Pass, register: u32) -> u64
+        requires edge { pass.old.of ≡ self.now }
+        requires register { register < self.now.registers }
+        requires held { IsHeld pass.old.lists }
+        ensures value { Shows (known_value pass.old.lists register) result × IsAllowed (sites_of self.now.registers) register result }
+        ensures pass { pass.new ≡ with_lists pass.old (after_access (Read register result) pass.old.lists) }
+    {
+        let word = register as usize + FIRST_REGISTER;
+        self.table.shared.load::<Look>(&mut pass.seat, word)
+    }
+
+    /// Changes a register.
+    pub(crate) fn write(&self, pass: &mut Pass, register: u32, value: u64)
+        requires edge { pass.old.of ≡ self.now }
+        requires register { register < self.now.registers }
+        requires held { IsHeld pass.old.lists }
+        requires value { IsAllowed (sites_of self.now.registers) register value }
+        ensures { pass.new ≡ with_lists pass.old (after_access (Write register value) pass.old.lists) }
+    {
+        let word = register as usize + FIRST_REGISTER;
+        self.table
+            .shared
+            .store::<Change>(&mut pass.seat, word, value);
+    }
+
+    /// Gives the edge back.
+    pub(crate) fn give(&self, pass: &mut Pass)
+        requires edge { pass.old.of ≡ self.now }
+        requires held { IsHeld pass.old.lists }
+        ensures { pass.new ≡ with_lists pass.old (after_give pass.old.lists) }
+    {
+        self.table.shared.store::<Give>(&mut pass.seat, LOCK, 0);
+    }
+}

@@ -1,0 +1,119 @@
+//! All edges of a plane on one board, for one thread. One tile's end acts at a time.
+ghost use Rattle.std.specs.Prelude.{◌≡◌, ◌<◌, ℕ, slice_index_or, length, map, IfOk, All};
+ghost use Rattle.edge_lock.specs.History.{value};
+ghost use Rattle.edge_lock.specs.PlainBoard.{edge_at, end_of, untouched_edge, IsKeptEdge};
+
+use crate::board::{Board, Take};
+use crate::plain_edge::PlainEdge;
+use feast_base::{EdgeSizes, NoMemory};
+use std::alloc::Global;
+use std::marker::Model;
+
+/// All edges of a plane, each with the history of both its ends. Contracts see the tile whose end
+/// acts, and each edge with its two tiles, its number of registers and its history.
+///
+/// A try is Busy exactly where the other end has the edge.
+#[derive(Drop)]
+pub struct PlainBoard {
+    edges: Vec<PlainEdge>,
+    acting: u32,
+}
+
+impl Model for PlainBoard {
+    ghost use Rattle.std.specs.Prelude.{All};
+    ghost use Rattle.edge_lock.specs.PlainBoard.{PlainBoardValue, plain_board_value, IsKeptEdge};
+
+    ghost Value = { PlainBoardValue };
+
+    ghost view = { λ b. plain_board_value b.acting b.edges.items };
+
+    ghost invariant = { λ b. All IsKeptEdge b.edges.items };
+}
+
+impl PlainBoard {
+    /// The board of these edges. All registers are 0, nothing has happened, and tile 0's end acts.
+    ///
+    /// `NoMemory`: there was no memory for the edges.
+    pub fn new<S: EdgeSizes>(alloc: Global, sizes: &S) -> Result<PlainBoard, NoMemory>
+        ensures { IfOk result (λ b. (b.acting ≡ 0) × (b.edges ≡ map untouched_edge (S.sizes sizes.now))) }
+    {
+        let mut edges = Vec::new(alloc);
+        for edge in 0..sizes.edges() {
+            let (lower, higher) = sizes.ends(edge);
+            let new = PlainEdge::new(alloc, lower, higher, sizes.registers(edge))?;
+            if edges.push(new).is_err() {
+                return Err(NoMemory);
+            }
+        }
+        Ok(PlainBoard { edges, acting: 0 })
+    }
+
+    /// A register of an edge. It changes no register and no history.
+    pub fn word(&mut self, edge: u32, register: u32) -> u64
+        requires edge { edge < length self.old.edges }
+        requires register { register < (edge_at self.old edge).registers }
+        ensures same { self.new ≡ self.old }
+        ensures value { result ≡ value (edge_at self.old edge).holds register }
+    {
+        self.edges[edge as usize].word(register)
+    }
+
+    /// Lets a tile's end act from now on. It changes no register and no history.
+    pub fn turn_to(&mut self, tile: u32)
+        ensures acting { self.new.acting ≡ tile }
+        ensures edges { self.new.edges ≡ self.old.edges }
+        ensures histories { All IsKeptEdge self.old.edges }
+    {
+        self.acting = tile;
+    }
+}
+
+impl Board for PlainBoard {
+    ghost use Rattle.edge_lock.specs.PlainBoard.{registers_on, end_on, lists_on, Moved, stays, moved_on};
+
+    ghost tile = { λ b. b.acting };
+
+    ghost registers = { registers_on };
+
+    ghost end_of = { end_on };
+
+    ghost lists = { lists_on };
+
+    ghost moved = { Moved };
+
+    fn try_take(&mut self, edge: u32, attempt: u64) -> Take {
+        let acting = self.acting;
+        let it = &mut self.edges[edge as usize];
+        let end = it.end_of(acting);
+        it.try_take(end, attempt)
+    }
+
+    fn read(&mut self, edge: u32, register: u32) -> u64 {
+        let acting = self.acting;
+        let it = &mut self.edges[edge as usize];
+        let end = it.end_of(acting);
+        it.read(end, register)
+    }
+
+    fn write(&mut self, edge: u32, register: u32, value: u64) {
+        let acting = self.acting;
+        let it = &mut self.edges[edge as usize];
+        let end = it.end_of(acting);
+        it.write(end, register, value);
+    }
+
+    fn give(&mut self, edge: u32) {
+        let acting = self.acting;
+        let it = &mut self.edges[edge as usize];
+        let end = it.end_of(acting);
+        it.give(end);
+    }
+
+    fn give_back(&mut self, edge: u32) {
+        self.give(edge);
+    }
+
+    ghost moved_same = { λ x. stays x };
+
+    ghost moved_on = { moved_on };
+}

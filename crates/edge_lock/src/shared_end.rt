@@ -1,0 +1,124 @@
+//! One tile's end of edges that tiles of other threads use too.
+ghost use Rattle.std.specs.Prelude.{◌≡◌, ◌<◌, All, length, []};
+ghost use Rattle.edge_lock.specs.SharedEnds.{IsPassOf, place, registers_at};
+
+use crate::board::{Board, Take};
+use crate::edge::{Edge, Pass};
+use std::marker::Model;
+
+/// One tile's end of its shared edges: the edges of the plane, and the tile's own passes.
+/// Contracts see the tile and the passes.
+///
+/// A try is Busy only where its one exchange found the word of the other end's hold, which names
+/// the attempt. The pass keeps it as a refusal. When the edge is closed, that hold stands in the
+/// history of the other end.
+#[derive(Drop)]
+pub struct SharedEnd<'a> {
+    edges: &'a [Edge],
+    passes: Vec<Pass>,
+    tile: u32,
+}
+
+impl<'a> Model for SharedEnd<'a> {
+    ghost use Rattle.std.specs.Prelude.{All};
+    ghost use Rattle.edge_lock.specs.SharedEnds.{SharedEndValue, shared_end_value, IsPassOf};
+
+    ghost Value = { SharedEndValue };
+
+    ghost view = { λ s. shared_end_value s.tile s.passes.items };
+
+    ghost invariant = { λ s. All (IsPassOf s.edges.now) s.passes.items };
+}
+
+/// The position of the pass of an edge. A tile has at most eight edges.
+fn place_of(passes: &[Pass], edge: u32) -> usize
+    requires { 0 < registers_at passes.now edge }
+    ensures is { result ≡ place passes.now edge }
+    ensures inside { result < length passes.now }
+{
+    for i in 0..passes.len() {
+        if passes[i].edge() == edge {
+            return i;
+        }
+    }
+    unreachable!()
+}
+
+impl<'a> SharedEnd<'a> {
+    /// The end of a tile. The edge at position e of `edges` has number e, each pass was made with
+    /// the edge of its number, and the passes are the tile's, in order of its edges.
+    pub fn new(edges: &'a [Edge], passes: Vec<Pass>, tile: u32) -> SharedEnd<'a>
+        requires { All (IsPassOf edges.now) passes.items }
+        ensures { (result.tile ≡ tile) × (result.passes ≡ passes.items) }
+    {
+        SharedEnd {
+            edges,
+            passes,
+            tile,
+        }
+    }
+
+    /// Hands the passes back, in the same order.
+    pub fn into_passes(self) -> Vec<Pass>
+        ensures { result.items ≡ self.entry.passes }
+    {
+        let SharedEnd {
+            edges: _,
+            passes,
+            tile: _,
+        } = self;
+        passes
+    }
+}
+
+impl<'a> Board for SharedEnd<'a> {
+    ghost use Rattle.std.specs.Prelude.{refl};
+    ghost use Rattle.std.proofs.Common.{◌∙◌};
+    ghost use Rattle.edge_lock.specs.SharedEnds.{registers_at, end_at, lists_at, SamePasses};
+
+    ghost tile = { λ s. s.tile };
+
+    ghost registers = { λ s. registers_at s.passes };
+
+    ghost end_of = { λ s. end_at s.passes };
+
+    ghost lists = { λ s. lists_at s.passes };
+
+    ghost moved = { SamePasses };
+
+    fn try_take(&mut self, edge: u32, attempt: u64) -> Take {
+        let i = place_of(self.passes.as_slice(), edge);
+        let edges = self.edges;
+        let pass = &mut self.passes[i];
+        edges[edge as usize].try_take(pass, attempt)
+    }
+
+    fn read(&mut self, edge: u32, register: u32) -> u64 {
+        let i = place_of(self.passes.as_slice(), edge);
+        let edges = self.edges;
+        let pass = &mut self.passes[i];
+        edges[edge as usize].read(pass, register)
+    }
+
+    fn write(&mut self, edge: u32, register: u32, value: u64) {
+        let i = place_of(self.passes.as_slice(), edge);
+        let edges = self.edges;
+        let pass = &mut self.passes[i];
+        edges[edge as usize].write(pass, register, value);
+    }
+
+    fn give(&mut self, edge: u32) {
+        let i = place_of(self.passes.as_slice(), edge);
+        let edges = self.edges;
+        let pass = &mut self.passes[i];
+        edges[edge as usize].give(pass);
+    }
+
+    fn give_back(&mut self, edge: u32) {
+        self.give(edge);
+    }
+
+    ghost moved_same = { λ x. record { tile = refl; passes = refl } };
+
+    ghost moved_on = { λ x y z p q. record { tile = q.tile ∙ p.tile; passes = q.passes ∙ p.passes } };
+}
