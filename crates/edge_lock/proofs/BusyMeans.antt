@@ -83,32 +83,32 @@ end_small x t = by (eqb x.lower t)
     by false = omega arith
 
 -- one call, as the edge e sees it
-pub record Sees (b d : PlainBoardValue) (w : IsCall b d) (e : ℕ) : Type 0 where
+pub record Sees (b d : PlainBoardValue) (n : ℕ) (call : Call) (w : IsCall b n call d) (e : ℕ) : Type 0 where
   pub ends : end_on d e ≡ end_on b e
-  pub here : w.edge ≡ e → lists_on d e ≡ own_lists (end_on b e) (effect_of (end_on b e) w.call (edge_at b e))
-  pub edge : w.edge ≡ e → edge_at d e ≡ effect_of (end_on b e) w.call (edge_at b e)
-  pub there : w.edge ≢ e → (lists_on d e ≡ lists_on b e) × (edge_at d e ≡ edge_at b e)
+  pub here : n ≡ e → lists_on d e ≡ own_lists (end_on b e) (effect_of (end_on b e) call (edge_at b e))
+  pub edge : n ≡ e → edge_at d e ≡ effect_of (end_on b e) call (edge_at b e)
+  pub there : n ≢ e → (lists_on d e ≡ lists_on b e) × (edge_at d e ≡ edge_at b e)
 
-pub sees : (b d : PlainBoardValue) (w : IsCall b d) (e : ℕ) → Sees b d w e
-sees b d w e =
-    let x = edge_at b w.edge in let k = end_on b w.edge in let y = effect_of k w.call x in
-    let c = changed b w.edge y w.inside (effect_ends k w.call x) in record {
+pub sees : (b d : PlainBoardValue) (n : ℕ) (call : Call) (w : IsCall b n call d) (e : ℕ) → Sees b d n call w e
+sees b d n call w e =
+    let x = edge_at b n in let k = end_on b n in let y = effect_of k call x in
+    let c = changed b n y w.inside (effect_ends k call x) in record {
       ends = ap (λ v. end_on v e) w.is ∙ ap (λ f. f e) c.ends;
-      here = λ is. ap (λ v. lists_on v e) w.is ∙ (ap (λ f. f e) c.lists ∙ (ap (replace_at (lists_on b) w.edge (own_lists k y)) (sym is) ∙ (replace_at-here (lists_on b) w.edge (own_lists k y) ∙ ap (λ j. own_lists (end_on b j) (effect_of (end_on b j) w.call (edge_at b j))) is)));
-      edge = λ is. ap (λ v. edge_at v e) w.is ∙ (ap (λ j. get_or (set b.edges w.edge y) j no_edge) (sym is) ∙ (get_or-set_same b.edges w.edge y no_edge w.inside ∙ ap (λ j. effect_of (end_on b j) w.call (edge_at b j)) is));
+      here = λ is. ap (λ v. lists_on v e) w.is ∙ (ap (λ f. f e) c.lists ∙ (ap (replace_at (lists_on b) n (own_lists k y)) (sym is) ∙ (replace_at-here (lists_on b) n (own_lists k y) ∙ ap (λ j. own_lists (end_on b j) (effect_of (end_on b j) call (edge_at b j))) is)));
+      edge = λ is. ap (λ v. edge_at v e) w.is ∙ (ap (λ j. get_or (set b.edges n y) j no_edge) (sym is) ∙ (get_or-set_same b.edges n y no_edge w.inside ∙ ap (λ j. effect_of (end_on b j) call (edge_at b j)) is));
       there = λ apart. (
-        ap (λ v. lists_on v e) w.is ∙ (ap (λ f. f e) c.lists ∙ replace_at-else (lists_on b) w.edge e (own_lists k y) (λ h. apart (sym h))),
-        ap (λ v. edge_at v e) w.is ∙ get_or-set_other b.edges w.edge e y no_edge (λ h. apart (sym h)),
+        ap (λ v. lists_on v e) w.is ∙ (ap (λ f. f e) c.lists ∙ replace_at-else (lists_on b) n e (own_lists k y) (λ h. apart (sym h))),
+        ap (λ v. edge_at v e) w.is ∙ get_or-set_other b.edges n e y no_edge (λ h. apart (sym h)),
       );
     }
 
 pub grows : (b c : PlainBoardValue) → Moved b c → (e : ℕ) → Grows (lists_on b e) (lists_on c e)
 grows b c (stays _) e = grows_none (lists_on b e)
-grows b c (goes _ d _ w m) e =
-    let s = sees b d w e in
+grows b c (goes _ d _ n call w m) e =
+    let s = sees b d n call w e in
     grows_on (lists_on b e) (lists_on d e) (lists_on c e)
-    (dite (ℕ_discrete w.edge e)
-    (λ is. subst (Grows (lists_on b e)) (sym (s.here is)) (grows_effect (end_on b e) w.call (edge_at b e) (end_small (edge_at b e) b.acting)))
+    (dite (ℕ_discrete n e)
+    (λ is. subst (Grows (lists_on b e)) (sym (s.here is)) (grows_effect (end_on b e) call (edge_at b e) (end_small (edge_at b e) b.acting)))
     (λ apart. subst (Grows (lists_on b e)) (sym (s.there apart).0) (grows_none (lists_on b e))))
     (grows d c m e)
 
@@ -143,10 +143,10 @@ one_refusal b c d e a n gives k free can now more is = absurd (true≢false (sym
 -- the other end had the edge, with the attempt that the refusal names
 pub busy_means : (b c : PlainBoardValue) → Moved b c → (e a n : ℕ) → IsKept (view_of (edge_at b e)) → IsFree (lists_on b e) → lists_on c e ≡ end_lists (lists_on b e).holds ((lists_on b e).refusals ++ refusal_of a n ∷ []) → Answers (end_on b e) (edge_at b e) (Busy n)
 busy_means b c (stays _) e a n k free is = let l : length (lists_on b e).refusals ≡ length (lists_on b e).refusals + 1 = ap (λ (l : EndLists). length l.refusals) is ∙ length-append (lists_on b e).refusals (refusal_of a n ∷ []) in absurd (omega arith)
-busy_means b c (goes _ d _ w m) e a n k free is =
-    let s = sees b d w e in
-    dite (ℕ_discrete w.edge e)
-    (λ at. one_refusal b c d e a n w.call k free (subst (λ j. MayCall (end_on b j) w.call (edge_at b j)) at w.can) (s.here at) (grows d c m e) is)
+busy_means b c (goes _ d _ at_edge call w m) e a n k free is =
+    let s = sees b d at_edge call w e in
+    dite (ℕ_discrete at_edge e)
+    (λ at. one_refusal b c d e a n call k free (subst (λ j. MayCall (end_on b j) call (edge_at b j)) at w.can) (s.here at) (grows d c m e) is)
     (λ apart. let t = s.there apart in
     subst (λ (v : ℕ × PlainEdgeValue). Answers v.0 v.1 (Busy n)) (λ i. (s.ends i, t.1 i))
     (busy_means d c m e a n (subst (λ v. IsKept (view_of v)) (sym t.1) k) (subst IsFree (sym t.0) free) (is ∙ ap (λ (l : EndLists). end_lists l.holds (l.refusals ++ refusal_of a n ∷ [])) (sym t.0))))
@@ -170,10 +170,10 @@ one_hold b c d e a gives free can now more is = absurd (true≢false (sym can �
 
 pub got_means : (b c : PlainBoardValue) → Moved b c → (e a : ℕ) → IsFree (lists_on b e) → lists_on c e ≡ end_lists ((lists_on b e).holds ++ new_hold (end_on b e) a ∷ []) (lists_on b e).refusals → Answers (end_on b e) (edge_at b e) Got
 got_means b c (stays _) e a free is = let l : length (lists_on b e).holds ≡ length (lists_on b e).holds + 1 = ap (λ (l : EndLists). length l.holds) is ∙ length-append (lists_on b e).holds (new_hold (end_on b e) a ∷ []) in absurd (omega arith)
-got_means b c (goes _ d _ w m) e a free is =
-    let s = sees b d w e in
-    dite (ℕ_discrete w.edge e)
-    (λ at. one_hold b c d e a w.call free (subst (λ j. MayCall (end_on b j) w.call (edge_at b j)) at w.can) (s.here at) (grows d c m e) (ap (λ (l : EndLists). l.refusals) is))
+got_means b c (goes _ d _ n call w m) e a free is =
+    let s = sees b d n call w e in
+    dite (ℕ_discrete n e)
+    (λ at. one_hold b c d e a call free (subst (λ j. MayCall (end_on b j) call (edge_at b j)) at w.can) (s.here at) (grows d c m e) (ap (λ (l : EndLists). l.refusals) is))
     (λ apart. let t = s.there apart in
     subst (λ (v : ℕ × PlainEdgeValue). Answers v.0 v.1 Got) (λ i. (s.ends i, t.1 i))
     (got_means d c m e a (subst IsFree (sym t.0) free) (is ∙ (λ i. end_lists ((sym t.0 i).holds ++ new_hold (sym s.ends i) a ∷ []) (sym t.0 i).refusals))))

@@ -53,15 +53,15 @@ pub record Leaves (b c : PlainBoardValue) (e : ℕ) : Type 0 where
 
 pub leaves : (b c : PlainBoardValue) → Moved b c → (e : ℕ) → IsKept (view_of (edge_at b e)) → Leaves b c e
 leaves b c (stays _) e k = record { kept = k; same_end = refl; other = refl }
-leaves b c (goes _ d _ w m) e k =
-    let s = sees b d w e in let n = end_on b e in let x = edge_at b e in
-    dite (ℕ_discrete w.edge e)
-    (λ is. let can = subst (λ j. MayCall (end_on b j) w.call (edge_at b j)) is w.can in let end = end_small x b.acting in
+leaves b c (goes _ d _ n call w m) e k =
+    let s = sees b d n call w e in let k_end = end_on b e in let x = edge_at b e in
+    dite (ℕ_discrete n e)
+    (λ is. let can = subst (λ j. MayCall (end_on b j) call (edge_at b j)) is w.can in let end = end_small x b.acting in
     let now = s.edge is in
-    let rest = leaves d c m e (subst (λ v. IsKept (view_of v)) (sym now) (kept_effect n w.call x end k can)) in record {
+    let rest = leaves d c m e (subst (λ v. IsKept (view_of v)) (sym now) (kept_effect k_end call x end k can)) in record {
       kept = rest.kept;
       same_end = rest.same_end ∙ s.ends;
-      other = ap (λ j. own_lists (1 - j) (edge_at c e)) (sym s.ends) ∙ (rest.other ∙ ((λ i. own_lists (1 - s.ends i) (now i)) ∙ other_effect n w.call x end k can));
+      other = ap (λ j. own_lists (1 - j) (edge_at c e)) (sym s.ends) ∙ (rest.other ∙ ((λ i. own_lists (1 - s.ends i) (now i)) ∙ other_effect k_end call x end k can));
     })
     (λ apart. let t = s.there apart in let rest = leaves d c m e (subst (λ v. IsKept (view_of v)) (sym t.1) k) in record {
       kept = rest.kept;

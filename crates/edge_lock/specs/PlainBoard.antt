@@ -74,10 +74,8 @@ effect_of end (reads register) edge = edge_after_access (Read register (value ed
 effect_of end (writes register value) edge = edge_after_access (Write register value) edge
 effect_of end gives edge = edge_after_give edge
 
--- The one board comes from the other by one call of the acting tile's end on one edge. All other edges stay, and so does the acting tile.
-pub record IsCall (old new : PlainBoardValue) : Type 0 where
-  pub edge : ℕ
-  pub call : Call
+-- The new board comes from the old one by this call of the acting tile's end on this edge. All other edges stay, and so does the acting tile.
+pub record IsCall (old : PlainBoardValue) (edge : ℕ) (call : Call) (new : PlainBoardValue) : Type 0 where
   pub inside : edge < length old.edges
   pub ours : is_end (edge_at old edge) old.acting ≡ true
   pub can : MayCall (end_on old edge) call (edge_at old edge)
@@ -86,11 +84,11 @@ pub record IsCall (old new : PlainBoardValue) : Type 0 where
 -- some list of calls by the acting tile's end leads from the one board to the other
 pub data Moved : PlainBoardValue → PlainBoardValue → Type 0 where
   stays : (board : PlainBoardValue) → Moved board board
-  goes : (old between new : PlainBoardValue) → IsCall old between → Moved between new → Moved old new
+  goes : (old between new : PlainBoardValue) (edge : ℕ) (call : Call) → IsCall old edge call between → Moved between new → Moved old new
 
 pub moved_on : (old between new : PlainBoardValue) → Moved old between → Moved between new → Moved old new
 moved_on old between new (stays _) later = later
-moved_on old between new (goes _ next _ call rest) later = goes old next new call (moved_on next between new rest later)
+moved_on old between new (goes _ next _ edge call one rest) later = goes old next new edge call one (moved_on next between new rest later)
 
 -- an edge of this size on which nothing has happened
 abbrev pub untouched_edge : EdgeSize → PlainEdgeValue

@@ -1,37 +1,46 @@
-use Rattle.std.proofs.Common.{arith, refl, sym, ap, ◌∙◌, subst, ◌<◌}
+use Rattle.std.proofs.Common.{arith, sym, ap, ◌∙◌, subst, ◌<◌, ◌≡◌, refl}
+use Rattle.edge_lock.specs.EndLists.{EndLists, after_try, after_access, after_give}
+use Rattle.edge_lock.specs.PlainBoard.{registers_on, end_on, lists_on, edge_at, tries, reads, writes, gives, IsKeptEdge}
+use Rattle.edge_lock.proofs.Boards.{done, registers_there, tried_effect, same_ends_try, same_ends_access, same_ends_give, all_set}
 use Rattle.edge_lock.specs.declared.history.Access.TheVariants.{Read}
-use Rattle.edge_lock.specs.EndLists.{EndLists, IsHeld, replace_at, after_access}
-use Rattle.edge_lock.specs.PlainEdges.{PlainEdgeValue, own_lists, edge_after_try}
-use Rattle.edge_lock.specs.PlainBoard.{plain_board_value, registers_on, end_on, lists_on, Moved, reads}
-use Rattle.edge_lock.proofs.Boards.{SameEnds, done, inside_at, there_at, regs_at}
+use Rattle.edge_lock.specs.History.{sites_of, IsAllowed}
+use Rattle.edge_lock.specs.EndLists.{known_value, Shows}
+use Rattle.edge_lock.specs.PlainEdges.{PlainEdgeValue, own_lists, edge_after_access}
+use Rattle.edge_lock.specs.PlainBoard.{end_of}
+use Rattle.edge_lock.proofs.Boards.{there}
 use Rattle.edge_lock.proofs.plain_board.PlainBoardBoard.read.Goals as goal
+
+pub returns-clause-value : goal.returns-clause-value
+returns-clause-value c =
+    let x = c.index_mut-it.result.now in let y = c.read.new.self in let end = c.end_of-end.result in let b = c.args.self.now in let e = c.args.edge in
+    let some_registers : 0 < registers_on b e = omega (arith, c.requires.edge) in
+    let d = done c.self.inside.acting c.self.inside.edges.items b c.self.view_is e end x y (reads c.args.register) (λ k l. after_access (Read c.args.register c.read.result) l) some_registers (c.requires.held, subst (λ n. c.args.register < n) (registers_there b e some_registers) c.requires.edge) c.index_mut-it.ensures.value c.end_of-end.ensures.end (c.read.ensures.edge ∙ ap (λ v. edge_after_access (Read c.args.register v) x) c.read.ensures.value.0) (same_ends_access (Read c.args.register c.read.result) x y c.read.ensures.edge) c.read.ensures.own c.read.ensures.other in
+    let at = there c.self.inside.acting c.self.inside.edges.items b c.self.view_is e x some_registers c.index_mut-it.ensures.value in
+    let which : end ≡ end_on b e = c.end_of-end.ensures.end ∙ (λ i. end_of (at i) (c.self.view_is i).acting) in (
+      subst (λ (l : EndLists). Shows (known_value l c.args.register) c.read.result) (λ i. own_lists (which i) (at i)) c.read.ensures.value.2,
+      subst (λ n. IsAllowed (sites_of n) c.args.register c.read.result) (ap (λ (z : PlainEdgeValue). z.registers) at ∙ sym (registers_there b e some_registers)) c.read.ensures.value.1,
+    )
 
 pub returns-clause-lists : goal.returns-clause-lists
 returns-clause-lists c =
-    let b = plain_board_value c.self.inside.acting c.self.inside.edges.items in let e = c.args.edge in let x = c.index_mut-it.result.now in let y = c.read.new.self in let end = c.end_of-end.result in
-    let seen = c.self.view_is in
-    let some_registers : 0 < registers_on b e = omega (arith, c.requires.edge, ap (λ v. registers_on v e) seen) in
-    let can_be = ap (λ v. lists_on v e) (sym seen) in
-    let there = there_at b e end x some_registers c.index_mut-it.ensures.value c.end_of-end.ensures.end in
-    let d = done b e end x y (reads c.args.register) some_registers (inside_at b e some_registers) c.index_mut-it.ensures.value c.end_of-end.ensures.end (c.read.ensures.edge ∙ ap (λ n. Rattle.edge_lock.specs.PlainEdges.edge_after_access (Read c.args.register n) x) c.read.ensures.value.0) (subst (λ (z : PlainEdgeValue). SameEnds x z) (sym c.read.ensures.edge) record { lower = refl; higher = refl; registers = refl }) (subst (λ (l : EndLists). IsHeld l) (can_be ∙ sym there) c.requires.held, omega (arith, c.requires.edge, ap (λ v. registers_on v e) seen, regs_at b e x some_registers c.index_mut-it.ensures.value)) in
-    d.lists ∙ (ap (replace_at (lists_on b) e) (c.read.ensures.own ∙ ap (after_access (Read c.args.register c.read.result)) d.here) ∙ ap (λ v. replace_at (lists_on v) e (after_access (Read c.args.register c.read.result) (lists_on v e))) seen)
+    let x = c.index_mut-it.result.now in let y = c.read.new.self in let end = c.end_of-end.result in let b = c.args.self.now in let e = c.args.edge in
+    let some_registers : 0 < registers_on b e = omega (arith, c.requires.edge) in
+    let d = done c.self.inside.acting c.self.inside.edges.items b c.self.view_is e end x y (reads c.args.register) (λ k l. after_access (Read c.args.register c.read.result) l) some_registers (c.requires.held, subst (λ n. c.args.register < n) (registers_there b e some_registers) c.requires.edge) c.index_mut-it.ensures.value c.end_of-end.ensures.end (c.read.ensures.edge ∙ ap (λ v. edge_after_access (Read c.args.register v) x) c.read.ensures.value.0) (same_ends_access (Read c.args.register c.read.result) x y c.read.ensures.edge) c.read.ensures.own c.read.ensures.other in
+    d.lists
 
 pub returns-clause-edges : goal.returns-clause-edges
 returns-clause-edges c =
-    let b = plain_board_value c.self.inside.acting c.self.inside.edges.items in let e = c.args.edge in let x = c.index_mut-it.result.now in let y = c.read.new.self in let end = c.end_of-end.result in
-    let seen = c.self.view_is in
-    let some_registers : 0 < registers_on b e = omega (arith, c.requires.edge, ap (λ v. registers_on v e) seen) in
-    let can_be = ap (λ v. lists_on v e) (sym seen) in
-    let there = there_at b e end x some_registers c.index_mut-it.ensures.value c.end_of-end.ensures.end in
-    let d = done b e end x y (reads c.args.register) some_registers (inside_at b e some_registers) c.index_mut-it.ensures.value c.end_of-end.ensures.end (c.read.ensures.edge ∙ ap (λ n. Rattle.edge_lock.specs.PlainEdges.edge_after_access (Read c.args.register n) x) c.read.ensures.value.0) (subst (λ (z : PlainEdgeValue). SameEnds x z) (sym c.read.ensures.edge) record { lower = refl; higher = refl; registers = refl }) (subst (λ (l : EndLists). IsHeld l) (can_be ∙ sym there) c.requires.held, omega (arith, c.requires.edge, ap (λ v. registers_on v e) seen, regs_at b e x some_registers c.index_mut-it.ensures.value)) in
-    (d.registers ∙ ap registers_on seen, d.ends ∙ ap end_on seen)
+    let x = c.index_mut-it.result.now in let y = c.read.new.self in let end = c.end_of-end.result in let b = c.args.self.now in let e = c.args.edge in
+    let some_registers : 0 < registers_on b e = omega (arith, c.requires.edge) in
+    let d = done c.self.inside.acting c.self.inside.edges.items b c.self.view_is e end x y (reads c.args.register) (λ k l. after_access (Read c.args.register c.read.result) l) some_registers (c.requires.held, subst (λ n. c.args.register < n) (registers_there b e some_registers) c.requires.edge) c.index_mut-it.ensures.value c.end_of-end.ensures.end (c.read.ensures.edge ∙ ap (λ v. edge_after_access (Read c.args.register v) x) c.read.ensures.value.0) (same_ends_access (Read c.args.register c.read.result) x y c.read.ensures.edge) c.read.ensures.own c.read.ensures.other in
+    (d.registers, d.ends)
 
 pub returns-clause-moved : goal.returns-clause-moved
 returns-clause-moved c =
-    let b = plain_board_value c.self.inside.acting c.self.inside.edges.items in let e = c.args.edge in let x = c.index_mut-it.result.now in let y = c.read.new.self in let end = c.end_of-end.result in
-    let seen = c.self.view_is in
-    let some_registers : 0 < registers_on b e = omega (arith, c.requires.edge, ap (λ v. registers_on v e) seen) in
-    let can_be = ap (λ v. lists_on v e) (sym seen) in
-    let there = there_at b e end x some_registers c.index_mut-it.ensures.value c.end_of-end.ensures.end in
-    let d = done b e end x y (reads c.args.register) some_registers (inside_at b e some_registers) c.index_mut-it.ensures.value c.end_of-end.ensures.end (c.read.ensures.edge ∙ ap (λ n. Rattle.edge_lock.specs.PlainEdges.edge_after_access (Read c.args.register n) x) c.read.ensures.value.0) (subst (λ (z : PlainEdgeValue). SameEnds x z) (sym c.read.ensures.edge) record { lower = refl; higher = refl; registers = refl }) (subst (λ (l : EndLists). IsHeld l) (can_be ∙ sym there) c.requires.held, omega (arith, c.requires.edge, ap (λ v. registers_on v e) seen, regs_at b e x some_registers c.index_mut-it.ensures.value)) in
-    subst (λ v. Moved v (plain_board_value c.self.inside.acting (Rattle.std.specs.Prelude.slice_set c.self.inside.edges.items e y))) seen d.moved
+    let x = c.index_mut-it.result.now in let y = c.read.new.self in let end = c.end_of-end.result in let b = c.args.self.now in let e = c.args.edge in
+    let some_registers : 0 < registers_on b e = omega (arith, c.requires.edge) in
+    let d = done c.self.inside.acting c.self.inside.edges.items b c.self.view_is e end x y (reads c.args.register) (λ k l. after_access (Read c.args.register c.read.result) l) some_registers (c.requires.held, subst (λ n. c.args.register < n) (registers_there b e some_registers) c.requires.edge) c.index_mut-it.ensures.value c.end_of-end.ensures.end (c.read.ensures.edge ∙ ap (λ v. edge_after_access (Read c.args.register v) x) c.read.ensures.value.0) (same_ends_access (Read c.args.register c.read.result) x y c.read.ensures.edge) c.read.ensures.own c.read.ensures.other in
+    d.moved
+
+pub invariant_of-self : goal.invariant_of-self
+invariant_of-self c = all_set IsKeptEdge c.self.inside.edges.items c.args.edge c.read.new.self c.self.invariant c.read.ensures.kept

@@ -1,5 +1,6 @@
 use Rattle.std.proofs.Common.{arith, sym, ap, ◌∙◌, subst, map}
 use Rattle.edge_lock.specs.declared.history.Access.TheVariants.{Write}
+use Rattle.edge_lock.specs.History.{sites_of, IsAllowed}
 use Rattle.edge_lock.specs.EndLists.{EndLists, IsHeld, replace_at, after_access}
 use Rattle.edge_lock.specs.Passes.{EdgeValue}
 use Rattle.edge_lock.specs.SharedEnds.{SharedEndValue, registers_at, end_at, lists_at, edge_and_end}
@@ -33,6 +34,14 @@ write-requires-clause-held c =
     let p = c.index_mut-pass.result.now in let at = c.index_mut-pass.ensures.value in let s = h.stood p at in
     let seen = ap (λ (x : SharedEndValue). x.passes) c.self.view_is in
     subst (λ (l : EndLists). IsHeld l) (ap (λ l. lists_at l e) (sym seen) ∙ s.lists) c.requires.held
+
+pub write-requires-clause-value : goal.write-requires-clause-value
+write-requires-clause-value c =
+    let es = c.self.inside.edges.now in let ps = c.self.inside.passes.items in let e = c.args.edge in
+    let h = here es ps c.as_slice.result.now e c.place_of-i.result c.self.invariant c.as_slice.ensures.value c.place_of-i.ensures.is c.place_of-i.ensures.inside in
+    let p = c.index_mut-pass.result.now in let at = c.index_mut-pass.ensures.value in let s = h.stood p at in
+    let seen = ap (λ (x : SharedEndValue). x.passes) c.self.view_is in
+    subst (λ n. IsAllowed (sites_of n) c.args.register c.args.value) (ap (λ l. registers_at l e) (sym seen) ∙ (s.registers ∙ ap (λ (x : EdgeValue). x.registers) (h.of p c.index-edges-edge.result at c.index-edges-edge.is))) c.requires.value
 
 pub returns-clause-lists : goal.returns-clause-lists
 returns-clause-lists c =
