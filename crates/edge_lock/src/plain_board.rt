@@ -1,7 +1,10 @@
 //! All edges of a plane on one board, for one thread. One tile's end acts at a time.
 ghost use Rattle.std.specs.Prelude.{◌≡◌, ◌<◌, ℕ, slice_index_or, length, map, IfOk, All};
-ghost use Rattle.edge_lock.specs.History.{value};
-ghost use Rattle.edge_lock.specs.PlainBoard.{edge_at, end_of, untouched_edge, IsKeptEdge};
+ghost use Rattle.edge_lock.specs.declared.history.Access.TheVariants.{Read, Write};
+ghost use Rattle.edge_lock.specs.History.{value, sites_of, IsAllowed};
+ghost use Rattle.edge_lock.specs.EndLists.{IsFree, IsHeld, IsNew, HasNoWrite, Shows, known_value, after_try, after_access, after_give, replace_at};
+ghost use Rattle.edge_lock.specs.PlainEdges.{Answers};
+ghost use Rattle.edge_lock.specs.PlainBoard.{edge_at, registers_on, end_on, lists_on, other_lists_on, tries, reads, writes, gives, IsCall, Moved, untouched_edge, IsKeptEdge};
 
 use crate::board::{Board, Take};
 use crate::plain_edge::PlainEdge;
@@ -81,35 +84,95 @@ impl Board for PlainBoard {
 
     ghost moved = { Moved };
 
-    fn try_take(&mut self, edge: u32, attempt: u64) -> Take {
+    /// Tries to take an edge. Busy comes exactly where the other end has it.
+    fn try_take(&mut self, edge: u32, attempt: u64) -> Take
+        requires edge { 0 < registers_on self.old edge }
+        requires free { IsFree (lists_on self.old edge) }
+        requires attempt { (attempt < 1000000) × IsNew attempt (lists_on self.old edge) }
+        ensures answer { Answers (end_on self.old edge) (edge_at self.old edge) result }
+        ensures call { IsCall self.old edge (tries attempt) self.new }
+        ensures lists { lists_on self.new ≡ replace_at (lists_on self.old) edge (after_try (end_on self.old edge) attempt result (lists_on self.old edge)) }
+        ensures tile { self.new.acting ≡ self.old.acting }
+        ensures edges { (registers_on self.new ≡ registers_on self.old) × (end_on self.new ≡ end_on self.old) }
+        ensures moved { Moved self.old self.new }
+        ensures others { other_lists_on self.new ≡ other_lists_on self.old }
+        ensures histories { All IsKeptEdge self.new.edges }
+    {
         let acting = self.acting;
         let it = &mut self.edges[edge as usize];
         let end = it.end_of(acting);
         it.try_take(end, attempt)
     }
 
-    fn read(&mut self, edge: u32, register: u32) -> u64 {
+    /// What a register has of an edge that the acting end has.
+    fn read(&mut self, edge: u32, register: u32) -> u64
+        requires edge { register < registers_on self.old edge }
+        requires held { IsHeld (lists_on self.old edge) }
+        ensures value { Shows (known_value (lists_on self.old edge) register) result × IsAllowed (sites_of (registers_on self.old edge)) register result }
+        ensures is_register { result ≡ value (edge_at self.old edge).holds register }
+        ensures call { IsCall self.old edge (reads register) self.new }
+        ensures lists { lists_on self.new ≡ replace_at (lists_on self.old) edge (after_access (Read register result) (lists_on self.old edge)) }
+        ensures tile { self.new.acting ≡ self.old.acting }
+        ensures edges { (registers_on self.new ≡ registers_on self.old) × (end_on self.new ≡ end_on self.old) }
+        ensures moved { Moved self.old self.new }
+        ensures others { other_lists_on self.new ≡ other_lists_on self.old }
+        ensures histories { All IsKeptEdge self.new.edges }
+    {
         let acting = self.acting;
         let it = &mut self.edges[edge as usize];
         let end = it.end_of(acting);
         it.read(end, register)
     }
 
-    fn write(&mut self, edge: u32, register: u32, value: u64) {
+    /// Changes a register of an edge that the acting end has.
+    fn write(&mut self, edge: u32, register: u32, value: u64)
+        requires edge { register < registers_on self.old edge }
+        requires held { IsHeld (lists_on self.old edge) }
+        requires value { IsAllowed (sites_of (registers_on self.old edge)) register value }
+        ensures call { IsCall self.old edge (writes register value) self.new }
+        ensures lists { lists_on self.new ≡ replace_at (lists_on self.old) edge (after_access (Write register value) (lists_on self.old edge)) }
+        ensures tile { self.new.acting ≡ self.old.acting }
+        ensures edges { (registers_on self.new ≡ registers_on self.old) × (end_on self.new ≡ end_on self.old) }
+        ensures moved { Moved self.old self.new }
+        ensures others { other_lists_on self.new ≡ other_lists_on self.old }
+        ensures histories { All IsKeptEdge self.new.edges }
+    {
         let acting = self.acting;
         let it = &mut self.edges[edge as usize];
         let end = it.end_of(acting);
         it.write(end, register, value);
     }
 
-    fn give(&mut self, edge: u32) {
+    /// Gives an edge back that the acting end has.
+    fn give(&mut self, edge: u32)
+        requires edge { 0 < registers_on self.old edge }
+        requires held { IsHeld (lists_on self.old edge) }
+        ensures call { IsCall self.old edge gives self.new }
+        ensures lists { lists_on self.new ≡ replace_at (lists_on self.old) edge (after_give (lists_on self.old edge)) }
+        ensures tile { self.new.acting ≡ self.old.acting }
+        ensures edges { (registers_on self.new ≡ registers_on self.old) × (end_on self.new ≡ end_on self.old) }
+        ensures moved { Moved self.old self.new }
+        ensures others { other_lists_on self.new ≡ other_lists_on self.old }
+        ensures histories { All IsKeptEdge self.new.edges }
+    {
         let acting = self.acting;
         let it = &mut self.edges[edge as usize];
         let end = it.end_of(acting);
         it.give(end);
     }
 
-    fn give_back(&mut self, edge: u32) {
+    /// Gives an edge back on which the acting end's hold has written nothing.
+    fn give_back(&mut self, edge: u32)
+        requires edge { 0 < registers_on self.old edge }
+        requires held { IsHeld (lists_on self.old edge) × HasNoWrite (lists_on self.old edge) }
+        ensures call { IsCall self.old edge gives self.new }
+        ensures lists { lists_on self.new ≡ replace_at (lists_on self.old) edge (after_give (lists_on self.old edge)) }
+        ensures tile { self.new.acting ≡ self.old.acting }
+        ensures edges { (registers_on self.new ≡ registers_on self.old) × (end_on self.new ≡ end_on self.old) }
+        ensures moved { Moved self.old self.new }
+        ensures others { other_lists_on self.new ≡ other_lists_on self.old }
+        ensures histories { All IsKeptEdge self.new.edges }
+    {
         self.give(edge);
     }
 

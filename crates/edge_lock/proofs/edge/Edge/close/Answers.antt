@@ -2,7 +2,7 @@ use Rattle.std.proofs.Common.{arith, sym, ap, ◌∙◌, subst, ℕ}
 use Rattle.edge_lock.specs.EndLists.{EndLists, IsFree}
 use Rattle.edge_lock.specs.SharedRule.{lists_in}
 use Rattle.edge_lock.specs.Passes.{EdgeValue, PassValue, IsPaired, IsClosed, closed_value}
-use Rattle.edge_lock.proofs.Sharing.{joins_as, settles, joined_view, closes}
+use Rattle.edge_lock.proofs.SharedSeats.{joins_as, settles, joined_view, closes}
 use Rattle.edge_lock.proofs.edge.Edge.close.Goals as goal
 
 pub join_seat-requires : goal.join_seat-requires

@@ -1,7 +1,7 @@
 use Rattle.std.proofs.Common.{arith, sym, ap, ◌∙◌, subst, ℕ}
 use Rattle.edge_lock.specs.EndLists.{IsHeld}
 use Rattle.edge_lock.specs.Passes.{EdgeValue, PassValue, IsPaired}
-use Rattle.edge_lock.proofs.Holding.{gives}
+use Rattle.edge_lock.proofs.SharedHolds.{gives}
 use Rattle.edge_lock.proofs.edge.Edge.give.Goals as goal
 
 pub store-requires : goal.store-requires

@@ -1,5 +1,5 @@
 use Rattle.std.proofs.Common.{rules}
-use Rattle.edge_lock.proofs.Sharing.{opens, claims_first, claims_second, splits_as}
+use Rattle.edge_lock.proofs.SharedSeats.{opens, claims_first, claims_second, splits_as}
 use Rattle.edge_lock.proofs.edge.Edge.new.Goals as goal
 
 pub of_words-requires : goal.of_words-requires

@@ -3,7 +3,7 @@ use Rattle.edge_lock.specs.History.{sites_of, IsAllowed}
 use Rattle.edge_lock.specs.EndLists.{IsHeld, EndLists, Shows, known_value}
 use Rattle.edge_lock.specs.SharedRule.{lists_in}
 use Rattle.edge_lock.specs.Passes.{EdgeValue, PassValue, IsPaired}
-use Rattle.edge_lock.proofs.Holding.{reads}
+use Rattle.edge_lock.proofs.SharedHolds.{reads}
 use Rattle.edge_lock.proofs.edge.Edge.read.Goals as goal
 
 pub load-requires : goal.load-requires

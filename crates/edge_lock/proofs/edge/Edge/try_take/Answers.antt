@@ -1,7 +1,7 @@
 use Rattle.std.proofs.Common.{arith, sym, ap, ◌∙◌, subst, ◌≡◌, ◌+◌, ◌*◌, ℕ}
 use Rattle.edge_lock.specs.EndLists.{IsNew, IsFree}
 use Rattle.edge_lock.specs.Passes.{EdgeValue, PassValue, IsPaired}
-use Rattle.edge_lock.proofs.Keeps.{tries_as}
+use Rattle.edge_lock.proofs.SharedSteps.{tries_as}
 use Rattle.edge_lock.proofs.edge.Edge.try_take.Goals as goal
 
 pub compare_exchange-found-requires : goal.compare_exchange-found-requires

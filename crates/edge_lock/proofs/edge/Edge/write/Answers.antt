@@ -2,7 +2,7 @@ use Rattle.std.proofs.Common.{arith, refl, sym, ap, ◌∙◌, subst, ℕ}
 use Rattle.edge_lock.specs.History.{sites_of, IsAllowed}
 use Rattle.edge_lock.specs.EndLists.{IsHeld}
 use Rattle.edge_lock.specs.Passes.{EdgeValue, PassValue, IsPaired}
-use Rattle.edge_lock.proofs.Holding.{writes}
+use Rattle.edge_lock.proofs.SharedHolds.{writes}
 use Rattle.edge_lock.proofs.edge.Edge.write.Goals as goal
 
 pub store-requires : goal.store-requires

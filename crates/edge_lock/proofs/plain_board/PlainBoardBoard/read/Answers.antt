@@ -1,13 +1,13 @@
 use Rattle.std.proofs.Common.{arith, sym, ap, ◌∙◌, subst, ◌<◌, ◌≡◌, refl}
 use Rattle.edge_lock.specs.EndLists.{EndLists, after_try, after_access, after_give}
 use Rattle.edge_lock.specs.PlainBoard.{registers_on, end_on, lists_on, edge_at, tries, reads, writes, gives, IsKeptEdge}
-use Rattle.edge_lock.proofs.Boards.{done, registers_there, tried_effect, same_ends_try, same_ends_access, same_ends_give, all_set}
+use Rattle.edge_lock.proofs.PlainCalls.{done, registers_there, tried_effect, same_ends_try, same_ends_access, same_ends_give, all_set}
 use Rattle.edge_lock.specs.declared.history.Access.TheVariants.{Read}
 use Rattle.edge_lock.specs.History.{sites_of, IsAllowed}
 use Rattle.edge_lock.specs.EndLists.{known_value, Shows}
 use Rattle.edge_lock.specs.PlainEdges.{PlainEdgeValue, own_lists, edge_after_access}
 use Rattle.edge_lock.specs.PlainBoard.{end_of}
-use Rattle.edge_lock.proofs.Boards.{there}
+use Rattle.edge_lock.proofs.PlainCalls.{there}
 use Rattle.edge_lock.proofs.plain_board.PlainBoardBoard.read.Goals as goal
 
 pub returns-clause-value : goal.returns-clause-value
@@ -20,6 +20,13 @@ returns-clause-value c =
       subst (λ (l : EndLists). Shows (known_value l c.args.register) c.read.result) (λ i. own_lists (which i) (at i)) c.read.ensures.value.2,
       subst (λ n. IsAllowed (sites_of n) c.args.register c.read.result) (ap (λ (z : PlainEdgeValue). z.registers) at ∙ sym (registers_there b e some_registers)) c.read.ensures.value.1,
     )
+
+pub returns-clause-call : goal.returns-clause-call
+returns-clause-call c =
+    let x = c.index_mut-it.result.now in let y = c.read.new.self in let end = c.end_of-end.result in let b = c.args.self.now in let e = c.args.edge in
+    let some_registers : 0 < registers_on b e = omega (arith, c.requires.edge) in
+    let d = done c.self.inside.acting c.self.inside.edges.items b c.self.view_is e end x y (reads c.args.register) (λ k l. after_access (Read c.args.register c.read.result) l) some_registers (c.requires.held, subst (λ n. c.args.register < n) (registers_there b e some_registers) c.requires.edge) c.index_mut-it.ensures.value c.end_of-end.ensures.end (c.read.ensures.edge ∙ ap (λ v. edge_after_access (Read c.args.register v) x) c.read.ensures.value.0) (same_ends_access (Read c.args.register c.read.result) x y c.read.ensures.edge) c.read.ensures.own c.read.ensures.other in
+    d.is_call
 
 pub returns-clause-lists : goal.returns-clause-lists
 returns-clause-lists c =
@@ -41,6 +48,16 @@ returns-clause-moved c =
     let some_registers : 0 < registers_on b e = omega (arith, c.requires.edge) in
     let d = done c.self.inside.acting c.self.inside.edges.items b c.self.view_is e end x y (reads c.args.register) (λ k l. after_access (Read c.args.register c.read.result) l) some_registers (c.requires.held, subst (λ n. c.args.register < n) (registers_there b e some_registers) c.requires.edge) c.index_mut-it.ensures.value c.end_of-end.ensures.end (c.read.ensures.edge ∙ ap (λ v. edge_after_access (Read c.args.register v) x) c.read.ensures.value.0) (same_ends_access (Read c.args.register c.read.result) x y c.read.ensures.edge) c.read.ensures.own c.read.ensures.other in
     d.moved
+
+pub returns-clause-others : goal.returns-clause-others
+returns-clause-others c =
+    let x = c.index_mut-it.result.now in let y = c.read.new.self in let end = c.end_of-end.result in let b = c.args.self.now in let e = c.args.edge in
+    let some_registers : 0 < registers_on b e = omega (arith, c.requires.edge) in
+    let d = done c.self.inside.acting c.self.inside.edges.items b c.self.view_is e end x y (reads c.args.register) (λ k l. after_access (Read c.args.register c.read.result) l) some_registers (c.requires.held, subst (λ n. c.args.register < n) (registers_there b e some_registers) c.requires.edge) c.index_mut-it.ensures.value c.end_of-end.ensures.end (c.read.ensures.edge ∙ ap (λ v. edge_after_access (Read c.args.register v) x) c.read.ensures.value.0) (same_ends_access (Read c.args.register c.read.result) x y c.read.ensures.edge) c.read.ensures.own c.read.ensures.other in
+    d.others
+
+pub returns-clause-histories : goal.returns-clause-histories
+returns-clause-histories c = all_set IsKeptEdge c.self.inside.edges.items c.args.edge c.read.new.self c.self.invariant c.read.ensures.kept
 
 pub invariant_of-self : goal.invariant_of-self
 invariant_of-self c = all_set IsKeptEdge c.self.inside.edges.items c.args.edge c.read.new.self c.self.invariant c.read.ensures.kept

@@ -1,8 +1,15 @@
 use Rattle.std.proofs.Common.{arith, sym, ap, ◌∙◌, subst, ◌<◌, ◌≡◌, refl}
 use Rattle.edge_lock.specs.EndLists.{EndLists, after_try, after_access, after_give}
 use Rattle.edge_lock.specs.PlainBoard.{registers_on, end_on, lists_on, edge_at, tries, reads, writes, gives, IsKeptEdge}
-use Rattle.edge_lock.proofs.Boards.{done, registers_there, tried_effect, same_ends_try, same_ends_access, same_ends_give, all_set}
+use Rattle.edge_lock.proofs.PlainCalls.{done, registers_there, tried_effect, same_ends_try, same_ends_access, same_ends_give, all_set}
 use Rattle.edge_lock.proofs.plain_board.PlainBoardBoard.try_take.Goals as goal
+
+pub returns-clause-call : goal.returns-clause-call
+returns-clause-call c =
+    let x = c.index_mut-it.result.now in let y = c.try_take.new.self in let end = c.end_of-end.result in let b = c.args.self.now in let e = c.args.edge in
+    let some_registers : 0 < registers_on b e = omega (arith, c.requires.edge) in
+    let d = done c.self.inside.acting c.self.inside.edges.items b c.self.view_is e end x y (tries c.args.attempt) (λ k l. after_try k c.args.attempt c.try_take.result l) some_registers (c.requires.free, c.requires.attempt.1) c.index_mut-it.ensures.value c.end_of-end.ensures.end (c.try_take.ensures.edge ∙ tried_effect end c.args.attempt x c.try_take.result c.try_take.ensures.answer) (same_ends_try end c.args.attempt x y c.try_take.result c.try_take.ensures.edge) c.try_take.ensures.own c.try_take.ensures.other in
+    d.is_call
 
 pub returns-clause-lists : goal.returns-clause-lists
 returns-clause-lists c =
@@ -24,6 +31,16 @@ returns-clause-moved c =
     let some_registers : 0 < registers_on b e = omega (arith, c.requires.edge) in
     let d = done c.self.inside.acting c.self.inside.edges.items b c.self.view_is e end x y (tries c.args.attempt) (λ k l. after_try k c.args.attempt c.try_take.result l) some_registers (c.requires.free, c.requires.attempt.1) c.index_mut-it.ensures.value c.end_of-end.ensures.end (c.try_take.ensures.edge ∙ tried_effect end c.args.attempt x c.try_take.result c.try_take.ensures.answer) (same_ends_try end c.args.attempt x y c.try_take.result c.try_take.ensures.edge) c.try_take.ensures.own c.try_take.ensures.other in
     d.moved
+
+pub returns-clause-others : goal.returns-clause-others
+returns-clause-others c =
+    let x = c.index_mut-it.result.now in let y = c.try_take.new.self in let end = c.end_of-end.result in let b = c.args.self.now in let e = c.args.edge in
+    let some_registers : 0 < registers_on b e = omega (arith, c.requires.edge) in
+    let d = done c.self.inside.acting c.self.inside.edges.items b c.self.view_is e end x y (tries c.args.attempt) (λ k l. after_try k c.args.attempt c.try_take.result l) some_registers (c.requires.free, c.requires.attempt.1) c.index_mut-it.ensures.value c.end_of-end.ensures.end (c.try_take.ensures.edge ∙ tried_effect end c.args.attempt x c.try_take.result c.try_take.ensures.answer) (same_ends_try end c.args.attempt x y c.try_take.result c.try_take.ensures.edge) c.try_take.ensures.own c.try_take.ensures.other in
+    d.others
+
+pub returns-clause-histories : goal.returns-clause-histories
+returns-clause-histories c = all_set IsKeptEdge c.self.inside.edges.items c.args.edge c.try_take.new.self c.self.invariant c.try_take.ensures.kept
 
 pub invariant_of-self : goal.invariant_of-self
 invariant_of-self c = all_set IsKeptEdge c.self.inside.edges.items c.args.edge c.try_take.new.self c.self.invariant c.try_take.ensures.kept

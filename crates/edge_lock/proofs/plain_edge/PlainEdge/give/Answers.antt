@@ -3,8 +3,8 @@ use Rattle.edge_lock.specs.EndLists.{IsHeld}
 use Rattle.edge_lock.specs.PlainEdges.{PlainEdgeValue, own_lists}
 use Rattle.edge_lock.specs.PlainEdges.{plain_edge_value}
 use Rattle.edge_lock.specs.EndLists.{closed_hold, after_give}
-use Rattle.edge_lock.proofs.PlainKeeps as keeps
-use Rattle.edge_lock.proofs.PlainKeeps.{M}
+use Rattle.edge_lock.proofs.PlainRules as keeps
+use Rattle.edge_lock.proofs.PlainRules.{M}
 use Rattle.edge_lock.proofs.plain_edge.PlainEdge.give.Goals as goal
 
 pub store-requires : goal.store-requires

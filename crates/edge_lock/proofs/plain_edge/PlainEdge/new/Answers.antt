@@ -1,6 +1,6 @@
 use Rattle.std.proofs.Common.{rules, sym, ap, subst, ◌≡◌, []}
 use Rattle.edge_lock.specs.PlainEdges.{plain_view, IsKept}
-use Rattle.edge_lock.proofs.PlainKeeps as keeps
+use Rattle.edge_lock.proofs.PlainRules as keeps
 use Rattle.edge_lock.proofs.plain_edge.PlainEdge.new.Goals as goal
 
 pub of_words-requires : goal.of_words-requires

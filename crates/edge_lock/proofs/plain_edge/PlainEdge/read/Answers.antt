@@ -5,8 +5,8 @@ use Rattle.edge_lock.specs.PlainEdges.{PlainEdgeValue, own_lists, view_of, IsKep
 use Rattle.edge_lock.specs.declared.history.Access.TheVariants.{Read}
 use Rattle.edge_lock.specs.PlainEdges.{plain_edge_value, plain_view_after_change}
 use Rattle.edge_lock.specs.EndLists.{with_access, after_access}
-use Rattle.edge_lock.proofs.PlainKeeps as keeps
-use Rattle.edge_lock.proofs.PlainKeeps.{M}
+use Rattle.edge_lock.proofs.PlainRules as keeps
+use Rattle.edge_lock.proofs.PlainRules.{M}
 use Rattle.edge_lock.proofs.plain_edge.PlainEdge.read.Goals as goal
 
 pub load-requires : goal.load-requires

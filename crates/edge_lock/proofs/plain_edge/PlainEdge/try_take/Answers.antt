@@ -3,7 +3,7 @@ use Rattle.edge_lock.specs.History.{open_hold}
 use Rattle.edge_lock.specs.SharedRule.{lock_word}
 use Rattle.edge_lock.specs.EndLists.{IsFree, IsNew}
 use Rattle.edge_lock.specs.PlainEdges.{PlainEdgeValue, own_lists, view_of, IsKept, Answers}
-use Rattle.edge_lock.proofs.PlainKeeps as keeps
+use Rattle.edge_lock.proofs.PlainRules as keeps
 use Rattle.edge_lock.proofs.plain_edge.PlainEdge.try_take.Goals as goal
 use Rattle.edge_lock.proofs.plain_edge.PlainEdge.try_take.Goals.{then-found-eq0, else-found-eq0}
 

@@ -1,6 +1,6 @@
 use Rattle.std.proofs.Common.{arith, refl, ap, ◌∙◌}
 use Rattle.edge_lock.specs.PlainEdges.{PlainEdgeValue}
-use Rattle.edge_lock.proofs.PlainKeeps as keeps
+use Rattle.edge_lock.proofs.PlainRules as keeps
 use Rattle.edge_lock.proofs.plain_edge.PlainEdge.word.Goals as goal
 
 pub load-requires : goal.load-requires

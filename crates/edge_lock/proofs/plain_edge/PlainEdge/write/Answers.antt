@@ -6,8 +6,8 @@ use Rattle.edge_lock.specs.declared.history.Access.TheVariants.{Write}
 use Rattle.edge_lock.specs.PlainEdges.{plain_edge_value, plain_view_after_change}
 use Rattle.edge_lock.specs.History.{sites_of, IsAllowed}
 use Rattle.edge_lock.specs.EndLists.{with_access, after_access}
-use Rattle.edge_lock.proofs.PlainKeeps as keeps
-use Rattle.edge_lock.proofs.PlainKeeps.{M}
+use Rattle.edge_lock.proofs.PlainRules as keeps
+use Rattle.edge_lock.proofs.PlainRules.{M}
 use Rattle.edge_lock.proofs.plain_edge.PlainEdge.write.Goals as goal
 
 pub store-requires : goal.store-requires

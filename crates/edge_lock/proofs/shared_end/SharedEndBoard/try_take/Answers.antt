@@ -1,7 +1,7 @@
 use Rattle.std.proofs.Common.{sym, ap, ◌∙◌, subst, map}
 use Rattle.edge_lock.specs.EndLists.{EndLists, IsFree, IsNew, replace_at, after_try}
 use Rattle.edge_lock.specs.SharedEnds.{SharedEndValue, registers_at, end_at, lists_at, edge_and_end}
-use Rattle.edge_lock.proofs.Places.{here}
+use Rattle.edge_lock.proofs.PassPlaces.{here}
 use Rattle.edge_lock.proofs.shared_end.SharedEndBoard.try_take.Goals as goal
 
 pub bounds-edges-edge : goal.bounds-edges-edge

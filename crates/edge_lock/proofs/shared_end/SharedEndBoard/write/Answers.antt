@@ -4,7 +4,7 @@ use Rattle.edge_lock.specs.History.{sites_of, IsAllowed}
 use Rattle.edge_lock.specs.EndLists.{EndLists, IsHeld, replace_at, after_access}
 use Rattle.edge_lock.specs.Passes.{EdgeValue}
 use Rattle.edge_lock.specs.SharedEnds.{SharedEndValue, registers_at, end_at, lists_at, edge_and_end}
-use Rattle.edge_lock.proofs.Places.{here}
+use Rattle.edge_lock.proofs.PassPlaces.{here}
 use Rattle.edge_lock.proofs.shared_end.SharedEndBoard.write.Goals as goal
 
 pub bounds-edges-edge : goal.bounds-edges-edge

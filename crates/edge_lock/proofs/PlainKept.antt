@@ -11,11 +11,11 @@ use Rattle.edge_lock.specs.History.{own, value, open_hold, key, keys, IsAllowedA
 use Rattle.edge_lock.specs.EndLists.{change_last, with_access, closed_hold, IsHeld}
 use Rattle.edge_lock.specs.PlainEdges.{PlainEdgeValue, plain_view, own_lists, edge_after_try, with_view, view_of, plain_view_after_change, IsKept}
 use Rattle.edge_lock.specs.PlainBoard.{PlainBoardValue, edge_at, end_of, end_on, Call, tries, reads, writes, gives, MayCall, tried_at, effect_of, IsCall, Moved, stays, goes}
-use Rattle.edge_lock.proofs.Lasts.{change_last-snoc, keys-snoc}
-use Rattle.edge_lock.proofs.Steps.{history_accesses, history_ends}
-use Rattle.edge_lock.proofs.Holding.{holder}
-use Rattle.edge_lock.proofs.PlainKeeps.{takes, refuses, kept_change, other, other_tried, other_changed}
-use Rattle.edge_lock.proofs.BusyMeans.{end_small, Sees, sees}
+use Rattle.edge_lock.proofs.LastHolds.{change_last-snoc, keys-snoc}
+use Rattle.edge_lock.proofs.HistorySteps.{history_accesses, history_ends}
+use Rattle.edge_lock.proofs.SharedHolds.{holder}
+use Rattle.edge_lock.proofs.PlainRules.{takes, refuses, kept_change, other, other_tried, other_changed}
+use Rattle.edge_lock.proofs.PlainLaws.{end_small, Sees, sees}
 
 kept_last : (e : ℕ) (x : PlainEdgeValue) (f : Hold → Hold) → IsKept (view_of x) → IsHeld (own_lists e x) → ((h : Hold) → key h ≡ key (f h)) → ((past : List Hold) (h : Hold) → x.holds ≡ past ++ h ∷ [] → IsHistory (sites_of x.registers) (past ++ h ∷ []) → IsHistory (sites_of x.registers) (past ++ f h ∷ [])) → IsKept (plain_view_after_change f (view_of x))
 kept_last e x f k held same step =

@@ -7,8 +7,8 @@ use Rattle.edge_lock.specs.declared.board.Take.TheVariants.{Got, Busy}
 use Rattle.edge_lock.specs.declared.history.Access.{Access}
 use Rattle.edge_lock.specs.declared.history.Hold.{Hold}
 use Rattle.edge_lock.specs.EndLists.{EndLists, change_last, is_held, new_hold, refusal_of, with_access, closed_hold, IsHeld, IsFree, IsNew, IsHoldBelow, IsRefusalBelow, after_try, after_access, after_give, replace_at}
-use Rattle.edge_lock.proofs.Lasts.{replace_at-here, is_held-snoc}
-use Rattle.edge_lock.proofs.Steps.{all-cons, all-none, all-head, all-tail}
+use Rattle.edge_lock.proofs.LastHolds.{replace_at-here, is_held-snoc}
+use Rattle.edge_lock.proofs.HistorySteps.{all-cons, all-none, all-head, all-tail}
 
 -- the lists of an edge after a call on it
 pub here_after : (f g : ℕ → EndLists) (e : ℕ) (x : EndLists) → g ≡ replace_at f e x → g e ≡ x

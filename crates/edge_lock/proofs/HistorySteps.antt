@@ -12,7 +12,7 @@ use Rattle.edge_lock.specs.declared.history.Hold.{Hold}
 use Rattle.edge_lock.specs.declared.history.Refusal.{Refusal}
 use Rattle.edge_lock.specs.History.{own, trace, written, value, ReadsTrue, IsAllowedAccess, open_hold, key, keys, attempts_of, IsRising, refused_attempt, IsBefore, IsAfter, IsPlaced, IsSide, IsHistory, IsEnd}
 use Rattle.edge_lock.specs.EndLists.{new_hold, refusal_of, with_access, closed_hold, IsHoldBelow, IsRefusalBelow}
-use Rattle.edge_lock.proofs.Lasts.{trace-snoc, written-append, reads-snoc, only_last-change, only_last-more, keys-snoc, attempts-append, rising-snoc}
+use Rattle.edge_lock.proofs.LastHolds.{trace-snoc, written-append, reads-snoc, only_last-change, only_last-more, keys-snoc, attempts-append, rising-snoc}
 
 module _ {X : Type 0} (P : X → Type 0) where
   pub all-none : All P []

@@ -16,9 +16,9 @@ use Rattle.edge_lock.specs.declared.edge_steps.View.TheVariants.{Paired}
 use Rattle.edge_lock.specs.History.{own, trace, written, value, ReadsTrue, IsAllowed, IsAllowedAccess, OnlyLastOpen, open_hold, key, keys, sites_of, IsSide, IsHistory}
 use Rattle.edge_lock.specs.EndLists.{end_lists, is_held, change_last, with_access, closed_hold, last_accesses, last_shown, Shows, known_value, IsHeld}
 use Rattle.edge_lock.specs.SharedRule.{lock_word, Stands, IsShared, lists_in, Reads, Writes, Gives}
-use Rattle.edge_lock.proofs.Lasts.{open_hold-snoc, ends_open, change_last-snoc, last_accesses-snoc, none_or_held, trace-snoc, written-append}
-use Rattle.edge_lock.proofs.Steps.{all-cons, all-none, all-tail, all-head, history_accesses, history_ends, keys-change, value-read, value-write, value-ended, own-here, own-there}
-use Rattle.edge_lock.proofs.Keeps.{S, M, GoesOn, moved}
+use Rattle.edge_lock.proofs.LastHolds.{open_hold-snoc, ends_open, change_last-snoc, last_accesses-snoc, none_or_held, trace-snoc, written-append}
+use Rattle.edge_lock.proofs.HistorySteps.{all-cons, all-none, all-tail, all-head, history_accesses, history_ends, keys-change, value-read, value-write, value-ended, own-here, own-there}
+use Rattle.edge_lock.proofs.SharedSteps.{S, M, GoesOn, moved}
 
 abbrev Shut : Hold → Type 0
 Shut h = h.is_open ≡ false

@@ -12,9 +12,9 @@ use Rattle.edge_lock.specs.History.{own, value, open_hold}
 use Rattle.edge_lock.specs.EndLists.{EndLists, end_lists, change_last, new_hold, refusal_of, with_access, closed_hold, after_try, replace_at, IsFree}
 use Rattle.edge_lock.specs.PlainEdges.{PlainEdgeValue, own_lists, edge_after_try, view_of, IsKept, Answers}
 use Rattle.edge_lock.specs.PlainBoard.{PlainBoardValue, plain_board_value, no_edge, edge_at, end_of, end_on, lists_on, Call, tries, reads, writes, gives, MayCall, tried_at, effect_of, IsCall, Moved, stays, goes}
-use Rattle.edge_lock.proofs.Lasts.{replace_at-here, replace_at-else}
-use Rattle.edge_lock.proofs.PlainKeeps.{own_tried, other}
-use Rattle.edge_lock.proofs.Boards.{SameEnds, Changed, changed, tried_ends}
+use Rattle.edge_lock.proofs.LastHolds.{replace_at-here, replace_at-else}
+use Rattle.edge_lock.proofs.PlainRules.{own_tried, other}
+use Rattle.edge_lock.proofs.PlainCalls.{SameEnds, Changed, changed, tried_ends}
 
 effect_ends : (e : ℕ) (call : Call) (x : PlainEdgeValue) → SameEnds x (effect_of e call x)
 effect_ends e (tries a) x = by (open_hold x.holds)

@@ -14,8 +14,8 @@ use Rattle.edge_lock.specs.History.{own, value, open_hold, key, keys, sites_of, 
 use Rattle.edge_lock.specs.EndLists.{new_hold, refusal_of, is_held, IsHoldBelow, IsRefusalBelow, IsFree, IsNew}
 use Rattle.edge_lock.specs.Passes.{IsPaired}
 use Rattle.edge_lock.specs.SharedRule.{lock_word, attempt_in, claims_of, claims, Stands, IsShared, lists_in, view_after_try, Tries}
-use Rattle.edge_lock.proofs.Lasts.{open_hold-snoc, ends_open, is_held-snoc, keys-snoc, none_or_held}
-use Rattle.edge_lock.proofs.Steps.{all-last, own_below, side_takes, side_stays, side_refuses, history_takes, value-opened, own-here, own-there}
+use Rattle.edge_lock.proofs.LastHolds.{open_hold-snoc, ends_open, is_held-snoc, keys-snoc, none_or_held}
+use Rattle.edge_lock.proofs.HistorySteps.{all-last, own_below, side_takes, side_stays, side_refuses, history_takes, value-opened, own-here, own-there}
 
 abbrev pub S : Type 0
 S = State (Unit {0}) View

@@ -4,7 +4,7 @@ use Rattle.edge_lock.specs.declared.history.Access.{Access}
 use Rattle.edge_lock.specs.declared.history.Access.TheVariants.{Read, Write}
 use Rattle.edge_lock.specs.declared.history.Hold.{Hold}
 use Rattle.edge_lock.specs.History.{trace, written, value, IsHistory}
-use Rattle.edge_lock.proofs.Lasts.{written-append}
+use Rattle.edge_lock.proofs.LastHolds.{written-append}
 
 -- no access writes the register
 abbrev pub NoWriteOf : ℕ → List Access → Type 0

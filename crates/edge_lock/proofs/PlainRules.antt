@@ -20,10 +20,10 @@ use Rattle.edge_lock.specs.History.{own, trace, written, value, ReadsTrue, IsAll
 use Rattle.edge_lock.specs.EndLists.{end_lists, new_hold, refusal_of, with_access, closed_hold, change_last, is_held, IsHoldBelow, IsRefusalBelow, last_accesses, last_shown, Shows, known_value, after_try, IsFree, IsHeld}
 use Rattle.edge_lock.specs.SharedRule.{lock_word, attempt_in}
 use Rattle.edge_lock.specs.PlainEdges.{plain_view, IsKept, Agrees, IsPlain, with_refusal, end_in, PlainTries, plain_view_after_change, PlainReads, PlainWrites, PlainGives, PlainTells, PlainEdgeValue, view_of, own_lists, edge_after_try, with_view, Answers}
-use Rattle.edge_lock.proofs.Lasts.{open_hold-snoc, ends_open, is_held-snoc, keys-snoc, none_or_held, change_last-snoc, last_accesses-snoc, trace-snoc}
-use Rattle.edge_lock.proofs.Steps.{all-last, own_below, side_takes, side_stays, side_refuses, history_takes, history_accesses, history_ends, keys-change, value-opened, value-read, value-write, value-ended, own-here, own-there}
-use Rattle.edge_lock.proofs.Holding.{holder, same_word, shows_value, allowed_value}
-use Rattle.edge_lock.proofs.Sharing.{at_inside, side_none, history_none}
+use Rattle.edge_lock.proofs.LastHolds.{open_hold-snoc, ends_open, is_held-snoc, keys-snoc, none_or_held, change_last-snoc, last_accesses-snoc, trace-snoc}
+use Rattle.edge_lock.proofs.HistorySteps.{all-last, own_below, side_takes, side_stays, side_refuses, history_takes, history_accesses, history_ends, keys-change, value-opened, value-read, value-write, value-ended, own-here, own-there}
+use Rattle.edge_lock.proofs.SharedHolds.{holder, same_word, shows_value, allowed_value}
+use Rattle.edge_lock.proofs.SharedSeats.{at_inside, side_none, history_none}
 
 abbrev pub S : Type 0
 S = State (Unit {0}) PlainView

@@ -2,8 +2,8 @@
 use Rattle.std.proofs.Common.{◌-◌, length-set, ◌≡◌, ◌≢◌, ℕ, ◌<◌, ◌≤◌, eqb, Bool, true, false, cond, List, length, get_or, set, refl, sym, ap, ◌∙◌, subst, arith, eq-eqb, ne_eqb, get_or-set_same, get_or-set_other, [], ◌∷◌, map}
 use Rattle.std.proofs.lemmas.List.{get_or_default, get_or_past}
 use Rattle.std.specs.Prelude.{All}
-use Rattle.edge_lock.proofs.Steps.{all-none, all-cons}
-use Rattle.edge_lock.proofs.PlainKeeps.{kept_none}
+use Rattle.edge_lock.proofs.HistorySteps.{all-none, all-cons}
+use Rattle.edge_lock.proofs.PlainRules.{kept_none}
 use mathlib.Core.Logic.{dite}
 use native.Mathlib.Decide.{ℕ_discrete, dec_lt}
 use Rattle.edge_lock.specs.declared.board.Take.{Take}

@@ -14,11 +14,11 @@ use Rattle.edge_lock.specs.declared.edge_steps.View.TheVariants.{First, Alone, S
 use Rattle.std.specs.Prelude.{All}
 use Rattle.edge_lock.specs.EndLists.{EndLists, is_held, IsFree}
 use Rattle.edge_lock.specs.Passes.{closed_value, holds_in, low_in, high_in, IsClosed}
-use Rattle.edge_lock.proofs.Lasts.{ends_open, is_held-snoc, keys-snoc, none_or_held}
+use Rattle.edge_lock.proofs.LastHolds.{ends_open, is_held-snoc, keys-snoc, none_or_held}
 use Rattle.edge_lock.specs.History.{own, value, ReadsTrue, open_hold, key, keys, IsPlaced, IsEnd, IsAllowedAccess, IsSide, IsHistory}
 use Rattle.edge_lock.specs.SharedRule.{claims_of, claims, Stands, IsShared, Claims, both_of, BecomesWhole, Settles, Tells, low_view, high_view}
-use Rattle.edge_lock.proofs.Steps.{all-none, all-last, own-here}
-use Rattle.edge_lock.proofs.Keeps.{S, M}
+use Rattle.edge_lock.proofs.HistorySteps.{all-none, all-last, own-here}
+use Rattle.edge_lock.proofs.SharedSteps.{S, M}
 
 module _ {A : Type 0} where
   pub at_inside : (l : List A) (i : ℕ) (a : A) → get_elem? l i ≡ some a → i < length l
