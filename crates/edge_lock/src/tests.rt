@@ -1,9 +1,10 @@
-ghost use Rattle.std.specs.Prelude.{◌≡◌, ◌≤◌, ◌<◌, ◌+◌, []};
-ghost use Rattle.edge_lock.specs.EndLists.{IsFree, IsNew, end_lists};
+//! An edge of three registers, used by both its ends, on one thread and on two.
+ghost use Rattle.std.specs.Prelude.{◌≡◌, ◌≤◌, ◌<◌, ◌+◌, [], IfOk, IfSome};
+ghost use Rattle.edge_lock.specs.declared.board.Take.TheVariants.{Busy};
+ghost use Rattle.edge_lock.specs.EndLists.{IsFree, IsNew, IsHeld, end_lists};
 
-use crate::board::{Board, Take};
-use crate::edge::Edge;
-use crate::shared_end::SharedEnd;
+use crate::{Board, Edge, PlainBoard, SharedEnd, Take};
+use feast_base::{EdgeSizes, NoMemory};
 use std::alloc::{AllocError, Global};
 use std::test::Fail;
 use std::thread::{Threads, join_mut};
@@ -73,7 +74,7 @@ fn count_both<R: Threads, A: Board + Send, B: Board + Send>(
 }
 
 // The number of holds of two threads, and what register 0 has then.
-fn counted<R: Threads>(rt: &R, alloc: Global) -> Result<(u64, u64), AllocError> {
+fn counted<R: Threads>(rt: &R, alloc: Global) -> Result<(u64, u64), Fail> {
     let (edge, low, high) = Edge::new(alloc, 0, 3)?;
     let mut edges = Vec::from_array(alloc, [edge])?;
     let mut lower = SharedEnd::new(edges.as_slice(), Vec::from_array(alloc, [low])?, 0);
@@ -98,5 +99,114 @@ fn counted<R: Threads>(rt: &R, alloc: Global) -> Result<(u64, u64), AllocError> 
 fn two_threads_count(rt: HostRuntime) -> Result<(), Fail> {
     let (holds, word) = counted(&rt, rt.alloc())?;
     assert_eq!(rt; holds, word);
+    Ok(())
+}
+
+// Both ends of a shared edge take turns: what the higher end reads, where each try is answered as it is with one board.
+fn take_turns<A: Board, B: Board>(low: &mut A, high: &mut B) -> Option<u64>
+    requires low { (0 < A.registers low.old 0) × (A.lists low.old 0 ≡ end_lists [] []) }
+    requires high { (0 < B.registers high.old 0) × (B.lists high.old 0 ≡ end_lists [] []) }
+    ensures low { A.moved low.old low.new × IfSome result (λ _. IsFree (A.lists low.new 0)) }
+    ensures high { B.moved high.old high.new × IfSome result (λ _. IsFree (B.lists high.new 0)) }
+{
+    let Take::Got = low.try_take(0, 5) else {
+        return None;
+    };
+    let Take::Busy { holder_attempt: 5 } = high.try_take(0, 3) else {
+        return None;
+    };
+    low.write(0, 0, 9);
+    low.give(0);
+    let Take::Got = high.try_take(0, 4) else {
+        return None;
+    };
+    let read = high.read(0, 0);
+    high.give_back(0);
+    Some(read)
+}
+
+// What the higher end of a shared edge reads, and what register 0 has when the edge is closed.
+fn shared_turns(alloc: Global) -> Result<Option<(u64, u64)>, Fail> {
+    let (edge, low, high) = Edge::new(alloc, 0, 3)?;
+    let mut edges = Vec::from_array(alloc, [edge])?;
+    let mut lower = SharedEnd::new(edges.as_slice(), Vec::from_array(alloc, [low])?, 0);
+    let mut higher = SharedEnd::new(edges.as_slice(), Vec::from_array(alloc, [high])?, 1);
+    let Some(read) = take_turns(&mut lower, &mut higher) else {
+        return Ok(None);
+    };
+    let mut lows = lower.into_passes();
+    let mut highs = higher.into_passes();
+    let Some(edge) = edges.pop() else {
+        unreachable!()
+    };
+    let Some(low) = lows.pop() else {
+        unreachable!()
+    };
+    let Some(high) = highs.pop() else {
+        unreachable!()
+    };
+    let mut closed = edge.close(low, high);
+    Ok(Some((read, closed.word(0))))
+}
+
+#[test]
+fn shared_ends_take_turns(rt: HostRuntime) -> Result<(), Fail> {
+    assert_eq!(rt; shared_turns(rt.alloc())?, Some((9, 9)));
+    Ok(())
+}
+
+#[test]
+fn passes_know_their_edge(rt: HostRuntime) -> Result<(), Fail> {
+    let (_edge, low, high) = Edge::new(rt.alloc(), 7, 3)?;
+    assert_eq!(rt; low.edge(), 7);
+    assert_eq!(rt; high.edge(), 7);
+    Ok(())
+}
+
+// Two tiles and the one edge between them.
+struct OneEdge;
+
+impl EdgeSizes for OneEdge {
+    ghost use Rattle.std.specs.Prelude.{[], ◌∷◌};
+
+    ghost sizes = { λ _. record { lower = 0; higher = 1; registers = 3 } ∷ [] };
+
+    fn edges(&self) -> u32 {
+        1
+    }
+
+    fn ends(&self, edge: u32) -> (u32, u32) {
+        (edge, edge + 1)
+    }
+
+    fn registers(&self, edge: u32) -> u32 {
+        edge + 3
+    }
+}
+
+// Both ends of an edge take turns on one board: what the higher end is answered, what it reads, and what is left.
+fn alternate(alloc: Global) -> Result<(Take, u64, u64), NoMemory>
+    ensures { IfOk result (λ r. (r.0 ≡ Busy 5) × (r.1 ≡ 9) × (r.2 ≡ 9)) }
+{
+    let mut board = PlainBoard::new(alloc, &OneEdge)?;
+    board.try_take(0, 5);
+    board.turn_to(1);
+    let refused = board.try_take(0, 3);
+    board.turn_to(0);
+    board.write(0, 0, 9);
+    board.give(0);
+    board.turn_to(1);
+    board.try_take(0, 4);
+    let read = board.read(0, 0);
+    board.give_back(0);
+    Ok((refused, read, board.word(0, 0)))
+}
+
+#[test]
+fn one_thread_alternates(rt: HostRuntime) -> Result<(), Fail> {
+    let (refused, read, word) = alternate(rt.alloc())?;
+    assert!(rt; refused == (Take::Busy { holder_attempt: 5 }));
+    assert_eq!(rt; read, 9);
+    assert_eq!(rt; word, 9);
     Ok(())
 }
