@@ -1,13 +1,20 @@
--- What a hold finds in a register is that register's value as the hold begins.
-use Rattle.std.proofs.Common.{◌≡◌, ◌≢◌, ℕ, cond, List, [], ◌∷◌, ◌++◌, refl, sym, ap, ◌∙◌, ne_eqb, append_assoc}
+-- Laws of the history of an edge, for all crates that read one.
+use Rattle.std.proofs.Common.{◌≡◌, ◌≢◌, ℕ, suc, ◌<◌, cond, true, false, List, [], ◌∷◌, ◌++◌, length, get_or, take, drop, refl, sym, ap, ◌∙◌, subst, eq-eqb, ne_eqb, append_assoc}
+use Rattle.std.proofs.Math.Seq.{drop-cons}
+use Rattle.std.proofs.lemmas.List.{take-append-drop}
+use mathlib.Core.Logic.{dite}
+use mathlib.Core.Option.{Option, none, some, some-injective, some-ne-none}
+use native.Mathlib.Decide.{ℕ_discrete}
 use Rattle.edge_lock.specs.declared.history.Access.{Access}
 use Rattle.edge_lock.specs.declared.history.Access.TheVariants.{Read, Write}
 use Rattle.edge_lock.specs.declared.history.Hold.{Hold}
-use Rattle.edge_lock.specs.History.{trace, written, value, IsHistory}
-use Rattle.edge_lock.proofs.LastHolds.{written-append}
+use Rattle.edge_lock.specs.History.{own, trace, written, value, found_value, open_hold, IsHistory}
+use Rattle.edge_lock.specs.EndLists.{is_held}
+use Rattle.edge_lock.proofs.LastHolds.{written-append, open_hold-snoc}
+use Rattle.edge_lock.proofs.SharedHolds.{holder}
 
 -- no access writes the register
-abbrev pub NoWriteOf : ℕ → List Access → Type 0
+abbrev NoWriteOf : ℕ → List Access → Type 0
 NoWriteOf r [] = Unit {0}
 NoWriteOf r (Read q v ∷ xs) = NoWriteOf r xs
 NoWriteOf r (Write q v ∷ xs) = (r ≢ q) × NoWriteOf r xs
@@ -17,13 +24,60 @@ unwritten r [] x n = refl
 unwritten r (Read q v ∷ xs) x n = unwritten r xs x n
 unwritten r (Write q v ∷ xs) x n = ap (λ b. written xs r (cond b v x)) (ne_eqb r q n.0) ∙ unwritten r xs x n.1
 
+-- the read that finds the value of a register
+record FirstRead (xs : List Access) (r v : ℕ) : Type 0 where
+  first : List Access
+  rest : List Access
+  is : xs ≡ first ++ Read r v ∷ rest
+  no_write : NoWriteOf r first
+
+first_read : (xs : List Access) (r v : ℕ) → found_value xs r ≡ some v → FirstRead xs r v
+first_read [] r v e = absurd (some-ne-none v (sym e))
+first_read (Read q u ∷ xs) r v e = dite (ℕ_discrete r q)
+    (λ same. let is : u ≡ v = some-injective u v (sym (ap (λ b. cond b (some u) (found_value xs r)) (eq-eqb r q same)) ∙ e) in
+    record { first = []; rest = xs; is = λ i. Read (sym same i) (is i) ∷ xs; no_write = tt })
+    (λ apart. let f = first_read xs r v (sym (ap (λ b. cond b (some u) (found_value xs r)) (ne_eqb r q apart)) ∙ e) in
+    record { first = Read q u ∷ f.first; rest = f.rest; is = ap (λ l. Read q u ∷ l) f.is; no_write = f.no_write })
+first_read (Write q u ∷ xs) r v e = dite (ℕ_discrete r q)
+    (λ same. absurd (some-ne-none v (sym e ∙ ap (λ b. cond b none (found_value xs r)) (eq-eqb r q same))))
+    (λ apart. let f = first_read xs r v (sym (ap (λ b. cond b none (found_value xs r)) (ne_eqb r q apart)) ∙ e) in
+    record { first = Write q u ∷ f.first; rest = f.rest; is = ap (λ l. Write q u ∷ l) f.is; no_write = (apart, f.no_write) })
+
 trace-append : (hs gs : List Hold) → trace (hs ++ gs) ≡ trace hs ++ trace gs
 trace-append [] gs = refl
 trace-append (h ∷ hs) gs = ap (λ l. h.accesses ++ l) (trace-append hs gs) ∙ sym (append_assoc h.accesses (trace hs) (trace gs))
 
-pub finds : {n : ℕ} (all before after : List Hold) (h : Hold) (first rest : List Access) (r v : ℕ) → IsHistory n all → all ≡ before ++ h ∷ after → h.accesses ≡ first ++ Read r v ∷ rest → NoWriteOf r first → v ≡ value before r
-finds all before after h first rest r v i is has none_yet =
-    let whole : trace all ≡ (trace before ++ first) ++ Read r v ∷ (rest ++ trace after) =
-    ap trace is ∙ (trace-append before (h ∷ after) ∙ (ap (λ l. trace before ++ (l ++ trace after)) has
-    ∙ (ap (λ l. trace before ++ l) (append_assoc first (Read r v ∷ rest) (trace after)) ∙ sym (append_assoc (trace before) first (Read r v ∷ (rest ++ trace after)))))) in
-    i.reads (trace before ++ first) r v (rest ++ trace after) whole ∙ (written-append (trace before) first r 0 ∙ unwritten r first (value before r) none_yet)
+-- what a hold finds in a register is that register's value as the hold begins
+pub finds : {n : ℕ} (before : List Hold) (h : Hold) (after : List Hold) (r v : ℕ) → IsHistory n (before ++ h ∷ after) → found_value h.accesses r ≡ some v → v ≡ value before r
+finds before h after r v i e =
+    let f = first_read h.accesses r v e in
+    let whole : trace (before ++ h ∷ after) ≡ (trace before ++ f.first) ++ Read r v ∷ (f.rest ++ trace after) =
+    trace-append before (h ∷ after) ∙ (ap (λ l. trace before ++ (l ++ trace after)) f.is
+    ∙ (ap (λ l. trace before ++ l) (append_assoc f.first (Read r v ∷ f.rest) (trace after)) ∙ sym (append_assoc (trace before) f.first (Read r v ∷ (f.rest ++ trace after))))) in
+    i.reads (trace before ++ f.first) r v (f.rest ++ trace after) whole ∙ (written-append (trace before) f.first r 0 ∙ unwritten r f.first (value before r) f.no_write)
+
+-- the same of the hold at a position: the registers as it begins are those after the holds before it
+pub finds_at : {n : ℕ} (hs : List Hold) (k : ℕ) (d : Hold) (r v : ℕ) → IsHistory n hs → k < length hs → found_value (get_or hs k d).accesses r ≡ some v → v ≡ value (take k hs) r
+finds_at {n} hs k d r v i inside e =
+    finds (take k hs) (get_or hs k d) (drop (suc k) hs) r v (subst (IsHistory n) (sym (take-append-drop k hs) ∙ ap (λ l. take k hs ++ l) (drop-cons hs k d inside)) i) e
+
+-- an end whose last hold is open has the open hold of the edge
+pub record OpenIsOwn (hs : List Hold) (end : ℕ) : Type 0 where
+  pub hold : Hold
+  pub is_open : open_hold hs ≡ some hold
+  pub is_own : hold.end ≡ end
+  pub past : List Hold
+  pub last : own end hs ≡ past ++ hold ∷ []
+
+pub open_is_own : {n : ℕ} (hs : List Hold) (end : ℕ) → IsHistory n hs → is_held (own end hs) ≡ true → OpenIsOwn hs end
+open_is_own {n} hs end i held = let has = holder hs (own end hs) end i refl held in record {
+  hold = has.h;
+  is_open = ap open_hold has.is ∙ (open_hold-snoc has.past has.h ∙ ap (λ b. cond b (some has.h) none) has.is_open);
+  is_own = has.end;
+  past = own end has.past;
+  last = has.mine_is;
+}
+
+-- where neither end's last hold is open, nobody has the edge
+pub open_is_none : {n : ℕ} (hs : List Hold) → IsHistory n hs → is_held (own 0 hs) ≡ false → is_held (own 1 hs) ≡ false → open_hold hs ≡ none
+open_is_none {n} hs i low high = Rattle.edge_lock.proofs.SharedSeats.all_given hs (own 0 hs) (own 1 hs) i refl refl low high

@@ -16,7 +16,7 @@ use Rattle.edge_lock.proofs.LastHolds.{replace_at-here, replace_at-else}
 use Rattle.edge_lock.proofs.PlainRules.{own_tried, other}
 use Rattle.edge_lock.proofs.PlainCalls.{SameEnds, Changed, changed, tried_ends}
 
-effect_ends : (e : ℕ) (call : Call) (x : PlainEdgeValue) → SameEnds x (effect_of e call x)
+pub effect_ends : (e : ℕ) (call : Call) (x : PlainEdgeValue) → SameEnds x (effect_of e call x)
 effect_ends e (tries a) x = by (open_hold x.holds)
   where
     by : (o : Option Hold) → SameEnds x (tried_at o e a x)

@@ -1,5 +1,5 @@
 -- What contracts see of the plain board, and how the acting tile's end moves it.
-use Rattle.std.specs.Prelude.{◌≡◌, ℕ, ◌-◌, ◌<◌, ◌==◌, ◌||◌, Bool, true, cond, List, [], length, slice_index_or, slice_set}
+use Rattle.std.specs.Prelude.{◌≡◌, ℕ, ◌-◌, ◌<◌, ◌==◌, ◌||◌, Bool, true, cond, List, [], length, map, slice_index_or, slice_set}
 use mathlib.Core.Option.{Option, none, some}
 use Rattle.feast_base.specs.Edges.{EdgeSize}
 use Rattle.edge_lock.specs.declared.board.Take.TheVariants.{Got, Busy}
@@ -39,6 +39,10 @@ registers_on board edge = cond (is_end (edge_at board edge) board.acting) (edge_
 -- which end of the edge the acting tile is
 abbrev pub end_on : PlainBoardValue → ℕ → ℕ
 end_on board edge = end_of (edge_at board edge) board.acting
+
+-- what a tile's end did on the edge
+abbrev pub lists_of_tile : PlainBoardValue → ℕ → ℕ → EndLists
+lists_of_tile board tile edge = own_lists (end_of (edge_at board edge) tile) (edge_at board edge)
 
 -- what the acting tile's end did on the edge
 abbrev pub lists_on : PlainBoardValue → ℕ → EndLists
@@ -89,6 +93,14 @@ pub data Moved : PlainBoardValue → PlainBoardValue → Type 0 where
 pub moved_on : (old between new : PlainBoardValue) → Moved old between → Moved between new → Moved old new
 moved_on old between new (stays _) later = later
 moved_on old between new (goes _ next _ edge call one rest) later = goes old next new edge call one (moved_on next between new rest later)
+
+-- the tiles and the number of registers of an edge
+abbrev pub size_of : PlainEdgeValue → EdgeSize
+size_of edge = record { lower = edge.lower; higher = edge.higher; registers = edge.registers }
+
+-- the list of edges that the board was made from
+abbrev pub sizes_of_board : PlainBoardValue → List EdgeSize
+sizes_of_board board = map size_of board.edges
 
 -- an edge of this size on which nothing has happened
 abbrev pub untouched_edge : EdgeSize → PlainEdgeValue
