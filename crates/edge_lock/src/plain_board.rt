@@ -4,7 +4,7 @@ ghost use Rattle.edge_lock.specs.declared.history.Access.TheVariants.{Read, Writ
 ghost use Rattle.edge_lock.specs.History.{value, sites_of, IsAllowed};
 ghost use Rattle.edge_lock.specs.EndLists.{IsFree, IsHeld, IsNew, HasNoWrite, Shows, known_value, after_try, after_access, after_give, replace_at};
 ghost use Rattle.edge_lock.specs.PlainEdges.{Answers};
-ghost use Rattle.edge_lock.specs.PlainBoard.{edge_at, registers_on, end_on, lists_on, other_lists_on, tries, reads, writes, gives, IsCall, Moved, untouched_edge, IsKeptEdge};
+ghost use Rattle.edge_lock.specs.PlainBoard.{edge_at, registers_on, end_on, lists_on, other_lists_on, tries, reads, writes, gives, IsCall, Moved, untouched_edge, sizes_of_board, IsKeptEdge};
 
 use crate::board::{Board, Take};
 use crate::plain_edge::PlainEdge;
@@ -38,7 +38,9 @@ impl PlainBoard {
     ///
     /// `NoMemory`: there was no memory for the edges.
     pub fn new<S: EdgeSizes>(alloc: Global, sizes: &S) -> Result<PlainBoard, NoMemory>
-        ensures { IfOk result (λ b. (b.acting ≡ 0) × (b.edges ≡ map untouched_edge (S.sizes sizes.now))) }
+        ensures made { IfOk result (λ b. (b.acting ≡ 0) × (b.edges ≡ map untouched_edge (S.sizes sizes.now))) }
+        ensures sizes { IfOk result (λ b. sizes_of_board b ≡ S.sizes sizes.now) }
+        ensures histories { IfOk result (λ b. All IsKeptEdge b.edges) }
     {
         let mut edges = Vec::new(alloc);
         for edge in 0..sizes.edges() {
