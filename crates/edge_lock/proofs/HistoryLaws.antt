@@ -3,12 +3,12 @@ use Rattle.std.proofs.Common.{◌≡◌, ◌≢◌, ℕ, suc, ◌<◌, cond, tru
 use Rattle.std.proofs.Math.Seq.{drop-cons}
 use Rattle.std.proofs.lemmas.List.{take-append-drop}
 use mathlib.Core.Logic.{dite}
-use mathlib.Core.Option.{Option, none, some, some-injective, some-ne-none}
+use mathlib.Core.Option.{none, some, some-injective, some-ne-none}
 use native.Mathlib.Decide.{ℕ_discrete}
 use Rattle.edge_lock.specs.declared.history.Access.{Access}
 use Rattle.edge_lock.specs.declared.history.Access.TheVariants.{Read, Write}
 use Rattle.edge_lock.specs.declared.history.Hold.{Hold}
-use Rattle.edge_lock.specs.History.{own, trace, written, value, found_value, open_hold, IsHistory}
+use Rattle.edge_lock.specs.History.{own, trace, written, value, value_after, found_value, open_hold, IsHistory}
 use Rattle.edge_lock.specs.EndLists.{is_held}
 use Rattle.edge_lock.proofs.LastHolds.{written-append, open_hold-snoc}
 use Rattle.edge_lock.proofs.SharedHolds.{holder}
@@ -57,7 +57,7 @@ finds before h after r v i e =
     i.reads (trace before ++ f.first) r v (f.rest ++ trace after) whole ∙ (written-append (trace before) f.first r 0 ∙ unwritten r f.first (value before r) f.no_write)
 
 -- the same of the hold at a position: the registers as it begins are those after the holds before it
-pub finds_at : {n : ℕ} (hs : List Hold) (k : ℕ) (d : Hold) (r v : ℕ) → IsHistory n hs → k < length hs → found_value (get_or hs k d).accesses r ≡ some v → v ≡ value (take k hs) r
+pub finds_at : {n : ℕ} (hs : List Hold) (k : ℕ) (d : Hold) (r v : ℕ) → IsHistory n hs → k < length hs → found_value (get_or hs k d).accesses r ≡ some v → v ≡ value_after hs k r
 finds_at {n} hs k d r v i inside e =
     finds (take k hs) (get_or hs k d) (drop (suc k) hs) r v (subst (IsHistory n) (sym (take-append-drop k hs) ∙ ap (λ l. take k hs ++ l) (drop-cons hs k d inside)) i) e
 

@@ -1,22 +1,20 @@
 -- How the one history of a plain edge goes on while one tile's end acts: what that end did since is its ending.
-use Rattle.std.proofs.Common.{◌≡◌, ◌≢◌, ◌⊎◌, ℕ, ◌+◌, ◌-◌, ◌<◌, eqb, Bool, true, false, true≢false, cond, List, [], ◌∷◌, ◌++◌, map, length, get_or, set, refl, sym, ap, ◌∙◌, subst, append_assoc}
+use Rattle.std.proofs.Common.{◌≡◌, ℕ, true, true≢false, List, [], ◌∷◌, ◌++◌, map, refl, sym, ap, ◌∙◌, subst, append_assoc}
 use Rattle.std.proofs.Math.Seq.{map-set_same}
 use Rattle.std.proofs.lemmas.List.{append-nil}
 use Rattle.feast_base.specs.Edges.{EdgeSize}
 use mathlib.Core.Logic.{dite}
 use mathlib.Core.Option.{Option, none, some}
 use native.Mathlib.Decide.{ℕ_discrete}
-use Rattle.edge_lock.specs.declared.board.Take.TheVariants.{Got, Busy}
-use Rattle.edge_lock.specs.declared.history.Access.{Access}
 use Rattle.edge_lock.specs.declared.history.Access.TheVariants.{Read, Write}
 use Rattle.edge_lock.specs.declared.history.Hold.{Hold}
 use Rattle.edge_lock.specs.History.{own, value, open_hold}
-use Rattle.edge_lock.specs.EndLists.{EndLists, is_held, change_last, new_hold, with_access, closed_hold, IsFree}
+use Rattle.edge_lock.specs.EndLists.{is_held, change_last, new_hold, with_access, closed_hold, IsFree}
 use Rattle.edge_lock.specs.PlainEdges.{PlainEdgeValue, own_lists}
 use Rattle.edge_lock.specs.PlainBoard.{PlainBoardValue, no_edge, edge_at, size_of, sizes_of_board, untouched_edge, end_on, lists_on, Call, tries, reads, writes, gives, MayCall, tried_at, effect_of, Moved, stays, goes}
 use Rattle.edge_lock.proofs.LastHolds.{is_held-snoc, change_last-snoc}
 use Rattle.edge_lock.proofs.HistorySteps.{own-here}
-use Rattle.edge_lock.proofs.PlainLaws.{effect_ends, Sees, sees}
+use Rattle.edge_lock.proofs.PlainLaws.{effect_ends, sees}
 
 -- the edge's holds are those of before and the new ones, and so are the end's own
 pub record Since (past mine holds own_holds : List Hold) : Type 0 where
@@ -66,7 +64,7 @@ module _ (e : ℕ) (x : PlainEdgeValue) (t : Seen) where
         let there : y.holds ≡ past ++ shut ∷ [] = now ∙ (ap (change_last closed_hold) is ∙ change_last-snoc closed_hold past h) in
         let mine : own e y.holds ≡ own e past ++ shut ∷ [] = ap (own e) there ∙ own-here e past shut end in
         since_more past (own e past) t.1.holds (own t.0 t.1.holds) shut
-            (subst (λ (p : List Hold × List Hold). Since p.0 p.1 t.1.holds (own t.0 t.1.holds)) (λ i. (there i, mine i)) (g.from_free (ap is_held mine ∙ is_held-snoc (own e past) shut)));
+        (subst (λ (p : List Hold × List Hold). Since p.0 p.1 t.1.holds (own t.0 t.1.holds)) (λ i. (there i, mine i)) (g.from_free (ap is_held mine ∙ is_held-snoc (own e past) shut)));
   }
 
   tried_one : (a : ℕ) (o : Option Hold) → IsFree (own_lists e x) → GoesFrom (e, tried_at o e a x) t → GoesFrom (e, x) t

@@ -1,23 +1,22 @@
 -- What the acting end's calls leave as it was: the history stays one, and the other ends keep their lists.
-use Rattle.std.proofs.Common.{◌≡◌, ◌≢◌, ◌⊎◌, ℕ, ◌+◌, ◌-◌, ◌<◌, eqb, Bool, true, false, cond, List, [], ◌∷◌, ◌++◌, refl, sym, ap, ◌∙◌, subst, arith}
+use Rattle.std.proofs.Common.{◌≡◌, ◌≢◌, ℕ, ◌-◌, ◌<◌, eqb, Bool, true, false, cond, List, [], ◌∷◌, ◌++◌, refl, sym, ap, ◌∙◌, subst}
 use Rattle.std.specs.Prelude.{◌||◌}
 use Rattle.std.proofs.lemmas.Bool.{eqb-true}
 use mathlib.Core.Logic.{dite}
 use mathlib.Core.Option.{Option, none, some}
 use native.Mathlib.Decide.{ℕ_discrete}
 use Rattle.edge_lock.specs.declared.board.Take.TheVariants.{Got, Busy}
-use Rattle.edge_lock.specs.declared.history.Access.{Access}
 use Rattle.edge_lock.specs.declared.history.Access.TheVariants.{Read, Write}
 use Rattle.edge_lock.specs.declared.history.Hold.{Hold}
-use Rattle.edge_lock.specs.History.{own, value, open_hold, key, keys, IsAllowedAccess, sites_of, IsHistory}
+use Rattle.edge_lock.specs.History.{own, value, open_hold, key, keys, sites_of, IsHistory}
 use Rattle.edge_lock.specs.EndLists.{change_last, with_access, closed_hold, IsHeld}
-use Rattle.edge_lock.specs.PlainEdges.{PlainEdgeValue, plain_view, own_lists, edge_after_try, with_view, view_of, plain_view_after_change, IsKept}
-use Rattle.edge_lock.specs.PlainBoard.{PlainBoardValue, edge_at, end_of, is_end, end_on, lists_of_tile, Call, tries, reads, writes, gives, MayCall, tried_at, effect_of, IsCall, Moved, stays, goes}
+use Rattle.edge_lock.specs.PlainEdges.{PlainEdgeValue, plain_view, own_lists, view_of, plain_view_after_change, IsKept}
+use Rattle.edge_lock.specs.PlainBoard.{PlainBoardValue, edge_at, end_of, is_end, end_on, lists_of_tile, Call, tries, reads, writes, gives, MayCall, tried_at, effect_of, Moved, stays, goes}
 use Rattle.edge_lock.proofs.LastHolds.{change_last-snoc, keys-snoc}
 use Rattle.edge_lock.proofs.HistorySteps.{history_accesses, history_ends}
 use Rattle.edge_lock.proofs.SharedHolds.{holder}
 use Rattle.edge_lock.proofs.PlainRules.{takes, refuses, kept_change, other, other_tried, other_changed}
-use Rattle.edge_lock.proofs.PlainLaws.{end_small, Sees, sees, effect_ends}
+use Rattle.edge_lock.proofs.PlainLaws.{end_small, sees, effect_ends}
 use Rattle.edge_lock.proofs.PlainCalls.{SameEnds}
 
 kept_last : (e : ℕ) (x : PlainEdgeValue) (f : Hold → Hold) → IsKept (view_of x) → IsHeld (own_lists e x) → ((h : Hold) → key h ≡ key (f h)) → ((past : List Hold) (h : Hold) → x.holds ≡ past ++ h ∷ [] → IsHistory (sites_of x.registers) (past ++ h ∷ []) → IsHistory (sites_of x.registers) (past ++ f h ∷ [])) → IsKept (plain_view_after_change f (view_of x))

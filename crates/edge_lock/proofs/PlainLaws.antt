@@ -1,20 +1,21 @@
 -- Where one end's lists on an edge of the plain board grew by one refusal alone, the other end had the edge.
-use Rattle.std.proofs.Common.{◌≡◌, ◌≢◌, ◌⊎◌, ℕ, zero, suc, ◌+◌, ◌-◌, ◌<◌, ◌≤◌, eqb, Bool, true, false, cond, true≢false, List, [], ◌∷◌, ◌++◌, length, get_or, set, refl, sym, ap, ◌∙◌, subst, inl, inr, ⊎_elim, arith, append_assoc, length-append, get_or-set_other, get_or-set_same}
+use Rattle.std.proofs.Common.{◌≡◌, ◌≢◌, ℕ, ◌+◌, ◌<◌, ◌≤◌, eqb, Bool, true, false, cond, true≢false, List, [], ◌∷◌, ◌++◌, length, get_or, set, refl, sym, ap, ◌∙◌, subst, arith, append_assoc, length-append, get_or-set_other, get_or-set_same}
 use Rattle.std.proofs.lemmas.List.{append-nil}
 use mathlib.Core.Logic.{dite}
 use mathlib.Core.Option.{Option, none, some}
 use native.Mathlib.Decide.{ℕ_discrete}
+use Rattle.edge_lock.specs.declared.board.Take.{Take}
 use Rattle.edge_lock.specs.declared.board.Take.TheVariants.{Got, Busy}
 use Rattle.edge_lock.specs.declared.history.Access.TheVariants.{Read, Write}
 use Rattle.edge_lock.specs.declared.history.Hold.{Hold}
 use Rattle.edge_lock.specs.declared.history.Refusal.{Refusal}
 use Rattle.edge_lock.specs.History.{own, value, open_hold}
 use Rattle.edge_lock.specs.EndLists.{EndLists, end_lists, change_last, new_hold, refusal_of, with_access, closed_hold, after_try, replace_at, IsFree}
-use Rattle.edge_lock.specs.PlainEdges.{PlainEdgeValue, own_lists, edge_after_try, view_of, IsKept, Answers}
-use Rattle.edge_lock.specs.PlainBoard.{PlainBoardValue, plain_board_value, no_edge, edge_at, end_of, end_on, lists_on, Call, tries, reads, writes, gives, MayCall, tried_at, effect_of, IsCall, Moved, stays, goes}
+use Rattle.edge_lock.specs.PlainEdges.{PlainEdgeValue, own_lists, view_of, IsKept, Answers}
+use Rattle.edge_lock.specs.PlainBoard.{PlainBoardValue, no_edge, edge_at, end_of, end_on, lists_on, Call, tries, reads, writes, gives, MayCall, tried_at, effect_of, IsCall, Moved, stays, goes}
 use Rattle.edge_lock.proofs.LastHolds.{replace_at-here, replace_at-else}
 use Rattle.edge_lock.proofs.PlainRules.{own_tried, other}
-use Rattle.edge_lock.proofs.PlainCalls.{SameEnds, Changed, changed, tried_ends}
+use Rattle.edge_lock.proofs.PlainCalls.{SameEnds, changed, tried_ends}
 
 pub effect_ends : (e : ℕ) (call : Call) (x : PlainEdgeValue) → SameEnds x (effect_of e call x)
 effect_ends e (tries a) x = by (open_hold x.holds)
@@ -177,3 +178,8 @@ got_means b c (goes _ d _ n call w m) e a free is =
     (λ apart. let t = s.there apart in
     subst (λ (v : ℕ × PlainEdgeValue). Answers v.0 v.1 Got) (λ i. (s.ends i, t.1 i))
     (got_means d c m e a (subst IsFree (sym t.0) free) (is ∙ (λ i. end_lists ((sym t.0 i).holds ++ new_hold (sym s.ends i) a ∷ []) (sym t.0 i).refusals))))
+
+-- One try by code that knows the board as a `Board` alone: its answer is that of the lock, as the lists and the calls tell it.
+pub answer_means : (b c : PlainBoardValue) → Moved b c → (e a : ℕ) (t : Take) → IsKept (view_of (edge_at b e)) → IsFree (lists_on b e) → lists_on c e ≡ after_try (end_on b e) a t (lists_on b e) → Answers (end_on b e) (edge_at b e) t
+answer_means b c m e a Got k free is = got_means b c m e a free is
+answer_means b c m e a (Busy n) k free is = busy_means b c m e a n k free is

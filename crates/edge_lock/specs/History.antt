@@ -1,6 +1,6 @@
 -- The history of one edge: who had it, what was read and written meanwhile, and who was refused.
 -- An edge has two ends, 0 and 1. Its registers are words that only the end with the open hold reads and writes.
-use Rattle.std.specs.Prelude.{◌≡◌, ℕ, ◌+◌, ◌-◌, ◌*◌, ◌/◌, ◌<◌, ◌==◌, false, cond, List, [], ◌∷◌, ◌++◌, map, filter, All}
+use Rattle.std.specs.Prelude.{◌≡◌, ℕ, ◌+◌, ◌-◌, ◌*◌, ◌/◌, ◌<◌, ◌==◌, false, cond, List, [], ◌∷◌, ◌++◌, map, filter, take, All}
 use mathlib.Core.Option.{Option, none, some}
 use Rattle.bit_field.specs.Atom.{LeavesGap}
 use Rattle.edge_lock.specs.declared.history.Access.{Access}
@@ -26,6 +26,10 @@ written (Write at value ∷ accesses) register start = written accesses register
 -- a register after these holds; each is 0 at first
 abbrev pub value : List Hold → ℕ → ℕ
 value holds register = written (trace holds) register 0
+
+-- a register after the first so many holds
+abbrev pub value_after : List Hold → ℕ → ℕ → ℕ
+value_after holds count register = value (take count holds) register
 
 -- each read gives the last value written to its register before it, else 0
 abbrev pub ReadsTrue : List Access → Type 0

@@ -7,9 +7,9 @@ use Rattle.edge_lock.specs.declared.history.Hold.{Hold}
 use Rattle.edge_lock.specs.declared.history.Refusal.{Refusal}
 use Rattle.edge_lock.specs.declared.edge_steps.View.{View}
 use Rattle.edge_lock.specs.declared.edge_steps.View.TheVariants.{Paired, Settled}
-use Rattle.edge_lock.specs.History.{sites_of, open_hold, IsEdgeHistory}
+use Rattle.edge_lock.specs.History.{sites_of, open_hold}
 use Rattle.edge_lock.specs.EndLists.{EndLists, end_lists}
-use Rattle.edge_lock.specs.SharedRule.{lists_in, registers_in, IsBoth}
+use Rattle.edge_lock.specs.SharedRule.{lists_in, IsBoth}
 
 -- an edge: its words, its number and how many registers it has
 pub record EdgeValue : Type 0 where

@@ -1,8 +1,6 @@
 //! What a tile sees of its edges, whether it has them alone or with tiles of other threads.
-ghost use Rattle.std.specs.Prelude.{◌≡◌, ◌<◌, ℕ, true, []};
-ghost use mathlib.Core.Option.{Option, none, some};
+ghost use Rattle.std.specs.Prelude.{◌≡◌, ◌<◌, ℕ};
 ghost use Rattle.edge_lock.specs.declared.history.Access.TheVariants.{Read, Write};
-ghost use Rattle.edge_lock.specs.EndLists.{IsNew, IsFree};
 
 /// What a try to take an edge gave.
 #[derive(Clone, Copy, PartialEq, Eq, Debug)]

@@ -1,6 +1,5 @@
 //! An edge that two threads share: the edge, its two passes, and the edge when both are done.
-ghost use Rattle.std.specs.Prelude.{◌≡◌, ◌<◌, ◌≤◌, ◌+◌, ◌*◌, ℕ, [], List, IfOk};
-ghost use mathlib.Core.Option.{none};
+ghost use Rattle.std.specs.Prelude.{◌≡◌, ◌<◌, IfOk};
 ghost use Rattle.edge_lock.specs.declared.history.Access.TheVariants.{Read, Write};
 ghost use Rattle.edge_lock.specs.History.{value, sites_of, IsAllowed};
 ghost use Rattle.edge_lock.specs.EndLists.{IsNew, IsFree, IsHeld, after_try, after_access, after_give, known_value, Shows};
@@ -8,7 +7,8 @@ ghost use Rattle.edge_lock.specs.Passes.{with_lists, IsFresh, IsClosed};
 
 use crate::board::Take;
 use crate::edge_steps::{
-    CLAIMS, Change, Claim, EdgeRule, Ends, FIRST_REGISTER, Give, LOCK, Look, Settle, Tell, Try, View,
+    CLAIMS, Change, Claim, EdgeRule, Ends, FIRST_REGISTER, Give, LOCK, Look, Settle, Tell, Try,
+    View,
 };
 use atomic_table::{Seat, Table};
 use feast_base::NoMemory;

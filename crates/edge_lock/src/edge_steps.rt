@@ -25,13 +25,7 @@ pub enum View {
     /// One of two seats: its end, its holds and its refusals.
     Paired(u32, u64, LinkedList<Hold>, LinkedList<Refusal>),
     /// The holds and refusals of both ends, as they were joined.
-    Joined(
-        u32,
-        LinkedList<Hold>,
-        LinkedList<Refusal>,
-        LinkedList<Hold>,
-        LinkedList<Refusal>,
-    ),
+    Joined(u32, LinkedList<Hold>, LinkedList<Refusal>, LinkedList<Hold>, LinkedList<Refusal>),
     /// The one history of both ends, with the refusals of each.
     Settled(LinkedList<Hold>, LinkedList<Refusal>, LinkedList<Refusal>),
     /// The seat that a join has spent.

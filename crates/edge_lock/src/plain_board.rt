@@ -1,5 +1,5 @@
 //! All edges of a plane on one board, for one thread. One tile's end acts at a time.
-ghost use Rattle.std.specs.Prelude.{◌≡◌, ◌<◌, ℕ, slice_index_or, length, map, IfOk, All};
+ghost use Rattle.std.specs.Prelude.{◌≡◌, ◌<◌, length, map, IfOk, All};
 ghost use Rattle.edge_lock.specs.declared.history.Access.TheVariants.{Read, Write};
 ghost use Rattle.edge_lock.specs.History.{value, sites_of, IsAllowed};
 ghost use Rattle.edge_lock.specs.EndLists.{IsFree, IsHeld, IsNew, HasNoWrite, Shows, known_value, after_try, after_access, after_give, replace_at};

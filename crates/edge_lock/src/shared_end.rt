@@ -1,5 +1,5 @@
 //! One tile's end of edges that tiles of other threads use too.
-ghost use Rattle.std.specs.Prelude.{◌≡◌, ◌<◌, All, length, []};
+ghost use Rattle.std.specs.Prelude.{◌≡◌, ◌<◌, All, length};
 ghost use Rattle.edge_lock.specs.SharedEnds.{IsPassOf, place, registers_at};
 
 use crate::board::{Board, Take};

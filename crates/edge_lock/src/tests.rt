@@ -1,7 +1,9 @@
 //! An edge of three registers, used by both its ends, on one thread and on two.
 ghost use Rattle.std.specs.Prelude.{◌≡◌, ◌≤◌, ◌<◌, ◌+◌, [], IfOk, IfSome};
 ghost use Rattle.edge_lock.specs.declared.board.Take.TheVariants.{Busy};
-ghost use Rattle.edge_lock.specs.EndLists.{IsFree, IsNew, IsHeld, end_lists};
+ghost use Rattle.edge_lock.specs.EndLists.{IsFree, IsNew, end_lists, after_try};
+ghost use Rattle.edge_lock.specs.PlainEdges.{Answers};
+ghost use Rattle.edge_lock.specs.PlainBoard.{registers_on, lists_on, end_on, edge_at, IsKeptEdge};
 
 use crate::{Board, Edge, PlainBoard, SharedEnd, Take};
 use feast_base::{EdgeSizes, NoMemory};
@@ -200,6 +202,35 @@ fn alternate(alloc: Global) -> Result<(Take, u64, u64), NoMemory>
     let read = board.read(0, 0);
     board.give_back(0);
     Ok((refused, read, board.word(0, 0)))
+}
+
+// One try, by code that knows the board as a `Board` alone.
+fn try_once<D: Board>(board: &mut D, edge: u32, attempt: u64) -> Take
+    requires edge { 0 < D.registers board.old edge }
+    requires free { IsFree (D.lists board.old edge) }
+    requires attempt { (attempt < 1000000) × IsNew attempt (D.lists board.old edge) }
+    ensures lists { D.lists board.new edge ≡ after_try (D.end_of board.old edge) attempt result (D.lists board.old edge) }
+    ensures moved { D.moved board.old board.new }
+{
+    board.try_take(edge, attempt)
+}
+
+// Of such a try on a plain board it is known that Busy came where the other end had the edge, and Got where nobody had it.
+fn try_on_board(board: &mut PlainBoard, edge: u32, attempt: u64) -> Take
+    requires edge { 0 < registers_on board.old edge }
+    requires free { IsFree (lists_on board.old edge) }
+    requires attempt { (attempt < 1000000) × IsNew attempt (lists_on board.old edge) }
+    requires kept { IsKeptEdge (edge_at board.old edge) }
+    ensures answer { Answers (end_on board.old edge) (edge_at board.old edge) result }
+{
+    try_once(board, edge, attempt)
+}
+
+#[test]
+fn one_try_of_generic_code(rt: HostRuntime) -> Result<(), Fail> {
+    let mut board = PlainBoard::new(rt.alloc(), &OneEdge)?;
+    assert!(rt; try_on_board(&mut board, 0, 5) == Take::Got);
+    Ok(())
 }
 
 #[test]

@@ -1,4 +1,4 @@
-use Rattle.std.proofs.Common.{arith, refl, ap, ◌∙◌}
+use Rattle.std.proofs.Common.{arith, refl, ap}
 use Rattle.edge_lock.specs.Passes.{ClosedValue}
 use Rattle.edge_lock.proofs.SharedSeats.{shows}
 use Rattle.edge_lock.proofs.edge.Closed.word.Goals as goal

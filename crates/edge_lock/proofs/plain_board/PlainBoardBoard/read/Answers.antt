@@ -1,7 +1,7 @@
-use Rattle.std.proofs.Common.{arith, sym, ap, ◌∙◌, subst, ◌<◌, ◌≡◌, refl}
-use Rattle.edge_lock.specs.EndLists.{EndLists, after_try, after_access, after_give}
-use Rattle.edge_lock.specs.PlainBoard.{registers_on, end_on, lists_on, edge_at, tries, reads, writes, gives, IsKeptEdge}
-use Rattle.edge_lock.proofs.PlainCalls.{done, registers_there, tried_effect, same_ends_try, same_ends_access, same_ends_give, all_set}
+use Rattle.std.proofs.Common.{arith, sym, ap, ◌∙◌, subst, ◌<◌, ◌≡◌}
+use Rattle.edge_lock.specs.EndLists.{EndLists, after_access}
+use Rattle.edge_lock.specs.PlainBoard.{registers_on, end_on, reads, IsKeptEdge}
+use Rattle.edge_lock.proofs.PlainCalls.{done, registers_there, same_ends_access, all_set}
 use Rattle.edge_lock.specs.declared.history.Access.TheVariants.{Read}
 use Rattle.edge_lock.specs.History.{sites_of, IsAllowed}
 use Rattle.edge_lock.specs.EndLists.{known_value, Shows}

@@ -1,7 +1,7 @@
-use Rattle.std.proofs.Common.{arith, sym, ap, ◌∙◌, subst, ◌<◌, ◌≡◌, refl}
-use Rattle.edge_lock.specs.EndLists.{EndLists, after_try, after_access, after_give}
-use Rattle.edge_lock.specs.PlainBoard.{registers_on, end_on, lists_on, edge_at, tries, reads, writes, gives, IsKeptEdge}
-use Rattle.edge_lock.proofs.PlainCalls.{done, registers_there, tried_effect, same_ends_try, same_ends_access, same_ends_give, all_set}
+use Rattle.std.proofs.Common.{arith, ◌∙◌, ◌<◌}
+use Rattle.edge_lock.specs.EndLists.{after_try}
+use Rattle.edge_lock.specs.PlainBoard.{registers_on, tries, IsKeptEdge}
+use Rattle.edge_lock.proofs.PlainCalls.{done, tried_effect, same_ends_try, all_set}
 use Rattle.edge_lock.proofs.plain_board.PlainBoardBoard.try_take.Goals as goal
 
 pub returns-clause-call : goal.returns-clause-call

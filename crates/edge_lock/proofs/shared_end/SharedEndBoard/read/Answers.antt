@@ -40,9 +40,10 @@ returns-clause-value c =
     let es = c.self.inside.edges.now in let ps = c.self.inside.passes.items in let e = c.args.edge in
     let h = here es ps c.as_slice.result.now e c.place_of-i.result c.self.invariant c.as_slice.ensures.value c.place_of-i.ensures.is c.place_of-i.ensures.inside in
     let p = c.index_mut-pass.result.now in let at = c.index_mut-pass.ensures.value in let s = h.stood p at in
-    let seen = ap (λ (x : SharedEndValue). x.passes) c.self.view_is in
-    (subst (λ (l : EndLists). Shows (known_value l c.args.register) c.read.result) (sym s.lists ∙ ap (λ l. lists_at l e) seen) c.read.ensures.value.0,
-      subst (λ n. IsAllowed (sites_of n) c.args.register c.read.result) (ap (λ (x : EdgeValue). x.registers) (sym (h.of p c.index-edges-edge.result at c.index-edges-edge.is)) ∙ (sym s.registers ∙ ap (λ l. registers_at l e) seen)) c.read.ensures.value.1)
+    let seen = ap (λ (x : SharedEndValue). x.passes) c.self.view_is in (
+      subst (λ (l : EndLists). Shows (known_value l c.args.register) c.read.result) (sym s.lists ∙ ap (λ l. lists_at l e) seen) c.read.ensures.value.0,
+      subst (λ n. IsAllowed (sites_of n) c.args.register c.read.result) (ap (λ (x : EdgeValue). x.registers) (sym (h.of p c.index-edges-edge.result at c.index-edges-edge.is)) ∙ (sym s.registers ∙ ap (λ l. registers_at l e) seen)) c.read.ensures.value.1,
+    )
 
 pub returns-clause-lists : goal.returns-clause-lists
 returns-clause-lists c =
