@@ -1,5 +1,5 @@
 -- What a caller of a board knows of the lists of one edge after its calls.
-use Rattle.std.proofs.Common.{◌≡◌, ◌≢◌, ℕ, ◌+◌, ◌<◌, eqb, true, false, cond, true≢false, List, [], ◌∷◌, ◌++◌, refl, sym, ap, ◌∙◌, subst, arith}
+use Rattle.std.proofs.Common.{◌≡◌, ◌≢◌, ℕ, ◌+◌, ◌<◌, eqb, Bool, true, false, cond, true≢false, List, [], ◌∷◌, ◌++◌, refl, sym, ap, ◌∙◌, subst, arith}
 use Rattle.std.specs.Prelude.{All}
 use Rattle.std.proofs.lemmas.List.Elements.{All-push}
 use Rattle.edge_lock.specs.declared.board.Take.{Take}
@@ -8,8 +8,8 @@ use mathlib.Core.Option.{Option, none, some}
 use Rattle.edge_lock.specs.declared.history.Access.{Access}
 use Rattle.edge_lock.specs.declared.history.Access.TheVariants.{Read, Write}
 use Rattle.edge_lock.specs.declared.history.Hold.{Hold}
-use Rattle.edge_lock.specs.EndLists.{EndLists, change_last, is_held, new_hold, refusal_of, with_access, closed_hold, last_accesses, last_shown, writes_nothing, known_value, HasNoWrite, IsHeld, IsFree, IsNew, IsHoldBelow, IsRefusalBelow, after_try, after_access, after_give, replace_at}
-use Rattle.edge_lock.proofs.LastHolds.{replace_at-here, replace_at-else, is_held-snoc, last_accesses-snoc}
+use Rattle.edge_lock.specs.EndLists.{EndLists, change_last, is_held, new_hold, refusal_of, with_access, closed_hold, last_accesses, last_shown, writes_nothing, known_value, HasNoWrite, IsHeld, IsFree, IsNew, IsHoldBelow, IsRefusalBelow, after_try, after_access, after_give, replace_at, end_lists, hold_of, with_hold}
+use Rattle.edge_lock.proofs.LastHolds.{replace_at-here, replace_at-else, is_held-snoc, last_accesses-snoc, change_last-snoc}
 use Rattle.edge_lock.proofs.HistorySteps.{all-cons, all-none, all-head, all-tail}
 
 -- the lists of an edge after a call on it
@@ -97,3 +97,25 @@ no_write_got e a l = ap writes_nothing (last_accesses-snoc l.holds (new_hold e a
 
 pub no_write_read : (q v : ℕ) (l : EndLists) → IsHeld l → HasNoWrite l → HasNoWrite (after_access (Read q v) l)
 no_write_read q v l held n = ap writes_nothing (last_accesses-access (Read q v) l.holds held) ∙ (writes_nothing-read (last_accesses l.holds) q v ∙ n)
+
+-- the same calls where the last hold is written out
+pub access_hold : (x : Access) (e a : ℕ) (xs : List Access) (b : Bool) (l : EndLists) → after_access x (with_hold l (hold_of e a xs b)) ≡ with_hold l (hold_of e a (xs ++ x ∷ []) b)
+access_hold x e a xs b l = ap (λ hs. end_lists hs l.refusals) (change_last-snoc (with_access x) l.holds (hold_of e a xs b))
+
+pub give_hold : (e a : ℕ) (xs : List Access) (b : Bool) (l : EndLists) → after_give (with_hold l (hold_of e a xs b)) ≡ with_hold l (hold_of e a xs false)
+give_hold e a xs b l = ap (λ hs. end_lists hs l.refusals) (change_last-snoc closed_hold l.holds (hold_of e a xs b))
+
+pub held_hold : (e a : ℕ) (xs : List Access) (l : EndLists) → IsHeld (with_hold l (hold_of e a xs true))
+held_hold e a xs l = is_held-snoc l.holds (hold_of e a xs true)
+
+pub free_hold : (e a : ℕ) (xs : List Access) (l : EndLists) → IsFree (with_hold l (hold_of e a xs false))
+free_hold e a xs l = is_held-snoc l.holds (hold_of e a xs false)
+
+pub known_hold : (e a r : ℕ) (xs : List Access) (b : Bool) (l : EndLists) → known_value (with_hold l (hold_of e a xs b)) r ≡ last_shown xs r none
+known_hold e a r xs b l = ap (λ ys. last_shown ys r none) (last_accesses-snoc l.holds (hold_of e a xs b))
+
+pub no_write_hold : (e a : ℕ) (xs : List Access) (b : Bool) (l : EndLists) → writes_nothing xs ≡ true → HasNoWrite (with_hold l (hold_of e a xs b))
+no_write_hold e a xs b l n = ap writes_nothing (last_accesses-snoc l.holds (hold_of e a xs b)) ∙ n
+
+pub new_after_hold : (m e a : ℕ) (xs : List Access) (b : Bool) (l : EndLists) → IsNew m l → a < m → IsNew m (with_hold l (hold_of e a xs b))
+new_after_hold m e a xs b l n less = record { holds = All-push (IsHoldBelow m) l.holds (hold_of e a xs b) n.holds less; refusals = n.refusals }

@@ -1,15 +1,15 @@
 -- Laws of the history of an edge, for all crates that read one.
-use Rattle.std.proofs.Common.{◌≡◌, ◌≢◌, ℕ, suc, ◌<◌, cond, true, false, List, [], ◌∷◌, ◌++◌, length, get_or, take, drop, refl, sym, ap, ◌∙◌, subst, eq-eqb, ne_eqb, append_assoc}
+use Rattle.std.proofs.Common.{◌≡◌, ◌≢◌, ℕ, suc, ◌<◌, eqb, Bool, cond, true, false, List, [], ◌∷◌, ◌++◌, length, get_or, take, drop, refl, sym, ap, ◌∙◌, subst, eq-eqb, ne_eqb, append_assoc}
 use Rattle.std.proofs.Math.Seq.{drop-cons}
 use Rattle.std.proofs.lemmas.List.{take-append-drop}
 use mathlib.Core.Logic.{dite}
-use mathlib.Core.Option.{none, some, some-injective, some-ne-none}
+use mathlib.Core.Option.{Option, none, some, some-injective, some-ne-none}
 use native.Mathlib.Decide.{ℕ_discrete}
 use Rattle.edge_lock.specs.declared.history.Access.{Access}
 use Rattle.edge_lock.specs.declared.history.Access.TheVariants.{Read, Write}
 use Rattle.edge_lock.specs.declared.history.Hold.{Hold}
 use Rattle.edge_lock.specs.History.{own, trace, written, value, value_after, found_value, open_hold, IsHistory}
-use Rattle.edge_lock.specs.EndLists.{is_held}
+use Rattle.edge_lock.specs.EndLists.{is_held, last_shown}
 use Rattle.edge_lock.proofs.LastHolds.{written-append, open_hold-snoc}
 use Rattle.edge_lock.proofs.SharedHolds.{holder}
 
@@ -81,3 +81,33 @@ open_is_own {n} hs end i held = let has = holder hs (own end hs) end i refl held
 -- where neither end's last hold is open, nobody has the edge
 pub open_is_none : {n : ℕ} (hs : List Hold) → IsHistory n hs → is_held (own 0 hs) ≡ false → is_held (own 1 hs) ≡ false → open_hold hs ≡ none
 open_is_none {n} hs i low high = Rattle.edge_lock.proofs.SharedSeats.all_given hs (own 0 hs) (own 1 hs) i refl refl low high
+
+known_by : (b : Bool) (xs : List Access) (r u v : ℕ) → ((w : ℕ) → last_shown xs r (some w) ≢ none) → last_shown xs r (cond b (some u) (some v)) ≢ none
+known_by true xs r u v k = k u
+known_by false xs r u v k = k v
+
+-- a register that was read or written is known
+known_stays : (xs : List Access) (r v : ℕ) → last_shown xs r (some v) ≢ none
+known_stays [] r v e = some-ne-none v e
+known_stays (Read q u ∷ xs) r v e = known_by (eqb r q) xs r u v (λ w. known_stays xs r w) e
+known_stays (Write q u ∷ xs) r v e = known_by (eqb r q) xs r u v (λ w. known_stays xs r w) e
+
+found_by : (b : Bool) (xs : List Access) (r u v : ℕ) (here later : Option ℕ) → (last_shown xs r none ≡ none → later ≡ some v) → last_shown xs r (cond b (some u) none) ≡ none → cond b here later ≡ some v
+found_by true xs r u v here later k e = absurd (known_stays xs r u e)
+found_by false xs r u v here later k e = k e
+
+-- the first read of a register that the hold has neither read nor written finds its value
+pub found_read : (xs : List Access) (r v : ℕ) → last_shown xs r none ≡ none → found_value (xs ++ Read r v ∷ []) r ≡ some v
+found_read [] r v e = ap (λ b. cond b (some v) none) (eq-eqb r r refl)
+found_read (Read q u ∷ xs) r v e = found_by (eqb r q) xs r u v (some u) (found_value (xs ++ Read r v ∷ []) r) (found_read xs r v) e
+found_read (Write q u ∷ xs) r v e = found_by (eqb r q) xs r u v none (found_value (xs ++ Read r v ∷ []) r) (found_read xs r v) e
+
+stays_by : (b : Bool) (here now later : Option ℕ) (v : ℕ) → (now ≡ some v → later ≡ some v) → cond b here now ≡ some v → cond b here later ≡ some v
+stays_by true here now later v k e = e
+stays_by false here now later v k e = k e
+
+-- what a hold has found stays found
+pub found_stays : (xs ys : List Access) (r v : ℕ) → found_value xs r ≡ some v → found_value (xs ++ ys) r ≡ some v
+found_stays [] ys r v e = absurd (some-ne-none v (sym e))
+found_stays (Read q u ∷ xs) ys r v e = stays_by (eqb r q) (some u) (found_value xs r) (found_value (xs ++ ys) r) v (found_stays xs ys r v) e
+found_stays (Write q u ∷ xs) ys r v e = stays_by (eqb r q) none (found_value xs r) (found_value (xs ++ ys) r) v (found_stays xs ys r v) e

@@ -8,20 +8,24 @@ use Rattle.edge_lock.specs.declared.history.Access.TheVariants.{Read, Write}
 use Rattle.edge_lock.specs.declared.history.Hold.{Hold}
 use Rattle.edge_lock.specs.declared.history.Refusal.{Refusal}
 
+-- a hold with these reads and writes
+abbrev pub hold_of : ℕ → ℕ → List Access → Bool → Hold
+hold_of end attempt accesses is_open = record { end = end; attempt = attempt; accesses = accesses; is_open = is_open }
+
 -- a hold that has just begun
 abbrev pub new_hold : ℕ → ℕ → Hold
-new_hold end attempt = record { end = end; attempt = attempt; accesses = []; is_open = true }
+new_hold end attempt = hold_of end attempt [] true
 
 abbrev pub refusal_of : ℕ → ℕ → Refusal
 refusal_of attempt holder = record { attempt = attempt; holder = holder }
 
 -- the hold with one more access
 abbrev pub with_access : Access → Hold → Hold
-with_access access hold = record { end = hold.end; attempt = hold.attempt; accesses = hold.accesses ++ access ∷ []; is_open = hold.is_open }
+with_access access hold = hold_of hold.end hold.attempt (hold.accesses ++ access ∷ []) hold.is_open
 
 -- the hold after the edge was given back
 abbrev pub closed_hold : Hold → Hold
-closed_hold hold = record { end = hold.end; attempt = hold.attempt; accesses = hold.accesses; is_open = false }
+closed_hold hold = hold_of hold.end hold.attempt hold.accesses false
 
 -- the list with its last hold changed
 abbrev pub change_last : (Hold → Hold) → List Hold → List Hold
@@ -65,6 +69,10 @@ pub record EndLists : Type 0 where
 abbrev pub end_lists : List Hold → List Refusal → EndLists
 end_lists holds refusals = record { holds = holds; refusals = refusals }
 
+-- the lists with one more hold
+abbrev pub with_hold : EndLists → Hold → EndLists
+with_hold lists hold = end_lists (lists.holds ++ hold ∷ []) lists.refusals
+
 -- the end has the edge
 abbrev pub IsHeld : EndLists → Type 0
 IsHeld lists = is_held lists.holds ≡ true
@@ -86,7 +94,7 @@ pub record IsNew (attempt : ℕ) (lists : EndLists) : Type 0 where
 
 -- the lists after an end's attempt got this answer
 abbrev pub after_try : ℕ → ℕ → Take → EndLists → EndLists
-after_try end attempt Got lists = end_lists (lists.holds ++ new_hold end attempt ∷ []) lists.refusals
+after_try end attempt Got lists = with_hold lists (new_hold end attempt)
 after_try end attempt (Busy holder) lists = end_lists lists.holds (lists.refusals ++ refusal_of attempt holder ∷ [])
 
 -- the lists after a read or write in the open hold
