@@ -6,7 +6,7 @@ use mathlib.Core.Logic.{dite}
 use native.Mathlib.Decide.{ℕ_discrete}
 use Rattle.edge_lock.specs.EndLists.{EndLists, replace_at}
 use Rattle.edge_lock.specs.Passes.{EdgeValue, PassValue, with_lists}
-use Rattle.edge_lock.specs.SharedEnds.{IsPassOf, registers_at, end_at, lists_at, place, edge_and_end}
+use Rattle.edge_lock.specs.SharedEnds.{SharedEndValue, shared_end_value, SamePasses, IsPassOf, registers_at, end_at, lists_at, place, edge_and_end}
 
 pub record Looked (ps : List PassValue) (e i : ℕ) : Type 0 where
   pub place : place ps e ≡ i + place (drop i ps) e
@@ -121,3 +121,34 @@ here es ps ns e i all same is inside =
     bounded es (x ∷ ps) e i all is there inside =
         let p = get_or (x ∷ ps) (place (x ∷ ps) e) x in let s = stood (x ∷ ps) e x there in
         slice_get_within es e p.of (ap (slice_get es) (sym s.number) ∙ all (place (x ∷ ps) e) x there)
+
+-- what one call changes of a tile's end
+pub record Acted (v : SharedEndValue) (e : ℕ) (l : EndLists) (w : SharedEndValue) : Type 0 where
+  pub lists : lists_at w.passes ≡ replace_at (lists_at v.passes) e l
+  pub registers : registers_at w.passes ≡ registers_at v.passes
+  pub ends : end_at w.passes ≡ end_at v.passes
+  pub moved : SamePasses v w
+
+-- a call of a tile's end, seen as v, on the pass at the place i, with the edge of its number
+pub record Acts (es : List EdgeValue) (ps : List PassValue) (tile : ℕ) (v : SharedEndValue) (e i : ℕ) : Type 0 where
+  pub bound : e < length es
+  pub of : (p : PassValue) (x : EdgeValue) → p ≡ get_or ps i p → x ≡ get_or es e x → p.of ≡ x
+  pub registers : (p : PassValue) (x : EdgeValue) → p ≡ get_or ps i p → x ≡ get_or es e x → registers_at v.passes e ≡ x.registers
+  pub lists : (p : PassValue) → p ≡ get_or ps i p → lists_at v.passes e ≡ p.lists
+  pub after : (p q : PassValue) (f : ℕ → EndLists → EndLists) → p ≡ get_or ps i p → q ≡ with_lists p (f p.end p.lists) → Acted v e (f (end_at v.passes e) (lists_at v.passes e)) (shared_end_value tile (set ps i q))
+
+pub acts : (es : List EdgeValue) (ps ns : List PassValue) (tile : ℕ) (v : SharedEndValue) (e i : ℕ) → shared_end_value tile ps ≡ v → All (IsPassOf es) ps → ns ≡ ps → i ≡ place ns e → i < length ns → Acts es ps tile v e i
+acts es ps ns tile v e i seen all same is inside =
+    let h = here es ps ns e i all same is inside in let at_v = ap (λ (y : SharedEndValue). y.passes) seen in record {
+      bound = h.bound;
+      of = h.of;
+      registers = λ p x at there. ap (λ l. registers_at l e) (sym at_v) ∙ ((h.stood p at).registers ∙ ap (λ (y : EdgeValue). y.registers) (h.of p x at there));
+      lists = λ p at. ap (λ l. lists_at l e) (sym at_v) ∙ (h.stood p at).lists;
+      after = λ p q f at now. let s = h.stood p at in let r = h.after p q (f p.end p.lists) at now in record {
+        lists = (λ k x. r.lists x k)
+            ∙ (ap (replace_at (lists_at ps) e) (λ k. f (sym s.end k) (sym s.lists k)) ∙ ap (λ (y : SharedEndValue). replace_at (lists_at y.passes) e (f (end_at y.passes e) (lists_at y.passes e))) seen);
+        registers = (λ k x. r.registers x k) ∙ ap registers_at at_v;
+        ends = (λ k x. r.ends x k) ∙ ap end_at at_v;
+        moved = record { tile = ap (λ (y : SharedEndValue). y.tile) seen; passes = r.passes ∙ ap (λ l. map edge_and_end l) at_v };
+      };
+    }

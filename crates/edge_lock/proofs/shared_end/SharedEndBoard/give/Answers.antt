@@ -1,52 +1,42 @@
-use Rattle.std.proofs.Common.{sym, ap, ◌∙◌, subst, map}
-use Rattle.edge_lock.specs.EndLists.{EndLists, IsHeld, replace_at, after_give}
-use Rattle.edge_lock.specs.SharedEnds.{SharedEndValue, registers_at, end_at, lists_at, edge_and_end}
-use Rattle.edge_lock.proofs.PassPlaces.{here}
+use Rattle.std.proofs.Common.{subst}
+use Rattle.edge_lock.specs.EndLists.{IsHeld, after_give}
+use Rattle.edge_lock.proofs.PassPlaces.{acts}
 use Rattle.edge_lock.proofs.shared_end.SharedEndBoard.give.Goals as goal
 
 pub bounds-edges-edge : goal.bounds-edges-edge
 bounds-edges-edge c =
-    let es = c.self.inside.edges.now in let ps = c.self.inside.passes.items in let e = c.args.edge in
-    let h = here es ps c.as_slice.result.now e c.place_of-i.result c.self.invariant c.as_slice.ensures.value c.place_of-i.ensures.is c.place_of-i.ensures.inside in
-    h.bound
+    let a = acts c.self.inside.edges.now c.self.inside.passes.items c.as_slice.result.now c.self.inside.tile c.args.self.now c.args.edge c.place_of-i.result c.self.view_is c.self.invariant c.as_slice.ensures.value c.place_of-i.ensures.is c.place_of-i.ensures.inside in
+    a.bound
 
 pub give-requires-clause-edge : goal.give-requires-clause-edge
 give-requires-clause-edge c =
-    let es = c.self.inside.edges.now in let ps = c.self.inside.passes.items in let e = c.args.edge in
-    let h = here es ps c.as_slice.result.now e c.place_of-i.result c.self.invariant c.as_slice.ensures.value c.place_of-i.ensures.is c.place_of-i.ensures.inside in
-    h.of c.index_mut-pass.result.now c.index-edges-edge.result c.index_mut-pass.ensures.value c.index-edges-edge.is
+    let a = acts c.self.inside.edges.now c.self.inside.passes.items c.as_slice.result.now c.self.inside.tile c.args.self.now c.args.edge c.place_of-i.result c.self.view_is c.self.invariant c.as_slice.ensures.value c.place_of-i.ensures.is c.place_of-i.ensures.inside in
+    let p = c.index_mut-pass.result.now in let at = c.index_mut-pass.ensures.value in let x = c.index-edges-edge.result in let there = c.index-edges-edge.is in
+    a.of p x at there
 
 pub give-requires-clause-held : goal.give-requires-clause-held
 give-requires-clause-held c =
-    let es = c.self.inside.edges.now in let ps = c.self.inside.passes.items in let e = c.args.edge in
-    let h = here es ps c.as_slice.result.now e c.place_of-i.result c.self.invariant c.as_slice.ensures.value c.place_of-i.ensures.is c.place_of-i.ensures.inside in
-    let p = c.index_mut-pass.result.now in let at = c.index_mut-pass.ensures.value in let s = h.stood p at in
-    let seen = ap (λ (x : SharedEndValue). x.passes) c.self.view_is in
-    subst (λ (l : EndLists). IsHeld l) (ap (λ l. lists_at l e) (sym seen) ∙ s.lists) c.requires.held
+    let a = acts c.self.inside.edges.now c.self.inside.passes.items c.as_slice.result.now c.self.inside.tile c.args.self.now c.args.edge c.place_of-i.result c.self.view_is c.self.invariant c.as_slice.ensures.value c.place_of-i.ensures.is c.place_of-i.ensures.inside in
+    let p = c.index_mut-pass.result.now in let at = c.index_mut-pass.ensures.value in
+    subst IsHeld (a.lists p at) c.requires.held
 
 pub returns-clause-lists : goal.returns-clause-lists
 returns-clause-lists c =
-    let es = c.self.inside.edges.now in let ps = c.self.inside.passes.items in let e = c.args.edge in
-    let h = here es ps c.as_slice.result.now e c.place_of-i.result c.self.invariant c.as_slice.ensures.value c.place_of-i.ensures.is c.place_of-i.ensures.inside in
-    let p = c.index_mut-pass.result.now in let at = c.index_mut-pass.ensures.value in let s = h.stood p at in
-    let seen = ap (λ (x : SharedEndValue). x.passes) c.self.view_is in
-    let r = h.after p c.give.new.pass _ at c.give.ensures in
-    (λ i x. r.lists x i) ∙ (ap (λ l. replace_at (lists_at ps) e l) (ap after_give (sym s.lists)) ∙ ap (λ (y : SharedEndValue). replace_at (lists_at y.passes) e (after_give (lists_at y.passes e))) c.self.view_is)
+    let a = acts c.self.inside.edges.now c.self.inside.passes.items c.as_slice.result.now c.self.inside.tile c.args.self.now c.args.edge c.place_of-i.result c.self.view_is c.self.invariant c.as_slice.ensures.value c.place_of-i.ensures.is c.place_of-i.ensures.inside in
+    let p = c.index_mut-pass.result.now in let at = c.index_mut-pass.ensures.value in
+    let d = a.after p c.give.new.pass (λ k l. after_give l) at c.give.ensures in
+    d.lists
 
 pub returns-clause-edges : goal.returns-clause-edges
 returns-clause-edges c =
-    let es = c.self.inside.edges.now in let ps = c.self.inside.passes.items in let e = c.args.edge in
-    let h = here es ps c.as_slice.result.now e c.place_of-i.result c.self.invariant c.as_slice.ensures.value c.place_of-i.ensures.is c.place_of-i.ensures.inside in
-    let p = c.index_mut-pass.result.now in let at = c.index_mut-pass.ensures.value in let s = h.stood p at in
-    let seen = ap (λ (x : SharedEndValue). x.passes) c.self.view_is in
-    let r = h.after p c.give.new.pass _ at c.give.ensures in
-    ((λ i x. r.registers x i) ∙ ap registers_at seen, (λ i x. r.ends x i) ∙ ap end_at seen)
+    let a = acts c.self.inside.edges.now c.self.inside.passes.items c.as_slice.result.now c.self.inside.tile c.args.self.now c.args.edge c.place_of-i.result c.self.view_is c.self.invariant c.as_slice.ensures.value c.place_of-i.ensures.is c.place_of-i.ensures.inside in
+    let p = c.index_mut-pass.result.now in let at = c.index_mut-pass.ensures.value in
+    let d = a.after p c.give.new.pass (λ k l. after_give l) at c.give.ensures in
+    (d.registers, d.ends)
 
 pub returns-clause-moved : goal.returns-clause-moved
 returns-clause-moved c =
-    let es = c.self.inside.edges.now in let ps = c.self.inside.passes.items in let e = c.args.edge in
-    let h = here es ps c.as_slice.result.now e c.place_of-i.result c.self.invariant c.as_slice.ensures.value c.place_of-i.ensures.is c.place_of-i.ensures.inside in
-    let p = c.index_mut-pass.result.now in let at = c.index_mut-pass.ensures.value in let s = h.stood p at in
-    let seen = ap (λ (x : SharedEndValue). x.passes) c.self.view_is in
-    let r = h.after p c.give.new.pass _ at c.give.ensures in
-    record { tile = ap (λ (x : SharedEndValue). x.tile) c.self.view_is; passes = r.passes ∙ ap (λ l. map edge_and_end l) seen }
+    let a = acts c.self.inside.edges.now c.self.inside.passes.items c.as_slice.result.now c.self.inside.tile c.args.self.now c.args.edge c.place_of-i.result c.self.view_is c.self.invariant c.as_slice.ensures.value c.place_of-i.ensures.is c.place_of-i.ensures.inside in
+    let p = c.index_mut-pass.result.now in let at = c.index_mut-pass.ensures.value in
+    let d = a.after p c.give.new.pass (λ k l. after_give l) at c.give.ensures in
+    d.moved

@@ -1,71 +1,57 @@
-use Rattle.std.proofs.Common.{arith, sym, ap, ◌∙◌, subst, map}
+use Rattle.std.proofs.Common.{subst}
+use Rattle.edge_lock.specs.EndLists.{IsHeld, after_access}
+use Rattle.std.proofs.Common.{◌<◌}
 use Rattle.edge_lock.specs.declared.history.Access.TheVariants.{Write}
 use Rattle.edge_lock.specs.History.{sites_of, IsAllowed}
-use Rattle.edge_lock.specs.EndLists.{EndLists, IsHeld, replace_at, after_access}
-use Rattle.edge_lock.specs.Passes.{EdgeValue}
-use Rattle.edge_lock.specs.SharedEnds.{SharedEndValue, registers_at, end_at, lists_at, edge_and_end}
-use Rattle.edge_lock.proofs.PassPlaces.{here}
+use Rattle.edge_lock.proofs.PassPlaces.{acts}
 use Rattle.edge_lock.proofs.shared_end.SharedEndBoard.write.Goals as goal
 
 pub bounds-edges-edge : goal.bounds-edges-edge
 bounds-edges-edge c =
-    let es = c.self.inside.edges.now in let ps = c.self.inside.passes.items in let e = c.args.edge in
-    let h = here es ps c.as_slice.result.now e c.place_of-i.result c.self.invariant c.as_slice.ensures.value c.place_of-i.ensures.is c.place_of-i.ensures.inside in
-    h.bound
+    let a = acts c.self.inside.edges.now c.self.inside.passes.items c.as_slice.result.now c.self.inside.tile c.args.self.now c.args.edge c.place_of-i.result c.self.view_is c.self.invariant c.as_slice.ensures.value c.place_of-i.ensures.is c.place_of-i.ensures.inside in
+    a.bound
 
 pub write-requires-clause-edge : goal.write-requires-clause-edge
 write-requires-clause-edge c =
-    let es = c.self.inside.edges.now in let ps = c.self.inside.passes.items in let e = c.args.edge in
-    let h = here es ps c.as_slice.result.now e c.place_of-i.result c.self.invariant c.as_slice.ensures.value c.place_of-i.ensures.is c.place_of-i.ensures.inside in
-    h.of c.index_mut-pass.result.now c.index-edges-edge.result c.index_mut-pass.ensures.value c.index-edges-edge.is
+    let a = acts c.self.inside.edges.now c.self.inside.passes.items c.as_slice.result.now c.self.inside.tile c.args.self.now c.args.edge c.place_of-i.result c.self.view_is c.self.invariant c.as_slice.ensures.value c.place_of-i.ensures.is c.place_of-i.ensures.inside in
+    let p = c.index_mut-pass.result.now in let at = c.index_mut-pass.ensures.value in let x = c.index-edges-edge.result in let there = c.index-edges-edge.is in
+    a.of p x at there
 
 pub write-requires-clause-register : goal.write-requires-clause-register
 write-requires-clause-register c =
-    let es = c.self.inside.edges.now in let ps = c.self.inside.passes.items in let e = c.args.edge in
-    let h = here es ps c.as_slice.result.now e c.place_of-i.result c.self.invariant c.as_slice.ensures.value c.place_of-i.ensures.is c.place_of-i.ensures.inside in
-    let p = c.index_mut-pass.result.now in let at = c.index_mut-pass.ensures.value in let s = h.stood p at in
-    let seen = ap (λ (x : SharedEndValue). x.passes) c.self.view_is in
-    omega (arith, c.requires.edge, ap (λ l. registers_at l e) (sym seen) ∙ s.registers, ap (λ (x : EdgeValue). x.registers) (h.of p c.index-edges-edge.result at c.index-edges-edge.is))
+    let a = acts c.self.inside.edges.now c.self.inside.passes.items c.as_slice.result.now c.self.inside.tile c.args.self.now c.args.edge c.place_of-i.result c.self.view_is c.self.invariant c.as_slice.ensures.value c.place_of-i.ensures.is c.place_of-i.ensures.inside in
+    let p = c.index_mut-pass.result.now in let at = c.index_mut-pass.ensures.value in let x = c.index-edges-edge.result in let there = c.index-edges-edge.is in
+    subst (λ n. c.args.register < n) (a.registers p x at there) c.requires.edge
 
 pub write-requires-clause-held : goal.write-requires-clause-held
 write-requires-clause-held c =
-    let es = c.self.inside.edges.now in let ps = c.self.inside.passes.items in let e = c.args.edge in
-    let h = here es ps c.as_slice.result.now e c.place_of-i.result c.self.invariant c.as_slice.ensures.value c.place_of-i.ensures.is c.place_of-i.ensures.inside in
-    let p = c.index_mut-pass.result.now in let at = c.index_mut-pass.ensures.value in let s = h.stood p at in
-    let seen = ap (λ (x : SharedEndValue). x.passes) c.self.view_is in
-    subst (λ (l : EndLists). IsHeld l) (ap (λ l. lists_at l e) (sym seen) ∙ s.lists) c.requires.held
+    let a = acts c.self.inside.edges.now c.self.inside.passes.items c.as_slice.result.now c.self.inside.tile c.args.self.now c.args.edge c.place_of-i.result c.self.view_is c.self.invariant c.as_slice.ensures.value c.place_of-i.ensures.is c.place_of-i.ensures.inside in
+    let p = c.index_mut-pass.result.now in let at = c.index_mut-pass.ensures.value in
+    subst IsHeld (a.lists p at) c.requires.held
 
 pub write-requires-clause-value : goal.write-requires-clause-value
 write-requires-clause-value c =
-    let es = c.self.inside.edges.now in let ps = c.self.inside.passes.items in let e = c.args.edge in
-    let h = here es ps c.as_slice.result.now e c.place_of-i.result c.self.invariant c.as_slice.ensures.value c.place_of-i.ensures.is c.place_of-i.ensures.inside in
-    let p = c.index_mut-pass.result.now in let at = c.index_mut-pass.ensures.value in let s = h.stood p at in
-    let seen = ap (λ (x : SharedEndValue). x.passes) c.self.view_is in
-    subst (λ n. IsAllowed (sites_of n) c.args.register c.args.value) (ap (λ l. registers_at l e) (sym seen) ∙ (s.registers ∙ ap (λ (x : EdgeValue). x.registers) (h.of p c.index-edges-edge.result at c.index-edges-edge.is))) c.requires.value
+    let a = acts c.self.inside.edges.now c.self.inside.passes.items c.as_slice.result.now c.self.inside.tile c.args.self.now c.args.edge c.place_of-i.result c.self.view_is c.self.invariant c.as_slice.ensures.value c.place_of-i.ensures.is c.place_of-i.ensures.inside in
+    let p = c.index_mut-pass.result.now in let at = c.index_mut-pass.ensures.value in let x = c.index-edges-edge.result in let there = c.index-edges-edge.is in
+    subst (λ n. IsAllowed (sites_of n) c.args.register c.args.value) (a.registers p x at there) c.requires.value
 
 pub returns-clause-lists : goal.returns-clause-lists
 returns-clause-lists c =
-    let es = c.self.inside.edges.now in let ps = c.self.inside.passes.items in let e = c.args.edge in
-    let h = here es ps c.as_slice.result.now e c.place_of-i.result c.self.invariant c.as_slice.ensures.value c.place_of-i.ensures.is c.place_of-i.ensures.inside in
-    let p = c.index_mut-pass.result.now in let at = c.index_mut-pass.ensures.value in let s = h.stood p at in
-    let seen = ap (λ (x : SharedEndValue). x.passes) c.self.view_is in
-    let r = h.after p c.write.new.pass _ at c.write.ensures in
-    (λ i x. r.lists x i) ∙ (ap (λ l. replace_at (lists_at ps) e l) (ap (after_access (Write c.args.register c.args.value)) (sym s.lists)) ∙ ap (λ (y : SharedEndValue). replace_at (lists_at y.passes) e (after_access (Write c.args.register c.args.value) (lists_at y.passes e))) c.self.view_is)
+    let a = acts c.self.inside.edges.now c.self.inside.passes.items c.as_slice.result.now c.self.inside.tile c.args.self.now c.args.edge c.place_of-i.result c.self.view_is c.self.invariant c.as_slice.ensures.value c.place_of-i.ensures.is c.place_of-i.ensures.inside in
+    let p = c.index_mut-pass.result.now in let at = c.index_mut-pass.ensures.value in
+    let d = a.after p c.write.new.pass (λ k l. after_access (Write c.args.register c.args.value) l) at c.write.ensures in
+    d.lists
 
 pub returns-clause-edges : goal.returns-clause-edges
 returns-clause-edges c =
-    let es = c.self.inside.edges.now in let ps = c.self.inside.passes.items in let e = c.args.edge in
-    let h = here es ps c.as_slice.result.now e c.place_of-i.result c.self.invariant c.as_slice.ensures.value c.place_of-i.ensures.is c.place_of-i.ensures.inside in
-    let p = c.index_mut-pass.result.now in let at = c.index_mut-pass.ensures.value in let s = h.stood p at in
-    let seen = ap (λ (x : SharedEndValue). x.passes) c.self.view_is in
-    let r = h.after p c.write.new.pass _ at c.write.ensures in
-    ((λ i x. r.registers x i) ∙ ap registers_at seen, (λ i x. r.ends x i) ∙ ap end_at seen)
+    let a = acts c.self.inside.edges.now c.self.inside.passes.items c.as_slice.result.now c.self.inside.tile c.args.self.now c.args.edge c.place_of-i.result c.self.view_is c.self.invariant c.as_slice.ensures.value c.place_of-i.ensures.is c.place_of-i.ensures.inside in
+    let p = c.index_mut-pass.result.now in let at = c.index_mut-pass.ensures.value in
+    let d = a.after p c.write.new.pass (λ k l. after_access (Write c.args.register c.args.value) l) at c.write.ensures in
+    (d.registers, d.ends)
 
 pub returns-clause-moved : goal.returns-clause-moved
 returns-clause-moved c =
-    let es = c.self.inside.edges.now in let ps = c.self.inside.passes.items in let e = c.args.edge in
-    let h = here es ps c.as_slice.result.now e c.place_of-i.result c.self.invariant c.as_slice.ensures.value c.place_of-i.ensures.is c.place_of-i.ensures.inside in
-    let p = c.index_mut-pass.result.now in let at = c.index_mut-pass.ensures.value in let s = h.stood p at in
-    let seen = ap (λ (x : SharedEndValue). x.passes) c.self.view_is in
-    let r = h.after p c.write.new.pass _ at c.write.ensures in
-    record { tile = ap (λ (x : SharedEndValue). x.tile) c.self.view_is; passes = r.passes ∙ ap (λ l. map edge_and_end l) seen }
+    let a = acts c.self.inside.edges.now c.self.inside.passes.items c.as_slice.result.now c.self.inside.tile c.args.self.now c.args.edge c.place_of-i.result c.self.view_is c.self.invariant c.as_slice.ensures.value c.place_of-i.ensures.is c.place_of-i.ensures.inside in
+    let p = c.index_mut-pass.result.now in let at = c.index_mut-pass.ensures.value in
+    let d = a.after p c.write.new.pass (λ k l. after_access (Write c.args.register c.args.value) l) at c.write.ensures in
+    d.moved
