@@ -3,9 +3,9 @@ use Rattle.std.proofs.Common.{ℕ, ◌≡◌, ◌≢◌, ◌+◌, ◌*◌, ◌/�
 use Rattle.std.specs.List.{AllPairs}
 use Rattle.std.proofs.lemmas.Bool.{cases_lt}
 use Rattle.std.proofs.lemmas.Bool.Decides.{eqb_tells}
-use Rattle.std.proofs.lemmas.List.{get_or-replicate, get_or-set_other, get_or-set_same, get_or_default}
+use Rattle.std.proofs.lemmas.List.{get_or-replicate, get_or-set_other, get_or-set_same, get_or_default, length-replicate}
 use Rattle.std.proofs.lemmas.Nat.{div-mul-add, mod-mul-add}
-use Rattle.std.proofs.Math.ListN.{length-set}
+use Rattle.std.proofs.Math.ListN.{length-set, get_or-eq_default}
 use Rattle.feast_run.specs.World.{PlacedValue, IsPlaced, AreApart, place_in}
 
 -- no atom line
@@ -25,11 +25,17 @@ pub record IsMarked (width count : ℕ) (ps : List PlacedValue) (k : ℕ) (taken
 
 pub marked_none : (width count : ℕ) (ps : List PlacedValue) (taken : List Bool) → taken ≡ replicate count false → IsMarked width count ps 0 taken
 marked_none width count ps taken e = record {
-  whole = ?;
-  seen = λ i h. ?;
+  whole = ap length e ∙ length-replicate count false;
+  seen = λ i h. absurd (none_true i h);
   noted = λ j lt. absurd (omega arith);
   apart = λ i j lt small. absurd (omega arith);
 }
+  where
+    none_true : (i : ℕ) → get_or taken i false ≡ true → ⊥
+    none_true i h = elim (cases_lt i count) [
+      | inl inside ↦ let f = ap (λ z. get_or z i false) e ∙ get_or-replicate count i false false inside in cc
+      | inr past ↦ let n = ap length e ∙ length-replicate count false in let f = get_or-eq_default taken false {n = i} (omega (arith, n)) in cc
+    ]
 
 pub marked_more : (width count : ℕ) (ps : List PlacedValue) (k i : ℕ) (taken : List Bool) → IsMarked width count ps k taken → i ≡ place_at width ps k → i < count → get_or taken i false ≡ false →
     IsMarked width count ps (k + 1) (set taken i true)
@@ -55,7 +61,7 @@ marked_more width count ps k i taken h is within free = record {
 }
   where
     not_k : (j : ℕ) → j < k + 1 → place_at width ps j ≢ i → j < k
-    not_k j lt ne = elim (cases_lt j k) [ inl yes ↦ yes | inr no ↦ let same : j ≡ k = omega arith in absurd (ne (ap (place_at width ps) same ∙ sym is)) ]
+    not_k j lt ne = elim (cases_lt j k) [ inl below ↦ below | inr past ↦ let same : j ≡ k = omega arith in absurd (ne (ap (place_at width ps) same ∙ sym is)) ]
 
 -- atoms of one place are at one site
 site_of_place : (width : ℕ) (p q : PlacedValue) → p.x < width → q.x < width → place_in width p ≡ place_in width q → (p.x ≡ q.x) × (p.y ≡ q.y)
@@ -68,8 +74,8 @@ site_of_place width p q a b e =
 -- an atom whose place is taken is at the site of an earlier one
 pub not_apart : (width height count : ℕ) (ps : List PlacedValue) (k : ℕ) (taken : List Bool) → IsMarked width count ps k taken → All (IsPlaced width height) ps → k < length ps →
     get_or taken (place_at width ps k) false ≡ true → AllPairs AreApart ps → ⊥
-not_apart width height count ps k taken h valid lt yes apart =
-    let p = h.seen (place_at width ps k) yes in
+not_apart width height count ps k taken h valid lt marked apart =
+    let p = h.seen (place_at width ps k) marked in
     apart p.0 k nobody p.1.0 lt (site_of_place width (get_or ps p.0 nobody) (get_or ps k nobody) (valid p.0 nobody (omega (arith, p.1.0))).x_in (valid k nobody lt).x_in p.1.1)
 
 -- where all are marked, all are apart
@@ -77,4 +83,6 @@ pub all_apart : (width count : ℕ) (ps : List PlacedValue) (taken : List Bool) 
 all_apart width count ps taken h = λ i j d lt small same.
     let a : get_or ps i d ≡ get_or ps i nobody = get_or_default ps i d nobody (omega arith) in
     let b : get_or ps j d ≡ get_or ps j nobody = get_or_default ps j d nobody small in
-    h.apart i j lt small (?)
+    let xs : (get_or ps i nobody).x ≡ (get_or ps j nobody).x = sym (ap (λ (p : PlacedValue). p.x) a) ∙ same.0 ∙ ap (λ (p : PlacedValue). p.x) b in
+    let ys : (get_or ps i nobody).y ≡ (get_or ps j nobody).y = sym (ap (λ (p : PlacedValue). p.y) a) ∙ same.1 ∙ ap (λ (p : PlacedValue). p.y) b in
+    h.apart i j lt small (ap (λ (n : ℕ). n * width + (get_or ps i nobody).x) ys ∙ ap (λ (n : ℕ). (get_or ps j nobody).y * width + n) xs)

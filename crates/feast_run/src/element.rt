@@ -1,5 +1,7 @@
 //! Reading an element that swaps two sites.
 ghost use Rattle.std.specs.Prelude.{◌≡◌, ◌≢◌, ◌++◌, ◌≤◌, ◌⊎◌, [], Bool, true, codes, decimal, MatchOption, MatchResult};
+ghost use Rattle.std.specs.List.{list_any};
+ghost use Rattle.std.specs.Str.{bytes_eq};
 ghost use Rattle.feast_run.specs.Bodies.{body_text, IsBody, is_tail, Starts};
 ghost use Rattle.feast_run.specs.Element.{ElementValue, is_built_in, Defines};
 ghost use Rattle.feast_run.specs.Faults.{IsOther};
@@ -10,25 +12,32 @@ use crate::pieces::{ReadFault, expect, name_until, number_until};
 use crate::swapper::Element;
 use std::alloc::Global;
 
-/// The names of the types that the language has built in.
-const BUILT_IN: [&str; 10] = [
-    "Int",
-    "Unsigned",
-    "Bits",
-    "Bool",
-    "Unary",
-    "Atom",
-    "Void",
-    "EventWindow",
-    "Random",
-    "Empty",
-];
+/// Whether it is one of some names.
+fn is_one_of(name: &[u8], names: &[&[u8]]) -> bool
+    ensures { result ≡ list_any (λ word. bytes_eq name.now word.now) names.now }
+{
+    names.iter().any(|word| name == *word)
+}
 
 /// Whether it is the name of a type that the language has built in.
 fn is_built_in(name: &[u8]) -> bool
     ensures { result ≡ is_built_in name.now }
 {
-    BUILT_IN.iter().any(|word| word.as_bytes() == name)
+    is_one_of(
+        name,
+        &[
+            b"Int",
+            b"Unsigned",
+            b"Bits",
+            b"Bool",
+            b"Unary",
+            b"Atom",
+            b"Void",
+            b"EventWindow",
+            b"Random",
+            b"Empty",
+        ],
+    )
 }
 
 /// The two sites of an element's swap, and the bytes after them.
