@@ -10,7 +10,7 @@ use crate::pieces::ReadFault;
 use crate::run::report_of;
 use crate::said::{Said, Stop};
 use crate::swapper::Element;
-use crate::world::{RawWorld, world};
+use crate::world::{Placed, RawWorld, world};
 use crate::Status;
 use feast_base::{LoadFault, NoMemory, Place, Refusal, Shelf, print_refusal};
 use std::alloc::Global;
@@ -53,6 +53,7 @@ fn not_built(alloc: Global, status: Status, word: &str) -> Stop
 }
 
 /// The stop at a load that failed.
+#[tactic(auto, unfolding(feast_base::specs::Refusals::refusal_line))]
 fn not_loaded(alloc: Global, word: &str, limit: u32, fault: LoadFault) -> Stop
     ensures { IsLoadStop word.now limit fault result }
 {
@@ -107,14 +108,18 @@ fn load_element<F: Shelf>(alloc: Global, shelf: &mut F, word: &str) -> Result<El
     }
 }
 
+/// Whether each of the atoms has this name.
+fn have_name(placed: &[Placed], name: &[u8]) -> bool
+    ensures { IsTrue result ↔ All (λ p. p.name ≡ name.now) placed.now }
+{
+    placed.iter().all(|p| p.name.bytes() == name)
+}
+
 /// Whether each atom line has the element's name.
 fn are_named(world: &RawWorld, element: &Element) -> bool
     ensures { IsTrue result ↔ AreNamed (world_value world.now) (element_value element.now) }
 {
-    world
-        .placed
-        .iter()
-        .all(|p| p.name.bytes() == element.name.bytes())
+    have_name(world.placed.as_slice(), element.name.bytes())
 }
 
 /// A run of the files of two words, from their stages to its report.
@@ -166,6 +171,7 @@ fn run_form(words: &[String]) -> Option<(&str, &str)>
 }
 
 /// The stages of the words.
+#[tactic(auto, unfolding(feast_base::specs::Refusals::refusal_line))]
 fn stages<F: Shelf>(alloc: Global, words: &[String], shelf: &mut F) -> Result<Said, Stop>
     ensures files { F.files shelf.new ≡ F.files shelf.old }
     ensures says { let s = setting (F.files shelf.old) (F.failed shelf.old) (F.failed shelf.new) (map string_bytes words.now) in

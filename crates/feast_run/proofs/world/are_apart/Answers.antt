@@ -1,6 +1,7 @@
 use Rattle.std.proofs.Common.{ℕ, ◌≡◌, ◌<◌, ◌*◌, ◌∙◌, List, ap, refl, sym, subst, length, get_or, map, arith, rules, true, false}
-use Rattle.std.proofs.lemmas.List.{length-map, get_or-map, get_or_default}
+use Rattle.std.proofs.lemmas.List.{length-map, get_or_default}
 use Rattle.std.specs.List.{AllPairs}
+use Rattle.feast_run.proofs.Entries.{entry_is}
 use Rattle.feast_run.proofs.Marks.{IsMarked, marked_none, marked_more, not_apart, all_apart, nobody, place_at}
 use Rattle.feast_run.specs.Values.{placed_value}
 use Rattle.feast_run.specs.World.{PlacedValue, IsPlaced, AreApart, place_in}
@@ -9,10 +10,6 @@ use Rattle.feast_run.proofs.world.are_apart.Goals as goal
 
 pub loop-entry-init : goal.loop-entry-init
 loop-entry-init c = marked_none c.args.width (c.args.width * c.args.height) (map placed_value c.args.placed.now) c.in-Ok.taken.items (search rules)
-
--- an entry, among the entries as values
-entry_is : (ps : List Placed) (k : ℕ) (p : Placed) → k < length ps → p ≡ get_or ps k p → get_or (map placed_value ps) k nobody ≡ placed_value p
-entry_is ps k p lt e = get_or-map placed_value ps k p nobody lt ∙ ap placed_value (sym e)
 
 pub place_of-place-requires : goal.place_of-place-requires
 place_of-place-requires c =

@@ -1,0 +1,7 @@
+use Rattle.std.proofs.Common.{ℕ, ◌≡◌, ◌++◌, ◌∷◌, [], codes, decimal, ap, sym, ◌∙◌, refl, List, arith}
+use Rattle.std.proofs.lemmas.Fmt.{decimal_digit}
+use Rattle.feast_base.specs.Appending.{Appends}
+use Rattle.feast_run.proofs.report.push_none_abandoned.Goals as goal
+
+pub returns : goal.returns
+returns c = let zero_text : decimal 0 ≡ 48 ∷ [] = decimal_digit 0 (omega arith) in rw zero_text c.push.ensures
