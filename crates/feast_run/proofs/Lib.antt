@@ -7,6 +7,8 @@ pub mod Fields
 pub mod Lines
 pub mod Loads
 pub mod Marks
+pub mod Once
+pub mod Promised
 pub mod Runs
 pub mod Windows
 pub mod Worlds

@@ -200,3 +200,9 @@ abbrev pub Ends : (List ℕ → Type 0) → Setting → (ℕ → Type 0) → Opt
 Ends may_fail s sink_may_fail written written' faults faults' SinkFault = Failed may_fail s sink_may_fail written written' faults faults'
 Ends may_fail s sink_may_fail written written' faults faults' NoMemory = Wanted may_fail s written written' faults faults'
 Ends may_fail s sink_may_fail written written' faults faults' status = Said may_fail s status written written' faults faults'
+
+-- a put of a text with a status, by the status that is answered: the same where all was put, else SinkFault
+abbrev pub Put : Status → List ℕ → (ℕ → Type 0) → Option (List ℕ) → Option (List ℕ) → ℕ → ℕ → Status → Type 0
+Put status text may written written' faults faults' answer =
+    ((answer ≡ status) × Grows written written' text × (faults' ≡ faults))
+    ⊎ ((answer ≡ SinkFault) × (front : List ℕ) × (rest : List ℕ) × (text ≡ front ++ rest) × Grows written written' front × (faults < faults') × may (length text))

@@ -5,6 +5,7 @@ pub mod Element
 pub mod Faults
 pub mod Grid
 pub mod Heads
+pub mod Promises
 pub mod Reading
 pub mod Report
 pub mod Run
