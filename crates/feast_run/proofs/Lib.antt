@@ -9,6 +9,7 @@ pub mod Loads
 pub mod Marks
 pub mod Once
 pub mod Promised
+pub mod Quiet
 pub mod Runs
 pub mod Windows
 pub mod Worlds

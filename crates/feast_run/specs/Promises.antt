@@ -1,5 +1,6 @@
 -- What a call promises, in the words of who calls it. Each follows from how a call ends.
-use Rattle.std.specs.Prelude.{ℕ, ◌≡◌, List, [], ◌∷◌, ◌++◌, Option, Some, None, ◌⊎◌}
+use Rattle.std.specs.Prelude.{ℕ, ◌≡◌, ◌≢◌, ◌≤◌, ◌-◌, length, List, [], ◌∷◌, ◌++◌, Option, Some, None, ◌⊎◌}
+use Rattle.feast_base.specs.Held.{LoadMayFail, ShelfHeld, SinkHeld}
 use Rattle.feast_base.specs.Outside.{File, file_of}
 use Rattle.feast_run.specs.Answer.{AreNamed, Comes, HasElement, HasWorld, IsRun, Setting, setting}
 use Rattle.feast_run.specs.Element.{ElementValue, Defines, after_swap}
@@ -48,3 +49,12 @@ Complete None failed failed' words faults faults' status = Unit {0}
 Complete (Some files) failed failed' words faults faults' status =
     (world element : List ℕ) (w : WorldValue) (e : ElementValue) → IsRun words world element → HasWorld (Some files) world w → HasElement (Some files) element e → AreNamed w e →
     failed' ≡ failed → faults' ≡ faults → (status ≡ Done) ⊎ (status ≡ NoMemory)
+
+-- over a shelf and a sink in memory: where no call is listed to fail, each file word has a file and there is room for
+-- whatever text the call comes to, no count rises; so neither SinkFault comes, nor a name is noted
+abbrev pub IsQuiet : ShelfHeld → ShelfHeld → SinkHeld → SinkHeld → List (List ℕ) → Status → Type 0
+IsQuiet shelf shelf' sink sink' words status =
+    shelf.fail ≡ [] → sink.fail ≡ [] →
+    ((world element : List ℕ) → IsRun words world element → (file_of world shelf.files ≢ None) × (file_of element shelf.files ≢ None)) →
+    ((right : Status) (text : List ℕ) → Comes (LoadMayFail shelf) (setting (Some shelf.files) shelf.failed shelf'.failed words) right text → length text ≤ sink.room - length sink.written) →
+    (shelf'.failed ≡ shelf.failed) × (sink'.faults ≡ sink.faults) × (status ≢ SinkFault)

@@ -5,6 +5,7 @@
 
 mod element;
 mod grid;
+mod memory;
 mod pieces;
 mod report;
 mod run;
@@ -15,5 +16,6 @@ mod swapper;
 mod top;
 mod world;
 
+pub use memory::feast_in_memory;
 pub use status::Status;
 pub use top::feast;
