@@ -49,6 +49,6 @@ element_comes may may' files failed failed' world element w status text has late
     elim h [
       | inl load ↦
           subst (λ (v : Status). Comes may s v text) (sym load.status_is)
-            (inr (record { world = world; element = element; form = refl; w = w; has_world = has; unread = unread_then may may' files failed failed' element element_limit text later load.unread }))
+          (inr (record { world = world; element = element; form = refl; w = w; has_world = has; unread = unread_then may may' files failed failed' element element_limit text later load.unread }))
       | inr bad ↦ subst (λ (v : Status). Comes may s v text) (sym bad.status_is) (record { world = world; element = element; form = refl; w = w; has_world = has; bad = bad.bad; kept = bad.kept; line = bad.line })
     ]

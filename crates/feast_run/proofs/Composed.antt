@@ -40,14 +40,14 @@ lines_none line body ok word [] [] rest after r split one begins none a b over =
 lines_none line body ok word [] (y ∷ ys) rest after r split one begins none a b over = λ e.
     none y (flat_map line ys ++ r) (All-head ok y ys b)
     (append_cancel_left word after (body y ++ (flat_map line ys ++ r))
-      (sym begins ∙ e ∙ append_assoc (line y) (flat_map line ys) r ∙ ap (λ v. v ++ (flat_map line ys ++ r)) (split y) ∙ append_assoc word (body y) (flat_map line ys ++ r)))
+    (sym begins ∙ e ∙ append_assoc (line y) (flat_map line ys) r ∙ ap (λ v. v ++ (flat_map line ys ++ r)) (split y) ∙ append_assoc word (body y) (flat_map line ys ++ r)))
 lines_none line body ok word (x ∷ xs) [] rest after r split one begins none a b over = λ e.
     over (body x ++ (flat_map line xs ++ rest))
     (sym e ∙ append_assoc (line x) (flat_map line xs) rest ∙ ap (λ v. v ++ (flat_map line xs ++ rest)) (split x) ∙ append_assoc word (body x) (flat_map line xs ++ rest))
 lines_none line body ok word (x ∷ xs) (y ∷ ys) rest after r split one begins none a b over = λ e.
     let bodies = append_cancel_left word (body x ++ (flat_map line xs ++ rest)) (body y ++ (flat_map line ys ++ r))
-      (sym (append_assoc (line x) (flat_map line xs) rest ∙ ap (λ v. v ++ (flat_map line xs ++ rest)) (split x) ∙ append_assoc word (body x) (flat_map line xs ++ rest))
-        ∙ e ∙ append_assoc (line y) (flat_map line ys) r ∙ ap (λ v. v ++ (flat_map line ys ++ r)) (split y) ∙ append_assoc word (body y) (flat_map line ys ++ r)) in
+    (sym (append_assoc (line x) (flat_map line xs) rest ∙ ap (λ v. v ++ (flat_map line xs ++ rest)) (split x) ∙ append_assoc word (body x) (flat_map line xs ++ rest))
+    ∙ e ∙ append_assoc (line y) (flat_map line ys) r ∙ ap (λ v. v ++ (flat_map line ys ++ r)) (split y) ∙ append_assoc word (body y) (flat_map line ys ++ r)) in
     let same = one x y (flat_map line xs ++ rest) (flat_map line ys ++ r) (All-head ok x xs a) (All-head ok y ys b) bodies in
     lines_none line body ok word xs ys rest after r split one begins none (All-tail ok x xs a) (All-tail ok y ys b) over same.1
 
@@ -62,8 +62,8 @@ lines_one line body ok word (x ∷ xs) [] r s split one a b over over' e =
     absurd (over' (body x ++ (flat_map line xs ++ r)) (sym e ∙ append_assoc (line x) (flat_map line xs) r ∙ ap (λ v. v ++ (flat_map line xs ++ r)) (split x) ∙ append_assoc word (body x) (flat_map line xs ++ r)))
 lines_one line body ok word (x ∷ xs) (y ∷ ys) r s split one a b over over' e =
     let bodies = append_cancel_left word (body x ++ (flat_map line xs ++ r)) (body y ++ (flat_map line ys ++ s))
-      (sym (append_assoc (line x) (flat_map line xs) r ∙ ap (λ v. v ++ (flat_map line xs ++ r)) (split x) ∙ append_assoc word (body x) (flat_map line xs ++ r))
-        ∙ e ∙ append_assoc (line y) (flat_map line ys) s ∙ ap (λ v. v ++ (flat_map line ys ++ s)) (split y) ∙ append_assoc word (body y) (flat_map line ys ++ s)) in
+    (sym (append_assoc (line x) (flat_map line xs) r ∙ ap (λ v. v ++ (flat_map line xs ++ r)) (split x) ∙ append_assoc word (body x) (flat_map line xs ++ r))
+    ∙ e ∙ append_assoc (line y) (flat_map line ys) s ∙ ap (λ v. v ++ (flat_map line ys ++ s)) (split y) ∙ append_assoc word (body y) (flat_map line ys ++ s)) in
     let same = one x y (flat_map line xs ++ r) (flat_map line ys ++ s) (All-head ok x xs a) (All-head ok y ys b) bodies in
     let more = lines_one line body ok word xs ys r s split one (All-tail ok x xs a) (All-tail ok y ys b) over over' same.1 in
     let heads : x ≡ y = same.0 in
@@ -77,9 +77,8 @@ pub lines_more : {V X : Type 0} (value : V → X) (line body : X → List ℕ) (
 lines_more value line body ok word found new v bytes rest after end split is valid text begins okv one =
     let all : map value new ≡ map value found ++ value v ∷ [] = ap (map value) is ∙ map-append value found (v ∷ []) in
     let lines : flat_map line (map value new) ≡ flat_map line (map value found) ++ line (value v) =
-    ap (flat_map line) all ∙ flat_map-append line (map value found) (value v ∷ []) ∙ ap (λ z. flat_map line (map value found) ++ z) (append-nil (line (value v))) in
-    (
+    ap (flat_map line) all ∙ flat_map-append line (map value found) (value v ∷ []) ∙ ap (λ z. flat_map line (map value found) ++ z) (append-nil (line (value v))) in (
       rw all (All-append ok (map value found) (value v ∷ []) valid (All-cons ok (value v) [] okv (λ k d lt. absurd (omega arith)))),
       text ∙ ap (λ z. flat_map line (map value found) ++ z) (begins ∙ ap (λ z. word ++ z) one ∙ sym (append_assoc word (body (value v)) end) ∙ ap (λ z. z ++ end) (sym (split (value v))))
-      ∙ sym (append_assoc (flat_map line (map value found)) (line (value v)) end) ∙ ap (λ z. z ++ end) (sym lines),
+          ∙ sym (append_assoc (flat_map line (map value found)) (line (value v)) end) ∙ ap (λ z. z ++ end) (sym lines),
     )

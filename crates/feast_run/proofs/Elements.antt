@@ -60,8 +60,7 @@ starts_one bytes rest v e starts h =
     let name = name_one 32 (omega arith) v.name e.name (body_text (v.a, v.b) ++ rest) after starts.named h.valid.named inside in
     let body = body_one (v.a, v.b) (e.a, e.b) rest (codes "; } }" ++ p.tail) starts.sites (h.valid.first, h.valid.second) name.1 in
     let first : v.a ≡ e.a = ap (λ (q : ℕ × ℕ). q.0) body.0 in
-    let second : v.b ≡ e.b = ap (λ (q : ℕ × ℕ). q.1) body.0 in
-    (
+    let second : v.b ≡ e.b = ap (λ (q : ℕ × ℕ). q.1) body.0 in (
       ap (λ n. record { name = n; a = v.a; b = v.b }) name.0 ∙ ap (λ n. record { name = e.name; a = n; b = v.b }) first ∙ ap (λ n. record { name = e.name; a = e.a; b = n }) second,
       ap is_tail body.1 ∙ p.ends,
     )

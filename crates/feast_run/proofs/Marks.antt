@@ -65,11 +65,10 @@ marked_more width count ps k i taken h is within free = record {
 
 -- atoms of one place are at one site
 site_of_place : (width : ℕ) (p q : PlacedValue) → p.x < width → q.x < width → place_in width p ≡ place_in width q → (p.x ≡ q.x) × (p.y ≡ q.y)
-site_of_place width p q a b e =
-    (
-      sym (mod-mul-add p.y width p.x a) ∙ ap (λ z. z % width) e ∙ mod-mul-add q.y width q.x b,
-      sym (div-mul-add p.y width p.x a) ∙ ap (λ z. z / width) e ∙ div-mul-add q.y width q.x b,
-    )
+site_of_place width p q a b e = (
+  sym (mod-mul-add p.y width p.x a) ∙ ap (λ z. z % width) e ∙ mod-mul-add q.y width q.x b,
+  sym (div-mul-add p.y width p.x a) ∙ ap (λ z. z / width) e ∙ div-mul-add q.y width q.x b,
+)
 
 -- an atom whose place is taken is at the site of an earlier one
 pub not_apart : (width height count : ℕ) (ps : List PlacedValue) (k : ℕ) (taken : List Bool) → IsMarked width count ps k taken → All (IsPlaced width height) ps → k < length ps →

@@ -43,23 +43,23 @@ field_one high fits = number_one 32 0 high (omega arith) (omega arith)
 pub try_one : (w h : ℕ) → w < 2 ^ 32 → h < 2 ^ 32 → IsOne try_rest (IsTry w h)
 try_one w h wf hf t u r s a b e =
     let p = field_one (w - 1) (omega arith) t.x u.x ((field_text t.y ++ hex_end 16 t.seed) ++ r) ((field_text u.y ++ hex_end 16 u.seed) ++ s) (omega arith, omega (arith, a.x_in)) (omega arith, omega (arith, b.x_in))
-      (sym (append_assoc (field_text t.x) (field_text t.y ++ hex_end 16 t.seed) r) ∙ e ∙ append_assoc (field_text u.x) (field_text u.y ++ hex_end 16 u.seed) s) in
+    (sym (append_assoc (field_text t.x) (field_text t.y ++ hex_end 16 t.seed) r) ∙ e ∙ append_assoc (field_text u.x) (field_text u.y ++ hex_end 16 u.seed) s) in
     let q = field_one (h - 1) (omega arith) t.y u.y (hex_end 16 t.seed ++ r) (hex_end 16 u.seed ++ s) (omega arith, omega (arith, a.y_in)) (omega arith, omega (arith, b.y_in))
-      (sym (append_assoc (field_text t.y) (hex_end 16 t.seed) r) ∙ p.1 ∙ append_assoc (field_text u.y) (hex_end 16 u.seed) s) in
+    (sym (append_assoc (field_text t.y) (hex_end 16 t.seed) r) ∙ p.1 ∙ append_assoc (field_text u.y) (hex_end 16 u.seed) s) in
     let k = seed_one t.seed u.seed r s a.seed_fits b.seed_fits q.1 in
     (ap (λ v. record { x = v; y = t.y; seed = t.seed }) p.0 ∙ ap (λ v. record { x = u.x; y = v; seed = t.seed }) q.0 ∙ ap (λ v. record { x = u.x; y = u.y; seed = v }) k.0, k.1)
 
 pub site_one : (w h : ℕ) → w < 2 ^ 32 → h < 2 ^ 32 → IsOne site_pair (IsSite w h)
 site_one w h wf hf t u r s a b e =
     let p = field_one (w - 1) (omega arith) t.0 u.0 (field_text t.1 ++ r) (field_text u.1 ++ s) (omega arith, omega (arith, a.0)) (omega arith, omega (arith, b.0))
-      (sym (append_assoc (field_text t.0) (field_text t.1) r) ∙ e ∙ append_assoc (field_text u.0) (field_text u.1) s) in
+    (sym (append_assoc (field_text t.0) (field_text t.1) r) ∙ e ∙ append_assoc (field_text u.0) (field_text u.1) s) in
     let q = field_one (h - 1) (omega arith) t.1 u.1 r s (omega arith, omega (arith, a.1)) (omega arith, omega (arith, b.1)) p.1 in
     (ap (λ v. (v, t.1)) p.0 ∙ ap (λ v. (u.0, v)) q.0, q.1)
 
 pub placed_one : (w h : ℕ) → w < 2 ^ 32 → h < 2 ^ 32 → IsOne placed_rest (IsPlaced w h)
 placed_one w h wf hf t u r s a b e =
     let site = site_one w h wf hf (t.x, t.y) (u.x, u.y) ((t.name ++ codes "\n") ++ r) ((u.name ++ codes "\n") ++ s) (a.x_in, a.y_in) (b.x_in, b.y_in)
-      (placed_split t r ∙ e ∙ sym (placed_split u s)) in
+    (placed_split t r ∙ e ∙ sym (placed_split u s)) in
     let name = name_one 10 (omega arith) t.name u.name r s a.named b.named site.1 in
     let xs : t.x ≡ u.x = ap (λ (v : ℕ × ℕ). v.0) site.0 in
     let ys : t.y ≡ u.y = ap (λ (v : ℕ × ℕ). v.1) site.0 in
@@ -92,21 +92,20 @@ pub world_one : (v w : WorldValue) (r s : List ℕ) → IsShaped v → IsShaped 
     NotFront (codes "atom ") r → NotFront (codes "atom ") s → world_text v ++ r ≡ world_text w ++ s → (v ≡ w) × (r ≡ s)
 world_one v w r s a b tried tried' over over' e =
     let head = head_one (v.width, v.height) (w.width, w.height) ((flat_map try_line v.tries ++ flat_map placed_line v.placed) ++ r) ((flat_map try_line w.tries ++ flat_map placed_line w.placed) ++ s)
-      (a.wide, a.not_wider, a.high, a.not_higher) (b.wide, b.not_wider, b.high, b.not_higher)
-      (sym (append_assoc (head_line (v.width, v.height)) (flat_map try_line v.tries ++ flat_map placed_line v.placed) r) ∙ e ∙ append_assoc (head_line (w.width, w.height)) (flat_map try_line w.tries ++ flat_map placed_line w.placed) s) in
+    (a.wide, a.not_wider, a.high, a.not_higher) (b.wide, b.not_wider, b.high, b.not_higher)
+    (sym (append_assoc (head_line (v.width, v.height)) (flat_map try_line v.tries ++ flat_map placed_line v.placed) r) ∙ e ∙ append_assoc (head_line (w.width, w.height)) (flat_map try_line w.tries ++ flat_map placed_line w.placed) s) in
     let wide : v.width ≡ w.width = ap (λ (p : ℕ × ℕ). p.0) head.0 in
     let high : v.height ≡ w.height = ap (λ (p : ℕ × ℕ). p.1) head.0 in
     let P : ℕ × ℕ → Type 0 = λ p. All (IsTry p.0 p.1) w.tries in
     let Q : ℕ × ℕ → Type 0 = λ p. All (IsPlaced p.0 p.1) w.placed in
     let tries = lines_one try_line try_rest (IsTry v.width v.height) (codes "try 0 ") v.tries w.tries (flat_map placed_line v.placed ++ r) (flat_map placed_line w.placed ++ s)
-      (λ t. refl) (try_one v.width v.height (omega (arith, a.not_wider)) (omega (arith, a.not_higher))) a.tries (subst P (sym head.0) b.tries)
-      tried tried'
-      (sym (append_assoc (flat_map try_line v.tries) (flat_map placed_line v.placed) r) ∙ head.1 ∙ append_assoc (flat_map try_line w.tries) (flat_map placed_line w.placed) s) in
+    (λ t. refl) (try_one v.width v.height (omega (arith, a.not_wider)) (omega (arith, a.not_higher))) a.tries (subst P (sym head.0) b.tries)
+    tried tried'
+    (sym (append_assoc (flat_map try_line v.tries) (flat_map placed_line v.placed) r) ∙ head.1 ∙ append_assoc (flat_map try_line w.tries) (flat_map placed_line w.placed) s) in
     let placed = lines_one placed_line placed_rest (IsPlaced v.width v.height) (codes "atom ") v.placed w.placed r s
-      (λ t. refl) (placed_one v.width v.height (omega (arith, a.not_wider)) (omega (arith, a.not_higher))) a.placed (subst Q (sym head.0) b.placed) over over' tries.1 in
-    (
+    (λ t. refl) (placed_one v.width v.height (omega (arith, a.not_wider)) (omega (arith, a.not_higher))) a.placed (subst Q (sym head.0) b.placed) over over' tries.1 in (
       ap (λ n. record { width = n; height = v.height; tries = v.tries; placed = v.placed }) wide ∙ ap (λ n. record { width = w.width; height = n; tries = v.tries; placed = v.placed }) high
-      ∙ ap (λ ts. record { width = w.width; height = w.height; tries = ts; placed = v.placed }) tries.0 ∙ ap (λ ps. record { width = w.width; height = w.height; tries = w.tries; placed = ps }) placed.0,
+          ∙ ap (λ ts. record { width = w.width; height = w.height; tries = ts; placed = v.placed }) tries.0 ∙ ap (λ ps. record { width = w.width; height = w.height; tries = w.tries; placed = ps }) placed.0,
       placed.1,
     )
 
@@ -127,7 +126,7 @@ no_atoms bytes rest after h ts valid text found none w says =
     let Q : ℕ × ℕ → Type 0 = λ p. All (IsPlaced p.0 p.1) w.placed in
     let head = head_one h (w.width, w.height) rest (flat_map try_line w.tries ++ flat_map placed_line w.placed) valid (b.wide, b.not_wider, b.high, b.not_higher) (sym text ∙ says.text) in
     let tries = lines_one try_line try_rest (IsTry h.0 h.1) (codes "try 0 ") ts w.tries after (flat_map placed_line w.placed) (λ t. refl)
-      (try_one h.0 h.1 (omega (arith, valid.1)) (omega (arith, valid.3))) found.valid (subst P (sym head.0) b.tries) found.over (placed_no_try w.placed) (sym found.text ∙ head.1) in
+    (try_one h.0 h.1 (omega (arith, valid.1)) (omega (arith, valid.3))) found.valid (subst P (sym head.0) b.tries) found.over (placed_no_try w.placed) (sym found.text ∙ head.1) in
     none w.placed [] (subst Q (sym head.0) b.placed) (nothing_no_word 97 (codes "tom ")) (tries.1 ∙ sym (append-nil (flat_map placed_line w.placed)))
 
 -- a world with which the bytes begin, and one that they say, are one, and nothing follows

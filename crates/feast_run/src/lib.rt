@@ -19,3 +19,6 @@ mod world;
 pub use memory::feast_in_memory;
 pub use status::Status;
 pub use top::feast;
+
+#[cfg(test)]
+mod tests;

@@ -5,13 +5,13 @@ ghost use Rattle.feast_run.specs.Answer.{AreNamed, Comes, HasElement, HasWorld, 
 ghost use Rattle.feast_run.specs.Stops.{IsLoadStop, IsStop, LoadStop, Stops, StopsElement, StopsWorld};
 ghost use Rattle.feast_run.specs.Values.{element_value, world_value};
 
+use crate::Status;
 use crate::element::element;
 use crate::pieces::ReadFault;
 use crate::run::report_of;
 use crate::said::{Said, Stop};
 use crate::swapper::Element;
 use crate::world::{Placed, RawWorld, world};
-use crate::Status;
 use feast_base::{LoadFault, NoMemory, Place, Refusal, Shelf, print_refusal};
 use std::alloc::Global;
 
@@ -59,13 +59,23 @@ fn not_loaded(alloc: Global, word: &str, limit: u32, fault: LoadFault) -> Stop
 {
     match fault {
         LoadFault::Failed => refused(alloc, Status::Unreadable, word, &whole_file(1, 0)),
-        LoadFault::TooLong => refused(alloc, Status::Unreadable, word, &whole_file(2, limit as u64)),
+        LoadFault::TooLong => refused(
+            alloc,
+            Status::Unreadable,
+            word,
+            &whole_file(2, limit as u64),
+        ),
         LoadFault::NoMemory => Stop::NoMemory,
     }
 }
 
 /// Loads a file of at most `limit` bytes.
-fn load_file<F: Shelf>(alloc: Global, shelf: &mut F, word: &str, limit: u32) -> Result<Vec<u8>, Stop>
+fn load_file<F: Shelf>(
+    alloc: Global,
+    shelf: &mut F,
+    word: &str,
+    limit: u32,
+) -> Result<Vec<u8>, Stop>
     ensures files { F.files shelf.new ≡ F.files shelf.old }
     ensures later { (n : List ℕ) → F.may_fail shelf.new n → F.may_fail shelf.old n }
     ensures loads { MatchResult result (λ bytes. (F.failed shelf.new ≡ F.failed shelf.old) × Loaded (F.files shelf.old) word.now limit bytes.items)

@@ -172,12 +172,7 @@ fn place_of(entry: &Placed, width: u32, height: u32) -> usize
 }
 
 /// Whether no two of the atoms are at one site. `NoMemory` where a mark for each site wants it.
-fn are_apart(
-    alloc: Global,
-    placed: &[Placed],
-    width: u32,
-    height: u32,
-) -> Result<bool, NoMemory>
+fn are_apart(alloc: Global, placed: &[Placed], width: u32, height: u32) -> Result<bool, NoMemory>
     requires within { All (IsPlaced width height) (map placed_value placed.now) }
     requires small { (width ≤ 64) × (height ≤ 64) }
     ensures { IfOk result (λ b. IsTrue b ↔ AllPairs AreApart (map placed_value placed.now)) }

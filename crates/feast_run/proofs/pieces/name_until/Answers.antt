@@ -8,4 +8,4 @@ pub returns-then-not-is_type_name : goal.returns-then-not-is_type_name
 returns-then-not-is_type_name c =
     let field = c.in-Some.ensures in
     field_none (λ name. name) IsName c.args.end c.args.bytes.now c.in-Some.text.now c.in-Some.rest.now field.0 field.1
-      (λ name named. name-lacks name c.args.end c.requires named) (λ name named e. let same = ap is_type_name e in cc)
+    (λ name named. name-lacks name c.args.end c.requires named) (λ name named e. let same = ap is_type_name e in cc)

@@ -8,4 +8,4 @@ returns-in_err-value c =
     let field = c.in_ok-digits.ensures in
     answers_none _ _ _ c.from_residual-in_err-value.ensures
     (field_none decimal (IsIn c.args.low c.args.high) c.args.end c.args.bytes.now c.in_ok-digits.digits.now c.in_ok-digits.rest.now field.0 field.1
-      (λ n within. let small : n < 2 ^ 64 = omega arith in decimal-lacks n c.args.end small c.requires) c.in_err-value.ensures)
+    (λ n within. let small : n < 2 ^ 64 = omega arith in decimal-lacks n c.args.end small c.requires) c.in_err-value.ensures)

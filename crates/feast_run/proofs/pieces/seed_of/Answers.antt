@@ -36,5 +36,5 @@ loop-i-preserved c =
 pub returns-in_err-digit : goal.returns-in_err-digit
 returns-in_err-digit c =
     answers_none _ _ _ c.from_residual.ensures (λ n fits e.
-      let p = hex_glyph 16 n c.loop-i.i (omega arith) in
-      c.in_err-digit.ensures p.0 p.1.0 (ap (λ z. get_or z c.loop-i.i 0) e ∙ p.1.1))
+    let p = hex_glyph 16 n c.loop-i.i (omega arith) in
+    c.in_err-digit.ensures p.0 p.1.0 (ap (λ z. get_or z c.loop-i.i 0) e ∙ p.1.1))

@@ -9,4 +9,4 @@ returns-in_err-value c =
     let field = c.in_ok-digits.ensures in
     answers_none _ _ _ c.from_residual-in_err-value.ensures
     (field_none (hex 16) IsSeed 10 c.args.bytes.now c.in_ok-digits.digits.now c.in_ok-digits.rest.now field.0 field.1
-      (λ n fits. hex-lacks 16 n 10 (omega arith)) c.in_err-value.ensures)
+    (λ n fits. hex-lacks 16 n 10 (omega arith)) c.in_err-value.ensures)

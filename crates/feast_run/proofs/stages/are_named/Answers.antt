@@ -17,8 +17,7 @@ returns c =
     let ps = c.args.world.now.placed.items in
     let name = c.args.element.now.name in
     let items = c.as_slice.ensures.value in
-    let named = c.bytes.ensures in
-    (
+    let named = c.bytes.ensures in (
       λ yes. All-map (λ (p : PlacedValue). p.name ≡ name) placed_value ps (rw (← items, ← named) (c.have_name.ensures.0 yes)),
       λ all. c.have_name.ensures.1 (rw (items, named) (unmapped ps name all)),
     )

@@ -21,5 +21,5 @@ returns-in_err-element-clause-says g c =
     let reads = rw (files, kept) at c.in_err-element.ensures.reads in
     answers_stop _ _ _ _ _ _ _ c.from_residual-in_err-element.ensures.1
     (λ status text. element_comes (g.F.Shelf.may_fail old) (g.F.Shelf.may_fail mid) (g.F.Shelf.files old) (g.F.Shelf.failed old) (g.F.Shelf.failed new) c.args.world_word.now c.args.element_word.now
-      (world_value c.in_ok-world.world) status text has c.in_ok-world.ensures.later)
+    (world_value c.in_ok-world.world) status text has c.in_ok-world.ensures.later)
     (λ same. same) reads

@@ -29,8 +29,7 @@ returns-then-index c =
     let count = c.loop-entry.invariant.whole in
     let inside : c.place_of-place.result < length c.loop-entry.taken.items = omega (arith, count, c.place_of-place.ensures.inside) in
     let mark : get_or c.loop-entry.taken.items c.place_of-place.result false ≡ true =
-    get_or_default c.loop-entry.taken.items c.place_of-place.result false c.index.result.now inside ∙ sym c.index.ensures ∙ c.if-index.true in
-    (
+    get_or_default c.loop-entry.taken.items c.place_of-place.result false c.index.result.now inside ∙ sym c.index.ensures ∙ c.if-index.true in (
       λ no. cc,
       λ apart. absurd (not_apart c.args.width c.args.height _ (map placed_value ps) i c.loop-entry.taken.items c.loop-entry.invariant c.requires.within few (ap (λ (n : ℕ). get_or c.loop-entry.taken.items n false) (sym place) ∙ mark) apart),
     )

@@ -19,7 +19,7 @@ returns-in_err-tries c =
     let head = c.in-Some.ensures in
     answers_other _ _ _ _ _ c.from_residual.ensures.1
     (λ (none : NoLines try_line (IsTry c.in-Some.size.width c.in-Some.size.height) (codes "try 0 ") c.in-Some.rest.now) w says.
-      no_tries c.args.bytes.now c.in-Some.rest.now h head.0 head.1 none w says)
+    no_tries c.args.bytes.now c.in-Some.rest.now h head.0 head.1 none w says)
     c.in_err-tries.ensures
 
 pub returns-in_err-placed : goal.returns-in_err-placed
@@ -28,5 +28,5 @@ returns-in_err-placed c =
     let head = c.in-Some.ensures in
     answers_other _ _ _ _ _ c.from_residual-in_err-placed.ensures.1
     (λ (none : NoLines placed_line (IsPlaced c.in-Some.size.width c.in-Some.size.height) (codes "atom ") c.in_ok-tries.rest.now) w says.
-      no_atoms c.args.bytes.now c.in-Some.rest.now c.in_ok-tries.rest.now h (map try_value c.in_ok-tries.tries.items) head.0 head.1 c.in_ok-tries.ensures none w says)
+    no_atoms c.args.bytes.now c.in-Some.rest.now c.in_ok-tries.rest.now h (map try_value c.in_ok-tries.tries.items) head.0 head.1 c.in_ok-tries.ensures none w says)
     c.in_err-placed.ensures

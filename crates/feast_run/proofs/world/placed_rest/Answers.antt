@@ -13,7 +13,7 @@ returns-in_default c =
     let w = c.args.width in
     let h = c.args.height in
     first_none site_pair (IsSite w h) placed_rest (IsPlaced w h) (λ p. (p.x, p.y)) (λ p. p.name ++ codes "\n") c.args.bytes.now
-      (λ p. sym (append_assoc (field_text p.x) (field_text p.y) (p.name ++ codes "\n"))) (λ p v. (v.x_in, v.y_in)) c.in_default.ensures
+    (λ p. sym (append_assoc (field_text p.x) (field_text p.y) (p.name ++ codes "\n"))) (λ p v. (v.x_in, v.y_in)) c.in_default.ensures
 
 pub returns-in_err-name : goal.returns-in_err-name
 returns-in_err-name c =
@@ -22,7 +22,7 @@ returns-in_err-name c =
     let site = c.in-Some.ensures in
     answers_other _ _ _ _ _ c.from_residual.ensures.1
     (λ (none : NoText (name_end 10) IsName c.in-Some.rest.now).
-      then_none site_pair (IsSite w h) placed_rest (IsPlaced w h) (λ p. (p.x, p.y)) (λ p. p.name ++ codes "\n") (c.in-Some.x, c.in-Some.y) c.args.bytes.now c.in-Some.rest.now
-        (site_one w h (omega arith) (omega arith)) (λ p. sym (append_assoc (field_text p.x) (field_text p.y) (p.name ++ codes "\n"))) (λ p v. (v.x_in, v.y_in)) site.0 site.1
-        (λ p r v. none p.name r v.named))
+    then_none site_pair (IsSite w h) placed_rest (IsPlaced w h) (λ p. (p.x, p.y)) (λ p. p.name ++ codes "\n") (c.in-Some.x, c.in-Some.y) c.args.bytes.now c.in-Some.rest.now
+    (site_one w h (omega arith) (omega arith)) (λ p. sym (append_assoc (field_text p.x) (field_text p.y) (p.name ++ codes "\n"))) (λ p v. (v.x_in, v.y_in)) site.0 site.1
+    (λ p r v. none p.name r v.named))
     c.in_err-name.ensures

@@ -14,5 +14,5 @@ returns-in_err-y c =
     let h = c.args.height in
     answers_none _ _ _ c.from_residual-in_err-y.ensures
     (then_none (number_end 32) (IsIn 0 (w - 1)) site_pair (IsSite w h) (λ t. t.0) (λ t. field_text t.1) c.in_ok-x.x c.args.bytes.now c.in_ok-x.rest.now
-      (field_one (w - 1) (omega arith)) (λ t. refl) (λ t v. (omega arith, omega (arith, v.0))) x.0 x.1
-      (λ t r v. c.in_err-y.ensures t.1 r (omega arith, omega (arith, v.1))))
+    (field_one (w - 1) (omega arith)) (λ t. refl) (λ t v. (omega arith, omega (arith, v.0))) x.0 x.1
+    (λ t r v. c.in_err-y.ensures t.1 r (omega arith, omega (arith, v.1))))

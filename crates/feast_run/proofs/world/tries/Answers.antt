@@ -11,4 +11,4 @@ returns-in_default-try_rest c = λ ts r valid over e.
     let h = c.args.height in
     let found = c.loop-line.invariant in
     lines_none try_line try_rest (IsTry w h) (codes "try 0 ") (map try_value c.loop-line.found.items) ts c.loop-line.rest.now c.in-Some.line.now r
-      (λ t. refl) (try_one w h (omega arith) (omega arith)) c.in-Some.ensures c.in_default-try_rest.ensures found.valid valid over (sym found.text ∙ e)
+    (λ t. refl) (try_one w h (omega arith) (omega arith)) c.in-Some.ensures c.in_default-try_rest.ensures found.valid valid over (sym found.text ∙ e)

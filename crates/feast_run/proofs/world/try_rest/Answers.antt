@@ -14,9 +14,9 @@ returns-in_err-y c =
     let h = c.args.height in
     answers_none _ _ _ c.from_residual-in_err-y.ensures
     (then_none (number_end 32) (IsIn 0 (w - 1)) try_rest (IsTry w h) (λ t. t.x) (λ t. field_text t.y ++ hex_end 16 t.seed) c.in_ok-x.x c.args.bytes.now c.in_ok-x.rest.now
-      (field_one (w - 1) (omega arith)) (λ t. refl) (λ t v. (omega arith, omega (arith, v.x_in))) x.0 x.1
-      (first_none (number_end 32) (IsIn 0 (h - 1)) (λ t. field_text t.y ++ hex_end 16 t.seed) (IsTry w h) (λ t. t.y) (λ t. hex_end 16 t.seed) c.in_ok-x.rest.now
-        (λ t. refl) (λ t v. (omega arith, omega (arith, v.y_in))) c.in_err-y.ensures))
+    (field_one (w - 1) (omega arith)) (λ t. refl) (λ t v. (omega arith, omega (arith, v.x_in))) x.0 x.1
+    (first_none (number_end 32) (IsIn 0 (h - 1)) (λ t. field_text t.y ++ hex_end 16 t.seed) (IsTry w h) (λ t. t.y) (λ t. hex_end 16 t.seed) c.in_ok-x.rest.now
+    (λ t. refl) (λ t v. (omega arith, omega (arith, v.y_in))) c.in_err-y.ensures))
 
 pub returns-in_err-seed : goal.returns-in_err-seed
 returns-in_err-seed c =
@@ -26,7 +26,7 @@ returns-in_err-seed c =
     let h = c.args.height in
     answers_none _ _ _ c.from_residual-in_err-seed.ensures
     (then_none (number_end 32) (IsIn 0 (w - 1)) try_rest (IsTry w h) (λ t. t.x) (λ t. field_text t.y ++ hex_end 16 t.seed) c.in_ok-x.x c.args.bytes.now c.in_ok-x.rest.now
-      (field_one (w - 1) (omega arith)) (λ t. refl) (λ t v. (omega arith, omega (arith, v.x_in))) x.0 x.1
-      (then_none (number_end 32) (IsIn 0 (h - 1)) (λ t. field_text t.y ++ hex_end 16 t.seed) (IsTry w h) (λ t. t.y) (λ t. hex_end 16 t.seed) c.in_ok-y.y c.in_ok-x.rest.now c.in_ok-y.rest.now
-        (field_one (h - 1) (omega arith)) (λ t. refl) (λ t v. (omega arith, omega (arith, v.y_in))) y.0 y.1
-        (λ t r v. c.in_err-seed.ensures t.seed r v.seed_fits)))
+    (field_one (w - 1) (omega arith)) (λ t. refl) (λ t v. (omega arith, omega (arith, v.x_in))) x.0 x.1
+    (then_none (number_end 32) (IsIn 0 (h - 1)) (λ t. field_text t.y ++ hex_end 16 t.seed) (IsTry w h) (λ t. t.y) (λ t. hex_end 16 t.seed) c.in_ok-y.y c.in_ok-x.rest.now c.in_ok-y.rest.now
+    (field_one (h - 1) (omega arith)) (λ t. refl) (λ t v. (omega arith, omega (arith, v.y_in))) y.0 y.1
+    (λ t r v. c.in_err-seed.ensures t.seed r v.seed_fits)))
