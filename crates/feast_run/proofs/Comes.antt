@@ -1,14 +1,14 @@
 -- From what the stages say to what a call comes to say.
-use Rattle.std.proofs.Common.{ℕ, ◌≡◌, ◌∙◌, List, [], ◌∷◌, ◌++◌, codes, Option, Result, Ok, Err, refl, sym, subst, ◌⊎◌, inl, inr, ap}
+use Rattle.std.proofs.Common.{ℕ, ◌≡◌, List, [], ◌∷◌, codes, Option, Result, Ok, Err, refl, sym, subst, inl, inr}
 use Rattle.std.specs.Result.{MatchResult, IsErrAnd}
 use Rattle.feast_base.specs.Outside.{File}
-use Rattle.feast_run.specs.Answer.{Comes, HasWorld, Missing, TooLong, Unread, Setting, setting, world_limit, element_limit}
-use Rattle.feast_run.specs.Stops.{Stops, LoadStop, WorldStop, ElementStop, StopsWorld, StopsElement}
+use Rattle.feast_run.specs.Answer.{Comes, HasWorld, Unread, setting, element_limit}
+use Rattle.feast_run.specs.Stops.{Stops, StopsWorld, StopsElement}
 use Rattle.feast_run.specs.World.{WorldValue}
 use Rattle.feast_run.specs.declared.said.Stop.{Stop}
 use Rattle.feast_run.specs.declared.said.Stop.TheVariants.{Refused, NoMemory}
 use Rattle.feast_run.specs.declared.status.Status.{Status}
-use Rattle.feast_run.specs.declared.status.Status.TheVariants.{Unreadable, ElementRefused, WorldRefused}
+use Rattle.feast_run.specs.declared.status.Status.TheVariants.{Unreadable}
 
 -- what follows from a stop, in place of it
 pub stops_then : (P Q : Status → List ℕ → Type 0) (kept kept' : Type 0) (stop : Stop) → ((s : Status) (t : List ℕ) → P s t → Q s t) → (kept → kept') → Stops P kept stop → Stops Q kept' stop

@@ -1,11 +1,11 @@
 -- Texts that are made of parts: where one part is missing, so is the whole; where each part is one alone, so is the whole.
-use Rattle.std.proofs.Common.{ℕ, zero, suc, ◌≡◌, ◌≢◌, ◌+◌, ◌-◌, ◌*◌, ◌/◌, ◌%◌, ◌^◌, ◌<◌, ◌≤◌, List, [], ◌∷◌, ◌++◌, All, refl, ap, sym, ◌∙◌, append_assoc, map, length, arith}
+use Rattle.std.proofs.Common.{ℕ, ◌≡◌, ◌≢◌, List, [], ◌∷◌, ◌++◌, All, refl, ap, sym, ◌∙◌, append_assoc, map, arith}
 use Rattle.std.specs.List.{flat_map}
 use Rattle.std.proofs.lemmas.Grind.{flat_map-append}
 use Rattle.std.proofs.lemmas.List.{append_cancel_left, append-nil, map-append}
 use Rattle.std.proofs.lemmas.List.Elements.{All-head, All-tail, All-append, All-cons}
 use Rattle.feast_run.proofs.Fields.{IsOne}
-use Rattle.feast_run.specs.Reading.{NoText, NotFront, NoLines}
+use Rattle.feast_run.specs.Reading.{NoText, NotFront}
 
 -- no front of the kind, so no whole that begins with one
 pub first_none : {X Z : Type 0} (f : X → List ℕ) (okf : X → Type 0) (whole : Z → List ℕ) (ok : Z → Type 0) (p : Z → X) (after : Z → List ℕ) (bytes : List ℕ) →

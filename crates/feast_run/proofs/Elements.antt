@@ -1,12 +1,12 @@
 -- The parts of an element's text: each is one alone.
-use Rattle.std.proofs.Common.{ℕ, ◌≡◌, ◌≢◌, ◌≤◌, ◌<◌, Bool, true, false, ◌||◌, List, [], ◌∷◌, ◌++◌, codes, decimal, refl, ap, sym, ◌∙◌, append_assoc, arith, ◌⊎◌, inl, inr}
+use Rattle.std.proofs.Common.{ℕ, ◌≡◌, Bool, true, false, ◌||◌, List, [], ◌++◌, codes, decimal, refl, ap, sym, ◌∙◌, append_assoc, arith, ◌⊎◌, inl, inr}
 use Rattle.std.specs.Str.{bytes_eq}
 use Rattle.std.proofs.lemmas.List.{append_cancel_left, append-nil}
 use Rattle.std.proofs.lemmas.Slice.Eq.{bytes_eq-Decides}
 use Rattle.feast_run.proofs.Fields.{IsOne, number_one, name_one}
 use Rattle.feast_run.specs.Bodies.{body_text, IsBody, is_tail, Starts}
 use Rattle.feast_run.specs.Element.{ElementValue, Defines, element_line}
-use Rattle.feast_run.specs.Reading.{NoText, IsName, name_end, number_end, IsIn}
+use Rattle.feast_run.specs.Reading.{NoText, IsName, name_end}
 
 -- an element's text as its parts, up to its two sites, and then a tail
 pub element_parts : (e : ElementValue) (tail : List ℕ) →

@@ -1,9 +1,7 @@
 -- A field of a line: its bytes have not the byte that ends it, so it is one alone.
-use Rattle.std.proofs.Common.{ℕ, zero, suc, ◌≡◌, ◌≢◌, ◌+◌, ◌-◌, ◌*◌, ◌/◌, ◌%◌, ◌^◌, ◌<◌, ◌≤◌, Bool, true, false, ◌&&◌, ◌||◌, List, [], ◌∷◌, ◌++◌, All, length, get_or, decimal, refl, ap, sym, ◌∙◌, append_assoc, arith, nat_le, eqb, cond, Option, Some, None}
+use Rattle.std.proofs.Common.{ℕ, zero, suc, ◌≡◌, ◌≢◌, ◌+◌, ◌*◌, ◌/◌, ◌%◌, ◌^◌, ◌<◌, ◌≤◌, Bool, true, false, ◌&&◌, List, [], ◌∷◌, ◌++◌, length, get_or, decimal, refl, sym, ◌∙◌, append_assoc, arith, nat_le, Option, Some, None}
 use Rattle.std.specs.Option.{MatchOption}
 use Rattle.std.specs.List.{list_all}
-use Rattle.std.specs.Str.Parse.{AllDigits}
-use Rattle.std.proofs.lemmas.Bool.{leb-true}
 use Rattle.std.proofs.lemmas.Fmt.{decimal_is_IsNumeral, decimal_injective}
 use Rattle.std.proofs.lemmas.List.{get_or_default}
 use Rattle.std.proofs.lemmas.List.Elements.{All-head, All-tail, All-cons}
@@ -11,9 +9,8 @@ use Rattle.std.proofs.lemmas.Str.Parse.{digit_at}
 use Rattle.std.proofs.Math.Nat.{pow-le-pow_right}
 use Rattle.feast_base.specs.Digits.{glyph, hex}
 use Rattle.feast_base.proofs.Digits.{hex_small}
-use Rattle.feast_run.specs.Reading.{Lacks, NoText, number_end, name_end, IsIn, IsName, IsSeed}
-use Rattle.feast_run.specs.Report.{hex_end}
-use Rattle.feast_run.specs.World.{is_upper, is_word_byte, is_type_name}
+use Rattle.feast_run.specs.Reading.{Lacks, NoText, number_end, name_end, IsIn, IsName}
+use Rattle.feast_run.specs.World.{is_upper, is_word_byte}
 
 -- a kind of text of which one alone stands at the front of some bytes
 abbrev pub IsOne : {X : Type 0} → (X → List ℕ) → (X → Type 0) → Type 0

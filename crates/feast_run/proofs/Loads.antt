@@ -1,13 +1,10 @@
 -- What a stage of loading says, from what the shelf says.
-use Rattle.std.proofs.Common.{ℕ, ◌≡◌, ◌∙◌, List, [], ◌∷◌, ◌++◌, All, map, length, get_or, Option, Err, refl, sym, subst, ◌⊎◌, inl, inr, ◌<◌, arith, ap}
-use Rattle.std.specs.Result.{IsErrOf}
-use Rattle.std.proofs.lemmas.List.{get_or-map, length-map}
+use Rattle.std.proofs.Common.{ℕ, ◌≡◌, List, Option, Err, refl, inl, inr}
 use Rattle.feast_base.specs.Outside.{File}
 use Rattle.feast_base.specs.Loading.{Loads}
 use Rattle.feast_base.specs.Refusals.{unreadable_line}
 use Rattle.feast_base.specs.declared.shelf.LoadFault.{LoadFault}
 use Rattle.feast_base.specs.declared.shelf.LoadFault.TheVariants as fault
-use Rattle.feast_run.specs.Answer.{Missing, TooLong}
 use Rattle.feast_run.specs.Stops.{Stops, IsLoadStop, LoadStop}
 use Rattle.feast_run.specs.declared.said.Stop.{Stop}
 use Rattle.feast_run.specs.declared.said.Stop.TheVariants.{Refused, NoMemory}

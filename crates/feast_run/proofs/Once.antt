@@ -1,9 +1,9 @@
 -- Where files are told, a call comes to one status alone.
-use Rattle.std.proofs.Common.{ℕ, ◌≡◌, ◌∙◌, ◌+◌, ◌<◌, ◌≤◌, List, [], ◌∷◌, ◌++◌, length, codes, get_or, Option, Some, None, refl, sym, subst, ◌⊎◌, inl, inr, ap, arith, length-append}
-use Rattle.feast_base.specs.Outside.{File, file_of, TellsBytes, TellsLonger}
+use Rattle.std.proofs.Common.{ℕ, ◌≡◌, ◌∙◌, List, [], ◌∷◌, ◌++◌, length, get_or, Some, refl, sym, subst, ◌⊎◌, inl, inr, ap, arith, length-append}
+use Rattle.feast_base.specs.Outside.{File, TellsLonger}
 use Rattle.feast_run.proofs.Elements.{defines_one}
 use Rattle.feast_run.proofs.Worlds.{says_one}
-use Rattle.feast_run.specs.Answer.{AreNamed, Comes, ElementBad, ElementUnread, HasElement, HasNoForm, HasWorld, IsRun, Loaded, Missing, NameBad, NoElement, NoWorld, Ran, Setting, TooLong, Unread, WorldBad, WorldUnread, setting, world_limit, element_limit}
+use Rattle.feast_run.specs.Answer.{AreNamed, Comes, ElementBad, ElementUnread, HasElement, HasNoForm, HasWorld, IsRun, Loaded, NameBad, NoElement, NoWorld, Ran, Setting, Unread, WorldBad, WorldUnread, setting, world_limit, element_limit}
 use Rattle.feast_run.specs.Element.{ElementValue, Defines}
 use Rattle.feast_run.specs.World.{WorldValue, Says}
 use Rattle.feast_run.specs.declared.status.Status.{Status}

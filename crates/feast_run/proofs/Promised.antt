@@ -1,13 +1,11 @@
 -- From how a call ends to what it promises.
-use Rattle.std.proofs.Common.{ℕ, ◌≡◌, ◌∙◌, ◌+◌, ◌<◌, ◌≤◌, List, [], ◌∷◌, ◌++◌, length, codes, decimal, Option, Some, None, refl, sym, subst, ◌⊎◌, inl, inr, ap, arith, length-append}
-use Rattle.feast_base.specs.Outside.{File, Grows}
+use Rattle.std.proofs.Common.{ℕ, ◌≡◌, ◌∙◌, ◌<◌, List, ◌∷◌, ◌++◌, length, Option, Some, None, refl, inl, inr, ap, arith, length-append}
+use Rattle.feast_base.specs.Outside.{File}
 use Rattle.feast_base.specs.Refusals.{refusal_line, unreadable_line, longer_line, usage_line}
 use Rattle.feast_run.proofs.Once.{comes_one}
-use Rattle.feast_run.specs.Answer.{AreNamed, Comes, Ends, HasElement, HasWorld, IsRun, Said, Setting, setting, not_built, not_built_line}
-use Rattle.feast_run.specs.Element.{ElementValue}
+use Rattle.feast_run.specs.Answer.{Comes, Ends, Setting, setting, not_built_line}
 use Rattle.feast_run.specs.Promises.{Complete, Exactly, Headline, UsageExactly}
 use Rattle.feast_run.specs.Run.{run_report}
-use Rattle.feast_run.specs.World.{WorldValue}
 use Rattle.feast_run.specs.declared.status.Status.{Status}
 use Rattle.feast_run.specs.declared.status.Status.TheVariants.{Done, Usage, Unreadable, ElementRefused, WorldRefused, JournalRefused, SinkFault, NoMemory}
 

@@ -1,8 +1,8 @@
 -- Over a shelf and a sink in memory that have no reason to fail, no count rises.
-use Rattle.std.proofs.Common.{ℕ, ◌≡◌, ◌≢◌, ◌∙◌, ◌+◌, ◌-◌, ◌<◌, ◌≤◌, List, [], ◌∷◌, ◌++◌, length, Option, Some, None, refl, sym, subst, ◌⊎◌, inl, inr, ap, arith}
+use Rattle.std.proofs.Common.{ℕ, ◌≡◌, ◌≢◌, ◌-◌, ◌≤◌, List, [], length, Some, None, inl, inr, ap, arith}
 use Rattle.feast_base.specs.Held.{LoadMayFail, PutMayFail, ShelfHeld, SinkHeld}
-use Rattle.feast_base.specs.Outside.{File, file_of}
-use Rattle.feast_run.specs.Answer.{Comes, Ends, IsRun, Setting, Unread, setting}
+use Rattle.feast_base.specs.Outside.{file_of}
+use Rattle.feast_run.specs.Answer.{Comes, Ends, IsRun, setting}
 use Rattle.feast_run.specs.Promises.{IsQuiet}
 use Rattle.feast_run.specs.declared.status.Status.{Status}
 use Rattle.feast_run.specs.declared.status.Status.TheVariants.{Done, Usage, Unreadable, ElementRefused, WorldRefused, JournalRefused, SinkFault, NoMemory}

@@ -1,6 +1,5 @@
 -- How a window is read from a grid, and how it is written, site by site.
-use Rattle.std.proofs.Common.{ℕ, zero, suc, ℤ, pos, ◌≡◌, ◌≢◌, ◌+◌, ◌-◌, ◌*◌, ◌<◌, ◌≤◌, ◌==◌, Bool, true, false, List, [], ◌∷◌, length, get_or, set, map, drop, filter, is_some, Option, Some, None, refl, ap, sym, ◌∙◌, arith, nat_lt, inl, inr}
-use Rattle.std.specs.List.{range_with_len}
+use Rattle.std.proofs.Common.{ℕ, suc, ◌≡◌, ◌+◌, ◌<◌, Bool, true, false, List, ◌∷◌, length, get_or, set, drop, is_some, Option, Some, None, refl, ap, sym, ◌∙◌, arith, inl, inr}
 use Rattle.std.proofs.Math.ListN.{length-set}
 use Rattle.std.proofs.Math.Seq.{drop-cons}
 use Rattle.std.proofs.lemmas.Bool.{lt-ltb}
@@ -8,10 +7,10 @@ use Rattle.std.proofs.lemmas.Bool.Decides.{eqb_tells}
 use Rattle.std.proofs.lemmas.List.{get_or-set_other, get_or-set_same}
 use Rattle.std.proofs.lemmas.List.FromFn.{fill_by_all, get_or-range_with_len}
 use Rattle.std.proofs.lemmas.List.Edits.{fill_by_more}
-use Rattle.bit_field.specs.Atom.{AtomValue, IsAtom, empty_atom}
-use Rattle.window_sites.specs.Sites.{sites, offset_of}
-use Rattle.window_sites.specs.Window.{WindowValue, IsWindow, atom_at, live_at}
-use Rattle.feast_run.specs.Grid.{GridValue, place_of, seen, window_of, is_place, sites_at, site_numbers, written, put_window}
+use Rattle.bit_field.specs.Atom.{AtomValue, empty_atom}
+use Rattle.window_sites.specs.Sites.{sites}
+use Rattle.window_sites.specs.Window.{WindowValue, IsWindow, atom_at}
+use Rattle.feast_run.specs.Grid.{GridValue, place_of, seen, window_of, sites_at, site_numbers, written, put_window}
 use Rattle.feast_run.specs.Steps.{with_atom}
 
 seen-hidden : (g : GridValue) (p : Option ℕ) → is_some p ≡ false → seen g p ≡ empty_atom

@@ -1,14 +1,14 @@
 -- The parts of a world's text: each is one alone.
-use Rattle.std.proofs.Common.{ℕ, zero, suc, ◌≡◌, ◌≢◌, ◌+◌, ◌-◌, ◌*◌, ◌/◌, ◌%◌, ◌^◌, ◌<◌, ◌≤◌, List, [], ◌∷◌, ◌++◌, All, codes, decimal, refl, ap, sym, ◌∙◌, append_assoc, arith, get_or, true, subst}
+use Rattle.std.proofs.Common.{ℕ, zero, suc, ◌≡◌, ◌+◌, ◌-◌, ◌*◌, ◌/◌, ◌%◌, ◌^◌, ◌<◌, List, [], ◌∷◌, ◌++◌, All, codes, decimal, refl, ap, sym, ◌∙◌, append_assoc, arith, get_or, subst}
 use Rattle.std.specs.List.{flat_map}
 use Rattle.std.proofs.lemmas.List.{append_cancel_left, append-nil}
 use Rattle.std.proofs.lemmas.Nat.{mod-pow-add}
 use Rattle.std.proofs.Math.Nat.{mod-eq_of_lt}
 use Rattle.feast_base.specs.Digits.{glyph, hex}
 use Rattle.feast_run.proofs.Fields.{IsOne, until_one, ended, hex-lacks, number_one, name_one}
-use Rattle.feast_run.proofs.Composed.{first_none, then_none, word_none, after_word_none, lines_none, lines_one}
+use Rattle.feast_run.proofs.Composed.{lines_one}
 use Rattle.feast_run.specs.Heads.{head_line, IsHead, site_pair, IsSite, Begins}
-use Rattle.feast_run.specs.Reading.{NoText, NotFront, NoLines, HasLines, number_end, name_end, IsIn, IsName, IsSeed}
+use Rattle.feast_run.specs.Reading.{NotFront, NoLines, HasLines, number_end, IsIn, IsSeed}
 use Rattle.feast_run.specs.Report.{field_text, hex_end}
 use Rattle.feast_run.specs.World.{TryValue, PlacedValue, WorldValue, IsTry, IsPlaced, IsShaped, try_rest, try_line, placed_rest, placed_line, world_text, Says}
 

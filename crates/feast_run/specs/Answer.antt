@@ -1,5 +1,5 @@
 -- What a call comes to say, by the first stage that refuses, and what it leaves.
-use Rattle.std.specs.Prelude.{ℕ, ◌≡◌, ◌<◌, ◌≤◌, List, [], ◌∷◌, ◌++◌, length, codes, All, Option, Some, None, ◌⊎◌}
+use Rattle.std.specs.Prelude.{ℕ, ◌≡◌, ◌<◌, ◌≤◌, List, [], ◌∷◌, ◌++◌, length, codes, All, Option, ◌⊎◌}
 use Rattle.feast_base.specs.Outside.{File, TellsBytes, TellsLonger, Grows}
 use Rattle.feast_base.specs.Refusals.{refusal_line, usage_line, unreadable_line, longer_line}
 use Rattle.feast_base.specs.declared.place.Refusal.{Refusal}

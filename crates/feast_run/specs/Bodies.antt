@@ -1,5 +1,5 @@
 -- The parts of an element's text.
-use Rattle.std.specs.Prelude.{ℕ, ◌≡◌, ◌≤◌, Bool, true, ◌||◌, List, ◌++◌, codes, decimal}
+use Rattle.std.specs.Prelude.{ℕ, ◌≡◌, ◌≤◌, Bool, ◌||◌, List, ◌++◌, codes, decimal}
 use Rattle.std.specs.Str.{bytes_eq}
 use Rattle.feast_run.specs.Element.{ElementValue}
 use Rattle.feast_run.specs.Reading.{IsName}

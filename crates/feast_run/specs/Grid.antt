@@ -1,7 +1,7 @@
 -- A flat grid of atoms in row order, its windows, one event, and the replay of records.
-use Rattle.std.specs.Prelude.{ℕ, ℤ, pos, negsuc, ◌≡◌, ◌+◌, ◌-◌, ◌*◌, ◌<◌, ◌≤◌, Bool, false, List, [], ◌∷◌, length, map, filter, fold, slice_index_or, slice_set, is_some, nat_lt, Option, Some, None, if◌then◌else◌, ◌==◌}
+use Rattle.std.specs.Prelude.{ℕ, ℤ, pos, negsuc, ◌≡◌, ◌+◌, ◌-◌, ◌*◌, ◌≤◌, Bool, false, List, [], ◌∷◌, length, map, filter, slice_index_or, is_some, nat_lt, Option, Some, None, if◌then◌else◌, ◌==◌}
 use Rattle.std.specs.List.{range_with_len}
-use Rattle.bit_field.specs.Atom.{AtomValue, IsAtom, empty_atom}
+use Rattle.bit_field.specs.Atom.{AtomValue, empty_atom}
 use Rattle.window_sites.specs.Sites.{offset_of}
 use Rattle.window_sites.specs.Window.{WindowValue, atom_at}
 

@@ -1,5 +1,5 @@
 -- The parts of a world's text.
-use Rattle.std.specs.Prelude.{ℕ, ◌≡◌, ◌≤◌, ◌<◌, List, ◌++◌, codes, decimal}
+use Rattle.std.specs.Prelude.{ℕ, ◌≡◌, ◌≤◌, ◌<◌, List, ◌++◌, codes}
 use Rattle.std.specs.List.{flat_map}
 use Rattle.feast_run.specs.Report.{field_text}
 use Rattle.feast_run.specs.Reading.{NotFront}

@@ -1,7 +1,6 @@
 -- What a reader answers of the front of some bytes.
-use Rattle.std.specs.Prelude.{ℕ, ◌≡◌, ◌≢◌, ◌≤◌, ◌<◌, ◌^◌, true, List, [], ◌∷◌, ◌++◌, All, decimal, Result, Ok, Err}
+use Rattle.std.specs.Prelude.{ℕ, ◌≡◌, ◌≢◌, ◌≤◌, ◌<◌, ◌^◌, true, List, [], ◌∷◌, ◌++◌, All, decimal}
 use Rattle.std.specs.List.{flat_map}
-use Rattle.feast_base.specs.Digits.{hex}
 use Rattle.feast_run.specs.World.{is_type_name}
 
 -- no text of this kind stands at the front

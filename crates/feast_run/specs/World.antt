@@ -1,5 +1,5 @@
 -- A world of one tile, and its text.
-use Rattle.std.specs.Prelude.{ℕ, ◌≡◌, ◌+◌, ◌*◌, ◌<◌, ◌≤◌, ◌^◌, Bool, true, false, ◌&&◌, ◌||◌, List, [], ◌∷◌, ◌++◌, length, map, codes, decimal, All, eqb, nat_le}
+use Rattle.std.specs.Prelude.{ℕ, ◌≡◌, ◌+◌, ◌*◌, ◌<◌, ◌≤◌, ◌^◌, Bool, true, false, ◌&&◌, ◌||◌, List, [], ◌∷◌, ◌++◌, length, codes, decimal, All, eqb, nat_le}
 use Rattle.std.specs.List.{flat_map, list_all, AllPairs}
 use Rattle.feast_run.specs.Report.{field_text, hex_end}
 

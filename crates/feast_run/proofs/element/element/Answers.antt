@@ -1,4 +1,4 @@
-use Rattle.std.proofs.Common.{◌≡◌, ◌∙◌, ap, sym, subst, true, false, Bool}
+use Rattle.std.proofs.Common.{◌≡◌, ◌∙◌, ap, sym, true, false}
 use Rattle.feast_run.proofs.Elements.{starts_one, text_of}
 use Rattle.feast_run.specs.Element.{ElementValue, is_built_in}
 use Rattle.feast_run.specs.Values.{element_value}

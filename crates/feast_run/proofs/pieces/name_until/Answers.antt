@@ -1,4 +1,4 @@
-use Rattle.std.proofs.Common.{sym, ◌∙◌, ap}
+use Rattle.std.proofs.Common.{ap}
 use Rattle.feast_run.proofs.Fields.{name-lacks, field_none}
 use Rattle.feast_run.specs.Reading.{IsName}
 use Rattle.feast_run.specs.World.{is_type_name}

@@ -1,4 +1,4 @@
-use Rattle.std.proofs.Common.{◌≡◌, ◌<◌, ◌^◌, ◌∙◌, ℕ, arith, sym}
+use Rattle.std.proofs.Common.{◌≡◌, ◌<◌, ◌^◌, ◌∙◌, arith, sym}
 use Rattle.std.proofs.lemmas.Fmt.{decimal_injective}
 use Rattle.feast_run.proofs.pieces.number_in.Goals as goal
 use Rattle.feast_run.proofs.pieces.number_in.Goals.{else-value-low-via-then-value-low+else-value-high, else-value-low-via-else-value-low}

@@ -1,4 +1,4 @@
-use Rattle.std.proofs.Common.{decimal, ◌<◌, ◌^◌, ℕ, arith}
+use Rattle.std.proofs.Common.{decimal, ◌<◌, ◌^◌, arith}
 use Rattle.feast_run.proofs.Fields.{answers_none, decimal-lacks, field_none}
 use Rattle.feast_run.specs.Reading.{IsIn}
 use Rattle.feast_run.proofs.pieces.number_until.Goals as goal

@@ -1,6 +1,6 @@
-use Rattle.std.proofs.Common.{ℕ, ◌≡◌, ◌+◌, ◌*◌, ◌<◌, ◌≤◌, ◌++◌, ◌∷◌, [], ap, sym, ◌∙◌, take, get_or, length, arith, lit<}
-use Rattle.std.proofs.lemmas.List.{take_more, take_all}
-use Rattle.feast_base.specs.Digits.{glyph, hex}
+use Rattle.std.proofs.Common.{◌≡◌, ◌++◌, ◌∷◌, [], ap, sym, ◌∙◌, get_or, length, arith, lit<}
+use Rattle.std.proofs.lemmas.List.{take_more}
+use Rattle.feast_base.specs.Digits.{hex}
 use Rattle.feast_base.proofs.Digits.{hex_none, hex_more, hex_small}
 use Rattle.feast_run.proofs.Fields.{answers_none, length-hex, hex_fits, hex_glyph}
 use Rattle.feast_run.proofs.pieces.seed_of.Goals as goal

@@ -1,4 +1,4 @@
-use Rattle.std.proofs.Common.{ℕ, ◌≡◌, ◌*◌, ◌^◌, ◌<◌, length, take}
+use Rattle.std.proofs.Common.{◌≡◌, ◌*◌, ◌^◌, ◌<◌, length, take}
 use Rattle.feast_base.specs.Digits.{hex}
 use Rattle.feast_run.proofs.pieces.seed_of.Given as goal
 

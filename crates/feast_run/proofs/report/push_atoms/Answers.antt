@@ -1,4 +1,4 @@
-use Rattle.std.proofs.Common.{ℕ, ◌≡◌, ◌<◌, ◌+◌, ◌++◌, sym, ◌∙◌, ap, length, arith}
+use Rattle.std.proofs.Common.{◌<◌, ◌++◌, sym, ◌∙◌, ap, length, arith}
 use Rattle.feast_base.proofs.Appending.{more_after, Appends-at_exit, piece_done}
 use Rattle.feast_run.proofs.Lines.{atom_lines-step}
 use Rattle.feast_run.proofs.report.push_atoms.Goals as goal

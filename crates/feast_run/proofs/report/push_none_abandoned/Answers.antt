@@ -1,6 +1,5 @@
-use Rattle.std.proofs.Common.{ℕ, ◌≡◌, ◌++◌, ◌∷◌, [], codes, decimal, ap, sym, ◌∙◌, refl, List, arith}
+use Rattle.std.proofs.Common.{◌≡◌, ◌∷◌, [], decimal, arith}
 use Rattle.std.proofs.lemmas.Fmt.{decimal_digit}
-use Rattle.feast_base.specs.Appending.{Appends}
 use Rattle.feast_run.proofs.report.push_none_abandoned.Goals as goal
 
 pub returns : goal.returns

@@ -1,6 +1,5 @@
-use Rattle.std.proofs.Common.{◌≡◌, ◌<◌, ap, ◌∙◌, map}
-use Rattle.feast_run.specs.Run.{journal_of}
-use Rattle.feast_run.specs.Values.{record_value, try_value}
+use Rattle.std.proofs.Common.{map}
+use Rattle.feast_run.specs.Values.{try_value}
 use Rattle.feast_run.proofs.Runs.{records-within}
 use Rattle.feast_run.proofs.run.report_of.Goals as goal
 

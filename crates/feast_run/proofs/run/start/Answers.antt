@@ -1,4 +1,4 @@
-use Rattle.std.proofs.Common.{ℕ, ◌≡◌, ◌<◌, ◌∙◌, ap, sym, subst, List, length, get_or, map, arith}
+use Rattle.std.proofs.Common.{◌≡◌, ◌<◌, ◌∙◌, ap, subst, List, length, get_or, map, arith}
 use Rattle.std.proofs.lemmas.List.{length-map}
 use Rattle.feast_run.proofs.Entries.{entry_is}
 use Rattle.feast_run.proofs.Marks.{nobody}

@@ -1,4 +1,4 @@
-use Rattle.std.proofs.Common.{◌≡◌, ap, Err}
+use Rattle.std.proofs.Common.{ap, Err}
 use Rattle.feast_run.proofs.Loads.{load_stop}
 use Rattle.feast_run.proofs.stages.load_file.Goals as goal
 

@@ -1,6 +1,4 @@
-use Rattle.std.proofs.Common.{◌≡◌, ◌∙◌, subst, sym, List, ℕ, Option}
 use Rattle.feast_run.proofs.Comes.{answers_stop, world_comes, element_comes}
-use Rattle.feast_run.specs.Stops.{StopsElement}
 use Rattle.feast_run.specs.Values.{world_value}
 use Rattle.feast_run.proofs.stages.run_files.Goals as goal
 

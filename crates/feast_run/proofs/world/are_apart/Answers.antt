@@ -1,11 +1,9 @@
-use Rattle.std.proofs.Common.{ℕ, ◌≡◌, ◌<◌, ◌*◌, ◌∙◌, List, ap, refl, sym, subst, length, get_or, map, arith, rules, true, false}
+use Rattle.std.proofs.Common.{ℕ, ◌≡◌, ◌<◌, ◌*◌, ◌∙◌, ap, refl, sym, subst, length, get_or, map, arith, rules, true, false}
 use Rattle.std.proofs.lemmas.List.{length-map, get_or_default}
-use Rattle.std.specs.List.{AllPairs}
 use Rattle.feast_run.proofs.Entries.{entry_is}
-use Rattle.feast_run.proofs.Marks.{IsMarked, marked_none, marked_more, not_apart, all_apart, nobody, place_at}
+use Rattle.feast_run.proofs.Marks.{IsMarked, marked_none, marked_more, not_apart, all_apart, nobody}
 use Rattle.feast_run.specs.Values.{placed_value}
-use Rattle.feast_run.specs.World.{PlacedValue, IsPlaced, AreApart, place_in}
-use Rattle.feast_run.specs.declared.world.Placed.{Placed}
+use Rattle.feast_run.specs.World.{PlacedValue, IsPlaced, place_in}
 use Rattle.feast_run.proofs.world.are_apart.Goals as goal
 
 pub loop-entry-init : goal.loop-entry-init

@@ -1,4 +1,4 @@
-use Rattle.std.proofs.Common.{ℕ, ◌≡◌, ◌≤◌, ◌<◌, ◌++◌, codes, refl, sym, ◌∙◌, map, arith}
+use Rattle.std.proofs.Common.{codes, refl, sym, ◌∙◌, map, arith}
 use Rattle.feast_run.proofs.Composed.{lines_none, lines_more}
 use Rattle.feast_run.proofs.Faults.{answers_other}
 use Rattle.feast_run.proofs.Worlds.{placed_one}

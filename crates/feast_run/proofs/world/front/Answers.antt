@@ -1,8 +1,7 @@
-use Rattle.std.proofs.Common.{ℕ, ◌≡◌, ◌++◌, codes, sym, ◌∙◌, map, subst}
+use Rattle.std.proofs.Common.{ℕ, ◌++◌, codes, map}
 use Rattle.std.specs.List.{flat_map}
 use Rattle.feast_run.proofs.Faults.{answers_other}
 use Rattle.feast_run.proofs.Worlds.{no_tries, no_atoms}
-use Rattle.feast_run.specs.Heads.{head_line, IsHead}
 use Rattle.feast_run.specs.Reading.{NoLines}
 use Rattle.feast_run.specs.Values.{try_value}
 use Rattle.feast_run.specs.World.{IsTry, IsPlaced, try_line, placed_line}

@@ -1,4 +1,4 @@
-use Rattle.std.proofs.Common.{ℕ, ◌≤◌, ◌<◌, ◌++◌, codes, decimal, refl, arith}
+use Rattle.std.proofs.Common.{◌++◌, codes, decimal, refl, arith}
 use Rattle.feast_run.proofs.Fields.{answers_none, number_one}
 use Rattle.feast_run.proofs.Composed.{word_none, after_word_none, then_none}
 use Rattle.feast_run.specs.Heads.{head_line, IsHead}

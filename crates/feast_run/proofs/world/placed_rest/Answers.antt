@@ -1,11 +1,11 @@
-use Rattle.std.proofs.Common.{ℕ, ◌-◌, ◌≤◌, ◌<◌, ◌++◌, codes, refl, sym, append_assoc, arith}
+use Rattle.std.proofs.Common.{◌++◌, codes, sym, append_assoc, arith}
 use Rattle.feast_run.proofs.Faults.{answers_other}
 use Rattle.feast_run.proofs.Composed.{first_none, then_none}
 use Rattle.feast_run.proofs.Worlds.{site_one}
 use Rattle.feast_run.specs.Heads.{site_pair, IsSite}
 use Rattle.feast_run.specs.Reading.{NoText, name_end, IsName}
 use Rattle.feast_run.specs.Report.{field_text}
-use Rattle.feast_run.specs.World.{PlacedValue, IsPlaced, placed_rest}
+use Rattle.feast_run.specs.World.{IsPlaced, placed_rest}
 use Rattle.feast_run.proofs.world.placed_rest.Goals as goal
 
 pub returns-in_default : goal.returns-in_default

@@ -1,4 +1,4 @@
-use Rattle.std.proofs.Common.{ℕ, ◌-◌, ◌≤◌, ◌<◌, ◌++◌, refl, arith}
+use Rattle.std.proofs.Common.{◌-◌, refl, arith}
 use Rattle.feast_run.proofs.Fields.{answers_none}
 use Rattle.feast_run.proofs.Composed.{then_none}
 use Rattle.feast_run.proofs.Worlds.{field_one}

@@ -1,4 +1,4 @@
-use Rattle.std.proofs.Common.{ℕ, ◌≡◌, ◌≤◌, ◌<◌, ◌++◌, codes, refl, sym, ◌∙◌, map, arith}
+use Rattle.std.proofs.Common.{codes, refl, sym, ◌∙◌, map, arith}
 use Rattle.feast_run.proofs.Composed.{lines_none}
 use Rattle.feast_run.proofs.Worlds.{try_one}
 use Rattle.feast_run.specs.Values.{try_value}

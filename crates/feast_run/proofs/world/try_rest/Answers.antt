@@ -1,10 +1,10 @@
-use Rattle.std.proofs.Common.{ℕ, ◌+◌, ◌-◌, ◌≤◌, ◌<◌, ◌++◌, refl, arith, List}
+use Rattle.std.proofs.Common.{◌-◌, ◌++◌, refl, arith}
 use Rattle.feast_run.proofs.Fields.{answers_none}
 use Rattle.feast_run.proofs.Composed.{first_none, then_none}
 use Rattle.feast_run.proofs.Worlds.{field_one}
-use Rattle.feast_run.specs.Reading.{IsIn, IsSeed, NoText, number_end}
+use Rattle.feast_run.specs.Reading.{IsIn, number_end}
 use Rattle.feast_run.specs.Report.{field_text, hex_end}
-use Rattle.feast_run.specs.World.{TryValue, IsTry, try_rest}
+use Rattle.feast_run.specs.World.{IsTry, try_rest}
 use Rattle.feast_run.proofs.world.try_rest.Goals as goal
 
 pub returns-in_err-y : goal.returns-in_err-y

@@ -1,4 +1,4 @@
-use Rattle.std.proofs.Common.{ℕ, ◌≡◌, ◌<◌, ◌≤◌, ◌==◌, ◌∙◌, [], List, ap, refl, sym, subst, length, map, arith, true, false, Bool, cond, eqb}
+use Rattle.std.proofs.Common.{ℕ, ◌≡◌, ◌==◌, ◌∙◌, List, ap, sym, subst, length, map, arith, true, false}
 use Rattle.std.proofs.lemmas.List.{length-map}
 use Rattle.std.specs.List.{AllPairs}
 use Rattle.feast_run.proofs.Worlds.{begins_one}

@@ -1,8 +1,7 @@
-use Rattle.std.proofs.Common.{ℕ, ◌≡◌, ◌+◌, ◌-◌, ◌<◌, ◌≤◌, ◌∙◌, ap, sym, subst, arith}
+use Rattle.std.proofs.Common.{◌-◌, ◌∙◌, ap, sym, subst, arith}
 use Rattle.feast_run.proofs.Windows.{IsPut, IsPut-none, IsPut-more, put_window-done}
 use Rattle.feast_run.specs.Grid.{GridValue, place_of}
 use Rattle.feast_run.specs.Steps.{with_atom}
-use Rattle.bit_field.specs.Atom.{AtomValue}
 use Rattle.feast_run.proofs.grid.Grid.put_window.Goals as goal
 
 pub loop-n-init : goal.loop-n-init

@@ -1,5 +1,5 @@
-use Rattle.std.proofs.Common.{ℕ, ◌≡◌, ◌≤◌, ◌∙◌, arith}
-use Rattle.feast_run.proofs.Windows.{IsRead, IsRead-more, window_of-read, IsWindow-read}
+use Rattle.std.proofs.Common.{◌≡◌, ◌∙◌, arith}
+use Rattle.feast_run.proofs.Windows.{IsRead-more, window_of-read, IsWindow-read}
 use Rattle.feast_run.proofs.grid.Grid.window_at.Goals as goal
 
 pub loop-n-preserved : goal.loop-n-preserved
