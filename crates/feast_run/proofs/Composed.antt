@@ -7,6 +7,14 @@ use Rattle.std.proofs.lemmas.List.Elements.{All-head, All-tail, All-append, All-
 use Rattle.feast_run.proofs.Fields.{IsOne}
 use Rattle.feast_run.specs.Reading.{NoText, NotFront}
 
+-- two parts and what follows, grouped the other way
+pub regrouped : (a b r c d s : List ℕ) → (a ++ b) ++ r ≡ (c ++ d) ++ s → a ++ (b ++ r) ≡ c ++ (d ++ s)
+regrouped a b r c d s e = sym (append_assoc a b r) ∙ e ∙ append_assoc c d s
+
+-- what follows one word in two wholes that are the same
+pub after_word : (word a b v w : List ℕ) → v ≡ word ++ a → w ≡ word ++ b → v ≡ w → a ≡ b
+after_word word a b v w p q e = append_cancel_left word a b (sym p ∙ e ∙ q)
+
 -- no front of the kind, so no whole that begins with one
 pub first_none : {X Z : Type 0} (f : X → List ℕ) (okf : X → Type 0) (whole : Z → List ℕ) (ok : Z → Type 0) (p : Z → X) (after : Z → List ℕ) (bytes : List ℕ) →
     ((z : Z) → whole z ≡ f (p z) ++ after z) → ((z : Z) → ok z → okf (p z)) → NoText f okf bytes → NoText whole ok bytes

@@ -3,6 +3,7 @@ use Rattle.std.proofs.Common.{ℕ, ◌≡◌, Bool, true, false, ◌||◌, List,
 use Rattle.std.specs.Str.{bytes_eq}
 use Rattle.std.proofs.lemmas.List.{append_cancel_left, append-nil}
 use Rattle.std.proofs.lemmas.Slice.Eq.{bytes_eq-Decides}
+use Rattle.feast_run.proofs.Composed.{after_word}
 use Rattle.feast_run.proofs.Fields.{IsOne, number_one, name_one}
 use Rattle.feast_run.specs.Bodies.{body_text, IsBody, is_tail, Starts}
 use Rattle.feast_run.specs.Element.{ElementValue, Defines, element_line}
@@ -18,7 +19,8 @@ pub body_one : IsOne body_text IsBody
 body_one t u r s a b e =
     let word = codes "{ EventWindow ew; Void behave() { ew.swap(" in
     let parts : (p : ℕ × ℕ) (v : List ℕ) → body_text p ++ v ≡ word ++ ((decimal p.0 ++ codes ",") ++ (codes " " ++ ((decimal p.1 ++ codes ")") ++ v))) = λ p v. simp append_assoc in
-    let inside = append_cancel_left word _ _ (sym (parts t r) ∙ e ∙ parts u s) in
+    let inside =
+    after_word word ((decimal t.0 ++ codes ",") ++ (codes " " ++ ((decimal t.1 ++ codes ")") ++ r))) ((decimal u.0 ++ codes ",") ++ (codes " " ++ ((decimal u.1 ++ codes ")") ++ s))) (body_text t ++ r) (body_text u ++ s) (parts t r) (parts u s) e in
     let first = number_one 44 0 40 (omega arith) (omega arith) t.0 u.0 (codes " " ++ ((decimal t.1 ++ codes ")") ++ r)) (codes " " ++ ((decimal u.1 ++ codes ")") ++ s)) (omega arith, a.0) (omega arith, b.0) inside in
     let space = append_cancel_left (codes " ") _ _ first.1 in
     let second = number_one 41 0 40 (omega arith) (omega arith) t.1 u.1 r s (omega arith, a.1) (omega arith, b.1) space in

@@ -6,7 +6,7 @@ use Rattle.std.proofs.lemmas.Nat.{mod-pow-add}
 use Rattle.std.proofs.Math.Nat.{mod-eq_of_lt}
 use Rattle.feast_base.specs.Digits.{glyph, hex}
 use Rattle.feast_run.proofs.Fields.{IsOne, until_one, ended, hex-lacks, number_one, name_one}
-use Rattle.feast_run.proofs.Composed.{lines_one}
+use Rattle.feast_run.proofs.Composed.{after_word, lines_one, regrouped}
 use Rattle.feast_run.specs.Heads.{head_line, IsHead, site_pair, IsSite, Begins}
 use Rattle.feast_run.specs.Reading.{NotFront, NoLines, HasLines, number_end, IsIn, IsSeed}
 use Rattle.feast_run.specs.Report.{field_text, hex_end}
@@ -43,16 +43,16 @@ field_one high fits = number_one 32 0 high (omega arith) (omega arith)
 pub try_one : (w h : ℕ) → w < 2 ^ 32 → h < 2 ^ 32 → IsOne try_rest (IsTry w h)
 try_one w h wf hf t u r s a b e =
     let p = field_one (w - 1) (omega arith) t.x u.x ((field_text t.y ++ hex_end 16 t.seed) ++ r) ((field_text u.y ++ hex_end 16 u.seed) ++ s) (omega arith, omega (arith, a.x_in)) (omega arith, omega (arith, b.x_in))
-    (sym (append_assoc (field_text t.x) (field_text t.y ++ hex_end 16 t.seed) r) ∙ e ∙ append_assoc (field_text u.x) (field_text u.y ++ hex_end 16 u.seed) s) in
+    (regrouped (field_text t.x) (field_text t.y ++ hex_end 16 t.seed) r (field_text u.x) (field_text u.y ++ hex_end 16 u.seed) s e) in
     let q = field_one (h - 1) (omega arith) t.y u.y (hex_end 16 t.seed ++ r) (hex_end 16 u.seed ++ s) (omega arith, omega (arith, a.y_in)) (omega arith, omega (arith, b.y_in))
-    (sym (append_assoc (field_text t.y) (hex_end 16 t.seed) r) ∙ p.1 ∙ append_assoc (field_text u.y) (hex_end 16 u.seed) s) in
+    (regrouped (field_text t.y) (hex_end 16 t.seed) r (field_text u.y) (hex_end 16 u.seed) s p.1) in
     let k = seed_one t.seed u.seed r s a.seed_fits b.seed_fits q.1 in
     (ap (λ v. record { x = v; y = t.y; seed = t.seed }) p.0 ∙ ap (λ v. record { x = u.x; y = v; seed = t.seed }) q.0 ∙ ap (λ v. record { x = u.x; y = u.y; seed = v }) k.0, k.1)
 
 pub site_one : (w h : ℕ) → w < 2 ^ 32 → h < 2 ^ 32 → IsOne site_pair (IsSite w h)
 site_one w h wf hf t u r s a b e =
     let p = field_one (w - 1) (omega arith) t.0 u.0 (field_text t.1 ++ r) (field_text u.1 ++ s) (omega arith, omega (arith, a.0)) (omega arith, omega (arith, b.0))
-    (sym (append_assoc (field_text t.0) (field_text t.1) r) ∙ e ∙ append_assoc (field_text u.0) (field_text u.1) s) in
+    (regrouped (field_text t.0) (field_text t.1) r (field_text u.0) (field_text u.1) s e) in
     let q = field_one (h - 1) (omega arith) t.1 u.1 r s (omega arith, omega (arith, a.1)) (omega arith, omega (arith, b.1)) p.1 in
     (ap (λ v. (v, t.1)) p.0 ∙ ap (λ v. (u.0, v)) q.0, q.1)
 
@@ -71,7 +71,7 @@ placed_one w h wf hf t u r s a b e =
 pub head_one : IsOne head_line IsHead
 head_one t u r s a b e =
     let word = codes "feast 1\ntiles 1 1\nsize " in
-    let body = append_cancel_left word (field_text t.0 ++ ((decimal t.1 ++ codes "\n") ++ r)) (field_text u.0 ++ ((decimal u.1 ++ codes "\n") ++ s)) (head_split t r ∙ e ∙ sym (head_split u s)) in
+    let body = after_word word (field_text t.0 ++ ((decimal t.1 ++ codes "\n") ++ r)) (field_text u.0 ++ ((decimal u.1 ++ codes "\n") ++ s)) (head_line t ++ r) (head_line u ++ s) (sym (head_split t r)) (sym (head_split u s)) e in
     let wide = number_one 32 8 64 (omega arith) (omega arith) t.0 u.0 ((decimal t.1 ++ codes "\n") ++ r) ((decimal u.1 ++ codes "\n") ++ s) (a.0, a.1) (b.0, b.1) body in
     let high = number_one 10 8 64 (omega arith) (omega arith) t.1 u.1 r s (a.2, a.3) (b.2, b.3) wide.1 in
     (ap (λ v. (v, t.1)) wide.0 ∙ ap (λ v. (u.0, v)) high.0, high.1)
@@ -93,7 +93,7 @@ pub world_one : (v w : WorldValue) (r s : List ℕ) → IsShaped v → IsShaped 
 world_one v w r s a b tried tried' over over' e =
     let head = head_one (v.width, v.height) (w.width, w.height) ((flat_map try_line v.tries ++ flat_map placed_line v.placed) ++ r) ((flat_map try_line w.tries ++ flat_map placed_line w.placed) ++ s)
     (a.wide, a.not_wider, a.high, a.not_higher) (b.wide, b.not_wider, b.high, b.not_higher)
-    (sym (append_assoc (head_line (v.width, v.height)) (flat_map try_line v.tries ++ flat_map placed_line v.placed) r) ∙ e ∙ append_assoc (head_line (w.width, w.height)) (flat_map try_line w.tries ++ flat_map placed_line w.placed) s) in
+    (regrouped (head_line (v.width, v.height)) (flat_map try_line v.tries ++ flat_map placed_line v.placed) r (head_line (w.width, w.height)) (flat_map try_line w.tries ++ flat_map placed_line w.placed) s e) in
     let wide : v.width ≡ w.width = ap (λ (p : ℕ × ℕ). p.0) head.0 in
     let high : v.height ≡ w.height = ap (λ (p : ℕ × ℕ). p.1) head.0 in
     let P : ℕ × ℕ → Type 0 = λ p. All (IsTry p.0 p.1) w.tries in
@@ -101,7 +101,7 @@ world_one v w r s a b tried tried' over over' e =
     let tries = lines_one try_line try_rest (IsTry v.width v.height) (codes "try 0 ") v.tries w.tries (flat_map placed_line v.placed ++ r) (flat_map placed_line w.placed ++ s)
     (λ t. refl) (try_one v.width v.height (omega (arith, a.not_wider)) (omega (arith, a.not_higher))) a.tries (subst P (sym head.0) b.tries)
     tried tried'
-    (sym (append_assoc (flat_map try_line v.tries) (flat_map placed_line v.placed) r) ∙ head.1 ∙ append_assoc (flat_map try_line w.tries) (flat_map placed_line w.placed) s) in
+    (regrouped (flat_map try_line v.tries) (flat_map placed_line v.placed) r (flat_map try_line w.tries) (flat_map placed_line w.placed) s head.1) in
     let placed = lines_one placed_line placed_rest (IsPlaced v.width v.height) (codes "atom ") v.placed w.placed r s
     (λ t. refl) (placed_one v.width v.height (omega (arith, a.not_wider)) (omega (arith, a.not_higher))) a.placed (subst Q (sym head.0) b.placed) over over' tries.1 in (
       ap (λ n. record { width = n; height = v.height; tries = v.tries; placed = v.placed }) wide ∙ ap (λ n. record { width = w.width; height = n; tries = v.tries; placed = v.placed }) high

@@ -1,9 +1,8 @@
 //! A flat grid of atoms, its windows, events and the replay of records.
-ghost use Rattle.std.specs.Prelude.{◌≡◌, ℕ, ℤ, pos, negsuc, All, map, ◌+◌, ◌*◌, ◌≤◌, ◌<◌, ◌^◌, ◌-ℤ◌, ◌≤ℤ◌, IfOk, IfSome, is_some, length, replicate, slice_index_or, slice_set};
-ghost use Rattle.bit_field.specs.Atom.{AtomValue, empty_atom};
-ghost use Rattle.window_sites.specs.Sites.{offset_of};
+ghost use Rattle.std.specs.Prelude.{◌≡◌, ℕ, ℤ, pos, All, map, ◌+◌, ◌*◌, ◌≤◌, ◌<◌, ◌^◌, ◌≤ℤ◌, IfOk, IfSome, is_some, length, replicate, slice_index_or, slice_set};
+ghost use Rattle.bit_field.specs.Atom.{empty_atom};
 ghost use Rattle.window_sites.specs.Window.{WindowValue};
-ghost use Rattle.feast_run.specs.Grid.{GridValue, RecordValue, shifted, place_of, seen, window_of, put_window, event, replay};
+ghost use Rattle.feast_run.specs.Grid.{GridValue, shifted, place_of, seen, window_of, put_window, event, replay};
 ghost use Rattle.feast_run.specs.Steps.{with_atom};
 ghost use Rattle.feast_run.specs.Values.{record_value};
 
@@ -96,15 +95,6 @@ impl Grid {
         ensures { result.now ≡ self.now.atoms }
     {
         self.atoms.as_slice()
-    }
-
-    /// The atom of a site.
-    pub fn get(&self, x: u32, y: u32) -> Atom
-        requires x_in { x < self.now.width }
-        requires y_in { y < self.now.height }
-        ensures { result ≡ slice_index_or self.now.atoms (y * self.now.width + x) empty_atom }
-    {
-        self.atoms[(y * self.width + x) as usize]
     }
 
     /// Gives a site an atom.

@@ -1,5 +1,5 @@
 //! The top call over a shelf and a sink in memory.
-ghost use Rattle.std.specs.Prelude.{◌≡◌, ◌<◌, ◌^◌, ◌-◌, map, string_bytes};
+ghost use Rattle.std.specs.Prelude.{◌<◌, ◌^◌, ◌-◌, map, string_bytes};
 ghost use Rattle.feast_run.specs.Promises.{IsQuiet};
 
 use crate::{Status, feast};

@@ -1,5 +1,5 @@
 //! Reading the front of some bytes, piece by piece.
-ghost use Rattle.std.specs.Prelude.{◌≡◌, ◌≢◌, ℕ, ◌+◌, ◌*◌, ◌≤◌, ◌<◌, ◌^◌, ◌++◌, ◌∷◌, [], decimal, true, Bool, nat_le, MatchOption, MatchResult};
+ghost use Rattle.std.specs.Prelude.{◌≡◌, ◌≢◌, ℕ, ◌+◌, ◌*◌, ◌<◌, ◌^◌, ◌++◌, ◌∷◌, [], decimal, MatchOption, MatchResult};
 ghost use Rattle.std.specs.List.{list_all};
 ghost use Rattle.feast_base.specs.Digits.{glyph, hex};
 ghost use Rattle.feast_run.specs.Reading.{NoText, HasText, NotFront, Lacks, number_end, name_end, IsIn, IsName, IsSeed};

@@ -1,8 +1,7 @@
 //! Printing a report.
-ghost use Rattle.std.specs.Prelude.{◌≡◌, ℕ, ◌+◌, ◌*◌, ◌/◌, ◌%◌, ◌≤◌, ◌<◌, ◌^◌, ◌++◌, ◌-◌, slice_index_or, [], ◌∷◌, codes, decimal, length, map, MatchOption, count_by, not, if◌then◌else◌};
+ghost use Rattle.std.specs.Prelude.{◌≡◌, ◌+◌, ◌/◌, ◌%◌, ◌≤◌, ◌<◌, ◌++◌, ◌-◌, slice_index_or, [], codes, length, map, MatchOption, count_by, not, if◌then◌else◌};
 ghost use Rattle.std.specs.List.{flat_map};
 ghost use Rattle.feast_base.specs.Appending.{Appends};
-ghost use Rattle.feast_base.specs.Digits.{hex};
 ghost use Rattle.feast_run.specs.Report.{count_line, record_line, field_text, hex_end, site_text, journal_text, atom_line, atom_lines, atoms_text, abandoned_text, is_empty, report};
 ghost use Rattle.feast_run.specs.Values.{record_value};
 

@@ -1,9 +1,9 @@
 //! A run of one tile: its start, its journal, its report.
-ghost use Rattle.std.specs.Prelude.{◌≡◌, ◌+◌, ◌*◌, ◌≤◌, ◌<◌, ◌∷◌, [], All, IfOk, length, map, vec_len};
+ghost use Rattle.std.specs.Prelude.{◌≡◌, ◌+◌, ◌≤◌, ◌<◌, IfOk, length, map};
 ghost use Rattle.feast_run.specs.Element.{after_swap};
 ghost use Rattle.feast_run.specs.Grid.{replay};
-ghost use Rattle.feast_run.specs.Run.{start_of, with_placed, record_of, journal_of, run_report};
-ghost use Rattle.feast_run.specs.Values.{record_value, try_value, placed_value, world_value, element_value};
+ghost use Rattle.feast_run.specs.Run.{start_of, journal_of, run_report};
+ghost use Rattle.feast_run.specs.Values.{record_value, try_value, world_value, element_value};
 ghost use Rattle.feast_run.specs.World.{IsWorld};
 
 use crate::grid::{Behave, Grid, Record};

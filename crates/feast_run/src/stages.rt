@@ -1,7 +1,7 @@
 //! The stages of a call: loading, reading, and the answer.
-ghost use Rattle.std.specs.Prelude.{◌≡◌, ◌≢◌, ◌<◌, ◌^◌, ◌-◌, ◌∷◌, [], ◌↔◌, ℕ, List, IsTrue, MatchOption, MatchResult, IfOk, All, map, codes, string_bytes, length};
+ghost use Rattle.std.specs.Prelude.{◌≡◌, ◌<◌, ◌-◌, ◌∷◌, [], ◌↔◌, ℕ, List, IsTrue, MatchOption, MatchResult, All, map, codes, string_bytes};
 ghost use Rattle.feast_base.specs.Refusals.{IsCode, refusal_line};
-ghost use Rattle.feast_run.specs.Answer.{AreNamed, Comes, HasElement, HasWorld, IsRun, Loaded, NoElement, NoWorld, MayWant, not_built, not_built_line, setting, world_limit, element_limit};
+ghost use Rattle.feast_run.specs.Answer.{AreNamed, Comes, HasElement, HasWorld, IsRun, Loaded, MayWant, not_built, not_built_line, setting};
 ghost use Rattle.feast_run.specs.Stops.{IsLoadStop, IsStop, LoadStop, Stops, StopsElement, StopsWorld};
 ghost use Rattle.feast_run.specs.Values.{element_value, world_value};
 

@@ -1,6 +1,6 @@
 //! The top call.
-ghost use Rattle.std.specs.Prelude.{◌≡◌, ◌<◌, ◌^◌, ◌-◌, ◌∷◌, [], ℕ, List, map, string_bytes, length};
-ghost use Rattle.feast_run.specs.Answer.{Comes, Ends, Put, setting};
+ghost use Rattle.std.specs.Prelude.{◌≡◌, ◌<◌, ◌^◌, ◌-◌, map, string_bytes, length};
+ghost use Rattle.feast_run.specs.Answer.{Ends, Put, setting};
 ghost use Rattle.feast_run.specs.Promises.{Complete, Exactly, Headline, UsageExactly};
 
 use crate::Status;

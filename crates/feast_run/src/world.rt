@@ -1,10 +1,10 @@
 //! Reading a world of one tile.
-ghost use Rattle.std.specs.Prelude.{◌≡◌, ◌≢◌, ℕ, ◌+◌, ◌*◌, ◌≤◌, ◌<◌, ◌++◌, [], ◌∷◌, codes, length, map, All, IfOk, MatchOption, MatchResult, IsTrue, ◌↔◌, vec_len};
+ghost use Rattle.std.specs.Prelude.{◌≡◌, ◌+◌, ◌*◌, ◌≤◌, ◌<◌, codes, map, All, IfOk, MatchOption, MatchResult, IsTrue, ◌↔◌};
 ghost use Rattle.std.specs.List.{AllPairs};
 ghost use Rattle.feast_run.specs.Faults.{IsOther};
-ghost use Rattle.feast_run.specs.Reading.{NoText, HasText, NotFront, NoLines, HasLines};
+ghost use Rattle.feast_run.specs.Reading.{NoText, HasText, NoLines, HasLines};
 ghost use Rattle.feast_run.specs.Values.{try_value, placed_value, world_value};
-ghost use Rattle.feast_run.specs.World.{TryValue, PlacedValue, WorldValue, IsTry, IsPlaced, IsShaped, try_rest, try_line, placed_rest, placed_line, place_in, AreApart, Says};
+ghost use Rattle.feast_run.specs.World.{WorldValue, IsTry, IsPlaced, try_rest, try_line, placed_rest, placed_line, place_in, AreApart, Says};
 ghost use Rattle.feast_run.specs.Heads.{head_line, head_value, IsHead, site_pair, IsSite, Begins};
 
 use crate::pieces::{ReadFault, expect, name_until, number_until, seed_until_end};
