@@ -1,0 +1,15 @@
+pub mod Comes
+pub mod Composed
+pub mod Elements
+pub mod Entries
+pub mod Faults
+pub mod Fields
+pub mod Lines
+pub mod Loads
+pub mod Marks
+pub mod Once
+pub mod Promised
+pub mod Quiet
+pub mod Runs
+pub mod Windows
+pub mod Worlds

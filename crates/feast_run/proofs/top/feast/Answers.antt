@@ -1,0 +1,15 @@
+use Rattle.feast_run.proofs.Promised.{complete_of, exactly_of, headline_of, usage_of}
+use Rattle.feast_run.proofs.top.feast.Goals as goal
+
+pub returns : goal.returns
+returns g c =
+    let ends = c.call.ensures.ends in
+    let exactly = exactly_of _ _ _ _ _ _ _ _ _ _ c.call.result ends in
+    record {
+      files = c.call.ensures.files;
+      headline = headline_of _ _ _ _ _ _ _ _ _ _ c.call.result ends;
+      ends = ends;
+      usage = usage_of _ _ _ _ _ _ _ c.call.result ends;
+      exactly = exactly;
+      complete = complete_of _ _ _ _ _ _ _ c.call.result exactly;
+    }

@@ -1,0 +1,14 @@
+use Rattle.std.proofs.Common.{◌≡◌, ◌++◌, All, length, map}
+use Rattle.std.specs.List.{flat_map}
+use Rattle.feast_run.specs.Values.{placed_value}
+use Rattle.feast_run.specs.World.{IsPlaced, placed_line}
+use Rattle.feast_run.proofs.world.atoms.Given as goal
+
+abbrev pub invariant-loop-line : goal.invariant-loop-line
+invariant-loop-line l = record {
+  valid : All (IsPlaced l.width l.height) (map placed_value l.found.items);
+  text : l.bytes ≡ flat_map placed_line (map placed_value l.found.items) ++ l.rest;
+}
+
+abbrev pub decreases-loop-line : goal.decreases-loop-line
+decreases-loop-line l = length l.rest

@@ -1,0 +1,60 @@
+-- What a call promises, in the words of who calls it. Each follows from how a call ends.
+use Rattle.std.specs.Prelude.{ℕ, ◌≡◌, ◌≢◌, ◌≤◌, ◌-◌, length, List, [], ◌∷◌, ◌++◌, Option, Some, None, ◌⊎◌}
+use Rattle.feast_base.specs.Held.{LoadMayFail, ShelfHeld, SinkHeld}
+use Rattle.feast_base.specs.Outside.{File, file_of}
+use Rattle.feast_run.specs.Answer.{AreNamed, Comes, HasElement, HasWorld, IsRun, Setting, setting}
+use Rattle.feast_run.specs.Element.{ElementValue, Defines, after_swap}
+use Rattle.feast_run.specs.Grid.{replay}
+use Rattle.feast_run.specs.Report.{report}
+use Rattle.feast_run.specs.Run.{journal_of, start_of}
+use Rattle.feast_run.specs.World.{WorldValue, IsWorld, world_text}
+use Rattle.feast_run.specs.declared.status.Status.{Status}
+use Rattle.feast_run.specs.declared.status.Status.TheVariants.{Done, Usage, SinkFault, NoMemory}
+
+-- a run whose files are told: the bytes appended are the report of the world's attempts, each a record in its order,
+-- none abandoned, over the grid that these records give when they are replayed from the world's start
+pub record RanTold (files : List File) (words : List (List ℕ)) (appended : List ℕ) : Type 0 where
+  pub world_word : List ℕ
+  pub element_word : List ℕ
+  pub form : IsRun words world_word element_word
+  pub world : WorldValue
+  pub world_file : file_of world_word files ≡ Some (world_text world)
+  pub world_valid : IsWorld world
+  pub element : ElementValue
+  pub element_bytes : List ℕ
+  pub element_file : file_of element_word files ≡ Some element_bytes
+  pub element_text : Defines element_bytes element
+  pub named : AreNamed world element
+  pub shown : appended ≡ report (element.name ∷ []) (replay (after_swap element) (start_of world) (journal_of world.tries)) (journal_of world.tries) []
+
+-- the headline: where the shelf tells its files and the sink what is written, and the status is Done, this was appended
+abbrev pub Headline : Option (List File) → Option (List ℕ) → Option (List ℕ) → List (List ℕ) → Status → Type 0
+Headline None written written' words status = Unit {0}
+Headline (Some files) None written' words status = Unit {0}
+Headline (Some files) (Some old) written' words status = status ≡ Done → (appended : List ℕ) × ((written' ≡ Some (old ++ appended)) × RanTold files words appended)
+
+-- Usage comes exactly where the words have no form, unless memory is wanted or the sink fails
+pub record UsageExactly (words : List (List ℕ)) (status : Status) : Type 0 where
+  pub only : status ≡ Usage → (world element : List ℕ) → IsRun words world element → ⊥
+  pub where_ : ((world element : List ℕ) → IsRun words world element → ⊥) → (status ≡ Usage) ⊎ ((status ≡ SinkFault) ⊎ (status ≡ NoMemory))
+
+-- where files are told and the sink's count stays, a call ends with the status that it comes to, or wants memory
+abbrev pub Exactly : (List ℕ → Type 0) → Setting → ℕ → ℕ → Option (List File) → Status → Type 0
+Exactly may_fail s faults faults' None status = Unit {0}
+Exactly may_fail s faults faults' (Some files) status = (right : Status) (text : List ℕ) → Comes may_fail s right text → faults' ≡ faults → (status ≡ right) ⊎ (status ≡ NoMemory)
+
+-- completeness: files of the form, within their limits, and counts that stay give Done, or want of memory
+abbrev pub Complete : Option (List File) → List (List ℕ) → List (List ℕ) → List (List ℕ) → ℕ → ℕ → Status → Type 0
+Complete None failed failed' words faults faults' status = Unit {0}
+Complete (Some files) failed failed' words faults faults' status =
+    (world element : List ℕ) (w : WorldValue) (e : ElementValue) → IsRun words world element → HasWorld (Some files) world w → HasElement (Some files) element e → AreNamed w e →
+    failed' ≡ failed → faults' ≡ faults → (status ≡ Done) ⊎ (status ≡ NoMemory)
+
+-- over a shelf and a sink in memory: where no call is listed to fail, each file word has a file and there is room for
+-- whatever text the call comes to, no count rises; so neither SinkFault comes, nor a name is noted
+abbrev pub IsQuiet : ShelfHeld → ShelfHeld → SinkHeld → SinkHeld → List (List ℕ) → Status → Type 0
+IsQuiet shelf shelf' sink sink' words status =
+    shelf.fail ≡ [] → sink.fail ≡ [] →
+    ((world element : List ℕ) → IsRun words world element → (file_of world shelf.files ≢ None) × (file_of element shelf.files ≢ None)) →
+    ((right : Status) (text : List ℕ) → Comes (LoadMayFail shelf) (setting (Some shelf.files) shelf.failed shelf'.failed words) right text → length text ≤ sink.room - length sink.written) →
+    (shelf'.failed ≡ shelf.failed) × (sink'.faults ≡ sink.faults) × (status ≢ SinkFault)

@@ -1,0 +1,54 @@
+-- What a stage of a call answers where it goes no further.
+use Rattle.std.specs.Prelude.{ℕ, ◌≡◌, List, Option, ◌⊎◌}
+use Rattle.feast_base.specs.Outside.{File}
+use Rattle.feast_base.specs.Refusals.{unreadable_line, longer_line}
+use Rattle.feast_base.specs.declared.shelf.LoadFault.{LoadFault}
+use Rattle.feast_base.specs.declared.shelf.LoadFault.TheVariants.{Failed, TooLong}
+use Rattle.feast_base.specs.declared.shelf.LoadFault.TheVariants as fault
+use Rattle.feast_run.specs.Answer.{Unread, NoWorld, NoElement, not_built_line, world_limit, element_limit}
+use Rattle.feast_run.specs.declared.said.Stop.{Stop}
+use Rattle.feast_run.specs.declared.said.Stop.TheVariants.{Refused, NoMemory}
+use Rattle.feast_run.specs.declared.status.Status.{Status}
+use Rattle.feast_run.specs.declared.status.Status.TheVariants.{Unreadable, ElementRefused, WorldRefused}
+
+-- a stop tells of a status and a text; at want of memory no name was noted, or one was whose line could not be made
+abbrev pub Stops : (Status → List ℕ → Type 0) → Type 0 → Stop → Type 0
+Stops P kept (Refused said) = P said.status said.text.items
+Stops P kept NoMemory = kept ⊎ ((text : List ℕ) × P Unreadable text)
+
+-- a stop with this status and this line, unless memory is wanted
+abbrev pub IsStop : Status → List ℕ → Stop → Type 0
+IsStop status line (Refused said) = (said.status ≡ status) × (said.text.items ≡ line)
+IsStop status line NoMemory = Unit {0}
+
+-- a stop at a load with this fault
+abbrev pub IsLoadStop : List ℕ → ℕ → LoadFault → Stop → Type 0
+IsLoadStop word limit Failed stop = IsStop Unreadable (unreadable_line word) stop
+IsLoadStop word limit TooLong stop = IsStop Unreadable (longer_line word limit) stop
+IsLoadStop word limit fault.NoMemory stop = stop ≡ NoMemory
+
+-- what a stage of loading says
+pub record LoadStop (may_fail : List ℕ → Type 0) (files : Option (List File)) (failed failed' : List (List ℕ)) (word : List ℕ) (limit : ℕ) (status : Status) (text : List ℕ) : Type 0 where
+  pub status_is : status ≡ Unreadable
+  pub unread : Unread may_fail files failed failed' word limit text
+
+-- the bytes of a world say none
+pub record WorldStop (files : Option (List File)) (failed failed' : List (List ℕ)) (word : List ℕ) (status : Status) (text : List ℕ) : Type 0 where
+  pub status_is : status ≡ WorldRefused
+  pub bad : NoWorld files word
+  pub kept : failed' ≡ failed
+  pub line : text ≡ not_built_line word
+
+-- the bytes of an element define none
+pub record ElementStop (files : Option (List File)) (failed failed' : List (List ℕ)) (word : List ℕ) (status : Status) (text : List ℕ) : Type 0 where
+  pub status_is : status ≡ ElementRefused
+  pub bad : NoElement files word
+  pub kept : failed' ≡ failed
+  pub line : text ≡ not_built_line word
+
+-- what the stage of the world says, and that of the element
+abbrev pub StopsWorld : (List ℕ → Type 0) → Option (List File) → List (List ℕ) → List (List ℕ) → List ℕ → Status → List ℕ → Type 0
+StopsWorld may_fail files failed failed' word status text = LoadStop may_fail files failed failed' word world_limit status text ⊎ WorldStop files failed failed' word status text
+
+abbrev pub StopsElement : (List ℕ → Type 0) → Option (List File) → List (List ℕ) → List (List ℕ) → List ℕ → Status → List ℕ → Type 0
+StopsElement may_fail files failed failed' word status text = LoadStop may_fail files failed failed' word element_limit status text ⊎ ElementStop files failed failed' word status text

@@ -1,0 +1,98 @@
+-- A world of one tile, and its text.
+use Rattle.std.specs.Prelude.{ℕ, ◌≡◌, ◌+◌, ◌*◌, ◌<◌, ◌≤◌, ◌^◌, Bool, true, false, ◌&&◌, ◌||◌, List, [], ◌∷◌, ◌++◌, length, codes, decimal, All, eqb, nat_le}
+use Rattle.std.specs.List.{flat_map, list_all, AllPairs}
+use Rattle.feast_run.specs.Report.{field_text, hex_end}
+
+-- an attempt: the site and the seed of an event
+pub record TryValue : Type 0 where
+  pub x : ℕ
+  pub y : ℕ
+  pub seed : ℕ
+
+-- an atom that a world places: its site and the name of its type
+pub record PlacedValue : Type 0 where
+  pub x : ℕ
+  pub y : ℕ
+  pub name : List ℕ
+
+-- a world of one tile: its size, its attempts in order, and its atoms
+pub record WorldValue : Type 0 where
+  pub width : ℕ
+  pub height : ℕ
+  pub tries : List TryValue
+  pub placed : List PlacedValue
+
+-- the part of a `try` line after its first words
+abbrev pub try_rest : TryValue → List ℕ
+try_rest t = field_text t.x ++ (field_text t.y ++ hex_end 16 t.seed)
+
+abbrev pub try_line : TryValue → List ℕ
+try_line t = codes "try 0 " ++ try_rest t
+
+-- the part of an `atom` line after its first word
+abbrev pub placed_rest : PlacedValue → List ℕ
+placed_rest p = field_text p.x ++ (field_text p.y ++ (p.name ++ codes "\n"))
+
+abbrev pub placed_line : PlacedValue → List ℕ
+placed_line p = codes "atom " ++ placed_rest p
+
+-- the first three lines: the form's version, one tile, and the tile's size
+abbrev pub head_text : ℕ → ℕ → List ℕ
+head_text width height = codes "feast 1\ntiles 1 1\nsize " ++ (field_text width ++ (decimal height ++ codes "\n"))
+
+-- the text of a world: its head, its attempts, its atoms
+abbrev pub world_text : WorldValue → List ℕ
+world_text w = head_text w.width w.height ++ (flat_map try_line w.tries ++ flat_map placed_line w.placed)
+
+-- a letter A to Z
+abbrev pub is_upper : ℕ → Bool
+is_upper b = nat_le 65 b && nat_le b 90
+
+-- a letter, a digit or `_`
+abbrev pub is_word_byte : ℕ → Bool
+is_word_byte b = is_upper b || (nat_le 97 b && nat_le b 122) || (nat_le 48 b && nat_le b 57) || eqb b 95
+
+-- the name of a type: A to Z, then letters, digits and `_`, at most 255 bytes in all
+abbrev pub is_type_name : List ℕ → Bool
+is_type_name [] = false
+is_type_name (b ∷ bs) = is_upper b && list_all is_word_byte bs && nat_le (length bs) 254
+
+-- an attempt whose site is in a tile of this size
+pub record IsTry (width height : ℕ) (t : TryValue) : Type 0 where
+  pub x_in : t.x < width
+  pub y_in : t.y < height
+  pub seed_fits : t.seed < 2 ^ 64
+
+-- an atom line of a tile of this size
+pub record IsPlaced (width height : ℕ) (p : PlacedValue) : Type 0 where
+  pub x_in : p.x < width
+  pub y_in : p.y < height
+  pub named : is_type_name p.name ≡ true
+
+-- two atoms at different sites
+abbrev pub AreApart : PlacedValue → PlacedValue → Type 0
+AreApart p q = (p.x ≡ q.x) × (p.y ≡ q.y) → ⊥
+
+-- the place of an atom line in row order
+abbrev pub place_in : ℕ → PlacedValue → ℕ
+place_in width p = p.y * width + p.x
+
+-- the ranges of a world of one tile
+pub record IsShaped (w : WorldValue) : Type 0 where
+  pub wide : 8 ≤ w.width
+  pub not_wider : w.width ≤ 64
+  pub high : 8 ≤ w.height
+  pub not_higher : w.height ≤ 64
+  pub tries : All (IsTry w.width w.height) w.tries
+  pub placed : All (IsPlaced w.width w.height) w.placed
+
+-- a world of one tile: its ranges, at most a million attempts, and no two atoms at one site
+pub record IsWorld (w : WorldValue) : Type 0 where
+  pub shaped : IsShaped w
+  pub few : length w.tries ≤ 1000000
+  pub apart : AllPairs AreApart w.placed
+
+-- the bytes say this world
+pub record Says (bytes : List ℕ) (w : WorldValue) : Type 0 where
+  pub text : bytes ≡ world_text w
+  pub valid : IsWorld w

@@ -1,0 +1,24 @@
+//! One call of the simulator, from its words to what it writes.
+//!
+//! So far it does `run WORLD FILE` for a world of one tile and an element that swaps two sites.
+#![tactic(auto)]
+
+mod element;
+mod grid;
+mod memory;
+mod pieces;
+mod report;
+mod run;
+mod said;
+mod stages;
+mod status;
+mod swapper;
+mod top;
+mod world;
+
+pub use memory::feast_in_memory;
+pub use status::Status;
+pub use top::feast;
+
+#[cfg(test)]
+mod tests;

@@ -1,0 +1,26 @@
+//! The top call over a shelf and a sink in memory.
+ghost use Rattle.std.specs.Prelude.{◌<◌, ◌^◌, ◌-◌, map, string_bytes};
+ghost use Rattle.feast_run.specs.Promises.{IsQuiet};
+
+use crate::{Status, feast};
+use feast_base::{Gate, MemShelf, MemSink};
+use std::alloc::Global;
+use std::thread::Threads;
+
+/// Does what the words say, as `feast` does, over files and a sink in memory.
+///
+/// Where no call of them is listed to fail, each file word has a file, and the sink has room for
+/// the text, no load and no put fails; so the status is none of those that a failure gives.
+pub fn feast_in_memory<R: Threads + Sync, G: Gate>(
+    rt: &R,
+    alloc: Global,
+    words: &[String],
+    shelf: &mut MemShelf,
+    sink: &mut MemSink,
+    gate: &G,
+) -> Status
+    requires { sink.old.faults < 2 ^ 64 - 1 }
+    ensures { IsQuiet shelf.old shelf.new sink.old sink.new (map string_bytes words.now) result }
+{
+    feast(rt, alloc, words, shelf, sink, gate)
+}

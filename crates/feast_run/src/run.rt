@@ -1,0 +1,86 @@
+//! A run of one tile: its start, its journal, its report.
+ghost use Rattle.std.specs.Prelude.{◌≡◌, ◌+◌, ◌≤◌, ◌<◌, IfOk, length, map};
+ghost use Rattle.feast_run.specs.Element.{after_swap};
+ghost use Rattle.feast_run.specs.Grid.{replay};
+ghost use Rattle.feast_run.specs.Run.{start_of, journal_of, run_report};
+ghost use Rattle.feast_run.specs.Values.{record_value, try_value, world_value, element_value};
+ghost use Rattle.feast_run.specs.World.{IsWorld};
+
+use crate::grid::{Behave, Grid, Record};
+use crate::report::{is_empty, push_report};
+use crate::swapper::Element;
+use crate::world::{RawWorld, Try};
+use bit_field::Atom;
+use feast_base::NoMemory;
+use std::alloc::Global;
+use window_sites::Window;
+
+/// An element's act: its swap is made, unless the centre is empty.
+#[derive(Drop)]
+struct Swapper<'a> {
+    element: &'a Element,
+}
+
+impl Behave for Swapper<'_> {
+    ghost after = { λ s. after_swap (element_value s.element.now) };
+
+    fn act(&mut self, window: &mut Window, _seed: u64) {
+        if !is_empty(&window.get(0)) {
+            window.swap(self.element.a, self.element.b);
+        }
+    }
+}
+
+/// The plane of the world's `atom` lines.
+fn start(alloc: Global, world: &RawWorld) -> Result<Grid, NoMemory>
+    requires { IsWorld (world_value world.now) }
+    ensures grid { IfOk result (λ g. g ≡ start_of (world_value world.now)) }
+    ensures size { IfOk result (λ g. (g.width ≡ world.now.width) × (g.height ≡ world.now.height)) }
+{
+    let mut grid = Grid::new(alloc, world.width, world.height)?;
+    for entry in world.placed.as_slice() {
+        grid.set(entry.x, entry.y, Atom::new(1, 0));
+    }
+    Ok(grid)
+}
+
+/// The journal of a world's attempts.
+fn journal(alloc: Global, tries: &[Try]) -> Result<Vec<Record>, NoMemory>
+    requires { length tries.now ≤ 1000000 }
+    ensures { IfOk result (λ v. map record_value v.items ≡ journal_of (map try_value tries.now)) }
+{
+    let mut records = Vec::new(alloc);
+    for (i, entry) in tries.iter().enumerate() {
+        let event = Record {
+            stamp: i as u32 + 1,
+            tile: 0,
+            attempt: i as u64,
+            x: entry.x,
+            y: entry.y,
+            seed: entry.seed,
+        };
+        match records.push(event) {
+            Ok(()) => {}
+            Err(_) => return Err(NoMemory),
+        }
+    }
+    Ok(records)
+}
+
+/// The report of a run.
+pub fn report_of(alloc: Global, world: &RawWorld, element: &Element) -> Result<Vec<u8>, NoMemory>
+    requires { IsWorld (world_value world.now) }
+    ensures { IfOk result (λ v. v.items ≡ run_report (world_value world.now) (element_value element.now)) }
+{
+    let mut grid = start(alloc, world)?;
+    let records = journal(alloc, world.tries.as_slice())?;
+    grid.replay(records.as_slice(), &mut Swapper { element });
+    let mut out = Vec::new(alloc);
+    push_report(
+        &mut out,
+        std::slice::from_ref(&element.name),
+        &grid,
+        records.as_slice(),
+    )?;
+    Ok(out)
+}

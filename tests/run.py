@@ -1,0 +1,63 @@
+#!/usr/bin/env python3
+"""Runs the repository's own cases against a program: run.py PROGRAM [CASE..].
+
+Each folder of tests/cases is one case: `args` has the words, one a line; `expected` has what the
+program is to write on standard output; `status` has its exit status; `shows` says in one line what
+the case shows. All other files are inputs, and the case runs in a copy of its folder. Where
+`stdout` says `full`, standard output is a full device, and the status alone is compared.
+"""
+import pathlib
+import shutil
+import subprocess
+import sys
+import tempfile
+
+CASES = pathlib.Path(__file__).resolve().parent / "cases"
+
+
+def words_of(case):
+    """The words of a case, as bytes."""
+    text = (case / "args").read_bytes()
+    return text.split(b"\n")[:-1] if text.endswith(b"\n") else text.split(b"\n")
+
+
+def run(program, case):
+    """What is wrong with a case, or None."""
+    with tempfile.TemporaryDirectory() as folder:
+        copy = pathlib.Path(folder) / case.name
+        shutil.copytree(case, copy)
+        command = [program.encode(), *words_of(case)]
+        full = (case / "stdout").exists()
+        with open("/dev/full", "wb") as device:
+            done = subprocess.run(
+                command,
+                cwd=copy,
+                stdin=subprocess.DEVNULL,
+                stdout=device if full else subprocess.PIPE,
+                stderr=subprocess.DEVNULL,
+                timeout=60,
+                check=False,
+            )
+    status = int((case / "status").read_text())
+    if done.returncode != status:
+        return f"status {done.returncode}, not {status}"
+    if not full and done.stdout != (case / "expected").read_bytes():
+        return f"wrote {done.stdout[:200]!r}"
+    return None
+
+
+def main():
+    program = str(pathlib.Path(sys.argv[1]).resolve())
+    names = sys.argv[2:] or sorted(case.name for case in CASES.iterdir())
+    failed = 0
+    for name in names:
+        fault = run(program, CASES / name)
+        if fault is not None:
+            failed += 1
+            print(f"{name}: {(CASES / name / 'shows').read_text().strip()}: {fault}")
+    print(f"{len(names) - failed} passed, {failed} failed")
+    return 1 if failed else 0
+
+
+if __name__ == "__main__":
+    sys.exit(main())
