@@ -21,3 +21,7 @@ are_few ps n = list_all (λ t. nat_le (degree t ps) 8) (range_with_len 0 n)
 
 pub all_few : list_all (λ tx. list_all (λ ty. are_few (near_pairs tx (tx * ty)) (tx * ty)) (range_with_len 1 8)) (range_with_len 1 8) ≡ true
 all_few = refl
+
+-- there are at most 210 edges
+pub all_bounded : list_all (λ tx. list_all (λ ty. nat_le (length (near_pairs tx (tx * ty))) 210) (range_with_len 1 8)) (range_with_len 1 8) ≡ true
+all_bounded = refl

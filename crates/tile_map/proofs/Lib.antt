@@ -4,5 +4,6 @@ pub mod Lists
 pub mod Members
 pub mod Near
 pub mod Pairs
+pub mod PlaneLaws
 pub mod Shared
 pub mod Spans

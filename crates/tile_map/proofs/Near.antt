@@ -10,9 +10,10 @@ use Rattle.window_sites.specs.Sites.{offset_of, distance}
 use Rattle.window_sites.proofs.Offsets.{offset-near, offset-found}
 use Rattle.window_sites.proofs.Tables.{any_get}
 use Rattle.tile_map.specs.Plane.{Site, MapValue, site, tiles_of, is_live, is_around, is_held, apart, in_window}
+use Rattle.tile_map.specs.Spans.{left_of, right_of, top_of, bottom_of, gap}
 use Rattle.tile_map.specs.Edges.{shifted, live_site, window_site, is_held_at, reaches}
 use Rattle.tile_map.proofs.Lists.{both, together}
-use Rattle.tile_map.proofs.Spans.{le_test, test_le, lt_test, test_lt, left_of, right_of, top_of, bottom_of, held_inside, held_span}
+use Rattle.tile_map.proofs.Spans.{le_test, test_le, lt_test, test_lt, held_inside, held_span}
 
 -- the offset from one coordinate to another
 abbrev pub offset_to : ℕ → ℕ → ℤ
@@ -95,10 +96,6 @@ window_apart m c s h = test_le _ _ (both _ _ h).1
 
 pub held_live : (m : MapValue) (t : ℕ) (s : Site) → is_held m t s ≡ true → is_live m s ≡ true
 held_live m t s h = (both _ _ (both _ _ h).0).1
-
--- how far a coordinate is from an interval
-abbrev pub gap : ℕ → ℕ → ℕ → ℕ
-gap from end x = (from - x) + (x + 1 - end)
 
 -- the nearest of an interval
 nearest : (from end x : ℕ) → from < end → (u : ℕ) × (from ≤ u) × (u < end) × (apart x u ≡ gap from end x)

@@ -7,26 +7,14 @@ use Rattle.std.proofs.lemmas.Bool.Decides.{nat_tests}
 use Rattle.std.proofs.lemmas.Nat.{rows}
 use Rattle.std.proofs.lemmas.List.Sums.{position_or_len_is}
 use Rattle.std.proofs.lemmas.List.Elements.{filter_passes}
-use Rattle.std.proofs.lemmas.Option.{slice_get-get_or}
+use Rattle.std.proofs.lemmas.Option.{slice_get-get_or, slice_get_within, get_or_from_slice_get}
 use Rattle.tile_map.specs.Plane.{Site, MapValue, IsMap, site, tiles_of, sites_of, is_held}
+use Rattle.tile_map.specs.Spans.{left_of, right_of, top_of, bottom_of, left_both, right_both, top_both, bottom_both}
 use Rattle.tile_map.specs.Edges.{are_neighbours, pairs_of, pair_at, shared_by, shared_of, register_of}
 use Rattle.tile_map.proofs.Lists.{both, together}
 use Rattle.tile_map.proofs.Blocks.{block, block_length, block_get, IsBlock, filter_block}
-use Rattle.tile_map.proofs.Spans.{test_le, test_lt, left_of, right_of, top_of, bottom_of, spans_meet, held_inside, held_span, not_left, not_right, not_above, not_under}
+use Rattle.tile_map.proofs.Spans.{test_le, test_lt, spans_meet, held_inside, held_span, not_left, not_right, not_above, not_under}
 use Rattle.tile_map.proofs.Pairs.{Joined, edge_joined, neighbours_near}
-
--- the columns and rows that two tiles hold together
-abbrev pub left_both : MapValue → ℕ × ℕ → ℕ
-left_both m p = max (left_of m p.0) (left_of m p.1)
-
-abbrev pub right_both : MapValue → ℕ × ℕ → ℕ
-right_both m p = min (right_of m p.0) (right_of m p.1)
-
-abbrev pub top_both : MapValue → ℕ × ℕ → ℕ
-top_both m p = max (top_of m p.0) (top_of m p.1)
-
-abbrev pub bottom_both : MapValue → ℕ × ℕ → ℕ
-bottom_both m p = min (bottom_of m p.0) (bottom_of m p.1)
 
 record Near (m : MapValue) (t u : ℕ) : Type 0 where
   pub left : t % m.tx ≤ u % m.tx + 1
@@ -193,3 +181,26 @@ register_none m e x y out = ap (option_map (λ k. 1 + 2 * k)) (position_none (is
             let passes : (is_held m (pair_at m e).0 q && is_held m (pair_at m e).1 q) ≡ true = filter_passes (λ s. is_held m (pair_at m e).0 s && is_held m (pair_at m e).1 s) (sites_of m) k (site 0 0) lt in
             let same : q ≡ site x y = λ i. record { x = s.0 i; y = s.1 i } in
             cc (ap (λ r. is_held m (pair_at m e).0 r && is_held m (pair_at m e).1 r) same, passes, out)
+
+-- two places of a block with one site are one
+block_once : (x n y k i j : ℕ) (d : Site) → i < k * n → j < k * n → get_or (block x n y k) i d ≡ get_or (block x n y k) j d → i ≡ j
+block_once x n y k i j d a b same =
+    let whole : site (x + i % n) (y + i / n) ≡ site (x + j % n) (y + j / n) = sym (block_at x n y k i d a) ∙ same ∙ block_at x n y k j d b in
+    let p = row_column i n k a in
+    let q = row_column j n k b in
+    same_place x y n i (j / n) (j % n) p.0 (ap (λ (s : Site). s.x) whole) (ap (λ (s : Site). s.y) whole) ∙ sym q.0
+
+block_places : (x n y k i j : ℕ) (s : Site) → slice_get (block x n y k) i ≡ Some s → slice_get (block x n y k) j ≡ Some s → i ≡ j
+block_places x n y k i j s a b =
+    let long = block_length x n y k in
+    let p = slice_get_within (block x n y k) i s a in
+    let q = slice_get_within (block x n y k) j s b in
+    block_once x n y k i j s (omega (arith, long, p)) (omega (arith, long, q)) (get_or_from_slice_get (block x n y k) i s s a ∙ sym (get_or_from_slice_get (block x n y k) j s s b))
+
+-- a site is shared once
+pub shared_once : (m : MapValue) → IsMap m → (e i j : ℕ) (s : Site) → e < length (pairs_of m) → slice_get (shared_of m e) i ≡ Some s → slice_get (shared_of m e) j ≡ Some s → i ≡ j
+shared_once m k e i j s lt a b =
+    let p = pair_at m e in
+    let same = shared_block m k p (edge_joined m e lt) in
+    block_places (left_both m p) (right_both m p - left_both m p) (top_both m p) (bottom_both m p - top_both m p) i j s
+    (ap (λ xs. slice_get xs i) (sym same) ∙ a) (ap (λ xs. slice_get xs j) (sym same) ∙ b)

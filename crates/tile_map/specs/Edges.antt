@@ -1,10 +1,10 @@
 -- The edges between neighbouring tiles, the sites that they share, and those that an event needs.
-use Rattle.std.specs.Prelude.{ℕ, ◌+◌, ◌-◌, ◌*◌, ◌/◌, ◌%◌, ◌==◌, List, Bool, true, false, ◌&&◌, ◌||◌, nat_lt, if◌then◌else◌, Option, Some, None, ℤ, pos, negsuc, length, map, filter, flat_map, position, slice_index_or}
+use Rattle.std.specs.Prelude.{ℕ, ◌≡◌, ◌+◌, ◌-◌, ◌*◌, ◌/◌, ◌%◌, ◌==◌, List, Bool, true, false, ◌&&◌, ◌||◌, nat_lt, if◌then◌else◌, Option, Some, None, ℤ, pos, negsuc, length, map, filter, flat_map, position, slice_index_or}
 use Rattle.std.specs.List.{range_with_len, list_any}
 use Rattle.std.specs.Option.{option_map}
 use Rattle.feast_base.specs.Edges.{EdgeSize}
 use Rattle.window_sites.specs.Sites.{offset_of}
-use Rattle.tile_map.specs.Plane.{Site, MapValue, site, tiles_of, is_live, sites_of, is_meeting, is_held}
+use Rattle.tile_map.specs.Plane.{Site, MapValue, IsMap, site, tiles_of, is_live, sites_of, is_meeting, is_held}
 
 -- whether t is the lower of two neighbouring tiles, diagonally too
 abbrev pub are_neighbours : MapValue → ℕ → ℕ → Bool
@@ -90,3 +90,9 @@ is_needed m t c e = has_end m t e && reaches m c (other_end m t e)
 -- the edges that an event of tile t at c needs, rising
 abbrev pub needs_of : MapValue → ℕ → Site → List ℕ
 needs_of m t c = filter (is_needed m t c) (range_with_len 0 (length (pairs_of m)))
+
+-- what a map keeps: its edges by their ends, and the edges of each tile
+pub record IsKept (m : MapValue) (ends : List (ℕ × ℕ)) (around : List (List ℕ)) : Type 0 where
+  pub valid : IsMap m
+  pub pairs : ends ≡ pairs_of m
+  pub lists : around ≡ map (edges_at m) (range_with_len 0 (tiles_of m))

@@ -1,2 +1,4 @@
 pub mod Plane
 pub mod Edges
+pub mod Laws
+pub mod Spans
