@@ -2,16 +2,8 @@
 use Rattle.std.proofs.Common.{ℕ, zero, suc, ◌≡◌, ◌+◌, ◌*◌, ◌/◌, ◌%◌, ◌<◌, ◌≤◌, Bool, true, false, ◌&&◌, List, [], ◌∷◌, length, refl, arith, map, ◌==◌}
 use Rattle.std.specs.Prelude.{◌||◌, nat_le, nat_lt, filter, flat_map}
 use Rattle.std.specs.List.{list_all, range_with_len}
-
--- neighbours by their columns and rows
-abbrev pub are_near : ℕ → ℕ → ℕ → Bool
-are_near tx t u = nat_lt t u && ((nat_le (t % tx) (u % tx + 1) && nat_le (u % tx) (t % tx + 1)) && (nat_le (t / tx) (u / tx + 1) && nat_le (u / tx) (t / tx + 1)))
-
-abbrev pub near_pairs : ℕ → ℕ → List (ℕ × ℕ)
-near_pairs tx n = flat_map (λ t. map (λ u. (t, u)) (filter (are_near tx t) (range_with_len 0 n))) (range_with_len 0 n)
-
-abbrev pub is_end : ℕ → ℕ × ℕ → Bool
-is_end t p = p.0 == t || p.1 == t
+use Rattle.tile_map.specs.Edges.{is_end}
+use Rattle.tile_map.specs.Neighbours.{are_near, near_pairs}
 
 abbrev pub degree : ℕ → List (ℕ × ℕ) → ℕ
 degree t ps = length (filter (is_end t) ps)

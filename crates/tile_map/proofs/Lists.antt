@@ -44,7 +44,7 @@ range_in_three n lo hi a b =
     let end : hi ≡ lo + (hi - lo) = omega arith in
     range_cut 0 lo n lo (n - lo) whole start ∙ ap (λ xs. range_with_len 0 lo ++ xs) (range_cut lo hi (n - lo) (hi - lo) (n - hi) rest end)
 
-append_nil : {X : Type 0} (xs : List X) → xs ++ [] ≡ xs
+pub append_nil : {X : Type 0} (xs : List X) → xs ++ [] ≡ xs
 append_nil [] = refl
 append_nil (x ∷ xs) = ap (λ ys. x ∷ ys) (append_nil xs)
 

@@ -57,8 +57,8 @@ stands m k s h =
       row = row_of m.tx (s.y / m.h) (s.x / m.w) x;
     }
 
-pub owner-owned : (m : MapValue) → IsMap m → (s : Site) → is_live m s ≡ true → is_owned m (owner_of m s) s ≡ true
-owner-owned m k s h =
+pub owner_owned : (m : MapValue) → IsMap m → (s : Site) → is_live m s ≡ true → is_owned m (owner_of m s) s ≡ true
+owner_owned m k s h =
     let o = stands m k s h in
     let x = ap (λ a. is_inside m.w a s.x) o.column ∙ inside_part m.w s.x (omega (arith, k.w_low)) in
     let y = ap (λ a. is_inside m.h a s.y) o.row ∙ inside_part m.h s.y (omega (arith, k.h_low)) in
@@ -119,7 +119,7 @@ positions m valid t k lt small =
 
 pub owners : (m : MapValue) → IsMap m → HasOwners m
 owners m k = record {
-  owner = owner-owned m k;
+  owner = owner_owned m k;
   holder = λ s h. window-held m k s s h (centre-near m s h);
   one = owner-one m;
   positions = positions m k;

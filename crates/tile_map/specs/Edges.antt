@@ -28,17 +28,25 @@ low_end m e = (pair_at m e).0
 abbrev pub high_end : MapValue → ℕ → ℕ
 high_end m e = (pair_at m e).1
 
+-- whether tile t is one of a pair
+abbrev pub is_end : ℕ → ℕ × ℕ → Bool
+is_end t p = p.0 == t || p.1 == t
+
 -- whether tile t is an end of the edge
 abbrev pub has_end : MapValue → ℕ → ℕ → Bool
-has_end m t e = low_end m e == t || high_end m e == t
+has_end m t e = is_end t (pair_at m e)
 
 -- the end that is not t
 abbrev pub other_end : MapValue → ℕ → ℕ → ℕ
 other_end m t e = if low_end m e == t then high_end m e else low_end m e
 
+-- of these edges of a plane of n tiles, those of tile t, rising
+abbrev pub edges_among : List (ℕ × ℕ) → ℕ → ℕ → List ℕ
+edges_among ps n t = filter (λ e. is_end t (slice_index_or ps e (n, n + 1))) (range_with_len 0 (length ps))
+
 -- the edges of tile t, rising
 abbrev pub edges_at : MapValue → ℕ → List ℕ
-edges_at m t = filter (has_end m t) (range_with_len 0 (length (pairs_of m)))
+edges_at m t = edges_among (pairs_of m) (tiles_of m) t
 
 -- the sites that two tiles hold, row by row
 abbrev pub shared_by : MapValue → ℕ × ℕ → List Site

@@ -1,12 +1,15 @@
 //! The map of a plane.
 
-ghost use Rattle.std.specs.Prelude.{◌≡◌, ◌+◌, ◌*◌, ◌<◌, ◌≤◌, IsTrue, IfOk, length};
+ghost use Rattle.std.specs.Prelude.{◌≡◌, ◌+◌, ◌*◌, ◌<◌, ◌≤◌, IsTrue, IfOk, length, filter};
 ghost use Rattle.tile_map.specs.Plane.{MapValue, IsMap, site, tiles_of, is_live, owner_of, is_owned, is_held, site_in};
-ghost use Rattle.tile_map.specs.Spans.{left_of, right_of, top_of, bottom_of};
-ghost use Rattle.tile_map.specs.Edges.{pairs_of, pair_at, shared_of, register_of, needs_of};
+ghost use Rattle.tile_map.specs.Spans.{left_of, right_of, top_of, bottom_of, left_both, right_both, top_both, bottom_both};
+ghost use Rattle.tile_map.specs.Edges.{pairs_of, pair_at, other_end, edges_at, shared_of, register_of, reaches, needs_of};
 
+use crate::edges::{by_tile, pairs};
 use crate::needs::Needs;
 use crate::span::Span;
+use feast_base::NoMemory;
+use std::alloc::Global;
 use std::marker::Model;
 
 /// A plane of tiles: how many there are, how large they are, and the edges between them.
@@ -32,6 +35,25 @@ impl Model for Map {
 }
 
 impl Map {
+    /// The map of a plane of `tx` by `ty` tiles, each 1 to 8, of `w` by `h` sites, each 8 to 64.
+    /// It takes all its memory here.
+    pub fn new(alloc: Global, tx: u32, ty: u32, w: u32, h: u32) -> Result<Map, NoMemory>
+        requires { IsMap (record { tx = tx; ty = ty; w = w; h = h }) }
+        ensures { IfOk result (λ m. m ≡ record { tx = tx; ty = ty; w = w; h = h }) }
+    {
+        let tiles = tx * ty;
+        let ends = pairs(alloc, tx, tiles)?;
+        let around = by_tile(alloc, ends.as_slice(), tiles)?;
+        Ok(Map {
+            tx,
+            ty,
+            w,
+            h,
+            ends,
+            around,
+        })
+    }
+
     /// How many tiles there are.
     pub fn tiles(&self) -> u32
         ensures count { result ≡ tiles_of self.now }
@@ -81,6 +103,87 @@ impl Map {
         let x = tile % self.tx * self.w + centre % self.w;
         let y = tile / self.tx * self.h + centre / self.w;
         (x, y)
+    }
+
+    /// The edges that an event of the tile at the site needs: those to the other tiles that hold a
+    /// live site of its window.
+    pub fn needs(&self, tile: u32, x: u32, y: u32) -> Needs
+        requires tile { tile < tiles_of self.now }
+        requires centre { IsTrue (is_live self.now (site x y)) }
+        ensures { result ≡ needs_of self.now tile (site x y) }
+    {
+        self.needed(self.around[tile as usize].as_slice(), tile, x, y)
+    }
+
+    /// How many sites an edge shares: those that both its ends hold.
+    pub fn shared(&self, edge: u32) -> u32
+        requires { edge < length (pairs_of self.now) }
+        ensures { result ≡ length (shared_of self.now edge) }
+    {
+        let (columns, rows) = self.common(edge);
+        columns.len() * rows.len()
+    }
+
+    /// The first of the two registers that a shared site has in an edge, and `None` where the edge
+    /// does not share the site. Register 0 is the edge's clock, and two follow for each shared
+    /// site in row order.
+    pub fn register(&self, edge: u32, x: u32, y: u32) -> Option<u32>
+        requires { edge < length (pairs_of self.now) }
+        ensures { result ≡ register_of self.now edge (site x y) }
+    {
+        let (columns, rows) = self.common(edge);
+        if columns.contains(x) && rows.contains(y) {
+            Some(1 + 2 * ((y - rows.first) * columns.len() + (x - columns.first)))
+        } else {
+            None
+        }
+    }
+
+    // Of the edges of a tile, those that an event at the site needs.
+    fn needed(&self, edges: &[u32], tile: u32, x: u32, y: u32) -> Needs
+        requires edges { edges.now ≡ edges_at self.now tile }
+        requires tile { tile < tiles_of self.now }
+        requires centre { IsTrue (is_live self.now (site x y)) }
+        ensures { result ≡ filter (λ e. reaches self.now (site x y) (other_end self.now tile e)) edges.now }
+    {
+        let mut needs = Needs::new();
+        for edge in edges {
+            if self.reaches(self.other_end(*edge, tile), x, y) {
+                needs.push(*edge);
+            }
+        }
+        needs
+    }
+
+    // The end of an edge that is not the tile.
+    fn other_end(&self, edge: u32, tile: u32) -> u32
+        requires { edge < length (pairs_of self.now) }
+        ensures value { result ≡ other_end self.now tile edge }
+        ensures tile { result < tiles_of self.now }
+    {
+        let (lower, higher) = self.ends(edge);
+        if lower == tile { higher } else { lower }
+    }
+
+    // Whether a tile holds a live site of the window at the site.
+    fn reaches(&self, tile: u32, x: u32, y: u32) -> bool
+        requires tile { tile < tiles_of self.now }
+        requires centre { IsTrue (is_live self.now (site x y)) }
+        ensures { result ≡ reaches self.now (site x y) tile }
+    {
+        self.columns(tile).gap(x) + self.rows(tile).gap(y) <= 4
+    }
+
+    // The columns and the rows that both ends of an edge hold.
+    fn common(&self, edge: u32) -> (Span, Span)
+        requires { edge < length (pairs_of self.now) }
+        ensures left { result.0.first ≡ left_both self.now (pair_at self.now edge) }
+        ensures right { result.0.end ≡ right_both self.now (pair_at self.now edge) }
+        ensures top { result.1.first ≡ top_both self.now (pair_at self.now edge) }
+        ensures bottom { result.1.end ≡ bottom_both self.now (pair_at self.now edge) }
+    {
+        let (lower, higher) = self.ends(edge);
+        (self.columns(lower).common(self.columns(higher)), self.rows(lower).common(self.rows(higher)))
     }
 
     // The columns that a tile holds.
