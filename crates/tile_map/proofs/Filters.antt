@@ -1,8 +1,8 @@
 -- Filters of one range and its beginnings.
-use Rattle.std.proofs.Common.{ℕ, zero, suc, ◌≡◌, ◌+◌, ◌-◌, ◌<◌, ◌≤◌, Bool, true, false, ◌&&◌, List, [], ◌∷◌, ◌++◌, length, refl, sym, ap, ◌∙◌, arith, cond}
+use Rattle.std.proofs.Common.{ℕ, zero, suc, ◌≡◌, ◌+◌, ◌-◌, ◌<◌, ◌≤◌, Bool, true, false, ◌&&◌, List, [], ◌∷◌, ◌++◌, length, refl, sym, ap, ◌∙◌, arith, cond, take}
 use Rattle.std.specs.Prelude.{filter, map, flat_map}
 use Rattle.std.specs.List.{range_with_len}
-use Rattle.std.proofs.lemmas.List.{length-append, map-append}
+use Rattle.std.proofs.lemmas.List.{length-append, length-take, map-append}
 use Rattle.std.proofs.lemmas.List.Elements.{filter-append}
 use Rattle.tile_map.specs.Edges.{edges_among}
 use Rattle.tile_map.specs.Neighbours.{are_near, near_from}
@@ -81,3 +81,15 @@ near_next tx t n b base old new is start e =
     e ∙ (λ i. start i ++ cond (is i) ((t, n) ∷ []) [])
     ∙ append_assoc base (map {B = ℕ × ℕ} (λ u. (t, u)) (filter (are_near tx t) (range_with_len 0 n))) (cond (are_near tx t n) ((t, n) ∷ []) [])
     ∙ ap (λ xs. base ++ xs) (sym (near_more tx t n))
+
+-- what passes of the first i is at most i
+pub filter_take : (p : ℕ → Bool) (xs : List ℕ) (i : ℕ) → length (filter p (take i xs)) ≤ i
+filter_take p xs i = omega (arith, short (take i xs), length-take i xs)
+  where
+    short : (ys : List ℕ) → length (filter p ys) ≤ length ys
+    short [] = omega arith
+    short (y ∷ ys) = go (p y) (short ys)
+      where
+        go : (b : Bool) → length (filter p ys) ≤ length ys → length (cond b (y ∷ filter p ys) (filter p ys)) ≤ length (y ∷ ys)
+        go true h = omega (arith, h)
+        go false h = omega (arith, h)

@@ -1,17 +1,18 @@
 -- The laws of the plane.
-use Rattle.std.proofs.Common.{ℕ, zero, suc, ◌≡◌, ◌≢◌, ◌+◌, ◌-◌, ◌*◌, ◌/◌, ◌%◌, ◌<◌, ◌≤◌, Bool, true, false, ◌&&◌, ◌==◌, List, [], ◌∷◌, length, get_or, refl, sym, ap, ◌∙◌, subst, arith, cond, ◌⊎◌, inl, inr, ⊎_elim, Option, Some, None}
-use Rattle.std.specs.Prelude.{◌||◌, nat_le, nat_lt, filter, Contains, slice_get, if◌then◌else◌}
+use Rattle.std.proofs.Common.{ℕ, zero, suc, ◌≡◌, ◌≢◌, ◌+◌, ◌-◌, ◌*◌, ◌/◌, ◌%◌, ◌<◌, ◌≤◌, Bool, true, false, ◌&&◌, ◌==◌, List, [], ◌∷◌, length, get_or, map, refl, sym, ap, ◌∙◌, subst, arith, cond, ◌⊎◌, inl, inr, ⊎_elim, Option, Some, None}
+use Rattle.std.specs.Prelude.{All, ◌||◌, nat_le, nat_lt, filter, Contains, slice_get, if◌then◌else◌}
 use Rattle.std.specs.List.{range_with_len}
 use Rattle.std.specs.List.Sorted.{IsStrictlyIncreasing}
 use Rattle.std.proofs.lemmas.Bool.Decides.{nat_tests}
 use Rattle.std.proofs.lemmas.Nat.{rows}
 use Rattle.tile_map.specs.Plane.{Site, MapValue, IsMap, site, tiles_of, is_live, sites_of, is_inside, is_around, is_owned, owner_of, site_in, is_held, in_window, apart}
-use Rattle.tile_map.specs.Edges.{pairs_of, pair_at, low_end, high_end, shared_of, window_site, needs_of, is_needed, reaches, has_end, other_end}
+use Rattle.tile_map.specs.Edges.{pairs_of, pair_at, low_end, high_end, shared_of, window_site, edges_at, needs_of, is_needed, reaches, has_end, other_end}
 use Rattle.tile_map.specs.Laws.{Joins, Shares, IsLower, HasOwners, HasWindows, HasEdges, HasNeeds, IsPlane}
 use Rattle.tile_map.proofs.Lists.{both, together}
 use Rattle.tile_map.proofs.Spans.{le_test, test_le, lt_test, test_lt, times_more}
 use Rattle.std.proofs.lemmas.List.Kept.{IsStrictlyIncreasing-filter}
-use Rattle.std.proofs.lemmas.List.FromFn.{length-range_with_len, get_or-range_with_len}
+use Rattle.std.proofs.lemmas.List.FromFn.{length-range_with_len, get_or-range_with_len, length-map-range_with_len, get_or-map-range_with_len}
+use Rattle.std.proofs.lemmas.List.{get_or_default}
 use Rattle.std.proofs.lemmas.Option.{slice_get-get_or, get_or_from_slice_get, slice_get_within}
 use Rattle.tile_map.proofs.Near.{window_site-near, window_site-found, window_apart, held_live, reaches-held, reaches-some}
 use Rattle.tile_map.proofs.Blocks.{row, block, block_length, block_get, IsBlock, filter_block}
@@ -166,7 +167,7 @@ pub meet : (m : MapValue) → IsMap m → (t u : ℕ) (s : Site) → t ≢ u →
 meet m k t u s ne a b =
     ⊎_elim (λ lt. let r = meet_low m k t u s lt a b in (r.0, r.1, inl (r.2, r.3), r.4)) (λ lt. let r = meet_low m k u t s lt b a in (r.0, r.1, inr (r.2, r.3), r.4)) (order_of t u ne)
 
-ends_rise : (m : MapValue) (e : ℕ) → e < length (pairs_of m) → (low_end m e < high_end m e) × (high_end m e < tiles_of m)
+pub ends_rise : (m : MapValue) (e : ℕ) → e < length (pairs_of m) → (low_end m e < high_end m e) × (high_end m e < tiles_of m)
 ends_rise m e lt =
     let j = edge_joined m e lt in
     (test_lt _ _ (both _ _ j.near).0, j.high)
@@ -266,3 +267,28 @@ needs m k = record {
 -- all the laws
 pub plane : (m : MapValue) → IsMap m → IsPlane m
 plane m k = record { owners = owners m k; windows = windows m; edges = edges m k; needs = needs m k }
+
+-- what a map reads of an edge's ends
+pub pair_rises : (m n : MapValue) (items : List (ℕ × ℕ)) (e : ℕ) (p : ℕ × ℕ) → n ≡ m → items ≡ pairs_of n → e < length (pairs_of m) → p ≡ get_or items e p → (p.0 < p.1) × (p.1 < tiles_of m)
+pair_rises m n items e p same is lt read =
+    let whole : items ≡ pairs_of m = is ∙ ap pairs_of same in
+    let pair : p ≡ pair_at m e = read ∙ ap (λ xs. get_or xs e p) whole ∙ get_or_default (pairs_of m) e p (tiles_of m, tiles_of m + 1) lt in
+    subst (λ (q : ℕ × ℕ). (q.0 < q.1) × (q.1 < tiles_of m)) (sym pair) (ends_rise m e lt)
+
+-- the edges of a tile are edges
+pub edges_low : (m : MapValue) (t : ℕ) (es : List ℕ) → es ≡ edges_at m t → All (λ e. e < length (pairs_of m)) es
+edges_low m t es is k d lt =
+    let member = subst (In (get_or es k d)) is (in_get es k d lt) in
+    let parts = filter_in (has_end m t) (range_with_len 0 (length (pairs_of m))) (get_or es k d) member in
+    omega (arith, (range_in 0 (length (pairs_of m)) (get_or es k d) parts.0).1)
+
+-- what a map reads of a tile's edges
+pub around_long : (m n : MapValue) (lists : List (List ℕ)) (t : ℕ) → n ≡ m → lists ≡ map (edges_at n) (range_with_len 0 (tiles_of n)) → t < tiles_of m → t < length lists
+around_long m n lists t same is lt = omega (arith, ap tiles_of same, ap length is, length-map-range_with_len (edges_at n) 0 (tiles_of n), lt)
+
+pub around_read : (m n : MapValue) (lists : List (List ℕ)) (t : ℕ) (p : List ℕ) → n ≡ m → lists ≡ map (edges_at n) (range_with_len 0 (tiles_of n)) → t < tiles_of m → p ≡ get_or lists t p → p ≡ edges_at m t
+around_read m n lists t p same is lt read =
+    read ∙ ap (λ xs. get_or xs t p) is ∙ get_or-map-range_with_len (edges_at n) 0 (tiles_of n) t t p (omega (arith, ap tiles_of same, lt)) (omega arith) ∙ ap (λ q. edges_at q t) same
+
+pub around_few : (m n : MapValue) (t : ℕ) (es : List ℕ) → n ≡ m → IsMap n → t < tiles_of m → es ≡ edges_at m t → length es ≤ 8
+around_few m n t es same k lt is = omega (arith, ap length is, edges_at-few m (subst IsMap same k) t lt)

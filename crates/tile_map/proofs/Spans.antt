@@ -63,3 +63,6 @@ not_above m t x y h = grind (arith, nat_tests)
 
 pub not_under : (m : MapValue) (t x y : ℕ) → bottom_of m t ≤ y → is_held m t (site x y) ≡ false
 not_under m t x y h = grind (arith, nat_tests)
+
+pub live_test : (m : MapValue) (x y : ℕ) → x < m.tx * m.w → y < m.ty * m.h → is_live m (site x y) ≡ true
+live_test m x y a b = grind (arith, nat_tests)

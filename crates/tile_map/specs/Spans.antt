@@ -1,5 +1,5 @@
 -- The columns and rows that a tile holds, as intervals.
-use Rattle.std.specs.Prelude.{ℕ, ◌+◌, ◌-◌, ◌*◌, ◌/◌, ◌%◌, min, max}
+use Rattle.std.specs.Prelude.{ℕ, ◌+◌, ◌-◌, ◌*◌, ◌/◌, ◌%◌, min, max, Bool, ◌&&◌, nat_le, nat_lt, Option, Some, None, if◌then◌else◌}
 use Rattle.tile_map.specs.Plane.{MapValue}
 
 -- the first that part a of parts of one size holds, and one more than the last, of n in all
@@ -37,3 +37,11 @@ bottom_both m p = min (bottom_of m p.0) (bottom_of m p.1)
 -- how far a coordinate is from an interval
 abbrev pub gap : ℕ → ℕ → ℕ → ℕ
 gap from end x = (from - x) + (x + 1 - end)
+
+-- whether (x, y) is in a rectangle
+abbrev pub is_in : ℕ → ℕ → ℕ → ℕ → ℕ → ℕ → Bool
+is_in left right top bottom x y = (nat_le left x && nat_lt x right) && (nat_le top y && nat_lt y bottom)
+
+-- the place of (x, y) in a rectangle, row by row
+abbrev pub place_in : ℕ → ℕ → ℕ → ℕ → ℕ → ℕ → Option ℕ
+place_in left right top bottom x y = if is_in left right top bottom x y then Some ((y - top) * (right - left) + (x - left)) else None

@@ -1,13 +1,13 @@
 //! The map of a plane.
 
 ghost use Rattle.std.specs.Prelude.{◌≡◌, ◌+◌, ◌*◌, ◌<◌, ◌≤◌, IsTrue, IfOk, length, filter};
-ghost use Rattle.tile_map.specs.Plane.{MapValue, IsMap, site, tiles_of, is_live, owner_of, is_owned, is_held, site_in};
+ghost use Rattle.tile_map.specs.Plane.{MapValue, IsMap, site, tiles_of, owner_of, is_owned, is_held, site_in};
 ghost use Rattle.tile_map.specs.Spans.{left_of, right_of, top_of, bottom_of, left_both, right_both, top_both, bottom_both};
 ghost use Rattle.tile_map.specs.Edges.{pairs_of, pair_at, other_end, edges_at, shared_of, register_of, reaches, needs_of};
 
 use crate::edges::{by_tile, pairs};
 use crate::needs::Needs;
-use crate::span::Span;
+use crate::span::{Area, Span};
 use feast_base::NoMemory;
 use std::alloc::Global;
 use std::marker::Model;
@@ -70,16 +70,21 @@ impl Map {
     }
 
     /// The two tiles of an edge, the lower first.
+    #[tactic(auto, using(crate::proofs::PlaneLaws::ends_rise))]
     pub fn ends(&self, edge: u32) -> (u32, u32)
         requires { edge < length (pairs_of self.now) }
-        ensures { result ≡ pair_at self.now edge }
+        ensures pair { result ≡ pair_at self.now edge }
+        ensures rising { result.0 < result.1 }
+        ensures tile { result.1 < tiles_of self.now }
+        ensures valid { IsMap self.now }
     {
         self.ends[edge as usize]
     }
 
     /// The tile whose rectangle has the site, which is one of the plane.
     pub fn owner(&self, x: u32, y: u32) -> u32
-        requires { IsTrue (is_live self.now (site x y)) }
+        requires x { x < self.now.tx * self.now.w }
+        requires y { y < self.now.ty * self.now.h }
         ensures value { result ≡ owner_of self.now (site x y) }
         ensures owns { IsTrue (is_owned self.now result (site x y)) }
     {
@@ -109,10 +114,11 @@ impl Map {
     /// live site of its window.
     pub fn needs(&self, tile: u32, x: u32, y: u32) -> Needs
         requires tile { tile < tiles_of self.now }
-        requires centre { IsTrue (is_live self.now (site x y)) }
+        requires x { x < self.now.tx * self.now.w }
+        requires y { y < self.now.ty * self.now.h }
         ensures { result ≡ needs_of self.now tile (site x y) }
     {
-        self.needed(self.around[tile as usize].as_slice(), tile, x, y)
+        self.needed(self.edges_of(tile), tile, x, y)
     }
 
     /// How many sites an edge shares: those that both its ends hold.
@@ -120,8 +126,7 @@ impl Map {
         requires { edge < length (pairs_of self.now) }
         ensures { result ≡ length (shared_of self.now edge) }
     {
-        let (columns, rows) = self.common(edge);
-        columns.len() * rows.len()
+        self.common(edge).sites()
     }
 
     /// The first of the two registers that a shared site has in an edge, and `None` where the edge
@@ -131,19 +136,26 @@ impl Map {
         requires { edge < length (pairs_of self.now) }
         ensures { result ≡ register_of self.now edge (site x y) }
     {
-        let (columns, rows) = self.common(edge);
-        if columns.contains(x) && rows.contains(y) {
-            Some(1 + 2 * ((y - rows.first) * columns.len() + (x - columns.first)))
-        } else {
-            None
-        }
+        let place = self.common(edge).place(x, y)?;
+        Some(1 + 2 * place)
+    }
+
+    // The edges of a tile.
+    fn edges_of(&self, tile: u32) -> &[u32]
+        requires { tile < tiles_of self.now }
+        ensures edges { result.now ≡ edges_at self.now tile }
+        ensures few { length result.now ≤ 8 }
+    {
+        self.around[tile as usize].as_slice()
     }
 
     // Of the edges of a tile, those that an event at the site needs.
     fn needed(&self, edges: &[u32], tile: u32, x: u32, y: u32) -> Needs
         requires edges { edges.now ≡ edges_at self.now tile }
+        requires few { length edges.now ≤ 8 }
         requires tile { tile < tiles_of self.now }
-        requires centre { IsTrue (is_live self.now (site x y)) }
+        requires x { x < self.now.tx * self.now.w }
+        requires y { y < self.now.ty * self.now.h }
         ensures { result ≡ filter (λ e. reaches self.now (site x y) (other_end self.now tile e)) edges.now }
     {
         let mut needs = Needs::new();
@@ -168,22 +180,28 @@ impl Map {
     // Whether a tile holds a live site of the window at the site.
     fn reaches(&self, tile: u32, x: u32, y: u32) -> bool
         requires tile { tile < tiles_of self.now }
-        requires centre { IsTrue (is_live self.now (site x y)) }
+        requires x { x < self.now.tx * self.now.w }
+        requires y { y < self.now.ty * self.now.h }
         ensures { result ≡ reaches self.now (site x y) tile }
     {
         self.columns(tile).gap(x) + self.rows(tile).gap(y) <= 4
     }
 
-    // The columns and the rows that both ends of an edge hold.
-    fn common(&self, edge: u32) -> (Span, Span)
+    // The sites that both ends of an edge hold.
+    fn common(&self, edge: u32) -> Area
         requires { edge < length (pairs_of self.now) }
-        ensures left { result.0.first ≡ left_both self.now (pair_at self.now edge) }
-        ensures right { result.0.end ≡ right_both self.now (pair_at self.now edge) }
-        ensures top { result.1.first ≡ top_both self.now (pair_at self.now edge) }
-        ensures bottom { result.1.end ≡ bottom_both self.now (pair_at self.now edge) }
+        ensures left { result.columns.first ≡ left_both self.now (pair_at self.now edge) }
+        ensures right { result.columns.end ≡ right_both self.now (pair_at self.now edge) }
+        ensures top { result.rows.first ≡ top_both self.now (pair_at self.now edge) }
+        ensures bottom { result.rows.end ≡ bottom_both self.now (pair_at self.now edge) }
+        ensures bound { (result.columns.end ≤ 512) × (result.rows.end ≤ 512) }
+        ensures valid { IsMap self.now }
     {
         let (lower, higher) = self.ends(edge);
-        (self.columns(lower).common(self.columns(higher)), self.rows(lower).common(self.rows(higher)))
+        Area {
+            columns: self.columns(lower).common(self.columns(higher)),
+            rows: self.rows(lower).common(self.rows(higher)),
+        }
     }
 
     // The columns that a tile holds.
@@ -191,6 +209,9 @@ impl Map {
         requires { tile < tiles_of self.now }
         ensures first { result.first ≡ left_of self.now tile }
         ensures end { result.end ≡ right_of self.now tile }
+        ensures some { result.first < result.end }
+        ensures bound { result.end ≤ 512 }
+        ensures valid { IsMap self.now }
     {
         Span::around(tile % self.tx, self.w, self.tx)
     }
@@ -200,6 +221,9 @@ impl Map {
         requires { tile < tiles_of self.now }
         ensures first { result.first ≡ top_of self.now tile }
         ensures end { result.end ≡ bottom_of self.now tile }
+        ensures some { result.first < result.end }
+        ensures bound { result.end ≤ 512 }
+        ensures valid { IsMap self.now }
     {
         Span::around(tile / self.tx, self.h, self.ty)
     }
