@@ -20,7 +20,7 @@ filter_start p k n le =
     let whole : n ≡ k + (n - k) = omega arith in
     let one : k ≡ 0 + k = omega arith in
     let cut : filter p (range_with_len 0 n) ≡ filter p (range_with_len 0 k) ++ filter p (range_with_len k (n - k)) =
-        ap (filter p) (range_cut 0 k n k (n - k) whole one) ∙ filter-append p (range_with_len 0 k) (range_with_len k (n - k)) in
+    ap (filter p) (range_cut 0 k n k (n - k) whole one) ∙ filter-append p (range_with_len 0 k) (range_with_len k (n - k)) in
     omega (arith, ap length cut, length-append (filter p (range_with_len 0 k)) (filter p (range_with_len k (n - k))))
 
 -- while one more passes, fewer than all have

@@ -7,4 +7,5 @@ pub mod Near
 pub mod Pairs
 pub mod PlaneLaws
 pub mod Shared
+pub mod Sizes
 pub mod Spans

@@ -61,11 +61,13 @@ window_site-found m c s h =
     let near : apart c.x s.x + apart c.y s.y ≤ 4 = test_le _ _ parts.1 in
     let o : ℤ × ℤ = (offset_to c.x s.x, offset_to c.y s.y) in
     let close : distance o ≤ 4 = omega (arith, near, offset_to-abs c.x s.x, offset_to-abs c.y s.y) in
-    let n = offset-found o close in
-    (n.0, n.1,
-     ap (λ (p : ℤ × ℤ). live_site m (shifted c.x p.0) (shifted c.y p.1)) n.2
-     ∙ (λ i. live_site m (shifted-offset_to c.x s.x i) (shifted-offset_to c.y s.y i))
-     ∙ live_site_of m s parts.0)
+    let n = offset-found o close in (
+      n.0,
+      n.1,
+      ap (λ (p : ℤ × ℤ). live_site m (shifted c.x p.0) (shifted c.y p.1)) n.2
+          ∙ (λ i. live_site m (shifted-offset_to c.x s.x i) (shifted-offset_to c.y s.y i))
+          ∙ live_site_of m s parts.0,
+    )
 
 -- a tile reaches a window if it holds a live site of it
 pub reaches-held : (m : MapValue) (c s : Site) (u : ℕ) → in_window m c s ≡ true → is_held m u s ≡ true → reaches m c u ≡ true

@@ -112,7 +112,7 @@ positions m valid t k lt small =
     let b = t / m.tx in
     let r : (k ≡ k / m.w * m.w + k % m.w) × (k / m.w < m.h) × (k % m.w < m.w) = grind (arith, rows, valid.w_low) in
     let whole : filter (is_owned m t) (sites_of m) ≡ block (a * m.w) m.w (b * m.h) m.h =
-        filter_block m (is_owned m t) (a * m.w) ((a + 1) * m.w) (b * m.h) ((b + 1) * m.h) (owned_block m valid t lt) ∙ (λ i. block (a * m.w) (one_part a m.w i) (b * m.h) (one_part b m.h i)) in
+    filter_block m (is_owned m t) (a * m.w) ((a + 1) * m.w) (b * m.h) ((b + 1) * m.h) (owned_block m valid t lt) ∙ (λ i. block (a * m.w) (one_part a m.w i) (b * m.h) (one_part b m.h i)) in
     let long : k < length (block (a * m.w) m.w (b * m.h) m.h) = omega (arith, small, block_length (a * m.w) m.w (b * m.h) m.h) in
     ap (λ xs. slice_get xs k) whole
     ∙ slice_get-get_or (block (a * m.w) m.w (b * m.h) m.h) k (site 0 0) long
@@ -292,3 +292,13 @@ around_read m n lists t p same is lt read =
 
 pub around_few : (m n : MapValue) (t : ℕ) (es : List ℕ) → n ≡ m → IsMap n → t < tiles_of m → es ≡ edges_at m t → length es ≤ 8
 around_few m n t es same k lt is = omega (arith, ap length is, edges_at-few m (subst IsMap same k) t lt)
+
+pub owner_low : (m : MapValue) → IsMap m → (s : Site) → is_live m s ≡ true → owner_of m s < tiles_of m
+owner_low m k s h = (stands m k s h).tile
+
+-- a position of a rectangle is above the plane's lower border
+pub site_in_low : (m : MapValue) → IsMap m → (t k : ℕ) → t < tiles_of m → k < m.w * m.h → t / m.tx * m.h + k / m.w < m.ty * m.h
+site_in_low m valid t k lt small =
+    let y = row_low m valid t lt in
+    let r : k / m.w < m.h = grind (arith, rows, valid.w_low) in
+    omega (arith, r, times_more (t / m.tx + 1) m.ty m.h (omega (arith, y)))

@@ -157,7 +157,7 @@ register_at m k e x y joined a b =
     let under : y - top < bottom - top = omega (arith, s.3, s.4, t.3, t.4) in
     let found = block_position left (right - left) top (bottom - top) (y - top) (x - left) under within in
     let found' : position (is_site x y) (block left (right - left) top (bottom - top)) ≡ Some ((y - top) * (right - left) + (x - left)) =
-        ap (λ (q : ℕ × ℕ). position (is_site q.0 q.1) (block left (right - left) top (bottom - top))) (λ i. (sym column i, sym row i)) ∙ found in
+    ap (λ (q : ℕ × ℕ). position (is_site q.0 q.1) (block left (right - left) top (bottom - top))) (λ i. (sym column i, sym row i)) ∙ found in
     ap (option_map (λ k. 1 + 2 * k)) (ap (position (is_site x y)) (shared_block m k p joined) ∙ found')
 
 -- what no entry passes has no position
@@ -217,9 +217,10 @@ both_in : (m : MapValue) (e x y : ℕ) → e < length (pairs_of m) → is_in (le
 both_in m e x y lt h =
     let p = pair_at m e in
     let f = in_facts (left_both m p) (right_both m p) (top_both m p) (bottom_both m p) x y h in
-    let j = edge_joined m e lt in
-    (held_inside m p.0 x y j.low (omega (arith, f.0)) (omega (arith, f.1)) (omega (arith, f.2)) (omega (arith, f.3)),
-     held_inside m p.1 x y j.high (omega (arith, f.0)) (omega (arith, f.1)) (omega (arith, f.2)) (omega (arith, f.3)))
+    let j = edge_joined m e lt in (
+      held_inside m p.0 x y j.low (omega (arith, f.0)) (omega (arith, f.1)) (omega (arith, f.2)) (omega (arith, f.3)),
+      held_inside m p.1 x y j.high (omega (arith, f.0)) (omega (arith, f.1)) (omega (arith, f.2)) (omega (arith, f.3)),
+    )
 
 in_both : (m : MapValue) (e x y : ℕ) → (is_held m (pair_at m e).0 (site x y) && is_held m (pair_at m e).1 (site x y)) ≡ true → is_in (left_both m (pair_at m e)) (right_both m (pair_at m e)) (top_both m (pair_at m e)) (bottom_both m (pair_at m e)) x y ≡ true
 in_both m e x y held =

@@ -53,7 +53,11 @@ fn are_neighbours(tx: u32, lower: u32, higher: u32) -> bool
 
 // For each tile its edges, of which there are at most 8.
 #[tactic(auto, using(crate::proofs::Filters::lists_more))]
-pub(crate) fn by_tile(alloc: Global, ends: &[(u32, u32)], tiles: u32) -> Result<Vec<Needs>, NoMemory>
+pub(crate) fn by_tile(
+    alloc: Global,
+    ends: &[(u32, u32)],
+    tiles: u32,
+) -> Result<Vec<Needs>, NoMemory>
     requires small { length ends.now < 2 ^ 32 }
     requires few { (t : ℕ) → t < tiles → length (edges_among ends.now tiles t) ≤ 8 }
     ensures { IfOk result (λ v. v.items ≡ map (edges_among ends.now tiles) (range_with_len 0 tiles)) }

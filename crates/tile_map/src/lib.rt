@@ -5,6 +5,7 @@
 //! 8 to 64 sites. x grows east and y grows south, from (0, 0). Tiles are numbered row by row.
 #![tactic(auto)]
 
+mod edge_sizes;
 mod edges;
 mod map;
 mod needs;
@@ -12,3 +13,6 @@ mod span;
 
 pub use map::Map;
 pub use needs::Needs;
+
+#[cfg(test)]
+mod tests;

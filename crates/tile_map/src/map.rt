@@ -2,6 +2,7 @@
 
 ghost use Rattle.std.specs.Prelude.{◌≡◌, ◌+◌, ◌*◌, ◌<◌, ◌≤◌, IsTrue, IfOk, length, filter};
 ghost use Rattle.tile_map.specs.Plane.{MapValue, IsMap, site, tiles_of, owner_of, is_owned, is_held, site_in};
+ghost use Rattle.tile_map.specs.Laws.{IsPlane};
 ghost use Rattle.tile_map.specs.Spans.{left_of, right_of, top_of, bottom_of, left_both, right_both, top_both, bottom_both};
 ghost use Rattle.tile_map.specs.Edges.{pairs_of, pair_at, other_end, edges_at, shared_of, register_of, reaches, needs_of};
 
@@ -87,6 +88,7 @@ impl Map {
         requires y { y < self.now.ty * self.now.h }
         ensures value { result ≡ owner_of self.now (site x y) }
         ensures owns { IsTrue (is_owned self.now result (site x y)) }
+        ensures tile { result < tiles_of self.now }
     {
         y / self.h * self.tx + x / self.w
     }
@@ -103,7 +105,10 @@ impl Map {
     pub fn site_of(&self, tile: u32, centre: u32) -> (u32, u32)
         requires tile { tile < tiles_of self.now }
         requires centre { centre < self.now.w * self.now.h }
-        ensures { site result.0 result.1 ≡ site_in self.now tile centre }
+        ensures value { site result.0 result.1 ≡ site_in self.now tile centre }
+        ensures owned { IsTrue (is_owned self.now tile (site result.0 result.1)) }
+        ensures x { result.0 < self.now.tx * self.now.w }
+        ensures y { result.1 < self.now.ty * self.now.h }
     {
         let x = tile % self.tx * self.w + centre % self.w;
         let y = tile / self.tx * self.h + centre / self.w;
@@ -124,7 +129,8 @@ impl Map {
     /// How many sites an edge shares: those that both its ends hold.
     pub fn shared(&self, edge: u32) -> u32
         requires { edge < length (pairs_of self.now) }
-        ensures { result ≡ length (shared_of self.now edge) }
+        ensures count { result ≡ length (shared_of self.now edge) }
+        ensures bound { result ≤ 512 * 512 }
     {
         self.common(edge).sites()
     }
@@ -138,6 +144,14 @@ impl Map {
     {
         let place = self.common(edge).place(x, y)?;
         Some(1 + 2 * place)
+    }
+
+    /// What holds of every plane: who owns and holds a site, which edges there are, what they share
+    /// and which of them an event needs. The call does nothing.
+    pub fn laws(&self)
+        ensures { IsPlane self.now }
+    {
+        let _rows = self.ty;
     }
 
     // The edges of a tile.
