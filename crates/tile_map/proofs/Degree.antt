@@ -1,9 +1,9 @@
 -- A tile has at most 8 edges: by one computation over all planes.
-use Rattle.std.proofs.Common.{ℕ, zero, suc, ◌≡◌, ◌+◌, ◌*◌, ◌/◌, ◌%◌, ◌<◌, ◌≤◌, Bool, true, false, ◌&&◌, List, [], ◌∷◌, length, refl, arith, map, ◌==◌}
-use Rattle.std.specs.Prelude.{◌||◌, nat_le, nat_lt, filter, flat_map}
+use Rattle.std.proofs.Common.{ℕ, ◌≡◌, ◌*◌, Bool, true, List, length, refl}
+use Rattle.std.specs.Prelude.{nat_le, filter}
 use Rattle.std.specs.List.{list_all, range_with_len}
 use Rattle.tile_map.specs.Edges.{is_end}
-use Rattle.tile_map.specs.Neighbours.{are_near, near_pairs}
+use Rattle.tile_map.specs.Neighbours.{near_pairs}
 
 abbrev pub degree : ℕ → List (ℕ × ℕ) → ℕ
 degree t ps = length (filter (is_end t) ps)

@@ -1,12 +1,13 @@
 -- Filters of one range and its beginnings.
-use Rattle.std.proofs.Common.{ℕ, zero, suc, ◌≡◌, ◌+◌, ◌-◌, ◌<◌, ◌≤◌, Bool, true, false, ◌&&◌, List, [], ◌∷◌, ◌++◌, length, refl, sym, ap, ◌∙◌, arith, cond, take}
+use Rattle.std.proofs.Common.{ℕ, ◌≡◌, ◌+◌, ◌-◌, ◌<◌, ◌≤◌, Bool, true, false, ◌&&◌, List, [], ◌∷◌, ◌++◌, length, refl, sym, ap, ◌∙◌, arith, cond, take}
 use Rattle.std.specs.Prelude.{filter, map, flat_map}
 use Rattle.std.specs.List.{range_with_len}
-use Rattle.std.proofs.lemmas.List.{length-append, length-take, map-append}
+use Rattle.std.proofs.lemmas.List.{append-nil, append_assoc, length-append, length-take, map-append}
+use Rattle.std.proofs.lemmas.Grind.{flat_map-append}
 use Rattle.std.proofs.lemmas.List.Elements.{filter-append}
 use Rattle.tile_map.specs.Edges.{edges_among}
 use Rattle.tile_map.specs.Neighbours.{are_near, near_from}
-use Rattle.tile_map.proofs.Lists.{range_cut, flat_map-append, append_nil}
+use Rattle.tile_map.proofs.Lists.{range_cut}
 
 -- one more number of a range
 pub filter_more : (p : ℕ → Bool) (n : ℕ) → filter p (range_with_len 0 (n + 1)) ≡ filter p (range_with_len 0 n) ++ cond (p n) (n ∷ []) []
@@ -52,7 +53,7 @@ pairs_more tx n t =
     let one : t ≡ 0 + t = omega arith in
     ap (flat_map (near_from tx n)) (range_cut 0 t (t + 1) t 1 refl one)
     ∙ flat_map-append (near_from tx n) (range_with_len 0 t) (t ∷ [])
-    ∙ ap (λ xs. flat_map (near_from tx n) (range_with_len 0 t) ++ xs) (append_nil (near_from tx n t))
+    ∙ ap (λ xs. flat_map (near_from tx n) (range_with_len 0 t) ++ xs) (append-nil (near_from tx n t))
 
 -- one more tile
 pub lists_more : (ps : List (ℕ × ℕ)) (n t : ℕ) → map (edges_among ps n) (range_with_len 0 (t + 1)) ≡ map (edges_among ps n) (range_with_len 0 t) ++ edges_among ps n t ∷ []
@@ -68,11 +69,7 @@ pub grown : {X : Type 0} (xs : List X) (x : X) (b : Bool) → b ≡ true → xs 
 grown xs x b is = ap (λ c. xs ++ cond c (x ∷ []) []) (sym is)
 
 pub kept : {X : Type 0} (xs : List X) (x : X) (b : Bool) → b ≡ false → xs ≡ xs ++ cond b (x ∷ []) []
-kept xs x b is = sym (append_nil xs) ∙ ap (λ c. xs ++ cond c (x ∷ []) []) (sym is)
-
-append_assoc : {A : Type 0} (a b c : List A) → (a ++ b) ++ c ≡ a ++ (b ++ c)
-append_assoc [] b c = refl
-append_assoc (x ∷ a) b c = ap (λ zs. x ∷ zs) (append_assoc a b c)
+kept xs x b is = sym (append-nil xs) ∙ ap (λ c. xs ++ cond c (x ∷ []) []) (sym is)
 
 -- the pairs of a lower tile, one more higher tile being looked at
 pub near_next : (tx t n : ℕ) (b : Bool) (base old new : List (ℕ × ℕ)) → b ≡ are_near tx t n → old ≡ base ++ map {B = ℕ × ℕ} (λ u. (t, u)) (filter (are_near tx t) (range_with_len 0 n)) → new ≡ old ++ cond b ((t, n) ∷ []) [] →

@@ -1,7 +1,7 @@
 -- Where the sites of a window lie, and which tiles hold one of them.
-use Rattle.std.proofs.Common.{ℕ, zero, suc, ◌≡◌, ◌≢◌, ◌+◌, ◌-◌, ◌*◌, ◌/◌, ◌%◌, ◌<◌, ◌≤◌, min, max, Bool, true, false, ◌&&◌, List, [], ◌∷◌, length, get_or, refl, sym, ap, ◌∙◌, subst, arith, ◌⊎◌, inl, inr, Option, Some, None}
-use Rattle.std.specs.Prelude.{nat_le, nat_lt, ℤ, pos, negsuc, if◌then◌else◌}
-use Rattle.std.specs.List.{range_with_len, list_any}
+use Rattle.std.proofs.Common.{ℕ, ◌≡◌, ◌+◌, ◌-◌, ◌<◌, ◌≤◌, Bool, true, false, length, get_or, refl, sym, ap, ◌∙◌, arith, ◌⊎◌, inl, inr, Option, Some, None}
+use Rattle.std.specs.Prelude.{nat_le, ℤ, pos, negsuc, if◌then◌else◌}
+use Rattle.std.specs.List.{range_with_len}
 use Rattle.std.specs.Int.RustNames.{unsigned_abs}
 use Rattle.std.proofs.lemmas.Bool.Decides.{nat_tests}
 use Rattle.std.proofs.lemmas.List.Folds.{list_any_at}
@@ -9,11 +9,11 @@ use Rattle.std.proofs.lemmas.List.FromFn.{length-range_with_len, get_or-range_wi
 use Rattle.window_sites.specs.Sites.{offset_of, distance}
 use Rattle.window_sites.proofs.Offsets.{offset-near, offset-found}
 use Rattle.window_sites.proofs.Tables.{any_get}
-use Rattle.tile_map.specs.Plane.{Site, MapValue, site, tiles_of, is_live, is_around, is_held, apart, in_window}
+use Rattle.tile_map.specs.Plane.{Site, MapValue, site, tiles_of, is_live, is_held, apart, in_window}
 use Rattle.tile_map.specs.Spans.{left_of, right_of, top_of, bottom_of, gap}
 use Rattle.tile_map.specs.Edges.{shifted, live_site, window_site, is_held_at, reaches}
 use Rattle.tile_map.proofs.Lists.{both, together}
-use Rattle.tile_map.proofs.Spans.{le_test, test_le, lt_test, test_lt, held_inside, held_span}
+use Rattle.tile_map.proofs.Spans.{le_test, test_le, held_inside, held_span}
 
 -- the offset from one coordinate to another
 abbrev pub offset_to : ℕ → ℕ → ℤ

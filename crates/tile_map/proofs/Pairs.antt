@@ -1,20 +1,18 @@
 -- The list of the edges: whose ends they are, that none is left out, that they rise, and that a tile has at most 8.
-use Rattle.std.proofs.Common.{ℕ, zero, suc, ◌≡◌, ◌≢◌, ◌+◌, ◌-◌, ◌*◌, ◌/◌, ◌%◌, ◌<◌, ◌≤◌, Bool, true, false, ◌&&◌, ◌==◌, List, [], ◌∷◌, ◌++◌, length, get_or, map, cond, refl, sym, ap, ◌∙◌, subst, arith, ◌⊎◌, inl, inr, ⊎_elim}
-use Rattle.std.specs.Prelude.{◌||◌, nat_le, nat_lt, filter, flat_map, AllPairs}
+use Rattle.std.proofs.Common.{ℕ, zero, suc, ◌≡◌, ◌+◌, ◌-◌, ◌*◌, ◌/◌, ◌%◌, ◌<◌, ◌≤◌, Bool, true, false, ◌&&◌, List, [], ◌∷◌, length, get_or, map, cond, refl, sym, ap, ◌∙◌, subst, arith, ◌⊎◌, inl, inr, ⊎_elim}
+use Rattle.std.specs.Prelude.{nat_le, nat_lt, filter, flat_map, AllPairs}
 use Rattle.std.specs.List.{list_all, range_with_len}
-use Rattle.std.proofs.lemmas.Bool.{leb-true}
 use Rattle.std.proofs.lemmas.Bool.Decides.{nat_tests}
-use Rattle.std.proofs.lemmas.Nat.{rows}
 use Rattle.std.proofs.lemmas.List.FromFn.{length-range_with_len, get_or-range_with_len}
 use Rattle.window_sites.proofs.Tables.{all_get}
-use Rattle.tile_map.specs.Plane.{Site, MapValue, IsMap, tiles_of, is_meeting, is_around, is_held}
+use Rattle.tile_map.specs.Plane.{Site, MapValue, IsMap, tiles_of, is_meeting, is_held}
 use Rattle.tile_map.specs.Laws.{IsLower}
 use Rattle.tile_map.specs.Spans.{low, high}
-use Rattle.tile_map.specs.Edges.{are_neighbours, pairs_from, pairs_of, pair_at, low_end, high_end, is_end, has_end, other_end, edges_among, edges_at}
-use Rattle.tile_map.specs.Neighbours.{are_near, near_from, near_pairs}
+use Rattle.tile_map.specs.Edges.{are_neighbours, pairs_from, pairs_of, pair_at, is_end, has_end, edges_at}
+use Rattle.tile_map.specs.Neighbours.{are_near, near_pairs}
 use Rattle.tile_map.proofs.Degree.{degree, are_few, all_few, all_bounded}
-use Rattle.tile_map.proofs.Lists.{both, together}
-use Rattle.tile_map.proofs.Spans.{le_test, test_le, lt_test, test_lt, times_more, held_span}
+use Rattle.tile_map.proofs.Lists.{together}
+use Rattle.tile_map.proofs.Spans.{le_test, test_le, lt_test, times_more, held_span}
 use Rattle.tile_map.proofs.Members.{In, in_filter, filter_in, in_map, map_in, in_flat, flat_in, in_range, range_in, in_get, get_in, InOrder, order-append, order-filter, order-map, order-range, order-pairs}
 
 -- parts of one size meet, once one is widened, if their numbers are at most 1 apart

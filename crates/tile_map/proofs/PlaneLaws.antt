@@ -1,15 +1,15 @@
 -- The laws of the plane.
-use Rattle.std.proofs.Common.{ℕ, zero, suc, ◌≡◌, ◌≢◌, ◌+◌, ◌-◌, ◌*◌, ◌/◌, ◌%◌, ◌<◌, ◌≤◌, Bool, true, false, ◌&&◌, ◌==◌, List, [], ◌∷◌, length, get_or, map, refl, sym, ap, ◌∙◌, subst, arith, cond, ◌⊎◌, inl, inr, ⊎_elim, Option, Some, None}
-use Rattle.std.specs.Prelude.{All, ◌||◌, nat_le, nat_lt, filter, Contains, slice_get, if◌then◌else◌}
+use Rattle.std.proofs.Common.{ℕ, ◌≡◌, ◌≢◌, ◌+◌, ◌-◌, ◌*◌, ◌/◌, ◌%◌, ◌<◌, ◌≤◌, Bool, true, false, ◌&&◌, ◌==◌, List, [], ◌∷◌, length, get_or, map, refl, sym, ap, ◌∙◌, subst, arith, cond, ◌⊎◌, inl, inr, ⊎_elim, Some}
+use Rattle.std.specs.Prelude.{All, ◌||◌, filter, Contains, slice_get, if◌then◌else◌}
 use Rattle.std.specs.List.{range_with_len}
 use Rattle.std.specs.List.Sorted.{IsStrictlyIncreasing}
 use Rattle.std.proofs.lemmas.Bool.Decides.{nat_tests}
 use Rattle.std.proofs.lemmas.Nat.{rows}
 use Rattle.tile_map.specs.Plane.{Site, MapValue, IsMap, site, tiles_of, is_live, sites_of, is_inside, is_around, is_owned, owner_of, site_in, is_held, in_window, apart}
-use Rattle.tile_map.specs.Edges.{pairs_of, pair_at, low_end, high_end, shared_of, window_site, edges_at, needs_of, is_needed, reaches, has_end, other_end}
-use Rattle.tile_map.specs.Laws.{Joins, Shares, IsLower, HasOwners, HasWindows, HasEdges, HasNeeds, IsPlane}
+use Rattle.tile_map.specs.Edges.{pairs_of, pair_at, low_end, high_end, shared_of, edges_at, needs_of, is_needed, reaches, has_end, other_end}
+use Rattle.tile_map.specs.Laws.{Joins, Shares, HasOwners, HasWindows, HasEdges, HasNeeds, IsPlane}
 use Rattle.tile_map.proofs.Lists.{both, together}
-use Rattle.tile_map.proofs.Spans.{le_test, test_le, lt_test, test_lt, times_more}
+use Rattle.tile_map.proofs.Spans.{le_test, lt_test, test_lt, times_more}
 use Rattle.std.proofs.lemmas.List.Kept.{IsStrictlyIncreasing-filter}
 use Rattle.std.proofs.lemmas.List.FromFn.{length-range_with_len, get_or-range_with_len, length-map-range_with_len, get_or-map-range_with_len}
 use Rattle.std.proofs.lemmas.List.{get_or_default}
@@ -17,8 +17,8 @@ use Rattle.std.proofs.lemmas.Option.{slice_get-get_or, get_or_from_slice_get, sl
 use Rattle.tile_map.proofs.Near.{window_site-near, window_site-found, window_apart, held_live, reaches-held, reaches-some}
 use Rattle.tile_map.proofs.Blocks.{row, block, block_length, block_get, IsBlock, filter_block}
 use Rattle.tile_map.proofs.Members.{In, in_filter, filter_in, in_map, in_flat, in_range, range_in, in_get, get_in}
-use Rattle.tile_map.proofs.Pairs.{Joined, edge_joined, edge_of, one_edge, pairs_rise, pairs_bounded, holders_near, edges_at-few}
-use Rattle.tile_map.proofs.Shared.{column_low, row_low, shared_block, shared_once}
+use Rattle.tile_map.proofs.Pairs.{edge_joined, edge_of, one_edge, pairs_rise, pairs_bounded, holders_near, edges_at-few}
+use Rattle.tile_map.proofs.Shared.{column_low, row_low, shared_once}
 
 column_of : (tx q r : ℕ) → r < tx → (q * tx + r) % tx ≡ r
 column_of tx q r lt = grind (arith, rows)

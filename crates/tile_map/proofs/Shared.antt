@@ -1,19 +1,19 @@
 -- The sites that two neighbours share are a rectangle, and their registers follow its rows.
-use Rattle.std.proofs.Common.{ℕ, zero, suc, ◌≡◌, ◌≢◌, ◌+◌, ◌-◌, ◌*◌, ◌/◌, ◌%◌, ◌<◌, ◌≤◌, min, max, Bool, true, false, ◌&&◌, ◌==◌, List, [], ◌∷◌, length, get_or, cond, refl, sym, ap, ◌∙◌, subst, arith, ◌⊎◌, inl, inr, ⊎_elim, Option, Some, None}
-use Rattle.std.specs.Prelude.{nat_le, nat_lt, filter, position, All, slice_get, if◌then◌else◌}
+use Rattle.std.proofs.Common.{ℕ, ◌≡◌, ◌+◌, ◌-◌, ◌*◌, ◌/◌, ◌%◌, ◌<◌, ◌≤◌, min, max, Bool, true, false, ◌&&◌, ◌==◌, List, length, get_or, cond, refl, sym, ap, ◌∙◌, arith, ◌⊎◌, inl, inr, ⊎_elim, Option, Some, None}
+use Rattle.std.specs.Prelude.{nat_lt, position, slice_get, if◌then◌else◌}
 use Rattle.std.specs.List.{position_or_len}
 use Rattle.std.specs.Option.{option_map}
 use Rattle.std.proofs.lemmas.Bool.Decides.{nat_tests}
 use Rattle.std.proofs.lemmas.Nat.{rows}
 use Rattle.std.proofs.lemmas.List.Sums.{position_or_len_is}
 use Rattle.std.proofs.lemmas.List.Elements.{filter_passes}
-use Rattle.std.proofs.lemmas.Option.{slice_get-get_or, slice_get_within, get_or_from_slice_get}
+use Rattle.std.proofs.lemmas.Option.{slice_get_within, get_or_from_slice_get}
 use Rattle.tile_map.specs.Plane.{Site, MapValue, IsMap, site, tiles_of, sites_of, is_held}
-use Rattle.tile_map.specs.Spans.{left_of, right_of, top_of, bottom_of, left_both, right_both, top_both, bottom_both, is_in, place_in}
+use Rattle.tile_map.specs.Spans.{left_both, right_both, top_both, bottom_both, is_in, place_in}
 use Rattle.tile_map.specs.Edges.{are_neighbours, pairs_of, pair_at, shared_by, shared_of, register_of}
 use Rattle.tile_map.proofs.Lists.{both, together}
 use Rattle.tile_map.proofs.Blocks.{block, block_length, block_get, IsBlock, filter_block}
-use Rattle.tile_map.proofs.Spans.{le_test, test_le, lt_test, test_lt, spans_meet, held_inside, held_span, not_left, not_right, not_above, not_under}
+use Rattle.tile_map.proofs.Spans.{test_le, spans_meet, held_inside, held_span, not_left, not_right, not_above, not_under}
 use Rattle.tile_map.proofs.Pairs.{Joined, edge_joined, neighbours_near}
 
 record Near (m : MapValue) (t u : ℕ) : Type 0 where

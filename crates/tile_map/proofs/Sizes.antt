@@ -1,10 +1,10 @@
 -- The edges as numbers.
-use Rattle.std.proofs.Common.{ℕ, zero, suc, ◌≡◌, ◌+◌, ◌*◌, ◌<◌, ◌≤◌, List, [], ◌∷◌, length, get_or, map, refl, sym, ap, ◌∙◌, subst, arith}
+use Rattle.std.proofs.Common.{ℕ, zero, suc, ◌≡◌, ◌+◌, ◌<◌, List, [], ◌∷◌, length, get_or, map, refl, sym, subst, arith}
 use Rattle.std.specs.Prelude.{All}
 use Rattle.std.proofs.lemmas.List.{length-map}
-use Rattle.feast_base.specs.Edges.{EdgeSize, IsEdgeSize, size_at, no_size}
-use Rattle.tile_map.specs.Plane.{MapValue, IsMap, tiles_of}
-use Rattle.tile_map.specs.Edges.{pairs_of, pair_at, low_end, high_end, shared_of, size_of, sizes_of}
+use Rattle.feast_base.specs.Edges.{IsEdgeSize, size_at, no_size}
+use Rattle.tile_map.specs.Plane.{MapValue, tiles_of}
+use Rattle.tile_map.specs.Edges.{pairs_of, pair_at, size_of, sizes_of}
 use Rattle.tile_map.proofs.PlaneLaws.{ends_rise}
 
 get_or-map : {A B : Type 0} (f : A → B) (xs : List A) (k : ℕ) (a : A) (b : B) → k < length xs → get_or (map f xs) k b ≡ f (get_or xs k a)

@@ -1,9 +1,9 @@
 -- The columns, or rows, that a tile holds: an interval of the plane's.
-use Rattle.std.proofs.Common.{ℕ, zero, suc, ◌≡◌, ◌≢◌, ◌+◌, ◌-◌, ◌*◌, ◌/◌, ◌%◌, ◌<◌, ◌≤◌, min, max, Bool, true, false, ◌&&◌, refl, sym, ap, ◌∙◌, arith, ◌⊎◌, inl, inr}
+use Rattle.std.proofs.Common.{ℕ, ◌≡◌, ◌+◌, ◌*◌, ◌/◌, ◌%◌, ◌<◌, ◌≤◌, min, max, true, false, arith}
 use Rattle.std.specs.Prelude.{nat_le, nat_lt}
 use Rattle.std.proofs.lemmas.Bool.Decides.{nat_tests}
 use Rattle.tile_map.specs.Spans.{low, high, left_of, right_of, top_of, bottom_of}
-use Rattle.tile_map.specs.Plane.{Site, MapValue, IsMap, site, tiles_of, is_live, is_around, is_held}
+use Rattle.tile_map.specs.Plane.{MapValue, site, tiles_of, is_live, is_around, is_held}
 
 pub le_test : (a b : ℕ) → a ≤ b → nat_le a b ≡ true
 le_test a b h = grind (arith, nat_tests)

@@ -2,7 +2,7 @@
 use Rattle.std.specs.Prelude.{ℕ, ◌≡◌, ◌≢◌, ◌<◌, ◌≤◌, ◌*◌, ◌⊎◌, true, length, filter, Contains, AllPairs, Some, slice_get}
 use Rattle.std.specs.List.Sorted.{IsStrictlyIncreasing}
 use Rattle.tile_map.specs.Plane.{Site, MapValue, tiles_of, is_live, sites_of, is_owned, owner_of, site_in, is_held, in_window}
-use Rattle.tile_map.specs.Edges.{pairs_of, pair_at, low_end, high_end, shared_of, window_site, needs_of}
+use Rattle.tile_map.specs.Edges.{pairs_of, low_end, high_end, shared_of, window_site, needs_of}
 
 -- the edge is one between t and u
 abbrev pub Joins : MapValue → ℕ → ℕ → ℕ → Type 0

@@ -5,6 +5,7 @@
 //! 8 to 64 sites. x grows east and y grows south, from (0, 0). Tiles are numbered row by row.
 #![tactic(auto)]
 
+mod crossing;
 mod edge_sizes;
 mod edges;
 mod map;

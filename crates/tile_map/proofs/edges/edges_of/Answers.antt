@@ -1,6 +1,5 @@
-use Rattle.std.proofs.Common.{◌≡◌, ◌+◌, ◌++◌, ◌∷◌, [], ℕ, Bool, true, false, List, arith, ap, cond, length, sym, ◌∙◌, refl}
-use Rattle.std.specs.Prelude.{slice_index_or, filter}
-use Rattle.std.specs.List.{range_with_len}
+use Rattle.std.proofs.Common.{◌+◌, ℕ, Bool, arith, ap, length, sym, ◌∙◌}
+use Rattle.std.specs.Prelude.{slice_index_or}
 use Rattle.std.proofs.lemmas.List.{get_or_default}
 use Rattle.tile_map.specs.Edges.{is_end}
 use Rattle.tile_map.proofs.Filters.{filter_room, filter_next, grown, kept}

@@ -1,7 +1,4 @@
-use Rattle.std.proofs.Common.{◌≡◌, ◌≤◌, arith, ap, length, subst, sym, ◌∙◌}
-use Rattle.tile_map.specs.Plane.{MapValue}
-use Rattle.tile_map.specs.Edges.{edges_at}
-use Rattle.tile_map.proofs.Pairs.{edges_at-few}
+use Rattle.std.proofs.Common.{arith, ◌∙◌}
 use Rattle.tile_map.proofs.PlaneLaws.{around_long, around_read, around_few}
 use Rattle.tile_map.proofs.map.Map.edges_of.Goals as goal
 

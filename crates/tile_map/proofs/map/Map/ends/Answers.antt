@@ -1,6 +1,3 @@
-use Rattle.std.proofs.Common.{◌<◌, length, sym, subst}
-use Rattle.tile_map.specs.Plane.{MapValue, tiles_of}
-use Rattle.tile_map.specs.Edges.{pairs_of}
 use Rattle.tile_map.proofs.PlaneLaws.{pair_rises}
 use Rattle.tile_map.proofs.map.Map.ends.Goals as goal
 

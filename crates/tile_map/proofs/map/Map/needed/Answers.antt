@@ -1,4 +1,4 @@
-use Rattle.std.proofs.Common.{ℕ, Bool, ◌<◌, length, arith, ap}
+use Rattle.std.proofs.Common.{ℕ, Bool, length, arith, ap}
 use Rattle.tile_map.specs.Plane.{site}
 use Rattle.tile_map.specs.Edges.{other_end, reaches}
 use Rattle.tile_map.proofs.Filters.{filter_take}
