@@ -7,7 +7,7 @@ use Rattle.std.proofs.lemmas.Bool.Decides.{nat_tests}
 use Rattle.std.proofs.lemmas.Nat.{rows}
 use Rattle.tile_map.specs.Plane.{Site, MapValue, IsMap, site, tiles_of, is_live, sites_of, is_inside, is_around, is_owned, owner_of, site_in, is_held, in_window, apart}
 use Rattle.tile_map.specs.Edges.{pairs_of, pair_at, low_end, high_end, shared_of, edges_at, needs_of, is_needed, reaches, has_end, other_end}
-use Rattle.tile_map.specs.Laws.{Joins, Shares, HasOwners, HasWindows, HasEdges, HasNeeds, IsPlane}
+use Rattle.tile_map.specs.Laws.{Joins, Shares, HasOwners, HasWindows, HasEdges, HasRegisters, HasNeeds, IsPlane}
 use Rattle.tile_map.proofs.Lists.{both, together}
 use Rattle.tile_map.proofs.Spans.{le_test, lt_test, test_lt, times_more}
 use Rattle.std.proofs.lemmas.List.Kept.{IsStrictlyIncreasing-filter}
@@ -18,7 +18,7 @@ use Rattle.tile_map.proofs.Near.{window_site-near, window_site-found, window_apa
 use Rattle.tile_map.proofs.Blocks.{row, block, block_length, block_get, IsBlock, filter_block}
 use Rattle.tile_map.proofs.Members.{In, in_filter, filter_in, in_map, in_flat, in_range, range_in, in_get, get_in}
 use Rattle.tile_map.proofs.Pairs.{edge_joined, edge_of, one_edge, pairs_rise, pairs_bounded, holders_near, edges_at-few}
-use Rattle.tile_map.proofs.Shared.{column_low, row_low, shared_once}
+use Rattle.tile_map.proofs.Shared.{column_low, row_low, shared_once, register_found, register_shared}
 
 column_of : (tx q r : ℕ) → r < tx → (q * tx + r) % tx ≡ r
 column_of tx q r lt = grind (arith, rows)
@@ -264,9 +264,15 @@ needs m k = record {
   cause = need_cause m;
 }
 
+pub registers : (m : MapValue) → IsMap m → HasRegisters m
+registers m k = record {
+  found = λ e j s lt h. register_found m k e j s lt (both_hold m e j s h) h;
+  shared = register_shared m;
+}
+
 -- all the laws
 pub plane : (m : MapValue) → IsMap m → IsPlane m
-plane m k = record { owners = owners m k; windows = windows m; edges = edges m k; needs = needs m k }
+plane m k = record { owners = owners m k; windows = windows m; edges = edges m k; registers = registers m k; needs = needs m k }
 
 -- what a map reads of an edge's ends
 pub pair_rises : (m n : MapValue) (items : List (ℕ × ℕ)) (e : ℕ) (p : ℕ × ℕ) → n ≡ m → items ≡ pairs_of n → e < length (pairs_of m) → p ≡ get_or items e p → (p.0 < p.1) × (p.1 < tiles_of m)

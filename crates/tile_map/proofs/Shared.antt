@@ -5,9 +5,10 @@ use Rattle.std.specs.List.{position_or_len}
 use Rattle.std.specs.Option.{option_map}
 use Rattle.std.proofs.lemmas.Bool.Decides.{nat_tests}
 use Rattle.std.proofs.lemmas.Nat.{rows}
+use Rattle.std.proofs.lemmas.List.Quantifiers.{position-Some}
 use Rattle.std.proofs.lemmas.List.Sums.{position_or_len_is}
 use Rattle.std.proofs.lemmas.List.Elements.{filter_passes}
-use Rattle.std.proofs.lemmas.Option.{slice_get_within, get_or_from_slice_get}
+use Rattle.std.proofs.lemmas.Option.{slice_get-get_or, slice_get_within, get_or_from_slice_get}
 use Rattle.tile_map.specs.Plane.{Site, MapValue, IsMap, site, tiles_of, sites_of, is_held}
 use Rattle.tile_map.specs.Spans.{left_both, right_both, top_both, bottom_both, is_in, place_in}
 use Rattle.tile_map.specs.Edges.{are_neighbours, pairs_of, pair_at, shared_by, shared_of, register_of}
@@ -256,3 +257,26 @@ shared_read m k e l r t b count lt a c d f is =
 
 pub times_low : (a b : ℕ) → a ≤ 512 → b ≤ 512 → a * b ≤ 262144
 times_low a b p q = grind arith
+
+site_same : (s q : Site) → is_site s.x s.y q ≡ true → q ≡ s
+site_same s q h = let r = is_site-is s.x s.y q h in λ i. record { x = r.0 i; y = r.1 i }
+
+-- what has a register is shared
+pub register_shared : (m : MapValue) (e r : ℕ) (s : Site) → register_of m e s ≡ Some r → (k : ℕ) × (slice_get (shared_of m e) k ≡ Some s) × (r ≡ 1 + 2 * k)
+register_shared m e r s h = go (position (is_site s.x s.y) (shared_of m e)) refl h
+  where
+    some_is : (a b : ℕ) → Some a ≡ Some b → a ≡ b
+    some_is a b e = cc (e)
+
+    go : (o : Option ℕ) → position (is_site s.x s.y) (shared_of m e) ≡ o → option_map (λ k. 1 + 2 * k) o ≡ Some r → (k : ℕ) × (slice_get (shared_of m e) k ≡ Some s) × (r ≡ 1 + 2 * k)
+    go None is q = absurd (cc (q))
+    go (Some k) is q =
+        let p = position-Some (is_site s.x s.y) (shared_of m e) k s is in
+        (k, slice_get-get_or (shared_of m e) k s p.0 ∙ ap Some (site_same s (get_or (shared_of m e) k s) p.1), some_is r (1 + 2 * k) (sym q))
+
+-- what is shared has its register
+pub register_found : (m : MapValue) → IsMap m → (e k : ℕ) (s : Site) → e < length (pairs_of m) → (is_held m (pair_at m e).0 s ≡ true) × (is_held m (pair_at m e).1 s ≡ true) → slice_get (shared_of m e) k ≡ Some s → register_of m e s ≡ Some (1 + 2 * k)
+register_found m valid e k s lt held h =
+    let at = register_at m valid e s.x s.y (edge_joined m e lt) held.0 held.1 in
+    let r = register_shared m e _ s at in
+    at ∙ ap Some (r.2 ∙ ap (λ j. 1 + 2 * j) (shared_once m valid e r.0 k s lt r.1 h))

@@ -1,8 +1,8 @@
 -- What holds of every plane.
-use Rattle.std.specs.Prelude.{ℕ, ◌≡◌, ◌≢◌, ◌<◌, ◌≤◌, ◌*◌, ◌⊎◌, true, length, filter, Contains, AllPairs, Some, slice_get}
+use Rattle.std.specs.Prelude.{ℕ, ◌≡◌, ◌≢◌, ◌<◌, ◌≤◌, ◌+◌, ◌*◌, ◌⊎◌, true, length, filter, Contains, AllPairs, Some, slice_get}
 use Rattle.std.specs.List.Sorted.{IsStrictlyIncreasing}
 use Rattle.tile_map.specs.Plane.{Site, MapValue, tiles_of, is_live, sites_of, is_owned, owner_of, site_in, is_held, in_window}
-use Rattle.tile_map.specs.Edges.{pairs_of, low_end, high_end, shared_of, window_site, needs_of}
+use Rattle.tile_map.specs.Edges.{pairs_of, low_end, high_end, shared_of, register_of, window_site, needs_of}
 
 -- the edge is one between t and u
 abbrev pub Joins : MapValue → ℕ → ℕ → ℕ → Type 0
@@ -46,6 +46,13 @@ pub record HasEdges (m : MapValue) : Type 0 where
   -- a site is shared once
   pub once : (e j k : ℕ) (s : Site) → e < length (pairs_of m) → slice_get (shared_of m e) j ≡ Some s → slice_get (shared_of m e) k ≡ Some s → j ≡ k
 
+-- the registers of shared sites
+pub record HasRegisters (m : MapValue) : Type 0 where
+  -- shared site k has registers 1 + 2k and 2 + 2k
+  pub found : (e k : ℕ) (s : Site) → e < length (pairs_of m) → slice_get (shared_of m e) k ≡ Some s → register_of m e s ≡ Some (1 + 2 * k)
+  -- and no other site has registers
+  pub shared : (e r : ℕ) (s : Site) → register_of m e s ≡ Some r → (k : ℕ) × (slice_get (shared_of m e) k ≡ Some s) × (r ≡ 1 + 2 * k)
+
 -- the edges that an event needs
 pub record HasNeeds (m : MapValue) : Type 0 where
   pub few : (t : ℕ) (c : Site) → t < tiles_of m → length (needs_of m t c) ≤ 8
@@ -61,4 +68,5 @@ pub record IsPlane (m : MapValue) : Type 0 where
   pub owners : HasOwners m
   pub windows : HasWindows m
   pub edges : HasEdges m
+  pub registers : HasRegisters m
   pub needs : HasNeeds m

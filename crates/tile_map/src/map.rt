@@ -71,7 +71,6 @@ impl Map {
     }
 
     /// The two tiles of an edge, the lower first.
-    #[tactic(auto, using(crate::proofs::PlaneLaws::ends_rise))]
     pub fn ends(&self, edge: u32) -> (u32, u32)
         requires { edge < length (pairs_of self.now) }
         ensures pair { result ≡ pair_at self.now edge }
