@@ -1,12 +1,10 @@
 -- The sites of a rectangle in row order.
-use Rattle.std.proofs.Common.{ℕ, zero, suc, ◌≡◌, ◌≢◌, ◌+◌, ◌-◌, ◌*◌, ◌<◌, ◌≤◌, Bool, true, false, ◌&&◌, List, [], ◌∷◌, ◌++◌, length, get_or, refl, sym, ap, ◌∙◌, arith, map, ◌⊎◌, inl, inr, Option, Some, None, ◌==◌}
-use Rattle.std.specs.Prelude.{filter, flat_map, nat_le, nat_lt, position}
-use Rattle.std.specs.List.{range_with_len, position_or_len}
+use Rattle.std.proofs.Common.{ℕ, zero, suc, ◌≡◌, ◌+◌, ◌-◌, ◌*◌, ◌<◌, ◌≤◌, Bool, true, false, List, [], length, get_or, refl, ap, ◌∙◌, arith, map}
+use Rattle.std.specs.Prelude.{filter, flat_map}
+use Rattle.std.specs.List.{range_with_len}
 use Rattle.std.proofs.Math.ListN.{get_or-append}
-use Rattle.std.proofs.lemmas.List.Sums.{position_or_len_is}
 use Rattle.std.proofs.lemmas.List.FromFn.{length-map-range_with_len, get_or-map-range_with_len}
 use Rattle.std.proofs.lemmas.List.{length-append, get_or-append_right}
-use Rattle.std.proofs.lemmas.Bool.Decides.{nat_tests}
 use Rattle.tile_map.specs.Plane.{Site, MapValue, site, sites_of}
 use Rattle.tile_map.proofs.Lists.{filter_none, filter_between, filter-map, filter-flat_map, flat_map_between}
 

@@ -1,17 +1,9 @@
 -- A tile has at most 8 edges: by one computation over all planes.
-use Rattle.std.proofs.Common.{ℕ, zero, suc, ◌≡◌, ◌+◌, ◌*◌, ◌/◌, ◌%◌, ◌<◌, ◌≤◌, Bool, true, false, ◌&&◌, List, [], ◌∷◌, length, refl, arith, map, ◌==◌}
-use Rattle.std.specs.Prelude.{◌||◌, nat_le, nat_lt, filter, flat_map}
+use Rattle.std.proofs.Common.{ℕ, ◌≡◌, ◌*◌, Bool, true, List, length, refl}
+use Rattle.std.specs.Prelude.{nat_le, filter}
 use Rattle.std.specs.List.{list_all, range_with_len}
-
--- neighbours by their columns and rows
-abbrev pub are_near : ℕ → ℕ → ℕ → Bool
-are_near tx t u = nat_lt t u && ((nat_le (t % tx) (u % tx + 1) && nat_le (u % tx) (t % tx + 1)) && (nat_le (t / tx) (u / tx + 1) && nat_le (u / tx) (t / tx + 1)))
-
-abbrev pub near_pairs : ℕ → ℕ → List (ℕ × ℕ)
-near_pairs tx n = flat_map (λ t. map (λ u. (t, u)) (filter (are_near tx t) (range_with_len 0 n))) (range_with_len 0 n)
-
-abbrev pub is_end : ℕ → ℕ × ℕ → Bool
-is_end t p = p.0 == t || p.1 == t
+use Rattle.tile_map.specs.Edges.{is_end}
+use Rattle.tile_map.specs.Neighbours.{near_pairs}
 
 abbrev pub degree : ℕ → List (ℕ × ℕ) → ℕ
 degree t ps = length (filter (is_end t) ps)
@@ -21,3 +13,7 @@ are_few ps n = list_all (λ t. nat_le (degree t ps) 8) (range_with_len 0 n)
 
 pub all_few : list_all (λ tx. list_all (λ ty. are_few (near_pairs tx (tx * ty)) (tx * ty)) (range_with_len 1 8)) (range_with_len 1 8) ≡ true
 all_few = refl
+
+-- there are at most 210 edges
+pub all_bounded : list_all (λ tx. list_all (λ ty. nat_le (length (near_pairs tx (tx * ty))) 210) (range_with_len 1 8)) (range_with_len 1 8) ≡ true
+all_bounded = refl

@@ -1,8 +1,11 @@
 pub mod Blocks
 pub mod Degree
+pub mod Filters
 pub mod Lists
 pub mod Members
 pub mod Near
 pub mod Pairs
+pub mod PlaneLaws
 pub mod Shared
+pub mod Sizes
 pub mod Spans

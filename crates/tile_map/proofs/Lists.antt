@@ -1,9 +1,10 @@
 -- Filters of ranges and of nested ranges.
-use Rattle.std.proofs.Common.{ℕ, zero, suc, ◌≡◌, ◌+◌, ◌-◌, ◌*◌, ◌<◌, ◌≤◌, Bool, true, false, ◌&&◌, List, [], ◌∷◌, ◌++◌, length, get_or, refl, sym, ap, ◌∙◌, arith, map, cond, ◌⊎◌, inl, inr, Option, Some, None, subst, ◌==◌}
-use Rattle.std.specs.Prelude.{filter, flat_map, nat_le, nat_lt, ◌||◌, slice_get, position}
-use Rattle.std.specs.List.{range_with_len, list_any, list_all}
+use Rattle.std.proofs.Common.{ℕ, zero, suc, ◌≡◌, ◌+◌, ◌-◌, ◌<◌, ◌≤◌, Bool, true, false, ◌&&◌, List, [], ◌∷◌, ◌++◌, refl, ap, ◌∙◌, arith, map, cond}
+use Rattle.std.specs.Prelude.{filter, flat_map}
+use Rattle.std.specs.List.{range_with_len}
+use Rattle.std.proofs.lemmas.Grind.{flat_map-append}
+use Rattle.std.proofs.lemmas.List.{append-nil}
 use Rattle.std.proofs.lemmas.List.Elements.{filter-append}
-use Rattle.std.proofs.lemmas.Bool.Decides.{nat_tests}
 
 pub both : (a b : Bool) → (a && b) ≡ true → (a ≡ true) × (b ≡ true)
 both true b e = (refl, e)
@@ -44,13 +45,9 @@ range_in_three n lo hi a b =
     let end : hi ≡ lo + (hi - lo) = omega arith in
     range_cut 0 lo n lo (n - lo) whole start ∙ ap (λ xs. range_with_len 0 lo ++ xs) (range_cut lo hi (n - lo) (hi - lo) (n - hi) rest end)
 
-append_nil : {X : Type 0} (xs : List X) → xs ++ [] ≡ xs
-append_nil [] = refl
-append_nil (x ∷ xs) = ap (λ ys. x ∷ ys) (append_nil xs)
-
 -- the middle of three, where the others are empty
 middle : {X : Type 0} (a b c d : List X) → a ≡ [] → b ≡ d → c ≡ [] → a ++ (b ++ c) ≡ d
-middle a b c d p q r = ap (λ xs. xs ++ (b ++ c)) p ∙ ap (λ xs. xs ++ c) q ∙ ap (λ xs. d ++ xs) r ∙ append_nil d
+middle a b c d p q r = ap (λ xs. xs ++ (b ++ c)) p ∙ ap (λ xs. xs ++ c) q ∙ ap (λ xs. d ++ xs) r ∙ append-nil d
 
 -- the numbers of a range that a test on an interval passes
 pub filter_between : (p : ℕ → Bool) (n lo hi : ℕ) → lo ≤ hi → hi ≤ n → ((k : ℕ) → k < lo → p k ≡ false) → ((k : ℕ) → lo ≤ k → k < hi → p k ≡ true) → ((k : ℕ) → hi ≤ k → k < n → p k ≡ false) → filter p (range_with_len 0 n) ≡ range_with_len lo (hi - lo)
@@ -74,14 +71,6 @@ filter-map p f (x ∷ xs) = go (p (f x)) (filter-map p f xs)
 pub filter-flat_map : {X Y : Type 0} (p : Y → Bool) (f : X → List Y) (xs : List X) → filter p (flat_map f xs) ≡ flat_map (λ x. filter p (f x)) xs
 filter-flat_map p f [] = refl
 filter-flat_map p f (x ∷ xs) = filter-append p (f x) (flat_map f xs) ∙ ap (λ ys. filter p (f x) ++ ys) (filter-flat_map p f xs)
-
-pub flat_map-append : {X Y : Type 0} (f : X → List Y) (xs ys : List X) → flat_map f (xs ++ ys) ≡ flat_map f xs ++ flat_map f ys
-flat_map-append f [] ys = refl
-flat_map-append f (x ∷ xs) ys = ap (λ zs. f x ++ zs) (flat_map-append f xs ys) ∙ append_assoc (f x) (flat_map f xs) (flat_map f ys)
-  where
-    append_assoc : {A : Type 0} (a b c : List A) → a ++ (b ++ c) ≡ (a ++ b) ++ c
-    append_assoc [] b c = refl
-    append_assoc (x ∷ a) b c = ap (λ zs. x ∷ zs) (append_assoc a b c)
 
 pub flat_map_none : {Y : Type 0} (f : ℕ → List Y) (a n : ℕ) → ((k : ℕ) → a ≤ k → k < a + n → f k ≡ []) → flat_map f (range_with_len a n) ≡ []
 flat_map_none f a zero h = refl

@@ -1,6 +1,6 @@
 -- Members of lists, and lists of which each pair of elements is in order.
-use Rattle.std.proofs.Common.{ℕ, ◌≡◌, ◌≢◌, ◌≤◌, ◌<◌, ◌+◌, List, [], ◌∷◌, ◌++◌, refl, sym, ap, subst, arith, ◌⊎◌, inl, inr, ⊎_elim, Bool, true, false, zero, suc, ◌∙◌, ◌==◌, length, map, cond, Option, Some, None, get_or}
-use Rattle.std.specs.Prelude.{◌||◌, slice_get, AllPairs, All}
+use Rattle.std.proofs.Common.{ℕ, ◌≡◌, ◌≤◌, ◌<◌, ◌+◌, List, [], ◌∷◌, ◌++◌, refl, sym, ap, subst, arith, ◌⊎◌, inl, inr, ⊎_elim, Bool, true, false, zero, suc, ◌∙◌, length, map, cond, Some, get_or}
+use Rattle.std.specs.Prelude.{◌||◌, slice_get, AllPairs}
 use Rattle.std.specs.List.{filter, flat_map, range_with_len, list_any}
 use Rattle.std.proofs.lemmas.List.Kept.{AllPairs-cons}
 

@@ -1,7 +1,7 @@
 -- Where the sites of a window lie, and which tiles hold one of them.
-use Rattle.std.proofs.Common.{ℕ, zero, suc, ◌≡◌, ◌≢◌, ◌+◌, ◌-◌, ◌*◌, ◌/◌, ◌%◌, ◌<◌, ◌≤◌, min, max, Bool, true, false, ◌&&◌, List, [], ◌∷◌, length, get_or, refl, sym, ap, ◌∙◌, subst, arith, ◌⊎◌, inl, inr, Option, Some, None}
-use Rattle.std.specs.Prelude.{nat_le, nat_lt, ℤ, pos, negsuc, if◌then◌else◌}
-use Rattle.std.specs.List.{range_with_len, list_any}
+use Rattle.std.proofs.Common.{ℕ, ◌≡◌, ◌+◌, ◌-◌, ◌<◌, ◌≤◌, Bool, true, false, length, get_or, refl, sym, ap, ◌∙◌, arith, ◌⊎◌, inl, inr, Option, Some, None}
+use Rattle.std.specs.Prelude.{nat_le, ℤ, pos, negsuc, if◌then◌else◌}
+use Rattle.std.specs.List.{range_with_len}
 use Rattle.std.specs.Int.RustNames.{unsigned_abs}
 use Rattle.std.proofs.lemmas.Bool.Decides.{nat_tests}
 use Rattle.std.proofs.lemmas.List.Folds.{list_any_at}
@@ -9,10 +9,11 @@ use Rattle.std.proofs.lemmas.List.FromFn.{length-range_with_len, get_or-range_wi
 use Rattle.window_sites.specs.Sites.{offset_of, distance}
 use Rattle.window_sites.proofs.Offsets.{offset-near, offset-found}
 use Rattle.window_sites.proofs.Tables.{any_get}
-use Rattle.tile_map.specs.Plane.{Site, MapValue, site, tiles_of, is_live, is_around, is_held, apart, in_window}
+use Rattle.tile_map.specs.Plane.{Site, MapValue, site, tiles_of, is_live, is_held, apart, in_window}
+use Rattle.tile_map.specs.Spans.{left_of, right_of, top_of, bottom_of, gap}
 use Rattle.tile_map.specs.Edges.{shifted, live_site, window_site, is_held_at, reaches}
 use Rattle.tile_map.proofs.Lists.{both, together}
-use Rattle.tile_map.proofs.Spans.{le_test, test_le, lt_test, test_lt, left_of, right_of, top_of, bottom_of, held_inside, held_span}
+use Rattle.tile_map.proofs.Spans.{le_test, test_le, held_inside, held_span}
 
 -- the offset from one coordinate to another
 abbrev pub offset_to : ℕ → ℕ → ℤ
@@ -60,11 +61,13 @@ window_site-found m c s h =
     let near : apart c.x s.x + apart c.y s.y ≤ 4 = test_le _ _ parts.1 in
     let o : ℤ × ℤ = (offset_to c.x s.x, offset_to c.y s.y) in
     let close : distance o ≤ 4 = omega (arith, near, offset_to-abs c.x s.x, offset_to-abs c.y s.y) in
-    let n = offset-found o close in
-    (n.0, n.1,
-     ap (λ (p : ℤ × ℤ). live_site m (shifted c.x p.0) (shifted c.y p.1)) n.2
-     ∙ (λ i. live_site m (shifted-offset_to c.x s.x i) (shifted-offset_to c.y s.y i))
-     ∙ live_site_of m s parts.0)
+    let n = offset-found o close in (
+      n.0,
+      n.1,
+      ap (λ (p : ℤ × ℤ). live_site m (shifted c.x p.0) (shifted c.y p.1)) n.2
+          ∙ (λ i. live_site m (shifted-offset_to c.x s.x i) (shifted-offset_to c.y s.y i))
+          ∙ live_site_of m s parts.0,
+    )
 
 -- a tile reaches a window if it holds a live site of it
 pub reaches-held : (m : MapValue) (c s : Site) (u : ℕ) → in_window m c s ≡ true → is_held m u s ≡ true → reaches m c u ≡ true
@@ -95,10 +98,6 @@ window_apart m c s h = test_le _ _ (both _ _ h).1
 
 pub held_live : (m : MapValue) (t : ℕ) (s : Site) → is_held m t s ≡ true → is_live m s ≡ true
 held_live m t s h = (both _ _ (both _ _ h).0).1
-
--- how far a coordinate is from an interval
-abbrev pub gap : ℕ → ℕ → ℕ → ℕ
-gap from end x = (from - x) + (x + 1 - end)
 
 -- the nearest of an interval
 nearest : (from end x : ℕ) → from < end → (u : ℕ) × (from ≤ u) × (u < end) × (apart x u ≡ gap from end x)

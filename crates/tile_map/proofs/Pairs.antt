@@ -1,17 +1,18 @@
 -- The list of the edges: whose ends they are, that none is left out, that they rise, and that a tile has at most 8.
-use Rattle.std.proofs.Common.{ℕ, zero, suc, ◌≡◌, ◌≢◌, ◌+◌, ◌-◌, ◌*◌, ◌/◌, ◌%◌, ◌<◌, ◌≤◌, Bool, true, false, ◌&&◌, ◌==◌, List, [], ◌∷◌, ◌++◌, length, get_or, map, cond, refl, sym, ap, ◌∙◌, subst, arith, ◌⊎◌, inl, inr, ⊎_elim}
-use Rattle.std.specs.Prelude.{◌||◌, nat_le, nat_lt, filter, flat_map, AllPairs}
+use Rattle.std.proofs.Common.{ℕ, zero, suc, ◌≡◌, ◌+◌, ◌-◌, ◌*◌, ◌/◌, ◌%◌, ◌<◌, ◌≤◌, Bool, true, false, ◌&&◌, List, [], ◌∷◌, length, get_or, map, cond, refl, sym, ap, ◌∙◌, subst, arith, ◌⊎◌, inl, inr, ⊎_elim}
+use Rattle.std.specs.Prelude.{nat_le, nat_lt, filter, flat_map, AllPairs}
 use Rattle.std.specs.List.{list_all, range_with_len}
-use Rattle.std.proofs.lemmas.Bool.{leb-true}
 use Rattle.std.proofs.lemmas.Bool.Decides.{nat_tests}
-use Rattle.std.proofs.lemmas.Nat.{rows}
 use Rattle.std.proofs.lemmas.List.FromFn.{length-range_with_len, get_or-range_with_len}
 use Rattle.window_sites.proofs.Tables.{all_get}
-use Rattle.tile_map.specs.Plane.{Site, MapValue, IsMap, tiles_of, is_meeting, is_around, is_held}
-use Rattle.tile_map.specs.Edges.{are_neighbours, pairs_from, pairs_of, pair_at, low_end, high_end, has_end, other_end, edges_at}
-use Rattle.tile_map.proofs.Degree.{are_near, near_pairs, is_end, degree, are_few, all_few}
-use Rattle.tile_map.proofs.Lists.{both, together}
-use Rattle.tile_map.proofs.Spans.{le_test, test_le, lt_test, test_lt, times_more, held_span, left_of, right_of, top_of, bottom_of, low, high}
+use Rattle.tile_map.specs.Plane.{Site, MapValue, IsMap, tiles_of, is_meeting, is_held}
+use Rattle.tile_map.specs.Laws.{IsLower}
+use Rattle.tile_map.specs.Spans.{low, high}
+use Rattle.tile_map.specs.Edges.{are_neighbours, pairs_from, pairs_of, pair_at, is_end, has_end, edges_at}
+use Rattle.tile_map.specs.Neighbours.{are_near, near_pairs}
+use Rattle.tile_map.proofs.Degree.{degree, are_few, all_few, all_bounded}
+use Rattle.tile_map.proofs.Lists.{together}
+use Rattle.tile_map.proofs.Spans.{le_test, test_le, lt_test, times_more, held_span}
 use Rattle.tile_map.proofs.Members.{In, in_filter, filter_in, in_map, map_in, in_flat, flat_in, in_range, range_in, in_get, get_in, InOrder, order-append, order-filter, order-map, order-range, order-pairs}
 
 -- parts of one size meet, once one is widened, if their numbers are at most 1 apart
@@ -49,6 +50,17 @@ degree_low m k t lt =
     let same : 0 + t ≡ t = omega arith in
     let few' : nat_le (degree t (near_pairs m.tx (m.tx * m.ty))) 8 ≡ true = subst (λ t. nat_le (degree t (near_pairs m.tx (m.tx * m.ty))) 8 ≡ true) same few in
     subst (λ ps. degree t ps ≤ 8) (sym (pairs_near m k)) (test_le (degree t (near_pairs m.tx (m.tx * m.ty))) 8 few')
+
+-- there are at most 210 edges
+pub pairs_bounded : (m : MapValue) → IsMap m → length (pairs_of m) ≤ 210
+pairs_bounded m k =
+    let x : 1 + (m.tx - 1) ≡ m.tx = omega (arith, k.tx_low) in
+    let y : 1 + (m.ty - 1) ≡ m.ty = omega (arith, k.ty_low) in
+    let column = all_range (λ tx. list_all (λ ty. nat_le (length (near_pairs tx (tx * ty))) 210) (range_with_len 1 8)) 1 8 (m.tx - 1) all_bounded (omega (arith, k.tx_high)) in
+    let column' = subst (λ tx. list_all (λ ty. nat_le (length (near_pairs tx (tx * ty))) 210) (range_with_len 1 8) ≡ true) x column in
+    let place = all_range (λ ty. nat_le (length (near_pairs m.tx (m.tx * ty))) 210) 1 8 (m.ty - 1) column' (omega (arith, k.ty_high)) in
+    let place' = subst (λ ty. nat_le (length (near_pairs m.tx (m.tx * ty))) 210 ≡ true) y place in
+    subst (λ ps. length ps ≤ 210) (sym (pairs_near m k)) (test_le (length (near_pairs m.tx (m.tx * m.ty))) 210 place')
 
 -- the numbers of the entries that pass a test are as many as the entries
 count_places : {X : Type 0} (p : X → Bool) (q : ℕ → Bool) (xs : List X) (a : ℕ) (d : X) → ((k : ℕ) → k < length xs → q (a + k) ≡ p (get_or xs k d)) → length (filter q (range_with_len a (length xs))) ≡ length (filter p xs)
@@ -103,10 +115,6 @@ edge_of m t u a b near =
     let first = in_range 0 (tiles_of m) t (omega arith) (omega (arith, a)) in
     let second = in_range 0 (tiles_of m) u (omega arith) (omega (arith, b)) in
     get_in (pairs_of m) (t, u) (tiles_of m, tiles_of m + 1) (in_flat (pairs_from m) (range_with_len 0 (tiles_of m)) t (t, u) first (in_map (λ u. (t, u)) (filter (are_neighbours m t) (range_with_len 0 (tiles_of m))) u (in_filter (are_neighbours m t) (range_with_len 0 (tiles_of m)) u second near)))
-
--- one pair is before another: by the lower tile, then the higher
-abbrev pub IsLower : ℕ × ℕ → ℕ × ℕ → Type 0
-IsLower p q = (p.0 < q.0) ⊎ ((p.0 ≡ q.0) × (p.1 < q.1))
 
 order-flat : {Y : Type 0} (R : Y → Y → Type 0) (f : ℕ → List Y) (a n : ℕ) → ((k : ℕ) → InOrder R (f k)) → ((j k : ℕ) (x y : Y) → j < k → In x (f j) → In y (f k) → R x y) → InOrder R (flat_map f (range_with_len a n))
 order-flat R f a zero each across = tt

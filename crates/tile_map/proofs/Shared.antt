@@ -1,32 +1,21 @@
 -- The sites that two neighbours share are a rectangle, and their registers follow its rows.
-use Rattle.std.proofs.Common.{ℕ, zero, suc, ◌≡◌, ◌≢◌, ◌+◌, ◌-◌, ◌*◌, ◌/◌, ◌%◌, ◌<◌, ◌≤◌, min, max, Bool, true, false, ◌&&◌, ◌==◌, List, [], ◌∷◌, length, get_or, cond, refl, sym, ap, ◌∙◌, subst, arith, ◌⊎◌, inl, inr, ⊎_elim, Option, Some, None}
-use Rattle.std.specs.Prelude.{nat_le, nat_lt, filter, position, All, slice_get}
+use Rattle.std.proofs.Common.{ℕ, ◌≡◌, ◌+◌, ◌-◌, ◌*◌, ◌/◌, ◌%◌, ◌<◌, ◌≤◌, min, max, Bool, true, false, ◌&&◌, ◌==◌, List, length, get_or, cond, refl, sym, ap, ◌∙◌, arith, ◌⊎◌, inl, inr, ⊎_elim, Option, Some, None}
+use Rattle.std.specs.Prelude.{nat_lt, position, slice_get, if◌then◌else◌}
 use Rattle.std.specs.List.{position_or_len}
 use Rattle.std.specs.Option.{option_map}
 use Rattle.std.proofs.lemmas.Bool.Decides.{nat_tests}
 use Rattle.std.proofs.lemmas.Nat.{rows}
+use Rattle.std.proofs.lemmas.List.Quantifiers.{position-Some}
 use Rattle.std.proofs.lemmas.List.Sums.{position_or_len_is}
 use Rattle.std.proofs.lemmas.List.Elements.{filter_passes}
-use Rattle.std.proofs.lemmas.Option.{slice_get-get_or}
+use Rattle.std.proofs.lemmas.Option.{slice_get-get_or, slice_get_within, get_or_from_slice_get}
 use Rattle.tile_map.specs.Plane.{Site, MapValue, IsMap, site, tiles_of, sites_of, is_held}
+use Rattle.tile_map.specs.Spans.{left_both, right_both, top_both, bottom_both, is_in, place_in}
 use Rattle.tile_map.specs.Edges.{are_neighbours, pairs_of, pair_at, shared_by, shared_of, register_of}
 use Rattle.tile_map.proofs.Lists.{both, together}
 use Rattle.tile_map.proofs.Blocks.{block, block_length, block_get, IsBlock, filter_block}
-use Rattle.tile_map.proofs.Spans.{test_le, test_lt, left_of, right_of, top_of, bottom_of, spans_meet, held_inside, held_span, not_left, not_right, not_above, not_under}
+use Rattle.tile_map.proofs.Spans.{test_le, spans_meet, held_inside, held_span, not_left, not_right, not_above, not_under}
 use Rattle.tile_map.proofs.Pairs.{Joined, edge_joined, neighbours_near}
-
--- the columns and rows that two tiles hold together
-abbrev pub left_both : MapValue → ℕ × ℕ → ℕ
-left_both m p = max (left_of m p.0) (left_of m p.1)
-
-abbrev pub right_both : MapValue → ℕ × ℕ → ℕ
-right_both m p = min (right_of m p.0) (right_of m p.1)
-
-abbrev pub top_both : MapValue → ℕ × ℕ → ℕ
-top_both m p = max (top_of m p.0) (top_of m p.1)
-
-abbrev pub bottom_both : MapValue → ℕ × ℕ → ℕ
-bottom_both m p = min (bottom_of m p.0) (bottom_of m p.1)
 
 record Near (m : MapValue) (t u : ℕ) : Type 0 where
   pub left : t % m.tx ≤ u % m.tx + 1
@@ -169,7 +158,7 @@ register_at m k e x y joined a b =
     let under : y - top < bottom - top = omega (arith, s.3, s.4, t.3, t.4) in
     let found = block_position left (right - left) top (bottom - top) (y - top) (x - left) under within in
     let found' : position (is_site x y) (block left (right - left) top (bottom - top)) ≡ Some ((y - top) * (right - left) + (x - left)) =
-        ap (λ (q : ℕ × ℕ). position (is_site q.0 q.1) (block left (right - left) top (bottom - top))) (λ i. (sym column i, sym row i)) ∙ found in
+    ap (λ (q : ℕ × ℕ). position (is_site q.0 q.1) (block left (right - left) top (bottom - top))) (λ i. (sym column i, sym row i)) ∙ found in
     ap (option_map (λ k. 1 + 2 * k)) (ap (position (is_site x y)) (shared_block m k p joined) ∙ found')
 
 -- what no entry passes has no position
@@ -193,3 +182,101 @@ register_none m e x y out = ap (option_map (λ k. 1 + 2 * k)) (position_none (is
             let passes : (is_held m (pair_at m e).0 q && is_held m (pair_at m e).1 q) ≡ true = filter_passes (λ s. is_held m (pair_at m e).0 s && is_held m (pair_at m e).1 s) (sites_of m) k (site 0 0) lt in
             let same : q ≡ site x y = λ i. record { x = s.0 i; y = s.1 i } in
             cc (ap (λ r. is_held m (pair_at m e).0 r && is_held m (pair_at m e).1 r) same, passes, out)
+
+-- two places of a block with one site are one
+block_once : (x n y k i j : ℕ) (d : Site) → i < k * n → j < k * n → get_or (block x n y k) i d ≡ get_or (block x n y k) j d → i ≡ j
+block_once x n y k i j d a b same =
+    let whole : site (x + i % n) (y + i / n) ≡ site (x + j % n) (y + j / n) = sym (block_at x n y k i d a) ∙ same ∙ block_at x n y k j d b in
+    let p = row_column i n k a in
+    let q = row_column j n k b in
+    same_place x y n i (j / n) (j % n) p.0 (ap (λ (s : Site). s.x) whole) (ap (λ (s : Site). s.y) whole) ∙ sym q.0
+
+block_places : (x n y k i j : ℕ) (s : Site) → slice_get (block x n y k) i ≡ Some s → slice_get (block x n y k) j ≡ Some s → i ≡ j
+block_places x n y k i j s a b =
+    let long = block_length x n y k in
+    let p = slice_get_within (block x n y k) i s a in
+    let q = slice_get_within (block x n y k) j s b in
+    block_once x n y k i j s (omega (arith, long, p)) (omega (arith, long, q)) (get_or_from_slice_get (block x n y k) i s s a ∙ sym (get_or_from_slice_get (block x n y k) j s s b))
+
+-- a site is shared once
+pub shared_once : (m : MapValue) → IsMap m → (e i j : ℕ) (s : Site) → e < length (pairs_of m) → slice_get (shared_of m e) i ≡ Some s → slice_get (shared_of m e) j ≡ Some s → i ≡ j
+shared_once m k e i j s lt a b =
+    let p = pair_at m e in
+    let same = shared_block m k p (edge_joined m e lt) in
+    block_places (left_both m p) (right_both m p - left_both m p) (top_both m p) (bottom_both m p - top_both m p) i j s
+    (ap (λ xs. slice_get xs i) (sym same) ∙ a) (ap (λ xs. slice_get xs j) (sym same) ∙ b)
+
+in_facts : (l r t b x y : ℕ) → is_in l r t b x y ≡ true → (l ≤ x) × (x < r) × (t ≤ y) × (y < b)
+in_facts l r t b x y h = grind (arith, nat_tests)
+
+in_test : (l r t b x y : ℕ) → l ≤ x → x < r → t ≤ y → y < b → is_in l r t b x y ≡ true
+in_test l r t b x y p q u v = grind (arith, nat_tests)
+
+-- whether both ends of an edge hold a site, by the rectangle
+both_in : (m : MapValue) (e x y : ℕ) → e < length (pairs_of m) → is_in (left_both m (pair_at m e)) (right_both m (pair_at m e)) (top_both m (pair_at m e)) (bottom_both m (pair_at m e)) x y ≡ true →
+    (is_held m (pair_at m e).0 (site x y) ≡ true) × (is_held m (pair_at m e).1 (site x y) ≡ true)
+both_in m e x y lt h =
+    let p = pair_at m e in
+    let f = in_facts (left_both m p) (right_both m p) (top_both m p) (bottom_both m p) x y h in
+    let j = edge_joined m e lt in (
+      held_inside m p.0 x y j.low (omega (arith, f.0)) (omega (arith, f.1)) (omega (arith, f.2)) (omega (arith, f.3)),
+      held_inside m p.1 x y j.high (omega (arith, f.0)) (omega (arith, f.1)) (omega (arith, f.2)) (omega (arith, f.3)),
+    )
+
+in_both : (m : MapValue) (e x y : ℕ) → (is_held m (pair_at m e).0 (site x y) && is_held m (pair_at m e).1 (site x y)) ≡ true → is_in (left_both m (pair_at m e)) (right_both m (pair_at m e)) (top_both m (pair_at m e)) (bottom_both m (pair_at m e)) x y ≡ true
+in_both m e x y held =
+    let p = pair_at m e in
+    let parts = both (is_held m p.0 (site x y)) (is_held m p.1 (site x y)) held in
+    let s = held_span m p.0 x y parts.0 in
+    let t = held_span m p.1 x y parts.1 in
+    in_test (left_both m p) (right_both m p) (top_both m p) (bottom_both m p) x y (omega (arith, s.1, t.1)) (omega (arith, s.2, t.2)) (omega (arith, s.3, t.3)) (omega (arith, s.4, t.4))
+
+-- a site has its register by its place in the rectangle
+pub register_is : (m : MapValue) → IsMap m → (e x y : ℕ) → e < length (pairs_of m) →
+    register_of m e (site x y) ≡ option_map (λ k. 1 + 2 * k) (place_in (left_both m (pair_at m e)) (right_both m (pair_at m e)) (top_both m (pair_at m e)) (bottom_both m (pair_at m e)) x y)
+register_is m k e x y lt = go (is_in (left_both m (pair_at m e)) (right_both m (pair_at m e)) (top_both m (pair_at m e)) (bottom_both m (pair_at m e)) x y) refl
+  where
+    out : is_in (left_both m (pair_at m e)) (right_both m (pair_at m e)) (top_both m (pair_at m e)) (bottom_both m (pair_at m e)) x y ≡ false → (is_held m (pair_at m e).0 (site x y) && is_held m (pair_at m e).1 (site x y)) ≡ false
+    out h = ⊎_elim (λ held. absurd (cc (h, in_both m e x y held))) (λ held. held) (bool_cases (is_held m (pair_at m e).0 (site x y) && is_held m (pair_at m e).1 (site x y)))
+
+    go : (b : Bool) → is_in (left_both m (pair_at m e)) (right_both m (pair_at m e)) (top_both m (pair_at m e)) (bottom_both m (pair_at m e)) x y ≡ b →
+        register_of m e (site x y) ≡ option_map (λ k. 1 + 2 * k) (if b then Some ((y - top_both m (pair_at m e)) * (right_both m (pair_at m e) - left_both m (pair_at m e)) + (x - left_both m (pair_at m e))) else None)
+    go true h = let held = both_in m e x y lt h in register_at m k e x y (edge_joined m e lt) held.0 held.1
+    go false h = register_none m e x y (out h)
+
+-- the same for what a map has at hand
+pub register_read : (m : MapValue) → IsMap m → (e x y l r t b : ℕ) (place : Option ℕ) → e < length (pairs_of m) → l ≡ left_both m (pair_at m e) → r ≡ right_both m (pair_at m e) → t ≡ top_both m (pair_at m e) → b ≡ bottom_both m (pair_at m e) →
+    place ≡ place_in l r t b x y → option_map (λ k. 1 + 2 * k) place ≡ register_of m e (site x y)
+register_read m k e x y l r t b place lt a c d f is =
+    ap (option_map (λ k. 1 + 2 * k)) (is ∙ λ i. place_in (a i) (c i) (d i) (f i) x y) ∙ sym (register_is m k e x y lt)
+
+pub shared_read : (m : MapValue) → IsMap m → (e l r t b count : ℕ) → e < length (pairs_of m) → l ≡ left_both m (pair_at m e) → r ≡ right_both m (pair_at m e) → t ≡ top_both m (pair_at m e) → b ≡ bottom_both m (pair_at m e) →
+    count ≡ (r - l) * (b - t) → count ≡ length (shared_of m e)
+shared_read m k e l r t b count lt a c d f is =
+    is ∙ (λ i. (c i - a i) * (f i - d i)) ∙ sym (shared_length m k (pair_at m e) (edge_joined m e lt))
+
+pub times_low : (a b : ℕ) → a ≤ 512 → b ≤ 512 → a * b ≤ 262144
+times_low a b p q = grind arith
+
+site_same : (s q : Site) → is_site s.x s.y q ≡ true → q ≡ s
+site_same s q h = let r = is_site-is s.x s.y q h in λ i. record { x = r.0 i; y = r.1 i }
+
+-- what has a register is shared
+pub register_shared : (m : MapValue) (e r : ℕ) (s : Site) → register_of m e s ≡ Some r → (k : ℕ) × (slice_get (shared_of m e) k ≡ Some s) × (r ≡ 1 + 2 * k)
+register_shared m e r s h = go (position (is_site s.x s.y) (shared_of m e)) refl h
+  where
+    some_is : (a b : ℕ) → Some a ≡ Some b → a ≡ b
+    some_is a b e = cc (e)
+
+    go : (o : Option ℕ) → position (is_site s.x s.y) (shared_of m e) ≡ o → option_map (λ k. 1 + 2 * k) o ≡ Some r → (k : ℕ) × (slice_get (shared_of m e) k ≡ Some s) × (r ≡ 1 + 2 * k)
+    go None is q = absurd (cc (q))
+    go (Some k) is q =
+        let p = position-Some (is_site s.x s.y) (shared_of m e) k s is in
+        (k, slice_get-get_or (shared_of m e) k s p.0 ∙ ap Some (site_same s (get_or (shared_of m e) k s) p.1), some_is r (1 + 2 * k) (sym q))
+
+-- what is shared has its register
+pub register_found : (m : MapValue) → IsMap m → (e k : ℕ) (s : Site) → e < length (pairs_of m) → (is_held m (pair_at m e).0 s ≡ true) × (is_held m (pair_at m e).1 s ≡ true) → slice_get (shared_of m e) k ≡ Some s → register_of m e s ≡ Some (1 + 2 * k)
+register_found m valid e k s lt held h =
+    let at = register_at m valid e s.x s.y (edge_joined m e lt) held.0 held.1 in
+    let r = register_shared m e _ s at in
+    at ∙ ap Some (r.2 ∙ ap (λ j. 1 + 2 * j) (shared_once m valid e r.0 k s lt r.1 h))

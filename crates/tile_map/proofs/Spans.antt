@@ -1,8 +1,9 @@
 -- The columns, or rows, that a tile holds: an interval of the plane's.
-use Rattle.std.proofs.Common.{ℕ, zero, suc, ◌≡◌, ◌≢◌, ◌+◌, ◌-◌, ◌*◌, ◌/◌, ◌%◌, ◌<◌, ◌≤◌, min, max, Bool, true, false, ◌&&◌, refl, sym, ap, ◌∙◌, arith, ◌⊎◌, inl, inr}
+use Rattle.std.proofs.Common.{ℕ, ◌≡◌, ◌+◌, ◌*◌, ◌/◌, ◌%◌, ◌<◌, ◌≤◌, min, max, true, false, arith}
 use Rattle.std.specs.Prelude.{nat_le, nat_lt}
 use Rattle.std.proofs.lemmas.Bool.Decides.{nat_tests}
-use Rattle.tile_map.specs.Plane.{Site, MapValue, IsMap, site, tiles_of, is_live, is_around, is_held}
+use Rattle.tile_map.specs.Spans.{low, high, left_of, right_of, top_of, bottom_of}
+use Rattle.tile_map.specs.Plane.{MapValue, site, tiles_of, is_live, is_around, is_held}
 
 pub le_test : (a b : ℕ) → a ≤ b → nat_le a b ≡ true
 le_test a b h = grind (arith, nat_tests)
@@ -15,13 +16,6 @@ lt_test a b h = grind (arith, nat_tests)
 
 pub test_lt : (a b : ℕ) → nat_lt a b ≡ true → a < b
 test_lt a b h = grind (arith, nat_tests)
-
--- the first that part a of parts of one size holds, and one more than the last, of n in all
-abbrev pub low : ℕ → ℕ → ℕ
-low size a = a * size - 4
-
-abbrev pub high : ℕ → ℕ → ℕ → ℕ
-high n size a = min ((a + 1) * size + 4) n
 
 pub around_inside : (n size a x : ℕ) → low size a ≤ x → x < high n size a → is_around size a x ≡ true
 around_inside n size a x p q = grind (arith, nat_tests)
@@ -47,19 +41,6 @@ pub spans_meet : (n size a b k : ℕ) → 8 ≤ size → a < k → b < k → n �
 spans_meet n size a b k big p q whole x y =
     omega (arith, big, whole, times_more (a + 1) k size (omega (arith, p)), times_more (b + 1) k size (omega (arith, q)), times_more a (b + 1) size x, times_more b (a + 1) size y)
 
--- the columns and rows that a tile holds
-abbrev pub left_of : MapValue → ℕ → ℕ
-left_of m t = low m.w (t % m.tx)
-
-abbrev pub right_of : MapValue → ℕ → ℕ
-right_of m t = high (m.tx * m.w) m.w (t % m.tx)
-
-abbrev pub top_of : MapValue → ℕ → ℕ
-top_of m t = low m.h (t / m.tx)
-
-abbrev pub bottom_of : MapValue → ℕ → ℕ
-bottom_of m t = high (m.ty * m.h) m.h (t / m.tx)
-
 pub held_inside : (m : MapValue) (t x y : ℕ) → t < tiles_of m → left_of m t ≤ x → x < right_of m t → top_of m t ≤ y → y < bottom_of m t → is_held m t (site x y) ≡ true
 held_inside m t x y own a b c d =
     let px = around_inside (m.tx * m.w) m.w (t % m.tx) x a b in
@@ -82,3 +63,6 @@ not_above m t x y h = grind (arith, nat_tests)
 
 pub not_under : (m : MapValue) (t x y : ℕ) → bottom_of m t ≤ y → is_held m t (site x y) ≡ false
 not_under m t x y h = grind (arith, nat_tests)
+
+pub live_test : (m : MapValue) (x y : ℕ) → x < m.tx * m.w → y < m.ty * m.h → is_live m (site x y) ≡ true
+live_test m x y a b = grind (arith, nat_tests)

@@ -1,10 +1,10 @@
 -- The edges between neighbouring tiles, the sites that they share, and those that an event needs.
-use Rattle.std.specs.Prelude.{ℕ, ◌+◌, ◌-◌, ◌*◌, ◌/◌, ◌%◌, ◌==◌, List, Bool, true, false, ◌&&◌, ◌||◌, nat_lt, if◌then◌else◌, Option, Some, None, ℤ, pos, negsuc, length, map, filter, flat_map, position, slice_index_or}
+use Rattle.std.specs.Prelude.{ℕ, ◌≡◌, ◌+◌, ◌-◌, ◌*◌, ◌/◌, ◌%◌, ◌==◌, List, Bool, false, ◌&&◌, ◌||◌, nat_lt, if◌then◌else◌, Option, Some, None, ℤ, pos, negsuc, length, map, filter, flat_map, position, slice_index_or}
 use Rattle.std.specs.List.{range_with_len, list_any}
 use Rattle.std.specs.Option.{option_map}
 use Rattle.feast_base.specs.Edges.{EdgeSize}
 use Rattle.window_sites.specs.Sites.{offset_of}
-use Rattle.tile_map.specs.Plane.{Site, MapValue, site, tiles_of, is_live, sites_of, is_meeting, is_held}
+use Rattle.tile_map.specs.Plane.{Site, MapValue, IsMap, site, tiles_of, is_live, sites_of, is_meeting, is_held}
 
 -- whether t is the lower of two neighbouring tiles, diagonally too
 abbrev pub are_neighbours : MapValue → ℕ → ℕ → Bool
@@ -28,17 +28,25 @@ low_end m e = (pair_at m e).0
 abbrev pub high_end : MapValue → ℕ → ℕ
 high_end m e = (pair_at m e).1
 
+-- whether tile t is one of a pair
+abbrev pub is_end : ℕ → ℕ × ℕ → Bool
+is_end t p = p.0 == t || p.1 == t
+
 -- whether tile t is an end of the edge
 abbrev pub has_end : MapValue → ℕ → ℕ → Bool
-has_end m t e = low_end m e == t || high_end m e == t
+has_end m t e = is_end t (pair_at m e)
 
 -- the end that is not t
 abbrev pub other_end : MapValue → ℕ → ℕ → ℕ
 other_end m t e = if low_end m e == t then high_end m e else low_end m e
 
+-- of these edges of a plane of n tiles, those of tile t, rising
+abbrev pub edges_among : List (ℕ × ℕ) → ℕ → ℕ → List ℕ
+edges_among ps n t = filter (λ e. is_end t (slice_index_or ps e (n, n + 1))) (range_with_len 0 (length ps))
+
 -- the edges of tile t, rising
 abbrev pub edges_at : MapValue → ℕ → List ℕ
-edges_at m t = filter (has_end m t) (range_with_len 0 (length (pairs_of m)))
+edges_at m t = edges_among (pairs_of m) (tiles_of m) t
 
 -- the sites that two tiles hold, row by row
 abbrev pub shared_by : MapValue → ℕ × ℕ → List Site
@@ -90,3 +98,9 @@ is_needed m t c e = has_end m t e && reaches m c (other_end m t e)
 -- the edges that an event of tile t at c needs, rising
 abbrev pub needs_of : MapValue → ℕ → Site → List ℕ
 needs_of m t c = filter (is_needed m t c) (range_with_len 0 (length (pairs_of m)))
+
+-- what a map keeps: its edges by their ends, and the edges of each tile
+pub record IsKept (m : MapValue) (ends : List (ℕ × ℕ)) (around : List (List ℕ)) : Type 0 where
+  pub valid : IsMap m
+  pub pairs : ends ≡ pairs_of m
+  pub lists : around ≡ map (edges_at m) (range_with_len 0 (tiles_of m))

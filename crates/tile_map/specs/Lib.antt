@@ -1,2 +1,5 @@
 pub mod Plane
+pub mod Neighbours
 pub mod Edges
+pub mod Laws
+pub mod Spans

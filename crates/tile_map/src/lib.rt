@@ -1,3 +1,19 @@
-//! The plane cut into tiles: which tile owns and holds a site, the edges between tiles, and the
-//! edges that an event needs.
+//! The plane cut into tiles: which tile owns and which tiles hold a site, the edges between
+//! neighbouring tiles with the sites that they share, and the edges that an event needs.
+//!
+//! The plane is a rectangle of 1 to 8 by 1 to 8 tiles, and each tile a rectangle of 8 to 64 by
+//! 8 to 64 sites. x grows east and y grows south, from (0, 0). Tiles are numbered row by row.
 #![tactic(auto)]
+
+mod crossing;
+mod edge_sizes;
+mod edges;
+mod map;
+mod needs;
+mod span;
+
+pub use map::Map;
+pub use needs::Needs;
+
+#[cfg(test)]
+mod tests;

@@ -1,0 +1,7 @@
+use Rattle.std.proofs.Common.{subst}
+use Rattle.tile_map.specs.Laws.{IsPlane}
+use Rattle.tile_map.proofs.PlaneLaws.{plane}
+use Rattle.tile_map.proofs.map.Map.laws.Goals as goal
+
+pub returns : goal.returns
+returns c = subst IsPlane c.self.view_is (plane _ c.self.invariant.valid)

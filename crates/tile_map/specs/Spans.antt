@@ -1,0 +1,47 @@
+-- The columns and rows that a tile holds, as intervals.
+use Rattle.std.specs.Prelude.{ℕ, ◌+◌, ◌-◌, ◌*◌, ◌/◌, ◌%◌, min, max, Bool, ◌&&◌, nat_le, nat_lt, Option, Some, None, if◌then◌else◌}
+use Rattle.tile_map.specs.Plane.{MapValue}
+
+-- the first that part a of parts of one size holds, and one more than the last, of n in all
+abbrev pub low : ℕ → ℕ → ℕ
+low size a = a * size - 4
+
+abbrev pub high : ℕ → ℕ → ℕ → ℕ
+high n size a = min ((a + 1) * size + 4) n
+
+abbrev pub left_of : MapValue → ℕ → ℕ
+left_of m t = low m.w (t % m.tx)
+
+abbrev pub right_of : MapValue → ℕ → ℕ
+right_of m t = high (m.tx * m.w) m.w (t % m.tx)
+
+abbrev pub top_of : MapValue → ℕ → ℕ
+top_of m t = low m.h (t / m.tx)
+
+abbrev pub bottom_of : MapValue → ℕ → ℕ
+bottom_of m t = high (m.ty * m.h) m.h (t / m.tx)
+
+-- what the ends of an edge hold together
+abbrev pub left_both : MapValue → ℕ × ℕ → ℕ
+left_both m p = max (left_of m p.0) (left_of m p.1)
+
+abbrev pub right_both : MapValue → ℕ × ℕ → ℕ
+right_both m p = min (right_of m p.0) (right_of m p.1)
+
+abbrev pub top_both : MapValue → ℕ × ℕ → ℕ
+top_both m p = max (top_of m p.0) (top_of m p.1)
+
+abbrev pub bottom_both : MapValue → ℕ × ℕ → ℕ
+bottom_both m p = min (bottom_of m p.0) (bottom_of m p.1)
+
+-- how far a coordinate is from an interval
+abbrev pub gap : ℕ → ℕ → ℕ → ℕ
+gap from end x = (from - x) + (x + 1 - end)
+
+-- whether (x, y) is in a rectangle
+abbrev pub is_in : ℕ → ℕ → ℕ → ℕ → ℕ → ℕ → Bool
+is_in left right top bottom x y = (nat_le left x && nat_lt x right) && (nat_le top y && nat_lt y bottom)
+
+-- the place of (x, y) in a rectangle, row by row
+abbrev pub place_in : ℕ → ℕ → ℕ → ℕ → ℕ → ℕ → Option ℕ
+place_in left right top bottom x y = if is_in left right top bottom x y then Some ((y - top) * (right - left) + (x - left)) else None

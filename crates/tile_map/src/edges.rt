@@ -1,0 +1,95 @@
+//! The list of the edges, and the edges of each tile.
+
+ghost use Rattle.std.specs.Prelude.{◌≡◌, ℕ, ◌^◌, ◌<◌, ◌≤◌, ◌++◌, IfOk, OnOk, map, length};
+ghost use Rattle.std.specs.List.{range_with_len};
+ghost use Rattle.tile_map.specs.Edges.{is_end, edges_among};
+ghost use Rattle.tile_map.specs.Neighbours.{are_near, near_from, near_pairs};
+
+use crate::needs::Needs;
+use feast_base::NoMemory;
+use std::alloc::Global;
+
+// The edges of a plane of tiles, `tx` in a row.
+#[tactic(auto, using(crate::proofs::Filters::pairs_more))]
+pub(crate) fn pairs(alloc: Global, tx: u32, tiles: u32) -> Result<Vec<(u32, u32)>, NoMemory>
+    requires some { 0 < tx }
+    requires small { tiles < 2 ^ 31 }
+    ensures { IfOk result (λ v. v.items ≡ near_pairs tx tiles) }
+{
+    let mut pairs = Vec::new(alloc);
+    for lower in 0..tiles {
+        push_pairs(&mut pairs, lower, tx, tiles)?;
+    }
+    Ok(pairs)
+}
+
+// Appends the edges of a lower tile.
+fn push_pairs(pairs: &mut Vec<(u32, u32)>, lower: u32, tx: u32, tiles: u32) -> Result<(), NoMemory>
+    requires some { 0 < tx }
+    requires small { tiles < 2 ^ 31 }
+    requires lower { lower < tiles }
+    ensures { OnOk result (pairs.new.items ≡ pairs.old.items ++ near_from tx tiles lower) }
+{
+    for higher in 0..tiles {
+        if are_neighbours(tx, lower, higher) {
+            match pairs.push((lower, higher)) {
+                Ok(()) => {}
+                Err(_) => return Err(NoMemory),
+            }
+        }
+    }
+    Ok(())
+}
+
+// Whether the first is the lower of two tiles that are neighbours, diagonally too.
+fn are_neighbours(tx: u32, lower: u32, higher: u32) -> bool
+    requires some { 0 < tx }
+    ensures { result ≡ are_near tx lower higher }
+{
+    lower < higher
+        && (lower % tx).abs_diff(higher % tx) <= 1
+        && (lower / tx).abs_diff(higher / tx) <= 1
+}
+
+// For each tile its edges, of which there are at most 8.
+#[tactic(auto, using(crate::proofs::Filters::lists_more))]
+pub(crate) fn by_tile(
+    alloc: Global,
+    ends: &[(u32, u32)],
+    tiles: u32,
+) -> Result<Vec<Needs>, NoMemory>
+    requires small { length ends.now < 2 ^ 32 }
+    requires few { (t : ℕ) → t < tiles → length (edges_among ends.now tiles t) ≤ 8 }
+    ensures { IfOk result (λ v. v.items ≡ map (edges_among ends.now tiles) (range_with_len 0 tiles)) }
+{
+    let mut lists = Vec::new(alloc);
+    for tile in 0..tiles {
+        match lists.push(edges_of(ends, tiles, tile)) {
+            Ok(()) => {}
+            Err(_) => return Err(NoMemory),
+        }
+    }
+    Ok(lists)
+}
+
+// The edges of a tile, of which there are at most 8.
+fn edges_of(ends: &[(u32, u32)], tiles: u32, tile: u32) -> Needs
+    requires small { length ends.now < 2 ^ 32 }
+    requires few { length (edges_among ends.now tiles tile) ≤ 8 }
+    ensures { result ≡ edges_among ends.now tiles tile }
+{
+    let mut edges = Needs::new();
+    for (edge, pair) in ends.iter().enumerate() {
+        if has_end(pair, tile) {
+            edges.push(edge as u32);
+        }
+    }
+    edges
+}
+
+// Whether the tile is one of the pair.
+fn has_end(pair: &(u32, u32), tile: u32) -> bool
+    ensures { result ≡ is_end tile pair.now }
+{
+    pair.0 == tile || pair.1 == tile
+}

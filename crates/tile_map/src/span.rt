@@ -1,0 +1,93 @@
+//! Intervals of columns or rows, and rectangles.
+
+ghost use Rattle.std.specs.Prelude.{◌≡◌, ◌+◌, ◌-◌, ◌*◌, ◌^◌, ◌<◌, ◌≤◌, min, max, ◌&&◌, nat_le, nat_lt, IfSome};
+ghost use Rattle.tile_map.specs.Spans.{place_in};
+
+// The coordinates from `first` up to `end` and without it.
+#[derive(Clone, Copy)]
+pub(crate) struct Span {
+    pub first: u32,
+    pub end: u32,
+}
+
+impl Span {
+    // What lies in one of `parts` parts of a size, or at most 4 outside it, where they are one
+    // beside the other.
+    pub(crate) fn around(part: u32, size: u32, parts: u32) -> Span
+        requires one { part < parts }
+        requires few { parts ≤ 8 }
+        requires small { size ≤ 64 }
+        ensures first { result.first ≡ part * size - 4 }
+        ensures end { result.end ≡ min ((part + 1) * size + 4) (parts * size) }
+        ensures bound { result.end ≤ 512 }
+    {
+        let first = (part * size).saturating_sub(4);
+        let end = ((part + 1) * size + 4).min(parts * size);
+        Span { first, end }
+    }
+
+    // What lies in both.
+    pub(crate) fn common(self, other: Span) -> Span
+        ensures first { result.first ≡ max self.first other.first }
+        ensures end { result.end ≡ min self.end other.end }
+    {
+        Span {
+            first: self.first.max(other.first),
+            end: self.end.min(other.end),
+        }
+    }
+
+    pub(crate) fn len(self) -> u32
+        ensures { result ≡ self.end - self.first }
+    {
+        self.end.saturating_sub(self.first)
+    }
+
+    pub(crate) fn contains(self, at: u32) -> bool
+        ensures { result ≡ (nat_le self.first at && nat_lt at self.end) }
+    {
+        self.first <= at && at < self.end
+    }
+
+    // How far a coordinate is from the nearest of the span.
+    pub(crate) fn gap(self, at: u32) -> u32
+        requires at { at < 512 }
+        requires first { self.first < 512 }
+        ensures value { result ≡ (self.first - at) + (at + 1 - self.end) }
+        ensures bound { result ≤ 1024 }
+    {
+        self.first.saturating_sub(at) + (at + 1).saturating_sub(self.end)
+    }
+}
+
+// The sites of some columns and rows.
+#[derive(Clone, Copy)]
+pub(crate) struct Area {
+    pub columns: Span,
+    pub rows: Span,
+}
+
+impl Area {
+    // How many sites there are.
+    pub(crate) fn sites(self) -> u32
+        requires columns { self.columns.end ≤ 512 }
+        requires rows { self.rows.end ≤ 512 }
+        ensures value { result ≡ (self.columns.end - self.columns.first) * (self.rows.end - self.rows.first) }
+        ensures bound { result ≤ 512 * 512 }
+    {
+        self.columns.len() * self.rows.len()
+    }
+
+    // The place of a site, row by row, where the area has it.
+    pub(crate) fn place(self, x: u32, y: u32) -> Option<u32>
+        requires columns { self.columns.end ≤ 512 }
+        requires rows { self.rows.end ≤ 512 }
+        ensures value { result ≡ place_in self.columns.first self.columns.end self.rows.first self.rows.end x y }
+        ensures bound { IfSome result (λ k. k < 512 * 512) }
+    {
+        if !self.columns.contains(x) || !self.rows.contains(y) {
+            return None;
+        }
+        Some((y - self.rows.first) * self.columns.len() + (x - self.columns.first))
+    }
+}
