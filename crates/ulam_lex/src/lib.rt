@@ -1,0 +1,8 @@
+//! The tokens of a text.
+#![tactic(auto)]
+
+mod bytes;
+mod scan;
+mod token;
+
+pub use token::{LexFault, Token, TokenKind};
