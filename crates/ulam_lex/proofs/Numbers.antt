@@ -5,7 +5,7 @@ use Rattle.std.specs.Char.{is_digit, digit_value, is_ascii_digit}
 use Rattle.std.specs.List.{prefix_len, AllPass}
 use Rattle.std.proofs.lemmas.Bool.{cases_lt, false≢true, cases_eq, eq-eqb, ne_eqb, eqb-true, eqb-false, cond-true, cond-false, cases_Bool}
 use Rattle.std.proofs.lemmas.Bool.Decides.{nat_tests}
-use Rattle.std.proofs.lemmas.List.{length-take-le, length-append, get_or_append_left, get_or-append-add, take_at, drop_at, get_or_at, get_or-take, take-take, append_cancel_left}
+use Rattle.std.proofs.lemmas.List.{length-take-le, length-append, get_or_append_left, get_or-append-add, take_at, drop_at, get_or_at, get_or-take, take-take, append_cancel_left, drop_more, drop_all}
 use Rattle.std.proofs.lemmas.List.Sums.{prefix_len_stops, prefix_len-le-length, fold-append, AllPass-from_list_all}
 use Rattle.std.proofs.Math.Nat.{mul-le-mul_left}
 use Rattle.ulam_lex.specs.declared.token.TokenKind.TheVariants.{Number}
@@ -370,3 +370,18 @@ bare_start Hexadecimal text some class b none = (
     omega (arith, ap length b),
     inr (inl (sym (take-append-drop 2 text), bare_front Hexadecimal text b, no_digit 16 (drop 2 text) refl none)),
   )
+
+-- with one more digit that makes it too large, the whole is too large
+pub large_with : (base : Base) (value i : ℕ) (digits : List ℕ) → i < length digits → worth_after (radix_of base) value (drop i digits) ≡ worth_after (radix_of base) 0 digits →
+    2 ^ 32 ≤ value * radix_of base + digit_value (get_or digits i 0) → 2 ^ 32 ≤ worth_after (radix_of base) 0 digits
+large_with base value i digits within rest large =
+    let more : worth_after (radix_of base) value (drop i digits) ≡ worth_after (radix_of base) (value * radix_of base + digit_value (get_or digits i 0)) (drop (i + 1) digits) = ap (worth_after (radix_of base) value) (drop_more digits i 0 within) in
+    let grows = worth_grows (radix_of base) (value * radix_of base + digit_value (get_or digits i 0)) (drop (i + 1) digits) (radix_some base) in
+    omega arith
+
+pub small_end : (base : Base) (value i : ℕ) (digits : List ℕ) → length digits ≤ i → worth_after (radix_of base) value (drop i digits) ≡ worth_after (radix_of base) 0 digits → value ≡ worth_after (radix_of base) 0 digits
+small_end base value i digits past rest = sym (ap (worth_after (radix_of base) value) (drop_all i digits past)) ∙ rest
+
+-- a base's prefix is in the text
+pub prefix_within : (base : Base) (text : List ℕ) → IsBaseAt base text → length (prefix_of base) ≤ length text
+prefix_within base text b = omega (arith, ap length (text_is base text b), length-append (prefix_of base) (body_of base text))

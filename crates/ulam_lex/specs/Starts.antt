@@ -57,3 +57,7 @@ abbrev pub digit_count : Base → List ℕ → ℕ
 digit_count Binary bytes = prefix_len (λ d. is_digit d 2) bytes
 digit_count Decimal bytes = if (slice_index bytes 0 == 48) then 1 else prefix_len (λ d. is_digit d 10) bytes
 digit_count Hexadecimal bytes = prefix_len (λ d. is_digit d 16) bytes
+
+-- no comment begins at the front
+abbrev pub OpensNone : List ℕ → Type 0
+OpensNone text = ((rest : List ℕ) → text ≢ codes "//" ++ rest) × ((rest : List ℕ) → text ≢ codes "/*" ++ rest)

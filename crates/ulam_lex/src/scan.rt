@@ -1,8 +1,10 @@
 //! What stands at the front of a text.
-ghost use Rattle.std.specs.Prelude.{◌≡◌, ◌<◌, ◌≤◌, ◌^◌, length, slice_index, IfSome, IfNone, min};
+ghost use Rattle.std.specs.Prelude.{◌≡◌, ℕ, ◌+◌, ◌*◌, ◌<◌, ◌≤◌, ◌^◌, ◌==◌, ◌++◌, length, slice_index, take, drop, IfSome, IfNone, nat_lt, if◌then◌else◌, min, true, false, codes};
+ghost use Rattle.std.specs.Char.{digit_value, is_digit};
 ghost use Rattle.std.specs.List.{prefix_len};
-ghost use Rattle.ulam_lex.specs.Bytes.{is_white, is_word_byte, class_of};
-ghost use Rattle.ulam_lex.specs.Starts.{IsStart};
+ghost use Rattle.ulam_lex.specs.Bytes.{is_white, is_word_byte, class_of, is_sign};
+ghost use Rattle.ulam_lex.specs.Pieces.{is_in_line, prefix_of, radix_of, worth_after};
+ghost use Rattle.ulam_lex.specs.Starts.{IsStart, IsBaseAt, digit_count, OpensNone};
 
 use crate::bytes::{Class, class_of, is_keyword, is_sign, is_white, is_word_byte};
 use crate::token::TokenKind;
@@ -95,4 +97,236 @@ fn capital_word(bytes: &[u8]) -> Start
     ensures { IsStart bytes.now result }
 {
     Start::Piece(PieceKind::Token(TokenKind::TypeName), word_len(bytes))
+}
+
+impl Base {
+    /// How many digits the base has.
+    fn radix(self) -> u32
+        ensures { result ≡ radix_of self }
+    {
+        match self {
+            Base::Binary => 2,
+            Base::Decimal => 10,
+            Base::Hexadecimal => 16,
+        }
+    }
+
+    /// How many bytes its numbers have before their digits.
+    fn prefix_len(self) -> usize
+        ensures { result ≡ length (prefix_of self) }
+    {
+        match self {
+            Base::Binary | Base::Hexadecimal => 2,
+            Base::Decimal => 0,
+        }
+    }
+}
+
+/// The base of the number at the front.
+fn base_at(bytes: &[u8]) -> Base
+    ensures { IsBaseAt result bytes.now }
+{
+    if bytes.starts_with(b"0x") {
+        Base::Hexadecimal
+    } else if bytes.starts_with(b"0b") {
+        Base::Binary
+    } else {
+        Base::Decimal
+    }
+}
+
+/// How many bytes at the front are digits of a radix.
+fn digit_run(radix: u32, bytes: &[u8]) -> usize
+    requires low { 2 ≤ radix }
+    requires high { radix ≤ 36 }
+    ensures { result ≡ prefix_len (λ d. is_digit d radix) bytes.now }
+{
+    bytes.iter().take_while(|byte| (**byte as char).is_digit(radix)).count()
+}
+
+/// How many digits of a base stand at the front. A decimal has nothing behind a 0 at its front.
+fn digit_count(base: Base, bytes: &[u8]) -> usize
+    ensures { result ≡ digit_count base bytes.now }
+{
+    match base {
+        Base::Binary => digit_run(2, bytes),
+        Base::Decimal if starts_with(bytes, b'0') => 1,
+        Base::Decimal => digit_run(10, bytes),
+        Base::Hexadecimal => digit_run(16, bytes),
+    }
+}
+
+/// Whether this byte stands at the front.
+fn starts_with(bytes: &[u8], byte: u8) -> bool
+    requires { 0 < byte }
+    ensures { result ≡ (slice_index bytes.now 0 == byte) }
+{
+    match bytes {
+        [first, ..] => *first == byte,
+        [] => false,
+    }
+}
+
+/// The value of a digit, and 36 for what is none.
+fn digit_value(byte: u8) -> u32
+    ensures value { result ≡ digit_value byte }
+    ensures small { result ≤ 36 }
+{
+    match byte {
+        b'0'..=b'9' => (byte - b'0') as u32,
+        b'A'..=b'Z' => (byte - b'A') as u32 + 10,
+        b'a'..=b'z' => (byte - b'a') as u32 + 10,
+        _ => 36,
+    }
+}
+
+/// A value with one more digit, if it is below 2^32.
+fn with_digit(value: u32, radix: u32, digit: u8) -> Option<u32>
+    ensures some { IfSome result (λ v. v ≡ value * radix + digit_value digit) }
+    ensures none { IfNone result (2 ^ 32 ≤ value * radix + digit_value digit) }
+{
+    value.checked_mul(radix)?.checked_add(digit_value(digit))
+}
+
+/// Whether what digits are worth is below 2^32.
+fn is_small(base: Base, digits: &[u8]) -> bool
+    ensures { result ≡ nat_lt (worth_after (radix_of base) 0 digits.now) (2 ^ 32) }
+{
+    let mut value = 0;
+    for digit in digits {
+        match with_digit(value, base.radix(), *digit) {
+            Some(more) => value = more,
+            None => return false,
+        }
+    }
+    true
+}
+
+/// How long the `u` behind the digits of a number is.
+fn suffix_len(rest: &[u8]) -> usize
+    ensures { result ≡ (if (slice_index rest.now 0 == 117) then 1 else 0) }
+{
+    if starts_with(rest, b'u') { 1 } else { 0 }
+}
+
+/// A number.
+fn number(bytes: &[u8]) -> Start
+    requires some { 0 < length bytes.now }
+    requires class { class_of (slice_index bytes.now 0) ≡ Class.Digit }
+    ensures { IsStart bytes.now result }
+{
+    let base = base_at(bytes);
+    let prefix = base.prefix_len();
+    let (_, body) = bytes.split_at(prefix);
+    let count = digit_count(base, body);
+    if count == 0 {
+        return Start::BadByte(prefix);
+    }
+    let (digits, rest) = body.split_at(count);
+    if !is_small(base, digits) {
+        return Start::NumberTooLarge;
+    }
+    let length = prefix + count + suffix_len(rest);
+    Start::Piece(PieceKind::Token(TokenKind::Number), length)
+}
+
+/// How many bytes stand before the end of the line.
+fn line_len(bytes: &[u8]) -> usize
+    ensures { result ≡ prefix_len is_in_line bytes.now }
+{
+    bytes.iter().take_while(|byte| **byte != b'\n').count()
+}
+
+/// Where the first `*/` stands.
+fn close_at(bytes: &[u8]) -> Option<usize>
+    ensures within { IfSome result (λ n. n + 1 < length bytes.now) }
+    ensures found { IfSome result (λ n. (slice_index bytes.now n ≡ 42) × (slice_index bytes.now (n + 1) ≡ 47)) }
+    ensures first { IfSome result (λ n. (k : ℕ) → k < n → slice_index bytes.now k ≡ 42 → slice_index bytes.now (k + 1) ≡ 47 → ⊥) }
+    ensures none { IfNone result ((k : ℕ) → k + 1 < length bytes.now → slice_index bytes.now k ≡ 42 → slice_index bytes.now (k + 1) ≡ 47 → ⊥) }
+{
+    for i in 1..bytes.len() {
+        if bytes[i - 1] == b'*' && bytes[i] == b'/' {
+            return Some(i - 1);
+        }
+    }
+    None
+}
+
+/// A comment up to the end of its line.
+fn line_comment(bytes: &[u8]) -> Start
+    requires { bytes.now ≡ codes "//" ++ drop 2 bytes.now }
+    ensures { IsStart bytes.now result }
+{
+    let (_, body) = bytes.split_at(2);
+    Start::Piece(PieceKind::Comment, 2 + line_len(body))
+}
+
+/// A comment up to its `*/`.
+fn block_comment(bytes: &[u8]) -> Start
+    requires { bytes.now ≡ codes "/*" ++ drop 2 bytes.now }
+    ensures { IsStart bytes.now result }
+{
+    let (_, body) = bytes.split_at(2);
+    match close_at(body) {
+        Some(length) => Start::Piece(PieceKind::Comment, length + 4),
+        None => Start::OpenComment,
+    }
+}
+
+/// How many bytes the longest sign at the front has, and 0 where there is none.
+fn sign_len(bytes: &[u8]) -> usize
+    ensures within { result ≤ length bytes.now }
+    ensures sign { 0 < result → is_sign (take result bytes.now) ≡ true }
+    ensures longest { (m : ℕ) → result < m → m ≤ 3 → m ≤ length bytes.now → is_sign (take m bytes.now) ≡ false }
+{
+    let mut n = bytes.len().min(3);
+    while n > 0 {
+        if is_sign(&bytes[..n]) {
+            return n;
+        }
+        n -= 1;
+    }
+    0
+}
+
+/// A sign, or nothing.
+fn sign(bytes: &[u8]) -> Start
+    requires some { 0 < length bytes.now }
+    requires class { class_of (slice_index bytes.now 0) ≡ Class.Mark }
+    requires alone { OpensNone bytes.now }
+    ensures { IsStart bytes.now result }
+{
+    match sign_len(bytes) {
+        0 => Start::BadByte(0),
+        length => Start::Piece(PieceKind::Token(TokenKind::Sign), length),
+    }
+}
+
+/// A comment, a sign, or nothing.
+fn mark(bytes: &[u8]) -> Start
+    requires some { 0 < length bytes.now }
+    requires class { class_of (slice_index bytes.now 0) ≡ Class.Mark }
+    ensures { IsStart bytes.now result }
+{
+    if bytes.starts_with(b"//") {
+        line_comment(bytes)
+    } else if bytes.starts_with(b"/*") {
+        block_comment(bytes)
+    } else {
+        sign(bytes)
+    }
+}
+
+/// What stands at the front of a text.
+pub fn start_of(bytes: &[u8]) -> Start
+    requires { 0 < length bytes.now }
+    ensures { IsStart bytes.now result }
+{
+    match class_of(bytes[0]) {
+        Class::White => space(bytes),
+        Class::Small => small_word(bytes),
+        Class::Capital => capital_word(bytes),
+        Class::Digit => number(bytes),
+        Class::Mark => mark(bytes),
+    }
 }
