@@ -2,3 +2,5 @@ pub mod Fronts
 pub mod Words
 pub mod Numbers
 pub mod Marks
+pub mod Places
+pub mod Progress

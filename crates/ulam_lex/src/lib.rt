@@ -2,6 +2,7 @@
 #![tactic(auto)]
 
 mod bytes;
+mod lexer;
 mod scan;
 mod token;
 
