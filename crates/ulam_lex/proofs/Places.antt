@@ -38,3 +38,13 @@ line_bound file before = omega (arith, count_by-le-length (λ b. b == 10) before
 
 pub column_bound : (file : ℕ) (before : List ℕ) → (place_after file before).column ≤ 1 + length before
 column_bound file before = omega (arith, suffix_len-le-length is_in_line before)
+
+-- a place is no further than the bytes before it
+pub place_column : (place : Place) (file : ℕ) (before : List ℕ) → place ≡ place_after file before → place.column ≤ 1 + length before
+place_column place file before placed = let bound = column_bound file before in omega (arith, ap (λ (p : Place). p.column) placed)
+
+pub place_line : (place : Place) (file : ℕ) (before : List ℕ) → place ≡ place_after file before → place.line ≤ 1 + length before
+place_line place file before placed = let bound = line_bound file before in omega (arith, ap (λ (p : Place). p.line) placed)
+
+pub passed_is : (place next : Place) (file : ℕ) (before bytes : List ℕ) → place ≡ place_after file before → next ≡ fold next_place place bytes → next ≡ place_after file (before ++ bytes)
+passed_is place next file before bytes placed passed = passed ∙ ap (λ p. fold next_place p bytes) placed ∙ place_passed file before bytes

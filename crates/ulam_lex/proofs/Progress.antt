@@ -1,6 +1,7 @@
 -- What is read, one piece after another.
-use Rattle.std.proofs.Common.{◌≡◌, ℕ, ◌+◌, ◌<◌, ◌≤◌, false, List, [], ◌∷◌, ◌++◌, length, take, drop, refl, sym, ap, ◌∙◌, subst, inl, inr, ◌⊎◌, arith, append_assoc, append-nil, take-append-drop, Ok, Err}
+use Rattle.std.proofs.Common.{◌≡◌, ℕ, ◌+◌, ◌<◌, ◌≤◌, true, false, List, [], ◌∷◌, ◌++◌, length, take, drop, refl, sym, ap, ◌∙◌, subst, inl, inr, ◌⊎◌, arith, append_assoc, append-nil, take-append-drop, Ok, Err}
 use Rattle.std.specs.Prelude.{flat_map}
+use Rattle.std.proofs.lemmas.Bool.{false≢true}
 use Rattle.std.proofs.lemmas.List.{length-append, length-take-le, flat_map_more, take-take, drop-take, drop-drop, take_all, drop_all, length_push}
 use Rattle.feast_base.specs.declared.place.Place.{Place}
 use Rattle.ulam_lex.specs.declared.token.TokenKind.TheVariants.{End}
@@ -9,9 +10,9 @@ use Rattle.ulam_lex.specs.declared.token.LexFault.{LexFault}
 use Rattle.ulam_lex.specs.declared.token.LexFault.TheVariants.{BadByte, OpenComment, NumberTooLarge, TooManyTokens, NoMemory}
 use Rattle.ulam_lex.specs.declared.scan.PieceKind.{PieceKind}
 use Rattle.ulam_lex.specs.declared.scan.PieceKind.TheVariants as piece
-use Rattle.ulam_lex.specs.Starts.{Stands}
-use Rattle.ulam_lex.specs.Texts.{TextPiece, spelled, is_joined, ArePieces, place_after, token_list, tokens_after, end_token, IsTokensOf, most_tokens, token_count, IsFaultAt, IsFaultOf}
-use Rattle.ulam_lex.specs.Steps.{IsFaultIn, Takes, IsRead}
+use Rattle.ulam_lex.specs.Starts.{Stands, BeginsNothing, IsDigitless}
+use Rattle.ulam_lex.specs.Texts.{TextPiece, spelled, is_joined, ArePieces, place_after, token_list, tokens_after, end_token, IsTokensOf, most_tokens, token_count, IsBadBehind, IsFaultAt, IsFaultOf}
+use Rattle.ulam_lex.specs.Steps.{IsFaultIn, IsAdded, Takes, IsRead}
 
 spelled_push : (ps : List TextPiece) (p : TextPiece) → spelled (ps ++ p ∷ []) ≡ spelled ps ++ p.bytes
 spelled_push ps p = sym (flat_map_more (λ (q : TextPiece). q.bytes) [] ps p)
@@ -129,3 +130,45 @@ read_end file text at tokens new place r past e =
       ),
       omega (arith, ap length e, length_push tokens (record { kind = End; first = at; end = at; place = place })),
     )
+
+-- the token of a piece was one too many
+pub added_fault : (file : ℕ) (before rest : List ℕ) (kind : PieceKind) (n first end : ℕ) (place : Place) (old new : List Token) (fault : LexFault) → place ≡ place_after file before → Stands kind rest (take n rest) (drop n rest) →
+    IsAdded kind first end place old new (Err fault) → IsFaultIn file before (length old) rest fault
+added_fault file before rest kind n first end place old new (BadByte p) placed stands h = absurd h
+added_fault file before rest kind n first end place old new (OpenComment p) placed stands h = absurd h
+added_fault file before rest kind n first end place old new (NumberTooLarge p) placed stands h = absurd h
+added_fault file before rest kind n first end place old new (TooManyTokens p) placed stands h =
+    ((h.0, h.2.0, take n rest, drop n rest, subst (λ k. Stands k rest (take n rest) (drop n rest)) h.2.1 stands), h.1 ∙ placed)
+added_fault file before rest kind n first end place old new NoMemory placed stands h = h
+
+-- what a letter, a digit or `_` follows was a token
+one_token : (kind : PieceKind) (back : List ℕ) (first end : ℕ) (place : Place) → is_joined kind back ≡ true → length (token_list kind first end place) ≡ 1
+one_token piece.Space back first end place h = absurd (false≢true h)
+one_token piece.Comment back first end place h = absurd (false≢true h)
+one_token (piece.Token kind) back first end place h = refl
+
+pub joined_fault : (before rest : List ℕ) (kind : PieceKind) (n first end : ℕ) (place : Place) (old new : List Token) → Stands kind rest (take n rest) (drop n rest) → IsAdded kind first end place old new (Ok tt) → is_joined kind (drop n rest) ≡ true →
+    IsBadBehind (length old) rest (take n rest) (drop n rest)
+joined_fault before rest kind n first end place old new stands added joined =
+    let one = one_token kind (drop n rest) first end place joined in
+    let few = added.1 in
+    inr (inr (kind, stands, joined, omega (arith, ap length added.0, length-append old (token_list kind first end place))))
+
+-- the piece was taken
+pub piece_taken : (file : ℕ) (before rest : List ℕ) (kind : PieceKind) (n first : ℕ) (place next : Place) (old new : List Token) → 0 < n → n ≤ length rest → first ≡ length before → place ≡ place_after file before → Stands kind rest (take n rest) (drop n rest) →
+    IsAdded kind first (first + n) place old new (Ok tt) → is_joined kind (drop n rest) ≡ false → next ≡ place_after file (before ++ take n rest) → Takes file before rest old new n next
+piece_taken file before rest kind n first place next old new some within counted placed stands added apart passed = record {
+  kind = kind;
+  some = some;
+  within = within;
+  stands = stands;
+  apart = apart;
+  added = added.0 ∙ (ap (λ k. old ++ token_list kind k (k + n) place) counted ∙ ap (λ p. old ++ token_list kind (length before) (length before + n) p) placed);
+  few = added.1;
+  placed = passed;
+}
+
+-- a fault at the front of the rest
+pub start_fault : (count : ℕ) (rest front back : List ℕ) → BeginsNothing rest front back ⊎ IsDigitless rest front back → IsBadBehind count rest front back
+start_fault count rest front back (inl nothing) = inl nothing
+start_fault count rest front back (inr bare) = inr (inl bare)
