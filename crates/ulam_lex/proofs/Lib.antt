@@ -4,3 +4,4 @@ pub mod Numbers
 pub mod Marks
 pub mod Places
 pub mod Progress
+pub mod OneReading

@@ -237,3 +237,8 @@ pub block_at : (text : List ℕ) (n : ℕ) → text ≡ codes "/*" ++ drop 2 tex
 block_at text n begins within star slash first =
     let body = drop 2 text in
     block_start text (take n body) (drop (n + 2) body) n (begins ∙ ap (λ l. codes "/*" ++ l) (close_stands body n within star slash)) (not_held_before body n (omega arith) first) (length-take-le n body (omega arith))
+
+-- no comment is a sign
+pub comment_is_no_sign : (bytes : List ℕ) → IsLineComment bytes ⊎ IsBlockComment bytes → is_sign bytes ≡ true → ⊥
+comment_is_no_sign bytes (inl line) sign = sign_opens_none bytes sign (ap is_opening line.1)
+comment_is_no_sign bytes (inr block) sign = sign_opens_none bytes sign (ap is_opening block.1)

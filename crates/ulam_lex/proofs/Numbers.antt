@@ -3,7 +3,7 @@ use Rattle.std.proofs.Common.{◌≡◌, ◌≢◌, ℕ, zero, suc, ◌+◌, ◌
 use Rattle.std.specs.Prelude.{◌==◌, fold, if◌then◌else◌}
 use Rattle.std.specs.Char.{is_digit, digit_value, is_ascii_digit}
 use Rattle.std.specs.List.{prefix_len, AllPass}
-use Rattle.std.proofs.lemmas.Bool.{cases_lt, false≢true, cases_eq, eq-eqb, ne_eqb, eqb-true, eqb-false, cond-true, cond-false, cases_Bool}
+use Rattle.std.proofs.lemmas.Bool.{cases_lt, false≢true, ltb-true, cases_eq, eq-eqb, ne_eqb, eqb-true, eqb-false, cond-true, cond-false, cases_Bool}
 use Rattle.std.proofs.lemmas.Bool.Decides.{nat_tests}
 use Rattle.std.proofs.lemmas.List.{length-take-le, length-append, get_or_append_left, get_or-append-add, take_at, drop_at, get_or_at, get_or-take, take-take, append_cancel_left, drop_more, drop_all}
 use Rattle.std.proofs.lemmas.List.Sums.{prefix_len_stops, prefix_len-le-length, fold-append, AllPass-from_list_all}
@@ -385,3 +385,58 @@ small_end base value i digits past rest = sym (ap (worth_after (radix_of base) v
 -- a base's prefix is in the text
 pub prefix_within : (base : Base) (text : List ℕ) → IsBaseAt base text → length (prefix_of base) ≤ length text
 prefix_within base text b = omega (arith, ap length (text_is base text b), length-append (prefix_of base) (body_of base text))
+
+-- a prefix without a digit is that of the base there
+pub binary_at : (text bare rest : List ℕ) → LacksDigit Binary text bare rest → IsBaseAt Binary text
+binary_at text bare rest h = let whole : text ≡ codes "0b" ++ rest = h.0 ∙ ap (λ l. l ++ rest) h.1 in whole ∙ ap (λ l. codes "0b" ++ l) (sym (ap (drop 2) whole))
+
+pub hexadecimal_at : (text bare rest : List ℕ) → LacksDigit Hexadecimal text bare rest → IsBaseAt Hexadecimal text
+hexadecimal_at text bare rest h = let whole : text ≡ codes "0x" ++ rest = h.0 ∙ ap (λ l. l ++ rest) h.1 in whole ∙ ap (λ l. codes "0x" ++ l) (sym (ap (drop 2) whole))
+
+-- where a digit lacks no numeral is worth anything
+worth_of_none : (base : Base) (text : List ℕ) → digit_count base (body_of base text) ≡ 0 → worth_after (radix_of base) 0 (digits_of base text) ≡ 0
+worth_of_none base text none = ap (λ n. worth_after (radix_of base) 0 (take n (body_of base text))) none
+
+pub bare_is_small : (text bare rest : List ℕ) → IsDigitless text bare rest → BeginsTooLarge text → ⊥
+bare_is_small text bare rest (inl h) (front, back, value, unsigned, e, n, large) =
+    let bound = (numeral_bound Hexadecimal text front back value unsigned (hexadecimal_at text bare rest h) e n).1 in
+    let none = worth_of_none Hexadecimal text (lacks_hexadecimal text bare rest h) in
+    omega arith
+bare_is_small text bare rest (inr h) (front, back, value, unsigned, e, n, large) =
+    let bound = (numeral_bound Binary text front back value unsigned (binary_at text bare rest h) e n).1 in
+    let none = worth_of_none Binary text (lacks_binary text bare rest h) in
+    omega arith
+
+-- a numeral begins with a number of one digit
+digit_is_number : (d : ℕ) → is_digit d 10 ≡ true → IsNumber (d ∷ [])
+digit_is_number d h = (
+    digit_value d,
+    false,
+    record {
+      base = Decimal;
+      digits = d ∷ [];
+      are_digits = record {
+        some = omega arith;
+        each = AllPass-from_list_all (λ b. is_digit b 10) (d ∷ []) (rw h refl);
+        canonical = λ first. refl;
+      };
+      written = refl;
+      worth = omega arith;
+    },
+    (let small : digit_value d < 10 = ltb-true (digit_value d) 10 h in omega arith),
+  )
+
+pub numeral_begins : (text front back : List ℕ) (value : ℕ) (unsigned : Bool) → text ≡ front ++ back → IsNumeral front value unsigned → (d : ℕ) × (rest : List ℕ) × (text ≡ (d ∷ []) ++ rest) × IsNumber (d ∷ [])
+numeral_begins text front back value unsigned e n = elim_first text (first_digit n.base n.digits (suffix_of unsigned ++ back) n.are_digits) written
+  where
+    written : text ≡ prefix_of n.base ++ (n.digits ++ (suffix_of unsigned ++ back))
+    written = e ∙ ap (λ l. l ++ back) n.written ∙ append_assoc (prefix_of n.base) (n.digits ++ suffix_of unsigned) back ∙ ap (λ l. prefix_of n.base ++ l) (append_assoc n.digits (suffix_of unsigned) back)
+
+    first_digit : (base : Base) (digits rest : List ℕ) → AreDigits base digits → is_digit (get_or (prefix_of base ++ (digits ++ rest)) 0 0) 10 ≡ true
+    first_digit Binary digits rest d = refl
+    first_digit Decimal digits rest d = ap (λ b. is_digit b 10) (get_or_append_left digits rest 0 0 d.some) ∙ d.each 0 0 d.some
+    first_digit Hexadecimal digits rest d = refl
+
+    elim_first : (text : List ℕ) {whole : List ℕ} → is_digit (get_or whole 0 0) 10 ≡ true → text ≡ whole → (d : ℕ) × (rest : List ℕ) × (text ≡ (d ∷ []) ++ rest) × IsNumber (d ∷ [])
+    elim_first [] h e = absurd (false≢true (ap (λ l. is_digit (get_or l 0 0) 10) e ∙ h))
+    elim_first (b ∷ text) h e = (b, text, refl, digit_is_number b (ap (λ l. is_digit (get_or l 0 0) 10) e ∙ h))
