@@ -408,7 +408,7 @@ bare_is_small text bare rest (inr h) (front, back, value, unsigned, e, n, large)
     omega arith
 
 -- a numeral begins with a number of one digit
-digit_is_number : (d : ℕ) → is_digit d 10 ≡ true → IsNumber (d ∷ [])
+pub digit_is_number : (d : ℕ) → is_digit d 10 ≡ true → IsNumber (d ∷ [])
 digit_is_number d h = (
     digit_value d,
     false,

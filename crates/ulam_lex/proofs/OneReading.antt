@@ -16,13 +16,14 @@ use Rattle.ulam_lex.specs.declared.scan.PieceKind.{PieceKind}
 use Rattle.ulam_lex.specs.declared.scan.PieceKind.TheVariants as piece
 use Rattle.ulam_lex.specs.declared.bytes.Class.{Class}
 use Rattle.ulam_lex.specs.declared.bytes.Class.TheVariants.{White, Small, Capital, Digit, Mark}
-use Rattle.ulam_lex.specs.Bytes.{class_of, is_keyword, is_sign}
+use Rattle.ulam_lex.specs.Bytes.{class_of, is_keyword, signs, is_sign}
 use Rattle.ulam_lex.specs.Pieces.{IsPiece, IsNumeral, AreDigits, prefix_of, radix_of, suffix_of, worth_after}
 use Rattle.ulam_lex.specs.Starts.{Stands, BeginsNothing, IsDigitless, LacksDigit, LeavesOpen, BeginsTooLarge, IsBaseAt, digit_count}
 use Rattle.ulam_lex.specs.Texts.{TextPiece, spelled, is_joined, ArePieces, place_after, token_list, tokens_after, end_token, IsTokensOf, most_tokens, token_count, JoinsWord, IsBadBehind, IsOneTooMany, IsFaultAt, IsFaultOf}
 use Rattle.ulam_lex.proofs.Fronts.{class_by, piece_class, piece_some, open_class, large_class, bare_class}
 use Rattle.ulam_lex.proofs.Marks.{comment_is_no_sign}
-use Rattle.ulam_lex.proofs.Numbers.{bare_is_small, numeral_begins}
+use Rattle.ulam_lex.proofs.Numbers.{bare_is_small, numeral_begins, digit_is_number}
+use Rattle.ulam_lex.proofs.Progress.{tokens_length, list_length}
 
 -- a piece has one kind
 white_kind : (kind : PieceKind) → class_by kind ≡ White → kind ≡ piece.Space
@@ -123,3 +124,160 @@ one_piece kind other text front back more rest s t =
       fronts = fronts;
       backs = backs;
     }
+
+-- a piece begins wherever a comment or a number does
+slash_is_sign : is_sign (47 ∷ []) ≡ true
+unfolding signs
+slash_is_sign = refl
+
+nothing_open : (text front back : List ℕ) → BeginsNothing text front back → LeavesOpen text → ⊥
+nothing_open text front back h open_comment = h.3 (piece.Token Sign) (47 ∷ []) (42 ∷ open_comment.0) open_comment.1 slash_is_sign
+
+nothing_large : (text front back : List ℕ) → BeginsNothing text front back → BeginsTooLarge text → ⊥
+nothing_large text front back h (long, rest, value, unsigned, e, n, large) =
+    let begins = numeral_begins text long rest value unsigned e n in
+    h.3 (piece.Token Number) (begins.0 ∷ []) begins.1 begins.2 begins.3
+
+nothing_bare : (text front back bare rest : List ℕ) → BeginsNothing text front back → IsDigitless text bare rest → ⊥
+nothing_bare text front back bare rest h (inl x) = h.3 (piece.Token Number) (48 ∷ []) (120 ∷ rest) (x.0 ∙ ap (λ l. l ++ rest) x.1) (digit_is_number 48 refl)
+nothing_bare text front back bare rest h (inr b) = h.3 (piece.Token Number) (48 ∷ []) (98 ∷ rest) (b.0 ∙ ap (λ l. l ++ rest) b.1) (digit_is_number 48 refl)
+
+nothing_stands : (kind : PieceKind) (text front back more rest : List ℕ) → BeginsNothing text front back → Stands kind text more rest → ⊥
+nothing_stands kind text front back more rest h s = h.3 kind more rest s.split s.piece
+
+-- both prefixes are two bytes
+bare_front : (text front back : List ℕ) → IsDigitless text front back → front ≡ take 2 text
+bare_front text front back (inl x) = x.1 ∙ sym (ap (take 2) (x.0 ∙ ap (λ l. l ++ back) x.1))
+bare_front text front back (inr b) = b.1 ∙ sym (ap (take 2) (b.0 ∙ ap (λ l. l ++ back) b.1))
+
+bare_open : (text front back : List ℕ) → IsDigitless text front back → LeavesOpen text → ⊥
+bare_open text front back bare h = let digit = bare_class text front back bare in let mark = open_class text h in cc
+
+-- a byte that can't stand there, and each other fault
+bad_same : (count : ℕ) (text front back more rest : List ℕ) → IsBadBehind count text front back → IsBadBehind count text more rest → front ≡ more
+bad_same count text front back more rest (inl h) (inl k) = h.1 ∙ sym k.1
+bad_same count text front back more rest (inl h) (inr (inl k)) = absurd (nothing_bare text front back more rest h k)
+bad_same count text front back more rest (inl h) (inr (inr k)) = absurd (nothing_stands k.0 text front back more rest h k.1)
+bad_same count text front back more rest (inr (inl h)) (inl k) = absurd (nothing_bare text more rest front back k h)
+bad_same count text front back more rest (inr (inl h)) (inr (inl k)) = bare_front text front back h ∙ sym (bare_front text more rest k)
+bad_same count text front back more rest (inr (inl h)) (inr (inr k)) = absurd (k.1.complete front back h)
+bad_same count text front back more rest (inr (inr h)) (inl k) = absurd (nothing_stands h.0 text more rest front back k h.1)
+bad_same count text front back more rest (inr (inr h)) (inr (inl k)) = absurd (h.1.complete more rest k)
+bad_same count text front back more rest (inr (inr h)) (inr (inr k)) = (one_piece k.0 h.0 text more rest front back k.1 h.1).fronts
+
+bad_open : (count : ℕ) (text front back : List ℕ) → IsBadBehind count text front back → LeavesOpen text → ⊥
+bad_open count text front back (inl h) k = nothing_open text front back h k
+bad_open count text front back (inr (inl h)) k = bare_open text front back h k
+bad_open count text front back (inr (inr h)) k = h.1.closed k
+
+bad_large : (count : ℕ) (text front back : List ℕ) → IsBadBehind count text front back → BeginsTooLarge text → ⊥
+bad_large count text front back (inl h) k = nothing_large text front back h k
+bad_large count text front back (inr (inl h)) k = bare_is_small text front back h k
+bad_large count text front back (inr (inr h)) k = h.1.small k
+
+bad_many : (count : ℕ) (text front back : List ℕ) → IsBadBehind count text front back → IsOneTooMany count text → ⊥
+bad_many count text front back (inl h) k = nothing_stands (piece.Token k.1) text front back k.2 k.3 h k.4
+bad_many count text front back (inr (inl h)) k = k.4.complete front back h
+bad_many count text front back (inr (inr h)) k = let full = k.0 in let room = h.3 in omega arith
+
+open_large : (text : List ℕ) → LeavesOpen text → BeginsTooLarge text → ⊥
+open_large text h k = let mark = open_class text h in let digit = large_class text k in cc
+
+-- at one place stands one fault
+one_fault : (file : ℕ) (before : List ℕ) (count : ℕ) (rest : List ℕ) (f g : LexFault) → IsFaultAt file before count rest f → IsFaultAt file before count rest g → f ≡ g
+one_fault file before count rest (BadByte p) (BadByte q) h k = ap BadByte (h.3 ∙ ap (λ l. place_after file (before ++ l)) (bad_same count rest h.0 h.1 k.0 k.1 h.2 k.2) ∙ sym k.3)
+one_fault file before count rest (BadByte p) (OpenComment q) h k = absurd (bad_open count rest h.0 h.1 h.2 k.0)
+one_fault file before count rest (BadByte p) (NumberTooLarge q) h k = absurd (bad_large count rest h.0 h.1 h.2 k.0)
+one_fault file before count rest (BadByte p) (TooManyTokens q) h k = absurd (bad_many count rest h.0 h.1 h.2 k.0)
+one_fault file before count rest (BadByte p) NoMemory h k = absurd k
+one_fault file before count rest (OpenComment p) (BadByte q) h k = absurd (bad_open count rest k.0 k.1 k.2 h.0)
+one_fault file before count rest (OpenComment p) (OpenComment q) h k = ap OpenComment (h.1 ∙ sym k.1)
+one_fault file before count rest (OpenComment p) (NumberTooLarge q) h k = absurd (open_large rest h.0 k.0)
+one_fault file before count rest (OpenComment p) (TooManyTokens q) h k = absurd (k.0.4.closed h.0)
+one_fault file before count rest (OpenComment p) NoMemory h k = absurd k
+one_fault file before count rest (NumberTooLarge p) (BadByte q) h k = absurd (bad_large count rest k.0 k.1 k.2 h.0)
+one_fault file before count rest (NumberTooLarge p) (OpenComment q) h k = absurd (open_large rest k.0 h.0)
+one_fault file before count rest (NumberTooLarge p) (NumberTooLarge q) h k = ap NumberTooLarge (h.1 ∙ sym k.1)
+one_fault file before count rest (NumberTooLarge p) (TooManyTokens q) h k = absurd (k.0.4.small h.0)
+one_fault file before count rest (NumberTooLarge p) NoMemory h k = absurd k
+one_fault file before count rest (TooManyTokens p) (BadByte q) h k = absurd (bad_many count rest k.0 k.1 k.2 h.0)
+one_fault file before count rest (TooManyTokens p) (OpenComment q) h k = absurd (h.0.4.closed k.0)
+one_fault file before count rest (TooManyTokens p) (NumberTooLarge q) h k = absurd (h.0.4.small k.0)
+one_fault file before count rest (TooManyTokens p) (TooManyTokens q) h k = ap TooManyTokens (h.1 ∙ sym k.1)
+one_fault file before count rest (TooManyTokens p) NoMemory h k = absurd k
+one_fault file before count rest NoMemory g h k = absurd h
+
+-- how many tokens a piece of a kind is
+abbrev kind_count : PieceKind → ℕ
+kind_count kind = length (token_list kind 0 0 (place_after 0 []))
+
+count_cons : (p : TextPiece) (ps : List TextPiece) → token_count (p ∷ ps) ≡ kind_count p.kind + token_count ps
+count_cons p ps =
+    length-append (token_list p.kind 0 (0 + length p.bytes) (place_after 0 [])) (tokens_after 0 p.bytes ps) ∙ (ap (λ n. n + length (tokens_after 0 p.bytes ps)) (list_length p.kind 0 (0 + length p.bytes) 0 0 (place_after 0 []) (place_after 0 []))
+      ∙ ap (λ n. kind_count p.kind + n) (tokens_length 0 0 p.bytes [] ps))
+
+-- where this is so behind so many tokens, no further piece stands, as long as there are no more than m tokens
+abbrev Excludes : ℕ → (ℕ → List ℕ → Type 0) → Type 0
+Excludes m S = (count : ℕ) (rest : List ℕ) (kind : PieceKind) (front back : List ℕ) → S count rest → Stands kind rest front back → is_joined kind back ≡ false → count + kind_count kind ≤ m → ⊥
+
+-- the end of the text
+abbrev AtEnd : ℕ → List ℕ → Type 0
+AtEnd count rest = rest ≡ []
+
+end_excludes : (m : ℕ) → Excludes m AtEnd
+end_excludes m count rest kind front back end s apart few = let some = piece_some kind front s.piece in omega (arith, ap length (sym end ∙ s.split), length-append front back)
+
+-- a fault
+abbrev AtFault : ℕ → LexFault → ℕ → List ℕ → Type 0
+AtFault file fault count rest = (before : List ℕ) × IsFaultAt file before count rest fault
+
+bad_excludes : (count : ℕ) (text more rest : List ℕ) (kind : PieceKind) (front back : List ℕ) → IsBadBehind count text more rest → Stands kind text front back → is_joined kind back ≡ false → ⊥
+bad_excludes count text more rest kind front back (inl h) s apart = nothing_stands kind text more rest front back h s
+bad_excludes count text more rest kind front back (inr (inl h)) s apart = s.complete more rest h
+bad_excludes count text more rest kind front back (inr (inr h)) s apart =
+    let same = one_piece h.0 kind text more rest front back h.1 s in
+    true≢false (sym h.2 ∙ (ap (λ k. is_joined k rest) (sym same.kinds) ∙ ap (is_joined kind) (sym same.backs)) ∙ apart)
+
+one_of_token : (kind : PieceKind) (token : TokenKind) → kind ≡ piece.Token token → kind_count kind ≡ 1
+one_of_token kind token e = ap kind_count e
+
+fault_excludes : (file : ℕ) (fault : LexFault) → Excludes most_tokens (AtFault file fault)
+fault_excludes file (BadByte p) count rest kind front back (before, h) s apart few = bad_excludes count rest h.0 h.1 kind front back h.2 s apart
+fault_excludes file (OpenComment p) count rest kind front back (before, h) s apart few = s.closed h.0
+fault_excludes file (NumberTooLarge p) count rest kind front back (before, h) s apart few = s.small h.0
+fault_excludes file (TooManyTokens p) count rest kind front back (before, h) s apart few =
+    let same = one_piece (piece.Token h.0.1) kind rest h.0.2 h.0.3 front back h.0.4 s in
+    let one = one_of_token kind h.0.1 same.kinds in
+    let full = h.0.0 in
+    omega arith
+fault_excludes file NoMemory count rest kind front back (before, h) s apart few = h
+
+-- from one text the same pieces are taken, up to where no further piece stands
+abbrev SameSplit : List TextPiece → List TextPiece → List ℕ → List ℕ → Type 0
+SameSplit ps qs rest more = (ps ≡ qs) × (rest ≡ more)
+
+same_split : (m : ℕ) (S T : ℕ → List ℕ → Type 0) → Excludes m S → Excludes m T → (ps qs : List TextPiece) (n : ℕ) (rest more : List ℕ) → spelled ps ++ rest ≡ spelled qs ++ more → ArePieces ps rest → ArePieces qs more →
+    n + token_count ps ≤ m → n + token_count qs ≤ m → S (n + token_count ps) rest → T (n + token_count qs) more → SameSplit ps qs rest more
+same_split m S T exs ext [] [] n rest more e a b few also s t = (refl, e)
+same_split m S T exs ext [] (q ∷ qs) n rest more e a b few also s t =
+    let whole : q.bytes ++ (spelled qs ++ more) ≡ rest = sym (e ∙ append_assoc q.bytes (spelled qs) more) in
+    let counted = count_cons q qs in
+    absurd (exs (n + token_count []) rest q.kind q.bytes (spelled qs ++ more) s (subst (λ l. Stands q.kind l q.bytes (spelled qs ++ more)) whole b.0) b.1 (omega arith))
+same_split m S T exs ext (p ∷ ps) [] n rest more e a b few also s t =
+    let whole : p.bytes ++ (spelled ps ++ rest) ≡ more = sym (append_assoc p.bytes (spelled ps) rest) ∙ e in
+    let counted = count_cons p ps in
+    absurd (ext (n + token_count []) more p.kind p.bytes (spelled ps ++ rest) t (subst (λ l. Stands p.kind l p.bytes (spelled ps ++ rest)) whole a.0) a.1 (omega arith))
+same_split m S T exs ext (p ∷ ps) (q ∷ qs) n rest more e a b few also s t =
+    let whole : q.bytes ++ (spelled qs ++ more) ≡ p.bytes ++ (spelled ps ++ rest) = sym (append_assoc q.bytes (spelled qs) more) ∙ sym e ∙ append_assoc p.bytes (spelled ps) rest in
+    let same = one_piece p.kind q.kind (p.bytes ++ (spelled ps ++ rest)) p.bytes (spelled ps ++ rest) q.bytes (spelled qs ++ more) a.0 (subst (λ l. Stands q.kind l q.bytes (spelled qs ++ more)) whole b.0) in
+    let kinds : kind_count q.kind ≡ kind_count p.kind = ap kind_count same.kinds in
+    let p_counted = count_cons p ps in
+    let q_counted = count_cons q qs in
+    let k = n + kind_count p.kind in
+    let here : n + token_count (p ∷ ps) ≡ k + token_count ps = omega arith in
+    let there : n + token_count (q ∷ qs) ≡ k + token_count qs = omega arith in
+    let tails = same_split m S T exs ext ps qs k rest more (sym same.backs) a.2 b.2 (omega arith) (omega arith) (subst (λ c. S c rest) here s) (subst (λ c. T c more) there t) in
+    (same_list p q ps qs same.kinds same.fronts tails.0, tails.1)
+  where
+    same_list : (p q : TextPiece) (ps qs : List TextPiece) → q.kind ≡ p.kind → q.bytes ≡ p.bytes → ps ≡ qs → p ∷ ps ≡ q ∷ qs
+    same_list p q ps qs k f t = ap (λ l. p ∷ l) t ∙ ap (λ (r : TextPiece). r ∷ qs) (λ i. record { kind = sym k i; bytes = sym f i })

@@ -38,7 +38,7 @@ tokens_push file before (q ∷ ps) p =
       ∙ sym (append_assoc own (tokens_after file (before ++ q.bytes) ps) _)
 
 -- how many tokens there are depends on nothing before them
-list_length : (kind : PieceKind) (first end other more : ℕ) (place elsewhere : Place) → length (token_list kind first end place) ≡ length (token_list kind other more elsewhere)
+pub list_length : (kind : PieceKind) (first end other more : ℕ) (place elsewhere : Place) → length (token_list kind first end place) ≡ length (token_list kind other more elsewhere)
 list_length piece.Space first end other more place elsewhere = refl
 list_length piece.Comment first end other more place elsewhere = refl
 list_length (piece.Token kind) first end other more place elsewhere = refl
