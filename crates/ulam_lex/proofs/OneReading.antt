@@ -1,6 +1,6 @@
 -- A text has at most one list of tokens, or one first fault.
-use Rattle.std.proofs.Common.{◌≡◌, ◌≢◌, ℕ, ◌+◌, ◌<◌, ◌≤◌, ◌^◌, Bool, true, false, List, [], ◌∷◌, ◌++◌, length, get_or, take, drop, refl, sym, ap, ◌∙◌, subst, inl, inr, ◌⊎◌, arith, codes, append_assoc, append-nil, take-append-drop, Ok, Err, Some, None, Option, Result}
-use Rattle.std.specs.Prelude.{flat_map}
+use Rattle.std.proofs.Common.{◌≡◌, ◌≢◌, ℕ, ◌+◌, ◌<◌, ◌≤◌, ◌^◌, Bool, true, false, List, [], ◌∷◌, ◌++◌, length, get_or, take, drop, refl, sym, ap, ◌∙◌, subst, inl, inr, ◌⊎◌, arith, codes, append_assoc, append-nil, zero-add, take-append-drop, Ok, Err, Some, None, Option, Result}
+use Rattle.std.specs.Prelude.{flat_map, IfOk, IfErr, IsErrAnd, MatchResult}
 use Rattle.std.specs.Char.{is_digit, digit_value}
 use Rattle.std.proofs.lemmas.Bool.{false≢true, true≢false, leb-true}
 use Rattle.std.proofs.lemmas.List.{length-append, take_at, drop_at, append_cancel_left, get_or_append_left}
@@ -281,3 +281,65 @@ same_split m S T exs ext (p ∷ ps) (q ∷ qs) n rest more e a b few also s t =
   where
     same_list : (p q : TextPiece) (ps qs : List TextPiece) → q.kind ≡ p.kind → q.bytes ≡ p.bytes → ps ≡ qs → p ∷ ps ≡ q ∷ qs
     same_list p q ps qs k f t = ap (λ l. p ∷ l) t ∙ ap (λ (r : TextPiece). r ∷ qs) (λ i. record { kind = sym k i; bytes = sym f i })
+
+-- the list of tokens of a text, by its pieces
+pub one_list : (file : ℕ) (text : List ℕ) (a b : List Token) → IsTokensOf file text a → IsTokensOf file text b → a ≡ b
+one_list file text a b (ps, e, are, listed) (qs, f, also, other) =
+    let whole : spelled ps ++ [] ≡ spelled qs ++ [] = append-nil (spelled ps) ∙ sym e ∙ f ∙ sym (append-nil (spelled qs)) in
+    let m = token_count ps + token_count qs in
+    let same = same_split m AtEnd AtEnd (end_excludes m) (end_excludes m) ps qs 0 [] [] whole are also (omega arith) (omega arith) refl refl in
+    listed ∙ ap (λ l. tokens_after file [] l ++ end_token file text ∷ []) same.0 ∙ sym other
+
+-- a list within the limit has no more tokens than that among its pieces
+few_tokens : (file : ℕ) (text : List ℕ) (tokens : List Token) (h : IsTokensOf file text tokens) → length tokens ≤ most_tokens + 1 → token_count h.0 ≤ most_tokens
+few_tokens file text tokens h few = omega (arith, ap length h.3, length-append (tokens_after file [] h.0) (end_token file text ∷ []), tokens_length file 0 [] [] h.0)
+
+-- no fault stands at the end of a text
+bad_some : (count : ℕ) (text front back : List ℕ) → IsBadBehind count text front back → 0 < length text
+bad_some count text front back (inl h) = h.2
+bad_some count text front back (inr (inl (inl x))) = omega (arith, ap length (x.0 ∙ ap (λ l. l ++ back) x.1))
+bad_some count text front back (inr (inl (inr b))) = omega (arith, ap length (b.0 ∙ ap (λ l. l ++ back) b.1))
+bad_some count text front back (inr (inr h)) = let some = piece_some h.0 front h.1.piece in omega (arith, ap length h.1.split, length-append front back)
+
+large_some : (text : List ℕ) → BeginsTooLarge text → 0 < length text
+large_some text (front, back, value, unsigned, e, n, large) = let begins = numeral_begins text front back value unsigned e n in omega (arith, ap length begins.2)
+
+fault_some : (file : ℕ) (before : List ℕ) (count : ℕ) (rest : List ℕ) (fault : LexFault) → IsFaultAt file before count rest fault → 0 < length rest
+fault_some file before count rest (BadByte p) h = bad_some count rest h.0 h.1 h.2
+fault_some file before count rest (OpenComment p) h = omega (arith, ap length h.0.1)
+fault_some file before count rest (NumberTooLarge p) h = large_some rest h.0
+fault_some file before count rest (TooManyTokens p) h = let some = piece_some (piece.Token h.0.1) h.0.2 h.0.4.piece in omega (arith, ap length h.0.4.split, length-append h.0.2 h.0.3)
+fault_some file before count rest NoMemory h = absurd h
+
+-- a text with a fault has no list within the limit
+pub list_or_fault : (file : ℕ) (text : List ℕ) (tokens : List Token) (fault : LexFault) → IsTokensOf file text tokens → length tokens ≤ most_tokens + 1 → IsFaultOf file text fault → ⊥
+list_or_fault file text tokens fault h few (qs, rest, f, also, within, k) =
+    let whole : spelled h.0 ++ [] ≡ spelled qs ++ rest = append-nil (spelled h.0) ∙ sym h.1 ∙ f in
+    let same = same_split most_tokens AtEnd (AtFault file fault) (end_excludes most_tokens) (fault_excludes file fault) h.0 qs 0 [] rest whole h.2 also
+            (let own = few_tokens file text tokens h few in omega arith) (omega arith) refl (spelled qs, subst (λ n. IsFaultAt file (spelled qs) n rest fault) (sym (zero-add (token_count qs))) k) in
+    let some = fault_some file (spelled qs) (token_count qs) rest fault k in
+    omega (arith, ap length same.1)
+
+-- a text has one first fault
+pub one_fault_of : (file : ℕ) (text : List ℕ) (f g : LexFault) → IsFaultOf file text f → IsFaultOf file text g → f ≡ g
+one_fault_of file text f g (ps, rest, e, are, few, h) (qs, more, d, also, within, k) =
+    let same = same_split most_tokens (AtFault file f) (AtFault file g) (fault_excludes file f) (fault_excludes file g) ps qs 0 rest more (sym e ∙ d) are also (omega arith) (omega arith)
+            (spelled ps, subst (λ n. IsFaultAt file (spelled ps) n rest f) (sym (zero-add (token_count ps))) h)
+            (spelled qs, subst (λ n. IsFaultAt file (spelled qs) n more g) (sym (zero-add (token_count qs))) k) in
+    let moved : IsFaultAt file (spelled ps) (token_count ps) rest g = subst (λ l. IsFaultAt file (spelled ps) (token_count ps) l g) (sym same.1) (subst (λ l. IsFaultAt file (spelled l) (token_count l) more g) (sym same.0) k) in
+    one_fault file (spelled ps) (token_count ps) rest f g h moved
+
+-- what is given is the text's own list or fault, so it is no other
+pub only_tokens : {V : Type 0} (items : V → List Token) (file : ℕ) (text : List ℕ) (given : Result V LexFault) →
+    IfOk given (λ v. IsTokensOf file text (items v) × (length (items v) ≤ most_tokens + 1)) → IfErr given (λ e. (e ≡ NoMemory) ⊎ IsFaultOf file text e) →
+    (tokens : List Token) → IsTokensOf file text tokens → length tokens ≤ most_tokens + 1 → MatchResult given (λ v. items v ≡ tokens) (λ e. e ≡ NoMemory)
+only_tokens items file text (Ok v) own fault tokens h few = one_list file text (items v) tokens own.0 h
+only_tokens items file text (Err e) own (inl memory) tokens h few = memory
+only_tokens items file text (Err e) own (inr other) tokens h few = absurd (list_or_fault file text tokens e h few other)
+
+pub only_fault : {V : Type 0} (items : V → List Token) (file : ℕ) (text : List ℕ) (given : Result V LexFault) →
+    IfOk given (λ v. IsTokensOf file text (items v) × (length (items v) ≤ most_tokens + 1)) → IfErr given (λ e. (e ≡ NoMemory) ⊎ IsFaultOf file text e) →
+    (fault : LexFault) → IsFaultOf file text fault → IsErrAnd given (λ e. (e ≡ NoMemory) ⊎ (e ≡ fault))
+only_fault items file text (Ok v) own fault other k = absurd (list_or_fault file text (items v) other own.0 own.1 k)
+only_fault items file text (Err e) own (inl memory) other k = inl memory
+only_fault items file text (Err e) own (inr first) other k = inr (one_fault_of file text e other first k)

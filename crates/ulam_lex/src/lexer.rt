@@ -1,7 +1,9 @@
 //! Reading a text from its start to its end.
-ghost use Rattle.std.specs.Prelude.{◌≡◌, ℕ, ◌+◌, ◌-◌, ◌<◌, ◌≤◌, ◌^◌, ◌++◌, ◌∷◌, [], length, take, drop, fold, IfOk, IfErr, ◌⊎◌};
+ghost use Rattle.std.specs.Prelude.{◌≡◌, ℕ, ◌+◌, ◌-◌, ◌<◌, ◌≤◌, ◌^◌, ◌++◌, ◌∷◌, [], length, take, drop, fold, IfOk, IfErr, IsErrAnd, MatchResult, ◌⊎◌, List};
 ghost use Rattle.ulam_lex.specs.Texts.{is_word_kind, is_joined, place_after, most_tokens, IsTokensOf, IsFaultOf};
 ghost use Rattle.ulam_lex.specs.Starts.{Stands};
+ghost use Rattle.ulam_lex.specs.declared.token.Token.{Token};
+ghost use Rattle.ulam_lex.specs.declared.token.LexFault.{LexFault};
 ghost use Rattle.ulam_lex.specs.Steps.{next_place, IsAdded, IsStep, IsRead};
 
 use feast_base::Place;
@@ -157,4 +159,35 @@ fn read(alloc: Global, bytes: &[u8], file: u32) -> Result<Vec<Token>, LexFault>
         Ok(()) => Ok(tokens),
         Err(_) => Err(LexFault::NoMemory),
     }
+}
+
+/// The tokens of a text, with `End` as the last. `file` is the number that their places show.
+///
+/// White space is space, tab, CR and LF, and comments run from `//` to the end of the line or from
+/// `/*` to the next `*/`. Everything else is tokens, each the longest that begins there.
+///
+/// # Errors
+/// The first fault of the text: a byte that can't stand where it stands, a comment that is not
+/// closed, a number of 2^32 or more, or the 200,001st token. `NoMemory` where the list could not
+/// grow.
+pub fn lex(alloc: Global, bytes: &[u8], file: u32) -> Result<Vec<Token>, LexFault>
+    requires { length bytes.now < 2 ^ 32 - 1 }
+
+    // What is given is the text's list of tokens, or its first fault.
+    ensures tokens { IfOk result (λ v. IsTokensOf file bytes.now v.items × (length v.items ≤ most_tokens + 1)) }
+    ensures fault { IfErr result (λ e. (e ≡ LexFault.NoMemory) ⊎ IsFaultOf file bytes.now e) }
+
+    // A text that has a list of tokens gets it, and one that has a first fault gets that, unless memory runs out.
+    ensures only_tokens { (tokens : List Token) → IsTokensOf file bytes.now tokens → length tokens ≤ most_tokens + 1 → MatchResult result (λ v. v.items ≡ tokens) (λ e. e ≡ LexFault.NoMemory) }
+    ensures only_fault { (fault : LexFault) → IsFaultOf file bytes.now fault → IsErrAnd result (λ e. (e ≡ LexFault.NoMemory) ⊎ (e ≡ fault)) }
+{
+    read(alloc, bytes, file)
+}
+
+/// No text has two lists of tokens, or a list within the limit and a fault, or two first faults.
+pub fn one_reading()
+    ensures list { (file : ℕ) (text : List ℕ) (a b : List Token) → IsTokensOf file text a → IsTokensOf file text b → a ≡ b }
+    ensures either { (file : ℕ) (text : List ℕ) (tokens : List Token) (fault : LexFault) → IsTokensOf file text tokens → length tokens ≤ most_tokens + 1 → IsFaultOf file text fault → ⊥ }
+    ensures fault { (file : ℕ) (text : List ℕ) (a b : LexFault) → IsFaultOf file text a → IsFaultOf file text b → a ≡ b }
+{
 }

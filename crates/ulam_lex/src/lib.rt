@@ -6,4 +6,5 @@ mod lexer;
 mod scan;
 mod token;
 
+pub use lexer::{lex, one_reading};
 pub use token::{LexFault, Token, TokenKind};
