@@ -5,3 +5,4 @@ pub mod Marks
 pub mod Places
 pub mod Progress
 pub mod OneReading
+pub mod Spans

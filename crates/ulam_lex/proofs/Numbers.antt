@@ -1,12 +1,12 @@
 -- Numbers at the front of a text.
-use Rattle.std.proofs.Common.{◌≡◌, ◌≢◌, ℕ, zero, suc, ◌+◌, ◌-◌, ◌*◌, ◌<◌, ◌≤◌, ◌^◌, min, Bool, true, false, cond, ◌||◌, List, [], ◌∷◌, ◌++◌, length, get_or, take, drop, refl, sym, ap, ◌∙◌, subst, inl, inr, ◌⊎◌, arith, codes, eqb, append_assoc, append-nil, take-append-drop}
+use Rattle.std.proofs.Common.{◌≡◌, ◌≢◌, ℕ, zero, suc, ◌+◌, ◌-◌, ◌*◌, ◌<◌, ◌≤◌, ◌^◌, min, Bool, true, false, cond, ◌||◌, List, [], ◌∷◌, ◌++◌, length, get_or, take, drop, refl, sym, ap, ◌∙◌, subst, inl, inr, ◌⊎◌, arith, codes, eqb, append_assoc, append-nil, add-zero, take-append-drop}
 use Rattle.std.specs.Prelude.{◌==◌, fold, if◌then◌else◌}
 use Rattle.std.specs.Char.{is_digit, digit_value, is_ascii_digit}
 use Rattle.std.specs.List.{prefix_len, AllPass}
 use Rattle.std.proofs.lemmas.Bool.{cases_lt, false≢true, ltb-true, cases_eq, eq-eqb, ne_eqb, eqb-true, eqb-false, cond-true, cond-false, cases_Bool}
 use Rattle.std.proofs.lemmas.Bool.Decides.{nat_tests}
 use Rattle.std.proofs.lemmas.List.{length-take-le, length-append, get_or_append_left, get_or-append-add, take_at, drop_at, get_or_at, get_or-take, take-take, append_cancel_left, drop_more, drop_all}
-use Rattle.std.proofs.lemmas.List.Sums.{prefix_len_stops, prefix_len-le-length, fold-append, AllPass-from_list_all}
+use Rattle.std.proofs.lemmas.List.Sums.{prefix_len_stops, prefix_len-le-length, fold-append, prefix_len_is, AllPass-from_list_all}
 use Rattle.std.proofs.Math.Nat.{mul-le-mul_left}
 use Rattle.ulam_lex.specs.declared.token.TokenKind.TheVariants.{Number}
 use Rattle.ulam_lex.specs.declared.scan.Base.{Base}
@@ -18,7 +18,7 @@ use Rattle.ulam_lex.specs.declared.bytes.Class.{Class}
 use Rattle.ulam_lex.specs.declared.bytes.Class.TheVariants.{White, Small, Capital, Digit, Mark}
 use Rattle.ulam_lex.specs.Bytes.{class_of}
 use Rattle.ulam_lex.specs.Pieces.{IsPiece, IsNumber, IsNumeral, AreDigits, IsCanonical, prefix_of, radix_of, suffix_of, worth_after}
-use Rattle.ulam_lex.specs.Starts.{Stands, IsStart, IsBaseAt, digit_count, BeginsTooLarge, LacksDigit, IsDigitless}
+use Rattle.ulam_lex.specs.Starts.{Stands, IsStart, IsBaseAt, digit_count, body_of, digits_of, rest_of, BeginsTooLarge, LacksDigit, IsDigitless}
 use Rattle.ulam_lex.proofs.Fronts.{class_by, first_of, front_class, open_class, only_digit, run_bounds, run_passes, run_ends}
 use Rattle.ulam_lex.proofs.Words.{run_some}
 
@@ -114,16 +114,7 @@ digits_are Hexadecimal body some = record {
 }
 digits_are Decimal body some = decimal_digits body some (cases_Bool (get_or body 0 0 == 48))
 
--- the number of a base at the front: its digits, whether `u` follows, and how long it is
-abbrev pub body_of : Base → List ℕ → List ℕ
-body_of base text = drop (length (prefix_of base)) text
-
-abbrev pub digits_of : Base → List ℕ → List ℕ
-digits_of base text = take (digit_count base (body_of base text)) (body_of base text)
-
-abbrev pub rest_of : Base → List ℕ → List ℕ
-rest_of base text = drop (digit_count base (body_of base text)) (body_of base text)
-
+-- whether `u` follows the digits, and how long the number is
 abbrev pub is_unsigned : Base → List ℕ → Bool
 is_unsigned base text = get_or (rest_of base text) 0 0 == 117
 
@@ -440,3 +431,91 @@ numeral_begins text front back value unsigned e n = elim_first text (first_digit
     elim_first : (text : List ℕ) {whole : List ℕ} → is_digit (get_or whole 0 0) 10 ≡ true → text ≡ whole → (d : ℕ) × (rest : List ℕ) × (text ≡ (d ∷ []) ++ rest) × IsNumber (d ∷ [])
     elim_first [] h e = absurd (false≢true (ap (λ l. is_digit (get_or l 0 0) 10) e ∙ h))
     elim_first (b ∷ text) h e = (b, text, refl, digit_is_number b (ap (λ l. is_digit (get_or l 0 0) 10) e ∙ h))
+
+pub digits_length : (base : Base) (text : List ℕ) → length (digits_of base text) ≡ digit_count base (body_of base text)
+digits_length base text = length-take-le (digit_count base (body_of base text)) (body_of base text) (count_within base (body_of base text))
+
+-- the digits of a numeral alone are all those at its front
+exact_run : (radix : ℕ) (digits : List ℕ) (unsigned : Bool) → is_digit 117 radix ≡ false → AllPass (λ d. is_digit d radix) digits → prefix_len (λ d. is_digit d radix) (digits ++ suffix_of unsigned) ≡ length digits
+exact_run radix digits true u each = prefix_len_is (λ d. is_digit d radix) (digits ++ codes "u") (length digits) 0
+    (omega (arith, length-append digits (codes "u")))
+    (λ k lt. ap (λ d. is_digit d radix) (get_or_append_left digits (codes "u") 0 k lt) ∙ each k 0 lt)
+    (λ lt. ap (λ d. is_digit d radix) (ap (λ k. get_or (digits ++ codes "u") k 0) (sym (add-zero (length digits))) ∙ get_or-append-add digits (codes "u") 0 0) ∙ u)
+exact_run radix digits false u each = prefix_len_is (λ d. is_digit d radix) (digits ++ []) (length digits) 0
+    (omega (arith, length-append digits []))
+    (λ k lt. ap (λ d. is_digit d radix) (get_or_append_left digits [] 0 k lt) ∙ each k 0 lt)
+    (λ lt. absurd (omega (arith, ap length (append-nil digits))))
+
+exact_decimal : (digits : List ℕ) (unsigned : Bool) → AreDigits Decimal digits → ((get_or (digits ++ suffix_of unsigned) 0 0 == 48) ≡ true) ⊎ ((get_or (digits ++ suffix_of unsigned) 0 0 == 48) ≡ false) → digit_count Decimal (digits ++ suffix_of unsigned) ≡ length digits
+exact_decimal digits unsigned d (inl first) =
+    let own : get_or digits 0 0 ≡ 48 = sym (get_or_append_left digits (suffix_of unsigned) 0 0 d.some) ∙ eqb-true (get_or (digits ++ suffix_of unsigned) 0 0) 48 first in
+    decimal_one (digits ++ suffix_of unsigned) first ∙ sym (d.canonical own)
+exact_decimal digits unsigned d (inr other) = decimal_run (digits ++ suffix_of unsigned) other ∙ exact_run 10 digits unsigned refl d.each
+
+exact_count : (base : Base) (digits : List ℕ) (unsigned : Bool) → AreDigits base digits → digit_count base (digits ++ suffix_of unsigned) ≡ length digits
+exact_count Binary digits unsigned d = exact_run 2 digits unsigned refl d.each
+exact_count Decimal digits unsigned d = exact_decimal digits unsigned d (cases_Bool (get_or (digits ++ suffix_of unsigned) 0 0 == 48))
+exact_count Hexadecimal digits unsigned d = exact_run 16 digits unsigned refl d.each
+
+-- a numeral alone has the base that its first bytes tell
+no_letter : (text digits : List ℕ) (unsigned : Bool) (x : ℕ) (more : List ℕ) → text ≡ 48 ∷ x ∷ more → text ≡ digits ++ suffix_of unsigned → AreDigits Decimal digits → (x ≡ 117 → ⊥) → ⊥
+no_letter text digits true x more e f d other = other (ap (λ l. get_or l 1 0) (sym e ∙ f ∙ ap (λ l. l ++ codes "u") (zero_then text digits (codes "u") x more e f d).1))
+no_letter text digits false x more e f d other = let one = (zero_then text digits [] x more e f d).0 in omega (arith, ap length e, ap length f, length-append digits [])
+
+own_base : (base other : Base) (text digits : List ℕ) (unsigned : Bool) → IsBaseAt base text → text ≡ prefix_of other ++ (digits ++ suffix_of unsigned) → AreDigits other digits → other ≡ base
+own_base Binary Binary text digits unsigned b e d = refl
+own_base Binary Decimal text digits unsigned b e d = absurd (no_letter text digits unsigned 98 (drop 2 text) b e d (λ h. omega arith))
+own_base Binary Hexadecimal text digits unsigned b e d = absurd (two_letters text _ _ b e)
+own_base Decimal Binary text digits unsigned b e d = absurd (b.0 _ e)
+own_base Decimal Decimal text digits unsigned b e d = refl
+own_base Decimal Hexadecimal text digits unsigned b e d = absurd (b.1 _ e)
+own_base Hexadecimal Binary text digits unsigned b e d = absurd (two_letters text _ _ e b)
+own_base Hexadecimal Decimal text digits unsigned b e d = absurd (no_letter text digits unsigned 120 (drop 2 text) b e d (λ h. omega arith))
+own_base Hexadecimal Hexadecimal text digits unsigned b e d = refl
+
+suffix_follows : (unsigned : Bool) → (get_or (suffix_of unsigned) 0 0 == 117) ≡ unsigned
+suffix_follows true = refl
+suffix_follows false = refl
+
+-- the digits and the suffix of a numeral alone, and so its value
+parts_are : (base : Base) (text digits : List ℕ) (unsigned : Bool) → text ≡ prefix_of base ++ (digits ++ suffix_of unsigned) → AreDigits base digits → (digits_of base text ≡ digits) × (rest_of base text ≡ suffix_of unsigned)
+parts_are base text digits unsigned e d =
+    let body : body_of base text ≡ digits ++ suffix_of unsigned = ap (drop (length (prefix_of base))) e ∙ drop_at (prefix_of base) (digits ++ suffix_of unsigned) (length (prefix_of base)) refl in
+    let count : digit_count base (body_of base text) ≡ length digits = ap (digit_count base) body ∙ exact_count base digits unsigned d in
+    (
+      ap (λ n. take n (body_of base text)) count ∙ ap (take (length digits)) body ∙ take_at digits (suffix_of unsigned) (length digits) refl,
+      ap (λ n. drop n (body_of base text)) count ∙ ap (drop (length digits)) body ∙ drop_at digits (suffix_of unsigned) (length digits) refl,
+    )
+
+pub numeral_value : (base : Base) (text : List ℕ) (value : ℕ) (unsigned : Bool) → IsBaseAt base text → IsNumeral text value unsigned → (value ≡ worth_after (radix_of base) 0 (digits_of base text)) × (unsigned ≡ (get_or (rest_of base text) 0 0 == 117))
+numeral_value base text value unsigned b n =
+    let same : n.base ≡ base = own_base base n.base text n.digits unsigned b n.written n.are_digits in
+    let written : text ≡ prefix_of base ++ (n.digits ++ suffix_of unsigned) = n.written ∙ ap (λ o. prefix_of o ++ (n.digits ++ suffix_of unsigned)) same in
+    let parts = parts_are base text n.digits unsigned written (subst (λ o. AreDigits o n.digits) same n.are_digits) in
+    (
+      n.worth ∙ ap (λ o. worth_after (radix_of o) 0 n.digits) same ∙ ap (worth_after (radix_of base) 0) (sym parts.0),
+      sym (ap (λ l. get_or l 0 0 == 117) parts.1 ∙ suffix_follows unsigned),
+    )
+
+-- a base stands at the front of each text
+any_base : (text : List ℕ) → (base : Base) × IsBaseAt base text
+any_base [] = (Decimal, (λ rest e. omega (arith, ap length e), λ rest e. omega (arith, ap length e)))
+any_base (a ∷ []) = (Decimal, (λ rest e. omega (arith, ap length e), λ rest e. omega (arith, ap length e)))
+any_base (a ∷ b ∷ more) = elim (cases_eq a 48) [
+    | inr other ↦ (Decimal, (λ rest e. other (ap (λ l. get_or l 0 0) e), λ rest e. other (ap (λ l. get_or l 0 0) e)))
+    | inl zero_first ↦ elim (cases_eq b 120) [
+        | inl x ↦ (Hexadecimal, ap (λ n. n ∷ b ∷ more) zero_first ∙ ap (λ n. 48 ∷ n ∷ more) x)
+        | inr not_x ↦ elim (cases_eq b 98) [
+            | inl letter ↦ (Binary, ap (λ n. n ∷ b ∷ more) zero_first ∙ ap (λ n. 48 ∷ n ∷ more) letter)
+            | inr neither ↦ (Decimal, (λ rest e. neither (ap (λ l. get_or l 1 0) e), λ rest e. not_x (ap (λ l. get_or l 1 0) e)))
+          ]
+      ]
+  ]
+
+-- a numeral has one value
+pub one_value : (text : List ℕ) (value other : ℕ) (unsigned more : Bool) → IsNumeral text value unsigned → IsNumeral text other more → (value ≡ other) × (unsigned ≡ more)
+one_value text value other unsigned more n m =
+    let base = any_base text in
+    let one = numeral_value base.0 text value unsigned base.1 n in
+    let two = numeral_value base.0 text other more base.1 m in
+    (one.0 ∙ sym two.0, one.1 ∙ sym two.1)

@@ -58,6 +58,16 @@ digit_count Binary bytes = prefix_len (λ d. is_digit d 2) bytes
 digit_count Decimal bytes = if (slice_index bytes 0 == 48) then 1 else prefix_len (λ d. is_digit d 10) bytes
 digit_count Hexadecimal bytes = prefix_len (λ d. is_digit d 16) bytes
 
+-- what stands behind the prefix of a base, the digits that it begins with, and what stands behind these
+abbrev pub body_of : Base → List ℕ → List ℕ
+body_of base text = drop (length (prefix_of base)) text
+
+abbrev pub digits_of : Base → List ℕ → List ℕ
+digits_of base text = take (digit_count base (body_of base text)) (body_of base text)
+
+abbrev pub rest_of : Base → List ℕ → List ℕ
+rest_of base text = drop (digit_count base (body_of base text)) (body_of base text)
+
 -- no comment begins at the front
 abbrev pub OpensNone : List ℕ → Type 0
 OpensNone text = ((rest : List ℕ) → text ≢ codes "//" ++ rest) × ((rest : List ℕ) → text ≢ codes "/*" ++ rest)

@@ -1,5 +1,5 @@
 -- Which list of tokens a text has, and where and why it has none.
-use Rattle.std.specs.Prelude.{◌≡◌, ◌⊎◌, ℕ, ◌+◌, ◌<◌, ◌≤◌, ◌==◌, Bool, true, false, ◌&&◌, List, [], ◌∷◌, ◌++◌, length, slice_index, take, drop, flat_map, count_by, if◌then◌else◌, Result, Ok, Err, Vec}
+use Rattle.std.specs.Prelude.{◌≡◌, ◌⊎◌, ℕ, ◌+◌, ◌<◌, ◌≤◌, ◌==◌, Bool, true, false, ◌&&◌, List, [], ◌∷◌, ◌++◌, length, slice_index, slice_range, take, drop, flat_map, count_by, if◌then◌else◌, Result, Ok, Err, Vec}
 use Rattle.std.specs.List.{suffix_len}
 use Rattle.feast_base.specs.declared.place.Place.{Place}
 use Rattle.ulam_lex.specs.declared.token.TokenKind.{TokenKind}
@@ -10,7 +10,7 @@ use Rattle.ulam_lex.specs.declared.token.LexFault.TheVariants.{BadByte, OpenComm
 use Rattle.ulam_lex.specs.declared.scan.PieceKind.{PieceKind}
 use Rattle.ulam_lex.specs.declared.scan.PieceKind.TheVariants as piece
 use Rattle.ulam_lex.specs.Bytes.{is_word_byte}
-use Rattle.ulam_lex.specs.Pieces.{is_in_line}
+use Rattle.ulam_lex.specs.Pieces.{is_in_line, IsToken}
 use Rattle.ulam_lex.specs.Starts.{Stands, BeginsNothing, IsDigitless, LeavesOpen, BeginsTooLarge}
 
 -- a piece of a text
@@ -101,3 +101,9 @@ IsFaultOf file text fault = (pieces : List TextPiece) × (rest : List ℕ) × (t
 abbrev pub IsReading : ℕ → List ℕ → Result (List Token) LexFault → Type 0
 IsReading file text (Ok tokens) = IsTokensOf file text tokens × (length tokens ≤ most_tokens + 1)
 IsReading file text (Err fault) = IsFaultOf file text fault
+
+-- each token stands behind the one before it and is one of its kind, and the last stands at the end of the text and is its only `End`
+abbrev pub AreInOrder : List ℕ → ℕ → List Token → Type 0
+AreInOrder text from [] = ⊥
+AreInOrder text from (t ∷ []) = (t.kind ≡ End) × (from ≤ t.first) × (t.first ≡ length text) × (t.end ≡ length text)
+AreInOrder text from (t ∷ u ∷ ts) = IsToken t.kind (slice_range text t.first t.end) × (from ≤ t.first) × (t.first < t.end) × (t.end ≤ length text) × AreInOrder text t.end (u ∷ ts)

@@ -1,6 +1,6 @@
 //! Reading a text from its start to its end.
 ghost use Rattle.std.specs.Prelude.{◌≡◌, ℕ, ◌+◌, ◌-◌, ◌<◌, ◌≤◌, ◌^◌, ◌++◌, ◌∷◌, [], length, take, drop, fold, IfOk, IfErr, IsErrAnd, MatchResult, ◌⊎◌, List};
-ghost use Rattle.ulam_lex.specs.Texts.{is_word_kind, is_joined, place_after, most_tokens, IsTokensOf, IsFaultOf};
+ghost use Rattle.ulam_lex.specs.Texts.{is_word_kind, is_joined, place_after, most_tokens, IsTokensOf, IsFaultOf, AreInOrder};
 ghost use Rattle.ulam_lex.specs.Starts.{Stands};
 ghost use Rattle.ulam_lex.specs.declared.token.Token.{Token};
 ghost use Rattle.ulam_lex.specs.declared.token.LexFault.{LexFault};
@@ -176,6 +176,9 @@ pub fn lex(alloc: Global, bytes: &[u8], file: u32) -> Result<Vec<Token>, LexFaul
     // What is given is the text's list of tokens, or its first fault.
     ensures tokens { IfOk result (λ v. IsTokensOf file bytes.now v.items × (length v.items ≤ most_tokens + 1)) }
     ensures fault { IfErr result (λ e. (e ≡ LexFault.NoMemory) ⊎ IsFaultOf file bytes.now e) }
+
+    // The tokens stand one behind another, and `End` is the last alone.
+    ensures order { IfOk result (λ v. AreInOrder bytes.now 0 v.items) }
 
     // A text that has a list of tokens gets it, and one that has a first fault gets that, unless memory runs out.
     ensures only_tokens { (tokens : List Token) → IsTokensOf file bytes.now tokens → length tokens ≤ most_tokens + 1 → MatchResult result (λ v. v.items ≡ tokens) (λ e. e ≡ LexFault.NoMemory) }

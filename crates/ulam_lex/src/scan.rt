@@ -4,7 +4,7 @@ ghost use Rattle.std.specs.Char.{digit_value, is_digit};
 ghost use Rattle.std.specs.List.{prefix_len};
 ghost use Rattle.ulam_lex.specs.Bytes.{is_white, is_word_byte, class_of, is_sign};
 ghost use Rattle.ulam_lex.specs.Pieces.{is_in_line, prefix_of, radix_of, worth_after};
-ghost use Rattle.ulam_lex.specs.Starts.{IsStart, IsBaseAt, digit_count, OpensNone};
+ghost use Rattle.ulam_lex.specs.Starts.{IsStart, IsBaseAt, digit_count, digits_of, rest_of, OpensNone};
 
 use crate::bytes::{Class, class_of, is_keyword, is_sign, is_white, is_word_byte};
 use crate::token::TokenKind;
@@ -188,18 +188,16 @@ fn with_digit(value: u32, radix: u32, digit: u8) -> Option<u32>
     value.checked_mul(radix)?.checked_add(digit_value(digit))
 }
 
-/// Whether what digits are worth is below 2^32.
-fn is_small(base: Base, digits: &[u8]) -> bool
-    ensures { result ≡ nat_lt (worth_after (radix_of base) 0 digits.now) (2 ^ 32) }
+/// What digits are worth, if it is below 2^32.
+fn worth(base: Base, digits: &[u8]) -> Option<u32>
+    ensures some { IfSome result (λ v. v ≡ worth_after (radix_of base) 0 digits.now) }
+    ensures none { IfNone result (2 ^ 32 ≤ worth_after (radix_of base) 0 digits.now) }
 {
     let mut value = 0;
     for digit in digits {
-        match with_digit(value, base.radix(), *digit) {
-            Some(more) => value = more,
-            None => return false,
-        }
+        value = with_digit(value, base.radix(), *digit)?;
     }
-    true
+    Some(value)
 }
 
 /// How long the `u` behind the digits of a number is.
@@ -209,6 +207,16 @@ fn suffix_len(rest: &[u8]) -> usize
     if starts_with(rest, b'u') { 1 } else { 0 }
 }
 
+/// A number with its base: its digits and the bytes behind them.
+fn digits_at(base: Base, bytes: &[u8]) -> (&[u8], &[u8])
+    requires { IsBaseAt base bytes.now }
+    ensures digits { result.0.now ≡ digits_of base bytes.now }
+    ensures rest { result.1.now ≡ rest_of base bytes.now }
+{
+    let (_, body) = bytes.split_at(base.prefix_len());
+    body.split_at(digit_count(base, body))
+}
+
 /// A number.
 fn number(bytes: &[u8]) -> Start
     requires some { 0 < length bytes.now }
@@ -216,18 +224,17 @@ fn number(bytes: &[u8]) -> Start
     ensures { IsStart bytes.now result }
 {
     let base = base_at(bytes);
-    let prefix = base.prefix_len();
-    let (_, body) = bytes.split_at(prefix);
-    let count = digit_count(base, body);
-    if count == 0 {
-        return Start::BadByte(prefix);
+    let (digits, rest) = digits_at(base, bytes);
+    if digits.is_empty() {
+        return Start::BadByte(base.prefix_len());
     }
-    let (digits, rest) = body.split_at(count);
-    if !is_small(base, digits) {
-        return Start::NumberTooLarge;
+    match worth(base, digits) {
+        Some(_value) => {
+            let length = base.prefix_len() + digits.len() + suffix_len(rest);
+            Start::Piece(PieceKind::Token(TokenKind::Number), length)
+        }
+        None => Start::NumberTooLarge,
     }
-    let length = prefix + count + suffix_len(rest);
-    Start::Piece(PieceKind::Token(TokenKind::Number), length)
 }
 
 /// How many bytes stand before the end of the line.
