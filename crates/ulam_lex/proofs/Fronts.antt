@@ -10,8 +10,8 @@ use Rattle.std.proofs.lemmas.List.{get_or_append_left, get_or_past, get_or-drop,
 use Rattle.std.proofs.lemmas.List.Sums.{prefix_len_passes, prefix_len_stops, prefix_len-le-length, AllPass-from_list_all}
 use Rattle.ulam_lex.specs.declared.token.TokenKind.{TokenKind}
 use Rattle.ulam_lex.specs.declared.token.TokenKind.TheVariants.{Name, TypeName, Keyword, Number, Sign, End}
-use Rattle.ulam_lex.specs.declared.scan.Base.{Base}
-use Rattle.ulam_lex.specs.declared.scan.Base.TheVariants.{Binary, Decimal, Hexadecimal}
+use Rattle.ulam_lex.specs.declared.numeral.Base.{Base}
+use Rattle.ulam_lex.specs.declared.numeral.Base.TheVariants.{Binary, Decimal, Hexadecimal}
 use Rattle.ulam_lex.specs.declared.scan.PieceKind.{PieceKind}
 use Rattle.ulam_lex.specs.declared.scan.PieceKind.TheVariants.{Space, Comment, Token}
 use Rattle.ulam_lex.specs.declared.bytes.Class.{Class}

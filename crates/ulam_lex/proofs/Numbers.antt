@@ -9,8 +9,8 @@ use Rattle.std.proofs.lemmas.List.{length-take-le, length-append, get_or_append_
 use Rattle.std.proofs.lemmas.List.Sums.{prefix_len_stops, prefix_len-le-length, fold-append, prefix_len_is, AllPass-from_list_all}
 use Rattle.std.proofs.Math.Nat.{mul-le-mul_left}
 use Rattle.ulam_lex.specs.declared.token.TokenKind.TheVariants.{Number}
-use Rattle.ulam_lex.specs.declared.scan.Base.{Base}
-use Rattle.ulam_lex.specs.declared.scan.Base.TheVariants.{Binary, Decimal, Hexadecimal}
+use Rattle.ulam_lex.specs.declared.numeral.Base.{Base}
+use Rattle.ulam_lex.specs.declared.numeral.Base.TheVariants.{Binary, Decimal, Hexadecimal}
 use Rattle.ulam_lex.specs.declared.scan.PieceKind.{PieceKind}
 use Rattle.ulam_lex.specs.declared.scan.PieceKind.TheVariants.{Token}
 use Rattle.ulam_lex.specs.declared.scan.Start.TheVariants.{Piece, BadByte, NumberTooLarge}

@@ -10,8 +10,8 @@ use Rattle.ulam_lex.specs.declared.token.TokenKind.TheVariants.{Name, TypeName, 
 use Rattle.ulam_lex.specs.declared.token.Token.{Token}
 use Rattle.ulam_lex.specs.declared.token.LexFault.{LexFault}
 use Rattle.ulam_lex.specs.declared.token.LexFault.TheVariants.{BadByte, OpenComment, NumberTooLarge, TooManyTokens, NoMemory}
-use Rattle.ulam_lex.specs.declared.scan.Base.{Base}
-use Rattle.ulam_lex.specs.declared.scan.Base.TheVariants.{Binary, Decimal, Hexadecimal}
+use Rattle.ulam_lex.specs.declared.numeral.Base.{Base}
+use Rattle.ulam_lex.specs.declared.numeral.Base.TheVariants.{Binary, Decimal, Hexadecimal}
 use Rattle.ulam_lex.specs.declared.scan.PieceKind.{PieceKind}
 use Rattle.ulam_lex.specs.declared.scan.PieceKind.TheVariants as piece
 use Rattle.ulam_lex.specs.declared.bytes.Class.{Class}

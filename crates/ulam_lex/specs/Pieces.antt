@@ -5,8 +5,8 @@ use Rattle.std.specs.Char.{digit_value, is_digit}
 use Rattle.ulam_lex.specs.declared.bytes.Class.TheVariants.{Small, Capital}
 use Rattle.ulam_lex.specs.declared.token.TokenKind.{TokenKind}
 use Rattle.ulam_lex.specs.declared.token.TokenKind.TheVariants.{Name, TypeName, Keyword, Number, Sign, End}
-use Rattle.ulam_lex.specs.declared.scan.Base.{Base}
-use Rattle.ulam_lex.specs.declared.scan.Base.TheVariants.{Binary, Decimal, Hexadecimal}
+use Rattle.ulam_lex.specs.declared.numeral.Base.{Base}
+use Rattle.ulam_lex.specs.declared.numeral.Base.TheVariants.{Binary, Decimal, Hexadecimal}
 use Rattle.ulam_lex.specs.declared.scan.PieceKind.{PieceKind}
 use Rattle.ulam_lex.specs.declared.scan.PieceKind.TheVariants.{Space, Comment, Token}
 use Rattle.ulam_lex.specs.Bytes.{is_white, is_word_byte, class_of, is_keyword, is_sign}

@@ -3,8 +3,8 @@ use Rattle.std.specs.Prelude.{◌≡◌, ◌≢◌, ◌⊎◌, ℕ, ◌<◌, ◌
 use Rattle.std.specs.List.{prefix_len}
 use Rattle.std.specs.Char.{is_digit}
 use Rattle.ulam_lex.specs.declared.token.TokenKind.{TokenKind}
-use Rattle.ulam_lex.specs.declared.scan.Base.{Base}
-use Rattle.ulam_lex.specs.declared.scan.Base.TheVariants.{Binary, Decimal, Hexadecimal}
+use Rattle.ulam_lex.specs.declared.numeral.Base.{Base}
+use Rattle.ulam_lex.specs.declared.numeral.Base.TheVariants.{Binary, Decimal, Hexadecimal}
 use Rattle.ulam_lex.specs.declared.scan.PieceKind.{PieceKind}
 use Rattle.ulam_lex.specs.declared.scan.Start.{Start}
 use Rattle.ulam_lex.specs.declared.scan.Start.TheVariants.{Piece, BadByte, OpenComment, NumberTooLarge}

@@ -1,5 +1,6 @@
 //! Reading a text from its start to its end.
-ghost use Rattle.std.specs.Prelude.{◌≡◌, ℕ, ◌+◌, ◌-◌, ◌<◌, ◌≤◌, ◌^◌, ◌++◌, ◌∷◌, [], length, take, drop, fold, IfOk, IfErr, IsErrAnd, MatchResult, ◌⊎◌, List};
+ghost use Rattle.std.specs.Prelude.{◌≡◌, ℕ, ◌+◌, ◌-◌, ◌<◌, ◌≤◌, ◌^◌, ◌++◌, ◌∷◌, [], length, take, drop, fold, IfOk, IfErr, IsErrAnd, MatchResult, ◌⊎◌, Bool, List};
+ghost use Rattle.ulam_lex.specs.Pieces.{IsNumeral};
 ghost use Rattle.ulam_lex.specs.Texts.{is_word_kind, is_joined, place_after, most_tokens, IsTokensOf, IsFaultOf, AreInOrder};
 ghost use Rattle.ulam_lex.specs.Starts.{Stands};
 ghost use Rattle.ulam_lex.specs.declared.token.Token.{Token};
@@ -188,9 +189,11 @@ pub fn lex(alloc: Global, bytes: &[u8], file: u32) -> Result<Vec<Token>, LexFaul
 }
 
 /// No text has two lists of tokens, or a list within the limit and a fault, or two first faults.
+/// No numeral has two values.
 pub fn one_reading()
     ensures list { (file : ℕ) (text : List ℕ) (a b : List Token) → IsTokensOf file text a → IsTokensOf file text b → a ≡ b }
     ensures either { (file : ℕ) (text : List ℕ) (tokens : List Token) (fault : LexFault) → IsTokensOf file text tokens → length tokens ≤ most_tokens + 1 → IsFaultOf file text fault → ⊥ }
     ensures fault { (file : ℕ) (text : List ℕ) (a b : LexFault) → IsFaultOf file text a → IsFaultOf file text b → a ≡ b }
+    ensures value { (text : List ℕ) (a b : ℕ) (u v : Bool) → IsNumeral text a u → IsNumeral text b v → (a ≡ b) × (u ≡ v) }
 {
 }

@@ -3,8 +3,10 @@
 
 mod bytes;
 mod lexer;
+mod numeral;
 mod scan;
 mod token;
 
 pub use lexer::{lex, one_reading};
+pub use numeral::{Numeral, numeral_of};
 pub use token::{LexFault, Token, TokenKind};

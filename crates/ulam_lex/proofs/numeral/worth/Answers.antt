@@ -1,6 +1,6 @@
 use Rattle.std.proofs.Common.{◌≡◌, ◌<◌, ◌≤◌, ◌+◌, ◌*◌, ◌^◌}
 use Rattle.ulam_lex.proofs.Numbers.{large_with}
-use Rattle.ulam_lex.proofs.scan.worth.Goals as goal
+use Rattle.ulam_lex.proofs.numeral.worth.Goals as goal
 
 pub returns-in_err-value-clause-none : goal.returns-in_err-value-clause-none
 returns-in_err-value-clause-none c =

@@ -1,6 +1,6 @@
 use Rattle.std.proofs.Common.{◌≡◌, ◌<◌, ◌^◌, drop}
 use Rattle.ulam_lex.specs.Pieces.{radix_of, worth_after}
-use Rattle.ulam_lex.proofs.scan.worth.Given as goal
+use Rattle.ulam_lex.proofs.numeral.worth.Given as goal
 
 abbrev pub invariant-loop-digit : goal.invariant-loop-digit
 invariant-loop-digit l = record {

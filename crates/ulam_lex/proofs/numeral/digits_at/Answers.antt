@@ -1,7 +1,7 @@
 use Rattle.std.proofs.Common.{ap, ◌∙◌, drop}
 use Rattle.ulam_lex.specs.Starts.{digit_count, body_of}
 use Rattle.ulam_lex.proofs.Numbers.{count_within}
-use Rattle.ulam_lex.proofs.scan.digits_at.Goals as goal
+use Rattle.ulam_lex.proofs.numeral.digits_at.Goals as goal
 
 pub split_at-requires-2 : goal.split_at-requires-2
 split_at-requires-2 c =
