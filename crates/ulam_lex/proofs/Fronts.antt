@@ -1,14 +1,13 @@
 -- The first byte of a piece tells its class, and how long a run of bytes is.
-use Rattle.std.proofs.Common.{◌≡◌, ◌≢◌, ℕ, zero, suc, ◌+◌, ◌-◌, ◌<◌, ◌≤◌, ◌^◌, Bool, true, false, cond, not, ◌&&◌, ◌||◌, List, [], ◌∷◌, ◌++◌, length, get_or, take, drop, refl, sym, ap, ◌∙◌, subst, inl, inr, ◌⊎◌, arith, nat_eq, nat_lt, eqb, codes, nat_le, append_assoc, add-zero}
-use Rattle.std.specs.List.{list_any, list_all, prefix_len, AllPass, All}
-use Rattle.std.specs.Prelude.{bytes_eq, slice_index}
-use Rattle.std.specs.Char.{is_digit, digit_value, is_ascii_digit}
-use Rattle.std.proofs.lemmas.Bool.{and_parts, or_cases, eqb-true, ltb-true, agree_below_at, cond-true, cases_lt, false≢true, cases_Bool, leb-true}
+use Rattle.std.proofs.Common.{◌≡◌, ℕ, ◌<◌, ◌≤◌, Bool, true, false, not, ◌||◌, List, [], ◌∷◌, ◌++◌, length, get_or, take, drop, refl, sym, ap, ◌∙◌, inl, inr, ◌⊎◌, arith, nat_eq, nat_lt, nat_le, append_assoc, add-zero}
+use Rattle.std.specs.List.{list_any, list_all, prefix_len, AllPass}
+use Rattle.std.specs.Prelude.{bytes_eq}
+use Rattle.std.specs.Char.{is_digit}
+use Rattle.std.proofs.lemmas.Bool.{and_parts, or_cases, eqb-true, ltb-true, agree_below_at, cond-true, cases_lt, false≢true, leb-true}
 use Rattle.std.proofs.lemmas.Bool.Decides.{nat_tests}
 use Rattle.std.proofs.lemmas.Slice.Eq.{bytes_eq-Decides}
 use Rattle.std.proofs.lemmas.List.{get_or_append_left, get_or_past, get_or-drop, get_or-take, length-take-le, length-append}
 use Rattle.std.proofs.lemmas.List.Sums.{prefix_len_passes, prefix_len_stops, prefix_len-le-length, AllPass-from_list_all}
-use Rattle.ulam_lex.specs.declared.token.TokenKind.{TokenKind}
 use Rattle.ulam_lex.specs.declared.token.TokenKind.TheVariants.{Name, TypeName, Keyword, Number, Sign, End}
 use Rattle.ulam_lex.specs.declared.numeral.Base.{Base}
 use Rattle.ulam_lex.specs.declared.numeral.Base.TheVariants.{Binary, Decimal, Hexadecimal}
@@ -17,8 +16,8 @@ use Rattle.ulam_lex.specs.declared.scan.PieceKind.TheVariants.{Space, Comment, T
 use Rattle.ulam_lex.specs.declared.bytes.Class.{Class}
 use Rattle.ulam_lex.specs.declared.bytes.Class.TheVariants.{White, Small, Capital, Digit, Mark}
 use Rattle.ulam_lex.specs.Bytes.{is_white, is_word_byte, class_of, keywords, is_keyword, signs, is_sign}
-use Rattle.ulam_lex.specs.Pieces.{IsSpace, IsLineComment, IsBlockComment, IsNumeral, AreDigits, IsNumber, IsToken, IsPiece, IsWord, prefix_of, radix_of}
-use Rattle.ulam_lex.specs.Starts.{LeavesOpen, BeginsTooLarge, LacksDigit, IsDigitless}
+use Rattle.ulam_lex.specs.Pieces.{IsSpace, IsLineComment, IsBlockComment, AreDigits, IsNumber, IsPiece, IsWord, prefix_of}
+use Rattle.ulam_lex.specs.Starts.{LeavesOpen, BeginsTooLarge, IsDigitless}
 
 -- classes as numbers
 abbrev pub rank : Class → ℕ
@@ -169,9 +168,9 @@ only_space (Token End) front c p = cc
 keyword_is_word : (bytes : List ℕ) → is_keyword bytes ≡ true → IsWord bytes
 unfolding keywords
 keyword_is_word bytes h = (
-    leb-true (length bytes) 255 (keyword_passes (λ s. nat_le (length s) 255) bytes refl h),
-    AllPass-from_list_all is_word_byte bytes (keyword_passes (λ s. list_all is_word_byte s) bytes refl h),
-  )
+  leb-true (length bytes) 255 (keyword_passes (λ s. nat_le (length s) 255) bytes refl h),
+  AllPass-from_list_all is_word_byte bytes (keyword_passes (λ s. list_all is_word_byte s) bytes refl h),
+)
 
 pub only_small : (kind : PieceKind) (front : List ℕ) → class_by kind ≡ Small → IsPiece kind front → IsWord front
 only_small Space front c p = cc
@@ -216,14 +215,14 @@ only_mark (Token End) front c p = absurd p
 -- a front of bytes that pass is within the run that passes
 pub run_bounds : (p : ℕ → Bool) (text front back : List ℕ) → text ≡ front ++ back → AllPass p front → length front ≤ prefix_len p text
 run_bounds p text front back e passes = elim (cases_lt (prefix_len p text) (length front)) [
-    | inl shorter ↦
-        let n = prefix_len p text in
-        let within : n < length text = omega (arith, ap length e, length-append front back) in
-        let stops : p (get_or text n 0) ≡ false = prefix_len_stops p text 0 within in
-        let same : get_or text n 0 ≡ get_or front n 0 = ap (λ l. get_or l n 0) e ∙ get_or_append_left front back 0 n shorter in
-        absurd (false≢true (sym stops ∙ ap p same ∙ passes n 0 shorter))
-    | inr enough ↦ enough
-  ]
+  | inl shorter ↦
+      let n = prefix_len p text in
+      let within : n < length text = omega (arith, ap length e, length-append front back) in
+      let stops : p (get_or text n 0) ≡ false = prefix_len_stops p text 0 within in
+      let same : get_or text n 0 ≡ get_or front n 0 = ap (λ l. get_or l n 0) e ∙ get_or_append_left front back 0 n shorter in
+      absurd (false≢true (sym stops ∙ ap p same ∙ passes n 0 shorter))
+  | inr enough ↦ enough
+]
 
 -- a front of the run passes
 pub run_passes : (p : ℕ → Bool) (text : List ℕ) (n : ℕ) → n ≤ prefix_len p text → AllPass p (take n text)

@@ -1,19 +1,19 @@
 -- Comments and signs at the front of a text.
-use Rattle.std.proofs.Common.{◌≡◌, ◌≢◌, ℕ, ◌+◌, ◌-◌, ◌<◌, ◌≤◌, Bool, true, false, cond, not, ◌&&◌, ◌||◌, List, [], ◌∷◌, ◌++◌, length, get_or, take, drop, refl, sym, ap, ◌∙◌, subst, inl, inr, ◌⊎◌, arith, codes, nat_le, append_assoc, take-append-drop}
+use Rattle.std.proofs.Common.{◌≡◌, ℕ, ◌+◌, ◌<◌, ◌≤◌, Bool, true, false, not, ◌&&◌, ◌||◌, List, ◌∷◌, ◌++◌, length, get_or, take, drop, refl, sym, ap, ◌∙◌, inl, inr, ◌⊎◌, arith, codes, nat_le, append_assoc, take-append-drop}
 use Rattle.std.specs.Prelude.{◌==◌}
-use Rattle.std.specs.List.{prefix_len, AllPass}
-use Rattle.std.proofs.lemmas.Bool.{cases_lt, false≢true, eq-eqb, leb-true, true≢false}
-use Rattle.std.proofs.lemmas.List.{length-take-le, length-append, length-drop, get_or_append_left, get_or-append-add, get_or-take, take_at, drop_at, drop_more, append_cancel_left}
+use Rattle.std.specs.List.{prefix_len}
+use Rattle.std.proofs.lemmas.Bool.{cases_lt, false≢true, leb-true, true≢false}
+use Rattle.std.proofs.lemmas.List.{length-take-le, length-append, get_or_append_left, get_or-append-add, get_or-take, take_at, drop_more, append_cancel_left}
 use Rattle.std.proofs.lemmas.List.Sums.{prefix_len-le-length}
 use Rattle.ulam_lex.specs.declared.token.TokenKind.TheVariants.{Sign}
 use Rattle.ulam_lex.specs.declared.scan.PieceKind.{PieceKind}
 use Rattle.ulam_lex.specs.declared.scan.PieceKind.TheVariants.{Comment, Token}
-use Rattle.ulam_lex.specs.declared.scan.Start.TheVariants.{Piece, BadByte, OpenComment}
-use Rattle.ulam_lex.specs.declared.bytes.Class.TheVariants.{Digit, Mark}
+use Rattle.ulam_lex.specs.declared.scan.Start.TheVariants.{Piece, BadByte}
+use Rattle.ulam_lex.specs.declared.bytes.Class.TheVariants.{Mark}
 use Rattle.ulam_lex.specs.Bytes.{class_of, signs, is_sign}
 use Rattle.ulam_lex.specs.Pieces.{is_in_line, Holds, IsLineComment, IsBlockComment, IsPiece}
-use Rattle.ulam_lex.specs.Starts.{Stands, IsStart, LeavesOpen, OpensNone}
-use Rattle.ulam_lex.proofs.Fronts.{front_class, large_class, bare_class, only_mark, piece_some, first_of, run_bounds, run_passes, sign_passes}
+use Rattle.ulam_lex.specs.Starts.{IsStart, OpensNone}
+use Rattle.ulam_lex.proofs.Fronts.{front_class, large_class, bare_class, only_mark, piece_some, run_bounds, run_passes, sign_passes}
 
 -- no sign has more than three bytes
 sign_short : (bytes : List ℕ) → is_sign bytes ≡ true → length bytes ≤ 3
@@ -31,12 +31,12 @@ sign_opens_none bytes h opening = true≢false (sym (sign_passes (λ s. not (is_
 -- so where a comment begins, a sign is one byte long
 sign_in_opening : (text front back : List ℕ) → is_opening text ≡ true → text ≡ front ++ back → is_sign front ≡ true → length front ≤ 1
 sign_in_opening text front back opening e h = elim (cases_lt 1 (length front)) [
-    | inl more ↦
-        let zeroth : get_or text 0 0 ≡ get_or front 0 0 = ap (λ l. get_or l 0 0) e ∙ get_or_append_left front back 0 0 (omega arith) in
-        let next : get_or text 1 0 ≡ get_or front 1 0 = ap (λ l. get_or l 1 0) e ∙ get_or_append_left front back 0 1 more in
-        absurd (sign_opens_none front h (rw (zeroth, next) at opening))
-    | inr short ↦ short
-  ]
+  | inl more ↦
+      let zeroth : get_or text 0 0 ≡ get_or front 0 0 = ap (λ l. get_or l 0 0) e ∙ get_or_append_left front back 0 0 (omega arith) in
+      let next : get_or text 1 0 ≡ get_or front 1 0 = ap (λ l. get_or l 1 0) e ∙ get_or_append_left front back 0 1 more in
+      absurd (sign_opens_none front h (rw (zeroth, next) at opening))
+  | inr short ↦ short
+]
 
 -- the two bytes that a comment begins with
 line_second : (text rest : List ℕ) → text ≡ codes "//" ++ rest → get_or text 1 0 ≡ 47
@@ -84,8 +84,7 @@ line_start text begins =
     let split : text ≡ front ++ drop m body = begins ∙ ap (λ l. codes "//" ++ l) (sym (take-append-drop m body)) ∙ sym (append_assoc (codes "//") (take m body) (drop m body)) in
     let long : length front ≡ n = omega (arith, length-append (codes "//") (take m body)) in
     let taken : take n text ≡ front = ap (take n) split ∙ take_at front (drop m body) n long in
-    let mark : class_of (get_or text 0 0) ≡ Mark = ap (λ l. class_of (get_or l 0 0)) begins in
-    (
+    let mark : class_of (get_or text 0 0) ≡ Mark = ap (λ l. class_of (get_or l 0 0)) begins in (
       omega arith,
       omega (arith, ap length begins),
       record {
@@ -110,23 +109,23 @@ close_stands bytes i within star slash =
 -- the first `*/` of a text stands before each other
 first_close : (inside after other rest : List ℕ) → inside ++ (codes "*/" ++ after) ≡ other ++ (codes "*/" ++ rest) → ¬ Holds other (codes "*/") → length other ≤ length inside
 first_close inside after other rest e none = elim (cases_lt (length inside) (length other)) [
-    | inr enough ↦ enough
-    | inl shorter ↦
-        let i = length inside in
-        let zero_more : i + 0 ≡ i = omega arith in
-        let star : get_or (other ++ (codes "*/" ++ rest)) i 0 ≡ 42 = ap (λ l. get_or l i 0) (sym e) ∙ ap (λ k. get_or (inside ++ (codes "*/" ++ after)) k 0) (sym zero_more) ∙ get_or-append-add inside (codes "*/" ++ after) 0 0 in
-        let slash : get_or (other ++ (codes "*/" ++ rest)) (i + 1) 0 ≡ 47 = ap (λ l. get_or l (i + 1) 0) (sym e) ∙ get_or-append-add inside (codes "*/" ++ after) 1 0 in
-        absurd (elim (cases_lt (i + 1) (length other)) [
-          | inl within ↦
-              let star_in : get_or other i 0 ≡ 42 = sym (get_or_append_left other (codes "*/" ++ rest) 0 i shorter) ∙ star in
-              let slash_in : get_or other (i + 1) 0 ≡ 47 = sym (get_or_append_left other (codes "*/" ++ rest) 0 (i + 1) within) ∙ slash in
-              none (take i other, drop (i + 2) other, close_stands other i within star_in slash_in)
-          | inr at_end ↦
-              let last : i + 1 ≡ length other + 0 = omega arith in
-              let own : get_or (other ++ (codes "*/" ++ rest)) (i + 1) 0 ≡ 42 = ap (λ k. get_or (other ++ (codes "*/" ++ rest)) k 0) last ∙ get_or-append-add other (codes "*/" ++ rest) 0 0 in
-              omega arith
-        ])
-  ]
+  | inr enough ↦ enough
+  | inl shorter ↦
+      let i = length inside in
+      let zero_more : i + 0 ≡ i = omega arith in
+      let star : get_or (other ++ (codes "*/" ++ rest)) i 0 ≡ 42 = ap (λ l. get_or l i 0) (sym e) ∙ ap (λ k. get_or (inside ++ (codes "*/" ++ after)) k 0) (sym zero_more) ∙ get_or-append-add inside (codes "*/" ++ after) 0 0 in
+      let slash : get_or (other ++ (codes "*/" ++ rest)) (i + 1) 0 ≡ 47 = ap (λ l. get_or l (i + 1) 0) (sym e) ∙ get_or-append-add inside (codes "*/" ++ after) 1 0 in
+      absurd (elim (cases_lt (i + 1) (length other)) [
+        | inl within ↦
+            let star_in : get_or other i 0 ≡ 42 = sym (get_or_append_left other (codes "*/" ++ rest) 0 i shorter) ∙ star in
+            let slash_in : get_or other (i + 1) 0 ≡ 47 = sym (get_or_append_left other (codes "*/" ++ rest) 0 (i + 1) within) ∙ slash in
+            none (take i other, drop (i + 2) other, close_stands other i within star_in slash_in)
+        | inr at_end ↦
+            let last : i + 1 ≡ length other + 0 = omega arith in
+            let own : get_or (other ++ (codes "*/" ++ rest)) (i + 1) 0 ≡ 42 = ap (λ k. get_or (other ++ (codes "*/" ++ rest)) k 0) last ∙ get_or-append-add other (codes "*/" ++ rest) 0 0 in
+            omega arith
+      ])
+]
 
 -- a comment up to its `*/`
 block_longest : (text inside after : List ℕ) → text ≡ codes "/*" ++ (inside ++ (codes "*/" ++ after)) → (other : PieceKind) (longer back : List ℕ) → text ≡ longer ++ back → IsPiece other longer →
@@ -148,8 +147,7 @@ block_start text inside after n begins none counted =
     let split : text ≡ front ++ after = begins ∙ ap (λ l. codes "/*" ++ l) (sym (append_assoc inside (codes "*/") after)) ∙ sym (append_assoc (codes "/*") (inside ++ codes "*/") after) in
     let long : length front ≡ n + 4 = omega (arith, length-append inside (codes "*/")) in
     let taken : take (n + 4) text ≡ front = ap (take (n + 4)) split ∙ take_at front after (n + 4) long in
-    let mark : class_of (get_or text 0 0) ≡ Mark = ap (λ l. class_of (get_or l 0 0)) begins in
-    (
+    let mark : class_of (get_or text 0 0) ≡ Mark = ap (λ l. class_of (get_or l 0 0)) begins in (
       omega arith,
       omega (arith, ap length split, length-append front after),
       record {
@@ -165,55 +163,54 @@ block_start text inside after n begins none counted =
 -- the pieces that begin with a mark where no comment does
 sign_alone : (text : List ℕ) → class_of (get_or text 0 0) ≡ Mark → OpensNone text → (other : PieceKind) (front back : List ℕ) → text ≡ front ++ back → IsPiece other front → is_sign front ≡ true
 sign_alone text mark none other front back e p = elim (only_mark other front (sym (front_class other text front back e p) ∙ mark) p) [
-    | inl (inl line) ↦ absurd (none.0 _ (line_text text front back e line))
-    | inl (inr block) ↦ absurd (none.1 _ (block_text text front back e block))
-    | inr sign ↦ sign
-  ]
+  | inl (inl line) ↦ absurd (none.0 _ (line_text text front back e line))
+  | inl (inr block) ↦ absurd (none.1 _ (block_text text front back e block))
+  | inr sign ↦ sign
+]
 
 -- no sign at the front is longer than the one that was found
 sign_bound : (text : List ℕ) (n : ℕ) → ((m : ℕ) → n < m → m ≤ 3 → m ≤ length text → is_sign (take m text) ≡ false) → (front back : List ℕ) → text ≡ front ++ back → is_sign front ≡ true → length front ≤ n
 sign_bound text n longest front back e sign = elim (cases_lt n (length front)) [
-    | inr within ↦ within
-    | inl longer ↦
-        let fails = longest (length front) longer (sign_short front sign) (omega (arith, ap length e, length-append front back)) in
-        absurd (false≢true (sym fails ∙ ap is_sign (front_taken text front back e) ∙ sign))
-  ]
+  | inr within ↦ within
+  | inl longer ↦
+      let fails = longest (length front) longer (sign_short front sign) (omega (arith, ap length e, length-append front back)) in
+      absurd (false≢true (sym fails ∙ ap is_sign (front_taken text front back e) ∙ sign))
+]
 
 pub sign_start : (text : List ℕ) (n : ℕ) → class_of (get_or text 0 0) ≡ Mark → OpensNone text → 0 < n → n ≤ length text → is_sign (take n text) ≡ true →
     ((m : ℕ) → n < m → m ≤ 3 → m ≤ length text → is_sign (take m text) ≡ false) → IsStart text (Piece (Token Sign) n)
 sign_start text n mark none some within sign longest = (
-    some,
-    within,
-    record {
-      split = sym (take-append-drop n text);
-      piece = sign;
-      longest = λ other longer back e p. rw (length-take-le n text within) (sign_bound text n longest longer back e (sign_alone text mark none other longer back e p));
-      closed = λ h. none.1 h.0 h.1;
-      small = λ h. let digit = large_class text h in cc;
-      complete = λ bare rest h. let digit = bare_class text bare rest h in cc;
-    },
-  )
+  some,
+  within,
+  record {
+    split = sym (take-append-drop n text);
+    piece = sign;
+    longest = λ other longer back e p. rw (length-take-le n text within) (sign_bound text n longest longer back e (sign_alone text mark none other longer back e p));
+    closed = λ h. none.1 h.0 h.1;
+    small = λ h. let digit = large_class text h in cc;
+    complete = λ bare rest h. let digit = bare_class text bare rest h in cc;
+  },
+)
 
 pub nothing_start : (text : List ℕ) → 0 < length text → class_of (get_or text 0 0) ≡ Mark → OpensNone text → ((m : ℕ) → 0 < m → m ≤ 3 → m ≤ length text → is_sign (take m text) ≡ false) → IsStart text (BadByte 0)
 nothing_start text some mark none longest = (
-    omega arith,
-    inl (
-      refl,
-      refl,
-      some,
-      λ other front back e p.
-          let sign = sign_alone text mark none other front back e p in
-          let empty = sign_bound text 0 longest front back e sign in
-          let more = piece_some other front p in
-          omega arith,
-    ),
-  )
+  omega arith,
+  inl (
+    refl,
+    refl,
+    some,
+    λ other front back e p.
+        let sign = sign_alone text mark none other front back e p in
+        let empty = sign_bound text 0 longest front back e sign in
+        let more = piece_some other front p in
+        omega arith,
+  ),
+)
 
 -- where `*/` is held it stands at a place
 holds_at : (bytes : List ℕ) (h : Holds bytes (codes "*/")) → (length h.0 + 1 < length bytes) × (get_or bytes (length h.0) 0 ≡ 42) × (get_or bytes (length h.0 + 1) 0 ≡ 47)
 holds_at bytes h =
-    let zero_more : length h.0 ≡ length h.0 + 0 = omega arith in
-    (
+    let zero_more : length h.0 ≡ length h.0 + 0 = omega arith in (
       omega (arith, ap length h.2, length-append h.0 (codes "*/" ++ h.1)),
       ap (λ l. get_or l (length h.0) 0) h.2 ∙ ap (λ k. get_or (h.0 ++ (codes "*/" ++ h.1)) k 0) zero_more ∙ get_or-append-add h.0 (codes "*/" ++ h.1) 0 0,
       ap (λ l. get_or l (length h.0 + 1) 0) h.2 ∙ get_or-append-add h.0 (codes "*/" ++ h.1) 1 0,
@@ -226,10 +223,10 @@ not_held bytes nowhere = λ h. let at = holds_at bytes h in nowhere (length h.0)
 pub not_held_before : (bytes : List ℕ) (n : ℕ) → n ≤ length bytes → ((k : ℕ) → k < n → get_or bytes k 0 ≡ 42 → get_or bytes (k + 1) 0 ≡ 47 → ⊥) → ¬ Holds (take n bytes) (codes "*/")
 not_held_before bytes n within nowhere =
     not_held (take n bytes) (λ k lt star slash.
-        let counted = length-take-le n bytes within in
-        let here : k < n = omega arith in
-        let next : k + 1 < n = omega arith in
-        nowhere k here (sym (get_or-take n bytes k 0 here) ∙ star) (sym (get_or-take n bytes (k + 1) 0 next) ∙ slash))
+    let counted = length-take-le n bytes within in
+    let here : k < n = omega arith in
+    let next : k + 1 < n = omega arith in
+    nowhere k here (sym (get_or-take n bytes k 0 here) ∙ star) (sym (get_or-take n bytes (k + 1) 0 next) ∙ slash))
 
 -- the whole of a comment, by the place of its end
 pub block_at : (text : List ℕ) (n : ℕ) → text ≡ codes "/*" ++ drop 2 text → n + 1 < length (drop 2 text) → get_or (drop 2 text) n 0 ≡ 42 → get_or (drop 2 text) (n + 1) 0 ≡ 47 →

@@ -1,25 +1,23 @@
 -- Numbers at the front of a text.
-use Rattle.std.proofs.Common.{◌≡◌, ◌≢◌, ℕ, zero, suc, ◌+◌, ◌-◌, ◌*◌, ◌<◌, ◌≤◌, ◌^◌, min, Bool, true, false, cond, ◌||◌, List, [], ◌∷◌, ◌++◌, length, get_or, take, drop, refl, sym, ap, ◌∙◌, subst, inl, inr, ◌⊎◌, arith, codes, eqb, append_assoc, append-nil, add-zero, take-append-drop}
-use Rattle.std.specs.Prelude.{◌==◌, fold, if◌then◌else◌}
+use Rattle.std.proofs.Common.{◌≡◌, ℕ, ◌+◌, ◌*◌, ◌<◌, ◌≤◌, ◌^◌, Bool, true, false, cond, List, [], ◌∷◌, ◌++◌, length, get_or, take, drop, refl, sym, ap, ◌∙◌, subst, inl, inr, ◌⊎◌, arith, codes, append_assoc, append-nil, add-zero, take-append-drop}
+use Rattle.std.specs.Prelude.{◌==◌, if◌then◌else◌}
 use Rattle.std.specs.Char.{is_digit, digit_value, is_ascii_digit}
 use Rattle.std.specs.List.{prefix_len, AllPass}
-use Rattle.std.proofs.lemmas.Bool.{cases_lt, false≢true, ltb-true, cases_eq, eq-eqb, ne_eqb, eqb-true, eqb-false, cond-true, cond-false, cases_Bool}
+use Rattle.std.proofs.lemmas.Bool.{cases_lt, false≢true, ltb-true, cases_eq, eqb-true, eqb-false, cond-true, cond-false, cases_Bool}
 use Rattle.std.proofs.lemmas.Bool.Decides.{nat_tests}
-use Rattle.std.proofs.lemmas.List.{length-take-le, length-append, get_or_append_left, get_or-append-add, take_at, drop_at, get_or_at, get_or-take, take-take, append_cancel_left, drop_more, drop_all}
-use Rattle.std.proofs.lemmas.List.Sums.{prefix_len_stops, prefix_len-le-length, fold-append, prefix_len_is, AllPass-from_list_all}
+use Rattle.std.proofs.lemmas.List.{length-take-le, length-append, get_or_append_left, get_or-append-add, take_at, drop_at, get_or-take, take-take, drop_more, drop_all}
+use Rattle.std.proofs.lemmas.List.Sums.{prefix_len-le-length, fold-append, prefix_len_is, AllPass-from_list_all}
 use Rattle.std.proofs.Math.Nat.{mul-le-mul_left}
 use Rattle.ulam_lex.specs.declared.token.TokenKind.TheVariants.{Number}
 use Rattle.ulam_lex.specs.declared.numeral.Base.{Base}
 use Rattle.ulam_lex.specs.declared.numeral.Base.TheVariants.{Binary, Decimal, Hexadecimal}
-use Rattle.ulam_lex.specs.declared.scan.PieceKind.{PieceKind}
 use Rattle.ulam_lex.specs.declared.scan.PieceKind.TheVariants.{Token}
-use Rattle.ulam_lex.specs.declared.scan.Start.TheVariants.{Piece, BadByte, NumberTooLarge}
-use Rattle.ulam_lex.specs.declared.bytes.Class.{Class}
+use Rattle.ulam_lex.specs.declared.scan.Start.TheVariants.{Piece, BadByte}
 use Rattle.ulam_lex.specs.declared.bytes.Class.TheVariants.{White, Small, Capital, Digit, Mark}
 use Rattle.ulam_lex.specs.Bytes.{class_of}
-use Rattle.ulam_lex.specs.Pieces.{IsPiece, IsNumber, IsNumeral, AreDigits, IsCanonical, prefix_of, radix_of, suffix_of, worth_after}
-use Rattle.ulam_lex.specs.Starts.{Stands, IsStart, IsBaseAt, digit_count, body_of, digits_of, rest_of, BeginsTooLarge, LacksDigit, IsDigitless}
-use Rattle.ulam_lex.proofs.Fronts.{class_by, first_of, front_class, open_class, only_digit, run_bounds, run_passes, run_ends}
+use Rattle.ulam_lex.specs.Pieces.{IsNumber, IsNumeral, AreDigits, prefix_of, radix_of, suffix_of, worth_after}
+use Rattle.ulam_lex.specs.Starts.{IsStart, IsBaseAt, digit_count, body_of, digits_of, rest_of, BeginsTooLarge, LacksDigit, IsDigitless}
+use Rattle.ulam_lex.proofs.Fronts.{first_of, front_class, open_class, only_digit, run_bounds, run_passes}
 use Rattle.ulam_lex.proofs.Words.{run_some}
 
 grows_by : (n r : ℕ) → 0 < r → n ≤ n * r
@@ -153,13 +151,13 @@ suffix_bound : (base : Base) (text digits back : List ℕ) (unsigned : Bool) →
     length digits + length (suffix_of unsigned) ≤ digit_count base (body_of base text) + (if is_unsigned base text then 1 else 0)
 suffix_bound base text digits back false e within = omega arith
 suffix_bound base text digits back true e within = elim (cases_lt (length digits) (digit_count base (body_of base text))) [
-    | inl shorter ↦ omega arith
-    | inr all ↦
-        let whole : length digits ≡ digit_count base (body_of base text) = omega arith in
-        let behind : rest_of base text ≡ 117 ∷ back = ap (drop (digit_count base (body_of base text))) e ∙ drop_at digits (117 ∷ back) (digit_count base (body_of base text)) whole in
-        let follows : is_unsigned base text ≡ true = ap (λ l. get_or l 0 0 == 117) behind in
-        rw follows (omega arith)
-  ]
+  | inl shorter ↦ omega arith
+  | inr all ↦
+      let whole : length digits ≡ digit_count base (body_of base text) = omega arith in
+      let behind : rest_of base text ≡ 117 ∷ back = ap (drop (digit_count base (body_of base text))) e ∙ drop_at digits (117 ∷ back) (digit_count base (body_of base text)) whole in
+      let follows : is_unsigned base text ≡ true = ap (λ l. get_or l 0 0 == 117) behind in
+      rw follows (omega arith)
+]
 
 same_base : (base : Base) (text digits back : List ℕ) (unsigned : Bool) → text ≡ prefix_of base ++ (digits ++ (suffix_of unsigned ++ back)) → AreDigits base digits → Bounds base text base digits unsigned
 same_base base text digits back unsigned e d =
@@ -203,19 +201,19 @@ numeral_bound : (base : Base) (text front back : List ℕ) (value : ℕ) (unsign
     (length front ≤ number_len base text) × (value ≤ worth_after (radix_of base) 0 (digits_of base text))
 numeral_bound base text front back value unsigned b e n =
     let written : text ≡ prefix_of n.base ++ (n.digits ++ (suffix_of unsigned ++ back)) =
-            e ∙ ap (λ l. l ++ back) n.written ∙ append_assoc (prefix_of n.base) (n.digits ++ suffix_of unsigned) back ∙ ap (λ l. prefix_of n.base ++ l) (append_assoc n.digits (suffix_of unsigned) back) in
+    e ∙ ap (λ l. l ++ back) n.written ∙ append_assoc (prefix_of n.base) (n.digits ++ suffix_of unsigned) back ∙ ap (λ l. prefix_of n.base ++ l) (append_assoc n.digits (suffix_of unsigned) back) in
     let bounds = bound_by base n.base text n.digits back unsigned b written n.are_digits in
     let long : length front ≡ length (prefix_of n.base) + (length n.digits + length (suffix_of unsigned)) =
-            ap length n.written ∙ length-append (prefix_of n.base) (n.digits ++ suffix_of unsigned) ∙ ap (λ k. length (prefix_of n.base) + k) (length-append n.digits (suffix_of unsigned)) in
+    ap length n.written ∙ length-append (prefix_of n.base) (n.digits ++ suffix_of unsigned) ∙ ap (λ k. length (prefix_of n.base) + k) (length-append n.digits (suffix_of unsigned)) in
     (omega (arith, bounds.0), omega (arith, bounds.1, n.worth))
 
 -- a `u` at the front, or nothing
 suffix_splits : (rest : List ℕ) → (after : List ℕ) × (rest ≡ suffix_of (get_or rest 0 0 == 117) ++ after)
 suffix_splits [] = ([], refl)
 suffix_splits (b ∷ rest) = elim (cases_Bool (b == 117)) [
-    | inl u ↦ (rest, rw (eqb-true b 117 u) refl)
-    | inr other ↦ (b ∷ rest, rw other refl)
-  ]
+  | inl u ↦ (rest, rw (eqb-true b 117 u) refl)
+  | inr other ↦ (b ∷ rest, rw other refl)
+]
 
 suffix_counts : (unsigned : Bool) → length (suffix_of unsigned) ≡ (if unsigned then 1 else 0)
 suffix_counts true = refl
@@ -280,8 +278,7 @@ number_start base text class b some small =
     let front = prefix_of base ++ (digits_of base text ++ suffix_of (is_unsigned base text)) in
     let taken : take n text ≡ front = ap (take n) at.split ∙ take_at front at.after n at.long in
     let within : n ≤ length text = omega (arith, at.long, ap length at.split, length-append front at.after) in
-    let counted : length (take n text) ≡ n = length-take-le n text within in
-    (
+    let counted : length (take n text) ≡ n = length-take-le n text within in (
       omega arith,
       within,
       record {
@@ -304,8 +301,7 @@ number_start base text class b some small =
 -- a number that is too large stands at the front
 pub large_start : (base : Base) (text : List ℕ) → IsBaseAt base text → 0 < digit_count base (body_of base text) → 2 ^ 32 ≤ worth_after (radix_of base) 0 (digits_of base text) → BeginsTooLarge text
 large_start base text b some large =
-    let body : digits_of base text ++ rest_of base text ≡ body_of base text = take-append-drop (digit_count base (body_of base text)) (body_of base text) in
-    (
+    let body : digits_of base text ++ rest_of base text ≡ body_of base text = take-append-drop (digit_count base (body_of base text)) (body_of base text) in (
       prefix_of base ++ digits_of base text,
       rest_of base text,
       worth_after (radix_of base) 0 (digits_of base text),
@@ -325,11 +321,11 @@ large_start base text b some large =
 no_digit : (radix : ℕ) (bytes : List ℕ) → is_digit 0 radix ≡ false → prefix_len (λ d. is_digit d radix) bytes ≡ 0 → is_digit (get_or bytes 0 0) radix ≡ false
 no_digit radix [] z h = z
 no_digit radix (b ∷ bytes) z h = elim (cases_Bool (is_digit b radix)) [
-    | inl digit ↦
-        let more : prefix_len (λ d. is_digit d radix) (b ∷ bytes) ≡ 1 + prefix_len (λ d. is_digit d radix) bytes = cond-true (is_digit b radix) (1 + prefix_len (λ d. is_digit d radix) bytes) 0 digit in
-        absurd (omega arith)
-    | inr other ↦ other
-  ]
+  | inl digit ↦
+      let more : prefix_len (λ d. is_digit d radix) (b ∷ bytes) ≡ 1 + prefix_len (λ d. is_digit d radix) bytes = cond-true (is_digit b radix) (1 + prefix_len (λ d. is_digit d radix) bytes) 0 digit in
+      absurd (omega arith)
+  | inr other ↦ other
+]
 
 digit_chain : (w s c d : Bool) → cond w White (cond s Small (cond c Capital (cond d Digit Mark))) ≡ Digit → d ≡ true
 digit_chain true s c d h = cc
@@ -343,9 +339,9 @@ is_decimal b h = grind (arith, nat_tests)
 
 decimal_some : (text : List ℕ) → 0 < length text → class_of (get_or text 0 0) ≡ Digit → 0 < digit_count Decimal text
 decimal_some text some class = elim (cases_Bool (get_or text 0 0 == 48)) [
-    | inl first ↦ rw (decimal_one text first) (omega arith)
-    | inr other ↦ rw (decimal_run text other) (run_some (λ d. is_digit d 10) text some (is_decimal (get_or text 0 0) (digit_chain _ _ _ _ class)))
-  ]
+  | inl first ↦ rw (decimal_one text first) (omega arith)
+  | inr other ↦ rw (decimal_run text other) (run_some (λ d. is_digit d 10) text some (is_decimal (get_or text 0 0) (digit_chain _ _ _ _ class)))
+]
 
 bare_front : (base : Base) (text : List ℕ) → text ≡ prefix_of base ++ body_of base text → take (length (prefix_of base)) text ≡ prefix_of base
 bare_front base text e = ap (take (length (prefix_of base))) e ∙ take_at (prefix_of base) (body_of base text) (length (prefix_of base)) refl
@@ -353,14 +349,14 @@ bare_front base text e = ap (take (length (prefix_of base))) e ∙ take_at (pref
 -- a prefix without a digit stands at the front
 pub bare_start : (base : Base) (text : List ℕ) → 0 < length text → class_of (get_or text 0 0) ≡ Digit → IsBaseAt base text → digit_count base (body_of base text) ≡ 0 → IsStart text (BadByte (length (prefix_of base)))
 bare_start Binary text some class b none = (
-    omega (arith, ap length b),
-    inr (inr (sym (take-append-drop 2 text), bare_front Binary text b, no_digit 2 (drop 2 text) refl none)),
-  )
+  omega (arith, ap length b),
+  inr (inr (sym (take-append-drop 2 text), bare_front Binary text b, no_digit 2 (drop 2 text) refl none)),
+)
 bare_start Decimal text some class b none = let more = decimal_some text some class in absurd (omega arith)
 bare_start Hexadecimal text some class b none = (
-    omega (arith, ap length b),
-    inr (inl (sym (take-append-drop 2 text), bare_front Hexadecimal text b, no_digit 16 (drop 2 text) refl none)),
-  )
+  omega (arith, ap length b),
+  inr (inl (sym (take-append-drop 2 text), bare_front Hexadecimal text b, no_digit 16 (drop 2 text) refl none)),
+)
 
 -- with one more digit that makes it too large, the whole is too large
 pub large_with : (base : Base) (value i : ℕ) (digits : List ℕ) → i < length digits → worth_after (radix_of base) value (drop i digits) ≡ worth_after (radix_of base) 0 digits →
@@ -401,21 +397,21 @@ bare_is_small text bare rest (inr h) (front, back, value, unsigned, e, n, large)
 -- a numeral begins with a number of one digit
 pub digit_is_number : (d : ℕ) → is_digit d 10 ≡ true → IsNumber (d ∷ [])
 digit_is_number d h = (
-    digit_value d,
-    false,
-    record {
-      base = Decimal;
-      digits = d ∷ [];
-      are_digits = record {
-        some = omega arith;
-        each = AllPass-from_list_all (λ b. is_digit b 10) (d ∷ []) (rw h refl);
-        canonical = λ first. refl;
-      };
-      written = refl;
-      worth = omega arith;
-    },
-    (let small : digit_value d < 10 = ltb-true (digit_value d) 10 h in omega arith),
-  )
+  digit_value d,
+  false,
+  record {
+    base = Decimal;
+    digits = d ∷ [];
+    are_digits = record {
+      some = omega arith;
+      each = AllPass-from_list_all (λ b. is_digit b 10) (d ∷ []) (rw h refl);
+      canonical = λ first. refl;
+    };
+    written = refl;
+    worth = omega arith;
+  },
+  (let small : digit_value d < 10 = ltb-true (digit_value d) 10 h in omega arith),
+)
 
 pub numeral_begins : (text front back : List ℕ) (value : ℕ) (unsigned : Bool) → text ≡ front ++ back → IsNumeral front value unsigned → (d : ℕ) × (rest : List ℕ) × (text ≡ (d ∷ []) ++ rest) × IsNumber (d ∷ [])
 numeral_begins text front back value unsigned e n = elim_first text (first_digit n.base n.digits (suffix_of unsigned ++ back) n.are_digits) written
@@ -481,8 +477,7 @@ suffix_follows false = refl
 parts_are : (base : Base) (text digits : List ℕ) (unsigned : Bool) → text ≡ prefix_of base ++ (digits ++ suffix_of unsigned) → AreDigits base digits → (digits_of base text ≡ digits) × (rest_of base text ≡ suffix_of unsigned)
 parts_are base text digits unsigned e d =
     let body : body_of base text ≡ digits ++ suffix_of unsigned = ap (drop (length (prefix_of base))) e ∙ drop_at (prefix_of base) (digits ++ suffix_of unsigned) (length (prefix_of base)) refl in
-    let count : digit_count base (body_of base text) ≡ length digits = ap (digit_count base) body ∙ exact_count base digits unsigned d in
-    (
+    let count : digit_count base (body_of base text) ≡ length digits = ap (digit_count base) body ∙ exact_count base digits unsigned d in (
       ap (λ n. take n (body_of base text)) count ∙ ap (take (length digits)) body ∙ take_at digits (suffix_of unsigned) (length digits) refl,
       ap (λ n. drop n (body_of base text)) count ∙ ap (drop (length digits)) body ∙ drop_at digits (suffix_of unsigned) (length digits) refl,
     )
@@ -491,8 +486,7 @@ pub numeral_value : (base : Base) (text : List ℕ) (value : ℕ) (unsigned : Bo
 numeral_value base text value unsigned b n =
     let same : n.base ≡ base = own_base base n.base text n.digits unsigned b n.written n.are_digits in
     let written : text ≡ prefix_of base ++ (n.digits ++ suffix_of unsigned) = n.written ∙ ap (λ o. prefix_of o ++ (n.digits ++ suffix_of unsigned)) same in
-    let parts = parts_are base text n.digits unsigned written (subst (λ o. AreDigits o n.digits) same n.are_digits) in
-    (
+    let parts = parts_are base text n.digits unsigned written (subst (λ o. AreDigits o n.digits) same n.are_digits) in (
       n.worth ∙ ap (λ o. worth_after (radix_of o) 0 n.digits) same ∙ ap (worth_after (radix_of base) 0) (sym parts.0),
       sym (ap (λ l. get_or l 0 0 == 117) parts.1 ∙ suffix_follows unsigned),
     )
@@ -502,15 +496,15 @@ any_base : (text : List ℕ) → (base : Base) × IsBaseAt base text
 any_base [] = (Decimal, (λ rest e. omega (arith, ap length e), λ rest e. omega (arith, ap length e)))
 any_base (a ∷ []) = (Decimal, (λ rest e. omega (arith, ap length e), λ rest e. omega (arith, ap length e)))
 any_base (a ∷ b ∷ more) = elim (cases_eq a 48) [
-    | inr other ↦ (Decimal, (λ rest e. other (ap (λ l. get_or l 0 0) e), λ rest e. other (ap (λ l. get_or l 0 0) e)))
-    | inl zero_first ↦ elim (cases_eq b 120) [
-        | inl x ↦ (Hexadecimal, ap (λ n. n ∷ b ∷ more) zero_first ∙ ap (λ n. 48 ∷ n ∷ more) x)
-        | inr not_x ↦ elim (cases_eq b 98) [
-            | inl letter ↦ (Binary, ap (λ n. n ∷ b ∷ more) zero_first ∙ ap (λ n. 48 ∷ n ∷ more) letter)
-            | inr neither ↦ (Decimal, (λ rest e. neither (ap (λ l. get_or l 1 0) e), λ rest e. not_x (ap (λ l. get_or l 1 0) e)))
-          ]
-      ]
+  | inr other ↦ (Decimal, (λ rest e. other (ap (λ l. get_or l 0 0) e), λ rest e. other (ap (λ l. get_or l 0 0) e)))
+  | inl zero_first ↦ elim (cases_eq b 120) [
+    | inl x ↦ (Hexadecimal, ap (λ n. n ∷ b ∷ more) zero_first ∙ ap (λ n. 48 ∷ n ∷ more) x)
+    | inr not_x ↦ elim (cases_eq b 98) [
+      | inl letter ↦ (Binary, ap (λ n. n ∷ b ∷ more) zero_first ∙ ap (λ n. 48 ∷ n ∷ more) letter)
+      | inr neither ↦ (Decimal, (λ rest e. neither (ap (λ l. get_or l 1 0) e), λ rest e. not_x (ap (λ l. get_or l 1 0) e)))
+    ]
   ]
+]
 
 -- a numeral has one value
 pub one_value : (text : List ℕ) (value other : ℕ) (unsigned more : Bool) → IsNumeral text value unsigned → IsNumeral text other more → (value ≡ other) × (unsigned ≡ more)

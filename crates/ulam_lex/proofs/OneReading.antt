@@ -1,25 +1,20 @@
 -- A text has at most one list of tokens, or one first fault.
-use Rattle.std.proofs.Common.{◌≡◌, ◌≢◌, ℕ, ◌+◌, ◌<◌, ◌≤◌, ◌^◌, Bool, true, false, List, [], ◌∷◌, ◌++◌, length, get_or, take, drop, refl, sym, ap, ◌∙◌, subst, inl, inr, ◌⊎◌, arith, codes, append_assoc, append-nil, zero-add, take-append-drop, Ok, Err, Some, None, Option, Result}
-use Rattle.std.specs.Prelude.{flat_map, IfOk, IfErr, IsErrAnd, MatchResult}
-use Rattle.std.specs.Char.{is_digit, digit_value}
-use Rattle.std.proofs.lemmas.Bool.{false≢true, true≢false, leb-true}
-use Rattle.std.proofs.lemmas.List.{length-append, take_at, drop_at, append_cancel_left, get_or_append_left}
-use Rattle.feast_base.specs.declared.place.Place.{Place}
+use Rattle.std.proofs.Common.{◌≡◌, ℕ, ◌+◌, ◌<◌, ◌≤◌, true, false, List, [], ◌∷◌, ◌++◌, length, take, drop, refl, sym, ap, ◌∙◌, subst, inl, inr, ◌⊎◌, arith, append_assoc, append-nil, zero-add, Ok, Err, Result}
+use Rattle.std.specs.Prelude.{IfOk, IfErr, IsErrAnd, MatchResult}
+use Rattle.std.proofs.lemmas.Bool.{true≢false}
+use Rattle.std.proofs.lemmas.List.{length-append, take_at, drop_at}
 use Rattle.ulam_lex.specs.declared.token.TokenKind.{TokenKind}
 use Rattle.ulam_lex.specs.declared.token.TokenKind.TheVariants.{Name, TypeName, Keyword, Number, Sign, End}
 use Rattle.ulam_lex.specs.declared.token.Token.{Token}
 use Rattle.ulam_lex.specs.declared.token.LexFault.{LexFault}
 use Rattle.ulam_lex.specs.declared.token.LexFault.TheVariants.{BadByte, OpenComment, NumberTooLarge, TooManyTokens, NoMemory}
-use Rattle.ulam_lex.specs.declared.numeral.Base.{Base}
-use Rattle.ulam_lex.specs.declared.numeral.Base.TheVariants.{Binary, Decimal, Hexadecimal}
 use Rattle.ulam_lex.specs.declared.scan.PieceKind.{PieceKind}
 use Rattle.ulam_lex.specs.declared.scan.PieceKind.TheVariants as piece
-use Rattle.ulam_lex.specs.declared.bytes.Class.{Class}
 use Rattle.ulam_lex.specs.declared.bytes.Class.TheVariants.{White, Small, Capital, Digit, Mark}
-use Rattle.ulam_lex.specs.Bytes.{class_of, is_keyword, signs, is_sign}
-use Rattle.ulam_lex.specs.Pieces.{IsPiece, IsNumeral, AreDigits, prefix_of, radix_of, suffix_of, worth_after}
-use Rattle.ulam_lex.specs.Starts.{Stands, BeginsNothing, IsDigitless, LacksDigit, LeavesOpen, BeginsTooLarge, IsBaseAt, digit_count}
-use Rattle.ulam_lex.specs.Texts.{TextPiece, spelled, is_joined, ArePieces, place_after, token_list, tokens_after, end_token, IsTokensOf, most_tokens, token_count, JoinsWord, IsBadBehind, IsOneTooMany, IsFaultAt, IsFaultOf}
+use Rattle.ulam_lex.specs.Bytes.{is_keyword, signs, is_sign}
+use Rattle.ulam_lex.specs.Pieces.{IsPiece}
+use Rattle.ulam_lex.specs.Starts.{Stands, BeginsNothing, IsDigitless, LeavesOpen, BeginsTooLarge}
+use Rattle.ulam_lex.specs.Texts.{TextPiece, spelled, is_joined, ArePieces, place_after, token_list, tokens_after, end_token, IsTokensOf, most_tokens, token_count, IsBadBehind, IsOneTooMany, IsFaultAt, IsFaultOf}
 use Rattle.ulam_lex.proofs.Fronts.{class_by, piece_class, piece_some, open_class, large_class, bare_class}
 use Rattle.ulam_lex.proofs.Marks.{comment_is_no_sign}
 use Rattle.ulam_lex.proofs.Numbers.{bare_is_small, numeral_begins, digit_is_number}
@@ -214,7 +209,7 @@ kind_count kind = length (token_list kind 0 0 (place_after 0 []))
 count_cons : (p : TextPiece) (ps : List TextPiece) → token_count (p ∷ ps) ≡ kind_count p.kind + token_count ps
 count_cons p ps =
     length-append (token_list p.kind 0 (0 + length p.bytes) (place_after 0 [])) (tokens_after 0 p.bytes ps) ∙ (ap (λ n. n + length (tokens_after 0 p.bytes ps)) (list_length p.kind 0 (0 + length p.bytes) 0 0 (place_after 0 []) (place_after 0 []))
-      ∙ ap (λ n. kind_count p.kind + n) (tokens_length 0 0 p.bytes [] ps))
+    ∙ ap (λ n. kind_count p.kind + n) (tokens_length 0 0 p.bytes [] ps))
 
 -- where this is so behind so many tokens, no further piece stands, as long as there are no more than m tokens
 abbrev Excludes : ℕ → (ℕ → List ℕ → Type 0) → Type 0
@@ -316,7 +311,7 @@ pub list_or_fault : (file : ℕ) (text : List ℕ) (tokens : List Token) (fault 
 list_or_fault file text tokens fault h few (qs, rest, f, also, within, k) =
     let whole : spelled h.0 ++ [] ≡ spelled qs ++ rest = append-nil (spelled h.0) ∙ sym h.1 ∙ f in
     let same = same_split most_tokens AtEnd (AtFault file fault) (end_excludes most_tokens) (fault_excludes file fault) h.0 qs 0 [] rest whole h.2 also
-            (let own = few_tokens file text tokens h few in omega arith) (omega arith) refl (spelled qs, subst (λ n. IsFaultAt file (spelled qs) n rest fault) (sym (zero-add (token_count qs))) k) in
+    (let own = few_tokens file text tokens h few in omega arith) (omega arith) refl (spelled qs, subst (λ n. IsFaultAt file (spelled qs) n rest fault) (sym (zero-add (token_count qs))) k) in
     let some = fault_some file (spelled qs) (token_count qs) rest fault k in
     omega (arith, ap length same.1)
 
@@ -324,8 +319,8 @@ list_or_fault file text tokens fault h few (qs, rest, f, also, within, k) =
 pub one_fault_of : (file : ℕ) (text : List ℕ) (f g : LexFault) → IsFaultOf file text f → IsFaultOf file text g → f ≡ g
 one_fault_of file text f g (ps, rest, e, are, few, h) (qs, more, d, also, within, k) =
     let same = same_split most_tokens (AtFault file f) (AtFault file g) (fault_excludes file f) (fault_excludes file g) ps qs 0 rest more (sym e ∙ d) are also (omega arith) (omega arith)
-            (spelled ps, subst (λ n. IsFaultAt file (spelled ps) n rest f) (sym (zero-add (token_count ps))) h)
-            (spelled qs, subst (λ n. IsFaultAt file (spelled qs) n more g) (sym (zero-add (token_count qs))) k) in
+    (spelled ps, subst (λ n. IsFaultAt file (spelled ps) n rest f) (sym (zero-add (token_count ps))) h)
+    (spelled qs, subst (λ n. IsFaultAt file (spelled qs) n more g) (sym (zero-add (token_count qs))) k) in
     let moved : IsFaultAt file (spelled ps) (token_count ps) rest g = subst (λ l. IsFaultAt file (spelled ps) (token_count ps) l g) (sym same.1) (subst (λ l. IsFaultAt file (spelled l) (token_count l) more g) (sym same.0) k) in
     one_fault file (spelled ps) (token_count ps) rest f g h moved
 

@@ -1,6 +1,5 @@
 -- What is read, one piece after another.
 use Rattle.std.proofs.Common.{◌≡◌, ℕ, ◌+◌, ◌<◌, ◌≤◌, true, false, List, [], ◌∷◌, ◌++◌, length, take, drop, refl, sym, ap, ◌∙◌, subst, inl, inr, ◌⊎◌, arith, append_assoc, append-nil, take-append-drop, Ok, Err}
-use Rattle.std.specs.Prelude.{flat_map}
 use Rattle.std.proofs.lemmas.Bool.{false≢true}
 use Rattle.std.proofs.lemmas.List.{length-append, length-take-le, flat_map_more, take-take, drop-take, drop-drop, take_all, drop_all, length_push}
 use Rattle.feast_base.specs.declared.place.Place.{Place}
@@ -11,7 +10,7 @@ use Rattle.ulam_lex.specs.declared.token.LexFault.TheVariants.{BadByte, OpenComm
 use Rattle.ulam_lex.specs.declared.scan.PieceKind.{PieceKind}
 use Rattle.ulam_lex.specs.declared.scan.PieceKind.TheVariants as piece
 use Rattle.ulam_lex.specs.Starts.{Stands, BeginsNothing, IsDigitless}
-use Rattle.ulam_lex.specs.Texts.{TextPiece, spelled, is_joined, ArePieces, place_after, token_list, tokens_after, end_token, IsTokensOf, most_tokens, token_count, IsBadBehind, IsFaultAt, IsFaultOf}
+use Rattle.ulam_lex.specs.Texts.{TextPiece, spelled, is_joined, ArePieces, place_after, token_list, tokens_after, IsTokensOf, most_tokens, token_count, IsBadBehind, IsFaultAt, IsFaultOf}
 use Rattle.ulam_lex.specs.Steps.{IsFaultIn, IsAdded, Takes, IsRead}
 
 spelled_push : (ps : List TextPiece) (p : TextPiece) → spelled (ps ++ p ∷ []) ≡ spelled ps ++ p.bytes
@@ -21,8 +20,7 @@ spelled_push ps p = sym (flat_map_more (λ (q : TextPiece). q.bytes) [] ps p)
 pieces_push : (ps : List TextPiece) (p : TextPiece) (rest : List ℕ) → ArePieces ps (p.bytes ++ rest) → Stands p.kind (p.bytes ++ rest) p.bytes rest → is_joined p.kind rest ≡ false → ArePieces (ps ++ p ∷ []) rest
 pieces_push [] p rest are stands apart = (stands, apart, tt)
 pieces_push (q ∷ ps) p rest are stands apart =
-    let behind : spelled ps ++ (p.bytes ++ rest) ≡ spelled (ps ++ p ∷ []) ++ rest = sym (append_assoc (spelled ps) p.bytes rest) ∙ ap (λ l. l ++ rest) (sym (spelled_push ps p)) in
-    (
+    let behind : spelled ps ++ (p.bytes ++ rest) ≡ spelled (ps ++ p ∷ []) ++ rest = sym (append_assoc (spelled ps) p.bytes rest) ∙ ap (λ l. l ++ rest) (sym (spelled_push ps p)) in (
       subst (λ l. Stands q.kind (q.bytes ++ l) q.bytes l) behind are.0,
       subst (λ l. is_joined q.kind l ≡ false) behind are.1,
       pieces_push ps p rest are.2 stands apart,
@@ -35,7 +33,7 @@ tokens_push file before [] p =
 tokens_push file before (q ∷ ps) p =
     let own = token_list q.kind (length before) (length before + length q.bytes) (place_after file before) in
     ap (λ l. own ++ l) (tokens_push file (before ++ q.bytes) ps p) ∙ ap (λ l. own ++ (tokens_after file (before ++ q.bytes) ps ++ token_list p.kind (length l) (length l + length p.bytes) (place_after file l))) (append_assoc before q.bytes (spelled ps))
-      ∙ sym (append_assoc own (tokens_after file (before ++ q.bytes) ps) _)
+    ∙ sym (append_assoc own (tokens_after file (before ++ q.bytes) ps) _)
 
 -- how many tokens there are depends on nothing before them
 pub list_length : (kind : PieceKind) (first end other more : ℕ) (place elsewhere : Place) → length (token_list kind first end place) ≡ length (token_list kind other more elsewhere)
@@ -49,7 +47,7 @@ tokens_length file other before elsewhere (p ∷ ps) =
     let first = list_length p.kind (length before) (length before + length p.bytes) (length elsewhere) (length elsewhere + length p.bytes) (place_after file before) (place_after other elsewhere) in
     let more = tokens_length file other (before ++ p.bytes) (elsewhere ++ p.bytes) ps in
     length-append _ (tokens_after file (before ++ p.bytes) ps) ∙ (ap (λ n. n + length (tokens_after file (before ++ p.bytes) ps)) first ∙ ap (λ n. length (token_list p.kind (length elsewhere) (length elsewhere + length p.bytes) (place_after other elsewhere)) + n) more)
-      ∙ sym (length-append _ (tokens_after other (elsewhere ++ p.bytes) ps))
+    ∙ sym (length-append _ (tokens_after other (elsewhere ++ p.bytes) ps))
 
 -- a longer front
 take_more_of : (at n : ℕ) (text : List ℕ) → take (at + n) text ≡ take at text ++ take n (drop at text)
@@ -71,7 +69,7 @@ read_more file text at tokens place new n next r t =
     let stands : Stands t.kind (bytes ++ rest) bytes rest = subst (λ l. Stands t.kind l bytes rest) whole (subst (λ l. Stands t.kind (drop at text) bytes l) behind t.stands) in
     let apart : is_joined t.kind rest ≡ false = ap (is_joined t.kind) (sym behind) ∙ t.apart in
     let own : token_list t.kind (length (take at text)) (length (take at text) + n) (place_after file (take at text)) ≡ token_list t.kind (length (spelled r.pieces)) (length (spelled r.pieces) + length bytes) (place_after file (spelled r.pieces)) =
-            ap (λ k. token_list t.kind (length (take at text)) (length (take at text) + k) (place_after file (take at text))) (sym counted) ∙ ap (λ l. token_list t.kind (length l) (length l + length bytes) (place_after file l)) r.before in
+    ap (λ k. token_list t.kind (length (take at text)) (length (take at text) + k) (place_after file (take at text))) (sym counted) ∙ ap (λ l. token_list t.kind (length l) (length l + length bytes) (place_after file l)) r.before in
     record {
       pieces = r.pieces ++ p ∷ [];
       within = omega arith;
@@ -92,8 +90,7 @@ count_read file text at tokens place r = ap length r.listed ∙ tokens_length fi
 -- a fault stands behind what was read
 fault_of : (file : ℕ) (text : List ℕ) (at : ℕ) (tokens : List Token) (place : Place) (fault : LexFault) (r : IsRead file text at tokens place) → IsFaultAt file (take at text) (length tokens) (drop at text) fault → IsFaultOf file text fault
 fault_of file text at tokens place fault r h =
-    let count = count_read file text at tokens place r in
-    (
+    let count = count_read file text at tokens place r in (
       r.pieces,
       drop at text,
       text_split file text at tokens place r,
@@ -119,14 +116,13 @@ read_end file text at tokens new place r past e =
     let nothing : drop at text ≡ [] = drop_all at text past in
     let split : text ≡ spelled r.pieces = sym whole ∙ r.before in
     let last : place ≡ place_after file text = r.placed ∙ ap (place_after file) whole in
-    let few = r.few in
-    (
+    let few = r.few in (
       (
         r.pieces,
         split,
         subst (ArePieces r.pieces) nothing r.are_pieces,
         e ∙ ap (λ l. l ++ record { kind = End; first = at; end = at; place = place } ∷ []) r.listed
-          ∙ (ap (λ n. tokens_after file [] r.pieces ++ record { kind = End; first = n; end = n; place = place } ∷ []) end ∙ ap (λ q. tokens_after file [] r.pieces ++ record { kind = End; first = length text; end = length text; place = q } ∷ []) last),
+            ∙ (ap (λ n. tokens_after file [] r.pieces ++ record { kind = End; first = n; end = n; place = place } ∷ []) end ∙ ap (λ q. tokens_after file [] r.pieces ++ record { kind = End; first = length text; end = length text; place = q } ∷ []) last),
       ),
       omega (arith, ap length e, length_push tokens (record { kind = End; first = at; end = at; place = place })),
     )

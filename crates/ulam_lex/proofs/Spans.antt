@@ -3,8 +3,6 @@ use Rattle.std.proofs.Common.{◌≡◌, ℕ, ◌+◌, ◌-◌, ◌<◌, ◌≤�
 use Rattle.std.specs.Prelude.{slice_range, IfOk}
 use Rattle.ulam_lex.specs.declared.token.LexFault.{LexFault}
 use Rattle.std.proofs.lemmas.List.{length-append, take_at, drop_at}
-use Rattle.ulam_lex.specs.declared.token.TokenKind.{TokenKind}
-use Rattle.ulam_lex.specs.declared.token.TokenKind.TheVariants.{End}
 use Rattle.ulam_lex.specs.declared.token.Token.{Token}
 use Rattle.ulam_lex.specs.declared.scan.PieceKind.{PieceKind}
 use Rattle.ulam_lex.specs.declared.scan.PieceKind.TheVariants as piece
@@ -32,11 +30,11 @@ piece_order piece.Comment file text before bytes rest from us e p behind order =
 piece_order (piece.Token kind) file text before bytes rest from us e p behind order =
     let some = piece_some (piece.Token kind) bytes p in
     order_cons text from (record { kind = kind; first = length before; end = length before + length bytes; place = place_after file before }) us
-      (subst (IsToken kind) (sym (slice_is text before bytes rest e)) p)
-      behind
-      (omega arith)
-      (omega (arith, ap length e, length-append before (bytes ++ rest), length-append bytes rest))
-      (order (length before + length bytes) (omega arith))
+    (subst (IsToken kind) (sym (slice_is text before bytes rest e)) p)
+    behind
+    (omega arith)
+    (omega (arith, ap length e, length-append before (bytes ++ rest), length-append bytes rest))
+    (order (length before + length bytes) (omega arith))
 
 tokens_order : (file : ℕ) (text before : List ℕ) (ps : List TextPiece) (from : ℕ) → text ≡ before ++ spelled ps → ArePieces ps [] → from ≤ length before → AreInOrder text from (tokens_after file before ps ++ end_token file text ∷ [])
 tokens_order file text before [] from e are behind =
@@ -48,7 +46,7 @@ tokens_order file text before (p ∷ ps) from e are behind =
     let grouped : own ++ (tokens_after file (before ++ p.bytes) ps ++ end_token file text ∷ []) ≡ (own ++ tokens_after file (before ++ p.bytes) ps) ++ end_token file text ∷ [] = sym (append_assoc own (tokens_after file (before ++ p.bytes) ps) (end_token file text ∷ [])) in
     subst (AreInOrder text from) grouped
     (piece_order p.kind file text before p.bytes (spelled ps) from (tokens_after file (before ++ p.bytes) ps ++ end_token file text ∷ []) e are.0.piece behind
-      (λ more within. tokens_order file text (before ++ p.bytes) ps more next are.2 (omega (arith, length-append before p.bytes))))
+    (λ more within. tokens_order file text (before ++ p.bytes) ps more next are.2 (omega (arith, length-append before p.bytes))))
 
 pub in_order : (file : ℕ) (text : List ℕ) (tokens : List Token) → IsTokensOf file text tokens → AreInOrder text 0 tokens
 in_order file text tokens (ps, e, are, listed) = subst (AreInOrder text 0) (sym listed) (tokens_order file text [] ps 0 e are (omega arith))

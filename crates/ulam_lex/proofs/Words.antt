@@ -1,10 +1,10 @@
 -- White space and words at the front of a text.
-use Rattle.std.proofs.Common.{◌≡◌, ◌≢◌, ℕ, ◌+◌, ◌-◌, ◌<◌, ◌≤◌, min, Bool, true, false, cond, ◌||◌, List, [], ◌∷◌, ◌++◌, length, get_or, take, drop, refl, sym, ap, ◌∙◌, inl, inr, arith, take-append-drop}
+use Rattle.std.proofs.Common.{◌≡◌, ℕ, ◌<◌, ◌≤◌, min, Bool, true, false, cond, ◌||◌, List, ◌++◌, length, get_or, take, drop, refl, sym, ap, ◌∙◌, inl, inr, arith, take-append-drop}
 use Rattle.std.specs.Prelude.{◌==◌}
 use Rattle.std.specs.Char.{is_ascii_digit, is_ascii_uppercase, is_ascii_lowercase}
-use Rattle.std.specs.List.{prefix_len, AllPass}
+use Rattle.std.specs.List.{prefix_len}
 use Rattle.std.proofs.lemmas.Bool.{cases_lt, false≢true}
-use Rattle.std.proofs.lemmas.List.{length-take-le, length-append}
+use Rattle.std.proofs.lemmas.List.{length-take-le}
 use Rattle.std.proofs.lemmas.List.Sums.{prefix_len_stops, prefix_len-le-length}
 use Rattle.ulam_lex.specs.declared.token.TokenKind.TheVariants.{Name, TypeName, Keyword}
 use Rattle.ulam_lex.specs.declared.scan.PieceKind.{PieceKind}
@@ -28,12 +28,12 @@ white_chain false false false false h = cc
 -- the run isn't empty where its first byte passes
 pub run_some : (p : ℕ → Bool) (text : List ℕ) → 0 < length text → p (get_or text 0 0) ≡ true → 0 < prefix_len p text
 run_some p text some first = elim (cases_lt 0 (prefix_len p text)) [
-    | inl more ↦ more
-    | inr none ↦
-        let zero_long : prefix_len p text ≡ 0 = omega arith in
-        let stops = prefix_len_stops p text 0 (omega arith) in
-        absurd (false≢true (sym (rw zero_long at stops) ∙ first))
-  ]
+  | inl more ↦ more
+  | inr none ↦
+      let zero_long : prefix_len p text ≡ 0 = omega arith in
+      let stops = prefix_len_stops p text 0 (omega arith) in
+      absurd (false≢true (sym (rw zero_long at stops) ∙ first))
+]
 
 -- a piece that begins with a byte that is no digit and no mark
 plain : (kind : PieceKind) (text : List ℕ) (n : ℕ) (class : Class) → class_of (get_or text 0 0) ≡ class → (class ≡ Mark → ⊥) → (class ≡ Digit → ⊥) →
@@ -55,12 +55,11 @@ space_start text some white =
     let more : 0 < n = run_some is_white text some first in
     let within : n ≤ length text = prefix_len-le-length is_white text in
     let whole : length (take n text) ≡ n = length-take-le n text within in
-    let passes = run_passes is_white text n (omega arith) in
-    (
+    let passes = run_passes is_white text n (omega arith) in (
       more,
       within,
       plain Space text n White white (λ e. cc) (λ e. cc) (omega arith, passes)
-        (λ other longer rest e p. rw whole (run_bounds is_white text longer rest e (only_space other longer (sym (front_class other text longer rest e p) ∙ white) p).1)),
+          (λ other longer rest e p. rw whole (run_bounds is_white text longer rest e (only_space other longer (sym (front_class other text longer rest e p) ∙ white) p).1)),
     )
 
 -- the longest word
@@ -72,9 +71,9 @@ word_within text = omega (arith, prefix_len-le-length is_word_byte text)
 
 pub word_is : (text : List ℕ) → IsWord (take (word_len text) text)
 word_is text = (
-    omega (arith, length-take-le (word_len text) text (word_within text)),
-    run_passes is_word_byte text (word_len text) (omega arith),
-  )
+  omega (arith, length-take-le (word_len text) text (word_within text)),
+  run_passes is_word_byte text (word_len text) (omega arith),
+)
 
 word_bounds : (text front back : List ℕ) → text ≡ front ++ back → IsWord front → length front ≤ length (take (word_len text) text)
 word_bounds text front back e word =
@@ -121,12 +120,11 @@ front_first text n some within = first_of text (take n text) (drop n text) (sym 
 word_start : (kind : PieceKind) (text : List ℕ) (class : Class) → 0 < length text → class_of (get_or text 0 0) ≡ class → is_word_byte (get_or text 0 0) ≡ true → (class ≡ Mark → ⊥) → (class ≡ Digit → ⊥) →
     IsPiece kind (take (word_len text) text) → ((other : PieceKind) (front : List ℕ) → class_by other ≡ class → IsPiece other front → IsWord front) → IsStart text (Piece kind (word_len text))
 word_start kind text class some is goes_on not_mark not_digit piece only =
-    let more = run_some is_word_byte text some goes_on in
-    (
+    let more = run_some is_word_byte text some goes_on in (
       omega arith,
       word_within text,
       plain kind text (word_len text) class is not_mark not_digit piece
-        (λ other longer rest e p. word_bounds text longer rest e (only other longer (sym (front_class other text longer rest e p) ∙ is) p)),
+          (λ other longer rest e p. word_bounds text longer rest e (only other longer (sym (front_class other text longer rest e p) ∙ is) p)),
     )
 
 pub keyword_start : (text : List ℕ) → 0 < length text → class_of (get_or text 0 0) ≡ Small → is_keyword (take (word_len text) text) ≡ true → IsStart text (Piece (Token Keyword) (word_len text))

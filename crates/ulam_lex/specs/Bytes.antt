@@ -1,5 +1,5 @@
 -- The bytes that pieces of a text are made of.
-use Rattle.std.specs.Prelude.{ℕ, ◌==◌, Bool, ◌&&◌, ◌||◌, List, [], ◌∷◌, codes, bytes_eq, if◌then◌else◌}
+use Rattle.std.specs.Prelude.{ℕ, ◌==◌, Bool, ◌||◌, List, [], ◌∷◌, codes, bytes_eq, if◌then◌else◌}
 use Rattle.std.specs.List.{list_any}
 use Rattle.std.specs.Char.{is_ascii_digit, is_ascii_uppercase, is_ascii_lowercase, is_ascii_alphanumeric}
 use Rattle.ulam_lex.specs.declared.bytes.Class.{Class}
@@ -26,7 +26,7 @@ class_of b =
 unfoldable pub keywords : List (List ℕ)
 keywords =
     codes "element" ∷ codes "quark" ∷ codes "ulam" ∷ codes "use" ∷ codes "typedef" ∷ codes "constant" ∷ codes "if" ∷ codes "else" ∷ codes "while" ∷ codes "for"
-      ∷ codes "return" ∷ codes "break" ∷ codes "continue" ∷ codes "is" ∷ codes "as" ∷ codes "self" ∷ codes "true" ∷ codes "false" ∷ codes "instanceof" ∷ []
+    ∷ codes "return" ∷ codes "break" ∷ codes "continue" ∷ codes "is" ∷ codes "as" ∷ codes "self" ∷ codes "true" ∷ codes "false" ∷ codes "instanceof" ∷ []
 
 abbrev pub is_keyword : List ℕ → Bool
 is_keyword bytes = list_any (λ word. bytes_eq word bytes) keywords
@@ -35,9 +35,9 @@ is_keyword bytes = list_any (λ word. bytes_eq word bytes) keywords
 unfoldable pub signs : List (List ℕ)
 signs =
     codes "{" ∷ codes "}" ∷ codes "(" ∷ codes ")" ∷ codes "[" ∷ codes "]" ∷ codes ";" ∷ codes ":" ∷ codes "," ∷ codes "." ∷ codes "=" ∷ codes "==" ∷ codes "!="
-      ∷ codes "<" ∷ codes "<=" ∷ codes ">" ∷ codes ">=" ∷ codes "+" ∷ codes "-" ∷ codes "*" ∷ codes "/" ∷ codes "%" ∷ codes "&" ∷ codes "|" ∷ codes "^"
-      ∷ codes "~" ∷ codes "!" ∷ codes "&&" ∷ codes "||" ∷ codes "<<" ∷ codes ">>" ∷ codes "++" ∷ codes "--" ∷ codes "+=" ∷ codes "-=" ∷ codes "*=" ∷ codes "/="
-      ∷ codes "%=" ∷ codes "&=" ∷ codes "|=" ∷ codes "^=" ∷ codes "<<=" ∷ codes ">>=" ∷ []
+    ∷ codes "<" ∷ codes "<=" ∷ codes ">" ∷ codes ">=" ∷ codes "+" ∷ codes "-" ∷ codes "*" ∷ codes "/" ∷ codes "%" ∷ codes "&" ∷ codes "|" ∷ codes "^"
+    ∷ codes "~" ∷ codes "!" ∷ codes "&&" ∷ codes "||" ∷ codes "<<" ∷ codes ">>" ∷ codes "++" ∷ codes "--" ∷ codes "+=" ∷ codes "-=" ∷ codes "*=" ∷ codes "/="
+    ∷ codes "%=" ∷ codes "&=" ∷ codes "|=" ∷ codes "^=" ∷ codes "<<=" ∷ codes ">>=" ∷ []
 
 abbrev pub is_sign : List ℕ → Bool
 is_sign bytes = list_any (λ sign. bytes_eq sign bytes) signs

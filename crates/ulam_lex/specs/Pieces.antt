@@ -1,5 +1,5 @@
 -- The pieces that a text is made of: white space, comments and tokens.
-use Rattle.std.specs.Prelude.{◌≡◌, ◌≢◌, ◌⊎◌, ℕ, ◌+◌, ◌*◌, ◌<◌, ◌≤◌, ◌^◌, ◌==◌, Bool, true, false, not, List, [], ◌∷◌, ◌++◌, length, slice_index, fold, codes}
+use Rattle.std.specs.Prelude.{◌≡◌, ◌⊎◌, ℕ, ◌+◌, ◌*◌, ◌<◌, ◌≤◌, ◌^◌, ◌==◌, Bool, true, false, not, List, [], ◌++◌, length, slice_index, fold, codes}
 use Rattle.std.specs.List.{AllPass}
 use Rattle.std.specs.Char.{digit_value, is_digit}
 use Rattle.ulam_lex.specs.declared.bytes.Class.TheVariants.{Small, Capital}

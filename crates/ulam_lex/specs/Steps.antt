@@ -1,5 +1,5 @@
 -- What the lexer does with one piece, and what it has done up to a place.
-use Rattle.std.specs.Prelude.{◌≡◌, ℕ, ◌+◌, ◌<◌, ◌≤◌, ◌==◌, false, List, [], ◌∷◌, ◌++◌, length, take, drop, if◌then◌else◌, Result, Ok, Err}
+use Rattle.std.specs.Prelude.{◌≡◌, ℕ, ◌+◌, ◌<◌, ◌≤◌, ◌==◌, false, List, [], ◌++◌, length, take, drop, if◌then◌else◌, Result, Ok, Err}
 use Rattle.feast_base.specs.declared.place.Place.{Place}
 use Rattle.ulam_lex.specs.declared.token.TokenKind.{TokenKind}
 use Rattle.ulam_lex.specs.declared.token.Token.{Token}
@@ -8,7 +8,7 @@ use Rattle.ulam_lex.specs.declared.token.LexFault.TheVariants.{BadByte, OpenComm
 use Rattle.ulam_lex.specs.declared.scan.PieceKind.{PieceKind}
 use Rattle.ulam_lex.specs.declared.scan.PieceKind.TheVariants as piece
 use Rattle.ulam_lex.specs.Starts.{Stands}
-use Rattle.ulam_lex.specs.Texts.{TextPiece, spelled, is_joined, ArePieces, place_after, token_list, tokens_after, most_tokens, token_count, IsFaultAt}
+use Rattle.ulam_lex.specs.Texts.{TextPiece, spelled, is_joined, ArePieces, place_after, token_list, tokens_after, most_tokens, IsFaultAt}
 
 -- the place behind one more byte
 abbrev pub next_place : Place → ℕ → Place

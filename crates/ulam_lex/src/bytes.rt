@@ -58,8 +58,25 @@ fn is_among(words: &[&str], text: &[u8]) -> bool
 
 /// The words that are no names.
 const KEYWORDS: [&str; 19] = [
-    "element", "quark", "ulam", "use", "typedef", "constant", "if", "else", "while", "for",
-    "return", "break", "continue", "is", "as", "self", "true", "false", "instanceof",
+    "element",
+    "quark",
+    "ulam",
+    "use",
+    "typedef",
+    "constant",
+    "if",
+    "else",
+    "while",
+    "for",
+    "return",
+    "break",
+    "continue",
+    "is",
+    "as",
+    "self",
+    "true",
+    "false",
+    "instanceof",
 ];
 
 /// Whether a word is a keyword.

@@ -7,12 +7,11 @@ ghost use Rattle.ulam_lex.specs.declared.token.Token.{Token};
 ghost use Rattle.ulam_lex.specs.declared.token.LexFault.{LexFault};
 ghost use Rattle.ulam_lex.specs.Steps.{next_place, IsAdded, IsStep, IsRead};
 
-use feast_base::Place;
-use std::alloc::Global;
-
 use crate::bytes::is_word_byte;
 use crate::scan::{PieceKind, Start, start_of};
 use crate::token::{LexFault, Token, TokenKind};
+use feast_base::Place;
+use std::alloc::Global;
 
 impl PieceKind {
     /// Whether no letter, digit or `_` may follow.
@@ -43,9 +42,17 @@ fn next_place(place: Place, byte: u8) -> Place
     ensures { result ≡ next_place place byte }
 {
     if byte == b'\n' {
-        Place { file: place.file, line: place.line + 1, column: 1 }
+        Place {
+            file: place.file,
+            line: place.line + 1,
+            column: 1,
+        }
     } else {
-        Place { file: place.file, line: place.line, column: place.column + 1 }
+        Place {
+            file: place.file,
+            line: place.line,
+            column: place.column + 1,
+        }
     }
 }
 
@@ -82,7 +89,12 @@ fn add(
     if tokens.len() >= MOST_TOKENS {
         return Err(LexFault::TooManyTokens(place));
     }
-    match tokens.push(Token { kind, first, end, place }) {
+    match tokens.push(Token {
+        kind,
+        first,
+        end,
+        place,
+    }) {
         Ok(()) => Ok(()),
         Err(_) => Err(LexFault::NoMemory),
     }
@@ -149,14 +161,23 @@ fn read(alloc: Global, bytes: &[u8], file: u32) -> Result<Vec<Token>, LexFault>
 {
     let mut tokens = Vec::new(alloc);
     let mut at = 0;
-    let mut place = Place { file, line: 1, column: 1 };
+    let mut place = Place {
+        file,
+        line: 1,
+        column: 1,
+    };
     while at < bytes.len() {
         let (len, next) = step(bytes, at, place, &mut tokens)?;
         at += len;
         place = next;
     }
     let end = at as u32;
-    match tokens.push(Token { kind: TokenKind::End, first: end, end, place }) {
+    match tokens.push(Token {
+        kind: TokenKind::End,
+        first: end,
+        end,
+        place,
+    }) {
         Ok(()) => Ok(tokens),
         Err(_) => Err(LexFault::NoMemory),
     }
@@ -195,5 +216,4 @@ pub fn one_reading()
     ensures either { (file : ℕ) (text : List ℕ) (tokens : List Token) (fault : LexFault) → IsTokensOf file text tokens → length tokens ≤ most_tokens + 1 → IsFaultOf file text fault → ⊥ }
     ensures fault { (file : ℕ) (text : List ℕ) (a b : LexFault) → IsFaultOf file text a → IsFaultOf file text b → a ≡ b }
     ensures value { (text : List ℕ) (a b : ℕ) (u v : Bool) → IsNumeral text a u → IsNumeral text b v → (a ≡ b) × (u ≡ v) }
-{
-}
+{}

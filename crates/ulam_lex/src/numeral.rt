@@ -55,7 +55,10 @@ fn digit_run(radix: u32, bytes: &[u8]) -> usize
     requires high { radix ≤ 36 }
     ensures { result ≡ prefix_len (λ d. is_digit d radix) bytes.now }
 {
-    bytes.iter().take_while(|byte| (**byte as char).is_digit(radix)).count()
+    bytes
+        .iter()
+        .take_while(|byte| (**byte as char).is_digit(radix))
+        .count()
 }
 
 /// How many digits of a base stand at the front. A decimal has nothing behind a 0 at its front.

@@ -1,7 +1,7 @@
-use Rattle.std.proofs.Common.{◌≡◌, ◌⊎◌, ℕ, length, take, drop, sym, ap, ◌∙◌, subst}
+use Rattle.std.proofs.Common.{◌≡◌, length, take, drop, ap, subst}
 use Rattle.std.proofs.lemmas.Result.{err_from_is_err_and}
 use Rattle.feast_base.specs.declared.place.Place.{Place}
-use Rattle.ulam_lex.specs.Steps.{IsStep, Takes, IsFaultIn}
+use Rattle.ulam_lex.specs.Steps.{Takes, IsFaultIn}
 use Rattle.ulam_lex.proofs.Progress.{read_more, read_fault}
 use Rattle.ulam_lex.proofs.lexer.read.Goals as goal
 

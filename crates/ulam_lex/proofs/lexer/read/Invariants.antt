@@ -1,4 +1,4 @@
-use Rattle.std.proofs.Common.{◌≡◌, ◌-◌, length}
+use Rattle.std.proofs.Common.{◌-◌, length}
 use Rattle.ulam_lex.specs.Steps.{IsRead}
 use Rattle.ulam_lex.proofs.lexer.read.Given as goal
 

@@ -1,4 +1,4 @@
-use Rattle.std.proofs.Common.{◌≡◌, ◌+◌, ◌<◌, ◌≤◌, ◌^◌, ◌++◌, ℕ, List, length, take, drop, sym, ap, ◌∙◌, subst, inl, inr, ⊎_elim, arith}
+use Rattle.std.proofs.Common.{length, take, drop, ap, ◌∙◌, arith}
 use Rattle.std.specs.Prelude.{fold}
 use Rattle.std.proofs.lemmas.List.{length-take-le, length-drop}
 use Rattle.ulam_lex.specs.Steps.{next_place}
@@ -25,8 +25,7 @@ returns-in-BadByte c =
     let rest = drop c.args.at c.args.bytes.now in
     let start = rw c.split_at.ensures.back at c.in-BadByte.ensures in
     let front = c.split_at-in-BadByte.ensures.front ∙ ap (take c.in-BadByte.behind) c.split_at.ensures.back in
-    let passed = c.passed.ensures ∙ ap (fold next_place c.args.place) front in
-    (
+    let passed = c.passed.ensures ∙ ap (fold next_place c.args.place) front in (
       take c.in-BadByte.behind rest,
       drop c.in-BadByte.behind rest,
       start_fault (length c.args.tokens.now.items) rest (take c.in-BadByte.behind rest) (drop c.in-BadByte.behind rest) start.1,

@@ -1,11 +1,10 @@
-use Rattle.std.proofs.Common.{◌≡◌, ◌+◌, ◌<◌, ◌≤◌, ◌^◌, ◌++◌, ℕ, List, length, take, drop, sym, ap, ◌∙◌, subst, arith, true, false}
+use Rattle.std.proofs.Common.{◌≡◌, ◌+◌, ℕ, List, length, take, drop, sym, ap, ◌∙◌, arith, true, false}
 use Rattle.std.specs.Prelude.{fold}
 use Rattle.std.proofs.lemmas.List.{length-take-le, length-drop}
 use Rattle.std.proofs.lemmas.Result.{err_from_is_err_and}
-use Rattle.feast_base.specs.declared.place.Place.{Place}
 use Rattle.ulam_lex.specs.Texts.{is_joined}
 use Rattle.ulam_lex.specs.Steps.{next_place}
-use Rattle.ulam_lex.proofs.Places.{place_column, place_line, passed_is}
+use Rattle.ulam_lex.proofs.Places.{place_column, passed_is}
 use Rattle.ulam_lex.proofs.Progress.{added_fault, joined_fault, piece_taken}
 use Rattle.ulam_lex.proofs.lexer.take_piece.Goals as goal
 
@@ -41,8 +40,7 @@ returns-then-is_joined c =
     let piece = piece_at c.args.bytes.now c.split_at.result.1.now c.split_at-2.result.0.now c.args.at c.args.len c.split_at.ensures.back c.split_at-2.ensures.front in
     let back = back_at c.args.bytes.now c.split_at.result.1.now c.split_at-2.result.1.now c.args.at c.args.len c.split_at.ensures.back c.split_at-2.ensures.back in
     let joined : is_joined c.args.kind (drop c.args.len rest) ≡ true = ap (is_joined c.args.kind) (sym back) ∙ sym c.is_joined.ensures ∙ c.if-is_joined.true in
-    let passed = c.passed-next.ensures ∙ ap (fold next_place c.args.place) piece in
-    (
+    let passed = c.passed-next.ensures ∙ ap (fold next_place c.args.place) piece in (
       take c.args.len rest,
       drop c.args.len rest,
       joined_fault before rest c.args.kind c.args.len c.args.at (c.args.at + c.args.len) c.args.place c.args.tokens.now.items c.add.new.tokens.items c.requires.stands c.in_ok-add.ensures joined,
@@ -60,11 +58,11 @@ returns c =
     let counted : length before ≡ c.args.at = length-take-le c.args.at c.args.bytes.now (omega arith) in
     let left = length-drop c.args.at c.args.bytes.now in
     piece_taken c.args.place.file before rest c.args.kind c.args.len c.args.at c.args.place c.passed-next.result c.args.tokens.now.items c.add.new.tokens.items
-      c.requires.some
-      (omega arith)
-      (sym counted)
-      c.requires.placed
-      c.requires.stands
-      c.in_ok-add.ensures
-      apart
-      (passed_is c.args.place c.passed-next.result c.args.place.file before (take c.args.len rest) c.requires.placed passed)
+    c.requires.some
+    (omega arith)
+    (sym counted)
+    c.requires.placed
+    c.requires.stands
+    c.in_ok-add.ensures
+    apart
+    (passed_is c.args.place c.passed-next.result c.args.place.file before (take c.args.len rest) c.requires.placed passed)

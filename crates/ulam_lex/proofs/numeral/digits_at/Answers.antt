@@ -1,5 +1,5 @@
 use Rattle.std.proofs.Common.{ap, ◌∙◌, drop}
-use Rattle.ulam_lex.specs.Starts.{digit_count, body_of}
+use Rattle.ulam_lex.specs.Starts.{body_of}
 use Rattle.ulam_lex.proofs.Numbers.{count_within}
 use Rattle.ulam_lex.proofs.numeral.digits_at.Goals as goal
 

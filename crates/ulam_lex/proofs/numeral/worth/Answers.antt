@@ -1,4 +1,3 @@
-use Rattle.std.proofs.Common.{◌≡◌, ◌<◌, ◌≤◌, ◌+◌, ◌*◌, ◌^◌}
 use Rattle.ulam_lex.proofs.Numbers.{large_with}
 use Rattle.ulam_lex.proofs.numeral.worth.Goals as goal
 

@@ -1,4 +1,4 @@
-use Rattle.std.proofs.Common.{◌≡◌, drop, length, ap, refl}
+use Rattle.std.proofs.Common.{drop}
 use Rattle.ulam_lex.proofs.Marks.{not_held, block_at}
 use Rattle.ulam_lex.proofs.scan.block_comment.Goals as goal
 

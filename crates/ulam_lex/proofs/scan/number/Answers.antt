@@ -1,8 +1,8 @@
-use Rattle.std.proofs.Common.{◌≡◌, ◌<◌, ◌≤◌, ◌+◌, ◌^◌, length, take, get_or, sym, ap, ◌∙◌, arith}
+use Rattle.std.proofs.Common.{◌≡◌, ◌<◌, ◌^◌, length, get_or, sym, ap, ◌∙◌, arith}
 use Rattle.std.specs.Prelude.{◌==◌, if◌then◌else◌}
 use Rattle.std.proofs.lemmas.Bool.{eqb-true, eqb-false}
 use Rattle.ulam_lex.specs.Pieces.{radix_of, worth_after}
-use Rattle.ulam_lex.specs.Starts.{digit_count, body_of, digits_of, rest_of}
+use Rattle.ulam_lex.specs.Starts.{digit_count, body_of, digits_of}
 use Rattle.ulam_lex.proofs.Numbers.{digits_length, number_start, large_start, bare_start}
 use Rattle.ulam_lex.proofs.scan.number.Goals as goal
 

@@ -1,4 +1,4 @@
-use Rattle.std.proofs.Common.{◌≡◌, ◌<◌, ℕ, sym, arith, subst}
+use Rattle.std.proofs.Common.{◌≡◌, ◌<◌, arith}
 use Rattle.ulam_lex.proofs.Marks.{sign_start, nothing_start}
 use Rattle.ulam_lex.proofs.scan.sign.Goals as goal
 
