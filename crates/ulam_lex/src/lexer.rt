@@ -35,6 +35,9 @@ fn is_joined(kind: PieceKind, back: &[u8]) -> bool
     }
 }
 
+/// The column of the first byte of a line.
+const FIRST_COLUMN: u32 = 1;
+
 /// The place behind one more byte.
 fn next_place(place: Place, byte: u8) -> Place
     requires line { place.line + 1 < 2 ^ 32 }
@@ -45,7 +48,7 @@ fn next_place(place: Place, byte: u8) -> Place
         Place {
             file: place.file,
             line: place.line + 1,
-            column: 1,
+            column: FIRST_COLUMN,
         }
     } else {
         Place {
@@ -164,7 +167,7 @@ fn read(alloc: Global, bytes: &[u8], file: u32) -> Result<Vec<Token>, LexFault>
     let mut place = Place {
         file,
         line: 1,
-        column: 1,
+        column: FIRST_COLUMN,
     };
     while at < bytes.len() {
         let (len, next) = step(bytes, at, place, &mut tokens)?;
