@@ -315,6 +315,26 @@ list_or_fault file text tokens fault h few (qs, rest, f, also, within, k) =
     let some = fault_some file (spelled qs) (token_count qs) rest fault k in
     omega (arith, ap length same.1)
 
+-- a fault in the rest, whatever number of tokens stands before it
+abbrev AtBreak : ℕ → List ℕ → LexFault → ℕ → List ℕ → Type 0
+AtBreak file before fault count rest = IsFaultAt file before 0 rest fault
+
+break_excludes : (m file : ℕ) (before : List ℕ) (fault : LexFault) → Excludes m (AtBreak file before fault)
+break_excludes m file before (BadByte p) count rest kind front back h s apart few = bad_excludes 0 rest h.0 h.1 kind front back h.2 s apart
+break_excludes m file before (OpenComment p) count rest kind front back h s apart few = s.closed h.0
+break_excludes m file before (NumberTooLarge p) count rest kind front back h s apart few = s.small h.0
+break_excludes m file before (TooManyTokens p) count rest kind front back h s apart few = let full = h.0.0 in omega arith
+break_excludes m file before NoMemory count rest kind front back h s apart few = h
+
+-- a text with such a fault somewhere has no list, of any length
+pub no_list : (file : ℕ) (pieces : List TextPiece) (rest : List ℕ) (fault : LexFault) (tokens : List Token) → ArePieces pieces rest → IsFaultAt file (spelled pieces) 0 rest fault → IsTokensOf file (spelled pieces ++ rest) tokens → ⊥
+no_list file pieces rest fault tokens are k (ps, e, also, listed) =
+    let m = token_count ps + token_count pieces in
+    let whole : spelled ps ++ [] ≡ spelled pieces ++ rest = append-nil (spelled ps) ∙ sym e in
+    let same = same_split m AtEnd (AtBreak file (spelled pieces) fault) (end_excludes m) (break_excludes m file (spelled pieces) fault) ps pieces 0 [] rest whole also are (omega arith) (omega arith) refl k in
+    let some = fault_some file (spelled pieces) 0 rest fault k in
+    omega (arith, ap length same.1)
+
 -- a text has one first fault
 pub one_fault_of : (file : ℕ) (text : List ℕ) (f g : LexFault) → IsFaultOf file text f → IsFaultOf file text g → f ≡ g
 one_fault_of file text f g (ps, rest, e, are, few, h) (qs, more, d, also, within, k) =

@@ -97,11 +97,6 @@ token_count pieces = length (tokens_after 0 [] pieces)
 abbrev pub IsFaultOf : ℕ → List ℕ → LexFault → Type 0
 IsFaultOf file text fault = (pieces : List TextPiece) × (rest : List ℕ) × (text ≡ spelled pieces ++ rest) × ArePieces pieces rest × (token_count pieces ≤ most_tokens) × IsFaultAt file (spelled pieces) (token_count pieces) rest fault
 
--- what a text means: its list of tokens, if they are no more than it may have, or its first fault
-abbrev pub IsReading : ℕ → List ℕ → Result (List Token) LexFault → Type 0
-IsReading file text (Ok tokens) = IsTokensOf file text tokens × (length tokens ≤ most_tokens + 1)
-IsReading file text (Err fault) = IsFaultOf file text fault
-
 -- each token stands behind the one before it and is one of its kind, and the last stands at the end of the text and is its only `End`
 abbrev pub AreInOrder : List ℕ → ℕ → List Token → Type 0
 AreInOrder text from [] = ⊥
