@@ -1,5 +1,5 @@
 -- Which list of tokens a text has, and where and why it has none.
-use Rattle.std.specs.Prelude.{◌≡◌, ◌⊎◌, ℕ, ◌+◌, ◌<◌, ◌≤◌, ◌==◌, Bool, true, false, ◌&&◌, List, [], ◌∷◌, ◌++◌, length, slice_index, slice_range, flat_map, count_by, Result, Ok, Err}
+use Rattle.std.specs.Prelude.{◌≡◌, ◌⊎◌, ℕ, ◌+◌, ◌<◌, ◌≤◌, ◌==◌, Bool, true, false, ◌&&◌, List, [], ◌∷◌, ◌++◌, length, slice_index, slice_range, flat_map, count_by}
 use Rattle.std.specs.List.{suffix_len}
 use Rattle.feast_base.specs.declared.place.Place.{Place}
 use Rattle.ulam_lex.specs.declared.token.TokenKind.{TokenKind}
