@@ -1,0 +1,7 @@
+use Rattle.std.proofs.Common.{arith}
+use Rattle.std.proofs.lemmas.List.Sums.{prefix_len-le-length}
+use Rattle.ulam_lex.specs.Bytes.{is_word_byte}
+use Rattle.ulam_lex.proofs.scan.word_len.Goals as goal
+
+pub returns-clause-within : goal.returns-clause-within
+returns-clause-within c = omega (arith, c.word_run.ensures, prefix_len-le-length is_word_byte c.args.bytes.now)

@@ -1,0 +1,5 @@
+pub mod Bytes
+pub mod Pieces
+pub mod Starts
+pub mod Texts
+pub mod Steps

@@ -1,0 +1,104 @@
+-- Which list of tokens a text has, and where and why it has none.
+use Rattle.std.specs.Prelude.{◌≡◌, ◌⊎◌, ℕ, ◌+◌, ◌<◌, ◌≤◌, ◌==◌, Bool, true, false, ◌&&◌, List, [], ◌∷◌, ◌++◌, length, slice_index, slice_range, flat_map, count_by}
+use Rattle.std.specs.List.{suffix_len}
+use Rattle.feast_base.specs.declared.place.Place.{Place}
+use Rattle.ulam_lex.specs.declared.token.TokenKind.{TokenKind}
+use Rattle.ulam_lex.specs.declared.token.TokenKind.TheVariants.{Name, TypeName, Keyword, Number, Sign, End}
+use Rattle.ulam_lex.specs.declared.token.Token.{Token}
+use Rattle.ulam_lex.specs.declared.token.LexFault.{LexFault}
+use Rattle.ulam_lex.specs.declared.token.LexFault.TheVariants.{BadByte, OpenComment, NumberTooLarge, TooManyTokens, NoMemory}
+use Rattle.ulam_lex.specs.declared.scan.PieceKind.{PieceKind}
+use Rattle.ulam_lex.specs.declared.scan.PieceKind.TheVariants as piece
+use Rattle.ulam_lex.specs.Bytes.{is_word_byte}
+use Rattle.ulam_lex.specs.Pieces.{is_in_line, IsToken}
+use Rattle.ulam_lex.specs.Starts.{Stands, BeginsNothing, IsDigitless, LeavesOpen, BeginsTooLarge}
+
+-- a piece of a text
+pub record TextPiece : Type 0 where
+  pub kind : PieceKind
+  pub bytes : List ℕ
+
+-- the bytes of pieces, one after another
+abbrev pub spelled : List TextPiece → List ℕ
+spelled pieces = flat_map (λ (p : TextPiece). p.bytes) pieces
+
+-- the kinds that no letter, digit or `_` may follow
+abbrev pub is_word_kind : PieceKind → Bool
+is_word_kind piece.Space = false
+is_word_kind piece.Comment = false
+is_word_kind (piece.Token Name) = true
+is_word_kind (piece.Token TypeName) = true
+is_word_kind (piece.Token Keyword) = true
+is_word_kind (piece.Token Number) = true
+is_word_kind (piece.Token Sign) = false
+is_word_kind (piece.Token End) = false
+
+-- a letter, a digit or `_` stands straight behind a word or a number
+abbrev pub is_joined : PieceKind → List ℕ → Bool
+is_joined kind back = is_word_kind kind && is_word_byte (slice_index back 0)
+
+-- these pieces stand one after another, and then the rest
+abbrev pub ArePieces : List TextPiece → List ℕ → Type 0
+ArePieces [] rest = Unit {0}
+ArePieces (p ∷ ps) rest = Stands p.kind (p.bytes ++ (spelled ps ++ rest)) p.bytes (spelled ps ++ rest) × (is_joined p.kind (spelled ps ++ rest) ≡ false) × ArePieces ps rest
+
+-- the place behind some bytes of a file: 1 line more than LFs, and 1 column more than bytes since the last LF
+abbrev pub place_after : ℕ → List ℕ → Place
+place_after file before = record { file = file; line = 1 + count_by (λ b. b == 10) before; column = 1 + suffix_len is_in_line before }
+
+-- the token of a piece, if it is one
+abbrev pub token_list : PieceKind → ℕ → ℕ → Place → List Token
+token_list piece.Space first end place = []
+token_list piece.Comment first end place = []
+token_list (piece.Token kind) first end place = record { kind = kind; first = first; end = end; place = place } ∷ []
+
+-- the tokens of pieces that stand behind some bytes
+abbrev pub tokens_after : ℕ → List ℕ → List TextPiece → List Token
+tokens_after file before [] = []
+tokens_after file before (p ∷ ps) = token_list p.kind (length before) (length before + length p.bytes) (place_after file before) ++ tokens_after file (before ++ p.bytes) ps
+
+-- the token at the end of a text
+abbrev pub end_token : ℕ → List ℕ → Token
+end_token file text = record { kind = End; first = length text; end = length text; place = place_after file text }
+
+-- the text has this list of tokens: it is a list of pieces, and these are those of them that are tokens, and `End`
+abbrev pub IsTokensOf : ℕ → List ℕ → List Token → Type 0
+IsTokensOf file text tokens = (pieces : List TextPiece) × (text ≡ spelled pieces) × ArePieces pieces [] × (tokens ≡ tokens_after file [] pieces ++ end_token file text ∷ [])
+
+-- how many tokens a text may have, without `End`
+abbrev pub most_tokens : ℕ
+most_tokens = 200000
+
+-- the word or number at the front is followed straight by a letter, a digit or `_`, and it is no token too many
+abbrev pub JoinsWord : ℕ → List ℕ → List ℕ → List ℕ → Type 0
+JoinsWord count text front back = (kind : PieceKind) × Stands kind text front back × (is_joined kind back ≡ true) × (count < most_tokens)
+
+-- behind the front stands a byte that can't stand there
+abbrev pub IsBadBehind : ℕ → List ℕ → List ℕ → List ℕ → Type 0
+IsBadBehind count text front back = BeginsNothing text front back ⊎ (IsDigitless text front back ⊎ JoinsWord count text front back)
+
+-- one token more than a text may have stands at the front
+abbrev pub IsOneTooMany : ℕ → List ℕ → Type 0
+IsOneTooMany count text = (count ≡ most_tokens) × (kind : TokenKind) × (front : List ℕ) × (back : List ℕ) × Stands (piece.Token kind) text front back
+
+-- behind some bytes with so many tokens, this fault stands in the rest
+abbrev pub IsFaultAt : ℕ → List ℕ → ℕ → List ℕ → LexFault → Type 0
+IsFaultAt file before count rest (BadByte place) = (front : List ℕ) × (back : List ℕ) × IsBadBehind count rest front back × (place ≡ place_after file (before ++ front))
+IsFaultAt file before count rest (OpenComment place) = LeavesOpen rest × (place ≡ place_after file before)
+IsFaultAt file before count rest (NumberTooLarge place) = BeginsTooLarge rest × (place ≡ place_after file before)
+IsFaultAt file before count rest (TooManyTokens place) = IsOneTooMany count rest × (place ≡ place_after file before)
+IsFaultAt file before count rest NoMemory = ⊥
+
+-- how many tokens are among pieces
+abbrev pub token_count : List TextPiece → ℕ
+token_count pieces = length (tokens_after 0 [] pieces)
+
+-- the first fault of a text: pieces with no more tokens than it may have stand before it
+abbrev pub IsFaultOf : ℕ → List ℕ → LexFault → Type 0
+IsFaultOf file text fault = (pieces : List TextPiece) × (rest : List ℕ) × (text ≡ spelled pieces ++ rest) × ArePieces pieces rest × (token_count pieces ≤ most_tokens) × IsFaultAt file (spelled pieces) (token_count pieces) rest fault
+
+-- each token stands behind the one before it and is one of its kind, and the last stands at the end of the text and is its only `End`
+abbrev pub AreInOrder : List ℕ → ℕ → List Token → Type 0
+AreInOrder text from [] = ⊥
+AreInOrder text from (t ∷ []) = (t.kind ≡ End) × (from ≤ t.first) × (t.first ≡ length text) × (t.end ≡ length text)
+AreInOrder text from (t ∷ u ∷ ts) = IsToken t.kind (slice_range text t.first t.end) × (from ≤ t.first) × (t.first < t.end) × (t.end ≤ length text) × AreInOrder text t.end (u ∷ ts)

@@ -1,0 +1,15 @@
+//! The tokens of a text.
+#![tactic(auto)]
+
+mod bytes;
+mod lexer;
+mod numeral;
+mod scan;
+mod token;
+
+pub use lexer::{lex, one_reading};
+pub use numeral::{Numeral, numeral_of};
+pub use token::{LexFault, Token, TokenKind};
+
+#[cfg(test)]
+mod tests;

@@ -1,0 +1,53 @@
+//! Tokens, and why a text has none.
+use feast_base::Place;
+use thiserror::Error;
+
+/// What a token is.
+#[derive(Clone, Copy, Debug, PartialEq, Eq)]
+pub enum TokenKind {
+    /// A word that begins with a lower-case letter or `_` and is no keyword.
+    Name,
+    /// A word that begins with an upper-case letter.
+    TypeName,
+    /// A word of the language.
+    Keyword,
+    /// A number below 2^32, with or without a `u` at its end.
+    Number,
+    /// An operator, a bracket or a mark between.
+    Sign,
+    /// The end of the text.
+    End,
+}
+
+/// A token of a text. Its bytes are those from `first` to before `end`.
+#[derive(Clone, Copy, Debug, PartialEq, Eq)]
+pub struct Token {
+    /// What it is.
+    pub kind: TokenKind,
+    /// The index of its first byte in the text.
+    pub first: u32,
+    /// The index of the byte after its last.
+    pub end: u32,
+    /// Where its first byte stands.
+    pub place: Place,
+}
+
+/// Why a text has no list of tokens.
+#[derive(Clone, Copy, Debug, PartialEq, Eq, Error)]
+pub enum LexFault {
+    /// A byte that can't stand where it stands.
+    #[error("bad byte")]
+    BadByte(Place),
+    /// A comment, by its first byte, that is not closed.
+    #[error("comment is not closed")]
+    OpenComment(Place),
+    /// A number, by its first byte, that is 2^32 or more.
+    #[error("number too large")]
+    NumberTooLarge(Place),
+    /// The first token past the limit of 200,000.
+    #[error("too many tokens")]
+    TooManyTokens(Place),
+    /// The memory that the list takes could not be had.
+    #[error("out of memory")]
+    NoMemory,
+}
