@@ -28,7 +28,7 @@ pub record HasOwners (m : MapValue) : Type 0 where
   -- the owner of a centre holds the window
   pub window : (c s : Site) → is_live m c ≡ true → in_window m c s ≡ true → is_held m (owner_of m c) s ≡ true
 
--- the 41 sites of a window are its live sites
+-- the live sites of a window are those that its numbers from 0 to 40 name
 pub record HasWindows (m : MapValue) : Type 0 where
   pub number : (c s : Site) → in_window m c s ≡ true → (n : ℕ) × (n ≤ 40) × (window_site m c n ≡ Some s)
   pub site : (c s : Site) (n : ℕ) → n ≤ 40 → window_site m c n ≡ Some s → in_window m c s ≡ true

@@ -36,6 +36,7 @@ fn register(map: &Map, edge: u32, x: u32, y: u32) -> Option<u32> {
 #[test]
 fn four_small_tiles_have_six_edges(rt: HostRuntime) -> Result<(), NoMemory> {
     let map = Map::new(rt.alloc(), 2, 2, 8, 8)?;
+    map.laws();
     assert_eq!(rt; (map.tiles(), map.edges()), (4, 6));
     let edges = [
         (0, 1, 96, 193),
