@@ -43,5 +43,5 @@ pub handed : (op : ℤ → ℤ → ℤ) (how : Arith) (t : NumType) (a b r : ℤ
     t ≡ type_of how → r ≡ clamp t (passed (op (passed a) (passed b))) → passed r ≡ saturated how (op a b)
 handed op how t a b r fa fb fo fr kind e =
     let x : passed (op (passed a) (passed b)) ≡ op a b =
-        ap (λ z. passed (op z (passed b))) (to_z-of_z w128 a fa) ∙ ap (λ z. passed (op a z)) (to_z-of_z w128 b fb) ∙ to_z-of_z w128 (op a b) fo in
+    ap (λ z. passed (op z (passed b))) (to_z-of_z w128 a fa) ∙ ap (λ z. passed (op a z)) (to_z-of_z w128 b fb) ∙ to_z-of_z w128 (op a b) fo in
     to_z-of_z w128 r fr ∙ e ∙ ap (λ z. clamp t z) x ∙ ap (λ u. clamp u (op a b)) kind

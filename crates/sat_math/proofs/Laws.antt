@@ -9,7 +9,7 @@ use Rattle.std.proofs.lemmas.Int.{ints, clamps}
 use Rattle.sat_math.specs.declared.Kind.{Kind}
 use Rattle.sat_math.specs.declared.Kind.TheVariants.{Int, Unsigned, Bits, Bool, Unary}
 use Rattle.sat_math.specs.declared.NumType.{NumType}
-use Rattle.sat_math.specs.Numbers.{IsNumType, IsInRange, range, least, greatest, clamp, modulo, truth, cast, cast_at, bits, value, bits_at, value_at}
+use Rattle.sat_math.specs.Numbers.{IsNumType, IsInRange, IsKeptAs, range, least, greatest, clamp, modulo, truth, cast, cast_at, bits, value, bits_at, value_at}
 
 -- a whole number modulo m is below m
 pub modulo-below : (v : ℤ) (m : ℕ) → 0 < m → modulo v m < m
@@ -115,6 +115,16 @@ plain-bits t v (inr (inr (inr e))) = ap (λ k. bits_at k t.width v) e
 -- the bits of a number of the range stand for it
 pub value-bits : (t : NumType) (v : ℤ) → IsNumType t → IsInRange t v → value t (bits t v) ≡ v
 value-bits t v h r = value-bits_at t.kind t.width v h r
+
+-- where no bit is a sign, bits stand for themselves
+pub plain-value : (t : NumType) (b : ℕ) → (t.kind ≡ Unsigned) ⊎ ((t.kind ≡ Bits) ⊎ (t.kind ≡ Bool)) → value t b ≡ pos b
+plain-value t b (inl e) = ap (λ k. value_at k t.width b) e
+plain-value t b (inr (inl e)) = ap (λ k. value_at k t.width b) e
+plain-value t b (inr (inr e)) = ap (λ k. value_at k t.width b) e
+
+-- no other number of the range has those bits
+pub value-one : (t : NumType) (v : ℤ) (b : ℕ) → IsNumType t → IsInRange t v → IsKeptAs t v b → v ≡ value t b
+value-one t v b h r kept = sym (value-bits t v h r) ∙ ap (value t) kept
 
 bits-below_at : (k : Kind) (n : ℕ) (v : ℤ) → IsInRange (record { kind = k; width = n }) v → bits (record { kind = k; width = n }) v < 2 ^ n
 bits-below_at Int n v r = modulo-below v (2 ^ n) (pow_pos n)

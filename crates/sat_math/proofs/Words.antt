@@ -36,7 +36,7 @@ complement-low w a h small =
     let y : 2 ^ (64 - w) ≡ a / 2 ^ w + 1 + d = omega arith in
     let whole : a / 2 ^ w * 2 ^ w + a % 2 ^ w ≡ a = div-add-mod' a (2 ^ w) in
     let e : 18446744073709551615 - a ≡ (2 ^ (64 - w) - 1 - a / 2 ^ w) * 2 ^ w + (2 ^ w - 1 - a % 2 ^ w) =
-        omega (arith, turned (2 ^ w) (a / 2 ^ w) d (a % 2 ^ w) low, ap (λ k. 2 ^ w * k) y, parts w h, whole) in
+    omega (arith, turned (2 ^ w) (a / 2 ^ w) d (a % 2 ^ w) low, ap (λ k. 2 ^ w * k) y, parts w h, whole) in
     ap (λ y. y % 2 ^ w) e ∙ mod_low (2 ^ (64 - w) - 1 - a / 2 ^ w) w (2 ^ w - 1 - a % 2 ^ w) (omega arith)
 
 -- a count of the width or more leaves nothing

@@ -18,7 +18,7 @@ pub returns-in-Int : goal.returns-in-Int
 returns-in-Int c =
     let stored : passed c.cast-stored.result ≡ cast c.args.to c.args.v = search rules in
     let e : c.low_bits.result ≡ bits c.args.to (cast c.args.to c.args.v) =
-        c.low_bits.ensures.value ∙ ap (λ z. modulo z (2 ^ c.args.to.width)) stored ∙ sym (plain-bits c.args.to (cast c.args.to c.args.v) c.in-Int.is) in
+    c.low_bits.ensures.value ∙ ap (λ z. modulo z (2 ^ c.args.to.width)) stored ∙ sym (plain-bits c.args.to (cast c.args.to c.args.v) c.in-Int.is) in
     let r = cast-range c.args.to c.args.v c.requires.kind in
     record {
       value = e;
