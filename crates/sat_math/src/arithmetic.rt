@@ -30,7 +30,7 @@ pub fn add(how: Arith, a: i128, b: i128) -> i128
     ensures value { result ≡ saturated how (a +ℤ b) }
     ensures range { IsInRange (type_of how) result }
 {
-    clamp(type_of(how), a + b)
+    clamp(type_of(how), a.saturating_add(b))
 }
 
 /// The difference, or the nearest number of the type. Both numbers are from -2^63 to 2^64 - 1.
@@ -40,7 +40,7 @@ pub fn sub(how: Arith, a: i128, b: i128) -> i128
     ensures value { result ≡ saturated how (a -ℤ b) }
     ensures range { IsInRange (type_of how) result }
 {
-    clamp(type_of(how), a - b)
+    clamp(type_of(how), a.saturating_sub(b))
 }
 
 /// The product, or the nearest number of the type. Both numbers are from -2^63 to 2^64 - 1.
@@ -65,6 +65,7 @@ pub fn neg(a: i128) -> i128
 
 /// The quotient without its fraction, so rounded toward 0, or the nearest number of the type. Both
 /// numbers are from -2^63 to 2^64 - 1. An error exactly where `b` is 0.
+#[tactic(auto, using(crate::proofs::Handed::quotient_fits))]
 pub fn div(how: Arith, a: i128, b: i128) -> Result<i128, DivideByZero>
     requires left { IsNumber a }
     requires right { IsNumber b }
@@ -72,14 +73,15 @@ pub fn div(how: Arith, a: i128, b: i128) -> Result<i128, DivideByZero>
     ensures range { IfOk result (λ q. IsInRange (type_of how) q) }
     ensures zero { IsErr result ↔ (b ≡ pos 0) }
 {
-    if b == 0 {
-        return Err(DivideByZero);
+    match a.checked_div(b) {
+        Some(quotient) => Ok(clamp(type_of(how), quotient)),
+        None => Err(DivideByZero),
     }
-    Ok(clamp(type_of(how), a / b))
 }
 
 /// What the quotient rounded toward 0 leaves of `a`, so with the sign of `a`, or the nearest
 /// number of the type. Both numbers are from -2^63 to 2^64 - 1. An error exactly where `b` is 0.
+#[tactic(auto, using(crate::proofs::Handed::quotient_fits))]
 pub fn rem(how: Arith, a: i128, b: i128) -> Result<i128, DivideByZero>
     requires left { IsNumber a }
     requires right { IsNumber b }
@@ -87,10 +89,10 @@ pub fn rem(how: Arith, a: i128, b: i128) -> Result<i128, DivideByZero>
     ensures range { IfOk result (λ r. IsInRange (type_of how) r) }
     ensures zero { IsErr result ↔ (b ≡ pos 0) }
 {
-    if b == 0 {
-        return Err(DivideByZero);
+    match a.checked_rem(b) {
+        Some(remainder) => Ok(clamp(type_of(how), remainder)),
+        None => Err(DivideByZero),
     }
-    Ok(clamp(type_of(how), a % b))
 }
 
 /// Whether the two numbers, each from -2^63 to 2^64 - 1, stand as the test says.

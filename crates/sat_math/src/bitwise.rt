@@ -35,6 +35,7 @@ pub(crate) fn ones(count: u8) -> u64
 
 /// The low `width` bits, each turned into its opposite. The width is one that `Bits` allows, from
 /// 1 to 32. Bits of `a` above them do not matter.
+#[tactic(auto, using(crate::proofs::Words::complement_low, std::proofs::lemmas::Nat::and_mask))]
 pub fn not(width: u8, a: u64) -> u64
     requires some { 1 ≤ width }
     requires fits { width ≤ widest }
@@ -46,6 +47,7 @@ pub fn not(width: u8, a: u64) -> u64
 
 /// The bits moved up by `count` places. Only the low `width` bits are kept, so a count of the
 /// width or more gives 0. The width is one that `Bits` allows, from 1 to 32.
+#[tactic(auto, using(crate::proofs::Words::cut_low, crate::proofs::Words::moved_out, std::proofs::lemmas::Nat::and_mask))]
 pub fn shl(width: u8, a: u64, count: u64) -> u64
     requires some { 1 ≤ width }
     requires fits { width ≤ widest }
@@ -60,6 +62,7 @@ pub fn shl(width: u8, a: u64, count: u64) -> u64
 }
 
 /// The bits moved down by `count` places. A count of 64 or more gives 0.
+#[tactic(auto, using(crate::proofs::Words::moved_down_out))]
 pub fn shr(a: u64, count: u64) -> u64
     ensures value { result ≡ a / 2 ^ count }
     ensures gone { 64 ≤ count → result ≡ 0 }

@@ -1,9 +1,0 @@
-use Rattle.std.proofs.Common.{ℤ, rules, arith}
-use Rattle.std.specs.Prelude.{int_rem}
-use Rattle.std.proofs.lemmas.Int.{ints}
-use Rattle.sat_math.proofs.Handed.{handed, remainder-fits}
-use Rattle.sat_math.proofs.arithmetic.rem.Goals as goal
-
-pub returns-clause-value : goal.returns-clause-value
-returns-clause-value c =
-    handed (λ x y. int_rem x y) c.args.how c.type_of.result c.args.a c.args.b c.clamp.result c.ranges.a c.ranges.b (remainder-fits c.args.a c.args.b c.ranges.a) (search rules) c.type_of.ensures c.clamp.ensures.value
