@@ -2,7 +2,7 @@
 use Rattle.std.specs.Prelude.{ℕ, zero, suc, ◌+◌, ◌*◌, ◌%◌, ◌^◌, List, [], ◌∷◌, map}
 use Rattle.std.specs.List.{range_with_len}
 use Rattle.draw_stream.specs.declared.attempt.Attempt.{Attempt}
-use Rattle.draw_stream.specs.Words.{tile_step, tile_state, tile_word}
+use Rattle.draw_stream.specs.Words.{tile_step, tile_word}
 
 -- the seed of a tile's stream
 abbrev pub stream_seed : ℕ → ℕ → ℕ

@@ -1,5 +1,5 @@
 -- What the fields of a plan, and of the attempts of a tile, stand for.
-use Rattle.std.specs.Prelude.{ℕ, ◌≡◌, ◌≤◌, List, length, drop}
+use Rattle.std.specs.Prelude.{ℕ, ◌≤◌, List, length, drop}
 use Rattle.draw_stream.specs.declared.attempt.Attempt.{Attempt}
 use Rattle.draw_stream.specs.declared.plan.Plan.{Plan}
 use Rattle.draw_stream.specs.declared.plan.Plan.TheVariants.{Seeded, Scripted}

@@ -1,6 +1,6 @@
 //! Plans of attempts.
 
-ghost use Rattle.std.specs.Prelude.{◌≡◌, ◌≤◌, ◌<◌, ◌*◌, length, sum_by, IfOk, Option, ℕ};
+ghost use Rattle.std.specs.Prelude.{◌≡◌, ◌≤◌, ◌<◌, ◌*◌, length, sum_by, IfOk, IsOk, IsSome};
 ghost use Rattle.draw_stream.specs.Plans.{IsPlan, attempts, seeded, scripted};
 
 use crate::attempts::{Attempts, Rest};
@@ -79,13 +79,15 @@ impl AttemptPlan {
     /// The plan by which each of 1 to 64 tiles draws `count` attempts from the generator of the
     /// seed and its number. A tile has 1 to 4,096 sites. There are at most 1,000,000 attempts over
     /// all tiles.
+    #[tactic(auto, using(crate::proofs::Plans::length_seeded_lists))]
     pub fn seeded(seed: u64, count: u64, tiles: u32, sites: u64) -> AttemptPlan
         requires some_tiles { 1 ≤ tiles }
         requires most_tiles { tiles ≤ 64 }
         requires some_sites { 1 ≤ sites }
         requires most_sites { sites ≤ 4096 }
         requires few { count * tiles ≤ 1000000 }
-        ensures { result ≡ seeded seed count tiles sites }
+        ensures value { result ≡ seeded seed count tiles sites }
+        ensures lists { length result.lists ≡ tiles }
     {
         AttemptPlan {
             plan: Plan::Seeded(Origin {
@@ -134,12 +136,14 @@ impl AttemptPlan {
         }
     }
 
-    /// The attempts of a tile of the plan. Refused only for want of memory.
+    /// The attempts of a tile of the plan. Refused only for want of memory, and never for a seeded
+    /// plan.
     #[tactic(auto, using(crate::proofs::Plans::seeded_lists_at, crate::proofs::Plans::seeded_attempts_drawn, crate::proofs::Plans::length_seeded_lists, crate::proofs::Plans::attempts_few, crate::proofs::Plans::count_few, crate::proofs::Places::length_next_attempts))]
     pub fn of_tile(&self, alloc: Global, tile: u32) -> Result<Attempts, NoMemory>
         requires { tile < length self.now.lists }
         ensures value { IfOk result (λ a. a ≡ attempts self.now tile) }
         ensures bound { IfOk result (λ a. length a ≤ 1000000) }
+        ensures drawn { IsSome self.now.origin → IsOk result }
     {
         match &self.plan {
             Plan::Seeded(origin) => Ok(Attempts {

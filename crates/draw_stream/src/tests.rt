@@ -2,7 +2,7 @@
 //! the generators.
 
 use super::*;
-use feast_base::NoMemory;
+use std::test::Fail;
 
 #[test]
 fn a_tile_draws_pairs_of_words_of_its_seed(rt: HostRuntime) {
@@ -133,6 +133,6 @@ fn a_script_is_followed(rt: HostRuntime) -> Result<(), Fail> {
 fn a_script_gives_its_attempts_back(rt: HostRuntime) -> Result<(), Fail> {
     let lines = [Attempt { centre: 9, seed: 1 }];
     let script = Script::new(Vec::from_slice(rt.alloc(), &lines)?);
-    assert_eq!(rt; script.into_attempts().as_slice(), &lines);
+    assert_eq!(rt; script.into_attempts().as_slice(), lines.as_slice());
     Ok(())
 }
