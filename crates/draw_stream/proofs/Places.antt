@@ -26,6 +26,13 @@ state_after-at stream i =
     let step : List ℕ → List ℕ = λ s. (tile_step s).1 in
     ap step (sym (tile_state-more stream (2 * i))) ∙ sym (tile_state-more stream (2 * i + 1)) ∙ ap (tile_state stream) (sym e)
 
+-- the same at a state that is the stream's after 2i words
+pub attempt_in_place : (state : List ℕ) (sites stream i : ℕ) → state ≡ tile_state stream (2 * i) → next_attempt state sites ≡ attempt_at stream sites i
+attempt_in_place state sites stream i at = ap (λ s. next_attempt s sites) at ∙ next_attempt-at stream sites i
+
+pub state_in_place : (state : List ℕ) (stream i : ℕ) → state ≡ tile_state stream (2 * i) → state_after state ≡ tile_state stream (2 * (i + 1))
+state_in_place state stream i at = ap (λ s. state_after s) at ∙ state_after-at stream i
+
 -- no attempts, and one and the others
 pub next_attempts_none : (state : List ℕ) (sites : ℕ) → next_attempts state sites 0 ≡ []
 unfolding next_attempts

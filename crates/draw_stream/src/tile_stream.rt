@@ -46,6 +46,7 @@ impl TileStream {
 
     /// The next attempt in a tile of so many sites, 1 to 4,096. Its centre is the next word modulo
     /// the number of sites, and its seed the word after that.
+    #[tactic(auto, using(crate::proofs::Places::attempt_in_place, crate::proofs::Places::state_in_place))]
     pub fn attempt(&mut self, sites: u64) -> Attempt
         requires some { 1 ≤ sites }
         requires most { sites ≤ 4096 }
