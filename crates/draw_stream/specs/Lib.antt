@@ -1,0 +1,4 @@
+pub mod Words
+pub mod Attempts
+pub mod Plans
+pub mod Kept

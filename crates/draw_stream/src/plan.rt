@@ -1,0 +1,171 @@
+//! Plans of attempts.
+
+ghost use Rattle.std.specs.Prelude.{◌≡◌, ◌≤◌, ◌<◌, ◌*◌, length, sum_by, IfOk, IsOk, IsSome};
+ghost use Rattle.draw_stream.specs.Plans.{IsPlan, attempts, seeded, scripted};
+
+use crate::attempts::{Attempts, Rest};
+use crate::{Attempt, TileStream};
+use feast_base::NoMemory;
+use std::alloc::Global;
+use std::marker::Model;
+
+/// The attempts of one tile, written out. Contracts see the list of them.
+#[derive(Drop)]
+pub struct Script {
+    attempts: Vec<Attempt>,
+}
+
+impl Model for Script {
+    ghost use Rattle.std.specs.Prelude.{List};
+    ghost use Rattle.draw_stream.specs.declared.attempt.Attempt.{Attempt};
+
+    ghost Value = { List Attempt };
+
+    ghost view = { λ s. s.attempts.items };
+}
+
+impl Script {
+    /// The script of these attempts, in their order.
+    pub fn new(attempts: Vec<Attempt>) -> Script
+        ensures { result ≡ attempts.items }
+    {
+        Script { attempts }
+    }
+
+    /// The attempts, in their order.
+    pub fn into_attempts(self) -> Vec<Attempt>
+        ensures { result.items ≡ self }
+    {
+        self.attempts
+    }
+}
+
+/// The attempts of each tile of a world. Contracts see the lists of them, and of a seeded plan its
+/// seed and how many attempts each tile makes.
+#[derive(Drop)]
+pub struct AttemptPlan {
+    plan: Plan,
+}
+
+// What a seeded plan is made with.
+#[derive(Clone, Copy)]
+pub(crate) struct Origin {
+    seed: u64,
+    count: u64,
+    tiles: u32,
+    sites: u64,
+}
+
+// How the attempts are given.
+#[derive(Drop)]
+pub(crate) enum Plan {
+    Seeded(Origin),
+    Scripted(Vec<Script>),
+}
+
+impl Model for AttemptPlan {
+    ghost use Rattle.draw_stream.specs.Plans.{PlanValue};
+
+    ghost Value = { PlanValue };
+
+    ghost use Rattle.draw_stream.specs.Kept.{plan_of, CanGive};
+
+    ghost view = { λ p. plan_of p.plan };
+
+    ghost invariant = { λ p. CanGive p.plan };
+}
+
+impl AttemptPlan {
+    /// The plan by which each of 1 to 64 tiles draws `count` attempts from the generator of the
+    /// seed and its number. A tile has 1 to 4,096 sites. There are at most 1,000,000 attempts over
+    /// all tiles.
+    #[tactic(auto, using(crate::proofs::Plans::length_seeded_lists))]
+    pub fn seeded(seed: u64, count: u64, tiles: u32, sites: u64) -> AttemptPlan
+        requires some_tiles { 1 ≤ tiles }
+        requires most_tiles { tiles ≤ 64 }
+        requires some_sites { 1 ≤ sites }
+        requires most_sites { sites ≤ 4096 }
+        requires few { count * tiles ≤ 1000000 }
+        ensures value { result ≡ seeded seed count tiles sites }
+        ensures lists { length result.lists ≡ tiles }
+    {
+        AttemptPlan {
+            plan: Plan::Seeded(Origin {
+                seed,
+                count,
+                tiles,
+                sites,
+            }),
+        }
+    }
+
+    /// The plan by which each tile has the attempts of its script. There are 1 to 64 scripts, with
+    /// at most 1,000,000 attempts over all.
+    pub fn scripted(lists: Vec<Script>) -> AttemptPlan
+        requires { IsPlan (scripted lists.items) }
+        ensures { result ≡ scripted lists.items }
+    {
+        AttemptPlan {
+            plan: Plan::Scripted(lists),
+        }
+    }
+
+    /// The seed of a seeded plan, and how many attempts each of its tiles makes. None exactly for a
+    /// plan that is written out.
+    pub fn origin(&self) -> Option<(u64, u64)>
+        ensures value { result ≡ self.now.origin }
+        ensures plan { IsPlan self.now }
+    {
+        match &self.plan {
+            Plan::Seeded(origin) => Some((origin.seed, origin.count)),
+            Plan::Scripted(_) => None,
+        }
+    }
+
+    /// How many attempts a tile of the plan has, at most 1,000,000.
+    #[tactic(auto, using(crate::proofs::Plans::seeded_lists_at, crate::proofs::Plans::length_seeded_attempts, crate::proofs::Plans::length_seeded_lists, crate::proofs::Plans::attempts_few, crate::proofs::Plans::count_few))]
+    pub fn count(&self, tile: u32) -> u64
+        requires { tile < length self.now.lists }
+        ensures value { result ≡ length (attempts self.now tile) }
+        ensures bound { result ≤ 1000000 }
+        ensures plan { IsPlan self.now }
+    {
+        match &self.plan {
+            Plan::Seeded(origin) => origin.count,
+            Plan::Scripted(scripts) => scripts[tile as usize].attempts.len() as u64,
+        }
+    }
+
+    /// The attempts of a tile of the plan. Refused only for want of memory, and never for a seeded
+    /// plan.
+    #[tactic(auto, using(crate::proofs::Plans::seeded_lists_at, crate::proofs::Plans::seeded_attempts_drawn, crate::proofs::Plans::length_seeded_lists, crate::proofs::Plans::attempts_few, crate::proofs::Plans::count_few, crate::proofs::Places::length_next_attempts))]
+    pub fn of_tile(&self, alloc: Global, tile: u32) -> Result<Attempts, NoMemory>
+        requires { tile < length self.now.lists }
+        ensures value { IfOk result (λ a. a ≡ attempts self.now tile) }
+        ensures bound { IfOk result (λ a. length a ≤ 1000000) }
+        ensures drawn { IsSome self.now.origin → IsOk result }
+    {
+        match &self.plan {
+            Plan::Seeded(origin) => Ok(Attempts {
+                rest: Rest::Drawn {
+                    stream: TileStream::new(origin.seed, tile),
+                    sites: origin.sites,
+                    left: origin.count,
+                },
+            }),
+            Plan::Scripted(scripts) => listed(alloc, scripts[tile as usize].attempts.as_slice()),
+        }
+    }
+}
+
+// The attempts of a list.
+fn listed(alloc: Global, attempts: &[Attempt]) -> Result<Attempts, NoMemory>
+    ensures { IfOk result (λ a. a ≡ attempts.now) }
+{
+    match Vec::from_slice(alloc, attempts) {
+        Ok(list) => Ok(Attempts {
+            rest: Rest::Listed { list, next: 0 },
+        }),
+        Err(_) => Err(NoMemory),
+    }
+}

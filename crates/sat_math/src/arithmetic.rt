@@ -1,0 +1,113 @@
+//! Sums, differences, products, quotients, remainders and comparisons.
+
+ghost use Rattle.std.specs.Prelude.{◌≡◌, pos, neg_ℤ, ◌+ℤ◌, ◌-ℤ◌, ◌*ℤ◌, int_div, int_rem, ◌↔◌, IsErr, IsTrue, IfOk};
+ghost use Rattle.sat_math.specs.Numbers.{IsNumber, IsInRange};
+ghost use Rattle.sat_math.specs.Operations.{saturated, type_of, Compares, compared};
+
+use crate::ranges::clamp;
+use crate::{Arith, CompareOp, DivideByZero, Kind, NumType};
+
+// The type in which the operation is taken.
+fn type_of(how: Arith) -> NumType
+    ensures { result ≡ type_of how }
+{
+    match how {
+        Arith::Int32 => NumType {
+            kind: Kind::Int,
+            width: 32,
+        },
+        Arith::Unsigned32 => NumType {
+            kind: Kind::Unsigned,
+            width: 32,
+        },
+    }
+}
+
+/// The sum, or the nearest number of the type. Both numbers are from -2^63 to 2^64 - 1.
+pub fn add(how: Arith, a: i128, b: i128) -> i128
+    requires left { IsNumber a }
+    requires right { IsNumber b }
+    ensures value { result ≡ saturated how (a +ℤ b) }
+    ensures range { IsInRange (type_of how) result }
+{
+    clamp(type_of(how), a.saturating_add(b))
+}
+
+/// The difference, or the nearest number of the type. Both numbers are from -2^63 to 2^64 - 1.
+pub fn sub(how: Arith, a: i128, b: i128) -> i128
+    requires left { IsNumber a }
+    requires right { IsNumber b }
+    ensures value { result ≡ saturated how (a -ℤ b) }
+    ensures range { IsInRange (type_of how) result }
+{
+    clamp(type_of(how), a.saturating_sub(b))
+}
+
+/// The product, or the nearest number of the type. Both numbers are from -2^63 to 2^64 - 1.
+pub fn mul(how: Arith, a: i128, b: i128) -> i128
+    requires left { IsNumber a }
+    requires right { IsNumber b }
+    ensures value { result ≡ saturated how (a *ℤ b) }
+    ensures range { IsInRange (type_of how) result }
+{
+    clamp(type_of(how), a.saturating_mul(b))
+}
+
+/// The number with its sign turned, or the nearest number of `Int` of 32 bits. The number is from
+/// -2^63 to 2^64 - 1.
+pub fn neg(a: i128) -> i128
+    requires { IsNumber a }
+    ensures value { result ≡ saturated Arith.Int32 (neg_ℤ a) }
+    ensures range { IsInRange (type_of Arith.Int32) result }
+{
+    clamp(type_of(Arith::Int32), -a)
+}
+
+/// The quotient without its fraction, so rounded toward 0, or the nearest number of the type. Both
+/// numbers are from -2^63 to 2^64 - 1. An error exactly where `b` is 0.
+#[tactic(auto, using(crate::proofs::Handed::quotient_fits))]
+pub fn div(how: Arith, a: i128, b: i128) -> Result<i128, DivideByZero>
+    requires left { IsNumber a }
+    requires right { IsNumber b }
+    ensures value { IfOk result (λ q. q ≡ saturated how (int_div a b)) }
+    ensures range { IfOk result (λ q. IsInRange (type_of how) q) }
+    ensures zero { IsErr result ↔ (b ≡ pos 0) }
+{
+    match a.checked_div(b) {
+        Some(quotient) => Ok(clamp(type_of(how), quotient)),
+        None => Err(DivideByZero),
+    }
+}
+
+/// What the quotient rounded toward 0 leaves of `a`, so with the sign of `a`, or the nearest
+/// number of the type. Both numbers are from -2^63 to 2^64 - 1. An error exactly where `b` is 0.
+#[tactic(auto, using(crate::proofs::Handed::quotient_fits))]
+pub fn rem(how: Arith, a: i128, b: i128) -> Result<i128, DivideByZero>
+    requires left { IsNumber a }
+    requires right { IsNumber b }
+    ensures value { IfOk result (λ r. r ≡ saturated how (int_rem a b)) }
+    ensures range { IfOk result (λ r. IsInRange (type_of how) r) }
+    ensures zero { IsErr result ↔ (b ≡ pos 0) }
+{
+    match a.checked_rem(b) {
+        Some(remainder) => Ok(clamp(type_of(how), remainder)),
+        None => Err(DivideByZero),
+    }
+}
+
+/// Whether the two numbers, each from -2^63 to 2^64 - 1, stand as the test says.
+pub fn compare(op: CompareOp, a: i128, b: i128) -> bool
+    requires left { IsNumber a }
+    requires right { IsNumber b }
+    ensures value { result ≡ compared op a b }
+    ensures holds { IsTrue result ↔ Compares op a b }
+{
+    match op {
+        CompareOp::Eq => a == b,
+        CompareOp::Ne => a != b,
+        CompareOp::Lt => a < b,
+        CompareOp::Le => a <= b,
+        CompareOp::Gt => a > b,
+        CompareOp::Ge => a >= b,
+    }
+}
