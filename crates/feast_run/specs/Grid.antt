@@ -1,8 +1,8 @@
 -- A flat grid of atoms in row order, its windows, one event, and the replay of records.
-use Rattle.std.specs.Prelude.{ℕ, ℤ, pos, negsuc, ◌≡◌, ◌+◌, ◌-◌, ◌*◌, ◌≤◌, Bool, false, List, [], ◌∷◌, length, map, filter, slice_index_or, is_some, nat_lt, Option, Some, None, if◌then◌else◌, ◌==◌}
+use Rattle.std.specs.Prelude.{ℕ, ◌≡◌, ◌+◌, ◌*◌, ◌≤◌, Bool, false, List, [], ◌∷◌, length, map, filter, slice_index_or, is_some, nat_lt, Option, Some, None, if◌then◌else◌, ◌==◌}
 use Rattle.std.specs.List.{range_with_len}
 use Rattle.bit_field.specs.Atom.{AtomValue, empty_atom}
-use Rattle.window_sites.specs.Sites.{offset_of}
+use Rattle.window_sites.specs.Sites.{offset_of, shifted}
 use Rattle.window_sites.specs.Window.{WindowValue, atom_at}
 
 -- a grid: its size, and its atoms row by row
@@ -18,11 +18,6 @@ pub record IsGrid (g : GridValue) : Type 0 where
   pub high : 8 ≤ g.height
   pub not_higher : g.height ≤ 512
   pub whole : length g.atoms ≡ g.width * g.height
-
--- a coordinate with an offset added, where it does not fall below 0
-abbrev pub shifted : ℕ → ℤ → Option ℕ
-shifted x (pos d) = Some (x + d)
-shifted x (negsuc d) = if nat_lt d x then Some (x - d - 1) else None
 
 -- the place of a site in row order, where it is of the plane
 abbrev pub placed : ℕ → ℕ → Option ℕ → Option ℕ → Option ℕ

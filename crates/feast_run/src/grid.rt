@@ -1,8 +1,9 @@
 //! A flat grid of atoms, its windows, events and the replay of records.
 ghost use Rattle.std.specs.Prelude.{◌≡◌, ℕ, ℤ, pos, All, map, ◌+◌, ◌*◌, ◌≤◌, ◌<◌, ◌^◌, ◌≤ℤ◌, IfOk, IfSome, is_some, length, replicate, slice_index_or, slice_set};
 ghost use Rattle.bit_field.specs.Atom.{empty_atom};
+ghost use Rattle.window_sites.specs.Sites.{shifted};
 ghost use Rattle.window_sites.specs.Window.{WindowValue};
-ghost use Rattle.feast_run.specs.Grid.{GridValue, shifted, place_of, seen, window_of, put_window, event, replay};
+ghost use Rattle.feast_run.specs.Grid.{GridValue, place_of, seen, window_of, put_window, event, replay};
 ghost use Rattle.feast_run.specs.Steps.{with_atom};
 ghost use Rattle.feast_run.specs.Values.{record_value};
 

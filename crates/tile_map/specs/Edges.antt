@@ -1,9 +1,9 @@
 -- The edges between neighbouring tiles, the sites that they share, and those that an event needs.
-use Rattle.std.specs.Prelude.{ℕ, ◌≡◌, ◌+◌, ◌-◌, ◌*◌, ◌/◌, ◌%◌, ◌==◌, List, Bool, false, ◌&&◌, ◌||◌, nat_lt, if◌then◌else◌, Option, Some, None, ℤ, pos, negsuc, length, map, filter, flat_map, position, slice_index_or}
+use Rattle.std.specs.Prelude.{ℕ, ◌≡◌, ◌+◌, ◌*◌, ◌/◌, ◌%◌, ◌==◌, List, Bool, false, ◌&&◌, ◌||◌, nat_lt, if◌then◌else◌, Option, Some, None, length, map, filter, flat_map, position, slice_index_or}
 use Rattle.std.specs.List.{range_with_len, list_any}
 use Rattle.std.specs.Option.{option_map}
 use Rattle.feast_base.specs.Edges.{EdgeSize}
-use Rattle.window_sites.specs.Sites.{offset_of}
+use Rattle.window_sites.specs.Sites.{offset_of, shifted}
 use Rattle.tile_map.specs.Plane.{Site, MapValue, IsMap, site, tiles_of, is_live, sites_of, is_meeting, is_held}
 
 -- whether t is the lower of two neighbouring tiles, diagonally too
@@ -66,11 +66,6 @@ size_of m p = record { lower = p.0; higher = p.1; registers = 1 + 2 * length (sh
 
 abbrev pub sizes_of : MapValue → List EdgeSize
 sizes_of m = map (size_of m) (pairs_of m)
-
--- a coordinate with an offset added, if that is not below 0
-abbrev pub shifted : ℕ → ℤ → Option ℕ
-shifted x (pos d) = Some (x + d)
-shifted x (negsuc d) = if nat_lt d x then Some (x - d - 1) else None
 
 -- the site of two coordinates, if the plane has it
 abbrev pub live_site : MapValue → Option ℕ → Option ℕ → Option Site
