@@ -1,5 +1,7 @@
 //! The top call over a shelf and a sink in memory.
-ghost use Rattle.std.specs.Prelude.{◌<◌, ◌^◌, ◌-◌, map, string_bytes};
+ghost use Rattle.std.specs.Prelude.{◌<◌, ◌^◌, ◌-◌, Some, map, string_bytes};
+ghost use Rattle.feast_base.specs.Held.{LoadMayFail, PutMayFail};
+ghost use Rattle.feast_run.specs.Answer.{Ends, setting};
 ghost use Rattle.feast_run.specs.Promises.{IsQuiet};
 
 use crate::{Status, feast};
@@ -7,7 +9,7 @@ use feast_base::{Gate, MemShelf, MemSink};
 use std::alloc::Global;
 use std::thread::Threads;
 
-/// Does what the words say, as `feast` does, over files and a sink in memory.
+/// Does what the words say, as `feast` does, over files and a sink in memory, and ends as it does.
 ///
 /// Where no call of them is listed to fail, each file word has a file, and the sink has room for
 /// the text, no load and no put fails; so the status is none of those that a failure gives.
@@ -20,7 +22,8 @@ pub fn feast_in_memory<R: Threads + Sync, G: Gate>(
     gate: &G,
 ) -> Status
     requires { sink.old.faults < 2 ^ 64 - 1 }
-    ensures { IsQuiet shelf.old shelf.new sink.old sink.new (map string_bytes words.now) result }
+    ensures ends { Ends (LoadMayFail shelf.old) (setting (Some shelf.old.files) shelf.old.failed shelf.new.failed (map string_bytes words.now)) (PutMayFail sink.old) (Some sink.old.written) (Some sink.new.written) sink.old.faults sink.new.faults result }
+    ensures quiet { IsQuiet shelf.old shelf.new sink.old sink.new (map string_bytes words.now) result }
 {
     feast(rt, alloc, words, shelf, sink, gate)
 }
