@@ -42,10 +42,9 @@ fn an_event_draws_words_of_its_seed(rt: HostRuntime) {
     assert_eq!(rt; draws.below(u64::MAX), 0x6e78_9e6a_a1b9_65f4);
     assert_eq!(rt; draws.below(10), 9);
     let mut draws = EventDraws::new(7);
-    assert_eq!(rt;
-        (draws.below(10), draws.below(10), draws.below(10)),
-        (7, 4, 6)
-    );
+    assert_eq!(rt; draws.below(u64::MAX), 0x63cb_e1e4_5932_0dd7);
+    assert_eq!(rt; draws.below(u64::MAX), 0x044c_3cd7_f43c_661c);
+    assert_eq!(rt; draws.below(10), 6);
 }
 
 // The attempts, one after another.
