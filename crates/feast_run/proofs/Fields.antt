@@ -26,13 +26,6 @@ until_one (c ∷ x) (d ∷ y) r s end a b e =
     let q : c ≡ d = cc in
     (cc p.0, p.1)
 
--- bytes without the end hold nothing that it ends
-pub lacks_none : (bytes x r : List ℕ) (end : ℕ) → Lacks bytes end → bytes ≢ x ++ end ∷ r
-lacks_none [] [] r end a = λ e. cc
-lacks_none [] (c ∷ x) r end a = λ e. cc
-lacks_none (b ∷ bs) [] r end a = λ e. All-head (λ v. v ≢ end) b bs a (cc)
-lacks_none (b ∷ bs) (c ∷ x) r end a = λ e. lacks_none bs x r end (All-tail (λ v. v ≢ end) b bs a) (cc)
-
 -- a field with its end and what follows
 pub ended : (x r : List ℕ) (end : ℕ) → (x ++ end ∷ []) ++ r ≡ x ++ end ∷ r
 ended x r end = append_assoc x (end ∷ []) r
@@ -99,10 +92,6 @@ pub field_none : {X : Type 0} (text : X → List ℕ) (ok : X → Type 0) (end :
 field_none text ok end bytes x rest lacks is all none = λ v r valid e.
     let p = until_one x (text v) rest r end lacks (all v valid) (sym is ∙ e ∙ ended (text v) r end) in
     none v valid p.0
-
--- where there is no end, nothing stands before it
-pub no_end_none : {X : Type 0} (text : X → List ℕ) (ok : X → Type 0) (end : ℕ) (bytes : List ℕ) → Lacks bytes end → NoText (λ v. text v ++ end ∷ []) ok bytes
-no_end_none text ok end bytes lacks = λ v r valid e. lacks_none bytes (text v) r end lacks (e ∙ ended (text v) r end)
 
 -- an answer of nothing
 pub answers_none : {X : Type 0} (o : Option X) (P : Type 0) (Q : X → Type 0) → o ≡ None → P → MatchOption o P Q

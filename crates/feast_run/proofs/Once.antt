@@ -1,6 +1,6 @@
 -- Where files are told, a call comes to one status alone.
 use Rattle.std.proofs.Common.{ℕ, ◌≡◌, ◌∙◌, List, [], ◌∷◌, ◌++◌, length, get_or, Some, refl, sym, subst, ◌⊎◌, inl, inr, ap, arith, length-append}
-use Rattle.feast_base.specs.Outside.{File, TellsLonger}
+use Rattle.feast_base.specs.Outside.{File}
 use Rattle.feast_run.proofs.Elements.{defines_one}
 use Rattle.feast_run.proofs.Worlds.{says_one}
 use Rattle.feast_run.specs.Answer.{AreNamed, Comes, ElementBad, ElementUnread, HasElement, HasNoForm, HasWorld, IsRun, Loaded, NameBad, NoElement, NoWorld, Ran, Setting, Unread, WorldBad, WorldUnread, setting, world_limit, element_limit}
@@ -30,12 +30,6 @@ unread_not may files failed failed' word limit text bytes h load kept =
       | inl missing ↦ noted_not failed word (sym missing.noted ∙ kept)
       | inr long ↦ let same : long.longer.0 ≡ bytes = (let e = sym long.longer.1 ∙ load.told in cc) in absurd (omega (arith, ap length same, long.longer.2, load.within))
     ]
-
--- of an unread world and one that was loaded, as long as one name alone was noted
-long_not : (files : List File) (word : List ℕ) (limit : ℕ) (bytes : List ℕ) → TellsLonger (Some files) word limit → Loaded (Some files) word limit bytes → ⊥
-long_not files word limit bytes longer load =
-    let same : longer.0 ≡ bytes = (let e = sym longer.1 ∙ load.told in cc) in
-    absurd (omega (arith, ap length same, longer.2, load.within))
 
 world_not : (files : List File) (word : List ℕ) (w : WorldValue) → NoWorld (Some files) word → HasWorld (Some files) word w → ⊥
 world_not files word w bad has = bad.none w (subst (λ (b : List ℕ). Says b w) (loaded_one files word world_limit has.bytes bad.bytes has.loaded bad.loaded) has.says)
