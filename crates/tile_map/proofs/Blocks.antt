@@ -6,7 +6,7 @@ use Rattle.std.proofs.Math.ListN.{get_or-append}
 use Rattle.std.proofs.lemmas.List.FromFn.{length-map-range_with_len, get_or-map-range_with_len}
 use Rattle.std.proofs.lemmas.List.{length-append, get_or-append_right}
 use Rattle.tile_map.specs.Plane.{Site, MapValue, site, sites_of}
-use Rattle.tile_map.proofs.Lists.{filter_none, filter_between, filter-map, filter-flat_map, flat_map_between}
+use Rattle.list_laws.proofs.Ranges.{filter_none, filter_between, filter-map, filter-flat_map, flat_map_between}
 
 -- a row of n sites from x on
 abbrev pub row : ℕ → ℕ → ℕ → List Site

@@ -1,8 +1,6 @@
 pub mod Blocks
 pub mod Degree
 pub mod Filters
-pub mod Lists
-pub mod Members
 pub mod Near
 pub mod Pairs
 pub mod PlaneLaws

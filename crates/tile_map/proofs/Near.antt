@@ -8,11 +8,11 @@ use Rattle.std.proofs.lemmas.List.Folds.{list_any_at}
 use Rattle.std.proofs.lemmas.List.FromFn.{length-range_with_len, get_or-range_with_len}
 use Rattle.window_sites.specs.Sites.{distance, offset_of, shifted}
 use Rattle.window_sites.proofs.Offsets.{offset-near, offset-found}
-use Rattle.window_sites.proofs.Tables.{any_get}
+use Rattle.list_laws.proofs.Entries.{any_get}
 use Rattle.tile_map.specs.Plane.{Site, MapValue, site, tiles_of, is_live, is_held, apart, in_window}
 use Rattle.tile_map.specs.Spans.{left_of, right_of, top_of, bottom_of, gap}
 use Rattle.tile_map.specs.Edges.{live_site, window_site, is_held_at, reaches}
-use Rattle.tile_map.proofs.Lists.{both, together}
+use Rattle.list_laws.proofs.Tests.{both, together}
 use Rattle.tile_map.proofs.Spans.{le_test, test_le, held_inside, held_span}
 
 -- the offset from one coordinate to another

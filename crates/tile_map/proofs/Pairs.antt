@@ -1,19 +1,20 @@
 -- The list of the edges: whose ends they are, that none is left out, that they rise, and that a tile has at most 8.
-use Rattle.std.proofs.Common.{ℕ, zero, suc, ◌≡◌, ◌+◌, ◌-◌, ◌*◌, ◌/◌, ◌%◌, ◌<◌, ◌≤◌, Bool, true, false, ◌&&◌, List, [], ◌∷◌, length, get_or, map, cond, refl, sym, ap, ◌∙◌, subst, arith, ◌⊎◌, inl, inr, ⊎_elim}
+use Rattle.std.proofs.Common.{ℕ, ◌≡◌, ◌+◌, ◌-◌, ◌*◌, ◌/◌, ◌%◌, ◌<◌, ◌≤◌, Bool, true, ◌&&◌, length, map, refl, sym, ap, ◌∙◌, subst, arith, ◌⊎◌, inl, inr, ⊎_elim}
 use Rattle.std.specs.Prelude.{nat_le, nat_lt, filter, flat_map, AllPairs}
 use Rattle.std.specs.List.{list_all, range_with_len}
 use Rattle.std.proofs.lemmas.Bool.Decides.{nat_tests}
 use Rattle.std.proofs.lemmas.List.FromFn.{length-range_with_len, get_or-range_with_len}
-use Rattle.window_sites.proofs.Tables.{all_get}
+use Rattle.list_laws.proofs.Entries.{all_get}
 use Rattle.tile_map.specs.Plane.{Site, MapValue, IsMap, tiles_of, is_meeting, is_held}
 use Rattle.tile_map.specs.Laws.{IsLower}
 use Rattle.tile_map.specs.Spans.{low, high}
 use Rattle.tile_map.specs.Edges.{are_neighbours, pairs_from, pairs_of, pair_at, is_end, has_end, edges_at}
 use Rattle.tile_map.specs.Neighbours.{are_near, near_pairs}
 use Rattle.tile_map.proofs.Degree.{degree, are_few, all_few, all_bounded}
-use Rattle.tile_map.proofs.Lists.{together}
+use Rattle.list_laws.proofs.Filters.{count_places}
+use Rattle.list_laws.proofs.Tests.{together}
 use Rattle.tile_map.proofs.Spans.{le_test, test_le, lt_test, times_more, held_span}
-use Rattle.tile_map.proofs.Members.{In, in_filter, filter_in, in_map, map_in, in_flat, flat_in, in_range, range_in, in_get, get_in, InOrder, order-append, order-filter, order-map, order-range, order-pairs}
+use Rattle.list_laws.proofs.Members.{In, in_filter, filter_in, in_map, map_in, in_flat, flat_in, in_range, range_in, in_get, get_in, InOrder, order-filter, order-flat, order-map, order-range, order-pairs}
 
 -- parts of one size meet, once one is widened, if their numbers are at most 1 apart
 pub meeting_near : (size a b : ℕ) → 1 ≤ size → is_meeting size a b ≡ (nat_le a (b + 1) && nat_le b (a + 1))
@@ -62,26 +63,6 @@ pairs_bounded m k =
     let place' = subst (λ ty. nat_le (length (near_pairs m.tx (m.tx * ty))) 210 ≡ true) y place in
     subst (λ ps. length ps ≤ 210) (sym (pairs_near m k)) (test_le (length (near_pairs m.tx (m.tx * m.ty))) 210 place')
 
--- the numbers of the entries that pass a test are as many as the entries
-count_places : {X : Type 0} (p : X → Bool) (q : ℕ → Bool) (xs : List X) (a : ℕ) (d : X) → ((k : ℕ) → k < length xs → q (a + k) ≡ p (get_or xs k d)) → length (filter q (range_with_len a (length xs))) ≡ length (filter p xs)
-count_places p q [] a d h = refl
-count_places p q (x ∷ xs) a d h = go (p x) (q a) (first (h 0 (omega arith))) (count_places p q xs (a + 1) d (λ k lt. ap q (next k) ∙ h (suc k) (omega arith)))
-  where
-    next : (k : ℕ) → a + 1 + k ≡ a + suc k
-    next k = omega arith
-
-    start : a + 0 ≡ a
-    start = omega arith
-
-    first : q (a + 0) ≡ p x → q a ≡ p x
-    first e = ap q (sym start) ∙ e
-
-    go : (b c : Bool) → c ≡ b → length (filter q (range_with_len (a + 1) (length xs))) ≡ length (filter p xs) → length (cond c (a ∷ filter q (range_with_len (a + 1) (length xs))) (filter q (range_with_len (a + 1) (length xs)))) ≡ length (cond b (x ∷ filter p xs) (filter p xs))
-    go true true e rest = omega (arith, rest)
-    go false false e rest = rest
-    go true false e rest = absurd (cc (e))
-    go false true e rest = absurd (cc (e))
-
 -- a tile has at most 8 edges
 pub edges_at-few : (m : MapValue) → IsMap m → (t : ℕ) → t < tiles_of m → length (edges_at m t) ≤ 8
 edges_at-few m k t lt =
@@ -115,12 +96,6 @@ edge_of m t u a b near =
     let first = in_range 0 (tiles_of m) t (omega arith) (omega (arith, a)) in
     let second = in_range 0 (tiles_of m) u (omega arith) (omega (arith, b)) in
     get_in (pairs_of m) (t, u) (tiles_of m, tiles_of m + 1) (in_flat (pairs_from m) (range_with_len 0 (tiles_of m)) t (t, u) first (in_map (λ u. (t, u)) (filter (are_neighbours m t) (range_with_len 0 (tiles_of m))) u (in_filter (are_neighbours m t) (range_with_len 0 (tiles_of m)) u second near)))
-
-order-flat : {Y : Type 0} (R : Y → Y → Type 0) (f : ℕ → List Y) (a n : ℕ) → ((k : ℕ) → InOrder R (f k)) → ((j k : ℕ) (x y : Y) → j < k → In x (f j) → In y (f k) → R x y) → InOrder R (flat_map f (range_with_len a n))
-order-flat R f a zero each across = tt
-order-flat R f a (suc n) each across =
-    order-append R (f a) (flat_map f (range_with_len (a + 1) n)) (each a) (order-flat R f (a + 1) n each across)
-    (λ x y i j. let r = flat_in f (range_with_len (a + 1) n) y j in across a r.0 x y (omega (arith, (range_in (a + 1) n r.0 r.1).0)) i r.2)
 
 from_first : (m : MapValue) (t : ℕ) (p : ℕ × ℕ) → In p (pairs_from m t) → p.0 ≡ t
 from_first m t p i = let r = map_in (λ u. (t, u)) (filter (are_neighbours m t) (range_with_len 0 (tiles_of m))) p i in ap (λ (q : ℕ × ℕ). q.0) r.2

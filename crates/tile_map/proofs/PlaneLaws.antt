@@ -8,7 +8,7 @@ use Rattle.std.proofs.lemmas.Nat.{rows}
 use Rattle.tile_map.specs.Plane.{Site, MapValue, IsMap, site, tiles_of, is_live, sites_of, is_inside, is_around, is_owned, owner_of, site_in, is_held, in_window, apart}
 use Rattle.tile_map.specs.Edges.{pairs_of, pair_at, low_end, high_end, shared_of, edges_at, needs_of, is_needed, reaches, has_end, other_end}
 use Rattle.tile_map.specs.Laws.{Joins, Shares, HasOwners, HasWindows, HasEdges, HasRegisters, HasNeeds, IsPlane}
-use Rattle.tile_map.proofs.Lists.{both, together}
+use Rattle.list_laws.proofs.Tests.{both, together}
 use Rattle.tile_map.proofs.Spans.{le_test, lt_test, test_lt, times_more}
 use Rattle.std.proofs.lemmas.List.Kept.{IsStrictlyIncreasing-filter}
 use Rattle.std.proofs.lemmas.List.FromFn.{length-range_with_len, get_or-range_with_len, length-map-range_with_len, get_or-map-range_with_len}
@@ -16,7 +16,7 @@ use Rattle.std.proofs.lemmas.List.{get_or_default}
 use Rattle.std.proofs.lemmas.Option.{slice_get-get_or, get_or_from_slice_get, slice_get_within}
 use Rattle.tile_map.proofs.Near.{window_site-near, window_site-found, window_apart, held_live, reaches-held, reaches-some}
 use Rattle.tile_map.proofs.Blocks.{row, block, block_length, block_get, IsBlock, filter_block}
-use Rattle.tile_map.proofs.Members.{In, in_filter, filter_in, in_map, in_flat, in_range, range_in, in_get, get_in}
+use Rattle.list_laws.proofs.Members.{In, in_filter, filter_in, in_map, in_flat, in_range, range_in, in_get, get_in}
 use Rattle.tile_map.proofs.Pairs.{edge_joined, edge_of, one_edge, pairs_rise, pairs_bounded, holders_near, edges_at-few}
 use Rattle.tile_map.proofs.Shared.{column_low, row_low, shared_once, register_found, register_shared}
 

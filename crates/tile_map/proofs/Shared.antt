@@ -12,7 +12,7 @@ use Rattle.std.proofs.lemmas.Option.{slice_get-get_or, slice_get_within, get_or_
 use Rattle.tile_map.specs.Plane.{Site, MapValue, IsMap, site, tiles_of, sites_of, is_held}
 use Rattle.tile_map.specs.Spans.{left_both, right_both, top_both, bottom_both, is_in, place_in}
 use Rattle.tile_map.specs.Edges.{are_neighbours, pairs_of, pair_at, shared_by, shared_of, register_of}
-use Rattle.tile_map.proofs.Lists.{both, together}
+use Rattle.list_laws.proofs.Tests.{both, together}
 use Rattle.tile_map.proofs.Blocks.{block, block_length, block_get, IsBlock, filter_block}
 use Rattle.tile_map.proofs.Spans.{test_le, spans_meet, held_inside, held_span, not_left, not_right, not_above, not_under}
 use Rattle.tile_map.proofs.Pairs.{Joined, edge_joined, neighbours_near}

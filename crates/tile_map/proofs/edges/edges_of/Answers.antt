@@ -2,7 +2,7 @@ use Rattle.std.proofs.Common.{◌+◌, ℕ, Bool, arith, ap, length, sym, ◌∙
 use Rattle.std.specs.Prelude.{slice_index_or}
 use Rattle.std.proofs.lemmas.List.{get_or_default}
 use Rattle.tile_map.specs.Edges.{is_end}
-use Rattle.tile_map.proofs.Filters.{filter_room, filter_next, grown, kept}
+use Rattle.list_laws.proofs.Filters.{filter_room, filter_next, grown, kept}
 use Rattle.tile_map.proofs.edges.edges_of.Goals as goal
 use Rattle.tile_map.proofs.edges.edges_of.Goals.{then-has_end, else-has_end}
 

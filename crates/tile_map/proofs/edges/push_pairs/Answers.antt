@@ -1,5 +1,6 @@
 use Rattle.std.proofs.Common.{ℕ, ap, ◌∙◌, Vec, Global}
-use Rattle.tile_map.proofs.Filters.{near_next, grown, kept}
+use Rattle.tile_map.proofs.Filters.{near_next}
+use Rattle.list_laws.proofs.Filters.{grown, kept}
 use Rattle.tile_map.proofs.edges.push_pairs.Goals as goal
 use Rattle.tile_map.proofs.edges.push_pairs.Goals.{then-are_neighbours+in-Ok, else-are_neighbours}
 

@@ -1,7 +1,7 @@
 use Rattle.std.proofs.Common.{ℕ, Bool, length, arith, ap}
 use Rattle.tile_map.specs.Plane.{site}
 use Rattle.tile_map.specs.Edges.{other_end, reaches}
-use Rattle.tile_map.proofs.Filters.{filter_take}
+use Rattle.list_laws.proofs.Filters.{filter_take}
 use Rattle.tile_map.proofs.PlaneLaws.{edges_low}
 use Rattle.tile_map.proofs.map.Map.needed.Goals as goal
 

@@ -3,7 +3,7 @@ use Rattle.std.specs.Prelude.{filter}
 use Rattle.std.specs.List.{range_with_len}
 use Rattle.tile_map.specs.Plane.{site}
 use Rattle.tile_map.specs.Edges.{pairs_of, has_end, other_end, reaches}
-use Rattle.tile_map.proofs.Filters.{filter_twice}
+use Rattle.list_laws.proofs.Filters.{filter_twice}
 use Rattle.tile_map.proofs.map.Map.needs.Goals as goal
 
 pub returns : goal.returns

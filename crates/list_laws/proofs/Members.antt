@@ -110,6 +110,12 @@ pub order-range : (a n : ℕ) → InOrder (λ x y. x < y) (range_with_len a n)
 order-range a zero = tt
 order-range a (suc n) = (λ y i. let r = range_in (a + 1) n y i in omega (arith, r.0), order-range (a + 1) n)
 
+pub order-flat : {Y : Type 0} (R : Y → Y → Type 0) (f : ℕ → List Y) (a n : ℕ) → ((k : ℕ) → InOrder R (f k)) → ((j k : ℕ) (x y : Y) → j < k → In x (f j) → In y (f k) → R x y) → InOrder R (flat_map f (range_with_len a n))
+order-flat R f a zero each across = tt
+order-flat R f a (suc n) each across =
+    order-append R (f a) (flat_map f (range_with_len (a + 1) n)) (each a) (order-flat R f (a + 1) n each across)
+    (λ x y i j. let r = flat_in f (range_with_len (a + 1) n) y j in across a r.0 x y (omega (arith, (range_in (a + 1) n r.0 r.1).0)) i r.2)
+
 pub order-pairs : {A : Type 0} (R : A → A → Type 0) (xs : List A) → InOrder R xs → AllPairs R xs
 order-pairs R [] h = λ i j d lt within. absurd (omega arith)
 order-pairs R (x ∷ xs) h = AllPairs-cons R x xs (λ k d lt. h.0 (get_or xs k d) (in_get xs k d lt)) (order-pairs R xs h.1)

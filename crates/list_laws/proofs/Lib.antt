@@ -1,0 +1,5 @@
+pub mod Entries
+pub mod Filters
+pub mod Members
+pub mod Ranges
+pub mod Tests
