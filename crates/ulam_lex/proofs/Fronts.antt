@@ -16,7 +16,7 @@ use Rattle.ulam_lex.specs.declared.scan.PieceKind.TheVariants.{Space, Comment, T
 use Rattle.ulam_lex.specs.declared.bytes.Class.{Class}
 use Rattle.ulam_lex.specs.declared.bytes.Class.TheVariants.{White, Small, Capital, Digit, Mark}
 use Rattle.ulam_lex.specs.Bytes.{is_white, is_word_byte, class_of, keywords, is_keyword, signs, is_sign}
-use Rattle.ulam_lex.specs.Pieces.{IsSpace, IsLineComment, IsBlockComment, AreDigits, IsNumber, IsPiece, IsWord, prefix_of}
+use Rattle.ulam_lex.specs.Pieces.{IsSpace, IsLineComment, IsBlockComment, AreDigits, IsNumberToken, IsPiece, IsWord, prefix_of}
 use Rattle.ulam_lex.specs.Starts.{LeavesOpen, BeginsTooLarge, IsDigitless}
 
 -- classes as numbers
@@ -192,7 +192,7 @@ only_capital (Token Number) front c p = cc
 only_capital (Token Sign) front c p = cc
 only_capital (Token End) front c p = cc
 
-pub only_digit : (kind : PieceKind) (front : List ℕ) → class_by kind ≡ Digit → IsPiece kind front → IsNumber front
+pub only_digit : (kind : PieceKind) (front : List ℕ) → class_by kind ≡ Digit → IsPiece kind front → IsNumberToken front
 only_digit Space front c p = cc
 only_digit Comment front c p = cc
 only_digit (Token Name) front c p = cc

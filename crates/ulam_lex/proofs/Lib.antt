@@ -6,3 +6,4 @@ pub mod Places
 pub mod Progress
 pub mod OneReading
 pub mod Spans
+pub mod EachText

@@ -15,7 +15,7 @@ use Rattle.ulam_lex.specs.declared.scan.PieceKind.TheVariants.{Token}
 use Rattle.ulam_lex.specs.declared.scan.Start.TheVariants.{Piece, BadByte}
 use Rattle.ulam_lex.specs.declared.bytes.Class.TheVariants.{White, Small, Capital, Digit, Mark}
 use Rattle.ulam_lex.specs.Bytes.{class_of}
-use Rattle.ulam_lex.specs.Pieces.{IsNumber, IsNumeral, AreDigits, prefix_of, radix_of, suffix_of, worth_after}
+use Rattle.ulam_lex.specs.Pieces.{IsNumberToken, IsNumeral, AreDigits, prefix_of, radix_of, suffix_of, worth_after}
 use Rattle.ulam_lex.specs.Starts.{IsStart, IsBaseAt, digit_count, body_of, digits_of, rest_of, BeginsTooLarge, LacksDigit, IsDigitless}
 use Rattle.ulam_lex.proofs.Fronts.{first_of, front_class, open_class, only_digit, run_bounds, run_passes}
 use Rattle.ulam_lex.proofs.Words.{run_some}
@@ -395,7 +395,7 @@ bare_is_small text bare rest (inr h) (front, back, value, unsigned, e, n, large)
     omega arith
 
 -- a numeral begins with a number of one digit
-pub digit_is_number : (d : ℕ) → is_digit d 10 ≡ true → IsNumber (d ∷ [])
+pub digit_is_number : (d : ℕ) → is_digit d 10 ≡ true → IsNumberToken (d ∷ [])
 digit_is_number d h = (
   digit_value d,
   false,
@@ -413,7 +413,7 @@ digit_is_number d h = (
   (let small : digit_value d < 10 = ltb-true (digit_value d) 10 h in omega arith),
 )
 
-pub numeral_begins : (text front back : List ℕ) (value : ℕ) (unsigned : Bool) → text ≡ front ++ back → IsNumeral front value unsigned → (d : ℕ) × (rest : List ℕ) × (text ≡ (d ∷ []) ++ rest) × IsNumber (d ∷ [])
+pub numeral_begins : (text front back : List ℕ) (value : ℕ) (unsigned : Bool) → text ≡ front ++ back → IsNumeral front value unsigned → (d : ℕ) × (rest : List ℕ) × (text ≡ (d ∷ []) ++ rest) × IsNumberToken (d ∷ [])
 numeral_begins text front back value unsigned e n = elim_first text (first_digit n.base n.digits (suffix_of unsigned ++ back) n.are_digits) written
   where
     written : text ≡ prefix_of n.base ++ (n.digits ++ (suffix_of unsigned ++ back))
@@ -424,7 +424,7 @@ numeral_begins text front back value unsigned e n = elim_first text (first_digit
     first_digit Decimal digits rest d = ap (λ b. is_digit b 10) (get_or_append_left digits rest 0 0 d.some) ∙ d.each 0 0 d.some
     first_digit Hexadecimal digits rest d = refl
 
-    elim_first : (text : List ℕ) {whole : List ℕ} → is_digit (get_or whole 0 0) 10 ≡ true → text ≡ whole → (d : ℕ) × (rest : List ℕ) × (text ≡ (d ∷ []) ++ rest) × IsNumber (d ∷ [])
+    elim_first : (text : List ℕ) {whole : List ℕ} → is_digit (get_or whole 0 0) 10 ≡ true → text ≡ whole → (d : ℕ) × (rest : List ℕ) × (text ≡ (d ∷ []) ++ rest) × IsNumberToken (d ∷ [])
     elim_first [] h e = absurd (false≢true (ap (λ l. is_digit (get_or l 0 0) 10) e ∙ h))
     elim_first (b ∷ text) h e = (b, text, refl, digit_is_number b (ap (λ l. is_digit (get_or l 0 0) 10) e ∙ h))
 
@@ -492,7 +492,7 @@ numeral_value base text value unsigned b n =
     )
 
 -- a base stands at the front of each text
-any_base : (text : List ℕ) → (base : Base) × IsBaseAt base text
+pub any_base : (text : List ℕ) → (base : Base) × IsBaseAt base text
 any_base [] = (Decimal, (λ rest e. omega (arith, ap length e), λ rest e. omega (arith, ap length e)))
 any_base (a ∷ []) = (Decimal, (λ rest e. omega (arith, ap length e), λ rest e. omega (arith, ap length e)))
 any_base (a ∷ b ∷ more) = elim (cases_eq a 48) [

@@ -11,7 +11,7 @@ use Rattle.ulam_lex.specs.declared.scan.PieceKind.{PieceKind}
 use Rattle.ulam_lex.specs.declared.scan.PieceKind.TheVariants as piece
 use Rattle.ulam_lex.specs.Starts.{Stands, BeginsNothing, IsDigitless}
 use Rattle.ulam_lex.specs.Texts.{TextPiece, spelled, is_joined, ArePieces, place_after, token_list, tokens_after, IsTokensOf, most_tokens, token_count, IsBadBehind, IsFaultAt, IsFaultOf}
-use Rattle.ulam_lex.specs.Steps.{IsFaultIn, IsAdded, Takes, IsRead}
+use Rattle.ulam_lex.specs.Steps.{IsFaultIn, IsAdded, TakesPiece, IsRead}
 
 spelled_push : (ps : List TextPiece) (p : TextPiece) → spelled (ps ++ p ∷ []) ≡ spelled ps ++ p.bytes
 spelled_push ps p = sym (flat_map_more (λ (q : TextPiece). q.bytes) [] ps p)
@@ -56,7 +56,7 @@ take_more_of at n text =
 
 -- a piece more was read
 pub read_more : (file : ℕ) (text : List ℕ) (at : ℕ) (tokens : List Token) (place : Place) (new : List Token) (n : ℕ) (next : Place) →
-    IsRead file text at tokens place → Takes file (take at text) (drop at text) tokens new n next → IsRead file text (at + n) new next
+    IsRead file text at tokens place → TakesPiece file (take at text) (drop at text) tokens new n next → IsRead file text (at + n) new next
 read_more file text at tokens place new n next r t =
     let bytes = take n (drop at text) in
     let rest = drop (at + n) text in
@@ -88,7 +88,7 @@ count_read : (file : ℕ) (text : List ℕ) (at : ℕ) (tokens : List Token) (pl
 count_read file text at tokens place r = ap length r.listed ∙ tokens_length file 0 [] [] r.pieces
 
 -- a fault stands behind what was read
-fault_of : (file : ℕ) (text : List ℕ) (at : ℕ) (tokens : List Token) (place : Place) (fault : LexFault) (r : IsRead file text at tokens place) → IsFaultAt file (take at text) (length tokens) (drop at text) fault → IsFaultOf file text fault
+pub fault_of : (file : ℕ) (text : List ℕ) (at : ℕ) (tokens : List Token) (place : Place) (fault : LexFault) (r : IsRead file text at tokens place) → IsFaultAt file (take at text) (length tokens) (drop at text) fault → IsFaultOf file text fault
 fault_of file text at tokens place fault r h =
     let count = count_read file text at tokens place r in (
       r.pieces,
@@ -152,7 +152,7 @@ joined_fault before rest kind n first end place old new stands added joined =
 
 -- the piece was taken
 pub piece_taken : (file : ℕ) (before rest : List ℕ) (kind : PieceKind) (n first : ℕ) (place next : Place) (old new : List Token) → 0 < n → n ≤ length rest → first ≡ length before → place ≡ place_after file before → Stands kind rest (take n rest) (drop n rest) →
-    IsAdded kind first (first + n) place old new (Ok tt) → is_joined kind (drop n rest) ≡ false → next ≡ place_after file (before ++ take n rest) → Takes file before rest old new n next
+    IsAdded kind first (first + n) place old new (Ok tt) → is_joined kind (drop n rest) ≡ false → next ≡ place_after file (before ++ take n rest) → TakesPiece file before rest old new n next
 piece_taken file before rest kind n first place next old new some within counted placed stands added apart passed = record {
   kind = kind;
   some = some;

@@ -77,15 +77,15 @@ pub record IsNumeral (bytes : List ℕ) (value : ℕ) (unsigned : Bool) : Type 0
   pub worth : value ≡ worth_after (radix_of base) 0 digits
 
 -- the numeral of a number below 2 ^ 32
-abbrev pub IsNumber : List ℕ → Type 0
-IsNumber bytes = (value : ℕ) × (unsigned : Bool) × IsNumeral bytes value unsigned × (value < 2 ^ 32)
+abbrev pub IsNumberToken : List ℕ → Type 0
+IsNumberToken bytes = (value : ℕ) × (unsigned : Bool) × IsNumeral bytes value unsigned × (value < 2 ^ 32)
 
 -- a token of a kind. The token at the end of a text is no piece of it
 abbrev pub IsToken : TokenKind → List ℕ → Type 0
 IsToken Name bytes = (class_of (slice_index bytes 0) ≡ Small) × IsWord bytes × (is_keyword bytes ≡ false)
 IsToken TypeName bytes = (class_of (slice_index bytes 0) ≡ Capital) × IsWord bytes
 IsToken Keyword bytes = is_keyword bytes ≡ true
-IsToken Number bytes = IsNumber bytes
+IsToken Number bytes = IsNumberToken bytes
 IsToken Sign bytes = is_sign bytes ≡ true
 IsToken End bytes = ⊥
 

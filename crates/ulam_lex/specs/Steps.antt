@@ -32,7 +32,7 @@ IsFaultIn file before count rest (TooManyTokens p) = IsFaultAt file before count
 IsFaultIn file before count rest NoMemory = Unit {0}
 
 -- a piece of n bytes stands in front of the rest and was taken
-pub record Takes (file : ℕ) (before rest : List ℕ) (old new : List Token) (n : ℕ) (next : Place) : Type 0 where
+pub record TakesPiece (file : ℕ) (before rest : List ℕ) (old new : List Token) (n : ℕ) (next : Place) : Type 0 where
   pub kind : PieceKind
   pub some : 0 < n
   pub within : n ≤ length rest
@@ -44,7 +44,7 @@ pub record Takes (file : ℕ) (before rest : List ℕ) (old new : List Token) (n
 
 -- a piece was taken, or a fault stands there
 abbrev pub IsStep : ℕ → List ℕ → List ℕ → List Token → List Token → Result (ℕ × Place) LexFault → Type 0
-IsStep file before rest old new (Ok taken) = Takes file before rest old new taken.0 taken.1
+IsStep file before rest old new (Ok taken) = TakesPiece file before rest old new taken.0 taken.1
 IsStep file before rest old new (Err fault) = IsFaultIn file before (length old) rest fault
 
 -- the bytes before a place are pieces, and their tokens are these

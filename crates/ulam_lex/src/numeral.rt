@@ -2,7 +2,7 @@
 ghost use Rattle.std.specs.Prelude.{◌≡◌, ◌+◌, ◌*◌, ◌<◌, ◌≤◌, ◌^◌, ◌==◌, length, slice_index, IfSome, IfNone, if◌then◌else◌};
 ghost use Rattle.std.specs.Char.{digit_value, is_digit};
 ghost use Rattle.std.specs.List.{prefix_len};
-ghost use Rattle.ulam_lex.specs.Pieces.{prefix_of, radix_of, worth_after, IsNumeral, IsNumber};
+ghost use Rattle.ulam_lex.specs.Pieces.{prefix_of, radix_of, worth_after, IsNumeral, IsNumberToken};
 ghost use Rattle.ulam_lex.specs.Starts.{IsBaseAt, digit_count, digits_of, rest_of};
 
 /// The base that a number is written in.
@@ -145,7 +145,7 @@ pub struct Numeral {
 
 /// What the text of a number says, as that of each token of the kind `Number`.
 pub fn numeral_of(text: &[u8]) -> Numeral
-    requires { IsNumber text.now }
+    requires { IsNumberToken text.now }
     ensures { IsNumeral text.now result.value result.unsigned }
 {
     let base = base_at(text);

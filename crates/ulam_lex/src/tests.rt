@@ -123,6 +123,39 @@ fn texts_with_their_tokens(rt: HostRuntime) -> Result<(), Fail> {
     )
 }
 
+/// Each word that is no name, with spaces between.
+const KEYWORDS: &str =
+    "element quark ulam use typedef constant if else while for return break continue is as self true false instanceof";
+
+/// Each sign, with spaces between.
+const SIGNS: &str =
+    "{ } ( ) [ ] ; : , . = == != < <= > >= + - * / % & | ^ ~ ! && || << >> ++ -- += -= *= /= %= &= |= ^= <<= >>=";
+
+/// The tokens of a text of words with one space between are these words, `count` in all, and each is
+/// of the kind.
+fn each_is(
+    rt: &impl Abort,
+    alloc: Global,
+    text: &str,
+    kind: TokenKind,
+    count: usize,
+) -> Result<(), Fail> {
+    let tokens = tokens_of(alloc, text.as_bytes())?;
+    assert_eq!(rt; tokens.len(), count + 1);
+    for (token, word) in tokens.iter().zip(text.split(' ')) {
+        assert_eq!(rt; token.kind, kind, "{word}");
+        assert_eq!(rt; (token.end - token.first) as usize, word.len(), "{word}");
+    }
+    Ok(())
+}
+
+#[test]
+fn each_keyword_and_each_sign_is_one_token(rt: HostRuntime) -> Result<(), Fail> {
+    let alloc = rt.alloc();
+    each_is(&rt, alloc, KEYWORDS, TokenKind::Keyword, 19)?;
+    each_is(&rt, alloc, SIGNS, TokenKind::Sign, 43)
+}
+
 #[test]
 fn texts_with_their_faults(rt: HostRuntime) -> Result<(), Fail> {
     check(

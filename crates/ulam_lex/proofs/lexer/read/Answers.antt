@@ -1,7 +1,7 @@
 use Rattle.std.proofs.Common.{◌≡◌, length, take, drop, ap, subst}
 use Rattle.std.proofs.lemmas.Result.{err_from_is_err_and}
 use Rattle.feast_base.specs.declared.place.Place.{Place}
-use Rattle.ulam_lex.specs.Steps.{Takes, IsFaultIn}
+use Rattle.ulam_lex.specs.Steps.{TakesPiece, IsFaultIn}
 use Rattle.ulam_lex.proofs.Progress.{read_more, read_fault}
 use Rattle.ulam_lex.proofs.lexer.read.Goals as goal
 
@@ -15,5 +15,5 @@ returns-in_err-len-clause-fault c =
 pub loop-at-preserved : goal.loop-at-preserved
 loop-at-preserved c =
     let file : c.loop-at.place.file ≡ c.args.file = ap (λ (p : Place). p.file) c.loop-at.invariant.placed in
-    let taken = subst (λ f. Takes f (take c.loop-at.at c.args.bytes.now) (drop c.loop-at.at c.args.bytes.now) c.loop-at.tokens.items c.step.new.tokens.items c.in_ok-len.len c.in_ok-len.next) file c.in_ok-len.ensures in
+    let taken = subst (λ f. TakesPiece f (take c.loop-at.at c.args.bytes.now) (drop c.loop-at.at c.args.bytes.now) c.loop-at.tokens.items c.step.new.tokens.items c.in_ok-len.len c.in_ok-len.next) file c.in_ok-len.ensures in
     read_more c.args.file c.args.bytes.now c.loop-at.at c.loop-at.tokens.items c.loop-at.place c.step.new.tokens.items c.in_ok-len.len c.in_ok-len.next c.loop-at.invariant taken
