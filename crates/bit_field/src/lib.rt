@@ -10,25 +10,33 @@ ghost use Rattle.bit_field.specs.Words.{AreWordsOf, atom_of, replaced, with_fiel
 
 use std::marker::Model;
 
+/// How many bits a state has.
 const STATE_BITS: u32 = 71;
 
-/// An atom: a type number and a state.
+/// An atom: a type number and a state. It takes 16 bytes.
 #[derive(Clone, Copy, Debug, PartialEq, Eq)]
 pub struct Atom {
-    kind: u16,
-    state: u128,
+    /// The low 64 of the 96 bits.
+    low: u64,
+    /// The high 32 of the 96 bits: the type, nine zero bits, the top seven bits of the state.
+    high: u32,
 }
 
 impl Model for Atom {
-    ghost use Rattle.bit_field.specs.Atom.{AtomValue, IsAtom};
+    ghost use Rattle.std.specs.Prelude.{◌%◌, ◌/◌, ◌^◌};
+    ghost use Rattle.bit_field.specs.Atom.{AtomValue, IsAtom, bits_of};
+    ghost use Rattle.bit_field.specs.Words.{AreWords, atom_of};
+    ghost use Rattle.bit_field.specs.Kept.{words-low, words-high};
 
     ghost Value = { AtomValue };
 
-    ghost view = { λ a. record { kind = a.kind; state = a.state } };
+    ghost view = { λ a. atom_of a.low a.high };
 
-    ghost invariant = { λ a. IsAtom (record { kind = a.kind; state = a.state }) };
+    ghost invariant = { λ a. AreWords a.low a.high };
 
-    ghost inverse = { λ a. record { kind = a.kind; state = a.state } };
+    ghost inverse = { λ a. record { low = bits_of a % 2 ^ 64; high = bits_of a / 2 ^ 64 } };
+
+    ghost inverse_ok = { λ a h i. record { low = words-low a.low a.high h i; high = words-high a.low a.high h i } };
 }
 
 impl Atom {
@@ -37,14 +45,17 @@ impl Atom {
         requires { state < 2 ^ 71 }
         ensures { result ≡ record { kind = kind; state = state } }
     {
-        Atom { kind, state }
+        Atom {
+            low: (state % (1u128 << 64)) as u64,
+            high: u32::from(kind) * 65536 + (state >> 64) as u32,
+        }
     }
 
     /// The type number.
     pub fn kind(&self) -> u16
         ensures { result ≡ self.now.kind }
     {
-        self.kind
+        (self.high / 65536) as u16
     }
 
     /// The state, below 2^71.
@@ -52,7 +63,7 @@ impl Atom {
         ensures value { result ≡ self.now.state }
         ensures bound { result < 2 ^ 71 }
     {
-        self.state
+        u128::from(self.high % 65536) * (1u128 << 64) + u128::from(self.low)
     }
 
     /// The field of `width` bits from bit `first` of the state on. It has 1 to 64 bits and ends
@@ -65,7 +76,7 @@ impl Atom {
         ensures bound { result < 2 ^ width }
     {
         let shift = STATE_BITS - first - width;
-        ((self.state >> shift) % (1u128 << width)) as u64
+        ((self.state() >> shift) % (1u128 << width)) as u64
     }
 
     /// Sets the field of `width` bits from bit `first` of the state on, and no other bit. It has
@@ -80,7 +91,8 @@ impl Atom {
         ensures kind { self.new.kind ≡ self.old.kind }
         ensures whole { self.new ≡ with_field self.old first width value }
     {
-        self.state = replace_bits(self.state, STATE_BITS - first - width, width, value);
+        let state = replace_bits(self.state(), STATE_BITS - first - width, width, value);
+        *self = Atom::new(self.kind(), state);
     }
 
     /// The low 64 and the high 32 of the 96 bits.
@@ -89,9 +101,7 @@ impl Atom {
         ensures gap { LeavesGap result.1 }
         ensures back { atom_of result.0 result.1 ≡ self.now }
     {
-        let low = (self.state % (1u128 << 64)) as u64;
-        let high = (self.state >> 64) as u32;
-        (low, u32::from(self.kind) * 65536 + high)
+        (self.low, self.high)
     }
 
     /// The atom of the low 64 and the high 32 bits, of which bits 7 to 15 of the high ones are 0.
@@ -102,15 +112,11 @@ impl Atom {
         ensures words { AreWordsOf result low high }
         ensures only { (a : AtomValue) → IsAtom a → AreWordsOf a low high → a ≡ result }
     {
-        let state = u128::from(high % 65536) * (1u128 << 64) + u128::from(low);
-        Atom {
-            kind: (high / 65536) as u16,
-            state,
-        }
+        Atom { low, high }
     }
 }
 
-// The number with the `width` bits above its low `shift` ones replaced.
+/// The number with the `width` bits above its low `shift` ones replaced.
 fn replace_bits(state: u128, shift: u32, width: u32, value: u64) -> u128
     requires bound { state < 2 ^ 71 }
     requires within { shift + width ≤ 71 }
