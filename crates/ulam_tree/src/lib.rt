@@ -1,0 +1,14 @@
+//! Trees of element files, with the places in the text that later stages refuse.
+//!
+//! The trees here are as the parser gives them: names are bytes, and nothing is looked up.
+//! Contracts see a tree as a plain one, of lists in place of vectors and without boxes.
+#![tactic(auto)]
+
+mod op;
+mod raw;
+
+pub use op::{PairOp, PrefixOp};
+pub use raw::{
+    Call, Class, Cond, Const, Expr, File, Item, Left, Member, Param, Path, Statement, TypeRef,
+    Width, Word,
+};
