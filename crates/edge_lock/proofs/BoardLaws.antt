@@ -1,10 +1,9 @@
 -- What a caller of a board knows of the lists of one edge after its calls.
-use Rattle.std.proofs.Common.{◌≡◌, ◌≢◌, ℕ, ◌+◌, ◌<◌, eqb, Bool, true, false, cond, true≢false, List, [], ◌∷◌, ◌++◌, refl, sym, ap, ◌∙◌, subst, arith}
+use Rattle.std.proofs.Common.{◌≡◌, ◌≢◌, ℕ, ◌+◌, ◌<◌, eqb, Bool, true, false, cond, true≢false, List, [], ◌∷◌, ◌++◌, refl, sym, ap, ◌∙◌, subst, arith, Option, Some, None}
 use Rattle.std.specs.Prelude.{All}
 use Rattle.std.proofs.lemmas.List.Elements.{All-push}
 use Rattle.edge_lock.specs.declared.board.Take.{Take}
 use Rattle.edge_lock.specs.declared.board.Take.TheVariants.{Got, Busy}
-use mathlib.Core.Option.{Option, none, some}
 use Rattle.edge_lock.specs.declared.history.Access.{Access}
 use Rattle.edge_lock.specs.declared.history.Access.TheVariants.{Read, Write}
 use Rattle.edge_lock.specs.declared.history.Hold.{Hold}
@@ -68,8 +67,8 @@ new_given a l n = record { holds = below-change_last a closed_hold l.holds (λ y
 -- what is known of registers, and whether something was written, in the open hold after each kind of call
 last_shown-append : (xs ys : List Access) (r : ℕ) (o : Option ℕ) → last_shown (xs ++ ys) r o ≡ last_shown ys r (last_shown xs r o)
 last_shown-append [] ys r o = refl
-last_shown-append (Read q v ∷ xs) ys r o = last_shown-append xs ys r (cond (eqb r q) (some v) o)
-last_shown-append (Write q v ∷ xs) ys r o = last_shown-append xs ys r (cond (eqb r q) (some v) o)
+last_shown-append (Read q v ∷ xs) ys r o = last_shown-append xs ys r (cond (eqb r q) (Some v) o)
+last_shown-append (Write q v ∷ xs) ys r o = last_shown-append xs ys r (cond (eqb r q) (Some v) o)
 
 -- the accesses of the open hold after one more
 pub last_accesses-access : (x : Access) (hs : List Hold) → is_held hs ≡ true → last_accesses (change_last (with_access x) hs) ≡ last_accesses hs ++ x ∷ []
@@ -78,14 +77,14 @@ last_accesses-access x (h ∷ []) held = refl
 last_accesses-access x (h ∷ g ∷ []) held = refl
 last_accesses-access x (h ∷ g ∷ k ∷ hs) held = last_accesses-access x (g ∷ k ∷ hs) held
 
-pub known_got : (e a r : ℕ) (l : EndLists) → known_value (after_try e a Got l) r ≡ none
-known_got e a r l = ap (λ xs. last_shown xs r none) (last_accesses-snoc l.holds (new_hold e a))
+pub known_got : (e a r : ℕ) (l : EndLists) → known_value (after_try e a Got l) r ≡ None
+known_got e a r l = ap (λ xs. last_shown xs r None) (last_accesses-snoc l.holds (new_hold e a))
 
-pub known_read : (q v r : ℕ) (l : EndLists) → IsHeld l → known_value (after_access (Read q v) l) r ≡ cond (eqb r q) (some v) (known_value l r)
-known_read q v r l held = ap (λ xs. last_shown xs r none) (last_accesses-access (Read q v) l.holds held) ∙ last_shown-append (last_accesses l.holds) (Read q v ∷ []) r none
+pub known_read : (q v r : ℕ) (l : EndLists) → IsHeld l → known_value (after_access (Read q v) l) r ≡ cond (eqb r q) (Some v) (known_value l r)
+known_read q v r l held = ap (λ xs. last_shown xs r None) (last_accesses-access (Read q v) l.holds held) ∙ last_shown-append (last_accesses l.holds) (Read q v ∷ []) r None
 
-pub known_write : (q v r : ℕ) (l : EndLists) → IsHeld l → known_value (after_access (Write q v) l) r ≡ cond (eqb r q) (some v) (known_value l r)
-known_write q v r l held = ap (λ xs. last_shown xs r none) (last_accesses-access (Write q v) l.holds held) ∙ last_shown-append (last_accesses l.holds) (Write q v ∷ []) r none
+pub known_write : (q v r : ℕ) (l : EndLists) → IsHeld l → known_value (after_access (Write q v) l) r ≡ cond (eqb r q) (Some v) (known_value l r)
+known_write q v r l held = ap (λ xs. last_shown xs r None) (last_accesses-access (Write q v) l.holds held) ∙ last_shown-append (last_accesses l.holds) (Write q v ∷ []) r None
 
 writes_nothing-read : (xs : List Access) (q v : ℕ) → writes_nothing (xs ++ Read q v ∷ []) ≡ writes_nothing xs
 writes_nothing-read [] q v = refl
@@ -111,8 +110,8 @@ held_hold e a xs l = is_held-snoc l.holds (hold_of e a xs true)
 pub free_hold : (e a : ℕ) (xs : List Access) (l : EndLists) → IsFree (with_hold l (hold_of e a xs false))
 free_hold e a xs l = is_held-snoc l.holds (hold_of e a xs false)
 
-pub known_hold : (e a r : ℕ) (xs : List Access) (b : Bool) (l : EndLists) → known_value (with_hold l (hold_of e a xs b)) r ≡ last_shown xs r none
-known_hold e a r xs b l = ap (λ ys. last_shown ys r none) (last_accesses-snoc l.holds (hold_of e a xs b))
+pub known_hold : (e a r : ℕ) (xs : List Access) (b : Bool) (l : EndLists) → known_value (with_hold l (hold_of e a xs b)) r ≡ last_shown xs r None
+known_hold e a r xs b l = ap (λ ys. last_shown ys r None) (last_accesses-snoc l.holds (hold_of e a xs b))
 
 pub no_write_hold : (e a : ℕ) (xs : List Access) (b : Bool) (l : EndLists) → writes_nothing xs ≡ true → HasNoWrite (with_hold l (hold_of e a xs b))
 no_write_hold e a xs b l n = ap writes_nothing (last_accesses-snoc l.holds (hold_of e a xs b)) ∙ n

@@ -1,9 +1,9 @@
 -- Laws of the history of an edge, for all crates that read one.
-use Rattle.std.proofs.Common.{◌≡◌, ◌≢◌, ℕ, suc, ◌<◌, eqb, Bool, cond, true, false, List, [], ◌∷◌, ◌++◌, length, get_or, take, drop, refl, sym, ap, ◌∙◌, subst, eq-eqb, ne_eqb, append_assoc}
+use Rattle.std.proofs.Common.{◌≡◌, ◌≢◌, ℕ, suc, ◌<◌, eqb, Bool, cond, true, false, List, [], ◌∷◌, ◌++◌, length, get_or, take, drop, refl, sym, ap, ◌∙◌, subst, eq-eqb, ne_eqb, append_assoc, Option, Some, None}
 use Rattle.std.proofs.Math.Seq.{drop-cons}
 use Rattle.std.proofs.lemmas.List.{take-append-drop}
 use mathlib.Core.Logic.{dite}
-use mathlib.Core.Option.{Option, none, some, some-injective, some-ne-none}
+use Rattle.std.proofs.lemmas.Option.{none-some, same_Some}
 use native.Mathlib.Decide.{ℕ_discrete}
 use Rattle.edge_lock.specs.declared.history.Access.{Access}
 use Rattle.edge_lock.specs.declared.history.Access.TheVariants.{Read, Write}
@@ -31,16 +31,16 @@ record FirstRead (xs : List Access) (r v : ℕ) : Type 0 where
   is : xs ≡ first ++ Read r v ∷ rest
   no_write : NoWriteOf r first
 
-first_read : (xs : List Access) (r v : ℕ) → found_value xs r ≡ some v → FirstRead xs r v
-first_read [] r v e = absurd (some-ne-none v (sym e))
+first_read : (xs : List Access) (r v : ℕ) → found_value xs r ≡ Some v → FirstRead xs r v
+first_read [] r v e = absurd (none-some v e)
 first_read (Read q u ∷ xs) r v e = dite (ℕ_discrete r q)
-    (λ same. let is : u ≡ v = some-injective u v (sym (ap (λ b. cond b (some u) (found_value xs r)) (eq-eqb r q same)) ∙ e) in
+    (λ same. let is : u ≡ v = same_Some u v (sym (ap (λ b. cond b (Some u) (found_value xs r)) (eq-eqb r q same)) ∙ e) in
     record { first = []; rest = xs; is = λ i. Read (sym same i) (is i) ∷ xs; no_write = tt })
-    (λ apart. let f = first_read xs r v (sym (ap (λ b. cond b (some u) (found_value xs r)) (ne_eqb r q apart)) ∙ e) in
+    (λ apart. let f = first_read xs r v (sym (ap (λ b. cond b (Some u) (found_value xs r)) (ne_eqb r q apart)) ∙ e) in
     record { first = Read q u ∷ f.first; rest = f.rest; is = ap (λ l. Read q u ∷ l) f.is; no_write = f.no_write })
 first_read (Write q u ∷ xs) r v e = dite (ℕ_discrete r q)
-    (λ same. absurd (some-ne-none v (sym e ∙ ap (λ b. cond b none (found_value xs r)) (eq-eqb r q same))))
-    (λ apart. let f = first_read xs r v (sym (ap (λ b. cond b none (found_value xs r)) (ne_eqb r q apart)) ∙ e) in
+    (λ same. absurd (none-some v (sym (ap (λ b. cond b None (found_value xs r)) (eq-eqb r q same)) ∙ e)))
+    (λ apart. let f = first_read xs r v (sym (ap (λ b. cond b None (found_value xs r)) (ne_eqb r q apart)) ∙ e) in
     record { first = Write q u ∷ f.first; rest = f.rest; is = ap (λ l. Write q u ∷ l) f.is; no_write = (apart, f.no_write) })
 
 trace-append : (hs gs : List Hold) → trace (hs ++ gs) ≡ trace hs ++ trace gs
@@ -48,7 +48,7 @@ trace-append [] gs = refl
 trace-append (h ∷ hs) gs = ap (λ l. h.accesses ++ l) (trace-append hs gs) ∙ sym (append_assoc h.accesses (trace hs) (trace gs))
 
 -- what a hold finds in a register is that register's value as the hold begins
-pub finds : {n : ℕ} (before : List Hold) (h : Hold) (after : List Hold) (r v : ℕ) → IsHistory n (before ++ h ∷ after) → found_value h.accesses r ≡ some v → v ≡ value before r
+pub finds : {n : ℕ} (before : List Hold) (h : Hold) (after : List Hold) (r v : ℕ) → IsHistory n (before ++ h ∷ after) → found_value h.accesses r ≡ Some v → v ≡ value before r
 finds before h after r v i e =
     let f = first_read h.accesses r v e in
     let whole : trace (before ++ h ∷ after) ≡ (trace before ++ f.first) ++ Read r v ∷ (f.rest ++ trace after) =
@@ -57,14 +57,14 @@ finds before h after r v i e =
     i.reads (trace before ++ f.first) r v (f.rest ++ trace after) whole ∙ (written-append (trace before) f.first r 0 ∙ unwritten r f.first (value before r) f.no_write)
 
 -- the same of the hold at a position: the registers as it begins are those after the holds before it
-pub finds_at : {n : ℕ} (hs : List Hold) (k : ℕ) (d : Hold) (r v : ℕ) → IsHistory n hs → k < length hs → found_value (get_or hs k d).accesses r ≡ some v → v ≡ value_after hs k r
+pub finds_at : {n : ℕ} (hs : List Hold) (k : ℕ) (d : Hold) (r v : ℕ) → IsHistory n hs → k < length hs → found_value (get_or hs k d).accesses r ≡ Some v → v ≡ value_after hs k r
 finds_at {n} hs k d r v i inside e =
     finds (take k hs) (get_or hs k d) (drop (suc k) hs) r v (subst (IsHistory n) (sym (take-append-drop k hs) ∙ ap (λ l. take k hs ++ l) (drop-cons hs k d inside)) i) e
 
 -- an end whose last hold is open has the open hold of the edge
 pub record OpenIsOwn (hs : List Hold) (end : ℕ) : Type 0 where
   pub hold : Hold
-  pub is_open : open_hold hs ≡ some hold
+  pub is_open : open_hold hs ≡ Some hold
   pub is_own : hold.end ≡ end
   pub past : List Hold
   pub last : own end hs ≡ past ++ hold ∷ []
@@ -72,42 +72,42 @@ pub record OpenIsOwn (hs : List Hold) (end : ℕ) : Type 0 where
 pub open_is_own : {n : ℕ} (hs : List Hold) (end : ℕ) → IsHistory n hs → is_held (own end hs) ≡ true → OpenIsOwn hs end
 open_is_own {n} hs end i held = let has = holder hs (own end hs) end i refl held in record {
   hold = has.h;
-  is_open = ap open_hold has.is ∙ (open_hold-snoc has.past has.h ∙ ap (λ b. cond b (some has.h) none) has.is_open);
+  is_open = ap open_hold has.is ∙ (open_hold-snoc has.past has.h ∙ ap (λ b. cond b (Some has.h) None) has.is_open);
   is_own = has.end;
   past = own end has.past;
   last = has.mine_is;
 }
 
 -- where neither end's last hold is open, nobody has the edge
-pub open_is_none : {n : ℕ} (hs : List Hold) → IsHistory n hs → is_held (own 0 hs) ≡ false → is_held (own 1 hs) ≡ false → open_hold hs ≡ none
+pub open_is_none : {n : ℕ} (hs : List Hold) → IsHistory n hs → is_held (own 0 hs) ≡ false → is_held (own 1 hs) ≡ false → open_hold hs ≡ None
 open_is_none {n} hs i low high = Rattle.edge_lock.proofs.SharedSeats.all_given hs (own 0 hs) (own 1 hs) i refl refl low high
 
-known_by : (b : Bool) (xs : List Access) (r u v : ℕ) → ((w : ℕ) → last_shown xs r (some w) ≢ none) → last_shown xs r (cond b (some u) (some v)) ≢ none
+known_by : (b : Bool) (xs : List Access) (r u v : ℕ) → ((w : ℕ) → last_shown xs r (Some w) ≢ None) → last_shown xs r (cond b (Some u) (Some v)) ≢ None
 known_by true xs r u v k = k u
 known_by false xs r u v k = k v
 
 -- a register that was read or written is known
-known_stays : (xs : List Access) (r v : ℕ) → last_shown xs r (some v) ≢ none
-known_stays [] r v e = some-ne-none v e
+known_stays : (xs : List Access) (r v : ℕ) → last_shown xs r (Some v) ≢ None
+known_stays [] r v e = none-some v (sym e)
 known_stays (Read q u ∷ xs) r v e = known_by (eqb r q) xs r u v (λ w. known_stays xs r w) e
 known_stays (Write q u ∷ xs) r v e = known_by (eqb r q) xs r u v (λ w. known_stays xs r w) e
 
-found_by : (b : Bool) (xs : List Access) (r u v : ℕ) (here later : Option ℕ) → (last_shown xs r none ≡ none → later ≡ some v) → last_shown xs r (cond b (some u) none) ≡ none → cond b here later ≡ some v
+found_by : (b : Bool) (xs : List Access) (r u v : ℕ) (here later : Option ℕ) → (last_shown xs r None ≡ None → later ≡ Some v) → last_shown xs r (cond b (Some u) None) ≡ None → cond b here later ≡ Some v
 found_by true xs r u v here later k e = absurd (known_stays xs r u e)
 found_by false xs r u v here later k e = k e
 
 -- the first read of a register that the hold has neither read nor written finds its value
-pub found_read : (xs : List Access) (r v : ℕ) → last_shown xs r none ≡ none → found_value (xs ++ Read r v ∷ []) r ≡ some v
-found_read [] r v e = ap (λ b. cond b (some v) none) (eq-eqb r r refl)
-found_read (Read q u ∷ xs) r v e = found_by (eqb r q) xs r u v (some u) (found_value (xs ++ Read r v ∷ []) r) (found_read xs r v) e
-found_read (Write q u ∷ xs) r v e = found_by (eqb r q) xs r u v none (found_value (xs ++ Read r v ∷ []) r) (found_read xs r v) e
+pub found_read : (xs : List Access) (r v : ℕ) → last_shown xs r None ≡ None → found_value (xs ++ Read r v ∷ []) r ≡ Some v
+found_read [] r v e = ap (λ b. cond b (Some v) None) (eq-eqb r r refl)
+found_read (Read q u ∷ xs) r v e = found_by (eqb r q) xs r u v (Some u) (found_value (xs ++ Read r v ∷ []) r) (found_read xs r v) e
+found_read (Write q u ∷ xs) r v e = found_by (eqb r q) xs r u v None (found_value (xs ++ Read r v ∷ []) r) (found_read xs r v) e
 
-stays_by : (b : Bool) (here now later : Option ℕ) (v : ℕ) → (now ≡ some v → later ≡ some v) → cond b here now ≡ some v → cond b here later ≡ some v
+stays_by : (b : Bool) (here now later : Option ℕ) (v : ℕ) → (now ≡ Some v → later ≡ Some v) → cond b here now ≡ Some v → cond b here later ≡ Some v
 stays_by true here now later v k e = e
 stays_by false here now later v k e = k e
 
 -- what a hold has found stays found
-pub found_stays : (xs ys : List Access) (r v : ℕ) → found_value xs r ≡ some v → found_value (xs ++ ys) r ≡ some v
-found_stays [] ys r v e = absurd (some-ne-none v (sym e))
-found_stays (Read q u ∷ xs) ys r v e = stays_by (eqb r q) (some u) (found_value xs r) (found_value (xs ++ ys) r) v (found_stays xs ys r v) e
-found_stays (Write q u ∷ xs) ys r v e = stays_by (eqb r q) none (found_value xs r) (found_value (xs ++ ys) r) v (found_stays xs ys r v) e
+pub found_stays : (xs ys : List Access) (r v : ℕ) → found_value xs r ≡ Some v → found_value (xs ++ ys) r ≡ Some v
+found_stays [] ys r v e = absurd (none-some v e)
+found_stays (Read q u ∷ xs) ys r v e = stays_by (eqb r q) (Some u) (found_value xs r) (found_value (xs ++ ys) r) v (found_stays xs ys r v) e
+found_stays (Write q u ∷ xs) ys r v e = stays_by (eqb r q) None (found_value xs r) (found_value (xs ++ ys) r) v (found_stays xs ys r v) e

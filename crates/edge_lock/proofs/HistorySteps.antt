@@ -1,10 +1,9 @@
 -- What each step does to an edge's history: it is a history again.
-use Rattle.std.proofs.Common.{◌≡◌, ◌≢◌, ℕ, zero, suc, ◌-◌, ◌<◌, eqb, cond, List, [], ◌∷◌, ◌++◌, map, get_or, refl, sym, ap, ◌∙◌, subst, arith, eq-eqb, ne_eqb, append_assoc}
+use Rattle.std.proofs.Common.{◌≡◌, ◌≢◌, ℕ, zero, suc, ◌-◌, ◌<◌, eqb, cond, List, [], ◌∷◌, ◌++◌, map, get_or, refl, sym, ap, ◌∙◌, subst, arith, eq-eqb, ne_eqb, append_assoc, None}
 use Rattle.std.specs.Prelude.{All}
 use Rattle.std.proofs.lemmas.List.{append-nil, map-append}
 use Rattle.std.proofs.lemmas.List.Elements.{All-push, filter-append}
 use mathlib.Core.Logic.{dite}
-use mathlib.Core.Option.{none}
 use native.Mathlib.Decide.{ℕ_discrete}
 use Rattle.edge_lock.specs.declared.history.Access.{Access}
 use Rattle.edge_lock.specs.declared.history.Access.TheVariants.{Read, Write}
@@ -95,7 +94,7 @@ side_refuses ks past e a b rs s is below new = record {
   };
 }
 
-pub history_takes : {n : ℕ} (hs : List Hold) (e a : ℕ) → IsHistory n hs → open_hold hs ≡ none → e < 2 → IsHistory n (hs ++ new_hold e a ∷ [])
+pub history_takes : {n : ℕ} (hs : List Hold) (e a : ℕ) → IsHistory n hs → open_hold hs ≡ None → e < 2 → IsHistory n (hs ++ new_hold e a ∷ [])
 history_takes {n} hs e a h free end = let same : trace (hs ++ new_hold e a ∷ []) ≡ trace hs = trace-snoc hs (new_hold e a) ∙ append-nil (trace hs) in record {
   ends = subst (All IsEnd) (sym (keys-snoc hs (new_hold e a))) (All-push IsEnd (keys hs) (e, a) h.ends end);
   only_last = only_last-more hs (new_hold e a) h.only_last free;

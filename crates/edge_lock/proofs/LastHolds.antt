@@ -1,9 +1,9 @@
 -- The last element of a list of holds, and lists of accesses that grow at their end.
-use Rattle.std.proofs.Common.{◌≡◌, ◌≢◌, ◌⊎◌, ℕ, suc, ◌<◌, eqb, Bool, true, false, cond, true≢false, List, [], ◌∷◌, ◌++◌, refl, sym, ap, ◌∙◌, subst, inl, inr, ⊎_elim, arith, eq-eqb, ne_eqb, append_assoc}
+use Rattle.std.proofs.Common.{◌≡◌, ◌≢◌, ◌⊎◌, ℕ, suc, ◌<◌, eqb, Bool, true, false, cond, true≢false, List, [], ◌∷◌, ◌++◌, refl, sym, ap, ◌∙◌, subst, inl, inr, ⊎_elim, arith, eq-eqb, ne_eqb, append_assoc, Some, None}
 use Rattle.std.specs.Prelude.{All}
 use Rattle.std.proofs.lemmas.List.{append-nil, map-append}
 use Rattle.std.proofs.lemmas.List.Elements.{All-push}
-use mathlib.Core.Option.{none, some, some-injective, some-ne-none}
+use Rattle.std.proofs.lemmas.Option.{none-some, same_Some}
 use Rattle.edge_lock.specs.declared.history.Access.{Access}
 use Rattle.edge_lock.specs.declared.history.Access.TheVariants.{Read, Write}
 use Rattle.edge_lock.specs.declared.history.Hold.{Hold}
@@ -32,35 +32,35 @@ change_last-snoc f [] h = refl
 change_last-snoc f (x ∷ []) h = refl
 change_last-snoc f (x ∷ y ∷ hs) h = ap (λ (l : List Hold). x ∷ l) (change_last-snoc f (y ∷ hs) h)
 
-pub open_hold-snoc : (hs : List Hold) (h : Hold) → open_hold (hs ++ h ∷ []) ≡ cond h.is_open (some h) none
+pub open_hold-snoc : (hs : List Hold) (h : Hold) → open_hold (hs ++ h ∷ []) ≡ cond h.is_open (Some h) None
 open_hold-snoc [] h = refl
 open_hold-snoc (x ∷ []) h = refl
 open_hold-snoc (x ∷ y ∷ hs) h = open_hold-snoc (y ∷ hs) h
 
-if_open : (b : Bool) (h g : Hold) → cond b (some h) none ≡ some g → (b ≡ true) × (h ≡ g)
-if_open true h g e = (refl, some-injective h g e)
-if_open false h g e = absurd (some-ne-none g (sym e))
+if_open : (b : Bool) (h g : Hold) → cond b (Some h) None ≡ Some g → (b ≡ true) × (h ≡ g)
+if_open true h g e = (refl, same_Some h g e)
+if_open false h g e = absurd (none-some g e)
 
-if_shut : (b : Bool) (h : Hold) → cond b (some h) none ≡ none → b ≡ false
-if_shut true h e = absurd (some-ne-none h e)
+if_shut : (b : Bool) (h : Hold) → cond b (Some h) None ≡ None → b ≡ false
+if_shut true h e = absurd (none-some h (sym e))
 if_shut false h e = refl
 
 pub record Ends (hs : List Hold) (h : Hold) : Type 0 where
   pub past : List Hold
   pub is : hs ≡ past ++ h ∷ []
 
-pub ends_open : (hs : List Hold) (h : Hold) → open_hold hs ≡ some h → Ends hs h × (h.is_open ≡ true)
-ends_open [] h e = absurd (some-ne-none h (sym e))
+pub ends_open : (hs : List Hold) (h : Hold) → open_hold hs ≡ Some h → Ends hs h × (h.is_open ≡ true)
+ends_open [] h e = absurd (none-some h e)
 ends_open (x ∷ []) h e = let p = if_open x.is_open x h e in (record { past = []; is = ap (λ y. y ∷ []) p.1 }, subst (λ (y : Hold). y.is_open ≡ true) p.1 p.0)
 ends_open (x ∷ y ∷ hs) h e = let r = ends_open (y ∷ hs) h e in (record { past = x ∷ r.0.past; is = ap (λ l. x ∷ l) r.0.is }, r.1)
 
-pub none_or_held : (hs : List Hold) → ((open_hold hs ≡ none) × (is_held hs ≡ false)) ⊎ ((h : Hold) × (open_hold hs ≡ some h) × (is_held hs ≡ true))
+pub none_or_held : (hs : List Hold) → ((open_hold hs ≡ None) × (is_held hs ≡ false)) ⊎ ((h : Hold) × (open_hold hs ≡ Some h) × (is_held hs ≡ true))
 none_or_held [] = inl (refl, refl)
 none_or_held (x ∷ []) = one x x.is_open refl
   where
-    one : (x : Hold) (b : Bool) → x.is_open ≡ b → ((open_hold (x ∷ []) ≡ none) × (is_held (x ∷ []) ≡ false)) ⊎ ((h : Hold) × (open_hold (x ∷ []) ≡ some h) × (is_held (x ∷ []) ≡ true))
-    one x true e = inr (x, ap (λ b. cond b (some x) none) e, e)
-    one x false e = inl (ap (λ b. cond b (some x) none) e, e)
+    one : (x : Hold) (b : Bool) → x.is_open ≡ b → ((open_hold (x ∷ []) ≡ None) × (is_held (x ∷ []) ≡ false)) ⊎ ((h : Hold) × (open_hold (x ∷ []) ≡ Some h) × (is_held (x ∷ []) ≡ true))
+    one x true e = inr (x, ap (λ b. cond b (Some x) None) e, e)
+    one x false e = inl (ap (λ b. cond b (Some x) None) e, e)
 none_or_held (x ∷ y ∷ hs) = none_or_held (y ∷ hs)
 
 pub ends_held : (hs : List Hold) → is_held hs ≡ true → (h : Hold) × Ends hs h × (h.is_open ≡ true)
@@ -104,7 +104,7 @@ only_last-change [] h g o = tt
 only_last-change (x ∷ []) h g o = (o.0, tt)
 only_last-change (x ∷ y ∷ past) h g o = (o.0, only_last-change (y ∷ past) h g o.1)
 
-pub only_last-more : (hs : List Hold) (g : Hold) → OnlyLastOpen hs → open_hold hs ≡ none → OnlyLastOpen (hs ++ g ∷ [])
+pub only_last-more : (hs : List Hold) (g : Hold) → OnlyLastOpen hs → open_hold hs ≡ None → OnlyLastOpen (hs ++ g ∷ [])
 only_last-more [] g o e = tt
 only_last-more (x ∷ []) g o e = (if_shut x.is_open x e, tt)
 only_last-more (x ∷ y ∷ hs) g o e = (o.0, only_last-more (y ∷ hs) g o.1 e)

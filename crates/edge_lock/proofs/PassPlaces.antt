@@ -1,5 +1,5 @@
 -- The passes of one tile, by the numbers of their edges.
-use Rattle.std.proofs.Common.{◌≡◌, ◌≢◌, ℕ, suc, ◌+◌, ◌<◌, eqb, Bool, true, cond, List, [], ◌∷◌, map, length, get_or, set, drop, refl, sym, ap, ◌∙◌, subst, arith, drop-cons, eq-eqb, ne_eqb}
+use Rattle.std.proofs.Common.{◌≡◌, ◌≢◌, ℕ, suc, ◌+◌, ◌<◌, eqb, Bool, true, cond, List, [], ◌∷◌, map, length, get_or, set, drop, refl, sym, ap, ◌∙◌, subst, arith, drop-cons, eq-eqb, ne_eqb, Some}
 use Rattle.std.specs.Prelude.{All, slice_get, Some}
 use Rattle.std.proofs.lemmas.Option.{slice_get_within, slice_get-get_or}
 use mathlib.Core.Logic.{dite}
@@ -134,6 +134,7 @@ pub record Acts (es : List EdgeValue) (ps : List PassValue) (tile : ℕ) (v : Sh
   pub bound : e < length es
   pub of : (p : PassValue) (x : EdgeValue) → p ≡ get_or ps i p → x ≡ get_or es e x → p.of ≡ x
   pub registers : (p : PassValue) (x : EdgeValue) → p ≡ get_or ps i p → x ≡ get_or es e x → registers_at v.passes e ≡ x.registers
+  pub end : (p : PassValue) → p ≡ get_or ps i p → end_at v.passes e ≡ p.end
   pub lists : (p : PassValue) → p ≡ get_or ps i p → lists_at v.passes e ≡ p.lists
   pub after : (p q : PassValue) (f : ℕ → EndLists → EndLists) → p ≡ get_or ps i p → q ≡ with_lists p (f p.end p.lists) → Acted v e (f (end_at v.passes e) (lists_at v.passes e)) (shared_end_value tile (set ps i q))
 
@@ -143,6 +144,7 @@ acts es ps ns tile v e i seen all same is inside =
       bound = h.bound;
       of = h.of;
       registers = λ p x at there. ap (λ l. registers_at l e) (sym at_v) ∙ ((h.stood p at).registers ∙ ap (λ (y : EdgeValue). y.registers) (h.of p x at there));
+      end = λ p at. ap (λ l. end_at l e) (sym at_v) ∙ (h.stood p at).end;
       lists = λ p at. ap (λ l. lists_at l e) (sym at_v) ∙ (h.stood p at).lists;
       after = λ p q f at now. let s = h.stood p at in let r = h.after p q (f p.end p.lists) at now in record {
         lists = (λ k x. r.lists x k)

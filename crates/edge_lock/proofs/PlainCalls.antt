@@ -8,10 +8,10 @@ use mathlib.Core.Logic.{dite}
 use native.Mathlib.Decide.{ℕ_discrete, dec_lt}
 use Rattle.edge_lock.specs.declared.board.Take.{Take}
 use Rattle.edge_lock.specs.declared.board.Take.TheVariants.{Got, Busy}
-use Rattle.feast_base.specs.Edges.{EdgeSize}
+use Rattle.feast_base.specs.Edges.{EdgeSize, registers_of}
 use Rattle.edge_lock.specs.declared.history.Access.{Access}
 use Rattle.edge_lock.specs.EndLists.{EndLists, replace_at}
-use Rattle.edge_lock.specs.PlainEdges.{PlainEdgeValue, own_lists, edge_after_try, edge_after_access, edge_after_give, Answers}
+use Rattle.edge_lock.specs.PlainEdges.{PlainEdgeValue, own_lists, edge_after_try, edge_after_access, edge_after_give, IsAnswer}
 use Rattle.edge_lock.specs.PlainBoard.{PlainBoardValue, plain_board_value, no_edge, edge_at, end_of, is_end, registers_on, end_on, lists_on, other_lists_on, Call, MayCall, effect_of, tries, tried_at, IsCall, Moved, stays, goes, untouched_edge, IsKeptEdge}
 
 pub record SameEnds (x y : PlainEdgeValue) : Type 0 where
@@ -69,7 +69,7 @@ inside_at b e some_registers = dite (dec_lt e (length b.edges)) (λ l. l) (λ n.
     zero_either true = refl
     zero_either false = refl
 
-pub tried_effect : (e a : ℕ) (x : PlainEdgeValue) (t : Take) → Answers e x t → edge_after_try e a t x ≡ effect_of e (tries a) x
+pub tried_effect : (e a : ℕ) (x : PlainEdgeValue) (t : Take) → IsAnswer e x t → edge_after_try e a t x ≡ effect_of e (tries a) x
 tried_effect e a x Got free = ap (λ o. tried_at o e a x) (sym free)
 tried_effect e a x (Busy b) (h, is_open, who, which) = ap (λ n. edge_after_try e a (Busy n) x) (sym which) ∙ ap (λ o. tried_at o e a x) (sym is_open)
 
@@ -155,6 +155,11 @@ all_set P xs i y h p k d l =
     (λ same. let inside : i < length xs = omega arith in subst P (sym (ap (λ j. get_or (set xs i y) j d) same ∙ get_or-set_same xs i y d inside)) p)
     (λ apart. subst P (sym (get_or-set_other xs i k y d apart)) (h k d (omega arith)))
 
+-- an end is 0 or 1
+pub end_low : (b : Bool) → cond b 0 1 < 2
+end_low true = omega arith
+end_low false = omega arith
+
 pub kept_untouched : (zs : List EdgeSize) → All IsKeptEdge (map untouched_edge zs)
 kept_untouched [] = all-none IsKeptEdge
-kept_untouched (z ∷ zs) = all-cons IsKeptEdge (untouched_edge z) (map untouched_edge zs) (kept_none z.registers) (kept_untouched zs)
+kept_untouched (z ∷ zs) = all-cons IsKeptEdge (untouched_edge z) (map untouched_edge zs) (kept_none (registers_of z.sites)) (kept_untouched zs)

@@ -1,10 +1,11 @@
 -- How the one history of a plain edge goes on while one tile's end acts: what that end did since is its ending.
-use Rattle.std.proofs.Common.{◌≡◌, ℕ, true, true≢false, List, [], ◌∷◌, ◌++◌, map, refl, sym, ap, ◌∙◌, subst, append_assoc}
+use Rattle.std.proofs.Common.{◌≡◌, ℕ, true, true≢false, List, [], ◌∷◌, ◌++◌, map, refl, sym, ap, ◌∙◌, subst, append_assoc, Option, Some, None}
 use Rattle.std.proofs.Math.Seq.{map-set_same}
 use Rattle.std.proofs.lemmas.List.{append-nil}
 use Rattle.feast_base.specs.Edges.{EdgeSize}
+use Rattle.edge_lock.specs.History.{site_count}
+use Rattle.edge_lock.proofs.Counts.{sites_back}
 use mathlib.Core.Logic.{dite}
-use mathlib.Core.Option.{Option, none, some}
 use native.Mathlib.Decide.{ℕ_discrete}
 use Rattle.edge_lock.specs.declared.history.Access.TheVariants.{Read, Write}
 use Rattle.edge_lock.specs.declared.history.Hold.{Hold}
@@ -68,11 +69,11 @@ module _ (e : ℕ) (x : PlainEdgeValue) (t : Seen) where
   }
 
   tried_one : (a : ℕ) (o : Option Hold) → IsFree (own_lists e x) → GoesFrom (e, tried_at o e a x) t → GoesFrom (e, x) t
-  tried_one a none free g = record {
+  tried_one a None free g = record {
     from_free = λ _. g.from_held x.holds (new_hold e a) refl refl refl;
     from_held = λ past h is end is_open. absurd (true≢false (sym (no_hold_left e past h x is end is_open) ∙ free));
   }
-  tried_one a (some k) free g = record {
+  tried_one a (Some k) free g = record {
     from_free = λ _. g.from_free free;
     from_held = λ past h is end is_open. absurd (true≢false (sym (no_hold_left e past h x is end is_open) ∙ free));
   }
@@ -104,9 +105,9 @@ pub sizes_stay : (b c : PlainBoardValue) → Moved b c → sizes_of_board c ≡ 
 sizes_stay b c (stays _) = refl
 sizes_stay b c (goes _ d _ n call w m) =
     let x = edge_at b n in let y = effect_of (end_on b n) call x in let ends = effect_ends (end_on b n) call x in
-    sizes_stay d c m ∙ (ap sizes_of_board w.is ∙ map-set_same size_of b.edges n y no_edge (λ i. record { lower = ends.lower i; higher = ends.higher i; registers = ends.registers i }))
+    sizes_stay d c m ∙ (ap sizes_of_board w.is ∙ map-set_same size_of b.edges n y no_edge (λ i. record { lower = ends.lower i; higher = ends.higher i; sites = site_count (ends.registers i) }))
 
 -- the edges of a new board have its sizes
 pub sizes_at_first : (zs : List EdgeSize) → map size_of (map untouched_edge zs) ≡ zs
 sizes_at_first [] = refl
-sizes_at_first (z ∷ zs) = ap (λ l. z ∷ l) (sizes_at_first zs)
+sizes_at_first (z ∷ zs) = λ i. record { lower = z.lower; higher = z.higher; sites = sites_back z.sites i } ∷ sizes_at_first zs i

@@ -1,14 +1,13 @@
 -- What the acting end's calls leave as it was: the history stays one, and the other ends keep their lists.
-use Rattle.std.proofs.Common.{◌≡◌, ◌≢◌, ℕ, ◌-◌, ◌<◌, eqb, Bool, true, false, cond, List, [], ◌∷◌, ◌++◌, refl, sym, ap, ◌∙◌, subst}
+use Rattle.std.proofs.Common.{◌≡◌, ◌≢◌, ℕ, ◌-◌, ◌<◌, eqb, Bool, true, false, cond, List, [], ◌∷◌, ◌++◌, refl, sym, ap, ◌∙◌, subst, Option, Some, None}
 use Rattle.std.specs.Prelude.{◌||◌}
 use Rattle.std.proofs.lemmas.Bool.{eqb-true}
 use mathlib.Core.Logic.{dite}
-use mathlib.Core.Option.{Option, none, some}
 use native.Mathlib.Decide.{ℕ_discrete}
 use Rattle.edge_lock.specs.declared.board.Take.TheVariants.{Got, Busy}
 use Rattle.edge_lock.specs.declared.history.Access.TheVariants.{Read, Write}
 use Rattle.edge_lock.specs.declared.history.Hold.{Hold}
-use Rattle.edge_lock.specs.History.{own, value, open_hold, key, keys, sites_of, IsHistory}
+use Rattle.edge_lock.specs.History.{own, value, open_hold, key, keys, site_count, IsHistory}
 use Rattle.edge_lock.specs.EndLists.{change_last, with_access, closed_hold, IsHeld}
 use Rattle.edge_lock.specs.PlainEdges.{PlainEdgeValue, plain_view, own_lists, view_of, plain_view_after_change, IsKept}
 use Rattle.edge_lock.specs.PlainBoard.{PlainBoardValue, edge_at, end_of, is_end, end_on, lists_of_tile, Call, tries, reads, writes, gives, MayCall, tried_at, effect_of, Moved, stays, goes}
@@ -19,18 +18,18 @@ use Rattle.edge_lock.proofs.PlainRules.{takes, refuses, kept_change, other, othe
 use Rattle.edge_lock.proofs.PlainLaws.{end_small, sees, effect_ends}
 use Rattle.edge_lock.proofs.PlainCalls.{SameEnds}
 
-kept_last : (e : ℕ) (x : PlainEdgeValue) (f : Hold → Hold) → IsKept (view_of x) → IsHeld (own_lists e x) → ((h : Hold) → key h ≡ key (f h)) → ((past : List Hold) (h : Hold) → x.holds ≡ past ++ h ∷ [] → IsHistory (sites_of x.registers) (past ++ h ∷ []) → IsHistory (sites_of x.registers) (past ++ f h ∷ [])) → IsKept (plain_view_after_change f (view_of x))
+kept_last : (e : ℕ) (x : PlainEdgeValue) (f : Hold → Hold) → IsKept (view_of x) → IsHeld (own_lists e x) → ((h : Hold) → key h ≡ key (f h)) → ((past : List Hold) (h : Hold) → x.holds ≡ past ++ h ∷ [] → IsHistory (site_count x.registers) (past ++ h ∷ []) → IsHistory (site_count x.registers) (past ++ f h ∷ [])) → IsKept (plain_view_after_change f (view_of x))
 kept_last e x f k held same step =
     let has = holder x.holds (own e x.holds) e k.holds refl held in let past = has.past in let h = has.h in
     let now : change_last f x.holds ≡ past ++ f h ∷ [] = ap (change_last f) has.is ∙ change_last-snoc f past h in
-    subst (λ l. IsKept (plain_view x.registers l x.low x.high)) (sym now) (kept_change (view_of x) past h (f h) k has.is (same h) (step past h has.is (subst (IsHistory (sites_of x.registers)) has.is k.holds)))
+    subst (λ l. IsKept (plain_view x.registers l x.low x.high)) (sym now) (kept_change (view_of x) past h (f h) k has.is (same h) (step past h has.is (subst (IsHistory (site_count x.registers)) has.is k.holds)))
 
 pub kept_effect : (e : ℕ) (call : Call) (x : PlainEdgeValue) → e < 2 → IsKept (view_of x) → MayCall e call x → IsKept (view_of (effect_of e call x))
 kept_effect e (tries a) x end k can = by (open_hold x.holds) refl
   where
     by : (o : Option Hold) → open_hold x.holds ≡ o → IsKept (view_of (tried_at o e a x))
-    by none free = takes e a (view_of x) end k free can.1.holds can.1.refusals
-    by (some h) is_open = let o = other x.holds e h k.holds end can.0 is_open in let who = o.end in
+    by None free = takes e a (view_of x) end k free can.1.holds can.1.refusals
+    by (Some h) is_open = let o = other x.holds e h k.holds end can.0 is_open in let who = o.end in
         refuses e a h.attempt (keys o.past) (view_of x) end k (ap keys o.is ∙ (keys-snoc o.past h ∙ ap (λ n. keys o.past ++ (n, h.attempt) ∷ []) who)) can.1.holds can.1.refusals
 kept_effect e (reads r) x end k can = kept_last e x (with_access (Read r (value x.holds r))) k can.0 (λ h. refl)
     (λ past h is i. history_accesses past h (Read r (value x.holds r)) i (λ p v same. let a : r ≡ p = cc in let b : value x.holds r ≡ v = cc in sym b ∙ (ap (λ l. value l r) is ∙ ap (value (past ++ h ∷ [])) a)) tt)
@@ -41,8 +40,8 @@ other_effect : (e : ℕ) (call : Call) (x : PlainEdgeValue) → e < 2 → IsKept
 other_effect e (tries a) x end k can = by (open_hold x.holds)
   where
     by : (o : Option Hold) → own_lists (1 - e) (tried_at o e a x) ≡ own_lists (1 - e) x
-    by none = other_tried e a Got x end
-    by (some h) = other_tried e a (Busy h.attempt) x end
+    by None = other_tried e a Got x end
+    by (Some h) = other_tried e a (Busy h.attempt) x end
 other_effect e (reads r) x end k can = other_changed e (with_access (Read r (value x.holds r))) x end (λ h. refl) k can.0
 other_effect e (writes r v) x end k can = other_changed e (with_access (Write r v)) x end (λ h. refl) k can.0
 other_effect e gives x end k can = other_changed e closed_hold x end (λ h. refl) k can

@@ -1,8 +1,7 @@
 -- Where one end's lists on an edge of the plain board grew by one refusal alone, the other end had the edge.
-use Rattle.std.proofs.Common.{◌≡◌, ◌≢◌, ℕ, ◌+◌, ◌<◌, ◌≤◌, eqb, Bool, true, false, cond, true≢false, List, [], ◌∷◌, ◌++◌, length, get_or, set, refl, sym, ap, ◌∙◌, subst, arith, append_assoc, length-append, get_or-set_other, get_or-set_same}
+use Rattle.std.proofs.Common.{◌≡◌, ◌≢◌, ℕ, ◌+◌, ◌<◌, ◌≤◌, eqb, Bool, true, false, cond, true≢false, List, [], ◌∷◌, ◌++◌, length, get_or, set, refl, sym, ap, ◌∙◌, subst, arith, append_assoc, length-append, get_or-set_other, get_or-set_same, Option, Some, None}
 use Rattle.std.proofs.lemmas.List.{append-nil}
 use mathlib.Core.Logic.{dite}
-use mathlib.Core.Option.{Option, none, some}
 use native.Mathlib.Decide.{ℕ_discrete}
 use Rattle.edge_lock.specs.declared.board.Take.{Take}
 use Rattle.edge_lock.specs.declared.board.Take.TheVariants.{Got, Busy}
@@ -11,7 +10,7 @@ use Rattle.edge_lock.specs.declared.history.Hold.{Hold}
 use Rattle.edge_lock.specs.declared.history.Refusal.{Refusal}
 use Rattle.edge_lock.specs.History.{own, value, open_hold}
 use Rattle.edge_lock.specs.EndLists.{EndLists, end_lists, change_last, new_hold, refusal_of, with_access, closed_hold, after_try, replace_at, IsFree}
-use Rattle.edge_lock.specs.PlainEdges.{PlainEdgeValue, own_lists, view_of, IsKept, Answers}
+use Rattle.edge_lock.specs.PlainEdges.{PlainEdgeValue, own_lists, view_of, IsKept, IsAnswer}
 use Rattle.edge_lock.specs.PlainBoard.{PlainBoardValue, no_edge, edge_at, end_of, end_on, lists_on, Call, tries, reads, writes, gives, MayCall, tried_at, effect_of, IsCall, Moved, stays, goes}
 use Rattle.edge_lock.proofs.LastHolds.{replace_at-here, replace_at-else}
 use Rattle.edge_lock.proofs.PlainRules.{own_tried, other}
@@ -21,8 +20,8 @@ pub effect_ends : (e : ℕ) (call : Call) (x : PlainEdgeValue) → SameEnds x (e
 effect_ends e (tries a) x = by (open_hold x.holds)
   where
     by : (o : Option Hold) → SameEnds x (tried_at o e a x)
-    by none = tried_ends e a x Got
-    by (some h) = tried_ends e a x (Busy h.attempt)
+    by None = tried_ends e a x Got
+    by (Some h) = tried_ends e a x (Busy h.attempt)
 effect_ends e (reads r) x = record { lower = refl; higher = refl; registers = refl }
 effect_ends e (writes r v) x = record { lower = refl; higher = refl; registers = refl }
 effect_ends e gives x = record { lower = refl; higher = refl; registers = refl }
@@ -63,12 +62,12 @@ changed_last : (e : ℕ) (f : Hold → Hold) (x : PlainEdgeValue) → ((h : Hold
 changed_last e f x k = let n = own_count e f x.holds k in record { holds = omega arith; rest = []; refusals = sym (append-nil (cond (eqb e 0) x.low x.high)) }
 
 grows_tried : (e a : ℕ) (x : PlainEdgeValue) (o : Option Hold) → e < 2 → Grows (own_lists e x) (own_lists e (tried_at o e a x))
-grows_tried e a x none end = subst (Grows (own_lists e x)) (sym (own_tried e a Got x end)) record {
+grows_tried e a x None end = subst (Grows (own_lists e x)) (sym (own_tried e a Got x end)) record {
   holds = omega (arith, length-append (own e x.holds) (new_hold e a ∷ []));
   rest = [];
   refusals = sym (append-nil (cond (eqb e 0) x.low x.high));
 }
-grows_tried e a x (some h) end = subst (Grows (own_lists e x)) (sym (own_tried e a (Busy h.attempt) x end)) record { holds = omega arith; rest = refusal_of a h.attempt ∷ []; refusals = refl }
+grows_tried e a x (Some h) end = subst (Grows (own_lists e x)) (sym (own_tried e a (Busy h.attempt) x end)) record { holds = omega arith; rest = refusal_of a h.attempt ∷ []; refusals = refl }
 
 grows_effect : (e : ℕ) (call : Call) (x : PlainEdgeValue) → e < 2 → Grows (own_lists e x) (own_lists e (effect_of e call x))
 grows_effect e (tries a) x end = grows_tried e a x (open_hold x.holds) end
@@ -120,17 +119,17 @@ first_same (r ∷ rs) p q rest e = let t : (rs ++ p ∷ []) ++ rest ≡ rs ++ q 
 
 -- what the one call on the edge was
 one_refusal : (b c d : PlainBoardValue) (e a n : ℕ) (call : Call) → IsKept (view_of (edge_at b e)) → IsFree (lists_on b e) → MayCall (end_on b e) call (edge_at b e) → lists_on d e ≡ own_lists (end_on b e) (effect_of (end_on b e) call (edge_at b e))
-    → Grows (lists_on d e) (lists_on c e) → lists_on c e ≡ end_lists (lists_on b e).holds ((lists_on b e).refusals ++ refusal_of a n ∷ []) → Answers (end_on b e) (edge_at b e) (Busy n)
+    → Grows (lists_on d e) (lists_on c e) → lists_on c e ≡ end_lists (lists_on b e).holds ((lists_on b e).refusals ++ refusal_of a n ∷ []) → IsAnswer (end_on b e) (edge_at b e) (Busy n)
 one_refusal b c d e a n (tries m) k free can now more is = by (open_hold (edge_at b e).holds) refl
   where
-    by : (o : Option Hold) → open_hold (edge_at b e).holds ≡ o → Answers (end_on b e) (edge_at b e) (Busy n)
-    by none none_open =
+    by : (o : Option Hold) → open_hold (edge_at b e).holds ≡ o → IsAnswer (end_on b e) (edge_at b e) (Busy n)
+    by None none_open =
         let end = end_small (edge_at b e) b.acting in
         let got : lists_on d e ≡ after_try (end_on b e) m Got (lists_on b e) = now ∙ (ap (λ o. own_lists (end_on b e) (tried_at o (end_on b e) m (edge_at b e))) none_open ∙ own_tried (end_on b e) m Got (edge_at b e) end) in
         let wide : length (lists_on d e).holds ≡ length (lists_on b e).holds + 1 = ap (λ (l : EndLists). length l.holds) got ∙ length-append (lists_on b e).holds (new_hold (end_on b e) m ∷ []) in
         let same : length (lists_on c e).holds ≡ length (lists_on b e).holds = ap (λ (l : EndLists). length l.holds) is in
         let h = more.holds in absurd (omega arith)
-    by (some h) some_open =
+    by (Some h) some_open =
         let end = end_small (edge_at b e) b.acting in
         let got : lists_on d e ≡ after_try (end_on b e) m (Busy h.attempt) (lists_on b e) = now ∙ (ap (λ o. own_lists (end_on b e) (tried_at o (end_on b e) m (edge_at b e))) some_open ∙ own_tried (end_on b e) m (Busy h.attempt) (edge_at b e) end) in
         let line : ((lists_on b e).refusals ++ refusal_of m h.attempt ∷ []) ++ more.rest ≡ (lists_on b e).refusals ++ refusal_of a n ∷ [] =
@@ -142,24 +141,24 @@ one_refusal b c d e a n (writes r v) k free can now more is = absurd (true≢fal
 one_refusal b c d e a n gives k free can now more is = absurd (true≢false (sym can ∙ free))
 
 -- the other end had the edge, with the attempt that the refusal names
-pub busy_means : (b c : PlainBoardValue) → Moved b c → (e a n : ℕ) → IsKept (view_of (edge_at b e)) → IsFree (lists_on b e) → lists_on c e ≡ end_lists (lists_on b e).holds ((lists_on b e).refusals ++ refusal_of a n ∷ []) → Answers (end_on b e) (edge_at b e) (Busy n)
+pub busy_means : (b c : PlainBoardValue) → Moved b c → (e a n : ℕ) → IsKept (view_of (edge_at b e)) → IsFree (lists_on b e) → lists_on c e ≡ end_lists (lists_on b e).holds ((lists_on b e).refusals ++ refusal_of a n ∷ []) → IsAnswer (end_on b e) (edge_at b e) (Busy n)
 busy_means b c (stays _) e a n k free is = let l : length (lists_on b e).refusals ≡ length (lists_on b e).refusals + 1 = ap (λ (l : EndLists). length l.refusals) is ∙ length-append (lists_on b e).refusals (refusal_of a n ∷ []) in absurd (omega arith)
 busy_means b c (goes _ d _ at_edge call w m) e a n k free is =
     let s = sees b d at_edge call w e in
     dite (ℕ_discrete at_edge e)
     (λ at. one_refusal b c d e a n call k free (subst (λ j. MayCall (end_on b j) call (edge_at b j)) at w.can) (s.here at) (grows d c m e) is)
     (λ apart. let t = s.there apart in
-    subst (λ (v : ℕ × PlainEdgeValue). Answers v.0 v.1 (Busy n)) (λ i. (s.ends i, t.1 i))
+    subst (λ (v : ℕ × PlainEdgeValue). IsAnswer v.0 v.1 (Busy n)) (λ i. (s.ends i, t.1 i))
     (busy_means d c m e a n (subst (λ v. IsKept (view_of v)) (sym t.1) k) (subst IsFree (sym t.0) free) (is ∙ ap (λ (l : EndLists). end_lists l.holds (l.refusals ++ refusal_of a n ∷ [])) (sym t.0))))
 
 -- the same where the lists grew by one open hold alone: nobody had the edge
 one_hold : (b c d : PlainBoardValue) (e a : ℕ) (call : Call) → IsFree (lists_on b e) → MayCall (end_on b e) call (edge_at b e) → lists_on d e ≡ own_lists (end_on b e) (effect_of (end_on b e) call (edge_at b e)) → Grows (lists_on d e) (lists_on c e)
-    → (lists_on c e).refusals ≡ (lists_on b e).refusals → Answers (end_on b e) (edge_at b e) Got
+    → (lists_on c e).refusals ≡ (lists_on b e).refusals → IsAnswer (end_on b e) (edge_at b e) Got
 one_hold b c d e a (tries m) free can now more is = by (open_hold (edge_at b e).holds) refl
   where
-    by : (o : Option Hold) → open_hold (edge_at b e).holds ≡ o → open_hold (edge_at b e).holds ≡ none
-    by none none_open = none_open
-    by (some h) some_open =
+    by : (o : Option Hold) → open_hold (edge_at b e).holds ≡ o → open_hold (edge_at b e).holds ≡ None
+    by None none_open = none_open
+    by (Some h) some_open =
         let end = end_small (edge_at b e) b.acting in
         let got : lists_on d e ≡ after_try (end_on b e) m (Busy h.attempt) (lists_on b e) = now ∙ (ap (λ o. own_lists (end_on b e) (tried_at o (end_on b e) m (edge_at b e))) some_open ∙ own_tried (end_on b e) m (Busy h.attempt) (edge_at b e) end) in
         let wide : length (lists_on d e).refusals ≡ length (lists_on b e).refusals + 1 = ap (λ (l : EndLists). length l.refusals) got ∙ length-append (lists_on b e).refusals (refusal_of m h.attempt ∷ []) in
@@ -169,17 +168,17 @@ one_hold b c d e a (reads r) free can now more is = absurd (true≢false (sym ca
 one_hold b c d e a (writes r v) free can now more is = absurd (true≢false (sym can.0 ∙ free))
 one_hold b c d e a gives free can now more is = absurd (true≢false (sym can ∙ free))
 
-pub got_means : (b c : PlainBoardValue) → Moved b c → (e a : ℕ) → IsFree (lists_on b e) → lists_on c e ≡ end_lists ((lists_on b e).holds ++ new_hold (end_on b e) a ∷ []) (lists_on b e).refusals → Answers (end_on b e) (edge_at b e) Got
+pub got_means : (b c : PlainBoardValue) → Moved b c → (e a : ℕ) → IsFree (lists_on b e) → lists_on c e ≡ end_lists ((lists_on b e).holds ++ new_hold (end_on b e) a ∷ []) (lists_on b e).refusals → IsAnswer (end_on b e) (edge_at b e) Got
 got_means b c (stays _) e a free is = let l : length (lists_on b e).holds ≡ length (lists_on b e).holds + 1 = ap (λ (l : EndLists). length l.holds) is ∙ length-append (lists_on b e).holds (new_hold (end_on b e) a ∷ []) in absurd (omega arith)
 got_means b c (goes _ d _ n call w m) e a free is =
     let s = sees b d n call w e in
     dite (ℕ_discrete n e)
     (λ at. one_hold b c d e a call free (subst (λ j. MayCall (end_on b j) call (edge_at b j)) at w.can) (s.here at) (grows d c m e) (ap (λ (l : EndLists). l.refusals) is))
     (λ apart. let t = s.there apart in
-    subst (λ (v : ℕ × PlainEdgeValue). Answers v.0 v.1 Got) (λ i. (s.ends i, t.1 i))
+    subst (λ (v : ℕ × PlainEdgeValue). IsAnswer v.0 v.1 Got) (λ i. (s.ends i, t.1 i))
     (got_means d c m e a (subst IsFree (sym t.0) free) (is ∙ (λ i. end_lists ((sym t.0 i).holds ++ new_hold (sym s.ends i) a ∷ []) (sym t.0 i).refusals))))
 
 -- One try by code that knows the board as a `Board` alone: its answer is that of the lock, as the lists and the calls tell it.
-pub answer_means : (b c : PlainBoardValue) → Moved b c → (e a : ℕ) (t : Take) → IsKept (view_of (edge_at b e)) → IsFree (lists_on b e) → lists_on c e ≡ after_try (end_on b e) a t (lists_on b e) → Answers (end_on b e) (edge_at b e) t
+pub answer_means : (b c : PlainBoardValue) → Moved b c → (e a : ℕ) (t : Take) → IsKept (view_of (edge_at b e)) → IsFree (lists_on b e) → lists_on c e ≡ after_try (end_on b e) a t (lists_on b e) → IsAnswer (end_on b e) (edge_at b e) t
 answer_means b c m e a Got k free is = got_means b c m e a free is
 answer_means b c m e a (Busy n) k free is = busy_means b c m e a n k free is

@@ -1,5 +1,5 @@
 -- Each step of a plain edge keeps its rule.
-use Rattle.std.proofs.Common.{◌≡◌, ◌≢◌, ℕ, zero, suc, ◌+◌, ◌-◌, ◌*◌, ◌<◌, eqb, Bool, true, false, cond, true≢false, List, [], ◌∷◌, ◌++◌, length, get_or, set, replicate, refl, sym, ap, ◌∙◌, subst, ⊎_elim, arith, eq-eqb, ne_eqb, length-set, get_or-set_same, get_or-set_other}
+use Rattle.std.proofs.Common.{◌≡◌, ◌≢◌, ℕ, zero, suc, ◌+◌, ◌-◌, ◌*◌, ◌<◌, eqb, Bool, true, false, cond, true≢false, List, [], ◌∷◌, ◌++◌, length, get_or, set, replicate, refl, sym, ap, ◌∙◌, subst, ⊎_elim, arith, eq-eqb, ne_eqb, length-set, get_or-set_same, get_or-set_other, Some, None}
 use Rattle.std.specs.Prelude.{All}
 use Rattle.std.proofs.lemmas.List.{set-get_or, get_or-replicate, length-replicate}
 use mathlib.Core.Logic.{dite}
@@ -16,10 +16,10 @@ use Rattle.edge_lock.specs.declared.history.Access.TheVariants.{Read, Write}
 use Rattle.edge_lock.specs.declared.history.Hold.{Hold}
 use Rattle.edge_lock.specs.declared.history.Refusal.{Refusal}
 use Rattle.edge_lock.specs.declared.plain_steps.PlainView.{PlainView}
-use Rattle.edge_lock.specs.History.{own, trace, written, value, ReadsTrue, IsAllowed, IsAllowedAccess, open_hold, key, keys, sites_of, IsEnd, IsSide, IsHistory}
+use Rattle.edge_lock.specs.History.{own, trace, written, value, ReadsTrue, IsAllowed, IsAllowedAccess, open_hold, key, keys, site_count, IsEnd, IsSide, IsHistory}
 use Rattle.edge_lock.specs.EndLists.{end_lists, new_hold, refusal_of, with_access, closed_hold, change_last, is_held, IsHoldBelow, IsRefusalBelow, last_accesses, last_shown, Shows, known_value, after_try, IsFree, IsHeld}
 use Rattle.edge_lock.specs.SharedRule.{lock_word, attempt_in}
-use Rattle.edge_lock.specs.PlainEdges.{plain_view, IsKept, Agrees, IsPlain, with_refusal, end_in, PlainTries, plain_view_after_change, PlainReads, PlainWrites, PlainGives, PlainTells, PlainEdgeValue, view_of, own_lists, edge_after_try, with_view, Answers}
+use Rattle.edge_lock.specs.PlainEdges.{plain_view, IsKept, Agrees, IsPlain, with_refusal, end_in, PlainTries, plain_view_after_change, PlainReads, PlainWrites, PlainGives, PlainTells, PlainEdgeValue, view_of, own_lists, edge_after_try, with_view, IsAnswer}
 use Rattle.edge_lock.proofs.LastHolds.{open_hold-snoc, ends_open, is_held-snoc, keys-snoc, none_or_held, change_last-snoc, last_accesses-snoc, trace-snoc}
 use Rattle.edge_lock.proofs.HistorySteps.{all-last, own_below, side_takes, side_stays, side_refuses, history_takes, history_accesses, history_ends, keys-change, value-opened, value-read, value-write, value-ended, own-here, own-there}
 use Rattle.edge_lock.proofs.SharedHolds.{holder, same_word, shows_value, allowed_value}
@@ -42,7 +42,7 @@ replaced size s r id i n v w at now = record {
 }
 
 -- the end e gets the edge
-pub takes : (e a : ℕ) (v : PlainView) → e < 2 → IsKept v → open_hold v.holds ≡ none → All (IsHoldBelow a) (own e v.holds) → All (IsRefusalBelow a) (cond (eqb e 0) v.low v.high) → IsKept (plain_view v.registers (v.holds ++ new_hold e a ∷ []) v.low v.high)
+pub takes : (e a : ℕ) (v : PlainView) → e < 2 → IsKept v → open_hold v.holds ≡ None → All (IsHoldBelow a) (own e v.holds) → All (IsRefusalBelow a) (cond (eqb e 0) v.low v.high) → IsKept (plain_view v.registers (v.holds ++ new_hold e a ∷ []) v.low v.high)
 takes zero a v end k free new news = let now = keys-snoc v.holds (new_hold 0 a) in record {
   holds = history_takes v.holds 0 a k.holds free end;
   lower = subst (λ ks. IsSide ks 0 v.low) (sym now) (side_takes (keys v.holds) 0 a v.low k.lower (own_below a 0 v.holds new) news);
@@ -78,7 +78,7 @@ pub record Other (hs : List Hold) (e : ℕ) (h : Hold) : Type 0 where
   pub is : hs ≡ past ++ h ∷ []
   pub end : h.end ≡ 1 - e
 
-pub other : {n : ℕ} (hs : List Hold) (e : ℕ) (h : Hold) → IsHistory n hs → e < 2 → is_held (own e hs) ≡ false → open_hold hs ≡ some h → Other hs e h
+pub other : {n : ℕ} (hs : List Hold) (e : ℕ) (h : Hold) → IsHistory n hs → e < 2 → is_held (own e hs) ≡ false → open_hold hs ≡ Some h → Other hs e h
 other hs e h i end shut is_open =
     let last = ends_open hs h is_open in let past = last.0.past in let is = last.0.is in
     let not_own : h.end ≢ e = λ same. true≢false (sym last.1 ∙ (sym (is_held-snoc (own e past) h) ∙ (ap is_held (sym (own-here e past h same) ∙ ap (own e) (sym is)) ∙ shut))) in
@@ -104,14 +104,14 @@ tries size slots id e a w me bare end word shut new news s r _ at _ =
       ),
     ) in
     ⊎_elim
-    (λ (f : (open_hold v.holds ≡ none) × (is_held v.holds ≡ false)). let is_zero : n ≡ 0 = found ∙ ap lock_word f.0 in
+    (λ (f : (open_hold v.holds ≡ None) × (is_held v.holds ≡ false)). let is_zero : n ≡ 0 = found ∙ ap lock_word f.0 in
     told true (eq-eqb n 0 is_zero) record {
       history = takes e a v end agrees.history f.0 new news;
       long = length-set s.words 1 w ∙ long;
       lock = get_or-set_same s.words 1 w 0 (omega arith) ∙ (word ∙ ap lock_word (sym (open_hold-snoc v.holds (new_hold e a))));
       registers = λ k l. get_or-set_other s.words 1 (3 + k) w 0 (λ h. omega arith) ∙ (agrees.registers k l ∙ sym (value-opened v.holds e a k));
     })
-    (λ (f : (h : Hold) × (open_hold v.holds ≡ some h) × (is_held v.holds ≡ true)).
+    (λ (f : (h : Hold) × (open_hold v.holds ≡ Some h) × (is_held v.holds ≡ true)).
     let h = f.0 in let is : n ≡ 1 + 2 * h.attempt + h.end = found ∙ ap lock_word f.1 in let some_word : n ≢ 0 = λ z. omega arith in
     let o = other v.holds e h agrees.history.holds end shut f.1 in let who = o.end in let that : h.attempt ≡ attempt_in n = omega arith in
     let same = same_holds e (refusal_of a (attempt_in n)) v in
@@ -123,7 +123,7 @@ tries size slots id e a w me bare end word shut new news s r _ at _ =
     })
     (none_or_held v.holds)
 
-pub kept_change : (v : PlainView) (past : List Hold) (h g : Hold) → IsKept v → v.holds ≡ past ++ h ∷ [] → key h ≡ key g → IsHistory (sites_of v.registers) (past ++ g ∷ []) → IsKept (plain_view v.registers (past ++ g ∷ []) v.low v.high)
+pub kept_change : (v : PlainView) (past : List Hold) (h g : Hold) → IsKept v → v.holds ≡ past ++ h ∷ [] → key h ≡ key g → IsHistory (site_count v.registers) (past ++ g ∷ []) → IsKept (plain_view v.registers (past ++ g ∷ []) v.low v.high)
 kept_change v past h g k is same i = let ks = ap keys is ∙ sym (keys-change past h g same) in record {
   holds = i;
   lower = subst (λ l. IsSide l 0 v.low) ks k.lower;
@@ -149,7 +149,7 @@ module _ (size slots id e : ℕ) (me : M) (bare : me.1 ≡ []) (held : is_held (
       subst (λ y. Allows (IsPlain size) slots id me y (λ n. n) (PlainReads (step slots y 0 0 none) me)) (sym at_word) (λ s r _ at _.
       let agrees = r.agrees id v at in let n : ℕ = get_or s.words (3 + q) 0 in let words = set-get_or s.words (3 + q) 0 in let back : q ≡ (3 + q) - 3 = omega arith in
       let has = holder v.holds (own e v.holds) e agrees.history.holds refl held in let past = has.past in let h = has.h in
-      let old : IsHistory (sites_of v.registers) (past ++ h ∷ []) = subst (IsHistory (sites_of v.registers)) has.is agrees.history.holds in
+      let old : IsHistory (site_count v.registers) (past ++ h ∷ []) = subst (IsHistory (site_count v.registers)) has.is agrees.history.holds in
       let found : n ≡ value (past ++ h ∷ []) q = agrees.registers q inside ∙ ap (λ l. value l q) has.is in
       let f : Hold → Hold = with_access (Read q n) in
       let p = turned s r at (3 + q) n f past h has.is record {
@@ -165,12 +165,12 @@ module _ (size slots id e : ℕ) (me : M) (bare : me.1 ≡ []) (held : is_held (
         (refl, ap (λ y. get_or s.words (3 + y) 0) refl ∙ (agrees.registers q inside ∙ ap (value v.holds) back), subst (λ y. IsKept (plain_view_after_change (with_access (Read y n)) v)) back p.1),
       ))
 
-  pub writes : (q w x : ℕ) → q < size → IsAllowed (sites_of v.registers) q x → w ≡ q + 3 → Allows (IsPlain size) slots id me w (λ _. x) (λ _. PlainWrites (step slots w x 0 none) me x)
+  pub writes : (q w x : ℕ) → q < size → IsAllowed (site_count v.registers) q x → w ≡ q + 3 → Allows (IsPlain size) slots id me w (λ _. x) (λ _. PlainWrites (step slots w x 0 none) me x)
   writes q w x inside ok word = let at_word : w ≡ 3 + q = omega arith in
       subst (λ y. Allows (IsPlain size) slots id me y (λ _. x) (λ _. PlainWrites (step slots y x 0 none) me x)) (sym at_word) (λ s r _ at _.
       let agrees = r.agrees id v at in let long = agrees.long in let back : q ≡ (3 + q) - 3 = omega arith in
       let has = holder v.holds (own e v.holds) e agrees.history.holds refl held in let past = has.past in let h = has.h in
-      let old : IsHistory (sites_of v.registers) (past ++ h ∷ []) = subst (IsHistory (sites_of v.registers)) has.is agrees.history.holds in
+      let old : IsHistory (site_count v.registers) (past ++ h ∷ []) = subst (IsHistory (site_count v.registers)) has.is agrees.history.holds in
       let f : Hold → Hold = with_access (Write q x) in
       let p = turned s r at (3 + q) x f past h has.is record {
         history = kept_change v past h (f h) agrees.history has.is refl (history_accesses past h (Write q x) old (λ a b e. absurd (cc)) ok);
@@ -191,7 +191,7 @@ module _ (size slots id e : ℕ) (me : M) (bare : me.1 ≡ []) (held : is_held (
   gives s r _ at _ =
       let agrees = r.agrees id v at in let long = agrees.long in
       let has = holder v.holds (own e v.holds) e agrees.history.holds refl held in let past = has.past in let h = has.h in
-      let old : IsHistory (sites_of v.registers) (past ++ h ∷ []) = subst (IsHistory (sites_of v.registers)) has.is agrees.history.holds in
+      let old : IsHistory (site_count v.registers) (past ++ h ∷ []) = subst (IsHistory (site_count v.registers)) has.is agrees.history.holds in
       let p = turned s r at 1 0 closed_hold past h has.is record {
         history = kept_change v past h (closed_hold h) agrees.history has.is refl (history_ends past h old);
         long = length-set s.words 1 0 ∙ long;
@@ -200,14 +200,14 @@ module _ (size slots id e : ℕ) (me : M) (bare : me.1 ≡ []) (held : is_held (
       } in (plain_view_after_change closed_hold v, keeps, tt, p.0, (refl, p.1))
 
   -- what a read shows, of a history that is kept
-  pub shows_known : (q n : ℕ) (rs : List Refusal) → IsKept v → n ≡ value v.holds q → Shows (known_value (end_lists (own e v.holds) rs) q) n × IsAllowed (sites_of v.registers) q n
+  pub shows_known : (q n : ℕ) (rs : List Refusal) → IsKept v → n ≡ value v.holds q → Shows (known_value (end_lists (own e v.holds) rs) q) n × IsAllowed (site_count v.registers) q n
   shows_known q n rs k is =
       let has = holder v.holds (own e v.holds) e k.holds refl held in let all = trace-snoc has.past has.h in
-      let old : IsHistory (sites_of v.registers) (has.past ++ has.h ∷ []) = subst (IsHistory (sites_of v.registers)) has.is k.holds in
+      let old : IsHistory (site_count v.registers) (has.past ++ has.h ∷ []) = subst (IsHistory (site_count v.registers)) has.is k.holds in
       let found : n ≡ written (trace has.past ++ has.h.accesses) q 0 = is ∙ (ap (λ l. value l q) has.is ∙ ap (λ t. written t q 0) all) in
       let mine_last : last_accesses (own e v.holds) ≡ has.h.accesses = ap last_accesses has.mine_is ∙ last_accesses-snoc (own e has.past) has.h in (
-        subst (λ (x : List Access × ℕ). Shows (last_shown x.0 q none) x.1) (λ i. (sym mine_last i, sym found i)) (shows_value (trace has.past) has.h.accesses q none (subst ReadsTrue all old.reads) tt),
-        subst (IsAllowed (sites_of v.registers) q) (sym found) (allowed_value (sites_of v.registers) q (trace has.past ++ has.h.accesses) 0 (subst (All (IsAllowedAccess (sites_of v.registers))) all old.writes) (λ k _ _. refl)),
+        subst (λ (x : List Access × ℕ). Shows (last_shown x.0 q None) x.1) (λ i. (sym mine_last i, sym found i)) (shows_value (trace has.past) has.h.accesses q None (subst ReadsTrue all old.reads) tt),
+        subst (IsAllowed (site_count v.registers) q) (sym found) (allowed_value (site_count v.registers) q (trace has.past ++ has.h.accesses) 0 (subst (All (IsAllowedAccess (site_count v.registers))) all old.writes) (λ k _ _. refl)),
       )
 
 pub shows : (size slots id q w : ℕ) (me : M) → me.1 ≡ [] → q < size → w ≡ q + 3 → Allows (IsPlain size) slots id me w (λ n. n) (PlainTells (step slots w 0 0 none) me)
@@ -235,16 +235,16 @@ opens size words is =
     only (suc id) v e a = absurd (some-ne-none v (sym e))
 
 -- what a try answers, by the word that it found
-pub answers_got : (e n : ℕ) (x : PlainEdgeValue) → n ≡ lock_word (open_hold x.holds) → n ≡ 0 → Answers e x Got
+pub answers_got : (e n : ℕ) (x : PlainEdgeValue) → n ≡ lock_word (open_hold x.holds) → n ≡ 0 → IsAnswer e x Got
 answers_got e n x is zero_word = ⊎_elim
-    (λ (f : (open_hold x.holds ≡ none) × (is_held x.holds ≡ false)). f.0)
-    (λ (f : (h : Hold) × (open_hold x.holds ≡ some h) × (is_held x.holds ≡ true)). let w : n ≡ 1 + 2 * f.0.attempt + f.0.end = is ∙ ap lock_word f.1 in absurd (omega arith))
+    (λ (f : (open_hold x.holds ≡ None) × (is_held x.holds ≡ false)). f.0)
+    (λ (f : (h : Hold) × (open_hold x.holds ≡ Some h) × (is_held x.holds ≡ true)). let w : n ≡ 1 + 2 * f.0.attempt + f.0.end = is ∙ ap lock_word f.1 in absurd (omega arith))
     (none_or_held x.holds)
 
-pub answers_busy : (e n : ℕ) (x : PlainEdgeValue) → IsKept (view_of x) → e < 2 → IsFree (own_lists e x) → n ≡ lock_word (open_hold x.holds) → n ≢ 0 → Answers e x (Busy (attempt_in n))
+pub answers_busy : (e n : ℕ) (x : PlainEdgeValue) → IsKept (view_of x) → e < 2 → IsFree (own_lists e x) → n ≡ lock_word (open_hold x.holds) → n ≢ 0 → IsAnswer e x (Busy (attempt_in n))
 answers_busy e n x k end free is some_word = ⊎_elim
-    (λ (f : (open_hold x.holds ≡ none) × (is_held x.holds ≡ false)). absurd (some_word (is ∙ ap lock_word f.0)))
-    (λ (f : (h : Hold) × (open_hold x.holds ≡ some h) × (is_held x.holds ≡ true)).
+    (λ (f : (open_hold x.holds ≡ None) × (is_held x.holds ≡ false)). absurd (some_word (is ∙ ap lock_word f.0)))
+    (λ (f : (h : Hold) × (open_hold x.holds ≡ Some h) × (is_held x.holds ≡ true)).
     let h = f.0 in let w : n ≡ 1 + 2 * h.attempt + h.end = is ∙ ap lock_word f.1 in let o = other x.holds e h k.holds end free f.1 in let who = o.end in (h, f.1, who, omega arith))
     (none_or_held x.holds)
 

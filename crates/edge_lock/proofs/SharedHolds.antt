@@ -1,10 +1,11 @@
 -- The steps of the end that has the edge keep the rule.
-use Rattle.std.proofs.Common.{◌≡◌, ◌≢◌, ℕ, ◌+◌, ◌-◌, ◌<◌, eqb, Bool, true, false, cond, true≢false, List, [], ◌∷◌, ◌++◌, length, get_or, set, refl, sym, ap, ◌∙◌, subst, ⊎_elim, arith, eq-eqb, ne_eqb, append_assoc, get_or-set_same, get_or-set_other}
+use Rattle.std.proofs.Common.{◌≡◌, ◌≢◌, ℕ, ◌+◌, ◌-◌, ◌<◌, eqb, Bool, true, false, cond, true≢false, List, [], ◌∷◌, ◌++◌, length, get_or, set, refl, sym, ap, ◌∙◌, subst, ⊎_elim, arith, eq-eqb, ne_eqb, append_assoc, get_or-set_same, get_or-set_other, Option, Some, None}
 use Rattle.std.specs.Prelude.{All}
 use Rattle.std.proofs.lemmas.List.{append-nil, set-get_or}
 use Rattle.std.proofs.lemmas.List.Elements.{All-filter}
 use mathlib.Core.Logic.{dite}
-use mathlib.Core.Option.{Option, none, some, some-ne-none}
+use mathlib.Core.Option.{none, some}
+use Rattle.std.proofs.lemmas.Option.{none-some}
 use native.Mathlib.Decide.{ℕ_discrete}
 use lib.ListN.{get_elem?}
 use Rattle.atomic_table.specs.Table.{step, keeps, stepped, Allows}
@@ -13,9 +14,9 @@ use Rattle.edge_lock.specs.declared.history.Access.TheVariants.{Read, Write}
 use Rattle.edge_lock.specs.declared.history.Hold.{Hold}
 use Rattle.edge_lock.specs.declared.history.Refusal.{Refusal}
 use Rattle.edge_lock.specs.declared.edge_steps.View.TheVariants.{Paired}
-use Rattle.edge_lock.specs.History.{own, trace, written, value, ReadsTrue, IsAllowed, IsAllowedAccess, OnlyLastOpen, open_hold, key, keys, sites_of, IsSide, IsHistory}
+use Rattle.edge_lock.specs.History.{own, trace, written, value, ReadsTrue, IsAllowed, IsAllowedAccess, OnlyLastOpen, open_hold, key, keys, site_count, IsSide, IsHistory}
 use Rattle.edge_lock.specs.EndLists.{end_lists, is_held, change_last, with_access, closed_hold, last_accesses, last_shown, Shows, known_value, IsHeld}
-use Rattle.edge_lock.specs.SharedRule.{lock_word, Stands, IsShared, lists_in, Reads, Writes, Gives}
+use Rattle.edge_lock.specs.SharedRule.{lock_word, IsPart, IsShared, lists_in, Reads, Writes, Gives}
 use Rattle.edge_lock.proofs.LastHolds.{open_hold-snoc, ends_open, change_last-snoc, last_accesses-snoc, none_or_held, trace-snoc, written-append}
 use Rattle.edge_lock.proofs.HistorySteps.{all-cons, all-none, all-tail, all-head, history_accesses, history_ends, keys-change, value-read, value-write, value-ended, own-here, own-there}
 use Rattle.edge_lock.proofs.SharedSteps.{S, M, GoesOn, moved}
@@ -23,11 +24,11 @@ use Rattle.edge_lock.proofs.SharedSteps.{S, M, GoesOn, moved}
 abbrev Shut : Hold → Type 0
 Shut h = h.is_open ≡ false
 
-shut_if : (b : Bool) (h : Hold) → cond b (some h) none ≡ none → b ≡ false
-shut_if true h e = absurd (some-ne-none h e)
+shut_if : (b : Bool) (h : Hold) → cond b (Some h) None ≡ None → b ≡ false
+shut_if true h e = absurd (none-some h (sym e))
 shut_if false h e = refl
 
-all_shut : (hs : List Hold) → OnlyLastOpen hs → open_hold hs ≡ none → All Shut hs
+all_shut : (hs : List Hold) → OnlyLastOpen hs → open_hold hs ≡ None → All Shut hs
 all_shut [] o e = all-none Shut
 all_shut (x ∷ []) o e = all-cons Shut x [] (shut_if x.is_open x e) (all-none Shut)
 all_shut (x ∷ y ∷ hs) o e = all-cons Shut x (y ∷ hs) o.0 (all_shut (y ∷ hs) o.1 e)
@@ -57,8 +58,8 @@ pub record Holder (hs mine : List Hold) (e : ℕ) : Type 0 where
 pub holder : {n : ℕ} (hs mine : List Hold) (e : ℕ) → IsHistory n hs → own e hs ≡ mine → is_held mine ≡ true → Holder hs mine e
 holder hs mine e i own_is held =
     ⊎_elim
-    (λ (f : (open_hold hs ≡ none) × (is_held hs ≡ false)). absurd (true≢false (sym held ∙ (ap is_held (sym own_is) ∙ own_shut e hs (all_shut hs i.only_last f.0)))))
-    (λ (f : (h : Hold) × (open_hold hs ≡ some h) × (is_held hs ≡ true)). let h = f.0 in let last = ends_open hs h f.1 in let past = last.0.past in let is = last.0.is in
+    (λ (f : (open_hold hs ≡ None) × (is_held hs ≡ false)). absurd (true≢false (sym held ∙ (ap is_held (sym own_is) ∙ own_shut e hs (all_shut hs i.only_last f.0)))))
+    (λ (f : (h : Hold) × (open_hold hs ≡ Some h) × (is_held hs ≡ true)). let h = f.0 in let last = ends_open hs h f.1 in let past = last.0.past in let is = last.0.is in
     dite (ℕ_discrete h.end e)
     (λ same. record { past = past; h = h; is = is; mine_is = sym own_is ∙ (ap (own e) is ∙ own-here e past h same); end = same; is_open = last.1 })
     (λ apart. absurd (true≢false (sym held ∙ (ap is_held (sym own_is ∙ (ap (own e) is ∙ own-there e past h apart)) ∙ own_shut e past (past_shut past h (subst OnlyLastOpen is i.only_last)))))))
@@ -75,7 +76,7 @@ changes hs past h g e is same end i = let ends : h.end ≡ g.end = ap (λ (k : �
 pub same_word : (past : List Hold) (h : Hold) (x : Access) → lock_word (open_hold (past ++ with_access x h ∷ [])) ≡ lock_word (open_hold (past ++ h ∷ []))
 same_word past h x = ap lock_word (open_hold-snoc past (with_access x h)) ∙ (either_way h.is_open ∙ ap lock_word (sym (open_hold-snoc past h)))
   where
-    either_way : (b : Bool) → lock_word (cond b (some (with_access x h)) none) ≡ lock_word (cond b (some h) none)
+    either_way : (b : Bool) → lock_word (cond b (Some (with_access x h)) None) ≡ lock_word (cond b (Some h) None)
     either_way true = refl
     either_way false = refl
 
@@ -87,7 +88,7 @@ allowed_value n r (Write q v ∷ xs) x a i = allowed_value n r xs (cond (eqb r q
     (λ same. subst (λ b. IsAllowed n r (cond b v x)) (sym (eq-eqb r q same)) (λ k few e. all-head (IsAllowedAccess n) (Write q v) xs a k few (sym same ∙ e)))
     (λ apart. subst (λ b. IsAllowed n r (cond b v x)) (sym (ne_eqb r q apart)) i))
 
-shows_cond : (b : Bool) (o : Option ℕ) (v x : ℕ) → Shows o x → Shows (cond b (some v) o) (cond b v x)
+shows_cond : (b : Bool) (o : Option ℕ) (v x : ℕ) → Shows o x → Shows (cond b (Some v) o) (cond b v x)
 shows_cond true o v x s = refl
 shows_cond false o v x s = s
 
@@ -96,30 +97,30 @@ pub shows_value : (before xs : List Access) (r : ℕ) (o : Option ℕ) → Reads
 shows_value before [] r o t s = subst (λ l. Shows o (written l r 0)) (sym (append-nil before)) s
 shows_value before (Read q v ∷ xs) r o t s =
     let now = append_assoc before (Read q v ∷ []) xs in
-    subst (λ l. Shows (last_shown xs r (cond (eqb r q) (some v) o)) (written l r 0)) now
-    (shows_value (before ++ Read q v ∷ []) xs r (cond (eqb r q) (some v) o) (subst ReadsTrue (sym now) t)
-    (subst (λ x. Shows (cond (eqb r q) (some v) o) x) (sym (written-append before (Read q v ∷ []) r 0))
+    subst (λ l. Shows (last_shown xs r (cond (eqb r q) (Some v) o)) (written l r 0)) now
+    (shows_value (before ++ Read q v ∷ []) xs r (cond (eqb r q) (Some v) o) (subst ReadsTrue (sym now) t)
+    (subst (λ x. Shows (cond (eqb r q) (Some v) o) x) (sym (written-append before (Read q v ∷ []) r 0))
     (dite (ℕ_discrete r q)
-    (λ same. subst (λ b. Shows (cond b (some v) o) (written before r 0)) (sym (eq-eqb r q same)) (ap (λ y. written before y 0) same ∙ sym (t before q v xs refl)))
-    (λ apart. subst (λ b. Shows (cond b (some v) o) (written before r 0)) (sym (ne_eqb r q apart)) s))))
+    (λ same. subst (λ b. Shows (cond b (Some v) o) (written before r 0)) (sym (eq-eqb r q same)) (ap (λ y. written before y 0) same ∙ sym (t before q v xs refl)))
+    (λ apart. subst (λ b. Shows (cond b (Some v) o) (written before r 0)) (sym (ne_eqb r q apart)) s))))
 shows_value before (Write q v ∷ xs) r o t s =
     let now = append_assoc before (Write q v ∷ []) xs in
-    subst (λ l. Shows (last_shown xs r (cond (eqb r q) (some v) o)) (written l r 0)) now
-    (shows_value (before ++ Write q v ∷ []) xs r (cond (eqb r q) (some v) o) (subst ReadsTrue (sym now) t)
-    (subst (λ x. Shows (cond (eqb r q) (some v) o) x) (sym (written-append before (Write q v ∷ []) r 0)) (shows_cond (eqb r q) o v (written before r 0) s)))
+    subst (λ l. Shows (last_shown xs r (cond (eqb r q) (Some v) o)) (written l r 0)) now
+    (shows_value (before ++ Write q v ∷ []) xs r (cond (eqb r q) (Some v) o) (subst ReadsTrue (sym now) t)
+    (subst (λ x. Shows (cond (eqb r q) (Some v) o) x) (sym (written-append before (Write q v ∷ []) r 0)) (shows_cond (eqb r q) o v (written before r 0) s)))
 
 module _ (e : ℕ) (mine : List Hold) (rs : List Refusal) (held : is_held mine ≡ true) (size : ℕ) (s : S) (r : IsShared size s) (id : ℕ) (at : get_elem? s.views id ≡ some (Paired size e mine rs)) where
-  abbrev mine_is : Stands r.joined r.hs (length s.views) id (Paired size e mine rs)
+  abbrev mine_is : IsPart r.joined r.hs (length s.views) id (Paired size e mine rs)
   mine_is = r.views id (Paired size e mine rs) at
 
   abbrev has : Holder r.hs mine e
   has = holder r.hs mine e r.history mine_is.3 held
 
-  abbrev history : IsHistory (sites_of size) (has.past ++ has.h ∷ [])
-  history = subst (IsHistory (sites_of size)) has.is r.history
+  abbrev history : IsHistory (site_count size) (has.past ++ has.h ∷ [])
+  history = subst (IsHistory (site_count size)) has.is r.history
 
   -- the last hold becomes g, the word i becomes n
-  turned : (i n : ℕ) (f : Hold → Hold) → i ≢ 2 → key has.h ≡ key (f has.h) → IsHistory (sites_of size) (has.past ++ f has.h ∷ []) → get_or (set s.words i n) 1 0 ≡ lock_word (open_hold (has.past ++ f has.h ∷ []))
+  turned : (i n : ℕ) (f : Hold → Hold) → i ≢ 2 → key has.h ≡ key (f has.h) → IsHistory (site_count size) (has.past ++ f has.h ∷ []) → get_or (set s.words i n) 1 0 ≡ lock_word (open_hold (has.past ++ f has.h ∷ []))
       → ((k : ℕ) → k < size → get_or (set s.words i n) (3 + k) 0 ≡ value (has.past ++ f has.h ∷ []) k)
       → IsShared size (stepped s i n id [] (Paired size e (change_last f mine) rs) keeps)
   turned i n f not_claims same h lock registers =
@@ -137,7 +138,7 @@ module _ (e : ℕ) (mine : List Hold) (rs : List Refusal) (held : is_held mine �
       (ap (λ l. get_or l 1 0) same_words ∙ (r.lock ∙ (ap (λ l. lock_word (open_hold l)) has.is ∙ sym (same_word has.past has.h (Read q n)))))
       (λ k l. ap (λ t. get_or t (3 + k) 0) same_words ∙ (r.registers k l ∙ (ap (λ t. value t k) has.is ∙ sym (value-read has.past has.h q n k))))
 
-  writes_one : (q v : ℕ) → q < size → IsAllowed (sites_of size) q v → IsShared size (stepped s (3 + q) v id [] (Paired size e (change_last (with_access (Write q v)) mine) rs) keeps)
+  writes_one : (q v : ℕ) → q < size → IsAllowed (site_count size) q v → IsShared size (stepped s (3 + q) v id [] (Paired size e (change_last (with_access (Write q v)) mine) rs) keeps)
   writes_one q v inside ok =
       let long = r.long in
       turned (3 + q) v (with_access (Write q v)) (λ h. omega arith) refl
@@ -155,13 +156,13 @@ module _ (e : ℕ) (mine : List Hold) (rs : List Refusal) (held : is_held mine �
       (get_or-set_same s.words 1 0 0 (omega arith) ∙ ap lock_word (sym (open_hold-snoc has.past (closed_hold has.h))))
       (λ k l. get_or-set_other s.words 1 (3 + k) 0 0 (λ h. omega arith) ∙ (r.registers k l ∙ (ap (λ t. value t k) has.is ∙ sym (value-ended has.past has.h k))))
 
-  shows_one : (q : ℕ) → q < size → Shows (known_value (end_lists mine rs) q) (get_or s.words (3 + q) 0) × IsAllowed (sites_of size) q (get_or s.words (3 + q) 0)
+  shows_one : (q : ℕ) → q < size → Shows (known_value (end_lists mine rs) q) (get_or s.words (3 + q) 0) × IsAllowed (site_count size) q (get_or s.words (3 + q) 0)
   shows_one q inside =
       let all = trace-snoc has.past has.h in
       let found : get_or s.words (3 + q) 0 ≡ written (trace has.past ++ has.h.accesses) q 0 = r.registers q inside ∙ (ap (λ l. value l q) has.is ∙ ap (λ t. written t q 0) all) in
       let mine_last : last_accesses mine ≡ has.h.accesses = ap last_accesses has.mine_is ∙ last_accesses-snoc (own e has.past) has.h in (
-        subst (λ (x : List Access × ℕ). Shows (last_shown x.0 q none) x.1) (λ i. (sym mine_last i, sym found i)) (shows_value (trace has.past) has.h.accesses q none (subst ReadsTrue all history.reads) tt),
-        subst (IsAllowed (sites_of size) q) (sym found) (allowed_value (sites_of size) q (trace has.past ++ has.h.accesses) 0 (subst (All (IsAllowedAccess (sites_of size))) all history.writes) (λ k _ _. refl)),
+        subst (λ (x : List Access × ℕ). Shows (last_shown x.0 q None) x.1) (λ i. (sym mine_last i, sym found i)) (shows_value (trace has.past) has.h.accesses q None (subst ReadsTrue all history.reads) tt),
+        subst (IsAllowed (site_count size) q) (sym found) (allowed_value (site_count size) q (trace has.past ++ has.h.accesses) 0 (subst (All (IsAllowedAccess (site_count size))) all history.writes) (λ k _ _. refl)),
       )
 
 abbrev Held : ℕ → ℕ → M → Type 0
@@ -182,10 +183,10 @@ reads size slots id e q w me h inside word =
       keeps,
       tt,
       subst (λ y. IsShared size (stepped s (3 + q) n id [] (Paired size e (change_last (with_access (Read y n)) mine) rs) keeps)) (sym back) (reads_one e mine rs held size s r id at q inside),
-      (refl, subst (λ y. Shows (known_value (end_lists mine rs) y) n) (sym back) last_shown.0, subst (λ y. IsAllowed (sites_of size) y n) (sym back) last_shown.1),
+      (refl, subst (λ y. Shows (known_value (end_lists mine rs) y) n) (sym back) last_shown.0, subst (λ y. IsAllowed (site_count size) y n) (sym back) last_shown.1),
     )))
 
-pub writes : (size slots id e q w v : ℕ) (me : M) → Held size e me → q < size → IsAllowed (sites_of size) q v → w ≡ q + 3 → Allows (IsShared size) slots id me w (λ _. v) (λ _. Writes (step slots w v 0 none) me v)
+pub writes : (size slots id e q w v : ℕ) (me : M) → Held size e me → q < size → IsAllowed (site_count size) q v → w ≡ q + 3 → Allows (IsShared size) slots id me w (λ _. v) (λ _. Writes (step slots w v 0 none) me v)
 writes size slots id e q w v me h inside ok word =
     let at_word : w ≡ 3 + q = omega arith in
     at_view (λ m. Allows (IsShared size) slots id m w (λ _. v) (λ _. Writes (step slots w v 0 none) m v)) size e me h (λ mine rs held.

@@ -1,5 +1,5 @@
 -- How the two passes of an edge come to be, and how they are put together again.
-use Rattle.std.proofs.Common.{◌≡◌, ◌≢◌, ◌⊎◌, ℕ, zero, suc, ◌+◌, ◌-◌, ◌*◌, ◌%◌, ◌^◌, ◌<◌, ◌≤◌, true, false, true≢false, List, [], ◌∷◌, ◌++◌, length, get_or, set, replicate, refl, sym, ap, ◌∙◌, subst, inl, inr, ⊎_elim, arith, length-set, length-append, get_or-set_same, get_or-set_other}
+use Rattle.std.proofs.Common.{◌≡◌, ◌≢◌, ◌⊎◌, ℕ, zero, suc, ◌+◌, ◌-◌, ◌*◌, ◌%◌, ◌^◌, ◌<◌, ◌≤◌, true, false, true≢false, List, [], ◌∷◌, ◌++◌, length, get_or, set, replicate, refl, sym, ap, ◌∙◌, subst, inl, inr, ⊎_elim, arith, length-set, length-append, get_or-set_same, get_or-set_other, Some, None}
 use Rattle.std.proofs.lemmas.List.{set-get_or, get_or-replicate, length-replicate}
 use mathlib.Core.Logic.{dite}
 use mathlib.Core.Option.{none, some, some-injective, some-ne-none}
@@ -16,7 +16,7 @@ use Rattle.edge_lock.specs.EndLists.{EndLists, is_held, IsFree}
 use Rattle.edge_lock.specs.Passes.{closed_value, holds_in, low_in, high_in, IsClosed}
 use Rattle.edge_lock.proofs.LastHolds.{ends_open, is_held-snoc, keys-snoc, none_or_held}
 use Rattle.edge_lock.specs.History.{own, value, ReadsTrue, open_hold, key, keys, IsPlaced, IsEnd, IsAllowedAccess, IsSide, IsHistory}
-use Rattle.edge_lock.specs.SharedRule.{claims_of, claims, Stands, IsShared, Claims, both_of, BecomesWhole, Settles, Tells, low_view, high_view}
+use Rattle.edge_lock.specs.SharedRule.{claims_of, claims, IsPart, IsShared, Claims, both_of, BecomesWhole, Settles, Tells, low_view, high_view}
 use Rattle.edge_lock.proofs.HistorySteps.{all-none, all-last, own-here}
 use Rattle.edge_lock.proofs.SharedSteps.{S, M}
 
@@ -66,14 +66,14 @@ history_none {n} = record { ends = all-none IsEnd; only_last = tt; reads = no_re
 
 -- one seat's view changes, and no history
 module _ (size : ℕ) (s : S) (r : IsShared size s) where
-  others_stand : (id : ℕ) (w : View) → Stands r.joined r.hs (length s.views) id w → (j : ℕ) (v : View) → get_elem? (set s.views id w) j ≡ some v → Stands r.joined r.hs (length (set s.views id w)) j v
-  others_stand id w mine j v p = subst (λ c. Stands r.joined r.hs c j v) (sym (length-set s.views id w))
+  others_stand : (id : ℕ) (w : View) → IsPart r.joined r.hs (length s.views) id w → (j : ℕ) (v : View) → get_elem? (set s.views id w) j ≡ some v → IsPart r.joined r.hs (length (set s.views id w)) j v
+  others_stand id w mine j v p = subst (λ c. IsPart r.joined r.hs c j v) (sym (length-set s.views id w))
       (⊎_elim
-      (λ (t : (j ≡ id) × (w ≡ v)). subst (λ (x : ℕ × View). Stands r.joined r.hs (length s.views) x.0 x.1) (λ k. (sym t.0 k, t.1 k)) mine)
+      (λ (t : (j ≡ id) × (w ≡ v)). subst (λ (x : ℕ × View). IsPart r.joined r.hs (length s.views) x.0 x.1) (λ k. (sym t.0 k, t.1 k)) mine)
       (λ (t : (j ≢ id) × (get_elem? s.views j ≡ some v)). r.views j v t.1)
       (at_set s.views id j w v p))
 
-  reviewed : (id n i : ℕ) (w : View) → Stands r.joined r.hs (length s.views) id w → length (set s.words i n) ≡ length s.words → get_or (set s.words i n) 1 0 ≡ get_or s.words 1 0
+  reviewed : (id n i : ℕ) (w : View) → IsPart r.joined r.hs (length s.views) id w → length (set s.words i n) ≡ length s.words → get_or (set s.words i n) 1 0 ≡ get_or s.words 1 0
       → get_or (set s.words i n) 2 0 ≡ claims (set s.views id w) → ((k : ℕ) → k < size → get_or (set s.words i n) (3 + k) 0 ≡ get_or s.words (3 + k) 0) → IsShared size (stepped s i n id [] w keeps)
   reviewed id n i w mine wide lock claimed registers = record {
     hs = r.hs;
@@ -87,13 +87,13 @@ module _ (size : ℕ) (s : S) (r : IsShared size s) where
   }
 
   -- a load, at which the claims stay
-  looked : (id i : ℕ) (v w : View) → get_elem? s.views id ≡ some v → claims_of v ≡ claims_of w → Stands r.joined r.hs (length s.views) id w → IsShared size (stepped s i (get_or s.words i 0) id [] w keeps)
+  looked : (id i : ℕ) (v w : View) → get_elem? s.views id ≡ some v → claims_of v ≡ claims_of w → IsPart r.joined r.hs (length s.views) id w → IsShared size (stepped s i (get_or s.words i 0) id [] w keeps)
   looked id i v w at same mine =
       let words = set-get_or s.words i 0 in let change = claims-change s.views id v w at in
       reviewed id (get_or s.words i 0) i w mine (ap length words) (ap (λ l. get_or l 1 0) words) (ap (λ l. get_or l 2 0) words ∙ (r.claimed ∙ omega arith)) (λ k l. ap (λ t. get_or t (3 + k) 0) words)
 
   -- an end is claimed
-  claims_one : (id : ℕ) (v w : View) → get_elem? s.views id ≡ some v → claims_of v ≡ 0 → claims_of w ≡ 1 → length s.views ≤ 2 → Stands r.joined r.hs (length s.views) id w
+  claims_one : (id : ℕ) (v w : View) → get_elem? s.views id ≡ some v → claims_of v ≡ 0 → claims_of w ≡ 1 → length s.views ≤ 2 → IsPart r.joined r.hs (length s.views) id w
       → IsShared size (stepped s 2 ((get_or s.words 2 0 + 1) % 2 ^ 64) id [] w keeps)
   claims_one id v w at before after few mine =
       let change = claims-change s.views id v w at in let bound = claims_bound s.views in let now = r.claimed in let long = r.long in
@@ -123,13 +123,13 @@ splits size id s r at =
       lock = r.lock;
       claimed = r.claimed ∙ omega arith;
       registers = r.registers;
-      views = λ j v p. subst (λ c. Stands r.joined r.hs c j v) (sym two)
+      views = λ j v p. subst (λ c. IsPart r.joined r.hs c j v) (sym two)
           (⊎_elim
           (λ (was : get_elem? ws j ≡ some v). ⊎_elim
-          (λ (t : (j ≡ id) × (Paired size 0 [] [] ≡ v)). subst (λ (x : ℕ × View). Stands r.joined r.hs 2 x.0 x.1) (λ k. (sym t.0 k, t.1 k)) (mine.0, refl, zero_id, ap (own 0) none_yet, side 0))
+          (λ (t : (j ≡ id) × (Paired size 0 [] [] ≡ v)). subst (λ (x : ℕ × View). IsPart r.joined r.hs 2 x.0 x.1) (λ k. (sym t.0 k, t.1 k)) (mine.0, refl, zero_id, ap (own 0) none_yet, side 0))
           (λ (t : (j ≢ id) × (get_elem? s.views j ≡ some v)). let there = at_inside s.views j v t.1 in let apart = t.0 in absurd (apart (omega arith)))
           (at_set s.views id j (Paired size 0 [] []) v was))
-          (λ (t : (j ≡ length ws) × ((Second size) ≡ v)). let last = t.0 in subst (λ (x : ℕ × View). Stands r.joined r.hs 2 x.0 x.1) (λ k. (sym (last ∙ wide) k, t.1 k)) (mine.0, refl, refl, ap (own 1) none_yet, side 1))
+          (λ (t : (j ≡ length ws) × ((Second size) ≡ v)). let last = t.0 in subst (λ (x : ℕ × View). IsPart r.joined r.hs 2 x.0 x.1) (λ k. (sym (last ∙ wide) k, t.1 k)) (mine.0, refl, refl, ap (own 1) none_yet, side 1))
           (at_snoc_where ws (Second size) v j p));
     }
 
@@ -141,7 +141,7 @@ joins size id other low high rs qs s r at apart there =
     let theirs = r.views other w was in let vs : List View = set s.views id both in
     let one = claims-change s.views id v both at in let two = claims-change vs other w Spent there in
     let count = length-set vs other Spent ∙ length-set s.views id both in let pair = mine.1 in let low_id = mine.2 in let high_id = theirs.2 in
-    let whole : Stands true r.hs (length s.views) id both = (refl, mine.3, mine.4, theirs.3, theirs.4) in record {
+    let whole : IsPart true r.hs (length s.views) id both = (refl, mine.3, mine.4, theirs.3, theirs.4) in record {
       hs = r.hs;
       joined = true;
       history = r.history;
@@ -149,11 +149,11 @@ joins size id other low high rs qs s r at apart there =
       lock = r.lock;
       claimed = r.claimed ∙ omega arith;
       registers = r.registers;
-      views = λ j u p. subst (λ c. Stands true r.hs c j u) (sym count)
+      views = λ j u p. subst (λ c. IsPart true r.hs c j u) (sym count)
           (⊎_elim
-          (λ (t : (j ≡ other) × (Spent ≡ u)). subst (λ x. Stands true r.hs (length s.views) j x) t.1 refl)
+          (λ (t : (j ≡ other) × (Spent ≡ u)). subst (λ x. IsPart true r.hs (length s.views) j x) t.1 refl)
           (λ (t : (j ≢ other) × (get_elem? vs j ≡ some u)). ⊎_elim
-          (λ (q : (j ≡ id) × (both ≡ u)). subst (λ (x : ℕ × View). Stands true r.hs (length s.views) x.0 x.1) (λ k. (sym q.0 k, q.1 k)) whole)
+          (λ (q : (j ≡ id) × (both ≡ u)). subst (λ (x : ℕ × View). IsPart true r.hs (length s.views) x.0 x.1) (λ k. (sym q.0 k, q.1 k)) whole)
           (λ (q : (j ≢ id) × (get_elem? s.views j ≡ some u)). let inside = at_inside s.views j u q.1 in let not_high = t.0 in let not_low = q.0 in absurd (dite (ℕ_discrete j 0) (λ z. not_low (omega arith)) (λ z. not_high (omega arith))))
           (at_set s.views id j both u t.1))
           (at_set vs other j Spent u p));
@@ -192,8 +192,8 @@ opens size words is =
       views = only;
     }
   where
-    only : (id : ℕ) (v : View) → get_elem? ((First size) ∷ []) id ≡ some v → Stands false [] 1 id v
-    only zero v e = subst (Stands false [] 1 0) (some-injective (First size) v e) (refl, refl, refl)
+    only : (id : ℕ) (v : View) → get_elem? ((First size) ∷ []) id ≡ some v → IsPart false [] 1 id v
+    only zero v e = subst (IsPart false [] 1 0) (some-injective (First size) v e) (refl, refl, refl)
     only (suc id) v e = absurd (some-ne-none v (sym e))
 
 pub splits_as : (size id : ℕ) (v : View) → v ≡ (Alone size) → Splits (IsShared size) id v (low_view v) (high_view v)
@@ -203,11 +203,11 @@ pub joins_as : (size id other : ℕ) (v w : View) (low high : List Hold) (rs qs 
 joins_as size id other v w low high rs qs is also = subst (λ (x : View × View). Joins (IsShared size) id x.0 other x.1 (both_of x.0 x.1) Spent) (λ i. (sym is i, sym also i)) (joins size id other low high rs qs)
 
 -- two ends that have no open hold: no hold is open
-pub all_given : {n : ℕ} (all low high : List Hold) → IsHistory n all → own 0 all ≡ low → own 1 all ≡ high → is_held low ≡ false → is_held high ≡ false → open_hold all ≡ none
+pub all_given : {n : ℕ} (all low high : List Hold) → IsHistory n all → own 0 all ≡ low → own 1 all ≡ high → is_held low ≡ false → is_held high ≡ false → open_hold all ≡ None
 all_given all low high i is also shut shut' =
     ⊎_elim
-    (λ (f : (open_hold all ≡ none) × (is_held all ≡ false)). f.0)
-    (λ (f : (h : Hold) × (open_hold all ≡ some h) × (is_held all ≡ true)).
+    (λ (f : (open_hold all ≡ None) × (is_held all ≡ false)). f.0)
+    (λ (f : (h : Hold) × (open_hold all ≡ Some h) × (is_held all ≡ true)).
     let h = f.0 in let last = ends_open all h f.1 in let past = last.0.past in
     let bound : h.end < 2 = all-last IsEnd (keys past) (key h) (subst (All IsEnd) (ap keys last.0.is ∙ keys-snoc past h) i.ends) in
     absurd (dite (ℕ_discrete h.end 0)

@@ -1,5 +1,5 @@
 -- Each step of an end keeps the rule of a shared edge.
-use Rattle.std.proofs.Common.{◌≡◌, ◌≢◌, ℕ, zero, suc, ◌+◌, ◌-◌, ◌*◌, ◌<◌, eqb, Bool, true, false, cond, true≢false, List, [], ◌∷◌, ◌++◌, length, get_or, set, refl, sym, ap, ◌∙◌, subst, ⊎_elim, arith, eq-eqb, ne_eqb, length-set, get_or-set_same, get_or-set_other}
+use Rattle.std.proofs.Common.{◌≡◌, ◌≢◌, ℕ, zero, suc, ◌+◌, ◌-◌, ◌*◌, ◌<◌, eqb, Bool, true, false, cond, true≢false, List, [], ◌∷◌, ◌++◌, length, get_or, set, refl, sym, ap, ◌∙◌, subst, ⊎_elim, arith, eq-eqb, ne_eqb, length-set, get_or-set_same, get_or-set_other, Some, None}
 use Rattle.std.specs.Prelude.{All}
 use mathlib.Core.Option.{none, some, some-injective, some-ne-none}
 use lib.ListN.{get_elem?}
@@ -10,10 +10,10 @@ use Rattle.edge_lock.specs.declared.history.Hold.{Hold}
 use Rattle.edge_lock.specs.declared.history.Refusal.{Refusal}
 use Rattle.edge_lock.specs.declared.edge_steps.View.{View}
 use Rattle.edge_lock.specs.declared.edge_steps.View.TheVariants.{First, Alone, Second, Paired, Joined, Settled, Spent}
-use Rattle.edge_lock.specs.History.{own, value, open_hold, key, keys, sites_of, IsEnd, IsSide, IsHistory}
+use Rattle.edge_lock.specs.History.{own, value, open_hold, key, keys, site_count, IsEnd, IsSide, IsHistory}
 use Rattle.edge_lock.specs.EndLists.{new_hold, refusal_of, is_held, IsHoldBelow, IsRefusalBelow, IsFree, IsNew}
 use Rattle.edge_lock.specs.Passes.{IsPaired}
-use Rattle.edge_lock.specs.SharedRule.{lock_word, attempt_in, claims_of, claims, Stands, IsShared, lists_in, view_after_try, Tries}
+use Rattle.edge_lock.specs.SharedRule.{lock_word, attempt_in, claims_of, claims, IsPart, IsShared, lists_in, view_after_try, Tries}
 use Rattle.edge_lock.proofs.LastHolds.{open_hold-snoc, ends_open, is_held-snoc, keys-snoc, none_or_held}
 use Rattle.edge_lock.proofs.HistorySteps.{all-last, own_below, side_takes, side_stays, side_refuses, history_takes, value-opened, own-here, own-there}
 
@@ -34,7 +34,7 @@ pub record GoesOn (n : ℕ) (hs : List Hold) (e : ℕ) (gs : List Hold) : Type 0
   pub same : (f : ℕ) → f ≢ e → own f gs ≡ own f hs
   pub fits : (f : ℕ) (rs : List Refusal) → f ≢ e → IsSide (keys hs) f rs → IsSide (keys gs) f rs
 
-pub stays_there : {n : ℕ} (hs gs : List Hold) (e count id : ℕ) → GoesOn n hs e gs → count ≡ 2 → id ≢ e → (v : View) → Stands false hs count id v → Stands false gs count id v
+pub stays_there : {n : ℕ} (hs gs : List Hold) (e count id : ℕ) → GoesOn n hs e gs → count ≡ 2 → id ≢ e → (v : View) → IsPart false hs count id v → IsPart false gs count id v
 stays_there hs gs e count id g two apart (First n) s = let one = s.1 in absurd (omega arith)
 stays_there hs gs e count id g two apart (Alone n) s = let one = s.1 in absurd (omega arith)
 stays_there hs gs e count id g two apart (Second n) s = let other : 1 ≢ e = λ h. apart (s.2 ∙ h) in (s.0, s.1, s.2, g.same 1 other ∙ s.3, g.fits 1 [] other s.4)
@@ -45,7 +45,7 @@ stays_there hs gs e count id g two apart Spent s = absurd (true≢false (sym s))
 
 -- one end steps on the word i
 pub moved : (size : ℕ) (s : S) (r : IsShared size s) (id e i n : ℕ) (mine now : List Hold) (rs qs : List Refusal) (gs : List Hold) → get_elem? s.views id ≡ some (Paired size e mine rs)
-    → GoesOn (sites_of size) r.hs e gs → i ≢ 2 → get_or (set s.words i n) 1 0 ≡ lock_word (open_hold gs)
+    → GoesOn (site_count size) r.hs e gs → i ≢ 2 → get_or (set s.words i n) 1 0 ≡ lock_word (open_hold gs)
     → ((k : ℕ) → k < size → get_or (set s.words i n) (3 + k) 0 ≡ value gs k)
     → own e gs ≡ now → IsSide (keys gs) e qs → IsShared size (stepped s i n id [] (Paired size e now qs) keeps)
 moved size s r id e i n mine now rs qs gs at g not_claims lock registers here side =
@@ -57,10 +57,10 @@ moved size s r id e i n mine now rs qs gs at g not_claims lock registers here si
       lock = lock;
       claimed = get_or-set_other s.words i 2 n 0 (λ h. not_claims (sym h)) ∙ (r.claimed ∙ sym (claims-set s.views id (Paired size e mine rs) (Paired size e now qs) at refl));
       registers = registers;
-      views = λ j v p. subst (λ c. Stands false gs c j v) (sym count)
+      views = λ j v p. subst (λ c. IsPart false gs c j v) (sym count)
           (⊎_elim
-          (λ (t : (j ≡ id) × (Paired size e now qs ≡ v)). subst (λ (x : ℕ × View). Stands false gs (length s.views) x.0 x.1) (λ k. (sym t.0 k, t.1 k)) (refl, mine_is.1, mine_is.2, here, side))
-          (λ (t : (j ≢ id) × (get_elem? s.views j ≡ some v)). stays_there r.hs gs e (length s.views) j g mine_is.1 (λ h. t.0 (h ∙ sym mine_is.2)) v (subst (λ b. Stands b r.hs (length s.views) j v) mine_is.0 (r.views j v t.1)))
+          (λ (t : (j ≡ id) × (Paired size e now qs ≡ v)). subst (λ (x : ℕ × View). IsPart false gs (length s.views) x.0 x.1) (λ k. (sym t.0 k, t.1 k)) (refl, mine_is.1, mine_is.2, here, side))
+          (λ (t : (j ≢ id) × (get_elem? s.views j ≡ some v)). stays_there r.hs gs e (length s.views) j g mine_is.1 (λ h. t.0 (h ∙ sym mine_is.2)) v (subst (λ b. IsPart b r.hs (length s.views) j v) mine_is.0 (r.views j v t.1)))
           (at_set s.views id j (Paired size e now qs) v p));
     }
 
@@ -71,7 +71,7 @@ module _ (size e a : ℕ) (mine : List Hold) (rs : List Refusal) (end : e < 2) (
   abbrev mark : ℕ
   mark = 1 + 2 * a + e
 
-  gets : (s : S) (r : IsShared size s) (id : ℕ) → get_elem? s.views id ≡ some me.0 → get_or s.words 1 0 ≡ 0 → open_hold r.hs ≡ none → IsShared size (stepped s 1 mark id [] (Paired size e (mine ++ new_hold e a ∷ []) rs) keeps)
+  gets : (s : S) (r : IsShared size s) (id : ℕ) → get_elem? s.views id ≡ some me.0 → get_or s.words 1 0 ≡ 0 → open_hold r.hs ≡ None → IsShared size (stepped s 1 mark id [] (Paired size e (mine ++ new_hold e a ∷ []) rs) keeps)
   gets s r id at zero_word free =
       let mine_is = r.views id me.0 at in let hs = r.hs in let gs : List Hold = hs ++ new_hold e a ∷ [] in let long = r.long in let now = keys-snoc hs (new_hold e a) in
       let below = own_below a e hs (subst (All (IsHoldBelow a)) (sym mine_is.3) new) in
@@ -87,7 +87,7 @@ module _ (size e a : ℕ) (mine : List Hold) (rs : List Refusal) (end : e < 2) (
       (own-here e hs (new_hold e a) refl ∙ ap (λ l. l ++ new_hold e a ∷ []) mine_is.3)
       (subst (λ ks. IsSide ks e rs) (sym now) (side_takes (keys hs) e a rs mine_is.4 below news))
 
-  refuses : (s : S) (r : IsShared size s) (id : ℕ) → get_elem? s.views id ≡ some me.0 → (h : Hold) → open_hold r.hs ≡ some h
+  refuses : (s : S) (r : IsShared size s) (id : ℕ) → get_elem? s.views id ≡ some me.0 → (h : Hold) → open_hold r.hs ≡ Some h
       → IsShared size (stepped s 1 (get_or s.words 1 0) id [] (Paired size e mine (rs ++ refusal_of a (attempt_in (get_or s.words 1 0)) ∷ [])) keeps)
   refuses s r id at h is_open =
       let mine_is = r.views id me.0 at in let hs = r.hs in let n : ℕ = get_or s.words 1 0 in let long = r.long in
@@ -111,7 +111,7 @@ module _ (size e a : ℕ) (mine : List Hold) (rs : List Refusal) (end : e < 2) (
   pub tries : (slots id : ℕ) → Allows (IsShared size) slots id me 1 (λ n. either (eqb n 0) mark n) (Tries (step slots 1 0 mark none) me)
   tries slots id s r _ at _ = let n : ℕ = get_or s.words 1 0 in
       ⊎_elim
-      (λ (f : (open_hold r.hs ≡ none) × (is_held r.hs ≡ false)). let zero_word : n ≡ 0 = r.lock ∙ ap lock_word f.0 in let hit = eq-eqb n 0 zero_word in (
+      (λ (f : (open_hold r.hs ≡ None) × (is_held r.hs ≡ false)). let zero_word : n ≡ 0 = r.lock ∙ ap lock_word f.0 in let hit = eq-eqb n 0 zero_word in (
         view_after_try (attempt_in mark) n me.0,
         keeps,
         tt,
@@ -119,7 +119,7 @@ module _ (size e a : ℕ) (mine : List Hold) (rs : List Refusal) (end : e < 2) (
             (gets s r id at zero_word f.0),
         refl,
       ))
-      (λ (f : (h : Hold) × (open_hold r.hs ≡ some h) × (is_held r.hs ≡ true)). let some_word : n ≢ 0 = λ z. let w : n ≡ 1 + 2 * f.0.attempt + f.0.end = r.lock ∙ ap lock_word f.1 in omega arith in let miss = ne_eqb n 0 some_word in (
+      (λ (f : (h : Hold) × (open_hold r.hs ≡ Some h) × (is_held r.hs ≡ true)). let some_word : n ≢ 0 = λ z. let w : n ≡ 1 + 2 * f.0.attempt + f.0.end = r.lock ∙ ap lock_word f.1 in omega arith in let miss = ne_eqb n 0 some_word in (
         view_after_try (attempt_in mark) n me.0,
         keeps,
         tt,

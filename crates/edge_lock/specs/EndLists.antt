@@ -1,6 +1,5 @@
 -- What one end of an edge did, as two lists, and what a board's calls do to them.
-use Rattle.std.specs.Prelude.{◌≡◌, ℕ, ◌<◌, ◌==◌, Bool, true, false, cond, List, [], ◌∷◌, ◌++◌, All}
-use mathlib.Core.Option.{Option, none, some}
+use Rattle.std.specs.Prelude.{◌≡◌, ℕ, ◌<◌, ◌==◌, Bool, true, false, List, [], ◌∷◌, ◌++◌, All, Option, Some, None, if◌then◌else◌}
 use Rattle.edge_lock.specs.declared.board.Take.{Take}
 use Rattle.edge_lock.specs.declared.board.Take.TheVariants.{Got, Busy}
 use Rattle.edge_lock.specs.declared.history.Access.{Access}
@@ -48,13 +47,13 @@ last_accesses (hold ∷ next ∷ holds) = last_accesses (next ∷ holds)
 -- what the last read or write of the register showed, where `start` was known before
 abbrev pub last_shown : List Access → ℕ → Option ℕ → Option ℕ
 last_shown [] register start = start
-last_shown (Read at value ∷ accesses) register start = last_shown accesses register (cond (register == at) (some value) start)
-last_shown (Write at value ∷ accesses) register start = last_shown accesses register (cond (register == at) (some value) start)
+last_shown (Read at value ∷ accesses) register start = last_shown accesses register (if register == at then Some value else start)
+last_shown (Write at value ∷ accesses) register start = last_shown accesses register (if register == at then Some value else start)
 
 -- where a value is known, it is this one
 abbrev pub Shows : Option ℕ → ℕ → Type 0
-Shows none value = Unit {0}
-Shows (some known) value = value ≡ known
+Shows None value = Unit {0}
+Shows (Some known) value = value ≡ known
 
 abbrev pub writes_nothing : List Access → Bool
 writes_nothing [] = true
@@ -107,7 +106,7 @@ after_give lists = end_lists (change_last closed_hold lists.holds) lists.refusal
 
 -- what the last read or write of the register in the last hold showed
 abbrev pub known_value : EndLists → ℕ → Option ℕ
-known_value lists register = last_shown (last_accesses lists.holds) register none
+known_value lists register = last_shown (last_accesses lists.holds) register None
 
 -- nothing was written in the last hold
 abbrev pub HasNoWrite : EndLists → Type 0
@@ -115,4 +114,4 @@ HasNoWrite lists = writes_nothing (last_accesses lists.holds) ≡ true
 
 -- the lists of all edges, where those of one edge are replaced
 abbrev pub replace_at : (ℕ → EndLists) → ℕ → EndLists → ℕ → EndLists
-replace_at lists edge other i = cond (i == edge) other (lists i)
+replace_at lists edge other i = if i == edge then other else lists i

@@ -1,7 +1,6 @@
 -- The history of one edge: who had it, what was read and written meanwhile, and who was refused.
 -- An edge has two ends, 0 and 1. Its registers are words that only the end with the open hold reads and writes.
-use Rattle.std.specs.Prelude.{◌≡◌, ℕ, ◌+◌, ◌-◌, ◌*◌, ◌/◌, ◌<◌, ◌==◌, false, cond, List, [], ◌∷◌, ◌++◌, map, filter, take, All}
-use mathlib.Core.Option.{Option, none, some}
+use Rattle.std.specs.Prelude.{◌≡◌, ℕ, ◌+◌, ◌-◌, ◌*◌, ◌/◌, ◌%◌, ◌<◌, ◌==◌, false, List, [], ◌∷◌, ◌++◌, map, filter, take, All, Option, Some, None, if◌then◌else◌}
 use Rattle.bit_field.specs.Atom.{LeavesGap}
 use Rattle.edge_lock.specs.declared.history.Access.{Access}
 use Rattle.edge_lock.specs.declared.history.Access.TheVariants.{Read, Write}
@@ -21,7 +20,7 @@ trace (hold ∷ holds) = hold.accesses ++ trace holds
 abbrev pub written : List Access → ℕ → ℕ → ℕ
 written [] register start = start
 written (Read at value ∷ accesses) register start = written accesses register start
-written (Write at value ∷ accesses) register start = written accesses register (cond (register == at) value start)
+written (Write at value ∷ accesses) register start = written accesses register (if register == at then value else start)
 
 -- a register after these holds; each is 0 at first
 abbrev pub value : List Hold → ℕ → ℕ
@@ -37,13 +36,14 @@ ReadsTrue accesses = (before : List Access) (register value : ℕ) (rest : List 
 
 -- what a hold finds in a register: the value of its first read of it, made before any write to it
 abbrev pub found_value : List Access → ℕ → Option ℕ
-found_value [] register = none
-found_value (Read at value ∷ accesses) register = cond (register == at) (some value) (found_value accesses register)
-found_value (Write at value ∷ accesses) register = cond (register == at) none (found_value accesses register)
+found_value [] register = None
+found_value (Read at value ∷ accesses) register = if register == at then Some value else found_value accesses register
+found_value (Write at value ∷ accesses) register = if register == at then None else found_value accesses register
 
--- how many shared sites an edge of so many registers has: one register is the clock, and each site takes two
-abbrev pub sites_of : ℕ → ℕ
-sites_of registers = (registers - 1) / 2
+-- how many shared sites an edge of so many registers has. One register is the clock; of the others, each 64 sites take
+-- 130, and the sites that are left take two each and two more.
+unfoldable pub site_count : ℕ → ℕ
+site_count registers = let pairs = (registers - 1) / 2 in 64 * (pairs / 65) + (pairs % 65 - 1)
 
 -- the second register of each shared site takes only words whose bits 7 to 15 are 0
 abbrev pub IsAllowed : ℕ → ℕ → ℕ → Type 0
@@ -61,8 +61,8 @@ OnlyLastOpen (hold ∷ next ∷ holds) = (hold.is_open ≡ false) × OnlyLastOpe
 
 -- the last hold, where it is open
 abbrev pub open_hold : List Hold → Option Hold
-open_hold [] = none
-open_hold (hold ∷ []) = cond hold.is_open (some hold) none
+open_hold [] = None
+open_hold (hold ∷ []) = if hold.is_open then Some hold else None
 open_hold (hold ∷ next ∷ holds) = open_hold (next ∷ holds)
 
 -- whose hold it is: the end and its attempt
@@ -75,7 +75,7 @@ keys holds = map key holds
 -- the attempts by which one end got the edge
 abbrev pub attempts_of : ℕ → List (ℕ × ℕ) → List ℕ
 attempts_of end [] = []
-attempts_of end (key ∷ keys) = cond (key.0 == end) (key.1 ∷ attempts_of end keys) (attempts_of end keys)
+attempts_of end (key ∷ keys) = if key.0 == end then key.1 ∷ attempts_of end keys else attempts_of end keys
 
 -- each number is smaller than all that follow it
 abbrev pub IsRising : List ℕ → Type 0

@@ -1,13 +1,12 @@
 -- What contracts see of a shared edge, of its two passes, and of the edge when it is closed.
-use Rattle.std.specs.Prelude.{◌≡◌, ℕ, List, []}
-use mathlib.Core.Option.{none}
+use Rattle.std.specs.Prelude.{◌≡◌, ℕ, List, [], None}
 use Rattle.atomic_table.specs.Seated.{TableId}
 use Rattle.atomic_table.specs.Table.{Me}
 use Rattle.edge_lock.specs.declared.history.Hold.{Hold}
 use Rattle.edge_lock.specs.declared.history.Refusal.{Refusal}
 use Rattle.edge_lock.specs.declared.edge_steps.View.{View}
 use Rattle.edge_lock.specs.declared.edge_steps.View.TheVariants.{Paired, Settled}
-use Rattle.edge_lock.specs.History.{sites_of, open_hold}
+use Rattle.edge_lock.specs.History.{site_count, open_hold}
 use Rattle.edge_lock.specs.EndLists.{EndLists, end_lists}
 use Rattle.edge_lock.specs.SharedRule.{lists_in, IsBoth}
 
@@ -68,7 +67,7 @@ IsSettled me = me ≡ (Settled (holds_in me.0) (low_in me.0) (high_in me.0), [])
 
 -- at close the holds and refusals of both ends are one history, which has each end's own holds in order, and no hold is open
 pub record IsClosed (closed : ClosedValue) (lower higher : EndLists) : Type 0 where
-  pub both : IsBoth (sites_of closed.registers) lower.holds lower.refusals higher.holds higher.refusals closed.holds
+  pub both : IsBoth (site_count closed.registers) lower.holds lower.refusals higher.holds higher.refusals closed.holds
   pub low : closed.low ≡ lower.refusals
   pub high : closed.high ≡ higher.refusals
-  pub shut : open_hold closed.holds ≡ none
+  pub shut : open_hold closed.holds ≡ None

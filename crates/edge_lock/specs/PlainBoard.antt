@@ -1,11 +1,10 @@
 -- What contracts see of the plain board, and how the acting tile's end moves it.
-use Rattle.std.specs.Prelude.{◌≡◌, ℕ, ◌-◌, ◌<◌, ◌==◌, ◌||◌, Bool, true, cond, List, [], length, map, slice_index_or, slice_set}
-use mathlib.Core.Option.{Option, none, some}
-use Rattle.feast_base.specs.Edges.{EdgeSize}
+use Rattle.std.specs.Prelude.{◌≡◌, ℕ, ◌-◌, ◌<◌, ◌==◌, ◌||◌, Bool, true, List, [], length, map, slice_index_or, slice_set, Option, Some, None, if◌then◌else◌}
+use Rattle.feast_base.specs.Edges.{EdgeSize, registers_of}
 use Rattle.edge_lock.specs.declared.board.Take.TheVariants.{Got, Busy}
 use Rattle.edge_lock.specs.declared.history.Access.TheVariants.{Read, Write}
 use Rattle.edge_lock.specs.declared.history.Hold.{Hold}
-use Rattle.edge_lock.specs.History.{value, open_hold, sites_of, IsAllowed}
+use Rattle.edge_lock.specs.History.{value, open_hold, site_count, IsAllowed}
 use Rattle.edge_lock.specs.EndLists.{EndLists, IsFree, IsHeld, IsNew}
 use Rattle.edge_lock.specs.PlainEdges.{PlainEdgeValue, plain_edge_value, plain_view, own_lists, edge_after_try, edge_after_access, edge_after_give, IsKept, view_of}
 
@@ -26,7 +25,7 @@ edge_at board edge = slice_index_or board.edges edge no_edge
 
 -- which end of the edge the tile is
 abbrev pub end_of : PlainEdgeValue → ℕ → ℕ
-end_of edge tile = cond (edge.lower == tile) 0 1
+end_of edge tile = if edge.lower == tile then 0 else 1
 
 -- whether the tile is an end of the edge
 abbrev pub is_end : PlainEdgeValue → ℕ → Bool
@@ -34,7 +33,7 @@ is_end edge tile = (edge.lower == tile) || (edge.higher == tile)
 
 -- by an edge's number: how many registers it has, 0 where it is no edge of the acting tile
 abbrev pub registers_on : PlainBoardValue → ℕ → ℕ
-registers_on board edge = cond (is_end (edge_at board edge) board.acting) (edge_at board edge).registers 0
+registers_on board edge = if is_end (edge_at board edge) board.acting then (edge_at board edge).registers else 0
 
 -- which end of the edge the acting tile is
 abbrev pub end_on : PlainBoardValue → ℕ → ℕ
@@ -63,13 +62,13 @@ pub data Call : Type 0 where
 abbrev pub MayCall : ℕ → Call → PlainEdgeValue → Type 0
 MayCall end (tries attempt) edge = IsFree (own_lists end edge) × IsNew attempt (own_lists end edge)
 MayCall end (reads register) edge = IsHeld (own_lists end edge) × (register < edge.registers)
-MayCall end (writes register value) edge = IsHeld (own_lists end edge) × (register < edge.registers) × IsAllowed (sites_of edge.registers) register value
+MayCall end (writes register value) edge = IsHeld (own_lists end edge) × (register < edge.registers) × IsAllowed (site_count edge.registers) register value
 MayCall end gives edge = IsHeld (own_lists end edge)
 
 -- a try gets the edge exactly where nobody has it, and is refused by the hold that is open
 abbrev pub tried_at : Option Hold → ℕ → ℕ → PlainEdgeValue → PlainEdgeValue
-tried_at none end attempt edge = edge_after_try end attempt Got edge
-tried_at (some hold) end attempt edge = edge_after_try end attempt (Busy hold.attempt) edge
+tried_at None end attempt edge = edge_after_try end attempt Got edge
+tried_at (Some hold) end attempt edge = edge_after_try end attempt (Busy hold.attempt) edge
 
 -- the edge after the call of an end
 abbrev pub effect_of : ℕ → Call → PlainEdgeValue → PlainEdgeValue
@@ -94,9 +93,9 @@ pub moved_on : (old between new : PlainBoardValue) → Moved old between → Mov
 moved_on old between new (stays _) later = later
 moved_on old between new (goes _ next _ edge call one rest) later = goes old next new edge call one (moved_on next between new rest later)
 
--- the tiles and the number of registers of an edge
+-- the tiles and the number of shared sites of an edge
 abbrev pub size_of : PlainEdgeValue → EdgeSize
-size_of edge = record { lower = edge.lower; higher = edge.higher; registers = edge.registers }
+size_of edge = record { lower = edge.lower; higher = edge.higher; sites = site_count edge.registers }
 
 -- the list of edges that the board was made from
 abbrev pub sizes_of_board : PlainBoardValue → List EdgeSize
@@ -104,7 +103,7 @@ sizes_of_board board = map size_of board.edges
 
 -- an edge of this size on which nothing has happened
 abbrev pub untouched_edge : EdgeSize → PlainEdgeValue
-untouched_edge size = plain_edge_value size.lower size.higher (plain_view size.registers [] [] [])
+untouched_edge size = plain_edge_value size.lower size.higher (plain_view (registers_of size.sites) [] [] [])
 
 -- the edge keeps one history, with the refusals of both ends
 abbrev pub IsKeptEdge : PlainEdgeValue → Type 0

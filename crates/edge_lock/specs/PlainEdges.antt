@@ -1,6 +1,6 @@
 -- One edge of the plain board. Its one seat knows the whole history, so the words are those of that history.
-use Rattle.std.specs.Prelude.{◌≡◌, ℕ, ◌+◌, ◌-◌, ◌%◌, ◌<◌, ◌==◌, cond, List, [], ◌∷◌, ◌++◌, length, slice_index}
-use mathlib.Core.Option.{none, some}
+use Rattle.std.specs.Prelude.{◌≡◌, ℕ, ◌+◌, ◌-◌, ◌%◌, ◌<◌, ◌==◌, List, [], ◌∷◌, ◌++◌, length, slice_index, Some, None, if◌then◌else◌}
+use mathlib.Core.Option.{some}
 use lib.ListN.{get_elem?}
 use Rattle.atomic_table.specs.Table.{State, Me, Step}
 use Rattle.edge_lock.specs.declared.board.Take.{Take}
@@ -10,7 +10,7 @@ use Rattle.edge_lock.specs.declared.history.Access.TheVariants.{Read, Write}
 use Rattle.edge_lock.specs.declared.history.Hold.{Hold}
 use Rattle.edge_lock.specs.declared.history.Refusal.{Refusal}
 use Rattle.edge_lock.specs.declared.plain_steps.PlainView.{PlainView}
-use Rattle.edge_lock.specs.History.{own, value, open_hold, sites_of, IsEdgeHistory}
+use Rattle.edge_lock.specs.History.{own, value, open_hold, site_count, IsEdgeHistory}
 use Rattle.edge_lock.specs.EndLists.{EndLists, end_lists, new_hold, refusal_of, with_access, closed_hold, change_last}
 use Rattle.edge_lock.specs.SharedRule.{lock_word, attempt_in}
 
@@ -19,7 +19,7 @@ plain_view registers holds low high = record { registers = registers; holds = ho
 
 -- the view is the history of an edge
 abbrev pub IsKept : PlainView → Type 0
-IsKept view = IsEdgeHistory (sites_of view.registers) view.holds view.low view.high
+IsKept view = IsEdgeHistory (site_count view.registers) view.holds view.low view.high
 
 -- the words are those of the history that the seat knows
 pub record Agrees (registers_count : ℕ) (words : List ℕ) (view : PlainView) : Type 0 where
@@ -41,12 +41,12 @@ Taken = Step (Unit {0})
 
 -- one more refusal of an end
 abbrev pub with_refusal : ℕ → Refusal → PlainView → PlainView
-with_refusal end refusal view = plain_view view.registers view.holds (cond (end == 0) (view.low ++ refusal ∷ []) view.low) (cond (end == 0) view.high (view.high ++ refusal ∷ []))
+with_refusal end refusal view = plain_view view.registers view.holds (if end == 0 then view.low ++ refusal ∷ [] else view.low) (if end == 0 then view.high else view.high ++ refusal ∷ [])
 
 -- a try that found this lock word
 abbrev pub plain_view_after_try : ℕ → ℕ → ℕ → PlainView → PlainView
 plain_view_after_try end attempt word view =
-    cond (word == 0) (plain_view view.registers (view.holds ++ new_hold end attempt ∷ []) view.low view.high) (with_refusal end (refusal_of attempt (attempt_in word)) view)
+    if word == 0 then plain_view view.registers (view.holds ++ new_hold end attempt ∷ []) view.low view.high else with_refusal end (refusal_of attempt (attempt_in word)) view
 
 -- the end in a lock word
 abbrev pub end_in : ℕ → ℕ
@@ -92,7 +92,7 @@ with_view edge view = plain_edge_value edge.lower edge.higher view
 
 -- what one end did on the edge
 abbrev pub own_lists : ℕ → PlainEdgeValue → EndLists
-own_lists end edge = end_lists (own end edge.holds) (cond (end == 0) edge.low edge.high)
+own_lists end edge = end_lists (own end edge.holds) (if end == 0 then edge.low else edge.high)
 
 -- an edge on which nothing has happened
 abbrev pub IsUntouched : PlainEdgeValue → ℕ → ℕ → ℕ → Type 0
@@ -104,9 +104,9 @@ edge_after_try end attempt Got edge = with_view edge (plain_view edge.registers 
 edge_after_try end attempt (Busy holder) edge = with_view edge (with_refusal end (refusal_of attempt holder) (view_of edge))
 
 -- Got is answered exactly where nobody has the edge, Busy exactly where the other end has it, with the attempt that has it
-abbrev pub Answers : ℕ → PlainEdgeValue → Take → Type 0
-Answers end edge Got = open_hold edge.holds ≡ none
-Answers end edge (Busy holder) = (hold : Hold) × (open_hold edge.holds ≡ some hold) × (hold.end ≡ 1 - end) × (hold.attempt ≡ holder)
+abbrev pub IsAnswer : ℕ → PlainEdgeValue → Take → Type 0
+IsAnswer end edge Got = open_hold edge.holds ≡ None
+IsAnswer end edge (Busy holder) = (hold : Hold) × (open_hold edge.holds ≡ Some hold) × (hold.end ≡ 1 - end) × (hold.attempt ≡ holder)
 
 -- the edge after a read or write in the open hold
 abbrev pub edge_after_access : Access → PlainEdgeValue → PlainEdgeValue

@@ -1,5 +1,5 @@
 -- What contracts see of one tile's end of its shared edges.
-use Rattle.std.specs.Prelude.{◌≡◌, ℕ, ◌==◌, cond, suc, List, [], ◌∷◌, map, slice_get, Some}
+use Rattle.std.specs.Prelude.{◌≡◌, ℕ, ◌==◌, suc, List, [], ◌∷◌, map, slice_get, Some, if◌then◌else◌}
 use Rattle.edge_lock.specs.EndLists.{EndLists, end_lists}
 use Rattle.edge_lock.specs.Passes.{EdgeValue, PassValue}
 
@@ -17,22 +17,22 @@ IsPassOf edges pass = slice_get edges pass.of.number ≡ Some pass.of
 -- by an edge's number: how many registers it has, 0 where there is no pass of it
 abbrev pub registers_at : List PassValue → ℕ → ℕ
 registers_at [] edge = 0
-registers_at (pass ∷ passes) edge = cond (pass.of.number == edge) pass.of.registers (registers_at passes edge)
+registers_at (pass ∷ passes) edge = if pass.of.number == edge then pass.of.registers else registers_at passes edge
 
 -- which end the pass of an edge is
 abbrev pub end_at : List PassValue → ℕ → ℕ
 end_at [] edge = 0
-end_at (pass ∷ passes) edge = cond (pass.of.number == edge) pass.end (end_at passes edge)
+end_at (pass ∷ passes) edge = if pass.of.number == edge then pass.end else end_at passes edge
 
 -- what the pass of an edge did
 abbrev pub lists_at : List PassValue → ℕ → EndLists
 lists_at [] edge = end_lists [] []
-lists_at (pass ∷ passes) edge = cond (pass.of.number == edge) pass.lists (lists_at passes edge)
+lists_at (pass ∷ passes) edge = if pass.of.number == edge then pass.lists else lists_at passes edge
 
 -- the position of the pass of an edge
 abbrev pub place : List PassValue → ℕ → ℕ
 place [] edge = 0
-place (pass ∷ passes) edge = cond (pass.of.number == edge) 0 (suc (place passes edge))
+place (pass ∷ passes) edge = if pass.of.number == edge then 0 else suc (place passes edge)
 
 -- which edge and which end a pass is of
 pub record EdgeAndEnd : Type 0 where

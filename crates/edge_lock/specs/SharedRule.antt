@@ -1,7 +1,7 @@
 -- The rule over the words of an edge that two threads share, and what each step tells its caller.
 -- Word 0 is the base's own, word 1 is the lock, word 2 counts the ends that are claimed, and the registers follow.
-use Rattle.std.specs.Prelude.{◌≡◌, ℕ, ◌+◌, ◌-◌, ◌*◌, ◌/◌, ◌<◌, ◌==◌, Bool, true, false, cond, List, [], ◌∷◌, ◌++◌, length, slice_index}
-use mathlib.Core.Option.{Option, none, some}
+use Rattle.std.specs.Prelude.{◌≡◌, ℕ, ◌+◌, ◌-◌, ◌*◌, ◌/◌, ◌<◌, ◌==◌, Bool, true, false, List, [], ◌∷◌, ◌++◌, length, slice_index, Option, Some, None, if◌then◌else◌}
+use mathlib.Core.Option.{some}
 use lib.ListN.{get_elem?}
 use Rattle.atomic_table.specs.Table.{State, Me, Step}
 use Rattle.edge_lock.specs.declared.history.Access.TheVariants.{Read, Write}
@@ -9,13 +9,13 @@ use Rattle.edge_lock.specs.declared.history.Hold.{Hold}
 use Rattle.edge_lock.specs.declared.history.Refusal.{Refusal}
 use Rattle.edge_lock.specs.declared.edge_steps.View.{View}
 use Rattle.edge_lock.specs.declared.edge_steps.View.TheVariants.{First, Alone, Second, Paired, Joined, Settled, Spent}
-use Rattle.edge_lock.specs.History.{own, value, open_hold, keys, sites_of, IsAllowed, IsHistory, IsSide, IsEdgeHistory}
+use Rattle.edge_lock.specs.History.{own, value, open_hold, keys, site_count, IsAllowed, IsHistory, IsSide, IsEdgeHistory}
 use Rattle.edge_lock.specs.EndLists.{EndLists, end_lists, new_hold, refusal_of, with_access, closed_hold, change_last, known_value, Shows}
 
 -- the lock word: 0 where nobody has the edge, else the attempt and the end that have it
 abbrev pub lock_word : Option Hold → ℕ
-lock_word none = 0
-lock_word (some hold) = 1 + 2 * hold.attempt + hold.end
+lock_word None = 0
+lock_word (Some hold) = 1 + 2 * hold.attempt + hold.end
 
 -- the attempt in a lock word
 abbrev pub attempt_in : ℕ → ℕ
@@ -38,25 +38,25 @@ claims (view ∷ views) = claims_of view + claims views
 -- What the rule says of the view of the seat `id`, of so many seats. There is one history of both ends, `holds`.
 -- A view before the split is the only one. After it seat 0 has end 0 and seat 1 has end 1, and a view has its end's part.
 -- After the join one view has both parts, and then the whole.
-abbrev pub Stands : Bool → List Hold → ℕ → ℕ → View → Type 0
-Stands joined holds count id (First registers) = (joined ≡ false) × (count ≡ 1) × (holds ≡ [])
-Stands joined holds count id (Alone registers) = (joined ≡ false) × (count ≡ 1) × (holds ≡ [])
-Stands joined holds count id (Second registers) = (joined ≡ false) × (count ≡ 2) × (id ≡ 1) × (own 1 holds ≡ []) × IsSide (keys holds) 1 []
-Stands joined holds count id (Paired registers end mine refusals) = (joined ≡ false) × (count ≡ 2) × (id ≡ end) × (own end holds ≡ mine) × IsSide (keys holds) end refusals
-Stands joined holds count id (Joined registers low low_refusals high high_refusals) = (joined ≡ true) × (own 0 holds ≡ low) × IsSide (keys holds) 0 low_refusals × (own 1 holds ≡ high) × IsSide (keys holds) 1 high_refusals
-Stands joined holds count id (Settled all low_refusals high_refusals) = (joined ≡ true) × (all ≡ holds) × IsSide (keys holds) 0 low_refusals × IsSide (keys holds) 1 high_refusals
-Stands joined holds count id Spent = joined ≡ true
+abbrev pub IsPart : Bool → List Hold → ℕ → ℕ → View → Type 0
+IsPart joined holds count id (First registers) = (joined ≡ false) × (count ≡ 1) × (holds ≡ [])
+IsPart joined holds count id (Alone registers) = (joined ≡ false) × (count ≡ 1) × (holds ≡ [])
+IsPart joined holds count id (Second registers) = (joined ≡ false) × (count ≡ 2) × (id ≡ 1) × (own 1 holds ≡ []) × IsSide (keys holds) 1 []
+IsPart joined holds count id (Paired registers end mine refusals) = (joined ≡ false) × (count ≡ 2) × (id ≡ end) × (own end holds ≡ mine) × IsSide (keys holds) end refusals
+IsPart joined holds count id (Joined registers low low_refusals high high_refusals) = (joined ≡ true) × (own 0 holds ≡ low) × IsSide (keys holds) 0 low_refusals × (own 1 holds ≡ high) × IsSide (keys holds) 1 high_refusals
+IsPart joined holds count id (Settled all low_refusals high_refusals) = (joined ≡ true) × (all ≡ holds) × IsSide (keys holds) 0 low_refusals × IsSide (keys holds) 1 high_refusals
+IsPart joined holds count id Spent = joined ≡ true
 
 -- the rule of an edge with so many registers: the words are those of one history, and each view is a part of it
 pub record IsShared (registers_count : ℕ) (s : State (Unit {0}) View) : Type 0 where
   pub hs : List Hold
   pub joined : Bool
-  pub history : IsHistory (sites_of registers_count) hs
+  pub history : IsHistory (site_count registers_count) hs
   pub long : length s.words ≡ 3 + registers_count
   pub lock : slice_index s.words 1 ≡ lock_word (open_hold hs)
   pub claimed : slice_index s.words 2 ≡ claims s.views
   pub registers : (register : ℕ) → register < registers_count → slice_index s.words (3 + register) ≡ value hs register
-  pub views : (id : ℕ) (view : View) → get_elem? s.views id ≡ some view → Stands joined hs (length s.views) id view
+  pub views : (id : ℕ) (view : View) → get_elem? s.views id ≡ some view → IsPart joined hs (length s.views) id view
 
 abbrev Seated : Type 0
 Seated = Me (Unit {0}) View
@@ -95,7 +95,7 @@ Claims step me word next = next ≡ (claimed_by me.0, me.1)
 
 abbrev pub view_after_try : ℕ → ℕ → View → View
 view_after_try attempt word (Paired registers end holds refusals) =
-    cond (word == 0) (Paired registers end (holds ++ new_hold end attempt ∷ []) refusals) (Paired registers end holds (refusals ++ refusal_of attempt (attempt_in word) ∷ []))
+    if word == 0 then Paired registers end (holds ++ new_hold end attempt ∷ []) refusals else Paired registers end holds (refusals ++ refusal_of attempt (attempt_in word) ∷ [])
 view_after_try attempt word view = view
 
 -- one exchange of the lock word: it found 0 and got the edge, or found the word of the other end's hold
@@ -110,7 +110,7 @@ view_after_change change view = view
 abbrev pub Reads : Taken → Seated → ℕ → Seated → Type 0
 Reads step me word next =
     let register = step.word - 3 in
-    (next ≡ (view_after_change (with_access (Read register word)) me.0, me.1)) × Shows (known_value (lists_in me.0) register) word × IsAllowed (sites_of (registers_in me.0)) register word
+    (next ≡ (view_after_change (with_access (Read register word)) me.0, me.1)) × Shows (known_value (lists_in me.0) register) word × IsAllowed (site_count (registers_in me.0)) register word
 
 -- one store to a register by the end that has the edge
 abbrev pub Writes : Taken → Seated → ℕ → Seated → Type 0
@@ -132,7 +132,7 @@ pub record IsBoth (sites : ℕ) (low : List Hold) (low_refusals : List Refusal) 
   pub higher : own 1 all ≡ high
 
 abbrev pub BecomesWhole : View → View → Type 0
-BecomesWhole (Joined registers low low_refusals high high_refusals) view = (all : List Hold) × (view ≡ Settled all low_refusals high_refusals) × IsBoth (sites_of registers) low low_refusals high high_refusals all
+BecomesWhole (Joined registers low low_refusals high high_refusals) view = (all : List Hold) × (view ≡ Settled all low_refusals high_refusals) × IsBoth (site_count registers) low low_refusals high high_refusals all
 BecomesWhole other view = Unit {0}
 
 -- the first load after the join: the view gets the one history of both ends

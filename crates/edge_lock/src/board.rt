@@ -20,7 +20,7 @@ pub enum Take {
 /// of them: a list of holds and a list of refusals. A call changes the lists of the named edge
 /// alone, and neither the tile nor its edges. Each call needs an edge of the tile.
 pub trait Board {
-    ghost use Rattle.edge_lock.specs.History.{IsAllowed, sites_of};
+    ghost use Rattle.edge_lock.specs.History.{IsAllowed, site_count};
     ghost use Rattle.edge_lock.specs.EndLists.{EndLists, IsHeld, IsFree, IsNew, HasNoWrite, Shows, after_try, after_access, after_give, known_value, replace_at};
 
     // The tile whose end it is.
@@ -29,7 +29,7 @@ pub trait Board {
     // By an edge's number: how many registers it has, and 0 where it is no edge of the tile.
     ghost registers: { Self → ℕ → ℕ };
 
-    // Which end of the edge the tile is.
+    // Which end of the edge the tile is: 0 or 1, where it is an edge of the tile.
     ghost end_of: { Self → ℕ → ℕ };
 
     // The holds and refusals of this end on the edge.
@@ -45,6 +45,7 @@ pub trait Board {
         requires edge { 0 < registers self.old edge }
         requires free { IsFree (lists self.old edge) }
         requires attempt { (attempt < 1000000) × IsNew attempt (lists self.old edge) }
+        ensures end { end_of self.old edge < 2 }
         ensures lists { lists self.new ≡ replace_at (lists self.old) edge (after_try (end_of self.old edge) attempt result (lists self.old edge)) }
         ensures tile { tile self.new ≡ tile self.old }
         ensures edges { (registers self.new ≡ registers self.old) × (end_of self.new ≡ end_of self.old) }
@@ -55,7 +56,7 @@ pub trait Board {
     fn read(&mut self, edge: u32, register: u32) -> u64
         requires edge { register < registers self.old edge }
         requires held { IsHeld (lists self.old edge) }
-        ensures value { Shows (known_value (lists self.old edge) register) result × IsAllowed (sites_of (registers self.old edge)) register result }
+        ensures value { Shows (known_value (lists self.old edge) register) result × IsAllowed (site_count (registers self.old edge)) register result }
         ensures lists { lists self.new ≡ replace_at (lists self.old) edge (after_access (Read register result) (lists self.old edge)) }
         ensures tile { tile self.new ≡ tile self.old }
         ensures edges { (registers self.new ≡ registers self.old) × (end_of self.new ≡ end_of self.old) }
@@ -66,7 +67,7 @@ pub trait Board {
     fn write(&mut self, edge: u32, register: u32, value: u64)
         requires edge { register < registers self.old edge }
         requires held { IsHeld (lists self.old edge) }
-        requires value { IsAllowed (sites_of (registers self.old edge)) register value }
+        requires value { IsAllowed (site_count (registers self.old edge)) register value }
         ensures lists { lists self.new ≡ replace_at (lists self.old) edge (after_access (Write register value) (lists self.old edge)) }
         ensures tile { tile self.new ≡ tile self.old }
         ensures edges { (registers self.new ≡ registers self.old) × (end_of self.new ≡ end_of self.old) }

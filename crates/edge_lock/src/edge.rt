@@ -1,7 +1,8 @@
 //! An edge that two threads share: the edge, its two passes, and the edge when both are done.
-ghost use Rattle.std.specs.Prelude.{◌≡◌, ◌<◌, IfOk};
+ghost use Rattle.std.specs.Prelude.{◌≡◌, ◌<◌, ◌^◌, IfOk};
+ghost use Rattle.feast_base.specs.Edges.{registers_of};
 ghost use Rattle.edge_lock.specs.declared.history.Access.TheVariants.{Read, Write};
-ghost use Rattle.edge_lock.specs.History.{value, sites_of, IsAllowed};
+ghost use Rattle.edge_lock.specs.History.{value, site_count, IsAllowed};
 ghost use Rattle.edge_lock.specs.EndLists.{IsNew, IsFree, IsHeld, after_try, after_access, after_give, known_value, Shows};
 ghost use Rattle.edge_lock.specs.Passes.{with_lists, IsFresh, IsClosed};
 
@@ -96,11 +97,26 @@ impl Closed {
 }
 
 impl Edge {
-    /// An edge of this number whose registers are all 0, with a pass for each end, the first for
-    /// end 0.
+    /// An edge of this number and so many shared sites, with a pass for each end, the first for
+    /// end 0. Its registers are the clock, two for each site and the news words of both ends, all
+    /// of them 0.
     ///
     /// `NoMemory`: there was no memory for the words.
-    pub fn new(alloc: Global, edge: u32, registers: u32) -> Result<(Edge, Pass, Pass), NoMemory>
+    pub fn new(alloc: Global, edge: u32, sites: u32) -> Result<(Edge, Pass, Pass), NoMemory>
+        requires fits { registers_of sites < 2 ^ 32 }
+        ensures edge { IfOk result (λ r. (r.0.number ≡ edge) × (r.0.registers ≡ registers_of sites)) }
+        ensures passes { IfOk result (λ r. IsFresh r.1 r.0 0 × IsFresh r.2 r.0 1) }
+    {
+        let registers = 1 + 2 * sites + 2 * ((sites + 63) / 64);
+        Edge::with_registers(alloc, edge, registers)
+    }
+
+    /// An edge of this number and so many registers, with a pass for each end.
+    fn with_registers(
+        alloc: Global,
+        edge: u32,
+        registers: u32,
+    ) -> Result<(Edge, Pass, Pass), NoMemory>
         ensures edge { IfOk result (λ r. (r.0.number ≡ edge) × (r.0.registers ≡ registers)) }
         ensures passes { IfOk result (λ r. IsFresh r.1 r.0 0 × IsFresh r.2 r.0 1) }
     {
@@ -156,7 +172,8 @@ impl Edge {
         requires edge { pass.old.of ≡ self.now }
         requires free { IsFree pass.old.lists }
         requires attempt { (attempt < 1000000) × IsNew attempt pass.old.lists }
-        ensures { pass.new ≡ with_lists pass.old (after_try pass.old.end attempt result pass.old.lists) }
+        ensures pass { pass.new ≡ with_lists pass.old (after_try pass.old.end attempt result pass.old.lists) }
+        ensures end { pass.old.end < 2 }
     {
         let word = 1 + 2 * attempt + u64::from(pass.end);
         let found = self
@@ -177,7 +194,7 @@ impl Edge {
         requires edge { pass.old.of ≡ self.now }
         requires register { register < self.now.registers }
         requires held { IsHeld pass.old.lists }
-        ensures value { Shows (known_value pass.old.lists register) result × IsAllowed (sites_of self.now.registers) register result }
+        ensures value { Shows (known_value pass.old.lists register) result × IsAllowed (site_count self.now.registers) register result }
         ensures pass { pass.new ≡ with_lists pass.old (after_access (Read register result) pass.old.lists) }
     {
         let word = register as usize + FIRST_REGISTER;
@@ -189,7 +206,7 @@ impl Edge {
         requires edge { pass.old.of ≡ self.now }
         requires register { register < self.now.registers }
         requires held { IsHeld pass.old.lists }
-        requires value { IsAllowed (sites_of self.now.registers) register value }
+        requires value { IsAllowed (site_count self.now.registers) register value }
         ensures { pass.new ≡ with_lists pass.old (after_access (Write register value) pass.old.lists) }
     {
         let word = register as usize + FIRST_REGISTER;

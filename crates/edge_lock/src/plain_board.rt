@@ -1,9 +1,9 @@
 //! All edges of a plane on one board, for one thread. One tile's end acts at a time.
 ghost use Rattle.std.specs.Prelude.{◌≡◌, ◌<◌, length, map, IfOk, All};
 ghost use Rattle.edge_lock.specs.declared.history.Access.TheVariants.{Read, Write};
-ghost use Rattle.edge_lock.specs.History.{value, sites_of, IsAllowed};
+ghost use Rattle.edge_lock.specs.History.{value, site_count, IsAllowed};
 ghost use Rattle.edge_lock.specs.EndLists.{IsFree, IsHeld, IsNew, HasNoWrite, Shows, known_value, after_try, after_access, after_give, replace_at};
-ghost use Rattle.edge_lock.specs.PlainEdges.{Answers};
+ghost use Rattle.edge_lock.specs.PlainEdges.{IsAnswer};
 ghost use Rattle.edge_lock.specs.PlainBoard.{edge_at, registers_on, end_on, lists_on, other_lists_on, tries, reads, writes, gives, IsCall, Moved, untouched_edge, sizes_of_board, IsKeptEdge};
 
 use crate::board::{Board, Take};
@@ -91,7 +91,8 @@ impl Board for PlainBoard {
         requires edge { 0 < registers_on self.old edge }
         requires free { IsFree (lists_on self.old edge) }
         requires attempt { (attempt < 1000000) × IsNew attempt (lists_on self.old edge) }
-        ensures answer { Answers (end_on self.old edge) (edge_at self.old edge) result }
+        ensures end { end_on self.old edge < 2 }
+        ensures answer { IsAnswer (end_on self.old edge) (edge_at self.old edge) result }
         ensures call { IsCall self.old edge (tries attempt) self.new }
         ensures lists { lists_on self.new ≡ replace_at (lists_on self.old) edge (after_try (end_on self.old edge) attempt result (lists_on self.old edge)) }
         ensures tile { self.new.acting ≡ self.old.acting }
@@ -100,9 +101,8 @@ impl Board for PlainBoard {
         ensures others { other_lists_on self.new ≡ other_lists_on self.old }
         ensures histories { All IsKeptEdge self.new.edges }
     {
-        let acting = self.acting;
         let it = &mut self.edges[edge as usize];
-        let end = it.end_of(acting);
+        let end = it.end_of(self.acting);
         it.try_take(end, attempt)
     }
 
@@ -110,7 +110,7 @@ impl Board for PlainBoard {
     fn read(&mut self, edge: u32, register: u32) -> u64
         requires edge { register < registers_on self.old edge }
         requires held { IsHeld (lists_on self.old edge) }
-        ensures value { Shows (known_value (lists_on self.old edge) register) result × IsAllowed (sites_of (registers_on self.old edge)) register result }
+        ensures value { Shows (known_value (lists_on self.old edge) register) result × IsAllowed (site_count (registers_on self.old edge)) register result }
         ensures is_register { result ≡ value (edge_at self.old edge).holds register }
         ensures call { IsCall self.old edge (reads register) self.new }
         ensures lists { lists_on self.new ≡ replace_at (lists_on self.old) edge (after_access (Read register result) (lists_on self.old edge)) }
@@ -120,9 +120,8 @@ impl Board for PlainBoard {
         ensures others { other_lists_on self.new ≡ other_lists_on self.old }
         ensures histories { All IsKeptEdge self.new.edges }
     {
-        let acting = self.acting;
         let it = &mut self.edges[edge as usize];
-        let end = it.end_of(acting);
+        let end = it.end_of(self.acting);
         it.read(end, register)
     }
 
@@ -130,7 +129,7 @@ impl Board for PlainBoard {
     fn write(&mut self, edge: u32, register: u32, value: u64)
         requires edge { register < registers_on self.old edge }
         requires held { IsHeld (lists_on self.old edge) }
-        requires value { IsAllowed (sites_of (registers_on self.old edge)) register value }
+        requires value { IsAllowed (site_count (registers_on self.old edge)) register value }
         ensures call { IsCall self.old edge (writes register value) self.new }
         ensures lists { lists_on self.new ≡ replace_at (lists_on self.old) edge (after_access (Write register value) (lists_on self.old edge)) }
         ensures tile { self.new.acting ≡ self.old.acting }
@@ -139,9 +138,8 @@ impl Board for PlainBoard {
         ensures others { other_lists_on self.new ≡ other_lists_on self.old }
         ensures histories { All IsKeptEdge self.new.edges }
     {
-        let acting = self.acting;
         let it = &mut self.edges[edge as usize];
-        let end = it.end_of(acting);
+        let end = it.end_of(self.acting);
         it.write(end, register, value);
     }
 
@@ -157,9 +155,8 @@ impl Board for PlainBoard {
         ensures others { other_lists_on self.new ≡ other_lists_on self.old }
         ensures histories { All IsKeptEdge self.new.edges }
     {
-        let acting = self.acting;
         let it = &mut self.edges[edge as usize];
-        let end = it.end_of(acting);
+        let end = it.end_of(self.acting);
         it.give(end);
     }
 

@@ -1,9 +1,9 @@
 //! One edge of the plain board: its words on a table with one seat.
-ghost use Rattle.std.specs.Prelude.{◌≡◌, ◌<◌, ◌-◌, ◌==◌, cond, IfOk};
+ghost use Rattle.std.specs.Prelude.{◌≡◌, ◌<◌, ◌-◌, ◌==◌, if◌then◌else◌, IfOk};
 ghost use Rattle.edge_lock.specs.declared.history.Access.TheVariants.{Read, Write};
-ghost use Rattle.edge_lock.specs.History.{value, sites_of, IsAllowed};
+ghost use Rattle.edge_lock.specs.History.{value, site_count, IsAllowed};
 ghost use Rattle.edge_lock.specs.EndLists.{IsNew, IsFree, IsHeld, known_value, Shows, after_try, after_access, after_give};
-ghost use Rattle.edge_lock.specs.PlainEdges.{own_lists, edge_after_try, edge_after_access, edge_after_give, IsUntouched, Answers, IsKept, view_of};
+ghost use Rattle.edge_lock.specs.PlainEdges.{own_lists, edge_after_try, edge_after_access, edge_after_give, IsUntouched, IsAnswer, IsKept, view_of};
 
 use crate::board::Take;
 use crate::edge_steps::{FIRST_REGISTER, LOCK};
@@ -64,7 +64,7 @@ impl PlainEdge {
 
     /// Which end the tile is: 0 for the lower tile, else 1.
     pub(crate) fn end_of(&self, tile: u32) -> u32
-        ensures end { result ≡ cond (self.now.lower == tile) 0 1 }
+        ensures end { result ≡ if self.now.lower == tile then 0 else 1 }
         ensures small { result < 2 }
     {
         if self.lower == tile { 0 } else { 1 }
@@ -75,7 +75,7 @@ impl PlainEdge {
         requires end { end < 2 }
         requires free { IsFree (own_lists end self.old) }
         requires attempt { (attempt < 1000000) × IsNew attempt (own_lists end self.old) }
-        ensures answer { Answers end self.old result }
+        ensures answer { IsAnswer end self.old result }
         ensures edge { self.new ≡ edge_after_try end attempt result self.old }
         ensures own { own_lists end self.new ≡ after_try end attempt result (own_lists end self.old) }
         ensures other { own_lists (1 - end) self.new ≡ own_lists (1 - end) self.old }
@@ -95,15 +95,16 @@ impl PlainEdge {
         }
     }
 
-    /// What a register has, read by the end that has the edge. The end is for the contract alone.
-    pub(crate) fn read(&mut self, _end: u32, register: u32) -> u64
-        requires end { _end < 2 }
+    /// What a register has, read by the end that has the edge. The contract alone speaks of
+    /// the end.
+    pub(crate) fn read(&mut self, end: u32, register: u32) -> u64
+        requires end { end < 2 }
         requires register { register < self.old.registers }
-        requires held { IsHeld (own_lists _end self.old) }
-        ensures value { (result ≡ value self.old.holds register) × IsAllowed (sites_of self.old.registers) register result × Shows (known_value (own_lists _end self.old) register) result }
+        requires held { IsHeld (own_lists end self.old) }
+        ensures value { (result ≡ value self.old.holds register) × IsAllowed (site_count self.old.registers) register result × Shows (known_value (own_lists end self.old) register) result }
         ensures edge { self.new ≡ edge_after_access (Read register result) self.old }
-        ensures own { own_lists _end self.new ≡ after_access (Read register result) (own_lists _end self.old) }
-        ensures other { own_lists (1 - _end) self.new ≡ own_lists (1 - _end) self.old }
+        ensures own { own_lists end self.new ≡ after_access (Read register result) (own_lists end self.old) }
+        ensures other { own_lists (1 - end) self.new ≡ own_lists (1 - end) self.old }
         ensures kept { IsKept (view_of self.new) }
     {
         let word = register as usize + FIRST_REGISTER;
@@ -111,15 +112,16 @@ impl PlainEdge {
         table.shared.load::<PlainRead>(&mut self.seat, word)
     }
 
-    /// Changes a register, for the end that has the edge. The end is for the contract alone.
-    pub(crate) fn write(&mut self, _end: u32, register: u32, value: u64)
-        requires end { _end < 2 }
+    /// Changes a register, for the end that has the edge. The contract alone speaks of
+    /// the end.
+    pub(crate) fn write(&mut self, end: u32, register: u32, value: u64)
+        requires end { end < 2 }
         requires register { register < self.old.registers }
-        requires held { IsHeld (own_lists _end self.old) }
-        requires value { IsAllowed (sites_of self.old.registers) register value }
+        requires held { IsHeld (own_lists end self.old) }
+        requires value { IsAllowed (site_count self.old.registers) register value }
         ensures edge { self.new ≡ edge_after_access (Write register value) self.old }
-        ensures own { own_lists _end self.new ≡ after_access (Write register value) (own_lists _end self.old) }
-        ensures other { own_lists (1 - _end) self.new ≡ own_lists (1 - _end) self.old }
+        ensures own { own_lists end self.new ≡ after_access (Write register value) (own_lists end self.old) }
+        ensures other { own_lists (1 - end) self.new ≡ own_lists (1 - end) self.old }
         ensures kept { IsKept (view_of self.new) }
     {
         let word = register as usize + FIRST_REGISTER;
@@ -129,13 +131,14 @@ impl PlainEdge {
             .store::<PlainWrite>(&mut self.seat, word, value);
     }
 
-    /// Gives the edge back, for the end that has it. The end is for the contract alone.
-    pub(crate) fn give(&mut self, _end: u32)
-        requires end { _end < 2 }
-        requires held { IsHeld (own_lists _end self.old) }
+    /// Gives the edge back, for the end that has it. The contract alone speaks of
+    /// the end.
+    pub(crate) fn give(&mut self, end: u32)
+        requires end { end < 2 }
+        requires held { IsHeld (own_lists end self.old) }
         ensures edge { self.new ≡ edge_after_give self.old }
-        ensures own { own_lists _end self.new ≡ after_give (own_lists _end self.old) }
-        ensures other { own_lists (1 - _end) self.new ≡ own_lists (1 - _end) self.old }
+        ensures own { own_lists end self.new ≡ after_give (own_lists end self.old) }
+        ensures other { own_lists (1 - end) self.new ≡ own_lists (1 - end) self.old }
         ensures kept { IsKept (view_of self.new) }
     {
         let table = &self.table;

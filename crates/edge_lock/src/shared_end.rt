@@ -88,30 +88,22 @@ impl<'a> Board for SharedEnd<'a> {
 
     fn try_take(&mut self, edge: u32, attempt: u64) -> Take {
         let i = place_of(self.passes.as_slice(), edge);
-        let edges = self.edges;
-        let pass = &mut self.passes[i];
-        edges[edge as usize].try_take(pass, attempt)
+        self.edges[edge as usize].try_take(&mut self.passes[i], attempt)
     }
 
     fn read(&mut self, edge: u32, register: u32) -> u64 {
         let i = place_of(self.passes.as_slice(), edge);
-        let edges = self.edges;
-        let pass = &mut self.passes[i];
-        edges[edge as usize].read(pass, register)
+        self.edges[edge as usize].read(&mut self.passes[i], register)
     }
 
     fn write(&mut self, edge: u32, register: u32, value: u64) {
         let i = place_of(self.passes.as_slice(), edge);
-        let edges = self.edges;
-        let pass = &mut self.passes[i];
-        edges[edge as usize].write(pass, register, value);
+        self.edges[edge as usize].write(&mut self.passes[i], register, value);
     }
 
     fn give(&mut self, edge: u32) {
         let i = place_of(self.passes.as_slice(), edge);
-        let edges = self.edges;
-        let pass = &mut self.passes[i];
-        edges[edge as usize].give(pass);
+        self.edges[edge as usize].give(&mut self.passes[i]);
     }
 
     fn give_back(&mut self, edge: u32) {

@@ -1,8 +1,10 @@
-//! An edge of three registers, used by both its ends, on one thread and on two.
+//! An edge of one shared site, so of five registers, used by both its ends, on one thread and on two.
 ghost use Rattle.std.specs.Prelude.{◌≡◌, ◌≤◌, ◌<◌, ◌+◌, [], IfOk, IfSome};
 ghost use Rattle.edge_lock.specs.declared.board.Take.TheVariants.{Busy};
+ghost use Rattle.bit_field.specs.Atom.{LeavesGap};
+ghost use Rattle.edge_lock.specs.History.{site_count};
 ghost use Rattle.edge_lock.specs.EndLists.{IsFree, IsNew, end_lists, after_try};
-ghost use Rattle.edge_lock.specs.PlainEdges.{Answers};
+ghost use Rattle.edge_lock.specs.PlainEdges.{IsAnswer};
 ghost use Rattle.edge_lock.specs.PlainBoard.{registers_on, lists_on, end_on, edge_at, IsKeptEdge};
 
 use crate::{Board, Edge, PlainBoard, SharedEnd, Take};
@@ -77,7 +79,7 @@ fn count_both<R: Threads, A: Board + Send, B: Board + Send>(
 
 // The number of holds of two threads, and what register 0 has then.
 fn counted<R: Threads>(rt: &R, alloc: Global) -> Result<(u64, u64), Fail> {
-    let (edge, low, high) = Edge::new(alloc, 0, 3)?;
+    let (edge, low, high) = Edge::new(alloc, 0, 1)?;
     let mut edges = Vec::from_array(alloc, [edge])?;
     let mut lower = SharedEnd::new(edges.as_slice(), Vec::from_array(alloc, [low])?, 0);
     let mut higher = SharedEnd::new(edges.as_slice(), Vec::from_array(alloc, [high])?, 1);
@@ -129,7 +131,7 @@ fn take_turns<A: Board, B: Board>(low: &mut A, high: &mut B) -> Option<u64>
 
 // What the higher end of a shared edge reads, and what register 0 has when the edge is closed.
 fn shared_turns(alloc: Global) -> Result<Option<(u64, u64)>, Fail> {
-    let (edge, low, high) = Edge::new(alloc, 0, 3)?;
+    let (edge, low, high) = Edge::new(alloc, 0, 1)?;
     let mut edges = Vec::from_array(alloc, [edge])?;
     let mut lower = SharedEnd::new(edges.as_slice(), Vec::from_array(alloc, [low])?, 0);
     let mut higher = SharedEnd::new(edges.as_slice(), Vec::from_array(alloc, [high])?, 1);
@@ -159,7 +161,7 @@ fn shared_ends_take_turns(rt: HostRuntime) -> Result<(), Fail> {
 
 #[test]
 fn passes_know_their_edge(rt: HostRuntime) -> Result<(), Fail> {
-    let (_edge, low, high) = Edge::new(rt.alloc(), 7, 3)?;
+    let (_edge, low, high) = Edge::new(rt.alloc(), 7, 1)?;
     assert_eq!(rt; low.edge(), 7);
     assert_eq!(rt; high.edge(), 7);
     Ok(())
@@ -171,7 +173,7 @@ struct OneEdge;
 impl EdgeSizes for OneEdge {
     ghost use Rattle.std.specs.Prelude.{[], ◌∷◌};
 
-    ghost sizes = { λ _. record { lower = 0; higher = 1; registers = 3 } ∷ [] };
+    ghost sizes = { λ _. record { lower = 0; higher = 1; sites = 1 } ∷ [] };
 
     fn edges(&self) -> u32 {
         1
@@ -181,8 +183,12 @@ impl EdgeSizes for OneEdge {
         (edge, edge + 1)
     }
 
+    fn sites(&self, edge: u32) -> u32 {
+        edge + 1
+    }
+
     fn registers(&self, edge: u32) -> u32 {
-        edge + 3
+        edge + 5
     }
 }
 
@@ -221,7 +227,7 @@ fn try_on_board(board: &mut PlainBoard, edge: u32, attempt: u64) -> Take
     requires free { IsFree (lists_on board.old edge) }
     requires attempt { (attempt < 1000000) × IsNew attempt (lists_on board.old edge) }
     requires kept { IsKeptEdge (edge_at board.old edge) }
-    ensures answer { Answers (end_on board.old edge) (edge_at board.old edge) result }
+    ensures answer { IsAnswer (end_on board.old edge) (edge_at board.old edge) result }
 {
     try_once(board, edge, attempt)
 }
@@ -230,6 +236,41 @@ fn try_on_board(board: &mut PlainBoard, edge: u32, attempt: u64) -> Take
 fn one_try_of_generic_code(rt: HostRuntime) -> Result<(), Fail> {
     let mut board = PlainBoard::new(rt.alloc(), &OneEdge)?;
     assert!(rt; try_on_board(&mut board, 0, 5) == Take::Got);
+    Ok(())
+}
+
+// How many sites edges of so many registers share.
+fn tell_site_counts()
+    ensures smallest { (site_count 1 ≡ 0) × (site_count 5 ≡ 1) }
+    ensures words { (site_count 131 ≡ 64) × (site_count 135 ≡ 65) × (site_count 197 ≡ 96) }
+    ensures largest { site_count 1107 ≡ 544 }
+{}
+
+// On an edge of one shared site the clock, the low word and the news words take any value, and what the register of the
+// high word gives leaves the gap.
+fn fill<D: Board>(board: &mut D) -> Option<(u64, u64)>
+    requires edge { D.registers board.old 0 ≡ 5 }
+    requires fresh { D.lists board.old 0 ≡ end_lists [] [] }
+    ensures gap { IfSome result (λ r. LeavesGap r.1) }
+    ensures free { IsFree (D.lists board.new 0) }
+{
+    let Take::Got = board.try_take(0, 0) else {
+        return None;
+    };
+    board.write(0, 0, u64::MAX);
+    board.write(0, 1, u64::MAX);
+    board.write(0, 3, u64::MAX);
+    board.write(0, 4, u64::MAX);
+    let (news, high) = (board.read(0, 4), board.read(0, 2));
+    board.give(0);
+    Some((news, high))
+}
+
+#[test]
+fn the_high_word_alone_has_a_gap(rt: HostRuntime) -> Result<(), Fail> {
+    tell_site_counts();
+    let mut board = PlainBoard::new(rt.alloc(), &OneEdge)?;
+    assert_eq!(rt; fill(&mut board), Some((u64::MAX, 0)));
     Ok(())
 }
 

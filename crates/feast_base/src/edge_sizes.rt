@@ -1,9 +1,10 @@
 //! The edges of a plane as numbers, for the crates that know no map.
-ghost use Rattle.std.specs.Prelude.{◌≡◌, ◌<◌, ℕ, length, All};
+ghost use Rattle.std.specs.Prelude.{◌≡◌, ◌<◌, ◌^◌, ℕ, length, All};
 
-/// The edges of a plane: each has the two tiles that it joins, and a number of registers.
+/// The edges of a plane: each has the two tiles that it joins, and a number of shared sites, from
+/// which its number of registers follows.
 pub trait EdgeSizes {
-    ghost use Rattle.feast_base.specs.Edges.{EdgeSize, IsEdgeSize, size_at};
+    ghost use Rattle.feast_base.specs.Edges.{EdgeSize, IsEdgeSize, size_at, registers_of};
     ghost use Rattle.std.specs.Prelude.{List};
 
     ghost sizes: { Self → List EdgeSize };
@@ -18,8 +19,15 @@ pub trait EdgeSizes {
         requires { edge < length (sizes self.now) }
         ensures { (result.0 ≡ (size_at (sizes self.now) edge).lower) × (result.1 ≡ (size_at (sizes self.now) edge).higher) };
 
-    /// The number of registers of an edge, at least 1.
+    /// The number of shared sites of an edge.
+    fn sites(&self, edge: u32) -> u32
+        requires { edge < length (sizes self.now) }
+        ensures value { result ≡ (size_at (sizes self.now) edge).sites }
+        ensures fits { registers_of result < 2 ^ 32 };
+
+    /// The number of registers of an edge: the clock, two for each shared site, and for each end one
+    /// bit for each shared site, 64 bits a word.
     fn registers(&self, edge: u32) -> u32
         requires { edge < length (sizes self.now) }
-        ensures { result ≡ (size_at (sizes self.now) edge).registers };
+        ensures { result ≡ registers_of (size_at (sizes self.now) edge).sites };
 }

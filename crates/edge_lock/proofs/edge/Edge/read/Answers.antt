@@ -1,5 +1,5 @@
 use Rattle.std.proofs.Common.{arith, refl, sym, ap, ◌∙◌, subst, ◌≡◌, ◌+◌, ◌-◌, ℕ}
-use Rattle.edge_lock.specs.History.{sites_of, IsAllowed}
+use Rattle.edge_lock.specs.History.{site_count, IsAllowed}
 use Rattle.edge_lock.specs.EndLists.{IsHeld, EndLists, Shows, known_value}
 use Rattle.edge_lock.specs.SharedRule.{lists_in}
 use Rattle.edge_lock.specs.Passes.{EdgeValue, PassValue, IsPaired}
@@ -24,5 +24,5 @@ returns-clause-value c =
     let size = ap (λ (e : EdgeValue). e.registers) of ∙ ap (λ (e : EdgeValue). e.registers) c.self.view_is in
     let lists = ap (λ (p : PassValue). p.lists) c.pass.view_is in (
       subst (λ (l : EndLists). Shows (known_value l q) n) lists (subst (λ (y : ℕ). Shows (known_value (lists_in c.pass.inside.seat.me.0) y) n) back told.1),
-      subst (λ (x : ℕ × ℕ). IsAllowed (sites_of x.0) x.1 n) (λ i. (size i, back i)) told.2,
+      subst (λ (x : ℕ × ℕ). IsAllowed (site_count x.0) x.1 n) (λ i. (size i, back i)) told.2,
     )

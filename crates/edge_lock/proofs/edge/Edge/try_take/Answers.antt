@@ -1,4 +1,4 @@
-use Rattle.std.proofs.Common.{arith, sym, ap, ◌∙◌, subst, ◌≡◌, ◌+◌, ◌*◌, ℕ}
+use Rattle.std.proofs.Common.{arith, sym, ap, ◌∙◌, subst, ◌≡◌, ◌+◌, ◌*◌, ◌<◌, ℕ}
 use Rattle.edge_lock.specs.EndLists.{IsNew, IsFree}
 use Rattle.edge_lock.specs.Passes.{EdgeValue, PassValue, IsPaired}
 use Rattle.edge_lock.proofs.SharedSteps.{tries_as}
@@ -14,3 +14,6 @@ compare_exchange-found-requires c =
           (subst (λ (p : PassValue). IsFree p.lists) (sym c.pass.view_is) c.requires.free)
           (subst (λ (p : PassValue). IsNew c.args.attempt p.lists) (sym c.pass.view_is) c.requires.attempt.1),
     )
+
+pub returns-clause-end : goal.returns-clause-end
+returns-clause-end c = subst (λ (p : PassValue). p.end < 2) c.pass.view_is c.pass.invariant.0

@@ -3,7 +3,7 @@ use Rattle.edge_lock.specs.EndLists.{EndLists, after_access}
 use Rattle.edge_lock.specs.PlainBoard.{registers_on, end_on, reads, IsKeptEdge}
 use Rattle.edge_lock.proofs.PlainCalls.{done, registers_there, same_ends_access, all_set}
 use Rattle.edge_lock.specs.declared.history.Access.TheVariants.{Read}
-use Rattle.edge_lock.specs.History.{sites_of, IsAllowed}
+use Rattle.edge_lock.specs.History.{site_count, IsAllowed}
 use Rattle.edge_lock.specs.EndLists.{known_value, Shows}
 use Rattle.edge_lock.specs.PlainEdges.{PlainEdgeValue, own_lists, edge_after_access}
 use Rattle.edge_lock.specs.PlainBoard.{end_of}
@@ -18,7 +18,7 @@ returns-clause-value c =
     let at = there c.self.inside.acting c.self.inside.edges.items b c.self.view_is e x some_registers c.index_mut-it.ensures.value in
     let which : end ≡ end_on b e = c.end_of-end.ensures.end ∙ (λ i. end_of (at i) (c.self.view_is i).acting) in (
       subst (λ (l : EndLists). Shows (known_value l c.args.register) c.read.result) (λ i. own_lists (which i) (at i)) c.read.ensures.value.2,
-      subst (λ n. IsAllowed (sites_of n) c.args.register c.read.result) (ap (λ (z : PlainEdgeValue). z.registers) at ∙ sym (registers_there b e some_registers)) c.read.ensures.value.1,
+      subst (λ n. IsAllowed (site_count n) c.args.register c.read.result) (ap (λ (z : PlainEdgeValue). z.registers) at ∙ sym (registers_there b e some_registers)) c.read.ensures.value.1,
     )
 
 pub returns-clause-call : goal.returns-clause-call

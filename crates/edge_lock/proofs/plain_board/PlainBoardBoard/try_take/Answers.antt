@@ -1,7 +1,8 @@
+use Rattle.std.specs.Prelude.{◌==◌}
 use Rattle.std.proofs.Common.{arith, ◌∙◌, ◌<◌}
 use Rattle.edge_lock.specs.EndLists.{after_try}
-use Rattle.edge_lock.specs.PlainBoard.{registers_on, tries, IsKeptEdge}
-use Rattle.edge_lock.proofs.PlainCalls.{done, tried_effect, same_ends_try, all_set}
+use Rattle.edge_lock.specs.PlainBoard.{registers_on, edge_at, tries, IsKeptEdge}
+use Rattle.edge_lock.proofs.PlainCalls.{end_low, done, tried_effect, same_ends_try, all_set}
 use Rattle.edge_lock.proofs.plain_board.PlainBoardBoard.try_take.Goals as goal
 
 pub returns-clause-call : goal.returns-clause-call
@@ -44,3 +45,6 @@ returns-clause-histories c = all_set IsKeptEdge c.self.inside.edges.items c.args
 
 pub invariant_of-self : goal.invariant_of-self
 invariant_of-self c = all_set IsKeptEdge c.self.inside.edges.items c.args.edge c.try_take.new.self c.self.invariant c.try_take.ensures.kept
+
+pub returns-clause-end : goal.returns-clause-end
+returns-clause-end c = end_low ((edge_at c.args.self.now c.args.edge).lower == c.args.self.now.acting)

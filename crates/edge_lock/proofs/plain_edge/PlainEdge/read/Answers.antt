@@ -1,7 +1,7 @@
 use Rattle.std.proofs.Common.{arith, refl, sym, ap, ◌∙◌, subst, ◌≡◌, ◌+◌, ◌-◌}
 use Rattle.edge_lock.specs.History.{own, IsAllowed}
 use Rattle.edge_lock.specs.EndLists.{IsHeld, Shows, known_value}
-use Rattle.edge_lock.specs.PlainEdges.{PlainEdgeValue, own_lists, view_of, IsKept, Answers}
+use Rattle.edge_lock.specs.PlainEdges.{PlainEdgeValue, own_lists, view_of, IsKept, IsAnswer}
 use Rattle.edge_lock.specs.declared.history.Access.TheVariants.{Read}
 use Rattle.edge_lock.specs.PlainEdges.{plain_edge_value, plain_view_after_change}
 use Rattle.edge_lock.specs.EndLists.{with_access, after_access}
@@ -12,17 +12,17 @@ use Rattle.edge_lock.proofs.plain_edge.PlainEdge.read.Goals as goal
 pub load-requires : goal.load-requires
 load-requires c =
     let size = c.self.invariant.1 ∙ ap (λ (x : PlainEdgeValue). x.registers) c.self.view_is in
-    (c.self.invariant.2, omega (arith, c.self.invariant.0, size, c.self.invariant.1, c.requires.register), keeps.reads _ _ _ c.args._end c.self.inside.seat.me c.self.invariant.3 (subst (λ (x : PlainEdgeValue). IsHeld (own_lists c.args._end x)) (sym c.self.view_is) c.requires.held) c.args.register _ (omega (arith, size, c.requires.register)) refl)
+    (c.self.invariant.2, omega (arith, c.self.invariant.0, size, c.self.invariant.1, c.requires.register), keeps.reads _ _ _ c.args.end c.self.inside.seat.me c.self.invariant.3 (subst (λ (x : PlainEdgeValue). IsHeld (own_lists c.args.end x)) (sym c.self.view_is) c.requires.held) c.args.register _ (omega (arith, size, c.requires.register)) refl)
 
 pub returns-clause-value : goal.returns-clause-value
 returns-clause-value c =
     let q = c.args.register in let back : (q + 3) - 3 ≡ q = omega arith in let me = c.self.inside.seat.me in
     let is = c.load.ensures.2.1 ∙ ap (Rattle.edge_lock.specs.History.value me.0.holds) back in
-    let told = keeps.shows_known 0 0 0 c.args._end me c.self.invariant.3 (subst (λ (x : PlainEdgeValue). IsHeld (own_lists c.args._end x)) (sym c.self.view_is) c.requires.held) q c.load.result (own_lists c.args._end (Rattle.edge_lock.specs.PlainEdges.plain_edge_value 0 0 me.0)).refusals c.self.invariant.4 is in
+    let told = keeps.shows_known 0 0 0 c.args.end me c.self.invariant.3 (subst (λ (x : PlainEdgeValue). IsHeld (own_lists c.args.end x)) (sym c.self.view_is) c.requires.held) q c.load.result (own_lists c.args.end (Rattle.edge_lock.specs.PlainEdges.plain_edge_value 0 0 me.0)).refusals c.self.invariant.4 is in
     let seen = c.self.view_is in (
       is ∙ ap (λ (x : PlainEdgeValue). Rattle.edge_lock.specs.History.value x.holds q) seen,
-      subst (λ (x : PlainEdgeValue). IsAllowed (Rattle.edge_lock.specs.History.sites_of x.registers) q c.load.result) seen told.1,
-      subst (λ (x : PlainEdgeValue). Shows (known_value (own_lists c.args._end x) q) c.load.result) seen told.0,
+      subst (λ (x : PlainEdgeValue). IsAllowed (Rattle.edge_lock.specs.History.site_count x.registers) q c.load.result) seen told.1,
+      subst (λ (x : PlainEdgeValue). Shows (known_value (own_lists c.args.end x) q) c.load.result) seen told.0,
     )
 
 pub returns-clause-own : goal.returns-clause-own
@@ -30,15 +30,15 @@ returns-clause-own c =
     let inside = c.self.inside in let me = inside.seat.me in let x0 = plain_edge_value inside.lower inside.higher me.0 in
     let q = c.args.register in let back : (q + 3) - 3 ≡ q = omega arith in
     let now = ap (λ (m : M). m.0) c.load.ensures.2.0 ∙ ap (λ y. plain_view_after_change (with_access (Read y c.load.result)) me.0) back in
-    ap (λ w. own_lists c.args._end (plain_edge_value inside.lower inside.higher w)) now
-    ∙ (keeps.own_changed c.args._end (with_access (Read c.args.register c.load.result)) x0 (λ h. refl) c.self.invariant.4 (subst (λ (x : PlainEdgeValue). IsHeld (own_lists c.args._end x)) (sym c.self.view_is) c.requires.held)
-    ∙ ap (λ (x : PlainEdgeValue). after_access (Read c.args.register c.load.result) (own_lists c.args._end x)) c.self.view_is)
+    ap (λ w. own_lists c.args.end (plain_edge_value inside.lower inside.higher w)) now
+    ∙ (keeps.own_changed c.args.end (with_access (Read c.args.register c.load.result)) x0 (λ h. refl) c.self.invariant.4 (subst (λ (x : PlainEdgeValue). IsHeld (own_lists c.args.end x)) (sym c.self.view_is) c.requires.held)
+    ∙ ap (λ (x : PlainEdgeValue). after_access (Read c.args.register c.load.result) (own_lists c.args.end x)) c.self.view_is)
 
 pub returns-clause-other : goal.returns-clause-other
 returns-clause-other c =
     let inside = c.self.inside in let me = inside.seat.me in let x0 = plain_edge_value inside.lower inside.higher me.0 in
     let q = c.args.register in let back : (q + 3) - 3 ≡ q = omega arith in
     let now = ap (λ (m : M). m.0) c.load.ensures.2.0 ∙ ap (λ y. plain_view_after_change (with_access (Read y c.load.result)) me.0) back in
-    ap (λ w. own_lists (1 - c.args._end) (plain_edge_value inside.lower inside.higher w)) now
-    ∙ (keeps.other_changed c.args._end (with_access (Read c.args.register c.load.result)) x0 c.requires.end (λ h. refl) c.self.invariant.4 (subst (λ (x : PlainEdgeValue). IsHeld (own_lists c.args._end x)) (sym c.self.view_is) c.requires.held)
-    ∙ ap (own_lists (1 - c.args._end)) c.self.view_is)
+    ap (λ w. own_lists (1 - c.args.end) (plain_edge_value inside.lower inside.higher w)) now
+    ∙ (keeps.other_changed c.args.end (with_access (Read c.args.register c.load.result)) x0 c.requires.end (λ h. refl) c.self.invariant.4 (subst (λ (x : PlainEdgeValue). IsHeld (own_lists c.args.end x)) (sym c.self.view_is) c.requires.held)
+    ∙ ap (own_lists (1 - c.args.end)) c.self.view_is)

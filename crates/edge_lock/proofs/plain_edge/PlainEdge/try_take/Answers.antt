@@ -2,7 +2,7 @@ use Rattle.std.proofs.Common.{arith, sym, ap, ◌∙◌, subst, ◌≡◌, ◌+�
 use Rattle.edge_lock.specs.History.{open_hold}
 use Rattle.edge_lock.specs.SharedRule.{lock_word}
 use Rattle.edge_lock.specs.EndLists.{IsFree, IsNew}
-use Rattle.edge_lock.specs.PlainEdges.{PlainEdgeValue, own_lists, view_of, IsKept, Answers}
+use Rattle.edge_lock.specs.PlainEdges.{PlainEdgeValue, own_lists, view_of, IsKept, IsAnswer}
 use Rattle.edge_lock.proofs.PlainRules as keeps
 use Rattle.edge_lock.proofs.plain_edge.PlainEdge.try_take.Goals as goal
 use Rattle.edge_lock.proofs.plain_edge.PlainEdge.try_take.Goals.{then-found-eq0, else-found-eq0}
@@ -20,6 +20,6 @@ returns-clause-answer c =
     let is = c.compare_exchange-found.ensures.2.1 ∙ ap (λ (x : PlainEdgeValue). lock_word (open_hold x.holds)) c.self.view_is in
     let kept = subst (λ (x : PlainEdgeValue). IsKept (view_of x)) c.self.view_is c.self.invariant.4 in
     elim c.if-found-eq0.branch [
-      | then-found-eq0 w ↦ subst (Answers c.args.end c.args.self.now) (sym w.result-is) (keeps.answers_got c.args.end found c.args.self.now is w.if-found-eq0.true)
-      | else-found-eq0 w ↦ subst (Answers c.args.end c.args.self.now) (sym w.result-is) (keeps.answers_busy c.args.end found c.args.self.now kept c.requires.end c.requires.free is w.if-found-eq0.false)
+      | then-found-eq0 w ↦ subst (IsAnswer c.args.end c.args.self.now) (sym w.result-is) (keeps.answers_got c.args.end found c.args.self.now is w.if-found-eq0.true)
+      | else-found-eq0 w ↦ subst (IsAnswer c.args.end c.args.self.now) (sym w.result-is) (keeps.answers_busy c.args.end found c.args.self.now kept c.requires.end c.requires.free is w.if-found-eq0.false)
     ]
