@@ -1,1 +1,3 @@
 pub mod RawRows
+pub mod ResolvedRows
+pub mod Ways

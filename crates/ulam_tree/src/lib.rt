@@ -1,11 +1,13 @@
 //! Trees of element files, with the places in the text that later stages refuse.
 //!
-//! The trees here are as the parser gives them: names are bytes, and nothing is looked up.
-//! Contracts see a tree as a plain one, of lists in place of vectors and without boxes.
+//! The trees at the root are as the parser gives them: names are bytes, and nothing is looked up.
+//! In those of `resolved` each name is what it means. Contracts see a tree as a plain one, of
+//! lists in place of vectors and without boxes.
 #![tactic(auto)]
 
 mod op;
 mod raw;
+pub mod resolved;
 
 pub use op::{PairOp, PrefixOp};
 pub use raw::{

@@ -1,0 +1,168 @@
+-- What is found for files is a resolution.
+use Rattle.std.proofs.Common.{◌≡◌, ℕ, ◌+◌, refl, sym, ap, ◌∙◌, List, [], ◌∷◌, ◌++◌, length, map, Option, Some, None, Bool, true, false, not, ◌&&◌, ◌||◌, Ok, Err, pos, nat_lt, int_le, is_some}
+use Rattle.std.proofs.lemmas.Bool.{ltb-true}
+use Rattle.list_laws.proofs.Tests.{both}
+use Rattle.feast_base.specs.declared.place.Place.{Place}
+use Rattle.ulam_tree.specs.Raw as t
+use Rattle.ulam_tree.specs.Resolved as r
+use Rattle.ulam_names.specs.Faults.{Fault, Found, fault_of}
+use Rattle.ulam_names.specs.Scopes.{Text, Names, no_names, declares_name, small_names, Head, is_among, names_of, as_number, most_members, most_params, most_classes}
+use Rattle.ulam_names.specs.Classes as w
+use Rattle.ulam_names.specs.Walk.{width_value, body}
+use Rattle.ulam_names.specs.Classes.{Known, Half, HalfClass, half_field, half_function, first_fault}
+use Rattle.ulam_names.specs.ClassRelation.{AreKnown, IsNew, IsValue, IsLength, AreParams, IsMember, AreMembers, AreItems, AllBehave, NoneCyclic, IsWhole, AreWhole, AreClasses, IsResolved}
+use Rattle.ulam_names.proofs.ClassFits.{program_fits}
+use Rattle.ulam_names.proofs.BodyMeans.{Means, means_then, means_found, means_must, elim_must, found_means, not_false, type_means, width_means, body_means}
+
+neither : (a b : Bool) → not (a || b) ≡ true → (a ≡ false) × (b ≡ false)
+neither true b h = cc
+neither false true h = cc
+neither false false h = (refl, refl)
+
+means_then_last : {A : Type 0} (P : A → Type 0) (Q : A → Type 0) (x : Found A) → Means P x → ((a : A) → P a → Q a) → Means Q x
+means_then_last P Q (Ok a) h k = k a h
+means_then_last P Q (Err e) h k = tt
+
+known_means : (done : Known) (xs : List t.Item) → Means (AreKnown done xs) (w.class_names done xs)
+known_means done [] = refl
+known_means done (t.ulam n ∷ xs) = known_means done xs
+known_means done (t.uses x ∷ xs) = known_means done xs
+known_means done (t.class c ∷ xs) =
+    let Q : Known → Type 0 = AreKnown done (t.class c ∷ xs) in
+    means_must Q (nat_lt (length done) most_classes) _ _ (λ few.
+    means_must Q _ _ _ (λ new.
+    let apart = neither (is_among c.word.name (names_of done)) (w.is_built_in c.word.name) new in
+    means_then_last (AreKnown (done ++ (c.word.name, c.quark) ∷ []) xs) Q (w.class_names (done ++ (c.word.name, c.quark) ∷ []) xs) (known_means (done ++ (c.word.name, c.quark) ∷ []) xs)
+    (λ known hk. (ltb-true (length done) most_classes few, apart.0, apart.1, hk))))
+
+new_means : (d : Names) (n : ℕ) (free : Bool) (x : t.Word) → Means (λ _. (free ≡ true) × IsNew d n x) (w.new_name d n free x)
+new_means d n free x =
+    let Q : Unit {0} → Type 0 = λ _. (free ≡ true) × IsNew d n x in
+    means_must Q (nat_lt n most_members) _ _ (λ few.
+    elim_must Q (free && not (declares_name d x.name)) _ (λ new.
+    let p = both free (not (declares_name d x.name)) new in
+    (p.0, (ltb-true n most_members few, not_false _ p.1))))
+
+value_means : (d : Names) (k : t.Const) → Means (IsValue d k) (w.const_value d k)
+value_means d (t.const_number minus n u) = refl
+value_means d (t.const_truth b) = refl
+value_means d (t.const_named x) = found_means _ _
+
+length_means : (d : Names) (p : Place) (x : Option t.Width) → Means (IsLength d x) (w.length_of d p x)
+length_means d p None = refl
+length_means d p (Some x) =
+    let Q : ℕ → Type 0 = IsLength d (Some x) in
+    means_then _ Q (width_value (w.values d) x) _ (width_means (w.values d) x) (λ v hv.
+    means_must Q (int_le (pos 1) v && int_le v (pos w.longest_array)) _ _ (λ ok. (v, hv, ok, refl)))
+
+params_mean : (known : Known) (d : Names) (done : List Text) (ps : List t.Param) → Means (AreParams known d done ps) (w.params_of known d done ps)
+params_mean known d done [] = refl
+params_mean known d done (p ∷ ps) =
+    let Q : List r.Param → Type 0 = AreParams known d done (p ∷ ps) in
+    means_then _ Q (w.member_type known d p.of) _ (type_means (w.basics known d) (w.values d) p.of) (λ n hn.
+    means_must Q (nat_lt (length done) most_params) _ _ (λ few.
+    means_must Q (not (is_among p.word.name done)) _ _ (λ new.
+    means_then _ Q (w.params_of known d (done ++ p.word.name ∷ []) ps) _ (params_mean known d (done ++ p.word.name ∷ []) ps) (λ more hm.
+    (n, more, hn, ltb-true (length done) most_params few, not_false _ new, hm, refl)))))
+
+member_means : (known : Known) (d : Names) (m : t.Member) → Means (IsMember known d m) (w.member known d m)
+member_means known d (t.typedef ty x) =
+    let Q : Names × List Half → Type 0 = IsMember known d (t.typedef ty x) in
+    means_then _ Q (w.member_type known d ty) _ (type_means (w.basics known d) (w.values d) ty) (λ n hn.
+    means_found Q (as_number n.ty) _ _ (λ num hu.
+    means_then _ Q (w.new_name d (small_names d) (not (w.is_built_in x.name)) x) _ (new_means d (small_names d) (not (w.is_built_in x.name)) x) (λ u hw.
+    (n, num, hn, hu, hw.1, not_false _ hw.0, refl))))
+member_means known d (t.constant ty x k) =
+    let Q : Names × List Half → Type 0 = IsMember known d (t.constant ty x k) in
+    means_then _ Q (w.member_type known d ty) _ (type_means (w.basics known d) (w.values d) ty) (λ n hn.
+    means_found Q (as_number n.ty) _ _ (λ num hu.
+    means_then _ Q (w.new_name d (small_names d) true x) _ (new_means d (small_names d) true x) (λ u hw.
+    means_then _ Q (w.const_value d k) _ (value_means d k) (λ v hv.
+    means_must Q (w.takes_value num v) _ _ (λ ok. (n, num, v, hn, hu, hw.1, hv, ok, refl))))))
+member_means known d (t.field ty x k) =
+    let Q : Names × List Half → Type 0 = IsMember known d (t.field ty x k) in
+    means_then _ Q (w.member_type known d ty) _ (type_means (w.basics known d) (w.values d) ty) (λ n hn.
+    means_must Q (w.is_member_type known n.ty && (not (is_some k) || is_some (as_number n.ty))) _ _ (λ ok.
+    means_then _ Q (w.new_name d (length d.fields) true x) _ (new_means d (length d.fields) true x) (λ u hw.
+    means_then _ Q (w.length_of d x.place k) _ (length_means d x.place k) (λ len hl. (n, len, hn, ok, hw.1, hl, refl)))))
+member_means known d (t.function ty x ps b) =
+    let Q : Names × List Half → Type 0 = IsMember known d (t.function ty x ps b) in
+    means_then _ Q (w.member_type known d ty) _ (type_means (w.basics known d) (w.values d) ty) (λ n hn.
+    means_then _ Q (w.new_name d (length d.functions) true x) _ (new_means d (length d.functions) true x) (λ u hw.
+    means_then _ Q (w.params_of known d [] ps) _ (params_mean known d [] ps) (λ qs hq. (n, qs, hn, hw.1, hq, refl))))
+
+members_mean : (known : Known) (d : Names) (ms : List t.Member) → Means (AreMembers known d ms) (w.members known d ms)
+members_mean known d [] = refl
+members_mean known d (m ∷ ms) =
+    let Q : Names × List Half → Type 0 = AreMembers known d (m ∷ ms) in
+    means_then _ Q (w.member known d m) _ (member_means known d m) (λ a ha.
+    means_then _ Q (w.members known a.0 ms) _ (members_mean known a.0 ms) (λ b hb. (a, b, ha, hb, refl)))
+
+items_mean : (known : Known) (xs : List t.Item) → Means (AreItems known xs) (w.items known xs)
+items_mean known [] = refl
+items_mean known (t.ulam n ∷ xs) = items_mean known xs
+items_mean known (t.uses x ∷ xs) =
+    means_must (AreItems known (t.uses x ∷ xs)) (w.may_use known x.name) _ _ (λ ok.
+    means_then_last (AreItems known xs) (AreItems known (t.uses x ∷ xs)) (w.items known xs) (items_mean known xs) (λ hs hh. (ok, hh)))
+items_mean known (t.class c ∷ xs) =
+    let Q : List HalfClass → Type 0 = AreItems known (t.class c ∷ xs) in
+    means_then _ Q (w.members known no_names c.members) _ (members_mean known no_names c.members) (λ a ha.
+    means_then _ Q (w.items known xs) _ (items_mean known xs) (λ more hm. (a, more, ha, hm, refl)))
+
+behave_means : (hs : List HalfClass) → Means (λ _. AllBehave hs) (w.all_behave hs)
+behave_means [] = tt
+behave_means (x ∷ hs) =
+    means_must (λ _. AllBehave (x ∷ hs)) (w.behaves x) _ _ (λ ok. means_then_last (λ _. AllBehave hs) (λ _. AllBehave (x ∷ hs)) (w.all_behave hs) (behave_means hs) (λ u hh. (ok, hh)))
+
+apart_means : (heads : List Head) (k : ℕ) (hs : List HalfClass) → Means (λ _. NoneCyclic heads k hs) (w.none_cyclic heads k hs)
+apart_means heads k [] = tt
+apart_means heads k (x ∷ hs) =
+    means_must (λ _. NoneCyclic heads k (x ∷ hs)) (not (w.holds_itself heads k)) _ _ (λ ok.
+    means_then_last (λ _. NoneCyclic heads (k + 1) hs) (λ _. NoneCyclic heads k (x ∷ hs)) (w.none_cyclic heads (k + 1) hs) (apart_means heads (k + 1) hs) (λ u hh. (not_false _ ok, hh)))
+
+whole_means : (known : Known) (heads : List Head) (k : ℕ) (d : Names) (m : Half) → Means (IsWhole known heads k d m) (w.whole_member known heads k d m)
+whole_means known heads k d (half_field n z len) = refl
+whole_means known heads k d (half_function f) =
+    let c = w.context_of known heads k d f in
+    means_then _ (IsWhole known heads k d (half_function f)) (body c (w.scope_of heads f) (length f.params) f.body) _ (body_means c (w.scope_of heads f) (length f.params) f.body) (λ b hb. (b, hb, refl))
+
+wholes_mean : (known : Known) (heads : List Head) (k : ℕ) (d : Names) (ms : List Half) → Means (AreWhole known heads k d ms) (w.whole_members known heads k d ms)
+wholes_mean known heads k d [] = refl
+wholes_mean known heads k d (m ∷ ms) =
+    let Q : List r.Member → Type 0 = AreWhole known heads k d (m ∷ ms) in
+    means_then _ Q (w.whole_member known heads k d m) _ (whole_means known heads k d m) (λ x hx.
+    means_then _ Q (w.whole_members known heads k d ms) _ (wholes_mean known heads k d ms) (λ xs hs. (x, xs, hx, hs, refl)))
+
+classes_mean : (known : Known) (heads : List Head) (k : ℕ) (hs : List HalfClass) → Means (AreClasses known heads k hs) (w.whole_classes known heads k hs)
+classes_mean known heads k [] = refl
+classes_mean known heads k (x ∷ hs) =
+    let Q : List r.Class → Type 0 = AreClasses known heads k (x ∷ hs) in
+    means_then _ Q (w.whole_members known heads k x.names x.members) _ (wholes_mean known heads k x.names x.members) (λ xs hx.
+    means_then _ Q (w.whole_classes known heads (k + 1) hs) _ (classes_mean known heads (k + 1) hs) (λ cs hc. (xs, cs, hx, hc, refl)))
+
+-- what is found is a resolution
+pub program_means : (xs : List t.Item) → Means (IsResolved xs) (w.program xs)
+program_means xs =
+    let Q : List r.Class → Type 0 = IsResolved xs in
+    means_then _ Q (w.class_names [] xs) _ (known_means [] xs) (λ known hn.
+    means_then _ Q (w.items known xs) _ (items_mean known xs) (λ hs hd.
+    means_then _ Q (w.all_behave hs) _ (behave_means hs) (λ u hb.
+    means_then _ Q (w.none_cyclic (map w.head_of hs) 0 hs) _ (apart_means (map w.head_of hs) 0 hs) (λ v ha.
+    means_then_last (AreClasses known (map w.head_of hs) 0 hs) Q (w.whole_classes known (map w.head_of hs) 0 hs) (classes_mean known (map w.head_of hs) 0 hs) (λ cs hc.
+    record { known = known; halves = hs; named = hn; declared = hd; behave = hb; apart = ha; whole = hc })))))
+
+-- Where there is a fault there is no resolution, and where there is none there is one.
+pub fault_means : (xs : List t.Item) (f : Fault) → w.program xs ≡ Err f → (cs : List r.Class) → IsResolved xs cs → ⊥
+fault_means xs f e cs h = let p = sym e ∙ program_fits xs cs h in cc
+
+-- no first fault, so a resolution
+pub some_resolution : (xs : List t.Item) → first_fault xs ≡ None → (cs : List r.Class) × IsResolved xs cs
+some_resolution xs e = go (w.program xs) refl (program_means xs) e
+  where
+    go : (x : Found (List r.Class)) → w.program xs ≡ x → Means (IsResolved xs) x → fault_of x ≡ None → (cs : List r.Class) × IsResolved xs cs
+    go (Ok cs) is h e = (cs, h)
+    go (Err f) is h e = cc
+
+-- a resolution, so no first fault
+pub no_fault : (xs : List t.Item) (cs : List r.Class) → IsResolved xs cs → first_fault xs ≡ None
+no_fault xs cs h = ap fault_of (program_fits xs cs h)

@@ -1,0 +1,151 @@
+-- A way through classes need not be longer than there are classes.
+use Rattle.std.proofs.Common.{◌≡◌, ℕ, zero, suc, ◌+◌, ◌<◌, ◌≤◌, ◌⊎◌, inl, inr, refl, sym, ap, ◌∙◌, List, [], ◌∷◌, length, Bool, true, false, ◌||◌, nat_eq, arith}
+use Rattle.std.proofs.lemmas.Bool.{cases_lt, false≢true}
+use Rattle.std.specs.List.{list_any}
+use Rattle.ulam_tree.specs.Ways.{leads}
+
+abbrev one : Bool → ℕ
+one true = 1
+one false = 0
+
+-- how many below k pass a test
+count : ℕ → (ℕ → Bool) → ℕ
+count zero f = 0
+count (suc k) f = one (f k) + count k f
+
+abbrev Within : (ℕ → Bool) → (ℕ → Bool) → Type 0
+Within f g = (k : ℕ) → f k ≡ true → g k ≡ true
+
+one_small : (b : Bool) → one b ≤ 1
+one_small true = omega arith
+one_small false = omega arith
+
+count_small : (k : ℕ) (f : ℕ → Bool) → count k f ≤ k
+unfolding count
+count_small zero f = omega arith
+count_small (suc k) f = let a : one (f k) ≤ 1 = one_small (f k) in let b : count k f ≤ k = count_small k f in omega arith
+
+one_rises : (a b : Bool) → (a ≡ true → b ≡ true) → one a ≤ one b
+one_rises true b h = rw (h refl) (omega arith)
+one_rises false true h = omega arith
+one_rises false false h = omega arith
+
+count_rises : (k : ℕ) (f g : ℕ → Bool) → Within f g → count k f ≤ count k g
+unfolding count
+count_rises zero f g h = omega arith
+count_rises (suc k) f g h = let a : one (f k) ≤ one (g k) = one_rises (f k) (g k) (h k) in let b : count k f ≤ count k g = count_rises k f g h in omega arith
+
+one_same : (a b : Bool) → (a ≡ true → b ≡ true) → one b ≤ one a → b ≡ true → a ≡ true
+one_same true b h le e = refl
+one_same false true h le e = absurd (omega arith)
+one_same false false h le e = e
+
+-- where as many pass, the same pass
+same_by : (k : ℕ) (f g : ℕ → Bool) (j : ℕ) → one (f k) ≤ one (g k) → one (g k) ≤ one (f k) → (f k ≡ true → g k ≡ true) → g j ≡ true → j < suc k → (j < k → f j ≡ true) → (j < k) ⊎ (k ≤ j) → f j ≡ true
+same_by k f g j up down h e lt more (inl below) = more below
+same_by k f g j up down h e lt more (inr above) =
+    let at : j ≡ k = omega arith in
+    ap f at ∙ one_same (f k) (g k) h down (sym (ap g at) ∙ e)
+
+count_same : (k : ℕ) (f g : ℕ → Bool) → Within f g → count k g ≤ count k f → (j : ℕ) → j < k → g j ≡ true → f j ≡ true
+unfolding count
+count_same zero f g h le j lt e = absurd (omega arith)
+count_same (suc k) f g h le j lt e =
+    let rest : count k f ≤ count k g = count_rises k f g h in
+    let up : one (f k) ≤ one (g k) = one_rises (f k) (g k) (h k) in
+    same_by k f g j up (omega (arith, rest, le)) (h k) e lt (λ below. count_same k f g h (omega (arith, up, le)) j below e) (cases_lt j k)
+
+-- d more steps
+abbrev on : ℕ → ℕ → ℕ
+on zero n = n
+on (suc d) n = suc (on d n)
+
+on_is : (d n : ℕ) → on d n ≡ d + n
+on_is zero n = omega arith
+on_is (suc d) n = let h : on d n ≡ d + n = on_is d n in omega arith
+
+module _ (n : ℕ) (R : ℕ → ℕ → Bool) (rises : (m : ℕ) → Within (R m) (R (suc m))) (stays : (m : ℕ) → Within (R (suc m)) (R m) → Within (R (suc (suc m))) (R (suc m)))
+    (inside : (m k : ℕ) → R m k ≡ true → k < n) where
+  abbrev Still : ℕ → Type 0
+  Still m = Within (R (suc m)) (R m)
+
+  grows_by : (m : ℕ) → (count n (R m) < count n (R (suc m))) ⊎ (count n (R (suc m)) ≤ count n (R m)) → m ≤ count n (R m) → Still m ⊎ (m < count n (R (suc m)))
+  grows_by m (inl more) le = inr (omega arith)
+  grows_by m (inr same) le = inl (λ k e. count_same n (R m) (R (suc m)) (rises m) same k (inside (suc m) k e) e)
+
+  -- either nothing came in at a step, or one came in at each
+  grows : (m : ℕ) → Still m ⊎ (m < count n (R (suc m)))
+  grows zero = grows_by 0 (cases_lt (count n (R 0)) (count n (R 1))) (omega arith)
+  grows (suc m) = from (grows m)
+    where
+      from : Still m ⊎ (m < count n (R (suc m))) → Still (suc m) ⊎ (suc m < count n (R (suc (suc m))))
+      from (inl still) = inl (stays m still)
+      from (inr more) = grows_by (suc m) (cases_lt (count n (R (suc m))) (count n (R (suc (suc m))))) (omega arith)
+
+  still : Still n
+  still = by (grows n)
+    where
+      by : Still n ⊎ (n < count n (R (suc n))) → Still n
+      by (inl s) = s
+      by (inr more) = let small : count n (R (suc n)) ≤ n = count_small n (R (suc n)) in absurd (omega arith)
+
+  ever : (d : ℕ) → Still (on d n)
+  ever zero = still
+  ever (suc d) = stays (on d n) (ever d)
+
+  back : (d k : ℕ) → R (on d n) k ≡ true → R n k ≡ true
+  back zero k e = e
+  back (suc d) k e = back d k (ever d k e)
+
+  up : (d m k : ℕ) → R m k ≡ true → R (on d m) k ≡ true
+  up zero m k e = e
+  up (suc d) m k e = rises (on d m) k (up d m k e)
+
+  -- what comes in at all, is in after n steps
+  pub all_in : (m k : ℕ) → R m k ≡ true → R n k ≡ true
+  all_in m k e =
+      let same : on n m ≡ on m n = on_is n m ∙ (let c : n + m ≡ m + n = omega arith in c) ∙ sym (on_is m n) in
+      back m k (sym (ap (λ z. R z k) same) ∙ up n m k e)
+
+or_within : (a b c d : Bool) → (a ≡ true → b ≡ true) → (c ≡ true → d ≡ true) → (a || c) ≡ true → (b || d) ≡ true
+or_within true b c d h k e = rw (h refl) refl
+or_within false true c d h k e = refl
+or_within false false c d h k e = k e
+
+or_right : (b x y : Bool) → (x ≡ true → y ≡ true) → (b || x) ≡ true → (b || y) ≡ true
+or_right true x y h e = refl
+or_right false x y h e = h e
+
+any_within : (f g : ℕ → Bool) (ks : List ℕ) → Within f g → list_any f ks ≡ true → list_any g ks ≡ true
+any_within f g [] h e = e
+any_within f g (k ∷ ks) h e = or_within (f k) (g k) (list_any f ks) (list_any g ks) (h k) (any_within f g ks h) e
+
+-- Ways among n classes, where only these have parts.
+module _ (n : ℕ) (parts : ℕ → List ℕ) (few : (k : ℕ) (f : ℕ → Bool) → list_any f (parts k) ≡ true → k < n) where
+  step_within : (goal m l : ℕ) → Within (λ j. leads parts m j goal) (λ j. leads parts l j goal) → Within (λ k. leads parts (suc m) k goal) (λ k. leads parts (suc l) k goal)
+  unfolding leads
+  step_within goal m l h k e = any_within _ _ (parts k) (λ j. or_right (nat_eq j goal) _ _ (h j)) e
+
+  rising : (goal m : ℕ) → Within (λ k. leads parts m k goal) (λ k. leads parts (suc m) k goal)
+  unfolding leads
+  rising goal zero k e = absurd (false≢true e)
+  rising goal (suc m) k e = step_within goal m (suc m) (rising goal m) k e
+
+  -- only a class that has parts leads anywhere
+  pub of_class : (goal m k : ℕ) → leads parts m k goal ≡ true → k < n
+  unfolding leads
+  of_class goal zero k e = absurd (false≢true e)
+  of_class goal (suc m) k e = few k (λ j. nat_eq j goal || leads parts m j goal) e
+
+  -- The way from a class to another, however many members it goes through, is found by as many steps as there are classes.
+  pub leads_all : (m k goal : ℕ) → leads parts m k goal ≡ true → leads parts n k goal ≡ true
+  leads_all m k goal e = all_in n (λ l j. leads parts l j goal) (rising goal) (λ l still. step_within goal (suc l) l still) (of_class goal) m k e
+
+  -- where one more step finds no more, no number of steps does
+  pub leads_still : (goal m : ℕ) → Within (λ k. leads parts (suc m) k goal) (λ k. leads parts m k goal) → (d k : ℕ) → leads parts (on d m) k goal ≡ true → leads parts m k goal ≡ true
+  leads_still goal m unmoved zero k e = e
+  leads_still goal m unmoved (suc d) k e = leads_still goal m unmoved d k (stays d k e)
+    where
+      stays : (d : ℕ) → Within (λ k. leads parts (suc (on d m)) k goal) (λ k. leads parts (on d m) k goal)
+      stays zero = unmoved
+      stays (suc d) = step_within goal (suc (on d m)) (on d m) (stays d)
