@@ -2,25 +2,22 @@
 
 ghost use Rattle.std.specs.Prelude.{◌≡◌, pos, neg_ℤ, ◌+ℤ◌, ◌-ℤ◌, ◌*ℤ◌, int_div, int_rem, ◌↔◌, IsErr, IsTrue, IfOk};
 ghost use Rattle.sat_math.specs.Numbers.{IsNumber, IsInRange};
-ghost use Rattle.sat_math.specs.Operations.{saturated, type_of, Compares, compared};
+ghost use Rattle.sat_math.specs.Operations.{saturated, type_of, IsSigned, Compares, compared};
 
 use crate::ranges::clamp;
 use crate::{Arith, CompareOp, DivideByZero, Kind, NumType};
 
-// The type in which the operation is taken.
+/// The type in which the operation is taken.
 fn type_of(how: Arith) -> NumType
     ensures { result ≡ type_of how }
 {
-    match how {
-        Arith::Int32 => NumType {
-            kind: Kind::Int,
-            width: 32,
-        },
-        Arith::Unsigned32 => NumType {
-            kind: Kind::Unsigned,
-            width: 32,
-        },
-    }
+    let (kind, width) = match how {
+        Arith::Int32 => (Kind::Int, 32),
+        Arith::Unsigned32 => (Kind::Unsigned, 32),
+        Arith::Int64 => (Kind::Int, 64),
+        Arith::Unsigned64 => (Kind::Unsigned, 64),
+    };
+    NumType { kind, width }
 }
 
 /// The sum, or the nearest number of the type. Both numbers are from -2^63 to 2^64 - 1.
@@ -30,7 +27,7 @@ pub fn add(how: Arith, a: i128, b: i128) -> i128
     ensures value { result ≡ saturated how (a +ℤ b) }
     ensures range { IsInRange (type_of how) result }
 {
-    clamp(type_of(how), a.saturating_add(b))
+    clamp(type_of(how), a + b)
 }
 
 /// The difference, or the nearest number of the type. Both numbers are from -2^63 to 2^64 - 1.
@@ -40,7 +37,7 @@ pub fn sub(how: Arith, a: i128, b: i128) -> i128
     ensures value { result ≡ saturated how (a -ℤ b) }
     ensures range { IsInRange (type_of how) result }
 {
-    clamp(type_of(how), a.saturating_sub(b))
+    clamp(type_of(how), a - b)
 }
 
 /// The product, or the nearest number of the type. Both numbers are from -2^63 to 2^64 - 1.
@@ -53,14 +50,15 @@ pub fn mul(how: Arith, a: i128, b: i128) -> i128
     clamp(type_of(how), a.saturating_mul(b))
 }
 
-/// The number with its sign turned, or the nearest number of `Int` of 32 bits. The number is from
-/// -2^63 to 2^64 - 1.
-pub fn neg(a: i128) -> i128
-    requires { IsNumber a }
-    ensures value { result ≡ saturated Arith.Int32 (neg_ℤ a) }
-    ensures range { IsInRange (type_of Arith.Int32) result }
+/// The number with its sign turned, or the nearest number of the type, which is an `Int`. The
+/// number is from -2^63 to 2^64 - 1.
+pub fn neg(how: Arith, a: i128) -> i128
+    requires signed { IsSigned how }
+    requires number { IsNumber a }
+    ensures value { result ≡ saturated how (neg_ℤ a) }
+    ensures range { IsInRange (type_of how) result }
 {
-    clamp(type_of(Arith::Int32), -a)
+    clamp(type_of(how), -a)
 }
 
 /// The quotient without its fraction, so rounded toward 0, or the nearest number of the type. Both

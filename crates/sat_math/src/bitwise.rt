@@ -25,7 +25,7 @@ pub fn xor(a: u64, b: u64) -> u64
     a ^ b
 }
 
-// So many low bits that are ones, and no others.
+/// So many low bits that are ones, and no others.
 pub(crate) fn ones(count: u8) -> u64
     requires { count ≤ widest }
     ensures { result ≡ 2 ^ count - 1 }
@@ -34,7 +34,7 @@ pub(crate) fn ones(count: u8) -> u64
 }
 
 /// The low `width` bits, each turned into its opposite. The width is one that `Bits` allows, from
-/// 1 to 32. Bits of `a` above them do not matter.
+/// 1 to 64. Bits of `a` above them do not matter.
 #[tactic(auto, using(crate::proofs::Words::complement_low, std::proofs::lemmas::Nat::and_mask))]
 pub fn not(width: u8, a: u64) -> u64
     requires some { 1 ≤ width }
@@ -46,7 +46,7 @@ pub fn not(width: u8, a: u64) -> u64
 }
 
 /// The bits moved up by `count` places. Only the low `width` bits are kept, so a count of the
-/// width or more gives 0. The width is one that `Bits` allows, from 1 to 32.
+/// width or more gives 0. The width is one that `Bits` allows, from 1 to 64.
 #[tactic(auto, using(crate::proofs::Words::cut_low, crate::proofs::Words::moved_out, std::proofs::lemmas::Nat::and_mask))]
 pub fn shl(width: u8, a: u64, count: u64) -> u64
     requires some { 1 ≤ width }
