@@ -1,4 +1,5 @@
 pub mod Appending
+pub mod Counting
 pub mod Digits
 pub mod Edges
 pub mod Held

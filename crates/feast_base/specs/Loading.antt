@@ -1,22 +1,28 @@
 -- What a load and a put leave, answer by answer.
 use Rattle.std.specs.Prelude.{◌≡◌, ℕ, ◌+◌, ◌<◌, ◌≤◌, List, [], ◌∷◌, ◌++◌, length, take, Option, Result, Ok, Err}
-use Rattle.feast_base.specs.Outside.{File, TellsBytes, TellsLonger, TellsFront, Grows}
+use Rattle.std.specs.Io.KnownBytes.{Consumes, IsAtEnd, Appends as AppendsKnown}
+use Rattle.feast_base.specs.Outside.{File, TellsBytes, TellsLonger, TellsFront, Grows, Told}
 use Rattle.feast_base.specs.declared.shelf.LoadFault.{LoadFault}
 use Rattle.feast_base.specs.declared.shelf.LoadFault.TheVariants.{Failed, TooLong, NoMemory}
 use Rattle.feast_base.specs.declared.sink.SinkFailed.{SinkFailed}
 
--- what an answer says of the bytes that were taken and of the names that failed
-abbrev pub Answers : {T : Type 0} → Option (List File) → List ℕ → ℕ → List (List ℕ) → List (List ℕ) → List ℕ → Result T LoadFault → Type 0
-Answers files name limit failed failed' taken (Ok x) = (failed' ≡ failed) × (length taken ≤ limit) × TellsBytes files name taken
-Answers files name limit failed failed' taken (Err Failed) = failed' ≡ failed ++ name ∷ []
-Answers files name limit failed failed' taken (Err TooLong) = (failed' ≡ failed) × (length taken ≡ limit + 1) × TellsLonger files name limit × TellsFront files name (limit + 1) taken
-Answers files name limit failed failed' taken (Err NoMemory) = (failed' ≡ failed) × (length taken ≤ limit)
+-- some bytes were appended, and this holds of them
+abbrev pub AppendsSome : List ℕ → List ℕ → (List ℕ → Type 0) → Type 0
+AppendsSome old new P = (more : List ℕ) × (new ≡ old ++ more) × P more
 
--- a load: some bytes were appended to `into`, and the answer says which
-pub record Loads {T : Type 0} (files : Option (List File)) (name : List ℕ) (limit : ℕ) (failed failed' : List (List ℕ)) (into into' : List ℕ) (result : Result T LoadFault) : Type 0 where
-  pub taken : List ℕ
-  pub appended : into' ≡ into ++ taken
-  pub answers : Answers files name limit failed failed' taken result
+-- what the answer of a load says of the bytes that were taken
+abbrev pub IsLoad : {T : Type 0} → Option (List File) → List ℕ → ℕ → List ℕ → Result T LoadFault → Type 0
+IsLoad files name limit taken (Ok x) = (length taken ≤ limit) × TellsBytes files name taken
+IsLoad files name limit taken (Err Failed) = length taken ≤ limit
+IsLoad files name limit taken (Err TooLong) = (length taken ≡ limit + 1) × TellsLonger files name limit × TellsFront files name (limit + 1) taken
+IsLoad files name limit taken (Err NoMemory) = length taken ≤ limit
+
+-- a load notes its name where it failed, and nothing at any other answer
+abbrev pub NotesFailed : {T : Type 0} → List (List ℕ) → List (List ℕ) → List ℕ → Result T LoadFault → Type 0
+NotesFailed failed failed' name (Ok x) = failed' ≡ failed
+NotesFailed failed failed' name (Err Failed) = failed' ≡ failed ++ name ∷ []
+NotesFailed failed failed' name (Err TooLong) = failed' ≡ failed
+NotesFailed failed failed' name (Err NoMemory) = failed' ≡ failed
 
 -- a copy of bytes: all of them, or one past the limit where they are more
 abbrev pub Copies : {T : Type 0} → List ℕ → ℕ → List ℕ → List ℕ → Result T LoadFault → Type 0
@@ -26,19 +32,19 @@ Copies bytes limit into into' (Err TooLong) = (limit < length bytes) × (into' �
 Copies bytes limit into into' (Err NoMemory) = into' ≡ into
 
 -- a put: all bytes and no fault, or a prefix and a fault
-abbrev pub Puts : {T : Type 0} → Option (List ℕ) → Option (List ℕ) → ℕ → ℕ → List ℕ → Result T SinkFailed → Type 0
-Puts written written' faults faults' bytes (Ok x) = Grows written written' bytes × (faults' ≡ faults)
-Puts written written' faults faults' bytes (Err e) = (front : List ℕ) × (rest : List ℕ) × (bytes ≡ front ++ rest) × Grows written written' front × (faults < faults')
+abbrev pub Puts : {T : Type 0} → Told → Told → List ℕ → Result T SinkFailed → Type 0
+Puts old new bytes (Ok x) = Grows old.written new.written bytes × (new.faults ≡ old.faults)
+Puts old new bytes (Err e) = (front : List ℕ) × (rest : List ℕ) × (bytes ≡ front ++ rest) × Grows old.written new.written front × (old.faults < new.faults)
 
--- how many bytes a reading loop took, answer by answer
-abbrev pub TookBytes : {T : Type 0} → ℕ → List ℕ → Result T LoadFault → Type 0
-TookBytes limit taken (Ok x) = length taken ≤ limit
-TookBytes limit taken (Err Failed) = length taken ≤ limit
-TookBytes limit taken (Err TooLong) = length taken ≡ limit + 1
-TookBytes limit taken (Err NoMemory) = length taken ≤ limit
+-- what a reading loop says of the bytes that it took from what a reader had left, where that is known: at Ok they were
+-- all; at a fault of the reader, and past the limit, they were the first; at want of memory some may be lost
+abbrev pub ReadsWhole : {T : Type 0} → Option (List ℕ) → Option (List ℕ) → ℕ → List ℕ → Result T LoadFault → Type 0
+ReadsWhole left left' limit taken (Ok x) = (length taken ≤ limit) × Consumes left left' taken × IsAtEnd left'
+ReadsWhole left left' limit taken (Err Failed) = (length taken ≤ limit) × Consumes left left' taken
+ReadsWhole left left' limit taken (Err TooLong) = (length taken ≡ limit + 1) × Consumes left left' taken
+ReadsWhole left left' limit taken (Err NoMemory) = length taken ≤ limit
 
--- a reading loop appended some bytes
-pub record Takes {T : Type 0} (limit : ℕ) (into into' : List ℕ) (result : Result T LoadFault) : Type 0 where
-  pub taken : List ℕ
-  pub appended : into' ≡ into ++ taken
-  pub bound : TookBytes limit taken result
+-- what a writing loop gave to a writer, where it is known what that holds: at Ok all the bytes, and else the first
+abbrev pub WritesWhole : {T : Type 0} → Option (List ℕ) → Option (List ℕ) → List ℕ → Result T SinkFailed → Type 0
+WritesWhole held held' bytes (Ok x) = AppendsKnown held held' bytes
+WritesWhole held held' bytes (Err e) = (front : List ℕ) × (rest : List ℕ) × (bytes ≡ front ++ rest) × AppendsKnown held held' front

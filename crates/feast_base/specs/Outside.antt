@@ -30,3 +30,23 @@ TellsFront (Some files) name count front = (bytes : List ℕ) × (file_of name f
 abbrev pub Grows : Option (List ℕ) → Option (List ℕ) → List ℕ → Type 0
 Grows None new piece = new ≡ None
 Grows (Some old) new piece = new ≡ Some (old ++ piece)
+
+-- the three meanings of a shelf: its files where it tells them, the names whose load failed, and the names whose load
+-- may fail
+pub record Stock : Type 1 where
+  pub files : Option (List File)
+  pub failed : List (List ℕ)
+  pub may_fail : List ℕ → Type 0
+
+abbrev pub stock : {F : Type 0} → (F → Option (List File)) → (F → List (List ℕ)) → (F → List ℕ → Type 0) → F → Stock
+stock files failed may_fail shelf = record { files = files shelf; failed = failed shelf; may_fail = may_fail shelf }
+
+-- the three meanings of a sink: what was written where it tells it, the number of its faults, and the numbers of bytes
+-- whose putting may fail
+pub record Told : Type 1 where
+  pub written : Option (List ℕ)
+  pub faults : ℕ
+  pub may_fail : ℕ → Type 0
+
+abbrev pub told : {K : Type 0} → (K → Option (List ℕ)) → (K → ℕ) → (K → ℕ → Type 0) → K → Told
+told written faults may_fail sink = record { written = written sink; faults = faults sink; may_fail = may_fail sink }

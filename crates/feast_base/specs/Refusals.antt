@@ -75,7 +75,7 @@ IsCode code = list_any (λ c. c == code) all_codes ≡ true
 
 -- the line of words that have none of the forms
 abbrev pub usage_line : List ℕ
-usage_line = codes "E00 usage: feast check|code FILE.. | step|run WORLD FILE.. | replay WORLD JOURNAL FILE.. | gen N\n"
+usage_line = codes "E00 usage: feast check|code|pack FILE.. | step|run WORLD FILE.. | steppack|runpack WORLD CODE | replay WORLD JOURNAL FILE.. | audit WORLD REPORT FILE.. | rewind WORLD REPORT K FILE.. | gen N\n"
 
 -- the line of a file that can't be read
 abbrev pub unreadable_line : List ℕ → List ℕ

@@ -1,6 +1,6 @@
 //! The files of the system.
 ghost use Rattle.std.specs.Prelude.{◌≡◌, ℕ, ◌+◌, ◌-◌, ◌^◌, ◌≤◌, ◌<◌, ◌⊎◌, ◌++◌, ◌∷◌, [], List, None, length};
-ghost use Rattle.feast_base.specs.Loading.{Loads, Takes};
+ghost use Rattle.feast_base.specs.Loading.{AppendsSome, IsLoad, NotesFailed, ReadsWhole};
 
 use crate::noted::note;
 use crate::{LoadFault, Name, Shelf};
@@ -39,10 +39,14 @@ impl<'a, R: Files> FileShelf<'a, R> {
     }
 }
 
-/// Appends what is left of a file, but at most `limit + 1` bytes.
-fn read_whole<S: Read>(file: &mut S, limit: usize, into: &mut Vec<u8>) -> Result<(), LoadFault>
+/// Appends what is left of a file, but at most `limit + 1` bytes. A read that fails is `Failed`.
+pub(crate) fn read_whole<S: Read>(
+    file: &mut S,
+    limit: usize,
+    into: &mut Vec<u8>,
+) -> Result<(), LoadFault>
     requires { limit < 2 ^ 64 - 1 }
-    ensures { Takes limit into.old.items into.new.items result }
+    ensures { AppendsSome into.old.items into.new.items (λ taken. ReadsWhole (S.remaining file.old) (S.remaining file.new) limit taken result) }
 {
     let mut buffer = [0u8; 4096];
     let mut left = limit + 1;
@@ -55,10 +59,7 @@ fn read_whole<S: Read>(file: &mut S, limit: usize, into: &mut Vec<u8>) -> Result
         if count == 0 {
             return Ok(());
         }
-        match into.extend_from_slice(&buffer[..count]) {
-            Ok(()) => {}
-            Err(_) => return Err(LoadFault::NoMemory),
-        }
+        into.extend_from_slice(&buffer[..count])?;
         left -= count;
     }
     Err(LoadFault::TooLong)

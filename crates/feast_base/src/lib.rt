@@ -1,6 +1,6 @@
 //! The outside of the simulator and what all its crates share: want of memory, names, places in
 //! files, refusals and the lines that tell them, shelves to load from, sinks to write to, gates
-//! that workers pass, and the edges of a plane as numbers.
+//! that workers pass, steps that are counted, and the edges of a plane as numbers.
 #![tactic(auto)]
 
 mod edge_sizes;
@@ -17,6 +17,8 @@ mod shelf;
 mod sink;
 mod source;
 mod std_sink;
+mod steps;
+mod stop;
 #[cfg(test)]
 mod tests;
 pub mod text;
@@ -34,3 +36,5 @@ pub use shelf::{LoadFault, Shelf};
 pub use sink::{Sink, SinkFailed};
 pub use source::Source;
 pub use std_sink::StdSink;
+pub use steps::{CountLedger, Ledger, NoLedger, Steps};
+pub use stop::Stop;

@@ -1,8 +1,9 @@
 //! The shelf in memory.
 ghost use Rattle.std.specs.Prelude.{◌≡◌, ℕ, ◌+◌, ◌-◌, ◌^◌, ◌≤◌, ◌<◌, ◌⊎◌, [], ◌∷◌, ◌++◌, List, Err, IsErrOf, Some, None, MatchOption};
 ghost use Rattle.feast_base.specs.Outside.{File, file_of};
-ghost use Rattle.feast_base.specs.Loading.{Copies, Loads};
-ghost use Rattle.feast_base.specs.Held.{next_call, LoadFails, LoadMayFail};
+ghost use Rattle.feast_base.specs.Counting.{next_count};
+ghost use Rattle.feast_base.specs.Held.{LoadFails, LoadMayFail};
+ghost use Rattle.feast_base.specs.Loading.{AppendsSome, Copies, IsLoad, NotesFailed};
 
 use crate::noted::note;
 use crate::{LoadFault, Name, Shelf, Source};
@@ -45,15 +46,11 @@ fn append_whole(bytes: &[u8], limit: usize, into: &mut Vec<u8>) -> Result<(), Lo
     ensures { Copies bytes.now limit into.old.items into.new.items result }
 {
     let Some((front, _)) = bytes.split_at_checked(limit + 1) else {
-        return match into.extend_from_slice(bytes) {
-            Ok(()) => Ok(()),
-            Err(_) => Err(LoadFault::NoMemory),
-        };
+        into.extend_from_slice(bytes)?;
+        return Ok(());
     };
-    match into.extend_from_slice(front) {
-        Ok(()) => Err(LoadFault::TooLong),
-        Err(_) => Err(LoadFault::NoMemory),
-    }
+    into.extend_from_slice(front)?;
+    Err(LoadFault::TooLong)
 }
 
 impl MemShelf {
@@ -85,13 +82,14 @@ impl Shelf for MemShelf {
     fn load(&mut self, name: &str, limit: usize, into: &mut Vec<u8>) -> Result<(), LoadFault>
         requires { limit < 2 ^ 64 - 1 }
         ensures files { self.new.files ≡ self.old.files }
-        ensures loads { Loads (Some self.old.files) name.now limit self.old.failed self.new.failed into.old.items into.new.items result }
+        ensures appends { AppendsSome into.old.items into.new.items (λ taken. IsLoad (Some self.old.files) name.now limit taken result) }
+        ensures noted { NotesFailed self.old.failed self.new.failed name.now result }
         ensures cause { IsErrOf result LoadFault.Failed → LoadMayFail self.old name.now }
         ensures later { (n : List ℕ) → LoadMayFail self.new n → LoadMayFail self.old n }
         ensures only_where { IsErrOf result LoadFault.Failed → LoadFails self.old name.now }
         ensures wherever { LoadFails self.old name.now → (result ≡ Err LoadFault.Failed) ⊎ (result ≡ Err LoadFault.NoMemory) }
         ensures nothing { IsErrOf result LoadFault.Failed → into.new.items ≡ into.old.items }
-        ensures counted { self.new ≡ record self.old { calls = next_call self.old.calls; failed = self.new.failed } }
+        ensures counted { self.new ≡ record self.old { calls = next_count self.old.calls; failed = self.new.failed } }
     {
         self.calls = self.calls.saturating_add(1);
         if self.fail.contains(&self.calls) {

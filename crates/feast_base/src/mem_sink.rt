@@ -1,9 +1,11 @@
 //! The sink in memory.
-ghost use Rattle.std.specs.Prelude.{◌≡◌, ℕ, ◌+◌, ◌-◌, ◌^◌, ◌≤◌, ◌<◌, ◌⊎◌, ◌↔◌, ◌++◌, [], List, IfOk, OnOk, OnErr, IsErr, IsOk, Some, length};
+ghost use Rattle.std.specs.Prelude.{◌≡◌, ◌≢◌, ℕ, ◌+◌, ◌-◌, ◌^◌, ◌≤◌, ◌<◌, ◌⊎◌, ◌↔◌, ◌++◌, [], List, IfOk, OnOk, OnErr, IsErr, IsOk, MatchOption, None, Some, length, map};
+ghost use Rattle.feast_base.specs.Counting.{next_count};
+ghost use Rattle.feast_base.specs.Held.{kept_at, PutFails, PutMayFail, put_front, stop_at};
 ghost use Rattle.feast_base.specs.Loading.{Puts};
-ghost use Rattle.feast_base.specs.Held.{next_call, PutFails, PutMayFail};
+ghost use Rattle.feast_base.specs.Outside.{told};
 
-use crate::{NoMemory, Sink, SinkFailed};
+use crate::{NoMemory, Sink, SinkFailed, Stop};
 use std::alloc::Global;
 use std::marker::Model;
 
@@ -11,7 +13,7 @@ use std::marker::Model;
 #[derive(Drop)]
 pub struct MemSink {
     bytes: Vec<u8>,
-    fail: Vec<u64>,
+    stops: Vec<Stop>,
     calls: u64,
     faults: u64,
     room: usize,
@@ -23,27 +25,57 @@ impl Model for MemSink {
 
     ghost Value = { SinkHeld };
 
-    ghost view = { λ s. record { written = s.bytes.items; faults = s.faults; calls = s.calls; fail = s.fail.items; room = s.room } };
+    ghost view = { λ s. record { written = s.bytes.items; faults = s.faults; calls = s.calls; stops = s.stops.items; room = s.room } };
 
     ghost invariant = { λ s. (vec_len s.bytes ≤ s.room) × (s.room ≤ vec_capacity s.bytes) };
 }
 
-impl MemSink {
-    /// A sink with room for `room` bytes. Its puts of the numbers in `fail`, counted from 1, fail.
-    /// `NoMemory` where the room can't be reserved.
-    pub fn new(alloc: Global, fail: Vec<u64>, room: usize) -> Result<MemSink, NoMemory>
-        ensures { IfOk result (λ s. s ≡ record { written = []; faults = 0; calls = 0; fail = fail.items; room = room }) }
-    {
-        match Vec::with_capacity(alloc, room) {
-            Ok(bytes) => Ok(MemSink {
-                bytes,
-                fail,
-                calls: 0,
-                faults: 0,
-                room,
-            }),
-            Err(_) => Err(NoMemory),
+/// How many bytes are kept of the put of this number, where a stop names it.
+fn kept_at(stops: &[Stop], call: u64) -> Option<u32>
+    ensures { MatchOption result (kept_at call stops.now ≡ None) (λ keep. kept_at call stops.now ≡ Some keep) }
+{
+    for stop in stops {
+        if stop.call == call {
+            return Some(stop.keep);
         }
+    }
+    None
+}
+
+/// A stop at each of these calls, of whose pieces nothing is kept.
+fn stops_at(alloc: Global, calls: &[u64]) -> Result<Vec<Stop>, NoMemory>
+    ensures { IfOk result (λ stops. stops.items ≡ map stop_at calls.now) }
+{
+    let stop_at = |call: &u64| Stop {
+        call: *call,
+        keep: 0,
+    };
+    Ok(calls.iter().map(stop_at).collect(alloc)?)
+}
+
+impl MemSink {
+    /// A sink with room for `room` bytes. Its puts of the numbers in `fail`, counted from 1, fail
+    /// and append nothing. `NoMemory` where the room or the list can't be reserved.
+    pub fn new(alloc: Global, fail: Vec<u64>, room: usize) -> Result<MemSink, NoMemory>
+        ensures { IfOk result (λ s. s ≡ record { written = []; faults = 0; calls = 0; stops = map stop_at fail.items; room = room }) }
+    {
+        MemSink::stopping(alloc, stops_at(alloc, fail.as_slice())?, room)
+    }
+
+    /// A sink with room for `room` bytes. Each put that a stop names fails, and appends as many
+    /// first bytes of its piece as the stop keeps; where two stops name one put, the first counts.
+    /// `NoMemory` where the room can't be reserved.
+    pub fn stopping(alloc: Global, stops: Vec<Stop>, room: usize) -> Result<MemSink, NoMemory>
+        ensures { IfOk result (λ s. s ≡ record { written = []; faults = 0; calls = 0; stops = stops.items; room = room }) }
+    {
+        let bytes = Vec::with_capacity(alloc, room)?;
+        Ok(MemSink {
+            bytes,
+            stops,
+            calls: 0,
+            faults: 0,
+            room,
+        })
     }
 
     /// The bytes that were put, one piece after another.
@@ -59,6 +91,17 @@ impl MemSink {
     {
         self.calls
     }
+
+    /// Appends bytes for which there is room.
+    fn append(&mut self, bytes: &[u8])
+        requires { length bytes.now ≤ self.old.room - length self.old.written }
+        ensures { self.new ≡ record self.old { written = self.old.written ++ bytes.now } }
+    {
+        match self.bytes.extend_from_slice(bytes) {
+            Ok(()) => {}
+            Err(_) => unreachable!(),
+        }
+    }
 }
 
 impl Sink for MemSink {
@@ -70,26 +113,34 @@ impl Sink for MemSink {
 
     /// Appends all the bytes to what is written.
     ///
-    /// `SinkFailed` comes exactly where the number of this put is listed or it is longer than the
-    /// room that is left; then nothing is appended.
+    /// `SinkFailed` comes exactly where a stop names this put or it is longer than the room that
+    /// is left. Then the first bytes that the stop keeps are appended, and nothing where the room
+    /// is too small.
     fn put(&mut self, bytes: &[u8]) -> Result<(), SinkFailed>
         requires some { 0 < length bytes.now }
         requires room { self.old.faults < 2 ^ 64 - 1 }
-        ensures puts { Puts (Some self.old.written) (Some self.new.written) self.old.faults self.new.faults bytes.now result }
+        ensures puts { Puts (told (λ s. Some s.written) (λ s. s.faults) PutMayFail self.old) (told (λ s. Some s.written) (λ s. s.faults) PutMayFail self.new) bytes.now result }
         ensures cause { IsErr result → (m : ℕ) → length bytes.now ≤ m → PutMayFail self.old m }
         ensures later { IsOk result → (m : ℕ) → PutMayFail self.new m → PutMayFail self.old (length bytes.now + m) }
         ensures exactly { IsErr result ↔ PutFails self.old (length bytes.now) }
-        ensures all { OnOk result (self.new ≡ record self.old { written = self.old.written ++ bytes.now; calls = next_call self.old.calls }) }
-        ensures nothing { OnErr result (self.new ≡ record self.old { faults = self.old.faults + 1; calls = next_call self.old.calls }) }
+        ensures all { OnOk result (self.new ≡ record self.old { written = self.old.written ++ bytes.now; calls = next_count self.old.calls }) }
+        ensures front { OnErr result (self.new ≡ record self.old { written = self.old.written ++ put_front self.old bytes.now; faults = self.old.faults + 1; calls = next_count self.old.calls }) }
     {
         self.calls = self.calls.saturating_add(1);
-        if self.fail.contains(&self.calls) || bytes.len() > self.room - self.bytes.len() {
+        if bytes.len() > self.room - self.bytes.len() {
             self.faults += 1;
             return Err(SinkFailed);
         }
-        match self.bytes.extend_from_slice(bytes) {
-            Ok(()) => Ok(()),
-            Err(_) => unreachable!(),
+        match kept_at(self.stops.as_slice(), self.calls) {
+            Some(keep) => {
+                self.append(&bytes[..bytes.len().min(keep as usize)]);
+                self.faults += 1;
+                Err(SinkFailed)
+            }
+            None => {
+                self.append(bytes);
+                Ok(())
+            }
         }
     }
 }

@@ -22,10 +22,8 @@ impl Name {
     pub fn new(alloc: Global, bytes: &[u8]) -> Result<Name, NoMemory>
         ensures { IfOk result (λ n. n ≡ bytes.now) }
     {
-        match Vec::from_slice(alloc, bytes) {
-            Ok(bytes) => Ok(Name { bytes }),
-            Err(_) => Err(NoMemory),
-        }
+        let bytes = Vec::from_slice(alloc, bytes)?;
+        Ok(Name { bytes })
     }
 
     /// The bytes of the name.

@@ -1,19 +1,25 @@
 //! The names whose load failed.
-ghost use Rattle.std.specs.Prelude.{◌≡◌, ℕ, ◌⊎◌, ◌++◌, ◌∷◌, []};
+ghost use Rattle.std.specs.Prelude.{◌≡◌, ℕ, ◌⊎◌, ◌++◌, ◌∷◌, [], OnOk, OnErr};
 
-use crate::{LoadFault, Name};
+use crate::{LoadFault, Name, NoMemory};
 use std::alloc::Global;
+
+/// Appends a name to others.
+fn keep(alloc: Global, names: &mut Vec<Name>, name: &str) -> Result<(), NoMemory>
+    ensures ok { OnOk result (names.new.items ≡ names.old.items ++ name.now ∷ []) }
+    ensures err { OnErr result (names.new.items ≡ names.old.items) }
+{
+    names.push(Name::new(alloc, name.as_bytes())?)?;
+    Ok(())
+}
 
 /// Notes the name of a load that failed, and answers so, or want of memory.
 pub(crate) fn note(alloc: Global, failed: &mut Vec<Name>, name: &str) -> LoadFault
     ensures { ((result ≡ LoadFault.Failed) × (failed.new.items ≡ failed.old.items ++ name.now ∷ []))
         ⊎ ((result ≡ LoadFault.NoMemory) × (failed.new.items ≡ failed.old.items)) }
 {
-    match Name::new(alloc, name.as_bytes()) {
-        Ok(noted) => match failed.push(noted) {
-            Ok(()) => LoadFault::Failed,
-            Err(_) => LoadFault::NoMemory,
-        },
-        Err(_) => LoadFault::NoMemory,
+    match keep(alloc, failed, name) {
+        Ok(()) => LoadFault::Failed,
+        Err(NoMemory) => LoadFault::NoMemory,
     }
 }

@@ -8,7 +8,7 @@ use crate::{NoMemory, Refusal};
 
 /// What the words of a call may be.
 const USAGE: &[u8] =
-    b"E00 usage: feast check|code FILE.. | step|run WORLD FILE.. | replay WORLD JOURNAL FILE.. | gen N\n";
+    b"E00 usage: feast check|code|pack FILE.. | step|run WORLD FILE.. | steppack|runpack WORLD CODE | replay WORLD JOURNAL FILE.. | audit WORLD REPORT FILE.. | rewind WORLD REPORT K FILE.. | gen N\n";
 
 /// Appends the line that tells of a refusal of the file with this name.
 ///

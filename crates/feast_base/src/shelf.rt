@@ -1,8 +1,10 @@
 //! Shelves, from which files are loaded.
 ghost use Rattle.std.specs.Prelude.{◌≡◌, ℕ, ◌^◌, ◌-◌, ◌<◌, List, Option, IsErrOf};
 ghost use Rattle.feast_base.specs.Outside.{File};
-ghost use Rattle.feast_base.specs.Loading.{Loads};
+ghost use Rattle.feast_base.specs.Loading.{AppendsSome, IsLoad, NotesFailed};
+ghost use Rattle.feast_base.specs.declared.shelf.LoadFault.TheVariants.{NoMemory};
 
+use std::alloc::AllocError;
 use thiserror::Error;
 
 /// Why a load gave no file.
@@ -17,6 +19,14 @@ pub enum LoadFault {
     /// Want of memory.
     #[error("out of memory")]
     NoMemory,
+}
+
+impl From<AllocError> for LoadFault {
+    ghost from_gives = { λ _ fault. fault ≡ NoMemory };
+
+    fn from(_refused: AllocError) -> LoadFault {
+        LoadFault::NoMemory
+    }
 }
 
 /// A place that files are loaded from.
@@ -35,12 +45,13 @@ pub trait Shelf {
     ///
     /// `Failed` comes where there is no such file or it can't be read, and then the name is
     /// appended to the names that failed. `TooLong` comes where the file has more bytes than
-    /// `limit`, of which `limit + 1` were appended. After a fault the earlier bytes of `into`
-    /// still stand before what was appended.
+    /// `limit`, of which `limit + 1` were appended; at any other fault at most `limit` bytes were
+    /// appended. After a fault the earlier bytes of `into` still stand before what was appended.
     fn load(&mut self, name: &str, limit: usize, into: &mut Vec<u8>) -> Result<(), LoadFault>
         requires { limit < 2 ^ 64 - 1 }
         ensures files { files self.new ≡ files self.old }
-        ensures loads { Loads (files self.old) name.now limit (failed self.old) (failed self.new) into.old.items into.new.items result }
+        ensures appends { AppendsSome into.old.items into.new.items (λ taken. IsLoad (files self.old) name.now limit taken result) }
+        ensures noted { NotesFailed (failed self.old) (failed self.new) name.now result }
         ensures cause { IsErrOf result LoadFault.Failed → may_fail self.old name.now }
         ensures later { (n : List ℕ) → may_fail self.new n → may_fail self.old n };
 }

@@ -26,10 +26,8 @@ impl Source {
     pub fn new(alloc: Global, name: &str, bytes: Vec<u8>) -> Result<Source, NoMemory>
         ensures { IfOk result (λ s. s ≡ (name.now, bytes.items)) }
     {
-        match String::from_str(alloc, name) {
-            Ok(name) => Ok(Source { name, bytes }),
-            Err(_) => Err(NoMemory),
-        }
+        let name = String::from_str(alloc, name)?;
+        Ok(Source { name, bytes })
     }
 
     /// The name of the file.

@@ -1,5 +1,7 @@
 //! Standard output.
-ghost use Rattle.std.specs.Prelude.{◌≡◌, ℕ, ◌+◌, ◌-◌, ◌^◌, ◌≤◌, ◌<◌, None, length};
+ghost use Rattle.std.specs.Prelude.{◌≡◌, ℕ, ◌+◌, ◌-◌, ◌^◌, ◌≤◌, ◌<◌, IsErr, IsOk, None, OnErr, length};
+ghost use Rattle.feast_base.specs.Loading.{Puts, WritesWhole};
+ghost use Rattle.feast_base.specs.Outside.{told};
 
 use crate::{Sink, SinkFailed};
 use std::io;
@@ -31,12 +33,14 @@ impl<'a, R: Print> StdSink<'a, R> {
 }
 
 /// Writes all the bytes, and flushes. A write of no byte is a fault.
-fn write_whole<W: Write>(to: &mut W, bytes: &[u8]) -> Result<(), SinkFailed> {
-    let mut done = 0;
-    while done < bytes.len() {
-        match to.write(&bytes[done..]) {
+pub(crate) fn write_whole<W: Write>(to: &mut W, bytes: &[u8]) -> Result<(), SinkFailed>
+    ensures { WritesWhole (W.contents to.old) (W.contents to.new) bytes.now result }
+{
+    let mut rest = bytes;
+    while !rest.is_empty() {
+        match to.write(rest) {
             Ok(0) => return Err(SinkFailed),
-            Ok(count) => done += count,
+            Ok(count) => rest = &rest[count..],
             Err(_) => return Err(SinkFailed),
         }
     }
@@ -55,8 +59,15 @@ impl<R: Print> Sink for StdSink<'_, R> {
 
     ghost may_fail = { λ _ _. Unit {0} };
 
-    /// Writes all the bytes, and flushes.
-    fn put(&mut self, bytes: &[u8]) -> Result<(), SinkFailed> {
+    /// Writes all the bytes, and flushes. After a fault the count of faults is one more.
+    fn put(&mut self, bytes: &[u8]) -> Result<(), SinkFailed>
+        requires some { 0 < length bytes.now }
+        requires room { self.old < 2 ^ 64 - 1 }
+        ensures puts { Puts (told (λ _. None) (λ s. s) (λ _ _. Unit {0}) self.old) (told (λ _. None) (λ s. s) (λ _ _. Unit {0}) self.new) bytes.now result }
+        ensures cause { IsErr result → (m : ℕ) → length bytes.now ≤ m → Unit {0} }
+        ensures later { IsOk result → (m : ℕ) → Unit {0} → Unit {0} }
+        ensures once { OnErr result (self.new ≡ self.old + 1) }
+    {
         match write_whole(&mut io::writer(self.rt), bytes) {
             Ok(()) => Ok(()),
             Err(SinkFailed) => {

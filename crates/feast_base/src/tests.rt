@@ -1,13 +1,13 @@
 //! Worked values, and each public call once.
 
-ghost use Rattle.feast_base.specs.Refusals.{IsCode};
+mod refusal_lines;
+mod streams;
 
 use crate::text::{push, push_hex, push_number};
 use crate::{
-    FileShelf, Gate, LoadFault, MemShelf, MemSink, Name, NoMemory, OpenGate, Place, Refusal, Shelf,
-    Sink, SinkFailed, Source, StdSink, print_refusal,
+    CountLedger, FileShelf, Gate, LoadFault, MemShelf, MemSink, Name, NoLedger, OpenGate, Shelf,
+    Sink, SinkFailed, Source, StdSink, Steps, Stop,
 };
-use std::alloc::Global;
 use std::test::Fail;
 use std::{fs, process};
 
@@ -58,66 +58,40 @@ fn a_sink_in_memory_takes_what_it_has_room_for(rt: HostRuntime) -> Result<(), Fa
     Ok(())
 }
 
-/// The line of a refusal.
-fn line(
-    alloc: Global,
-    name: &str,
-    code: u8,
-    place: (u32, u32),
-    value: u64,
-) -> Result<Vec<u8>, NoMemory>
-    requires { IsCode code }
-{
-    let (line, column) = place;
-    let place = Place {
-        file: 0,
-        line,
-        column,
-    };
-    let mut out = Vec::new(alloc);
-    print_refusal(name, &Refusal { code, place, value }, &mut out)?;
-    Ok(out)
+#[test]
+fn a_stop_keeps_the_first_bytes_of_its_piece(rt: HostRuntime) -> Result<(), Fail> {
+    let alloc = rt.alloc();
+    let stops = [(2, 2), (3, 9), (4, 0), (5, 1), (6, 1), (6, 2)];
+    let stops = stops.iter().map(|(call, keep)| Stop {
+        call: *call,
+        keep: *keep,
+    });
+    let mut sink = MemSink::stopping(alloc, stops.collect(alloc)?, 12)?;
+    assert_eq!(rt; sink.put(b"abc"), Ok(()));
+    assert_eq!(rt; sink.put(b"def"), Err(SinkFailed), "two of three bytes");
+    assert_eq!(rt;
+        sink.put(b"gh"),
+        Err(SinkFailed),
+        "all, being fewer than nine"
+    );
+    assert_eq!(rt; sink.put(b"i"), Err(SinkFailed), "none");
+    assert_eq!(rt; sink.put(b"jklmno"), Err(SinkFailed), "more than the room");
+    assert_eq!(rt; sink.put(b"jkl"), Err(SinkFailed), "the first of two stops");
+    assert_eq!(rt; sink.put(b"kl"), Ok(()));
+    assert_eq!(rt; sink.written(), b"abcdeghjkl".as_slice());
+    assert_eq!(rt; sink.calls(), 7);
+    Ok(())
 }
 
 #[test]
-fn a_refusal_is_told_in_one_line(rt: HostRuntime) -> Result<(), Fail> {
-    let alloc = rt.alloc();
-    let lines = [
-        (
-            line(alloc, "", 0, (0, 0), 0)?,
-            "E00 usage: feast check|code FILE.. | step|run WORLD FILE.. | replay WORLD JOURNAL FILE.. | gen N\n",
-        ),
-        (line(alloc, "w", 1, (0, 0), 0)?, "w: E01 unreadable\n"),
-        (
-            line(alloc, "f", 2, (0, 0), 1048576)?,
-            "f: E02 longer than 1048576 bytes\n",
-        ),
-        (line(alloc, "a", 20, (1, 36), 0)?, "a:1:36: E20 syntax\n"),
-        (
-            line(alloc, "f", 40, (2, 7), 33)?,
-            "f:2:7: E40 quark takes 33 bits, at most 32\n",
-        ),
-        (
-            line(alloc, "f", 41, (1, 9), 72)?,
-            "f:1:9: E41 element takes 72 bits, at most 71\n",
-        ),
-        (
-            line(alloc, "j", 81, (6, 1), 4)?,
-            "j:6:1: E81 out of order after line 4\n",
-        ),
-        (
-            line(alloc, "j", 84, (1, 1), 2)?,
-            "j:1:1: E84 journal has 2 records\n",
-        ),
-        (
-            line(alloc, "w", 90, (1, 1), 0)?,
-            "w:1:1: E90 not built yet\n",
-        ),
-    ];
-    for (told, expected) in &lines {
-        assert_eq!(rt; told.as_slice(), expected.as_bytes());
-    }
-    Ok(())
+fn each_step_is_noted_once(rt: HostRuntime) {
+    let mut steps = Steps::new(CountLedger::new());
+    steps.tick();
+    steps.tick();
+    assert_eq!(rt; steps.into_ledger().count(), 2);
+    let mut steps = Steps::new(NoLedger);
+    steps.tick();
+    steps.into_ledger();
 }
 
 #[test]

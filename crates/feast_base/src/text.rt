@@ -10,10 +10,8 @@ use itoa::Buffer;
 pub fn push(out: &mut Vec<u8>, bytes: &[u8]) -> Result<(), NoMemory>
     ensures { Appends out.old.items out.new.items result bytes.now }
 {
-    match out.extend_from_slice(bytes) {
-        Ok(()) => Ok(()),
-        Err(_) => Err(NoMemory),
-    }
+    out.extend_from_slice(bytes)?;
+    Ok(())
 }
 
 /// Appends a number in decimal. `NoMemory` where `out` can't grow.
@@ -30,7 +28,11 @@ fn digit_at(n: u128, k: u32) -> u8
     ensures { result ≡ glyph (n / 2 ^ (4 * k) % 16) }
 {
     let digit = ((n >> (4 * k)) % 16) as u8;
-    if digit < 10 { 48 + digit } else { 87 + digit }
+    if digit < 10 {
+        b'0' + digit
+    } else {
+        b'a' + (digit - 10)
+    }
 }
 
 /// Appends the low `count` hexadecimal digits of a number, the greatest first and in lower case.

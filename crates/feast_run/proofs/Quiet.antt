@@ -28,7 +28,7 @@ kept_by shelf failed' words JournalRefused text free there h = absurd h
 kept_by shelf failed' words SinkFault text free there h = absurd h
 kept_by shelf failed' words NoMemory text free there h = absurd h
 
-put_not : (sink : SinkHeld) (size : ℕ) → sink.fail ≡ [] → size ≤ sink.room - length sink.written → PutMayFail sink size → ⊥
+put_not : (sink : SinkHeld) (size : ℕ) → sink.stops ≡ [] → size ≤ sink.room - length sink.written → PutMayFail sink size → ⊥
 put_not sink size free room h = elim h [ inl listed ↦ absurd (omega (arith, listed, ap length free)) | inr long ↦ absurd (omega (arith, long, room)) ]
 
 pub quiet_of : (shelf shelf' : ShelfHeld) (sink sink' : SinkHeld) (words : List (List ℕ)) (status : Status) →

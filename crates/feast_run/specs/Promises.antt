@@ -54,7 +54,7 @@ Complete (Some files) failed failed' words faults faults' status =
 -- whatever text the call comes to, no count rises; so neither SinkFault comes, nor a name is noted
 abbrev pub IsQuiet : ShelfHeld → ShelfHeld → SinkHeld → SinkHeld → List (List ℕ) → Status → Type 0
 IsQuiet shelf shelf' sink sink' words status =
-    shelf.fail ≡ [] → sink.fail ≡ [] →
+    shelf.fail ≡ [] → sink.stops ≡ [] →
     ((world element : List ℕ) → IsRun words world element → (file_of world shelf.files ≢ None) × (file_of element shelf.files ≢ None)) →
     ((right : Status) (text : List ℕ) → Comes (LoadMayFail shelf) (setting (Some shelf.files) shelf.failed shelf'.failed words) right text → length text ≤ sink.room - length sink.written) →
     (shelf'.failed ≡ shelf.failed) × (sink'.faults ≡ sink.faults) × (status ≢ SinkFault)

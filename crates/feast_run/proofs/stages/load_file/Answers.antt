@@ -5,4 +5,4 @@ use Rattle.feast_run.proofs.stages.load_file.Goals as goal
 pub returns-in-Err-clause-loads : goal.returns-in-Err-clause-loads
 returns-in-Err-clause-loads g c =
     load_stop (g.F.Shelf.may_fail c.args.shelf.now) (g.F.Shelf.files c.args.shelf.now) (g.F.Shelf.failed c.args.shelf.now) (g.F.Shelf.failed c.load.new.self) c.args.word.now c.args.limit
-    c.new-bytes.result.items c.load.new.into.items c.in-Err.fault c.not_loaded.result c.in-Err.ensures.loads (λ e. c.in-Err.ensures.cause (ap Err e)) c.not_loaded.ensures
+    c.new-bytes.result.items c.load.new.into.items c.in-Err.fault c.not_loaded.result c.in-Err.ensures.appends c.in-Err.ensures.noted (λ e. c.in-Err.ensures.cause (ap Err e)) c.not_loaded.ensures

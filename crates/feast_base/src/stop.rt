@@ -1,0 +1,10 @@
+//! Stops of the sink in memory.
+
+/// A put that is to fail in mid-piece.
+#[derive(Clone, Copy, Debug, PartialEq, Eq)]
+pub struct Stop {
+    /// The number of the put, counted from 1.
+    pub call: u64,
+    /// How many first bytes of its piece are still appended; all of them where it has fewer.
+    pub keep: u32,
+}

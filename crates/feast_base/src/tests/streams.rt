@@ -1,0 +1,112 @@
+//! The loops over a real file and a real output, with a reader and a writer that fail.
+
+use crate::file_shelf::read_whole;
+use crate::std_sink::write_whole;
+use crate::{LoadFault, SinkFailed};
+use std::io;
+use std::io::{ErrorKind, Read, Write};
+use std::test::Fail;
+
+/// Gives one byte a call, and fails where so many bytes are left.
+#[derive(Drop)]
+struct Drip {
+    bytes: &'static [u8],
+    fails_at: Option<usize>,
+}
+
+impl Read for Drip {
+    fn read(&mut self, buf: &mut [u8]) -> io::Result<usize> {
+        if self.fails_at == Some(self.bytes.len()) {
+            return Err(ErrorKind::Other.into());
+        }
+        if self.bytes.is_empty() || buf.is_empty() {
+            return Ok(0);
+        }
+        buf[0] = self.bytes[0];
+        self.bytes = &self.bytes[1..];
+        Ok(1)
+    }
+}
+
+#[test]
+fn a_file_is_read_to_its_end_or_its_fault(rt: HostRuntime) -> Result<(), Fail> {
+    let rows = [
+        (5, None, Ok(()), "feast"),
+        (9, None, Ok(()), "feast"),
+        (4, None, Err(LoadFault::TooLong), "feast"),
+        (9, Some(3), Err(LoadFault::Failed), "fe"),
+        (9, Some(0), Err(LoadFault::Failed), "feast"),
+        (2, Some(1), Err(LoadFault::TooLong), "fea"),
+    ];
+    for (limit, fails_at, answer, taken) in rows {
+        let mut drip = Drip {
+            bytes: b"feast",
+            fails_at,
+        };
+        let mut into = Vec::new(rt.alloc());
+        let told = read_whole(&mut drip, limit, &mut into);
+        assert_eq!(rt; told, answer, "limit {limit}");
+        assert_eq!(rt; into.as_slice(), taken.as_bytes(), "limit {limit}");
+    }
+    Ok(())
+}
+
+/// How a writer fails.
+#[derive(Clone, Copy, Debug, PartialEq, Eq)]
+enum Fault {
+    Nothing,
+    TakesNothing,
+    Fails,
+    FailsToFlush,
+}
+
+/// Takes at most three bytes a call, and fails in its way once it holds three.
+#[derive(Drop)]
+struct Sip {
+    got: Vec<u8>,
+    fault: Fault,
+    flushes: u8,
+}
+
+impl Write for Sip {
+    fn write(&mut self, buf: &[u8]) -> io::Result<usize> {
+        match self.fault {
+            Fault::TakesNothing if self.got.len() >= 3 => return Ok(0),
+            Fault::Fails if self.got.len() >= 3 => return Err(ErrorKind::Other.into()),
+            _ => {}
+        }
+        let count = buf.len().min(3);
+        self.got.extend_from_slice(&buf[..count])?;
+        Ok(count)
+    }
+
+    fn flush(&mut self) -> io::Result<()> {
+        self.flushes = self.flushes.saturating_add(1);
+        match self.fault {
+            Fault::FailsToFlush => Err(ErrorKind::Other.into()),
+            _ => Ok(()),
+        }
+    }
+}
+
+#[test]
+fn a_piece_is_written_whole_or_up_to_its_fault(rt: HostRuntime) -> Result<(), Fail> {
+    let rows = [
+        (Fault::Nothing, Ok(()), "report\n", 1),
+        (Fault::TakesNothing, Err(SinkFailed), "rep", 0),
+        (Fault::Fails, Err(SinkFailed), "rep", 0),
+        (Fault::FailsToFlush, Err(SinkFailed), "report\n", 1),
+    ];
+    for (fault, answer, got, flushes) in rows {
+        let mut sip = Sip {
+            got: Vec::new(rt.alloc()),
+            fault,
+            flushes: 0,
+        };
+        let told = write_whole(&mut sip, b"report\n");
+        assert_eq!(rt; told, answer, "{fault:?}");
+        assert_eq!(rt; sip.got.as_slice(), got.as_bytes(), "{fault:?}");
+        assert_eq!(rt; sip.flushes, flushes, "{fault:?}");
+    }
+    Ok(())
+}
