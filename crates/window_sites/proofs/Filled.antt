@@ -1,0 +1,48 @@
+-- A window's atoms read into place, the last site first.
+use Rattle.std.proofs.Common.{ℕ, suc, zero, ◌≡◌, ◌+◌, ◌≤◌, ◌<◌, List, [], ◌∷◌, length, get_or, set, refl, sym, ◌∙◌, arith, inl, inr}
+use Rattle.std.specs.List.{range_with_len}
+use Rattle.std.proofs.Math.ListN.{length-set}
+use Rattle.std.proofs.lemmas.Bool.Decides.{eqb_tells}
+use Rattle.std.proofs.lemmas.List.{get_or-set_other, get_or-set_same}
+use Rattle.std.proofs.lemmas.List.FromFn.{fill_by_all, length-map-range_with_len}
+use Rattle.bit_field.specs.Atom.{AtomValue, empty_atom}
+use Rattle.window_sites.specs.Inner.{inner_place, inner_atoms, site_numbers}
+
+-- a list with the atoms of some sites written, the last of them first
+abbrev pub filled : List AtomValue → List AtomValue → ℕ → ℕ → List ℕ → List AtomValue
+filled into plane low width [] = into
+filled into plane low width (n ∷ ns) = set (filled into plane low width ns) n (get_or plane (inner_place low width n) empty_atom)
+
+unfoldable pub all_filled : List AtomValue → List AtomValue → ℕ → ℕ → List AtomValue
+all_filled into plane low width = filled into plane low width site_numbers
+
+length-filled : (into plane : List AtomValue) (low width : ℕ) (ns : List ℕ) → length (filled into plane low width ns) ≡ length into
+length-filled into plane low width [] = refl
+length-filled into plane low width (n ∷ ns) = length-set (filled into plane low width ns) n (get_or plane (inner_place low width n) empty_atom) ∙ length-filled into plane low width ns
+
+later : (a j : ℕ) → a ≤ j → (a ≡ j → ⊥) → a + 1 ≤ j
+later a j from other = grind (arith, from, other)
+
+below-41 : (n m a k j : ℕ) → n ≡ m → m ≡ 41 → a + suc k ≤ 41 → j < a + suc k → j < n
+below-41 n m a k j e f g h = omega (arith, e, f, g, h)
+
+filled-at : (into plane : List AtomValue) (low width a k : ℕ) → length into ≡ 41 → a + k ≤ 41 → (j : ℕ) → a ≤ j → j < a + k →
+    get_or (filled into plane low width (range_with_len a k)) j empty_atom ≡ get_or plane (inner_place low width j) empty_atom
+filled-at into plane low width a zero long le j from to = absurd (omega (arith, from, to))
+filled-at into plane low width a (suc k) long le j from to =
+    let old = filled into plane low width (range_with_len (a + 1) k) in
+    elim (eqb_tells a j) [
+      | inl same ↦ rw (same.1) (get_or-set_same (filled into plane low width (range_with_len (j + 1) k)) j (get_or plane (inner_place low width j) empty_atom) empty_atom (below-41 _ _ a k j (length-filled into plane low width (range_with_len (j + 1) k)) long le to))
+      | inr other ↦ get_or-set_other old a j (get_or plane (inner_place low width a) empty_atom) empty_atom (λ e. other.1 (sym e))
+          ∙ filled-at into plane low width (a + 1) k long (omega (arith, le)) j (later a j from other.1) (omega (arith, to))
+    ]
+
+pub all_filled-is : (into plane : List AtomValue) (low width : ℕ) → length into ≡ 41 → all_filled into plane low width ≡ inner_atoms plane low width
+unfolding all_filled inner_atoms
+all_filled-is into plane low width long =
+    fill_by_all (λ n. get_or plane (inner_place low width n) empty_atom) (filled into plane low width site_numbers) 41 empty_atom (length-filled into plane low width site_numbers ∙ long)
+    (λ j lt. filled-at into plane low width 0 41 long (omega arith) j (omega arith) (omega (arith, lt)))
+
+pub length-inner_atoms : (atoms : List AtomValue) (low width : ℕ) → length (inner_atoms atoms low width) ≡ 41
+unfolding inner_atoms
+length-inner_atoms atoms low width = length-map-range_with_len {X = AtomValue} (λ n. get_or atoms (inner_place low width n) empty_atom) 0 41

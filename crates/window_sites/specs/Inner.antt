@@ -1,0 +1,27 @@
+-- A window that lies in the plane as a whole: its sites counted from `low`, the place of the first of its nine rows and nine columns.
+use Rattle.std.specs.Prelude.{ℕ, ◌+◌, ◌-◌, ◌*◌, List, map, true, replicate, ℤ, pos, negsuc, slice_index_or}
+use Rattle.std.specs.List.{range_with_len}
+use Rattle.bit_field.specs.Atom.{AtomValue, empty_atom}
+use Rattle.window_sites.specs.Sites.{offset_of}
+use Rattle.window_sites.specs.Window.{WindowValue}
+
+-- an offset of -4 to 4, counted from -4
+abbrev pub from_low : ℤ → ℕ
+from_low (pos d) = d + 4
+from_low (negsuc d) = 3 - d
+
+-- the place of site n in a plane with rows of this width
+abbrev pub inner_place : ℕ → ℕ → ℕ → ℕ
+inner_place low width n = low + from_low (offset_of n).1 * width + from_low (offset_of n).0
+
+-- the numbers of the 41 sites
+abbrev pub site_numbers : List ℕ
+site_numbers = range_with_len 0 41
+
+-- the atoms of the 41 sites
+unfoldable pub inner_atoms : List AtomValue → ℕ → ℕ → List AtomValue
+inner_atoms plane low width = map (λ n. slice_index_or plane (inner_place low width n) empty_atom) site_numbers
+
+-- the window of 41 live sites with those atoms
+abbrev pub inner_window : List AtomValue → ℕ → ℕ → WindowValue
+inner_window plane low width = record { atoms = inner_atoms plane low width; live = replicate 41 true }
