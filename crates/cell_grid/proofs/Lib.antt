@@ -1,0 +1,3 @@
+pub mod Cleared
+pub mod Corners
+pub mod Windows

@@ -1,0 +1,22 @@
+use Rattle.std.proofs.Common.{subst, sym, ◌∙◌, refl, arith, ◌+◌, ◌-◌, ◌*◌, ◌<◌, false, length}
+use Rattle.std.proofs.lemmas.List.{get_or_read_under}
+use Rattle.cell_grid.specs.Grid.{GridValue}
+use Rattle.cell_grid.specs.Calm.{IsCorner}
+use Rattle.cell_grid.proofs.Corners.{corner-is, below}
+use Rattle.cell_grid.proofs.grid.Grid.corner.Goals as goal
+
+pub returns-then-index : goal.returns-then-index
+returns-then-index c =
+    let x = c.args.x in
+    let y = c.args.y in
+    let s = c.self.inside in
+    let i = c.self.invariant.0 in
+    let k = c.self.invariant.1 in
+    let right : x + 4 < s.width = omega (arith, c.if-width-x.false) in
+    let bottom : y + 4 < s.height = omega (arith, c.if-height-y.false) in
+    let b = below x y s.width s.height (omega (arith, right)) (omega (arith, bottom)) in
+    let v = get_or_read_under s.calm.items (y * s.width + x) (length s.calm.items) c.index.result.now false c.index.ensures (omega (arith, b, k.size, i.marked)) refl in
+    let m = sym v ∙ c.if-index.true in
+    let n = corner-is (record { width = s.width; height = s.height; atoms = s.atoms.items; live = s.live.items }) s.calm.items x y i k
+    (omega (arith, c.if-x-lt4.false)) right (omega (arith, c.if-y-lt4.false)) bottom m in
+    subst (λ (g : GridValue). IsCorner g x y ((y - 4) * s.width + (x - 4))) c.self.view_is n

@@ -1,0 +1,99 @@
+-- A flat grid of atoms in row order with its live sites, its windows, and one event.
+use Rattle.std.specs.Prelude.{ℕ, ◌≡◌, ◌+◌, ◌*◌, ◌≤◌, ◌<◌, Bool, true, false, List, [], ◌∷◌, length, map, filter, replicate, slice_index_or, slice_set, is_some, nat_lt, Option, Some, None, if◌then◌else◌, ◌==◌}
+use Rattle.std.specs.List.{range_with_len}
+use Rattle.bit_field.specs.Atom.{AtomValue, empty_atom}
+use Rattle.window_sites.specs.Inner.{site_numbers}
+use Rattle.window_sites.specs.Sites.{offset_of, shifted}
+use Rattle.window_sites.specs.Window.{WindowValue, atom_at}
+
+-- a grid: its size, its atoms row by row, and which sites are live
+pub record GridValue : Type 0 where
+  pub width : ℕ
+  pub height : ℕ
+  pub atoms : List AtomValue
+  pub live : List Bool
+
+-- a site that is not live is empty
+abbrev pub HidesDead : List AtomValue → List Bool → Type 0
+HidesDead atoms live = (i : ℕ) → i < length live → slice_index_or live i false ≡ false → slice_index_or atoms i empty_atom ≡ empty_atom
+
+-- a grid that can be stored
+pub record IsGrid (g : GridValue) : Type 0 where
+  pub wide : 8 ≤ g.width
+  pub not_wider : g.width ≤ 512
+  pub high : 8 ≤ g.height
+  pub not_higher : g.height ≤ 512
+  pub whole : length g.atoms ≡ g.width * g.height
+  pub marked : length g.live ≡ g.width * g.height
+  pub hidden : HidesDead g.atoms g.live
+
+-- a grid of empty atoms whose sites are all live
+abbrev pub empty_grid : ℕ → ℕ → GridValue
+empty_grid width height = record { width = width; height = height; atoms = replicate (width * height) empty_atom; live = replicate (width * height) true }
+
+-- two grids of one size with the same live sites
+abbrev pub ArePlanesAlike : GridValue → GridValue → Type 0
+ArePlanesAlike g h = (h.width ≡ g.width) × (h.height ≡ g.height) × (h.live ≡ g.live)
+
+-- a live site of the plane
+pub record IsLive (g : GridValue) (x y : ℕ) : Type 0 where
+  pub column : x < g.width
+  pub row : y < g.height
+  pub marked : slice_index_or g.live (y * g.width + x) false ≡ true
+
+-- the atom of a site of the plane
+abbrev pub site_atom : GridValue → ℕ → ℕ → AtomValue
+site_atom g x y = slice_index_or g.atoms (y * g.width + x) empty_atom
+
+-- the grid with another atom at a site of the plane
+abbrev pub with_site : GridValue → ℕ → ℕ → AtomValue → GridValue
+with_site g x y a = record g { atoms = slice_set g.atoms (y * g.width + x) a }
+
+-- the place of a site in row order, where it is of the plane
+abbrev pub placed : ℕ → ℕ → Option ℕ → Option ℕ → Option ℕ
+placed width height None v = None
+placed width height (Some u) None = None
+placed width height (Some u) (Some v) = if nat_lt u width then (if nat_lt v height then Some (v * width + u) else None) else None
+
+-- that place, where its site is live
+abbrev pub live_place : List Bool → Option ℕ → Option ℕ
+live_place live None = None
+live_place live (Some i) = if slice_index_or live i false then Some i else None
+
+-- the place of site n of the window at (x, y), where the site is of the plane and live
+abbrev pub place_of : GridValue → ℕ → ℕ → ℕ → Option ℕ
+place_of g x y n = live_place g.live (placed g.width g.height (shifted x (offset_of n).0) (shifted y (offset_of n).1))
+
+-- what a window shows of a place
+abbrev pub seen : GridValue → Option ℕ → AtomValue
+seen g None = empty_atom
+seen g (Some i) = slice_index_or g.atoms i empty_atom
+
+-- the window at (x, y): each live site's atom with a live mark, or empty without one
+unfoldable pub window_of : GridValue → ℕ → ℕ → WindowValue
+window_of g x y = record {
+  atoms = map (λ n. seen g (place_of g x y n)) site_numbers;
+  live = map (λ n. is_some (place_of g x y n)) site_numbers;
+}
+
+-- whether a site's place is this one
+abbrev pub is_place : Option ℕ → ℕ → Bool
+is_place None i = false
+is_place (Some j) i = j == i
+
+-- the sites of some numbers that lie at place i
+abbrev pub sites_at : GridValue → ℕ → ℕ → ℕ → List ℕ → List ℕ
+sites_at g x y i ns = filter (λ n. is_place (place_of g x y n) i) ns
+
+-- the atom of place i once a window is written, by the sites that lie there: the window's, or the old one
+abbrev pub atom_left : GridValue → WindowValue → ℕ → List ℕ → AtomValue
+atom_left g w i [] = slice_index_or g.atoms i empty_atom
+atom_left g w i (n ∷ ns) = atom_at w n
+
+-- the grid in which each live site of the window at (x, y) has its atom of w, and all else is as it was
+unfoldable pub put_window : GridValue → ℕ → ℕ → WindowValue → GridValue
+put_window g x y w = record g { atoms = map (λ i. atom_left g w i (sites_at g x y i site_numbers)) (range_with_len 0 (length g.atoms)) }
+
+-- the event at (x, y): each live site of the window has its atom of `after`, and all other sites stay
+abbrev pub event : (WindowValue → ℕ → WindowValue) → GridValue → ℕ → ℕ → ℕ → GridValue
+event after g x y seed = put_window g x y (after (window_of g x y) seed)

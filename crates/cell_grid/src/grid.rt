@@ -1,0 +1,332 @@
+//! A flat grid of atoms, its windows, events and the replay of records.
+ghost use Rattle.std.specs.Prelude.{◌≡◌, pos, false, All, ◌+◌, ◌*◌, ◌≤◌, ◌<◌, ◌^◌, ◌≤ℤ◌, IfOk, IfSome, is_some, length, slice_index_or};
+ghost use Rattle.window_sites.specs.Sites.{shifted};
+ghost use Rattle.cell_grid.specs.Calm.{IsCorner};
+ghost use Rattle.cell_grid.specs.Grid.{GridValue, IsLive, ArePlanesAlike, empty_grid, site_atom, with_site, place_of, seen, window_of, put_window, event};
+ghost use Rattle.cell_grid.specs.Records.{replay};
+ghost use Rattle.cell_grid.specs.Shut.{IsEmptyIn, rectangle, shut};
+ghost use Rattle.cell_grid.specs.Steps.{with_atom};
+
+use crate::behave::Behave;
+use crate::inner::put_inner;
+use crate::marks::{Bounds, clear};
+use crate::record::Record;
+use bit_field::Atom;
+use feast_base::NoMemory;
+use std::alloc::Global;
+use std::marker::Model;
+use window_sites::{Window, offset};
+
+/// A flat grid of atoms. A site that is not live is empty.
+#[derive(Drop)]
+pub struct Grid {
+    width: u32,
+    height: u32,
+    atoms: Vec<Atom>,
+    live: Vec<bool>,
+    /// A mark stands only where each site of the plane within 4 columns and 4 rows is live.
+    calm: Vec<bool>,
+}
+
+impl Model for Grid {
+    ghost use Rattle.cell_grid.specs.Grid.{GridValue, IsGrid};
+    ghost use Rattle.cell_grid.specs.Calm.{AreCalm};
+
+    ghost Value = { GridValue };
+
+    ghost view = { λ g. record { width = g.width; height = g.height; atoms = g.atoms.items; live = g.live.items } };
+
+    ghost invariant = { λ g. IsGrid (record { width = g.width; height = g.height; atoms = g.atoms.items; live = g.live.items }) × AreCalm g.width g.height g.live.items g.calm.items };
+}
+
+/// The coordinate with an offset added, where it does not fall below 0.
+fn shift(x: u32, by: i32) -> Option<u32>
+    requires small { x < 2 ^ 31 }
+    requires near { by ≤ℤ pos 4 }
+    ensures { result ≡ shifted x by }
+{
+    if by >= 0 {
+        Some(x + by as u32)
+    } else {
+        let back = by.unsigned_abs();
+        if back <= x { Some(x - back) } else { None }
+    }
+}
+
+impl Grid {
+    /// A grid of empty atoms on live sites, of 8 to 512 columns and 8 to 512 rows.
+    pub fn new(alloc: Global, width: u32, height: u32) -> Result<Grid, NoMemory>
+        requires wide { (8 ≤ width) × (width ≤ 512) }
+        requires high { (8 ≤ height) × (height ≤ 512) }
+        ensures { IfOk result (λ g. g ≡ empty_grid width height) }
+    {
+        let count = (width * height) as usize;
+        let Ok(atoms) = vec![in alloc; Atom::new(0, 0); count] else {
+            return Err(NoMemory);
+        };
+        let Ok(live) = vec![in alloc; true; count] else {
+            return Err(NoMemory);
+        };
+        let Ok(calm) = vec![in alloc; true; count] else {
+            return Err(NoMemory);
+        };
+        Ok(Grid {
+            width,
+            height,
+            atoms,
+            live,
+            calm,
+        })
+    }
+
+    /// The number of columns.
+    pub fn width(&self) -> u32
+        ensures value { result ≡ self.now.width }
+        ensures wide { 8 ≤ result }
+    {
+        self.width
+    }
+
+    /// The number of rows.
+    pub fn height(&self) -> u32
+        ensures value { result ≡ self.now.height }
+        ensures high { 8 ≤ result }
+    {
+        self.height
+    }
+
+    /// The atoms in row order.
+    pub fn atoms(&self) -> &[Atom]
+        ensures { result.now ≡ self.now.atoms }
+    {
+        self.atoms.as_slice()
+    }
+
+    /// Whether a site of the plane is live.
+    pub fn is_live(&self, x: u32, y: u32) -> bool
+        requires column { x < self.now.width }
+        requires row { y < self.now.height }
+        ensures { result ≡ slice_index_or self.now.live (y * self.now.width + x) false }
+    {
+        self.live[(y * self.width + x) as usize]
+    }
+
+    /// The atom of a site.
+    pub fn get(&self, x: u32, y: u32) -> Atom
+        requires column { x < self.now.width }
+        requires row { y < self.now.height }
+        ensures { result ≡ site_atom self.now x y }
+    {
+        self.atoms[(y * self.width + x) as usize]
+    }
+
+    /// Gives a live site an atom.
+    pub fn set(&mut self, x: u32, y: u32, atom: Atom)
+        requires live { IsLive self.old x y }
+        ensures { self.new ≡ with_site self.old x y atom }
+    {
+        self.atoms[(y * self.width + x) as usize] = atom;
+    }
+
+    /// Makes a rectangle of `w` columns and `h` rows not live. It lies in the plane and is empty.
+    pub fn shut(&mut self, x: u32, y: u32, w: u32, h: u32)
+        requires columns { x + w ≤ self.old.width }
+        requires rows { y + h ≤ self.old.height }
+        requires empty { IsEmptyIn self.old (rectangle x y w h) }
+        ensures { self.new ≡ shut self.old (rectangle x y w h) }
+    {
+        let width = self.width;
+        let inside = Bounds {
+            left: x,
+            top: y,
+            right: x + w,
+            bottom: y + h,
+        };
+        let around = Bounds {
+            left: x.saturating_sub(4),
+            top: y.saturating_sub(4),
+            right: x + w + 4,
+            bottom: y + h + 4,
+        };
+        clear(self.live.as_mut_slice(), width, inside);
+        clear(self.calm.as_mut_slice(), width, around);
+    }
+
+    /// The place of a site of a window, where it is of the plane and live.
+    fn place(&self, x: u32, y: u32, n: u8) -> Option<usize>
+        requires column { x < self.now.width }
+        requires row { y < self.now.height }
+        requires n_in { n ≤ 40 }
+        ensures place { result ≡ place_of self.now x y n }
+        ensures bound { IfSome result (λ i. i < length self.now.atoms) }
+    {
+        let width = self.width;
+        let height = self.height;
+        let (dx, dy) = offset(n);
+        let u = shift(x, dx)?;
+        let v = shift(y, dy)?;
+        if u < width && v < height {
+            let i = (v * width + u) as usize;
+            if self.live[i] { Some(i) } else { None }
+        } else {
+            None
+        }
+    }
+
+    /// The place of the first of nine rows and nine columns around a site, where all sites of its window are in the plane
+    /// and live.
+    fn corner(&self, x: u32, y: u32) -> Option<usize>
+        requires column { x < self.now.width }
+        requires row { y < self.now.height }
+        ensures { IfSome result (λ low. IsCorner self.now x y low) }
+    {
+        let width = self.width;
+        let height = self.height;
+        if x < 4 || y < 4 || width <= x + 4 || height <= y + 4 {
+            return None;
+        }
+        if self.calm[(y * width + x) as usize] {
+            Some(((y - 4) * width + (x - 4)) as usize)
+        } else {
+            None
+        }
+    }
+
+    /// What a window shows of a site.
+    fn seen(&self, x: u32, y: u32, n: u8) -> (Atom, bool)
+        requires column { x < self.now.width }
+        requires row { y < self.now.height }
+        requires n_in { n ≤ 40 }
+        ensures atom { result.0 ≡ seen self.now (place_of self.now x y n) }
+        ensures live { result.1 ≡ is_some (place_of self.now x y n) }
+    {
+        match self.place(x, y, n) {
+            Some(i) => (self.atoms[i], true),
+            None => (Atom::new(0, 0), false),
+        }
+    }
+
+    /// The window at a site, read site by site.
+    fn window_by_sites(&self, x: u32, y: u32) -> Window
+        requires live { IsLive self.now x y }
+        ensures { result ≡ window_of self.now x y }
+    {
+        let mut atoms = [Atom::new(0, 0); 41];
+        let mut live = [false; 41];
+        for n in 0..41u8 {
+            let (atom, is_live) = self.seen(x, y, n);
+            atoms[n as usize] = atom;
+            live[n as usize] = is_live;
+        }
+        Window::new(atoms, live)
+    }
+
+    /// The window at a live site.
+    pub fn window_at(&self, x: u32, y: u32) -> Window
+        requires live { IsLive self.now x y }
+        ensures { result ≡ window_of self.now x y }
+    {
+        let mut window = Window::empty();
+        self.read_window(x, y, &mut window);
+        window
+    }
+
+    /// Makes a window at hand the window at a live site. Whoever reads many keeps one.
+    pub fn read_window(&self, x: u32, y: u32, window: &mut Window)
+        requires live { IsLive self.now x y }
+        ensures { window.new ≡ window_of self.now x y }
+    {
+        match self.corner(x, y) {
+            Some(low) => window.refill(self.atoms.as_slice(), low, self.width as usize),
+            None => *window = self.window_by_sites(x, y),
+        }
+    }
+
+    /// Writes an atom at a site of a window, where it is live.
+    fn put_site(&mut self, x: u32, y: u32, n: u8, atom: Atom)
+        requires column { x < self.old.width }
+        requires row { y < self.old.height }
+        requires n_in { n ≤ 40 }
+        ensures { self.new ≡ with_atom self.old (place_of self.old x y n) atom }
+    {
+        if let Some(i) = self.place(x, y, n) {
+            self.atoms[i] = atom;
+        }
+    }
+
+    /// Gives each live site of the window at a site its atom of a window, one by one.
+    fn put_by_sites(&mut self, x: u32, y: u32, window: &Window)
+        requires column { x < self.old.width }
+        requires row { y < self.old.height }
+        ensures grid { self.new ≡ put_window self.old x y window.now }
+        ensures plane { ArePlanesAlike self.old self.new }
+    {
+        for n in (0..41u8).rev() {
+            self.put_site(x, y, n, window.get(n));
+        }
+    }
+
+    /// Gives each live site of the window at a live site its atom of a window.
+    pub fn put_window(&mut self, x: u32, y: u32, window: &Window)
+        requires live { IsLive self.old x y }
+        ensures grid { self.new ≡ put_window self.old x y window.now }
+        ensures plane { ArePlanesAlike self.old self.new }
+    {
+        match self.corner(x, y) {
+            Some(low) => {
+                let width = self.width as usize;
+                put_inner(self.atoms.as_mut_slice(), low, width, window.atoms());
+            }
+            None => self.put_by_sites(x, y, window),
+        }
+    }
+
+    /// The event at a live site: what acts sees the window there, and each live site of it then
+    /// has the atom that the act left. At an empty centre nothing changes.
+    pub fn event<B: Behave>(&mut self, x: u32, y: u32, seed: u64, behave: &mut B)
+        requires live { IsLive self.old x y }
+        ensures grid { self.new ≡ event (B.after behave.old) self.old x y seed }
+        ensures plane { ArePlanesAlike self.old self.new }
+        ensures meaning { B.after behave.new ≡ B.after behave.old }
+    {
+        if self.get(x, y) != Atom::new(0, 0) {
+            self.event_in(x, y, seed, behave, &mut Window::empty());
+        }
+    }
+
+    /// The event at a live site, by a window at hand, of which nothing is said afterwards. Whoever
+    /// makes many events keeps one.
+    pub fn event_in<B: Behave>(
+        &mut self,
+        x: u32,
+        y: u32,
+        seed: u64,
+        behave: &mut B,
+        window: &mut Window,
+    )
+        requires live { IsLive self.old x y }
+        ensures grid { self.new ≡ event (B.after behave.old) self.old x y seed }
+        ensures plane { ArePlanesAlike self.old self.new }
+        ensures meaning { B.after behave.new ≡ B.after behave.old }
+    {
+        if self.get(x, y) == Atom::new(0, 0) {
+            return;
+        }
+        self.read_window(x, y, window);
+        behave.act(window, seed);
+        self.put_window(x, y, window);
+    }
+
+    /// The events of the records, one after another, each at a live site.
+    pub fn replay<B: Behave>(&mut self, records: &[Record], behave: &mut B)
+        requires { All (λ r. IsLive self.old r.x r.y) records.now }
+        ensures grid { self.new ≡ replay (B.after behave.old) self.old records.now }
+        ensures plane { ArePlanesAlike self.old self.new }
+        ensures meaning { B.after behave.new ≡ B.after behave.old }
+    {
+        let mut window = Window::empty();
+        for entry in records {
+            self.event_in(entry.x, entry.y, entry.seed, behave, &mut window);
+        }
+    }
+}

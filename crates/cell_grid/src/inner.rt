@@ -1,0 +1,57 @@
+//! The 41 sites of a window that lies in the plane as a whole, atom_left at once.
+ghost use Rattle.std.specs.Prelude.{◌≡◌, ◌+◌, ◌*◌, ◌≤◌, ◌<◌, length};
+ghost use Rattle.cell_grid.specs.Inner.{with_inner};
+
+use bit_field::Atom;
+
+/// Writes the atoms of the window whose first of nine rows and nine columns begins at `low`. Each
+/// is written at `low`, so many rows and so many columns further on. (Written out, since a loop
+/// over tables takes three times as long.)
+#[inline]
+pub(crate) fn put_inner(atoms: &mut [Atom], low: usize, width: usize, from: &[Atom; 41])
+    requires small { width ≤ 512 }
+    requires whole { low + 8 * width + 8 < length atoms.old }
+    ensures { atoms.new ≡ with_inner atoms.old low width from.now }
+{
+    atoms[low + 4 * width + 8] = from[40];
+    atoms[low + 5 * width + 7] = from[39];
+    atoms[low + 3 * width + 7] = from[38];
+    atoms[low + 6 * width + 6] = from[37];
+    atoms[low + 2 * width + 6] = from[36];
+    atoms[low + 7 * width + 5] = from[35];
+    atoms[low + 1 * width + 5] = from[34];
+    atoms[low + 8 * width + 4] = from[33];
+    atoms[low + 0 * width + 4] = from[32];
+    atoms[low + 7 * width + 3] = from[31];
+    atoms[low + 1 * width + 3] = from[30];
+    atoms[low + 6 * width + 2] = from[29];
+    atoms[low + 2 * width + 2] = from[28];
+    atoms[low + 5 * width + 1] = from[27];
+    atoms[low + 3 * width + 1] = from[26];
+    atoms[low + 4 * width + 0] = from[25];
+    atoms[low + 4 * width + 7] = from[24];
+    atoms[low + 5 * width + 6] = from[23];
+    atoms[low + 3 * width + 6] = from[22];
+    atoms[low + 6 * width + 5] = from[21];
+    atoms[low + 2 * width + 5] = from[20];
+    atoms[low + 7 * width + 4] = from[19];
+    atoms[low + 1 * width + 4] = from[18];
+    atoms[low + 6 * width + 3] = from[17];
+    atoms[low + 2 * width + 3] = from[16];
+    atoms[low + 5 * width + 2] = from[15];
+    atoms[low + 3 * width + 2] = from[14];
+    atoms[low + 4 * width + 1] = from[13];
+    atoms[low + 4 * width + 6] = from[12];
+    atoms[low + 5 * width + 5] = from[11];
+    atoms[low + 3 * width + 5] = from[10];
+    atoms[low + 6 * width + 4] = from[9];
+    atoms[low + 2 * width + 4] = from[8];
+    atoms[low + 5 * width + 3] = from[7];
+    atoms[low + 3 * width + 3] = from[6];
+    atoms[low + 4 * width + 2] = from[5];
+    atoms[low + 4 * width + 5] = from[4];
+    atoms[low + 5 * width + 4] = from[3];
+    atoms[low + 3 * width + 4] = from[2];
+    atoms[low + 4 * width + 3] = from[1];
+    atoms[low + 4 * width + 4] = from[0];
+}
