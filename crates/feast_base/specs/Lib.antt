@@ -6,3 +6,4 @@ pub mod Held
 pub mod Loading
 pub mod Outside
 pub mod Refusals
+pub mod TypeNames

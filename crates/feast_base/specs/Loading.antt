@@ -36,6 +36,21 @@ abbrev pub Puts : {T : Type 0} → Told → Told → List ℕ → Result T SinkF
 Puts old new bytes (Ok x) = Grows old.written new.written bytes × (new.faults ≡ old.faults)
 Puts old new bytes (Err e) = (front : List ℕ) × (rest : List ℕ) × (bytes ≡ front ++ rest) × Grows old.written new.written front × (old.faults < new.faults)
 
+-- all of a text was put, in one piece or in several
+pub record IsPut (old new : Told) (text : List ℕ) : Type 0 where
+  pub grows : Grows old.written new.written text
+  pub same : new.faults ≡ old.faults
+  pub later : (m : ℕ) → new.may_fail m → old.may_fail (length text + m)
+
+-- the sink failed when a text was put, and has a first part of it
+pub record IsCut (old new : Told) (text : List ℕ) : Type 0 where
+  pub front : List ℕ
+  pub rest : List ℕ
+  pub split : text ≡ front ++ rest
+  pub grows : Grows old.written new.written front
+  pub more : old.faults < new.faults
+  pub cause : (m : ℕ) → length text ≤ m → old.may_fail m
+
 -- what a reading loop says of the bytes that it took from what a reader had left, where that is known: at Ok they were
 -- all; at a fault of the reader, and past the limit, they were the first; at want of memory some may be lost
 abbrev pub ReadsWhole : {T : Type 0} → Option (List ℕ) → Option (List ℕ) → ℕ → List ℕ → Result T LoadFault → Type 0

@@ -22,6 +22,7 @@ mod stop;
 #[cfg(test)]
 mod tests;
 pub mod text;
+mod type_name;
 
 pub use edge_sizes::EdgeSizes;
 pub use file_shelf::FileShelf;
@@ -38,3 +39,4 @@ pub use source::Source;
 pub use std_sink::StdSink;
 pub use steps::{CountLedger, Ledger, NoLedger, Steps};
 pub use stop::Stop;
+pub use type_name::{LONGEST_NAME, is_type_name, is_word_byte};

@@ -6,7 +6,7 @@ mod streams;
 use crate::text::{push, push_hex, push_number};
 use crate::{
     CountLedger, FileShelf, Gate, LoadFault, MemShelf, MemSink, Name, NoLedger, OpenGate, Shelf,
-    Sink, SinkFailed, Source, StdSink, Steps, Stop,
+    Sink, SinkFailed, Source, StdSink, Steps, Stop, is_type_name,
 };
 use std::test::Fail;
 use std::{fs, process};
@@ -20,6 +20,18 @@ fn names_and_sources_keep_their_bytes(rt: HostRuntime) -> Result<(), Fail> {
     assert_eq!(rt; source.name(), "w");
     assert_eq!(rt; source.bytes(), [7, 8].as_slice());
     Ok(())
+}
+
+#[test]
+fn a_type_name_begins_with_a_capital_and_has_at_most_255_bytes(rt: HostRuntime) {
+    for name in ["A", "Walker", "EventWindow", "A_b9", "Z"] {
+        assert!(rt; is_type_name(name.as_bytes()), "{name}");
+    }
+    for name in ["", "a", "_A", "9A", "A-", "A b", "A\n", "@", "[", "A\u{e9}"] {
+        assert!(rt; !is_type_name(name.as_bytes()), "{name}");
+    }
+    assert!(rt; is_type_name(&[b'A'; 255]));
+    assert!(rt; !is_type_name(&[b'A'; 256]));
 }
 
 #[test]
