@@ -1,0 +1,5 @@
+pub mod Sorts
+pub mod Machine
+pub mod Valid
+pub mod KindLists
+pub mod Text
