@@ -6,17 +6,11 @@ use Rattle.std.proofs.lemmas.List.{length-take}
 use Rattle.std.proofs.Common.{length-drop}
 use Rattle.window_sites.specs.Window.{WindowValue}
 use Rattle.stack_code.specs.Machine.{FunctionValue, CodeValue, Led, Goes, Fails, Ends, Lacks, State, step, and_then, iter, one_more, count, start, start_with}
+use Rattle.stack_code.specs.Laws.{IsOver, RunsWell}
 use Rattle.stack_code.specs.Valid.{Notes, Around, around, pass, pass_all, pass_function, then_pass, function_fits, end_with, valid, back_of, first_fits, length_fits}
 use Rattle.stack_code.specs.declared.instr.Instr.{Instr}
 use Rattle.stack_code.proofs.Passes.{if_gives, FinePlace, FineAll, Extends, pass_fine, extends_on, extends_same}
 use Rattle.stack_code.proofs.Typed.{FunctionFine, CodeFine, Typed, measure, NextLed, step_next, fill_kinds, start_free, weight_by}
-
--- a run that is over, and lacked nothing
-abbrev pub IsOver : Led State → Type 0
-IsOver (Goes s) = ⊥
-IsOver (Fails n) = Unit {0}
-IsOver (Ends w) = Unit {0}
-IsOver Lacks = ⊥
 
 weight_some : (len p : ℕ) (o : Option ℕ) → p < len → 0 < weight_by len p o
 weight_some len p None lt = omega arith
@@ -72,7 +66,7 @@ fine_at a shapes (j ∷ is) p (suc k) i f e =
     let q : p + 1 + k ≡ p + suc k = omega arith in
     subst (λ n. FinePlace a shapes n i) q (fine_at a shapes is (p + 1) k i f.1 e)
 
-both_true : (b c : Bool) → (if b then c else false) ≡ true → (b ≡ true) × (c ≡ true)
+pub both_true : (b c : Bool) → (if b then c else false) ≡ true → (b ≡ true) × (c ≡ true)
 both_true true c e = (refl, e)
 both_true false c e = cc
 
@@ -87,11 +81,15 @@ then_gives : (r : Option Notes) (go : Notes → Option Notes) (m : Notes) → th
 then_gives None go m e = cc
 then_gives (Some n) go m e = (n, refl, e)
 
-one_or : (c : CodeValue) (shapes : Notes) (g : FunctionValue) (gs : List FunctionValue) → FunctionFine c shapes g → ((k : ℕ) (h : FunctionValue) → slice_get gs k ≡ Some h → FunctionFine c shapes h) → (k : ℕ) (h : FunctionValue) → slice_get (g ∷ gs) k ≡ Some h → FunctionFine c shapes h
-one_or c shapes g gs f r zero h e = let s : g ≡ h = cc in subst (FunctionFine c shapes) s f
+-- a function of valid code, with the place where it ends
+abbrev pub FineUpTo : CodeValue → Notes → FunctionValue → ℕ → Type 0
+FineUpTo c shapes g end = (f : FunctionFine c shapes g) × (f.end ≡ end)
+
+one_or : (c : CodeValue) (shapes : Notes) (g : FunctionValue) (gs : List FunctionValue) → FineUpTo c shapes g (end_with (length c.instrs) gs) → ((k : ℕ) (h : FunctionValue) → slice_get gs k ≡ Some h → FineUpTo c shapes h (end_with (length c.instrs) (drop (suc k) gs))) → (k : ℕ) (h : FunctionValue) → slice_get (g ∷ gs) k ≡ Some h → FineUpTo c shapes h (end_with (length c.instrs) (drop (suc k) (g ∷ gs)))
+one_or c shapes g gs f r zero h e = let s : g ≡ h = cc in subst (λ h. FineUpTo c shapes h (end_with (length c.instrs) gs)) s f
 one_or c shapes g gs f r (suc k) h e = r k h e
 
-is_some_gives : {A : Type 0} (o : Option A) → is_some o ≡ true → (x : A) × (o ≡ Some x)
+pub is_some_gives : {A : Type 0} (o : Option A) → is_some o ≡ true → (x : A) × (o ≡ Some x)
 is_some_gives None e = cc
 is_some_gives (Some x) e = (x, refl)
 
@@ -103,14 +101,9 @@ first_zero c g gs shapes n e =
     let x = if_gives (function_fits g 0 end) (pass (around c g end) (take (end - 0) (drop 0 c.instrs)) 0 (Some []) n) y.0 y.1 in
     eqb-true g.first 0 (fits_gives g 0 end x.0).0
 
--- what valid code promises
-pub record RunsWell (c : CodeValue) (w : WindowValue) (seed : ℕ) : Type 0 where
-  pub over : IsOver (iter c (1001 * length c.instrs) (start c w seed))
-  pub few : count c (1001 * length c.instrs) (start c w seed) ≤ 1001 * length c.instrs
-
 module _ (c : CodeValue) where
   -- a function that passed
-  function_fine : (g : FunctionValue) (p end : ℕ) (n m shapes : Notes) → end ≤ length c.instrs → pass_function c g p end n ≡ Some m → Extends m shapes → FunctionFine c shapes g × Extends n m × (p < end)
+  function_fine : (g : FunctionValue) (p end : ℕ) (n m shapes : Notes) → end ≤ length c.instrs → pass_function c g p end n ≡ Some m → Extends m shapes → FineUpTo c shapes g end × Extends n m × (p < end)
   function_fine g p end n m shapes le e x =
       let is = take (end - p) (drop p c.instrs) in
       let a = around c g end in
@@ -119,7 +112,8 @@ module _ (c : CodeValue) where
       let first : g.first ≡ p = eqb-true g.first p z.0 in
       let len : p + length is ≡ end = omega (arith, z.1, le, length-take (end - p) (drop p c.instrs), length-drop p c.instrs) in
       let f = pass_fine a is p (Some []) n m len y.1 in
-      let st = f.1 [] refl in (
+      let st = f.1 [] refl in
+      let fine : FunctionFine c shapes g =
         record {
           end = end;
           some = omega (arith, first, z.1);
@@ -132,12 +126,10 @@ module _ (c : CodeValue) where
               let b : q - p < end - p = omega (arith, first, low, high) in
               let e1 : slice_get is (q - p) ≡ Some i = get_take (end - p) (q - p) (drop p c.instrs) b ∙ get_drop p (q - p) c.instrs ∙ ap (slice_get c.instrs) k ∙ at in
               subst (λ n. FinePlace a shapes n i) k (fine_more a m shapes (p + (q - p)) i x (fine_at a m is p (q - p) i f.2 e1));
-        },
-        f.0,
-        z.1,
-      )
+        } in
+      ((fine, refl), f.0, z.1)
 
-  all_fine : (gs : List FunctionValue) (p : ℕ) (n shapes : Notes) → pass_all c gs p n ≡ Some shapes → Extends n shapes × (p ≤ length c.instrs) × (end_with (length c.instrs) gs ≤ length c.instrs) × ((k : ℕ) (g : FunctionValue) → slice_get gs k ≡ Some g → FunctionFine c shapes g)
+  pub all_fine : (gs : List FunctionValue) (p : ℕ) (n shapes : Notes) → pass_all c gs p n ≡ Some shapes → Extends n shapes × (p ≤ length c.instrs) × (end_with (length c.instrs) gs ≤ length c.instrs) × ((k : ℕ) (g : FunctionValue) → slice_get gs k ≡ Some g → FineUpTo c shapes g (end_with (length c.instrs) (drop (suc k) gs)))
   unfolding pass_all
   all_fine [] p n shapes e =
       let y = if_gives (nat_eq p (length c.instrs)) (Some n) shapes e in
@@ -149,7 +141,7 @@ module _ (c : CodeValue) where
       let m = y.0 in
       let r = all_fine gs end m shapes y.2 in
       let h = function_fine g p end n m shapes r.1 y.1 r.0 in
-      let q : g.first ≤ length c.instrs = omega (arith, h.0.some, h.0.within) in
+      let q : g.first ≤ length c.instrs = omega (arith, h.0.0.some, h.0.0.within) in
       (extends_on n m shapes h.1 r.0, omega (arith, h.2, r.1), q, one_or c shapes g gs h.0 r.3)
 
   start_first : (shapes : Notes) (gs : List FunctionValue) → CodeFine c shapes → c.functions ≡ gs → (g : FunctionValue) → slice_get c.functions 0 ≡ Some g → g.first ≡ 0 → (w : WindowValue) (seed : ℕ) → Typed c shapes (start_with w seed (Some g)) × (measure c (start_with w seed (Some g)) ≤ 1001 * length c.instrs)
@@ -171,7 +163,7 @@ module _ (c : CodeValue) where
   starts_with [] shapes e f p short w seed = cc
   starts_with (g ∷ gs) shapes e f p short w seed =
       let r = all_fine (g ∷ gs) 0 (replicate (length c.instrs) None) shapes p in
-      let cf : CodeFine c shapes = record { each = λ k h at. r.3 k h (subst (λ l. slice_get l k ≡ Some h) e at) } in
+      let cf : CodeFine c shapes = record { each = λ k h at. (r.3 k h (subst (λ l. slice_get l k ≡ Some h) e at)).0 } in
       let at : slice_get c.functions 0 ≡ Some g = ap (λ l. slice_get l 0) e in
       let z = first_zero c g gs shapes (replicate (length c.instrs) None) p in
       let st = start_first shapes (g ∷ gs) cf e g at z w seed in
@@ -193,27 +185,10 @@ module _ (c : CodeValue) where
       let l = both_true (nat_le 1 (length c.instrs)) (nat_le (length c.instrs) 65536) x.0 in
       starts_with c.functions z.0 refl y.0 z.1 (leb-true (length c.instrs) 65536 l.1) w seed
 
-  runs_with : (gs : List FunctionValue) (shapes : Notes) → c.functions ≡ gs → first_fits gs ≡ true → pass_all c gs 0 (replicate (length c.instrs) None) ≡ Some shapes → (w : WindowValue) (seed : ℕ) → RunsWell c w seed
-  runs_with [] shapes e f p w seed = cc
-  runs_with (g ∷ gs) shapes e f p w seed =
-      let r = all_fine (g ∷ gs) 0 (replicate (length c.instrs) None) shapes p in
-      let cf : CodeFine c shapes = record { each = λ k h at. r.3 k h (subst (λ l. slice_get l k ≡ Some h) e at) } in
-      let at : slice_get c.functions 0 ≡ Some g = ap (λ l. slice_get l 0) e in
-      let z = first_zero c g gs shapes (replicate (length c.instrs) None) p in
-      let st = start_first shapes (g ∷ gs) cf e g at z w seed in
-      let s : start_with w seed (Some g) ≡ start c w seed = ap (start_with w seed) (sym at) in
-      let t = subst (Typed c shapes) s st.0 in
-      let m = subst (λ s. measure c s ≤ 1001 * length c.instrs) s st.1 in
-      record {
-        over = is_over c shapes cf (1001 * length c.instrs) (start c w seed) t m;
-        few = omega (arith, m, count_most c shapes cf (1001 * length c.instrs) (start c w seed) t);
-      }
-
   -- valid code ends, and never lacks an operand
   pub runs_well : valid c ≡ true → (w : WindowValue) (seed : ℕ) → RunsWell c w seed
-  unfolding valid
   runs_well e w seed =
-      let x = both_true (length_fits (length c.instrs)) (if first_fits c.functions then is_some (pass_all c c.functions 0 (replicate (length c.instrs) None)) else false) e in
-      let y = both_true (first_fits c.functions) (is_some (pass_all c c.functions 0 (replicate (length c.instrs) None))) x.1 in
-      let z = is_some_gives (pass_all c c.functions 0 (replicate (length c.instrs) None)) y.1 in
-      runs_with c.functions z.0 refl y.0 z.1 w seed
+      let b = starts e w seed in
+      record {
+        over = is_over c b.shapes b.fine (1001 * length c.instrs) (start c w seed) b.typed b.bound;
+        few = omega (arith, b.bound, count_most c b.shapes b.fine (1001 * length c.instrs) (start c w seed) b.typed) }

@@ -2,6 +2,7 @@ pub mod Passes
 pub mod Plain
 pub mod Typed
 pub mod Bound
+pub mod Stays
 pub mod Kept
 pub mod Accepts
 pub mod KindLists

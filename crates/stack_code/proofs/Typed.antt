@@ -118,7 +118,7 @@ none_of : {A : Type 0} (o : Option A) → is_none o ≡ true → o ≡ None
 none_of None e = refl
 none_of (Some x) e = cc
 
-forward_gives : (a : Around) (p q : ℕ) → forward_fits a p q ≡ true → (p < q) × (q < a.end) × (back_of a.code.instrs q ≡ None)
+pub forward_gives : (a : Around) (p q : ℕ) → forward_fits a p q ≡ true → (p < q) × (q < a.end) × (back_of a.code.instrs q ≡ None)
 forward_gives a p q e =
     let x = both_true (nat_lt p q) (if nat_lt q a.end then is_none (back_of a.code.instrs q) else false) e in
     let y = both_true (nat_lt q a.end) (is_none (back_of a.code.instrs q)) x.1 in
@@ -132,11 +132,11 @@ back_gives_all a p q e =
     (ltb-true q p x.0, leb-true a.function.first q y.0, z.0, none_of (back_of a.code.instrs q) z.1)
 
 -- a jump goes forward, or back
-abbrev Jumps : Around → ℕ → ℕ → Bool → Type 0
+abbrev pub Jumps : Around → ℕ → ℕ → Bool → Type 0
 Jumps a p q true = (p < q) × (q < a.end) × (back_of a.code.instrs q ≡ None)
 Jumps a p q false = (q < p) × (a.function.first ≤ q) × (is_turn (instr_before a.code.instrs p) ≡ true) × (back_of a.code.instrs q ≡ None)
 
-jumps_by : (a : Around) (p q : ℕ) (b : Bool) → (if b then forward_fits a p q else back_fits a p q) ≡ true → Jumps a p q b
+pub jumps_by : (a : Around) (p q : ℕ) (b : Bool) → (if b then forward_fits a p q else back_fits a p q) ≡ true → Jumps a p q b
 jumps_by a p q true e = forward_gives a p q e
 jumps_by a p q false e = back_gives_all a p q e
 

@@ -3,3 +3,4 @@ pub mod Machine
 pub mod Valid
 pub mod KindLists
 pub mod Text
+pub mod Laws

@@ -1,6 +1,8 @@
 //! Functions, and the code of an element.
 
-ghost use Rattle.std.specs.Prelude.{◌≡◌, ◌≤◌, length, true};
+ghost use Rattle.std.specs.Prelude.{◌≡◌, ◌≤◌, ℕ, length, true};
+ghost use Rattle.window_sites.specs.Window.{WindowValue};
+ghost use Rattle.stack_code.specs.Laws.{RunsWell, JumpsStay};
 ghost use Rattle.stack_code.specs.Machine.{FunctionValue, CodeValue};
 ghost use Rattle.stack_code.specs.Valid.{valid};
 
@@ -190,11 +192,22 @@ impl Code {
         &self.raw
     }
 
-    /// How many instructions the code has. It is valid.
+    /// What holds of valid code: each run comes to its end or to a failure within 1,001 times as
+    /// many instructions as there are, without lacking an operand, a slot, an instruction or a
+    /// function, and no jump leaves its function. It does nothing.
+    #[inline(always)]
+    pub fn laws(&self)
+        ensures valid { valid self.now ≡ true }
+        ensures runs { (w : WindowValue) (seed : ℕ) → RunsWell self.now w seed }
+        ensures jumps { JumpsStay self.now }
+    {
+        let _raw = &self.raw;
+    }
+
+    /// How many instructions the code has.
     #[inline(always)]
     pub fn len(&self) -> usize
-        ensures value { result ≡ length self.now.instrs }
-        ensures valid { valid self.now ≡ true }
+        ensures { result ≡ length self.now.instrs }
     {
         self.raw.instrs.len()
     }
