@@ -1,12 +1,15 @@
 //! What an atom sees of the plane, and how it changes it.
 
-ghost use Rattle.std.specs.Prelude.{◌≡◌, ◌≤◌, ◌<◌, ◌+◌, ◌*◌, length, replicate, true};
+ghost use Rattle.std.specs.Prelude.{◌≡◌, ◌≤◌, ◌<◌, ◌+◌, ◌*◌, ◌^◌, ℕ, length, replicate, true};
 ghost use Rattle.bit_field.specs.Atom.{empty_atom};
 ghost use Rattle.window_sites.specs.Inner.{inner_atoms, inner_window};
 ghost use Rattle.window_sites.specs.Window.{WindowValue, IsWindow, atom_at, live_at, put_at, swap_at};
 
 use bit_field::Atom;
 use std::marker::Model;
+
+/// How many sites a window has.
+const SITES: u8 = 41;
 
 /// The atoms of the 41 sites of a window, and which of the sites are live. A site that is not
 /// live is empty, and the centre is live.
@@ -65,6 +68,26 @@ impl Window {
         ensures { result.now ≡ self.now.atoms }
     {
         &self.atoms
+    }
+
+    /// Reads each state.
+    fn read_states(&self)
+        requires { IsWindow self.now }
+        ensures { (n : ℕ) → (atom_at self.now n).state < 2 ^ 71 }
+    {
+        for n in 0..SITES {
+            let _state = self.get(n).state();
+        }
+    }
+
+    /// What holds of each window: it has 41 sites, a site that is not live is empty, the centre is
+    /// live, and each state is below 2^71. It changes nothing.
+    pub fn laws(&self)
+        ensures window { IsWindow self.now }
+        ensures states { (n : ℕ) → (atom_at self.now n).state < 2 ^ 71 }
+    {
+        let _atoms = &self.atoms;
+        self.read_states();
     }
 
     /// The atom of site `n`, from 0 to 40.

@@ -1,0 +1,163 @@
+-- What the calls of the machine do, beside the definition of the stack machine.
+use Rattle.std.specs.Prelude.{◌≡◌, ℕ, ◌+◌, ◌*◌, ◌≤◌, ◌<◌, true, ℤ, List, [], ◌∷◌, length, Option, Some, None, slice_get}
+use Rattle.bit_field.specs.Atom.{AtomValue}
+use Rattle.window_sites.specs.Window.{WindowValue}
+use Rattle.sat_math.specs.declared.Kind.TheVariants.{Bits}
+use Rattle.sat_math.specs.declared.NumType.{NumType}
+use Rattle.sat_math.specs.Numbers.{cast, IsNumType}
+use Rattle.sat_math.specs.Operations.{IsSigned}
+use Rattle.feast_base.specs.Counting.{Counted}
+use Rattle.event_machine.specs.Ticks.{Ticks}
+use Rattle.std.specs.Prelude.{int_div, int_rem, bit_and, bit_or, bit_xor}
+use Rattle.datum.specs.declared.Datum.{Datum}
+use Rattle.stack_code.specs.Sorts.{exact, divided, sum, difference, product, negated, on_bits, flip, left, right, tested, not_bool, num_type}
+use Rattle.stack_code.specs.Machine.{Held, Led, Goes, Fails, Ends, Lacks, State, CodeValue, FunctionValue, emptied, iter, count, start}
+use Rattle.stack_code.specs.Valid.{type_fits, args_fit, valid}
+use Rattle.event_machine.specs.declared.ending.Leads.{Leads}
+use Rattle.event_machine.specs.declared.ending.Leads.TheVariants.{On, Fail, Done, Want}
+use Rattle.event_machine.specs.declared.numbers.PairOp.{PairOp}
+use Rattle.event_machine.specs.declared.numbers.PairOp.TheVariants.{Add, Sub, Mul, Div, Rem, And, Or, Xor, Shl, Shr, Test}
+use Rattle.event_machine.specs.declared.numbers.SingleOp.{SingleOp}
+use Rattle.event_machine.specs.declared.numbers.SingleOp.TheVariants.{Neg, Flip, Fit, Not}
+use Rattle.stack_code.specs.declared.instr.Instr.{Instr}
+use Rattle.event_machine.specs.declared.ending.Ended.{Ended}
+use Rattle.event_machine.specs.declared.ending.Ended.TheVariants.{Done as DoneEnd, Failed}
+
+-- the code's answer and the new values are those of the definition
+abbrev pub Works : Led Held → Held → Leads → Type 0
+Works (Goes h) new On = h ≡ new
+Works (Goes h) new (Fail n) = ⊥
+Works (Goes h) new Done = ⊥
+Works (Goes h) new Want = ⊥
+Works (Fails m) new On = ⊥
+Works (Fails m) new (Fail n) = m ≡ n
+Works (Fails m) new Done = ⊥
+Works (Fails m) new Want = ⊥
+Works (Ends w) new l = ⊥
+Works Lacks new On = ⊥
+Works Lacks new (Fail n) = ⊥
+Works Lacks new Done = ⊥
+Works Lacks new Want = Unit {0}
+
+-- the same for a whole machine
+abbrev pub StepsTo : Led State → State → Leads → Type 0
+StepsTo (Goes s) new On = s ≡ new
+StepsTo (Goes s) new (Fail n) = ⊥
+StepsTo (Goes s) new Done = ⊥
+StepsTo (Goes s) new Want = ⊥
+StepsTo (Fails m) new On = ⊥
+StepsTo (Fails m) new (Fail n) = m ≡ n
+StepsTo (Fails m) new Done = ⊥
+StepsTo (Fails m) new Want = ⊥
+StepsTo (Ends w) new On = ⊥
+StepsTo (Ends w) new (Fail n) = ⊥
+StepsTo (Ends w) new Done = w ≡ new.held.window
+StepsTo (Ends w) new Want = ⊥
+StepsTo Lacks new On = ⊥
+StepsTo Lacks new (Fail n) = ⊥
+StepsTo Lacks new Done = ⊥
+StepsTo Lacks new Want = Unit {0}
+
+-- what goes on with operands that were found
+abbrev pub with_any : Option Datum → List Datum → (Datum → List Datum → Led Held) → Led Held
+with_any None s go = Lacks
+with_any (Some x) s go = go x s
+
+abbrev pub with_one : Option ℤ → List Datum → (ℤ → List Datum → Led Held) → Led Held
+with_one None s go = Lacks
+with_one (Some v) s go = go v s
+
+abbrev pub with_lead : Option ℤ → List Datum → (ℤ → List Datum → Led State) → Led State
+with_lead None s go = Lacks
+with_lead (Some v) s go = go v s
+
+abbrev pub with_two : Option (ℤ × ℤ) → List Datum → (ℤ → ℤ → List Datum → Led Held) → Led Held
+with_two None s go = Lacks
+with_two (Some p) s go = go p.0 p.1 s
+
+abbrev pub with_atom : Option AtomValue → List Datum → (AtomValue → List Datum → Led Held) → Led Held
+with_atom None s go = Lacks
+with_atom (Some a) s go = go a s
+
+-- what goes on with a site or an index, or fails
+abbrev pub with_place : ℕ → Option ℕ → (ℕ → Led Held) → Led Held
+with_place m None go = Fails m
+with_place m (Some n) go = go n
+
+-- the operators
+abbrev pub pair_of : PairOp → ℤ → ℤ → Option ℤ
+pair_of (Add how) = exact how sum
+pair_of (Sub how) = exact how difference
+pair_of (Mul how) = exact how product
+pair_of (Div how) = divided how int_div
+pair_of (Rem how) = divided how int_rem
+pair_of And = on_bits bit_and
+pair_of Or = on_bits bit_or
+pair_of Xor = on_bits bit_xor
+pair_of (Shl w) = left w
+pair_of Shr = right
+pair_of (Test op) = tested op
+
+abbrev pub PairFits : PairOp → Type 0
+PairFits (Shl w) = type_fits (num_type Bits w) ≡ true
+PairFits op = Unit {0}
+
+abbrev pub single_of : SingleOp → ℤ → ℤ
+single_of (Neg how) = negated how
+single_of (Flip w) = flip w
+single_of (Fit t) = cast t
+single_of Not = not_bool
+
+abbrev pub SingleFits : SingleOp → Type 0
+SingleFits (Neg how) = IsSigned how
+SingleFits (Flip w) = type_fits (num_type Bits w) ≡ true
+SingleFits (Fit t) = type_fits t ≡ true
+SingleFits op = Unit {0}
+
+-- a field of a type, or so many one after another, that lies in an atom
+pub record FieldFits (f : ℕ) (t : NumType) (n : ℕ) : Type 0 where
+  pub type : IsNumType t
+  pub some : 1 ≤ n
+  pub within : f + n * t.width ≤ 71
+
+-- what the code promises of the place at which a machine stands
+pub record Ready (c : CodeValue) (s : State) : Type 0 where
+  pub room : length s.held.stack ≤ 512
+  pub args : (i : Instr) → slice_get c.instrs s.place ≡ Some i → args_fit i ≡ true
+  pub functions : (f : ℕ) (g : FunctionValue) → slice_get c.functions f ≡ Some g → (g.params ≤ length g.slots) × (length g.slots ≤ 72)
+  pub place : s.place < 65536
+
+abbrev pub as_list : Option Datum → List Datum
+as_list None = []
+as_list (Some x) = x ∷ []
+
+-- the functions of a code have no more parameters than slots, and few slots
+abbrev pub FunctionsFit : CodeValue → Type 0
+FunctionsFit c = (f : ℕ) (g : FunctionValue) → slice_get c.functions f ≡ Some g → (g.params ≤ length g.slots) × (length g.slots ≤ 72)
+
+-- a run that began at this machine is over: how, and after which steps
+abbrev pub Ran : {L : Type 0} → (L → L → Type 0) → CodeValue → State → State → Ended → Counted L → Counted L → Type 0
+Ran noted c s new DoneEnd before after = (iter c (1001 * length c.instrs) s ≡ Ends new.held.window) × Ticks noted (count c (1001 * length c.instrs) s) before after
+Ran noted c s new (Failed k) before after = (iter c (1001 * length c.instrs) s ≡ Fails k) × Ticks noted (count c (1001 * length c.instrs) s) before after
+
+-- a machine at the start of valid code
+pub record Started (c : CodeValue) (s : State) : Type 0 where
+  pub valid : valid c ≡ true
+  pub window : WindowValue
+  pub seed : ℕ
+  pub start : s ≡ start c window seed
+
+-- the number of an ending: None, or a failure's number
+abbrev pub number_of : Ended → Option ℕ
+number_of DoneEnd = None
+number_of (Failed n) = Some n
+
+-- the window after an event that began with this one
+abbrev pub window_after : WindowValue → State → Ended → WindowValue
+window_after w s DoneEnd = s.held.window
+window_after w s (Failed k) = emptied w
+
+-- the end, or a failure's number
+abbrev pub IsEnding : Ended → Type 0
+IsEnding DoneEnd = Unit {0}
+IsEnding (Failed n) = (1 ≤ n) × (n ≤ 7)

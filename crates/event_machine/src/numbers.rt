@@ -1,0 +1,245 @@
+//! Operators on numbers, and what numbers stand for: sites, indices, bounds, fields of atoms.
+
+ghost use Rattle.std.specs.Prelude.{◌≡◌, ℕ, ℤ, pos, ◌<◌, ◌^◌, true, Option, IfSome, ◌≤◌, int_div, int_rem};
+ghost use Rattle.sat_math.specs.declared.Kind.TheVariants.{Bits};
+ghost use Rattle.sat_math.specs.Numbers.{modulo, IsNumber};
+ghost use Rattle.bit_field.specs.Words.{with_field};
+ghost use Rattle.bit_field.specs.Atom.{AtomValue};
+ghost use Rattle.stack_code.specs.Sorts.{is_zero, of_bool, low64, divided, left, right, flip, num_type};
+ghost use Rattle.stack_code.specs.Machine.{Led, Held, at_site, at_index, at_bound, get_field, kept};
+ghost use Rattle.stack_code.specs.Valid.{field_fits, type_fits};
+ghost use Rattle.event_machine.specs.Works.{pair_of, PairFits, single_of, SingleFits, FieldFits, with_place};
+
+use bit_field::Atom;
+use datum::Number;
+use sat_math::{Arith, CompareOp, NumType};
+
+/// An operator on two numbers.
+#[derive(Clone, Copy, PartialEq, Eq, Debug)]
+pub enum PairOp {
+    /// The sum.
+    Add(Arith),
+    /// The difference.
+    Sub(Arith),
+    /// The product.
+    Mul(Arith),
+    /// The quotient.
+    Div(Arith),
+    /// The remainder.
+    Rem(Arith),
+    /// The bits that both have.
+    And,
+    /// The bits that one has, or both.
+    Or,
+    /// The bits that one has and not both.
+    Xor,
+    /// The bits moved up, so many of them kept.
+    Shl(u8),
+    /// The bits moved down.
+    Shr,
+    /// 1 where the two stand so, else 0.
+    Test(CompareOp),
+}
+
+/// An operator on one number.
+#[derive(Clone, Copy, PartialEq, Eq, Debug)]
+pub enum SingleOp {
+    /// The number with its sign turned.
+    Neg(Arith),
+    /// So many low bits of the complement.
+    Flip(u8),
+    /// The number that it becomes in a type.
+    Fit(NumType),
+    /// 1 for 0, else 0.
+    Not,
+}
+
+/// The low 64 bits of a number.
+#[inline(always)]
+pub fn low64(v: i128) -> u64
+    ensures { result ≡ low64 v }
+{
+    v.rem_euclid(1i128 << 64) as u64
+}
+
+/// The number of a word.
+#[inline(always)]
+#[tactic(auto, using(crate::proofs::Fits::small_number))]
+pub fn of_word(n: u64) -> Number
+    ensures { result ≡ pos n }
+{
+    Number::new(i128::from(n))
+}
+
+/// 1 for true and 0 for false.
+#[inline(always)]
+pub fn of_bool(b: bool) -> Number
+    ensures { result ≡ of_bool b }
+{
+    if b { of_word(1) } else { of_word(0) }
+}
+
+/// The quotient, or `None` where the divisor is 0.
+#[inline(always)]
+#[tactic(auto, using(crate::proofs::Fits::saturated_number))]
+fn quotient(how: Arith, a: i128, b: i128) -> Option<Number>
+    requires left { IsNumber a }
+    requires right { IsNumber b }
+    ensures { result ≡ divided how int_div a b }
+{
+    match sat_math::div(how, a, b) {
+        Ok(v) => Some(Number::new(v)),
+        Err(_) => None,
+    }
+}
+
+/// The remainder, or `None` where the divisor is 0.
+#[inline(always)]
+#[tactic(auto, using(crate::proofs::Fits::saturated_number))]
+fn remainder(how: Arith, a: i128, b: i128) -> Option<Number>
+    requires left { IsNumber a }
+    requires right { IsNumber b }
+    ensures { result ≡ divided how int_rem a b }
+{
+    match sat_math::rem(how, a, b) {
+        Ok(v) => Some(Number::new(v)),
+        Err(_) => None,
+    }
+}
+
+/// The bits moved up by a count, `width` of them kept. A negative count gives 0.
+#[inline(always)]
+fn shifted_up(width: u8, a: i128, b: i128) -> Number
+    requires fits { type_fits (num_type Bits width) ≡ true }
+    requires count { IsNumber b }
+    ensures { Some result ≡ left width a b }
+{
+    if b < 0 {
+        of_word(0)
+    } else {
+        of_word(sat_math::shl(width, low64(a), b as u64))
+    }
+}
+
+/// The bits moved down by a count. A negative count gives 0.
+#[inline(always)]
+fn shifted_down(a: i128, b: i128) -> Number
+    requires { IsNumber b }
+    ensures { Some result ≡ right a b }
+{
+    if b < 0 {
+        of_word(0)
+    } else {
+        of_word(sat_math::shr(low64(a), b as u64))
+    }
+}
+
+/// What an operator makes of two numbers, or `None` for a division by 0.
+#[inline(always)]
+#[tactic(auto, using(crate::proofs::Fits::saturated_number))]
+pub fn apply(op: PairOp, a: Number, b: Number) -> Option<Number>
+    requires { PairFits op }
+    ensures { result ≡ pair_of op a b }
+{
+    let (x, y) = (a.value(), b.value());
+    match op {
+        PairOp::Add(how) => Some(Number::new(sat_math::add(how, x, y))),
+        PairOp::Sub(how) => Some(Number::new(sat_math::sub(how, x, y))),
+        PairOp::Mul(how) => Some(Number::new(sat_math::mul(how, x, y))),
+        PairOp::Div(how) => quotient(how, x, y),
+        PairOp::Rem(how) => remainder(how, x, y),
+        PairOp::And => Some(of_word(sat_math::and(low64(x), low64(y)))),
+        PairOp::Or => Some(of_word(sat_math::or(low64(x), low64(y)))),
+        PairOp::Xor => Some(of_word(sat_math::xor(low64(x), low64(y)))),
+        PairOp::Shl(width) => Some(shifted_up(width, x, y)),
+        PairOp::Shr => Some(shifted_down(x, y)),
+        PairOp::Test(op) => Some(of_bool(sat_math::compare(op, x, y))),
+    }
+}
+
+/// What an operator makes of one number.
+#[inline(always)]
+#[tactic(auto, using(crate::proofs::Fits::saturated_number, crate::proofs::Fits::in_range_number, crate::proofs::Fits::type_is))]
+pub fn turn(op: SingleOp, a: Number) -> Number
+    requires { SingleFits op }
+    ensures { result ≡ single_of op a }
+{
+    let x = a.value();
+    match op {
+        SingleOp::Neg(how) => Number::new(sat_math::neg(how, x)),
+        SingleOp::Flip(width) => flipped(width, x),
+        SingleOp::Fit(to) => Number::new(sat_math::cast(to, x)),
+        SingleOp::Not => of_bool(x == 0),
+    }
+}
+
+/// The low `width` bits of the complement.
+#[inline(always)]
+#[tactic(auto, using(crate::proofs::Fits::type_is))]
+fn flipped(width: u8, a: i128) -> Number
+    requires { type_fits (num_type Bits width) ≡ true }
+    ensures { result ≡ flip width a }
+{
+    of_word(sat_math::not(width, low64(a)))
+}
+
+/// The site that has the number, if there is one.
+#[inline(always)]
+pub fn site(v: Number) -> Option<u8>
+    ensures within { IfSome result (λ n. n ≤ 40) }
+    ensures place { (go : ℕ → Led Held) → at_site v go ≡ with_place 4 result go }
+{
+    let v = v.value();
+    if v < 0 || v > 40 { None } else { Some(v as u8) }
+}
+
+/// The index that a number is, if it is one of an array of this length.
+#[inline(always)]
+pub fn index(v: Number, n: u8) -> Option<u8>
+    ensures within { IfSome result (λ i. i < n) }
+    ensures place { (go : ℕ → Led Held) → at_index v n go ≡ with_place 7 result go }
+{
+    let v = v.value();
+    if v < 0 || v >= i128::from(n) {
+        None
+    } else {
+        Some(v as u8)
+    }
+}
+
+/// The bound that a number is of a random number, if it is above 0.
+#[inline(always)]
+pub fn bound(v: Number) -> Option<u64>
+    ensures some { IfSome result (λ n. 0 < n) }
+    ensures place { (go : ℕ → Led Held) → at_bound v go ≡ with_place 5 result go }
+{
+    let v = v.value();
+    if v < 1 { None } else { Some(v as u64) }
+}
+
+/// A field of an atom as a number of its type.
+#[inline(always)]
+#[tactic(auto, using(crate::proofs::Fits::field_is, crate::proofs::Fits::in_range_number))]
+pub fn read_field(atom: &Atom, first: u8, of: NumType) -> Number
+    requires { FieldFits first of 1 }
+    ensures { result ≡ get_field atom.now first of }
+{
+    let bits = atom.get(u32::from(first), u32::from(of.width));
+    Number::new(sat_math::load(of, bits))
+}
+
+/// The atom with a field set to what a number becomes in its type.
+#[inline(always)]
+#[tactic(auto, using(crate::proofs::Fits::field_is))]
+pub fn write_field(atom: Atom, first: u8, of: NumType, v: Number) -> Atom
+    requires { FieldFits first of 1 }
+    ensures { result ≡ with_field atom first of.width (kept of v) }
+{
+    let mut changed = atom;
+    changed.set(
+        u32::from(first),
+        u32::from(of.width),
+        sat_math::store(of, v.value()),
+    );
+    changed
+}

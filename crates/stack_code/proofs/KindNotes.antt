@@ -1,0 +1,133 @@
+-- The notes of places.
+use Rattle.std.proofs.Common.{◌≡◌, ℕ, zero, suc, ◌+◌, ◌-◌, ◌<◌, ◌≤◌, List, [], ◌∷◌, length, get_or, Option, Some, None, refl, sym, ap, ◌∙◌, arith, Bool, ◌⊎◌, inl, inr, ⊎_elim, drop, drop-cons, Ok}
+use Rattle.std.specs.Prelude.{slice_get, slice_set, map, is_none}
+use Rattle.stack_code.specs.Valid.{Kinds, Notes, note, Exits, arrive, at_kinds, at_exit, go_exit, note_exit, Around, exits_of, pass}
+use Rattle.stack_code.specs.declared.kind_lists.Node.{Node}
+use Rattle.stack_code.specs.KindLists.{list_at, Grows, noted, notes_of, NotesFit, maybe, exit_of, jump_of, PassLeaves}
+use Rattle.stack_code.specs.declared.instr.Instr.{Instr}
+use Rattle.std.proofs.Math.ListN.{drop_of_length-le}
+use Rattle.stack_code.specs.declared.exits.Exit.{Exit}
+
+get_at : {A : Type 0} (xs : List A) (i : ℕ) (d : A) → i < length xs → slice_get xs i ≡ Some (get_or xs i d)
+get_at [] i d lt = absurd (omega arith)
+get_at (y ∷ xs) zero d lt = refl
+get_at (y ∷ xs) (suc i) d lt = get_at xs i d (omega arith)
+
+get_past : {A : Type 0} (xs : List A) (i : ℕ) → length xs ≤ i → slice_get xs i ≡ None
+get_past [] i le = refl
+get_past (y ∷ xs) zero le = absurd (omega arith)
+get_past (y ∷ xs) (suc i) le = get_past xs i (omega arith)
+
+option_map : {A B : Type 0} → (A → B) → Option A → Option B
+option_map f None = None
+option_map f (Some x) = Some (f x)
+
+get_map : {A B : Type 0} (f : A → B) (xs : List A) (i : ℕ) (x : A) → slice_get xs i ≡ Some x → slice_get (map f xs) i ≡ Some (f x)
+get_map f [] i x e = cc
+get_map f (y ∷ xs) zero x e = let s : y ≡ x = cc in ap (λ z. Some (f z)) s
+get_map f (y ∷ xs) (suc i) x e = get_map f xs i x e
+
+get_map_none : {A B : Type 0} (f : A → B) (xs : List A) (i : ℕ) → slice_get xs i ≡ None → slice_get (map f xs) i ≡ None
+get_map_none f [] i e = refl
+get_map_none f (y ∷ xs) zero e = cc
+get_map_none f (y ∷ xs) (suc i) e = get_map_none f xs i e
+
+set_map : {A B : Type 0} (f : A → B) (xs : List A) (i : ℕ) (x : A) → map f (slice_set xs i x) ≡ slice_set (map f xs) i (f x)
+set_map f [] i x = refl
+set_map f (y ∷ xs) zero x = refl
+set_map f (y ∷ xs) (suc i) x = ap (λ l. f y ∷ l) (set_map f xs i x)
+
+-- what is noted at a place that there is
+noted_at : (lists : List Node) (notes : List ℕ) (p : ℕ) → p < length notes → slice_get (notes_of lists notes) p ≡ Some (noted lists (get_or notes p 0))
+noted_at lists notes p lt = get_map (noted lists) notes p (get_or notes p 0) (get_at notes p 0 lt)
+
+pub noted_past : (lists : List Node) (notes : List ℕ) (p : ℕ) → length notes ≤ p → slice_get (notes_of lists notes) p ≡ None
+noted_past lists notes p le = get_map_none (noted lists) notes p (get_past notes p le)
+
+pub noted_none : (lists : List Node) (notes : List ℕ) (p : ℕ) → p < length notes → get_or notes p 0 ≡ 0 → slice_get (notes_of lists notes) p ≡ Some None
+noted_none lists notes p lt h = noted_at lists notes p lt ∙ ap (λ e. Some (noted lists e)) h
+
+noted_some : (lists : List Node) (e : ℕ) → 0 < e → noted lists e ≡ Some (list_at lists (e - 1))
+noted_some lists zero h = absurd (omega arith)
+noted_some lists (suc e) h = let s : suc e - 1 ≡ e = omega arith in ap (λ k. Some (list_at lists k)) (sym s)
+
+pub noted_old : (lists : List Node) (notes : List ℕ) (p : ℕ) → p < length notes → 0 < get_or notes p 0 → slice_get (notes_of lists notes) p ≡ Some (Some (list_at lists (get_or notes p 0 - 1)))
+noted_old lists notes p lt h = noted_at lists notes p lt ∙ ap Some (noted_some lists (get_or notes p 0) h)
+
+pub noted_below : (lists : List Node) (notes : List ℕ) (p : ℕ) → NotesFit lists notes → p < length notes → 0 < get_or notes p 0 → get_or notes p 0 - 1 ≤ length lists
+noted_below lists notes p fit lt h = let a = fit p (get_or notes p 0) (get_at notes p 0 lt) in omega (arith, a, h)
+
+-- a note written
+pub notes_set : (lists : List Node) (notes : List ℕ) (p id : ℕ) → notes_of lists (slice_set notes p (id + 1)) ≡ slice_set (notes_of lists notes) p (Some (list_at lists id))
+notes_set lists notes p id =
+    let s : id + 1 ≡ suc id = omega arith in
+    set_map (noted lists) notes p (id + 1) ∙ ap (λ e. slice_set (notes_of lists notes) p (noted lists e)) s
+
+set_or_old : (xs : List ℕ) (p q x e : ℕ) → slice_get (slice_set xs p x) q ≡ Some e → (e ≡ x) ⊎ (slice_get xs q ≡ Some e)
+set_or_old [] p q x e h = inr h
+set_or_old (y ∷ xs) zero zero x e h = let s : x ≡ e = cc in inl (sym s)
+set_or_old (y ∷ xs) zero (suc q) x e h = inr h
+set_or_old (y ∷ xs) (suc p) zero x e h = inr h
+set_or_old (y ∷ xs) (suc p) (suc q) x e h = set_or_old xs p q x e h
+
+pub fits_set : (lists : List Node) (notes : List ℕ) (p id : ℕ) → NotesFit lists notes → id ≤ length lists → NotesFit lists (slice_set notes p (id + 1))
+fits_set lists notes p id fit le = λ q e h. ⊎_elim (λ s. omega (arith, s, le)) (λ s. fit q e s) (set_or_old notes p q (id + 1) e h)
+
+-- more lists change no notes
+pub notes_grow : (old new : List Node) (notes : List ℕ) → Grows old new → NotesFit old notes → notes_of new notes ≡ notes_of old notes
+notes_grow old new [] g fit = refl
+notes_grow old new (e ∷ notes) g fit =
+    let a = one old new e g (fit 0 e refl) in
+    let b = notes_grow old new notes g (λ p x h. fit (suc p) x h) in
+    cc
+  where
+    one : (old new : List Node) (e : ℕ) → Grows old new → e ≤ length old + 1 → noted new e ≡ noted old e
+    one old new zero g le = refl
+    one old new (suc e) g le = ap Some (g.by e (omega arith))
+
+pub fits_grow : (old new : List Node) (notes : List ℕ) → Grows old new → NotesFit old notes → NotesFit new notes
+fits_grow old new notes g fit = λ p e h. let a = fit p e h in let b = g.more in omega (arith, a, b)
+
+-- the notes after a place was reached, with more lists
+pub reached : (old new : List Node) (notes : List ℕ) (p id : ℕ) → Grows old new → NotesFit old notes → id ≤ length old → slice_set (notes_of old notes) p (Some (list_at old id)) ≡ notes_of new (slice_set notes p (id + 1))
+reached old new notes p id g fit le = sym (notes_set old notes p id) ∙ sym (notes_grow old new (slice_set notes p (id + 1)) g (fits_set old notes p id fit le))
+
+pub reached_fits : (old new : List Node) (notes : List ℕ) (p id : ℕ) → Grows old new → NotesFit old notes → id ≤ length old → NotesFit new (slice_set notes p (id + 1))
+reached_fits old new notes p id g fit le = fits_grow old new (slice_set notes p (id + 1)) g (fits_set old notes p id fit le)
+
+-- a place that is reached, and may not be left so
+pub place_none : (ex : ℕ → Kinds → Option Exits) (p : ℕ) (old : List Node) (notes : List ℕ) (here : Option Kinds) (id : ℕ) → Some (list_at old id) ≡ arrive here (notes_of old notes) p → ex p (list_at old id) ≡ None → (go : Option Kinds → Notes → Option Notes) → at_kinds ex p (notes_of old notes) (arrive here (notes_of old notes) p) go ≡ None
+place_none ex p old notes here id arrived leads go =
+    ap (λ k. at_kinds ex p (notes_of old notes) k go) (sym arrived) ∙ ap (λ x. at_exit x (slice_set (notes_of old notes) p (Some (list_at old id))) go) leads
+
+-- a place that is reached, and leads somewhere
+pub place_front : (ex : ℕ → Kinds → Option Exits) (p : ℕ) (old new : List Node) (notes notes1 : List ℕ) (here : Option Kinds) (id : ℕ) (e : Exit) → Some (list_at old id) ≡ arrive here (notes_of old notes) p → notes1 ≡ slice_set notes p (id + 1) → ex p (list_at old id) ≡ Some (exit_of new e) → Grows old new → NotesFit old notes → id ≤ length old → (go : Option Kinds → Notes → Option Notes) → at_kinds ex p (notes_of old notes) (arrive here (notes_of old notes) p) go ≡ go_exit (exit_of new e) (note_exit (notes_of new notes1) (jump_of new e.jumps)) go
+place_front ex p old new notes notes1 here id e arrived n1 leads g fit le go =
+    let a : at_kinds ex p (notes_of old notes) (arrive here (notes_of old notes) p) go ≡ at_exit (ex p (list_at old id)) (slice_set (notes_of old notes) p (Some (list_at old id))) go = ap (λ k. at_kinds ex p (notes_of old notes) k go) (sym arrived) in
+    let b : slice_set (notes_of old notes) p (Some (list_at old id)) ≡ notes_of new notes1 = reached old new notes p id g fit le ∙ ap (notes_of new) (sym n1) in
+    a ∙ ap (λ x. at_exit x (slice_set (notes_of old notes) p (Some (list_at old id))) go) leads ∙ ap (λ n. go_exit (exit_of new e) (note_exit n (jump_of new e.jumps)) go) b
+
+pub place_falls : (new : List Node) (notes1 : List ℕ) (e : Exit) → e.jumps ≡ None → (go : Option Kinds → Notes → Option Notes) → go_exit (exit_of new e) (note_exit (notes_of new notes1) (jump_of new e.jumps)) go ≡ go (maybe new e.falls) (notes_of new notes1)
+place_falls new notes1 e j go = ap (λ x. go_exit (exit_of new e) (note_exit (notes_of new notes1) (jump_of new x)) go) j
+
+pub place_jumps : (new : List Node) (notes1 : List ℕ) (e : Exit) (q ks : ℕ) (r : Option Notes) → e.jumps ≡ Some (q, ks) → note (notes_of new notes1) q (list_at new ks) ≡ r → (go : Option Kinds → Notes → Option Notes) → go_exit (exit_of new e) (note_exit (notes_of new notes1) (jump_of new e.jumps)) go ≡ go_exit (exit_of new e) r go
+place_jumps new notes1 e q ks r j n go = ap (λ x. go_exit (exit_of new e) (note_exit (notes_of new notes1) (jump_of new x)) go) j ∙ ap (λ r. go_exit (exit_of new e) r go) n
+
+-- the pass goes on behind a place
+pub pass_one : (a : Around) (is : List Instr) (k p : ℕ) (d : Instr) (here : Option Kinds) (notes : Notes) → k < length is → pass a (drop k is) p here notes ≡ at_kinds (exits_of a (get_or is k d)) p notes (arrive here notes p) (pass a (drop (k + 1) is) (p + 1))
+unfolding pass
+pass_one a is k p d here notes lt =
+    let e : drop k is ≡ get_or is k d ∷ drop (suc k) is = drop-cons is k d lt in
+    let s : k + 1 ≡ suc k = omega arith in
+    ap (λ l. pass a l p here notes) e ∙ ap (λ j. at_kinds (exits_of a (get_or is k d)) p notes (arrive here notes p) (pass a (drop j is) (p + 1))) (sym s)
+
+pub pass_end : (a : Around) (is : List Instr) (k p : ℕ) (lists : List Node) (here : Option ℕ) (notes : List ℕ) (r : Bool) → length is ≤ k → r ≡ is_none here → NotesFit lists notes → PassLeaves (pass a (drop k is) p (maybe lists here) (notes_of lists notes)) lists notes (Ok r)
+unfolding pass
+pass_end a is k p lists None notes r le e fit = rw (e, drop_of_length-le is le) (refl, fit)
+pass_end a is k p lists (Some id) notes r le e fit = rw (e, drop_of_length-le is le) refl
+
+pub grows_same : (ns : List Node) → Grows ns ns
+grows_same ns = record { more = omega arith; by = λ id le. refl }
+
+pub grows_on : (a b c : List Node) → Grows a b → Grows b c → Grows a c
+grows_on a b c x y = record { more = let p = x.more in let q = y.more in omega (arith, p, q); by = λ id le. let p = x.more in y.by id (omega (arith, p)) ∙ x.by id le }

@@ -1,0 +1,41 @@
+-- The verdict from its three tests.
+use Rattle.std.proofs.Common.{◌≡◌, ℕ, zero, suc, List, [], ◌∷◌, length, Option, Some, None, refl, sym, ap, ◌∙◌, arith, Bool, true, false, Result, Ok, Err}
+use Rattle.std.specs.Prelude.{if◌then◌else◌, is_some, slice_get, replicate, IfOk}
+use Rattle.stack_code.specs.Machine.{CodeValue}
+use Rattle.stack_code.specs.Valid.{Notes, valid, first_fits, length_fits, pass_all}
+use Rattle.stack_code.specs.declared.kind_lists.Node.{Node}
+use Rattle.stack_code.specs.KindLists.{notes_of, NotesFit, AllLeaves}
+use Rattle.feast_base.specs.declared.memory.NoMemory.{NoMemory}
+
+pub no_length : (c : CodeValue) → length_fits (length c.instrs) ≡ false → valid c ≡ false
+unfolding valid
+no_length c e = ap (λ (b : Bool). if b then (if first_fits c.functions then is_some (pass_all c c.functions 0 (replicate (length c.instrs) None)) else false) else false) e
+
+pub no_first : (c : CodeValue) → length_fits (length c.instrs) ≡ true → first_fits c.functions ≡ false → valid c ≡ false
+unfolding valid
+no_first c e f = ap (λ (b : Bool). if b then (if first_fits c.functions then is_some (pass_all c c.functions 0 (replicate (length c.instrs) None)) else false) else false) e ∙ ap (λ (b : Bool). if b then is_some (pass_all c c.functions 0 (replicate (length c.instrs) None)) else false) f
+
+blank_notes : (n : ℕ) → notes_of [] (replicate n 0) ≡ replicate n None
+blank_notes zero = refl
+blank_notes (suc n) = ap (λ l. None ∷ l) (blank_notes n)
+
+pub by_pass : (c : CodeValue) (notes : List ℕ) → length_fits (length c.instrs) ≡ true → first_fits c.functions ≡ true → notes ≡ replicate (length c.instrs) 0 → valid c ≡ is_some (pass_all c c.functions 0 (notes_of [] notes))
+unfolding valid
+by_pass c notes e f h = ap (λ (b : Bool). if b then (if first_fits c.functions then is_some (pass_all c c.functions 0 (replicate (length c.instrs) None)) else false) else false) e ∙ ap (λ (b : Bool). if b then is_some (pass_all c c.functions 0 (replicate (length c.instrs) None)) else false) f
+    ∙ ap (λ n. is_some (pass_all c c.functions 0 n)) (sym (ap (notes_of []) h ∙ blank_notes (length c.instrs)))
+
+zeros : (n p e : ℕ) → slice_get (replicate n 0) p ≡ Some e → e ≡ 0
+zeros zero p e h = cc
+zeros (suc n) zero e h = cc
+zeros (suc n) (suc p) e h = zeros n p e h
+
+pub blank_fits : (lists : List Node) (notes : List ℕ) (n : ℕ) → notes ≡ replicate n 0 → NotesFit lists notes
+blank_fits lists notes n h = λ p e k. let z = zeros n p e (ap (λ l. slice_get l p) (sym h) ∙ k) in omega (arith, z)
+
+pub verdict : (r : Result Bool NoMemory) (o : Option Notes) (v : Bool) → v ≡ is_some o → AllLeaves o r → IfOk r (λ b. b ≡ v)
+verdict (Ok b) o v e h = sym (e ∙ h)
+verdict (Err x) o v e h = tt
+
+-- the same with the lists and the notes of a pass that begins
+pub begun : (c : CodeValue) (lists : List Node) (notes : List ℕ) (r : Result Bool NoMemory) → length_fits (length c.instrs) ≡ true → first_fits c.functions ≡ true → lists ≡ [] → notes ≡ replicate (length c.instrs) 0 → AllLeaves (pass_all c c.functions 0 (notes_of lists notes)) r → IfOk r (λ b. b ≡ valid c)
+begun c lists notes r e f l n h = verdict r (pass_all c c.functions 0 (notes_of lists notes)) (valid c) (by_pass c notes e f n ∙ ap (λ z. is_some (pass_all c c.functions 0 (notes_of z notes))) (sym l)) h

@@ -1,0 +1,6 @@
+pub mod Sorts
+pub mod Machine
+pub mod Valid
+pub mod KindLists
+pub mod Text
+pub mod Laws

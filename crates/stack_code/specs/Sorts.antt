@@ -1,0 +1,188 @@
+-- The instructions as data: what each is, in 28 sorts.
+use Rattle.std.specs.Prelude.{ℕ, zero, suc, ◌/◌, ◌^◌, Bool, true, false, nat_eq, ℤ, pos, negsuc, ◌+ℤ◌, ◌-ℤ◌, ◌*ℤ◌, neg_ℤ, int_div, int_rem, bit_and, bit_or, bit_xor, Option, Some, None, if◌then◌else◌}
+use Rattle.bit_field.specs.Atom.{AtomValue}
+use Rattle.window_sites.specs.Window.{WindowValue, atom_at, live_at}
+use Rattle.sat_math.specs.declared.Kind.{Kind}
+use Rattle.sat_math.specs.declared.NumType.{NumType}
+use Rattle.sat_math.specs.declared.Arith.{Arith}
+use Rattle.sat_math.specs.declared.Arith.TheVariants.{Int32, Unsigned32, Int64, Unsigned64}
+use Rattle.sat_math.specs.declared.CompareOp.{CompareOp}
+use Rattle.sat_math.specs.declared.CompareOp.TheVariants.{Eq as EqOp, Ne as NeOp, Lt as LtOp, Le as LeOp, Gt as GtOp, Ge as GeOp}
+use Rattle.sat_math.specs.Numbers.{modulo, cast}
+use Rattle.sat_math.specs.Operations.{saturated, compared, complement, moved_up}
+use Rattle.datum.specs.declared.Datum.{Datum}
+use Rattle.datum.specs.declared.Datum.TheVariants.{Number as ANumber, Atom as AnAtom}
+use Rattle.stack_code.specs.declared.instr.Operand.{Operand}
+use Rattle.stack_code.specs.declared.instr.Operand.TheVariants.{Number, Atom}
+use Rattle.stack_code.specs.declared.instr.Instr.{Instr}
+use Rattle.stack_code.specs.declared.instr.Instr.TheVariants.{PushNum, PushAtom, LoadLocal, StoreLocal, Pop, LoadField, StoreField, LoadPart, StorePart, LoadSelf, LoadSite, StoreSite, Swap, IsLive, IsEmpty, RandCreate, RandOneIn, IsKind, AddI, SubI, MulI, DivI, RemI, AddU, SubU, MulU, DivU, RemU, NegI, And, Or, Xor, NotW, Shl, Shr, Fit, NotB, Eq, Ne, Lt, Le, Gt, Ge, Jump, JumpFalse, Turn, Call, Return, ReturnVoid, AddL, SubL, MulL, DivL, RemL, AddV, SubV, MulV, DivV, RemV, NegL, Dup, LoadFieldAt, StoreFieldAt, LoadPartAt, StorePartAt}
+
+-- the atom of a type with state 0
+abbrev pub atom_of : ℕ → AtomValue
+atom_of k = record { kind = k; state = 0 }
+
+abbrev pub kind_of : Datum → Operand
+kind_of (ANumber v) = Number
+kind_of (AnAtom a) = Atom
+
+abbrev pub num_type : Kind → ℕ → NumType
+num_type k w = record { kind = k; width = w }
+
+abbrev pub is_zero : ℤ → Bool
+is_zero (pos zero) = true
+is_zero (pos (suc n)) = false
+is_zero (negsuc n) = false
+
+abbrev pub of_bool : Bool → ℤ
+of_bool true = pos 1
+of_bool false = pos 0
+
+-- what an instruction is
+pub data Sort : Type 0 where
+  Give : (x : Datum) → Sort
+  One : (f : ℤ → ℤ) → Sort
+  Two : (f : ℤ → ℤ → Option ℤ) → Sort
+  Load : (s : ℕ) → Sort
+  Store : (s : ℕ) → Sort
+  Drop : Sort
+  Field : (f : ℕ) → (t : NumType) → Sort
+  SetField : (f : ℕ) → (t : NumType) → Sort
+  Part : (s f : ℕ) → (t : NumType) → Sort
+  SetPart : (s f : ℕ) → (t : NumType) → Sort
+  Own : Sort
+  Site : Sort
+  SetSite : Sort
+  Exchange : Sort
+  Ask : (f : WindowValue → ℕ → Bool) → Sort
+  Draw : (f : ℕ → ℤ) → Sort
+  Same : (k : ℕ) → Sort
+  Double : Sort
+  FieldAt : (f : ℕ) → (t : NumType) → (n : ℕ) → Sort
+  SetFieldAt : (f : ℕ) → (t : NumType) → (n : ℕ) → Sort
+  PartAt : (s f : ℕ) → (t : NumType) → (n : ℕ) → Sort
+  SetPartAt : (s f : ℕ) → (t : NumType) → (n : ℕ) → Sort
+  Goto : (p : ℕ) → Sort
+  GotoFalse : (p : ℕ) → Sort
+  Take : Sort
+  Enter : (f : ℕ) → Sort
+  GiveBack : Sort
+  Leave : Sort
+
+abbrev pub exact : Arith → (ℤ → ℤ → ℤ) → ℤ → ℤ → Option ℤ
+exact how f a b = Some (saturated how (f a b))
+
+-- an operator that fails at 0
+abbrev pub divided : Arith → (ℤ → ℤ → ℤ) → ℤ → ℤ → Option ℤ
+divided how f a b = if is_zero b then None else Some (saturated how (f a b))
+
+abbrev pub sum : ℤ → ℤ → ℤ
+sum a b = a +ℤ b
+
+abbrev pub difference : ℤ → ℤ → ℤ
+difference a b = a -ℤ b
+
+abbrev pub product : ℤ → ℤ → ℤ
+product a b = a *ℤ b
+
+abbrev pub negated : Arith → ℤ → ℤ
+negated how a = saturated how (neg_ℤ a)
+
+abbrev pub low64 : ℤ → ℕ
+low64 a = modulo a (2 ^ 64)
+
+abbrev pub on_bits : (ℕ → ℕ → ℕ) → ℤ → ℤ → Option ℤ
+on_bits f a b = Some (pos (f (low64 a) (low64 b)))
+
+abbrev pub flip : ℕ → ℤ → ℤ
+flip w a = pos (complement w (low64 a))
+
+-- a negative count gives 0
+abbrev pub left : ℕ → ℤ → ℤ → Option ℤ
+left w a (negsuc b) = Some (pos 0)
+left w a (pos b) = Some (pos (moved_up w (low64 a) b))
+
+abbrev pub right : ℤ → ℤ → Option ℤ
+right a (negsuc b) = Some (pos 0)
+right a (pos b) = Some (pos (low64 a / 2 ^ b))
+
+abbrev pub tested : CompareOp → ℤ → ℤ → Option ℤ
+tested op a b = Some (of_bool (compared op a b))
+
+abbrev pub not_bool : ℤ → ℤ
+not_bool v = of_bool (is_zero v)
+
+abbrev pub is_empty_at : WindowValue → ℕ → Bool
+is_empty_at w n = nat_eq (atom_at w n).kind 0
+
+abbrev pub as_drawn : ℕ → ℤ
+as_drawn r = pos r
+
+abbrev pub one_in : ℕ → ℤ
+one_in r = of_bool (nat_eq r 0)
+
+abbrev pub sort : Instr → Sort
+sort (PushNum v) = Give (ANumber v)
+sort (PushAtom k) = Give (AnAtom (atom_of k))
+sort (LoadLocal s) = Load s
+sort (StoreLocal s) = Store s
+sort Pop = Drop
+sort (LoadField f w k) = Field f (num_type k w)
+sort (StoreField f w k) = SetField f (num_type k w)
+sort (LoadPart s f w k) = Part s f (num_type k w)
+sort (StorePart s f w k) = SetPart s f (num_type k w)
+sort LoadSelf = Own
+sort LoadSite = Site
+sort StoreSite = SetSite
+sort Swap = Exchange
+sort IsLive = Ask live_at
+sort IsEmpty = Ask is_empty_at
+sort RandCreate = Draw as_drawn
+sort RandOneIn = Draw one_in
+sort (IsKind k) = Same k
+sort AddI = Two (exact Int32 sum)
+sort SubI = Two (exact Int32 difference)
+sort MulI = Two (exact Int32 product)
+sort DivI = Two (divided Int32 int_div)
+sort RemI = Two (divided Int32 int_rem)
+sort AddU = Two (exact Unsigned32 sum)
+sort SubU = Two (exact Unsigned32 difference)
+sort MulU = Two (exact Unsigned32 product)
+sort DivU = Two (divided Unsigned32 int_div)
+sort RemU = Two (divided Unsigned32 int_rem)
+sort NegI = One (negated Int32)
+sort And = Two (on_bits bit_and)
+sort Or = Two (on_bits bit_or)
+sort Xor = Two (on_bits bit_xor)
+sort (NotW w) = One (flip w)
+sort (Shl w) = Two (left w)
+sort Shr = Two right
+sort (Fit k w) = One (cast (num_type k w))
+sort NotB = One not_bool
+sort Eq = Two (tested EqOp)
+sort Ne = Two (tested NeOp)
+sort Lt = Two (tested LtOp)
+sort Le = Two (tested LeOp)
+sort Gt = Two (tested GtOp)
+sort Ge = Two (tested GeOp)
+sort (Jump p) = Goto p
+sort (JumpFalse p) = GotoFalse p
+sort Turn = Take
+sort (Call f) = Enter f
+sort Return = GiveBack
+sort ReturnVoid = Leave
+sort AddL = Two (exact Int64 sum)
+sort SubL = Two (exact Int64 difference)
+sort MulL = Two (exact Int64 product)
+sort DivL = Two (divided Int64 int_div)
+sort RemL = Two (divided Int64 int_rem)
+sort AddV = Two (exact Unsigned64 sum)
+sort SubV = Two (exact Unsigned64 difference)
+sort MulV = Two (exact Unsigned64 product)
+sort DivV = Two (divided Unsigned64 int_div)
+sort RemV = Two (divided Unsigned64 int_rem)
+sort NegL = One (negated Int64)
+sort Dup = Double
+sort (LoadFieldAt f w k n) = FieldAt f (num_type k w) n
+sort (StoreFieldAt f w k n) = SetFieldAt f (num_type k w) n
+sort (LoadPartAt s f w k n) = PartAt s f (num_type k w) n
+sort (StorePartAt s f w k n) = SetPartAt s f (num_type k w) n

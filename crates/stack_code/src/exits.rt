@@ -1,0 +1,280 @@
+//! Where the instructions of a function lead.
+
+ghost use Rattle.std.specs.Prelude.{◌≡◌, ◌≤◌, List, length, Option, Some};
+ghost use Rattle.stack_code.specs.Sorts.{sort};
+ghost use Rattle.stack_code.specs.Valid.{around, exits, exits_of, back_of, forward_fits, back_fits, jump_fits, is_turn, instr_before, answer_found, after_call, map_answer, falls_exit, Kinds};
+ghost use Rattle.stack_code.specs.KindLists.{list_at, Leaves, maybe, MaybeFits, ExitLeaves, takes};
+ghost use Rattle.stack_code.specs.declared.kind_lists.Node.{Node};
+
+use crate::code::{RawCode, RawFunction};
+use crate::effects::after;
+use crate::fits::args_fit;
+use crate::instr::{Answer, Instr, Operand};
+use crate::kind_lists::KindLists;
+use feast_base::NoMemory;
+
+/// The most operands at a place.
+const MOST_OPERANDS: u32 = 512;
+
+/// Where a place leads: the list that falls through, and a jump's place with the list there.
+#[derive(Clone, Copy, Debug, PartialEq, Eq)]
+pub struct Exit {
+    /// The list that falls through to the next place.
+    pub falls: Option<u32>,
+    /// The place of a jump, and the list that goes there.
+    pub jumps: Option<(u32, u32)>,
+}
+
+/// A function of a code, and the place where the next one begins.
+#[derive(Clone, Copy)]
+pub struct Around<'a> {
+    /// The code.
+    pub code: &'a RawCode,
+    /// The function.
+    pub function: &'a RawFunction,
+    /// The place after its last instruction.
+    pub end: usize,
+}
+
+/// The target of the jump back at a place, if there is one.
+#[tactic(auto, unfolding(crate::specs::Valid::back_of))]
+fn back_of(instrs: &[Instr], p: usize) -> Option<u32>
+    ensures { result ≡ back_of instrs.now p }
+{
+    match instrs.get(p) {
+        Some(Instr::Jump(q)) => { if (*q as usize) < p { Some(*q) } else { None } }
+        _ => None,
+    }
+}
+
+/// Whether a `Turn` stands before a place.
+#[tactic(auto, using(crate::proofs::Arguments::before_first, crate::proofs::Arguments::before_other))]
+fn after_turn(instrs: &[Instr], p: usize) -> bool
+    ensures { result ≡ is_turn (instr_before instrs.now p) }
+{
+    if p == 0 {
+        return false;
+    }
+    match instrs.get(p - 1) {
+        Some(Instr::Turn) => true,
+        _ => false,
+    }
+}
+
+impl Around<'_> {
+    /// Whether a jump forward is allowed: inside the function, and not to a jump back.
+    fn forward_fits(&self, p: usize, q: u32) -> bool
+        ensures { result ≡ forward_fits (around self.now.code.now self.now.function.now self.now.end) p q }
+    {
+        let q = q as usize;
+        if p < q {
+            if q < self.end {
+                return back_of(self.code.instrs(), q).is_none();
+            }
+        }
+        false
+    }
+
+    /// Whether a jump back is allowed: inside the function, straight after a `Turn`, and not to a
+    /// jump back.
+    fn back_fits(&self, p: usize, q: u32) -> bool
+        ensures { result ≡ back_fits (around self.now.code.now self.now.function.now self.now.end) p q }
+    {
+        let q = q as usize;
+        if q < p {
+            if self.function.first() as usize <= q {
+                if after_turn(self.code.instrs(), p) {
+                    return back_of(self.code.instrs(), q).is_none();
+                }
+            }
+        }
+        false
+    }
+
+    /// Whether a jump is allowed.
+    fn jump_fits(&self, p: usize, q: u32) -> bool
+        ensures { result ≡ jump_fits (around self.now.code.now self.now.function.now self.now.end) p q }
+    {
+        if p < q as usize {
+            self.forward_fits(p, q)
+        } else {
+            self.back_fits(p, q)
+        }
+    }
+
+    /// Where an instruction leads from a list, where its arguments and the list's depth are
+    /// allowed.
+    #[tactic(auto, using(crate::proofs::KindNotes::grows_same))]
+    fn lead(
+        &self,
+        lists: &mut KindLists,
+        i: Instr,
+        p: usize,
+        id: u32,
+    ) -> Result<Option<Exit>, NoMemory>
+        requires { id ≤ length lists.old }
+        ensures { ExitLeaves lists.old lists.new (exits (around self.now.code.now self.now.function.now self.now.end) p (sort i) (list_at lists.old id)) result }
+    {
+        match i {
+            Instr::Jump(q) => {
+                if self.jump_fits(p, q) {
+                    Ok(Some(Exit {
+                        falls: None,
+                        jumps: Some((q, id)),
+                    }))
+                } else {
+                    Ok(None)
+                }
+            }
+            Instr::JumpFalse(q) => match lists.pop(Operand::Number, id) {
+                None => Ok(None),
+                Some(below) => {
+                    if self.forward_fits(p, q) {
+                        Ok(Some(Exit {
+                            falls: Some(below),
+                            jumps: Some((q, below)),
+                        }))
+                    } else {
+                        Ok(None)
+                    }
+                }
+            },
+            Instr::Turn => Ok(Some(Exit {
+                falls: Some(id),
+                jumps: None,
+            })),
+            Instr::Return => {
+                if answers(lists, self.function.answer(), id) {
+                    Ok(Some(Exit {
+                        falls: None,
+                        jumps: None,
+                    }))
+                } else {
+                    Ok(None)
+                }
+            }
+            Instr::ReturnVoid => match self.function.answer() {
+                Answer::Nothing => Ok(Some(Exit {
+                    falls: None,
+                    jumps: None,
+                })),
+                Answer::Number | Answer::Atom => Ok(None),
+            },
+            Instr::Call(f) => match self.code.functions().get(f as usize) {
+                None => Ok(None),
+                Some(callee) => falls(call(lists, callee, id)),
+            },
+            other => match after(lists, self.function.slots(), other, id)? {
+                None => Ok(None),
+                Some(falls) => Ok(Some(Exit {
+                    falls: Some(falls),
+                    jumps: None,
+                })),
+            },
+        }
+    }
+
+    /// Where an instruction leads from a list. None where it may not stand there.
+    #[tactic(auto, using(crate::proofs::KindNotes::grows_same))]
+    pub fn exits(
+        &self,
+        lists: &mut KindLists,
+        i: Instr,
+        p: usize,
+        id: u32,
+    ) -> Result<Option<Exit>, NoMemory>
+        requires { id ≤ length lists.old }
+        ensures { ExitLeaves lists.old lists.new (exits_of (around self.now.code.now self.now.function.now self.now.end) i p (list_at lists.old id)) result }
+    {
+        if !args_fit(i) {
+            return Ok(None);
+        }
+        if lists.depth(id) > MOST_OPERANDS {
+            return Ok(None);
+        }
+        self.lead(lists, i, p, id)
+    }
+}
+
+/// Whether a list has on top what a function gives back.
+fn answers(lists: &KindLists, answer: Answer, id: u32) -> bool
+    requires { id ≤ length lists.now }
+    ensures { result ≡ answer_found answer (list_at lists.now id) }
+{
+    match lists.top(id) {
+        None => false,
+        Some((kind, _)) => match answer {
+            Answer::Nothing => false,
+            Answer::Number => match kind {
+                Operand::Number => true,
+                Operand::Atom => false,
+            },
+            Answer::Atom => match kind {
+                Operand::Number => false,
+                Operand::Atom => true,
+            },
+        },
+    }
+}
+
+/// The list below the arguments of a call, of which the last is on top.
+fn takes(lists: &KindLists, slots: &[Operand], params: u32, id: u32) -> Option<u32>
+    requires list { id ≤ length lists.now }
+    requires params { params ≤ length slots.now }
+    ensures list { maybe lists.now result ≡ takes params slots.now (list_at lists.now id) }
+    ensures fits { MaybeFits lists.now result }
+{
+    let mut id = id;
+    for k in (0..params).rev() {
+        match lists.pop(slots[k as usize], id) {
+            None => return None,
+            Some(below) => id = below,
+        }
+    }
+    Some(id)
+}
+
+/// What a call leaves of a list.
+fn call(lists: &mut KindLists, callee: &RawFunction, id: u32) -> Result<Option<u32>, NoMemory>
+    requires { id ≤ length lists.old }
+    ensures { Leaves lists.old lists.new (after_call (Some callee.now) (list_at lists.old id)) result }
+{
+    if callee.params() as usize > callee.slots().len() {
+        return Ok(None);
+    }
+    let below = takes(lists, callee.slots(), callee.params(), id);
+    answered(lists, callee.answer(), below)
+}
+
+/// A list, if there is one, with what a function gives back on top.
+#[tactic(auto, using(crate::proofs::KindNotes::grows_same))]
+fn answered(
+    lists: &mut KindLists,
+    answer: Answer,
+    below: Option<u32>,
+) -> Result<Option<u32>, NoMemory>
+    requires { MaybeFits lists.old below }
+    ensures { Leaves lists.old lists.new (map_answer answer (maybe lists.old below)) result }
+{
+    match below {
+        None => Ok(None),
+        Some(id) => match answer {
+            Answer::Nothing => Ok(Some(id)),
+            Answer::Number => lists.give(Some(id), Operand::Number),
+            Answer::Atom => lists.give(Some(id), Operand::Atom),
+        },
+    }
+}
+
+/// A list, if there is one, falls through.
+fn falls(list: Result<Option<u32>, NoMemory>) -> Result<Option<Exit>, NoMemory>
+    ensures { (old new : List Node) (o : Option Kinds) → Leaves old new o list → ExitLeaves old new (falls_exit o) result }
+{
+    match list? {
+        None => Ok(None),
+        Some(falls) => Ok(Some(Exit {
+            falls: Some(falls),
+            jumps: None,
+        })),
+    }
+}

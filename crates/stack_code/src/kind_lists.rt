@@ -1,0 +1,296 @@
+//! Lists of kinds of operands that share their lower parts, and what is noted at places.
+
+ghost use Rattle.std.specs.Prelude.{◌≡◌, ◌<◌, ◌≤◌, ◌+◌, [], ◌∷◌, length, IfOk, IfSome, MatchOption, reverse, slice_set, slice_get, vec_len, Some, None, if◌then◌else◌};
+ghost use Rattle.stack_code.specs.Valid.{same_kinds, same_kind, pop, and_pop, push, note, arrive};
+ghost use Rattle.stack_code.specs.KindLists.{list_at, IsTree, Grows, Leaves, noted, notes_of, NotesFit, maybe, MaybeFits, maybe_noted, NotedFits};
+
+use crate::instr::Operand;
+use feast_base::NoMemory;
+use std::alloc::Global;
+use std::marker::Model;
+
+/// The most lists that there may be, so that their numbers fit 32 bits.
+const MOST_LISTS: usize = 4_000_000_000;
+
+/// A list that is an earlier list with one kind on top.
+#[derive(Clone, Copy, Debug, PartialEq, Eq)]
+pub struct Node {
+    /// The number of the earlier list.
+    pub below: u32,
+    /// The kind on top.
+    pub top: Operand,
+    /// How many kinds the list has.
+    pub depth: u32,
+}
+
+/// Lists of kinds of operands, by number. List 0 is empty.
+#[derive(Drop)]
+pub struct KindLists {
+    nodes: Vec<Node>,
+}
+
+impl Model for KindLists {
+    ghost use Rattle.std.specs.Prelude.{List, reverse, ◌≤◌, vec_len};
+    ghost use Rattle.stack_code.specs.declared.kind_lists.Node.{Node};
+    ghost use Rattle.stack_code.specs.KindLists.{IsTree};
+
+    ghost Value = { List Node };
+
+    ghost view = { λ l. reverse l.nodes.items };
+
+    ghost invariant = { λ l. IsTree (reverse l.nodes.items) × (vec_len l.nodes ≤ 4000000000) };
+}
+
+impl KindLists {
+    /// The empty list alone.
+    pub fn new(alloc: Global) -> KindLists
+        ensures { result ≡ [] }
+    {
+        KindLists {
+            nodes: Vec::new(alloc),
+        }
+    }
+
+    /// How many lists there are beside the empty one.
+    pub fn len(&self) -> usize
+        ensures value { result ≡ length self.now }
+        ensures most { result ≤ 4000000000 }
+    {
+        self.nodes.len()
+    }
+
+    /// The node of a list that is not empty.
+    #[tactic(auto, using(crate::proofs::KindLists::node_is))]
+    fn node(&self, id: u32) -> Node
+        requires some { 1 ≤ id }
+        requires fits { id ≤ length self.now }
+        ensures list { list_at self.now id ≡ result.top ∷ list_at self.now result.below }
+        ensures below { result.below < id }
+        ensures depth { result.depth ≡ length (list_at self.now id) }
+    {
+        self.nodes[(id - 1) as usize]
+    }
+
+    /// How many kinds a list has.
+    #[tactic(auto, using(crate::proofs::KindLists::list_zero))]
+    pub fn depth(&self, id: u32) -> u32
+        requires { id ≤ length self.now }
+        ensures { result ≡ length (list_at self.now id) }
+    {
+        if id == 0 { 0 } else { self.node(id).depth }
+    }
+
+    /// The kind on top, and the list below it. None for the empty list.
+    #[tactic(auto, using(crate::proofs::KindLists::list_zero))]
+    pub fn top(&self, id: u32) -> Option<(Operand, u32)>
+        requires { id ≤ length self.now }
+        ensures list { MatchOption result (list_at self.now id ≡ []) (λ r. list_at self.now id ≡ r.0 ∷ list_at self.now r.1) }
+        ensures below { IfSome result (λ r. r.1 < id) }
+    {
+        if id == 0 {
+            return None;
+        }
+        let node = self.node(id);
+        Some((node.top, node.below))
+    }
+
+    /// The list with a kind on top. `NoMemory` where it can't be kept.
+    pub fn push(&mut self, id: u32, top: Operand) -> Result<u32, NoMemory>
+        requires { id ≤ length self.old }
+        ensures list { IfOk result (λ r. list_at self.new r ≡ top ∷ list_at self.old id) }
+        ensures fits { IfOk result (λ r. r ≤ length self.new) }
+        ensures grows { IfOk result (λ r. Grows self.old self.new) }
+    {
+        let depth = self.depth(id);
+        if self.nodes.len() >= MOST_LISTS || depth >= 4_000_000_000 {
+            return Err(NoMemory);
+        }
+        match self.nodes.push(Node {
+            below: id,
+            top,
+            depth: depth + 1,
+        }) {
+            Ok(()) => Ok(self.nodes.len() as u32),
+            Err(_) => Err(NoMemory),
+        }
+    }
+
+    /// Whether two lists are the same.
+    #[tactic(auto, using(crate::proofs::KindLists::same_self))]
+    pub fn same(&self, a: u32, b: u32) -> bool
+        requires left { a ≤ length self.now }
+        requires right { b ≤ length self.now }
+        ensures { result ≡ same_kinds (list_at self.now a) (list_at self.now b) }
+    {
+        let mut a = a;
+        let mut b = b;
+        while a != b {
+            match self.top(a) {
+                None => return self.top(b).is_none(),
+                Some((x, below)) => match self.top(b) {
+                    None => return false,
+                    Some((y, other)) => {
+                        if x != y {
+                            return false;
+                        }
+                        a = below;
+                        b = other;
+                    }
+                },
+            }
+        }
+        true
+    }
+
+    /// The list below, where this kind is on top.
+    pub fn pop(&self, top: Operand, id: u32) -> Option<u32>
+        requires { id ≤ length self.now }
+        ensures list { maybe self.now result ≡ pop top (list_at self.now id) }
+        ensures fits { MaybeFits self.now result }
+    {
+        match self.top(id) {
+            None => None,
+            Some((found, below)) => {
+                if same_kind(top, found) {
+                    Some(below)
+                } else {
+                    None
+                }
+            }
+        }
+    }
+
+    /// The list below two kinds, of which the first is on top.
+    pub fn pop_two(&self, top: Operand, next: Operand, id: u32) -> Option<u32>
+        requires { id ≤ length self.now }
+        ensures list { maybe self.now result ≡ and_pop next (pop top (list_at self.now id)) }
+        ensures fits { MaybeFits self.now result }
+    {
+        match self.pop(top, id) {
+            None => None,
+            Some(below) => self.pop(next, below),
+        }
+    }
+
+    /// A kind on top of a list, if there is one. `NoMemory` where it can't be kept.
+    #[tactic(auto, using(crate::proofs::KindNotes::grows_same))]
+    pub fn give(&mut self, id: Option<u32>, top: Operand) -> Result<Option<u32>, NoMemory>
+        requires { MaybeFits self.old id }
+        ensures { Leaves self.old self.new (push top (maybe self.old id)) result }
+    {
+        match id {
+            None => Ok(None),
+            Some(id) => match self.push(id, top) {
+                Ok(r) => Ok(Some(r)),
+                Err(e) => Err(e),
+            },
+        }
+    }
+
+    /// A number in place of the number on top of a list, or None where it isn't there. `NoMemory`
+    /// where the list can't be kept.
+    pub fn replace_one(&mut self, id: u32) -> Result<Option<u32>, NoMemory>
+        requires { id ≤ length self.old }
+        ensures { Leaves self.old self.new (push Operand.Number (pop Operand.Number (list_at self.old id))) result }
+    {
+        let below = self.pop(Operand::Number, id);
+        self.give(below, Operand::Number)
+    }
+
+    /// A number in place of the two numbers on top of a list, or None where they aren't there.
+    /// `NoMemory` where the list can't be kept.
+    pub fn replace_two(&mut self, id: u32) -> Result<Option<u32>, NoMemory>
+        requires { id ≤ length self.old }
+        ensures { Leaves self.old self.new (push Operand.Number (and_pop Operand.Number (pop Operand.Number (list_at self.old id)))) result }
+    {
+        let below = self.pop_two(Operand::Number, Operand::Number, id);
+        self.give(below, Operand::Number)
+    }
+
+    /// What is noted at a place, if there is such a place. A note is 0 for nothing, else one more
+    /// than the number of a list.
+    #[tactic(auto, using(crate::proofs::KindNotes::noted_past, crate::proofs::KindNotes::noted_none, crate::proofs::KindNotes::noted_old, crate::proofs::KindNotes::noted_below))]
+    fn noted(&self, notes: &[u32], p: usize) -> Option<Option<u32>>
+        requires { NotesFit self.now notes.now }
+        ensures noted { slice_get (notes_of self.now notes.now) p ≡ maybe_noted self.now result }
+        ensures fits { NotedFits self.now result }
+    {
+        if p >= notes.len() {
+            return None;
+        }
+        let e = notes[p];
+        if e == 0 {
+            Some(None)
+        } else {
+            Some(Some(e - 1))
+        }
+    }
+
+    /// The list of a place, from what falls through to it and what is noted there, if they agree.
+    #[tactic(auto, using(crate::proofs::KindLists::list_zero))]
+    pub fn arrive(&self, notes: &[u32], here: Option<u32>, p: usize) -> Option<u32>
+        requires notes { NotesFit self.now notes.now }
+        requires here { MaybeFits self.now here }
+        ensures list { maybe self.now result ≡ arrive (maybe self.now here) (notes_of self.now notes.now) p }
+        ensures fits { MaybeFits self.now result }
+    {
+        match self.noted(notes, p) {
+            None => None,
+            Some(None) => match here {
+                None => Some(0),
+                Some(id) => Some(id),
+            },
+            Some(Some(old)) => match here {
+                None => Some(old),
+                Some(id) => { if self.same(id, old) { Some(id) } else { None } }
+            },
+        }
+    }
+
+    /// Notes a list at a place. False where there is no such place, or another list is noted
+    /// there.
+    #[tactic(auto, using(crate::proofs::KindNotes::notes_set, crate::proofs::KindNotes::fits_set))]
+    pub fn note(&self, notes: &mut Vec<u32>, p: usize, id: u32) -> bool
+        requires notes { NotesFit self.now notes.old.items }
+        requires id { id ≤ length self.now }
+        requires small { id < 4294967295 }
+        ensures noted { note (notes_of self.now notes.old.items) p (list_at self.now id) ≡ (if result then Some (notes_of self.now notes.new.items) else None) }
+        ensures fits { NotesFit self.now notes.new.items }
+        ensures len { vec_len notes.new ≡ vec_len notes.old }
+    {
+        match self.noted(notes.as_slice(), p) {
+            None => false,
+            Some(None) => {
+                put_note(notes, p, id + 1);
+                true
+            }
+            Some(Some(old)) => self.same(old, id),
+        }
+    }
+}
+
+/// Whether two kinds are the same.
+fn same_kind(a: Operand, b: Operand) -> bool
+    ensures { result ≡ same_kind a b }
+{
+    match a {
+        Operand::Number => match b {
+            Operand::Number => true,
+            Operand::Atom => false,
+        },
+        Operand::Atom => match b {
+            Operand::Number => false,
+            Operand::Atom => true,
+        },
+    }
+}
+
+/// Sets a note, if there is such a place.
+pub fn put_note(notes: &mut Vec<u32>, p: usize, e: u32)
+    ensures items { notes.new.items ≡ slice_set notes.old.items p e }
+    ensures len { vec_len notes.new ≡ vec_len notes.old }
+{
+    if p < notes.len() {
+        notes[p] = e;
+    }
+}

@@ -1,0 +1,149 @@
+//! The pass over the places of a function, and over all functions.
+
+ghost use Rattle.std.specs.Prelude.{◌≡◌, ◌≤◌, ◌<◌, ◌+◌, ◌^◌, length, drop, Some, []};
+ghost use Rattle.stack_code.specs.Valid.{around, arrive, at_kinds, end_with, exits_of, function_fits, pass, pass_all, pass_function};
+ghost use Rattle.stack_code.specs.KindLists.{notes_of, NotesFit, maybe, MaybeFits, PlaceLeaves, PassLeaves, OneLeaves, AllLeaves};
+
+use crate::code::{RawCode, RawFunction};
+use crate::exits::Around;
+use crate::instr::Instr;
+use crate::kind_lists::{KindLists, put_note};
+use feast_base::NoMemory;
+
+/// The most slots of a function.
+const MOST_SLOTS: usize = 72;
+
+impl Around<'_> {
+    /// One place of the pass: what falls through to the next. None where the code is not valid.
+    fn place(
+        &self,
+        lists: &mut KindLists,
+        notes: &mut Vec<u32>,
+        i: Instr,
+        p: usize,
+        here: Option<u32>,
+    ) -> Result<Option<Option<u32>>, NoMemory>
+        requires notes { NotesFit lists.old notes.old.items }
+        requires here { MaybeFits lists.old here }
+        ensures { PlaceLeaves (at_kinds (exits_of (around self.now.code.now self.now.function.now self.now.end) i) p (notes_of lists.old notes.old.items) (arrive (maybe lists.old here) (notes_of lists.old notes.old.items) p)) lists.new notes.new.items result }
+    {
+        let _few = lists.len();
+        match lists.arrive(notes.as_slice(), here, p) {
+            None => Ok(None),
+            Some(id) => {
+                put_note(notes, p, id + 1);
+                match self.exits(lists, i, p, id)? {
+                    None => Ok(None),
+                    Some(exit) => match exit.jumps {
+                        None => Ok(Some(exit.falls)),
+                        Some((q, ks)) => {
+                            let _still = lists.len();
+                            if lists.note(notes, q as usize, ks) {
+                                Ok(Some(exit.falls))
+                            } else {
+                                Ok(None)
+                            }
+                        }
+                    },
+                }
+            }
+        }
+    }
+
+    /// The pass over the instructions of the function, of which the first stands at a place.
+    fn pass(
+        &self,
+        lists: &mut KindLists,
+        notes: &mut Vec<u32>,
+        instrs: &[Instr],
+        first: usize,
+    ) -> Result<bool, NoMemory>
+        requires notes { NotesFit lists.old notes.old.items }
+        requires small { first + length instrs.now < 2 ^ 64 }
+        ensures { PassLeaves (pass (around self.now.code.now self.now.function.now self.now.end) instrs.now first (Some []) (notes_of lists.old notes.old.items)) lists.new notes.new.items result }
+    {
+        let mut here = Some(0u32);
+        let mut p = first;
+        for i in instrs {
+            match self.place(lists, notes, *i, p, here)? {
+                None => return Ok(false),
+                Some(falls) => here = falls,
+            }
+            p += 1;
+        }
+        Ok(here.is_none())
+    }
+}
+
+/// Whether a function begins at p and is not empty, and its slots are allowed.
+fn function_fits(function: &RawFunction, p: usize, end: usize) -> bool
+    ensures { result ≡ function_fits function.now p end }
+{
+    if function.first() as usize == p {
+        if p < end {
+            if function.params() as usize <= function.slots().len() {
+                return function.slots().len() <= MOST_SLOTS;
+            }
+        }
+    }
+    false
+}
+
+/// The pass over a function that is to stand from p to the end.
+#[tactic(auto, using(crate::proofs::AllFunctions::one_false, crate::proofs::AllFunctions::one_true, crate::proofs::AllFunctions::one_short))]
+fn pass_function(
+    code: &RawCode,
+    function: &RawFunction,
+    lists: &mut KindLists,
+    notes: &mut Vec<u32>,
+    p: usize,
+    end: usize,
+) -> Result<bool, NoMemory>
+    requires notes { NotesFit lists.old notes.old.items }
+    ensures { OneLeaves (pass_function code.now function.now p end (notes_of lists.old notes.old.items)) (length code.now.instrs) end lists.new notes.new.items result }
+{
+    if !function_fits(function, p, end) {
+        return Ok(false);
+    }
+    if end > code.instrs().len() {
+        return Ok(false);
+    }
+    let around = Around {
+        code,
+        function,
+        end,
+    };
+    around.pass(lists, notes, &code.instrs()[p..end], p)
+}
+
+/// The place where function k begins, or the end of the code.
+pub fn end_of(code: &RawCode, k: usize) -> usize
+    ensures { result ≡ end_with (length code.now.instrs) (drop k code.now.functions) }
+{
+    match code.functions().get(k) {
+        Some(function) => function.first() as usize,
+        None => code.instrs().len(),
+    }
+}
+
+/// The pass over all functions.
+pub fn pass_all(
+    code: &RawCode,
+    lists: &mut KindLists,
+    notes: &mut Vec<u32>,
+) -> Result<bool, NoMemory>
+    requires { NotesFit lists.old notes.old.items }
+    ensures { AllLeaves (pass_all code.now code.now.functions 0 (notes_of lists.old notes.old.items)) result }
+{
+    let functions = code.functions();
+    let mut p = 0usize;
+    for k in 0..functions.len() {
+        let end = end_of(code, k + 1);
+        let function = &functions[k];
+        if !pass_function(code, function, lists, notes, p, end)? {
+            return Ok(false);
+        }
+        p = end;
+    }
+    Ok(p == code.instrs().len())
+}

@@ -1,0 +1,78 @@
+//! Whether code is valid.
+
+ghost use Rattle.std.specs.Prelude.{◌≡◌, length, replicate, IfOk, Some, None, if◌then◌else◌};
+ghost use Rattle.stack_code.specs.Valid.{valid, first_fits, length_fits};
+
+use crate::code::{Code, RawCode};
+use crate::instr::Answer;
+use crate::kind_lists::KindLists;
+use crate::pass::pass_all;
+use feast_base::NoMemory;
+use std::alloc::Global;
+
+/// The most instructions of a code.
+const MOST_INSTRS: usize = 65_536;
+
+/// Whether a code may have so many instructions.
+fn length_fits(n: usize) -> bool
+    ensures { result ≡ length_fits n }
+{
+    if n >= 1 { n <= MOST_INSTRS } else { false }
+}
+
+/// Whether there is a first function, without parameters, that gives nothing back.
+fn first_fits(raw: &RawCode) -> bool
+    ensures { result ≡ first_fits raw.now.functions }
+{
+    match raw.functions() {
+        [] => false,
+        [first, ..] => {
+            if first.params() == 0 {
+                match first.answer() {
+                    Answer::Nothing => true,
+                    Answer::Number | Answer::Atom => false,
+                }
+            } else {
+                false
+            }
+        }
+    }
+}
+
+/// No notes yet.
+fn blank(alloc: Global, len: usize) -> Result<Vec<u32>, NoMemory>
+    ensures { IfOk result (λ v. v.items ≡ replicate len 0) }
+{
+    match vec![in alloc; 0u32; len] {
+        Ok(notes) => Ok(notes),
+        Err(_) => Err(NoMemory),
+    }
+}
+
+/// Whether code is valid.
+#[tactic(auto, using(crate::proofs::Verdict::no_length, crate::proofs::Verdict::no_first, crate::proofs::Verdict::by_pass, crate::proofs::Verdict::blank_fits))]
+fn is_valid(alloc: Global, raw: &RawCode) -> Result<bool, NoMemory>
+    ensures { IfOk result (λ b. b ≡ valid raw.now) }
+{
+    if !length_fits(raw.instrs().len()) {
+        return Ok(false);
+    }
+    if !first_fits(raw) {
+        return Ok(false);
+    }
+    let mut lists = KindLists::new(alloc);
+    let mut notes = blank(alloc, raw.instrs().len())?;
+    pass_all(raw, &mut lists, &mut notes)
+}
+
+/// The same code where it is valid, else None. `NoMemory` where the pass over the code can't keep
+/// its notes: 4 bytes for each instruction, and 12 for each operand that one of them gives.
+pub fn verify(alloc: Global, raw: RawCode) -> Result<Option<Code>, NoMemory>
+    ensures { IfOk result (λ o. o ≡ (if valid raw then Some raw else None)) }
+{
+    if is_valid(alloc, &raw)? {
+        Ok(Some(Code::new(raw)))
+    } else {
+        Ok(None)
+    }
+}
