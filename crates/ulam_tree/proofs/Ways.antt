@@ -1,6 +1,7 @@
 -- A way through classes need not be longer than there are classes.
 use Rattle.std.proofs.Common.{◌≡◌, ℕ, zero, suc, ◌+◌, ◌<◌, ◌≤◌, ◌⊎◌, inl, inr, refl, sym, ap, ◌∙◌, List, [], ◌∷◌, length, Bool, true, false, ◌||◌, nat_eq, arith}
-use Rattle.std.proofs.lemmas.Bool.{cases_lt, false≢true}
+use Rattle.std.proofs.Math.Bool.{or-true}
+use Rattle.std.proofs.lemmas.Bool.{cases_lt, false≢true, eqb-true, eq-eqb}
 use Rattle.std.specs.List.{list_any}
 use Rattle.ulam_tree.specs.Ways.{leads}
 
@@ -9,18 +10,18 @@ one true = 1
 one false = 0
 
 -- how many below k pass a test
-count : ℕ → (ℕ → Bool) → ℕ
+pub count : ℕ → (ℕ → Bool) → ℕ
 count zero f = 0
 count (suc k) f = one (f k) + count k f
 
-abbrev Within : (ℕ → Bool) → (ℕ → Bool) → Type 0
+abbrev pub Within : (ℕ → Bool) → (ℕ → Bool) → Type 0
 Within f g = (k : ℕ) → f k ≡ true → g k ≡ true
 
 one_small : (b : Bool) → one b ≤ 1
 one_small true = omega arith
 one_small false = omega arith
 
-count_small : (k : ℕ) (f : ℕ → Bool) → count k f ≤ k
+pub count_small : (k : ℕ) (f : ℕ → Bool) → count k f ≤ k
 unfolding count
 count_small zero f = omega arith
 count_small (suc k) f = let a : one (f k) ≤ 1 = one_small (f k) in let b : count k f ≤ k = count_small k f in omega arith
@@ -47,7 +48,7 @@ same_by k f g j up down h e lt more (inr above) =
     let at : j ≡ k = omega arith in
     ap f at ∙ one_same (f k) (g k) h down (sym (ap g at) ∙ e)
 
-count_same : (k : ℕ) (f g : ℕ → Bool) → Within f g → count k g ≤ count k f → (j : ℕ) → j < k → g j ≡ true → f j ≡ true
+pub count_same : (k : ℕ) (f g : ℕ → Bool) → Within f g → count k g ≤ count k f → (j : ℕ) → j < k → g j ≡ true → f j ≡ true
 unfolding count
 count_same zero f g h le j lt e = absurd (omega arith)
 count_same (suc k) f g h le j lt e =
@@ -149,3 +150,53 @@ module _ (n : ℕ) (parts : ℕ → List ℕ) (few : (k : ℕ) (f : ℕ → Bool
       stays : (d : ℕ) → Within (λ k. leads parts (suc (on d m)) k goal) (λ k. leads parts (on d m) k goal)
       stays zero = unmoved
       stays (suc d) = step_within goal (suc (on d m)) (on d m) (stays d)
+
+-- where a class has another as a part, it leads there, and to all to which that leads
+any_here : (p : ℕ → Bool) (j : ℕ) (ks : List ℕ) → list_any (λ i. nat_eq i j) ks ≡ true → p j ≡ true → list_any p ks ≡ true
+any_here p j [] e h = e
+any_here p j (k ∷ ks) e h = go (nat_eq k j) refl e (any_here p j ks)
+  where
+    go : (b : Bool) → nat_eq k j ≡ b → (b || list_any (λ i. nat_eq i j) ks) ≡ true → (list_any (λ i. nat_eq i j) ks ≡ true → p j ≡ true → list_any p ks ≡ true) → (p k || list_any p ks) ≡ true
+    go true is e rest = let same : p k ≡ true = ap p (eqb-true k j is) ∙ h in rw same refl
+    go false is e rest = let more : list_any p ks ≡ true = rest e h in rw more (or-true (p k))
+
+module _ (n : ℕ) (parts : ℕ → List ℕ) (few : (k : ℕ) (f : ℕ → Bool) → list_any f (parts k) ≡ true → k < n) where
+  pub leads_part : (k j : ℕ) → list_any (λ i. nat_eq i j) (parts k) ≡ true → leads parts n k j ≡ true
+  unfolding leads
+  leads_part k j e = leads_all n parts few 1 k j (first k j e)
+    where
+      first : (k j : ℕ) → list_any (λ i. nat_eq i j) (parts k) ≡ true → leads parts 1 k j ≡ true
+      first k j e = any_here (λ i. nat_eq i j || false) j (parts k) e (rw (eq-eqb j j refl) refl)
+
+  pub leads_through : (k j goal : ℕ) → list_any (λ i. nat_eq i j) (parts k) ≡ true → leads parts n j goal ≡ true → leads parts n k goal ≡ true
+  unfolding leads
+  leads_through k j goal e h = leads_all n parts few (suc n) k goal (first k j goal e h)
+    where
+      first : (k j goal : ℕ) → list_any (λ i. nat_eq i j) (parts k) ≡ true → leads parts n j goal ≡ true → leads parts (suc n) k goal ≡ true
+      first k j goal e h = any_here (λ i. nat_eq i goal || leads parts n i goal) j (parts k) e (rw h (or-true (nat_eq j goal)))
+
+-- Where no class contains itself, a class leads to fewer than one of which it is a part.
+module _ (n : ℕ) (parts : ℕ → List ℕ) (few : (k : ℕ) (f : ℕ → Bool) → list_any f (parts k) ≡ true → k < n) (apart : (m k : ℕ) → leads parts m k k ≡ false) where
+  pub rank : ℕ → ℕ
+  rank k = count n (λ j. leads parts n k j)
+
+  pub rank_part : (k j : ℕ) → list_any (λ i. nat_eq i j) (parts k) ≡ true → j < n → rank j < rank k
+  unfolding rank
+  rank_part k j e lt = go (cases_lt (count n (λ i. leads parts n j i)) (count n (λ i. leads parts n k i)))
+    where
+      go : (count n (λ i. leads parts n j i) < count n (λ i. leads parts n k i)) ⊎ (count n (λ i. leads parts n k i) ≤ count n (λ i. leads parts n j i)) → count n (λ i. leads parts n j i) < count n (λ i. leads parts n k i)
+      go (inl less) = less
+      go (inr same) =
+          let round : leads parts n j j ≡ true = count_same n (λ i. leads parts n j i) (λ i. leads parts n k i) (λ i h. leads_through n parts few k j i e h) same j lt (leads_part n parts few k j e) in
+          absurd (false≢true (sym (apart n j) ∙ round))
+
+  pub rank_small : (k : ℕ) → k < n → rank k < n
+  unfolding rank
+  rank_small k lt = go (cases_lt (count n (λ i. leads parts n k i)) n)
+    where
+      go : (count n (λ i. leads parts n k i) < n) ⊎ (n ≤ count n (λ i. leads parts n k i)) → count n (λ i. leads parts n k i) < n
+      go (inl less) = less
+      go (inr all) =
+          let most : count n (λ i. true) ≤ n = count_small n (λ i. true) in
+          let round : leads parts n k k ≡ true = count_same n (λ i. leads parts n k i) (λ i. true) (λ i h. refl) (omega (arith, most, all)) k lt refl in
+          absurd (false≢true (sym (apart n k) ∙ round))

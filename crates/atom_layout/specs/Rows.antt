@@ -1,0 +1,29 @@
+-- Rows of numbers of bits, one for each class, as rounds over all classes make them.
+use Rattle.std.specs.Prelude.{ℕ, zero, suc, ◌≤◌, List, [], ◌∷◌, Vec, map, get_or, sum, min}
+use Rattle.std.specs.declared.alloc.Global.{Global}
+use Rattle.ulam_tree.specs.Resolved.{Class}
+use Rattle.atom_layout.specs.Layouts.{told, widths}
+
+-- the bits of a class by a row
+abbrev pub in_row : List ℕ → ℕ → ℕ
+in_row row k = get_or row k 0
+
+abbrev pub class_row : List ℕ → Class → ℕ
+class_row row c = told (sum (widths (in_row row) c.members))
+
+-- the row of a round: nothing at first, and then what the classes take by the row before
+unfoldable pub row_after : ℕ → List Class → List ℕ
+row_after zero cs = map (λ (c : Class). 0) cs
+row_after (suc m) cs = map (class_row (row_after m cs)) cs
+
+-- a number of bits, or the most that a class may take
+abbrev pub narrow : ℕ → ℕ
+narrow n = min n 71
+
+abbrev pub rows_of : List (Vec ℕ Global) → List (List ℕ)
+rows_of rows = map (λ (r : Vec ℕ Global). r.items) rows
+
+-- rows of no more than 71 bits
+abbrev pub AllNarrow : List (List ℕ) → Type 0
+AllNarrow [] = Unit {0}
+AllNarrow (r ∷ rs) = (sum r ≤ 71) × AllNarrow rs
