@@ -7,3 +7,8 @@ pub mod Operands
 pub mod Primaries
 pub mod OperandRule
 pub mod ExprRule
+pub mod CondRules
+pub mod SimpleRules
+pub mod PartRules
+pub mod StatementRule
+pub mod BodyRule

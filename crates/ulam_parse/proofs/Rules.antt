@@ -123,15 +123,9 @@ pub record Filled {B : Type 0} (Q : B → Span) : Type 0 where
   pub fill : List Tok → List Tok
   pub fits : (other : List Tok) → Q tree (fill other) other
 
-pub then_law : {A B : Type 0} (P : A → Span) (S G : A → List Tok → Type 0) (Q : A → B → Span) (T H : B → List Tok → Type 0) (us : List Tok) (r : Read A) (f : A × List Tok → Read B) →
-    ((c : A) (b : B) (vs end : List Tok) → Q c b vs end → T b end → S c vs) → ((c : A) → Filled (Q c)) → Tells P S G us r →
-    ((a : A) (mid : List Tok) → P a us mid → length mid ≤ length us → G a mid → Tells (Q a) T H mid (f (a, mid))) → Tells (Then P Q) T H us (r >>= f)
-then_law P S G Q T H us (Ok x) f follows filled h k =
-    let F : List Tok → Type 0 = λ v. P x.0 v x.1 in
-    let here : P x.0 us x.1 = subst F (sym h.is) (h.again x.1) in
-    let l : length x.1 ≤ length us = omega (arith, ap length h.is, length-append h.front x.1) in
-    then_found P S G Q T H us x.0 x.1 follows h (f x) (k x.0 x.1 here l h.gives)
-then_law P S G Q T H us (Err (stops n)) f follows filled h k =
+then_stopped : {A B : Type 0} (P : A → Span) (S : A → List Tok → Type 0) (Q : A → B → Span) (T : B → List Tok → Type 0) (us : List Tok) (n : ℕ) →
+    ((c : A) (b : B) (vs end : List Tok) → Q c b vs end → T b end → S c vs) → ((c : A) → Filled (Q c)) → Stopped P S us n → Stopped (Then P Q) T us n
+then_stopped P S Q T us n follows filled h =
     let c = filled h.tree in
     record {
       front = h.front;
@@ -144,7 +138,30 @@ then_law P S G Q T H us (Err (stops n)) f follows filled h k =
       goes = λ other. (h.tree, c.fill other, h.goes (c.fill other), c.fits other);
       none = λ other b end e q w. h.none other q.0 q.1 e q.2 (follows q.0 b q.1 end q.3 w);
     }
+
+pub then_law : {A B : Type 0} (P : A → Span) (S G : A → List Tok → Type 0) (Q : A → B → Span) (T H : B → List Tok → Type 0) (us : List Tok) (r : Read A) (f : A × List Tok → Read B) →
+    ((c : A) (b : B) (vs end : List Tok) → Q c b vs end → T b end → S c vs) → ((c : A) → Filled (Q c)) → Tells P S G us r →
+    ((a : A) (mid : List Tok) → P a us mid → length mid ≤ length us → G a mid → Tells (Q a) T H mid (f (a, mid))) → Tells (Then P Q) T H us (r >>= f)
+then_law P S G Q T H us (Ok x) f follows filled h k =
+    let F : List Tok → Type 0 = λ v. P x.0 v x.1 in
+    let here : P x.0 us x.1 = subst F (sym h.is) (h.again x.1) in
+    let l : length x.1 ≤ length us = omega (arith, ap length h.is, length-append h.front x.1) in
+    then_found P S G Q T H us x.0 x.1 follows h (f x) (k x.0 x.1 here l h.gives)
+then_law P S G Q T H us (Err (stops n)) f follows filled h k = then_stopped P S Q T us n follows filled h
 then_law P S G Q T H us (Err tired) f follows filled h k = h
+
+found_some : {A : Type 0} (P : A → Span) (S G : A → List Tok → Type 0) (us : List Tok) (a : A) (mid : List Tok) → (h : Found P S G us a mid) → (front : List Tok) → us ≡ front ++ mid → P a (front ++ []) [] → (P a [] [] → ⊥) → length mid < length us
+found_some P S G us a mid h [] e p n = absurd (n p)
+found_some P S G us a mid h (t ∷ front) e p n = omega (arith, ap length e, length-append (t ∷ front) mid)
+
+-- something first that takes a token at least: the rest is shorter
+pub further_law : {A B : Type 0} (P : A → Span) (S G : A → List Tok → Type 0) (Q : A → B → Span) (T H : B → List Tok → Type 0) (us : List Tok) (r : Read A) (f : A × List Tok → Read B) →
+    ((c : A) (b : B) (vs end : List Tok) → Q c b vs end → T b end → S c vs) → ((c : A) → Filled (Q c)) → Tells P S G us r → ((a : A) → P a [] [] → ⊥) →
+    ((a : A) (mid : List Tok) → length mid < length us → G a mid → Tells (Q a) T H mid (f (a, mid))) → Tells (Then P Q) T H us (r >>= f)
+further_law P S G Q T H us (Ok x) f follows filled h some k =
+    then_found P S G Q T H us x.0 x.1 follows h (f x) (k x.0 x.1 (found_some P S G us x.0 x.1 h h.front h.is (h.again []) (some x.0)) h.gives)
+further_law P S G Q T H us (Err (stops n)) f follows filled h some k = then_stopped P S Q T us n follows filled h
+further_law P S G Q T H us (Err tired) f follows filled h some k = h
 
 -- what is made of a thing
 abbrev pub Map : {A B : Type 0} → (A → B) → (A → Span) → B → Span
@@ -272,4 +289,17 @@ choice n k p q R to from to_other from_other = record {
   law = λ us h. tells_if R _ _ us (sees k us) (p.read us) (q.read us)
       (λ t. tells_as p.rel R _ _ _ _ us (p.read us) (p.law us h) to (λ b vs end e r w. from b vs end (sees_first k vs us e ∙ t) r w) (λ a rest g. g))
       (λ t. tells_as q.rel R _ _ _ _ us (q.read us) (q.law us h) to_other (λ b vs end e r w. from_other b vs end (sees_first k vs us e ∙ t) r w) (λ a rest g. g));
+}
+
+abbrev pub further : {A B : Type 0} {S G : A → List Tok → Type 0} {T H : B → List Tok → Type 0} (n : ℕ) (p : Rule (suc n) A S G) (q : A → Rule n B T H) →
+    ((c : A) (b : B) (vs end : List Tok) → (q c).rel b vs end → T b end → S c vs) → ((a : A) → p.rel a [] [] → ⊥) → Rule (suc n) B T H
+further {A = A} n p q follows some = record {
+  rel = Then p.rel (λ a. (q a).rel);
+  filled = record {
+    tree = (q p.filled.tree).filled.tree;
+    fill = λ other. p.filled.fill ((q p.filled.tree).filled.fill other);
+    fits = λ other. (p.filled.tree, (q p.filled.tree).filled.fill other, p.filled.fits ((q p.filled.tree).filled.fill other), (q p.filled.tree).filled.fits other);
+  };
+  read = λ us. p.read us >>= λ (x : A × List Tok). (q x.0).read x.1;
+  law = λ us h. further_law p.rel _ _ (λ a. (q a).rel) _ _ us (p.read us) (λ (x : A × List Tok). (q x.0).read x.1) follows (λ c. (q c).filled) (p.law us h) some (λ a mid l g. (q a).law mid (omega (arith, l, h)));
 }
