@@ -1,0 +1,14 @@
+pub mod Tells
+pub mod Rules
+pub mod TypeRules
+pub mod Chains
+pub mod Opened
+pub mod Operands
+pub mod Primaries
+pub mod OperandRule
+pub mod ExprRule
+pub mod CondRules
+pub mod SimpleRules
+pub mod PartRules
+pub mod StatementRule
+pub mod BodyRule

@@ -1,0 +1,4 @@
+//! The grammar of element files, and their trees.
+#![tactic(auto)]
+
+pub mod symbol;

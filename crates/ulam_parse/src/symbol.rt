@@ -1,0 +1,217 @@
+//! The symbols that the grammar's rules are written in, and what each may begin or join.
+
+use ulam_tree::{PairOp, PrefixOp};
+
+/// What a token is to the grammar: its kind, and for keywords and signs which one.
+#[derive(Clone, Copy, Debug, PartialEq, Eq)]
+pub enum Symbol {
+    /// A name.
+    Name,
+    /// The name of a type.
+    TypeName,
+    /// A number.
+    Number,
+    /// The end of the file.
+    End,
+    /// `element`
+    Element,
+    /// `quark`
+    Quark,
+    /// `ulam`
+    Ulam,
+    /// `use`
+    Use,
+    /// `typedef`
+    Typedef,
+    /// `constant`
+    Constant,
+    /// `if`
+    If,
+    /// `else`
+    Else,
+    /// `while`
+    While,
+    /// `for`
+    For,
+    /// `return`
+    Return,
+    /// `break`
+    Break,
+    /// `continue`
+    Continue,
+    /// `is`
+    Is,
+    /// `as`
+    As,
+    /// `self`
+    Own,
+    /// `true`
+    True,
+    /// `false`
+    False,
+    /// `instanceof`
+    Instanceof,
+    /// `{`
+    OpenBrace,
+    /// `}`
+    CloseBrace,
+    /// `(`
+    OpenParen,
+    /// `)`
+    CloseParen,
+    /// `[`
+    OpenBracket,
+    /// `]`
+    CloseBracket,
+    /// `;`
+    Semi,
+    /// `:`, which no rule uses
+    Colon,
+    /// `,`
+    Comma,
+    /// `.`
+    Dot,
+    /// `=`
+    Set,
+    /// `==`
+    Eq,
+    /// `!=`
+    Ne,
+    /// `<`
+    Lt,
+    /// `<=`
+    Le,
+    /// `>`
+    Gt,
+    /// `>=`
+    Ge,
+    /// `+`
+    Plus,
+    /// `-`
+    Minus,
+    /// `*`
+    Star,
+    /// `/`
+    Slash,
+    /// `%`
+    Percent,
+    /// `&`
+    Amp,
+    /// `|`
+    Bar,
+    /// `^`
+    Caret,
+    /// `~`
+    Tilde,
+    /// `!`
+    Bang,
+    /// `&&`
+    AmpAmp,
+    /// `||`
+    BarBar,
+    /// `<<`
+    ShiftLeft,
+    /// `>>`
+    ShiftRight,
+    /// `++`
+    PlusPlus,
+    /// `--`
+    MinusMinus,
+    /// `+=`
+    SetPlus,
+    /// `-=`
+    SetMinus,
+    /// `*=`
+    SetStar,
+    /// `/=`
+    SetSlash,
+    /// `%=`
+    SetPercent,
+    /// `&=`
+    SetAmp,
+    /// `|=`
+    SetBar,
+    /// `^=`
+    SetCaret,
+    /// `<<=`
+    SetShiftLeft,
+    /// `>>=`
+    SetShiftRight,
+}
+
+/// What a symbol does with an expression that stands before it.
+#[derive(Clone, Copy, Debug, PartialEq, Eq)]
+pub enum Infix {
+    /// It joins it with another.
+    Joins(PairOp),
+    /// It asks for its class.
+    Tests,
+    /// It goes on with a path.
+    Opens,
+    /// It ends it.
+    Ends,
+}
+
+/// What a symbol begins where an operand is wanted.
+#[derive(Clone, Copy, Debug, PartialEq, Eq)]
+pub enum Opening {
+    /// An operator and its operand.
+    Signs(PrefixOp),
+    /// A cast, or an expression in brackets.
+    Parens,
+    /// A number.
+    Counts,
+    /// `true` or `false`.
+    Says(bool),
+    /// A new atom of a class.
+    Classes,
+    /// A path.
+    Names,
+    /// A path from `self`.
+    Owns,
+    /// None.
+    Nothing,
+}
+
+/// What a symbol does with a place on its left.
+#[derive(Clone, Copy, Debug, PartialEq, Eq)]
+pub enum Assigning {
+    /// It assigns to it, by an operator or without.
+    Assigns(Option<PairOp>),
+    /// It counts it up or down. It may also stand on the other side.
+    Counts(bool),
+    /// Neither.
+    Nothing,
+}
+
+/// What a symbol begins where a statement is wanted.
+#[derive(Clone, Copy, Debug, PartialEq, Eq)]
+pub enum Starting {
+    Block,
+    Empty,
+    If,
+    While,
+    For,
+    Return,
+    Break,
+    Continue,
+    Declare,
+    /// An assignment, a count or a call.
+    Simple,
+    Nothing,
+}
+
+/// What a symbol does to the count of nesting.
+#[derive(Clone, Copy, Debug, PartialEq, Eq)]
+pub enum Weight {
+    /// It adds 1.
+    Adds,
+    /// It sets the innermost count to 0.
+    Clears,
+    /// It opens a bracket.
+    Opens,
+    /// It closes one.
+    Closes,
+    /// Nothing.
+    Nothing,
+}
