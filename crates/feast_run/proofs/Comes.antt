@@ -1,7 +1,7 @@
 -- From what the stages say to what a call comes to say.
-use Rattle.std.proofs.Common.{ℕ, ◌≡◌, List, [], ◌∷◌, codes, Option, Result, Ok, Err, refl, sym, subst, inl, inr}
+use Rattle.std.proofs.Common.{ℕ, ◌≡◌, List, [], ◌∷◌, codes, Result, Ok, Err, refl, sym, subst, inl, inr}
 use Rattle.std.specs.Result.{MatchResult, IsErrAnd}
-use Rattle.feast_base.specs.Outside.{File}
+use Rattle.feast_base.specs.Outside.{Stock}
 use Rattle.feast_run.specs.Answer.{Comes, HasWorld, Unread, setting, element_limit}
 use Rattle.feast_run.specs.Stops.{Stops, StopsWorld, StopsElement}
 use Rattle.feast_run.specs.World.{WorldValue}
@@ -22,33 +22,37 @@ answers_stop (Ok x) stop A P Q kept kept' e f k h = absurd e
 answers_stop (Err y) stop A P Q kept kept' e f k h = subst (λ (v : Stop). Stops Q kept' v) (sym e) (stops_then P Q kept kept' stop f k h)
 
 -- a stop of the world's stage
-pub world_comes : (may_fail : List ℕ → Type 0) (files : Option (List File)) (failed failed' : List (List ℕ)) (world element : List ℕ) (status : Status) (text : List ℕ) →
-    StopsWorld may_fail files failed failed' world status text → Comes may_fail (setting files failed failed' (codes "run" ∷ world ∷ element ∷ [])) status text
-world_comes may_fail files failed failed' world element status text h =
-    let s = setting files failed failed' (codes "run" ∷ world ∷ element ∷ []) in
+pub world_comes : (before after : Stock) (world element : List ℕ) (status : Status) (text : List ℕ) →
+    StopsWorld before after world status text → Comes (setting before after (codes "run" ∷ world ∷ element ∷ [])) status text
+world_comes before after world element status text h =
+    let s = setting before after (codes "run" ∷ world ∷ element ∷ []) in
     elim h [
-      | inl load ↦ subst (λ (v : Status). Comes may_fail s v text) (sym load.status_is) (inl (record { world = world; element = element; form = refl; unread = load.unread }))
-      | inr bad ↦ subst (λ (v : Status). Comes may_fail s v text) (sym bad.status_is) (inl (record { world = world; element = element; form = refl; bad = bad.bad; kept = bad.kept; line = bad.line }))
+      | inl load ↦ subst (λ (v : Status). Comes s v text) (sym load.status_is) (inl (record { world = world; element = element; form = refl; unread = load.unread }))
+      | inr bad ↦ subst (λ (v : Status). Comes s v text) (sym bad.status_is) (inl (record { world = world; element = element; form = refl; bad = bad.bad; kept = bad.kept; line = bad.line }))
     ]
 
--- a load with less that may fail
-unread_then : (may may' : List ℕ → Type 0) (files : Option (List File)) (failed failed' : List (List ℕ)) (word : List ℕ) (limit : ℕ) (text : List ℕ) → ((n : List ℕ) → may' n → may n) →
-    Unread may' files failed failed' word limit text → Unread may files failed failed' word limit text
-unread_then may may' files failed failed' word limit text later h =
+-- the same shelf, on which less may fail
+abbrev pub with_less : Stock → (List ℕ → Type 0) → Stock
+with_less before may = record before { may_fail = may }
+
+-- a load where less may fail
+unread_then : (before after : Stock) (may : List ℕ → Type 0) (word : List ℕ) (limit : ℕ) (text : List ℕ) → ((n : List ℕ) → may n → before.may_fail n) →
+    Unread (with_less before may) after word limit text → Unread before after word limit text
+unread_then before after may word limit text later h =
     elim h [
       | inl missing ↦ inl (record { noted = missing.noted; cause = later word missing.cause; line = missing.line })
-      | inr long ↦ inr long
+      | inr long ↦ inr (record { kept = long.kept; longer = long.longer; line = long.line })
     ]
 
 -- a stop of the element's stage, after a world was read
-pub element_comes : (may may' : List ℕ → Type 0) (files : Option (List File)) (failed failed' : List (List ℕ)) (world element : List ℕ) (w : WorldValue) (status : Status) (text : List ℕ) →
-    HasWorld files world w → ((n : List ℕ) → may' n → may n) →
-    StopsElement may' files failed failed' element status text → Comes may (setting files failed failed' (codes "run" ∷ world ∷ element ∷ [])) status text
-element_comes may may' files failed failed' world element w status text has later h =
-    let s = setting files failed failed' (codes "run" ∷ world ∷ element ∷ []) in
+pub element_comes : (before after : Stock) (may : List ℕ → Type 0) (world element : List ℕ) (w : WorldValue) (status : Status) (text : List ℕ) →
+    HasWorld before.files world w → ((n : List ℕ) → may n → before.may_fail n) →
+    StopsElement (with_less before may) after element status text → Comes (setting before after (codes "run" ∷ world ∷ element ∷ [])) status text
+element_comes before after may world element w status text has later h =
+    let s = setting before after (codes "run" ∷ world ∷ element ∷ []) in
     elim h [
       | inl load ↦
-          subst (λ (v : Status). Comes may s v text) (sym load.status_is)
-          (inr (record { world = world; element = element; form = refl; w = w; has_world = has; unread = unread_then may may' files failed failed' element element_limit text later load.unread }))
-      | inr bad ↦ subst (λ (v : Status). Comes may s v text) (sym bad.status_is) (record { world = world; element = element; form = refl; w = w; has_world = has; bad = bad.bad; kept = bad.kept; line = bad.line })
+          subst (λ (v : Status). Comes s v text) (sym load.status_is)
+          (inr (record { world = world; element = element; form = refl; w = w; has_world = has; unread = unread_then before after may element element_limit text later load.unread }))
+      | inr bad ↦ subst (λ (v : Status). Comes s v text) (sym bad.status_is) (record { world = world; element = element; form = refl; w = w; has_world = has; bad = bad.bad; kept = bad.kept; line = bad.line })
     ]

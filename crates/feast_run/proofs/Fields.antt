@@ -10,7 +10,8 @@ use Rattle.std.proofs.Math.Nat.{pow-le-pow_right}
 use Rattle.feast_base.specs.Digits.{glyph, hex}
 use Rattle.feast_base.proofs.Digits.{hex_small}
 use Rattle.feast_run.specs.Reading.{Lacks, NoText, number_end, name_end, IsIn, IsName}
-use Rattle.feast_run.specs.World.{is_upper, is_word_byte}
+use Rattle.std.specs.Char.{is_ascii_uppercase}
+use Rattle.feast_base.specs.TypeNames.{is_word_byte, longest_name}
 
 -- a kind of text of which one alone stands at the front of some bytes
 abbrev pub IsOne : {X : Type 0} → (X → List ℕ) → (X → Type 0) → Type 0
@@ -52,7 +53,7 @@ hex-lacks (suc k) n end low =
 word_byte-high : (b : ℕ) → is_word_byte b ≡ true → 48 ≤ b
 word_byte-high b h = grind arith
 
-upper-word : (b : ℕ) → is_upper b ≡ true → 48 ≤ b
+upper-word : (b : ℕ) → is_ascii_uppercase b ≡ true → 48 ≤ b
 upper-word b h = grind arith
 
 and_both : (a b : Bool) → (a && b) ≡ true → (a ≡ true) × (b ≡ true)
@@ -69,8 +70,8 @@ words-lack (b ∷ bs) end low h =
 pub name-lacks : (name : List ℕ) (end : ℕ) → end < 48 → IsName name → Lacks name end
 name-lacks [] end low h = cc
 name-lacks (b ∷ bs) end low h =
-    let p = and_both (is_upper b && list_all is_word_byte bs) (nat_le (length bs) 254) h in
-    let q = and_both (is_upper b) (list_all is_word_byte bs) p.0 in
+    let p = and_both (is_ascii_uppercase b && list_all is_word_byte bs) (nat_le (length bs + 1) longest_name) h in
+    let q = and_both (is_ascii_uppercase b) (list_all is_word_byte bs) p.0 in
     All-cons (λ v. v ≢ end) b bs (λ e. absurd (omega (arith, upper-word b q.0))) (words-lack bs end low q.1)
 
 -- one number alone stands before an end

@@ -1,10 +1,10 @@
 -- From how a call ends to what it promises.
-use Rattle.std.proofs.Common.{ℕ, ◌≡◌, ◌∙◌, ◌<◌, List, ◌∷◌, ◌++◌, length, Option, Some, None, refl, inl, inr, ap, arith, length-append}
-use Rattle.feast_base.specs.Outside.{File}
+use Rattle.std.proofs.Common.{ℕ, ◌≡◌, ◌∙◌, ◌<◌, List, ◌∷◌, ◌++◌, length, Option, Some, refl, inl, inr, ap, subst, sym, arith, length-append}
+use Rattle.feast_base.specs.Outside.{File, Grows, Told}
 use Rattle.feast_base.specs.Refusals.{refusal_line, unreadable_line, longer_line, usage_line}
-use Rattle.feast_run.proofs.Once.{comes_one}
-use Rattle.feast_run.specs.Answer.{Comes, Ends, Setting, setting, not_built_line}
-use Rattle.feast_run.specs.Promises.{Complete, Exactly, Headline, UsageExactly}
+use Rattle.feast_run.proofs.Once.{comes_one, telling}
+use Rattle.feast_run.specs.Answer.{Comes, Ends, HasElement, HasWorld, Ran, Setting, setting, not_built_line}
+use Rattle.feast_run.specs.Promises.{Complete, Exactly, Headline, RanTold, UsageExactly}
 use Rattle.feast_run.specs.Run.{run_report}
 use Rattle.feast_run.specs.declared.status.Status.{Status}
 use Rattle.feast_run.specs.declared.status.Status.TheVariants.{Done, Usage, Unreadable, ElementRefused, WorldRefused, JournalRefused, SinkFault, NoMemory}
@@ -21,81 +21,97 @@ unfolding refusal_line
 not_built_some word = simp length-append (omega arith)
 
 -- a text that a call comes to is not empty
-pub comes_some : (may : List ℕ → Type 0) (s : Setting) (status : Status) (text : List ℕ) → Comes may s status text → 0 < length text
-comes_some may s Done text h = same_some text (run_report h.w h.e) h.shown (omega arith)
-comes_some may s Usage text h = same_some text usage_line h.line (omega arith)
-comes_some may s Unreadable text (inl h) = elim h.unread [ inl m ↦ same_some text (unreadable_line h.world) m.line (one_in h.world 58 _) | inr l ↦ same_some text (longer_line h.world _) l.line (one_in h.world 58 _) ]
-comes_some may s Unreadable text (inr h) = elim h.unread [ inl m ↦ same_some text (unreadable_line h.element) m.line (one_in h.element 58 _) | inr l ↦ same_some text (longer_line h.element _) l.line (one_in h.element 58 _) ]
-comes_some may s ElementRefused text h = same_some text (not_built_line h.element) h.line (not_built_some h.element)
-comes_some may s WorldRefused text (inl h) = same_some text (not_built_line h.world) h.line (not_built_some h.world)
-comes_some may s WorldRefused text (inr h) = same_some text (not_built_line h.world) h.line (not_built_some h.world)
-comes_some may s JournalRefused text h = absurd h
-comes_some may s SinkFault text h = absurd h
-comes_some may s NoMemory text h = absurd h
+pub comes_some : (s : Setting) (status : Status) (text : List ℕ) → Comes s status text → 0 < length text
+comes_some s Done text h = same_some text (run_report h.w h.e) h.shown (omega arith)
+comes_some s Usage text h = same_some text usage_line h.line (omega arith)
+comes_some s Unreadable text (inl h) = elim h.unread [ inl m ↦ same_some text (unreadable_line h.world) m.line (one_in h.world 58 _) | inr l ↦ same_some text (longer_line h.world _) l.line (one_in h.world 58 _) ]
+comes_some s Unreadable text (inr h) = elim h.unread [ inl m ↦ same_some text (unreadable_line h.element) m.line (one_in h.element 58 _) | inr l ↦ same_some text (longer_line h.element _) l.line (one_in h.element 58 _) ]
+comes_some s ElementRefused text h = same_some text (not_built_line h.element) h.line (not_built_some h.element)
+comes_some s WorldRefused text (inl h) = same_some text (not_built_line h.world) h.line (not_built_some h.world)
+comes_some s WorldRefused text (inr h) = same_some text (not_built_line h.world) h.line (not_built_some h.world)
+comes_some s JournalRefused text h = absurd h
+comes_some s SinkFault text h = absurd h
+comes_some s NoMemory text h = absurd h
+
+-- what a run shows, where files are told
+shows_of : (files : List File) (s : Setting) (text : List ℕ) → s.before.files ≡ Some files → Ran s text → RanTold files s.words text
+shows_of files s text is r =
+    let world : HasWorld (Some files) r.world r.w = subst (λ (o : Option (List File)). HasWorld o r.world r.w) is r.has_world in
+    let element : HasElement (Some files) r.element r.e = subst (λ (o : Option (List File)). HasElement o r.element r.e) is r.has_element in
+    record {
+      world_word = r.world;
+      element_word = r.element;
+      form = r.form;
+      world = r.w;
+      world_file = world.loaded.told ∙ ap Some world.says.text;
+      world_valid = world.says.valid;
+      element = r.e;
+      element_bytes = element.bytes;
+      element_file = element.loaded.told;
+      element_text = element.defines;
+      named = r.named;
+      shown = r.shown;
+    }
 
 -- the headline, from a call that ended with Done
-pub headline_of : (may : List ℕ → Type 0) (files : Option (List File)) (failed failed' words : List (List ℕ)) (sink_may : ℕ → Type 0) (written written' : Option (List ℕ)) (faults faults' : ℕ) (status : Status) →
-    Ends may (setting files failed failed' words) sink_may written written' faults faults' status → Headline files written written' words status
-headline_of may None failed failed' words sink_may written written' faults faults' status ends = tt
-headline_of may (Some files) failed failed' words sink_may None written' faults faults' status ends = tt
-headline_of may (Some files) failed failed' words sink_may (Some old) written' faults faults' Done ends = λ _. (
+pub headline_of : (s : Setting) (sink sink' : Told) (status : Status) → Ends s sink sink' status → Headline s sink sink' status
+headline_of s sink sink' Done ends = λ files old told holds done. (
   ends.text,
-  (
-    ends.put,
-    record {
-      world_word = ends.comes.world;
-      element_word = ends.comes.element;
-      form = ends.comes.form;
-      world = ends.comes.w;
-      world_file = ends.comes.has_world.loaded.told ∙ ap Some ends.comes.has_world.says.text;
-      world_valid = ends.comes.has_world.says.valid;
-      element = ends.comes.e;
-      element_bytes = ends.comes.has_element.bytes;
-      element_file = ends.comes.has_element.loaded.told;
-      element_text = ends.comes.has_element.defines;
-      named = ends.comes.named;
-      shown = ends.comes.shown;
-    },
-  ),
+  (subst (λ (o : Option (List ℕ)). Grows o sink'.written ends.text) holds ends.put.grows, shows_of files s ends.text told ends.comes),
 )
-headline_of may (Some files) failed failed' words sink_may (Some old) written' faults faults' Usage ends = λ e. cc
-headline_of may (Some files) failed failed' words sink_may (Some old) written' faults faults' Unreadable ends = λ e. cc
-headline_of may (Some files) failed failed' words sink_may (Some old) written' faults faults' ElementRefused ends = λ e. cc
-headline_of may (Some files) failed failed' words sink_may (Some old) written' faults faults' WorldRefused ends = λ e. cc
-headline_of may (Some files) failed failed' words sink_may (Some old) written' faults faults' JournalRefused ends = λ e. cc
-headline_of may (Some files) failed failed' words sink_may (Some old) written' faults faults' SinkFault ends = λ e. cc
-headline_of may (Some files) failed failed' words sink_may (Some old) written' faults faults' NoMemory ends = λ e. cc
+headline_of s sink sink' Usage ends = λ files old told holds e. cc
+headline_of s sink sink' Unreadable ends = λ files old told holds e. cc
+headline_of s sink sink' ElementRefused ends = λ files old told holds e. cc
+headline_of s sink sink' WorldRefused ends = λ files old told holds e. cc
+headline_of s sink sink' JournalRefused ends = λ files old told holds e. cc
+headline_of s sink sink' SinkFault ends = λ files old told holds e. cc
+headline_of s sink sink' NoMemory ends = λ files old told holds e. cc
 
 -- when Usage comes, from how a call ends
-pub usage_of : (may : List ℕ → Type 0) (s : Setting) (sink_may : ℕ → Type 0) (written written' : Option (List ℕ)) (faults faults' : ℕ) (status : Status) →
-    Ends may s sink_may written written' faults faults' status → UsageExactly s.words status
-usage_of may s sink_may written written' faults faults' Done ends = record { only = λ e. cc; where_ = λ none. absurd (none ends.comes.world ends.comes.element ends.comes.form) }
-usage_of may s sink_may written written' faults faults' Usage ends = record { only = λ _. ends.comes.none; where_ = λ _. inl refl }
-usage_of may s sink_may written written' faults faults' Unreadable ends =
+pub usage_of : (s : Setting) (sink sink' : Told) (status : Status) → Ends s sink sink' status → UsageExactly s.words status
+usage_of s sink sink' Done ends = record { only = λ e. cc; where_ = λ none. absurd (none ends.comes.world ends.comes.element ends.comes.form) }
+usage_of s sink sink' Usage ends = record { only = λ _. ends.comes.none; where_ = λ _. inl refl }
+usage_of s sink sink' Unreadable ends =
     record { only = λ e. cc; where_ = λ none. elim ends.comes [ inl h ↦ absurd (none h.world h.element h.form) | inr h ↦ absurd (none h.world h.element h.form) ] }
-usage_of may s sink_may written written' faults faults' ElementRefused ends = record { only = λ e. cc; where_ = λ none. absurd (none ends.comes.world ends.comes.element ends.comes.form) }
-usage_of may s sink_may written written' faults faults' WorldRefused ends =
+usage_of s sink sink' ElementRefused ends = record { only = λ e. cc; where_ = λ none. absurd (none ends.comes.world ends.comes.element ends.comes.form) }
+usage_of s sink sink' WorldRefused ends =
     record { only = λ e. cc; where_ = λ none. elim ends.comes [ inl h ↦ absurd (none h.world h.element h.form) | inr h ↦ absurd (none h.world h.element h.form) ] }
-usage_of may s sink_may written written' faults faults' JournalRefused ends = absurd ends.comes
-usage_of may s sink_may written written' faults faults' SinkFault ends = record { only = λ e. cc; where_ = λ none. inr (inl refl) }
-usage_of may s sink_may written written' faults faults' NoMemory ends = record { only = λ e. cc; where_ = λ none. inr (inr refl) }
+usage_of s sink sink' JournalRefused ends = absurd ends.comes
+usage_of s sink sink' SinkFault ends = record { only = λ e. cc; where_ = λ none. inr (inl refl) }
+usage_of s sink sink' NoMemory ends = record { only = λ e. cc; where_ = λ none. inr (inr refl) }
+
+-- what a call comes to, with its files in their place
+told_comes : (files : List File) (s : Setting) (status : Status) (text : List ℕ) → s.before.files ≡ Some files →
+    Comes s status text → Comes (setting (telling files s.before.failed s.before.may_fail) s.after s.words) status text
+told_comes files s status text is h =
+    subst (λ (o : Option (List File)). Comes (setting (record { files = o; failed = s.before.failed; may_fail = s.before.may_fail }) s.after s.words) status text) is h
+
+same_status : (files : List File) (s : Setting) (a b : Status) (t u : List ℕ) → s.before.files ≡ Some files → Comes s a t → Comes s b u → a ≡ b
+same_status files s a b t u is x y = comes_one files s.before.failed s.before.may_fail s.after s.words a b t u (told_comes files s a t is x) (told_comes files s b u is y)
 
 -- the status is the one that the call comes to, from how a call ends
-pub exactly_of : (may : List ℕ → Type 0) (files : Option (List File)) (failed failed' words : List (List ℕ)) (sink_may : ℕ → Type 0) (written written' : Option (List ℕ)) (faults faults' : ℕ) (status : Status) →
-    Ends may (setting files failed failed' words) sink_may written written' faults faults' status → Exactly may (setting files failed failed' words) faults faults' files status
-exactly_of may None failed failed' words sink_may written written' faults faults' status ends = tt
-exactly_of may (Some files) failed failed' words sink_may written written' faults faults' SinkFault ends = λ right text comes same. absurd (omega (arith, ends.rose, same))
-exactly_of may (Some files) failed failed' words sink_may written written' faults faults' NoMemory ends = λ right text comes same. inr refl
-exactly_of may (Some files) failed failed' words sink_may written written' faults faults' Done ends = λ right text comes same. inl (comes_one may files failed failed' words Done right ends.text text ends.comes comes)
-exactly_of may (Some files) failed failed' words sink_may written written' faults faults' Usage ends = λ right text comes same. inl (comes_one may files failed failed' words Usage right ends.text text ends.comes comes)
-exactly_of may (Some files) failed failed' words sink_may written written' faults faults' Unreadable ends = λ right text comes same. inl (comes_one may files failed failed' words Unreadable right ends.text text ends.comes comes)
-exactly_of may (Some files) failed failed' words sink_may written written' faults faults' ElementRefused ends = λ right text comes same. inl (comes_one may files failed failed' words ElementRefused right ends.text text ends.comes comes)
-exactly_of may (Some files) failed failed' words sink_may written written' faults faults' WorldRefused ends = λ right text comes same. inl (comes_one may files failed failed' words WorldRefused right ends.text text ends.comes comes)
-exactly_of may (Some files) failed failed' words sink_may written written' faults faults' JournalRefused ends = absurd ends.comes
+pub exactly_of : (s : Setting) (sink sink' : Told) (status : Status) → Ends s sink sink' status → Exactly s sink sink' status
+exactly_of s sink sink' SinkFault ends = λ files right text told comes same. absurd (omega (arith, ends.cut.more, same))
+exactly_of s sink sink' NoMemory ends = λ files right text told comes same. inr refl
+exactly_of s sink sink' Done ends = λ files right text told comes same. inl (same_status files s Done right ends.text text told ends.comes comes)
+exactly_of s sink sink' Usage ends = λ files right text told comes same. inl (same_status files s Usage right ends.text text told ends.comes comes)
+exactly_of s sink sink' Unreadable ends = λ files right text told comes same. inl (same_status files s Unreadable right ends.text text told ends.comes comes)
+exactly_of s sink sink' ElementRefused ends = λ files right text told comes same. inl (same_status files s ElementRefused right ends.text text told ends.comes comes)
+exactly_of s sink sink' WorldRefused ends = λ files right text told comes same. inl (same_status files s WorldRefused right ends.text text told ends.comes comes)
+exactly_of s sink sink' JournalRefused ends = absurd ends.comes
 
 -- completeness, from that
-pub complete_of : (may : List ℕ → Type 0) (files : Option (List File)) (failed failed' words : List (List ℕ)) (faults faults' : ℕ) (status : Status) →
-    Exactly may (setting files failed failed' words) faults faults' files status → Complete files failed failed' words faults faults' status
-complete_of may None failed failed' words faults faults' status exactly = tt
-complete_of may (Some files) failed failed' words faults faults' status exactly = λ world element w e form has_world has_element named kept same.
-    exactly Done (run_report w e) (record { world = world; element = element; form = form; w = w; has_world = has_world; e = e; has_element = has_element; named = named; kept = kept; shown = refl }) same
+pub complete_of : (s : Setting) (sink sink' : Told) (status : Status) → Exactly s sink sink' status → Complete s sink sink' status
+complete_of s sink sink' status exactly = λ files world element w e told form has_world has_element named kept same.
+    exactly files Done (run_report w e) told (record {
+      world = world;
+      element = element;
+      form = form;
+      w = w;
+      has_world = subst (λ (o : Option (List File)). HasWorld o world w) (sym told) has_world;
+      e = e;
+      has_element = subst (λ (o : Option (List File)). HasElement o element e) (sym told) has_element;
+      named = named;
+      kept = kept;
+      shown = refl;
+    }) same

@@ -1,6 +1,7 @@
 -- What a call comes to say, by the first stage that refuses, and what it leaves.
-use Rattle.std.specs.Prelude.{ℕ, ◌≡◌, ◌<◌, ◌≤◌, List, [], ◌∷◌, ◌++◌, length, codes, All, Option, ◌⊎◌}
-use Rattle.feast_base.specs.Outside.{File, TellsBytes, TellsLonger, Grows}
+use Rattle.std.specs.Prelude.{ℕ, ◌≡◌, List, [], ◌∷◌, ◌++◌, length, ◌≤◌, codes, All, Option, ◌⊎◌}
+use Rattle.feast_base.specs.Loading.{IsCut, IsPut}
+use Rattle.feast_base.specs.Outside.{File, Stock, TellsBytes, TellsLonger, Told}
 use Rattle.feast_base.specs.Refusals.{refusal_line, usage_line, unreadable_line, longer_line}
 use Rattle.feast_base.specs.declared.place.Refusal.{Refusal}
 use Rattle.feast_run.specs.World.{WorldValue, PlacedValue, Says}
@@ -60,63 +61,65 @@ pub record NoElement (files : Option (List File)) (word : List ℕ) : Type 0 whe
 abbrev pub AreNamed : WorldValue → ElementValue → Type 0
 AreNamed world element = All (λ (p : PlacedValue). p.name ≡ element.name) world.placed
 
+-- what a call is about: the shelf before it and after it, and the words
+pub record Setting : Type 1 where
+  pub before : Stock
+  pub after : Stock
+  pub words : List (List ℕ)
+
+abbrev pub setting : Stock → Stock → List (List ℕ) → Setting
+setting before after words = record { before = before; after = after; words = words }
+
+-- no name was noted
+abbrev pub NotesNone : Stock → Stock → Type 0
+NotesNone before after = after.failed ≡ before.failed
+
 -- the load of a word failed, and the line says so
-pub record Missing (may_fail : List ℕ → Type 0) (failed failed' : List (List ℕ)) (word text : List ℕ) : Type 0 where
-  pub noted : failed' ≡ failed ++ word ∷ []
-  pub cause : may_fail word
+pub record Missing (before after : Stock) (word text : List ℕ) : Type 0 where
+  pub noted : after.failed ≡ before.failed ++ word ∷ []
+  pub cause : before.may_fail word
   pub line : text ≡ unreadable_line word
 
 -- the file of a word is too long, and the line says so
-pub record TooLong (files : Option (List File)) (failed failed' : List (List ℕ)) (word : List ℕ) (limit : ℕ) (text : List ℕ) : Type 0 where
-  pub kept : failed' ≡ failed
-  pub longer : TellsLonger files word limit
+pub record TooLong (before after : Stock) (word : List ℕ) (limit : ℕ) (text : List ℕ) : Type 0 where
+  pub kept : NotesNone before after
+  pub longer : TellsLonger before.files word limit
   pub line : text ≡ longer_line word limit
 
 -- the file of a word can't be read, or is too long
-abbrev pub Unread : (List ℕ → Type 0) → Option (List File) → List (List ℕ) → List (List ℕ) → List ℕ → ℕ → List ℕ → Type 0
-Unread may_fail files failed failed' word limit text = Missing may_fail failed failed' word text ⊎ TooLong files failed failed' word limit text
-
--- what a call is about: the files where they are told, the names that failed before the call and after it, and
--- the words
-pub record Setting : Type 0 where
-  pub files : Option (List File)
-  pub failed : List (List ℕ)
-  pub failed' : List (List ℕ)
-  pub words : List (List ℕ)
-
-abbrev pub setting : Option (List File) → List (List ℕ) → List (List ℕ) → List (List ℕ) → Setting
-setting files failed failed' words = record { files = files; failed = failed; failed' = failed'; words = words }
+abbrev pub Unread : Stock → Stock → List ℕ → ℕ → List ℕ → Type 0
+Unread before after word limit text = Missing before after word text ⊎ TooLong before after word limit text
 
 -- the words have no form
 pub record HasNoForm (s : Setting) (text : List ℕ) : Type 0 where
   pub none : (world element : List ℕ) → IsRun s.words world element → ⊥
-  pub kept : s.failed' ≡ s.failed
+  pub kept : NotesNone s.before s.after
   pub line : text ≡ usage_line
 
 -- the world can't be read
-pub record WorldUnread (may_fail : List ℕ → Type 0) (s : Setting) (text : List ℕ) : Type 0 where
+pub record WorldUnread (s : Setting) (text : List ℕ) : Type 0 where
   pub world : List ℕ
   pub element : List ℕ
   pub form : IsRun s.words world element
-  pub unread : Unread may_fail s.files s.failed s.failed' world world_limit text
+  pub unread : Unread s.before s.after world world_limit text
 
 -- the world's bytes say no world
 pub record WorldBad (s : Setting) (text : List ℕ) : Type 0 where
   pub world : List ℕ
   pub element : List ℕ
   pub form : IsRun s.words world element
-  pub bad : NoWorld s.files world
-  pub kept : s.failed' ≡ s.failed
+  pub bad : NoWorld s.before.files world
+  pub kept : NotesNone s.before s.after
   pub line : text ≡ not_built_line world
 
 -- the world is read, and the element can't be
-pub record ElementUnread (may_fail : List ℕ → Type 0) (s : Setting) (text : List ℕ) : Type 0 where
+pub record ElementUnread (s : Setting) (text : List ℕ) : Type 0 where
   pub world : List ℕ
   pub element : List ℕ
   pub form : IsRun s.words world element
   pub w : WorldValue
-  pub has_world : HasWorld s.files world w
-  pub unread : Unread may_fail s.files s.failed s.failed' element element_limit text
+  pub has_world : HasWorld s.before.files world w
+  pub unread : Unread s.before s.after element element_limit text
 
 -- the world is read, and the element's bytes define none
 pub record ElementBad (s : Setting) (text : List ℕ) : Type 0 where
@@ -124,9 +127,9 @@ pub record ElementBad (s : Setting) (text : List ℕ) : Type 0 where
   pub element : List ℕ
   pub form : IsRun s.words world element
   pub w : WorldValue
-  pub has_world : HasWorld s.files world w
-  pub bad : NoElement s.files element
-  pub kept : s.failed' ≡ s.failed
+  pub has_world : HasWorld s.before.files world w
+  pub bad : NoElement s.before.files element
+  pub kept : NotesNone s.before s.after
   pub line : text ≡ not_built_line element
 
 -- both are read, and an atom line has another name than the element's
@@ -135,11 +138,11 @@ pub record NameBad (s : Setting) (text : List ℕ) : Type 0 where
   pub element : List ℕ
   pub form : IsRun s.words world element
   pub w : WorldValue
-  pub has_world : HasWorld s.files world w
+  pub has_world : HasWorld s.before.files world w
   pub e : ElementValue
-  pub has_element : HasElement s.files element e
+  pub has_element : HasElement s.before.files element e
   pub bad : AreNamed w e → ⊥
-  pub kept : s.failed' ≡ s.failed
+  pub kept : NotesNone s.before s.after
   pub line : text ≡ not_built_line world
 
 -- both are read, and the text is the report of the run
@@ -148,61 +151,53 @@ pub record Ran (s : Setting) (text : List ℕ) : Type 0 where
   pub element : List ℕ
   pub form : IsRun s.words world element
   pub w : WorldValue
-  pub has_world : HasWorld s.files world w
+  pub has_world : HasWorld s.before.files world w
   pub e : ElementValue
-  pub has_element : HasElement s.files element e
+  pub has_element : HasElement s.before.files element e
   pub named : AreNamed w e
-  pub kept : s.failed' ≡ s.failed
+  pub kept : NotesNone s.before s.after
   pub shown : text ≡ run_report w e
 
--- the status that a call comes to, and the text that it writes with it; `may_fail` are the names whose load may fail
-abbrev pub Comes : (List ℕ → Type 0) → Setting → Status → List ℕ → Type 0
-Comes may_fail s Done text = Ran s text
-Comes may_fail s Usage text = HasNoForm s text
-Comes may_fail s Unreadable text = WorldUnread may_fail s text ⊎ ElementUnread may_fail s text
-Comes may_fail s ElementRefused text = ElementBad s text
-Comes may_fail s WorldRefused text = WorldBad s text ⊎ NameBad s text
-Comes may_fail s JournalRefused text = ⊥
-Comes may_fail s SinkFault text = ⊥
-Comes may_fail s NoMemory text = ⊥
-
--- a call whose one put failed: the sink has a front of the text, and its faults rose
-pub record Failed (may_fail : List ℕ → Type 0) (s : Setting) (sink_may_fail : ℕ → Type 0) (written written' : Option (List ℕ)) (faults faults' : ℕ) : Type 0 where
-  pub status : Status
-  pub text : List ℕ
-  pub comes : Comes may_fail s status text
-  pub front : List ℕ
-  pub rest : List ℕ
-  pub split : text ≡ front ++ rest
-  pub put : Grows written written' front
-  pub rose : faults < faults'
-  pub cause : sink_may_fail (length text)
-
--- at want of memory no name was noted, or one file word whose load failed
-abbrev pub MayWant : (List ℕ → Type 0) → Setting → Type 0
-MayWant may_fail s = (s.failed' ≡ s.failed) ⊎ ((text : List ℕ) × Comes may_fail s Unreadable text)
-
--- a call that wanted memory: nothing is written
-pub record Wanted (may_fail : List ℕ → Type 0) (s : Setting) (written written' : Option (List ℕ)) (faults faults' : ℕ) : Type 0 where
-  pub nothing : Grows written written' []
-  pub same : faults' ≡ faults
-  pub noted : MayWant may_fail s
+-- the status that a call comes to, and the text that it writes with it
+abbrev pub Comes : Setting → Status → List ℕ → Type 0
+Comes s Done text = Ran s text
+Comes s Usage text = HasNoForm s text
+Comes s Unreadable text = WorldUnread s text ⊎ ElementUnread s text
+Comes s ElementRefused text = ElementBad s text
+Comes s WorldRefused text = WorldBad s text ⊎ NameBad s text
+Comes s JournalRefused text = ⊥
+Comes s SinkFault text = ⊥
+Comes s NoMemory text = ⊥
 
 -- a call that put its text whole
-pub record Said (may_fail : List ℕ → Type 0) (s : Setting) (status : Status) (written written' : Option (List ℕ)) (faults faults' : ℕ) : Type 0 where
+pub record Whole (s : Setting) (sink sink' : Told) (status : Status) : Type 0 where
   pub text : List ℕ
-  pub comes : Comes may_fail s status text
-  pub put : Grows written written' text
-  pub same : faults' ≡ faults
+  pub comes : Comes s status text
+  pub put : IsPut sink sink' text
+
+-- a call whose one put failed
+pub record Broken (s : Setting) (sink sink' : Told) : Type 0 where
+  pub status : Status
+  pub text : List ℕ
+  pub comes : Comes s status text
+  pub cut : IsCut sink sink' text
+
+-- at want of memory no name was noted, or one file word whose load failed
+abbrev pub MayWant : Setting → Type 0
+MayWant s = NotesNone s.before s.after ⊎ ((text : List ℕ) × Comes s Unreadable text)
+
+-- a call that wanted memory: nothing is written
+pub record Wanted (s : Setting) (sink sink' : Told) : Type 0 where
+  pub nothing : sink'.written ≡ sink.written
+  pub same : sink'.faults ≡ sink.faults
+  pub noted : MayWant s
 
 -- how a call ends, by its status
-abbrev pub Ends : (List ℕ → Type 0) → Setting → (ℕ → Type 0) → Option (List ℕ) → Option (List ℕ) → ℕ → ℕ → Status → Type 0
-Ends may_fail s sink_may_fail written written' faults faults' SinkFault = Failed may_fail s sink_may_fail written written' faults faults'
-Ends may_fail s sink_may_fail written written' faults faults' NoMemory = Wanted may_fail s written written' faults faults'
-Ends may_fail s sink_may_fail written written' faults faults' status = Said may_fail s status written written' faults faults'
+abbrev pub Ends : Setting → Told → Told → Status → Type 0
+Ends s sink sink' SinkFault = Broken s sink sink'
+Ends s sink sink' NoMemory = Wanted s sink sink'
+Ends s sink sink' status = Whole s sink sink' status
 
 -- a put of a text with a status, by the status that is answered: the same where all was put, else SinkFault
-abbrev pub Put : Status → List ℕ → (ℕ → Type 0) → Option (List ℕ) → Option (List ℕ) → ℕ → ℕ → Status → Type 0
-Put status text may written written' faults faults' answer =
-    ((answer ≡ status) × Grows written written' text × (faults' ≡ faults))
-    ⊎ ((answer ≡ SinkFault) × (front : List ℕ) × (rest : List ℕ) × (text ≡ front ++ rest) × Grows written written' front × (faults < faults') × may (length text))
+abbrev pub Put : Status → List ℕ → Told → Told → Status → Type 0
+Put status text sink sink' answer = ((answer ≡ status) × IsPut sink sink' text) ⊎ ((answer ≡ SinkFault) × IsCut sink sink' text)

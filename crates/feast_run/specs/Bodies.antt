@@ -1,7 +1,7 @@
 -- The parts of an element's text.
 use Rattle.std.specs.Prelude.{ℕ, ◌≡◌, ◌≤◌, Bool, ◌||◌, List, ◌++◌, codes, decimal}
 use Rattle.std.specs.Str.{bytes_eq}
-use Rattle.feast_run.specs.Element.{ElementValue}
+use Rattle.feast_run.specs.Element.{ElementValue, last_site}
 use Rattle.feast_run.specs.Reading.{IsName}
 
 -- an element's text after its name, up to its two sites
@@ -9,7 +9,7 @@ abbrev pub body_text : ℕ × ℕ → List ℕ
 body_text p = codes "{ EventWindow ew; Void behave() { ew.swap(" ++ ((decimal p.0 ++ codes ",") ++ (codes " " ++ (decimal p.1 ++ codes ")")))
 
 abbrev pub IsBody : ℕ × ℕ → Type 0
-IsBody p = (p.0 ≤ 40) × (p.1 ≤ 40)
+IsBody p = (p.0 ≤ last_site) × (p.1 ≤ last_site)
 
 -- the end of an element's text
 abbrev pub is_tail : List ℕ → Bool

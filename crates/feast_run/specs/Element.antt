@@ -4,7 +4,7 @@ use Rattle.std.specs.List.{list_any}
 use Rattle.std.specs.Str.{bytes_eq}
 use Rattle.window_sites.specs.Window.{WindowValue, atom_at, swap_at}
 use Rattle.feast_run.specs.Report.{is_empty}
-use Rattle.feast_run.specs.World.{is_type_name}
+use Rattle.feast_base.specs.TypeNames.{is_type_name}
 
 -- an element: its name and the two sites that it swaps
 pub record ElementValue : Type 0 where
@@ -25,12 +25,16 @@ built_in =
 abbrev pub is_built_in : List ℕ → Bool
 is_built_in name = list_any (bytes_eq name) built_in
 
+-- the number of the last site of a window
+abbrev pub last_site : ℕ
+last_site = 40
+
 -- an element: the name of a type that is not built in, and two site numbers
 pub record IsElement (e : ElementValue) : Type 0 where
   pub named : is_type_name e.name ≡ true
   pub new : is_built_in e.name ≡ false
-  pub first : e.a ≤ 40
-  pub second : e.b ≤ 40
+  pub first : e.a ≤ last_site
+  pub second : e.b ≤ last_site
 
 -- the bytes say this element, with a last LF or without
 pub record Defines (bytes : List ℕ) (e : ElementValue) : Type 0 where

@@ -3,7 +3,7 @@ use Rattle.std.specs.Prelude.{ℕ, ◌≡◌, ◌≤◌, ◌<◌, List, ◌++◌
 use Rattle.std.specs.List.{flat_map}
 use Rattle.feast_run.specs.Report.{field_text}
 use Rattle.feast_run.specs.Reading.{NotFront}
-use Rattle.feast_run.specs.World.{WorldValue, IsShaped, head_text, placed_line, world_text}
+use Rattle.feast_run.specs.World.{WorldValue, IsShaped, head_text, longest_side, placed_line, shortest_side, world_text}
 use Rattle.feast_run.specs.declared.world.Size.{Size}
 
 -- the head's text, of its width and height
@@ -11,7 +11,7 @@ abbrev pub head_line : ℕ × ℕ → List ℕ
 head_line h = head_text h.0 h.1
 
 abbrev pub IsHead : ℕ × ℕ → Type 0
-IsHead h = (8 ≤ h.0) × (h.0 ≤ 64) × (8 ≤ h.1) × (h.1 ≤ 64)
+IsHead h = (shortest_side ≤ h.0) × (h.0 ≤ longest_side) × (shortest_side ≤ h.1) × (h.1 ≤ longest_side)
 
 abbrev pub head_value : Size → ℕ × ℕ
 head_value h = (h.width, h.height)

@@ -1,7 +1,7 @@
 -- What a reader answers of the front of some bytes.
 use Rattle.std.specs.Prelude.{ℕ, ◌≡◌, ◌≢◌, ◌≤◌, ◌<◌, ◌^◌, true, List, [], ◌∷◌, ◌++◌, All, decimal}
 use Rattle.std.specs.List.{flat_map}
-use Rattle.feast_run.specs.World.{is_type_name}
+use Rattle.feast_base.specs.TypeNames.{is_type_name}
 
 -- no text of this kind stands at the front
 abbrev pub NoText : {X : Type 0} → (X → List ℕ) → (X → Type 0) → List ℕ → Type 0

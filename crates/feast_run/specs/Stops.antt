@@ -1,11 +1,11 @@
 -- What a stage of a call answers where it goes no further.
-use Rattle.std.specs.Prelude.{ℕ, ◌≡◌, List, Option, ◌⊎◌}
-use Rattle.feast_base.specs.Outside.{File}
+use Rattle.std.specs.Prelude.{ℕ, ◌≡◌, List, ◌⊎◌}
+use Rattle.feast_base.specs.Outside.{Stock}
 use Rattle.feast_base.specs.Refusals.{unreadable_line, longer_line}
 use Rattle.feast_base.specs.declared.shelf.LoadFault.{LoadFault}
 use Rattle.feast_base.specs.declared.shelf.LoadFault.TheVariants.{Failed, TooLong}
 use Rattle.feast_base.specs.declared.shelf.LoadFault.TheVariants as fault
-use Rattle.feast_run.specs.Answer.{Unread, NoWorld, NoElement, not_built_line, world_limit, element_limit}
+use Rattle.feast_run.specs.Answer.{Unread, NotesNone, NoWorld, NoElement, not_built_line, world_limit, element_limit}
 use Rattle.feast_run.specs.declared.said.Stop.{Stop}
 use Rattle.feast_run.specs.declared.said.Stop.TheVariants.{Refused, NoMemory}
 use Rattle.feast_run.specs.declared.status.Status.{Status}
@@ -28,27 +28,27 @@ IsLoadStop word limit TooLong stop = IsStop Unreadable (longer_line word limit) 
 IsLoadStop word limit fault.NoMemory stop = stop ≡ NoMemory
 
 -- what a stage of loading says
-pub record LoadStop (may_fail : List ℕ → Type 0) (files : Option (List File)) (failed failed' : List (List ℕ)) (word : List ℕ) (limit : ℕ) (status : Status) (text : List ℕ) : Type 0 where
+pub record LoadStop (before after : Stock) (word : List ℕ) (limit : ℕ) (status : Status) (text : List ℕ) : Type 0 where
   pub status_is : status ≡ Unreadable
-  pub unread : Unread may_fail files failed failed' word limit text
+  pub unread : Unread before after word limit text
 
 -- the bytes of a world say none
-pub record WorldStop (files : Option (List File)) (failed failed' : List (List ℕ)) (word : List ℕ) (status : Status) (text : List ℕ) : Type 0 where
+pub record WorldStop (before after : Stock) (word : List ℕ) (status : Status) (text : List ℕ) : Type 0 where
   pub status_is : status ≡ WorldRefused
-  pub bad : NoWorld files word
-  pub kept : failed' ≡ failed
+  pub bad : NoWorld before.files word
+  pub kept : NotesNone before after
   pub line : text ≡ not_built_line word
 
 -- the bytes of an element define none
-pub record ElementStop (files : Option (List File)) (failed failed' : List (List ℕ)) (word : List ℕ) (status : Status) (text : List ℕ) : Type 0 where
+pub record ElementStop (before after : Stock) (word : List ℕ) (status : Status) (text : List ℕ) : Type 0 where
   pub status_is : status ≡ ElementRefused
-  pub bad : NoElement files word
-  pub kept : failed' ≡ failed
+  pub bad : NoElement before.files word
+  pub kept : NotesNone before after
   pub line : text ≡ not_built_line word
 
 -- what the stage of the world says, and that of the element
-abbrev pub StopsWorld : (List ℕ → Type 0) → Option (List File) → List (List ℕ) → List (List ℕ) → List ℕ → Status → List ℕ → Type 0
-StopsWorld may_fail files failed failed' word status text = LoadStop may_fail files failed failed' word world_limit status text ⊎ WorldStop files failed failed' word status text
+abbrev pub StopsWorld : Stock → Stock → List ℕ → Status → List ℕ → Type 0
+StopsWorld before after word status text = LoadStop before after word world_limit status text ⊎ WorldStop before after word status text
 
-abbrev pub StopsElement : (List ℕ → Type 0) → Option (List File) → List (List ℕ) → List (List ℕ) → List ℕ → Status → List ℕ → Type 0
-StopsElement may_fail files failed failed' word status text = LoadStop may_fail files failed failed' word element_limit status text ⊎ ElementStop files failed failed' word status text
+abbrev pub StopsElement : Stock → Stock → List ℕ → Status → List ℕ → Type 0
+StopsElement before after word status text = LoadStop before after word element_limit status text ⊎ ElementStop before after word status text

@@ -7,7 +7,7 @@ use Rattle.feast_run.specs.declared.grid.Record.{Record}
 use Rattle.feast_run.specs.declared.world.Try.{Try}
 use Rattle.feast_run.specs.declared.world.Placed.{Placed}
 use Rattle.feast_run.specs.declared.world.RawWorld.{RawWorld}
-use Rattle.feast_run.specs.declared.swapper.Element.{Element}
+use Rattle.feast_run.specs.declared.element.Element.{Element}
 
 abbrev pub record_value : Record → RecordValue
 record_value r = record { stamp = r.stamp; tile = r.tile; attempt = r.attempt; x = r.x; y = r.y; seed = r.seed }

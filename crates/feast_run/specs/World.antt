@@ -1,6 +1,7 @@
 -- A world of one tile, and its text.
-use Rattle.std.specs.Prelude.{ℕ, ◌≡◌, ◌+◌, ◌*◌, ◌<◌, ◌≤◌, ◌^◌, Bool, true, false, ◌&&◌, ◌||◌, List, [], ◌∷◌, ◌++◌, length, codes, decimal, All, eqb, nat_le}
-use Rattle.std.specs.List.{flat_map, list_all, AllPairs}
+use Rattle.std.specs.Prelude.{ℕ, ◌≡◌, ◌+◌, ◌*◌, ◌<◌, ◌≤◌, ◌^◌, true, List, ◌++◌, length, codes, decimal, All}
+use Rattle.std.specs.List.{flat_map, AllPairs}
+use Rattle.feast_base.specs.TypeNames.{is_type_name}
 use Rattle.feast_run.specs.Report.{field_text, hex_end}
 
 -- an attempt: the site and the seed of an event
@@ -44,18 +45,16 @@ head_text width height = codes "feast 1\ntiles 1 1\nsize " ++ (field_text width 
 abbrev pub world_text : WorldValue → List ℕ
 world_text w = head_text w.width w.height ++ (flat_map try_line w.tries ++ flat_map placed_line w.placed)
 
--- a letter A to Z
-abbrev pub is_upper : ℕ → Bool
-is_upper b = nat_le 65 b && nat_le b 90
+-- the fewest and the most columns or rows of a tile
+abbrev pub shortest_side : ℕ
+shortest_side = 8
 
--- a letter, a digit or `_`
-abbrev pub is_word_byte : ℕ → Bool
-is_word_byte b = is_upper b || (nat_le 97 b && nat_le b 122) || (nat_le 48 b && nat_le b 57) || eqb b 95
+abbrev pub longest_side : ℕ
+longest_side = 64
 
--- the name of a type: A to Z, then letters, digits and `_`, at most 255 bytes in all
-abbrev pub is_type_name : List ℕ → Bool
-is_type_name [] = false
-is_type_name (b ∷ bs) = is_upper b && list_all is_word_byte bs && nat_le (length bs) 254
+-- the most attempts of a world
+abbrev pub most_tries : ℕ
+most_tries = 1000000
 
 -- an attempt whose site is in a tile of this size
 pub record IsTry (width height : ℕ) (t : TryValue) : Type 0 where
@@ -79,17 +78,17 @@ place_in width p = p.y * width + p.x
 
 -- the ranges of a world of one tile
 pub record IsShaped (w : WorldValue) : Type 0 where
-  pub wide : 8 ≤ w.width
-  pub not_wider : w.width ≤ 64
-  pub high : 8 ≤ w.height
-  pub not_higher : w.height ≤ 64
+  pub wide : shortest_side ≤ w.width
+  pub not_wider : w.width ≤ longest_side
+  pub high : shortest_side ≤ w.height
+  pub not_higher : w.height ≤ longest_side
   pub tries : All (IsTry w.width w.height) w.tries
   pub placed : All (IsPlaced w.width w.height) w.placed
 
 -- a world of one tile: its ranges, at most a million attempts, and no two atoms at one site
 pub record IsWorld (w : WorldValue) : Type 0 where
   pub shaped : IsShaped w
-  pub few : length w.tries ≤ 1000000
+  pub few : length w.tries ≤ most_tries
   pub apart : AllPairs AreApart w.placed
 
 -- the bytes say this world

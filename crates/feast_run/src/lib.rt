@@ -4,8 +4,9 @@
 #![tactic(auto)]
 
 mod element;
+mod element_text;
 mod grid;
-mod memory;
+mod in_memory;
 mod pieces;
 mod report;
 mod run;
@@ -16,7 +17,7 @@ mod swapper;
 mod top;
 mod world;
 
-pub use memory::feast_in_memory;
+pub use in_memory::feast_in_memory;
 pub use status::Status;
 pub use top::feast;
 

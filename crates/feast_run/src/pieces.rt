@@ -1,15 +1,14 @@
 //! Reading the front of some bytes, piece by piece.
 ghost use Rattle.std.specs.Prelude.{◌≡◌, ◌≢◌, ℕ, ◌+◌, ◌*◌, ◌<◌, ◌^◌, ◌++◌, ◌∷◌, [], decimal, MatchOption, MatchResult};
-ghost use Rattle.std.specs.List.{list_all};
-ghost use Rattle.feast_base.specs.Digits.{glyph, hex};
+ghost use Rattle.feast_base.specs.Digits.{digit_zero, glyph, hex};
 ghost use Rattle.feast_run.specs.Reading.{NoText, HasText, NotFront, Lacks, number_end, name_end, IsIn, IsName, IsSeed};
 ghost use Rattle.feast_run.specs.Faults.{IsOther};
 ghost use Rattle.feast_run.specs.Report.{hex_end};
-ghost use Rattle.feast_run.specs.World.{is_type_name, is_upper, is_word_byte};
+ghost use Rattle.feast_run.specs.declared.pieces.ReadFault.TheVariants.{NoMemory};
 
-use feast_base::Name;
+use feast_base::{Name, is_type_name};
 use itoa::Buffer;
-use std::alloc::Global;
+use std::alloc::{AllocFailed, Global};
 
 /// Why a text was not read.
 #[derive(Clone, Copy, Debug, PartialEq, Eq)]
@@ -18,6 +17,22 @@ pub enum ReadFault {
     OtherForm,
     /// Want of memory.
     NoMemory,
+}
+
+impl From<feast_base::NoMemory> for ReadFault {
+    ghost from_gives = { λ _ fault. fault ≡ NoMemory };
+
+    fn from(_wanted: feast_base::NoMemory) -> ReadFault {
+        ReadFault::NoMemory
+    }
+}
+
+impl<T: Drop> From<AllocFailed<T>> for ReadFault {
+    ghost from_gives = { λ _ fault. fault ≡ NoMemory };
+
+    fn from(_refused: AllocFailed<T>) -> ReadFault {
+        ReadFault::NoMemory
+    }
 }
 
 /// The bytes after a word that they begin with.
@@ -67,7 +82,7 @@ fn number_in(digits: &[u8], low: u32, high: u32) -> Option<u32>
 
 /// A number from `low` to `high` that stands before the first `end`, and the bytes after that.
 pub fn number_until(bytes: &[u8], end: u8, low: u32, high: u32) -> Option<(u32, &[u8])>
-    requires { end < 48 }
+    requires { end < digit_zero }
     ensures { MatchOption result (NoText (number_end end) (IsIn low high) bytes.now) (λ r. HasText (number_end end) (IsIn low high) bytes.now r.0 r.1.now) }
 {
     let (digits, rest) = until(bytes, end)?;
@@ -80,8 +95,8 @@ fn nibble(byte: u8) -> Option<u8>
     ensures { MatchOption result ((d : ℕ) → d < 16 → byte ≢ glyph d) (λ d. (d < 16) × (glyph d ≡ byte)) }
 {
     match byte {
-        48..=57 => Some(byte - 48),
-        97..=102 => Some(byte - 87),
+        b'0'..=b'9' => Some(byte - b'0'),
+        b'a'..=b'f' => Some(byte - b'a' + 10),
         _ => None,
     }
 }
@@ -110,40 +125,9 @@ pub fn seed_until_end(bytes: &[u8]) -> Option<(u64, &[u8])>
     Some((value, rest))
 }
 
-/// Whether it is a letter, a digit or `_`.
-fn is_word_byte(byte: u8) -> bool
-    ensures { result ≡ is_word_byte byte }
-{
-    matches!(byte, b'A'..=b'Z' | b'a'..=b'z' | b'0'..=b'9' | b'_')
-}
-
-/// Whether all are letters, digits and `_`.
-fn are_word_bytes(bytes: &[u8]) -> bool
-    ensures { result ≡ list_all is_word_byte bytes.now }
-{
-    bytes.iter().all(|b| is_word_byte(*b))
-}
-
-/// Whether it is a letter A to Z.
-fn is_upper(byte: u8) -> bool
-    ensures { result ≡ is_upper byte }
-{
-    matches!(byte, b'A'..=b'Z')
-}
-
-/// Whether the bytes have the form of the name of a type.
-pub fn is_type_name(text: &[u8]) -> bool
-    ensures { result ≡ is_type_name text.now }
-{
-    match text {
-        [first, rest @ ..] => is_upper(*first) && are_word_bytes(rest) && rest.len() <= 254,
-        [] => false,
-    }
-}
-
 /// A name of a type that stands before the first `end`, and the bytes after that.
 pub fn name_until(alloc: Global, bytes: &[u8], end: u8) -> Result<(Name, &[u8]), ReadFault>
-    requires { end < 48 }
+    requires { end < digit_zero }
     ensures { MatchResult result (λ r. HasText (name_end end) IsName bytes.now r.0 r.1.now) (IsOther (NoText (name_end end) IsName bytes.now)) }
 {
     let Some((text, rest)) = until(bytes, end) else {
@@ -152,8 +136,5 @@ pub fn name_until(alloc: Global, bytes: &[u8], end: u8) -> Result<(Name, &[u8]),
     if !is_type_name(text) {
         return Err(ReadFault::OtherForm);
     }
-    match Name::new(alloc, text) {
-        Ok(name) => Ok((name, rest)),
-        Err(_) => Err(ReadFault::NoMemory),
-    }
+    Ok((Name::new(alloc, text)?, rest))
 }

@@ -156,7 +156,7 @@ fn push_grid(out: &mut Vec<u8>, names: &[Name], grid: &Grid) -> Result<(), NoMem
     push_atoms(out, names, grid.width() as usize, grid.atoms())
 }
 
-/// How many records there are.
+/// How many records there are: `len`, with the count said of the records as contracts see them.
 fn count_records(records: &[Record]) -> usize
     ensures { result ≡ length (map record_value records.now) }
 {

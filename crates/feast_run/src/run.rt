@@ -6,30 +6,14 @@ ghost use Rattle.feast_run.specs.Run.{start_of, journal_of, run_report};
 ghost use Rattle.feast_run.specs.Values.{record_value, try_value, world_value, element_value};
 ghost use Rattle.feast_run.specs.World.{IsWorld};
 
-use crate::grid::{Behave, Grid, Record};
-use crate::report::{is_empty, push_report};
-use crate::swapper::Element;
+use crate::element::Element;
+use crate::grid::{Grid, Record};
+use crate::report::push_report;
+use crate::swapper::Swapper;
 use crate::world::{RawWorld, Try};
 use bit_field::Atom;
 use feast_base::NoMemory;
 use std::alloc::Global;
-use window_sites::Window;
-
-/// An element's act: its swap is made, unless the centre is empty.
-#[derive(Drop)]
-struct Swapper<'a> {
-    element: &'a Element,
-}
-
-impl Behave for Swapper<'_> {
-    ghost after = { λ s. after_swap (element_value s.element.now) };
-
-    fn act(&mut self, window: &mut Window, _seed: u64) {
-        if !is_empty(&window.get(0)) {
-            window.swap(self.element.a, self.element.b);
-        }
-    }
-}
 
 /// The plane of the world's `atom` lines.
 fn start(alloc: Global, world: &RawWorld) -> Result<Grid, NoMemory>
@@ -59,10 +43,7 @@ fn journal(alloc: Global, tries: &[Try]) -> Result<Vec<Record>, NoMemory>
             y: entry.y,
             seed: entry.seed,
         };
-        match records.push(event) {
-            Ok(()) => {}
-            Err(_) => return Err(NoMemory),
-        }
+        records.push(event)?;
     }
     Ok(records)
 }

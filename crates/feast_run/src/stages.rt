@@ -1,17 +1,18 @@
 //! The stages of a call: loading, reading, and the answer.
 ghost use Rattle.std.specs.Prelude.{◌≡◌, ◌<◌, ◌-◌, ◌∷◌, [], ◌↔◌, ℕ, List, IsTrue, MatchOption, MatchResult, All, map, codes, string_bytes};
 ghost use Rattle.feast_base.specs.Refusals.{IsCode, refusal_line};
-ghost use Rattle.feast_run.specs.Answer.{AreNamed, Comes, HasElement, HasWorld, IsRun, Loaded, MayWant, not_built, not_built_line, setting};
+ghost use Rattle.feast_base.specs.Outside.{stock};
+ghost use Rattle.feast_run.specs.Answer.{AreNamed, Comes, HasElement, HasWorld, IsRun, Loaded, MayWant, NotesNone, not_built, not_built_line, setting};
 ghost use Rattle.feast_run.specs.Stops.{IsLoadStop, IsStop, LoadStop, Stops, StopsElement, StopsWorld};
 ghost use Rattle.feast_run.specs.Values.{element_value, world_value};
 
 use crate::Status;
-use crate::element::element;
+use crate::element::Element;
+use crate::element_text::read_element;
 use crate::pieces::ReadFault;
 use crate::run::report_of;
 use crate::said::{Said, Stop};
-use crate::swapper::Element;
-use crate::world::{Placed, RawWorld, world};
+use crate::world::{Placed, RawWorld, read_world};
 use feast_base::{LoadFault, NoMemory, Place, Refusal, Shelf, print_refusal};
 use std::alloc::Global;
 
@@ -20,6 +21,18 @@ const WORLD_LIMIT: u32 = 268_435_456;
 
 /// The longest element file, in bytes.
 const ELEMENT_LIMIT: u32 = 1_048_576;
+
+/// The code of words that have no form.
+const USAGE: u8 = 0;
+
+/// The code of a file that can't be read.
+const UNREADABLE: u8 = 1;
+
+/// The code of a file that is longer than its limit.
+const TOO_LONG: u8 = 2;
+
+/// The code of a file whose form isn't built yet.
+const NOT_BUILT: u8 = 90;
 
 /// A refusal of a whole file, with its place at the file's first byte.
 fn whole_file(code: u8, value: u64) -> Refusal
@@ -49,7 +62,7 @@ fn refused(alloc: Global, status: Status, word: &str, refusal: &Refusal) -> Stop
 fn not_built(alloc: Global, status: Status, word: &str) -> Stop
     ensures { IsStop status (not_built_line word.now) result }
 {
-    refused(alloc, status, word, &whole_file(90, 0))
+    refused(alloc, status, word, &whole_file(NOT_BUILT, 0))
 }
 
 /// The stop at a load that failed.
@@ -58,12 +71,12 @@ fn not_loaded(alloc: Global, word: &str, limit: u32, fault: LoadFault) -> Stop
     ensures { IsLoadStop word.now limit fault result }
 {
     match fault {
-        LoadFault::Failed => refused(alloc, Status::Unreadable, word, &whole_file(1, 0)),
+        LoadFault::Failed => refused(alloc, Status::Unreadable, word, &whole_file(UNREADABLE, 0)),
         LoadFault::TooLong => refused(
             alloc,
             Status::Unreadable,
             word,
-            &whole_file(2, limit as u64),
+            &whole_file(TOO_LONG, limit as u64),
         ),
         LoadFault::NoMemory => Stop::NoMemory,
     }
@@ -78,8 +91,9 @@ fn load_file<F: Shelf>(
 ) -> Result<Vec<u8>, Stop>
     ensures files { F.files shelf.new ≡ F.files shelf.old }
     ensures later { (n : List ℕ) → F.may_fail shelf.new n → F.may_fail shelf.old n }
-    ensures loads { MatchResult result (λ bytes. (F.failed shelf.new ≡ F.failed shelf.old) × Loaded (F.files shelf.old) word.now limit bytes.items)
-        (Stops (LoadStop (F.may_fail shelf.old) (F.files shelf.old) (F.failed shelf.old) (F.failed shelf.new) word.now limit) (F.failed shelf.new ≡ F.failed shelf.old)) }
+    ensures loads { let before = stock F.files F.failed F.may_fail shelf.old in let after = stock F.files F.failed F.may_fail shelf.new in
+        MatchResult result (λ bytes. NotesNone before after × Loaded before.files word.now limit bytes.items)
+        (Stops (LoadStop before after word.now limit) (NotesNone before after)) }
 {
     let mut bytes = Vec::new(alloc);
     match shelf.load(word, limit as usize, &mut bytes) {
@@ -92,11 +106,12 @@ fn load_file<F: Shelf>(
 fn load_world<F: Shelf>(alloc: Global, shelf: &mut F, word: &str) -> Result<RawWorld, Stop>
     ensures files { F.files shelf.new ≡ F.files shelf.old }
     ensures later { (n : List ℕ) → F.may_fail shelf.new n → F.may_fail shelf.old n }
-    ensures reads { MatchResult result (λ w. (F.failed shelf.new ≡ F.failed shelf.old) × HasWorld (F.files shelf.old) word.now (world_value w))
-        (Stops (StopsWorld (F.may_fail shelf.old) (F.files shelf.old) (F.failed shelf.old) (F.failed shelf.new) word.now) (F.failed shelf.new ≡ F.failed shelf.old)) }
+    ensures reads { let before = stock F.files F.failed F.may_fail shelf.old in let after = stock F.files F.failed F.may_fail shelf.new in
+        MatchResult result (λ w. NotesNone before after × HasWorld before.files word.now (world_value w))
+        (Stops (StopsWorld before after word.now) (NotesNone before after)) }
 {
     let bytes = load_file(alloc, shelf, word, WORLD_LIMIT)?;
-    match world(alloc, bytes.as_slice()) {
+    match read_world(alloc, bytes.as_slice()) {
         Ok(world) => Ok(world),
         Err(ReadFault::OtherForm) => Err(not_built(alloc, Status::WorldRefused, word)),
         Err(ReadFault::NoMemory) => Err(Stop::NoMemory),
@@ -107,11 +122,12 @@ fn load_world<F: Shelf>(alloc: Global, shelf: &mut F, word: &str) -> Result<RawW
 fn load_element<F: Shelf>(alloc: Global, shelf: &mut F, word: &str) -> Result<Element, Stop>
     ensures files { F.files shelf.new ≡ F.files shelf.old }
     ensures later { (n : List ℕ) → F.may_fail shelf.new n → F.may_fail shelf.old n }
-    ensures reads { MatchResult result (λ e. (F.failed shelf.new ≡ F.failed shelf.old) × HasElement (F.files shelf.old) word.now (element_value e))
-        (Stops (StopsElement (F.may_fail shelf.old) (F.files shelf.old) (F.failed shelf.old) (F.failed shelf.new) word.now) (F.failed shelf.new ≡ F.failed shelf.old)) }
+    ensures reads { let before = stock F.files F.failed F.may_fail shelf.old in let after = stock F.files F.failed F.may_fail shelf.new in
+        MatchResult result (λ e. NotesNone before after × HasElement before.files word.now (element_value e))
+        (Stops (StopsElement before after word.now) (NotesNone before after)) }
 {
     let bytes = load_file(alloc, shelf, word, ELEMENT_LIMIT)?;
-    match element(alloc, bytes.as_slice()) {
+    match read_element(alloc, bytes.as_slice()) {
         Ok(element) => Ok(element),
         Err(ReadFault::OtherForm) => Err(not_built(alloc, Status::ElementRefused, word)),
         Err(ReadFault::NoMemory) => Err(Stop::NoMemory),
@@ -140,8 +156,8 @@ fn run_files<F: Shelf>(
     element_word: &str,
 ) -> Result<Said, Stop>
     ensures files { F.files shelf.new ≡ F.files shelf.old }
-    ensures says { let s = setting (F.files shelf.old) (F.failed shelf.old) (F.failed shelf.new) (codes "run" ∷ world_word.now ∷ element_word.now ∷ []) in
-        MatchResult result (λ said. Comes (F.may_fail shelf.old) s said.status said.text.items) (Stops (Comes (F.may_fail shelf.old) s) (F.failed shelf.new ≡ F.failed shelf.old)) }
+    ensures says { let s = setting (stock F.files F.failed F.may_fail shelf.old) (stock F.files F.failed F.may_fail shelf.new) (codes "run" ∷ world_word.now ∷ element_word.now ∷ []) in
+        MatchResult result (λ said. Comes s said.status said.text.items) (Stops (Comes s) (NotesNone s.before s.after)) }
 {
     let world = load_world(alloc, shelf, world_word)?;
     let element = load_element(alloc, shelf, element_word)?;
@@ -184,20 +200,20 @@ fn run_form(words: &[String]) -> Option<(&str, &str)>
 #[tactic(auto, unfolding(feast_base::specs::Refusals::refusal_line))]
 fn stages<F: Shelf>(alloc: Global, words: &[String], shelf: &mut F) -> Result<Said, Stop>
     ensures files { F.files shelf.new ≡ F.files shelf.old }
-    ensures says { let s = setting (F.files shelf.old) (F.failed shelf.old) (F.failed shelf.new) (map string_bytes words.now) in
-        MatchResult result (λ said. Comes (F.may_fail shelf.old) s said.status said.text.items) (Stops (Comes (F.may_fail shelf.old) s) (F.failed shelf.new ≡ F.failed shelf.old)) }
+    ensures says { let s = setting (stock F.files F.failed F.may_fail shelf.old) (stock F.files F.failed F.may_fail shelf.new) (map string_bytes words.now) in
+        MatchResult result (λ said. Comes s said.status said.text.items) (Stops (Comes s) (NotesNone s.before s.after)) }
 {
     match run_form(words) {
         Some((world, element)) => run_files(alloc, shelf, world, element),
-        None => Err(refused(alloc, Status::Usage, "", &whole_file(0, 0))),
+        None => Err(refused(alloc, Status::Usage, "", &whole_file(USAGE, 0))),
     }
 }
 
 /// What the words come to say.
-pub fn said<F: Shelf>(alloc: Global, words: &[String], shelf: &mut F) -> Result<Said, NoMemory>
+pub fn answer<F: Shelf>(alloc: Global, words: &[String], shelf: &mut F) -> Result<Said, NoMemory>
     ensures files { F.files shelf.new ≡ F.files shelf.old }
-    ensures says { let s = setting (F.files shelf.old) (F.failed shelf.old) (F.failed shelf.new) (map string_bytes words.now) in
-        MatchResult result (λ said. Comes (F.may_fail shelf.old) s said.status said.text.items) (λ _. MayWant (F.may_fail shelf.old) s) }
+    ensures says { let s = setting (stock F.files F.failed F.may_fail shelf.old) (stock F.files F.failed F.may_fail shelf.new) (map string_bytes words.now) in
+        MatchResult result (λ said. Comes s said.status said.text.items) (λ _. MayWant s) }
 {
     match stages(alloc, words, shelf) {
         Ok(said) => Ok(said),

@@ -1,16 +1,25 @@
-//! The element that is built so far.
-ghost use Rattle.std.specs.Prelude.{◌≤◌};
+//! The act of an element that swaps two sites.
 
-use feast_base::Name;
+use crate::element::Element;
+use crate::grid::Behave;
+use crate::report::is_empty;
+use window_sites::Window;
 
-/// An element that swaps two sites of its window.
+/// An element's act: its swap is made, unless the centre is empty.
 #[derive(Drop)]
-pub struct Element {
-    /// The name of its type.
-    pub name: Name,
-    /// The numbers of the two sites.
-    pub a: u8,
-    pub b: u8,
-    ghost first: { a ≤ 40 },
-    ghost second: { b ≤ 40 },
+pub struct Swapper<'a> {
+    pub element: &'a Element,
+}
+
+impl Behave for Swapper<'_> {
+    ghost use Rattle.feast_run.specs.Element.{after_swap};
+    ghost use Rattle.feast_run.specs.Values.{element_value};
+
+    ghost after = { λ s. after_swap (element_value s.element.now) };
+
+    fn act(&mut self, window: &mut Window, _seed: u64) {
+        if !is_empty(&window.get(0)) {
+            window.swap(self.element.a, self.element.b);
+        }
+    }
 }

@@ -1,8 +1,11 @@
 //! Whole calls, from words and files in memory to a status and what the sink holds.
 
+ghost use Rattle.std.specs.Prelude.{◌≡◌, ◌^◌, ◌-◌, ◌<◌};
+
 use crate::{Status, feast, feast_in_memory};
-use feast_base::{MemShelf, MemSink, OpenGate, Source};
+use feast_base::{Gate, LoadFault, MemShelf, MemSink, OpenGate, Shelf, Source};
 use std::alloc::Global;
+use std::sync::atomic::{AtomicU64, Ordering};
 use std::test::Fail;
 use std::thread::Threads;
 
@@ -195,6 +198,134 @@ fn an_element_one_fault_away_is_refused(rt: HostRuntime) -> Result<(), Fail> {
         };
         assert!(rt; holds(&rt, alloc, &case, Vec::new(alloc), Vec::new(alloc))?);
     }
+    Ok(())
+}
+
+#[test]
+fn an_element_has_no_built_in_name(rt: HostRuntime) -> Result<(), Fail> {
+    let built_in = [
+        "Int",
+        "Unsigned",
+        "Bits",
+        "Bool",
+        "Unary",
+        "Atom",
+        "Void",
+        "EventWindow",
+        "Random",
+        "Empty",
+    ];
+    let alloc = rt.alloc();
+    for name in built_in {
+        let text = format!(in alloc;
+            "element {name} {{ EventWindow ew; Void behave() {{ ew.swap(0, 4); }} }}"
+        )?;
+        let files = vec![in alloc;
+            source(alloc, "w", WALK)?,
+            source(alloc, "e", text.as_str())?,
+        ]?;
+        let mut shelf = MemShelf::new(alloc, files, Vec::new(alloc));
+        let mut sink = MemSink::new(alloc, Vec::new(alloc), 100)?;
+        let words = words(alloc)?;
+        let status = feast(
+            &rt,
+            alloc,
+            words.as_slice(),
+            &mut shelf,
+            &mut sink,
+            &OpenGate,
+        );
+        assert_eq!(rt; status, Status::ElementRefused, "{name}");
+    }
+    Ok(())
+}
+
+/// A gate that counts how often it is reached.
+#[derive(Drop)]
+struct CountingGate {
+    reached: AtomicU64,
+}
+
+impl Gate for CountingGate {
+    fn reach(&self, _tile: u32, _attempt: u64) {
+        self.reached.fetch_add(1, Ordering::SeqCst);
+    }
+}
+
+#[test]
+fn no_worker_runs_yet_so_no_gate_is_reached(rt: HostRuntime) -> Result<(), Fail> {
+    let alloc = rt.alloc();
+    let files = vec![in alloc; source(alloc, "w", WALK)?, source(alloc, "e", WALKER)?]?;
+    let mut shelf = MemShelf::new(alloc, files, Vec::new(alloc));
+    let mut sink = MemSink::new(alloc, Vec::new(alloc), 1000)?;
+    let gate = CountingGate {
+        reached: AtomicU64::new(0),
+    };
+    let words = words(alloc)?;
+    let status = feast(&rt, alloc, words.as_slice(), &mut shelf, &mut sink, &gate);
+    assert_eq!(rt; status, Status::Done);
+    assert_eq!(rt; gate.reached.load(Ordering::SeqCst), 0);
+    Ok(())
+}
+
+/// A shelf that keeps the limit of its last load, and wants memory.
+#[derive(Drop)]
+struct Asked {
+    limit: usize,
+}
+
+impl Shelf for Asked {
+    ghost use Rattle.std.specs.Prelude.{[], None};
+
+    ghost files = { λ _. None };
+
+    ghost failed = { λ _. [] };
+
+    ghost may_fail = { λ _ _. Unit {0} };
+
+    fn load(&mut self, _name: &str, limit: usize, _into: &mut Vec<u8>) -> Result<(), LoadFault> {
+        self.limit = limit;
+        Err(LoadFault::NoMemory)
+    }
+}
+
+#[test]
+fn a_world_has_at_most_256_mebibytes(rt: HostRuntime) -> Result<(), Fail> {
+    let alloc = rt.alloc();
+    let mut shelf = Asked { limit: 0 };
+    let mut sink = MemSink::new(alloc, Vec::new(alloc), 0)?;
+    let words = words(alloc)?;
+    let status = feast(
+        &rt,
+        alloc,
+        words.as_slice(),
+        &mut shelf,
+        &mut sink,
+        &OpenGate,
+    );
+    assert_eq!(rt; status, Status::NoMemory);
+    assert_eq!(rt; shelf.limit, 256 * 1024 * 1024);
+    Ok(())
+}
+
+#[test]
+fn an_element_has_at_most_a_mebibyte(rt: HostRuntime) -> Result<(), Fail> {
+    let alloc = rt.alloc();
+    let whole = Source::new(alloc, "e", vec![in alloc; b' '; 1_048_576]?)?;
+    let files = vec![in alloc; source(alloc, "w", WALK)?, whole]?;
+    let mut shelf = MemShelf::new(alloc, files, Vec::new(alloc));
+    let mut sink = MemSink::new(alloc, Vec::new(alloc), 100)?;
+    let words = words(alloc)?;
+    let status = feast(
+        &rt,
+        alloc,
+        words.as_slice(),
+        &mut shelf,
+        &mut sink,
+        &OpenGate,
+    );
+    assert_eq!(rt; status, Status::ElementRefused);
+    assert_eq!(rt; sink.written(), NOT_BUILT_ELEMENT.as_bytes());
     Ok(())
 }
 

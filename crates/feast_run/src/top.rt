@@ -1,11 +1,12 @@
 //! The top call.
 ghost use Rattle.std.specs.Prelude.{◌≡◌, ◌<◌, ◌^◌, ◌-◌, map, string_bytes, length};
+ghost use Rattle.feast_base.specs.Outside.{stock, told};
 ghost use Rattle.feast_run.specs.Answer.{Ends, Put, setting};
 ghost use Rattle.feast_run.specs.Promises.{Complete, Exactly, Headline, UsageExactly};
 
 use crate::Status;
 use crate::said::Said;
-use crate::stages::said;
+use crate::stages::answer;
 use feast_base::{Gate, NoMemory, Shelf, Sink, SinkFailed};
 use std::alloc::Global;
 use std::thread::Threads;
@@ -14,7 +15,7 @@ use std::thread::Threads;
 fn put<K: Sink>(sink: &mut K, said: Said) -> Status
     requires room { K.faults sink.old < 2 ^ 64 - 1 }
     requires some { 0 < length said.text.items }
-    ensures { Put said.status said.text.items (K.may_fail sink.old) (K.written sink.old) (K.written sink.new) (K.faults sink.old) (K.faults sink.new) result }
+    ensures { Put said.status said.text.items (told K.written K.faults K.may_fail sink.old) (told K.written K.faults K.may_fail sink.new) result }
 {
     match sink.put(said.text.as_slice()) {
         Ok(()) => said.status,
@@ -26,9 +27,11 @@ fn put<K: Sink>(sink: &mut K, said: Said) -> Status
 fn call<F: Shelf, K: Sink>(alloc: Global, words: &[String], shelf: &mut F, sink: &mut K) -> Status
     requires { K.faults sink.old < 2 ^ 64 - 1 }
     ensures files { F.files shelf.new ≡ F.files shelf.old }
-    ensures ends { Ends (F.may_fail shelf.old) (setting (F.files shelf.old) (F.failed shelf.old) (F.failed shelf.new) (map string_bytes words.now)) (K.may_fail sink.old) (K.written sink.old) (K.written sink.new) (K.faults sink.old) (K.faults sink.new) result }
+    ensures ends { Ends
+        (setting (stock F.files F.failed F.may_fail shelf.old) (stock F.files F.failed F.may_fail shelf.new) (map string_bytes words.now))
+        (told K.written K.faults K.may_fail sink.old) (told K.written K.faults K.may_fail sink.new) result }
 {
-    match said(alloc, words, shelf) {
+    match answer(alloc, words, shelf) {
         Ok(said) => put(sink, said),
         Err(NoMemory) => Status::NoMemory,
     }
@@ -61,11 +64,19 @@ pub fn feast<R: Threads + Sync, F: Shelf, K: Sink, G: Gate>(
 ) -> Status
     requires { K.faults sink.old < 2 ^ 64 - 1 }
     ensures files { F.files shelf.new ≡ F.files shelf.old }
-    ensures headline { Headline (F.files shelf.old) (K.written sink.old) (K.written sink.new) (map string_bytes words.now) result }
-    ensures ends { Ends (F.may_fail shelf.old) (setting (F.files shelf.old) (F.failed shelf.old) (F.failed shelf.new) (map string_bytes words.now)) (K.may_fail sink.old) (K.written sink.old) (K.written sink.new) (K.faults sink.old) (K.faults sink.new) result }
+    ensures headline { Headline
+        (setting (stock F.files F.failed F.may_fail shelf.old) (stock F.files F.failed F.may_fail shelf.new) (map string_bytes words.now))
+        (told K.written K.faults K.may_fail sink.old) (told K.written K.faults K.may_fail sink.new) result }
+    ensures ends { Ends
+        (setting (stock F.files F.failed F.may_fail shelf.old) (stock F.files F.failed F.may_fail shelf.new) (map string_bytes words.now))
+        (told K.written K.faults K.may_fail sink.old) (told K.written K.faults K.may_fail sink.new) result }
     ensures usage { UsageExactly (map string_bytes words.now) result }
-    ensures exactly { Exactly (F.may_fail shelf.old) (setting (F.files shelf.old) (F.failed shelf.old) (F.failed shelf.new) (map string_bytes words.now)) (K.faults sink.old) (K.faults sink.new) (F.files shelf.old) result }
-    ensures complete { Complete (F.files shelf.old) (F.failed shelf.old) (F.failed shelf.new) (map string_bytes words.now) (K.faults sink.old) (K.faults sink.new) result }
+    ensures exactly { Exactly
+        (setting (stock F.files F.failed F.may_fail shelf.old) (stock F.files F.failed F.may_fail shelf.new) (map string_bytes words.now))
+        (told K.written K.faults K.may_fail sink.old) (told K.written K.faults K.may_fail sink.new) result }
+    ensures complete { Complete
+        (setting (stock F.files F.failed F.may_fail shelf.old) (stock F.files F.failed F.may_fail shelf.new) (map string_bytes words.now))
+        (told K.written K.faults K.may_fail sink.old) (told K.written K.faults K.may_fail sink.new) result }
 {
     call(alloc, words, shelf, sink)
 }

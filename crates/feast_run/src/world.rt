@@ -11,6 +11,14 @@ use crate::pieces::{ReadFault, expect, name_until, number_until, seed_until_end}
 use feast_base::{Name, NoMemory};
 use std::alloc::Global;
 
+/// The fewest and the most columns or rows of a tile.
+const SHORTEST_SIDE: u32 = 8;
+
+const LONGEST_SIDE: u32 = 64;
+
+/// The most attempts of a world.
+const MOST_TRIES: usize = 1_000_000;
+
 /// An attempt as a line of a world says it: a site of the tile, and a seed.
 #[derive(Clone, Copy, Debug)]
 pub struct Try {
@@ -71,10 +79,7 @@ fn tries(
         let Some((entry, after)) = try_rest(line, width, height) else {
             return Err(ReadFault::OtherForm);
         };
-        match found.push(entry) {
-            Ok(()) => {}
-            Err(_) => return Err(ReadFault::NoMemory),
-        }
+        found.push(entry)?;
         rest = after;
     }
     Ok((found, rest))
@@ -123,10 +128,7 @@ fn atoms(
     let mut rest = bytes;
     while let Some(line) = expect(rest, b"atom ") {
         let (entry, after) = placed_rest(alloc, line, width, height)?;
-        match found.push(entry) {
-            Ok(()) => {}
-            Err(_) => return Err(ReadFault::NoMemory),
-        }
+        found.push(entry)?;
         rest = after;
     }
     Ok((found, rest))
@@ -137,8 +139,8 @@ fn head(bytes: &[u8]) -> Option<(Size, &[u8])>
     ensures { MatchOption result (NoText head_line IsHead bytes.now) (λ r. HasText head_line IsHead bytes.now (head_value r.0) r.1.now) }
 {
     let rest = expect(bytes, b"feast 1\ntiles 1 1\nsize ")?;
-    let (width, rest) = number_until(rest, b' ', 8, 64)?;
-    let (height, rest) = number_until(rest, b'\n', 8, 64)?;
+    let (width, rest) = number_until(rest, b' ', SHORTEST_SIDE, LONGEST_SIDE)?;
+    let (height, rest) = number_until(rest, b'\n', SHORTEST_SIDE, LONGEST_SIDE)?;
     Some((Size { width, height }, rest))
 }
 
@@ -177,9 +179,7 @@ fn are_apart(alloc: Global, placed: &[Placed], width: u32, height: u32) -> Resul
     requires small { (width ≤ 64) × (height ≤ 64) }
     ensures { IfOk result (λ b. IsTrue b ↔ AllPairs AreApart (map placed_value placed.now)) }
 {
-    let Ok(mut taken) = vec![in alloc; false; (width * height) as usize] else {
-        return Err(NoMemory);
-    };
+    let mut taken = vec![in alloc; false; (width * height) as usize]?;
     for entry in placed {
         let place = place_of(entry, width, height);
         if taken[place] {
@@ -193,11 +193,11 @@ fn are_apart(alloc: Global, placed: &[Placed], width: u32, height: u32) -> Resul
 /// The world that the bytes say.
 ///
 /// `OtherForm` where they say none.
-pub fn world(alloc: Global, bytes: &[u8]) -> Result<RawWorld, ReadFault>
+pub fn read_world(alloc: Global, bytes: &[u8]) -> Result<RawWorld, ReadFault>
     ensures { MatchResult result (λ w. Says bytes.now (world_value w)) (IsOther ((w : WorldValue) → Says bytes.now w → ⊥)) }
 {
     let (world, rest) = front(alloc, bytes)?;
-    if !rest.is_empty() || world.tries.len() > 1_000_000 {
+    if !rest.is_empty() || world.tries.len() > MOST_TRIES {
         return Err(ReadFault::OtherForm);
     }
     match are_apart(alloc, world.placed.as_slice(), world.width, world.height) {

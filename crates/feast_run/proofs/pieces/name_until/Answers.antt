@@ -1,7 +1,7 @@
 use Rattle.std.proofs.Common.{ap}
 use Rattle.feast_run.proofs.Fields.{name-lacks, field_none}
 use Rattle.feast_run.specs.Reading.{IsName}
-use Rattle.feast_run.specs.World.{is_type_name}
+use Rattle.feast_base.specs.TypeNames.{is_type_name}
 use Rattle.feast_run.proofs.pieces.name_until.Goals as goal
 
 pub returns-then-not-is_type_name : goal.returns-then-not-is_type_name

@@ -7,7 +7,7 @@ use Rattle.feast_run.specs.World.{PlacedValue, IsPlaced, place_in}
 use Rattle.feast_run.proofs.world.are_apart.Goals as goal
 
 pub loop-entry-init : goal.loop-entry-init
-loop-entry-init c = marked_none c.args.width (c.args.width * c.args.height) (map placed_value c.args.placed.now) c.in-Ok.taken.items (search rules)
+loop-entry-init c = marked_none c.args.width (c.args.width * c.args.height) (map placed_value c.args.placed.now) c.in_ok-taken.taken.items (search rules)
 
 pub place_of-place-requires : goal.place_of-place-requires
 place_of-place-requires c =

@@ -22,5 +22,5 @@ pub loop-line-preserved : goal.loop-line-preserved
 loop-line-preserved c =
     let found = c.loop-line.invariant in
     let more = lines_more placed_value placed_line placed_rest (IsPlaced c.args.width c.args.height) (codes "atom ") c.loop-line.found.items c.push.new.self.items c.in_ok-entry.entry
-    c.args.bytes.now c.loop-line.rest.now c.in-Some.line.now c.in_ok-entry.after.now (λ p. refl) c.in-Ok.ensures.items found.valid found.text c.in-Some.ensures c.in_ok-entry.ensures.0 c.in_ok-entry.ensures.1 in
+    c.args.bytes.now c.loop-line.rest.now c.in-Some.line.now c.in_ok-entry.after.now (λ p. refl) c.in_ok-push.ensures.items found.valid found.text c.in-Some.ensures c.in_ok-entry.ensures.0 c.in_ok-entry.ensures.1 in
     record { valid = more.0; text = more.1 }

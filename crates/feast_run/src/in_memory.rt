@@ -1,8 +1,7 @@
 //! The top call over a shelf and a sink in memory.
-ghost use Rattle.std.specs.Prelude.{◌<◌, ◌^◌, ◌-◌, Some, map, string_bytes};
-ghost use Rattle.feast_base.specs.Held.{LoadMayFail, PutMayFail};
+ghost use Rattle.std.specs.Prelude.{◌<◌, ◌^◌, ◌-◌, map, string_bytes};
 ghost use Rattle.feast_run.specs.Answer.{Ends, setting};
-ghost use Rattle.feast_run.specs.Promises.{IsQuiet};
+ghost use Rattle.feast_run.specs.Promises.{IsQuiet, stock_held, told_held};
 
 use crate::{Status, feast};
 use feast_base::{Gate, MemShelf, MemSink};
@@ -22,7 +21,7 @@ pub fn feast_in_memory<R: Threads + Sync, G: Gate>(
     gate: &G,
 ) -> Status
     requires { sink.old.faults < 2 ^ 64 - 1 }
-    ensures ends { Ends (LoadMayFail shelf.old) (setting (Some shelf.old.files) shelf.old.failed shelf.new.failed (map string_bytes words.now)) (PutMayFail sink.old) (Some sink.old.written) (Some sink.new.written) sink.old.faults sink.new.faults result }
+    ensures ends { Ends (setting (stock_held shelf.old) (stock_held shelf.new) (map string_bytes words.now)) (told_held sink.old) (told_held sink.new) result }
     ensures quiet { IsQuiet shelf.old shelf.new sink.old sink.new (map string_bytes words.now) result }
 {
     feast(rt, alloc, words, shelf, sink, gate)

@@ -3,7 +3,7 @@ use Rattle.feast_run.proofs.Fields.{answers_none, number_one}
 use Rattle.feast_run.proofs.Composed.{word_none, after_word_none, then_none}
 use Rattle.feast_run.specs.Bodies.{body_text, IsBody}
 use Rattle.feast_run.specs.Reading.{IsIn, number_end}
-use Rattle.feast_run.proofs.element.body.Goals as goal
+use Rattle.feast_run.proofs.element_text.body.Goals as goal
 
 pub returns-in_err-rest : goal.returns-in_err-rest
 returns-in_err-rest c =

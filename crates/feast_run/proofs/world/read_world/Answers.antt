@@ -5,8 +5,8 @@ use Rattle.feast_run.proofs.Worlds.{begins_one}
 use Rattle.feast_run.specs.Values.{try_value, placed_value, world_value}
 use Rattle.feast_run.specs.World.{WorldValue, AreApart}
 use Rattle.feast_run.specs.declared.world.Placed.{Placed}
-use Rattle.feast_run.proofs.world.world.Goals as goal
-use Rattle.feast_run.proofs.world.world.Goals.{then-not-is_empty-via-then-not-is_empty, then-not-is_empty-via-else-not-is_empty+then-len-gt1000000}
+use Rattle.feast_run.proofs.world.read_world.Goals as goal
+use Rattle.feast_run.proofs.world.read_world.Goals.{then-not-is_empty-via-then-not-is_empty, then-not-is_empty-via-else-not-is_empty+then-len-gt-MOST_TRIES}
 
 pub returns-then-not-is_empty : goal.returns-then-not-is_empty
 returns-then-not-is_empty c = λ w says.
@@ -19,8 +19,8 @@ returns-then-not-is_empty c = λ w says.
           let d = ap (λ (n : ℕ). n == 0) none in
           let clash : false ≡ true = sym a ∙ b ∙ d in
           cc
-      | then-not-is_empty-via-else-not-is_empty+then-len-gt1000000 v ↦
-          let a = v.if-len-gt1000000.true in
+      | then-not-is_empty-via-else-not-is_empty+then-len-gt-MOST_TRIES v ↦
+          let a = v.if-len-gt-MOST_TRIES.true in
           let b = v.len.ensures in
           let few = says.valid.few in
           let same = ap (λ (x : WorldValue). length x.tries) one.0 in

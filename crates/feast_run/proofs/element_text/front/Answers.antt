@@ -1,7 +1,7 @@
 use Rattle.feast_run.proofs.Elements.{no_name, no_body}
 use Rattle.feast_run.proofs.Faults.{answers_other}
 use Rattle.feast_run.specs.Reading.{NoText, name_end, IsName}
-use Rattle.feast_run.proofs.element.front.Goals as goal
+use Rattle.feast_run.proofs.element_text.front.Goals as goal
 
 pub returns-in_err-name : goal.returns-in_err-name
 returns-in_err-name c =

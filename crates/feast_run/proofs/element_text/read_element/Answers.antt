@@ -2,8 +2,8 @@ use Rattle.std.proofs.Common.{◌≡◌, ◌∙◌, ap, sym, true, false}
 use Rattle.feast_run.proofs.Elements.{starts_one, text_of}
 use Rattle.feast_run.specs.Element.{ElementValue, is_built_in}
 use Rattle.feast_run.specs.Values.{element_value}
-use Rattle.feast_run.proofs.element.element.Goals as goal
-use Rattle.feast_run.proofs.element.element.Goals.{else-is_tail-via-then-is_tail+else-not-is_built_in, else-is_tail-via-else-is_tail}
+use Rattle.feast_run.proofs.element_text.read_element.Goals as goal
+use Rattle.feast_run.proofs.element_text.read_element.Goals.{else-is_tail-via-then-is_tail+else-not-is_built_in, else-is_tail-via-else-is_tail}
 
 pub returns-then-not-is_built_in : goal.returns-then-not-is_built_in
 returns-then-not-is_built_in c =
