@@ -5,7 +5,7 @@ use Rattle.std.specs.List.{range_with_len}
 use Rattle.draw_stream.specs.declared.attempt.Attempt.{Attempt}
 use Rattle.draw_stream.specs.Words.{tile_step, tile_state, tile_word, event_step, event_state}
 use Rattle.draw_stream.specs.Attempts.{attempt_at, next_attempt, state_after, next_attempts}
-use Rattle.draw_stream.specs.Plans.{Takes}
+use Rattle.draw_stream.specs.Plans.{TakesNext}
 
 pub tile_state-more : (seed i : ℕ) → tile_state seed (i + 1) ≡ (tile_step (tile_state seed i)).1
 unfolding tile_state
@@ -50,10 +50,10 @@ length_next_attempts state sites zero = refl
 length_next_attempts state sites (suc k) = ap suc (length_next_attempts (state_after state) sites k)
 
 -- nothing, or the first, is taken
-pub takes_none : (l m : List Attempt) → l ≡ [] → m ≡ [] → Takes l None m
+pub takes_none : (l m : List Attempt) → l ≡ [] → m ≡ [] → TakesNext l None m
 takes_none l m e f = rw e (refl, f)
 
-pub takes_first : (l m : List Attempt) (a : Attempt) → l ≡ a ∷ m → Takes l (Some a) m
+pub takes_first : (l m : List Attempt) (a : Attempt) → l ≡ a ∷ m → TakesNext l (Some a) m
 takes_first l m a e = rw e (refl, refl)
 
 -- the next attempts of a generator are those by position

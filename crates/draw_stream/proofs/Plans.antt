@@ -1,13 +1,15 @@
 -- How many attempts a plan has, and which.
-use Rattle.std.proofs.Common.{ℕ, zero, suc, ◌≡◌, ◌+◌, ◌*◌, ◌<◌, ◌≤◌, [], ap, ◌∙◌, arith, map, length}
-use Rattle.std.specs.Prelude.{sum_by, slice_index_or}
+use Rattle.std.proofs.Common.{ℕ, zero, suc, ◌≡◌, ◌+◌, ◌*◌, ◌<◌, ◌≤◌, Bool, true, false, List, [], ◌∷◌, ◌++◌, sym, ap, ◌∙◌, arith, map, take, get_or, length}
+use Rattle.std.specs.Prelude.{not, filter, if◌then◌else◌, sum_by, slice_index_or}
+use Rattle.std.proofs.lemmas.List.{take_all, take_more, length-append}
+use Rattle.std.proofs.lemmas.List.Elements.{filter-append}
 use Rattle.std.specs.List.{range_with_len}
 use Rattle.std.proofs.lemmas.List.FromFn.{length-map-range_with_len, get_or-map-range_with_len, sum_by-map-range_with_len_more}
 use Rattle.std.proofs.lemmas.List.Sums.{get_or-le-sum_by}
 use Rattle.draw_stream.specs.declared.attempt.Attempt.{Attempt}
 use Rattle.draw_stream.specs.Words.{tile_state}
 use Rattle.draw_stream.specs.Attempts.{attempt_at, stream_seed, seeded_attempts, next_attempts}
-use Rattle.draw_stream.specs.Plans.{PlanValue, IsPlan, attempts, seeded, seeded_lists}
+use Rattle.draw_stream.specs.Plans.{PlanValue, IsPlan, attempts, tiles_on, count_of, seeded, seeded_lists}
 use Rattle.draw_stream.proofs.Places.{next_attempts-at}
 
 pub length_seeded_attempts : (seed count sites tile : ℕ) → length (seeded_attempts seed count sites tile) ≡ count
@@ -24,31 +26,46 @@ pub seeded_attempts_drawn : (seed count sites tile : ℕ) → next_attempts (til
 unfolding seeded_attempts
 seeded_attempts_drawn seed count sites tile = next_attempts-at (stream_seed seed tile) sites 0 count
 
-pub length_seeded_lists : (seed count tiles sites : ℕ) → length (seeded_lists seed count tiles sites) ≡ tiles
+pub length_seeded_lists : (seed count : ℕ) (off : List Bool) (sites : ℕ) → length (seeded_lists seed count off sites) ≡ length off
 unfolding seeded_lists
-length_seeded_lists seed count tiles sites = length-map-range_with_len (seeded_attempts seed count sites) 0 tiles
+length_seeded_lists seed count off sites = length-map-range_with_len (λ tile. seeded_attempts seed (count_of count off tile) sites tile) 0 (length off)
 
-pub seeded_lists_at : (seed count tiles sites tile : ℕ) → tile < tiles → attempts (seeded seed count tiles sites) tile ≡ seeded_attempts seed count sites tile
+pub seeded_lists_at : (seed count : ℕ) (off : List Bool) (sites tile : ℕ) → tile < length off → attempts (seeded seed count off sites) tile ≡ seeded_attempts seed (count_of count off tile) sites tile
 unfolding seeded_lists
-seeded_lists_at seed count tiles sites tile h = get_or-map-range_with_len (seeded_attempts seed count sites) 0 tiles tile tile [] h (omega arith)
+seeded_lists_at seed count off sites tile h = get_or-map-range_with_len (λ tile. seeded_attempts seed (count_of count off tile) sites tile) 0 (length off) tile tile [] h (omega arith)
 
-sum-drawn : (seed count sites n : ℕ) → sum_by length (map (seeded_attempts seed count sites) (range_with_len 0 n)) ≡ count * n
-sum-drawn seed count sites zero = omega arith
-sum-drawn seed count sites (suc n) =
+-- one tile more
+count_more : (count n : ℕ) (off : List Bool) → n < length off → count * tiles_on (take (n + 1) off) ≡ count * tiles_on (take n off) + count_of count off n
+count_more count n off lt =
+    let whole : take (n + 1) off ≡ take n off ++ get_or off n true ∷ [] = take_more off n true lt in
+    let split = filter-append not (take n off) (get_or off n true ∷ []) in
+    let long = length-append (filter not (take n off)) (filter not (get_or off n true ∷ [])) in
+    ap (λ l. count * tiles_on l) whole ∙ ap (λ l. count * length l) split ∙ ap (λ k. count * k) long ∙ one (get_or off n true) (tiles_on (take n off))
+  where
+    one : (b : Bool) (k : ℕ) → count * (k + length (filter not (b ∷ []))) ≡ count * k + (if b then 0 else count)
+    one true k = omega arith
+    one false k = omega arith
+
+sum-drawn : (seed count sites n : ℕ) (off : List Bool) → n ≤ length off → sum_by length (map (λ tile. seeded_attempts seed (count_of count off tile) sites tile) (range_with_len 0 n)) ≡ count * tiles_on (take n off)
+sum-drawn seed count sites zero off le = omega arith
+sum-drawn seed count sites (suc n) off le =
     let e : suc n ≡ n + 1 = omega arith in
-    let more = sum_by-map-range_with_len_more length (seeded_attempts seed count sites) 0 n n (omega arith) in
-    let all : ℕ → ℕ = λ k. sum_by length (map (seeded_attempts seed count sites) (range_with_len 0 k)) in
-    ap all e ∙ more ∙ rw (sum-drawn seed count sites n, length_seeded_attempts seed count sites n) (omega arith)
+    let f : ℕ → List Attempt = λ tile. seeded_attempts seed (count_of count off tile) sites tile in
+    let more = sum_by-map-range_with_len_more length f 0 n n (omega arith) in
+    let all : ℕ → ℕ = λ k. sum_by length (map f (range_with_len 0 k)) in
+    let before = sum-drawn seed count sites n off (omega (arith, le)) in
+    let here : length (f n) ≡ count_of count off n = length_seeded_attempts seed (count_of count off n) sites n in
+    ap all e ∙ more ∙ (λ i. before i + here i) ∙ sym (count_more count n off (omega (arith, le))) ∙ ap (λ k. count * tiles_on (take k off)) (sym e)
 
-pub sum_seeded_lists : (seed count tiles sites : ℕ) → sum_by length (seeded_lists seed count tiles sites) ≡ count * tiles
+pub sum_seeded_lists : (seed count : ℕ) (off : List Bool) (sites : ℕ) → sum_by length (seeded_lists seed count off sites) ≡ count * tiles_on off
 unfolding seeded_lists
-sum_seeded_lists seed count tiles sites = sum-drawn seed count sites tiles
+sum_seeded_lists seed count off sites = sum-drawn seed count sites (length off) off (omega arith) ∙ ap (λ l. count * tiles_on l) (take_all (length off) off (omega arith))
 
 -- a seeded plan within its bounds is a plan
-pub seeded_planned : (seed count tiles sites : ℕ) → 1 ≤ tiles → tiles ≤ 64 → count * tiles ≤ 1000000 → IsPlan (seeded seed count tiles sites)
-seeded_planned seed count tiles sites some most few =
-    let n = length_seeded_lists seed count tiles sites in
-    let m = sum_seeded_lists seed count tiles sites in
+pub seeded_planned : (seed count : ℕ) (off : List Bool) (sites : ℕ) → 1 ≤ length off → length off ≤ 64 → count * tiles_on off ≤ 1000000 → IsPlan (seeded seed count off sites)
+seeded_planned seed count off sites some most few =
+    let n = length_seeded_lists seed count off sites in
+    let m = sum_seeded_lists seed count off sites in
     record { some = omega arith; most = omega arith; few = omega arith }
 
 -- no tile of a plan has more than 1,000,000 attempts
@@ -59,12 +76,10 @@ attempts_few plan tile h within =
     omega arith
 
 -- nor does one draw more
-pub count_few : (seed count tiles sites : ℕ) → IsPlan (seeded seed count tiles sites) → count ≤ 1000000
-count_few seed count tiles sites h =
-    let n = length_seeded_lists seed count tiles sites in
-    let some = h.some in
-    let first : 0 < tiles = omega arith in
-    let m = attempts_few (seeded seed count tiles sites) 0 h (omega arith) in
-    let e : length (attempts (seeded seed count tiles sites) 0) ≡ count =
-    ap length (seeded_lists_at seed count tiles sites 0 first) ∙ length_seeded_attempts seed count sites 0 in
+pub count_few : (seed count : ℕ) (off : List Bool) (sites tile : ℕ) → IsPlan (seeded seed count off sites) → tile < length off → count_of count off tile ≤ 1000000
+count_few seed count off sites tile h lt =
+    let n = length_seeded_lists seed count off sites in
+    let m = attempts_few (seeded seed count off sites) tile h (omega (arith, n, lt)) in
+    let e : length (attempts (seeded seed count off sites) tile) ≡ count_of count off tile =
+    ap length (seeded_lists_at seed count off sites tile lt) ∙ length_seeded_attempts seed (count_of count off tile) sites tile in
     omega arith

@@ -14,12 +14,12 @@ pub record IsSites (sites : ℕ) : Type 0 where
   pub most : sites ≤ 4096
 
 abbrev pub plan_of : Plan → PlanValue
-plan_of (Seeded o) = seeded o.seed o.count o.tiles o.sites
+plan_of (Seeded o) = seeded o.seed o.count o.off.items o.sites
 plan_of (Scripted scripts) = scripted scripts.items
 
 -- a plan whose attempts can be given
 abbrev pub CanGive : Plan → Type 0
-CanGive (Seeded o) = IsSites o.sites × IsPlan (seeded o.seed o.count o.tiles o.sites)
+CanGive (Seeded o) = IsSites o.sites × IsPlan (seeded o.seed o.count o.off.items o.sites)
 CanGive (Scripted scripts) = IsPlan (scripted scripts.items)
 
 -- the attempts that are left

@@ -1,10 +1,10 @@
 -- A plan gives each tile its list of attempts.
-use Rattle.std.specs.Prelude.{ℕ, ◌≡◌, ◌≤◌, List, [], ◌∷◌, Option, Some, None, map, length, sum_by, slice_index_or}
+use Rattle.std.specs.Prelude.{ℕ, ◌≡◌, ◌≤◌, Bool, true, not, if◌then◌else◌, List, [], ◌∷◌, Option, Some, None, map, filter, length, sum_by, slice_index_or}
 use Rattle.std.specs.List.{range_with_len}
 use Rattle.draw_stream.specs.declared.attempt.Attempt.{Attempt}
 use Rattle.draw_stream.specs.Attempts.{seeded_attempts}
 
--- the attempts of each tile, and of a seeded plan its seed and how many attempts each tile draws
+-- the attempts of each tile, and of a seeded plan its seed and how many attempts each tile that is on draws
 pub record PlanValue : Type 0 where
   pub lists : List (List Attempt)
   pub origin : Option (ℕ × ℕ)
@@ -13,12 +13,20 @@ pub record PlanValue : Type 0 where
 abbrev pub attempts : PlanValue → ℕ → List Attempt
 attempts plan tile = slice_index_or plan.lists tile []
 
--- so many tiles, each of which draws as many attempts
-unfoldable pub seeded_lists : ℕ → ℕ → ℕ → ℕ → List (List Attempt)
-seeded_lists seed count tiles sites = map (seeded_attempts seed count sites) (range_with_len 0 tiles)
+-- how many of some tiles are on, where each has a mark that says whether it is off
+abbrev pub tiles_on : List Bool → ℕ
+tiles_on off = length (filter not off)
 
-abbrev pub seeded : ℕ → ℕ → ℕ → ℕ → PlanValue
-seeded seed count tiles sites = record { lists = seeded_lists seed count tiles sites; origin = Some (seed, count) }
+-- how many attempts a tile draws: none where it is off
+abbrev pub count_of : ℕ → List Bool → ℕ → ℕ
+count_of count off tile = if slice_index_or off tile true then 0 else count
+
+-- the attempts of each of these tiles
+unfoldable pub seeded_lists : ℕ → ℕ → List Bool → ℕ → List (List Attempt)
+seeded_lists seed count off sites = map (λ tile. seeded_attempts seed (count_of count off tile) sites tile) (range_with_len 0 (length off))
+
+abbrev pub seeded : ℕ → ℕ → List Bool → ℕ → PlanValue
+seeded seed count off sites = record { lists = seeded_lists seed count off sites; origin = Some (seed, count) }
 
 -- attempts that are written out
 abbrev pub scripted : List (List Attempt) → PlanValue
@@ -31,6 +39,6 @@ pub record IsPlan (plan : PlanValue) : Type 0 where
   pub few : sum_by length plan.lists ≤ 1000000
 
 -- what is taken from a list of attempts: the first, where there is one
-abbrev pub Takes : List Attempt → Option Attempt → List Attempt → Type 0
-Takes [] taken rest = (taken ≡ None) × (rest ≡ [])
-Takes (first ∷ others) taken rest = (taken ≡ Some first) × (rest ≡ others)
+abbrev pub TakesNext : List Attempt → Option Attempt → List Attempt → Type 0
+TakesNext [] taken rest = (taken ≡ None) × (rest ≡ [])
+TakesNext (first ∷ others) taken rest = (taken ≡ Some first) × (rest ≡ others)

@@ -3,7 +3,7 @@
 ghost use Rattle.std.specs.Prelude.{◌≡◌, ◌≤◌, length, drop};
 ghost use Rattle.draw_stream.specs.Attempts.{next_attempts};
 ghost use Rattle.draw_stream.specs.Kept.{IsSites};
-ghost use Rattle.draw_stream.specs.Plans.{Takes};
+ghost use Rattle.draw_stream.specs.Plans.{TakesNext};
 
 use crate::{Attempt, TileStream};
 use std::marker::Model;
@@ -14,16 +14,16 @@ pub struct Attempts {
     pub(crate) rest: Rest,
 }
 
-// Where the attempts that are left come from.
+/// Where the attempts that are left come from.
 #[derive(Drop)]
 pub(crate) enum Rest {
-    // So many are still to be drawn, in a tile of so many sites.
+    /// So many are still to be drawn, in a tile of so many sites.
     Drawn {
         stream: TileStream,
         sites: u64,
         left: u64,
     },
-    // They stand in a list, from a place on.
+    /// They stand in a list, from a place on.
     Listed {
         list: Vec<Attempt>,
         next: usize,
@@ -57,7 +57,7 @@ impl Attempts {
 
     /// The next attempt. None exactly where none is left.
     pub fn next(&mut self) -> Option<Attempt>
-        ensures { Takes self.old result self.new }
+        ensures { TakesNext self.old result self.new }
     {
         match &mut self.rest {
             Rest::Drawn {
@@ -70,11 +70,11 @@ impl Attempts {
     }
 }
 
-// The next of so many attempts that are still to be drawn.
+/// The next of so many attempts that are still to be drawn.
 #[tactic(auto, using(crate::proofs::Places::next_attempts_none, crate::proofs::Places::next_attempts_some, crate::proofs::Places::takes_none, crate::proofs::Places::takes_first))]
 fn next_drawn(stream: &mut TileStream, sites: u64, left: &mut u64) -> Option<Attempt>
     requires { IsSites sites }
-    ensures { Takes (next_attempts stream.old sites left.old) result (next_attempts stream.new sites left.new) }
+    ensures { TakesNext (next_attempts stream.old sites left.old) result (next_attempts stream.new sites left.new) }
 {
     if *left == 0 {
         return None;
@@ -83,11 +83,11 @@ fn next_drawn(stream: &mut TileStream, sites: u64, left: &mut u64) -> Option<Att
     Some(stream.attempt(sites))
 }
 
-// The next attempt of a list from a place on.
+/// The next attempt of a list from a place on.
 #[tactic(auto, using(crate::proofs::Places::takes_none, crate::proofs::Places::takes_first))]
 fn next_listed(list: &[Attempt], next: &mut usize) -> Option<Attempt>
     requires { next.old ≤ length list.now }
-    ensures value { Takes (drop next.old list.now) result (drop next.new list.now) }
+    ensures value { TakesNext (drop next.old list.now) result (drop next.new list.now) }
     ensures within { next.new ≤ length list.now }
 {
     let attempt = *list.get(*next)?;

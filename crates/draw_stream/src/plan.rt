@@ -1,7 +1,7 @@
 //! Plans of attempts.
 
 ghost use Rattle.std.specs.Prelude.{◌≡◌, ◌≤◌, ◌<◌, ◌*◌, length, sum_by, IfOk, IsOk, IsSome};
-ghost use Rattle.draw_stream.specs.Plans.{IsPlan, attempts, seeded, scripted};
+ghost use Rattle.draw_stream.specs.Plans.{IsPlan, attempts, tiles_on, count_of, seeded, scripted};
 
 use crate::attempts::{Attempts, Rest};
 use crate::{Attempt, TileStream};
@@ -47,16 +47,30 @@ pub struct AttemptPlan {
     plan: Plan,
 }
 
-// What a seeded plan is made with.
-#[derive(Clone, Copy)]
+/// What a seeded plan is made with.
+#[derive(Drop)]
 pub(crate) struct Origin {
     seed: u64,
     count: u64,
-    tiles: u32,
+    off: Vec<bool>,
     sites: u64,
 }
 
-// How the attempts are given.
+impl Origin {
+    /// How many attempts a tile makes.
+    fn attempts(&self, tile: u32) -> u64
+        requires { tile < length self.now.off.items }
+        ensures { result ≡ count_of self.now.count self.now.off.items tile }
+    {
+        if self.off[tile as usize] {
+            0
+        } else {
+            self.count
+        }
+    }
+}
+
+/// How the attempts are given.
 #[derive(Drop)]
 pub(crate) enum Plan {
     Seeded(Origin),
@@ -77,25 +91,36 @@ impl Model for AttemptPlan {
 
 impl AttemptPlan {
     /// The plan by which each of 1 to 64 tiles draws `count` attempts from the generator of the
-    /// seed and its number. A tile has 1 to 4,096 sites. There are at most 1,000,000 attempts over
-    /// all tiles.
+    /// seed and its number, but for the tiles that are off, which have none: `off` has an entry for
+    /// each tile. A tile has 1 to 4,096 sites. There are at most 1,000,000 attempts over all tiles.
+    ///
+    /// `NoMemory`: there was no memory for the marks.
     #[tactic(auto, using(crate::proofs::Plans::length_seeded_lists))]
-    pub fn seeded(seed: u64, count: u64, tiles: u32, sites: u64) -> AttemptPlan
-        requires some_tiles { 1 ≤ tiles }
-        requires most_tiles { tiles ≤ 64 }
+    pub fn seeded(
+        alloc: Global,
+        seed: u64,
+        count: u64,
+        off: &[bool],
+        sites: u64,
+    ) -> Result<AttemptPlan, NoMemory>
+        requires some_tiles { 1 ≤ length off.now }
+        requires most_tiles { length off.now ≤ 64 }
         requires some_sites { 1 ≤ sites }
         requires most_sites { sites ≤ 4096 }
-        requires few { count * tiles ≤ 1000000 }
-        ensures value { result ≡ seeded seed count tiles sites }
-        ensures lists { length result.lists ≡ tiles }
+        requires few { count * tiles_on off.now ≤ 1000000 }
+        ensures value { IfOk result (λ p. p ≡ seeded seed count off.now sites) }
+        ensures lists { IfOk result (λ p. length p.lists ≡ length off.now) }
     {
-        AttemptPlan {
-            plan: Plan::Seeded(Origin {
-                seed,
-                count,
-                tiles,
-                sites,
+        match Vec::from_slice(alloc, off) {
+            Ok(off) => Ok(AttemptPlan {
+                plan: Plan::Seeded(Origin {
+                    seed,
+                    count,
+                    off,
+                    sites,
+                }),
             }),
+            Err(_) => Err(NoMemory),
         }
     }
 
@@ -110,7 +135,7 @@ impl AttemptPlan {
         }
     }
 
-    /// The seed of a seeded plan, and how many attempts each of its tiles makes. None exactly for a
+    /// The seed of a seeded plan, and how many attempts each of its tiles makes that is on. None exactly for a
     /// plan that is written out.
     pub fn origin(&self) -> Option<(u64, u64)>
         ensures value { result ≡ self.now.origin }
@@ -131,7 +156,7 @@ impl AttemptPlan {
         ensures plan { IsPlan self.now }
     {
         match &self.plan {
-            Plan::Seeded(origin) => origin.count,
+            Plan::Seeded(origin) => origin.attempts(tile),
             Plan::Scripted(scripts) => scripts[tile as usize].attempts.len() as u64,
         }
     }
@@ -150,7 +175,7 @@ impl AttemptPlan {
                 rest: Rest::Drawn {
                     stream: TileStream::new(origin.seed, tile),
                     sites: origin.sites,
-                    left: origin.count,
+                    left: origin.attempts(tile),
                 },
             }),
             Plan::Scripted(scripts) => listed(alloc, scripts[tile as usize].attempts.as_slice()),
@@ -158,7 +183,7 @@ impl AttemptPlan {
     }
 }
 
-// The attempts of a list.
+/// The attempts of a list.
 fn listed(alloc: Global, attempts: &[Attempt]) -> Result<Attempts, NoMemory>
     ensures { IfOk result (λ a. a ≡ attempts.now) }
 {

@@ -47,7 +47,7 @@ fn an_event_draws_words_of_its_seed(rt: HostRuntime) {
     assert_eq!(rt; draws.below(10), 6);
 }
 
-// The attempts, one after another.
+/// The attempts, one after another.
 fn is_followed(attempts: &mut Attempts, expected: &[Attempt]) -> bool {
     for attempt in expected {
         if attempts.next() != Some(*attempt) {
@@ -59,8 +59,13 @@ fn is_followed(attempts: &mut Attempts, expected: &[Attempt]) -> bool {
 
 #[test]
 fn a_seeded_plan_of_seed_7_on_tiles_of_16_by_16(rt: HostRuntime) -> Result<(), Fail> {
-    let plan = AttemptPlan::seeded(7, 4, 4, 256);
-    assert_eq!(rt; (plan.origin(), plan.count(3)), (Some((7, 4)), 4));
+    let off = [false, true, false, false];
+    let plan = AttemptPlan::seeded(rt.alloc(), 7, 4, &off, 256)?;
+    assert_eq!(rt;
+        (plan.origin(), plan.count(3), plan.count(1)),
+        (Some((7, 4)), 4, 0)
+    );
+    assert!(rt; is_followed(&mut plan.of_tile(rt.alloc(), 1)?, &[]));
     let mut attempts = plan.of_tile(rt.alloc(), 0)?;
     assert_eq!(rt; attempts.left(), 4);
     let first = [

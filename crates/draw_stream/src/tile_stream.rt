@@ -35,7 +35,7 @@ impl TileStream {
         }
     }
 
-    // The next word.
+    /// The next word.
     #[tactic(auto, unfolding(crate::specs::Words::tile_step))]
     fn word(&mut self) -> u64
         ensures value { result ≡ (tile_step self.old).0 }

@@ -13,7 +13,7 @@ use std::alloc::{AllocError, Global};
 use std::test::Fail;
 use std::thread::{Threads, join_mut};
 
-// Tries an edge once, and adds 1 to register 0 where it is got.
+/// Tries an edge once, and adds 1 to register 0 where it is got.
 fn bump<D: Board>(board: &mut D, edge: u32, attempt: u64) -> bool
     requires edge { 0 < D.registers board.old edge }
     requires free { IsFree (D.lists board.old edge) }
@@ -34,7 +34,7 @@ fn bump<D: Board>(board: &mut D, edge: u32, attempt: u64) -> bool
     }
 }
 
-// Tries an edge so many times. The answer is the number of holds.
+/// Tries an edge so many times. The answer is the number of holds.
 fn count_up<D: Board>(board: &mut D, edge: u32, tries: u64) -> u64
     requires edge { 0 < D.registers board.old edge }
     requires fresh { D.lists board.old edge ≡ end_lists [] [] }
@@ -52,7 +52,7 @@ fn count_up<D: Board>(board: &mut D, edge: u32, tries: u64) -> u64
     got
 }
 
-// Both ends count, each in a thread of its own.
+/// Both ends count, each in a thread of its own.
 fn count_both<R: Threads, A: Board + Send, B: Board + Send>(
     rt: &R,
     low: &mut A,
@@ -77,7 +77,7 @@ fn count_both<R: Threads, A: Board + Send, B: Board + Send>(
     one + other
 }
 
-// The number of holds of two threads, and what register 0 has then.
+/// The number of holds of two threads, and what register 0 has then.
 fn counted<R: Threads>(rt: &R, alloc: Global) -> Result<(u64, u64), Fail> {
     let (edge, low, high) = Edge::new(alloc, 0, 1)?;
     let mut edges = Vec::from_array(alloc, [edge])?;
@@ -106,7 +106,7 @@ fn two_threads_count(rt: HostRuntime) -> Result<(), Fail> {
     Ok(())
 }
 
-// Both ends of a shared edge take turns: what the higher end reads, where each try is answered as it is with one board.
+/// Both ends of a shared edge take turns: what the higher end reads, where each try is answered as it is with one board.
 fn take_turns<A: Board, B: Board>(low: &mut A, high: &mut B) -> Option<u64>
     requires low { (0 < A.registers low.old 0) × (A.lists low.old 0 ≡ end_lists [] []) }
     requires high { (0 < B.registers high.old 0) × (B.lists high.old 0 ≡ end_lists [] []) }
@@ -129,7 +129,7 @@ fn take_turns<A: Board, B: Board>(low: &mut A, high: &mut B) -> Option<u64>
     Some(read)
 }
 
-// What the higher end of a shared edge reads, and what register 0 has when the edge is closed.
+/// What the higher end of a shared edge reads, and what register 0 has when the edge is closed.
 fn shared_turns(alloc: Global) -> Result<Option<(u64, u64)>, Fail> {
     let (edge, low, high) = Edge::new(alloc, 0, 1)?;
     let mut edges = Vec::from_array(alloc, [edge])?;
@@ -167,7 +167,7 @@ fn passes_know_their_edge(rt: HostRuntime) -> Result<(), Fail> {
     Ok(())
 }
 
-// Two tiles and the one edge between them.
+/// Two tiles and the one edge between them.
 struct OneEdge;
 
 impl EdgeSizes for OneEdge {
@@ -192,7 +192,7 @@ impl EdgeSizes for OneEdge {
     }
 }
 
-// Both ends of an edge take turns on one board: what the higher end is answered, what it reads, and what is left.
+/// Both ends of an edge take turns on one board: what the higher end is answered, what it reads, and what is left.
 fn alternate(alloc: Global) -> Result<(Take, u64, u64), NoMemory>
     ensures { IfOk result (λ r. (r.0 ≡ Busy 5) × (r.1 ≡ 9) × (r.2 ≡ 9)) }
 {
@@ -210,7 +210,7 @@ fn alternate(alloc: Global) -> Result<(Take, u64, u64), NoMemory>
     Ok((refused, read, board.word(0, 0)))
 }
 
-// One try, by code that knows the board as a `Board` alone.
+/// One try, by code that knows the board as a `Board` alone.
 fn try_once<D: Board>(board: &mut D, edge: u32, attempt: u64) -> Take
     requires edge { 0 < D.registers board.old edge }
     requires free { IsFree (D.lists board.old edge) }
@@ -221,7 +221,7 @@ fn try_once<D: Board>(board: &mut D, edge: u32, attempt: u64) -> Take
     board.try_take(edge, attempt)
 }
 
-// Of such a try on a plain board it is known that Busy came where the other end had the edge, and Got where nobody had it.
+/// Of such a try on a plain board it is known that Busy came where the other end had the edge, and Got where nobody had it.
 fn try_on_board(board: &mut PlainBoard, edge: u32, attempt: u64) -> Take
     requires edge { 0 < registers_on board.old edge }
     requires free { IsFree (lists_on board.old edge) }
@@ -239,15 +239,15 @@ fn one_try_of_generic_code(rt: HostRuntime) -> Result<(), Fail> {
     Ok(())
 }
 
-// How many sites edges of so many registers share.
+/// How many sites edges of so many registers share.
 fn tell_site_counts()
     ensures smallest { (site_count 1 ≡ 0) × (site_count 5 ≡ 1) }
     ensures words { (site_count 131 ≡ 64) × (site_count 135 ≡ 65) × (site_count 197 ≡ 96) }
     ensures largest { site_count 1107 ≡ 544 }
 {}
 
-// On an edge of one shared site the clock, the low word and the news words take any value, and what the register of the
-// high word gives leaves the gap.
+/// On an edge of one shared site the clock, the low word and the news words take any value, and what the register of the
+/// high word gives leaves the gap.
 fn fill<D: Board>(board: &mut D) -> Option<(u64, u64)>
     requires edge { D.registers board.old 0 ≡ 5 }
     requires fresh { D.lists board.old 0 ≡ end_lists [] [] }

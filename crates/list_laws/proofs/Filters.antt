@@ -1,5 +1,5 @@
 -- Filters of a range and of its beginnings.
-use Rattle.std.proofs.Common.{ℕ, ◌≡◌, ◌+◌, ◌-◌, ◌<◌, ◌≤◌, Bool, true, false, ◌&&◌, suc, List, [], ◌∷◌, ◌++◌, length, get_or, refl, sym, ap, ◌∙◌, arith, cond, take}
+use Rattle.std.proofs.Common.{ℕ, ◌≡◌, ◌+◌, ◌-◌, ◌<◌, ◌≤◌, Bool, true, false, ◌&&◌, zero, suc, List, [], ◌∷◌, ◌++◌, length, get_or, refl, sym, ap, ◌∙◌, arith, cond, take}
 use Rattle.std.specs.Prelude.{filter}
 use Rattle.std.specs.List.{range_with_len}
 use Rattle.std.proofs.lemmas.List.{append-nil, length-append, length-take}
@@ -28,13 +28,55 @@ filter_room p k n lt passes =
     omega (arith, lt, filter_start p (k + 1) n (omega (arith, lt)), ap length more, length-append (filter p (range_with_len 0 k)) (k ∷ []))
 
 -- two filters are one of both tests
-pub filter_twice : (p q : ℕ → Bool) (xs : List ℕ) → filter q (filter p xs) ≡ filter (λ x. p x && q x) xs
+pub filter_twice : {X : Type 0} (p q : X → Bool) (xs : List X) → filter q (filter p xs) ≡ filter (λ x. p x && q x) xs
 filter_twice p q [] = refl
 filter_twice p q (x ∷ xs) = go (p x) (filter_twice p q xs)
   where
     go : (b : Bool) → filter q (filter p xs) ≡ filter (λ x. p x && q x) xs → filter q (cond b (x ∷ filter p xs) (filter p xs)) ≡ cond (b && q x) (x ∷ filter (λ x. p x && q x) xs) (filter (λ x. p x && q x) xs)
     go true e = ap (λ ys. cond (q x) (x ∷ ys) ys) e
     go false e = e
+
+-- no more pass than there are
+pub filter_short : {X : Type 0} (p : X → Bool) (xs : List X) → length (filter p xs) ≤ length xs
+filter_short p [] = omega arith
+filter_short p (x ∷ xs) = go (p x) (filter_short p xs)
+  where
+    go : (b : Bool) → length (filter p xs) ≤ length xs → length (cond b (x ∷ filter p xs) (filter p xs)) ≤ length (x ∷ xs)
+    go true h = omega (arith, h)
+    go false h = omega (arith, h)
+
+-- no more of a part pass than of the whole
+pub filter_fewer : {X : Type 0} (p q : X → Bool) (xs : List X) → length (filter p (filter q xs)) ≤ length (filter p xs)
+filter_fewer p q [] = omega arith
+filter_fewer p q (x ∷ xs) = go (q x) (filter_fewer p q xs)
+  where
+    kept_both : (b : Bool) → length (filter p (filter q xs)) ≤ length (filter p xs) → length (cond b (x ∷ filter p (filter q xs)) (filter p (filter q xs))) ≤ length (cond b (x ∷ filter p xs) (filter p xs))
+    kept_both true h = omega (arith, h)
+    kept_both false h = h
+
+    kept_one : (b : Bool) → length (filter p (filter q xs)) ≤ length (filter p xs) → length (filter p (filter q xs)) ≤ length (cond b (x ∷ filter p xs) (filter p xs))
+    kept_one true h = omega (arith, h)
+    kept_one false h = h
+
+    go : (b : Bool) → length (filter p (filter q xs)) ≤ length (filter p xs) → length (filter p (cond b (x ∷ filter q xs) (filter q xs))) ≤ length (cond (p x) (x ∷ filter p xs) (filter p xs))
+    go true h = kept_both (p x) h
+    go false h = kept_one (p x) h
+
+-- where an element that passes stands among those that pass
+pub filter_place : {X : Type 0} (p : X → Bool) (xs : List X) (k : ℕ) (d : X) → k < length xs → p (get_or xs k d) ≡ true →
+    (length (filter p (take k xs)) < length (filter p xs)) × (get_or (filter p xs) (length (filter p (take k xs))) d ≡ get_or xs k d)
+filter_place p [] k d lt h = absurd (omega arith)
+filter_place p (x ∷ xs) zero d lt h = go (p x) h
+  where
+    go : (b : Bool) → b ≡ true → (0 < length (cond b (x ∷ filter p xs) (filter p xs))) × (get_or (cond b (x ∷ filter p xs) (filter p xs)) 0 d ≡ x)
+    go true e = (omega arith, refl)
+    go false e = absurd (cc (e))
+filter_place p (x ∷ xs) (suc k) d lt h = go (p x) (filter_place p xs k d (omega arith) h)
+  where
+    go : (b : Bool) → (length (filter p (take k xs)) < length (filter p xs)) × (get_or (filter p xs) (length (filter p (take k xs))) d ≡ get_or xs k d) →
+        (length (cond b (x ∷ filter p (take k xs)) (filter p (take k xs))) < length (cond b (x ∷ filter p xs) (filter p xs))) × (get_or (cond b (x ∷ filter p xs) (filter p xs)) (length (cond b (x ∷ filter p (take k xs)) (filter p (take k xs)))) d ≡ get_or xs k d)
+    go true r = (omega (arith, r.0), r.1)
+    go false r = r
 
 -- a list that grows by each number that passes
 pub filter_next : (p : ℕ → Bool) (n : ℕ) (b : Bool) (old new : List ℕ) → p n ≡ b → old ≡ filter p (range_with_len 0 n) → new ≡ old ++ cond b (n ∷ []) [] → new ≡ filter p (range_with_len 0 (n + 1))
@@ -48,15 +90,7 @@ kept xs x b is = sym (append-nil xs) ∙ ap (λ c. xs ++ cond c (x ∷ []) []) (
 
 -- what passes of the first i is at most i
 pub filter_take : (p : ℕ → Bool) (xs : List ℕ) (i : ℕ) → length (filter p (take i xs)) ≤ i
-filter_take p xs i = omega (arith, short (take i xs), length-take i xs)
-  where
-    short : (ys : List ℕ) → length (filter p ys) ≤ length ys
-    short [] = omega arith
-    short (y ∷ ys) = go (p y) (short ys)
-      where
-        go : (b : Bool) → length (filter p ys) ≤ length ys → length (cond b (y ∷ filter p ys) (filter p ys)) ≤ length (y ∷ ys)
-        go true h = omega (arith, h)
-        go false h = omega (arith, h)
+filter_take p xs i = omega (arith, filter_short p (take i xs), length-take i xs)
 
 -- the numbers of the entries that pass a test are as many as the entries
 pub count_places : {X : Type 0} (p : X → Bool) (q : ℕ → Bool) (xs : List X) (a : ℕ) (d : X) → ((k : ℕ) → k < length xs → q (a + k) ≡ p (get_or xs k d)) → length (filter q (range_with_len a (length xs))) ≡ length (filter p xs)

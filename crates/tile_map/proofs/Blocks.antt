@@ -1,20 +1,15 @@
 -- The sites of a rectangle in row order.
-use Rattle.std.proofs.Common.{ℕ, zero, suc, ◌≡◌, ◌+◌, ◌-◌, ◌*◌, ◌<◌, ◌≤◌, Bool, true, false, List, [], length, get_or, refl, ap, ◌∙◌, arith, map}
-use Rattle.std.specs.Prelude.{filter, flat_map}
+use Rattle.std.proofs.Common.{ℕ, zero, suc, ◌≡◌, ◌+◌, ◌-◌, ◌*◌, ◌/◌, ◌%◌, ◌<◌, ◌≤◌, Bool, true, false, [], length, get_or, refl, ap, ◌∙◌, arith, map, ◌⊎◌, inl, inr}
+use Rattle.std.specs.Prelude.{filter}
 use Rattle.std.specs.List.{range_with_len}
 use Rattle.std.proofs.Math.ListN.{get_or-append}
 use Rattle.std.proofs.lemmas.List.FromFn.{length-map-range_with_len, get_or-map-range_with_len}
 use Rattle.std.proofs.lemmas.List.{length-append, get_or-append_right}
+use Rattle.std.proofs.lemmas.Nat.{rows}
+use Rattle.list_laws.proofs.Members.{In, map_in, InOrder, order-flat, order-map, order-range}
 use Rattle.tile_map.specs.Plane.{Site, MapValue, site, sites_of}
+use Rattle.tile_map.specs.Tables.{row, block}
 use Rattle.list_laws.proofs.Ranges.{filter_none, filter_between, filter-map, filter-flat_map, flat_map_between}
-
--- a row of n sites from x on
-abbrev pub row : ℕ → ℕ → ℕ → List Site
-row x n y = map (λ x. site x y) (range_with_len x n)
-
--- n by k sites from (x, y) on, row by row
-abbrev pub block : ℕ → ℕ → ℕ → ℕ → List Site
-block x n y k = flat_map (row x n) (range_with_len y k)
 
 pub block_length : (x n y k : ℕ) → length (block x n y k) ≡ k * n
 block_length x n y zero = omega arith
@@ -63,3 +58,25 @@ filter_block m p x x' y y' h =
 
     inside : (v : ℕ) → y ≤ v → v < y' → filter p (row 0 (m.tx * m.w) v) ≡ row x (x' - x) v
     inside v low high = filter-map p (λ u. site u v) (range_with_len 0 (m.tx * m.w)) ∙ ap (map (λ u. site u v)) (filter_between (λ u. p (site u v)) (m.tx * m.w) x x' h.across h.across_end (λ u lt. h.left u v lt) (λ u a b. h.within u v a b low high) (λ u a b. h.right u v a b))
+
+pub row_column : (e n k : ℕ) → e < k * n → (e ≡ e / n * n + e % n) × (e / n < k) × (e % n < n)
+row_column e n k h = grind (arith, rows)
+
+-- the site at a place of a block
+pub block_at : (x n y k e : ℕ) (d : Site) → e < k * n → get_or (block x n y k) e d ≡ site (x + e % n) (y + e / n)
+block_at x n y k e d h =
+    let r = row_column e n k h in
+    ap (λ i. get_or (block x n y k) i d) r.0 ∙ block_get x n y k (e / n) (e % n) d r.1 r.2
+
+-- the order of rows
+abbrev pub IsBefore : Site → Site → Type 0
+IsBefore s q = (s.y < q.y) ⊎ ((s.y ≡ q.y) × (s.x < q.x))
+
+pub block_order : (x n y k : ℕ) → InOrder IsBefore (block x n y k)
+block_order x n y k =
+    order-flat IsBefore (row x n) y k
+    (λ v. order-map IsBefore (λ a b. a < b) (λ u. site u v) (range_with_len x n) (λ a b lt. inr (refl, lt)) (order-range x n))
+    (λ v w s q lt i j. inl (omega (arith, lt, of_row v s i, of_row w q j)))
+  where
+    of_row : (v : ℕ) (s : Site) → In s (row x n v) → s.y ≡ v
+    of_row v s i = let r = map_in (λ u. site u v) (range_with_len x n) s i in ap (λ (q : Site). q.y) r.2

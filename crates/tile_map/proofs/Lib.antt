@@ -1,9 +1,11 @@
 pub mod Blocks
 pub mod Degree
-pub mod Filters
+pub mod Growing
 pub mod Near
+pub mod Numbers
 pub mod Pairs
 pub mod PlaneLaws
-pub mod Shared
+pub mod Registers
+pub mod Sharing
 pub mod Sizes
 pub mod Spans

@@ -5,20 +5,22 @@ use Rattle.std.specs.List.{range_with_len}
 use Rattle.std.specs.List.Sorted.{IsStrictlyIncreasing}
 use Rattle.std.proofs.lemmas.Bool.Decides.{nat_tests}
 use Rattle.std.proofs.lemmas.Nat.{rows}
-use Rattle.tile_map.specs.Plane.{Site, MapValue, IsMap, site, tiles_of, is_live, sites_of, is_inside, is_around, is_owned, owner_of, site_in, is_held, in_window, apart}
+use Rattle.tile_map.specs.Plane.{Site, MapValue, IsMap, site, tiles_of, in_plane, is_live, sites_of, is_inside, is_around, is_owned, owner_of, site_in, is_reached, is_held, in_window, apart}
 use Rattle.tile_map.specs.Edges.{pairs_of, pair_at, low_end, high_end, shared_of, edges_at, needs_of, is_needed, reaches, has_end, other_end}
 use Rattle.tile_map.specs.Laws.{Joins, Shares, HasOwners, HasWindows, HasEdges, HasRegisters, HasNeeds, IsPlane}
 use Rattle.list_laws.proofs.Tests.{both, together}
-use Rattle.tile_map.proofs.Spans.{le_test, lt_test, test_lt, times_more}
+use Rattle.tile_map.proofs.Spans.{le_test, lt_test, test_lt, times_more, held_span, held_parts, held_whole, live_plane, on_low}
 use Rattle.std.proofs.lemmas.List.Kept.{IsStrictlyIncreasing-filter}
 use Rattle.std.proofs.lemmas.List.FromFn.{length-range_with_len, get_or-range_with_len, length-map-range_with_len, get_or-map-range_with_len}
 use Rattle.std.proofs.lemmas.List.{get_or_default}
 use Rattle.std.proofs.lemmas.Option.{slice_get-get_or, get_or_from_slice_get, slice_get_within}
 use Rattle.tile_map.proofs.Near.{window_site-near, window_site-found, window_apart, held_live, reaches-held, reaches-some}
-use Rattle.tile_map.proofs.Blocks.{row, block, block_length, block_get, IsBlock, filter_block}
+use Rattle.tile_map.proofs.Blocks.{block_length, block_get, IsBlock, filter_block}
+use Rattle.tile_map.specs.Tables.{row, block}
 use Rattle.list_laws.proofs.Members.{In, in_filter, filter_in, in_map, in_flat, in_range, range_in, in_get, get_in}
-use Rattle.tile_map.proofs.Pairs.{edge_joined, edge_of, one_edge, pairs_rise, pairs_bounded, holders_near, edges_at-few}
-use Rattle.tile_map.proofs.Shared.{column_low, row_low, shared_once, register_found, register_shared}
+use Rattle.tile_map.proofs.Pairs.{edge_joined, joined_on, edge_of, one_edge, pairs_rise, pairs_bounded, holders_near, edges_at-few}
+use Rattle.tile_map.proofs.Sharing.{column_low, row_low}
+use Rattle.tile_map.proofs.Registers.{shared_once, register_found, register_shared}
 
 column_of : (tx q r : ℕ) → r < tx → (q * tx + r) % tx ≡ r
 column_of tx q r lt = grind (arith, rows)
@@ -42,37 +44,37 @@ part_of : (w a x : ℕ) → is_inside w a x ≡ true → x / w ≡ a
 part_of w a x h = grind (arith, rows, nat_tests)
 
 -- where the owner of a live site stands
-record Stands (m : MapValue) (s : Site) : Type 0 where
+record OwnerPlace (m : MapValue) (s : Site) : Type 0 where
   pub tile : owner_of m s < tiles_of m
   pub column : owner_of m s % m.tx ≡ s.x / m.w
   pub row : owner_of m s / m.tx ≡ s.y / m.h
 
-stands : (m : MapValue) → IsMap m → (s : Site) → is_live m s ≡ true → Stands m s
+stands : (m : MapValue) → IsMap m → (s : Site) → in_plane m s ≡ true → OwnerPlace m s
 stands m k s h =
     let parts = both _ _ h in
-    let x = quotient_low m.tx m.w s.x (omega (arith, k.w_low)) (test_lt s.x (m.tx * m.w) parts.0) in
-    let y = quotient_low m.ty m.h s.y (omega (arith, k.h_low)) (test_lt s.y (m.ty * m.h) parts.1) in
+    let x = quotient_low m.tx m.w s.x (omega (arith, k.sizes.w_low)) (test_lt s.x (m.tx * m.w) parts.0) in
+    let y = quotient_low m.ty m.h s.y (omega (arith, k.sizes.h_low)) (test_lt s.y (m.ty * m.h) parts.1) in
     record {
       tile = place_low (s.y / m.h) (s.x / m.w) m.tx m.ty x y;
       column = column_of m.tx (s.y / m.h) (s.x / m.w) x;
       row = row_of m.tx (s.y / m.h) (s.x / m.w) x;
     }
 
-pub owner_owned : (m : MapValue) → IsMap m → (s : Site) → is_live m s ≡ true → is_owned m (owner_of m s) s ≡ true
+pub owner_owned : (m : MapValue) → IsMap m → (s : Site) → in_plane m s ≡ true → is_owned m (owner_of m s) s ≡ true
 owner_owned m k s h =
     let o = stands m k s h in
-    let x = ap (λ a. is_inside m.w a s.x) o.column ∙ inside_part m.w s.x (omega (arith, k.w_low)) in
-    let y = ap (λ a. is_inside m.h a s.y) o.row ∙ inside_part m.h s.y (omega (arith, k.h_low)) in
+    let x = ap (λ a. is_inside m.w a s.x) o.column ∙ inside_part m.w s.x (omega (arith, k.sizes.w_low)) in
+    let y = ap (λ a. is_inside m.h a s.y) o.row ∙ inside_part m.h s.y (omega (arith, k.sizes.h_low)) in
     together _ _ (lt_test _ _ o.tile) (together _ _ x y)
 
 -- the owner of a centre holds the window
 pub window-held : (m : MapValue) → IsMap m → (c s : Site) → is_live m c ≡ true → in_window m c s ≡ true → is_held m (owner_of m c) s ≡ true
 window-held m k c s h near =
-    let o = stands m k c h in
+    let o = stands m k c (live_plane m c h) in
     let close = window_apart m c s near in
-    let x = ap (λ a. is_around m.w a s.x) o.column ∙ around_part m.w c.x s.x (omega (arith, k.w_low)) (omega (arith, close)) in
-    let y = ap (λ a. is_around m.h a s.y) o.row ∙ around_part m.h c.y s.y (omega (arith, k.h_low)) (omega (arith, close)) in
-    together _ _ (together _ _ (lt_test _ _ o.tile) (both _ _ near).0) (together _ _ x y)
+    let x = ap (λ a. is_around m.w a s.x) o.column ∙ around_part m.w c.x s.x (omega (arith, k.sizes.w_low)) (omega (arith, close)) in
+    let y = ap (λ a. is_around m.h a s.y) o.row ∙ around_part m.h c.y s.y (omega (arith, k.sizes.h_low)) (omega (arith, close)) in
+    held_whole m (owner_of m c) s (both _ _ h).1 (both _ _ near).0 (together _ _ x y)
 
 centre-near : (m : MapValue) (s : Site) → is_live m s ≡ true → in_window m s s ≡ true
 centre-near m s h = together _ _ h (le_test _ _ (omega arith))
@@ -110,7 +112,7 @@ pub positions : (m : MapValue) → IsMap m → (t k : ℕ) → t < tiles_of m �
 positions m valid t k lt small =
     let a = t % m.tx in
     let b = t / m.tx in
-    let r : (k ≡ k / m.w * m.w + k % m.w) × (k / m.w < m.h) × (k % m.w < m.w) = grind (arith, rows, valid.w_low) in
+    let r : (k ≡ k / m.w * m.w + k % m.w) × (k / m.w < m.h) × (k % m.w < m.w) = grind (arith, rows, valid.sizes.w_low) in
     let whole : filter (is_owned m t) (sites_of m) ≡ block (a * m.w) m.w (b * m.h) m.h =
     filter_block m (is_owned m t) (a * m.w) ((a + 1) * m.w) (b * m.h) ((b + 1) * m.h) (owned_block m valid t lt) ∙ (λ i. block (a * m.w) (one_part a m.w i) (b * m.h) (one_part b m.h i)) in
     let long : k < length (block (a * m.w) m.w (b * m.h) m.h) = omega (arith, small, block_length (a * m.w) m.w (b * m.h) m.h) in
@@ -120,11 +122,13 @@ positions m valid t k lt small =
 
 pub owners : (m : MapValue) → IsMap m → HasOwners m
 owners m k = record {
-  owner = owner_owned m k;
+  owner = λ s h. owner_owned m k s (live_plane m s h);
   holder = λ s h. window-held m k s s h (centre-near m s h);
   one = owner-one m;
   positions = positions m k;
   window = window-held m k;
+  bounds = λ t s h. let p = held_span m t s.x s.y h in (p.1, p.2, p.3, p.4);
+  off = λ t s h. ap (λ b. b && (is_live m s && is_reached m t s)) h;
 }
 
 pub windows : (m : MapValue) → HasWindows m
@@ -137,7 +141,7 @@ shared_place m e k s h = subst (λ q. In q (shared_of m e)) (get_or_from_slice_g
 both_hold : (m : MapValue) (e k : ℕ) (s : Site) → slice_get (shared_of m e) k ≡ Some s → (is_held m (low_end m e) s ≡ true) × (is_held m (high_end m e) s ≡ true)
 both_hold m e k s h = both _ _ (filter_in (λ s. is_held m (low_end m e) s && is_held m (high_end m e) s) (sites_of m) s (shared_place m e k s h)).1
 
-in_sites : (m : MapValue) (s : Site) → is_live m s ≡ true → In s (sites_of m)
+in_sites : (m : MapValue) (s : Site) → in_plane m s ≡ true → In s (sites_of m)
 in_sites m s h =
     let x : s.x < m.tx * m.w = test_lt _ _ (both _ _ h).0 in
     let y : s.y < m.ty * m.h = test_lt _ _ (both _ _ h).1 in
@@ -146,12 +150,12 @@ in_sites m s h =
 
 shares_held : (m : MapValue) (e : ℕ) (s : Site) → is_held m (low_end m e) s ≡ true → is_held m (high_end m e) s ≡ true → Shares m e s
 shares_held m e s a b =
-    let member = in_filter (λ s. is_held m (low_end m e) s && is_held m (high_end m e) s) (sites_of m) s (in_sites m s (held_live m (low_end m e) s a)) (together _ _ a b) in
+    let member = in_filter (λ s. is_held m (low_end m e) s && is_held m (high_end m e) s) (sites_of m) s (in_sites m s (live_plane m s (held_live m (low_end m e) s a))) (together _ _ a b) in
     let place = get_in (shared_of m e) s s member in
     (place.0, slice_get-get_or (shared_of m e) place.0 s place.1 ∙ ap Some place.2)
 
 tile_low : (m : MapValue) (t : ℕ) (s : Site) → is_held m t s ≡ true → t < tiles_of m
-tile_low m t s h = test_lt _ _ (both _ _ (both _ _ h).0).0
+tile_low m t s h = on_low m t (held_parts m t s h).on
 
 meet_low : (m : MapValue) → IsMap m → (t u : ℕ) (s : Site) → t < u → is_held m t s ≡ true → is_held m u s ≡ true → (e : ℕ) × (e < length (pairs_of m)) × (low_end m e ≡ t) × (high_end m e ≡ u) × Shares m e s
 meet_low m k t u s lt a b =
@@ -170,7 +174,7 @@ meet m k t u s ne a b =
 pub ends_rise : (m : MapValue) (e : ℕ) → e < length (pairs_of m) → (low_end m e < high_end m e) × (high_end m e < tiles_of m)
 ends_rise m e lt =
     let j = edge_joined m e lt in
-    (test_lt _ _ (both _ _ j.near).0, j.high)
+    (test_lt _ _ (both _ _ (both _ _ j.near).1).0, j.high)
 
 same_ends : (m : MapValue) (e f t u : ℕ) → low_end m e < high_end m e → low_end m f < high_end m f → Joins m e t u → Joins m f t u → pair_at m e ≡ pair_at m f
 same_ends m e f t u a b p q = let r = ends p q in λ i. (r.0 i, r.1 i)
@@ -192,7 +196,8 @@ edges m k = record {
   meet = meet m k;
   one = edge_one m;
   held = both_hold m;
-  once = shared_once m k;
+  once = λ e i j s lt. shared_once m e i j s;
+  on = λ e lt. joined_on m (pair_at m e) (edge_joined m e lt);
 }
 
 -- fewer pass two tests than one
@@ -264,15 +269,15 @@ needs m k = record {
   cause = need_cause m;
 }
 
-pub registers : (m : MapValue) → IsMap m → HasRegisters m
-registers m k = record {
-  found = λ e j s lt h. register_found m k e j s lt (both_hold m e j s h) h;
+pub registers : (m : MapValue) → HasRegisters m
+registers m = record {
+  found = λ e k s lt. register_found m e k s;
   shared = register_shared m;
 }
 
 -- all the laws
 pub plane : (m : MapValue) → IsMap m → IsPlane m
-plane m k = record { owners = owners m k; windows = windows m; edges = edges m k; registers = registers m k; needs = needs m k }
+plane m k = record { owners = owners m k; windows = windows m; edges = edges m k; registers = registers m; needs = needs m k }
 
 -- what a map reads of an edge's ends
 pub pair_rises : (m n : MapValue) (items : List (ℕ × ℕ)) (e : ℕ) (p : ℕ × ℕ) → n ≡ m → items ≡ pairs_of n → e < length (pairs_of m) → p ≡ get_or items e p → (p.0 < p.1) × (p.1 < tiles_of m)
@@ -299,12 +304,12 @@ around_read m n lists t p same is lt read =
 pub around_few : (m n : MapValue) (t : ℕ) (es : List ℕ) → n ≡ m → IsMap n → t < tiles_of m → es ≡ edges_at m t → length es ≤ 8
 around_few m n t es same k lt is = omega (arith, ap length is, edges_at-few m (subst IsMap same k) t lt)
 
-pub owner_low : (m : MapValue) → IsMap m → (s : Site) → is_live m s ≡ true → owner_of m s < tiles_of m
+pub owner_low : (m : MapValue) → IsMap m → (s : Site) → in_plane m s ≡ true → owner_of m s < tiles_of m
 owner_low m k s h = (stands m k s h).tile
 
 -- a position of a rectangle is above the plane's lower border
 pub site_in_low : (m : MapValue) → IsMap m → (t k : ℕ) → t < tiles_of m → k < m.w * m.h → t / m.tx * m.h + k / m.w < m.ty * m.h
 site_in_low m valid t k lt small =
     let y = row_low m valid t lt in
-    let r : k / m.w < m.h = grind (arith, rows, valid.w_low) in
+    let r : k / m.w < m.h = grind (arith, rows, valid.sizes.w_low) in
     omega (arith, r, times_more (t / m.tx + 1) m.ty m.h (omega (arith, y)))

@@ -1,7 +1,8 @@
 -- What holds of every plane.
-use Rattle.std.specs.Prelude.{ℕ, ◌≡◌, ◌≢◌, ◌<◌, ◌≤◌, ◌+◌, ◌*◌, ◌⊎◌, true, length, filter, Contains, AllPairs, Some, slice_get}
+use Rattle.std.specs.Prelude.{ℕ, ◌≡◌, ◌≢◌, ◌<◌, ◌≤◌, ◌+◌, ◌*◌, ◌⊎◌, true, false, length, filter, Contains, AllPairs, Some, slice_get}
 use Rattle.std.specs.List.Sorted.{IsStrictlyIncreasing}
-use Rattle.tile_map.specs.Plane.{Site, MapValue, tiles_of, is_live, sites_of, is_owned, owner_of, site_in, is_held, in_window}
+use Rattle.tile_map.specs.Plane.{Site, MapValue, tiles_of, is_on, is_live, sites_of, is_owned, owner_of, site_in, is_held, in_window}
+use Rattle.tile_map.specs.Spans.{left_of, right_of, top_of, bottom_of}
 use Rattle.tile_map.specs.Edges.{pairs_of, low_end, high_end, shared_of, register_of, window_site, needs_of}
 
 -- the edge is one between t and u
@@ -18,14 +19,18 @@ IsLower p q = (p.0 < q.0) ⊎ ((p.0 ≡ q.0) × (p.1 < q.1))
 
 -- who owns and holds a site
 pub record HasOwners (m : MapValue) : Type 0 where
-  -- a site of the plane has an owner, which holds it
+  -- a live site has an owner, which holds it
   pub owner : (s : Site) → is_live m s ≡ true → is_owned m (owner_of m s) s ≡ true
   pub holder : (s : Site) → is_live m s ≡ true → is_held m (owner_of m s) s ≡ true
   -- and no other owner
   pub one : (t : ℕ) (s : Site) → is_owned m t s ≡ true → t ≡ owner_of m s
   -- the positions of a tile's rectangle are its sites in row order
   pub positions : (t k : ℕ) → t < tiles_of m → k < m.w * m.h → slice_get (filter (is_owned m t) (sites_of m)) k ≡ Some (site_in m t k)
-  -- the owner of a centre holds the window
+  -- a tile that is off holds nothing
+  pub off : (t : ℕ) (s : Site) → is_on m t ≡ false → is_held m t s ≡ false
+  -- what a tile holds lies in the columns and rows that it reaches
+  pub bounds : (t : ℕ) (s : Site) → is_held m t s ≡ true → (left_of m t ≤ s.x) × (s.x < right_of m t) × (top_of m t ≤ s.y) × (s.y < bottom_of m t)
+  -- the owner of a live centre holds the window
   pub window : (c s : Site) → is_live m c ≡ true → in_window m c s ≡ true → is_held m (owner_of m c) s ≡ true
 
 -- the live sites of a window are those that its numbers from 0 to 40 name
@@ -38,6 +43,7 @@ pub record HasEdges (m : MapValue) : Type 0 where
   pub few : length (pairs_of m) ≤ 210
   pub sorted : AllPairs IsLower (pairs_of m)
   pub ends : (e : ℕ) → e < length (pairs_of m) → (low_end m e < high_end m e) × (high_end m e < tiles_of m)
+  pub on : (e : ℕ) → e < length (pairs_of m) → (is_on m (low_end m e) ≡ true) × (is_on m (high_end m e) ≡ true)
   -- two tiles that hold a site have one edge, and it shares the site
   pub meet : (t u : ℕ) (s : Site) → t ≢ u → is_held m t s ≡ true → is_held m u s ≡ true → (e : ℕ) × (e < length (pairs_of m)) × Joins m e t u × Shares m e s
   pub one : (e f t u : ℕ) → e < length (pairs_of m) → f < length (pairs_of m) → Joins m e t u → Joins m f t u → e ≡ f

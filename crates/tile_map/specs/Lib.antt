@@ -3,3 +3,4 @@ pub mod Neighbours
 pub mod Edges
 pub mod Laws
 pub mod Spans
+pub mod Tables

@@ -6,9 +6,13 @@ use Rattle.std.specs.List.{range_with_len}
 abbrev pub are_near : ℕ → ℕ → ℕ → Bool
 are_near tx t u = nat_lt t u && ((nat_le (t % tx) (u % tx + 1) && nat_le (u % tx) (t % tx + 1)) && (nat_le (t / tx) (u / tx + 1) && nat_le (u / tx) (t / tx + 1)))
 
--- the pairs of a lower tile of n in all
-abbrev pub near_from : ℕ → ℕ → ℕ → List (ℕ × ℕ)
-near_from tx n t = map (λ u. (t, u)) (filter (are_near tx t) (range_with_len 0 n))
+-- whether they are, and both are on
+abbrev pub are_joined : (ℕ → Bool) → ℕ → ℕ → ℕ → Bool
+are_joined on tx t u = (on t && on u) && are_near tx t u
 
-abbrev pub near_pairs : ℕ → ℕ → List (ℕ × ℕ)
-near_pairs tx n = flat_map (near_from tx n) (range_with_len 0 n)
+-- the pairs of a lower tile of n in all
+abbrev pub near_from : (ℕ → Bool) → ℕ → ℕ → ℕ → List (ℕ × ℕ)
+near_from on tx n t = map (λ u. (t, u)) (filter (are_joined on tx t) (range_with_len 0 n))
+
+abbrev pub near_pairs : (ℕ → Bool) → ℕ → ℕ → List (ℕ × ℕ)
+near_pairs on tx n = flat_map (near_from on tx n) (range_with_len 0 n)

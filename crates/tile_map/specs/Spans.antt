@@ -39,9 +39,9 @@ abbrev pub gap : ℕ → ℕ → ℕ → ℕ
 gap from end x = (from - x) + (x + 1 - end)
 
 -- whether (x, y) is in a rectangle
-abbrev pub is_in : ℕ → ℕ → ℕ → ℕ → ℕ → ℕ → Bool
-is_in left right top bottom x y = (nat_le left x && nat_lt x right) && (nat_le top y && nat_lt y bottom)
+abbrev pub is_within : ℕ → ℕ → ℕ → ℕ → ℕ → ℕ → Bool
+is_within left right top bottom x y = (nat_le left x && nat_lt x right) && (nat_le top y && nat_lt y bottom)
 
 -- the place of (x, y) in a rectangle, row by row
-abbrev pub place_in : ℕ → ℕ → ℕ → ℕ → ℕ → ℕ → Option ℕ
-place_in left right top bottom x y = if is_in left right top bottom x y then Some ((y - top) * (right - left) + (x - left)) else None
+abbrev pub place_within : ℕ → ℕ → ℕ → ℕ → ℕ → ℕ → Option ℕ
+place_within left right top bottom x y = if is_within left right top bottom x y then Some ((y - top) * (right - left) + (x - left)) else None

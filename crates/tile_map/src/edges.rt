@@ -2,36 +2,35 @@
 
 ghost use Rattle.std.specs.Prelude.{◌≡◌, ℕ, ◌^◌, ◌<◌, ◌≤◌, ◌++◌, IfOk, OnOk, map, length};
 ghost use Rattle.std.specs.List.{range_with_len};
-ghost use Rattle.tile_map.specs.Edges.{is_end, edges_among};
-ghost use Rattle.tile_map.specs.Neighbours.{are_near, near_from, near_pairs};
+ghost use Rattle.tile_map.specs.Plane.{tiles_of, is_on};
+ghost use Rattle.tile_map.specs.Edges.{is_in_pair, edges_among};
+ghost use Rattle.tile_map.specs.Neighbours.{near_from, near_pairs};
 
 use crate::needs::Needs;
+use crate::plane::Plane;
 use feast_base::NoMemory;
 use std::alloc::Global;
 
-// The edges of a plane of tiles, `tx` in a row.
-#[tactic(auto, using(crate::proofs::Filters::pairs_more))]
-pub(crate) fn pairs(alloc: Global, tx: u32, tiles: u32) -> Result<Vec<(u32, u32)>, NoMemory>
-    requires some { 0 < tx }
-    requires small { tiles < 2 ^ 31 }
-    ensures { IfOk result (λ v. v.items ≡ near_pairs tx tiles) }
+/// The edges of a plane.
+#[tactic(auto, using(crate::proofs::Growing::pairs_more))]
+pub(crate) fn pairs(alloc: Global, plane: &Plane) -> Result<Vec<(u32, u32)>, NoMemory>
+    ensures { IfOk result (λ v. v.items ≡ near_pairs (is_on plane.now) plane.now.tx (tiles_of plane.now)) }
 {
+    let tiles = plane.tiles();
     let mut pairs = Vec::new(alloc);
     for lower in 0..tiles {
-        push_pairs(&mut pairs, lower, tx, tiles)?;
+        push_pairs(&mut pairs, plane, lower)?;
     }
     Ok(pairs)
 }
 
-// Appends the edges of a lower tile.
-fn push_pairs(pairs: &mut Vec<(u32, u32)>, lower: u32, tx: u32, tiles: u32) -> Result<(), NoMemory>
-    requires some { 0 < tx }
-    requires small { tiles < 2 ^ 31 }
-    requires lower { lower < tiles }
-    ensures { OnOk result (pairs.new.items ≡ pairs.old.items ++ near_from tx tiles lower) }
+/// Appends the edges of a lower tile.
+fn push_pairs(pairs: &mut Vec<(u32, u32)>, plane: &Plane, lower: u32) -> Result<(), NoMemory>
+    ensures { OnOk result (pairs.new.items ≡ pairs.old.items ++ near_from (is_on plane.now) plane.now.tx (tiles_of plane.now) lower) }
 {
+    let tiles = plane.tiles();
     for higher in 0..tiles {
-        if are_neighbours(tx, lower, higher) {
+        if plane.are_neighbours(lower, higher) {
             match pairs.push((lower, higher)) {
                 Ok(()) => {}
                 Err(_) => return Err(NoMemory),
@@ -41,18 +40,8 @@ fn push_pairs(pairs: &mut Vec<(u32, u32)>, lower: u32, tx: u32, tiles: u32) -> R
     Ok(())
 }
 
-// Whether the first is the lower of two tiles that are neighbours, diagonally too.
-fn are_neighbours(tx: u32, lower: u32, higher: u32) -> bool
-    requires some { 0 < tx }
-    ensures { result ≡ are_near tx lower higher }
-{
-    lower < higher
-        && (lower % tx).abs_diff(higher % tx) <= 1
-        && (lower / tx).abs_diff(higher / tx) <= 1
-}
-
-// For each tile its edges, of which there are at most 8.
-#[tactic(auto, using(crate::proofs::Filters::lists_more))]
+/// For each tile its edges, of which there are at most 8.
+#[tactic(auto, using(crate::proofs::Growing::lists_more))]
 pub(crate) fn by_tile(
     alloc: Global,
     ends: &[(u32, u32)],
@@ -72,7 +61,7 @@ pub(crate) fn by_tile(
     Ok(lists)
 }
 
-// The edges of a tile, of which there are at most 8.
+/// The edges of a tile, of which there are at most 8.
 fn edges_of(ends: &[(u32, u32)], tiles: u32, tile: u32) -> Needs
     requires small { length ends.now < 2 ^ 32 }
     requires few { length (edges_among ends.now tiles tile) ≤ 8 }
@@ -87,9 +76,9 @@ fn edges_of(ends: &[(u32, u32)], tiles: u32, tile: u32) -> Needs
     edges
 }
 
-// Whether the tile is one of the pair.
+/// Whether the tile is one of the pair.
 fn has_end(pair: &(u32, u32), tile: u32) -> bool
-    ensures { result ≡ is_end tile pair.now }
+    ensures { result ≡ is_in_pair tile pair.now }
 {
     pair.0 == tile || pair.1 == tile
 }

@@ -2,7 +2,8 @@
 //! neighbouring tiles with the sites that they share, and the edges that an event needs.
 //!
 //! The plane is a rectangle of 1 to 8 by 1 to 8 tiles, and each tile a rectangle of 8 to 64 by
-//! 8 to 64 sites. x grows east and y grows south, from (0, 0). Tiles are numbered row by row.
+//! 8 to 64 sites. x grows east and y grows south, from (0, 0). Tiles are numbered row by row. Some
+//! tiles may be off: they hold no site, and no edge leads to them.
 #![tactic(auto)]
 
 mod crossing;
@@ -10,6 +11,8 @@ mod edge_sizes;
 mod edges;
 mod map;
 mod needs;
+mod plane;
+mod shared;
 mod span;
 
 pub use map::Map;

@@ -20,7 +20,7 @@ impl Model for Needs {
 }
 
 impl Needs {
-    // No edge.
+    /// No edge.
     pub(crate) fn new() -> Needs
         ensures { result ≡ [] }
     {
@@ -29,7 +29,7 @@ impl Needs {
         }
     }
 
-    // Appends an edge.
+    /// Appends an edge.
     pub(crate) fn push(&mut self, edge: u32)
         requires { length self.old < 8 }
         ensures { self.new ≡ self.old ++ edge ∷ [] }
@@ -37,7 +37,7 @@ impl Needs {
         self.edges.push(edge);
     }
 
-    // The edges as a slice.
+    /// The edges as a slice.
     pub(crate) fn as_slice(&self) -> &[u32]
         ensures { result.now ≡ self.now }
     {

@@ -1,9 +1,10 @@
 //! Intervals of columns or rows, and rectangles.
 
-ghost use Rattle.std.specs.Prelude.{◌≡◌, ◌+◌, ◌-◌, ◌*◌, ◌^◌, ◌<◌, ◌≤◌, min, max, ◌&&◌, nat_le, nat_lt, IfSome};
-ghost use Rattle.tile_map.specs.Spans.{place_in};
+ghost use Rattle.std.specs.Prelude.{◌≡◌, ◌+◌, ◌-◌, ◌*◌, ◌^◌, ◌<◌, ◌≤◌, ◌≤ℤ◌, pos, min, max, ◌&&◌, nat_le, nat_lt, IfSome};
+ghost use Rattle.window_sites.specs.Sites.{shifted};
+ghost use Rattle.tile_map.specs.Spans.{place_within};
 
-// The coordinates from `first` up to `end` and without it.
+/// The coordinates from `first` up to `end` and without it.
 #[derive(Clone, Copy)]
 pub(crate) struct Span {
     pub first: u32,
@@ -11,8 +12,8 @@ pub(crate) struct Span {
 }
 
 impl Span {
-    // What lies in one of `parts` parts of a size, or at most 4 outside it, where they are one
-    // beside the other.
+    /// What lies in one of `parts` parts of a size, or at most 4 outside it, where they are one
+    /// beside the other.
     pub(crate) fn around(part: u32, size: u32, parts: u32) -> Span
         requires one { part < parts }
         requires few { parts ≤ 8 }
@@ -26,7 +27,7 @@ impl Span {
         Span { first, end }
     }
 
-    // What lies in both.
+    /// What lies in both.
     pub(crate) fn common(self, other: Span) -> Span
         ensures first { result.first ≡ max self.first other.first }
         ensures end { result.end ≡ min self.end other.end }
@@ -37,19 +38,21 @@ impl Span {
         }
     }
 
+    /// How many there are.
     pub(crate) fn len(self) -> u32
         ensures { result ≡ self.end - self.first }
     {
         self.end.saturating_sub(self.first)
     }
 
+    /// Whether a coordinate is one of the span.
     pub(crate) fn contains(self, at: u32) -> bool
         ensures { result ≡ (nat_le self.first at && nat_lt at self.end) }
     {
         self.first <= at && at < self.end
     }
 
-    // How far a coordinate is from the nearest of the span.
+    /// How far a coordinate is from the nearest of the span.
     pub(crate) fn gap(self, at: u32) -> u32
         requires at { at < 512 }
         requires first { self.first < 512 }
@@ -60,7 +63,7 @@ impl Span {
     }
 }
 
-// The sites of some columns and rows.
+/// The sites of some columns and rows.
 #[derive(Clone, Copy)]
 pub(crate) struct Area {
     pub columns: Span,
@@ -68,7 +71,7 @@ pub(crate) struct Area {
 }
 
 impl Area {
-    // How many sites there are.
+    /// How many sites there are.
     pub(crate) fn sites(self) -> u32
         requires columns { self.columns.end ≤ 512 }
         requires rows { self.rows.end ≤ 512 }
@@ -78,16 +81,30 @@ impl Area {
         self.columns.len() * self.rows.len()
     }
 
-    // The place of a site, row by row, where the area has it.
+    /// The place of a site, row by row, where the area has it.
     pub(crate) fn place(self, x: u32, y: u32) -> Option<u32>
         requires columns { self.columns.end ≤ 512 }
         requires rows { self.rows.end ≤ 512 }
-        ensures value { result ≡ place_in self.columns.first self.columns.end self.rows.first self.rows.end x y }
+        ensures value { result ≡ place_within self.columns.first self.columns.end self.rows.first self.rows.end x y }
         ensures bound { IfSome result (λ k. k < 512 * 512) }
     {
         if !self.columns.contains(x) || !self.rows.contains(y) {
             return None;
         }
         Some((y - self.rows.first) * self.columns.len() + (x - self.columns.first))
+    }
+}
+
+/// The coordinate with an offset added, where it does not fall below 0.
+pub(crate) fn shift(x: u32, by: i32) -> Option<u32>
+    requires small { x < 512 }
+    requires near { by ≤ℤ pos 4 }
+    ensures { result ≡ shifted x by }
+{
+    if by >= 0 {
+        Some(x + by as u32)
+    } else {
+        let back = by.unsigned_abs();
+        if back <= x { Some(x - back) } else { None }
     }
 }

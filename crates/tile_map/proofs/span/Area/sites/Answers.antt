@@ -1,5 +1,5 @@
 use Rattle.std.proofs.Common.{arith}
-use Rattle.tile_map.proofs.Shared.{times_low}
+use Rattle.tile_map.proofs.Sharing.{times_low}
 use Rattle.tile_map.proofs.span.Area.sites.Goals as goal
 
 pub returns-clause-bound : goal.returns-clause-bound

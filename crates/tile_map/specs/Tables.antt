@@ -1,0 +1,55 @@
+-- What a map keeps: its edges by their ends, the edges of each tile, and for each edge the numbers of its shared sites.
+use Rattle.std.specs.Prelude.{ℕ, ◌≡◌, ◌-◌, ◌==◌, ◌&&◌, List, Option, None, length, map, filter, flat_map, position, slice_index_or}
+use Rattle.std.specs.List.{range_with_len}
+use Rattle.std.specs.Option.{option_and_then}
+use Rattle.tile_map.specs.declared.span.Area.{Area}
+use Rattle.tile_map.specs.Plane.{Site, MapValue, IsMap, site, tiles_of, is_live}
+use Rattle.tile_map.specs.Spans.{left_both, right_both, top_both, bottom_both, place_within}
+use Rattle.tile_map.specs.Edges.{pairs_of, edges_at}
+
+-- a row of n sites from x on
+abbrev pub row : ℕ → ℕ → ℕ → List Site
+row x n y = map (λ x. site x y) (range_with_len x n)
+
+-- n by k sites from (x, y) on, row by row
+abbrev pub block : ℕ → ℕ → ℕ → ℕ → List Site
+block x n y k = flat_map (row x n) (range_with_len y k)
+
+-- the sites of some columns and rows, row by row
+abbrev pub sites_in : Area → List Site
+sites_in a = block a.columns.first (a.columns.end - a.columns.first) a.rows.first (a.rows.end - a.rows.first)
+
+-- those of them that are live
+abbrev pub live_in : MapValue → Area → List Site
+live_in m a = filter (is_live m) (sites_in a)
+
+-- which of a list of sites it is
+abbrev pub number_of : List Site → Site → Option ℕ
+number_of ss s = position (λ p. p.x == s.x && p.y == s.y) ss
+
+-- the live sites of an area: how many there are, and for each place of the area the number of its site among them
+pub record SharedValue : Type 0 where
+  pub area : Area
+  pub numbers : List (Option ℕ)
+  pub count : ℕ
+
+abbrev pub shared_value : MapValue → Area → SharedValue
+shared_value m a = record { area = a; numbers = map (number_of (live_in m a)) (sites_in a); count = length (live_in m a) }
+
+-- the number of the site at (x, y)
+abbrev pub number_at : SharedValue → ℕ → ℕ → Option ℕ
+number_at v x y = option_and_then (λ k. slice_index_or v.numbers k None) (place_within v.area.columns.first v.area.columns.end v.area.rows.first v.area.rows.end x y)
+
+-- the columns and rows that both of two tiles reach
+abbrev pub area_both : MapValue → ℕ × ℕ → Area
+area_both m p = record { columns = record { first = left_both m p; end = right_both m p }; rows = record { first = top_both m p; end = bottom_both m p } }
+
+-- the sites that two neighbours share
+abbrev pub shared_both : MapValue → ℕ × ℕ → SharedValue
+shared_both m p = shared_value m (area_both m p)
+
+pub record Keeps (m : MapValue) (ends : List (ℕ × ℕ)) (around : List (List ℕ)) (tables : List SharedValue) : Type 0 where
+  pub valid : IsMap m
+  pub pairs : ends ≡ pairs_of m
+  pub lists : around ≡ map (edges_at m) (range_with_len 0 (tiles_of m))
+  pub shared : tables ≡ map (shared_both m) (pairs_of m)

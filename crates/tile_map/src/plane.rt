@@ -1,0 +1,192 @@
+//! The plane: its tiles, which of them are on, and what a tile owns and holds.
+
+ghost use Rattle.std.specs.Prelude.{◌≡◌, ◌+◌, ◌*◌, ◌<◌, ◌≤◌, IsTrue};
+ghost use Rattle.tile_map.specs.Plane.{MapValue, IsMap, plane_of, site, tiles_of, is_on, is_live, owner_of, is_owned, is_held, site_in};
+ghost use Rattle.tile_map.specs.Neighbours.{are_joined};
+ghost use Rattle.tile_map.specs.Spans.{left_of, right_of, top_of, bottom_of};
+ghost use Rattle.tile_map.specs.Edges.{is_held_at, window_site, reaches};
+ghost use Rattle.tile_map.specs.Tables.{area_both};
+
+use crate::span::{Area, Span, shift};
+use std::marker::Model;
+use window_sites::offset;
+
+/// How many tiles there are, how large they are, and which of them are off.
+#[derive(Drop)]
+pub(crate) struct Plane {
+    tx: u32,
+    ty: u32,
+    w: u32,
+    h: u32,
+    off: Vec<bool>,
+}
+
+impl Model for Plane {
+    ghost use Rattle.tile_map.specs.Plane.{MapValue, IsMap, plane_of};
+
+    ghost Value = { MapValue };
+
+    ghost view = { λ p. plane_of p.tx p.ty p.w p.h p.off.items };
+
+    ghost invariant = { λ p. IsMap (plane_of p.tx p.ty p.w p.h p.off.items) };
+}
+
+impl Plane {
+    /// The plane of `tx` by `ty` tiles of `w` by `h` sites each, with a mark for each tile that
+    /// says whether it is off.
+    pub(crate) fn new(tx: u32, ty: u32, w: u32, h: u32, off: Vec<bool>) -> Plane
+        requires { IsMap (plane_of tx ty w h off.items) }
+        ensures { result ≡ plane_of tx ty w h off.items }
+    {
+        Plane { tx, ty, w, h, off }
+    }
+
+    /// How many tiles there are.
+    pub(crate) fn tiles(&self) -> u32
+        ensures count { result ≡ tiles_of self.now }
+        ensures few { result ≤ 64 }
+        ensures valid { IsMap self.now }
+    {
+        self.tx * self.ty
+    }
+
+    /// Whether a tile is one of the plane's, and on.
+    pub(crate) fn is_on(&self, tile: u32) -> bool
+        ensures { result ≡ is_on self.now tile }
+    {
+        tile < self.tiles() && !self.off[tile as usize]
+    }
+
+    /// Whether the plane has the site and its tile is on.
+    pub(crate) fn is_live(&self, x: u32, y: u32) -> bool
+        ensures { result ≡ is_live self.now (site x y) }
+    {
+        x < self.tx * self.w && y < self.ty * self.h && self.is_on(self.owner(x, y))
+    }
+
+    /// The tile whose rectangle has the site, which is one of the plane.
+    pub(crate) fn owner(&self, x: u32, y: u32) -> u32
+        requires x { x < self.now.tx * self.now.w }
+        requires y { y < self.now.ty * self.now.h }
+        ensures value { result ≡ owner_of self.now (site x y) }
+        ensures owns { IsTrue (is_owned self.now result (site x y)) }
+        ensures tile { result < tiles_of self.now }
+    {
+        y / self.h * self.tx + x / self.w
+    }
+
+    /// Whether a tile holds the site: the tile is on, and the site is live and at most 4 columns
+    /// and 4 rows outside the tile's rectangle.
+    pub(crate) fn holds(&self, tile: u32, x: u32, y: u32) -> bool
+        ensures { result ≡ is_held self.now tile (site x y) }
+    {
+        self.is_on(tile)
+            && self.is_live(x, y)
+            && self.columns(tile).contains(x)
+            && self.rows(tile).contains(y)
+    }
+
+    /// The site at a position of the tile's rectangle, in row order.
+    pub(crate) fn site_of(&self, tile: u32, centre: u32) -> (u32, u32)
+        requires tile { tile < tiles_of self.now }
+        requires centre { centre < self.now.w * self.now.h }
+        ensures value { site result.0 result.1 ≡ site_in self.now tile centre }
+        ensures owned { IsTrue (is_owned self.now tile (site result.0 result.1)) }
+        ensures x { result.0 < self.now.tx * self.now.w }
+        ensures y { result.1 < self.now.ty * self.now.h }
+    {
+        let x = tile % self.tx * self.w + centre % self.w;
+        let y = tile / self.tx * self.h + centre / self.w;
+        (x, y)
+    }
+
+    /// Whether the first is the lower of two tiles that are on and neighbours, diagonally too.
+    pub(crate) fn are_neighbours(&self, lower: u32, higher: u32) -> bool
+        ensures { result ≡ are_joined (is_on self.now) self.now.tx lower higher }
+    {
+        self.is_on(lower)
+            && self.is_on(higher)
+            && lower < higher
+            && (lower % self.tx).abs_diff(higher % self.tx) <= 1
+            && (lower / self.tx).abs_diff(higher / self.tx) <= 1
+    }
+
+    /// Whether a tile holds a live site of the window at the site.
+    pub(crate) fn reaches(&self, tile: u32, x: u32, y: u32) -> bool
+        requires tile { tile < tiles_of self.now }
+        requires x { x < self.now.tx * self.now.w }
+        requires y { y < self.now.ty * self.now.h }
+        ensures { result ≡ reaches self.now (site x y) tile }
+    {
+        let distance = self.columns(tile).gap(x) + self.rows(tile).gap(y);
+        if self.is_live(x, y) {
+            self.is_on(tile) && distance <= 4
+        } else {
+            self.holds_one(tile, x, y)
+        }
+    }
+
+    /// The same, by each site of the window. Where the centre is live, which it is for an event, the
+    /// distance from the tile tells it at once.
+    fn holds_one(&self, tile: u32, x: u32, y: u32) -> bool
+        requires small { (x < 512) × (y < 512) }
+        ensures { result ≡ reaches self.now (site x y) tile }
+    {
+        for n in 0..41 {
+            if self.holds_at(tile, x, y, n) {
+                return true;
+            }
+        }
+        false
+    }
+
+    /// Whether a tile holds site `n` of the window at the site.
+    fn holds_at(&self, tile: u32, x: u32, y: u32, n: u8) -> bool
+        requires n { n ≤ 40 }
+        requires small { (x < 512) × (y < 512) }
+        ensures { result ≡ is_held_at self.now tile (window_site self.now (site x y) n) }
+    {
+        let (dx, dy) = offset(n);
+        match (shift(x, dx), shift(y, dy)) {
+            (Some(u), Some(v)) => self.holds(tile, u, v),
+            _ => false,
+        }
+    }
+
+    /// The columns and rows that both of two tiles reach.
+    pub(crate) fn common(&self, lower: u32, higher: u32) -> Area
+        requires lower { lower < tiles_of self.now }
+        requires higher { higher < tiles_of self.now }
+        ensures value { result ≡ area_both self.now (lower, higher) }
+        ensures bound { (result.columns.end ≤ 512) × (result.rows.end ≤ 512) }
+    {
+        Area {
+            columns: self.columns(lower).common(self.columns(higher)),
+            rows: self.rows(lower).common(self.rows(higher)),
+        }
+    }
+
+    /// The columns that a tile reaches.
+    pub(crate) fn columns(&self, tile: u32) -> Span
+        requires { tile < tiles_of self.now }
+        ensures first { result.first ≡ left_of self.now tile }
+        ensures end { result.end ≡ right_of self.now tile }
+        ensures some { result.first < result.end }
+        ensures bound { result.end ≤ 512 }
+        ensures valid { IsMap self.now }
+    {
+        Span::around(tile % self.tx, self.w, self.tx)
+    }
+
+    /// The rows that a tile reaches.
+    pub(crate) fn rows(&self, tile: u32) -> Span
+        requires { tile < tiles_of self.now }
+        ensures first { result.first ≡ top_of self.now tile }
+        ensures end { result.end ≡ bottom_of self.now tile }
+        ensures some { result.first < result.end }
+        ensures bound { result.end ≤ 512 }
+        ensures valid { IsMap self.now }
+    {
+        Span::around(tile / self.tx, self.h, self.ty)
+    }
+}

@@ -1,0 +1,95 @@
+//! The sites that an edge shares.
+
+ghost use Rattle.std.specs.Prelude.{◌≡◌, ◌+◌, ◌<◌, ◌≤◌, ◌++◌, ◌∷◌, [], None, Some, if◌then◌else◌, length, map, IfOk, OnOk};
+ghost use Rattle.tile_map.specs.Plane.{site, is_live};
+ghost use Rattle.tile_map.specs.Tables.{shared_value, number_at, sites_in, live_in, number_of, shared_both};
+ghost use Rattle.tile_map.specs.Edges.{pairs_of};
+
+use crate::plane::Plane;
+use crate::span::Area;
+use feast_base::NoMemory;
+use std::alloc::Global;
+use std::marker::Model;
+
+/// The live sites of the columns and rows that both ends of an edge reach. Where tiles are off they
+/// are no rectangle, so each place of these columns and rows has the number of its site, if that is
+/// live.
+#[derive(Drop)]
+pub(crate) struct SharedSites {
+    area: Area,
+    numbers: Vec<Option<u32>>,
+    count: u32,
+}
+
+impl Model for SharedSites {
+    ghost use Rattle.std.specs.Prelude.{◌≡◌, ◌≤◌, length};
+    ghost use Rattle.tile_map.specs.Tables.{SharedValue, sites_in};
+
+    ghost Value = { SharedValue };
+
+    ghost view = { λ s. record { area = s.area; numbers = s.numbers.items; count = s.count } };
+
+    ghost invariant = { λ s. (s.area.columns.end ≤ 512) × (s.area.rows.end ≤ 512) × (length s.numbers.items ≡ length (sites_in s.area)) };
+}
+
+impl SharedSites {
+    /// The live sites of an area.
+    pub(crate) fn new(alloc: Global, plane: &Plane, area: Area) -> Result<SharedSites, NoMemory>
+        requires columns { area.columns.end ≤ 512 }
+        requires rows { area.rows.end ≤ 512 }
+        ensures { IfOk result (λ s. s ≡ shared_value plane.now area) }
+    {
+        let width = area.columns.len();
+        let mut numbers = Vec::new(alloc);
+        let mut count = 0;
+        for place in 0..area.sites() {
+            let x = area.columns.first + place % width;
+            let y = area.rows.first + place / width;
+            let live = plane.is_live(x, y);
+            let number = if live { Some(count) } else { None };
+            match numbers.push(number) {
+                Ok(()) => count += u32::from(live),
+                Err(_) => return Err(NoMemory),
+            }
+        }
+        Ok(SharedSites {
+            area,
+            numbers,
+            count,
+        })
+    }
+
+    /// How many there are.
+    pub(crate) fn count(&self) -> u32
+        ensures { result ≡ self.now.count }
+    {
+        self.count
+    }
+
+    /// The number of a site, where it is one of them.
+    pub(crate) fn number(&self, x: u32, y: u32) -> Option<u32>
+        ensures { result ≡ number_at self.now x y }
+    {
+        let place = self.area.place(x, y)?;
+        self.numbers[place as usize]
+    }
+}
+
+/// The shared sites of each edge of a plane.
+pub(crate) fn shared_sites(
+    alloc: Global,
+    plane: &Plane,
+    ends: &[(u32, u32)],
+) -> Result<Vec<SharedSites>, NoMemory>
+    requires { ends.now ≡ pairs_of plane.now }
+    ensures { IfOk result (λ v. v.items ≡ map (shared_both plane.now) (pairs_of plane.now)) }
+{
+    let mut shared = Vec::new(alloc);
+    for pair in ends {
+        let sites = SharedSites::new(alloc, plane, plane.common(pair.0, pair.1))?;
+        if shared.push(sites).is_err() {
+            return Err(NoMemory);
+        }
+    }
+    Ok(shared)
+}
