@@ -1,5 +1,5 @@
 -- The scopes that are lists of the code's.
-use Rattle.std.specs.Prelude.{ℕ, List, [], ◌∷◌, map, take, ◌++◌, ◌≡◌, Result, Ok, Err}
+use Rattle.std.specs.Prelude.{ℕ, List, [], ◌∷◌, map, take, ◌++◌, ◌≡◌, Result, Ok, Err, Bool, true, false}
 use Rattle.ulam_names.specs.declared.fault.NameFault.{NameFault}
 use Rattle.ulam_names.specs.declared.fault.NameFault.TheVariants as n
 use Rattle.ulam_names.specs.declared.half.HalfClass.{HalfClass}
@@ -14,6 +14,7 @@ use Rattle.ulam_names.specs.declared.scope.Entry.{Entry}
 use Rattle.ulam_names.specs.declared.scope.Context.{Context}
 use Rattle.ulam_names.specs.Faults.{Found, ◌>>=◌, declared_twice, unknown_name, cyclic_quark, no_behave, bad_constant, too_many, bad_width}
 use Rattle.ulam_tree.specs.declared.resolved.Step.{Step}
+use Rattle.ulam_tree.specs.Raw as t
 use Rattle.ulam_tree.specs.Resolved as r
 use Rattle.ulam_tree.specs.declared.resolved.Expr.{Expr}
 use Rattle.ulam_tree.specs.declared.resolved.Statement.{Statement}
@@ -92,3 +93,12 @@ entries_of es = map entry_of es
 
 abbrev pub scope_of : List Entry → ℕ → s.Scope
 scope_of es from = record { entries = entries_of es; from = from }
+
+-- a statement that has no statement within and declares nothing
+abbrev pub is_simple : t.Statement → Bool
+is_simple (t.block b) = false
+is_simple (t.if_so k x z) = false
+is_simple (t.while_so k x) = false
+is_simple (t.for_all f k g x) = false
+is_simple (t.declares ty w e) = false
+is_simple x = true

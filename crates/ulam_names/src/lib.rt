@@ -8,6 +8,7 @@ mod fault;
 mod half;
 mod law;
 mod names;
+mod parts;
 mod path;
 mod scope;
 mod table;
