@@ -4,3 +4,7 @@ pub mod BodyMeans
 pub mod ClassFits
 pub mod ClassMeans
 pub mod Examples
+pub mod Lasts
+pub mod Opened
+pub mod Rows
+pub mod Tables

@@ -1,6 +1,9 @@
 pub mod ClassRelation
 pub mod Classes
 pub mod Faults
+pub mod NamesView
 pub mod Relation
 pub mod Scopes
+pub mod Shown
+pub mod Tables
 pub mod Walk

@@ -2,8 +2,17 @@
 #![tactic(auto)]
 
 mod basic;
+mod build;
+mod expr;
 mod fault;
+mod half;
 mod law;
+mod names;
+mod parts;
+mod path;
+mod scope;
+mod table;
+mod types;
 
 pub use fault::NameFault;
 pub use law::one_resolution;

@@ -1,0 +1,104 @@
+-- The scopes that are lists of the code's.
+use Rattle.std.specs.Prelude.{ℕ, List, [], ◌∷◌, map, take, ◌++◌, ◌≡◌, Result, Ok, Err, Bool, true, false}
+use Rattle.ulam_names.specs.declared.fault.NameFault.{NameFault}
+use Rattle.ulam_names.specs.declared.fault.NameFault.TheVariants as n
+use Rattle.ulam_names.specs.declared.half.HalfClass.{HalfClass}
+use Rattle.ulam_names.specs.declared.half.HalfParam.{HalfParam}
+use Rattle.ulam_names.specs.declared.half.Pending.{Pending}
+use Rattle.ulam_names.specs.declared.half.Half.{Half}
+use Rattle.ulam_names.specs.declared.half.Half.TheVariants as h
+use Rattle.ulam_names.specs.Classes as w
+use Rattle.ulam_names.specs.NamesView.{names_view}
+use Rattle.ulam_tree.specs.RawViews.{word_of, body_list}
+use Rattle.ulam_names.specs.declared.scope.Entry.{Entry}
+use Rattle.ulam_names.specs.declared.scope.Context.{Context}
+use Rattle.ulam_names.specs.Faults.{Found, ◌>>=◌, declared_twice, unknown_name, cyclic_quark, no_behave, bad_constant, too_many, bad_width}
+use Rattle.ulam_tree.specs.declared.resolved.Step.{Step}
+use Rattle.ulam_tree.specs.Raw as t
+use Rattle.ulam_tree.specs.Resolved as r
+use Rattle.ulam_tree.specs.declared.resolved.Expr.{Expr}
+use Rattle.ulam_tree.specs.declared.resolved.Statement.{Statement}
+use Rattle.ulam_tree.specs.ResolvedViews.{resolved_expr, resolved_statement}
+use Rattle.ulam_names.specs.Scopes as s
+use Rattle.ulam_names.specs.Scopes.{names_of}
+
+abbrev pub param_of : HalfParam → r.Param
+param_of p = record { of = p.of; word = word_of p.word.now }
+
+abbrev pub pending_of : Pending → w.Pending
+pending_of p = record { of = p.of; word = word_of p.word.now; params = map param_of p.params.items; body = body_list p.body.now; typedefs = p.typedefs; constants = p.constants }
+
+abbrev pub half_of : Half → w.Half
+half_of (h.Field n x len) = w.half_field n (word_of x.now) len
+half_of (h.Function p) = w.half_function (pending_of p)
+
+abbrev pub half_class : HalfClass → w.HalfClass
+half_class x = record { quark = x.quark; word = word_of x.word.now; names = names_view x.names; members = map half_of x.members.items }
+
+-- a class as others see it
+abbrev pub head_of : HalfClass → s.Head
+head_of x = w.head_of (half_class x)
+
+abbrev pub entry_of : Entry → s.Entry
+entry_of e = record { name = e.name.now; slot = e.slot; inside = e.inside }
+
+abbrev pub context_of : Context → s.Context
+context_of c = record {
+  heads = map head_of c.heads.now;
+  classes = names_of c.classes.now;
+  own = c.own;
+  typedefs = take c.typedefs_before c.typedefs.now;
+  constants = take c.constants_before c.constants.now;
+  params = c.params;
+}
+
+-- a fault of the code's, unless memory ran out
+abbrev pub Fails : {A : Type 0} → NameFault → Found A → Type 0
+Fails (n.DuplicateName p) x = x ≡ Err (declared_twice p)
+Fails (n.UnknownName p) x = x ≡ Err (unknown_name p)
+Fails (n.CyclicQuark p) x = x ≡ Err (cyclic_quark p)
+Fails (n.NoBehave p) x = x ≡ Err (no_behave p)
+Fails (n.BadConstant p) x = x ≡ Err (bad_constant p)
+Fails (n.TooMany p) x = x ≡ Err (too_many p)
+Fails (n.BadWidth p) x = x ≡ Err (bad_width p)
+Fails n.NoMemory x = Unit {0}
+
+-- what a function gives is what the walk finds, unless memory ran out
+abbrev pub Gives : {X A : Type 0} → (X → A) → Result X NameFault → Found A → Type 0
+Gives view (Ok x) found = found ≡ Ok (view x)
+Gives view (Err e) found = Fails e found
+
+-- steps before more that are found
+abbrev pub with_steps : List Step → Found (List Step) → Found (List Step)
+with_steps front steps = steps >>= λ (more : List Step). Ok (front ++ more)
+
+-- arguments before more that are found
+abbrev pub join_args : List Expr → r.Args → r.Args
+join_args [] more = more
+join_args (e ∷ es) more = r.arg (resolved_expr e) (join_args es more)
+
+abbrev pub with_args : List Expr → Found r.Args → Found r.Args
+with_args front found = found >>= λ (more : r.Args). Ok (join_args front more)
+
+-- and statements
+abbrev pub join_body : List Statement → r.Body → r.Body
+join_body [] more = more
+join_body (x ∷ xs) more = r.then_so (resolved_statement x) (join_body xs more)
+
+abbrev pub with_body : List Statement → Found r.Body → Found r.Body
+with_body front found = found >>= λ (more : r.Body). Ok (join_body front more)
+
+abbrev pub entries_of : List Entry → List s.Entry
+entries_of es = map entry_of es
+
+abbrev pub scope_of : List Entry → ℕ → s.Scope
+scope_of es from = record { entries = entries_of es; from = from }
+
+-- a statement that has no statement within and declares nothing
+abbrev pub is_simple : t.Statement → Bool
+is_simple (t.block b) = false
+is_simple (t.if_so k x z) = false
+is_simple (t.while_so k x) = false
+is_simple (t.for_all f k g x) = false
+is_simple (t.declares ty w e) = false
+is_simple x = true

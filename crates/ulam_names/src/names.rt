@@ -1,0 +1,81 @@
+//! What a class has declared so far.
+ghost use Rattle.std.specs.Prelude.{◌≡◌, ℕ, List, OnOk, OnErr, length, ◌<◌};
+ghost use Rattle.ulam_names.specs.Classes as walk;
+ghost use Rattle.ulam_names.specs.Scopes.{declares_name, is_truth};
+ghost use Rattle.ulam_names.specs.Shown.{Gives};
+ghost use Rattle.ulam_names.specs.NamesView.{names_view};
+ghost use Rattle.ulam_tree.specs.RawViews as raw_view;
+
+use sat_math::{Kind, NumType};
+use ulam_tree::{Const, Word};
+use ulam_tree::resolved::Ty;
+
+use crate::basic::Value;
+use crate::fault::NameFault;
+use crate::table::Table;
+
+#[derive(Drop)]
+pub struct Names<'a> {
+    pub typedefs: Table<'a, NumType>,
+    pub constants: Table<'a, Value>,
+    pub fields: Table<'a, Ty>,
+    pub functions: Table<'a, ()>,
+}
+
+/// Whether a class has declared a name.
+pub fn declares(names: &Names, name: &[u8]) -> bool
+    ensures { result ≡ declares_name (names_view names.now) name.now }
+{
+    names.typedefs.has(name) || names.constants.has(name) || names.fields.has(name) || names.functions.has(name)
+}
+
+/// Refuses a name that may not be declared.
+pub fn new_name(names: &Names, count: usize, free: bool, word: &Word) -> Result<(), NameFault>
+    ensures { Gives (λ x. x) result (walk.new_name (names_view names.now) count free (raw_view.word_of word.now)) }
+{
+    if count >= 64 {
+        return Err(NameFault::TooMany(word.place));
+    }
+    if !free {
+        return Err(NameFault::DuplicateName(word.place));
+    }
+    if declares(names, word.name.bytes()) {
+        return Err(NameFault::DuplicateName(word.place));
+    }
+    Ok(())
+}
+
+fn is_truth(kind: Kind) -> bool
+    ensures { result ≡ is_truth kind }
+{
+    match kind {
+        Kind::Bool => true,
+        _ => false,
+    }
+}
+
+/// Whether a constant's value is a truth value, and its number.
+pub fn const_value(names: &Names, value: &Const) -> Result<(bool, i128), NameFault>
+    ensures { Gives (λ x. x) result (walk.const_value (names_view names.now) (raw_view.const_of value.now)) }
+{
+    match value {
+        Const::Number { minus, value, .. } => {
+            if *minus {
+                Ok((false, -i128::from(*value)))
+            } else {
+                Ok((false, i128::from(*value)))
+            }
+        }
+        Const::Truth { value } => {
+            if *value {
+                Ok((true, 1))
+            } else {
+                Ok((true, 0))
+            }
+        }
+        Const::Named { word } => match names.constants.get(word.name.bytes()) {
+            Some(value) => Ok((is_truth(value.num.kind), value.value)),
+            None => Err(NameFault::UnknownName(word.place)),
+        },
+    }
+}

@@ -1,0 +1,249 @@
+//! Parts of statements.
+ghost use Rattle.std.specs.Prelude.{◌≡◌, ◌≤◌, ◌+◌, ◌++◌, ℕ, List, map, length, take, IfOk, OnOk, OnErr, Err, Option, option_map, true};
+ghost use Rattle.ulam_names.specs.declared.fault.NameFault.TheVariants as NameFault;
+ghost use Rattle.std.specs.List.{list_any};
+ghost use Rattle.ulam_names.specs.Scopes.{is_named, is_element, inside_local};
+ghost use Rattle.ulam_names.specs.Walk as walk;
+ghost use Rattle.ulam_names.specs.Shown.{head_of, context_of, scope_of, entries_of, Gives, is_simple};
+ghost use Rattle.ulam_tree.specs.Raw as raw_tree;
+ghost use Rattle.ulam_tree.specs.RawViews as raw_view;
+ghost use Rattle.ulam_tree.specs.ResolvedViews.{resolved_expr, resolved_left, resolved_cond, resolved_statement};
+
+use crate::expr::{args, expr};
+use crate::fault::NameFault;
+use crate::half::HalfClass;
+use crate::path::{one_word, path};
+use crate::scope::{Context, Entry};
+use crate::types::{class_named, type_in};
+use std::alloc::Global;
+use ulam_tree as raw;
+use ulam_tree::Word;
+use ulam_tree::resolved::{Call, Cond, Expr, Left, Statement, Ty};
+
+/// An expression, if there is one.
+pub fn maybe_expr(
+    alloc: Global,
+    context: &Context,
+    entries: &[Entry],
+    raw: &Option<raw::Expr>,
+) -> Result<Option<Expr>, NameFault>
+    ensures { Gives (λ x. option_map resolved_expr x) result (walk.maybe_expr (context_of context.now) (entries_of entries.now) (option_map raw_view.expr_of raw.now)) }
+{
+    match raw {
+        None => Ok(None),
+        Some(raw) => Ok(Some(expr(alloc, context, entries, raw)?)),
+    }
+}
+
+/// What is assigned to.
+fn left(
+    alloc: Global,
+    context: &Context,
+    entries: &[Entry],
+    raw: &raw::Left,
+) -> Result<Left, NameFault>
+    ensures { Gives resolved_left result (walk.left (context_of context.now) (entries_of entries.now) (raw_view.left_of raw.now)) }
+{
+    let place = path(alloc, context, entries, &raw.path)?;
+    match &raw.index {
+        None => Ok(Left {
+            path: place,
+            index: None,
+        }),
+        Some(index) => {
+            let index = expr(alloc, context, entries, index)?;
+            Ok(Left {
+                path: place,
+                index: Some(Box::new(alloc, index)?),
+            })
+        }
+    }
+}
+
+/// Whether entries have one of a name.
+fn has(entries: &[Entry], name: &[u8]) -> bool
+    ensures { result ≡ list_any (is_named name.now) (entries_of entries.now) }
+{
+    for entry in entries {
+        if name == entry.name {
+            return true;
+        }
+    }
+    false
+}
+
+/// Whether a type is an element.
+fn is_element(heads: &[HalfClass], ty: Ty) -> bool
+    ensures { result ≡ is_element (map head_of heads.now) ty }
+{
+    match ty {
+        Ty::Class { class } => match heads.get(class as usize) {
+            Some(head) => !head.quark,
+            None => false,
+        },
+        _ => false,
+    }
+}
+
+/// Where names behind a local of a type are looked up.
+fn inside_local(heads: &[HalfClass], ty: Ty) -> Ty
+    ensures { result ≡ inside_local (map head_of heads.now) ty }
+{
+    match ty {
+        Ty::Class { class } => {
+            if is_element(heads, ty) {
+                Ty::Class { class }
+            } else {
+                Ty::Nothing
+            }
+        }
+        other => other,
+    }
+}
+
+/// Refuses a name that may not be declared.
+fn declared(
+    context: &Context,
+    entries: &[Entry],
+    from: usize,
+    slot: u32,
+    word: &Word,
+) -> Result<(), NameFault>
+    requires from { from ≤ length entries.now }
+    requires params { context.now.params ≤ 8 }
+    ensures gives { Gives (λ x. x) result (walk.declared (context_of context.now) (scope_of entries.now from) slot (raw_view.word_of word.now)) }
+    ensures room { OnOk result (slot + 1 ≤ context.now.params + 64) }
+{
+    if slot >= context.params + 64 {
+        return Err(NameFault::TooMany(word.place));
+    }
+    if has(&entries[from..], word.name.bytes()) {
+        return Err(NameFault::DuplicateName(word.place));
+    }
+    Ok(())
+}
+
+/// What an `if` asks.
+pub fn cond(
+    alloc: Global,
+    context: &Context,
+    entries: &[Entry],
+    raw: &raw::Cond,
+) -> Result<Cond, NameFault>
+    ensures { Gives resolved_cond result (walk.cond (context_of context.now) (entries_of entries.now) (raw_view.cond_of raw.now)) }
+{
+    match raw {
+        raw::Cond::Seen { word, class } => {
+            let path = one_word(alloc, context, entries, word)?;
+            let class = class_named(context, class)?;
+            Ok(Cond::Seen { path, class })
+        }
+        raw::Cond::Test { value } => Ok(Cond::Test {
+            value: expr(alloc, context, entries, value)?,
+        }),
+    }
+}
+
+/// Shows the name of a condition as an element.
+pub fn show<'a>(
+    context: &Context<'_, 'a>,
+    entries: &mut Vec<Entry<'a>>,
+    raw: &'a raw::Cond,
+    found: &Cond,
+) -> Result<(), NameFault>
+    ensures shown { (from : ℕ) → OnOk result (entries_of entries.new.items ≡ (walk.narrowed (map head_of context.now.heads.now) (scope_of entries.old.items from) (raw_view.cond_of raw.now) (walk.shown (resolved_cond found.now))).entries) }
+    ensures kept { OnOk result (take (length entries.old.items) entries.new.items ≡ entries.old.items) }
+    ensures memory { OnErr result (result ≡ Err NameFault.NoMemory) }
+{
+    if let raw::Cond::Seen { word, .. } = raw {
+        if let Cond::Seen { class, .. } = found {
+            if is_element(context.heads, class.ty) {
+                entries.push(Entry {
+                    name: word.name.bytes(),
+                    slot: None,
+                    inside: class.ty,
+                })?;
+            }
+        }
+    }
+    Ok(())
+}
+
+/// A declaration, which adds its local.
+pub fn declare<'a>(
+    alloc: Global,
+    context: &Context<'_, 'a>,
+    entries: &mut Vec<Entry<'a>>,
+    from: usize,
+    slot: u32,
+    of: &raw::TypeRef,
+    word: &'a Word,
+    value: &Option<raw::Expr>,
+) -> Result<Statement, NameFault>
+    requires params { context.now.params ≤ 8 }
+    requires from { from ≤ length entries.old.items }
+    ensures gives { Gives resolved_statement result (walk.statement (context_of context.now) (scope_of entries.old.items from) slot (raw_tree.declares (raw_view.type_of of.now) (raw_view.word_of word.now) (option_map raw_view.expr_of value.now))) }
+    ensures few { OnOk result (slot + 1 ≤ context.now.params + 64) }
+    ensures scope { IfOk result (λ x. entries_of entries.new.items ≡ (walk.after (map head_of context.now.heads.now) (scope_of entries.old.items from) slot (raw_tree.declares (raw_view.type_of of.now) (raw_view.word_of word.now) (option_map raw_view.expr_of value.now)) (resolved_statement x)).entries) }
+    ensures kept { OnOk result (take (length entries.old.items) entries.new.items ≡ entries.old.items) }
+{
+    let of = type_in(context, entries.as_slice(), of)?;
+    declared(context, entries.as_slice(), from, slot, word)?;
+    let value = maybe_expr(alloc, context, entries.as_slice(), value)?;
+    entries.push(Entry {
+        name: word.name.bytes(),
+        slot: Some(slot),
+        inside: inside_local(context.heads, of.ty),
+    })?;
+    Ok(Statement::Declare {
+        of,
+        slot,
+        place: word.place,
+        value,
+    })
+}
+
+/// A statement that has no statement within and declares nothing.
+pub fn simple(
+    alloc: Global,
+    context: &Context,
+    entries: &[Entry],
+    raw: &raw::Statement,
+) -> Result<Statement, NameFault>
+    requires { is_simple (raw_view.statement_of raw.now) ≡ true }
+    ensures { (from n : ℕ) → Gives resolved_statement result (walk.statement (context_of context.now) (scope_of entries.now from) n (raw_view.statement_of raw.now)) }
+{
+    match raw {
+        raw::Statement::Return { place, value } => Ok(Statement::Return {
+            place: *place,
+            value: maybe_expr(alloc, context, entries, value)?,
+        }),
+        raw::Statement::Break { place } => Ok(Statement::Break { place: *place }),
+        raw::Statement::Continue { place } => Ok(Statement::Continue { place: *place }),
+        raw::Statement::Assign {
+            left: place,
+            op,
+            value,
+        } => {
+            let place = left(alloc, context, entries, place)?;
+            let value = expr(alloc, context, entries, value)?;
+            Ok(Statement::Assign {
+                left: place,
+                op: *op,
+                value,
+            })
+        }
+        raw::Statement::Count { left: place, up } => Ok(Statement::Count {
+            left: left(alloc, context, entries, place)?,
+            up: *up,
+        }),
+        raw::Statement::Call { call } => {
+            let words = path(alloc, context, entries, &call.path)?;
+            let args = args(alloc, context, entries, call.args.as_slice())?;
+            Ok(Statement::Call {
+                call: Call { path: words, args },
+            })
+        }
+        _ => Ok(Statement::Nothing),
+    }
+}
