@@ -12,3 +12,5 @@ pub mod SimpleRules
 pub mod PartRules
 pub mod StatementRule
 pub mod BodyRule
+pub mod MemberRules
+pub mod FileRules
