@@ -4,7 +4,6 @@
 #![tactic(auto)]
 
 mod element;
-mod grid;
 mod memory;
 mod pieces;
 mod report;
