@@ -8,7 +8,7 @@ use Rattle.bit_field.specs.Atom.{empty_atom}
 use Rattle.cell_grid.specs.Grid.{GridValue, IsGrid}
 use Rattle.cell_grid.specs.Calm.{AreCalm}
 use Rattle.cell_grid.specs.Shut.{Rectangle, is_inside, cleared, shut, IsEmptyIn}
-use Rattle.cell_grid.proofs.Corners.{below}
+use Rattle.cell_grid.proofs.Places.{below}
 
 abbrev kept : List Bool → ℕ → Rectangle → ℕ → Bool
 kept marks width r i = get_or marks i false && not (is_inside r (i % width) (i / width))

@@ -14,6 +14,7 @@ use Rattle.window_sites.specs.Sites.{offset_of, shifted}
 use Rattle.window_sites.specs.Window.{WindowValue, atom_at}
 use Rattle.window_sites.proofs.Offsets.{offset-near}
 use Rattle.cell_grid.specs.Grid.{GridValue, IsGrid, place_of, seen, window_of, sites_at, atom_left, put_window}
+use Rattle.cell_grid.proofs.Places.{add-mul}
 use Rattle.cell_grid.proofs.Windows.{IsGrid-put}
 use Rattle.cell_grid.specs.Calm.{AreCalm, IsCorner}
 use Rattle.window_sites.specs.Inner.{inner_place, inner_atoms, inner_window, from_low, site_numbers}
@@ -22,10 +23,6 @@ use Rattle.cell_grid.specs.Inner.{with_inner, with_sites}
 shift-near : (x w : ℕ) (d : ℤ) → unsigned_abs d ≤ 4 → 4 ≤ x → x + 4 < w → (shifted x d ≡ Some (x - 4 + from_low d)) × (x - 4 + from_low d < w) × (x - 4 + from_low d ≤ x + 4) × (x ≤ x - 4 + from_low d + 4)
 shift-near x w (pos d) h a b = (ap Some (omega (arith, a)), omega (arith, h, a, b), omega (arith, h, a), omega (arith, h, a))
 shift-near x w (negsuc d) h a b = (rw (lt-ltb d x (omega (arith, h, a))) (ap Some (omega (arith, h, a))), omega (arith, h, a, b), omega (arith, h, a), omega (arith, h, a))
-
-add-mul : (a b w : ℕ) → (a + b) * w ≡ a * w + b * w
-add-mul zero b w = omega arith
-add-mul (suc a) b w = let r = add-mul a b w in omega (arith, r)
 
 from-corner : (a b w p c : ℕ) → (a + b) * w + (p + c) ≡ a * w + p + b * w + c
 from-corner a b w p c = let r = add-mul a b w in omega (arith, r)
@@ -40,16 +37,6 @@ place-inner g calm x y n h k a b c d m =
     let sy = shift-near y g.height dy (omega (arith, o)) c d in
     let l = k.near x y (x - 4 + from_low dx) (y - 4 + from_low dy) (omega (arith, b)) (omega (arith, d)) sx.1 sy.1 sx.2 sx.3 sy.2 sy.3 m in
     rw (sx.0, sy.0, lt-ltb _ _ sx.1, lt-ltb _ _ sy.1, l) (ap Some (from-corner (y - 4) (from_low dy) g.width (x - 4) (from_low dx)))
-
--- a site of the plane has a place
-pub below : (x y w h : ℕ) → x < w → y < h → y * w + x < w * h
-below x y w h a b =
-    let r = add-mul (y + 1) (h - (y + 1)) w in
-    let s = add-mul y 1 w in
-    let t : y + 1 + (h - (y + 1)) ≡ h = omega (arith, b) in
-    let u = rw t at r in
-    let m = mul_comm h w in
-    omega (arith, u, s, a, m)
 
 corner-below : (a h w p : ℕ) → a + 9 ≤ h → p + 9 ≤ w → a * w + p + 8 * w + 8 < h * w
 corner-below a h w p e f = let r = add-mul (a + 9) (h - (a + 9)) w in let s = add-mul a 9 w in let t : a + 9 + (h - (a + 9)) ≡ h = omega (arith, e) in let u = rw t at r in omega (arith, u, s, f)
@@ -89,7 +76,7 @@ atom_left-inner g x y low w a (suc k) h le i lt =
       | inr other ↦ rw (is, other.0) (get_or-set_other old j i (atom_at w a) empty_atom (λ e. other.1 (sym e)) ∙ rest)
     ]
 
--- the grid that is atom_left there
+-- the grid that is written there
 pub put_window-inner : (g : GridValue) (x y low : ℕ) (w : WindowValue) → IsCorner g x y low → record g { atoms = with_inner g.atoms low g.width w.atoms } ≡ put_window g x y w
 unfolding put_window with_inner
 put_window-inner g x y low w h =

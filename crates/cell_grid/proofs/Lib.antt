@@ -1,3 +1,4 @@
 pub mod Cleared
 pub mod Corners
+pub mod Places
 pub mod Windows

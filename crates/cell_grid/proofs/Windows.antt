@@ -1,4 +1,4 @@
--- How a window is read from a grid, and how it is atom_left, site by site.
+-- How a window is read from a grid, and how it is written, site by site.
 use Rattle.std.proofs.Common.{ℕ, suc, ◌≡◌, ◌+◌, ◌<◌, Bool, true, false, List, ◌∷◌, length, get_or, set, drop, is_some, map, cond, zero, [], ◌*◌, ◌≤◌, Option, Some, None, refl, ap, sym, ◌∙◌, arith, inl, inr}
 use Rattle.std.proofs.Math.ListN.{length-set}
 use Rattle.std.proofs.Math.Seq.{drop-cons}
@@ -67,7 +67,7 @@ IsWindow-read g x y atoms live a h = record {
   centre = h.mark 0 (omega arith) ∙ centre-live g x y a;
 }
 
--- the sites from n on were atom_left
+-- the sites from n on were written
 pub record IsPut (g : GridValue) (x y : ℕ) (w : WindowValue) (n : ℕ) (h : GridValue) : Type 0 where
   pub width : h.width ≡ g.width
   pub height : h.height ≡ g.height
@@ -137,7 +137,7 @@ live_place-live live (Some j) i h = go (get_or live j false) refl h
     ]
     go false is e = cc
 
--- what is atom_left at a place that is not live is the old atom
+-- what is written at a place that is not live is the old atom
 pub atom_left-dead : (g : GridValue) (x y i : ℕ) (w : WindowValue) (ns : List ℕ) → get_or g.live i false ≡ false → atom_left g w i (sites_at g x y i ns) ≡ get_or g.atoms i empty_atom
 atom_left-dead g x y i w [] dead = refl
 atom_left-dead g x y i w (n ∷ ns) dead = go (is_place (place_of g x y n) i) refl (atom_left-dead g x y i w ns dead)
@@ -151,7 +151,7 @@ pub put-plane : (g : GridValue) (x y : ℕ) (w : WindowValue) → ArePlanesAlike
 unfolding put_window
 put-plane g x y w = (refl, refl, refl)
 
--- what is atom_left can be stored
+-- what is written can be stored
 pub IsGrid-put : (g : GridValue) (x y : ℕ) (w : WindowValue) → IsGrid g → IsGrid (put_window g x y w)
 unfolding put_window
 IsGrid-put g x y w h = record {
@@ -190,7 +190,7 @@ atom_left-back g x y i a (suc k) le = go (is_place (place_of g x y a) i) refl (a
     go true is rest = seen-at g x y a (omega (arith, le)) ∙ seen-here g (place_of g x y a) i is
     go false is rest = rest
 
--- a window that is atom_left back as it was read changes nothing
+-- a window that is written back as it was read changes nothing
 pub put-back : (g : GridValue) (x y : ℕ) → put_window g x y (window_of g x y) ≡ g
 unfolding put_window
 put-back g x y =

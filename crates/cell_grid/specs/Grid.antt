@@ -31,6 +31,10 @@ pub record IsGrid (g : GridValue) : Type 0 where
 abbrev pub empty_grid : ℕ → ℕ → GridValue
 empty_grid width height = record { width = width; height = height; atoms = replicate (width * height) empty_atom; live = replicate (width * height) true }
 
+-- a grid whose sites are all live
+abbrev pub IsAllLive : GridValue → Type 0
+IsAllLive g = g.live ≡ replicate (g.width * g.height) true
+
 -- two grids of one size with the same live sites
 abbrev pub ArePlanesAlike : GridValue → GridValue → Type 0
 ArePlanesAlike g h = (h.width ≡ g.width) × (h.height ≡ g.height) × (h.live ≡ g.live)

@@ -1,4 +1,4 @@
-//! The 41 sites of a window that lies in the plane as a whole, atom_left at once.
+//! The 41 sites of a window that lies in the plane as a whole, written at once.
 ghost use Rattle.std.specs.Prelude.{◌≡◌, ◌+◌, ◌*◌, ◌≤◌, ◌<◌, length};
 ghost use Rattle.cell_grid.specs.Inner.{with_inner};
 

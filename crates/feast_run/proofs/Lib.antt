@@ -11,5 +11,4 @@ pub mod Once
 pub mod Promised
 pub mod Quiet
 pub mod Runs
-pub mod Windows
 pub mod Worlds

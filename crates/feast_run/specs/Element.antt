@@ -1,7 +1,8 @@
 -- An element that swaps two sites of its window, and its text.
-use Rattle.std.specs.Prelude.{ℕ, ◌≡◌, ◌≤◌, Bool, true, false, List, [], ◌∷◌, ◌++◌, codes, decimal, ◌⊎◌, if◌then◌else◌}
+use Rattle.std.specs.Prelude.{ℕ, ◌≡◌, ◌≤◌, Bool, true, false, List, [], ◌∷◌, ◌++◌, codes, decimal, ◌⊎◌, if◌then◌else◌, refl}
 use Rattle.std.specs.List.{list_any}
 use Rattle.std.specs.Str.{bytes_eq}
+use Rattle.bit_field.specs.Atom.{empty_atom}
 use Rattle.window_sites.specs.Window.{WindowValue, atom_at, swap_at}
 use Rattle.feast_run.specs.Report.{is_empty}
 use Rattle.feast_base.specs.TypeNames.{is_type_name}
@@ -44,3 +45,7 @@ pub record Defines (bytes : List ℕ) (e : ElementValue) : Type 0 where
 -- the window after the element's act: its swap is made, unless the centre is empty
 abbrev pub after_swap : ElementValue → WindowValue → ℕ → WindowValue
 after_swap e w seed = if is_empty (atom_at w 0) then w else swap_at w e.a e.b
+
+-- at an empty centre nothing changes
+pub idle-swap : (e : ElementValue) (w : WindowValue) (seed : ℕ) → atom_at w 0 ≡ empty_atom → after_swap e w seed ≡ w
+idle-swap e w seed h = rw h refl

@@ -3,13 +3,11 @@ pub mod Bodies
 pub mod Codes
 pub mod Element
 pub mod Faults
-pub mod Grid
 pub mod Heads
 pub mod Promises
 pub mod Reading
 pub mod Report
 pub mod Run
-pub mod Steps
 pub mod Stops
 pub mod Values
 pub mod World

@@ -4,7 +4,7 @@ use Rattle.feast_base.specs.Held.{LoadMayFail, PutMayFail, ShelfHeld, SinkHeld, 
 use Rattle.feast_base.specs.Outside.{File, Stock, Told, file_of, stock, told}
 use Rattle.feast_run.specs.Answer.{AreNamed, Comes, HasElement, HasWorld, IsRun, NotesNone, Setting, setting}
 use Rattle.feast_run.specs.Element.{ElementValue, Defines, after_swap}
-use Rattle.feast_run.specs.Grid.{replay}
+use Rattle.cell_grid.specs.Records.{replay}
 use Rattle.feast_run.specs.Report.{report}
 use Rattle.feast_run.specs.Run.{journal_of, start_of}
 use Rattle.feast_run.specs.World.{WorldValue, IsWorld, world_text}

@@ -2,8 +2,9 @@
 use Rattle.std.specs.Prelude.{ℕ, ◌+◌, ◌-◌, ◌/◌, ◌%◌, Bool, List, [], ◌∷◌, ◌++◌, length, codes, decimal, count_by, slice_index_or, if◌then◌else◌, ◌==◌, ◌&&◌, not}
 use Rattle.std.specs.List.{flat_map}
 use Rattle.bit_field.specs.Atom.{AtomValue}
+use Rattle.cell_grid.specs.Grid.{GridValue}
+use Rattle.cell_grid.specs.declared.record.Record.{Record}
 use Rattle.feast_base.specs.Digits.{hex}
-use Rattle.feast_run.specs.Grid.{GridValue, RecordValue}
 
 -- whether it is the empty atom
 abbrev pub is_empty : AtomValue → Bool
@@ -35,14 +36,14 @@ abbrev pub atoms_text : List (List ℕ) → GridValue → List ℕ
 atoms_text names g = count_line (codes "atoms") (count_by (λ a. not (is_empty a)) g.atoms) ++ atom_lines names g.width 0 g.atoms
 
 -- a site and a seed, and the end of the line
-abbrev pub site_text : RecordValue → List ℕ
+abbrev pub site_text : Record → List ℕ
 site_text r = field_text r.x ++ (field_text r.y ++ hex_end 16 r.seed)
 
-abbrev pub record_line : RecordValue → List ℕ
+abbrev pub record_line : Record → List ℕ
 record_line r = field_text r.stamp ++ (field_text r.tile ++ (field_text r.attempt ++ site_text r))
 
 -- how many records there are, and their lines
-abbrev pub journal_text : List RecordValue → List ℕ
+abbrev pub journal_text : List Record → List ℕ
 journal_text rs = count_line (codes "journal") (length rs) ++ flat_map record_line rs
 
 -- an abandoned attempt: its tile and number, its centre, the edge that was held, and which tile's attempt held it
@@ -67,5 +68,5 @@ abbrev pub abandoned_text : List AbandonedValue → List ℕ
 abandoned_text gone = count_line (codes "abandoned") (length gone) ++ flat_map abandoned_line gone
 
 -- the report of a run: the atoms of its grid, its journal and its abandoned attempts
-abbrev pub report : List (List ℕ) → GridValue → List RecordValue → List AbandonedValue → List ℕ
+abbrev pub report : List (List ℕ) → GridValue → List Record → List AbandonedValue → List ℕ
 report names g journal abandoned = codes "feast 1\n" ++ (atoms_text names g ++ (journal_text journal ++ abandoned_text abandoned))

@@ -1,16 +1,11 @@
 -- The code's plain structs as values.
 use Rattle.std.specs.Prelude.{map}
-use Rattle.feast_run.specs.Grid.{RecordValue}
 use Rattle.feast_run.specs.World.{TryValue, PlacedValue, WorldValue}
 use Rattle.feast_run.specs.Element.{ElementValue}
-use Rattle.feast_run.specs.declared.grid.Record.{Record}
 use Rattle.feast_run.specs.declared.world.Try.{Try}
 use Rattle.feast_run.specs.declared.world.Placed.{Placed}
 use Rattle.feast_run.specs.declared.world.RawWorld.{RawWorld}
 use Rattle.feast_run.specs.declared.element.Element.{Element}
-
-abbrev pub record_value : Record → RecordValue
-record_value r = record { stamp = r.stamp; tile = r.tile; attempt = r.attempt; x = r.x; y = r.y; seed = r.seed }
 
 abbrev pub try_value : Try → TryValue
 try_value t = record { x = t.x; y = t.y; seed = t.seed }

@@ -5,7 +5,6 @@
 
 mod element;
 mod element_text;
-mod grid;
 mod in_memory;
 mod pieces;
 mod report;

@@ -3,10 +3,9 @@ ghost use Rattle.std.specs.Prelude.{◌≡◌, ◌+◌, ◌/◌, ◌%◌, ◌≤
 ghost use Rattle.std.specs.List.{flat_map};
 ghost use Rattle.feast_base.specs.Appending.{Appends};
 ghost use Rattle.feast_run.specs.Report.{count_line, record_line, field_text, hex_end, site_text, journal_text, atom_line, atom_lines, atoms_text, abandoned_text, is_empty, report};
-ghost use Rattle.feast_run.specs.Values.{record_value};
 
-use crate::grid::{Grid, Record};
 use bit_field::Atom;
+use cell_grid::{Grid, Record};
 use feast_base::text::{push, push_hex, push_number};
 use feast_base::{Name, NoMemory};
 
@@ -114,7 +113,7 @@ fn push_atoms(
 
 /// Appends a record's site and seed, and the end of the line.
 fn push_site(out: &mut Vec<u8>, entry: &Record) -> Result<(), NoMemory>
-    ensures { Appends out.old.items out.new.items result (site_text (record_value entry.now)) }
+    ensures { Appends out.old.items out.new.items result (site_text entry.now) }
 {
     push_field(out, entry.x as u64)?;
     push_field(out, entry.y as u64)?;
@@ -123,7 +122,7 @@ fn push_site(out: &mut Vec<u8>, entry: &Record) -> Result<(), NoMemory>
 
 /// Appends the line of a record.
 fn push_record(out: &mut Vec<u8>, entry: &Record) -> Result<(), NoMemory>
-    ensures { Appends out.old.items out.new.items result (record_line (record_value entry.now)) }
+    ensures { Appends out.old.items out.new.items result (record_line entry.now) }
 {
     push_field(out, entry.stamp as u64)?;
     push_field(out, entry.tile as u64)?;
@@ -133,7 +132,7 @@ fn push_record(out: &mut Vec<u8>, entry: &Record) -> Result<(), NoMemory>
 
 /// Appends the lines of the records.
 fn push_records(out: &mut Vec<u8>, records: &[Record]) -> Result<(), NoMemory>
-    ensures { Appends out.old.items out.new.items result (flat_map record_line (map record_value records.now)) }
+    ensures { Appends out.old.items out.new.items result (flat_map record_line records.now) }
 {
     for entry in records {
         push_record(out, entry)?;
@@ -156,18 +155,11 @@ fn push_grid(out: &mut Vec<u8>, names: &[Name], grid: &Grid) -> Result<(), NoMem
     push_atoms(out, names, grid.width() as usize, grid.atoms())
 }
 
-/// How many records there are: `len`, with the count said of the records as contracts see them.
-fn count_records(records: &[Record]) -> usize
-    ensures { result ≡ length (map record_value records.now) }
-{
-    records.len()
-}
-
 /// Appends the count of the records and their lines.
 fn push_journal(out: &mut Vec<u8>, records: &[Record]) -> Result<(), NoMemory>
-    ensures { Appends out.old.items out.new.items result (journal_text (map record_value records.now)) }
+    ensures { Appends out.old.items out.new.items result (journal_text records.now) }
 {
-    push_count(out, b"journal", count_records(records) as u64)?;
+    push_count(out, b"journal", records.len() as u64)?;
     push_records(out, records)
 }
 
@@ -185,7 +177,7 @@ pub fn push_report(
     grid: &Grid,
     records: &[Record],
 ) -> Result<(), NoMemory>
-    ensures { Appends out.old.items out.new.items result (report names.now grid.now (map record_value records.now) []) }
+    ensures { Appends out.old.items out.new.items result (report names.now grid.now records.now []) }
 {
     push(out, b"feast 1\n")?;
     push_grid(out, names, grid)?;

@@ -1,17 +1,17 @@
 //! A run of one tile: its start, its journal, its report.
 ghost use Rattle.std.specs.Prelude.{◌≡◌, ◌+◌, ◌≤◌, ◌<◌, IfOk, length, map};
+ghost use Rattle.cell_grid.specs.Grid.{IsAllLive};
 ghost use Rattle.feast_run.specs.Element.{after_swap};
-ghost use Rattle.feast_run.specs.Grid.{replay};
 ghost use Rattle.feast_run.specs.Run.{start_of, journal_of, run_report};
-ghost use Rattle.feast_run.specs.Values.{record_value, try_value, world_value, element_value};
+ghost use Rattle.feast_run.specs.Values.{try_value, world_value, element_value};
 ghost use Rattle.feast_run.specs.World.{IsWorld};
 
 use crate::element::Element;
-use crate::grid::{Grid, Record};
 use crate::report::push_report;
 use crate::swapper::Swapper;
 use crate::world::{RawWorld, Try};
 use bit_field::Atom;
+use cell_grid::{Grid, Record};
 use feast_base::NoMemory;
 use std::alloc::Global;
 
@@ -20,6 +20,7 @@ fn start(alloc: Global, world: &RawWorld) -> Result<Grid, NoMemory>
     requires { IsWorld (world_value world.now) }
     ensures grid { IfOk result (λ g. g ≡ start_of (world_value world.now)) }
     ensures size { IfOk result (λ g. (g.width ≡ world.now.width) × (g.height ≡ world.now.height)) }
+    ensures live { IfOk result IsAllLive }
 {
     let mut grid = Grid::new(alloc, world.width, world.height)?;
     for entry in world.placed.as_slice() {
@@ -31,7 +32,7 @@ fn start(alloc: Global, world: &RawWorld) -> Result<Grid, NoMemory>
 /// The journal of a world's attempts.
 fn journal(alloc: Global, tries: &[Try]) -> Result<Vec<Record>, NoMemory>
     requires { length tries.now ≤ 1000000 }
-    ensures { IfOk result (λ v. map record_value v.items ≡ journal_of (map try_value tries.now)) }
+    ensures { IfOk result (λ v. v.items ≡ journal_of (map try_value tries.now)) }
 {
     let mut records = Vec::new(alloc);
     for (i, entry) in tries.iter().enumerate() {

@@ -1,5 +1,6 @@
 use Rattle.std.proofs.Common.{◌≡◌, ◌<◌, ◌∙◌, ap, subst, List, length, get_or, map, arith}
 use Rattle.std.proofs.lemmas.List.{length-map}
+use Rattle.cell_grid.proofs.Places.{IsLive-all}
 use Rattle.feast_run.proofs.Entries.{entry_is}
 use Rattle.feast_run.proofs.Marks.{nobody}
 use Rattle.feast_run.specs.Values.{placed_value}
@@ -19,4 +20,4 @@ set-requires c =
     let few : i < length (map placed_value ps) = omega (arith, length-map ps placed_value) in
     let P : PlacedValue → Type 0 = IsPlaced w.width w.height in
     let one = subst P (entry_is ps i c.entry-item.result lt item) (c.requires.shaped.placed i nobody few) in
-    record { x_in = rw c.loop-entry.invariant.width one.x_in; y_in = rw c.loop-entry.invariant.height one.y_in }
+    record { live = IsLive-all c.loop-entry.grid _ _ c.loop-entry.invariant.live (rw c.loop-entry.invariant.width one.x_in) (rw c.loop-entry.invariant.height one.y_in) }

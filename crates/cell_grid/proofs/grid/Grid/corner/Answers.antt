@@ -2,7 +2,8 @@ use Rattle.std.proofs.Common.{subst, sym, ◌∙◌, refl, arith, ◌+◌, ◌-�
 use Rattle.std.proofs.lemmas.List.{get_or_read_under}
 use Rattle.cell_grid.specs.Grid.{GridValue}
 use Rattle.cell_grid.specs.Calm.{IsCorner}
-use Rattle.cell_grid.proofs.Corners.{corner-is, below}
+use Rattle.cell_grid.proofs.Corners.{corner-is}
+use Rattle.cell_grid.proofs.Places.{below}
 use Rattle.cell_grid.proofs.grid.Grid.corner.Goals as goal
 
 pub returns-then-index : goal.returns-then-index
