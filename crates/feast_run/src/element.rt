@@ -1,5 +1,6 @@
 //! The element that is built so far.
 ghost use Rattle.std.specs.Prelude.{◌≤◌};
+ghost use Rattle.feast_run.specs.Element.{last_site};
 
 use feast_base::Name;
 
@@ -11,6 +12,6 @@ pub struct Element {
     /// The numbers of the two sites.
     pub a: u8,
     pub b: u8,
-    ghost first: { a ≤ 40 },
-    ghost second: { b ≤ 40 },
+    ghost first: { a ≤ last_site },
+    ghost second: { b ≤ last_site },
 }

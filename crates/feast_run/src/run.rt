@@ -4,7 +4,7 @@ ghost use Rattle.cell_grid.specs.Grid.{IsAllLive};
 ghost use Rattle.feast_run.specs.Element.{after_swap};
 ghost use Rattle.feast_run.specs.Run.{start_of, journal_of, run_report};
 ghost use Rattle.feast_run.specs.Values.{try_value, world_value, element_value};
-ghost use Rattle.feast_run.specs.World.{IsWorld};
+ghost use Rattle.feast_run.specs.World.{IsWorld, most_tries};
 
 use crate::element::Element;
 use crate::report::push_report;
@@ -31,7 +31,7 @@ fn start(alloc: Global, world: &RawWorld) -> Result<Grid, NoMemory>
 
 /// The journal of a world's attempts.
 fn journal(alloc: Global, tries: &[Try]) -> Result<Vec<Record>, NoMemory>
-    requires { length tries.now ≤ 1000000 }
+    requires { length tries.now ≤ most_tries }
     ensures { IfOk result (λ v. v.items ≡ journal_of (map try_value tries.now)) }
 {
     let mut records = Vec::new(alloc);

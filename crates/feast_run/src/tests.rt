@@ -40,6 +40,25 @@ fn words(alloc: Global) -> Result<Vec<String>, Fail> {
     ]?)
 }
 
+/// The files `w` and `e`.
+fn files(alloc: Global, world: &str, element: &str) -> Result<Vec<Source>, Fail> {
+    Ok(vec![in alloc; source(alloc, "w", world)?, source(alloc, "e", element)?]?)
+}
+
+/// What a run of `w` and `e` answers.
+fn run<R: Threads + Sync, F: Shelf, G: Gate>(
+    rt: &R,
+    alloc: Global,
+    shelf: &mut F,
+    sink: &mut MemSink,
+    gate: &G,
+) -> Result<Status, Fail>
+    requires { sink.old.faults < 2 ^ 64 - 1 }
+{
+    let words = words(alloc)?;
+    Ok(feast(rt, alloc, words.as_slice(), shelf, sink, gate))
+}
+
 /// Whether a case ends as it is to, over a shelf and a sink of which the calls with these numbers
 /// fail.
 fn holds<R: Threads + Sync>(
@@ -49,21 +68,9 @@ fn holds<R: Threads + Sync>(
     shelf_fails: Vec<u64>,
     sink_fails: Vec<u64>,
 ) -> Result<bool, Fail> {
-    let files = vec![in alloc;
-        source(alloc, "w", case.world)?,
-        source(alloc, "e", case.element)?,
-    ]?;
-    let mut shelf = MemShelf::new(alloc, files, shelf_fails);
+    let mut shelf = MemShelf::new(alloc, files(alloc, case.world, case.element)?, shelf_fails);
     let mut sink = MemSink::new(alloc, sink_fails, 1000)?;
-    let words = words(alloc)?;
-    let status = feast(
-        rt,
-        alloc,
-        words.as_slice(),
-        &mut shelf,
-        &mut sink,
-        &OpenGate,
-    );
+    let status = run(rt, alloc, &mut shelf, &mut sink, &OpenGate)?;
     Ok(status == case.status && sink.written() == case.output.as_bytes())
 }
 
@@ -217,24 +224,16 @@ fn an_element_has_no_built_in_name(rt: HostRuntime) -> Result<(), Fail> {
     ];
     let alloc = rt.alloc();
     for name in built_in {
-        let text = format!(in alloc;
+        let element = format!(in alloc;
             "element {name} {{ EventWindow ew; Void behave() {{ ew.swap(0, 4); }} }}"
         )?;
-        let files = vec![in alloc;
-            source(alloc, "w", WALK)?,
-            source(alloc, "e", text.as_str())?,
-        ]?;
-        let mut shelf = MemShelf::new(alloc, files, Vec::new(alloc));
-        let mut sink = MemSink::new(alloc, Vec::new(alloc), 100)?;
-        let words = words(alloc)?;
-        let status = feast(
-            &rt,
+        let mut shelf = MemShelf::new(
             alloc,
-            words.as_slice(),
-            &mut shelf,
-            &mut sink,
-            &OpenGate,
+            files(alloc, WALK, element.as_str())?,
+            Vec::new(alloc),
         );
+        let mut sink = MemSink::new(alloc, Vec::new(alloc), 100)?;
+        let status = run(&rt, alloc, &mut shelf, &mut sink, &OpenGate)?;
         assert_eq!(rt; status, Status::ElementRefused, "{name}");
     }
     Ok(())
@@ -255,15 +254,15 @@ impl Gate for CountingGate {
 #[test]
 fn no_worker_runs_yet_so_no_gate_is_reached(rt: HostRuntime) -> Result<(), Fail> {
     let alloc = rt.alloc();
-    let files = vec![in alloc; source(alloc, "w", WALK)?, source(alloc, "e", WALKER)?]?;
-    let mut shelf = MemShelf::new(alloc, files, Vec::new(alloc));
+    let mut shelf = MemShelf::new(alloc, files(alloc, WALK, WALKER)?, Vec::new(alloc));
     let mut sink = MemSink::new(alloc, Vec::new(alloc), 1000)?;
     let gate = CountingGate {
         reached: AtomicU64::new(0),
     };
-    let words = words(alloc)?;
-    let status = feast(&rt, alloc, words.as_slice(), &mut shelf, &mut sink, &gate);
-    assert_eq!(rt; status, Status::Done);
+    assert_eq!(rt;
+        run(&rt, alloc, &mut shelf, &mut sink, &gate)?,
+        Status::Done
+    );
     assert_eq!(rt; gate.reached.load(Ordering::SeqCst), 0);
     Ok(())
 }
@@ -294,15 +293,7 @@ fn a_world_has_at_most_256_mebibytes(rt: HostRuntime) -> Result<(), Fail> {
     let alloc = rt.alloc();
     let mut shelf = Asked { limit: 0 };
     let mut sink = MemSink::new(alloc, Vec::new(alloc), 0)?;
-    let words = words(alloc)?;
-    let status = feast(
-        &rt,
-        alloc,
-        words.as_slice(),
-        &mut shelf,
-        &mut sink,
-        &OpenGate,
-    );
+    let status = run(&rt, alloc, &mut shelf, &mut sink, &OpenGate)?;
     assert_eq!(rt; status, Status::NoMemory);
     assert_eq!(rt; shelf.limit, 256 * 1024 * 1024);
     Ok(())
@@ -315,15 +306,7 @@ fn an_element_has_at_most_a_mebibyte(rt: HostRuntime) -> Result<(), Fail> {
     let files = vec![in alloc; source(alloc, "w", WALK)?, whole]?;
     let mut shelf = MemShelf::new(alloc, files, Vec::new(alloc));
     let mut sink = MemSink::new(alloc, Vec::new(alloc), 100)?;
-    let words = words(alloc)?;
-    let status = feast(
-        &rt,
-        alloc,
-        words.as_slice(),
-        &mut shelf,
-        &mut sink,
-        &OpenGate,
-    );
+    let status = run(&rt, alloc, &mut shelf, &mut sink, &OpenGate)?;
     assert_eq!(rt; status, Status::ElementRefused);
     assert_eq!(rt; sink.written(), NOT_BUILT_ELEMENT.as_bytes());
     Ok(())

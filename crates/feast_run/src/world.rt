@@ -4,7 +4,7 @@ ghost use Rattle.std.specs.List.{AllPairs};
 ghost use Rattle.feast_run.specs.Faults.{IsOther};
 ghost use Rattle.feast_run.specs.Reading.{NoText, HasText, NoLines, HasLines};
 ghost use Rattle.feast_run.specs.Values.{try_value, placed_value, world_value};
-ghost use Rattle.feast_run.specs.World.{WorldValue, IsTry, IsPlaced, try_rest, try_line, placed_rest, placed_line, place_in, AreApart, Says};
+ghost use Rattle.feast_run.specs.World.{WorldValue, IsTry, IsPlaced, try_rest, try_line, placed_rest, placed_line, place_in, AreApart, Says, longest_side};
 ghost use Rattle.feast_run.specs.Heads.{head_line, head_value, IsHead, site_pair, IsSite, Begins};
 
 use crate::pieces::{ReadFault, expect, name_until, number_until, seed_until_end};
@@ -166,7 +166,7 @@ fn front(alloc: Global, bytes: &[u8]) -> Result<(RawWorld, &[u8]), ReadFault>
 fn place_of(entry: &Placed, width: u32, height: u32) -> usize
     requires x_in { entry.now.x < width }
     requires y_in { entry.now.y < height }
-    requires small { (width ≤ 64) × (height ≤ 64) }
+    requires small { (width ≤ longest_side) × (height ≤ longest_side) }
     ensures value { result ≡ place_in width (placed_value entry.now) }
     ensures inside { result < width * height }
 {
@@ -176,7 +176,7 @@ fn place_of(entry: &Placed, width: u32, height: u32) -> usize
 /// Whether no two of the atoms are at one site. `NoMemory` where a mark for each site wants it.
 fn are_apart(alloc: Global, placed: &[Placed], width: u32, height: u32) -> Result<bool, NoMemory>
     requires within { All (IsPlaced width height) (map placed_value placed.now) }
-    requires small { (width ≤ 64) × (height ≤ 64) }
+    requires small { (width ≤ longest_side) × (height ≤ longest_side) }
     ensures { IfOk result (λ b. IsTrue b ↔ AllPairs AreApart (map placed_value placed.now)) }
 {
     let mut taken = vec![in alloc; false; (width * height) as usize]?;
