@@ -1,7 +1,7 @@
 use Rattle.std.proofs.Common.{rules, take, sym, ap, length, ◌++◌, ◌∙◌, append_assoc, arith}
 use Rattle.std.proofs.lemmas.List.{take-append-drop}
 use Rattle.std.proofs.lemmas.Slice.{between_to_end}
-use Rattle.feast_base.proofs.Streams.{Appends-more}
+use Rattle.feast_base.proofs.Streams.{AppendsKnown-more}
 use Rattle.feast_base.proofs.std_sink.write_whole.Goals as goal
 
 pub loop-rest-preserved : goal.loop-rest-preserved
@@ -12,5 +12,5 @@ loop-rest-preserved g c =
     let parts = ap (λ z. take n rest ++ z) (between_to_end rest n (length rest) (omega arith)) ∙ take-append-drop n rest in (
       invariant.0 ++ take n rest,
       invariant.1 ∙ ap (λ z. invariant.0 ++ z) (sym parts) ∙ sym (append_assoc invariant.0 (take n rest) _),
-      Appends-more _ _ _ _ _ invariant.2 (search rules),
+      AppendsKnown-more _ _ _ _ _ invariant.2 (search rules),
     )
