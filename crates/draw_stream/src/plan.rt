@@ -111,17 +111,15 @@ impl AttemptPlan {
         ensures value { IfOk result (λ p. p ≡ seeded seed count off.now sites) }
         ensures lists { IfOk result (λ p. length p.lists ≡ length off.now) }
     {
-        match Vec::from_slice(alloc, off) {
-            Ok(off) => Ok(AttemptPlan {
-                plan: Plan::Seeded(Origin {
-                    seed,
-                    count,
-                    off,
-                    sites,
-                }),
+        let off = Vec::from_slice(alloc, off)?;
+        Ok(AttemptPlan {
+            plan: Plan::Seeded(Origin {
+                seed,
+                count,
+                off,
+                sites,
             }),
-            Err(_) => Err(NoMemory),
-        }
+        })
     }
 
     /// The plan by which each tile has the attempts of its script. There are 1 to 64 scripts, with
@@ -187,10 +185,8 @@ impl AttemptPlan {
 fn listed(alloc: Global, attempts: &[Attempt]) -> Result<Attempts, NoMemory>
     ensures { IfOk result (λ a. a ≡ attempts.now) }
 {
-    match Vec::from_slice(alloc, attempts) {
-        Ok(list) => Ok(Attempts {
-            rest: Rest::Listed { list, next: 0 },
-        }),
-        Err(_) => Err(NoMemory),
-    }
+    let list = Vec::from_slice(alloc, attempts)?;
+    Ok(Attempts {
+        rest: Rest::Listed { list, next: 0 },
+    })
 }

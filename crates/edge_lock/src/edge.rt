@@ -120,12 +120,8 @@ impl Edge {
         ensures edge { IfOk result (λ r. (r.0.number ≡ edge) × (r.0.registers ≡ registers)) }
         ensures passes { IfOk result (λ r. IsFresh r.1 r.0 0 × IsFresh r.2 r.0 1) }
     {
-        let Ok(words) = Vec::from_elem(alloc, 0u64, FIRST_REGISTER + registers as usize) else {
-            return Err(NoMemory);
-        };
-        let Ok((table, mut seat)) = Table::of_words(alloc, words.as_slice(), &registers) else {
-            return Err(NoMemory);
-        };
+        let words = Vec::from_elem(alloc, 0u64, FIRST_REGISTER + registers as usize)?;
+        let (table, mut seat) = Table::of_words(alloc, words.as_slice(), &registers)?;
         table.shared.fetch_add::<Claim>(&mut seat, CLAIMS, 1);
         let mut other = table.shared.split_seat::<Ends>(&mut seat);
         table.shared.fetch_add::<Claim>(&mut other, CLAIMS, 1);

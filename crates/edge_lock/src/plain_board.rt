@@ -46,9 +46,7 @@ impl PlainBoard {
         for edge in 0..sizes.edges() {
             let (lower, higher) = sizes.ends(edge);
             let new = PlainEdge::new(alloc, lower, higher, sizes.registers(edge))?;
-            if edges.push(new).is_err() {
-                return Err(NoMemory);
-            }
+            edges.push(new)?;
         }
         Ok(PlainBoard { edges, acting: 0 })
     }

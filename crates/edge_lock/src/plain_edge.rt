@@ -48,12 +48,8 @@ impl PlainEdge {
     ) -> Result<PlainEdge, NoMemory>
         ensures { IfOk result (λ e. IsUntouched e lower higher registers) }
     {
-        let Ok(words) = Vec::from_elem(alloc, 0u64, FIRST_REGISTER + registers as usize) else {
-            return Err(NoMemory);
-        };
-        let Ok((table, seat)) = Table::of_words(alloc, words.as_slice(), &registers) else {
-            return Err(NoMemory);
-        };
+        let words = Vec::from_elem(alloc, 0u64, FIRST_REGISTER + registers as usize)?;
+        let (table, seat) = Table::of_words(alloc, words.as_slice(), &registers)?;
         Ok(PlainEdge {
             table,
             seat,

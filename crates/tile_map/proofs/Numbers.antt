@@ -25,10 +25,6 @@ use Rattle.tile_map.proofs.Registers.{bool_cases, number_at_place, number_none, 
 pub area_places : (a : Area) → length (sites_in a) ≡ (a.columns.end - a.columns.first) * (a.rows.end - a.rows.first)
 area_places a = block_length a.columns.first (a.columns.end - a.columns.first) a.rows.first (a.rows.end - a.rows.first) ∙ omega arith
 
--- an area with a place has a column
-pub some_columns : (w h k : ℕ) → k < w * h → 0 < w
-some_columns w h k lt = grind arith
-
 -- the site at a place
 pub area_site : (a : Area) (k : ℕ) (d : Site) → k < length (sites_in a) → get_or (sites_in a) k d ≡ site (a.columns.first + k % (a.columns.end - a.columns.first)) (a.rows.first + k / (a.columns.end - a.columns.first))
 area_site a k d lt =
@@ -73,9 +69,6 @@ counted_more m a k s b old new n n' lt at live c grows rises =
           let whole : length (filter (is_live m) (take (k + 1) ss)) ≡ length (filter (is_live m) (take k ss)) + length (filter (is_live m) (s ∷ [])) = ap (λ l. length (filter (is_live m) l)) more ∙ ap length (filter-append (is_live m) (take k ss) (s ∷ [])) ∙ length-append (filter (is_live m) (take k ss)) (filter (is_live m) (s ∷ [])) in
           rises ∙ (λ i. c.count i + sym (count_here m s b live) i) ∙ sym whole;
     }
-
-pub counted_none : (m : MapValue) (a : Area) → Counted m a [] 0 0
-counted_none m a = record { numbers = refl; count = refl }
 
 -- there are no more live sites than places
 pub counted_low : (m : MapValue) (a : Area) (numbers : List (Option ℕ)) (count k : ℕ) → Counted m a numbers count k → k ≤ length (sites_in a) → count ≤ k

@@ -8,6 +8,7 @@ use Rattle.std.proofs.lemmas.Nat.{rows}
 use Rattle.tile_map.specs.Plane.{Site, MapValue, IsMap, site, tiles_of, in_plane, is_live, sites_of, is_inside, is_around, is_owned, owner_of, site_in, is_reached, is_held, in_window, apart}
 use Rattle.tile_map.specs.Edges.{pairs_of, pair_at, low_end, high_end, shared_of, edges_at, needs_of, is_needed, reaches, has_end, other_end}
 use Rattle.tile_map.specs.Laws.{Joins, Shares, HasOwners, HasWindows, HasEdges, HasRegisters, HasNeeds, IsPlane}
+use Rattle.list_laws.proofs.Filters.{filter_twice, filter_short}
 use Rattle.list_laws.proofs.Tests.{both, together}
 use Rattle.tile_map.proofs.Spans.{le_test, lt_test, test_lt, times_more, held_span, held_parts, held_whole, live_plane, on_low}
 use Rattle.std.proofs.lemmas.List.Kept.{IsStrictlyIncreasing-filter}
@@ -200,18 +201,11 @@ edges m k = record {
   on = λ e lt. joined_on m (pair_at m e) (edge_joined m e lt);
 }
 
--- fewer pass two tests than one
-fewer : (p q : ℕ → Bool) (xs : List ℕ) → length (filter (λ x. p x && q x) xs) ≤ length (filter p xs)
-fewer p q [] = omega arith
-fewer p q (x ∷ xs) = go (p x) (q x) (fewer p q xs)
-  where
-    go : (a b : Bool) → length (filter (λ x. p x && q x) xs) ≤ length (filter p xs) → length (cond (a && b) (x ∷ filter (λ x. p x && q x) xs) (filter (λ x. p x && q x) xs)) ≤ length (cond a (x ∷ filter p xs) (filter p xs))
-    go true true h = omega (arith, h)
-    go true false h = omega (arith, h)
-    go false b h = h
-
 pub needs-few : (m : MapValue) → IsMap m → (t : ℕ) (c : Site) → t < tiles_of m → length (needs_of m t c) ≤ 8
-needs-few m k t c lt = omega (arith, fewer (has_end m t) (λ e. reaches m c (other_end m t e)) (range_with_len 0 (length (pairs_of m))), edges_at-few m k t lt)
+needs-few m k t c lt =
+    let all = range_with_len 0 (length (pairs_of m)) in
+    let reach : ℕ → Bool = λ e. reaches m c (other_end m t e) in
+    omega (arith, ap length (filter_twice (has_end m t) reach all), filter_short reach (filter (has_end m t) all), edges_at-few m k t lt)
 
 range-rising : (n : ℕ) → IsStrictlyIncreasing (range_with_len 0 n)
 range-rising n k lt =

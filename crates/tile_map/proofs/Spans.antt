@@ -41,10 +41,6 @@ false_right false b h = refl
 pub times_more : (a b w : ℕ) → a ≤ b → a * w ≤ b * w
 times_more a b w le = grind arith
 
--- what a part holds is not empty
-pub span_some : (n size a k : ℕ) → 1 ≤ size → a < k → n ≡ k * size → low size a < high n size a
-span_some n size a k some lt whole = omega (arith, some, whole, times_more (a + 1) k size (omega (arith, lt)))
-
 -- two parts that are one or stand side by side hold something together
 pub spans_meet : (n size a b k : ℕ) → 8 ≤ size → a < k → b < k → n ≡ k * size → a ≤ b + 1 → b ≤ a + 1 → max (low size a) (low size b) ≤ min (high n size a) (high n size b)
 spans_meet n size a b k big p q whole x y =

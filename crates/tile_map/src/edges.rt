@@ -31,10 +31,7 @@ fn push_pairs(pairs: &mut Vec<(u32, u32)>, plane: &Plane, lower: u32) -> Result<
     let tiles = plane.tiles();
     for higher in 0..tiles {
         if plane.are_neighbours(lower, higher) {
-            match pairs.push((lower, higher)) {
-                Ok(()) => {}
-                Err(_) => return Err(NoMemory),
-            }
+            pairs.push((lower, higher))?;
         }
     }
     Ok(())
@@ -53,10 +50,7 @@ pub(crate) fn by_tile(
 {
     let mut lists = Vec::new(alloc);
     for tile in 0..tiles {
-        match lists.push(edges_of(ends, tiles, tile)) {
-            Ok(()) => {}
-            Err(_) => return Err(NoMemory),
-        }
+        lists.push(edges_of(ends, tiles, tile))?;
     }
     Ok(lists)
 }

@@ -47,10 +47,8 @@ impl SharedSites {
             let y = area.rows.first + place / width;
             let live = plane.is_live(x, y);
             let number = if live { Some(count) } else { None };
-            match numbers.push(number) {
-                Ok(()) => count += u32::from(live),
-                Err(_) => return Err(NoMemory),
-            }
+            numbers.push(number)?;
+            count += u32::from(live);
         }
         Ok(SharedSites {
             area,
@@ -87,9 +85,7 @@ pub(crate) fn shared_sites(
     let mut shared = Vec::new(alloc);
     for pair in ends {
         let sites = SharedSites::new(alloc, plane, plane.common(pair.0, pair.1))?;
-        if shared.push(sites).is_err() {
-            return Err(NoMemory);
-        }
+        shared.push(sites)?;
     }
     Ok(shared)
 }

@@ -7,4 +7,4 @@ pub of_words-requires : goal.of_words-requires
 of_words-requires c = keeps.opens c.args.registers _ (search rules)
 
 pub invariant_of-result : goal.invariant_of-result
-invariant_of-result c = let me : c.in-Ok-of_words.seat.me ≡ (plain_view c.args.registers [] [] [], []) = search rules in (search rules, search rules, search rules, ap (λ m. m.1) me, subst (λ m. IsKept m.0) (sym me) (keeps.kept_none c.args.registers))
+invariant_of-result c = let me : c.in_ok-table.seat.me ≡ (plain_view c.args.registers [] [] [], []) = search rules in (search rules, search rules, search rules, ap (λ m. m.1) me, subst (λ m. IsKept m.0) (sym me) (keeps.kept_none c.args.registers))

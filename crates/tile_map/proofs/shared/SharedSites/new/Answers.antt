@@ -34,7 +34,7 @@ loop-place-preserved c =
     let at = area_site a k s lt ∙ (λ i. site (a.columns.first + k % (sym c.len-width.ensures i)) (a.rows.first + k / (sym c.len-width.ensures i))) in
     let number : c.if-live.number ≡ (if b then Some c.loop-place.count else None) = elim c.if-live.branch [ then-live w ↦ w.number-is ∙ (λ i. if sym w.if-live.true i then Some c.loop-place.count else None) | else-live w ↦ w.number-is ∙ (λ i. if sym w.if-live.false i then Some c.loop-place.count else None) ] in
     counted_more c.args.plane.now a k s b c.loop-place.numbers.items c.push.new.self.items c.loop-place.count (c.loop-place.count + c.from-count.result) lt at (sym c.is_live-live.ensures) c.loop-place.invariant
-    (c.in-Ok.ensures.items ∙ ap (λ o. c.loop-place.numbers.items ++ o ∷ []) number)
+    (c.in_ok-push.ensures.items ∙ ap (λ o. c.loop-place.numbers.items ++ o ∷ []) number)
     (ap (λ n. c.loop-place.count + n) (c.from-count.ensures ∙ byte_is b))
 
 pub invariant_of-result : goal.invariant_of-result
