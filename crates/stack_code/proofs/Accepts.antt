@@ -152,7 +152,7 @@ module _ (ex : ℕ → Kinds → Option Exits) (first end len : ℕ) (shape : �
       let r = after_exit k p lo lt here n n1 x.0 c g1 x.1 (λ h m d. accepts k (suc p) h m (omega arith) (omega arith) d) x.0.jumps refl in
       (r.0, ap (λ o. at_kinds ex p n o go) a ∙ ap (λ o. at_exit o n1 go) x.1 ∙ r.1, r.2)
 
--- the pass of "Validity" is this pass
+-- the pass of the rule on valid code is this pass
 abbrev pub ex_by : Around → ℕ → Kinds → Option Instr → Option Exits
 ex_by a p ks None = None
 ex_by a p ks (Some i) = exits_of a i p ks

@@ -114,19 +114,19 @@ module _ (c : CodeValue) where
       let f = pass_fine a is p (Some []) n m len y.1 in
       let st = f.1 [] refl in
       let fine : FunctionFine c shapes g =
-        record {
-          end = end;
-          some = omega (arith, first, z.1);
-          within = le;
-          params = z.2;
-          few = z.3;
-          starts = x.by g.first [] (subst (λ q. slice_get m q ≡ Some (Some [])) (sym first) st.0);
-          places = λ q i low high at.
-              let k : p + (q - p) ≡ q = omega (arith, first, low) in
-              let b : q - p < end - p = omega (arith, first, low, high) in
-              let e1 : slice_get is (q - p) ≡ Some i = get_take (end - p) (q - p) (drop p c.instrs) b ∙ get_drop p (q - p) c.instrs ∙ ap (slice_get c.instrs) k ∙ at in
-              subst (λ n. FinePlace a shapes n i) k (fine_more a m shapes (p + (q - p)) i x (fine_at a m is p (q - p) i f.2 e1));
-        } in
+      record {
+        end = end;
+        some = omega (arith, first, z.1);
+        within = le;
+        params = z.2;
+        few = z.3;
+        starts = x.by g.first [] (subst (λ q. slice_get m q ≡ Some (Some [])) (sym first) st.0);
+        places = λ q i low high at.
+            let k : p + (q - p) ≡ q = omega (arith, first, low) in
+            let b : q - p < end - p = omega (arith, first, low, high) in
+            let e1 : slice_get is (q - p) ≡ Some i = get_take (end - p) (q - p) (drop p c.instrs) b ∙ get_drop p (q - p) c.instrs ∙ ap (slice_get c.instrs) k ∙ at in
+            subst (λ n. FinePlace a shapes n i) k (fine_more a m shapes (p + (q - p)) i x (fine_at a m is p (q - p) i f.2 e1));
+      } in
       ((fine, refl), f.0, z.1)
 
   pub all_fine : (gs : List FunctionValue) (p : ℕ) (n shapes : Notes) → pass_all c gs p n ≡ Some shapes → Extends n shapes × (p ≤ length c.instrs) × (end_with (length c.instrs) gs ≤ length c.instrs) × ((k : ℕ) (g : FunctionValue) → slice_get gs k ≡ Some g → FineUpTo c shapes g (end_with (length c.instrs) (drop (suc k) gs)))
@@ -191,4 +191,5 @@ module _ (c : CodeValue) where
       let b = starts e w seed in
       record {
         over = is_over c b.shapes b.fine (1001 * length c.instrs) (start c w seed) b.typed b.bound;
-        few = omega (arith, b.bound, count_most c b.shapes b.fine (1001 * length c.instrs) (start c w seed) b.typed) }
+        few = omega (arith, b.bound, count_most c b.shapes b.fine (1001 * length c.instrs) (start c w seed) b.typed);
+      }

@@ -23,9 +23,9 @@ stays a p q ks x so e low high (inl g) =
     let m = jump_gives (jump_fits a p q) q ks x (subst (λ so. exits a p so ks ≡ Some x) g e) in
     inside (nat_lt p q) (jumps_by a p q (nat_lt p q) m.0)
   where
-  inside : (b : Bool) → Jumps a p q b → (a.function.first ≤ q) × (q < a.end)
-  inside true j = (omega (arith, low, j.0), j.1)
-  inside false j = (j.1, omega (arith, high, j.0))
+    inside : (b : Bool) → Jumps a p q b → (a.function.first ≤ q) × (q < a.end)
+    inside true j = (omega (arith, low, j.0), j.1)
+    inside false j = (j.1, omega (arith, high, j.0))
 stays a p q ks x so e low high (inr g) =
     let k = fork_gives (forward_fits a p q) q (pop Number ks) x (subst (λ so. exits a p so ks ≡ Some x) g e) in
     let j = forward_gives a p q k.2 in

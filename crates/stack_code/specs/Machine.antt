@@ -1,4 +1,4 @@
--- D18: the stack machine.
+-- The stack machine: what each instruction does, and a whole run.
 use Rattle.std.specs.Prelude.{ℕ, zero, suc, ◌+◌, ◌*◌, ◌%◌, nat_lt, nat_le, nat_eq, ℤ, pos, negsuc, Option, Some, None, List, [], ◌∷◌, ◌++◌, length, map, reverse, take, drop, slice_get, slice_set, if◌then◌else◌}
 use Rattle.bit_field.specs.Atom.{AtomValue, empty_atom, field}
 use Rattle.bit_field.specs.Words.{with_field}
@@ -44,6 +44,7 @@ pub data Led (S : Type 0) : Type 0 where
   Ends : (w : WindowValue) → Led S
   Lacks : Led S
 
+-- what a slot holds at first
 abbrev pub fill : Operand → Datum
 fill Number = ANumber (pos 0)
 fill Atom = AnAtom empty_atom
@@ -56,10 +57,12 @@ now h stack = Goes (record h { stack = stack })
 abbrev pub own_of : ℕ → WindowValue → Option AtomValue
 own_of kind w = if nat_eq (atom_at w 0).kind kind then Some (atom_at w 0) else None
 
+-- with such an atom
 abbrev pub on_own : {S : Type 0} → Option AtomValue → (AtomValue → Led S) → Led S
 on_own None go = Fails 6
 on_own (Some a) go = go a
 
+-- with the atom at the centre, where it has the acting type
 abbrev pub at_self : {S : Type 0} → ℕ → WindowValue → (AtomValue → Led S) → Led S
 at_self kind w go = on_own (own_of kind w) go
 
@@ -68,18 +71,22 @@ abbrev pub at_site : {S : Type 0} → ℤ → (ℕ → Led S) → Led S
 at_site (negsuc n) go = Fails 4
 at_site (pos n) go = if nat_le n 40 then go n else Fails 4
 
+-- with a bound above 0 of a random number
 abbrev pub at_bound : {S : Type 0} → ℤ → (ℕ → Led S) → Led S
 at_bound (negsuc n) go = Fails 5
 at_bound (pos zero) go = Fails 5
 at_bound (pos (suc n)) go = go (suc n)
 
+-- with what an operator gives
 abbrev pub result_of : Option ℤ → (ℤ → Led Held) → Led Held
 result_of None go = Fails 3
 result_of (Some v) go = go v
 
+-- the atom with a field of so many bits set, unless it has type 0
 abbrev pub with_part : AtomValue → ℕ → ℕ → ℕ → AtomValue
 with_part a f w b = if nat_eq a.kind 0 then a else with_field a f w b
 
+-- with what a slot holds
 abbrev pub on_slot : Option Datum → (Datum → Led Held) → Led Held
 on_slot None go = Lacks
 on_slot (Some x) go = go x
@@ -90,6 +97,7 @@ atom_in None = None
 atom_in (Some (ANumber v)) = None
 atom_in (Some (AnAtom a)) = Some a
 
+-- with the atom that a slot holds
 abbrev pub on_part : Option AtomValue → (AtomValue → Led Held) → Led Held
 on_part None go = Lacks
 on_part (Some a) go = go a
@@ -121,12 +129,15 @@ at_index (pos i) n go = if nat_lt i n then go i else Fails 7
 abbrev pub kept : NumType → ℤ → ℕ
 kept t v = bits t (cast t v)
 
+-- a field as a number of its type
 abbrev pub get_field : AtomValue → ℕ → NumType → ℤ
 get_field a f t = value t (field a f t.width)
 
+-- another atom at the centre
 abbrev pub put_own : Held → List Datum → AtomValue → Led Held
 put_own h s a = Goes (record h { stack = s; window = put_at h.window 0 a })
 
+-- another atom in a slot
 abbrev pub put_slot : Held → List Datum → ℕ → AtomValue → Led Held
 put_slot h s i a = Goes (record h { stack = s; slots = slice_set h.slots i (AnAtom a) })
 
@@ -174,6 +185,7 @@ pub record State : Type 0 where
   pub below : List Frame
   pub turns : ℕ
 
+-- with a turn taken
 abbrev pub on_turn : ℕ → (ℕ → Led State) → Led State
 on_turn zero go = Fails 1
 on_turn (suc t) go = go t
@@ -185,6 +197,7 @@ onward s (Fails n) = Fails n
 onward s (Ends w) = Ends w
 onward s Lacks = Lacks
 
+-- with the number on top, for a jump
 abbrev pub on_test : List Datum → (ℤ → List Datum → Led State) → Led State
 on_test [] go = Lacks
 on_test (ANumber v ∷ s) go = go v s
@@ -205,9 +218,11 @@ into s g t = record {
   turns = t;
 }
 
+-- a call takes a turn, then one of 16 levels
 abbrev pub enter_with : State → FunctionValue → Led State
 enter_with s g = on_turn s.turns (λ t. if nat_lt (length s.below) 16 then Goes (into s g t) else Fails 2)
 
+-- a call of a function, if there is one and its arguments are there
 abbrev pub enter : State → Option FunctionValue → Led State
 enter s None = Lacks
 enter s (Some g) = if nat_le g.params (length s.held.stack) then enter_with s g else Lacks
@@ -221,11 +236,12 @@ back s given (fr ∷ below) = Goes (record s {
   below = below;
 })
 
+-- the end of a function with the operand on top
 abbrev pub back_one : State → List Datum → Led State
 back_one s [] = Lacks
 back_one s (x ∷ stack) = back s (x ∷ []) s.below
 
--- one instruction
+-- an instruction of this sort
 abbrev pub go_by : CodeValue → Sort → State → Led State
 go_by c (Goto p) s = Goes (record s { place = p })
 go_by c (GotoFalse p) s = on_test s.held.stack (λ v st. Goes (record s { held = record s.held { stack = st }; place = if is_zero v then p else s.place + 1 }))
@@ -235,13 +251,16 @@ go_by c GiveBack s = back_one s s.held.stack
 go_by c Leave s = back s [] s.below
 go_by c so s = onward s (work c.kind so s.held)
 
+-- one instruction, if there is one
 abbrev pub step_on : CodeValue → State → Option Instr → Led State
 step_on c s None = Lacks
 step_on c s (Some i) = go_by c (sort i) s
 
+-- the instruction at the place of the machine
 abbrev pub step : CodeValue → State → Led State
 step c s = step_on c s (slice_get c.instrs s.place)
 
+-- what comes next, where it goes on
 abbrev pub and_then : Led State → (State → Led State) → Led State
 and_then (Goes s) go = go s
 and_then (Fails n) go = Fails n
@@ -283,10 +302,12 @@ ending w (Fails n) = Some (emptied w, Some n)
 ending w (Goes s) = None
 ending w Lacks = None
 
+-- an event: its window and ending, and how many instructions were run, a failing one included
 pub record Run : Type 0 where
   pub over : Option (WindowValue × Option ℕ)
   pub count : ℕ
 
+-- the run of an event's code on a window, with the random words of a seed
 unfoldable pub runs : CodeValue → WindowValue → ℕ → Run
 runs c w seed = record {
   over = ending w (iter c (1001 * length c.instrs) (start c w seed));

@@ -1,4 +1,4 @@
--- The instructions as data: what each is, in 28 sorts.
+-- What each instruction is: its sort, with the arguments. The machine and the rule on valid code go by sorts.
 use Rattle.std.specs.Prelude.{ℕ, zero, suc, ◌/◌, ◌^◌, Bool, true, false, nat_eq, ℤ, pos, negsuc, ◌+ℤ◌, ◌-ℤ◌, ◌*ℤ◌, neg_ℤ, int_div, int_rem, bit_and, bit_or, bit_xor, Option, Some, None, if◌then◌else◌}
 use Rattle.bit_field.specs.Atom.{AtomValue}
 use Rattle.window_sites.specs.Window.{WindowValue, atom_at, live_at}
@@ -21,10 +21,12 @@ use Rattle.stack_code.specs.declared.instr.Instr.TheVariants.{PushNum, PushAtom,
 abbrev pub atom_of : ℕ → AtomValue
 atom_of k = record { kind = k; state = 0 }
 
+-- what a datum is
 abbrev pub kind_of : Datum → Operand
 kind_of (ANumber v) = Number
 kind_of (AnAtom a) = Atom
 
+-- a type of numbers
 abbrev pub num_type : Kind → ℕ → NumType
 num_type k w = record { kind = k; width = w }
 
@@ -37,37 +39,50 @@ abbrev pub of_bool : Bool → ℤ
 of_bool true = pos 1
 of_bool false = pos 0
 
--- what an instruction is
+-- the sorts of instructions
 pub data Sort : Type 0 where
+  -- gives a datum
   Give : (x : Datum) → Sort
+  -- an operator on one number, and on two, which may fail
   One : (f : ℤ → ℤ) → Sort
   Two : (f : ℤ → ℤ → Option ℤ) → Sort
+  -- a slot read and written
   Load : (s : ℕ) → Sort
   Store : (s : ℕ) → Sort
   Drop : Sort
+  -- a field of the atom at the centre read and written, from a first bit on
   Field : (f : ℕ) → (t : NumType) → Sort
   SetField : (f : ℕ) → (t : NumType) → Sort
+  -- the same of the atom in a slot
   Part : (s f : ℕ) → (t : NumType) → Sort
   SetPart : (s f : ℕ) → (t : NumType) → Sort
+  -- the atom at the centre
   Own : Sort
+  -- a site's atom read, written, and exchanged with another's
   Site : Sort
   SetSite : Sort
   Exchange : Sort
+  -- a test of a site, and of the type of an atom
   Ask : (f : WindowValue → ℕ → Bool) → Sort
-  Draw : (f : ℕ → ℤ) → Sort
   Same : (k : ℕ) → Sort
+  -- a number made of the next random word modulo a bound
+  Draw : (f : ℕ → ℤ) → Sort
   Double : Sort
+  -- an element of an array of n fields read and written
   FieldAt : (f : ℕ) → (t : NumType) → (n : ℕ) → Sort
   SetFieldAt : (f : ℕ) → (t : NumType) → (n : ℕ) → Sort
   PartAt : (s f : ℕ) → (t : NumType) → (n : ℕ) → Sort
   SetPartAt : (s f : ℕ) → (t : NumType) → (n : ℕ) → Sort
+  -- jumps, and a turn taken
   Goto : (p : ℕ) → Sort
   GotoFalse : (p : ℕ) → Sort
   Take : Sort
+  -- a call, a return with an operand, and one without
   Enter : (f : ℕ) → Sort
   GiveBack : Sort
   Leave : Sort
 
+-- an operator that is exact, and then clamped
 abbrev pub exact : Arith → (ℤ → ℤ → ℤ) → ℤ → ℤ → Option ℤ
 exact how f a b = Some (saturated how (f a b))
 
@@ -87,6 +102,7 @@ product a b = a *ℤ b
 abbrev pub negated : Arith → ℤ → ℤ
 negated how a = saturated how (neg_ℤ a)
 
+-- the number modulo 2^64
 abbrev pub low64 : ℤ → ℕ
 low64 a = modulo a (2 ^ 64)
 
@@ -120,6 +136,7 @@ as_drawn r = pos r
 abbrev pub one_in : ℕ → ℤ
 one_in r = of_bool (nat_eq r 0)
 
+-- the sort of each instruction
 abbrev pub sort : Instr → Sort
 sort (PushNum v) = Give (ANumber v)
 sort (PushAtom k) = Give (AnAtom (atom_of k))

@@ -1,4 +1,4 @@
--- The rule "Validity": one pass over the places of each function.
+-- Which code is valid: one pass over the places of each function, with the kinds of operands at each.
 use Rattle.std.specs.Prelude.{ℕ, zero, suc, ◌+◌, ◌-◌, ◌*◌, ◌^◌, nat_lt, nat_le, nat_eq, Bool, true, false, ℤ, pos, negsuc, Option, Some, None, is_some, is_none, List, [], ◌∷◌, length, reverse, take, drop, replicate, slice_get, slice_set, if◌then◌else◌}
 use Rattle.sat_math.specs.declared.Kind.TheVariants.{Bits}
 use Rattle.sat_math.specs.declared.NumType.{NumType}
@@ -17,6 +17,7 @@ use Rattle.stack_code.specs.declared.instr.Instr.TheVariants.{NotW, Shl, Fit, Tu
 abbrev pub type_fits : NumType → Bool
 type_fits t = if nat_le (least_width t.kind) t.width then nat_le t.width (greatest_width t.kind) else false
 
+-- the kinds of a list of operands, the topmost first
 abbrev pub Kinds : Type 0
 Kinds = List Operand
 
@@ -55,6 +56,7 @@ abbrev pub push : Operand → Option Kinds → Option Kinds
 push k None = None
 push k (Some ks) = Some (k ∷ ks)
 
+-- a slot's kind pushed, and popped
 abbrev pub push_slot : Option Operand → Kinds → Option Kinds
 push_slot None ks = None
 push_slot (Some k) ks = Some (k ∷ ks)
@@ -100,10 +102,11 @@ after slots (Enter f) ks = None
 after slots GiveBack ks = None
 after slots Leave ks = None
 
--- the arguments of an instruction
+-- n fields from a first bit on lie in an atom's state, and there is one at least
 abbrev pub field_fits : ℕ → NumType → ℕ → Bool
 field_fits f t n = if type_fits t then (if nat_le 1 n then nat_le (f + n * t.width) 71 else false) else false
 
+-- a number that an operand can be
 abbrev pub number_fits : ℤ → Bool
 number_fits (pos n) = nat_lt n (2 ^ 64)
 number_fits (negsuc n) = nat_lt n (2 ^ 63)
@@ -120,6 +123,7 @@ sort_fits (PartAt l f t n) = field_fits f t n
 sort_fits (SetPartAt l f t n) = field_fits f t n
 sort_fits so = true
 
+-- the arguments of an instruction are allowed, but for slots, places and functions
 abbrev pub args_fit : Instr → Bool
 args_fit (NotW w) = type_fits (num_type Bits w)
 args_fit (Shl w) = type_fits (num_type Bits w)
@@ -142,6 +146,7 @@ note_over notes p ks (Some (Some old)) = if_same old ks notes
 abbrev pub note : Notes → ℕ → Kinds → Option Notes
 note notes p ks = note_over notes p ks (slice_get notes p)
 
+-- what falls through and what was noted, where they agree; no operands, where there is neither
 abbrev pub arrive_with : Option Kinds → Option (Option Kinds) → Option Kinds
 arrive_with here None = None
 arrive_with None (Some None) = Some []
@@ -210,6 +215,7 @@ back_fits a p q = if nat_lt q p then (if nat_le a.function.first q then (if is_t
 abbrev pub jump_fits : Around → ℕ → ℕ → Bool
 jump_fits a p q = if nat_lt p q then forward_fits a p q else back_fits a p q
 
+-- what a function gives, on top of a list
 abbrev pub answer_on : Answer → Kinds → Kinds
 answer_on Nothing ks = ks
 answer_on NumberBack ks = Number ∷ ks
@@ -224,6 +230,7 @@ abbrev pub after_call : Option FunctionValue → Kinds → Option Kinds
 after_call None ks = None
 after_call (Some g) ks = if nat_le g.params (length g.slots) then (if same_kinds (reverse (take g.params ks)) (take g.params g.slots) then Some (answer_on g.answer (drop g.params ks)) else None) else None
 
+-- what a function gives is on top
 abbrev pub answer_found : Answer → Kinds → Bool
 answer_found r [] = false
 answer_found Nothing (k ∷ ks) = false
@@ -257,10 +264,12 @@ abbrev pub go_exit : Exits → Option Notes → (Option Kinds → Notes → Opti
 go_exit x None go = None
 go_exit x (Some n) go = go x.falls n
 
+-- the jump of a place is noted, and what falls through goes on
 abbrev pub at_exit : Option Exits → Notes → (Option Kinds → Notes → Option Notes) → Option Notes
 at_exit None n go = None
 at_exit (Some x) n go = go_exit x (note_exit n x.jumps) go
 
+-- the list of a place is noted, and its exit taken
 abbrev pub at_kinds : (ℕ → Kinds → Option Exits) → ℕ → Notes → Option Kinds → (Option Kinds → Notes → Option Notes) → Option Notes
 at_kinds ex p n None go = None
 at_kinds ex p n (Some ks) go = at_exit (ex p ks) (slice_set n p (Some ks)) go
@@ -276,6 +285,7 @@ abbrev pub end_with : ℕ → List FunctionValue → ℕ
 end_with len [] = len
 end_with len (g ∷ gs) = g.first
 
+-- a function begins here, is not empty, and its slots are allowed
 abbrev pub function_fits : FunctionValue → ℕ → ℕ → Bool
 function_fits g p end = if nat_eq g.first p then (if nat_lt p end then (if nat_le g.params (length g.slots) then nat_le (length g.slots) 72 else false) else false) else false
 
@@ -283,13 +293,16 @@ abbrev pub then_pass : Option Notes → (Notes → Option Notes) → Option Note
 then_pass None go = None
 then_pass (Some notes) go = go notes
 
+-- the pass over a function that stands from p to the end
 abbrev pub pass_function : CodeValue → FunctionValue → ℕ → ℕ → Notes → Option Notes
 pass_function c g p end notes = if function_fits g p end then pass (around c g end) (take (end - p) (drop p c.instrs)) p (Some []) notes else None
 
+-- the pass over all functions, one after another
 unfoldable pub pass_all : CodeValue → List FunctionValue → ℕ → Notes → Option Notes
 pass_all c [] p notes = if nat_eq p (length c.instrs) then Some notes else None
 pass_all c (g ∷ gs) p notes = then_pass (pass_function c g p (end_with (length c.instrs) gs) notes) (pass_all c gs (end_with (length c.instrs) gs))
 
+-- there is a first function, without parameters, that gives nothing
 abbrev pub first_fits : List FunctionValue → Bool
 first_fits [] = false
 first_fits (g ∷ gs) = if nat_eq g.params 0 then is_nothing g.answer else false
@@ -297,5 +310,6 @@ first_fits (g ∷ gs) = if nat_eq g.params 0 then is_nothing g.answer else false
 abbrev pub length_fits : ℕ → Bool
 length_fits n = if nat_le 1 n then nat_le n 65536 else false
 
+-- code is valid where the pass comes to its end
 unfoldable pub valid : CodeValue → Bool
 valid c = if length_fits (length c.instrs) then (if first_fits c.functions then is_some (pass_all c c.functions 0 (replicate (length c.instrs) None)) else false) else false
