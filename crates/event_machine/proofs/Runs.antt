@@ -10,7 +10,8 @@ use Rattle.stack_code.proofs.Bound.{starts, runs_well}
 use Rattle.stack_code.proofs.Kept.{Kept, KeptState, IsFailure, iter_kept, emptied_kept}
 use Rattle.feast_base.specs.Counting.{Counted}
 use Rattle.event_machine.specs.Ticks.{Ticks}
-use Rattle.event_machine.specs.Works.{Ran, FunctionsFit, number_of, window_after, IsEnding}
+use Rattle.event_machine.specs.Works.{Ran, FunctionsFit, window_after}
+use Rattle.event_machine.specs.Endings.{number_of, IsEnding}
 use Rattle.event_machine.specs.declared.ending.Ended.{Ended}
 use Rattle.event_machine.specs.declared.ending.Ended.TheVariants.{Done as DoneEnd, Failed}
 

@@ -147,17 +147,7 @@ pub record Started (c : CodeValue) (s : State) : Type 0 where
   pub seed : ℕ
   pub start : s ≡ start c window seed
 
--- the number of an ending: None, or a failure's number
-abbrev pub number_of : Ended → Option ℕ
-number_of DoneEnd = None
-number_of (Failed n) = Some n
-
 -- the window after an event that began with this one
 abbrev pub window_after : WindowValue → State → Ended → WindowValue
 window_after w s DoneEnd = s.held.window
 window_after w s (Failed k) = emptied w
-
--- the end, or a failure's number
-abbrev pub IsEnding : Ended → Type 0
-IsEnding DoneEnd = Unit {0}
-IsEnding (Failed n) = (1 ≤ n) × (n ≤ 7)

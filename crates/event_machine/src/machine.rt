@@ -5,7 +5,8 @@ ghost use Rattle.window_sites.specs.Window.{live_at, atom_at};
 ghost use Rattle.stack_code.specs.Machine.{CodeValue, step, go_by, back, enter, onward, work, start, runs};
 ghost use Rattle.stack_code.specs.Sorts.{sort, GotoFalse, Take};
 ghost use Rattle.stack_code.specs.Valid.{args_fit};
-ghost use Rattle.event_machine.specs.Works.{StepsTo, Ready, FunctionsFit, as_list, Started, Ran, number_of, window_after, IsEnding};
+ghost use Rattle.event_machine.specs.Works.{StepsTo, Ready, FunctionsFit, as_list, Started, Ran, window_after};
+ghost use Rattle.event_machine.specs.Endings.{number_of, IsEnding};
 ghost use Rattle.event_machine.specs.Ticks.{Ticks};
 
 use crate::dispatch::plain;

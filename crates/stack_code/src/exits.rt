@@ -1,8 +1,8 @@
 //! Where the instructions of a function lead.
 
-ghost use Rattle.std.specs.Prelude.{◌≡◌, ◌≤◌, List, length, Option, Some};
+ghost use Rattle.std.specs.Prelude.{◌≡◌, ◌≤◌, List, length, Option, Some, Ok};
 ghost use Rattle.stack_code.specs.Sorts.{sort};
-ghost use Rattle.stack_code.specs.Valid.{around, exits, exits_of, back_of, forward_fits, back_fits, jump_fits, is_turn, instr_before, answer_found, after_call, map_answer, falls_exit, Kinds};
+ghost use Rattle.stack_code.specs.Valid.{around, exits, exits_of, back_of, forward_fits, back_fits, jump_fits, is_turn, instr_before, answer_found, is_nothing, pop, jump_exit, fork_exit, end_exit, after_call, map_answer, falls_exit, Kinds};
 ghost use Rattle.stack_code.specs.KindLists.{list_at, Leaves, maybe, MaybeFits, ExitLeaves, takes};
 ghost use Rattle.stack_code.specs.declared.kind_lists.Node.{Node};
 
@@ -102,6 +102,43 @@ impl Around<'_> {
         }
     }
 
+    /// Where a jump leads, if it is allowed.
+    #[tactic(auto, using(crate::proofs::KindNotes::grows_same))]
+    fn jump(&self, lists: &KindLists, p: usize, q: u32, id: u32) -> Option<Exit>
+        requires { id ≤ length lists.now }
+        ensures { ExitLeaves lists.now lists.now (jump_exit (jump_fits (around self.now.code.now self.now.function.now self.now.end) p q) q (list_at lists.now id)) (Ok result) }
+    {
+        if self.jump_fits(p, q) {
+            Some(Exit {
+                falls: None,
+                jumps: Some((q, id)),
+            })
+        } else {
+            None
+        }
+    }
+
+    /// Where a jump on 0 leads, if it is allowed and a number is on top.
+    #[tactic(auto, using(crate::proofs::KindNotes::grows_same))]
+    fn fork(&self, lists: &KindLists, p: usize, q: u32, id: u32) -> Option<Exit>
+        requires { id ≤ length lists.now }
+        ensures { ExitLeaves lists.now lists.now (fork_exit (forward_fits (around self.now.code.now self.now.function.now self.now.end) p q) q (pop Operand.Number (list_at lists.now id))) (Ok result) }
+    {
+        match lists.pop(Operand::Number, id) {
+            None => None,
+            Some(below) => {
+                if self.forward_fits(p, q) {
+                    Some(Exit {
+                        falls: Some(below),
+                        jumps: Some((q, below)),
+                    })
+                } else {
+                    None
+                }
+            }
+        }
+    }
+
     /// Where an instruction leads from a list, where its arguments and the list's depth are
     /// allowed.
     #[tactic(auto, using(crate::proofs::KindNotes::grows_same))]
@@ -116,50 +153,20 @@ impl Around<'_> {
         ensures { ExitLeaves lists.old lists.new (exits (around self.now.code.now self.now.function.now self.now.end) p (sort i) (list_at lists.old id)) result }
     {
         match i {
-            Instr::Jump(q) => {
-                if self.jump_fits(p, q) {
-                    Ok(Some(Exit {
-                        falls: None,
-                        jumps: Some((q, id)),
-                    }))
-                } else {
-                    Ok(None)
-                }
-            }
-            Instr::JumpFalse(q) => match lists.pop(Operand::Number, id) {
-                None => Ok(None),
-                Some(below) => {
-                    if self.forward_fits(p, q) {
-                        Ok(Some(Exit {
-                            falls: Some(below),
-                            jumps: Some((q, below)),
-                        }))
-                    } else {
-                        Ok(None)
-                    }
-                }
-            },
+            Instr::Jump(q) => Ok(self.jump(lists, p, q, id)),
+            Instr::JumpFalse(q) => Ok(self.fork(lists, p, q, id)),
             Instr::Turn => Ok(Some(Exit {
                 falls: Some(id),
                 jumps: None,
             })),
             Instr::Return => {
-                if answers(lists, self.function.answer(), id) {
-                    Ok(Some(Exit {
-                        falls: None,
-                        jumps: None,
-                    }))
-                } else {
-                    Ok(None)
-                }
+                let allowed = answers(lists, self.function.answer(), id);
+                Ok(end_if(lists, allowed))
             }
-            Instr::ReturnVoid => match self.function.answer() {
-                Answer::Nothing => Ok(Some(Exit {
-                    falls: None,
-                    jumps: None,
-                })),
-                Answer::Number | Answer::Atom => Ok(None),
-            },
+            Instr::ReturnVoid => {
+                let allowed = gives_nothing(self.function.answer());
+                Ok(end_if(lists, allowed))
+            }
             Instr::Call(f) => match self.code.functions().get(f as usize) {
                 None => Ok(None),
                 Some(callee) => falls(call(lists, callee, id)),
@@ -193,6 +200,31 @@ impl Around<'_> {
             return Ok(None);
         }
         self.lead(lists, i, p, id)
+    }
+}
+
+/// The end of a function, if it is allowed.
+#[tactic(auto, using(crate::proofs::KindNotes::grows_same))]
+fn end_if(lists: &KindLists, allowed: bool) -> Option<Exit>
+    ensures { ExitLeaves lists.now lists.now (end_exit allowed) (Ok result) }
+{
+    if allowed {
+        Some(Exit {
+            falls: None,
+            jumps: None,
+        })
+    } else {
+        None
+    }
+}
+
+/// Whether a function gives nothing back.
+pub fn gives_nothing(answer: Answer) -> bool
+    ensures { result ≡ is_nothing answer }
+{
+    match answer {
+        Answer::Nothing => true,
+        Answer::Number | Answer::Atom => false,
     }
 }
 

@@ -4,7 +4,7 @@ ghost use Rattle.std.specs.Prelude.{◌≡◌, length, replicate, IfOk, Some, No
 ghost use Rattle.stack_code.specs.Valid.{valid, first_fits, length_fits};
 
 use crate::code::{Code, RawCode};
-use crate::instr::Answer;
+use crate::exits::gives_nothing;
 use crate::kind_lists::KindLists;
 use crate::pass::pass_all;
 use feast_base::NoMemory;
@@ -28,10 +28,7 @@ fn first_fits(raw: &RawCode) -> bool
         [] => false,
         [first, ..] => {
             if first.params() == 0 {
-                match first.answer() {
-                    Answer::Nothing => true,
-                    Answer::Number | Answer::Atom => false,
-                }
+                gives_nothing(first.answer())
             } else {
                 false
             }

@@ -1,7 +1,7 @@
 use Rattle.std.proofs.Common.{sym, ap, ◌∙◌, subst, Some}
 use Rattle.window_sites.specs.Window.{WindowValue}
 use Rattle.stack_code.proofs.Kept.{Kept}
-use Rattle.event_machine.specs.Works.{number_of}
+use Rattle.event_machine.specs.Endings.{number_of}
 use Rattle.event_machine.proofs.Runs.{over_is, ticks_are, count_is, most_is, functions_fit, kept_is, ending_is}
 use Rattle.event_machine.proofs.machine.Machine.act.Goals as goal
 
