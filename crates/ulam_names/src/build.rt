@@ -5,8 +5,8 @@ ghost use Rattle.ulam_tree.specs.ResolvedViews.{resolved_expr, resolved_path, re
 
 use feast_base::Place;
 use std::alloc::{AllocError, Global};
-use ulam_tree::{PairOp, PrefixOp};
 use ulam_tree::resolved::{Call, Cond, Expr, Named, Path, Statement};
+use ulam_tree::{PairOp, PrefixOp};
 
 pub fn index(alloc: Global, path: Path, at: Expr) -> Result<Expr, AllocError>
     ensures { IfOk result (λ e. resolved_expr e ≡ tree.index (resolved_path path) (resolved_expr at)) }

@@ -6,13 +6,12 @@ ghost use Rattle.ulam_names.specs.Shown.{Gives};
 ghost use Rattle.ulam_names.specs.NamesView.{names_view};
 ghost use Rattle.ulam_tree.specs.RawViews as raw_view;
 
-use sat_math::{Kind, NumType};
-use ulam_tree::{Const, Word};
-use ulam_tree::resolved::Ty;
-
 use crate::basic::Value;
 use crate::fault::NameFault;
 use crate::table::Table;
+use sat_math::{Kind, NumType};
+use ulam_tree::resolved::Ty;
+use ulam_tree::{Const, Word};
 
 #[derive(Drop)]
 pub struct Names<'a> {
@@ -26,7 +25,10 @@ pub struct Names<'a> {
 pub fn declares(names: &Names, name: &[u8]) -> bool
     ensures { result ≡ declares_name (names_view names.now) name.now }
 {
-    names.typedefs.has(name) || names.constants.has(name) || names.fields.has(name) || names.functions.has(name)
+    names.typedefs.has(name)
+        || names.constants.has(name)
+        || names.fields.has(name)
+        || names.functions.has(name)
 }
 
 /// Refuses a name that may not be declared.
@@ -66,13 +68,7 @@ pub fn const_value(names: &Names, value: &Const) -> Result<(bool, i128), NameFau
                 Ok((false, i128::from(*value)))
             }
         }
-        Const::Truth { value } => {
-            if *value {
-                Ok((true, 1))
-            } else {
-                Ok((true, 0))
-            }
-        }
+        Const::Truth { value } => { if *value { Ok((true, 1)) } else { Ok((true, 0)) } }
         Const::Named { word } => match names.constants.get(word.name.bytes()) {
             Some(value) => Ok((is_truth(value.num.kind), value.value)),
             None => Err(NameFault::UnknownName(word.place)),

@@ -10,8 +10,8 @@ use crate::fault::NameFault;
 use crate::scope::{Context, Entry, slot_named};
 use feast_base::Place;
 use sat_math::{Kind, NumType};
-use ulam_tree::{TypeRef, Width, Word};
 use ulam_tree::resolved::{Named, Ty};
+use ulam_tree::{TypeRef, Width, Word};
 
 /// A built-in type.
 #[tactic(auto, unfolding(crate::specs::Scopes::built_in))]
