@@ -1,10 +1,12 @@
 pub mod Apart
+pub mod Bodies
 pub mod BodyFits
 pub mod BodyMeans
 pub mod ClassFits
 pub mod ClassMeans
 pub mod Examples
 pub mod Lasts
+pub mod Loops
 pub mod Opened
 pub mod Rows
 pub mod Tables

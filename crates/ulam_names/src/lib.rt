@@ -11,6 +11,7 @@ mod names;
 mod parts;
 mod path;
 mod scope;
+mod statement;
 mod table;
 mod types;
 

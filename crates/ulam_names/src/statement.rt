@@ -1,0 +1,247 @@
+//! Statements.
+//!
+//! The entries are cut back where a scope ends. `from` is where the innermost scope begins among
+//! them, and `slot` the next free slot.
+ghost use Rattle.std.specs.Prelude.{◌≡◌, ◌≤◌, ◌+◌, ℕ, map, length, take, IfOk, OnOk};
+ghost use Rattle.ulam_names.specs.Scopes.{opened};
+ghost use Rattle.ulam_names.specs.Walk as walk;
+ghost use Rattle.ulam_names.specs.Shown.{head_of, context_of, scope_of, entries_of, Gives};
+ghost use Rattle.ulam_tree.specs.RawViews as raw_view;
+ghost use Rattle.ulam_tree.specs.ResolvedViews.{resolved_cond, resolved_statement, resolved_body, resolved_part};
+
+use crate::build;
+use crate::expr::expr;
+use crate::fault::NameFault;
+use crate::parts::{cond, declare, maybe_expr, show, simple};
+use crate::scope::{Context, Entry};
+use std::alloc::Global;
+use ulam_tree as raw;
+use ulam_tree::resolved::{Cond, Statement};
+
+/// A statement, and the next slot.
+#[cycle(statement)]
+#[tactic(auto, using(crate::proofs::Bodies::walk_block, crate::proofs::Opened::opened_is))]
+pub fn statement<'a>(
+    alloc: Global,
+    context: &Context<'_, 'a>,
+    entries: &mut Vec<Entry<'a>>,
+    from: usize,
+    slot: u32,
+    raw: &'a raw::Statement,
+) -> Result<(Statement, u32), NameFault>
+    requires params { context.now.params ≤ 8 }
+    requires slot { slot ≤ context.now.params + 64 }
+    requires from { from ≤ length entries.old.items }
+    ensures gives { Gives (λ x. resolved_statement x.0) result (walk.statement (context_of context.now) (scope_of entries.old.items from) slot (raw_view.statement_of raw.now)) }
+    ensures next { IfOk result (λ x. x.1 ≡ slot + walk.locals_of (raw_view.statement_of raw.now)) }
+    ensures few { IfOk result (λ x. x.1 ≤ context.now.params + 64) }
+    ensures scope { IfOk result (λ x. entries_of entries.new.items ≡ (walk.after (map head_of context.now.heads.now) (scope_of entries.old.items from) slot (raw_view.statement_of raw.now) (resolved_statement x.0)).entries) }
+    ensures kept { OnOk result (take (length entries.old.items) entries.new.items ≡ entries.old.items) }
+{
+    match raw {
+        raw::Statement::Block { body: list } => {
+            let (list, next) = inner_body(alloc, context, entries, slot, list.as_slice())?;
+            Ok((build::block(list), next))
+        }
+        raw::Statement::If {
+            cond: test,
+            yes,
+            no,
+        } => {
+            let found = cond(alloc, context, entries.as_slice(), test)?;
+            let (yes, next) = branch(alloc, context, entries, from, slot, yes, test, &found)?;
+            let len = entries.len();
+            let (no, next) = part(alloc, context, entries, len, next, no)?;
+            Ok((build::if_so(alloc, found, yes, no)?, next))
+        }
+        raw::Statement::While { cond: test, body } => {
+            let test = expr(alloc, context, entries.as_slice(), test)?;
+            let (body, next) = inner(alloc, context, entries, slot, body)?;
+            Ok((build::while_so(alloc, test, body)?, next))
+        }
+        raw::Statement::For {
+            first,
+            cond: test,
+            step,
+            body,
+        } => {
+            let len = entries.len();
+            let (first, next) = first_part(alloc, context, entries, len, slot, first)?;
+            let test = maybe_expr(alloc, context, entries.as_slice(), test)?;
+            let (step, next) = part(alloc, context, entries, len, next, step)?;
+            let (body, next) = inner(alloc, context, entries, next, body)?;
+            entries.truncate(len);
+            Ok((build::for_all(alloc, first, test, step, body)?, next))
+        }
+        raw::Statement::Declare { of, word, value } => {
+            let found = declare(alloc, context, entries, from, slot, of, word, value)?;
+            Ok((found, slot + 1))
+        }
+        raw::Statement::Nothing
+        | raw::Statement::Return { .. }
+        | raw::Statement::Break { .. }
+        | raw::Statement::Continue { .. }
+        | raw::Statement::Assign { .. }
+        | raw::Statement::Count { .. }
+        | raw::Statement::Call { .. } => {
+            let found = simple(alloc, context, entries.as_slice(), raw)?;
+            Ok((found, slot))
+        }
+    }
+}
+
+/// A statement in a scope of its own.
+#[cycle(statement)]
+fn inner<'a>(
+    alloc: Global,
+    context: &Context<'_, 'a>,
+    entries: &mut Vec<Entry<'a>>,
+    slot: u32,
+    raw: &'a raw::Statement,
+) -> Result<(Statement, u32), NameFault>
+    requires params { context.now.params ≤ 8 }
+    requires slot { slot ≤ context.now.params + 64 }
+    ensures gives { Gives (λ x. resolved_statement x.0) result (walk.statement (context_of context.now) (scope_of entries.old.items (length entries.old.items)) slot (raw_view.statement_of raw.now)) }
+    ensures next { IfOk result (λ x. x.1 ≡ slot + walk.locals_of (raw_view.statement_of raw.now)) }
+    ensures few { IfOk result (λ x. x.1 ≤ context.now.params + 64) }
+    ensures same { OnOk result (entries.new.items ≡ entries.old.items) }
+{
+    let len = entries.len();
+    let found = statement(alloc, context, entries, len, slot, raw)?;
+    entries.truncate(len);
+    Ok(found)
+}
+
+/// An optional statement. What it declares is out of scope behind it.
+#[cycle(statement)]
+fn part<'a>(
+    alloc: Global,
+    context: &Context<'_, 'a>,
+    entries: &mut Vec<Entry<'a>>,
+    from: usize,
+    slot: u32,
+    raw: &'a Option<Box<raw::Statement>>,
+) -> Result<(Option<Box<Statement>>, u32), NameFault>
+    requires params { context.now.params ≤ 8 }
+    requires slot { slot ≤ context.now.params + 64 }
+    requires from { from ≤ length entries.old.items }
+    ensures gives { Gives (λ x. resolved_part x.0) result (walk.part (context_of context.now) (scope_of entries.old.items from) slot (raw_view.part_alone raw.now)) }
+    ensures next { IfOk result (λ x. x.1 ≡ slot + walk.locals_part (raw_view.part_alone raw.now)) }
+    ensures few { IfOk result (λ x. x.1 ≤ context.now.params + 64) }
+    ensures same { OnOk result (entries.new.items ≡ entries.old.items) }
+{
+    match raw {
+        None => Ok((None, slot)),
+        Some(one) => {
+            let len = entries.len();
+            let (one, next) = statement(alloc, context, entries, from, slot, one)?;
+            entries.truncate(len);
+            Ok((Some(Box::new(alloc, one)?), next))
+        }
+    }
+}
+
+/// The first statement of a `for`, which stands in scope behind it.
+#[cycle(statement)]
+fn first_part<'a>(
+    alloc: Global,
+    context: &Context<'_, 'a>,
+    entries: &mut Vec<Entry<'a>>,
+    from: usize,
+    slot: u32,
+    raw: &'a Option<Box<raw::Statement>>,
+) -> Result<(Option<Box<Statement>>, u32), NameFault>
+    requires params { context.now.params ≤ 8 }
+    requires slot { slot ≤ context.now.params + 64 }
+    requires from { from ≤ length entries.old.items }
+    ensures gives { Gives (λ x. resolved_part x.0) result (walk.part (context_of context.now) (scope_of entries.old.items from) slot (raw_view.part_alone raw.now)) }
+    ensures next { IfOk result (λ x. x.1 ≡ slot + walk.locals_part (raw_view.part_alone raw.now)) }
+    ensures few { IfOk result (λ x. x.1 ≤ context.now.params + 64) }
+    ensures scope { IfOk result (λ x. entries_of entries.new.items ≡ (walk.after_part (map head_of context.now.heads.now) (scope_of entries.old.items from) slot (raw_view.part_alone raw.now) (resolved_part x.0)).entries) }
+    ensures kept { OnOk result (take (length entries.old.items) entries.new.items ≡ entries.old.items) }
+{
+    match raw {
+        None => Ok((None, slot)),
+        Some(one) => {
+            let (one, next) = statement(alloc, context, entries, from, slot, one)?;
+            Ok((Some(Box::new(alloc, one)?), next))
+        }
+    }
+}
+
+/// The first branch of an `if`, in a scope of its own in which the condition shows an element.
+#[cycle(statement)]
+#[tactic(auto, using(crate::proofs::Opened::opened_shown))]
+fn branch<'a>(
+    alloc: Global,
+    context: &Context<'_, 'a>,
+    entries: &mut Vec<Entry<'a>>,
+    from: usize,
+    slot: u32,
+    raw: &'a raw::Statement,
+    test: &'a raw::Cond,
+    found: &Cond,
+) -> Result<(Statement, u32), NameFault>
+    requires params { context.now.params ≤ 8 }
+    requires slot { slot ≤ context.now.params + 64 }
+    ensures gives { Gives (λ x. resolved_statement x.0) result (walk.statement (context_of context.now) (opened (walk.narrowed (map head_of context.now.heads.now) (scope_of entries.old.items from) (raw_view.cond_of test.now) (walk.shown (resolved_cond found.now)))) slot (raw_view.statement_of raw.now)) }
+    ensures next { IfOk result (λ x. x.1 ≡ slot + walk.locals_of (raw_view.statement_of raw.now)) }
+    ensures few { IfOk result (λ x. x.1 ≤ context.now.params + 64) }
+    ensures same { OnOk result (entries.new.items ≡ entries.old.items) }
+{
+    let len = entries.len();
+    show(context, entries, test, found)?;
+    let found = inner(alloc, context, entries, slot, raw)?;
+    entries.truncate(len);
+    Ok(found)
+}
+
+/// A block in a scope of its own.
+#[cycle(statement)]
+fn inner_body<'a>(
+    alloc: Global,
+    context: &Context<'_, 'a>,
+    entries: &mut Vec<Entry<'a>>,
+    slot: u32,
+    raw: &'a [raw::Statement],
+) -> Result<(Vec<Statement>, u32), NameFault>
+    requires params { context.now.params ≤ 8 }
+    requires slot { slot ≤ context.now.params + 64 }
+    ensures gives { Gives (λ x. resolved_body x.0.items) result (walk.body (context_of context.now) (scope_of entries.old.items (length entries.old.items)) slot (raw_view.body_list raw.now)) }
+    ensures next { IfOk result (λ x. x.1 ≡ slot + walk.locals_in (raw_view.body_list raw.now)) }
+    ensures few { IfOk result (λ x. x.1 ≤ context.now.params + 64) }
+    ensures same { OnOk result (entries.new.items ≡ entries.old.items) }
+{
+    let len = entries.len();
+    let found = body(alloc, context, entries, len, slot, raw)?;
+    entries.truncate(len);
+    Ok(found)
+}
+
+/// The statements of a block or of a function.
+#[cycle(statement)]
+pub fn body<'a>(
+    alloc: Global,
+    context: &Context<'_, 'a>,
+    entries: &mut Vec<Entry<'a>>,
+    from: usize,
+    slot: u32,
+    raw: &'a [raw::Statement],
+) -> Result<(Vec<Statement>, u32), NameFault>
+    requires params { context.now.params ≤ 8 }
+    requires slot { slot ≤ context.now.params + 64 }
+    requires from { from ≤ length entries.old.items }
+    ensures gives { Gives (λ x. resolved_body x.0.items) result (walk.body (context_of context.now) (scope_of entries.old.items from) slot (raw_view.body_list raw.now)) }
+    ensures next { IfOk result (λ x. x.1 ≡ slot + walk.locals_in (raw_view.body_list raw.now)) }
+    ensures few { IfOk result (λ x. x.1 ≤ context.now.params + 64) }
+    ensures kept { OnOk result (take (length entries.old.items) entries.new.items ≡ entries.old.items) }
+{
+    let mut found = Vec::new(alloc);
+    let mut next = slot;
+    for one in raw {
+        let (one, after) = statement(alloc, context, entries, from, next, one)?;
+        found.push(one)?;
+        next = after;
+    }
+    Ok((found, next))
+}
