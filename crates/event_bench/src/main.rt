@@ -1,0 +1,131 @@
+//! How long events take: for some ways to fill a grid and to choose centres, the events of one
+//! million attempts, made once and counted without a word, and timed with the word `time`.
+#![tactic(auto)]
+
+ghost use Rattle.std.specs.Prelude.{◌≤◌};
+
+mod act;
+
+use act::Turn;
+use bit_field::Atom;
+use cell_grid::Grid;
+use draw_stream::{Attempt, TileStream};
+use feast_base::NoMemory;
+use std::alloc::Global;
+use std::env::Env;
+use std::rt::Clock;
+use std::time::Instant;
+use std::{env, io};
+use window_sites::Window;
+
+/// How many columns and rows the grid has.
+const SIDE: u32 = 64;
+
+/// How many events are made.
+const EVENTS: u32 = 1_000_000;
+
+/// How many of them are timed at once.
+const PART: usize = 20_000;
+
+/// One site in `every` has an atom.
+fn filled(alloc: Global, every: u32) -> Result<Grid, NoMemory>
+    requires { 1 ≤ every }
+{
+    let mut grid = Grid::new(alloc, SIDE, SIDE)?;
+    for place in 0..SIDE * SIDE {
+        let (x, y) = (place % SIDE, place / SIDE);
+        if place % every == 0 && x < grid.width() && y < grid.height() && grid.is_live(x, y) {
+            grid.set(x, y, Atom::new(1, 0));
+        }
+    }
+    Ok(grid)
+}
+
+/// The attempts, of centres in a square of `side` columns and rows.
+fn drawn(alloc: Global, side: u32) -> Result<Vec<Attempt>, NoMemory>
+    requires some { 1 ≤ side }
+    requires most { side ≤ 64 }
+{
+    let mut stream = TileStream::new(1, 0);
+    let mut attempts = Vec::new(alloc);
+    for _ in 0..EVENTS {
+        if attempts
+            .push(stream.attempt(u64::from(side * side)))
+            .is_err()
+        {
+            return Err(NoMemory);
+        }
+    }
+    Ok(attempts)
+}
+
+/// Makes the events of the attempts, whose square lies in the middle of the grid.
+fn make(grid: &mut Grid, attempts: &[Attempt], side: u32)
+    requires some { 1 ≤ side }
+    requires most { side ≤ 64 }
+{
+    let margin = (SIDE - side) / 2;
+    let mut window = Window::empty();
+    for attempt in attempts {
+        let x = attempt.centre % side + margin;
+        let y = (attempt.centre / side).saturating_add(margin);
+        if x < grid.width() && y < grid.height() && grid.is_live(x, y) {
+            grid.event_in(x, y, attempt.seed, &mut Turn, &mut window);
+        }
+    }
+}
+
+/// The sum of the places of the sites that are occupied.
+fn places(grid: &Grid) -> u64 {
+    let empty = Atom::new(0, 0);
+    let mut sum = 0u64;
+    for (place, atom) in grid.atoms().iter().enumerate() {
+        if *atom != empty {
+            sum = sum.wrapping_add(place as u64);
+        }
+    }
+    sum
+}
+
+/// The least time of some parts of the attempts, in picoseconds an event.
+fn picoseconds(
+    clock: &impl Clock,
+    grid: &mut Grid,
+    attempts: &[Attempt],
+    side: u32,
+) -> io::Result<u128>
+    requires some { 1 ≤ side }
+    requires most { side ≤ 64 }
+{
+    let mut least = u128::MAX;
+    for part in attempts.chunks(PART) {
+        let begin = Instant::now(clock)?;
+        make(grid, part, side);
+        least = least.min(begin.elapsed(clock)?.as_nanos());
+    }
+    Ok(least / (PART as u128 / 1000))
+}
+
+fn main(rt: HostRuntime) -> io::Result<()> {
+    let alloc = rt.alloc();
+    let timed = env::args(&rt)?.skip(1).next().is_some();
+    for (every, side) in [(1, 56), (1, 64), (20, 56), (20, 64)] {
+        let room = io::ErrorKind::OutOfMemory;
+        let Ok(mut grid) = filled(alloc, every) else {
+            return Err(room.into());
+        };
+        let Ok(attempts) = drawn(alloc, side) else {
+            return Err(room.into());
+        };
+        make(&mut grid, attempts.as_slice(), side);
+        println!(rt;
+            "one site in {every}, centres in {side} by {side}: {}",
+            places(&grid)
+        )?;
+        if timed {
+            let time = picoseconds(&rt, &mut grid, attempts.as_slice(), side)?;
+            println!(rt; "{time} picoseconds an event")?;
+        }
+    }
+    Ok(())
+}
