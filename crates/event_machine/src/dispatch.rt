@@ -18,12 +18,12 @@ use stack_code::Instr;
 /// Does a plain instruction, in an event of this acting type.
 #[inline(always)]
 #[tactic(auto, using(crate::proofs::Fits::field_is, crate::proofs::Fits::number_is))]
-pub fn plain(h: &mut Hand, kind: u16, i: Instr) -> Leads
-    requires fits { args_fit i ≡ true }
+pub fn plain(h: &mut Hand, kind: u16, i: &Instr) -> Leads
+    requires fits { args_fit i.now ≡ true }
     requires room { length h.old.stack ≤ 512 }
-    ensures { Works (work kind (sort i) h.old) h.new result }
+    ensures { Works (work kind (sort i.now) h.old) h.new result }
 {
-    match i {
+    match *i {
         Instr::PushNum(v) => plain::give(h, Datum::Number(Number::new(v))),
         Instr::PushAtom(k) => plain::give(h, Datum::Atom(Atom::new(k, 0))),
         Instr::LoadLocal(s) => plain::load(h, s),

@@ -182,11 +182,11 @@ impl Machine {
 
     /// Does a plain instruction, and goes on at the next place.
     #[inline(always)]
-    fn onward(&mut self, kind: u16, i: Instr) -> Leads
-        requires fits { args_fit i ≡ true }
+    fn onward(&mut self, kind: u16, i: &Instr) -> Leads
+        requires fits { args_fit i.now ≡ true }
         requires room { length self.old.held.stack ≤ 512 }
         requires place { self.old.place + 1 < 2 ^ 64 }
-        ensures { StepsTo (onward self.old (work kind (sort i) self.old.held)) self.new result }
+        ensures { StepsTo (onward self.old (work kind (sort i.now) self.old.held)) self.new result }
     {
         let leads = plain(&mut self.hand, kind, i);
         if leads == Leads::On {
@@ -196,14 +196,14 @@ impl Machine {
     }
 
     /// Does an instruction.
-    fn perform(&mut self, code: &Code, i: Instr) -> Leads
-        requires fits { args_fit i ≡ true }
+    fn perform(&mut self, code: &Code, i: &Instr) -> Leads
+        requires fits { args_fit i.now ≡ true }
         requires room { length self.old.held.stack ≤ 512 }
         requires place { self.old.place + 1 < 2 ^ 64 }
         requires functions { FunctionsFit code.now }
-        ensures { StepsTo (go_by code.now (sort i) self.old) self.new result }
+        ensures { StepsTo (go_by code.now (sort i.now) self.old) self.new result }
     {
-        match i {
+        match *i {
             Instr::Jump(p) => {
                 self.place = p as usize;
                 Leads::On
@@ -219,7 +219,7 @@ impl Machine {
                 None => Leads::Want,
             },
             Instr::ReturnVoid => self.back(None),
-            other => self.onward(code.kind(), other),
+            _ => self.onward(code.kind(), i),
         }
     }
 
@@ -231,10 +231,7 @@ impl Machine {
     {
         match code.instrs().get(self.place) {
             None => Leads::Want,
-            Some(i) => {
-                let i = *i;
-                self.perform(code, i)
-            }
+            Some(i) => self.perform(code, i),
         }
     }
 
