@@ -13,7 +13,7 @@ use Rattle.ulam_parse.specs.declared.symbol.Assigning.TheVariants.{Assigns, Coun
 use Rattle.ulam_parse.specs.Tokens.{Text, Tok, tok}
 use Rattle.ulam_parse.specs.Tables.{infix_of, opening_of, assigning_of}
 use Rattle.ulam_parse.specs.Grammar.{Span, ◌⟫◌, Takes, TakesWord, TakesAssign, TakesCount, IsType, AreDotted, IsPathOf, IsPath, IsExpr, AreArgs, IsCond, IsIndex, IsLeft, IsMaybe, IsStart, IsSimple, IsDeclare, IsFirst, IsStep}
-use Rattle.ulam_parse.specs.Reading.{Halt, stops, tired, Read, Reader, ◌>>=◌, same, sees, sees_second, expect, type_ref, path, args, expr}
+use Rattle.ulam_parse.specs.Reading.{Halt, stops, tired, Read, Reader, ◌>>=◌, same, sees, sees_second, expect, type_ref, path, args, expr, all_args, expr_in}
 use Rattle.ulam_parse.specs.Statements as r
 use Rattle.ulam_parse.proofs.Tells.{decide, same_self, same_is, is_end, first, tail, is_seen, unseen, one_first, sees_first, Found, Stopped, Tells, tells_as, tells_two, tells_behind, Behind}
 use Rattle.ulam_parse.proofs.Rules.{Free, tells_if, Rule, Filled, Then, Map, Into, Back, Seen, Unseen, Always, token, then, after, map, named, here, choice, some_place, some_word, none_some}
@@ -23,7 +23,7 @@ use Rattle.ulam_parse.proofs.Operands.{ExprLaw, expr_filled, args_filled, args_l
 use Rattle.ulam_parse.proofs.Primaries.{both, empty_expr}
 use Rattle.ulam_parse.proofs.OperandRule.{same_first, behind_first}
 use Rattle.ulam_parse.proofs.Chains.{Link, joined, tested, IsChain, Chained, chained, level_most}
-use Rattle.ulam_parse.proofs.ExprRule.{expr_law}
+use Rattle.ulam_parse.proofs.ExprRule.{expr_in_law, expr_law}
 
 -- no operator of this level or a tighter one follows
 abbrev pub Under : {A : Type 0} → ℕ → A → List Tok → Type 0
@@ -44,7 +44,7 @@ closing : (us : List Tok) → closes us ≡ true → (sees s.Semi us ≡ true) �
 closing us h = either (sees s.Semi us) (sees s.CloseParen us) h
 
 -- the first token, by what is seen
-seen_at : (k : Symbol) (us : List Tok) → sees k us ≡ true → (w : Text) × (p : Place) × (rest : List Tok) × (us ≡ tok k w p ∷ rest)
+pub seen_at : (k : Symbol) (us : List Tok) → sees k us ≡ true → (w : Text) × (p : Place) × (rest : List Tok) × (us ≡ tok k w p ∷ rest)
 seen_at k [] h = absurd cc
 seen_at k (tok j w p ∷ ts) h = (w, p, ts, ap (λ x. tok x w p ∷ ts) (same_is j k h))
 
@@ -71,11 +71,11 @@ closed_not k f g us h = elim (closing us h) as (λ x. sees k us ≡ false) [
 abbrev pub expr_rule : (n l : ℕ) → l ≤ 12 → Rule n Expr (Under l) Free
 expr_rule n l b = record { rel = IsExpr l; filled = expr_filled l; read = expr l; law = λ us h. expr_law l b us }
 
-pub all_args_law : (n : ℕ) (us : List Tok) → length us < n → Tells AreArgs Free Free us (args expr us)
-all_args_law n us h = args_law n expr (λ l b vs m. expr_law l b vs) us h
+pub all_args_law : (n : ℕ) (us : List Tok) → length us < n → Tells AreArgs Free Free us (all_args us)
+all_args_law n us h = args_law (length us + 1) (expr_in (length us + 1)) (expr_in_law (length us + 1)) us (omega arith)
 
 abbrev pub args_rule : (n : ℕ) → Rule n Args Free Free
-args_rule n = record { rel = AreArgs; filled = args_filled; read = args expr; law = all_args_law n }
+args_rule n = record { rel = AreArgs; filled = args_filled; read = all_args; law = all_args_law n }
 
 -- conditions
 

@@ -14,3 +14,6 @@ pub mod StatementRule
 pub mod BodyRule
 pub mod MemberRules
 pub mod FileRules
+pub mod Turns
+pub mod Steps
+pub mod Loops

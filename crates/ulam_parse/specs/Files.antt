@@ -1,5 +1,5 @@
 -- Reading from the left: members, classes and files.
-use Rattle.std.specs.Prelude.{ℕ, zero, suc, ◌+◌, ◌≡◌, List, [], ◌∷◌, length, Option, Some, None, Bool, true, false, if◌then◌else◌, Ok, Err}
+use Rattle.std.specs.Prelude.{ℕ, zero, suc, ◌+◌, ◌≡◌, List, [], ◌∷◌, ◌++◌, length, Option, Some, None, Bool, true, false, if◌then◌else◌, Ok, Err}
 use Rattle.ulam_tree.specs.Raw.{Word, Width, TypeRef, Body, Param, Const, const_number, const_truth, const_named, Member, typedef, constant, field, function, Class, Item, ulam, uses, class}
 use Rattle.ulam_parse.specs.declared.symbol.Symbol.{Symbol}
 use Rattle.ulam_parse.specs.declared.symbol.Symbol.TheVariants as s
@@ -137,9 +137,13 @@ use_in us = do
   b ← expect s.Semi w.1
   Ok (uses w.0, b.1)
 
+-- an element or a quark
+abbrev pub any_class : Reader Class
+any_class us = if sees s.Quark us then class_in s.Quark true us else class_in s.Element false us
+
 unfoldable pub class_item : Reader Item
 class_item us = do
-  x ← if sees s.Quark us then class_in s.Quark true us else class_in s.Element false us
+  x ← any_class us
   Ok (class x.0, x.1)
 
 unfoldable pub item : Reader Item
@@ -156,3 +160,7 @@ items (suc n) us =
 
 abbrev pub whole_file : Reader (List Item)
 whole_file us = items (length us + 1) us
+
+-- what was read before, and then the rest
+abbrev pub with_front : {A : Type 0} → List A → Read (List A) → Read (List A)
+with_front {A = A} front read = read >>= λ (x : List A × List Tok). Ok (front ++ x.0, x.1)

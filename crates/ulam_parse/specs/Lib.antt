@@ -5,3 +5,6 @@ pub mod Nesting
 pub mod Reading
 pub mod Statements
 pub mod Files
+pub mod Marks
+pub mod Views
+pub mod Heads

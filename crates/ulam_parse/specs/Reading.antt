@@ -148,6 +148,9 @@ module _ (expr : ℕ → Reader Expr) where
         Ok (index x e.0, b.1))
       else Ok (reads x, us))
 
+  abbrev pub named : Reader Expr
+  named us = path us >>= λ (x : Path × List Tok). after_path x.0 x.1
+
   -- what stands behind a bracket that opens at a place
   unfoldable pub in_parens : Place → Reader Expr
   in_parens p us =
@@ -167,8 +170,8 @@ module _ (expr : ℕ → Reader Expr) where
   operand_by Counts k w p ts = Ok (number (value_of w) (unsigned_of w) p, ts)
   operand_by (Says b) k w p ts = Ok (truth b p, ts)
   operand_by Classes k w p ts = new_atom (tok k w p ∷ ts)
-  operand_by Names k w p ts = path (tok k w p ∷ ts) >>= λ (x : Path × List Tok). after_path x.0 x.1
-  operand_by Owns k w p ts = path (tok k w p ∷ ts) >>= λ (x : Path × List Tok). after_path x.0 x.1
+  operand_by Names k w p ts = named (tok k w p ∷ ts)
+  operand_by Owns k w p ts = named (tok k w p ∷ ts)
   operand_by Nothing k w p ts = Err (stops (length (tok k w p ∷ ts)))
 
   unfoldable pub operand : Reader Expr
@@ -205,3 +208,19 @@ expr_in (suc k) least us = climb (expr_in k) least us
 -- an expression of a level
 abbrev pub expr : ℕ → Reader Expr
 expr least us = expr_in (length us + 1) least us
+
+-- arguments and the closing bracket
+abbrev pub all_args : Reader Args
+all_args us = args (expr_in (length us + 1)) us
+
+-- what was read before, and then the rest
+abbrev pub with_words : List Word → Read (List Word) → Read (List Word)
+with_words front read = read >>= λ (x : List Word × List Tok). Ok (front ++ x.0, x.1)
+
+-- arguments and more of them
+abbrev pub join_args : Args → Args → Args
+join_args no_args es = es
+join_args (arg e ds) es = arg e (join_args ds es)
+
+abbrev pub with_args : Args → Read Args → Read Args
+with_args front read = read >>= λ (x : Args × List Tok). Ok (join_args front x.0, x.1)

@@ -10,7 +10,7 @@ use Rattle.ulam_parse.specs.declared.symbol.Starting.{Starting}
 use Rattle.ulam_parse.specs.declared.symbol.Starting.TheVariants as t
 use Rattle.ulam_parse.specs.Tokens.{Text, Tok, tok}
 use Rattle.ulam_parse.specs.Tables.{assigning_of, starting_of}
-use Rattle.ulam_parse.specs.Reading.{Halt, stops, tired, Read, Reader, ◌>>=◌, sees, sees_second, expect, type_ref, path, args, expr}
+use Rattle.ulam_parse.specs.Reading.{Halt, stops, tired, Read, Reader, ◌>>=◌, sees, sees_second, expect, type_ref, path, all_args, expr}
 
 unfoldable pub cond : Reader Cond
 cond us =
@@ -75,7 +75,7 @@ unfoldable pub after_names : Path → Reader Statement
 after_names x us =
     if sees s.OpenParen us then (do
       a ← expect s.OpenParen us
-      es ← args expr a.1
+      es ← all_args a.1
       Ok (does x es.0, es.1))
     else (do
       i ← index_in us
@@ -157,6 +157,14 @@ return_rest p us = do
   e ← maybe us
   ended (returns p e.0) e.1
 
+-- a declaration and its `;`
+abbrev pub declared : Reader Statement
+declared us = declare us >>= λ (x : Statement × List Tok). ended x.0 x.1
+
+-- an assignment, a count or a call, and its `;`
+abbrev pub done : Reader Statement
+done us = simple us >>= λ (x : Statement × List Tok). ended x.0 x.1
+
 module _ (statement : Reader Statement) where
   unfoldable pub else_part : Reader Part
   else_part us =
@@ -211,8 +219,8 @@ module _ (statement : Reader Statement) where
   statement_by t.Return k w p ts = return_rest p ts
   statement_by t.Break k w p ts = ended (breaks p) ts
   statement_by t.Continue k w p ts = ended (continues p) ts
-  statement_by t.Declare k w p ts = declare (tok k w p ∷ ts) >>= λ (x : Statement × List Tok). ended x.0 x.1
-  statement_by t.Simple k w p ts = simple (tok k w p ∷ ts) >>= λ (x : Statement × List Tok). ended x.0 x.1
+  statement_by t.Declare k w p ts = declared (tok k w p ∷ ts)
+  statement_by t.Simple k w p ts = done (tok k w p ∷ ts)
   statement_by t.Nothing k w p ts = Err (stops (length (tok k w p ∷ ts)))
 
   unfoldable pub any_statement : Reader Statement
@@ -227,3 +235,12 @@ statement_in (suc k) us = any_statement (statement_in k) us
 -- the body of a function
 abbrev pub whole_body : Reader Body
 whole_body us = body (statement_in (length us + 1)) (length us + 1) us
+
+-- statements and more of them
+abbrev pub join_body : Body → Body → Body
+join_body no_more b = b
+join_body (then_so x a) b = then_so x (join_body a b)
+
+-- what was read before, and then the rest
+abbrev pub with_body : Body → Read Body → Read Body
+with_body front read = read >>= λ (x : Body × List Tok). Ok (join_body front x.0, x.1)

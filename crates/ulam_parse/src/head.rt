@@ -1,0 +1,89 @@
+//! The heads of `if`, `while` and `for`.
+ghost use Rattle.std.specs.Prelude.{◌≡◌, option_map, Some, IfOk};
+ghost use Rattle.ulam_tree.specs.Raw as t;
+ghost use Rattle.ulam_tree.specs.RawViews.{expr_of, cond_of, statement_of, part_alone};
+ghost use Rattle.ulam_parse.specs.Heads.{head_of};
+ghost use Rattle.ulam_parse.specs.Statements as spec;
+ghost use Rattle.ulam_parse.specs.Views.{Gives, from};
+
+use crate::expr::expr;
+use crate::for_parts::ForParts;
+use crate::halt::Stop;
+use crate::simple::{cond, declare, maybe, simple};
+use crate::symbol::Symbol;
+use crate::take::{expect, sees};
+use crate::tape::Tape;
+use std::alloc::{AllocError, Global};
+use ulam_tree::{Cond, Expr, Statement};
+
+/// A part of a `for` that is there.
+fn part(alloc: Global, statement: Statement) -> Result<Option<Box<Statement>>, AllocError>
+    ensures { IfOk result (λ y. part_alone y ≡ t.part (statement_of statement)) }
+{
+    Ok(Some(Box::new(alloc, statement)?))
+}
+
+/// What a `for` does first.
+#[tactic(auto, unfolding(crate::specs::Statements::first_part))]
+fn first_part(alloc: Global, tape: &Tape, at: usize) -> Result<(Option<Box<Statement>>, usize), Stop>
+    ensures { Gives (λ x. (part_alone x.0, from tape.now x.1)) result (spec.first_part (from tape.now at)) }
+{
+    if sees(Symbol::Semi, tape, at) {
+        Ok((None, at))
+    } else if sees(Symbol::TypeName, tape, at) {
+        let (statement, next) = declare(alloc, tape, at)?;
+        Ok((part(alloc, statement)?, next))
+    } else {
+        let (statement, next) = simple(alloc, tape, at)?;
+        Ok((part(alloc, statement)?, next))
+    }
+}
+
+/// What a `for` does after each turn.
+#[tactic(auto, unfolding(crate::specs::Statements::step_part))]
+fn step_part(alloc: Global, tape: &Tape, at: usize) -> Result<(Option<Box<Statement>>, usize), Stop>
+    ensures { Gives (λ x. (part_alone x.0, from tape.now x.1)) result (spec.step_part (from tape.now at)) }
+{
+    if sees(Symbol::CloseParen, tape, at) {
+        return Ok((None, at));
+    }
+    let (statement, next) = simple(alloc, tape, at)?;
+    Ok((part(alloc, statement)?, next))
+}
+
+/// What stands between the brackets of a `for`.
+#[tactic(auto, unfolding(crate::specs::Statements::for_head))]
+pub fn for_head(alloc: Global, tape: &Tape, at: usize) -> Result<(ForParts, usize), Stop>
+    ensures { Gives (λ x. (head_of x.0, from tape.now x.1)) result (spec.for_head (from tape.now at)) }
+{
+    let (_, next) = expect(Symbol::OpenParen, tape, at)?;
+    let (first, next) = first_part(alloc, tape, next)?;
+    let (_, next) = expect(Symbol::Semi, tape, next)?;
+    let (cond, next) = maybe(alloc, tape, next)?;
+    let (_, next) = expect(Symbol::Semi, tape, next)?;
+    let (step, next) = step_part(alloc, tape, next)?;
+    let (_, next) = expect(Symbol::CloseParen, tape, next)?;
+    Ok((ForParts { first, cond, step }, next))
+}
+
+/// A condition in brackets.
+#[tactic(auto, unfolding(crate::specs::Statements::if_head))]
+pub fn if_head(alloc: Global, tape: &Tape, at: usize) -> Result<(Cond, usize), Stop>
+    ensures { Gives (λ x. (cond_of x.0, from tape.now x.1)) result (spec.if_head (from tape.now at)) }
+{
+    let (_, next) = expect(Symbol::OpenParen, tape, at)?;
+    let (cond, next) = cond(alloc, tape, next)?;
+    let (_, next) = expect(Symbol::CloseParen, tape, next)?;
+    Ok((cond, next))
+}
+
+/// An expression in brackets.
+#[tactic(auto, unfolding(crate::specs::Statements::while_head))]
+pub fn while_head(alloc: Global, tape: &Tape, at: usize) -> Result<(Expr, usize), Stop>
+    ensures { Gives (λ x. (expr_of x.0, from tape.now x.1)) result (spec.while_head (from tape.now at)) }
+{
+    let (_, next) = expect(Symbol::OpenParen, tape, at)?;
+    let (cond, next) = expr(alloc, 1, tape, next)?;
+    let (_, next) = expect(Symbol::CloseParen, tape, next)?;
+    Ok((cond, next))
+}

@@ -1,0 +1,116 @@
+//! Members, classes and files.
+ghost use Rattle.std.specs.Prelude.{◌≡◌, ◌+◌, length, map, option_map, IfOk};
+ghost use Rattle.ulam_tree.specs.RawViews.{word_of, width_of, type_of, param_of, const_of, member_of, class_of, item_of, body_list};
+ghost use Rattle.ulam_parse.specs.Files as spec;
+ghost use Rattle.ulam_parse.specs.Views.{Gives, from};
+
+use crate::halt::Stop;
+use crate::member::member;
+use crate::symbol::Symbol;
+use crate::take::{count_from, expect, sees, word};
+use crate::tape::Tape;
+use std::alloc::Global;
+use ulam_tree::{Class, Item, Member};
+
+/// Members, each behind those that are there, and the closing brace.
+fn members(alloc: Global, found: &mut Vec<Member>, tape: &Tape, at: usize) -> Result<usize, Stop>
+    ensures { Gives (λ x. (map member_of found.new.items, from tape.now x)) result (spec.with_front (map member_of found.old.items) (spec.members (length (from tape.now at) + 1) (from tape.now at))) }
+{
+    let mut next = at;
+    'turns: for _turn in 0..count_from(tape, at) + 1 {
+        if sees(Symbol::CloseBrace, tape, next) {
+            let (_, behind) = expect(Symbol::CloseBrace, tape, next)?;
+            return Ok(behind);
+        }
+        let (value, behind) = member(alloc, tape, next)?;
+        found.push(value)?;
+        next = behind;
+    }
+    Err(Stop::Tired)
+}
+
+/// A class that begins with a keyword.
+#[tactic(auto, unfolding(crate::specs::Files::class_in))]
+fn class_in(alloc: Global, keyword: Symbol, quark: bool, tape: &Tape, at: usize) -> Result<(Class, usize), Stop>
+    ensures { Gives (λ x. (class_of x.0, from tape.now x.1)) result (spec.class_in keyword quark (from tape.now at)) }
+{
+    let (_, next) = expect(keyword, tape, at)?;
+    let (name, next) = expect(Symbol::TypeName, tape, next)?;
+    let (_, next) = expect(Symbol::OpenBrace, tape, next)?;
+    let mut found = Vec::new(alloc);
+    let next = members(alloc, &mut found, tape, next)?;
+    let word = word(alloc, tape, name)?;
+    Ok((
+        Class {
+            quark,
+            word,
+            members: found,
+        },
+        next,
+    ))
+}
+
+/// The version of the language.
+#[tactic(auto, unfolding(crate::specs::Files::version_in))]
+fn version_in(tape: &Tape, at: usize) -> Result<(Item, usize), Stop>
+    ensures { Gives (λ x. (item_of x.0, from tape.now x.1)) result (spec.version_in (from tape.now at)) }
+{
+    let (_, next) = expect(Symbol::Ulam, tape, at)?;
+    let (mark, next) = expect(Symbol::Number, tape, next)?;
+    let (_, next) = expect(Symbol::Semi, tape, next)?;
+    Ok((Item::Ulam { number: mark.value }, next))
+}
+
+/// A `use`.
+#[tactic(auto, unfolding(crate::specs::Files::use_in))]
+fn use_in(alloc: Global, tape: &Tape, at: usize) -> Result<(Item, usize), Stop>
+    ensures { Gives (λ x. (item_of x.0, from tape.now x.1)) result (spec.use_in (from tape.now at)) }
+{
+    let (_, next) = expect(Symbol::Use, tape, at)?;
+    let (name, next) = expect(Symbol::TypeName, tape, next)?;
+    let (_, next) = expect(Symbol::Semi, tape, next)?;
+    let word = word(alloc, tape, name)?;
+    Ok((Item::Uses { word }, next))
+}
+
+/// An element or a quark.
+fn class(alloc: Global, tape: &Tape, at: usize) -> Result<(Class, usize), Stop>
+    ensures { Gives (λ x. (class_of x.0, from tape.now x.1)) result (spec.any_class (from tape.now at)) }
+{
+    if sees(Symbol::Quark, tape, at) {
+        class_in(alloc, Symbol::Quark, true, tape, at)
+    } else {
+        class_in(alloc, Symbol::Element, false, tape, at)
+    }
+}
+
+/// An item.
+#[tactic(auto, unfolding(crate::specs::Files::item, crate::specs::Files::class_item))]
+fn item(alloc: Global, tape: &Tape, at: usize) -> Result<(Item, usize), Stop>
+    ensures { Gives (λ x. (item_of x.0, from tape.now x.1)) result (spec.item (from tape.now at)) }
+{
+    if sees(Symbol::Ulam, tape, at) {
+        return version_in(tape, at);
+    }
+    if sees(Symbol::Use, tape, at) {
+        return use_in(alloc, tape, at);
+    }
+    let (class, next) = class(alloc, tape, at)?;
+    Ok((Item::Class { class }, next))
+}
+
+/// Items, each behind those that are there, up to `End`.
+pub fn items(alloc: Global, found: &mut Vec<Item>, tape: &Tape, at: usize) -> Result<usize, Stop>
+    ensures { Gives (λ x. (map item_of found.new.items, from tape.now x)) result (spec.with_front (map item_of found.old.items) (spec.items (length (from tape.now at) + 1) (from tape.now at))) }
+{
+    let mut next = at;
+    'turns: for _turn in 0..count_from(tape, at) + 1 {
+        if sees(Symbol::End, tape, next) {
+            return Ok(next);
+        }
+        let (value, behind) = item(alloc, tape, next)?;
+        found.push(value)?;
+        next = behind;
+    }
+    Err(Stop::Tired)
+}

@@ -1,0 +1,204 @@
+//! Members.
+ghost use Rattle.std.specs.Prelude.{◌≡◌, ◌+◌, length, map, option_map, IfOk};
+ghost use Rattle.ulam_tree.specs.RawViews.{word_of, width_of, type_of, param_of, const_of, member_of, body_list};
+ghost use Rattle.ulam_parse.specs.Files as spec;
+ghost use Rattle.ulam_parse.specs.Views.{Gives, from};
+
+use crate::halt::Stop;
+use crate::statement::whole_body;
+use crate::symbol::Symbol;
+use crate::take::{count_from, expect, sees, word};
+use crate::tape::Tape;
+use crate::types::{enclosed, type_ref};
+use std::alloc::Global;
+use ulam_tree::{Const, Member, Param, TypeRef, Width, Word};
+
+/// A parameter.
+#[tactic(auto, unfolding(crate::specs::Files::param))]
+fn param(alloc: Global, tape: &Tape, at: usize) -> Result<(Param, usize), Stop>
+    ensures { Gives (λ x. (param_of x.0, from tape.now x.1)) result (spec.param (from tape.now at)) }
+{
+    let (of, next) = type_ref(alloc, tape, at)?;
+    let (name, next) = expect(Symbol::Name, tape, next)?;
+    let word = word(alloc, tape, name)?;
+    Ok((Param { of, word }, next))
+}
+
+/// More parameters, each behind those that are there, and the closing bracket.
+fn more_params(alloc: Global, found: &mut Vec<Param>, tape: &Tape, at: usize) -> Result<usize, Stop>
+    ensures { Gives (λ x. (map param_of found.new.items, from tape.now x)) result (spec.with_front (map param_of found.old.items) (spec.more_params (length (from tape.now at) + 1) (from tape.now at))) }
+{
+    let mut next = at;
+    'turns: for _turn in 0..count_from(tape, at) + 1 {
+        if !sees(Symbol::Comma, tape, next) {
+            let (_, behind) = expect(Symbol::CloseParen, tape, next)?;
+            return Ok(behind);
+        }
+        let (_, behind) = expect(Symbol::Comma, tape, next)?;
+        let (value, behind) = param(alloc, tape, behind)?;
+        found.push(value)?;
+        next = behind;
+    }
+    Err(Stop::Tired)
+}
+
+/// Parameters and the closing bracket.
+#[tactic(auto, unfolding(crate::specs::Files::params))]
+fn params(alloc: Global, tape: &Tape, at: usize) -> Result<(Vec<Param>, usize), Stop>
+    ensures { Gives (λ x. (map param_of x.0.items, from tape.now x.1)) result (spec.params (from tape.now at)) }
+{
+    let mut found = Vec::new(alloc);
+    if sees(Symbol::CloseParen, tape, at) {
+        let (_, next) = expect(Symbol::CloseParen, tape, at)?;
+        return Ok((found, next));
+    }
+    let (first, next) = param(alloc, tape, at)?;
+    found.push(first)?;
+    let next = more_params(alloc, &mut found, tape, next)?;
+    Ok((found, next))
+}
+
+/// A number, behind its sign where it has one.
+#[tactic(auto, unfolding(crate::specs::Files::const_in))]
+fn const_in(minus: bool, tape: &Tape, at: usize) -> Result<(Const, usize), Stop>
+    ensures { Gives (λ x. (const_of x.0, from tape.now x.1)) result (spec.const_in minus (from tape.now at)) }
+{
+    let (mark, next) = expect(Symbol::Number, tape, at)?;
+    Ok((
+        Const::Number {
+            minus,
+            value: mark.value,
+            unsigned: mark.unsigned,
+        },
+        next,
+    ))
+}
+
+/// `true` or `false`.
+#[tactic(auto, unfolding(crate::specs::Files::truth_in))]
+fn truth_in(symbol: Symbol, value: bool, tape: &Tape, at: usize) -> Result<(Const, usize), Stop>
+    ensures { Gives (λ x. (const_of x.0, from tape.now x.1)) result (spec.truth_in symbol value (from tape.now at)) }
+{
+    let (_, next) = expect(symbol, tape, at)?;
+    Ok((Const::Truth { value }, next))
+}
+
+/// What a constant is declared to be.
+#[tactic(auto, unfolding(crate::specs::Files::const_value))]
+fn const_value(alloc: Global, tape: &Tape, at: usize) -> Result<(Const, usize), Stop>
+    ensures { Gives (λ x. (const_of x.0, from tape.now x.1)) result (spec.const_value (from tape.now at)) }
+{
+    if sees(Symbol::Minus, tape, at) {
+        let (_, next) = expect(Symbol::Minus, tape, at)?;
+        const_in(true, tape, next)
+    } else if sees(Symbol::Number, tape, at) {
+        const_in(false, tape, at)
+    } else if sees(Symbol::True, tape, at) {
+        truth_in(Symbol::True, true, tape, at)
+    } else if sees(Symbol::False, tape, at) {
+        truth_in(Symbol::False, false, tape, at)
+    } else {
+        let (mark, next) = expect(Symbol::Name, tape, at)?;
+        let word = word(alloc, tape, mark)?;
+        Ok((Const::Named { word }, next))
+    }
+}
+
+/// A typedef.
+#[tactic(auto, unfolding(crate::specs::Files::typedef_in))]
+fn typedef_in(alloc: Global, tape: &Tape, at: usize) -> Result<(Member, usize), Stop>
+    ensures { Gives (λ x. (member_of x.0, from tape.now x.1)) result (spec.typedef_in (from tape.now at)) }
+{
+    let (_, next) = expect(Symbol::Typedef, tape, at)?;
+    let (of, next) = type_ref(alloc, tape, next)?;
+    let (name, next) = expect(Symbol::TypeName, tape, next)?;
+    let (_, next) = expect(Symbol::Semi, tape, next)?;
+    let word = word(alloc, tape, name)?;
+    Ok((Member::Typedef { of, word }, next))
+}
+
+/// A constant.
+#[tactic(auto, unfolding(crate::specs::Files::constant_in))]
+fn constant_in(alloc: Global, tape: &Tape, at: usize) -> Result<(Member, usize), Stop>
+    ensures { Gives (λ x. (member_of x.0, from tape.now x.1)) result (spec.constant_in (from tape.now at)) }
+{
+    let (_, next) = expect(Symbol::Constant, tape, at)?;
+    let (of, next) = type_ref(alloc, tape, next)?;
+    let (name, next) = expect(Symbol::Name, tape, next)?;
+    let (_, next) = expect(Symbol::Set, tape, next)?;
+    let (value, next) = const_value(alloc, tape, next)?;
+    let (_, next) = expect(Symbol::Semi, tape, next)?;
+    let word = word(alloc, tape, name)?;
+    Ok((Member::Constant { of, word, value }, next))
+}
+
+/// The length in square brackets that makes a data member an array.
+#[tactic(auto, unfolding(crate::specs::Files::length_in))]
+fn length_in(alloc: Global, tape: &Tape, at: usize) -> Result<(Option<Width>, usize), Stop>
+    ensures { Gives (λ x. (option_map width_of x.0, from tape.now x.1)) result (spec.length_in (from tape.now at)) }
+{
+    if sees(Symbol::OpenBracket, tape, at) {
+        enclosed(alloc, Symbol::OpenBracket, Symbol::CloseBracket, tape, at)
+    } else {
+        Ok((None, at))
+    }
+}
+
+/// A function behind its name.
+#[tactic(auto, unfolding(crate::specs::Files::function_rest))]
+fn function_rest(alloc: Global, of: TypeRef, word: Word, tape: &Tape, at: usize) -> Result<(Member, usize), Stop>
+    ensures { Gives (λ x. (member_of x.0, from tape.now x.1)) result (spec.function_rest (type_of of) (word_of word) (from tape.now at)) }
+{
+    let (_, next) = expect(Symbol::OpenParen, tape, at)?;
+    let (params, next) = params(alloc, tape, next)?;
+    let (_, next) = expect(Symbol::OpenBrace, tape, next)?;
+    let (body, next) = whole_body(alloc, tape, next)?;
+    Ok((
+        Member::Function {
+            of,
+            word,
+            params,
+            body,
+        },
+        next,
+    ))
+}
+
+/// A data member behind its name.
+#[tactic(auto, unfolding(crate::specs::Files::field_rest))]
+fn field_rest(alloc: Global, of: TypeRef, word: Word, tape: &Tape, at: usize) -> Result<(Member, usize), Stop>
+    ensures { Gives (λ x. (member_of x.0, from tape.now x.1)) result (spec.field_rest (type_of of) (word_of word) (from tape.now at)) }
+{
+    let (length, next) = length_in(alloc, tape, at)?;
+    let (_, next) = expect(Symbol::Semi, tape, next)?;
+    Ok((Member::Field { of, word, length }, next))
+}
+
+/// A data member or a function.
+#[tactic(auto, unfolding(crate::specs::Files::named_member))]
+fn named_member(alloc: Global, tape: &Tape, at: usize) -> Result<(Member, usize), Stop>
+    ensures { Gives (λ x. (member_of x.0, from tape.now x.1)) result (spec.named_member (from tape.now at)) }
+{
+    let (of, next) = type_ref(alloc, tape, at)?;
+    let (name, next) = expect(Symbol::Name, tape, next)?;
+    let word = word(alloc, tape, name)?;
+    if sees(Symbol::OpenParen, tape, next) {
+        function_rest(alloc, of, word, tape, next)
+    } else {
+        field_rest(alloc, of, word, tape, next)
+    }
+}
+
+/// A member.
+#[tactic(auto, unfolding(crate::specs::Files::member))]
+pub fn member(alloc: Global, tape: &Tape, at: usize) -> Result<(Member, usize), Stop>
+    ensures { Gives (λ x. (member_of x.0, from tape.now x.1)) result (spec.member (from tape.now at)) }
+{
+    if sees(Symbol::Typedef, tape, at) {
+        typedef_in(alloc, tape, at)
+    } else if sees(Symbol::Constant, tape, at) {
+        constant_in(alloc, tape, at)
+    } else {
+        named_member(alloc, tape, at)
+    }
+}

@@ -1,0 +1,165 @@
+//! Conditions, declarations, assignments, counts and calls, and the heads of statements.
+ghost use Rattle.std.specs.Prelude.{◌≡◌, ◌+◌, length, option_map, Some, IfOk};
+ghost use Rattle.std.specs.Global.{Box};
+ghost use Rattle.std.specs.Box.{box_value};
+ghost use Rattle.ulam_tree.specs.Raw as t;
+ghost use Rattle.ulam_tree.specs.declared.raw.Expr.{Expr};
+ghost use Rattle.ulam_tree.specs.RawViews.{word_of, type_of, path_of, expr_of, args_list, cond_of, left_of, statement_of, part_alone};
+ghost use Rattle.ulam_parse.specs.Statements as spec;
+ghost use Rattle.ulam_parse.specs.Views.{Gives, from};
+
+use crate::expr::{args, expr};
+use crate::halt::Stop;
+use crate::symbol::{Assigning, Symbol};
+use crate::tables::assigning_of;
+use crate::take::{count_from, expect, mark_at, sees, sees_second, word};
+use crate::tape::Tape;
+use crate::types::{path, type_ref};
+use std::alloc::{AllocError, Global};
+use ulam_tree::{Call, Cond, Expr, Left, Path, Statement};
+
+/// What an `if` asks.
+#[tactic(auto, unfolding(crate::specs::Statements::cond))]
+pub fn cond(alloc: Global, tape: &Tape, at: usize) -> Result<(Cond, usize), Stop>
+    ensures { Gives (λ x. (cond_of x.0, from tape.now x.1)) result (spec.cond (from tape.now at)) }
+{
+    if sees(Symbol::Name, tape, at) && sees_second(Symbol::As, tape, at) {
+        let (name, next) = expect(Symbol::Name, tape, at)?;
+        let (_, next) = expect(Symbol::As, tape, next)?;
+        let (class, next) = expect(Symbol::TypeName, tape, next)?;
+        let word_seen = word(alloc, tape, name)?;
+        let class = word(alloc, tape, class)?;
+        Ok((
+            Cond::Seen {
+                word: word_seen,
+                class,
+            },
+            next,
+        ))
+    } else {
+        let (value, next) = expr(alloc, 1, tape, at)?;
+        Ok((Cond::Test { value }, next))
+    }
+}
+
+/// The index in square brackets that may stand behind a path.
+#[tactic(auto, unfolding(crate::specs::Statements::index_in))]
+fn index_in(alloc: Global, tape: &Tape, at: usize) -> Result<(Option<Box<Expr>>, usize), Stop>
+    ensures { Gives (λ x. (option_map (λ (b : Box Expr). expr_of (box_value b)) x.0, from tape.now x.1)) result (spec.index_in (from tape.now at)) }
+{
+    if sees(Symbol::OpenBracket, tape, at) {
+        let (_, next) = expect(Symbol::OpenBracket, tape, at)?;
+        let (value, next) = expr(alloc, 1, tape, next)?;
+        let (_, next) = expect(Symbol::CloseBracket, tape, next)?;
+        Ok((Some(Box::new(alloc, value)?), next))
+    } else {
+        Ok((None, at))
+    }
+}
+
+/// What is assigned to.
+#[tactic(auto, unfolding(crate::specs::Statements::left))]
+fn left_side(alloc: Global, tape: &Tape, at: usize) -> Result<(Left, usize), Stop>
+    ensures { Gives (λ x. (left_of x.0, from tape.now x.1)) result (spec.left (from tape.now at)) }
+{
+    let (path, next) = path(alloc, tape, at)?;
+    let (index, next) = index_in(alloc, tape, next)?;
+    Ok((Left { path, index }, next))
+}
+
+/// An expression, unless `;` comes first.
+#[tactic(auto, unfolding(crate::specs::Statements::maybe))]
+pub fn maybe(alloc: Global, tape: &Tape, at: usize) -> Result<(Option<Expr>, usize), Stop>
+    ensures { Gives (λ x. (option_map expr_of x.0, from tape.now x.1)) result (spec.maybe (from tape.now at)) }
+{
+    if sees(Symbol::Semi, tape, at) {
+        return Ok((None, at));
+    }
+    let (value, next) = expr(alloc, 1, tape, at)?;
+    Ok((Some(value), next))
+}
+
+/// The value that a local may begin with.
+#[tactic(auto, unfolding(crate::specs::Statements::start))]
+fn start(alloc: Global, tape: &Tape, at: usize) -> Result<(Option<Expr>, usize), Stop>
+    ensures { Gives (λ x. (option_map expr_of x.0, from tape.now x.1)) result (spec.start (from tape.now at)) }
+{
+    if sees(Symbol::Set, tape, at) {
+        let (_, next) = expect(Symbol::Set, tape, at)?;
+        let (value, next) = expr(alloc, 1, tape, next)?;
+        Ok((Some(value), next))
+    } else {
+        Ok((None, at))
+    }
+}
+
+/// The declaration of a local.
+#[tactic(auto, unfolding(crate::specs::Statements::declare))]
+pub fn declare(alloc: Global, tape: &Tape, at: usize) -> Result<(Statement, usize), Stop>
+    ensures { Gives (λ x. (statement_of x.0, from tape.now x.1)) result (spec.declare (from tape.now at)) }
+{
+    let (of, next) = type_ref(alloc, tape, at)?;
+    let (name, next) = expect(Symbol::Name, tape, next)?;
+    let (value, next) = start(alloc, tape, next)?;
+    let word = word(alloc, tape, name)?;
+    Ok((Statement::Declare { of, word, value }, next))
+}
+
+/// What is done to a place.
+#[tactic(auto, unfolding(crate::specs::Statements::assign))]
+fn assign(alloc: Global, left: Left, tape: &Tape, at: usize) -> Result<(Statement, usize), Stop>
+    ensures { Gives (λ x. (statement_of x.0, from tape.now x.1)) result (spec.assign (left_of left) (from tape.now at)) }
+{
+    let Some(sign) = mark_at(tape, at) else {
+        return Err(Stop::Left(0));
+    };
+    match assigning_of(sign.symbol) {
+        Assigning::Assigns(op) => {
+            let (value, next) = expr(alloc, 1, tape, at + 1)?;
+            Ok((Statement::Assign { left, op, value }, next))
+        }
+        Assigning::Counts(up) => Ok((Statement::Count { left, up }, at + 1)),
+        Assigning::Nothing => Err(Stop::Left(count_from(tape, at))),
+    }
+}
+
+/// A call, or what is done to a place, behind its path.
+#[tactic(auto, unfolding(crate::specs::Statements::after_names))]
+fn after_names(alloc: Global, path: Path, tape: &Tape, at: usize) -> Result<(Statement, usize), Stop>
+    ensures { Gives (λ x. (statement_of x.0, from tape.now x.1)) result (spec.after_names (path_of path) (from tape.now at)) }
+{
+    if sees(Symbol::OpenParen, tape, at) {
+        let (_, next) = expect(Symbol::OpenParen, tape, at)?;
+        let (args, next) = args(alloc, tape, next)?;
+        let call = Call { path, args };
+        Ok((Statement::Call { call }, next))
+    } else {
+        let (index, next) = index_in(alloc, tape, at)?;
+        assign(alloc, Left { path, index }, tape, next)
+    }
+}
+
+/// A place behind its `++` or `--`.
+#[tactic(auto, unfolding(crate::specs::Statements::counted))]
+fn counted(alloc: Global, sign: Symbol, up: bool, tape: &Tape, at: usize) -> Result<(Statement, usize), Stop>
+    ensures { Gives (λ x. (statement_of x.0, from tape.now x.1)) result (spec.counted sign up (from tape.now at)) }
+{
+    let (_, next) = expect(sign, tape, at)?;
+    let (left, next) = left_side(alloc, tape, next)?;
+    Ok((Statement::Count { left, up }, next))
+}
+
+/// An assignment, a count or a call.
+#[tactic(auto, unfolding(crate::specs::Statements::simple))]
+pub fn simple(alloc: Global, tape: &Tape, at: usize) -> Result<(Statement, usize), Stop>
+    ensures { Gives (λ x. (statement_of x.0, from tape.now x.1)) result (spec.simple (from tape.now at)) }
+{
+    if sees(Symbol::PlusPlus, tape, at) {
+        counted(alloc, Symbol::PlusPlus, true, tape, at)
+    } else if sees(Symbol::MinusMinus, tape, at) {
+        counted(alloc, Symbol::MinusMinus, false, tape, at)
+    } else {
+        let (path, next) = path(alloc, tape, at)?;
+        after_names(alloc, path, tape, next)
+    }
+}

@@ -1,0 +1,95 @@
+//! Taking one token.
+ghost use Rattle.std.specs.Prelude.{◌≡◌, ◌∷◌, [], ◌+◌, ◌<◌, ◌≤◌, ◌^◌, length, IfOk, IfSome, IfNone};
+ghost use Rattle.ulam_tree.specs.RawViews.{word_of};
+ghost use Rattle.ulam_parse.specs.Reading as spec;
+ghost use Rattle.ulam_parse.specs.Tokens.{value_of, unsigned_of};
+ghost use Rattle.ulam_parse.specs.Marks.{text_at, tok_at, word_at, IsMark};
+ghost use Rattle.ulam_parse.specs.Views.{Gives, from};
+ghost use Rattle.ulam_parse.specs.declared.symbol.Symbol.TheVariants.{Number};
+
+use crate::halt::Stop;
+use crate::mark::Mark;
+use crate::symbol::Symbol;
+use crate::tape::Tape;
+use feast_base::{Name, NoMemory};
+use std::alloc::Global;
+use ulam_tree::Word;
+
+/// Whether two symbols are the same.
+#[tactic(auto, unfolding(crate::specs::Reading::same))]
+pub fn same(a: Symbol, b: Symbol) -> bool
+    ensures { result ≡ spec.same a b }
+{
+    a == b
+}
+
+/// How many tokens there are from a place on.
+pub fn count_from(tape: &Tape, at: usize) -> usize
+    ensures count { result ≡ length (from tape.now at) }
+    ensures small { result < 2 ^ 63 }
+{
+    tape.marks.len().saturating_sub(at)
+}
+
+/// The token at a place.
+pub fn mark_at(tape: &Tape, at: usize) -> Option<Mark>
+    ensures some { IfSome result (λ m. from tape.now at ≡ tok_at tape.now.bytes.now m ∷ from tape.now (at + 1)) }
+    ensures sound { IfSome result (λ m. IsMark tape.now.bytes.now m) }
+    ensures small { IfSome result (λ m. at + 1 < 2 ^ 63) }
+    ensures none { IfNone result (from tape.now at ≡ []) }
+{
+    if at < tape.marks.len() {
+        Some(tape.marks[at])
+    } else {
+        None
+    }
+}
+
+/// Whether the token at a place is of this symbol.
+pub fn sees(symbol: Symbol, tape: &Tape, at: usize) -> bool
+    ensures { result ≡ spec.sees symbol (from tape.now at) }
+{
+    match mark_at(tape, at) {
+        Some(first) => same(first.symbol, symbol),
+        None => false,
+    }
+}
+
+/// Whether the token behind that at a place is of this symbol.
+pub fn sees_second(symbol: Symbol, tape: &Tape, at: usize) -> bool
+    ensures { result ≡ spec.sees_second symbol (from tape.now at) }
+{
+    match mark_at(tape, at) {
+        Some(_) => sees(symbol, tape, at + 1),
+        None => false,
+    }
+}
+
+/// A token of this symbol.
+pub fn expect(symbol: Symbol, tape: &Tape, at: usize) -> Result<(Mark, usize), Stop>
+    ensures gives { Gives (λ x. (word_at tape.now.bytes.now x.0, from tape.now x.1)) result (spec.expect symbol (from tape.now at)) }
+    ensures symbol { IfOk result (λ x. x.0.symbol ≡ symbol) }
+    ensures sound { IfOk result (λ x. IsMark tape.now.bytes.now x.0) }
+{
+    match mark_at(tape, at) {
+        Some(first) => {
+            if same(first.symbol, symbol) {
+                Ok((first, at + 1))
+            } else {
+                Err(Stop::Left(count_from(tape, at)))
+            }
+        }
+        None => Err(Stop::Left(0)),
+    }
+}
+
+/// The word that a token is.
+pub fn word(alloc: Global, tape: &Tape, mark: Mark) -> Result<Word, NoMemory>
+    requires { IsMark tape.now.bytes.now mark }
+    ensures { IfOk result (λ w. word_of w ≡ word_at tape.now.bytes.now mark) }
+{
+    Ok(Word {
+        name: Name::new(alloc, &tape.bytes[mark.first..mark.end])?,
+        place: mark.place,
+    })
+}

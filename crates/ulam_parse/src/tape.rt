@@ -1,0 +1,13 @@
+//! A text with its tokens.
+ghost use Rattle.std.specs.List.{All};
+ghost use Rattle.ulam_parse.specs.Marks.{IsMark};
+
+use crate::mark::Mark;
+
+/// A text with its tokens. A place on it is the index of a token, or their number.
+#[derive(Clone, Copy)]
+pub struct Tape<'t> {
+    pub bytes: &'t [u8],
+    pub marks: &'t [Mark],
+    ghost sound: { All (λ m. IsMark bytes.now m) marks.now },
+}
