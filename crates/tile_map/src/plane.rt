@@ -1,7 +1,7 @@
 //! The plane: its tiles, which of them are on, and what a tile owns and holds.
 
-ghost use Rattle.std.specs.Prelude.{◌≡◌, ◌*◌, ◌<◌, ◌≤◌, IsTrue};
-ghost use Rattle.tile_map.specs.Plane.{IsMap, plane_of, site, tiles_of, is_on, is_live, owner_of, is_owned, is_held, site_in};
+ghost use Rattle.std.specs.Prelude.{◌≡◌, ◌+◌, ◌*◌, ◌<◌, ◌≤◌, IsTrue};
+ghost use Rattle.tile_map.specs.Plane.{MapValue, IsMap, plane_of, site, tiles_of, is_on, is_live, owner_of, is_owned, is_held, site_in};
 ghost use Rattle.tile_map.specs.Neighbours.{are_joined};
 ghost use Rattle.tile_map.specs.Spans.{left_of, right_of, top_of, bottom_of};
 ghost use Rattle.tile_map.specs.Edges.{is_held_at, window_site, reaches};
