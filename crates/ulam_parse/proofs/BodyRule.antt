@@ -120,9 +120,9 @@ body_turns k S f zero l us h = absurd (omega (arith, h))
 body_turns k S f (suc t) l us h =
     let rest : Rule t Body Free Free = record { rel = IsBody; filled = body_filled; read = r.body S t; law = body_turns k S f t (omega (arith, l)) } in
     (choice (suc t) s.CloseBrace
-      (map (suc t) (λ a. no_more) (token (suc t) s.CloseBrace refl) (λ a end h. tt) (λ a end h. tt))
-      (further t (statement_part k (suc t) S f l) (λ x. map t (then_so x) rest (λ a end h. tt) (λ a end h. tt)) (λ x b vs end q w e. body_else q.0 vs end q.2) (λ x q. empty_statement x [] [] refl q)) IsBody
-      (λ b vs end q. rw q.1 (q.0, q.2)) body_from (λ b vs end q. rw q.3.1 (q.1, q.2, q.3.2)) body_other).law us h
+    (map (suc t) (λ a. no_more) (token (suc t) s.CloseBrace refl) (λ a end h. tt) (λ a end h. tt))
+    (further t (statement_part k (suc t) S f l) (λ x. map t (then_so x) rest (λ a end h. tt) (λ a end h. tt)) (λ x b vs end q w e. body_else q.0 vs end q.2) (λ x q. empty_statement x [] [] refl q)) IsBody
+    (λ b vs end q. rw q.1 (q.0, q.2)) body_from (λ b vs end q. rw q.3.1 (q.1, q.2, q.3.2)) body_other).law us h
 
 block_law : (k : ℕ) (S : Reader Statement) → StatementLaw k S → (us : List Tok) → length us < k → Tells (Map block IsBody) Shut Shut us (r.block_rest S us)
 unfolding r.block_rest
@@ -210,8 +210,11 @@ tail_into t.For g j w p e b vs end h =
     let f = k.3 in
     let m = f.3.3 in
     let n = m.3.3 in
-    rw (h.2.3.1, n.3.1) (h.0, (record { name = w; place = p }, word_as j s.For w p vs h.0 (for_only j e) h.1),
-      (k.1, (k.0, k.2), (f.1, f.2, (f.3.1, (f.3.0, f.3.2), (m.1, m.2, (m.3.1, (m.3.0, m.3.2), (n.1, n.2, (h.2.1, (n.3.0, n.3.2), h.2.3.2))))))))
+    rw (h.2.3.1, n.3.1) (
+      h.0,
+      (record { name = w; place = p }, word_as j s.For w p vs h.0 (for_only j e) h.1),
+      (k.1, (k.0, k.2), (f.1, f.2, (f.3.1, (f.3.0, f.3.2), (m.1, m.2, (m.3.1, (m.3.0, m.3.2), (n.1, n.2, (h.2.1, (n.3.0, n.3.2), h.2.3.2))))))),
+    )
 tail_into t.Return g j w p e b vs end h = rw h.2.3.1 (h.0, (w, word_as j s.Return w p vs h.0 (return_only j e) h.1), (h.2.1, h.2.2, (h.2.3.0, h.2.3.2)))
 tail_into t.Break g j w p e b vs end h = rw h.2.1 (h.0, (w, word_as j s.Break w p vs h.0 (break_only j e) h.1), (h.2.0, h.2.2))
 tail_into t.Continue g j w p e b vs end h = rw h.2.1 (h.0, (w, word_as j s.Continue w p vs h.0 (continue_only j e) h.1), (h.2.0, h.2.2))
@@ -230,10 +233,16 @@ tail_back t.For g j w p (for_all i c u x) vs end f e h =
     let k = h.2.2 in
     let m = k.2 in
     let n = m.2.2 in
-    let o = n.2 in
-    (h.0, behind_first vs h.0 (tok j w p) _ h.1.1 e,
-      (record { first = i; cond = c; step = u }, o.2.0,
-        (h.2.1.0, h.2.0, h.2.1.1, (i, k.0, k.1, (m.1.0, m.0, m.1.1, (c, m.2.0, m.2.1, (n.1.0, n.0, n.1.1, (u, o.0, o.1, (o.2.1.0, refl, o.2.1.1))))))), (x, refl, o.2.2)))
+    let o = n.2 in (
+      h.0,
+      behind_first vs h.0 (tok j w p) _ h.1.1 e,
+      (
+        record { first = i; cond = c; step = u },
+        o.2.0,
+        (h.2.1.0, h.2.0, h.2.1.1, (i, k.0, k.1, (m.1.0, m.0, m.1.1, (c, m.2.0, m.2.1, (n.1.0, n.0, n.1.1, (u, o.0, o.1, (o.2.1.0, refl, o.2.1.1))))))),
+        (x, refl, o.2.2),
+      ),
+    )
 tail_back t.Return g j w p (returns q c) vs end f e h =
     (h.0, behind_first vs h.0 (tok j w p) _ h.1.1 e, (c, h.2.0, h.2.1, (h.2.2.0, ap (λ x. returns (place_in x) c) (same_first vs h.0 (tok j w p) _ h.1.1 e), h.2.2.1)))
 tail_back t.Break g j w p (breaks q) vs end f e h =
@@ -254,7 +263,7 @@ form_at k w p v e b vs end f h =
 keyed_law : (v : Starting) → Keyed v → (v ≡ t.Nothing → ⊥) → (j : Symbol) (w : Text) (p : Place) (ts : List Tok) (x : Read Statement) → starting_of j ≡ v → Tells (Tail v p) Shut Shut ts x → Tells IsStatement Shut Shut (tok j w p ∷ ts) x
 keyed_law v g n j w p ts x e h =
     tells_as (Behind (tok j w p) (Tail v p)) IsStatement Shut Shut Shut Shut (tok j w p ∷ ts) x (tells_behind (Tail v p) Shut Shut j w p ts x (starts_end j v e n) h)
-      (tail_into v g j w p e) (λ b vs end f q u. (tail_back v g j w p b vs end (form_at j w p v e b vs end f q) f q, u)) (λ y rest q. q)
+    (tail_into v g j w p e) (λ b vs end f q u. (tail_back v g j w p b vs end (form_at j w p v e b vs end f q) f q, u)) (λ y rest q. q)
 
 -- a statement and its `;`
 abbrev Declared : Statement → Span
@@ -304,8 +313,8 @@ statement_then : (P : Statement → Span) (T : Statement → List Tok → Type 0
     ((a : Statement) (end : List Tok) → sees s.Semi end ≡ true → T a end) → Tells P T Free us x → Tells (Then P Semi) Shut Shut us (x >>= λ (y : Statement × List Tok). r.ended y.0 y.1)
 statement_then P T shut us x closes h =
     then_law P T Free Semi Shut Shut us x (λ (y : Statement × List Tok). r.ended y.0 y.1) (λ c b vs end q w. closes c vs (seen_word s.Semi vs end q.0 q.2))
-      (λ c. record { tree = c; fill = λ other. tok s.Semi [] some_place ∷ other; fits = λ other. (some_word, refl, refl) }) h
-      (λ a mid here l g. ended_law (length mid + 1) a (shut a us mid here) mid (omega arith))
+    (λ c. record { tree = c; fill = λ other. tok s.Semi [] some_place ∷ other; fits = λ other. (some_word, refl, refl) }) h
+    (λ a mid here l g. ended_law (length mid + 1) a (shut a us mid here) mid (omega arith))
 
 statement_by_law : (k : ℕ) (S : Reader Statement) → StatementLaw k S → (v : Starting) (j : Symbol) (w : Text) (p : Place) (ts : List Tok) → starting_of j ≡ v → length (tok j w p ∷ ts) < suc k →
     Tells IsStatement Shut Shut (tok j w p ∷ ts) (r.statement_by S v j w p ts)
@@ -321,11 +330,11 @@ statement_by_law k S f t.Continue j w p ts e l = keyed_law t.Continue tt (λ q. 
 statement_by_law k S f t.Declare j w p ts e l =
     let us = tok j w p ∷ ts in
     tells_as Declared IsStatement Shut Shut Shut Shut us _ (statement_then IsDeclare Closed declare_shut us _ (λ a end q. ended_closes end q) ((declare_rule (length us + 1)).law us (omega arith))) declared_into
-      (λ b vs end g q u. (declared_back b vs end (form_at j w p t.Declare e b vs end g q) q, u)) (λ y rest q. q)
+    (λ b vs end g q u. (declared_back b vs end (form_at j w p t.Declare e b vs end g q) q, u)) (λ y rest q. q)
 statement_by_law k S f t.Simple j w p ts e l =
     let us = tok j w p ∷ ts in
     tells_as Simples IsStatement Shut Shut Shut Shut us _ (statement_then IsSimple Closed simple_shut us _ (λ a end q. ended_closes end q) ((simple_rule (length us + 1)).law us (omega arith))) simples_into
-      (λ b vs end g q u. (simples_back b vs end (form_at j w p t.Simple e b vs end g q) q, u)) (λ y rest q. q)
+    (λ b vs end g q u. (simples_back b vs end (form_at j w p t.Simple e b vs end g q) q, u)) (λ y rest q. q)
 statement_by_law k S f t.Nothing j w p ts e l = record {
   front = [];
   left = tok j w p ∷ ts;

@@ -58,15 +58,15 @@ paren_closes us rest w h = ap closes h
 
 pub closed_reach : (us : List Tok) → closes us ≡ true → reach us < 1
 closed_reach us h = elim (closing us h) as (λ x. reach us < 1) [
-    inl e ↦ let x = seen_at s.Semi us e in reach_none s.Semi x.0 x.1 us x.2 x.3 refl
+  | inl e ↦ let x = seen_at s.Semi us e in reach_none s.Semi x.0 x.1 us x.2 x.3 refl
   | inr e ↦ let x = seen_at s.CloseParen us e in reach_none s.CloseParen x.0 x.1 us x.2 x.3 refl
-  ]
+]
 
 pub closed_not : (k : Symbol) → same s.Semi k ≡ false → same s.CloseParen k ≡ false → (us : List Tok) → closes us ≡ true → sees k us ≡ false
 closed_not k f g us h = elim (closing us h) as (λ x. sees k us ≡ false) [
-    inl e ↦ let x = seen_at s.Semi us e in ap (sees k) x.3 ∙ f
+  | inl e ↦ let x = seen_at s.Semi us e in ap (sees k) x.3 ∙ f
   | inr e ↦ let x = seen_at s.CloseParen us e in ap (sees k) x.3 ∙ g
-  ]
+]
 
 abbrev pub expr_rule : (n l : ℕ) → l ≤ 12 → Rule n Expr (Under l) Free
 expr_rule n l b = record { rel = IsExpr l; filled = expr_filled l; read = expr l; law = λ us h. expr_law l b us }
@@ -174,10 +174,10 @@ tests_law : (n : ℕ) (j : Symbol) (v : Text) (q : Place) (ts : List Tok) (b : B
 tests_law n j v q ts true d l c = tells_two Tests IsCond (Under 1) Closed Free (tok j v q) ts _ ((test_part n).law (tok j v q ∷ ts) l)
     (λ a h. empty_expr 1 h.0 [] [] refl h.2)
     (λ g.
-      let e = same_is j s.Name d in
-      let w : Word = record { name = v; place = q } in
-      let x : Path = record { own = None; words = w ∷ [] } in
-      g (tok j v q ∷ []) (test (reads x)) [] refl (reads x, refl, ([], ap (λ y. tok y v q ∷ []) e, refl)) (omega arith))
+    let e = same_is j s.Name d in
+    let w : Word = record { name = v; place = q } in
+    let x : Path = record { own = None; words = w ∷ [] } in
+    g (tok j v q ∷ []) (test (reads x)) [] refl (reads x, refl, ([], ap (λ y. tok y v q ∷ []) e, refl)) (omega arith))
     tests_into (λ b vs end e g h w. tests_back b vs end (as_two (tok j v q ∷ ts) vs g e ∙ c) h w)
 tests_law n j v q ts false d l c = tells_as Tests IsCond (Under 1) Closed Free Free (tok j v q ∷ ts) _ ((test_part n).law (tok j v q ∷ ts) l) tests_into
     (λ b vs end e h w. tests_back b vs end (as_unseen vs (sees_first s.Name vs (tok j v q ∷ ts) e ∙ d)) h w) (λ a rest g. g)
@@ -186,15 +186,15 @@ pub cond_law : (n : ℕ) (us : List Tok) → length us < n → Tells IsCond Clos
 unfolding r.cond
 cond_law n [] l = tells_as Tests IsCond (Under 1) Closed Free Free [] _ ((test_part n).law [] l) tests_into (λ b vs end e h w. tests_back b vs end (as_unseen vs (sees_first s.Name vs [] e)) h w) (λ a rest g. g)
 cond_law n (tok j v q ∷ ts) l = tells_if IsCond Closed Free (tok j v q ∷ ts) (sees_as (tok j v q ∷ ts)) _ _
-  (λ c. tells_two Sights IsCond (Under 1) Closed Free (tok j v q) ts _ ((sight_part n).law (tok j v q ∷ ts) l)
+    (λ c. tells_two Sights IsCond (Under 1) Closed Free (tok j v q) ts _ ((sight_part n).law (tok j v q ∷ ts) l)
     (λ a h. none_some [] _ _ refl h.2)
     (λ g.
-      let e = same_is j s.Name (name_seen (tok j v q ∷ ts) c) in
-      let w : Word = record { name = v; place = q } in
-      g (tok j v q ∷ tok s.As [] some_place ∷ tok s.TypeName [] some_place ∷ []) (seen w some_word) [] refl
-        (w, _, ap (λ y. tok y v q ∷ tok s.As [] some_place ∷ tok s.TypeName [] some_place ∷ []) e, (some_word, _, refl, (some_word, refl, refl))) (omega arith))
+    let e = same_is j s.Name (name_seen (tok j v q ∷ ts) c) in
+    let w : Word = record { name = v; place = q } in
+    g (tok j v q ∷ tok s.As [] some_place ∷ tok s.TypeName [] some_place ∷ []) (seen w some_word) [] refl
+    (w, _, ap (λ y. tok y v q ∷ tok s.As [] some_place ∷ tok s.TypeName [] some_place ∷ []) e, (some_word, _, refl, (some_word, refl, refl))) (omega arith))
     sights_into (λ b vs end e g h w. sights_back b vs end (as_two (tok j v q ∷ ts) vs g e ∙ c) h w))
-  (λ c. tests_law n j v q ts (same j s.Name) refl l c)
+    (λ c. tests_law n j v q ts (same j s.Name) refl l c)
 
 abbrev pub cond_rule : (n : ℕ) → Rule n Cond Closed Free
 cond_rule n = record { rel = IsCond; filled = record { tree = test (expr_filled 1).tree; fill = (expr_filled 1).fill; fits = (expr_filled 1).fits }; read = r.cond; law = cond_law n }

@@ -37,9 +37,9 @@ only_empty n (t ∷ ts) back h q = absurd cc
 
 shallow_cons : (n : Nest) (t : Tok) (ts : List Tok) → depth n ≤ 64 → ShallowFrom (nest_step n (symbol_at t)) ts → ShallowFrom n (t ∷ ts)
 shallow_cons n t ts h f front back q = elim (front_cons t ts front back q) as (λ z. depth (after n front) ≤ 64) [
-    inl e ↦ let F : List Tok → Type 0 = λ v. depth (after n v) ≤ 64 in subst F (sym e) h
+  | inl e ↦ let F : List Tok → Type 0 = λ v. depth (after n v) ≤ 64 in subst F (sym e) h
   | inr e ↦ let F : List Tok → Type 0 = λ v. depth (after n v) ≤ 64 in subst F (sym e.1) (f e.0 back e.2)
-  ]
+]
 
 same_start : (k i : ℕ) → k ≡ i → i ≡ k + 0
 same_start k i e = omega (arith, e)
@@ -54,11 +54,11 @@ shallow_none k n (t ∷ ts) h e front back q =
     let m = nest_step n (symbol_at t) in
     let d = depth m in
     elim (cases_lt 64 d) as (λ z. depth (after n front) ≤ 64) [
-        inl l ↦ let y : Some k ≡ None = sym (ap (λ b. cond b (Some k) (deep_from (k + 1) m ts)) (lt-ltb 64 d l)) ∙ e in absurd cc
+      | inl l ↦ let y : Some k ≡ None = sym (ap (λ b. cond b (Some k) (deep_from (k + 1) m ts)) (lt-ltb 64 d l)) ∙ e in absurd cc
       | inr l ↦
           let z : deep_from (k + 1) m ts ≡ None = sym (ap (λ b. cond b (Some k) (deep_from (k + 1) m ts)) (le-ltb 64 d l)) ∙ e in
           shallow_cons n t ts h (shallow_none (k + 1) m ts l z) front back q
-      ]
+    ]
 
 -- where a first one is found: the tokens before it, and it
 pub record DeepAt (k : ℕ) (n : Nest) (ts : List Tok) (at_place : ℕ) : Type 0 where
@@ -76,7 +76,7 @@ deep_some k n (t ∷ ts) i h e =
     let m = nest_step n (symbol_at t) in
     let d = depth m in
     elim (cases_lt 64 d) as (λ z. DeepAt k n (t ∷ ts) i) [
-        inl l ↦
+      | inl l ↦
           let y : Some k ≡ Some i = sym (ap (λ b. cond b (Some k) (deep_from (k + 1) m ts)) (lt-ltb 64 d l)) ∙ e in
           record { front = []; at = t; back = ts; split = refl; long = same_start k i (some_is k i y); shallow = λ front back q. only_empty n front back h q; deep = l }
       | inr l ↦
@@ -91,7 +91,7 @@ deep_some k n (t ∷ ts) i h e =
             shallow = shallow_cons n t r.front h r.shallow;
             deep = r.deep;
           }
-      ]
+    ]
 
 -- none is found: no prefix nests too deep
 pub shallow_is : (ts : List Tok) → deep_from 0 outside ts ≡ None → IsShallow ts

@@ -41,7 +41,7 @@ Constants = Then (TakesWord s.Constant) (λ a. Then IsType (λ ty. Then (TakesWo
 abbrev pub constant_made : (n : ℕ) → Rule n Member Free Free
 constant_made n =
     then n (token n s.Constant refl) (λ a. then n (type_rule n) (λ ty. then n (token n s.Name refl) (λ w. then n (token n s.Set refl) (λ b. then n (const_rule n) (λ v. map n (λ c. constant ty w v) (token n s.Semi refl) (λ a end h. tt) (λ a end h. tt)) (λ c b vs end h w. tt)) (λ c b vs end h w. tt)) (λ c b vs end h w. tt))
-      (λ c b vs end h w. name_open vs h.1 h.0 h.2)) (λ c b vs end h w. tt)
+    (λ c b vs end h w. name_open vs h.1 h.0 h.2)) (λ c b vs end h w. tt)
 
 pub constant_law : (n : ℕ) (us : List Tok) → length us < n → Tells Constants Free Free us (r.constant_in us)
 unfolding r.constant_in
@@ -122,8 +122,8 @@ field_from ty w _ vs end c h u = absurd h
 
 abbrev pub rest_part : (n : ℕ) (ty : TypeRef) (w : Word) → Rule n Member Free Free
 rest_part n ty w = choice n s.OpenParen (function_rule n ty w) (field_rule n ty w) (IsNamed ty w)
-  (λ b vs end h. rw h.3.3.3.1 (refl, refl, (h.1, (h.0, h.2), (h.3.1, h.3.2, (h.3.3.1, (h.3.3.0, h.3.3.2), h.3.3.3.2))))) (function_from ty w)
-  (λ b vs end h. rw h.3.1 (refl, refl, (h.1, h.2, (h.3.0, h.3.2)))) (field_from ty w)
+    (λ b vs end h. rw h.3.3.3.1 (refl, refl, (h.1, (h.0, h.2), (h.3.1, h.3.2, (h.3.3.1, (h.3.3.0, h.3.3.2), h.3.3.3.2))))) (function_from ty w)
+    (λ b vs end h. rw h.3.1 (refl, refl, (h.1, h.2, (h.3.0, h.3.2)))) (field_from ty w)
 
 abbrev pub Named : Member → Span
 Named = Then IsType (λ ty. Then (TakesWord s.Name) (λ w. IsNamed ty w))
@@ -191,11 +191,14 @@ pub member_law : (n : ℕ) (us : List Tok) → length us < n → Tells IsMember 
 unfolding r.member
 member_law n us h =
     (choice n s.Typedef (typedef_rule n) (choice n s.Constant (constant_rule n) (named_rule n) (Apart s.Typedef IsMember) constant_into constant_from named_into named_from)
-      IsMember typedef_into typedef_from (λ b vs end q. q.0) (λ b vs end c q w. ((q, c), w))).law us h
+    IsMember typedef_into typedef_from (λ b vs end q. q.0) (λ b vs end c q w. ((q, c), w))).law us h
 
 abbrev pub member_filled : Filled IsMember
-member_filled = record { tree = field (record { word = some_word; width = None }) some_word None; fill = λ other. tok s.TypeName [] some_place ∷ tok s.Name [] some_place ∷ tok s.Semi [] some_place ∷ other;
-  fits = λ other. (_, (_, refl, refl), (_, refl, (_, refl, (some_word, refl)))) }
+member_filled = record {
+  tree = field (record { word = some_word; width = None }) some_word None;
+  fill = λ other. tok s.TypeName [] some_place ∷ tok s.Name [] some_place ∷ tok s.Semi [] some_place ∷ other;
+  fits = λ other. (_, (_, refl, refl), (_, refl, (_, refl, (some_word, refl))));
+}
 
 abbrev pub member_rule : (n : ℕ) → Rule n Member Free Free
 member_rule n = record { rel = IsMember; filled = member_filled; read = r.member; law = member_law n }
@@ -231,8 +234,8 @@ members_turns zero us h = absurd (omega (arith, h))
 members_turns (suc t) us h =
     let rest : Rule t (List Member) Free Free = record { rel = AreMembers; filled = members_filled; read = r.members t; law = members_turns t } in
     (choice (suc t) s.CloseBrace (map (suc t) (λ a. []) (token (suc t) s.CloseBrace refl) (λ a end h. tt) (λ a end h. tt))
-      (further t (member_rule (suc t)) (λ x. map t (λ xs. x ∷ xs) rest (λ a end h. tt) (λ a end h. tt)) (λ x b vs end q w. tt) empty_member) AreMembers
-      (λ b vs end q. rw q.1 (q.0, q.2)) members_from (λ b vs end q. rw q.3.1 (q.1, q.2, q.3.2)) members_other).law us h
+    (further t (member_rule (suc t)) (λ x. map t (λ xs. x ∷ xs) rest (λ a end h. tt) (λ a end h. tt)) (λ x b vs end q w. tt) empty_member) AreMembers
+    (λ b vs end q. rw q.1 (q.0, q.2)) members_from (λ b vs end q. rw q.3.1 (q.1, q.2, q.3.2)) members_other).law us h
 
 abbrev pub members_rule : (n : ℕ) → Rule n (List Member) Free Free
 members_rule n = record { rel = AreMembers; filled = members_filled; read = λ us. r.members (length us + 1) us; law = λ us h. members_turns (length us + 1) us (omega arith) }
@@ -286,8 +289,16 @@ class_item_law n us h =
     (map n class (choice n s.Quark (class_rule n s.Quark true refl) (class_rule n s.Element false refl) IsClass (class_into s.Quark true refl) quark_from (class_into s.Element false refl) element_from) (λ a end h. tt) (λ a end h. tt)).law us h
 
 abbrev pub class_item_rule : (n : ℕ) → Rule n Item Free Free
-class_item_rule n = record { rel = ClassItems; filled = record { tree = class (record { quark = false; word = some_word; members = [] }); fill = λ other. tok s.Element [] some_place ∷ tok s.TypeName [] some_place ∷ tok s.OpenBrace [] some_place ∷ tok s.CloseBrace [] some_place ∷ other;
-  fits = λ other. (_, refl, (_, (some_word, refl), (_, refl, (_, (some_word, refl), (some_word, refl))))) }; read = r.class_item; law = class_item_law n }
+class_item_rule n = record {
+  rel = ClassItems;
+  filled = record {
+    tree = class (record { quark = false; word = some_word; members = [] });
+    fill = λ other. tok s.Element [] some_place ∷ tok s.TypeName [] some_place ∷ tok s.OpenBrace [] some_place ∷ tok s.CloseBrace [] some_place ∷ other;
+    fits = λ other. (_, refl, (_, (some_word, refl), (_, refl, (_, (some_word, refl), (some_word, refl)))));
+  };
+  read = r.class_item;
+  law = class_item_law n;
+}
 
 -- items
 
@@ -358,11 +369,15 @@ pub item_law : (n : ℕ) (us : List Tok) → length us < n → Tells IsItem Free
 unfolding r.item
 item_law n us h =
     (choice n s.Ulam (version_rule n) (choice n s.Use (use_rule n) (class_item_rule n) (Apart s.Ulam IsItem) use_into use_from item_class_into class_from)
-      IsItem version_into version_from (λ b vs end q. q.0) (λ b vs end c q w. ((q, c), w))).law us h
+    IsItem version_into version_from (λ b vs end q. q.0) (λ b vs end c q w. ((q, c), w))).law us h
 
 abbrev pub item_rule : (n : ℕ) → Rule n Item Free Free
-item_rule n = record { rel = IsItem; filled = record { tree = uses some_word; fill = λ other. tok s.Use [] some_place ∷ tok s.TypeName [] some_place ∷ tok s.Semi [] some_place ∷ other; fits = λ other. (_, (some_word, refl), (_, refl, (some_word, refl))) };
-  read = r.item; law = item_law n }
+item_rule n = record {
+  rel = IsItem;
+  filled = record { tree = uses some_word; fill = λ other. tok s.Use [] some_place ∷ tok s.TypeName [] some_place ∷ tok s.Semi [] some_place ∷ other; fits = λ other. (_, (some_word, refl), (_, refl, (some_word, refl))) };
+  read = r.item;
+  law = item_law n;
+}
 
 pub empty_item : (b : Item) → IsItem b [] [] → ⊥
 empty_item (ulam n) h = none_some [] _ _ refl h.1.1
@@ -396,7 +411,7 @@ items_turns zero us h = absurd (omega (arith, h))
 items_turns (suc t) us h =
     let rest : Rule t (List Item) AtEnd Free = record { rel = AreItems; filled = items_filled; read = r.items t; law = items_turns t } in
     (choice (suc t) s.End (here (suc t) []) (further t (item_rule (suc t)) (λ x. map t (λ xs. x ∷ xs) rest (λ a end h. h) (λ a end h. tt)) (λ x b vs end q w. tt) empty_item) AreItems
-      (λ b vs end q. rw q.0 q.1) items_from (λ b vs end q. rw q.3.1 (q.1, q.2, q.3.2)) items_other).law us h
+    (λ b vs end q. rw q.0 q.1) items_from (λ b vs end q. rw q.3.1 (q.1, q.2, q.3.2)) items_other).law us h
 
 -- what the reading of all items tells
 pub file_law : (us : List Tok) → Tells AreItems AtEnd Free us (r.whole_file us)

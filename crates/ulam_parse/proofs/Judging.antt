@@ -75,9 +75,9 @@ end_among (tok k v q ∷ ts) w p back = let e = end_among ts w p back in rw e (o
 
 last_end : (front init : List Tok) (w v : Text) (p q : Place) (back : List Tok) → front ++ (tok s.End w p ∷ back) ≡ init ++ (tok s.End v q ∷ []) → has_end init ≡ false → back ≡ []
 last_end front init w v p q back e n = elim (two_splits front init (tok s.End w p) (tok s.End v q) back [] e) as (λ z. back ≡ []) [
-    inl k ↦ k.2
+  | inl k ↦ k.2
   | inr k ↦ elim k as (λ z. back ≡ []) [
-      inl m ↦ let x : true ≡ false = sym (end_among front w p m.0) ∙ sym (ap has_end m.1) ∙ n in absurd cc
+    | inl m ↦ let x : true ≡ false = sym (end_among front w p m.0) ∙ sym (ap has_end m.1) ∙ n in absurd cc
     | inr m ↦
         let a = ap length e in
         let b = length-append front (tok s.End w p ∷ back) in
@@ -85,8 +85,8 @@ last_end front init w v p q back e n = elim (two_splits front init (tok s.End w 
         let d = ap length m.1 in
         let f = length-append init (tok s.End v q ∷ m.0) in
         absurd (omega (arith, a, b, c, d, f))
-    ]
   ]
+]
 
 front_empty : (a b : List Tok) → a ++ b ≡ [] → a ≡ []
 front_empty [] b e = refl
@@ -99,7 +99,7 @@ read_is ts us behind xs rest z e r =
     let x = seen_at s.End rest (rests_at_end us xs rest r) in
     let a : us ≡ h.front ++ (tok s.End x.0 x.1 ∷ x.2) = h.is ∙ ap (λ v. h.front ++ v) x.3 in
     let b : h.front ++ (tok s.End x.0 x.1 ∷ (x.2 ++ behind)) ≡ z.init ++ (tok s.End z.text z.place ∷ []) =
-      sym (append_assoc h.front (tok s.End x.0 x.1 ∷ x.2) behind) ∙ sym (ap (λ v. v ++ behind) a) ∙ sym e ∙ z.split in
+    sym (append_assoc h.front (tok s.End x.0 x.1 ∷ x.2) behind) ∙ sym (ap (λ v. v ++ behind) a) ∙ sym e ∙ z.split in
     let c : x.2 ≡ [] = front_empty x.2 behind (last_end h.front z.init x.0 z.text x.1 z.place (x.2 ++ behind) b z.no_end) in
     let F : List Tok → Type 0 = λ v. AreItems xs v rest in
     (rest, subst F (sym h.is) (h.again rest), (record { name = x.0; place = x.1 }, x.3 ∙ ap (λ v. tok s.End x.0 x.1 ∷ v) c))
@@ -153,12 +153,12 @@ too_long init front t at m back f e =
 -- the last token of some, and a split of them
 pub shallow_one : (init : List Tok) (t : Tok) → IsShallow init → ShallowBefore (init ++ (t ∷ []))
 shallow_one init t h front at back e = elim (two_splits init front t at [] back e) as (λ z. IsShallow front) [
-    inl k ↦ let F : List Tok → Type 0 = IsShallow in subst F k.0 h
+  | inl k ↦ let F : List Tok → Type 0 = IsShallow in subst F k.0 h
   | inr k ↦ elim k as (λ z. IsShallow front) [
-      inl m ↦ absurd (too_long init front t at m.0 back m.1 e)
+    | inl m ↦ absurd (too_long init front t at m.0 back m.1 e)
     | inr m ↦ let F : List Tok → Type 0 = IsShallow in shallow_front front (at ∷ m.0) (subst F m.1 h)
-    ]
   ]
+]
 
 dropped : (front left : List Tok) → drop (length front) (front ++ left) ≡ left
 dropped [] left = refl
@@ -184,10 +184,10 @@ syntax_is ts us behind n i t rest e r l d w =
       placed = refl;
       begins = (h.tree, h.fill end, (end, h.goes end, (record { name = []; place = some_place }, refl)));
       none = λ k.
-        let F : List Tok → Type 0 = λ v. AreItems k.0 v k.2.0 in
-        let g = subst F (append_assoc h.front (t ∷ []) k.1) k.2.1 in
-        let x : first (t ∷ k.1) ≡ first h.left = sym (ap first b) in
-        h.none (t ∷ k.1) k.0 k.2.0 x g (at_end k.2.0 _ _ [] k.2.2.1);
+          let F : List Tok → Type 0 = λ v. AreItems k.0 v k.2.0 in
+          let g = subst F (append_assoc h.front (t ∷ []) k.1) k.2.1 in
+          let x : first (t ∷ k.1) ≡ first h.left = sym (ap first b) in
+          h.none (t ∷ k.1) k.0 k.2.0 x g (at_end k.2.0 _ _ [] k.2.2.1);
       shallow = w h.front t rest c;
     }
 

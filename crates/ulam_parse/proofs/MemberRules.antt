@@ -30,7 +30,7 @@ param_back b vs end c h w = ((b.of, h.0, h.1, (b.word, refl, h.2)), tt)
 
 abbrev pub param_made : (n : ℕ) → Rule n Param Free Free
 param_made n = named n (then n (type_rule n) (λ ty. map n (λ w. record { of = ty; word = w }) (token n s.Name refl) (λ a end h. tt) (λ a end h. tt)) (λ c b vs end h w. name_open vs end h.0 h.2)) IsParam
-  (λ b vs end h. rw h.3.1 (h.1, h.2, h.3.2)) param_back
+    (λ b vs end h. rw h.3.1 (h.1, h.2, h.3.2)) param_back
 
 pub param_law : (n : ℕ) (us : List Tok) → length us < n → Tells IsParam Free Free us (r.param us)
 unfolding r.param
@@ -56,9 +56,9 @@ more_params_turns zero us h = absurd (omega (arith, h))
 more_params_turns (suc t) us h =
     let rest : Rule t (List Param) Free Free = record { rel = AreMoreParams; filled = more_params_filled; read = r.more_params t; law = more_params_turns t } in
     (choice (suc t) s.Comma
-      (after t s.Comma refl (λ a. then t (param_rule t) (λ x. map t (λ xs. x ∷ xs) rest (λ a end h. tt) (λ a end h. tt)) (λ c b vs end h w. tt)))
-      (map (suc t) (λ a. []) (token (suc t) s.CloseParen refl) (λ a end h. tt) (λ a end h. tt)) AreMoreParams
-      (λ b vs end h. rw h.3.3.1 (h.1, (h.0, h.2), (h.3.1, h.3.2, h.3.3.2))) more_params_from (λ b vs end h. rw h.1 (h.0, h.2)) more_params_other).law us h
+    (after t s.Comma refl (λ a. then t (param_rule t) (λ x. map t (λ xs. x ∷ xs) rest (λ a end h. tt) (λ a end h. tt)) (λ c b vs end h w. tt)))
+    (map (suc t) (λ a. []) (token (suc t) s.CloseParen refl) (λ a end h. tt) (λ a end h. tt)) AreMoreParams
+    (λ b vs end h. rw h.3.3.1 (h.1, (h.0, h.2), (h.3.1, h.3.2, h.3.3.2))) more_params_from (λ b vs end h. rw h.1 (h.0, h.2)) more_params_other).law us h
 
 abbrev pub more_params_rule : (n : ℕ) → Rule n (List Param) Free Free
 more_params_rule n = record { rel = AreMoreParams; filled = more_params_filled; read = λ us. r.more_params (length us + 1) us; law = λ us h. more_params_turns (length us + 1) us (omega arith) }
@@ -75,8 +75,8 @@ pub params_law : (n : ℕ) (us : List Tok) → length us < n → Tells AreParams
 unfolding r.params
 params_law n us h =
     (choice n s.CloseParen (map n (λ a. []) (token n s.CloseParen refl) (λ a end h. tt) (λ a end h. tt))
-      (then n (param_rule n) (λ x. map n (λ xs. x ∷ xs) (more_params_rule n) (λ a end h. tt) (λ a end h. tt)) (λ c b vs end h w. tt)) AreParams
-      (λ b vs end h. rw h.1 (h.0, h.2)) params_from (λ b vs end h. rw h.3.1 (h.1, h.2, h.3.2)) params_other).law us h
+    (then n (param_rule n) (λ x. map n (λ xs. x ∷ xs) (more_params_rule n) (λ a end h. tt) (λ a end h. tt)) (λ c b vs end h w. tt)) AreParams
+    (λ b vs end h. rw h.1 (h.0, h.2)) params_from (λ b vs end h. rw h.3.1 (h.1, h.2, h.3.2)) params_other).law us h
 
 abbrev pub params_rule : (n : ℕ) → Rule n (List Param) Free Free
 params_rule n = record { rel = AreParams; filled = record { tree = []; fill = λ other. tok s.CloseParen [] some_place ∷ other; fits = λ other. (some_word, refl) }; read = r.params; law = params_law n }
@@ -168,9 +168,9 @@ named_from (const_number false v u) vs end c h w = absurd (unseen s.Number _ _ v
 named_from (const_truth v) vs end c h w =
     let k = h.0.0.0.1 in
     elim (says_symbols k.0 v k.2) as (λ x. Map const_named (TakesWord s.Name) (const_truth v) vs end × Unit {0}) [
-        inl e ↦ absurd (unseen s.True _ _ vs end (k.1.1 ∙ ap (λ x. tok x k.1.0 h.0.0.0.0 ∷ end) e) h.1)
+      | inl e ↦ absurd (unseen s.True _ _ vs end (k.1.1 ∙ ap (λ x. tok x k.1.0 h.0.0.0.0 ∷ end) e) h.1)
       | inr e ↦ absurd (unseen s.False _ _ vs end (k.1.1 ∙ ap (λ x. tok x k.1.0 h.0.0.0.0 ∷ end) e) c)
-      ]
+    ]
 named_from (const_named x) vs end c h w = ((x, refl, h.0.0.0), tt)
 
 const_into : Into (Then (TakesWord s.Minus) (λ a. Numbers true)) IsConst
@@ -199,12 +199,12 @@ pub const_law : (n : ℕ) (us : List Tok) → length us < n → Tells IsConst Fr
 unfolding r.const_value
 const_law n us h =
     (choice n s.Minus (then n (token n s.Minus refl) (λ a. const_in_rule n true) (λ c b vs end h w. tt))
-      (choice n s.Number (const_in_rule n false)
-        (choice n s.True (truth_in_rule n s.True true refl)
-          (choice n s.False (truth_in_rule n s.False false refl) (map n const_named (token n s.Name refl) (λ a end h. tt) (λ a end h. tt)) Untrue false_into false_from named_into named_from)
-          Unnumbered true_into true_from (λ b vs end q. q.0) (λ b vs end c q w. ((q, c), w)))
-        (Apart s.Minus IsConst) number_into number_from (λ b vs end q. q.0) (λ b vs end c q w. ((q, c), w)))
-      IsConst const_into minus_from (λ b vs end q. q.0) (λ b vs end c q w. ((q, c), w))).law us h
+    (choice n s.Number (const_in_rule n false)
+    (choice n s.True (truth_in_rule n s.True true refl)
+    (choice n s.False (truth_in_rule n s.False false refl) (map n const_named (token n s.Name refl) (λ a end h. tt) (λ a end h. tt)) Untrue false_into false_from named_into named_from)
+    Unnumbered true_into true_from (λ b vs end q. q.0) (λ b vs end c q w. ((q, c), w)))
+    (Apart s.Minus IsConst) number_into number_from (λ b vs end q. q.0) (λ b vs end c q w. ((q, c), w)))
+    IsConst const_into minus_from (λ b vs end q. q.0) (λ b vs end c q w. ((q, c), w))).law us h
 
 abbrev pub const_rule : (n : ℕ) → Rule n Const Free Free
 const_rule n = record { rel = IsConst; filled = const_filled; read = r.const_value; law = const_law n }

@@ -94,8 +94,8 @@ pub done_law : (n : ℕ) (x : Path) (us : List Tok) → length us < n → Tells 
 unfolding r.after_names
 done_law n x us h =
     (choice n s.OpenParen (then n (token n s.OpenParen refl) (λ a. map n (does x) (args_rule n) (λ a end h. tt) (λ a end h. tt)) (λ c b vs end h w. tt))
-      (then n (index_rule n) (λ i. assign_rule n (record { path = x; index = i })) (λ i b vs end h w. assign_no s.OpenBracket refl (record { path = x; index = i }) b vs end h)) (IsDone x)
-      (λ b vs end h. rw h.3.1 (refl, (h.1, (h.0, h.2), h.3.2))) (done_from x) (does_to_into x) (done_other x)).law us h
+    (then n (index_rule n) (λ i. assign_rule n (record { path = x; index = i })) (λ i b vs end h w. assign_no s.OpenBracket refl (record { path = x; index = i }) b vs end h)) (IsDone x)
+    (λ b vs end h. rw h.3.1 (refl, (h.1, (h.0, h.2), h.3.2))) (done_from x) (does_to_into x) (done_other x)).law us h
 
 abbrev pub done_rule : (n : ℕ) (x : Path) → Rule n Statement Closed Free
 done_rule n x = record { rel = IsDone x; filled = done_filled x; read = r.after_names x; law = done_law n x }
@@ -172,9 +172,9 @@ names_back : (b : Statement) (vs end : List Tok) → sees s.PlusPlus vs ≡ fals
 names_back (assigns l op e) vs end f g h = (l.path, h.1.0, h.1.1, (refl, (h.0, h.1.2, h.2)))
 names_back (counts l v) vs end f g (inl h) = (l.path, h.1.0, h.1.1, (refl, (h.0, h.1.2, h.2)))
 names_back (counts l v) vs end f g (inr h) = elim (count_signs h.1.0 v h.1.2) as (λ x. DoneNames (counts l v) vs end) [
-    inl e ↦ absurd (unseen s.PlusPlus _ _ vs h.0 (h.1.1.1 ∙ ap (λ x. tok x h.1.1.0.name h.1.1.0.place ∷ h.0) e) f)
+  | inl e ↦ absurd (unseen s.PlusPlus _ _ vs h.0 (h.1.1.1 ∙ ap (λ x. tok x h.1.1.0.name h.1.1.0.place ∷ h.0) e) f)
   | inr e ↦ absurd (unseen s.MinusMinus _ _ vs h.0 (h.1.1.1 ∙ ap (λ x. tok x h.1.1.0.name h.1.1.0.place ∷ h.0) e) g)
-  ]
+]
 names_back (does y es) vs end f g h = (y, h.0, h.1, (refl, h.2))
 names_back _ vs end f g h = absurd h
 
@@ -193,14 +193,17 @@ pub simple_law : (n : ℕ) (us : List Tok) → length us < n → Tells IsSimple 
 unfolding r.simple
 simple_law n us h =
     (choice n s.PlusPlus (counted_rule n s.PlusPlus true refl)
-      (choice n s.MinusMinus (counted_rule n s.MinusMinus false refl) (names_made n) Uncounted
-        minus_into (λ b vs end c q w. simple_from s.MinusMinus false refl refl b vs end c q.0 w)
-        (λ b vs end q. (names_into b vs end q, path_unseen s.PlusPlus refl q.0 vs q.1 q.2)) (λ b vs end c q w. (names_back b vs end q.1 c q.0, w)))
-      IsSimple (counted_into s.PlusPlus true refl) (simple_from s.PlusPlus true refl refl) (λ b vs end q. q.0) (λ b vs end c q w. ((q, c), w))).law us h
+    (choice n s.MinusMinus (counted_rule n s.MinusMinus false refl) (names_made n) Uncounted
+    minus_into (λ b vs end c q w. simple_from s.MinusMinus false refl refl b vs end c q.0 w)
+    (λ b vs end q. (names_into b vs end q, path_unseen s.PlusPlus refl q.0 vs q.1 q.2)) (λ b vs end c q w. (names_back b vs end q.1 c q.0, w)))
+    IsSimple (counted_into s.PlusPlus true refl) (simple_from s.PlusPlus true refl refl) (λ b vs end q. q.0) (λ b vs end c q w. ((q, c), w))).law us h
 
 abbrev pub simple_filled : Filled IsSimple
-simple_filled = record { tree = counts (record { path = record { own = Some some_place; words = [] }; index = None }) true;
-  fill = λ other. tok s.PlusPlus [] some_place ∷ tok s.Own [] some_place ∷ other; fits = λ other. inr (_, (s.PlusPlus, (some_word, refl), refl), (_, (_, ([], refl), refl), refl)) }
+simple_filled = record {
+  tree = counts (record { path = record { own = Some some_place; words = [] }; index = None }) true;
+  fill = λ other. tok s.PlusPlus [] some_place ∷ tok s.Own [] some_place ∷ other;
+  fits = λ other. inr (_, (s.PlusPlus, (some_word, refl), refl), (_, (_, ([], refl), refl), refl));
+}
 
 abbrev pub simple_rule : (n : ℕ) → Rule n Statement Closed Free
 simple_rule n = record { rel = IsSimple; filled = simple_filled; read = r.simple; law = simple_law n }
@@ -246,8 +249,8 @@ pub first_law : (n : ℕ) (us : List Tok) → length us < n → Tells IsFirst En
 unfolding r.first_part
 first_law n us h =
     (choice n s.Semi (here n no_part)
-      (choice n s.TypeName (map n part (declare_rule n) (λ a end h. h) (λ a end h. tt)) (map n part (simple_rule n) (λ a end h. h) (λ a end h. tt)) (IsThere IsFirst) first_declare type_from first_simple type_other)
-      IsFirst (λ b vs end q. rw q.0 q.1) first_from (λ b vs end q. q.0) (λ b vs end c q w. ((q, c), w))).law us h
+    (choice n s.TypeName (map n part (declare_rule n) (λ a end h. h) (λ a end h. tt)) (map n part (simple_rule n) (λ a end h. h) (λ a end h. tt)) (IsThere IsFirst) first_declare type_from first_simple type_other)
+    IsFirst (λ b vs end q. rw q.0 q.1) first_from (λ b vs end q. q.0) (λ b vs end c q w. ((q, c), w))).law us h
 
 abbrev pub first_rule : (n : ℕ) → Rule n Part Ended Free
 first_rule n = record { rel = IsFirst; filled = record { tree = no_part; fill = λ other. other; fits = λ other. refl }; read = r.first_part; law = first_law n }
@@ -287,13 +290,13 @@ seen_word k us rest w h = ap (sees k) h ∙ same_self k
 abbrev pub for_head_made : (n : ℕ) → Rule n ForHead Free Free
 for_head_made n =
     then n (token n s.OpenParen refl) (λ a.
-      then n (first_rule n) (λ f.
-        then n (token n s.Semi refl) (λ b.
-          then n (maybe_rule n) (λ e.
-            then n (token n s.Semi refl) (λ c.
-              then n (step_rule n) (λ g. map n (λ d. record { first = f; cond = e; step = g }) (token n s.CloseParen refl) (λ a end h. tt) (λ a end h. tt)) (λ g b vs end h w. seen_word s.CloseParen vs end h.0 h.2)) (λ c b vs end h w. tt))
-            (λ e b vs end h w. seen_word s.Semi vs h.1 h.0 h.2)) (λ c b vs end h w. tt))
-        (λ f b vs end h w. seen_word s.Semi vs h.1 h.0 h.2)) (λ c b vs end h w. tt)
+    then n (first_rule n) (λ f.
+    then n (token n s.Semi refl) (λ b.
+    then n (maybe_rule n) (λ e.
+    then n (token n s.Semi refl) (λ c.
+    then n (step_rule n) (λ g. map n (λ d. record { first = f; cond = e; step = g }) (token n s.CloseParen refl) (λ a end h. tt) (λ a end h. tt)) (λ g b vs end h w. seen_word s.CloseParen vs end h.0 h.2)) (λ c b vs end h w. tt))
+    (λ e b vs end h w. seen_word s.Semi vs h.1 h.0 h.2)) (λ c b vs end h w. tt))
+    (λ f b vs end h w. seen_word s.Semi vs h.1 h.0 h.2)) (λ c b vs end h w. tt)
 
 abbrev pub IsForHead : ForHead → Span
 IsForHead = (for_head_made 0).rel

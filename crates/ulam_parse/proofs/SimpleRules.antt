@@ -65,8 +65,8 @@ Lefts = Then IsPath (λ x. Map (λ (i : Option Expr). record { path = x; index =
 
 abbrev pub left_made : (n : ℕ) → Rule n Left (Under 12) Free
 left_made n = named n
-  (then n (path_rule n) (λ x. map n (λ i. record { path = x; index = i }) (index_rule n) (λ a end h. no_opens s.OpenBracket refl end (omega (arith, h))) (λ a end h. tt)) (λ c b vs end h w. index_dot h.0 vs end h.2 w)) IsLeft
-  (λ b vs end h. rw h.3.1 (h.1, h.2, h.3.2)) (λ b vs end c h w. ((b.path, h.0, h.1, (b.index, refl, h.2)), w))
+    (then n (path_rule n) (λ x. map n (λ i. record { path = x; index = i }) (index_rule n) (λ a end h. no_opens s.OpenBracket refl end (omega (arith, h))) (λ a end h. tt)) (λ c b vs end h w. index_dot h.0 vs end h.2 w)) IsLeft
+    (λ b vs end h. rw h.3.1 (h.1, h.2, h.3.2)) (λ b vs end c h w. ((b.path, h.0, h.1, (b.index, refl, h.2)), w))
 
 pub left_law : (n : ℕ) (us : List Tok) → length us < n → Tells IsLeft (Under 12) Free us (r.left us)
 unfolding r.left
@@ -119,7 +119,7 @@ pub start_law : (n : ℕ) (us : List Tok) → length us < n → Tells IsStart Cl
 unfolding r.start
 start_law n us h =
     (choice n s.Set (then n (token n s.Set refl) (λ a. map n Some (expr_rule n 1 (omega arith)) (λ a end h. h) (λ a end h. tt)) (λ c b vs end h w. tt)) (here n None) IsStart
-      (λ b vs end h. rw h.3.1 (h.1, (h.0, h.2), h.3.2)) start_from (λ b vs end h. rw h.0 h.1) start_other).law us h
+    (λ b vs end h. rw h.3.1 (h.1, (h.0, h.2), h.3.2)) start_from (λ b vs end h. rw h.0 h.1) start_other).law us h
 
 abbrev pub start_rule : (n : ℕ) → Rule n (Option Expr) Closed Free
 start_rule n = record { rel = IsStart; filled = start_filled; read = r.start; law = start_law n }
@@ -139,8 +139,8 @@ declare_back _ vs end c h w = absurd h
 
 abbrev pub declare_made : (n : ℕ) → Rule n Statement Closed Free
 declare_made n = named n
-  (then n (type_rule n) (λ ty. then n (token n s.Name refl) (λ w. map n (declares ty w) (start_rule n) (λ a end h. h) (λ a end h. tt)) (λ c b vs end h w. tt)) (λ c b vs end h w. name_open vs h.1 h.0 h.2)) IsDeclare
-  (λ b vs end h. rw h.3.3.1 (h.1, h.2, (h.3.1, h.3.2, h.3.3.2))) declare_back
+    (then n (type_rule n) (λ ty. then n (token n s.Name refl) (λ w. map n (declares ty w) (start_rule n) (λ a end h. h) (λ a end h. tt)) (λ c b vs end h w. tt)) (λ c b vs end h w. name_open vs h.1 h.0 h.2)) IsDeclare
+    (λ b vs end h. rw h.3.3.1 (h.1, h.2, (h.3.1, h.3.2, h.3.3.2))) declare_back
 
 pub declare_law : (n : ℕ) (us : List Tok) → length us < n → Tells IsDeclare Closed Free us (r.declare us)
 unfolding r.declare
@@ -199,15 +199,15 @@ no_makes b m = m
 assign_by_law : (l : Left) (v : Assigning) (j : Symbol) (w : Text) (p : Place) (ts : List Tok) → assigning_of j ≡ v → Tells (IsAssign l) Closed Free (tok j w p ∷ ts) (r.assign_by l v j w p ts)
 assign_by_law l (Assigns op) j w p ts e =
     tells_as (Behind (tok j w p) (Map (assigns l op) (IsExpr 1))) (IsAssign l) (Under 1) Closed Free Free (tok j w p ∷ ts) _
-      (tells_behind (Map (assigns l op) (IsExpr 1)) (Under 1) Free j w p ts _ (assigns_end j (Assigns op) e (λ q. cc))
-        (map_law (assigns l op) (IsExpr 1) (Under 1) Free (Under 1) Free ts (expr 1 ts) (λ a end h. h) (λ a end h. tt) (expr_law 1 (omega arith) ts)))
-      (λ b vs end h. rw h.2.1 (refl, (h.0, (j, (record { name = w; place = p }, h.1), e), h.2.2)))
-      (λ b vs end g h u. (assigns_back l op j w p b vs end (let F : Assigning → Type 0 = λ y. Makes y b in subst F e (assign_first l j w p b vs end g h)) g h, closed_reach end u)) (λ a rest g. g)
+    (tells_behind (Map (assigns l op) (IsExpr 1)) (Under 1) Free j w p ts _ (assigns_end j (Assigns op) e (λ q. cc))
+    (map_law (assigns l op) (IsExpr 1) (Under 1) Free (Under 1) Free ts (expr 1 ts) (λ a end h. h) (λ a end h. tt) (expr_law 1 (omega arith) ts)))
+    (λ b vs end h. rw h.2.1 (refl, (h.0, (j, (record { name = w; place = p }, h.1), e), h.2.2)))
+    (λ b vs end g h u. (assigns_back l op j w p b vs end (let F : Assigning → Type 0 = λ y. Makes y b in subst F e (assign_first l j w p b vs end g h)) g h, closed_reach end u)) (λ a rest g. g)
 assign_by_law l (Counts up) j w p ts e =
     tells_as (Behind (tok j w p) (λ c us rest. (c ≡ counts l up) × (us ≡ rest))) (IsAssign l) Closed Closed Free Free (tok j w p ∷ ts) (Ok (counts l up, ts))
-      (tells_behind (λ c us rest. (c ≡ counts l up) × (us ≡ rest)) Closed Free j w p ts (Ok (counts l up, ts)) (assigns_end j (Counts up) e (λ q. cc)) ((here {S = Closed} (length ts + 1) (counts l up)).law ts (omega arith)))
-      (λ b vs end h. rw h.2.0 (refl, (j, (record { name = w; place = p }, h.1 ∙ ap (λ x. tok j w p ∷ x) h.2.1), e)))
-      (λ b vs end g h u. (counts_back l up j w p b vs end (let F : Assigning → Type 0 = λ y. Makes y b in subst F e (assign_first l j w p b vs end g h)) g h, u)) (λ a rest g. g)
+    (tells_behind (λ c us rest. (c ≡ counts l up) × (us ≡ rest)) Closed Free j w p ts (Ok (counts l up, ts)) (assigns_end j (Counts up) e (λ q. cc)) ((here {S = Closed} (length ts + 1) (counts l up)).law ts (omega arith)))
+    (λ b vs end h. rw h.2.0 (refl, (j, (record { name = w; place = p }, h.1 ∙ ap (λ x. tok j w p ∷ x) h.2.1), e)))
+    (λ b vs end g h u. (counts_back l up j w p b vs end (let F : Assigning → Type 0 = λ y. Makes y b in subst F e (assign_first l j w p b vs end g h)) g h, u)) (λ a rest g. g)
 assign_by_law l Nothing j w p ts e = record {
   front = [];
   left = tok j w p ∷ ts;

@@ -75,12 +75,12 @@ else_back x (part y) vs end c q w = ((q.1.1.0, q.1.0, q.1.1.1, (y, refl, q.1.2))
 pub else_law : (k : ℕ) (S : Reader Statement) → StatementLaw k S → (x : Statement) (us : List Tok) → length us < k → Shut x us → Tells (IsElse (ends_open x)) ShutPart ShutPart us (r.else_part S us)
 unfolding r.else_part
 else_law k S f x us h g = tells_if (IsElse (ends_open x)) ShutPart ShutPart us (sees s.Else us) _ _
-  (λ c.
+    (λ c.
     let o : ends_open x ≡ false = decide (ends_open x) (λ e. let q : true ≡ false = sym c ∙ g e in cc) in
     tells_as (Then (TakesWord s.Else) (λ a. Map part IsStatement)) (IsElse (ends_open x)) ShutPart ShutPart ShutPart ShutPart us _
-      ((then k (token k s.Else refl) (λ a. map k part (statement_part k k S f (omega arith)) (λ y end q. q) (λ y end q. q)) (λ c b vs end q w. tt)).law us h)
-      (λ b vs end q. rw q.3.1 (o, (q.1, (q.0, q.2), q.3.2))) (λ b vs end e q w. else_back x b vs end (sees_first s.Else vs us e ∙ c) q w) (λ y rest q. q))
-  (λ c. else_here x us c)
+    ((then k (token k s.Else refl) (λ a. map k part (statement_part k k S f (omega arith)) (λ y end q. q) (λ y end q. q)) (λ c b vs end q w. tt)).law us h)
+    (λ b vs end q. rw q.3.1 (o, (q.1, (q.0, q.2), q.3.2))) (λ b vs end e q w. else_back x b vs end (sees_first s.Else vs us e ∙ c) q w) (λ y rest q. q))
+    (λ c. else_here x us c)
 
 -- what stands behind a condition
 
@@ -100,8 +100,8 @@ branches_part k S f c = record {
   filled = record { tree = if_so c empty no_part; fill = λ other. tok s.Semi [] some_place ∷ other; fits = λ other. (empty, other, (some_word, refl), (no_part, refl, refl)) };
   read = λ us. S us >>= λ (x : Statement × List Tok). (r.else_part S x.1 >>= λ (y : Part × List Tok). Ok (if_so c x.0 y.0, y.1));
   law = λ us h. then_law IsStatement Shut Shut (λ x. Map (if_so c x) (IsElse (ends_open x))) Shut Shut us (S us) (λ (x : Statement × List Tok). (r.else_part S x.1 >>= λ (y : Part × List Tok). Ok (if_so c x.0 y.0, y.1)))
-    (branches_follow c) (λ x. record { tree = if_so c x no_part; fill = λ other. other; fits = λ other. (no_part, refl, refl) }) (f us h)
-    (λ x mid at l g. map_law (if_so c x) (IsElse (ends_open x)) ShutPart ShutPart Shut Shut mid (r.else_part S mid) (λ y end q. q) (λ y end q. q) (else_law k S f x mid (omega (arith, l, h)) g));
+      (branches_follow c) (λ x. record { tree = if_so c x no_part; fill = λ other. other; fits = λ other. (no_part, refl, refl) }) (f us h)
+      (λ x mid at l g. map_law (if_so c x) (IsElse (ends_open x)) ShutPart ShutPart Shut Shut mid (r.else_part S mid) (λ y end q. q) (λ y end q. q) (else_law k S f x mid (omega (arith, l, h)) g));
 }
 
 abbrev pub Ifs : Statement → Span

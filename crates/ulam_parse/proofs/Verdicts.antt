@@ -63,12 +63,12 @@ two_splits (t ∷ f) [] a b x y e = inr (inr (f, ap (λ z. z ∷ f) (ap (tok_fir
 two_splits (t ∷ f) (u ∷ g) a b x y e =
     let h : t ≡ u = ap (tok_first t) e in
     elim (two_splits f g a b x y (ap tail e)) as (λ z. ((t ∷ f ≡ u ∷ g) × (a ≡ b) × (x ≡ y)) ⊎ (Before (t ∷ f) a (u ∷ g) ⊎ Before (u ∷ g) b (t ∷ f))) [
-        inl k ↦ inl (ap (λ z. z ∷ f) h ∙ ap (λ z. u ∷ z) k.0, k.1, k.2)
+      | inl k ↦ inl (ap (λ z. z ∷ f) h ∙ ap (λ z. u ∷ z) k.0, k.1, k.2)
       | inr k ↦ elim k as (λ z. ((t ∷ f ≡ u ∷ g) × (a ≡ b) × (x ≡ y)) ⊎ (Before (t ∷ f) a (u ∷ g) ⊎ Before (u ∷ g) b (t ∷ f))) [
-          inl l ↦ inr (inl (l.0, ap (λ z. z ∷ g) (sym h) ∙ ap (λ z. t ∷ z) l.1))
+        | inl l ↦ inr (inl (l.0, ap (λ z. z ∷ g) (sym h) ∙ ap (λ z. t ∷ z) l.1))
         | inr l ↦ inr (inr (l.0, ap (λ z. z ∷ f) h ∙ ap (λ z. u ∷ z) l.1))
-        ]
       ]
+    ]
 
 -- what goes on with a token goes on with those up to it
 with_one : (f : List Tok) (a : Tok) (m : List Tok) → f ++ (a ∷ m) ≡ (f ++ (a ∷ [])) ++ m
@@ -81,33 +81,33 @@ begins_one f a m h = begins_front (f ++ (a ∷ [])) m (let F : List Tok → Type
 
 one_syntax : (ts : List Tok) (p q : Place) → IsSyntaxFault ts p → IsSyntaxFault ts q → p ≡ q
 one_syntax ts p q f g = elim (two_splits f.front g.front f.at g.at f.back g.back (sym f.split ∙ g.split)) as (λ z. p ≡ q) [
-    inl k ↦ f.placed ∙ ap place_at k.1 ∙ sym g.placed
+  | inl k ↦ f.placed ∙ ap place_at k.1 ∙ sym g.placed
   | inr k ↦ elim k as (λ z. p ≡ q) [
-      inl m ↦ let F : List Tok → Type 0 = Begins in absurd (f.none (begins_one f.front f.at m.0 (subst F m.1 g.begins)))
+    | inl m ↦ let F : List Tok → Type 0 = Begins in absurd (f.none (begins_one f.front f.at m.0 (subst F m.1 g.begins)))
     | inr m ↦ let F : List Tok → Type 0 = Begins in absurd (g.none (begins_one g.front g.at m.0 (subst F m.1 f.begins)))
-    ]
   ]
+]
 
 one_depth : (ts : List Tok) (p q : Place) → IsDepthFault ts p → IsDepthFault ts q → p ≡ q
 one_depth ts p q f g = elim (two_splits f.front g.front f.at g.at f.back g.back (sym f.split ∙ g.split)) as (λ z. p ≡ q) [
-    inl k ↦ f.placed ∙ ap place_at k.1 ∙ sym g.placed
+  | inl k ↦ f.placed ∙ ap place_at k.1 ∙ sym g.placed
   | inr k ↦ elim k as (λ z. p ≡ q) [
-      inl m ↦ let l = g.shallow (f.front ++ (f.at ∷ [])) m.0 (m.1 ∙ with_one f.front f.at m.0) in absurd (omega (arith, l, f.deep))
+    | inl m ↦ let l = g.shallow (f.front ++ (f.at ∷ [])) m.0 (m.1 ∙ with_one f.front f.at m.0) in absurd (omega (arith, l, f.deep))
     | inr m ↦ let l = f.shallow (g.front ++ (g.at ∷ [])) m.0 (m.1 ∙ with_one g.front g.at m.0) in absurd (omega (arith, l, g.deep))
-    ]
   ]
+]
 
 not_both : (ts : List Tok) (p q : Place) → IsSyntaxFault ts p → IsDepthFault ts q → ⊥
 not_both ts p q f g = elim (two_splits f.front g.front f.at g.at f.back g.back (sym f.split ∙ g.split)) as (λ z. ⊥) [
-    inl k ↦ let F : List Tok → Type 0 = λ v. Begins (v ++ (g.at ∷ [])) in let G : Tok → Type 0 = λ a. Begins (f.front ++ (a ∷ [])) in f.none (subst G (sym k.1) (subst F (sym k.0) g.begins))
+  | inl k ↦ let F : List Tok → Type 0 = λ v. Begins (v ++ (g.at ∷ [])) in let G : Tok → Type 0 = λ a. Begins (f.front ++ (a ∷ [])) in f.none (subst G (sym k.1) (subst F (sym k.0) g.begins))
   | inr k ↦ elim k as (λ z. ⊥) [
-      inl m ↦
+    | inl m ↦
         let F : List Tok → Type 0 = λ v. Begins (v ++ (g.at ∷ [])) in
         let G : List Tok → Type 0 = Begins in
         f.none (begins_one f.front f.at (m.0 ++ (g.at ∷ [])) (subst G (append_assoc f.front (f.at ∷ m.0) (g.at ∷ [])) (subst F m.1 g.begins)))
     | inr m ↦ let l = f.shallow (g.front ++ (g.at ∷ [])) m.0 (m.1 ∙ with_one g.front g.at m.0) in absurd (omega (arith, l, g.deep))
-    ]
   ]
+]
 
 pub one_fault : (ts : List Tok) (e f : ParseFault) → IsFaultOf ts e → IsFaultOf ts f → e ≡ f
 one_fault ts (Syntax p) (Syntax q) h k = ap Syntax (one_syntax ts p q h k)

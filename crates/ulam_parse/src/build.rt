@@ -8,7 +8,13 @@ use std::alloc::{AllocError, Global};
 use ulam_tree::{Call, Expr, PairOp, Path, PrefixOp, TypeRef, Word};
 
 /// An operator between its operands.
-pub fn pair(alloc: Global, op: PairOp, left: Expr, right: Expr, place: Place) -> Result<Expr, AllocError>
+pub fn pair(
+    alloc: Global,
+    op: PairOp,
+    left: Expr,
+    right: Expr,
+    place: Place,
+) -> Result<Expr, AllocError>
     ensures { IfOk result (λ e. expr_of e ≡ t.pair op (expr_of left) (expr_of right) place) }
 {
     Ok(Expr::Pair {

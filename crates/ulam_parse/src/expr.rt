@@ -38,7 +38,13 @@ pub fn expr(alloc: Global, least: u8, tape: &Tape, at: usize) -> Result<(Expr, u
 /// An expression, by fewer steps than a number of them.
 #[cycle(expr)]
 #[tactic(auto, using(crate::proofs::Steps::expr_steps))]
-fn expr_in(alloc: Global, steps: usize, least: u8, tape: &Tape, at: usize) -> Result<(Expr, usize), Stop>
+fn expr_in(
+    alloc: Global,
+    steps: usize,
+    least: u8,
+    tape: &Tape,
+    at: usize,
+) -> Result<(Expr, usize), Stop>
     requires { least < 13 }
     ensures { Gives (λ x. (expr_of x.0, from tape.now x.1)) result (spec.expr_in steps least (from tape.now at)) }
 {
@@ -51,7 +57,13 @@ fn expr_in(alloc: Global, steps: usize, least: u8, tape: &Tape, at: usize) -> Re
 /// An operand and what is joined to it.
 #[cycle(expr)]
 #[tactic(auto, unfolding(crate::specs::Reading::climb))]
-fn climb(alloc: Global, steps: usize, least: u8, tape: &Tape, at: usize) -> Result<(Expr, usize), Stop>
+fn climb(
+    alloc: Global,
+    steps: usize,
+    least: u8,
+    tape: &Tape,
+    at: usize,
+) -> Result<(Expr, usize), Stop>
     requires { least < 13 }
     ensures { Gives (λ x. (expr_of x.0, from tape.now x.1)) result (spec.climb (spec.expr_in steps) least (from tape.now at)) }
 {
@@ -95,7 +107,13 @@ fn operand(alloc: Global, steps: usize, tape: &Tape, at: usize) -> Result<(Expr,
 /// What stands behind a bracket that opens at a place.
 #[cycle(expr)]
 #[tactic(auto, unfolding(crate::specs::Reading::in_parens))]
-fn in_parens(alloc: Global, steps: usize, place: Place, tape: &Tape, at: usize) -> Result<(Expr, usize), Stop>
+fn in_parens(
+    alloc: Global,
+    steps: usize,
+    place: Place,
+    tape: &Tape,
+    at: usize,
+) -> Result<(Expr, usize), Stop>
     ensures { Gives (λ x. (expr_of x.0, from tape.now x.1)) result (spec.in_parens (spec.expr_in steps) place (from tape.now at)) }
 {
     if sees(Symbol::TypeName, tape, at) && !sees_second(Symbol::Dot, tape, at) {
@@ -112,7 +130,14 @@ fn in_parens(alloc: Global, steps: usize, place: Place, tape: &Tape, at: usize) 
 
 /// What is joined to an expression that stands before.
 #[cycle(expr)]
-fn more(alloc: Global, steps: usize, least: u8, first: Expr, tape: &Tape, at: usize) -> Result<(Expr, usize), Stop>
+fn more(
+    alloc: Global,
+    steps: usize,
+    least: u8,
+    first: Expr,
+    tape: &Tape,
+    at: usize,
+) -> Result<(Expr, usize), Stop>
     requires { least < 13 }
     ensures { Gives (λ x. (expr_of x.0, from tape.now x.1)) result (spec.more (spec.expr_in steps) (length (from tape.now at) + 1) least 12 (expr_of first) (from tape.now at)) }
 {
@@ -162,7 +187,13 @@ fn named(alloc: Global, steps: usize, tape: &Tape, at: usize) -> Result<(Expr, u
 /// A path, a call or an element of an array, behind the path.
 #[cycle(expr)]
 #[tactic(auto, unfolding(crate::specs::Reading::after_path))]
-fn after_path(alloc: Global, steps: usize, path: Path, tape: &Tape, at: usize) -> Result<(Expr, usize), Stop>
+fn after_path(
+    alloc: Global,
+    steps: usize,
+    path: Path,
+    tape: &Tape,
+    at: usize,
+) -> Result<(Expr, usize), Stop>
     ensures { Gives (λ x. (expr_of x.0, from tape.now x.1)) result (spec.after_path (spec.expr_in steps) (path_of path) (from tape.now at)) }
 {
     if sees(Symbol::OpenParen, tape, at) {
@@ -198,7 +229,13 @@ fn args_in(alloc: Global, steps: usize, tape: &Tape, at: usize) -> Result<(Vec<E
 
 /// More arguments, each behind those that are there, and the closing bracket.
 #[cycle(expr)]
-fn more_args(alloc: Global, steps: usize, found: &mut Vec<Expr>, tape: &Tape, at: usize) -> Result<usize, Stop>
+fn more_args(
+    alloc: Global,
+    steps: usize,
+    found: &mut Vec<Expr>,
+    tape: &Tape,
+    at: usize,
+) -> Result<usize, Stop>
     ensures { Gives (λ x. (args_list found.new.items, from tape.now x)) result (spec.with_args (args_list found.old.items) (spec.more_args (spec.expr_in steps) (length (from tape.now at) + 1) (from tape.now at))) }
 {
     let mut next = at;

@@ -25,7 +25,11 @@ fn part(alloc: Global, statement: Statement) -> Result<Option<Box<Statement>>, A
 
 /// What a `for` does first.
 #[tactic(auto, unfolding(crate::specs::Statements::first_part))]
-fn first_part(alloc: Global, tape: &Tape, at: usize) -> Result<(Option<Box<Statement>>, usize), Stop>
+fn first_part(
+    alloc: Global,
+    tape: &Tape,
+    at: usize,
+) -> Result<(Option<Box<Statement>>, usize), Stop>
     ensures { Gives (λ x. (part_alone x.0, from tape.now x.1)) result (spec.first_part (from tape.now at)) }
 {
     if sees(Symbol::Semi, tape, at) {

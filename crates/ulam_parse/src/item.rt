@@ -31,7 +31,13 @@ fn members(alloc: Global, found: &mut Vec<Member>, tape: &Tape, at: usize) -> Re
 
 /// A class that begins with a keyword.
 #[tactic(auto, unfolding(crate::specs::Files::class_in))]
-fn class_in(alloc: Global, keyword: Symbol, quark: bool, tape: &Tape, at: usize) -> Result<(Class, usize), Stop>
+fn class_in(
+    alloc: Global,
+    keyword: Symbol,
+    quark: bool,
+    tape: &Tape,
+    at: usize,
+) -> Result<(Class, usize), Stop>
     ensures { Gives (λ x. (class_of x.0, from tape.now x.1)) result (spec.class_in keyword quark (from tape.now at)) }
 {
     let (_, next) = expect(keyword, tape, at)?;

@@ -146,7 +146,13 @@ fn length_in(alloc: Global, tape: &Tape, at: usize) -> Result<(Option<Width>, us
 
 /// A function behind its name.
 #[tactic(auto, unfolding(crate::specs::Files::function_rest))]
-fn function_rest(alloc: Global, of: TypeRef, word: Word, tape: &Tape, at: usize) -> Result<(Member, usize), Stop>
+fn function_rest(
+    alloc: Global,
+    of: TypeRef,
+    word: Word,
+    tape: &Tape,
+    at: usize,
+) -> Result<(Member, usize), Stop>
     ensures { Gives (λ x. (member_of x.0, from tape.now x.1)) result (spec.function_rest (type_of of) (word_of word) (from tape.now at)) }
 {
     let (_, next) = expect(Symbol::OpenParen, tape, at)?;
@@ -166,7 +172,13 @@ fn function_rest(alloc: Global, of: TypeRef, word: Word, tape: &Tape, at: usize)
 
 /// A data member behind its name.
 #[tactic(auto, unfolding(crate::specs::Files::field_rest))]
-fn field_rest(alloc: Global, of: TypeRef, word: Word, tape: &Tape, at: usize) -> Result<(Member, usize), Stop>
+fn field_rest(
+    alloc: Global,
+    of: TypeRef,
+    word: Word,
+    tape: &Tape,
+    at: usize,
+) -> Result<(Member, usize), Stop>
     ensures { Gives (λ x. (member_of x.0, from tape.now x.1)) result (spec.field_rest (type_of of) (word_of word) (from tape.now at)) }
 {
     let (length, next) = length_in(alloc, tape, at)?;

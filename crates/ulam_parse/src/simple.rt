@@ -125,7 +125,12 @@ fn assign(alloc: Global, left: Left, tape: &Tape, at: usize) -> Result<(Statemen
 
 /// A call, or what is done to a place, behind its path.
 #[tactic(auto, unfolding(crate::specs::Statements::after_names))]
-fn after_names(alloc: Global, path: Path, tape: &Tape, at: usize) -> Result<(Statement, usize), Stop>
+fn after_names(
+    alloc: Global,
+    path: Path,
+    tape: &Tape,
+    at: usize,
+) -> Result<(Statement, usize), Stop>
     ensures { Gives (λ x. (statement_of x.0, from tape.now x.1)) result (spec.after_names (path_of path) (from tape.now at)) }
 {
     if sees(Symbol::OpenParen, tape, at) {
@@ -141,7 +146,13 @@ fn after_names(alloc: Global, path: Path, tape: &Tape, at: usize) -> Result<(Sta
 
 /// A place behind its `++` or `--`.
 #[tactic(auto, unfolding(crate::specs::Statements::counted))]
-fn counted(alloc: Global, sign: Symbol, up: bool, tape: &Tape, at: usize) -> Result<(Statement, usize), Stop>
+fn counted(
+    alloc: Global,
+    sign: Symbol,
+    up: bool,
+    tape: &Tape,
+    at: usize,
+) -> Result<(Statement, usize), Stop>
     ensures { Gives (λ x. (statement_of x.0, from tape.now x.1)) result (spec.counted sign up (from tape.now at)) }
 {
     let (_, next) = expect(sign, tape, at)?;

@@ -28,7 +28,12 @@ fn block(body: Vec<Statement>) -> Statement
 
 /// An `if`.
 #[tactic(auto, using(ulam_tree::proofs::RawRows::if_is))]
-fn if_so(alloc: Global, cond: Cond, yes: Statement, no: Option<Box<Statement>>) -> Result<Statement, AllocError>
+fn if_so(
+    alloc: Global,
+    cond: Cond,
+    yes: Statement,
+    no: Option<Box<Statement>>,
+) -> Result<Statement, AllocError>
     ensures { IfOk result (λ x. statement_of x ≡ t.if_so (cond_of cond) (statement_of yes) (part_alone no)) }
 {
     let yes = Box::new(alloc, yes)?;
@@ -69,7 +74,12 @@ fn ended(statement: Statement, tape: &Tape, at: usize) -> Result<(Statement, usi
 
 /// What stands behind `return`.
 #[tactic(auto, unfolding(crate::specs::Statements::return_rest))]
-fn return_rest(alloc: Global, place: Place, tape: &Tape, at: usize) -> Result<(Statement, usize), Stop>
+fn return_rest(
+    alloc: Global,
+    place: Place,
+    tape: &Tape,
+    at: usize,
+) -> Result<(Statement, usize), Stop>
     ensures { Gives (λ x. (statement_of x.0, from tape.now x.1)) result (spec.return_rest place (from tape.now at)) }
 {
     let (value, next) = maybe(alloc, tape, at)?;
@@ -95,7 +105,12 @@ fn done(alloc: Global, tape: &Tape, at: usize) -> Result<(Statement, usize), Sto
 /// A statement, by fewer steps than a number of them.
 #[cycle(statement)]
 #[tactic(auto, using(crate::proofs::Steps::statement_steps))]
-fn statement_in(alloc: Global, steps: usize, tape: &Tape, at: usize) -> Result<(Statement, usize), Stop>
+fn statement_in(
+    alloc: Global,
+    steps: usize,
+    tape: &Tape,
+    at: usize,
+) -> Result<(Statement, usize), Stop>
     ensures { Gives (λ x. (statement_of x.0, from tape.now x.1)) result (spec.statement_in steps (from tape.now at)) }
 {
     if steps == 0 {
@@ -107,7 +122,12 @@ fn statement_in(alloc: Global, steps: usize, tape: &Tape, at: usize) -> Result<(
 /// A statement, by its first token.
 #[cycle(statement)]
 #[tactic(auto, unfolding(crate::specs::Statements::any_statement))]
-fn any_statement(alloc: Global, steps: usize, tape: &Tape, at: usize) -> Result<(Statement, usize), Stop>
+fn any_statement(
+    alloc: Global,
+    steps: usize,
+    tape: &Tape,
+    at: usize,
+) -> Result<(Statement, usize), Stop>
     ensures { Gives (λ x. (statement_of x.0, from tape.now x.1)) result (spec.any_statement (spec.statement_in steps) (from tape.now at)) }
 {
     let Some(first) = mark_at(tape, at) else {
@@ -132,7 +152,12 @@ fn any_statement(alloc: Global, steps: usize, tape: &Tape, at: usize) -> Result<
 /// What stands behind the brace that opens a block.
 #[cycle(statement)]
 #[tactic(auto, unfolding(crate::specs::Statements::block_rest))]
-fn block_rest(alloc: Global, steps: usize, tape: &Tape, at: usize) -> Result<(Statement, usize), Stop>
+fn block_rest(
+    alloc: Global,
+    steps: usize,
+    tape: &Tape,
+    at: usize,
+) -> Result<(Statement, usize), Stop>
     ensures { Gives (λ x. (statement_of x.0, from tape.now x.1)) result (spec.block_rest (spec.statement_in steps) (from tape.now at)) }
 {
     let mut body = Vec::new(alloc);
@@ -155,7 +180,12 @@ fn if_rest(alloc: Global, steps: usize, tape: &Tape, at: usize) -> Result<(State
 /// The `else` that may stand behind the part of an `if`.
 #[cycle(statement)]
 #[tactic(auto, unfolding(crate::specs::Statements::else_part))]
-fn else_part(alloc: Global, steps: usize, tape: &Tape, at: usize) -> Result<(Option<Box<Statement>>, usize), Stop>
+fn else_part(
+    alloc: Global,
+    steps: usize,
+    tape: &Tape,
+    at: usize,
+) -> Result<(Option<Box<Statement>>, usize), Stop>
     ensures { Gives (λ x. (part_alone x.0, from tape.now x.1)) result (spec.else_part (spec.statement_in steps) (from tape.now at)) }
 {
     if sees(Symbol::Else, tape, at) {
@@ -170,7 +200,12 @@ fn else_part(alloc: Global, steps: usize, tape: &Tape, at: usize) -> Result<(Opt
 /// What stands behind `while`.
 #[cycle(statement)]
 #[tactic(auto, unfolding(crate::specs::Statements::while_rest))]
-fn while_rest(alloc: Global, steps: usize, tape: &Tape, at: usize) -> Result<(Statement, usize), Stop>
+fn while_rest(
+    alloc: Global,
+    steps: usize,
+    tape: &Tape,
+    at: usize,
+) -> Result<(Statement, usize), Stop>
     ensures { Gives (λ x. (statement_of x.0, from tape.now x.1)) result (spec.while_rest (spec.statement_in steps) (from tape.now at)) }
 {
     let (cond, next) = while_head(alloc, tape, at)?;
@@ -191,7 +226,13 @@ fn for_rest(alloc: Global, steps: usize, tape: &Tape, at: usize) -> Result<(Stat
 
 /// Statements, each behind those that are there, and the closing brace.
 #[cycle(statement)]
-fn body_in(alloc: Global, steps: usize, found: &mut Vec<Statement>, tape: &Tape, at: usize) -> Result<usize, Stop>
+fn body_in(
+    alloc: Global,
+    steps: usize,
+    found: &mut Vec<Statement>,
+    tape: &Tape,
+    at: usize,
+) -> Result<usize, Stop>
     ensures { Gives (λ x. (body_list found.new.items, from tape.now x)) result (spec.with_body (body_list found.old.items) (spec.body (spec.statement_in steps) (length (from tape.now at) + 1) (from tape.now at))) }
 {
     let mut next = at;

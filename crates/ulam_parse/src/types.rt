@@ -28,7 +28,13 @@ pub fn width(alloc: Global, tape: &Tape, at: usize) -> Result<(Width, usize), St
 
 /// A width between two symbols.
 #[tactic(auto, unfolding(crate::specs::Reading::enclosed))]
-pub fn enclosed(alloc: Global, before: Symbol, behind: Symbol, tape: &Tape, at: usize) -> Result<(Option<Width>, usize), Stop>
+pub fn enclosed(
+    alloc: Global,
+    before: Symbol,
+    behind: Symbol,
+    tape: &Tape,
+    at: usize,
+) -> Result<(Option<Width>, usize), Stop>
     ensures { Gives (λ x. (option_map width_of x.0, from tape.now x.1)) result (spec.enclosed before behind (from tape.now at)) }
 {
     let (_, next) = expect(before, tape, at)?;

@@ -82,7 +82,7 @@ pub more_args-turns-preserved : goal.more_args-turns-preserved
 more_args-turns-preserved t c =
     let e = one_more (λ n. with_args (args_list c.turns.found.items) (more_args (expr_in c.args.steps) n (from c.args.tape.now c.turns.next))) _ c.turns._turn c.turns-test.true c.turns.invariant in
     let st = args_step (expr_in c.args.steps) (c.count_from-turn-end.result + 1 - (c.turns._turn + 1)) c.turns.found.items c.in_ok-value.value (word_at c.args.tape.now.bytes.now c.in_ok-behind-2.field-0-0) (from c.args.tape.now c.turns.next)
-      (from c.args.tape.now c.in_ok-behind-2.behind) (from c.args.tape.now c.in_ok-value.behind) (search rules) (search rules) (search rules) in
+    (from c.args.tape.now c.in_ok-behind-2.behind) (from c.args.tape.now c.in_ok-value.behind) (search rules) (search rules) (search rules) in
     first_of (search rules, grind (arith, common_steps))
 
 pub more_args-returns : goal.more_args-returns

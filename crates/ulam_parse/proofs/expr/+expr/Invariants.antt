@@ -38,4 +38,4 @@ invariant-more-turns l =
 abbrev pub invariant-more_args-turns : goal.invariant-more_args-turns
 invariant-more_args-turns l =
     spec.with_args (args_list l.initial.found.items) (spec.more_args (spec.expr_in l.steps) (length (from l.tape l.at) + 1) (from l.tape l.at))
-  ≡ spec.with_args (args_list l.found.items) (spec.more_args (spec.expr_in l.steps) (l._turn-end - l._turn) (from l.tape l.next))
+    ≡ spec.with_args (args_list l.found.items) (spec.more_args (spec.expr_in l.steps) (l._turn-end - l._turn) (from l.tape l.next))

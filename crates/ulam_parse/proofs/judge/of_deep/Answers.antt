@@ -24,14 +24,14 @@ returns c =
     let t = tok_at c.args.tape.now.bytes.now c.in-Some.mark in
     let stands = from_drop c.args.tape.now c.args.at ∙ c.in-Some.ensures.some in
     elim c.match-whole.branch [
-        in-Ok w ↦ told_fault ts _ _ w.result-is (depth_read_law ts us behind c.args.at t behind _ c.requires.ends c.requires.deep c.front-seen.ensures.split c.front-seen.ensures.long stands w.in-Ok.ensures.read)
+      | in-Ok w ↦ told_fault ts _ _ w.result-is (depth_read_law ts us behind c.args.at t behind _ c.requires.ends c.requires.deep c.front-seen.ensures.split c.front-seen.ensures.long stands w.in-Ok.ensures.read)
       | in-Err-Left+then-left-eq0 w ↦
           told_fault ts _ _ w.result-is
-            (depth_ended_law ts us behind w.in-Err-Left.left c.args.at t behind w.if-left-eq0.true c.requires.deep c.front-seen.ensures.split c.front-seen.ensures.long stands
-              (fails_left w.in-Err-Left.field-0 w.in-Err-Left.left _ w.in-Err-Left.field-0-is w.in-Err-Left.ensures.stops))
+          (depth_ended_law ts us behind w.in-Err-Left.left c.args.at t behind w.if-left-eq0.true c.requires.deep c.front-seen.ensures.split c.front-seen.ensures.long stands
+          (fails_left w.in-Err-Left.field-0 w.in-Err-Left.left _ w.in-Err-Left.field-0-is w.in-Err-Left.ensures.stops))
       | in-Err-Left+else-left-eq0 w ↦
           told_fault ts _ _ w.result-is
-            (front_syntax_law ts us behind w.in-Err-Left.left c.args.at w.place_of_left.result c.requires.deep c.front-seen.ensures.split c.front-seen.ensures.long
-              (fails_left w.in-Err-Left.field-0 w.in-Err-Left.left _ w.in-Err-Left.field-0-is w.in-Err-Left.ensures.stops) w.place_of_left.ensures)
+          (front_syntax_law ts us behind w.in-Err-Left.left c.args.at w.place_of_left.result c.requires.deep c.front-seen.ensures.split c.front-seen.ensures.long
+          (fails_left w.in-Err-Left.field-0 w.in-Err-Left.left _ w.in-Err-Left.field-0-is w.in-Err-Left.ensures.stops) w.place_of_left.ensures)
       | in-Err-NoMemory w ↦ told_memory ts _ w.result-is
-      ]
+    ]

@@ -31,4 +31,4 @@ decreases-while_rest l = 8 * l.steps + 6
 abbrev pub invariant-body_in-turns : goal.invariant-body_in-turns
 invariant-body_in-turns l =
     spec.with_body (body_list l.initial.found.items) (spec.body (spec.statement_in l.steps) (length (from l.tape l.at) + 1) (from l.tape l.at))
-  ≡ spec.with_body (body_list l.found.items) (spec.body (spec.statement_in l.steps) (l._turn-end - l._turn) (from l.tape l.next))
+    ≡ spec.with_body (body_list l.found.items) (spec.body (spec.statement_in l.steps) (l._turn-end - l._turn) (from l.tape l.next))

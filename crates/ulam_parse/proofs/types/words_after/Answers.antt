@@ -24,7 +24,7 @@ pub turns-preserved : goal.turns-preserved
 turns-preserved c =
     let e = one_more (λ n. with_words (map word_of c.turns.words.items) (dotted n (from c.args.tape.now c.turns.next))) _ c.turns._turn c.turns-test.true c.turns.invariant in
     let st = words_step (c.count_from-turn-end.result + 1 - (c.turns._turn + 1)) c.turns.words.items c.in_ok-word.field-0 (word_at c.args.tape.now.bytes.now c.in_ok-mark.mark) (word_at c.args.tape.now.bytes.now c.in_ok-behind.field-0-0)
-      (from c.args.tape.now c.turns.next) (from c.args.tape.now c.in_ok-behind.behind) (from c.args.tape.now c.in_ok-mark.behind) (search rules) (search rules) (search rules) (search rules) in
+    (from c.args.tape.now c.turns.next) (from c.args.tape.now c.in_ok-behind.behind) (from c.args.tape.now c.in_ok-mark.behind) (search rules) (search rules) (search rules) (search rules) in
     first_of (search rules, grind (arith, common_steps))
 
 pub returns : goal.returns
