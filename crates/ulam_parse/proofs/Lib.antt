@@ -17,3 +17,11 @@ pub mod FileRules
 pub mod Turns
 pub mod Steps
 pub mod Loops
+pub mod Verdicts
+pub mod Depths
+pub mod Judging
+pub mod Orders
+pub mod Deeper
+pub mod Nests
+pub mod Marking
+pub mod Laws

@@ -8,3 +8,7 @@ pub mod Files
 pub mod Marks
 pub mod Views
 pub mod Heads
+pub mod Sentences
+pub mod Sound
+pub mod Nests
+pub mod Told

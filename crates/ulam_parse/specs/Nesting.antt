@@ -1,5 +1,5 @@
 -- How deep tokens nest: a count along the tokens alone.
-use Rattle.std.specs.Prelude.{ℕ, ◌+◌, ◌≤◌, ◌<◌, List, [], ◌∷◌, ◌++◌, ◌≡◌, length, sum, fold, Option, Some, None, Bool, true, false, not, ◌&&◌, ◌||◌, if◌then◌else◌, nat_lt}
+use Rattle.std.specs.Prelude.{ℕ, ◌+◌, ◌≤◌, ◌<◌, List, [], ◌∷◌, ◌++◌, ◌≡◌, length, fold, Option, Some, None, Bool, true, false, not, ◌&&◌, ◌||◌, if◌then◌else◌, nat_lt}
 use Rattle.ulam_parse.specs.declared.symbol.Symbol.{Symbol}
 use Rattle.ulam_parse.specs.declared.symbol.Symbol.TheVariants as s
 use Rattle.ulam_parse.specs.declared.symbol.Weight.{Weight}
@@ -16,9 +16,14 @@ pub record Nest : Type 0 where
 abbrev pub outside : Nest
 outside = record { inner = 0; outer = []; last = s.End }
 
+-- so many brackets as there are counts, and the sum of these
+abbrev pub weighs : List ℕ → ℕ
+weighs [] = 0
+weighs (c ∷ cs) = c + 1 + weighs cs
+
 -- the number of open brackets and the sum of all counts
 abbrev pub depth : Nest → ℕ
-depth n = n.inner + length n.outer + sum n.outer
+depth n = n.inner + weighs n.outer
 
 -- what a symbol does to the counts
 abbrev pub weight_of : Symbol → Weight
@@ -75,9 +80,9 @@ is_close_paren s.CloseParen = true
 is_close_paren _ = false
 
 -- The innermost count by what came last: straight behind `;` or `}` it is 0, but for `else`; a `(` straight behind `)`, as behind a cast, adds 1.
-abbrev pub count_at : Nest → Symbol → ℕ
-count_at n k =
-    if ends_one n.last && not (is_else k) then 0 else (if is_close_paren n.last && is_open_paren k then n.inner + 1 else n.inner)
+abbrev pub count_at : ℕ → Symbol → Symbol → ℕ
+count_at c last k =
+    if ends_one last && not (is_else k) then 0 else (if is_close_paren last && is_open_paren k then c + 1 else c)
 
 -- the last open bracket is closed, if there is one
 abbrev pub closed : List ℕ → ℕ → Symbol → Nest
@@ -93,7 +98,7 @@ weighed w.Closes ds c k = closed ds c k
 weighed w.Nothing ds c k = record { inner = c; outer = ds; last = k }
 
 abbrev pub nest_step : Nest → Symbol → Nest
-nest_step n k = weighed (weight_of k) n.outer (count_at n k) k
+nest_step n k = weighed (weight_of k) n.outer (count_at n.inner n.last k) k
 
 abbrev pub symbol_at : Tok → Symbol
 symbol_at (tok k w p) = k

@@ -1,14 +1,24 @@
-//! The grammar of element files, and their trees.
+//! The grammar of element files: tokens as their one tree, or their first fault.
+//!
+//! Which tokens are which tree is a relation with a case for each form (`specs/Grammar.antt`), apart
+//! from how they are read.
 #![tactic(auto)]
 
 mod build;
+mod deep;
 mod expr;
+mod fault;
 mod for_parts;
 mod halt;
 mod head;
 mod item;
+mod judge;
 mod mark;
+mod marks;
 mod member;
+mod nest;
+mod nesting;
+mod parser;
 mod simple;
 mod statement;
 pub mod symbol;
@@ -16,3 +26,6 @@ mod tables;
 mod take;
 mod tape;
 mod types;
+
+pub use fault::ParseFault;
+pub use parser::{one_tree, parse};

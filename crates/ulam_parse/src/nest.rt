@@ -1,0 +1,129 @@
+//! How deep tokens nest.
+ghost use Rattle.std.specs.Prelude.{◌≡◌, ◌+◌, ◌≤◌, ◌∷◌, IfOk};
+ghost use Rattle.ulam_parse.specs.Nests.{nest_of};
+ghost use Rattle.ulam_parse.specs.Nesting as spec;
+
+use crate::nesting::Nest;
+use crate::symbol::{Symbol, Weight};
+use crate::tables::weight_of;
+use feast_base::NoMemory;
+use std::alloc::Global;
+
+/// Before the first token.
+pub fn outside(alloc: Global) -> Nest
+    ensures { nest_of result ≡ spec.outside }
+{
+    Nest {
+        inner: 0,
+        outer: Vec::new(alloc),
+        around: 0,
+        last: Symbol::End,
+    }
+}
+
+/// How deep it is.
+pub fn depth(nest: &Nest) -> u32
+    requires { spec.depth (nest_of nest.now) ≤ 66 }
+    ensures { result ≡ spec.depth (nest_of nest.now) }
+{
+    nest.inner + nest.around
+}
+
+/// The innermost count by what came last.
+fn count_at(inner: u32, last: Symbol, symbol: Symbol) -> u32
+    requires { inner ≤ 64 }
+    ensures count { result ≡ spec.count_at inner last symbol }
+    ensures small { result ≤ inner + 1 }
+{
+    if matches!(last, Symbol::Semi | Symbol::CloseBrace) && !matches!(symbol, Symbol::Else) {
+        0
+    } else if matches!(last, Symbol::CloseParen) && matches!(symbol, Symbol::OpenParen) {
+        inner + 1
+    } else {
+        inner
+    }
+}
+
+/// A bracket opens behind a count.
+#[tactic(auto, using(crate::proofs::Nests::reverse_push))]
+fn opened(nest: Nest, count: u32, last: Symbol) -> Result<Nest, NoMemory>
+    requires few { nest.around + count ≤ 66 }
+    ensures { IfOk result (λ n. nest_of n ≡ record { inner = 0; outer = count ∷ (nest_of nest).outer; last = last }) }
+{
+    let Nest {
+        inner: _,
+        mut outer,
+        around,
+        last: _,
+    } = nest;
+    if outer.push(count).is_err() {
+        return Err(NoMemory);
+    }
+    Ok(Nest {
+        inner: 0,
+        outer,
+        around: around + count + 1,
+        last,
+    })
+}
+
+/// The last open bracket closes, if there is one.
+#[tactic(auto, using(crate::proofs::Nests::reverse_push))]
+fn closed(nest: Nest, count: u32, last: Symbol) -> Nest
+    ensures { nest_of result ≡ spec.closed (nest_of nest).outer count last }
+{
+    let Nest {
+        inner: _,
+        mut outer,
+        around,
+        last: _,
+    } = nest;
+    match outer.pop() {
+        Some(inner) => Nest {
+            inner,
+            outer,
+            around: around - inner - 1,
+            last,
+        },
+        None => Nest {
+            inner: count,
+            outer,
+            around,
+            last,
+        },
+    }
+}
+
+/// Another innermost count.
+fn counted(nest: Nest, inner: u32, last: Symbol) -> Nest
+    ensures { nest_of result ≡ record { inner = inner; outer = (nest_of nest).outer; last = last } }
+{
+    let Nest {
+        inner: _,
+        outer,
+        around,
+        last: _,
+    } = nest;
+    Nest {
+        inner,
+        outer,
+        around,
+        last,
+    }
+}
+
+/// One more token.
+pub fn step(nest: Nest, symbol: Symbol) -> Result<Nest, NoMemory>
+    requires { spec.depth (nest_of nest) ≤ 64 }
+    ensures steps { IfOk result (λ n. nest_of n ≡ spec.nest_step (nest_of nest) symbol) }
+    ensures small { IfOk result (λ n. spec.depth (nest_of n) ≤ 66) }
+{
+    let count = count_at(nest.inner, nest.last, symbol);
+    match weight_of(symbol) {
+        Weight::Adds => Ok(counted(nest, count + 1, symbol)),
+        Weight::Clears => Ok(counted(nest, 0, symbol)),
+        Weight::Opens => opened(nest, count, symbol),
+        Weight::Closes => Ok(closed(nest, count, symbol)),
+        Weight::Nothing => Ok(counted(nest, count, symbol)),
+    }
+}
