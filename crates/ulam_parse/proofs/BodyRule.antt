@@ -1,7 +1,7 @@
 -- The rule of statements by their first token, and that of bodies.
-use Rattle.std.proofs.Common.{ℕ, zero, suc, ◌+◌, ◌≤◌, ◌<◌, ◌≡◌, ◌⊎◌, inl, inr, List, [], ◌∷◌, ◌++◌, length, Option, Some, None, Bool, true, false, not, ◌&&◌, ◌||◌, cond, Ok, Err, refl, ap, sym, ◌∙◌, subst, arith, rules}
+use Rattle.std.proofs.Common.{ℕ, zero, suc, ◌+◌, ◌≤◌, ◌<◌, ◌≡◌, inl, inr, List, [], ◌∷◌, length, Option, Some, None, Bool, true, false, Ok, refl, ap, sym, ◌∙◌, subst, arith}
 use Rattle.feast_base.specs.declared.place.Place.{Place}
-use Rattle.ulam_tree.specs.Raw.{Word, TypeRef, Path, Expr, Cond, Left, Statement, block, empty, if_so, while_so, for_all, returns, breaks, continues, declares, assigns, counts, does, Part, no_part, part, Body, no_more, then_so}
+use Rattle.ulam_tree.specs.Raw.{Word, Statement, block, empty, if_so, while_so, for_all, returns, breaks, continues, declares, assigns, counts, does, Body, no_more, then_so}
 use Rattle.ulam_parse.specs.declared.symbol.Symbol.{Symbol}
 use Rattle.ulam_parse.specs.declared.symbol.Symbol.TheVariants as s
 use Rattle.ulam_parse.specs.declared.symbol.Assigning.TheVariants as a
@@ -9,16 +9,16 @@ use Rattle.ulam_parse.specs.declared.symbol.Starting.{Starting}
 use Rattle.ulam_parse.specs.declared.symbol.Starting.TheVariants as t
 use Rattle.ulam_parse.specs.Tokens.{Text, Tok, tok}
 use Rattle.ulam_parse.specs.Tables.{assigning_of, starting_of}
-use Rattle.ulam_parse.specs.Grammar.{Span, ◌⟫◌, Takes, TakesAt, TakesWord, TakesCount, IsPathOf, IsPath, IsExpr, IsCond, IsMaybe, IsSimple, IsDeclare, IsStatement, IsElse, IsBody, ends_open, part_open}
-use Rattle.ulam_parse.specs.Reading.{Halt, stops, tired, Read, Reader, ◌>>=◌, same, sees, expect}
+use Rattle.ulam_parse.specs.Grammar.{Span, Takes, TakesWord, IsPathOf, IsSimple, IsDeclare, IsStatement, IsBody, ends_open}
+use Rattle.ulam_parse.specs.Reading.{Read, Reader, ◌>>=◌, same, sees}
 use Rattle.ulam_parse.specs.Statements as r
-use Rattle.ulam_parse.proofs.Tells.{decide, same_self, same_is, is_end, first, is_seen, unseen, one_first, sees_first, Found, Stopped, Tells, tells_as, tells_behind, Behind}
-use Rattle.ulam_parse.proofs.Rules.{Free, tells_if, Rule, Filled, Then, Map, Into, Back, Seen, Unseen, Always, token, then, after, further, map, named, here, choice, then_law, map_law, some_place, some_word, none_some}
+use Rattle.ulam_parse.proofs.Tells.{decide, same_is, is_end, first, unseen, one_first, Tells, tells_as, tells_behind, Behind}
+use Rattle.ulam_parse.proofs.Rules.{Free, Rule, Filled, Then, Map, Into, Back, Seen, Unseen, token, further, map, choice, then_law, map_law, some_place, some_word, none_some}
 use Rattle.ulam_parse.proofs.OperandRule.{same_first, behind_first, place_in}
-use Rattle.ulam_parse.proofs.CondRules.{Closed, semi_closes}
-use Rattle.ulam_parse.proofs.SimpleRules.{Ended, ended_closes, maybe_rule, declare_rule}
-use Rattle.ulam_parse.proofs.PartRules.{simple_rule, seen_word, IsForHead, IsIfHead, IsWhileHead}
-use Rattle.ulam_parse.proofs.StatementRule.{Shut, StatementLaw, statement_filled, statement_part, Semi, semi_part, ended_law, ended_rule, Returned, return_law, Branches, Ifs, if_law, Whiles, while_law, Fors, for_law}
+use Rattle.ulam_parse.proofs.CondRules.{Closed}
+use Rattle.ulam_parse.proofs.SimpleRules.{ended_closes, declare_rule}
+use Rattle.ulam_parse.proofs.PartRules.{simple_rule, seen_word}
+use Rattle.ulam_parse.proofs.StatementRule.{Shut, StatementLaw, statement_filled, statement_part, Semi, ended_law, Returned, return_law, Ifs, if_law, Whiles, while_law, Fors, for_law}
 
 -- which statements begin so
 abbrev pub Form : Starting → Statement → Type 0

@@ -1,28 +1,23 @@
 -- The rule of conditions.
-use Rattle.std.proofs.Common.{ℕ, zero, suc, ◌+◌, ◌≤◌, ◌<◌, ◌≡◌, ◌⊎◌, inl, inr, List, [], ◌∷◌, ◌++◌, length, Option, Some, None, Bool, true, false, not, ◌&&◌, ◌||◌, cond, Ok, Err, refl, ap, sym, ◌∙◌, subst, arith, rules}
+use Rattle.std.proofs.Common.{ℕ, ◌+◌, ◌≤◌, ◌<◌, ◌≡◌, ◌⊎◌, inl, inr, List, [], ◌∷◌, length, Option, Some, None, Bool, true, false, ◌&&◌, ◌||◌, refl, ap, sym, ◌∙◌, arith}
 use Rattle.feast_base.specs.declared.place.Place.{Place}
-use Rattle.ulam_tree.specs.declared.op.PairOp.{PairOp}
-use Rattle.ulam_tree.specs.Raw.{Word, TypeRef, Path, Expr, number, truth, reads, calls, index, instance, group, cast, prefix, pair, is, Args, Cond, seen, test, Left, Statement, block, empty, if_so, while_so, for_all, returns, breaks, continues, declares, assigns, counts, does, Part, no_part, part}
+use Rattle.ulam_tree.specs.Raw.{Word, Path, Expr, number, truth, reads, calls, index, instance, group, cast, prefix, pair, is, Args, Cond, seen, test}
 use Rattle.ulam_parse.specs.declared.symbol.Symbol.{Symbol}
 use Rattle.ulam_parse.specs.declared.symbol.Symbol.TheVariants as s
 use Rattle.ulam_parse.specs.declared.symbol.Infix.TheVariants as i
 use Rattle.ulam_parse.specs.declared.symbol.Opening.{Opening}
 use Rattle.ulam_parse.specs.declared.symbol.Opening.TheVariants as o
-use Rattle.ulam_parse.specs.declared.symbol.Assigning.{Assigning}
-use Rattle.ulam_parse.specs.declared.symbol.Assigning.TheVariants.{Assigns, Counts, Nothing}
 use Rattle.ulam_parse.specs.Tokens.{Text, Tok, tok}
-use Rattle.ulam_parse.specs.Tables.{infix_of, opening_of, assigning_of}
-use Rattle.ulam_parse.specs.Grammar.{Span, ◌⟫◌, Takes, TakesWord, TakesAssign, TakesCount, IsType, AreDotted, IsPathOf, IsPath, IsExpr, AreArgs, IsCond, IsIndex, IsLeft, IsMaybe, IsStart, IsSimple, IsDeclare, IsFirst, IsStep}
-use Rattle.ulam_parse.specs.Reading.{Halt, stops, tired, Read, Reader, ◌>>=◌, same, sees, sees_second, expect, type_ref, path, args, expr, all_args, expr_in}
+use Rattle.ulam_parse.specs.Tables.{infix_of, opening_of}
+use Rattle.ulam_parse.specs.Grammar.{Span, TakesWord, AreDotted, IsPathOf, IsExpr, AreArgs, IsCond}
+use Rattle.ulam_parse.specs.Reading.{same, sees, sees_second, expr, all_args, expr_in}
 use Rattle.ulam_parse.specs.Statements as r
-use Rattle.ulam_parse.proofs.Tells.{decide, same_self, same_is, is_end, first, tail, is_seen, unseen, one_first, sees_first, Found, Stopped, Tells, tells_as, tells_two, tells_behind, Behind}
-use Rattle.ulam_parse.proofs.Rules.{Free, tells_if, Rule, Filled, Then, Map, Into, Back, Seen, Unseen, Always, token, then, after, map, named, here, choice, some_place, some_word, none_some}
-use Rattle.ulam_parse.proofs.TypeRules.{Not, type_rule, path_rule}
-use Rattle.ulam_parse.proofs.Opened.{reach, reach_at, no_opens, unopened}
-use Rattle.ulam_parse.proofs.Operands.{ExprLaw, expr_filled, args_filled, args_law, reach_none, paren_reach, bracket_reach}
+use Rattle.ulam_parse.proofs.Tells.{decide, same_self, same_is, first, tail, sees_first, Tells, tells_as, tells_two}
+use Rattle.ulam_parse.proofs.Rules.{Free, tells_if, Rule, Then, Map, Into, Back, token, then, map, some_place, some_word, none_some}
+use Rattle.ulam_parse.proofs.Opened.{reach}
+use Rattle.ulam_parse.proofs.Operands.{expr_filled, args_filled, args_law, reach_none}
 use Rattle.ulam_parse.proofs.Primaries.{both, empty_expr}
-use Rattle.ulam_parse.proofs.OperandRule.{same_first, behind_first}
-use Rattle.ulam_parse.proofs.Chains.{Link, joined, tested, IsChain, Chained, chained, level_most}
+use Rattle.ulam_parse.proofs.Chains.{Link, joined, tested, IsChain, chained, level_most}
 use Rattle.ulam_parse.proofs.ExprRule.{expr_in_law, expr_law}
 
 -- no operator of this level or a tighter one follows

@@ -1,6 +1,5 @@
 -- The search for the first token that is too deep, token by token.
-use Rattle.std.proofs.Common.{ℕ, ◌+◌, ◌≤◌, ◌<◌, ◌≡◌, List, [], ◌∷◌, Option, Some, None, cond, refl, ap, ◌∙◌}
-use Rattle.std.specs.Prelude.{nat_lt}
+use Rattle.std.proofs.Common.{ℕ, ◌+◌, ◌≤◌, ◌<◌, ◌≡◌, List, [], ◌∷◌, Some, None, cond, ap, ◌∙◌}
 use Rattle.std.proofs.lemmas.Bool.{lt-ltb, le-ltb}
 use Rattle.ulam_parse.specs.Tokens.{Tok}
 use Rattle.ulam_parse.specs.Nesting.{Nest, depth, nest_step, symbol_at}

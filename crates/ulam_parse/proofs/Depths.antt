@@ -1,9 +1,9 @@
 -- The first token with which tokens nest too deep.
-use Rattle.std.proofs.Common.{ℕ, zero, suc, ◌+◌, ◌≤◌, ◌<◌, ◌≡◌, ◌⊎◌, inl, inr, List, [], ◌∷◌, ◌++◌, length, take, drop, Option, Some, None, Bool, true, false, cond, refl, ap, sym, ◌∙◌, subst, arith, rules}
-use Rattle.std.specs.Prelude.{fold, nat_lt}
-use Rattle.std.proofs.lemmas.Bool.{lt-ltb, le-ltb, ltb-true, cases_lt}
-use Rattle.ulam_parse.specs.Tokens.{Tok, tok}
-use Rattle.ulam_parse.specs.Nesting.{Nest, outside, depth, nest_step, symbol_at, nesting, IsShallow}
+use Rattle.std.proofs.Common.{ℕ, ◌+◌, ◌≤◌, ◌<◌, ◌≡◌, ◌⊎◌, inl, inr, List, [], ◌∷◌, ◌++◌, length, Option, Some, None, cond, refl, ap, sym, ◌∙◌, subst, arith}
+use Rattle.std.specs.Prelude.{fold}
+use Rattle.std.proofs.lemmas.Bool.{lt-ltb, le-ltb, cases_lt}
+use Rattle.ulam_parse.specs.Tokens.{Tok}
+use Rattle.ulam_parse.specs.Nesting.{Nest, outside, depth, nest_step, symbol_at, IsShallow}
 use Rattle.ulam_parse.specs.Sentences.{deep_from}
 use Rattle.ulam_parse.proofs.Tells.{tail}
 

@@ -1,5 +1,5 @@
 -- The rule of expressions.
-use Rattle.std.proofs.Common.{ℕ, zero, suc, ◌+◌, ◌≤◌, ◌<◌, ◌≡◌, List, [], ◌∷◌, ◌++◌, length, Option, Some, None, Bool, true, false, not, ◌&&◌, cond, Ok, Err, refl, ap, sym, ◌∙◌, subst, arith, rules}
+use Rattle.std.proofs.Common.{ℕ, zero, suc, ◌+◌, ◌≤◌, ◌<◌, ◌≡◌, List, [], ◌∷◌, length, Option, Some, None, Bool, true, false, ◌&&◌, Ok, refl, ap, sym, ◌∙◌, subst, arith}
 use Rattle.std.specs.Prelude.{nat_le}
 use Rattle.std.proofs.lemmas.Bool.{le-leb, leb-true}
 use Rattle.feast_base.specs.declared.place.Place.{Place}
@@ -11,13 +11,13 @@ use Rattle.ulam_parse.specs.declared.symbol.Infix.{Infix}
 use Rattle.ulam_parse.specs.declared.symbol.Infix.TheVariants.{Joins, Tests, Opens, Ends}
 use Rattle.ulam_parse.specs.Tokens.{Text, Tok, tok}
 use Rattle.ulam_parse.specs.Tables.{infix_of, level}
-use Rattle.ulam_parse.specs.Grammar.{Span, ◌⟫◌, TakesWord, TakesAt, TakesPair, IsExpr}
-use Rattle.ulam_parse.specs.Reading.{Halt, stops, tired, Read, Reader, ◌>>=◌, sees, expect, operand, more_by, more, climb, expr_in, expr}
-use Rattle.ulam_parse.proofs.Tells.{decide, is_end, first, tail, one_first, Found, Stopped, Tells, tells_as, tells_behind, Behind}
-use Rattle.ulam_parse.proofs.Rules.{Free, tells_if, Rule, Filled, Then, Map, Into, token, then, then_law, token_law, none_some}
-use Rattle.ulam_parse.proofs.Chains.{Link, joined, tested, build, IsChain, build_is, Chained, chained, level_most}
+use Rattle.ulam_parse.specs.Grammar.{Span, TakesWord, IsExpr}
+use Rattle.ulam_parse.specs.Reading.{Reader, operand, more_by, more, climb, expr_in, expr}
+use Rattle.ulam_parse.proofs.Tells.{decide, is_end, first, tail, one_first, Found, Tells, tells_as, tells_behind, Behind}
+use Rattle.ulam_parse.proofs.Rules.{Free, tells_if, Rule, Filled, Then, Into, token, then, then_law}
+use Rattle.ulam_parse.proofs.Chains.{Link, joined, tested, build, IsChain, build_is, chained, level_most}
 use Rattle.ulam_parse.proofs.Opened.{reach_by, reach, reach_at}
-use Rattle.ulam_parse.proofs.Operands.{Reach, ExprLaw, expr_filled, expr_part}
+use Rattle.ulam_parse.proofs.Operands.{Reach, ExprLaw, expr_part}
 use Rattle.ulam_parse.proofs.OperandRule.{same_first, behind_first, place_in, operand_law}
 
 -- the rest of an expression

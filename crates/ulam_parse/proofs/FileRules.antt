@@ -1,19 +1,18 @@
 -- The rules of members, classes and items, and of a whole file.
-use Rattle.std.proofs.Common.{ℕ, zero, suc, ◌+◌, ◌≤◌, ◌<◌, ◌≡◌, ◌⊎◌, inl, inr, List, [], ◌∷◌, ◌++◌, length, Option, Some, None, Bool, true, false, not, ◌&&◌, ◌||◌, cond, Ok, Err, refl, ap, sym, ◌∙◌, subst, arith, rules}
-use Rattle.ulam_tree.specs.Raw.{Word, Width, TypeRef, Body, Param, Const, Member, typedef, constant, field, function, Class, Item, ulam, uses, class}
+use Rattle.std.proofs.Common.{ℕ, zero, suc, ◌+◌, ◌<◌, ◌≡◌, List, [], ◌∷◌, length, Option, Some, None, Bool, true, false, refl, ap, sym, ◌∙◌, subst, arith}
+use Rattle.ulam_tree.specs.Raw.{Word, Width, TypeRef, Member, typedef, constant, field, function, Class, Item, ulam, uses, class}
 use Rattle.ulam_parse.specs.declared.symbol.Symbol.{Symbol}
 use Rattle.ulam_parse.specs.declared.symbol.Symbol.TheVariants as s
-use Rattle.ulam_parse.specs.Tokens.{Text, Tok, tok, value_of, unsigned_of}
-use Rattle.ulam_parse.specs.Grammar.{Span, ◌⟫◌, Takes, TakesWord, IsWidth, IsType, IsBody, AreParams, IsConst, IsLength, IsMember, AreMembers, class_symbol, IsClass, IsItem, AreItems}
-use Rattle.ulam_parse.specs.Reading.{Halt, stops, tired, Read, Reader, ◌>>=◌, same, sees, expect, enclosed, type_ref}
-use Rattle.ulam_parse.specs.Statements.{whole_body}
+use Rattle.ulam_parse.specs.Tokens.{Tok, tok, value_of, unsigned_of}
+use Rattle.ulam_parse.specs.Grammar.{Span, ◌⟫◌, Takes, TakesWord, IsType, IsBody, AreParams, IsConst, IsLength, IsMember, AreMembers, class_symbol, IsClass, IsItem, AreItems}
+use Rattle.ulam_parse.specs.Reading.{same, sees}
 use Rattle.ulam_parse.specs.Files as r
-use Rattle.ulam_parse.proofs.Tells.{decide, same_self, same_is, is_end, first, is_seen, unseen, sees_first, Found, Stopped, Tells}
-use Rattle.ulam_parse.proofs.Rules.{Free, Rule, Filled, Then, Map, Into, Back, Seen, Unseen, Always, token, then, after, further, map, named, here, choice, some_place, some_word, none_some}
+use Rattle.ulam_parse.proofs.Tells.{is_end, is_seen, unseen, Tells}
+use Rattle.ulam_parse.proofs.Rules.{Free, Rule, Filled, Then, Map, Into, Back, Seen, Unseen, Always, token, then, further, map, named, here, choice, some_place, some_word, none_some}
 use Rattle.ulam_parse.proofs.TypeRules.{Not, type_rule, IsOptional, optional_made}
 use Rattle.ulam_parse.proofs.SimpleRules.{name_open}
 use Rattle.ulam_parse.proofs.BodyRule.{body_rule}
-use Rattle.ulam_parse.proofs.MemberRules.{Apart, params_rule, const_rule, const_filled}
+use Rattle.ulam_parse.proofs.MemberRules.{Apart, params_rule, const_rule}
 
 -- typedefs and constants
 

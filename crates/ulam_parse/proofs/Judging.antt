@@ -1,22 +1,22 @@
 -- What the reading of tokens up to one says of all.
-use Rattle.std.proofs.Common.{ℕ, zero, suc, ◌+◌, ◌≤◌, ◌<◌, ◌≡◌, ◌⊎◌, inl, inr, List, [], ◌∷◌, ◌++◌, length, drop, Option, Some, None, Bool, true, false, ◌||◌, cond, Ok, Err, refl, ap, sym, ◌∙◌, subst, arith, rules, append_assoc, length-append, append-nil}
+use Rattle.std.proofs.Common.{ℕ, zero, suc, ◌+◌, ◌≤◌, ◌≡◌, inl, inr, List, [], ◌∷◌, ◌++◌, length, drop, Bool, true, false, ◌||◌, cond, Ok, Err, refl, ap, sym, ◌∙◌, subst, arith, append_assoc, length-append, append-nil}
 use Rattle.feast_base.specs.declared.place.Place.{Place}
 use Rattle.ulam_tree.specs.Raw.{Item}
 use Rattle.ulam_parse.specs.declared.symbol.Symbol.{Symbol}
 use Rattle.ulam_parse.specs.declared.symbol.Symbol.TheVariants as s
 use Rattle.ulam_parse.specs.Tokens.{Text, Tok, tok}
 use Rattle.ulam_parse.specs.Grammar.{AreItems, IsFile, Begins}
-use Rattle.ulam_parse.specs.Nesting.{outside, nesting, IsShallow}
-use Rattle.ulam_parse.specs.Reading.{Halt, stops, tired, Read, ◌>>=◌, sees}
+use Rattle.ulam_parse.specs.Nesting.{outside, IsShallow}
+use Rattle.ulam_parse.specs.Reading.{stops, tired, Read, ◌>>=◌, sees}
 use Rattle.ulam_parse.specs.Files.{item, items, whole_file}
-use Rattle.ulam_parse.specs.Sentences.{is_end, has_end, place_at, EndsOnce, IsSentence, IsSyntaxFault, IsDepthFault, deep_from}
+use Rattle.ulam_parse.specs.Sentences.{is_end, has_end, place_at, EndsOnce, IsSyntaxFault, IsDepthFault}
 use Rattle.ulam_parse.proofs.Tells.{same_self, first, tail, Found, Stopped, Tells}
 use Rattle.ulam_parse.proofs.Tells as read
 use Rattle.ulam_parse.proofs.Rules.{Free, some_place}
 use Rattle.ulam_parse.proofs.CondRules.{seen_at}
 use Rattle.ulam_parse.proofs.FileRules.{AtEnd, file_law}
-use Rattle.ulam_parse.proofs.Depths.{DeepAt, shallow_is, ShallowFrom}
-use Rattle.ulam_parse.proofs.Verdicts.{Before, two_splits, begins_front, file_begins}
+use Rattle.ulam_parse.proofs.Depths.{DeepAt}
+use Rattle.ulam_parse.proofs.Verdicts.{two_splits}
 
 -- behind all items stands `End`
 

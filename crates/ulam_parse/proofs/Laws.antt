@@ -1,5 +1,5 @@
 -- What each way in which the parser ends says.
-use Rattle.std.proofs.Common.{ℕ, zero, suc, ◌+◌, ◌≤◌, ◌<◌, ◌≡◌, ◌⊎◌, inl, inr, List, [], ◌∷◌, ◌++◌, length, map, take, drop, Option, Some, None, Ok, Err, refl, ap, sym, ◌∙◌, subst, arith, append-nil, length-append}
+use Rattle.std.proofs.Common.{ℕ, zero, suc, ◌+◌, ◌<◌, ◌≡◌, ◌⊎◌, inl, inr, List, [], ◌∷◌, ◌++◌, length, map, take, drop, Some, None, Ok, Err, refl, ap, sym, ◌∙◌, subst, arith, append-nil, length-append}
 use Rattle.std.proofs.lemmas.List.{map-append, drop-map, take-append-drop}
 use Rattle.feast_base.specs.declared.place.Place.{Place}
 use Rattle.ulam_tree.specs.Raw.{Item}
@@ -8,7 +8,7 @@ use Rattle.ulam_parse.specs.declared.tape.Tape.{Tape}
 use Rattle.ulam_parse.specs.Tokens.{Tok}
 use Rattle.ulam_parse.specs.Grammar.{Begins}
 use Rattle.ulam_parse.specs.Nesting.{outside}
-use Rattle.ulam_parse.specs.Reading.{Halt, stops, tired, Read, ◌>>=◌}
+use Rattle.ulam_parse.specs.Reading.{stops, tired, Read}
 use Rattle.ulam_parse.specs.Files.{whole_file, with_front}
 use Rattle.ulam_parse.specs.Marks.{tok_at}
 use Rattle.ulam_parse.specs.Views.{from, Fails}
@@ -19,8 +19,8 @@ use Rattle.ulam_parse.specs.declared.fault.ParseFault.TheVariants.{NoMemory}
 use Rattle.ulam_parse.specs.Sentences.{place_at, EndsOnce, IsSentence, IsSyntaxFault, IsDepthFault, IsFaultOf, deep_from}
 use Rattle.ulam_parse.specs.Told.{ReadsTo, LeftAt}
 use Rattle.ulam_parse.proofs.Verdicts.{file_begins}
-use Rattle.ulam_parse.proofs.Depths.{DeepAt, deep_is, shallow_is}
-use Rattle.ulam_parse.proofs.Judging.{read_is, ended_begins, never_ended, never_tired, left_few, shallow_all, syntax_is, depth_before, depth_fault}
+use Rattle.ulam_parse.proofs.Depths.{deep_is, shallow_is}
+use Rattle.ulam_parse.proofs.Judging.{read_is, ended_begins, never_ended, shallow_all, syntax_is, depth_before, depth_fault}
 
 pub front_none : {A : Type 0} (r : Read (List A)) → with_front [] r ≡ r
 front_none (Ok x) = refl

@@ -1,5 +1,5 @@
 -- What one turn of a loop adds to what was read.
-use Rattle.std.proofs.Common.{◌≡◌, ℕ, suc, true, false, refl, ap, sym, ◌∙◌, List, [], ◌∷◌, ◌++◌, map, Ok, Err, append_assoc}
+use Rattle.std.proofs.Common.{◌≡◌, ℕ, suc, true, false, refl, ap, sym, List, [], ◌∷◌, ◌++◌, map, Ok, Err}
 use Rattle.ulam_tree.specs.Raw as t
 use Rattle.ulam_tree.specs.Raw.{Args, no_args, arg, Body, no_more, then_so}
 use Rattle.ulam_tree.specs.RawViews.{word_of, expr_of, args_list, statement_of, body_list, param_of, member_of, item_of}

@@ -1,23 +1,19 @@
 -- The rules of parameters, constants and members.
-use Rattle.std.proofs.Common.{ℕ, zero, suc, ◌+◌, ◌≤◌, ◌<◌, ◌≡◌, ◌⊎◌, inl, inr, List, [], ◌∷◌, ◌++◌, length, Option, Some, None, Bool, true, false, not, ◌&&◌, ◌||◌, cond, Ok, Err, refl, ap, sym, ◌∙◌, subst, arith, rules}
-use Rattle.ulam_tree.specs.declared.op.PrefixOp.TheVariants as p
-use Rattle.ulam_tree.specs.Raw.{Word, Width, TypeRef, Body, Param, Const, const_number, const_truth, const_named, Member, typedef, constant, field, function}
+use Rattle.std.proofs.Common.{ℕ, zero, suc, ◌+◌, ◌<◌, ◌≡◌, ◌⊎◌, inl, inr, List, [], ◌∷◌, length, Bool, true, false, refl, ap, sym, ◌∙◌, arith}
+use Rattle.ulam_tree.specs.Raw.{Word, Param, Const, const_number, const_truth, const_named}
 use Rattle.ulam_parse.specs.declared.symbol.Symbol.{Symbol}
 use Rattle.ulam_parse.specs.declared.symbol.Symbol.TheVariants as s
 use Rattle.ulam_parse.specs.declared.symbol.Opening.{Opening}
-use Rattle.ulam_parse.specs.declared.symbol.Opening.TheVariants.{Signs, Says}
+use Rattle.ulam_parse.specs.declared.symbol.Opening.TheVariants.{Says}
 use Rattle.ulam_parse.specs.Tokens.{Text, Tok, tok, value_of, unsigned_of}
 use Rattle.ulam_parse.specs.Tables.{opening_of}
-use Rattle.ulam_parse.specs.Grammar.{Span, ◌⟫◌, Takes, TakesWord, IsWidth, IsType, IsBody, IsParam, AreParams, AreMoreParams, IsConst, IsLength, IsMember, AreMembers}
-use Rattle.ulam_parse.specs.Reading.{Halt, stops, tired, Read, Reader, ◌>>=◌, same, sees, expect, enclosed, type_ref}
-use Rattle.ulam_parse.specs.Statements.{whole_body}
+use Rattle.ulam_parse.specs.Grammar.{Span, TakesWord, IsType, IsParam, AreParams, AreMoreParams, IsConst}
+use Rattle.ulam_parse.specs.Reading.{same, sees}
 use Rattle.ulam_parse.specs.Files as r
-use Rattle.ulam_parse.proofs.Tells.{decide, same_self, same_is, is_end, first, is_seen, unseen, sees_first, Found, Stopped, Tells}
-use Rattle.ulam_parse.proofs.Rules.{Free, Rule, Filled, Then, Map, Into, Back, Seen, Unseen, Always, token, then, after, further, map, named, here, choice, some_place, some_word, none_some}
-use Rattle.ulam_parse.proofs.TypeRules.{Not, type_rule, Between, IsOptional, optional_made}
-use Rattle.ulam_parse.proofs.CondRules.{Closed}
+use Rattle.ulam_parse.proofs.Tells.{is_end, is_seen, unseen, Tells}
+use Rattle.ulam_parse.proofs.Rules.{Free, Rule, Filled, Then, Map, Into, Back, Seen, Unseen, Always, token, then, after, map, named, choice, some_place, some_word}
+use Rattle.ulam_parse.proofs.TypeRules.{type_rule}
 use Rattle.ulam_parse.proofs.SimpleRules.{name_open}
-use Rattle.ulam_parse.proofs.BodyRule.{body_rule}
 
 -- this symbol does not come first
 abbrev pub Apart : {A : Type 0} → Symbol → (A → Span) → A → Span

@@ -1,5 +1,5 @@
 -- What the first tokens of an expression tell.
-use Rattle.std.proofs.Common.{ℕ, zero, suc, ◌+◌, ◌≤◌, ◌<◌, ◌≡◌, List, [], ◌∷◌, ◌++◌, length, Option, Some, None, Bool, true, false, not, ◌&&◌, Ok, Err, refl, ap, sym, ◌∙◌, subst, arith, rules}
+use Rattle.std.proofs.Common.{ℕ, ◌≤◌, ◌≡◌, List, [], ◌∷◌, Option, Some, None, true, false, refl, ap, sym, ◌∙◌, subst, arith}
 use Rattle.feast_base.specs.declared.place.Place.{Place}
 use Rattle.ulam_tree.specs.Raw.{Word, Width, TypeRef, Path, Expr, number, truth, reads, calls, index, instance, group, cast, prefix, pair, is}
 use Rattle.ulam_parse.specs.declared.symbol.Symbol.{Symbol}
@@ -10,7 +10,7 @@ use Rattle.ulam_parse.specs.declared.symbol.Opening.{Opening}
 use Rattle.ulam_parse.specs.declared.symbol.Opening.TheVariants.{Signs, Parens, Counts, Says, Classes, Names, Owns, Nothing}
 use Rattle.ulam_parse.specs.Tokens.{Text, Tok, tok}
 use Rattle.ulam_parse.specs.Tables.{infix_of, level, opening_of}
-use Rattle.ulam_parse.specs.Grammar.{Takes, TakesWord, IsSize, IsType, IsPathOf, IsPath, IsExpr}
+use Rattle.ulam_parse.specs.Grammar.{Takes, IsSize, IsType, IsPathOf, IsExpr}
 use Rattle.ulam_parse.specs.Reading.{same, sees, sees_second, begins_cast}
 use Rattle.ulam_parse.proofs.Tells.{decide, same_self, same_is, first, tail, sees_first}
 

@@ -1,22 +1,22 @@
 -- The rule of operands, by their first token.
-use Rattle.std.proofs.Common.{ℕ, zero, suc, ◌+◌, ◌≤◌, ◌<◌, ◌≡◌, List, [], ◌∷◌, ◌++◌, length, Option, Some, None, Bool, true, false, not, ◌&&◌, cond, Ok, Err, refl, ap, sym, ◌∙◌, subst, arith, rules}
+use Rattle.std.proofs.Common.{ℕ, suc, ◌+◌, ◌≤◌, ◌<◌, ◌≡◌, List, [], ◌∷◌, length, Option, Some, None, Bool, Ok, refl, ap, sym, ◌∙◌, subst, arith}
 use Rattle.feast_base.specs.declared.place.Place.{Place}
 use Rattle.ulam_tree.specs.declared.op.PrefixOp.{PrefixOp}
-use Rattle.ulam_tree.specs.Raw.{Word, Width, TypeRef, Path, Expr, number, truth, reads, calls, index, instance, group, cast, prefix, pair, is, Args, no_args, arg}
+use Rattle.ulam_tree.specs.Raw.{Word, Path, Expr, number, truth, reads, calls, index, instance, group, cast, prefix, pair, is}
 use Rattle.ulam_parse.specs.declared.symbol.Symbol.{Symbol}
 use Rattle.ulam_parse.specs.declared.symbol.Symbol.TheVariants as s
 use Rattle.ulam_parse.specs.declared.symbol.Opening.{Opening}
 use Rattle.ulam_parse.specs.declared.symbol.Opening.TheVariants.{Signs, Parens, Counts, Says, Classes, Names, Owns, Nothing}
 use Rattle.ulam_parse.specs.Tokens.{Text, Tok, tok, value_of, unsigned_of}
 use Rattle.ulam_parse.specs.Tables.{level, opening_of}
-use Rattle.ulam_parse.specs.Grammar.{Span, ◌⟫◌, Takes, TakesWord, IsPathOf, IsPath, IsExpr, AreDotted}
-use Rattle.ulam_parse.specs.Reading.{Halt, stops, tired, Read, Reader, ◌>>=◌, sees, path, new_atom, after_path, in_parens, operand_by, operand}
-use Rattle.ulam_parse.proofs.Tells.{is_end, first, one_first, Found, Stopped, Tells, tells_as, tells_behind, Behind}
-use Rattle.ulam_parse.proofs.Rules.{Free, Rule, Filled, Then, Map, Into, map, here, then_law, map_law, some_place, none_some}
+use Rattle.ulam_parse.specs.Grammar.{Span, IsPathOf, IsPath, IsExpr, AreDotted}
+use Rattle.ulam_parse.specs.Reading.{Reader, ◌>>=◌, path, after_path, operand_by, operand}
+use Rattle.ulam_parse.proofs.Tells.{first, one_first, Tells, tells_as, tells_behind, Behind}
+use Rattle.ulam_parse.proofs.Rules.{Free, Then, Map, Into, here, then_law, map_law}
 use Rattle.ulam_parse.proofs.TypeRules.{Not, path_law}
 use Rattle.ulam_parse.proofs.Chains.{level_most}
-use Rattle.ulam_parse.proofs.Opened.{reach, Form, Opened, opened, no_form}
-use Rattle.ulam_parse.proofs.Operands.{Reach, ExprLaw, expr_filled, expr_part, IsAfter, after_filled, after_path_law, after_dot}
+use Rattle.ulam_parse.proofs.Opened.{Form, opened, no_form}
+use Rattle.ulam_parse.proofs.Operands.{Reach, ExprLaw, expr_filled, IsAfter, after_filled, after_path_law, after_dot}
 use Rattle.ulam_parse.proofs.Primaries.{IsInside, in_parens_law, New, new_law, empty_expr, not_end, parens_only, counts_only}
 
 tok_in : Tok → Option Tok → Tok

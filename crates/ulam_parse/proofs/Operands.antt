@@ -1,20 +1,17 @@
 -- The rules of arguments and operands, over that of expressions.
-use Rattle.std.proofs.Common.{ℕ, zero, suc, ◌+◌, ◌≤◌, ◌<◌, ◌≡◌, List, [], ◌∷◌, ◌++◌, length, Option, Some, None, Bool, true, false, not, ◌&&◌, cond, Ok, Err, refl, ap, sym, ◌∙◌, subst, arith, rules}
+use Rattle.std.proofs.Common.{ℕ, zero, suc, ◌+◌, ◌≤◌, ◌<◌, ◌≡◌, List, [], ◌∷◌, length, true, false, refl, ap, sym, ◌∙◌, arith}
 use Rattle.feast_base.specs.declared.place.Place.{Place}
-use Rattle.ulam_tree.specs.Raw.{Word, Width, TypeRef, Path, Expr, number, truth, reads, calls, index, instance, group, cast, prefix, pair, is, Args, no_args, arg}
+use Rattle.ulam_tree.specs.Raw.{Word, Path, Expr, truth, reads, calls, index, Args, no_args, arg}
 use Rattle.ulam_parse.specs.declared.symbol.Symbol.{Symbol}
 use Rattle.ulam_parse.specs.declared.symbol.Symbol.TheVariants as s
 use Rattle.ulam_parse.specs.declared.symbol.Infix.TheVariants as i
-use Rattle.ulam_parse.specs.declared.symbol.Opening.{Opening}
-use Rattle.ulam_parse.specs.declared.symbol.Opening.TheVariants.{Signs, Parens, Counts, Says, Classes, Names, Owns, Nothing}
-use Rattle.ulam_parse.specs.Tokens.{Text, Tok, tok, value_of, unsigned_of}
-use Rattle.ulam_parse.specs.Tables.{infix_of, level, opening_of}
-use Rattle.ulam_parse.specs.Grammar.{Span, ◌⟫◌, Takes, TakesWord, IsSize, IsType, IsPath, IsExpr, AreArgs, AreMoreArgs}
-use Rattle.ulam_parse.specs.Reading.{Halt, stops, tired, Read, Reader, ◌>>=◌, same, sees, sees_second, begins_cast, expect, type_ref, path, new_atom, more_args, args, after_path, in_parens, operand_by, operand, expr_in}
-use Rattle.ulam_parse.proofs.Tells.{decide, same_self, same_is, is_end, first, tail, is_seen, unseen, one_first, sees_first, Found, Stopped, Tells, tells_as, tells_two, tells_behind, Behind}
-use Rattle.ulam_parse.proofs.Rules.{Free, tells_if, Rule, Filled, Then, Map, Into, Back, Seen, Unseen, Always, token, then, after, map, named, here, choice, some_place, some_word, none_some}
-use Rattle.ulam_parse.proofs.TypeRules.{Not, type_rule, path_rule}
-use Rattle.ulam_parse.proofs.Opened.{reach_by, reach, reach_at, no_opens, Form, Opened, opened, no_form, unopened, no_cast, type_casts, cast_two}
+use Rattle.ulam_parse.specs.Tokens.{Text, Tok, tok}
+use Rattle.ulam_parse.specs.Tables.{infix_of}
+use Rattle.ulam_parse.specs.Grammar.{Span, ◌⟫◌, Takes, TakesWord, IsExpr, AreArgs, AreMoreArgs}
+use Rattle.ulam_parse.specs.Reading.{Reader, same, sees, more_args, args, after_path}
+use Rattle.ulam_parse.proofs.Tells.{is_seen, unseen, Tells}
+use Rattle.ulam_parse.proofs.Rules.{Free, Rule, Filled, Then, Map, Into, Back, Seen, Unseen, token, then, after, map, here, choice, some_place, some_word}
+use Rattle.ulam_parse.proofs.Opened.{reach_by, reach, reach_at, no_opens, unopened}
 
 -- no operator of this level or a tighter one follows
 abbrev pub Reach : ℕ → Expr → List Tok → Type 0

@@ -1,7 +1,7 @@
 -- What the order of tokens tells of each, and of their symbols.
-use Rattle.std.proofs.Common.{ℕ, zero, suc, ◌+◌, ◌≤◌, ◌<◌, ◌≡◌, List, [], ◌∷◌, ◌++◌, length, take, drop, map, codes, Bool, true, false, not, ◌&&◌, cond, refl, ap, sym, ◌∙◌, subst, arith, rules, get_or}
-use Rattle.std.specs.Prelude.{bytes_eq, slice_range, ◌==◌}
-use Rattle.std.specs.List.{All, list_all}
+use Rattle.std.proofs.Common.{ℕ, ◌≡◌, List, [], ◌∷◌, ◌++◌, take, drop, codes, Bool, true, false, not, ◌&&◌, cond, refl, ap, sym, ◌∙◌, subst, arith}
+use Rattle.std.specs.Prelude.{bytes_eq, slice_range}
+use Rattle.std.specs.List.{All}
 use Rattle.std.specs.Bool.{Decides}
 use Rattle.std.proofs.lemmas.Slice.Eq.{bytes_eq-Decides}
 use Rattle.std.proofs.lemmas.List.{take-append-drop}
@@ -11,14 +11,14 @@ use Rattle.ulam_lex.specs.declared.token.TokenKind.{TokenKind}
 use Rattle.ulam_lex.specs.declared.token.TokenKind.TheVariants as k
 use Rattle.ulam_lex.specs.declared.token.Token.{Token}
 use Rattle.ulam_lex.specs.declared.numeral.Base.TheVariants.{Binary, Decimal, Hexadecimal}
-use Rattle.ulam_lex.specs.Pieces.{IsToken, IsNumeral, IsNumber}
+use Rattle.ulam_lex.specs.Pieces.{IsToken, IsNumeral}
 use Rattle.ulam_lex.specs.Starts.{IsBaseAt}
 use Rattle.ulam_lex.specs.Texts.{AreInOrder}
 use Rattle.ulam_lex.proofs.Numbers.{numeral_value}
 use Rattle.ulam_parse.specs.declared.symbol.Symbol.{Symbol}
 use Rattle.ulam_parse.specs.declared.symbol.Symbol.TheVariants as s
-use Rattle.ulam_parse.specs.Tokens.{Text, Tok, tok, symbol_in, symbol_of, keywords, signs, tok_of, toks, base_of, value_of, unsigned_of}
-use Rattle.ulam_parse.specs.Sentences.{is_end, has_end, EndsOnce}
+use Rattle.ulam_parse.specs.Tokens.{Text, tok, symbol_in, symbol_of, keywords, signs, tok_of, toks, base_of, value_of, unsigned_of}
+use Rattle.ulam_parse.specs.Sentences.{is_end, EndsOnce}
 use Rattle.ulam_parse.specs.Sound.{IsSound}
 
 -- a symbol of a table is none that no entry has

@@ -1,25 +1,25 @@
 -- The rules of what stands before `;`, and of the heads of `if`, `while` and `for`.
-use Rattle.std.proofs.Common.{ℕ, zero, suc, ◌+◌, ◌≤◌, ◌<◌, ◌≡◌, ◌⊎◌, inl, inr, List, [], ◌∷◌, ◌++◌, length, Option, Some, None, Bool, true, false, not, ◌&&◌, ◌||◌, cond, Ok, Err, refl, ap, sym, ◌∙◌, subst, arith, rules}
+use Rattle.std.proofs.Common.{ℕ, ◌<◌, ◌≡◌, ◌⊎◌, inl, inr, List, [], ◌∷◌, length, Option, Some, None, Bool, true, false, ◌||◌, refl, ap, sym, ◌∙◌, subst, arith}
 use Rattle.feast_base.specs.declared.place.Place.{Place}
-use Rattle.ulam_tree.specs.Raw.{Word, TypeRef, Path, Expr, reads, Args, Cond, Left, Statement, block, empty, if_so, while_so, for_all, returns, breaks, continues, declares, assigns, counts, does, Part, no_part, part}
+use Rattle.ulam_tree.specs.Raw.{Word, Path, Expr, reads, Cond, Left, Statement, declares, assigns, counts, does, Part, no_part, part}
 use Rattle.ulam_parse.specs.declared.symbol.Symbol.{Symbol}
 use Rattle.ulam_parse.specs.declared.symbol.Symbol.TheVariants as s
 use Rattle.ulam_parse.specs.declared.symbol.Opening.TheVariants as o
 use Rattle.ulam_parse.specs.declared.symbol.Assigning.{Assigning}
 use Rattle.ulam_parse.specs.declared.symbol.Assigning.TheVariants.{Assigns, Counts, Nothing}
-use Rattle.ulam_parse.specs.Tokens.{Text, Tok, tok}
-use Rattle.ulam_parse.specs.Tables.{infix_of, opening_of, assigning_of}
-use Rattle.ulam_parse.specs.Grammar.{Span, ◌⟫◌, Takes, TakesWord, TakesAssign, TakesCount, IsType, IsPathOf, IsPath, IsExpr, AreArgs, IsCond, IsIndex, IsLeft, IsMaybe, IsStart, IsSimple, IsDeclare, IsFirst, IsStep}
-use Rattle.ulam_parse.specs.Reading.{Halt, stops, tired, Read, Reader, ◌>>=◌, same, sees, expect, type_ref, path, args, expr}
+use Rattle.ulam_parse.specs.Tokens.{Tok, tok}
+use Rattle.ulam_parse.specs.Tables.{opening_of, assigning_of}
+use Rattle.ulam_parse.specs.Grammar.{Span, ◌⟫◌, Takes, TakesWord, TakesAssign, TakesCount, IsPathOf, IsPath, IsExpr, AreArgs, IsIndex, IsLeft, IsSimple, IsDeclare, IsFirst, IsStep}
+use Rattle.ulam_parse.specs.Reading.{same, sees}
 use Rattle.ulam_parse.specs.Statements as r
 use Rattle.ulam_parse.specs.Statements.{ForHead}
-use Rattle.ulam_parse.proofs.Tells.{decide, same_self, same_is, is_end, first, is_seen, unseen, one_first, sees_first, Found, Stopped, Tells, tells_as}
-use Rattle.ulam_parse.proofs.Rules.{Free, Rule, Filled, Then, Map, Into, Back, Seen, Unseen, Always, token, then, after, map, named, here, choice, some_place, some_word, none_some}
-use Rattle.ulam_parse.proofs.TypeRules.{Not, type_rule, path_rule}
-use Rattle.ulam_parse.proofs.Opened.{reach, no_opens, unopened, opened}
-use Rattle.ulam_parse.proofs.Operands.{expr_filled, paren_reach}
-use Rattle.ulam_parse.proofs.CondRules.{Under, closes, Closed, closed_reach, closed_not, semi_closes, paren_closes, expr_rule, args_rule, cond_rule}
-use Rattle.ulam_parse.proofs.SimpleRules.{index_rule, index_filled, left_rule, Ended, ended_closes, maybe_rule, maybe_filled, declare_rule, IsAssign, assign_rule}
+use Rattle.ulam_parse.proofs.Tells.{decide, same_self, same_is, is_end, is_seen, unseen, Tells}
+use Rattle.ulam_parse.proofs.Rules.{Free, Rule, Filled, Then, Map, Into, Back, Seen, Unseen, token, then, map, here, choice, some_place, some_word}
+use Rattle.ulam_parse.proofs.TypeRules.{path_rule}
+use Rattle.ulam_parse.proofs.Opened.{reach, unopened}
+use Rattle.ulam_parse.proofs.Operands.{paren_reach}
+use Rattle.ulam_parse.proofs.CondRules.{Under, closes, Closed, closed_reach, paren_closes, expr_rule, args_rule, cond_rule}
+use Rattle.ulam_parse.proofs.SimpleRules.{index_rule, left_rule, Ended, ended_closes, maybe_rule, declare_rule, IsAssign, assign_rule}
 
 -- a call, or what is done to a place, behind its names
 

@@ -1,22 +1,20 @@
 -- The rule of operands, over that of expressions.
-use Rattle.std.proofs.Common.{ℕ, zero, suc, ◌+◌, ◌≤◌, ◌<◌, ◌≡◌, List, [], ◌∷◌, ◌++◌, length, Option, Some, None, Bool, true, false, not, ◌&&◌, cond, Ok, Err, refl, ap, sym, ◌∙◌, subst, arith, rules}
+use Rattle.std.proofs.Common.{ℕ, ◌+◌, ◌<◌, ◌≡◌, List, [], ◌∷◌, length, None, Bool, true, false, not, ◌&&◌, refl, ap, sym, ◌∙◌, arith}
 use Rattle.feast_base.specs.declared.place.Place.{Place}
-use Rattle.ulam_tree.specs.declared.op.PrefixOp.{PrefixOp}
-use Rattle.ulam_tree.specs.Raw.{Word, Width, TypeRef, Path, Expr, number, truth, reads, calls, index, instance, group, cast, prefix, pair, is, Args, no_args, arg}
+use Rattle.ulam_tree.specs.Raw.{Word, Expr, truth, instance, group, cast}
 use Rattle.ulam_parse.specs.declared.symbol.Symbol.{Symbol}
 use Rattle.ulam_parse.specs.declared.symbol.Symbol.TheVariants as s
 use Rattle.ulam_parse.specs.declared.symbol.Opening.{Opening}
-use Rattle.ulam_parse.specs.declared.symbol.Opening.TheVariants.{Signs, Parens, Counts, Says, Classes, Names, Owns, Nothing}
-use Rattle.ulam_parse.specs.Tokens.{Text, Tok, tok, value_of, unsigned_of}
-use Rattle.ulam_parse.specs.Tables.{level, opening_of}
-use Rattle.ulam_parse.specs.Grammar.{Span, ◌⟫◌, Takes, TakesWord, IsSize, IsType, IsPathOf, IsPath, IsExpr, AreDotted}
-use Rattle.ulam_parse.specs.Reading.{Halt, stops, tired, Read, Reader, ◌>>=◌, same, sees, sees_second, begins_cast, expect, type_ref, path, new_atom, after_path, in_parens, operand_by, operand}
-use Rattle.ulam_parse.proofs.Tells.{decide, same_self, same_is, is_end, first, tail, is_seen, unseen, one_first, sees_first, Found, Stopped, Tells, tells_as, tells_two, tells_behind, Behind}
-use Rattle.ulam_parse.proofs.Rules.{Free, tells_if, Rule, Filled, Then, Map, Into, Back, Seen, Unseen, Always, token, then, after, map, named, here, choice, then_law, some_place, some_word, none_some}
-use Rattle.ulam_parse.proofs.TypeRules.{Not, type_rule, path_rule, path_law}
-use Rattle.ulam_parse.proofs.Chains.{level_most}
-use Rattle.ulam_parse.proofs.Opened.{reach, Form, Opened, opened, no_form, unopened, no_cast, type_casts, cast_two}
-use Rattle.ulam_parse.proofs.Operands.{Reach, ExprLaw, expr_filled, expr_part, IsAfter, after_filled, after_path_law, after_dot, paren_reach}
+use Rattle.ulam_parse.specs.declared.symbol.Opening.TheVariants.{Parens, Counts, Nothing}
+use Rattle.ulam_parse.specs.Tokens.{Text, Tok, tok}
+use Rattle.ulam_parse.specs.Tables.{opening_of}
+use Rattle.ulam_parse.specs.Grammar.{Span, ◌⟫◌, Takes, TakesWord, IsType, IsExpr}
+use Rattle.ulam_parse.specs.Reading.{Reader, same, sees, sees_second, begins_cast, new_atom, in_parens}
+use Rattle.ulam_parse.proofs.Tells.{decide, same_is, is_end, first, sees_first, Tells, tells_as, tells_two}
+use Rattle.ulam_parse.proofs.Rules.{Free, tells_if, Rule, Then, Map, Into, Back, token, then, map, some_place, some_word, none_some}
+use Rattle.ulam_parse.proofs.TypeRules.{type_rule}
+use Rattle.ulam_parse.proofs.Opened.{opened, no_cast, type_casts, cast_two}
+use Rattle.ulam_parse.proofs.Operands.{Reach, ExprLaw, expr_part, paren_reach}
 
 -- behind a bracket
 

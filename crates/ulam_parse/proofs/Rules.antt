@@ -1,13 +1,13 @@
 -- Rules of a grammar with how they are read, and how they are put together.
-use Rattle.std.proofs.Common.{ℕ, zero, suc, ◌+◌, ◌≤◌, ◌<◌, ◌≡◌, List, [], ◌∷◌, ◌++◌, length, Option, Some, None, Bool, true, false, cond, Ok, Err, refl, ap, sym, ◌∙◌, subst, arith, rules, append_assoc, length-append}
+use Rattle.std.proofs.Common.{ℕ, suc, ◌≤◌, ◌<◌, ◌≡◌, List, [], ◌∷◌, ◌++◌, length, Option, Some, None, Bool, true, false, cond, Ok, Err, refl, ap, sym, ◌∙◌, subst, arith, append_assoc, length-append}
 use Rattle.feast_base.specs.declared.place.Place.{Place}
 use Rattle.ulam_tree.specs.Raw.{Word}
 use Rattle.ulam_parse.specs.declared.symbol.Symbol.{Symbol}
 use Rattle.ulam_parse.specs.declared.symbol.Symbol.TheVariants as s
-use Rattle.ulam_parse.specs.Tokens.{Text, Tok, tok}
+use Rattle.ulam_parse.specs.Tokens.{Tok, tok}
 use Rattle.ulam_parse.specs.Grammar.{Span, TakesWord}
-use Rattle.ulam_parse.specs.Reading.{Halt, stops, tired, Read, Reader, ◌>>=◌, same, sees, expect}
-use Rattle.ulam_parse.proofs.Tells.{decide, same_self, same_is, first, is_end, has_end, no_end_append, first_append, sees_first, Found, Stopped, Tells, tells_as, tail}
+use Rattle.ulam_parse.specs.Reading.{stops, tired, Read, Reader, ◌>>=◌, same, sees, expect}
+use Rattle.ulam_parse.proofs.Tells.{same_self, same_is, first, is_end, no_end_append, first_append, sees_first, Found, Stopped, Tells, tells_as, tail}
 
 -- nothing is asked or known
 abbrev pub Free : {A : Type 0} → A → List Tok → Type 0

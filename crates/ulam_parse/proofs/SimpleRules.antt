@@ -1,26 +1,25 @@
 -- The rules of declarations, assignments, counts and calls.
-use Rattle.std.proofs.Common.{ℕ, zero, suc, ◌+◌, ◌≤◌, ◌<◌, ◌≡◌, ◌⊎◌, inl, inr, List, [], ◌∷◌, ◌++◌, length, Option, Some, None, Bool, true, false, not, ◌&&◌, ◌||◌, cond, Ok, Err, refl, ap, sym, ◌∙◌, subst, arith, rules}
+use Rattle.std.proofs.Common.{ℕ, ◌+◌, ◌<◌, ◌≡◌, List, [], ◌∷◌, length, Option, Some, None, Bool, true, false, Ok, refl, ap, sym, ◌∙◌, subst, arith}
 use Rattle.feast_base.specs.declared.place.Place.{Place}
 use Rattle.ulam_tree.specs.declared.op.PairOp.{PairOp}
-use Rattle.ulam_tree.specs.Raw.{Word, TypeRef, Path, Expr, reads, Args, Left, Statement, block, empty, if_so, while_so, for_all, returns, breaks, continues, declares, assigns, counts, does}
+use Rattle.ulam_tree.specs.Raw.{Word, Expr, Left, Statement, declares, assigns, counts}
 use Rattle.ulam_parse.specs.declared.symbol.Symbol.{Symbol}
 use Rattle.ulam_parse.specs.declared.symbol.Symbol.TheVariants as s
-use Rattle.ulam_parse.specs.declared.symbol.Infix.TheVariants as i
 use Rattle.ulam_parse.specs.declared.symbol.Assigning.{Assigning}
 use Rattle.ulam_parse.specs.declared.symbol.Assigning.TheVariants.{Assigns, Counts, Nothing}
 use Rattle.ulam_parse.specs.Tokens.{Text, Tok, tok}
-use Rattle.ulam_parse.specs.Tables.{infix_of, assigning_of}
-use Rattle.ulam_parse.specs.Grammar.{Span, ◌⟫◌, Takes, TakesWord, TakesAssign, TakesCount, IsType, IsPath, IsExpr, AreArgs, IsIndex, IsLeft, IsMaybe, IsStart, IsSimple, IsDeclare}
-use Rattle.ulam_parse.specs.Reading.{Halt, stops, tired, Read, Reader, ◌>>=◌, same, sees, expect, type_ref, path, args, expr}
+use Rattle.ulam_parse.specs.Tables.{assigning_of}
+use Rattle.ulam_parse.specs.Grammar.{Span, ◌⟫◌, TakesWord, TakesAssign, TakesCount, IsType, IsPath, IsExpr, IsIndex, IsLeft, IsMaybe, IsStart, IsDeclare}
+use Rattle.ulam_parse.specs.Reading.{same, sees, expr}
 use Rattle.ulam_parse.specs.Statements as r
-use Rattle.ulam_parse.proofs.Tells.{decide, same_self, same_is, is_end, first, is_seen, unseen, one_first, sees_first, Found, Stopped, Tells, tells_as, tells_behind, Behind}
-use Rattle.ulam_parse.proofs.Rules.{Free, Rule, Filled, Then, Map, Into, Back, Seen, Unseen, Always, token, then, after, map, named, here, choice, map_law, some_place, some_word, none_some}
+use Rattle.ulam_parse.proofs.Tells.{decide, is_end, first, unseen, one_first, Tells, tells_as, tells_behind, Behind}
+use Rattle.ulam_parse.proofs.Rules.{Free, Rule, Filled, Then, Map, Back, Seen, Unseen, Always, token, then, map, named, here, choice, map_law, some_place, some_word, none_some}
 use Rattle.ulam_parse.proofs.TypeRules.{Not, type_rule, path_rule}
 use Rattle.ulam_parse.proofs.Opened.{reach, no_opens, unopened}
-use Rattle.ulam_parse.proofs.Operands.{expr_filled, bracket_reach}
-use Rattle.ulam_parse.proofs.OperandRule.{same_first, behind_first}
+use Rattle.ulam_parse.proofs.Operands.{bracket_reach}
+use Rattle.ulam_parse.proofs.OperandRule.{behind_first}
 use Rattle.ulam_parse.proofs.ExprRule.{expr_law}
-use Rattle.ulam_parse.proofs.CondRules.{Under, closes, Closed, closed_reach, closed_not, expr_rule, args_rule}
+use Rattle.ulam_parse.proofs.CondRules.{Under, closes, Closed, closed_reach, closed_not, expr_rule}
 
 -- no expression begins with `;` or `)`
 pub expr_unseen : (k : Symbol) (e : Expr) (vs end : List Tok) → sees k vs ≡ true → sees k vs ≡ false → ⊥

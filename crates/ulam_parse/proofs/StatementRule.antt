@@ -1,24 +1,17 @@
 -- The rule of statements.
-use Rattle.std.proofs.Common.{ℕ, zero, suc, ◌+◌, ◌≤◌, ◌<◌, ◌≡◌, ◌⊎◌, inl, inr, List, [], ◌∷◌, ◌++◌, length, Option, Some, None, Bool, true, false, not, ◌&&◌, ◌||◌, cond, Ok, Err, refl, ap, sym, ◌∙◌, subst, arith, rules}
+use Rattle.std.proofs.Common.{ℕ, ◌≤◌, ◌<◌, ◌≡◌, List, [], ◌∷◌, length, true, false, Ok, refl, ap, sym, ◌∙◌, subst, arith}
 use Rattle.feast_base.specs.declared.place.Place.{Place}
-use Rattle.ulam_tree.specs.Raw.{Word, TypeRef, Path, Expr, Cond, Left, Statement, block, empty, if_so, while_so, for_all, returns, breaks, continues, declares, assigns, counts, does, Part, no_part, part, Body, no_more, then_so}
-use Rattle.ulam_parse.specs.declared.symbol.Symbol.{Symbol}
+use Rattle.ulam_tree.specs.Raw.{Word, Cond, Statement, empty, if_so, while_so, for_all, returns, Part, no_part, part}
 use Rattle.ulam_parse.specs.declared.symbol.Symbol.TheVariants as s
-use Rattle.ulam_parse.specs.declared.symbol.Assigning.TheVariants as a
-use Rattle.ulam_parse.specs.declared.symbol.Starting.{Starting}
-use Rattle.ulam_parse.specs.declared.symbol.Starting.TheVariants as t
-use Rattle.ulam_parse.specs.Tokens.{Text, Tok, tok}
-use Rattle.ulam_parse.specs.Tables.{assigning_of, starting_of}
-use Rattle.ulam_parse.specs.Grammar.{Span, ◌⟫◌, Takes, TakesAt, TakesWord, TakesCount, IsPathOf, IsPath, IsExpr, IsCond, IsMaybe, IsSimple, IsDeclare, IsStatement, IsElse, IsBody, ends_open, part_open}
-use Rattle.ulam_parse.specs.Reading.{Halt, stops, tired, Read, Reader, ◌>>=◌, same, sees, expect}
+use Rattle.ulam_parse.specs.Tokens.{Tok, tok}
+use Rattle.ulam_parse.specs.Grammar.{Span, TakesWord, IsMaybe, IsStatement, IsElse, ends_open, part_open}
+use Rattle.ulam_parse.specs.Reading.{Reader, ◌>>=◌, sees}
 use Rattle.ulam_parse.specs.Statements as r
 use Rattle.ulam_parse.specs.Statements.{ForHead}
-use Rattle.ulam_parse.proofs.Tells.{decide, same_self, same_is, is_end, first, is_seen, unseen, one_first, sees_first, Found, Stopped, Tells, tells_as, tells_behind, Behind}
-use Rattle.ulam_parse.proofs.Rules.{Free, tells_if, Rule, Filled, Then, Map, Into, Back, Seen, Unseen, Always, token, then, after, further, map, named, here, choice, then_law, map_law, some_place, some_word, none_some}
-use Rattle.ulam_parse.proofs.OperandRule.{same_first, behind_first, place_in}
-use Rattle.ulam_parse.proofs.CondRules.{Closed, semi_closes}
-use Rattle.ulam_parse.proofs.SimpleRules.{Ended, maybe_rule, maybe_filled, declare_rule}
-use Rattle.ulam_parse.proofs.PartRules.{simple_rule, seen_word, IsForHead, for_head_rule, IsIfHead, if_head_rule, IsWhileHead, while_head_rule}
+use Rattle.ulam_parse.proofs.Tells.{decide, first, unseen, sees_first, Tells, tells_as}
+use Rattle.ulam_parse.proofs.Rules.{tells_if, Rule, Filled, Then, Map, Back, Seen, token, then, map, then_law, map_law, some_place, some_word}
+use Rattle.ulam_parse.proofs.SimpleRules.{maybe_rule}
+use Rattle.ulam_parse.proofs.PartRules.{seen_word, IsForHead, for_head_rule, IsIfHead, if_head_rule, IsWhileHead, while_head_rule}
 
 -- behind a statement that ends in an `if` without `else` stands no `else`
 abbrev pub Shut : Statement → List Tok → Type 0

@@ -1,7 +1,7 @@
 -- One step of reading.
-use Rattle.std.proofs.Common.{ℕ, zero, suc, ◌+◌, ◌-◌, ◌<◌, ◌≡◌, List, Ok, Err, refl, arith}
+use Rattle.std.proofs.Common.{ℕ, zero, suc, ◌-◌, ◌<◌, ◌≡◌, List, Err, refl, arith}
 use Rattle.ulam_parse.specs.Tokens.{Tok}
-use Rattle.ulam_parse.specs.Reading.{Halt, tired, Reader, expr_in, climb}
+use Rattle.ulam_parse.specs.Reading.{tired, expr_in, climb}
 use Rattle.ulam_parse.specs.Statements.{any_statement, statement_in}
 
 pub expr_steps : (k least : ℕ) (us : List Tok) → 0 < k → expr_in k least us ≡ climb (expr_in (k - 1)) least us

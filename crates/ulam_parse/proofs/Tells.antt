@@ -1,14 +1,13 @@
 -- What the answer of a reader tells of a relation, and how the answers of parts tell it of a whole.
-use Rattle.std.proofs.Common.{ℕ, zero, suc, ◌+◌, ◌≤◌, ◌<◌, ◌≡◌, List, [], ◌∷◌, ◌++◌, length, Option, Some, None, Bool, true, false, ◌||◌, cond, Ok, Err, refl, ap, sym, ◌∙◌, subst, arith, rules, append_assoc, length-append}
+use Rattle.std.proofs.Common.{ℕ, ◌≡◌, List, [], ◌∷◌, ◌++◌, length, Option, Some, None, Bool, true, false, ◌||◌, Ok, Err, refl, ap, sym, ◌∙◌, subst, rules}
 use denote.Enum.Bare.{same_true, true_same}
 use Rattle.feast_base.specs.declared.place.Place.{Place}
-use Rattle.ulam_tree.specs.Raw.{Word}
 use Rattle.ulam_parse.specs.contracts.symbol.Symbol.{the_type}
 use Rattle.ulam_parse.specs.declared.symbol.Symbol.{Symbol}
 use Rattle.ulam_parse.specs.declared.symbol.Symbol.TheVariants as s
 use Rattle.ulam_parse.specs.Tokens.{Text, Tok, tok}
-use Rattle.ulam_parse.specs.Grammar.{Span, TakesWord}
-use Rattle.ulam_parse.specs.Reading.{Halt, stops, tired, Read, Reader, ◌>>=◌, same, sees, expect}
+use Rattle.ulam_parse.specs.Grammar.{Span}
+use Rattle.ulam_parse.specs.Reading.{stops, tired, Read, same, sees}
 
 pub decide : (b : Bool) → (b ≡ true → ⊥) → b ≡ false
 decide true f = absurd (f refl)

@@ -1,12 +1,12 @@
 -- The rules of widths, types and paths.
-use Rattle.std.proofs.Common.{ℕ, zero, suc, ◌+◌, ◌≤◌, ◌<◌, ◌≡◌, List, [], ◌∷◌, ◌++◌, length, Option, Some, None, Bool, true, false, cond, Ok, Err, refl, ap, sym, ◌∙◌, subst, arith, rules}
+use Rattle.std.proofs.Common.{ℕ, zero, suc, ◌+◌, ◌<◌, ◌≡◌, List, [], ◌∷◌, length, Option, Some, None, true, false, refl, ap, sym, ◌∙◌, arith}
 use Rattle.ulam_tree.specs.Raw.{Word, Width, wide, wide_as, TypeRef, Path}
 use Rattle.ulam_parse.specs.declared.symbol.Symbol.{Symbol}
 use Rattle.ulam_parse.specs.declared.symbol.Symbol.TheVariants as s
-use Rattle.ulam_parse.specs.Tokens.{Text, Tok, tok, value_of, unsigned_of}
+use Rattle.ulam_parse.specs.Tokens.{Tok, value_of, unsigned_of}
 use Rattle.ulam_parse.specs.Grammar.{Span, ◌⟫◌, Takes, TakesWord, IsWidth, IsSize, IsType, AreDotted, IsPath, IsPathOf}
-use Rattle.ulam_parse.specs.Reading.{Read, Reader, sees, expect, width, enclosed, size, type_ref, dotted, words_after, path}
-use Rattle.ulam_parse.proofs.Tells.{is_end, is_seen, unseen, first, Tells}
+use Rattle.ulam_parse.specs.Reading.{sees, width, enclosed, size, type_ref, dotted, words_after, path}
+use Rattle.ulam_parse.proofs.Tells.{is_end, is_seen, unseen, Tells}
 use Rattle.ulam_parse.proofs.Rules.{Free, Rule, Filled, Then, Map, Into, Back, Seen, Unseen, Always, token, then, after, map, named, here, choice}
 
 -- this symbol does not follow

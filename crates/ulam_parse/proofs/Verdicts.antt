@@ -1,6 +1,6 @@
 -- What the reading of all tokens says of sentences and faults.
-use Rattle.std.proofs.Common.{ℕ, zero, suc, ◌+◌, ◌≤◌, ◌<◌, ◌≡◌, ◌⊎◌, inl, inr, List, [], ◌∷◌, ◌++◌, length, Option, Some, None, Bool, true, false, ◌||◌, Ok, Err, refl, ap, sym, ◌∙◌, subst, arith, rules, append_assoc, length-append, append-nil}
-use Rattle.std.specs.Prelude.{IfOk, IfErr, MatchResult, IsErrAnd, Result, fold}
+use Rattle.std.proofs.Common.{◌≡◌, ◌⊎◌, inl, inr, List, [], ◌∷◌, ◌++◌, true, Ok, Err, refl, ap, sym, ◌∙◌, subst, arith, append_assoc, append-nil}
+use Rattle.std.specs.Prelude.{IfOk, IfErr, MatchResult, IsErrAnd, Result}
 use Rattle.feast_base.specs.declared.place.Place.{Place}
 use Rattle.ulam_tree.specs.Raw.{Item}
 use Rattle.ulam_parse.specs.declared.symbol.Symbol.TheVariants as s
@@ -8,13 +8,11 @@ use Rattle.ulam_parse.specs.declared.fault.ParseFault.{ParseFault}
 use Rattle.ulam_parse.specs.declared.fault.ParseFault.TheVariants.{Syntax, TooDeep, NoMemory}
 use Rattle.ulam_parse.specs.Tokens.{Text, Tok, tok}
 use Rattle.ulam_parse.specs.Grammar.{AreItems, IsFile, Begins}
-use Rattle.ulam_parse.specs.Nesting.{nesting, IsShallow}
-use Rattle.ulam_parse.specs.Reading.{Halt, stops, tired, Read, sees}
+use Rattle.ulam_parse.specs.Reading.{stops, tired, Read, sees}
 use Rattle.ulam_parse.specs.Files.{whole_file}
 use Rattle.ulam_parse.specs.Sentences.{place_at, IsSentence, IsSyntaxFault, IsDepthFault, IsFaultOf}
-use Rattle.ulam_parse.proofs.Tells.{same_self, is_end, first, tail, has_end, Found, Stopped, Tells}
-use Rattle.ulam_parse.proofs.Rules.{Free, some_place}
-use Rattle.ulam_parse.proofs.CondRules.{seen_at}
+use Rattle.ulam_parse.proofs.Tells.{same_self, tail, Tells}
+use Rattle.ulam_parse.proofs.Rules.{Free}
 use Rattle.ulam_parse.proofs.FileRules.{AtEnd, file_law}
 
 -- one tree

@@ -1,10 +1,10 @@
 -- Reading from the left: members, classes and files.
-use Rattle.std.specs.Prelude.{ℕ, zero, suc, ◌+◌, ◌≡◌, List, [], ◌∷◌, ◌++◌, length, Option, Some, None, Bool, true, false, if◌then◌else◌, Ok, Err}
-use Rattle.ulam_tree.specs.Raw.{Word, Width, TypeRef, Body, Param, Const, const_number, const_truth, const_named, Member, typedef, constant, field, function, Class, Item, ulam, uses, class}
+use Rattle.std.specs.Prelude.{ℕ, zero, suc, ◌+◌, List, [], ◌∷◌, ◌++◌, length, Option, None, Bool, true, false, if◌then◌else◌, Ok, Err}
+use Rattle.ulam_tree.specs.Raw.{Word, Width, TypeRef, Param, Const, const_number, const_truth, const_named, Member, typedef, constant, field, function, Class, Item, ulam, uses, class}
 use Rattle.ulam_parse.specs.declared.symbol.Symbol.{Symbol}
 use Rattle.ulam_parse.specs.declared.symbol.Symbol.TheVariants as s
-use Rattle.ulam_parse.specs.Tokens.{Tok, tok, value_of, unsigned_of}
-use Rattle.ulam_parse.specs.Reading.{Halt, stops, tired, Read, Reader, ◌>>=◌, sees, expect, enclosed, type_ref}
+use Rattle.ulam_parse.specs.Tokens.{Tok, value_of, unsigned_of}
+use Rattle.ulam_parse.specs.Reading.{tired, Read, Reader, ◌>>=◌, sees, expect, enclosed, type_ref}
 use Rattle.ulam_parse.specs.Statements.{whole_body}
 
 unfoldable pub param : Reader Param

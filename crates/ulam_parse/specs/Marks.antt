@@ -1,5 +1,5 @@
 -- The parser's tokens as the grammar's.
-use Rattle.std.specs.Prelude.{ℕ, ◌≡◌, ◌≤◌, Bool, List, map, length, slice_range}
+use Rattle.std.specs.Prelude.{ℕ, ◌≡◌, ◌≤◌, List, length, slice_range}
 use Rattle.ulam_tree.specs.Raw.{Word}
 use Rattle.ulam_parse.specs.declared.mark.Mark.{Mark}
 use Rattle.ulam_parse.specs.declared.symbol.Symbol.TheVariants.{Number}

@@ -1,7 +1,7 @@
 -- Reading from the left: statements.
-use Rattle.std.specs.Prelude.{ℕ, zero, suc, ◌+◌, ◌≡◌, List, [], ◌∷◌, length, Option, Some, None, Bool, true, false, ◌&&◌, if◌then◌else◌, Ok, Err}
+use Rattle.std.specs.Prelude.{ℕ, zero, suc, ◌+◌, List, [], ◌∷◌, length, Option, Some, None, Bool, true, false, ◌&&◌, if◌then◌else◌, Ok, Err}
 use Rattle.feast_base.specs.declared.place.Place.{Place}
-use Rattle.ulam_tree.specs.Raw.{Word, TypeRef, Path, Expr, Args, Cond, seen, test, Left, Statement, block, empty, if_so, while_so, for_all, returns, breaks, continues, declares, assigns, counts, does, Part, no_part, part, Body, no_more, then_so}
+use Rattle.ulam_tree.specs.Raw.{Path, Expr, Cond, seen, test, Left, Statement, block, empty, if_so, while_so, for_all, returns, breaks, continues, declares, assigns, counts, does, Part, no_part, part, Body, no_more, then_so}
 use Rattle.ulam_parse.specs.declared.symbol.Symbol.{Symbol}
 use Rattle.ulam_parse.specs.declared.symbol.Symbol.TheVariants as s
 use Rattle.ulam_parse.specs.declared.symbol.Assigning.{Assigning}
@@ -10,7 +10,7 @@ use Rattle.ulam_parse.specs.declared.symbol.Starting.{Starting}
 use Rattle.ulam_parse.specs.declared.symbol.Starting.TheVariants as t
 use Rattle.ulam_parse.specs.Tokens.{Text, Tok, tok}
 use Rattle.ulam_parse.specs.Tables.{assigning_of, starting_of}
-use Rattle.ulam_parse.specs.Reading.{Halt, stops, tired, Read, Reader, ◌>>=◌, sees, sees_second, expect, type_ref, path, all_args, expr}
+use Rattle.ulam_parse.specs.Reading.{stops, tired, Read, Reader, ◌>>=◌, sees, sees_second, expect, type_ref, path, all_args, expr}
 
 unfoldable pub cond : Reader Cond
 cond us =

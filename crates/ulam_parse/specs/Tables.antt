@@ -1,6 +1,5 @@
 -- What each symbol may begin or join.
-use Rattle.std.specs.Prelude.{ℕ, Option, Some, None, Bool, true, false}
-use Rattle.ulam_tree.specs.declared.op.PrefixOp.{PrefixOp}
+use Rattle.std.specs.Prelude.{ℕ, Some, None, true, false}
 use Rattle.ulam_tree.specs.declared.op.PrefixOp.TheVariants as p
 use Rattle.ulam_tree.specs.declared.op.PairOp.{PairOp}
 use Rattle.ulam_tree.specs.declared.op.PairOp.TheVariants as o

@@ -1,6 +1,6 @@
-use Rattle.std.proofs.Common.{rules, arith, map, length, ◌+◌, ◌-◌}
+use Rattle.std.proofs.Common.{rules, arith, ◌+◌, ◌-◌}
 use Rattle.std.proofs.lemmas.Grind.{common_steps}
-use Rattle.ulam_tree.specs.RawViews.{word_of, expr_of, args_list}
+use Rattle.ulam_tree.specs.RawViews.{expr_of, args_list}
 use Rattle.ulam_parse.specs.Views.{from}
 use Rattle.ulam_parse.specs.Marks.{word_at}
 use Rattle.ulam_parse.specs.Reading.{more, more_args, expr_in, with_args}

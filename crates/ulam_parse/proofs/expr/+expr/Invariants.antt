@@ -1,4 +1,4 @@
-use Rattle.std.proofs.Common.{◌≡◌, ◌+◌, ◌-◌, ◌*◌, length, map}
+use Rattle.std.proofs.Common.{◌≡◌, ◌+◌, ◌-◌, ◌*◌, length}
 use Rattle.ulam_tree.specs.RawViews.{expr_of, args_list}
 use Rattle.ulam_parse.specs.Views.{from}
 use Rattle.ulam_parse.specs.Reading as spec

@@ -1,8 +1,7 @@
-use Rattle.std.proofs.Common.{rules, arith, map, length, ◌+◌, ◌-◌}
+use Rattle.std.proofs.Common.{rules, arith, map, ◌+◌, ◌-◌}
 use Rattle.std.proofs.lemmas.Grind.{common_steps}
 use Rattle.ulam_tree.specs.RawViews.{member_of}
 use Rattle.ulam_parse.specs.Views.{from}
-use Rattle.ulam_parse.specs.Marks.{word_at}
 use Rattle.ulam_parse.specs.Files.{members, with_front}
 use Rattle.ulam_parse.proofs.Loops.{members_step}
 use Rattle.ulam_parse.proofs.Turns.{one_more, no_more}

@@ -1,5 +1,3 @@
-use Rattle.std.proofs.Common.{rules, arith}
-use Rattle.std.proofs.lemmas.Grind.{common_steps}
 use Rattle.std.proofs.lemmas.List.Elements.{All-push}
 use Rattle.ulam_parse.specs.Tokens.{tok_of}
 use Rattle.ulam_parse.specs.Marks.{tok_at, IsMark}

@@ -1,4 +1,4 @@
-use Rattle.std.proofs.Common.{◌≡◌, map, take, length}
+use Rattle.std.proofs.Common.{◌≡◌, map, take}
 use Rattle.std.specs.List.{All}
 use Rattle.ulam_parse.specs.Tokens.{tok_of}
 use Rattle.ulam_parse.specs.Marks.{tok_at, IsMark}

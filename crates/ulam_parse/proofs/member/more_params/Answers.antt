@@ -1,4 +1,4 @@
-use Rattle.std.proofs.Common.{rules, arith, map, length, ◌+◌, ◌-◌}
+use Rattle.std.proofs.Common.{rules, arith, map, ◌+◌, ◌-◌}
 use Rattle.std.proofs.lemmas.Grind.{common_steps}
 use Rattle.ulam_tree.specs.RawViews.{param_of}
 use Rattle.ulam_parse.specs.Views.{from}

@@ -1,8 +1,7 @@
-use Rattle.std.proofs.Common.{rules, arith, map, length, ◌+◌, ◌-◌}
+use Rattle.std.proofs.Common.{rules, arith, ◌+◌, ◌-◌}
 use Rattle.std.proofs.lemmas.Grind.{common_steps}
-use Rattle.ulam_tree.specs.RawViews.{statement_of, body_list}
+use Rattle.ulam_tree.specs.RawViews.{body_list}
 use Rattle.ulam_parse.specs.Views.{from}
-use Rattle.ulam_parse.specs.Marks.{word_at}
 use Rattle.ulam_parse.specs.Statements.{body, with_body, statement_in}
 use Rattle.ulam_parse.proofs.Steps.{statement_tired}
 use Rattle.ulam_parse.proofs.Loops.{body_none, body_step}

@@ -1,4 +1,4 @@
-use Rattle.std.proofs.Common.{◌≡◌, ◌+◌, ◌-◌, ◌*◌, length, map}
+use Rattle.std.proofs.Common.{◌≡◌, ◌+◌, ◌-◌, ◌*◌, length}
 use Rattle.ulam_tree.specs.RawViews.{body_list}
 use Rattle.ulam_parse.specs.Views.{from}
 use Rattle.ulam_parse.specs.Statements as spec

@@ -1,4 +1,4 @@
-use Rattle.std.proofs.Common.{◌≡◌, ◌-◌, ◌+◌, map, length}
+use Rattle.std.proofs.Common.{◌≡◌, ◌-◌, map}
 use Rattle.ulam_tree.specs.RawViews.{word_of}
 use Rattle.ulam_parse.specs.Views.{from}
 use Rattle.ulam_parse.specs.Reading as spec
