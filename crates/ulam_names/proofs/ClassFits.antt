@@ -57,8 +57,8 @@ members_fit known d (m ∷ ms) x h = rw (member_fits known d m h.0 h.2, members_
 
 items_fit : (known : Known) (xs : List t.Item) (hs : List HalfClass) → AreItems known xs hs → w.items known xs ≡ Ok hs
 items_fit known [] hs h = ap Ok (sym h)
-items_fit known (t.ulam n ∷ xs) hs h = items_fit known xs hs h
-items_fit known (t.uses x ∷ xs) hs h = rw h.0 (items_fit known xs hs h.1)
+items_fit known (t.ulam n ∷ xs) hs h = rw (items_fit known xs hs h) refl
+items_fit known (t.uses x ∷ xs) hs h = rw (h.0, items_fit known xs hs h.1) refl
 items_fit known (t.class c ∷ xs) hs h = rw (members_fit known no_names c.members h.0 h.2, items_fit known xs h.1 h.3) (ap Ok (sym h.4))
 
 behave_fits : (hs : List HalfClass) → AllBehave hs → w.all_behave hs ≡ Ok tt

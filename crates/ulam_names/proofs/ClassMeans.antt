@@ -1,5 +1,5 @@
 -- What is found for files is a resolution.
-use Rattle.std.proofs.Common.{◌≡◌, ℕ, ◌+◌, refl, sym, ap, ◌∙◌, List, [], ◌∷◌, ◌++◌, length, map, Option, Some, None, Bool, true, false, not, ◌&&◌, ◌||◌, Ok, Err, pos, nat_lt, int_le, is_some}
+use Rattle.std.proofs.Common.{◌≡◌, ℕ, ◌+◌, ◌<◌, refl, sym, ap, subst, ◌∙◌, List, [], ◌∷◌, ◌++◌, length, map, Option, Some, None, Bool, true, false, not, ◌&&◌, ◌||◌, Ok, Err, pos, nat_lt, int_le, is_some}
 use Rattle.std.proofs.lemmas.Bool.{ltb-true}
 use Rattle.list_laws.proofs.Tests.{both}
 use Rattle.feast_base.specs.declared.place.Place.{Place}
@@ -23,17 +23,27 @@ means_then_last : {A : Type 0} (P : A → Type 0) (Q : A → Type 0) (x : Found 
 means_then_last P Q (Ok a) h k = k a h
 means_then_last P Q (Err e) h k = tt
 
-known_means : (done : Known) (xs : List t.Item) → Means (AreKnown done xs) (w.class_names done xs)
+-- what is known after one more class
+abbrev IsNewClass : Known → t.Class → Known → Type 0
+IsNewClass done c more = (length done < most_classes) × (is_among c.word.name (names_of done) ≡ false) × (w.is_built_in c.word.name ≡ false) × (more ≡ done ++ (c.word.name, c.quark) ∷ [])
+
+new_class_means : (done : Known) (c : t.Class) → Means (IsNewClass done c) (w.new_class done c)
+new_class_means done c =
+    let Q : Known → Type 0 = IsNewClass done c in
+    means_must Q (nat_lt (length done) most_classes) _ _ (λ few.
+    means_must Q (not (is_among c.word.name (names_of done) || w.is_built_in c.word.name)) _ _ (λ new.
+    let apart = neither (is_among c.word.name (names_of done)) (w.is_built_in c.word.name) new in
+    (ltb-true (length done) most_classes few, apart.0, apart.1, refl)))
+
+pub known_means : (done : Known) (xs : List t.Item) → Means (AreKnown done xs) (w.class_names done xs)
 known_means done [] = refl
 known_means done (t.ulam n ∷ xs) = known_means done xs
 known_means done (t.uses x ∷ xs) = known_means done xs
 known_means done (t.class c ∷ xs) =
     let Q : Known → Type 0 = AreKnown done (t.class c ∷ xs) in
-    means_must Q (nat_lt (length done) most_classes) _ _ (λ few.
-    means_must Q _ _ _ (λ new.
-    let apart = neither (is_among c.word.name (names_of done)) (w.is_built_in c.word.name) new in
-    means_then_last (AreKnown (done ++ (c.word.name, c.quark) ∷ []) xs) Q (w.class_names (done ++ (c.word.name, c.quark) ∷ []) xs) (known_means (done ++ (c.word.name, c.quark) ∷ []) xs)
-    (λ known hk. (ltb-true (length done) most_classes few, apart.0, apart.1, hk))))
+    means_then (IsNewClass done c) Q (w.new_class done c) _ (new_class_means done c) (λ more hm.
+    means_then_last (AreKnown more xs) Q (w.class_names more xs) (known_means more xs)
+    (λ known hk. (hm.0, hm.1, hm.2, subst (λ (d : Known). AreKnown d xs known) hm.3 hk)))
 
 new_means : (d : Names) (n : ℕ) (free : Bool) (x : t.Word) → Means (λ _. (free ≡ true) × IsNew d n x) (w.new_name d n free x)
 new_means d n free x =
@@ -82,7 +92,7 @@ member_means known d (t.constant ty x k) =
 member_means known d (t.field ty x k) =
     let Q : Names × List Half → Type 0 = IsMember known d (t.field ty x k) in
     means_then _ Q (w.member_type known d ty) _ (type_means (w.basics known d) (w.values d) ty) (λ n hn.
-    means_must Q (w.is_member_type known n.ty && (not (is_some k) || is_some (as_number n.ty))) _ _ (λ ok.
+    means_must Q (w.may_be_member known n.ty (is_some k)) _ _ (λ ok.
     means_then _ Q (w.new_name d (length d.fields) true x) _ (new_means d (length d.fields) true x) (λ u hw.
     means_then _ Q (w.length_of d x.place k) _ (length_means d x.place k) (λ len hl. (n, len, hn, ok, hw.1, hl, refl)))))
 member_means known d (t.function ty x ps b) =
@@ -98,16 +108,37 @@ members_mean known d (m ∷ ms) =
     means_then _ Q (w.member known d m) _ (member_means known d m) (λ a ha.
     means_then _ Q (w.members known a.0 ms) _ (members_mean known a.0 ms) (λ b hb. (a, b, ha, hb, refl)))
 
-items_mean : (known : Known) (xs : List t.Item) → Means (AreItems known xs) (w.items known xs)
+abbrev IsUse : Known → t.Word → List HalfClass → Type 0
+IsUse known x hs = (w.may_use known x.name ≡ true) × (hs ≡ [])
+
+use_means : (known : Known) (x : t.Word) → Means (IsUse known x) (w.item known (t.uses x))
+use_means known x = means_must (IsUse known x) (w.may_use known x.name) _ _ (λ ok. (ok, refl))
+
+abbrev IsOneClass : Known → t.Class → List HalfClass → Type 0
+IsOneClass known c hs = (a : Names × List Half) × AreMembers known no_names c.members a × (hs ≡ record { quark = c.quark; word = c.word; names = a.0; members = a.1 } ∷ [])
+
+abbrev IsHalfClass : Known → t.Class → HalfClass → Type 0
+IsHalfClass known c h = (a : Names × List Half) × AreMembers known no_names c.members a × (h ≡ record { quark = c.quark; word = c.word; names = a.0; members = a.1 })
+
+half_means : (known : Known) (c : t.Class) → Means (IsHalfClass known c) (w.half_class known c)
+half_means known c = means_then _ (IsHalfClass known c) (w.members known no_names c.members) _ (members_mean known no_names c.members) (λ a ha. (a, ha, refl))
+
+class_means : (known : Known) (c : t.Class) → Means (IsOneClass known c) (w.item known (t.class c))
+class_means known c =
+    means_then (IsHalfClass known c) (IsOneClass known c) (w.half_class known c) _ (half_means known c)
+    (λ h hh. (hh.0, hh.1, ap (λ (z : HalfClass). z ∷ []) hh.2))
+
+pub items_mean : (known : Known) (xs : List t.Item) → Means (AreItems known xs) (w.items known xs)
 items_mean known [] = refl
-items_mean known (t.ulam n ∷ xs) = items_mean known xs
+items_mean known (t.ulam n ∷ xs) = means_then _ (AreItems known (t.ulam n ∷ xs)) (w.items known xs) _ (items_mean known xs) (λ hs hh. hh)
 items_mean known (t.uses x ∷ xs) =
-    means_must (AreItems known (t.uses x ∷ xs)) (w.may_use known x.name) _ _ (λ ok.
-    means_then_last (AreItems known xs) (AreItems known (t.uses x ∷ xs)) (w.items known xs) (items_mean known xs) (λ hs hh. (ok, hh)))
+    let Q : List HalfClass → Type 0 = AreItems known (t.uses x ∷ xs) in
+    means_then (IsUse known x) Q (w.item known (t.uses x)) _ (use_means known x) (λ front hf.
+    means_then _ Q (w.items known xs) _ (items_mean known xs) (λ hs hh. (hf.0, subst (AreItems known xs) (sym (ap (λ (z : List HalfClass). z ++ hs) hf.1)) hh)))
 items_mean known (t.class c ∷ xs) =
     let Q : List HalfClass → Type 0 = AreItems known (t.class c ∷ xs) in
-    means_then _ Q (w.members known no_names c.members) _ (members_mean known no_names c.members) (λ a ha.
-    means_then _ Q (w.items known xs) _ (items_mean known xs) (λ more hm. (a, more, ha, hm, refl)))
+    means_then (IsOneClass known c) Q (w.item known (t.class c)) _ (class_means known c) (λ front hf.
+    means_then _ Q (w.items known xs) _ (items_mean known xs) (λ more hm. (hf.0, more, hf.1, hm, ap (λ (z : List HalfClass). z ++ more) hf.2)))
 
 behave_means : (hs : List HalfClass) → Means (λ _. AllBehave hs) (w.all_behave hs)
 behave_means [] = tt
@@ -133,12 +164,19 @@ wholes_mean known heads k d (m ∷ ms) =
     means_then _ Q (w.whole_member known heads k d m) _ (whole_means known heads k d m) (λ x hx.
     means_then _ Q (w.whole_members known heads k d ms) _ (wholes_mean known heads k d ms) (λ xs hs. (x, xs, hx, hs, refl)))
 
+abbrev IsWholeClass : Known → List Head → ℕ → HalfClass → r.Class → Type 0
+IsWholeClass known heads k h c = (xs : List r.Member) × AreWhole known heads k h.names h.members xs × (c ≡ record { quark = h.quark; word = h.word; members = xs })
+
+whole_class_means : (known : Known) (heads : List Head) (k : ℕ) (h : HalfClass) → Means (IsWholeClass known heads k h) (w.whole_class known heads k h)
+whole_class_means known heads k h =
+    means_then _ (IsWholeClass known heads k h) (w.whole_members known heads k h.names h.members) _ (wholes_mean known heads k h.names h.members) (λ xs hx. (xs, hx, refl))
+
 classes_mean : (known : Known) (heads : List Head) (k : ℕ) (hs : List HalfClass) → Means (AreClasses known heads k hs) (w.whole_classes known heads k hs)
 classes_mean known heads k [] = refl
 classes_mean known heads k (x ∷ hs) =
     let Q : List r.Class → Type 0 = AreClasses known heads k (x ∷ hs) in
-    means_then _ Q (w.whole_members known heads k x.names x.members) _ (wholes_mean known heads k x.names x.members) (λ xs hx.
-    means_then _ Q (w.whole_classes known heads (k + 1) hs) _ (classes_mean known heads (k + 1) hs) (λ cs hc. (xs, cs, hx, hc, refl)))
+    means_then (IsWholeClass known heads k x) Q (w.whole_class known heads k x) _ (whole_class_means known heads k x) (λ c hc.
+    means_then _ Q (w.whole_classes known heads (k + 1) hs) _ (classes_mean known heads (k + 1) hs) (λ cs hcs. (hc.0, cs, hc.1, hcs, ap (λ (z : r.Class). z ∷ cs) hc.2)))
 
 -- what is found is a resolution
 pub program_means : (xs : List t.Item) → Means (IsResolved xs) (w.program xs)

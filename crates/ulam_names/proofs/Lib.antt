@@ -5,8 +5,10 @@ pub mod BodyMeans
 pub mod ClassFits
 pub mod ClassMeans
 pub mod Examples
+pub mod Items
 pub mod Lasts
 pub mod Loops
+pub mod Members
 pub mod Opened
 pub mod Rows
 pub mod Tables

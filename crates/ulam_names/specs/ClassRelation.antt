@@ -5,7 +5,7 @@ use Rattle.ulam_tree.specs.declared.resolved.Named.{Named}
 use Rattle.ulam_tree.specs.Raw as t
 use Rattle.ulam_tree.specs.Resolved as r
 use Rattle.ulam_names.specs.Scopes.{Text, Names, no_names, declares_name, small_names, Value, Head, is_among, names_of, beside, as_number, is_truth, most_members, most_params, most_classes}
-use Rattle.ulam_names.specs.Classes.{Known, Half, HalfClass, half_field, half_function, is_built_in, basics, values, takes_value, is_member_type, longest_array, may_use, head_of, behaves, holds_itself, context_of, scope_of}
+use Rattle.ulam_names.specs.Classes.{Known, Half, HalfClass, half_field, half_function, is_built_in, basics, values, takes_value, may_be_member, longest_array, may_use, head_of, behaves, holds_itself, context_of, scope_of}
 use Rattle.ulam_names.specs.Relation.{IsWidth, IsType, IsBody}
 
 -- each class name is new and not built in, and there are not too many
@@ -49,7 +49,7 @@ IsMember known d (t.constant ty w k) x =
     × IsValue d k v × (takes_value num v ≡ true)
     × (x ≡ (record d { constants = d.constants ++ (w.name, record { num = num; value = v.1 }) ∷ [] }, []))
 IsMember known d (t.field ty w k) x =
-    (n : Named) × (len : ℕ) × IsMemberType known d ty n × ((is_member_type known n.ty && (not (is_some k) || is_some (as_number n.ty))) ≡ true)
+    (n : Named) × (len : ℕ) × IsMemberType known d ty n × (may_be_member known n.ty (is_some k) ≡ true)
     × IsNew d (length d.fields) w × IsLength d k len
     × (x ≡ (record d { fields = d.fields ++ (w.name, n.ty) ∷ [] }, half_field n w len ∷ []))
 IsMember known d (t.function ty w ps b) x =

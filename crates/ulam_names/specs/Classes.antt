@@ -44,14 +44,17 @@ is_built_in n = is_among n (names_of built_in)
 
 -- Class names
 
+abbrev pub new_class : Known → t.Class → Found Known
+new_class done c =
+    must (nat_lt (length done) most_classes) (too_many c.word.place) >>= λ (_ : Unit {0}).
+    must (not (is_among c.word.name (names_of done) || is_built_in c.word.name)) (declared_twice c.word.place) >>= λ (_ : Unit {0}).
+    Ok (done ++ (c.word.name, c.quark) ∷ [])
+
 abbrev pub class_names : Known → List t.Item → Found Known
 class_names done [] = Ok done
 class_names done (t.ulam n ∷ xs) = class_names done xs
 class_names done (t.uses w ∷ xs) = class_names done xs
-class_names done (t.class c ∷ xs) =
-    must (nat_lt (length done) most_classes) (too_many c.word.place) >>= λ (_ : Unit {0}).
-    must (not (is_among c.word.name (names_of done) || is_built_in c.word.name)) (declared_twice c.word.place) >>= λ (_ : Unit {0}).
-    class_names (done ++ (c.word.name, c.quark) ∷ []) xs
+class_names done (t.class c ∷ xs) = new_class done c >>= λ (more : Known). class_names more xs
 
 -- Members
 
@@ -91,6 +94,10 @@ is_member_type known y.Random = true
 is_member_type known (y.Class k) = option_map_or (λ (p : Text × Bool). p.1) (slice_get known k) false
 is_member_type known ty = false
 
+-- of arrays, whether it may be one's
+abbrev pub may_be_member : Known → Ty → Bool → Bool
+may_be_member known ty array = is_member_type known ty && (not array || is_some (as_number ty))
+
 abbrev pub longest_array : ℕ
 longest_array = 71
 
@@ -126,7 +133,7 @@ member known d (t.constant ty w k) =
     Ok (record d { constants = d.constants ++ (w.name, record { num = num; value = v.1 }) ∷ [] }, [])
 member known d (t.field ty w k) =
     member_type known d ty >>= λ (n : Named).
-    must (is_member_type known n.ty && (not (is_some k) || is_some (as_number n.ty))) (bad_width n.place) >>= λ (_ : Unit {0}).
+    must (may_be_member known n.ty (is_some k)) (bad_width n.place) >>= λ (_ : Unit {0}).
     new_name d (length d.fields) true w >>= λ (_ : Unit {0}).
     length_of d w.place k >>= λ (len : ℕ).
     Ok (record d { fields = d.fields ++ (w.name, n.ty) ∷ [] }, half_field n w len ∷ [])
@@ -151,14 +158,19 @@ members known d (m ∷ ms) =
 abbrev pub may_use : Known → Text → Bool
 may_use known n = bytes_eq n (codes "EventWindow") || bytes_eq n (codes "Random") || is_among n (names_of known)
 
+abbrev pub half_class : Known → t.Class → Found HalfClass
+half_class known c =
+    members known no_names c.members >>= λ (x : Names × List Half).
+    Ok (record { quark = c.quark; word = c.word; names = x.0; members = x.1 })
+
+abbrev pub item : Known → t.Item → Found (List HalfClass)
+item known (t.ulam n) = Ok []
+item known (t.uses w) = must (may_use known w.name) (unknown_name w.place) >>= λ (_ : Unit {0}). Ok []
+item known (t.class c) = half_class known c >>= λ (h : HalfClass). Ok (h ∷ [])
+
 abbrev pub items : Known → List t.Item → Found (List HalfClass)
 items known [] = Ok []
-items known (t.ulam n ∷ xs) = items known xs
-items known (t.uses w ∷ xs) = must (may_use known w.name) (unknown_name w.place) >>= λ (_ : Unit {0}). items known xs
-items known (t.class c ∷ xs) =
-    members known no_names c.members >>= λ (x : Names × List Half).
-    items known xs >>= λ (hs : List HalfClass).
-    Ok (record { quark = c.quark; word = c.word; names = x.0; members = x.1 } ∷ hs)
+items known (x ∷ xs) = item known x >>= λ (hs : List HalfClass). items known xs >>= λ (more : List HalfClass). Ok (hs ++ more)
 
 -- Rules of whole classes
 
@@ -230,12 +242,17 @@ whole_members known heads k d (m ∷ ms) =
     whole_members known heads k d ms >>= λ (xs : List r.Member).
     Ok (x ∷ xs)
 
+abbrev pub whole_class : Known → List Head → ℕ → HalfClass → Found r.Class
+whole_class known heads k h =
+    whole_members known heads k h.names h.members >>= λ (xs : List r.Member).
+    Ok (record { quark = h.quark; word = h.word; members = xs })
+
 abbrev pub whole_classes : Known → List Head → ℕ → List HalfClass → Found (List r.Class)
 whole_classes known heads k [] = Ok []
 whole_classes known heads k (h ∷ hs) =
-    whole_members known heads k h.names h.members >>= λ (xs : List r.Member).
+    whole_class known heads k h >>= λ (c : r.Class).
     whole_classes known heads (k + 1) hs >>= λ (cs : List r.Class).
-    Ok (record { quark = h.quark; word = h.word; members = xs } ∷ cs)
+    Ok (c ∷ cs)
 
 -- All classes of the items of all files, or the first fault.
 abbrev pub program : List t.Item → Found (List r.Class)

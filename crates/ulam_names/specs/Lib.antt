@@ -1,6 +1,7 @@
 pub mod ClassRelation
 pub mod Classes
 pub mod Faults
+pub mod Files
 pub mod NamesView
 pub mod Relation
 pub mod Scopes

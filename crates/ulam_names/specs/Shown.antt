@@ -26,7 +26,7 @@ abbrev pub param_of : HalfParam → r.Param
 param_of p = record { of = p.of; word = word_of p.word.now }
 
 abbrev pub pending_of : Pending → w.Pending
-pending_of p = record { of = p.of; word = word_of p.word.now; params = map param_of p.params.items; body = body_list p.body.now; typedefs = p.typedefs; constants = p.constants }
+pending_of p = record { of = p.of; word = word_of p.word.now; params = map param_of p.params; body = body_list p.body.now; typedefs = p.typedefs; constants = p.constants }
 
 abbrev pub half_of : Half → w.Half
 half_of (h.Field n x len) = w.half_field n (word_of x.now) len
@@ -102,3 +102,18 @@ is_simple (t.while_so k x) = false
 is_simple (t.for_all f k g x) = false
 is_simple (t.declares ty w e) = false
 is_simple x = true
+
+-- what a list begins with, before more that is found
+abbrev pub with_front : {A : Type 0} → List A → Found (List A) → Found (List A)
+with_front {A = A} front found = found >>= λ (more : List A). Ok (front ++ more)
+
+-- members before more that are found
+abbrev pub with_halves : List w.Half → Found (s.Names × List w.Half) → Found (s.Names × List w.Half)
+with_halves front found = found >>= λ (x : s.Names × List w.Half). Ok (x.0, front ++ x.1)
+
+abbrev pub param_names : List HalfParam → List (List ℕ)
+param_names ps = map (λ (p : HalfParam). p.word.now.name) ps
+
+-- what members of a class may name
+abbrev pub class_context : w.Known → s.Names → s.Context
+class_context known d = record { heads = []; classes = names_of known; own = 0; typedefs = d.typedefs; constants = d.constants; params = 0 }

@@ -1,6 +1,9 @@
 //! Classes whose members are resolved but for the bodies of functions.
+ghost use Rattle.std.specs.Prelude.{◌≡◌, ◌<◌, ◌≤◌, [], ◌∷◌, ◌++◌, length, OnOk, OnErr};
 
 use crate::names::Names;
+use std::alloc::{AllocFailed, Global};
+use std::marker::Model;
 use ulam_tree::resolved::Named;
 use ulam_tree::{Statement, Word};
 
@@ -29,12 +32,12 @@ pub enum Half<'a> {
 pub struct Pending<'a> {
     pub of: Named,
     pub word: &'a Word,
-    pub params: Vec<HalfParam<'a>>,
+    pub params: Params<'a>,
     pub body: &'a [Statement],
     /// How many typedefs its class declares before it.
-    pub typedefs: u32,
+    pub typedefs: usize,
     /// And how many constants.
-    pub constants: u32,
+    pub constants: usize,
 }
 
 /// A parameter.
@@ -42,4 +45,56 @@ pub struct Pending<'a> {
 pub struct HalfParam<'a> {
     pub of: Named,
     pub word: &'a Word,
+}
+
+/// At most 8 parameters.
+#[derive(Drop)]
+pub struct Params<'a> {
+    list: Vec<HalfParam<'a>>,
+}
+
+impl<'a> Model for Params<'a> {
+    ghost use Rattle.std.specs.Prelude.{List, length, ◌≤◌};
+    ghost use Rattle.ulam_names.specs.declared.half.HalfParam.{HalfParam};
+
+    ghost Value = { List HalfParam };
+
+    ghost view = { λ p. p.list.items };
+
+    ghost invariant = { λ p. length p.list.items ≤ 8 };
+}
+
+impl<'a> Params<'a> {
+    /// No parameter.
+    pub fn new(alloc: Global) -> Params<'a>
+        ensures { result ≡ [] }
+    {
+        Params {
+            list: Vec::new(alloc),
+        }
+    }
+
+    /// How many there are.
+    pub fn len(&self) -> usize
+        ensures count { result ≡ length self.now }
+        ensures few { result ≤ 8 }
+    {
+        self.list.len()
+    }
+
+    /// The parameters.
+    pub fn as_slice(&self) -> &[HalfParam<'a>]
+        ensures { result.now ≡ self.now }
+    {
+        self.list.as_slice()
+    }
+
+    /// Appends a parameter.
+    pub fn push(&mut self, param: HalfParam<'a>) -> Result<(), AllocFailed<HalfParam<'a>>>
+        requires { length self.old < 8 }
+        ensures ok { OnOk result (self.new ≡ self.old ++ param.entry ∷ []) }
+        ensures err { OnErr result (self.new ≡ self.old) }
+    {
+        self.list.push(param)
+    }
 }

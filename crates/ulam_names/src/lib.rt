@@ -3,10 +3,13 @@
 
 mod basic;
 mod build;
+mod class;
+mod class_scope;
 mod expr;
 mod fault;
 mod half;
 mod law;
+mod member;
 mod names;
 mod parts;
 mod path;

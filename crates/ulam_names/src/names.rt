@@ -1,7 +1,7 @@
 //! What a class has declared so far.
-ghost use Rattle.std.specs.Prelude.{◌≡◌, ℕ, List, OnOk, OnErr, length, ◌<◌};
+ghost use Rattle.std.specs.Prelude.{◌≡◌, ◌<◌, OnOk, false};
 ghost use Rattle.ulam_names.specs.Classes as walk;
-ghost use Rattle.ulam_names.specs.Scopes.{declares_name, is_truth};
+ghost use Rattle.ulam_names.specs.Scopes.{declares_name, is_truth, no_names};
 ghost use Rattle.ulam_names.specs.Shown.{Gives};
 ghost use Rattle.ulam_names.specs.NamesView.{names_view};
 ghost use Rattle.ulam_tree.specs.RawViews as raw_view;
@@ -10,15 +10,31 @@ use crate::basic::Value;
 use crate::fault::NameFault;
 use crate::table::Table;
 use sat_math::{Kind, NumType};
+use std::alloc::Global;
 use ulam_tree::resolved::Ty;
 use ulam_tree::{Const, Word};
 
+/// What a class has declared so far.
 #[derive(Drop)]
 pub struct Names<'a> {
     pub typedefs: Table<'a, NumType>,
     pub constants: Table<'a, Value>,
     pub fields: Table<'a, Ty>,
     pub functions: Table<'a, ()>,
+}
+
+impl<'a> Names<'a> {
+    /// No name.
+    pub fn new(alloc: Global) -> Names<'a>
+        ensures { names_view result ≡ no_names }
+    {
+        Names {
+            typedefs: Table::new(alloc),
+            constants: Table::new(alloc),
+            fields: Table::new(alloc),
+            functions: Table::new(alloc),
+        }
+    }
 }
 
 /// Whether a class has declared a name.
@@ -33,7 +49,9 @@ pub fn declares(names: &Names, name: &[u8]) -> bool
 
 /// Refuses a name that may not be declared.
 pub fn new_name(names: &Names, count: usize, free: bool, word: &Word) -> Result<(), NameFault>
-    ensures { Gives (λ x. x) result (walk.new_name (names_view names.now) count free (raw_view.word_of word.now)) }
+    ensures gives { Gives (λ x. x) result (walk.new_name (names_view names.now) count free (raw_view.word_of word.now)) }
+    ensures room { OnOk result (count < 64) }
+    ensures new { OnOk result (declares_name (names_view names.now) word.now.name ≡ false) }
 {
     if count >= 64 {
         return Err(NameFault::TooMany(word.place));
@@ -47,7 +65,8 @@ pub fn new_name(names: &Names, count: usize, free: bool, word: &Word) -> Result<
     Ok(())
 }
 
-fn is_truth(kind: Kind) -> bool
+/// Whether a kind is that of truth values.
+pub fn is_truth(kind: Kind) -> bool
     ensures { result ≡ is_truth kind }
 {
     match kind {

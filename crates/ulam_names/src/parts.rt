@@ -86,7 +86,7 @@ fn is_element(heads: &[HalfClass], ty: Ty) -> bool
 }
 
 /// Where names behind a local of a type are looked up.
-fn inside_local(heads: &[HalfClass], ty: Ty) -> Ty
+pub fn inside_local(heads: &[HalfClass], ty: Ty) -> Ty
     ensures { result ≡ inside_local (map head_of heads.now) ty }
 {
     match ty {

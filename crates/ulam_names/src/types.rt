@@ -87,7 +87,8 @@ pub fn allows(kind: Kind, width: i128) -> bool
     least <= width && width <= most
 }
 
-fn width_value(context: &Context, entries: &[Entry], width: &Width) -> Result<i128, NameFault>
+/// The number of a width.
+pub fn width_value(context: &Context, entries: &[Entry], width: &Width) -> Result<i128, NameFault>
     ensures { Gives (λ v. v) result (walk.width_value (walk.constant_in (context_of context.now) (map entry_of entries.now)) (raw_view.width_of width.now)) }
 {
     match width {
@@ -99,6 +100,7 @@ fn width_value(context: &Context, entries: &[Entry], width: &Width) -> Result<i1
     }
 }
 
+/// A type of a width.
 fn sized_by(
     context: &Context,
     entries: &[Entry],

@@ -1,0 +1,36 @@
+use Rattle.std.proofs.Common.{◌≡◌, ◌∙◌, sym, ap, List, ◌∷◌, ◌+◌, drop, map, arith, rules}
+use Rattle.std.proofs.lemmas.List.{at_drop_more}
+use Rattle.std.proofs.lemmas.Grind.{common_steps}
+use Rattle.ulam_tree.specs.RawViews.{member_of}
+use Rattle.ulam_tree.specs.declared.raw.Member.{Member}
+use Rattle.ulam_names.specs.Faults.{◌>>=◌}
+use Rattle.ulam_names.specs.Classes as walk
+use Rattle.ulam_names.specs.NamesView.{names_view}
+use Rattle.ulam_names.specs.Scopes.{Names, no_names}
+use Rattle.ulam_names.specs.Shown.{half_of, with_halves}
+use Rattle.ulam_names.proofs.Members.{member_fails, members_on}
+use Rattle.ulam_names.proofs.member.members.Goals as goal
+
+pub returns-in_err-member : goal.returns-in_err-member
+returns-in_err-member c =
+    let xs : List Member = c.args.raw.now in
+    let rest : List Member = drop (c.loop-one.one-index + 1) xs in
+    let front : List walk.Half = map half_of c.loop-one.found.items in
+    let d : Names = names_view c.loop-one.names in
+    let e : walk.members c.args.known.now no_names (map member_of xs) ≡ (with_halves front (walk.member c.args.known.now d (member_of c.one-item.result)) >>= λ (x : Names × List walk.Half). with_halves x.1 (walk.members c.args.known.now x.0 (map member_of rest))) =
+    c.loop-one.invariant
+    ∙ at_drop_more (λ (zs : List Member). with_halves front (walk.members c.args.known.now d (map member_of zs))) xs c.loop-one.one-index c.one-item.result c.loop-one-test.true
+    ∙ ap (λ (x : Member). with_halves front (walk.members c.args.known.now d (member_of x ∷ map member_of rest))) (sym c.one-item.is)
+    ∙ member_fails c.args.known.now d front (member_of c.one-item.result) (map member_of rest) in
+    rw e (first_of (search rules, grind (arith, common_steps)))
+
+pub loop-one-preserved : goal.loop-one-preserved
+loop-one-preserved c =
+    let xs : List Member = c.args.raw.now in
+    let rest : List Member = drop (c.loop-one.one-index + 1) xs in
+    let front : List walk.Half = map half_of c.loop-one.found.items in
+    let d : Names = names_view c.loop-one.names in
+    c.loop-one.invariant
+    ∙ at_drop_more (λ (zs : List Member). with_halves front (walk.members c.args.known.now d (map member_of zs))) xs c.loop-one.one-index c.one-item.result c.loop-one-test.true
+    ∙ ap (λ (x : Member). with_halves front (walk.members c.args.known.now d (member_of x ∷ map member_of rest))) (sym c.one-item.is)
+    ∙ members_on c.args.known.now d (names_view c.member.new.names) front (map half_of c.member.new.found.items) (member_of c.one-item.result) (map member_of rest) c.in_ok-member.ensures

@@ -1,0 +1,131 @@
+//! Classes of files, but for bodies.
+ghost use Rattle.std.specs.Prelude.{◌≡◌, [], ◌∷◌, ◌++◌, map};
+ghost use Rattle.ulam_names.specs.Classes as walk;
+ghost use Rattle.ulam_names.specs.Files.{all_items};
+ghost use Rattle.ulam_names.specs.Shown.{Gives, half_class, with_front};
+ghost use Rattle.ulam_tree.specs.RawViews as raw_view;
+
+use crate::class_scope::is_built_in;
+use crate::fault::NameFault;
+use crate::half::HalfClass;
+use crate::member::members;
+use crate::table::Table;
+use std::alloc::Global;
+use ulam_tree::{Class, File, Item};
+
+/// Adds the name of a class.
+fn new_class<'a>(known: &mut Table<'a, bool>, class: &'a Class) -> Result<(), NameFault>
+    ensures { Gives (λ x. known.new) result (walk.new_class known.old (raw_view.class_of class.now)) }
+{
+    let name = class.word.name.bytes();
+    if known.len() >= 256 {
+        return Err(NameFault::TooMany(class.word.place));
+    }
+    if known.has(name) || is_built_in(name) {
+        return Err(NameFault::DuplicateName(class.word.place));
+    }
+    known.add(name, class.quark)?;
+    Ok(())
+}
+
+/// Adds the names of the classes of a file.
+fn file_names<'a>(known: &mut Table<'a, bool>, items: &'a [Item]) -> Result<(), NameFault>
+    ensures { Gives (λ x. known.new) result (walk.class_names known.old (map raw_view.item_of items.now)) }
+{
+    for item in items {
+        if let Item::Class { class } = item {
+            new_class(known, class)?;
+        }
+    }
+    Ok(())
+}
+
+/// The names of all classes, and whether they are quarks.
+pub fn class_names<'a>(alloc: Global, files: &'a [File]) -> Result<Table<'a, bool>, NameFault>
+    ensures { Gives (λ x. x) result (walk.class_names [] (all_items files.now)) }
+{
+    let mut known = Table::new(alloc);
+    for file in files {
+        file_names(&mut known, file.items.as_slice())?;
+    }
+    Ok(known)
+}
+
+/// Whether `use` may name it.
+fn may_use(known: &Table<bool>, name: &[u8]) -> bool
+    ensures { result ≡ walk.may_use known.now name.now }
+{
+    name == b"EventWindow".as_slice() || name == b"Random".as_slice() || known.has(name)
+}
+
+/// A class, but for bodies.
+fn half<'a>(
+    alloc: Global,
+    known: &Table<bool>,
+    class: &'a Class,
+) -> Result<HalfClass<'a>, NameFault>
+    ensures { Gives half_class result (walk.half_class known.now (raw_view.class_of class.now)) }
+{
+    let (names, members) = members(alloc, known, class.members.as_slice())?;
+    Ok(HalfClass {
+        quark: class.quark,
+        word: &class.word,
+        names,
+        members,
+    })
+}
+
+/// Adds what an item declares.
+fn item<'a>(
+    alloc: Global,
+    known: &Table<bool>,
+    found: &mut Vec<HalfClass<'a>>,
+    raw: &'a Item,
+) -> Result<(), NameFault>
+    ensures { Gives (λ x. map half_class found.new.items) result (with_front (map half_class found.old.items) (walk.item known.now (raw_view.item_of raw.now))) }
+{
+    match raw {
+        Item::Ulam { .. } => Ok(()),
+        Item::Uses { word } => {
+            if may_use(known, word.name.bytes()) {
+                Ok(())
+            } else {
+                Err(NameFault::UnknownName(word.place))
+            }
+        }
+        Item::Class { class } => {
+            found.push(half(alloc, known, class)?)?;
+            Ok(())
+        }
+    }
+}
+
+/// Adds the classes of a file.
+fn file_items<'a>(
+    alloc: Global,
+    known: &Table<bool>,
+    found: &mut Vec<HalfClass<'a>>,
+    raw: &'a [Item],
+) -> Result<(), NameFault>
+    ensures { Gives (λ x. map half_class found.new.items) result (with_front (map half_class found.old.items) (walk.items known.now (map raw_view.item_of raw.now))) }
+{
+    for one in raw {
+        item(alloc, known, found, one)?;
+    }
+    Ok(())
+}
+
+/// All classes, but for bodies.
+pub fn items<'a>(
+    alloc: Global,
+    known: &Table<bool>,
+    files: &'a [File],
+) -> Result<Vec<HalfClass<'a>>, NameFault>
+    ensures { Gives (λ x. map half_class x.items) result (walk.items known.now (all_items files.now)) }
+{
+    let mut found = Vec::new(alloc);
+    for file in files {
+        file_items(alloc, known, &mut found, file.items.as_slice())?;
+    }
+    Ok(found)
+}

@@ -1,0 +1,197 @@
+//! Members of classes.
+ghost use Rattle.std.specs.Prelude.{◌≡◌, ◌++◌, ◌∷◌, [], ℕ, List, map, option_map, OnOk};
+ghost use Rattle.std.specs.List.{list_any};
+ghost use Rattle.ulam_names.specs.Classes as walk;
+ghost use Rattle.ulam_names.specs.Scopes.{is_among, no_names};
+ghost use Rattle.ulam_names.specs.Shown.{Gives, param_of, param_names, half_of, half_class, with_halves};
+ghost use Rattle.ulam_names.specs.NamesView.{names_view};
+ghost use Rattle.ulam_tree.specs.Raw as raw_tree;
+ghost use Rattle.ulam_tree.specs.RawViews as raw_view;
+
+use crate::basic::Value;
+use crate::class_scope::{
+    array_length, is_built_in, may_be_member, member_type, number_type, takes_value,
+};
+use crate::fault::NameFault;
+use crate::half::{Half, HalfParam, Params, Pending};
+use crate::names::{Names, const_value, new_name};
+use crate::table::Table;
+use std::alloc::Global;
+use ulam_tree::{Const, Member, Param, Statement, TypeRef, Width, Word};
+
+/// Whether a parameter has a name.
+fn has_param(params: &[HalfParam], name: &[u8]) -> bool
+    ensures { result ≡ is_among name.now (param_names params.now) }
+{
+    for param in params {
+        if name == param.word.name.bytes() {
+            return true;
+        }
+    }
+    false
+}
+
+/// Parameters.
+fn params<'a>(
+    alloc: Global,
+    known: &Table<bool>,
+    names: &Names,
+    raw: &'a [Param],
+) -> Result<Params<'a>, NameFault>
+    ensures { Gives (λ v. map param_of v) result (walk.params_of known.now (names_view names.now) [] (map raw_view.param_of raw.now)) }
+{
+    let mut found = Params::new(alloc);
+    for param in raw {
+        let of = member_type(known, names, &param.of)?;
+        if found.len() >= 8 {
+            return Err(NameFault::TooMany(param.word.place));
+        }
+        if has_param(found.as_slice(), param.word.name.bytes()) {
+            return Err(NameFault::DuplicateName(param.word.place));
+        }
+        found.push(HalfParam {
+            of,
+            word: &param.word,
+        })?;
+    }
+    Ok(found)
+}
+
+/// Declares a typedef.
+fn typedef<'a>(
+    known: &Table<bool>,
+    names: &mut Names<'a>,
+    of: &TypeRef,
+    word: &'a Word,
+) -> Result<(), NameFault>
+    ensures { Gives (λ x. (names_view names.new, [])) result (walk.member known.now (names_view names.old) (raw_tree.typedef (raw_view.type_of of.now) (raw_view.word_of word.now))) }
+{
+    let num = number_type(member_type(known, names, of)?)?;
+    let count = names.typedefs.len() + names.constants.len();
+    new_name(names, count, !is_built_in(word.name.bytes()), word)?;
+    names.typedefs.add(word.name.bytes(), num)?;
+    Ok(())
+}
+
+/// Declares a constant.
+fn constant<'a>(
+    known: &Table<bool>,
+    names: &mut Names<'a>,
+    of: &TypeRef,
+    word: &'a Word,
+    value: &Const,
+) -> Result<(), NameFault>
+    ensures { Gives (λ x. (names_view names.new, [])) result (walk.member known.now (names_view names.old) (raw_tree.constant (raw_view.type_of of.now) (raw_view.word_of word.now) (raw_view.const_of value.now))) }
+{
+    let num = number_type(member_type(known, names, of)?)?;
+    let count = names.typedefs.len() + names.constants.len();
+    new_name(names, count, true, word)?;
+    let (truth, value) = const_value(names, value)?;
+    if !takes_value(num, truth, value) {
+        return Err(NameFault::BadConstant(word.place));
+    }
+    names
+        .constants
+        .add(word.name.bytes(), Value { num, value })?;
+    Ok(())
+}
+
+/// Declares a data member.
+fn field<'a>(
+    known: &Table<bool>,
+    names: &mut Names<'a>,
+    of: &TypeRef,
+    word: &'a Word,
+    length: &Option<Width>,
+) -> Result<Half<'a>, NameFault>
+    ensures { Gives (λ h. (names_view names.new, half_of h ∷ [])) result (walk.member known.now (names_view names.old) (raw_tree.field (raw_view.type_of of.now) (raw_view.word_of word.now) (option_map raw_view.width_of length.now))) }
+{
+    let named = member_type(known, names, of)?;
+    if !may_be_member(known, named.ty, length.is_some()) {
+        return Err(NameFault::BadWidth(named.place));
+    }
+    new_name(names, names.fields.len(), true, word)?;
+    let length = array_length(known, names, word.place, length)?;
+    names.fields.add(word.name.bytes(), named.ty)?;
+    Ok(Half::Field(named, word, length))
+}
+
+/// Declares a function.
+fn function<'a>(
+    alloc: Global,
+    known: &Table<bool>,
+    names: &mut Names<'a>,
+    of: &TypeRef,
+    word: &'a Word,
+    raw: &'a [Param],
+    body: &'a [Statement],
+) -> Result<Half<'a>, NameFault>
+    ensures { Gives (λ h. (names_view names.new, half_of h ∷ [])) result (walk.member known.now (names_view names.old) (raw_tree.function (raw_view.type_of of.now) (raw_view.word_of word.now) (map raw_view.param_of raw.now) (raw_view.body_list body.now))) }
+{
+    let of = member_type(known, names, of)?;
+    new_name(names, names.functions.len(), true, word)?;
+    let params = params(alloc, known, names, raw)?;
+    names.functions.add(word.name.bytes(), ())?;
+    Ok(Half::Function(Pending {
+        of,
+        word,
+        params,
+        body,
+        typedefs: names.typedefs.len(),
+        constants: names.constants.len(),
+    }))
+}
+
+/// Declares a member.
+fn member<'a>(
+    alloc: Global,
+    known: &Table<bool>,
+    names: &mut Names<'a>,
+    found: &mut Vec<Half<'a>>,
+    raw: &'a Member,
+) -> Result<(), NameFault>
+    ensures { Gives (λ x. (names_view names.new, map half_of found.new.items)) result (with_halves (map half_of found.old.items) (walk.member known.now (names_view names.old) (raw_view.member_of raw.now))) }
+{
+    match raw {
+        Member::Typedef { of, word } => typedef(known, names, of, word),
+        Member::Constant { of, word, value } => constant(known, names, of, word, value),
+        Member::Field { of, word, length } => {
+            found.push(field(known, names, of, word, length)?)?;
+            Ok(())
+        }
+        Member::Function {
+            of,
+            word,
+            params,
+            body,
+        } => {
+            let half = function(
+                alloc,
+                known,
+                names,
+                of,
+                word,
+                params.as_slice(),
+                body.as_slice(),
+            )?;
+            found.push(half)?;
+            Ok(())
+        }
+    }
+}
+
+/// The members of a class, and what it declares.
+pub fn members<'a>(
+    alloc: Global,
+    known: &Table<bool>,
+    raw: &'a [Member],
+) -> Result<(Names<'a>, Vec<Half<'a>>), NameFault>
+    ensures { Gives (λ x. (names_view x.0, map half_of x.1.items)) result (walk.members known.now no_names (map raw_view.member_of raw.now)) }
+{
+    let mut names = Names::new(alloc);
+    let mut found = Vec::new(alloc);
+    for one in raw {
+        member(alloc, known, &mut names, &mut found, one)?;
+    }
+    Ok((names, found))
+}
