@@ -10,5 +10,8 @@ pub mod Lasts
 pub mod Loops
 pub mod Members
 pub mod Opened
+pub mod Programs
+pub mod Rounds
 pub mod Rows
 pub mod Tables
+pub mod WholeClasses

@@ -4,6 +4,7 @@ pub mod Faults
 pub mod Files
 pub mod NamesView
 pub mod Relation
+pub mod Rounds
 pub mod Scopes
 pub mod Shown
 pub mod Tables

@@ -1,0 +1,43 @@
+-- Members and classes with their bodies, one after another.
+use Rattle.std.proofs.Common.{◌≡◌, ℕ, ◌+◌, refl, sym, ap, ◌∙◌, List, [], ◌∷◌, ◌++◌, length, map, take, Ok, append_assoc}
+use Rattle.std.proofs.lemmas.List.{length-map, map-append}
+use Rattle.ulam_tree.specs.RawViews.{word_of, body_list}
+use Rattle.ulam_tree.specs.ResolvedViews.{resolved_param}
+use Rattle.ulam_tree.specs.declared.resolved.Param.{Param}
+use Rattle.ulam_names.specs.declared.half.HalfParam.{HalfParam}
+use Rattle.ulam_names.specs.declared.half.Pending.{Pending}
+use Rattle.ulam_names.specs.declared.scope.Entry.{Entry}
+use Rattle.ulam_names.specs.Walk as walk
+use Rattle.ulam_tree.specs.Resolved as r
+use Rattle.ulam_names.specs.Faults.{Found, ◌>>=◌}
+use Rattle.ulam_names.specs.Scopes.{Head, Names, names_of}
+use Rattle.ulam_names.specs.Classes as w
+use Rattle.ulam_names.specs.Shown.{with_front, entries_of, scope_of, param_of, pending_of}
+use Rattle.ulam_names.proofs.Members.{front_on}
+
+pub member_on : (known : w.Known) (heads : List Head) (k : ℕ) (d : Names) (front : List r.Member) (m : w.Half) (ms : List w.Half) (x : r.Member) →
+    w.whole_member known heads k d m ≡ Ok x → with_front front (w.whole_members known heads k d (m ∷ ms)) ≡ with_front (front ++ (x ∷ [])) (w.whole_members known heads k d ms)
+member_on known heads k d front m ms x h = rw h (front_on front x (w.whole_members known heads k d ms))
+
+pub class_on : (known : w.Known) (heads : List Head) (k j : ℕ) (front : List r.Class) (c : w.HalfClass) (cs : List w.HalfClass) (x : r.Class) →
+    w.whole_class known heads k c ≡ Ok x → j ≡ k + 1 → with_front front (w.whole_classes known heads k (c ∷ cs)) ≡ with_front (front ++ (x ∷ [])) (w.whole_classes known heads j cs)
+class_on known heads k j front c cs x h e = rw h (front_on front x (w.whole_classes known heads (k + 1) cs)) ∙ ap (λ (i : ℕ). with_front (front ++ (x ∷ [])) (w.whole_classes known heads i cs)) (sym e)
+
+-- A function, by the code's context and entries.
+pub function_is : (known : w.Known) (heads : List Head) (k : ℕ) (d : Names) (p : Pending) (es : List Entry) (n : ℕ) →
+    entries_of es ≡ w.param_entries heads 0 (map param_of p.params) → n ≡ length p.params →
+    w.whole_member known heads k d (w.half_function (pending_of p))
+    ≡ (walk.body (record { heads = heads; classes = names_of known; own = k; typedefs = take p.typedefs d.typedefs; constants = take p.constants d.constants; params = n }) (scope_of es 0) n (body_list p.body.now) >>= λ (b : r.Body).
+    Ok (r.function p.of (word_of p.word.now) (map param_of p.params) b))
+function_is known heads k d p es n e l =
+    let size : length (map param_of p.params) ≡ n = length-map p.params param_of ∙ sym l in
+    λ i. walk.body (record { heads = heads; classes = names_of known; own = k; typedefs = take p.typedefs d.typedefs; constants = take p.constants d.constants; params = size i }) (record { entries = sym e i; from = 0 }) (size i) (body_list p.body.now) >>= λ (b : r.Body).
+    Ok (r.function p.of (word_of p.word.now) (map param_of p.params) b)
+
+-- one more parameter with a name of its own
+pub param_on : (whole more : List Param) (p : Param) (q : HalfParam) (rest : List r.Param) → more ≡ whole ++ (p ∷ []) → resolved_param p ≡ param_of q →
+    map resolved_param whole ++ (param_of q ∷ rest) ≡ map resolved_param more ++ rest
+param_on whole more p q rest e h =
+    ap (λ (x : r.Param). map resolved_param whole ++ (x ∷ rest)) (sym h)
+    ∙ sym (append_assoc (map resolved_param whole) (resolved_param p ∷ []) rest)
+    ∙ ap (λ (zs : List r.Param). zs ++ rest) (sym (ap (map resolved_param) e ∙ map-append resolved_param whole (p ∷ [])))

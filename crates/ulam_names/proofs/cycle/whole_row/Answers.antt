@@ -1,0 +1,14 @@
+use Rattle.std.proofs.Common.{List, Bool, map, ap, ◌∙◌}
+use Rattle.ulam_names.specs.Rounds.{leads_row}
+use Rattle.ulam_names.specs.Shown.{head_of}
+use Rattle.ulam_names.proofs.Rounds.{row_first, row_next}
+use Rattle.ulam_names.proofs.cycle.whole_row.Goals as goal
+
+pub loop-init : goal.loop-init
+loop-init c = c.new-row.ensures.items ∙ row_first (map head_of c.args.classes.now) c.args.goal
+
+pub loop-preserved : goal.loop-preserved
+loop-preserved c =
+    c.in_ok-row.ensures.row
+    ∙ ap (λ (r : List Bool). leads_row r c.args.goal (map head_of c.args.classes.now)) (c.as_slice.ensures.value ∙ c.loop.invariant)
+    ∙ row_next c.loop.counter (map head_of c.args.classes.now) c.args.goal

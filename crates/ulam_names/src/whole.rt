@@ -1,0 +1,216 @@
+//! Rules of whole classes, and the bodies of functions.
+ghost use Rattle.std.specs.Prelude.{◌≡◌, ◌≤◌, ◌++◌, ℕ, length, map, IfOk, IfErr};
+ghost use Rattle.ulam_names.specs.Classes as walk;
+ghost use Rattle.ulam_names.specs.NamesView.{names_view};
+ghost use Rattle.ulam_names.specs.Shown.{Gives, head_of, param_of, pending_of, half_of, half_class, entries_of};
+ghost use Rattle.ulam_names.specs.declared.fault.NameFault.TheVariants.{NoMemory as no_memory};
+ghost use Rattle.ulam_tree.specs.RawViews.{word_of};
+ghost use Rattle.ulam_tree.specs.ResolvedViews.{resolved_class, resolved_member, resolved_param};
+
+use crate::fault::NameFault;
+use crate::half::{Half, HalfClass, HalfParam, Pending};
+use crate::names::Names;
+use crate::parts::inside_local;
+use crate::scope::{Context, Entry};
+use crate::statement::body;
+use crate::table::Table;
+use feast_base::{Name, NoMemory};
+use std::alloc::Global;
+use ulam_tree::Word;
+use ulam_tree::resolved::{Class, Member, Param, Ty};
+
+/// Whether a member is `Void behave()`.
+fn is_behave(member: &Half) -> bool
+    ensures { result ≡ walk.is_behave (half_of member.now) }
+{
+    match member {
+        Half::Field(..) => false,
+        Half::Function(pending) => {
+            pending.word.name.bytes() == b"behave".as_slice()
+                && pending.of.ty == Ty::Nothing
+                && pending.params.len() == 0
+        }
+    }
+}
+
+/// Whether a class is a quark, or has a function `Void behave()`.
+fn behaves(class: &HalfClass) -> bool
+    ensures { result ≡ walk.behaves (half_class class.now) }
+{
+    if class.quark {
+        return true;
+    }
+    for member in &class.members {
+        if is_behave(member) {
+            return true;
+        }
+    }
+    false
+}
+
+/// Refuses an element without a function `Void behave()`.
+pub fn all_behave(classes: &[HalfClass]) -> Result<(), NameFault>
+    ensures { Gives (λ x. x) result (walk.all_behave (map half_class classes.now)) }
+{
+    for class in classes {
+        if !behaves(class) {
+            return Err(NameFault::NoBehave(class.word.place));
+        }
+    }
+    Ok(())
+}
+
+/// A copy of a name.
+fn copy(alloc: Global, word: &Word) -> Result<Word, NoMemory>
+    ensures { IfOk result (λ w. word_of w ≡ word_of word.now) }
+{
+    Ok(Word {
+        name: Name::new(alloc, word.name.bytes())?,
+        place: word.place,
+    })
+}
+
+/// Parameters in the scope of a body.
+fn param_entries<'a>(
+    alloc: Global,
+    heads: &[HalfClass],
+    params: &[HalfParam<'a>],
+) -> Result<Vec<Entry<'a>>, NameFault>
+    requires { length params.now ≤ 8 }
+    ensures entries { IfOk result (λ v. entries_of v.items ≡ walk.param_entries (map head_of heads.now) 0 (map param_of params.now)) }
+    ensures memory { IfErr result (λ e. e ≡ no_memory) }
+{
+    let mut entries = Vec::new(alloc);
+    let mut slot = 0;
+    for param in params {
+        entries.push(Entry {
+            name: param.word.name.bytes(),
+            slot: Some(slot),
+            inside: inside_local(heads, param.of.ty),
+        })?;
+        slot += 1;
+    }
+    Ok(entries)
+}
+
+/// Parameters with names of their own.
+fn whole_params(alloc: Global, params: &[HalfParam]) -> Result<Vec<Param>, NameFault>
+    ensures params { IfOk result (λ v. map resolved_param v.items ≡ map param_of params.now) }
+    ensures memory { IfErr result (λ e. e ≡ no_memory) }
+{
+    let mut whole = Vec::new(alloc);
+    for param in params {
+        whole.push(Param {
+            of: param.of,
+            word: copy(alloc, param.word)?,
+        })?;
+    }
+    Ok(whole)
+}
+
+/// A function with its body.
+fn whole_function<'a>(
+    alloc: Global,
+    known: &Table<'a, bool>,
+    heads: &[HalfClass<'a>],
+    own: u32,
+    names: &Names<'a>,
+    pending: &Pending<'a>,
+) -> Result<Member, NameFault>
+    ensures { Gives resolved_member result (walk.whole_member known.now (map head_of heads.now) own (names_view names.now) (walk.half_function (pending_of pending.now))) }
+{
+    let params = pending.params.len() as u32;
+    let context = Context {
+        heads,
+        classes: known,
+        own,
+        typedefs: &names.typedefs,
+        typedefs_before: pending.typedefs,
+        constants: &names.constants,
+        constants_before: pending.constants,
+        params,
+    };
+    let mut entries = param_entries(alloc, heads, pending.params.as_slice())?;
+    let (body, _) = body(alloc, &context, &mut entries, 0, params, pending.body)?;
+    Ok(Member::Function {
+        of: pending.of,
+        word: copy(alloc, pending.word)?,
+        params: whole_params(alloc, pending.params.as_slice())?,
+        body,
+    })
+}
+
+/// A member with its body.
+fn whole_member<'a>(
+    alloc: Global,
+    known: &Table<'a, bool>,
+    heads: &[HalfClass<'a>],
+    own: u32,
+    names: &Names<'a>,
+    half: &Half<'a>,
+) -> Result<Member, NameFault>
+    ensures { Gives resolved_member result (walk.whole_member known.now (map head_of heads.now) own (names_view names.now) (half_of half.now)) }
+{
+    match half {
+        Half::Field(of, word, length) => Ok(Member::Field {
+            of: *of,
+            word: copy(alloc, word)?,
+            length: *length,
+        }),
+        Half::Function(pending) => whole_function(alloc, known, heads, own, names, pending),
+    }
+}
+
+/// The members of a class with their bodies.
+fn whole_members<'a>(
+    alloc: Global,
+    known: &Table<'a, bool>,
+    heads: &[HalfClass<'a>],
+    own: u32,
+    class: &HalfClass<'a>,
+) -> Result<Vec<Member>, NameFault>
+    ensures { Gives (λ v. map resolved_member v.items) result (walk.whole_members known.now (map head_of heads.now) own (names_view class.now.names) (map half_of class.now.members.items)) }
+{
+    let mut found = Vec::new(alloc);
+    for half in &class.members {
+        let member = whole_member(alloc, known, heads, own, &class.names, half)?;
+        found.push(member)?;
+    }
+    Ok(found)
+}
+
+/// A class with the bodies of its functions.
+fn whole_class<'a>(
+    alloc: Global,
+    known: &Table<'a, bool>,
+    heads: &[HalfClass<'a>],
+    own: u32,
+    class: &HalfClass<'a>,
+) -> Result<Class, NameFault>
+    ensures { Gives resolved_class result (walk.whole_class known.now (map head_of heads.now) own (half_class class.now)) }
+{
+    let members = whole_members(alloc, known, heads, own, class)?;
+    Ok(Class {
+        quark: class.quark,
+        word: copy(alloc, class.word)?,
+        members,
+    })
+}
+
+/// All classes with the bodies of their functions.
+pub fn whole_classes<'a>(
+    alloc: Global,
+    known: &Table<'a, bool>,
+    classes: &[HalfClass<'a>],
+) -> Result<Vec<Class>, NameFault>
+    requires { length classes.now ≤ 256 }
+    ensures { Gives (λ v. map resolved_class v.items) result (walk.whole_classes known.now (map head_of classes.now) 0 (map half_class classes.now)) }
+{
+    let mut found = Vec::new(alloc);
+    let mut own = 0;
+    for class in classes {
+        found.push(whole_class(alloc, known, classes, own, class)?)?;
+        own += 1;
+    }
+    Ok(found)
+}
