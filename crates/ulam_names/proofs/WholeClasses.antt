@@ -23,17 +23,6 @@ pub class_on : (known : w.Known) (heads : List Head) (k j : ℕ) (front : List r
     w.whole_class known heads k c ≡ Ok x → j ≡ k + 1 → with_front front (w.whole_classes known heads k (c ∷ cs)) ≡ with_front (front ++ (x ∷ [])) (w.whole_classes known heads j cs)
 class_on known heads k j front c cs x h e = rw h (front_on front x (w.whole_classes known heads (k + 1) cs)) ∙ ap (λ (i : ℕ). with_front (front ++ (x ∷ [])) (w.whole_classes known heads i cs)) (sym e)
 
--- A function, by the code's context and entries.
-pub function_is : (known : w.Known) (heads : List Head) (k : ℕ) (d : Names) (p : Pending) (es : List Entry) (n : ℕ) →
-    entries_of es ≡ w.param_entries heads 0 (map param_of p.params) → n ≡ length p.params →
-    w.whole_member known heads k d (w.half_function (pending_of p))
-    ≡ (walk.body (record { heads = heads; classes = names_of known; own = k; typedefs = take p.typedefs d.typedefs; constants = take p.constants d.constants; params = n }) (scope_of es 0) n (body_list p.body.now) >>= λ (b : r.Body).
-    Ok (r.function p.of (word_of p.word.now) (map param_of p.params) b))
-function_is known heads k d p es n e l =
-    let size : length (map param_of p.params) ≡ n = length-map p.params param_of ∙ sym l in
-    λ i. walk.body (record { heads = heads; classes = names_of known; own = k; typedefs = take p.typedefs d.typedefs; constants = take p.constants d.constants; params = size i }) (record { entries = sym e i; from = 0 }) (size i) (body_list p.body.now) >>= λ (b : r.Body).
-    Ok (r.function p.of (word_of p.word.now) (map param_of p.params) b)
-
 -- one more parameter with a name of its own
 pub param_on : (whole more : List Param) (p : Param) (q : HalfParam) (rest : List r.Param) → more ≡ whole ++ (p ∷ []) → resolved_param p ≡ param_of q →
     map resolved_param whole ++ (param_of q ∷ rest) ≡ map resolved_param more ++ rest

@@ -18,6 +18,8 @@ mod program;
 mod scope;
 mod statement;
 mod table;
+#[cfg(test)]
+mod tests;
 mod types;
 mod whole;
 
