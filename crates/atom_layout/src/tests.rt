@@ -44,43 +44,9 @@ fn number(kind: Kind, width: u8) -> Ty {
 }
 
 #[test]
-fn members_lie_one_behind_another(rt: HostRuntime) -> Result<(), Fail> {
-    let alloc = rt.alloc();
-    let mut classes = Vec::new(alloc);
-    classes.push(class(
-        alloc,
-        false,
-        PLACE,
-        &[
-            (number(Kind::Int, 5), 0),
-            (Ty::Class { class: 1 }, 0),
-            (Ty::Window, 0),
-            (number(Kind::Unary, 4), 0),
-            (Ty::Class { class: 1 }, 0),
-        ],
-    )?)?;
-    classes.push(class(
-        alloc,
-        true,
-        PLACE,
-        &[(number(Kind::Bool, 1), 0), (number(Kind::Bits, 3), 2)],
-    )?)?;
-    one_width();
-    let found = layout(alloc, &Program { classes })?;
-    assert_eq!(rt; (found.bits(0), found.bits(1)), (23, 7));
-    for (member, first, width) in [(0, 0, 5), (1, 5, 7), (2, 12, 0), (3, 12, 4), (4, 16, 7)] {
-        assert_eq!(rt;
-            (found.first(0, member), found.width(0, member)),
-            (first, width),
-            "{member}"
-        );
-    }
-    Ok(())
-}
-
-#[test]
 fn the_first_class_that_is_too_wide_is_told(rt: HostRuntime) -> Result<(), Fail> {
     let alloc = rt.alloc();
+    one_width();
     let wide = [number(Kind::Bits, 32), number(Kind::Bool, 1)];
     for (quark, fields, told) in [
         (true, [(wide[0], 1), (wide[1], 1)], 33),
