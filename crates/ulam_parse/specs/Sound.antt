@@ -2,8 +2,8 @@
 use Rattle.std.specs.Prelude.{ℕ, ◌≡◌, ◌≤◌, List, length, slice_range}
 use Rattle.ulam_lex.specs.declared.token.TokenKind.TheVariants.{Number}
 use Rattle.ulam_lex.specs.declared.token.Token.{Token}
-use Rattle.ulam_lex.specs.Pieces.{IsNumber}
+use Rattle.ulam_lex.specs.Pieces.{IsNumberToken}
 
 -- it lies in the text, and a number is one
 abbrev pub IsSound : List ℕ → Token → Type 0
-IsSound text t = (t.first ≤ t.end) × (t.end ≤ length text) × (t.kind ≡ Number → IsNumber (slice_range text t.first t.end))
+IsSound text t = (t.first ≤ t.end) × (t.end ≤ length text) × (t.kind ≡ Number → IsNumberToken (slice_range text t.first t.end))

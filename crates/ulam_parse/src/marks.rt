@@ -3,7 +3,7 @@ ghost use Rattle.std.specs.Prelude.{◌≡◌, ◌≤◌, map, slice_range, leng
 ghost use Rattle.std.specs.List.{All};
 ghost use Rattle.ulam_parse.specs.Marks.{tok_at, IsMark};
 ghost use Rattle.ulam_parse.specs.Sound.{IsSound};
-ghost use Rattle.ulam_lex.specs.Pieces.{IsNumber};
+ghost use Rattle.ulam_lex.specs.Pieces.{IsNumberToken};
 ghost use Rattle.ulam_lex.specs.declared.token.TokenKind.TheVariants as kind;
 ghost use Rattle.ulam_parse.specs.Tokens as spec;
 
@@ -128,7 +128,7 @@ fn symbol_of(kind: TokenKind, text: &[u8]) -> Symbol
 /// What a number says; for other tokens nothing that is used.
 #[tactic(auto, using(crate::proofs::Orders::numeral_is))]
 fn numeral_in(of: TokenKind, text: &[u8]) -> Numeral
-    requires { of ≡ kind.Number → IsNumber text.now }
+    requires { of ≡ kind.Number → IsNumberToken text.now }
     ensures value { of ≡ kind.Number → result.value ≡ spec.value_of text.now }
     ensures unsigned { of ≡ kind.Number → result.unsigned ≡ spec.unsigned_of text.now }
 {
