@@ -5,7 +5,7 @@ ghost use Rattle.std.specs.Prelude.{◌≡◌, ◌<◌, ◌≤◌, [], ◌∷◌
 use arrayvec::ArrayVec;
 use std::marker::Model;
 
-/// At most 8 edges in rising order: those that an event needs.
+/// At most 8 edges in rising order: those that an event needs, or all those of a tile.
 #[derive(Drop)]
 pub struct Needs {
     edges: ArrayVec<u32, 8>,
