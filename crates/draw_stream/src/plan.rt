@@ -1,6 +1,6 @@
 //! Plans of attempts.
 
-ghost use Rattle.std.specs.Prelude.{◌≡◌, ◌≤◌, ◌<◌, ◌*◌, length, sum_by, IfOk, IsOk, IsSome};
+ghost use Rattle.std.specs.Prelude.{◌≡◌, ◌≤◌, ◌<◌, ◌*◌, length, IfOk, IsOk, IsSome};
 ghost use Rattle.draw_stream.specs.Plans.{IsPlan, attempts, tiles_on, count_of, seeded, scripted};
 
 use crate::attempts::{Attempts, Rest};
@@ -58,7 +58,7 @@ pub(crate) struct Origin {
 
 impl Origin {
     /// How many attempts a tile makes.
-    fn attempts(&self, tile: u32) -> u64
+    fn count_of(&self, tile: u32) -> u64
         requires { tile < length self.now.off.items }
         ensures { result ≡ count_of self.now.count self.now.off.items tile }
     {
@@ -133,8 +133,8 @@ impl AttemptPlan {
         }
     }
 
-    /// The seed of a seeded plan, and how many attempts each of its tiles makes that is on. None exactly for a
-    /// plan that is written out.
+    /// The seed of a seeded plan, and how many attempts each of its tiles makes that is on. None
+    /// exactly for a plan that is written out.
     pub fn origin(&self) -> Option<(u64, u64)>
         ensures value { result ≡ self.now.origin }
         ensures plan { IsPlan self.now }
@@ -154,7 +154,7 @@ impl AttemptPlan {
         ensures plan { IsPlan self.now }
     {
         match &self.plan {
-            Plan::Seeded(origin) => origin.attempts(tile),
+            Plan::Seeded(origin) => origin.count_of(tile),
             Plan::Scripted(scripts) => scripts[tile as usize].attempts.len() as u64,
         }
     }
@@ -173,7 +173,7 @@ impl AttemptPlan {
                 rest: Rest::Drawn {
                     stream: TileStream::new(origin.seed, tile),
                     sites: origin.sites,
-                    left: origin.attempts(tile),
+                    left: origin.count_of(tile),
                 },
             }),
             Plan::Scripted(scripts) => listed(alloc, scripts[tile as usize].attempts.as_slice()),

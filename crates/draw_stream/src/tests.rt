@@ -57,6 +57,46 @@ fn is_followed(attempts: &mut Attempts, expected: &[Attempt]) -> bool {
     attempts.next().is_none()
 }
 
+/// The first attempts of tile 0, where the seed is 7 and a tile has 256 sites.
+const OF_TILE_0: [Attempt; 4] = [
+    Attempt {
+        centre: 61,
+        seed: 0x2c0f_c8dd_fa4e_9e14,
+    },
+    Attempt {
+        centre: 114,
+        seed: 0x6d5d_9f6a_6318_013c,
+    },
+    Attempt {
+        centre: 118,
+        seed: 0x7738_5b62_7c22_c489,
+    },
+    Attempt {
+        centre: 128,
+        seed: 0x5470_5b5a_dc01_e528,
+    },
+];
+
+/// Those of tile 3.
+const OF_TILE_3: [Attempt; 4] = [
+    Attempt {
+        centre: 156,
+        seed: 0xcefc_a9b1_6c1d_4aea,
+    },
+    Attempt {
+        centre: 104,
+        seed: 0xc804_054b_f768_e31a,
+    },
+    Attempt {
+        centre: 192,
+        seed: 0x5231_e557_e54f_6c3d,
+    },
+    Attempt {
+        centre: 100,
+        seed: 0x10ec_667b_e540_2645,
+    },
+];
+
 #[test]
 fn a_seeded_plan_of_seed_7_on_tiles_of_16_by_16(rt: HostRuntime) -> Result<(), Fail> {
     let off = [false, true, false, false];
@@ -65,48 +105,22 @@ fn a_seeded_plan_of_seed_7_on_tiles_of_16_by_16(rt: HostRuntime) -> Result<(), F
         (plan.origin(), plan.count(3), plan.count(1)),
         (Some((7, 4)), 4, 0)
     );
-    assert!(rt; is_followed(&mut plan.of_tile(rt.alloc(), 1)?, &[]));
     let mut attempts = plan.of_tile(rt.alloc(), 0)?;
     assert_eq!(rt; attempts.left(), 4);
-    let first = [
-        Attempt {
-            centre: 61,
-            seed: 0x2c0f_c8dd_fa4e_9e14,
-        },
-        Attempt {
-            centre: 114,
-            seed: 0x6d5d_9f6a_6318_013c,
-        },
-        Attempt {
-            centre: 118,
-            seed: 0x7738_5b62_7c22_c489,
-        },
-        Attempt {
-            centre: 128,
-            seed: 0x5470_5b5a_dc01_e528,
-        },
-    ];
-    assert!(rt; is_followed(&mut attempts, &first));
-    let mut attempts = plan.of_tile(rt.alloc(), 3)?;
-    let fourth = [
-        Attempt {
-            centre: 156,
-            seed: 0xcefc_a9b1_6c1d_4aea,
-        },
-        Attempt {
-            centre: 104,
-            seed: 0xc804_054b_f768_e31a,
-        },
-        Attempt {
-            centre: 192,
-            seed: 0x5231_e557_e54f_6c3d,
-        },
-        Attempt {
-            centre: 100,
-            seed: 0x10ec_667b_e540_2645,
-        },
-    ];
-    assert!(rt; is_followed(&mut attempts, &fourth));
+    assert!(rt; is_followed(&mut attempts, &OF_TILE_0));
+    assert!(rt; is_followed(&mut plan.of_tile(rt.alloc(), 1)?, &[]));
+    assert!(rt; is_followed(&mut plan.of_tile(rt.alloc(), 3)?, &OF_TILE_3));
+    Ok(())
+}
+
+#[test]
+fn the_bound_on_attempts_is_over_the_tiles_that_are_on(rt: HostRuntime) -> Result<(), Fail> {
+    let off = [true, false, true];
+    let plan = AttemptPlan::seeded(rt.alloc(), 7, 1_000_000, &off, 64)?;
+    assert_eq!(rt;
+        (plan.count(0), plan.count(1), plan.count(2)),
+        (0, 1_000_000, 0)
+    );
     Ok(())
 }
 
