@@ -2,6 +2,7 @@
 //!
 //! Register 0 of an edge is its clock. Shared site k has register `1 + 2 * k`, the low 64 bits of its
 //! atom, and register `2 + 2 * k`, its stamp in the high 32 bits and the high 32 bits of its atom below.
+//! The news words of end 0 follow, then those of end 1: one bit for each shared site, 64 bits a word.
 //! `Board` is what a tile sees of its edges. `PlainBoard` has all edges of a plane for one thread,
 //! `SharedEnd` is one tile's end of edges that other threads use too.
 #![tactic(auto)]
