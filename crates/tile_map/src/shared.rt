@@ -1,8 +1,7 @@
 //! The sites that an edge shares.
 
-ghost use Rattle.std.specs.Prelude.{◌≡◌, ◌+◌, ◌<◌, ◌≤◌, ◌++◌, ◌∷◌, [], None, Some, if◌then◌else◌, length, map, IfOk, OnOk};
-ghost use Rattle.tile_map.specs.Plane.{site, is_live};
-ghost use Rattle.tile_map.specs.Tables.{shared_value, number_at, sites_in, live_in, number_of, shared_both};
+ghost use Rattle.std.specs.Prelude.{◌≡◌, ◌≤◌, map, IfOk};
+ghost use Rattle.tile_map.specs.Tables.{shared_value, number_at, shared_both};
 ghost use Rattle.tile_map.specs.Edges.{pairs_of};
 
 use crate::plane::Plane;

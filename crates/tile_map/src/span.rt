@@ -1,6 +1,6 @@
 //! Intervals of columns or rows, and rectangles.
 
-ghost use Rattle.std.specs.Prelude.{◌≡◌, ◌+◌, ◌-◌, ◌*◌, ◌^◌, ◌<◌, ◌≤◌, ◌≤ℤ◌, pos, min, max, ◌&&◌, nat_le, nat_lt, IfSome};
+ghost use Rattle.std.specs.Prelude.{◌≡◌, ◌+◌, ◌-◌, ◌*◌, ◌<◌, ◌≤◌, ◌≤ℤ◌, pos, min, max, ◌&&◌, nat_le, nat_lt, IfSome};
 ghost use Rattle.window_sites.specs.Sites.{shifted};
 ghost use Rattle.tile_map.specs.Spans.{place_within};
 
