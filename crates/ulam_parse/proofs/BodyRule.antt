@@ -12,7 +12,8 @@ use Rattle.ulam_parse.specs.Tables.{assigning_of, starting_of}
 use Rattle.ulam_parse.specs.Grammar.{Span, Takes, TakesWord, IsPathOf, IsSimple, IsDeclare, IsStatement, IsBody, ends_open}
 use Rattle.ulam_parse.specs.Reading.{Read, Reader, ◌>>=◌, same, sees}
 use Rattle.ulam_parse.specs.Statements as r
-use Rattle.ulam_parse.proofs.Tells.{decide, same_is, is_end, first, unseen, one_first, Tells, tells_as, tells_behind, Behind}
+use Rattle.ulam_parse.specs.Sentences.{is_end}
+use Rattle.ulam_parse.proofs.Tells.{decide, same_is, first, unseen, one_first, Tells, tells_as, tells_behind, Behind}
 use Rattle.ulam_parse.proofs.Rules.{Free, Rule, Filled, Then, Map, Into, Back, Seen, Unseen, token, further, map, choice, then_law, map_law, some_place, some_word, none_some}
 use Rattle.ulam_parse.proofs.OperandRule.{same_first, behind_first, place_in}
 use Rattle.ulam_parse.proofs.CondRules.{Closed}

@@ -2,6 +2,7 @@
 use Rattle.std.proofs.Common.{ℕ, zero, suc, ◌+◌, ◌≤◌, ◌<◌, ◌≡◌, List, [], ◌∷◌, length, Option, Some, None, Bool, true, false, ◌&&◌, Ok, refl, ap, sym, ◌∙◌, subst, arith}
 use Rattle.std.specs.Prelude.{nat_le}
 use Rattle.std.proofs.lemmas.Bool.{le-leb, leb-true}
+use Rattle.list_laws.proofs.Tests.{both}
 use Rattle.feast_base.specs.declared.place.Place.{Place}
 use Rattle.ulam_tree.specs.declared.op.PairOp.{PairOp}
 use Rattle.ulam_tree.specs.Raw.{Word, Expr, pair, is}
@@ -13,7 +14,8 @@ use Rattle.ulam_parse.specs.Tokens.{Text, Tok, tok}
 use Rattle.ulam_parse.specs.Tables.{infix_of, level}
 use Rattle.ulam_parse.specs.Grammar.{Span, TakesWord, IsExpr}
 use Rattle.ulam_parse.specs.Reading.{Reader, operand, more_by, more, climb, expr_in, expr}
-use Rattle.ulam_parse.proofs.Tells.{decide, is_end, first, tail, one_first, Found, Tells, tells_as, tells_behind, Behind}
+use Rattle.ulam_parse.specs.Sentences.{is_end}
+use Rattle.ulam_parse.proofs.Tells.{decide, first, tail, one_first, Found, Tells, tells_as, tells_behind, Behind}
 use Rattle.ulam_parse.proofs.Rules.{Free, tells_if, Rule, Filled, Then, Into, token, then, then_law}
 use Rattle.ulam_parse.proofs.Chains.{Link, joined, tested, build, IsChain, build_is, chained, level_most}
 use Rattle.ulam_parse.proofs.Opened.{reach_by, reach, reach_at}
@@ -156,10 +158,6 @@ tested_back least top e k w p i l b (tested c p2 ∷ ls) vs end f q h u =
 abbrev Goes : ℕ → ℕ → (ℕ → ℕ → Expr → Reader Expr) → Type 0
 Goes t least go = (top : ℕ) (e : Expr) → least ≤ top → (us : List Tok) → length us < t → Tells (More least top e) (Reach least) Free us (go least top e us)
 
-and_both : (a b : Bool) → (a && b) ≡ true → (a ≡ true) × (b ≡ true)
-and_both true b e = (refl, e)
-and_both false b e = absurd (let q : false ≡ true = e in cc)
-
 and_not : (a b : Bool) → (a && b) ≡ false → a ≡ true → b ≡ true → ⊥
 and_not true true e f g = absurd (let q : true ≡ false = e in cc)
 and_not true false e f g = absurd (let q : false ≡ true = g in cc)
@@ -170,7 +168,7 @@ more_by_law : (k t : ℕ) (E : ℕ → Reader Expr) → ExprLaw k E → t ≤ k 
 more_by_law k t E f l least top g m e (Joins op) j w p ts i n =
     tells_if (More least top e) (Reach least) Free (tok j w p ∷ ts) (nat_le least (level op) && nat_le (level op) top) _ (Ok (e, tok j w p ∷ ts))
     (λ c.
-    let d = and_both (nat_le least (level op)) (nat_le (level op) top) c in
+    let d = both (nat_le least (level op)) (nat_le (level op) top) c in
     let a : least ≤ level op = leb-true least (level op) d.0 in
     let b : level op ≤ top = leb-true (level op) top d.1 in
     let R : Expr → Rule t Expr (Reach least) Free = λ r. record { rel = More least (level op) (pair op e r p); filled = more_filled least (level op) (pair op e r p); read = more E t least (level op) (pair op e r p); law = g (level op) (pair op e r p) a } in
@@ -182,7 +180,7 @@ more_by_law k t E f l least top g m e (Joins op) j w p ts i n =
 more_by_law k t E f l least top g m e Tests j w p ts i n =
     tells_if (More least top e) (Reach least) Free (tok j w p ∷ ts) (nat_le least 8 && nat_le 9 top) _ (Ok (e, tok j w p ∷ ts))
     (λ c.
-    let d = and_both (nat_le least 8) (nat_le 9 top) c in
+    let d = both (nat_le least 8) (nat_le 9 top) c in
     let a : least ≤ 8 = leb-true least 8 d.0 in
     let b : 9 ≤ top = leb-true 9 top d.1 in
     let R : Word → Rule t Expr (Reach least) Free = λ c. record { rel = More least 8 (is e c p); filled = more_filled least 8 (is e c p); read = more E t least 8 (is e c p); law = g 8 (is e c p) a } in

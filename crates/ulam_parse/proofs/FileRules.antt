@@ -7,7 +7,8 @@ use Rattle.ulam_parse.specs.Tokens.{Tok, tok, value_of, unsigned_of}
 use Rattle.ulam_parse.specs.Grammar.{Span, ◌⟫◌, Takes, TakesWord, IsType, IsBody, AreParams, IsConst, IsLength, IsMember, AreMembers, class_symbol, IsClass, IsItem, AreItems}
 use Rattle.ulam_parse.specs.Reading.{same, sees}
 use Rattle.ulam_parse.specs.Files as r
-use Rattle.ulam_parse.proofs.Tells.{is_end, is_seen, unseen, Tells}
+use Rattle.ulam_parse.specs.Sentences.{is_end}
+use Rattle.ulam_parse.proofs.Tells.{is_seen, unseen, Tells}
 use Rattle.ulam_parse.proofs.Rules.{Free, Rule, Filled, Then, Map, Into, Back, Seen, Unseen, Always, token, then, further, map, named, here, choice, some_place, some_word, none_some}
 use Rattle.ulam_parse.proofs.TypeRules.{Not, type_rule, IsOptional, optional_made}
 use Rattle.ulam_parse.proofs.SimpleRules.{name_open}

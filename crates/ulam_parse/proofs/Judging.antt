@@ -2,7 +2,6 @@
 use Rattle.std.proofs.Common.{ℕ, zero, suc, ◌+◌, ◌≤◌, ◌≡◌, inl, inr, List, [], ◌∷◌, ◌++◌, length, drop, Bool, true, false, ◌||◌, cond, Ok, Err, refl, ap, sym, ◌∙◌, subst, arith, append_assoc, length-append, append-nil}
 use Rattle.feast_base.specs.declared.place.Place.{Place}
 use Rattle.ulam_tree.specs.Raw.{Item}
-use Rattle.ulam_parse.specs.declared.symbol.Symbol.{Symbol}
 use Rattle.ulam_parse.specs.declared.symbol.Symbol.TheVariants as s
 use Rattle.ulam_parse.specs.Tokens.{Text, Tok, tok}
 use Rattle.ulam_parse.specs.Grammar.{AreItems, IsFile, Begins}
@@ -10,8 +9,7 @@ use Rattle.ulam_parse.specs.Nesting.{outside, IsShallow}
 use Rattle.ulam_parse.specs.Reading.{stops, tired, Read, ◌>>=◌, sees}
 use Rattle.ulam_parse.specs.Files.{item, items, whole_file}
 use Rattle.ulam_parse.specs.Sentences.{is_end, has_end, place_at, EndsOnce, IsSyntaxFault, IsDepthFault}
-use Rattle.ulam_parse.proofs.Tells.{same_self, first, tail, Found, Stopped, Tells}
-use Rattle.ulam_parse.proofs.Tells as read
+use Rattle.ulam_parse.proofs.Tells.{same_self, first, tail, Tells}
 use Rattle.ulam_parse.proofs.Rules.{Free, some_place}
 use Rattle.ulam_parse.proofs.CondRules.{seen_at}
 use Rattle.ulam_parse.proofs.FileRules.{AtEnd, file_law}
@@ -55,15 +53,6 @@ tok_first d [] = d
 tok_first d (t ∷ ts) = t
 
 -- `End` stands once
-
-same_end_symbol : (k : Symbol) → is_end k ≡ read.is_end k
-same_end_symbol s.End = refl
-same_end_symbol _ = refl
-
--- both words for an `End` among tokens
-same_end : (ts : List Tok) → has_end ts ≡ read.has_end ts
-same_end [] = refl
-same_end (tok k w p ∷ ts) = ap (λ x. x || has_end ts) (same_end_symbol k) ∙ ap (λ x. read.is_end k || x) (same_end ts)
 
 or_end : (b : Bool) → (b || true) ≡ true
 or_end true = refl
@@ -122,7 +111,7 @@ pub never_ended : (ts : List Tok) → EndsOnce ts → whole_file ts ≡ Err (sto
 never_ended ts z r =
     let h = told ts (Err (stops 0)) r in
     let a : ts ≡ h.front = h.is ∙ ap (λ v. h.front ++ v) (empty_list h.left h.long) ∙ append-nil h.front in
-    let x : true ≡ false = sym (end_among z.init z.text z.place []) ∙ sym (ap has_end z.split) ∙ ap has_end a ∙ same_end h.front ∙ h.no_end in
+    let x : true ≡ false = sym (end_among z.init z.text z.place []) ∙ sym (ap has_end z.split) ∙ ap has_end a ∙ h.no_end in
     absurd cc
 
 pub never_tired : (us : List Tok) → whole_file us ≡ Err tired → ⊥

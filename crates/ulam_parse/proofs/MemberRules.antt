@@ -10,7 +10,8 @@ use Rattle.ulam_parse.specs.Tables.{opening_of}
 use Rattle.ulam_parse.specs.Grammar.{Span, TakesWord, IsType, IsParam, AreParams, AreMoreParams, IsConst}
 use Rattle.ulam_parse.specs.Reading.{same, sees}
 use Rattle.ulam_parse.specs.Files as r
-use Rattle.ulam_parse.proofs.Tells.{is_end, is_seen, unseen, Tells}
+use Rattle.ulam_parse.specs.Sentences.{is_end}
+use Rattle.ulam_parse.proofs.Tells.{is_seen, unseen, Tells}
 use Rattle.ulam_parse.proofs.Rules.{Free, Rule, Filled, Then, Map, Into, Back, Seen, Unseen, Always, token, then, after, map, named, choice, some_place, some_word}
 use Rattle.ulam_parse.proofs.TypeRules.{type_rule}
 use Rattle.ulam_parse.proofs.SimpleRules.{name_open}

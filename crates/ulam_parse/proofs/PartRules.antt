@@ -13,7 +13,8 @@ use Rattle.ulam_parse.specs.Grammar.{Span, ◌⟫◌, Takes, TakesWord, TakesAss
 use Rattle.ulam_parse.specs.Reading.{same, sees}
 use Rattle.ulam_parse.specs.Statements as r
 use Rattle.ulam_parse.specs.Statements.{ForHead}
-use Rattle.ulam_parse.proofs.Tells.{decide, same_self, same_is, is_end, is_seen, unseen, Tells}
+use Rattle.ulam_parse.specs.Sentences.{is_end}
+use Rattle.ulam_parse.proofs.Tells.{decide, same_self, same_is, is_seen, unseen, Tells}
 use Rattle.ulam_parse.proofs.Rules.{Free, Rule, Filled, Then, Map, Into, Back, Seen, Unseen, token, then, map, here, choice, some_place, some_word}
 use Rattle.ulam_parse.proofs.TypeRules.{path_rule}
 use Rattle.ulam_parse.proofs.Opened.{reach, unopened}

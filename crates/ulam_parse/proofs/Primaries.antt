@@ -10,7 +10,8 @@ use Rattle.ulam_parse.specs.Tokens.{Text, Tok, tok}
 use Rattle.ulam_parse.specs.Tables.{opening_of}
 use Rattle.ulam_parse.specs.Grammar.{Span, ◌⟫◌, Takes, TakesWord, IsType, IsExpr}
 use Rattle.ulam_parse.specs.Reading.{Reader, same, sees, sees_second, begins_cast, new_atom, in_parens}
-use Rattle.ulam_parse.proofs.Tells.{decide, same_is, is_end, first, sees_first, Tells, tells_as, tells_two}
+use Rattle.ulam_parse.specs.Sentences.{is_end}
+use Rattle.ulam_parse.proofs.Tells.{decide, same_is, first, sees_first, Tells, tells_as, tells_two}
 use Rattle.ulam_parse.proofs.Rules.{Free, tells_if, Rule, Then, Map, Into, Back, token, then, map, some_place, some_word, none_some}
 use Rattle.ulam_parse.proofs.TypeRules.{type_rule}
 use Rattle.ulam_parse.proofs.Opened.{opened, no_cast, type_casts, cast_two}

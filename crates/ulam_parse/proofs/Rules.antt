@@ -7,7 +7,8 @@ use Rattle.ulam_parse.specs.declared.symbol.Symbol.TheVariants as s
 use Rattle.ulam_parse.specs.Tokens.{Tok, tok}
 use Rattle.ulam_parse.specs.Grammar.{Span, TakesWord}
 use Rattle.ulam_parse.specs.Reading.{stops, tired, Read, Reader, ◌>>=◌, same, sees, expect}
-use Rattle.ulam_parse.proofs.Tells.{same_self, same_is, first, is_end, no_end_append, first_append, sees_first, Found, Stopped, Tells, tells_as, tail}
+use Rattle.ulam_parse.specs.Sentences.{is_end}
+use Rattle.ulam_parse.proofs.Tells.{same_self, same_is, first, no_end_append, first_append, sees_first, Found, Stopped, Tells, tells_as, tail}
 
 -- nothing is asked or known
 abbrev pub Free : {A : Type 0} → A → List Tok → Type 0

@@ -12,7 +12,8 @@ use Rattle.ulam_parse.specs.Tables.{assigning_of}
 use Rattle.ulam_parse.specs.Grammar.{Span, ◌⟫◌, TakesWord, TakesAssign, TakesCount, IsType, IsPath, IsExpr, IsIndex, IsLeft, IsMaybe, IsStart, IsDeclare}
 use Rattle.ulam_parse.specs.Reading.{same, sees, expr}
 use Rattle.ulam_parse.specs.Statements as r
-use Rattle.ulam_parse.proofs.Tells.{decide, is_end, first, unseen, one_first, Tells, tells_as, tells_behind, Behind}
+use Rattle.ulam_parse.specs.Sentences.{is_end}
+use Rattle.ulam_parse.proofs.Tells.{decide, first, unseen, one_first, Tells, tells_as, tells_behind, Behind}
 use Rattle.ulam_parse.proofs.Rules.{Free, Rule, Filled, Then, Map, Back, Seen, Unseen, Always, token, then, map, named, here, choice, map_law, some_place, some_word, none_some}
 use Rattle.ulam_parse.proofs.TypeRules.{Not, type_rule, path_rule}
 use Rattle.ulam_parse.proofs.Opened.{reach, no_opens, unopened}

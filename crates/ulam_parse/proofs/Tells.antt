@@ -8,6 +8,7 @@ use Rattle.ulam_parse.specs.declared.symbol.Symbol.TheVariants as s
 use Rattle.ulam_parse.specs.Tokens.{Text, Tok, tok}
 use Rattle.ulam_parse.specs.Grammar.{Span}
 use Rattle.ulam_parse.specs.Reading.{stops, tired, Read, same, sees}
+use Rattle.ulam_parse.specs.Sentences.{is_end, has_end}
 
 pub decide : (b : Bool) → (b ≡ true → ⊥) → b ≡ false
 decide true f = absurd (f refl)
@@ -24,15 +25,6 @@ same_is k j e = same_true the_type (search rules) k j e
 abbrev pub first : List Tok → Option Tok
 first [] = None
 first (t ∷ ts) = Some t
-
-abbrev pub is_end : Symbol → Bool
-is_end s.End = true
-is_end _ = false
-
--- a token `End` is among them
-abbrev pub has_end : List Tok → Bool
-has_end [] = false
-has_end (tok k w p ∷ ts) = is_end k || has_end ts
 
 neither : (x y : Bool) → (x || y) ≡ false → (x ≡ false) × (y ≡ false)
 neither true y e = absurd cc

@@ -6,7 +6,8 @@ use Rattle.ulam_parse.specs.declared.symbol.Symbol.TheVariants as s
 use Rattle.ulam_parse.specs.Tokens.{Tok, value_of, unsigned_of}
 use Rattle.ulam_parse.specs.Grammar.{Span, ◌⟫◌, Takes, TakesWord, IsWidth, IsSize, IsType, AreDotted, IsPath, IsPathOf}
 use Rattle.ulam_parse.specs.Reading.{sees, width, enclosed, size, type_ref, dotted, words_after, path}
-use Rattle.ulam_parse.proofs.Tells.{is_end, is_seen, unseen, Tells}
+use Rattle.ulam_parse.specs.Sentences.{is_end}
+use Rattle.ulam_parse.proofs.Tells.{is_seen, unseen, Tells}
 use Rattle.ulam_parse.proofs.Rules.{Free, Rule, Filled, Then, Map, Into, Back, Seen, Unseen, Always, token, then, after, map, named, here, choice}
 
 -- this symbol does not follow

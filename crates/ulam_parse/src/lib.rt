@@ -29,3 +29,6 @@ mod types;
 
 pub use fault::ParseFault;
 pub use parser::{one_tree, parse};
+
+#[cfg(test)]
+mod tests;
