@@ -1,5 +1,5 @@
 -- Places of a plane's sites in row order.
-use Rattle.std.proofs.Common.{ℕ, zero, suc, ◌≡◌, ◌+◌, ◌-◌, ◌*◌, ◌<◌, true, false, get_or, replicate, ap, ◌∙◌, arith}
+use Rattle.std.proofs.Common.{ℕ, zero, suc, ◌≡◌, ◌+◌, ◌-◌, ◌*◌, ◌<◌, true, false, get_or, ap, ◌∙◌, arith}
 use Rattle.std.proofs.Math.Nat.{mul_comm}
 use Rattle.std.proofs.lemmas.List.{get_or-replicate}
 use Rattle.cell_grid.specs.Grid.{GridValue, IsLive, IsAllLive}

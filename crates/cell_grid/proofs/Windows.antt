@@ -1,8 +1,8 @@
 -- How a window is read from a grid, and how it is written, site by site.
-use Rattle.std.proofs.Common.{ℕ, suc, ◌≡◌, ◌+◌, ◌<◌, Bool, true, false, List, ◌∷◌, length, get_or, set, drop, is_some, map, cond, zero, [], ◌*◌, ◌≤◌, Option, Some, None, refl, ap, sym, ◌∙◌, arith, inl, inr}
+use Rattle.std.proofs.Common.{ℕ, suc, ◌≡◌, ◌+◌, ◌<◌, Bool, true, false, List, ◌∷◌, length, get_or, set, drop, is_some, map, cond, zero, [], ◌*◌, ◌≤◌, Option, Some, None, refl, ap, sym, subst, ◌∙◌, arith, inl, inr}
 use Rattle.std.proofs.Math.ListN.{length-set}
 use Rattle.std.proofs.Math.Seq.{drop-cons}
-use Rattle.std.proofs.lemmas.Bool.{lt-ltb}
+use Rattle.std.proofs.lemmas.Bool.{cases_lt, lt-ltb}
 use Rattle.std.proofs.lemmas.Bool.Decides.{eqb_tells}
 use Rattle.std.proofs.lemmas.List.{get_or-set_other, get_or-set_same}
 use Rattle.std.proofs.lemmas.List.FromFn.{fill_by_all, get_or-range_with_len, get_or-map-range_with_len, length-map-range_with_len}
@@ -13,7 +13,7 @@ use Rattle.window_sites.specs.Sites.{sites}
 use Rattle.window_sites.specs.Window.{WindowValue, IsWindow, atom_at}
 use Rattle.cell_grid.specs.Grid.{GridValue, ArePlanesAlike, IsGrid, IsLive, live_place, place_of, seen, window_of, sites_at, is_place, atom_left, put_window}
 use Rattle.window_sites.specs.Inner.{site_numbers}
-use Rattle.cell_grid.specs.Steps.{with_atom}
+use Rattle.cell_grid.specs.Steps.{IsLivePlace, AreLivePlaces, ArePlacesOf, with_atom}
 
 seen-hidden : (g : GridValue) (p : Option ℕ) → is_some p ≡ false → seen g p ≡ empty_atom
 seen-hidden g None h = refl
@@ -27,44 +27,65 @@ centre-place g x y h =
     let v : y + 0 ≡ y = omega arith in
     rw (u, v, lt-ltb x g.width h.column, lt-ltb y g.height h.row, h.marked) refl
 
-centre-live : (g : GridValue) (x y : ℕ) → IsLive g x y → is_some (place_of g x y 0) ≡ true
-centre-live g x y h = ap is_some (centre-place g x y h)
+-- the centre has a place
+pub centre_found : (g : GridValue) (x y : ℕ) (places : List (Option ℕ)) → IsLive g x y → ArePlacesOf g x y places → is_some (get_or places 0 None) ≡ true
+centre_found g x y places h p = ap is_some (p 0 (omega arith) ∙ centre-place g x y h)
+
+-- the places of the first n sites were found
+pub record AreFound (g : GridValue) (x y n : ℕ) (places : List (Option ℕ)) : Type 0 where
+  pub all : length places ≡ 41
+  pub place : (k : ℕ) → k < n → get_or places k None ≡ place_of g x y k
+  pub live : (k : ℕ) → k < n → IsLivePlace g (place_of g x y k)
+
+pub AreFound-more : (g : GridValue) (x y n : ℕ) (places : List (Option ℕ)) (p : Option ℕ) → n < 41 → p ≡ place_of g x y n → IsLivePlace g p →
+    AreFound g x y n places → AreFound g x y (n + 1) (set places n p)
+AreFound-more g x y n places p small e live h = record {
+  all = length-set places n p ∙ h.all;
+  place = rw e (fill_by_more (λ k. place_of g x y k) places n None (omega (arith, h.all)) h.place);
+  live = λ k lt. elim (cases_lt k n) [
+    | inl before ↦ h.live k before
+    | inr since ↦ let last : n ≡ k = omega (arith, since, lt) in subst (λ (v : ℕ). IsLivePlace g (place_of g x y v)) last (subst (IsLivePlace g) e live)
+  ];
+}
+
+pub AreLivePlaces-found : (g : GridValue) (x y : ℕ) (places : List (Option ℕ)) → AreFound g x y 41 places → AreLivePlaces g places
+AreLivePlaces-found g x y places h = λ n lt. subst (IsLivePlace g) (sym (h.place n lt)) (h.live n lt)
 
 -- the first n sites were read
-pub record IsRead (g : GridValue) (x y n : ℕ) (atoms : List AtomValue) (live : List Bool) : Type 0 where
+pub record IsRead (g : GridValue) (places : List (Option ℕ)) (n : ℕ) (atoms : List AtomValue) (live : List Bool) : Type 0 where
   pub all_atoms : length atoms ≡ 41
   pub all_live : length live ≡ 41
-  pub atom : (k : ℕ) → k < n → get_or atoms k empty_atom ≡ seen g (place_of g x y k)
-  pub mark : (k : ℕ) → k < n → get_or live k false ≡ is_some (place_of g x y k)
+  pub atom : (k : ℕ) → k < n → get_or atoms k empty_atom ≡ seen g (get_or places k None)
+  pub mark : (k : ℕ) → k < n → get_or live k false ≡ is_some (get_or places k None)
 
-pub IsRead-more : (g : GridValue) (x y n : ℕ) (atoms : List AtomValue) (live : List Bool) (a : AtomValue) (b : Bool) → n < 41 →
-    a ≡ seen g (place_of g x y n) → b ≡ is_some (place_of g x y n) →
-    IsRead g x y n atoms live → IsRead g x y (n + 1) (set atoms n a) (set live n b)
-IsRead-more g x y n atoms live a b small e f h =
+pub IsRead-more : (g : GridValue) (places : List (Option ℕ)) (n : ℕ) (atoms : List AtomValue) (live : List Bool) (a : AtomValue) (b : Bool) → n < 41 →
+    a ≡ seen g (get_or places n None) → b ≡ is_some (get_or places n None) →
+    IsRead g places n atoms live → IsRead g places (n + 1) (set atoms n a) (set live n b)
+IsRead-more g places n atoms live a b small e f h =
     let p : n < length atoms = omega (arith, h.all_atoms) in
     let q : n < length live = omega (arith, h.all_live) in
     record {
       all_atoms = length-set atoms n a ∙ h.all_atoms;
       all_live = length-set live n b ∙ h.all_live;
-      atom = rw e (fill_by_more (λ k. seen g (place_of g x y k)) atoms n empty_atom p h.atom);
-      mark = rw f (fill_by_more (λ k. is_some (place_of g x y k)) live n false q h.mark);
+      atom = rw e (fill_by_more (λ k. seen g (get_or places k None)) atoms n empty_atom p h.atom);
+      mark = rw f (fill_by_more (λ k. is_some (get_or places k None)) live n false q h.mark);
     }
 
-pub window_of-read : (g : GridValue) (x y : ℕ) (atoms : List AtomValue) (live : List Bool) → IsRead g x y 41 atoms live →
+pub window_of-read : (g : GridValue) (x y : ℕ) (places : List (Option ℕ)) (atoms : List AtomValue) (live : List Bool) → ArePlacesOf g x y places → IsRead g places 41 atoms live →
     record { atoms = atoms; live = live } ≡ window_of g x y
 unfolding window_of
-window_of-read g x y atoms live h =
-    let a = fill_by_all (λ n. seen g (place_of g x y n)) atoms 41 empty_atom h.all_atoms h.atom in
-    let b = fill_by_all (λ n. is_some (place_of g x y n)) live 41 false h.all_live h.mark in
+window_of-read g x y places atoms live p h =
+    let a = fill_by_all (λ n. seen g (place_of g x y n)) atoms 41 empty_atom h.all_atoms (λ k lt. h.atom k lt ∙ ap (seen g) (p k lt)) in
+    let b = fill_by_all (λ n. is_some (place_of g x y n)) live 41 false h.all_live (λ k lt. h.mark k lt ∙ ap is_some (p k lt)) in
     rw (a, b) refl
 
-pub IsWindow-read : (g : GridValue) (x y : ℕ) (atoms : List AtomValue) (live : List Bool) → IsLive g x y → IsRead g x y 41 atoms live →
+pub IsWindow-read : (g : GridValue) (places : List (Option ℕ)) (atoms : List AtomValue) (live : List Bool) → is_some (get_or places 0 None) ≡ true → IsRead g places 41 atoms live →
     IsWindow (record { atoms = atoms; live = live })
-IsWindow-read g x y atoms live a h = record {
+IsWindow-read g places atoms live centre h = record {
   atoms = h.all_atoms;
   live = h.all_live;
-  hidden = λ n small dark. h.atom n small ∙ seen-hidden g (place_of g x y n) (sym (h.mark n small) ∙ dark);
-  centre = h.mark 0 (omega arith) ∙ centre-live g x y a;
+  hidden = λ n small dark. h.atom n small ∙ seen-hidden g (get_or places n None) (sym (h.mark n small) ∙ dark);
+  centre = h.mark 0 (omega arith) ∙ centre;
 }
 
 -- the sites from n on were written
@@ -102,17 +123,43 @@ with_atom-width : (g : GridValue) (p : Option ℕ) (a : AtomValue) → ((with_at
 with_atom-width g None a = (refl, refl, refl, refl)
 with_atom-width g (Some i) a = (refl, refl, refl, length-set g.atoms i a)
 
-pub IsPut-more : (g h : GridValue) (x y : ℕ) (w : WindowValue) (n m : ℕ) → m ≡ n + 1 → n < 41 → IsPut g x y w m h → IsPut g x y w n (with_atom h (place_of h x y n) (atom_at w n))
-IsPut-more g h x y w n m next lt put =
-    let size = with_atom-width h (place_of h x y n) (atom_at w n) in
-    let same : place_of h x y n ≡ place_of g x y n = rw (put.width, put.height, put.live) refl in
+pub IsPut-more : (g h : GridValue) (x y : ℕ) (w : WindowValue) (n m : ℕ) (p : Option ℕ) → m ≡ n + 1 → n < 41 → p ≡ place_of g x y n → IsPut g x y w m h → IsPut g x y w n (with_atom h p (atom_at w n))
+IsPut-more g h x y w n m p next lt is put =
+    let size = with_atom-width h p (atom_at w n) in
     record {
       width = size.0 ∙ put.width;
       height = size.1 ∙ put.height;
       live = size.2 ∙ put.live;
       whole = size.3 ∙ put.whole;
-      atom = rw (numbers-from n lt) (put-site g h x y w n (drop (n + 1) site_numbers) (place_of h x y n) same put.whole (rw next at put.atom));
+      atom = rw (numbers-from n lt) (put-site g h x y w n (drop (n + 1) site_numbers) p is put.whole (rw next at put.atom));
     }
+
+-- the sites from n on were written, whose places are known
+pub record IsPutAt (g : GridValue) (places : List (Option ℕ)) (w : WindowValue) (n : ℕ) (h : GridValue) : Type 0 where
+  pub width : h.width ≡ g.width
+  pub height : h.height ≡ g.height
+  pub live : h.live ≡ g.live
+  pub whole : length h.atoms ≡ length g.atoms
+  pub put : (x y : ℕ) → ArePlacesOf g x y places → IsPut g x y w n h
+
+pub IsPutAt-none : (g : GridValue) (places : List (Option ℕ)) (w : WindowValue) → IsPutAt g places w 41 g
+IsPutAt-none g places w = record { width = refl; height = refl; live = refl; whole = refl; put = λ x y p. IsPut-none g x y w }
+
+pub IsPutAt-more : (g h : GridValue) (places : List (Option ℕ)) (w : WindowValue) (n m : ℕ) → m ≡ n + 1 → n < 41 → IsPutAt g places w m h → IsPutAt g places w n (with_atom h (get_or places n None) (atom_at w n))
+IsPutAt-more g h places w n m next lt put =
+    let size = with_atom-width h (get_or places n None) (atom_at w n) in
+    record {
+      width = size.0 ∙ put.width;
+      height = size.1 ∙ put.height;
+      live = size.2 ∙ put.live;
+      whole = size.3 ∙ put.whole;
+      put = λ x y p. IsPut-more g h x y w n m (get_or places n None) next lt (p n lt) (put.put x y p);
+    }
+
+-- the place of a live site is that in the grid with other atoms too
+pub IsLivePlace-same : (g h : GridValue) (p : Option ℕ) → h.live ≡ g.live → length h.atoms ≡ length g.atoms → IsLivePlace g p → IsLivePlace h p
+IsLivePlace-same g h None live whole k = k
+IsLivePlace-same g h (Some i) live whole k = (omega (arith, whole, k.0), ap (λ marks. get_or marks i false) live ∙ k.1)
 
 abbrev put-atoms : GridValue → ℕ → ℕ → WindowValue → List AtomValue
 put-atoms g x y w = map (λ i. atom_left g w i (sites_at g x y i site_numbers)) (range_with_len 0 (length g.atoms))

@@ -53,11 +53,16 @@ site_atom g x y = slice_index_or g.atoms (y * g.width + x) empty_atom
 abbrev pub with_site : GridValue → ℕ → ℕ → AtomValue → GridValue
 with_site g x y a = record g { atoms = slice_set g.atoms (y * g.width + x) a }
 
--- the place of a site in row order, where it is of the plane
-abbrev pub placed : ℕ → ℕ → Option ℕ → Option ℕ → Option ℕ
-placed width height None v = None
-placed width height (Some u) None = None
-placed width height (Some u) (Some v) = if nat_lt u width then (if nat_lt v height then Some (v * width + u) else None) else None
+-- a coordinate, where it lies below an end
+abbrev pub below_end : ℕ → Option ℕ → Option ℕ
+below_end end None = None
+below_end end (Some u) = if nat_lt u end then Some u else None
+
+-- the place of a site in row order, by its column and its row, where it has both
+abbrev pub placed : ℕ → Option ℕ → Option ℕ → Option ℕ
+placed width None v = None
+placed width (Some u) None = None
+placed width (Some u) (Some v) = Some (v * width + u)
 
 -- that place, where its site is live
 abbrev pub live_place : List Bool → Option ℕ → Option ℕ
@@ -66,7 +71,7 @@ live_place live (Some i) = if slice_index_or live i false then Some i else None
 
 -- the place of site n of the window at (x, y), where the site is of the plane and live
 abbrev pub place_of : GridValue → ℕ → ℕ → ℕ → Option ℕ
-place_of g x y n = live_place g.live (placed g.width g.height (shifted x (offset_of n).0) (shifted y (offset_of n).1))
+place_of g x y n = live_place g.live (placed g.width (below_end g.width (shifted x (offset_of n).0)) (below_end g.height (shifted y (offset_of n).1)))
 
 -- what a window shows of a place
 abbrev pub seen : GridValue → Option ℕ → AtomValue

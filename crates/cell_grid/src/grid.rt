@@ -1,11 +1,12 @@
 //! A flat grid of atoms, its windows, events and the replay of records.
-ghost use Rattle.std.specs.Prelude.{◌≡◌, pos, false, All, ◌+◌, ◌*◌, ◌≤◌, ◌<◌, ◌^◌, ◌≤ℤ◌, IfOk, IfSome, is_some, length, slice_index_or};
+ghost use Rattle.std.specs.Prelude.{◌≡◌, false, true, All, ◌+◌, ◌*◌, ◌≤◌, ◌<◌, ◌^◌, ℕ, IfOk, IfSome, None, is_some, length, slice_index_or};
+ghost use Rattle.std.specs.Int.RustNames.{unsigned_abs};
 ghost use Rattle.window_sites.specs.Sites.{shifted};
 ghost use Rattle.cell_grid.specs.Calm.{IsCorner};
-ghost use Rattle.cell_grid.specs.Grid.{GridValue, IsLive, ArePlanesAlike, empty_grid, site_atom, with_site, place_of, seen, window_of, put_window, event};
+ghost use Rattle.cell_grid.specs.Grid.{GridValue, IsLive, ArePlanesAlike, empty_grid, site_atom, with_site, below_end, place_of, seen, window_of, put_window, event};
 ghost use Rattle.cell_grid.specs.Records.{replay};
 ghost use Rattle.cell_grid.specs.Shut.{IsEmptyIn, rectangle, shut};
-ghost use Rattle.cell_grid.specs.Steps.{with_atom};
+ghost use Rattle.cell_grid.specs.Steps.{IsLivePlace, AreLivePlaces, ArePlacesOf, with_atom};
 
 use crate::behave::Behave;
 use crate::inner::put_inner;
@@ -39,18 +40,18 @@ impl Model for Grid {
     ghost invariant = { λ g. IsGrid (record { width = g.width; height = g.height; atoms = g.atoms.items; live = g.live.items }) × AreCalm g.width g.height g.live.items g.calm.items };
 }
 
-/// The coordinate with an offset added, where it does not fall below 0.
-fn shift(x: u32, by: i32) -> Option<u32>
+/// The coordinate with an offset added, where it does not fall below 0 and lies below an end. (What
+/// falls below 0 goes around to the greatest numbers, so one comparison tells both.)
+#[tactic(auto, using(crate::proofs::Shifts::shift_around))]
+fn shift(x: u32, by: i32, end: u32) -> Option<u32>
     requires small { x < 2 ^ 31 }
-    requires near { by ≤ℤ pos 4 }
-    ensures { result ≡ shifted x by }
+    requires near { unsigned_abs by ≤ 4 }
+    requires low { end ≤ 2 ^ 31 }
+    ensures value { result ≡ below_end end (shifted x by) }
+    ensures inside { IfSome result (λ u. u < end) }
 {
-    if by >= 0 {
-        Some(x + by as u32)
-    } else {
-        let back = by.unsigned_abs();
-        if back <= x { Some(x - back) } else { None }
-    }
+    let to = x.wrapping_add_signed(by);
+    if to < end { Some(to) } else { None }
 }
 
 impl Grid {
@@ -158,19 +159,13 @@ impl Grid {
         requires row { y < self.now.height }
         requires n_in { n ≤ 40 }
         ensures place { result ≡ place_of self.now x y n }
-        ensures bound { IfSome result (λ i. i < length self.now.atoms) }
+        ensures live { IsLivePlace self.now result }
     {
-        let width = self.width;
-        let height = self.height;
         let (dx, dy) = offset(n);
-        let u = shift(x, dx)?;
-        let v = shift(y, dy)?;
-        if u < width && v < height {
-            let i = (v * width + u) as usize;
-            if self.live[i] { Some(i) } else { None }
-        } else {
-            None
-        }
+        let u = shift(x, dx, self.width)?;
+        let v = shift(y, dy, self.height)?;
+        let i = (v * self.width + u) as usize;
+        if self.live[i] { Some(i) } else { None }
     }
 
     /// The place of the first of nine rows and nine columns around a site, where all sites of its window are in the plane
@@ -192,31 +187,43 @@ impl Grid {
         }
     }
 
-    /// What a window shows of a site.
-    fn seen(&self, x: u32, y: u32, n: u8) -> (Atom, bool)
+    /// The places of the sites of a window.
+    fn places(&self, x: u32, y: u32) -> [Option<usize>; 41]
         requires column { x < self.now.width }
         requires row { y < self.now.height }
-        requires n_in { n ≤ 40 }
-        ensures atom { result.0 ≡ seen self.now (place_of self.now x y n) }
-        ensures live { result.1 ≡ is_some (place_of self.now x y n) }
+        ensures places { ArePlacesOf self.now x y result }
+        ensures live { AreLivePlaces self.now result }
     {
-        match self.place(x, y, n) {
-            Some(i) => (self.atoms[i], true),
-            None => (Atom::new(0, 0), false),
+        let mut places = [None; 41];
+        for n in 0..41u8 {
+            places[n as usize] = self.place(x, y, n);
+        }
+        places
+    }
+
+    /// What a window shows of a site at a place.
+    fn seen(&self, place: Option<usize>) -> Atom
+        requires { IsLivePlace self.now place }
+        ensures { result ≡ seen self.now place }
+    {
+        match place {
+            Some(i) => self.atoms[i],
+            None => Atom::new(0, 0),
         }
     }
 
-    /// The window at a site, read site by site.
-    fn window_by_sites(&self, x: u32, y: u32) -> Window
-        requires live { IsLive self.now x y }
-        ensures { result ≡ window_of self.now x y }
+    /// The window whose sites have these places, read site by site.
+    fn window_by_sites(&self, places: &[Option<usize>; 41]) -> Window
+        requires live { AreLivePlaces self.now places.now }
+        requires centre { is_some (slice_index_or places.now 0 None) ≡ true }
+        ensures { (x y : ℕ) → ArePlacesOf self.now x y places.now → result ≡ window_of self.now x y }
     {
         let mut atoms = [Atom::new(0, 0); 41];
         let mut live = [false; 41];
-        for n in 0..41u8 {
-            let (atom, is_live) = self.seen(x, y, n);
-            atoms[n as usize] = atom;
-            live[n as usize] = is_live;
+        for n in 0..41 {
+            let place = places[n];
+            atoms[n] = self.seen(place);
+            live[n] = place.is_some();
         }
         Window::new(atoms, live)
     }
@@ -232,37 +239,35 @@ impl Grid {
     }
 
     /// Makes a window at hand the window at a live site. Whoever reads many keeps one.
+    #[tactic(auto, using(crate::proofs::Windows::centre_found))]
     pub fn read_window(&self, x: u32, y: u32, window: &mut Window)
         requires live { IsLive self.now x y }
         ensures { window.new ≡ window_of self.now x y }
     {
         match self.corner(x, y) {
             Some(low) => window.refill(self.atoms.as_slice(), low, self.width as usize),
-            None => *window = self.window_by_sites(x, y),
+            None => *window = self.window_by_sites(&self.places(x, y)),
         }
     }
 
-    /// Writes an atom at a site of a window, where it is live.
-    fn put_site(&mut self, x: u32, y: u32, n: u8, atom: Atom)
-        requires column { x < self.old.width }
-        requires row { y < self.old.height }
-        requires n_in { n ≤ 40 }
-        ensures { self.new ≡ with_atom self.old (place_of self.old x y n) atom }
+    /// Writes an atom at the place of a live site, where there is one.
+    fn put_place(&mut self, place: Option<usize>, atom: Atom)
+        requires { IsLivePlace self.old place }
+        ensures { self.new ≡ with_atom self.old place atom }
     {
-        if let Some(i) = self.place(x, y, n) {
+        if let Some(i) = place {
             self.atoms[i] = atom;
         }
     }
 
-    /// Gives each live site of the window at a site its atom of a window, one by one.
-    fn put_by_sites(&mut self, x: u32, y: u32, window: &Window)
-        requires column { x < self.old.width }
-        requires row { y < self.old.height }
-        ensures grid { self.new ≡ put_window self.old x y window.now }
+    /// Gives each live site of a window, whose sites have these places, its atom, one by one.
+    fn put_by_sites(&mut self, places: &[Option<usize>; 41], window: &Window)
+        requires live { AreLivePlaces self.old places.now }
+        ensures grid { (x y : ℕ) → ArePlacesOf self.old x y places.now → self.new ≡ put_window self.old x y window.now }
         ensures plane { ArePlanesAlike self.old self.new }
     {
         for n in (0..41u8).rev() {
-            self.put_site(x, y, n, window.get(n));
+            self.put_place(places[n as usize], window.get(n));
         }
     }
 
@@ -277,8 +282,32 @@ impl Grid {
                 let width = self.width as usize;
                 put_inner(self.atoms.as_mut_slice(), low, width, window.atoms());
             }
-            None => self.put_by_sites(x, y, window),
+            None => {
+                let places = self.places(x, y);
+                self.put_by_sites(&places, window);
+            }
         }
+    }
+
+    /// The event at a live site, its window read and written site by site.
+    #[tactic(auto, using(crate::proofs::Windows::centre_found))]
+    fn event_by_sites<B: Behave>(
+        &mut self,
+        x: u32,
+        y: u32,
+        seed: u64,
+        behave: &mut B,
+        window: &mut Window,
+    )
+        requires live { IsLive self.old x y }
+        ensures grid { self.new ≡ event (B.after behave.old) self.old x y seed }
+        ensures plane { ArePlanesAlike self.old self.new }
+        ensures meaning { B.after behave.new ≡ B.after behave.old }
+    {
+        let places = self.places(x, y);
+        *window = self.window_by_sites(&places);
+        behave.act(window, seed);
+        self.put_by_sites(&places, window);
     }
 
     /// The event at a live site: what acts sees the window there, and each live site of it then
@@ -312,9 +341,14 @@ impl Grid {
         if self.get(x, y) == Atom::new(0, 0) {
             return;
         }
-        self.read_window(x, y, window);
-        behave.act(window, seed);
-        self.put_window(x, y, window);
+        match self.corner(x, y) {
+            Some(low) => {
+                window.refill(self.atoms.as_slice(), low, self.width as usize);
+                behave.act(window, seed);
+                self.put_window(x, y, window);
+            }
+            None => self.event_by_sites(x, y, seed, behave, window),
+        }
     }
 
     /// The events of the records, one after another, each at a live site.

@@ -7,6 +7,7 @@ use Rattle.std.proofs.lemmas.List.{get_or_default}
 use Rattle.std.proofs.lemmas.List.Elements.{All-head, All-tail, All-cons}
 use Rattle.std.proofs.lemmas.Str.Parse.{digit_at}
 use Rattle.std.proofs.Math.Nat.{pow-le-pow_right}
+use Rattle.list_laws.proofs.Tests.{both}
 use Rattle.feast_base.specs.Digits.{glyph, hex}
 use Rattle.feast_base.proofs.Digits.{hex_small}
 use Rattle.feast_run.specs.Reading.{Lacks, NoText, number_end, name_end, IsIn, IsName}
@@ -56,22 +57,18 @@ word_byte-high b h = grind arith
 upper-word : (b : ℕ) → is_ascii_uppercase b ≡ true → 48 ≤ b
 upper-word b h = grind arith
 
-and_both : (a b : Bool) → (a && b) ≡ true → (a ≡ true) × (b ≡ true)
-and_both true b h = (refl, h)
-and_both false b h = cc
-
 words-lack : (bs : List ℕ) (end : ℕ) → end < 48 → list_all is_word_byte bs ≡ true → Lacks bs end
 words-lack [] end low h = λ i d lt. absurd (omega arith)
 words-lack (b ∷ bs) end low h =
-    let p = and_both (is_word_byte b) (list_all is_word_byte bs) h in
+    let p = both (is_word_byte b) (list_all is_word_byte bs) h in
     All-cons (λ v. v ≢ end) b bs (λ e. absurd (omega (arith, word_byte-high b p.0))) (words-lack bs end low p.1)
 
 -- nor are the bytes of a name
 pub name-lacks : (name : List ℕ) (end : ℕ) → end < 48 → IsName name → Lacks name end
 name-lacks [] end low h = cc
 name-lacks (b ∷ bs) end low h =
-    let p = and_both (is_ascii_uppercase b && list_all is_word_byte bs) (nat_le (length bs + 1) longest_name) h in
-    let q = and_both (is_ascii_uppercase b) (list_all is_word_byte bs) p.0 in
+    let p = both (is_ascii_uppercase b && list_all is_word_byte bs) (nat_le (length bs + 1) longest_name) h in
+    let q = both (is_ascii_uppercase b) (list_all is_word_byte bs) p.0 in
     All-cons (λ v. v ≢ end) b bs (λ e. absurd (omega (arith, upper-word b q.0))) (words-lack bs end low q.1)
 
 -- one number alone stands before an end

@@ -7,7 +7,7 @@ use Rattle.feast_run.specs.Answer.{AreNamed, Comes, ElementBad, ElementUnread, H
 use Rattle.feast_run.specs.Element.{ElementValue, Defines}
 use Rattle.feast_run.specs.World.{WorldValue, Says}
 use Rattle.feast_run.specs.declared.status.Status.{Status}
-use Rattle.feast_run.specs.declared.status.Status.TheVariants.{Done, Usage, Unreadable, ElementRefused, WorldRefused, JournalRefused, SinkFault, NoMemory}
+use Rattle.feast_run.specs.declared.status.Status.TheVariants.{Done, Usage, Unreadable, ElementRefused, WorldRefused, JournalRefused, SinkFault, NoMemory, CodeRefused}
 
 -- the words of a run name their files
 run_one : (words : List (List ℕ)) (w e v f : List ℕ) → IsRun words w e → IsRun words v f → (w ≡ v) × (e ≡ f)
@@ -135,6 +135,7 @@ module _ (files : List File) (failed : List (List ℕ)) (may : List ℕ → Type
   comes_one Done JournalRefused t u x y = absurd y
   comes_one Done SinkFault t u x y = absurd y
   comes_one Done NoMemory t u x y = absurd y
+  comes_one Done CodeRefused t u x y = absurd y
   comes_one Usage Done t u x y = absurd (no_form_not s t y.world y.element x y.form)
   comes_one Usage Usage t u x y = refl
   comes_one Usage Unreadable t u x y = elim y [ inl q ↦ absurd (no_form_not s t q.world q.element x q.form) | inr q ↦ absurd (no_form_not s t q.world q.element x q.form) ]
@@ -143,6 +144,7 @@ module _ (files : List File) (failed : List (List ℕ)) (may : List ℕ → Type
   comes_one Usage JournalRefused t u x y = absurd y
   comes_one Usage SinkFault t u x y = absurd y
   comes_one Usage NoMemory t u x y = absurd y
+  comes_one Usage CodeRefused t u x y = absurd y
   comes_one Unreadable Done t u x y = absurd (unread_ran t u x y)
   comes_one Unreadable Usage t u x y = elim x [ inl q ↦ absurd (no_form_not s u q.world q.element y q.form) | inr q ↦ absurd (no_form_not s u q.world q.element y q.form) ]
   comes_one Unreadable Unreadable t u x y = refl
@@ -151,6 +153,7 @@ module _ (files : List File) (failed : List (List ℕ)) (may : List ℕ → Type
   comes_one Unreadable JournalRefused t u x y = absurd y
   comes_one Unreadable SinkFault t u x y = absurd y
   comes_one Unreadable NoMemory t u x y = absurd y
+  comes_one Unreadable CodeRefused t u x y = absurd y
   comes_one ElementRefused Done t u x y = absurd (element_bad_not t y.world y.element y.e x y.form y.has_element)
   comes_one ElementRefused Usage t u x y = absurd (no_form_not s u x.world x.element y x.form)
   comes_one ElementRefused Unreadable t u x y = absurd (unread_element_bad u t y x)
@@ -159,6 +162,7 @@ module _ (files : List File) (failed : List (List ℕ)) (may : List ℕ → Type
   comes_one ElementRefused JournalRefused t u x y = absurd y
   comes_one ElementRefused SinkFault t u x y = absurd y
   comes_one ElementRefused NoMemory t u x y = absurd y
+  comes_one ElementRefused CodeRefused t u x y = absurd y
   comes_one WorldRefused Done t u x y = absurd (bad_ran t u x y)
   comes_one WorldRefused Usage t u x y = elim x [ inl q ↦ absurd (no_form_not s u q.world q.element y q.form) | inr q ↦ absurd (no_form_not s u q.world q.element y q.form) ]
   comes_one WorldRefused Unreadable t u x y = absurd (unread_world_bad u t y x)
@@ -167,6 +171,8 @@ module _ (files : List File) (failed : List (List ℕ)) (may : List ℕ → Type
   comes_one WorldRefused JournalRefused t u x y = absurd y
   comes_one WorldRefused SinkFault t u x y = absurd y
   comes_one WorldRefused NoMemory t u x y = absurd y
+  comes_one WorldRefused CodeRefused t u x y = absurd y
   comes_one JournalRefused b t u x y = absurd x
   comes_one SinkFault b t u x y = absurd x
   comes_one NoMemory b t u x y = absurd x
+  comes_one CodeRefused b t u x y = absurd x

@@ -7,7 +7,7 @@ use Rattle.feast_run.specs.Answer.{Comes, Ends, HasElement, HasWorld, Ran, Setti
 use Rattle.feast_run.specs.Promises.{Complete, Exactly, Headline, RanTold, UsageExactly}
 use Rattle.feast_run.specs.Run.{run_report}
 use Rattle.feast_run.specs.declared.status.Status.{Status}
-use Rattle.feast_run.specs.declared.status.Status.TheVariants.{Done, Usage, Unreadable, ElementRefused, WorldRefused, JournalRefused, SinkFault, NoMemory}
+use Rattle.feast_run.specs.declared.status.Status.TheVariants.{Done, Usage, Unreadable, ElementRefused, WorldRefused, JournalRefused, SinkFault, NoMemory, CodeRefused}
 
 -- bytes that hold one
 one_in : (a : List ℕ) (b : ℕ) (bs : List ℕ) → 0 < length (a ++ b ∷ bs)
@@ -32,6 +32,7 @@ comes_some s WorldRefused text (inr h) = same_some text (not_built_line h.world)
 comes_some s JournalRefused text h = absurd h
 comes_some s SinkFault text h = absurd h
 comes_some s NoMemory text h = absurd h
+comes_some s CodeRefused text h = absurd h
 
 -- what a run shows, where files are told
 shows_of : (files : List File) (s : Setting) (text : List ℕ) → s.before.files ≡ Some files → Ran s text → RanTold files s.words text
@@ -66,6 +67,7 @@ headline_of s sink sink' WorldRefused ends = λ files old told holds e. cc
 headline_of s sink sink' JournalRefused ends = λ files old told holds e. cc
 headline_of s sink sink' SinkFault ends = λ files old told holds e. cc
 headline_of s sink sink' NoMemory ends = λ files old told holds e. cc
+headline_of s sink sink' CodeRefused ends = λ files old told holds e. cc
 
 -- when Usage comes, from how a call ends
 pub usage_of : (s : Setting) (sink sink' : Told) (status : Status) → Ends s sink sink' status → UsageExactly s.words status
@@ -77,6 +79,7 @@ usage_of s sink sink' ElementRefused ends = record { only = λ e. cc; where_ = �
 usage_of s sink sink' WorldRefused ends =
     record { only = λ e. cc; where_ = λ none. elim ends.comes [ inl h ↦ absurd (none h.world h.element h.form) | inr h ↦ absurd (none h.world h.element h.form) ] }
 usage_of s sink sink' JournalRefused ends = absurd ends.comes
+usage_of s sink sink' CodeRefused ends = absurd ends.comes
 usage_of s sink sink' SinkFault ends = record { only = λ e. cc; where_ = λ none. inr (inl refl) }
 usage_of s sink sink' NoMemory ends = record { only = λ e. cc; where_ = λ none. inr (inr refl) }
 
@@ -99,6 +102,7 @@ exactly_of s sink sink' Unreadable ends = λ files right text told comes same. i
 exactly_of s sink sink' ElementRefused ends = λ files right text told comes same. inl (same_status files s ElementRefused right ends.text text told ends.comes comes)
 exactly_of s sink sink' WorldRefused ends = λ files right text told comes same. inl (same_status files s WorldRefused right ends.text text told ends.comes comes)
 exactly_of s sink sink' JournalRefused ends = absurd ends.comes
+exactly_of s sink sink' CodeRefused ends = absurd ends.comes
 
 -- completeness, from that
 pub complete_of : (s : Setting) (sink sink' : Told) (status : Status) → Exactly s sink sink' status → Complete s sink sink' status

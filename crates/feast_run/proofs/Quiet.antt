@@ -5,7 +5,7 @@ use Rattle.feast_base.specs.Outside.{Stock, file_of}
 use Rattle.feast_run.specs.Answer.{Comes, Ends, IsRun, NotesNone, setting}
 use Rattle.feast_run.specs.Promises.{IsQuiet, stock_held, told_held}
 use Rattle.feast_run.specs.declared.status.Status.{Status}
-use Rattle.feast_run.specs.declared.status.Status.TheVariants.{Done, Usage, Unreadable, ElementRefused, WorldRefused, JournalRefused, SinkFault, NoMemory}
+use Rattle.feast_run.specs.declared.status.Status.TheVariants.{Done, Usage, Unreadable, ElementRefused, WorldRefused, JournalRefused, SinkFault, NoMemory, CodeRefused}
 
 -- a load that may fail where none is listed and the file is there
 load_not : (shelf : ShelfHeld) (word : List ℕ) → shelf.fail ≡ [] → file_of word shelf.files ≢ None → LoadMayFail shelf word → ⊥
@@ -27,6 +27,7 @@ kept_by shelf after words WorldRefused text free there (inr h) = h.kept
 kept_by shelf after words JournalRefused text free there h = absurd h
 kept_by shelf after words SinkFault text free there h = absurd h
 kept_by shelf after words NoMemory text free there h = absurd h
+kept_by shelf after words CodeRefused text free there h = absurd h
 
 put_not : (sink : SinkHeld) (size : ℕ) → sink.stops ≡ [] → size ≤ room_left sink → PutMayFail sink size → ⊥
 put_not sink size free room h = elim h [ inl listed ↦ absurd (omega (arith, listed, ap length free)) | inr long ↦ absurd (omega (arith, long, room)) ]
@@ -43,3 +44,4 @@ quiet_of shelf shelf' sink sink' words Unreadable ends = λ free unlisted there 
 quiet_of shelf shelf' sink sink' words ElementRefused ends = λ free unlisted there room. (kept_by shelf (stock_held shelf') words ElementRefused ends.text free there ends.comes, ends.put.same, λ e. cc)
 quiet_of shelf shelf' sink sink' words WorldRefused ends = λ free unlisted there room. (kept_by shelf (stock_held shelf') words WorldRefused ends.text free there ends.comes, ends.put.same, λ e. cc)
 quiet_of shelf shelf' sink sink' words JournalRefused ends = absurd ends.comes
+quiet_of shelf shelf' sink sink' words CodeRefused ends = absurd ends.comes

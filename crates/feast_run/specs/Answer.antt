@@ -8,7 +8,7 @@ use Rattle.feast_run.specs.World.{WorldValue, PlacedValue, Says}
 use Rattle.feast_run.specs.Element.{ElementValue, Defines}
 use Rattle.feast_run.specs.Run.{run_report}
 use Rattle.feast_run.specs.declared.status.Status.{Status}
-use Rattle.feast_run.specs.declared.status.Status.TheVariants.{Done, Usage, Unreadable, ElementRefused, WorldRefused, JournalRefused, SinkFault, NoMemory}
+use Rattle.feast_run.specs.declared.status.Status.TheVariants.{Done, Usage, Unreadable, ElementRefused, WorldRefused, JournalRefused, SinkFault, NoMemory, CodeRefused}
 
 -- the longest world file, and the longest element file, in bytes
 abbrev pub world_limit : ℕ
@@ -168,6 +168,7 @@ Comes s WorldRefused text = WorldBad s text ⊎ NameBad s text
 Comes s JournalRefused text = ⊥
 Comes s SinkFault text = ⊥
 Comes s NoMemory text = ⊥
+Comes s CodeRefused text = ⊥
 
 -- a call that put its text whole
 pub record Whole (s : Setting) (sink sink' : Told) (status : Status) : Type 0 where

@@ -21,10 +21,12 @@ pub enum Status {
     SinkFault,
     /// Want of memory.
     NoMemory,
+    /// A code file is refused.
+    CodeRefused,
 }
 
 impl Status {
-    /// The exit status of the program: 0 for `Done`, and 2 to 8 for the others in their order.
+    /// The exit status of the program: 0 for `Done`, and 2 to 9 for the others in their order.
     pub fn code(self) -> u8
         ensures { result ≡ code_of self }
     {
@@ -37,6 +39,7 @@ impl Status {
             Status::JournalRefused => 6,
             Status::SinkFault => 7,
             Status::NoMemory => 8,
+            Status::CodeRefused => 9,
         }
     }
 }
