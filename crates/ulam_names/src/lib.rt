@@ -21,6 +21,7 @@ mod table;
 #[cfg(test)]
 mod tests;
 mod types;
+mod ways;
 mod whole;
 
 pub use fault::NameFault;
