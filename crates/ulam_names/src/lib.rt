@@ -18,8 +18,6 @@ mod program;
 mod scope;
 mod statement;
 mod table;
-#[cfg(test)]
-mod tests;
 mod types;
 mod ways;
 mod whole;
