@@ -9,8 +9,6 @@ mod fault;
 mod law;
 mod rounds;
 mod table;
-#[cfg(test)]
-mod tests;
 
 pub use fault::LayoutFault;
 pub use law::one_width;

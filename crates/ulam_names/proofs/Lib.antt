@@ -9,6 +9,7 @@ pub mod Items
 pub mod Lasts
 pub mod Loops
 pub mod Members
+pub mod Open
 pub mod Opened
 pub mod Programs
 pub mod Rounds

@@ -18,9 +18,8 @@ mod program;
 mod scope;
 mod statement;
 mod table;
-#[cfg(test)]
-mod tests;
 mod types;
+mod ways;
 mod whole;
 
 pub use fault::NameFault;

@@ -1,7 +1,7 @@
 use Rattle.std.proofs.Common.{◌≡◌, map, drop}
 use Rattle.ulam_names.specs.Classes as walk
 use Rattle.ulam_names.specs.Shown.{head_of, half_class}
-use Rattle.ulam_names.proofs.cycle.none_cyclic.Given as goal
+use Rattle.ulam_names.proofs.cycle.each_apart.Given as goal
 
 abbrev pub invariant-loop-class : goal.invariant-loop-class
 invariant-loop-class l = record {

@@ -1,0 +1,13 @@
+//! Texts of element files with what they come to, stage by stage: their trees, what their names
+//! mean, and where their data members lie. The crate has tests alone; they stand above all stages,
+//! so that no stage stands on another for its tests' sake.
+#![tactic(auto)]
+
+#[cfg(test)]
+mod layouts;
+#[cfg(test)]
+mod names;
+#[cfg(test)]
+mod show;
+#[cfg(test)]
+mod stages;

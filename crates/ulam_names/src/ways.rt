@@ -1,0 +1,100 @@
+//! Whether a way through data members may have no end, in rounds over all classes.
+//!
+//! In a row of marks, one for each class, a class is open where ways of as many data members begin
+//! as rounds were made. Where a round leaves no class open, no class contains itself.
+ghost use Rattle.std.specs.Prelude.{◌≡◌, [], Ok, map, slice_get, get_or, true, false, IfOk, IfErr};
+ghost use Rattle.std.specs.List.{list_any};
+ghost use Rattle.std.specs.Option.{option_map_or};
+ghost use Rattle.ulam_names.specs.Classes as walk;
+ghost use Rattle.ulam_names.specs.Rounds.{open_by, field_parts, open_row};
+ghost use Rattle.ulam_names.specs.Shown.{head_of, half_class};
+ghost use Rattle.ulam_names.specs.declared.fault.NameFault.TheVariants.{NoMemory};
+ghost use Rattle.ulam_tree.specs.Ways.{class_number};
+
+use crate::fault::NameFault;
+use crate::half::HalfClass;
+use crate::table::Table;
+use std::alloc::Global;
+use ulam_tree::resolved::Ty;
+
+/// Whether a class is open by a row; so are all by a row that has none.
+fn is_open(row: &[bool], class: u32) -> bool
+    ensures { result ≡ open_by row.now class }
+{
+    match row.get(class as usize) {
+        Some(mark) => *mark,
+        None => true,
+    }
+}
+
+/// Whether a type is an open class.
+fn type_open(row: &[bool], ty: Ty) -> bool
+    ensures { result ≡ list_any (open_by row.now) (class_number ty) }
+{
+    match ty {
+        Ty::Class { class } => is_open(row, class),
+        _ => false,
+    }
+}
+
+/// Whether a data member is an open class.
+fn field_open(row: &[bool], fields: &Table<Ty>, number: usize) -> bool
+    ensures { result ≡ list_any (open_by row.now) (option_map_or (λ p. class_number p.1) (slice_get fields.now number) []) }
+{
+    match fields.at(number) {
+        Some(ty) => type_open(row, *ty),
+        None => false,
+    }
+}
+
+/// Whether one of data members is an open class.
+fn fields_open(row: &[bool], fields: &Table<Ty>) -> bool
+    ensures { result ≡ list_any (open_by row.now) (field_parts fields.now) }
+{
+    for number in 0..fields.len() {
+        if field_open(row, fields, number) {
+            return true;
+        }
+    }
+    false
+}
+
+/// Which classes are open after one more round.
+fn next_open(alloc: Global, classes: &[HalfClass], row: &[bool]) -> Result<Vec<bool>, NameFault>
+    ensures row { IfOk result (λ r. r.items ≡ open_row row.now (map head_of classes.now)) }
+    ensures memory { IfErr result (λ e. e ≡ NoMemory) }
+{
+    let mut next = Vec::new(alloc);
+    for class in classes {
+        next.push(fields_open(row, &class.names.fields))?;
+    }
+    Ok(next)
+}
+
+/// Whether a row has an open class.
+fn any_open(row: &[bool]) -> bool
+    ensures { result ≡ list_any (λ b. b) row.now }
+{
+    for mark in row {
+        if *mark {
+            return true;
+        }
+    }
+    false
+}
+
+/// Whether a class may contain itself: false only where none does. There are as many rounds as
+/// data members lie in one another, and at most as many as there are classes.
+pub fn may_be_cyclic(alloc: Global, classes: &[HalfClass]) -> Result<bool, NameFault>
+    ensures none { IfOk result (λ may. may ≡ false → walk.none_cyclic (map head_of classes.now) 0 (map half_class classes.now) ≡ Ok tt) }
+    ensures memory { IfErr result (λ e. e ≡ NoMemory) }
+{
+    let mut row = Vec::new(alloc);
+    for _ in 0..classes.len() {
+        row = next_open(alloc, classes, row.as_slice())?;
+        if !any_open(row.as_slice()) {
+            return Ok(false);
+        }
+    }
+    Ok(true)
+}
