@@ -1,5 +1,5 @@
 -- A field of a line: its bytes have not the byte that ends it, so it is one alone.
-use Rattle.std.proofs.Common.{ℕ, zero, suc, ◌≡◌, ◌≢◌, ◌+◌, ◌*◌, ◌/◌, ◌%◌, ◌^◌, ◌<◌, ◌≤◌, Bool, true, false, ◌&&◌, List, [], ◌∷◌, ◌++◌, length, get_or, decimal, refl, sym, ◌∙◌, append_assoc, arith, nat_le, Option, Some, None}
+use Rattle.std.proofs.Common.{ℕ, zero, suc, ◌≡◌, ◌≢◌, ◌+◌, ◌*◌, ◌/◌, ◌%◌, ◌^◌, ◌<◌, ◌≤◌, true, ◌&&◌, List, [], ◌∷◌, ◌++◌, length, get_or, decimal, refl, sym, ◌∙◌, append_assoc, arith, nat_le, Option, Some, None}
 use Rattle.std.specs.Option.{MatchOption}
 use Rattle.std.specs.List.{list_all}
 use Rattle.std.proofs.lemmas.Fmt.{decimal_is_IsNumeral, decimal_injective}
