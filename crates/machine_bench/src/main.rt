@@ -33,9 +33,9 @@ const CODES: [(&str, Which); 4] = [
 
 /// A window of live sites with an atom of type 1 at the centre, and none elsewhere.
 fn fresh() -> Window {
-    let mut atoms = [Atom::new(0, 0); 41];
-    atoms[0] = Atom::new(1, 0);
-    Window::new(atoms, [true; 41])
+    let mut window = Window::empty();
+    window.put(0, Atom::new(1, 0));
+    window
 }
 
 /// Makes events on one window after another, as an actor does. What they leave at the eastern
