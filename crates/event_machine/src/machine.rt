@@ -196,6 +196,7 @@ impl Machine {
     }
 
     /// Does an instruction.
+    #[inline(always)]
     fn perform(&mut self, code: &Code, i: &Instr) -> Leads
         requires fits { args_fit i.now ≡ true }
         requires room { length self.old.held.stack ≤ 512 }
