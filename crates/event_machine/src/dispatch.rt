@@ -12,7 +12,7 @@ use crate::numbers::{PairOp, SingleOp};
 use crate::plain;
 use bit_field::Atom;
 use datum::{Datum, Number};
-use sat_math::{Arith, CompareOp, NumType};
+use sat_math::{Arith, CompareOp};
 use stack_code::Instr;
 
 /// Does a plain instruction, in an event of this acting type.
@@ -29,42 +29,10 @@ pub fn plain(h: &mut Hand, kind: u16, i: &Instr) -> Leads
         Instr::LoadLocal(s) => plain::load(h, s),
         Instr::StoreLocal(s) => plain::store(h, s),
         Instr::Pop => plain::drop_top(h),
-        Instr::LoadField(f, width, kind_of) => plain::load_field(
-            h,
-            kind,
-            f,
-            NumType {
-                kind: kind_of,
-                width,
-            },
-        ),
-        Instr::StoreField(f, width, kind_of) => plain::store_field(
-            h,
-            kind,
-            f,
-            NumType {
-                kind: kind_of,
-                width,
-            },
-        ),
-        Instr::LoadPart(s, f, width, kind_of) => plain::load_part(
-            h,
-            s,
-            f,
-            NumType {
-                kind: kind_of,
-                width,
-            },
-        ),
-        Instr::StorePart(s, f, width, kind_of) => plain::store_part(
-            h,
-            s,
-            f,
-            NumType {
-                kind: kind_of,
-                width,
-            },
-        ),
+        Instr::LoadField(f, w, number) => plain::load_field(h, kind, f, w, number),
+        Instr::StoreField(f, w, number) => plain::store_field(h, kind, f, w, number),
+        Instr::LoadPart(s, f, w, number) => plain::load_part(h, s, f, w, number),
+        Instr::StorePart(s, f, w, number) => plain::store_part(h, s, f, w, number),
         Instr::LoadSelf => plain::own(h, kind),
         Instr::LoadSite => plain::load_site(h),
         Instr::StoreSite => plain::store_site(h),
@@ -91,13 +59,7 @@ pub fn plain(h: &mut Hand, kind: u16, i: &Instr) -> Leads
         Instr::NotW(w) => plain::single(h, SingleOp::Flip(w)),
         Instr::Shl(w) => plain::pair(h, PairOp::Shl(w)),
         Instr::Shr => plain::pair(h, PairOp::Shr),
-        Instr::Fit(kind_of, width) => plain::single(
-            h,
-            SingleOp::Fit(NumType {
-                kind: kind_of,
-                width,
-            }),
-        ),
+        Instr::Fit(number, w) => plain::fit(h, number, w),
         Instr::NotB => plain::single(h, SingleOp::Not),
         Instr::Eq => plain::pair(h, PairOp::Test(CompareOp::Eq)),
         Instr::Ne => plain::pair(h, PairOp::Test(CompareOp::Ne)),
@@ -117,46 +79,10 @@ pub fn plain(h: &mut Hand, kind: u16, i: &Instr) -> Leads
         Instr::RemV => plain::pair(h, PairOp::Rem(Arith::Unsigned64)),
         Instr::NegL => plain::single(h, SingleOp::Neg(Arith::Int64)),
         Instr::Dup => plain::double(h),
-        Instr::LoadFieldAt(f, width, kind_of, n) => plain::load_field_at(
-            h,
-            kind,
-            f,
-            NumType {
-                kind: kind_of,
-                width,
-            },
-            n,
-        ),
-        Instr::StoreFieldAt(f, width, kind_of, n) => plain::store_field_at(
-            h,
-            kind,
-            f,
-            NumType {
-                kind: kind_of,
-                width,
-            },
-            n,
-        ),
-        Instr::LoadPartAt(s, f, width, kind_of, n) => plain::load_part_at(
-            h,
-            s,
-            f,
-            NumType {
-                kind: kind_of,
-                width,
-            },
-            n,
-        ),
-        Instr::StorePartAt(s, f, width, kind_of, n) => plain::store_part_at(
-            h,
-            s,
-            f,
-            NumType {
-                kind: kind_of,
-                width,
-            },
-            n,
-        ),
+        Instr::LoadFieldAt(f, w, number, n) => plain::load_field_at(h, kind, f, w, number, n),
+        Instr::StoreFieldAt(f, w, number, n) => plain::store_field_at(h, kind, f, w, number, n),
+        Instr::LoadPartAt(s, f, w, number, n) => plain::load_part_at(h, s, f, w, number, n),
+        Instr::StorePartAt(s, f, w, number, n) => plain::store_part_at(h, s, f, w, number, n),
         Instr::Jump(_)
         | Instr::JumpFalse(_)
         | Instr::Turn

@@ -196,6 +196,7 @@ impl Machine {
     }
 
     /// Does an instruction.
+    #[inline(always)]
     fn perform(&mut self, code: &Code, i: &Instr) -> Leads
         requires fits { args_fit i.now ≡ true }
         requires room { length self.old.held.stack ≤ 512 }
@@ -203,6 +204,7 @@ impl Machine {
         requires functions { FunctionsFit code.now }
         ensures { StepsTo (go_by code.now (sort i.now) self.old) self.new result }
     {
+        let kind = code.kind();
         match *i {
             Instr::Jump(p) => {
                 self.place = p as usize;
@@ -219,17 +221,18 @@ impl Machine {
                 None => Leads::Want,
             },
             Instr::ReturnVoid => self.back(None),
-            _ => self.onward(code.kind(), i),
+            _ => self.onward(kind, i),
         }
     }
 
-    /// Does the instruction at the machine's place.
+    /// Does the instruction at the machine's place, of all instructions of the code.
     #[inline(always)]
-    fn step(&mut self, code: &Code) -> Leads
-        requires { Ready code.now self.old }
+    fn step(&mut self, code: &Code, instrs: &[Instr]) -> Leads
+        requires ready { Ready code.now self.old }
+        requires instrs { instrs.now ≡ code.now.instrs }
         ensures { StepsTo (step code.now self.old) self.new result }
     {
-        match code.instrs().get(self.place) {
+        match instrs.get(self.place) {
             None => Leads::Want,
             Some(i) => self.perform(code, i),
         }
@@ -254,9 +257,10 @@ impl Machine {
         requires { Started code.now self.old }
         ensures { Ran L.noted code.now self.old self.new result steps.old steps.new }
     {
+        let instrs = code.instrs();
         loop {
             steps.tick();
-            match self.step(code) {
+            match self.step(code, instrs) {
                 Leads::On => {}
                 Leads::Fail(n) => return Ended::Failed(n),
                 Leads::Done => return Ended::Done,

@@ -1,10 +1,11 @@
 //! The plain instructions, a function for each sort.
 
 ghost use Rattle.std.specs.Prelude.{◌≡◌, ◌<◌, ◌≤◌, ◌+◌, ◌*◌, ℕ, length, true};
+ghost use Rattle.sat_math.specs.Numbers.{cast};
 ghost use Rattle.window_sites.specs.Window.{live_at};
-ghost use Rattle.stack_code.specs.Sorts.{Give, One, Two, Load, Store, Drop, Field, SetField, Part, SetPart, Own, Site, SetSite, Exchange, Ask, Draw, Same, Double, FieldAt, SetFieldAt, PartAt, SetPartAt, is_empty_at, as_drawn, one_in, sort};
+ghost use Rattle.stack_code.specs.Sorts.{Give, One, Two, Load, Store, Drop, Field, SetField, Part, SetPart, Own, Site, SetSite, Exchange, Ask, Draw, Same, Double, FieldAt, SetFieldAt, PartAt, SetPartAt, is_empty_at, as_drawn, one_in, num_type, sort};
 ghost use Rattle.stack_code.specs.Machine.{work, with_part, kept};
-ghost use Rattle.stack_code.specs.Valid.{args_fit};
+ghost use Rattle.stack_code.specs.Valid.{args_fit, type_fits};
 ghost use Rattle.event_machine.specs.Works.{Works, pair_of, PairFits, single_of, SingleFits, FieldFits};
 
 use crate::ending::Leads;
@@ -14,7 +15,7 @@ use crate::numbers::{
 };
 use bit_field::Atom;
 use datum::{Datum, Number};
-use sat_math::NumType;
+use sat_math::{Kind, NumType};
 
 /// Gives a datum.
 #[inline(always)]
@@ -40,6 +41,16 @@ pub fn single(h: &mut Hand, op: SingleOp) -> Leads
         }
         None => Leads::Want,
     }
+}
+
+/// What a number becomes in a type.
+#[inline(always)]
+pub fn fit(h: &mut Hand, of: Kind, width: u8) -> Leads
+    requires fits { type_fits (num_type of width) ≡ true }
+    requires room { length h.old.stack ≤ 512 }
+    ensures { (kind : ℕ) → Works (work kind (One (cast (num_type of width))) h.old) h.new result }
+{
+    single(h, SingleOp::Fit(NumType { kind: of, width }))
 }
 
 /// An operator on two numbers. Failure 3 for a division by 0.
@@ -123,11 +134,12 @@ pub fn drop_top(h: &mut Hand) -> Leads
 
 /// Gives a field of the atom at the centre. Failure 6.
 #[inline(always)]
-pub fn load_field(h: &mut Hand, kind: u16, first: u8, of: NumType) -> Leads
-    requires fits { FieldFits first of 1 }
+pub fn load_field(h: &mut Hand, kind: u16, first: u8, width: u8, of: Kind) -> Leads
+    requires fits { FieldFits first (num_type of width) 1 }
     requires room { length h.old.stack ≤ 512 }
-    ensures { Works (work kind (Field first of) h.old) h.new result }
+    ensures { Works (work kind (Field first (num_type of width)) h.old) h.new result }
 {
+    let of = NumType { kind: of, width };
     match h.own(kind) {
         Some(atom) => {
             h.push(Datum::Number(read_field(&atom, first, of)));
@@ -139,10 +151,11 @@ pub fn load_field(h: &mut Hand, kind: u16, first: u8, of: NumType) -> Leads
 
 /// Takes a number into a field of the atom at the centre. Failure 6.
 #[inline(always)]
-pub fn store_field(h: &mut Hand, kind: u16, first: u8, of: NumType) -> Leads
-    requires { FieldFits first of 1 }
-    ensures { Works (work kind (SetField first of) h.old) h.new result }
+pub fn store_field(h: &mut Hand, kind: u16, first: u8, width: u8, of: Kind) -> Leads
+    requires { FieldFits first (num_type of width) 1 }
+    ensures { Works (work kind (SetField first (num_type of width)) h.old) h.new result }
 {
+    let of = NumType { kind: of, width };
     match h.number() {
         Some(v) => match h.own(kind) {
             Some(atom) => {
@@ -157,11 +170,12 @@ pub fn store_field(h: &mut Hand, kind: u16, first: u8, of: NumType) -> Leads
 
 /// Gives a field of the atom in a slot.
 #[inline(always)]
-pub fn load_part(h: &mut Hand, s: u8, first: u8, of: NumType) -> Leads
-    requires fits { FieldFits first of 1 }
+pub fn load_part(h: &mut Hand, s: u8, first: u8, width: u8, of: Kind) -> Leads
+    requires fits { FieldFits first (num_type of width) 1 }
     requires room { length h.old.stack ≤ 512 }
-    ensures { (kind : ℕ) → Works (work kind (Part s first of) h.old) h.new result }
+    ensures { (kind : ℕ) → Works (work kind (Part s first (num_type of width)) h.old) h.new result }
 {
+    let of = NumType { kind: of, width };
     match h.slot_atom(s) {
         Some(atom) => {
             h.push(Datum::Number(read_field(&atom, first, of)));
@@ -186,10 +200,11 @@ fn with_part(atom: Atom, first: u8, of: NumType, v: Number) -> Atom
 
 /// Takes a number into a field of the atom in a slot.
 #[inline(always)]
-pub fn store_part(h: &mut Hand, s: u8, first: u8, of: NumType) -> Leads
-    requires { FieldFits first of 1 }
-    ensures { (kind : ℕ) → Works (work kind (SetPart s first of) h.old) h.new result }
+pub fn store_part(h: &mut Hand, s: u8, first: u8, width: u8, of: Kind) -> Leads
+    requires { FieldFits first (num_type of width) 1 }
+    ensures { (kind : ℕ) → Works (work kind (SetPart s first (num_type of width)) h.old) h.new result }
 {
+    let of = NumType { kind: of, width };
     match h.number() {
         Some(v) => match h.slot_atom(s) {
             Some(atom) => {
@@ -377,11 +392,12 @@ fn element(first: u8, of: NumType, n: u8, i: u8) -> u8
 
 /// Takes an index and gives that element of an array of the atom at the centre. Failures 6, 7.
 #[inline(always)]
-pub fn load_field_at(h: &mut Hand, kind: u16, first: u8, of: NumType, n: u8) -> Leads
-    requires fits { FieldFits first of n }
+pub fn load_field_at(h: &mut Hand, kind: u16, first: u8, width: u8, of: Kind, n: u8) -> Leads
+    requires fits { FieldFits first (num_type of width) n }
     requires room { length h.old.stack ≤ 512 }
-    ensures { Works (work kind (FieldAt first of n) h.old) h.new result }
+    ensures { Works (work kind (FieldAt first (num_type of width) n) h.old) h.new result }
 {
+    let of = NumType { kind: of, width };
     match h.number() {
         Some(v) => match h.own(kind) {
             Some(atom) => match index(v, n) {
@@ -399,10 +415,11 @@ pub fn load_field_at(h: &mut Hand, kind: u16, first: u8, of: NumType, n: u8) -> 
 
 /// Takes a number, then an index, into an array of the atom at the centre. Failures 6, 7.
 #[inline(always)]
-pub fn store_field_at(h: &mut Hand, kind: u16, first: u8, of: NumType, n: u8) -> Leads
-    requires { FieldFits first of n }
-    ensures { Works (work kind (SetFieldAt first of n) h.old) h.new result }
+pub fn store_field_at(h: &mut Hand, kind: u16, first: u8, width: u8, of: Kind, n: u8) -> Leads
+    requires { FieldFits first (num_type of width) n }
+    ensures { Works (work kind (SetFieldAt first (num_type of width) n) h.old) h.new result }
 {
+    let of = NumType { kind: of, width };
     match h.two() {
         Some((v, x)) => match h.own(kind) {
             Some(atom) => match index(v, n) {
@@ -421,11 +438,12 @@ pub fn store_field_at(h: &mut Hand, kind: u16, first: u8, of: NumType, n: u8) ->
 
 /// Takes an index and gives that element of an array of the atom in a slot. Failure 7.
 #[inline(always)]
-pub fn load_part_at(h: &mut Hand, s: u8, first: u8, of: NumType, n: u8) -> Leads
-    requires fits { FieldFits first of n }
+pub fn load_part_at(h: &mut Hand, s: u8, first: u8, width: u8, of: Kind, n: u8) -> Leads
+    requires fits { FieldFits first (num_type of width) n }
     requires room { length h.old.stack ≤ 512 }
-    ensures { (kind : ℕ) → Works (work kind (PartAt s first of n) h.old) h.new result }
+    ensures { (kind : ℕ) → Works (work kind (PartAt s first (num_type of width) n) h.old) h.new result }
 {
+    let of = NumType { kind: of, width };
     match h.number() {
         Some(v) => match h.slot_atom(s) {
             Some(atom) => match index(v, n) {
@@ -443,10 +461,11 @@ pub fn load_part_at(h: &mut Hand, s: u8, first: u8, of: NumType, n: u8) -> Leads
 
 /// Takes a number, then an index, into an array of the atom in a slot. Failure 7.
 #[inline(always)]
-pub fn store_part_at(h: &mut Hand, s: u8, first: u8, of: NumType, n: u8) -> Leads
-    requires { FieldFits first of n }
-    ensures { (kind : ℕ) → Works (work kind (SetPartAt s first of n) h.old) h.new result }
+pub fn store_part_at(h: &mut Hand, s: u8, first: u8, width: u8, of: Kind, n: u8) -> Leads
+    requires { FieldFits first (num_type of width) n }
+    ensures { (kind : ℕ) → Works (work kind (SetPartAt s first (num_type of width) n) h.old) h.new result }
 {
+    let of = NumType { kind: of, width };
     match h.two() {
         Some((v, x)) => match h.slot_atom(s) {
             Some(atom) => match index(v, n) {

@@ -54,18 +54,25 @@ fn code(alloc: Global, instrs: &[Instr]) -> Result<RawCode, Fail> {
     Ok(RawCode::new(1, vec![in alloc; main]?, Vec::from_slice(alloc, instrs)?))
 }
 
+// Whether these instructions come to the end and leave this window, one step each.
+fn ends(alloc: Global, instrs: &[Instr], expected: Window) -> Result<bool, Fail> {
+    Ok(match act(alloc, code(alloc, instrs)?, centred())? {
+        None => false,
+        Some(o) => {
+            o.ended == Ended::Done && o.window == expected && o.steps == instrs.len() as u64
+        }
+    })
+}
+
 // Whether these instructions leave a number: it is stored in the centre's first 64 bits.
 fn leaves(alloc: Global, instrs: &[Instr], number: i128) -> Result<bool, Fail> {
     let mut all = Vec::from_slice(alloc, instrs)?;
     all.push(StoreField(0, 64, Kind::Bits))?;
     all.push(ReturnVoid)?;
-    let expected = Atom::new(1, (number.rem_euclid(1i128 << 64) as u128) * 128);
-    Ok(match act(alloc, code(alloc, all.as_slice())?, centred())? {
-        None => false,
-        Some(o) => {
-            o.ended == Ended::Done && o.window.get(0) == expected && o.steps == all.len() as u64
-        }
-    })
+    let mut expected = centred();
+    let bits = number.rem_euclid(1i128 << 64) as u128;
+    expected.put(0, Atom::new(1, bits * 128));
+    ends(alloc, all.as_slice(), expected)
 }
 
 // Whether these instructions fail so, after so many steps, and leave the centre empty and site 1
@@ -319,28 +326,18 @@ fn zero_jumps_and_another_number_goes_on(rt: HostRuntime) -> Result<(), Fail> {
 #[test]
 fn windows_after_swaps_and_stores(rt: HostRuntime) -> Result<(), Fail> {
     let alloc = rt.alloc();
-    let walker = [PushNum(0), PushNum(4), Swap, ReturnVoid];
-    match act(alloc, code(alloc, &walker)?, centred())? {
-        None => assert!(rt; false, "valid"),
-        Some(o) => {
-            assert_eq!(rt; (o.ended, o.steps), (Ended::Done, 4));
-            assert_eq!(rt;
-                (o.window.get(0), o.window.get(4)),
-                (Atom::new(0, 0), Atom::new(1, 0))
-            );
-        }
-    }
-    let store = [PushNum(7), PushAtom(9), StoreSite, ReturnVoid];
-    match act(alloc, code(alloc, &store)?, centred())? {
-        None => assert!(rt; false, "valid"),
-        Some(o) => {
-            assert_eq!(rt; (o.ended, o.steps), (Ended::Done, 4));
-            assert_eq!(rt;
-                (o.window.get(0), o.window.get(7)),
-                (Atom::new(1, 0), Atom::new(9, 0))
-            );
-        }
-    }
+    let mut moved = blank_window();
+    moved.put(4, Atom::new(1, 0));
+    assert!(rt; ends(alloc, &[PushNum(0), PushNum(4), Swap, ReturnVoid], moved)?);
+    let mut stored = centred();
+    stored.put(7, Atom::new(9, 0));
+    assert!(rt;
+        ends(
+            alloc,
+            &[PushNum(7), PushAtom(9), StoreSite, ReturnVoid],
+            stored
+        )?
+    );
     Ok(())
 }
 
@@ -413,63 +410,35 @@ fn failures_have_their_numbers_and_steps(rt: HostRuntime) -> Result<(), Fail> {
     Ok(())
 }
 
+// A function without parameters and slots, then one of two parameters that gives their
+// difference. `end` stands where the first ends.
+fn calling(alloc: Global, end: Instr) -> Result<RawCode, Fail> {
+    let none = Vec::new(alloc);
+    let main = RawFunction::new(Name::new(alloc, b"behave")?, 0, 0, 0, none, Answer::Nothing);
+    let slots = vec![in alloc; Operand::Number, Operand::Number, Operand::Number]?;
+    let sub = RawFunction::new(Name::new(alloc, b"sub")?, 0, 6, 2, slots, Answer::Number);
+    let instrs = [
+        PushNum(100),
+        PushNum(9),
+        PushNum(4),
+        Call(1),
+        StoreField(0, 64, Kind::Bits),
+        end,
+        LoadLocal(0),
+        LoadLocal(1),
+        SubI,
+        Return,
+    ];
+    let instrs = Vec::from_slice(alloc, &instrs)?;
+    Ok(RawCode::new(1, vec![in alloc; main, sub]?, instrs))
+}
+
 #[test]
 fn calls_take_their_arguments_in_order(rt: HostRuntime) -> Result<(), Fail> {
     let alloc = rt.alloc();
-    let main = RawFunction::new(
-        Name::new(alloc, b"behave")?,
-        0,
-        0,
-        0,
-        Vec::new(alloc),
-        Answer::Nothing,
-    );
-    let slots = vec![in alloc; Operand::Number, Operand::Number, Operand::Number]?;
-    let sub = RawFunction::new(Name::new(alloc, b"sub")?, 0, 6, 2, slots, Answer::Number);
-    let instrs = vec![in alloc;
-        PushNum(100),
-        PushNum(9),
-        PushNum(4),
-        Call(1),
-        StoreField(0, 64, Kind::Bits),
-        Jump(10),
-        LoadLocal(0),
-        LoadLocal(1),
-        SubI,
-        Return,
-    ]?;
-    let raw = RawCode::new(1, vec![in alloc; main, sub]?, instrs);
-    assert!(rt;
-        act(alloc, raw, centred())?.is_none(),
-        "a jump out of the function"
-    );
-    let main = RawFunction::new(
-        Name::new(alloc, b"behave")?,
-        0,
-        0,
-        0,
-        Vec::new(alloc),
-        Answer::Nothing,
-    );
-    let slots = vec![in alloc; Operand::Number, Operand::Number, Operand::Number]?;
-    let sub = RawFunction::new(Name::new(alloc, b"sub")?, 0, 6, 2, slots, Answer::Number);
-    let instrs = vec![in alloc;
-        PushNum(100),
-        PushNum(9),
-        PushNum(4),
-        Call(1),
-        StoreField(0, 64, Kind::Bits),
-        ReturnVoid,
-        LoadLocal(0),
-        LoadLocal(1),
-        SubI,
-        Return,
-    ]?;
-    match act(
-        alloc,
-        RawCode::new(1, vec![in alloc; main, sub]?, instrs),
-        centred(),
-    )? {
+    let outward = act(alloc, calling(alloc, Jump(9))?, centred())?;
+    assert!(rt; outward.is_none(), "a jump out of the function");
+    match act(alloc, calling(alloc, ReturnVoid)?, centred())? {
         None => assert!(rt; false, "valid"),
         Some(o) => {
             assert_eq!(rt; (o.ended, o.steps), (Ended::Done, 10));

@@ -105,7 +105,7 @@ pub returns-in-Shr : goal.returns-in-Shr
 returns-in-Shr c = rw c.in-Shr.is (c.pair-in-Shr.ensures c.args.kind)
 
 pub returns-in-Fit : goal.returns-in-Fit
-returns-in-Fit c = rw c.in-Fit.is (c.single-in-Fit.ensures c.args.kind)
+returns-in-Fit c = rw c.in-Fit.is (c.fit.ensures c.args.kind)
 
 pub returns-in-NotB : goal.returns-in-NotB
 returns-in-NotB c = rw c.in-NotB.is (c.single-in-NotB.ensures c.args.kind)

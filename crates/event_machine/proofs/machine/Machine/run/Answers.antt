@@ -4,8 +4,8 @@ use Rattle.event_machine.proofs.machine.Machine.run.Goals as goal
 pub loop-n-init : goal.loop-n-init
 loop-n-init g c = running_start g.L.Ledger.noted c.args.code.now c.args.self.now c.args.steps.now c.requires
 
-pub step-requires : goal.step-requires
-step-requires g c = ready g.L.Ledger.noted c.args.code.now c.args.self.now c.loop-n.self c.args.steps.now c.loop-n.steps c.loop-n.invariant
+pub step-requires-clause-ready : goal.step-requires-clause-ready
+step-requires-clause-ready g c = ready g.L.Ledger.noted c.args.code.now c.args.self.now c.loop-n.self c.args.steps.now c.loop-n.steps c.loop-n.invariant
 
 pub loop-n-smaller : goal.loop-n-smaller
 loop-n-smaller g c = less_more g.L.Ledger.noted c.args.code.now c.args.self.now c.loop-n.self c.step.new.self c.args.steps.now c.loop-n.steps c.loop-n.invariant c.in-On.ensures

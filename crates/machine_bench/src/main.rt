@@ -1,0 +1,122 @@
+//! How long the machine takes: for some codes, many events of each on fresh windows. Without a
+//! word the steps of all codes are printed, with the word `time` times too. With the name of a
+//! code that one alone runs, to be counted from outside; with the name `none` nothing runs.
+#![tactic(auto)]
+
+mod codes;
+
+use bit_field::Atom;
+use codes::{Which, made};
+use event_machine::Machine;
+use feast_base::{CountLedger, NoLedger, Steps};
+use stack_code::Code;
+use std::alloc::Global;
+use std::env::Env;
+use std::rt::Clock;
+use std::time::Instant;
+use std::{env, io};
+use window_sites::Window;
+
+/// How many events are made of a code.
+const EVENTS: u64 = 2_000;
+
+/// How many of them are timed at once.
+const PART: u64 = 100;
+
+/// The codes and their names.
+const CODES: [(&str, Which); 4] = [
+    ("end", Which::End),
+    ("row", Which::Row),
+    ("loop", Which::Loop),
+    ("calls", Which::Calls),
+];
+
+/// A window of live sites with an atom of type 1 at the centre, and none elsewhere.
+fn fresh() -> Window {
+    let mut window = Window::empty();
+    window.put(0, Atom::new(1, 0));
+    window
+}
+
+/// Makes events on one window after another, as an actor does. What they leave at the eastern
+/// site is summed, so that no event is left out.
+fn make(machine: &mut Machine, code: &Code, events: u64) -> u64 {
+    let start = fresh();
+    let mut sum = 0u64;
+    for seed in 0..events {
+        let mut window = start;
+        let mut steps = Steps::new(NoLedger);
+        let _ended = machine.act(code, &mut window, seed, &mut steps);
+        sum = sum.wrapping_add(u64::from(window.get(4).kind()));
+    }
+    sum
+}
+
+/// The steps of one event.
+fn steps_of(machine: &mut Machine, code: &Code) -> u64 {
+    let mut window = fresh();
+    let mut steps = Steps::new(CountLedger::new());
+    let _ended = machine.act(code, &mut window, 0, &mut steps);
+    steps.into_ledger().count()
+}
+
+/// The least time of some parts of the events, in picoseconds an event.
+fn picoseconds(clock: &impl Clock, machine: &mut Machine, code: &Code) -> io::Result<u128> {
+    let mut least = u128::MAX;
+    for _ in 0..EVENTS / PART {
+        let begin = Instant::now(clock)?;
+        let _sum = make(machine, code, PART);
+        least = least.min(begin.elapsed(clock)?.as_nanos());
+    }
+    Ok(least.saturating_mul(1_000) / u128::from(PART))
+}
+
+/// A code, or an error for want of memory or a code that is not valid.
+fn loaded(alloc: Global, which: Which) -> io::Result<Code> {
+    match made(alloc, which) {
+        Ok(Some(code)) => Ok(code),
+        Ok(None) => Err(io::ErrorKind::InvalidData.into()),
+        Err(_) => Err(io::ErrorKind::OutOfMemory.into()),
+    }
+}
+
+/// Runs a code as a word asks: none for its steps, `time` for its time, its name for its events.
+fn run(
+    rt: &HostRuntime,
+    machine: &mut Machine,
+    name: &str,
+    code: &Code,
+    word: Option<&str>,
+) -> io::Result<()> {
+    match word {
+        None => {
+            let steps = steps_of(machine, code);
+            println!(*rt; "{name}: {steps} steps an event")
+        }
+        Some("time") => {
+            let time = picoseconds(rt, machine, code)?;
+            println!(*rt; "{name}: {time} picoseconds an event")
+        }
+        Some(word) => {
+            if word == name {
+                let sum = make(machine, code, EVENTS);
+                println!(*rt; "{name}: {EVENTS} events, {sum}")
+            } else {
+                Ok(())
+            }
+        }
+    }
+}
+
+fn main(rt: HostRuntime) -> io::Result<()> {
+    let alloc = rt.alloc();
+    let word = env::args(&rt)?.skip(1).next();
+    let Ok(mut machine) = Machine::new(alloc) else {
+        return Err(io::ErrorKind::OutOfMemory.into());
+    };
+    for (name, which) in CODES {
+        let code = loaded(alloc, which)?;
+        run(&rt, &mut machine, name, &code, word.as_deref())?;
+    }
+    Ok(())
+}
