@@ -1,5 +1,5 @@
 -- Which class contains which, through data members.
-use Rattle.std.specs.Prelude.{ℕ, zero, suc, ◌≡◌, ◌<◌, List, [], ◌∷◌, Bool, true, false, ◌||◌, nat_eq, slice_get, flat_map, length}
+use Rattle.std.specs.Prelude.{ℕ, zero, suc, ◌≡◌, List, [], ◌∷◌, Bool, false, ◌||◌, nat_eq, slice_get, flat_map}
 use Rattle.std.specs.Option.{option_map_or}
 use Rattle.std.specs.List.{list_any}
 use Rattle.ulam_tree.specs.declared.resolved.Ty.{Ty}
