@@ -1,6 +1,10 @@
+pub mod Completes
+pub mod Locals
 pub mod Raw
 pub mod RawViews
 pub mod Resolved
 pub mod ResolvedViews
 pub mod Statements
+pub mod Typed
+pub mod TypedViews
 pub mod Ways

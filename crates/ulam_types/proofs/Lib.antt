@@ -1,0 +1,13 @@
+pub mod Args
+pub mod Bodies
+pub mod Classes
+pub mod Exprs
+pub mod Fails
+pub mod Lists
+pub mod Means
+pub mod Programs
+pub mod Slots
+pub mod Statements
+pub mod Well
+pub mod WellBodies
+pub mod WellPrograms

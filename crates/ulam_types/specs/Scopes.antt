@@ -1,0 +1,159 @@
+-- What is known where an expression stands, and what a path means there.
+use Rattle.std.specs.Prelude.{ℕ, ◌-◌, Bool, true, false, not, nat_eq, nat_lt, if◌then◌else◌, List, [], ◌∷◌, length, slice_get, slice_set, Option, Some, None}
+use Rattle.ulam_tree.specs.declared.resolved.Ty.{Ty}
+use Rattle.ulam_tree.specs.declared.resolved.Ty.TheVariants.{Num, Atom, Window, Class}
+use Rattle.ulam_tree.specs.declared.resolved.Step.{Step}
+use Rattle.ulam_tree.specs.declared.resolved.Step.TheVariants.{Own, Local, Member, Function, Constant, Built as Builtin}
+use Rattle.ulam_tree.specs.declared.resolved.Built.{Built}
+use Rattle.ulam_tree.specs.declared.resolved.Built.TheVariants.{Swap, IsLive, IsEmpty, Create, OneIn}
+use Rattle.ulam_types.specs.declared.scope.Want.{Want}
+use Rattle.ulam_types.specs.declared.scope.Want.TheVariants.{Site, Bound}
+use Rattle.ulam_types.specs.declared.scope.FieldSig.{FieldSig}
+
+-- a function, without its body
+pub record FunctionSig : Type 0 where
+  pub result : Ty
+  pub wants : List Want
+
+-- a class, without the bodies of its functions
+pub record ClassSig : Type 0 where
+  pub quark : Bool
+  pub fields : List FieldSig
+  pub functions : List FunctionSig
+
+-- all classes, the class whose function this is, the types of the function's slots, its result, and whether a loop is around
+pub record Scope : Type 0 where
+  pub classes : List ClassSig
+  pub class : ℕ
+  pub slots : List Ty
+  pub result : Ty
+  pub looped : Bool
+
+-- the body of a loop
+abbrev pub in_loop : Scope → Scope
+in_loop g = record g { looped = true }
+
+-- where a slot is seen as an element
+abbrev pub narrowed : Scope → ℕ → Ty → Scope
+narrowed g s ty = record g { slots = slice_set g.slots s ty }
+
+-- Types of values
+
+abbrev pub is_element_class : Option ClassSig → Bool
+is_element_class None = false
+is_element_class (Some c) = not c.quark
+
+abbrev pub is_element : Scope → ℕ → Bool
+is_element g k = is_element_class (slice_get g.classes k)
+
+-- a type that a value may have: a number type, `Atom`, or an element
+abbrev pub is_value : Scope → Ty → Bool
+is_value g (Num t) = true
+is_value g Atom = true
+is_value g (Class k) = is_element g k
+is_value g ty = false
+
+abbrev pub if_value : Scope → Ty → Option Ty
+if_value g ty = if is_value g ty then Some ty else None
+
+-- Paths
+
+abbrev pub slot_type : Scope → Option Ty → Option Ty
+slot_type g None = None
+slot_type g (Some ty) = if_value g ty
+
+abbrev pub field_in : ℕ → Option ClassSig → Option FieldSig
+field_in m None = None
+field_in m (Some c) = slice_get c.fields m
+
+abbrev pub field_at : Scope → ℕ → ℕ → Option FieldSig
+field_at g k m = field_in m (slice_get g.classes k)
+
+-- of data members only a number by itself has a value: no array, no quark, no `EventWindow` and no `Random`
+abbrev pub number_by : ℕ → Ty → Option Ty
+number_by len (Num t) = if nat_eq len 0 then Some (Num t) else None
+number_by len ty = None
+
+abbrev pub number_field : Option FieldSig → Option Ty
+number_field None = None
+number_field (Some f) = number_by f.length f.ty
+
+-- what `[ ]` gives at a data member: at an `EventWindow` an atom, at an array one of its numbers
+abbrev pub item_of : ℕ → Ty → Option Ty
+item_of len Window = Some Atom
+item_of len (Num t) = if nat_lt 0 len then Some (Num t) else None
+item_of len ty = None
+
+abbrev pub item_field : Option FieldSig → Option Ty
+item_field None = None
+item_field (Some f) = item_of f.length f.ty
+
+-- what a path ends with
+abbrev pub last_step : List Step → Option Step
+last_step steps = slice_get steps (length steps - 1)
+
+abbrev pub value_by : Scope → Option Step → Option Ty
+value_by g (Some Own) = if_value g (Class g.class)
+value_by g (Some (Local s)) = slot_type g (slice_get g.slots s)
+value_by g (Some (Member k m)) = number_field (field_at g k m)
+value_by g (Some (Constant num v)) = Some (Num num)
+value_by g step = None
+
+-- the type of a path as a value, where it has one
+abbrev pub value_type : Scope → List Step → Option Ty
+value_type g steps = value_by g (last_step steps)
+
+abbrev pub target_by : Scope → Option Step → Option Ty
+target_by g (Some (Local s)) = slot_type g (slice_get g.slots s)
+target_by g (Some (Member k m)) = number_field (field_at g k m)
+target_by g step = None
+
+-- the type of a path as a left side, where it may be one
+abbrev pub target_type : Scope → List Step → Option Ty
+target_type g steps = target_by g (last_step steps)
+
+abbrev pub item_by : Scope → Option Step → Option Ty
+item_by g (Some (Member k m)) = item_field (field_at g k m)
+item_by g step = None
+
+-- the type of what `[ ]` gives after a path
+abbrev pub item_type : Scope → List Step → Option Ty
+item_type g steps = item_by g (last_step steps)
+
+-- Calls
+
+pub data Callee : Type 0 where
+  function : FunctionSig → Callee
+  built : Built → Callee
+
+abbrev pub function_in : ℕ → Option ClassSig → Option FunctionSig
+function_in f None = None
+function_in f (Some c) = slice_get c.functions f
+
+abbrev pub callee_function : Option FunctionSig → Option Callee
+callee_function None = None
+callee_function (Some f) = Some (function f)
+
+abbrev pub callee_by : Scope → Option Step → Option Callee
+callee_by g (Some (Function k f)) = callee_function (function_in f (slice_get g.classes k))
+callee_by g (Some (Builtin b)) = Some (built b)
+callee_by g step = None
+
+abbrev pub begins_local : List Step → Bool
+begins_local (Local s ∷ steps) = true
+begins_local steps = false
+
+-- what a path calls; nothing is called through a local
+abbrev pub callee : Scope → List Step → Option Callee
+callee g steps = if begins_local steps then None else callee_by g (last_step steps)
+
+abbrev pub built_wants : Built → List Want
+built_wants Swap = Site ∷ Site ∷ []
+built_wants IsLive = Site ∷ []
+built_wants IsEmpty = Site ∷ []
+built_wants Create = Bound ∷ []
+built_wants OneIn = Bound ∷ []
+
+abbrev pub wants_of : Callee → List Want
+wants_of (function f) = f.wants
+wants_of (built b) = built_wants b

@@ -1,0 +1,59 @@
+-- What the code knows where an expression stands, as the definitions have it.
+use Rattle.std.specs.Prelude.{◌≡◌, List, [], ◌∷◌, ◌++◌, map, Result, Ok, Err}
+use Rattle.ulam_tree.specs.Resolved as r
+use Rattle.ulam_tree.specs.Typed as t
+use Rattle.ulam_tree.specs.TypedViews.{typed_expr, typed_statement}
+use Rattle.ulam_tree.specs.declared.typed.Expr.{Expr}
+use Rattle.ulam_tree.specs.declared.typed.Statement.{Statement}
+use Rattle.ulam_types.specs.declared.fault.TypeFault.{TypeFault}
+use Rattle.ulam_types.specs.declared.fault.TypeFault.TheVariants as e
+use Rattle.ulam_types.specs.declared.scope.FunctionSig.{FunctionSig}
+use Rattle.ulam_types.specs.declared.scope.ClassSig.{ClassSig}
+use Rattle.ulam_types.specs.declared.scope.Scope.{Scope}
+use Rattle.ulam_types.specs.Faults.{Found, ◌>>=◌, wrong_type, mixed_signs, not_assignable, wrong_count, bad_as, break_outside, missing_return}
+use Rattle.ulam_types.specs.Scopes as s
+
+abbrev pub function_view : FunctionSig → s.FunctionSig
+function_view f = record { result = f.result; wants = f.wants.items }
+
+abbrev pub class_view : ClassSig → s.ClassSig
+class_view c = record { quark = c.quark; fields = c.fields.items; functions = map function_view c.functions.items }
+
+abbrev pub scope_view : Scope → s.Scope
+scope_view g = record { classes = map class_view g.classes.now; class = g.class; slots = g.slots.now; result = g.result; looped = g.looped }
+
+-- a fault of the code's, unless memory ran out
+abbrev pub Fails : {A : Type 0} → TypeFault → Found A → Type 0
+Fails (e.WrongType p) x = x ≡ Err (wrong_type p)
+Fails (e.MixedSigns p) x = x ≡ Err (mixed_signs p)
+Fails (e.NotAssignable p) x = x ≡ Err (not_assignable p)
+Fails (e.WrongCount p) x = x ≡ Err (wrong_count p)
+Fails (e.BadAs p) x = x ≡ Err (bad_as p)
+Fails (e.BreakOutside p) x = x ≡ Err (break_outside p)
+Fails (e.MissingReturn p) x = x ≡ Err (missing_return p)
+Fails e.NoMemory x = Unit {0}
+
+-- what a function gives is what the walk finds, unless memory ran out
+abbrev pub Gives : {X A : Type 0} → (X → A) → Result X TypeFault → Found A → Type 0
+Gives view (Ok x) found = found ≡ Ok (view x)
+Gives view (Err e) found = Fails e found
+
+-- arguments before more that are found
+abbrev pub join_args : List Expr → t.Args → t.Args
+join_args [] more = more
+join_args (e ∷ es) more = t.arg (typed_expr e) (join_args es more)
+
+abbrev pub with_args : List Expr → Found t.Args → Found t.Args
+with_args front found = found >>= λ (more : t.Args). Ok (join_args front more)
+
+-- and statements
+abbrev pub join_body : List Statement → t.Body → t.Body
+join_body [] more = more
+join_body (x ∷ xs) more = t.then_so (typed_statement x) (join_body xs more)
+
+abbrev pub with_body : List Statement → Found t.Body → Found t.Body
+with_body front found = found >>= λ (more : t.Body). Ok (join_body front more)
+
+-- what a list begins with, before more that is found
+abbrev pub with_front : {A : Type 0} → List A → Found (List A) → Found (List A)
+with_front {A = A} front found = found >>= λ (more : List A). Ok (front ++ more)

@@ -1,0 +1,232 @@
+//! What a path means, and what a value of a type can be assigned to.
+ghost use Rattle.std.specs.Prelude.{◌≡◌, map, slice_get, MatchOption, None, Some};
+ghost use Rattle.ulam_types.specs.Bodies as walk;
+ghost use Rattle.ulam_types.specs.Rows as row;
+ghost use Rattle.ulam_types.specs.Scopes as spec;
+ghost use Rattle.ulam_types.specs.Shown.{class_view, function_view, scope_view};
+
+use crate::rows::fits_number;
+use crate::scope::{ClassSig, FieldSig, FunctionSig, Scope};
+use ulam_tree::resolved::{Step, Ty};
+
+fn class_at<'a>(scope: &Scope<'a>, class: u32) -> Option<&'a ClassSig>
+    ensures { MatchOption result (slice_get (map class_view scope.now.classes.now) class ≡ None) (λ c. slice_get (map class_view scope.now.classes.now) class ≡ Some (class_view c.now)) }
+{
+    scope.classes.get(class as usize)
+}
+
+fn is_element(scope: &Scope, class: u32) -> bool
+    ensures { result ≡ spec.is_element (scope_view scope.now) class }
+{
+    match class_at(scope, class) {
+        None => false,
+        Some(found) => !found.quark,
+    }
+}
+
+/// Whether a value may have a type.
+pub fn is_value(scope: &Scope, ty: Ty) -> bool
+    ensures { result ≡ spec.is_value (scope_view scope.now) ty }
+{
+    match ty {
+        Ty::Num { .. } => true,
+        Ty::Atom => true,
+        Ty::Class { class } => is_element(scope, class),
+        _ => false,
+    }
+}
+
+fn if_value(scope: &Scope, ty: Ty) -> Option<Ty>
+    ensures { result ≡ spec.if_value (scope_view scope.now) ty }
+{
+    if is_value(scope, ty) { Some(ty) } else { None }
+}
+
+fn slot_type(scope: &Scope, slot: u32) -> Option<Ty>
+    ensures { result ≡ spec.slot_type (scope_view scope.now) (slice_get scope.now.slots.now slot) }
+{
+    match scope.slots.get(slot as usize) {
+        None => None,
+        Some(ty) => if_value(scope, *ty),
+    }
+}
+
+fn field_at(scope: &Scope, class: u32, member: u32) -> Option<FieldSig>
+    ensures { result ≡ spec.field_at (scope_view scope.now) class member }
+{
+    match class_at(scope, class) {
+        None => None,
+        Some(found) => found.fields.get(member as usize).copied(),
+    }
+}
+
+fn number_field(field: Option<FieldSig>) -> Option<Ty>
+    ensures { result ≡ spec.number_field field }
+{
+    match field {
+        None => None,
+        Some(found) => match found.ty {
+            Ty::Num { num } => {
+                if found.length == 0 {
+                    Some(Ty::Num { num })
+                } else {
+                    None
+                }
+            }
+            _ => None,
+        },
+    }
+}
+
+fn item_field(field: Option<FieldSig>) -> Option<Ty>
+    ensures { result ≡ spec.item_field field }
+{
+    match field {
+        None => None,
+        Some(found) => match found.ty {
+            Ty::Window => Some(Ty::Atom),
+            Ty::Num { num } => {
+                if 0 < found.length {
+                    Some(Ty::Num { num })
+                } else {
+                    None
+                }
+            }
+            _ => None,
+        },
+    }
+}
+
+/// What a path ends with.
+pub fn last_step(steps: &[Step]) -> Option<Step>
+    ensures { result ≡ spec.last_step steps.now }
+{
+    steps.last().copied()
+}
+
+pub fn begins_local(steps: &[Step]) -> bool
+    ensures { result ≡ spec.begins_local steps.now }
+{
+    match steps {
+        [Step::Local { .. }, ..] => true,
+        _ => false,
+    }
+}
+
+/// The type of a path as a value.
+pub fn value_type(scope: &Scope, steps: &[Step]) -> Option<Ty>
+    ensures { result ≡ spec.value_type (scope_view scope.now) steps.now }
+{
+    match last_step(steps) {
+        Some(Step::Own) => if_value(scope, Ty::Class { class: scope.class }),
+        Some(Step::Local { slot }) => slot_type(scope, slot),
+        Some(Step::Member { class, member }) => number_field(field_at(scope, class, member)),
+        Some(Step::Constant { num, .. }) => Some(Ty::Num { num }),
+        _ => None,
+    }
+}
+
+/// The type of a path as a left side.
+pub fn target_type(scope: &Scope, steps: &[Step]) -> Option<Ty>
+    ensures { result ≡ spec.target_type (scope_view scope.now) steps.now }
+{
+    match last_step(steps) {
+        Some(Step::Local { slot }) => slot_type(scope, slot),
+        Some(Step::Member { class, member }) => number_field(field_at(scope, class, member)),
+        _ => None,
+    }
+}
+
+/// The type of what square brackets give after a path.
+pub fn item_type(scope: &Scope, steps: &[Step]) -> Option<Ty>
+    ensures { result ≡ spec.item_type (scope_view scope.now) steps.now }
+{
+    match last_step(steps) {
+        Some(Step::Member { class, member }) => item_field(field_at(scope, class, member)),
+        _ => None,
+    }
+}
+
+pub fn function_at<'a>(scope: &Scope<'a>, class: u32, function: u32) -> Option<&'a FunctionSig>
+    ensures { MatchOption result (spec.function_in function (slice_get (map class_view scope.now.classes.now) class) ≡ None) (λ f. spec.function_in function (slice_get (map class_view scope.now.classes.now) class) ≡ Some (function_view f.now)) }
+{
+    match class_at(scope, class) {
+        None => None,
+        Some(found) => found.functions.get(function as usize),
+    }
+}
+
+/// Whether a type is `Atom` or an element.
+pub fn is_atom(scope: &Scope, ty: Ty) -> bool
+    ensures { result ≡ row.is_atom (scope_view scope.now) ty }
+{
+    match ty {
+        Ty::Atom => true,
+        Ty::Class { class } => is_element(scope, class),
+        _ => false,
+    }
+}
+
+/// Whether a type is an element or `Empty`.
+pub fn is_species(scope: &Scope, ty: Ty) -> bool
+    ensures { result ≡ row.is_species (scope_view scope.now) ty }
+{
+    match ty {
+        Ty::Empty => true,
+        Ty::Class { class } => is_element(scope, class),
+        _ => false,
+    }
+}
+
+/// The type of a new atom.
+pub fn instance_type(ty: Ty) -> Ty
+    ensures { result ≡ row.instance_type ty }
+{
+    match ty {
+        Ty::Empty => Ty::Atom,
+        ty => ty,
+    }
+}
+
+fn same_class(ty: Ty, class: u32) -> bool
+    ensures { result ≡ row.same_class ty class }
+{
+    match ty {
+        Ty::Class { class: other } => other == class,
+        _ => false,
+    }
+}
+
+/// Whether a value of the second type can be assigned to the first.
+pub fn assignable(scope: &Scope, to: Ty, ty: Ty) -> bool
+    ensures { result ≡ row.assignable (scope_view scope.now) to ty }
+{
+    match to {
+        Ty::Num { num } => fits_number(num.kind, ty),
+        Ty::Atom => is_atom(scope, ty),
+        Ty::Class { class } => is_element(scope, class) && same_class(ty, class),
+        _ => false,
+    }
+}
+
+pub fn is_element_type(scope: &Scope, ty: Ty) -> bool
+    ensures { result ≡ walk.is_element_type (scope_view scope.now) ty }
+{
+    match ty {
+        Ty::Class { class } => is_element(scope, class),
+        _ => false,
+    }
+}
+
+/// The slot that a path of one name means, if it is of type `Atom`.
+pub fn atom_slot(scope: &Scope, steps: &[Step]) -> Option<u32>
+    ensures { result ≡ walk.atom_slot (scope_view scope.now) steps.now }
+{
+    match steps {
+        [Step::Local { slot }] => match scope.slots.get(*slot as usize) {
+            Some(Ty::Atom) => Some(*slot),
+            _ => None,
+        },
+        _ => None,
+    }
+}

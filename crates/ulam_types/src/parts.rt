@@ -1,0 +1,256 @@
+//! Parts of statements.
+ghost use Rattle.std.specs.Prelude.{◌≡◌, slice_set, option_map, IfOk};
+ghost use Rattle.ulam_tree.specs.Resolved as raw_tree;
+ghost use Rattle.ulam_tree.specs.ResolvedViews.{resolved_expr, resolved_left, resolved_path, resolved_args};
+ghost use Rattle.ulam_tree.specs.TypedViews.{typed_expr, typed_left, typed_statement};
+ghost use Rattle.ulam_types.specs.Bodies as walk;
+ghost use Rattle.ulam_types.specs.Shown.{scope_view, Gives};
+
+use crate::build;
+use crate::expr::{call, expr, index, place_of, plain};
+use crate::fault::TypeFault;
+use crate::lookup::{assignable, is_value, target_type};
+use crate::rows::{is_truth, is_void, pair_row, plain_type, taken};
+use crate::scope::Scope;
+use feast_base::Place;
+use sat_math::Kind;
+use std::alloc::{AllocError, Global};
+use ulam_tree::resolved::{Call, Expr, Left, Named, Ty};
+use ulam_tree::{PairOp, typed};
+
+/// A left side, and its type.
+fn left(alloc: Global, scope: &Scope, raw: &Left) -> Result<(typed::Left, Ty), TypeFault>
+    ensures { Gives (λ x. (typed_left x.0, x.1)) result (walk.left (scope_view scope.now) (resolved_left raw.now)) }
+{
+    match &raw.index {
+        None => match target_type(scope, raw.path.steps.as_slice()) {
+            None => Err(TypeFault::NotAssignable(raw.path.place)),
+            Some(ty) => Ok((
+                typed::Left {
+                    path: build::path(alloc, &raw.path)?,
+                    index: None,
+                },
+                ty,
+            )),
+        },
+        Some(at) => {
+            let (at, ty) = index(alloc, scope, &raw.path, at)?;
+            Ok((
+                typed::Left {
+                    path: build::path(alloc, &raw.path)?,
+                    index: Some(Box::new(alloc, at)?),
+                },
+                ty,
+            ))
+        }
+    }
+}
+
+/// A value for a type. `place` is that of what it is given to.
+fn value(
+    alloc: Global,
+    scope: &Scope,
+    place: Place,
+    ty: Ty,
+    raw: &Expr,
+) -> Result<typed::Expr, TypeFault>
+    ensures { Gives typed_expr result (walk.value (scope_view scope.now) place ty (resolved_expr raw.now)) }
+{
+    let found = expr(alloc, scope, taken(ty), raw)?;
+    if assignable(scope, ty, found.ty) {
+        Ok(found)
+    } else {
+        Err(TypeFault::NotAssignable(place))
+    }
+}
+
+/// A condition.
+pub fn test(alloc: Global, scope: &Scope, raw: &Expr) -> Result<typed::Expr, TypeFault>
+    ensures { Gives typed_expr result (walk.test (scope_view scope.now) (resolved_expr raw.now)) }
+{
+    let found = expr(alloc, scope, Kind::Int, raw)?;
+    if is_truth(found.ty) {
+        Ok(found)
+    } else {
+        Err(TypeFault::WrongType(place_of(raw)))
+    }
+}
+
+/// A condition, if there is one.
+pub fn maybe_test(
+    alloc: Global,
+    scope: &Scope,
+    raw: &Option<Expr>,
+) -> Result<Option<typed::Expr>, TypeFault>
+    ensures { Gives (option_map typed_expr) result (walk.maybe (walk.test (scope_view scope.now)) (option_map resolved_expr raw.now)) }
+{
+    match raw {
+        None => Ok(None),
+        Some(raw) => Ok(Some(test(alloc, scope, raw)?)),
+    }
+}
+
+/// A value for a type, if there is one.
+fn maybe_value(
+    alloc: Global,
+    scope: &Scope,
+    place: Place,
+    ty: Ty,
+    raw: &Option<Expr>,
+) -> Result<Option<typed::Expr>, TypeFault>
+    ensures { Gives (option_map typed_expr) result (walk.maybe (walk.value (scope_view scope.now) place ty) (option_map resolved_expr raw.now)) }
+{
+    match raw {
+        None => Ok(None),
+        Some(raw) => Ok(Some(value(alloc, scope, place, ty, raw)?)),
+    }
+}
+
+/// A value for a type, by `=` or by an operator between what is there and it.
+fn assigned(
+    alloc: Global,
+    scope: &Scope,
+    place: Place,
+    ty: Ty,
+    op: Option<PairOp>,
+    raw: &Expr,
+) -> Result<typed::Expr, TypeFault>
+    ensures { Gives typed_expr result (walk.assigned (scope_view scope.now) place ty op (resolved_expr raw.now)) }
+{
+    match op {
+        None => value(alloc, scope, place, ty, raw),
+        Some(op) => {
+            let found = expr(alloc, scope, taken(ty), raw)?;
+            let sum = pair_row(place, op, plain(raw), ty, found.ty)?;
+            if assignable(scope, ty, sum) {
+                Ok(found)
+            } else {
+                Err(TypeFault::NotAssignable(place))
+            }
+        }
+    }
+}
+
+/// The value of a `return`, which stands there exactly where the function has a result.
+fn returned(
+    alloc: Global,
+    scope: &Scope,
+    place: Place,
+    raw: &Option<Expr>,
+) -> Result<Option<typed::Expr>, TypeFault>
+    ensures { Gives (option_map typed_expr) result (walk.result (scope_view scope.now) place (option_map resolved_expr raw.now)) }
+{
+    match raw {
+        None => {
+            if is_void(scope.result) {
+                Ok(None)
+            } else {
+                Err(TypeFault::WrongType(place))
+            }
+        }
+        Some(raw) => {
+            let found = expr(alloc, scope, taken(scope.result), raw)?;
+            if is_void(scope.result) {
+                Err(TypeFault::WrongType(place))
+            } else if assignable(scope, scope.result, found.ty) {
+                Ok(Some(found))
+            } else {
+                Err(TypeFault::NotAssignable(place))
+            }
+        }
+    }
+}
+
+/// A `return`.
+#[tactic(auto, unfolding(crate::specs::Bodies::statement))]
+pub fn give(
+    alloc: Global,
+    scope: &Scope,
+    place: Place,
+    raw: &Option<Expr>,
+) -> Result<typed::Statement, TypeFault>
+    ensures { Gives typed_statement result (walk.statement (scope_view scope.now) (raw_tree.returns place (option_map resolved_expr raw.now))) }
+{
+    let value = returned(alloc, scope, place, raw)?;
+    Ok(typed::Statement::Return { place, value })
+}
+
+/// The declaration of a local.
+#[tactic(auto, unfolding(crate::specs::Bodies::statement))]
+pub fn declare(
+    alloc: Global,
+    scope: &Scope,
+    of: Named,
+    slot: u32,
+    place: Place,
+    raw: &Option<Expr>,
+) -> Result<typed::Statement, TypeFault>
+    ensures { Gives typed_statement result (walk.statement (scope_view scope.now) (raw_tree.declares of slot place (option_map resolved_expr raw.now))) }
+{
+    if !is_value(scope, of.ty) {
+        return Err(TypeFault::WrongType(of.place));
+    }
+    let value = maybe_value(alloc, scope, place, of.ty, raw)?;
+    Ok(typed::Statement::Declare {
+        of,
+        slot,
+        place,
+        value,
+    })
+}
+
+/// An assignment.
+#[tactic(auto, unfolding(crate::specs::Bodies::statement))]
+pub fn assign(
+    alloc: Global,
+    scope: &Scope,
+    to: &Left,
+    op: Option<PairOp>,
+    raw: &Expr,
+) -> Result<typed::Statement, TypeFault>
+    ensures { Gives typed_statement result (walk.statement (scope_view scope.now) (raw_tree.assigns (resolved_left to.now) op (resolved_expr raw.now))) }
+{
+    let (left, ty) = left(alloc, scope, to)?;
+    let value = assigned(alloc, scope, to.path.place, ty, op, raw)?;
+    Ok(typed::Statement::Assign { left, op, value })
+}
+
+/// `++` or `--`.
+#[tactic(auto, unfolding(crate::specs::Bodies::statement))]
+pub fn count(
+    alloc: Global,
+    scope: &Scope,
+    to: &Left,
+    up: bool,
+) -> Result<typed::Statement, TypeFault>
+    ensures { Gives typed_statement result (walk.statement (scope_view scope.now) (raw_tree.counts (resolved_left to.now) up)) }
+{
+    let (left, ty) = left(alloc, scope, to)?;
+    let sum = pair_row(to.path.place, PairOp::Add, true, ty, plain_type(taken(ty)))?;
+    if assignable(scope, ty, sum) {
+        Ok(typed::Statement::Count { left, up })
+    } else {
+        Err(TypeFault::NotAssignable(to.path.place))
+    }
+}
+
+/// A call as a statement.
+#[tactic(auto, unfolding(crate::specs::Bodies::statement))]
+pub fn does(alloc: Global, scope: &Scope, raw: &Call) -> Result<typed::Statement, TypeFault>
+    ensures { Gives typed_statement result (walk.statement (scope_view scope.now) (raw_tree.does (resolved_path raw.now.path) (resolved_args raw.now.args.items))) }
+{
+    let (args, _) = call(alloc, scope, &raw.path, raw.args.as_slice())?;
+    Ok(build::does(build::path(alloc, &raw.path)?, args))
+}
+
+/// The types of the slots, with another one at a slot.
+pub fn slots_with(alloc: Global, slots: &[Ty], slot: u32, ty: Ty) -> Result<Vec<Ty>, AllocError>
+    ensures { IfOk result (λ v. v.items ≡ slice_set slots.now slot ty) }
+{
+    let mut copy = Vec::with_capacity(alloc, slots.len())?;
+    copy.extend_from_slice(slots)?;
+    if (slot as usize) < copy.len() {
+        copy[slot as usize] = ty;
+    }
+    Ok(copy)
+}

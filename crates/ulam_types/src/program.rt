@@ -1,0 +1,90 @@
+//! The typed tree of a program.
+ghost use Rattle.std.specs.Prelude.{◌≡◌, ◌≢◌, ◌≤◌, length, map, List, IfOk, IfErr};
+ghost use Rattle.ulam_tree.specs.ResolvedViews.{resolved_class, resolved_member, resolved_program};
+ghost use Rattle.ulam_tree.specs.Typed as typed_tree;
+ghost use Rattle.ulam_tree.specs.TypedViews.{typed_class, typed_member, typed_program};
+ghost use Rattle.ulam_types.specs.Programs as walk;
+ghost use Rattle.ulam_types.specs.ProgramTyping.{IsTypedProgram};
+ghost use Rattle.ulam_types.specs.Shown.{class_view, Gives};
+ghost use Rattle.ulam_types.specs.Well.{IsWellProgram};
+ghost use Rattle.ulam_types.specs.declared.fault.TypeFault.TheVariants.{NoMemory};
+
+use crate::build;
+use crate::fault::TypeFault;
+use crate::function::member;
+use crate::scope::ClassSig;
+use crate::sigs::class_sigs;
+use atom_layout::Layout;
+use std::alloc::Global;
+use ulam_tree::resolved::{Class, Member, Program};
+use ulam_tree::typed;
+use ulam_tree::typed::Typed;
+
+/// The members of a class.
+fn members(
+    alloc: Global,
+    sigs: &[ClassSig],
+    own: u32,
+    raw: &[Member],
+) -> Result<Vec<typed::Member>, TypeFault>
+    ensures { Gives (λ v. map typed_member v.items) result (walk.members (map class_view sigs.now) own (map resolved_member raw.now)) }
+{
+    let mut found = Vec::new(alloc);
+    for one in raw {
+        let member = member(alloc, sigs, own, one)?;
+        found.push(member)?;
+    }
+    Ok(found)
+}
+
+fn class(alloc: Global, sigs: &[ClassSig], own: u32, raw: &Class) -> Result<typed::Class, TypeFault>
+    ensures { Gives typed_class result (walk.class (map class_view sigs.now) own (resolved_class raw.now)) }
+{
+    let members = members(alloc, sigs, own, raw.members.as_slice())?;
+    Ok(typed::Class {
+        quark: raw.quark,
+        word: build::word(alloc, &raw.word)?,
+        members,
+    })
+}
+
+fn classes(alloc: Global, sigs: &[ClassSig], raw: &[Class]) -> Result<Vec<typed::Class>, TypeFault>
+    requires { length raw.now ≤ 4294967295 }
+    ensures { Gives (λ v. map typed_class v.items) result (walk.classes (map class_view sigs.now) 0 (map resolved_class raw.now)) }
+{
+    let mut found = Vec::new(alloc);
+    let mut own = 0;
+    for one in raw {
+        let class = class(alloc, sigs, own, one)?;
+        found.push(class)?;
+        own += 1;
+    }
+    Ok(found)
+}
+
+/// The typed tree, or the first fault.
+fn find(alloc: Global, program: &Program) -> Result<Typed, TypeFault>
+    requires { length program.now.classes.items ≤ 4294967295 }
+    ensures { Gives typed_program result (walk.program (resolved_program program.now)) }
+{
+    let raw = program.classes.as_slice();
+    let sigs = class_sigs(alloc, raw)?;
+    let classes = classes(alloc, sigs.as_slice(), raw)?;
+    Ok(Typed { classes })
+}
+
+/// The typed tree of a program. Else its first fault, where classes, functions and statements are
+/// gone through in the order of the text, and operands from left to right before their operator;
+/// `NoMemory` where the tree can't be kept.
+///
+/// A program has a layout where its quarks and elements are narrow enough, which is found before
+/// types are; no rule of types asks for it.
+pub fn check(alloc: Global, program: &Program, _layout: &Layout) -> Result<Typed, TypeFault>
+    requires { length program.now.classes.items ≤ 4294967295 }
+    ensures found { Gives typed_program result (walk.program (resolved_program program.now)) }
+    ensures is { IfOk result (λ t. IsTypedProgram (resolved_program program.now) (typed_program t)) }
+    ensures well { IfOk result (λ t. IsWellProgram (typed_program t)) }
+    ensures none { IfErr result (λ e. e ≢ NoMemory → (tree : List typed_tree.Class) → IsTypedProgram (resolved_program program.now) tree → ⊥) }
+{
+    find(alloc, program)
+}

@@ -1,0 +1,312 @@
+//! The table of types.
+ghost use Rattle.std.specs.Prelude.{◌≡◌, ◌^◌};
+ghost use Rattle.ulam_types.specs.Faults.{found};
+ghost use Rattle.ulam_types.specs.Rows as row;
+ghost use Rattle.ulam_types.specs.Shown.{Gives};
+
+use crate::fault::TypeFault;
+use crate::scope::NumClass;
+use feast_base::Place;
+use sat_math::{Kind, NumType};
+use ulam_tree::resolved::Ty;
+use ulam_tree::{PairOp, PrefixOp};
+
+pub fn int(width: u8) -> Ty
+    ensures { result ≡ row.int width }
+{
+    Ty::Num {
+        num: NumType {
+            kind: Kind::Int,
+            width,
+        },
+    }
+}
+
+pub fn unsigned(width: u8) -> Ty
+    ensures { result ≡ row.unsigned width }
+{
+    Ty::Num {
+        num: NumType {
+            kind: Kind::Unsigned,
+            width,
+        },
+    }
+}
+
+pub fn bits(width: u8) -> Ty
+    ensures { result ≡ row.bits width }
+{
+    Ty::Num {
+        num: NumType {
+            kind: Kind::Bits,
+            width,
+        },
+    }
+}
+
+pub fn truth() -> Ty
+    ensures { result ≡ row.bool }
+{
+    Ty::Num {
+        num: NumType {
+            kind: Kind::Bool,
+            width: 1,
+        },
+    }
+}
+
+/// The class of a type.
+pub fn class_of(ty: Ty) -> NumClass
+    ensures { result ≡ row.class_of ty }
+{
+    match ty {
+        Ty::Num { num } => match num.kind {
+            Kind::Int => NumClass::Int { width: num.width },
+            Kind::Unsigned => NumClass::Unsigned { width: num.width },
+            Kind::Unary => NumClass::Unsigned { width: num.width },
+            Kind::Bits => NumClass::Bits { width: num.width },
+            Kind::Bool => NumClass::Bool,
+        },
+        _ => NumClass::Other,
+    }
+}
+
+/// The kind that a plain number takes from a type.
+pub fn taken(ty: Ty) -> Kind
+    ensures { result ≡ row.taken ty }
+{
+    match class_of(ty) {
+        NumClass::Unsigned { .. } => Kind::Unsigned,
+        NumClass::Bits { .. } => Kind::Bits,
+        _ => Kind::Int,
+    }
+}
+
+/// The kind that one operand takes if it is plain.
+pub fn beside(plain: bool, ty: Ty) -> Kind
+    ensures { result ≡ row.beside plain ty }
+{
+    if plain { Kind::Int } else { taken(ty) }
+}
+
+/// The type of a plain number.
+pub fn plain_type(kind: Kind) -> Ty
+    ensures { result ≡ row.plain_type kind }
+{
+    Ty::Num {
+        num: NumType { kind, width: 32 },
+    }
+}
+
+/// Whether a plain number of a kind may have a value.
+pub fn plain_fits(kind: Kind, value: u32) -> bool
+    ensures { result ≡ row.plain_fits kind value }
+{
+    match kind {
+        Kind::Int => value < 1 << 31,
+        _ => true,
+    }
+}
+
+/// The width of a result, by those of the operands.
+pub fn wide(m: u8, n: u8) -> u8
+    ensures { result ≡ row.wide m n }
+{
+    if m <= 32 && n <= 32 { 32 } else { 64 }
+}
+
+fn arith_type(a: NumClass, b: NumClass) -> Option<Ty>
+    ensures { result ≡ row.arith_type a b }
+{
+    match (a, b) {
+        (NumClass::Int { width: m }, NumClass::Int { width: n }) => Some(int(wide(m, n))),
+        (NumClass::Unsigned { width: m }, NumClass::Unsigned { width: n }) => {
+            Some(unsigned(wide(m, n)))
+        }
+        _ => None,
+    }
+}
+
+fn order_type(a: NumClass, b: NumClass) -> Option<Ty>
+    ensures { result ≡ row.order_type a b }
+{
+    match (a, b) {
+        (NumClass::Int { .. }, NumClass::Int { .. }) => Some(truth()),
+        (NumClass::Unsigned { .. }, NumClass::Unsigned { .. }) => Some(truth()),
+        _ => None,
+    }
+}
+
+fn equal_type(a: NumClass, b: NumClass) -> Option<Ty>
+    ensures { result ≡ row.equal_type a b }
+{
+    match (a, b) {
+        (NumClass::Int { .. }, NumClass::Int { .. }) => Some(truth()),
+        (NumClass::Unsigned { .. }, NumClass::Unsigned { .. }) => Some(truth()),
+        (NumClass::Bits { .. }, NumClass::Bits { .. }) => Some(truth()),
+        (NumClass::Bool, NumClass::Bool) => Some(truth()),
+        _ => None,
+    }
+}
+
+fn bits_type(a: NumClass, b: NumClass) -> Option<Ty>
+    ensures { result ≡ row.bits_type a b }
+{
+    match (a, b) {
+        (NumClass::Bits { width: m }, NumClass::Bits { width: n }) => Some(bits(m.max(n))),
+        _ => None,
+    }
+}
+
+fn shift_type(plain: bool, a: NumClass, b: NumClass) -> Option<Ty>
+    ensures { result ≡ row.shift_type plain a b }
+{
+    match (a, b) {
+        (NumClass::Bits { width: m }, NumClass::Unsigned { .. }) => Some(bits(m)),
+        (NumClass::Bits { width: m }, _) => { if plain { Some(bits(m)) } else { None } }
+        _ => None,
+    }
+}
+
+fn truth_type(a: NumClass, b: NumClass) -> Option<Ty>
+    ensures { result ≡ row.truth_type a b }
+{
+    match (a, b) {
+        (NumClass::Bool, NumClass::Bool) => Some(truth()),
+        _ => None,
+    }
+}
+
+fn pair_type(op: PairOp, plain: bool, left: Ty, right: Ty) -> Option<Ty>
+    ensures { result ≡ row.pair_type op plain left right }
+{
+    let a = class_of(left);
+    let b = class_of(right);
+    match op {
+        PairOp::Add | PairOp::Sub | PairOp::Mul | PairOp::Div | PairOp::Rem => arith_type(a, b),
+        PairOp::And | PairOp::Or | PairOp::Xor => bits_type(a, b),
+        PairOp::Shl | PairOp::Shr => shift_type(plain, a, b),
+        PairOp::Both | PairOp::Either => truth_type(a, b),
+        PairOp::Eq | PairOp::Ne => equal_type(a, b),
+        PairOp::Lt | PairOp::Le | PairOp::Gt | PairOp::Ge => order_type(a, b),
+    }
+}
+
+fn takes_signs(op: PairOp) -> bool
+    ensures { result ≡ row.takes_signs op }
+{
+    match op {
+        PairOp::And | PairOp::Or | PairOp::Xor => false,
+        PairOp::Shl | PairOp::Shr => false,
+        PairOp::Both | PairOp::Either => false,
+        _ => true,
+    }
+}
+
+fn are_mixed(a: NumClass, b: NumClass) -> bool
+    ensures { result ≡ row.are_mixed a b }
+{
+    match (a, b) {
+        (NumClass::Int { .. }, NumClass::Unsigned { .. }) => true,
+        (NumClass::Unsigned { .. }, NumClass::Int { .. }) => true,
+        _ => false,
+    }
+}
+
+/// The type of two operands, or what is wrong with them. Whether the right one is plain counts for
+/// shifts alone.
+pub fn pair_row(place: Place, op: PairOp, plain: bool, left: Ty, right: Ty) -> Result<Ty, TypeFault>
+    ensures { Gives (λ x. x) result (found (row.pair_type op plain left right) (row.pair_fault place op left right)) }
+{
+    match pair_type(op, plain, left, right) {
+        Some(ty) => Ok(ty),
+        None => {
+            if takes_signs(op) && are_mixed(class_of(left), class_of(right)) {
+                Err(TypeFault::MixedSigns(place))
+            } else {
+                Err(TypeFault::WrongType(place))
+            }
+        }
+    }
+}
+
+pub fn prefix_type(op: PrefixOp, ty: Ty) -> Option<Ty>
+    ensures { result ≡ row.prefix_type op ty }
+{
+    match (op, class_of(ty)) {
+        (PrefixOp::Minus, NumClass::Int { width }) => Some(int(wide(width, width))),
+        (PrefixOp::Not, NumClass::Bool) => Some(truth()),
+        (PrefixOp::Flip, NumClass::Bits { width }) => Some(bits(width)),
+        _ => None,
+    }
+}
+
+pub fn cast_type(to: Ty, ty: Ty) -> Option<Ty>
+    ensures { result ≡ row.cast_type to ty }
+{
+    match (to, ty) {
+        (Ty::Num { num }, Ty::Num { .. }) => Some(Ty::Num { num }),
+        _ => None,
+    }
+}
+
+pub fn is_index(ty: Ty) -> bool
+    ensures { result ≡ row.is_index ty }
+{
+    match class_of(ty) {
+        NumClass::Int { .. } | NumClass::Unsigned { .. } => true,
+        _ => false,
+    }
+}
+
+pub fn is_unsigned(ty: Ty) -> bool
+    ensures { result ≡ row.is_unsigned ty }
+{
+    match class_of(ty) {
+        NumClass::Unsigned { .. } => true,
+        _ => false,
+    }
+}
+
+pub fn is_truth(ty: Ty) -> bool
+    ensures { result ≡ row.is_truth ty }
+{
+    match class_of(ty) {
+        NumClass::Bool => true,
+        _ => false,
+    }
+}
+
+pub fn is_void(ty: Ty) -> bool
+    ensures { result ≡ row.is_void ty }
+{
+    match ty {
+        Ty::Nothing => true,
+        _ => false,
+    }
+}
+
+pub fn fits_number(kind: Kind, ty: Ty) -> bool
+    ensures { result ≡ row.fits_number kind (row.class_of ty) }
+{
+    match (kind, class_of(ty)) {
+        (Kind::Int, NumClass::Int { .. }) => true,
+        (Kind::Unsigned, NumClass::Unsigned { .. }) => true,
+        (Kind::Unary, NumClass::Unsigned { .. }) => true,
+        (Kind::Bits, NumClass::Bits { .. }) => true,
+        (Kind::Bool, NumClass::Bool) => true,
+        _ => false,
+    }
+}
+
+/// The width that an operand counts with.
+pub fn width_of(ty: Ty) -> u8
+    ensures { result ≡ row.width_of ty }
+{
+    match class_of(ty) {
+        NumClass::Int { width } => width,
+        NumClass::Unsigned { width } => width,
+        NumClass::Bits { width } => width,
+        _ => 1,
+    }
+}

@@ -1,0 +1,164 @@
+//! Types of statements.
+ghost use Rattle.ulam_tree.specs.ResolvedViews.{resolved_cond, resolved_statement, resolved_body, resolved_part};
+ghost use Rattle.ulam_tree.specs.TypedViews.{typed_cond, typed_statement, typed_body, typed_part};
+ghost use Rattle.ulam_types.specs.Bodies as walk;
+ghost use Rattle.ulam_types.specs.Scopes.{in_loop};
+ghost use Rattle.ulam_types.specs.Shown.{scope_view, Gives};
+
+use crate::build;
+use crate::fault::TypeFault;
+use crate::lookup::{atom_slot, is_element_type};
+use crate::parts::{assign, count, declare, does, give, maybe_test, slots_with, test};
+use crate::scope::Scope;
+use std::alloc::Global;
+use ulam_tree::resolved::{Cond, Statement};
+use ulam_tree::typed;
+
+/// A statement.
+#[cycle(statement)]
+#[tactic(auto, unfolding(crate::specs::Bodies::statement))]
+pub fn statement(
+    alloc: Global,
+    scope: &Scope,
+    raw: &Statement,
+) -> Result<typed::Statement, TypeFault>
+    ensures { Gives typed_statement result (walk.statement (scope_view scope.now) (resolved_statement raw.now)) }
+{
+    match raw {
+        Statement::Block { body: list } => {
+            let list = body(alloc, scope, list.as_slice())?;
+            Ok(build::block(list))
+        }
+        Statement::Nothing => Ok(typed::Statement::Nothing),
+        Statement::If { cond, yes, no } => {
+            let (cond, yes) = branch(alloc, scope, yes, cond)?;
+            let no = part(alloc, scope, no)?;
+            Ok(build::if_so(alloc, cond, yes, no)?)
+        }
+        Statement::While { cond, body } => {
+            let cond = test(alloc, scope, cond)?;
+            let body = turns(alloc, scope, body)?;
+            Ok(build::while_so(alloc, cond, body)?)
+        }
+        Statement::For {
+            first,
+            cond,
+            step,
+            body,
+        } => {
+            let first = part(alloc, scope, first)?;
+            let cond = maybe_test(alloc, scope, cond)?;
+            let step = part(alloc, scope, step)?;
+            let body = turns(alloc, scope, body)?;
+            Ok(build::for_all(alloc, first, cond, step, body)?)
+        }
+        Statement::Return { place, value } => give(alloc, scope, *place, value),
+        Statement::Break { place } => {
+            if scope.looped {
+                Ok(typed::Statement::Break { place: *place })
+            } else {
+                Err(TypeFault::BreakOutside(*place))
+            }
+        }
+        Statement::Continue { place } => {
+            if scope.looped {
+                Ok(typed::Statement::Continue { place: *place })
+            } else {
+                Err(TypeFault::BreakOutside(*place))
+            }
+        }
+        Statement::Declare {
+            of,
+            slot,
+            place,
+            value,
+        } => declare(alloc, scope, *of, *slot, *place, value),
+        Statement::Assign { left, op, value } => assign(alloc, scope, left, *op, value),
+        Statement::Count { left, up } => count(alloc, scope, left, *up),
+        Statement::Call { call } => does(alloc, scope, call),
+    }
+}
+
+/// The body of a loop.
+#[cycle(statement)]
+fn turns(alloc: Global, scope: &Scope, raw: &Statement) -> Result<typed::Statement, TypeFault>
+    ensures { Gives typed_statement result (walk.statement (in_loop (scope_view scope.now)) (resolved_statement raw.now)) }
+{
+    let inner = Scope {
+        looped: true,
+        ..*scope
+    };
+    statement(alloc, &inner, raw)
+}
+
+/// An optional statement.
+#[cycle(statement)]
+#[tactic(auto, unfolding(crate::specs::Bodies::statement))]
+fn part(
+    alloc: Global,
+    scope: &Scope,
+    raw: &Option<Box<Statement>>,
+) -> Result<Option<Box<typed::Statement>>, TypeFault>
+    ensures { Gives typed_part result (walk.part (scope_view scope.now) (resolved_part raw.now)) }
+{
+    match raw {
+        None => Ok(None),
+        Some(one) => {
+            let one = statement(alloc, scope, one)?;
+            Ok(Some(Box::new(alloc, one)?))
+        }
+    }
+}
+
+/// What an `if` asks, and its first branch, in which a name may be seen as an element.
+#[cycle(statement)]
+fn branch(
+    alloc: Global,
+    scope: &Scope,
+    yes: &Statement,
+    cond: &Cond,
+) -> Result<(typed::Cond, typed::Statement), TypeFault>
+    ensures { Gives (λ x. (typed_cond x.0, typed_statement x.1)) result (walk.branch (scope_view scope.now) (resolved_cond cond.now) (λ g. walk.statement g (resolved_statement yes.now))) }
+{
+    match cond {
+        Cond::Test { value } => {
+            let value = test(alloc, scope, value)?;
+            let yes = statement(alloc, scope, yes)?;
+            Ok((typed::Cond::Test { value }, yes))
+        }
+        Cond::Seen { path, class } => match atom_slot(scope, path.steps.as_slice()) {
+            None => Err(TypeFault::BadAs(path.place)),
+            Some(slot) => {
+                if !is_element_type(scope, class.ty) {
+                    return Err(TypeFault::BadAs(class.place));
+                }
+                let slots = slots_with(alloc, scope.slots, slot, class.ty)?;
+                let inner = Scope {
+                    slots: slots.as_slice(),
+                    ..*scope
+                };
+                let yes = statement(alloc, &inner, yes)?;
+                let path = build::path(alloc, path)?;
+                let class = *class;
+                Ok((typed::Cond::Seen { path, class }, yes))
+            }
+        },
+    }
+}
+
+/// The statements of a block or of a function.
+#[cycle(statement)]
+pub fn body(
+    alloc: Global,
+    scope: &Scope,
+    raw: &[Statement],
+) -> Result<Vec<typed::Statement>, TypeFault>
+    ensures { Gives (λ v. typed_body v.items) result (walk.body (scope_view scope.now) (resolved_body raw.now)) }
+{
+    let mut found = Vec::new(alloc);
+    for one in raw {
+        let one = statement(alloc, scope, one)?;
+        found.push(one)?;
+    }
+    Ok(found)
+}
