@@ -11,3 +11,5 @@ mod names;
 mod show;
 #[cfg(test)]
 mod stages;
+#[cfg(test)]
+mod trees;

@@ -29,6 +29,3 @@ mod types;
 
 pub use fault::ParseFault;
 pub use parser::{one_tree, parse};
-
-#[cfg(test)]
-mod tests;

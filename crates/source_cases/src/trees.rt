@@ -1,12 +1,12 @@
 //! Texts with their trees, and texts with their faults.
 mod shown;
 
-use crate::{ParseFault, parse};
 use feast_base::Place;
 use std::alloc::{AllocError, Global};
 use std::process::Abort;
 use std::test::Fail;
 use ulam_lex::{LexFault, lex};
+use ulam_parse::{ParseFault, parse};
 
 /// The front and the back of a file around statements.
 const BODY: (&str, &str) = ("element A { Void behave() { ", " } }");
