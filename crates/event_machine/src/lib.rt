@@ -9,8 +9,6 @@ mod numbers;
 mod operands;
 mod plain;
 mod seat;
-#[cfg(test)]
-mod tests;
 
 pub use ending::Ended;
 pub use machine::Machine;

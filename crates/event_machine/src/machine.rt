@@ -74,12 +74,6 @@ fn seats(alloc: Global) -> Result<Vec<Seat>, NoMemory>
     Ok(spare)
 }
 
-/// A window of empty sites.
-pub(crate) fn blank_window() -> Window {
-    let empty = Atom::new(0, 0);
-    Window::new([empty; 41], [true; 41])
-}
-
 impl Machine {
     /// A machine with all the memory that events will need. `NoMemory` where it is refused.
     pub fn new(alloc: Global) -> Result<Machine, NoMemory> {
@@ -90,7 +84,7 @@ impl Machine {
         let hand = Hand {
             pile,
             slots,
-            window: blank_window(),
+            window: Window::empty(),
             draws: EventDraws::new(0),
         };
         Ok(Machine {

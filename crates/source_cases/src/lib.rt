@@ -1,4 +1,4 @@
-//! Texts of element files with what they come to, stage by stage: their trees, what their names
+//! Texts of element files with what they come to, stage by stage: their tokens, their trees, what their names
 //! mean, and where their data members lie. The crate has tests alone; they stand above all stages,
 //! so that no stage stands on another for its tests' sake.
 #![tactic(auto)]
@@ -11,5 +11,7 @@ mod names;
 mod show;
 #[cfg(test)]
 mod stages;
+#[cfg(test)]
+mod tokens;
 #[cfg(test)]
 mod trees;

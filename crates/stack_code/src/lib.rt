@@ -8,8 +8,6 @@ mod fits;
 mod instr;
 mod kind_lists;
 mod pass;
-#[cfg(test)]
-mod tests;
 mod text;
 mod verifier;
 

@@ -10,6 +10,3 @@ mod token;
 pub use lexer::{lex, one_reading};
 pub use numeral::{Numeral, numeral_of};
 pub use token::{LexFault, Token, TokenKind};
-
-#[cfg(test)]
-mod tests;

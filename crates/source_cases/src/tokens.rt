@@ -1,9 +1,9 @@
 //! Texts with their tokens, and texts with their faults.
-use crate::{LexFault, Numeral, Token, TokenKind, lex, numeral_of};
 use feast_base::Place;
 use std::alloc::{AllocError, Global};
 use std::process::Abort;
 use std::test::Fail;
+use ulam_lex::{LexFault, Numeral, Token, TokenKind, lex, numeral_of};
 
 /// A token as `Kind first..end line:column`.
 fn token_text(alloc: Global, token: &Token) -> Result<String, AllocError> {

@@ -1,9 +1,8 @@
 //! Small programs by instruction, each with what it leaves, and numbers of steps. The values were
-//! worked out apart from this crate.
+//! worked out apart from the machine.
 
-use super::*;
-use crate::machine::blank_window;
 use bit_field::Atom;
+use event_machine::{Ended, Machine};
 use feast_base::{CountLedger, Name, Steps};
 use sat_math::Kind;
 use stack_code::Instr::*;
@@ -22,7 +21,7 @@ struct Outcome {
 
 // A window of live sites, with an atom of type 1 and state 0 at the centre.
 fn centred() -> Window {
-    let mut window = blank_window();
+    let mut window = Window::empty();
     window.put(0, Atom::new(1, 0));
     window
 }
@@ -326,7 +325,7 @@ fn zero_jumps_and_another_number_goes_on(rt: HostRuntime) -> Result<(), Fail> {
 #[test]
 fn windows_after_swaps_and_stores(rt: HostRuntime) -> Result<(), Fail> {
     let alloc = rt.alloc();
-    let mut moved = blank_window();
+    let mut moved = Window::empty();
     moved.put(4, Atom::new(1, 0));
     assert!(rt; ends(alloc, &[PushNum(0), PushNum(4), Swap, ReturnVoid], moved)?);
     let mut stored = centred();

@@ -6,7 +6,7 @@ use Rattle.std.proofs.lemmas.List.Sums.{AllPass-from_list_all}
 use Rattle.ulam_lex.specs.declared.numeral.Base.{Base}
 use Rattle.ulam_lex.specs.declared.numeral.Base.TheVariants.{Binary, Decimal, Hexadecimal}
 use Rattle.ulam_lex.specs.Pieces.{IsNumberToken, IsCanonical, prefix_of, radix_of, suffix_of, worth_after}
-use Rattle.ulam_lex.proofs.tests.numbers_have_values.Goals as goal
+use Rattle.source_cases.proofs.tokens.numbers_have_values.Goals as goal
 
 written : (base : Base) (digits : List ℕ) (unsigned : Bool) → 0 < length digits → list_all (λ d. is_digit d (radix_of base)) digits ≡ true → IsCanonical base digits → worth_after (radix_of base) 0 digits < 2 ^ 32 →
     IsNumberToken (prefix_of base ++ (digits ++ suffix_of unsigned))

@@ -1,8 +1,8 @@
 //! Worked values: which code is valid, and texts of codes.
 
-use super::*;
 use feast_base::Name;
 use sat_math::Kind;
+use stack_code::{Answer, Instr, Operand, RawCode, RawFunction, print, verify};
 use std::alloc::Global;
 use std::test::Fail;
 
