@@ -82,8 +82,8 @@ fn sum(alloc: Global, left: Expr, right: Expr) -> Result<Statement, Fail> {
     })
 }
 
-/// `element A { Int(8) n; RESULT behave() { STATEMENT } }`
-fn program(alloc: Global, result: Ty, statement: Statement) -> Result<Program, Fail>
+/// `element A { Int(8) n; OF behave() { STATEMENT } }`
+fn program(alloc: Global, of: Ty, statement: Statement) -> Result<Program, Fail>
     ensures { IfOk result (λ p. length p.classes.items ≡ 1) }
 {
     let mut body = Vec::new(alloc);
@@ -95,7 +95,7 @@ fn program(alloc: Global, result: Ty, statement: Statement) -> Result<Program, F
         length: 0,
     })?;
     members.push(Member::Function {
-        of: named(result, 23),
+        of: named(of, 23),
         word: word(alloc, "behave", 28)?,
         params: Vec::new(alloc),
         body,
@@ -182,7 +182,7 @@ fn faulty(alloc: Global, case: u32) -> Result<Statement, Fail> {
 #[test]
 fn the_first_fault_is_told(rt: HostRuntime) -> Result<(), Fail> {
     let alloc = rt.alloc();
-    for (case, result, fault) in [
+    for (case, of, fault) in [
         (50, Ty::Nothing, TypeFault::WrongType(at(42))),
         (51, Ty::Nothing, TypeFault::MixedSigns(at(42))),
         (52, Ty::Nothing, TypeFault::NotAssignable(at(40))),
@@ -191,7 +191,7 @@ fn the_first_fault_is_told(rt: HostRuntime) -> Result<(), Fail> {
         (55, Ty::Nothing, TypeFault::BreakOutside(at(36))),
         (56, int(8), TypeFault::MissingReturn(at(28))),
     ] {
-        let program = program(alloc, result, faulty(alloc, case)?)?;
+        let program = program(alloc, of, faulty(alloc, case)?)?;
         let layout = layout(alloc, &program)?;
         match check(alloc, &program, &layout) {
             Ok(_) => assert!(rt; false, "{fault} is not told"),
