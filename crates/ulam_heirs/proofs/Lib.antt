@@ -1,0 +1,13 @@
+mod Splits
+mod Ordered
+mod Nearest
+mod Chains
+mod Counts
+mod Fronts
+mod Plain
+mod Walks
+mod Copies
+mod Turns
+mod Params
+mod NextFile
+mod Examples

@@ -1,0 +1,10 @@
+use Rattle.std.proofs.Common.{◌≡◌, drop}
+use Rattle.ulam_heirs.specs.Faults.{first_by, own_base}
+use Rattle.ulam_heirs.specs.Views.{heirs_of}
+use Rattle.ulam_heirs.proofs.check.first_own_base.Given as goal
+
+abbrev pub invariant-loop-heir : goal.invariant-loop-heir
+invariant-loop-heir l = record {
+  first : first_by (own_base (heirs_of l.heirs)) 0 (heirs_of l.heirs) ≡ first_by (own_base (heirs_of l.heirs)) l.number (heirs_of (drop l.heir-index l.heirs));
+  number : l.number ≡ l.heir-index;
+}

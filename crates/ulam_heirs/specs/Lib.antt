@@ -1,0 +1,9 @@
+pub mod Heads
+pub mod Lines
+pub mod Flat
+pub mod Faults
+pub mod Files
+pub mod Laws
+pub mod Behind
+pub mod Simple
+pub mod Views

@@ -1,0 +1,11 @@
+-- Statements without others within.
+use Rattle.std.specs.Prelude.{Bool, true, false}
+use Rattle.ulam_tree.specs.Raw.{Statement, block, empty, if_so, while_so, for_all, returns, breaks, continues, declares, assigns, counts, does}
+
+-- a statement that has no statement within
+abbrev pub is_simple : Statement → Bool
+is_simple (block b) = false
+is_simple (if_so k x z) = false
+is_simple (while_so k x) = false
+is_simple (for_all f k g x) = false
+is_simple x = true

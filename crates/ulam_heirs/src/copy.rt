@@ -1,0 +1,198 @@
+//! Copies of words, types and expressions.
+ghost use Rattle.std.specs.Prelude.{◌≡◌, map, option_map, IfOk};
+ghost use Rattle.ulam_tree.specs.RawViews.{word_of, width_of, type_of, path_of, expr_of, args_list, left_of, cond_of};
+
+use crate::build;
+use feast_base::{Name, NoMemory};
+use std::alloc::Global;
+use ulam_tree::{Cond, Expr, Left, Path, TypeRef, Width, Word};
+
+pub fn copy_word(alloc: Global, word: &Word) -> Result<Word, NoMemory>
+    ensures { IfOk result (λ w. word_of w ≡ word_of word.now) }
+{
+    Ok(Word {
+        name: Name::new(alloc, word.name.bytes())?,
+        place: word.place,
+    })
+}
+
+fn copy_words(alloc: Global, words: &[Word]) -> Result<Vec<Word>, NoMemory>
+    ensures { IfOk result (λ v. map word_of v.items ≡ map word_of words.now) }
+{
+    let mut found = Vec::new(alloc);
+    for word in words {
+        let copied = copy_word(alloc, word)?;
+        found.push(copied)?;
+    }
+    Ok(found)
+}
+
+pub fn copy_path(alloc: Global, path: &Path) -> Result<Path, NoMemory>
+    ensures { IfOk result (λ x. path_of x ≡ path_of path.now) }
+{
+    let words = copy_words(alloc, path.words.as_slice())?;
+    Ok(Path {
+        own: path.own,
+        words,
+    })
+}
+
+fn copy_width(alloc: Global, width: &Width) -> Result<Width, NoMemory>
+    ensures { IfOk result (λ w. width_of w ≡ width_of width.now) }
+{
+    match width {
+        Width::Number { value } => Ok(Width::Number { value: *value }),
+        Width::Named { word } => {
+            let word = copy_word(alloc, word)?;
+            Ok(Width::Named { word })
+        }
+    }
+}
+
+pub fn copy_size(alloc: Global, size: &Option<Width>) -> Result<Option<Width>, NoMemory>
+    ensures { IfOk result (λ x. option_map width_of x ≡ option_map width_of size.now) }
+{
+    match size {
+        None => Ok(None),
+        Some(width) => {
+            let width = copy_width(alloc, width)?;
+            Ok(Some(width))
+        }
+    }
+}
+
+pub fn copy_type(alloc: Global, of: &TypeRef) -> Result<TypeRef, NoMemory>
+    ensures { IfOk result (λ x. type_of x ≡ type_of of.now) }
+{
+    let word = copy_word(alloc, &of.word)?;
+    let width = copy_size(alloc, &of.width)?;
+    Ok(TypeRef { word, width })
+}
+
+#[cycle(expr)]
+#[tactic(auto, using(ulam_tree::proofs::RawRows::call_is))]
+pub fn copy_expr(alloc: Global, raw: &Expr) -> Result<Expr, NoMemory>
+    ensures { IfOk result (λ e. expr_of e ≡ expr_of raw.now) }
+{
+    match raw {
+        Expr::Number {
+            value,
+            unsigned,
+            place,
+        } => Ok(Expr::Number {
+            value: *value,
+            unsigned: *unsigned,
+            place: *place,
+        }),
+        Expr::Truth { value, place } => Ok(Expr::Truth {
+            value: *value,
+            place: *place,
+        }),
+        Expr::Path { path } => {
+            let path = copy_path(alloc, path)?;
+            Ok(Expr::Path { path })
+        }
+        Expr::Call { call } => {
+            let path = copy_path(alloc, &call.path)?;
+            let args = copy_args(alloc, call.args.as_slice())?;
+            Ok(build::call(path, args))
+        }
+        Expr::Index { path, at } => {
+            let path = copy_path(alloc, path)?;
+            let at = copy_expr(alloc, at)?;
+            Ok(build::index(alloc, path, at)?)
+        }
+        Expr::Instance { class } => {
+            let class = copy_word(alloc, class)?;
+            Ok(Expr::Instance { class })
+        }
+        Expr::Group { inner, place } => {
+            let inner = copy_expr(alloc, inner)?;
+            Ok(build::group(alloc, inner, *place)?)
+        }
+        Expr::Cast { to, value, place } => {
+            let to = copy_type(alloc, to)?;
+            let value = copy_expr(alloc, value)?;
+            Ok(build::cast(alloc, to, value, *place)?)
+        }
+        Expr::Prefix { op, value, place } => {
+            let value = copy_expr(alloc, value)?;
+            Ok(build::prefix(alloc, *op, value, *place)?)
+        }
+        Expr::Pair {
+            op,
+            left,
+            right,
+            place,
+        } => {
+            let left = copy_expr(alloc, left)?;
+            let right = copy_expr(alloc, right)?;
+            Ok(build::pair(alloc, *op, left, right, *place)?)
+        }
+        Expr::Is {
+            value,
+            class,
+            place,
+        } => {
+            let value = copy_expr(alloc, value)?;
+            let class = copy_word(alloc, class)?;
+            Ok(build::is(alloc, value, class, *place)?)
+        }
+    }
+}
+
+#[cycle(expr)]
+pub fn copy_args(alloc: Global, raw: &[Expr]) -> Result<Vec<Expr>, NoMemory>
+    ensures { IfOk result (λ v. args_list v.items ≡ args_list raw.now) }
+{
+    let mut found = Vec::new(alloc);
+    for value in raw {
+        let copied = copy_expr(alloc, value)?;
+        found.push(copied)?;
+    }
+    Ok(found)
+}
+
+pub fn copy_maybe(alloc: Global, raw: &Option<Expr>) -> Result<Option<Expr>, NoMemory>
+    ensures { IfOk result (λ x. option_map expr_of x ≡ option_map expr_of raw.now) }
+{
+    match raw {
+        None => Ok(None),
+        Some(raw) => {
+            let value = copy_expr(alloc, raw)?;
+            Ok(Some(value))
+        }
+    }
+}
+
+pub fn copy_left(alloc: Global, raw: &Left) -> Result<Left, NoMemory>
+    ensures { IfOk result (λ x. left_of x ≡ left_of raw.now) }
+{
+    let path = copy_path(alloc, &raw.path)?;
+    match &raw.index {
+        None => Ok(Left { path, index: None }),
+        Some(at) => {
+            let at = copy_expr(alloc, at)?;
+            Ok(Left {
+                path,
+                index: Some(Box::new(alloc, at)?),
+            })
+        }
+    }
+}
+
+pub fn copy_cond(alloc: Global, raw: &Cond) -> Result<Cond, NoMemory>
+    ensures { IfOk result (λ x. cond_of x ≡ cond_of raw.now) }
+{
+    match raw {
+        Cond::Seen { word, class } => {
+            let word = copy_word(alloc, word)?;
+            let class = copy_word(alloc, class)?;
+            Ok(Cond::Seen { word, class })
+        }
+        Cond::Test { value } => {
+            let value = copy_expr(alloc, value)?;
+            Ok(Cond::Test { value })
+        }
+    }
+}
