@@ -8,8 +8,6 @@ mod abandoned;
 mod journal;
 mod log;
 mod printed;
-#[cfg(test)]
-mod tests;
 mod walk;
 
 pub use abandoned::Abandoned;
