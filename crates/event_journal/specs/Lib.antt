@@ -1,0 +1,5 @@
+pub mod Accounts
+pub mod Logs
+pub mod Merged
+pub mod Text
+pub mod Walks

@@ -1,0 +1,20 @@
+//! The attempts that were given up.
+
+/// An attempt that was given up, since an edge that it needs was held.
+#[derive(Clone, Copy, Debug, PartialEq, Eq)]
+pub struct Abandoned {
+    /// The tile whose attempt it is.
+    pub tile: u32,
+    /// The number of the tile's attempt, from 0.
+    pub attempt: u64,
+    /// The column of the centre.
+    pub x: u32,
+    /// The row of the centre.
+    pub y: u32,
+    /// The edge that was held.
+    pub edge: u32,
+    /// The tile at the edge's other end, which held it.
+    pub holder: u32,
+    /// The number of that tile's attempt for which it held the edge.
+    pub holder_attempt: u64,
+}

@@ -1,0 +1,5 @@
+pub mod Fields
+pub mod Forms
+pub mod Lines
+pub mod Printed
+pub mod Values
