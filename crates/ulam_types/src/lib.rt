@@ -15,8 +15,6 @@ mod rows;
 mod scope;
 mod sigs;
 mod statement;
-#[cfg(test)]
-mod tests;
 
 pub use fault::TypeFault;
 pub use law::one_typing;
