@@ -1,9 +1,9 @@
-//! Whole calls, from words and files in memory to a status and what the sink holds.
+//! Runs of a world with an element.
 
 ghost use Rattle.std.specs.Prelude.{◌≡◌, ◌^◌, ◌-◌, ◌<◌};
 
-use crate::{Status, feast, feast_in_memory};
 use feast_base::{Gate, LoadFault, MemShelf, MemSink, OpenGate, Shelf, Source};
+use feast_run::{Status, feast, feast_in_memory};
 use std::alloc::Global;
 use std::sync::atomic::{AtomicU64, Ordering};
 use std::test::Fail;
