@@ -1,0 +1,7 @@
+pub mod Pieces
+pub mod Drafts
+pub mod Kinds
+pub mod Limits
+pub mod Runs
+pub mod Laws
+pub mod Depths

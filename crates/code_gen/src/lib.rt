@@ -1,0 +1,7 @@
+//! The compiler, from typed trees to stack code. What stands is its lower half: code as pieces,
+//! before places and numbers are given out, and how pieces become the code of an element.
+#![tactic(auto)]
+
+mod law;
+
+pub use law::{depths, right};
