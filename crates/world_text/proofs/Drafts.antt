@@ -1,5 +1,5 @@
 -- What a draft's lists become with one more line.
-use Rattle.std.proofs.Common.{ℕ, zero, suc, nat_lt, false, ◌≡◌, ◌+◌, ◌*◌, ◌<◌, ◌≤◌, arith, List, [], ◌∷◌, ◌++◌, length, get_or, ap, sym, ◌∙◌}
+use Rattle.std.proofs.Common.{ℕ, zero, suc, nat_lt, false, ◌≡◌, ◌+◌, ◌*◌, ◌<◌, ◌≤◌, arith, List, [], ◌∷◌, ◌++◌, length, get_or, ap, ◌∙◌}
 use Rattle.std.proofs.Math.ListN.{set}
 use Rattle.std.proofs.lemmas.List.{get_or_default}
 use Rattle.draw_stream.specs.declared.attempt.Attempt.{Attempt}

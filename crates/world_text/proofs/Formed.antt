@@ -1,10 +1,10 @@
 -- A line that is read has the digits and the name that its form asks for.
-use Rattle.std.proofs.Common.{ℕ, zero, suc, ◌≡◌, ◌+◌, ◌*◌, ◌^◌, ◌<◌, ◌==◌, Bool, true, false, ◌&&◌, List, [], ◌∷◌, length, fold, refl, ap, sym, ◌∙◌, arith, Option, Some, None, option_map, subst, bytes_eq, codes, if◌then◌else◌}
+use Rattle.std.proofs.Common.{ℕ, suc, ◌≡◌, ◌+◌, ◌*◌, ◌^◌, ◌<◌, ◌==◌, Bool, true, false, ◌&&◌, List, [], ◌∷◌, length, fold, refl, arith, Option, Some, None, option_map, subst, bytes_eq, codes, if◌then◌else◌}
 use Rattle.std.specs.List.{list_all}
 use Rattle.std.proofs.Math.Nat.{pow-suc}
 use Rattle.list_laws.proofs.Tests.{both}
 use Rattle.feast_base.specs.TypeNames.{is_type_name}
-use Rattle.text_lines.specs.Fields.{fields, hex_of, hex_worth, is_nibble, nibble, number_of}
+use Rattle.text_lines.specs.Fields.{fields, hex_of, hex_worth, is_nibble, nibble}
 use Rattle.text_lines.specs.Forms.{with, take_number, one_field, one_number, one_seed, two_numbers}
 use Rattle.text_lines.proofs.Digits.{nibble_in}
 use Rattle.world_text.specs.Line.{Line, IsFormed, header, tiles, size, off, seed, attempts, try, atom, order_seed, order}
@@ -23,6 +23,7 @@ worth_below (d ∷ ds) v k all small =
   where
     flip : (p : ℕ) → p * 16 ≡ 16 * p
     flip p = omega arith
+
     more : (v d p : ℕ) → v < p → d < 16 → v * 16 + d < 16 * p
     more v d p a b = omega (arith, a, b)
 
@@ -107,15 +108,15 @@ short_formed word args l e =
 try_formed : (args : List (List ℕ)) (l : Line) → try_form args ≡ Some l → IsFormed l
 try_formed args l e =
     through IsFormed (take_number args) _
-        (λ t m. through IsFormed (take_number t.1) _
-        (λ x n. through IsFormed (take_number x.1) _
-        (λ y o. mapped IsFormed (one_seed y.1) (try t.0 x.0 y.0) (λ s is. seed_form y.1 s is) o) n) m) l e
+    (λ t m. through IsFormed (take_number t.1) _
+    (λ x n. through IsFormed (take_number x.1) _
+    (λ y o. mapped IsFormed (one_seed y.1) (try t.0 x.0 y.0) (λ s is. seed_form y.1 s is) o) n) m) l e
 
 atom_formed : (args : List (List ℕ)) (l : Line) → atom_form args ≡ Some l → IsFormed l
 atom_formed args l e =
     through IsFormed (take_number args) _
-        (λ x m. through IsFormed (take_number x.1) _
-        (λ y n. mapped IsFormed (name_state y.1) (λ p. atom x.0 y.0 p.0 p.1) (λ p is. named_state y.1 p is) n) m) l e
+    (λ x m. through IsFormed (take_number x.1) _
+    (λ y n. mapped IsFormed (name_state y.1) (λ p. atom x.0 y.0 p.0 p.1) (λ p is. named_state y.1 p is) n) m) l e
 
 line_formed_by : (fs : List (List ℕ)) (l : Line) → form_of fs ≡ Some l → IsFormed l
 unfolding form_of form

@@ -1,24 +1,22 @@
 -- A line that may stand keeps what holds of drafts.
-use Rattle.std.proofs.Common.{ℕ, zero, suc, nat_lt, nat_le, true, false, Bool, not, ◌&&◌, ◌≡◌, ◌≢◌, ◌+◌, ◌-◌, ◌*◌, ◌/◌, ◌%◌, ◌^◌, ◌<◌, ◌≤◌, ◌==◌, arith, List, [], ◌∷◌, ◌++◌, All, map, filter, drop, length, get_or, ap, sym, ◌∙◌, refl, replicate, sum_by, count_by, if◌then◌else◌, cond, subst, Option, Some, None, IfSome, option_map, Result, Ok, Err, inl, inr, ◌⊎◌}
+use Rattle.std.proofs.Common.{ℕ, zero, suc, nat_lt, nat_le, true, false, Bool, not, ◌&&◌, ◌≡◌, ◌+◌, ◌*◌, ◌%◌, ◌^◌, ◌<◌, ◌≤◌, ◌==◌, arith, List, [], ◌∷◌, ◌++◌, All, map, drop, length, get_or, ap, sym, ◌∙◌, refl, replicate, sum_by, if◌then◌else◌, cond, subst, Option, Some, None, IfSome, option_map, Ok, Err, inl, inr}
 use Rattle.std.specs.List.{list_all, list_any}
 use Rattle.std.proofs.Math.ListN.{set}
 use Rattle.std.proofs.lemmas.List.{length-set, length-replicate, length-append, get_or-set_same, get_or-set_other}
-use Rattle.std.proofs.lemmas.List.Sums.{sum_by-set, sum_by-cons, length-filter}
+use Rattle.std.proofs.lemmas.List.Sums.{sum_by-set, length-filter}
 use Rattle.std.proofs.lemmas.List.Folds.{sum_by-replicate}
 use Rattle.std.proofs.lemmas.List.Elements.{All-append, All-cons, All-nil}
 use Rattle.std.proofs.lemmas.Bool.Decides.{eqb_tells}
 use Rattle.list_laws.proofs.Tests.{both}
 use Rattle.draw_stream.specs.declared.attempt.Attempt.{Attempt}
 use Rattle.draw_stream.specs.Plans.{tiles_on}
-use Rattle.tile_map.specs.Plane.{MapValue, AreSizes, IsMap, plane_of, whole_plane, site, tiles_of, is_on, is_live, owner_of, in_plane}
-use Rattle.tile_map.proofs.PlaneLaws.{owner_owned}
+use Rattle.tile_map.specs.Plane.{MapValue, IsMap, plane_of, whole_plane, site, tiles_of, is_on, is_live, owner_of, in_plane}
 use Rattle.world_text.specs.Line.{Line, IsFormed, header, tiles, size, off, seed, attempts, try, atom, order_seed, order}
 use Rattle.world_text.specs.Forms.{line_of}
 use Rattle.text_lines.specs.Lines.{is_skipped}
 use Rattle.world_text.specs.Reading.{line_step}
-use Rattle.world_text.specs.declared.draft.RawAtom.{RawAtom}
 use Rattle.world_text.specs.declared.kind.Kind.{Kind}
-use Rattle.world_text.specs.declared.kind.Kind.TheVariants.{Start, Header, Tiles, Size, Off, Seed, Attempts, Try, Atom, OrderSeed, Order}
+use Rattle.world_text.specs.declared.kind.Kind.TheVariants.{Start, Header, Tiles, Size, Off, Seed, Attempts, Try, Atom}
 use Rattle.world_text.specs.Drafts.{DraftValue, IsDraft, IsTry, IsRawAtom, in_range, too_many, put, between, nothing_said, only_plane, with_off, attempt_of, raw_atom, step, may_follow, misplaced, kind_of, is_early}
 use Rattle.world_text.proofs.Formed.{line_formed}
 
@@ -36,9 +34,17 @@ no_sum n = sum_by-replicate length n [] ∙ (omega arith)
 -- a plane alone is a draft
 pub only_is : (k : Kind) (second : Bool) (m : MapValue) → IsMap m → 1 ≤ tiles_on m.off → IsDraft (only_plane k second m)
 only_is k second m map on = record {
-  map = map; on = on; early = λ e. refl; drawn = tt {0}; lists = length-replicate (tiles_of m) []; made = no_sum (tiles_of m); few = omega arith;
+  map = map;
+  on = on;
+  early = λ e. refl;
+  drawn = tt {0};
+  lists = length-replicate (tiles_of m) [];
+  made = no_sum (tiles_of m);
+  few = omega arith;
   tries = λ t. subst (All (IsTry m t)) (sym (no_tries (tiles_of m) t)) (All-nil _);
-  atoms = All-nil _; order_seed = tt {0}; order = All-nil _;
+  atoms = All-nil _;
+  order_seed = tt {0};
+  order = All-nil _;
 }
 
 one_small : (x : Bool) → cond (not x) 1 0 ≤ 1
@@ -119,8 +125,17 @@ off_kept n t d k is h =
 seed_kept : (n s : ℕ) (d : DraftValue) → IsDraft d → in_range d.plane (seed s) ≡ true → IsDraft (put n d (seed s))
 unfolding put in_range
 seed_kept n s d k h = record {
-  map = k.map; on = k.on; early = λ e. absurd (cc e); drawn = (lt_is s (2 ^ 64) h, omega arith); lists = k.lists; made = k.made; few = k.few;
-  tries = k.tries; atoms = k.atoms; order_seed = k.order_seed; order = k.order;
+  map = k.map;
+  on = k.on;
+  early = λ e. absurd (cc e);
+  drawn = (lt_is s (2 ^ 64) h, omega arith);
+  lists = k.lists;
+  made = k.made;
+  few = k.few;
+  tries = k.tries;
+  atoms = k.atoms;
+  order_seed = k.order_seed;
+  order = k.order;
 }
   where
     lt_is : (a b : ℕ) → nat_lt a b ≡ true → a < b
@@ -129,8 +144,17 @@ seed_kept n s d k h = record {
 attempts_kept : (n c : ℕ) (d : DraftValue) → IsDraft d → too_many d (attempts c) ≡ false → IsDraft (put n d (attempts c))
 unfolding put too_many
 attempts_kept n c d k h = record {
-  map = k.map; on = k.on; early = λ e. absurd (cc e); drawn = on d.origin k.drawn; lists = k.lists; made = k.made; few = k.few;
-  tries = k.tries; atoms = k.atoms; order_seed = k.order_seed; order = k.order;
+  map = k.map;
+  on = k.on;
+  early = λ e. absurd (cc e);
+  drawn = on d.origin k.drawn;
+  lists = k.lists;
+  made = k.made;
+  few = k.few;
+  tries = k.tries;
+  atoms = k.atoms;
+  order_seed = k.order_seed;
+  order = k.order;
 }
   where
     few : c * tiles_on d.plane.off ≤ 1000000
@@ -138,6 +162,7 @@ attempts_kept n c d k h = record {
       where
         le_of : (x : ℕ) → nat_lt 1000000 x ≡ false → x ≤ 1000000
         le_of x h = grind arith
+
     on : (o : Option (ℕ × ℕ)) → IfSome o (λ (o : ℕ × ℕ). (o.0 < 2 ^ 64) × (o.1 * tiles_on d.plane.off ≤ 1000000)) →
         IfSome (option_map (λ (o : ℕ × ℕ). (o.0, c)) o) (λ (o : ℕ × ℕ). (o.0 < 2 ^ 64) × (o.1 * tiles_on d.plane.off ≤ 1000000))
     on None p = tt {0}
@@ -146,8 +171,17 @@ attempts_kept n c d k h = record {
 order_seed_kept : (n s : ℕ) (d : DraftValue) → IsDraft d → in_range d.plane (order_seed s) ≡ true → IsDraft (put n d (order_seed s))
 unfolding put in_range
 order_seed_kept n s d k h = record {
-  map = k.map; on = k.on; early = λ e. absurd (cc e); drawn = k.drawn; lists = k.lists; made = k.made; few = k.few;
-  tries = k.tries; atoms = k.atoms; order_seed = lt_is s (2 ^ 64) h; order = k.order;
+  map = k.map;
+  on = k.on;
+  early = λ e. absurd (cc e);
+  drawn = k.drawn;
+  lists = k.lists;
+  made = k.made;
+  few = k.few;
+  tries = k.tries;
+  atoms = k.atoms;
+  order_seed = lt_is s (2 ^ 64) h;
+  order = k.order;
 }
   where
     lt_is : (a b : ℕ) → nat_lt a b ≡ true → a < b
@@ -160,18 +194,35 @@ all_is p (x ∷ xs) h = let q = both (p x) (list_all p xs) h in All-cons (λ x. 
 order_kept : (n : ℕ) (ts : List ℕ) (d : DraftValue) → IsDraft d → in_range d.plane (order ts) ≡ true → IsDraft (put n d (order ts))
 unfolding put in_range
 order_kept n ts d k h = record {
-  map = k.map; on = k.on; early = λ e. absurd (cc e); drawn = k.drawn; lists = k.lists; made = k.made; few = k.few;
-  tries = k.tries; atoms = k.atoms; order_seed = k.order_seed; order = All-append (λ t. is_on d.plane t ≡ true) d.order ts k.order (all_is (is_on d.plane) ts h);
+  map = k.map;
+  on = k.on;
+  early = λ e. absurd (cc e);
+  drawn = k.drawn;
+  lists = k.lists;
+  made = k.made;
+  few = k.few;
+  tries = k.tries;
+  atoms = k.atoms;
+  order_seed = k.order_seed;
+  order = All-append (λ t. is_on d.plane t ≡ true) d.order ts k.order (all_is (is_on d.plane) ts h);
 }
 
 atom_kept : (n x y s : ℕ) (name : List ℕ) (d : DraftValue) → IsDraft d → IsFormed (atom x y name s) → in_range d.plane (atom x y name s) ≡ true → IsDraft (put n d (atom x y name s))
 unfolding put in_range
 atom_kept n x y s name d k formed h =
     let p = both (is_live d.plane (site x y)) (nat_lt s (2 ^ 71)) h in record {
-      map = k.map; on = k.on; early = λ e. absurd (cc e); drawn = k.drawn; lists = k.lists; made = k.made; few = k.few; tries = k.tries;
+      map = k.map;
+      on = k.on;
+      early = λ e. absurd (cc e);
+      drawn = k.drawn;
+      lists = k.lists;
+      made = k.made;
+      few = k.few;
+      tries = k.tries;
       atoms = All-append (IsRawAtom d.plane) d.atoms (raw_atom n x y name s ∷ []) k.atoms
           (All-cons (IsRawAtom d.plane) (raw_atom n x y name s) [] (record { live = p.0; name = formed; state = lt_is s (2 ^ 71) p.1 }) (All-nil _));
-      order_seed = k.order_seed; order = k.order;
+      order_seed = k.order_seed;
+      order = k.order;
     }
   where
     lt_is : (a b : ℕ) → nat_lt a b ≡ true → a < b
@@ -206,19 +257,28 @@ try_kept n t x y s d k r f =
     let size = length-append old (a ∷ []) in
     let was = k.made in
     record {
-      map = k.map; on = k.on; early = λ e. absurd (cc e); drawn = k.drawn; lists = length-set d.tries t _ ∙ k.lists;
-      made = omega (arith, count, size, was); few = omega (arith, few);
+      map = k.map;
+      on = k.on;
+      early = λ e. absurd (cc e);
+      drawn = k.drawn;
+      lists = length-set d.tries t _ ∙ k.lists;
+      made = omega (arith, count, size, was);
+      few = omega (arith, few);
       tries = λ u. elim (eqb_tells u t) [
         | inl same ↦ subst (λ v. All (IsTry m v) (get_or (set d.tries t (old ++ a ∷ [])) v [])) (sym same.1) (subst (All (IsTry m t)) (sym (get_or-set_same d.tries t (old ++ a ∷ []) [] lt)) new)
         | inr other ↦ subst (All (IsTry m u)) (sym (get_or-set_other d.tries t u (old ++ a ∷ []) [] other.1)) (k.tries u)
       ];
-      atoms = k.atoms; order_seed = k.order_seed; order = k.order;
+      atoms = k.atoms;
+      order_seed = k.order_seed;
+      order = k.order;
     }
   where
     lt_of : (x : ℕ) → nat_le 1000000 x ≡ false → x < 1000000
     lt_of x h = grind arith
+
     lt_is : (a b : ℕ) → nat_lt a b ≡ true → a < b
     lt_is a b h = grind arith
+
     eq_of : (a b : ℕ) → (a == b) ≡ true → a ≡ b
     eq_of a b h = grind arith
 

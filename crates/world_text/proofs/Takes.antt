@@ -1,5 +1,5 @@
 -- Fields behind a name, and numbers one after another.
-use Rattle.std.proofs.Common.{ℕ, ◌≡◌, List, [], ◌∷◌, ◌++◌, append_assoc, ap, ◌∙◌, refl, Option, Some, None, option_map}
+use Rattle.std.proofs.Common.{ℕ, ◌≡◌, List, [], ◌∷◌, ◌++◌, append_assoc, ap, refl, Option, Some, None, option_map}
 use Rattle.std.proofs.lemmas.List.{append-nil}
 use Rattle.text_lines.specs.Fields.{fields, hex_of, number_of}
 use Rattle.text_lines.specs.Forms.{one_field, with}

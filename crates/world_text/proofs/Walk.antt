@@ -1,5 +1,5 @@
 -- Reading line by line.
-use Rattle.std.proofs.Common.{ℕ, ◌≡◌, ◌+◌, List, [], ◌∷◌, ap, sym, ◌∙◌, refl, Option, Some, None, Result, Ok, Err, option_map, subst}
+use Rattle.std.proofs.Common.{ℕ, ◌≡◌, ◌+◌, List, [], ◌∷◌, ap, sym, refl, Option, Some, None, Result, Ok, Err, option_map, subst}
 use Rattle.text_lines.specs.Lines.{lines}
 use Rattle.world_text.specs.Drafts.{DraftValue, nothing_said, missing}
 use Rattle.world_text.specs.Reading.{read_text, read_lines, line_step, go_on, over, IsFault, fault_of, Reads}

@@ -1,5 +1,5 @@
 -- The forms of the lines of a world.
-use Rattle.std.specs.Prelude.{ℕ, Bool, true, false, List, [], ◌∷◌, codes, bytes_eq, Option, Some, None, option_map, if◌then◌else◌}
+use Rattle.std.specs.Prelude.{ℕ, true, false, List, [], ◌∷◌, codes, bytes_eq, Option, Some, None, option_map, if◌then◌else◌}
 use Rattle.feast_base.specs.TypeNames.{is_type_name}
 use Rattle.text_lines.specs.Fields.{fields, number_of, hex_of}
 use Rattle.text_lines.specs.Forms.{with, take_number, one_field, one_number, one_seed, two_numbers}

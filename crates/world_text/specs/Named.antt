@@ -1,7 +1,6 @@
 -- The names and the sites of a world's atoms, and the world.
 use Rattle.std.specs.Prelude.{ℕ, ◌≡◌, ◌+◌, ◌*◌, ◌<◌, ◌==◌, Bool, false, List, [], ◌∷◌, ◌++◌, length, map, slice_index_or, bytes_eq, Option, Some, None, is_some, Vec, Result, Ok, Err, if◌then◌else◌}
 use Rattle.std.specs.List.{list_any}
-use Rattle.bit_field.specs.Atom.{AtomValue}
 use Rattle.draw_stream.specs.Plans.{PlanValue, seeded, scripted}
 use Rattle.draw_stream.specs.declared.attempt.Attempt.{Attempt}
 use Rattle.tile_map.specs.Plane.{MapValue}

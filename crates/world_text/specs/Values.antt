@@ -29,8 +29,15 @@ line_value (Order ts) = order ts.items
 -- what the lines so far say
 abbrev pub draft_value : Draft → DraftValue
 draft_value d = record {
-  last = d.last; second = d.second; plane = plane_of d.tx d.ty d.w d.h d.off.items; origin = d.origin; made = d.made; tries = d.tries.items; atoms = d.atoms.items;
-  order_seed = d.order_seed; order = d.order.items;
+  last = d.last;
+  second = d.second;
+  plane = plane_of d.tx d.ty d.w d.h d.off.items;
+  origin = d.origin;
+  made = d.made;
+  tries = d.tries.items;
+  atoms = d.atoms.items;
+  order_seed = d.order_seed;
+  order = d.order.items;
 }
 
 abbrev pub order_value : CodeOrder → OrderValue

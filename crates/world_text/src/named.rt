@@ -127,7 +127,13 @@ pub fn name(alloc: Global, raw: RawWorld, names: &[Name]) -> Result<World, World
     let (width, height) = (draft.tx * draft.w, draft.ty * draft.h);
     let atoms = name_atoms(alloc, names, width, height, draft.atoms.as_slice())?;
     let sites = (draft.w * draft.h) as u64;
-    let plan = plan(alloc, draft.origin, draft.tries, draft.off.as_slice(), sites)?;
+    let plan = plan(
+        alloc,
+        draft.origin,
+        draft.tries,
+        draft.off.as_slice(),
+        sites,
+    )?;
     Ok(World {
         tx: draft.tx,
         ty: draft.ty,

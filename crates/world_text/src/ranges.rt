@@ -43,7 +43,11 @@ fn live_owner(draft: &Draft, x: u128, y: u128) -> Option<u32>
         return None;
     }
     let tile = owner(draft, x as u32, y as u32);
-    if is_on(draft, tile as u128) { Some(tile) } else { None }
+    if is_on(draft, tile as u128) {
+        Some(tile)
+    } else {
+        None
+    }
 }
 
 /// How many tiles are on.

@@ -1,9 +1,9 @@
-use Rattle.std.proofs.Common.{ℕ, ◌≡◌, ◌+◌, ◌*◌, ◌<◌, ◌==◌, ◌∙◌, ap, sym, refl, length, get_or, map, take, drop, arith, true, false, Bool, Option, Some, None, is_some, subst, List, ◌++◌, ◌∷◌, []}
+use Rattle.std.proofs.Common.{ℕ, ◌≡◌, ◌+◌, ◌<◌, ◌==◌, ◌∙◌, ap, sym, length, map, take, drop, arith, true, false, Some, is_some, subst, ◌++◌, ◌∷◌, []}
 use Rattle.std.specs.List.{list_any}
 use Rattle.std.proofs.lemmas.List.{get_or_default, length-set}
 use Rattle.std.proofs.lemmas.List.{take_all}
 use Rattle.world_text.proofs.Marks.{one_unknown, one_taken, one_fine, places_more, next_atom, no_atoms, marked_more, found_more}
-use Rattle.world_text.specs.Named.{name_fault, place_of, placed, type_of, or_zero, AreMarked}
+use Rattle.world_text.specs.Named.{name_fault, place_of, placed, type_of, AreMarked}
 use Rattle.world_text.proofs.named.name_atoms.Goals as goal
 
 pub returns-in_default : goal.returns-in_default

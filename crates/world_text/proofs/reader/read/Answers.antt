@@ -1,9 +1,9 @@
-use Rattle.std.proofs.Common.{ℕ, ◌≡◌, [], ap, sym, ◌∙◌, arith, subst, Ok}
+use Rattle.std.proofs.Common.{ap, sym, ◌∙◌, arith, subst, Ok}
 use Rattle.text_lines.proofs.Cuts.{lines_none}
 use Rattle.text_lines.specs.Lines.{lines}
 use Rattle.world_text.proofs.Kept.{start_is, line_step_kept}
 use Rattle.world_text.proofs.Walk.{walk_start, walk_line, walk_fault, walk_missing, walk_whole, read_stops}
-use Rattle.world_text.specs.Drafts.{DraftValue, IsDraft}
+use Rattle.world_text.specs.Drafts.{IsDraft}
 use Rattle.world_text.specs.Reading.{IsFault, fault_of, read_lines}
 use Rattle.world_text.specs.Values.{draft_value}
 use Rattle.world_text.proofs.reader.read.Goals as goal
@@ -42,8 +42,8 @@ returns-in-Some-missing c =
     let old = draft_value c.loop-text.draft in
     let fault = fault_of c.in-Some-missing.fault in
     subst (λ r. IsFault r fault)
-        (ap (λ ts. read_lines n old ts) (sym lines_none) ∙ ap (λ bs. read_lines n old (lines bs)) (sym c.in_default.ensures) ∙ c.loop-text.invariant.rest)
-        (walk_missing n old fault c.in-Some-missing.ensures)
+    (ap (λ ts. read_lines n old ts) (sym lines_none) ∙ ap (λ bs. read_lines n old (lines bs)) (sym c.in_default.ensures) ∙ c.loop-text.invariant.rest)
+    (walk_missing n old fault c.in-Some-missing.ensures)
 
 pub returns-in-None : goal.returns-in-None
 returns-in-None c =

@@ -1,5 +1,5 @@
-use Rattle.std.proofs.Common.{◌≡◌, ◌∷◌, ◌++◌, List, ℕ, ap, sym, ◌∙◌, option_map, option_copied, Option, Some, None}
-use Rattle.text_lines.specs.Fields.{args_of, fields, number_of}
+use Rattle.std.proofs.Common.{◌≡◌, ◌∷◌, ◌++◌, ap, sym, ◌∙◌, option_map, option_copied}
+use Rattle.text_lines.specs.Fields.{args_of}
 use Rattle.world_text.specs.Forms.{numbers_of}
 use Rattle.world_text.proofs.Takes.{numbers_bad, numbers_more, numbers_end}
 use Rattle.world_text.proofs.take.numbers.Goals as goal
