@@ -5,7 +5,7 @@ pub mod Lows
 pub mod Comes
 pub mod Turns
 pub mod Handed
-pub mod Calls
+pub mod CallEnds
 pub mod Passed
 pub mod Machine
 pub mod CallsRun

@@ -2,6 +2,11 @@
 //! before places and numbers are given out, and how pieces become the code of an element.
 #![tactic(auto)]
 
+mod calls;
+mod emit;
 mod law;
+mod piece;
+mod size;
 
 pub use law::{depths, right};
+pub use piece::{Key, Piece};
