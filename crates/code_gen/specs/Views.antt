@@ -1,4 +1,7 @@
 -- The code's functions and pieces as plain data.
+use Rattle.std.specs.Prelude.{◌≡◌, ◌≤◌, ℕ, Option, Some, None, length}
+use Rattle.code_gen.specs.Drafts.{Draft}
+use Rattle.code_gen.specs.declared.source.Head.{Head}
 use Rattle.code_gen.specs.Pieces.{Key, Piece, none, seq, plain, asks, pick, only, loop, ever, out, next, gives, leaves}
 use Rattle.code_gen.specs.declared.piece.Key.{Key as CodeKey}
 use Rattle.code_gen.specs.declared.piece.Piece.{Piece as CodePiece}
@@ -20,3 +23,14 @@ piece_of Out = out
 piece_of Next = next
 piece_of Gives = gives
 piece_of Leaves = leaves
+
+-- what is known of a function without its body is that of its draft
+pub record IsHead (h : Head) (d : Draft) : Type 0 where
+  pub params : h.params ≡ length d.takes
+  pub answer : h.answer ≡ d.answer
+  pub blank : h.blank ≡ d.blank
+
+-- a number that is there is no more than this
+abbrev pub IsBelow : ℕ → Option ℕ → Type 0
+IsBelow most None = Unit {0}
+IsBelow most (Some d) = d ≤ most

@@ -3,10 +3,13 @@
 #![tactic(auto)]
 
 mod calls;
+mod depth;
 mod emit;
 mod law;
 mod piece;
 mod size;
+mod source;
 
 pub use law::{depths, right};
 pub use piece::{Key, Piece};
+pub use source::{Head, Source};
