@@ -14,3 +14,4 @@ pub mod Room
 pub mod Events
 pub mod Worklist
 mod Worked
+pub mod Rounds

@@ -6,3 +6,4 @@ pub mod Runs
 pub mod Laws
 pub mod Depths
 pub mod Views
+pub mod Gathers

@@ -5,6 +5,7 @@
 mod calls;
 mod depth;
 mod emit;
+mod gather;
 mod law;
 mod piece;
 mod size;

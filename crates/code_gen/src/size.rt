@@ -46,7 +46,8 @@ pub fn size_of(piece: &Piece) -> u32
 
 /// How many instructions the end of a function has.
 pub fn end_size(answer: Answer) -> u32
-    ensures { (blank : ℕ) → result ≡ size (end_by answer blank) }
+    ensures value { (blank : ℕ) → result ≡ size (end_by answer blank) }
+    ensures bound { result ≤ 2 }
 {
     match answer {
         Answer::Nothing => 1,
