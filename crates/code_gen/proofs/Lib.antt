@@ -15,3 +15,4 @@ pub mod Events
 pub mod Worklist
 mod Worked
 pub mod Rounds
+pub mod LayRounds

@@ -164,7 +164,7 @@ end_is : (g : Drafts) (fs : List Key) (len p : ℕ) → p + total g fs ≡ len �
 end_is g [] len p e = omega (arith, e)
 end_is g (f ∷ fs) len p e = refl
 
-code_length : (g : Drafts) (ks : List Key) (p : ℕ) (fs : List Key) → length (codes g ks p fs) ≡ total g fs
+pub code_length : (g : Drafts) (ks : List Key) (p : ℕ) (fs : List Key) → length (codes g ks p fs) ≡ total g fs
 code_length g ks p [] = refl
 code_length g ks p (f ∷ fs) = omega (arith, length-append (function_code g ks p f) (codes g ks (p + size (key_piece g f)) fs), lay_length ks (key_piece g f) p (p + size (g f).body) (p + size (g f).body), code_length g ks (p + size (key_piece g f)) fs)
 

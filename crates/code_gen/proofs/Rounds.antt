@@ -10,7 +10,7 @@ use Rattle.code_gen.specs.Drafts.{Drafts, end_by, end_piece, key_piece, reach, k
 use Rattle.code_gen.specs.Depths.{depth}
 use Rattle.code_gen.specs.Limits.{all_low, IsShort}
 use Rattle.code_gen.specs.Gathers.{body_at, longer}
-use Rattle.code_gen.proofs.Closed.{Grown, calls_grown, reach_grown, get_some}
+use Rattle.code_gen.proofs.Closed.{Grown, calls_grown, reach_grown, get_front, get_some}
 use Rattle.code_gen.proofs.Worklist.{reach_done, reach_step, take_past, next_taken, next_pieces, next_total, reach_total, taken_some, calls_long}
 
 -- an entry of the code's list, as the definitions see it
@@ -114,14 +114,9 @@ long_round g main k sum ks bodies f r lt at e short =
     let t = next_total g k ks f at in
     let few : total g (reach g (65536 - k) (suc k) ls) ≤ 65536 = subst (λ l. total g l ≤ 65536) (sym st) short.few in
     let gr = reach_grown g (65537 - k) k ks in
-    let there : slice_get (keys g main) k ≡ Some f = ap (λ l. slice_get l k) (sym r.rest ∙ gr.1) ∙ get_more ks gr.0 k at in
+    let there : slice_get (keys g main) k ≡ Some f = ap (λ l. slice_get l k) (sym r.rest ∙ gr.1) ∙ get_front ks gr.0 k (get_some ks k f at) ∙ at in
     let low = low_get g (keys g main) k f there short.low in
     two_none (is_some (depth g (key_piece g f) 0)) (nat_le (sum + size (key_piece g f)) 65536) (sum + size (key_piece g f)) low (le-leb (sum + size (key_piece g f)) 65536 (omega (arith, h, t, few, r.count))) e
-  where
-    get_more : (xs ys : List Key) (j : ℕ) → slice_get xs j ≡ Some f → slice_get (xs ++ ys) j ≡ Some f
-    get_more [] ys j e = cc
-    get_more (x ∷ xs) ys zero e = e
-    get_more (x ∷ xs) ys (suc j) e = get_more xs ys j e
 
 -- there are never so many
 pub full_round : (g : Drafts) (main : Key) (sum : ℕ) (ks : List Key) (bodies : List Piece) → Round g main 65537 sum ks bodies → ⊥

@@ -2,6 +2,7 @@
 //! before places and numbers are given out, and how pieces become the code of an element.
 #![tactic(auto)]
 
+mod build;
 mod calls;
 mod depth;
 mod emit;
