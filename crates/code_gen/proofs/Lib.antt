@@ -16,3 +16,4 @@ pub mod Worklist
 mod Worked
 pub mod Rounds
 pub mod LayRounds
+pub mod Built

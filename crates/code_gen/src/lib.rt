@@ -2,9 +2,9 @@
 //! before places and numbers are given out, and how pieces become the code of an element.
 #![tactic(auto)]
 
-mod build;
 mod calls;
 mod depth;
+mod element;
 mod emit;
 mod gather;
 mod law;
@@ -12,6 +12,7 @@ mod piece;
 mod size;
 mod source;
 
+pub use element::build;
 pub use law::{depths, right};
 pub use piece::{Key, Piece};
 pub use source::{Head, Source};

@@ -4,7 +4,7 @@ ghost use Rattle.std.specs.Prelude.{◌≡◌, ◌≤◌, ◌<◌, ◌+◌, ◌�
 ghost use Rattle.code_gen.specs.Pieces.{seq, size, lay};
 ghost use Rattle.code_gen.specs.Drafts.{end_by, code_of};
 ghost use Rattle.code_gen.specs.Laws.{IsReady};
-ghost use Rattle.code_gen.specs.Gathers.{IsGathered};
+ghost use Rattle.code_gen.specs.Gathers.{IsGathered, Builds};
 ghost use Rattle.code_gen.specs.Views.{piece_of, key_of};
 
 use crate::emit::{emit, emit_end};
@@ -63,4 +63,26 @@ fn lay_out<S: Source>(
         lay_function(&mut code, keys, source.head(key), &gathered.bodies[k])?;
     }
     Ok(RawCode::new(kind, functions, code))
+}
+
+/// The code of an element of this type number, which begins with the function `main`. None where
+/// the limits don't let it through: it would have more than 65,536 instructions, or more than 512
+/// operands at some place. `NoMemory` where the functions, their bodies or the code can't be kept.
+#[tactic(auto, using(crate::proofs::Built::verified))]
+pub fn build<S: Source>(
+    alloc: Global,
+    source: &S,
+    kind: u16,
+    main: Key,
+) -> Result<Option<Code>, NoMemory>
+    requires { IsReady (S.drafts source.now) (key_of main) }
+    ensures { Builds (S.drafts source.now) kind (key_of main) result }
+{
+    match gather(alloc, source, main)? {
+        None => Ok(None),
+        Some(gathered) => {
+            let raw = lay_out(alloc, source, kind, main, &gathered)?;
+            verify(alloc, raw)
+        }
+    }
 }

@@ -6,7 +6,7 @@ use Rattle.code_gen.specs.Gathers.{body_at}
 use Rattle.code_gen.specs.Views.{piece_of, key_of}
 use Rattle.code_gen.proofs.Closed.{few_keys}
 use Rattle.code_gen.proofs.LayRounds.{Lays, first_lays, next_lays, lays_room, done_lays, key_base, seen_alike, get_seen, same_long, laid_same, size_same}
-use Rattle.code_gen.proofs.build.lay_out.Goals as goal
+use Rattle.code_gen.proofs.element.lay_out.Goals as goal
 
 pub overflow_cast-len : goal.overflow_cast-len
 overflow_cast-len g c =

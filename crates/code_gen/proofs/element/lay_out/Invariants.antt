@@ -1,7 +1,7 @@
 use Rattle.std.proofs.Common.{List}
 use Rattle.code_gen.specs.Views.{key_of}
 use Rattle.code_gen.proofs.LayRounds.{Lays}
-use Rattle.code_gen.proofs.build.lay_out.Given as goal
+use Rattle.code_gen.proofs.element.lay_out.Given as goal
 
 abbrev pub invariant-loop-k : goal.invariant-loop-k
 invariant-loop-k g l = record {
