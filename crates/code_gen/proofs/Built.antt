@@ -1,5 +1,5 @@
 -- The verifier lets the code of an element through.
-use Rattle.std.proofs.Common.{◌≡◌, ℕ, Option, Some, None, Result, Ok, Err, refl, sym, ap, ◌∙◌, Bool, true, false, IfOk}
+use Rattle.std.proofs.Common.{◌≡◌, ℕ, Option, Some, None, Result, Ok, Err, ap, ◌∙◌, Bool, true, IfOk}
 use Rattle.std.specs.Prelude.{if◌then◌else◌}
 use Rattle.feast_base.specs.declared.memory.NoMemory.{NoMemory}
 use Rattle.stack_code.specs.Machine.{CodeValue}

@@ -1,13 +1,13 @@
 -- Laying functions down, one after another: what stands after k of them.
-use Rattle.std.proofs.Common.{◌≡◌, ℕ, zero, suc, ◌+◌, ◌<◌, ◌≤◌, List, [], ◌∷◌, ◌++◌, length, Option, Some, None, refl, sym, ap, ◌∙◌, subst, arith, take, append_assoc, append-nil, add-one}
-use Rattle.std.specs.Prelude.{slice_get, map, get_or, true}
+use Rattle.std.proofs.Common.{◌≡◌, ℕ, zero, suc, ◌+◌, ◌<◌, ◌≤◌, List, [], ◌∷◌, ◌++◌, length, Some, refl, sym, ap, ◌∙◌, arith, take, append_assoc, append-nil, add-one}
+use Rattle.std.specs.Prelude.{slice_get, map, get_or}
 use Rattle.std.proofs.lemmas.Bool.{leb-true}
 use Rattle.std.proofs.lemmas.List.{length-map}
 use Rattle.stack_code.specs.Machine.{FunctionValue, CodeValue}
 use Rattle.stack_code.specs.declared.instr.Instr.{Instr}
 use Rattle.stack_code.specs.declared.instr.Answer.{Answer}
 use Rattle.code_gen.specs.Pieces.{Key, Piece, seq, size, lay}
-use Rattle.code_gen.specs.Drafts.{Drafts, end_by, key_piece, keys, function_code, codes, value_at, values, code_of, total, has_room}
+use Rattle.code_gen.specs.Drafts.{Drafts, end_by, key_piece, keys, function_code, codes, value_at, values, code_of, total}
 use Rattle.code_gen.specs.Limits.{IsShort}
 use Rattle.code_gen.specs.Laws.{IsReady}
 use Rattle.code_gen.proofs.Passed.{code_length}

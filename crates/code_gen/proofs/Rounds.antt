@@ -1,17 +1,17 @@
 -- The rounds of the worklist: what is known after k of them.
-use Rattle.std.proofs.Common.{◌≡◌, ℕ, zero, suc, ◌+◌, ◌-◌, ◌<◌, ◌≤◌, List, [], ◌∷◌, ◌++◌, length, Option, Some, None, refl, sym, ap, ◌∙◌, subst, arith, take, Bool, true, false, add-one, length-append}
-use Rattle.std.specs.Prelude.{slice_get, map, get_or, nat_le, is_some, ◌&&◌, if◌then◌else◌}
+use Rattle.std.proofs.Common.{◌≡◌, ℕ, zero, suc, ◌+◌, ◌-◌, ◌<◌, ◌≤◌, List, [], ◌∷◌, ◌++◌, length, Some, None, refl, sym, ap, ◌∙◌, subst, arith, take, Bool, true, false, add-one}
+use Rattle.std.specs.Prelude.{slice_get, map, get_or, nat_le, is_some, if◌then◌else◌}
 use Rattle.std.proofs.lemmas.Bool.{le-leb, leb-true}
 use Rattle.list_laws.proofs.Tests.{both, together}
 use Rattle.stack_code.specs.declared.instr.Answer.{Answer}
 use Rattle.stack_code.specs.declared.instr.Answer.TheVariants.{Nothing, Number as NumberBack, Atom as AtomBack}
 use Rattle.code_gen.specs.Pieces.{Key, Piece, size, add_calls}
-use Rattle.code_gen.specs.Drafts.{Drafts, end_by, end_piece, key_piece, reach, keys, total}
+use Rattle.code_gen.specs.Drafts.{Drafts, end_by, key_piece, reach, keys, total}
 use Rattle.code_gen.specs.Depths.{depth}
 use Rattle.code_gen.specs.Limits.{all_low, IsShort}
 use Rattle.code_gen.specs.Gathers.{body_at, longer}
-use Rattle.code_gen.proofs.Closed.{Grown, calls_grown, reach_grown, get_front, get_some}
-use Rattle.code_gen.proofs.Worklist.{reach_done, reach_step, take_past, next_taken, next_pieces, next_total, reach_total, taken_some, calls_long}
+use Rattle.code_gen.proofs.Closed.{reach_grown, get_front, get_some}
+use Rattle.code_gen.proofs.Worklist.{reach_done, reach_step, take_past, next_taken, next_total, reach_total, taken_some, calls_long}
 
 -- an entry of the code's list, as the definitions see it
 pub get_mapped : {A B : Type 0} (f : A → B) (xs : List A) (k : ℕ) (x : A) → k < length xs → x ≡ get_or xs k x → slice_get (map f xs) k ≡ Some (f x)

@@ -1,5 +1,5 @@
 -- How many operands there are at the places of a piece: the lengths of the lists of kinds, without the lists.
-use Rattle.std.specs.Prelude.{nat_le, Option, Some, None, if◌then◌else◌, ℕ, ◌+◌, ◌-◌, ◌≤◌, Bool, true, false, length}
+use Rattle.std.specs.Prelude.{nat_le, Option, Some, None, if◌then◌else◌, ℕ, ◌+◌, ◌-◌, Bool, true, false, length}
 use Rattle.stack_code.specs.Sorts.{Sort, One, Two, Store, Drop, SetField, SetPart, Site, SetSite, Exchange, Ask, Draw, Same, Double, FieldAt, SetFieldAt, PartAt, SetPartAt, sort}
 use Rattle.stack_code.specs.Valid.{is_nothing}
 use Rattle.code_gen.specs.Pieces.{Piece, none, seq, plain, asks, pick, only, loop, ever, out, next, gives, leaves}

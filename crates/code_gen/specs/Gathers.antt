@@ -1,5 +1,5 @@
 -- The functions of an element with their bodies, and its code, or that it is too long.
-use Rattle.std.specs.Prelude.{◌≡◌, ◌+◌, ℕ, nat_le, is_some, Option, Some, None, List, map, Result, Ok, Err, if◌then◌else◌}
+use Rattle.std.specs.Prelude.{◌≡◌, ◌+◌, ℕ, nat_le, is_some, Option, Some, None, map, Result, Ok, Err, if◌then◌else◌}
 use Rattle.feast_base.specs.declared.memory.NoMemory.{NoMemory}
 use Rattle.stack_code.specs.Machine.{CodeValue}
 use Rattle.code_gen.specs.Pieces.{Key, Piece, size}

@@ -1,5 +1,5 @@
 -- The limits of code: 65,536 instructions, and 512 operands at each place.
-use Rattle.std.specs.Prelude.{◌≡◌, ℕ, ◌≤◌, Bool, true, ◌&&◌, is_some, List, [], ◌∷◌}
+use Rattle.std.specs.Prelude.{◌≡◌, ◌≤◌, Bool, true, ◌&&◌, is_some, List, [], ◌∷◌}
 use Rattle.code_gen.specs.Pieces.{Key}
 use Rattle.code_gen.specs.Drafts.{Drafts, key_piece, keys, total}
 use Rattle.code_gen.specs.Depths.{depth}

@@ -1,4 +1,4 @@
-use Rattle.std.proofs.Common.{◌≡◌, List, map, drop}
+use Rattle.std.proofs.Common.{◌≡◌, map, drop}
 use Rattle.code_gen.specs.Pieces.{has_key}
 use Rattle.code_gen.specs.Views.{key_of}
 use Rattle.code_gen.proofs.calls.has.Given as goal

@@ -1,11 +1,11 @@
-use Rattle.std.proofs.Common.{◌≡◌, ◌≤◌, ◌<◌, ◌+◌, ◌∷◌, [], ◌++◌, map, length, sym, ap, ◌∙◌, subst, arith, Some}
-use Rattle.std.specs.Prelude.{slice_get, get_or}
+use Rattle.std.proofs.Common.{◌≡◌, ◌≤◌, ◌<◌, ◌∷◌, [], ◌++◌, map, length, ap, ◌∙◌, arith}
+use Rattle.std.specs.Prelude.{get_or}
 use Rattle.std.proofs.lemmas.List.{length-map}
 use Rattle.code_gen.specs.Drafts.{keys, value_at, function_code}
 use Rattle.code_gen.specs.Gathers.{body_at}
 use Rattle.code_gen.specs.Views.{piece_of, key_of}
 use Rattle.code_gen.proofs.Closed.{few_keys}
-use Rattle.code_gen.proofs.LayRounds.{Lays, first_lays, next_lays, lays_room, done_lays, key_base, seen_alike, get_seen, same_long, laid_same, size_same}
+use Rattle.code_gen.proofs.LayRounds.{next_lays, lays_room, done_lays, key_base, seen_alike, get_seen, same_long, laid_same, size_same}
 use Rattle.code_gen.proofs.element.lay_out.Goals as goal
 
 pub overflow_cast-len : goal.overflow_cast-len

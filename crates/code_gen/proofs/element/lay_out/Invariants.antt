@@ -1,4 +1,3 @@
-use Rattle.std.proofs.Common.{List}
 use Rattle.code_gen.specs.Views.{key_of}
 use Rattle.code_gen.proofs.LayRounds.{Lays}
 use Rattle.code_gen.proofs.element.lay_out.Given as goal

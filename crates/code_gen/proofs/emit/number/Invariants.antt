@@ -1,4 +1,4 @@
-use Rattle.std.proofs.Common.{◌≡◌, ◌≤◌, ◌+◌, List, map, length, drop}
+use Rattle.std.proofs.Common.{◌≡◌, ◌+◌, map, drop}
 use Rattle.code_gen.specs.Pieces.{key_number}
 use Rattle.code_gen.specs.Views.{key_of}
 use Rattle.code_gen.proofs.emit.number.Given as goal

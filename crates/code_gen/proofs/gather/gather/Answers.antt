@@ -1,8 +1,7 @@
-use Rattle.std.proofs.Common.{◌≡◌, ◌+◌, ◌≤◌, ◌<◌, ◌∷◌, [], ◌++◌, map, length, refl, sym, ap, ◌∙◌, subst, arith, Some}
-use Rattle.std.specs.Prelude.{slice_get}
+use Rattle.std.proofs.Common.{◌≡◌, ◌+◌, ◌≤◌, ◌<◌, ◌∷◌, [], ◌++◌, map, length, sym, ap, ◌∙◌, subst, arith}
 use Rattle.std.proofs.lemmas.List.{length-map}
 use Rattle.code_gen.specs.Pieces.{add_calls}
-use Rattle.code_gen.specs.Gathers.{body_at, longer}
+use Rattle.code_gen.specs.Gathers.{body_at}
 use Rattle.code_gen.specs.Views.{piece_of, key_of}
 use Rattle.code_gen.proofs.Rounds.{Round, first_round, next_round, done_round, long_round, full_round, get_mapped, map_one}
 use Rattle.code_gen.proofs.gather.gather.Goals as goal
