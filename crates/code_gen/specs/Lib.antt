@@ -5,3 +5,5 @@ pub mod Limits
 pub mod Runs
 pub mod Laws
 pub mod Depths
+pub mod Views
+pub mod Gathers
