@@ -18,6 +18,3 @@ mod span;
 pub use map::Map;
 pub use needs::Needs;
 pub use plane::Plane;
-
-#[cfg(test)]
-mod tests;
