@@ -8,6 +8,8 @@ pub mod Handed
 pub mod Calls
 pub mod Passed
 pub mod Machine
+pub mod Done
+pub mod Meant
 pub mod CallsRun
 pub mod Closed
 pub mod Room
