@@ -1,9 +1,8 @@
 -- The piece of a statement does what the statement means.
-use Rattle.std.proofs.Common.{◌≡◌, ℕ, zero, suc, ◌*◌, List, [], ◌∷◌, Option, Some, None, refl, sym, ap, ◌∙◌, arith, Bool, true, false}
-use Rattle.std.specs.Prelude.{slice_set, if◌then◌else◌, ℤ, pos}
+use Rattle.std.proofs.Common.{◌≡◌, ℕ, zero, suc, List, [], ◌∷◌, Option, Some, None, refl, sym, ap, ◌∙◌, Bool, true, false}
+use Rattle.std.specs.Prelude.{slice_set, if◌then◌else◌, pos}
 use Rattle.bit_field.specs.Atom.{AtomValue}
 use Rattle.window_sites.specs.Window.{put_at}
-use Rattle.sat_math.specs.declared.NumType.{NumType}
 use Rattle.datum.specs.declared.Datum.{Datum}
 use Rattle.datum.specs.declared.Datum.TheVariants.{Number, Atom}
 use Rattle.ulam_tree.specs.declared.resolved.Ty.{Ty}
@@ -17,15 +16,15 @@ use Rattle.ulam_meaning.specs.Runs as m
 use Rattle.ulam_meaning.specs.Runs.{Event, Store, Outcome, Way, Calls}
 use Rattle.ulam_meaning.specs.Places.{bit_at, read, read_at, write, write_at}
 use Rattle.ulam_meaning.specs.Expressions.{call, has_kind, eval, arguments}
-use Rattle.ulam_meaning.specs.Statements.{holds, choose, test, loop as loop_of, updated, assign, if_any, one, count_op, declare, give_back, exec, exec_part, exec_all}
+use Rattle.ulam_meaning.specs.Statements.{holds, choose, loop as loop_of, updated, assign, if_any, one, count_op, declare, give_back, exec, exec_part, exec_all}
 use Rattle.ulam_meaning.specs.Events.{answer}
-use Rattle.stack_code.specs.Machine.{Led, Goes, at_site, at_index}
+use Rattle.stack_code.specs.Machine.{Goes, at_index}
 use Rattle.stack_code.specs.declared.instr.Instr.TheVariants.{PushNum, Pop, StoreLocal, Dup, IsKind}
-use Rattle.code_gen.specs.Pieces.{Piece, none, seq, plain, pick, only, loop, ever}
+use Rattle.code_gen.specs.Pieces.{Piece, none, seq, plain, pick, only}
 use Rattle.code_gen.specs.Drafts.{end_by}
-use Rattle.code_gen.specs.Scheme.{answer_of, pair_instr, blank_instr, fit, load, load_at, store, store_at, call_piece, if_nothing, expr_piece, args_piece, cond_piece, index_piece, update_instr, assign_piece, declare_piece, give_piece, return_piece, loop_piece, statement_piece, part_piece, body_piece}
-use Rattle.code_gen.specs.Runs.{Now, Out, goes, leaps, nexts, hands, fails, stops, lacks, out_then, out_again, after_work, on_zero, by_bool, turn_out, with_turns, rounds, ever_rounds, Asks, run}
-use Rattle.code_gen.proofs.Meant.{at, out_of, value_out, pushed, call_out, CalleeAnswers, SameCalls, pair_sort, seq_with, value_same, two_same, site_same, index_same, part_same, self_same, load_same, load_at_same, fit_same, kind_same, call_gives, call_same, callee_drop, expr_same, args_same}
+use Rattle.code_gen.specs.Scheme.{answer_of, blank_instr, fit, load, load_at, store, store_at, call_piece, if_nothing, expr_piece, args_piece, cond_piece, index_piece, update_instr, assign_piece, declare_piece, give_piece, return_piece, loop_piece, statement_piece, part_piece, body_piece}
+use Rattle.code_gen.specs.Runs.{Now, Out, goes, leaps, nexts, hands, out_then, out_again, on_zero, by_bool, turn_out, with_turns, rounds, ever_rounds, Asks, run}
+use Rattle.code_gen.proofs.Meant.{at, out_of, value_out, pushed, CalleeAnswers, SameCalls, pair_sort, seq_with, value_same, two_same, site_same, index_same, part_same, self_same, load_same, load_at_same, fit_same, kind_same, call_gives, call_same, callee_drop, expr_same, args_same}
 
 -- how a statement ends, in a function of a result
 abbrev pub way_then : Program → ℕ → Ty → Way → Store → Out
@@ -143,18 +142,18 @@ module _ (e : Event) (hh : Asks) (z : Scene) where
       let change = λ (x : Datum) (y : Datum) (s2 : Store). m.and_then (updated o (spot_type z l) w x y s2) last in
       let q = seq (plain (update_instr o (spot_type z l) w)) (store z l) in
       value_same e hh [] way (at e.seed [] s) (load l) (seq a q) (read e l s) (λ x s1. m.and_then (value s1) (change x)) (load_same e hh l [] s) (λ x s1.
-        value_same e hh (x ∷ []) way (at e.seed (x ∷ []) s1) a q (value s1) (change x) (hv (x ∷ []) s1) (λ y s2. update_same [] o (spot_type z l) w (store z l) x y s2 last (λ v s3. store_same l v s3)))
+      value_same e hh (x ∷ []) way (at e.seed (x ∷ []) s1) a q (value s1) (change x) (hv (x ∷ []) s1) (λ y s2. update_same [] o (spot_type z l) w (store z l) x y s2 last (λ v s3. store_same l v s3)))
   assign_same l (Some i) (Some index) None w a value s hi hv =
       value_same e hh [] way (at e.seed [] s) i (seq a (store_at l)) (index s) (λ u s1. m.and_then (value s1) (λ x s2. write_at e l u x s2)) (hi [] s) (λ u s1.
-        value_same e hh (u ∷ []) way (at e.seed (u ∷ []) s1) a (store_at l) (value s1) (λ x s2. write_at e l u x s2) (hv (u ∷ []) s1) (λ x s2. store_at_same l u x s2))
+      value_same e hh (u ∷ []) way (at e.seed (u ∷ []) s1) a (store_at l) (value s1) (λ x s2. write_at e l u x s2) (hv (u ∷ []) s1) (λ x s2. store_at_same l u x s2))
   assign_same l (Some i) (Some index) (Some o) w a value s hi hv =
       let last = λ (u : Datum) (v : Datum) (s4 : Store). write_at e l u v s4 in
       let change = λ (u x : Datum) (y : Datum) (s3 : Store). m.and_then (updated o (spot_type z l) w x y s3) (last u) in
       let q = seq (plain (update_instr o (spot_type z l) w)) (store_at l) in
       value_same e hh [] way (at e.seed [] s) i (seq (plain Dup) (seq (load_at l) (seq a q))) (index s) (λ u s1. m.and_then (read_at e l u s1) (λ x s2. m.and_then (value s2) (change u x))) (hi [] s) (λ u s1.
-        twice_same l (seq (load_at l) (seq a q)) u s1 (λ x s2. m.and_then (value s2) (change u x)) (
-          value_same e hh (u ∷ []) way (at e.seed (u ∷ u ∷ []) s1) (load_at l) (seq a q) (read_at e l u s1) (λ x s2. m.and_then (value s2) (change u x)) (load_at_same e hh l u (u ∷ []) s1) (λ x s2.
-            value_same e hh (x ∷ u ∷ []) way (at e.seed (x ∷ u ∷ []) s2) a q (value s2) (change u x) (hv (x ∷ u ∷ []) s2) (λ y s3. update_same (u ∷ []) o (spot_type z l) w (store_at l) x y s3 (last u) (λ v s4. store_at_same l u v s4)))))
+      twice_same l (seq (load_at l) (seq a q)) u s1 (λ x s2. m.and_then (value s2) (change u x)) (
+      value_same e hh (u ∷ []) way (at e.seed (u ∷ u ∷ []) s1) (load_at l) (seq a q) (read_at e l u s1) (λ x s2. m.and_then (value s2) (change u x)) (load_at_same e hh l u (u ∷ []) s1) (λ x s2.
+      value_same e hh (x ∷ u ∷ []) way (at e.seed (x ∷ u ∷ []) s2) a q (value s2) (change u x) (hv (x ∷ u ∷ []) s2) (λ y s3. update_same (u ∷ []) o (spot_type z l) w (store_at l) x y s3 (last u) (λ v s4. store_at_same l u v s4)))))
   assign_same l None (Some index) o w a value s hi hv = absurd hi
   assign_same l (Some i) None o w a value s hi hv = absurd hi
 
@@ -251,14 +250,14 @@ module _ (e : Event) (hh : Asks) (z : Scene) where
     declare_same ty i (Some a) s =
         let last = λ (v : Datum) (s2 : Store). m.gives m.goes_on (m.with_local s2 i v) in
         value_same e hh [] way (at e.seed [] s) (expr_piece z a) (seq (fit (number_type ty)) (plain (StoreLocal i))) (eval e z h a s) (λ x s1. m.and_then (m.cast_to (number_type ty) x s1) last) (expr_same e hh z h sc a [] s) (λ x s1.
-          value_same e hh [] way (at e.seed (x ∷ []) s1) (fit (number_type ty)) (plain (StoreLocal i)) (m.cast_to (number_type ty) x s1) last (fit_same e hh (number_type ty) x [] s1) (λ v s2. refl))
+        value_same e hh [] way (at e.seed (x ∷ []) s1) (fit (number_type ty)) (plain (StoreLocal i)) (m.cast_to (number_type ty) x s1) last (fit_same e hh (number_type ty) x [] s1) (λ v s2. refl))
 
     return_same : (a : Option t.Expr) (s : Store) → run e.acting hh (return_piece z a) (at e.seed [] s) ≡ ends (give_back e z h a s)
     return_same None s = end_same z.result s
     return_same (Some a) s =
         let last = λ (v : Datum) (s2 : Store). m.gives (m.returns (Some v)) s2 in
         value_same e hh [] way (at e.seed [] s) (expr_piece z a) (seq (fit (number_type z.result)) (give_piece z.result)) (eval e z h a s) (λ x s1. m.and_then (m.cast_to (number_type z.result) x s1) last) (expr_same e hh z h sc a [] s) (λ x s1.
-          value_same e hh [] way (at e.seed (x ∷ []) s1) (fit (number_type z.result)) (give_piece z.result) (m.cast_to (number_type z.result) x s1) last (fit_same e hh (number_type z.result) x [] s1) (λ v s2. give_same z.result v s2))
+        value_same e hh [] way (at e.seed (x ∷ []) s1) (fit (number_type z.result)) (give_piece z.result) (m.cast_to (number_type z.result) x s1) last (fit_same e hh (number_type z.result) x [] s1) (λ v s2. give_same z.result v s2))
 
     loop_same : (c : Option t.Expr) (a b : Piece) (ae be : Store → Outcome Way) → ((s : Store) → run e.acting hh a (at e.seed [] s) ≡ ends (ae s)) → ((s : Store) → run e.acting hh b (at e.seed [] s) ≡ ends (be s)) → (s : Store) → run e.acting hh (loop_piece (index_piece z c) a b) (at e.seed [] s) ≡ ends (loop_of (suc s.turns) (if_any e z h c) ae be s)
     loop_same None a b ae be ha hb s = ever_same (suc s.turns) a b ae be ha hb s
@@ -280,7 +279,7 @@ module _ (e : Event) (hh : Asks) (z : Scene) where
       statement_same (t.counts l up) s = assign_same (spot z.program z.base l.path.steps) (index_piece z l.index) (if_any e z h l.index) (Some (count_op up)) 32 (plain (PushNum (pos 1))) one s (index_is l.index) (λ st s1. refl)
       statement_same (t.does x es) s =
           let c = callee z.program z.base x.steps in
-          seq_with e hh (λ v s. at e.seed (pushed v []) s) way (CalleeAnswers e hh z.program c) (at e.seed [] s) (call_piece z.program c (args_piece z es)) (if_nothing z.program c none (plain Pop)) (call e z.program h c (λ cs. arguments e z h es cs s)) (λ v s1. m.gives m.goes_on s1) (call_gives e hh z h sc c (λ cs. arguments e z h es cs s)) (call_same e hh z h sc c es [] s (λ cs. args_same e hh z h sc es cs [] s)) (λ v s1 k. callee_drop e hh z h sc c v [] s1 k)
+          seq_with e hh (λ v s. at e.seed (pushed v []) s) way (CalleeAnswers z.program c) (at e.seed [] s) (call_piece z.program c (args_piece z es)) (if_nothing z.program c none (plain Pop)) (call e z.program h c (λ cs. arguments e z h es cs s)) (λ v s1. m.gives m.goes_on s1) (call_gives e hh z h sc c (λ cs. arguments e z h es cs s)) (call_same e hh z h sc c es [] s (λ cs. args_same e hh z h sc es cs [] s)) (λ v s1 k. callee_drop e hh z h sc c v [] s1 k)
 
       pub each_part_same : (x : t.Part) (s : Store) → run e.acting hh (part_piece z x) (at e.seed [] s) ≡ ends (exec_part e z h x s)
       each_part_same t.no_part s = refl

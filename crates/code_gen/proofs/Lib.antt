@@ -9,6 +9,7 @@ pub mod Calls
 pub mod Passed
 pub mod Machine
 pub mod Done
+pub mod EventsMeant
 pub mod Meant
 pub mod CallsRun
 pub mod Closed

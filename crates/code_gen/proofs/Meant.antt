@@ -1,5 +1,5 @@
 -- The piece of an expression does what the expression means.
-use Rattle.std.proofs.Common.{◌≡◌, ℕ, zero, suc, ◌+◌, ◌*◌, List, [], ◌∷◌, length, Option, Some, None, refl, sym, ap, ◌∙◌, subst, arith, Bool, true, false}
+use Rattle.std.proofs.Common.{◌≡◌, ℕ, zero, suc, List, [], ◌∷◌, length, Option, Some, None, refl, ap, ◌∙◌, arith, Bool, true, false}
 use Rattle.std.specs.Prelude.{slice_get, nat_lt, nat_le, nat_eq, if◌then◌else◌, ℤ, pos, negsuc, neg_ℤ, ◌%◌}
 use mathlib.Core.List.{reverse_aux}
 use Rattle.bit_field.specs.Atom.{AtomValue}
@@ -30,12 +30,12 @@ use Rattle.ulam_meaning.specs.Runs.{Event, Store, Outcome, Calls}
 use Rattle.ulam_meaning.specs.Places.{on_part, bit_at, read, read_at}
 use Rattle.ulam_meaning.specs.Expressions.{is_empty_at, ask, itself_drawn, one_in, draw, exchange, built, casts, built_casts, with_first, call, value_given, both, either, operate, has_kind, eval, eval_form, arguments}
 use Rattle.stack_code.specs.Sorts.{Sort, One, Two, Ask, Draw, sort}
-use Rattle.stack_code.specs.Machine.{Held, Led, Goes, Fails, Ends, Lacks, work, at_self, own_of, on_own, at_site, at_index, at_bound, on_slot, atom_in, on_part as on_part_of, result_of}
+use Rattle.stack_code.specs.Machine.{Held, Led, Goes, Fails, work, at_self, on_own, at_site, at_index, at_bound, on_slot, atom_in, on_part as on_part_of, result_of}
 use Rattle.stack_code.specs.declared.instr.Instr.{Instr}
 use Rattle.stack_code.specs.declared.instr.Instr.TheVariants.{PushNum, Pop, Fit, AddI, SubI, MulI, DivI, RemI, AddU, SubU, MulU, DivU, RemU, AddL, SubL, MulL, DivL, RemL, AddV, SubV, MulV, DivV, RemV, NotB, IsKind, Swap, IsLive, IsEmpty, RandCreate, RandOneIn}
 use Rattle.code_gen.specs.Pieces.{Piece, none, seq, plain, asks, pick}
 use Rattle.code_gen.specs.Scheme.{by_arith, pair_instr, minus_instr, prefix_instr, built_instr, nowhere, fit, load, load_at, call_piece, if_void, if_swap, if_nothing, expr_piece, form_piece, args_piece}
-use Rattle.code_gen.specs.Runs.{Now, Out, goes, leaps, nexts, hands, fails, stops, lacks, out_then, after_work, Asks, run}
+use Rattle.code_gen.specs.Runs.{Now, Out, goes, fails, lacks, out_then, after_work, Asks, run}
 
 -- Outcomes as ends of pieces
 
@@ -136,6 +136,25 @@ pub prefix_sort : (o : PrefixOp) (ty : Ty) → sort (prefix_instr o ty) ≡ One 
 prefix_sort pre.Minus ty = minus_sort (nat_le (width_of ty) 32)
 prefix_sort pre.Not ty = refl
 prefix_sort pre.Flip ty = refl
+
+-- What calls give: a value exactly where the function's type has one
+
+abbrev pub Answers : Ty → Option Datum → Type 0
+Answers y.Nothing None = Unit {0}
+Answers y.Nothing (Some x) = ⊥
+Answers ty None = ⊥
+Answers ty (Some x) = Unit {0}
+
+abbrev pub BuiltAnswers : Built → Option Datum → Type 0
+BuiltAnswers b.Swap None = Unit {0}
+BuiltAnswers b.Swap (Some x) = ⊥
+BuiltAnswers c None = ⊥
+BuiltAnswers c (Some x) = Unit {0}
+
+abbrev pub CalleeAnswers : Program → Callee → Option Datum → Type 0
+CalleeAnswers g (called f) v = Answers (function_of g f).result v
+CalleeAnswers g (built_in c) v = BuiltAnswers c v
+CalleeAnswers g no_callee v = ⊥
 
 module _ (e : Event) (hh : Asks) where
   -- a run, and a piece that goes on with what it gives
@@ -316,25 +335,6 @@ module _ (e : Event) (hh : Asks) where
   built_same b.Create xs st s l = one_arg RandCreate (λ x. draw e itself_drawn x s) xs st s l (λ x. draw_same RandCreate itself_drawn refl x st s)
   built_same b.OneIn xs st s l = one_arg RandOneIn (λ x. draw e one_in x s) xs st s l (λ x. draw_same RandOneIn one_in refl x st s)
 
-  -- What calls give: a value exactly where the function's type has one
-
-  abbrev pub Answers : Ty → Option Datum → Type 0
-  Answers y.Nothing None = Unit {0}
-  Answers y.Nothing (Some x) = ⊥
-  Answers ty None = ⊥
-  Answers ty (Some x) = Unit {0}
-
-  abbrev pub BuiltAnswers : Built → Option Datum → Type 0
-  BuiltAnswers b.Swap None = Unit {0}
-  BuiltAnswers b.Swap (Some x) = ⊥
-  BuiltAnswers c None = ⊥
-  BuiltAnswers c (Some x) = Unit {0}
-
-  abbrev pub CalleeAnswers : Program → Callee → Option Datum → Type 0
-  CalleeAnswers g (called f) v = Answers (function_of g f).result v
-  CalleeAnswers g (built_in c) v = BuiltAnswers c v
-  CalleeAnswers g no_callee v = ⊥
-
   number_gives : {Y : Type 0} (P : Y → Type 0) (x : Datum) (go : ℤ → Outcome Y) → ((v : ℤ) → Gives P (go v)) → Gives P (m.on_number x go)
   number_gives P (Number v) go h = h v
   number_gives P (Atom a) go h = tt
@@ -470,7 +470,7 @@ module _ (e : Event) (hh : Asks) where
           let f = operator o (arith_of ty) (width_of ty) in
           let i = pair_instr o (arith_of ty) (width_of ty) in
           value_same st (λ x s. goes (at e.seed (x ∷ st) s)) (at e.seed st s) (expr_piece z a) (seq (expr_piece z b) (plain i)) (eval e z h a s) (λ x s1. m.and_then (eval e z h b s1) (λ y s2. operate f x y s2)) (expr_same a st s) (λ x s1.
-            value_same (x ∷ st) (λ x s. goes (at e.seed (x ∷ st) s)) (at e.seed (x ∷ st) s1) (expr_piece z b) (plain i) (eval e z h b s1) (λ y s2. operate f x y s2) (expr_same b (x ∷ st) s1) (λ y s2. two_same i f (pair_sort o (arith_of ty) (width_of ty)) x y st s2))
+          value_same (x ∷ st) (λ x s. goes (at e.seed (x ∷ st) s)) (at e.seed (x ∷ st) s1) (expr_piece z b) (plain i) (eval e z h b s1) (λ y s2. operate f x y s2) (expr_same b (x ∷ st) s1) (λ y s2. two_same i f (pair_sort o (arith_of ty) (width_of ty)) x y st s2))
       form_same (t.is a c p) ty st s = value_same st (λ x s. goes (at e.seed (x ∷ st) s)) (at e.seed st s) (expr_piece z a) (plain (IsKind (type_number z.program c.ty))) (eval e z h a s) (λ x s1. has_kind (type_number z.program c.ty) x s1) (expr_same a st s) (λ x s1. kind_same (type_number z.program c.ty) x st s1)
 
       pub args_same : (es : t.Args) (cs : List (Option NumType)) (st : List Datum) (s : Store) → run e.acting hh (args_piece z es cs) (at e.seed st s) ≡ args_out e.seed st (arguments e z h es cs s)
@@ -480,4 +480,4 @@ module _ (e : Event) (hh : Asks) where
       args_same (t.arg a es) (c ∷ cs) st s =
           let rest = λ (y : Datum) (s2 : Store). with_first y (arguments e z h es cs s2) in
           value_same st (λ xs s. goes (at e.seed (reverse_aux xs st) s)) (at e.seed st s) (expr_piece z a) (seq (fit c) (args_piece z es cs)) (eval e z h a s) (λ x s1. m.and_then (m.cast_to c x s1) rest) (expr_same a st s) (λ x s1.
-            value_same st (λ xs s. goes (at e.seed (reverse_aux xs st) s)) (at e.seed (x ∷ st) s1) (fit c) (args_piece z es cs) (m.cast_to c x s1) rest (fit_same c x st s1) (λ y s2. args_same es cs (y ∷ st) s2 ∙ first_out y st (arguments e z h es cs s2)))
+          value_same st (λ xs s. goes (at e.seed (reverse_aux xs st) s)) (at e.seed (x ∷ st) s1) (fit c) (args_piece z es cs) (m.cast_to c x s1) rest (fit_same c x st s1) (λ y s2. args_same es cs (y ∷ st) s2 ∙ first_out y st (arguments e z h es cs s2)))

@@ -1,5 +1,5 @@
 -- The compile scheme: the piece of each form of a tree, and the drafts of a program's functions.
-use Rattle.std.specs.Prelude.{ℕ, nat_le, Bool, true, false, ℤ, pos, List, [], ◌∷◌, map, sum, Option, Some, None, if◌then◌else◌}
+use Rattle.std.specs.Prelude.{ℕ, nat_le, Bool, true, false, pos, List, [], ◌∷◌, map, Option, Some, None}
 use Rattle.sat_math.specs.declared.NumType.{NumType}
 use Rattle.sat_math.specs.declared.Arith.{Arith}
 use Rattle.sat_math.specs.declared.Arith.TheVariants.{Int32, Unsigned32, Int64, Unsigned64}
@@ -13,8 +13,8 @@ use Rattle.ulam_tree.specs.declared.op.PairOp.{PairOp}
 use Rattle.ulam_tree.specs.declared.op.PairOp.TheVariants as op
 use Rattle.ulam_tree.specs.Typed as t
 use Rattle.ulam_tree.specs.Locals.{all_locals}
-use Rattle.ulam_meaning.specs.Programs.{Program, Function, type_number}
-use Rattle.ulam_meaning.specs.Paths.{Spot, itself, local, member, part, window, constant, nothing, spot, Key, function_of, Callee, called, built_in, no_callee, callee, Scene, scene_of, spot_type}
+use Rattle.ulam_meaning.specs.Programs.{Program, type_number}
+use Rattle.ulam_meaning.specs.Paths.{Spot, itself, local, member, part, window, constant, nothing, spot, function_of, Callee, called, built_in, no_callee, callee, Scene, scene_of, spot_type}
 use Rattle.ulam_meaning.specs.Values.{truth_of, number_type, width_of, arith_of, arith_with}
 use Rattle.ulam_meaning.specs.Expressions.{casts, built_casts}
 use Rattle.ulam_meaning.specs.Statements.{count_op}
@@ -26,7 +26,7 @@ use Rattle.stack_code.specs.declared.instr.Answer.TheVariants.{Nothing, Number a
 use Rattle.stack_code.specs.declared.instr.Instr.{Instr}
 use Rattle.stack_code.specs.declared.instr.Instr.TheVariants.{PushNum, PushAtom, LoadLocal, StoreLocal, Pop, LoadField, StoreField, LoadPart, StorePart, LoadSelf, LoadSite, StoreSite, Swap, IsLive, IsEmpty, RandCreate, RandOneIn, IsKind, AddI, SubI, MulI, DivI, RemI, AddU, SubU, MulU, DivU, RemU, NegI, And, Or, Xor, NotW, Shl, Shr, Fit, NotB, Eq, Ne, Lt, Le, Gt, Ge, AddL, SubL, MulL, DivL, RemL, AddV, SubV, MulV, DivV, RemV, NegL, Dup, LoadFieldAt, StoreFieldAt, LoadPartAt, StorePartAt, Jump}
 use Rattle.code_gen.specs.Pieces.{Piece, none, seq, plain, asks, pick, only, loop, ever, out, next, gives, leaves}
-use Rattle.code_gen.specs.Drafts.{Draft, Drafts, end_by}
+use Rattle.code_gen.specs.Drafts.{Drafts, end_by}
 
 -- Types
 
