@@ -14,7 +14,7 @@ use Rattle.code_gen.proofs.Places.{At, HasPiece}
 use Rattle.code_gen.proofs.Comes.{Comes, one, comes_to}
 use Rattle.code_gen.proofs.Handed.{Right, run_right}
 use Rattle.code_gen.proofs.Machine.{here, Does, does_on, AsksDo, piece_does}
-use Rattle.code_gen.proofs.Calls.{end_fits, Ended, end_ended, finish_ended, finish_right, asks_kept, asks_none}
+use Rattle.code_gen.proofs.CallEnds.{end_fits, Ended, end_ended, finish_ended, finish_right, asks_kept, asks_none}
 
 -- where the functions of a code stand, and that they fit
 pub record HasFunctions (g : Drafts) (c : CodeValue) (ks : List Key) : Type 0 where

@@ -13,7 +13,7 @@ use Rattle.code_gen.specs.Runs.{Out, goes, leaps, nexts, hands, fails, stops, la
 use Rattle.code_gen.proofs.Places.{HasPiece}
 use Rattle.code_gen.proofs.Comes.{Comes, IsEnd, runs_ends}
 use Rattle.code_gen.proofs.Machine.{here, Does}
-use Rattle.code_gen.proofs.Calls.{Ended, end_ended, finish_ended}
+use Rattle.code_gen.proofs.CallEnds.{Ended, end_ended, finish_ended}
 use Rattle.code_gen.proofs.CallsRun.{HasFunctions, function_does, asks_do}
 use Rattle.code_gen.proofs.Laid.{Stands, stands_front, stands_past, stands_all, lay_length, has_piece}
 use Rattle.code_gen.proofs.Passed.{FineKey, FineKeys, FineCode, compiled_valid}

@@ -5,7 +5,7 @@ pub mod Lows
 pub mod Comes
 pub mod Turns
 pub mod Handed
-pub mod Calls
+pub mod CallEnds
 pub mod Passed
 pub mod Machine
 pub mod Done
@@ -17,3 +17,6 @@ pub mod Room
 pub mod Events
 pub mod Worklist
 mod Worked
+pub mod Rounds
+pub mod LayRounds
+pub mod Built

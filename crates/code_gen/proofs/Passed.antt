@@ -12,14 +12,17 @@ use Rattle.stack_code.specs.declared.instr.Answer.{Answer}
 use Rattle.stack_code.specs.declared.instr.Answer.TheVariants.{Nothing, Number as NumberBack, Atom as AtomBack}
 use Rattle.stack_code.specs.declared.instr.Instr.{Instr}
 use Rattle.stack_code.specs.declared.instr.Instr.TheVariants.{PushNum, PushAtom, Return, ReturnVoid}
+use Rattle.stack_code.proofs.Bound.{is_some_gives}
+use Rattle.list_laws.proofs.Tests.{both}
 use Rattle.stack_code.proofs.Accepts.{Reached, Shapes, Come, accepts, pass_is, ex_of}
 use Rattle.code_gen.specs.Pieces.{Key, Piece, seq, plain, gives, leaves, size}
 use Rattle.code_gen.specs.Drafts.{Drafts, slots_of, end_by, end_piece, key_piece, keys, function_code, codes, value_at, values, code_of, total}
 use Rattle.code_gen.specs.Kinds.{Setting, setting_of, ends, shapes, Fits, Shallow}
-use Rattle.code_gen.specs.Limits.{AllLow, IsShort}
+use Rattle.code_gen.specs.Limits.{all_low, IsShort}
+use Rattle.code_gen.specs.Depths.{depth}
 use Rattle.code_gen.proofs.Places.{At, HasPiece, Here, HasKinds}
-use Rattle.code_gen.proofs.Calls.{end_fits}
-use Rattle.code_gen.proofs.Lows.{low_gives, shallow_join}
+use Rattle.code_gen.proofs.CallEnds.{end_fits}
+use Rattle.code_gen.proofs.Lows.{depth_gives, shallow_join}
 use Rattle.code_gen.proofs.Fine.{Agrees, Fines, Target, fines_one, fines_head, fines_join, fine_falls, reached_falls, fine_ends, leads_by, begins, piece_fine, plain_leads, free_at}
 use Rattle.code_gen.proofs.Laid.{Stands, stands_front, stands_past, stands_all, lay_length, Called, has_piece, shapes_length, shallow_front, shallow_back, shape_in, has_kinds}
 
@@ -161,7 +164,7 @@ end_is : (g : Drafts) (fs : List Key) (len p : ℕ) → p + total g fs ≡ len �
 end_is g [] len p e = omega (arith, e)
 end_is g (f ∷ fs) len p e = refl
 
-code_length : (g : Drafts) (ks : List Key) (p : ℕ) (fs : List Key) → length (codes g ks p fs) ≡ total g fs
+pub code_length : (g : Drafts) (ks : List Key) (p : ℕ) (fs : List Key) → length (codes g ks p fs) ≡ total g fs
 code_length g ks p [] = refl
 code_length g ks p (f ∷ fs) = omega (arith, length-append (function_code g ks p f) (codes g ks (p + size (key_piece g f)) fs), lay_length ks (key_piece g f) p (p + size (g f).body) (p + size (g f).body), code_length g ks (p + size (key_piece g f)) fs)
 
@@ -218,12 +221,14 @@ length_yes : (n : ℕ) → 1 ≤ n → n ≤ 65536 → length_fits n ≡ true
 length_yes n lo hi = ap (λ (b : Bool). if b then nat_le n 65536 else false) (le-leb 1 n lo) ∙ le-leb n 65536 hi
 
 -- no place has too many operands
-all_shallow : (g : Drafts) (ks fs : List Key) → FineKeys g ks fs → AllLow g fs → Shallow (all_shapes g fs)
+all_shallow : (g : Drafts) (ks fs : List Key) → FineKeys g ks fs → all_low g fs ≡ true → Shallow (all_shapes g fs)
 all_shallow g ks [] fk low = tt
 all_shallow g ks (f ∷ fs) fk low =
     let n = setting_of g f in
     let fit : Fits n (key_piece g f) [] = (fk.0.fits, subst (Fits n (end_piece (g f))) (sym fk.0.stops) (end_fits n (g f).answer (g f).blank refl)) in
-    shallow_join (shapes n (key_piece g f) []) (all_shapes g fs) (low_gives n (key_piece g f) [] fit low.0) (all_shallow g ks fs fk.1 low.1)
+    let x = both (is_some (depth g (key_piece g f) 0)) (all_low g fs) low in
+    let d = is_some_gives (depth g (key_piece g f) 0) x.0 in
+    shallow_join (shapes n (key_piece g f) []) (all_shapes g fs) (depth_gives n (key_piece g f) [] d.0 fit d.1).1 (all_shallow g ks fs fk.1 x.1)
 
 -- what the code of an element wants of its functions
 pub record FineCode (g : Drafts) (main : Key) : Type 0 where

@@ -8,7 +8,7 @@ use Rattle.code_gen.specs.Kinds.{Setting, setting_of, ends, Fits}
 use Rattle.code_gen.specs.Limits.{IsShort}
 use Rattle.code_gen.specs.Laws.{IsReady}
 use Rattle.code_gen.proofs.Handed.{top_fits}
-use Rattle.code_gen.proofs.Calls.{end_fits}
+use Rattle.code_gen.proofs.CallEnds.{end_fits}
 use Rattle.code_gen.proofs.Laid.{Called}
 use Rattle.code_gen.proofs.Passed.{FineKeys, FineCode}
 use Rattle.code_gen.proofs.Closed.{keys_closed, keys_first, get_some}

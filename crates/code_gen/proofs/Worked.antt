@@ -64,7 +64,7 @@ two_ready = record { good = λ f room. good_at f.function f.class f.base; room =
 
 two_short : IsShort two (key 0)
 unfolding two draft_at behave less key keys reach
-two_short = record { few = omega arith; low = (((((omega arith, omega arith), (omega arith, omega arith, ((omega arith, omega arith), omega arith), tt)), omega arith)), (((((omega arith, omega arith), omega arith), omega arith), (omega arith, omega arith)), tt)) }
+two_short = record { few = omega arith; low = refl }
 
 -- a window whose atoms are all of type 1, at live sites
 full : WindowValue

@@ -4,7 +4,7 @@ use Rattle.std.specs.Prelude.{slice_get, map}
 use Rattle.std.proofs.lemmas.List.{length-take}
 use Rattle.code_gen.specs.Pieces.{Key, Piece, size, add_calls}
 use Rattle.code_gen.specs.Drafts.{Drafts, key_piece, on_key, reach, total}
-use Rattle.code_gen.proofs.Closed.{Grown, calls_grown, reach_grown, few_keys}
+use Rattle.code_gen.proofs.Closed.{get_front, get_some, Grown, calls_grown, reach_grown, few_keys}
 
 get_past : (ks : List Key) (k : ℕ) → length ks ≤ k → slice_get ks k ≡ None
 get_past [] k le = refl
@@ -17,12 +17,17 @@ take_past [] (suc k) le = refl
 take_past (x ∷ ks) zero le = absurd (omega arith)
 take_past (x ∷ ks) (suc k) le = ap (λ l. x ∷ l) (take_past ks k (omega arith))
 
-take_next : (ks ms : List Key) (k : ℕ) (f : Key) → slice_get ks k ≡ Some f → take (suc k) (ks ++ ms) ≡ take k ks ++ (f ∷ [])
-take_next [] ms k f e = cc
-take_next (x ∷ ks) ms zero f e = let s : x ≡ f = cc in ap (λ x. x ∷ []) s
-take_next (x ∷ ks) ms (suc k) f e = ap (λ l. x ∷ l) (take_next ks ms k f e)
+pub take_one : {A : Type 0} (xs : List A) (k : ℕ) (x : A) → slice_get xs k ≡ Some x → take (suc k) xs ≡ take k xs ++ (x ∷ [])
+take_one [] k x e = cc
+take_one (y ∷ xs) zero x e = let s : y ≡ x = cc in ap (λ y. y ∷ []) s
+take_one (y ∷ xs) (suc k) x e = ap (λ l. y ∷ l) (take_one xs k x e)
 
-total_join : (g : Drafts) (a b : List Key) → total g (a ++ b) ≡ total g a + total g b
+take_more : (xs ys : List Key) (k : ℕ) → k ≤ length xs → take k (xs ++ ys) ≡ take k xs
+take_more xs ys zero le = refl
+take_more [] ys (suc k) le = absurd (omega arith)
+take_more (x ∷ xs) ys (suc k) le = ap (λ l. x ∷ l) (take_more xs ys k (omega arith))
+
+pub total_join : (g : Drafts) (a b : List Key) → total g (a ++ b) ≡ total g a + total g b
 total_join g [] b = omega arith
 total_join g (f ∷ a) b = omega (arith, total_join g a b)
 
@@ -30,7 +35,7 @@ map_join : {A B : Type 0} (f : A → B) (a b : List A) → map f (a ++ b) ≡ ma
 map_join f [] b = refl
 map_join f (x ∷ a) b = ap (λ l. f x ∷ l) (map_join f a b)
 
-total_take : (g : Drafts) (k : ℕ) (ks : List Key) → total g (take k ks) ≤ total g ks
+pub total_take : (g : Drafts) (k : ℕ) (ks : List Key) → total g (take k ks) ≤ total g ks
 total_take g zero ks = omega arith
 total_take g (suc k) [] = omega arith
 total_take g (suc k) (f ∷ ks) = omega (arith, total_take g k ks)
@@ -50,7 +55,10 @@ module _ (g : Drafts) where
 
   -- the pieces and the sum, one function further
   pub next_taken : (k : ℕ) (ks : List Key) (f : Key) → slice_get ks k ≡ Some f → take (suc k) (add_calls (key_piece g f) ks) ≡ take k ks ++ (f ∷ [])
-  next_taken k ks f e = let x = calls_grown (key_piece g f) ks in ap (take (suc k)) x.1 ∙ take_next ks x.0 k f e
+  next_taken k ks f e =
+      let x = calls_grown (key_piece g f) ks in
+      let lt = get_some ks k f e in
+      ap (take (suc k)) x.1 ∙ take_one (ks ++ x.0) k f (get_front ks x.0 k lt ∙ e) ∙ ap (λ l. l ++ (f ∷ [])) (take_more ks x.0 k (omega (arith, lt)))
 
   pub next_pieces : (k : ℕ) (ks : List Key) (f : Key) (qs : List Piece) → slice_get ks k ≡ Some f → qs ≡ map (key_piece g) (take k ks) → qs ++ (key_piece g f ∷ []) ≡ map (key_piece g) (take (suc k) (add_calls (key_piece g f) ks))
   next_pieces k ks f qs e h = ap (λ l. l ++ (key_piece g f ∷ [])) h ∙ sym (map_join (key_piece g) (take k ks) (f ∷ [])) ∙ ap (map (key_piece g)) (sym (next_taken k ks f e))

@@ -1,5 +1,5 @@
 -- How many operands there are at the places of a piece: the lengths of the lists of kinds, without the lists.
-use Rattle.std.specs.Prelude.{ℕ, ◌+◌, ◌-◌, ◌≤◌, Bool, true, false, length}
+use Rattle.std.specs.Prelude.{nat_le, Option, Some, None, if◌then◌else◌, ℕ, ◌+◌, ◌-◌, Bool, true, false, length}
 use Rattle.stack_code.specs.Sorts.{Sort, One, Two, Store, Drop, SetField, SetPart, Site, SetSite, Exchange, Ask, Draw, Same, Double, FieldAt, SetFieldAt, PartAt, SetPartAt, sort}
 use Rattle.stack_code.specs.Valid.{is_nothing}
 use Rattle.code_gen.specs.Pieces.{Piece, none, seq, plain, asks, pick, only, loop, ever, out, next, gives, leaves}
@@ -42,32 +42,25 @@ abbrev pub answer_count : Bool → ℕ
 answer_count true = 0
 answer_count false = 1
 
--- how many there are after a piece
-abbrev pub depth_after : Drafts → Piece → ℕ → ℕ
-depth_after g none d = d
-depth_after g (seq a b) d = depth_after g b (depth_after g a d)
-depth_after g (plain i) d = d + makes (sort i) - takes (sort i)
-depth_after g (asks f) d = answer_count (is_nothing (g f).answer) + (d - length (g f).takes)
-depth_after g (pick a b) d = depth_after g b (d - 1)
-depth_after g (only a) d = d - 1
-depth_after g (loop t a b) d = 0
-depth_after g (ever a b) d = 0
-depth_after g out d = 0
-depth_after g next d = 0
-depth_after g gives d = 0
-depth_after g leaves d = 0
+-- a place may have so many operands
+abbrev pub at_most : ℕ → Option ℕ → Option ℕ
+at_most d o = if nat_le d 512 then o else None
 
--- there are never more than 512 at a place
-abbrev pub Low : Drafts → Piece → ℕ → Type 0
-Low g none d = Unit {0}
-Low g (seq a b) d = Low g a d × Low g b (depth_after g a d)
-Low g (plain i) d = d ≤ 512
-Low g (asks f) d = d ≤ 512
-Low g (pick a b) d = (d ≤ 512) × Low g a (d - 1) × (depth_after g a (d - 1) ≤ 512) × Low g b (d - 1)
-Low g (only a) d = (d ≤ 512) × Low g a (d - 1)
-Low g (loop t a b) d = Low g t d × (depth_after g t d ≤ 512) × Low g a 0 × Low g b 0
-Low g (ever a b) d = Low g a d × Low g b 0
-Low g out d = d ≤ 512
-Low g next d = d ≤ 512
-Low g gives d = d ≤ 512
-Low g leaves d = d ≤ 512
+abbrev pub and_depth : Option ℕ → (ℕ → Option ℕ) → Option ℕ
+and_depth None go = None
+and_depth (Some d) go = go d
+
+-- how many operands there are after a piece that begins with d of them, 0 where it doesn't go on; None where some place has more than 512
+abbrev pub depth : Drafts → Piece → ℕ → Option ℕ
+depth g none d = Some d
+depth g (seq a b) d = and_depth (depth g a d) (depth g b)
+depth g (plain i) d = at_most d (Some (d + makes (sort i) - takes (sort i)))
+depth g (asks f) d = at_most d (Some (d - length (g f).takes + answer_count (is_nothing (g f).answer)))
+depth g (pick a b) d = at_most d (and_depth (depth g a (d - 1)) (λ m. at_most m (depth g b (d - 1))))
+depth g (only a) d = at_most d (and_depth (depth g a (d - 1)) (λ m. Some (d - 1)))
+depth g (loop t a b) d = and_depth (depth g t d) (λ m. at_most m (and_depth (depth g a 0) (λ m. and_depth (depth g b 0) (λ m. Some 0))))
+depth g (ever a b) d = and_depth (depth g a d) (λ m. and_depth (depth g b 0) (λ m. Some 0))
+depth g out d = at_most d (Some 0)
+depth g next d = at_most d (Some 0)
+depth g gives d = at_most d (Some 0)
+depth g leaves d = at_most d (Some 0)

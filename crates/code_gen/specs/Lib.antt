@@ -7,3 +7,5 @@ pub mod Runs
 pub mod Scheme
 pub mod Laws
 pub mod Depths
+pub mod Views
+pub mod Gathers

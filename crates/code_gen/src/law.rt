@@ -1,10 +1,10 @@
 //! Laws of code that is made of pieces.
-ghost use Rattle.std.specs.Prelude.{◌≡◌, ℕ, length};
+ghost use Rattle.std.specs.Prelude.{◌≡◌, ℕ, length, Some};
 ghost use Rattle.stack_code.specs.Valid.{Kinds};
 ghost use Rattle.code_gen.specs.Pieces.{Key, Piece};
 ghost use Rattle.code_gen.specs.Drafts.{Drafts};
 ghost use Rattle.code_gen.specs.Kinds.{Setting, ends, shapes, Fits, Shallow};
-ghost use Rattle.code_gen.specs.Depths.{depth_after, Low};
+ghost use Rattle.code_gen.specs.Depths.{depth};
 ghost use Rattle.code_gen.specs.Limits.{IsShort};
 ghost use Rattle.code_gen.specs.Laws.{IsReady, IsRight};
 
@@ -15,10 +15,9 @@ pub fn right()
     ensures { (g : Drafts) (kind : ℕ) (main : Key) → IsReady g main → IsShort g main → IsRight g kind main }
 {}
 
-/// Of a piece that fits, the depths are the lengths of the lists of kinds: after the piece, and
-/// they are low exactly where each list is no longer than 512.
+/// Of a piece that fits, the depth is the length of the list of kinds after it, and there is one
+/// exactly where no place has more than 512 operands.
 pub fn depths()
-    ensures after { (n : Setting) (q : Piece) (ks : Kinds) → Fits n q ks → length (ends n q ks) ≡ depth_after n.drafts q (length ks) }
-    ensures low { (n : Setting) (q : Piece) (ks : Kinds) → Fits n q ks → Low n.drafts q (length ks) → Shallow (shapes n q ks) }
-    ensures shallow { (n : Setting) (q : Piece) (ks : Kinds) → Fits n q ks → Shallow (shapes n q ks) → Low n.drafts q (length ks) }
+    ensures some { (n : Setting) (q : Piece) (ks : Kinds) (d : ℕ) → Fits n q ks → depth n.drafts q (length ks) ≡ Some d → (length (ends n q ks) ≡ d) × Shallow (shapes n q ks) }
+    ensures shallow { (n : Setting) (q : Piece) (ks : Kinds) → Fits n q ks → Shallow (shapes n q ks) → depth n.drafts q (length ks) ≡ Some (length (ends n q ks)) }
 {}

@@ -1,5 +1,5 @@
-use Rattle.code_gen.proofs.Lows.{ends_long, low_gives, gives_low}
+use Rattle.code_gen.proofs.Lows.{depth_gives, gives_depth}
 use Rattle.code_gen.proofs.law.depths.Goals as goal
 
 pub returns : goal.returns
-returns c = record { after = ends_long; low = low_gives; shallow = gives_low }
+returns c = record { some = depth_gives; shallow = gives_depth }

@@ -1,0 +1,6 @@
+pub mod Drafts
+pub mod Formed
+pub mod Kept
+pub mod Marks
+pub mod Takes
+pub mod Walk

@@ -1,0 +1,89 @@
+-- Marks of the places that are taken.
+use Rattle.std.proofs.Common.{ℕ, zero, suc, ◌≡◌, ◌+◌, ◌<◌, ◌≤◌, ◌==◌, Bool, true, false, ◌||◌, List, [], ◌∷◌, ◌++◌, length, get_or, take, drop, map, replicate, refl, ap, sym, ◌∙◌, arith, Option, Some, None, is_some, inl, inr, if◌then◌else◌}
+use Rattle.std.specs.List.{list_any}
+use Rattle.std.proofs.Math.ListN.{set}
+use Rattle.std.proofs.Math.Seq.{drop-cons, drop-nil}
+use Rattle.std.proofs.lemmas.List.{take_more, map-append, get_or-set_same, get_or-set_other, length-set}
+use Rattle.std.proofs.lemmas.Bool.Decides.{eqb_tells}
+use Rattle.world_text.specs.Named.{name_fault, place_of, placed, type_of, or_zero, AreMarked}
+use Rattle.bit_field.specs.Atom.{AtomValue}
+use Rattle.world_text.specs.declared.draft.RawAtom.{RawAtom}
+use Rattle.world_text.specs.declared.world.Placed.{Placed}
+
+any_append : (p : ℕ → Bool) (xs ys : List ℕ) → list_any p (xs ++ ys) ≡ (list_any p xs || list_any p ys)
+any_append p [] ys = refl
+any_append p (x ∷ xs) ys = let e = any_append p xs ys in rw e (sym (or_assoc (p x) (list_any p xs) (list_any p ys)))
+  where
+    or_assoc : (a b c : Bool) → ((a || b) || c) ≡ (a || (b || c))
+    or_assoc true b c = refl
+    or_assoc false b c = refl
+
+pub unmarked : (n : ℕ) → AreMarked (replicate n false) []
+unmarked n = λ p lt. none n p
+  where
+    none : (n p : ℕ) → get_or (replicate n false) p false ≡ false
+    none zero p = refl
+    none (suc n) zero = refl
+    none (suc n) (suc p) = none n p
+
+pub marked_more : (marks : List Bool) (before : List ℕ) (q : ℕ) → AreMarked marks before → q < length marks → AreMarked (set marks q true) (before ++ q ∷ [])
+marked_more marks before q m lt = λ p less. elim (eqb_tells q p) [
+  | inl same ↦ ap (λ k. get_or (set marks q true) k false) (sym same.1) ∙ get_or-set_same marks q true false lt ∙ sym (any_append (λ r. r == p) before (q ∷ []) ∙ rw same.0 (or_true (list_any (λ r. r == p) before)))
+  | inr other ↦ get_or-set_other marks q p true false (λ e. other.1 (sym e)) ∙ m p (omega (arith, length-set marks q true, less)) ∙ sym (any_append (λ r. r == p) before (q ∷ []) ∙ rw other.0 (or_false (list_any (λ r. r == p) before)))
+]
+  where
+    or_true : (b : Bool) → (b || true) ≡ true
+    or_true true = refl
+    or_true false = refl
+
+    or_false : (b : Bool) → (b || false) ≡ b
+    or_false true = refl
+    or_false false = refl
+
+-- what an atom after others comes to, before the rest
+abbrev pub one_atom : List (List ℕ) → ℕ → List ℕ → RawAtom → Option (ℕ × ℕ) → Option (ℕ × ℕ)
+one_atom names width before a rest =
+    if is_some (type_of names a.name) then (if list_any (λ p. p == place_of width a) before then Some (74, a.line) else rest) else Some (73, a.line)
+
+pub places_more : (width : ℕ) (atoms : List RawAtom) (i : ℕ) (a : RawAtom) → i < length atoms → get_or atoms i a ≡ a →
+    map (place_of width) (take (i + 1) atoms) ≡ map (place_of width) (take i atoms) ++ place_of width a ∷ []
+places_more width atoms i a lt is =
+    ap (map (place_of width)) (take_more atoms i a lt ∙ ap (λ z. take i atoms ++ z ∷ []) is) ∙ map-append (place_of width) (take i atoms) (a ∷ [])
+
+pub next_atom : (names : List (List ℕ)) (width : ℕ) (atoms : List RawAtom) (i : ℕ) (a : RawAtom) → i < length atoms → get_or atoms i a ≡ a →
+    name_fault names width (map (place_of width) (take i atoms)) (drop i atoms)
+    ≡ one_atom names width (map (place_of width) (take i atoms)) a (name_fault names width (map (place_of width) (take (i + 1) atoms)) (drop (i + 1) atoms))
+unfolding name_fault
+next_atom names width atoms i a lt is =
+    let before = map (place_of width) (take i atoms) in
+    let next : suc i ≡ i + 1 = omega arith in
+    ap (name_fault names width before) (drop-cons atoms i a lt ∙ ap (λ z. z ∷ drop (suc i) atoms) is)
+    ∙ ap (λ z. one_atom names width before a (name_fault names width z (drop (suc i) atoms))) (sym (places_more width atoms i a lt is))
+    ∙ ap (λ k. one_atom names width before a (name_fault names width (map (place_of width) (take (i + 1) atoms)) (drop k atoms))) next
+
+pub no_atoms : (names : List (List ℕ)) (width : ℕ) (before : List ℕ) (atoms : List RawAtom) (i : ℕ) → length atoms ≤ i → name_fault names width before (drop i atoms) ≡ None
+unfolding name_fault
+no_atoms names width before [] i le = ap (name_fault names width before) (drop-nil i)
+no_atoms names width before (a ∷ atoms) zero le = absurd (omega arith)
+no_atoms names width before (a ∷ atoms) (suc i) le = no_atoms names width before atoms i (omega arith)
+
+pub one_unknown : (names : List (List ℕ)) (width : ℕ) (before : List ℕ) (a : RawAtom) (rest : Option (ℕ × ℕ)) → is_some (type_of names a.name) ≡ false → one_atom names width before a rest ≡ Some (73, a.line)
+one_unknown names width before a rest e = rw e refl
+
+pub one_taken : (names : List (List ℕ)) (width : ℕ) (before : List ℕ) (a : RawAtom) (rest : Option (ℕ × ℕ)) → is_some (type_of names a.name) ≡ true →
+    list_any (λ p. p == place_of width a) before ≡ true → one_atom names width before a rest ≡ Some (74, a.line)
+one_taken names width before a rest e f = rw (e, f) refl
+
+pub one_fine : (names : List (List ℕ)) (width : ℕ) (before : List ℕ) (a : RawAtom) (rest : Option (ℕ × ℕ)) → is_some (type_of names a.name) ≡ true →
+    list_any (λ p. p == place_of width a) before ≡ false → one_atom names width before a rest ≡ rest
+one_fine names width before a rest e f = rw (e, f) refl
+
+-- the atoms that were found, with one more
+pub found_more : (names : List (List ℕ)) (atoms : List RawAtom) (i k : ℕ) (a : RawAtom) (t : AtomValue) (found new : List Placed) → i < length atoms → get_or atoms i a ≡ a →
+    type_of names a.name ≡ Some k → t ≡ record { kind = k; state = a.state } →
+    found ≡ map (placed names) (take i atoms) → new ≡ found ++ (record { x = a.x; y = a.y; atom = t }) ∷ [] → new ≡ map (placed names) (take (i + 1) atoms)
+found_more names atoms i k a t found new lt is type atom was more =
+    let one : record { x = a.x; y = a.y; atom = t } ≡ placed names a =
+    ap (λ (u : AtomValue). record { x = a.x; y = a.y; atom = u }) (atom ∙ ap (λ (o : Option ℕ). record { kind = or_zero o; state = a.state }) (sym type)) in
+    more ∙ ap (λ z. z ++ (record { x = a.x; y = a.y; atom = t }) ∷ []) was ∙ ap (λ (p : Placed). map (placed names) (take i atoms) ++ p ∷ []) one
+    ∙ sym (ap (map (placed names)) (take_more atoms i a lt ∙ ap (λ z. take i atoms ++ z ∷ []) is) ∙ map-append (placed names) (take i atoms) (a ∷ []))

@@ -1,0 +1,6 @@
+pub mod Drafts
+pub mod Forms
+pub mod Line
+pub mod Named
+pub mod Reading
+pub mod Values

@@ -1,0 +1,147 @@
+//! Giving the atoms of a world the types of their names.
+ghost use Rattle.std.specs.Prelude.{◌≡◌, ◌*◌, ◌≤◌, ◌<◌, ◌^◌, All, IfOk, IfSome, length};
+ghost use Rattle.draw_stream.specs.Plans.{IsPlan, scripted, tiles_on};
+ghost use Rattle.world_text.specs.declared.draft.RawAtom.{RawAtom};
+ghost use Rattle.world_text.specs.Named.{NamesAtoms, order_by, place_of, plan_by, type_of};
+ghost use Rattle.world_text.specs.Values.{Names, order_value};
+
+use crate::draft::{RawAtom, Tries};
+use crate::fault::WorldFault;
+use crate::raw_world::RawWorld;
+use crate::world::{Order, Placed, World};
+use bit_field::Atom;
+use draw_stream::{AttemptPlan, Script};
+use feast_base::{Name, NoMemory};
+use std::alloc::Global;
+
+/// The type number of a name: its place among the names, from 1.
+#[tactic(auto, unfolding(crate::specs::Named::type_from))]
+fn type_of(names: &[Name], name: &[u8]) -> Option<u16>
+    requires { length names.now ≤ 65535 }
+    ensures { result ≡ type_of names.now name.now }
+{
+    let mut kind = 1u32;
+    for known in names {
+        if known.bytes() == name {
+            return Some(kind as u16);
+        }
+        kind += 1;
+    }
+    None
+}
+
+/// The place of an atom in row order.
+fn place_of(width: u32, height: u32, atom: &RawAtom) -> usize
+    requires small { (width ≤ 512) × (height ≤ 512) }
+    requires inside { (atom.now.x < width) × (atom.now.y < height) }
+    ensures value { result ≡ place_of width atom.now }
+    ensures below { result < width * height }
+{
+    (atom.y * width + atom.x) as usize
+}
+
+/// The atoms with the types of their names, or the first fault.
+fn name_atoms(
+    alloc: Global,
+    names: &[Name],
+    width: u32,
+    height: u32,
+    atoms: &[RawAtom],
+) -> Result<Vec<Placed>, WorldFault>
+    requires names { length names.now ≤ 65535 }
+    requires small { (width ≤ 512) × (height ≤ 512) }
+    requires inside { All (λ (a : RawAtom). (a.x < width) × (a.y < height) × (a.state < 2 ^ 71)) atoms.now }
+    ensures { NamesAtoms names.now width atoms.now result }
+{
+    let mut marks = Vec::from_elem(alloc, false, (width * height) as usize)?;
+    let mut found = Vec::new(alloc);
+    for raw in atoms {
+        let Some(kind) = type_of(names, raw.name.bytes()) else {
+            return Err(WorldFault::UnknownElement(raw.line));
+        };
+        let place = place_of(width, height, raw);
+        if marks[place] {
+            return Err(WorldFault::SiteTaken(raw.line));
+        }
+        marks[place] = true;
+        found.push(Placed {
+            x: raw.x,
+            y: raw.y,
+            atom: Atom::new(kind, raw.state),
+        })?;
+    }
+    Ok(found)
+}
+
+/// The scripts of lists of attempts.
+fn scripts(alloc: Global, tries: Vec<Tries>) -> Result<Vec<Script>, NoMemory>
+    ensures { IfOk result (λ v. v.items ≡ tries.items) }
+{
+    let mut scripts = Vec::new(alloc);
+    for of_tile in tries {
+        scripts.push(of_tile.into_script())?;
+    }
+    Ok(scripts)
+}
+
+/// The plan of a draft.
+fn plan(
+    alloc: Global,
+    origin: Option<(u64, u64)>,
+    tries: Vec<Tries>,
+    off: &[bool],
+    sites: u64,
+) -> Result<AttemptPlan, NoMemory>
+    requires some { 1 ≤ length off.now }
+    requires most { length off.now ≤ 64 }
+    requires sites { (1 ≤ sites) × (sites ≤ 4096) }
+    requires drawn { IfSome origin (λ o. o.1 * tiles_on off.now ≤ 1000000) }
+    requires written { IsPlan (scripted tries.items) }
+    ensures { IfOk result (λ p. p ≡ plan_by off.now sites tries.items origin) }
+{
+    match origin {
+        Some((seed, count)) => AttemptPlan::seeded(alloc, seed, count, off, sites),
+        None => Ok(AttemptPlan::scripted(scripts(alloc, tries)?)),
+    }
+}
+
+/// The order of a draft.
+fn order(tiles: Vec<u32>, seed: Option<u64>) -> Order
+    ensures { order_value result ≡ order_by tiles.items seed }
+{
+    match seed {
+        Some(seed) => Order::Seed(seed),
+        None => Order::List(tiles),
+    }
+}
+
+/// The world that a text says, by what `read` gave and the names of the elements, in the order of
+/// their type numbers. `UnknownElement` at the first `atom` line whose name no element has, and
+/// `SiteTaken` at the first whose site an earlier one has, whichever comes first. `NoMemory` where
+/// there is none for the world.
+pub fn name(alloc: Global, raw: RawWorld, names: &[Name]) -> Result<World, WorldFault>
+    requires { length names.now ≤ 65535 }
+    ensures { Names names.now raw result }
+{
+    let draft = raw.into_draft();
+    let (width, height) = (draft.tx * draft.w, draft.ty * draft.h);
+    let atoms = name_atoms(alloc, names, width, height, draft.atoms.as_slice())?;
+    let sites = (draft.w * draft.h) as u64;
+    let plan = plan(
+        alloc,
+        draft.origin,
+        draft.tries,
+        draft.off.as_slice(),
+        sites,
+    )?;
+    Ok(World {
+        tx: draft.tx,
+        ty: draft.ty,
+        w: draft.w,
+        h: draft.h,
+        off: draft.off,
+        plan,
+        atoms,
+        order: order(draft.order, draft.order_seed),
+    })
+}

@@ -1,0 +1,147 @@
+//! The ranges of the numbers of a line.
+ghost use Rattle.std.specs.Prelude.{◌≡◌, ◌≤◌, ◌<◌, Some, None, length, drop, if◌then◌else◌};
+ghost use Rattle.std.specs.List.{list_all, list_any};
+ghost use Rattle.draw_stream.specs.Plans.{tiles_on};
+ghost use Rattle.tile_map.specs.Plane.{IsMap, in_plane, is_live, is_on, owner_of, site};
+ghost use Rattle.world_text.specs.Drafts.{IsDraft, atom_in_range, between, in_range, off_in_range, too_many, try_in_range};
+ghost use Rattle.world_text.specs.Values.{draft_value, line_value};
+
+use crate::draft::Draft;
+use crate::line::Line;
+
+/// Whether a number is that of a tile that is on.
+fn is_on(draft: &Draft, tile: u128) -> bool
+    requires { IsMap (draft_value draft.now).plane }
+    ensures { result ≡ is_on (draft_value draft.now).plane tile }
+{
+    tile < (draft.tx * draft.ty) as u128 && !draft.off[tile as usize]
+}
+
+/// Whether a site is of the plane.
+fn in_plane(draft: &Draft, x: u128, y: u128) -> bool
+    requires { IsMap (draft_value draft.now).plane }
+    ensures { result ≡ in_plane (draft_value draft.now).plane (site x y) }
+{
+    x < (draft.tx * draft.w) as u128 && y < (draft.ty * draft.h) as u128
+}
+
+/// The tile whose rectangle has a site.
+fn owner(draft: &Draft, x: u32, y: u32) -> u32
+    requires shape { IsMap (draft_value draft.now).plane }
+    requires site { (x < 512) × (y < 512) }
+    ensures { result ≡ owner_of (draft_value draft.now).plane (site x y) }
+{
+    y / draft.h * draft.tx + x / draft.w
+}
+
+/// The tile whose rectangle has a site, where the site is live.
+fn live_owner(draft: &Draft, x: u128, y: u128) -> Option<u32>
+    requires { IsMap (draft_value draft.now).plane }
+    ensures { result ≡ (if is_live (draft_value draft.now).plane (site x y) then Some (owner_of (draft_value draft.now).plane (site x y)) else None) }
+{
+    if !in_plane(draft, x, y) {
+        return None;
+    }
+    let tile = owner(draft, x as u32, y as u32);
+    if is_on(draft, tile as u128) {
+        Some(tile)
+    } else {
+        None
+    }
+}
+
+/// How many tiles are on.
+fn on_count(draft: &Draft) -> usize
+    ensures { result ≡ tiles_on (draft_value draft.now).plane.off }
+{
+    draft.off.iter().filter(|o| !**o).count()
+}
+
+/// Whether a mark is set among those from one on.
+fn is_off_from(off: &[bool], from: usize) -> bool
+    requires { from ≤ length off.now }
+    ensures { result ≡ list_any (λ o. o) (drop from off.now) }
+{
+    for i in from..off.len() {
+        if off[i] {
+            return true;
+        }
+    }
+    false
+}
+
+/// Whether a tile may be switched off by the next `off` line.
+fn off_in_range(draft: &Draft, tile: u128) -> bool
+    requires { IsMap (draft_value draft.now).plane }
+    ensures { result ≡ off_in_range (draft_value draft.now).plane tile }
+{
+    tile < (draft.tx * draft.ty) as u128
+        && !is_off_from(draft.off.as_slice(), tile as usize)
+        && on_count(draft) > 1
+}
+
+/// Whether an attempt is one of its tile.
+fn try_in_range(draft: &Draft, tile: u128, x: u128, y: u128, seed: u64) -> bool
+    requires { IsMap (draft_value draft.now).plane }
+    ensures { result ≡ try_in_range (draft_value draft.now).plane tile x y seed }
+{
+    match live_owner(draft, x, y) {
+        Some(owner) => owner as u128 == tile,
+        None => false,
+    }
+}
+
+/// Whether an atom stands on a live site and its state fits.
+fn atom_in_range(draft: &Draft, x: u128, y: u128, state: u128) -> bool
+    requires { IsMap (draft_value draft.now).plane }
+    ensures { result ≡ atom_in_range (draft_value draft.now).plane x y state }
+{
+    live_owner(draft, x, y).is_some() && state < 1u128 << 71
+}
+
+/// Whether all are numbers of tiles that are on.
+fn are_on(draft: &Draft, tiles: &[u128]) -> bool
+    requires { IsMap (draft_value draft.now).plane }
+    ensures { result ≡ list_all (is_on (draft_value draft.now).plane) tiles.now }
+{
+    tiles.iter().all(|t| is_on(draft, *t))
+}
+
+/// Whether a number lies between two others.
+fn between(low: u128, high: u128, n: u128) -> bool
+    ensures { result ≡ between low high n }
+{
+    low <= n && n <= high
+}
+
+/// Whether the numbers of a line are in their ranges.
+#[tactic(auto, unfolding(crate::specs::Drafts::in_range))]
+pub(crate) fn in_range(draft: &Draft, line: &Line) -> bool
+    requires { IsMap (draft_value draft.now).plane }
+    ensures { result ≡ in_range (draft_value draft.now).plane (line_value line.now) }
+{
+    match line {
+        Line::Header { .. } => true,
+        Line::Tiles { tx, ty } => between(1, 8, *tx) && between(1, 8, *ty),
+        Line::Size { w, h } => between(8, 64, *w) && between(8, 64, *h),
+        Line::Off { tile } => off_in_range(draft, *tile),
+        Line::Seed { seed } => *seed < 1u128 << 64,
+        Line::Attempts { .. } => true,
+        Line::Try { tile, x, y, seed } => try_in_range(draft, *tile, *x, *y, *seed),
+        Line::Atom { x, y, state, .. } => atom_in_range(draft, *x, *y, *state),
+        Line::OrderSeed { seed } => *seed < 1u128 << 64,
+        Line::Order { list } => are_on(draft, list.as_slice()),
+    }
+}
+
+/// Whether a line asks for more than 1,000,000 attempts over all tiles.
+#[tactic(auto, unfolding(crate::specs::Drafts::too_many))]
+pub(crate) fn too_many(draft: &Draft, line: &Line) -> bool
+    ensures { result ≡ too_many (draft_value draft.now) (line_value line.now) }
+{
+    match line {
+        Line::Attempts { count } => count.saturating_mul(on_count(draft) as u128) > 1_000_000,
+        Line::Try { .. } => draft.made >= 1_000_000,
+        _ => false,
+    }
+}

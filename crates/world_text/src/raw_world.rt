@@ -1,0 +1,55 @@
+//! What the text of a world says.
+ghost use Rattle.std.specs.Prelude.{◌≡◌, ◌≤◌, None};
+ghost use Rattle.tile_map.specs.Plane.{tiles_of};
+ghost use Rattle.world_text.specs.Drafts.{IsDraft, missing};
+ghost use Rattle.world_text.specs.Values.{draft_value};
+
+use crate::draft::Draft;
+use std::marker::Model;
+
+/// What the text of a world says, before its atoms have their types. Contracts see its numbers and
+/// lists.
+#[derive(Drop)]
+pub struct RawWorld {
+    draft: Draft,
+}
+
+impl Model for RawWorld {
+    ghost use Rattle.std.specs.Prelude.{◌≡◌, None};
+    ghost use Rattle.world_text.specs.Drafts.{DraftValue, IsDraft, missing};
+    ghost use Rattle.world_text.specs.Values.{draft_value};
+
+    ghost Value = { DraftValue };
+
+    ghost view = { λ w. draft_value w.draft };
+
+    ghost invariant = { λ w. IsDraft (draft_value w.draft) × (missing w.draft.last ≡ None) };
+}
+
+impl RawWorld {
+    /// What some lines say, where none is missing.
+    pub(crate) fn new(draft: Draft) -> RawWorld
+        requires draft { IsDraft (draft_value draft) }
+        requires whole { missing draft.last ≡ None }
+        ensures { result ≡ draft_value draft }
+    {
+        RawWorld { draft }
+    }
+
+    /// What the lines say.
+    pub(crate) fn into_draft(self) -> Draft
+        ensures draft { draft_value result ≡ self }
+        ensures valid { IsDraft self }
+        ensures whole { missing self.last ≡ None }
+    {
+        self.draft
+    }
+
+    /// How many tiles there are, those that are off among them: 1 to 64.
+    pub fn tiles(&self) -> u32
+        ensures value { result ≡ tiles_of self.now.plane }
+        ensures few { result ≤ 64 }
+    {
+        self.draft.tx * self.draft.ty
+    }
+}
