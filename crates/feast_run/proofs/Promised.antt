@@ -1,121 +1,177 @@
--- From how a call ends to what it promises.
-use Rattle.std.proofs.Common.{ℕ, ◌≡◌, ◌∙◌, ◌<◌, List, ◌∷◌, ◌++◌, length, Option, Some, refl, inl, inr, ap, subst, sym, arith, length-append}
-use Rattle.feast_base.specs.Outside.{File, Grows, Told}
-use Rattle.feast_base.specs.Refusals.{refusal_line, unreadable_line, longer_line, usage_line}
-use Rattle.feast_run.proofs.Once.{comes_one, telling}
-use Rattle.feast_run.specs.Answer.{Comes, Ends, HasElement, HasWorld, Ran, Setting, setting, not_built_line}
-use Rattle.feast_run.specs.Promises.{Complete, Exactly, Headline, RanTold, UsageExactly}
-use Rattle.feast_run.specs.Run.{run_report}
+-- The promises of a call, from how it ends.
+use Rattle.std.proofs.Common.{ℕ, ◌≡◌, List, [], ◌∷◌, ◌++◌, length, Option, Some, None, refl, sym, ap, subst, ◌∙◌, inl, inr, ◌⊎◌, arith}
+use Rattle.std.proofs.lemmas.List.{length-append, append_cancel_left}
+use Rattle.feast_base.specs.Outside.{File, Grows, Stock, Told}
+use Rattle.feast_base.specs.Refusals.{refusal_line, unreadable_line}
+use Rattle.feast_run.proofs.Laws.{went}
+use Rattle.feast_run.proofs.Sure.{form_accepts, form_sure}
+use Rattle.feast_run.specs.Answer.{form_answer}
+use Rattle.feast_run.specs.Ending.{Comes, Ends, Leaves, Whole, status_of, status_of_input, text_of}
+use Rattle.feast_run.specs.Forms.{FormValue, run}
+use Rattle.feast_run.specs.Outcomes.{Accepts, IsSure, Outcome, RefusedValue, Stage, passes, refuses, misses}
+use Rattle.feast_run.specs.Promises.{Agrees, Complete, Exactly, Headline, Lines, RanTold, Shows, UsageExactly}
+use Rattle.feast_run.specs.Stages.{ReadyValue, ready}
+use Rattle.feast_run.specs.World.{IsWorld}
 use Rattle.feast_run.specs.declared.status.Status.{Status}
-use Rattle.feast_run.specs.declared.status.Status.TheVariants.{Done, Usage, Unreadable, ElementRefused, WorldRefused, JournalRefused, SinkFault, NoMemory, CodeRefused}
+use Rattle.feast_run.specs.declared.status.Status.TheVariants as how
+use Rattle.feast_run.specs.declared.stop.Input.{Input}
+use Rattle.feast_run.specs.declared.stop.Input.TheVariants as input
 
--- bytes that hold one
-one_in : (a : List ℕ) (b : ℕ) (bs : List ℕ) → 0 < length (a ++ b ∷ bs)
-one_in a b bs = omega (arith, length-append a (b ∷ bs))
+-- what is ready to be run is a world
+pub ready_valid : (files : Option (List File)) (world element : List ℕ) (r : ReadyValue) → ready files world element (passes r) → IsWorld r.world
+ready_valid files world element r h =
+    let w = went _ _ r h in
+    let e = went _ _ r w.rest in
+    let b = went _ _ w.value w.passed in
+    rw e.rest.1 b.rest.valid
 
-same_some : (text line : List ℕ) → text ≡ line → 0 < length line → 0 < length text
-same_some text line e h = omega (arith, ap length e, h)
-
-not_built_some : (word : List ℕ) → 0 < length (not_built_line word)
-unfolding refusal_line
-not_built_some word = simp length-append (omega arith)
-
--- a text that a call comes to is not empty
-pub comes_some : (s : Setting) (status : Status) (text : List ℕ) → Comes s status text → 0 < length text
-comes_some s Done text h = same_some text (run_report h.w h.e) h.shown (omega arith)
-comes_some s Usage text h = same_some text usage_line h.line (omega arith)
-comes_some s Unreadable text (inl h) = elim h.unread [ inl m ↦ same_some text (unreadable_line h.world) m.line (one_in h.world 58 _) | inr l ↦ same_some text (longer_line h.world _) l.line (one_in h.world 58 _) ]
-comes_some s Unreadable text (inr h) = elim h.unread [ inl m ↦ same_some text (unreadable_line h.element) m.line (one_in h.element 58 _) | inr l ↦ same_some text (longer_line h.element _) l.line (one_in h.element 58 _) ]
-comes_some s ElementRefused text h = same_some text (not_built_line h.element) h.line (not_built_some h.element)
-comes_some s WorldRefused text (inl h) = same_some text (not_built_line h.world) h.line (not_built_some h.world)
-comes_some s WorldRefused text (inr h) = same_some text (not_built_line h.world) h.line (not_built_some h.world)
-comes_some s JournalRefused text h = absurd h
-comes_some s SinkFault text h = absurd h
-comes_some s NoMemory text h = absurd h
-comes_some s CodeRefused text h = absurd h
-
--- what a run shows, where files are told
-shows_of : (files : List File) (s : Setting) (text : List ℕ) → s.before.files ≡ Some files → Ran s text → RanTold files s.words text
-shows_of files s text is r =
-    let world : HasWorld (Some files) r.world r.w = subst (λ (o : Option (List File)). HasWorld o r.world r.w) is r.has_world in
-    let element : HasElement (Some files) r.element r.e = subst (λ (o : Option (List File)). HasElement o r.element r.e) is r.has_element in
+-- a run that showed a text, part by part
+ran_told : (files : List File) (world element text : List ℕ) → form_answer (Some files) (run world element) (passes text) → RanTold files world element text
+ran_told files world element text h =
+    let r = went _ _ text h in
+    let w = went _ _ r.value r.passed in
+    let b = went _ _ w.value w.passed in
+    let e = went _ _ r.value w.rest in
+    let c = went _ _ e.value e.passed in
+    let both = e.rest.1 in
     record {
-      world_word = r.world;
-      element_word = r.element;
-      form = r.form;
-      world = r.w;
-      world_file = world.loaded.told ∙ ap Some world.says.text;
-      world_valid = world.says.valid;
-      element = r.e;
-      element_bytes = element.bytes;
-      element_file = element.loaded.told;
-      element_text = element.defines;
-      named = r.named;
-      shown = r.shown;
+      world = w.value;
+      world_file = b.passed.0 ∙ ap Some b.rest.text;
+      world_valid = b.rest.valid;
+      element = e.value;
+      element_bytes = c.value;
+      element_file = c.passed.0;
+      element_text = c.rest;
+      named = e.rest.0;
+      shown = rw both at r.rest;
     }
 
--- the headline, from a call that ended with Done
-pub headline_of : (s : Setting) (sink sink' : Told) (status : Status) → Ends s sink sink' status → Headline s sink sink' status
-headline_of s sink sink' Done ends = λ files old told holds done. (
-  ends.text,
-  (subst (λ (o : Option (List ℕ)). Grows o sink'.written ends.text) holds ends.put.grows, shows_of files s ends.text told ends.comes),
-)
-headline_of s sink sink' Usage ends = λ files old told holds e. cc
-headline_of s sink sink' Unreadable ends = λ files old told holds e. cc
-headline_of s sink sink' ElementRefused ends = λ files old told holds e. cc
-headline_of s sink sink' WorldRefused ends = λ files old told holds e. cc
-headline_of s sink sink' JournalRefused ends = λ files old told holds e. cc
-headline_of s sink sink' SinkFault ends = λ files old told holds e. cc
-headline_of s sink sink' NoMemory ends = λ files old told holds e. cc
-headline_of s sink sink' CodeRefused ends = λ files old told holds e. cc
+shows_of : (files : List File) (form : FormValue) (text : List ℕ) → form_answer (Some files) form (passes text) → Shows files form text
+shows_of files (run world element) text h = ran_told files world element text h
+
+-- no refusal has one of the statuses of a whole call
+not_done : (i : Input) → status_of_input i ≡ how.Done → ⊥
+not_done input.File e = cc
+not_done input.Elements e = cc
+not_done input.World e = cc
+
+not_usage : (i : Input) → status_of_input i ≡ how.Usage → ⊥
+not_usage input.File e = cc
+not_usage input.Elements e = cc
+not_usage input.World e = cc
+
+-- an outcome with the status Done is a text
+done_by : (S : Stage (List ℕ)) (o : Outcome (List ℕ)) (status : Status) (text : List ℕ) → S o → status ≡ status_of o → text ≡ text_of o → status ≡ how.Done → S (passes text)
+done_by S (passes t) status text h s e done = rw e h
+done_by S (refuses r) status text h s e done = absurd (not_done r.input (sym s ∙ done))
+done_by S (misses w) status text h s e done = let x : how.Unreadable ≡ how.Done = sym s ∙ done in cc
+
+-- no outcome has the status Usage
+no_usage : (o : Outcome (List ℕ)) (status : Status) → status ≡ status_of o → status ≡ how.Usage → ⊥
+no_usage (passes t) status s e = let x : how.Usage ≡ how.Done = sym e ∙ s in cc
+no_usage (refuses r) status s e = not_usage r.input (sym s ∙ e)
+no_usage (misses w) status s e = let x : how.Usage ≡ how.Unreadable = sym e ∙ s in cc
+
+headline_by : (form : Option FormValue) (files : List File) (old new : Stock) (sink sink' : Told) (before : List ℕ) (status : Status) → old.files ≡ Some files → sink.written ≡ Some before →
+    Whole form old new sink sink' status → status ≡ how.Done → (f : FormValue) × (form ≡ Some f) × (text : List ℕ) × (sink'.written ≡ Some (before ++ text)) × Shows files f text
+headline_by None files old new sink sink' before status told w h done = let x : how.Usage ≡ how.Done = sym h.comes.status_is ∙ done in cc
+headline_by (Some f) files old new sink sink' before status told w h done =
+    let text = done_by (form_answer old.files f) h.comes.outcome status h.text h.comes.comes h.comes.status_is h.comes.text_is done in (
+      f,
+      refl,
+      h.text,
+      subst (λ (v : Option (List ℕ)). Grows v sink'.written h.text) w h.put.grows,
+      shows_of files f h.text (subst (λ (v : Option (List File)). form_answer v f (passes h.text)) told text),
+    )
+
+-- the headline, from how a call ends
+pub headline_of : (form : Option FormValue) (old new : Stock) (sink sink' : Told) (status : Status) → Ends form old new sink sink' status → Headline form old sink sink' status
+headline_of form old new sink sink' status ends = λ files before told w done.
+    elim ends [
+      | inl whole ↦ headline_by form files old new sink sink' before status told w whole done
+      | inr rest ↦ elim rest [
+        | inl broken ↦ (let x : how.SinkFault ≡ how.Done = sym broken.status_is ∙ done in cc)
+        | inr wanted ↦ (let x : how.NoMemory ≡ how.Done = sym wanted.status_is ∙ done in cc)
+      ]
+    ]
 
 -- when Usage comes, from how a call ends
-pub usage_of : (s : Setting) (sink sink' : Told) (status : Status) → Ends s sink sink' status → UsageExactly s.words status
-usage_of s sink sink' Done ends = record { only = λ e. cc; where_ = λ none. absurd (none ends.comes.world ends.comes.element ends.comes.form) }
-usage_of s sink sink' Usage ends = record { only = λ _. ends.comes.none; where_ = λ _. inl refl }
-usage_of s sink sink' Unreadable ends =
-    record { only = λ e. cc; where_ = λ none. elim ends.comes [ inl h ↦ absurd (none h.world h.element h.form) | inr h ↦ absurd (none h.world h.element h.form) ] }
-usage_of s sink sink' ElementRefused ends = record { only = λ e. cc; where_ = λ none. absurd (none ends.comes.world ends.comes.element ends.comes.form) }
-usage_of s sink sink' WorldRefused ends =
-    record { only = λ e. cc; where_ = λ none. elim ends.comes [ inl h ↦ absurd (none h.world h.element h.form) | inr h ↦ absurd (none h.world h.element h.form) ] }
-usage_of s sink sink' JournalRefused ends = absurd ends.comes
-usage_of s sink sink' CodeRefused ends = absurd ends.comes
-usage_of s sink sink' SinkFault ends = record { only = λ e. cc; where_ = λ none. inr (inl refl) }
-usage_of s sink sink' NoMemory ends = record { only = λ e. cc; where_ = λ none. inr (inr refl) }
+pub usage_of : (form : Option FormValue) (old new : Stock) (sink sink' : Told) (status : Status) → Ends form old new sink sink' status → UsageExactly form status
+usage_of None old new sink sink' status ends = record {
+  only = λ e. refl;
+  where_ = λ e. elim ends [ inl whole ↦ inl whole.comes.status_is | inr rest ↦ inr (elim rest [ inl b ↦ inl b.status_is | inr w ↦ inr w.status_is ]) ];
+}
+usage_of (Some f) old new sink sink' status ends = record {
+  only = λ e. elim ends [
+    | inl whole ↦ absurd (no_usage whole.comes.outcome status whole.comes.status_is e)
+    | inr rest ↦ elim rest [
+      | inl b ↦ (let x : how.SinkFault ≡ how.Usage = sym b.status_is ∙ e in cc)
+      | inr w ↦ (let x : how.NoMemory ≡ how.Usage = sym w.status_is ∙ e in cc)
+    ]
+  ];
+  where_ = λ e. let x : None ≡ Some f = sym e in cc;
+}
 
--- what a call comes to, with its files in their place
-told_comes : (files : List File) (s : Setting) (status : Status) (text : List ℕ) → s.before.files ≡ Some files →
-    Comes s status text → Comes (setting (telling files s.before.failed s.before.may_fail) s.after s.words) status text
-told_comes files s status text is h =
-    subst (λ (o : Option (List File)). Comes (setting (record { files = o; failed = s.before.failed; may_fail = s.before.may_fail }) s.after s.words) status text) is h
+-- a name that was noted was noted
+not_noted : (failed : List (List ℕ)) (word : List ℕ) → failed ++ word ∷ [] ≡ failed → ⊥
+not_noted failed word e = let n = ap length e in absurd (omega (arith, n, length-append failed (word ∷ [])))
 
-same_status : (files : List File) (s : Setting) (a b : Status) (t u : List ℕ) → s.before.files ≡ Some files → Comes s a t → Comes s b u → a ≡ b
-same_status files s a b t u is x y = comes_one files s.before.failed s.before.may_fail s.after s.words a b t u (told_comes files s a t is x) (told_comes files s b u is y)
+-- two names that were noted after the same ones are one
+noted_one : (failed : List (List ℕ)) (v w : List ℕ) → failed ++ v ∷ [] ≡ failed ++ w ∷ [] → v ≡ w
+noted_one failed v w e = let same = append_cancel_left failed (v ∷ []) (w ∷ []) e in cc
 
--- the status is the one that the call comes to, from how a call ends
-pub exactly_of : (s : Setting) (sink sink' : Told) (status : Status) → Ends s sink sink' status → Exactly s sink sink' status
-exactly_of s sink sink' SinkFault ends = λ files right text told comes same. absurd (omega (arith, ends.cut.more, same))
-exactly_of s sink sink' NoMemory ends = λ files right text told comes same. inr refl
-exactly_of s sink sink' Done ends = λ files right text told comes same. inl (same_status files s Done right ends.text text told ends.comes comes)
-exactly_of s sink sink' Usage ends = λ files right text told comes same. inl (same_status files s Usage right ends.text text told ends.comes comes)
-exactly_of s sink sink' Unreadable ends = λ files right text told comes same. inl (same_status files s Unreadable right ends.text text told ends.comes comes)
-exactly_of s sink sink' ElementRefused ends = λ files right text told comes same. inl (same_status files s ElementRefused right ends.text text told ends.comes comes)
-exactly_of s sink sink' WorldRefused ends = λ files right text told comes same. inl (same_status files s WorldRefused right ends.text text told ends.comes comes)
-exactly_of s sink sink' JournalRefused ends = absurd ends.comes
-exactly_of s sink sink' CodeRefused ends = absurd ends.comes
+-- what was put is as any outcome says that agrees with the names noted
+told_by : (S : Stage (List ℕ)) (old new : Stock) (sink sink' : Told) (status : Status) (text : List ℕ) (a o : Outcome (List ℕ)) → IsSure S → S a → S o →
+    Leaves old new a → Agrees old.failed new.failed o → status ≡ status_of a → text ≡ text_of a → Grows sink.written sink'.written text → (status ≡ status_of o) × Lines sink sink' o
+told_by S old new sink sink' status text (passes t) (passes u) sure ha ho k agrees s e g = (s, tt)
+told_by S old new sink sink' status text (passes t) (refuses r) sure ha ho k agrees s e g = absurd (sure.apart t r ha ho)
+told_by S old new sink sink' status text (passes t) (misses w) sure ha ho k agrees s e g = absurd (not_noted old.failed w (sym agrees ∙ k.failed))
+told_by S old new sink sink' status text (refuses q) (passes u) sure ha ho k agrees s e g = absurd (sure.apart u q ho ha)
+told_by S old new sink sink' status text (refuses q) (refuses r) sure ha ho k agrees s e g =
+    let one = sure.one_refusal q r ha ho in
+    (s ∙ ap (λ (v : RefusedValue). status_of_input v.input) one, subst (λ (v : List ℕ). Grows sink.written sink'.written v) (e ∙ ap (λ (v : RefusedValue). refusal_line v.word v.refusal) one) g)
+told_by S old new sink sink' status text (refuses q) (misses w) sure ha ho k agrees s e g = absurd (not_noted old.failed w (sym agrees ∙ k.failed))
+told_by S old new sink sink' status text (misses v) (passes u) sure ha ho k agrees s e g = absurd (not_noted old.failed v (sym k.failed ∙ agrees))
+told_by S old new sink sink' status text (misses v) (refuses r) sure ha ho k agrees s e g = absurd (not_noted old.failed v (sym k.failed ∙ agrees))
+told_by S old new sink sink' status text (misses v) (misses w) sure ha ho k agrees s e g =
+    let one = noted_one old.failed v w (sym k.failed ∙ agrees) in
+    (s, subst (λ (z : List ℕ). Grows sink.written sink'.written z) (e ∙ ap unreadable_line one) g)
 
--- completeness, from that
-pub complete_of : (s : Setting) (sink sink' : Told) (status : Status) → Exactly s sink sink' status → Complete s sink sink' status
-complete_of s sink sink' status exactly = λ files world element w e told form has_world has_element named kept same.
-    exactly files Done (run_report w e) told (record {
-      world = world;
-      element = element;
-      form = form;
-      w = w;
-      has_world = subst (λ (o : Option (List File)). HasWorld o world w) (sym told) has_world;
-      e = e;
-      has_element = subst (λ (o : Option (List File)). HasElement o element e) (sym told) has_element;
-      named = named;
-      kept = kept;
-      shown = refl;
-    }) same
+-- each status exactly where it is due, from how a call ends
+pub exactly_of : (form : Option FormValue) (old new : Stock) (sink sink' : Told) (status : Status) → Ends form old new sink sink' status → Exactly form old new sink sink' status
+exactly_of None old new sink sink' status ends = record {
+  usage = λ none same. elim ends [
+    | inl whole ↦ inl (whole.comes.status_is, subst (λ (v : List ℕ). Grows sink.written sink'.written v) whole.comes.text_is whole.put.grows)
+    | inr rest ↦ elim rest [ inl b ↦ absurd (omega (arith, b.cut.more, same)) | inr w ↦ inr w.status_is ]
+  ];
+  stages = λ files f o is told h agrees same. let x : None ≡ Some f = is in cc;
+}
+exactly_of (Some g) old new sink sink' status ends = record {
+  usage = λ none same. let x : None ≡ Some g = sym none in cc;
+  stages = λ files f o is told h agrees same. elim ends [
+    | inl whole ↦
+        let comes = subst (λ (v : Option (List File)). form_answer v g whole.comes.outcome) told whole.comes.comes in
+        let one : f ≡ g = (let e = sym is in cc) in
+        let there = subst (λ (v : FormValue). form_answer (Some files) v o) one h in
+        inl (told_by (form_answer (Some files) g) old new sink sink' status whole.text whole.comes.outcome o (form_sure files g) comes there whole.comes.leaves agrees whole.comes.status_is whole.comes.text_is whole.put.grows)
+    | inr rest ↦ elim rest [ inl b ↦ absurd (omega (arith, b.cut.more, same)) | inr w ↦ inr w.status_is ]
+  ];
+}
+
+done_of : (S : Stage (List ℕ)) (old new : Stock) (o : Outcome (List ℕ)) (status : Status) → Accepts S → S o → Leaves old new o → status ≡ status_of o → new.failed ≡ old.failed → status ≡ how.Done
+done_of S old new (passes t) status accepts o k s same = s
+done_of S old new (refuses q) status accepts o k s same = absurd (accepts q o)
+done_of S old new (misses w) status accepts o k s same = absurd (not_noted old.failed w (sym k.failed ∙ same))
+
+-- completeness, from how a call ends
+pub complete_of : (form : Option FormValue) (old new : Stock) (sink sink' : Told) (status : Status) → Ends form old new sink sink' status → Complete form old new sink sink' status
+complete_of None old new sink sink' status ends = λ files f is told good kept same. let x : None ≡ Some f = is in cc
+complete_of (Some g) old new sink sink' status ends = λ files f is told good kept same.
+    elim ends [
+      | inl whole ↦
+          let comes = subst (λ (v : Option (List File)). form_answer v g whole.comes.outcome) told whole.comes.comes in
+          let fine = form_accepts files f good in
+          let one : f ≡ g = (let e = sym is in cc) in
+          inl (done_of (form_answer (Some files) g) old new whole.comes.outcome status (subst (λ (v : FormValue). Accepts (form_answer (Some files) v)) one fine) comes whole.comes.leaves whole.comes.status_is kept)
+      | inr rest ↦ elim rest [ inl b ↦ absurd (omega (arith, b.cut.more, same)) | inr w ↦ inr w.status_is ]
+    ]

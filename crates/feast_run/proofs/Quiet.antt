@@ -1,47 +1,65 @@
 -- Over a shelf and a sink in memory that have no reason to fail, no count rises.
-use Rattle.std.proofs.Common.{ℕ, ◌≡◌, ◌≢◌, ◌≤◌, List, [], length, None, inl, inr, ap, arith}
+use Rattle.std.proofs.Common.{ℕ, ◌≡◌, ◌≢◌, ◌≤◌, List, [], length, Option, Some, None, inl, inr, ap, ◌∙◌, sym, arith}
 use Rattle.feast_base.specs.Held.{LoadMayFail, PutMayFail, ShelfHeld, SinkHeld, room_left}
 use Rattle.feast_base.specs.Outside.{Stock, file_of}
-use Rattle.feast_run.specs.Answer.{Comes, Ends, IsRun, NotesNone, setting}
-use Rattle.feast_run.specs.Promises.{IsQuiet, stock_held, told_held}
+use Rattle.feast_run.proofs.Missing.{noted_of}
+use Rattle.feast_run.specs.Ending.{ComesTo, Ends, status_of, status_of_input}
+use Rattle.feast_run.specs.Forms.{FormValue}
+use Rattle.feast_run.specs.Outcomes.{Outcome, passes, refuses, misses}
+use Rattle.feast_run.specs.Promises.{IsQuiet, IsWordOf, file_words, stock_held, told_held}
 use Rattle.feast_run.specs.declared.status.Status.{Status}
-use Rattle.feast_run.specs.declared.status.Status.TheVariants.{Done, Usage, Unreadable, ElementRefused, WorldRefused, JournalRefused, SinkFault, NoMemory, CodeRefused}
+use Rattle.feast_run.specs.declared.status.Status.TheVariants as how
+use Rattle.feast_run.specs.declared.stop.Input.{Input}
+use Rattle.feast_run.specs.declared.stop.Input.TheVariants as input
 
 -- a load that may fail where none is listed and the file is there
 load_not : (shelf : ShelfHeld) (word : List ℕ) → shelf.fail ≡ [] → file_of word shelf.files ≢ None → LoadMayFail shelf word → ⊥
 load_not shelf word free there h = elim h [ inl listed ↦ absurd (omega (arith, listed, ap length free)) | inr missing ↦ there missing ]
 
--- where each file word is there, a call notes no name
-kept_by : (shelf : ShelfHeld) (after : Stock) (words : List (List ℕ)) (status : Status) (text : List ℕ) → shelf.fail ≡ [] →
-    ((world element : List ℕ) → IsRun words world element → (file_of world shelf.files ≢ None) × (file_of element shelf.files ≢ None)) →
-    Comes (setting (stock_held shelf) after words) status text → NotesNone (stock_held shelf) after
-kept_by shelf after words Done text free there h = h.kept
-kept_by shelf after words Usage text free there h = h.kept
-kept_by shelf after words Unreadable text free there (inl h) =
-    elim h.unread [ inl m ↦ absurd (load_not shelf h.world free (there h.world h.element h.form).0 m.cause) | inr long ↦ long.kept ]
-kept_by shelf after words Unreadable text free there (inr h) =
-    elim h.unread [ inl m ↦ absurd (load_not shelf h.element free (there h.world h.element h.form).1 m.cause) | inr long ↦ long.kept ]
-kept_by shelf after words ElementRefused text free there h = h.kept
-kept_by shelf after words WorldRefused text free there (inl h) = h.kept
-kept_by shelf after words WorldRefused text free there (inr h) = h.kept
-kept_by shelf after words JournalRefused text free there h = absurd h
-kept_by shelf after words SinkFault text free there h = absurd h
-kept_by shelf after words NoMemory text free there h = absurd h
-kept_by shelf after words CodeRefused text free there h = absurd h
-
 put_not : (sink : SinkHeld) (size : ℕ) → sink.stops ≡ [] → size ≤ room_left sink → PutMayFail sink size → ⊥
 put_not sink size free room h = elim h [ inl listed ↦ absurd (omega (arith, listed, ap length free)) | inr long ↦ absurd (omega (arith, long, room)) ]
 
-pub quiet_of : (shelf shelf' : ShelfHeld) (sink sink' : SinkHeld) (words : List (List ℕ)) (status : Status) →
-    Ends (setting (stock_held shelf) (stock_held shelf') words) (told_held sink) (told_held sink') status → IsQuiet shelf shelf' sink sink' words status
-quiet_of shelf shelf' sink sink' words SinkFault ends = λ free unlisted there room.
-    absurd (put_not sink (length ends.text) unlisted (room ends.status ends.text ends.comes) (ends.cut.cause (length ends.text) (omega arith)))
-quiet_of shelf shelf' sink sink' words NoMemory ends = λ free unlisted there room.
-    (elim ends.noted [ inl same ↦ same | inr noted ↦ kept_by shelf (stock_held shelf') words Unreadable noted.0 free there noted.1 ], ends.same, λ e. cc)
-quiet_of shelf shelf' sink sink' words Done ends = λ free unlisted there room. (kept_by shelf (stock_held shelf') words Done ends.text free there ends.comes, ends.put.same, λ e. cc)
-quiet_of shelf shelf' sink sink' words Usage ends = λ free unlisted there room. (kept_by shelf (stock_held shelf') words Usage ends.text free there ends.comes, ends.put.same, λ e. cc)
-quiet_of shelf shelf' sink sink' words Unreadable ends = λ free unlisted there room. (kept_by shelf (stock_held shelf') words Unreadable ends.text free there ends.comes, ends.put.same, λ e. cc)
-quiet_of shelf shelf' sink sink' words ElementRefused ends = λ free unlisted there room. (kept_by shelf (stock_held shelf') words ElementRefused ends.text free there ends.comes, ends.put.same, λ e. cc)
-quiet_of shelf shelf' sink sink' words WorldRefused ends = λ free unlisted there room. (kept_by shelf (stock_held shelf') words WorldRefused ends.text free there ends.comes, ends.put.same, λ e. cc)
-quiet_of shelf shelf' sink sink' words JournalRefused ends = absurd ends.comes
-quiet_of shelf shelf' sink sink' words CodeRefused ends = absurd ends.comes
+-- where each file word is there, a call notes no name
+kept_by : (form : Option FormValue) (shelf shelf' : ShelfHeld) (sink sink' : SinkHeld) (status : Status) → shelf.fail ≡ [] →
+    ((f : FormValue) (word : List ℕ) → form ≡ Some f → IsWordOf (file_words f) word → file_of word shelf.files ≢ None) →
+    Ends form (stock_held shelf) (stock_held shelf') (told_held sink) (told_held sink') status → shelf'.failed ≡ shelf.failed
+kept_by form shelf shelf' sink sink' status free there ends =
+    elim (noted_of form (stock_held shelf) (stock_held shelf') (told_held sink) (told_held sink') status ends) [
+      | inl same ↦ same
+      | inr n ↦ absurd (load_not shelf n.word free (there n.f n.word n.form_is n.is_word) n.cause)
+    ]
+
+-- no outcome has the status SinkFault
+not_fault : (i : Input) → status_of_input i ≡ how.SinkFault → ⊥
+not_fault input.File e = cc
+not_fault input.Elements e = cc
+not_fault input.World e = cc
+
+no_fault : (o : Outcome (List ℕ)) (status : Status) → status ≡ status_of o → status ≡ how.SinkFault → ⊥
+no_fault (passes t) status s e = let x : how.SinkFault ≡ how.Done = sym e ∙ s in cc
+no_fault (refuses r) status s e = not_fault r.input (sym s ∙ e)
+no_fault (misses w) status s e = let x : how.SinkFault ≡ how.Unreadable = sym e ∙ s in cc
+
+-- no call comes to say it
+comes_no_fault : (form : Option FormValue) (old new : Stock) (status : Status) (text : List ℕ) → ComesTo form old new status text → status ≡ how.SinkFault → ⊥
+comes_no_fault None old new status text h e = let x : how.SinkFault ≡ how.Usage = sym e ∙ h.status_is in cc
+comes_no_fault (Some f) old new status text h e = no_fault h.outcome status h.status_is e
+
+-- a call whose text has room has no put that fails
+whole_by : (form : Option FormValue) (shelf shelf' : ShelfHeld) (sink sink' : SinkHeld) (status : Status) → sink.stops ≡ [] →
+    ((right : Status) (text : List ℕ) → ComesTo form (stock_held shelf) (stock_held shelf') right text → length text ≤ room_left sink) →
+    Ends form (stock_held shelf) (stock_held shelf') (told_held sink) (told_held sink') status → (sink'.faults ≡ sink.faults) × (status ≢ how.SinkFault)
+whole_by form shelf shelf' sink sink' status free room ends =
+    elim ends [
+      | inl whole ↦ (whole.put.same, comes_no_fault form (stock_held shelf) (stock_held shelf') status whole.text whole.comes)
+      | inr rest ↦ elim rest [
+        | inl b ↦ absurd (put_not sink (length b.text) free (room b.right b.text b.comes) (b.cut.cause (length b.text) (omega arith)))
+        | inr w ↦ (w.same, λ e. let x : how.NoMemory ≡ how.SinkFault = sym w.status_is ∙ e in cc)
+      ]
+    ]
+
+pub quiet_of : (form : Option FormValue) (shelf shelf' : ShelfHeld) (sink sink' : SinkHeld) (status : Status) →
+    Ends form (stock_held shelf) (stock_held shelf') (told_held sink) (told_held sink') status → IsQuiet form shelf shelf' sink sink' status
+quiet_of form shelf shelf' sink sink' status ends = λ free unlisted there room.
+    let whole = whole_by form shelf shelf' sink sink' status unlisted room ends in
+    (kept_by form shelf shelf' sink sink' status free there ends, whole.0, whole.1)

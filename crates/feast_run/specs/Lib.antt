@@ -2,12 +2,16 @@ pub mod Answer
 pub mod Bodies
 pub mod Codes
 pub mod Element
+pub mod Ending
 pub mod Faults
+pub mod Forms
 pub mod Heads
+pub mod Outcomes
 pub mod Promises
 pub mod Reading
 pub mod Report
 pub mod Run
-pub mod Stops
+pub mod Stages
+pub mod Tellings
 pub mod Values
 pub mod World

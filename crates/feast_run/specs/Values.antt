@@ -2,6 +2,8 @@
 use Rattle.std.specs.Prelude.{map}
 use Rattle.feast_run.specs.World.{TryValue, PlacedValue, WorldValue}
 use Rattle.feast_run.specs.Element.{ElementValue}
+use Rattle.feast_run.specs.Stages.{ReadyValue}
+use Rattle.feast_run.specs.declared.stages.Ready.{Ready}
 use Rattle.feast_run.specs.declared.world.Try.{Try}
 use Rattle.feast_run.specs.declared.world.Placed.{Placed}
 use Rattle.feast_run.specs.declared.world.RawWorld.{RawWorld}
@@ -18,3 +20,6 @@ world_value w = record { width = w.width; height = w.height; tries = map try_val
 
 abbrev pub element_value : Element → ElementValue
 element_value e = record { name = e.name; a = e.a; b = e.b }
+
+abbrev pub ready_value : Ready → ReadyValue
+ready_value r = record { world = world_value r.world; element = element_value r.element }

@@ -1,6 +1,7 @@
 //! The top call over a shelf and a sink in memory.
 ghost use Rattle.std.specs.Prelude.{◌<◌, ◌^◌, ◌-◌, map, string_bytes};
-ghost use Rattle.feast_run.specs.Answer.{Ends, setting};
+ghost use Rattle.feast_run.specs.Ending.{Ends};
+ghost use Rattle.feast_run.specs.Forms.{form_of};
 ghost use Rattle.feast_run.specs.Promises.{IsQuiet, stock_held, told_held};
 
 use crate::{Status, feast};
@@ -21,8 +22,8 @@ pub fn feast_in_memory<R: Threads + Sync, G: Gate>(
     gate: &G,
 ) -> Status
     requires { sink.old.faults < 2 ^ 64 - 1 }
-    ensures ends { Ends (setting (stock_held shelf.old) (stock_held shelf.new) (map string_bytes words.now)) (told_held sink.old) (told_held sink.new) result }
-    ensures quiet { IsQuiet shelf.old shelf.new sink.old sink.new (map string_bytes words.now) result }
+    ensures ends { Ends (form_of (map string_bytes words.now)) (stock_held shelf.old) (stock_held shelf.new) (told_held sink.old) (told_held sink.new) result }
+    ensures quiet { IsQuiet (form_of (map string_bytes words.now)) shelf.old shelf.new sink.old sink.new result }
 {
     feast(rt, alloc, words, shelf, sink, gate)
 }

@@ -5,13 +5,16 @@
 
 mod element;
 mod element_text;
+mod form;
 mod in_memory;
+mod loading;
 mod pieces;
 mod report;
 mod run;
 mod said;
 mod stages;
 mod status;
+mod stop;
 mod swapper;
 mod top;
 mod world;
@@ -19,6 +22,3 @@ mod world;
 pub use in_memory::feast_in_memory;
 pub use status::Status;
 pub use top::feast;
-
-#[cfg(test)]
-mod tests;

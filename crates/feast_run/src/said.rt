@@ -1,6 +1,18 @@
 //! What a call comes to say.
+ghost use Rattle.std.specs.Prelude.{◌≡◌, IfOk, MatchResult, Some, map, string_bytes};
+ghost use Rattle.feast_base.specs.Outside.{stock};
+ghost use Rattle.feast_base.specs.Refusals.{refusal_line};
+ghost use Rattle.feast_run.specs.Ending.{ComesTo, Wants, status_of_input};
+ghost use Rattle.feast_run.specs.Forms.{form_of, form_value};
+ghost use Rattle.feast_run.specs.Tellings.{Coded};
 
 use crate::Status;
+use crate::form::{Form, read_form};
+use crate::loading::{UNREADABLE, USAGE, whole_file};
+use crate::stages::form_stages;
+use crate::stop::{Input, Stop};
+use feast_base::{NoMemory, Refusal, Shelf, print_refusal};
+use std::alloc::Global;
 
 /// What a call comes to say: a status, and the text that is written with it.
 #[derive(Drop)]
@@ -9,11 +21,63 @@ pub struct Said {
     pub text: Vec<u8>,
 }
 
-/// Why a stage of a call goes no further.
-#[derive(Drop)]
-pub enum Stop {
-    /// This is said in place of a report.
-    Refused(Said),
-    /// Want of memory.
-    NoMemory,
+/// The status of a refusal, by what it is about.
+fn status_of(input: Input) -> Status
+    ensures { result ≡ status_of_input input }
+{
+    match input {
+        Input::File => Status::Unreadable,
+        Input::Elements => Status::ElementRefused,
+        Input::World => Status::WorldRefused,
+    }
+}
+
+/// What is said at a refusal: its line.
+fn refuse(alloc: Global, status: Status, word: &str, refusal: &Refusal) -> Result<Said, NoMemory>
+    requires { Coded refusal.now.code }
+    ensures { IfOk result (λ said. (said.status ≡ status) × (said.text.items ≡ refusal_line word.now refusal.now)) }
+{
+    let mut text = Vec::new(alloc);
+    print_refusal(word, refusal, &mut text)?;
+    Ok(Said { status, text })
+}
+
+/// What a form comes to say.
+#[tactic(auto, unfolding(feast_base::specs::Refusals::refusal_line))]
+fn said_form<F: Shelf>(alloc: Global, shelf: &mut F, form: Form<'_>) -> Result<Said, NoMemory>
+    ensures files { F.files shelf.new ≡ F.files shelf.old }
+    ensures says { let old = stock F.files F.failed F.may_fail shelf.old in let new = stock F.files F.failed F.may_fail shelf.new in let form = Some (form_value form.entry) in
+        MatchResult result (λ said. ComesTo form old new said.status said.text.items) (λ _. Wants form old new) }
+{
+    match form_stages(alloc, shelf, form) {
+        Ok(text) => Ok(Said {
+            status: Status::Done,
+            text,
+        }),
+        Err(Stop::Refused(r)) => refuse(alloc, status_of(r.input), r.word, &r.refusal),
+        Err(Stop::Missing(word)) => refuse(
+            alloc,
+            Status::Unreadable,
+            word,
+            &whole_file(UNREADABLE, 0),
+        ),
+        Err(Stop::NoMemory) => Err(NoMemory),
+    }
+}
+
+/// What words come to say.
+#[tactic(auto, unfolding(feast_base::specs::Refusals::refusal_line))]
+pub fn said_words<F: Shelf>(
+    alloc: Global,
+    shelf: &mut F,
+    words: &[String],
+) -> Result<Said, NoMemory>
+    ensures files { F.files shelf.new ≡ F.files shelf.old }
+    ensures says { let old = stock F.files F.failed F.may_fail shelf.old in let new = stock F.files F.failed F.may_fail shelf.new in let form = form_of (map string_bytes words.now) in
+        MatchResult result (λ said. ComesTo form old new said.status said.text.items) (λ _. Wants form old new) }
+{
+    match read_form(words) {
+        Some(form) => said_form(alloc, shelf, form),
+        None => refuse(alloc, Status::Usage, "", &whole_file(USAGE, 0)),
+    }
 }

@@ -1,135 +1,77 @@
-//! The stages of a call: loading, reading, and the answer.
-ghost use Rattle.std.specs.Prelude.{◌≡◌, ◌<◌, ◌-◌, ◌∷◌, [], ◌↔◌, ℕ, List, IsTrue, MatchOption, MatchResult, All, map, codes, string_bytes};
-ghost use Rattle.feast_base.specs.Refusals.{IsCode, refusal_line};
+//! The stages of the forms.
+ghost use Rattle.std.specs.Prelude.{◌≡◌, ◌↔◌, IsTrue, All};
 ghost use Rattle.feast_base.specs.Outside.{stock};
-ghost use Rattle.feast_run.specs.Answer.{AreNamed, Comes, HasElement, HasWorld, IsRun, Loaded, MayWant, NotesNone, not_built, not_built_line, setting};
-ghost use Rattle.feast_run.specs.Stops.{IsLoadStop, IsStop, LoadStop, Stops, StopsElement, StopsWorld};
-ghost use Rattle.feast_run.specs.Values.{element_value, world_value};
+ghost use Rattle.feast_run.specs.Answer.{form_answer};
+ghost use Rattle.feast_run.specs.Forms.{form_value, run};
+ghost use Rattle.feast_run.specs.Stages.{AreNamed, element_of, named, not_built, ready, with_element, world_of};
+ghost use Rattle.feast_run.specs.Tellings.{Moves, Tells, Coded, refused_value};
+ghost use Rattle.feast_run.specs.Values.{element_value, ready_value, world_value};
 
-use crate::Status;
 use crate::element::Element;
 use crate::element_text::read_element;
+use crate::form::Form;
+use crate::loading::{ELEMENT_LIMIT, WORLD_LIMIT, load_file, whole_file};
 use crate::pieces::ReadFault;
 use crate::run::report_of;
-use crate::said::{Said, Stop};
+use crate::stop::{Input, Refused, Stop};
 use crate::world::{Placed, RawWorld, read_world};
-use feast_base::{LoadFault, NoMemory, Place, Refusal, Shelf, print_refusal};
+use feast_base::{NoMemory, Shelf};
 use std::alloc::Global;
-
-/// The longest world file, in bytes.
-const WORLD_LIMIT: u32 = 268_435_456;
-
-/// The longest element file, in bytes.
-const ELEMENT_LIMIT: u32 = 1_048_576;
-
-/// The code of words that have no form.
-const USAGE: u8 = 0;
-
-/// The code of a file that can't be read.
-const UNREADABLE: u8 = 1;
-
-/// The code of a file that is longer than its limit.
-const TOO_LONG: u8 = 2;
 
 /// The code of a file whose form isn't built yet.
 const NOT_BUILT: u8 = 90;
 
-/// A refusal of a whole file, with its place at the file's first byte.
-fn whole_file(code: u8, value: u64) -> Refusal
-    ensures { result ≡ record { code = code; place = record { file = 0; line = 1; column = 1 }; value = value } }
-{
-    let place = Place {
-        file: 0,
-        line: 1,
-        column: 1,
-    };
-    Refusal { code, place, value }
+/// A world, and the element that its atoms are of.
+#[derive(Drop)]
+pub struct Ready {
+    pub world: RawWorld,
+    pub element: Element,
 }
 
-/// The stop at a refusal, with its line.
-fn refused(alloc: Global, status: Status, word: &str, refusal: &Refusal) -> Stop
-    requires { IsCode refusal.now.code }
-    ensures { IsStop status (refusal_line word.now refusal.now) result }
+/// The refusal of a file whose form isn't built yet.
+fn not_built<'a>(input: Input, word: &'a str) -> Refused<'a>
+    ensures value { refused_value result ≡ not_built input word.now }
+    ensures text { Coded result.refusal.code }
 {
-    let mut text = Vec::new(alloc);
-    match print_refusal(word, refusal, &mut text) {
-        Ok(()) => Stop::Refused(Said { status, text }),
-        Err(NoMemory) => Stop::NoMemory,
+    Refused {
+        input,
+        word,
+        refusal: whole_file(NOT_BUILT, 0),
     }
 }
 
-/// The stop at a file whose form isn't built yet.
-fn not_built(alloc: Global, status: Status, word: &str) -> Stop
-    ensures { IsStop status (not_built_line word.now) result }
-{
-    refused(alloc, status, word, &whole_file(NOT_BUILT, 0))
-}
-
-/// The stop at a load that failed.
-#[tactic(auto, unfolding(feast_base::specs::Refusals::refusal_line))]
-fn not_loaded(alloc: Global, word: &str, limit: u32, fault: LoadFault) -> Stop
-    ensures { IsLoadStop word.now limit fault result }
-{
-    match fault {
-        LoadFault::Failed => refused(alloc, Status::Unreadable, word, &whole_file(UNREADABLE, 0)),
-        LoadFault::TooLong => refused(
-            alloc,
-            Status::Unreadable,
-            word,
-            &whole_file(TOO_LONG, limit as u64),
-        ),
-        LoadFault::NoMemory => Stop::NoMemory,
-    }
-}
-
-/// Loads a file of at most `limit` bytes.
-fn load_file<F: Shelf>(
+/// Loads and reads a world.
+fn load_world<'a, F: Shelf>(
     alloc: Global,
     shelf: &mut F,
-    word: &str,
-    limit: u32,
-) -> Result<Vec<u8>, Stop>
+    word: &'a str,
+) -> Result<RawWorld, Stop<'a>>
     ensures files { F.files shelf.new ≡ F.files shelf.old }
-    ensures later { (n : List ℕ) → F.may_fail shelf.new n → F.may_fail shelf.old n }
-    ensures loads { let before = stock F.files F.failed F.may_fail shelf.old in let after = stock F.files F.failed F.may_fail shelf.new in
-        MatchResult result (λ bytes. NotesNone before after × Loaded before.files word.now limit bytes.items)
-        (Stops (LoadStop before after word.now limit) (NotesNone before after)) }
-{
-    let mut bytes = Vec::new(alloc);
-    match shelf.load(word, limit as usize, &mut bytes) {
-        Ok(()) => Ok(bytes),
-        Err(fault) => Err(not_loaded(alloc, word, limit, fault)),
-    }
-}
-
-/// Loads and reads the world of a word.
-fn load_world<F: Shelf>(alloc: Global, shelf: &mut F, word: &str) -> Result<RawWorld, Stop>
-    ensures files { F.files shelf.new ≡ F.files shelf.old }
-    ensures later { (n : List ℕ) → F.may_fail shelf.new n → F.may_fail shelf.old n }
-    ensures reads { let before = stock F.files F.failed F.may_fail shelf.old in let after = stock F.files F.failed F.may_fail shelf.new in
-        MatchResult result (λ w. NotesNone before after × HasWorld before.files word.now (world_value w))
-        (Stops (StopsWorld before after word.now) (NotesNone before after)) }
+    ensures moves { Moves (stock F.files F.failed F.may_fail shelf.old) (stock F.files F.failed F.may_fail shelf.new) result }
+    ensures tells { Tells world_value (world_of (F.files shelf.old) word.now) result }
 {
     let bytes = load_file(alloc, shelf, word, WORLD_LIMIT)?;
     match read_world(alloc, bytes.as_slice()) {
         Ok(world) => Ok(world),
-        Err(ReadFault::OtherForm) => Err(not_built(alloc, Status::WorldRefused, word)),
+        Err(ReadFault::OtherForm) => Err(Stop::Refused(not_built(Input::World, word))),
         Err(ReadFault::NoMemory) => Err(Stop::NoMemory),
     }
 }
 
-/// Loads and reads the element of a word.
-fn load_element<F: Shelf>(alloc: Global, shelf: &mut F, word: &str) -> Result<Element, Stop>
+/// Loads and reads an element.
+fn load_element<'a, F: Shelf>(
+    alloc: Global,
+    shelf: &mut F,
+    word: &'a str,
+) -> Result<Element, Stop<'a>>
     ensures files { F.files shelf.new ≡ F.files shelf.old }
-    ensures later { (n : List ℕ) → F.may_fail shelf.new n → F.may_fail shelf.old n }
-    ensures reads { let before = stock F.files F.failed F.may_fail shelf.old in let after = stock F.files F.failed F.may_fail shelf.new in
-        MatchResult result (λ e. NotesNone before after × HasElement before.files word.now (element_value e))
-        (Stops (StopsElement before after word.now) (NotesNone before after)) }
+    ensures moves { Moves (stock F.files F.failed F.may_fail shelf.old) (stock F.files F.failed F.may_fail shelf.new) result }
+    ensures tells { Tells element_value (element_of (F.files shelf.old) word.now) result }
 {
     let bytes = load_file(alloc, shelf, word, ELEMENT_LIMIT)?;
     match read_element(alloc, bytes.as_slice()) {
         Ok(element) => Ok(element),
-        Err(ReadFault::OtherForm) => Err(not_built(alloc, Status::ElementRefused, word)),
+        Err(ReadFault::OtherForm) => Err(Stop::Refused(not_built(Input::Elements, word))),
         Err(ReadFault::NoMemory) => Err(Stop::NoMemory),
     }
 }
@@ -148,76 +90,76 @@ fn are_named(world: &RawWorld, element: &Element) -> bool
     have_name(world.placed.as_slice(), element.name.bytes())
 }
 
-/// A run of the files of two words, from their stages to its report.
-fn run_files<F: Shelf>(
+/// A world, whose file has this word, with its element.
+fn with_names<'a>(word: &'a str, world: RawWorld, element: Element) -> Result<Ready, Stop<'a>>
+    ensures { Tells ready_value (named word.now (world_value world) (element_value element)) result }
+{
+    if are_named(&world, &element) {
+        Ok(Ready { world, element })
+    } else {
+        Err(Stop::Refused(not_built(Input::World, word)))
+    }
+}
+
+/// Loads the element of a world.
+fn load_rest<'a, F: Shelf>(
     alloc: Global,
     shelf: &mut F,
-    world_word: &str,
-    element_word: &str,
-) -> Result<Said, Stop>
+    world_word: &'a str,
+    element_word: &'a str,
+    world: RawWorld,
+) -> Result<Ready, Stop<'a>>
     ensures files { F.files shelf.new ≡ F.files shelf.old }
-    ensures says { let s = setting (stock F.files F.failed F.may_fail shelf.old) (stock F.files F.failed F.may_fail shelf.new) (codes "run" ∷ world_word.now ∷ element_word.now ∷ []) in
-        MatchResult result (λ said. Comes s said.status said.text.items) (Stops (Comes s) (NotesNone s.before s.after)) }
+    ensures moves { Moves (stock F.files F.failed F.may_fail shelf.old) (stock F.files F.failed F.may_fail shelf.new) result }
+    ensures tells { Tells ready_value (with_element (F.files shelf.old) world_word.now element_word.now (world_value world)) result }
+{
+    let element = load_element(alloc, shelf, element_word)?;
+    with_names(world_word, world, element)
+}
+
+/// Loads a world and its element.
+fn make_ready<'a, F: Shelf>(
+    alloc: Global,
+    shelf: &mut F,
+    world_word: &'a str,
+    element_word: &'a str,
+) -> Result<Ready, Stop<'a>>
+    ensures files { F.files shelf.new ≡ F.files shelf.old }
+    ensures moves { Moves (stock F.files F.failed F.may_fail shelf.old) (stock F.files F.failed F.may_fail shelf.new) result }
+    ensures tells { Tells ready_value (ready (F.files shelf.old) world_word.now element_word.now) result }
 {
     let world = load_world(alloc, shelf, world_word)?;
-    let element = load_element(alloc, shelf, element_word)?;
-    if !are_named(&world, &element) {
-        return Err(not_built(alloc, Status::WorldRefused, world_word));
-    }
-    match report_of(alloc, &world, &element) {
-        Ok(text) => Ok(Said {
-            status: Status::Done,
-            text,
-        }),
+    load_rest(alloc, shelf, world_word, element_word, world)
+}
+
+/// The stages of a run, up to its report.
+fn run_stages<'a, F: Shelf>(
+    alloc: Global,
+    shelf: &mut F,
+    world: &'a str,
+    element: &'a str,
+) -> Result<Vec<u8>, Stop<'a>>
+    ensures files { F.files shelf.new ≡ F.files shelf.old }
+    ensures moves { Moves (stock F.files F.failed F.may_fail shelf.old) (stock F.files F.failed F.may_fail shelf.new) result }
+    ensures tells { Tells (λ v. v.items) (form_answer (F.files shelf.old) (run world.now element.now)) result }
+{
+    let ready = make_ready(alloc, shelf, world, element)?;
+    match report_of(alloc, &ready.world, &ready.element) {
+        Ok(text) => Ok(text),
         Err(NoMemory) => Err(Stop::NoMemory),
     }
 }
 
-/// Whether a word is the one of a run.
-fn is_run(word: &String) -> bool
-    ensures { IsTrue result ↔ (string_bytes word.now ≡ codes "run") }
-{
-    word.as_str() == "run"
-}
-
-/// The file words of a run, where the words have its form.
-fn run_form(words: &[String]) -> Option<(&str, &str)>
-    ensures { MatchOption result ((w e : List ℕ) → IsRun (map string_bytes words.now) w e → ⊥) (λ r. IsRun (map string_bytes words.now) r.0.now r.1.now) }
-{
-    match words {
-        [form, world, element] => {
-            if is_run(form) {
-                Some((world.as_str(), element.as_str()))
-            } else {
-                None
-            }
-        }
-        _ => None,
-    }
-}
-
-/// The stages of the words.
-#[tactic(auto, unfolding(feast_base::specs::Refusals::refusal_line))]
-fn stages<F: Shelf>(alloc: Global, words: &[String], shelf: &mut F) -> Result<Said, Stop>
+/// The stages of a form, up to the text that it writes.
+#[tactic(auto, unfolding(crate::specs::Forms::form_value))]
+pub fn form_stages<'a, F: Shelf>(
+    alloc: Global,
+    shelf: &mut F,
+    form: Form<'a>,
+) -> Result<Vec<u8>, Stop<'a>>
     ensures files { F.files shelf.new ≡ F.files shelf.old }
-    ensures says { let s = setting (stock F.files F.failed F.may_fail shelf.old) (stock F.files F.failed F.may_fail shelf.new) (map string_bytes words.now) in
-        MatchResult result (λ said. Comes s said.status said.text.items) (Stops (Comes s) (NotesNone s.before s.after)) }
+    ensures moves { Moves (stock F.files F.failed F.may_fail shelf.old) (stock F.files F.failed F.may_fail shelf.new) result }
+    ensures tells { Tells (λ v. v.items) (form_answer (F.files shelf.old) (form_value form.entry)) result }
 {
-    match run_form(words) {
-        Some((world, element)) => run_files(alloc, shelf, world, element),
-        None => Err(refused(alloc, Status::Usage, "", &whole_file(USAGE, 0))),
-    }
-}
-
-/// What the words come to say.
-pub fn answer<F: Shelf>(alloc: Global, words: &[String], shelf: &mut F) -> Result<Said, NoMemory>
-    ensures files { F.files shelf.new ≡ F.files shelf.old }
-    ensures says { let s = setting (stock F.files F.failed F.may_fail shelf.old) (stock F.files F.failed F.may_fail shelf.new) (map string_bytes words.now) in
-        MatchResult result (λ said. Comes s said.status said.text.items) (λ _. MayWant s) }
-{
-    match stages(alloc, words, shelf) {
-        Ok(said) => Ok(said),
-        Err(Stop::Refused(said)) => Ok(said),
-        Err(Stop::NoMemory) => Err(NoMemory),
-    }
+    run_stages(alloc, shelf, form.world, form.element)
 }

@@ -1,22 +1,24 @@
 //! The top call.
-ghost use Rattle.std.specs.Prelude.{◌≡◌, ◌<◌, ◌^◌, ◌-◌, map, string_bytes, length};
+ghost use Rattle.std.specs.Prelude.{◌≡◌, ◌<◌, ◌^◌, ◌-◌, List, map, string_bytes};
 ghost use Rattle.feast_base.specs.Outside.{stock, told};
-ghost use Rattle.feast_run.specs.Answer.{Ends, Put, setting};
-ghost use Rattle.feast_run.specs.Promises.{Complete, Exactly, Headline, UsageExactly};
+ghost use Rattle.feast_run.specs.Ending.{Ends, PutWith};
+ghost use Rattle.feast_run.specs.Forms.{form_of};
+ghost use Rattle.feast_run.specs.Promises.{Complete, Exactly, Headline, Noted, UsageExactly};
 
 use crate::Status;
-use crate::said::Said;
-use crate::stages::answer;
+use crate::said::{Said, said_words};
 use feast_base::{Gate, NoMemory, Shelf, Sink, SinkFailed};
 use std::alloc::Global;
 use std::thread::Threads;
 
-/// Puts what is said, and answers the status where it is put whole.
+/// Puts what is said, unless it is nothing, and answers the status where it is put whole.
 fn put<K: Sink>(sink: &mut K, said: Said) -> Status
-    requires room { K.faults sink.old < 2 ^ 64 - 1 }
-    requires some { 0 < length said.text.items }
-    ensures { Put said.status said.text.items (told K.written K.faults K.may_fail sink.old) (told K.written K.faults K.may_fail sink.new) result }
+    requires { K.faults sink.old < 2 ^ 64 - 1 }
+    ensures { PutWith said.status said.text.items (told K.written K.faults K.may_fail sink.old) (told K.written K.faults K.may_fail sink.new) result }
 {
+    if said.text.is_empty() {
+        return said.status;
+    }
     match sink.put(said.text.as_slice()) {
         Ok(()) => said.status,
         Err(SinkFailed) => Status::SinkFault,
@@ -27,11 +29,11 @@ fn put<K: Sink>(sink: &mut K, said: Said) -> Status
 fn call<F: Shelf, K: Sink>(alloc: Global, words: &[String], shelf: &mut F, sink: &mut K) -> Status
     requires { K.faults sink.old < 2 ^ 64 - 1 }
     ensures files { F.files shelf.new ≡ F.files shelf.old }
-    ensures ends { Ends
-        (setting (stock F.files F.failed F.may_fail shelf.old) (stock F.files F.failed F.may_fail shelf.new) (map string_bytes words.now))
+    ensures ends { Ends (form_of (map string_bytes words.now))
+        (stock F.files F.failed F.may_fail shelf.old) (stock F.files F.failed F.may_fail shelf.new)
         (told K.written K.faults K.may_fail sink.old) (told K.written K.faults K.may_fail sink.new) result }
 {
-    match answer(alloc, words, shelf) {
+    match said_words(alloc, shelf, words) {
         Ok(said) => put(sink, said),
         Err(NoMemory) => Status::NoMemory,
     }
@@ -64,18 +66,19 @@ pub fn feast<R: Threads + Sync, F: Shelf, K: Sink, G: Gate>(
 ) -> Status
     requires { K.faults sink.old < 2 ^ 64 - 1 }
     ensures files { F.files shelf.new ≡ F.files shelf.old }
-    ensures headline { Headline
-        (setting (stock F.files F.failed F.may_fail shelf.old) (stock F.files F.failed F.may_fail shelf.new) (map string_bytes words.now))
+    ensures ends { Ends (form_of (map string_bytes words.now))
+        (stock F.files F.failed F.may_fail shelf.old) (stock F.files F.failed F.may_fail shelf.new)
         (told K.written K.faults K.may_fail sink.old) (told K.written K.faults K.may_fail sink.new) result }
-    ensures ends { Ends
-        (setting (stock F.files F.failed F.may_fail shelf.old) (stock F.files F.failed F.may_fail shelf.new) (map string_bytes words.now))
+    ensures headline { Headline (form_of (map string_bytes words.now)) (stock F.files F.failed F.may_fail shelf.old)
         (told K.written K.faults K.may_fail sink.old) (told K.written K.faults K.may_fail sink.new) result }
-    ensures usage { UsageExactly (map string_bytes words.now) result }
-    ensures exactly { Exactly
-        (setting (stock F.files F.failed F.may_fail shelf.old) (stock F.files F.failed F.may_fail shelf.new) (map string_bytes words.now))
+    ensures usage { UsageExactly (form_of (map string_bytes words.now)) result }
+    ensures exactly { Exactly (form_of (map string_bytes words.now))
+        (stock F.files F.failed F.may_fail shelf.old) (stock F.files F.failed F.may_fail shelf.new)
         (told K.written K.faults K.may_fail sink.old) (told K.written K.faults K.may_fail sink.new) result }
-    ensures complete { Complete
-        (setting (stock F.files F.failed F.may_fail shelf.old) (stock F.files F.failed F.may_fail shelf.new) (map string_bytes words.now))
+    ensures noted { Noted (form_of (map string_bytes words.now))
+        (stock F.files F.failed F.may_fail shelf.old) (stock F.files F.failed F.may_fail shelf.new) result }
+    ensures complete { Complete (form_of (map string_bytes words.now))
+        (stock F.files F.failed F.may_fail shelf.old) (stock F.files F.failed F.may_fail shelf.new)
         (told K.written K.faults K.may_fail sink.old) (told K.written K.faults K.may_fail sink.new) result }
 {
     call(alloc, words, shelf, sink)

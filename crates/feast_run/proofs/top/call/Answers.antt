@@ -1,5 +1,5 @@
-use Rattle.feast_run.proofs.Promised.{comes_some}
+use Rattle.feast_run.proofs.Ended.{ends_of}
 use Rattle.feast_run.proofs.top.call.Goals as goal
 
-pub put-requires-clause-some : goal.put-requires-clause-some
-put-requires-clause-some g c = comes_some _ c.in-Ok.said.status c.in-Ok.said.text.items c.in-Ok.ensures.says
+pub returns-in-Ok-clause-ends : goal.returns-in-Ok-clause-ends
+returns-in-Ok-clause-ends g c = ends_of _ _ _ _ _ c.in-Ok.said.status _ c.put.result c.in-Ok.ensures.says c.put.ensures

@@ -1,0 +1,42 @@
+-- The places that a window covers are those of its live sites among the shared sites of the edge.
+use Rattle.std.proofs.Common.{◌≡◌, ℕ, ◌+◌, ◌*◌, ◌<◌, true, refl, ap, ◌∙◌, arith, Option, Some, None, get_or, length}
+use Rattle.std.specs.Prelude.{◌==◌, ◌&&◌, slice_get}
+use Rattle.std.specs.Option.{option_map}
+use Rattle.std.proofs.lemmas.Bool.Decides.{nat_tests}
+use Rattle.std.proofs.lemmas.List.Quantifiers.{position-Some}
+use Rattle.std.proofs.lemmas.Option.{slice_get-get_or}
+use Rattle.tile_map.specs.Plane.{Site, MapValue, in_window}
+use Rattle.tile_map.specs.Edges.{pairs_of, window_site, shared_of, register_of}
+use Rattle.tile_map.specs.Laws.{IsPlane}
+use Rattle.border_cache.specs.News.{Covers}
+use Rattle.border_cache.specs.Windows.{place_in, place_of, place_of_some}
+
+-- shared site k is a live site of the window
+abbrev pub IsInWindow : MapValue → Site → ℕ → ℕ → Type 0
+IsInWindow m c e k = (s : Site) × (slice_get (shared_of m e) k ≡ Some s) × (in_window m c s ≡ true)
+
+pub covered_in : (m : MapValue) → IsPlane m → (c : Site) (e k : ℕ) → Covers (place_in m c e) 41 k → IsInWindow m c e k
+covered_in m p c e k cov = go (window_site m c cov.0) refl cov.2
+  where
+    go : (o : Option Site) → window_site m c cov.0 ≡ o → place_of_some m e o ≡ Some k → IsInWindow m c e k
+    go None is h = absurd (cc h)
+    go (Some s) is h =
+        let found = position-Some (λ p. p.x == s.x && p.y == s.y) (shared_of m e) k c h in
+        let q = get_or (shared_of m e) k c in
+        let x : q.x ≡ s.x = grind (arith, nat_tests, found.1) in
+        let y : q.y ≡ s.y = grind (arith, nat_tests, found.1) in
+        (s, slice_get-get_or (shared_of m e) k c found.0 ∙ (λ z. Some (record { x = x z; y = y z })), p.windows.site c s cov.0 (omega (arith, cov.1)) is)
+
+abbrev inside : Option ℕ → ℕ
+inside None = 0
+inside (Some x) = x
+
+pub in_covered : (m : MapValue) → IsPlane m → (c : Site) (e k : ℕ) → e < length (pairs_of m) → IsInWindow m c e k → Covers (place_in m c e) 41 k
+in_covered m p c e k lt w =
+    let n = p.windows.number c w.0 w.2 in
+    let r : register_of m e w.0 ≡ Some (1 + 2 * k) = p.registers.found e k w.0 lt w.1 in
+    (n.0, omega (arith, n.1), ap (place_of_some m e) n.2 ∙ go (place_of m e w.0) r)
+  where
+    go : (o : Option ℕ) → option_map (λ k. 1 + 2 * k) o ≡ Some (1 + 2 * k) → o ≡ Some k
+    go None h = absurd (cc h)
+    go (Some j) h = let q : 1 + 2 * j ≡ 1 + 2 * k = ap inside h in ap Some (omega (arith, q))

@@ -1,0 +1,35 @@
+use Rattle.std.proofs.Common.{◌++◌, length}
+use Rattle.border_cache.specs.News.{place_at}
+use Rattle.border_cache.specs.Published.{cell_at}
+use Rattle.border_cache.proofs.Runs.{adds_then, held_adds}
+use Rattle.border_cache.proofs.Puts.{publish_whole, covered_low}
+use Rattle.border_cache.proofs.news.publish_edge.Goals as goal
+
+pub put_bits-requires-clause-held : goal.put_bits-requires-clause-held
+put_bits-requires-clause-held g c =
+    let p = c.put_cells.ensures.put in
+    held_adds (g.D.Board.lists c.args.board.now) (g.D.Board.lists c.put_cells.new.board) c.args.edge p.0 c.requires.held p.1
+
+pub put_bits-requires-2-clause-held : goal.put_bits-requires-2-clause-held
+put_bits-requires-2-clause-held g c =
+    let p = c.put_cells.ensures.put in
+    let q = c.put_bits.ensures.put in
+    let here = held_adds (g.D.Board.lists c.args.board.now) (g.D.Board.lists c.put_cells.new.board) c.args.edge p.0 c.requires.held p.1 in
+    held_adds (g.D.Board.lists c.put_cells.new.board) (g.D.Board.lists c.put_bits.new.board) c.args.edge q.0 here q.1
+
+pub returns-clause-published : goal.returns-clause-published
+returns-clause-published g c =
+    let p = c.put_cells.ensures.put in
+    let q = c.put_bits.ensures.put in
+    let r = c.put_bits-2.ensures.put in
+    let a = g.D.Board.lists c.args.board.now in
+    let b = g.D.Board.lists c.put_cells.new.board in
+    let d = g.D.Board.lists c.put_bits.new.board in
+    let f = g.D.Board.lists c.put_bits-2.new.board in
+    let e = c.args.edge in
+    let here = held_adds a b e p.0 c.requires.held p.1 in (
+      p.0 ++ (q.0 ++ r.0),
+      adds_then a b f e p.0 (q.0 ++ r.0) c.requires.held p.1 (adds_then b d f e q.0 r.0 here q.1 r.1),
+      publish_whole c.args.sites c.args.end (length c.args.places.now) (cell_at c.args.cells.now) (place_at c.args.places.now) p.0 q.0 r.0 c.requires.end
+          (covered_low c.args.sites (place_at c.args.places.now) (length c.args.places.now) c.requires.places) p.2 q.2 r.2,
+    )

@@ -1,0 +1,28 @@
+use Rattle.std.proofs.Common.{ℕ, sym, subst}
+use Rattle.tile_map.specs.Plane.{site}
+use Rattle.border_cache.specs.News.{place_at}
+use Rattle.border_cache.specs.Published.{ArePlaces, IsPublish, cell_at}
+use Rattle.border_cache.specs.Windows.{place_in, end_at, sites_on}
+use Rattle.border_cache.proofs.Puts.{publish_by, apart_by}
+use Rattle.border_cache.proofs.Apart.{places_apart}
+use Rattle.border_cache.proofs.places.publish_on.Goals as goal
+
+pub publish_edge-requires-clause-apart : goal.publish_edge-requires-clause-apart
+publish_edge-requires-clause-apart g c =
+    let m = c.args.map.now in
+    let e = c.args.edge in
+    let p = place_at c.places-places.result in
+    let q = place_in m (site c.args.x c.args.y) e in
+    subst (ArePlaces p) (sym c.places-places.ensures.count) (apart_by (sites_on m e) (end_at m c.args.tile e) (cell_at c.args.cells.now) p q 41 c.places-places.ensures.places (places_apart m (site c.args.x c.args.y) e))
+
+pub returns-clause-published : goal.returns-clause-published
+returns-clause-published g c =
+    let m = c.args.map.now in
+    let e = c.args.edge in
+    let p = place_at c.places-places.result in
+    let q = place_in m (site c.args.x c.args.y) e in
+    let cells = cell_at c.args.cells.now in
+    let r = c.publish_edge.ensures.published in
+    let r1 : IsPublish c.shared-sites.result c.end_of-end.result cells p 41 r.0 = subst (λ n. IsPublish c.shared-sites.result c.end_of-end.result cells p n r.0) c.places-places.ensures.count r.2 in
+    let r2 : IsPublish (sites_on m e) (end_at m c.args.tile e) cells p 41 r.0 = subst (λ (x : ℕ × ℕ). IsPublish x.0 x.1 cells p 41 r.0) (λ i. (c.shared-sites.ensures.count i, c.end_of-end.ensures.end i)) r1 in
+    (r.0, r.1, publish_by (sites_on m e) (end_at m c.args.tile e) cells p q 41 c.places-places.ensures.places r.0 r2)

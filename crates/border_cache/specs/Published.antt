@@ -1,0 +1,67 @@
+-- What a publishing does on one edge: it writes cells, and marks them as no news for the one end and as news for the other.
+use Rattle.std.specs.Prelude.{ℕ, ◌≡◌, ◌+◌, ◌*◌, ◌/◌, ◌%◌, ◌-◌, ◌<◌, ◌⊎◌, slice_index_or, Bool, true, false, List, [], ◌∷◌, Option, Some, None}
+use Rattle.std.specs.Int.{bit_at}
+use Rattle.feast_base.specs.Edges.{news_register}
+use Rattle.edge_lock.specs.declared.history.Access.{Access}
+use Rattle.edge_lock.specs.declared.history.Access.TheVariants.{Read, Write}
+use Rattle.edge_lock.specs.History.{found_value}
+use Rattle.edge_lock.specs.EndLists.{last_shown}
+use Rattle.border_cache.specs.Accesses.{last_write, is_read, reads_nothing}
+use Rattle.border_cache.specs.Cells.{CellValue, cell_of}
+use Rattle.border_cache.specs.News.{Covers, word_of, no_cell}
+
+abbrev pub digit : Bool → ℕ
+digit true = 1
+digit false = 0
+
+-- a word with one bit changed
+pub record IsWithBit (old : ℕ) (i : ℕ) (bit : Bool) (new : ℕ) : Type 0 where
+  pub same : bit_at new i ≡ digit bit
+  pub others : (j : ℕ) → j < 64 → (j ≡ i → ⊥) → bit_at new j ≡ bit_at old j
+
+-- the news word j of an end: first read as one word, written last as another, in which the bits of the covered places are all the same and the other bits are as they were
+pub record IsWordMarked (sites end : ℕ) (bit : Bool) (places : ℕ → Option ℕ) (n : ℕ) (accesses : List Access) (j : ℕ) : Type 0 where
+  pub first : ℕ
+  pub last : ℕ
+  pub found : found_value accesses (news_register sites end j) ≡ Some first
+  pub written : last_write accesses (news_register sites end j) None ≡ Some last
+  pub marked : (i : ℕ) → i < 64 → Covers places n (64 * j + i) → bit_at last i ≡ digit bit
+  pub kept : (i : ℕ) → i < 64 → (Covers places n (64 * j + i) → ⊥) → bit_at last i ≡ bit_at first i
+
+-- the news words of an end after the bits of the covered places were set, or cleared
+pub record IsMarked (sites end : ℕ) (bit : Bool) (places : ℕ → Option ℕ) (n : ℕ) (accesses : List Access) : Type 0 where
+  pub words : (k : ℕ) → Covers places n k → IsWordMarked sites end bit places n accesses (k / 64)
+  pub shown : (k : ℕ) → Covers places n k → (start : Option ℕ) → last_shown accesses (word_of sites end k) start ≡ last_write accesses (word_of sites end k) None
+  pub only_read : (register : ℕ) → is_read accesses register ≡ true → (k : ℕ) × Covers places n k × (register ≡ word_of sites end k)
+  pub only_written : (register value : ℕ) → last_write accesses register None ≡ Some value → (k : ℕ) × Covers places n k × (register ≡ word_of sites end k)
+
+-- one bit is changed, where there is a place
+abbrev pub IsBitPut : ℕ → ℕ → Bool → Option ℕ → List Access → Type 0
+IsBitPut sites end bit None accesses = accesses ≡ []
+IsBitPut sites end bit (Some k) accesses = (old : ℕ) × (new : ℕ) × (accesses ≡ Read (word_of sites end k) old ∷ Write (word_of sites end k) new ∷ []) × IsWithBit old (k % 64) bit new
+
+-- no two of the first n sites of a window stand at one place
+abbrev pub ArePlaces : (ℕ → Option ℕ) → ℕ → Type 0
+ArePlaces places n = (i j k : ℕ) → i < n → j < n → places i ≡ Some k → places j ≡ Some k → i ≡ j
+
+abbrev pub cell_at : List CellValue → ℕ → CellValue
+cell_at cells n = slice_index_or cells n no_cell
+
+-- the cells of the first n sites of a window, written at their places
+pub record ArePut (cells : ℕ → CellValue) (places : ℕ → Option ℕ) (n : ℕ) (accesses : List Access) : Type 0 where
+  pub unread : reads_nothing accesses ≡ true
+  pub done : (j k : ℕ) → j < n → places j ≡ Some k → (low : ℕ) × (high : ℕ) × (last_write accesses (1 + 2 * k) None ≡ Some low) × (last_write accesses (2 + 2 * k) None ≡ Some high) × (cell_of low high ≡ cells j)
+  pub only : (register value : ℕ) → last_write accesses register None ≡ Some value → (k : ℕ) × Covers places n k × ((register ≡ 1 + 2 * k) ⊎ (register ≡ 2 + 2 * k))
+
+abbrev pub IsCellPut : CellValue → Option ℕ → List Access → Type 0
+IsCellPut cell None accesses = accesses ≡ []
+IsCellPut cell (Some k) accesses = (low : ℕ) × (high : ℕ) × (accesses ≡ Write (1 + 2 * k) low ∷ Write (2 + 2 * k) high ∷ []) × (cell_of low high ≡ cell)
+
+-- all that a publishing of n sites does on an edge
+pub record IsPublish (sites end : ℕ) (cells : ℕ → CellValue) (places : ℕ → Option ℕ) (n : ℕ) (accesses : List Access) : Type 0 where
+  pub cells_put : (j k : ℕ) → j < n → places j ≡ Some k → (low : ℕ) × (high : ℕ) × (last_write accesses (1 + 2 * k) None ≡ Some low) × (last_write accesses (2 + 2 * k) None ≡ Some high) × (cell_of low high ≡ cells j)
+  pub mine : (k : ℕ) → Covers places n k → IsWordMarked sites end false places n accesses (k / 64)
+  pub theirs : (k : ℕ) → Covers places n k → IsWordMarked sites (1 - end) true places n accesses (k / 64)
+  pub only_read : (register : ℕ) → is_read accesses register ≡ true → (k : ℕ) × Covers places n k × ((register ≡ word_of sites end k) ⊎ (register ≡ word_of sites (1 - end) k))
+  pub only_written : (register value : ℕ) → last_write accesses register None ≡ Some value
+      → (k : ℕ) × Covers places n k × ((register ≡ 1 + 2 * k) ⊎ ((register ≡ 2 + 2 * k) ⊎ ((register ≡ word_of sites end k) ⊎ (register ≡ word_of sites (1 - end) k))))

@@ -1,0 +1,88 @@
+-- The sites of a window among the shared sites of an edge, and what a refresh does over all needed edges.
+use Rattle.std.specs.Prelude.{ℕ, ◌≡◌, ◌<◌, ◌==◌, ◌&&◌, List, [], ◌∷◌, length, Option, Some, None, slice_index_or, position, is_some, Bool, true, false, if◌then◌else◌}
+use Rattle.edge_lock.specs.declared.history.Access.{Access}
+use Rattle.edge_lock.specs.declared.history.Access.TheVariants.{Read}
+use Rattle.border_cache.specs.Published.{IsPublish}
+use Rattle.edge_lock.specs.EndLists.{EndLists, known_value, IsHeld}
+use Rattle.feast_base.specs.Edges.{registers_of}
+use Rattle.window_sites.specs.Window.{WindowValue, IsWindow, atom_at, live_at}
+use Rattle.tile_map.specs.Plane.{Site, MapValue}
+use Rattle.tile_map.specs.Edges.{shared_of, low_end, pairs_of, window_site}
+use Rattle.border_cache.specs.Cells.{CellValue, newest}
+use Rattle.border_cache.specs.Accesses.{IsHonest, after_all}
+use Rattle.border_cache.specs.News.{seen, IsRefresh, no_cell}
+
+-- whether e is one of the edges
+abbrev pub has : ℕ → List ℕ → Bool
+has e [] = false
+has e (d ∷ ds) = if e == d then true else has e ds
+
+-- the place of a site among those that an edge shares
+abbrev pub place_of : MapValue → ℕ → Site → Option ℕ
+place_of m e s = position (λ p. p.x == s.x && p.y == s.y) (shared_of m e)
+
+abbrev pub place_of_some : MapValue → ℕ → Option Site → Option ℕ
+place_of_some m e None = None
+place_of_some m e (Some s) = place_of m e s
+
+-- the place of site n of the window at c
+abbrev pub place_in : MapValue → Site → ℕ → ℕ → Option ℕ
+place_in m c e n = place_of_some m e (window_site m c n)
+
+-- which end of the edge tile t is
+abbrev pub end_at : MapValue → ℕ → ℕ → ℕ
+end_at m t e = if low_end m e == t then 0 else 1
+
+-- the edge's number of shared sites
+abbrev pub sites_on : MapValue → ℕ → ℕ
+sites_on m e = length (shared_of m e)
+
+-- the tile has the edge, which has the registers of its shared sites
+pub record IsEdgeFor (m : MapValue) (registers : ℕ → ℕ) (lists : ℕ → EndLists) (e : ℕ) : Type 0 where
+  pub known : e < length (pairs_of m)
+  pub registers_on : registers e ≡ registers_of (sites_on m e)
+  pub held : IsHeld (lists e)
+
+-- the open holds of these edges have these accesses more, and nothing else changed
+pub record AddsAll (old new : ℕ → EndLists) (edges : List ℕ) (more : ℕ → List Access) : Type 0 where
+  pub lists : (e : ℕ) → new e ≡ after_all (more e) (old e)
+  pub honest : (e : ℕ) → IsHonest (known_value (old e)) (more e)
+  pub only : (e : ℕ) → has e edges ≡ false → more e ≡ []
+
+-- a cell before others, if there is one
+abbrev pub and_cell : Option CellValue → List CellValue → List CellValue
+and_cell None cells = cells
+and_cell (Some cell) cells = cell ∷ cells
+
+-- the cells that were seen at site n of the window, edge by edge
+abbrev pub seen_on : MapValue → ℕ → Site → (ℕ → List Access) → ℕ → List ℕ → List CellValue
+seen_on m t c more n [] = []
+seen_on m t c more n (e ∷ es) = and_cell (seen (sites_on m e) (end_at m t e) (more e) (place_in m c e n)) (seen_on m t c more n es)
+
+-- a refresh of the cells of the window at c from these edges
+pub record RefreshesAll (m : MapValue) (t : ℕ) (c : Site) (edges : List ℕ) (lists lists' : ℕ → EndLists) (old new : List CellValue) : Type 0 where
+  pub more : ℕ → List Access
+  pub adds : AddsAll lists lists' edges more
+  pub reads : (e : ℕ) → has e edges ≡ true → IsRefresh (sites_on m e) (end_at m t e) (place_in m c e) 41 (more e)
+  pub length : length new ≡ length old
+  pub cells : (n : ℕ) → n < 41 → slice_index_or new n no_cell ≡ newest (slice_index_or old n no_cell) (seen_on m t c more n edges)
+
+-- a publishing of the cells of the window at c on these edges
+pub record PublishesAll (m : MapValue) (t : ℕ) (c : Site) (edges : List ℕ) (cells : ℕ → CellValue) (lists lists' : ℕ → EndLists) : Type 0 where
+  pub more : ℕ → List Access
+  pub adds : AddsAll lists lists' edges more
+  pub writes : (e : ℕ) → has e edges ≡ true → IsPublish (sites_on m e) (end_at m t e) cells (place_in m c e) 41 (more e)
+
+-- one word was read, or written, on each of these edges
+abbrev pub Reads : ℕ → List Access → Type 0
+Reads register accesses = (value : ℕ) × (accesses ≡ Read register value ∷ [])
+
+-- whether site n of the window is live
+abbrev pub is_shown : MapValue → Site → ℕ → Bool
+is_shown m c n = is_some (window_site m c n)
+
+-- a window that shows the atoms of these cells at its live sites
+pub record IsView (m : MapValue) (c : Site) (cells : ℕ → CellValue) (view : WindowValue) : Type 0 where
+  pub valid : IsWindow view
+  pub live : (n : ℕ) → n < 41 → live_at view n ≡ is_shown m c n
+  pub atoms : (n : ℕ) → n < 41 → is_shown m c n ≡ true → atom_at view n ≡ (cells n).atom

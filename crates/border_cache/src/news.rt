@@ -1,0 +1,222 @@
+//! The cells and news bits of one edge, through a board.
+ghost use Rattle.std.specs.Prelude.{◌≡◌, ◌+◌, ◌*◌, ◌<◌, ◌^◌, List, ℕ, length};
+ghost use Rattle.feast_base.specs.Edges.{registers_of};
+ghost use Rattle.edge_lock.specs.declared.history.Access.{Access};
+ghost use Rattle.edge_lock.specs.EndLists.{IsHeld};
+ghost use Rattle.border_cache.specs.Accesses.{Adds};
+ghost use Rattle.border_cache.specs.News.{word_of, IsSiteRead, Refreshes, IsPlace, place_at, IsSiteRefresh};
+ghost use Rattle.border_cache.specs.Published.{IsWithBit, IsBitPut, IsMarked, ArePut, IsCellPut, IsPublish, ArePlaces, cell_at};
+
+use crate::cell::Cell;
+use edge_lock::Board;
+
+// The register of the news word of an end that has the bit of a place.
+fn news_word(sites: u32, end: u32, place: u32) -> u32
+    requires fits { registers_of sites < 2 ^ 32 }
+    requires end { end < 2 }
+    requires place { place < sites }
+    ensures value { result ≡ word_of sites end place }
+    ensures inside { result < registers_of sites }
+{
+    let words = (sites + 63) / 64;
+    let first = 1 + 2 * sites + if end == 0 { 0 } else { words };
+    first + place / 64
+}
+
+// Reads the cell of a place, if it is news for the end.
+pub(crate) fn read_site<D: Board>(
+    board: &mut D,
+    edge: u32,
+    sites: u32,
+    end: u32,
+    place: u32,
+) -> Option<Cell>
+    requires fits { registers_of sites < 2 ^ 32 }
+    requires registers { D.registers board.old edge ≡ registers_of sites }
+    requires end { end < 2 }
+    requires place { place < sites }
+    requires held { IsHeld (D.lists board.old edge) }
+    ensures read { (more : List Access) × Adds (D.lists board.old) (D.lists board.new) edge more × IsSiteRead sites end place result more }
+    ensures tile { D.tile board.new ≡ D.tile board.old }
+    ensures edges { (D.registers board.new ≡ D.registers board.old) × (D.end_of board.new ≡ D.end_of board.old) }
+    ensures moved { D.moved board.old board.new }
+{
+    let word = board.read(edge, news_word(sites, end, place));
+    if (word >> (place % 64)) & 1 == 0 {
+        return None;
+    }
+    let low = board.read(edge, 1 + 2 * place);
+    let high = board.read(edge, 2 + 2 * place);
+    Some(Cell::from_words(low, high))
+}
+
+// Brings the cells of a window up to date with those of an edge that are news for the end.
+pub(crate) fn refresh_edge<D: Board>(
+    cells: &mut [Cell],
+    places: &[Option<u32>],
+    edge: u32,
+    sites: u32,
+    end: u32,
+    board: &mut D,
+)
+    requires together { length cells.old ≡ length places.now }
+    requires fits { registers_of sites < 2 ^ 32 }
+    requires registers { D.registers board.old edge ≡ registers_of sites }
+    requires end { end < 2 }
+    requires places { (n : ℕ) → n < length places.now → IsPlace sites (place_at places.now n) }
+    requires held { IsHeld (D.lists board.old edge) }
+    ensures refreshes { Refreshes sites end (place_at places.now) (length places.now) edge (D.lists board.old) (D.lists board.new) cells.old cells.new }
+    ensures tile { D.tile board.new ≡ D.tile board.old }
+    ensures edges { (D.registers board.new ≡ D.registers board.old) × (D.end_of board.new ≡ D.end_of board.old) }
+    ensures moved { D.moved board.old board.new }
+{
+    for n in 0..places.len() {
+        refresh_site(cells, n, places[n], edge, sites, end, board);
+    }
+}
+
+// Brings one cell of a window up to date.
+fn refresh_site<D: Board>(
+    cells: &mut [Cell],
+    n: usize,
+    place: Option<u32>,
+    edge: u32,
+    sites: u32,
+    end: u32,
+    board: &mut D,
+)
+    requires inside { n < length cells.old }
+    requires fits { registers_of sites < 2 ^ 32 }
+    requires registers { D.registers board.old edge ≡ registers_of sites }
+    requires end { end < 2 }
+    requires place { IsPlace sites place }
+    requires held { IsHeld (D.lists board.old edge) }
+    ensures read { (more : List Access) × Adds (D.lists board.old) (D.lists board.new) edge more × IsSiteRefresh sites end place more n cells.old cells.new }
+    ensures tile { D.tile board.new ≡ D.tile board.old }
+    ensures edges { (D.registers board.new ≡ D.registers board.old) × (D.end_of board.new ≡ D.end_of board.old) }
+    ensures moved { D.moved board.old board.new }
+{
+    if let Some(place) = place {
+        if let Some(found) = read_site(board, edge, sites, end, place) {
+            cells[n] = cells[n].newer_of(found);
+        }
+    }
+}
+
+// The word with bit `i` set or cleared.
+#[tactic(auto, using(crate::proofs::Words::sets, crate::proofs::Words::clears))]
+fn with_bit(word: u64, i: u32, bit: bool) -> u64
+    requires { i < 64 }
+    ensures { IsWithBit word i bit result }
+{
+    if bit {
+        word | (1u64 << i)
+    } else {
+        word & !(1u64 << i)
+    }
+}
+
+// Sets or clears the bit of a place in a news word of an end.
+fn put_bit<D: Board>(board: &mut D, edge: u32, sites: u32, end: u32, place: Option<u32>, bit: bool)
+    requires fits { registers_of sites < 2 ^ 32 }
+    requires registers { D.registers board.old edge ≡ registers_of sites }
+    requires end { end < 2 }
+    requires place { IsPlace sites place }
+    requires held { IsHeld (D.lists board.old edge) }
+    ensures put { (more : List Access) × Adds (D.lists board.old) (D.lists board.new) edge more × IsBitPut sites end bit place more }
+    ensures tile { D.tile board.new ≡ D.tile board.old }
+    ensures edges { (D.registers board.new ≡ D.registers board.old) × (D.end_of board.new ≡ D.end_of board.old) }
+    ensures moved { D.moved board.old board.new }
+{
+    if let Some(place) = place {
+        let register = news_word(sites, end, place);
+        let word = board.read(edge, register);
+        board.write(edge, register, with_bit(word, place % 64, bit));
+    }
+}
+
+// Sets or clears the bits of all these places in the news words of an end.
+fn put_bits<D: Board>(
+    board: &mut D,
+    edge: u32,
+    sites: u32,
+    end: u32,
+    places: &[Option<u32>],
+    bit: bool,
+)
+    requires fits { registers_of sites < 2 ^ 32 }
+    requires registers { D.registers board.old edge ≡ registers_of sites }
+    requires end { end < 2 }
+    requires places { (n : ℕ) → n < length places.now → IsPlace sites (place_at places.now n) }
+    requires held { IsHeld (D.lists board.old edge) }
+    ensures put { (more : List Access) × Adds (D.lists board.old) (D.lists board.new) edge more × IsMarked sites end bit (place_at places.now) (length places.now) more }
+    ensures tile { D.tile board.new ≡ D.tile board.old }
+    ensures edges { (D.registers board.new ≡ D.registers board.old) × (D.end_of board.new ≡ D.end_of board.old) }
+    ensures moved { D.moved board.old board.new }
+{
+    for n in 0..places.len() {
+        put_bit(board, edge, sites, end, places[n], bit);
+    }
+}
+
+// Writes a cell at its place.
+fn put_cell<D: Board>(board: &mut D, edge: u32, sites: u32, place: Option<u32>, cell: Cell)
+    requires fits { registers_of sites < 2 ^ 32 }
+    requires registers { D.registers board.old edge ≡ registers_of sites }
+    requires place { IsPlace sites place }
+    requires held { IsHeld (D.lists board.old edge) }
+    ensures put { (more : List Access) × Adds (D.lists board.old) (D.lists board.new) edge more × IsCellPut cell place more }
+    ensures tile { D.tile board.new ≡ D.tile board.old }
+    ensures edges { (D.registers board.new ≡ D.registers board.old) × (D.end_of board.new ≡ D.end_of board.old) }
+    ensures moved { D.moved board.old board.new }
+{
+    if let Some(place) = place {
+        let (low, high) = cell.words();
+        board.write(edge, 1 + 2 * place, low);
+        board.write(edge, 2 + 2 * place, high);
+    }
+}
+
+// Writes the cells of a window at their places.
+fn put_cells<D: Board>(board: &mut D, edge: u32, sites: u32, places: &[Option<u32>], cells: &[Cell])
+    requires together { length cells.now ≡ length places.now }
+    requires fits { registers_of sites < 2 ^ 32 }
+    requires registers { D.registers board.old edge ≡ registers_of sites }
+    requires places { (n : ℕ) → n < length places.now → IsPlace sites (place_at places.now n) }
+    requires apart { ArePlaces (place_at places.now) (length places.now) }
+    requires held { IsHeld (D.lists board.old edge) }
+    ensures put { (more : List Access) × Adds (D.lists board.old) (D.lists board.new) edge more × ArePut (cell_at cells.now) (place_at places.now) (length places.now) more }
+    ensures tile { D.tile board.new ≡ D.tile board.old }
+    ensures edges { (D.registers board.new ≡ D.registers board.old) × (D.end_of board.new ≡ D.end_of board.old) }
+    ensures moved { D.moved board.old board.new }
+{
+    for n in 0..places.len() {
+        put_cell(board, edge, sites, places[n], cells[n]);
+    }
+}
+
+// Writes the cells of a window to an edge, and marks them as news for the other end alone.
+pub(crate) fn publish_edge<D: Board>(
+    cells: &[Cell],
+    places: &[Option<u32>],
+    edge: u32,
+    sites: u32,
+    end: u32,
+    board: &mut D,
+)
+    requires together { length cells.now ≡ length places.now }
+    requires fits { registers_of sites < 2 ^ 32 }
+    requires registers { D.registers board.old edge ≡ registers_of sites }
+    requires end { end < 2 }
+    requires places { (n : ℕ) → n < length places.now → IsPlace sites (place_at places.now n) }
+    requires apart { ArePlaces (place_at places.now) (length places.now) }
+    requires held { IsHeld (D.lists board.old edge) }
+    ensures published { (more : List Access) × Adds (D.lists board.old) (D.lists board.new) edge more × IsPublish sites end (cell_at cells.now) (place_at places.now) (length places.now) more }
+    ensures tile { D.tile board.new ≡ D.tile board.old }
+    ensures edges { (D.registers board.new ≡ D.registers board.old) × (D.end_of board.new ≡ D.end_of board.old) }
+    ensures moved { D.moved board.old board.new }
+{
+    put_cells(board, edge, sites, places, cells);
+    put_bits(board, edge, sites, end, places, false);
+    put_bits(board, edge, sites, 1 - end, places, true);
+}

@@ -1,0 +1,6 @@
+//! Whole calls, from words and files in memory to a status and what the sink holds. The crate has
+//! tests alone; they stand above the call, so that it is not proved once more for their sake.
+#![tactic(auto)]
+
+#[cfg(test)]
+mod runs;

@@ -1,0 +1,19 @@
+pub mod Places
+pub mod Laid
+pub mod Fine
+pub mod Lows
+pub mod Comes
+pub mod Turns
+pub mod Handed
+pub mod CallEnds
+pub mod Passed
+pub mod Machine
+pub mod CallsRun
+pub mod Closed
+pub mod Room
+pub mod Events
+pub mod Worklist
+mod Worked
+pub mod Rounds
+pub mod LayRounds
+pub mod Built

@@ -1,0 +1,158 @@
+//! How many operands there are at the places of a piece.
+
+ghost use Rattle.std.specs.Prelude.{◌≡◌, ◌≤◌, ◌+◌, ◌-◌, ℕ, Option, Some, None, OnSome};
+ghost use Rattle.stack_code.specs.Sorts.{sort};
+ghost use Rattle.stack_code.specs.Valid.{is_nothing};
+ghost use Rattle.code_gen.specs.Pieces.{ever};
+ghost use Rattle.code_gen.specs.Drafts.{Drafts, end_by};
+ghost use Rattle.code_gen.specs.Depths.{takes, makes, depth, answer_count, at_most};
+ghost use Rattle.code_gen.specs.Views.{piece_of, key_of, IsBelow};
+
+use crate::piece::Piece;
+use crate::source::{Head, Source};
+use stack_code::{Answer, Instr};
+
+/// The most operands at a place.
+const MOST_OPERANDS: u32 = 512;
+
+/// How many operands a plain instruction leaves of d.
+fn after_instr(instr: Instr, d: u32) -> u32
+    requires { d ≤ 512 }
+    ensures value { result ≡ d + makes (sort instr) - takes (sort instr) }
+    ensures bound { result ≤ 513 }
+{
+    match instr {
+        Instr::NegI
+        | Instr::NegL
+        | Instr::NotW(_)
+        | Instr::Fit(_, _)
+        | Instr::NotB
+        | Instr::IsLive
+        | Instr::IsEmpty
+        | Instr::RandCreate
+        | Instr::RandOneIn
+        | Instr::LoadSite
+        | Instr::IsKind(_)
+        | Instr::LoadFieldAt(_, _, _, _)
+        | Instr::LoadPartAt(_, _, _, _, _) => d,
+        Instr::AddI
+        | Instr::SubI
+        | Instr::MulI
+        | Instr::DivI
+        | Instr::RemI
+        | Instr::AddU
+        | Instr::SubU
+        | Instr::MulU
+        | Instr::DivU
+        | Instr::RemU
+        | Instr::AddL
+        | Instr::SubL
+        | Instr::MulL
+        | Instr::DivL
+        | Instr::RemL
+        | Instr::AddV
+        | Instr::SubV
+        | Instr::MulV
+        | Instr::DivV
+        | Instr::RemV
+        | Instr::And
+        | Instr::Or
+        | Instr::Xor
+        | Instr::Shl(_)
+        | Instr::Shr
+        | Instr::Eq
+        | Instr::Ne
+        | Instr::Lt
+        | Instr::Le
+        | Instr::Gt
+        | Instr::Ge
+        | Instr::StoreLocal(_)
+        | Instr::Pop
+        | Instr::StoreField(_, _, _)
+        | Instr::StorePart(_, _, _, _) => d.saturating_sub(1),
+        Instr::StoreSite
+        | Instr::Swap
+        | Instr::StoreFieldAt(_, _, _, _)
+        | Instr::StorePartAt(_, _, _, _, _) => d.saturating_sub(2),
+        _ => d + 1,
+    }
+}
+
+/// The number of operands, where a place may have so many.
+fn few(d: u32) -> Option<u32>
+    ensures value { result ≡ at_most d (Some d) }
+    ensures bound { IsBelow 512 result }
+{
+    if d <= MOST_OPERANDS { Some(d) } else { None }
+}
+
+/// How many operands a call leaves of d.
+fn after_call(head: Head, d: u32) -> u32
+    requires { d ≤ 512 }
+    ensures value { result ≡ d - head.params + answer_count (is_nothing head.answer) }
+    ensures bound { result ≤ 513 }
+{
+    let left = d.saturating_sub(head.params);
+    match head.answer {
+        Answer::Nothing => left,
+        Answer::Number | Answer::Atom => left + 1,
+    }
+}
+
+/// How many operands there are after a piece that begins with d of them, 0 where it doesn't go on.
+/// None where some place of it has more than 512.
+pub fn depth<S: Source>(source: &S, piece: &Piece, d: u32) -> Option<u32>
+    requires { d ≤ 513 }
+    ensures value { result ≡ depth (S.drafts source.now) (piece_of piece.now) d }
+    ensures bound { IsBelow 513 result }
+{
+    match piece {
+        Piece::Nothing => Some(d),
+        Piece::Seq(a, b) => {
+            let m = depth(source, a, d)?;
+            depth(source, b, m)
+        }
+        Piece::Plain(instr) => Some(after_instr(*instr, few(d)?)),
+        Piece::Asks(key) => Some(after_call(source.head(*key), few(d)?)),
+        Piece::Pick(a, b) => {
+            let below = few(d)?.saturating_sub(1);
+            few(depth(source, a, below)?)?;
+            depth(source, b, below)
+        }
+        Piece::Only(a) => {
+            let below = few(d)?.saturating_sub(1);
+            depth(source, a, below)?;
+            Some(below)
+        }
+        Piece::Loop(t, a, b) => {
+            few(depth(source, t, d)?)?;
+            depth(source, a, 0)?;
+            depth(source, b, 0)?;
+            Some(0)
+        }
+        Piece::Ever(a, b) => {
+            depth(source, a, d)?;
+            depth(source, b, 0)?;
+            Some(0)
+        }
+        Piece::Out | Piece::Next | Piece::Gives | Piece::Leaves => {
+            few(d)?;
+            Some(0)
+        }
+    }
+}
+
+/// The same of the end of a function.
+pub fn end_depth(answer: Answer, d: u32) -> Option<u32>
+    requires { d ≤ 513 }
+    ensures { (g : Drafts) (blank : ℕ) → result ≡ depth g (end_by answer blank) d }
+{
+    few(d)?;
+    match answer {
+        Answer::Nothing => Some(0),
+        Answer::Number | Answer::Atom => {
+            few(d + 1)?;
+            Some(0)
+        }
+    }
+}

@@ -1,0 +1,119 @@
+//! From pieces to instructions.
+
+ghost use Rattle.std.specs.Prelude.{◌≡◌, ◌≤◌, ◌+◌, ◌<◌, [], ◌∷◌, ◌++◌, OnOk, ℕ, List, map, length, pos};
+ghost use Rattle.code_gen.specs.Pieces.{size, lay, key_number};
+ghost use Rattle.code_gen.specs.Drafts.{end_by};
+ghost use Rattle.code_gen.specs.Views.{piece_of, key_of};
+ghost use Rattle.stack_code.specs.declared.instr.Instr.TheVariants.{Turn, Jump};
+
+use crate::piece::{Key, Piece};
+use crate::size::size_of;
+use feast_base::NoMemory;
+use stack_code::{Answer, Instr};
+
+/// One more instruction.
+fn put(code: &mut Vec<Instr>, instr: Instr) -> Result<(), NoMemory>
+    ensures ok { OnOk result (code.new.items ≡ code.old.items ++ instr ∷ []) }
+    ensures long { OnOk result (length code.new.items ≡ length code.old.items + 1) }
+{
+    code.push(instr)?;
+    Ok(())
+}
+
+/// A turn, and a jump back.
+fn turn_back(code: &mut Vec<Instr>, first: u32) -> Result<(), NoMemory>
+    ensures ok { OnOk result (code.new.items ≡ code.old.items ++ Turn ∷ (Jump first ∷ [])) }
+    ensures long { OnOk result (length code.new.items ≡ length code.old.items + 2) }
+{
+    put(code, Instr::Turn)?;
+    put(code, Instr::Jump(first))
+}
+
+/// The number of a function among these: how many come before it.
+fn number(keys: &[Key], key: Key) -> u32
+    requires { length keys.now ≤ 65536 }
+    ensures { result ≡ key_number (map key_of keys.now) (key_of key) }
+{
+    let mut n: u32 = 0;
+    for k in keys {
+        if k.class == key.class && k.function == key.function && k.base == key.base {
+            return n;
+        }
+        n += 1;
+    }
+    n
+}
+
+/// Appends the instructions of a piece, in which `Out` leads to the place `out` and `Next` to the
+/// place `next`, and functions are numbered as they lie in `keys`.
+pub fn emit(
+    code: &mut Vec<Instr>,
+    keys: &[Key],
+    out: u32,
+    next: u32,
+    piece: &Piece,
+) -> Result<(), NoMemory>
+    requires few { length keys.now ≤ 65536 }
+    requires fits { length code.old.items + size (piece_of piece.now) ≤ 65536 }
+    ensures long { OnOk result (length code.new.items ≡ length code.old.items + size (piece_of piece.now)) }
+    ensures ok { OnOk result (code.new.items ≡ code.old.items ++ lay (map key_of keys.now) (length code.old.items) out next (piece_of piece.now)) }
+{
+    let first = code.len() as u32;
+    match piece {
+        Piece::Nothing => Ok(()),
+        Piece::Seq(a, b) => {
+            emit(code, keys, out, next, a)?;
+            emit(code, keys, out, next, b)
+        }
+        Piece::Plain(instr) => put(code, *instr),
+        Piece::Asks(key) => put(code, Instr::Call(number(keys, *key))),
+        Piece::Pick(a, b) => {
+            let other = first + 1 + size_of(a) + 1;
+            put(code, Instr::JumpFalse(other))?;
+            emit(code, keys, out, next, a)?;
+            put(code, Instr::Jump(other + size_of(b)))?;
+            emit(code, keys, out, next, b)
+        }
+        Piece::Only(a) => {
+            put(code, Instr::JumpFalse(first + 1 + size_of(a)))?;
+            emit(code, keys, out, next, a)
+        }
+        Piece::Loop(t, a, b) => {
+            let step = first + size_of(t) + 1 + size_of(a);
+            let past = step + size_of(b) + 2;
+            emit(code, keys, out, next, t)?;
+            put(code, Instr::JumpFalse(past))?;
+            emit(code, keys, past, step, a)?;
+            emit(code, keys, out, next, b)?;
+            turn_back(code, first)
+        }
+        Piece::Ever(a, b) => {
+            let step = first + size_of(a);
+            let past = step + size_of(b) + 2;
+            emit(code, keys, past, step, a)?;
+            emit(code, keys, out, next, b)?;
+            turn_back(code, first)
+        }
+        Piece::Out => put(code, Instr::Jump(out)),
+        Piece::Next => put(code, Instr::Jump(next)),
+        Piece::Gives => put(code, Instr::Return),
+        Piece::Leaves => put(code, Instr::ReturnVoid),
+    }
+}
+
+/// Appends the end of a function.
+pub fn emit_end(code: &mut Vec<Instr>, answer: Answer, blank: u16) -> Result<(), NoMemory>
+    ensures ok { OnOk result ((keys : _) (p e c : ℕ) → code.new.items ≡ code.old.items ++ lay keys p e c (end_by answer blank)) }
+{
+    match answer {
+        Answer::Nothing => put(code, Instr::ReturnVoid),
+        Answer::Number => {
+            put(code, Instr::PushNum(0))?;
+            put(code, Instr::Return)
+        }
+        Answer::Atom => {
+            put(code, Instr::PushAtom(blank))?;
+            put(code, Instr::Return)
+        }
+    }
+}

@@ -1,0 +1,23 @@
+//! Laws of code that is made of pieces.
+ghost use Rattle.std.specs.Prelude.{◌≡◌, ℕ, length, Some};
+ghost use Rattle.stack_code.specs.Valid.{Kinds};
+ghost use Rattle.code_gen.specs.Pieces.{Key, Piece};
+ghost use Rattle.code_gen.specs.Drafts.{Drafts};
+ghost use Rattle.code_gen.specs.Kinds.{Setting, ends, shapes, Fits, Shallow};
+ghost use Rattle.code_gen.specs.Depths.{depth};
+ghost use Rattle.code_gen.specs.Limits.{IsShort};
+ghost use Rattle.code_gen.specs.Laws.{IsReady, IsRight};
+
+/// Where the functions of a program are ready and the limits let the code of an element through,
+/// this code is valid, and on each window and seed it has the window and the ending of its
+/// functions.
+pub fn right()
+    ensures { (g : Drafts) (kind : ℕ) (main : Key) → IsReady g main → IsShort g main → IsRight g kind main }
+{}
+
+/// Of a piece that fits, the depth is the length of the list of kinds after it, and there is one
+/// exactly where no place has more than 512 operands.
+pub fn depths()
+    ensures some { (n : Setting) (q : Piece) (ks : Kinds) (d : ℕ) → Fits n q ks → depth n.drafts q (length ks) ≡ Some d → (length (ends n q ks) ≡ d) × Shallow (shapes n q ks) }
+    ensures shallow { (n : Setting) (q : Piece) (ks : Kinds) → Fits n q ks → Shallow (shapes n q ks) → depth n.drafts q (length ks) ≡ Some (length (ends n q ks)) }
+{}

@@ -1,0 +1,18 @@
+//! The compiler, from typed trees to stack code. What stands is its lower half: code as pieces,
+//! before places and numbers are given out, and how pieces become the code of an element.
+#![tactic(auto)]
+
+mod calls;
+mod depth;
+mod element;
+mod emit;
+mod gather;
+mod law;
+mod piece;
+mod size;
+mod source;
+
+pub use element::build;
+pub use law::{depths, right};
+pub use piece::{Key, Piece};
+pub use source::{Head, Source};

@@ -1,0 +1,43 @@
+//! Code as pieces, before places and numbers are given out.
+
+use stack_code::Instr;
+
+/// A function of a class by its number there, on the state bits from `base` on.
+#[derive(Clone, Copy, Debug, PartialEq, Eq)]
+pub struct Key {
+    /// The number of the class.
+    pub class: u32,
+    /// The number of the function in its class.
+    pub function: u32,
+    /// The first state bit of the class.
+    pub base: u32,
+}
+
+/// A piece of code.
+#[derive(Drop)]
+pub enum Piece {
+    /// No code.
+    Nothing,
+    /// One piece and then another.
+    Seq(Box<Piece>, Box<Piece>),
+    /// An instruction that goes on.
+    Plain(Instr),
+    /// A call of a function.
+    Asks(Key),
+    /// The first piece where the number on top isn't 0, else the second.
+    Pick(Box<Piece>, Box<Piece>),
+    /// The piece where the number on top isn't 0.
+    Only(Box<Piece>),
+    /// A loop with a test, a body and a step.
+    Loop(Box<Piece>, Box<Piece>, Box<Piece>),
+    /// A loop with a body and a step, without a test.
+    Ever(Box<Piece>, Box<Piece>),
+    /// The end of the loop around it.
+    Out,
+    /// The step of the loop around it.
+    Next,
+    /// The end of the function, with the operand on top.
+    Gives,
+    /// The end of the function.
+    Leaves,
+}

@@ -1,0 +1,56 @@
+//! How many instructions a piece has.
+
+ghost use Rattle.std.specs.Prelude.{◌≡◌, ◌≤◌, ◌+◌, ℕ, min};
+ghost use Rattle.code_gen.specs.Pieces.{size};
+ghost use Rattle.code_gen.specs.Drafts.{end_by};
+ghost use Rattle.code_gen.specs.Views.{piece_of};
+
+use crate::piece::Piece;
+use stack_code::Answer;
+
+/// The most instructions of a code.
+pub const MOST_INSTRS: u32 = 65_536;
+
+/// The sum of two sizes, as far as it is told: 65,537 stands for all above the most.
+pub fn capped(a: u32, b: u32) -> u32
+    requires left { a ≤ 65537 }
+    requires right { b ≤ 65537 }
+    ensures { result ≡ min (a + b) 65537 }
+{
+    let sum = a + b;
+    if sum > MOST_INSTRS { MOST_INSTRS + 1 } else { sum }
+}
+
+/// How many instructions a piece has, where they are no more than the most, else one more.
+pub fn size_of(piece: &Piece) -> u32
+    ensures { result ≡ min (size (piece_of piece.now)) 65537 }
+{
+    match piece {
+        Piece::Nothing => 0,
+        Piece::Seq(a, b) => capped(size_of(a), size_of(b)),
+        Piece::Pick(a, b) => capped(capped(1, size_of(a)), capped(1, size_of(b))),
+        Piece::Only(a) => capped(1, size_of(a)),
+        Piece::Loop(t, a, b) => capped(
+            capped(size_of(t), 1),
+            capped(size_of(a), capped(size_of(b), 2)),
+        ),
+        Piece::Ever(a, b) => capped(size_of(a), capped(size_of(b), 2)),
+        Piece::Plain(_)
+        | Piece::Asks(_)
+        | Piece::Out
+        | Piece::Next
+        | Piece::Gives
+        | Piece::Leaves => 1,
+    }
+}
+
+/// How many instructions the end of a function has.
+pub fn end_size(answer: Answer) -> u32
+    ensures value { (blank : ℕ) → result ≡ size (end_by answer blank) }
+    ensures bound { result ≤ 2 }
+{
+    match answer {
+        Answer::Nothing => 1,
+        Answer::Number | Answer::Atom => 2,
+    }
+}

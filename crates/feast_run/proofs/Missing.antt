@@ -1,0 +1,49 @@
+-- Only file words are noted.
+use Rattle.std.proofs.Common.{ℕ, ◌≡◌, List, [], ◌∷◌, Option, Some, None, refl, inl, inr, ◌⊎◌}
+use Rattle.feast_base.specs.Outside.{File, Stock, Told}
+use Rattle.feast_run.proofs.Laws.{then_misses}
+use Rattle.feast_run.specs.Answer.{form_answer}
+use Rattle.feast_run.specs.Ending.{Ends, Leaves, status_of}
+use Rattle.feast_run.specs.Forms.{FormValue, run}
+use Rattle.feast_run.specs.Outcomes.{Outcome, MissesOf, passes, refuses, misses}
+use Rattle.feast_run.specs.Promises.{Noted, IsWordOf, file_words}
+use Rattle.feast_run.specs.Stages.{ready}
+use Rattle.feast_run.specs.declared.status.Status.{Status}
+use Rattle.feast_run.specs.declared.status.Status.TheVariants as how
+
+-- what a run needs
+ready_misses : (files : Option (List File)) (world element : List ℕ) → MissesOf (IsWordOf (world ∷ element ∷ [])) (ready files world element)
+ready_misses files world element =
+    let P = IsWordOf (world ∷ element ∷ []) in
+    then_misses P _ _ (then_misses P _ _ (λ w h. inl h) (λ b w h. absurd h))
+    (λ v. then_misses P _ _ (then_misses P _ _ (λ w h. inr (inl h)) (λ b w h. absurd h)) (λ e w h. absurd h))
+
+-- each form misses its file words alone
+pub form_misses : (files : Option (List File)) (form : FormValue) → MissesOf (IsWordOf (file_words form)) (form_answer files form)
+form_misses files (run world element) = then_misses _ _ _ (ready_misses files world element) (λ r w h. absurd h)
+
+noted_by : (f : FormValue) (old new : Stock) (o : Outcome (List ℕ)) (status : Status) → form_answer old.files f o → Leaves old new o →
+    ((w : List ℕ) → o ≡ misses w → (status ≡ how.Unreadable) ⊎ ((status ≡ how.SinkFault) ⊎ (status ≡ how.NoMemory))) → Noted (Some f) old new status
+noted_by f old new (passes t) status h k s = inl k.failed
+noted_by f old new (refuses r) status h k s = inl k.failed
+noted_by f old new (misses w) status h k s =
+    inr (record { f = f; form_is = refl; word = w; is_word = form_misses old.files f w h; noted = k.failed; cause = k.cause; status_is = s w refl })
+
+status_at : (o : Outcome (List ℕ)) (status : Status) (w : List ℕ) → status ≡ status_of o → o ≡ misses w → status ≡ how.Unreadable
+status_at o status w s e = rw e at s
+
+-- which names are noted, from how a call ends
+pub noted_of : (form : Option FormValue) (old new : Stock) (sink sink' : Told) (status : Status) → Ends form old new sink sink' status → Noted form old new status
+noted_of None old new sink sink' status ends =
+    elim ends [ inl whole ↦ inl whole.comes.leaves.failed | inr rest ↦ elim rest [ inl b ↦ inl b.comes.leaves.failed | inr w ↦ inl w.wants.failed ] ]
+noted_of (Some f) old new sink sink' status ends =
+    elim ends [
+      | inl whole ↦ noted_by f old new whole.comes.outcome status whole.comes.comes whole.comes.leaves (λ w e. inl (status_at whole.comes.outcome status w whole.comes.status_is e))
+      | inr rest ↦ elim rest [
+        | inl b ↦ noted_by f old new b.comes.outcome status b.comes.comes b.comes.leaves (λ w e. inr (inl b.status_is))
+        | inr w ↦ elim w.wants [
+          | inl same ↦ inl same.failed
+          | inr missed ↦ noted_by f old new (misses missed.word) status missed.comes missed.notes (λ v e. inr (inr w.status_is))
+        ]
+      ]
+    ]

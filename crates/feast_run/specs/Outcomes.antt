@@ -1,0 +1,75 @@
+-- Stages of a call, the outcomes that they may have, and their composition.
+use Rattle.std.specs.Prelude.{ℕ, ◌≡◌, List, ◌⊎◌}
+use Rattle.feast_base.specs.declared.place.Refusal.{Refusal}
+use Rattle.feast_run.specs.declared.stop.Input.{Input}
+
+-- a refusal, the input that it is about, and the word of the file that it stands in
+pub record RefusedValue : Type 0 where
+  pub input : Input
+  pub word : List ℕ
+  pub refusal : Refusal
+
+abbrev pub refused : Input → List ℕ → Refusal → RefusedValue
+refused input word refusal = record { input = input; word = word; refusal = refusal }
+
+-- a stage passes with a value, or refuses its input, or misses a word whose load failed
+pub data Outcome (A : Type 0) : Type 0 where
+  passes : A → Outcome A
+  refuses : RefusedValue → Outcome A
+  misses : List ℕ → Outcome A
+
+-- a stage, as the outcomes that it may have
+abbrev pub Stage : Type 0 → Type 1
+Stage A = Outcome A → Type 0
+
+-- a stage goes no further, with this outcome
+abbrev pub Halts : {A B : Type 0} → Stage A → Outcome B → Type 0
+Halts S (passes b) = ⊥
+Halts S (refuses r) = S (refuses r)
+Halts S (misses w) = S (misses w)
+
+-- a stage passed with a value, and from there the rest had this outcome
+pub record Goes {A B : Type 0} (S : Stage A) (T : A → Stage B) (o : Outcome B) : Type 0 where
+  pub value : A
+  pub passed : S (passes value)
+  pub rest : T value o
+
+-- a stage, and then one that knows the value that it passed with
+abbrev pub and_then : {A B : Type 0} → Stage A → (A → Stage B) → Stage B
+and_then S T o = Halts S o ⊎ Goes S T o
+
+-- a stage that passes with this value
+abbrev pub gives : {A : Type 0} → A → Stage A
+gives a (passes b) = b ≡ a
+gives a (refuses r) = ⊥
+gives a (misses w) = ⊥
+
+-- a stage that passes with whatever this holds of, and refuses where it holds of nothing
+abbrev pub finds : {A : Type 0} → (A → Type 0) → RefusedValue → Stage A
+finds P r (passes a) = P a
+finds {A} P r (refuses s) = ((a : A) → P a → ⊥) × (s ≡ r)
+finds P r (misses w) = ⊥
+
+-- a stage that passes with this value where this holds, and refuses where it does not
+abbrev pub demands : {A : Type 0} → Type 0 → RefusedValue → A → Stage A
+demands P r a (passes b) = P × (b ≡ a)
+demands P r a (refuses s) = (P → ⊥) × (s ≡ r)
+demands P r a (misses w) = ⊥
+
+-- apart from loads that fail, no refusal beside a value, and one refusal at most
+pub record IsSure {A : Type 0} (S : Stage A) : Type 0 where
+  pub apart : (a : A) (r : RefusedValue) → S (passes a) → S (refuses r) → ⊥
+  pub one_refusal : (r s : RefusedValue) → S (refuses r) → S (refuses s) → r ≡ s
+
+-- and one value at most
+pub record IsOne {A : Type 0} (S : Stage A) : Type 0 where
+  pub sure : IsSure S
+  pub one_value : (a b : A) → S (passes a) → S (passes b) → a ≡ b
+
+-- it does not refuse
+abbrev pub Accepts : {A : Type 0} → Stage A → Type 0
+Accepts S = (r : RefusedValue) → S (refuses r) → ⊥
+
+-- the words that it may miss
+abbrev pub MissesOf : {A : Type 0} → (List ℕ → Type 0) → Stage A → Type 0
+MissesOf P S = (w : List ℕ) → S (misses w) → P w

@@ -1,0 +1,40 @@
+-- What an answer of the code says of a stage, and of the shelf.
+use Rattle.std.specs.Prelude.{ℕ, ◌≡◌, List, [], ◌∷◌, ◌++◌, Result, Ok, Err}
+use Rattle.feast_base.specs.Outside.{Stock}
+use Rattle.feast_base.specs.Refusals.{IsCode}
+use Rattle.feast_run.specs.Outcomes.{Stage, passes, refuses, misses, RefusedValue, refused}
+use Rattle.feast_run.specs.declared.stop.Refused.{Refused as RefusedCode}
+use Rattle.feast_run.specs.declared.stop.Stop.{Stop}
+use Rattle.feast_run.specs.declared.stop.Stop.TheVariants.{Refused, Missing, NoMemory}
+
+-- a code that has a text; a record, so that the list of all codes is not written out in each goal
+pub record Coded (code : ℕ) : Type 0 where
+  pub is_code : IsCode code
+
+abbrev pub refused_value : RefusedCode → RefusedValue
+refused_value r = refused r.input r.word.now r.refusal
+
+-- no name was noted, and nothing more may fail than before
+pub record Keeps (old new : Stock) : Type 0 where
+  pub failed : new.failed ≡ old.failed
+  pub later : (n : List ℕ) → new.may_fail n → old.may_fail n
+
+-- one name was noted, of a file whose load might fail
+pub record Notes (old new : Stock) (word : List ℕ) : Type 0 where
+  pub failed : new.failed ≡ old.failed ++ word ∷ []
+  pub cause : old.may_fail word
+  pub later : (n : List ℕ) → new.may_fail n → old.may_fail n
+
+-- what an answer leaves on the shelf
+abbrev pub Moves : {X : Type 0} → Stock → Stock → Result X Stop → Type 0
+Moves old new (Ok x) = Keeps old new
+Moves old new (Err (Refused r)) = Keeps old new
+Moves old new (Err (Missing word)) = Notes old new word.now
+Moves old new (Err NoMemory) = Keeps old new
+
+-- an answer is an outcome of the stage, or memory was wanted
+abbrev pub Tells : {X A : Type 0} → (X → A) → Stage A → Result X Stop → Type 0
+Tells value S (Ok x) = S (passes (value x))
+Tells value S (Err (Refused r)) = S (refuses (refused_value r)) × Coded r.refusal.code
+Tells value S (Err (Missing word)) = S (misses word.now)
+Tells value S (Err NoMemory) = Unit {0}

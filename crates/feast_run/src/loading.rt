@@ -1,0 +1,60 @@
+//! Loading a file.
+ghost use Rattle.std.specs.Prelude.{◌≡◌, ◌≤◌, ◌<◌, ◌^◌, ◌-◌, ℕ, List};
+ghost use Rattle.feast_base.specs.Outside.{stock};
+ghost use Rattle.feast_run.specs.Stages.{load, whole_file};
+ghost use Rattle.feast_run.specs.Tellings.{Moves, Tells};
+
+use crate::stop::{Input, Refused, Stop};
+use feast_base::{LoadFault, Place, Refusal, Shelf};
+use std::alloc::Global;
+
+/// The longest world file, in bytes.
+pub const WORLD_LIMIT: u32 = 268_435_456;
+
+/// The longest element file, in bytes.
+pub const ELEMENT_LIMIT: u32 = 1_048_576;
+
+/// The code of words that have no form.
+pub const USAGE: u8 = 0;
+
+/// The code of a file that can't be read.
+pub const UNREADABLE: u8 = 1;
+
+/// The code of a file that is longer than its limit.
+const TOO_LONG: u8 = 2;
+
+/// A refusal of a whole file, with its place at the file's first byte.
+pub fn whole_file(code: u8, value: u64) -> Refusal
+    ensures { result ≡ whole_file code value }
+{
+    let place = Place {
+        file: 0,
+        line: 1,
+        column: 1,
+    };
+    Refusal { code, place, value }
+}
+
+/// Loads the file of a word, of at most `limit` bytes.
+pub fn load_file<'a, F: Shelf>(
+    alloc: Global,
+    shelf: &mut F,
+    word: &'a str,
+    limit: u32,
+) -> Result<Vec<u8>, Stop<'a>>
+    ensures files { F.files shelf.new ≡ F.files shelf.old }
+    ensures moves { Moves (stock F.files F.failed F.may_fail shelf.old) (stock F.files F.failed F.may_fail shelf.new) result }
+    ensures tells { Tells (λ v. v.items) (load (F.files shelf.old) limit word.now) result }
+{
+    let mut bytes = Vec::new(alloc);
+    match shelf.load(word, limit as usize, &mut bytes) {
+        Ok(()) => Ok(bytes),
+        Err(LoadFault::Failed) => Err(Stop::Missing(word)),
+        Err(LoadFault::TooLong) => Err(Stop::Refused(Refused {
+            input: Input::File,
+            word,
+            refusal: whole_file(TOO_LONG, limit as u64),
+        })),
+        Err(LoadFault::NoMemory) => Err(Stop::NoMemory),
+    }
+}

@@ -1,0 +1,6 @@
+pub mod EventLaws
+mod Examples
+mod Failures
+pub mod Kept
+pub mod Rounds
+mod Shorthand

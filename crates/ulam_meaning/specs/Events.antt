@@ -1,0 +1,91 @@
+-- What a function does, and what an event of an element leaves.
+use Rattle.std.specs.Prelude.{ℕ, zero, suc, pos, List, [], ◌∷◌, map, Option, Some, None, slice_set}
+use Rattle.bit_field.specs.Atom.{empty_atom}
+use Rattle.window_sites.specs.Window.{WindowValue, atom_at}
+use Rattle.datum.specs.declared.Datum.{Datum}
+use Rattle.datum.specs.declared.Datum.TheVariants.{Number, Atom}
+use Rattle.ulam_tree.specs.declared.resolved.Ty.{Ty}
+use Rattle.ulam_tree.specs.declared.resolved.Ty.TheVariants as y
+use Rattle.ulam_meaning.specs.Programs.{Program, slot_types, behave_of, element_of}
+use Rattle.ulam_meaning.specs.Paths.{Key, function_of, scene_of}
+use Rattle.ulam_meaning.specs.Values.{default_of}
+use Rattle.ulam_meaning.specs.Runs.{Event, Store, Outcome, gives, fails, wrong, Way, goes_on, breaks, continues, returns, Calls, too_deep, and_then, on_turn}
+use Rattle.ulam_meaning.specs.Statements.{exec_all}
+
+-- Functions
+
+-- what a local holds before it is declared
+abbrev pub fill : Ty → Datum
+fill (y.Num num) = Number (pos 0)
+fill ty = Atom empty_atom
+
+-- fresh locals: the arguments first
+abbrev pub fresh : List Datum → List Ty → List Datum
+fresh [] tys = map fill tys
+fresh (x ∷ xs) [] = []
+fresh (x ∷ xs) (ty ∷ tys) = x ∷ fresh xs tys
+
+-- what a function gives: nothing if it is `Void`, and else what it returns; no typed function with a result comes to its end without a value
+abbrev pub answer : Program → Ty → Option Datum → Option Datum
+answer g y.Nothing v = None
+answer g ty None = Some (default_of g ty)
+answer g ty (Some x) = Some x
+
+-- the same by how its body ended
+abbrev pub answer_by : Program → Ty → Way → Option Datum
+answer_by g ty goes_on = answer g ty None
+answer_by g ty breaks = answer g ty None
+answer_by g ty continues = answer g ty None
+answer_by g ty (returns v) = answer g ty v
+
+-- the body of a function with these arguments, where so many turns are left
+abbrev pub run_body : Event → Program → Calls → Key → List Datum → ℕ → Store → Outcome Way
+run_body e g h f xs n s = exec_all e (scene_of g f) h (function_of g f).body (record s { locals = fresh xs (slot_types (function_of g f)); turns = n })
+
+-- a body that is over: what the function gives, and the caller's locals again
+abbrev pub returned : Program → Ty → List Datum → Outcome Way → Outcome (Option Datum)
+returned g ty locals r = and_then r (λ way s. gives (answer_by g ty way) (record s { locals = locals }))
+
+-- Calls that may nest so deep: a call takes a turn, then tests the depth, and then runs the body with fresh locals.
+unfoldable pub calls_at : Event → Program → ℕ → Calls
+calls_at e g zero f xs s = on_turn s.turns (λ n. fails too_deep)
+calls_at e g (suc d) f xs s = on_turn s.turns (λ n. returned g (function_of g f).result s.locals (run_body e g (calls_at e g d) f xs n s))
+
+-- Events
+
+-- the `behave` of a class, on the bits from 0 on
+abbrev pub behave_key : Program → ℕ → Key
+behave_key g c = record { class = c; function = behave_of g c; base = 0 }
+
+-- an event of the element that is class c: `behave` has 1,000 turns, no word taken, and calls nest at most 16 deep in it
+unfoldable pub behaves : Event → Program → ℕ → WindowValue → Outcome Way
+behaves e g c w = run_body e g (calls_at e g 16) (behave_key g c) [] 1000 (record { locals = []; window = w; taken = 0; turns = 1000 })
+
+-- the window with Empty at site 0
+abbrev pub emptied : WindowValue → WindowValue
+emptied w = record w { atoms = slice_set w.atoms 0 empty_atom }
+
+-- the window that an event leaves: on a failure the old one with Empty at site 0
+abbrev pub left_by : WindowValue → Outcome Way → WindowValue
+left_by w (gives way s) = s.window
+left_by w (fails n) = emptied w
+left_by w wrong = w
+
+-- the number of an event's failure, and None where it succeeds
+abbrev pub failure : Outcome Way → Option ℕ
+failure (gives way s) = None
+failure (fails n) = Some n
+failure wrong = None
+
+-- the event of the atom at site 0
+abbrev pub event_of : WindowValue → ℕ → Event
+event_of w seed = record { acting = (atom_at w 0).kind; seed = seed }
+
+-- the window after the event of an element, where there is one
+abbrev pub after_by : Program → WindowValue → ℕ → Option ℕ → WindowValue
+after_by g w seed None = w
+after_by g w seed (Some c) = left_by w (behaves (event_of w seed) g c w)
+
+-- the window after an event: the window itself where site 0 is Empty or its type has no element, and else what the element leaves
+unfoldable pub after : Program → WindowValue → ℕ → WindowValue
+after g w seed = after_by g w seed (element_of g (atom_at w 0).kind)

@@ -1,0 +1,9 @@
+pub mod Events
+pub mod Expressions
+pub mod Laws
+pub mod Paths
+pub mod Places
+pub mod Programs
+pub mod Runs
+pub mod Statements
+pub mod Values

@@ -1,0 +1,10 @@
+//! What element programs mean.
+//!
+//! The meaning stands in `specs/`, form by form, as total definitions over the plain trees whose
+//! types are known: `after` gives the window that an event leaves. It runs no program; [`laws`]
+//! says what holds of every event.
+#![tactic(auto)]
+
+mod law;
+
+pub use law::laws;
