@@ -13,7 +13,6 @@ pub mod Closed
 pub mod Room
 pub mod Events
 pub mod Worklist
-mod Worked
 pub mod Rounds
 pub mod LayRounds
 pub mod Built

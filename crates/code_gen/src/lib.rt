@@ -8,6 +8,7 @@ mod element;
 mod emit;
 mod gather;
 mod law;
+pub mod make;
 mod piece;
 mod size;
 mod source;
