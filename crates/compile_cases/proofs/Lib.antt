@@ -1,1 +1,1 @@
-pub mod Two
+pub mod Ready

@@ -60,7 +60,11 @@ impl Source for Two {
     }
 
     fn body(&self, alloc: Global, key: Key) -> Result<Piece, NoMemory> {
-        if key.function == 0 { behave(alloc) } else { less(alloc) }
+        if key.function == 0 {
+            behave(alloc)
+        } else {
+            less(alloc)
+        }
     }
 
     fn function(&self, alloc: Global, key: Key, first: u32) -> Result<RawFunction, NoMemory> {
@@ -71,14 +75,7 @@ impl Source for Two {
             Name::new(alloc, b"less")?
         };
         let slots = vec![in alloc; Operand::Number]?;
-        Ok(RawFunction::new(
-            name,
-            key.base,
-            first,
-            head.params,
-            slots,
-            head.answer,
-        ))
+        Ok(RawFunction::new(name, key.base, first, head.params, slots, head.answer))
     }
 }
 
