@@ -17,5 +17,9 @@ pub mod Room
 pub mod Events
 pub mod Worklist
 pub mod Rounds
+pub mod Spans
+pub mod Fitted
+pub mod Drafted
+pub mod ElementCode
 pub mod LayRounds
 pub mod Built

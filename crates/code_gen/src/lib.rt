@@ -14,6 +14,6 @@ mod size;
 mod source;
 
 pub use element::build;
-pub use law::{depths, right};
+pub use law::{compiled, depths, right};
 pub use piece::{Key, Piece};
 pub use source::{Head, Source};
