@@ -8,6 +8,9 @@ pub mod Handed
 pub mod CallEnds
 pub mod Passed
 pub mod Machine
+pub mod Done
+pub mod EventsMeant
+pub mod Meant
 pub mod CallsRun
 pub mod Closed
 pub mod Room

@@ -1,8 +1,10 @@
 pub mod Pieces
 pub mod Drafts
+pub mod Endings
 pub mod Kinds
 pub mod Limits
 pub mod Runs
+pub mod Scheme
 pub mod Laws
 pub mod Depths
 pub mod Views
