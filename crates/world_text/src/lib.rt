@@ -11,6 +11,7 @@ mod fault;
 mod kind;
 mod line;
 mod named;
+mod printed;
 mod ranges;
 mod raw_world;
 mod reader;
@@ -20,6 +21,7 @@ mod world;
 
 pub use fault::WorldFault;
 pub use named::name;
+pub use printed::print;
 pub use raw_world::RawWorld;
 pub use reader::read;
 pub use world::{Order, Placed, World};
