@@ -1,3 +1,5 @@
+pub mod Again
+pub mod Cut
 pub mod Drafts
 pub mod Formed
 pub mod Kept

@@ -1,6 +1,5 @@
 -- What is known of a world that is printed, and of lines that are printed one after another.
-use Rattle.std.proofs.Common.{ℕ, ◌≡◌, ◌≤◌, ◌+◌, List, [], ◌∷◌, ◌++◌, All, Option, Some, None, Result, Ok, Err, ap, sym, ◌∙◌, refl, subst, map, is_some, length, arith, Bool, true, false, cond, bytes_eq, suc, append_assoc, if◌then◌else◌, ◌==◌, ◌*◌}
-use Rattle.std.proofs.lemmas.List.{map-append}
+use Rattle.std.proofs.Common.{ℕ, ◌≡◌, ◌≤◌, ◌+◌, List, [], ◌∷◌, ◌++◌, All, Option, Some, None, Result, Ok, Err, ap, sym, ◌∙◌, refl, subst, map, is_some, length, arith, Bool, true, false, bytes_eq, suc, append_assoc, if◌then◌else◌, ◌==◌, ◌*◌}
 use Rattle.std.proofs.lemmas.List.Elements.{All-head, All-tail, All-cons, All-nil}
 use Rattle.draw_stream.specs.declared.attempt.Attempt.{Attempt}
 use Rattle.draw_stream.specs.Plans.{TakesNext}
@@ -8,7 +7,11 @@ use Rattle.draw_stream.proofs.Plans.{length_seeded_lists}
 use Rattle.std.specs.List.{list_any}
 use Rattle.world_text.specs.Drafts.{DraftValue, IsDraft}
 use Rattle.world_text.specs.Named.{WorldValue, named, name_fault, or_zero, place_of, placed, plan_by, type_from, type_of, unless, world_of}
-use Rattle.world_text.specs.Printed.{IsPrintable, line_fields, lines_text}
+use Rattle.world_text.specs.Printed.{IsNamed, IsPrintable, line_fields, lines_text}
+use Rattle.world_text.specs.Values.{Names, world_value}
+use Rattle.world_text.specs.declared.fault.WorldFault.{WorldFault}
+use Rattle.world_text.specs.declared.world.World.{World}
+use Rattle.std.specs.Result.{IfOk}
 use Rattle.text_lines.specs.Lines.{ended_line}
 use Rattle.world_text.specs.Line.{Line}
 use Rattle.world_text.specs.declared.draft.RawAtom.{RawAtom}
@@ -92,4 +95,13 @@ parts_joined a b c d e = sym (
     ∙ ap (λ z. lines_text a ++ z) (lines_joined b (c ++ (d ++ e)))
     ∙ ap (λ z. lines_text a ++ (lines_text b ++ z)) (lines_joined c (d ++ e))
     ∙ ap (λ z. lines_text a ++ (lines_text b ++ (lines_text c ++ z))) (lines_joined d e)
-  )
+    )
+
+-- a world that was named is one that the names give, and can be printed
+pub named_of : (names : List (List ℕ)) (d : DraftValue) (r : Result World WorldFault) → IsDraft d → Names names d r → IfOk r (λ w. IsNamed names (world_value w))
+named_of names d (Ok w) k h = (d, k, h)
+named_of names d (Err e) k h = tt {0}
+
+pub valid_of : (names : List (List ℕ)) (d : DraftValue) (r : Result World WorldFault) → IsDraft d → Names names d r → IfOk r (λ w. IsPrintable names (world_value w))
+valid_of names d (Ok w) k h = named_prints names d (world_value w) k h
+valid_of names d (Err e) k h = tt {0}

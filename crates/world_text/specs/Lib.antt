@@ -4,4 +4,5 @@ pub mod Line
 pub mod Named
 pub mod Printed
 pub mod Reading
+pub mod Saying
 pub mod Values

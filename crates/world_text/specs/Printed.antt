@@ -1,7 +1,6 @@
 -- The text of a world.
 use Rattle.std.specs.Prelude.{ℕ, ◌≡◌, ◌≤◌, ◌+◌, ◌-◌, Bool, List, [], ◌∷◌, ◌++◌, All, codes, decimal, length, map, slice_index_or, Option, Some, None, Ok, if◌then◌else◌}
 use Rattle.std.specs.List.{list_any}
-use Rattle.draw_stream.specs.Plans.{PlanValue}
 use Rattle.draw_stream.specs.declared.attempt.Attempt.{Attempt}
 use Rattle.feast_base.specs.Digits.{hex}
 use Rattle.text_lines.specs.Lines.{text_of}

@@ -17,6 +17,7 @@ mod raw_world;
 mod reader;
 mod step;
 mod take;
+mod texts;
 mod world;
 
 pub use fault::WorldFault;
@@ -24,4 +25,5 @@ pub use named::name;
 pub use printed::print;
 pub use raw_world::RawWorld;
 pub use reader::read;
+pub use texts::laws;
 pub use world::{Order, Placed, World};

@@ -82,12 +82,7 @@ fn push_off(out: &mut Vec<u8>, off: &[bool]) -> Result<(), NoMemory>
 }
 
 /// Appends the line of an attempt of a tile.
-fn push_try(
-    out: &mut Vec<u8>,
-    world: &World,
-    tile: u32,
-    attempt: &Attempt,
-) -> Result<(), NoMemory>
+fn push_try(out: &mut Vec<u8>, world: &World, tile: u32, attempt: &Attempt) -> Result<(), NoMemory>
     requires map { IsMap (world_value world.now).plane }
     requires tile { tile < tiles_of (world_value world.now).plane }
     ensures { Appends out.old.items out.new.items result (ended_line (line_fields (try_line (world_value world.now).plane tile attempt.now))) }

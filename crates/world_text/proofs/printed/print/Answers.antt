@@ -1,4 +1,4 @@
-use Rattle.std.proofs.Common.{ℕ, List, [], ◌∷◌, ◌++◌, ◌≡◌, ◌≤◌, ◌∙◌, All, ap, length, sym, subst, map}
+use Rattle.std.proofs.Common.{List, [], ◌∷◌, ◌++◌, ◌≤◌, ◌∙◌, All, ap, length, sym, subst, map}
 use Rattle.world_text.specs.declared.world.Placed.{Placed}
 use Rattle.std.specs.List.{list_any}
 use Rattle.feast_base.specs.Appending.{Appends}
@@ -6,7 +6,7 @@ use Rattle.feast_base.proofs.Appending.{Appends-then}
 use Rattle.world_text.proofs.Prints.{named_prints, parts_joined}
 use Rattle.world_text.specs.Line.{Line, header, tiles, size}
 use Rattle.world_text.specs.Printed.{atom_line, lines_text, off_lines, order_lines, plan_lines}
-use Rattle.world_text.specs.Values.{order_value, world_value}
+use Rattle.world_text.specs.Values.{world_value}
 use Rattle.world_text.proofs.printed.print.Goals as goal
 
 pub push_plan-requires : goal.push_plan-requires
