@@ -8,12 +8,18 @@ pub mod Handed
 pub mod CallEnds
 pub mod Passed
 pub mod Machine
+pub mod Done
+pub mod EventsMeant
+pub mod Meant
 pub mod CallsRun
 pub mod Closed
 pub mod Room
 pub mod Events
 pub mod Worklist
-mod Worked
 pub mod Rounds
+pub mod Spans
+pub mod Fitted
+pub mod Drafted
+pub mod ElementCode
 pub mod LayRounds
 pub mod Built

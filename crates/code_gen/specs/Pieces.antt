@@ -1,13 +1,8 @@
 -- Code as pieces: instructions, calls, choices and loops, before places and numbers are given out.
 use Rattle.std.specs.Prelude.{ℕ, suc, ◌+◌, nat_eq, Bool, true, false, ◌&&◌, List, [], ◌∷◌, ◌++◌, if◌then◌else◌}
+pub use Rattle.ulam_meaning.specs.Paths.{Key}
 use Rattle.stack_code.specs.declared.instr.Instr.{Instr}
 use Rattle.stack_code.specs.declared.instr.Instr.TheVariants.{Jump, JumpFalse, Turn, Call, Return, ReturnVoid}
-
--- a function of a class by its number there, on the state bits from this one on
-pub record Key : Type 0 where
-  pub class : ℕ
-  pub function : ℕ
-  pub base : ℕ
 
 -- E stands for the place after a piece, C for that of a loop's step
 pub data Piece : Type 0 where

@@ -5,13 +5,23 @@
 #![tactic(auto)]
 
 mod abandoned;
+mod cutting;
+mod fault;
+mod forms;
 mod journal;
 mod log;
+mod placing;
 mod printed;
+mod reader;
+mod reading;
+mod seats;
 mod walk;
 
 pub use abandoned::Abandoned;
+pub use cutting::cuts;
+pub use fault::JournalFault;
 pub use journal::Journal;
 pub use log::TileLog;
 pub use printed::{abandoned_fields, count_fields, print, record_fields};
+pub use reader::{ReadJournal, read};
 pub use walk::Walk;

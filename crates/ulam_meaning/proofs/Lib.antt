@@ -3,4 +3,4 @@ mod Examples
 mod Failures
 pub mod Kept
 pub mod Rounds
-mod Shorthand
+pub mod Shorthand

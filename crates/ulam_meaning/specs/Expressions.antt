@@ -1,5 +1,5 @@
 -- What an expression means, form by form.
-use Rattle.std.specs.Prelude.{ℕ, ◌+◌, ◌%◌, nat_eq, Bool, ℤ, pos, List, [], ◌∷◌, Option, Some, None, if◌then◌else◌}
+use Rattle.std.specs.Prelude.{ℕ, suc, ◌%◌, nat_eq, Bool, ℤ, pos, List, [], ◌∷◌, Option, Some, None, if◌then◌else◌}
 use Rattle.window_sites.specs.Window.{WindowValue, atom_at, live_at}
 use Rattle.draw_stream.specs.Words.{event_word}
 use Rattle.sat_math.specs.declared.NumType.{NumType}
@@ -28,7 +28,7 @@ ask question x s = on_number x (λ i. on_site i (λ n. gives (Some (Number (trut
 
 -- the next random word modulo a bound, which is tested before a word is taken
 abbrev pub draw : Event → (ℕ → ℤ) → Datum → Store → Outcome (Option Datum)
-draw e use_of x s = on_number x (λ b. on_bound b (λ n. gives (Some (Number (use_of (event_word e.seed s.taken % n)))) (record s { taken = s.taken + 1 })))
+draw e use_of x s = on_number x (λ b. on_bound b (λ n. gives (Some (Number (use_of (event_word e.seed s.taken % n)))) (record s { taken = suc s.taken })))
 
 -- `create`: the number drawn
 abbrev pub itself_drawn : ℕ → ℤ

@@ -74,14 +74,14 @@ abbrev pub as_bits : ℤ → ℕ
 as_bits v = modulo v (2 ^ 64)
 
 -- moved up in so many bits; by a negative number there is no move, and 0 is left
-abbrev pub shifted_up : ℕ → ℤ → ℤ → ℤ
-shifted_up w a (negsuc b) = pos 0
-shifted_up w a (pos b) = pos (moved_up w (as_bits a) b)
+abbrev pub shifted_up : ℕ → ℤ → ℤ → Option ℤ
+shifted_up w a (negsuc b) = Some (pos 0)
+shifted_up w a (pos b) = Some (pos (moved_up w (as_bits a) b))
 
 -- moved down; by a negative number there is no move, and 0 is left
-abbrev pub shifted_down : ℤ → ℤ → ℤ
-shifted_down a (negsuc b) = pos 0
-shifted_down a (pos b) = pos (as_bits a / 2 ^ b)
+abbrev pub shifted_down : ℤ → ℤ → Option ℤ
+shifted_down a (negsuc b) = Some (pos 0)
+shifted_down a (pos b) = Some (pos (as_bits a / 2 ^ b))
 
 -- how two numbers compare, as a truth value
 abbrev pub comparison : CompareOp → ℤ → ℤ → Option ℤ
@@ -97,8 +97,8 @@ operator op.Rem how w a b = unless_zero b (exact how (int_rem a b))
 operator op.And how w a b = Some (pos (bit_and (as_bits a) (as_bits b)))
 operator op.Or how w a b = Some (pos (bit_or (as_bits a) (as_bits b)))
 operator op.Xor how w a b = Some (pos (bit_xor (as_bits a) (as_bits b)))
-operator op.Shl how w a b = Some (shifted_up w a b)
-operator op.Shr how w a b = Some (shifted_down a b)
+operator op.Shl how w a b = shifted_up w a b
+operator op.Shr how w a b = shifted_down a b
 operator op.Both how w a b = Some (pos (bit_and (as_bits a) (as_bits b)))
 operator op.Either how w a b = Some (pos (bit_or (as_bits a) (as_bits b)))
 operator op.Eq how w a b = comparison c.Eq a b
