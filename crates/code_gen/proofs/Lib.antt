@@ -10,9 +10,12 @@ pub mod Passed
 pub mod Machine
 pub mod Done
 pub mod EventsMeant
+pub mod Fitted
 pub mod Meant
 pub mod CallsRun
 pub mod Closed
+mod QuarkExample
+pub mod Ready
 pub mod Room
 pub mod Events
 pub mod Worklist

@@ -1,6 +1,7 @@
 pub mod Pieces
 pub mod Drafts
 pub mod Endings
+pub mod Kinded
 pub mod Kinds
 pub mod Limits
 pub mod Runs

@@ -2,5 +2,6 @@ pub mod EventLaws
 mod Examples
 mod Failures
 pub mod Kept
+pub mod Numbers
 pub mod Rounds
 pub mod Shorthand
