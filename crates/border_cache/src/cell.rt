@@ -8,7 +8,7 @@ use std::marker::Model;
 
 /// An atom and the stamp of the event that left it.
 #[derive(Clone, Copy, Debug, PartialEq, Eq)]
-pub struct Cell {
+pub(crate) struct Cell {
     stamp: u32,
     atom: Atom,
 }
@@ -25,21 +25,21 @@ impl Model for Cell {
 
 impl Cell {
     /// The cell of a stamp and an atom.
-    pub fn new(stamp: u32, atom: Atom) -> Cell
+    pub(crate) fn new(stamp: u32, atom: Atom) -> Cell
         ensures { result ≡ cell_value stamp atom }
     {
         Cell { stamp, atom }
     }
 
     /// The stamp.
-    pub fn stamp(&self) -> u32
+    pub(crate) fn stamp(&self) -> u32
         ensures { result ≡ self.now.stamp }
     {
         self.stamp
     }
 
     /// The atom.
-    pub fn atom(&self) -> Atom
+    pub(crate) fn atom(&self) -> Atom
         ensures { result ≡ self.now.atom }
     {
         self.atom
@@ -47,7 +47,7 @@ impl Cell {
 
     /// The cell that the two registers of a shared site say.
     #[tactic(auto, using(crate::proofs::Words::low_gap))]
-    pub fn from_words(low: u64, high: u64) -> Cell
+    pub(crate) fn from_words(low: u64, high: u64) -> Cell
         requires { LeavesGap high }
         ensures { result ≡ cell_of low high }
     {
@@ -57,7 +57,7 @@ impl Cell {
     }
 
     /// The newer of two cells; this one where both are of one stamp.
-    pub fn newer_of(self, other: Cell) -> Cell
+    pub(crate) fn newer_of(self, other: Cell) -> Cell
         ensures { result ≡ newer self (Some other) }
     {
         if self.stamp < other.stamp {
@@ -68,7 +68,7 @@ impl Cell {
     }
 
     /// The two registers of a shared site that say the cell.
-    pub fn words(&self) -> (u64, u64)
+    pub(crate) fn words(&self) -> (u64, u64)
         ensures cell { cell_of result.0 result.1 ≡ self.now }
         ensures gap { LeavesGap result.1 }
     {

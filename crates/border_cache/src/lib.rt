@@ -1,11 +1,15 @@
-//! A tile's copy of the sites that it holds, and how it is brought up to date and published.
+//! A tile's copy of the sites that it holds: how it is brought up to date from the edges, what an
+//! event leaves in it, and how that is published to the edges.
+//!
+//! A cell is an atom with the stamp of the event that left it. Of several cells of a site the newest
+//! is the first with the greatest stamp. A tile that has an edge reads there the cells that are news
+//! for its end, and no others.
 #![tactic(auto)]
 
+mod cache;
 mod cell;
 mod news;
 mod places;
 mod view;
 
-pub use cell::Cell;
-pub use places::{publish_needs, refresh_needs};
-pub use view::view_of;
+pub use cache::Cache;

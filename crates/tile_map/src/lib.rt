@@ -17,6 +17,4 @@ mod span;
 
 pub use map::Map;
 pub use needs::Needs;
-
-#[cfg(test)]
-mod tests;
+pub use plane::Plane;

@@ -1,6 +1,6 @@
 //! The plane: its tiles, which of them are on, and what a tile owns and holds.
 
-ghost use Rattle.std.specs.Prelude.{◌≡◌, ◌+◌, ◌*◌, ◌<◌, ◌≤◌, IsTrue};
+ghost use Rattle.std.specs.Prelude.{◌≡◌, ◌+◌, ◌*◌, ◌<◌, ◌≤◌, IsTrue, IfOk};
 ghost use Rattle.tile_map.specs.Plane.{MapValue, IsMap, plane_of, site, tiles_of, is_on, is_live, owner_of, is_owned, is_held, site_in};
 ghost use Rattle.tile_map.specs.Neighbours.{are_joined};
 ghost use Rattle.tile_map.specs.Spans.{left_of, right_of, top_of, bottom_of};
@@ -8,12 +8,15 @@ ghost use Rattle.tile_map.specs.Edges.{is_held_at, window_site, reaches};
 ghost use Rattle.tile_map.specs.Tables.{area_both};
 
 use crate::span::{Area, Span, shift};
+use feast_base::NoMemory;
+use std::alloc::Global;
 use std::marker::Model;
 use window_sites::offset;
 
-/// How many tiles there are, how large they are, and which of them are off.
+/// The numbers of a plane: how many tiles there are, how large they are, and which of them are off.
+/// Who keeps one knows for which plane it was made.
 #[derive(Drop)]
-pub(crate) struct Plane {
+pub struct Plane {
     tx: u32,
     ty: u32,
     w: u32,
@@ -39,6 +42,14 @@ impl Plane {
         ensures { result ≡ plane_of tx ty w h off.items }
     {
         Plane { tx, ty, w, h, off }
+    }
+
+    /// The same numbers once more.
+    pub(crate) fn copy(&self, alloc: Global) -> Result<Plane, NoMemory>
+        ensures { IfOk result (λ p. p ≡ self.now) }
+    {
+        let off = Vec::from_slice(alloc, self.off.as_slice())?;
+        Ok(Plane::new(self.tx, self.ty, self.w, self.h, off))
     }
 
     /// How many tiles there are.

@@ -1,0 +1,195 @@
+-- The places of held sites, and cells that are stored at the sites of a window.
+use Rattle.std.proofs.Common.{◌≡◌, ℕ, zero, suc, ◌+◌, ◌-◌, ◌*◌, ◌/◌, ◌%◌, ◌<◌, ◌≤◌, eqb, Bool, true, false, cond, true≢false, List, [], ◌∷◌, length, get_or, refl, sym, ap, ◌∙◌, subst, arith, ⊎_elim, Option, Some, None}
+use Rattle.std.specs.Prelude.{slice_set, slice_index_or, All}
+use Rattle.std.specs.List.Sorted.{IsStrictlyIncreasing}
+use Rattle.std.proofs.lemmas.Bool.Decides.{nat_tests}
+use Rattle.std.proofs.lemmas.List.{get_or-set_same, get_or-set_other, get_or_default}
+use Rattle.std.proofs.lemmas.Nat.{mul-add-lt, same_from_place, mod-mul-add, div-mul-add}
+use Rattle.window_sites.specs.Window.{WindowValue}
+use Rattle.tile_map.specs.Plane.{Site, MapValue, site, is_held}
+use Rattle.tile_map.specs.Spans.{left_of, top_of}
+use Rattle.tile_map.specs.Edges.{window_site, needs_of, has_end, low_end, high_end}
+use Rattle.tile_map.specs.Laws.{IsPlane, Joins}
+use Rattle.tile_map.proofs.Spans.{held_span, test_lt, live_plane, times_more}
+use Rattle.tile_map.proofs.Near.{window_site-near}
+use Rattle.list_laws.proofs.Tests.{both}
+use Rattle.cell_grid.specs.Grid.{GridValue, site_atom}
+use Rattle.edge_lock.specs.EndLists.{EndLists, IsHeld}
+use Rattle.border_cache.specs.Cells.{CellValue, cell_value, newest}
+use Rattle.border_cache.specs.News.{no_cell}
+use Rattle.border_cache.specs.Published.{cell_at}
+use Rattle.border_cache.specs.Windows.{has, IsEdgeFor, IsView, RefreshesAll, PublishesAll, seen_on}
+use Rattle.border_cache.specs.Copies.{CacheValue, cache_of, columns_of, rows_of, place_held, held_cell, window_cells, Puts, PutsFor, HoldsWindow, IsCentre, IsEndOf, IsFirstCopy, IsFirstRectangle, Stores, Refreshed}
+use Rattle.border_cache.proofs.Apart.{sites_apart}
+use Rattle.border_cache.proofs.Refreshes.{less_or_same}
+
+pub place_inside : (m : MapValue) (t : ℕ) (s : Site) → is_held m t s ≡ true → place_held m t s < columns_of m t * rows_of m t
+place_inside m t s h =
+    let p = held_span m t s.x s.y h in
+    mul-add-lt (s.y - top_of m t) (columns_of m t) (s.x - left_of m t) (rows_of m t) (omega (arith, p.3, p.4)) (omega (arith, p.1, p.2))
+
+-- two held sites of one place are one
+place_one : (m : MapValue) (t : ℕ) (s u : Site) → is_held m t s ≡ true → is_held m t u ≡ true → place_held m t s ≡ place_held m t u → s ≡ u
+place_one m t s u h k same =
+    let p = held_span m t s.x s.y h in
+    let q = held_span m t u.x u.y k in
+    let e = same_from_place (s.y - top_of m t) (s.x - left_of m t) (u.y - top_of m t) (u.x - left_of m t) (columns_of m t) (omega (arith, p.1, p.2)) (omega (arith, q.1, q.2)) same in
+    let x : s.x ≡ u.x = omega (arith, e.1, p.1, q.1) in
+    let y : s.y ≡ u.y = omega (arith, e.0, p.3, q.3) in
+    λ i. site (x i) (y i)
+
+pub puts : (v : CacheValue) (s : Site) (cell : CellValue) → is_held v.map v.tile s ≡ true → length v.cells ≡ columns_of v.map v.tile * rows_of v.map v.tile
+    → Puts s cell v (cache_of v.map v.tile (slice_set v.cells (place_held v.map v.tile s) cell))
+puts v s cell held long = record {
+  map = refl;
+  tile = refl;
+  here = get_or-set_same v.cells (place_held v.map v.tile s) cell no_cell (let lt = place_inside v.map v.tile s held in omega (arith, lt, long));
+  others = λ u h apart. get_or-set_other v.cells (place_held v.map v.tile s) (place_held v.map v.tile u) cell no_cell (λ same. apart (place_one v.map v.tile u s h held same));
+}
+
+pub put_skipped : (v : CacheValue) (o : Option Site) (cell : CellValue) → o ≡ None → PutsFor o cell v v
+put_skipped v o cell is = subst (λ p. PutsFor p cell v v) (sym is) refl
+
+-- the first k sites of a window have their cells, and nothing else changed
+pub record StoresFirst (c : Site) (k : ℕ) (cells : ℕ → CellValue) (old new : CacheValue) : Type 0 where
+  pub map : new.map ≡ old.map
+  pub tile : new.tile ≡ old.tile
+  pub done : (n : ℕ) (s : Site) → n < k → window_site old.map c n ≡ Some s → held_cell new s ≡ cells n
+  pub rest : (s : Site) → is_held old.map old.tile s ≡ true → ((n : ℕ) → n < k → window_site old.map c n ≡ Some s → ⊥) → held_cell new s ≡ held_cell old s
+
+pub stores_none : (c : Site) (cells : ℕ → CellValue) (v : CacheValue) → StoresFirst c 0 cells v v
+stores_none c cells v = record { map = refl; tile = refl; done = λ n s lt. absurd (omega (arith, lt)); rest = λ s h k. refl }
+
+module _ (c : Site) (k : ℕ) (cells : ℕ → CellValue) (old mid new : CacheValue) (lt : k < 41) (holds : HoldsWindow old.map old.tile c) (v : StoresFirst c k cells old mid) where
+  -- site k is not live
+  past : window_site old.map c k ≡ None → new ≡ mid → StoresFirst c (k + 1) cells old new
+  past out same = record {
+    map = ap (λ w. w.map) same ∙ v.map;
+    tile = ap (λ w. w.tile) same ∙ v.tile;
+    done = λ n s less at. ⊎_elim
+        (λ (h : n < k). ap (λ w. held_cell w s) same ∙ v.done n s h at)
+        (λ (h : n ≡ k). let e : window_site old.map c k ≡ Some s = ap (window_site old.map c) (sym h) ∙ at in absurd (cc (e, out)))
+        (less_or_same n k less);
+    rest = λ s h f. ap (λ w. held_cell w s) same ∙ v.rest s h (λ n less at. f n (omega (arith, less)) at);
+  }
+
+  -- site k has its cell
+  put : (u : Site) → window_site old.map c k ≡ Some u → Puts u (cells k) mid new → StoresFirst c (k + 1) cells old new
+  put u at p = record {
+    map = p.map ∙ v.map;
+    tile = p.tile ∙ v.tile;
+    done = λ n s less is. ⊎_elim
+        (λ (h : n < k). other s (holds n s (omega (arith, h, lt)) is) (λ e. let q : window_site old.map c n ≡ Some u = is ∙ ap Some e in absurd (omega (arith, h, sites_apart old.map c u n k (omega (arith, h, lt)) lt q at))) ∙ v.done n s h is)
+        (λ (h : n ≡ k). let e : Some s ≡ Some u = sym is ∙ (ap (window_site old.map c) h ∙ at) in ap (held_cell new) (cc e) ∙ (p.here ∙ ap cells (sym h)))
+        (less_or_same n k less);
+    rest = λ s h f. other s h (λ e. f k (omega arith) (at ∙ ap Some (sym e))) ∙ v.rest s h (λ n less is. f n (omega (arith, less)) is);
+  }
+    where
+      held_mid : (s : Site) → is_held old.map old.tile s ≡ true → is_held mid.map mid.tile s ≡ true
+      held_mid s h = ap (λ m. is_held m mid.tile s) v.map ∙ (ap (λ t. is_held old.map t s) v.tile ∙ h)
+
+      other : (s : Site) → is_held old.map old.tile s ≡ true → (s ≡ u → ⊥) → held_cell new s ≡ held_cell mid s
+      other s h apart = p.others s (held_mid s h) apart
+
+  pub stores_more : PutsFor (window_site mid.map c k) (cells k) mid new → StoresFirst c (k + 1) cells old new
+  stores_more p = go (window_site old.map c k) refl (subst (λ m. PutsFor (window_site m c k) (cells k) mid new) v.map p)
+    where
+      go : (o : Option Site) → window_site old.map c k ≡ o → PutsFor o (cells k) mid new → StoresFirst c (k + 1) cells old new
+      go None at p = past at p
+      go (Some u) at p = put u at p
+
+pub stores_all : (c : Site) (cells : ℕ → CellValue) (old new : CacheValue) → StoresFirst c 41 cells old new → Stores c cells old new
+stores_all c cells old new v = record {
+  differs = record { map = v.map; tile = v.tile; others = λ s h out. v.rest s h (λ n lt at. true≢false (sym (window_site-near old.map c s n (omega (arith, lt)) at) ∙ out)) };
+  done = v.done;
+}
+
+-- the owner of a live centre holds the window
+pub centre_holds : (m : MapValue) → IsPlane m → (t : ℕ) (c : Site) → IsCentre m t c → HoldsWindow m t c
+centre_holds m p t c q n s lt at = subst (λ u. is_held m u s ≡ true) q.owned (p.owners.window c s q.live (window_site-near m c s n (omega (arith, lt)) at))
+
+-- the columns and rows of a centre
+pub centre_column : (m : MapValue) (t : ℕ) (c : Site) → IsCentre m t c → c.x < m.tx * m.w
+centre_column m t c q = test_lt c.x (m.tx * m.w) (both _ _ (live_plane m c q.live)).0
+
+pub centre_row : (m : MapValue) (t : ℕ) (c : Site) → IsCentre m t c → c.y < m.ty * m.h
+centre_row m t c q = test_lt c.y (m.ty * m.h) (both _ _ (live_plane m c q.live)).1
+
+-- a plane has at most 512 columns, and so rows
+pub few_sites : (k n : ℕ) → k ≤ 8 → n ≤ 64 → k * n ≤ 512
+few_sites k n p q = omega (arith, times_more k 8 n p, q)
+
+-- the cells of the rectangle at the start
+pub first_copy : (m : MapValue) (t : ℕ) (g : GridValue) (cells : List CellValue) → IsFirstRectangle g (left_of m t) (top_of m t) (columns_of m t) (rows_of m t) cells → IsFirstCopy m t g (cache_of m t cells)
+first_copy m t g cells r = record {
+  map = refl;
+  tile = refl;
+  cells = λ s h.
+      let p = held_span m t s.x s.y h in
+      let low : s.x - left_of m t < columns_of m t = omega (arith, p.1, p.2) in
+      let x : left_of m t + place_held m t s % columns_of m t ≡ s.x = ap (λ n. left_of m t + n) (mod-mul-add (s.y - top_of m t) (columns_of m t) (s.x - left_of m t) low) ∙ omega (arith, p.1) in
+      let y : top_of m t + place_held m t s / columns_of m t ≡ s.y = ap (λ n. top_of m t + n) (div-mul-add (s.y - top_of m t) (columns_of m t) (s.x - left_of m t) low) ∙ omega (arith, p.3) in
+      r.each (place_held m t s) (place_inside m t s h) ∙ (λ i. cell_value 0 (site_atom g (x i) (y i)));
+}
+
+-- a needed edge is one of the tile's, and the board has it
+has_get : (es : List ℕ) (k d : ℕ) → k < length es → has (get_or es k d) es ≡ true
+has_get [] k d lt = absurd (omega (arith, lt))
+has_get (e ∷ es) zero d lt = let q : eqb e e ≡ true = grind arith in ap (λ b. cond b true (has e es)) q
+has_get (e ∷ es) (suc k) d lt = go (eqb (get_or es k d) e) (has_get es k d (omega (arith, lt)))
+  where
+    go : (b : Bool) → has (get_or es k d) es ≡ true → cond b true (has (get_or es k d) es) ≡ true
+    go true h = refl
+    go false h = h
+
+joined_end : (m : MapValue) (e t u : ℕ) → Joins m e t u → has_end m t e ≡ true
+joined_end m e t u j = ⊎_elim
+    (λ (p : (low_end m e ≡ t) × (high_end m e ≡ u)). let q = p.0 in grind (arith, nat_tests, q))
+    (λ (p : (low_end m e ≡ u) × (high_end m e ≡ t)). let q = p.1 in grind (arith, nat_tests, q))
+    j
+
+module _ (m : MapValue) (plane : IsPlane m) (t tile : ℕ) (c : Site) (registers end_of : ℕ → ℕ) (lists : ℕ → EndLists) (board : IsEndOf m t tile registers end_of) (needs : List ℕ) (is : needs ≡ needs_of m t c)
+    (held : (e : ℕ) → has e needs ≡ true → IsHeld (lists e)) where
+  pub needs_ready : All (IsEdgeFor m registers lists) needs
+  needs_ready k d lt =
+      let e = get_or needs k d in
+      let one : slice_index_or needs k e ≡ e = get_or_default needs k e d lt in
+      let cause = plane.needs.cause t c e (k, (subst (λ es. k < length es) is lt), ap (λ es. slice_index_or es k e) (sym is) ∙ one) in
+      record {
+        known = cause.2;
+        registers_on = board.registers_are e (joined_end m e t cause.0 cause.3);
+        held = held e (has_get needs k d lt);
+      }
+
+  pub needs_rising : IsStrictlyIncreasing needs
+  needs_rising = subst IsStrictlyIncreasing (sym is) (plane.needs.rising t c)
+
+-- only the cells of the 41 sites matter
+pub stores_by : (c : Site) (p q : ℕ → CellValue) (old new : CacheValue) → ((n : ℕ) → n < 41 → p n ≡ q n) → Stores c p old new → Stores c q old new
+stores_by c p q old new same s = record { differs = s.differs; done = λ n u lt at. s.done n u lt at ∙ same n lt }
+
+pub refreshed_by : (c : Site) (edges : List ℕ) (old new : CacheValue) (a b : ℕ → EndLists) (before after : List CellValue) → ((n : ℕ) → n < 41 → cell_at before n ≡ window_cells old c n)
+    → RefreshesAll old.map old.tile c edges a b before after → Stores c (cell_at after) old new → Refreshed c edges old new a b
+refreshed_by c edges old new a b before after same r s = record {
+  more = r.more;
+  adds = r.adds;
+  reads = r.reads;
+  stores = stores_by c (cell_at after) (λ n. newest (window_cells old c n) (seen_on old.map old.tile c r.more n edges)) old new
+      (λ n lt. r.cells n lt ∙ ap (λ x. newest x (seen_on old.map old.tile c r.more n edges)) (same n lt)) s;
+}
+
+pub publishes_by : (m : MapValue) (t : ℕ) (c : Site) (edges : List ℕ) (p q : ℕ → CellValue) (a b : ℕ → EndLists) → ((n : ℕ) → n < 41 → p n ≡ q n) → PublishesAll m t c edges p a b → PublishesAll m t c edges q a b
+publishes_by m t c edges p q a b same r = record {
+  more = r.more;
+  adds = r.adds;
+  writes = λ e h. let w = r.writes e h in record {
+    cells_put = λ j k lt at. let x = w.cells_put j k lt at in (x.0, x.1, x.2, x.3, x.4 ∙ same j lt);
+    mine = w.mine;
+    theirs = w.theirs;
+    only_read = w.only_read;
+    only_written = w.only_written;
+  };
+}
+
+pub views_by : (m : MapValue) (c : Site) (p q : ℕ → CellValue) (view : WindowValue) → ((n : ℕ) → n < 41 → p n ≡ q n) → IsView m c p view → IsView m c q view
+views_by m c p q view same v = record { valid = v.valid; live = v.live; atoms = λ n lt h. v.atoms n lt h ∙ ap (λ x. x.atom) (same n lt) }

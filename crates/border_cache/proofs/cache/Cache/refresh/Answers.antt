@@ -1,0 +1,34 @@
+use Rattle.std.proofs.Common.{ap, sym, subst}
+use Rattle.std.specs.Prelude.{All}
+use Rattle.tile_map.specs.Plane.{site}
+use Rattle.tile_map.specs.Laws.{IsPlane}
+use Rattle.border_cache.specs.Windows.{IsEdgeFor, RefreshesAll}
+use Rattle.border_cache.proofs.Stored.{centre_holds, needs_ready, refreshed_by}
+use Rattle.border_cache.proofs.cache.Cache.refresh.Goals as goal
+
+pub around-cells-requires-clause-holds : goal.around-cells-requires-clause-holds
+around-cells-requires-clause-holds g c = centre_holds c.args.self.now.map (subst IsPlane c.requires.map c.laws.ensures.plane) c.args.self.now.tile (site c.args.x c.args.y) c.requires.centre
+
+pub store-requires-clause-holds : goal.store-requires-clause-holds
+store-requires-clause-holds g c = centre_holds c.args.self.now.map (subst IsPlane c.requires.map c.laws.ensures.plane) c.args.self.now.tile (site c.args.x c.args.y) c.requires.centre
+
+pub refresh_needs-requires-clause-needs : goal.refresh_needs-requires-clause-needs
+refresh_needs-requires-clause-needs g c =
+    let v = c.args.self.now in
+    let s = site c.args.x c.args.y in
+    let registers = g.D.Board.registers c.args.board.now in
+    let lists = g.D.Board.lists c.args.board.now in
+    subst (λ m. All (IsEdgeFor m registers lists) c.args.needs.now) (sym c.requires.map)
+    (needs_ready v.map (subst IsPlane c.requires.map c.laws.ensures.plane) v.tile (g.D.Board.tile c.args.board.now) s registers (g.D.Board.end_of c.args.board.now) lists c.requires.board c.args.needs.now c.requires.needs c.requires.held)
+
+pub returns-clause-refreshed : goal.returns-clause-refreshed
+returns-clause-refreshed g c =
+    let v = c.args.self.now in
+    let s = site c.args.x c.args.y in
+    let a = g.D.Board.lists c.args.board.now in
+    let b = g.D.Board.lists c.refresh_needs.new.board in
+    let before = c.around-cells.result in
+    let after = c.refresh_needs.new.cells in
+    let p = subst (λ m. RefreshesAll m c.self.inside.tile s c.args.needs.now a b before after) c.requires.map c.refresh_needs.ensures.refreshes in
+    let q = subst (λ t. RefreshesAll v.map t s c.args.needs.now a b before after) (ap (λ w. w.tile) c.self.view_is) p in
+    refreshed_by s c.args.needs.now v c.store.new.self a b before after c.around-cells.ensures.cells q c.store.ensures

@@ -1,0 +1,126 @@
+-- A tile's copy of the sites that it holds, and what the calls do to it.
+use Rattle.std.specs.Prelude.{ℕ, ◌≡◌, ◌+◌, ◌-◌, ◌*◌, ◌/◌, ◌%◌, ◌<◌, ◌≤◌, true, false, List, length, slice_index_or, Option, Some, None}
+use Rattle.feast_base.specs.Edges.{registers_of}
+use Rattle.window_sites.specs.Window.{WindowValue, atom_at}
+use Rattle.tile_map.specs.Plane.{Site, MapValue, IsMap, site, tiles_of, owner_of, is_live, is_held, in_window}
+use Rattle.tile_map.specs.Spans.{left_of, right_of, top_of, bottom_of}
+use Rattle.tile_map.specs.Edges.{window_site, has_end}
+use Rattle.cell_grid.specs.Grid.{GridValue, site_atom}
+use Rattle.edge_lock.specs.declared.history.Access.{Access}
+use Rattle.edge_lock.specs.EndLists.{EndLists}
+use Rattle.border_cache.specs.Cells.{CellValue, cell_value, newest}
+use Rattle.border_cache.specs.News.{IsRefresh, no_cell}
+use Rattle.border_cache.specs.Windows.{has, place_in, end_at, sites_on, AddsAll, seen_on}
+
+-- a copy: the plane and the tile that it was made for, and a cell for each site of the rectangle that the tile reaches, row by row
+pub record CacheValue : Type 0 where
+  pub map : MapValue
+  pub tile : ℕ
+  pub cells : List CellValue
+
+abbrev pub cache_of : MapValue → ℕ → List CellValue → CacheValue
+cache_of map tile cells = record { map = map; tile = tile; cells = cells }
+
+abbrev pub columns_of : MapValue → ℕ → ℕ
+columns_of m t = right_of m t - left_of m t
+
+abbrev pub rows_of : MapValue → ℕ → ℕ
+rows_of m t = bottom_of m t - top_of m t
+
+-- the place of a site in the rectangle that the tile reaches
+abbrev pub place_held : MapValue → ℕ → Site → ℕ
+place_held m t s = (s.y - top_of m t) * columns_of m t + (s.x - left_of m t)
+
+-- the cell of a site that the tile holds
+abbrev pub held_cell : CacheValue → Site → CellValue
+held_cell v s = slice_index_or v.cells (place_held v.map v.tile s) no_cell
+
+-- the cell of a site of a window, which may not be live
+abbrev pub cell_for : CacheValue → Option Site → CellValue
+cell_for v None = no_cell
+cell_for v (Some s) = held_cell v s
+
+-- the cells of the window at c, by the numbers of its sites
+abbrev pub window_cells : CacheValue → Site → ℕ → CellValue
+window_cells v c n = cell_for v (window_site v.map c n)
+
+-- a site that the tile holds was given a cell, and no other site of its was
+pub record Puts (s : Site) (cell : CellValue) (old new : CacheValue) : Type 0 where
+  pub map : new.map ≡ old.map
+  pub tile : new.tile ≡ old.tile
+  pub here : held_cell new s ≡ cell
+  pub others : (u : Site) → is_held old.map old.tile u ≡ true → (u ≡ s → ⊥) → held_cell new u ≡ held_cell old u
+
+-- the same for a site of a window, which may not be live
+abbrev pub PutsFor : Option Site → CellValue → CacheValue → CacheValue → Type 0
+PutsFor None cell old new = new ≡ old
+PutsFor (Some s) cell old new = Puts s cell old new
+
+-- how a copy is kept
+pub record IsCopy (m : MapValue) (t left top width : ℕ) (cells : List CellValue) : Type 0 where
+  pub valid : IsMap m
+  pub inside : t < tiles_of m
+  pub left_is : left ≡ left_of m t
+  pub top_is : top ≡ top_of m t
+  pub width_is : width ≡ columns_of m t
+  pub narrow : columns_of m t ≤ 72
+  pub short : rows_of m t ≤ 72
+  pub count : length cells ≡ columns_of m t * rows_of m t
+
+-- a grid of the plane's size, with its live sites
+pub record IsGridOf (m : MapValue) (g : GridValue) : Type 0 where
+  pub wide : g.width ≡ m.tx * m.w
+  pub high : g.height ≡ m.ty * m.h
+  pub live : (x y : ℕ) → x < g.width → y < g.height → slice_index_or g.live (y * g.width + x) false ≡ is_live m (site x y)
+
+-- a copy of a grid's sites, each with stamp 0
+pub record IsFirstCopy (m : MapValue) (t : ℕ) (g : GridValue) (v : CacheValue) : Type 0 where
+  pub map : v.map ≡ m
+  pub tile : v.tile ≡ t
+  pub cells : (s : Site) → is_held m t s ≡ true → held_cell v s ≡ cell_value 0 (site_atom g s.x s.y)
+
+-- the site is live, and the tile owns it
+pub record IsCentre (m : MapValue) (t : ℕ) (c : Site) : Type 0 where
+  pub live : is_live m c ≡ true
+  pub owned : owner_of m c ≡ t
+
+-- the tile holds the live sites of the window at c
+abbrev pub HoldsWindow : MapValue → ℕ → Site → Type 0
+HoldsWindow m t c = (n : ℕ) (s : Site) → n < 41 → window_site m c n ≡ Some s → is_held m t s ≡ true
+
+-- a board is the end of tile t of the plane's edges, with the numbers of registers that these have
+pub record IsEndOf (m : MapValue) (t tile : ℕ) (registers end_of : ℕ → ℕ) : Type 0 where
+  pub tile_is : tile ≡ t
+  pub registers_are : (e : ℕ) → has_end m t e ≡ true → registers e ≡ registers_of (sites_on m e)
+  pub end_is : (e : ℕ) → has_end m t e ≡ true → end_of e ≡ end_at m t e
+
+-- two copies differ at most at the live sites of the window at c
+pub record DiffersIn (c : Site) (old new : CacheValue) : Type 0 where
+  pub map : new.map ≡ old.map
+  pub tile : new.tile ≡ old.tile
+  pub others : (s : Site) → is_held old.map old.tile s ≡ true → in_window old.map c s ≡ false → held_cell new s ≡ held_cell old s
+
+-- the live sites of the window at c have these cells, by their numbers, and nothing else changed
+pub record Stores (c : Site) (cells : ℕ → CellValue) (old new : CacheValue) : Type 0 where
+  pub differs : DiffersIn c old new
+  pub done : (n : ℕ) (s : Site) → n < 41 → window_site old.map c n ≡ Some s → held_cell new s ≡ cells n
+
+-- a refresh of the window at c from these edges: each live site has the newest of its own cell and those that were seen
+pub record Refreshed (c : Site) (edges : List ℕ) (old new : CacheValue) (lists lists' : ℕ → EndLists) : Type 0 where
+  pub more : ℕ → List Access
+  pub adds : AddsAll lists lists' edges more
+  pub reads : (e : ℕ) → has e edges ≡ true → IsRefresh (sites_on old.map e) (end_at old.map old.tile e) (place_in old.map c e) 41 (more e)
+  pub stores : Stores c (λ n. newest (window_cells old c n) (seen_on old.map old.tile c more n edges)) old new
+
+-- the live sites of the window at c have the atoms of an event's window and its stamp
+abbrev pub Marked : Site → WindowValue → ℕ → CacheValue → CacheValue → Type 0
+Marked c window stamp old new = Stores c (λ n. cell_value stamp (atom_at window n)) old new
+
+-- the cell of place k of a rectangle of a grid
+abbrev pub first_cell : GridValue → ℕ → ℕ → ℕ → ℕ → CellValue
+first_cell g left top width k = cell_value 0 (site_atom g (left + k % width) (top + k / width))
+
+-- the cells of a rectangle of a grid, row by row, each with stamp 0
+pub record IsFirstRectangle (g : GridValue) (left top width height : ℕ) (cells : List CellValue) : Type 0 where
+  pub count : length cells ≡ width * height
+  pub each : (k : ℕ) → k < width * height → slice_index_or cells k no_cell ≡ first_cell g left top width k

@@ -1,0 +1,261 @@
+//! A tile's copy of the sites that it holds.
+ghost use Rattle.std.specs.Prelude.{◌≡◌, ◌+◌, ◌*◌, ◌<◌, ◌≤◌, ℕ, length, true, IfOk};
+ghost use Rattle.bit_field.specs.Atom.{empty_atom};
+ghost use Rattle.tile_map.specs.Plane.{IsMap, site, tiles_of, is_held};
+ghost use Rattle.tile_map.specs.Edges.{window_site, needs_of};
+ghost use Rattle.cell_grid.specs.Grid.{site_atom};
+ghost use Rattle.window_sites.specs.Window.{atom_at};
+ghost use Rattle.edge_lock.specs.EndLists.{IsHeld};
+ghost use Rattle.border_cache.specs.Cells.{cell_value};
+ghost use Rattle.border_cache.specs.Published.{cell_at};
+ghost use Rattle.border_cache.specs.Windows.{has, IsView, PublishesAll};
+ghost use Rattle.border_cache.specs.Copies.{IsGridOf, IsFirstCopy, IsFirstRectangle, IsCentre, HoldsWindow, IsEndOf, Puts, PutsFor, Stores, Refreshed, Marked, place_held, held_cell, window_cells};
+
+use crate::cell::Cell;
+use crate::places::{publish_needs, refresh_needs, site_at};
+use crate::view::view_of;
+use bit_field::Atom;
+use cell_grid::Grid;
+use edge_lock::Board;
+use feast_base::NoMemory;
+use std::alloc::Global;
+use std::marker::Model;
+use tile_map::{Map, Needs, Plane};
+use window_sites::Window;
+
+/// A cell for each site that a tile holds: its atom, and the stamp of the event that left it.
+///
+/// The cache keeps the numbers of the map that it was made with. Each call that takes a map takes
+/// that one, and a centre that is live and of the tile's own rectangle.
+#[derive(Drop)]
+pub struct Cache {
+    plane: Plane,
+    tile: u32,
+    left: u32,
+    top: u32,
+    width: u32,
+    cells: Vec<Cell>,
+}
+
+impl Model for Cache {
+    ghost use Rattle.border_cache.specs.Copies.{CacheValue, cache_of, IsCopy};
+
+    ghost Value = { CacheValue };
+
+    ghost view = { λ c. cache_of c.plane c.tile c.cells.items };
+
+    ghost invariant = { λ c. IsCopy c.plane c.tile c.left c.top c.width c.cells.items };
+}
+
+impl Cache {
+    /// The cells of a tile at the start: each has stamp 0 and the grid's atom. The grid has the
+    /// size and the live sites of the map's plane. It takes all its memory here.
+    pub fn new(alloc: Global, map: &Map, tile: u32, start: &Grid) -> Result<Cache, NoMemory>
+        requires tile { tile < tiles_of map.now }
+        requires start { IsGridOf map.now start.now }
+        ensures { IfOk result (λ c. IsFirstCopy map.now tile start.now c) }
+    {
+        let plane = map.plane(alloc)?;
+        let (left, right) = map.columns(tile);
+        let (top, bottom) = map.rows(tile);
+        let width = right - left;
+        let cells = first_cells(alloc, start, left, top, width, bottom - top)?;
+        Ok(Cache {
+            plane,
+            tile,
+            left,
+            top,
+            width,
+            cells,
+        })
+    }
+
+    /// The stamp and the atom of a site that the tile holds.
+    pub fn cell(&self, x: u32, y: u32) -> (u32, Atom)
+        requires { is_held self.now.map self.now.tile (site x y) ≡ true }
+        ensures { cell_value result.0 result.1 ≡ held_cell self.now (site x y) }
+    {
+        let cell = self.cells[self.index(x, y)];
+        (cell.stamp(), cell.atom())
+    }
+
+    /// Brings the live sites of the window at a centre up to date: each has then the newest of its
+    /// own cell and of the cells of the needed edges that share it and have news of it for this
+    /// tile. At equal stamps its own cell stays. It reads no other cell of an edge.
+    pub fn refresh<D: Board>(&mut self, map: &Map, x: u32, y: u32, needs: &Needs, board: &mut D)
+        requires map { map.now ≡ self.old.map }
+        requires centre { IsCentre self.old.map self.old.tile (site x y) }
+        requires needs { needs.now ≡ needs_of self.old.map self.old.tile (site x y) }
+        requires board { IsEndOf self.old.map self.old.tile (D.tile board.old) (D.registers board.old) (D.end_of board.old) }
+        requires held { (e : ℕ) → has e needs.now ≡ true → IsHeld (D.lists board.old e) }
+        ensures refreshed { Refreshed (site x y) needs.now self.old self.new (D.lists board.old) (D.lists board.new) }
+        ensures tile { D.tile board.new ≡ D.tile board.old }
+        ensures edges { (D.registers board.new ≡ D.registers board.old) × (D.end_of board.new ≡ D.end_of board.old) }
+        ensures moved { D.moved board.old board.new }
+    {
+        map.laws();
+        let mut cells = self.around(map, x, y);
+        refresh_needs(&mut cells, map, self.tile, x, y, needs, board);
+        self.store(map, x, y, &cells);
+    }
+
+    /// The window at a centre, as the cells of its live sites show it.
+    pub fn window(&self, map: &Map, x: u32, y: u32) -> Window
+        requires map { map.now ≡ self.now.map }
+        requires centre { IsCentre self.now.map self.now.tile (site x y) }
+        ensures { IsView self.now.map (site x y) (window_cells self.now (site x y)) result }
+    {
+        map.laws();
+        let cells = self.around(map, x, y);
+        view_of(map, x, y, &cells)
+    }
+
+    /// Gives each live site of the window at a centre its atom of an event's window and the event's
+    /// stamp. All other cells stay.
+    pub fn mark(&mut self, map: &Map, x: u32, y: u32, window: &Window, stamp: u32)
+        requires map { map.now ≡ self.old.map }
+        requires centre { IsCentre self.old.map self.old.tile (site x y) }
+        ensures { Marked (site x y) window.now stamp self.old self.new }
+    {
+        map.laws();
+        let cells = event_cells(window, stamp);
+        self.store(map, x, y, &cells);
+    }
+
+    /// Writes the cell of each live site of the window at a centre to each needed edge that shares
+    /// the site, with its news bit 0 for this tile and 1 for the other. All other registers and
+    /// bits stay.
+    pub fn publish<D: Board>(&self, map: &Map, x: u32, y: u32, needs: &Needs, board: &mut D)
+        requires map { map.now ≡ self.now.map }
+        requires centre { IsCentre self.now.map self.now.tile (site x y) }
+        requires needs { needs.now ≡ needs_of self.now.map self.now.tile (site x y) }
+        requires board { IsEndOf self.now.map self.now.tile (D.tile board.old) (D.registers board.old) (D.end_of board.old) }
+        requires held { (e : ℕ) → has e needs.now ≡ true → IsHeld (D.lists board.old e) }
+        ensures published { PublishesAll self.now.map self.now.tile (site x y) needs.now (window_cells self.now (site x y)) (D.lists board.old) (D.lists board.new) }
+        ensures tile { D.tile board.new ≡ D.tile board.old }
+        ensures edges { (D.registers board.new ≡ D.registers board.old) × (D.end_of board.new ≡ D.end_of board.old) }
+        ensures moved { D.moved board.old board.new }
+    {
+        map.laws();
+        let cells = self.around(map, x, y);
+        publish_needs(&cells, map, self.tile, x, y, needs, board);
+    }
+
+    /// The place of a site that the tile holds.
+    fn index(&self, x: u32, y: u32) -> usize
+        requires { is_held self.now.map self.now.tile (site x y) ≡ true }
+        ensures value { result ≡ place_held self.now.map self.now.tile (site x y) }
+        ensures inside { result < length self.now.cells }
+    {
+        ((y - self.top) * self.width + (x - self.left)) as usize
+    }
+
+    /// The cells of the window at a centre. Those of sites that are not live mean nothing.
+    fn around(&self, map: &Map, x: u32, y: u32) -> [Cell; 41]
+        requires map { map.now ≡ self.now.map }
+        requires valid { IsMap map.now }
+        requires holds { HoldsWindow self.now.map self.now.tile (site x y) }
+        requires x { x < map.now.tx * map.now.w }
+        requires y { y < map.now.ty * map.now.h }
+        ensures cells { (n : ℕ) → n < 41 → cell_at result n ≡ window_cells self.now (site x y) n }
+        ensures count { length result ≡ 41 }
+    {
+        let mut cells = [Cell::new(0, Atom::new(0, 0)); 41];
+        for n in 0..41u8 {
+            cells[n as usize] = self.cell_around(map, x, y, n);
+        }
+        cells
+    }
+
+    /// The cell of site `n` of the window at a centre.
+    fn cell_around(&self, map: &Map, x: u32, y: u32, n: u8) -> Cell
+        requires map { map.now ≡ self.now.map }
+        requires valid { IsMap map.now }
+        requires holds { HoldsWindow self.now.map self.now.tile (site x y) }
+        requires n { n ≤ 40 }
+        requires x { x < map.now.tx * map.now.w }
+        requires y { y < map.now.ty * map.now.h }
+        ensures { result ≡ window_cells self.now (site x y) n }
+    {
+        match site_at(map, x, y, n) {
+            Some((u, v)) => self.cells[self.index(u, v)],
+            None => Cell::new(0, Atom::new(0, 0)),
+        }
+    }
+
+    /// Gives the live sites of the window at a centre these cells.
+    fn store(&mut self, map: &Map, x: u32, y: u32, cells: &[Cell])
+        requires map { map.now ≡ self.old.map }
+        requires valid { IsMap map.now }
+        requires holds { HoldsWindow self.old.map self.old.tile (site x y) }
+        requires count { length cells.now ≡ 41 }
+        requires x { x < map.now.tx * map.now.w }
+        requires y { y < map.now.ty * map.now.h }
+        ensures { Stores (site x y) (cell_at cells.now) self.old self.new }
+    {
+        for n in 0..41u8 {
+            self.put_around(map, x, y, n, cells[n as usize]);
+        }
+    }
+
+    /// Gives site `n` of the window at a centre a cell, if the site is live.
+    fn put_around(&mut self, map: &Map, x: u32, y: u32, n: u8, cell: Cell)
+        requires map { map.now ≡ self.old.map }
+        requires valid { IsMap map.now }
+        requires holds { HoldsWindow self.old.map self.old.tile (site x y) }
+        requires n { n ≤ 40 }
+        requires x { x < map.now.tx * map.now.w }
+        requires y { y < map.now.ty * map.now.h }
+        ensures { PutsFor (window_site self.old.map (site x y) n) cell self.old self.new }
+    {
+        if let Some((u, v)) = site_at(map, x, y, n) {
+            self.put(u, v, cell);
+        }
+    }
+
+    /// Gives a site that the tile holds a cell.
+    fn put(&mut self, x: u32, y: u32, cell: Cell)
+        requires { is_held self.old.map self.old.tile (site x y) ≡ true }
+        ensures { Puts (site x y) cell self.old self.new }
+    {
+        let index = self.index(x, y);
+        self.cells[index] = cell;
+    }
+}
+
+/// The cells of a rectangle of a grid, each with stamp 0.
+fn first_cells(
+    alloc: Global,
+    start: &Grid,
+    left: u32,
+    top: u32,
+    width: u32,
+    height: u32,
+) -> Result<Vec<Cell>, NoMemory>
+    requires narrow { width ≤ 72 }
+    requires short { height ≤ 72 }
+    requires left { left ≤ 512 }
+    requires top { top ≤ 512 }
+    requires columns { left + width ≤ start.now.width }
+    requires rows { top + height ≤ start.now.height }
+    ensures { IfOk result (λ v. IsFirstRectangle start.now left top width height v.items) }
+{
+    let mut cells = Vec::new(alloc);
+    for place in 0..width * height {
+        let atom = start.get(left + place % width, top + place / width);
+        cells.push(Cell::new(0, atom))?;
+    }
+    Ok(cells)
+}
+
+/// The cells that an event leaves, by the numbers of the sites of its window.
+fn event_cells(window: &Window, stamp: u32) -> [Cell; 41]
+    ensures cells { (n : ℕ) → n < 41 → cell_at result n ≡ cell_value stamp (atom_at window.now n) }
+    ensures count { length result ≡ 41 }
+{
+    let mut cells = [Cell::new(0, Atom::new(0, 0)); 41];
+    for n in 0..41u8 {
+        cells[n as usize] = Cell::new(stamp, window.get(n));
+    }
+    cells
+}
