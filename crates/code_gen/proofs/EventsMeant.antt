@@ -28,21 +28,21 @@ use Rattle.code_gen.proofs.Done.{way_out, end_same, body_same}
 
 -- Arguments lie on the operands with the last one topmost.
 
-pub take_rest : {A : Type 0} (vs st : List A) → take (length vs) (reverse_aux vs st) ≡ reverse vs
+take_rest : (vs st : List Datum) → take (length vs) (reverse_aux vs st) ≡ reverse vs
 take_rest [] st = refl
 take_rest (v ∷ vs) st =
     let e : length (reverse vs ++ v ∷ []) ≡ suc (length vs) = omega (arith, length-append (reverse vs) (v ∷ []), length-reverse vs) in
     let a : reverse_aux vs (v ∷ st) ≡ (reverse vs ++ v ∷ []) ++ st = reverse_onto vs v st ∙ sym (append_assoc (reverse vs) (v ∷ []) st) in
     ap (take (suc (length vs))) a ∙ ap (λ n. take n ((reverse vs ++ v ∷ []) ++ st)) (sym e) ∙ take-append_seam (reverse vs ++ v ∷ []) st ∙ sym (reverse_onto vs v [])
 
-pub drop_rest : {A : Type 0} (vs st : List A) → drop (length vs) (reverse_aux vs st) ≡ st
+drop_rest : (vs st : List Datum) → drop (length vs) (reverse_aux vs st) ≡ st
 drop_rest [] st = refl
 drop_rest (v ∷ vs) st =
     let e : length (reverse vs ++ v ∷ []) ≡ suc (length vs) = omega (arith, length-append (reverse vs) (v ∷ []), length-reverse vs) in
     let a : reverse_aux vs (v ∷ st) ≡ (reverse vs ++ v ∷ []) ++ st = reverse_onto vs v st ∙ sym (append_assoc (reverse vs) (v ∷ []) st) in
     ap (drop (suc (length vs))) a ∙ ap (λ n. drop n ((reverse vs ++ v ∷ []) ++ st)) (sym e) ∙ drop-append_seam (reverse vs ++ v ∷ []) st
 
-length_rest : {A : Type 0} (vs st : List A) → length (reverse_aux vs st) ≡ length vs + length st
+length_rest : (vs st : List Datum) → length (reverse_aux vs st) ≡ length vs + length st
 length_rest [] st = omega arith
 length_rest (v ∷ vs) st = omega (arith, length_rest vs (v ∷ st))
 
@@ -66,7 +66,7 @@ fresh_same [] tys = fills_same tys
 fresh_same (x ∷ xs) [] = refl
 fresh_same (x ∷ xs) (ty ∷ tys) = ap (λ l. x ∷ l) (fresh_same xs tys)
 
-pub map_both : (a c : List Ty) → map operand_of a ++ map operand_of c ≡ map operand_of (a ++ c)
+map_both : (a c : List Ty) → map operand_of a ++ map operand_of c ≡ map operand_of (a ++ c)
 map_both [] c = refl
 map_both (ty ∷ a) c = ap (λ l. operand_of ty ∷ l) (map_both a c)
 

@@ -10,16 +10,16 @@ pub mod Passed
 pub mod Machine
 pub mod Done
 pub mod EventsMeant
-pub mod Fitted
 pub mod Meant
 pub mod CallsRun
 pub mod Closed
-mod QuarkExample
-pub mod Ready
 pub mod Room
 pub mod Events
 pub mod Worklist
-mod Worked
 pub mod Rounds
+pub mod Spans
+pub mod Fitted
+pub mod Drafted
+pub mod ElementCode
 pub mod LayRounds
 pub mod Built

@@ -1,11 +1,12 @@
 pub mod Pieces
 pub mod Drafts
 pub mod Endings
-pub mod Kinded
 pub mod Kinds
 pub mod Limits
 pub mod Runs
 pub mod Scheme
+pub mod Kinded
+pub mod Compiled
 pub mod Laws
 pub mod Depths
 pub mod Views

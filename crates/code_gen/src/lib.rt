@@ -5,16 +5,15 @@
 mod calls;
 mod depth;
 mod element;
-mod element_law;
 mod emit;
 mod gather;
 mod law;
+pub mod make;
 mod piece;
 mod size;
 mod source;
 
 pub use element::build;
-pub use element_law::same_meaning;
-pub use law::{depths, right};
+pub use law::{compiled, depths, right};
 pub use piece::{Key, Piece};
 pub use source::{Head, Source};
