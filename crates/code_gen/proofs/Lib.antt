@@ -13,6 +13,7 @@ pub mod EventsMeant
 pub mod Meant
 pub mod CallsRun
 pub mod Closed
+mod QuarkExample
 pub mod Room
 pub mod Events
 pub mod Worklist
@@ -21,5 +22,6 @@ pub mod Spans
 pub mod Fitted
 pub mod Drafted
 pub mod ElementCode
+pub mod ElementMeans
 pub mod LayRounds
 pub mod Built

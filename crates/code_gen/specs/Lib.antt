@@ -3,6 +3,7 @@ pub mod Drafts
 pub mod Endings
 pub mod Kinds
 pub mod Limits
+pub mod Means
 pub mod Runs
 pub mod Scheme
 pub mod Kinded
