@@ -4,6 +4,7 @@ pub mod Fine
 pub mod Lows
 pub mod Comes
 pub mod Turns
+pub mod TypedFields
 pub mod Handed
 pub mod CallEnds
 pub mod Passed
