@@ -20,6 +20,10 @@ pub mod Rounds
 pub mod Spans
 pub mod Fitted
 pub mod Drafted
+pub mod TypeRows
+pub mod TypedPaths
+pub mod TypedKinds
+pub mod TypedBodies
 pub mod ElementCode
 pub mod LayRounds
 pub mod Built

@@ -6,6 +6,7 @@ pub mod Limits
 pub mod Runs
 pub mod Scheme
 pub mod Kinded
+pub mod Named
 pub mod Compiled
 pub mod Laws
 pub mod Depths
