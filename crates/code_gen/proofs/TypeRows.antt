@@ -1,10 +1,9 @@
 -- What the rows of types say of kinds and widths.
-use Rattle.std.proofs.Common.{◌≡◌, ℕ, ◌<◌, ◌≤◌, ◌⊎◌, ⊎_elim, Option, Some, None, refl, sym, ap, ◌∙◌, subst, arith, Bool, true, false}
-use Rattle.std.specs.Prelude.{nat_le, max, ◌&&◌, if◌then◌else◌}
+use Rattle.std.proofs.Common.{◌≡◌, ℕ, ⊎_elim, Some, refl, sym, ap, ◌∙◌, subst, arith, Bool, true, false}
+use Rattle.std.specs.Prelude.{nat_le, max}
 use Rattle.std.proofs.lemmas.Bool.{cases_lt}
 use Rattle.sat_math.specs.declared.Kind.{Kind}
 use Rattle.sat_math.specs.declared.Kind.TheVariants as k
-use Rattle.sat_math.specs.declared.NumType.{NumType}
 use Rattle.sat_math.specs.declared.Arith.{Arith}
 use Rattle.sat_math.specs.declared.Arith.TheVariants.{Int32, Unsigned32, Int64, Unsigned64}
 use Rattle.ulam_tree.specs.declared.resolved.Ty.{Ty}
@@ -17,15 +16,14 @@ use Rattle.ulam_types.specs.declared.scope.NumClass.{NumClass}
 use Rattle.ulam_types.specs.declared.scope.NumClass.TheVariants.{Int, Unsigned, Bits, Bool as Truth, Other}
 use Rattle.ulam_types.specs.Scopes.{Scope, is_element}
 use Rattle.ulam_types.specs.Rows.{int, unsigned, bits, bool, class_by, class_of, plain_type, wide, arith_type, order_type, equal_type, bits_type, shift_type, truth_type, pair_type, prefix_by, prefix_type, cast_type, is_atom, is_index_class, is_index, is_truth_class, is_truth, is_unsigned_class, is_unsigned, fits_number, same_class, assignable}
-use Rattle.ulam_meaning.specs.Values.{number_type, width_of}
+use Rattle.ulam_meaning.specs.Values.{width_of}
 use Rattle.stack_code.specs.Sorts.{num_type}
 use Rattle.stack_code.specs.Valid.{type_fits, args_fit}
 use Rattle.stack_code.specs.declared.instr.Instr.{Instr}
 use Rattle.stack_code.specs.declared.instr.Operand.{Operand}
-use Rattle.stack_code.specs.declared.instr.Operand.TheVariants.{Number, Atom}
 use Rattle.list_laws.proofs.Tests.{both}
 use Rattle.code_gen.specs.Scheme.{operand_of, by_arith, pair_instr, minus_instr, prefix_instr}
-use Rattle.code_gen.specs.Kinded.{IsNumber, IsAtom, CastsTo, StoresTo}
+use Rattle.code_gen.specs.Kinded.{IsNumber, IsAtom, StoresTo}
 use Rattle.code_gen.specs.Named.{IsWide}
 
 -- a type with a class of numbers

@@ -1,27 +1,25 @@
 -- Statements and programs that are well typed and named have the right kinds.
-use Rattle.std.proofs.Common.{◌≡◌, ℕ, zero, suc, ◌+◌, ◌≤◌, List, [], ◌∷◌, ◌++◌, length, Option, Some, None, refl, sym, ap, ◌∙◌, subst, arith, Bool, true, false, map}
+use Rattle.std.proofs.Common.{◌≡◌, ℕ, zero, suc, ◌+◌, List, [], ◌∷◌, ◌++◌, Option, Some, refl, sym, ap, ◌∙◌, subst, arith, Bool, true, false, map}
 use Rattle.std.specs.Prelude.{slice_get, slice_index_or, ◌||◌}
 use Rattle.std.specs.Option.{option_map_or}
 use Rattle.ulam_tree.specs.declared.resolved.Ty.{Ty}
 use Rattle.ulam_tree.specs.declared.resolved.Ty.TheVariants as y
 use Rattle.ulam_tree.specs.declared.resolved.Step.{Step}
-use Rattle.ulam_tree.specs.declared.resolved.Step.TheVariants.{Own, Local, Member, Function as AFunction, Constant, Built as ABuilt}
+use Rattle.ulam_tree.specs.declared.resolved.Step.TheVariants.{Local}
 use Rattle.ulam_tree.specs.Typed as t
 use Rattle.ulam_tree.specs.Locals.{all_locals}
 use Rattle.ulam_types.specs.Scopes as s
 use Rattle.ulam_types.specs.Rows.{is_void}
 use Rattle.ulam_types.specs.Bodies.{atom_slot, atom_slot_by, is_element_type}
-use Rattle.ulam_types.specs.Programs.{class_sig, param_type, scope_of}
-use Rattle.ulam_types.specs.Well.{IsWellTest, IfSome, IsWellCond, IsWellStatement, IsWellPart, IsWellBody, AreWellMembers, AreWellClasses, IsWellProgram}
-use Rattle.ulam_meaning.specs.Programs.{Program, Function, no_function, param_types, functions, members_of, field_at, function_at, slot_types}
-use Rattle.ulam_meaning.specs.Paths.{local, spot, Key, function_of, callee, Scene, scene_of}
-use Rattle.ulam_meaning.specs.Events.{behave_key}
+use Rattle.ulam_types.specs.Programs.{class_sig, param_type}
+use Rattle.ulam_types.specs.Well.{IsWellCond, IsWellStatement, IsWellPart, IsWellBody, AreWellMembers, AreWellClasses, IsWellProgram}
+use Rattle.ulam_meaning.specs.Programs.{Program, Function, no_function, param_types, functions, field_at, function_at, slot_types}
+use Rattle.ulam_meaning.specs.Paths.{spot, Key, function_of, callee, Scene, scene_of}
 use Rattle.ulam_meaning.specs.Laws.{IsLaidOut}
-use Rattle.ulam_meaning.specs.Values.{width_of}
-use Rattle.stack_code.specs.declared.instr.Operand.TheVariants.{Number, Atom}
-use Rattle.code_gen.specs.Kinded.{HasPath, HasSlot, ReadsKind, KindedCond, KindedStatement, KindedPart, KindedBody, IsKinded}
+use Rattle.stack_code.specs.declared.instr.Operand.TheVariants.{Atom}
+use Rattle.code_gen.specs.Kinded.{HasPath, ReadsKind, KindedCond, KindedStatement, KindedPart, KindedBody, IsKinded}
 use Rattle.code_gen.specs.Named.{IsWide, AllWide, IsNamedCond, IsNamedStatement, IsNamedPart, IsNamedBody, IsNamedProgram, HasBehave}
-use Rattle.code_gen.proofs.TypedPaths.{Sees, Alike, alike_eq, alike_set, alike_get, alike_kind, kind_get, wide_get, path_callee, named_path}
+use Rattle.code_gen.proofs.TypedPaths.{Sees, alike_eq, alike_set, alike_get, alike_kind, kind_get, wide_get, path_callee, named_path}
 use Rattle.code_gen.proofs.TypedKinds.{assigned_well, typed_kinded, args_kinded, call_kinded, index_kinded, test_kinded, tests_kinded, value_kinded, store_kinded, count_kinded, return_kinded}
 
 -- a result that isn't `Void` is a value's type
@@ -75,6 +73,7 @@ module _ (z : Scene) (c : ℕ) (fields_wide : (k m : ℕ) → IsWide (field_at z
 
   mutual
     unfolding IsWellStatement
+
     statement_kinded : (g : s.Scope) → Sees g z c → HasResult g → (x : t.Statement) → IsWellStatement g x → IsNamedStatement z c x → KindedStatement z c x
     statement_kinded g sees v (t.block b) h n = body_kinded g sees v b h n
     statement_kinded g sees v t.empty h n = tt
@@ -90,10 +89,11 @@ module _ (z : Scene) (c : ℕ) (fields_wide : (k m : ℕ) → IsWide (field_at z
     statement_kinded g sees v (t.breaks p) h n = tt
     statement_kinded g sees v (t.continues p) h n = tt
     statement_kinded g sees v (t.declares of i p e) h n = (kind_get z.slots i of.ty n.0, value_kinded g z c sees fields_wide params_wide results_wide of.ty e (wide_get z.slots i of.ty sees.wide n.0) h.1 n.1)
-    statement_kinded g sees v (t.assigns l o e) h n =
-        ((named_path g z c sees fields_wide l.path.steps n.0.0, index_kinded g z c sees fields_wide params_wide results_wide l.index l.path h.0 h.1 n.0.1),
-         (typed_kinded g z c sees fields_wide params_wide results_wide e (assigned_well g h.0 o e h.2) n.1).0,
-         store_kinded g z c sees fields_wide params_wide results_wide (spot z.program z.base l.path.steps) l.index l.path o e h.0 refl h.1 n.0 h.2 n.1)
+    statement_kinded g sees v (t.assigns l o e) h n = (
+      (named_path g z c sees fields_wide l.path.steps n.0.0, index_kinded g z c sees fields_wide params_wide results_wide l.index l.path h.0 h.1 n.0.1),
+      (typed_kinded g z c sees fields_wide params_wide results_wide e (assigned_well g h.0 o e h.2) n.1).0,
+      store_kinded g z c sees fields_wide params_wide results_wide (spot z.program z.base l.path.steps) l.index l.path o e h.0 refl h.1 n.0 h.2 n.1,
+    )
     statement_kinded g sees v (t.counts l up) h n =
         ((named_path g z c sees fields_wide l.path.steps n.0, index_kinded g z c sees fields_wide params_wide results_wide l.index l.path h.0 h.2 n.1), count_kinded g z c sees fields_wide params_wide results_wide l.index l.path up h.0 h.1 h.2 n h.3)
     statement_kinded g sees v (t.does x es) h n =

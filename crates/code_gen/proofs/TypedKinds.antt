@@ -1,11 +1,9 @@
 -- A tree that is well typed and named has the right kinds.
-use Rattle.std.proofs.Common.{◌≡◌, ℕ, zero, suc, ◌⊎◌, inl, inr, ⊎_elim, List, [], ◌∷◌, ◌++◌, length, Option, Some, None, refl, sym, ap, ◌∙◌, subst, arith, Bool, true, false, map}
-use Rattle.std.specs.Prelude.{slice_get, slice_set, pos, ◌&&◌, ◌||◌}
+use Rattle.std.proofs.Common.{◌≡◌, ℕ, ◌⊎◌, inl, inr, ⊎_elim, List, [], ◌∷◌, length, Option, Some, None, refl, sym, ap, ◌∙◌, subst, arith, Bool, true, false, map}
+use Rattle.std.specs.Prelude.{◌||◌}
 use Rattle.sat_math.specs.declared.NumType.{NumType}
 use Rattle.ulam_tree.specs.declared.resolved.Ty.{Ty}
 use Rattle.ulam_tree.specs.declared.resolved.Ty.TheVariants as y
-use Rattle.ulam_tree.specs.declared.resolved.Step.{Step}
-use Rattle.ulam_tree.specs.declared.resolved.Step.TheVariants.{Own, Local, Member, Function as AFunction, Constant, Built as ABuilt}
 use Rattle.ulam_tree.specs.declared.resolved.Built.{Built}
 use Rattle.ulam_tree.specs.declared.resolved.Built.TheVariants as b
 use Rattle.ulam_tree.specs.declared.op.PairOp.{PairOp}
@@ -14,23 +12,21 @@ use Rattle.ulam_tree.specs.Typed as t
 use Rattle.ulam_types.specs.declared.scope.Want.{Want}
 use Rattle.ulam_types.specs.declared.scope.Want.TheVariants.{Value, Site, Bound}
 use Rattle.ulam_types.specs.Scopes as s
-use Rattle.ulam_types.specs.Rows.{unsigned, bool, plain_type, taken, pair_type, assignable, is_index, is_unsigned, is_species, instance_type, is_void, suits, all_suit, built_result, result_of}
-use Rattle.ulam_types.specs.Bodies.{atom_slot, is_element_type}
-use Rattle.ulam_types.specs.Well.{count, IsNumberType, IsCallee, IsWell, IsWellForm, AreWell, IsWellIndex, IsWellAssigned, IsWellTest, IfSome, IsWellCond, IsWellValue, IsWellResult, IsWellStatement, IsWellPart, IsWellBody}
+use Rattle.ulam_types.specs.Rows.{unsigned, bool, plain_type, taken, pair_type, is_unsigned, is_species, instance_type, is_void, suits, all_suit, built_result, result_of}
+use Rattle.ulam_types.specs.Well.{count, IsNumberType, IsWell, IsWellForm, AreWell, IsWellIndex, IsWellAssigned, IsWellTest, IfSome, IsWellValue, IsWellResult}
 use Rattle.ulam_meaning.specs.Programs.{Program, field_at}
-use Rattle.ulam_meaning.specs.Paths.{Spot, local, spot, Key, function_of, Callee, called, built_in, no_callee, callee, Scene, spot_type}
+use Rattle.ulam_meaning.specs.Paths.{Spot, spot, Key, function_of, Callee, called, built_in, no_callee, callee, Scene, spot_type}
 use Rattle.ulam_meaning.specs.Values.{number_type, width_of, arith_of, arith_with}
 use Rattle.ulam_meaning.specs.Expressions.{casts, built_casts}
 use Rattle.ulam_meaning.specs.Statements.{count_op}
 use Rattle.stack_code.specs.Valid.{Kinds, answer_on, args_fit}
-use Rattle.stack_code.specs.declared.instr.Operand.{Operand}
-use Rattle.stack_code.specs.declared.instr.Operand.TheVariants.{Number, Atom}
+use Rattle.stack_code.specs.declared.instr.Operand.TheVariants.{Number}
 use Rattle.list_laws.proofs.Tests.{both}
 use Rattle.code_gen.specs.Scheme.{operand_of, answer_of, update_instr}
-use Rattle.code_gen.specs.Kinded.{IsNumber, IsAtom, HasSlot, ReadsKind, ReadsAtKind, CastsTo, StoresTo, built_takes, after_callee, OnCallee, Kinded, KindedForm, KindedArgs, KindedCond, KindedTest, AssignsKind, KindedLeft, KindedValue, KindedReturn, KindedStatement, KindedPart, KindedBody}
-use Rattle.code_gen.specs.Named.{IsWide, AllWide, IsNamed, IsNamedForm, AreNamed, IfNamed, IsNamedCond, IsNamedLeft, IsNamedStatement, IsNamedPart, IsNamedBody}
+use Rattle.code_gen.specs.Kinded.{IsNumber, IsAtom, ReadsKind, ReadsAtKind, built_takes, after_callee, OnCallee, Kinded, KindedForm, KindedArgs, KindedTest, AssignsKind, KindedValue, KindedReturn}
+use Rattle.code_gen.specs.Named.{IsWide, AllWide, IsNamed, IsNamedForm, AreNamed, IfNamed, IsNamedLeft}
 use Rattle.code_gen.proofs.TypeRows.{BitsWide, pair_args, wide_bits, plain_wide, unsigned_wide, bool_wide, pair_gives, prefix_gives, cast_gives, atom_gives, assign_gives, stores, index_number, truth_number, unsigned_number}
-use Rattle.code_gen.proofs.TypedPaths.{Sees, SeesCallee, alike_set, path_reads, path_target, path_item, path_callee, named_path}
+use Rattle.code_gen.proofs.TypedPaths.{Sees, SeesCallee, path_reads, path_target, path_item, path_callee, named_path}
 
 -- what arguments are cast to, and their kinds, by what is wanted of them
 abbrev casts_of : List Want → List (Option NumType)
@@ -126,6 +122,7 @@ assigned_well g ty (Some o) e h = h.1
 -- a plain number is a number
 mutual
   unfolding IsWell
+
   plain_number : (g : s.Scope) (e : t.Expr) → IsWell g e → t.plain e ≡ true → IsNumber (t.ty_of e)
   plain_number g (t.typed f ty) h p = plain_form_number g f ty h p
 
@@ -135,12 +132,6 @@ mutual
   plain_form_number g f ty h e = cc
 
 module _ (g : s.Scope) (z : Scene) (c : ℕ) (sees : Sees g z c) (fields_wide : (k m : ℕ) → IsWide (field_at z.program k m).ty) (params_wide : (f : Key) → AllWide (function_of z.program f).params) (results_wide : (f : Key) → IsWide (function_of z.program f).result) where
-
-
-
-
-
-
   -- a call, with what its arguments are
   pub call_kinded : (f : s.Callee) (m : Callee) (es : t.Args) → SeesCallee g z c sees fields_wide f m → length (s.wants_of f) ≡ count es → all_suit g (s.wants_of f) es ≡ true → ((ws : List Want) → length ws ≡ count es → all_suit g ws es ≡ true → WideWants ws → KindedArgs z c es (casts_of ws) (kinds_of ws)) → OnCallee z.program m (KindedArgs z c es)
   call_kinded (s.function f) (called k) es seen l a go =
@@ -169,6 +160,7 @@ module _ (g : s.Scope) (z : Scene) (c : ℕ) (sees : Sees g z c) (fields_wide : 
 
   mutual
     unfolding IsWell
+
     pub typed_kinded : (e : t.Expr) → IsWell g e → IsNamed z c e → Kinded z c e × BitsWide (t.ty_of e)
     typed_kinded (t.typed f ty) h n = form_kinded f ty h n
 

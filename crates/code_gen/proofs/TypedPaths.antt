@@ -1,22 +1,19 @@
 -- What a path names, by the type that it has: scopes of types beside scenes of meaning.
-use Rattle.std.proofs.Common.{◌≡◌, ℕ, zero, suc, ◌+◌, ◌-◌, ◌≤◌, ◌⊎◌, inl, inr, ⊎_elim, List, [], ◌∷◌, length, Option, Some, None, refl, sym, ap, ◌∙◌, subst, arith, Bool, true, false, map}
-use Rattle.std.specs.Prelude.{slice_get, slice_set, slice_index_or, nat_eq, nat_lt, if◌then◌else◌}
+use Rattle.std.proofs.Common.{◌≡◌, ℕ, zero, suc, ◌-◌, ◌≤◌, ◌⊎◌, inl, inr, ⊎_elim, List, [], ◌∷◌, length, Option, Some, None, refl, sym, ap, ◌∙◌, subst, arith, true, map}
+use Rattle.std.specs.Prelude.{slice_get, slice_set, slice_index_or, nat_eq, nat_lt}
 use Rattle.std.specs.Option.{option_map_or}
-use Rattle.std.proofs.lemmas.Bool.{eqb-true, ltb-true}
-use Rattle.sat_math.specs.declared.NumType.{NumType}
+use Rattle.std.proofs.lemmas.Bool.{ltb-true}
 use Rattle.ulam_tree.specs.declared.resolved.Ty.{Ty}
 use Rattle.ulam_tree.specs.declared.resolved.Ty.TheVariants as y
 use Rattle.ulam_tree.specs.declared.resolved.Step.{Step}
 use Rattle.ulam_tree.specs.declared.resolved.Step.TheVariants.{Own, Local, Member, Function as AFunction, Constant, Built as ABuilt}
-use Rattle.ulam_tree.specs.declared.resolved.Built.{Built}
 use Rattle.ulam_tree.specs.Typed as t
-use Rattle.ulam_types.specs.declared.scope.Want.{Want}
 use Rattle.ulam_types.specs.declared.scope.Want.TheVariants.{Value}
 use Rattle.ulam_types.specs.declared.scope.FieldSig.{FieldSig}
 use Rattle.ulam_types.specs.Scopes as s
 use Rattle.ulam_types.specs.Programs.{fields_of, functions_of, want_of, class_sig}
-use Rattle.ulam_meaning.specs.Programs.{Program, Field, Function, no_field, no_function, param_types, fields, functions, members_of, field_at, function_at}
-use Rattle.ulam_meaning.specs.Paths.{Span, Spot, itself, local, member, part, window, constant, nothing, field_spot, bit_of, through, spot, function_of, Callee, called, built_in, no_callee, callee, Scene, spot_type}
+use Rattle.ulam_meaning.specs.Programs.{Field, Function, no_field, no_function, param_types, fields, functions, members_of, field_at, function_at}
+use Rattle.ulam_meaning.specs.Paths.{Span, Spot, local, member, part, window, field_spot, bit_of, through, spot, function_of, Callee, called, built_in, callee, Scene, spot_type}
 use Rattle.stack_code.specs.Valid.{type_fits}
 use Rattle.stack_code.specs.declared.instr.Operand.{Operand}
 use Rattle.stack_code.specs.declared.instr.Operand.TheVariants.{Number, Atom}
