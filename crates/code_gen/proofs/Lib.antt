@@ -24,6 +24,7 @@ pub mod TypeRows
 pub mod TypedPaths
 pub mod TypedKinds
 pub mod TypedBodies
+pub mod LaidOut
 pub mod ElementCode
 pub mod LayRounds
 pub mod Built
