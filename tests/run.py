@@ -4,7 +4,8 @@
 Each folder of tests/cases is one case: `args` has the words, one a line; `expected` has what the
 program is to write on standard output; `status` has its exit status; `shows` says in one line what
 the case shows. All other files are inputs, and the case runs in a copy of its folder. Where
-`stdout` says `full`, standard output is a full device, and the status alone is compared.
+`stdout` says `full`, standard output is a full device, and the status alone is compared. Each line
+`NAME BYTES` of `spaces` makes an input of so many spaces.
 """
 import pathlib
 import shutil
@@ -21,11 +22,20 @@ def words_of(case):
     return text.split(b"\n")[:-1] if text.endswith(b"\n") else text.split(b"\n")
 
 
+def make_spaces(folder):
+    """Makes the inputs that are nothing but spaces."""
+    lines = folder / "spaces"
+    if lines.exists():
+        for name, size in (line.split() for line in lines.read_text().splitlines()):
+            (folder / name).write_bytes(b" " * int(size))
+
+
 def run(program, case):
     """What is wrong with a case, or None."""
     with tempfile.TemporaryDirectory() as folder:
         copy = pathlib.Path(folder) / case.name
         shutil.copytree(case, copy)
+        make_spaces(copy)
         command = [program.encode(), *words_of(case)]
         full = (case / "stdout").exists()
         with open("/dev/full", "wb") as device:

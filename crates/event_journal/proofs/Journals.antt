@@ -1,10 +1,10 @@
 -- The journal of some logs.
-use Rattle.std.proofs.Common.{ℕ, zero, suc, ◌≡◌, ◌≤◌, ◌<◌, ◌+◌, List, [], ◌∷◌, ◌++◌, refl, sym, ap, subst, arith, ◌⊎◌, inl, inr, ⊎_elim, Bool, true, false, ◌∙◌, length, map, get_or, drop, All}
+use Rattle.std.proofs.Common.{ℕ, suc, ◌≡◌, ◌≤◌, ◌<◌, ◌+◌, List, [], ◌∷◌, ◌++◌, refl, sym, ap, subst, arith, ◌⊎◌, inl, inr, ⊎_elim, Bool, true, false, ◌∙◌, length, map, All}
 use Rattle.std.specs.Prelude.{◌↔◌, ◌==◌, ◌&&◌, ◌||◌, IsTrue, nat_lt, AllPairs, Contains, flat_map, IsPermutation}
 use Rattle.std.specs.List.{range_with_len}
 use Rattle.std.proofs.lemmas.Bool.Decides.{nat_tests}
 use Rattle.std.proofs.lemmas.List.Elements.{All-head, All-tail, All-contains}
-use Rattle.std.proofs.lemmas.List.Sorted.{Contains-permutation, IsPermutation-sym, IsPermutation-trans, length_permutation}
+use Rattle.std.proofs.lemmas.List.Sorted.{Contains-permutation, IsPermutation-sym, length_permutation}
 use Rattle.list_laws.proofs.Members.{In, InOrder, in_either, get_in, in_get, order-append, order-pairs}
 use Rattle.list_laws.proofs.Tests.{both}
 use Rattle.cell_grid.specs.declared.record.Record.{Record}
@@ -12,7 +12,7 @@ use Rattle.cell_grid.specs.Records.{Precedes}
 use Rattle.event_journal.specs.declared.abandoned.Abandoned.{Abandoned}
 use Rattle.event_journal.specs.Merged.{joined, merged}
 use Rattle.event_journal.specs.Logs.{LogValue, IsLog, AreLogs, IsJournal, Follows, ComesBefore, tile_of, records_of, abandoned_of, abandoned_in, is_before, records_in}
-use Rattle.event_journal.proofs.Merging.{IsOrder, RisesBy, AllRise, AreApart, merged_permutes, merged_rises, one_order}
+use Rattle.event_journal.proofs.Merging.{RisesBy, AllRise, AreApart, merged_permutes, merged_rises, one_order}
 use Rattle.event_journal.proofs.WalkSteps.{before_order}
 
 lt_of : (a b : ℕ) → nat_lt a b ≡ true → a < b

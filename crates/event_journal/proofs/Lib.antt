@@ -1,3 +1,6 @@
+pub mod Extents
 pub mod Journals
 pub mod Merging
+pub mod Reports
+pub mod Takings
 pub mod WalkSteps

@@ -1,7 +1,6 @@
 -- Merging lists gives all their elements, each once and in order.
-use Rattle.std.proofs.Common.{ℕ, ◌≡◌, ◌≢◌, ◌≤◌, ◌<◌, ◌+◌, List, [], ◌∷◌, ◌++◌, refl, sym, ap, subst, arith, ◌⊎◌, inl, inr, ⊎_elim, Bool, true, false, Option, Some, None, zero, suc, ◌∙◌, ◌==◌, length, ◌&&◌, drop}
-use Rattle.std.specs.Prelude.{if◌then◌else◌, nat_lt, slice_get, ◌||◌, IsPermutation}
-use Rattle.std.proofs.lemmas.Bool.Decides.{nat_tests}
+use Rattle.std.proofs.Common.{ℕ, ◌≡◌, ◌+◌, List, [], ◌∷◌, ◌++◌, refl, sym, ap, subst, arith, ◌⊎◌, inl, inr, ⊎_elim, Bool, true, false, Option, Some, None, zero, suc, ◌∙◌, length, drop}
+use Rattle.std.specs.Prelude.{if◌then◌else◌, slice_get, IsPermutation}
 use Rattle.std.proofs.lemmas.List.Sorted.{IsPermutation-refl, IsPermutation-cons, IsPermutation-append_right, IsPermutation-middle, IsPermutation-trans, length_permutation}
 use Rattle.list_laws.proofs.Members.{In, in_left, in_right, in_either}
 use Rattle.event_journal.specs.Merged.{joined, better, least_from, without, and_then, merged_few, merged}

@@ -1,11 +1,11 @@
 -- Steps of the search for the least record, and of the walk.
-use Rattle.std.proofs.Common.{ℕ, ◌≡◌, ◌≤◌, ◌<◌, ◌+◌, List, [], ◌∷◌, ◌++◌, refl, sym, ap, arith, Bool, true, false, Option, Some, None, zero, suc, ◌∙◌, length, drop, take, map, get_or}
+use Rattle.std.proofs.Common.{ℕ, ◌≡◌, ◌≤◌, ◌<◌, ◌+◌, List, [], ◌∷◌, refl, sym, ap, arith, Bool, true, false, Option, Some, None, zero, suc, ◌∙◌, length, drop, get_or}
 use Rattle.std.specs.Prelude.{slice_get, slice_set, ◌⊎◌}
 use Rattle.std.proofs.Common.{inl, inr}
 use Rattle.std.proofs.lemmas.Bool.Decides.{nat_tests}
 use Rattle.event_journal.proofs.Merging.{IsOrder, next_none, next_some, next_inside}
 use denote.Ref.{Bor}
-use Rattle.event_journal.specs.Merged.{least_from, without, better, merged}
+use Rattle.event_journal.specs.Merged.{least_from, without, merged}
 use Rattle.cell_grid.specs.declared.record.Record.{Record}
 use Rattle.event_journal.specs.Logs.{is_before}
 use Rattle.event_journal.specs.Walks.{lists_of, better_first}

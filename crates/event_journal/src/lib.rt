@@ -5,13 +5,21 @@
 #![tactic(auto)]
 
 mod abandoned;
+mod fault;
+mod forms;
 mod journal;
 mod log;
+mod placing;
 mod printed;
+mod reader;
+mod reading;
+mod seats;
 mod walk;
 
 pub use abandoned::Abandoned;
+pub use fault::JournalFault;
 pub use journal::Journal;
 pub use log::TileLog;
 pub use printed::{abandoned_fields, count_fields, print, record_fields};
+pub use reader::{ReadJournal, read};
 pub use walk::Walk;

@@ -6,6 +6,7 @@ pub mod Faults
 pub mod Fields
 pub mod Laws
 pub mod Lines
+pub mod Loads
 pub mod Marks
 pub mod Missing
 pub mod Promised

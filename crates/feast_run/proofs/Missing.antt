@@ -4,12 +4,20 @@ use Rattle.feast_base.specs.Outside.{File, Stock, Told}
 use Rattle.feast_run.proofs.Laws.{then_misses}
 use Rattle.feast_run.specs.Answer.{form_answer}
 use Rattle.feast_run.specs.Ending.{Ends, Leaves, status_of}
-use Rattle.feast_run.specs.Forms.{FormValue, run}
+use Rattle.feast_run.specs.Forms.{FormValue, check, run}
 use Rattle.feast_run.specs.Outcomes.{Outcome, MissesOf, passes, refuses, misses}
 use Rattle.feast_run.specs.Promises.{Noted, IsWordOf, file_words}
-use Rattle.feast_run.specs.Stages.{ready}
+use Rattle.feast_run.specs.Stages.{load_more, ready, set_of}
 use Rattle.feast_run.specs.declared.status.Status.{Status}
 use Rattle.feast_run.specs.declared.status.Status.TheVariants as how
+
+-- element files
+loads_miss : (P : List ℕ → Type 0) (files : Option (List File)) (done : List File) (words : List (List ℕ)) → ((w : List ℕ) → IsWordOf words w → P w) → MissesOf P (load_more files done words)
+loads_miss P files done [] f = λ w h. absurd h
+loads_miss P files done (word ∷ words) f = then_misses P _ _ (λ w h. f w (inl h)) (λ bytes. loads_miss P files _ words (λ w h. f w (inr h)))
+
+set_misses : (files : Option (List File)) (words : List (List ℕ)) → MissesOf (IsWordOf words) (set_of files words)
+set_misses files words = then_misses _ _ _ (loads_miss _ files [] words (λ w h. h)) (λ s w h. absurd h)
 
 -- what a run needs
 ready_misses : (files : Option (List File)) (world element : List ℕ) → MissesOf (IsWordOf (world ∷ element ∷ [])) (ready files world element)
@@ -20,6 +28,7 @@ ready_misses files world element =
 
 -- each form misses its file words alone
 pub form_misses : (files : Option (List File)) (form : FormValue) → MissesOf (IsWordOf (file_words form)) (form_answer files form)
+form_misses files (check words) = then_misses _ _ _ (set_misses files words) (λ s w h. absurd h)
 form_misses files (run world element) = then_misses _ _ _ (ready_misses files world element) (λ r w h. absurd h)
 
 noted_by : (f : FormValue) (old new : Stock) (o : Outcome (List ℕ)) (status : Status) → form_answer old.files f o → Leaves old new o →

@@ -4,12 +4,13 @@ use Rattle.std.proofs.lemmas.List.{length-append, append_cancel_left}
 use Rattle.feast_base.specs.Outside.{File, Grows, Stock, Told}
 use Rattle.feast_base.specs.Refusals.{refusal_line, unreadable_line}
 use Rattle.feast_run.proofs.Laws.{went}
+use Rattle.feast_run.proofs.Loads.{loaded_files}
 use Rattle.feast_run.proofs.Sure.{form_accepts, form_sure}
 use Rattle.feast_run.specs.Answer.{form_answer}
 use Rattle.feast_run.specs.Ending.{Comes, Ends, Leaves, Whole, status_of, status_of_input, text_of}
-use Rattle.feast_run.specs.Forms.{FormValue, run}
+use Rattle.feast_run.specs.Forms.{FormValue, check, run}
 use Rattle.feast_run.specs.Outcomes.{Accepts, IsSure, Outcome, RefusedValue, Stage, passes, refuses, misses}
-use Rattle.feast_run.specs.Promises.{Agrees, Complete, Exactly, Headline, Lines, RanTold, Shows, UsageExactly}
+use Rattle.feast_run.specs.Promises.{Agrees, CheckTold, Complete, Exactly, Headline, Lines, RanTold, Shows, UsageExactly}
 use Rattle.feast_run.specs.Stages.{ReadyValue, ready}
 use Rattle.feast_run.specs.World.{IsWorld}
 use Rattle.feast_run.specs.declared.status.Status.{Status}
@@ -24,6 +25,13 @@ ready_valid files world element r h =
     let e = went _ _ r w.rest in
     let b = went _ _ w.value w.passed in
     rw e.rest.1 b.rest.valid
+
+-- a check that showed a text, part by part
+check_told : (files : List File) (words : List (List ℕ)) (text : List ℕ) → form_answer (Some files) (check words) (passes text) → CheckTold files words text
+check_told files words text h =
+    let s = went _ _ text h in
+    let l = went _ _ s.value s.passed in
+    record { set = s.value; is_set = record { sources = l.value; are_files = loaded_files files words l.value l.passed; accepted = l.rest }; shown = s.rest }
 
 -- a run that showed a text, part by part
 ran_told : (files : List File) (world element text : List ℕ) → form_answer (Some files) (run world element) (passes text) → RanTold files world element text
@@ -47,6 +55,7 @@ ran_told files world element text h =
     }
 
 shows_of : (files : List File) (form : FormValue) (text : List ℕ) → form_answer (Some files) form (passes text) → Shows files form text
+shows_of files (check words) text h = check_told files words text h
 shows_of files (run world element) text h = ran_told files world element text h
 
 -- no refusal has one of the statuses of a whole call

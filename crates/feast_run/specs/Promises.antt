@@ -1,20 +1,40 @@
 -- What a call promises, in the words of who calls it. Each follows from how a call ends.
 use Rattle.std.specs.Prelude.{ℕ, ◌≡◌, ◌≢◌, ◌≤◌, length, List, [], ◌∷◌, ◌++◌, Option, Some, None, ◌⊎◌}
 use Rattle.cell_grid.specs.Records.{replay}
+use Rattle.element_set.specs.Sets.{SetValue, AcceptsFiles, check_text}
 use Rattle.feast_base.specs.Held.{LoadMayFail, PutMayFail, ShelfHeld, SinkHeld, room_left}
 use Rattle.feast_base.specs.Outside.{File, Grows, Stock, Told, file_of, stock, told}
 use Rattle.feast_base.specs.Refusals.{refusal_line, unreadable_line, usage_line}
 use Rattle.feast_run.specs.Answer.{form_answer}
 use Rattle.feast_run.specs.Element.{ElementValue, Defines, after_swap}
 use Rattle.feast_run.specs.Ending.{ComesTo, status_of}
-use Rattle.feast_run.specs.Forms.{FormValue, run}
+use Rattle.feast_run.specs.Forms.{FormValue, check, run}
 use Rattle.feast_run.specs.Outcomes.{Outcome, passes, refuses, misses}
 use Rattle.feast_run.specs.Report.{report}
 use Rattle.feast_run.specs.Run.{journal_of, start_of}
-use Rattle.feast_run.specs.Stages.{AreNamed, element_of, world_of}
+use Rattle.feast_run.specs.Stages.{AreNamed, element_limit, element_of, world_of}
 use Rattle.feast_run.specs.World.{WorldValue, IsWorld, world_text}
 use Rattle.feast_run.specs.declared.status.Status.{Status}
 use Rattle.feast_run.specs.declared.status.Status.TheVariants as how
+
+-- the element files of some words, in order: of each word the first file of that name, within its limit
+abbrev pub AreFiles : List File → List (List ℕ) → List File → Type 0
+AreFiles files [] [] = Unit {0}
+AreFiles files [] (s ∷ ss) = ⊥
+AreFiles files (w ∷ ws) [] = ⊥
+AreFiles files (w ∷ ws) (s ∷ ss) = (s.0 ≡ w) × (file_of w files ≡ Some s.1) × (length s.1 ≤ element_limit) × AreFiles files ws ss
+
+-- element files that are told, and the set that they are: no stage refuses them
+pub record IsSet (files : List File) (words : List (List ℕ)) (set : SetValue) : Type 0 where
+  pub sources : List File
+  pub are_files : AreFiles files words sources
+  pub accepted : AcceptsFiles sources set
+
+-- a check whose files are told: the bytes appended are the layout of their set
+pub record CheckTold (files : List File) (words : List (List ℕ)) (appended : List ℕ) : Type 0 where
+  pub set : SetValue
+  pub is_set : IsSet files words set
+  pub shown : appended ≡ check_text set
 
 -- a run whose files are told: the bytes appended are the report of the world's attempts, each a record in its order,
 -- none abandoned, over the grid that these records give when they are replayed from the world's start
@@ -31,6 +51,7 @@ pub record RanTold (files : List File) (world_word element_word appended : List 
 
 -- the text that a form writes, where files are told
 abbrev pub Shows : List File → FormValue → List ℕ → Type 0
+Shows files (check words) appended = CheckTold files words appended
 Shows files (run world element) appended = RanTold files world element appended
 
 -- the headline: where the shelf tells its files and the sink what is written, and the status is Done, this was appended
@@ -73,6 +94,7 @@ pub record CanRun (files : List File) (world_word element_word : List ℕ) : Typ
 
 -- files of a form that nothing is refused of
 abbrev pub IsGood : List File → FormValue → Type 0
+IsGood files (check words) = (set : SetValue) × IsSet files words set
 IsGood files (run world element) = CanRun files world element
 
 -- completeness: good files of a form, and counts that stay, give Done, or want of memory
@@ -83,6 +105,7 @@ Complete form old new sink sink' status =
 
 -- the file words of a form
 abbrev pub file_words : FormValue → List (List ℕ)
+file_words (check words) = words
 file_words (run world element) = world ∷ element ∷ []
 
 -- it is one of the words

@@ -1,9 +1,10 @@
 -- The stages that the forms are made of.
-use Rattle.std.specs.Prelude.{ℕ, ◌≡◌, ◌≤◌, List, length, Option, All}
+use Rattle.std.specs.Prelude.{ℕ, ◌≡◌, ◌≤◌, List, [], ◌∷◌, ◌++◌, length, Option, All, slice_index_or}
+use Rattle.element_set.specs.Sets.{SetValue, AcceptsFiles, RefusesFiles}
 use Rattle.feast_base.specs.Outside.{File, TellsBytes, TellsLonger}
 use Rattle.feast_base.specs.declared.place.Refusal.{Refusal}
 use Rattle.feast_run.specs.Element.{ElementValue, Defines}
-use Rattle.feast_run.specs.Outcomes.{Stage, passes, refuses, misses, RefusedValue, refused, and_then, finds, demands}
+use Rattle.feast_run.specs.Outcomes.{Stage, passes, refuses, misses, RefusedValue, refused, and_then, gives, finds, demands}
 use Rattle.feast_run.specs.World.{WorldValue, PlacedValue, Says}
 use Rattle.feast_run.specs.declared.stop.Input.{Input}
 use Rattle.feast_run.specs.declared.stop.Input.TheVariants as input
@@ -32,6 +33,25 @@ abbrev pub load : Option (List File) → ℕ → List ℕ → Stage (List ℕ)
 load files limit word (passes bytes) = TellsBytes files word bytes × (length bytes ≤ limit)
 load files limit word (refuses r) = TellsLonger files word limit × (r ≡ too_long word limit)
 load files limit word (misses w) = w ≡ word
+
+-- the loads of the words that are left, after the files that are loaded
+abbrev pub load_more : Option (List File) → List File → List (List ℕ) → Stage (List File)
+load_more files done [] = gives done
+load_more files done (word ∷ words) = and_then (load files element_limit word) (λ bytes. load_more files (done ++ (word, bytes) ∷ []) words)
+
+-- the loads of element files, in order
+abbrev pub load_all : Option (List File) → List (List ℕ) → Stage (List File)
+load_all files words = load_more files [] words
+
+-- the building of loaded element files; the word of a refusal is that of the file in which it stands
+abbrev pub builds : List (List ℕ) → List File → Stage SetValue
+builds words sources (passes set) = AcceptsFiles sources set
+builds words sources (refuses r) = RefusesFiles sources r.refusal × (r ≡ refused input.Elements (slice_index_or words r.refusal.place.file []) r.refusal)
+builds words sources (misses w) = ⊥
+
+-- the set of some element files: all are loaded before the first is read
+abbrev pub set_of : Option (List File) → List (List ℕ) → Stage SetValue
+set_of files words = and_then (load_all files words) (builds words)
 
 -- the world that a file says
 abbrev pub world_of : Option (List File) → List ℕ → Stage WorldValue

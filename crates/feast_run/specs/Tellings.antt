@@ -1,15 +1,11 @@
 -- What an answer of the code says of a stage, and of the shelf.
 use Rattle.std.specs.Prelude.{ℕ, ◌≡◌, List, [], ◌∷◌, ◌++◌, Result, Ok, Err}
+use Rattle.element_set.specs.Sets.{Coded}
 use Rattle.feast_base.specs.Outside.{Stock}
-use Rattle.feast_base.specs.Refusals.{IsCode}
 use Rattle.feast_run.specs.Outcomes.{Stage, passes, refuses, misses, RefusedValue, refused}
 use Rattle.feast_run.specs.declared.stop.Refused.{Refused as RefusedCode}
 use Rattle.feast_run.specs.declared.stop.Stop.{Stop}
 use Rattle.feast_run.specs.declared.stop.Stop.TheVariants.{Refused, Missing, NoMemory}
-
--- a code that has a text; a record, so that the list of all codes is not written out in each goal
-pub record Coded (code : ℕ) : Type 0 where
-  pub is_code : IsCode code
 
 abbrev pub refused_value : RefusedCode → RefusedValue
 refused_value r = refused r.input r.word.now r.refusal

@@ -4,6 +4,7 @@
 #![tactic(auto)]
 
 mod element;
+mod element_files;
 mod element_text;
 mod form;
 mod in_memory;

@@ -1,10 +1,10 @@
 //! What a call comes to say.
 ghost use Rattle.std.specs.Prelude.{◌≡◌, IfOk, MatchResult, Some, map, string_bytes};
+ghost use Rattle.element_set.specs.Sets.{Coded};
 ghost use Rattle.feast_base.specs.Outside.{stock};
 ghost use Rattle.feast_base.specs.Refusals.{refusal_line};
 ghost use Rattle.feast_run.specs.Ending.{ComesTo, Wants, status_of_input};
-ghost use Rattle.feast_run.specs.Forms.{form_of, form_value};
-ghost use Rattle.feast_run.specs.Tellings.{Coded};
+ghost use Rattle.feast_run.specs.Forms.{IsFew, form_of, form_value};
 
 use crate::Status;
 use crate::form::{Form, read_form};
@@ -45,6 +45,7 @@ fn refuse(alloc: Global, status: Status, word: &str, refusal: &Refusal) -> Resul
 /// What a form comes to say.
 #[tactic(auto, unfolding(feast_base::specs::Refusals::refusal_line))]
 fn said_form<F: Shelf>(alloc: Global, shelf: &mut F, form: Form<'_>) -> Result<Said, NoMemory>
+    requires { IsFew form }
     ensures files { F.files shelf.new ≡ F.files shelf.old }
     ensures says { let old = stock F.files F.failed F.may_fail shelf.old in let new = stock F.files F.failed F.may_fail shelf.new in let form = Some (form_value form.entry) in
         MatchResult result (λ said. ComesTo form old new said.status said.text.items) (λ _. Wants form old new) }

@@ -1,13 +1,15 @@
 //! The stages of the forms.
-ghost use Rattle.std.specs.Prelude.{◌≡◌, ◌↔◌, IsTrue, All};
+ghost use Rattle.std.specs.Prelude.{◌≡◌, ◌↔◌, ◌≤◌, IsTrue, All, length, map, string_bytes};
+ghost use Rattle.element_set.specs.Sets.{Coded};
 ghost use Rattle.feast_base.specs.Outside.{stock};
 ghost use Rattle.feast_run.specs.Answer.{form_answer};
-ghost use Rattle.feast_run.specs.Forms.{form_value, run};
+ghost use Rattle.feast_run.specs.Forms.{IsFew, check, form_value, most_files, run};
 ghost use Rattle.feast_run.specs.Stages.{AreNamed, element_of, named, not_built, ready, with_element, world_of};
-ghost use Rattle.feast_run.specs.Tellings.{Moves, Tells, Coded, refused_value};
+ghost use Rattle.feast_run.specs.Tellings.{Moves, Tells, refused_value};
 ghost use Rattle.feast_run.specs.Values.{element_value, ready_value, world_value};
 
 use crate::element::Element;
+use crate::element_files::load_set;
 use crate::element_text::read_element;
 use crate::form::Form;
 use crate::loading::{ELEMENT_LIMIT, WORLD_LIMIT, load_file, whole_file};
@@ -150,16 +152,38 @@ fn run_stages<'a, F: Shelf>(
     }
 }
 
+/// The stages of a check, up to its text.
+fn check_stages<'a, F: Shelf>(
+    alloc: Global,
+    shelf: &mut F,
+    words: &'a [String],
+) -> Result<Vec<u8>, Stop<'a>>
+    requires { length words.now ≤ most_files }
+    ensures files { F.files shelf.new ≡ F.files shelf.old }
+    ensures moves { Moves (stock F.files F.failed F.may_fail shelf.old) (stock F.files F.failed F.may_fail shelf.new) result }
+    ensures tells { Tells (λ v. v.items) (form_answer (F.files shelf.old) (check (map string_bytes words.now))) result }
+{
+    let set = load_set(alloc, shelf, words)?;
+    let mut text = Vec::new(alloc);
+    match set.print_check(&mut text) {
+        Ok(()) => Ok(text),
+        Err(NoMemory) => Err(Stop::NoMemory),
+    }
+}
+
 /// The stages of a form, up to the text that it writes.
-#[tactic(auto, unfolding(crate::specs::Forms::form_value))]
 pub fn form_stages<'a, F: Shelf>(
     alloc: Global,
     shelf: &mut F,
     form: Form<'a>,
 ) -> Result<Vec<u8>, Stop<'a>>
+    requires { IsFew form }
     ensures files { F.files shelf.new ≡ F.files shelf.old }
     ensures moves { Moves (stock F.files F.failed F.may_fail shelf.old) (stock F.files F.failed F.may_fail shelf.new) result }
     ensures tells { Tells (λ v. v.items) (form_answer (F.files shelf.old) (form_value form.entry)) result }
 {
-    run_stages(alloc, shelf, form.world, form.element)
+    match form {
+        Form::Check(words) => check_stages(alloc, shelf, words),
+        Form::Run(world, element) => run_stages(alloc, shelf, world, element),
+    }
 }

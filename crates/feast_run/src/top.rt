@@ -41,18 +41,25 @@ fn call<F: Shelf, K: Sink>(alloc: Global, words: &[String], shelf: &mut F, sink:
 
 /// Does what the words say, and answers how it ended.
 ///
-/// The words are those after the program's name. So far they have one form, `run WORLD FILE`: the
-/// world of one tile in WORLD is run with the element in FILE, and its report is put to the sink
-/// in one piece. Any refusal is told in one line, put in place of the report:
+/// The words are those after the program's name. So far they have two forms:
+///
+/// - `check FILE..`, with 1 to 64 files: the layout of each class in them is put to the sink.
+/// - `run WORLD FILE`: the world of one tile in WORLD is run with the element in FILE, and its
+///   report is put to the sink.
+///
+/// A text is put in one piece, and not at all where it is empty. Any refusal is told in one line,
+/// put in place of the text:
 ///
 /// - `Usage` where the words have no form.
 /// - `Unreadable` where a file can't be loaded, or is longer than its limit (268,435,456 bytes for
 ///   WORLD, 1,048,576 for FILE).
+/// - `ElementRefused` where the files of a check are no set of elements, or FILE of a run defines
+///   no element that swaps two sites.
 /// - `WorldRefused` where WORLD says no world of one tile, or names another type than FILE's.
-/// - `ElementRefused` where FILE defines no such element.
 ///
-/// WORLD is loaded and read before FILE is loaded; the first cause is answered. `SinkFault` comes
-/// where the put failed. `NoMemory` comes where memory is wanted; then nothing is put.
+/// A check loads all its files before it reads the first; a run loads and reads WORLD before it
+/// loads FILE. The first cause is answered. `SinkFault` comes where the put failed. `NoMemory`
+/// comes where memory is wanted; then nothing is put.
 ///
 /// The shelf appends to its failed names only a file word whose load failed. The gate is not
 /// called yet, and no thread is started.

@@ -1,4 +1,4 @@
-use Rattle.std.proofs.Common.{rules, ◌≡◌, ◌≤◌, ◌<◌, ◌+◌, ℕ, sym, ap, ◌∙◌, Option, drop, arith}
+use Rattle.std.proofs.Common.{◌+◌, ℕ, sym, ap, ◌∙◌, Option, drop}
 use Rattle.cell_grid.specs.declared.record.Record.{Record}
 use Rattle.event_journal.specs.Logs.{is_before}
 use Rattle.event_journal.specs.Walks.{lists_of}

@@ -1,4 +1,4 @@
-use Rattle.std.proofs.Common.{◌≡◌, Option, None, drop}
+use Rattle.std.proofs.Common.{◌≡◌, None, drop}
 use Rattle.event_journal.specs.Logs.{is_before}
 use Rattle.event_journal.specs.Walks.{lists_of}
 use Rattle.event_journal.specs.Merged.{least_from}

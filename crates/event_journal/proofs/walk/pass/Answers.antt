@@ -1,4 +1,4 @@
-use Rattle.std.proofs.Common.{rules, ◌≡◌, ◌≤◌, ◌<◌, ◌+◌, ℕ, sym, ap, drop}
+use Rattle.std.proofs.Common.{sym, ap, drop}
 use Rattle.event_journal.proofs.WalkSteps.{without_set, without_none, no_length}
 use Rattle.event_journal.proofs.walk.pass.Goals as goal
 

@@ -1,4 +1,4 @@
-use Rattle.std.proofs.Common.{rules, ◌≡◌, ◌≤◌, ◌<◌, ◌+◌, ℕ, ◌∙◌, sym, ap, ◌∷◌}
+use Rattle.std.proofs.Common.{◌∙◌, sym, ap, ◌∷◌}
 use Rattle.event_journal.specs.Merged.{merged}
 use Rattle.event_journal.specs.Logs.{is_before}
 use Rattle.event_journal.proofs.WalkSteps.{least_inside, walk_none, walk_some}

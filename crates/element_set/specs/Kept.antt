@@ -1,0 +1,31 @@
+-- What a set keeps beside its classes and their layout.
+use Rattle.std.specs.Prelude.{ℕ, ◌≡◌, ◌≤◌, List, length, map, Vec}
+use Rattle.std.specs.declared.alloc.Global.{Global}
+use Rattle.ulam_tree.specs.Typed as t
+use Rattle.ulam_tree.specs.TypedViews.{typed_class, typed_program}
+use Rattle.ulam_tree.specs.declared.typed.Class.{Class}
+use Rattle.ulam_tree.specs.declared.typed.Typed.{Typed}
+use Rattle.ulam_names.specs.Scopes.{most_classes}
+use Rattle.element_set.specs.Names.{names_in, counts, AreSlim}
+use Rattle.element_set.specs.Value.{SetValue}
+
+abbrev pub texts_of : List (Vec ℕ Global) → List (List ℕ)
+texts_of vs = map (λ (v : Vec ℕ Global). v.items) vs
+
+abbrev pub set_view : Typed → List (List ℕ) → SetValue
+set_view typed layout = record { classes = typed_program typed; layout = layout }
+
+abbrev pub set_of_lists : List Class → List (List ℕ) → SetValue
+set_of_lists classes layout = record { classes = map typed_class classes; layout = layout }
+
+-- a layout has the bits of each data member of each class, of which there are not too many
+pub record Fits (cs : List t.Class) (ls : List (List ℕ)) : Type 0 where
+  pub rows : map length ls ≡ counts cs
+  pub slim : AreSlim cs
+
+-- the names of the elements, twice, and a layout that fits
+pub record IsKept (s : SetValue) (names numbers : List (List ℕ)) : Type 0 where
+  pub names_is : names ≡ names_in s.classes
+  pub numbers_is : numbers ≡ names_in s.classes
+  pub few : length s.classes ≤ most_classes
+  pub fits : Fits s.classes s.layout

@@ -1,0 +1,9 @@
+pub mod CheckText
+pub mod Composing
+pub mod Faults
+pub mod Kept
+pub mod Names
+pub mod Sets
+pub mod Stages
+pub mod Told
+pub mod Value

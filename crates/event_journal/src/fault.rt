@@ -1,0 +1,84 @@
+//! Why a text says no journal.
+ghost use Rattle.std.specs.Prelude.{◌≡◌, Some};
+ghost use Rattle.event_journal.specs.Reading.{fault_of};
+
+use feast_base::NoMemory;
+use std::alloc::{AllocError, AllocFailed};
+
+/// Why a text says no journal, with the number of the line, from 1.
+#[derive(Clone, Copy, Debug, PartialEq, Eq)]
+pub enum JournalFault {
+    /// A line has another form, a count does not agree, or a line is missing or one too many (80).
+    /// Of a missing line it is the number of the line behind the last.
+    BadLine(u64),
+    /// A record does not stand behind that of the line before it, by stamp and then tile, or the
+    /// attempt of its tile's last record is not smaller (81). The second number is the line of
+    /// that other record; 0 where the first record has the stamp 0.
+    OutOfOrder(u64, u64),
+    /// There is no such tile, or it does not own the site (82).
+    NotOwned(u64),
+    /// The tile has no such attempt, or one of another centre or seed (83).
+    NotDrawn(u64),
+    /// There was no memory.
+    NoMemory,
+}
+
+/// What is wrong with a line.
+#[derive(Clone, Copy, Debug, PartialEq, Eq)]
+pub(crate) enum LineFault {
+    /// It has another form than the line that is wanted there.
+    BadForm,
+    /// Its record stands in the wrong order to that of a line, or to none (0).
+    OutOfTurn(u64),
+    /// Its site is not one of its tile.
+    ElsewhereThanTile,
+    /// It is none of the attempts of its tile.
+    OtherThanAttempt,
+}
+
+impl LineFault {
+    /// This fault at a line.
+    pub(crate) fn at(self, line: u64) -> JournalFault
+        ensures { fault_of result ≡ Some (line, self) }
+    {
+        match self {
+            LineFault::BadForm => JournalFault::BadLine(line),
+            LineFault::OutOfTurn(previous) => JournalFault::OutOfOrder(line, previous),
+            LineFault::ElsewhereThanTile => JournalFault::NotOwned(line),
+            LineFault::OtherThanAttempt => JournalFault::NotDrawn(line),
+        }
+    }
+}
+
+impl From<AllocError> for JournalFault {
+    ghost use Rattle.std.specs.Prelude.{◌≡◌};
+    ghost use Rattle.event_journal.specs.declared.fault.JournalFault.TheVariants.{NoMemory as no_memory};
+
+    ghost from_gives = { λ _ e. e ≡ no_memory };
+
+    fn from(_refused: AllocError) -> JournalFault {
+        JournalFault::NoMemory
+    }
+}
+
+impl<T: Drop> From<AllocFailed<T>> for JournalFault {
+    ghost use Rattle.std.specs.Prelude.{◌≡◌};
+    ghost use Rattle.event_journal.specs.declared.fault.JournalFault.TheVariants.{NoMemory as no_memory};
+
+    ghost from_gives = { λ _ e. e ≡ no_memory };
+
+    fn from(_refused: AllocFailed<T>) -> JournalFault {
+        JournalFault::NoMemory
+    }
+}
+
+impl From<NoMemory> for JournalFault {
+    ghost use Rattle.std.specs.Prelude.{◌≡◌};
+    ghost use Rattle.event_journal.specs.declared.fault.JournalFault.TheVariants.{NoMemory as no_memory};
+
+    ghost from_gives = { λ _ e. e ≡ no_memory };
+
+    fn from(_refused: NoMemory) -> JournalFault {
+        JournalFault::NoMemory
+    }
+}

@@ -1,0 +1,182 @@
+//! A record among the attempts of its tile.
+ghost use Rattle.std.specs.Prelude.{◌≡◌, ◌*◌, ◌≤◌, ◌<◌, ◌+◌, IfSome, List, None, Option, Some, [], length, not, slice_index_or, slice_set, if◌then◌else◌};
+ghost use Rattle.cell_grid.specs.declared.record.Record.{Record};
+ghost use Rattle.draw_stream.specs.declared.attempt.Attempt.{Attempt};
+ghost use Rattle.tile_map.specs.Plane.{IsMap, tiles_of};
+ghost use Rattle.event_journal.specs.Reading.{is_at_home, is_attempt, is_behind, line_before, not_later, place_fault, record_fault};
+ghost use Rattle.event_journal.specs.Seats.{AllServe, IsExtent, Serves, last_of, lasts_of, passed_of};
+ghost use Rattle.event_journal.specs.declared.fault.LineFault.TheVariants.{ElsewhereThanTile, OutOfTurn};
+
+use crate::fault::LineFault;
+use crate::seats::{Seat, drawn};
+use cell_grid::Record;
+use draw_stream::Attempt;
+use tile_map::Map;
+
+/// The columns and rows of a plane, and how many sites a tile has.
+#[derive(Clone, Copy, Debug)]
+pub(crate) struct Extent {
+    pub(crate) width: u32,
+    pub(crate) height: u32,
+    pub(crate) sites: u32,
+}
+
+impl Extent {
+    /// The extent of a map's plane: what the last tile reaches ends where the plane does.
+    pub(crate) fn of(map: &Map) -> Extent
+        ensures { IsExtent result map.now }
+    {
+        let tiles = map.tiles();
+        let width = map.columns(tiles - 1).1;
+        let height = map.rows(tiles - 1).1;
+        Extent {
+            width,
+            height,
+            sites: width * height / tiles,
+        }
+    }
+}
+
+/// Whether a record stands behind the one before, or may be the first.
+fn is_behind(before: Option<Record>, r: &Record) -> bool
+    ensures { result ≡ is_behind before r.now }
+{
+    match before {
+        None => r.stamp >= 1,
+        Some(p) => p.stamp < r.stamp || (p.stamp == r.stamp && p.tile < r.tile),
+    }
+}
+
+/// The line of the record before, and 0 where there is none.
+fn line_before(n: u64, before: Option<Record>) -> u64
+    requires { 1 ≤ n }
+    ensures { result ≡ line_before n before }
+{
+    match before {
+        None => 0,
+        Some(_) => n - 1,
+    }
+}
+
+/// Whether the site of a record is one of its tile's rectangle.
+fn is_at_home(map: &Map, extent: &Extent, r: &Record) -> bool
+    requires { IsExtent extent.now map.now }
+    ensures { result ≡ is_at_home map.now r.now }
+{
+    r.x < extent.width && r.y < extent.height && map.owner(r.x, r.y) == r.tile
+}
+
+/// Whether a record whose tile is there is this attempt of it.
+fn is_attempt(map: &Map, extent: &Extent, attempt: Option<Attempt>, r: &Record) -> bool
+    requires extent { IsExtent extent.now map.now }
+    requires tile { r.now.tile < tiles_of map.now }
+    ensures { result ≡ is_attempt map.now attempt r.now }
+{
+    match attempt {
+        None => false,
+        Some(a) => {
+            if a.centre >= extent.sites {
+                return false;
+            }
+            let (x, y) = map.site_of(r.tile, a.centre);
+            x == r.x && y == r.y && a.seed == r.seed
+        }
+    }
+}
+
+/// The line of the tile's last record, where that has an attempt that is not smaller.
+fn not_later(seat: &Seat, attempt: u64) -> Option<u64>
+    ensures value { result ≡ not_later (last_of seat.now) attempt }
+    ensures passed { result ≡ None → passed_of seat.now ≤ attempt }
+{
+    if seat.line == 0 || seat.last < attempt {
+        None
+    } else {
+        Some(seat.line)
+    }
+}
+
+/// The fault of a record elsewhere than its tile, which is there, or other than its attempt.
+fn place_fault(map: &Map, extent: &Extent, n: u64, seat: &mut Seat, r: &Record) -> Option<LineFault>
+    requires extent { IsExtent extent.now map.now }
+    requires tile { r.now.tile < tiles_of map.now }
+    requires line { 1 ≤ n }
+    requires later { passed_of seat.old ≤ r.now.attempt }
+    ensures fault { (list : List Attempt) → Serves seat.old list → result ≡ place_fault map.now list r.now }
+    ensures serves { result ≡ None → (list : List Attempt) → Serves seat.old list → Serves seat.new list }
+    ensures last { result ≡ None → last_of seat.new ≡ Some (n, r.now.attempt) }
+{
+    if !is_at_home(map, extent, r) {
+        return Some(LineFault::ElsewhereThanTile);
+    }
+    let found = drawn(seat, r.attempt, n);
+    if is_attempt(map, extent, found, r) {
+        None
+    } else {
+        Some(LineFault::OtherThanAttempt)
+    }
+}
+
+/// The fault of the record of line `n`, whose tile is there. Without one the tile's seat has passed
+/// its attempt.
+#[tactic(auto, unfolding(crate::specs::Reading::record_fault))]
+fn record_fault(
+    map: &Map,
+    extent: &Extent,
+    n: u64,
+    before: Option<Record>,
+    seat: &mut Seat,
+    r: &Record,
+) -> Option<LineFault>
+    requires extent { IsExtent extent.now map.now }
+    requires tile { r.now.tile < tiles_of map.now }
+    requires line { 1 ≤ n }
+    ensures fault { (list : List Attempt) → Serves seat.old list → result ≡ record_fault map.now n before (last_of seat.old) list r.now }
+    ensures serves { result ≡ None → (list : List Attempt) → Serves seat.old list → Serves seat.new list }
+    ensures last { result ≡ None → last_of seat.new ≡ Some (n, r.now.attempt) }
+{
+    if !is_behind(before, r) {
+        return Some(LineFault::OutOfTurn(line_before(n, before)));
+    }
+    match not_later(seat, r.attempt) {
+        Some(line) => Some(LineFault::OutOfTurn(line)),
+        None => place_fault(map, extent, n, seat, r),
+    }
+}
+
+/// The fault of the record of line `n`, whose tile is none.
+fn no_tile(n: u64, before: Option<Record>, r: &Record) -> LineFault
+    requires { 1 ≤ n }
+    ensures { result ≡ (if not (is_behind before r.now) then OutOfTurn (line_before n before) else ElsewhereThanTile) }
+{
+    if is_behind(before, r) {
+        LineFault::ElsewhereThanTile
+    } else {
+        LineFault::OutOfTurn(line_before(n, before))
+    }
+}
+
+/// The fault of the record of line `n`. Without one the tile's seat has passed its attempt.
+pub(crate) fn record_at(
+    map: &Map,
+    extent: &Extent,
+    n: u64,
+    before: Option<Record>,
+    seats: &mut Vec<Seat>,
+    r: &Record,
+) -> Option<LineFault>
+    requires extent { IsExtent extent.now map.now }
+    requires line { 1 ≤ n }
+    requires seats { length seats.old.items ≡ tiles_of map.now }
+    ensures fault { (lists : List (List Attempt)) → AllServe seats.old.items lists →
+        result ≡ record_fault map.now n before (slice_index_or (lasts_of seats.old.items) r.now.tile None) (slice_index_or lists r.now.tile []) r.now }
+    ensures serve { result ≡ None → (lists : List (List Attempt)) → AllServe seats.old.items lists → AllServe seats.new.items lists }
+    ensures many { length seats.new.items ≡ length seats.old.items }
+    ensures last { result ≡ None → lasts_of seats.new.items ≡ slice_set (lasts_of seats.old.items) r.now.tile (Some (n, r.now.attempt)) }
+{
+    let at = r.tile as usize;
+    if at >= seats.len() {
+        return Some(no_tile(n, before, r));
+    }
+    record_fault(map, extent, n, before, &mut seats[at], r)
+}

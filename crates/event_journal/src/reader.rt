@@ -1,0 +1,102 @@
+//! Reading the journal of a report.
+ghost use Rattle.std.specs.Prelude.{◌≡◌, ◌<◌, ◌≤◌, ◌^◌, IfOk, List, None, length, replicate};
+ghost use Rattle.draw_stream.specs.declared.attempt.Attempt.{Attempt};
+ghost use Rattle.tile_map.specs.Plane.{tiles_of};
+ghost use Rattle.event_journal.specs.Reading.{read_report};
+ghost use Rattle.event_journal.specs.Seats.{AllServe, IsExtent, ReadsJournal, lasts_of};
+
+use crate::abandoned::Abandoned;
+use crate::fault::JournalFault;
+use crate::placing::Extent;
+use crate::reading::{Reading, Wants, is_over, take_fields};
+use crate::seats::Seat;
+use cell_grid::Record;
+use draw_stream::AttemptPlan;
+use feast_base::NoMemory;
+use std::alloc::Global;
+use text_lines::next_ended;
+use tile_map::Map;
+
+/// The events and the abandoned attempts of a report, as they stand in its text.
+#[derive(Drop)]
+pub struct ReadJournal {
+    /// The events.
+    pub records: Vec<Record>,
+    /// The abandoned attempts.
+    pub abandoned: Vec<Abandoned>,
+}
+
+/// A seat for each tile of a plan.
+fn seats(alloc: Global, plan: &AttemptPlan, tiles: u32) -> Result<Vec<Seat>, NoMemory>
+    requires { length plan.now.lists ≡ tiles }
+    ensures many { IfOk result (λ v. length v.items ≡ tiles) }
+    ensures fresh { IfOk result (λ v. lasts_of v.items ≡ replicate tiles None) }
+    ensures serve { IfOk result (λ v. AllServe v.items plan.now.lists) }
+{
+    let mut seats = Vec::new(alloc);
+    for tile in 0..tiles {
+        seats.push(Seat {
+            stream: plan.of_tile(alloc, tile)?,
+            last: 0,
+            line: 0,
+        })?;
+    }
+    Ok(seats)
+}
+
+/// Reads a report with these seats, of which none has passed an attempt.
+fn read_lines(
+    alloc: Global,
+    map: &Map,
+    extent: &Extent,
+    seats: Vec<Seat>,
+    bytes: &[u8],
+) -> Result<ReadJournal, JournalFault>
+    requires extent { IsExtent extent.now map.now }
+    requires short { length bytes.now < 2 ^ 63 }
+    requires seats { length seats.items ≡ tiles_of map.now }
+    requires fresh { lasts_of seats.items ≡ replicate (tiles_of map.now) None }
+    ensures { (lists : List (List Attempt)) → AllServe seats.items lists → ReadsJournal map.now lists bytes.now result }
+{
+    let mut reading = Reading {
+        wants: Wants::Header,
+        before: None,
+        seats,
+        journal: Vec::new(alloc),
+        gone: Vec::new(alloc),
+    };
+    let mut n = 1u64;
+    let mut left = bytes;
+    while let Some((text, rest)) = next_ended(left) {
+        take_fields(map, extent, n, &mut reading, text)?;
+        n += 1;
+        left = rest;
+    }
+    if left.is_empty() && is_over(reading.wants) {
+        Ok(ReadJournal {
+            records: reading.journal,
+            abandoned: reading.gone,
+        })
+    } else {
+        Err(JournalFault::BadLine(n))
+    }
+}
+
+/// Reads a whole report of a map and a plan of its attempts, which has a list for each tile, and
+/// keeps the events and the abandoned attempts. The first line with a fault is answered; of a
+/// record's line `BadLine` comes first, then `OutOfOrder`, `NotOwned` and `NotDrawn`. Atoms and
+/// abandoned attempts are tested for their form alone. `NoMemory` where there is none for the
+/// lists or for the attempts of the plan.
+pub fn read(
+    alloc: Global,
+    bytes: &[u8],
+    map: &Map,
+    plan: &AttemptPlan,
+) -> Result<ReadJournal, JournalFault>
+    requires short { length bytes.now < 2 ^ 63 }
+    requires plan { length plan.now.lists ≡ tiles_of map.now }
+    ensures { ReadsJournal map.now plan.now.lists bytes.now result }
+{
+    let seats = seats(alloc, plan, map.tiles())?;
+    read_lines(alloc, map, &Extent::of(map), seats, bytes)
+}

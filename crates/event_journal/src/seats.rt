@@ -1,0 +1,64 @@
+//! Attempts of a tile, taken in order.
+ghost use Rattle.std.specs.Prelude.{◌≡◌, ◌+◌, ◌-◌, ◌≤◌, ◌<◌, ◌^◌, length, drop, List, Some};
+ghost use Rattle.draw_stream.specs.declared.attempt.Attempt.{Attempt};
+ghost use Rattle.event_journal.specs.Reading.{first_of};
+ghost use Rattle.event_journal.specs.Seats.{last_of, passed_of, Serves};
+
+use draw_stream::{Attempt, Attempts};
+
+/// Passes over so many attempts, or over all.
+fn pass(stream: &mut Attempts, count: u64)
+    ensures { stream.new ≡ drop count stream.old }
+{
+    for _i in 0..count {
+        match stream.next() {
+            Some(_) => {}
+            None => return,
+        }
+    }
+}
+
+/// The attempt after so many others, where there is one.
+fn seek(stream: &mut Attempts, count: u64) -> Option<Attempt>
+    ensures value { result ≡ first_of (drop count stream.old) }
+    ensures left { stream.new ≡ drop (count + 1) stream.old }
+{
+    pass(stream, count);
+    stream.next()
+}
+
+/// A tile's attempts that are left, the attempt of its last record, and that record's line, which is
+/// 0 where it has none.
+#[derive(Drop)]
+pub(crate) struct Seat {
+    pub(crate) stream: Attempts,
+    pub(crate) last: u64,
+    pub(crate) line: u64,
+}
+
+/// How many attempts stand before one and were not passed.
+fn between(seat: &Seat, attempt: u64) -> u64
+    requires { passed_of seat.now ≤ attempt }
+    ensures { passed_of seat.now + result ≡ attempt }
+{
+    if seat.line == 0 {
+        attempt
+    } else {
+        attempt - seat.last - 1
+    }
+}
+
+/// The attempt of a number, where the tile has it. It is not one that was passed.
+pub(crate) fn drawn(seat: &mut Seat, attempt: u64, line: u64) -> Option<Attempt>
+    requires later { passed_of seat.old ≤ attempt }
+    requires line { 1 ≤ line }
+    ensures value { (list : List Attempt) → Serves seat.old list → result ≡ first_of (drop attempt list) }
+    ensures left { (list : List Attempt) → Serves seat.old list → Serves seat.new list }
+    ensures last { last_of seat.new ≡ Some (line, attempt) }
+{
+    let count = between(seat, attempt);
+    let found = seek(&mut seat.stream, count);
+    seat.last = attempt;
+    seat.line = line;
+    found
+}

@@ -1,0 +1,4 @@
+use Rattle.feast_run.proofs.stages.form_stages.Goals as goal
+
+pub returns-in-Run-clause-tells : goal.returns-in-Run-clause-tells
+returns-in-Run-clause-tells g c = rw c.in-Run.is c.run_stages.ensures.tells
