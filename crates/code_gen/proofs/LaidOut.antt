@@ -1,5 +1,5 @@
 -- The layout that the sums over data members give is one that the compiler can use, where no class is too wide.
-use Rattle.std.proofs.Common.{◌≡◌, ℕ, zero, suc, ◌*◌, ◌≤◌, List, [], ◌∷◌, ◌++◌, length, Option, Some, None, refl, sym, ap, ◌∙◌, subst, arith, map}
+use Rattle.std.proofs.Common.{◌≡◌, ℕ, zero, suc, ◌*◌, ◌≤◌, List, [], ◌∷◌, length, Option, Some, None, refl, sym, ap, ◌∙◌, subst, arith, map}
 use Rattle.std.specs.Prelude.{slice_get, get_or, sum}
 use Rattle.std.specs.Option.{option_map_or, option_or}
 use Rattle.ulam_tree.specs.declared.resolved.Ty.{Ty}
@@ -8,13 +8,13 @@ use Rattle.ulam_tree.specs.Resolved as r
 use Rattle.ulam_tree.specs.Typed as t
 use Rattle.ulam_tree.specs.Ways.{NoneContainsItself}
 use Rattle.atom_layout.specs.declared.fault.LayoutFault.{LayoutFault}
-use Rattle.atom_layout.specs.Layouts.{times, member_bits, widths, bits_within, class_bits, total, layout_of, class_at, fault_in, first_of, first_wide}
+use Rattle.atom_layout.specs.Layouts.{times, member_bits, widths, bits_within, class_bits, total, layout_of, fault_in, first_of, first_wide}
 use Rattle.atom_layout.proofs.Depth.{width_is}
 use Rattle.atom_layout.proofs.Told.{narrow_by}
 use Rattle.ulam_types.specs.declared.scope.FieldSig.{FieldSig}
 use Rattle.ulam_types.specs.Scopes.{ClassSig}
 use Rattle.ulam_types.specs.Programs.{fields_of, class_sig}
-use Rattle.ulam_meaning.specs.Programs.{Program, Field, fields, members_of}
+use Rattle.ulam_meaning.specs.Programs.{Program, Field, fields}
 use Rattle.ulam_meaning.specs.Laws.{bits_of, IsLaidOut}
 
 abbrev field_of : FieldSig → Field
