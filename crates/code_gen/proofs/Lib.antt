@@ -22,6 +22,11 @@ pub mod Rounds
 pub mod Spans
 pub mod Fitted
 pub mod Drafted
+pub mod TypeRows
+pub mod TypedPaths
+pub mod TypedKinds
+pub mod TypedBodies
+pub mod LaidOut
 pub mod ElementCode
 pub mod ElementMeans
 pub mod LayRounds

@@ -7,6 +7,7 @@ pub mod Means
 pub mod Runs
 pub mod Scheme
 pub mod Kinded
+pub mod Named
 pub mod Compiled
 pub mod Laws
 pub mod Depths
