@@ -1,0 +1,4 @@
+pub mod Scene
+pub mod Settled
+pub mod Order
+pub mod Example
