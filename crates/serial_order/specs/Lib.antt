@@ -2,3 +2,4 @@ pub mod Scene
 pub mod Settled
 pub mod Order
 pub mod Example
+pub mod Words

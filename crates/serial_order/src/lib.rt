@@ -3,5 +3,7 @@
 #![tactic(auto)]
 
 mod law;
+mod words;
 
 pub use law::{finds_what_stands, one_order, small_run};
+pub use words::{ClosedEdges, EdgeWords};
