@@ -1,5 +1,5 @@
 -- A step keeps a tile underway, by its phase.
-use Rattle.std.proofs.Common.{◌≡◌, ℕ, ◌+◌, Bool, true, false, List, [], length, refl, sym, ap, ◌∙◌, subst, inl, ⊎_elim}
+use Rattle.std.proofs.Common.{◌≡◌, ℕ, ◌+◌, Bool, true, false, true≢false, List, [], length, refl, sym, ap, ◌∙◌, subst, inl, ⊎_elim}
 use Rattle.std.specs.Prelude.{nat_lt, drop}
 use Rattle.window_sites.specs.Window.{WindowValue}
 use Rattle.tile_map.specs.Plane.{MapValue}
@@ -16,7 +16,7 @@ use Rattle.tile_core.specs.declared.phase.Phase.{Phase}
 use Rattle.tile_core.specs.declared.phase.Phase.TheVariants.{Draw, Lock, Refresh, Behave, Write, Give, Back, Finished, Worn}
 use Rattle.tile_core.specs.Values.{TileValue, centre, atoms_of}
 use Rattle.tile_core.specs.Underway.{Onward, GoesOn, CanAttempt, IsFreshTile, InPhase, AreNeeds}
-use Rattle.tile_core.specs.Steps.{StepsIn, Rests, WearsOut, Renews, over, next_edge, got, tried, freed}
+use Rattle.tile_core.specs.Steps.{StepsIn, Rests, WearsOut, Renews, is_over, over, next_edge, got, tried, freed}
 use Rattle.tile_core.proofs.Laws.{drawn_on, lock_lt, tries_on, gives_on, backs_on, over_hand, needs_of_tile}
 use Rattle.tile_core.proofs.Refreshing.{refreshes_on}
 use Rattle.tile_core.proofs.Behaving.{behaves_on}
@@ -94,3 +94,30 @@ fresh_tile m plane g attempts tile can copy left taken stamp records abandoned n
     hand = subst (InPhase m meaning (atoms_of g) attempts [] tile lists) (sym phase) (over_hand m meaning (atoms_of g) attempts [] tile lists taken empty);
   };
 }
+
+got_taken : (x : Bool) (tile : TileValue) → (got x tile).taken ≡ tile.taken
+got_taken true tile = refl
+got_taken false tile = refl
+
+freed_taken : (x : Bool) (tile : TileValue) → (freed x tile).taken ≡ tile.taken
+freed_taken true tile = refl
+freed_taken false tile = refl
+
+tried_taken : (m : MapValue) (tile : TileValue) (r : Take) → (tried m tile r).taken ≡ tile.taken
+tried_taken m tile Got = got_taken (nat_lt (tile.next + 1) (length tile.needs)) tile
+tried_taken m tile (Busy j) = refl
+
+-- only Draw takes an attempt
+pub same_taken : (m : MapValue) (meaning : WindowValue → ℕ → WindowValue) (end_of : ℕ → ℕ) (old new : TileValue) (a b : ℕ → EndLists) (p : Phase) → is_over p ≡ false → StepsIn m meaning end_of old new a b p → new.taken ≡ old.taken
+same_taken m meaning end_of old new a b Draw f s = absurd (true≢false f)
+same_taken m meaning end_of old new a b Lock f s = ap (λ t. t.taken) s.is ∙ tried_taken m old s.answer
+same_taken m meaning end_of old new a b Refresh f s = ⊎_elim (λ (w : WearsOut old new s.top s.between b). ap (λ t. t.taken) w.is) (λ (w : Renews old new s.top s.between b). ap (λ t. t.taken) w.is) s.step
+same_taken m meaning end_of old new a b Behave f s = ap (λ t. t.taken) s.0.is
+same_taken m meaning end_of old new a b Write f s = ap (λ t. t.taken) s.is
+same_taken m meaning end_of old new a b Give f s = ap (λ t. t.taken) s.is ∙ freed_taken (nat_lt (old.next + 1) (length old.needs)) old
+same_taken m meaning end_of old new a b Back f s = ap (λ t. t.taken) s.is ∙ freed_taken (nat_lt (old.next + 1) old.count) old
+same_taken m meaning end_of old new a b Finished f s = absurd (true≢false f)
+same_taken m meaning end_of old new a b Worn f s = absurd (true≢false f)
+
+pub drawn_taken : (m : MapValue) (meaning : WindowValue → ℕ → WindowValue) (end_of : ℕ → ℕ) (old new : TileValue) (a b : ℕ → EndLists) (p : Phase) → p ≡ Draw → StepsIn m meaning end_of old new a b p → new.taken ≡ old.taken + 1
+drawn_taken m meaning end_of old new a b p is s = let d = subst (StepsIn m meaning end_of old new a b) is s in ap (λ t. t.taken) d.0.begins.is

@@ -9,3 +9,5 @@ pub mod Refreshing
 pub mod Behaving
 pub mod Ready
 pub mod Advance
+pub mod Played
+pub mod Falls

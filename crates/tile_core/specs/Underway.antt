@@ -16,7 +16,7 @@ use Rattle.border_cache.specs.Copies.{IsCentre, held_cell}
 use Rattle.tile_core.specs.declared.phase.Phase.{Phase}
 use Rattle.tile_core.specs.declared.phase.Phase.TheVariants.{Draw, Lock, Refresh, Behave, Write, Give, Back, Finished, Worn}
 use Rattle.tile_core.specs.Values.{TileValue, centre}
-use Rattle.tile_core.specs.Turns.{Turn, Wins, Loses, Wears, AreTurns, AreAttempts, IsAttempt, Wearless, edges_of, lists_of, lists_left, with_more, one_if, cells_of, stamp_of, clock_in, greatest, records_of, abandoned_of, newest_at}
+use Rattle.tile_core.specs.Turns.{HasPlayed, Turn, Wins, Loses, Wears, AreTurns, AreAttempts, IsAttempt, Wearless, edges_of, lists_of, lists_left, with_more, one_if, cells_of, stamp_of, clock_in, greatest, records_of, abandoned_of, newest_at}
 
 -- the attempt in hand has these edges, with these accesses so far
 abbrev pub HasOpen : MapValue → ℕ → ℕ → List Turn → List ℕ → (ℕ → List Access) → (ℕ → EndLists) → Type 0
@@ -161,3 +161,13 @@ pub record IsFreshTile (m : MapValue) (t : ℕ) (start : Site → AtomValue) (at
 -- from whatever start and attempts it was underway, it still is, after any number of steps
 abbrev pub GoesFar : MapValue → (WindowValue → ℕ → WindowValue) → TileValue → (ℕ → EndLists) → TileValue → (ℕ → EndLists) → Type 0
 GoesFar m meaning old lists new lists' = (start : Site → AtomValue) (attempts : List Attempt) → IsUnderway m meaning start attempts old lists → IsUnderway m meaning start attempts new lists'
+
+-- in this phase the tile has played the attempts that it drew
+abbrev pub IsPlayedAt : Phase → TileValue → Type 0
+IsPlayedAt phase tile = (meaning : WindowValue → ℕ → WindowValue) (start : Site → AtomValue) (attempts : List Attempt) (lists : ℕ → EndLists) → IsUnderway tile.cache.map meaning start attempts tile lists → tile.phase ≡ phase
+    → HasPlayed tile.cache.map meaning start tile.number (take tile.taken attempts) tile.records tile.abandoned lists
+
+-- a finished tile has played all its attempts
+abbrev pub IsPlayedAll : TileValue → Type 0
+IsPlayedAll tile = (meaning : WindowValue → ℕ → WindowValue) (start : Site → AtomValue) (attempts : List Attempt) (lists : ℕ → EndLists) → IsUnderway tile.cache.map meaning start attempts tile lists → tile.phase ≡ Finished
+    → HasPlayed tile.cache.map meaning start tile.number attempts tile.records tile.abandoned lists

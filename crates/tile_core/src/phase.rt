@@ -1,4 +1,6 @@
 //! What a tile does next.
+ghost use Rattle.std.specs.Prelude.{◌≡◌};
+ghost use Rattle.tile_core.specs.Steps.{is_over};
 
 /// What the next step of a tile does.
 #[derive(Clone, Copy, Debug, PartialEq, Eq)]
@@ -21,4 +23,13 @@ pub enum Phase {
     Finished,
     /// Nothing: a clock has come to its end, and the tile stays as it is, with its edges.
     Worn,
+}
+
+impl Phase {
+    /// Whether no attempt is in hand that goes on: the phase is `Draw`, `Finished` or `Worn`.
+    pub fn is_over(self) -> bool
+        ensures { result ≡ is_over self }
+    {
+        matches!(self, Phase::Draw | Phase::Finished | Phase::Worn)
+    }
 }
