@@ -22,3 +22,4 @@ pub mod Whole
 pub mod Journal
 pub mod Promises
 pub mod SmallRun
+pub mod EdgeCells

@@ -3,7 +3,9 @@
 #![tactic(auto)]
 
 mod law;
+mod newest;
 mod words;
 
 pub use law::{finds_what_stands, one_order, small_run};
+pub use newest::settled_atom;
 pub use words::{ClosedEdges, EdgeWords};
