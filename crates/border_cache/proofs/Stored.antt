@@ -142,7 +142,7 @@ has_get (e ∷ es) (suc k) d lt = go (eqb (get_or es k d) e) (has_get es k d (om
     go true h = refl
     go false h = h
 
-joined_end : (m : MapValue) (e t u : ℕ) → Joins m e t u → has_end m t e ≡ true
+pub joined_end : (m : MapValue) (e t u : ℕ) → Joins m e t u → has_end m t e ≡ true
 joined_end m e t u j = ⊎_elim
     (λ (p : (low_end m e ≡ t) × (high_end m e ≡ u)). let q = p.0 in grind (arith, nat_tests, q))
     (λ (p : (low_end m e ≡ u) × (high_end m e ≡ t)). let q = p.1 in grind (arith, nat_tests, q))

@@ -16,7 +16,10 @@ pub mod Closed
 pub mod Room
 pub mod Events
 pub mod Worklist
-mod Worked
 pub mod Rounds
+pub mod Spans
+pub mod Fitted
+pub mod Drafted
+pub mod ElementCode
 pub mod LayRounds
 pub mod Built

@@ -5,6 +5,8 @@ pub mod Kinds
 pub mod Limits
 pub mod Runs
 pub mod Scheme
+pub mod Kinded
+pub mod Compiled
 pub mod Laws
 pub mod Depths
 pub mod Views

@@ -30,7 +30,11 @@ fn longer<S: Source>(source: &S, key: Key, body: &Piece, sum: u32) -> Option<u32
     let left = depth(source, body, 0)?;
     end_depth(head.answer, left)?;
     let size = size_of(body) + end_size(head.answer);
-    if size > MOST_INSTRS - sum { None } else { Some(sum + size) }
+    if size > MOST_INSTRS - sum {
+        None
+    } else {
+        Some(sum + size)
+    }
 }
 
 /// Appends a function, or wants memory.

@@ -1,11 +1,16 @@
 //! Laws of code that is made of pieces.
 ghost use Rattle.std.specs.Prelude.{◌≡◌, ℕ, length, Some};
 ghost use Rattle.stack_code.specs.Valid.{Kinds};
+ghost use Rattle.ulam_meaning.specs.Programs.{Program};
+ghost use Rattle.ulam_meaning.specs.Events.{behave_key};
 ghost use Rattle.code_gen.specs.Pieces.{Key, Piece};
 ghost use Rattle.code_gen.specs.Drafts.{Drafts};
 ghost use Rattle.code_gen.specs.Kinds.{Setting, ends, shapes, Fits, Shallow};
 ghost use Rattle.code_gen.specs.Depths.{depth};
 ghost use Rattle.code_gen.specs.Limits.{IsShort};
+ghost use Rattle.code_gen.specs.Scheme.{draft_of};
+ghost use Rattle.code_gen.specs.Kinded.{IsKinded};
+ghost use Rattle.code_gen.specs.Compiled.{IsCompiled};
 ghost use Rattle.code_gen.specs.Laws.{IsReady, IsRight};
 
 /// Where the functions of a program are ready and the limits let the code of an element through,
@@ -20,4 +25,12 @@ pub fn right()
 pub fn depths()
     ensures some { (n : Setting) (q : Piece) (ks : Kinds) (d : ℕ) → Fits n q ks → depth n.drafts q (length ks) ≡ Some d → (length (ends n q ks) ≡ d) × Shallow (shapes n q ks) }
     ensures shallow { (n : Setting) (q : Piece) (ks : Kinds) → Fits n q ks → Shallow (shapes n q ks) → depth n.drafts q (length ks) ≡ Some (length (ends n q ks)) }
+{}
+
+/// Where the trees of a program have the right kinds and the limits let the code of an element
+/// through, its functions are ready; and this code is valid, and on each window and seed it has the
+/// window and the ending that the element's event means.
+pub fn compiled()
+    ensures ready { (g : Program) (c : ℕ) → IsKinded g c → IsReady (draft_of g) (behave_key g c) }
+    ensures compiled { (g : Program) (kind c : ℕ) → IsKinded g c → IsShort (draft_of g) (behave_key g c) → IsCompiled g kind c }
 {}

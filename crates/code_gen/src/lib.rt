@@ -8,11 +8,12 @@ mod element;
 mod emit;
 mod gather;
 mod law;
+pub mod make;
 mod piece;
 mod size;
 mod source;
 
 pub use element::build;
-pub use law::{depths, right};
+pub use law::{compiled, depths, right};
 pub use piece::{Key, Piece};
 pub use source::{Head, Source};

@@ -18,7 +18,11 @@ pub fn capped(a: u32, b: u32) -> u32
     ensures { result ≡ min (a + b) 65537 }
 {
     let sum = a + b;
-    if sum > MOST_INSTRS { MOST_INSTRS + 1 } else { sum }
+    if sum > MOST_INSTRS {
+        MOST_INSTRS + 1
+    } else {
+        sum
+    }
 }
 
 /// How many instructions a piece has, where they are no more than the most, else one more.

@@ -1,0 +1,57 @@
+//! Pieces from pieces.
+
+ghost use Rattle.std.specs.Prelude.{◌≡◌, IfOk};
+ghost use Rattle.code_gen.specs.Pieces.{seq, plain, pick, only, loop, ever};
+ghost use Rattle.code_gen.specs.Views.{piece_of};
+
+use crate::piece::Piece;
+use feast_base::NoMemory;
+use stack_code::Instr;
+use std::alloc::Global;
+
+/// One piece and then another. `NoMemory` where they can't be kept, here and in the calls that
+/// follow.
+pub fn seq(alloc: Global, a: Piece, b: Piece) -> Result<Piece, NoMemory>
+    ensures { IfOk result (λ q. piece_of q ≡ seq (piece_of a) (piece_of b)) }
+{
+    Ok(Piece::Seq(Box::new(alloc, a)?, Box::new(alloc, b)?))
+}
+
+/// A piece and then an instruction.
+pub fn then_instr(alloc: Global, a: Piece, instr: Instr) -> Result<Piece, NoMemory>
+    ensures { IfOk result (λ q. piece_of q ≡ seq (piece_of a) (plain instr)) }
+{
+    seq(alloc, a, Piece::Plain(instr))
+}
+
+/// The first piece where the number on top isn't 0, else the second.
+pub fn pick(alloc: Global, a: Piece, b: Piece) -> Result<Piece, NoMemory>
+    ensures { IfOk result (λ q. piece_of q ≡ pick (piece_of a) (piece_of b)) }
+{
+    Ok(Piece::Pick(Box::new(alloc, a)?, Box::new(alloc, b)?))
+}
+
+/// The piece where the number on top isn't 0.
+pub fn only(alloc: Global, a: Piece) -> Result<Piece, NoMemory>
+    ensures { IfOk result (λ q. piece_of q ≡ only (piece_of a)) }
+{
+    Ok(Piece::Only(Box::new(alloc, a)?))
+}
+
+/// A loop with a test, a body and a step.
+pub fn test_loop(alloc: Global, t: Piece, a: Piece, b: Piece) -> Result<Piece, NoMemory>
+    ensures { IfOk result (λ q. piece_of q ≡ loop (piece_of t) (piece_of a) (piece_of b)) }
+{
+    Ok(Piece::Loop(
+        Box::new(alloc, t)?,
+        Box::new(alloc, a)?,
+        Box::new(alloc, b)?,
+    ))
+}
+
+/// A loop with a body and a step, without a test.
+pub fn ever(alloc: Global, a: Piece, b: Piece) -> Result<Piece, NoMemory>
+    ensures { IfOk result (λ q. piece_of q ≡ ever (piece_of a) (piece_of b)) }
+{
+    Ok(Piece::Ever(Box::new(alloc, a)?, Box::new(alloc, b)?))
+}

@@ -1,0 +1,13 @@
+pub mod Lists
+pub mod Giving
+pub mod Laws
+pub mod Clocking
+pub mod Copies
+pub mod Events
+pub mod Writes
+pub mod Refreshing
+pub mod Behaving
+pub mod Ready
+pub mod Advance
+pub mod Played
+pub mod Falls

@@ -1,0 +1,53 @@
+-- What a tile keeps, as contracts see it, and the room in its lists.
+use Rattle.std.specs.Prelude.{ℕ, ◌≡◌, ◌+◌, ◌≤◌, List, length, vec_len, vec_capacity}
+use Rattle.bit_field.specs.Atom.{AtomValue}
+use Rattle.window_sites.specs.Window.{WindowValue}
+use Rattle.tile_map.specs.Plane.{Site, MapValue}
+use Rattle.draw_stream.specs.declared.attempt.Attempt.{Attempt}
+use Rattle.edge_lock.specs.EndLists.{EndLists}
+use Rattle.tile_core.specs.declared.phase.Phase.{Phase}
+use Rattle.tile_core.specs.declared.phase.Phase.TheVariants.{Draw, Lock, Refresh, Behave, Write, Give, Back, Finished, Worn}
+use Rattle.tile_core.specs.declared.state.State.{State}
+use Rattle.tile_core.specs.Values.{TileValue}
+use Rattle.tile_core.specs.Underway.{IsUnderway}
+
+abbrev pub value_of : State → TileValue
+value_of s = record {
+  number = s.number;
+  cache = s.cache;
+  left = s.attempts;
+  taken = s.taken;
+  stamp = s.stamp;
+  x = s.x;
+  y = s.y;
+  seed = s.seed;
+  needs = s.needs;
+  next = s.next;
+  count = s.count;
+  event_stamp = s.event_stamp;
+  window = s.window;
+  records = s.records.items;
+  abandoned = s.abandoned.items;
+  phase = s.phase;
+}
+
+-- how many entries the attempt in hand still owes
+abbrev pub owed : Phase → ℕ
+owed Draw = 0
+owed Lock = 1
+owed Refresh = 1
+owed Behave = 1
+owed Write = 1
+owed Give = 0
+owed Back = 0
+owed Finished = 0
+owed Worn = 1
+
+-- each list has room for an entry of each attempt that is in hand or left
+pub record HasRoom (s : State) : Type 0 where
+  pub records : vec_len s.records + owed s.phase + length s.attempts ≤ vec_capacity s.records
+  pub abandoned : vec_len s.abandoned + owed s.phase + length s.attempts ≤ vec_capacity s.abandoned
+
+-- in some way the tile is underway, in this phase
+abbrev pub IsIn : MapValue → TileValue → (ℕ → EndLists) → Phase → Type 0
+IsIn m tile lists phase = (meaning : WindowValue → ℕ → WindowValue) × (start : Site → AtomValue) × (attempts : List Attempt) × (tile.phase ≡ phase) × IsUnderway m meaning start attempts tile lists

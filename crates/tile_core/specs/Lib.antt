@@ -1,0 +1,6 @@
+pub mod Values
+pub mod Turns
+pub mod Clocks
+pub mod Underway
+pub mod Steps
+pub mod Kept

@@ -1,0 +1,163 @@
+-- What one step of each phase does to a tile and to the lists of its ends.
+use Rattle.std.specs.Prelude.{ℕ, zero, suc, ◌≡◌, ◌≤◌, ◌<◌, ◌+◌, ◌-◌, ◌⊎◌, List, [], ◌∷◌, ◌++◌, length, slice_index, nat_lt, Bool, true, false}
+use Rattle.window_sites.specs.Window.{WindowValue}
+use Rattle.tile_map.specs.Plane.{MapValue, site, site_in, in_plane, is_owned}
+use Rattle.tile_map.specs.Edges.{needs_of, other_end}
+use Rattle.cell_grid.specs.declared.record.Record.{Record}
+use Rattle.event_journal.specs.declared.abandoned.Abandoned.{Abandoned}
+use Rattle.draw_stream.specs.declared.attempt.Attempt.{Attempt}
+use Rattle.edge_lock.specs.declared.board.Take.{Take}
+use Rattle.edge_lock.specs.declared.board.Take.TheVariants.{Got, Busy}
+use Rattle.edge_lock.specs.EndLists.{EndLists, after_try, after_give, replace_at}
+use Rattle.border_cache.specs.Windows.{IsView, PublishesAll}
+use Rattle.border_cache.specs.Copies.{CacheValue, window_cells, Refreshed, Marked}
+use Rattle.tile_core.specs.declared.phase.Phase.{Phase}
+use Rattle.tile_core.specs.declared.phase.Phase.TheVariants.{Draw, Lock, Refresh, Behave, Write, Give, Back, Finished, Worn}
+use Rattle.tile_core.specs.Values.{TileValue, centre}
+use Rattle.tile_core.specs.Clocks.{ReadsClocks, WritesClocks}
+
+-- the phase once an attempt is over
+abbrev pub over : List Attempt → Phase
+over [] = Finished
+over (a ∷ others) = Draw
+
+-- the phase of an attempt that needs these edges
+abbrev pub begun : List ℕ → Phase
+begun [] = Refresh
+begun (e ∷ es) = Lock
+
+-- the phase after a refusal, with so many edges to give back
+abbrev pub refused_phase : ℕ → List Attempt → Phase
+refused_phase zero left = over left
+refused_phase (suc n) left = Back
+
+-- the phase after an event that has these edges
+abbrev pub written_phase : List ℕ → List Attempt → Phase
+written_phase [] left = over left
+written_phase (e ∷ es) left = Give
+
+-- an attempt is in hand
+pub record Begins (m : MapValue) (attempt : Attempt) (old new : TileValue) : Type 0 where
+  pub site_is : site new.x new.y ≡ site_in m old.number attempt.centre
+  pub owned : is_owned m old.number (site new.x new.y) ≡ true
+  pub inside : in_plane m (site new.x new.y) ≡ true
+  pub is : new ≡ record old { taken = old.taken + 1; x = new.x; y = new.y; seed = attempt.seed; needs = needs_of m old.number (site new.x new.y); next = 0; phase = begun (needs_of m old.number (site new.x new.y)) }
+
+-- Draw: the next attempt is in hand
+pub record Draws (m : MapValue) (old new : TileValue) : Type 0 where
+  pub attempt : Attempt
+  pub rest : List Attempt
+  pub first : old.left ≡ attempt ∷ rest
+  pub begins : Begins m attempt (record old { left = rest }) new
+
+-- the edge that the tile tries or frees next
+abbrev pub next_edge : TileValue → ℕ
+next_edge tile = slice_index tile.needs tile.next
+
+-- the entry of an attempt that was refused
+abbrev pub refused_entry : MapValue → TileValue → ℕ → ℕ → Abandoned
+refused_entry m tile edge holder_attempt = record { tile = tile.number; attempt = tile.taken - 1; x = tile.x; y = tile.y; edge = edge; holder = other_end m tile.number edge; holder_attempt = holder_attempt }
+
+-- the tile after it was refused
+abbrev pub refused : MapValue → TileValue → ℕ → ℕ → TileValue
+refused m tile edge holder_attempt = record tile { abandoned = tile.abandoned ++ refused_entry m tile edge holder_attempt ∷ []; next = 0; count = tile.next; phase = refused_phase tile.next tile.left }
+
+-- the tile after it got an edge: there is a next one to try, or not
+abbrev pub got : Bool → TileValue → TileValue
+got true tile = record tile { next = tile.next + 1 }
+got false tile = record tile { phase = Refresh }
+
+-- the tile after a try got this answer
+abbrev pub tried : MapValue → TileValue → Take → TileValue
+tried m tile Got = got (nat_lt (tile.next + 1) (length tile.needs)) tile
+tried m tile (Busy holder) = refused m tile (next_edge tile) holder
+
+-- Lock: one try was made, and the tile is as its answer says
+pub record Tries (m : MapValue) (end_of : ℕ → ℕ) (old new : TileValue) (lists lists' : ℕ → EndLists) : Type 0 where
+  pub answer : Take
+  pub lists_are : lists' ≡ replace_at lists (next_edge old) (after_try (end_of (next_edge old)) (old.taken - 1) answer (lists (next_edge old)))
+  pub is : new ≡ tried m old answer
+
+-- the tile after a refresh
+abbrev pub refreshed : TileValue → ℕ → CacheValue → TileValue
+refreshed tile top cache = record tile { cache = cache; event_stamp = top + 1; phase = Behave }
+
+-- the tile is worn out, and nothing else happened
+pub record WearsOut (old new : TileValue) (top : ℕ) (between lists' : ℕ → EndLists) : Type 0 where
+  pub high : 4294967295 ≤ top
+  pub lists_are : lists' ≡ between
+  pub is : new ≡ record old { phase = Worn }
+
+-- the cells of the window are brought up to date
+pub record Renews (old new : TileValue) (top : ℕ) (between lists' : ℕ → EndLists) : Type 0 where
+  pub low : top < 4294967295
+  pub cells : Refreshed (centre old) old.needs old.cache new.cache between lists'
+  pub is : new ≡ refreshed old top new.cache
+
+-- Refresh: the clocks of all needed edges are read. Then the tile is worn out, where one is too great, or the cells of the window are brought up to date.
+pub record Refreshes (old new : TileValue) (lists lists' : ℕ → EndLists) : Type 0 where
+  pub top : ℕ
+  pub between : ℕ → EndLists
+  pub clocks : ReadsClocks old.needs old.stamp top lists between
+  pub step : WearsOut old new top between lists' ⊎ Renews old new top between lists'
+
+-- Behave: the event runs on the window
+pub record Behaves (m : MapValue) (meaning : WindowValue → ℕ → WindowValue) (old new : TileValue) : Type 0 where
+  pub view : WindowValue
+  pub shows : IsView m (centre old) (window_cells old.cache (centre old)) view
+  pub is : new ≡ record old { window = meaning view old.seed; phase = Write }
+
+-- the entry of the event
+abbrev pub event_entry : TileValue → Record
+event_entry tile = record { stamp = tile.event_stamp; tile = tile.number; attempt = tile.taken - 1; x = tile.x; y = tile.y; seed = tile.seed }
+
+-- the tile after it noted its event
+abbrev pub noted : TileValue → TileValue
+noted tile = record tile { stamp = tile.event_stamp; records = tile.records ++ event_entry tile ∷ []; next = 0; phase = written_phase tile.needs tile.left }
+
+-- Write: the window is marked and published, the clocks are set, and the event is noted
+pub record Writes (m : MapValue) (old new : TileValue) (lists lists' : ℕ → EndLists) : Type 0 where
+  pub between : ℕ → EndLists
+  pub marks : Marked (centre old) old.window old.event_stamp old.cache new.cache
+  pub publishes : PublishesAll m old.number (centre old) old.needs (window_cells new.cache (centre old)) lists between
+  pub stamps : WritesClocks old.needs old.event_stamp between lists'
+  pub is : new ≡ noted (record old { cache = new.cache })
+
+-- the tile after it freed an edge: there is a next one, or not
+abbrev pub freed : Bool → TileValue → TileValue
+freed true tile = record tile { next = tile.next + 1 }
+freed false tile = record tile { phase = over tile.left }
+
+-- Give and Back: one edge is freed, of the first so many that are needed
+pub record Frees (count : ℕ) (old new : TileValue) (lists lists' : ℕ → EndLists) : Type 0 where
+  pub lists_are : lists' ≡ replace_at lists (next_edge old) (after_give (lists (next_edge old)))
+  pub is : new ≡ freed (nat_lt (old.next + 1) count) old
+
+-- nothing happened
+pub record Rests (old new : TileValue) (lists lists' : ℕ → EndLists) : Type 0 where
+  pub is : new ≡ old
+  pub lists_are : lists' ≡ lists
+
+-- one step of a tile in this phase
+abbrev pub StepsIn : MapValue → (WindowValue → ℕ → WindowValue) → (ℕ → ℕ) → TileValue → TileValue → (ℕ → EndLists) → (ℕ → EndLists) → Phase → Type 0
+StepsIn m meaning end_of old new lists lists' Draw = Draws m old new × (lists' ≡ lists)
+StepsIn m meaning end_of old new lists lists' Lock = Tries m end_of old new lists lists'
+StepsIn m meaning end_of old new lists lists' Refresh = Refreshes old new lists lists'
+StepsIn m meaning end_of old new lists lists' Behave = Behaves m meaning old new × (lists' ≡ lists)
+StepsIn m meaning end_of old new lists lists' Write = Writes m old new lists lists'
+StepsIn m meaning end_of old new lists lists' Give = Frees (length old.needs) old new lists lists'
+StepsIn m meaning end_of old new lists lists' Back = Frees old.count old new lists lists'
+StepsIn m meaning end_of old new lists lists' Finished = Rests old new lists lists'
+StepsIn m meaning end_of old new lists lists' Worn = Rests old new lists lists'
+
+-- whether no attempt is in hand any more that goes on
+abbrev pub is_over : Phase → Bool
+is_over Draw = true
+is_over Lock = false
+is_over Refresh = false
+is_over Behave = false
+is_over Write = false
+is_over Give = false
+is_over Back = false
+is_over Finished = true
+is_over Worn = true

@@ -1,0 +1,251 @@
+-- What a tile did, attempt by attempt (the newest turn first), and what that says of the lists of its end of each edge.
+use Rattle.std.specs.Prelude.{ℕ, ◌≡◌, ◌≤◌, ◌<◌, ◌+◌, ◌-◌, ◌*◌, ◌/◌, ◌==◌, ◌⊎◌, max, if◌then◌else◌, List, [], ◌∷◌, ◌++◌, length, slice_get, Bool, true, false, Option, Some, None}
+use Rattle.bit_field.specs.Atom.{AtomValue, empty_atom}
+use Rattle.window_sites.specs.Window.{WindowValue, atom_at}
+use Rattle.tile_map.specs.Plane.{Site, MapValue, site_in, in_window}
+use Rattle.tile_map.specs.Edges.{window_site, needs_of, other_end}
+use Rattle.cell_grid.specs.declared.record.Record.{Record}
+use Rattle.draw_stream.specs.declared.attempt.Attempt.{Attempt}
+use Rattle.event_journal.specs.declared.abandoned.Abandoned.{Abandoned}
+use Rattle.edge_lock.specs.declared.history.Access.{Access}
+use Rattle.edge_lock.specs.declared.history.Hold.{Hold}
+use Rattle.edge_lock.specs.declared.history.Refusal.{Refusal}
+use Rattle.edge_lock.specs.History.{found_value}
+use Rattle.edge_lock.specs.EndLists.{EndLists, end_lists, refusal_of, hold_of, writes_nothing}
+use Rattle.border_cache.specs.Cells.{CellValue, cell_value, cell_of, newest}
+use Rattle.border_cache.specs.Accesses.{last_write, is_read}
+use Rattle.border_cache.specs.News.{Covers, word_of, is_news, no_cell}
+use Rattle.border_cache.specs.Published.{IsWordMarked}
+use Rattle.border_cache.specs.Windows.{has, place_in, end_at, sites_on, seen_on, IsView}
+use Rattle.border_cache.specs.Copies.{IsCentre}
+use Rattle.tile_core.specs.Values.{event_site, given_up_site}
+
+-- an attempt that became an event: its record, its hold on each needed edge, and the atoms that it left
+pub record Won : Type 0 where
+  pub note : Record
+  pub hold : ℕ → Hold
+  pub after : Site → AtomValue
+
+-- an attempt that was given up: its entry, and its hold on each edge that it got before
+pub record Lost : Type 0 where
+  pub gone : Abandoned
+  pub hold : ℕ → Hold
+
+-- an attempt whose stamp would be too great, and its holds
+pub record Worn : Type 0 where
+  pub site : Site
+  pub hold : ℕ → Hold
+
+-- what became of an attempt
+pub data Turn : Type 0 where
+  Wins : Won → Turn
+  Loses : Lost → Turn
+  Wears : Worn → Turn
+
+-- the edges before d in the list
+abbrev pub before : ℕ → List ℕ → List ℕ
+before d [] = []
+before d (e ∷ es) = if e == d then [] else e ∷ before d es
+
+-- the edges on which a turn has a hold
+abbrev pub edges_of : MapValue → ℕ → Turn → List ℕ
+edges_of m t (Wins w) = needs_of m t (event_site w.note)
+edges_of m t (Loses l) = before l.gone.edge (needs_of m t (given_up_site l.gone))
+edges_of m t (Wears w) = needs_of m t w.site
+
+-- the hold of a turn on an edge
+abbrev pub hold_at : Turn → ℕ → Hold
+hold_at (Wins w) e = w.hold e
+hold_at (Loses l) e = l.hold e
+hold_at (Wears w) e = w.hold e
+
+-- the refusals of a turn
+abbrev pub refusals_at : Turn → ℕ → List Refusal
+refusals_at (Wins w) e = []
+refusals_at (Loses l) e = if e == l.gone.edge then refusal_of l.gone.attempt l.gone.holder_attempt ∷ [] else []
+refusals_at (Wears w) e = []
+
+-- the hold, open or given back
+abbrev pub as_open : Bool → Hold → Hold
+as_open is_open hold = hold_of hold.end hold.attempt hold.accesses is_open
+
+-- a hold, where there is one
+abbrev pub one_if : Bool → Hold → List Hold
+one_if true hold = hold ∷ []
+one_if false hold = []
+
+-- the lists with a hold more, where there is one, and refusals more
+abbrev pub with_more : List Hold → List Refusal → EndLists → EndLists
+with_more holds refusals lists = end_lists (lists.holds ++ holds) (lists.refusals ++ refusals)
+
+-- the lists of the tile's end of an edge after these turns
+abbrev pub lists_of : MapValue → ℕ → List Turn → ℕ → EndLists
+lists_of m t [] e = end_lists [] []
+lists_of m t (x ∷ xs) e = with_more (one_if (has e (edges_of m t x)) (hold_at x e)) (refusals_at x e) (lists_of m t xs e)
+
+-- the same while the holds of the last turn are given back: `is_left` tells whether the one of an edge is still open
+abbrev pub lists_left : MapValue → ℕ → (ℕ → Bool) → Turn → List Turn → ℕ → EndLists
+lists_left m t is_left x xs e = with_more (one_if (has e (edges_of m t x)) (as_open (is_left e) (hold_at x e))) (refusals_at x e) (lists_of m t xs e)
+
+-- the tile's own cell of a site after these turns
+abbrev pub cells_of : MapValue → (Site → AtomValue) → List Turn → Site → CellValue
+cells_of m start [] s = cell_value 0 (start s)
+cells_of m start (Wins w ∷ xs) s = if in_window m (event_site w.note) s then cell_value w.note.stamp (w.after s) else cells_of m start xs s
+cells_of m start (Loses l ∷ xs) s = cells_of m start xs s
+cells_of m start (Wears w ∷ xs) s = cells_of m start xs s
+
+-- the stamp of the tile's last event, 0 where there is none
+abbrev pub stamp_of : List Turn → ℕ
+stamp_of [] = 0
+stamp_of (Wins w ∷ xs) = w.note.stamp
+stamp_of (Loses l ∷ xs) = stamp_of xs
+stamp_of (Wears w ∷ xs) = stamp_of xs
+
+abbrev pub known_or_0 : Option ℕ → ℕ
+known_or_0 None = 0
+known_or_0 (Some c) = c
+
+-- the clock that a hold found
+abbrev pub clock_in : List Access → ℕ
+clock_in accesses = known_or_0 (found_value accesses 0)
+
+-- the greatest of n and the values of f for these edges
+abbrev pub greatest : ℕ → (ℕ → ℕ) → List ℕ → ℕ
+greatest n f [] = n
+greatest n f (e ∷ es) = greatest (max n (f e)) f es
+
+-- what a hold of an event found and left on an edge with so many shared sites, of which the window covers some places
+pub record IsEventHold (sites end : ℕ) (places : ℕ → Option ℕ) (cells : ℕ → CellValue) (stamp : ℕ) (accesses : List Access) : Type 0 where
+  pub clock : (c : ℕ) × (found_value accesses 0 ≡ Some c)
+  pub stamped : last_write accesses 0 None ≡ Some stamp
+  -- the news words of both ends were found, and are left with the bits of the covered places changed
+  pub mine : (k : ℕ) → Covers places 41 k → IsWordMarked sites end false places 41 accesses (k / 64)
+  pub theirs : (k : ℕ) → Covers places 41 k → IsWordMarked sites (1 - end) true places 41 accesses (k / 64)
+  -- the cells that are news were found, and no other cell register was read
+  pub finds : (k : ℕ) → Covers places 41 k → is_news sites end accesses k ≡ true → (low : ℕ) × (high : ℕ) × (found_value accesses (1 + 2 * k) ≡ Some low) × (found_value accesses (2 + 2 * k) ≡ Some high)
+  pub reads_only : (k : ℕ) → k < sites → (is_read accesses (1 + 2 * k) ≡ true) ⊎ (is_read accesses (2 + 2 * k) ≡ true) → Covers places 41 k × (is_news sites end accesses k ≡ true)
+  -- the event's cells are left
+  pub leaves : (n k : ℕ) → n < 41 → places n ≡ Some k → (low : ℕ) × (high : ℕ) × (last_write accesses (1 + 2 * k) None ≡ Some low) × (last_write accesses (2 + 2 * k) None ≡ Some high) × (cell_of low high ≡ cells n)
+  -- and nothing else is written
+  pub spares : (register v : ℕ) → last_write accesses register None ≡ Some v
+      → (register ≡ 0) ⊎ ((k : ℕ) × Covers places 41 k × ((register ≡ 1 + 2 * k) ⊎ ((register ≡ 2 + 2 * k) ⊎ ((register ≡ word_of sites end k) ⊎ (register ≡ word_of sites (1 - end) k)))))
+
+-- a hold of an end that was given back
+pub record IsGiven (m : MapValue) (t e attempt : ℕ) (hold : Hold) : Type 0 where
+  pub end : hold.end ≡ end_at m t e
+  pub attempt_is : hold.attempt ≡ attempt
+  pub closed : hold.is_open ≡ false
+
+-- the atom that a window has for a site
+abbrev pub atom_for : Option Site → (Site → AtomValue) → AtomValue
+atom_for None look = empty_atom
+atom_for (Some s) look = look s
+
+-- the accesses of an event's hold on an edge
+abbrev pub accesses_at : Won → ℕ → List Access
+accesses_at w e = (w.hold e).accesses
+
+-- the cell of site n of the window that an event leaves
+abbrev pub cell_left : MapValue → Won → ℕ → CellValue
+cell_left m w n = cell_value w.note.stamp (atom_for (window_site m (event_site w.note) n) w.after)
+
+-- a tile's own cell of a site of a window, which may not be live
+abbrev pub own_cell : Option Site → (Site → CellValue) → CellValue
+own_cell None own = no_cell
+own_cell (Some s) own = own s
+
+-- the newest cell of site n of the window, of the tile's own and those found
+abbrev pub newest_at : MapValue → ℕ → (Site → CellValue) → Site → (ℕ → List Access) → ℕ → CellValue
+newest_at m t own c accesses n = newest (own_cell (window_site m c n) own) (seen_on m t c accesses n (needs_of m t c))
+
+-- an attempt became an event, after those of the past
+pub record IsWon (m : MapValue) (meaning : WindowValue → ℕ → WindowValue) (start : Site → AtomValue) (t : ℕ) (past : List Turn) (w : Won) : Type 0 where
+  pub tile : w.note.tile ≡ t
+  pub attempt : w.note.attempt ≡ length past
+  pub centre : IsCentre m t (event_site w.note)
+  pub given : (e : ℕ) → has e (needs_of m t (event_site w.note)) ≡ true → IsGiven m t e (length past) (w.hold e)
+  pub holds : (e : ℕ) → has e (needs_of m t (event_site w.note)) ≡ true → IsEventHold (sites_on m e) (end_at m t e) (place_in m (event_site w.note) e) (cell_left m w) w.note.stamp (accesses_at w e)
+  pub stamp : w.note.stamp ≡ 1 + greatest (stamp_of past) (λ e. clock_in (accesses_at w e)) (needs_of m t (event_site w.note))
+  pub small : w.note.stamp ≤ 4294967295
+  pub view : WindowValue
+  pub shows : IsView m (event_site w.note) (newest_at m t (cells_of m start past) (event_site w.note) (accesses_at w)) view
+  pub acts : (n : ℕ) (s : Site) → n < 41 → window_site m (event_site w.note) n ≡ Some s → w.after s ≡ atom_at (meaning view w.note.seed) n
+
+-- nothing was written
+abbrev pub IsSilent : Hold → Type 0
+IsSilent hold = writes_nothing hold.accesses ≡ true
+
+-- an attempt was given up at the first needed edge that was held, and wrote nothing
+pub record IsLost (m : MapValue) (t : ℕ) (past : List Turn) (l : Lost) : Type 0 where
+  pub tile : l.gone.tile ≡ t
+  pub attempt : l.gone.attempt ≡ length past
+  pub centre : IsCentre m t (given_up_site l.gone)
+  pub needed : has l.gone.edge (needs_of m t (given_up_site l.gone)) ≡ true
+  pub holder : l.gone.holder ≡ other_end m t l.gone.edge
+  pub given : (e : ℕ) → has e (before l.gone.edge (needs_of m t (given_up_site l.gone))) ≡ true → IsGiven m t e (length past) (l.hold e) × IsSilent (l.hold e)
+
+-- an attempt found a clock that is too great, and wrote nothing
+pub record IsWorn (m : MapValue) (t : ℕ) (past : List Turn) (w : Worn) : Type 0 where
+  pub centre : IsCentre m t w.site
+  pub holds : (e : ℕ) → has e (needs_of m t w.site) ≡ true → ((w.hold e).end ≡ end_at m t e) × ((w.hold e).attempt ≡ length past) × IsSilent (w.hold e) × ((c : ℕ) × (found_value (w.hold e).accesses 0 ≡ Some c))
+  pub high : 4294967295 ≤ greatest (stamp_of past) (λ e. clock_in (w.hold e).accesses) (needs_of m t w.site)
+
+abbrev pub IsTurn : MapValue → (WindowValue → ℕ → WindowValue) → (Site → AtomValue) → ℕ → List Turn → Turn → Type 0
+IsTurn m meaning start t past (Wins w) = IsWon m meaning start t past w
+IsTurn m meaning start t past (Loses l) = IsLost m t past l
+IsTurn m meaning start t past (Wears w) = IsWorn m t past w
+
+-- no turn is a worn one
+abbrev pub Wearless : List Turn → Type 0
+Wearless [] = Unit {0}
+Wearless (Wins w ∷ xs) = Wearless xs
+Wearless (Loses l ∷ xs) = Wearless xs
+Wearless (Wears w ∷ xs) = ⊥
+
+-- each turn is as what came before it makes it, and only the last may be a worn one
+abbrev pub AreTurns : MapValue → (WindowValue → ℕ → WindowValue) → (Site → AtomValue) → ℕ → List Turn → Type 0
+AreTurns m meaning start t [] = Unit {0}
+AreTurns m meaning start t (x ∷ xs) = IsTurn m meaning start t xs x × Wearless xs × AreTurns m meaning start t xs
+
+-- the events of the turns, in order
+abbrev pub records_of : List Turn → List Record
+records_of [] = []
+records_of (Wins w ∷ xs) = records_of xs ++ w.note ∷ []
+records_of (Loses l ∷ xs) = records_of xs
+records_of (Wears w ∷ xs) = records_of xs
+
+-- the abandoned attempts of the turns, in order
+abbrev pub abandoned_of : List Turn → List Abandoned
+abandoned_of [] = []
+abandoned_of (Wins w ∷ xs) = abandoned_of xs
+abandoned_of (Loses l ∷ xs) = abandoned_of xs ++ l.gone ∷ []
+abandoned_of (Wears w ∷ xs) = abandoned_of xs
+
+-- an attempt was made with this site, as number n of the tile's attempts
+pub record IsAttempt (m : MapValue) (t : ℕ) (attempts : List Attempt) (n : ℕ) (s : Site) (seed : ℕ) : Type 0 where
+  pub attempt : Attempt
+  pub is : slice_get attempts n ≡ Some attempt
+  pub site_is : s ≡ site_in m t attempt.centre
+  pub seed_is : seed ≡ attempt.seed
+
+-- the attempt of a turn
+abbrev pub IsAttemptOf : MapValue → ℕ → List Attempt → ℕ → Turn → Type 0
+IsAttemptOf m t attempts n (Wins w) = IsAttempt m t attempts n (event_site w.note) w.note.seed
+IsAttemptOf m t attempts n (Loses l) = (seed : ℕ) × IsAttempt m t attempts n (given_up_site l.gone) seed
+IsAttemptOf m t attempts n (Wears w) = (seed : ℕ) × IsAttempt m t attempts n w.site seed
+
+-- the turns are the tile's first attempts, in order
+abbrev pub AreAttempts : MapValue → ℕ → List Attempt → List Turn → Type 0
+AreAttempts m t attempts [] = Unit {0}
+AreAttempts m t attempts (x ∷ xs) = IsAttemptOf m t attempts (length xs) x × AreAttempts m t attempts xs
+
+-- What a tile did on its edges with these attempts, from this start. Each attempt is an event, is abandoned, or is a last
+-- one that wore the tile out; the entries are those of the turns, and so are the holds and refusals of the tile's ends.
+pub record HasPlayed (m : MapValue) (meaning : WindowValue → ℕ → WindowValue) (start : Site → AtomValue) (t : ℕ) (attempts : List Attempt) (records : List Record) (abandoned : List Abandoned) (lists : ℕ → EndLists) : Type 0 where
+  pub turns : List Turn
+  pub each : AreTurns m meaning start t turns
+  pub all : length attempts ≡ length turns
+  pub made : AreAttempts m t attempts turns
+  pub records_are : records ≡ records_of turns
+  pub abandoned_are : abandoned ≡ abandoned_of turns
+  pub lists_are : (e : ℕ) → lists e ≡ lists_of m t turns e

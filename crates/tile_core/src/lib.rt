@@ -1,0 +1,10 @@
+//! One tile: its phases, its log and its copy of the sites that it holds.
+#![tactic(auto)]
+
+mod clocks;
+mod phase;
+mod state;
+mod tile;
+
+pub use phase::Phase;
+pub use tile::Tile;

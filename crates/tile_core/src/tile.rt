@@ -1,0 +1,190 @@
+//! One tile of the plane.
+ghost use Rattle.std.specs.Prelude.{◌≡◌, ◌+◌, ℕ, true, IfOk};
+ghost use Rattle.window_sites.specs.Window.{WindowValue};
+ghost use Rattle.event_journal.specs.Logs.{log_of};
+ghost use Rattle.tile_map.specs.Plane.{tiles_of};
+ghost use Rattle.edge_lock.specs.EndLists.{EndLists};
+ghost use Rattle.border_cache.specs.Copies.{IsGridOf, IsEndOf};
+ghost use Rattle.tile_core.specs.declared.phase.Phase.TheVariants.{Draw, Worn};
+ghost use Rattle.tile_core.specs.Values.{atoms_of, in_hand_at};
+ghost use Rattle.tile_core.specs.Underway.{CanAttempt, IsFreshTile, IsSome, GoesOn, GoesFar, IsPlayedAt, IsPlayedAll};
+ghost use Rattle.tile_core.specs.Steps.{StepsIn, is_over};
+
+use crate::phase::Phase;
+use crate::state::State;
+use border_cache::Cache;
+use cell_grid::{Behave, Grid, Record};
+use draw_stream::Attempts;
+use edge_lock::Board;
+use event_journal::{Abandoned, TileLog};
+use feast_base::NoMemory;
+use std::alloc::Global;
+use std::marker::Model;
+use tile_map::Map;
+use window_sites::Window;
+
+/// A tile with its copy of the sites that it holds, its attempts, and what acts on its windows.
+///
+/// Contracts see a pair: the tile (`TileValue`), and what acts.
+#[derive(Drop)]
+pub struct Tile<B> {
+    state: State,
+    behave: B,
+}
+
+impl<B> Model for Tile<B> {
+    ghost use Rattle.tile_core.specs.Values.{TileValue};
+
+    ghost Value = { TileValue × B };
+
+    ghost use Rattle.tile_core.specs.Kept.{value_of, HasRoom};
+
+    ghost view = { λ t. (value_of t.state, t.behave) };
+
+    ghost invariant = { λ t. HasRoom t.state };
+}
+
+impl<B: Behave> Tile<B> {
+    /// One step, by the phase, which is over then; answers the phase that follows. At `Finished`
+    /// and at `Worn` nothing happens.
+    ///
+    /// The map is the one that the tile was made with, the board this tile's end of its edges, and
+    /// what the board's lists have is what this tile's steps have made.
+    pub fn advance<D: Board>(&mut self, map: &Map, board: &mut D) -> Phase
+        requires map { map.now ≡ self.old.0.cache.map }
+        requires board { IsEndOf self.old.0.cache.map self.old.0.number (D.tile board.old) (D.registers board.old) (D.end_of board.old) }
+        requires underway { IsSome self.old.0.cache.map (B.after self.old.1) self.old.0 (D.lists board.old) }
+        ensures step { StepsIn self.old.0.cache.map (B.after self.old.1) (D.end_of board.old) self.old.0 self.new.0 (D.lists board.old) (D.lists board.new) self.old.0.phase }
+        ensures on { GoesOn self.old.0.cache.map (B.after self.old.1) self.old.0 (D.lists board.old) self.new.0 (D.lists board.new) }
+        ensures phase { result ≡ self.new.0.phase }
+        ensures number { self.new.0.number ≡ self.old.0.number }
+        ensures map { self.new.0.cache.map ≡ self.old.0.cache.map }
+        ensures meaning { B.after self.new.1 ≡ B.after self.old.1 }
+        ensures tile { D.tile board.new ≡ D.tile board.old }
+        ensures edges { (D.registers board.new ≡ D.registers board.old) × (D.end_of board.new ≡ D.end_of board.old) }
+        ensures moved { D.moved board.old board.new }
+    {
+        map.laws();
+        self.state.step(map, board, &mut self.behave);
+        self.state.phase
+    }
+
+    /// Steps until the attempt that is drawn now is over, or the tile is worn out; answers the
+    /// phase. The conditions are those of `advance`, and the phase is `Draw`.
+    pub fn attempt_whole<D: Board>(&mut self, map: &Map, board: &mut D) -> Phase
+        requires draw { self.old.0.phase ≡ Draw }
+        requires map { map.now ≡ self.old.0.cache.map }
+        requires board { IsEndOf self.old.0.cache.map self.old.0.number (D.tile board.old) (D.registers board.old) (D.end_of board.old) }
+        requires underway { IsSome self.old.0.cache.map (B.after self.old.1) self.old.0 (D.lists board.old) }
+        ensures far { GoesFar self.old.0.cache.map (B.after self.old.1) self.old.0 (D.lists board.old) self.new.0 (D.lists board.new) }
+        ensures taken { self.new.0.taken ≡ self.old.0.taken + 1 }
+        ensures over { is_over result ≡ true }
+        ensures phase { result ≡ self.new.0.phase }
+        ensures number { self.new.0.number ≡ self.old.0.number }
+        ensures map { self.new.0.cache.map ≡ self.old.0.cache.map }
+        ensures meaning { B.after self.new.1 ≡ B.after self.old.1 }
+        ensures tile { D.tile board.new ≡ D.tile board.old }
+        ensures edges { (D.registers board.new ≡ D.registers board.old) × (D.end_of board.new ≡ D.end_of board.old) }
+        ensures moved { D.moved board.old board.new }
+    {
+        let mut phase = self.advance(map, board);
+        while !phase.is_over() {
+            phase = self.advance(map, board);
+        }
+        phase
+    }
+
+    /// The phase: what the next step does.
+    pub fn phase(&self) -> Phase
+        ensures { result ≡ self.now.0.phase }
+    {
+        self.state.phase
+    }
+
+    /// The tile's number.
+    pub fn number(&self) -> u32
+        ensures { result ≡ self.now.0.number }
+    {
+        self.state.number
+    }
+
+    /// How many attempts were drawn.
+    pub fn taken(&self) -> u64
+        ensures { result ≡ self.now.0.taken }
+    {
+        self.state.taken
+    }
+
+    /// The site of the attempt in hand. None exactly in the phases `Draw` and `Finished`.
+    pub fn in_hand(&self) -> Option<(u32, u32)>
+        ensures { result ≡ in_hand_at self.now.0.phase self.now.0.x self.now.0.y }
+    {
+        match self.state.phase {
+            Phase::Draw | Phase::Finished => None,
+            _ => Some((self.state.x, self.state.y)),
+        }
+    }
+
+    /// The events so far, in order.
+    pub fn records(&self) -> &[Record]
+        ensures { result.now ≡ self.now.0.records }
+    {
+        self.state.records.as_slice()
+    }
+
+    /// The attempts that were given up so far, in order.
+    pub fn abandoned(&self) -> &[Abandoned]
+        ensures { result.now ≡ self.now.0.abandoned }
+    {
+        self.state.abandoned.as_slice()
+    }
+
+    /// What holds of each tile that is underway: between attempts it has played those that it drew,
+    /// at the end all its attempts, and where it is worn out those that it drew, the last of which
+    /// has its edges still. It does nothing.
+    pub fn laws(&self)
+        ensures draw { IsPlayedAt Draw self.now.0 }
+        ensures worn { IsPlayedAt Worn self.now.0 }
+        ensures end { IsPlayedAll self.now.0 }
+    {}
+
+    /// The copy of the sites that the tile holds.
+    pub fn cache(&self) -> &Cache
+        ensures { result.now ≡ self.now.0.cache }
+    {
+        &self.state.cache
+    }
+}
+
+impl<B: Behave + Drop> Tile<B> {
+    /// A tile with the atoms of a grid, all of whose attempts are left. It takes all its memory
+    /// here. The grid has the size and the live sites of the map's plane; there are at most
+    /// 1,000,000 attempts, each centre is a position of the tile's rectangle, and a tile that is off
+    /// has none.
+    pub fn new(
+        alloc: Global,
+        map: &Map,
+        tile: u32,
+        start: &Grid,
+        attempts: Attempts,
+        behave: B,
+    ) -> Result<Tile<B>, NoMemory>
+        requires start { IsGridOf map.now start.now }
+        requires attempts { CanAttempt map.now tile attempts }
+        ensures fresh { IfOk result (λ t. IsFreshTile map.now tile (atoms_of start.now) attempts t.0) }
+        ensures acts { IfOk result (λ t. t.1 ≡ behave) }
+    {
+        let state = State::new(alloc, map, tile, start, attempts)?;
+        Ok(Tile { state, behave })
+    }
+
+    /// The tile's events and abandoned attempts. What the lists of its end of each edge have is
+    /// what its steps have made; of which board they are does not matter here.
+    pub fn into_log(self) -> TileLog
+        requires { (meaning : WindowValue → ℕ → WindowValue) × (lists : ℕ → EndLists) × IsSome self.0.cache.map meaning self.0 lists }
+        ensures { result ≡ log_of self.0.number self.0.records self.0.abandoned }
+    {
+        let Tile { state, behave: _ } = self;
+        TileLog::new(state.number, state.records, state.abandoned)
+    }
+}
