@@ -1,4 +1,5 @@
 pub mod Accounts
+pub mod Cuts
 pub mod Forms
 pub mod Logs
 pub mod Merged

@@ -5,6 +5,7 @@
 #![tactic(auto)]
 
 mod abandoned;
+mod cutting;
 mod fault;
 mod forms;
 mod journal;
@@ -17,6 +18,7 @@ mod seats;
 mod walk;
 
 pub use abandoned::Abandoned;
+pub use cutting::cuts;
 pub use fault::JournalFault;
 pub use journal::Journal;
 pub use log::TileLog;

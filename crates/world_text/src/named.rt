@@ -3,7 +3,8 @@ ghost use Rattle.std.specs.Prelude.{◌≡◌, ◌*◌, ◌≤◌, ◌<◌, ◌^
 ghost use Rattle.draw_stream.specs.Plans.{IsPlan, scripted, tiles_on};
 ghost use Rattle.world_text.specs.declared.draft.RawAtom.{RawAtom};
 ghost use Rattle.world_text.specs.Named.{NamesAtoms, order_by, place_of, plan_by, type_of};
-ghost use Rattle.world_text.specs.Values.{Names, order_value};
+ghost use Rattle.world_text.specs.Printed.{IsNamed, IsPrintable};
+ghost use Rattle.world_text.specs.Values.{Names, order_value, world_value};
 
 use crate::draft::{RawAtom, Tries};
 use crate::fault::WorldFault;
@@ -115,11 +116,8 @@ fn order(tiles: Vec<u32>, seed: Option<u64>) -> Order
     }
 }
 
-/// The world that a text says, by what `read` gave and the names of the elements, in the order of
-/// their type numbers. `UnknownElement` at the first `atom` line whose name no element has, and
-/// `SiteTaken` at the first whose site an earlier one has, whichever comes first. `NoMemory` where
-/// there is none for the world.
-pub fn name(alloc: Global, raw: RawWorld, names: &[Name]) -> Result<World, WorldFault>
+/// The world that a text says.
+fn world(alloc: Global, raw: RawWorld, names: &[Name]) -> Result<World, WorldFault>
     requires { length names.now ≤ 65535 }
     ensures { Names names.now raw result }
 {
@@ -144,4 +142,19 @@ pub fn name(alloc: Global, raw: RawWorld, names: &[Name]) -> Result<World, World
         atoms,
         order: order(draft.order, draft.order_seed),
     })
+}
+
+/// The world that a text says, by what `read` gave and the names of the elements, in the order of
+/// their type numbers. `UnknownElement` at the first `atom` line whose name no element has, and
+/// `SiteTaken` at the first whose site an earlier one has, whichever comes first. `NoMemory` where
+/// there is none for the world.
+#[tactic(auto, using(crate::proofs::Prints::named_of, crate::proofs::Prints::valid_of))]
+pub fn name(alloc: Global, raw: RawWorld, names: &[Name]) -> Result<World, WorldFault>
+    requires { length names.now ≤ 65535 }
+    ensures world { Names names.now raw result }
+    ensures named { IfOk result (λ w. IsNamed names.now (world_value w)) }
+    ensures valid { IfOk result (λ w. IsPrintable names.now (world_value w)) }
+{
+    raw.laws();
+    world(alloc, raw, names)
 }

@@ -45,6 +45,13 @@ impl RawWorld {
         self.draft
     }
 
+    /// What holds of every text that `read` takes. It does nothing.
+    pub(crate) fn laws(&self)
+        ensures { IsDraft self.now }
+    {
+        let _ = &self.draft;
+    }
+
     /// How many tiles there are, those that are off among them: 1 to 64.
     pub fn tiles(&self) -> u32
         ensures value { result ≡ tiles_of self.now.plane }

@@ -1,0 +1,49 @@
+//! The report of a run.
+ghost use Rattle.std.specs.Prelude.{◌≡◌, ◌-◌, ◌^◌, ◌<◌, [], IfOk};
+ghost use Rattle.feast_base.specs.Outside.{told};
+ghost use Rattle.event_journal.specs.Logs.{abandoned_in, records_in};
+ghost use Rattle.grid_print.specs.Report.{AreNamed, report};
+ghost use Rattle.grid_print.specs.Writing.{Writes};
+
+use crate::fault::WriteFault;
+use crate::page::put_pieces;
+use crate::shown::atoms;
+use cell_grid::Grid;
+use event_journal::{Journal, print};
+use feast_base::{Name, NoMemory, Sink};
+use std::alloc::Global;
+use text_lines::{Field, push_line};
+
+/// The text of a report.
+fn text(alloc: Global, grid: &Grid, journal: &Journal, names: &[Name]) -> Result<Vec<u8>, NoMemory>
+    requires { AreNamed names.now grid.now.atoms }
+    ensures { IfOk result (λ v. v.items ≡ report names.now grid.now (records_in journal.now) (abandoned_in journal.now)) }
+{
+    let mut out = Vec::new(alloc);
+    push_line(&mut out, &[Field::Word(b"feast"), Field::Word(b"1")])?;
+    atoms(grid, names, &mut out)?;
+    print(alloc, journal, &mut out)?;
+    Ok(out)
+}
+
+/// Puts the report of a run: its grid's atoms and its journal. Each atom is empty or its type has
+/// a name: type numbers count the names from 1. All memory is taken before the first put, and the
+/// pieces that are put have 4,096 bytes each but the last, which has 1 to 4,096.
+///
+/// `Sink` only where the sink failed in this call; it then has a first part of the report.
+/// `NoMemory` where there was none for the text; then nothing was put.
+pub fn write_report<K: Sink>(
+    alloc: Global,
+    grid: &Grid,
+    journal: &Journal,
+    names: &[Name],
+    sink: &mut K,
+) -> Result<(), WriteFault>
+    requires named { AreNamed names.now grid.now.atoms }
+    requires room { K.faults sink.old < 2 ^ 64 - 1 }
+    ensures { Writes (told K.written K.faults K.may_fail sink.old) (told K.written K.faults K.may_fail sink.new) (report names.now grid.now (records_in journal.now) (abandoned_in journal.now)) result }
+{
+    let text = text(alloc, grid, journal, names)?;
+    put_pieces(sink, text.as_slice())?;
+    Ok(())
+}

@@ -1,0 +1,16 @@
+use Rattle.std.proofs.Common.{◌≡◌}
+use Rattle.tile_map.specs.Plane.{site}
+use Rattle.tile_map.specs.Edges.{edges_at}
+use Rattle.border_cache.specs.Cells.{cell_value, newest}
+use Rattle.serial_order.specs.Scene.{registers_at}
+use Rattle.serial_order.specs.Settled.{edge_cells}
+use Rattle.serial_order.proofs.EdgeCells.{edges_from}
+use Rattle.serial_order.proofs.newest.newest_of.Given as goal
+
+abbrev pub invariant-loop-edge : goal.invariant-loop-edge
+invariant-loop-edge g l = record {
+  done : newest (cell_value l.best.0 l.best.1) (edge_cells l.map (registers_at (g.E.EdgeWords.histories l.fn.words)) (edges_from l.map l.tile l.edge) (site l.x l.y))
+      ≡ newest (cell_value l.fn.own.0 l.fn.own.1) (edge_cells l.map (registers_at (g.E.EdgeWords.histories l.fn.words)) (edges_at l.map l.tile) (site l.x l.y));
+  histories : g.E.EdgeWords.histories l.words ≡ g.E.EdgeWords.histories l.fn.words;
+  counts : g.E.EdgeWords.counts l.words ≡ g.E.EdgeWords.counts l.fn.words;
+}

@@ -1,0 +1,5 @@
+pub mod Scene
+pub mod Settled
+pub mod Order
+pub mod Example
+pub mod Words

@@ -1,0 +1,48 @@
+-- The words of all edges: of a plain board, of closed edges, and what they are to the cells of a site.
+use Rattle.std.specs.Prelude.{ℕ, ◌≡◌, ◌<◌, List, [], length, map, slice_index_or, if◌then◌else◌}
+use Rattle.feast_base.specs.Edges.{registers_of}
+use Rattle.tile_map.specs.Plane.{Site, MapValue}
+use Rattle.tile_map.specs.Edges.{pairs_of, has_end}
+use Rattle.edge_lock.specs.History.{IsEdgeHistory}
+use Rattle.edge_lock.specs.PlainEdges.{PlainEdgeValue}
+use Rattle.edge_lock.specs.PlainBoard.{PlainBoardValue, edge_at}
+use Rattle.edge_lock.specs.Passes.{ClosedValue}
+use Rattle.border_cache.specs.Cells.{CellValue, newer}
+use Rattle.border_cache.specs.Windows.{place_of, sites_on}
+use Rattle.serial_order.specs.Scene.{EdgeHistory, history_at}
+use Rattle.serial_order.specs.Settled.{cell_in_registers}
+
+abbrev pub plain_history : PlainEdgeValue → EdgeHistory
+plain_history edge = record { holds = edge.holds; low = edge.low; high = edge.high }
+
+abbrev pub closed_history : ClosedValue → EdgeHistory
+closed_history edge = record { holds = edge.holds; low = edge.low; high = edge.high }
+
+abbrev pub histories_on : PlainBoardValue → List EdgeHistory
+histories_on board = map plain_history board.edges
+
+-- how many registers an edge of a board has
+abbrev pub counts_on : PlainBoardValue → ℕ → ℕ
+counts_on board e = (edge_at board e).registers
+
+abbrev pub no_closed : ClosedValue
+no_closed = record { registers = 0; holds = []; low = []; high = [] }
+
+abbrev pub closed_at : List ClosedValue → ℕ → ClosedValue
+closed_at edges e = slice_index_or edges e no_closed
+
+abbrev pub closed_histories : List ClosedValue → List EdgeHistory
+closed_histories edges = map closed_history edges
+
+abbrev pub closed_counts : List ClosedValue → ℕ → ℕ
+closed_counts edges e = (closed_at edges e).registers
+
+-- the words of all edges of a plane: each edge has one history, and the registers of its shared sites
+pub record AreEdgeWords (m : MapValue) (edges : List EdgeHistory) (counts : ℕ → ℕ) : Type 0 where
+  pub known : length edges ≡ length (pairs_of m)
+  pub registers : (e : ℕ) → e < length (pairs_of m) → counts e ≡ registers_of (sites_on m e)
+  pub histories : (e : ℕ) → e < length edges → IsEdgeHistory (sites_on m e) (history_at edges e).holds (history_at edges e).low (history_at edges e).high
+
+-- the newer of a cell and the one that an edge has of a site, where a tile is an end of the edge
+abbrev pub newer_on : MapValue → (ℕ → ℕ → ℕ) → ℕ → Site → CellValue → ℕ → CellValue
+newer_on m registers t s cell e = if has_end m t e then newer cell (cell_in_registers (registers e) (place_of m e s)) else cell

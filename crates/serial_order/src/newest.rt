@@ -1,0 +1,124 @@
+//! The settled cell of a site: the newest of its tile's and those of the tile's edges.
+ghost use Rattle.std.specs.Prelude.{◌≡◌, ◌<◌, true, length, Some};
+ghost use Rattle.bit_field.specs.Atom.{LeavesGap};
+ghost use Rattle.tile_map.specs.Plane.{site, is_held};
+ghost use Rattle.tile_map.specs.Edges.{pairs_of, edges_at};
+ghost use Rattle.border_cache.specs.Cells.{cell_value, cell_of, newer, newest};
+ghost use Rattle.border_cache.specs.Copies.{held_cell};
+ghost use Rattle.border_cache.specs.Windows.{place_of};
+ghost use Rattle.serial_order.specs.Scene.{registers_at};
+ghost use Rattle.serial_order.specs.Settled.{cell_in_registers, edge_cells, settled_cell};
+ghost use Rattle.serial_order.specs.Words.{AreEdgeWords, newer_on};
+
+use crate::words::EdgeWords;
+use bit_field::Atom;
+use border_cache::Cache;
+use tile_map::Map;
+
+/// The newer of a stamp with its atom and the cell that two words say; the first where both are of
+/// one stamp.
+fn newer_of(own: (u32, Atom), low: u64, high: u64) -> (u32, Atom)
+    requires { LeavesGap high }
+    ensures { cell_value result.0 result.1 ≡ newer (cell_value own.0 own.1) (Some (cell_of low high)) }
+{
+    let stamp = (high >> 32) as u32;
+    if own.0 < stamp {
+        (
+            stamp,
+            Atom::from_words(low, (high % (1u64 << 32)) as u32),
+        )
+    } else {
+        own
+    }
+}
+
+/// The newer of a cell and the one that an edge has of a site, if the edge shares it.
+fn newer_on_edge<E: EdgeWords>(
+    map: &Map,
+    edge: u32,
+    own: (u32, Atom),
+    x: u32,
+    y: u32,
+    words: &mut E,
+) -> (u32, Atom)
+    requires known { edge < length (pairs_of map.now) }
+    requires words { AreEdgeWords map.now (E.histories words.old) (E.counts words.old) }
+    ensures cell { cell_value result.0 result.1 ≡ newer (cell_value own.0 own.1) (cell_in_registers (registers_at (E.histories words.old) edge) (place_of map.now edge (site x y))) }
+    ensures same { (E.histories words.new ≡ E.histories words.old) × (E.counts words.new ≡ E.counts words.old) }
+{
+    match map.register(edge, x, y) {
+        None => own,
+        Some(register) => {
+            // There are so few shared sites that their registers have numbers of 32 bits.
+            let _sites = map.shared(edge);
+            let low = words.word(edge, register);
+            let high = words.word(edge, register + 1);
+            newer_of(own, low, high)
+        }
+    }
+}
+
+/// The same for an edge of which the tile may not be an end.
+fn newer_at_end<E: EdgeWords>(
+    map: &Map,
+    edge: u32,
+    tile: u32,
+    own: (u32, Atom),
+    x: u32,
+    y: u32,
+    words: &mut E,
+) -> (u32, Atom)
+    requires known { edge < length (pairs_of map.now) }
+    requires words { AreEdgeWords map.now (E.histories words.old) (E.counts words.old) }
+    ensures cell { cell_value result.0 result.1 ≡ newer_on map.now (registers_at (E.histories words.old)) tile (site x y) (cell_value own.0 own.1) edge }
+    ensures same { (E.histories words.new ≡ E.histories words.old) × (E.counts words.new ≡ E.counts words.old) }
+{
+    let (lower, higher) = map.ends(edge);
+    if lower == tile || higher == tile {
+        newer_on_edge(map, edge, own, x, y, words)
+    } else {
+        own
+    }
+}
+
+/// The newest of a cell and those that a tile's edges have of a site.
+fn newest_of<E: EdgeWords>(
+    map: &Map,
+    tile: u32,
+    own: (u32, Atom),
+    x: u32,
+    y: u32,
+    words: &mut E,
+) -> (u32, Atom)
+    requires words { AreEdgeWords map.now (E.histories words.old) (E.counts words.old) }
+    ensures cell { cell_value result.0 result.1 ≡ newest (cell_value own.0 own.1) (edge_cells map.now (registers_at (E.histories words.old)) (edges_at map.now tile) (site x y)) }
+    ensures same { (E.histories words.new ≡ E.histories words.old) × (E.counts words.new ≡ E.counts words.old) }
+{
+    let mut best = own;
+    for edge in 0..map.edges() {
+        best = newer_at_end(map, edge, tile, best, x, y, words);
+    }
+    best
+}
+
+/// The settled atom of a site that a tile holds, once the tiles are over: that of the newest of
+/// the tile's own cell and those that its edges have of the site. At equal stamps its own cell
+/// stays, and else the edge of the smaller number counts.
+pub fn settled_atom<E: EdgeWords>(
+    map: &Map,
+    tile: u32,
+    cache: &Cache,
+    x: u32,
+    y: u32,
+    words: &mut E,
+) -> Atom
+    requires map { cache.now.map ≡ map.now }
+    requires tile { cache.now.tile ≡ tile }
+    requires held { is_held map.now tile (site x y) ≡ true }
+    requires words { AreEdgeWords map.now (E.histories words.old) (E.counts words.old) }
+    ensures atom { result ≡ (settled_cell map.now (registers_at (E.histories words.old)) (held_cell cache.now) (edges_at map.now tile) (site x y)).atom }
+    ensures same { (E.histories words.new ≡ E.histories words.old) × (E.counts words.new ≡ E.counts words.old) }
+{
+    let own = cache.cell(x, y);
+    newest_of(map, tile, own, x, y, words).1
+}

@@ -1,0 +1,47 @@
+-- What lines say as they stand, and texts of worlds that are cut.
+use Rattle.std.specs.Prelude.{ℕ, ◌≡◌, ◌≤◌, ◌<◌, ◌^◌, ◌+◌, List, [], ◌∷◌, All, Option, Some, None, Result, Ok, Err, true, length, take}
+use Rattle.feast_base.specs.TypeNames.{is_type_name}
+use Rattle.world_text.specs.Drafts.{DraftValue, kind_of, missing, nothing_said, step}
+use Rattle.world_text.specs.Line.{Line, header, tiles, size, off, seed, attempts, try, atom, order_seed, order}
+use Rattle.world_text.specs.Printed.{lines_text}
+use Rattle.world_text.specs.Reading.{go_on, over, read_text}
+use Rattle.world_text.specs.declared.kind.Kind.{Kind}
+use Rattle.world_text.specs.declared.kind.Kind.TheVariants.{Start}
+
+-- a line whose text says it again: its numbers are those of their fields
+abbrev pub IsPrinted : Line → Type 0
+IsPrinted (header second) = Unit {0}
+IsPrinted (tiles a b) = (a < 2 ^ 64) × (b < 2 ^ 64)
+IsPrinted (size a b) = (a < 2 ^ 64) × (b < 2 ^ 64)
+IsPrinted (off t) = t < 2 ^ 64
+IsPrinted (seed n) = n < 2 ^ 64
+IsPrinted (attempts k) = k < 2 ^ 64
+IsPrinted (try t x y s) = (t < 2 ^ 64) × (x < 2 ^ 64) × (y < 2 ^ 64) × (s < 2 ^ 64)
+IsPrinted (atom x y name s) = (x < 2 ^ 64) × (y < 2 ^ 64) × (is_type_name name ≡ true) × (s < 2 ^ 72)
+IsPrinted (order_seed n) = n < 2 ^ 64
+IsPrinted (order ts) = (1 ≤ length ts) × All (λ n. n < 2 ^ 64) ts
+
+-- what lines say after a draft, where the first has number n
+unfoldable pub said : ℕ → DraftValue → List Line → Result DraftValue (ℕ × ℕ)
+said n d [] = over n d (missing d.last)
+said n d (l ∷ ls) = go_on n (step n d (Some l)) (λ e. said (n + 1) e ls)
+
+-- the text of lines says what the lines say
+abbrev pub SaysItsLines : Type 0
+SaysItsLines = (ls : List Line) → All IsPrinted ls → read_text (lines_text ls) ≡ said 1 nothing_said ls
+
+-- the kind of the last of some lines
+abbrev pub last_kind : Kind → List Line → Kind
+last_kind k [] = k
+last_kind k (l ∷ ls) = last_kind (kind_of l) ls
+
+-- a text is read but for what is missing behind its last line, of number n and this kind
+abbrev pub IsReadBut : List ℕ → ℕ → Kind → Option ℕ → Type 0
+IsReadBut bytes n k None = (d : DraftValue) × (read_text bytes ≡ Ok d) × (d.last ≡ k)
+IsReadBut bytes n k (Some code) = read_text bytes ≡ Err (code, n + 1)
+
+-- where the text of some lines is a world, the first k of these lines are one, unless a line is missing behind them: where
+-- they are none it is the header, and behind a header, a `tiles` line and a `seed` line it is the next line
+abbrev pub AreCut : Type 0
+AreCut = (ls : List Line) (e : DraftValue) (k : ℕ) → All IsPrinted ls → read_text (lines_text ls) ≡ Ok e → k ≤ length ls →
+    IsReadBut (lines_text (take k ls)) k (last_kind Start (take k ls)) (missing (last_kind Start (take k ls)))
