@@ -105,9 +105,6 @@ module _ (c : CodeValue) (g : FunctionValue) (end : ℕ) (ks : List Key) (n : Se
   pub fines_join : (p m l : ℕ) → Fines p m → Fines (p + m) l → Fines p (m + l)
   fines_join p m l a b r lo hi = ⊎_elim (λ lt. a r lo lt) (λ le. b r le (omega arith)) (cases_lt r (p + m))
 
-  fines_at : (p q m : ℕ) → p ≡ q → Fines p m → Fines q m
-  fines_at p q m e f = subst (λ p. Fines p m) e f
-
   fines_long : (p l m : ℕ) → l ≡ m → Fines p l → Fines p m
   fines_long p l m e f = subst (λ m. Fines p m) e f
 
@@ -224,10 +221,6 @@ module _ (c : CodeValue) (g : FunctionValue) (end : ℕ) (ks : List Key) (n : Se
         let a = fine_falls p [] (turn_leads p [] turn here) there.0 (omega arith) r in
         let b = fine_jumps (p + 1) q [] (back_leads p q [] turn at there (omega arith) low free) e (omega arith) r1 in
         fines_head p 1 a (fines_one (p + 1) b)
-
-    -- what is shown of a piece
-    abbrev pub Good : ℕ → Piece → Type 0
-    Good p q = Fines p (size q) × Reached ex g.first shape (p + size q)
 
     one_good : (p : ℕ) (ls : Kinds) → ex p (shape p) ≡ falls_exit (Some ls) → shape (p + 1) ≡ ls → p + 1 < end → g.first ≤ p → Reached ex g.first shape p → Fines p 1 × Reached ex g.first shape (p + 1)
     one_good p ls e nx lt low r = (fines_one p (fine_falls p ls e nx lt r), reached_falls p ls e low)

@@ -330,9 +330,6 @@ module _ (z : Scene) (c : ℕ) (lo : IsLaidOut z.program) (room : z.base + bits_
   blank_leaves (y.Num num) = ((refl, refl), refl)
   blank_leaves ty = ((refl, refl), refl)
 
-  stored_leaves : (ty : Ty) (e : t.Expr) → Kinded z c e → StoresTo ty (kind e) → Leaves n (seq (expr_piece z e) (fit (number_type ty))) [] (operand_of ty ∷ [])
-  stored_leaves ty e h s = leaves_at n (seq (expr_piece z e) (fit (number_type ty))) [] [] (kind e) (operand_of ty) s.1 (seq_leaves n (expr_piece z e) (fit (number_type ty)) [] (kind e ∷ []) (kind e ∷ []) (expr_leaves e [] h) (fit_leaves n (number_type ty) (kind e) [] s.0))
-
   -- a value that is cast, and what takes it
   cast_leaves : (ty : Ty) (e : t.Expr) (q : Piece) → Kinded z c e → StoresTo ty (kind e) → Leaves n q (operand_of ty ∷ []) [] → Leaves n (seq (expr_piece z e) (seq (fit (number_type ty)) q)) [] []
   cast_leaves ty e q h s x =

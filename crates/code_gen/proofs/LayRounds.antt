@@ -33,9 +33,6 @@ pub record Lays (g : Drafts) (main : Key) (k : ℕ) (is : List Instr) (fs : List
   pub code : is ≡ codes g (keys g main) 0 (take k (keys g main))
   pub heads : fs ≡ values g 0 (take k (keys g main))
 
-pub first_lays : (g : Drafts) (main : Key) → Lays g main 0 [] []
-first_lays g main = record { code = refl; heads = refl }
-
 long : (g : Drafts) (main : Key) (k : ℕ) (is : List Instr) (fs : List FunctionValue) → Lays g main k is fs → length is ≡ total g (take k (keys g main))
 long g main k is fs s = ap length s.code ∙ code_length g (keys g main) 0 (take k (keys g main))
 

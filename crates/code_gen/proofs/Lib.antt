@@ -4,6 +4,7 @@ pub mod Fine
 pub mod Lows
 pub mod Comes
 pub mod Turns
+pub mod TypedFields
 pub mod Handed
 pub mod CallEnds
 pub mod Passed
@@ -13,6 +14,7 @@ pub mod EventsMeant
 pub mod Meant
 pub mod CallsRun
 pub mod Closed
+mod QuarkExample
 pub mod Room
 pub mod Events
 pub mod Worklist
@@ -20,6 +22,12 @@ pub mod Rounds
 pub mod Spans
 pub mod Fitted
 pub mod Drafted
+pub mod TypeRows
+pub mod TypedPaths
+pub mod TypedKinds
+pub mod TypedBodies
+pub mod LaidOut
 pub mod ElementCode
+pub mod ElementMeans
 pub mod LayRounds
 pub mod Built

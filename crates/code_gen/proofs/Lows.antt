@@ -11,7 +11,7 @@ use Rattle.stack_code.specs.declared.instr.Answer.TheVariants.{Nothing, Number a
 use Rattle.stack_code.specs.declared.instr.Instr.{Instr}
 use Rattle.stack_code.proofs.Passes.{if_gives}
 use Rattle.code_gen.specs.Pieces.{Key, Piece, none, seq, plain, asks, pick, only, loop, ever, out, next, gives, leaves}
-use Rattle.code_gen.specs.Kinds.{Setting, below, ends, shapes, Fits, Shallow}
+use Rattle.code_gen.specs.Kinds.{Setting, ends, shapes, Fits, Shallow}
 use Rattle.code_gen.specs.Depths.{takes, makes, answer_count, at_most, and_depth, depth}
 use Rattle.code_gen.proofs.Laid.{shallow_front, shallow_back}
 
@@ -94,10 +94,6 @@ answer_long : (r : Answer) (ks : Kinds) → length (answer_on r ks) ≡ answer_c
 answer_long Nothing ks = omega arith
 answer_long NumberBack ks = omega arith
 answer_long AtomBack ks = omega arith
-
-below_long : (ks : Kinds) → length (below ks) ≡ length ks - 1
-below_long [] = refl
-below_long (k ∷ ks) = omega arith
 
 pub shallow_join : (a b : List Kinds) → Shallow a → Shallow b → Shallow (a ++ b)
 shallow_join [] b x y = y

@@ -72,7 +72,7 @@ module _ (g : Program) (lo : IsLaidOut g) where
   callee_within (AFunction c f ∷ rest) x b o h room = room c h.0
   callee_within (Own ∷ rest) x b o h room = absurd h
   callee_within (Local i ∷ rest) x b o h room = absurd h
-  callee_within (Constant num v ∷ rest) x b o h room = tt
+  callee_within (Constant num v ∷ rest) x b o h room = absurd h
   callee_within (ABuilt v ∷ rest) x b o h room = tt
 
   -- what a path of a function of class c names, from a first bit on, lies in a state

@@ -1,8 +1,8 @@
 -- One round of the worklist, and its end.
-use Rattle.std.proofs.Common.{◌≡◌, ℕ, zero, suc, ◌+◌, ◌≤◌, List, [], ◌∷◌, ◌++◌, length, Some, None, refl, sym, ap, ◌∙◌, arith, take, length-append}
+use Rattle.std.proofs.Common.{◌≡◌, ℕ, zero, suc, ◌+◌, ◌≤◌, List, [], ◌∷◌, ◌++◌, length, Some, None, refl, ap, ◌∙◌, arith, take, length-append}
 use Rattle.std.specs.Prelude.{slice_get, map}
 use Rattle.std.proofs.lemmas.List.{length-take}
-use Rattle.code_gen.specs.Pieces.{Key, Piece, size, add_calls}
+use Rattle.code_gen.specs.Pieces.{Key, size, add_calls}
 use Rattle.code_gen.specs.Drafts.{Drafts, key_piece, on_key, reach, total}
 use Rattle.code_gen.proofs.Closed.{get_front, get_some, Grown, calls_grown, reach_grown, few_keys}
 
@@ -59,9 +59,6 @@ module _ (g : Drafts) where
       let x = calls_grown (key_piece g f) ks in
       let lt = get_some ks k f e in
       ap (take (suc k)) x.1 ∙ take_one (ks ++ x.0) k f (get_front ks x.0 k lt ∙ e) ∙ ap (λ l. l ++ (f ∷ [])) (take_more ks x.0 k (omega (arith, lt)))
-
-  pub next_pieces : (k : ℕ) (ks : List Key) (f : Key) (qs : List Piece) → slice_get ks k ≡ Some f → qs ≡ map (key_piece g) (take k ks) → qs ++ (key_piece g f ∷ []) ≡ map (key_piece g) (take (suc k) (add_calls (key_piece g f) ks))
-  next_pieces k ks f qs e h = ap (λ l. l ++ (key_piece g f ∷ [])) h ∙ sym (map_join (key_piece g) (take k ks) (f ∷ [])) ∙ ap (map (key_piece g)) (sym (next_taken k ks f e))
 
   pub next_total : (k : ℕ) (ks : List Key) (f : Key) → slice_get ks k ≡ Some f → total g (take (suc k) (add_calls (key_piece g f) ks)) ≡ total g (take k ks) + size (key_piece g f)
   next_total k ks f e = ap (total g) (next_taken k ks f e) ∙ (let h = total_join g (take k ks) (f ∷ []) in omega (arith, h))

@@ -54,7 +54,7 @@ abbrev pub PathIn : Program → Option ℕ → List Step → Type 0
 PathIn g o [] = Unit {0}
 PathIn g o (Member c m ∷ rest) = (o ≡ Some c) × PathIn g (class_in (field_at g c m).ty) rest
 PathIn g o (AFunction c f ∷ rest) = (o ≡ Some c) × IsLast rest
-PathIn g o (Constant num v ∷ rest) = IsLast rest
+PathIn g o (Constant num v ∷ rest) = ⊥
 PathIn g o (ABuilt b ∷ rest) = IsLast rest
 PathIn g o (Own ∷ rest) = ⊥
 PathIn g o (Local i ∷ rest) = ⊥
@@ -63,6 +63,7 @@ PathIn g o (Local i ∷ rest) = ⊥
 abbrev pub HasPath : Program → ℕ → List Step → Type 0
 HasPath g c (Own ∷ rest) = PathIn g (Some c) rest
 HasPath g c (Local i ∷ rest) = (d : ℕ) × PathIn g (Some d) rest
+HasPath g c (Constant num v ∷ rest) = IsLast rest
 HasPath g c steps = PathIn g (Some c) steps
 
 -- what is read gives this kind

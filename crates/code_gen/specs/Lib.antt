@@ -3,9 +3,11 @@ pub mod Drafts
 pub mod Endings
 pub mod Kinds
 pub mod Limits
+pub mod Means
 pub mod Runs
 pub mod Scheme
 pub mod Kinded
+pub mod Named
 pub mod Compiled
 pub mod Laws
 pub mod Depths

@@ -1,7 +1,14 @@
 //! Laws of code that is made of pieces.
-ghost use Rattle.std.specs.Prelude.{◌≡◌, ℕ, length, Some};
+ghost use Rattle.std.specs.Prelude.{◌≡◌, ℕ, List, map, length, Some, None};
 ghost use Rattle.stack_code.specs.Valid.{Kinds};
+ghost use Rattle.ulam_tree.specs.Resolved as resolved;
+ghost use Rattle.ulam_tree.specs.Typed as typed;
+ghost use Rattle.ulam_tree.specs.Ways.{NoneContainsItself};
+ghost use Rattle.atom_layout.specs.Layouts.{layout_of, first_wide};
+ghost use Rattle.ulam_types.specs.Programs.{class_sig};
+ghost use Rattle.ulam_types.specs.Well.{IsWellProgram};
 ghost use Rattle.ulam_meaning.specs.Programs.{Program};
+ghost use Rattle.ulam_meaning.specs.Laws.{IsLaidOut};
 ghost use Rattle.ulam_meaning.specs.Events.{behave_key};
 ghost use Rattle.code_gen.specs.Pieces.{Key, Piece};
 ghost use Rattle.code_gen.specs.Drafts.{Drafts};
@@ -10,6 +17,7 @@ ghost use Rattle.code_gen.specs.Depths.{depth};
 ghost use Rattle.code_gen.specs.Limits.{IsShort};
 ghost use Rattle.code_gen.specs.Scheme.{draft_of};
 ghost use Rattle.code_gen.specs.Kinded.{IsKinded};
+ghost use Rattle.code_gen.specs.Named.{IsNamedProgram, HasBehave};
 ghost use Rattle.code_gen.specs.Compiled.{IsCompiled};
 ghost use Rattle.code_gen.specs.Laws.{IsReady, IsRight};
 
@@ -27,10 +35,15 @@ pub fn depths()
     ensures shallow { (n : Setting) (q : Piece) (ks : Kinds) → Fits n q ks → Shallow (shapes n q ks) → depth n.drafts q (length ks) ≡ Some (length (ends n q ks)) }
 {}
 
-/// Where the trees of a program have the right kinds and the limits let the code of an element
+/// Typed classes with the heads of resolved ones are laid out by the layout of these, where none
+/// contains itself and none is too wide. A program that is well typed, named and laid out has trees
+/// of the right kinds. Where the trees of
+/// a program have the right kinds and the limits let the code of an element
 /// through, its functions are ready; and this code is valid, and on each window and seed it has the
 /// window and the ending that the element's event means.
 pub fn compiled()
+    ensures layout { (classes : List resolved.Class) (typed : List typed.Class) → NoneContainsItself classes → first_wide classes ≡ None → map class_sig typed ≡ map class_sig classes → IsLaidOut (record { classes = typed; layout = layout_of classes }) }
+    ensures kinds { (g : Program) (c : ℕ) → IsWellProgram g.classes → IsNamedProgram g → IsLaidOut g → HasBehave g c → IsKinded g c }
     ensures ready { (g : Program) (c : ℕ) → IsKinded g c → IsReady (draft_of g) (behave_key g c) }
     ensures compiled { (g : Program) (kind c : ℕ) → IsKinded g c → IsShort (draft_of g) (behave_key g c) → IsCompiled g kind c }
 {}

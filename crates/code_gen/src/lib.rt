@@ -5,6 +5,7 @@
 mod calls;
 mod depth;
 mod element;
+mod element_law;
 mod emit;
 mod gather;
 mod law;
@@ -14,6 +15,7 @@ mod size;
 mod source;
 
 pub use element::build;
+pub use element_law::same_meaning;
 pub use law::{compiled, depths, right};
 pub use piece::{Key, Piece};
 pub use source::{Head, Source};

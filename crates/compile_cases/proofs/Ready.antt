@@ -1,5 +1,5 @@
 -- The code of the two functions, that they are ready and short, and what an event of them leaves.
-use Rattle.std.proofs.Common.{◌≡◌, ℕ, zero, suc, List, [], ◌∷◌, refl, arith, true}
+use Rattle.std.proofs.Common.{◌≡◌, ℕ, zero, suc, [], ◌∷◌, refl, arith, true}
 use Rattle.std.specs.Prelude.{pos, replicate, codes as letters, Some, None}
 use Rattle.window_sites.specs.Window.{WindowValue}
 use Rattle.stack_code.specs.Sorts.{atom_of}

@@ -1,5 +1,5 @@
 -- Two functions, of which the first calls the second with an argument in a loop.
-use Rattle.std.specs.Prelude.{ℕ, zero, suc, List, [], ◌∷◌, pos, codes}
+use Rattle.std.specs.Prelude.{ℕ, zero, suc, [], ◌∷◌, pos, codes}
 use Rattle.stack_code.specs.declared.instr.Operand.TheVariants.{Number}
 use Rattle.stack_code.specs.declared.instr.Answer.TheVariants.{Nothing, Number as NumberBack}
 use Rattle.stack_code.specs.declared.instr.Instr.TheVariants.{PushNum, LoadLocal, StoreLocal, SubI}

@@ -5,4 +5,5 @@ pub mod Named
 pub mod NewNames
 pub mod Numbering
 pub mod OneSet
+pub mod SomeSet
 pub mod Telling

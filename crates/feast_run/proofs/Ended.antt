@@ -1,5 +1,5 @@
 -- From what a call comes to say to how it ends.
-use Rattle.std.proofs.Common.{ℕ, List, Option, Some, None, sym, subst, inl, inr, ◌⊎◌}
+use Rattle.std.proofs.Common.{ℕ, List, Option, sym, subst, inl, inr}
 use Rattle.feast_base.specs.Outside.{Stock, Told}
 use Rattle.feast_run.specs.Ending.{ComesTo, Ends, PutWith}
 use Rattle.feast_run.specs.Forms.{FormValue}

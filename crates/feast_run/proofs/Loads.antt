@@ -1,7 +1,7 @@
 -- The loads of element files, one after another.
-use Rattle.std.proofs.Common.{ℕ, ◌≡◌, ◌≤◌, List, [], ◌∷◌, ◌++◌, length, Option, Some, refl, sym, ap, subst, ◌∙◌, inr, append_assoc}
+use Rattle.std.proofs.Common.{ℕ, ◌≡◌, List, [], ◌∷◌, ◌++◌, Option, Some, refl, sym, ap, subst, ◌∙◌, inr, append_assoc}
 use Rattle.std.proofs.lemmas.List.{append-nil}
-use Rattle.feast_base.specs.Outside.{File, file_of}
+use Rattle.feast_base.specs.Outside.{File}
 use Rattle.feast_run.proofs.Laws.{went}
 use Rattle.feast_run.specs.Outcomes.{Outcome, passes}
 use Rattle.feast_run.specs.Promises.{AreFiles}

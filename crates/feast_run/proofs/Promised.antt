@@ -1,5 +1,5 @@
 -- The promises of a call, from how it ends.
-use Rattle.std.proofs.Common.{ℕ, ◌≡◌, List, [], ◌∷◌, ◌++◌, length, Option, Some, None, refl, sym, ap, subst, ◌∙◌, inl, inr, ◌⊎◌, arith}
+use Rattle.std.proofs.Common.{ℕ, ◌≡◌, List, [], ◌∷◌, ◌++◌, length, Option, Some, None, refl, sym, ap, subst, ◌∙◌, inl, inr, arith}
 use Rattle.std.proofs.lemmas.List.{length-append, append_cancel_left}
 use Rattle.feast_base.specs.Outside.{File, Grows, Stock, Told}
 use Rattle.feast_base.specs.Refusals.{refusal_line, unreadable_line}
@@ -7,7 +7,7 @@ use Rattle.feast_run.proofs.Laws.{went}
 use Rattle.feast_run.proofs.Loads.{loaded_files}
 use Rattle.feast_run.proofs.Sure.{form_accepts, form_sure}
 use Rattle.feast_run.specs.Answer.{form_answer}
-use Rattle.feast_run.specs.Ending.{Comes, Ends, Leaves, Whole, status_of, status_of_input, text_of}
+use Rattle.feast_run.specs.Ending.{Ends, Leaves, Whole, status_of, status_of_input, text_of}
 use Rattle.feast_run.specs.Forms.{FormValue, check, run}
 use Rattle.feast_run.specs.Outcomes.{Accepts, IsSure, Outcome, RefusedValue, Stage, passes, refuses, misses}
 use Rattle.feast_run.specs.Promises.{Agrees, CheckTold, Complete, Exactly, Headline, Lines, RanTold, Shows, UsageExactly}

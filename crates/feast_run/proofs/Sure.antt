@@ -9,7 +9,7 @@ use Rattle.feast_run.proofs.Laws.{then_accepts, then_sure, then_one, gives_one, 
 use Rattle.feast_run.proofs.Worlds.{says_one}
 use Rattle.feast_run.specs.Answer.{form_answer}
 use Rattle.feast_run.specs.Forms.{FormValue, check, run}
-use Rattle.feast_run.specs.Outcomes.{passes, refuses, Accepts, IsSure, IsOne, RefusedValue, refused}
+use Rattle.feast_run.specs.Outcomes.{refuses, Accepts, IsSure, IsOne, RefusedValue, refused}
 use Rattle.feast_run.specs.Promises.{IsGood}
 use Rattle.feast_run.specs.Run.{run_report}
 use Rattle.feast_run.specs.Stages.{ReadyValue, builds, load, load_more, set_of, world_of, element_of, with_element, ready, world_limit, element_limit}

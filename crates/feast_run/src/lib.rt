@@ -1,6 +1,7 @@
 //! One call of the simulator, from its words to what it writes.
 //!
-//! So far it does `run WORLD FILE` for a world of one tile and an element that swaps two sites.
+//! So far it does `check FILE..` for all element files, and `run WORLD FILE` for a world of one
+//! tile and an element that swaps two sites.
 #![tactic(auto)]
 
 mod element;

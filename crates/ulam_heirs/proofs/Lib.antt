@@ -1,5 +1,5 @@
 mod Splits
-mod Ordered
+pub mod Ordered
 mod Nearest
 mod Chains
 mod Counts

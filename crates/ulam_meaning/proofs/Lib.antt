@@ -2,5 +2,7 @@ pub mod EventLaws
 mod Examples
 mod Failures
 pub mod Kept
+pub mod Layouts
+pub mod Numbers
 pub mod Rounds
 pub mod Shorthand

@@ -1,7 +1,9 @@
 -- What the laws of meaning speak of.
-use Rattle.std.specs.Prelude.{◌≡◌, ◌⊎◌, ℕ, ◌≤◌, ◌<◌, ◌^◌, Bool, length, map, sum}
+use Rattle.std.specs.Prelude.{◌≡◌, ◌⊎◌, ℕ, ◌≤◌, ◌<◌, ◌^◌, Bool, List, length, map, sum}
 use Rattle.bit_field.specs.Atom.{AtomValue, empty_atom}
 use Rattle.window_sites.specs.Window.{WindowValue, atom_at, live_at}
+use Rattle.ulam_tree.specs.Resolved as r
+use Rattle.ulam_tree.specs.Typed as t
 use Rattle.atom_layout.specs.Layouts.{class_at, member_bits}
 use Rattle.ulam_meaning.specs.Programs.{Program, Field, fields, members_of, count_elements}
 use Rattle.ulam_meaning.specs.Runs.{Store, Outcome, gives, fails, wrong}
@@ -43,3 +45,7 @@ bits_of g c = sum (class_at g.layout c)
 pub record IsLaidOut (g : Program) : Type 0 where
   pub widths : (c : ℕ) → class_at g.layout c ≡ map (λ (f : Field). member_bits (bits_of g) f.ty f.length) (fields (members_of g c))
   pub most : (c : ℕ) → bits_of g c ≤ 71
+
+-- Classes before and after their types are known have the same data members.
+abbrev pub SameFields : List r.Class → List t.Class → Type 0
+SameFields cs us = map (λ (c : r.Class). fields c.members) cs ≡ map (λ (u : t.Class). fields u.members) us

@@ -4,6 +4,7 @@ use Rattle.std.specs.Option.{option_map_or}
 use Rattle.std.specs.Str.{bytes_eq}
 use Rattle.ulam_tree.specs.declared.resolved.Ty.{Ty}
 use Rattle.ulam_tree.specs.declared.resolved.Ty.TheVariants as y
+use Rattle.ulam_tree.specs.Statements as s
 use Rattle.ulam_tree.specs.Typed as t
 use Rattle.ulam_tree.specs.Locals.{all_locals}
 
@@ -30,10 +31,10 @@ param_types [] = []
 param_types (p ∷ ps) = p.of.ty ∷ param_types ps
 
 -- the data members of a class, in order
-abbrev pub fields : List t.Member → List Field
+abbrev pub fields : {E A : Type 0} → List (s.Member E A) → List Field
 fields [] = []
-fields (t.field of w n ∷ ms) = record { ty = of.ty; length = n } ∷ fields ms
-fields (t.function of w ps b ∷ ms) = fields ms
+fields (s.field of w n ∷ ms) = record { ty = of.ty; length = n } ∷ fields ms
+fields (s.function of w ps b ∷ ms) = fields ms
 
 -- the functions of a class, in order
 abbrev pub functions : List t.Member → List Function

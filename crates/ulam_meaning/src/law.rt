@@ -3,13 +3,16 @@ ghost use Rattle.std.specs.Prelude.{◌≡◌, ◌<◌, ℕ, suc, List, Option, 
 ghost use Rattle.bit_field.specs.Atom.{empty_atom};
 ghost use Rattle.window_sites.specs.Window.{WindowValue, IsWindow, atom_at, live_at};
 ghost use Rattle.datum.specs.declared.Datum.{Datum};
+ghost use Rattle.ulam_tree.specs.Resolved as resolved;
 ghost use Rattle.ulam_tree.specs.Typed as typed;
+ghost use Rattle.ulam_tree.specs.Ways.{NoneContainsItself};
+ghost use Rattle.atom_layout.specs.Layouts.{first_wide, layout_of};
 ghost use Rattle.ulam_meaning.specs.Programs.{Program, element_of};
 ghost use Rattle.ulam_meaning.specs.Paths.{Key, Scene};
 ghost use Rattle.ulam_meaning.specs.Runs.{Event, Store};
 ghost use Rattle.ulam_meaning.specs.Statements.{loop, if_any, exec, exec_part};
 ghost use Rattle.ulam_meaning.specs.Events.{calls_at, behaves, emptied, failure, event_of, after};
-ghost use Rattle.ulam_meaning.specs.Laws.{IsKnown, EachAtom, HasState, KeepsMarks, TakesTurns, IsFailure, IsLaidOut};
+ghost use Rattle.ulam_meaning.specs.Laws.{IsKnown, EachAtom, HasState, KeepsMarks, TakesTurns, IsFailure, IsLaidOut, SameFields};
 
 /// What holds of every program, window and seed.
 ///
@@ -34,4 +37,10 @@ pub fn laws()
     ensures failed { (program : Program) (w : WindowValue) (seed class n : ℕ) → element_of program (atom_at w 0).kind ≡ Some class → failure (behaves (event_of w seed) program class w) ≡ Some n → after program w seed ≡ emptied w }
     ensures idle { (program : Program) (w : WindowValue) (seed : ℕ) → atom_at w 0 ≡ empty_atom → after program w seed ≡ w }
     ensures stranger { (program : Program) (w : WindowValue) (seed : ℕ) → element_of program (atom_at w 0).kind ≡ None → after program w seed ≡ w }
+{}
+
+/// Classes without one that contains itself or is too wide, and the same classes with their types:
+/// the layout of the former is one of the latter.
+pub fn laid_out()
+    ensures { (classes : List resolved.Class) (typed : List typed.Class) → NoneContainsItself classes → first_wide classes ≡ None → SameFields classes typed → IsLaidOut (record { classes = typed; layout = layout_of classes }) }
 {}

@@ -1,6 +1,8 @@
+use Rattle.code_gen.proofs.LaidOut.{laid_out}
+use Rattle.code_gen.proofs.TypedBodies.{program_kinded}
 use Rattle.code_gen.proofs.Drafted.{kinded_ready}
 use Rattle.code_gen.proofs.ElementCode.{kinded_compiled}
 use Rattle.code_gen.proofs.law.compiled.Goals as goal
 
 pub returns : goal.returns
-returns c = record { ready = kinded_ready; compiled = kinded_compiled }
+returns c = record { layout = laid_out; kinds = program_kinded; ready = kinded_ready; compiled = kinded_compiled }
