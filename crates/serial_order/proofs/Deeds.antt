@@ -1,5 +1,5 @@
 -- What an event did in its hold of a needed edge: what it found, and what it left in each register.
-use Rattle.std.proofs.Common.{ℕ, zero, suc, ◌≡◌, ◌≢◌, ◌≤◌, ◌<◌, ◌+◌, ◌-◌, ◌*◌, ◌/◌, ◌%◌, ◌^◌, List, refl, sym, ap, subst, arith, ◌⊎◌, inl, inr, ⊎_elim, Bool, true, false, Option, Some, None, ◌∙◌, ◌==◌}
+use Rattle.std.proofs.Common.{ℕ, ◌≡◌, ◌≢◌, ◌≤◌, ◌<◌, ◌+◌, ◌-◌, ◌*◌, ◌/◌, ◌%◌, ◌^◌, List, refl, sym, ap, subst, arith, ◌⊎◌, inl, inr, ⊎_elim, Bool, true, false, Option, Some, None, ◌∙◌, ◌==◌}
 use Rattle.std.specs.Prelude.{slice_get}
 use Rattle.std.specs.Int.{bit_at}
 use Rattle.std.proofs.lemmas.Nat.{pow_pos, div_below}
@@ -20,7 +20,7 @@ use Rattle.list_laws.proofs.Members.{In}
 use Rattle.tile_core.specs.Values.{event_site}
 use Rattle.tile_core.specs.Turns.{Won, Turn, IsWon, IsEventHold, accesses_at, cell_left, atom_for}
 use Rattle.serial_order.proofs.Ground.{in_has, end_small, placed, inside, inside_of}
-use Rattle.serial_order.proofs.Histories.{left_in}
+use Rattle.serial_order.proofs.Histories.{left_in, end_two}
 
 -- whether the shared site k of the edge is a live site of the window at c
 abbrev pub is_near : MapValue → Site → Option Site → Bool
@@ -45,11 +45,6 @@ bit_in word k = bit_at word (k % 64) == 1
 
 pub bit_clear : (k : ℕ) → bit_in 0 k ≡ false
 bit_clear k = let p : 0 < 2 ^ (k % 64) = pow_pos (k % 64) in let z : 0 / 2 ^ (k % 64) < 1 = div_below 0 (2 ^ (k % 64)) 1 p (omega (arith, p)) in let w : 0 / 2 ^ (k % 64) ≡ 0 = omega (arith, z) in rw w refl
-
-end_two : (n : ℕ) → n < 2 → (n ≡ 0) ⊎ (n ≡ 1)
-end_two zero lt = inl refl
-end_two (suc zero) lt = inr refl
-end_two (suc (suc n)) lt = absurd (omega (arith, lt))
 
 word_inside : (sites k : ℕ) → k < sites → k / 64 < news_words sites
 word_inside sites k lt = omega (arith, lt)

@@ -1,13 +1,12 @@
 -- The cells of a site on a tile's edges, edge by edge, and what the words of a site say.
-use Rattle.std.proofs.Common.{ℕ, zero, suc, ◌≡◌, ◌<◌, ◌≤◌, ◌+◌, ◌-◌, ◌*◌, List, [], ◌∷◌, refl, sym, ap, arith, Bool, true, false, Option, Some, None, ◌∙◌, ◌==◌, ◌&&◌, length}
-use Rattle.std.specs.Prelude.{filter, slice_index_or, slice_get, if◌then◌else◌}
+use Rattle.std.proofs.Common.{ℕ, suc, ◌≡◌, ◌<◌, ◌≤◌, ◌+◌, ◌-◌, ◌*◌, List, ◌∷◌, refl, sym, ap, arith, Bool, true, false, Option, Some, None, ◌∙◌, ◌==◌, ◌&&◌, length}
+use Rattle.std.specs.Prelude.{filter, if◌then◌else◌}
 use Rattle.std.specs.List.{range_with_len}
 use Rattle.std.specs.Option.{option_map}
 use Rattle.std.proofs.lemmas.List.Quantifiers.{position-Some}
 use Rattle.bit_field.specs.Atom.{LeavesGap}
-use Rattle.feast_base.specs.Edges.{registers_of}
-use Rattle.tile_map.specs.Plane.{Site, MapValue, tiles_of}
-use Rattle.tile_map.specs.Edges.{pairs_of, pair_at, is_in_pair, has_end, edges_at, shared_of, register_of}
+use Rattle.tile_map.specs.Plane.{Site, MapValue}
+use Rattle.tile_map.specs.Edges.{pairs_of, has_end, edges_at, shared_of, register_of}
 use Rattle.edge_lock.specs.History.{trace}
 use Rattle.edge_lock.proofs.SharedHolds.{allowed_value}
 use Rattle.border_cache.specs.Cells.{CellValue, newer, newest}

@@ -113,9 +113,6 @@ module _ (m : MapValue) (plane : IsPlane m) where
       go None is q = absurd (cc (q))
       go (Some q) is e = is ∙ ap Some (one_site g of s q live (live_of c q (plane.windows.site c q n le is)) (grind (arith, nat_tests, e)))
 
-  abbrev after_put : GridValue → Site → WindowValue → GridValue
-  after_put g c w = put_window g c.x c.y w
-
   atom_is : (g : GridValue) → IsGridOf m g → IsGrid g → (c s : Site) (w : WindowValue) → is_live m s ≡ true → site_atom (put_window g c.x c.y w) s.x s.y ≡ atom_left g w (index g s) (sites_at g c.x c.y (index g s) site_numbers)
   unfolding put_window
   atom_is g of good c s w live =

@@ -6,6 +6,7 @@ use Rattle.std.proofs.lemmas.Bool.Decides.{nat_tests}
 use Rattle.std.proofs.lemmas.List.Quantifiers.{position-Some}
 use Rattle.std.proofs.lemmas.Option.{slice_get-get_or}
 use Rattle.list_laws.proofs.Members.{In}
+use Rattle.serial_order.proofs.Lists.{past_end}
 use Rattle.list_laws.proofs.Tests.{both}
 use Rattle.event_journal.proofs.Journals.{contains_of, of_contains}
 use Rattle.tile_map.specs.Plane.{Site, MapValue, tiles_of, is_on, is_live, is_held, owner_of, in_plane, in_window}
@@ -16,10 +17,6 @@ use Rattle.border_cache.specs.Windows.{has, end_at, place_of}
 -- the tile is an end of the edge
 abbrev pub IsEnd : MapValue → ℕ → ℕ → Type 0
 IsEnd m t e = (low_end m e ≡ t) ⊎ (high_end m e ≡ t)
-
--- which end of the edge the tile is
-abbrev pub end_of : MapValue → ℕ → ℕ → ℕ
-end_of m e t = end_at m t e
 
 pub has_in : (e : ℕ) (ds : List ℕ) → has e ds ≡ true → In e ds
 has_in e [] h = absurd cc
@@ -43,11 +40,6 @@ end_small m e t = go (low_end m e == t)
     go : (b : Bool) → (if b then 0 else 1) < 2
     go true = omega arith
     go false = omega arith
-
-past_end : {A : Type 0} (xs : List A) (k : ℕ) (d : A) → length xs ≤ k → get_or xs k d ≡ d
-past_end [] k d le = refl
-past_end (x ∷ xs) zero d le = absurd (omega (arith, le))
-past_end (x ∷ xs) (suc k) d le = past_end xs k d (omega (arith, le))
 
 lt_or_not : (a b : ℕ) → (a < b) ⊎ (b ≤ a)
 lt_or_not a b = go (nat_lt a b) refl

@@ -101,7 +101,7 @@ in_keys (g ∷ hs) h i = ⊎_elim (λ e. inl (ap key e)) (λ j. inr (in_keys hs 
 all_in : {X : Type 0} (P : X → Type 0) (xs : List X) (x : X) → All P xs → In x xs → P x
 all_in P xs x a i = All-contains P xs x a (contains_of xs x i)
 
-end_two : (n : ℕ) → n < 2 → (n ≡ 0) ⊎ (n ≡ 1)
+pub end_two : (n : ℕ) → n < 2 → (n ≡ 0) ⊎ (n ≡ 1)
 end_two zero lt = inl refl
 end_two (suc zero) lt = inr refl
 end_two (suc (suc n)) lt = absurd (omega (arith, lt))

@@ -24,6 +24,7 @@ use Rattle.tile_core.specs.Values.{atoms_of, TileValue}
 use Rattle.tile_core.specs.Turns.{Won, Lost, Worn as WornTurn, Turn, Wins, Loses, Wears, records_of, abandoned_of}
 use Rattle.serial_order.specs.Scene.{Scene, IsOver, log_of_tile, logs_of, IsStopped, WearsLast, lists_at}
 use Rattle.serial_order.specs.Order.{records, abandoned, NoneIsWorn}
+use Rattle.serial_order.proofs.Lists.{past_end, none_past}
 use Rattle.serial_order.proofs.Tile.{Played, are_played}
 use Rattle.serial_order.proofs.TileLog as log
 use Rattle.serial_order.proofs.TileLog.{all_from}
@@ -125,9 +126,6 @@ module _ (s : Scene) (o : IsOver s) where
 
   pub played : (t : ℕ) → Played s.map s.meaning (atoms_of s.start) t (turns s o t)
   played t = are_played s.map s.meaning (atoms_of s.start) t (turns s o t) (each s o t)
-
-  all_records : List Record
-  all_records = flat_map logs.records_of (logs_of s.tiles)
 
   few_entries : (t : ℕ) (tile : TileValue) → slice_get s.tiles t ≡ Some tile → length tile.records + length tile.abandoned ≤ length (attempts s.plan t)
   few_entries t tile is = let r = tile_told s o t tile is in omega (arith, log.entries_few (turns s o t), r.count, ap length r.records, ap length r.abandoned)
@@ -264,17 +262,7 @@ module _ (s : Scene) (o : IsOver s) where
         where
           go : (p : Option TileValue) → slice_get s.tiles t ≡ p → (tile : TileValue) × (slice_get s.tiles t ≡ Some tile)
           go (Some tile) is = (tile, is)
-          go None is = absurd (let z = ap length (far s.plan.lists t (omega (arith, none s.tiles t is, o.count, o.lists))) in omega (arith, z, lt))
-            where
-              none : {A : Type 0} (xs : List A) (k : ℕ) → slice_get xs k ≡ None → length xs ≤ k
-              none [] k e = omega arith
-              none (x ∷ xs) zero e = absurd (cc (e))
-              none (x ∷ xs) (suc k) e = omega (arith, none xs k e)
-
-              far : (xs : List (List Attempt)) (k : ℕ) → length xs ≤ k → slice_index_or xs k [] ≡ []
-              far [] k le = refl
-              far (x ∷ xs) zero le = absurd (omega (arith, le))
-              far (x ∷ xs) (suc k) le = far xs k (omega (arith, le))
+          go None is = absurd (let z = ap length (past_end s.plan.lists t [] (omega (arith, none_past s.tiles t is, o.count, o.lists))) in omega (arith, z, lt))
 
       other_records : (k : ℕ) (u : TileValue) → k ≢ t → slice_get s.tiles k ≡ Some u → events_at t i u.records ≡ 0
       other_records k u ne is = count_none (λ (r : Record). (r.tile == t) && (r.attempt == i)) u.records (λ n j. not_other t i n.tile n.attempt (λ e. ne (sym (log.own_record s.map s.meaning (atoms_of s.start) k (turns s o k) (played k) n (subst (In n) (tile_told s o k u is).records j)) ∙ e)))

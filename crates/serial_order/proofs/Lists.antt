@@ -1,5 +1,6 @@
--- Lists turned round, and lists seen from their end.
-use Rattle.std.proofs.Common.{◌≡◌, List, [], ◌∷◌, ◌++◌, refl, sym, ap, ◌∙◌, inl, inr, ⊎_elim, append_assoc}
+-- Lists turned round, lists seen from their end, and what stands past the end of a list.
+use Rattle.std.proofs.Common.{ℕ, zero, suc, ◌≡◌, ◌≤◌, List, [], ◌∷◌, ◌++◌, None, length, get_or, refl, sym, ap, arith, ◌∙◌, inl, inr, ⊎_elim, append_assoc}
+use Rattle.std.specs.Prelude.{slice_get}
 use Rattle.std.proofs.lemmas.List.{append-nil}
 use Rattle.list_laws.proofs.Members.{In, in_either, in_left, in_right}
 
@@ -36,3 +37,14 @@ in_back (y ∷ xs) x i = ⊎_elim (λ j. inr (in_back xs x j)) (λ j. ⊎_elim (
 pub back_in : {A : Type 0} (xs : List A) (x : A) → In x xs → In x (back xs)
 back_in [] x i = absurd i
 back_in (y ∷ xs) x i = ⊎_elim (λ e. in_right (back xs) (y ∷ []) x (inl e)) (λ j. in_left (back xs) (y ∷ []) x (back_in xs x j)) i
+
+-- past the end of a list
+pub past_end : {A : Type 0} (xs : List A) (k : ℕ) (d : A) → length xs ≤ k → get_or xs k d ≡ d
+past_end [] k d le = refl
+past_end (x ∷ xs) zero d le = absurd (omega (arith, le))
+past_end (x ∷ xs) (suc k) d le = past_end xs k d (omega (arith, le))
+
+pub none_past : {A : Type 0} (xs : List A) (k : ℕ) → slice_get xs k ≡ None → length xs ≤ k
+none_past [] k e = omega arith
+none_past (x ∷ xs) zero e = absurd (cc (e))
+none_past (x ∷ xs) (suc k) e = omega (arith, none_past xs k e)

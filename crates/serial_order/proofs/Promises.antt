@@ -27,7 +27,7 @@ use Rattle.tile_core.specs.Turns.{Won, Lost, Wins, Loses, before}
 use Rattle.serial_order.specs.Scene.{Scene, IsOver, registers_at, history_at}
 use Rattle.serial_order.specs.Settled.{IsSettled, settled_cell}
 use Rattle.serial_order.specs.Order.{records, abandoned, IsReplayed, StampsAreSmall, TiesAreApart, Leads, arrives, goes, HasNoNews, HasOneOrder, FindsWhatStands}
-use Rattle.serial_order.proofs.Lists.{snocs}
+use Rattle.serial_order.proofs.Lists.{snocs, none_past}
 use Rattle.serial_order.proofs.Histories.{values, values_back}
 use Rattle.serial_order.proofs.Ground.{IsEnd, inside}
 use Rattle.serial_order.proofs.World.{before_in}
@@ -163,12 +163,7 @@ module _ (s : Scene) (o : IsOver s) where
           inside' = omega (arith, Rattle.serial_order.proofs.Ground.owner_inside s.map (laws s o) u live, o.count)
 
           go : (p : Option TileValue) → slice_get s.tiles (owner_of s.map u) ≡ p → site_atom g u.x u.y ≡ site_atom (replay s.meaning s.start (notes (events s o).0)) u.x u.y
-          go None is = absurd (none s.tiles (owner_of s.map u) inside' is)
-            where
-              none : {A : Type 0} (xs : List A) (k : ℕ) → k < length xs → slice_get xs k ≡ None → ⊥
-              none [] k lt e = omega (arith, lt)
-              none (x ∷ xs) zero lt e = cc (e)
-              none (x ∷ xs) (suc k) lt e = none xs k (omega (arith, lt)) e
+          go None is = absurd (let le = none_past s.tiles (owner_of s.map u) is in omega (arith, le, inside'))
           go (Some tile) is =
               let told = tile_told s o (owner_of s.map u) tile is in
               set.atoms u tile live is

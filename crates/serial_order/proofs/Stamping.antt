@@ -8,6 +8,7 @@ use Rattle.tile_map.specs.Plane.{MapValue}
 use Rattle.cell_grid.specs.declared.record.Record.{Record}
 use Rattle.list_laws.proofs.Members.{In, in_filter, filter_in, in_any, in_either, in_left, in_right}
 use Rattle.event_journal.specs.Accounts.{edges_of, are_linked, stamp_after, IsStamped}
+use Rattle.serial_order.proofs.Tile.{max_cases}
 use Rattle.serial_order.proofs.Stamps.{Linked, IsStamp, Stamped}
 
 abbrev top : ℕ → List Record → ℕ
@@ -18,9 +19,6 @@ max_left a b = grind arith
 
 max_right : (a b : ℕ) → b ≤ max a b
 max_right a b = grind arith
-
-max_cases : (a b : ℕ) → (max a b ≡ a) ⊎ (max a b ≡ b)
-max_cases a b = grind arith
 
 top_start : (a : ℕ) (xs : List Record) → a ≤ top a xs
 top_start a [] = omega arith

@@ -20,7 +20,7 @@ pub are_played : (m : MapValue) (meaning : WindowValue → ℕ → WindowValue) 
 are_played m meaning start t [] a = tt
 are_played m meaning start t (x ∷ xs) a = (a.0, are_played m meaning start t xs a.2)
 
-max_cases : (a b : ℕ) → (max a b ≡ a) ⊎ (max a b ≡ b)
+pub max_cases : (a b : ℕ) → (max a b ≡ a) ⊎ (max a b ≡ b)
 max_cases a b = grind arith
 
 pub greatest_first : (n : ℕ) (f : ℕ → ℕ) (es : List ℕ) → n ≤ greatest n f es

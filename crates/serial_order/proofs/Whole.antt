@@ -1,5 +1,5 @@
 -- From tiles that are over to a run: their turns, and the edges' histories turned round.
-use Rattle.std.proofs.Common.{ℕ, zero, suc, ◌≡◌, ◌≤◌, ◌<◌, ◌+◌, List, [], ◌∷◌, ◌++◌, refl, sym, ap, subst, arith, ◌⊎◌, inl, inr, ⊎_elim, Bool, true, false, Option, Some, None, ◌∙◌, ◌==◌, length, get_or}
+use Rattle.std.proofs.Common.{ℕ, zero, suc, ◌≡◌, ◌≤◌, ◌<◌, ◌+◌, List, [], ◌∷◌, ◌++◌, refl, sym, ap, subst, arith, ◌⊎◌, inl, inr, ⊎_elim, Bool, true, false, Option, Some, None, ◌∙◌, ◌==◌, length}
 use Rattle.std.specs.Prelude.{slice_get, if◌then◌else◌, nat_lt}
 use Rattle.std.proofs.lemmas.Bool.Decides.{nat_tests}
 use Rattle.bit_field.specs.Atom.{AtomValue}
@@ -23,7 +23,7 @@ use Rattle.border_cache.specs.Copies.{held_cell}
 use Rattle.tile_core.specs.Values.{atoms_of, TileValue, given_up_site}
 use Rattle.tile_core.specs.Turns.{Lost, Turn, Wins, Loses, Wears, IsLost, AreTurns, AreAttempts, IsAttemptOf, IsAttempt, records_of, abandoned_of, refusals_at, lists_of, cells_of}
 use Rattle.serial_order.specs.Scene.{Scene, IsOver, HasEnded, EdgeHistory, no_history, history_at, lists_at, end_lists_of, IsStopped}
-use Rattle.serial_order.proofs.Lists.{back}
+use Rattle.serial_order.proofs.Lists.{back, past_end, none_past}
 use Rattle.serial_order.proofs.Histories.{IsHistory, IsPlaced, history_back, ends_back, own_back, placed_back}
 use Rattle.serial_order.proofs.Ground.{IsEnd, apart, has_in, ends_of}
 use Rattle.serial_order.proofs.Tile.{are_played}
@@ -75,21 +75,6 @@ told m meaning start given lists t tile e h = record {
   ends = h.ends;
   cells = λ s held. h.cells s (subst (λ u. is_held m u s ≡ true) (sym e) held);
 }
-
-past_end : {A : Type 0} (xs : List A) (k : ℕ) (d : A) → length xs ≤ k → get_or xs k d ≡ d
-past_end [] k d le = refl
-past_end (x ∷ xs) zero d le = absurd (omega (arith, le))
-past_end (x ∷ xs) (suc k) d le = past_end xs k d (omega (arith, le))
-
-none_past : {A : Type 0} (xs : List A) (k : ℕ) → slice_get xs k ≡ None → length xs ≤ k
-none_past [] k e = omega arith
-none_past (x ∷ xs) zero e = absurd (cc (e))
-none_past (x ∷ xs) (suc k) e = omega (arith, none_past xs k e)
-
-past_none : {A : Type 0} (xs : List A) (k : ℕ) → length xs ≤ k → slice_get xs k ≡ None
-past_none [] k le = refl
-past_none (x ∷ xs) zero le = absurd (omega (arith, le))
-past_none (x ∷ xs) (suc k) le = past_none xs k (omega (arith, le))
 
 refusal_in : (m : MapValue) (t : ℕ) (l : Lost) (xs : List Turn) → In (Loses l) xs → In (refusal_of l.gone.attempt l.gone.holder_attempt) (lists_of m t xs l.gone.edge).refusals
 refusal_in m t l [] i = absurd i

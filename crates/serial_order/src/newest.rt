@@ -23,10 +23,7 @@ fn newer_of(own: (u32, Atom), low: u64, high: u64) -> (u32, Atom)
 {
     let stamp = (high >> 32) as u32;
     if own.0 < stamp {
-        (
-            stamp,
-            Atom::from_words(low, (high % (1u64 << 32)) as u32),
-        )
+        (stamp, Atom::from_words(low, (high % (1u64 << 32)) as u32))
     } else {
         own
     }
