@@ -2,7 +2,7 @@
 use Rattle.std.proofs.Common.{◌≡◌, ◌≢◌, ℕ, zero, suc, ◌+◌, ◌<◌, ◌≤◌, eqb, Bool, true, false, cond, true≢false, List, [], ◌∷◌, length, get_or, set, map, refl, sym, ap, ◌∙◌, subst, arith, length-set}
 use Rattle.std.specs.Prelude.{◌||◌, nat_lt, All}
 use Rattle.std.proofs.lemmas.Bool.Decides.{nat_tests}
-use Rattle.std.proofs.lemmas.List.{get_or-map, get_or_past, length-map}
+use Rattle.std.proofs.lemmas.List.{get_or-map, get_or_past, get_or_default, length-map}
 use mathlib.Core.Logic.{dite}
 use native.Mathlib.Decide.{ℕ_discrete}
 use Rattle.bit_field.specs.Atom.{AtomValue}
@@ -14,7 +14,7 @@ use Rattle.tile_map.specs.Laws.{IsPlane}
 use Rattle.draw_stream.specs.declared.attempt.Attempt.{Attempt}
 use Rattle.edge_lock.specs.EndLists.{EndLists, end_lists}
 use Rattle.edge_lock.specs.PlainEdges.{PlainEdgeValue, own_lists}
-use Rattle.edge_lock.specs.PlainBoard.{PlainBoardValue, no_edge, edge_at, is_end, end_of, registers_on, end_on, lists_of_tile, untouched_edge, Call, MayCall, effect_of, IsCall, Moved, stays, goes}
+use Rattle.edge_lock.specs.PlainBoard.{PlainBoardValue, no_edge, edge_at, is_end, end_of, registers_on, end_on, lists_of_tile, untouched_edge, Call, MayCall, effect_of, IsCall, Moved, stays, goes, IsKeptEdge}
 use Rattle.edge_lock.proofs.PlainLaws.{end_small, sees, effect_ends}
 use Rattle.edge_lock.proofs.PlainKept.{kept_effect, other_tiles_keep}
 use Rattle.edge_lock.proofs.PlainRules.{kept_none}
@@ -53,7 +53,7 @@ module _ (m : MapValue) (b d : PlainBoardValue) (n : ℕ) (call : Call) (w : IsC
   edge_called e lt =
       let s = sees b d n call w e in
       let x = edge_at b e in
-      let was = k.edges e lt in
+      let was = k.each e lt in
       let y = effect_of (end_on b e) call x in
       let ends = effect_ends (end_on b e) call x in
       dite (ℕ_discrete n e)
@@ -68,8 +68,12 @@ module _ (m : MapValue) (b d : PlainBoardValue) (n : ℕ) (call : Call) (w : IsC
   board_called : IsBoardOf m d
   board_called = record {
     count = ap (λ (v : PlainBoardValue). length v.edges) w.is ∙ (length-set b.edges n (effect_of (end_on b n) call (edge_at b n)) ∙ k.count);
-    edges = edge_called;
+    each = edge_called;
   }
+
+-- the histories of all edges of the board
+pub board_kept : (m : MapValue) (b : PlainBoardValue) → IsBoardOf m b → All IsKeptEdge b.edges
+board_kept m b k e d lt = let n = k.count in subst IsKeptEdge (sym (get_or_default b.edges e d no_edge lt)) (k.each e (omega (arith, lt, n))).kept
 
 -- so does any number of calls
 pub board_moved : (m : MapValue) (b c : PlainBoardValue) → Moved b c → IsBoardOf m b → IsBoardOf m c
@@ -78,7 +82,7 @@ board_moved m b c (goes _ d _ n call w rest) k = board_moved m d c rest (board_c
 
 -- a board is one of the plane whichever tile's end acts
 pub board_turned : (m : MapValue) (b c : PlainBoardValue) → c.edges ≡ b.edges → IsBoardOf m b → IsBoardOf m c
-board_turned m b c same k = record { count = ap (λ xs. length xs) same ∙ k.count; edges = λ e lt. subst (IsEdgeOf m e) (sym (ap (λ xs. get_or xs e no_edge) same)) (k.edges e lt) }
+board_turned m b c same k = record { count = ap (λ xs. length xs) same ∙ k.count; each = λ e lt. subst (IsEdgeOf m e) (sym (ap (λ xs. get_or xs e no_edge) same)) (k.each e lt) }
 
 pub lists_turned : (b c : PlainBoardValue) (t : ℕ) → c.edges ≡ b.edges → lists_of_tile c t ≡ lists_of_tile b t
 lists_turned b c t same = λ i e. own_lists (end_of (get_or (same i) e no_edge) t) (get_or (same i) e no_edge)
@@ -87,14 +91,14 @@ lists_turned b c t same = λ i e. own_lists (end_of (get_or (same i) e no_edge) 
 pub board_end : (m : MapValue) (b : PlainBoardValue) → IsBoardOf m b → b.acting < tiles_of m → IsEndOf m b.acting b.acting (registers_on b) (end_on b)
 board_end m b k lt = record {
   tile_is = refl;
-  registers_are = λ e h. let x = k.edges e (end_known m b.acting e lt h) in ap (λ c. cond c (edge_at b e).registers 0) (edge_is_end m e (edge_at b e) x b.acting h) ∙ x.registers;
-  end_is = λ e h. edge_end m e (edge_at b e) (k.edges e (end_known m b.acting e lt h)) b.acting;
+  registers_are = λ e h. let x = k.each e (end_known m b.acting e lt h) in ap (λ c. cond c (edge_at b e).registers 0) (edge_is_end m e (edge_at b e) x b.acting h) ∙ x.registers;
+  end_is = λ e h. edge_end m e (edge_at b e) (k.each e (end_known m b.acting e lt h)) b.acting;
 }
 
 -- the lists of a tile's edges stay where another tile's end acts
 pub lists_stay : (m : MapValue) (b c : PlainBoardValue) → IsBoardOf m b → Moved b c → (t : ℕ) → t < tiles_of m → t ≢ b.acting → AgreeOnEdges m t (lists_of_tile c t) (lists_of_tile b t)
 lists_stay m b c k moved t lt apart e own =
-    let x = k.edges e (end_known m t e lt own) in
+    let x = k.each e (end_known m t e lt own) in
     other_tiles_keep b c moved t e apart (edge_is_end m e (edge_at b e) x t own) x.kept
 
 -- a tile is underway by the lists of its own edges alone
@@ -170,7 +174,7 @@ module _ (m : MapValue) (b : PlainBoardValue) (made : b.edges ≡ map untouched_
   pub board_new : IsBoardOf m b
   board_new = record {
     count = ap (λ xs. length xs) made ∙ (length-map (sizes_of m) untouched_edge ∙ length-map (pairs_of m) (size_of m));
-    edges = λ e lt. subst (IsEdgeOf m e) (sym (new_edge e lt)) (record { lower = refl; higher = refl; registers = refl; kept = kept_none (registers_of (sites_on m e)) });
+    each = λ e lt. subst (IsEdgeOf m e) (sym (new_edge e lt)) (record { lower = refl; higher = refl; registers = refl; kept = kept_none (registers_of (sites_on m e)) });
   }
 
   pub nothing_happened : (t e : ℕ) → lists_of_tile b t e ≡ end_lists [] []

@@ -14,7 +14,7 @@ use Rattle.border_cache.specs.Copies.{IsEndOf}
 use Rattle.tile_core.specs.Values.{TileValue}
 use Rattle.tile_core.specs.Underway.{IsUnderway, IsSome, IsFreshTile}
 
--- edge e of the plane, with whatever history
+-- edge e of the plane, which keeps one history, whatever happened there
 pub record IsEdgeOf (m : MapValue) (e : ℕ) (edge : PlainEdgeValue) : Type 0 where
   pub lower : edge.lower ≡ low_end m e
   pub higher : edge.higher ≡ high_end m e
@@ -24,7 +24,7 @@ pub record IsEdgeOf (m : MapValue) (e : ℕ) (edge : PlainEdgeValue) : Type 0 wh
 -- the board has the edges of the plane
 pub record IsBoardOf (m : MapValue) (board : PlainBoardValue) : Type 0 where
   pub count : length board.edges ≡ length (pairs_of m)
-  pub edges : (e : ℕ) → e < length (pairs_of m) → IsEdgeOf m e (edge_at board e)
+  pub each : (e : ℕ) → e < length (pairs_of m) → IsEdgeOf m e (edge_at board e)
 
 -- the tile was made with the map, and in some way it is underway on this board, whoever's end acts there now
 pub record IsOnBoard (m : MapValue) (meaning : WindowValue → ℕ → WindowValue) (tile : TileValue) (board : PlainBoardValue) : Type 0 where
