@@ -33,7 +33,7 @@ use Rattle.serial_order.proofs.Ground.{IsEnd, inside}
 use Rattle.serial_order.proofs.World.{before_in}
 use Rattle.serial_order.proofs.Order.{one_writer}
 use Rattle.serial_order.proofs.Replay.{notes}
-use Rattle.serial_order.proofs.Settle.{HasEdges, grid_is_replay, replay_fits}
+use Rattle.serial_order.proofs.LastCells.{HasEdges, grid_is_replay, replay_fits}
 use Rattle.serial_order.proofs.Stamps.{Stamped, stamped, whole_cut, small}
 use Rattle.serial_order.proofs.Excuses.{IsExcused, excused}
 use Rattle.serial_order.proofs.NoNews.{no_news}
