@@ -1,14 +1,16 @@
 -- The report of a grid says its atoms.
 use Rattle.std.proofs.Common.{ℕ, ◌≡◌, ◌+◌, ◌-◌, ◌*◌, ◌/◌, ◌%◌, ◌^◌, ◌<◌, ◌≤◌, ◌==◌, Bool, true, false, List, [], ◌∷◌, ◌++◌, All, length, refl, ap, sym, ◌∙◌, subst, arith, inl, inr, ◌⊎◌, if◌then◌else◌}
 use Rattle.std.proofs.Math.Nat.{div-add-mod'}
-use Rattle.std.proofs.lemmas.List.Elements.{All-cons, All-head, All-nil, All-tail}
+use Rattle.std.specs.List.{flat_map}
+use Rattle.std.proofs.lemmas.List.Elements.{All-append, All-cons, All-head, All-nil, All-tail}
 use Rattle.std.proofs.lemmas.Bool.Decides.{eqb_tells}
 use Rattle.bit_field.specs.Atom.{AtomValue, IsAtom, empty_atom}
 use Rattle.cell_grid.specs.Grid.{GridValue}
 use Rattle.cell_grid.specs.declared.record.Record.{Record}
+use Rattle.event_journal.specs.Logs.{LogValue, abandoned_in, records_of}
 use Rattle.event_journal.specs.declared.abandoned.Abandoned.{Abandoned}
 use Rattle.text_lines.proofs.Joined.{text_one}
-use Rattle.grid_print.specs.OneReport.{AreSame, AreTypeNames, IsOneReport, IsReported, IsWord}
+use Rattle.grid_print.specs.OneReport.{AreAbandonedWords, AreRecordWords, AreSame, AreTypeNames, AreWords, IsOneReport, IsReported, IsWord}
 use Rattle.grid_print.specs.Report.{AreNamed, Shown, report_lines, shown, shown_at, shown_from, shown_one}
 use Rattle.grid_print.proofs.Lines.{ArePrinted, IsShown, lines_one, report_is}
 
@@ -122,25 +124,15 @@ atoms_one names width i (x ∷ xs) (y ∷ ys) wide small long p q f g e =
         let same = next rest in
         λ j. (first j).atom ∷ same j
 
-grid_small : (names : List (List ℕ)) (g : GridValue) (r : List Record) (a : List Abandoned) → IsReported names g r a → (1 ≤ g.width) × (0 + length g.atoms < 2 ^ 64)
-grid_small names g r a is =
-    let z = is.grid in
-    let p = product g.width g.height z.not_wider z.not_higher in
-    let size = z.whole in
-    let wide = z.wide in
-    (omega (arith, wide), omega (arith, p, size))
-  where
-    product : (n k : ℕ) → n ≤ 512 → k ≤ 512 → n * k ≤ 262144
-    product n k a b = grind arith
-
 printed_of : (names : List (List ℕ)) (g : GridValue) (r : List Record) (a : List Abandoned) → IsReported names g r a → ArePrinted names (shown g) r a
 printed_of names g r a is =
-    let z = grid_small names g r a is in
-    let s = are_shown names g.width 0 g.atoms z.0 z.1 is.named is.states in record {
+    let k = is.sites in
+    let s = are_shown names g.width 0 g.atoms is.wide (omega (arith, k)) is.named is.states in
+    let f = s.few in record {
       atoms = s.each;
       records = is.records;
       abandoned = is.abandoned;
-      many_atoms = let f = s.few in let k = z.1 in omega (arith, f, k);
+      many_atoms = omega (arith, f, k);
       many_records = is.many_records;
       many_abandoned = is.many_abandoned;
     }
@@ -152,10 +144,17 @@ one_report names are = λ g h r s a b p q e.
     let lines = text_one (report_lines names (shown g) r a) (report_lines names (shown h) s b) (report_is names (shown g) r a are x) (report_is names (shown h) s b are y) e in
     let same = lines_one names (shown g) (shown h) r s a b are x y lines in record {
       sites = same.0;
-      atoms = λ wide high.
-          let z = grid_small names g r a p in
-          let long : length g.atoms ≡ length h.atoms = p.grid.whole ∙ (λ i. wide i * high i) ∙ sym q.grid.whole in
-          atoms_one names g.width 0 g.atoms h.atoms z.0 z.1 long p.named q.named p.states q.states (same.0 ∙ ap (λ w. shown_from w 0 h.atoms) (sym wide));
+      atoms = λ wide long.
+          let k = p.sites in
+          atoms_one names g.width 0 g.atoms h.atoms p.wide (omega (arith, k)) long p.named q.named p.states q.states (same.0 ∙ ap (λ w. shown_from w 0 h.atoms) (sym wide));
       records = same.1;
       abandoned = same.2;
     }
+
+-- the entries of all logs
+pub all_entries : (logs : List LogValue) → All AreWords logs → (All AreRecordWords (flat_map records_of logs)) × (All AreAbandonedWords (abandoned_in logs))
+all_entries [] all = (All-nil _, All-nil _)
+all_entries (l ∷ ls) all =
+    let here = All-head AreWords l ls all in
+    let rest = all_entries ls (All-tail AreWords l ls all) in
+    (All-append AreRecordWords l.records (flat_map records_of ls) here.0 rest.0, All-append AreAbandonedWords l.abandoned (abandoned_in ls) here.1 rest.1)

@@ -1,8 +1,9 @@
 -- Reports of equal bytes.
 use Rattle.std.specs.Prelude.{ℕ, ◌≡◌, ◌≢◌, ◌^◌, ◌<◌, ◌≤◌, List, All, AllPairs, length, true}
 use Rattle.bit_field.specs.Atom.{AtomValue, IsAtom}
-use Rattle.cell_grid.specs.Grid.{GridValue, IsGrid}
+use Rattle.cell_grid.specs.Grid.{GridValue}
 use Rattle.cell_grid.specs.declared.record.Record.{Record}
+use Rattle.event_journal.specs.Logs.{LogValue}
 use Rattle.event_journal.specs.declared.abandoned.Abandoned.{Abandoned}
 use Rattle.feast_base.specs.TypeNames.{is_type_name}
 use Rattle.grid_print.specs.Report.{AreNamed, report, shown}
@@ -22,9 +23,14 @@ AreRecordWords r = IsWord r.stamp × IsWord r.tile × IsWord r.attempt × IsWord
 abbrev pub AreAbandonedWords : Abandoned → Type 0
 AreAbandonedWords a = IsWord a.tile × IsWord a.attempt × IsWord a.x × IsWord a.y × IsWord a.edge × IsWord a.holder × IsWord a.holder_attempt
 
--- what a report is made of: a grid that can be stored, whose atoms are empty or have a name, and entries of words
+-- the entries of a log
+abbrev pub AreWords : LogValue → Type 0
+AreWords l = All AreRecordWords l.records × All AreAbandonedWords l.abandoned
+
+-- what a report is made of: a grid of a width and so many sites, whose atoms are empty or have a name, and entries of words
 pub record IsReported (names : List (List ℕ)) (g : GridValue) (r : List Record) (a : List Abandoned) : Type 0 where
-  pub grid : IsGrid g
+  pub wide : 1 ≤ g.width
+  pub sites : IsWord (length g.atoms)
   pub named : AreNamed names g.atoms
   pub states : All IsAtom g.atoms
   pub records : All AreRecordWords r
@@ -36,7 +42,7 @@ pub record IsReported (names : List (List ℕ)) (g : GridValue) (r : List Record
 -- events, and the attempts that were given up
 pub record AreSame (g h : GridValue) (r s : List Record) (a b : List Abandoned) : Type 0 where
   pub sites : shown g ≡ shown h
-  pub atoms : g.width ≡ h.width → g.height ≡ h.height → g.atoms ≡ h.atoms
+  pub atoms : g.width ≡ h.width → length g.atoms ≡ length h.atoms → g.atoms ≡ h.atoms
   pub records : r ≡ s
   pub abandoned : a ≡ b
 
