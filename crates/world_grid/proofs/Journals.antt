@@ -92,11 +92,11 @@ module _ (m : MapValue) (lists : List (List Attempt)) (attempts : (t : ℕ) → 
   lines_live : (n : ℕ) (d e : Said) (ts : List (Option (List ℕ))) → read_lines m lists n d ts ≡ Ok e → Live d → Live e
   unfolding read_lines
   lines_live n d e [] h live = by_end n (is_over d.wants) d e h live
-  lines_live n d e (t ∷ ts) h live = on (line_step m lists n d t) refl h
+  lines_live n d e (t ∷ ts) h live = on (line_step m lists n d t) refl h (λ x is g. lines_live (n + 1) x e ts g (line_live n d x t is live))
     where
-      on : (r : Result Said LineFault) → line_step m lists n d t ≡ r → go_on n r (λ x. read_lines m lists (n + 1) x ts) ≡ Ok e → Live e
-      on (Err fault) is g = cc
-      on (Ok x) is g = lines_live (n + 1) x e ts g (line_live n d x t is live)
+      on : (r : Result Said LineFault) → line_step m lists n d t ≡ r → go_on n r (λ x. read_lines m lists (n + 1) x ts) ≡ Ok e → ((x : Said) → line_step m lists n d t ≡ Ok x → read_lines m lists (n + 1) x ts ≡ Ok e → Live e) → Live e
+      on (Err fault) is g rest = cc
+      on (Ok x) is g rest = rest x is g
 
   pub journal_live : (bytes : List ℕ) (d : Said) → read_report m lists bytes ≡ Ok d → All (IsLiveEvent m) d.journal
   unfolding read_report

@@ -1,9 +1,9 @@
 -- The rectangles of the tiles that are off, shut one after another.
-use Rattle.std.proofs.Common.{ℕ, ◌≡◌, ◌+◌, ◌*◌, ◌/◌, ◌%◌, ◌<◌, ◌≤◌, ◌==◌, Bool, true, false, not, ◌&&◌, List, length, get_or, map, replicate, refl, sym, ap, subst, ◌∙◌, arith}
+use Rattle.std.proofs.Common.{ℕ, ◌≡◌, ◌+◌, ◌*◌, ◌/◌, ◌%◌, ◌<◌, ◌≤◌, ◌==◌, Bool, true, false, not, ◌&&◌, List, ◌∷◌, length, get_or, map, drop, fold, replicate, refl, sym, ap, subst, ◌∙◌, arith}
 use Rattle.std.specs.Prelude.{nat_le, nat_lt}
 use Rattle.std.specs.List.{range_with_len}
 use Rattle.std.proofs.lemmas.Bool.Decides.{nat_tests}
-use Rattle.std.proofs.lemmas.List.{get_or-replicate}
+use Rattle.std.proofs.lemmas.List.{drop_more, get_or_default, get_or-replicate, length-replicate}
 use Rattle.std.proofs.lemmas.List.FromFn.{fill_by_all, get_or-map-range_with_len}
 use Rattle.std.proofs.lemmas.Nat.{rows, mod-mul-add, div-mul-add}
 use Rattle.list_laws.proofs.Tests.{both, together}
@@ -51,11 +51,11 @@ inside_is m k t lt s h = parts ∙ go (owner_of m s == t) refl
         rw (right, under) refl
 
     owned : owner_of m s ≡ t → (is_inside_part m.w (t % m.tx) s.x && is_inside_part m.h (t / m.tx) s.y) ≡ true
-    owned e = (both _ _ (subst (λ u. (nat_lt u (tiles_of m) && (is_inside_part m.w (u % m.tx) s.x && is_inside_part m.h (u / m.tx) s.y)) ≡ true) e (owner_owned m k s h))).1
+    owned e = (both (nat_lt t (tiles_of m)) (is_inside_part m.w (t % m.tx) s.x && is_inside_part m.h (t / m.tx) s.y) (subst (λ u. (nat_lt u (tiles_of m) && (is_inside_part m.w (u % m.tx) s.x && is_inside_part m.h (u / m.tx) s.y)) ≡ true) e (owner_owned m k s h))).1
 
     not_owned : (b : Bool) → (is_inside_part m.w (t % m.tx) s.x && is_inside_part m.h (t / m.tx) s.y) ≡ b → (owner_of m s == t) ≡ false → (is_inside_part m.w (t % m.tx) s.x && is_inside_part m.h (t / m.tx) s.y) ≡ false
     not_owned false is f = is
-    not_owned true is f = let e = owner-one m t s (together _ _ (lt_test _ _ lt) is) in absurd (differ (owner_of m s) t f (sym e))
+    not_owned true is f = let e = owner-one m t s (together (nat_lt t (tiles_of m)) (is_inside_part m.w (t % m.tx) s.x && is_inside_part m.h (t / m.tx) s.y) (lt_test t (tiles_of m) lt) is) in absurd (differ (owner_of m s) t f (sym e))
       where
         differ : (a b : ℕ) → (a == b) ≡ false → a ≡ b → ⊥
         differ a b f e = grind arith
@@ -91,7 +91,7 @@ shut_none m g e = subst (IsShutBelow m 0) (sym e) (record {
 })
   where
     all : (n : ℕ) → length (replicate n true) ≡ n
-    all n = grind arith
+    all n = length-replicate n true
 
     opened : (o : ℕ) (b : Bool) → not (nat_lt o 0 && b) ≡ true
     opened o b = let none : nat_lt o 0 ≡ false = grind (arith, nat_tests) in rw none refl
@@ -197,3 +197,16 @@ live_in m g x y h live =
     let a : x < g.width = let lt = test_lt _ _ inside.0 in omega (arith, lt, h.wide) in
     let b : y < g.height = let lt = test_lt _ _ inside.1 in omega (arith, lt, h.high) in
     record { column = a; row = b; marked = h.live x y a b ∙ live }
+
+-- the mark of a tile
+pub marked : (m : MapValue) → IsMap m → (t : ℕ) (b : Bool) → t < tiles_of m → b ≡ get_or m.off t b → b ≡ true → get_or m.off t false ≡ true
+marked m k t b lt e is = get_or_default m.off t false b (omega (arith, lt, k.marks)) ∙ sym e ∙ is
+
+pub unmarked : (m : MapValue) → IsMap m → (t : ℕ) (b : Bool) → t < tiles_of m → b ≡ get_or m.off t b → b ≡ false → get_or m.off t false ≡ false
+unmarked m k t b lt e is = get_or_default m.off t false b (omega (arith, lt, k.marks)) ∙ sym e ∙ is
+
+-- one atom more
+pub placed_more : (g new : GridValue) (ps : List Placed) (i : ℕ) (p : Placed) (whole : GridValue) → i < length ps → p ≡ get_or ps i p → new ≡ with_placed g p → fold with_placed g (drop i ps) ≡ whole → fold with_placed new (drop (i + 1) ps) ≡ whole
+placed_more g new ps i p whole lt item is rest =
+    ap (λ (h : GridValue). fold with_placed h (drop (i + 1) ps)) is
+    ∙ sym (ap (fold with_placed g) (drop_more ps i p lt ∙ ap (λ (q : Placed). q ∷ drop (i + 1) ps) (sym item))) ∙ rest

@@ -3,7 +3,8 @@ use Rattle.std.proofs.Common.{ℕ, ◌≡◌, ◌+◌, ◌*◌, ◌<◌, ◌≤�
 use Rattle.std.specs.Prelude.{if◌then◌else◌, nat_lt}
 use Rattle.std.proofs.Math.Nat.{mod-lt}
 use Rattle.std.proofs.lemmas.Bool.{cases_lt}
-use Rattle.std.proofs.lemmas.List.{get_or_default, get_or-eq_default}
+use Rattle.std.proofs.lemmas.List.{get_or_default}
+use Rattle.std.proofs.Math.ListN.{get_or-eq_default}
 use Rattle.std.proofs.lemmas.List.Elements.{All-map, All-nil}
 use Rattle.list_laws.proofs.Tests.{together}
 use Rattle.draw_stream.specs.declared.attempt.Attempt.{Attempt}

@@ -3,9 +3,9 @@
 #![tactic(auto)]
 
 mod law;
-mod replayed;
-mod start;
+mod replaying;
+mod starting;
 
 pub use law::laws;
-pub use replayed::replayed;
-pub use start::{map_of, start};
+pub use replaying::replayed;
+pub use starting::{map_of, start};

@@ -7,7 +7,7 @@ ghost use Rattle.world_grid.specs.Start.{start_grid};
 ghost use Rattle.world_grid.specs.Worlds.{IsLiveEvent, IsWorld};
 ghost use Rattle.world_text.specs.Values.{world_value};
 
-use crate::start::start;
+use crate::starting::start;
 use cell_grid::{Behave, Grid, Record};
 use feast_base::NoMemory;
 use std::alloc::Global;

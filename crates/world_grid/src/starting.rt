@@ -1,5 +1,5 @@
 //! The map of a world, and the flat grid with which it starts.
-ghost use Rattle.std.specs.Prelude.{◌≡◌, ◌<◌, All, IfOk};
+ghost use Rattle.std.specs.Prelude.{◌≡◌, ◌+◌, ◌<◌, All, IfOk};
 ghost use Rattle.border_cache.specs.Copies.{IsGridOf};
 ghost use Rattle.cell_grid.specs.Shut.{shut};
 ghost use Rattle.tile_map.specs.Plane.{IsMap, tiles_of};
