@@ -1,0 +1,4 @@
+pub mod Machine
+pub mod Matching
+pub mod Running
+pub mod Ends
