@@ -14,7 +14,7 @@ use Rattle.ulam_tree.specs.Resolved as r
 use Rattle.ulam_tree.specs.Typed as t
 use Rattle.ulam_tree.specs.Locals.{locals, part_locals, all_locals}
 use Rattle.ulam_names.specs.Scopes.{Context, Entry, Scope, is_element, inside_local, opened, added, slot_named}
-use Rattle.ulam_names.specs.Walk.{one_word, shown, narrowed, locals_of, locals_part, after, after_part}
+use Rattle.ulam_names.specs.Walk.{shown, narrowed, locals_of, locals_part, after, after_part}
 use Rattle.ulam_names.specs.Relation as names
 use Rattle.ulam_types.specs.Scopes as scopes
 use Rattle.ulam_types.specs.Rows.{taken}
@@ -24,10 +24,10 @@ use Rattle.ulam_types.specs.Typing.{IsTyped, IsTypedStatement, IsTypedPart, IsTy
 use Rattle.ulam_meaning.specs.Paths.{Scene}
 use Rattle.stack_code.specs.declared.instr.Operand.TheVariants.{Atom}
 use Rattle.code_gen.specs.Kinded.{HasSlot}
-use Rattle.code_gen.specs.Named.{IsNamed, IfNamed, IsNamedCond, IsNamedLeft, IsNamedStatement, IsNamedPart, IsNamedBody}
+use Rattle.code_gen.specs.Named.{IfNamed, IsNamedCond, IsNamedLeft, IsNamedStatement, IsNamedPart, IsNamedBody}
 use Rattle.source_laws.proofs.Widths.{get_behind}
 use Rattle.source_laws.proofs.Entries.{Covers, local_added, seen_added, local_goes}
-use Rattle.source_laws.proofs.Locals.{Fit, statement_fits, part_fits}
+use Rattle.source_laws.proofs.Locals.{statement_fits, part_fits}
 use Rattle.source_laws.proofs.Paths.{Stands, path_named, one_local}
 use Rattle.source_laws.proofs.Exprs.{expr_named, args_named, maybe_named}
 

@@ -1,6 +1,6 @@
 -- Typed classes are named as the compiler wants them.
-use Rattle.std.proofs.Common.{◌≡◌, ℕ, zero, suc, ◌+◌, ◌≤◌, ◌⊎◌, inl, inr, ⊎_elim, true, false, List, [], ◌∷◌, ◌++◌, map, length, codes, Option, Some, None, refl, sym, ap, ◌∙◌, subst, arith}
-use Rattle.std.specs.Prelude.{slice_get, slice_index_or, if◌then◌else◌}
+use Rattle.std.proofs.Common.{◌≡◌, ℕ, zero, suc, ◌+◌, ◌≤◌, ⊎_elim, true, false, List, [], ◌∷◌, ◌++◌, map, length, codes, Some, refl, sym, ap, ◌∙◌, subst, arith}
+use Rattle.std.specs.Prelude.{slice_get, slice_index_or}
 use Rattle.std.specs.Option.{option_map_or}
 use Rattle.std.specs.Str.{bytes_eq}
 use Rattle.std.proofs.lemmas.List.{append-nil, length-append, length-map}
@@ -11,13 +11,13 @@ use Rattle.ulam_tree.specs.Typed as t
 use Rattle.ulam_tree.specs.declared.resolved.Named.{Named}
 use Rattle.ulam_tree.specs.Raw.{Word}
 use Rattle.ulam_tree.specs.Locals.{locals, all_locals}
-use Rattle.ulam_names.specs.Scopes.{Text, Head, Names, most_locals}
+use Rattle.ulam_names.specs.Scopes.{Text, Head, Names}
 use Rattle.ulam_names.specs.Classes.{Known, Half, half_field, half_function, HalfClass, Pending, head_of, param_entries, context_of}
 use Rattle.ulam_names.specs.Classes as half
 use Rattle.ulam_names.specs.Relation.{IsBody}
 use Rattle.ulam_names.specs.ClassRelation.{IsWhole, AreWhole, AreClasses}
 use Rattle.ulam_types.specs.Scopes.{ClassSig}
-use Rattle.ulam_types.specs.Programs.{param_type, scope_of}
+use Rattle.ulam_types.specs.Programs.{scope_of}
 use Rattle.ulam_types.specs.ProgramTyping.{IsTypedMember, AreTypedMembers, AreTypedClasses}
 use Rattle.ulam_types.specs.Typing.{IsTypedBody}
 use Rattle.ulam_types.proofs.WellBodies.{all_locals_same}
@@ -27,9 +27,9 @@ use Rattle.ulam_meaning.specs.Paths.{Scene}
 use Rattle.code_gen.specs.Named.{IsWide, AllWide, IsNamedBody}
 use Rattle.code_gen.proofs.TypedPaths.{kind_get}
 use Rattle.source_laws.proofs.Widths.{each_take, wide_both, FitsNum, FitsValue}
-use Rattle.source_laws.proofs.Halves.{name_types, half_types, param_types, IsGoodHalf, AllGood, GoodNames, GoodClass, AllGoodClasses, FirstBehaves}
+use Rattle.source_laws.proofs.Halves.{name_types, half_types, param_types, IsGoodHalf, AllGood, GoodNames, AllGoodClasses, FirstBehaves}
 use Rattle.source_laws.proofs.Entries.{params_cover}
-use Rattle.source_laws.proofs.Locals.{Fit, body_fits}
+use Rattle.source_laws.proofs.Locals.{body_fits}
 use Rattle.source_laws.proofs.Paths.{Stands}
 use Rattle.source_laws.proofs.Bodies.{At, body_named}
 

@@ -1,5 +1,5 @@
 -- What the entries of a scope mean: the last entry of a name is of a local with a slot, and where a name may follow, the slot holds an atom.
-use Rattle.std.proofs.Common.{◌≡◌, ℕ, ◌+◌, Bool, true, false, ◌&&◌, List, [], ◌∷◌, ◌++◌, map, length, reverse, cond, find, is_some, Option, Some, None, option_and_then, refl, sym, ap, ◌∙◌, subst, append_assoc}
+use Rattle.std.proofs.Common.{◌≡◌, ℕ, ◌+◌, Bool, true, false, ◌&&◌, List, [], ◌∷◌, ◌++◌, length, reverse, cond, find, is_some, Option, Some, None, option_and_then, refl, sym, ap, ◌∙◌, subst, append_assoc}
 use Rattle.std.specs.Prelude.{slice_get}
 use Rattle.std.specs.Str.{bytes_eq}
 use Rattle.std.proofs.lemmas.List.{reverse-append, append-nil, length-append}
@@ -8,11 +8,10 @@ use Rattle.ulam_tree.specs.declared.resolved.Ty.{Ty}
 use Rattle.ulam_tree.specs.declared.resolved.Ty.TheVariants as y
 use Rattle.ulam_tree.specs.declared.resolved.Step.{Step}
 use Rattle.ulam_tree.specs.Resolved as r
-use Rattle.ulam_names.specs.Scopes.{Text, Head, Entry, Scope, is_named, is_local, last_named, slot_named, next_name, is_element, inside_local, added}
+use Rattle.ulam_names.specs.Scopes.{Text, Head, Entry, Scope, is_named, is_local, slot_named, next_name, inside_local, added}
 use Rattle.ulam_names.specs.Classes.{param_entries}
 use Rattle.ulam_meaning.specs.Paths.{Scene}
 use Rattle.stack_code.specs.declared.instr.Operand.TheVariants.{Atom}
-use Rattle.code_gen.specs.Scheme.{operand_of}
 use Rattle.code_gen.specs.Kinded.{HasSlot}
 use Rattle.code_gen.proofs.TypedPaths.{kind_get}
 use Rattle.source_laws.proofs.Widths.{get_behind}

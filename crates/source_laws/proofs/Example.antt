@@ -1,7 +1,7 @@
 -- A program that meets what the law asks, with a quark, a constant, a local that is seen as an element, and an argument.
 --     quark Q { Unsigned(4) v; Void inc(Unsigned(2) k) { v += k; } }
 --     element A { constant Unsigned(3) most = 5; EventWindow ew; Q q; Void behave() { Atom n = ew[1]; if (n as A) q.v = n.q.v; q.inc(most); } }
-use Rattle.std.proofs.Common.{◌≡◌, ℕ, List, [], ◌∷◌, Option, Some, None, codes, refl, subst, Ok, Err, true, false}
+use Rattle.std.proofs.Common.{◌≡◌, ℕ, List, [], ◌∷◌, Some, None, codes, refl, subst, Ok, Err, true, false}
 use Rattle.feast_base.specs.declared.place.Place.{Place}
 use Rattle.ulam_tree.specs.declared.op.PairOp.TheVariants.{Add}
 use Rattle.ulam_tree.specs.Raw as raw

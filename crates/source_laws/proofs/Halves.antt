@@ -1,5 +1,5 @@
 -- What is declared in a class: widths, numbers, how many parameters, and which functions are named `behave`.
-use Rattle.std.proofs.Common.{◌≡◌, ℕ, ◌+◌, ◌≤◌, ◌⊎◌, inl, inr, ⊎_elim, Bool, true, false, ◌&&◌, List, [], ◌∷◌, ◌++◌, map, length, codes, refl, sym, ap, ◌∙◌, subst, append_assoc, arith}
+use Rattle.std.proofs.Common.{◌≡◌, ◌+◌, ◌≤◌, ◌⊎◌, inl, inr, Bool, true, false, ◌&&◌, List, [], ◌∷◌, ◌++◌, map, length, codes, refl, sym, ap, ◌∙◌, subst, append_assoc, arith}
 use Rattle.std.specs.Prelude.{◌||◌}
 use Rattle.std.specs.List.{list_any}
 use Rattle.std.specs.Str.{bytes_eq}
@@ -12,7 +12,7 @@ use Rattle.ulam_tree.specs.declared.resolved.Ty.TheVariants as y
 use Rattle.ulam_tree.specs.Raw as raw
 use Rattle.ulam_tree.specs.Resolved as r
 use Rattle.ulam_names.specs.Scopes.{Text, Names, no_names, declares_name, is_among, names_of, is_truth, in_range}
-use Rattle.ulam_names.specs.Classes.{Known, Half, half_field, half_function, HalfClass, Pending, values, same_bool, behaves, is_behave, is_nothing, no_params}
+use Rattle.ulam_names.specs.Classes.{Known, Half, half_field, half_function, HalfClass, Pending, values, same_bool, is_behave, is_nothing, no_params}
 use Rattle.ulam_names.specs.ClassRelation.{AreParams, IsMember, AreMembers, AreItems, AllBehave}
 use Rattle.code_gen.specs.Named.{IsWide, AllWide}
 use Rattle.source_laws.proofs.Widths.{Each, each_more, FitsNum, FitsValue, type_wide, number_wide, value_fits}

@@ -1,5 +1,5 @@
 -- The locals of a body whose names are looked up: how many, how wide, and that there is room for them.
-use Rattle.std.proofs.Common.{◌≡◌, ℕ, ◌+◌, ◌≤◌, List, [], ◌∷◌, ◌++◌, length, refl, sym, ap, ◌∙◌, subst, arith}
+use Rattle.std.proofs.Common.{◌≡◌, ℕ, ◌+◌, ◌≤◌, List, [], ◌++◌, length, refl, sym, ap, ◌∙◌, subst, arith}
 use Rattle.std.proofs.lemmas.List.{length-append}
 use Rattle.ulam_tree.specs.declared.resolved.Ty.{Ty}
 use Rattle.ulam_tree.specs.Raw as raw
@@ -8,7 +8,7 @@ use Rattle.ulam_tree.specs.Locals.{locals, part_locals, all_locals}
 use Rattle.ulam_names.specs.Scopes.{Context, Scope, opened, most_locals}
 use Rattle.ulam_names.specs.Walk.{shown, narrowed, locals_of, locals_part, locals_in, after, after_part, constant_in}
 use Rattle.ulam_names.specs.Relation.{IsStatement, IsPart, IsBody}
-use Rattle.code_gen.specs.Named.{IsWide, AllWide}
+use Rattle.code_gen.specs.Named.{AllWide}
 use Rattle.source_laws.proofs.Widths.{Each, FitsNum, type_wide, wide_both}
 
 module _ (c : Context) (typedefs : Each FitsNum c.typedefs) where

@@ -1,5 +1,5 @@
 -- Where paths lead whose names are looked up.
-use Rattle.std.proofs.Common.{◌≡◌, ℕ, List, [], ◌∷◌, map, Option, Some, None, option_map, option_and_then, true, refl, sym, ap, ◌∙◌, subst}
+use Rattle.std.proofs.Common.{◌≡◌, ℕ, List, [], ◌∷◌, Option, Some, None, option_map, option_and_then, refl, sym, ap, ◌∙◌, subst}
 use Rattle.std.specs.Prelude.{slice_get}
 use Rattle.std.specs.Option.{option_or, option_map_or}
 use Rattle.feast_base.specs.declared.place.Place.{Place}
@@ -10,16 +10,14 @@ use Rattle.ulam_tree.specs.declared.resolved.Step.TheVariants.{Own, Local, Membe
 use Rattle.ulam_tree.specs.declared.resolved.Built.{Built}
 use Rattle.ulam_tree.specs.Raw as raw
 use Rattle.ulam_tree.specs.Resolved as r
-use Rattle.ulam_names.specs.Scopes.{Text, Value, Head, Context, Entry, beside, number_of, numbered, names_of, field_in, function_in, in_class, built_step, of_window, of_random, next_name, last_named, slot_named, in_own_class, first_step, first_name}
+use Rattle.ulam_names.specs.Scopes.{Text, Value, Head, Context, Entry, beside, number_of, numbered, names_of, function_in, in_class, built_step, of_window, of_random, next_name, last_named, slot_named, in_own_class, first_name}
 use Rattle.ulam_names.specs.Relation.{AreSteps, IsPathFrom, IsPath}
 use Rattle.ulam_meaning.specs.Programs.{Program, field_at}
 use Rattle.ulam_meaning.specs.Paths.{Scene}
-use Rattle.stack_code.specs.Valid.{type_fits, number_fits}
-use Rattle.stack_code.specs.declared.instr.Operand.TheVariants.{Atom}
-use Rattle.code_gen.specs.Kinded.{HasSlot, IsLast, PathIn, HasPath, class_in}
+use Rattle.code_gen.specs.Kinded.{IsLast, PathIn, class_in}
 use Rattle.code_gen.specs.Named.{IsNamedPath}
 use Rattle.source_laws.proofs.Widths.{Each, beside_each, FitsNum, FitsValue}
-use Rattle.source_laws.proofs.Entries.{GoesOn, IsLocal, Covers}
+use Rattle.source_laws.proofs.Entries.{GoesOn, Covers}
 
 -- what a function's body stands in, beside the scene of its meaning
 pub record Stands (c : Context) (z : Scene) : Type 0 where

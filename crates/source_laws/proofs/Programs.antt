@@ -1,5 +1,5 @@
 -- Programs whose names are looked up and whose types are known are what the compiler asks for.
-use Rattle.std.proofs.Common.{◌≡◌, ℕ, ◌+◌, false, List, map, Some, None, subst, arith}
+use Rattle.std.proofs.Common.{◌≡◌, ℕ, false, List, map, Some, None, arith}
 use Rattle.std.specs.Prelude.{slice_get}
 use Rattle.ulam_tree.specs.declared.resolved.Ty.{Ty}
 use Rattle.ulam_tree.specs.Raw as raw

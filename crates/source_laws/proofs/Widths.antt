@@ -1,5 +1,5 @@
 -- Widths and numbers that names allow are those that code has.
-use Rattle.std.proofs.Common.{◌≡◌, ℕ, ◌^◌, ◌≤◌, ◌<◌, ℤ, pos, negsuc, Bool, true, false, ◌&&◌, List, [], ◌∷◌, ◌++◌, length, take, cond, find, nat_le, ◌-◌, Option, Some, None, option_map, refl, sym, ap, ◌∙◌, subst, arith, unsigned_abs, int_le, zero, suc}
+use Rattle.std.proofs.Common.{◌≡◌, ℕ, ◌^◌, ◌≤◌, ◌<◌, ℤ, pos, negsuc, Bool, true, false, List, [], ◌∷◌, ◌++◌, length, take, cond, find, nat_le, ◌-◌, Option, Some, None, option_map, refl, sym, subst, arith, unsigned_abs, int_le, zero, suc}
 use Rattle.std.specs.Prelude.{slice_get}
 use Rattle.std.specs.Option.{option_or}
 use Rattle.std.specs.Str.{bytes_eq}
