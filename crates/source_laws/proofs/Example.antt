@@ -23,7 +23,7 @@ use Rattle.ulam_types.specs.Bodies.{statement}
 use Rattle.ulam_types.specs.ProgramTyping.{IsTypedProgram}
 use Rattle.ulam_types.proofs.Means.{Means as IfTyped}
 use Rattle.ulam_types.proofs.Classes.{program_means as typing_means}
-use Rattle.source_laws.proofs.Goal.{IsCompilable}
+use Rattle.code_gen.specs.Compiling.{IsCompilable}
 use Rattle.source_laws.proofs.Programs.{compilable}
 
 abbrev here : Place

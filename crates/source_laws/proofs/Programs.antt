@@ -15,7 +15,7 @@ use Rattle.ulam_types.specs.ProgramTyping.{IsTypedProgram}
 use Rattle.ulam_types.proofs.WellPrograms.{program_well}
 use Rattle.ulam_meaning.specs.Programs.{Program, members_of, field_at, function_at, behave_of}
 use Rattle.code_gen.specs.Named.{IsNamedProgram, HasBehave}
-use Rattle.source_laws.proofs.Goal.{IsCompilable}
+use Rattle.code_gen.specs.Compiling.{IsCompilable}
 use Rattle.code_gen.proofs.TypedFields.{typed_laid_out}
 use Rattle.source_laws.proofs.Halves.{classes_good}
 use Rattle.source_laws.proofs.Classes.{NamedClass, field_types, classes_named, classes_behave}
