@@ -31,3 +31,4 @@ pub mod ElementCode
 pub mod ElementMeans
 pub mod LayRounds
 pub mod Built
+pub mod ElementCodes

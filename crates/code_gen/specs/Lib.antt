@@ -13,3 +13,5 @@ pub mod Laws
 pub mod Depths
 pub mod Views
 pub mod Gathers
+pub mod Sized
+pub mod Compiling

@@ -7,6 +7,7 @@ mod depth;
 mod element;
 mod element_law;
 mod emit;
+mod fault;
 mod gather;
 mod law;
 pub mod make;
@@ -16,6 +17,7 @@ mod source;
 
 pub use element::build;
 pub use element_law::same_meaning;
-pub use law::{compiled, depths, right};
+pub use fault::GenFault;
+pub use law::{codes_in_order, compiled, depths, one_compiling, right};
 pub use piece::{Key, Piece};
 pub use source::{Head, Source};
