@@ -10,7 +10,8 @@ use Rattle.ulam_tree.specs.declared.resolved.Step.TheVariants.{Own, Local, Membe
 use Rattle.ulam_tree.specs.declared.resolved.Built.{Built}
 use Rattle.ulam_tree.specs.Raw as raw
 use Rattle.ulam_tree.specs.Resolved as r
-use Rattle.ulam_names.specs.Scopes.{Text, Value, Head, Context, Entry, beside, number_of, numbered, names_of, function_in, in_class, built_step, of_window, of_random, next_name, last_named, slot_named, in_own_class, first_name}
+use Rattle.ulam_names.specs.declared.basic.Value.{Value}
+use Rattle.ulam_names.specs.Scopes.{Text, Head, Context, Entry, beside, number_of, numbered, names_of, function_in, in_class, built_step, of_window, of_random, next_name, last_named, slot_named, in_own_class, first_name}
 use Rattle.ulam_names.specs.Relation.{AreSteps, IsPathFrom, IsPath}
 use Rattle.ulam_meaning.specs.Programs.{Program, field_at}
 use Rattle.ulam_meaning.specs.Paths.{Scene}

@@ -16,7 +16,10 @@ use Rattle.ulam_tree.specs.declared.resolved.Ty.{Ty}
 use Rattle.ulam_tree.specs.declared.resolved.Ty.TheVariants as y
 use Rattle.ulam_tree.specs.declared.resolved.Named.{Named}
 use Rattle.ulam_tree.specs.Raw as raw
-use Rattle.ulam_names.specs.Scopes.{Text, Value, Basic, sized, whole, allows, widest_of, beside, number_of, built_in, basic_named, number_type, class_type, as_number, in_range}
+use Rattle.ulam_names.specs.declared.basic.Value.{Value}
+use Rattle.ulam_names.specs.declared.basic.Basic.{Basic}
+use Rattle.ulam_names.specs.declared.basic.Basic.TheVariants.{Sized as sized, Whole as whole}
+use Rattle.ulam_names.specs.Scopes.{Text, allows, widest_of, beside, number_of, built_in, basic_named, number_type, class_type, as_number, in_range}
 use Rattle.ulam_names.specs.Relation.{IsSized, IsType}
 use Rattle.ulam_types.specs.Rows.{plain_fits}
 use Rattle.stack_code.specs.Valid.{type_fits, number_fits}
