@@ -12,3 +12,4 @@ pub mod Starts
 pub mod Ended
 pub mod Newest
 pub mod Whole
+pub mod Rows

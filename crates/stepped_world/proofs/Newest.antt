@@ -1,6 +1,7 @@
 -- At the end the newest cells are the machine's grid: the events one after another in the order of time leave what they leave in the journal's order.
-use Rattle.std.proofs.Common.{◌≡◌, ℕ, suc, ◌<◌, ◌==◌, List, [], ◌∷◌, length, refl, sym, ap, ◌∙◌, subst, arith, inr, ⊎_elim, true, Some}
+use Rattle.std.proofs.Common.{◌≡◌, ℕ, suc, ◌+◌, ◌<◌, map, ◌==◌, List, [], ◌∷◌, length, refl, sym, ap, ◌∙◌, subst, arith, inr, ⊎_elim, true, Some}
 use Rattle.std.specs.Prelude.{slice_get, AllPairs}
+use Rattle.std.specs.List.{range_with_len}
 use Rattle.std.specs.Option.{option_map}
 use Rattle.std.proofs.lemmas.Bool.Decides.{nat_tests}
 use Rattle.std.proofs.lemmas.Option.{slice_get-map}
@@ -16,7 +17,9 @@ use Rattle.border_cache.specs.Cells.{CellValue, cell_value}
 use Rattle.border_cache.specs.Copies.{IsGridOf, IsCentre}
 use Rattle.tile_core.specs.Values.{TileValue, atoms_of, event_site}
 use Rattle.tile_core.specs.Turns.{Won, Turn, Wins, records_of}
-use Rattle.serial_order.specs.Scene.{Scene, IsOver, registers_at}
+use Rattle.event_journal.specs.Logs.{log_of, records_in}
+use Rattle.serial_order.specs.Scene.{log_of_tile, logs_of, Scene, IsOver, registers_at}
+use Rattle.serial_order.specs.Order.{records}
 use Rattle.serial_order.specs.Settled.{IsSettled}
 use Rattle.serial_order.specs.Words.{histories_on}
 use Rattle.serial_order.specs.Outcomes.{scene_of, values_of}
@@ -28,12 +31,13 @@ use Rattle.serial_order.proofs.Order.{one_writer}
 use Rattle.serial_order.proofs.Promises.{one_grid, one_order}
 use Rattle.serial_order.proofs.Replay.{IsJournal, WritesRise, Split, IsLeft, DoneAt, notes, in_notes, replayed, journal_rises, same_latest}
 use Rattle.serial_order.proofs.Tile.{cell_by}
-use Rattle.serial_order.proofs.TileLog.{in_records, records_in}
+use Rattle.serial_order.proofs.TileLog.{in_records, records_in as note_in}
 use Rattle.serial_order.proofs.Whole.{turns, hist, run, laws, tile_told, tile_of}
 use Rattle.serial_order.proofs.World.{IsRun, IsEvent}
-use Rattle.stepped_world.specs.Machine.{Machine}
+use Rattle.stepped_world.specs.Machine.{Machine, records_by, abandoned_by}
+use Rattle.stepped_world.specs.Ends.{logs_in}
 use Rattle.stepped_world.specs.Running.{Setting, ComesBefore, IsLike}
-use Rattle.stepped_world.proofs.Slots.{some_at, value_at}
+use Rattle.stepped_world.proofs.Slots.{some_at, value_at, map_places}
 
 pairs_order : {A : Type 0} (R : A → A → Type 0) (xs : List A) → AllPairs R xs → InOrder R xs
 pairs_order R [] h = tt
@@ -79,7 +83,7 @@ module _ {B : Type 0} (m : MapValue) (g : Setting) (tiles : List (TileValue × B
   mine t r e = grind (arith, nat_tests, e)
 
   -- a tile's entries among the machine's are those of its turns
-  same_records : (t : ℕ) (x : TileValue × B) → slice_get tiles t ≡ Some x → Rattle.stepped_world.specs.Machine.records_by t s.records ≡ records_of (turns c o t)
+  same_records : (t : ℕ) (x : TileValue × B) → slice_get tiles t ≡ Some x → records_by t s.records ≡ records_of (turns c o t)
   same_records t x is = sym (k.matches.records t x is) ∙ (tile_told c o t x.0 (value_there t x is)).records
 
   owner_there : (n : Record) → In n s.records → n.tile < length tiles
@@ -100,17 +104,36 @@ module _ {B : Type 0} (m : MapValue) (g : Setting) (tiles : List (TileValue × B
     all = λ w i.
         let p = tile_of c o w.note.tile (Wins w) i in
         let x = value_at tiles w.note.tile p.0 p.1 in
-        (filter_in (λ (r : Record). r.tile == w.note.tile) s.records w.note (subst (In w.note) (sym (same_records w.note.tile x.0 x.1)) (records_in w (turns c o w.note.tile) i))).0;
+        (filter_in (λ (r : Record). r.tile == w.note.tile) s.records w.note (subst (In w.note) (sym (same_records w.note.tile x.0 x.1)) (note_in w (turns c o w.note.tile) i))).0;
   }
 
-  -- the grid of the newest cells
-  pub newest_is : (h : GridValue) → IsSettled m (values_of tiles) (registers_at (histories_on board)) h → h ≡ s.grid
-  newest_is h set =
+  -- the events in the order of the journal leave the machine's grid
+  journal_leaves : replay g.meaning g.start (records c) ≡ s.grid
+  journal_leaves =
       let time = journal m g.meaning (atoms_of g.start) (turns c o) (hist c o) (run c o) s.records entries in
       let first = events c o in
       let rises = rises_in_time m time.0 (subst (InOrder (ComesBefore m)) (sym time.1) (pairs_order (ComesBefore m) s.records k.sound.rises)) in
       let order = journal_rises m g.meaning g.start (turns c o) (hist c o) (run c o) first.0 first.2.events (subst (InOrder Precedes) (sym first.1) (ordered c o)) in
-      (one_order c o).replayed h set
-      ∙ (ap (replay g.meaning g.start) (sym first.1)
+      ap (replay g.meaning g.start) (sym first.1)
       ∙ (two_orders m g.meaning g.start (turns c o) (hist c o) (run c o) o.grid o.fits first.0 time.0 first.2 time.2 order rises
-      ∙ (ap (replay g.meaning g.start) time.1 ∙ sym k.sound.grid)))
+      ∙ (ap (replay g.meaning g.start) time.1 ∙ sym k.sound.grid))
+
+  -- the grid of the newest cells
+  pub newest_is : (h : GridValue) → IsSettled m (values_of tiles) (registers_at (histories_on board)) h → h ≡ s.grid
+  newest_is h set = (one_order c o).replayed h set ∙ journal_leaves
+
+  -- the tiles' logs
+  pub logs_are : logs_of (values_of tiles) ≡ logs_in m s
+  logs_are =
+      map_places log_of_tile (λ t. log_of t (records_by t s.records) (abandoned_by t s.abandoned)) (values_of tiles) 0 each
+      ∙ ap (λ n. map (λ t. log_of t (records_by t s.records) (abandoned_by t s.abandoned)) (range_with_len 0 n)) o.count
+    where
+      each : (t : ℕ) (tile : TileValue) → slice_get (values_of tiles) t ≡ Some tile → log_of_tile tile ≡ log_of (0 + t) (records_by (0 + t) s.records) (abandoned_by (0 + t) s.abandoned)
+      each t tile is =
+          let x = value_at tiles t tile is in
+          let z : 0 + t ≡ t = omega arith in
+          (λ i. log_of (o.numbers t tile is i) ((ap (λ (v : TileValue). v.records) (sym x.2) ∙ k.matches.records t x.0 x.1) i) ((ap (λ (v : TileValue). v.abandoned) (sym x.2) ∙ k.matches.abandoned t x.0 x.1) i))
+          ∙ ap (λ n. log_of n (records_by n s.records) (abandoned_by n s.abandoned)) (sym z)
+
+  pub replay_is : replay g.meaning g.start (records_in (logs_in m s)) ≡ s.grid
+  replay_is = ap (λ ls. replay g.meaning g.start (records_in ls)) (sym logs_are) ∙ journal_leaves

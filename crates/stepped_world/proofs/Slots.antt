@@ -1,6 +1,7 @@
 -- A list with one element changed.
-use Rattle.std.proofs.Common.{◌≡◌, ◌≢◌, ℕ, zero, suc, ◌<◌, List, [], ◌∷◌, length, map, refl, sym, ap, ◌∙◌, subst, arith, ⊎_elim, Some}
+use Rattle.std.proofs.Common.{◌≡◌, ◌≢◌, ℕ, zero, suc, ◌+◌, ◌<◌, List, [], ◌∷◌, length, map, refl, sym, ap, ◌∙◌, subst, arith, ⊎_elim, Some}
 use Rattle.std.specs.Prelude.{slice_get, slice_set}
+use Rattle.std.specs.List.{range_with_len}
 use Rattle.std.proofs.lemmas.Option.{same_Some}
 use Rattle.serial_order.proofs.Ground.{same_or_not}
 
@@ -34,3 +35,13 @@ pub value_at : {A C : Type 0} (xs : List (A × C)) (k : ℕ) (a : A) → slice_g
 value_at [] k a e = absurd (cc e)
 value_at (x ∷ xs) zero a e = (x, refl, same_Some x.0 a e)
 value_at (x ∷ xs) (suc k) a e = value_at xs k a e
+
+-- what each element becomes goes by its place
+pub map_places : {A C : Type 0} (h : A → C) (f : ℕ → C) (xs : List A) (a : ℕ) → ((k : ℕ) (x : A) → slice_get xs k ≡ Some x → h x ≡ f (a + k)) → map h xs ≡ map f (range_with_len a (length xs))
+map_places h f [] a each = refl
+map_places h f (x ∷ xs) a each =
+    let z : a + 0 ≡ a = omega arith in
+    (λ i. (each 0 x refl ∙ ap f z) i ∷ map_places h f xs (a + 1) (λ k y e. each (suc k) y e ∙ ap f (next k)) i)
+  where
+    next : (k : ℕ) → a + suc k ≡ a + 1 + k
+    next k = omega arith

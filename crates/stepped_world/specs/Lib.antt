@@ -2,3 +2,4 @@ pub mod Machine
 pub mod Matching
 pub mod Running
 pub mod Ends
+pub mod Rows
