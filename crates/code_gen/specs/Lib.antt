@@ -14,4 +14,6 @@ pub mod Depths
 pub mod Views
 pub mod Gathers
 pub mod Sized
+pub mod Clipped
+pub mod Seen
 pub mod Compiling
