@@ -116,7 +116,7 @@ played = record {
   made = (record { attempt = first_attempt; is = refl; site_is = refl; seed_is = refl }, tt);
   records_are = refl;
   abandoned_are = refl;
-  lists_are = λ e. refl;
+  lists_are = λ e own. refl;
 }
 
 cells : (s : Site) → is_held small_plane 0 s ≡ true → held_cell small_tile.cache s ≡ cells_of small_plane (atoms_of (empty_grid 8 8)) (Wins the_event ∷ []) s

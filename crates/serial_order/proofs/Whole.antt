@@ -21,7 +21,7 @@ use Rattle.list_laws.proofs.Members.{In, in_left, in_right}
 use Rattle.border_cache.specs.Windows.{end_at, sites_on}
 use Rattle.border_cache.specs.Copies.{held_cell}
 use Rattle.tile_core.specs.Values.{atoms_of, TileValue, given_up_site}
-use Rattle.tile_core.specs.Turns.{Lost, Turn, Wins, Loses, Wears, IsLost, AreTurns, AreAttempts, IsAttemptOf, IsAttempt, records_of, abandoned_of, refusals_at, lists_of, cells_of}
+use Rattle.tile_core.specs.Turns.{Lost, Turn, Wins, Loses, Wears, IsLost, AreTurns, AreAttempts, IsAttemptOf, IsAttempt, records_of, abandoned_of, refusals_at, AgreeOnEdges, lists_of, cells_of}
 use Rattle.serial_order.specs.Scene.{Scene, IsOver, HasEnded, EdgeHistory, no_history, history_at, lists_at, end_lists_of, IsStopped}
 use Rattle.serial_order.proofs.Lists.{back, past_end, none_past}
 use Rattle.serial_order.proofs.Histories.{IsHistory, IsPlaced, history_back, ends_back, own_back, placed_back}
@@ -38,7 +38,7 @@ pub record IsTold (m : MapValue) (meaning : WindowValue → ℕ → WindowValue)
   pub made : AreAttempts m t given turns
   pub records : tile.records ≡ records_of turns
   pub abandoned : tile.abandoned ≡ abandoned_of turns
-  pub lists_are : (e : ℕ) → lists e ≡ lists_of m t turns e
+  pub lists_are : AgreeOnEdges m t lists (lists_of m t turns)
   pub ends : IsStopped tile.phase rest turns
   pub cells : (s : Site) → is_held m t s ≡ true → held_cell tile.cache s ≡ cells_of m start turns s
 
@@ -71,7 +71,7 @@ told m meaning start given lists t tile e h = record {
   made = subst (λ u. AreAttempts m u given h.played.turns) e (made_of m tile.number h.made h.rest given h.played.turns h.all h.played.made);
   records = h.played.records_are;
   abandoned = h.played.abandoned_are;
-  lists_are = λ d. h.played.lists_are d ∙ ap (λ u. lists_of m u h.played.turns d) e;
+  lists_are = λ d own. h.played.lists_are d (subst (λ u. has_end m u d ≡ true) (sym e) own) ∙ ap (λ u. lists_of m u h.played.turns d) e;
   ends = h.ends;
   cells = λ s held. h.cells s (subst (λ u. is_held m u s ≡ true) (sym e) held);
 }
@@ -177,7 +177,7 @@ module _ (s : Scene) (o : IsOver s) where
   lists_told t e end = go (slice_get s.tiles t) refl
     where
       go : (p : Option TileValue) → slice_get s.tiles t ≡ p → lists_at s.map s.edges t e ≡ lists_of s.map t (turns t) e
-      go (Some tile) is = (tile_told t tile is).lists_are e
+      go (Some tile) is = (tile_told t tile is).lists_are e end
       go None is = (λ i. if end i then end_lists_of (end_at s.map t e) (past i) else end_lists [] []) ∙ (empty (end_at s.map t e) ∙ sym (ap (λ xs. lists_of s.map t xs e) (no_turns t is)))
         where
           empty : (b : ℕ) → end_lists_of b no_history ≡ end_lists [] []

@@ -8,6 +8,7 @@ use Rattle.border_cache.proofs.Needs.{Rises}
 use Rattle.bit_field.specs.Atom.{AtomValue}
 use Rattle.window_sites.specs.Window.{WindowValue}
 use Rattle.tile_map.specs.Plane.{Site, MapValue}
+use Rattle.tile_map.specs.Edges.{has_end}
 use Rattle.edge_lock.specs.EndLists.{EndLists, IsHeld, HasNoWrite, after_give, replace_at}
 use Rattle.border_cache.proofs.Needs.{has_at}
 use Rattle.tile_core.specs.Turns.{before, Turn, Wins, Loses, Wears, edges_of, AreTurns, Wearless}
@@ -39,14 +40,14 @@ rises_take n xs rise j k lt less =
     omega (arith, get_or-take n xs j 0 (omega (arith, lt, small)), get_or-take n xs k 0 small, rise j k lt in_xs)
 
 -- the holds of the last turn, given back one by one
-module _ (m : MapValue) (t n e : ℕ) (edges : List ℕ) (a b : ℕ → EndLists) (rise : Rises edges) (lt : n < length edges) (at : e ≡ get_or edges n 0) where
+module _ (m : MapValue) (t n e : ℕ) (edges : List ℕ) (a b : ℕ → EndLists) (rise : Rises edges) (lt : n < length edges) (at : e ≡ get_or edges n 0) (mine : has_end m t e ≡ true) where
   pub giving_held : (turns : List Turn) → IsGiving m t turns edges n a → IsHeld (a e)
   giving_held [] g = absurd g
-  giving_held (x ∷ older) g = here_held m t n e x older edges a b rise lt at g.0 g.1
+  giving_held (x ∷ older) g = here_held m t n e x older edges a b rise lt at mine g.0 g.1
 
   pub gave_on : (turns : List Turn) → IsGiving m t turns edges n a → b ≡ replace_at a e (after_give (a e)) → IsGiving m t turns edges (n + 1) b
   gave_on [] g is = g
-  gave_on (x ∷ older) g is = (g.0, gave_left m t n e x older edges a b rise lt at g.0 g.1 is)
+  gave_on (x ∷ older) g is = (g.0, gave_left m t n e x older edges a b rise lt at mine g.0 g.1 is)
 
   -- an abandoned attempt has written nothing
   pub giving_quiet : (meaning : WindowValue → ℕ → WindowValue) (start : Site → AtomValue) (turns : List Turn) → AreTurns m meaning start t turns → IsBack turns → IsGiving m t turns edges n a → HasNoWrite (a e)
@@ -55,7 +56,7 @@ module _ (m : MapValue) (t n e : ℕ) (edges : List ℕ) (a b : ℕ → EndLists
   giving_quiet meaning start (Wears w ∷ older) u k g = absurd k
   giving_quiet meaning start (Loses l ∷ older) u k g =
       let there : has e (edges_of m t (Loses l)) ≡ true = ap (has e) (sym g.0) ∙ (ap (λ d. has d edges) at ∙ has_at n edges lt) in
-      here_quiet m t n e (Loses l) older edges a b rise lt at g.0 g.1 (u.0.given e there).1
+      here_quiet m t n e (Loses l) older edges a b rise lt at mine g.0 g.1 (u.0.given e there).1
 
 pub gave_all : (m : MapValue) (meaning : WindowValue → ℕ → WindowValue) (start : Site → AtomValue) (t n : ℕ) (edges : List ℕ) (a : ℕ → EndLists) (turns : List Turn) → AreTurns m meaning start t turns → Wearless turns
     → length edges ≤ n → IsGiving m t turns edges n a → IsOver m t turns a

@@ -6,7 +6,7 @@ use Rattle.std.proofs.lemmas.List.{take_all, length-take, get_or-take, append-ni
 use Rattle.bit_field.specs.Atom.{AtomValue}
 use Rattle.window_sites.specs.Window.{WindowValue}
 use Rattle.tile_map.specs.Plane.{Site, MapValue, site, tiles_of, is_on, in_plane, owner_of}
-use Rattle.tile_map.specs.Edges.{needs_of}
+use Rattle.tile_map.specs.Edges.{needs_of, has_end}
 use Rattle.tile_map.specs.Laws.{IsPlane}
 use Rattle.tile_map.proofs.Spans.{on_low}
 use Rattle.list_laws.proofs.Tests.{together}
@@ -21,7 +21,7 @@ use Rattle.border_cache.proofs.Stored.{joined_end}
 use Rattle.tile_core.specs.declared.phase.Phase.{Phase}
 use Rattle.tile_core.specs.declared.phase.Phase.TheVariants.{Draw, Lock, Refresh, Give, Back}
 use Rattle.tile_core.specs.Values.{TileValue, centre}
-use Rattle.tile_core.specs.Turns.{before, Turn, Loses, Lost, edges_of, lists_of, lists_left, with_more, IsLost, IsAttempt}
+use Rattle.tile_core.specs.Turns.{before, Turn, Loses, Lost, edges_of, AgreeOnEdges, lists_of, lists_left, with_more, IsLost, IsAttempt}
 use Rattle.tile_core.specs.Underway.{Onward, IsUnderway, InPhase, IsDrawn, IsGiving, IsOver, HasOpen, no_access, still, is_refreshed, AreNeeds}
 use Rattle.tile_core.specs.Steps.{over, begun, refused_phase, Draws, Tries, Frees, next_edge, refused_entry, refused, got, tried, freed}
 use Rattle.tile_core.proofs.Lists.{here_free, free_of, new_of, got_open, busy_left, all_left}
@@ -91,8 +91,8 @@ module _ (m : MapValue) (meaning : WindowValue → ℕ → WindowValue) (start :
       drawn : (p : Phase) → IsDrawn m attempts u.turns (after p)
       drawn p = record { taken = ap (λ n. n + 1) drawing.0; made = made; centre_is = centre_here; needs = refl }
 
-      open_none : (d : ℕ) → a d ≡ with_more [] [] (lists_of m t u.turns d)
-      open_none d = drawing.2 d ∙ (λ i. end_lists (sym (append-nil (lists_of m t u.turns d).holds) i) (sym (append-nil (lists_of m t u.turns d).refusals) i))
+      open_none : AgreeOnEdges m t a (λ d. with_more [] [] (lists_of m t u.turns d))
+      open_none d own = drawing.2 d own ∙ (λ i. end_lists (sym (append-nil (lists_of m t u.turns d).holds) i) (sym (append-nil (lists_of m t u.turns d).refusals) i))
 
       begin : (es : List ℕ) → needs_of m t c ≡ es → InPhase m meaning start attempts u.turns (after (begun es)) a (begun es)
       begin [] none = (drawn Refresh, subst (λ es. HasOpen m t (length u.turns) u.turns es no_access a) (sym none) open_none)
@@ -137,8 +137,11 @@ module _ (m : MapValue) (meaning : WindowValue → ℕ → WindowValue) (start :
       pub lock_taken : 1 ≤ tile.taken
       lock_taken = let k = locking.0.taken in omega (arith, k)
 
+      lock_mine : has_end m t e ≡ true
+      lock_mine = u.needs.ends e (has_at tile.next tile.needs lock_lt)
+
       here : a e ≡ lists_of m t u.turns e
-      here = here_free m t (length u.turns) tile.next e u.turns tile.needs a a (rises tile.needs u.needs.rising) locking.1 refl locking.2
+      here = here_free m t (length u.turns) tile.next e u.turns tile.needs a a (rises tile.needs u.needs.rising) locking.1 refl lock_mine locking.2
 
       pub lock_free : IsFree (a e)
       lock_free = subst IsFree (sym here) (free_of m meaning start t u.turns e u.each u.unworn)
@@ -152,7 +155,7 @@ module _ (m : MapValue) (meaning : WindowValue → ℕ → WindowValue) (start :
 
       module _ (b : ℕ → EndLists) (k : ℕ) (end : k ≡ end_at m t e) where
         opened : b ≡ replace_at a e (after_try k (tile.taken - 1) Got (a e)) → HasOpen m t (length u.turns) u.turns (take (tile.next + 1) tile.needs) no_access b
-        opened won = got_open m t (length u.turns) tile.next e u.turns tile.needs a b (rises tile.needs u.needs.rising) locking.1 refl locking.2 k end (won ∙ ap (λ i. replace_at a e (after_try k i Got (a e))) number)
+        opened won = got_open m t (length u.turns) tile.next e u.turns tile.needs a b (rises tile.needs u.needs.rising) locking.1 refl lock_mine locking.2 k end (won ∙ ap (λ i. replace_at a e (after_try k i Got (a e))) number)
 
         drawn_still : IsDrawn m attempts u.turns (record tile { next = tile.next + 1 })
         drawn_still = let d = locking.0 in record { taken = d.taken; made = d.made; centre_is = d.centre_is; needs = d.needs }
@@ -242,8 +245,8 @@ module _ (m : MapValue) (meaning : WindowValue → ℕ → WindowValue) (start :
             taken : tile.taken ≡ length (Loses (lost j) ∷ u.turns)
             taken = let d = locking.0.taken in omega (arith, d)
 
-            left : (d : ℕ) → b d ≡ lists_left m t (still (take tile.next tile.needs) 0) (Loses (lost j)) u.turns d
-            left = busy_left m t (length u.turns) tile.next e u.turns tile.needs a b (rises tile.needs u.needs.rising) locking.1 refl locking.2 k j (lost j) refl number refl (edges_before j) (λ d. refl)
+            left : AgreeOnEdges m t b (lists_left m t (still (take tile.next tile.needs) 0) (Loses (lost j)) u.turns)
+            left = busy_left m t (length u.turns) tile.next e u.turns tile.needs a b (rises tile.needs u.needs.rising) locking.1 refl lock_mine locking.2 k j (lost j) refl number refl (edges_before j) (λ d. refl)
                 (busy ∙ ap (λ i. replace_at a e (after_try k i (Busy j) (a e))) number)
 
             by_next : (n : ℕ) → tile.next ≡ n → InPhase m meaning start attempts (Loses (lost j) ∷ u.turns) (aim j (refused_phase n tile.left)) b (refused_phase n tile.left)
@@ -270,12 +273,15 @@ module _ (m : MapValue) (meaning : WindowValue → ℕ → WindowValue) (start :
       pub give_lt : tile.next < length tile.needs
       give_lt = giving.1
 
+      give_mine : has_end m t e ≡ true
+      give_mine = u.needs.ends e (has_at tile.next tile.needs give_lt)
+
       pub give_held : IsHeld (a e)
-      give_held = giving_held m t tile.next e tile.needs a a (rises tile.needs u.needs.rising) giving.1 refl u.turns giving.2
+      give_held = giving_held m t tile.next e tile.needs a a (rises tile.needs u.needs.rising) giving.1 refl give_mine u.turns giving.2
 
       module _ (b : ℕ → EndLists) (given : b ≡ replace_at a e (after_give (a e))) where
         gave : IsGiving m t u.turns tile.needs (tile.next + 1) b
-        gave = gave_on m t tile.next e tile.needs a b (rises tile.needs u.needs.rising) giving.1 refl u.turns giving.2 given
+        gave = gave_on m t tile.next e tile.needs a b (rises tile.needs u.needs.rising) giving.1 refl give_mine u.turns giving.2 given
 
         give_with : (x : Bool) → nat_lt (tile.next + 1) (length tile.needs) ≡ x → Next (freed x tile) b
         give_with true test = (
@@ -343,12 +349,15 @@ module _ (m : MapValue) (meaning : WindowValue → ℕ → WindowValue) (start :
       less_had : tile.next < length had
       less_had = let lt = backing.1 in omega (arith, lt, long)
 
+      back_mine : has_end m t e ≡ true
+      back_mine = let lt = back_lt in u.needs.ends e (has_at tile.next tile.needs (omega (arith, lt.0, lt.1)))
+
       pub back_held : IsHeld (a e) × HasNoWrite (a e)
-      back_held = (giving_held m t tile.next e had a a up less_had at_had u.turns backing.4, giving_quiet m t tile.next e had a a up less_had at_had meaning start u.turns u.each backing.3 backing.4)
+      back_held = (giving_held m t tile.next e had a a up less_had at_had back_mine u.turns backing.4, giving_quiet m t tile.next e had a a up less_had at_had back_mine meaning start u.turns u.each backing.3 backing.4)
 
       module _ (b : ℕ → EndLists) (given : b ≡ replace_at a e (after_give (a e))) where
         gave_back : IsGiving m t u.turns had (tile.next + 1) b
-        gave_back = gave_on m t tile.next e had a b up less_had at_had u.turns backing.4 given
+        gave_back = gave_on m t tile.next e had a b up less_had at_had back_mine u.turns backing.4 given
 
         back_with : (x : Bool) → nat_lt (tile.next + 1) tile.count ≡ x → Next (freed x tile) b
         back_with true test = (

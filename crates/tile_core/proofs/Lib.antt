@@ -10,4 +10,5 @@ pub mod Behaving
 pub mod Ready
 pub mod Advance
 pub mod Played
+pub mod Boards
 pub mod Falls

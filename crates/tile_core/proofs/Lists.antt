@@ -13,11 +13,12 @@ use Rattle.edge_lock.specs.EndLists.{EndLists, end_lists, hold_of, closed_hold, 
 use Rattle.edge_lock.proofs.LastHolds.{is_held-snoc, last_accesses-snoc, change_last-snoc}
 use Rattle.edge_lock.proofs.BoardLaws.{here_after, else_after}
 use Rattle.tile_map.specs.Plane.{Site, MapValue}
+use Rattle.tile_map.specs.Edges.{has_end}
 use Rattle.border_cache.specs.Accesses.{after_all, with_all}
 use Rattle.border_cache.specs.Windows.{has, end_at, AddsAll}
 use Rattle.border_cache.proofs.Runs.{after_none as after_nothing}
 use Rattle.border_cache.proofs.Needs.{Rises, has_more, has_at, not_yet}
-use Rattle.tile_core.specs.Turns.{Lost, Turn, Wins, Loses, Wears, edges_of, hold_at, refusals_at, as_open, one_if, with_more, lists_of, lists_left, IsTurn, AreTurns, Wearless, IsGiven}
+use Rattle.tile_core.specs.Turns.{Lost, Turn, Wins, Loses, Wears, edges_of, hold_at, refusals_at, as_open, one_if, with_more, AgreeOnEdges, lists_of, lists_left, IsTurn, AreTurns, Wearless, IsGiven}
 use Rattle.tile_core.specs.Underway.{HasOpen, no_access, still}
 
 -- all that was noted is over: no hold is open, and the attempts are below the number of turns
@@ -99,15 +100,15 @@ eqb_not d e is = grind (arith, is)
 
 -- the lock phase
 module _ (m : MapValue) (t i n e : ℕ) (turns : List Turn) (needs : List ℕ) (a b : ℕ → EndLists) (rise : Rises needs) (lt : n < length needs) (at : e ≡ get_or needs n 0)
-    (had : HasOpen m t i turns (take n needs) no_access a) where
+    (mine : has_end m t e ≡ true) (had : HasOpen m t i turns (take n needs) no_access a) where
   fresh : has e (take n needs) ≡ false
   fresh = ap (λ x. has x (take n needs)) at ∙ not_yet n needs lt rise
 
   pub here_free : a e ≡ lists_of m t turns e
-  here_free = had e ∙ (ap (λ x. with_more (one_if x (hold_of (end_at m t e) i [] true)) [] (lists_of m t turns e)) fresh ∙ no_more (lists_of m t turns e))
+  here_free = had e mine ∙ (ap (λ x. with_more (one_if x (hold_of (end_at m t e) i [] true)) [] (lists_of m t turns e)) fresh ∙ no_more (lists_of m t turns e))
 
   pub got_open : (k : ℕ) → k ≡ end_at m t e → b ≡ replace_at a e (after_try k i Got (a e)) → HasOpen m t i turns (take (n + 1) needs) no_access b
-  got_open k end is d = go (eqb d e) refl
+  got_open k end is d own = go (eqb d e) refl
     where
       more : has d (take (n + 1) needs) ≡ (if eqb d e then true else has d (take n needs))
       more = has_more d n needs lt ∙ ap (λ x. if d == x then true else has d (take n needs)) (sym at)
@@ -121,12 +122,12 @@ module _ (m : MapValue) (t i n e : ℕ) (turns : List Turn) (needs : List ℕ) (
           let here : b e ≡ with_more (hold_of (end_at m t e) i [] true ∷ []) [] (lists_of m t turns e) =
           here_after a b e (after_try k i Got (a e)) is ∙ ((λ j. after_try (end j) i Got (here_free j)) ∙ ap (λ rs. end_lists ((lists_of m t turns e).holds ++ hold_of (end_at m t e) i [] true ∷ []) rs) (sym (append-nil (lists_of m t turns e).refusals))) in
           subst (λ x. b x ≡ with_more (hold_of (end_at m t x) i [] true ∷ []) [] (lists_of m t turns x)) same here ∙ ap aim (sym (more ∙ ap (λ x. if x then true else has d (take n needs)) q))
-      go false q = else_after a b e d (after_try k i Got (a e)) is (eqb_not d e q) ∙ (had d ∙ ap aim (sym (more ∙ ap (λ x. if x then true else has d (take n needs)) q)))
+      go false q = else_after a b e d (after_try k i Got (a e)) is (eqb_not d e q) ∙ (had d own ∙ ap aim (sym (more ∙ ap (λ x. if x then true else has d (take n needs)) q)))
 
   -- the attempt is abandoned
   pub busy_left : (k j : ℕ) (l : Lost) → l.gone.edge ≡ e → l.gone.attempt ≡ i → l.gone.holder_attempt ≡ j → edges_of m t (Loses l) ≡ take n needs → ((d : ℕ) → l.hold d ≡ hold_of (end_at m t d) i [] false)
-      → b ≡ replace_at a e (after_try k i (Busy j) (a e)) → (d : ℕ) → b d ≡ lists_left m t (still (take n needs) 0) (Loses l) turns d
-  busy_left k j l edge attempt holder edges holds is d = go (eqb d e) refl
+      → b ≡ replace_at a e (after_try k i (Busy j) (a e)) → AgreeOnEdges m t b (lists_left m t (still (take n needs) 0) (Loses l) turns)
+  busy_left k j l edge attempt holder edges holds is d own = go (eqb d e) refl
     where
       aim : Bool → Bool → Hold → List Refusal → EndLists
       aim x y h rs = with_more (one_if x (as_open y h)) rs (lists_of m t turns d)
@@ -149,11 +150,11 @@ module _ (m : MapValue) (t i n e : ℕ) (turns : List Turn) (needs : List ℕ) (
           here_after a b e (after_try k i (Busy j) (a e)) is ∙ (ap (after_try k i (Busy j)) here_free ∙ ap (λ hs. end_lists hs (past.refusals ++ refusal_of i j ∷ [])) (sym (append-nil past.holds))) in
           subst (λ x. b x ≡ with_more [] (refusal_of i j ∷ []) (lists_of m t turns x)) same here
           ∙ sym (whole false (ap (λ x. has x (take n needs)) (sym same) ∙ fresh) (refusal_of i j ∷ []) (refused true q))
-      go false q = else_after a b e d (after_try k i (Busy j) (a e)) is (eqb_not d e q) ∙ (had d ∙ (open_is (has d (take n needs)) ∙ sym (whole (has d (take n needs)) refl [] (refused false q))))
+      go false q = else_after a b e d (after_try k i (Busy j) (a e)) is (eqb_not d e q) ∙ (had d own ∙ (open_is (has d (take n needs)) ∙ sym (whole (has d (take n needs)) refl [] (refused false q))))
 
 -- giving back
 module _ (m : MapValue) (t n e : ℕ) (x : Turn) (older : List Turn) (edges : List ℕ) (a b : ℕ → EndLists) (rise : Rises edges) (lt : n < length edges) (at : e ≡ get_or edges n 0)
-    (same : edges ≡ edges_of m t x) (left : (d : ℕ) → a d ≡ lists_left m t (still edges n) x older d) where
+    (mine : has_end m t e ≡ true) (same : edges ≡ edges_of m t x) (left : AgreeOnEdges m t a (lists_left m t (still edges n) x older)) where
   is_there : has e (edges_of m t x) ≡ true
   is_there = ap (has e) (sym same) ∙ (ap (λ d. has d edges) at ∙ has_at n edges lt)
 
@@ -161,7 +162,7 @@ module _ (m : MapValue) (t n e : ℕ) (x : Turn) (older : List Turn) (edges : Li
   is_still = (λ z. (ap (λ d. has d edges) at ∙ has_at n edges lt) z && not ((ap (λ d. has d (take n edges)) at ∙ not_yet n edges lt rise) z))
 
   pub here_open : a e ≡ with_more (as_open true (hold_at x e) ∷ []) (refusals_at x e) (lists_of m t older e)
-  here_open = left e ∙ (λ z. with_more (one_if (is_there z) (as_open (is_still z) (hold_at x e))) (refusals_at x e) (lists_of m t older e))
+  here_open = left e mine ∙ (λ z. with_more (one_if (is_there z) (as_open (is_still z) (hold_at x e))) (refusals_at x e) (lists_of m t older e))
 
   pub here_held : IsHeld (a e)
   here_held = subst IsHeld (sym here_open) (held_more (as_open true (hold_at x e)) (refusals_at x e) (lists_of m t older e) refl)
@@ -169,8 +170,8 @@ module _ (m : MapValue) (t n e : ℕ) (x : Turn) (older : List Turn) (edges : Li
   pub here_quiet : writes_nothing (hold_at x e).accesses ≡ true → HasNoWrite (a e)
   here_quiet q = subst HasNoWrite (sym here_open) (quiet_more (as_open true (hold_at x e)) (refusals_at x e) (lists_of m t older e) q)
 
-  pub gave_left : b ≡ replace_at a e (after_give (a e)) → (d : ℕ) → b d ≡ lists_left m t (still edges (n + 1)) x older d
-  gave_left is d = go (eqb d e) refl
+  pub gave_left : b ≡ replace_at a e (after_give (a e)) → AgreeOnEdges m t b (lists_left m t (still edges (n + 1)) x older)
+  gave_left is d own = go (eqb d e) refl
     where
       more : has d (take (n + 1) edges) ≡ (if eqb d e then true else has d (take n edges))
       more = has_more d n edges lt ∙ ap (λ x. if d == x then true else has d (take n edges)) (sym at)
@@ -191,13 +192,13 @@ module _ (m : MapValue) (t n e : ℕ) (x : Turn) (older : List Turn) (edges : Li
           subst (λ k. b k ≡ with_more (as_open false (hold_at x k) ∷ []) (refusals_at x k) (lists_of m t older k)) e_is_d here
           ∙ ((λ z. with_more (one_if (sym there z) (as_open (sym (shut (has d edges)) z) (hold_at x d))) (refusals_at x d) (lists_of m t older d))
           ∙ ap aim (sym (more ∙ ap (λ y. if y then true else has d (take n edges)) q)))
-      go false q = else_after a b e d (after_give (a e)) is (eqb_not d e q) ∙ (left d ∙ ap aim (sym (more ∙ ap (λ y. if y then true else has d (take n edges)) q)))
+      go false q = else_after a b e d (after_give (a e)) is (eqb_not d e q) ∙ (left d own ∙ ap aim (sym (more ∙ ap (λ y. if y then true else has d (take n edges)) q)))
 
 -- all were given back
 pub all_left : (m : MapValue) (t : ℕ) (x : Turn) (older : List Turn) (edges : List ℕ) (a : ℕ → EndLists) → edges ≡ edges_of m t x → ((d : ℕ) → has d (edges_of m t x) ≡ true → (hold_at x d).is_open ≡ false)
-    → (n : ℕ) → length edges ≤ n → ((d : ℕ) → a d ≡ lists_left m t (still edges n) x older d) → (d : ℕ) → a d ≡ lists_of m t (x ∷ older) d
-all_left m t x older edges a same closed n le left d =
-    left d ∙ (ap (λ es. with_more (one_if (has d (edges_of m t x)) (as_open (has d edges && not (has d es)) (hold_at x d))) (refusals_at x d) (lists_of m t older d)) (take_all n edges le)
+    → (n : ℕ) → length edges ≤ n → AgreeOnEdges m t a (lists_left m t (still edges n) x older) → AgreeOnEdges m t a (lists_of m t (x ∷ older))
+all_left m t x older edges a same closed n le left d own =
+    left d own ∙ (ap (λ es. with_more (one_if (has d (edges_of m t x)) (as_open (has d edges && not (has d es)) (hold_at x d))) (refusals_at x d) (lists_of m t older d)) (take_all n edges le)
     ∙ (ap (λ y. with_more (one_if (has d (edges_of m t x)) (as_open y (hold_at x d))) (refusals_at x d) (lists_of m t older d)) (None (has d edges))
     ∙ go (has d (edges_of m t x)) refl))
   where
@@ -212,7 +213,7 @@ all_left m t x older edges a same closed n le left d =
 -- the accesses of the open holds grow
 pub open_more : (m : MapValue) (t i : ℕ) (turns : List Turn) (needs : List ℕ) (accesses more : ℕ → List Access) (a b : ℕ → EndLists) → HasOpen m t i turns needs accesses a → AddsAll a b needs more
     → HasOpen m t i turns needs (λ e. accesses e ++ more e) b
-open_more m t i turns needs accesses more a b had adds d = go (has d needs) refl
+open_more m t i turns needs accesses more a b had adds d own = go (has d needs) refl
   where
     past : EndLists
     past = lists_of m t turns d
@@ -222,7 +223,7 @@ open_more m t i turns needs accesses more a b had adds d = go (has d needs) refl
 
     go : (x : Bool) → has d needs ≡ x → b d ≡ aim (has d needs) (accesses d ++ more d)
     go true q =
-        adds.lists d ∙ (ap (after_all (more d)) (had d ∙ ap (λ x. aim x (accesses d)) q)
+        adds.lists d ∙ (ap (after_all (more d)) (had d own ∙ ap (λ x. aim x (accesses d)) q)
         ∙ (ap (λ hs. end_lists hs (past.refusals ++ [])) (change_last-snoc (with_all (more d)) past.holds (hold_of (end_at m t d) i (accesses d) true)) ∙ ap (λ x. aim x (accesses d ++ more d)) (sym q)))
     go false q =
-        adds.lists d ∙ (ap (λ xs. after_all xs (a d)) (adds.only d q) ∙ (sym (after_nothing (a d)) ∙ (had d ∙ (ap (λ x. aim x (accesses d)) q ∙ ap (λ x. aim x (accesses d ++ more d)) (sym q)))))
+        adds.lists d ∙ (ap (λ xs. after_all xs (a d)) (adds.only d q) ∙ (sym (after_nothing (a d)) ∙ (had d own ∙ (ap (λ x. aim x (accesses d)) q ∙ ap (λ x. aim x (accesses d ++ more d)) (sym q)))))

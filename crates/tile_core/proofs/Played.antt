@@ -18,7 +18,7 @@ use Rattle.edge_lock.specs.EndLists.{EndLists, hold_of, writes_nothing}
 use Rattle.border_cache.specs.Windows.{has, end_at}
 use Rattle.tile_core.specs.declared.phase.Phase.TheVariants.{Draw, Finished, Worn as WornPhase}
 use Rattle.tile_core.specs.Values.{TileValue, centre, event_site, given_up_site}
-use Rattle.tile_core.specs.Turns.{Turn, Wins, Loses, Wears, Worn, AreTurns, IsAttempt, IsAttemptOf, AreAttempts, IsWorn, HasPlayed, accesses_at, lists_of, with_more, one_if, stamp_of, clock_in, greatest, records_of, abandoned_of}
+use Rattle.tile_core.specs.Turns.{Turn, Wins, Loses, Wears, Worn, AreTurns, IsAttempt, IsAttemptOf, AreAttempts, IsWorn, HasPlayed, accesses_at, AgreeOnEdges, lists_of, with_more, one_if, stamp_of, clock_in, greatest, records_of, abandoned_of}
 use Rattle.tile_core.specs.Underway.{IsUnderway, InPhase, IsDrawn}
 
 -- the first attempts of a list
@@ -62,7 +62,7 @@ module _ (m : MapValue) (t : ℕ) (attempts : List Attempt) where
   turns_few (x ∷ xs) a = let lt = turn_there (length xs) x a.0 in omega (arith, lt)
 
 module _ (m : MapValue) (meaning : WindowValue → ℕ → WindowValue) (start : Site → AtomValue) (attempts : List Attempt) (tile : TileValue) (lists : ℕ → EndLists) (u : IsUnderway m meaning start attempts tile lists) where
-  with_turns : (n : ℕ) → length u.turns ≡ n → ((e : ℕ) → lists e ≡ lists_of m tile.number u.turns e) → HasPlayed m meaning start tile.number (take n attempts) tile.records tile.abandoned lists
+  with_turns : (n : ℕ) → length u.turns ≡ n → AgreeOnEdges m tile.number lists (lists_of m tile.number u.turns) → HasPlayed m meaning start tile.number (take n attempts) tile.records tile.abandoned lists
   with_turns n count ends = record {
     turns = u.turns;
     each = u.each;
@@ -93,7 +93,7 @@ module _ (m : MapValue) (meaning : WindowValue → ℕ → WindowValue) (start :
     made = made_within m tile.number attempts tile.taken (Wears worn ∷ u.turns) (omega (arith, taken)) ((tile.seed, d.made), u.made);
     records_are = u.records;
     abandoned_are = u.abandoned;
-    lists_are = λ e. h.1.1 e ∙ go e (has e tile.needs) refl;
+    lists_are = λ e own. h.1.1 e own ∙ go e (has e tile.needs) refl;
   }
     where
       h : InPhase m meaning start attempts u.turns tile lists WornPhase

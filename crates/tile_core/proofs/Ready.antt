@@ -25,7 +25,7 @@ module _ (m : MapValue) (t tile : ℕ) (registers end_of : ℕ → ℕ) (board :
   some_registers e h = let r = board.registers_are e (ends e h) in omega (arith, r)
 
   pub had_all : (i : ℕ) (turns : List Turn) (accesses : ℕ → List Access) (a : ℕ → EndLists) → HasOpen m t i turns needs accesses a → All (IsHad registers a) needs
-  had_all i turns accesses a had = all_had (IsHad registers a) needs (λ e h. record { some_registers = some_registers e h; held = open_held m t i turns needs accesses a had e h })
+  had_all i turns accesses a had = all_had (IsHad registers a) needs (λ e h. record { some_registers = some_registers e h; held = open_held m t i turns needs accesses a ends had e h })
 
 -- a needed edge is one of the plane's
 pub needs_known : (m : MapValue) (t : ℕ) (c : Site) (e : ℕ) → has e (needs_of m t c) ≡ true → e < length (pairs_of m)

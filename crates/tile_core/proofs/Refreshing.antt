@@ -5,7 +5,7 @@ use Rattle.std.proofs.lemmas.List.{get_or_default}
 use Rattle.bit_field.specs.Atom.{AtomValue}
 use Rattle.window_sites.specs.Window.{WindowValue}
 use Rattle.tile_map.specs.Plane.{Site, MapValue, in_window}
-use Rattle.tile_map.specs.Edges.{window_site, needs_of}
+use Rattle.tile_map.specs.Edges.{window_site, needs_of, has_end}
 use Rattle.tile_map.specs.Laws.{IsPlane}
 use Rattle.draw_stream.specs.declared.attempt.Attempt.{Attempt}
 use Rattle.edge_lock.specs.declared.history.Access.{Access}
@@ -46,9 +46,10 @@ pub all_had : (P : ℕ → Type 0) (xs : List ℕ) → ((e : ℕ) → has e xs �
 all_had P xs f = λ k d lt. f (get_or xs k d) (has_any xs k d lt)
 
 -- the open hold of a needed edge
-pub open_held : (m : MapValue) (t i : ℕ) (turns : List Turn) (needs : List ℕ) (accesses : ℕ → List Access) (a : ℕ → EndLists) → HasOpen m t i turns needs accesses a → (e : ℕ) → has e needs ≡ true → IsHeld (a e)
-open_held m t i turns needs accesses a had e h =
-    subst IsHeld (sym (had e ∙ ap (λ x. with_more (one_if x (hold_of (end_at m t e) i (accesses e) true)) [] (lists_of m t turns e)) h)) (held_more (hold_of (end_at m t e) i (accesses e) true) [] (lists_of m t turns e) refl)
+pub open_held : (m : MapValue) (t i : ℕ) (turns : List Turn) (needs : List ℕ) (accesses : ℕ → List Access) (a : ℕ → EndLists) → ((e : ℕ) → has e needs ≡ true → has_end m t e ≡ true) → HasOpen m t i turns needs accesses a
+    → (e : ℕ) → has e needs ≡ true → IsHeld (a e)
+open_held m t i turns needs accesses a ends had e h =
+    subst IsHeld (sym (had e (ends e h) ∙ ap (λ x. with_more (one_if x (hold_of (end_at m t e) i (accesses e) true)) [] (lists_of m t turns e)) h)) (held_more (hold_of (end_at m t e) i (accesses e) true) [] (lists_of m t turns e) refl)
 
 module _ (m : MapValue) (meaning : WindowValue → ℕ → WindowValue) (start : Site → AtomValue) (attempts : List Attempt) (tile : TileValue) (a : ℕ → EndLists) (u : IsUnderway m meaning start attempts tile a) (is : tile.phase ≡ Refresh) where
   abbrev t : ℕ
@@ -102,14 +103,14 @@ module _ (m : MapValue) (meaning : WindowValue → ℕ → WindowValue) (start :
       reads_is e h = ap (λ xs. xs ++ f.more e) (r.is e h)
 
       here : (e : ℕ) → has e tile.needs ≡ true → a e ≡ with_more (hold_of (end_at m t e) i [] true ∷ []) [] (lists_of m t u.turns e)
-      here e h = refreshing.1 e ∙ ap (λ x. with_more (one_if x (hold_of (end_at m t e) i [] true)) [] (lists_of m t u.turns e)) h
+      here e h = refreshing.1 e (u.needs.ends e h) ∙ ap (λ x. with_more (one_if x (hold_of (end_at m t e) i [] true)) [] (lists_of m t u.turns e)) h
 
       known_a : (e : ℕ) → has e tile.needs ≡ true → known_value (a e) ≡ (λ q. None)
       known_a e h = ap known_value (here e h) ∙ known_open (end_at m t e) i [] (lists_of m t u.turns e)
 
       known_b : (e : ℕ) → has e tile.needs ≡ true → known_value (b e) ≡ known_after (λ q. None) (r.more e)
       known_b e h =
-          let held : IsHeld (a e) = open_held m t i u.turns tile.needs no_access a refreshing.1 e h in
+          let held : IsHeld (a e) = open_held m t i u.turns tile.needs no_access a u.needs.ends refreshing.1 e h in
           ap known_value (r.adds.lists e) ∙ (known_all (r.more e) (a e) held ∙ ap (λ k. known_after k (r.more e)) (known_a e h))
 
       honest : (e : ℕ) → has e tile.needs ≡ true → IsHonest (λ q. None) (r.more e ++ f.more e)

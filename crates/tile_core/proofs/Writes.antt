@@ -22,7 +22,7 @@ use Rattle.border_cache.proofs.Runs.{known_after}
 use Rattle.tile_core.specs.declared.phase.Phase.{Phase}
 use Rattle.tile_core.specs.declared.phase.Phase.TheVariants.{Write}
 use Rattle.tile_core.specs.Values.{TileValue, centre}
-use Rattle.tile_core.specs.Turns.{Wins, Won, lists_of, lists_left, with_more, one_if, as_open, IsWon, IsEventHold, cell_left, atom_for, own_cell, newest_at, clock_in, greatest, stamp_of, cells_of}
+use Rattle.tile_core.specs.Turns.{Wins, Won, AgreeOnEdges, lists_of, lists_left, with_more, one_if, as_open, IsWon, IsEventHold, cell_left, atom_for, own_cell, newest_at, clock_in, greatest, stamp_of, cells_of}
 use Rattle.tile_core.specs.Clocks.{WritesClocks}
 use Rattle.tile_core.specs.Underway.{Onward, IsUnderway, InPhase, IsRead, IsRun, HasOpen, still}
 use Rattle.tile_core.specs.Steps.{Writes, over, written_phase, event_entry}
@@ -123,7 +123,7 @@ module _ (m : MapValue) (meaning : WindowValue → ℕ → WindowValue) (start :
         window_cell m c s.0 n copy mark.keeps.map s.1 ∙ (cell_is n s.0 lt s.1 ∙ ap (λ o. cell_value tile.event_stamp (atom_for o writing.1.3.after)) (sym s.1))
 
     here_held : (e : ℕ) → has e tile.needs ≡ true → a e ≡ with_more (hold_of (end_at m t e) i (writing.1.0 e) true ∷ []) [] (lists_of m t u.turns e)
-    here_held e h = writing.1.1 e ∙ ap (λ x. with_more (one_if x (hold_of (end_at m t e) i (writing.1.0 e) true)) [] (lists_of m t u.turns e)) h
+    here_held e h = writing.1.1 e (u.needs.ends e h) ∙ ap (λ x. with_more (one_if x (hold_of (end_at m t e) i (writing.1.0 e) true)) [] (lists_of m t u.turns e)) h
 
     known_here : (e : ℕ) → has e tile.needs ≡ true → known_value (a e) ≡ known_after (λ r. None) (writing.1.0 e)
     known_here e h = ap known_value (here_held e h) ∙ known_open (end_at m t e) i (writing.1.0 e) (lists_of m t u.turns e)
@@ -167,8 +167,8 @@ module _ (m : MapValue) (meaning : WindowValue → ℕ → WindowValue) (start :
       acts = run.acts;
     }
 
-    left : (e : ℕ) → d e ≡ lists_left m t (still tile.needs 0) (Wins won) u.turns e
-    left e = open_now e ∙ (go (has e tile.needs) refl ∙ ap (λ es. with_more (one_if (has e es) (as_open (has e tile.needs && true) (won.hold e))) [] (lists_of m t u.turns e)) writing.0.needs)
+    left : AgreeOnEdges m t d (lists_left m t (still tile.needs 0) (Wins won) u.turns)
+    left e own = open_now e own ∙ (go (has e tile.needs) refl ∙ ap (λ es. with_more (one_if (has e es) (as_open (has e tile.needs && true) (won.hold e))) [] (lists_of m t u.turns e)) writing.0.needs)
       where
         go : (x : Bool) → has e tile.needs ≡ x → with_more (one_if (has e tile.needs) (hold_of (end_at m t e) i ((writing.1.0 e ++ p.more e) ++ w.more e) true)) [] (lists_of m t u.turns e)
             ≡ with_more (one_if (has e tile.needs) (as_open (has e tile.needs && true) (won.hold e))) [] (lists_of m t u.turns e)

@@ -3,4 +3,5 @@ pub mod Turns
 pub mod Clocks
 pub mod Underway
 pub mod Steps
+pub mod Boards
 pub mod Kept

@@ -3,7 +3,7 @@ use Rattle.std.specs.Prelude.{ℕ, ◌≡◌, ◌≤◌, ◌<◌, ◌+◌, ◌-�
 use Rattle.bit_field.specs.Atom.{AtomValue, empty_atom}
 use Rattle.window_sites.specs.Window.{WindowValue, atom_at}
 use Rattle.tile_map.specs.Plane.{Site, MapValue, site_in, in_window}
-use Rattle.tile_map.specs.Edges.{window_site, needs_of, other_end}
+use Rattle.tile_map.specs.Edges.{window_site, needs_of, has_end, other_end}
 use Rattle.cell_grid.specs.declared.record.Record.{Record}
 use Rattle.draw_stream.specs.declared.attempt.Attempt.{Attempt}
 use Rattle.event_journal.specs.declared.abandoned.Abandoned.{Abandoned}
@@ -77,6 +77,10 @@ one_if false hold = []
 -- the lists with a hold more, where there is one, and refusals more
 abbrev pub with_more : List Hold → List Refusal → EndLists → EndLists
 with_more holds refusals lists = end_lists (lists.holds ++ holds) (lists.refusals ++ refusals)
+
+-- at each edge of tile t, and at no other, the lists are known to be these
+abbrev pub AgreeOnEdges : MapValue → ℕ → (ℕ → EndLists) → (ℕ → EndLists) → Type 0
+AgreeOnEdges m t lists these = (e : ℕ) → has_end m t e ≡ true → lists e ≡ these e
 
 -- the lists of the tile's end of an edge after these turns
 abbrev pub lists_of : MapValue → ℕ → List Turn → ℕ → EndLists
@@ -248,4 +252,4 @@ pub record HasPlayed (m : MapValue) (meaning : WindowValue → ℕ → WindowVal
   pub made : AreAttempts m t attempts turns
   pub records_are : records ≡ records_of turns
   pub abandoned_are : abandoned ≡ abandoned_of turns
-  pub lists_are : (e : ℕ) → lists e ≡ lists_of m t turns e
+  pub lists_are : AgreeOnEdges m t lists (lists_of m t turns)

@@ -16,11 +16,11 @@ use Rattle.border_cache.specs.Copies.{IsCentre, held_cell}
 use Rattle.tile_core.specs.declared.phase.Phase.{Phase}
 use Rattle.tile_core.specs.declared.phase.Phase.TheVariants.{Draw, Lock, Refresh, Behave, Write, Give, Back, Finished, Worn}
 use Rattle.tile_core.specs.Values.{TileValue, centre}
-use Rattle.tile_core.specs.Turns.{HasPlayed, Turn, Wins, Loses, Wears, AreTurns, AreAttempts, IsAttempt, Wearless, edges_of, lists_of, lists_left, with_more, one_if, cells_of, stamp_of, clock_in, greatest, records_of, abandoned_of, newest_at}
+use Rattle.tile_core.specs.Turns.{HasPlayed, Turn, Wins, Loses, Wears, AreTurns, AreAttempts, IsAttempt, Wearless, edges_of, AgreeOnEdges, lists_of, lists_left, with_more, one_if, cells_of, stamp_of, clock_in, greatest, records_of, abandoned_of, newest_at}
 
 -- the attempt in hand has these edges, with these accesses so far
 abbrev pub HasOpen : MapValue → ℕ → ℕ → List Turn → List ℕ → (ℕ → List Access) → (ℕ → EndLists) → Type 0
-HasOpen m t attempt turns edges accesses lists = (e : ℕ) → lists e ≡ with_more (one_if (has e edges) (hold_of (end_at m t e) attempt (accesses e) true)) [] (lists_of m t turns e)
+HasOpen m t attempt turns edges accesses lists = AgreeOnEdges m t lists (λ e. with_more (one_if (has e edges) (hold_of (end_at m t e) attempt (accesses e) true)) [] (lists_of m t turns e))
 
 abbrev pub no_access : ℕ → List Access
 no_access e = []
@@ -68,7 +68,7 @@ still edges next e = has e edges && not (has e (take next edges))
 
 abbrev pub IsGiving : MapValue → ℕ → List Turn → List ℕ → ℕ → (ℕ → EndLists) → Type 0
 IsGiving m t [] edges next lists = ⊥
-IsGiving m t (x ∷ older) edges next lists = (edges ≡ edges_of m t x) × ((e : ℕ) → lists e ≡ lists_left m t (still edges next) x older e)
+IsGiving m t (x ∷ older) edges next lists = (edges ≡ edges_of m t x) × AgreeOnEdges m t lists (lists_left m t (still edges next) x older)
 
 -- the last turn is an abandoned attempt
 abbrev pub IsBack : List Turn → Type 0
@@ -78,7 +78,7 @@ IsBack (Loses l ∷ older) = Unit {0}
 IsBack (Wears w ∷ older) = ⊥
 
 abbrev pub IsOver : MapValue → ℕ → List Turn → (ℕ → EndLists) → Type 0
-IsOver m t turns lists = (e : ℕ) → lists e ≡ lists_of m t turns e
+IsOver m t turns lists = AgreeOnEdges m t lists (lists_of m t turns)
 
 abbrev pub InPhase : MapValue → (WindowValue → ℕ → WindowValue) → (Site → AtomValue) → List Attempt → List Turn → TileValue → (ℕ → EndLists) → Phase → Type 0
 InPhase m meaning start attempts turns tile lists Draw = (tile.taken ≡ length turns) × (0 < length tile.left) × IsOver m tile.number turns lists
@@ -155,8 +155,8 @@ pub record IsFreshTile (m : MapValue) (t : ℕ) (start : Site → AtomValue) (at
   pub map : tile.cache.map ≡ m
   pub taken : tile.taken ≡ 0
   pub left : tile.left ≡ attempts
-  -- it is underway on any board whose lists are empty
-  pub underway : (meaning : WindowValue → ℕ → WindowValue) (lists : ℕ → EndLists) → ((e : ℕ) → lists e ≡ end_lists [] []) → IsUnderway m meaning start attempts tile lists
+  -- it is underway on any board on whose edges of the tile nothing has happened
+  pub underway : (meaning : WindowValue → ℕ → WindowValue) (lists : ℕ → EndLists) → AgreeOnEdges m t lists (λ e. end_lists [] []) → IsUnderway m meaning start attempts tile lists
 
 -- from whatever start and attempts it was underway, it still is, after any number of steps
 abbrev pub GoesFar : MapValue → (WindowValue → ℕ → WindowValue) → TileValue → (ℕ → EndLists) → TileValue → (ℕ → EndLists) → Type 0

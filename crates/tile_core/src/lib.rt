@@ -2,9 +2,11 @@
 #![tactic(auto)]
 
 mod clocks;
+mod law;
 mod phase;
 mod state;
 mod tile;
 
+pub use law::on_one_board;
 pub use phase::Phase;
 pub use tile::Tile;

@@ -20,5 +20,5 @@ returns c =
     record {
       map = f.map;
       end = record { tile_is = r.acting ∙ sym f.number; registers_are = λ e h. absurd (none e h); end_is = λ e h. absurd (none e h) };
-      underway = (_, _, f.underway after_turn (lists_on b) (nothing_yet b r.acting r.edges));
+      underway = (_, _, f.underway after_turn (lists_on b) (λ e own. nothing_yet b r.acting r.edges e));
     }

@@ -23,4 +23,4 @@ refresh-requires-clause-held g c =
     let a = g.D.Board.lists c.args.board.now in
     let b = g.D.Board.lists c.read_clocks-greatest.new.board in
     let r = subst (λ n. ReadsClocks t.needs n c.read_clocks-greatest.result a b) c.from.ensures c.read_clocks-greatest.ensures.read in
-    open_held m t.number (length q.4.turns) q.4.turns t.needs (λ e. no_access e ++ r.more e) b (after_clocks m q.0 q.1 q.2 t a q.4 q.3 b c.read_clocks-greatest.result r)
+    open_held m t.number (length q.4.turns) q.4.turns t.needs (λ e. no_access e ++ r.more e) b q.4.needs.ends (after_clocks m q.0 q.1 q.2 t a q.4 q.3 b c.read_clocks-greatest.result r)

@@ -16,7 +16,7 @@ publish-requires-clause-held g c =
     let m = c.args.map.now in
     let a = g.D.Board.lists c.args.board.now in
     let p = writing m q.0 q.1 q.2 t a q.4 q.3 in
-    open_held m t.number (length q.4.turns) q.4.turns t.needs p.1.0 a p.1.1
+    open_held m t.number (length q.4.turns) q.4.turns t.needs p.1.0 a q.4.needs.ends p.1.1
 
 pub write_clocks-requires-clause-had : goal.write_clocks-requires-clause-had
 write_clocks-requires-clause-had g c =
