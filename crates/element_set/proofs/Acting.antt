@@ -3,7 +3,7 @@ use Rattle.std.proofs.Common.{◌≡◌, ℕ, zero, suc, ◌+◌, List, [], ◌�
 use Rattle.std.specs.Prelude.{slice_get, if◌then◌else◌}
 use Rattle.window_sites.specs.Window.{WindowValue, atom_at}
 use Rattle.ulam_tree.specs.Typed as t
-use Rattle.ulam_meaning.specs.Programs.{Program, element_classes, number_of, element_of}
+use Rattle.ulam_meaning.specs.Programs.{Program, element_classes, element_of}
 use Rattle.ulam_meaning.specs.Events.{behaves, failure, event_of, after}
 use Rattle.ulam_meaning.proofs.EventLaws.{no_element}
 use Rattle.stack_code.specs.Machine.{CodeValue, runs}

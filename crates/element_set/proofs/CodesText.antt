@@ -1,5 +1,5 @@
 -- Codes under their names, as far as there are both.
-use Rattle.std.proofs.Common.{ℕ, zero, suc, ◌≡◌, ◌≤◌, List, [], ◌∷◌, length, drop, min, refl, arith}
+use Rattle.std.proofs.Common.{ℕ, zero, suc, ◌≡◌, List, [], ◌∷◌, length, drop, min, refl, arith}
 use Rattle.stack_code.specs.Machine.{CodeValue}
 use Rattle.element_set.specs.CodeText.{codes_text}
 

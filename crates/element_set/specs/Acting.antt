@@ -1,6 +1,6 @@
 -- What acts as a set's elements do.
-use Rattle.std.specs.Prelude.{ℕ, ◌≡◌, ap}
-use Rattle.bit_field.specs.Atom.{AtomValue, empty_atom}
+use Rattle.std.specs.Prelude.{ℕ, ◌≡◌}
+use Rattle.bit_field.specs.Atom.{empty_atom}
 use Rattle.window_sites.specs.Window.{WindowValue, atom_at}
 use Rattle.ulam_meaning.specs.Programs.{Program, element_of}
 use Rattle.ulam_meaning.specs.Events.{after, after_by}
@@ -14,4 +14,4 @@ acting_set a = set_value a.set.now
 -- an empty centre leaves the window as it is
 pub idle-after : (g : Program) (w : WindowValue) (seed : ℕ) → atom_at w 0 ≡ empty_atom → after g w seed ≡ w
 unfolding after element_of
-idle-after g w seed h = ap (λ (a : AtomValue). after_by g w seed (element_of g a.kind)) h
+idle-after g w seed h = λ i. after_by g w seed (element_of g (h i).kind)

@@ -1,5 +1,6 @@
-use Rattle.std.proofs.Common.{sym, subst, List, ℕ}
-use Rattle.ulam_tree.specs.ResolvedViews.{resolved_program}
+use Rattle.std.proofs.Common.{sym, subst, List, ℕ, arith}
+use Rattle.std.proofs.lemmas.List.{length-map}
+use Rattle.ulam_tree.specs.ResolvedViews.{resolved_class, resolved_program}
 use Rattle.ulam_tree.specs.Typed as t
 use Rattle.ulam_tree.specs.TypedViews.{typed_program}
 use Rattle.element_set.specs.declared.set.ElementSet.{ElementSet}
@@ -19,6 +20,11 @@ returns-in_err-typed c =
     let cs = resolved_program c.args.program in
     let fault = c.in_err-typed.field-0.0 in
     tells_exit set_value (stage.typed_set cs c.args.layout) (type_fault fault) c.from_residual.result c.from_residual.ensures.1 (type_told ElementSet set_value cs _ fault c.in_err-typed.ensures.found)
+
+pub check-requires : goal.check-requires
+check-requires c =
+    let of = c.requires.resolution in
+    omega (arith, (resolved_named of.items (resolved_program c.args.program) of.is).few, length-map c.args.program.classes.items resolved_class)
 
 pub coded_set-requires-clause-named : goal.coded_set-requires-clause-named
 coded_set-requires-clause-named c =
