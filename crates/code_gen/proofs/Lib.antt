@@ -32,6 +32,7 @@ pub mod ElementMeans
 pub mod LayRounds
 pub mod Built
 pub mod ElementCodes
+pub mod Blocks
 pub mod Clips
 pub mod PathSteps
 pub mod TypedSlots

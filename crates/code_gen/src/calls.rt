@@ -2,7 +2,7 @@
 
 ghost use Rattle.std.specs.Prelude.{◌≡◌, OnOk, List, map};
 ghost use Rattle.code_gen.specs.Pieces.{has_key, add_key, add_calls};
-ghost use Rattle.code_gen.specs.Views.{piece_of, key_of};
+ghost use Rattle.code_gen.specs.Views.{piece_of, pieces_of, key_of};
 
 use crate::piece::{Key, Piece};
 use feast_base::NoMemory;
@@ -31,6 +31,7 @@ fn add_one(keys: &mut Vec<Key>, key: Key) -> Result<(), NoMemory>
 }
 
 /// Appends the functions that a piece calls, in the order of the calls, where they are new.
+#[cycle(calls)]
 pub fn add_calls(keys: &mut Vec<Key>, piece: &Piece) -> Result<(), NoMemory>
     ensures { OnOk result (map key_of keys.new.items ≡ add_calls (piece_of piece.now) (map key_of keys.old.items)) }
 {
@@ -40,6 +41,7 @@ pub fn add_calls(keys: &mut Vec<Key>, piece: &Piece) -> Result<(), NoMemory>
             add_calls(keys, a)?;
             add_calls(keys, b)
         }
+        Piece::Block(list) => add_all(keys, list.as_slice()),
         Piece::Only(a) => add_calls(keys, a),
         Piece::Loop(t, a, b) => {
             add_calls(keys, t)?;
@@ -48,4 +50,15 @@ pub fn add_calls(keys: &mut Vec<Key>, piece: &Piece) -> Result<(), NoMemory>
         }
         _ => Ok(()),
     }
+}
+
+/// The same of pieces one after another.
+#[cycle(calls)]
+fn add_all(keys: &mut Vec<Key>, list: &[Piece]) -> Result<(), NoMemory>
+    ensures { OnOk result (map key_of keys.new.items ≡ add_calls (pieces_of list.now) (map key_of keys.old.items)) }
+{
+    for piece in list {
+        add_calls(keys, piece)?;
+    }
+    Ok(())
 }

@@ -6,7 +6,7 @@ ghost use Rattle.stack_code.specs.Valid.{is_nothing};
 ghost use Rattle.code_gen.specs.Pieces.{ever};
 ghost use Rattle.code_gen.specs.Drafts.{Drafts, end_by};
 ghost use Rattle.code_gen.specs.Depths.{takes, makes, depth, answer_count, at_most};
-ghost use Rattle.code_gen.specs.Views.{piece_of, key_of, IsBelow};
+ghost use Rattle.code_gen.specs.Views.{piece_of, pieces_of, key_of, IsBelow};
 
 use crate::piece::Piece;
 use crate::source::{Head, Source};
@@ -101,6 +101,7 @@ fn after_call(head: Head, d: u32) -> u32
 
 /// How many operands there are after a piece that begins with d of them, 0 where it doesn't go on.
 /// None where some place of it has more than 512.
+#[cycle(depth)]
 pub fn depth<S: Source>(source: &S, piece: &Piece, d: u32) -> Option<u32>
     requires { d ≤ 513 }
     ensures value { result ≡ depth (S.drafts source.now) (piece_of piece.now) d }
@@ -112,6 +113,7 @@ pub fn depth<S: Source>(source: &S, piece: &Piece, d: u32) -> Option<u32>
             let m = depth(source, a, d)?;
             depth(source, b, m)
         }
+        Piece::Block(list) => depth_of_all(source, list.as_slice(), d),
         Piece::Plain(instr) => Some(after_instr(*instr, few(d)?)),
         Piece::Asks(key) => Some(after_call(source.head(*key), few(d)?)),
         Piece::Pick(a, b) => {
@@ -140,6 +142,20 @@ pub fn depth<S: Source>(source: &S, piece: &Piece, d: u32) -> Option<u32>
             Some(0)
         }
     }
+}
+
+/// The same of pieces one after another.
+#[cycle(depth)]
+fn depth_of_all<S: Source>(source: &S, list: &[Piece], d: u32) -> Option<u32>
+    requires { d ≤ 513 }
+    ensures value { result ≡ depth (S.drafts source.now) (pieces_of list.now) d }
+    ensures bound { IsBelow 513 result }
+{
+    let mut left = d;
+    for piece in list {
+        left = depth(source, piece, left)?;
+    }
+    Some(left)
 }
 
 /// The same of the end of a function.

@@ -3,7 +3,8 @@
 ghost use Rattle.std.specs.Prelude.{◌≡◌, ◌≤◌, ◌+◌, ◌<◌, [], ◌∷◌, ◌++◌, OnOk, ℕ, List, map, length, pos};
 ghost use Rattle.code_gen.specs.Pieces.{size, lay, key_number};
 ghost use Rattle.code_gen.specs.Drafts.{end_by};
-ghost use Rattle.code_gen.specs.Views.{piece_of, key_of};
+ghost use Rattle.code_gen.specs.Views.{piece_of, pieces_of, key_of};
+ghost use Rattle.code_gen.specs.declared.piece.Piece.TheVariants.{Block};
 ghost use Rattle.stack_code.specs.declared.instr.Instr.TheVariants.{Turn, Jump};
 
 use crate::piece::{Key, Piece};
@@ -44,8 +45,15 @@ fn number(keys: &[Key], key: Key) -> u32
     n
 }
 
+/// What a block comes to: its pieces one after another.
+#[tactic(auto, using(crate::proofs::Blocks::block_is))]
+fn block_law(list: &Vec<Piece>)
+    ensures { piece_of (Block list.now) ≡ pieces_of list.now.items }
+{}
+
 /// Appends the instructions of a piece, in which `Out` leads to the place `out` and `Next` to the
 /// place `next`, and functions are numbered as they lie in `keys`.
+#[cycle(emit)]
 pub fn emit(
     code: &mut Vec<Instr>,
     keys: &[Key],
@@ -64,6 +72,10 @@ pub fn emit(
         Piece::Seq(a, b) => {
             emit(code, keys, out, next, a)?;
             emit(code, keys, out, next, b)
+        }
+        Piece::Block(list) => {
+            block_law(list);
+            emit_all(code, keys, out, next, list.as_slice())
         }
         Piece::Plain(instr) => put(code, *instr),
         Piece::Asks(key) => put(code, Instr::Call(number(keys, *key))),
@@ -99,6 +111,26 @@ pub fn emit(
         Piece::Gives => put(code, Instr::Return),
         Piece::Leaves => put(code, Instr::ReturnVoid),
     }
+}
+
+/// The same of pieces one after another.
+#[cycle(emit)]
+fn emit_all(
+    code: &mut Vec<Instr>,
+    keys: &[Key],
+    out: u32,
+    next: u32,
+    list: &[Piece],
+) -> Result<(), NoMemory>
+    requires few { length keys.now ≤ 65536 }
+    requires fits { length code.old.items + size (pieces_of list.now) ≤ 65536 }
+    ensures long { OnOk result (length code.new.items ≡ length code.old.items + size (pieces_of list.now)) }
+    ensures ok { OnOk result (code.new.items ≡ code.old.items ++ lay (map key_of keys.now) (length code.old.items) out next (pieces_of list.now)) }
+{
+    for piece in list {
+        emit(code, keys, out, next, piece)?;
+    }
+    Ok(())
 }
 
 /// Appends the end of a function.

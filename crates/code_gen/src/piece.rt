@@ -20,6 +20,8 @@ pub enum Piece {
     Nothing,
     /// One piece and then another.
     Seq(Box<Piece>, Box<Piece>),
+    /// Pieces one after another, however many.
+    Block(Vec<Piece>),
     /// An instruction that goes on.
     Plain(Instr),
     /// A call of a function.

@@ -3,7 +3,7 @@
 ghost use Rattle.std.specs.Prelude.{◌≡◌, ◌≤◌, ◌+◌, ℕ, min};
 ghost use Rattle.code_gen.specs.Pieces.{size};
 ghost use Rattle.code_gen.specs.Drafts.{end_by};
-ghost use Rattle.code_gen.specs.Views.{piece_of};
+ghost use Rattle.code_gen.specs.Views.{piece_of, pieces_of};
 
 use crate::piece::Piece;
 use stack_code::Answer;
@@ -26,12 +26,14 @@ pub fn capped(a: u32, b: u32) -> u32
 }
 
 /// How many instructions a piece has, where they are no more than the most, else one more.
+#[cycle(size)]
 pub fn size_of(piece: &Piece) -> u32
     ensures { result ≡ min (size (piece_of piece.now)) 65537 }
 {
     match piece {
         Piece::Nothing => 0,
         Piece::Seq(a, b) => capped(size_of(a), size_of(b)),
+        Piece::Block(list) => size_of_all(list.as_slice()),
         Piece::Pick(a, b) => capped(capped(1, size_of(a)), capped(1, size_of(b))),
         Piece::Only(a) => capped(1, size_of(a)),
         Piece::Loop(t, a, b) => capped(
@@ -46,6 +48,18 @@ pub fn size_of(piece: &Piece) -> u32
         | Piece::Gives
         | Piece::Leaves => 1,
     }
+}
+
+/// The same of pieces one after another.
+#[cycle(size)]
+fn size_of_all(list: &[Piece]) -> u32
+    ensures { result ≡ min (size (pieces_of list.now)) 65537 }
+{
+    let mut sum: u32 = 0;
+    for piece in list {
+        sum = capped(sum, size_of(piece));
+    }
+    sum
 }
 
 /// How many instructions the end of a function has.

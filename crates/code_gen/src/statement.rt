@@ -1,5 +1,5 @@
 //! The pieces of statements.
-ghost use Rattle.std.specs.Prelude.{◌≡◌, IfOk};
+ghost use Rattle.std.specs.Prelude.{◌≡◌, ◌++◌, ◌∷◌, [], IfOk, OnOk};
 ghost use Rattle.ulam_tree.specs.TypedViews.{typed_statement, typed_body, typed_part};
 ghost use Rattle.code_gen.specs.Clipped.{clip, choice_of};
 ghost use Rattle.code_gen.specs.Scheme as scheme;
@@ -104,15 +104,23 @@ fn part(alloc: Global, scene: &Scene, one: &Option<Box<Statement>>) -> Result<Pi
     }
 }
 
-/// Statements from the last one on.
+/// One more piece.
+fn keep(pieces: &mut Vec<Piece>, piece: Piece) -> Result<(), NoMemory>
+    ensures { OnOk result (pieces.new.items ≡ pieces.old.items ++ piece ∷ []) }
+{
+    pieces.push(piece)?;
+    Ok(())
+}
+
+/// Statements one after another.
 #[cycle(statement)]
 pub fn body(alloc: Global, scene: &Scene, list: &[Statement]) -> Result<Piece, NoMemory>
     ensures { IfOk result (λ q. piece_of q ≡ clip (scheme.body_piece (scene_of scene.now) (typed_body list.now))) }
 {
-    let mut piece = Piece::Nothing;
-    for i in (0..list.len()).rev() {
-        let one = statement(alloc, scene, &list[i])?;
-        piece = make::seq(alloc, one, piece)?;
+    let mut pieces = Vec::new(alloc);
+    for one in list {
+        let piece = statement(alloc, scene, one)?;
+        keep(&mut pieces, piece)?;
     }
-    Ok(piece)
+    Ok(Piece::Block(pieces))
 }

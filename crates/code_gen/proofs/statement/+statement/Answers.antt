@@ -1,4 +1,4 @@
-use Rattle.std.proofs.Common.{rules, arith, ◌≡◌, option_map}
+use Rattle.std.proofs.Common.{rules, arith, ◌≡◌, ◌∙◌, option_map}
 use Rattle.std.proofs.lemmas.Result.{IfOk-weaker}
 use Rattle.std.proofs.lemmas.Grind.{common_steps}
 use Rattle.ulam_tree.specs.TypedViews.{typed_expr, typed_statement, typed_part}
@@ -7,6 +7,7 @@ use Rattle.code_gen.specs.Clipped.{clip}
 use Rattle.code_gen.specs.Scheme.{index_piece, loop_piece, statement_piece, part_piece}
 use Rattle.code_gen.specs.Seen.{scene_of}
 use Rattle.code_gen.specs.Views.{piece_of}
+use Rattle.code_gen.proofs.Blocks.{block_is, body_step, body_done}
 use Rattle.code_gen.proofs.TypedCalls.{does_at}
 use Rattle.code_gen.proofs.TypedStatements.{block_at, if_done, for_done}
 use Rattle.code_gen.proofs.statement.+statement.Goals as goal
@@ -44,3 +45,12 @@ pub statement-returns-in-Call : goal.statement-returns-in-Call
 statement-returns-in-Call t c =
     let e = does_at (scene_of c.args.scene.now) c.args.one.now c.in-Call.call c.in-Call.is in
     rw e (first_of (search rules, grind (arith, common_steps)))
+
+pub body-loop-one-preserved : goal.body-loop-one-preserved
+body-loop-one-preserved t c =
+    body_step (scene_of c.args.scene.now) c.args.list.now c.loop-one.one-index c.one-item.result c.in_ok-piece.piece c.loop-one.pieces.items c.keep.new.pieces.items _
+    c.loop-one-test.true c.one-item.is c.in_ok-keep.ensures c.in_ok-piece.ensures c.loop-one.invariant
+
+pub body-returns : goal.body-returns
+body-returns t c =
+    block_is c.loop-one.pieces ∙ body_done (scene_of c.args.scene.now) c.args.list.now c.loop-one.one-index c.loop-one.pieces.items _ c.loop-one-test.false c.loop-one.invariant

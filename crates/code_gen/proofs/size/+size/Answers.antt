@@ -1,0 +1,9 @@
+use Rattle.std.proofs.Common.{rules, arith}
+use Rattle.std.proofs.lemmas.Grind.{common_steps}
+use Rattle.code_gen.proofs.Blocks.{block_at}
+use Rattle.code_gen.proofs.size.+size.Goals as goal
+
+pub size_of-returns-in-Block : goal.size_of-returns-in-Block
+size_of-returns-in-Block t c =
+    let e = block_at c.args.piece.now c.in-Block.list c.in-Block.is in
+    rw e (first_of (search rules, grind (arith, common_steps)))
