@@ -31,3 +31,12 @@ pub mod ElementCode
 pub mod ElementMeans
 pub mod LayRounds
 pub mod Built
+pub mod ElementCodes
+pub mod Clips
+pub mod PathSteps
+pub mod TypedSlots
+pub mod TypedCalls
+pub mod TypedStatements
+pub mod TreeSource
+pub mod ElementRounds
+pub mod ElementBuilds

@@ -9,8 +9,10 @@ use Rattle.code_gen.specs.Pieces.{Key, Piece, size, add_calls}
 use Rattle.code_gen.specs.Drafts.{Drafts, end_by, key_piece, reach, keys, total}
 use Rattle.code_gen.specs.Depths.{depth}
 use Rattle.code_gen.specs.Limits.{all_low, IsShort}
+use Rattle.code_gen.specs.Laws.{IsGood, IsReady}
 use Rattle.code_gen.specs.Gathers.{body_at, longer}
 use Rattle.code_gen.proofs.Closed.{reach_grown, get_front, get_some}
+use Rattle.code_gen.proofs.Room.{keys_room}
 use Rattle.code_gen.proofs.Worklist.{reach_done, reach_step, take_past, next_taken, next_total, reach_total, taken_some, calls_long}
 
 -- an entry of the code's list, as the definitions see it
@@ -121,3 +123,10 @@ long_round g main k sum ks bodies f r lt at e short =
 -- there are never so many
 pub full_round : (g : Drafts) (main : Key) (sum : ℕ) (ks : List Key) (bodies : List Piece) → Round g main 65537 sum ks bodies → ⊥
 full_round g main sum ks bodies r = let h = taken_some g 65537 ks r.within in omega (arith, h, r.count, r.most)
+
+-- the next function is good
+pub round_good : (g : Drafts) (main : Key) (k sum : ℕ) (ks : List Key) (bodies : List Piece) (f : Key) → IsReady g main → Round g main k sum ks bodies → slice_get ks k ≡ Some f → IsGood g f
+round_good g main k sum ks bodies f ready r at =
+    let grown = reach_grown g (65537 - k) k ks in
+    let there : slice_get (keys g main) k ≡ Some f = ap (λ l. slice_get l k) (sym r.rest ∙ grown.1) ∙ get_front ks grown.0 k (get_some ks k f at) ∙ at in
+    ready.good f (keys_room g main ready k f there)

@@ -13,3 +13,7 @@ pub mod Laws
 pub mod Depths
 pub mod Views
 pub mod Gathers
+pub mod Sized
+pub mod Clipped
+pub mod Seen
+pub mod Compiling

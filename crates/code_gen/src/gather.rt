@@ -2,6 +2,7 @@
 
 ghost use Rattle.std.specs.Prelude.{◌≡◌, ◌≤◌, ◌∷◌, ◌++◌, [], OnOk};
 ghost use Rattle.code_gen.specs.Gathers.{Gathers, body_at, longer};
+ghost use Rattle.code_gen.specs.Laws.{IsReady};
 ghost use Rattle.code_gen.specs.Views.{piece_of, key_of};
 
 use crate::calls::add_calls;
@@ -56,6 +57,7 @@ fn keep_body(bodies: &mut Vec<Piece>, body: Piece) -> Result<(), NoMemory>
 /// All functions of an element that begins with this one, and their bodies. None where the limits
 /// of code are passed.
 pub fn gather<S: Source>(alloc: Global, source: &S, main: Key) -> Result<Option<Gathered>, NoMemory>
+    requires { IsReady (S.drafts source.now) (key_of main) }
     ensures { Gathers (S.drafts source.now) (key_of main) result }
 {
     let mut keys = Vec::new(alloc);

@@ -1,5 +1,5 @@
 //! Laws of code that is made of pieces.
-ghost use Rattle.std.specs.Prelude.{◌≡◌, ℕ, List, map, length, Some, None};
+ghost use Rattle.std.specs.Prelude.{◌≡◌, ◌⊎◌, ℕ, suc, List, map, length, slice_get, Some, None};
 ghost use Rattle.stack_code.specs.Valid.{Kinds};
 ghost use Rattle.ulam_tree.specs.Resolved as resolved;
 ghost use Rattle.ulam_tree.specs.Typed as typed;
@@ -7,7 +7,7 @@ ghost use Rattle.ulam_tree.specs.Ways.{NoneContainsItself};
 ghost use Rattle.atom_layout.specs.Layouts.{layout_of, first_wide};
 ghost use Rattle.ulam_types.specs.Programs.{class_sig};
 ghost use Rattle.ulam_types.specs.Well.{IsWellProgram};
-ghost use Rattle.ulam_meaning.specs.Programs.{Program};
+ghost use Rattle.ulam_meaning.specs.Programs.{Program, element_of};
 ghost use Rattle.ulam_meaning.specs.Laws.{IsLaidOut};
 ghost use Rattle.ulam_meaning.specs.Events.{behave_key};
 ghost use Rattle.code_gen.specs.Pieces.{Key, Piece};
@@ -18,7 +18,8 @@ ghost use Rattle.code_gen.specs.Limits.{IsShort};
 ghost use Rattle.code_gen.specs.Scheme.{draft_of};
 ghost use Rattle.code_gen.specs.Kinded.{IsKinded};
 ghost use Rattle.code_gen.specs.Named.{IsNamedProgram, HasBehave};
-ghost use Rattle.code_gen.specs.Compiled.{IsCompiled};
+ghost use Rattle.code_gen.specs.Compiled.{element_code, IsCompiled};
+ghost use Rattle.code_gen.specs.Compiling.{element_codes, AreShort, IsFirstLong};
 ghost use Rattle.code_gen.specs.Laws.{IsReady, IsRight};
 
 /// Where the functions of a program are ready and the limits let the code of an element through,
@@ -46,4 +47,19 @@ pub fn compiled()
     ensures kinds { (g : Program) (c : ℕ) → IsWellProgram g.classes → IsNamedProgram g → IsLaidOut g → HasBehave g c → IsKinded g c }
     ensures ready { (g : Program) (c : ℕ) → IsKinded g c → IsReady (draft_of g) (behave_key g c) }
     ensures compiled { (g : Program) (kind c : ℕ) → IsKinded g c → IsShort (draft_of g) (behave_key g c) → IsCompiled g kind c }
+{}
+
+/// The limits let the code of each element of a program through, or there is a first element whose
+/// code they don't; never both, and no two first ones.
+pub fn one_compiling()
+    ensures some { (program : Program) → AreShort program ⊎ ((class : ℕ) × IsFirstLong program class) }
+    ensures either { (program : Program) (class : ℕ) → AreShort program → IsFirstLong program class → ⊥ }
+    ensures one { (program : Program) (a b : ℕ) → IsFirstLong program a → IsFirstLong program b → a ≡ b }
+{}
+
+/// The code of the element of a type number stands at this number in the codes of all elements, of
+/// which the first has the number 1; and where no element has the number, no code stands there.
+pub fn codes_in_order()
+    ensures some { (program : Program) (kind class : ℕ) → element_of program (suc kind) ≡ Some class → slice_get (element_codes program) kind ≡ Some (element_code program (suc kind) class) }
+    ensures none { (program : Program) (kind : ℕ) → element_of program (suc kind) ≡ None → slice_get (element_codes program) kind ≡ None }
 {}

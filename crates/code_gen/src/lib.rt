@@ -1,21 +1,37 @@
-//! The compiler, from typed trees to stack code. What stands is its lower half: code as pieces,
-//! before places and numbers are given out, and how pieces become the code of an element.
+//! The compiler, from typed trees to stack code.
+//!
+//! A function's tree becomes a piece: code before places and numbers are given out. The functions of
+//! an element are found by their calls, and laid down one after another.
 #![tactic(auto)]
 
+mod access;
 mod calls;
+mod classes;
 mod depth;
 mod element;
 mod element_law;
+mod elements;
 mod emit;
+mod expr;
+mod fault;
 mod gather;
+mod kinds;
 mod law;
+mod locals;
+mod lookup;
 pub mod make;
+mod parts;
+mod path;
 mod piece;
 mod size;
 mod source;
+mod statement;
+mod trees;
 
 pub use element::build;
 pub use element_law::same_meaning;
-pub use law::{compiled, depths, right};
+pub use elements::compile;
+pub use fault::GenFault;
+pub use law::{codes_in_order, compiled, depths, one_compiling, right};
 pub use piece::{Key, Piece};
 pub use source::{Head, Source};

@@ -8,7 +8,7 @@ pub struct Key {
     /// The number of the class.
     pub class: u32,
     /// The number of the function in its class.
-    pub function: u32,
+    pub function: usize,
     /// The first state bit of the class.
     pub base: u32,
 }

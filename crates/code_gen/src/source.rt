@@ -20,6 +20,7 @@ pub struct Head {
 pub trait Source {
     ghost use Rattle.std.specs.Prelude.{◌≡◌, ◌≤◌, IfOk};
     ghost use Rattle.code_gen.specs.Drafts.{Drafts, value_at};
+    ghost use Rattle.code_gen.specs.Laws.{IsGood};
     ghost use Rattle.code_gen.specs.Views.{piece_of, key_of, IsHead};
 
     ghost drafts: { Self → Drafts };
@@ -30,6 +31,7 @@ pub trait Source {
 
     /// The body of a function. `NoMemory` where its pieces can't be kept.
     fn body(&self, alloc: Global, key: Key) -> Result<Piece, NoMemory>
+        requires { IsGood (drafts self.now) (key_of key) }
         ensures { IfOk result (λ q. piece_of q ≡ (drafts self.now (key_of key)).body) };
 
     /// A function as the code has it, with its first instruction at a place. `NoMemory` where its

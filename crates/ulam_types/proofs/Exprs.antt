@@ -41,7 +41,7 @@ mutual
   unfolding IsTyped expr
 
   pub expr_fits : (g : Scope) (w : Kind) (e : r.Expr) (a : t.Expr) → IsTyped g w e a → expr g w e ≡ Ok a
-  expr_fits g w (r.number v true p) a h = ap Ok (sym h)
+  expr_fits g w (r.number v true p) a h = rw h.0 (ap Ok (sym h.1))
   expr_fits g w (r.number v false p) a h = rw h.0 (ap Ok (sym h.1))
   expr_fits g w (r.truth b p) a h = ap Ok (sym h)
   expr_fits g w (r.reads x) a h = rw h.1 (ap Ok (sym h.2))
@@ -88,7 +88,7 @@ mutual
   unfolding IsTyped expr
 
   pub expr_means : (g : Scope) (w : Kind) (e : r.Expr) → Means (IsTyped g w e) (expr g w e)
-  expr_means g w (r.number v true p) = refl
+  expr_means g w (r.number v true p) = means_must (IsTyped g w (r.number v true p)) (plain_fits k.Unsigned v) _ _ (λ h. (h, refl))
   expr_means g w (r.number v false p) = means_must (IsTyped g w (r.number v false p)) (plain_fits w v) _ _ (λ h. (h, refl))
   expr_means g w (r.truth b p) = refl
   expr_means g w (r.reads x) = means_found (IsTyped g w (r.reads x)) (value_type g x.steps) _ _ (λ ty h. (ty, h, refl))

@@ -14,7 +14,7 @@ use Rattle.ulam_types.specs.Well.{count, IsCallee, IsWell, AreWell}
 
 pub plain_same : (g : Scope) (w : Kind) (e : r.Expr) (a : t.Expr) → IsTyped g w e a → t.plain a ≡ plain e
 unfolding IsTyped
-plain_same g w (r.number v true p) a h = ap t.plain h
+plain_same g w (r.number v true p) a h = ap t.plain h.1
 plain_same g w (r.number v false p) a h = ap t.plain h.1
 plain_same g w (r.truth b p) a h = ap t.plain h
 plain_same g w (r.reads x) a h = ap t.plain h.2
@@ -40,7 +40,7 @@ mutual
   unfolding IsTyped IsWell
 
   pub well : (g : Scope) (w : Kind) (e : r.Expr) (a : t.Expr) → IsTyped g w e a → IsWell g a
-  well g w (r.number v true p) a h = subst (IsWell g) (sym h) refl
+  well g w (r.number v true p) a h = subst (IsWell g) (sym h.1) refl
   well g w (r.number v false p) a h = subst (IsWell g) (sym h.1) (w, h.0, refl)
   well g w (r.truth b p) a h = subst (IsWell g) (sym h) refl
   well g w (r.reads x) a h = subst (IsWell g) (sym h.2) h.1

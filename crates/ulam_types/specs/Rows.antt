@@ -62,10 +62,10 @@ beside false ty = taken ty
 abbrev pub plain_type : Kind → Ty
 plain_type kind = Num (record { kind = kind; width = 32 })
 
--- a plain number of this kind may have this value
+-- a number of this kind may have this value: it lies in 32 bits
 abbrev pub plain_fits : Kind → ℕ → Bool
 plain_fits k.Int v = nat_lt v (2 ^ 31)
-plain_fits kind v = true
+plain_fits kind v = nat_lt v (2 ^ 32)
 
 -- Operators between operands
 

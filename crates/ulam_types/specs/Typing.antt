@@ -16,9 +16,9 @@ use Rattle.ulam_types.specs.Bodies.{atom_slot, is_element_type}
 
 -- Expressions
 
--- A number with `u` is unsigned; without, it has the kind that is handed down.
+-- A number with `u` is unsigned; without, it has the kind that is handed down. Either way it lies in 32 bits of its kind.
 abbrev pub IsNumber : Kind → ℕ → Bool → Place → t.Expr → Type 0
-IsNumber w v true p a = a ≡ t.typed (t.number v true p) (unsigned 32)
+IsNumber w v true p a = (plain_fits k.Unsigned v ≡ true) × (a ≡ t.typed (t.number v true p) (unsigned 32))
 IsNumber w v false p a = (plain_fits w v ≡ true) × (a ≡ t.typed (t.number v false p) (plain_type w))
 
 -- a call with so many arguments, which `AreRead` says of what is wanted

@@ -38,7 +38,9 @@ count r.no_args = 0
 count (r.arg e es) = suc (count es)
 
 abbrev pub number : Kind → ℕ → Bool → Place → Found t.Expr
-number w v true p = Ok (t.typed (t.number v true p) (unsigned 32))
+number w v true p = do
+  _ ← must (plain_fits k.Unsigned v) (wrong_type p)
+  Ok (t.typed (t.number v true p) (unsigned 32))
 number w v false p = do
   _ ← must (plain_fits w v) (wrong_type p)
   Ok (t.typed (t.number v false p) (plain_type w))

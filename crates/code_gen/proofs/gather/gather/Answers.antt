@@ -3,7 +3,7 @@ use Rattle.std.proofs.lemmas.List.{length-map}
 use Rattle.code_gen.specs.Pieces.{add_calls}
 use Rattle.code_gen.specs.Gathers.{body_at}
 use Rattle.code_gen.specs.Views.{piece_of, key_of}
-use Rattle.code_gen.proofs.Rounds.{Round, first_round, next_round, done_round, long_round, full_round, get_mapped, map_one}
+use Rattle.code_gen.proofs.Rounds.{Round, first_round, next_round, done_round, long_round, full_round, round_good, get_mapped, map_one}
 use Rattle.code_gen.proofs.gather.gather.Goals as goal
 
 pub loop-k-init : goal.loop-k-init
@@ -20,6 +20,13 @@ returns-then-k-len g c =
     let le : length ks ≤ c.loop-k.k = omega (arith, c.if-k-len.true, c.len.ensures, length-map c.loop-k.keys.items key_of) in
     let x = done_round p (key_of c.args.main) c.loop-k.k c.loop-k.sum ks (map piece_of c.loop-k.bodies.items) c.loop-k.invariant.round le in
     record { called = x.0; bodies = x.1; short = x.2 }
+
+pub body-requires : goal.body-requires
+body-requires g c =
+    let p = g.S.Source.drafts c.args.source.now in
+    let lt : c.loop-k.k < length c.loop-k.keys.items = omega (arith, c.if-k-len.false, c.len.ensures) in
+    let at = get_mapped key_of c.loop-k.keys.items c.loop-k.k c.index-key.result.now lt c.index-key.ensures in
+    round_good p (key_of c.args.main) c.loop-k.k c.loop-k.sum (map key_of c.loop-k.keys.items) (map piece_of c.loop-k.bodies.items) (key_of c.index-key.result.now) c.requires c.loop-k.invariant.round at
 
 pub returns-in-None : goal.returns-in-None
 returns-in-None g c =

@@ -1,0 +1,8 @@
+use Rattle.std.proofs.Common.{◌≡◌, ◌++◌, map, drop}
+use Rattle.ulam_tree.specs.ResolvedViews.{resolved_param}
+use Rattle.ulam_meaning.specs.Programs.{param_types}
+use Rattle.ulam_meaning.specs.Expressions as meaning
+use Rattle.code_gen.proofs.expr.casts.Given as goal
+
+abbrev pub invariant-loop-param : goal.invariant-loop-param
+invariant-loop-param l = l.found.items ++ meaning.casts (param_types (map resolved_param (drop l.param-index l.params))) ≡ meaning.casts (param_types (map resolved_param l.params))

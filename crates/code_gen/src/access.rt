@@ -1,0 +1,164 @@
+//! Reading and writing what paths name.
+ghost use Rattle.std.specs.Prelude.{◌≡◌, IfOk, Option};
+ghost use Rattle.ulam_tree.specs.ResolvedViews.{resolved_path};
+ghost use Rattle.ulam_meaning.specs.Paths.{spot, spot_type};
+ghost use Rattle.code_gen.specs.Clipped.{byte, clip};
+ghost use Rattle.code_gen.specs.Scheme.{nowhere, fit, load, load_at, store, store_at};
+ghost use Rattle.code_gen.specs.Seen.{scene_of, spot_of};
+ghost use Rattle.code_gen.specs.Views.{piece_of};
+
+use crate::classes::{Scene, Spot};
+use crate::kinds::number_type;
+use crate::make;
+use crate::path::spot;
+use crate::piece::Piece;
+use feast_base::NoMemory;
+use sat_math::NumType;
+use stack_code::Instr;
+use std::alloc::Global;
+use ulam_tree::resolved::{Path, Ty};
+
+/// A number of an instruction, which has room for those below 256.
+pub fn byte(n: u32) -> u8
+    ensures { result ≡ byte n }
+{
+    n.min(255) as u8
+}
+
+/// What stands for what no typed tree has.
+pub fn nowhere() -> Piece
+    ensures { piece_of result ≡ clip nowhere }
+{
+    Piece::Plain(Instr::Jump(0))
+}
+
+/// A cast to a type of numbers, where there is one.
+pub fn fit(num: Option<NumType>) -> Piece
+    ensures { piece_of result ≡ clip (fit num) }
+{
+    match num {
+        None => Piece::Nothing,
+        Some(num) => Piece::Plain(Instr::Fit(num.kind, num.width)),
+    }
+}
+
+fn load_spot(spot: Spot) -> Piece
+    ensures { piece_of result ≡ clip (load (spot_of spot)) }
+{
+    match spot {
+        Spot::Own => Piece::Plain(Instr::LoadSelf),
+        Spot::Local { slot } => Piece::Plain(Instr::LoadLocal(byte(slot))),
+        Spot::Member { span: p } => {
+            let first = byte(p.first);
+            Piece::Plain(Instr::LoadField(first, p.num.width, p.num.kind))
+        }
+        Spot::Part { slot, span: p } => {
+            let (slot, first) = (byte(slot), byte(p.first));
+            Piece::Plain(Instr::LoadPart(slot, first, p.num.width, p.num.kind))
+        }
+        Spot::Constant { value } => Piece::Plain(Instr::PushNum(value)),
+        Spot::Window | Spot::Nothing => nowhere(),
+    }
+}
+
+fn load_at_spot(spot: Spot) -> Piece
+    ensures { piece_of result ≡ clip (load_at (spot_of spot)) }
+{
+    match spot {
+        Spot::Window => Piece::Plain(Instr::LoadSite),
+        Spot::Member { span: p } => {
+            let (first, length) = (byte(p.first), byte(p.length));
+            Piece::Plain(Instr::LoadFieldAt(first, p.num.width, p.num.kind, length))
+        }
+        Spot::Part { slot, span: p } => {
+            let (slot, first, length) = (byte(slot), byte(p.first), byte(p.length));
+            Piece::Plain(Instr::LoadPartAt(slot, first, p.num.width, p.num.kind, length))
+        }
+        _ => nowhere(),
+    }
+}
+
+fn spot_type(scene: &Scene, spot: Spot) -> Ty
+    ensures { result ≡ spot_type (scene_of scene.now) (spot_of spot) }
+{
+    match spot {
+        Spot::Local { slot } => match scene.slots.get(slot as usize) {
+            None => Ty::Nothing,
+            Some(ty) => *ty,
+        },
+        Spot::Member { span } | Spot::Part { span, .. } => Ty::Num { num: span.num },
+        _ => Ty::Nothing,
+    }
+}
+
+fn store_spot(alloc: Global, scene: &Scene, spot: Spot) -> Result<Piece, NoMemory>
+    ensures { IfOk result (λ q. piece_of q ≡ clip (store (scene_of scene.now) (spot_of spot))) }
+{
+    match spot {
+        Spot::Local { slot } => {
+            let cast = fit(number_type(spot_type(scene, spot)));
+            make::then_instr(alloc, cast, Instr::StoreLocal(byte(slot)))
+        }
+        Spot::Member { span: p } => {
+            let first = byte(p.first);
+            Ok(Piece::Plain(Instr::StoreField(first, p.num.width, p.num.kind)))
+        }
+        Spot::Part { slot, span: p } => {
+            let (slot, first) = (byte(slot), byte(p.first));
+            Ok(Piece::Plain(Instr::StorePart(slot, first, p.num.width, p.num.kind)))
+        }
+        _ => Ok(nowhere()),
+    }
+}
+
+fn store_at_spot(spot: Spot) -> Piece
+    ensures { piece_of result ≡ clip (store_at (spot_of spot)) }
+{
+    match spot {
+        Spot::Window => Piece::Plain(Instr::StoreSite),
+        Spot::Member { span: p } => {
+            let (first, length) = (byte(p.first), byte(p.length));
+            Piece::Plain(Instr::StoreFieldAt(first, p.num.width, p.num.kind, length))
+        }
+        Spot::Part { slot, span: p } => {
+            let (slot, first, length) = (byte(slot), byte(p.first), byte(p.length));
+            Piece::Plain(Instr::StorePartAt(slot, first, p.num.width, p.num.kind, length))
+        }
+        _ => nowhere(),
+    }
+}
+
+/// Gives what a path names.
+pub fn load(scene: &Scene, path: &Path) -> Piece
+    ensures { piece_of result ≡ clip (load (spot (scene_of scene.now).program (scene_of scene.now).base (resolved_path path.now).steps)) }
+{
+    load_spot(spot(scene, path))
+}
+
+/// The same with the index on top.
+pub fn load_at(scene: &Scene, path: &Path) -> Piece
+    ensures { piece_of result ≡ clip (load_at (spot (scene_of scene.now).program (scene_of scene.now).base (resolved_path path.now).steps)) }
+{
+    load_at_spot(spot(scene, path))
+}
+
+/// The type of what a path names, where something can be stored there.
+pub fn type_at(scene: &Scene, path: &Path) -> Ty
+    ensures { result ≡ spot_type (scene_of scene.now) (spot (scene_of scene.now).program (scene_of scene.now).base (resolved_path path.now).steps) }
+{
+    spot_type(scene, spot(scene, path))
+}
+
+/// Stores the value on top where a path says.
+pub fn store(alloc: Global, scene: &Scene, path: &Path) -> Result<Piece, NoMemory>
+    ensures { IfOk result (λ q. piece_of q ≡ clip (store (scene_of scene.now) (spot (scene_of scene.now).program (scene_of scene.now).base (resolved_path path.now).steps))) }
+{
+    store_spot(alloc, scene, spot(scene, path))
+}
+
+/// The same with the index below it.
+pub fn store_at(scene: &Scene, path: &Path) -> Piece
+    ensures { piece_of result ≡ clip (store_at (spot (scene_of scene.now).program (scene_of scene.now).base (resolved_path path.now).steps)) }
+{
+    store_at_spot(spot(scene, path))
+}

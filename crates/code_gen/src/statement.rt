@@ -1,0 +1,118 @@
+//! The pieces of statements.
+ghost use Rattle.std.specs.Prelude.{◌≡◌, IfOk};
+ghost use Rattle.ulam_tree.specs.TypedViews.{typed_statement, typed_body, typed_part};
+ghost use Rattle.code_gen.specs.Clipped.{clip, choice_of};
+ghost use Rattle.code_gen.specs.Scheme as scheme;
+ghost use Rattle.code_gen.specs.Seen.{scene_of};
+ghost use Rattle.code_gen.specs.Views.{piece_of};
+
+use crate::classes::Scene;
+use crate::expr::expr;
+use crate::kinds::{count_op, width_of};
+use crate::make;
+use crate::parts::{around, assign, cond, declare, does, give_back};
+use crate::piece::Piece;
+use feast_base::NoMemory;
+use stack_code::Instr;
+use std::alloc::Global;
+use ulam_tree::typed::Statement;
+
+/// A statement.
+#[cycle(statement)]
+fn statement(alloc: Global, scene: &Scene, one: &Statement) -> Result<Piece, NoMemory>
+    ensures { IfOk result (λ q. piece_of q ≡ clip (scheme.statement_piece (scene_of scene.now) (typed_statement one.now))) }
+{
+    match one {
+        Statement::Block { body: list } => body(alloc, scene, list.as_slice()),
+        Statement::Nothing => Ok(Piece::Nothing),
+        Statement::If {
+            cond: asked,
+            yes,
+            no,
+        } => {
+            let asked = cond(alloc, scene, asked)?;
+            let yes = statement(alloc, scene, yes)?;
+            let choice = choice(alloc, scene, no, yes)?;
+            make::seq(alloc, asked, choice)
+        }
+        Statement::While { cond, body } => {
+            let test = expr(alloc, scene, cond)?;
+            let body = statement(alloc, scene, body)?;
+            make::test_loop(alloc, test, body, Piece::Nothing)
+        }
+        Statement::For {
+            first,
+            cond,
+            step,
+            body,
+        } => {
+            let first = part(alloc, scene, first)?;
+            let step = part(alloc, scene, step)?;
+            let body = statement(alloc, scene, body)?;
+            let rounds = around(alloc, scene, cond, body, step)?;
+            make::seq(alloc, first, rounds)
+        }
+        Statement::Return { value, .. } => give_back(alloc, scene, value),
+        Statement::Break { .. } => Ok(Piece::Out),
+        Statement::Continue { .. } => Ok(Piece::Next),
+        Statement::Declare {
+            of,
+            slot,
+            value,
+            ..
+        } => declare(alloc, scene, of.ty, *slot, value),
+        Statement::Assign { left, op, value } => {
+            let width = width_of(value.ty);
+            let value = expr(alloc, scene, value)?;
+            assign(alloc, scene, left, *op, width, value)
+        }
+        Statement::Count { left, up } => {
+            let one = Piece::Plain(Instr::PushNum(1));
+            assign(alloc, scene, left, Some(count_op(*up)), 32, one)
+        }
+        Statement::Call { call } => does(alloc, scene, &call.path, call.args.as_slice()),
+    }
+}
+
+/// The parts of an `if` behind its condition, of which the first one is made.
+#[cycle(statement)]
+fn choice(
+    alloc: Global,
+    scene: &Scene,
+    no: &Option<Box<Statement>>,
+    yes: Piece,
+) -> Result<Piece, NoMemory>
+    ensures { IfOk result (λ q. piece_of q ≡ choice_of (scene_of scene.now) (piece_of yes) (typed_part no.now)) }
+{
+    match no {
+        None => make::only(alloc, yes),
+        Some(no) => {
+            let no = statement(alloc, scene, no)?;
+            make::pick(alloc, yes, no)
+        }
+    }
+}
+
+/// An optional statement.
+#[cycle(statement)]
+fn part(alloc: Global, scene: &Scene, one: &Option<Box<Statement>>) -> Result<Piece, NoMemory>
+    ensures { IfOk result (λ q. piece_of q ≡ clip (scheme.part_piece (scene_of scene.now) (typed_part one.now))) }
+{
+    match one {
+        None => Ok(Piece::Nothing),
+        Some(one) => statement(alloc, scene, one),
+    }
+}
+
+/// Statements from the last one on.
+#[cycle(statement)]
+pub fn body(alloc: Global, scene: &Scene, list: &[Statement]) -> Result<Piece, NoMemory>
+    ensures { IfOk result (λ q. piece_of q ≡ clip (scheme.body_piece (scene_of scene.now) (typed_body list.now))) }
+{
+    let mut piece = Piece::Nothing;
+    for i in (0..list.len()).rev() {
+        let one = statement(alloc, scene, &list[i])?;
+        piece = make::seq(alloc, one, piece)?;
+    }
+    Ok(piece)
+}

@@ -1,0 +1,5 @@
+use Rattle.source_laws.proofs.Programs.{compilable}
+use Rattle.source_laws.proofs.law.names_hold.Goals as goal
+
+pub returns : goal.returns
+returns c = compilable
