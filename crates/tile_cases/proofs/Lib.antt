@@ -1,2 +1,1 @@
 pub mod Plane
-pub mod Pairs

@@ -4,12 +4,6 @@
 
 mod alone;
 #[cfg(test)]
-mod border;
-mod counted;
-#[cfg(test)]
 mod day;
-mod pair;
 
 pub use alone::{Turn, advance, empty_board, lonely, phases};
-pub use counted::CountedBoard;
-pub use pair::{Pair, Side};
