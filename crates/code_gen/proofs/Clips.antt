@@ -1,6 +1,6 @@
 -- Pieces whose numbers are cut off: the parts of the scheme, and what fits is left as it is.
-use Rattle.std.proofs.Common.{◌≡◌, ℕ, zero, suc, ◌+◌, ◌*◌, ◌≤◌, ◌<◌, min, List, [], ◌∷◌, length, Option, Some, None, refl, sym, ap, ◌∙◌, subst, arith, Bool, true, false, pos}
-use Rattle.std.specs.Prelude.{slice_get, nat_le, if◌then◌else◌, option_map}
+use Rattle.std.proofs.Common.{◌≡◌, ℕ, ◌+◌, ◌*◌, ◌≤◌, min, List, [], ◌∷◌, length, Option, Some, None, refl, sym, ap, ◌∙◌, arith, Bool, true, false}
+use Rattle.std.specs.Prelude.{slice_get, nat_le, if◌then◌else◌}
 use Rattle.std.proofs.lemmas.Bool.{leb-true}
 use Rattle.sat_math.specs.declared.Kind.{Kind}
 use Rattle.sat_math.specs.declared.Kind.TheVariants as k
@@ -12,15 +12,13 @@ use Rattle.ulam_tree.specs.declared.resolved.Ty.{Ty}
 use Rattle.ulam_tree.specs.declared.resolved.Ty.TheVariants as y
 use Rattle.ulam_tree.specs.declared.resolved.Step.{Step}
 use Rattle.ulam_tree.specs.declared.resolved.Step.TheVariants.{Own, Local, Member, Function as AFunction, Constant, Built as ABuilt}
-use Rattle.ulam_tree.specs.declared.resolved.Built.{Built}
 use Rattle.ulam_tree.specs.declared.resolved.Built.TheVariants as b
 use Rattle.ulam_tree.specs.declared.op.PairOp.{PairOp}
 use Rattle.ulam_tree.specs.declared.op.PairOp.TheVariants as op
 use Rattle.ulam_tree.specs.Typed as t
-use Rattle.atom_layout.specs.Layouts.{first_bit}
 use Rattle.feast_base.specs.declared.place.Place.{Place}
 use Rattle.ulam_meaning.specs.Programs.{Program}
-use Rattle.ulam_meaning.specs.Paths.{Span, Spot, itself, local, member, part, window, constant, nothing, field_spot, bit_of, through, function_of, Callee, called, built_in, no_callee, callee, Scene, spot_type}
+use Rattle.ulam_meaning.specs.Paths.{Spot, itself, local, member, part, window, constant, nothing, field_spot, bit_of, through, function_of, Callee, called, built_in, no_callee, callee, Scene, spot_type}
 use Rattle.ulam_meaning.specs.Values.{width_of, arith_of}
 use Rattle.stack_code.specs.Sorts.{sort, num_type}
 use Rattle.stack_code.specs.Valid.{Kinds, type_fits, field_fits, after, push_slot, pop_slot, if_atom, pop, push, and_pop, args_fit}
@@ -32,8 +30,8 @@ use Rattle.code_gen.specs.Pieces.{Key, Piece, none, seq, plain, asks, pick, only
 use Rattle.code_gen.specs.Drafts.{Drafts, has_room}
 use Rattle.code_gen.specs.Kinds.{Setting, setting_of, ends, Fits}
 use Rattle.code_gen.specs.Laws.{IsGood}
-use Rattle.code_gen.specs.Scheme.{by_arith, pair_instr, load, load_at, store, store_at, nowhere, call_piece, if_void, if_nothing, expr_piece, form_piece, args_piece, statement_piece, part_piece, cond_piece, loop_piece}
-use Rattle.code_gen.specs.Clipped.{byte, word, clip_key, clip_instr, clip, clip_span, clip_spot, clip_callee, pair_of, choice_of}
+use Rattle.code_gen.specs.Scheme.{by_arith, pair_instr, load, load_at, store, store_at, call_piece, if_void, if_nothing, expr_piece, form_piece, statement_piece, cond_piece}
+use Rattle.code_gen.specs.Clipped.{byte, word, clip_instr, clip, clip_spot, clip_callee, pair_of, choice_of}
 use Rattle.code_gen.specs.Seen.{numbers_of}
 use Rattle.code_gen.proofs.Handed.{top_fits}
 use Rattle.code_gen.proofs.ElementCodes.{get_within}

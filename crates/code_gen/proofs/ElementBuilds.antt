@@ -1,9 +1,8 @@
 -- Building the code of each element: what it wants, and what its answer says.
-use Rattle.std.proofs.Common.{◌≡◌, ℕ, ◌<◌, ◌≤◌, List, map, length, get_or, Option, Some, None, Ok, refl, sym, ap, ◌∙◌, subst, arith, false}
+use Rattle.std.proofs.Common.{◌≡◌, ℕ, ◌<◌, ◌≤◌, List, map, length, get_or, Option, Some, None, Ok, sym, ap, ◌∙◌, subst, arith, false}
 use Rattle.std.specs.Prelude.{slice_get}
 use Rattle.std.specs.Option.{option_map_or}
 use Rattle.std.proofs.lemmas.List.{length-map}
-use Rattle.feast_base.specs.declared.place.Place.{Place}
 use Rattle.ulam_tree.specs.Typed as t
 use Rattle.ulam_tree.specs.TypedViews.{typed_class}
 use Rattle.ulam_tree.specs.declared.typed.Class.{Class}

@@ -6,7 +6,7 @@ use Rattle.ulam_tree.specs.Typed as t
 use Rattle.ulam_meaning.specs.Programs.{Program, element_classes, count_elements, number_of, element_of}
 use Rattle.ulam_meaning.specs.Events.{behave_key}
 use Rattle.code_gen.specs.Drafts.{keys, total}
-use Rattle.code_gen.specs.Limits.{all_low, IsShort}
+use Rattle.code_gen.specs.Limits.{all_low}
 use Rattle.code_gen.specs.Scheme.{draft_of}
 use Rattle.code_gen.specs.Compiled.{element_code}
 use Rattle.code_gen.specs.Compiling.{class_code, element_codes, HasShort, AreShort, IsFirstLong}

@@ -7,9 +7,6 @@ use Rattle.ulam_tree.specs.TypedViews.{typed_class}
 use Rattle.ulam_tree.specs.declared.typed.Class.{Class}
 use Rattle.stack_code.specs.Machine.{CodeValue}
 use Rattle.ulam_meaning.specs.Programs.{Program, element_classes, count_elements, number_of, element_of}
-use Rattle.ulam_meaning.specs.Events.{behave_key}
-use Rattle.code_gen.specs.Drafts.{code_of}
-use Rattle.code_gen.specs.Scheme.{draft_of}
 use Rattle.code_gen.specs.Compiled.{element_code}
 use Rattle.code_gen.specs.Compiling.{IsCompilable, class_code, element_codes, HasShort, AreShort, IsFirstLong, HasCode}
 use Rattle.code_gen.specs.Means.{Means}

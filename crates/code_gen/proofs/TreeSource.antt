@@ -1,5 +1,5 @@
 -- What typed trees give of a function is what its draft has.
-use Rattle.std.proofs.Common.{◌≡◌, ℕ, ◌+◌, ◌≤◌, List, [], ◌∷◌, ◌++◌, length, map, refl, sym, ap, ◌∙◌, arith, length-append}
+use Rattle.std.proofs.Common.{◌≡◌, ℕ, ◌≤◌, List, [], ◌∷◌, ◌++◌, length, map, refl, sym, ap, ◌∙◌, arith, length-append}
 use Rattle.std.proofs.lemmas.List.{length-map, map-append}
 use Rattle.ulam_tree.specs.declared.resolved.Param.{Param}
 use Rattle.ulam_tree.specs.declared.resolved.Ty.{Ty}
@@ -7,7 +7,6 @@ use Rattle.ulam_tree.specs.ResolvedViews.{resolved_param}
 use Rattle.ulam_tree.specs.TypedViews.{typed_body}
 use Rattle.ulam_tree.specs.Locals.{all_locals}
 use Rattle.ulam_meaning.specs.Programs.{Program, Function, param_types, function_at, slot_types, type_number}
-use Rattle.ulam_meaning.specs.Paths.{Scene}
 use Rattle.stack_code.specs.Machine.{FunctionValue}
 use Rattle.stack_code.specs.Valid.{Kinds}
 use Rattle.stack_code.specs.declared.instr.Answer.{Answer}

@@ -135,12 +135,12 @@ fn assign_at(
 ) -> Result<Piece, NoMemory>
     ensures { (v : spec.Piece) → piece_of value ≡ clip v → IfOk result (λ q. piece_of q ≡ clip (scheme.assign_piece (scene_of scene.now) (paths.spot (scene_of scene.now).program (scene_of scene.now).base (resolved_path path.now).steps) (Some (scheme.expr_piece (scene_of scene.now) (typed_expr index.now))) op width v)) }
 {
-    let index = expr(alloc, scene, index)?;
+    let at = expr(alloc, scene, index)?;
     let last = store_at(scene, path);
     match op {
         None => {
             let rest = make::seq(alloc, value, last)?;
-            make::seq(alloc, index, rest)
+            make::seq(alloc, at, rest)
         }
         Some(op) => {
             let update = Piece::Plain(update_instr(op, type_at(scene, path), width));
@@ -148,7 +148,7 @@ fn assign_at(
             let rest = make::seq(alloc, value, rest)?;
             let rest = make::seq(alloc, load_at(scene, path), rest)?;
             let rest = make::seq(alloc, Piece::Plain(Instr::Dup), rest)?;
-            make::seq(alloc, index, rest)
+            make::seq(alloc, at, rest)
         }
     }
 }

@@ -1,6 +1,7 @@
 -- A list with one element changed.
-use Rattle.std.proofs.Common.{◌≡◌, ◌≢◌, ℕ, zero, suc, ◌+◌, ◌<◌, List, [], ◌∷◌, length, map, refl, sym, ap, ◌∙◌, subst, arith, ⊎_elim, Some}
-use Rattle.std.specs.Prelude.{slice_get, slice_set}
+use Rattle.std.proofs.Common.{◌≡◌, ◌≢◌, ℕ, zero, suc, ◌+◌, ◌<◌, List, [], ◌∷◌, length, map, refl, sym, ap, ◌∙◌, subst, arith, ⊎_elim, Some, ◌++◌, take}
+use Rattle.std.specs.Prelude.{drop, slice_get, slice_set}
+use Rattle.std.proofs.lemmas.List.{append-nil, take_all, drop_all}
 use Rattle.std.specs.List.{range_with_len}
 use Rattle.std.proofs.lemmas.Option.{same_Some}
 use Rattle.serial_order.proofs.Ground.{same_or_not}
@@ -45,3 +46,8 @@ map_places h f (x ∷ xs) a each =
   where
     next : (k : ℕ) → a + suc k ≡ a + 1 + k
     next k = omega arith
+
+-- what is written over a whole list is all
+pub written_over : {A : Type 0} (n : ℕ) (new old : List A) → length new ≡ length old → n ≡ length old → take n (new ++ drop (length new) old) ≡ new
+written_over n new old same count =
+    ap (λ xs. take n (new ++ xs)) (drop_all (length new) old (omega (arith, same))) ∙ (ap (take n) (append-nil new) ∙ take_all n new (omega (arith, same, count)))

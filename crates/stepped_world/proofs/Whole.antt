@@ -1,17 +1,20 @@
 -- A whole stepped run: the steps of the order, and then those of each tile until it is finished.
-use Rattle.std.proofs.Common.{◌≡◌, ◌<◌, ℕ, List, true, inl}
+use Rattle.std.proofs.Common.{◌≡◌, ◌<◌, ℕ, List, true, inl, ap, ◌∙◌}
 use Rattle.std.specs.Prelude.{slice_get}
 use Rattle.std.specs.List.{range_with_len}
 use Rattle.window_sites.specs.Window.{WindowValue}
 use Rattle.tile_map.specs.Plane.{MapValue, IsMap, tiles_of}
 use Rattle.edge_lock.specs.PlainBoard.{PlainBoardValue}
+use Rattle.cell_grid.specs.Records.{replay}
+use Rattle.event_journal.specs.Logs.{records_in}
 use Rattle.tile_core.specs.Values.{TileValue}
 use Rattle.serial_order.specs.Scene.{IsOver}
 use Rattle.serial_order.specs.Words.{histories_on}
-use Rattle.serial_order.specs.Outcomes.{scene_of, values_of}
+use Rattle.serial_order.specs.Outcomes.{IsSettlement, scene_of, values_of}
+use Rattle.serial_order.specs.declared.outcome.Outcome.{Outcome}
 use Rattle.stepped_world.specs.Machine.{steps, finish, first_machine, stepped}
 use Rattle.stepped_world.specs.Running.{Setting, IsStart, AreUnderway, stands_still, Follows, IsLike}
-use Rattle.stepped_world.specs.Ends.{HasRun, IsAsStepped}
+use Rattle.stepped_world.specs.Ends.{HasRun, IsAsStepped, IsOutcome}
 use Rattle.stepped_world.proofs.Starts.{first_underway, first_like}
 use Rattle.stepped_world.proofs.Ended.{is_over, like_it, has_run}
 use Rattle.stepped_world.proofs.Newest.{newest_is, logs_are, replay_is}
@@ -37,3 +40,13 @@ module _ {B : Type 0} (after : B → WindowValue → ℕ → WindowValue) (m : M
     newest = newest_is m g new b over (stepped m g.meaning g.start g.plan order) like;
     replayed = replay_is m g new b over (stepped m g.meaning g.start g.plan order) like;
   }
+
+-- a settled run
+pub outcome_is : {B : Type 0} (m : MapValue) (g : Setting) (new : List (TileValue × B)) (b : PlainBoardValue) (order : List ℕ) (o : Outcome) → IsAsStepped m g new b order → IsSettlement (scene_of m (values_of new) (histories_on b) g.meaning g.start g.plan) o → IsOutcome m g order o
+outcome_is m g new b order o like settled = record {
+  grid = settled.grid ∙ (ap (λ ls. replay g.meaning g.start (records_in ls)) (settled.journal ∙ like.logs) ∙ like.replayed);
+  journal = settled.journal ∙ like.logs;
+  tiles = values_of new;
+  edges = histories_on b;
+  settled = settled;
+}

@@ -12,10 +12,11 @@ use Rattle.tile_core.specs.declared.phase.Phase.TheVariants.{Finished}
 use Rattle.tile_core.specs.Values.{TileValue, atoms_of}
 use Rattle.tile_core.specs.Turns.{HasPlayed}
 use Rattle.event_journal.specs.Logs.{LogValue, log_of, records_in}
-use Rattle.serial_order.specs.Scene.{IsOver, logs_of, registers_at}
+use Rattle.serial_order.specs.Scene.{EdgeHistory, IsOver, logs_of, registers_at}
 use Rattle.serial_order.specs.Settled.{IsSettled}
 use Rattle.serial_order.specs.Words.{AreEdgeWords, histories_on, counts_on}
-use Rattle.serial_order.specs.Outcomes.{IsMade, scene_of, values_of}
+use Rattle.serial_order.specs.Outcomes.{IsMade, IsSettlement, scene_of, values_of}
+use Rattle.serial_order.specs.declared.outcome.Outcome.{Outcome}
 use Rattle.stepped_world.specs.Machine.{Done, Machine, stepped, records_by, abandoned_by}
 use Rattle.stepped_world.specs.Matching.{Matches}
 use Rattle.stepped_world.specs.Running.{Setting}
@@ -48,6 +49,14 @@ pub record IsAsStepped {B : Type 0} (m : MapValue) (g : Setting) (tiles : List (
   pub logs : logs_of (values_of tiles) ≡ logs_in m (stepped m g.meaning g.start g.plan order)
   pub newest : (h : GridValue) → IsSettled m (values_of tiles) (registers_at (histories_on board)) h → h ≡ (stepped m g.meaning g.start g.plan order).grid
   pub replayed : replay g.meaning g.start (records_in (logs_in m (stepped m g.meaning g.start g.plan order))) ≡ (stepped m g.meaning g.start g.plan order).grid
+
+-- what a run comes to: the grid and the logs of the stepped machine. All its events stand in one serial order, that of the journal.
+pub record IsOutcome (m : MapValue) (g : Setting) (order : List ℕ) (o : Outcome) : Type 0 where
+  pub grid : o.grid ≡ (stepped m g.meaning g.start g.plan order).grid
+  pub journal : o.journal ≡ logs_in m (stepped m g.meaning g.start g.plan order)
+  pub tiles : List TileValue
+  pub edges : List EdgeHistory
+  pub settled : IsSettlement (scene_of m tiles edges g.meaning g.start g.plan) o
 
 -- the machine finishes its tiles, whatever tiles are in the list
 abbrev pub ComesToItsEnd : Type 0

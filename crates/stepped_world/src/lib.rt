@@ -3,6 +3,8 @@
 
 mod law;
 mod run;
+mod settled;
 
 pub use law::{comes_to_its_end, small_runs};
 pub use run::run_steps;
+pub use settled::run_settled;

@@ -4,13 +4,13 @@
 #![tactic(auto)]
 
 ghost use Rattle.std.specs.Prelude.{◌≡◌, ◌≤◌, IfSome, length};
-ghost use Rattle.grid_print.specs.Report.{AreNamed};
 ghost use Rattle.tile_map.specs.Plane.{tiles_of};
 ghost use Rattle.world_text.specs.Printed.{IsPrintable};
 ghost use Rattle.world_text.specs.Values.{world_value};
+ghost use Rattle.text_bench.specs.Days.{IsDay};
 
 use cell_grid::Grid;
-use draw_stream::{AttemptPlan, TileStream};
+use draw_stream::TileStream;
 use event_journal::Journal;
 use feast_base::{MemSink, Name, NoMemory};
 use grid_print::write_report;
@@ -75,24 +75,55 @@ fn world(alloc: Global, text: &[u8], names: &[Name]) -> Option<World>
     }
 }
 
-/// The report of a grid and a journal, as a sink has it.
-fn report(alloc: Global, grid: &Grid, journal: &Journal, names: &[Name]) -> Option<MemSink>
-    requires { AreNamed names.now grid.now.atoms }
+/// A world with its map, its grid and a journal of it.
+#[derive(Drop)]
+struct Day {
+    world: World,
+    map: Map,
+    grid: Grid,
+    journal: Journal,
+}
+
+/// What is made of a world.
+fn made(alloc: Global, world: World, names: &[Name]) -> Option<Day>
+    requires { IsPrintable names.now (world_value world) }
+    ensures { IfSome result (λ d. IsDay names.now d) }
+{
+    let Ok(map) = map(alloc, &world) else {
+        return None;
+    };
+    let Ok(grid) = grid(alloc, &world, names) else {
+        return None;
+    };
+    match journal(alloc, &world) {
+        Ok(journal) => Some(Day {
+            world,
+            map,
+            grid,
+            journal,
+        }),
+        Err(NoMemory) => None,
+    }
+}
+
+/// The report of a day, as a sink has it.
+fn report(alloc: Global, day: &Day, names: &[Name]) -> Option<MemSink>
+    requires { IsDay names.now day.now }
 {
     let Ok(mut sink) = MemSink::new(alloc, Vec::new(alloc), ROOM) else {
         return None;
     };
-    match write_report(alloc, grid, journal, names, &mut sink) {
+    match write_report(alloc, &day.grid, &day.journal, names, &mut sink) {
         Ok(()) => Some(sink),
         Err(_) => None,
     }
 }
 
-/// How many events a report says.
-fn events(alloc: Global, report: &[u8], map: &Map, plan: &AttemptPlan) -> Option<usize>
-    requires { length plan.now.lists ≡ tiles_of map.now }
+/// How many events a report of a day says.
+fn events(alloc: Global, report: &[u8], day: &Day) -> Option<usize>
+    requires { length day.now.world.plan.lists ≡ tiles_of day.now.map }
 {
-    match event_journal::read(alloc, report, map, plan) {
+    match event_journal::read(alloc, report, &day.map, &day.world.plan) {
         Ok(journal) => Some(journal.records.len()),
         Err(_) => None,
     }
@@ -112,38 +143,26 @@ fn world_time(clock: &impl Clock, alloc: Global, text: &[u8], names: &[Name]) ->
 }
 
 /// The least time of writing the report, in microseconds.
-fn report_time(
-    clock: &impl Clock,
-    alloc: Global,
-    grid: &Grid,
-    journal: &Journal,
-    names: &[Name],
-) -> io::Result<u128>
-    requires { AreNamed names.now grid.now.atoms }
+fn report_time(clock: &impl Clock, alloc: Global, day: &Day, names: &[Name]) -> io::Result<u128>
+    requires { IsDay names.now day.now }
 {
     let mut least = u128::MAX;
     for _ in 0..TIMES {
         let begin = Instant::now(clock)?;
-        let _sink = report(alloc, grid, journal, names);
+        let _sink = report(alloc, day, names);
         least = least.min(begin.elapsed(clock)?.as_micros());
     }
     Ok(least)
 }
 
 /// The least time of reading the report, in microseconds.
-fn events_time(
-    clock: &impl Clock,
-    alloc: Global,
-    report: &[u8],
-    map: &Map,
-    plan: &AttemptPlan,
-) -> io::Result<u128>
-    requires { length plan.now.lists ≡ tiles_of map.now }
+fn events_time(clock: &impl Clock, alloc: Global, report: &[u8], day: &Day) -> io::Result<u128>
+    requires { length day.now.world.plan.lists ≡ tiles_of day.now.map }
 {
     let mut least = u128::MAX;
     for _ in 0..TIMES {
         let begin = Instant::now(clock)?;
-        let _count = events(alloc, report, map, plan);
+        let _count = events(alloc, report, day);
         least = least.min(begin.elapsed(clock)?.as_micros());
     }
     Ok(least)
@@ -153,38 +172,34 @@ fn main(rt: HostRuntime) -> io::Result<()> {
     let alloc = rt.alloc();
     let timed = env::args(&rt)?.skip(1).next().is_some();
     let room = io::ErrorKind::OutOfMemory;
-    let names: Vec<Name> = Vec::new(alloc);
-    let names = names.as_slice();
+    let names: [Name; 0] = [];
     let Ok(text) = text(alloc) else {
         return Err(room.into());
     };
-    let Some(world) = world(alloc, text.as_slice(), names) else {
+    let Some(world) = world(alloc, text.as_slice(), &names) else {
         return Err(room.into());
     };
-    let Ok(map) = map(alloc, &world) else {
+    let Some(day) = made(alloc, world, &names) else {
         return Err(room.into());
     };
-    let Ok(grid) = grid(alloc, &world, names) else {
+    let Some(sink) = report(alloc, &day, &names) else {
         return Err(room.into());
     };
-    let Ok(journal) = journal(alloc, &world) else {
+    let Some(count) = events(alloc, sink.written(), &day) else {
         return Err(room.into());
     };
-    let Some(sink) = report(alloc, &grid, &journal, names) else {
-        return Err(room.into());
-    };
-    let Some(count) = events(alloc, sink.written(), &map, &world.plan) else {
-        return Err(room.into());
-    };
-    println!(rt; "a world of {} bytes", text.len())?;
-    println!(rt; "a report of {} bytes with {count} events", sink.written().len())?;
+    println!(rt;
+        "a world of {} bytes, a report of {} bytes with {count} events",
+        text.len(),
+        sink.written().len()
+    )?;
     if timed {
-        let time = world_time(&rt, alloc, text.as_slice(), names)?;
-        println!(rt; "{time} microseconds reading the world")?;
-        let time = report_time(&rt, alloc, &grid, &journal, names)?;
-        println!(rt; "{time} microseconds writing the report")?;
-        let time = events_time(&rt, alloc, sink.written(), &map, &world.plan)?;
-        println!(rt; "{time} microseconds reading the report")?;
+        let world = world_time(&rt, alloc, text.as_slice(), &names)?;
+        let report = report_time(&rt, alloc, &day, &names)?;
+        let events = events_time(&rt, alloc, sink.written(), &day)?;
+        println!(rt;
+            "{world} microseconds reading the world\n{report} microseconds writing the report\n{events} microseconds reading the report"
+        )?;
     }
     Ok(())
 }

@@ -1,4 +1,4 @@
-use Rattle.std.proofs.Common.{rules, ◌≡◌, ◌≤◌, ◌+◌, ◌∷◌, ◌++◌, [], ℕ, length, true, false, ap, sym, ◌∙◌, subst, arith, Vec, Global}
+use Rattle.std.proofs.Common.{rules, ◌≡◌, ◌+◌, ◌∷◌, ◌++◌, [], length, true, false, ap, sym, ◌∙◌, subst, arith, Vec, Global}
 use Rattle.ulam_tree.specs.TypedViews.{typed_class}
 use Rattle.ulam_tree.specs.declared.typed.Class.{Class}
 use Rattle.stack_code.specs.Machine.{CodeValue}

@@ -1,9 +1,9 @@
-use Rattle.std.proofs.Common.{◌≡◌, ◌∙◌, ap}
+use Rattle.std.proofs.Common.{◌≡◌, ◌∙◌}
 use Rattle.std.proofs.lemmas.Result.{IfOk-weaker}
 use Rattle.ulam_tree.specs.TypedViews.{typed_args}
 use Rattle.ulam_meaning.specs.Paths.{callee}
 use Rattle.stack_code.specs.declared.instr.Instr.TheVariants.{Pop}
-use Rattle.code_gen.specs.Pieces.{Piece, none, seq, plain}
+use Rattle.code_gen.specs.Pieces.{none, seq, plain}
 use Rattle.code_gen.specs.Clipped.{clip}
 use Rattle.code_gen.specs.Scheme.{call_piece, if_nothing, args_piece}
 use Rattle.code_gen.specs.Seen.{scene_of, callee_of}
