@@ -4,6 +4,7 @@
 //!     rustc -O -C target-cpu=x86-64-v2 flat.rs -o flat
 //!     ./flat WORLD > REPORT
 //!     ./flat WORLD time              (how long its events take, by the least of parts of 20,000)
+//!     ./flat WORLD texts             (how long reading the world and writing the report take, by the least of 5 times)
 //!
 //! (WORLD: tiles 1 1, `try` lines or `seed` and `attempts`, `atom` lines.)
 //!
@@ -94,9 +95,17 @@ fn make(grid: &mut [u128], width: usize, height: usize, attempts: &[(u32, u32, u
     }
 }
 
-fn main() {
-    let path = std::env::args().nth(1).expect("WORLD");
-    let bytes = std::fs::read(path).expect("a world that can be read");
+struct World<'a> {
+    width: usize,
+    height: usize,
+    attempts: Vec<(u32, u32, u64)>,
+    grid: Vec<u128>,
+    names: Vec<&'a [u8]>,
+}
+
+/// What the text of a world says.
+#[inline(never)]
+fn read(bytes: &[u8]) -> World<'_> {
     let (mut width, mut height) = (0usize, 0usize);
     let (mut seed, mut drawn) = (0u64, None);
     let mut attempts: Vec<(u32, u32, u64)> = Vec::new();
@@ -139,17 +148,13 @@ fn main() {
             attempts.push((centre as u32 % width as u32, centre as u32 / width as u32, stream.next()));
         }
     }
-    let walkers = names.first().is_some_and(|n| *n == b"Walker");
-    make(&mut grid, width, height, &attempts, walkers);
-    if std::env::args().nth(2).is_some() {
-        let least = attempts.chunks_exact(20_000).map(|part| {
-            let begin = Instant::now();
-            make(&mut grid, width, height, part, walkers);
-            begin.elapsed().as_nanos()
-        });
-        println!("{} picoseconds an event", least.min().expect("20,000 attempts") / 20);
-        return;
-    }
+    World { width, height, attempts, grid, names }
+}
+
+/// The report of a world whose events are made.
+#[inline(never)]
+fn report(world: &World) -> Vec<u8> {
+    let World { width, attempts, grid, names, .. } = world;
     let mut out = Vec::with_capacity(64 * attempts.len() + 64 * grid.len());
     out.extend_from_slice(b"feast 1\natoms ");
     push_number(&mut out, grid.iter().filter(|&&a| a != 0).count() as u64);
@@ -180,5 +185,40 @@ fn main() {
         out.push(b'\n');
     }
     out.extend_from_slice(b"abandoned 0\n");
-    std::io::stdout().lock().write_all(&out).expect("standard output");
+    out
+}
+
+/// The least time of 5 runs, in microseconds.
+fn least<T>(mut run: impl FnMut() -> T) -> u128 {
+    let one = |_| {
+        let begin = Instant::now();
+        std::hint::black_box(run());
+        begin.elapsed().as_micros()
+    };
+    (0..5).map(one).min().expect("5 times")
+}
+
+fn main() {
+    let path = std::env::args().nth(1).expect("WORLD");
+    let word = std::env::args().nth(2);
+    let bytes = std::fs::read(path).expect("a world that can be read");
+    let mut world = read(&bytes);
+    let walkers = world.names.first().is_some_and(|n| *n == b"Walker");
+    make(&mut world.grid, world.width, world.height, &world.attempts, walkers);
+    match word.as_deref() {
+        None => std::io::stdout().lock().write_all(&report(&world)).expect("standard output"),
+        Some("texts") => {
+            println!("{} microseconds reading the world", least(|| read(&bytes)));
+            println!("{} microseconds writing the report", least(|| report(&world)));
+        }
+        Some(_) => {
+            let World { width, height, ref attempts, ref mut grid, .. } = world;
+            let least = attempts.chunks_exact(20_000).map(|part| {
+                let begin = Instant::now();
+                make(grid, width, height, part, walkers);
+                begin.elapsed().as_nanos()
+            });
+            println!("{} picoseconds an event", least.min().expect("20,000 attempts") / 20);
+        }
+    }
 }

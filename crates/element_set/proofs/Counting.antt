@@ -1,9 +1,11 @@
 -- How many elements are among classes, and how many data members a layout has.
-use Rattle.std.proofs.Common.{ℕ, zero, suc, ◌≡◌, ◌+◌, ◌<◌, ◌≤◌, List, [], ◌∷◌, ◌++◌, length, map, take, get_or, Bool, true, false, cond, sym, ap, ◌∙◌, arith, length-append, length-take}
+use Rattle.std.proofs.Common.{ℕ, zero, suc, ◌≡◌, ◌+◌, ◌<◌, ◌≤◌, List, [], ◌∷◌, ◌++◌, length, map, take, get_or, Bool, true, false, cond, refl, sym, ap, ◌∙◌, arith, length-append, length-take}
+use Rattle.std.specs.Prelude.{if◌then◌else◌}
 use Rattle.std.proofs.lemmas.List.{get_or-map, length-map}
 use Rattle.ulam_tree.specs.Statements.{Class}
 use Rattle.ulam_tree.specs.Typed as t
 use Rattle.ulam_names.specs.Scopes.{most_members}
+use Rattle.ulam_meaning.specs.Programs.{element_classes, count_elements}
 use Rattle.element_set.specs.Kept.{Fits}
 use Rattle.element_set.specs.Names.{element_name, names_in, field_count, counts}
 
@@ -39,3 +41,21 @@ fits_at cs ls k c h lt at =
     let own : get_or (counts cs) k 0 ≡ field_count c.members = get_or-map count cs k c 0 lt ∙ ap count at in
     let same = sym row ∙ ap (λ ns. get_or ns k 0) h.rows ∙ own in
     (within, same, omega (arith, same, own, h.slim k))
+
+-- as many elements as names of elements
+pub element_count : (d : ℕ) (cs : List t.Class) → length (element_classes d cs) ≡ length (names_in cs)
+element_count d [] = refl
+element_count d (c ∷ cs) = by c.quark (element_count (suc d) cs)
+  where
+    by : (b : Bool) → length (element_classes (suc d) cs) ≡ length (names_in cs) → length (if b then element_classes (suc d) cs else d ∷ element_classes (suc d) cs) ≡ length ((if b then [] else c.word.name ∷ []) ++ names_in cs)
+    by true h = h
+    by false h = ap (λ n. suc n) h
+
+-- the elements are as many as their names
+pub elements_counted : (cs : List t.Class) → count_elements cs ≡ length (names_in cs)
+elements_counted [] = refl
+elements_counted (c ∷ cs) = by c.quark (elements_counted cs)
+  where
+    by : (b : Bool) → count_elements cs ≡ length (names_in cs) → (if b then count_elements cs else suc (count_elements cs)) ≡ length ((if b then [] else c.word.name ∷ []) ++ names_in cs)
+    by true h = h
+    by false h = ap (λ n. suc n) h

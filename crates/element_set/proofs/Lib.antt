@@ -1,3 +1,5 @@
+pub mod Acting
+pub mod CodesText
 pub mod Composing
 pub mod Counting
 pub mod Fitting
@@ -5,5 +7,6 @@ pub mod Named
 pub mod NewNames
 pub mod Numbering
 pub mod OneSet
+mod Sharing
 pub mod SomeSet
 pub mod Telling

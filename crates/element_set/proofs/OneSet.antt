@@ -11,12 +11,15 @@ use Rattle.ulam_tree.specs.Raw.{Item}
 use Rattle.ulam_tree.specs.Resolved as r
 use Rattle.ulam_names.proofs.ClassFits.{one_program as one_resolution}
 use Rattle.ulam_names.proofs.ClassMeans.{no_fault as no_name_fault}
+use Rattle.code_gen.proofs.ElementCodes.{all_nor_first, first_is_one}
 use Rattle.ulam_types.proofs.Classes.{one_program as one_typing, no_fault as no_type_fault}
 use Rattle.element_set.specs.declared.fault.BuildFault.{BuildFault}
 use Rattle.element_set.specs.declared.fault.BuildFault.TheVariants.{Refused}
 use Rattle.element_set.specs.Composing.{IsOne}
-use Rattle.element_set.specs.Faults.{lex_fault, parse_fault, heirs_fault, name_refusal, layout_fault, type_refusal}
-use Rattle.element_set.specs.Stages.{lexed, Tree, parsed, tree_of, Trees, no_trees, with_tree, more_trees, flat, named, laid, typed, typed_set, laid_set, named_set, flat_set, set_of}
+use Rattle.code_gen.specs.Compiling.{long_place}
+use Rattle.element_set.specs.Faults.{refusal, lex_fault, parse_fault, heirs_fault, name_refusal, layout_fault, type_refusal}
+use Rattle.element_set.specs.Stages.{lexed, Tree, parsed, tree_of, Trees, no_trees, with_tree, more_trees, flat, named, laid, typed, coded, typed_set, laid_set, named_set, flat_set, set_of}
+use Rattle.element_set.specs.Value.{SetValue, program_of}
 use Rattle.element_set.proofs.Composing.{gives_one, then_one}
 
 -- a fault that is told as two refusals
@@ -84,8 +87,15 @@ typed_one cs = record {
   either = λ a e h k. none_some _ k.0 (no_type_fault cs a h) k.1;
 }
 
+coded_one : (s : SetValue) → IsOne (coded s)
+coded_one s = record {
+  value = λ a b h k. h.1 ∙ sym k.1;
+  refusal = λ a b h k. h.2 ∙ ap (λ c. refusal 60 (long_place s.classes c)) (first_is_one (program_of s) h.0 k.0 h.1 k.1) ∙ sym k.2;
+  either = λ a e h k. all_nor_first (program_of s) k.0 h.0 k.1;
+}
+
 typed_set_one : (cs : List r.Class) (l : List (List ℕ)) → IsOne (typed_set cs l)
-typed_set_one cs l = then_one (typed cs) _ (typed_one cs) (λ us. gives_one (record { classes = us; layout = l }))
+typed_set_one cs l = then_one (typed cs) _ (typed_one cs) (λ us. coded_one (record { classes = us; layout = l }))
 
 laid_set_one : (cs : List r.Class) → IsOne (laid_set cs)
 laid_set_one cs = then_one (laid cs) (typed_set cs) (laid_one cs) (typed_set_one cs)

@@ -43,11 +43,13 @@ use Rattle.atom_layout.specs.declared.fault.LayoutFault.TheVariants as l
 use Rattle.atom_layout.specs.Layouts.{fault_in, first_of, first_wide, layout_of, told, total}
 use Rattle.ulam_types.specs.Programs.{first_fault as first_type_fault}
 use Rattle.ulam_types.specs.Faults.{Fault as TypeFault}
+use Rattle.code_gen.proofs.ElementCodes.{all_or_first}
 use Rattle.ulam_types.proofs.Classes.{some_typed}
 use Rattle.element_set.specs.Composing.{Stage, and_then}
+use Rattle.code_gen.specs.Compiling.{AreShort, IsFirstLong, long_place}
 use Rattle.element_set.specs.Faults.{refusal, counted, name_refusal, type_refusal}
-use Rattle.element_set.specs.Stages.{lexed, Tree, parsed, tree_of, Trees, no_trees, with_tree, more_trees, flat, named, laid, typed, typed_set, laid_set, named_set, flat_set, set_of}
-use Rattle.element_set.specs.Value.{SetValue}
+use Rattle.element_set.specs.Stages.{lexed, Tree, parsed, tree_of, Trees, no_trees, with_tree, more_trees, flat, named, laid, typed, coded, typed_set, laid_set, named_set, flat_set, set_of}
+use Rattle.element_set.specs.Value.{SetValue, program_of}
 
 -- an outcome of a stage
 abbrev SomeOf : {A : Type 0} → Stage A → Type 0
@@ -211,8 +213,12 @@ typed_by : (cs : List r.Class) (o : Option TypeFault) → first_type_fault cs �
 typed_by cs None e = let s = some_typed cs e in (Ok s.0, s.1)
 typed_by cs (Some f) e = (Err (type_refusal f), (f, e, refl))
 
+coded_by : (s : SetValue) → AreShort (program_of s) ⊎ ((c : ℕ) × IsFirstLong (program_of s) c) → SomeOf (coded s)
+coded_by s (inl h) = (Ok s, (h, refl))
+coded_by s (inr f) = (Err (refusal 60 (long_place s.classes f.0)), (f.0, f.1, refl))
+
 typed_set_some : (cs : List r.Class) (w : List (List ℕ)) → SomeOf (typed_set cs w)
-typed_set_some cs w = then_some (typed cs) _ (typed_by cs (first_type_fault cs) refl) (λ us is. (Ok (record { classes = us; layout = w }), refl))
+typed_set_some cs w = then_some (typed cs) _ (typed_by cs (first_type_fault cs) refl) (λ us is. coded_by (record { classes = us; layout = w }) (all_or_first (record { classes = us; layout = w })))
 
 laid_set_some : (cs : List r.Class) → SomeOf (laid_set cs)
 laid_set_some cs = then_some (laid cs) (typed_set cs) (laid_by cs (first_wide cs) refl (wide_told cs cs)) (λ w is. typed_set_some cs w)

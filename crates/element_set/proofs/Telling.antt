@@ -23,8 +23,12 @@ use Rattle.ulam_types.specs.declared.fault.TypeFault.TheVariants as t
 use Rattle.element_set.specs.declared.fault.BuildFault.{BuildFault}
 use Rattle.element_set.specs.declared.fault.BuildFault.TheVariants.{Refused, NoMemory}
 use Rattle.element_set.specs.Composing.{Stage, and_then}
-use Rattle.element_set.specs.Faults.{lex_fault, name_fault, type_fault}
-use Rattle.element_set.specs.Stages.{lexed, named, typed}
+use Rattle.code_gen.specs.Compiling.{Compiles}
+use Rattle.code_gen.specs.declared.fault.GenFault.{GenFault}
+use Rattle.code_gen.specs.declared.fault.GenFault.TheVariants as g
+use Rattle.element_set.specs.Faults.{refusal, lex_fault, name_fault, type_fault, gen_fault}
+use Rattle.element_set.specs.Stages.{lexed, named, typed, coded}
+use Rattle.element_set.specs.Value.{SetValue, program_of}
 use Rattle.element_set.specs.Told.{Tells}
 
 -- a stage that passed, and then the rest
@@ -78,6 +82,10 @@ type_told X value cs T (t.BadAs p) h = (inl (_, ap type_fault_of h, refl), recor
 type_told X value cs T (t.BreakOutside p) h = (inl (_, ap type_fault_of h, refl), record { is_code = refl })
 type_told X value cs T (t.MissingReturn p) h = (inl (_, ap type_fault_of h, refl), record { is_code = refl })
 type_told X value cs T t.NoMemory h = tt
+
+pub gen_told : (X : Type 0) (value : X → SetValue) (s : SetValue) (f : GenFault) → Compiles (program_of s) (Err f) → Tells {X = X} value (coded s) (Err (gen_fault f))
+gen_told X value s (g.CodeTooLong p) h = ((h.0, h.1, ap (refusal 60) h.2), record { is_code = refl })
+gen_told X value s g.NoMemory h = tt
 
 -- the items of files, one file after another
 pub joined : (files : List File) → flat_map file_of files ≡ flat_map (λ (f : List Item). f) (map file_of files)

@@ -19,6 +19,8 @@ use Rattle.ulam_types.specs.Faults.{wrong_type, mixed_signs, not_assignable, wro
 use Rattle.ulam_types.specs.Faults as t
 use Rattle.ulam_types.specs.declared.fault.TypeFault.{TypeFault}
 use Rattle.ulam_types.specs.declared.fault.TypeFault.TheVariants as u
+use Rattle.code_gen.specs.declared.fault.GenFault.{GenFault}
+use Rattle.code_gen.specs.declared.fault.GenFault.TheVariants as g
 use Rattle.element_set.specs.declared.fault.BuildFault.{BuildFault}
 use Rattle.element_set.specs.declared.fault.BuildFault.TheVariants.{Refused, NoMemory}
 
@@ -75,6 +77,10 @@ type_refusal (wrong_count at) = refusal 53 at
 type_refusal (bad_as at) = refusal 54 at
 type_refusal (break_outside at) = refusal 55 at
 type_refusal (missing_return at) = refusal 56 at
+
+abbrev pub gen_fault : GenFault → BuildFault
+gen_fault (g.CodeTooLong at) = Refused (refusal 60 at)
+gen_fault g.NoMemory = NoMemory
 
 -- the code's faults of names and of types
 

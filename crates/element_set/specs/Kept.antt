@@ -7,7 +7,8 @@ use Rattle.ulam_tree.specs.declared.typed.Class.{Class}
 use Rattle.ulam_tree.specs.declared.typed.Typed.{Typed}
 use Rattle.ulam_names.specs.Scopes.{most_classes}
 use Rattle.element_set.specs.Names.{names_in, counts, AreSlim}
-use Rattle.element_set.specs.Value.{SetValue}
+use Rattle.element_set.specs.Value.{SetValue, program_of}
+use Rattle.code_gen.specs.Compiling.{IsCompilable, AreShort}
 
 abbrev pub texts_of : List (Vec ℕ Global) → List (List ℕ)
 texts_of vs = map (λ (v : Vec ℕ Global). v.items) vs
@@ -29,3 +30,8 @@ pub record IsKept (s : SetValue) (names numbers : List (List ℕ)) : Type 0 wher
   pub numbers_is : numbers ≡ names_in s.classes
   pub few : length s.classes ≤ most_classes
   pub fits : Fits s.classes s.layout
+
+-- the compiler's rules hold of a set's program, and the limits let each element through
+pub record IsCompiled (s : SetValue) : Type 0 where
+  pub compilable : IsCompilable (program_of s)
+  pub short : AreShort (program_of s)

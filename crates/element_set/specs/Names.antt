@@ -1,6 +1,9 @@
 -- The elements among classes, their names, and what the stage of names says of classes.
 use Rattle.std.specs.Prelude.{ℕ, suc, ◌≡◌, ◌≤◌, false, List, [], ◌∷◌, ◌++◌, length, map, flat_map, get_or, if◌then◌else◌}
 use Rattle.ulam_tree.specs.Statements.{Class, Member, field, function}
+use Rattle.ulam_tree.specs.Raw.{Item}
+use Rattle.ulam_tree.specs.Resolved as r
+use Rattle.ulam_names.specs.ClassRelation.{IsResolved}
 use Rattle.ulam_names.specs.Scopes.{is_among, most_classes, most_members}
 
 -- the name of a class that is an element
@@ -39,3 +42,8 @@ pub record AreNamed {E A : Type 0} (cs : List (Class E A)) : Type 0 where
   pub few : length cs ≤ most_classes
   pub new : AreNew [] (class_names cs)
   pub slim : AreSlim cs
+
+-- classes to which the names of some files lead
+pub record IsResolution (cs : List r.Class) : Type 0 where
+  pub items : List Item
+  pub is : IsResolved items cs

@@ -8,9 +8,10 @@ use Rattle.element_set.specs.Kept.{set_view}
 use Rattle.element_set.specs.Names.{names_in}
 use Rattle.element_set.specs.Told.{Tells}
 use Rattle.element_set.specs.Stages.{set_of}
-pub use Rattle.element_set.specs.Value.{SetValue}
+pub use Rattle.element_set.specs.Value.{SetValue, program_of}
 pub use Rattle.element_set.specs.Faults.{Coded}
 pub use Rattle.element_set.specs.CheckText.{check_text}
+pub use Rattle.element_set.specs.CodeText.{code_text}
 
 -- no stage refuses the files, and this is their set
 abbrev pub AcceptsFiles : List File → SetValue → Type 0

@@ -21,13 +21,14 @@ use Rattle.atom_layout.specs.Layouts.{layout_of, first_wide}
 use Rattle.ulam_types.specs.ProgramTyping.{IsTypedProgram}
 use Rattle.ulam_types.specs.Faults.{Fault as TypeFault}
 use Rattle.ulam_types.specs.Programs.{first_fault as first_type_fault}
+use Rattle.code_gen.specs.Compiling.{AreShort, IsFirstLong, long_place}
 use Rattle.ulam_tree.specs.Raw.{Item}
 use Rattle.ulam_tree.specs.Resolved as r
 use Rattle.ulam_tree.specs.Typed as t
 use Rattle.element_set.specs.declared.fault.BuildFault.TheVariants.{Refused}
 use Rattle.element_set.specs.Composing.{Stage, and_then, gives}
-use Rattle.element_set.specs.Value.{SetValue}
-use Rattle.element_set.specs.Faults.{lex_fault, parse_fault, heirs_fault, name_refusal, layout_fault, type_refusal}
+use Rattle.element_set.specs.Value.{SetValue, program_of}
+use Rattle.element_set.specs.Faults.{refusal, lex_fault, parse_fault, heirs_fault, name_refusal, layout_fault, type_refusal}
 
 -- Each file by itself
 
@@ -88,10 +89,15 @@ abbrev pub typed : List r.Class → Stage (List t.Class)
 typed cs (Ok us) = IsTypedProgram cs us
 typed cs (Err e) = (f : TypeFault) × (first_type_fault cs ≡ Some f) × (e ≡ type_refusal f)
 
+-- the limits of code, which let each element through or not
+abbrev pub coded : SetValue → Stage SetValue
+coded s (Ok u) = AreShort (program_of s) × (u ≡ s)
+coded s (Err e) = (c : ℕ) × IsFirstLong (program_of s) c × (e ≡ refusal 60 (long_place s.classes c))
+
 -- The stages in their order, from the last to the first
 
 abbrev pub typed_set : List r.Class → List (List ℕ) → Stage SetValue
-typed_set cs l = and_then (typed cs) (λ (us : List t.Class). gives (record { classes = us; layout = l }))
+typed_set cs l = and_then (typed cs) (λ (us : List t.Class). coded (record { classes = us; layout = l }))
 
 abbrev pub laid_set : List r.Class → Stage SetValue
 laid_set cs = and_then (laid cs) (typed_set cs)

@@ -4,6 +4,7 @@ ghost use Rattle.element_set.specs.Faults as spec;
 ghost use Rattle.element_set.specs.declared.fault.BuildFault.TheVariants as fault;
 
 use atom_layout::LayoutFault;
+use code_gen::GenFault;
 use feast_base::{NoMemory, Place, Refusal};
 use std::alloc::{AllocError, AllocFailed};
 use thiserror::Error;
@@ -138,6 +139,20 @@ impl From<TypeFault> for BuildFault {
             TypeFault::BreakOutside(at) => refused(55, at),
             TypeFault::MissingReturn(at) => refused(56, at),
             TypeFault::NoMemory => BuildFault::NoMemory,
+        }
+    }
+}
+
+impl From<GenFault> for BuildFault {
+    ghost use Rattle.std.specs.Prelude.{◌≡◌};
+    ghost use Rattle.element_set.specs.Faults.{gen_fault};
+
+    ghost from_gives = { λ f e. e ≡ gen_fault f };
+
+    fn from(fault: GenFault) -> BuildFault {
+        match fault {
+            GenFault::CodeTooLong(at) => refused(60, at),
+            GenFault::NoMemory => BuildFault::NoMemory,
         }
     }
 }

@@ -25,7 +25,7 @@ pub enum JournalFault {
 
 /// What is wrong with a line.
 #[derive(Clone, Copy, Debug, PartialEq, Eq)]
-pub(crate) enum LineFault {
+pub enum LineFault {
     /// It has another form than the line that is wanted there.
     BadForm,
     /// Its record stands in the wrong order to that of a line, or to none (0).

@@ -19,7 +19,7 @@ mod walk;
 
 pub use abandoned::Abandoned;
 pub use cutting::cuts;
-pub use fault::JournalFault;
+pub use fault::{JournalFault, LineFault};
 pub use journal::Journal;
 pub use log::TileLog;
 pub use printed::{abandoned_fields, count_fields, print, record_fields};

@@ -1,1 +1,4 @@
+pub mod Lines
+pub mod Lists
 pub mod Putting
+pub mod Reported

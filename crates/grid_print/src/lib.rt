@@ -9,8 +9,10 @@
 mod fault;
 mod page;
 mod shown;
+mod texts;
 mod writer;
 
 pub use fault::WriteFault;
 pub use shown::atoms;
+pub use texts::one_report;
 pub use writer::write_report;

@@ -46,7 +46,7 @@ same_index x y u v w a b e = go (nat_lt y v) (nat_lt v y) refl refl
         (omega (arith, rows, e), same)
 
 module _ (m : MapValue) (plane : IsPlane m) where
-  in_columns : (s : Site) → is_live m s ≡ true → (s.x < m.tx * m.w) × (s.y < m.ty * m.h)
+  pub in_columns : (s : Site) → is_live m s ≡ true → (s.x < m.tx * m.w) × (s.y < m.ty * m.h)
   in_columns s live =
       let p = both (in_plane m s) (is_on m (owner_of m s)) live in
       let q = both (nat_lt s.x (m.tx * m.w)) (nat_lt s.y (m.ty * m.h)) p.0 in
@@ -95,10 +95,10 @@ module _ (m : MapValue) (plane : IsPlane m) where
       go (Some u) (Some v) = marked u v (nat_lt u g.width) (nat_lt v g.height) refl refl
 
   -- a live site is one of the grid's
-  index_live : (g : GridValue) → IsGridOf m g → IsGrid g → (s : Site) → is_live m s ≡ true → index g s < length g.atoms
+  pub index_live : (g : GridValue) → IsGridOf m g → IsGrid g → (s : Site) → is_live m s ≡ true → index g s < length g.atoms
   index_live g of good s live = let r = in_columns s live in let a = index_inside s.x s.y g.width g.height (omega (arith, r.0, of.wide)) (omega (arith, r.1, of.high)) in omega (arith, a, good.whole)
 
-  one_site : (g : GridValue) → IsGridOf m g → (s q : Site) → is_live m s ≡ true → is_live m q ≡ true → index g q ≡ index g s → q ≡ s
+  pub one_site : (g : GridValue) → IsGridOf m g → (s q : Site) → is_live m s ≡ true → is_live m q ≡ true → index g q ≡ index g s → q ≡ s
   one_site g of s q a b e =
       let x = in_columns s a in
       let y = in_columns q b in

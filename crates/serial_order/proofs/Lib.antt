@@ -10,7 +10,7 @@ pub mod News
 pub mod Order
 pub mod Grids
 pub mod Replay
-pub mod Settle
+pub mod LastCells
 pub mod Stamps
 pub mod NoneWorn
 pub mod Entries
@@ -23,3 +23,7 @@ pub mod Journal
 pub mod Promises
 pub mod SmallRun
 pub mod EdgeCells
+pub mod Blanks
+pub mod Filling
+pub mod Outcomes
+pub mod Boards

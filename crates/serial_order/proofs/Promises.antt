@@ -33,7 +33,7 @@ use Rattle.serial_order.proofs.Ground.{IsEnd, inside}
 use Rattle.serial_order.proofs.World.{before_in}
 use Rattle.serial_order.proofs.Order.{one_writer}
 use Rattle.serial_order.proofs.Replay.{notes}
-use Rattle.serial_order.proofs.Settle.{HasEdges, grid_is_replay, replay_fits}
+use Rattle.serial_order.proofs.LastCells.{HasEdges, grid_is_replay, replay_fits}
 use Rattle.serial_order.proofs.Stamps.{Stamped, stamped, whole_cut, small}
 use Rattle.serial_order.proofs.Excuses.{IsExcused, excused}
 use Rattle.serial_order.proofs.NoNews.{no_news}
@@ -74,7 +74,7 @@ row_less : (i w h : ℕ) → 0 < w → i < w * h → i / w < h
 row_less i w h lt le = grind (arith)
 
 -- two grids of a plane with the same atoms at its live sites are one grid
-one_grid : (m : MapValue) (g h : GridValue) → IsGrid g → IsGrid h → IsGridOf m g → IsGridOf m h → ((s : Site) → is_live m s ≡ true → site_atom g s.x s.y ≡ site_atom h s.x s.y) → g ≡ h
+pub one_grid : (m : MapValue) (g h : GridValue) → IsGrid g → IsGrid h → IsGridOf m g → IsGridOf m h → ((s : Site) → is_live m s ≡ true → site_atom g s.x s.y ≡ site_atom h s.x s.y) → g ≡ h
 one_grid m g h good fine of fits same = λ i. record { width = wide i; height = high i; atoms = atoms i; live = live i }
   where
     wide : g.width ≡ h.width

@@ -3,3 +3,5 @@ pub mod Settled
 pub mod Order
 pub mod Example
 pub mod Words
+pub mod Outcomes
+pub mod Boards

@@ -1,27 +1,9 @@
 //! Texts with how their classes are shown, or the refusal of the first stage that refuses them.
 
-use element_set::{BuildFault, ElementSet, one_building};
-use feast_base::{Place, Refusal, Source};
+use crate::built::{built, line};
+use element_set::{BuildFault, one_building};
 use std::alloc::Global;
 use std::test::Fail;
-
-/// The set of two texts, which are shorter than the longest by far.
-fn built(alloc: Global, first: &str, second: &str) -> Result<Result<ElementSet, BuildFault>, Fail> {
-    if first.len() >= 1_000_000 || second.len() >= 1_000_000 {
-        return Err(Fail::from("too long"));
-    }
-    let first = Source::new(alloc, "a", Vec::from_slice(alloc, first.as_bytes())?)?;
-    let second = Source::new(alloc, "b", Vec::from_slice(alloc, second.as_bytes())?)?;
-    Ok(ElementSet::build(alloc, &[first, second]))
-}
-
-/// A refusal: the name of its file, its place, its code and its number.
-fn line(alloc: Global, refusal: &Refusal) -> Result<String, Fail> {
-    let Refusal { code, place, value } = *refusal;
-    let Place { file, line, column } = place;
-    let name = if file == 0 { "a" } else { "b" };
-    Ok(format!(in alloc; "{name}:{line}:{column}: E{code} {value}")?)
-}
 
 /// How the classes of two texts are shown, or the line of their refusal.
 fn shown(alloc: Global, first: &str, second: &str) -> Result<String, Fail> {

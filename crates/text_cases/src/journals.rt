@@ -33,10 +33,26 @@ fn counted(alloc: Global, text: &str) -> Result<Result<(usize, usize), JournalFa
 }
 
 /// Reports with what they come to.
-const REPORTS: [(&str, Result<(usize, usize), JournalFault>); 10] = [
+const REPORTS: [(&str, Result<(usize, usize), JournalFault>); 14] = [
     (
         "feast 1\natoms 1\n17 4 Walker 000000000000000000\njournal 2\n1 0 0 15 4 0000000000000000\n2 1 0 16 4 0000000000000000\nabandoned 0\n",
         Ok((2, 0)),
+    ),
+    (
+        "feast 1\natoms 1\n17 4 Walker 000000000000000000\njournal 2\n2 1 0 16 4 0000000000000000\n1 0 0 15 4 0000000000000000\nabandoned 0\n",
+        Err(JournalFault::OutOfOrder(6, 5)),
+    ),
+    (
+        "feast 1\natoms 1\n17 4 Walker 000000000000000000\njournal 2\n1 0 0 16 4 0000000000000000\n2 1 0 16 4 0000000000000000\nabandoned 0\n",
+        Err(JournalFault::NotOwned(5)),
+    ),
+    (
+        "feast 1\natoms 1\n17 4 Walker 000000000000000000\njournal 2\n1 0 0 15 4 0000000000000001\n2 1 0 16 4 0000000000000000\nabandoned 0\n",
+        Err(JournalFault::NotDrawn(5)),
+    ),
+    (
+        "feast 1\natoms 1\n17 4 Walker 000000000000000000\njournal 2\n1 0 0 15 4 0000000000000000\n",
+        Err(JournalFault::BadLine(6)),
     ),
     (
         "feast 1\natoms 0\njournal 1\n1 0 0 15 4 0000000000000000\nabandoned 1\n1 0 16 4 0 0 0\n",

@@ -3,7 +3,7 @@
 use feast_base::Name;
 use std::alloc::Global;
 use std::test::Fail;
-use world_text::{WorldFault, laws, name, print, read};
+use world_text::{WorldFault, laws, name, print, read, reads_again};
 
 /// What a text comes to, where Walker and Stone are the elements: its text as it is printed, or its
 /// fault.
@@ -20,6 +20,7 @@ fn printed(alloc: Global, text: &str) -> Result<Result<Vec<u8>, WorldFault>, Fai
         Err(fault) => return Ok(Err(fault)),
     };
     laws(&world);
+    reads_again(&world, names.as_slice());
     let mut out = Vec::new(alloc);
     print(alloc, &world, names.as_slice(), &mut out)?;
     Ok(Ok(out))
@@ -49,16 +50,16 @@ const FAULTS: [(&str, WorldFault); 20] = [
         WorldFault::TooManyAttempts(5),
     ),
     (
-        "feast 1\ntiles 1 1\nsize 8 8\natom 3 4 Walker 800000000000000000\n",
-        WorldFault::OutOfRange(4),
+        "feast 1\ntiles 1 1\nsize 8 8\ntry 0 3 4 0000000000000000\natom 3 4 Walker 800000000000000000\n",
+        WorldFault::OutOfRange(5),
     ),
     (
-        "feast 1\ntiles 1 1\nsize 8 8\natom 3 4 Nobody\n",
-        WorldFault::UnknownElement(4),
+        "feast 1\ntiles 1 1\nsize 8 8\ntry 0 3 4 0000000000000000\natom 3 4 Nobody\n",
+        WorldFault::UnknownElement(5),
     ),
     (
-        "feast 1\ntiles 1 1\nsize 8 8\natom 3 4 Walker\natom 3 4 Stone\n",
-        WorldFault::SiteTaken(5),
+        "feast 1\ntiles 1 1\nsize 8 8\ntry 0 3 4 0000000000000000\natom 3 4 Walker\natom 3 4 Walker\n",
+        WorldFault::SiteTaken(6),
     ),
     (
         "feast 1\ntiles 2 1\nsize 16 16\noff 1\n",

@@ -51,7 +51,7 @@ one_small : (x : Bool) → cond (not x) 1 0 ≤ 1
 one_small true = omega arith
 one_small false = omega arith
 
-all_on : (n : ℕ) → tiles_on (replicate n false) ≡ n
+pub all_on : (n : ℕ) → tiles_on (replicate n false) ≡ n
 all_on zero = refl
 all_on (suc n) = ap suc (all_on n)
 
@@ -283,7 +283,7 @@ try_kept n t x y s d k r f =
     eq_of a b h = grind arith
 
 -- the kinds after which the lines of the plane come
-early_before : (second : Bool) (last next : Kind) → may_follow second last next ≡ true → is_early next ≡ true → is_early last ≡ true
+pub early_before : (second : Bool) (last next : Kind) → may_follow second last next ≡ true → is_early next ≡ true → is_early last ≡ true
 early_before second Start next h e = refl
 early_before second Header next h e = refl
 early_before second Tiles next h e = refl

@@ -4,6 +4,10 @@ pub mod Drafts
 pub mod Formed
 pub mod Kept
 pub mod Marks
+pub mod Planes
 pub mod Prints
+pub mod Round
+pub mod Taken
 pub mod Takes
+pub mod Tried
 pub mod Walk

@@ -3,7 +3,8 @@ use Rattle.std.specs.Prelude.{ℕ, ◌≡◌, ◌≤◌, ◌<◌, ◌^◌, ◌+�
 use Rattle.feast_base.specs.TypeNames.{is_type_name}
 use Rattle.world_text.specs.Drafts.{DraftValue, kind_of, missing, nothing_said, step}
 use Rattle.world_text.specs.Line.{Line, header, tiles, size, off, seed, attempts, try, atom, order_seed, order}
-use Rattle.world_text.specs.Printed.{lines_text}
+use Rattle.world_text.specs.Named.{ReadsWorld, WorldValue, named, world_of}
+use Rattle.world_text.specs.Printed.{lines_text, world_lines}
 use Rattle.world_text.specs.Reading.{go_on, over, read_text}
 use Rattle.world_text.specs.declared.kind.Kind.{Kind}
 use Rattle.world_text.specs.declared.kind.Kind.TheVariants.{Start}
@@ -35,13 +36,28 @@ abbrev pub last_kind : Kind → List Line → Kind
 last_kind k [] = k
 last_kind k (l ∷ ls) = last_kind (kind_of l) ls
 
--- a text is read but for what is missing behind its last line, of number n and this kind
-abbrev pub IsReadBut : List ℕ → ℕ → Kind → Option ℕ → Type 0
-IsReadBut bytes n k None = (d : DraftValue) × (read_text bytes ≡ Ok d) × (d.last ≡ k)
-IsReadBut bytes n k (Some code) = read_text bytes ≡ Err (code, n + 1)
+-- names that name all atoms of one draft name those of another
+abbrev pub AreNamedToo : DraftValue → DraftValue → Type 0
+AreNamedToo e d = (names : List (List ℕ)) (w : WorldValue) → named names e ≡ Ok w → named names d ≡ Ok (world_of names d)
+
+-- a text is read but for what is missing behind its last line, of number n and this kind; names that name what draft e says
+-- name what it says
+abbrev pub IsReadBut : DraftValue → List ℕ → ℕ → Kind → Option ℕ → Type 0
+IsReadBut e bytes n k None = (d : DraftValue) × (read_text bytes ≡ Ok d) × (d.last ≡ k) × AreNamedToo e d
+IsReadBut e bytes n k (Some code) = read_text bytes ≡ Err (code, n + 1)
 
 -- where the text of some lines is a world, the first k of these lines are one, unless a line is missing behind them: where
 -- they are none it is the header, and behind a header, a `tiles` line and a `seed` line it is the next line
 abbrev pub AreCut : Type 0
 AreCut = (ls : List Line) (e : DraftValue) (k : ℕ) → All IsPrinted ls → read_text (lines_text ls) ≡ Ok e → k ≤ length ls →
-    IsReadBut (lines_text (take k ls)) k (last_kind Start (take k ls)) (missing (last_kind Start (take k ls)))
+    IsReadBut e (lines_text (take k ls)) k (last_kind Start (take k ls)) (missing (last_kind Start (take k ls)))
+
+-- a text is a world with these names, but for what is missing behind its last line, of number n
+abbrev pub IsWorldBut : List (List ℕ) → List ℕ → ℕ → Option ℕ → Type 0
+IsWorldBut names bytes n None = (v : WorldValue) × ReadsWorld bytes names v
+IsWorldBut names bytes n (Some code) = read_text bytes ≡ Err (code, n + 1)
+
+-- the first k lines of the text of a world are a world with the same names, unless a line is missing behind them
+abbrev pub AreWorldCuts : List (List ℕ) → WorldValue → Type 0
+AreWorldCuts names w = (k : ℕ) → k ≤ length (world_lines names w) →
+    IsWorldBut names (lines_text (take k (world_lines names w))) k (missing (last_kind Start (take k (world_lines names w))))

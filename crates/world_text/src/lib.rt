@@ -25,5 +25,5 @@ pub use named::name;
 pub use printed::print;
 pub use raw_world::RawWorld;
 pub use reader::read;
-pub use texts::laws;
+pub use texts::{laws, reads_again};
 pub use world::{Order, Placed, World};

@@ -1,15 +1,33 @@
 //! What holds of the texts of worlds.
-ghost use Rattle.world_text.specs.Saying.{AreCut, SaysItsLines};
+ghost use Rattle.world_text.specs.Named.{ReadsWorld};
+ghost use Rattle.world_text.specs.Printed.{IsNamed, world_text};
+ghost use Rattle.world_text.specs.Saying.{AreCut, AreWorldCuts, SaysItsLines};
+ghost use Rattle.world_text.specs.Values.{world_value};
 
 use crate::world::World;
+use feast_base::Name;
 
 /// What holds of every text that is made of lines as `print` makes them: it says what its lines
-/// say, one after another; and where it is a world, its first lines are one too, unless a line is
-/// missing behind them. The call does nothing: its contract is the laws.
+/// say, one after another; and where it is a world, its first lines are one too, which the same
+/// names name, unless a line is missing behind them. The call does nothing: its contract is the
+/// laws.
 #[tactic(auto, using(crate::proofs::Again::text_again, crate::proofs::Cut::are_cut))]
 pub fn laws(world: &World)
     ensures says { SaysItsLines }
     ensures cut { AreCut }
 {
     let _tiles = world.tx;
+}
+
+/// What holds of the text that `print` writes of a world that `name` gave with these names: read
+/// and named with them it says this world; and its first lines say a world that they name, unless
+/// a line is missing behind them. The call does nothing: its contract is the laws.
+#[tactic(auto, using(crate::proofs::Round::reads_again))]
+pub fn reads_again(world: &World, names: &[Name])
+    requires { IsNamed names.now (world_value world.now) }
+    ensures again { ReadsWorld (world_text names.now (world_value world.now)) names.now (world_value world.now) }
+    ensures cut { AreWorldCuts names.now (world_value world.now) }
+{
+    let _tiles = world.tx;
+    let _names = names.len();
 }

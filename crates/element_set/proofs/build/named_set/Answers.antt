@@ -2,12 +2,10 @@ use Rattle.std.proofs.Common.{subst}
 use Rattle.ulam_names.specs.Classes.{program}
 use Rattle.ulam_names.specs.Files.{all_items}
 use Rattle.ulam_names.specs.Shown.{Fails}
-use Rattle.ulam_tree.specs.ResolvedViews.{resolved_program}
 use Rattle.element_set.specs.declared.set.ElementSet.{ElementSet}
 use Rattle.element_set.specs.Faults.{name_fault}
 use Rattle.element_set.specs.Sets.{set_value}
 use Rattle.element_set.specs.Stages as stage
-use Rattle.element_set.proofs.Named.{resolved_named}
 use Rattle.element_set.proofs.Telling.{tells_exit, name_told}
 use Rattle.element_set.proofs.build.named_set.Goals as goal
 
@@ -19,4 +17,4 @@ returns-in_err-program c =
     tells_exit set_value (stage.named_set xs) (name_fault fault) c.from_residual.result c.from_residual.ensures.1 (name_told ElementSet set_value xs stage.laid_set fault fails)
 
 pub laid_set-requires : goal.laid_set-requires
-laid_set-requires c = resolved_named (all_items c.as_slice.result.now) (resolved_program c.in_ok-program.program) c.in_ok-program.ensures.is
+laid_set-requires c = record { items = all_items c.as_slice.result.now; is = c.in_ok-program.ensures.is }

@@ -1,0 +1,17 @@
+//! Which types cross threads. Nothing calls these functions: the check of this crate fails where
+//! one of the types may no longer be sent or shared.
+
+use crate::actor::Actor;
+use crate::set::ElementSet;
+
+fn sends<T: Send>(_value: &T) {}
+
+fn shares<T: Sync>(_value: &T) {}
+
+fn set_is_shared(set: &ElementSet) {
+    shares(set);
+}
+
+fn actor_is_sent(actor: &Actor<'_>) {
+    sends(actor);
+}

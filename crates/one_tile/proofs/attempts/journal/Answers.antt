@@ -1,0 +1,15 @@
+use Rattle.std.proofs.Common.{◌≡◌, ◌≤◌, ap, sym, ◌∙◌, List, length, subst}
+use Rattle.std.specs.Result.{IfOk}
+use Rattle.draw_stream.specs.declared.attempt.Attempt.{Attempt}
+use Rattle.one_tile.specs.Events.{events_from}
+use Rattle.one_tile.proofs.Alone.{events_few, events_log, journal_holds}
+use Rattle.one_tile.proofs.attempts.journal.Goals as goal
+
+pub journal_of-requires-clause-log : goal.journal_of-requires-clause-log
+journal_of-requires-clause-log c = events_log c.args.map.now c.in_ok-attempts.attempts c.in_ok-records.records.items c.in_ok-records.ensures
+
+pub journal_of-requires-clause-few : goal.journal_of-requires-clause-few
+journal_of-requires-clause-few c = events_few c.args.map.now c.in_ok-attempts.attempts c.in_ok-records.records.items c.in_ok-records.ensures c.in_ok-attempts.ensures.bound
+
+pub returns-clause-records : goal.returns-clause-records
+returns-clause-records c = journal_holds c.args.map.now c.in_ok-attempts.attempts c.args.plan.now c.in_ok-records.records.items c.journal_of.result c.in_ok-attempts.ensures.value c.in_ok-records.ensures c.in_ok-attempts.ensures.bound c.journal_of.ensures

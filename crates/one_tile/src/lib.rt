@@ -1,0 +1,9 @@
+//! The journal of a plane of one tile: no attempt is given up, so each is an event, in the order
+//! of the attempts.
+#![tactic(auto)]
+
+mod attempts;
+mod law;
+
+pub use attempts::journal;
+pub use law::each_attempt_is_an_event;

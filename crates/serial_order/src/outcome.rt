@@ -1,0 +1,117 @@
+//! Settling: what tiles that are over leave, as one grid and one journal.
+ghost use Rattle.std.specs.Prelude.{◌≡◌, ◌<◌, ◌*◌, All, IfOk, length};
+ghost use Rattle.cell_grid.specs.Grid.{ArePlanesAlike};
+ghost use Rattle.tile_map.specs.Plane.{site};
+ghost use Rattle.serial_order.specs.Outcomes.{AreOver, AreTilesOf, IsMade, IsPlaneGrid, Settles, SettlesSite, values_of};
+ghost use Rattle.serial_order.specs.Scene.{logs_of, registers_at};
+ghost use Rattle.serial_order.specs.Settled.{IsSettled};
+ghost use Rattle.serial_order.specs.Words.{AreEdgeWords};
+
+use crate::blank::blank_grid;
+use crate::newest::settled_atom;
+use crate::words::EdgeWords;
+use cell_grid::{Behave, Grid};
+use event_journal::{Journal, TileLog};
+use feast_base::NoMemory;
+use std::alloc::Global;
+use tile_core::Tile;
+use tile_map::Map;
+
+/// What a run has come to.
+#[derive(Drop)]
+pub struct Outcome {
+    /// The atoms.
+    pub grid: Grid,
+    /// The events and the abandoned attempts of all tiles.
+    pub journal: Journal,
+}
+
+/// Gives a live site its settled atom: the newest of its owner's and those of the owner's edges.
+fn settle_site<B: Behave, E: EdgeWords>(
+    map: &Map,
+    tiles: &[Tile<B>],
+    words: &mut E,
+    grid: &mut Grid,
+    x: u32,
+    y: u32,
+)
+    requires x { x < grid.old.width }
+    requires y { y < grid.old.height }
+    requires grid { IsPlaneGrid map.now grid.old }
+    requires tiles { AreTilesOf map.now (values_of tiles.now) }
+    requires words { AreEdgeWords map.now (E.histories words.old) (E.counts words.old) }
+    ensures site { SettlesSite map.now (values_of tiles.now) (registers_at (E.histories words.old)) (site x y) grid.old grid.new }
+    ensures same { (E.histories words.new ≡ E.histories words.old) × (E.counts words.new ≡ E.counts words.old) }
+{
+    map.laws();
+    if !map.is_live(x, y) {
+        return;
+    }
+    let owner = map.owner(x, y);
+    let cache = tiles[owner as usize].cache();
+    let atom = settled_atom(map, owner, cache, x, y, words);
+    grid.set(x, y, atom);
+}
+
+/// Gives each live site its settled atom.
+fn settle_sites<B: Behave, E: EdgeWords>(
+    map: &Map,
+    tiles: &[Tile<B>],
+    words: &mut E,
+    grid: &mut Grid,
+)
+    requires grid { IsPlaneGrid map.now grid.old }
+    requires tiles { AreTilesOf map.now (values_of tiles.now) }
+    requires words { AreEdgeWords map.now (E.histories words.old) (E.counts words.old) }
+    ensures grid { IsSettled map.now (values_of tiles.now) (registers_at (E.histories words.old)) grid.new }
+    ensures same { (E.histories words.new ≡ E.histories words.old) × (E.counts words.new ≡ E.counts words.old) }
+{
+    map.laws();
+    let width = grid.width();
+    for place in 0..width * grid.height() {
+        settle_site(map, tiles, words, grid, place % width, place / width);
+    }
+}
+
+/// The logs of some tiles, in their order.
+fn logs<B: Behave + Drop>(alloc: Global, tiles: Vec<Tile<B>>) -> Result<Vec<TileLog>, NoMemory>
+    requires { All (λ t. IsMade t.0.cache.map t.0) tiles.items }
+    ensures { IfOk result (λ v. v.items ≡ logs_of (values_of tiles.items)) }
+{
+    let mut logs = Vec::new(alloc);
+    for tile in tiles {
+        logs.push(tile.into_log())?;
+    }
+    Ok(logs)
+}
+
+/// Settles a run: the newest atom of each live site, and the logs of all tiles as one journal.
+///
+/// There is one tile for each of the map's, made with it, and each is finished or worn out; what
+/// the tiles did on their edges are the histories that the words are the end of. Then no tile is
+/// worn out, and all events stand in one serial order: the journal accounts for each attempt, its
+/// stamps are those of Lamport's rule, each attempt that was given up is excused, and the grid is
+/// what the journal's events make of the start, one after another on one grid. This holds for any
+/// start and plan from which the tiles have played.
+///
+/// `NoMemory` where there is none for the grid or the list of logs; the tiles are dropped then.
+pub fn settle<B: Behave + Drop, E: EdgeWords>(
+    alloc: Global,
+    map: &Map,
+    tiles: Vec<Tile<B>>,
+    words: &mut E,
+) -> Result<Outcome, NoMemory>
+    requires made { All (λ t. IsMade map.now t.0) tiles.items }
+    requires words { AreEdgeWords map.now (E.histories words.old) (E.counts words.old) }
+    requires over { AreOver map.now (values_of tiles.items) (E.histories words.old) }
+    ensures settled { IfOk result (λ o. Settles map.now (values_of tiles.items) (E.histories words.old) o) }
+    ensures same { (E.histories words.new ≡ E.histories words.old) × (E.counts words.new ≡ E.counts words.old) }
+{
+    let mut grid = blank_grid(alloc, map)?;
+    settle_sites(map, tiles.as_slice(), words, &mut grid);
+    let logs = logs(alloc, tiles)?;
+    Ok(Outcome {
+        grid,
+        journal: Journal::of_logs(logs),
+    })
+}

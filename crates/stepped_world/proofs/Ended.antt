@@ -1,0 +1,133 @@
+-- At the end of the stepped run all tiles are finished, nobody has an edge, and what is there can be settled.
+use Rattle.std.proofs.Common.{◌≡◌, ℕ, ◌<◌, ◌≤◌, Bool, true, false, true≢false, List, length, get_or, refl, sym, ap, ◌∙◌, subst, arith, inl, inr, ⊎_elim, Some, None}
+use Rattle.std.specs.Prelude.{slice_get, nat_lt}
+use Rattle.std.proofs.lemmas.Bool.Decides.{nat_tests}
+use Rattle.std.proofs.lemmas.List.{get_or_past, length-map}
+use Rattle.std.proofs.lemmas.Option.{slice_get-get_or, slice_get_within}
+use Rattle.window_sites.specs.Window.{WindowValue}
+use Rattle.tile_map.specs.Plane.{MapValue, IsMap, tiles_of}
+use Rattle.tile_map.specs.Edges.{pairs_of, low_end, high_end, has_end}
+use Rattle.tile_map.proofs.PlaneLaws.{plane}
+use Rattle.draw_stream.specs.Plans.{attempts}
+use Rattle.edge_lock.specs.History.{own, open_hold}
+use Rattle.edge_lock.specs.EndLists.{is_held, IsFree}
+use Rattle.edge_lock.specs.PlainBoard.{PlainBoardValue, no_edge, edge_at, lists_of_tile}
+use Rattle.edge_lock.proofs.HistoryLaws.{open_is_none}
+use Rattle.border_cache.specs.Windows.{end_at}
+use Rattle.tile_core.specs.declared.phase.Phase.{Phase}
+use Rattle.tile_core.specs.declared.phase.Phase.TheVariants.{Draw, Lock, Refresh, Behave, Write, Give, Back, Finished, Worn}
+use Rattle.tile_core.specs.Values.{TileValue, atoms_of}
+use Rattle.tile_core.specs.Turns.{HasPlayed}
+use Rattle.tile_core.specs.Underway.{InPhase}
+use Rattle.tile_core.proofs.Boards.{edge_end}
+use Rattle.tile_core.proofs.Lists.{free_of}
+use Rattle.tile_core.proofs.Played.{played_at_end}
+use Rattle.serial_order.specs.Scene.{IsOver}
+use Rattle.serial_order.specs.Words.{histories_on}
+use Rattle.serial_order.specs.Outcomes.{scene_of, values_of}
+use Rattle.serial_order.specs.Boards.{HasStopped, HaveStopped}
+use Rattle.serial_order.proofs.Boards.{words, over}
+use Rattle.serial_order.proofs.Promises.{one_order}
+use Rattle.stepped_world.specs.Machine.{Machine}
+use Rattle.stepped_world.specs.Running.{Setting, IsStart, AreUnderway, is_still, stands_still, AnyIsWorn, IsLike, AreLike}
+use Rattle.stepped_world.specs.Ends.{HasRun}
+use Rattle.stepped_world.proofs.Slots.{value_at, some_at}
+
+has_low : (m : MapValue) (e : ℕ) → has_end m (low_end m e) e ≡ true
+has_low m e = grind (arith, nat_tests)
+
+has_high : (m : MapValue) (e : ℕ) → has_end m (high_end m e) e ≡ true
+has_high m e = grind (arith, nat_tests)
+
+low_is : (m : MapValue) (e : ℕ) → end_at m (low_end m e) e ≡ 0
+low_is m e = grind (arith, nat_tests)
+
+high_is : (m : MapValue) (e : ℕ) → low_end m e < high_end m e → end_at m (high_end m e) e ≡ 1
+high_is m e lt = grind (arith, nat_tests, lt)
+
+-- a tile that stands still has stopped
+stopped_in : (tile : TileValue) → (p : Phase) → tile.phase ≡ p → is_still p ≡ true → HasStopped tile
+stopped_in tile Draw e h = absurd (true≢false (sym h))
+stopped_in tile Lock e h = absurd (true≢false (sym h))
+stopped_in tile Refresh e h = absurd (true≢false (sym h))
+stopped_in tile Behave e h = absurd (true≢false (sym h))
+stopped_in tile Write e h = absurd (true≢false (sym h))
+stopped_in tile Give e h = absurd (true≢false (sym h))
+stopped_in tile Back e h = absurd (true≢false (sym h))
+stopped_in tile Finished e h = inl e
+stopped_in tile Worn e h = inr e
+
+module _ {B : Type 0} (after : B → WindowValue → ℕ → WindowValue) (m : MapValue) (valid : IsMap m) (g : Setting) (tiles : List (TileValue × B)) (board : PlainBoardValue) (u : AreUnderway after m g tiles board)
+    (still : (t : ℕ) → t < tiles_of m → stands_still (slice_get tiles t) ≡ true) where
+  inside : (t : ℕ) (x : TileValue × B) → slice_get tiles t ≡ Some x → t < tiles_of m
+  inside t x is = let lt = slice_get_within tiles t x is in let n = u.count in omega (arith, lt, n)
+
+  module _ {A : Type 0} (after' : A → WindowValue → ℕ → WindowValue) (first : List (TileValue × A)) (board' : PlainBoardValue) (s : IsStart after' m g first board') where
+    have_stopped : HaveStopped m g.meaning g.start g.plan (values_of tiles) board
+    have_stopped = record {
+      valid = valid;
+      grid = s.grid;
+      fits = s.fits;
+      plan_is = s.plan;
+      lists = s.lists;
+      count = length-map tiles (λ (x : TileValue × B). x.0) ∙ u.count;
+      edges = u.board_is;
+      numbers = λ t tile is. let v = value_at tiles t tile is in ap (λ (z : TileValue). z.number) (sym v.2) ∙ (u.each t v.0 v.1).number;
+      underway = λ t tile is. let v = value_at tiles t tile is in let k = u.each t v.0 v.1 in
+          subst (λ (z : TileValue). Rattle.tile_core.specs.Underway.IsUnderway m g.meaning (atoms_of g.start) (attempts g.plan t) z (lists_of_tile board z.number)) v.2
+          (subst (λ n. Rattle.tile_core.specs.Underway.IsUnderway m g.meaning (atoms_of g.start) (attempts g.plan t) v.0.0 (lists_of_tile board n)) (sym k.number) k.underway);
+      stopped = λ t tile is. let v = value_at tiles t tile is in
+          subst HasStopped v.2 (stopped_in v.0.0 v.0.0.phase refl (ap stands_still (sym v.1) ∙ still t (inside t v.0 v.1)));
+    }
+
+    pub is_over : IsOver (scene_of m (values_of tiles) (histories_on board) g.meaning g.start g.plan)
+    is_over = over m g.meaning g.start g.plan (values_of tiles) board have_stopped
+
+    pub finished : (t : ℕ) (x : TileValue × B) → slice_get tiles t ≡ Some x → x.0.phase ≡ Finished
+    finished t x is = (one_order (scene_of m (values_of tiles) (histories_on board) g.meaning g.start g.plan) is_over).unworn t x.0 (Rattle.std.proofs.lemmas.Option.slice_get-map (λ (z : TileValue × B). z.0) tiles t ∙ ap (Rattle.std.specs.Option.option_map (λ (z : TileValue × B). z.0)) is)
+
+    -- so none is worn out, and all is as the machine has it
+    pub like_it : (k : Machine) → AreLike m g tiles board k → IsLike m g tiles board k
+    like_it k l = ⊎_elim {C = IsLike m g tiles board k} (λ z. z) (λ (w : AnyIsWorn tiles). absurd (cc (sym w.3 ∙ finished w.0 w.1 w.2))) l
+
+    -- the tile has no edge any more
+    free_tile : (t e : ℕ) → t < tiles_of m → has_end m t e ≡ true → IsFree (lists_of_tile board t e)
+    free_tile t e lt end =
+        let x = some_at tiles t (let n = u.count in omega (arith, lt, n)) in
+        let k = u.each t x.0 x.1 in
+        let h = subst (InPhase m g.meaning (atoms_of g.start) (attempts g.plan t) k.underway.turns x.0.0 (lists_of_tile board t)) (finished t x.0 x.1) k.underway.hand in
+        subst IsFree (sym (h.2 e (ap (λ n. has_end m n e) k.number ∙ end))) (free_of m g.meaning (atoms_of g.start) x.0.0.number k.underway.turns e k.underway.each k.underway.unworn)
+
+    end_free : (t e b : ℕ) → t < tiles_of m → has_end m t e ≡ true → e < length (pairs_of m) → end_at m t e ≡ b → is_held (own b (edge_at board e).holds) ≡ false
+    end_free t e b lt end known is =
+        ap (λ n. is_held (own n (edge_at board e).holds)) (sym is ∙ sym (edge_end m e (edge_at board e) (u.board_is.each e known) t)) ∙ free_tile t e lt end
+
+    shut : (e : ℕ) → open_hold (edge_at board e).holds ≡ None
+    shut e = go (nat_lt e (length (pairs_of m))) refl
+      where
+        go : (b : Bool) → nat_lt e (length (pairs_of m)) ≡ b → open_hold (edge_at board e).holds ≡ None
+        go true is =
+            let known : e < length (pairs_of m) = grind (arith, nat_tests, is) in
+            let ends = (plane m valid).edges.ends e known in
+            open_is_none (edge_at board e).holds (u.board_is.each e known).kept.holds
+            (end_free (low_end m e) e 0 (omega (arith, ends.0, ends.1)) (has_low m e) known (low_is m e))
+            (end_free (high_end m e) e 1 ends.1 (has_high m e) known (high_is m e ends.0))
+        go false is =
+            let past : length board.edges ≤ e = (let n = u.board_is.count in let le : length (pairs_of m) ≤ e = grind (arith, nat_tests, is) in omega (arith, n, le)) in
+            ap (λ (z : Rattle.edge_lock.specs.PlainEdges.PlainEdgeValue). open_hold z.holds) (get_or_past board.edges e no_edge past)
+
+    pub has_run : HasRun after m g tiles board
+    has_run = record {
+      count = u.count;
+      finished = λ t x is. let k = u.each t x is in record {
+        number = k.number;
+        map = k.underway.map;
+        meaning = k.meaning;
+        phase = finished t x is;
+        played = subst (λ n. HasPlayed m g.meaning (atoms_of g.start) n (attempts g.plan t) x.0.records x.0.abandoned (lists_of_tile board t)) k.number (played_at_end m g.meaning (atoms_of g.start) (attempts g.plan t) x.0 (lists_of_tile board t) k.underway (finished t x is));
+      };
+      shut = shut;
+      made = λ i d lt. let k = u.each i (get_or tiles i d) (slice_get-get_or tiles i d lt) in (g.meaning, lists_of_tile board i, (atoms_of g.start, attempts g.plan i, k.underway));
+      words = words m board u.board_is;
+      over = is_over;
+    }

@@ -1,0 +1,15 @@
+pub mod Boards
+pub mod Slots
+pub mod Tiles
+pub mod Turning
+pub mod Finishing
+pub mod Stepping
+pub mod Likeness
+pub mod Sound
+pub mod Following
+pub mod Ready
+pub mod Starts
+pub mod Ended
+pub mod Newest
+pub mod Whole
+pub mod Rows

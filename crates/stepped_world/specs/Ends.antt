@@ -1,0 +1,63 @@
+-- All tiles of a plane and their board once the stepped run is over.
+use Rattle.std.specs.Prelude.{ℕ, ◌≡◌, ◌<◌, List, length, map, All, slice_get, Some, None}
+use Rattle.std.specs.List.{range_with_len}
+use Rattle.window_sites.specs.Window.{WindowValue}
+use Rattle.tile_map.specs.Plane.{MapValue, tiles_of}
+use Rattle.cell_grid.specs.Grid.{GridValue}
+use Rattle.cell_grid.specs.Records.{replay}
+use Rattle.draw_stream.specs.Plans.{PlanValue, attempts}
+use Rattle.edge_lock.specs.History.{open_hold}
+use Rattle.edge_lock.specs.PlainBoard.{PlainBoardValue, edge_at, lists_of_tile}
+use Rattle.tile_core.specs.declared.phase.Phase.TheVariants.{Finished}
+use Rattle.tile_core.specs.Values.{TileValue, atoms_of}
+use Rattle.tile_core.specs.Turns.{HasPlayed}
+use Rattle.event_journal.specs.Logs.{LogValue, log_of, records_in}
+use Rattle.serial_order.specs.Scene.{EdgeHistory, IsOver, logs_of, registers_at}
+use Rattle.serial_order.specs.Settled.{IsSettled}
+use Rattle.serial_order.specs.Words.{AreEdgeWords, histories_on, counts_on}
+use Rattle.serial_order.specs.Outcomes.{IsMade, IsSettlement, scene_of, values_of}
+use Rattle.serial_order.specs.declared.outcome.Outcome.{Outcome}
+use Rattle.stepped_world.specs.Machine.{Done, Machine, stepped, records_by, abandoned_by}
+use Rattle.stepped_world.specs.Matching.{Matches}
+use Rattle.stepped_world.specs.Running.{Setting}
+
+-- a tile has played all its attempts of the plan, and keeps its number, its map and its meaning
+pub record HasFinished {B : Type 0} (after : B → WindowValue → ℕ → WindowValue) (m : MapValue) (g : Setting) (board : PlainBoardValue) (t : ℕ) (x : TileValue × B) : Type 0 where
+  pub number : x.0.number ≡ t
+  pub map : x.0.cache.map ≡ m
+  pub meaning : after x.1 ≡ g.meaning
+  pub phase : x.0.phase ≡ Finished
+  pub played : HasPlayed m g.meaning (atoms_of g.start) t (attempts g.plan t) x.0.records x.0.abandoned (lists_of_tile board t)
+
+-- the run is over: each tile has played all its attempts, nobody has an edge, and there is what the settling of the grid asks for
+pub record HasRun {B : Type 0} (after : B → WindowValue → ℕ → WindowValue) (m : MapValue) (g : Setting) (tiles : List (TileValue × B)) (board : PlainBoardValue) : Type 0 where
+  pub count : length tiles ≡ tiles_of m
+  pub finished : (t : ℕ) (x : TileValue × B) → slice_get tiles t ≡ Some x → HasFinished after m g board t x
+  pub shut : (e : ℕ) → open_hold (edge_at board e).holds ≡ None
+  pub made : All (λ (x : TileValue × B). IsMade m x.0) tiles
+  pub words : AreEdgeWords m (histories_on board) (counts_on board)
+  pub over : IsOver (scene_of m (values_of tiles) (histories_on board) g.meaning g.start g.plan)
+
+-- the logs of all tiles, as the machine has them
+abbrev pub logs_in : MapValue → Machine → List LogValue
+logs_in m s = map (λ t. log_of t (records_by t s.records) (abandoned_by t s.abandoned)) (range_with_len 0 (tiles_of m))
+
+-- Tiles, edges and entries are those of the stepped machine, and a grid of the newest cells is its grid. That grid is also what
+-- its events make of the start in the order of the journal.
+pub record IsAsStepped {B : Type 0} (m : MapValue) (g : Setting) (tiles : List (TileValue × B)) (board : PlainBoardValue) (order : List ℕ) : Type 0 where
+  pub matches : Matches m tiles board (stepped m g.meaning g.start g.plan order)
+  pub logs : logs_of (values_of tiles) ≡ logs_in m (stepped m g.meaning g.start g.plan order)
+  pub newest : (h : GridValue) → IsSettled m (values_of tiles) (registers_at (histories_on board)) h → h ≡ (stepped m g.meaning g.start g.plan order).grid
+  pub replayed : replay g.meaning g.start (records_in (logs_in m (stepped m g.meaning g.start g.plan order))) ≡ (stepped m g.meaning g.start g.plan order).grid
+
+-- what a run comes to: the grid and the logs of the stepped machine. All its events stand in one serial order, that of the journal.
+pub record IsOutcome (m : MapValue) (g : Setting) (order : List ℕ) (o : Outcome) : Type 0 where
+  pub grid : o.grid ≡ (stepped m g.meaning g.start g.plan order).grid
+  pub journal : o.journal ≡ logs_in m (stepped m g.meaning g.start g.plan order)
+  pub tiles : List TileValue
+  pub edges : List EdgeHistory
+  pub settled : IsSettlement (scene_of m tiles edges g.meaning g.start g.plan) o
+
+-- the machine finishes its tiles, whatever tiles are in the list
+abbrev pub ComesToItsEnd : Type 0
+ComesToItsEnd = (m : MapValue) (meaning : WindowValue → ℕ → WindowValue) (start : GridValue) (plan : PlanValue) (order : List ℕ) (t : ℕ) → t < tiles_of m → ((stepped m meaning start plan order).tile t).doing ≡ Done

@@ -1,0 +1,77 @@
+-- Small worlds whose runs are computed. Two are of two tiles of 16 by 16 sites side by side, one of two by two tiles of 8 by 8. An
+-- event moves its atom one site to the east.
+use Rattle.std.specs.Prelude.{ℕ, ◌≡◌, List, [], ◌∷◌, ◌++◌, replicate}
+use Rattle.bit_field.specs.Atom.{AtomValue, empty_atom}
+use Rattle.tile_map.specs.Plane.{whole_plane}
+use Rattle.cell_grid.specs.declared.record.Record.{Record}
+use Rattle.cell_grid.specs.Grid.{empty_grid, with_site, site_atom}
+use Rattle.cell_grid.specs.Tried.{after_turn}
+use Rattle.draw_stream.specs.declared.attempt.Attempt.{Attempt}
+use Rattle.draw_stream.specs.Plans.{scripted}
+use Rattle.event_journal.specs.declared.abandoned.Abandoned.{Abandoned}
+use Rattle.stepped_world.specs.Machine.{Machine, stepped}
+
+abbrev pub walker : AtomValue
+walker = record { kind = 1; state = 0 }
+
+-- an attempt at a position of a tile's rectangle
+abbrev pub attempt_at : ℕ → Attempt
+attempt_at centre = record { centre = centre; seed = 0 }
+
+abbrev pub event_of : ℕ → ℕ → ℕ → ℕ → ℕ → Record
+event_of stamp tile attempt x y = record { stamp = stamp; tile = tile; attempt = attempt; x = x; y = y; seed = 0 }
+
+abbrev pub refusal_of : ℕ → ℕ → ℕ → ℕ → ℕ → ℕ → ℕ → Abandoned
+refusal_of tile attempt x y edge holder holder_attempt = record { tile = tile; attempt = attempt; x = x; y = y; edge = edge; holder = holder; holder_attempt = holder_attempt }
+
+-- the run of two tiles side by side, with an atom at this site of row 4
+abbrev pub run_of_two : ℕ → List Attempt → List Attempt → List ℕ → Machine
+run_of_two x first second order = stepped (whole_plane 2 1 16 16) after_turn (with_site (empty_grid 32 16) x 4 walker) (scripted (first ∷ second ∷ [])) order
+
+-- the entries, in the order of time
+pub record Notes (s : Machine) (records : List Record) (abandoned : List Abandoned) : Type 0 where
+  pub records_are : s.records ≡ records
+  pub abandoned_are : s.abandoned ≡ abandoned
+
+-- attempts on both sides of the border, one at the atom
+abbrev pub at_the_border : List ℕ → Machine
+at_the_border order = run_of_two 15 (attempt_at 79 ∷ []) (attempt_at 64 ∷ []) order
+
+-- the first has its event before the second comes, and the second moves the same atom on: its own site was written by the other tile
+pub record CrossesTheBorder (s : Machine) : Type 0 where
+  pub notes : Notes s (event_of 1 0 0 15 4 ∷ event_of 2 1 0 16 4 ∷ []) []
+  pub left : site_atom s.grid 16 4 ≡ empty_atom
+  pub there : site_atom s.grid 17 4 ≡ walker
+
+-- the second comes while the first has the edge
+pub record IsRefusedAtTheBorder (s : Machine) : Type 0 where
+  pub notes : Notes s (event_of 1 0 0 15 4 ∷ []) (refusal_of 1 0 16 4 0 0 0 ∷ [])
+  pub there : site_atom s.grid 16 4 ≡ walker
+
+-- one attempt far enough from the border needs no edge; the next needs the one that the other tile has
+abbrev pub near_and_far : List ℕ → Machine
+near_and_far order = run_of_two 7 (attempt_at 71 ∷ attempt_at 72 ∷ []) (attempt_at 64 ∷ []) order
+
+pub record NeedsNoEdgeAfar (s : Machine) : Type 0 where
+  pub notes : Notes s (event_of 1 0 0 7 4 ∷ event_of 1 1 0 16 4 ∷ []) (refusal_of 0 1 8 4 0 1 0 ∷ [])
+  pub there : site_atom s.grid 8 4 ≡ walker
+
+-- four tiles round one corner, with an attempt of each there
+abbrev pub at_the_corner : List ℕ → Machine
+at_the_corner order = stepped (whole_plane 2 2 8 8) after_turn (with_site (empty_grid 16 16) 7 7 walker) (scripted ((attempt_at 63 ∷ []) ∷ (attempt_at 56 ∷ []) ∷ (attempt_at 7 ∷ []) ∷ (attempt_at 0 ∷ []) ∷ [])) order
+
+-- each in turn, round the corner
+abbrev pub GoesRound : Machine → Type 0
+GoesRound s = Notes s (event_of 1 0 0 7 7 ∷ event_of 2 1 0 8 7 ∷ event_of 3 3 0 8 8 ∷ event_of 4 2 0 7 8 ∷ []) []
+
+-- one is refused by an attempt that is refused itself
+abbrev pub IsRefusedInARow : Machine → Type 0
+IsRefusedInARow s = Notes s (event_of 1 2 0 7 8 ∷ event_of 2 3 0 8 8 ∷ []) (refusal_of 0 0 7 7 0 1 0 ∷ refusal_of 1 0 8 7 4 3 0 ∷ [])
+
+-- what these runs come to
+pub record AreComputed : Type 0 where
+  pub crosses : CrossesTheBorder (at_the_border (0 ∷ 0 ∷ 0 ∷ 0 ∷ 0 ∷ 0 ∷ 1 ∷ []))
+  pub refused : IsRefusedAtTheBorder (at_the_border (0 ∷ 0 ∷ 1 ∷ 1 ∷ []))
+  pub afar : NeedsNoEdgeAfar (near_and_far (1 ∷ 1 ∷ 0 ∷ 0 ∷ 0 ∷ 0 ∷ 0 ∷ 0 ∷ []))
+  pub round : GoesRound (at_the_corner (replicate 10 0 ++ replicate 10 1 ++ replicate 10 3 ++ replicate 10 2))
+  pub row : IsRefusedInARow (at_the_corner (3 ∷ 3 ∷ 3 ∷ 1 ∷ 1 ∷ 0 ∷ 0 ∷ 1 ∷ 1 ∷ []))

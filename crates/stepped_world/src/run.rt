@@ -1,0 +1,102 @@
+//! The loops of the stepped run.
+ghost use Rattle.std.specs.Prelude.{◌≡◌, ◌<◌, ℕ, List, All, true, false, slice_get, length};
+ghost use Rattle.std.specs.List.{range_with_len};
+ghost use Rattle.std.specs.Iterator.{IsFinite, Drains, HoldsAlong};
+ghost use Rattle.tile_map.specs.Plane.{tiles_of};
+ghost use Rattle.edge_lock.specs.PlainBoard.{sizes_of_board};
+ghost use Rattle.stepped_world.specs.Machine.{step, steps, finish_tile, finish};
+ghost use Rattle.stepped_world.specs.Running.{Setting, IsStart, AreUnderway, Follows, stands_still, steps_ahead};
+ghost use Rattle.stepped_world.specs.Ends.{HasRun, IsAsStepped};
+
+use cell_grid::Behave;
+use edge_lock::PlainBoard;
+use tile_core::{Phase, Tile};
+use tile_map::Map;
+
+/// Whether no step of a tile does anything any more.
+fn is_still<B: Behave>(tiles: &[Tile<B>], tile: u32) -> bool
+    requires { tile < length tiles.now }
+    ensures { result ≡ stands_still (slice_get tiles.now tile) }
+{
+    matches!(tiles[tile as usize].phase(), Phase::Finished | Phase::Worn)
+}
+
+/// Lets a tile make one step.
+fn step_one<B: Behave>(map: &Map, tiles: &mut [Tile<B>], board: &mut PlainBoard, tile: u32)
+    requires tile { tile < tiles_of map.now }
+    requires ready { (g : Setting) × AreUnderway B.after map.now g tiles.old board.old }
+    ensures follows { Follows B.after map.now tiles.old tiles.new board.old board.new (λ meaning s. step map.now meaning tile s) }
+    ensures fewer { stands_still (slice_get tiles.old tile) ≡ false → steps_ahead (slice_get tiles.new tile) < steps_ahead (slice_get tiles.old tile) }
+{
+    map.laws();
+    board.turn_to(tile);
+    tiles[tile as usize].advance(map, board);
+}
+
+/// Lets a tile step until it stands still.
+fn finish_one<B: Behave>(map: &Map, tiles: &mut [Tile<B>], board: &mut PlainBoard, tile: u32)
+    requires tile { tile < tiles_of map.now }
+    requires ready { (g : Setting) × AreUnderway B.after map.now g tiles.old board.old }
+    ensures follows { Follows B.after map.now tiles.old tiles.new board.old board.new (λ meaning s. finish_tile map.now meaning tile s) }
+    ensures still { stands_still (slice_get tiles.new tile) ≡ true }
+{
+    while !is_still(tiles, tile) {
+        step_one(map, tiles, board, tile);
+    }
+}
+
+/// Lets the tiles step in this order.
+fn follow<B: Behave, O: Iterator<Item = u32>>(
+    map: &Map,
+    tiles: &mut [Tile<B>],
+    board: &mut PlainBoard,
+    order: O,
+)
+    requires can { O.can_next order }
+    requires ends { IsFinite (O.remaining order) }
+    requires names { HoldsAlong O.next_gives order (All (λ t. t < tiles_of map.now)) }
+    requires ready { (g : Setting) × AreUnderway B.after map.now g tiles.old board.old }
+    ensures follows { (xs : List ℕ) × Drains O.next_gives order xs × Follows B.after map.now tiles.old tiles.new board.old board.new (λ meaning s. steps map.now meaning xs s) }
+{
+    for tile in order {
+        step_one(map, tiles, board, tile);
+    }
+}
+
+/// Lets each tile step until it stands still, one after another.
+fn finish_all<B: Behave>(map: &Map, tiles: &mut [Tile<B>], board: &mut PlainBoard)
+    requires ready { (g : Setting) × AreUnderway B.after map.now g tiles.old board.old }
+    ensures follows { Follows B.after map.now tiles.old tiles.new board.old board.new (λ meaning s. finish map.now meaning (range_with_len 0 (tiles_of map.now)) s) }
+    ensures still { (t : ℕ) → t < tiles_of map.now → stands_still (slice_get tiles.new t) ≡ true }
+{
+    for tile in 0..map.tiles() {
+        finish_one(map, tiles, board, tile);
+    }
+}
+
+/// Runs all tiles of a plane on one board: a step of each tile that the order names, one after
+/// another, where a finished tile is passed over; then steps of tile 0 until it is finished, of
+/// tile 1, and so on. It takes no memory.
+///
+/// There is one fresh tile for each tile of the map, in order, all from one start grid and one plan
+/// and with one meaning, and the board is fresh and of this map. The order ends and names tiles.
+/// Then all tiles are finished and nobody has an edge, and tiles, edges and entries are those of the
+/// stepped machine; a grid of the newest cells is its grid.
+pub fn run_steps<B: Behave, O: Iterator<Item = u32>>(
+    map: &Map,
+    tiles: &mut [Tile<B>],
+    board: &mut PlainBoard,
+    order: O,
+)
+    requires start { (g : Setting) × IsStart B.after map.now g tiles.old board.old }
+    requires can { O.can_next order }
+    requires ends { IsFinite (O.remaining order) }
+    requires names { HoldsAlong O.next_gives order (All (λ t. t < tiles_of map.now)) }
+    ensures run { (g : Setting) → IsStart B.after map.now g tiles.old board.old → HasRun B.after map.now g tiles.new board.new }
+    ensures stepped { (xs : List ℕ) × Drains O.next_gives order xs × ((g : Setting) → IsStart B.after map.now g tiles.old board.old → IsAsStepped map.now g tiles.new board.new xs) }
+    ensures sizes { sizes_of_board board.new ≡ sizes_of_board board.old }
+{
+    map.laws();
+    follow(map, tiles, board, order);
+    finish_all(map, tiles, board);
+}

@@ -1,0 +1,38 @@
+//! A stepped run with its outcome.
+ghost use Rattle.std.specs.Prelude.{◌≡◌, ◌<◌, ℕ, List, All, IfOk};
+ghost use Rattle.std.specs.Iterator.{IsFinite, Drains, HoldsAlong};
+ghost use Rattle.tile_map.specs.Plane.{tiles_of};
+ghost use Rattle.stepped_world.specs.Running.{Setting, IsStart};
+ghost use Rattle.stepped_world.specs.Ends.{IsOutcome};
+
+use crate::run::run_steps;
+use cell_grid::Behave;
+use edge_lock::PlainBoard;
+use feast_base::NoMemory;
+use serial_order::{Outcome, settle};
+use std::alloc::Global;
+use tile_core::Tile;
+use tile_map::Map;
+
+/// Runs all tiles of a plane on one board in this order, as `run_steps` does and under its
+/// conditions, and settles what they leave: the grid and the journal of the stepped machine.
+///
+/// `NoMemory` where there is none for the grid or the list of logs; the tiles are dropped then.
+pub fn run_settled<B: Behave + Drop, O: Iterator<Item = u32>>(
+    alloc: Global,
+    map: &Map,
+    tiles: Vec<Tile<B>>,
+    board: PlainBoard,
+    order: O,
+) -> Result<Outcome, NoMemory>
+    requires start { (g : Setting) × IsStart B.after map.now g tiles.items board }
+    requires can { O.can_next order }
+    requires ends { IsFinite (O.remaining order) }
+    requires names { HoldsAlong O.next_gives order (All (λ t. t < tiles_of map.now)) }
+    ensures outcome { IfOk result (λ o. (xs : List ℕ) × Drains O.next_gives order xs × ((g : Setting) → IsStart B.after map.now g tiles.items board → IsOutcome map.now g xs o)) }
+{
+    let mut tiles = tiles;
+    let mut board = board;
+    run_steps(map, tiles.as_mut_slice(), &mut board, order);
+    settle(alloc, map, tiles, &mut board)
+}

@@ -1,0 +1,14 @@
+use Rattle.std.proofs.Common.{◌+◌, ◌*◌, ◌-◌, length}
+use Rattle.tile_threads.proofs.worker.+halves.Given as goal
+
+abbrev pub decreases-run_some : goal.decreases-run_some
+decreases-run_some g l = 4 * length l.workers.now
+
+abbrev pub decreases-run_both : goal.decreases-run_both
+decreases-run_both g l = 4 * (length l.front.now + length l.back.now) - 1
+
+abbrev pub decreases-run_both-one : goal.decreases-run_both-one
+decreases-run_both-one g l = 4 * length l.front.now + 1
+
+abbrev pub decreases-run_both-other : goal.decreases-run_both-other
+decreases-run_both-other g l = 4 * length l.back.now + 1

@@ -1,0 +1,9 @@
+//! Which types cross threads. Nothing calls these functions: the check of this crate fails where
+//! one of the types may no longer be sent.
+use crate::worker::Worker;
+
+fn sends<T: Send>(_value: &T) {}
+
+fn worker_is_sent<B: Send, D: Send>(worker: &Worker<B, D>) {
+    sends(worker);
+}

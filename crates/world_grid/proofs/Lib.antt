@@ -1,0 +1,4 @@
+pub mod Journals
+pub mod KnownAtoms
+pub mod Shutting
+pub mod Valid

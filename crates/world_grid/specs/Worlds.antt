@@ -1,0 +1,28 @@
+-- What a run needs of a world.
+use Rattle.std.specs.Prelude.{ℕ, ◌≡◌, ◌*◌, ◌<◌, true, All, List, length}
+use Rattle.cell_grid.specs.declared.record.Record.{Record}
+use Rattle.draw_stream.specs.declared.attempt.Attempt.{Attempt}
+use Rattle.draw_stream.specs.Plans.{attempts}
+use Rattle.tile_map.specs.Plane.{MapValue, IsMap, site, tiles_of, is_on, is_live}
+use Rattle.world_text.specs.Named.{WorldValue}
+use Rattle.world_text.specs.declared.world.Placed.{Placed}
+
+-- an attempt of a tile that is on, at a position of the tile's rectangle
+pub record IsAttempt (m : MapValue) (t : ℕ) (a : Attempt) : Type 0 where
+  pub on : is_on m t ≡ true
+  pub centre : a.centre < m.w * m.h
+
+-- an atom on a live site
+abbrev pub IsPlaced : MapValue → Placed → Type 0
+IsPlaced m p = is_live m (site p.x p.y) ≡ true
+
+-- an event at a live site
+abbrev pub IsLiveEvent : MapValue → Record → Type 0
+IsLiveEvent m r = is_live m (site r.x r.y) ≡ true
+
+-- the tiles have attempts, those that are off have none, and the atoms are on live sites
+pub record IsWorld (w : WorldValue) : Type 0 where
+  pub map : IsMap w.plane
+  pub lists : length w.plan.lists ≡ tiles_of w.plane
+  pub attempts : (t : ℕ) → All (IsAttempt w.plane t) (attempts w.plan t)
+  pub atoms : All (IsPlaced w.plane) w.atoms
