@@ -13,10 +13,6 @@ const WALKER: &str = "element Walker { EventWindow ew; Void behave() { ew.swap(0
 
 const WALK: &str = "feast 1\ntiles 1 1\nsize 8 8\ntry 0 3 4 0000000000000000\natom 3 4 Walker\n";
 
-const NOT_BUILT_WORLD: &str = "w:1:1: E90 not built yet\n";
-
-const NOT_BUILT_ELEMENT: &str = "e:1:1: E90 not built yet\n";
-
 /// A run of a world `w` and an element `e`, and what it is to answer and to put.
 #[derive(Clone, Copy)]
 struct Case {
@@ -155,29 +151,31 @@ fn a_call_that_fails_is_told(rt: HostRuntime) -> Result<(), Fail> {
 #[test]
 fn a_world_one_fault_away_is_refused(rt: HostRuntime) -> Result<(), Fail> {
     let worlds = [
-        "",
-        "feast 1\ntiles 2 1\nsize 8 8\ntry 0 3 4 0000000000000000\natom 3 4 Walker\n",
-        "feast 1\ntiles 1 1\nsize 7 8\n",
-        "feast 1\ntiles 1 1\nsize 8 65\n",
-        "feast 1\ntiles 1 1\nsize 08 8\n",
-        "feast 1\ntiles 1 1\nsize 8 8",
-        "feast 1\ntiles 1 1\nsize 8 8\ntry 1 3 4 0000000000000000\n",
-        "feast 1\ntiles 1 1\nsize 8 8\ntry 0 8 4 0000000000000000\n",
-        "feast 1\ntiles 1 1\nsize 8 8\ntry 0 3 4 000000000000000\n",
-        "feast 1\ntiles 1 1\nsize 8 8\ntry 0 3 4 000000000000000A\n",
-        "feast 1\ntiles 1 1\nsize 8 8\natom 3 8 Walker\n",
-        "feast 1\ntiles 1 1\nsize 8 8\natom 3 4 walker\n",
-        "feast 1\ntiles 1 1\nsize 8 8\natom 3 4 Walker\natom 3 4 Walker\n",
-        "feast 1\ntiles 1 1\nsize 8 8\natom 3 4 Walker\ntry 0 3 4 0000000000000000\n",
-        "feast 1\ntiles 1 1\nsize 8 8\natom 3 4 Stone\n",
+        ("", "w:1:1: E70 bad header\n"),
+        (
+            "feast 1\ntiles 2 1\nsize 8 8\n",
+            "w:1:1: E90 not built yet\n",
+        ),
+        (
+            "feast 1\ntiles 1 1\nsize 7 8\n",
+            "w:3:1: E72 number out of range\n",
+        ),
+        (
+            "feast 1\ntiles 1 1\nsize 8 8\natom 3 4 Walker\natom 3 4 Walker\n",
+            "w:5:1: E74 site is taken\n",
+        ),
+        (
+            "feast 1\ntiles 1 1\nsize 8 8\natom 3 4 Stone\n",
+            "w:4:1: E73 unknown element\n",
+        ),
     ];
     let alloc = rt.alloc();
-    for world in worlds {
+    for (world, output) in worlds {
         let case = Case {
             world,
             element: WALKER,
             status: Status::WorldRefused,
-            output: NOT_BUILT_WORLD,
+            output,
         };
         assert!(rt; holds(&rt, alloc, &case, Vec::new(alloc), Vec::new(alloc))?);
     }
@@ -185,57 +183,15 @@ fn a_world_one_fault_away_is_refused(rt: HostRuntime) -> Result<(), Fail> {
 }
 
 #[test]
-fn an_element_one_fault_away_is_refused(rt: HostRuntime) -> Result<(), Fail> {
-    let elements = [
-        "",
-        "element walker { EventWindow ew; Void behave() { ew.swap(0, 4); } }",
-        "element Empty { EventWindow ew; Void behave() { ew.swap(0, 4); } }",
-        "element Walker { EventWindow ew; Void behave() { ew.swap(0, 41); } }",
-        "element Walker { EventWindow ew; Void behave() { ew.swap(00, 4); } }",
-        "element Walker { EventWindow ew; Void behave() { ew.swap(0,4); } }",
-        "element Walker { EventWindow ew; Void behave() { ew.swap(0, 4); } }\n\n",
-    ];
+fn elements_are_refused_before_the_names_of_a_world(rt: HostRuntime) -> Result<(), Fail> {
     let alloc = rt.alloc();
-    for element in elements {
-        let case = Case {
-            world: WALK,
-            element,
-            status: Status::ElementRefused,
-            output: NOT_BUILT_ELEMENT,
-        };
-        assert!(rt; holds(&rt, alloc, &case, Vec::new(alloc), Vec::new(alloc))?);
-    }
-    Ok(())
-}
-
-#[test]
-fn an_element_has_no_built_in_name(rt: HostRuntime) -> Result<(), Fail> {
-    let built_in = [
-        "Int",
-        "Unsigned",
-        "Bits",
-        "Bool",
-        "Unary",
-        "Atom",
-        "Void",
-        "EventWindow",
-        "Random",
-        "Empty",
-    ];
-    let alloc = rt.alloc();
-    for name in built_in {
-        let element = format!(in alloc;
-            "element {name} {{ EventWindow ew; Void behave() {{ ew.swap(0, 4); }} }}"
-        )?;
-        let mut shelf = MemShelf::new(
-            alloc,
-            files(alloc, WALK, element.as_str())?,
-            Vec::new(alloc),
-        );
-        let mut sink = MemSink::new(alloc, Vec::new(alloc), 100)?;
-        let status = run(&rt, alloc, &mut shelf, &mut sink, &OpenGate)?;
-        assert_eq!(rt; status, Status::ElementRefused, "{name}");
-    }
+    let case = Case {
+        world: "feast 1\ntiles 1 1\nsize 8 8\natom 3 4 Stone\n",
+        element: "element Walker { }",
+        status: Status::ElementRefused,
+        output: "e:1:9: E33 no behave\n",
+    };
+    assert!(rt; holds(&rt, alloc, &case, Vec::new(alloc), Vec::new(alloc))?);
     Ok(())
 }
 
@@ -300,15 +256,15 @@ fn a_world_has_at_most_256_mebibytes(rt: HostRuntime) -> Result<(), Fail> {
 }
 
 #[test]
-fn an_element_has_at_most_a_mebibyte(rt: HostRuntime) -> Result<(), Fail> {
+fn an_element_file_has_at_most_a_mebibyte(rt: HostRuntime) -> Result<(), Fail> {
     let alloc = rt.alloc();
     let whole = Source::new(alloc, "e", vec![in alloc; b' '; 1_048_576]?)?;
     let files = vec![in alloc; source(alloc, "w", WALK)?, whole]?;
     let mut shelf = MemShelf::new(alloc, files, Vec::new(alloc));
     let mut sink = MemSink::new(alloc, Vec::new(alloc), 100)?;
     let status = run(&rt, alloc, &mut shelf, &mut sink, &OpenGate)?;
-    assert_eq!(rt; status, Status::ElementRefused);
-    assert_eq!(rt; sink.written(), NOT_BUILT_ELEMENT.as_bytes());
+    assert_eq!(rt; status, Status::WorldRefused);
+    assert_eq!(rt; sink.written(), b"w:5:1: E73 unknown element\n".as_slice());
     Ok(())
 }
 

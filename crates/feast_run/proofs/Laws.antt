@@ -1,6 +1,6 @@
 -- Which stages have one outcome apart from loads that fail, which refuse nothing, and which words they may miss.
-use Rattle.std.proofs.Common.{ℕ, ◌≡◌, List, sym, subst, ◌∙◌, inl, inr}
-use Rattle.feast_run.specs.Outcomes.{Stage, Outcome, passes, refuses, RefusedValue, Goes, and_then, gives, finds, demands, IsSure, IsOne, Accepts, MissesOf}
+use Rattle.std.proofs.Common.{ℕ, ◌≡◌, List, Result, Ok, Err, ap, sym, subst, ◌∙◌, inl, inr}
+use Rattle.feast_run.specs.Outcomes.{Stage, Outcome, passes, refuses, RefusedValue, Goes, and_then, gives, decides, demands, IsSure, IsOne, Accepts, MissesOf}
 
 -- the rest of a stage that passed
 pub went : {A B : Type 0} (S : Stage A) (T : A → Stage B) (b : B) → and_then S T (passes b) → Goes S T (passes b)
@@ -40,11 +40,15 @@ gives_one a = record {
   one_value = λ b c p q. p ∙ sym q;
 }
 
--- what holds of one value alone
-pub finds_one : {A : Type 0} (P : A → Type 0) (r : RefusedValue) → ((a b : A) → P a → P b → a ≡ b) → IsOne (finds P r)
-finds_one P r one = record {
-  sure = record { apart = λ a s p q. q.0 a p; one_refusal = λ s t p q. p.1 ∙ sym q.1 };
-  one_value = one;
+-- what a function decides
+pub decides_one : {A E : Type 0} (refusal : E → RefusedValue) (said : Result A E) → IsOne (decides refusal said)
+decides_one refusal (Ok x) = record {
+  sure = record { apart = λ a r p q. cc (q.1); one_refusal = λ r s p q. cc (p.1) };
+  one_value = λ a b p q. cc (p, q);
+}
+decides_one refusal (Err e) = record {
+  sure = record { apart = λ a r p q. cc (p); one_refusal = λ r s p q. let same : p.0 ≡ q.0 = cc (p.1, q.1) in p.2 ∙ ap refusal same ∙ sym q.2 };
+  one_value = λ a b p q. cc (p);
 }
 
 pub demands_one : {A : Type 0} (P : Type 0) (r : RefusedValue) (a : A) → IsOne (demands P r a)

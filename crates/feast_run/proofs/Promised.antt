@@ -1,73 +1,82 @@
 -- The promises of a call, from how it ends.
 use Rattle.std.proofs.Common.{ℕ, ◌≡◌, List, [], ◌∷◌, ◌++◌, length, Option, Some, None, refl, sym, ap, subst, ◌∙◌, inl, inr, arith}
 use Rattle.std.proofs.lemmas.List.{length-append, append_cancel_left}
+use Rattle.element_set.specs.Sets.{SetValue, check_text, code_text}
 use Rattle.feast_base.specs.Outside.{File, Grows, Stock, Told}
 use Rattle.feast_base.specs.Refusals.{refusal_line, unreadable_line}
 use Rattle.feast_run.proofs.Laws.{went}
-use Rattle.feast_run.proofs.Loads.{loaded_files}
+use Rattle.feast_run.proofs.Runs.{lone_told, ready_told, set_is}
 use Rattle.feast_run.proofs.Sure.{form_accepts, form_sure}
-use Rattle.feast_run.specs.Answer.{form_answer}
+use Rattle.feast_run.specs.Answer.{form_answer, grid_after, shows}
 use Rattle.feast_run.specs.Ending.{Ends, Leaves, Whole, status_of, status_of_input, text_of}
-use Rattle.feast_run.specs.Forms.{FormValue, check, run}
-use Rattle.feast_run.specs.Outcomes.{Accepts, IsSure, Outcome, RefusedValue, Stage, passes, refuses, misses}
-use Rattle.feast_run.specs.Promises.{Agrees, CheckTold, Complete, Exactly, Headline, Lines, RanTold, Shows, UsageExactly}
-use Rattle.feast_run.specs.Stages.{ReadyValue, ready}
-use Rattle.feast_run.specs.World.{IsWorld}
+use Rattle.feast_run.specs.Forms.{FormValue, check, code, run, replay}
+use Rattle.feast_run.specs.Outcomes.{Accepts, IsSure, Outcome, RefusedValue, Stage, and_then, passes, refuses, misses}
+use Rattle.feast_run.specs.Promises.{Agrees, Complete, Exactly, Headline, Lines, RanTold, ReplayTold, SetTold, Shows, UsageExactly}
+use Rattle.feast_run.specs.Stages.{set_of}
 use Rattle.feast_run.specs.declared.status.Status.{Status}
 use Rattle.feast_run.specs.declared.status.Status.TheVariants as how
 use Rattle.feast_run.specs.declared.stop.Input.{Input}
 use Rattle.feast_run.specs.declared.stop.Input.TheVariants as input
+use Rattle.one_tile.proofs.Alone.{owes_nothing}
+use Rattle.one_tile.specs.Events.{events_of}
 
--- what is ready to be run is a world
-pub ready_valid : (files : Option (List File)) (world element : List ℕ) (r : ReadyValue) → ready files world element (passes r) → IsWorld r.world
-ready_valid files world element r h =
-    let w = went _ _ r h in
-    let e = went _ _ r w.rest in
-    let b = went _ _ w.value w.passed in
-    rw e.rest.1 b.rest.valid
-
--- a check that showed a text, part by part
-check_told : (files : List File) (words : List (List ℕ)) (text : List ℕ) → form_answer (Some files) (check words) (passes text) → CheckTold files words text
-check_told files words text h =
-    let s = went _ _ text h in
-    let l = went _ _ s.value s.passed in
-    record { set = s.value; is_set = record { sources = l.value; are_files = loaded_files files words l.value l.passed; accepted = l.rest }; shown = s.rest }
+-- a form of element files that showed a text, part by part
+set_told : (text : SetValue → List ℕ) (files : List File) (words : List (List ℕ)) (appended : List ℕ) → and_then (set_of (Some files) words) (shows text) (passes appended) → SetTold text files words appended
+set_told text files words appended h =
+    let s = went _ _ appended h in
+    record { set = s.value; is_set = set_is files words s.value s.passed; shown = s.rest }
 
 -- a run that showed a text, part by part
-ran_told : (files : List File) (world element text : List ℕ) → form_answer (Some files) (run world element) (passes text) → RanTold files world element text
-ran_told files world element text h =
+ran_told : (files : List File) (world : List ℕ) (words : List (List ℕ)) (text : List ℕ) → form_answer (Some files) (run world words) (passes text) → RanTold files world words text
+ran_told files world words text h =
     let r = went _ _ text h in
-    let w = went _ _ r.value r.passed in
-    let b = went _ _ w.value w.passed in
-    let e = went _ _ r.value w.rest in
-    let c = went _ _ e.value e.passed in
-    let both = e.rest.1 in
+    let told = lone_told files world words r.value r.passed in
+    let owes = owes_nothing r.value.world.plane r.value.world.plan told.1 in
     record {
-      world = w.value;
-      world_file = b.passed.0 ∙ ap Some b.rest.text;
-      world_valid = b.rest.valid;
-      element = e.value;
-      element_bytes = c.value;
-      element_file = c.passed.0;
-      element_text = c.rest;
-      named = e.rest.0;
-      shown = rw both at r.rest;
+      world = r.value;
+      told_world = told.0;
+      grid = grid_after r.value (events_of r.value.world.plane r.value.world.plan);
+      records = events_of r.value.world.plane r.value.world.plan;
+      abandoned = [];
+      run = record { replayed = refl; accounted = owes.accounted; stamped = owes.stamped; excused = owes.excused; alone = λ one. (refl, refl) };
+      shown = r.rest;
+    }
+
+-- a replay that showed a text, part by part
+replay_told : (files : List File) (world journal : List ℕ) (words : List (List ℕ)) (text : List ℕ) → form_answer (Some files) (replay world journal words) (passes text) → ReplayTold files world journal words text
+replay_told files world journal words text h =
+    let r = went _ _ text h in
+    let j = went _ _ text r.rest in
+    let b = went _ _ j.value j.passed in
+    record {
+      world = r.value;
+      told_world = ready_told files world words r.value r.passed;
+      journal_bytes = b.value;
+      journal_file = b.passed.0;
+      journal_within = b.passed.1;
+      journal = j.value;
+      journal_reads = b.rest;
+      shown = j.rest;
     }
 
 shows_of : (files : List File) (form : FormValue) (text : List ℕ) → form_answer (Some files) form (passes text) → Shows files form text
-shows_of files (check words) text h = check_told files words text h
-shows_of files (run world element) text h = ran_told files world element text h
+shows_of files (check words) text h = set_told check_text files words text h
+shows_of files (code words) text h = set_told code_text files words text h
+shows_of files (run world words) text h = ran_told files world words text h
+shows_of files (replay world journal words) text h = replay_told files world journal words text h
 
 -- no refusal has one of the statuses of a whole call
 not_done : (i : Input) → status_of_input i ≡ how.Done → ⊥
 not_done input.File e = cc
 not_done input.Elements e = cc
 not_done input.World e = cc
+not_done input.Journal e = cc
 
 not_usage : (i : Input) → status_of_input i ≡ how.Usage → ⊥
 not_usage input.File e = cc
 not_usage input.Elements e = cc
 not_usage input.World e = cc
+not_usage input.Journal e = cc
 
 -- an outcome with the status Done is a text
 done_by : (S : Stage (List ℕ)) (o : Outcome (List ℕ)) (status : Status) (text : List ℕ) → S o → status ≡ status_of o → text ≡ text_of o → status ≡ how.Done → S (passes text)

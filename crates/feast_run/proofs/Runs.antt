@@ -1,29 +1,156 @@
--- The records of a journal lie where its attempts do.
-use Rattle.std.proofs.Common.{ℕ, ◌≡◌, ◌<◌, ◌+◌, List, All, length, get_or, ap, ◌∙◌, refl, arith}
-use Rattle.std.specs.List.{enumerate_from}
-use Rattle.std.proofs.lemmas.List.{get_or-map, length-map}
-use Rattle.std.proofs.lemmas.List.FromFn.{length-enumerate_from, get_or-enumerate_from}
+-- What a world with its elements is, from the stages that made it.
+use Rattle.std.proofs.Common.{ℕ, ◌≡◌, ◌≤◌, ◌<◌, ◌+◌, ◌*◌, ◌/◌, ◌%◌, true, List, [], ◌∷◌, All, Option, Some, None, Result, Ok, Err, get_or, length, refl, sym, ap, subst, ◌∙◌, arith, inl, inr}
+use Rattle.std.specs.Prelude.{nat_lt, slice_index_or}
+use Rattle.std.specs.Result.{IfOk}
+use Rattle.std.proofs.lemmas.Nat.{rows}
+use Rattle.list_laws.proofs.Tests.{together}
+use Rattle.cell_grid.specs.Grid.{GridValue}
 use Rattle.cell_grid.specs.declared.record.Record.{Record}
-use Rattle.cell_grid.specs.Grid.{GridValue, IsLive, IsAllLive}
-use Rattle.cell_grid.proofs.Places.{IsLive-all}
-use Rattle.feast_run.specs.Run.{record_of, journal_of}
-use Rattle.feast_run.specs.World.{TryValue, IsTry}
+use Rattle.draw_stream.specs.Plans.{attempts}
+use Rattle.event_journal.specs.Logs.{LogValue, log_of}
+use Rattle.event_journal.specs.Reading.{IsFault, Said, read_report}
+use Rattle.event_journal.specs.declared.fault.LineFault.{LineFault}
+use Rattle.feast_base.specs.Outside.{File, file_of}
+use Rattle.feast_run.proofs.Laws.{went}
+use Rattle.feast_run.proofs.Loads.{loaded_files}
+use Rattle.feast_run.specs.Faults.{IsJournalStop, IsWorldStop}
+use Rattle.feast_run.specs.Outcomes.{RefusedValue, passes}
+use Rattle.feast_run.specs.Promises.{IsSet, WorldTold}
+use Rattle.feast_run.specs.Stages.{JournalValue, ReadyValue, journal_limit, journal_of, journal_said, load, lone_ready, named_by, ready, set_of, with_set, world_limit}
+use Rattle.feast_run.specs.Tellings.{Tells}
+use Rattle.feast_run.specs.Values.{journal_value, ready_value}
+use Rattle.feast_run.specs.declared.stop.Stop.{Stop}
+use Rattle.feast_run.specs.declared.stop.Stop.TheVariants.{Refused, Missing, NoMemory}
+use Rattle.grid_print.specs.Report.{AreNamed}
+use Rattle.one_tile.proofs.Alone.{each, no_attempt}
+use Rattle.one_tile.specs.Events.{IsAlone, events_of}
+use Rattle.element_set.specs.Sets.{Coded, SetValue, element_names}
+use Rattle.tile_map.specs.Plane.{MapValue, IsMap, in_plane, is_live, is_on, owner_of, site_in, tiles_of}
+use Rattle.tile_map.proofs.Spans.{lt_test}
+use Rattle.window_sites.specs.Window.{WindowValue}
+use Rattle.world_grid.proofs.Journals.{journal_live}
+use Rattle.world_grid.proofs.Valid.{reads_valid}
+use Rattle.world_grid.specs.Known.{ArePlacedKnown, BringsNone, IsKnown}
+use Rattle.world_grid.specs.Worlds.{IsLiveEvent, IsWorld}
+use Rattle.world_text.specs.Drafts.{DraftValue}
+use Rattle.world_text.specs.Named.{WorldValue, name_fault, named, unless, world_of}
+use Rattle.world_text.specs.Reading.{read_text, IsFault as IsNameFault}
+use Rattle.world_text.specs.declared.world.Placed.{Placed}
 
-length-journal : (ts : List TryValue) → length (journal_of ts) ≡ length ts
-length-journal ts = length-map (enumerate_from 0 ts) record_of ∙ length-enumerate_from 0 ts
+-- the plane of a world is that of its text
+pub plane_said : (names : List (List ℕ)) (d : DraftValue) (w : WorldValue) → named names d ≡ Ok w → w.plane ≡ d.plane
+plane_said names d w e = on (name_fault names (d.plane.tx * d.plane.w) [] d.atoms) e
+  where
+    on : (o : Option (ℕ × ℕ)) → unless (world_of names d) o ≡ Ok w → w.plane ≡ d.plane
+    on (Some fault) h = cc
+    on None h = let same : world_of names d ≡ w = cc in ap (λ (v : WorldValue). v.plane) (sym same)
 
-get-journal : (ts : List TryValue) (k : ℕ) (d : TryValue) (e : Record) → k < length ts → get_or (journal_of ts) k e ≡ record_of (k, get_or ts k d)
-get-journal ts k d e lt =
-    let inside : k < length (enumerate_from 0 ts) = omega (arith, length-enumerate_from 0 ts) in
-    let zero_on : 0 + k ≡ k = omega arith in
-    get_or-map record_of (enumerate_from 0 ts) k (0, d) e inside ∙ ap record_of (get_or-enumerate_from 0 ts k (0, d) lt) ∙ rw zero_on refl
+pub set_is : (files : List File) (words : List (List ℕ)) (set : SetValue) → set_of (Some files) words (passes set) → IsSet files words set
+set_is files words set h = let l = went _ _ set h in record { sources = l.value; are_files = loaded_files files words l.value l.passed; accepted = l.rest }
 
--- on a grid whose sites are all live
-pub records-live : (g : GridValue) (rs : List Record) (ts : List TryValue) → IsAllLive g → rs ≡ journal_of ts → All (IsTry g.width g.height) ts → All (λ (r : Record). IsLive g r.x r.y) rs
-records-live g rs ts all e inside = λ k d lt.
-    let t : TryValue = record { x = 0; y = 0; seed = 0 } in
-    let many : length rs ≡ length ts = ap length e ∙ length-journal ts in
-    let small : k < length ts = omega arith in
-    let same : get_or rs k d ≡ record_of (k, get_or ts k t) = ap (λ z. get_or z k d) e ∙ get-journal ts k t d small in
-    let p = inside k t small in
-    rw same (IsLive-all g _ _ all p.x_in p.y_in)
+with_told : (files : List File) (word : List ℕ) (words : List (List ℕ)) (d : DraftValue) (bytes : List ℕ) (r : ReadyValue) → file_of word files ≡ Some bytes → length bytes ≤ world_limit → read_text bytes ≡ Ok d →
+    with_set (Some files) word words d (passes r) → WorldTold files word words r
+with_told files word words d bytes r file within reads h =
+    let w = went _ _ r h in
+    let n = went _ _ r w.rest in
+    subst (WorldTold files word words) (sym n.rest) (record { is_set = set_is files words w.value w.passed; bytes = bytes; file = file; within = within; reads = (d, reads, n.passed) })
+
+pub ready_told : (files : List File) (word : List ℕ) (words : List (List ℕ)) (r : ReadyValue) → ready (Some files) word words (passes r) → WorldTold files word words r
+ready_told files word words r h =
+    let a = went _ _ r h in
+    let b = went _ _ a.value a.passed in
+    with_told files word words a.value b.value r b.passed.0 b.passed.1 b.rest a.rest
+
+-- a world that is ready to be run has one tile
+pub lone_alone : (files : Option (List File)) (word : List ℕ) (words : List (List ℕ)) (r : ReadyValue) → lone_ready files word words (passes r) → tiles_of r.world.plane ≡ 1
+lone_alone files word words r h =
+    let a = went _ _ r h in
+    let l = went _ _ a.value a.passed in
+    let w = went _ _ r a.rest in
+    let n = went _ _ r w.rest in
+    ap (λ (v : ReadyValue). tiles_of v.world.plane) n.rest
+    ∙ ap tiles_of (plane_said (element_names w.value) a.value n.value n.passed)
+    ∙ ap (λ (v : DraftValue). tiles_of v.plane) l.rest.1
+    ∙ l.rest.0
+
+pub is_alone : (w : WorldValue) → IsWorld w → tiles_of w.plane ≡ 1 → IsAlone w.plane w.plan
+is_alone w h one = record { map = h.map; one = one; lists = h.lists ∙ one; centres = λ k d lt. (h.attempts 0 k d lt).centre }
+
+pub lone_told : (files : List File) (word : List ℕ) (words : List (List ℕ)) (r : ReadyValue) → lone_ready (Some files) word words (passes r) → WorldTold files word words r × IsAlone r.world.plane r.world.plan
+lone_told files word words r h =
+    let a = went _ _ r h in
+    let l = went _ _ a.value a.passed in
+    let b = went _ _ l.value l.passed in
+    let reads = b.rest ∙ ap Ok (sym l.rest.1) in
+    let told = with_told files word words a.value b.value r b.passed.0 b.passed.1 reads a.rest in
+    (told, is_alone r.world (reads_valid told.bytes (element_names r.set) r.world told.reads) (lone_alone (Some files) word words r h))
+
+-- with one tile each attempt is at a live site
+one_factor : (a b : ℕ) → 1 ≤ a → 1 ≤ b → a * b ≡ 1 → a ≡ 1
+one_factor a b p q e = grind arith
+
+lone_column : (k w : ℕ) → 8 ≤ w → 0 % 1 * w + k % w < 1 * w
+lone_column k w some = grind (arith, rows)
+
+lone_row : (k w h : ℕ) → 8 ≤ w → k < w * h → 0 / 1 * h + k / w < 1 * h
+lone_row k w h some lt = grind (arith, rows)
+
+first_part : (x w : ℕ) → 8 ≤ w → x < 1 * w → x / w ≡ 0
+first_part x w some lt = grind (arith, rows)
+
+site_live : (m : MapValue) → IsMap m → tiles_of m ≡ 1 → is_on m 0 ≡ true → (k : ℕ) → k < m.w * m.h → is_live m (site_in m 0 k) ≡ true
+site_live m valid one on k lt =
+    let tx = one_factor m.tx m.ty valid.sizes.tx_low valid.sizes.ty_low one in
+    let ty = one_factor m.ty m.tx valid.sizes.ty_low valid.sizes.tx_low (omega (arith, one)) in
+    let x : (site_in m 0 k).x < m.tx * m.w = subst (λ n. 0 % n * m.w + k % m.w < n * m.w) (sym tx) (lone_column k m.w valid.sizes.w_low) in
+    let y : (site_in m 0 k).y < m.ty * m.h = subst (λ n. 0 / m.tx * m.h + k / m.w < n * m.h) (sym ty) (subst (λ n. 0 / n * m.h + k / m.w < 1 * m.h) (sym tx) (lone_row k m.w m.h valid.sizes.w_low lt)) in
+    let column = first_part (site_in m 0 k).x m.w valid.sizes.w_low (subst (λ n. (site_in m 0 k).x < n * m.w) tx x) in
+    let row = first_part (site_in m 0 k).y m.h valid.sizes.h_low (subst (λ n. (site_in m 0 k).y < n * m.h) ty y) in
+    let parts : owner_of m (site_in m 0 k) ≡ 0 * m.tx + 0 = (λ i. row i * m.tx + column i) in
+    let owner : owner_of m (site_in m 0 k) ≡ 0 = parts ∙ omega arith in
+    together (in_plane m (site_in m 0 k)) (is_on m (owner_of m (site_in m 0 k)))
+    (together (nat_lt (site_in m 0 k).x (m.tx * m.w)) (nat_lt (site_in m 0 k).y (m.ty * m.h)) (lt_test _ _ x) (lt_test _ _ y)) (ap (is_on m) owner ∙ on)
+
+pub events_live : (w : WorldValue) → IsWorld w → tiles_of w.plane ≡ 1 → (rs : List Record) → rs ≡ events_of w.plane w.plan → All (IsLiveEvent w.plane) rs
+events_live w h one rs is = subst (All (IsLiveEvent w.plane)) (sym is) (each w.plane 0 (attempts w.plan 0) (IsLiveEvent w.plane) (λ k lt.
+    let a = h.attempts 0 k no_attempt lt in
+    site_live w.plane h.map one a.on (get_or (attempts w.plan 0) k no_attempt).centre a.centre))
+
+-- the records of the first log
+pub first_records : (logs : List LogValue) (log : LogValue) (events now : List Record) → logs ≡ log_of 0 events [] ∷ [] → log ≡ slice_index_or logs 0 (log_of 0 [] []) → now ≡ log.records → now ≡ events
+first_records logs log events now a b c = c ∙ ap (λ (l : LogValue). l.records) (b ∙ ap (λ ls. slice_index_or ls 0 (log_of 0 [] [])) a)
+
+-- the grid that known atoms are left on
+pub known_grid : {E : Type 0} (names : List (List ℕ)) (atoms : List Placed) (means : WindowValue → ℕ → WindowValue) (r : Result GridValue E) → ArePlacedKnown (length names) atoms → BringsNone (length names) means →
+    IfOk r (λ (g : GridValue). (n : ℕ) → ArePlacedKnown n atoms → BringsNone n means → All (IsKnown n) g.atoms) → IfOk r (λ (g : GridValue). AreNamed names g.atoms)
+known_grid names atoms means (Ok g) placed brings h = h (length names) placed brings
+known_grid names atoms means (Err e) placed brings h = tt
+
+-- the journal of a report has its events at live sites
+pub said_live : (w : WorldValue) (bytes : List ℕ) (j : JournalValue) → IsWorld w → journal_said (read_report w.plane w.plan.lists bytes) ≡ Ok j → All (IsLiveEvent w.plane) j.records
+said_live w bytes j h e = on (read_report w.plane w.plan.lists bytes) refl e
+  where
+    on : (r : Result Said (ℕ × LineFault)) → read_report w.plane w.plan.lists bytes ≡ r → journal_said r ≡ Ok j → All (IsLiveEvent w.plane) j.records
+    on (Ok d) is g = let same : record { records = d.journal; abandoned = d.gone } ≡ j = cc in subst (λ (v : JournalValue). All (IsLiveEvent w.plane) v.records) same (journal_live w.plane w.plan.lists h.attempts bytes d is)
+    on (Err fault) is g = cc
+
+pub journal_events : (files : Option (List File)) (word : List ℕ) (w : WorldValue) (j : JournalValue) → IsWorld w → journal_of files word w (passes j) → All (IsLiveEvent w.plane) j.records
+journal_events files word w j valid h = let b = went _ _ j h in said_live w b.value j valid b.rest
+
+-- a text that a stage refuses
+pub journal_stops : (files : Option (List File)) (word : List ℕ) (w : WorldValue) (bytes : List ℕ) (o : Option (ℕ × LineFault)) (stop : Stop) → load files journal_limit word (passes bytes) → IsFault (read_report w.plane w.plan.lists bytes) o →
+    IsJournalStop word o stop → Tells journal_value (journal_of files word w) (Err stop)
+journal_stops files word w bytes None (Refused s) loaded asked is = absurd is
+journal_stops files word w bytes None (Missing v) loaded asked is = absurd is
+journal_stops files word w bytes None NoMemory loaded asked is = tt
+journal_stops files word w bytes (Some fault) (Refused s) loaded asked is = (inr (record { value = bytes; passed = loaded; rest = (fault, ap journal_said asked, is.0) }), subst Coded (sym (ap (λ (v : RefusedValue). v.refusal.code) is.0)) is.1)
+journal_stops files word w bytes (Some fault) (Missing v) loaded asked is = absurd is
+journal_stops files word w bytes (Some fault) NoMemory loaded asked is = absurd is
+
+pub names_stop : (word : List ℕ) (draft : DraftValue) (set : SetValue) (o : Option (ℕ × ℕ)) (stop : Stop) → IsNameFault (named (element_names set) draft) o → IsWorldStop word o stop → Tells ready_value (named_by word draft set) (Err stop)
+names_stop word draft set None (Refused s) asked is = absurd is
+names_stop word draft set None (Missing v) asked is = absurd is
+names_stop word draft set None NoMemory asked is = tt
+names_stop word draft set (Some fault) (Refused s) asked is = (inl (fault, asked, is.0), subst Coded (sym (ap (λ (v : RefusedValue). v.refusal.code) is.0)) is.1)
+names_stop word draft set (Some fault) (Missing v) asked is = absurd is
+names_stop word draft set (Some fault) NoMemory asked is = absurd is

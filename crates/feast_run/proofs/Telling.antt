@@ -1,5 +1,6 @@
 -- From the answers of two calls to that of both.
-use Rattle.std.proofs.Common.{Result, Ok, Err, ◌∙◌, inr}
+use Rattle.std.proofs.Common.{◌≡◌, Result, Ok, Err, ◌∙◌, inl, inr, subst, sym}
+use Rattle.std.specs.Result.{IsErrAnd}
 use Rattle.feast_base.specs.Outside.{Stock}
 use Rattle.feast_run.specs.Outcomes.{Stage, passes, and_then}
 use Rattle.feast_run.specs.Tellings.{Keeps, Tells}
@@ -15,3 +16,13 @@ tells_then value S T a (Ok x) h t = inr (record { value = a; passed = h; rest = 
 tells_then value S T a (Err (Refused s)) h t = (inr (record { value = a; passed = h; rest = t.0 }), t.1)
 tells_then value S T a (Err (Missing w)) h t = inr (record { value = a; passed = h; rest = t })
 tells_then value S T a (Err NoMemory) h t = tt
+
+-- a stage that went no further, and so do both
+halted : {X Y A B : Type 0} (value : X → A) (other : Y → B) (S : Stage A) (T : A → Stage B) (stop : Stop) → Tells {X = X} value S (Err stop) → Tells {X = Y} other (and_then S T) (Err stop)
+halted value other S T (Refused s) h = (inl h.0, h.1)
+halted value other S T (Missing w) h = inl h
+halted value other S T NoMemory h = tt
+
+pub tells_exit : {X Y A B : Type 0} (value : X → A) (other : Y → B) (S : Stage A) (T : A → Stage B) (stop : Stop) (r : Result Y Stop) → IsErrAnd r (λ e. e ≡ stop) → Tells {X = X} value S (Err stop) → Tells other (and_then S T) r
+tells_exit value other S T stop (Ok y) is h = absurd is
+tells_exit {X = X} {Y = Y} value other S T stop (Err e) is h = subst (λ (v : Stop). Tells {X = Y} other (and_then S T) (Err v)) (sym is) (halted {X = X} {Y = Y} value other S T stop h)

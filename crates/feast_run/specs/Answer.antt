@@ -1,21 +1,51 @@
 -- The answer of a form: its stages, up to the text that it writes.
-use Rattle.std.specs.Prelude.{ℕ, List, Option}
-use Rattle.element_set.specs.Sets.{SetValue, check_text}
+use Rattle.std.specs.Prelude.{ℕ, List, [], ◌∷◌, ◌++◌, codes, Option}
+use Rattle.cell_grid.specs.declared.record.Record.{Record}
+use Rattle.cell_grid.specs.Grid.{GridValue}
+use Rattle.cell_grid.specs.Records.{replay as replay_from}
+use Rattle.element_set.specs.Sets.{SetValue, check_text, code_text, element_names, program_of}
+use Rattle.event_journal.specs.Logs.{LogValue, log_of}
 use Rattle.feast_base.specs.Outside.{File}
-use Rattle.feast_run.specs.Forms.{FormValue, check, run}
+use Rattle.feast_run.specs.Forms.{FormValue, check, code, run, replay}
 use Rattle.feast_run.specs.Outcomes.{Stage, and_then, gives}
-use Rattle.feast_run.specs.Run.{run_report}
-use Rattle.feast_run.specs.Stages.{ReadyValue, ready, set_of}
+use Rattle.feast_run.specs.Stages.{JournalValue, ReadyValue, journal_of, lone_ready, ready, set_of}
+use Rattle.grid_print.specs.Report.{atoms_text, report}
+use Rattle.one_tile.specs.Events.{events_of}
+use Rattle.ulam_meaning.specs.Events.{after}
+use Rattle.world_grid.specs.Start.{start_grid}
 
--- the layout of a set
-abbrev pub shows : SetValue → Stage (List ℕ)
-shows set = gives (check_text set)
+-- the flat grid that some events leave, one after another, from the start of a world, by what its elements mean
+abbrev pub grid_after : ReadyValue → List Record → GridValue
+grid_after r records = replay_from (after (program_of r.set)) (start_grid r.world.plane r.world.atoms) records
 
--- the run of a world with its element
+-- the report of a run of one tile: each attempt is an event, in its order, and none is abandoned
+abbrev pub run_report : ReadyValue → List ℕ
+run_report r = report (element_names r.set) (grid_after r (events_of r.world.plane r.world.plan)) (events_of r.world.plane r.world.plan) []
+
+-- the text of the atoms that some events leave
+abbrev pub atoms_after : ReadyValue → List Record → List ℕ
+atoms_after r records = codes "feast 1\n" ++ atoms_text (element_names r.set) (grid_after r records)
+
+-- the logs of a world of one tile
+abbrev pub lone_logs : ReadyValue → List LogValue
+lone_logs r = log_of 0 (events_of r.world.plane r.world.plan) [] ∷ []
+
+-- a text of a set
+abbrev pub shows : (SetValue → List ℕ) → SetValue → Stage (List ℕ)
+shows text set = gives (text set)
+
 abbrev pub runs : ReadyValue → Stage (List ℕ)
-runs r = gives (run_report r.world r.element)
+runs r = gives (run_report r)
+
+abbrev pub replays : ReadyValue → JournalValue → Stage (List ℕ)
+replays r journal = gives (atoms_after r journal.records)
+
+abbrev pub replay_of : Option (List File) → List ℕ → ReadyValue → Stage (List ℕ)
+replay_of files journal r = and_then (journal_of files journal r.world) (replays r)
 
 -- the stages of a form, in the order of their refusals
 abbrev pub form_answer : Option (List File) → FormValue → Stage (List ℕ)
-form_answer files (check words) = and_then (set_of files words) shows
-form_answer files (run world element) = and_then (ready files world element) runs
+form_answer files (check words) = and_then (set_of files words) (shows check_text)
+form_answer files (code words) = and_then (set_of files words) (shows code_text)
+form_answer files (run world words) = and_then (lone_ready files world words) runs
+form_answer files (replay world journal words) = and_then (ready files world words) (replay_of files journal)

@@ -17,6 +17,7 @@ abbrev pub status_of_input : Input → Status
 status_of_input input.File = how.Unreadable
 status_of_input input.Elements = how.ElementRefused
 status_of_input input.World = how.WorldRefused
+status_of_input input.Journal = how.JournalRefused
 
 -- the status of an outcome, and the text that is written with it
 abbrev pub status_of : Outcome (List ℕ) → Status
@@ -90,6 +91,7 @@ pub record Wanted (form : Option FormValue) (old new : Stock) (sink sink' : Told
 abbrev pub Ends : Option FormValue → Stock → Stock → Told → Told → Status → Type 0
 Ends form old new sink sink' status = Whole form old new sink sink' status ⊎ (Broken form old new sink sink' status ⊎ Wanted form old new sink sink' status)
 
--- a text with a status was put: the answer is that status where all of it was put, else SinkFault
+-- a text with a status was written: the answer is that status where all of it was put, else SinkFault or NoMemory
 abbrev pub PutWith : Status → List ℕ → Told → Told → Status → Type 0
-PutWith right text sink sink' status = ((status ≡ right) × IsPut sink sink' text) ⊎ ((status ≡ how.SinkFault) × IsCut sink sink' text)
+PutWith right text sink sink' status =
+    ((status ≡ right) × IsPut sink sink' text) ⊎ (((status ≡ how.SinkFault) × IsCut sink sink' text) ⊎ ((status ≡ how.NoMemory) × (sink'.written ≡ sink.written) × (sink'.faults ≡ sink.faults)))

@@ -1,8 +1,30 @@
--- What a fault of reading says.
-use Rattle.feast_run.specs.declared.pieces.ReadFault.{ReadFault}
-use Rattle.feast_run.specs.declared.pieces.ReadFault.TheVariants.{OtherForm, NoMemory}
+-- Why a stage stops, by the fault of a text.
+use Rattle.std.specs.Prelude.{ℕ, ◌≡◌, List, Option, Some, None}
+use Rattle.event_journal.specs.declared.fault.LineFault.{LineFault}
+use Rattle.feast_run.specs.Outcomes.{RefusedValue}
+use Rattle.feast_run.specs.Stages.{journal_refused, world_refused}
+use Rattle.feast_run.specs.Tellings.{refused_value}
+use Rattle.feast_run.specs.declared.stop.Stop.{Stop}
+use Rattle.feast_run.specs.declared.stop.Stop.TheVariants.{Refused, Missing, NoMemory}
+use Rattle.element_set.specs.Sets.{Coded}
 
--- of another form exactly where this holds; want of memory says nothing
-abbrev pub IsOther : Type 0 → ReadFault → Type 0
-IsOther P OtherForm = P
-IsOther P NoMemory = Unit {0}
+-- it is this refusal, whose code has a text
+abbrev pub IsStop : RefusedValue → Stop → Type 0
+IsStop r (Refused s) = (refused_value s ≡ r) × Coded r.refusal.code
+IsStop r (Missing word) = ⊥
+IsStop r NoMemory = ⊥
+
+-- memory was wanted
+abbrev pub IsWant : Stop → Type 0
+IsWant (Refused s) = ⊥
+IsWant (Missing word) = ⊥
+IsWant NoMemory = Unit {0}
+
+-- it is the refusal by a fault, or memory was wanted
+abbrev pub IsWorldStop : List ℕ → Option (ℕ × ℕ) → Stop → Type 0
+IsWorldStop word None stop = IsWant stop
+IsWorldStop word (Some fault) stop = IsStop (world_refused word fault) stop
+
+abbrev pub IsJournalStop : List ℕ → Option (ℕ × LineFault) → Stop → Type 0
+IsJournalStop word None stop = IsWant stop
+IsJournalStop word (Some fault) stop = IsStop (journal_refused word fault) stop

@@ -1,5 +1,5 @@
 -- Stages of a call, the outcomes that they may have, and their composition.
-use Rattle.std.specs.Prelude.{ℕ, ◌≡◌, List, ◌⊎◌}
+use Rattle.std.specs.Prelude.{ℕ, ◌≡◌, List, ◌⊎◌, Result, Ok, Err}
 use Rattle.feast_base.specs.declared.place.Refusal.{Refusal}
 use Rattle.feast_run.specs.declared.stop.Input.{Input}
 
@@ -44,11 +44,11 @@ gives a (passes b) = b ≡ a
 gives a (refuses r) = ⊥
 gives a (misses w) = ⊥
 
--- a stage that passes with whatever this holds of, and refuses where it holds of nothing
-abbrev pub finds : {A : Type 0} → (A → Type 0) → RefusedValue → Stage A
-finds P r (passes a) = P a
-finds {A} P r (refuses s) = ((a : A) → P a → ⊥) × (s ≡ r)
-finds P r (misses w) = ⊥
+-- a stage that a function decides, with what is refused at its error
+abbrev pub decides : {A E : Type 0} → (E → RefusedValue) → Result A E → Stage A
+decides refusal said (passes a) = said ≡ Ok a
+decides {A} {E} refusal said (refuses r) = (e : E) × (said ≡ Err e) × (r ≡ refusal e)
+decides refusal said (misses w) = ⊥
 
 -- a stage that passes with this value where this holds, and refuses where it does not
 abbrev pub demands : {A : Type 0} → Type 0 → RefusedValue → A → Stage A

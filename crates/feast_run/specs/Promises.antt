@@ -1,21 +1,29 @@
 -- What a call promises, in the words of who calls it. Each follows from how a call ends.
-use Rattle.std.specs.Prelude.{ℕ, ◌≡◌, ◌≢◌, ◌≤◌, length, List, [], ◌∷◌, ◌++◌, Option, Some, None, ◌⊎◌}
-use Rattle.cell_grid.specs.Records.{replay}
-use Rattle.element_set.specs.Sets.{SetValue, AcceptsFiles, check_text}
+use Rattle.std.specs.Prelude.{ℕ, ◌≡◌, ◌≢◌, ◌≤◌, length, List, [], ◌∷◌, ◌++◌, codes, Option, Some, None, Ok, ◌⊎◌}
+use Rattle.cell_grid.specs.declared.record.Record.{Record}
+use Rattle.cell_grid.specs.Grid.{GridValue}
+use Rattle.cell_grid.specs.Records.{replay as replay_from}
+use Rattle.element_set.specs.Sets.{SetValue, AcceptsFiles, check_text, code_text, element_names, program_of}
+use Rattle.event_journal.specs.declared.abandoned.Abandoned.{Abandoned}
+use Rattle.event_journal.specs.Accounts.{AreExcused, IsAccounted, IsStamped}
+use Rattle.event_journal.specs.Reading.{read_report}
 use Rattle.feast_base.specs.Held.{LoadMayFail, PutMayFail, ShelfHeld, SinkHeld, room_left}
 use Rattle.feast_base.specs.Outside.{File, Grows, Stock, Told, file_of, stock, told}
 use Rattle.feast_base.specs.Refusals.{refusal_line, unreadable_line, usage_line}
 use Rattle.feast_run.specs.Answer.{form_answer}
-use Rattle.feast_run.specs.Element.{ElementValue, Defines, after_swap}
 use Rattle.feast_run.specs.Ending.{ComesTo, status_of}
-use Rattle.feast_run.specs.Forms.{FormValue, check, run}
+use Rattle.feast_run.specs.Forms.{FormValue, check, code, run, replay}
 use Rattle.feast_run.specs.Outcomes.{Outcome, passes, refuses, misses}
-use Rattle.feast_run.specs.Report.{report}
-use Rattle.feast_run.specs.Run.{journal_of, start_of}
-use Rattle.feast_run.specs.Stages.{AreNamed, element_limit, element_of, world_of}
-use Rattle.feast_run.specs.World.{WorldValue, IsWorld, world_text}
+use Rattle.feast_run.specs.Stages.{JournalValue, ReadyValue, draft_of, element_limit, journal_limit, journal_of, journal_said, world_limit}
 use Rattle.feast_run.specs.declared.status.Status.{Status}
 use Rattle.feast_run.specs.declared.status.Status.TheVariants as how
+use Rattle.grid_print.specs.Report.{atoms_text, report}
+use Rattle.one_tile.specs.Events.{events_of}
+use Rattle.tile_map.specs.Plane.{tiles_of}
+use Rattle.ulam_meaning.specs.Events.{after}
+use Rattle.world_grid.specs.Start.{start_grid}
+use Rattle.world_text.specs.Drafts.{DraftValue}
+use Rattle.world_text.specs.Named.{ReadsWorld, named}
 
 -- the element files of some words, in order: of each word the first file of that name, within its limit
 abbrev pub AreFiles : List File → List (List ℕ) → List File → Type 0
@@ -30,29 +38,60 @@ pub record IsSet (files : List File) (words : List (List ℕ)) (set : SetValue) 
   pub are_files : AreFiles files words sources
   pub accepted : AcceptsFiles sources set
 
--- a check whose files are told: the bytes appended are the layout of their set
-pub record CheckTold (files : List File) (words : List (List ℕ)) (appended : List ℕ) : Type 0 where
+-- a form of element files alone, whose files are told: the bytes appended are this text of their set
+pub record SetTold (text : SetValue → List ℕ) (files : List File) (words : List (List ℕ)) (appended : List ℕ) : Type 0 where
   pub set : SetValue
   pub is_set : IsSet files words set
-  pub shown : appended ≡ check_text set
+  pub shown : appended ≡ text set
 
--- a run whose files are told: the bytes appended are the report of the world's attempts, each a record in its order,
--- none abandoned, over the grid that these records give when they are replayed from the world's start
-pub record RanTold (files : List File) (world_word element_word appended : List ℕ) : Type 0 where
-  pub world : WorldValue
-  pub world_file : file_of world_word files ≡ Some (world_text world)
-  pub world_valid : IsWorld world
-  pub element : ElementValue
-  pub element_bytes : List ℕ
-  pub element_file : file_of element_word files ≡ Some element_bytes
-  pub element_text : Defines element_bytes element
-  pub named : AreNamed world element
-  pub shown : appended ≡ report (element.name ∷ []) (replay (after_swap element) (start_of world) (journal_of world.tries)) (journal_of world.tries) []
+-- a world that is told, with the elements that its atoms are of
+pub record WorldTold (files : List File) (word : List ℕ) (words : List (List ℕ)) (r : ReadyValue) : Type 0 where
+  pub is_set : IsSet files words r.set
+  pub bytes : List ℕ
+  pub file : file_of word files ≡ Some bytes
+  pub within : length bytes ≤ world_limit
+  pub reads : ReadsWorld bytes (element_names r.set) r.world
+
+-- What a run left, and owes: its grid is what the events of its journal give, one at a time in the journal's order, on one
+-- uncut grid that begins with the world's atoms, by what the elements' source means; each attempt of each tile is one
+-- event or one abandoned attempt; each stamp is 1 more than the greatest of the linked events before it; and each
+-- abandoned attempt names one that held its edge.
+pub record IsRun (r : ReadyValue) (grid : GridValue) (records : List Record) (abandoned : List Abandoned) : Type 0 where
+  pub replayed : grid ≡ replay_from (after (program_of r.set)) (start_grid r.world.plane r.world.atoms) records
+  pub accounted : IsAccounted r.world.plane r.world.plan records abandoned
+  pub stamped : IsStamped r.world.plane records
+  pub excused : AreExcused r.world.plane r.world.plan records abandoned
+  -- of one tile each attempt is an event, in its order
+  pub alone : tiles_of r.world.plane ≡ 1 → (records ≡ events_of r.world.plane r.world.plan) × (abandoned ≡ [])
+
+-- a run whose files are told: the bytes appended are the report of what it left
+pub record RanTold (files : List File) (word : List ℕ) (words : List (List ℕ)) (appended : List ℕ) : Type 0 where
+  pub world : ReadyValue
+  pub told_world : WorldTold files word words world
+  pub grid : GridValue
+  pub records : List Record
+  pub abandoned : List Abandoned
+  pub run : IsRun world grid records abandoned
+  pub shown : appended ≡ report (element_names world.set) grid records abandoned
+
+-- a replay whose files are told: the bytes appended are the atoms that the events of the journal give, one at a time, on
+-- one uncut grid that begins with the world's atoms, by what the elements' source means
+pub record ReplayTold (files : List File) (word journal_word : List ℕ) (words : List (List ℕ)) (appended : List ℕ) : Type 0 where
+  pub world : ReadyValue
+  pub told_world : WorldTold files word words world
+  pub journal_bytes : List ℕ
+  pub journal_file : file_of journal_word files ≡ Some journal_bytes
+  pub journal_within : length journal_bytes ≤ journal_limit
+  pub journal : JournalValue
+  pub journal_reads : journal_said (read_report world.world.plane world.world.plan.lists journal_bytes) ≡ Ok journal
+  pub shown : appended ≡ codes "feast 1\n" ++ atoms_text (element_names world.set) (replay_from (after (program_of world.set)) (start_grid world.world.plane world.world.atoms) journal.records)
 
 -- the text that a form writes, where files are told
 abbrev pub Shows : List File → FormValue → List ℕ → Type 0
-Shows files (check words) appended = CheckTold files words appended
-Shows files (run world element) appended = RanTold files world element appended
+Shows files (check words) appended = SetTold check_text files words appended
+Shows files (code words) appended = SetTold code_text files words appended
+Shows files (run world words) appended = RanTold files world words appended
+Shows files (replay world journal words) appended = ReplayTold files world journal words appended
 
 -- the headline: where the shelf tells its files and the sink what is written, and the status is Done, this was appended
 abbrev pub Headline : Option FormValue → Stock → Told → Told → Status → Type 0
@@ -84,18 +123,19 @@ pub record Exactly (form : Option FormValue) (old new : Stock) (sink sink' : Tol
   pub stages : (files : List File) (f : FormValue) (o : Outcome (List ℕ)) → form ≡ Some f → old.files ≡ Some files → form_answer (Some files) f o →
       Agrees old.failed new.failed o → sink'.faults ≡ sink.faults → ((status ≡ status_of o) × Lines sink sink' o) ⊎ (status ≡ how.NoMemory)
 
--- files of a run that nothing is refused of
-pub record CanRun (files : List File) (world_word element_word : List ℕ) : Type 0 where
-  pub world : WorldValue
-  pub has_world : world_of (Some files) world_word (passes world)
-  pub element : ElementValue
-  pub has_element : element_of (Some files) element_word (passes element)
-  pub named : AreNamed world element
+-- a world and element files that nothing is refused of
+pub record IsGoodWorld (files : List File) (word : List ℕ) (words : List (List ℕ)) (r : ReadyValue) : Type 0 where
+  pub draft : DraftValue
+  pub has_draft : draft_of (Some files) word (passes draft)
+  pub is_set : IsSet files words r.set
+  pub has_names : named (element_names r.set) draft ≡ Ok r.world
 
 -- files of a form that nothing is refused of
 abbrev pub IsGood : List File → FormValue → Type 0
 IsGood files (check words) = (set : SetValue) × IsSet files words set
-IsGood files (run world element) = CanRun files world element
+IsGood files (code words) = (set : SetValue) × IsSet files words set
+IsGood files (run world words) = (r : ReadyValue) × IsGoodWorld files world words r × (tiles_of r.world.plane ≡ 1)
+IsGood files (replay world journal words) = (r : ReadyValue) × IsGoodWorld files world words r × ((j : JournalValue) × journal_of (Some files) journal r.world (passes j))
 
 -- completeness: good files of a form, and counts that stay, give Done, or want of memory
 abbrev pub Complete : Option FormValue → Stock → Stock → Told → Told → Status → Type 0
@@ -106,7 +146,9 @@ Complete form old new sink sink' status =
 -- the file words of a form
 abbrev pub file_words : FormValue → List (List ℕ)
 file_words (check words) = words
-file_words (run world element) = world ∷ element ∷ []
+file_words (code words) = words
+file_words (run world words) = world ∷ words
+file_words (replay world journal words) = world ∷ journal ∷ words
 
 -- it is one of the words
 abbrev pub IsWordOf : List (List ℕ) → List ℕ → Type 0

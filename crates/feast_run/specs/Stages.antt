@@ -1,17 +1,27 @@
 -- The stages that the forms are made of.
-use Rattle.std.specs.Prelude.{ℕ, ◌≡◌, ◌≤◌, List, [], ◌∷◌, ◌++◌, length, Option, All, slice_index_or}
-use Rattle.element_set.specs.Sets.{SetValue, AcceptsFiles, RefusesFiles}
+use Rattle.std.specs.Prelude.{ℕ, ◌≡◌, ◌≤◌, List, [], ◌∷◌, ◌++◌, length, min, Option, Result, Ok, Err, slice_index_or}
+use Rattle.cell_grid.specs.declared.record.Record.{Record}
+use Rattle.element_set.specs.Sets.{SetValue, AcceptsFiles, RefusesFiles, element_names}
+use Rattle.event_journal.specs.declared.abandoned.Abandoned.{Abandoned}
+use Rattle.event_journal.specs.declared.fault.LineFault.{LineFault}
+use Rattle.event_journal.specs.declared.fault.LineFault.TheVariants.{BadForm, OutOfTurn, ElsewhereThanTile, OtherThanAttempt}
+use Rattle.event_journal.specs.Reading.{Said, read_report}
 use Rattle.feast_base.specs.Outside.{File, TellsBytes, TellsLonger}
 use Rattle.feast_base.specs.declared.place.Refusal.{Refusal}
-use Rattle.feast_run.specs.Element.{ElementValue, Defines}
-use Rattle.feast_run.specs.Outcomes.{Stage, passes, refuses, misses, RefusedValue, refused, and_then, gives, finds, demands}
-use Rattle.feast_run.specs.World.{WorldValue, PlacedValue, Says}
+use Rattle.feast_run.specs.Outcomes.{Stage, passes, refuses, misses, RefusedValue, refused, and_then, gives, decides, demands}
 use Rattle.feast_run.specs.declared.stop.Input.{Input}
 use Rattle.feast_run.specs.declared.stop.Input.TheVariants as input
+use Rattle.tile_map.specs.Plane.{tiles_of}
+use Rattle.world_text.specs.Drafts.{DraftValue}
+use Rattle.world_text.specs.Named.{WorldValue, named}
+use Rattle.world_text.specs.Reading.{read_text}
 
--- the longest world file, and the longest element file, in bytes
+-- the longest world file, journal file and element file, in bytes
 abbrev pub world_limit : ℕ
 world_limit = 268435456
+
+abbrev pub journal_limit : ℕ
+journal_limit = 268435456
 
 abbrev pub element_limit : ℕ
 element_limit = 1048576
@@ -20,6 +30,10 @@ element_limit = 1048576
 abbrev pub whole_file : ℕ → ℕ → Refusal
 whole_file code value = record { code = code; place = record { file = 0; line = 1; column = 1 }; value = value }
 
+-- a refusal of a line; places number lines up to 2^32 - 1, and no file that is loaded has more
+abbrev pub at_line : ℕ → ℕ → ℕ → Refusal
+at_line code line value = record { code = code; place = record { file = 0; line = min line 4294967295; column = 1 }; value = value }
+
 -- the refusal of a file that is longer than its limit
 abbrev pub too_long : List ℕ → ℕ → RefusedValue
 too_long word limit = refused input.File word (whole_file 2 limit)
@@ -27,6 +41,21 @@ too_long word limit = refused input.File word (whole_file 2 limit)
 -- the refusal of a file whose form isn't built yet
 abbrev pub not_built : Input → List ℕ → RefusedValue
 not_built about word = refused about word (whole_file 90 0)
+
+-- the refusal of a world, by its first fault's code and line
+abbrev pub world_refused : List ℕ → ℕ × ℕ → RefusedValue
+world_refused word fault = refused input.World word (at_line fault.0 fault.1 0)
+
+-- what is wrong with a line of a report, as a refusal of that line
+abbrev pub line_refusal : ℕ → LineFault → Refusal
+line_refusal line BadForm = at_line 80 line 0
+line_refusal line (OutOfTurn previous) = at_line 81 line previous
+line_refusal line ElsewhereThanTile = at_line 82 line 0
+line_refusal line OtherThanAttempt = at_line 83 line 0
+
+-- the refusal of a journal, by its first fault and that fault's line
+abbrev pub journal_refused : List ℕ → ℕ × LineFault → RefusedValue
+journal_refused word fault = refused input.Journal word (line_refusal fault.0 fault.1)
 
 -- the load of one file: its bytes, where files are told those of the first file of that name
 abbrev pub load : Option (List File) → ℕ → List ℕ → Stage (List ℕ)
@@ -53,30 +82,48 @@ builds words sources (misses w) = ⊥
 abbrev pub set_of : Option (List File) → List (List ℕ) → Stage SetValue
 set_of files words = and_then (load_all files words) (builds words)
 
--- the world that a file says
-abbrev pub world_of : Option (List File) → List ℕ → Stage WorldValue
-world_of files word = and_then (load files world_limit word) (λ bytes. finds (Says bytes) (not_built input.World word))
+-- what the text of a world says, before its atoms have types
+abbrev pub draft_of : Option (List File) → List ℕ → Stage DraftValue
+draft_of files word = and_then (load files world_limit word) (λ bytes. decides (world_refused word) (read_text bytes))
 
--- the element that a file defines
-abbrev pub element_of : Option (List File) → List ℕ → Stage ElementValue
-element_of files word = and_then (load files element_limit word) (λ bytes. finds (Defines bytes) (not_built input.Elements word))
+-- it has one tile; more are not built yet for a run
+abbrev pub alone : List ℕ → DraftValue → Stage DraftValue
+alone word draft = demands (tiles_of draft.plane ≡ 1) (not_built input.World word) draft
 
--- each atom line has the element's name
-abbrev pub AreNamed : WorldValue → ElementValue → Type 0
-AreNamed world element = All (λ (p : PlacedValue). p.name ≡ element.name) world.placed
+abbrev pub lone_draft_of : Option (List File) → List ℕ → Stage DraftValue
+lone_draft_of files word = and_then (draft_of files word) (alone word)
 
--- a world, and the element that its atoms are of
+-- a world, and the elements that its atoms are of
 pub record ReadyValue : Type 0 where
   pub world : WorldValue
-  pub element : ElementValue
+  pub set : SetValue
 
--- the names of a world, whose file has this word
-abbrev pub named : List ℕ → WorldValue → ElementValue → Stage ReadyValue
-named word world element = demands (AreNamed world element) (not_built input.World word) (record { world = world; element = element })
+-- the names of a world's atoms
+abbrev pub named_by : List ℕ → DraftValue → SetValue → Stage ReadyValue
+named_by word draft set = and_then (decides (world_refused word) (named (element_names set) draft)) (λ (world : WorldValue). gives (record { world = world; set = set }))
 
--- what a run of a world needs
-abbrev pub with_element : Option (List File) → List ℕ → List ℕ → WorldValue → Stage ReadyValue
-with_element files world_word element_word world = and_then (element_of files element_word) (named world_word world)
+-- the elements of a world
+abbrev pub with_set : Option (List File) → List ℕ → List (List ℕ) → DraftValue → Stage ReadyValue
+with_set files word words draft = and_then (set_of files words) (named_by word draft)
 
-abbrev pub ready : Option (List File) → List ℕ → List ℕ → Stage ReadyValue
-ready files world_word element_word = and_then (world_of files world_word) (with_element files world_word element_word)
+-- a world with its elements
+abbrev pub ready : Option (List File) → List ℕ → List (List ℕ) → Stage ReadyValue
+ready files word words = and_then (draft_of files word) (with_set files word words)
+
+-- the same of one tile
+abbrev pub lone_ready : Option (List File) → List ℕ → List (List ℕ) → Stage ReadyValue
+lone_ready files word words = and_then (lone_draft_of files word) (with_set files word words)
+
+-- the events and the abandoned attempts of a report
+pub record JournalValue : Type 0 where
+  pub records : List Record
+  pub abandoned : List Abandoned
+
+-- what the text of a report says of them
+abbrev pub journal_said : {F : Type 0} → Result Said F → Result JournalValue F
+journal_said (Ok d) = Ok (record { records = d.journal; abandoned = d.gone })
+journal_said (Err fault) = Err fault
+
+-- the journal of a world in the text of a report
+abbrev pub journal_of : Option (List File) → List ℕ → WorldValue → Stage JournalValue
+journal_of files word world = and_then (load files journal_limit word) (λ bytes. decides (journal_refused word) (journal_said (read_report world.plane world.plan.lists bytes)))

@@ -1,25 +1,21 @@
 //! One call of the simulator, from its words to what it writes.
 //!
-//! So far it does `check FILE..` for all element files, and `run WORLD FILE` for a world of one
-//! tile and an element that swaps two sites.
+//! So far it does `check FILE..` and `code FILE..`, `run WORLD FILE..` for worlds of one tile, and
+//! `replay WORLD JOURNAL FILE..`.
 #![tactic(auto)]
 
-mod element;
 mod element_files;
-mod element_text;
 mod form;
 mod in_memory;
+mod journals;
 mod loading;
-mod pieces;
-mod report;
-mod run;
+mod output;
 mod said;
 mod stages;
 mod status;
 mod stop;
-mod swapper;
 mod top;
-mod world;
+mod worlds;
 
 pub use in_memory::feast_in_memory;
 pub use status::Status;

@@ -1,7 +1,7 @@
 //! Loading a file.
 ghost use Rattle.std.specs.Prelude.{◌≡◌, ◌≤◌, ◌<◌, ◌^◌, ◌-◌, ℕ, List};
 ghost use Rattle.feast_base.specs.Outside.{stock};
-ghost use Rattle.feast_run.specs.Stages.{load, whole_file};
+ghost use Rattle.feast_run.specs.Stages.{at_line, load, whole_file};
 ghost use Rattle.feast_run.specs.Tellings.{Moves, Tells};
 
 use crate::stop::{Input, Refused, Stop};
@@ -10,6 +10,9 @@ use std::alloc::Global;
 
 /// The longest world file, in bytes.
 pub const WORLD_LIMIT: u32 = 268_435_456;
+
+/// The longest journal file, in bytes.
+pub const JOURNAL_LIMIT: u32 = 268_435_456;
 
 /// The longest element file, in bytes.
 pub const ELEMENT_LIMIT: u32 = 1_048_576;
@@ -22,6 +25,21 @@ pub const UNREADABLE: u8 = 1;
 
 /// The code of a file that is longer than its limit.
 const TOO_LONG: u8 = 2;
+
+/// The code of a file whose form isn't built yet.
+pub const NOT_BUILT: u8 = 90;
+
+/// A refusal of a line.
+pub fn at_line(code: u8, line: u64, value: u64) -> Refusal
+    ensures { result ≡ at_line code line value }
+{
+    let place = Place {
+        file: 0,
+        line: line.min(u32::MAX as u64) as u32,
+        column: 1,
+    };
+    Refusal { code, place, value }
+}
 
 /// A refusal of a whole file, with its place at the file's first byte.
 pub fn whole_file(code: u8, value: u64) -> Refusal

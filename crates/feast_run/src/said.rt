@@ -5,20 +5,22 @@ ghost use Rattle.feast_base.specs.Outside.{stock};
 ghost use Rattle.feast_base.specs.Refusals.{refusal_line};
 ghost use Rattle.feast_run.specs.Ending.{ComesTo, Wants, status_of_input};
 ghost use Rattle.feast_run.specs.Forms.{IsFew, form_of, form_value};
+ghost use Rattle.feast_run.specs.Outputs.{IsWritable, output_text};
 
 use crate::Status;
 use crate::form::{Form, read_form};
 use crate::loading::{UNREADABLE, USAGE, whole_file};
+use crate::output::Output;
 use crate::stages::form_stages;
 use crate::stop::{Input, Stop};
 use feast_base::{NoMemory, Refusal, Shelf, print_refusal};
 use std::alloc::Global;
 
-/// What a call comes to say: a status, and the text that is written with it.
+/// What a call comes to say: a status, and what is written with it.
 #[derive(Drop)]
 pub struct Said {
     pub status: Status,
-    pub text: Vec<u8>,
+    pub output: Output,
 }
 
 /// The status of a refusal, by what it is about.
@@ -29,17 +31,22 @@ fn status_of(input: Input) -> Status
         Input::File => Status::Unreadable,
         Input::Elements => Status::ElementRefused,
         Input::World => Status::WorldRefused,
+        Input::Journal => Status::JournalRefused,
     }
 }
 
 /// What is said at a refusal: its line.
 fn refuse(alloc: Global, status: Status, word: &str, refusal: &Refusal) -> Result<Said, NoMemory>
     requires { Coded refusal.now.code }
-    ensures { IfOk result (λ said. (said.status ≡ status) × (said.text.items ≡ refusal_line word.now refusal.now)) }
+    ensures line { IfOk result (λ said. (said.status ≡ status) × (output_text said.output ≡ refusal_line word.now refusal.now)) }
+    ensures writable { IfOk result (λ said. IsWritable said.output) }
 {
     let mut text = Vec::new(alloc);
     print_refusal(word, refusal, &mut text)?;
-    Ok(Said { status, text })
+    Ok(Said {
+        status,
+        output: Output::Text(text),
+    })
 }
 
 /// What a form comes to say.
@@ -48,12 +55,13 @@ fn said_form<F: Shelf>(alloc: Global, shelf: &mut F, form: Form<'_>) -> Result<S
     requires { IsFew form }
     ensures files { F.files shelf.new ≡ F.files shelf.old }
     ensures says { let old = stock F.files F.failed F.may_fail shelf.old in let new = stock F.files F.failed F.may_fail shelf.new in let form = Some (form_value form.entry) in
-        MatchResult result (λ said. ComesTo form old new said.status said.text.items) (λ _. Wants form old new) }
+        MatchResult result (λ said. ComesTo form old new said.status (output_text said.output)) (λ _. Wants form old new) }
+    ensures writable { IfOk result (λ said. IsWritable said.output) }
 {
     match form_stages(alloc, shelf, form) {
-        Ok(text) => Ok(Said {
+        Ok(output) => Ok(Said {
             status: Status::Done,
-            text,
+            output,
         }),
         Err(Stop::Refused(r)) => refuse(alloc, status_of(r.input), r.word, &r.refusal),
         Err(Stop::Missing(word)) => refuse(
@@ -75,7 +83,8 @@ pub fn said_words<F: Shelf>(
 ) -> Result<Said, NoMemory>
     ensures files { F.files shelf.new ≡ F.files shelf.old }
     ensures says { let old = stock F.files F.failed F.may_fail shelf.old in let new = stock F.files F.failed F.may_fail shelf.new in let form = form_of (map string_bytes words.now) in
-        MatchResult result (λ said. ComesTo form old new said.status said.text.items) (λ _. Wants form old new) }
+        MatchResult result (λ said. ComesTo form old new said.status (output_text said.output)) (λ _. Wants form old new) }
+    ensures writable { IfOk result (λ said. IsWritable said.output) }
 {
     match read_form(words) {
         Some(form) => said_form(alloc, shelf, form),

@@ -11,6 +11,8 @@ pub enum Input {
     Elements,
     /// The world.
     World,
+    /// The journal.
+    Journal,
 }
 
 /// A refusal, and the word of the file that it stands in.

@@ -3,29 +3,66 @@ ghost use Rattle.std.specs.Prelude.{◌≡◌, ◌<◌, ◌^◌, ◌-◌, List, 
 ghost use Rattle.feast_base.specs.Outside.{stock, told};
 ghost use Rattle.feast_run.specs.Ending.{Ends, PutWith};
 ghost use Rattle.feast_run.specs.Forms.{form_of};
+ghost use Rattle.feast_run.specs.Outputs.{IsWritable, output_text};
 ghost use Rattle.feast_run.specs.Promises.{Complete, Exactly, Headline, Noted, UsageExactly};
+ghost use Rattle.grid_print.specs.Writing.{Writes};
 
 use crate::Status;
+use crate::output::Output;
 use crate::said::{Said, said_words};
 use feast_base::{Gate, NoMemory, Shelf, Sink, SinkFailed};
+use grid_print::{WriteFault, write_report};
 use std::alloc::Global;
 use std::thread::Threads;
 
-/// Puts what is said, unless it is nothing, and answers the status where it is put whole.
-fn put<K: Sink>(sink: &mut K, said: Said) -> Status
+/// Puts a text in one piece, unless it is empty.
+fn put_text<K: Sink>(sink: &mut K, text: &[u8]) -> Result<(), WriteFault>
     requires { K.faults sink.old < 2 ^ 64 - 1 }
-    ensures { PutWith said.status said.text.items (told K.written K.faults K.may_fail sink.old) (told K.written K.faults K.may_fail sink.new) result }
+    ensures { Writes (told K.written K.faults K.may_fail sink.old) (told K.written K.faults K.may_fail sink.new) text.now result }
 {
-    if said.text.is_empty() {
-        return said.status;
+    if text.is_empty() {
+        return Ok(());
     }
-    match sink.put(said.text.as_slice()) {
-        Ok(()) => said.status,
-        Err(SinkFailed) => Status::SinkFault,
+    match sink.put(text) {
+        Ok(()) => Ok(()),
+        Err(SinkFailed) => Err(WriteFault::Sink),
     }
 }
 
-/// One call, from its words to its one put.
+/// Writes an output: a text in one piece, a report in pieces.
+fn write<K: Sink>(alloc: Global, sink: &mut K, output: &Output) -> Result<(), WriteFault>
+    requires room { K.faults sink.old < 2 ^ 64 - 1 }
+    requires writable { IsWritable output.now }
+    ensures { Writes (told K.written K.faults K.may_fail sink.old) (told K.written K.faults K.may_fail sink.new) (output_text output.now) result }
+{
+    match output {
+        Output::Text(text) => put_text(sink, text.as_slice()),
+        Output::Report(left) => {
+            write_report(
+                alloc,
+                &left.grid,
+                &left.journal,
+                left.ready.set.names(),
+                sink,
+            )
+        }
+    }
+}
+
+/// Writes what is said, and answers its status where it is put whole.
+fn put<K: Sink>(alloc: Global, sink: &mut K, said: &Said) -> Status
+    requires room { K.faults sink.old < 2 ^ 64 - 1 }
+    requires writable { IsWritable said.now.output }
+    ensures { PutWith said.now.status (output_text said.now.output) (told K.written K.faults K.may_fail sink.old) (told K.written K.faults K.may_fail sink.new) result }
+{
+    match write(alloc, sink, &said.output) {
+        Ok(()) => said.status,
+        Err(WriteFault::Sink) => Status::SinkFault,
+        Err(WriteFault::NoMemory) => Status::NoMemory,
+    }
+}
+
+/// One call, from its words to its writing.
 fn call<F: Shelf, K: Sink>(alloc: Global, words: &[String], shelf: &mut F, sink: &mut K) -> Status
     requires { K.faults sink.old < 2 ^ 64 - 1 }
     ensures files { F.files shelf.new ≡ F.files shelf.old }
@@ -34,32 +71,38 @@ fn call<F: Shelf, K: Sink>(alloc: Global, words: &[String], shelf: &mut F, sink:
         (told K.written K.faults K.may_fail sink.old) (told K.written K.faults K.may_fail sink.new) result }
 {
     match said_words(alloc, shelf, words) {
-        Ok(said) => put(sink, said),
+        Ok(said) => put(alloc, sink, &said),
         Err(NoMemory) => Status::NoMemory,
     }
 }
 
 /// Does what the words say, and answers how it ended.
 ///
-/// The words are those after the program's name. So far they have two forms:
+/// The words are those after the program's name. FILE stands for 1 to 64 element files. So far the
+/// words have four forms:
 ///
-/// - `check FILE..`, with 1 to 64 files: the layout of each class in them is put to the sink.
-/// - `run WORLD FILE`: the world of one tile in WORLD is run with the element in FILE, and its
-///   report is put to the sink.
+/// - `check FILE..`: the layout of each class in the files is written.
+/// - `code FILE..`: the compiled code of each element in the files is written.
+/// - `run WORLD FILE..`: the world of one tile in WORLD is run with the elements of the files, and
+///   its report is written, in pieces of 4,096 bytes.
+/// - `replay WORLD JOURNAL FILE..`: the events of the report in JOURNAL are made once more, one
+///   after another, from the start of the world in WORLD, and the atoms that they leave are written.
 ///
-/// A text is put in one piece, and not at all where it is empty. Any refusal is told in one line,
-/// put in place of the text:
+/// Any other text is put in one piece, and not at all where it is empty. Any refusal is told in one
+/// line, put in place of the text:
 ///
 /// - `Usage` where the words have no form.
 /// - `Unreadable` where a file can't be loaded, or is longer than its limit (268,435,456 bytes for
-///   WORLD, 1,048,576 for FILE).
-/// - `ElementRefused` where the files of a check are no set of elements, or FILE of a run defines
-///   no element that swaps two sites.
-/// - `WorldRefused` where WORLD says no world of one tile, or names another type than FILE's.
+///   WORLD and JOURNAL, 1,048,576 for FILE).
+/// - `ElementRefused` where the files are no set of elements.
+/// - `WorldRefused` where WORLD says no world, has for `run` more than one tile (which is not built
+///   yet), names another type than an element's, or has two atoms on one site.
+/// - `JournalRefused` where JOURNAL is no report of the world.
 ///
-/// A check loads all its files before it reads the first; a run loads and reads WORLD before it
-/// loads FILE. The first cause is answered. `SinkFault` comes where the put failed. `NoMemory`
-/// comes where memory is wanted; then nothing is put.
+/// WORLD is loaded and read before the element files are loaded, and these are all loaded before
+/// the first is read. Then the names of the world's atoms are looked up, and then JOURNAL is loaded
+/// and read. The first cause is answered. `SinkFault` comes where a put failed. `NoMemory` comes
+/// where memory is wanted; then nothing is put.
 ///
 /// The shelf appends to its failed names only a file word whose load failed. The gate is not
 /// called yet, and no thread is started.

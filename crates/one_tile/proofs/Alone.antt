@@ -21,7 +21,7 @@ use Rattle.event_journal.proofs.Journals.{journal_of}
 use Rattle.tile_map.specs.Plane.{MapValue}
 use Rattle.one_tile.specs.Events.{IsAlone, OwesNothing, event_of, events_from, events_of}
 
-abbrev no_attempt : Attempt
+abbrev pub no_attempt : Attempt
 no_attempt = record { centre = 0; seed = 0 }
 
 pub length-events : (m : MapValue) (i : ℕ) (list : List Attempt) → length (events_from m i list) ≡ length list
@@ -33,7 +33,7 @@ event_at m i list k d lt =
     get_or-map (event_of m) (enumerate_from i list) k (0, no_attempt) d inside ∙ ap (event_of m) (get_or-enumerate_from i list k (0, no_attempt) lt)
 
 -- what holds of each event
-each : (m : MapValue) (i : ℕ) (list : List Attempt) (P : Record → Type 0) → ((k : ℕ) → k < length list → P (event_of m (i + k, get_or list k no_attempt))) → All P (events_from m i list)
+pub each : (m : MapValue) (i : ℕ) (list : List Attempt) (P : Record → Type 0) → ((k : ℕ) → k < length list → P (event_of m (i + k, get_or list k no_attempt))) → All P (events_from m i list)
 each m i list P f = λ k d lt. let small : k < length list = omega (arith, lt, length-events m i list) in subst P (sym (event_at m i list k d small)) (f k small)
 
 -- and of each two

@@ -1,9 +1,9 @@
-//! The codes of elements as texts, code over its limit, and events.
+//! The codes of elements as texts, and events.
 
-use crate::built::{built, line};
+use crate::built::built;
 use bit_field::Atom;
 use cell_grid::Behave;
-use element_set::{BuildFault, ElementSet};
+use element_set::ElementSet;
 use std::alloc::Global;
 use std::test::Fail;
 use window_sites::Window;
@@ -59,35 +59,6 @@ fn texts_with_the_codes_of_their_elements(rt: HostRuntime) -> Result<(), Fail> {
             "{first}"
         );
     }
-    Ok(())
-}
-
-/// An element that swaps so many times.
-fn walks(alloc: Global, times: u32) -> Result<String, Fail> {
-    let mut text = String::new(alloc);
-    text.push_str("element Walker { EventWindow ew; Void behave() { ")?;
-    for _ in 0..times {
-        text.push_str("ew.swap(0, 4); ")?;
-    }
-    text.push_str("} }")?;
-    Ok(text)
-}
-
-#[test]
-fn code_of_65536_instructions_is_the_longest(rt: HostRuntime) -> Result<(), Fail> {
-    let alloc = rt.alloc();
-    let longest = walks(alloc, 21_845)?;
-    let set = accepted(alloc, longest.as_str(), "")?;
-    let mut lengths = Vec::new(alloc);
-    for code in set.codes() {
-        lengths.push(code.len())?;
-    }
-    assert_eq!(rt; lengths.as_slice(), &[65_536]);
-    let longer = walks(alloc, 21_846)?;
-    let Err(BuildFault::Refused(refusal)) = built(alloc, longer.as_str(), "")? else {
-        return Err(Fail::from("not refused"));
-    };
-    assert_eq!(rt; line(alloc, &refusal)?.as_str(), "a:1:9: E60 0");
     Ok(())
 }
 

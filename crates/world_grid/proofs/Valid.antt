@@ -1,5 +1,5 @@
 -- A world that has names has what a run needs.
-use Rattle.std.proofs.Common.{ℕ, ◌≡◌, ◌+◌, ◌*◌, ◌<◌, ◌≤◌, Bool, true, false, not, ◌&&◌, List, [], All, Option, Some, None, Result, Ok, Err, length, get_or, refl, sym, ap, subst, ◌∙◌, arith, inl, inr}
+use Rattle.std.proofs.Common.{ℕ, ◌≡◌, ◌+◌, ◌*◌, ◌<◌, ◌≤◌, Bool, true, false, not, ◌&&◌, List, [], ◌∷◌, All, Option, Some, None, Result, Ok, Err, length, get_or, refl, sym, ap, subst, ◌∙◌, arith, inl, inr}
 use Rattle.std.specs.Prelude.{if◌then◌else◌, nat_lt}
 use Rattle.std.proofs.Math.Nat.{mod-lt}
 use Rattle.std.proofs.lemmas.Bool.{cases_lt}
@@ -13,9 +13,12 @@ use Rattle.draw_stream.specs.Plans.{attempts, count_of, seeded}
 use Rattle.draw_stream.proofs.Plans.{length_seeded_attempts, length_seeded_lists, seeded_attempts_at, seeded_lists_at}
 use Rattle.tile_map.specs.Plane.{MapValue, IsMap, is_on, tiles_of}
 use Rattle.tile_map.proofs.Spans.{lt_test}
-use Rattle.world_text.specs.Drafts.{DraftValue, IsDraft, IsTry}
-use Rattle.world_text.specs.Named.{WorldValue, name_fault, named, placed, plan_by, unless, world_of}
+use Rattle.text_lines.specs.Lines.{lines}
+use Rattle.world_text.specs.Drafts.{DraftValue, IsDraft, missing, nothing_said}
+use Rattle.world_text.specs.Named.{ReadsWorld, WorldValue, name_fault, named, placed, plan_by, unless, world_of}
 use Rattle.world_text.specs.Printed.{IsNamed}
+use Rattle.world_text.specs.Reading.{go_on, line_step, over, read_lines, read_text}
+use Rattle.world_text.proofs.Kept.{line_step_kept, start_is}
 use Rattle.world_text.proofs.Prints.{named_prints}
 use Rattle.world_grid.specs.Known.{ArePlacedKnown}
 use Rattle.world_grid.specs.Worlds.{IsAttempt, IsPlaced, IsWorld}
@@ -69,3 +72,24 @@ world_valid names w h = on (name_fault names (h.0.plane.tx * h.0.plane.w) [] h.0
 
 pub world_known : (names : List (List ℕ)) (w : WorldValue) → IsNamed names w → ArePlacedKnown (length names) w.atoms
 world_known names w h = (named_prints names h.0 w h.1 h.2).atoms
+
+-- what a text says of a world is a draft
+lines_valid : (n : ℕ) (d e : DraftValue) (ts : List (List ℕ)) → read_lines n d ts ≡ Ok e → IsDraft d → IsDraft e
+unfolding read_lines
+lines_valid n d e [] h k = on (missing d.last) h
+  where
+    on : (o : Option ℕ) → over n d o ≡ Ok e → IsDraft e
+    on None g = let same : d ≡ e = cc in subst IsDraft same k
+    on (Some code) g = cc
+lines_valid n d e (t ∷ ts) h k = on (line_step n d t) refl h (λ x is g. lines_valid (n + 1) x e ts g (line_step_kept n d x t k is))
+  where
+    on : (r : Result DraftValue ℕ) → line_step n d t ≡ r → go_on n r (λ x. read_lines (n + 1) x ts) ≡ Ok e → ((x : DraftValue) → line_step n d t ≡ Ok x → read_lines (n + 1) x ts ≡ Ok e → IsDraft e) → IsDraft e
+    on (Err code) is g rest = cc
+    on (Ok x) is g rest = rest x is g
+
+pub read_draft : (bytes : List ℕ) (d : DraftValue) → read_text bytes ≡ Ok d → IsDraft d
+unfolding read_text
+read_draft bytes d h = lines_valid 1 nothing_said d (lines bytes) h start_is
+
+pub reads_valid : (bytes : List ℕ) (names : List (List ℕ)) (w : WorldValue) → ReadsWorld bytes names w → IsWorld w
+reads_valid bytes names w h = world_valid names w (h.0, read_draft bytes h.0 h.1, h.2)
