@@ -1,2 +1,3 @@
 mod Drawing
 mod Beginning
+mod Given

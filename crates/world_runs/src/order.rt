@@ -51,7 +51,7 @@ fn drawn(alloc: Global, seed: u64, tiles: u32, pairs: u32) -> Result<Vec<u32>, N
     let sites = u64::from(tiles);
     let mut stream = TileStream::new(seed, 0);
     let mut order = Vec::new(alloc);
-    for _ in 0..pairs {
+    for pair in 0..pairs {
         let words = stream.attempt(sites);
         push_two(&mut order, words.centre, (words.seed % sites) as u32)?;
     }

@@ -1,5 +1,5 @@
 //! The tiles of a plane before their first step.
-ghost use Rattle.std.specs.Prelude.{◌≡◌, ◌<◌, ℕ, IfOk, length};
+ghost use Rattle.std.specs.Prelude.{◌≡◌, ◌<◌, ◌≤◌, ℕ, IfOk, length};
 ghost use Rattle.border_cache.specs.Copies.{IsGridOf};
 ghost use Rattle.draw_stream.specs.Plans.{attempts};
 ghost use Rattle.tile_core.specs.Underway.{CanAttempt, IsFreshTile};
@@ -33,6 +33,14 @@ fn fresh_tile<B: Behave + Drop>(
     Tile::new(alloc, map, tile, start, attempts, behave)
 }
 
+/// How many there are, of no more than there can be tiles.
+fn count<T>(items: &[T]) -> u32
+    requires { length items.now ≤ 64 }
+    ensures { result ≡ length items.now }
+{
+    items.len() as u32
+}
+
 /// All tiles of a map, in order, each with the atoms of the start grid, its attempts of the plan,
 /// and one of those that act: there is one for each tile. `NoMemory` where a tile can't be made.
 pub fn fresh_tiles<B: Behave + Drop>(
@@ -48,9 +56,10 @@ pub fn fresh_tiles<B: Behave + Drop>(
     requires one { length behaves.items ≡ tiles_of map.now }
     ensures { IfOk result (λ v. AreFresh map.now start.now plan.now behaves.items v.items) }
 {
+    map.laws();
     let mut tiles = Vec::new(alloc);
     for behave in behaves {
-        let tile = fresh_tile(alloc, map, start, plan, tiles.len() as u32, behave)?;
+        let tile = fresh_tile(alloc, map, start, plan, count(tiles.as_slice()), behave)?;
         tiles.push(tile)?;
     }
     Ok(tiles)
