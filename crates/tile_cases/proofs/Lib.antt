@@ -1,1 +1,2 @@
 pub mod Plane
+pub mod Pairs

@@ -11,7 +11,7 @@ use Rattle.edge_lock.specs.EndLists.{end_lists}
 use Rattle.edge_lock.specs.PlainEdges.{own_lists}
 use Rattle.edge_lock.specs.PlainBoard.{PlainBoardValue, no_edge, end_of, lists_on}
 
-replicated : (n i : ℕ) → i < n → slice_index_or (replicate n true) i false ≡ true
+pub replicated : (n i : ℕ) → i < n → slice_index_or (replicate n true) i false ≡ true
 replicated zero i lt = absurd (omega (arith, lt))
 replicated (suc n) zero lt = refl
 replicated (suc n) (suc i) lt = replicated n i (omega (arith, lt))

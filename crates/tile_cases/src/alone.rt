@@ -1,6 +1,7 @@
 //! A tile that has the plane for itself.
 ghost use Rattle.std.specs.Prelude.{◌≡◌, IfOk};
 ghost use Rattle.cell_grid.specs.Tried.{after_turn, idle-turn};
+ghost use Rattle.event_journal.specs.Logs.{log_of};
 ghost use Rattle.tile_map.specs.Plane.{whole_plane};
 ghost use Rattle.tile_cases.specs.Alone.{IsAlone, IsEmptyBoard};
 
@@ -8,6 +9,7 @@ use bit_field::Atom;
 use cell_grid::{Behave, Grid};
 use draw_stream::{Attempt, AttemptPlan, Script};
 use edge_lock::PlainBoard;
+use event_journal::TileLog;
 use feast_base::NoMemory;
 use std::alloc::Global;
 use tile_core::{Phase, Tile};
@@ -77,4 +79,25 @@ pub fn empty_board(alloc: Global, map: &Map) -> Result<PlainBoard, NoMemory>
 {
     let board = PlainBoard::new(alloc, map)?;
     Ok(board)
+}
+
+/// The next attempt of a tile that is alone, from its start to its end; nothing where none is left.
+/// Answers the phase.
+pub fn attempt(tile: &mut Tile<Turn>, map: &Map, board: &mut PlainBoard) -> Phase
+    requires { IsAlone map.now tile.old.0 board.old }
+    ensures alone { IsAlone map.now tile.new.0 board.new }
+    ensures phase { result ≡ tile.new.0.phase }
+{
+    match tile.phase() {
+        Phase::Draw => tile.attempt_whole(map, board),
+        phase => phase,
+    }
+}
+
+/// The log of a tile that is alone.
+pub fn log(tile: Tile<Turn>, map: &Map, board: &PlainBoard) -> TileLog
+    requires { IsAlone map.now tile.0 board.now }
+    ensures { result ≡ log_of tile.0.number tile.0.records tile.0.abandoned }
+{
+    tile.into_log()
 }

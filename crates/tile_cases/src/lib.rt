@@ -4,6 +4,12 @@
 
 mod alone;
 #[cfg(test)]
+mod border;
+mod counted;
+#[cfg(test)]
 mod day;
+mod pair;
 
-pub use alone::{Turn, advance, empty_board, lonely, phases};
+pub use alone::{Turn, advance, attempt, empty_board, log, lonely, phases};
+pub use counted::CountedBoard;
+pub use pair::{Pair, Side};

@@ -1,1 +1,11 @@
 pub mod Working
+pub mod Firsts
+pub mod Lookups
+pub mod NewEdges
+pub mod Shutting
+pub mod LettingGo
+pub mod Ended
+pub mod Returns
+pub mod Closed
+pub mod Homing
+pub mod Resting

@@ -1,0 +1,50 @@
+-- Workers sent out and taken apart one by one.
+use Rattle.std.proofs.Common.{◌≡◌, ℕ, zero, suc, ◌+◌, ◌<◌, ◌≤◌, List, [], ◌∷◌, ◌++◌, map, take, drop, length, get_or, refl, sym, ap, ◌∙◌, subst, arith, length-append}
+use Rattle.std.specs.Prelude.{All, slice_index_or}
+use Rattle.std.proofs.lemmas.List.{append_assoc, get_or_append_left, take-append-le, take_all}
+use mathlib.Core.Logic.{dite}
+use native.Mathlib.Decide.{ℕ_discrete}
+use Rattle.edge_lock.specs.Passes.{PassValue}
+use Rattle.edge_lock.specs.SharedEnds.{SharedEndValue, SamePasses, edge_and_end, lists_at}
+use Rattle.tile_core.specs.Turns.{AgreeOnEdges}
+use Rattle.tile_map.specs.Plane.{MapValue}
+use Rattle.tile_core.specs.Values.{TileValue}
+use Rattle.tile_threads.specs.declared.worker.Worker.{Worker}
+use Rattle.tile_threads.specs.Passes.{passes_of, let_go}
+use Rattle.tile_threads.specs.Whole.{CameHome, worker_of, workers_of}
+
+-- these passes are of the first workers
+pub record HaveComeSoFar {B : Type 0} (m : MapValue) (workers : List (Worker B SharedEndValue)) (passes : List (List PassValue)) : Type 0 where
+  pub few : length passes ≤ length workers
+  pub each : (t : ℕ) (none : Worker B SharedEndValue) → t < length passes → CameHome m (slice_index_or workers t none).tile.0.number (slice_index_or workers t none).end.passes (passes_of passes t)
+
+last_passes : (ps : List (List PassValue)) (p : List PassValue) → passes_of (ps ++ p ∷ []) (length ps) ≡ p
+last_passes [] p = refl
+last_passes (q ∷ ps) p = last_passes ps p
+
+-- one more has come home
+pub comes_home : {B : Type 0} (m : MapValue) (ws : List (Worker B SharedEndValue)) (ps : List (List PassValue)) (w : Worker B SharedEndValue) (p : List PassValue) → HaveComeSoFar m ws ps → length ps < length ws → ((none : Worker B SharedEndValue) → get_or ws (length ps) none ≡ w)
+    → CameHome m w.tile.0.number w.end.passes p → HaveComeSoFar m ws (ps ++ p ∷ [])
+comes_home {B} m ws ps w p h lt here came = record {
+  few = omega (arith, lt, length-append ps (p ∷ []));
+  each = λ t none inside. dite (ℕ_discrete t (length ps))
+      (λ is. subst (λ j. CameHome m (get_or ws j none).tile.0.number (get_or ws j none).end.passes (passes_of (ps ++ p ∷ []) j)) (sym is)
+      (subst (λ (y : Worker B SharedEndValue). CameHome m y.tile.0.number y.end.passes (passes_of (ps ++ p ∷ []) (length ps))) (sym (here none)) (subst (CameHome m w.tile.0.number w.end.passes) (sym (last_passes ps p)) came)))
+      (λ older. let old : t < length ps = omega (arith, inside, older, length-append ps (p ∷ [])) in subst (CameHome m (get_or ws t none).tile.0.number (get_or ws t none).end.passes) (sym (get_or_append_left ps (p ∷ []) [] t old)) (h.each t none old));
+}
+
+-- one more was sent out
+pub sent_more : {B : Type 0} (done new all : List (Worker B SharedEndValue)) (xs xs' : List (TileValue × B)) (ps ps' : List (List PassValue)) (x : TileValue × B) (p : List PassValue) (w : Worker B SharedEndValue) → xs ≡ x ∷ xs' → ps ≡ p ∷ ps' → w ≡ worker_of x p → new ≡ done ++ w ∷ []
+    → done ++ workers_of xs ps ≡ all → new ++ workers_of xs' ps' ≡ all
+sent_more done new all xs xs' ps ps' x p w isx isp isw is so_far =
+    ap (λ l. l ++ workers_of xs' ps') is ∙ (append_assoc done (w ∷ []) (workers_of xs' ps') ∙ ((λ i. done ++ isw i ∷ workers_of xs' ps') ∙ ((λ i. done ++ workers_of (sym isx i) (sym isp i)) ∙ so_far)))
+
+-- an end that has moved and given back what it had
+pub home_of : (m : MapValue) (t n : ℕ) (was old new : SharedEndValue) (passes : List PassValue) → n ≡ t → old ≡ was → SamePasses old new → AgreeOnEdges m n (lists_at new.passes) (λ e. let_go (lists_at old.passes e)) → passes ≡ new.passes → CameHome m t was.passes passes
+home_of m t n was old new passes number is moved lists same =
+    subst (CameHome m t was.passes) (sym same)
+    (subst (λ (y : ℕ × SharedEndValue). CameHome m y.0 y.1.passes new.passes) (λ i. (number i, is i)) (record { same = moved.passes; lists_are = lists }))
+
+-- a list that was lent whole and came back
+pub whole_back : {X : Type 0} (n : ℕ) (new old : List X) → length new ≡ length old → n ≡ length old → take n (new ++ drop (length new) old) ≡ new
+whole_back n new old long is = take-append-le n new (drop (length new) old) (omega (arith, long, is)) ∙ take_all n new (omega (arith, long, is))

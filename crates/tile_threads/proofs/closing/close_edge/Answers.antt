@@ -1,0 +1,70 @@
+use Rattle.std.proofs.Common.{◌≡◌, ℕ, ◌+◌, ◌<◌, List, sym, ap, ◌∙◌, subst}
+use Rattle.tile_map.specs.Plane.{tiles_of}
+use Rattle.tile_threads.specs.Passes.{TakesFirst}
+use Rattle.tile_threads.proofs.NewEdges.{low_is, high_is}
+use Rattle.tile_threads.proofs.Shutting.{low_first, high_first, low_free, high_free, closed_is, left_after}
+use Rattle.tile_threads.proofs.closing.close_edge.Goals as goal
+
+pub close-requires-clause-lower : goal.close-requires-clause-lower
+close-requires-clause-lower c =
+    let m = c.args.map.now in
+    let ps = c.args.passes.now.items in
+    let one = c.take_pass-low.new.passes.items in
+    let two = c.take_pass-high.new.passes.items in
+    let p = c.take_pass-low.result in
+    let q = c.take_pass-high.result in
+    let pair = c.ends-lower.ensures.pair in
+    let rises = subst (λ (z : ℕ × ℕ). z.0 < z.1) pair c.ends-lower.ensures.rising in
+    let inside = subst (λ (z : ℕ × ℕ). z.1 < tiles_of m) pair c.ends-lower.ensures.tile in
+    let a = subst (λ (z : ℕ × ℕ). TakesFirst ps one z.0 p) pair c.take_pass-low.ensures in
+    let b = subst (λ (z : ℕ × ℕ). TakesFirst one two z.1 q) pair c.take_pass-high.ensures in
+    let r = c.requires.left in
+    let f = low_first m r.0 r.1 c.args.number r.2 ps r.4 rises inside one two p q a in
+    (f.of ∙ sym r.3, f.end ∙ low_is m c.args.number, low_free m r.0 r.1 c.args.number r.2 ps r.4 rises inside one two p q a b)
+
+pub close-requires-clause-higher : goal.close-requires-clause-higher
+close-requires-clause-higher c =
+    let m = c.args.map.now in
+    let ps = c.args.passes.now.items in
+    let one = c.take_pass-low.new.passes.items in
+    let two = c.take_pass-high.new.passes.items in
+    let p = c.take_pass-low.result in
+    let q = c.take_pass-high.result in
+    let pair = c.ends-lower.ensures.pair in
+    let rises = subst (λ (z : ℕ × ℕ). z.0 < z.1) pair c.ends-lower.ensures.rising in
+    let inside = subst (λ (z : ℕ × ℕ). z.1 < tiles_of m) pair c.ends-lower.ensures.tile in
+    let a = subst (λ (z : ℕ × ℕ). TakesFirst ps one z.0 p) pair c.take_pass-low.ensures in
+    let b = subst (λ (z : ℕ × ℕ). TakesFirst one two z.1 q) pair c.take_pass-high.ensures in
+    let r = c.requires.left in
+    let f = high_first m r.0 r.1 c.args.number r.2 ps r.4 rises inside one two p q a b in
+    (f.of ∙ sym r.3, f.end ∙ high_is m c.args.number rises, high_free m r.0 r.1 c.args.number r.2 ps r.4 rises inside one two p q a b)
+
+pub returns-clause-closed : goal.returns-clause-closed
+returns-clause-closed c edges lists n is k =
+    let m = c.args.map.now in
+    let ps = c.args.passes.now.items in
+    let one = c.take_pass-low.new.passes.items in
+    let two = c.take_pass-high.new.passes.items in
+    let p = c.take_pass-low.result in
+    let q = c.take_pass-high.result in
+    let pair = c.ends-lower.ensures.pair in
+    let rises = subst (λ (z : ℕ × ℕ). z.0 < z.1) pair c.ends-lower.ensures.rising in
+    let inside = subst (λ (z : ℕ × ℕ). z.1 < tiles_of m) pair c.ends-lower.ensures.tile in
+    let a = subst (λ (z : ℕ × ℕ). TakesFirst ps one z.0 p) pair c.take_pass-low.ensures in
+    let b = subst (λ (z : ℕ × ℕ). TakesFirst one two z.1 q) pair c.take_pass-high.ensures in
+    closed_is m edges lists c.args.number n ps k rises inside one two p q a b c.args.edge c.close.result is c.close.ensures.registers c.close.ensures.history
+
+pub returns-clause-left : goal.returns-clause-left
+returns-clause-left c edges lists n is k =
+    let m = c.args.map.now in
+    let ps = c.args.passes.now.items in
+    let one = c.take_pass-low.new.passes.items in
+    let two = c.take_pass-high.new.passes.items in
+    let p = c.take_pass-low.result in
+    let q = c.take_pass-high.result in
+    let pair = c.ends-lower.ensures.pair in
+    let rises = subst (λ (z : ℕ × ℕ). z.0 < z.1) pair c.ends-lower.ensures.rising in
+    let inside = subst (λ (z : ℕ × ℕ). z.1 < tiles_of m) pair c.ends-lower.ensures.tile in
+    let a = subst (λ (z : ℕ × ℕ). TakesFirst ps one z.0 p) pair c.take_pass-low.ensures in
+    let b = subst (λ (z : ℕ × ℕ). TakesFirst one two z.1 q) pair c.take_pass-high.ensures in
+    left_after m edges lists c.args.number n ps k rises inside one two p q a b

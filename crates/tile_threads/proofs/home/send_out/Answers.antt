@@ -1,0 +1,29 @@
+use Rattle.std.proofs.Common.{◌≡◌, ℕ, ◌++◌, [], ◌∷◌, length, sym, ap, ◌∙◌, subst, arith}
+use Rattle.std.specs.Prelude.{All}
+use Rattle.edge_lock.specs.SharedEnds.{IsPassOf, shared_end_value}
+use Rattle.edge_lock.proofs.HistorySteps.{all-head, all-tail}
+use Rattle.tile_threads.specs.Whole.{worker_of, workers_of}
+use Rattle.tile_threads.proofs.Homing.{sent_more}
+use Rattle.tile_threads.proofs.home.send_out.Goals as goal
+
+pub new-requires : goal.new-requires
+new-requires g c =
+    let P = IsPassOf c.args.edges.now in
+    subst (All P) (sym c.into_vec.ensures) (all-head (All P) c.in-Some-next.own c.next-in-loop-tile.new.self.rest.items (subst (All (All P)) c.in-Some-next.ensures.items c.loop-tile.invariant.stand))
+
+pub loop-tile-preserved : goal.loop-tile-preserved
+loop-tile-preserved g c =
+    let P = IsPassOf c.args.edges.now in
+    let i = c.loop-tile.invariant in
+    let xs = c.in-Some.ensures.steps.0 in
+    let ps = c.in-Some-next.ensures.items in
+    let end = c.new-in-loop-tile.ensures.end ∙ (λ j. shared_end_value ((c.new.ensures.0 ∙ c.number-number.ensures) j) ((c.new.ensures.1 ∙ c.into_vec.ensures) j)) in
+    let longx = ap (λ l. length l) xs in
+    let longp = ap (λ l. length l) ps in
+    let same = i.count in
+    record {
+      done = sent_more c.loop-tile.workers.items c.push.new.self.items (workers_of c.args.tiles.items c.args.passes.items) c.loop-tile.tile-iterator.rest.items c.next.new.self.rest.items c.loop-tile.passes.rest.items c.next-in-loop-tile.new.self.rest.items c.in-Some.tile c.in-Some-next.own c.new-in-loop-tile.result xs ps
+          (λ j. record { tile = c.new-in-loop-tile.ensures.tile j; end = end j }) c.in_ok-push.ensures.items i.done;
+      count = omega (arith, longx, longp, same);
+      stand = all-tail (All P) c.in-Some-next.own c.next-in-loop-tile.new.self.rest.items (subst (All (All P)) ps i.stand);
+    }

@@ -1,0 +1,96 @@
+//! Workers sent out with their ends of shared edges, and taken apart when they are home.
+ghost use Rattle.std.specs.Prelude.{◌≡◌, ℕ, All, IfOk, length};
+ghost use Rattle.window_sites.specs.Window.{WindowValue};
+ghost use Rattle.border_cache.specs.Copies.{IsEndOf};
+ghost use Rattle.edge_lock.specs.SharedEnds.{IsPassOf, registers_at, end_at, lists_at, edge_and_end};
+ghost use Rattle.tile_core.specs.Turns.{AgreeOnEdges};
+ghost use Rattle.tile_core.specs.Underway.{IsSome};
+ghost use Rattle.serial_order.specs.Boards.{HasStopped};
+ghost use Rattle.tile_threads.specs.Passes.{let_go};
+ghost use Rattle.tile_threads.specs.Whole.{CameHome, HaveComeHome, IsDone, tiles_in, workers_of};
+
+use crate::tile_passes::TilePasses;
+use crate::worker::Worker;
+use cell_grid::Behave;
+use edge_lock::{Board, Edge, SharedEnd};
+use feast_base::NoMemory;
+use std::alloc::Global;
+use tile_core::{Phase, Tile};
+use tile_map::Map;
+
+/// A worker for each tile, with the tile's passes.
+pub(crate) fn send_out<'a, B: Behave + Drop>(
+    alloc: Global,
+    edges: &'a [Edge],
+    tiles: Vec<Tile<B>>,
+    passes: Vec<TilePasses>,
+) -> Result<Vec<Worker<B, SharedEnd<'a>>>, NoMemory>
+    requires count { length tiles.items ≡ length passes.items }
+    requires passes { All (All (IsPassOf edges.now)) passes.items }
+    ensures { IfOk result (λ v. v.items ≡ workers_of tiles.items passes.items) }
+{
+    let mut workers = Vec::with_capacity(alloc, tiles.len())?;
+    let mut passes = passes.into_iter();
+    for tile in tiles {
+        let Some(own) = passes.next() else {
+            unreachable!()
+        };
+        let number = tile.number();
+        workers.push(Worker::new(tile, SharedEnd::new(edges, own.into_vec(), number)))?;
+    }
+    Ok(workers)
+}
+
+/// Gives back the edges that a tile which makes no further step still has: those of the last attempt
+/// of a worn one.
+fn give_rest<B: Behave, D: Board>(map: &Map, tile: &Tile<B>, end: &mut D)
+    requires map { tile.now.0.cache.map ≡ map.now }
+    requires board { IsEndOf map.now tile.now.0.number (D.tile end.old) (D.registers end.old) (D.end_of end.old) }
+    requires stopped { HasStopped tile.now.0 }
+    requires underway { (meaning : WindowValue → ℕ → WindowValue) × IsSome map.now meaning tile.now.0 (D.lists end.old) }
+    ensures lists { AgreeOnEdges map.now tile.now.0.number (D.lists end.new) (λ e. let_go (D.lists end.old e)) }
+    ensures moved { D.moved end.old end.new }
+{
+    let Some((x, y)) = tile.in_hand() else {
+        return;
+    };
+    let needs = map.needs(tile.number(), x, y);
+    for i in 0..needs.len() {
+        end.give_back(needs.edge(i));
+    }
+}
+
+/// The passes of a worker that has stopped, and its tile.
+fn take_apart<'a, B: Behave>(
+    map: &Map,
+    worker: Worker<B, SharedEnd<'a>>,
+) -> (Tile<B>, TilePasses)
+    requires { IsDone (λ s. s.tile) (λ s. registers_at s.passes) (λ s. end_at s.passes) (λ s. lists_at s.passes) map.now worker }
+    ensures tile { result.0 ≡ worker.entry.tile }
+    ensures home { CameHome map.now worker.entry.tile.0.number worker.entry.end.passes result.1 }
+{
+    let (tile, mut end) = worker.into_parts();
+    give_rest(map, &tile, &mut end);
+    (tile, TilePasses::of(end.into_passes()))
+}
+
+/// The tiles of workers that have stopped, and their passes. What a worn tile still had is given
+/// back.
+pub(crate) fn come_home<'a, B: Behave + Drop>(
+    alloc: Global,
+    map: &Map,
+    workers: Vec<Worker<B, SharedEnd<'a>>>,
+) -> Result<(Vec<Tile<B>>, Vec<TilePasses>), NoMemory>
+    requires { All (IsDone (λ s. s.tile) (λ s. registers_at s.passes) (λ s. end_at s.passes) (λ s. lists_at s.passes) map.now) workers.items }
+    ensures tiles { IfOk result (λ r. r.0.items ≡ tiles_in workers.entry.items) }
+    ensures passes { IfOk result (λ r. HaveComeHome map.now workers.entry.items r.1.items) }
+{
+    let mut tiles = Vec::with_capacity(alloc, workers.len())?;
+    let mut passes = Vec::with_capacity(alloc, workers.len())?;
+    for worker in workers {
+        let (tile, own) = take_apart(map, worker);
+        tiles.push(tile)?;
+        passes.push(own)?;
+    }
+    Ok((tiles, passes))
+}

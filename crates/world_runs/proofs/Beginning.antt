@@ -1,0 +1,123 @@
+-- Fresh tiles, one after another, and all of them as the beginning of a run.
+use Rattle.std.proofs.Common.{◌≡◌, ◌⊎◌, ℕ, ◌+◌, ◌*◌, ◌<◌, ◌≤◌, ◌++◌, List, [], ◌∷◌, All, Some, true, length, length-append, map, get_or, refl, sym, ap, subst, ◌∙◌, arith, inl, inr}
+use Rattle.std.specs.Prelude.{slice_get}
+use Rattle.std.proofs.Math.ListN.{get_or-append}
+use Rattle.std.proofs.Math.Seq.{get_or-append_seam}
+use Rattle.std.proofs.lemmas.Bool.{cases_lt}
+use Rattle.std.proofs.lemmas.List.{append-nil, get_or-map, length-map}
+use Rattle.std.proofs.lemmas.List.Elements.{All-get_or}
+use Rattle.std.proofs.lemmas.Option.{slice_get_within, get_or_from_slice_get, slice_get-get_or}
+use Rattle.window_sites.specs.Window.{WindowValue}
+use Rattle.cell_grid.specs.Grid.{GridValue, IsGrid}
+use Rattle.draw_stream.specs.declared.attempt.Attempt.{Attempt}
+use Rattle.draw_stream.specs.Plans.{PlanValue, IsPlan, attempts}
+use Rattle.draw_stream.proofs.Plans.{attempts_few}
+use Rattle.edge_lock.specs.PlainBoard.{PlainBoardValue, untouched_edge}
+use Rattle.border_cache.specs.Copies.{IsGridOf}
+use Rattle.tile_map.specs.Plane.{MapValue, IsMap, is_on, tiles_of}
+use Rattle.tile_map.specs.Edges.{sizes_of}
+use Rattle.tile_core.specs.Underway.{CanAttempt, IsFreshTile}
+use Rattle.tile_core.specs.Values.{TileValue, atoms_of}
+use Rattle.stepped_world.specs.Running.{IsStart}
+use Rattle.world_grid.specs.Worlds.{IsAttempt, IsWorld}
+use Rattle.world_text.specs.Named.{WorldValue}
+use Rattle.world_runs.specs.Fresh.{AllCanAttempt, AreFresh, setting_of}
+
+-- each of some tiles has only been made
+abbrev pub EachFresh : {B : Type 0} → MapValue → GridValue → PlanValue → List (TileValue × B) → Type 0
+EachFresh {B} m start plan tiles = (t : ℕ) (x : TileValue × B) → slice_get tiles t ≡ Some x → IsFreshTile m t (atoms_of start) (attempts plan t) x.0
+
+length_snoc : {A : Type 0} (xs : List A) (x : A) → length (xs ++ x ∷ []) ≡ length xs + 1
+length_snoc [] x = refl
+length_snoc (y ∷ xs) x = let e = length_snoc xs x in omega (arith, e)
+
+pub fresh_more : {B : Type 0} (m : MapValue) (start : GridValue) (plan : PlanValue) (tiles : List (TileValue × B)) (x : TileValue × B) → EachFresh m start plan tiles → IsFreshTile m (length tiles) (atoms_of start) (attempts plan (length tiles)) x.0 → EachFresh m start plan (tiles ++ x ∷ [])
+fresh_more {B} m start plan tiles x each new t y at = elim (cases_lt t (length tiles)) [
+  | inl inside ↦
+      let same : y ≡ get_or tiles t x = sym (get_or_from_slice_get (tiles ++ x ∷ []) t y x at) ∙ get_or-append tiles (x ∷ []) x t inside in
+      subst (λ (z : TileValue × B). IsFreshTile m t (atoms_of start) (attempts plan t) z.0) (sym same) (each t (get_or tiles t x) (slice_get-get_or tiles t x inside))
+  | inr past ↦
+      let within = slice_get_within (tiles ++ x ∷ []) t y at in
+      let here : length tiles ≡ t = omega (arith, within, past, length_snoc tiles x) in
+      let same : y ≡ x = sym (get_or_from_slice_get (tiles ++ x ∷ []) t y x at) ∙ (ap (λ n. get_or (tiles ++ x ∷ []) n x) (sym here) ∙ get_or-append_seam tiles x [] x) in
+      subst (λ (z : TileValue × B). IsFreshTile m t (atoms_of start) (attempts plan t) z.0) (sym same) (subst (λ n. IsFreshTile m n (atoms_of start) (attempts plan n) x.0) here new)
+]
+
+-- what acts in some tiles, and those that are left
+pub acts_more : {B : Type 0} (tiles : List (TileValue × B)) (x : TileValue × B) (b : B) (rest before behaves : List B) → x.1 ≡ b → before ≡ b ∷ rest → map (λ (y : TileValue × B). y.1) tiles ++ before ≡ behaves → map (λ (y : TileValue × B). y.1) (tiles ++ x ∷ []) ++ rest ≡ behaves
+acts_more {B} tiles x b rest before behaves is first all = moved tiles ∙ (ap (λ zs. map (λ (y : TileValue × B). y.1) tiles ++ zs) (ap (λ z. z ∷ rest) is ∙ sym first) ∙ all)
+  where
+    moved : (ts : List (TileValue × B)) → map (λ (y : TileValue × B). y.1) (ts ++ x ∷ []) ++ rest ≡ map (λ (y : TileValue × B). y.1) ts ++ x.1 ∷ rest
+    moved [] = refl
+    moved (t ∷ ts) = ap (λ zs. t.1 ∷ zs) (moved ts)
+
+-- fewer tiles are made than there are to act, where one of those is left
+pub made_fewer : {B : Type 0} (tiles : List (TileValue × B)) (b : B) (rest before behaves : List B) → before ≡ b ∷ rest → map (λ (y : TileValue × B). y.1) tiles ++ before ≡ behaves → length tiles < length behaves
+made_fewer {B} tiles b rest before behaves first all =
+    let whole : length tiles + length before ≡ length behaves = ap (λ n. n + length before) (sym (length-map tiles (λ (y : TileValue × B). y.1))) ∙ (sym (length-append (map (λ (y : TileValue × B). y.1) tiles) before) ∙ ap length all) in
+    let some : length before ≡ length rest + 1 = ap length first ∙ omega arith in
+    omega (arith, whole, some)
+
+pub none_left : {A : Type 0} (ys : List A) → length ys ≡ 0 → ys ≡ []
+none_left [] e = refl
+none_left (y ∷ ys) e = absurd (omega (arith, e))
+
+-- all are made where none is left
+pub acts_all : {B : Type 0} (tiles : List (TileValue × B)) (rest behaves : List B) → rest ≡ [] → map (λ (y : TileValue × B). y.1) tiles ++ rest ≡ behaves → map (λ (y : TileValue × B). y.1) tiles ≡ behaves
+acts_all {B} tiles rest behaves none all = sym (append-nil (map (λ (y : TileValue × B). y.1) tiles)) ∙ (ap (λ zs. map (λ (y : TileValue × B). y.1) tiles ++ zs) (sym none) ∙ all)
+
+pub few_tiles : (m : MapValue) → IsMap m → tiles_of m ≤ 64
+few_tiles m k = go m.tx m.ty k.sizes.tx_high k.sizes.ty_high
+  where
+    go : (a b : ℕ) → a ≤ 8 → b ≤ 8 → a * b ≤ 64
+    go a b p q = grind arith
+
+-- the attempts of a tile of a world are ones that it can make
+can_attempt : (w : WorldValue) → IsWorld w → IsPlan w.plan → (t : ℕ) → t < tiles_of w.plane → (list : List Attempt) → attempts w.plan t ≡ list → CanAttempt w.plane t list
+can_attempt w h p t inside list is = record {
+  inside = inside;
+  few = subst (λ xs. length xs ≤ 1000000) is (attempts_few w.plan t p (omega (arith, inside, h.lists)));
+  centres = λ n a at. (subst (IsAttempt w.plane t) (get_or_from_slice_get list n a a at) (All-get_or (IsAttempt w.plane t) list n a (slice_get_within list n a at) each)).centre;
+  on = on list each;
+}
+  where
+    each : All (IsAttempt w.plane t) list
+    each = subst (All (IsAttempt w.plane t)) is (h.attempts t)
+
+    on : (xs : List Attempt) → All (IsAttempt w.plane t) xs → (xs ≡ []) ⊎ (is_on w.plane t ≡ true)
+    on [] k = inl refl
+    on (x ∷ xs) k = inr (All-get_or (IsAttempt w.plane t) (x ∷ xs) 0 x (omega arith) k).on
+
+pub all_can : (w : WorldValue) → IsWorld w → IsPlan w.plan → AllCanAttempt w.plane w.plan
+all_can w h p t inside = can_attempt w h p t inside (attempts w.plan t) refl
+
+-- fresh tiles on a fresh board, all with one meaning, begin the run of a world
+pub begins : {B : Type 0} (after : B → WindowValue → ℕ → WindowValue) (w : WorldValue) (meaning : WindowValue → ℕ → WindowValue) (behaves : List B) (tiles : List (TileValue × B)) (board : PlainBoardValue) (start : GridValue) → IsWorld w → IsPlan w.plan → IsGrid start → IsGridOf w.plane start → start ≡ (setting_of w meaning).start
+    → AreFresh w.plane start w.plan behaves tiles → length behaves ≡ tiles_of w.plane → All (λ b. after b ≡ meaning) behaves → board.edges ≡ map untouched_edge (sizes_of w.plane) → IsStart after w.plane (setting_of w meaning) tiles board
+begins {B} after w meaning behaves tiles board start h p grid fits is f count one edges = record {
+  grid = subst IsGrid is grid;
+  fits = subst (IsGridOf w.plane) is fits;
+  plan = p;
+  lists = h.lists;
+  count = many ∙ count;
+  fresh = λ t x at. subst (λ (g : GridValue). IsFreshTile w.plane t (atoms_of g) (attempts w.plan t) x.0) is (f.fresh t x at);
+  meanings = means;
+  edges = edges;
+}
+  where
+    many : length tiles ≡ length behaves
+    many = sym (length-map tiles (λ (x : TileValue × B). x.1)) ∙ ap length f.acts
+
+    means : (t : ℕ) (x : TileValue × B) → slice_get tiles t ≡ Some x → after x.1 ≡ meaning
+    means t x at =
+        let inside = slice_get_within tiles t x at in
+        let same : get_or behaves t x.1 ≡ x.1 = ap (λ (bs : List B). get_or bs t x.1) (sym f.acts) ∙ (get_or-map (λ (y : TileValue × B). y.1) tiles t x x.1 inside ∙ ap (λ (y : TileValue × B). y.1) (get_or_from_slice_get tiles t x x at)) in
+        subst (λ b. after b ≡ meaning) same (All-get_or (λ b. after b ≡ meaning) behaves t x.1 (omega (arith, inside, many)) one)
+
+-- the same on a map that is the world's
+pub begins_on : {B : Type 0} (after : B → WindowValue → ℕ → WindowValue) (w : WorldValue) (m : MapValue) (meaning : WindowValue → ℕ → WindowValue) (behaves : List B) (tiles : List (TileValue × B)) (board : PlainBoardValue) (start : GridValue) → m ≡ w.plane → IsWorld w → IsPlan w.plan → IsGrid start → IsGridOf w.plane start → start ≡ (setting_of w meaning).start
+    → AreFresh m start w.plan behaves tiles → length behaves ≡ tiles_of w.plane → All (λ b. after b ≡ meaning) behaves → board.edges ≡ map untouched_edge (sizes_of m) → IsStart after m (setting_of w meaning) tiles board
+begins_on after w m meaning behaves tiles board start same h p grid fits is f count one edges =
+    let fresh = subst (λ (n : MapValue). AreFresh n start w.plan behaves tiles) same f in
+    let here = subst (λ (n : MapValue). board.edges ≡ map untouched_edge (sizes_of n)) same edges in
+    subst (λ (n : MapValue). IsStart after n (setting_of w meaning) tiles board) (sym same) (begins after w meaning behaves tiles board start h p grid fits is fresh count one here)

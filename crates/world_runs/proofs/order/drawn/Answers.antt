@@ -1,0 +1,25 @@
+use Rattle.std.proofs.Common.{◌≡◌, ◌++◌, ◌*◌, ◌%◌, ◌∷◌, [], List, ap, sym, ◌∙◌, arith}
+use Rattle.std.specs.Prelude.{◌^◌}
+use Rattle.std.proofs.Math.Nat.{mod-eq_of_lt}
+use Rattle.draw_stream.specs.declared.attempt.Attempt.{Attempt}
+use Rattle.draw_stream.specs.Words.{tile_state, tile_word}
+use Rattle.world_runs.proofs.Drawing.{drawn_none, drawn_two}
+use Rattle.world_runs.proofs.order.drawn.Goals as goal
+
+pub loop-pair-init : goal.loop-pair-init
+loop-pair-init c = record {
+  stream = c.new-stream.ensures ∙ ap (λ s. tile_state s 0) (ap (λ n. n % 2 ^ 64) (omega arith) ∙ mod-eq_of_lt c.ranges.seed.fits);
+  order = c.new-order.ensures.items ∙ sym (drawn_none c.args.seed c.args.tiles);
+}
+
+pub loop-pair-preserved : goal.loop-pair-preserved
+loop-pair-preserved c =
+    let p = c.attempt-words.ensures.place c.args.seed c.loop-pair.pair c.loop-pair.invariant.stream in
+    let sites = c.from-sites.ensures in
+    record {
+      stream = p.1;
+      order = c.in_ok-push_two.ensures ∙ (ap (λ xs. xs ++ c.attempt-words.result.centre ∷ c.attempt-words.result.seed % c.from-sites.result ∷ []) c.loop-pair.invariant.order
+          ∙ sym (drawn_two c.args.seed c.args.tiles c.loop-pair.pair c.attempt-words.result.centre (c.attempt-words.result.seed % c.from-sites.result)
+          (ap (λ (a : Attempt). a.centre) p.0 ∙ ap (λ n. tile_word c.args.seed (2 * c.loop-pair.pair) % n) sites)
+          (ap (λ n. c.attempt-words.result.seed % n) sites ∙ ap (λ (a : Attempt). a.seed % c.args.tiles) p.0)));
+    }

@@ -1,0 +1,75 @@
+//! The order of a stepped run.
+ghost use Rattle.std.specs.Prelude.{◌≡◌, ◌+◌, ◌*◌, ◌<◌, ◌≤◌, ◌++◌, ◌∷◌, [], ℕ, List, All, IfOk, OnOk, length, take, sum_by};
+ghost use Rattle.draw_stream.specs.Attempts.{attempt_at};
+ghost use Rattle.draw_stream.specs.Words.{tile_state};
+ghost use Rattle.tile_map.specs.Plane.{tiles_of};
+ghost use Rattle.world_text.specs.Named.{WorldValue};
+ghost use Rattle.world_text.specs.Printed.{IsNamed};
+ghost use Rattle.world_text.specs.Values.{world_value, order_value};
+ghost use Rattle.world_runs.specs.Orders.{IsOrder, attempts_in, drawn_order, order_in, turns_of};
+
+use draw_stream::{AttemptPlan, TileStream};
+use feast_base::NoMemory;
+use std::alloc::Global;
+use world_text::{Order, World};
+
+/// The order that a world's lines say names tiles of its plane. The call does nothing: its contract
+/// is the law.
+pub fn listed_order()
+    ensures { (names : List (List ℕ)) (w : WorldValue) → IsNamed names w → IsOrder w.plane w.order }
+{}
+
+/// How many attempts the tiles of a plan have together, at most 1,000,000.
+fn attempts_of(plan: &AttemptPlan, tiles: u32) -> u32
+    requires { tiles ≡ length plan.now.lists }
+    ensures value { result ≡ attempts_in plan.now }
+    ensures most { result ≤ 1000000 }
+{
+    let mut sum = 0u32;
+    for tile in 0..tiles {
+        sum += plan.count(tile) as u32;
+    }
+    sum
+}
+
+/// Two more tiles of an order.
+fn push_two(order: &mut Vec<u32>, one: u32, other: u32) -> Result<(), NoMemory>
+    ensures { OnOk result (order.new.items ≡ order.old.items ++ one ∷ other ∷ []) }
+{
+    order.push(one)?;
+    order.push(other)?;
+    Ok(())
+}
+
+/// The tiles that a seed draws: each word of its generator names one, by what is left of it when it
+/// is divided by the number of tiles. An attempt of a stream takes two words.
+fn drawn(alloc: Global, seed: u64, tiles: u32, pairs: u32) -> Result<Vec<u32>, NoMemory>
+    requires some { 1 ≤ tiles }
+    requires most { tiles ≤ 64 }
+    ensures { IfOk result (λ v. v.items ≡ drawn_order seed tiles (2 * pairs)) }
+{
+    let sites = u64::from(tiles);
+    let mut stream = TileStream::new(seed, 0);
+    let mut order = Vec::new(alloc);
+    for pair in 0..pairs {
+        let words = stream.attempt(sites);
+        push_two(&mut order, words.centre, (words.seed % sites) as u32)?;
+    }
+    Ok(order)
+}
+
+/// The order of a world's stepped run, a tile for each step: the tiles that are written out, or 16
+/// for each attempt of all tiles, drawn from a seed. `NoMemory` where there is none for the list.
+pub fn order_of(alloc: Global, world: &World) -> Result<Vec<u32>, NoMemory>
+    requires tiles { (1 ≤ tiles_of (world_value world.now).plane) × (tiles_of (world_value world.now).plane ≤ 64) }
+    requires lists { length world.now.plan.lists ≡ tiles_of (world_value world.now).plane }
+    requires order { IsOrder (world_value world.now).plane (order_value world.now.order) }
+    ensures value { IfOk result (λ v. v.items ≡ order_in (world_value world.now)) }
+    ensures tiles { IfOk result (λ v. All (λ t. t < tiles_of (world_value world.now).plane) v.items) }
+{
+    let tiles = world.tx * world.ty;
+    match &world.order {
+        Order::List(turns) => Ok(Vec::from_slice(alloc, turns.as_slice())?),
+        Order::Seed(seed) => drawn(alloc, *seed, tiles, 8 * attempts_of(&world.plan, tiles)),
+    }
+}

@@ -1,0 +1,55 @@
+//! The stepped run of a world.
+ghost use Rattle.std.specs.Prelude.{◌≡◌, ◌<◌, ℕ, All, IfOk, length};
+ghost use Rattle.window_sites.specs.Window.{WindowValue};
+ghost use Rattle.draw_stream.specs.Plans.{IsPlan};
+ghost use Rattle.stepped_world.specs.Ends.{IsOutcome};
+ghost use Rattle.tile_map.specs.Plane.{tiles_of};
+ghost use Rattle.world_grid.specs.Worlds.{IsWorld};
+ghost use Rattle.world_text.specs.Values.{world_value, order_value};
+ghost use Rattle.world_runs.specs.Fresh.{setting_of};
+ghost use Rattle.world_runs.specs.Orders.{IsOrder, order_in};
+
+use crate::order::order_of;
+use crate::tiles::fresh_tiles;
+use cell_grid::Behave;
+use draw_stream::AttemptPlan;
+use edge_lock::PlainBoard;
+use feast_base::NoMemory;
+use serial_order::Outcome;
+use std::alloc::Global;
+use stepped_world::run_settled;
+use world_grid::{map_of, start};
+use world_text::World;
+
+/// What holds of the attempts of a plan.
+fn plan_fits(plan: &AttemptPlan)
+    requires { 0 < length plan.now.lists }
+    ensures { IsPlan plan.now }
+{
+    let _count = plan.count(0);
+}
+
+/// The stepped run of a world on one thread, settled: its grid and its journal are those of the
+/// stepped machine, and all its events stand in one serial order, that of the journal. There is one
+/// of those that act for each tile, and all have one meaning. `NoMemory` where the tiles, the board,
+/// the order or the grid can't be made.
+pub fn stepped<B: Behave + Drop>(
+    alloc: Global,
+    world: &World,
+    behaves: Vec<B>,
+) -> Result<Outcome, NoMemory>
+    requires world { IsWorld (world_value world.now) }
+    requires order { IsOrder (world_value world.now).plane (order_value world.now.order) }
+    requires one { length behaves.items ≡ tiles_of (world_value world.now).plane }
+    requires meaning { (meaning : WindowValue → ℕ → WindowValue) × All (λ b. B.after b ≡ meaning) behaves.items }
+    ensures { IfOk result (λ o. (meaning : WindowValue → ℕ → WindowValue) → All (λ b. B.after b ≡ meaning) behaves.items → IsOutcome (world_value world.now).plane (setting_of (world_value world.now) meaning) (order_in (world_value world.now)) o) }
+{
+    let map = map_of(alloc, world)?;
+    map.laws();
+    plan_fits(&world.plan);
+    let grid = start(alloc, world)?;
+    let tiles = fresh_tiles(alloc, &map, &grid, &world.plan, behaves)?;
+    let order = order_of(alloc, world)?;
+    let board = PlainBoard::new(alloc, &map)?;
+    run_settled(alloc, &map, tiles, board, order.into_iter())
+}
