@@ -1,5 +1,5 @@
 -- What a stepped run comes to is what the stepped machine of its world leaves, and owes what a run does.
-use Rattle.std.proofs.Common.{ℕ, ◌≡◌, List, All, Result, Ok, Err, ap, length, subst, sym, ◌∙◌}
+use Rattle.std.proofs.Common.{ℕ, ◌≡◌, ◌≤◌, ◌*◌, List, All, Result, Ok, Err, ap, length, subst, sym, ◌∙◌, arith}
 use Rattle.std.specs.Result.{IfOk}
 use Rattle.cell_grid.specs.Grid.{GridValue}
 use Rattle.cell_grid.specs.Records.{replay}
@@ -12,6 +12,7 @@ use Rattle.feast_run.specs.Stepped.{IsOutcomeOf, IsSteppedRun, machine_of, stepp
 use Rattle.grid_print.specs.Report.{AreNamed}
 use Rattle.serial_order.specs.declared.outcome.Outcome.{Outcome}
 use Rattle.stepped_world.specs.Ends.{IsOutcome}
+use Rattle.tile_map.specs.Plane.{MapValue, IsMap, tiles_of}
 use Rattle.ulam_meaning.specs.Events.{after}
 use Rattle.window_sites.specs.Window.{WindowValue}
 use Rattle.world_grid.proofs.KnownAtoms.{replay_known, start_known}
@@ -57,3 +58,10 @@ pub outcome_by : {B E : Type 0} (acts : B → WindowValue → ℕ → WindowValu
     IfOk r (λ (o : Outcome). (means : WindowValue → ℕ → WindowValue) → All (λ b. acts b ≡ means) behaves → IsOutcome w.plane (setting_of w means) (order_in w) o) → IfOk r (λ (o : Outcome). IsOutcome w.plane (setting_of w meaning) (order_in w) o)
 outcome_by acts w meaning behaves (Ok o) all h = h meaning all
 outcome_by acts w meaning behaves (Err e) all h = tt
+
+-- a world has few tiles
+pub tiles_few : (m : MapValue) → IsMap m → tiles_of m ≤ 64
+tiles_few m k = go m.tx m.ty k.sizes.tx_high k.sizes.ty_high
+  where
+    go : (a b : ℕ) → a ≤ 8 → b ≤ 8 → a * b ≤ 64
+    go a b p q = grind arith

@@ -9,7 +9,9 @@ ghost use Rattle.feast_run.specs.Outputs.{IsWritable, output_text};
 ghost use Rattle.feast_run.specs.Stepped.{IsOutcomeOf, IsSteppedRun, stepped_report};
 ghost use Rattle.feast_run.specs.Tellings.{Moves, Tells};
 ghost use Rattle.feast_run.specs.Values.{IsReady, ready_value};
+ghost use Rattle.tile_map.specs.Plane.{tiles_of};
 ghost use Rattle.ulam_meaning.specs.Events.{after};
+ghost use Rattle.world_text.specs.Values.{world_value};
 
 use crate::output::{Left, Output};
 use crate::stop::Stop;
@@ -18,7 +20,16 @@ use element_set::{Actor, ElementSet};
 use feast_base::{NoMemory, Shelf};
 use serial_order::Outcome;
 use std::alloc::Global;
-use world_runs::stepped;
+use world_runs::{listed_order, stepped};
+use world_text::World;
+
+/// How many tiles a world has.
+fn tiles_in(world: &World) -> u32
+    requires { tiles_of (world_value world.now).plane ≤ 64 }
+    ensures { result ≡ tiles_of (world_value world.now).plane }
+{
+    world.tx * world.ty
+}
 
 /// What acts as the elements of a set do, once for each tile.
 fn actors(alloc: Global, set: &ElementSet, tiles: u32) -> Result<Vec<Actor<'_>>, NoMemory>
@@ -27,7 +38,8 @@ fn actors(alloc: Global, set: &ElementSet, tiles: u32) -> Result<Vec<Actor<'_>>,
 {
     let mut actors = Vec::new(alloc);
     for _tile in 0..tiles {
-        actors.push(set.actor(alloc)?)?;
+        let actor = set.actor(alloc)?;
+        actors.push(actor)?;
     }
     Ok(actors)
 }
@@ -37,8 +49,8 @@ fn outcome(alloc: Global, ready: &Ready) -> Result<Outcome, NoMemory>
     requires { IsReady ready.now }
     ensures { IfOk result (IsOutcomeOf (ready_value ready.now)) }
 {
-    let tiles = ready.world.tx * ready.world.ty;
-    let actors = actors(alloc, &ready.set, tiles)?;
+    listed_order();
+    let actors = actors(alloc, &ready.set, tiles_in(&ready.world))?;
     stepped(alloc, &ready.world, actors)
 }
 

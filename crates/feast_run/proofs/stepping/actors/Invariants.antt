@@ -8,5 +8,5 @@ use Rattle.feast_run.proofs.stepping.actors.Given as goal
 abbrev pub invariant-loop-tile : goal.invariant-loop-tile
 invariant-loop-tile l = record {
   many : length l.actors.items ≡ l._tile;
-  acts : All (λ (a : Actor). after (program_of (acting_set a)) ≡ after (program_of (set_value l.set.now))) l.actors.items;
+  acts : All (λ (a : Actor). after (program_of (acting_set a)) ≡ after (program_of (set_value l.set))) l.actors.items;
 }
