@@ -19,6 +19,7 @@ use Rattle.tile_map.specs.Edges.{sizes_of}
 use Rattle.tile_core.specs.Underway.{CanAttempt, IsFreshTile}
 use Rattle.tile_core.specs.Values.{TileValue, atoms_of}
 use Rattle.stepped_world.specs.Running.{IsStart}
+use Rattle.tile_threads.specs.Whole.{AreFresh as AreReady}
 use Rattle.world_grid.specs.Worlds.{IsAttempt, IsWorld}
 use Rattle.world_text.specs.Named.{WorldValue}
 use Rattle.world_runs.specs.Fresh.{AllCanAttempt, AreFresh, setting_of}
@@ -121,3 +122,11 @@ begins_on after w m meaning behaves tiles board start same h p grid fits is f co
     let fresh = subst (λ (n : MapValue). AreFresh n start w.plan behaves tiles) same f in
     let here = subst (λ (n : MapValue). board.edges ≡ map untouched_edge (sizes_of n)) same edges in
     subst (λ (n : MapValue). IsStart after n (setting_of w meaning) tiles board) (sym same) (begins after w meaning behaves tiles board start h p grid fits is fresh count one here)
+
+-- fresh tiles, all with one meaning, begin the run of a world, whatever they run on
+pub all_ready : {B : Type 0} (after : B → WindowValue → ℕ → WindowValue) (w : WorldValue) (m : MapValue) (meaning : WindowValue → ℕ → WindowValue) (behaves : List B) (tiles : List (TileValue × B)) (start : GridValue) → m ≡ w.plane → IsWorld w → IsPlan w.plan → IsGrid start → IsGridOf w.plane start → start ≡ (setting_of w meaning).start
+    → AreFresh m start w.plan behaves tiles → length behaves ≡ tiles_of w.plane → All (λ b. after b ≡ meaning) behaves → AreReady after m meaning (setting_of w meaning).start w.plan tiles
+all_ready {B} after w m meaning behaves tiles start same h p grid fits is f count one =
+    let plain : PlainBoardValue = record { acting = 0; edges = map untouched_edge (sizes_of m) } in
+    let k = begins_on after w m meaning behaves tiles plain start same h p grid fits is f count one refl in
+    record { grid = k.grid; fits = k.fits; plan_is = k.plan; lists = k.lists; count = k.count; fresh = k.fresh; meanings = k.meanings }

@@ -1,7 +1,6 @@
 //! The stepped run of a world.
-ghost use Rattle.std.specs.Prelude.{◌≡◌, ◌<◌, ℕ, All, IfOk, length};
+ghost use Rattle.std.specs.Prelude.{◌≡◌, ℕ, All, IfOk, length};
 ghost use Rattle.window_sites.specs.Window.{WindowValue};
-ghost use Rattle.draw_stream.specs.Plans.{IsPlan};
 ghost use Rattle.stepped_world.specs.Ends.{IsOutcome};
 ghost use Rattle.tile_map.specs.Plane.{tiles_of};
 ghost use Rattle.world_grid.specs.Worlds.{IsWorld};
@@ -10,9 +9,9 @@ ghost use Rattle.world_runs.specs.Fresh.{setting_of};
 ghost use Rattle.world_runs.specs.Orders.{IsOrder, order_in};
 
 use crate::order::order_of;
+use crate::plans::plan_fits;
 use crate::tiles::fresh_tiles;
 use cell_grid::Behave;
-use draw_stream::AttemptPlan;
 use edge_lock::PlainBoard;
 use feast_base::NoMemory;
 use serial_order::Outcome;
@@ -20,14 +19,6 @@ use std::alloc::Global;
 use stepped_world::run_settled;
 use world_grid::{map_of, start};
 use world_text::World;
-
-/// What holds of the attempts of a plan.
-fn plan_fits(plan: &AttemptPlan)
-    requires { 0 < length plan.now.lists }
-    ensures { IsPlan plan.now }
-{
-    let _count = plan.count(0);
-}
 
 /// The stepped run of a world on one thread, settled: its grid and its journal are those of the
 /// stepped machine, and all its events stand in one serial order, that of the journal. There is one

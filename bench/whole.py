@@ -1,0 +1,65 @@
+"""How long a whole run takes: `feast run` beside a plain program, over one world.
+
+    python3 bench/whole.py            seconds, the least of seven runs, and their ratio
+
+See README.md beside this file.
+"""
+
+import pathlib
+import random
+import subprocess
+import sys
+import tempfile
+import time
+
+HERE = pathlib.Path(__file__).resolve().parent
+CRATE = HERE.parent / "crates/feast"
+PROGRAM = CRATE / "out/feast"
+SIDE = 64
+ATTEMPTS = 1_000_000
+ELEMENTS = """element Wander { EventWindow ew; Random random; Void behave() {
+  Unsigned i = random.create(4) + 1; if (ew.isEmpty(i)) ew.swap(0, i); } }
+element Stone { Void behave() { } }
+"""
+
+
+def world():
+    """A world of one tile: one site in eight has a Wander, one in eight a Stone."""
+    draw = random.Random(5)
+    lines = ["feast 1", "tiles 1 1", f"size {SIDE} {SIDE}", "seed 7", f"attempts {ATTEMPTS}"]
+    for y in range(SIDE):
+        for x in range(SIDE):
+            kind = draw.randrange(8)
+            if kind < 2:
+                lines.append(f"atom {x} {y} {('Wander', 'Stone')[kind]}")
+    return "\n".join(lines) + "\n"
+
+
+def timed(words):
+    """Seconds of one run."""
+    begin = time.perf_counter()
+    subprocess.run(words, stdout=subprocess.DEVNULL, check=True)
+    return time.perf_counter() - begin
+
+
+def main():
+    if not PROGRAM.exists():
+        subprocess.run(["rt", "run"], cwd=CRATE, stdin=subprocess.DEVNULL, capture_output=True)
+    with tempfile.TemporaryDirectory() as name:
+        folder = pathlib.Path(name)
+        plain = folder / "flat"
+        subprocess.run(["rustc", "-O", "-C", "target-cpu=x86-64-v2", HERE / "flat.rs", "-o", plain], check=True)
+        (folder / "world").write_text(world())
+        (folder / "elements").write_text(ELEMENTS)
+        ours = [PROGRAM, "run", folder / "world", folder / "elements"]
+        theirs = [plain, folder / "world"]
+        reports = [subprocess.run(words, capture_output=True, check=True).stdout for words in (ours, theirs)]
+        if reports[0] != reports[1]:
+            sys.exit("the reports differ")
+        # in turn, so that the ratio stands on a machine that does other work too
+        rounds = [(timed(ours), timed(theirs)) for _ in range(7)]
+    proved, flat = min(r[0] for r in rounds), min(r[1] for r in rounds)
+    print(f"{ATTEMPTS} attempts: proved {proved:.3f} s, plain {flat:.3f} s, ratio {proved / flat:.2f}")
+
+
+main()
