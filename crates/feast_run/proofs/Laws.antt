@@ -1,6 +1,6 @@
 -- Which stages have one outcome apart from loads that fail, which refuse nothing, and which words they may miss.
 use Rattle.std.proofs.Common.{ℕ, ◌≡◌, List, Result, Ok, Err, ap, sym, subst, ◌∙◌, inl, inr}
-use Rattle.feast_run.specs.Outcomes.{Stage, Outcome, passes, refuses, RefusedValue, Goes, and_then, gives, decides, demands, IsSure, IsOne, Accepts, MissesOf}
+use Rattle.feast_run.specs.Outcomes.{Stage, Outcome, passes, refuses, RefusedValue, Goes, and_then, gives, gives_known, decides, demands, IsSure, IsOne, Accepts, MissesOf}
 
 -- the rest of a stage that passed
 pub went : {A B : Type 0} (S : Stage A) (T : A → Stage B) (b : B) → and_then S T (passes b) → Goes S T (passes b)
@@ -38,6 +38,12 @@ pub gives_one : {A : Type 0} (a : A) → IsOne (gives a)
 gives_one a = record {
   sure = record { apart = λ b r p q. absurd q; one_refusal = λ r s p q. absurd p };
   one_value = λ b c p q. p ∙ sym q;
+}
+
+pub known_one : {A : Type 0} (P : Type 0) (a : A) → IsOne (gives_known P a)
+known_one P a = record {
+  sure = record { apart = λ b r p q. absurd q; one_refusal = λ r s p q. absurd p };
+  one_value = λ b c p q. p.1 ∙ sym q.1;
 }
 
 -- what a function decides

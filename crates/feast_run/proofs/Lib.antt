@@ -1,6 +1,7 @@
 pub mod Ended
 pub mod Laws
 pub mod Loads
+pub mod Machines
 pub mod Missing
 pub mod Promised
 pub mod Quiet

@@ -4,7 +4,7 @@ use Rattle.feast_base.specs.Outside.{File, Stock, Told}
 use Rattle.feast_run.proofs.Laws.{then_misses}
 use Rattle.feast_run.specs.Answer.{form_answer}
 use Rattle.feast_run.specs.Ending.{Ends, Leaves, status_of}
-use Rattle.feast_run.specs.Forms.{FormValue, check, code, run, replay}
+use Rattle.feast_run.specs.Forms.{FormValue, check, code, run, step, replay}
 use Rattle.feast_run.specs.Outcomes.{Outcome, MissesOf, passes, refuses, misses}
 use Rattle.feast_run.specs.Promises.{Noted, IsWordOf, file_words}
 use Rattle.feast_run.specs.Stages.{draft_of, load_more, lone_ready, ready, set_of, with_set}
@@ -43,6 +43,7 @@ pub form_misses : (files : Option (List File)) (form : FormValue) → MissesOf (
 form_misses files (check words) = then_misses _ _ _ (set_misses files words) (λ s w h. absurd h)
 form_misses files (code words) = then_misses _ _ _ (set_misses files words) (λ s w h. absurd h)
 form_misses files (run world words) = then_misses _ _ _ (lone_misses files world words) (λ r w h. absurd h)
+form_misses files (step world words) = then_misses _ _ _ (ready_misses files world words) (λ r w h. absurd h)
 form_misses files (replay world journal words) =
     then_misses (IsWordOf (world ∷ journal ∷ words)) _ _ (λ w h. later_word world journal words w (ready_misses files world words w h))
     (λ r. then_misses (IsWordOf (world ∷ journal ∷ words)) _ _ (then_misses (IsWordOf (world ∷ journal ∷ words)) _ _ (λ w h. inr (inl h)) (λ b w h. absurd h)) (λ j w h. absurd h))

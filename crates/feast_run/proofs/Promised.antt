@@ -9,9 +9,9 @@ use Rattle.feast_run.proofs.Runs.{lone_told, ready_told, set_is}
 use Rattle.feast_run.proofs.Sure.{form_accepts, form_sure}
 use Rattle.feast_run.specs.Answer.{form_answer, grid_after, shows}
 use Rattle.feast_run.specs.Ending.{Ends, Leaves, Whole, status_of, status_of_input, text_of}
-use Rattle.feast_run.specs.Forms.{FormValue, check, code, run, replay}
+use Rattle.feast_run.specs.Forms.{FormValue, check, code, run, step, replay}
 use Rattle.feast_run.specs.Outcomes.{Accepts, IsSure, Outcome, RefusedValue, Stage, and_then, passes, refuses, misses}
-use Rattle.feast_run.specs.Promises.{Agrees, Complete, Exactly, Headline, Lines, RanTold, ReplayTold, SetTold, Shows, UsageExactly}
+use Rattle.feast_run.specs.Promises.{Agrees, Complete, Exactly, Headline, Lines, RanTold, ReplayTold, SetTold, SteppedTold, Shows, UsageExactly}
 use Rattle.feast_run.specs.Stages.{set_of}
 use Rattle.feast_run.specs.declared.status.Status.{Status}
 use Rattle.feast_run.specs.declared.status.Status.TheVariants as how
@@ -38,9 +38,16 @@ ran_told files world words text h =
       grid = grid_after r.value (events_of r.value.world.plane r.value.world.plan);
       records = events_of r.value.world.plane r.value.world.plan;
       abandoned = [];
-      run = record { replayed = refl; accounted = owes.accounted; stamped = owes.stamped; excused = owes.excused; alone = λ one. (refl, refl) };
+      run = record { replayed = refl; accounted = owes.accounted; stamped = owes.stamped; excused = owes.excused };
+      alone = λ one. (refl, refl);
       shown = r.rest;
     }
+
+-- a stepped run that showed a text, part by part
+stepped_told : (files : List File) (world : List ℕ) (words : List (List ℕ)) (text : List ℕ) → form_answer (Some files) (step world words) (passes text) → SteppedTold files world words text
+stepped_told files world words text h =
+    let r = went _ _ text h in
+    record { world = r.value; told_world = ready_told files world words r.value r.passed; run = r.rest.0; shown = r.rest.1 }
 
 -- a replay that showed a text, part by part
 replay_told : (files : List File) (world journal : List ℕ) (words : List (List ℕ)) (text : List ℕ) → form_answer (Some files) (replay world journal words) (passes text) → ReplayTold files world journal words text
@@ -63,6 +70,7 @@ shows_of : (files : List File) (form : FormValue) (text : List ℕ) → form_ans
 shows_of files (check words) text h = set_told check_text files words text h
 shows_of files (code words) text h = set_told code_text files words text h
 shows_of files (run world words) text h = ran_told files world words text h
+shows_of files (step world words) text h = stepped_told files world words text h
 shows_of files (replay world journal words) text h = replay_told files world journal words text h
 
 -- no refusal has one of the statuses of a whole call

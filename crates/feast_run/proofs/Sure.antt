@@ -5,13 +5,14 @@ use Rattle.element_set.specs.Sets.{SetValue, check_text, code_text, element_name
 use Rattle.event_journal.specs.Reading.{read_report}
 use Rattle.feast_base.specs.Outside.{File}
 use Rattle.feast_run.proofs.Loads.{files_load}
-use Rattle.feast_run.proofs.Laws.{then_accepts, then_sure, then_one, gives_one, decides_one, demands_one}
+use Rattle.feast_run.proofs.Laws.{then_accepts, then_sure, then_one, gives_one, known_one, decides_one, demands_one}
 use Rattle.feast_run.proofs.Runs.{plane_said}
 use Rattle.feast_run.specs.Answer.{atoms_after, form_answer, run_report}
-use Rattle.feast_run.specs.Forms.{FormValue, check, code, run, replay}
+use Rattle.feast_run.specs.Forms.{FormValue, check, code, run, step, replay}
 use Rattle.feast_run.specs.Outcomes.{passes, refuses, Accepts, IsSure, IsOne, RefusedValue, refused}
 use Rattle.feast_run.specs.Promises.{IsGood, IsGoodWorld, IsSet}
 use Rattle.feast_run.specs.Stages.{ReadyValue, builds, draft_of, element_limit, journal_limit, journal_of, journal_refused, journal_said, load, load_more, lone_draft_of, lone_ready, named_by, ready, set_of, with_set, world_limit, world_refused}
+use Rattle.feast_run.specs.Stepped.{IsSteppedRun, stepped_report}
 use Rattle.feast_run.specs.declared.stop.Input.TheVariants as input
 use Rattle.tile_map.specs.Plane.{tiles_of}
 use Rattle.world_text.specs.Drafts.{DraftValue}
@@ -79,6 +80,7 @@ pub form_sure : (files : List File) (form : FormValue) → IsSure (form_answer (
 form_sure files (check words) = then_sure _ _ (set_one files words) (λ set. (gives_one (check_text set)).sure)
 form_sure files (code words) = then_sure _ _ (set_one files words) (λ set. (gives_one (code_text set)).sure)
 form_sure files (run world words) = then_sure _ _ (lone_one files world words) (λ r. (gives_one (run_report r)).sure)
+form_sure files (step world words) = then_sure _ _ (ready_one files world words) (λ r. (known_one (IsSteppedRun r) (stepped_report r)).sure)
 form_sure files (replay world journal words) =
     then_sure _ _ (ready_one files world words) (λ r. then_sure _ _ (journal_one files journal r.world) (λ j. (gives_one (atoms_after r j.records)).sure))
 
@@ -97,6 +99,10 @@ form_accepts files (run world words) h =
     let one : tiles_of h.1.draft.plane ≡ 1 = ap tiles_of (sym (plane_said (element_names h.0.set) h.1.draft h.0.world h.1.has_names)) ∙ h.2 in
     then_accepts _ _ (lone_one files world words) h.0
     (inr (record { value = h.1.draft; passed = inr (record { value = h.1.draft; passed = h.1.has_draft; rest = (one, refl) }); rest = with_passes files world words h.0 h.1 }))
+    (λ s p. absurd p)
+form_accepts files (step world words) h =
+    then_accepts _ _ (ready_one files world words) h.0
+    (inr (record { value = h.1.draft; passed = h.1.has_draft; rest = with_passes files world words h.0 h.1 }))
     (λ s p. absurd p)
 form_accepts files (replay world journal words) h =
     then_accepts _ _ (ready_one files world words) h.0

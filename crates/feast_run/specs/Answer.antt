@@ -6,9 +6,10 @@ use Rattle.cell_grid.specs.Records.{replay as replay_from}
 use Rattle.element_set.specs.Sets.{SetValue, check_text, code_text, element_names, program_of}
 use Rattle.event_journal.specs.Logs.{LogValue, log_of}
 use Rattle.feast_base.specs.Outside.{File}
-use Rattle.feast_run.specs.Forms.{FormValue, check, code, run, replay}
-use Rattle.feast_run.specs.Outcomes.{Stage, and_then, gives}
+use Rattle.feast_run.specs.Forms.{FormValue, check, code, run, step, replay}
+use Rattle.feast_run.specs.Outcomes.{Stage, and_then, gives, gives_known}
 use Rattle.feast_run.specs.Stages.{JournalValue, ReadyValue, journal_of, lone_ready, ready, set_of}
+use Rattle.feast_run.specs.Stepped.{IsSteppedRun, stepped_report}
 use Rattle.grid_print.specs.Report.{atoms_text, report}
 use Rattle.one_tile.specs.Events.{events_of}
 use Rattle.ulam_meaning.specs.Events.{after}
@@ -37,6 +38,10 @@ shows text set = gives (text set)
 abbrev pub runs : ReadyValue → Stage (List ℕ)
 runs r = gives (run_report r)
 
+-- the report of the stepped machine; that what it left is a run's is known
+abbrev pub steps : ReadyValue → Stage (List ℕ)
+steps r = gives_known (IsSteppedRun r) (stepped_report r)
+
 abbrev pub replays : ReadyValue → JournalValue → Stage (List ℕ)
 replays r journal = gives (atoms_after r journal.records)
 
@@ -48,4 +53,5 @@ abbrev pub form_answer : Option (List File) → FormValue → Stage (List ℕ)
 form_answer files (check words) = and_then (set_of files words) (shows check_text)
 form_answer files (code words) = and_then (set_of files words) (shows code_text)
 form_answer files (run world words) = and_then (lone_ready files world words) runs
+form_answer files (step world words) = and_then (ready files world words) steps
 form_answer files (replay world journal words) = and_then (ready files world words) (replay_of files journal)

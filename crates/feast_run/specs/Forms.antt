@@ -5,12 +5,13 @@ use Rattle.feast_run.specs.declared.form.Form.{Form}
 use Rattle.feast_run.specs.declared.form.Form.TheVariants as kind
 
 -- what the words of a call ask for: a check of some element files; the codes of their elements; a run of the world in
--- one file with the elements in others; and the atoms that a journal gives when its events are made once more from the
--- world's start
+-- one file with the elements in others; the same as a stepped run; and the atoms that a journal gives when its events are
+-- made once more from the world's start
 pub data FormValue : Type 0 where
   check : List (List ℕ) → FormValue
   code : List (List ℕ) → FormValue
   run : List ℕ → List (List ℕ) → FormValue
+  step : List ℕ → List (List ℕ) → FormValue
   replay : List ℕ → List ℕ → List (List ℕ) → FormValue
 
 -- the most element files
@@ -43,6 +44,7 @@ form_of (verb ∷ words) =
     if bytes_eq verb (codes "check") then form_with check (of_files words)
     else if bytes_eq verb (codes "code") then form_with code (of_files words)
     else if bytes_eq verb (codes "run") then of_world run words
+    else if bytes_eq verb (codes "step") then of_world step words
     else if bytes_eq verb (codes "replay") then of_journal replay words
     else None
 
@@ -51,6 +53,7 @@ abbrev pub form_value : Form → FormValue
 form_value (kind.Check files) = check (map string_bytes files.now)
 form_value (kind.Code files) = code (map string_bytes files.now)
 form_value (kind.Run world files) = run world.now (map string_bytes files.now)
+form_value (kind.Step world files) = step world.now (map string_bytes files.now)
 form_value (kind.Replay world journal files) = replay world.now journal.now (map string_bytes files.now)
 
 -- it has so many element files as a form may have
@@ -58,4 +61,5 @@ abbrev pub IsFew : Form → Type 0
 IsFew (kind.Check files) = length files.now ≤ most_files
 IsFew (kind.Code files) = length files.now ≤ most_files
 IsFew (kind.Run world files) = length files.now ≤ most_files
+IsFew (kind.Step world files) = length files.now ≤ most_files
 IsFew (kind.Replay world journal files) = length files.now ≤ most_files

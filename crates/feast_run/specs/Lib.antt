@@ -5,7 +5,9 @@ pub mod Faults
 pub mod Forms
 pub mod Outcomes
 pub mod Outputs
+pub mod Owing
 pub mod Promises
 pub mod Stages
+pub mod Stepped
 pub mod Tellings
 pub mod Values

@@ -44,6 +44,12 @@ gives a (passes b) = b ≡ a
 gives a (refuses r) = ⊥
 gives a (misses w) = ⊥
 
+-- a stage that passes with this value, of which this is known
+abbrev pub gives_known : {A : Type 0} → Type 0 → A → Stage A
+gives_known P a (passes b) = P × (b ≡ a)
+gives_known P a (refuses r) = ⊥
+gives_known P a (misses w) = ⊥
+
 -- a stage that a function decides, with what is refused at its error
 abbrev pub decides : {A E : Type 0} → (E → RefusedValue) → Result A E → Stage A
 decides refusal said (passes a) = said ≡ Ok a

@@ -5,15 +5,16 @@ use Rattle.cell_grid.specs.Grid.{GridValue}
 use Rattle.cell_grid.specs.Records.{replay as replay_from}
 use Rattle.element_set.specs.Sets.{SetValue, AcceptsFiles, check_text, code_text, element_names, program_of}
 use Rattle.event_journal.specs.declared.abandoned.Abandoned.{Abandoned}
-use Rattle.event_journal.specs.Accounts.{AreExcused, IsAccounted, IsStamped}
 use Rattle.event_journal.specs.Reading.{read_report}
 use Rattle.feast_base.specs.Held.{LoadMayFail, PutMayFail, ShelfHeld, SinkHeld, room_left}
 use Rattle.feast_base.specs.Outside.{File, Grows, Stock, Told, file_of, stock, told}
 use Rattle.feast_base.specs.Refusals.{refusal_line, unreadable_line, usage_line}
 use Rattle.feast_run.specs.Answer.{form_answer}
 use Rattle.feast_run.specs.Ending.{ComesTo, status_of}
-use Rattle.feast_run.specs.Forms.{FormValue, check, code, run, replay}
+use Rattle.feast_run.specs.Forms.{FormValue, check, code, run, step, replay}
 use Rattle.feast_run.specs.Outcomes.{Outcome, passes, refuses, misses}
+use Rattle.feast_run.specs.Owing.{IsRun}
+use Rattle.feast_run.specs.Stepped.{IsSteppedRun, stepped_report}
 use Rattle.feast_run.specs.Stages.{JournalValue, ReadyValue, draft_of, element_limit, journal_limit, journal_of, journal_said, world_limit}
 use Rattle.feast_run.specs.declared.status.Status.{Status}
 use Rattle.feast_run.specs.declared.status.Status.TheVariants as how
@@ -52,18 +53,6 @@ pub record WorldTold (files : List File) (word : List ℕ) (words : List (List �
   pub within : length bytes ≤ world_limit
   pub reads : ReadsWorld bytes (element_names r.set) r.world
 
--- What a run left, and owes: its grid is what the events of its journal give, one at a time in the journal's order, on one
--- uncut grid that begins with the world's atoms, by what the elements' source means; each attempt of each tile is one
--- event or one abandoned attempt; each stamp is 1 more than the greatest of the linked events before it; and each
--- abandoned attempt names one that held its edge.
-pub record IsRun (r : ReadyValue) (grid : GridValue) (records : List Record) (abandoned : List Abandoned) : Type 0 where
-  pub replayed : grid ≡ replay_from (after (program_of r.set)) (start_grid r.world.plane r.world.atoms) records
-  pub accounted : IsAccounted r.world.plane r.world.plan records abandoned
-  pub stamped : IsStamped r.world.plane records
-  pub excused : AreExcused r.world.plane r.world.plan records abandoned
-  -- of one tile each attempt is an event, in its order
-  pub alone : tiles_of r.world.plane ≡ 1 → (records ≡ events_of r.world.plane r.world.plan) × (abandoned ≡ [])
-
 -- a run whose files are told: the bytes appended are the report of what it left
 pub record RanTold (files : List File) (word : List ℕ) (words : List (List ℕ)) (appended : List ℕ) : Type 0 where
   pub world : ReadyValue
@@ -72,7 +61,17 @@ pub record RanTold (files : List File) (word : List ℕ) (words : List (List ℕ
   pub records : List Record
   pub abandoned : List Abandoned
   pub run : IsRun world grid records abandoned
+  -- of one tile each attempt is an event, in its order
+  pub alone : tiles_of world.world.plane ≡ 1 → (records ≡ events_of world.world.plane world.world.plan) × (abandoned ≡ [])
   pub shown : appended ≡ report (element_names world.set) grid records abandoned
+
+-- a stepped run whose files are told: the bytes appended are the report of the stepped machine of the world after the
+-- steps of its order, and what that machine left is a run's
+pub record SteppedTold (files : List File) (word : List ℕ) (words : List (List ℕ)) (appended : List ℕ) : Type 0 where
+  pub world : ReadyValue
+  pub told_world : WorldTold files word words world
+  pub run : IsSteppedRun world
+  pub shown : appended ≡ stepped_report world
 
 -- a replay whose files are told: the bytes appended are the atoms that the events of the journal give, one at a time, on
 -- one uncut grid that begins with the world's atoms, by what the elements' source means
@@ -91,6 +90,7 @@ abbrev pub Shows : List File → FormValue → List ℕ → Type 0
 Shows files (check words) appended = SetTold check_text files words appended
 Shows files (code words) appended = SetTold code_text files words appended
 Shows files (run world words) appended = RanTold files world words appended
+Shows files (step world words) appended = SteppedTold files world words appended
 Shows files (replay world journal words) appended = ReplayTold files world journal words appended
 
 -- the headline: where the shelf tells its files and the sink what is written, and the status is Done, this was appended
@@ -135,6 +135,7 @@ abbrev pub IsGood : List File → FormValue → Type 0
 IsGood files (check words) = (set : SetValue) × IsSet files words set
 IsGood files (code words) = (set : SetValue) × IsSet files words set
 IsGood files (run world words) = (r : ReadyValue) × IsGoodWorld files world words r × (tiles_of r.world.plane ≡ 1)
+IsGood files (step world words) = (r : ReadyValue) × IsGoodWorld files world words r
 IsGood files (replay world journal words) = (r : ReadyValue) × IsGoodWorld files world words r × ((j : JournalValue) × journal_of (Some files) journal r.world (passes j))
 
 -- completeness: good files of a form, and counts that stay, give Done, or want of memory
@@ -148,6 +149,7 @@ abbrev pub file_words : FormValue → List (List ℕ)
 file_words (check words) = words
 file_words (code words) = words
 file_words (run world words) = world ∷ words
+file_words (step world words) = world ∷ words
 file_words (replay world journal words) = world ∷ journal ∷ words
 
 -- it is one of the words

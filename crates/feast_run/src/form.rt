@@ -14,6 +14,8 @@ pub enum Form<'a> {
     Code(&'a [String]),
     /// A run of the world in one file with the elements in others.
     Run(&'a str, &'a [String]),
+    /// A stepped run of the world in one file with the elements in others.
+    Step(&'a str, &'a [String]),
     /// The atoms that the journal in the second file gives from the start of the world in the
     /// first, with the elements in the others.
     Replay(&'a str, &'a str, &'a [String]),
@@ -43,6 +45,10 @@ pub fn read_form(words: &[String]) -> Option<Form<'_>>
         "run" => {
             let (world, rest) = rest.split_first()?;
             Some(Form::Run(world.as_str(), of_files(rest)?))
+        }
+        "step" => {
+            let (world, rest) = rest.split_first()?;
+            Some(Form::Step(world.as_str(), of_files(rest)?))
         }
         "replay" => {
             let (world, rest) = rest.split_first()?;

@@ -1,7 +1,7 @@
 //! One call of the simulator, from its words to what it writes.
 //!
-//! So far it does `check FILE..` and `code FILE..`, `run WORLD FILE..` for worlds of one tile, and
-//! `replay WORLD JOURNAL FILE..`.
+//! So far it does `check FILE..` and `code FILE..`, `run WORLD FILE..` for worlds of one tile,
+//! `step WORLD FILE..`, and `replay WORLD JOURNAL FILE..`.
 #![tactic(auto)]
 
 mod element_files;
@@ -13,6 +13,7 @@ mod output;
 mod said;
 mod stages;
 mod status;
+mod stepping;
 mod stop;
 mod top;
 mod worlds;

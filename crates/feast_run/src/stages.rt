@@ -18,6 +18,7 @@ use crate::element_files::load_set;
 use crate::form::Form;
 use crate::journals::load_journal;
 use crate::output::{Left, Output};
+use crate::stepping::step_stages;
 use crate::stop::Stop;
 use crate::worlds::{Ready, make_lone_ready, make_ready};
 use cell_grid::{Grid, Record};
@@ -205,6 +206,7 @@ pub fn form_stages<'a, F: Shelf>(
         Form::Check(words) => check_stages(alloc, shelf, words),
         Form::Code(words) => code_stages(alloc, shelf, words),
         Form::Run(world, words) => run_stages(alloc, shelf, world, words),
+        Form::Step(world, words) => step_stages(alloc, shelf, world, words),
         Form::Replay(world, journal, words) => replay_stages(alloc, shelf, world, journal, words),
     }
 }

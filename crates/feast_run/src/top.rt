@@ -79,12 +79,15 @@ fn call<F: Shelf, K: Sink>(alloc: Global, words: &[String], shelf: &mut F, sink:
 /// Does what the words say, and answers how it ended.
 ///
 /// The words are those after the program's name. FILE stands for 1 to 64 element files. So far the
-/// words have four forms:
+/// words have five forms:
 ///
 /// - `check FILE..`: the layout of each class in the files is written.
 /// - `code FILE..`: the compiled code of each element in the files is written.
 /// - `run WORLD FILE..`: the world of one tile in WORLD is run with the elements of the files, and
 ///   its report is written, in pieces of 4,096 bytes.
+/// - `step WORLD FILE..`: the world in WORLD, of any number of tiles, is run on one thread in the
+///   order that its lines say, and then one tile after another; its report is written as that of
+///   a run.
 /// - `replay WORLD JOURNAL FILE..`: the events of the report in JOURNAL are made once more, one
 ///   after another, from the start of the world in WORLD, and the atoms that they leave are written.
 ///

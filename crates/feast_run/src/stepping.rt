@@ -1,0 +1,100 @@
+//! The stages of a stepped run.
+ghost use Rattle.std.specs.Prelude.{◌≡◌, ◌≤◌, All, IfOk, length, map, string_bytes};
+ghost use Rattle.element_set.specs.Acting.{acting_set};
+ghost use Rattle.element_set.specs.Sets.{program_of, set_value};
+ghost use Rattle.feast_base.specs.Outside.{stock};
+ghost use Rattle.feast_run.specs.Answer.{form_answer, steps};
+ghost use Rattle.feast_run.specs.Forms.{most_files, step};
+ghost use Rattle.feast_run.specs.Outputs.{IsWritable, output_text};
+ghost use Rattle.feast_run.specs.Stepped.{IsOutcomeOf, IsSteppedRun, stepped_report};
+ghost use Rattle.feast_run.specs.Tellings.{Moves, Tells};
+ghost use Rattle.feast_run.specs.Values.{IsReady, ready_value};
+ghost use Rattle.tile_map.specs.Plane.{tiles_of};
+ghost use Rattle.ulam_meaning.specs.Events.{after};
+ghost use Rattle.world_text.specs.Values.{world_value};
+
+use crate::output::{Left, Output};
+use crate::stop::Stop;
+use crate::worlds::{Ready, make_ready};
+use element_set::{Actor, ElementSet};
+use feast_base::{NoMemory, Shelf};
+use serial_order::Outcome;
+use std::alloc::Global;
+use world_runs::{listed_order, stepped};
+use world_text::World;
+
+/// How many tiles a world has.
+fn tiles_in(world: &World) -> u32
+    requires { tiles_of (world_value world.now).plane ≤ 64 }
+    ensures { result ≡ tiles_of (world_value world.now).plane }
+{
+    world.tx * world.ty
+}
+
+/// What acts as the elements of a set do, once for each tile.
+fn actors(alloc: Global, set: &ElementSet, tiles: u32) -> Result<Vec<Actor<'_>>, NoMemory>
+    ensures many { IfOk result (λ v. length v.items ≡ tiles) }
+    ensures acts { IfOk result (λ v. All (λ a. after (program_of (acting_set a)) ≡ after (program_of (set_value set.now))) v.items) }
+{
+    let mut actors = Vec::new(alloc);
+    for _tile in 0..tiles {
+        let actor = set.actor(alloc)?;
+        actors.push(actor)?;
+    }
+    Ok(actors)
+}
+
+/// What a stepped run comes to.
+fn outcome(alloc: Global, ready: &Ready) -> Result<Outcome, NoMemory>
+    requires { IsReady ready.now }
+    ensures { IfOk result (IsOutcomeOf (ready_value ready.now)) }
+{
+    listed_order();
+    let actors = actors(alloc, &ready.set, tiles_in(&ready.world))?;
+    stepped(alloc, &ready.world, actors)
+}
+
+/// What a stepped run leaves.
+fn stepped_left(alloc: Global, ready: Ready) -> Result<Output, NoMemory>
+    requires { IsReady ready }
+    ensures run { IfOk result (λ _. IsSteppedRun (ready_value ready)) }
+    ensures text { IfOk result (λ o. output_text o ≡ stepped_report (ready_value ready)) }
+    ensures writable { IfOk result IsWritable }
+{
+    let outcome = outcome(alloc, &ready)?;
+    let Outcome { grid, journal } = outcome;
+    Ok(Output::Report(Left {
+        grid,
+        journal,
+        ready,
+    }))
+}
+
+/// The stage of a stepped run itself.
+fn step_rest<'a>(alloc: Global, ready: Ready) -> Result<Output, Stop<'a>>
+    requires { IsReady ready }
+    ensures tells { Tells output_text (steps (ready_value ready)) result }
+    ensures writable { IfOk result IsWritable }
+{
+    match stepped_left(alloc, ready) {
+        Ok(output) => Ok(output),
+        Err(NoMemory) => Err(Stop::NoMemory),
+    }
+}
+
+/// The stages of a stepped run, up to its report.
+pub fn step_stages<'a, F: Shelf>(
+    alloc: Global,
+    shelf: &mut F,
+    world: &'a str,
+    words: &'a [String],
+) -> Result<Output, Stop<'a>>
+    requires { length words.now ≤ most_files }
+    ensures files { F.files shelf.new ≡ F.files shelf.old }
+    ensures moves { Moves (stock F.files F.failed F.may_fail shelf.old) (stock F.files F.failed F.may_fail shelf.new) result }
+    ensures tells { Tells output_text (form_answer (F.files shelf.old) (step world.now (map string_bytes words.now))) result }
+    ensures writable { IfOk result IsWritable }
+{
+    let ready = make_ready(alloc, shelf, world, words)?;
+    step_rest(alloc, ready)
+}
