@@ -49,10 +49,7 @@ fn make_edge(
 }
 
 /// All edges of the map's plane, and for each tile the passes of its edges, in their order.
-pub(crate) fn make_edges(
-    alloc: Global,
-    map: &Map,
-) -> Result<(Vec<Edge>, Vec<TilePasses>), NoMemory>
+pub(crate) fn make_edges(alloc: Global, map: &Map) -> Result<(Vec<Edge>, Vec<TilePasses>), NoMemory>
     ensures { IfOk result (λ r. AreMade map.now (length (pairs_of map.now)) r.0.items r.1.items) }
 {
     let mut edges = Vec::new(alloc);

@@ -61,10 +61,7 @@ fn give_rest<B: Behave, D: Board>(map: &Map, tile: &Tile<B>, end: &mut D)
 }
 
 /// The passes of a worker that has stopped, and its tile.
-fn take_apart<'a, B: Behave>(
-    map: &Map,
-    worker: Worker<B, SharedEnd<'a>>,
-) -> (Tile<B>, TilePasses)
+fn take_apart<'a, B: Behave>(map: &Map, worker: Worker<B, SharedEnd<'a>>) -> (Tile<B>, TilePasses)
     requires { IsDone (λ s. s.tile) (λ s. registers_at s.passes) (λ s. end_at s.passes) (λ s. lists_at s.passes) map.now worker }
     ensures tile { result.0 ≡ worker.entry.tile }
     ensures home { CameHome map.now worker.entry.tile.0.number worker.entry.end.passes result.1 }
