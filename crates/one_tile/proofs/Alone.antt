@@ -1,6 +1,6 @@
 -- The events of one tile, one after another.
-use Rattle.std.proofs.Common.{ℕ, zero, suc, ◌≡◌, ◌+◌, ◌<◌, ◌≤◌, ◌==◌, ◌&&◌, ◌*◌, Bool, true, false, List, [], ◌∷◌, ◌++◌, All, append_assoc, refl, ap, sym, subst, ◌∙◌, arith, inl, length, get_or, take, Result, Ok, Err, map, fold, max, cond}
-use Rattle.std.specs.Prelude.{AllPairs, Contains, IsPermutation, Some, count_by, filter, slice_get}
+use Rattle.std.proofs.Common.{ℕ, zero, suc, ◌≡◌, ◌+◌, ◌<◌, ◌≤◌, ◌==◌, ◌&&◌, Bool, true, false, List, [], ◌∷◌, ◌++◌, All, append_assoc, refl, ap, sym, subst, ◌∙◌, arith, inl, length, get_or, take, Result, Ok, Err, fold, max, cond}
+use Rattle.std.specs.Prelude.{AllPairs, IsPermutation, Some, count_by, filter, slice_get}
 use Rattle.std.specs.List.{enumerate_from}
 use Rattle.std.specs.Result.{IfOk}
 use Rattle.feast_base.specs.declared.memory.NoMemory.{NoMemory}
@@ -15,7 +15,7 @@ use Rattle.cell_grid.specs.declared.record.Record.{Record}
 use Rattle.cell_grid.specs.Records.{Precedes}
 use Rattle.draw_stream.specs.declared.attempt.Attempt.{Attempt}
 use Rattle.draw_stream.specs.Plans.{PlanValue, TakesNext, attempts}
-use Rattle.event_journal.specs.Accounts.{AreExcused, IsAccounted, IsEventOf, IsStamped, are_linked, events_at, stamp_after}
+use Rattle.event_journal.specs.Accounts.{IsAccounted, IsEventOf, IsStamped, are_linked, events_at, stamp_after}
 use Rattle.event_journal.specs.Logs.{AreLogs, Follows, IsLog, LogValue, log_of, records_in}
 use Rattle.event_journal.proofs.Journals.{journal_of}
 use Rattle.tile_map.specs.Plane.{MapValue}

@@ -1,11 +1,11 @@
 -- The events of a plane of one tile.
-use Rattle.std.specs.Prelude.{ℕ, ◌≡◌, ◌+◌, ◌*◌, ◌<◌, true, All, List, [], length, map}
+use Rattle.std.specs.Prelude.{ℕ, ◌≡◌, ◌+◌, ◌*◌, ◌<◌, All, List, [], length, map}
 use Rattle.std.specs.List.{enumerate_from}
 use Rattle.cell_grid.specs.declared.record.Record.{Record}
 use Rattle.draw_stream.specs.declared.attempt.Attempt.{Attempt}
 use Rattle.draw_stream.specs.Plans.{PlanValue, attempts}
 use Rattle.event_journal.specs.Accounts.{AreExcused, IsAccounted, IsStamped}
-use Rattle.tile_map.specs.Plane.{MapValue, IsMap, site, tiles_of, is_live, site_in}
+use Rattle.tile_map.specs.Plane.{MapValue, IsMap, tiles_of, site_in}
 
 -- attempt i as an event: its stamp is i + 1
 abbrev pub event_of : MapValue → ℕ × Attempt → Record

@@ -1,5 +1,5 @@
 -- In a report that is read each event is at a live site.
-use Rattle.std.proofs.Common.{ℕ, ◌≡◌, ◌+◌, ◌==◌, Bool, true, false, not, ◌&&◌, List, [], ◌∷◌, ◌++◌, All, Option, Some, None, Result, Ok, Err, drop, get_or, refl, sym, ap, subst, ◌∙◌, arith}
+use Rattle.std.proofs.Common.{ℕ, ◌≡◌, ◌+◌, ◌==◌, Bool, true, false, not, List, [], ◌∷◌, ◌++◌, All, Option, Some, None, Result, Ok, Err, drop, get_or, refl, ap, subst, ◌∙◌, arith}
 use Rattle.std.specs.Prelude.{if◌then◌else◌}
 use Rattle.std.proofs.lemmas.List.Elements.{All-append, All-cons, All-drop, All-head, All-nil}
 use Rattle.list_laws.proofs.Tests.{both, together}
@@ -10,9 +10,9 @@ use Rattle.draw_stream.specs.declared.attempt.Attempt.{Attempt}
 use Rattle.event_journal.specs.declared.abandoned.Abandoned.{Abandoned}
 use Rattle.event_journal.specs.declared.fault.LineFault.{LineFault}
 use Rattle.event_journal.specs.declared.fault.LineFault.TheVariants.{BadForm}
-use Rattle.event_journal.specs.Forms.{record_form, abandoned_form, is_atom, is_header, count_form}
-use Rattle.event_journal.specs.Reading.{Said, Wants, header, atom_count, atoms, record_count, records, abandoned_count, abandoned, nothing, want_atoms, want_records, want_abandoned, counted, earlier, fields_step, first_of, go_on, is_at_home, is_attempt, is_behind, is_over, line_before, line_step, not_later, nothing_said, place_fault, put_abandoned, put_record, read_lines, read_report, record_fault, record_step, unless}
-use Rattle.tile_map.specs.Plane.{MapValue, site, in_plane, is_on, is_live, owner_of}
+use Rattle.event_journal.specs.Forms.{record_form, abandoned_form, is_atom, is_header}
+use Rattle.event_journal.specs.Reading.{Said, Wants, header, atom_count, atoms, record_count, records, abandoned_count, abandoned, nothing, want_atoms, want_records, want_abandoned, counted, earlier, fields_step, first_of, go_on, is_at_home, is_attempt, is_behind, is_over, line_step, not_later, nothing_said, put_abandoned, put_record, read_lines, read_report, record_fault, record_step, unless}
+use Rattle.tile_map.specs.Plane.{MapValue, site, in_plane, is_on, owner_of}
 use Rattle.world_grid.specs.Worlds.{IsAttempt, IsLiveEvent}
 
 module _ (m : MapValue) (lists : List (List Attempt)) (attempts : (t : ℕ) → All (IsAttempt m t) (get_or lists t [])) where

@@ -1,13 +1,12 @@
 -- Events that bring no other atoms leave none.
-use Rattle.std.proofs.Common.{ℕ, ◌≡◌, ◌+◌, ◌*◌, ◌<◌, ◌≤◌, List, [], ◌∷◌, All, Option, Some, None, length, get_or, map, fold, refl, sym, subst, ◌∙◌, arith, inl, inr}
+use Rattle.std.proofs.Common.{ℕ, ◌+◌, ◌*◌, ◌≤◌, List, [], ◌∷◌, All, Option, Some, None, length, get_or, map, fold, refl, inl, inr}
 use Rattle.std.specs.List.{range_with_len}
 use Rattle.std.proofs.lemmas.Bool.{cases_lt}
-use Rattle.std.proofs.lemmas.List.{get_or-map}
 use Rattle.std.proofs.Math.ListN.{get_or-eq_default}
 use Rattle.std.proofs.lemmas.List.Elements.{All-head, All-map, All-replicate, All-set, All-tail}
 use Rattle.bit_field.specs.Atom.{AtomValue, empty_atom}
 use Rattle.window_sites.specs.Inner.{site_numbers}
-use Rattle.window_sites.specs.Window.{WindowValue, atom_at}
+use Rattle.window_sites.specs.Window.{WindowValue}
 use Rattle.cell_grid.specs.declared.record.Record.{Record}
 use Rattle.cell_grid.specs.Grid.{GridValue, atom_left, event, place_of, put_window, seen, sites_at, window_of}
 use Rattle.cell_grid.specs.Records.{replay}

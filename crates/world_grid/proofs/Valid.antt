@@ -1,5 +1,5 @@
 -- A world that has names has what a run needs.
-use Rattle.std.proofs.Common.{ℕ, ◌≡◌, ◌+◌, ◌*◌, ◌<◌, ◌≤◌, Bool, true, false, not, ◌&&◌, List, [], ◌∷◌, All, Option, Some, None, Result, Ok, Err, length, get_or, refl, sym, ap, subst, ◌∙◌, arith, inl, inr}
+use Rattle.std.proofs.Common.{ℕ, ◌≡◌, ◌+◌, ◌*◌, ◌<◌, ◌≤◌, Bool, true, false, not, List, [], ◌∷◌, All, Option, Some, None, Result, Ok, Err, length, get_or, refl, sym, ap, subst, ◌∙◌, arith, inl, inr}
 use Rattle.std.specs.Prelude.{if◌then◌else◌, nat_lt}
 use Rattle.std.proofs.Math.Nat.{mod-lt}
 use Rattle.std.proofs.lemmas.Bool.{cases_lt}
@@ -8,14 +8,14 @@ use Rattle.std.proofs.Math.ListN.{get_or-eq_default}
 use Rattle.std.proofs.lemmas.List.Elements.{All-map, All-nil}
 use Rattle.list_laws.proofs.Tests.{together}
 use Rattle.draw_stream.specs.declared.attempt.Attempt.{Attempt}
-use Rattle.draw_stream.specs.Attempts.{seeded_attempts, stream_seed}
+use Rattle.draw_stream.specs.Attempts.{seeded_attempts}
 use Rattle.draw_stream.specs.Plans.{attempts, count_of, seeded}
 use Rattle.draw_stream.proofs.Plans.{length_seeded_attempts, length_seeded_lists, seeded_attempts_at, seeded_lists_at}
-use Rattle.tile_map.specs.Plane.{MapValue, IsMap, is_on, tiles_of}
+use Rattle.tile_map.specs.Plane.{MapValue, IsMap, tiles_of}
 use Rattle.tile_map.proofs.Spans.{lt_test}
 use Rattle.text_lines.specs.Lines.{lines}
 use Rattle.world_text.specs.Drafts.{DraftValue, IsDraft, missing, nothing_said}
-use Rattle.world_text.specs.Named.{ReadsWorld, WorldValue, name_fault, named, placed, plan_by, unless, world_of}
+use Rattle.world_text.specs.Named.{ReadsWorld, WorldValue, name_fault, placed, plan_by, unless, world_of}
 use Rattle.world_text.specs.Printed.{IsNamed}
 use Rattle.world_text.specs.Reading.{go_on, line_step, over, read_lines, read_text}
 use Rattle.world_text.proofs.Kept.{line_step_kept, start_is}

@@ -1,10 +1,10 @@
 -- The flat grid with which the run of a world starts.
-use Rattle.std.specs.Prelude.{ℕ, ◌≡◌, ◌+◌, ◌*◌, ◌/◌, ◌%◌, ◌<◌, Bool, true, false, not, ◌&&◌, List, length, map, fold, replicate, nat_lt, slice_index_or}
+use Rattle.std.specs.Prelude.{ℕ, ◌≡◌, ◌*◌, ◌/◌, ◌%◌, ◌<◌, Bool, false, not, ◌&&◌, List, length, map, fold, replicate, nat_lt, slice_index_or}
 use Rattle.std.specs.List.{range_with_len}
 use Rattle.bit_field.specs.Atom.{empty_atom}
 use Rattle.cell_grid.specs.Grid.{GridValue, with_site}
 use Rattle.cell_grid.specs.Shut.{Rectangle, rectangle}
-use Rattle.tile_map.specs.Plane.{MapValue, Site, site, is_live, owner_of, tiles_of}
+use Rattle.tile_map.specs.Plane.{MapValue, Site, site, is_live, owner_of}
 use Rattle.world_text.specs.declared.world.Placed.{Placed}
 
 -- how many sites a plane has

@@ -1,5 +1,5 @@
 -- What an iterator over the items of a list gives.
-use Rattle.std.proofs.Common.{◌≡◌, ℕ, zero, suc, ◌+◌, ◌<◌, ◌++◌, List, [], ◌∷◌, All, length, length-append, get_or, refl, sym, ap, subst, ◌∙◌, arith}
+use Rattle.std.proofs.Common.{◌≡◌, ℕ, ◌+◌, ◌++◌, List, [], ◌∷◌, All, length, length-append, refl, sym, ap, subst, ◌∙◌, arith}
 use Rattle.std.specs.Iterator.{Yields, Drains, HoldsAlong}
 use Rattle.std.specs.Vec.Iter.{into_iter_items, into_iter_len, into_iter_steps}
 use Rattle.std.specs.declared.vec.IntoIter.{IntoIter}

@@ -1,5 +1,5 @@
 -- The tiles of a plane before their first step, and from what the run of a world starts.
-use Rattle.std.specs.Prelude.{ℕ, ◌≡◌, ◌<◌, List, length, map, slice_get, Some}
+use Rattle.std.specs.Prelude.{ℕ, ◌≡◌, ◌<◌, List, map, slice_get, Some}
 use Rattle.window_sites.specs.Window.{WindowValue}
 use Rattle.cell_grid.specs.Grid.{GridValue}
 use Rattle.draw_stream.specs.Plans.{PlanValue, attempts}

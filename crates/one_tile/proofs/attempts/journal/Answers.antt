@@ -1,7 +1,3 @@
-use Rattle.std.proofs.Common.{◌≡◌, ◌≤◌, ap, sym, ◌∙◌, List, length, subst}
-use Rattle.std.specs.Result.{IfOk}
-use Rattle.draw_stream.specs.declared.attempt.Attempt.{Attempt}
-use Rattle.one_tile.specs.Events.{events_from}
 use Rattle.one_tile.proofs.Alone.{events_few, events_log, journal_holds}
 use Rattle.one_tile.proofs.attempts.journal.Goals as goal
 

@@ -1,4 +1,4 @@
-use Rattle.std.proofs.Common.{◌≡◌, ◌++◌, ◌*◌, ◌%◌, ◌∷◌, [], List, ap, sym, ◌∙◌, arith}
+use Rattle.std.proofs.Common.{◌++◌, ◌*◌, ◌%◌, ◌∷◌, [], ap, sym, ◌∙◌, arith}
 use Rattle.std.specs.Prelude.{◌^◌}
 use Rattle.std.proofs.Math.Nat.{mod-eq_of_lt}
 use Rattle.draw_stream.specs.declared.attempt.Attempt.{Attempt}

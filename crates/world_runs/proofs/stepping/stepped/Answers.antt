@@ -1,14 +1,10 @@
-use Rattle.std.proofs.Common.{◌≡◌, ◌<◌, ℕ, List, All, length, map, ap, sym, subst, ◌∙◌}
+use Rattle.std.proofs.Common.{◌≡◌, ◌<◌, ℕ, List, All, length, ap, sym, subst, ◌∙◌}
 use Rattle.std.proofs.lemmas.Result.{IfOk-weaker}
-use Rattle.window_sites.specs.Window.{WindowValue}
-use Rattle.cell_grid.specs.Grid.{GridValue, IsGrid}
-use Rattle.edge_lock.specs.PlainBoard.{untouched_edge}
-use Rattle.tile_map.specs.Edges.{sizes_of}
+use Rattle.cell_grid.specs.Grid.{IsGrid}
 use Rattle.tile_map.specs.Plane.{MapValue, tiles_of}
 use Rattle.stepped_world.specs.Ends.{IsOutcome}
-use Rattle.stepped_world.specs.Running.{IsStart}
 use Rattle.world_text.specs.Values.{world_value}
-use Rattle.world_runs.specs.Fresh.{AllCanAttempt, AreFresh, setting_of}
+use Rattle.world_runs.specs.Fresh.{AllCanAttempt, setting_of}
 use Rattle.world_runs.specs.Orders.{order_in}
 use Rattle.world_runs.proofs.Beginning.{all_can, begins_on}
 use Rattle.world_runs.proofs.Given.{given_all, holds_along}
