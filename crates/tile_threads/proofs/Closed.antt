@@ -1,12 +1,11 @@
 -- Tiles that are over and the closed edges of their plane make a run that is over.
-use Rattle.std.proofs.Common.{◌≡◌, ◌≢◌, ℕ, zero, suc, ◌<◌, eqb, Bool, true, false, cond, List, [], ◌∷◌, length, map, get_or, refl, sym, ap, ◌∙◌, subst, arith, eq-eqb, ne_eqb, Some}
+use Rattle.std.proofs.Common.{◌≡◌, ℕ, zero, suc, ◌<◌, eqb, true, cond, List, [], ◌∷◌, length, refl, sym, ap, ◌∙◌, subst, arith, eq-eqb, ne_eqb, Some}
 use Rattle.std.specs.Prelude.{slice_get, if◌then◌else◌, ◌||◌}
 use Rattle.std.proofs.lemmas.List.{length-map, get_or-map}
-use Rattle.std.proofs.lemmas.Option.{slice_get-map, slice_get_within, slice_get-get_or, get_or_from_slice_get}
+use Rattle.std.proofs.lemmas.Option.{slice_get_within}
 use mathlib.Core.Logic.{dite}
 use native.Mathlib.Decide.{ℕ_discrete}
 use Rattle.window_sites.specs.Window.{WindowValue}
-use Rattle.feast_base.specs.Edges.{registers_of}
 use Rattle.tile_map.specs.Plane.{MapValue, IsMap, tiles_of}
 use Rattle.tile_map.specs.Edges.{pairs_of, low_end, high_end, has_end}
 use Rattle.cell_grid.specs.Grid.{GridValue}
@@ -15,16 +14,16 @@ use Rattle.draw_stream.specs.Plans.{PlanValue, attempts}
 use Rattle.edge_lock.specs.History.{site_count, IsEdgeHistory}
 use Rattle.edge_lock.specs.declared.history.Refusal.{Refusal}
 use Rattle.edge_lock.specs.EndLists.{EndLists, end_lists}
-use Rattle.edge_lock.specs.Passes.{ClosedValue, IsClosed}
+use Rattle.edge_lock.specs.Passes.{ClosedValue}
 use Rattle.edge_lock.specs.SharedEnds.{lists_at as lists_of_passes}
 use Rattle.edge_lock.proofs.Counts.{sites_back}
 use Rattle.border_cache.specs.Windows.{end_at, sites_on}
 use Rattle.tile_core.specs.Values.{TileValue, atoms_of}
-use Rattle.tile_core.specs.Turns.{AgreeOnEdges, HasPlayed}
+use Rattle.tile_core.specs.Turns.{AgreeOnEdges}
 use Rattle.tile_core.proofs.Boards.{end_known}
-use Rattle.serial_order.specs.Scene.{EdgeHistory, no_history, history_at, end_lists_of, lists_at, HasEnded, IsOver}
+use Rattle.serial_order.specs.Scene.{EdgeHistory, no_history, history_at, end_lists_of, lists_at, HasEnded}
 use Rattle.serial_order.specs.Words.{AreEdgeWords, closed_history, closed_histories, closed_counts, no_closed, closed_at}
-use Rattle.serial_order.specs.Outcomes.{scene_of, values_of}
+use Rattle.serial_order.specs.Outcomes.{values_of}
 use Rattle.edge_lock.specs.Passes.{EdgeValue, PassValue}
 use Rattle.tile_threads.specs.Passes.{passes_of, IsClosedEdge, AreClosed}
 use Rattle.tile_threads.specs.Whole.{AreFresh, HaveReturned, HasRun}

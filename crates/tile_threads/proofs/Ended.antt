@@ -1,11 +1,11 @@
 -- A tile that is over stays so when the edges that it still has are given back.
-use Rattle.std.proofs.Common.{◌≡◌, ◌⊎◌, ℕ, ◌+◌, Bool, true, false, List, [], ◌∷◌, ◌++◌, length, refl, sym, ap, ◌∙◌, subst, ⊎_elim, inl, inr}
+use Rattle.std.proofs.Common.{◌≡◌, ℕ, Bool, true, false, List, [], ◌∷◌, ◌++◌, length, refl, sym, ap, ◌∙◌, subst, ⊎_elim}
 use Rattle.std.specs.Prelude.{if◌then◌else◌}
 use Rattle.std.proofs.lemmas.List.{append-nil}
 use Rattle.bit_field.specs.Atom.{AtomValue}
 use Rattle.window_sites.specs.Window.{WindowValue}
-use Rattle.tile_map.specs.Plane.{Site, MapValue, is_held}
-use Rattle.tile_map.specs.Edges.{needs_of, has_end}
+use Rattle.tile_map.specs.Plane.{Site, MapValue}
+use Rattle.tile_map.specs.Edges.{needs_of}
 use Rattle.cell_grid.specs.declared.record.Record.{Record}
 use Rattle.draw_stream.specs.declared.attempt.Attempt.{Attempt}
 use Rattle.event_journal.specs.declared.abandoned.Abandoned.{Abandoned}
@@ -13,10 +13,9 @@ use Rattle.edge_lock.specs.declared.history.Hold.{Hold}
 use Rattle.edge_lock.specs.EndLists.{EndLists, end_lists, hold_of, closed_hold, is_held as has_hold, after_give}
 use Rattle.edge_lock.proofs.LastHolds.{is_held-snoc, change_last-snoc}
 use Rattle.border_cache.specs.Windows.{has}
-use Rattle.border_cache.specs.Copies.{held_cell}
 use Rattle.tile_core.specs.declared.phase.Phase.TheVariants.{Finished, Worn as WornPhase}
 use Rattle.tile_core.specs.Values.{TileValue}
-use Rattle.tile_core.specs.Turns.{Turn, Worn, Wins, Loses, Wears, Wearless, AreTurns, AreAttempts, IsWorn, HasPlayed, AgreeOnEdges, lists_of, with_more, one_if, records_of, abandoned_of, cells_of}
+use Rattle.tile_core.specs.Turns.{Turn, Worn, Wins, Loses, Wears, Wearless, AreTurns, AreAttempts, HasPlayed, AgreeOnEdges, lists_of, with_more, one_if, records_of, abandoned_of, cells_of}
 use Rattle.tile_core.proofs.Lists.{free_of}
 use Rattle.serial_order.specs.Scene.{WearsLast, IsStopped, HasEnded}
 use Rattle.serial_order.specs.Boards.{HasStopped}

@@ -1,11 +1,11 @@
 -- Workers sent out and taken apart one by one.
-use Rattle.std.proofs.Common.{◌≡◌, ℕ, zero, suc, ◌+◌, ◌<◌, ◌≤◌, List, [], ◌∷◌, ◌++◌, map, take, drop, length, get_or, refl, sym, ap, ◌∙◌, subst, arith, length-append}
-use Rattle.std.specs.Prelude.{All, slice_index_or}
+use Rattle.std.proofs.Common.{◌≡◌, ℕ, ◌<◌, ◌≤◌, List, [], ◌∷◌, ◌++◌, take, drop, length, get_or, refl, sym, ap, ◌∙◌, subst, arith, length-append}
+use Rattle.std.specs.Prelude.{slice_index_or}
 use Rattle.std.proofs.lemmas.List.{append_assoc, get_or_append_left, take-append-le, take_all}
 use mathlib.Core.Logic.{dite}
 use native.Mathlib.Decide.{ℕ_discrete}
 use Rattle.edge_lock.specs.Passes.{PassValue}
-use Rattle.edge_lock.specs.SharedEnds.{SharedEndValue, SamePasses, edge_and_end, lists_at}
+use Rattle.edge_lock.specs.SharedEnds.{SharedEndValue, SamePasses, lists_at}
 use Rattle.tile_core.specs.Turns.{AgreeOnEdges}
 use Rattle.tile_map.specs.Plane.{MapValue}
 use Rattle.tile_core.specs.Values.{TileValue}

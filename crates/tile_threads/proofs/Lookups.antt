@@ -1,15 +1,14 @@
 -- The passes of a tile, by the numbers of their edges.
-use Rattle.std.proofs.Common.{◌≡◌, ◌≢◌, ℕ, zero, suc, ◌+◌, ◌<◌, ◌≤◌, eqb, Bool, true, false, cond, List, [], ◌∷◌, ◌++◌, map, length, get_or, refl, sym, ap, ◌∙◌, subst, arith, inl, inr, ⊎_elim, eq-eqb, ne_eqb, Some}
-use Rattle.std.specs.Prelude.{All, filter, slice_get}
+use Rattle.std.proofs.Common.{◌≡◌, ℕ, ◌<◌, ◌≤◌, eqb, Bool, true, false, cond, List, [], ◌∷◌, map, length, refl, sym, ap, ◌∙◌, subst, arith, inl, inr, ⊎_elim, eq-eqb, ne_eqb, Some}
+use Rattle.std.specs.Prelude.{All, slice_get}
 use Rattle.std.specs.List.{range_with_len}
 use Rattle.std.proofs.lemmas.Option.{slice_get-get_or}
 use mathlib.Core.Logic.{dite}
 use native.Mathlib.Decide.{ℕ_discrete}
 use Rattle.list_laws.proofs.Members.{In, in_filter, filter_in, in_range, range_in}
-use Rattle.list_laws.proofs.Filters.{filter_more}
-use Rattle.tile_map.specs.Plane.{MapValue, tiles_of}
+use Rattle.tile_map.specs.Plane.{MapValue}
 use Rattle.tile_map.specs.Edges.{has_end}
-use Rattle.edge_lock.specs.EndLists.{EndLists, end_lists}
+use Rattle.edge_lock.specs.EndLists.{end_lists}
 use Rattle.edge_lock.specs.Passes.{EdgeValue, PassValue}
 use Rattle.edge_lock.specs.SharedEnds.{EdgeAndEnd, edge_and_end, IsPassOf, registers_at, end_at as end_in, lists_at}
 use Rattle.edge_lock.proofs.HistorySteps.{all-cons, all-none, all-head, all-tail}

@@ -1,19 +1,18 @@
 -- A new edge gives each of its two tiles a pass.
-use Rattle.std.proofs.Common.{◌≡◌, ◌≢◌, ℕ, zero, suc, ◌+◌, ◌<◌, ◌≤◌, eqb, Bool, true, false, cond, List, [], ◌∷◌, ◌++◌, map, length, get_or, set, replicate, refl, sym, ap, ◌∙◌, subst, arith, eq-eqb, ne_eqb, length-set, get_or-set_same, get_or-set_other, length-append}
-use Rattle.std.specs.Prelude.{All, filter, ◌||◌}
+use Rattle.std.proofs.Common.{◌≡◌, ◌≢◌, ℕ, zero, suc, ◌+◌, ◌<◌, eqb, true, false, cond, List, [], ◌∷◌, ◌++◌, map, length, set, replicate, refl, sym, ap, ◌∙◌, subst, arith, eq-eqb, ne_eqb, length-set, get_or-set_same, get_or-set_other, length-append}
+use Rattle.std.specs.Prelude.{All, ◌||◌}
 use Rattle.std.specs.List.{range_with_len}
-use Rattle.std.proofs.lemmas.List.{append-nil, map-append, get_or_append_left, get_or-replicate, length-replicate}
+use Rattle.std.proofs.lemmas.List.{append-nil, map-append, get_or_append_left, length-replicate}
 use Rattle.std.proofs.lemmas.List.Elements.{All-push}
 use mathlib.Core.Logic.{dite}
 use native.Mathlib.Decide.{ℕ_discrete}
-use Rattle.list_laws.proofs.Members.{In, filter_in, range_in}
+use Rattle.list_laws.proofs.Members.{filter_in, range_in}
 use Rattle.list_laws.proofs.Filters.{filter_more}
 use Rattle.feast_base.specs.Edges.{registers_of}
 use Rattle.tile_map.specs.Plane.{MapValue, tiles_of}
-use Rattle.tile_map.specs.Edges.{pairs_of, low_end, high_end, has_end}
-use Rattle.edge_lock.specs.EndLists.{end_lists}
+use Rattle.tile_map.specs.Edges.{low_end, high_end, has_end}
 use Rattle.edge_lock.specs.Passes.{EdgeValue, PassValue, IsFresh}
-use Rattle.edge_lock.specs.SharedEnds.{EdgeAndEnd, edge_and_end}
+use Rattle.edge_lock.specs.SharedEnds.{edge_and_end}
 use Rattle.edge_lock.proofs.HistorySteps.{all-none}
 use Rattle.border_cache.specs.Windows.{end_at, sites_on}
 use Rattle.tile_threads.specs.Passes.{no_edge, edge_of, passes_of, right_to, AreEdges, own_edges, HasPasses, IsUnused, AreMade}

@@ -1,8 +1,8 @@
 -- What a tile that makes no further step still has.
-use Rattle.std.proofs.Common.{◌≡◌, ◌⊎◌, ℕ, ◌+◌, ◌*◌, ◌<◌, true, List, [], ◌∷◌, length, get_or, refl, sym, ap, ◌∙◌, subst, ⊎_elim, arith, Option, Some, None}
+use Rattle.std.proofs.Common.{◌≡◌, ℕ, ◌+◌, ◌*◌, ◌<◌, List, length, get_or, sym, ap, ◌∙◌, subst, ⊎_elim, arith, Some, None}
 use Rattle.window_sites.specs.Window.{WindowValue}
 use Rattle.tile_map.specs.Plane.{MapValue, site, tiles_of}
-use Rattle.tile_map.specs.Edges.{needs_of, has_end}
+use Rattle.tile_map.specs.Edges.{needs_of}
 use Rattle.edge_lock.specs.EndLists.{EndLists, IsHeld, HasNoWrite, replace_at, after_give}
 use Rattle.border_cache.specs.Copies.{IsEndOf}
 use Rattle.tile_core.specs.declared.phase.Phase.TheVariants.{Finished, Worn}

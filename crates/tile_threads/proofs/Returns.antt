@@ -1,6 +1,6 @@
 -- The workers of all tiles: ready at the start, done after the run, and home.
-use Rattle.std.proofs.Common.{◌≡◌, ◌⊎◌, ℕ, zero, suc, ◌+◌, ◌<◌, ◌≤◌, true, false, List, [], ◌∷◌, map, length, get_or, refl, sym, ap, ◌∙◌, subst, arith, Some}
-use Rattle.std.specs.Prelude.{All, slice_get, slice_index_or}
+use Rattle.std.proofs.Common.{◌≡◌, ℕ, zero, suc, ◌<◌, ◌≤◌, true, List, [], ◌∷◌, length, get_or, refl, sym, ap, ◌∙◌, subst, arith, Some}
+use Rattle.std.specs.Prelude.{All, slice_get}
 use Rattle.std.proofs.lemmas.List.{length-map, get_or-map}
 use Rattle.std.proofs.lemmas.Option.{slice_get-get_or, slice_get_within, get_or_from_slice_get}
 use Rattle.bit_field.specs.Atom.{AtomValue}
@@ -12,7 +12,7 @@ use Rattle.draw_stream.specs.declared.attempt.Attempt.{Attempt}
 use Rattle.draw_stream.specs.Plans.{PlanValue, attempts}
 use Rattle.edge_lock.specs.EndLists.{EndLists, end_lists, IsFree}
 use Rattle.edge_lock.specs.Passes.{EdgeValue, PassValue}
-use Rattle.edge_lock.specs.SharedEnds.{SharedEndValue, shared_end_value, edge_and_end, registers_at, end_at, lists_at, SamePasses, IsPassOf}
+use Rattle.edge_lock.specs.SharedEnds.{SharedEndValue, registers_at, end_at, lists_at, SamePasses, IsPassOf}
 use Rattle.border_cache.specs.Windows.{end_at as end_for}
 use Rattle.border_cache.specs.Copies.{IsEndOf}
 use Rattle.tile_core.specs.declared.phase.Phase.{Phase}
@@ -20,13 +20,13 @@ use Rattle.tile_core.specs.declared.phase.Phase.TheVariants.{Draw, Lock, Refresh
 use Rattle.tile_core.specs.Values.{TileValue, atoms_of}
 use Rattle.tile_core.specs.Steps.{is_over}
 use Rattle.tile_core.specs.Turns.{Turn}
-use Rattle.tile_core.specs.Underway.{IsUnderway, InPhase, IsGiving, IsFreshTile, IsSome}
+use Rattle.tile_core.specs.Underway.{InPhase, IsGiving, IsFreshTile}
 use Rattle.tile_core.proofs.Boards.{end_known}
 use Rattle.serial_order.specs.Scene.{HasEnded}
 use Rattle.serial_order.specs.Outcomes.{IsMade}
 use Rattle.tile_threads.specs.declared.worker.Worker.{Worker}
 use Rattle.tile_threads.specs.Runs.{IsReady, HasWorked, EachDid}
-use Rattle.tile_threads.specs.Passes.{edge_of, passes_of, let_go, HasPasses, IsUnused, AreMade, AreLeft}
+use Rattle.tile_threads.specs.Passes.{passes_of, let_go, AreMade}
 use Rattle.tile_threads.specs.Whole.{AreFresh, worker_of, workers_of, tiles_in, IsDone, CameHome, HaveComeHome, HaveReturned}
 use Rattle.tile_threads.proofs.Lookups.{Found, found_own, own_stand, unused_lists}
 use Rattle.tile_threads.proofs.LettingGo.{let_go_free}

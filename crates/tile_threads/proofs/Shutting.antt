@@ -1,20 +1,19 @@
 -- The next edge is closed: each of its two tiles loses its first pass.
-use Rattle.std.proofs.Common.{◌≡◌, ◌≢◌, ℕ, zero, suc, ◌+◌, ◌-◌, ◌<◌, ◌≤◌, eqb, Bool, true, false, cond, List, [], ◌∷◌, ◌++◌, map, length, get_or, set, refl, sym, ap, ◌∙◌, subst, arith, eq-eqb, ne_eqb, length-set, get_or-set_same, get_or-set_other, length-append}
-use Rattle.std.specs.Prelude.{All, filter, drop}
+use Rattle.std.proofs.Common.{◌≡◌, ◌≢◌, ℕ, zero, suc, ◌+◌, ◌<◌, ◌≤◌, true, false, cond, List, [], ◌∷◌, ◌++◌, map, length, get_or, refl, sym, ap, ◌∙◌, subst, arith, eq-eqb, ne_eqb, length-set, get_or-set_same, get_or-set_other, length-append}
+use Rattle.std.specs.Prelude.{filter, drop}
 use Rattle.std.specs.List.{range_with_len}
 use Rattle.std.proofs.lemmas.List.{get_or_append_left}
 use mathlib.Core.Logic.{dite}
 use native.Mathlib.Decide.{ℕ_discrete}
-use Rattle.feast_base.specs.Edges.{registers_of}
 use Rattle.tile_map.specs.Plane.{MapValue, tiles_of}
 use Rattle.tile_map.specs.Edges.{pairs_of, low_end, high_end, has_end}
 use Rattle.edge_lock.specs.EndLists.{EndLists, IsFree}
 use Rattle.edge_lock.specs.Passes.{EdgeValue, PassValue, ClosedValue, IsClosed}
 use Rattle.edge_lock.specs.SharedEnds.{EdgeAndEnd, edge_and_end, lists_at}
-use Rattle.border_cache.specs.Windows.{end_at, sites_on}
+use Rattle.border_cache.specs.Windows.{end_at}
 use Rattle.serial_order.specs.Words.{no_closed, closed_at}
-use Rattle.tile_threads.specs.Passes.{no_edge, edge_of, passes_of, right_to, AreEdges, own_edges, HasPasses, TakesFirst, AreLeft, IsClosedEdge}
-use Rattle.tile_threads.proofs.NewEdges.{low_has, high_has, none_has, low_is, high_is}
+use Rattle.tile_threads.specs.Passes.{edge_of, passes_of, right_to, own_edges, HasPasses, TakesFirst, AreLeft, IsClosedEdge}
+use Rattle.tile_threads.proofs.NewEdges.{low_has, high_has, none_has}
 
 range_next : (a n : ℕ) → range_with_len a (n + 1) ≡ a ∷ range_with_len (a + 1) n
 range_next a n = let one : n + 1 ≡ suc n = omega arith in ap (range_with_len a) one

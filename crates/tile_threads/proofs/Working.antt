@@ -1,9 +1,8 @@
 -- A worker at work, one attempt after another.
-use Rattle.std.proofs.Common.{◌≡◌, ◌⊎◌, ℕ, ◌+◌, ◌-◌, ◌<◌, true, false, List, length, drop, refl, sym, ap, ◌∙◌, subst, arith, inl, inr, length-drop}
+use Rattle.std.proofs.Common.{◌≡◌, ◌⊎◌, ℕ, ◌+◌, ◌-◌, ◌<◌, true, false, List, length, refl, sym, ap, ◌∙◌, subst, arith, inl, inr, length-drop}
 use Rattle.bit_field.specs.Atom.{AtomValue}
 use Rattle.window_sites.specs.Window.{WindowValue}
 use Rattle.tile_map.specs.Plane.{Site, MapValue}
-use Rattle.tile_map.specs.Edges.{has_end}
 use Rattle.draw_stream.specs.declared.attempt.Attempt.{Attempt}
 use Rattle.edge_lock.specs.EndLists.{EndLists}
 use Rattle.border_cache.specs.Copies.{IsEndOf}
@@ -11,7 +10,7 @@ use Rattle.tile_core.specs.declared.phase.Phase.{Phase}
 use Rattle.tile_core.specs.declared.phase.Phase.TheVariants.{Draw, Lock, Refresh, Behave, Write, Give, Back, Finished, Worn}
 use Rattle.tile_core.specs.Values.{TileValue}
 use Rattle.tile_core.specs.Steps.{is_over}
-use Rattle.tile_core.specs.Underway.{IsUnderway, IsSome, GoesFar, InPhase}
+use Rattle.tile_core.specs.Underway.{IsUnderway, GoesFar, InPhase}
 use Rattle.serial_order.specs.Boards.{HasStopped}
 use Rattle.serial_order.proofs.Boards.{has_ended}
 use Rattle.tile_threads.specs.declared.worker.Worker.{Worker}

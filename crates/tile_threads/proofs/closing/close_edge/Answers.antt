@@ -1,4 +1,4 @@
-use Rattle.std.proofs.Common.{◌≡◌, ℕ, ◌+◌, ◌<◌, List, sym, ap, ◌∙◌, subst}
+use Rattle.std.proofs.Common.{ℕ, ◌<◌, sym, ◌∙◌, subst}
 use Rattle.tile_map.specs.Plane.{tiles_of}
 use Rattle.tile_threads.specs.Passes.{TakesFirst}
 use Rattle.tile_threads.proofs.NewEdges.{low_is, high_is}

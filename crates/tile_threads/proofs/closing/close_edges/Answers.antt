@@ -1,6 +1,5 @@
-use Rattle.std.proofs.Common.{◌≡◌, ℕ, ◌+◌, ◌-◌, ◌<◌, ◌≤◌, List, [], ◌∷◌, ◌++◌, drop, length, sym, ap, ◌∙◌, subst, arith, rules, length-drop, vec_len}
+use Rattle.std.proofs.Common.{◌≡◌, ℕ, ◌+◌, ◌-◌, drop, length, sym, ap, ◌∙◌, subst, arith, rules, length-drop, vec_len}
 use Rattle.edge_lock.specs.EndLists.{EndLists}
-use Rattle.edge_lock.specs.Passes.{EdgeValue}
 use Rattle.tile_threads.specs.Passes.{no_edge, edge_of, AreLeft, AreClosed, IsClosedEdge}
 use Rattle.tile_threads.proofs.Shutting.{next_of, closed_more, AreClosedSoFar}
 use Rattle.tile_threads.proofs.closing.close_edges.Goals as goal

@@ -1,4 +1,4 @@
-use Rattle.std.proofs.Common.{◌≡◌, ◌-◌, ◌≤◌, ℕ, drop, vec_len, length}
+use Rattle.std.proofs.Common.{◌≡◌, ◌-◌, ◌≤◌, ℕ, drop, vec_len}
 use Rattle.edge_lock.specs.EndLists.{EndLists}
 use Rattle.tile_threads.specs.Passes.{AreLeft}
 use Rattle.tile_threads.proofs.Shutting.{AreClosedSoFar}

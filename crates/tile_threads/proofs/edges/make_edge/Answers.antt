@@ -1,7 +1,7 @@
 use Rattle.std.proofs.Common.{◌≡◌, ℕ, ◌+◌, ◌<◌, List, [], ◌∷◌, ◌++◌, set, sym, ap, ◌∙◌, subst}
 use Rattle.feast_base.specs.Edges.{registers_of}
 use Rattle.tile_map.specs.Plane.{tiles_of}
-use Rattle.tile_map.specs.Edges.{low_end, high_end}
+use Rattle.tile_map.specs.Edges.{high_end}
 use Rattle.edge_lock.specs.Passes.{EdgeValue, PassValue}
 use Rattle.tile_threads.specs.Passes.{AreMade, passes_of}
 use Rattle.tile_threads.proofs.NewEdges.{made_more}

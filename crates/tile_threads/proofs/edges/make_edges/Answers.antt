@@ -1,4 +1,4 @@
-use Rattle.std.proofs.Common.{◌≡◌, ◌∙◌, sym, ap, replicate, []}
+use Rattle.std.proofs.Common.{◌∙◌, ap, replicate, []}
 use Rattle.tile_threads.proofs.NewEdges.{none_made}
 use Rattle.tile_threads.proofs.edges.make_edges.Goals as goal
 

@@ -1,9 +1,7 @@
-use Rattle.std.proofs.Common.{◌≡◌, ℕ, ◌+◌, ◌<◌, ◌≤◌, List, [], ◌∷◌, ◌++◌, drop, map, length, sym, ap, ◌∙◌, subst, arith, rules, append_assoc, length-drop, vec_len}
+use Rattle.std.proofs.Common.{◌≡◌, ◌+◌, [], ◌∷◌, ◌++◌, drop, length, sym, ap, ◌∙◌, subst, arith, rules, append_assoc, length-drop, vec_len}
 use Rattle.std.specs.Prelude.{All, slice_index_or}
-use Rattle.std.proofs.lemmas.List.{append-nil}
 use Rattle.edge_lock.specs.SharedEnds.{SharedEndValue, registers_at, end_at, lists_at}
 use Rattle.edge_lock.proofs.HistorySteps.{all-head, all-tail}
-use Rattle.tile_threads.specs.declared.worker.Worker.{Worker}
 use Rattle.tile_threads.specs.Whole.{IsDone, tiles_in}
 use Rattle.tile_threads.proofs.Shutting.{next_of}
 use Rattle.tile_threads.proofs.Homing.{HaveComeSoFar, comes_home}

@@ -1,4 +1,4 @@
-use Rattle.std.proofs.Common.{◌≡◌, ◌++◌, ◌≤◌, All, drop, length, vec_len}
+use Rattle.std.proofs.Common.{◌≡◌, ◌++◌, All, drop, vec_len}
 use Rattle.edge_lock.specs.SharedEnds.{registers_at, end_at, lists_at}
 use Rattle.tile_threads.specs.Whole.{tiles_in, IsDone}
 use Rattle.tile_threads.proofs.Homing.{HaveComeSoFar}

@@ -1,4 +1,4 @@
-use Rattle.std.proofs.Common.{◌≡◌, ℕ, ◌+◌, ◌<◌, ◌≤◌, length, sym, ap, ◌∙◌, subst, arith}
+use Rattle.std.proofs.Common.{◌≡◌, ℕ, ◌<◌, length, sym, ap, ◌∙◌, subst, arith}
 use Rattle.tile_map.specs.Plane.{site}
 use Rattle.tile_map.specs.Edges.{needs_of}
 use Rattle.border_cache.specs.Copies.{IsEndOf}

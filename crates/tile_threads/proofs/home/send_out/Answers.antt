@@ -1,8 +1,8 @@
-use Rattle.std.proofs.Common.{◌≡◌, ℕ, ◌++◌, [], ◌∷◌, length, sym, ap, ◌∙◌, subst, arith}
+use Rattle.std.proofs.Common.{length, sym, ap, ◌∙◌, subst, arith}
 use Rattle.std.specs.Prelude.{All}
 use Rattle.edge_lock.specs.SharedEnds.{IsPassOf, shared_end_value}
 use Rattle.edge_lock.proofs.HistorySteps.{all-head, all-tail}
-use Rattle.tile_threads.specs.Whole.{worker_of, workers_of}
+use Rattle.tile_threads.specs.Whole.{workers_of}
 use Rattle.tile_threads.proofs.Homing.{sent_more}
 use Rattle.tile_threads.proofs.home.send_out.Goals as goal
 

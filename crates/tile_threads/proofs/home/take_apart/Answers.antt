@@ -1,8 +1,5 @@
-use Rattle.std.proofs.Common.{◌≡◌, ℕ, map, length, sym, ap, ◌∙◌, subst}
-use Rattle.edge_lock.specs.Passes.{PassValue}
-use Rattle.edge_lock.specs.SharedEnds.{SharedEndValue, edge_and_end, lists_at}
+use Rattle.std.proofs.Common.{ap, ◌∙◌}
 use Rattle.tile_core.specs.Values.{TileValue}
-use Rattle.tile_threads.specs.Whole.{CameHome}
 use Rattle.tile_threads.proofs.Homing.{home_of}
 use Rattle.tile_threads.proofs.home.take_apart.Goals as goal
 

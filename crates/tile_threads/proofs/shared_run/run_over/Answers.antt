@@ -1,4 +1,4 @@
-use Rattle.std.proofs.Common.{◌≡◌, ℕ, List, ◌++◌, take, drop, length, sym, ap, ◌∙◌, subst, arith, rules}
+use Rattle.std.proofs.Common.{◌≡◌, List, length, sym, ap, ◌∙◌, subst, rules}
 use Rattle.std.specs.Prelude.{All}
 use Rattle.edge_lock.specs.SharedEnds.{SharedEndValue, SamePasses, registers_at, end_at, lists_at}
 use Rattle.tile_threads.specs.declared.worker.Worker.{Worker}

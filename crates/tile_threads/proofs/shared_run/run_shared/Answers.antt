@@ -1,4 +1,4 @@
-use Rattle.std.proofs.Common.{◌≡◌, ℕ, List, length, sym, ap, ◌∙◌, subst, rules, arith, vec_len}
+use Rattle.std.proofs.Common.{◌≡◌, ℕ, List, length, subst, rules, arith, vec_len}
 use Rattle.tile_map.specs.Edges.{pairs_of}
 use Rattle.edge_lock.specs.Passes.{EdgeValue}
 use Rattle.edge_lock.specs.SharedEnds.{lists_at}

@@ -1,9 +1,9 @@
-use Rattle.std.proofs.Common.{◌≡◌, ℕ, sym, ap, ◌∙◌, subst, true}
+use Rattle.std.proofs.Common.{◌≡◌, ℕ, sym, ◌∙◌, subst, true}
 use Rattle.window_sites.specs.Window.{WindowValue}
 use Rattle.tile_map.specs.Plane.{MapValue}
 use Rattle.tile_core.specs.Underway.{GoesFar}
 use Rattle.tile_threads.specs.Runs.{is_drawing}
-use Rattle.tile_threads.proofs.Working.{draws, attempts_fall, goes_on, is_done}
+use Rattle.tile_threads.proofs.Working.{draws, attempts_fall, is_done}
 use Rattle.tile_threads.proofs.worker.WorkerWork.work.Goals as goal
 
 pub loop-self-smaller : goal.loop-self-smaller
