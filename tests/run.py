@@ -5,7 +5,8 @@ Each folder of tests/cases is one case: `args` has the words, one a line; `expec
 program is to write on standard output; `status` has its exit status; `shows` says in one line what
 the case shows. All other files are inputs, and the case runs in a copy of its folder. Where
 `stdout` says `full`, standard output is a full device, and the status alone is compared. Each line
-`NAME BYTES` of `spaces` makes an input of so many spaces.
+`NAME BYTES` of `spaces` makes an input of so many spaces, and each line of `examples` names a file of
+the folder examples/ that is an input too.
 """
 import pathlib
 import shutil
@@ -14,6 +15,7 @@ import sys
 import tempfile
 
 CASES = pathlib.Path(__file__).resolve().parent / "cases"
+EXAMPLES = CASES.parent.parent / "examples"
 
 
 def words_of(case):
@@ -30,12 +32,21 @@ def make_spaces(folder):
             (folder / name).write_bytes(b" " * int(size))
 
 
+def copy_examples(folder):
+    """Copies the examples that the case runs on."""
+    names = folder / "examples"
+    if names.exists():
+        for name in names.read_text().split():
+            shutil.copy(EXAMPLES / name, folder)
+
+
 def run(program, case):
     """What is wrong with a case, or None."""
     with tempfile.TemporaryDirectory() as folder:
         copy = pathlib.Path(folder) / case.name
         shutil.copytree(case, copy)
         make_spaces(copy)
+        copy_examples(copy)
         command = [program.encode(), *words_of(case)]
         full = (case / "stdout").exists()
         with open("/dev/full", "wb") as device:
