@@ -58,16 +58,23 @@ def least(words):
     return min(times)
 
 
+def source_files(folder):
+    """Makes the files, and returns their paths."""
+    paths = []
+    for file in range(FILES):
+        path = pathlib.Path(folder) / f"{file}.ulam"
+        path.write_text("".join(element(f"E{file}x{i}", BYTES // FILES // CLASSES - 300) for i in range(CLASSES)))
+        paths.append(path)
+    return paths
+
+
 def main():
     subprocess.run(["rt", "run"], cwd=CRATE, stdin=subprocess.DEVNULL, capture_output=True)
     with tempfile.TemporaryDirectory() as name:
-        paths = []
-        for file in range(FILES):
-            path = pathlib.Path(name) / f"{file}.ulam"
-            path.write_text("".join(element(f"E{file}x{i}", BYTES // FILES // CLASSES - 300) for i in range(CLASSES)))
-            paths.append(path)
+        paths = source_files(name)
         size = sum(path.stat().st_size for path in paths)
         print(f"{size} bytes, {FILES * CLASSES} elements: {least([PROGRAM, 'check', *paths]):.2f} s")
 
 
-main()
+if __name__ == "__main__":
+    main()

@@ -4,7 +4,7 @@
 //!     rustc -O -C target-cpu=x86-64-v2 flat.rs -o flat
 //!     ./flat WORLD > REPORT
 //!     ./flat WORLD time              (how long its events take, by the least of parts of 20,000)
-//!     ./flat WORLD texts             (how long reading the world and writing the report take, by the least of 5 times)
+//!     ./flat WORLD read              (reads the world, and no more)
 //!
 //! (WORLD: tiles 1 1, `try` lines or `seed` and `attempts`, `atom` lines.)
 //!
@@ -188,29 +188,18 @@ fn report(world: &World) -> Vec<u8> {
     out
 }
 
-/// The least time of 5 runs, in microseconds.
-fn least<T>(mut run: impl FnMut() -> T) -> u128 {
-    let one = |_| {
-        let begin = Instant::now();
-        std::hint::black_box(run());
-        begin.elapsed().as_micros()
-    };
-    (0..5).map(one).min().expect("5 times")
-}
-
 fn main() {
     let path = std::env::args().nth(1).expect("WORLD");
     let word = std::env::args().nth(2);
     let bytes = std::fs::read(path).expect("a world that can be read");
-    let mut world = read(&bytes);
+    let mut world = std::hint::black_box(read(&bytes));
+    if word.as_deref() == Some("read") {
+        return;
+    }
     let walkers = world.names.first().is_some_and(|n| *n == b"Walker");
     make(&mut world.grid, world.width, world.height, &world.attempts, walkers);
     match word.as_deref() {
         None => std::io::stdout().lock().write_all(&report(&world)).expect("standard output"),
-        Some("texts") => {
-            println!("{} microseconds reading the world", least(|| read(&bytes)));
-            println!("{} microseconds writing the report", least(|| report(&world)));
-        }
         Some(_) => {
             let World { width, height, ref attempts, ref mut grid, .. } = world;
             let least = attempts.chunks_exact(20_000).map(|part| {

@@ -23,16 +23,27 @@ element Stone { Void behave() { } }
 """
 
 
-def world():
-    """A world of one tile: one site in eight has a Wander, one in eight a Stone."""
+def world(tiles=1, attempts=ATTEMPTS, scripted=False):
+    """A world of so many tiles each way: one site in eight has a Wander, one in eight a Stone."""
     draw = random.Random(5)
-    lines = ["feast 1", "tiles 1 1", f"size {SIDE} {SIDE}", "seed 7", f"attempts {ATTEMPTS}"]
-    for y in range(SIDE):
-        for x in range(SIDE):
+    lines = ["feast 1", f"tiles {tiles} {tiles}", f"size {SIDE} {SIDE}"]
+    if scripted:
+        lines += [f"try 0 {draw.randrange(SIDE)} {draw.randrange(SIDE)} {draw.getrandbits(64):016x}" for _ in range(attempts)]
+    else:
+        lines += ["seed 7", f"attempts {attempts // tiles**2}"]
+    for y in range(SIDE * tiles):
+        for x in range(SIDE * tiles):
             kind = draw.randrange(8)
             if kind < 2:
                 lines.append(f"atom {x} {y} {('Wander', 'Stone')[kind]}")
     return "\n".join(lines) + "\n"
+
+
+def build_plain(folder):
+    """Builds the plain program."""
+    plain = folder / "flat"
+    subprocess.run(["rustc", "-O", "-C", "target-cpu=x86-64-v2", HERE / "flat.rs", "-o", plain], check=True)
+    return plain
 
 
 def timed(words):
@@ -47,8 +58,7 @@ def main():
         subprocess.run(["rt", "run"], cwd=CRATE, stdin=subprocess.DEVNULL, capture_output=True)
     with tempfile.TemporaryDirectory() as name:
         folder = pathlib.Path(name)
-        plain = folder / "flat"
-        subprocess.run(["rustc", "-O", "-C", "target-cpu=x86-64-v2", HERE / "flat.rs", "-o", plain], check=True)
+        plain = build_plain(folder)
         (folder / "world").write_text(world())
         (folder / "elements").write_text(ELEMENTS)
         ours = [PROGRAM, "run", folder / "world", folder / "elements"]
@@ -62,4 +72,5 @@ def main():
     print(f"{ATTEMPTS} attempts: proved {proved:.3f} s, plain {flat:.3f} s, ratio {proved / flat:.2f}")
 
 
-main()
+if __name__ == "__main__":
+    main()

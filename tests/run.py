@@ -6,7 +6,9 @@ program is to write on standard output; `status` has its exit status; `shows` sa
 the case shows. All other files are inputs, and the case runs in a copy of its folder. Where
 `stdout` says `full`, standard output is a full device, and the status alone is compared. Each line
 `NAME BYTES` of `spaces` makes an input of so many spaces, and each line of `examples` names a file of
-the folder examples/ that is an input too.
+the folder examples/ that is an input too. Where `then` has words, they are a second call: what the
+first call wrote is its input `report`, and what is compared is its output; without `expected` that has
+to be the first lines of what the first call wrote.
 """
 import pathlib
 import shutil
@@ -18,9 +20,9 @@ CASES = pathlib.Path(__file__).resolve().parent / "cases"
 EXAMPLES = CASES.parent.parent / "examples"
 
 
-def words_of(case):
-    """The words of a case, as bytes."""
-    text = (case / "args").read_bytes()
+def words_of(file):
+    """The words of a call, as bytes."""
+    text = file.read_bytes()
     return text.split(b"\n")[:-1] if text.endswith(b"\n") else text.split(b"\n")
 
 
@@ -40,6 +42,12 @@ def copy_examples(folder):
             shutil.copy(EXAMPLES / name, folder)
 
 
+def call(program, folder, words, stdout=subprocess.PIPE):
+    """One call of the program."""
+    how = {"stdin": subprocess.DEVNULL, "stdout": stdout, "stderr": subprocess.DEVNULL}
+    return subprocess.run([program.encode(), *words], cwd=folder, timeout=60, check=False, **how)
+
+
 def run(program, case):
     """What is wrong with a case, or None."""
     with tempfile.TemporaryDirectory() as folder:
@@ -47,24 +55,23 @@ def run(program, case):
         shutil.copytree(case, copy)
         make_spaces(copy)
         copy_examples(copy)
-        command = [program.encode(), *words_of(case)]
         full = (case / "stdout").exists()
         with open("/dev/full", "wb") as device:
-            done = subprocess.run(
-                command,
-                cwd=copy,
-                stdin=subprocess.DEVNULL,
-                stdout=device if full else subprocess.PIPE,
-                stderr=subprocess.DEVNULL,
-                timeout=60,
-                check=False,
-            )
+            done = call(program, copy, words_of(case / "args"), device if full else subprocess.PIPE)
+        first = done
+        if (case / "then").exists():
+            (copy / "report").write_bytes(first.stdout)
+            done = call(program, copy, words_of(case / "then"))
     status = int((case / "status").read_text())
     if done.returncode != status:
         return f"status {done.returncode}, not {status}"
-    if not full and done.stdout != (case / "expected").read_bytes():
-        return f"wrote {done.stdout[:200]!r}"
-    return None
+    if full:
+        return None
+    if (case / "expected").exists():
+        is_right = done.stdout == (case / "expected").read_bytes()
+    else:
+        is_right = done.stdout != b"" and first.stdout.startswith(done.stdout)
+    return None if is_right else f"wrote {done.stdout[:200]!r}"
 
 
 def main():

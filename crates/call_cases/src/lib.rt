@@ -3,8 +3,12 @@
 #![tactic(auto)]
 
 #[cfg(test)]
-mod checks;
+mod calls;
 #[cfg(test)]
-mod replays;
+mod faults;
 #[cfg(test)]
-mod runs;
+mod limits;
+#[cfg(test)]
+mod table;
+#[cfg(test)]
+mod workers;

@@ -11,8 +11,6 @@ mod grid;
 mod inner;
 mod marks;
 mod record;
-#[cfg(test)]
-mod tests;
 
 pub use behave::Behave;
 pub use grid::Grid;

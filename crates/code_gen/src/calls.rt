@@ -1,6 +1,6 @@
 //! The functions that a piece calls.
 
-ghost use Rattle.std.specs.Prelude.{◌≡◌, OnOk, List, map};
+ghost use Rattle.std.specs.Prelude.{◌≡◌, OnOk, map};
 ghost use Rattle.code_gen.specs.Pieces.{has_key, add_key, add_calls};
 ghost use Rattle.code_gen.specs.Views.{piece_of, pieces_of, key_of};
 

@@ -1,12 +1,11 @@
 //! How many operands there are at the places of a piece.
 
-ghost use Rattle.std.specs.Prelude.{◌≡◌, ◌≤◌, ◌+◌, ◌-◌, ℕ, Option, Some, None, OnSome};
+ghost use Rattle.std.specs.Prelude.{◌≡◌, ◌≤◌, ◌+◌, ◌-◌, ℕ, Option, Some, None};
 ghost use Rattle.stack_code.specs.Sorts.{sort};
 ghost use Rattle.stack_code.specs.Valid.{is_nothing};
-ghost use Rattle.code_gen.specs.Pieces.{ever};
 ghost use Rattle.code_gen.specs.Drafts.{Drafts, end_by};
 ghost use Rattle.code_gen.specs.Depths.{takes, makes, depth, answer_count, at_most};
-ghost use Rattle.code_gen.specs.Views.{piece_of, pieces_of, key_of, IsBelow};
+ghost use Rattle.code_gen.specs.Views.{piece_of, pieces_of, IsBelow};
 
 use crate::piece::Piece;
 use crate::source::{Head, Source};
@@ -35,46 +34,24 @@ fn after_instr(instr: Instr, d: u32) -> u32
         | Instr::IsKind(_)
         | Instr::LoadFieldAt(_, _, _, _)
         | Instr::LoadPartAt(_, _, _, _, _) => d,
-        Instr::AddI
-        | Instr::SubI
-        | Instr::MulI
-        | Instr::DivI
-        | Instr::RemI
-        | Instr::AddU
-        | Instr::SubU
-        | Instr::MulU
-        | Instr::DivU
-        | Instr::RemU
-        | Instr::AddL
-        | Instr::SubL
-        | Instr::MulL
-        | Instr::DivL
-        | Instr::RemL
-        | Instr::AddV
-        | Instr::SubV
-        | Instr::MulV
-        | Instr::DivV
-        | Instr::RemV
-        | Instr::And
-        | Instr::Or
-        | Instr::Xor
-        | Instr::Shl(_)
-        | Instr::Shr
-        | Instr::Eq
-        | Instr::Ne
-        | Instr::Lt
-        | Instr::Le
-        | Instr::Gt
-        | Instr::Ge
-        | Instr::StoreLocal(_)
-        | Instr::Pop
-        | Instr::StoreField(_, _, _)
-        | Instr::StorePart(_, _, _, _) => d.saturating_sub(1),
+        Instr::PushNum(_)
+        | Instr::PushAtom(_)
+        | Instr::LoadLocal(_)
+        | Instr::LoadField(_, _, _)
+        | Instr::LoadPart(_, _, _, _)
+        | Instr::LoadSelf
+        | Instr::Dup
+        | Instr::Jump(_)
+        | Instr::JumpFalse(_)
+        | Instr::Turn
+        | Instr::Call(_)
+        | Instr::Return
+        | Instr::ReturnVoid => d + 1,
         Instr::StoreSite
         | Instr::Swap
         | Instr::StoreFieldAt(_, _, _, _)
         | Instr::StorePartAt(_, _, _, _, _) => d.saturating_sub(2),
-        _ => d + 1,
+        _ => d.saturating_sub(1), // an operator on two, and what stores or drops one
     }
 }
 

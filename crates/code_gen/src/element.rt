@@ -1,6 +1,6 @@
 //! The code of an element from its functions.
 
-ghost use Rattle.std.specs.Prelude.{◌≡◌, ◌≤◌, ◌<◌, ◌+◌, ◌∷◌, ◌++◌, [], OnOk, IfOk, map, length, get_or};
+ghost use Rattle.std.specs.Prelude.{◌≡◌, ◌≤◌, ◌<◌, ◌+◌, ◌∷◌, ◌++◌, [], OnOk, IfOk, map, length};
 ghost use Rattle.code_gen.specs.Pieces.{seq, size, lay};
 ghost use Rattle.code_gen.specs.Drafts.{end_by, code_of};
 ghost use Rattle.code_gen.specs.Laws.{IsReady};

@@ -1,11 +1,11 @@
 //! From pieces to instructions.
 
-ghost use Rattle.std.specs.Prelude.{◌≡◌, ◌≤◌, ◌+◌, ◌<◌, [], ◌∷◌, ◌++◌, OnOk, ℕ, List, map, length, pos};
+ghost use Rattle.std.specs.Prelude.{◌≡◌, ◌≤◌, ◌+◌, ◌<◌, [], ◌∷◌, ◌++◌, OnOk, ℕ, map, length};
 ghost use Rattle.code_gen.specs.Pieces.{size, lay, key_number};
 ghost use Rattle.code_gen.specs.Drafts.{end_by};
 ghost use Rattle.code_gen.specs.Views.{piece_of, pieces_of, key_of};
 ghost use Rattle.code_gen.specs.declared.piece.Piece.TheVariants.{Block};
-ghost use Rattle.stack_code.specs.declared.instr.Instr.TheVariants.{Turn, Jump};
+ghost use Rattle.stack_code.specs.declared.instr.Instr.TheVariants.{Turn, Jump, JumpFalse};
 
 use crate::piece::{Key, Piece};
 use crate::size::size_of;
@@ -45,7 +45,8 @@ fn number(keys: &[Key], key: Key) -> u32
     n
 }
 
-/// What a block comes to: its pieces one after another.
+/// What a block comes to: its pieces one after another. The call does nothing: its contract is the
+/// law.
 #[tactic(auto, using(crate::proofs::Blocks::block_is))]
 fn block_law(list: &Vec<Piece>)
     ensures { piece_of (Block list.now) ≡ pieces_of list.now.items }
@@ -81,21 +82,16 @@ pub fn emit(
         Piece::Asks(key) => put(code, Instr::Call(number(keys, *key))),
         Piece::Pick(a, b) => {
             let other = first + 1 + size_of(a) + 1;
-            put(code, Instr::JumpFalse(other))?;
-            emit(code, keys, out, next, a)?;
+            emit_if(code, keys, out, next, other, a)?;
             put(code, Instr::Jump(other + size_of(b)))?;
             emit(code, keys, out, next, b)
         }
-        Piece::Only(a) => {
-            put(code, Instr::JumpFalse(first + 1 + size_of(a)))?;
-            emit(code, keys, out, next, a)
-        }
+        Piece::Only(a) => emit_if(code, keys, out, next, first + 1 + size_of(a), a),
         Piece::Loop(t, a, b) => {
             let step = first + size_of(t) + 1 + size_of(a);
             let past = step + size_of(b) + 2;
             emit(code, keys, out, next, t)?;
-            put(code, Instr::JumpFalse(past))?;
-            emit(code, keys, past, step, a)?;
+            emit_if(code, keys, past, step, past, a)?;
             emit(code, keys, out, next, b)?;
             turn_back(code, first)
         }
@@ -111,6 +107,25 @@ pub fn emit(
         Piece::Gives => put(code, Instr::Return),
         Piece::Leaves => put(code, Instr::ReturnVoid),
     }
+}
+
+/// The same of a piece behind a jump that leads to the place `past` where the number on top is 0.
+#[cycle(emit)]
+fn emit_if(
+    code: &mut Vec<Instr>,
+    keys: &[Key],
+    out: u32,
+    next: u32,
+    past: u32,
+    piece: &Piece,
+) -> Result<(), NoMemory>
+    requires few { length keys.now ≤ 65536 }
+    requires fits { length code.old.items + (1 + size (piece_of piece.now)) ≤ 65536 }
+    ensures long { OnOk result (length code.new.items ≡ length code.old.items + (1 + size (piece_of piece.now))) }
+    ensures ok { OnOk result (code.new.items ≡ code.old.items ++ JumpFalse past ∷ lay (map key_of keys.now) (length code.old.items + 1) out next (piece_of piece.now)) }
+{
+    put(code, Instr::JumpFalse(past))?;
+    emit(code, keys, out, next, piece)
 }
 
 /// The same of pieces one after another.

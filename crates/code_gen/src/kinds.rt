@@ -1,5 +1,5 @@
 //! What holds values of types, and the instructions of operators.
-ghost use Rattle.std.specs.Prelude.{◌≡◌, true, nat_le};
+ghost use Rattle.std.specs.Prelude.{◌≡◌, true};
 ghost use Rattle.ulam_meaning.specs.Values.{number_type, width_of, arith_by, arith_of, arith_with};
 ghost use Rattle.ulam_meaning.specs.Statements.{count_op};
 ghost use Rattle.code_gen.specs.Clipped.{clip_instr};

@@ -1,6 +1,7 @@
 //! The pieces of parts of statements.
 ghost use Rattle.std.specs.Prelude.{◌≡◌, IfOk, option_map};
 ghost use Rattle.ulam_tree.specs.ResolvedViews.{resolved_path};
+ghost use Rattle.ulam_tree.specs.Typed as tree;
 ghost use Rattle.ulam_tree.specs.TypedViews.{typed_expr, typed_args, typed_cond, typed_left};
 ghost use Rattle.ulam_meaning.specs.Paths as paths;
 ghost use Rattle.ulam_meaning.specs.Programs.{type_number};
@@ -15,7 +16,7 @@ ghost use Rattle.stack_code.specs.declared.instr.Instr.TheVariants.{Pop};
 use crate::access::{byte, fit, load, load_at, store, store_at, type_at};
 use crate::classes::Scene;
 use crate::expr::{call, expr, if_nothing};
-use crate::kinds::{answer_of, blank_instr, number_type, update_instr};
+use crate::kinds::{answer_of, blank_instr, count_op, number_type, update_instr, width_of};
 use crate::lookup::type_number;
 use crate::make;
 use crate::path::callee;
@@ -154,7 +155,7 @@ fn assign_at(
 }
 
 /// What is assigned to a left side, by the value's piece and its width.
-pub fn assign(
+fn assign(
     alloc: Global,
     scene: &Scene,
     left: &Left,
@@ -168,6 +169,29 @@ pub fn assign(
         None => assign_path(alloc, scene, &left.path, op, width, value),
         Some(index) => assign_at(alloc, scene, &left.path, index, op, width, value),
     }
+}
+
+/// An assignment of a value.
+pub fn assign_value(
+    alloc: Global,
+    scene: &Scene,
+    left: &Left,
+    op: Option<PairOp>,
+    value: &Expr,
+) -> Result<Piece, NoMemory>
+    ensures { IfOk result (λ q. piece_of q ≡ clip (scheme.statement_piece (scene_of scene.now) (tree.assigns (typed_left left.now) op (typed_expr value.now)))) }
+{
+    let width = width_of(value.ty);
+    let value = expr(alloc, scene, value)?;
+    assign(alloc, scene, left, op, width, value)
+}
+
+/// A count by 1, up or down.
+pub fn count(alloc: Global, scene: &Scene, left: &Left, up: bool) -> Result<Piece, NoMemory>
+    ensures { IfOk result (λ q. piece_of q ≡ clip (scheme.statement_piece (scene_of scene.now) (tree.counts (typed_left left.now) up))) }
+{
+    let one = Piece::Plain(Instr::PushNum(1));
+    assign(alloc, scene, left, Some(count_op(up)), 32, one)
 }
 
 /// A loop, which may lack a condition.

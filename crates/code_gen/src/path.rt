@@ -1,7 +1,7 @@
 //! What paths name, and which functions they call.
-ghost use Rattle.std.specs.Prelude.{◌≡◌, ◌+◌};
+ghost use Rattle.std.specs.Prelude.{◌≡◌};
 ghost use Rattle.ulam_tree.specs.ResolvedViews.{resolved_path};
-ghost use Rattle.ulam_meaning.specs.Paths.{field_spot, bit_of, through, spot, spot_type, callee};
+ghost use Rattle.ulam_meaning.specs.Paths.{field_spot, bit_of, through, spot, callee};
 ghost use Rattle.code_gen.specs.Clipped.{word, clip_spot, clip_callee};
 ghost use Rattle.code_gen.specs.Seen.{program_of, field_of, scene_of, spot_of, callee_of, numbers_of};
 

@@ -8,12 +8,10 @@ ghost use Rattle.code_gen.specs.Views.{piece_of};
 
 use crate::classes::Scene;
 use crate::expr::expr;
-use crate::kinds::{count_op, width_of};
 use crate::make;
-use crate::parts::{around, assign, cond, declare, does, give_back};
+use crate::parts::{around, assign_value, cond, count, declare, does, give_back};
 use crate::piece::Piece;
 use feast_base::NoMemory;
-use stack_code::Instr;
 use std::alloc::Global;
 use ulam_tree::typed::Statement;
 
@@ -61,15 +59,8 @@ fn statement(alloc: Global, scene: &Scene, one: &Statement) -> Result<Piece, NoM
             value,
             ..
         } => declare(alloc, scene, of.ty, *slot, value),
-        Statement::Assign { left, op, value } => {
-            let width = width_of(value.ty);
-            let value = expr(alloc, scene, value)?;
-            assign(alloc, scene, left, *op, width, value)
-        }
-        Statement::Count { left, up } => {
-            let one = Piece::Plain(Instr::PushNum(1));
-            assign(alloc, scene, left, Some(count_op(*up)), 32, one)
-        }
+        Statement::Assign { left, op, value } => assign_value(alloc, scene, left, *op, value),
+        Statement::Count { left, up } => count(alloc, scene, left, *up),
         Statement::Call { call } => does(alloc, scene, &call.path, call.args.as_slice()),
     }
 }

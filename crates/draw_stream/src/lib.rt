@@ -8,8 +8,6 @@ mod attempt;
 mod attempts;
 mod event_draws;
 mod plan;
-#[cfg(test)]
-mod tests;
 mod tile_stream;
 
 pub use attempt::Attempt;

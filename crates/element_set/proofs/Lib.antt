@@ -3,10 +3,12 @@ pub mod CodesText
 pub mod Composing
 pub mod Counting
 pub mod Fitting
+pub mod FormedNames
 pub mod Named
 pub mod NewNames
 pub mod Numbering
 pub mod OneSet
-mod Sharing
+pub mod Sharing
 pub mod SomeSet
 pub mod Telling
+pub mod TokensKept

@@ -13,7 +13,7 @@ use Rattle.ulam_types.specs.Programs.{class_sig}
 use Rattle.ulam_types.specs.ProgramTyping.{AreTypedMembers, AreTypedClasses, IsTypedProgram}
 use Rattle.element_set.specs.Names.{class_names, AreNew, field_count, counts, AreSlim, AreNamed}
 
-abbrev half_names : List HalfClass → List (List ℕ)
+abbrev pub half_names : List HalfClass → List (List ℕ)
 half_names [] = []
 half_names (h ∷ hs) = h.word.name ∷ half_names hs
 
@@ -42,7 +42,7 @@ items_apart done (raw.class c ∷ xs) known full hs few k i =
     let half : HalfClass = record { quark = c.quark; word = c.word; names = i.0.0; members = i.0.1 } in
     subst (Apart done) (sym i.4) (apart_more done p half i.1 refl k.1 rest)
 
-classes_half : (known : Known) (heads : List Head) (k : ℕ) (hs : List HalfClass) (cs : List r.Class) → AreClasses known heads k hs cs → class_names cs ≡ half_names hs
+pub classes_half : (known : Known) (heads : List Head) (k : ℕ) (hs : List HalfClass) (cs : List r.Class) → AreClasses known heads k hs cs → class_names cs ≡ half_names hs
 classes_half known heads k [] cs h = ap class_names h
 classes_half known heads k (x ∷ hs) cs h = ap class_names h.4 ∙ ap (λ ns. x.word.name ∷ ns) (classes_half known heads (k + 1) hs h.1 h.3)
 
@@ -124,7 +124,7 @@ resolved_named xs cs h =
       slim = classes_slim h.known _ 0 h.halves cs h.whole (items_slim h.known xs h.halves h.declared);
     }
 
-typed_names : (sigs : List ClassSig) (k : ℕ) (cs : List r.Class) (us : List t.Class) → AreTypedClasses sigs k cs us → class_names us ≡ class_names cs
+pub typed_names : (sigs : List ClassSig) (k : ℕ) (cs : List r.Class) (us : List t.Class) → AreTypedClasses sigs k cs us → class_names us ≡ class_names cs
 typed_names sigs k [] us h = ap class_names h
 typed_names sigs k (c ∷ cs) us h = ap class_names h.4 ∙ ap (λ ns. c.word.name ∷ ns) (typed_names sigs (k + 1) cs h.1 h.3)
 

@@ -44,7 +44,6 @@ plain_texts =
     (80, codes "bad line") ∷
     (82, codes "not a site of the tile") ∷
     (83, codes "not an attempt of the tile") ∷
-    (90, codes "not built yet") ∷
     []
 
 -- the text of a code in such a list

@@ -164,7 +164,6 @@ fn plain_text(code: u8) -> &'static [u8]
         76 => b"missing line",
         82 => b"not a site of the tile",
         83 => b"not an attempt of the tile",
-        90 => b"not built yet",
         _ => b"",
     }
 }

@@ -1,6 +1,6 @@
 -- Which stages have one outcome apart from loads that fail, which refuse nothing, and which words they may miss.
 use Rattle.std.proofs.Common.{ℕ, ◌≡◌, List, Result, Ok, Err, ap, sym, subst, ◌∙◌, inl, inr}
-use Rattle.feast_run.specs.Outcomes.{Stage, Outcome, passes, refuses, RefusedValue, Goes, and_then, gives, gives_known, decides, demands, IsSure, IsOne, Accepts, MissesOf}
+use Rattle.feast_run.specs.Outcomes.{Stage, Outcome, passes, refuses, RefusedValue, Goes, and_then, gives, gives_any, gives_known, decides, IsSure, IsOne, Accepts, MissesOf}
 
 -- the rest of a stage that passed
 pub went : {A B : Type 0} (S : Stage A) (T : A → Stage B) (b : B) → and_then S T (passes b) → Goes S T (passes b)
@@ -40,6 +40,9 @@ gives_one a = record {
   one_value = λ b c p q. p ∙ sym q;
 }
 
+pub any_sure : {A : Type 0} (P : A → Type 0) → IsSure (gives_any P)
+any_sure P = record { apart = λ b r p q. absurd q; one_refusal = λ r s p q. absurd p }
+
 pub known_one : {A : Type 0} (P : Type 0) (a : A) → IsOne (gives_known P a)
 known_one P a = record {
   sure = record { apart = λ b r p q. absurd q; one_refusal = λ r s p q. absurd p };
@@ -55,12 +58,6 @@ decides_one refusal (Ok x) = record {
 decides_one refusal (Err e) = record {
   sure = record { apart = λ a r p q. cc (p); one_refusal = λ r s p q. let same : p.0 ≡ q.0 = cc (p.1, q.1) in p.2 ∙ ap refusal same ∙ sym q.2 };
   one_value = λ a b p q. cc (p);
-}
-
-pub demands_one : {A : Type 0} (P : Type 0) (r : RefusedValue) (a : A) → IsOne (demands P r a)
-demands_one P r a = record {
-  sure = record { apart = λ b s p q. q.0 p.0; one_refusal = λ s t p q. p.1 ∙ sym q.1 };
-  one_value = λ b c p q. p.1 ∙ sym q.1;
 }
 
 -- a stage that passed, and then one that does not refuse

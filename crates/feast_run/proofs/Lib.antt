@@ -1,8 +1,12 @@
+pub mod Again
 pub mod Ended
+pub mod Generated
+pub mod Judged
 pub mod Laws
 pub mod Loads
 pub mod Machines
 pub mod Missing
+pub mod PlansFit
 pub mod Promised
 pub mod Quiet
 pub mod Runs

@@ -4,10 +4,10 @@ use Rattle.feast_base.specs.Outside.{File, Stock, Told}
 use Rattle.feast_run.proofs.Laws.{then_misses}
 use Rattle.feast_run.specs.Answer.{form_answer}
 use Rattle.feast_run.specs.Ending.{Ends, Leaves, status_of}
-use Rattle.feast_run.specs.Forms.{FormValue, check, code, run, step, replay}
+use Rattle.feast_run.specs.Forms.{FormValue, check, code, pack, run, step, replay, gen, audit, rewind}
 use Rattle.feast_run.specs.Outcomes.{Outcome, MissesOf, passes, refuses, misses}
 use Rattle.feast_run.specs.Promises.{Noted, IsWordOf, file_words}
-use Rattle.feast_run.specs.Stages.{draft_of, load_more, lone_ready, ready, set_of, with_set}
+use Rattle.feast_run.specs.Stages.{draft_of, load_more, ready, set_of, with_set}
 use Rattle.feast_run.specs.declared.status.Status.{Status}
 use Rattle.feast_run.specs.declared.status.Status.TheVariants as how
 use Rattle.world_text.specs.Drafts.{DraftValue}
@@ -30,10 +30,6 @@ draft_misses files world words = then_misses (IsWordOf (world ∷ words)) _ _ (�
 ready_misses : (files : Option (List File)) (world : List ℕ) (words : List (List ℕ)) → MissesOf (IsWordOf (world ∷ words)) (ready files world words)
 ready_misses files world words = then_misses (IsWordOf (world ∷ words)) _ _ (draft_misses files world words) (with_misses files world words)
 
-lone_misses : (files : Option (List File)) (world : List ℕ) (words : List (List ℕ)) → MissesOf (IsWordOf (world ∷ words)) (lone_ready files world words)
-lone_misses files world words =
-    then_misses (IsWordOf (world ∷ words)) _ _ (then_misses (IsWordOf (world ∷ words)) _ _ (draft_misses files world words) (λ d w h. absurd h)) (with_misses files world words)
-
 -- one word more
 later_word : (world journal : List ℕ) (words : List (List ℕ)) (w : List ℕ) → IsWordOf (world ∷ words) w → IsWordOf (world ∷ journal ∷ words) w
 later_word world journal words w h = elim h [ inl e ↦ inl e | inr k ↦ inr (inr k) ]
@@ -42,11 +38,19 @@ later_word world journal words w h = elim h [ inl e ↦ inl e | inr k ↦ inr (i
 pub form_misses : (files : Option (List File)) (form : FormValue) → MissesOf (IsWordOf (file_words form)) (form_answer files form)
 form_misses files (check words) = then_misses _ _ _ (set_misses files words) (λ s w h. absurd h)
 form_misses files (code words) = then_misses _ _ _ (set_misses files words) (λ s w h. absurd h)
-form_misses files (run world words) = then_misses _ _ _ (lone_misses files world words) (λ r w h. absurd h)
+form_misses files (pack words) = then_misses _ _ _ (set_misses files words) (λ s w h. absurd h)
+form_misses files (run world words) = then_misses _ _ _ (ready_misses files world words) (λ r w h. absurd h)
 form_misses files (step world words) = then_misses _ _ _ (ready_misses files world words) (λ r w h. absurd h)
 form_misses files (replay world journal words) =
     then_misses (IsWordOf (world ∷ journal ∷ words)) _ _ (λ w h. later_word world journal words w (ready_misses files world words w h))
     (λ r. then_misses (IsWordOf (world ∷ journal ∷ words)) _ _ (then_misses (IsWordOf (world ∷ journal ∷ words)) _ _ (λ w h. inr (inl h)) (λ b w h. absurd h)) (λ j w h. absurd h))
+form_misses files (gen number) = then_misses _ _ _ (λ w h. absurd h) (λ set w h. absurd h)
+form_misses files (audit world report words) =
+    then_misses (IsWordOf (world ∷ report ∷ words)) _ _ (λ w h. later_word world report words w (ready_misses files world words w h))
+    (λ r. then_misses (IsWordOf (world ∷ report ∷ words)) _ _ (λ w h. inr (inl h)) (λ b. then_misses (IsWordOf (world ∷ report ∷ words)) _ _ (λ w h. absurd h) (λ j w h. absurd h)))
+form_misses files (rewind world report k words) =
+    then_misses (IsWordOf (world ∷ report ∷ words)) _ _ (λ w h. later_word world report words w (ready_misses files world words w h))
+    (λ r. then_misses (IsWordOf (world ∷ report ∷ words)) _ _ (then_misses (IsWordOf (world ∷ report ∷ words)) _ _ (λ w h. inr (inl h)) (λ b w h. absurd h)) (λ j w h. absurd h))
 
 noted_by : (f : FormValue) (old new : Stock) (o : Outcome (List ℕ)) (status : Status) → form_answer old.files f o → Leaves old new o →
     ((w : List ℕ) → o ≡ misses w → (status ≡ how.Unreadable) ⊎ ((status ≡ how.SinkFault) ⊎ (status ≡ how.NoMemory))) → Noted (Some f) old new status

@@ -4,21 +4,27 @@ use Rattle.std.proofs.lemmas.List.{length-append, append_cancel_left}
 use Rattle.element_set.specs.Sets.{SetValue, check_text, code_text}
 use Rattle.feast_base.specs.Outside.{File, Grows, Stock, Told}
 use Rattle.feast_base.specs.Refusals.{refusal_line, unreadable_line}
+use Rattle.event_journal.specs.Logs.{abandoned_in, records_in}
+use Rattle.feast_run.proofs.Again.{replays_to}
 use Rattle.feast_run.proofs.Laws.{went}
-use Rattle.feast_run.proofs.Runs.{lone_told, ready_told, set_is}
+use Rattle.feast_run.proofs.Runs.{ready_told, set_is}
 use Rattle.feast_run.proofs.Sure.{form_accepts, form_sure}
-use Rattle.feast_run.specs.Answer.{form_answer, grid_after, shows}
+use Rattle.feast_run.specs.Answer.{form_answer, replay_of, rewind_of, shows}
+use Rattle.feast_run.specs.Audited.{audit_of}
 use Rattle.feast_run.specs.Ending.{Ends, Leaves, Whole, status_of, status_of_input, text_of}
-use Rattle.feast_run.specs.Forms.{FormValue, check, code, run, step, replay}
+use Rattle.feast_run.specs.Packed.{pack_text}
+use Rattle.feast_run.specs.Forms.{FormValue, check, code, pack, run, step, replay, gen, audit, rewind}
+use Rattle.feast_run.specs.Generating.{generates}
 use Rattle.feast_run.specs.Outcomes.{Accepts, IsSure, Outcome, RefusedValue, Stage, and_then, passes, refuses, misses}
-use Rattle.feast_run.specs.Promises.{Agrees, Complete, Exactly, Headline, Lines, RanTold, ReplayTold, SetTold, SteppedTold, Shows, UsageExactly}
-use Rattle.feast_run.specs.Stages.{set_of}
+use Rattle.feast_run.specs.Promises.{Agrees, Complete, Exactly, GenTold, Headline, Lines, RanTold, ReplayTold, SetTold, SteppedTold, Shows, UsageExactly, AuditTold, RewindTold}
+use Rattle.feast_run.specs.Owing.{Reports}
+use Rattle.feast_run.specs.Stages.{ReadyValue, set_of, sourced}
+use Rattle.feast_run.specs.Stepped.{IsSteppedRun, machine_of, stepped_logs, stepped_report}
 use Rattle.feast_run.specs.declared.status.Status.{Status}
 use Rattle.feast_run.specs.declared.status.Status.TheVariants as how
 use Rattle.feast_run.specs.declared.stop.Input.{Input}
 use Rattle.feast_run.specs.declared.stop.Input.TheVariants as input
-use Rattle.one_tile.proofs.Alone.{owes_nothing}
-use Rattle.one_tile.specs.Events.{events_of}
+use Rattle.generated_elements.proofs.Accepted.{two_names}
 
 -- a form of element files that showed a text, part by part
 set_told : (text : SetValue → List ℕ) (files : List File) (words : List (List ℕ)) (appended : List ℕ) → and_then (set_of (Some files) words) (shows text) (passes appended) → SetTold text files words appended
@@ -30,34 +36,45 @@ set_told text files words appended h =
 ran_told : (files : List File) (world : List ℕ) (words : List (List ℕ)) (text : List ℕ) → form_answer (Some files) (run world words) (passes text) → RanTold files world words text
 ran_told files world words text h =
     let r = went _ _ text h in
-    let told = lone_told files world words r.value r.passed in
-    let owes = owes_nothing r.value.world.plane r.value.world.plan told.1 in
+    let s = ready_told files world words r.value r.passed in
+    let reports = subst (λ (v : ReadyValue). Reports v text) s.is r.rest in
     record {
-      world = r.value;
-      told_world = told.0;
-      grid = grid_after r.value (events_of r.value.world.plane r.value.world.plan);
-      records = events_of r.value.world.plane r.value.world.plan;
-      abandoned = [];
-      run = record { replayed = refl; accounted = owes.accounted; stamped = owes.stamped; excused = owes.excused };
-      alone = λ one. (refl, refl);
-      shown = r.rest;
+      world = s.world;
+      set = s.set;
+      told_world = s.told;
+      reports = reports;
+      replays = replays_to files world words s.world s.set reports.grid reports.records reports.abandoned text s.told reports.run reports.shown;
     }
 
 -- a stepped run that showed a text, part by part
 stepped_told : (files : List File) (world : List ℕ) (words : List (List ℕ)) (text : List ℕ) → form_answer (Some files) (step world words) (passes text) → SteppedTold files world words text
 stepped_told files world words text h =
     let r = went _ _ text h in
-    record { world = r.value; told_world = ready_told files world words r.value r.passed; run = r.rest.0; shown = r.rest.1 }
+    let s = ready_told files world words r.value r.passed in
+    let run = subst IsSteppedRun s.is r.rest.0 in
+    let shown = r.rest.1 ∙ ap stepped_report s.is in
+    let ready = sourced s.world s.set in
+    record {
+      world = s.world;
+      set = s.set;
+      told_world = s.told;
+      run = run;
+      shown = shown;
+      replays = replays_to files world words s.world s.set (machine_of ready).grid (records_in (stepped_logs ready)) (abandoned_in (stepped_logs ready)) text s.told run shown;
+    }
 
 -- a replay that showed a text, part by part
 replay_told : (files : List File) (world journal : List ℕ) (words : List (List ℕ)) (text : List ℕ) → form_answer (Some files) (replay world journal words) (passes text) → ReplayTold files world journal words text
 replay_told files world journal words text h =
     let r = went _ _ text h in
-    let j = went _ _ text r.rest in
+    let s = ready_told files world words r.value r.passed in
+    let rest = subst (λ (v : ReadyValue). replay_of (Some files) journal v (passes text)) s.is r.rest in
+    let j = went _ _ text rest in
     let b = went _ _ j.value j.passed in
     record {
-      world = r.value;
-      told_world = ready_told files world words r.value r.passed;
+      world = s.world;
+      set = s.set;
+      told_world = s.told;
       journal_bytes = b.value;
       journal_file = b.passed.0;
       journal_within = b.passed.1;
@@ -66,12 +83,59 @@ replay_told files world journal words text h =
       shown = j.rest;
     }
 
+-- a generated run that showed a text, part by part
+gen_told : (number : ℕ) (text : List ℕ) → generates number (passes text) → GenTold number text
+gen_told number text h =
+    let s = went _ _ text h in
+    record { set = s.value; is_set = s.passed; names = two_names s.value s.passed; run = s.rest.0; shown = s.rest.1 }
+
+-- an audit that showed a text, part by part
+audit_told : (files : List File) (world report : List ℕ) (words : List (List ℕ)) (text : List ℕ) → form_answer (Some files) (audit world report words) (passes text) → AuditTold files world report words text
+audit_told files world report words text h =
+    let r = went _ _ text h in
+    let s = ready_told files world words r.value r.passed in
+    let rest = subst (λ (v : ReadyValue). audit_of (Some files) report v (passes text)) s.is r.rest in
+    let b = went _ _ text rest in
+    let j = went _ _ text b.rest in
+    record {
+      world = s.world;
+      set = s.set;
+      told_world = s.told;
+      bytes = b.value;
+      journal = j.value;
+      told_report = record { file = b.passed.0; within = b.passed.1; reads = j.passed };
+      audits = j.rest;
+    }
+
+-- a rewind that showed a text, part by part
+rewind_told : (files : List File) (world report : List ℕ) (k : ℕ) (words : List (List ℕ)) (text : List ℕ) → form_answer (Some files) (rewind world report k words) (passes text) → RewindTold files world report k words text
+rewind_told files world report k words text h =
+    let r = went _ _ text h in
+    let s = ready_told files world words r.value r.passed in
+    let rest = subst (λ (v : ReadyValue). rewind_of (Some files) report k v (passes text)) s.is r.rest in
+    let j = went _ _ text rest in
+    let b = went _ _ j.value j.passed in
+    record {
+      world = s.world;
+      set = s.set;
+      told_world = s.told;
+      bytes = b.value;
+      journal = j.value;
+      told_report = record { file = b.passed.0; within = b.passed.1; reads = b.rest };
+      enough = j.rest.0;
+      shown = j.rest.1;
+    }
+
 shows_of : (files : List File) (form : FormValue) (text : List ℕ) → form_answer (Some files) form (passes text) → Shows files form text
 shows_of files (check words) text h = set_told check_text files words text h
 shows_of files (code words) text h = set_told code_text files words text h
+shows_of files (pack words) text h = set_told pack_text files words text h
 shows_of files (run world words) text h = ran_told files world words text h
 shows_of files (step world words) text h = stepped_told files world words text h
 shows_of files (replay world journal words) text h = replay_told files world journal words text h
+shows_of files (gen number) text h = gen_told number text h
+shows_of files (audit world report words) text h = audit_told files world report words text h
+shows_of files (rewind world report k words) text h = rewind_told files world report k words text h
 
 -- no refusal has one of the statuses of a whole call
 not_done : (i : Input) → status_of_input i ≡ how.Done → ⊥

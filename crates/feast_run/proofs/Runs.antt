@@ -13,77 +13,75 @@ use Rattle.event_journal.specs.declared.fault.LineFault.{LineFault}
 use Rattle.feast_base.specs.Outside.{File, file_of}
 use Rattle.feast_run.proofs.Laws.{went}
 use Rattle.feast_run.proofs.Loads.{loaded_files}
+use Rattle.feast_run.specs.Answer.{grid_after, run_report}
 use Rattle.feast_run.specs.Faults.{IsJournalStop, IsWorldStop}
 use Rattle.feast_run.specs.Outcomes.{RefusedValue, passes}
+use Rattle.feast_run.specs.Owing.{Reports}
 use Rattle.feast_run.specs.Promises.{IsSet, WorldTold}
-use Rattle.feast_run.specs.Stages.{JournalValue, ReadyValue, journal_limit, journal_of, journal_said, load, lone_ready, named_by, ready, set_of, with_set, world_limit}
+use Rattle.feast_run.specs.Stages.{JournalValue, ReadyValue, journal_in, journal_limit, journal_of, journal_said, load, named_by, ready, set_of, sourced, with_set, world_limit}
 use Rattle.feast_run.specs.Tellings.{Tells}
 use Rattle.feast_run.specs.Values.{journal_value, ready_value}
 use Rattle.feast_run.specs.declared.stop.Stop.{Stop}
 use Rattle.feast_run.specs.declared.stop.Stop.TheVariants.{Refused, Missing, NoMemory}
 use Rattle.grid_print.specs.Report.{AreNamed}
-use Rattle.one_tile.proofs.Alone.{each, no_attempt}
+use Rattle.one_tile.proofs.Alone.{each, no_attempt, owes_nothing}
 use Rattle.one_tile.specs.Events.{IsAlone, events_of}
 use Rattle.element_set.specs.Sets.{Coded, SetValue, element_names}
 use Rattle.tile_map.specs.Plane.{MapValue, IsMap, in_plane, is_live, is_on, owner_of, site_in, tiles_of}
 use Rattle.tile_map.proofs.Spans.{lt_test}
 use Rattle.window_sites.specs.Window.{WindowValue}
 use Rattle.world_grid.proofs.Journals.{journal_live}
-use Rattle.world_grid.proofs.Valid.{reads_valid}
 use Rattle.world_grid.specs.Known.{ArePlacedKnown, BringsNone, IsKnown}
 use Rattle.world_grid.specs.Worlds.{IsLiveEvent, IsWorld}
 use Rattle.world_text.specs.Drafts.{DraftValue}
-use Rattle.world_text.specs.Named.{WorldValue, name_fault, named, unless, world_of}
+use Rattle.world_text.specs.Named.{WorldValue, named}
 use Rattle.world_text.specs.Reading.{read_text, IsFault as IsNameFault}
 use Rattle.world_text.specs.declared.world.Placed.{Placed}
-
--- the plane of a world is that of its text
-pub plane_said : (names : List (List ℕ)) (d : DraftValue) (w : WorldValue) → named names d ≡ Ok w → w.plane ≡ d.plane
-plane_said names d w e = on (name_fault names (d.plane.tx * d.plane.w) [] d.atoms) e
-  where
-    on : (o : Option (ℕ × ℕ)) → unless (world_of names d) o ≡ Ok w → w.plane ≡ d.plane
-    on (Some fault) h = cc
-    on None h = let same : world_of names d ≡ w = cc in ap (λ (v : WorldValue). v.plane) (sym same)
 
 pub set_is : (files : List File) (words : List (List ℕ)) (set : SetValue) → set_of (Some files) words (passes set) → IsSet files words set
 set_is files words set h = let l = went _ _ set h in record { sources = l.value; are_files = loaded_files files words l.value l.passed; accepted = l.rest }
 
+-- a ready world is one that is told, with the elements of a set
+pub record Sourced (files : List File) (word : List ℕ) (words : List (List ℕ)) (r : ReadyValue) : Type 0 where
+  pub world : WorldValue
+  pub set : SetValue
+  pub is : r ≡ sourced world set
+  pub told : WorldTold files word words world set
+
 with_told : (files : List File) (word : List ℕ) (words : List (List ℕ)) (d : DraftValue) (bytes : List ℕ) (r : ReadyValue) → file_of word files ≡ Some bytes → length bytes ≤ world_limit → read_text bytes ≡ Ok d →
-    with_set (Some files) word words d (passes r) → WorldTold files word words r
+    with_set (Some files) word words d (passes r) → Sourced files word words r
 with_told files word words d bytes r file within reads h =
     let w = went _ _ r h in
     let n = went _ _ r w.rest in
-    subst (WorldTold files word words) (sym n.rest) (record { is_set = set_is files words w.value w.passed; bytes = bytes; file = file; within = within; reads = (d, reads, n.passed) })
+    record {
+      world = n.value;
+      set = w.value;
+      is = n.rest;
+      told = record { is_set = set_is files words w.value w.passed; bytes = bytes; file = file; within = within; reads = (d, reads, n.passed) };
+    }
 
-pub ready_told : (files : List File) (word : List ℕ) (words : List (List ℕ)) (r : ReadyValue) → ready (Some files) word words (passes r) → WorldTold files word words r
+pub ready_told : (files : List File) (word : List ℕ) (words : List (List ℕ)) (r : ReadyValue) → ready (Some files) word words (passes r) → Sourced files word words r
 ready_told files word words r h =
     let a = went _ _ r h in
     let b = went _ _ a.value a.passed in
     with_told files word words a.value b.value r b.passed.0 b.passed.1 b.rest a.rest
 
--- a world that is ready to be run has one tile
-pub lone_alone : (files : Option (List File)) (word : List ℕ) (words : List (List ℕ)) (r : ReadyValue) → lone_ready files word words (passes r) → tiles_of r.world.plane ≡ 1
-lone_alone files word words r h =
-    let a = went _ _ r h in
-    let l = went _ _ a.value a.passed in
-    let w = went _ _ r a.rest in
-    let n = went _ _ r w.rest in
-    ap (λ (v : ReadyValue). tiles_of v.world.plane) n.rest
-    ∙ ap tiles_of (plane_said (element_names w.value) a.value n.value n.passed)
-    ∙ ap (λ (v : DraftValue). tiles_of v.plane) l.rest.1
-    ∙ l.rest.0
-
+-- a world of one tile
 pub is_alone : (w : WorldValue) → IsWorld w → tiles_of w.plane ≡ 1 → IsAlone w.plane w.plan
 is_alone w h one = record { map = h.map; one = one; lists = h.lists ∙ one; centres = λ k d lt. (h.attempts 0 k d lt).centre }
 
-pub lone_told : (files : List File) (word : List ℕ) (words : List (List ℕ)) (r : ReadyValue) → lone_ready (Some files) word words (passes r) → WorldTold files word words r × IsAlone r.world.plane r.world.plan
-lone_told files word words r h =
-    let a = went _ _ r h in
-    let l = went _ _ a.value a.passed in
-    let b = went _ _ l.value l.passed in
-    let reads = b.rest ∙ ap Ok (sym l.rest.1) in
-    let told = with_told files word words a.value b.value r b.passed.0 b.passed.1 reads a.rest in
-    (told, is_alone r.world (reads_valid told.bytes (element_names r.set) r.world told.reads) (lone_alone (Some files) word words r h))
+-- the report of its run
+pub alone_reports : (r : ReadyValue) (text : List ℕ) → IsAlone r.world.plane r.world.plan → text ≡ run_report r → Reports r text
+alone_reports r text alone shown =
+    let owes = owes_nothing r.world.plane r.world.plan alone in
+    record {
+      grid = grid_after r (events_of r.world.plane r.world.plan);
+      records = events_of r.world.plane r.world.plan;
+      abandoned = [];
+      run = record { replayed = refl; accounted = owes.accounted; stamped = owes.stamped; excused = owes.excused };
+      alone = λ one. (refl, refl);
+      shown = shown;
+    }
 
 -- with one tile each attempt is at a live site
 one_factor : (a b : ℕ) → 1 ≤ a → 1 ≤ b → a * b ≡ 1 → a ≡ 1
@@ -138,14 +136,13 @@ pub journal_events : (files : Option (List File)) (word : List ℕ) (w : WorldVa
 journal_events files word w j valid h = let b = went _ _ j h in said_live w b.value j valid b.rest
 
 -- a text that a stage refuses
-pub journal_stops : (files : Option (List File)) (word : List ℕ) (w : WorldValue) (bytes : List ℕ) (o : Option (ℕ × LineFault)) (stop : Stop) → load files journal_limit word (passes bytes) → IsFault (read_report w.plane w.plan.lists bytes) o →
-    IsJournalStop word o stop → Tells journal_value (journal_of files word w) (Err stop)
-journal_stops files word w bytes None (Refused s) loaded asked is = absurd is
-journal_stops files word w bytes None (Missing v) loaded asked is = absurd is
-journal_stops files word w bytes None NoMemory loaded asked is = tt
-journal_stops files word w bytes (Some fault) (Refused s) loaded asked is = (inr (record { value = bytes; passed = loaded; rest = (fault, ap journal_said asked, is.0) }), subst Coded (sym (ap (λ (v : RefusedValue). v.refusal.code) is.0)) is.1)
-journal_stops files word w bytes (Some fault) (Missing v) loaded asked is = absurd is
-journal_stops files word w bytes (Some fault) NoMemory loaded asked is = absurd is
+pub journal_stops : (word : List ℕ) (w : WorldValue) (bytes : List ℕ) (o : Option (ℕ × LineFault)) (stop : Stop) → IsFault (read_report w.plane w.plan.lists bytes) o → IsJournalStop word o stop → Tells journal_value (journal_in word w bytes) (Err stop)
+journal_stops word w bytes None (Refused s) asked is = absurd is
+journal_stops word w bytes None (Missing v) asked is = absurd is
+journal_stops word w bytes None NoMemory asked is = tt
+journal_stops word w bytes (Some fault) (Refused s) asked is = ((fault, ap journal_said asked, is.0), subst Coded (sym (ap (λ (v : RefusedValue). v.refusal.code) is.0)) is.1)
+journal_stops word w bytes (Some fault) (Missing v) asked is = absurd is
+journal_stops word w bytes (Some fault) NoMemory asked is = absurd is
 
 pub names_stop : (word : List ℕ) (draft : DraftValue) (set : SetValue) (o : Option (ℕ × ℕ)) (stop : Stop) → IsNameFault (named (element_names set) draft) o → IsWorldStop word o stop → Tells ready_value (named_by word draft set) (Err stop)
 names_stop word draft set None (Refused s) asked is = absurd is

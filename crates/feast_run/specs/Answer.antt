@@ -1,31 +1,34 @@
 -- The answer of a form: its stages, up to the text that it writes.
-use Rattle.std.specs.Prelude.{ℕ, List, [], ◌∷◌, ◌++◌, codes, Option}
+use Rattle.std.specs.Prelude.{ℕ, ◌≡◌, ◌≤◌, ◌<◌, List, [], ◌∷◌, ◌++◌, codes, length, take, Option}
 use Rattle.cell_grid.specs.declared.record.Record.{Record}
 use Rattle.cell_grid.specs.Grid.{GridValue}
 use Rattle.cell_grid.specs.Records.{replay as replay_from}
-use Rattle.element_set.specs.Sets.{SetValue, check_text, code_text, element_names, program_of}
+use Rattle.element_set.specs.Sets.{SetValue, check_text, code_text}
 use Rattle.event_journal.specs.Logs.{LogValue, log_of}
 use Rattle.feast_base.specs.Outside.{File}
-use Rattle.feast_run.specs.Forms.{FormValue, check, code, run, step, replay}
-use Rattle.feast_run.specs.Outcomes.{Stage, and_then, gives, gives_known}
-use Rattle.feast_run.specs.Stages.{JournalValue, ReadyValue, journal_of, lone_ready, ready, set_of}
+use Rattle.feast_run.specs.Forms.{FormValue, check, code, pack, run, step, replay, gen, audit, rewind}
+use Rattle.feast_run.specs.Packed.{pack_text}
+use Rattle.feast_run.specs.Generating.{generates}
+use Rattle.feast_run.specs.Outcomes.{Stage, and_then, gives, gives_any, gives_known, passes, refuses, misses}
+use Rattle.feast_run.specs.Audited.{audit_of}
+use Rattle.feast_run.specs.Owing.{Reports}
+use Rattle.feast_run.specs.Stages.{JournalValue, ReadyValue, journal_of, ready, records_refused, set_of}
 use Rattle.feast_run.specs.Stepped.{IsSteppedRun, stepped_report}
 use Rattle.grid_print.specs.Report.{atoms_text, report}
 use Rattle.one_tile.specs.Events.{events_of}
-use Rattle.ulam_meaning.specs.Events.{after}
 use Rattle.world_grid.specs.Start.{start_grid}
 
 -- the flat grid that some events leave, one after another, from the start of a world, by what its elements mean
 abbrev pub grid_after : ReadyValue → List Record → GridValue
-grid_after r records = replay_from (after (program_of r.set)) (start_grid r.world.plane r.world.atoms) records
+grid_after r records = replay_from r.meaning (start_grid r.world.plane r.world.atoms) records
 
--- the report of a run of one tile: each attempt is an event, in its order, and none is abandoned
+-- the report of the run of one tile: each attempt is an event, in its order, and none is abandoned
 abbrev pub run_report : ReadyValue → List ℕ
-run_report r = report (element_names r.set) (grid_after r (events_of r.world.plane r.world.plan)) (events_of r.world.plane r.world.plan) []
+run_report r = report r.names (grid_after r (events_of r.world.plane r.world.plan)) (events_of r.world.plane r.world.plan) []
 
 -- the text of the atoms that some events leave
 abbrev pub atoms_after : ReadyValue → List Record → List ℕ
-atoms_after r records = codes "feast 1\n" ++ atoms_text (element_names r.set) (grid_after r records)
+atoms_after r records = codes "feast 1\n" ++ atoms_text r.names (grid_after r records)
 
 -- the logs of a world of one tile
 abbrev pub lone_logs : ReadyValue → List LogValue
@@ -35,8 +38,9 @@ lone_logs r = log_of 0 (events_of r.world.plane r.world.plan) [] ∷ []
 abbrev pub shows : (SetValue → List ℕ) → SetValue → Stage (List ℕ)
 shows text set = gives (text set)
 
+-- the report of any run
 abbrev pub runs : ReadyValue → Stage (List ℕ)
-runs r = gives (run_report r)
+runs r = gives_any (Reports r)
 
 -- the report of the stepped machine; that what it left is a run's is known
 abbrev pub steps : ReadyValue → Stage (List ℕ)
@@ -48,10 +52,23 @@ replays r journal = gives (atoms_after r journal.records)
 abbrev pub replay_of : Option (List File) → List ℕ → ReadyValue → Stage (List ℕ)
 replay_of files journal r = and_then (journal_of files journal r.world) (replays r)
 
+-- the atoms that the first k events of a journal leave, where it has so many
+abbrev pub rewinds : List ℕ → ℕ → ReadyValue → JournalValue → Stage (List ℕ)
+rewinds word k r journal (passes text) = (k ≤ length journal.records) × (text ≡ atoms_after r (take k journal.records))
+rewinds word k r journal (refuses x) = (length journal.records < k) × (x ≡ records_refused word (length journal.records))
+rewinds word k r journal (misses w) = ⊥
+
+abbrev pub rewind_of : Option (List File) → List ℕ → ℕ → ReadyValue → Stage (List ℕ)
+rewind_of files word k r = and_then (journal_of files word r.world) (rewinds word k r)
+
 -- the stages of a form, in the order of their refusals
 abbrev pub form_answer : Option (List File) → FormValue → Stage (List ℕ)
 form_answer files (check words) = and_then (set_of files words) (shows check_text)
 form_answer files (code words) = and_then (set_of files words) (shows code_text)
-form_answer files (run world words) = and_then (lone_ready files world words) runs
+form_answer files (pack words) = and_then (set_of files words) (shows pack_text)
+form_answer files (run world words) = and_then (ready files world words) runs
 form_answer files (step world words) = and_then (ready files world words) steps
 form_answer files (replay world journal words) = and_then (ready files world words) (replay_of files journal)
+form_answer files (gen number) = generates number
+form_answer files (audit world report words) = and_then (ready files world words) (audit_of files report)
+form_answer files (rewind world report k words) = and_then (ready files world words) (rewind_of files report k)

@@ -1,18 +1,26 @@
 -- The forms that the words of a call may have.
-use Rattle.std.specs.Prelude.{ℕ, ◌≤◌, List, [], ◌∷◌, Option, Some, None, length, codes, map, string_bytes, if◌then◌else◌, nat_le, ◌&&◌}
+use Rattle.std.specs.Prelude.{ℕ, ◌≤◌, ◌^◌, List, [], ◌∷◌, Option, Some, None, length, codes, map, option_map, string_bytes, if◌then◌else◌, nat_le, nat_lt, ◌&&◌, option_and_then}
+use Rattle.std.specs.Option.{option_and_then}
+use Rattle.text_lines.specs.Fields.{number_of}
 use Rattle.std.specs.Str.{bytes_eq}
 use Rattle.feast_run.specs.declared.form.Form.{Form}
 use Rattle.feast_run.specs.declared.form.Form.TheVariants as kind
+use Rattle.text_lines.specs.Fields.{number_of}
 
--- what the words of a call ask for: a check of some element files; the codes of their elements; a run of the world in
--- one file with the elements in others; the same as a stepped run; and the atoms that a journal gives when its events are
--- made once more from the world's start
+-- what the words of a call ask for: a check of some element files; the codes of their elements; their code file; a run of
+-- the world in one file with the elements in others; the same as a stepped run; the atoms that a journal gives when its
+-- events are made once more from the world's start; the judgement on a report; the atoms that the first events of a report
+-- give; and the summary of the run of a world that a number gives
 pub data FormValue : Type 0 where
   check : List (List ℕ) → FormValue
   code : List (List ℕ) → FormValue
+  pack : List (List ℕ) → FormValue
   run : List ℕ → List (List ℕ) → FormValue
   step : List ℕ → List (List ℕ) → FormValue
   replay : List ℕ → List ℕ → List (List ℕ) → FormValue
+  gen : ℕ → FormValue
+  audit : List ℕ → List ℕ → List (List ℕ) → FormValue
+  rewind : List ℕ → List ℕ → ℕ → List (List ℕ) → FormValue
 
 -- the most element files
 abbrev pub most_files : ℕ
@@ -37,29 +45,77 @@ abbrev pub of_journal : (List ℕ → List ℕ → List (List ℕ) → FormValue
 of_journal make [] = None
 of_journal make (world ∷ words) = of_world (make world) words
 
+-- a canonical decimal below 2 ^ 64
+abbrev pub small_number : List ℕ → Option ℕ
+small_number word = option_and_then (λ n. if nat_lt n (2 ^ 64) then Some n else None) (number_of word)
+
+-- one word, which is such a number
+abbrev pub of_number : List (List ℕ) → Option ℕ
+of_number [] = None
+of_number (word ∷ []) = small_number word
+of_number (word ∷ other ∷ words) = None
+
+-- how many events are to be left: a canonical decimal, at most 1,000,000
+abbrev pub most_left : ℕ
+most_left = 1000000
+
+abbrev pub left_of : List ℕ → Option ℕ
+left_of word = option_and_then (λ n. if nat_le n most_left then Some n else None) (number_of word)
+
+-- a form of how many are left and file words
+abbrev pub form_left : (ℕ → List (List ℕ) → FormValue) → Option ℕ → Option (List (List ℕ)) → Option FormValue
+form_left make None words = None
+form_left make (Some n) words = form_with (make n) words
+
+-- how many are left, and then file words
+abbrev pub of_left : (ℕ → List (List ℕ) → FormValue) → List (List ℕ) → Option FormValue
+of_left make [] = None
+of_left make (word ∷ words) = form_left make (left_of word) (of_files words)
+
+-- two words, how many are left, and then file words
+abbrev pub of_report : (List ℕ → ℕ → List (List ℕ) → FormValue) → List (List ℕ) → Option FormValue
+of_report make [] = None
+of_report make (word ∷ words) = of_left (make word) words
+
+abbrev pub of_rewind : List (List ℕ) → Option FormValue
+of_rewind [] = None
+of_rewind (world ∷ words) = of_report (rewind world) words
+
 -- the form of the words
 abbrev pub form_of : List (List ℕ) → Option FormValue
 form_of [] = None
 form_of (verb ∷ words) =
     if bytes_eq verb (codes "check") then form_with check (of_files words)
     else if bytes_eq verb (codes "code") then form_with code (of_files words)
+    else if bytes_eq verb (codes "pack") then form_with pack (of_files words)
     else if bytes_eq verb (codes "run") then of_world run words
     else if bytes_eq verb (codes "step") then of_world step words
     else if bytes_eq verb (codes "replay") then of_journal replay words
+    else if bytes_eq verb (codes "gen") then option_map gen (of_number words)
+    else if bytes_eq verb (codes "audit") then of_journal audit words
+    else if bytes_eq verb (codes "rewind") then of_rewind words
     else None
 
 -- the code's form as this
 abbrev pub form_value : Form → FormValue
 form_value (kind.Check files) = check (map string_bytes files.now)
 form_value (kind.Code files) = code (map string_bytes files.now)
+form_value (kind.Pack files) = pack (map string_bytes files.now)
 form_value (kind.Run world files) = run world.now (map string_bytes files.now)
 form_value (kind.Step world files) = step world.now (map string_bytes files.now)
 form_value (kind.Replay world journal files) = replay world.now journal.now (map string_bytes files.now)
+form_value (kind.Gen number) = gen number
+form_value (kind.Audit world report files) = audit world.now report.now (map string_bytes files.now)
+form_value (kind.Rewind world report left files) = rewind world.now report.now left (map string_bytes files.now)
 
 -- it has so many element files as a form may have
 abbrev pub IsFew : Form → Type 0
 IsFew (kind.Check files) = length files.now ≤ most_files
 IsFew (kind.Code files) = length files.now ≤ most_files
+IsFew (kind.Pack files) = length files.now ≤ most_files
 IsFew (kind.Run world files) = length files.now ≤ most_files
 IsFew (kind.Step world files) = length files.now ≤ most_files
 IsFew (kind.Replay world journal files) = length files.now ≤ most_files
+IsFew (kind.Gen number) = Unit {0}
+IsFew (kind.Audit world report files) = length files.now ≤ most_files
+IsFew (kind.Rewind world report left files) = length files.now ≤ most_files

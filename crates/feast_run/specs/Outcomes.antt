@@ -44,6 +44,12 @@ gives a (passes b) = b ≡ a
 gives a (refuses r) = ⊥
 gives a (misses w) = ⊥
 
+-- a stage that passes with any value of which this holds
+abbrev pub gives_any : {A : Type 0} → (A → Type 0) → Stage A
+gives_any P (passes b) = P b
+gives_any P (refuses r) = ⊥
+gives_any P (misses w) = ⊥
+
 -- a stage that passes with this value, of which this is known
 abbrev pub gives_known : {A : Type 0} → Type 0 → A → Stage A
 gives_known P a (passes b) = P × (b ≡ a)
@@ -55,12 +61,6 @@ abbrev pub decides : {A E : Type 0} → (E → RefusedValue) → Result A E → 
 decides refusal said (passes a) = said ≡ Ok a
 decides {A} {E} refusal said (refuses r) = (e : E) × (said ≡ Err e) × (r ≡ refusal e)
 decides refusal said (misses w) = ⊥
-
--- a stage that passes with this value where this holds, and refuses where it does not
-abbrev pub demands : {A : Type 0} → Type 0 → RefusedValue → A → Stage A
-demands P r a (passes b) = P × (b ≡ a)
-demands P r a (refuses s) = (P → ⊥) × (s ≡ r)
-demands P r a (misses w) = ⊥
 
 -- apart from loads that fail, no refusal beside a value, and one refusal at most
 pub record IsSure {A : Type 0} (S : Stage A) : Type 0 where

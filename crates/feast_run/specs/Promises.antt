@@ -1,30 +1,30 @@
 -- What a call promises, in the words of who calls it. Each follows from how a call ends.
-use Rattle.std.specs.Prelude.{ℕ, ◌≡◌, ◌≢◌, ◌≤◌, length, List, [], ◌∷◌, ◌++◌, codes, Option, Some, None, Ok, ◌⊎◌}
-use Rattle.cell_grid.specs.declared.record.Record.{Record}
-use Rattle.cell_grid.specs.Grid.{GridValue}
+use Rattle.std.specs.Prelude.{ℕ, ◌≡◌, ◌≢◌, ◌≤◌, length, take, List, [], ◌∷◌, ◌++◌, codes, Option, Some, None, Ok, ◌⊎◌}
 use Rattle.cell_grid.specs.Records.{replay as replay_from}
 use Rattle.element_set.specs.Sets.{SetValue, AcceptsFiles, check_text, code_text, element_names, program_of}
-use Rattle.event_journal.specs.declared.abandoned.Abandoned.{Abandoned}
 use Rattle.event_journal.specs.Reading.{read_report}
 use Rattle.feast_base.specs.Held.{LoadMayFail, PutMayFail, ShelfHeld, SinkHeld, room_left}
 use Rattle.feast_base.specs.Outside.{File, Grows, Stock, Told, file_of, stock, told}
 use Rattle.feast_base.specs.Refusals.{refusal_line, unreadable_line, usage_line}
+use Rattle.feast_run.specs.Again.{ReplaysTo}
 use Rattle.feast_run.specs.Answer.{form_answer}
+use Rattle.feast_run.specs.Audited.{Audits}
 use Rattle.feast_run.specs.Ending.{ComesTo, status_of}
-use Rattle.feast_run.specs.Forms.{FormValue, check, code, run, step, replay}
+use Rattle.feast_run.specs.Forms.{FormValue, check, code, pack, run, step, replay, gen, audit, rewind}
+use Rattle.feast_run.specs.Packed.{pack_text}
+use Rattle.feast_run.specs.Generating.{generated_ready, stepped_summary}
 use Rattle.feast_run.specs.Outcomes.{Outcome, passes, refuses, misses}
-use Rattle.feast_run.specs.Owing.{IsRun}
-use Rattle.feast_run.specs.Stepped.{IsSteppedRun, stepped_report}
-use Rattle.feast_run.specs.Stages.{JournalValue, ReadyValue, draft_of, element_limit, journal_limit, journal_of, journal_said, world_limit}
+use Rattle.feast_run.specs.Owing.{Reports}
+use Rattle.feast_run.specs.Stepped.{IsSteppedRun, machine_of, stepped_report}
+use Rattle.feast_run.specs.Stages.{JournalValue, sourced, draft_of, element_limit, journal_limit, journal_of, journal_said, world_limit}
 use Rattle.feast_run.specs.declared.status.Status.{Status}
 use Rattle.feast_run.specs.declared.status.Status.TheVariants as how
-use Rattle.grid_print.specs.Report.{atoms_text, report}
-use Rattle.one_tile.specs.Events.{events_of}
-use Rattle.tile_map.specs.Plane.{tiles_of}
+use Rattle.generated_elements.specs.Elements.{source_files}
+use Rattle.grid_print.specs.Report.{atoms_text}
 use Rattle.ulam_meaning.specs.Events.{after}
 use Rattle.world_grid.specs.Start.{start_grid}
 use Rattle.world_text.specs.Drafts.{DraftValue}
-use Rattle.world_text.specs.Named.{ReadsWorld, named}
+use Rattle.world_text.specs.Named.{ReadsWorld, WorldValue, named}
 
 -- the element files of some words, in order: of each word the first file of that name, within its limit
 abbrev pub AreFiles : List File → List (List ℕ) → List File → Type 0
@@ -46,52 +46,95 @@ pub record SetTold (text : SetValue → List ℕ) (files : List File) (words : L
   pub shown : appended ≡ text set
 
 -- a world that is told, with the elements that its atoms are of
-pub record WorldTold (files : List File) (word : List ℕ) (words : List (List ℕ)) (r : ReadyValue) : Type 0 where
-  pub is_set : IsSet files words r.set
+pub record WorldTold (files : List File) (word : List ℕ) (words : List (List ℕ)) (world : WorldValue) (set : SetValue) : Type 0 where
+  pub is_set : IsSet files words set
   pub bytes : List ℕ
   pub file : file_of word files ≡ Some bytes
   pub within : length bytes ≤ world_limit
-  pub reads : ReadsWorld bytes (element_names r.set) r.world
+  pub reads : ReadsWorld bytes (element_names set) world
 
--- a run whose files are told: the bytes appended are the report of what it left
+-- a run whose files are told: the bytes appended are the report of what it left, by what the elements' source means
 pub record RanTold (files : List File) (word : List ℕ) (words : List (List ℕ)) (appended : List ℕ) : Type 0 where
-  pub world : ReadyValue
-  pub told_world : WorldTold files word words world
-  pub grid : GridValue
-  pub records : List Record
-  pub abandoned : List Abandoned
-  pub run : IsRun world grid records abandoned
-  -- of one tile each attempt is an event, in its order
-  pub alone : tiles_of world.world.plane ≡ 1 → (records ≡ events_of world.world.plane world.world.plan) × (abandoned ≡ [])
-  pub shown : appended ≡ report (element_names world.set) grid records abandoned
+  pub world : WorldValue
+  pub set : SetValue
+  pub told_world : WorldTold files word words world set
+  pub reports : Reports (sourced world set) appended
+  -- a replay of the report writes the report's own atoms
+  pub replays : ReplaysTo (sourced world set) appended reports.grid
 
 -- a stepped run whose files are told: the bytes appended are the report of the stepped machine of the world after the
--- steps of its order, and what that machine left is a run's
+-- steps of its order, and what that machine left is a run's, by what the elements' source means
 pub record SteppedTold (files : List File) (word : List ℕ) (words : List (List ℕ)) (appended : List ℕ) : Type 0 where
-  pub world : ReadyValue
-  pub told_world : WorldTold files word words world
-  pub run : IsSteppedRun world
-  pub shown : appended ≡ stepped_report world
+  pub world : WorldValue
+  pub set : SetValue
+  pub told_world : WorldTold files word words world set
+  pub run : IsSteppedRun (sourced world set)
+  pub shown : appended ≡ stepped_report (sourced world set)
+  -- a replay of the report writes the report's own atoms
+  pub replays : ReplaysTo (sourced world set) appended (machine_of (sourced world set)).grid
 
 -- a replay whose files are told: the bytes appended are the atoms that the events of the journal give, one at a time, on
 -- one uncut grid that begins with the world's atoms, by what the elements' source means
 pub record ReplayTold (files : List File) (word journal_word : List ℕ) (words : List (List ℕ)) (appended : List ℕ) : Type 0 where
-  pub world : ReadyValue
-  pub told_world : WorldTold files word words world
+  pub world : WorldValue
+  pub set : SetValue
+  pub told_world : WorldTold files word words world set
   pub journal_bytes : List ℕ
   pub journal_file : file_of journal_word files ≡ Some journal_bytes
   pub journal_within : length journal_bytes ≤ journal_limit
   pub journal : JournalValue
-  pub journal_reads : journal_said (read_report world.world.plane world.world.plan.lists journal_bytes) ≡ Ok journal
-  pub shown : appended ≡ codes "feast 1\n" ++ atoms_text (element_names world.set) (replay_from (after (program_of world.set)) (start_grid world.world.plane world.world.atoms) journal.records)
+  pub journal_reads : journal_said (read_report world.plane world.plan.lists journal_bytes) ≡ Ok journal
+  pub shown : appended ≡ codes "feast 1\n" ++ atoms_text (element_names set) (replay_from (after (program_of set)) (start_grid world.plane world.atoms) journal.records)
+
+-- a generated run: the bytes appended are the summary of the stepped machine of the world that a number gives, with the
+-- elements of its own text, and what that machine left is a run's, by what that text means; type 1 is Wander, type 2 Stone
+pub record GenTold (number : ℕ) (appended : List ℕ) : Type 0 where
+  pub set : SetValue
+  pub is_set : AcceptsFiles source_files set
+  pub names : element_names set ≡ codes "Wander" ∷ codes "Stone" ∷ []
+  pub run : IsSteppedRun (generated_ready number set)
+  pub shown : appended ≡ stepped_summary number (generated_ready number set)
+
+-- a report that is told, and the journal that it says, of a world that is told
+pub record ReportTold (files : List File) (report_word : List ℕ) (world : WorldValue) (bytes : List ℕ) (journal : JournalValue) : Type 0 where
+  pub file : file_of report_word files ≡ Some bytes
+  pub within : length bytes ≤ journal_limit
+  pub reads : journal_said (read_report world.plane world.plan.lists bytes) ≡ Ok journal
+
+-- an audit whose files are told: the bytes appended are the line of the judgement on the report, by what the elements' source
+-- means
+pub record AuditTold (files : List File) (word report_word : List ℕ) (words : List (List ℕ)) (appended : List ℕ) : Type 0 where
+  pub world : WorldValue
+  pub set : SetValue
+  pub told_world : WorldTold files word words world set
+  pub bytes : List ℕ
+  pub journal : JournalValue
+  pub told_report : ReportTold files report_word world bytes journal
+  pub audits : Audits (sourced world set) bytes journal appended
+
+-- a rewind whose files are told: the report has so many events, and the bytes appended are the atoms that its first k events
+-- give, one at a time, on one uncut grid that begins with the world's atoms, by what the elements' source means
+pub record RewindTold (files : List File) (word report_word : List ℕ) (k : ℕ) (words : List (List ℕ)) (appended : List ℕ) : Type 0 where
+  pub world : WorldValue
+  pub set : SetValue
+  pub told_world : WorldTold files word words world set
+  pub bytes : List ℕ
+  pub journal : JournalValue
+  pub told_report : ReportTold files report_word world bytes journal
+  pub enough : k ≤ length journal.records
+  pub shown : appended ≡ codes "feast 1\n" ++ atoms_text (element_names set) (replay_from (after (program_of set)) (start_grid world.plane world.atoms) (take k journal.records))
 
 -- the text that a form writes, where files are told
 abbrev pub Shows : List File → FormValue → List ℕ → Type 0
 Shows files (check words) appended = SetTold check_text files words appended
 Shows files (code words) appended = SetTold code_text files words appended
+Shows files (pack words) appended = SetTold pack_text files words appended
 Shows files (run world words) appended = RanTold files world words appended
 Shows files (step world words) appended = SteppedTold files world words appended
 Shows files (replay world journal words) appended = ReplayTold files world journal words appended
+Shows files (gen number) appended = GenTold number appended
+Shows files (audit world report words) appended = AuditTold files world report words appended
+Shows files (rewind world report k words) appended = RewindTold files world report k words appended
 
 -- the headline: where the shelf tells its files and the sink what is written, and the status is Done, this was appended
 abbrev pub Headline : Option FormValue → Stock → Told → Told → Status → Type 0
@@ -124,19 +167,24 @@ pub record Exactly (form : Option FormValue) (old new : Stock) (sink sink' : Tol
       Agrees old.failed new.failed o → sink'.faults ≡ sink.faults → ((status ≡ status_of o) × Lines sink sink' o) ⊎ (status ≡ how.NoMemory)
 
 -- a world and element files that nothing is refused of
-pub record IsGoodWorld (files : List File) (word : List ℕ) (words : List (List ℕ)) (r : ReadyValue) : Type 0 where
+pub record IsGoodWorld (files : List File) (word : List ℕ) (words : List (List ℕ)) (world : WorldValue) (set : SetValue) : Type 0 where
   pub draft : DraftValue
   pub has_draft : draft_of (Some files) word (passes draft)
-  pub is_set : IsSet files words r.set
-  pub has_names : named (element_names r.set) draft ≡ Ok r.world
+  pub is_set : IsSet files words set
+  pub has_names : named (element_names set) draft ≡ Ok world
 
 -- files of a form that nothing is refused of
 abbrev pub IsGood : List File → FormValue → Type 0
 IsGood files (check words) = (set : SetValue) × IsSet files words set
 IsGood files (code words) = (set : SetValue) × IsSet files words set
-IsGood files (run world words) = (r : ReadyValue) × IsGoodWorld files world words r × (tiles_of r.world.plane ≡ 1)
-IsGood files (step world words) = (r : ReadyValue) × IsGoodWorld files world words r
-IsGood files (replay world journal words) = (r : ReadyValue) × IsGoodWorld files world words r × ((j : JournalValue) × journal_of (Some files) journal r.world (passes j))
+IsGood files (pack words) = (set : SetValue) × IsSet files words set
+IsGood files (run world words) = (w : WorldValue) × (set : SetValue) × IsGoodWorld files world words w set
+IsGood files (step world words) = (w : WorldValue) × (set : SetValue) × IsGoodWorld files world words w set
+IsGood files (replay world journal words) = (w : WorldValue) × (set : SetValue) × IsGoodWorld files world words w set × ((j : JournalValue) × journal_of (Some files) journal w (passes j))
+IsGood files (gen number) = Unit {0}
+IsGood files (audit world report words) = (w : WorldValue) × (set : SetValue) × IsGoodWorld files world words w set × ((j : JournalValue) × journal_of (Some files) report w (passes j))
+IsGood files (rewind world report k words) =
+    (w : WorldValue) × (set : SetValue) × IsGoodWorld files world words w set × ((j : JournalValue) × journal_of (Some files) report w (passes j) × (k ≤ length j.records))
 
 -- completeness: good files of a form, and counts that stay, give Done, or want of memory
 abbrev pub Complete : Option FormValue → Stock → Stock → Told → Told → Status → Type 0
@@ -148,9 +196,13 @@ Complete form old new sink sink' status =
 abbrev pub file_words : FormValue → List (List ℕ)
 file_words (check words) = words
 file_words (code words) = words
+file_words (pack words) = words
 file_words (run world words) = world ∷ words
 file_words (step world words) = world ∷ words
 file_words (replay world journal words) = world ∷ journal ∷ words
+file_words (gen number) = []
+file_words (audit world report words) = world ∷ report ∷ words
+file_words (rewind world report k words) = world ∷ report ∷ words
 
 -- it is one of the words
 abbrev pub IsWordOf : List (List ℕ) → List ℕ → Type 0

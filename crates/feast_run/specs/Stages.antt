@@ -1,17 +1,18 @@
 -- The stages that the forms are made of.
 use Rattle.std.specs.Prelude.{ℕ, ◌≡◌, ◌≤◌, List, [], ◌∷◌, ◌++◌, length, min, Option, Result, Ok, Err, slice_index_or}
 use Rattle.cell_grid.specs.declared.record.Record.{Record}
-use Rattle.element_set.specs.Sets.{SetValue, AcceptsFiles, RefusesFiles, element_names}
+use Rattle.element_set.specs.Sets.{SetValue, AcceptsFiles, RefusesFiles, element_names, program_of}
 use Rattle.event_journal.specs.declared.abandoned.Abandoned.{Abandoned}
 use Rattle.event_journal.specs.declared.fault.LineFault.{LineFault}
 use Rattle.event_journal.specs.declared.fault.LineFault.TheVariants.{BadForm, OutOfTurn, ElsewhereThanTile, OtherThanAttempt}
 use Rattle.event_journal.specs.Reading.{Said, read_report}
 use Rattle.feast_base.specs.Outside.{File, TellsBytes, TellsLonger}
 use Rattle.feast_base.specs.declared.place.Refusal.{Refusal}
-use Rattle.feast_run.specs.Outcomes.{Stage, passes, refuses, misses, RefusedValue, refused, and_then, gives, decides, demands}
+use Rattle.feast_run.specs.Outcomes.{Stage, passes, refuses, misses, RefusedValue, refused, and_then, gives, decides}
 use Rattle.feast_run.specs.declared.stop.Input.{Input}
 use Rattle.feast_run.specs.declared.stop.Input.TheVariants as input
-use Rattle.tile_map.specs.Plane.{tiles_of}
+use Rattle.ulam_meaning.specs.Events.{after}
+use Rattle.window_sites.specs.Window.{WindowValue}
 use Rattle.world_text.specs.Drafts.{DraftValue}
 use Rattle.world_text.specs.Named.{WorldValue, named}
 use Rattle.world_text.specs.Reading.{read_text}
@@ -37,10 +38,6 @@ at_line code line value = record { code = code; place = record { file = 0; line 
 -- the refusal of a file that is longer than its limit
 abbrev pub too_long : List ℕ → ℕ → RefusedValue
 too_long word limit = refused input.File word (whole_file 2 limit)
-
--- the refusal of a file whose form isn't built yet
-abbrev pub not_built : Input → List ℕ → RefusedValue
-not_built about word = refused about word (whole_file 90 0)
 
 -- the refusal of a world, by its first fault's code and line
 abbrev pub world_refused : List ℕ → ℕ × ℕ → RefusedValue
@@ -86,21 +83,19 @@ set_of files words = and_then (load_all files words) (builds words)
 abbrev pub draft_of : Option (List File) → List ℕ → Stage DraftValue
 draft_of files word = and_then (load files world_limit word) (λ bytes. decides (world_refused word) (read_text bytes))
 
--- it has one tile; more are not built yet for a run
-abbrev pub alone : List ℕ → DraftValue → Stage DraftValue
-alone word draft = demands (tiles_of draft.plane ≡ 1) (not_built input.World word) draft
-
-abbrev pub lone_draft_of : Option (List File) → List ℕ → Stage DraftValue
-lone_draft_of files word = and_then (draft_of files word) (alone word)
-
--- a world, and the elements that its atoms are of
+-- a world, and what the elements that its atoms are of are called, by type number from 1, and do
 pub record ReadyValue : Type 0 where
   pub world : WorldValue
-  pub set : SetValue
+  pub names : List (List ℕ)
+  pub meaning : WindowValue → ℕ → WindowValue
+
+-- a world with the elements of a set, which do what their source means
+abbrev pub sourced : WorldValue → SetValue → ReadyValue
+sourced world set = record { world = world; names = element_names set; meaning = after (program_of set) }
 
 -- the names of a world's atoms
 abbrev pub named_by : List ℕ → DraftValue → SetValue → Stage ReadyValue
-named_by word draft set = and_then (decides (world_refused word) (named (element_names set) draft)) (λ (world : WorldValue). gives (record { world = world; set = set }))
+named_by word draft set = and_then (decides (world_refused word) (named (element_names set) draft)) (λ (world : WorldValue). gives (sourced world set))
 
 -- the elements of a world
 abbrev pub with_set : Option (List File) → List ℕ → List (List ℕ) → DraftValue → Stage ReadyValue
@@ -109,10 +104,6 @@ with_set files word words draft = and_then (set_of files words) (named_by word d
 -- a world with its elements
 abbrev pub ready : Option (List File) → List ℕ → List (List ℕ) → Stage ReadyValue
 ready files word words = and_then (draft_of files word) (with_set files word words)
-
--- the same of one tile
-abbrev pub lone_ready : Option (List File) → List ℕ → List (List ℕ) → Stage ReadyValue
-lone_ready files word words = and_then (lone_draft_of files word) (with_set files word words)
 
 -- the events and the abandoned attempts of a report
 pub record JournalValue : Type 0 where
@@ -124,6 +115,14 @@ abbrev pub journal_said : {F : Type 0} → Result Said F → Result JournalValue
 journal_said (Ok d) = Ok (record { records = d.journal; abandoned = d.gone })
 journal_said (Err fault) = Err fault
 
+-- the journal of a world in the bytes of a report
+abbrev pub journal_in : List ℕ → WorldValue → List ℕ → Stage JournalValue
+journal_in word world bytes = decides (journal_refused word) (journal_said (read_report world.plane world.plan.lists bytes))
+
+-- the refusal of a report that has too few events, by how many it has
+abbrev pub records_refused : List ℕ → ℕ → RefusedValue
+records_refused word count = refused input.Journal word (whole_file 84 count)
+
 -- the journal of a world in the text of a report
 abbrev pub journal_of : Option (List File) → List ℕ → WorldValue → Stage JournalValue
-journal_of files word world = and_then (load files journal_limit word) (λ bytes. decides (journal_refused word) (journal_said (read_report world.plane world.plan.lists bytes)))
+journal_of files word world = and_then (load files journal_limit word) (journal_in word world)

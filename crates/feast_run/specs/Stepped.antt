@@ -1,7 +1,6 @@
 -- The stepped run of a world.
 use Rattle.std.specs.Prelude.{ℕ, List}
 use Rattle.cell_grid.specs.declared.record.Record.{Record}
-use Rattle.element_set.specs.Sets.{element_names, program_of}
 use Rattle.event_journal.specs.declared.abandoned.Abandoned.{Abandoned}
 use Rattle.event_journal.specs.Logs.{LogValue, abandoned_in, records_in}
 use Rattle.feast_run.specs.Owing.{IsRun}
@@ -10,14 +9,13 @@ use Rattle.grid_print.specs.Report.{report}
 use Rattle.serial_order.specs.declared.outcome.Outcome.{Outcome}
 use Rattle.stepped_world.specs.Ends.{IsOutcome, logs_in}
 use Rattle.stepped_world.specs.Machine.{Machine, stepped}
-use Rattle.ulam_meaning.specs.Events.{after}
 use Rattle.world_grid.specs.Start.{start_grid}
 use Rattle.world_runs.specs.Fresh.{setting_of}
 use Rattle.world_runs.specs.Orders.{order_in}
 
 -- the stepped machine of a world once its order is followed and each tile is done, by what the elements mean
 unfoldable pub machine_of : ReadyValue → Machine
-machine_of r = stepped r.world.plane (after (program_of r.set)) (start_grid r.world.plane r.world.atoms) r.world.plan (order_in r.world)
+machine_of r = stepped r.world.plane r.meaning (start_grid r.world.plane r.world.atoms) r.world.plan (order_in r.world)
 
 -- its entries, tile by tile
 abbrev pub stepped_logs : ReadyValue → List LogValue
@@ -25,12 +23,12 @@ stepped_logs r = logs_in r.world.plane (machine_of r)
 
 -- its report: its grid, its events in the order of the journal, and its abandoned attempts
 abbrev pub stepped_report : ReadyValue → List ℕ
-stepped_report r = report (element_names r.set) (machine_of r).grid (records_in (stepped_logs r)) (abandoned_in (stepped_logs r))
+stepped_report r = report r.names (machine_of r).grid (records_in (stepped_logs r)) (abandoned_in (stepped_logs r))
 
 -- what it left is a run's
 abbrev pub IsSteppedRun : ReadyValue → Type 0
 IsSteppedRun r = IsRun r (machine_of r).grid (records_in (stepped_logs r)) (abandoned_in (stepped_logs r))
 
--- an outcome of a world's stepped run, by what the elements of its set mean
+-- an outcome of a world's stepped run, by what its elements mean
 abbrev pub IsOutcomeOf : ReadyValue → Outcome → Type 0
-IsOutcomeOf r o = IsOutcome r.world.plane (setting_of r.world (after (program_of r.set))) (order_in r.world) o
+IsOutcomeOf r o = IsOutcome r.world.plane (setting_of r.world r.meaning) (order_in r.world) o

@@ -28,6 +28,13 @@ Moves old new (Err (Refused r)) = Keeps old new
 Moves old new (Err (Missing word)) = Notes old new word.now
 Moves old new (Err NoMemory) = Keeps old new
 
+-- no load failed
+abbrev pub MissesNone : {X : Type 0} → Result X Stop → Type 0
+MissesNone (Ok x) = Unit {0}
+MissesNone (Err (Refused r)) = Unit {0}
+MissesNone (Err (Missing word)) = ⊥
+MissesNone (Err NoMemory) = Unit {0}
+
 -- an answer is an outcome of the stage, or memory was wanted
 abbrev pub Tells : {X A : Type 0} → (X → A) → Stage A → Result X Stop → Type 0
 Tells value S (Ok x) = S (passes (value x))

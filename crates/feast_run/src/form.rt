@@ -1,9 +1,14 @@
 //! The forms that the words of a call may have.
 ghost use Rattle.std.specs.Prelude.{◌≡◌, ◌≤◌, IfSome, MatchOption, None, Some, length, map, string_bytes};
-ghost use Rattle.feast_run.specs.Forms.{IsFew, form_of, form_value, most_files, of_files};
+ghost use Rattle.feast_run.specs.Forms.{IsFew, form_of, form_value, most_files, of_files, of_number, left_of, of_rewind};
+
+use text_lines::number;
 
 /// The most element files.
 const MOST_FILES: usize = 64;
+
+/// The most events that a rewind may leave.
+const MOST_LEFT: u128 = 1_000_000;
 
 /// What the words of a call ask for.
 #[derive(Clone, Copy)]
@@ -12,6 +17,8 @@ pub enum Form<'a> {
     Check(&'a [String]),
     /// The codes of the elements of some files.
     Code(&'a [String]),
+    /// The code file of the elements of some files.
+    Pack(&'a [String]),
     /// A run of the world in one file with the elements in others.
     Run(&'a str, &'a [String]),
     /// A stepped run of the world in one file with the elements in others.
@@ -19,6 +26,14 @@ pub enum Form<'a> {
     /// The atoms that the journal in the second file gives from the start of the world in the
     /// first, with the elements in the others.
     Replay(&'a str, &'a str, &'a [String]),
+    /// The summary of the run of the world that a number gives.
+    Gen(u64),
+    /// The judgement on the report in the second file, of the world in the first, with the elements
+    /// in the others.
+    Audit(&'a str, &'a str, &'a [String]),
+    /// The atoms that so many of the first events of the report in the second file leave of the
+    /// world in the first, with the elements in the others.
+    Rewind(&'a str, &'a str, u32, &'a [String]),
 }
 
 /// The words, where they are so many as a form may have element files.
@@ -33,6 +48,36 @@ fn of_files(words: &[String]) -> Option<&[String]>
     }
 }
 
+/// The number that the words are, where they are one word and it is a canonical decimal below 2^64.
+fn of_number(words: &[String]) -> Option<u64>
+    ensures { MatchOption result (of_number (map string_bytes words.now) ≡ None) (λ n. of_number (map string_bytes words.now) ≡ Some n) }
+{
+    match words {
+        [word] => u64::try_from(number(word.as_bytes())?).ok(),
+        _ => None,
+    }
+}
+
+/// How many events a word says are to be left: a canonical decimal, at most 1,000,000.
+fn left_of(word: &str) -> Option<u32>
+    ensures { result ≡ left_of word.now }
+{
+    let n = number(word.as_bytes())?;
+    if n <= MOST_LEFT { Some(n as u32) } else { None }
+}
+
+/// The form of a rewind, of the words behind its first.
+fn read_rewind(words: &[String]) -> Option<Form<'_>>
+    ensures value { MatchOption result (of_rewind (map string_bytes words.now) ≡ None) (λ f. of_rewind (map string_bytes words.now) ≡ Some (form_value f)) }
+    ensures few { IfSome result IsFew }
+{
+    let (world, rest) = words.split_first()?;
+    let (report, rest) = rest.split_first()?;
+    let (count, rest) = rest.split_first()?;
+    let left = left_of(count.as_str())?;
+    Some(Form::Rewind(world.as_str(), report.as_str(), left, of_files(rest)?))
+}
+
 /// The form of the words.
 pub fn read_form(words: &[String]) -> Option<Form<'_>>
     ensures value { MatchOption result (form_of (map string_bytes words.now) ≡ None) (λ f. form_of (map string_bytes words.now) ≡ Some (form_value f)) }
@@ -42,6 +87,7 @@ pub fn read_form(words: &[String]) -> Option<Form<'_>>
     match verb.as_str() {
         "check" => Some(Form::Check(of_files(rest)?)),
         "code" => Some(Form::Code(of_files(rest)?)),
+        "pack" => Some(Form::Pack(of_files(rest)?)),
         "run" => {
             let (world, rest) = rest.split_first()?;
             Some(Form::Run(world.as_str(), of_files(rest)?))
@@ -55,6 +101,13 @@ pub fn read_form(words: &[String]) -> Option<Form<'_>>
             let (journal, rest) = rest.split_first()?;
             Some(Form::Replay(world.as_str(), journal.as_str(), of_files(rest)?))
         }
+        "gen" => Some(Form::Gen(of_number(rest)?)),
+        "audit" => {
+            let (world, rest) = rest.split_first()?;
+            let (report, rest) = rest.split_first()?;
+            Some(Form::Audit(world.as_str(), report.as_str(), of_files(rest)?))
+        }
+        "rewind" => read_rewind(rest),
         _ => None,
     }
 }

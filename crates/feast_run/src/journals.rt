@@ -5,7 +5,7 @@ ghost use Rattle.event_journal.specs.Seats.{ReadsJournal};
 ghost use Rattle.feast_base.specs.Outside.{stock};
 ghost use Rattle.feast_run.specs.Faults.{IsJournalStop, IsStop};
 ghost use Rattle.feast_run.specs.Outcomes.{refused};
-ghost use Rattle.feast_run.specs.Stages.{journal_of};
+ghost use Rattle.feast_run.specs.Stages.{journal_in, journal_of};
 ghost use Rattle.feast_run.specs.Tellings.{Moves, Tells};
 ghost use Rattle.feast_run.specs.Values.{journal_value};
 ghost use Rattle.feast_run.specs.declared.stop.Input.TheVariants as input;
@@ -22,7 +22,7 @@ use world_grid::map_of;
 use world_text::World;
 
 /// The stop at a refusal of a journal whose file has this word.
-fn refused<'a>(word: &'a str, refusal: Refusal) -> Stop<'a>
+pub fn refused<'a>(word: &'a str, refusal: Refusal) -> Stop<'a>
     requires { Coded refusal.code }
     ensures { IsStop (refused input.Journal word.now refusal) result }
 {
@@ -58,6 +58,23 @@ fn read_journal(alloc: Global, bytes: &[u8], world: &World) -> Result<ReadJourna
     }
 }
 
+/// Reads the journal of a world in the bytes of a report, whose file has this word.
+pub fn read_loaded<'a>(
+    alloc: Global,
+    word: &'a str,
+    bytes: &[u8],
+    world: &World,
+) -> Result<ReadJournal, Stop<'a>>
+    requires world { IsWorld (world_value world.now) }
+    requires short { length bytes.now < 2 ^ 63 }
+    ensures { Tells journal_value (journal_in word.now (world_value world.now) bytes.now) result }
+{
+    match read_journal(alloc, bytes, world) {
+        Ok(journal) => Ok(journal),
+        Err(fault) => Err(journal_stop(word, fault)),
+    }
+}
+
 /// Loads and reads the journal of a world.
 pub fn load_journal<'a, F: Shelf>(
     alloc: Global,
@@ -71,8 +88,5 @@ pub fn load_journal<'a, F: Shelf>(
     ensures tells { Tells journal_value (journal_of (F.files shelf.old) word.now (world_value world.now)) result }
 {
     let bytes = load_file(alloc, shelf, word, JOURNAL_LIMIT)?;
-    match read_journal(alloc, bytes.as_slice(), world) {
-        Ok(journal) => Ok(journal),
-        Err(fault) => Err(journal_stop(word, fault)),
-    }
+    read_loaded(alloc, word, bytes.as_slice(), world)
 }

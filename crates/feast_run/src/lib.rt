@@ -1,15 +1,23 @@
 //! One call of the simulator, from its words to what it writes.
 //!
-//! So far it does `check FILE..` and `code FILE..`, `run WORLD FILE..` for worlds of one tile,
-//! `step WORLD FILE..`, and `replay WORLD JOURNAL FILE..`.
+//! So far it does `check FILE..` and `code FILE..`, `run WORLD FILE..`, `step WORLD FILE..`,
+//! `replay WORLD JOURNAL FILE..`, and `gen N`.
 #![tactic(auto)]
 
+mod acting;
+mod auditing;
 mod element_files;
 mod form;
+mod generating;
+mod grids;
 mod in_memory;
 mod journals;
 mod loading;
 mod output;
+mod packing;
+mod replaying;
+mod rewinding;
+mod running;
 mod said;
 mod stages;
 mod status;

@@ -26,9 +26,6 @@ pub const UNREADABLE: u8 = 1;
 /// The code of a file that is longer than its limit.
 const TOO_LONG: u8 = 2;
 
-/// The code of a file whose form isn't built yet.
-pub const NOT_BUILT: u8 = 90;
-
 /// A refusal of a line.
 pub fn at_line(code: u8, line: u64, value: u64) -> Refusal
     ensures { result ≡ at_line code line value }

@@ -13,8 +13,9 @@ use crate::loading::{UNREADABLE, USAGE, whole_file};
 use crate::output::Output;
 use crate::stages::form_stages;
 use crate::stop::{Input, Stop};
-use feast_base::{NoMemory, Refusal, Shelf, print_refusal};
+use feast_base::{Gate, NoMemory, Refusal, Shelf, print_refusal};
 use std::alloc::Global;
+use std::thread::Threads;
 
 /// What a call comes to say: a status, and what is written with it.
 #[derive(Drop)]
@@ -51,14 +52,20 @@ fn refuse(alloc: Global, status: Status, word: &str, refusal: &Refusal) -> Resul
 
 /// What a form comes to say.
 #[tactic(auto, unfolding(feast_base::specs::Refusals::refusal_line))]
-fn said_form<F: Shelf>(alloc: Global, shelf: &mut F, form: Form<'_>) -> Result<Said, NoMemory>
+fn said_form<R: Threads + Sync, F: Shelf, G: Gate>(
+    rt: &R,
+    alloc: Global,
+    shelf: &mut F,
+    form: Form<'_>,
+    gate: &G,
+) -> Result<Said, NoMemory>
     requires { IsFew form }
     ensures files { F.files shelf.new ≡ F.files shelf.old }
     ensures says { let old = stock F.files F.failed F.may_fail shelf.old in let new = stock F.files F.failed F.may_fail shelf.new in let form = Some (form_value form.entry) in
         MatchResult result (λ said. ComesTo form old new said.status (output_text said.output)) (λ _. Wants form old new) }
     ensures writable { IfOk result (λ said. IsWritable said.output) }
 {
-    match form_stages(alloc, shelf, form) {
+    match form_stages(rt, alloc, shelf, form, gate) {
         Ok(output) => Ok(Said {
             status: Status::Done,
             output,
@@ -76,10 +83,12 @@ fn said_form<F: Shelf>(alloc: Global, shelf: &mut F, form: Form<'_>) -> Result<S
 
 /// What words come to say.
 #[tactic(auto, unfolding(feast_base::specs::Refusals::refusal_line))]
-pub fn said_words<F: Shelf>(
+pub fn said_words<R: Threads + Sync, F: Shelf, G: Gate>(
+    rt: &R,
     alloc: Global,
     shelf: &mut F,
     words: &[String],
+    gate: &G,
 ) -> Result<Said, NoMemory>
     ensures files { F.files shelf.new ≡ F.files shelf.old }
     ensures says { let old = stock F.files F.failed F.may_fail shelf.old in let new = stock F.files F.failed F.may_fail shelf.new in let form = form_of (map string_bytes words.now) in
@@ -87,7 +96,7 @@ pub fn said_words<F: Shelf>(
     ensures writable { IfOk result (λ said. IsWritable said.output) }
 {
     match read_form(words) {
-        Some(form) => said_form(alloc, shelf, form),
+        Some(form) => said_form(rt, alloc, shelf, form, gate),
         None => refuse(alloc, Status::Usage, "", &whole_file(USAGE, 0)),
     }
 }

@@ -1,7 +1,5 @@
 //! The stages of a stepped run.
-ghost use Rattle.std.specs.Prelude.{◌≡◌, ◌≤◌, All, IfOk, length, map, string_bytes};
-ghost use Rattle.element_set.specs.Acting.{acting_set};
-ghost use Rattle.element_set.specs.Sets.{program_of, set_value};
+ghost use Rattle.std.specs.Prelude.{◌≡◌, ◌≤◌, IfOk, length, map, string_bytes};
 ghost use Rattle.feast_base.specs.Outside.{stock};
 ghost use Rattle.feast_run.specs.Answer.{form_answer, steps};
 ghost use Rattle.feast_run.specs.Forms.{most_files, step};
@@ -9,40 +7,15 @@ ghost use Rattle.feast_run.specs.Outputs.{IsWritable, output_text};
 ghost use Rattle.feast_run.specs.Stepped.{IsOutcomeOf, IsSteppedRun, stepped_report};
 ghost use Rattle.feast_run.specs.Tellings.{Moves, Tells};
 ghost use Rattle.feast_run.specs.Values.{IsReady, ready_value};
-ghost use Rattle.tile_map.specs.Plane.{tiles_of};
-ghost use Rattle.ulam_meaning.specs.Events.{after};
-ghost use Rattle.world_text.specs.Values.{world_value};
 
+use crate::acting::{actors, tiles_in};
 use crate::output::{Left, Output};
 use crate::stop::Stop;
 use crate::worlds::{Ready, make_ready};
-use element_set::{Actor, ElementSet};
 use feast_base::{NoMemory, Shelf};
 use serial_order::Outcome;
 use std::alloc::Global;
 use world_runs::{listed_order, stepped};
-use world_text::World;
-
-/// How many tiles a world has.
-fn tiles_in(world: &World) -> u32
-    requires { tiles_of (world_value world.now).plane ≤ 64 }
-    ensures { result ≡ tiles_of (world_value world.now).plane }
-{
-    world.tx * world.ty
-}
-
-/// What acts as the elements of a set do, once for each tile.
-fn actors(alloc: Global, set: &ElementSet, tiles: u32) -> Result<Vec<Actor<'_>>, NoMemory>
-    ensures many { IfOk result (λ v. length v.items ≡ tiles) }
-    ensures acts { IfOk result (λ v. All (λ a. after (program_of (acting_set a)) ≡ after (program_of (set_value set.now))) v.items) }
-{
-    let mut actors = Vec::new(alloc);
-    for _tile in 0..tiles {
-        let actor = set.actor(alloc)?;
-        actors.push(actor)?;
-    }
-    Ok(actors)
-}
 
 /// What a stepped run comes to.
 fn outcome(alloc: Global, ready: &Ready) -> Result<Outcome, NoMemory>

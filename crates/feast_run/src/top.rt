@@ -63,14 +63,21 @@ fn put<K: Sink>(alloc: Global, sink: &mut K, said: &Said) -> Status
 }
 
 /// One call, from its words to its writing.
-fn call<F: Shelf, K: Sink>(alloc: Global, words: &[String], shelf: &mut F, sink: &mut K) -> Status
+fn call<R: Threads + Sync, F: Shelf, K: Sink, G: Gate>(
+    rt: &R,
+    alloc: Global,
+    words: &[String],
+    shelf: &mut F,
+    sink: &mut K,
+    gate: &G,
+) -> Status
     requires { K.faults sink.old < 2 ^ 64 - 1 }
     ensures files { F.files shelf.new ≡ F.files shelf.old }
     ensures ends { Ends (form_of (map string_bytes words.now))
         (stock F.files F.failed F.may_fail shelf.old) (stock F.files F.failed F.may_fail shelf.new)
         (told K.written K.faults K.may_fail sink.old) (told K.written K.faults K.may_fail sink.new) result }
 {
-    match said_words(alloc, shelf, words) {
+    match said_words(rt, alloc, shelf, words, gate) {
         Ok(said) => put(alloc, sink, &said),
         Err(NoMemory) => Status::NoMemory,
     }
@@ -79,43 +86,56 @@ fn call<F: Shelf, K: Sink>(alloc: Global, words: &[String], shelf: &mut F, sink:
 /// Does what the words say, and answers how it ended.
 ///
 /// The words are those after the program's name. FILE stands for 1 to 64 element files. So far the
-/// words have five forms:
+/// words have nine forms:
 ///
 /// - `check FILE..`: the layout of each class in the files is written.
 /// - `code FILE..`: the compiled code of each element in the files is written.
-/// - `run WORLD FILE..`: the world of one tile in WORLD is run with the elements of the files, and
-///   its report is written, in pieces of 4,096 bytes.
+/// - `pack FILE..`: the code file of the elements in the files is written.
+/// - `run WORLD FILE..`: the world in WORLD, of any number of tiles, is run with the elements of the
+///   files, with a worker for each tile, in a thread of its own as far as threads can be had; its
+///   report is written, in pieces of 4,096 bytes. The events stand in one serial order, that of the
+///   journal, however the workers' steps fall. Of one tile the report is one and the same each time.
 /// - `step WORLD FILE..`: the world in WORLD, of any number of tiles, is run on one thread in the
 ///   order that its lines say, and then one tile after another; its report is written as that of
 ///   a run.
 /// - `replay WORLD JOURNAL FILE..`: the events of the report in JOURNAL are made once more, one
 ///   after another, from the start of the world in WORLD, and the atoms that they leave are written.
+/// - `gen N`: the world that the number N below 2^64 gives is run as `step` does, with elements of
+///   the program's own, and what it left is counted: the events, the abandoned attempts, and the
+///   atoms of each element. No file is loaded, and nothing is refused.
+/// - `audit WORLD REPORT FILE..`: whether REPORT is a report of the world in WORLD, by calculation,
+///   whoever made it: one line is written, `yes` or the first thing that does not hold, with its line.
+/// - `rewind WORLD REPORT K FILE..`: all events of REPORT are made from the start of the world, all
+///   but the first K are taken back, the last of them first, and the atoms then are written. K is up
+///   to 1,000,000.
 ///
 /// Any other text is put in one piece, and not at all where it is empty. Any refusal is told in one
 /// line, put in place of the text:
 ///
 /// - `Usage` where the words have no form.
 /// - `Unreadable` where a file can't be loaded, or is longer than its limit (268,435,456 bytes for
-///   WORLD and JOURNAL, 1,048,576 for FILE).
+///   WORLD, JOURNAL and REPORT, 1,048,576 for FILE).
 /// - `ElementRefused` where the files are no set of elements.
-/// - `WorldRefused` where WORLD says no world, has for `run` more than one tile (which is not built
-///   yet), names another type than an element's, or has two atoms on one site.
-/// - `JournalRefused` where JOURNAL is no report of the world.
+/// - `WorldRefused` where WORLD says no world, names another type than an element's, or has two
+///   atoms on one site.
+/// - `JournalRefused` where JOURNAL or REPORT is no report of the world in form, or has fewer than K
+///   events.
 ///
 /// WORLD is loaded and read before the element files are loaded, and these are all loaded before
-/// the first is read. Then the names of the world's atoms are looked up, and then JOURNAL is loaded
-/// and read. The first cause is answered. `SinkFault` comes where a put failed. `NoMemory` comes
+/// the first is read. Then the names of the world's atoms are looked up, and then JOURNAL or REPORT
+/// is loaded and read. The first cause is answered. `SinkFault` comes where a put failed. `NoMemory` comes
 /// where memory is wanted; then nothing is put.
 ///
-/// The shelf appends to its failed names only a file word whose load failed. The gate is not
-/// called yet, and no thread is started.
+/// The shelf appends to its failed names only a file word whose load failed. On `run` each worker
+/// calls the gate before each attempt, with the tile's number and the attempt's; the other forms
+/// call no gate and start no thread.
 pub fn feast<R: Threads + Sync, F: Shelf, K: Sink, G: Gate>(
-    _rt: &R,
+    rt: &R,
     alloc: Global,
     words: &[String],
     shelf: &mut F,
     sink: &mut K,
-    _gate: &G,
+    gate: &G,
 ) -> Status
     requires { K.faults sink.old < 2 ^ 64 - 1 }
     ensures files { F.files shelf.new ≡ F.files shelf.old }
@@ -134,5 +154,5 @@ pub fn feast<R: Threads + Sync, F: Shelf, K: Sink, G: Gate>(
         (stock F.files F.failed F.may_fail shelf.old) (stock F.files F.failed F.may_fail shelf.new)
         (told K.written K.faults K.may_fail sink.old) (told K.written K.faults K.may_fail sink.new) result }
 {
-    call(alloc, words, shelf, sink)
+    call(rt, alloc, words, shelf, sink, gate)
 }

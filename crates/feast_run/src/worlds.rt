@@ -1,17 +1,16 @@
-//! The stages of a world: its text, how many tiles it has, its elements, and the names of its
-//! atoms.
+//! The stages of a world: its text, its elements, and the names of its atoms.
 ghost use Rattle.std.specs.Prelude.{◌≡◌, ◌≤◌, IfOk, length, map, string_bytes};
 ghost use Rattle.feast_base.specs.Outside.{stock};
 ghost use Rattle.feast_run.specs.Faults.{IsStop, IsWorldStop};
 ghost use Rattle.feast_run.specs.Forms.{most_files};
-ghost use Rattle.feast_run.specs.Stages.{alone, draft_of, lone_draft_of, lone_ready, named_by, ready, with_set, world_refused};
+ghost use Rattle.feast_run.specs.Stages.{draft_of, named_by, ready, with_set, world_refused};
 ghost use Rattle.feast_run.specs.Tellings.{Moves, Tells};
 ghost use Rattle.feast_run.specs.Values.{IsReady, ready_value};
 ghost use Rattle.element_set.specs.Sets.{Coded, set_value};
 ghost use Rattle.world_text.specs.Reading.{fault_of};
 
 use crate::element_files::load_set;
-use crate::loading::{NOT_BUILT, WORLD_LIMIT, at_line, load_file, whole_file};
+use crate::loading::{WORLD_LIMIT, at_line, load_file};
 use crate::stop::{Input, Refused, Stop};
 use element_set::ElementSet;
 use feast_base::Shelf;
@@ -70,35 +69,6 @@ fn load_draft<'a, F: Shelf>(
     }
 }
 
-/// A world that has one tile.
-fn alone<'a>(word: &'a str, draft: RawWorld) -> Result<RawWorld, Stop<'a>>
-    ensures { Tells (λ d. d) (alone word.now draft) result }
-{
-    if draft.tiles() == 1 {
-        Ok(draft)
-    } else {
-        Err(Stop::Refused(Refused {
-            input: Input::World,
-            word,
-            refusal: whole_file(NOT_BUILT, 0),
-        }))
-    }
-}
-
-/// Loads and reads a world that has one tile.
-fn load_lone_draft<'a, F: Shelf>(
-    alloc: Global,
-    shelf: &mut F,
-    word: &'a str,
-) -> Result<RawWorld, Stop<'a>>
-    ensures files { F.files shelf.new ≡ F.files shelf.old }
-    ensures moves { Moves (stock F.files F.failed F.may_fail shelf.old) (stock F.files F.failed F.may_fail shelf.new) result }
-    ensures tells { Tells (λ d. d) (lone_draft_of (F.files shelf.old) word.now) result }
-{
-    let draft = load_draft(alloc, shelf, word)?;
-    alone(word, draft)
-}
-
 /// A world with the names of its elements.
 fn with_names<'a>(
     alloc: Global,
@@ -147,22 +117,5 @@ pub fn make_ready<'a, F: Shelf>(
     ensures ready { IfOk result IsReady }
 {
     let draft = load_draft(alloc, shelf, word)?;
-    with_elements(alloc, shelf, word, words, draft)
-}
-
-/// Loads a world of one tile and its elements.
-pub fn make_lone_ready<'a, F: Shelf>(
-    alloc: Global,
-    shelf: &mut F,
-    word: &'a str,
-    words: &'a [String],
-) -> Result<Ready, Stop<'a>>
-    requires { length words.now ≤ most_files }
-    ensures files { F.files shelf.new ≡ F.files shelf.old }
-    ensures moves { Moves (stock F.files F.failed F.may_fail shelf.old) (stock F.files F.failed F.may_fail shelf.new) result }
-    ensures tells { Tells ready_value (lone_ready (F.files shelf.old) word.now (map string_bytes words.now)) result }
-    ensures ready { IfOk result IsReady }
-{
-    let draft = load_lone_draft(alloc, shelf, word)?;
     with_elements(alloc, shelf, word, words, draft)
 }

@@ -1,4 +1,9 @@
+pub mod Ahead
+pub mod Bounds
+pub mod Counting
 pub mod Lines
 pub mod Lists
 pub mod Putting
+pub mod ReadAgain
 pub mod Reported
+pub mod Stamps

@@ -94,10 +94,10 @@ shown_one names are s t p q e =
 line_of : (fs : List (List ℕ)) → 1 ≤ length fs → list_all is_field fs ≡ true → IsLine fs
 line_of fs some high = record { some = some; high = high }
 
-record_line : (r : Record) → AreRecordWords r → IsLine (record_fields r)
+pub record_line : (r : Record) → AreRecordWords r → IsLine (record_fields r)
 record_line r p = line_of (record_fields r) (omega arith) (rw (decimal_high r.stamp p.0, decimal_high r.tile p.1, decimal_high r.attempt p.2, decimal_high r.x p.3, decimal_high r.y p.4, hex_high 16 r.seed) refl)
 
-abandoned_line : (a : Abandoned) → AreAbandonedWords a → IsLine (abandoned_fields a)
+pub abandoned_line : (a : Abandoned) → AreAbandonedWords a → IsLine (abandoned_fields a)
 abandoned_line a p =
     line_of (abandoned_fields a) (omega arith)
     (rw (decimal_high a.tile p.0, decimal_high a.attempt p.1, decimal_high a.x p.2, decimal_high a.y p.3, decimal_high a.edge p.4, decimal_high a.holder p.5, decimal_high a.holder_attempt p.6) refl)
@@ -107,15 +107,15 @@ shown_line names are s p =
     let name = name_high (name_of names s.atom.kind) (name_formed names s.atom.kind are p.some p.named) in
     line_of (atom_fields names s) (omega arith) (rw (decimal_high s.x p.x, decimal_high s.y p.y, name, hex_high 18 s.atom.state) refl)
 
-count_line : (word : List ℕ) (n : ℕ) → is_field word ≡ true → IsWord n → IsLine (count_fields word n)
+pub count_line : (word : List ℕ) (n : ℕ) → is_field word ≡ true → IsWord n → IsLine (count_fields word n)
 count_line word n high small = line_of (count_fields word n) (omega arith) (rw (high, decimal_high n small) refl)
 
-each_line : {A : Type 0} (P : A → Type 0) (f : A → List (List ℕ)) → ((x : A) → P x → IsLine (f x)) → (xs : List A) → All P xs → All IsLine (map f xs)
+pub each_line : {A : Type 0} (P : A → Type 0) (f : A → List (List ℕ)) → ((x : A) → P x → IsLine (f x)) → (xs : List A) → All P xs → All IsLine (map f xs)
 each_line P f so [] p = All-nil _
 each_line P f so (x ∷ xs) p = All-cons IsLine (f x) (map f xs) (so x (All-head P x xs p)) (each_line P f so xs (All-tail P x xs p))
 
 -- a word with a count, and that many lines
-counted_lines : (word : List ℕ) (n : ℕ) (ls : List (List (List ℕ))) → is_field word ≡ true → IsWord n → All IsLine ls → All IsLine (count_fields word n ∷ ls)
+pub counted_lines : (word : List ℕ) (n : ℕ) (ls : List (List (List ℕ))) → is_field word ≡ true → IsWord n → All IsLine ls → All IsLine (count_fields word n ∷ ls)
 counted_lines word n ls high small lines = All-cons IsLine (count_fields word n) ls (count_line word n high small) lines
 
 -- what the lines of a report can be printed of

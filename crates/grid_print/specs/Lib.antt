@@ -1,3 +1,4 @@
+pub mod Again
 pub mod OneReport
 pub mod Report
 pub mod Writing

@@ -6,12 +6,14 @@
 //! were given up and their lines.
 #![tactic(auto)]
 
+mod again;
 mod fault;
 mod page;
 mod shown;
 mod texts;
 mod writer;
 
+pub use again::reads_again;
 pub use fault::WriteFault;
 pub use shown::atoms;
 pub use texts::one_report;

@@ -9,7 +9,7 @@ ghost use Rattle.tile_map.specs.Plane.{IsMap, tiles_of};
 use cell_grid::Record;
 use draw_stream::{Attempt, AttemptPlan, Attempts};
 use event_journal::{Journal, TileLog};
-use feast_base::NoMemory;
+use feast_base::{Gate, NoMemory};
 use std::alloc::Global;
 use tile_map::Map;
 
@@ -32,8 +32,13 @@ fn event_of(map: &Map, number: u64, attempt: &Attempt) -> Record
     }
 }
 
-/// The events of the attempts of tile 0.
-fn events(alloc: Global, map: &Map, mut attempts: Attempts) -> Result<Vec<Record>, NoMemory>
+/// The events of the attempts of tile 0. The gate is called before each.
+fn events<G: Gate>(
+    alloc: Global,
+    map: &Map,
+    mut attempts: Attempts,
+    gate: &G,
+) -> Result<Vec<Record>, NoMemory>
     requires map { IsMap map.now }
     requires few { length attempts ≤ 1000000 }
     requires centres { All (λ (a : Attempt). a.centre < map.now.w * map.now.h) attempts }
@@ -43,6 +48,7 @@ fn events(alloc: Global, map: &Map, mut attempts: Attempts) -> Result<Vec<Record
     let mut records = Vec::new(alloc);
     let mut number = 0u64;
     while let Some(attempt) = attempts.next() {
+        gate.reach(0, number);
         records.push(event_of(map, number, &attempt))?;
         number += 1;
     }
@@ -61,14 +67,20 @@ fn journal_of(alloc: Global, records: Vec<Record>) -> Result<Journal, NoMemory>
 }
 
 /// The journal of a plane of one tile with these attempts: each is an event, and none is given up.
+/// The gate is called before each, with the number of the tile, which is 0, and that of the attempt.
 /// `NoMemory` where there is none for the events.
-pub fn journal(alloc: Global, map: &Map, plan: &AttemptPlan) -> Result<Journal, NoMemory>
-    requires { IsAlone map.now plan.now }
+pub fn journal<G: Gate>(
+    alloc: Global,
+    map: &Map,
+    plan: &AttemptPlan,
+    gate: &G,
+) -> Result<Journal, NoMemory>
+    requires alone { IsAlone map.now plan.now }
     ensures logs { IfOk result (λ j. j ≡ log_of 0 (events_of map.now plan.now) [] ∷ []) }
     ensures records { IfOk result (λ j. records_in j ≡ events_of map.now plan.now) }
     ensures abandoned { IfOk result (λ j. abandoned_in j ≡ []) }
 {
     let attempts = plan.of_tile(alloc, 0)?;
-    let records = events(alloc, map, attempts)?;
+    let records = events(alloc, map, attempts, gate)?;
     journal_of(alloc, records)
 }

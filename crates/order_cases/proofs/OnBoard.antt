@@ -20,7 +20,7 @@ use Rattle.serial_order.specs.Outcomes.{IsMade, values_of, AreOver}
 use Rattle.serial_order.specs.Words.{histories_on}
 use Rattle.serial_order.proofs.Boards.{over}
 use Rattle.serial_order.proofs.Ground.{same_or_not}
-use Rattle.order_cases.specs.Driven.{AreFresh, IsTileOn, IsDriven}
+use Rattle.order_cases.specs.Driven.{AreMade, IsTileOn, IsDriven}
 
 -- a list with one element changed, and one with an element more
 set_here : {A : Type 0} (xs : List A) (k : ℕ) (y : A) → k < length xs → slice_get (slice_set xs k y) k ≡ Some y
@@ -48,15 +48,15 @@ IsDone x = HasStopped x.0
 module _ {B : Type 0} (after : B → WindowValue → ℕ → WindowValue) (m : MapValue) where
   -- one tile more
   pub one_fresh : (meaning : WindowValue → ℕ → WindowValue) (start : GridValue) (plan : PlanValue) (tiles tiles' : List (TileValue × B)) (y : TileValue × B) → tiles' ≡ tiles ++ y ∷ []
-      → IsFreshTile m (length tiles) (atoms_of start) (attempts plan (length tiles)) y.0 → after y.1 ≡ meaning → AreFresh after m meaning start plan tiles → AreFresh after m meaning start plan tiles'
-  one_fresh meaning start plan tiles tiles' y more new acts h = subst (AreFresh after m meaning start plan) (sym more) (record {
+      → IsFreshTile m (length tiles) (atoms_of start) (attempts plan (length tiles)) y.0 → after y.1 ≡ meaning → AreMade after m meaning start plan tiles → AreMade after m meaning start plan tiles'
+  one_fresh meaning start plan tiles tiles' y more new acts h = subst (AreMade after m meaning start plan) (sym more) (record {
     fresh = λ t x is. ⊎_elim (λ e. h.fresh t x e) (λ p. subst (λ (q : ℕ × (TileValue × B)). IsFreshTile m q.0 (atoms_of start) (attempts plan q.0) q.1.0) (λ i. (sym p.0 i, p.1 i)) new) (get_more tiles y t x is);
     acts = λ t x is. ⊎_elim (λ e. h.acts t x e) (λ p. ap (λ (z : TileValue × B). after z.1) (sym p.1) ∙ acts) (get_more tiles y t x is);
   })
 
   -- tiles and a board that were only made
   pub driven_new : (meaning : WindowValue → ℕ → WindowValue) (start : GridValue) (plan : PlanValue) (tiles : List (TileValue × B)) (board : PlainBoardValue) → IsMap m → IsGrid start → IsGridOf m start → IsPlan plan → length plan.lists ≡ tiles_of m
-      → length tiles ≡ tiles_of m → AreFresh after m meaning start plan tiles → board.edges ≡ map untouched_edge (sizes_of m) → IsDriven after m tiles board
+      → length tiles ≡ tiles_of m → AreMade after m meaning start plan tiles → board.edges ≡ map untouched_edge (sizes_of m) → IsDriven after m tiles board
   driven_new meaning start plan tiles board valid grid fits plan_is lists count h made = record {
     meaning = meaning;
     start = start;

@@ -11,7 +11,7 @@ use Rattle.tile_core.specs.Underway.{IsUnderway, IsFreshTile}
 use Rattle.tile_core.specs.Boards.{IsBoardOf}
 
 -- tiles that were only made, one for each of the map's, with this meaning
-pub record AreFresh {B : Type 0} (after : B → WindowValue → ℕ → WindowValue) (m : MapValue) (meaning : WindowValue → ℕ → WindowValue) (start : GridValue) (plan : PlanValue) (tiles : List (TileValue × B)) : Type 0 where
+pub record AreMade {B : Type 0} (after : B → WindowValue → ℕ → WindowValue) (m : MapValue) (meaning : WindowValue → ℕ → WindowValue) (start : GridValue) (plan : PlanValue) (tiles : List (TileValue × B)) : Type 0 where
   pub fresh : (t : ℕ) (x : TileValue × B) → slice_get tiles t ≡ Some x → IsFreshTile m t (atoms_of start) (attempts plan t) x.0
   pub acts : (t : ℕ) (x : TileValue × B) → slice_get tiles t ≡ Some x → after x.1 ≡ meaning
 

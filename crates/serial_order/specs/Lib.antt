@@ -5,3 +5,4 @@ pub mod Example
 pub mod Words
 pub mod Outcomes
 pub mod Boards
+pub mod Fresh

@@ -66,10 +66,10 @@ module _ {B : Type 0} (after : B → WindowValue → ℕ → WindowValue) (m : M
     have_stopped : HaveStopped m g.meaning g.start g.plan (values_of tiles) board
     have_stopped = record {
       valid = valid;
-      grid = s.grid;
-      fits = s.fits;
-      plan_is = s.plan;
-      lists = s.lists;
+      grid = s.tiles_are.grid;
+      fits = s.tiles_are.fits;
+      plan_is = s.tiles_are.plan_is;
+      lists = s.tiles_are.lists;
       count = length-map tiles (λ (x : TileValue × B). x.0) ∙ u.count;
       edges = u.board_is;
       numbers = λ t tile is. let v = value_at tiles t tile is in ap (λ (z : TileValue). z.number) (sym v.2) ∙ (u.each t v.0 v.1).number;

@@ -62,22 +62,22 @@ module _ (m : MapValue) (meaning : WindowValue → ℕ → WindowValue) (start :
 
 module _ {B : Type 0} (after : B → WindowValue → ℕ → WindowValue) (m : MapValue) (g : Setting) (tiles : List (TileValue × B)) (board : PlainBoardValue) (s : IsStart after m g tiles board) where
   there : (t : ℕ) (x : TileValue × B) → slice_get tiles t ≡ Some x → IsUnderway m g.meaning (atoms_of g.start) (attempts g.plan t) x.0 (lists_of_tile board t)
-  there t x is = let f = s.fresh t x is in
+  there t x is = let f = s.tiles_are.fresh t x is in
       subst (λ n. IsUnderway m g.meaning (atoms_of g.start) (attempts g.plan t) x.0 (lists_of_tile board n)) f.number (fresh_there m board s.edges g.meaning t (atoms_of g.start) (attempts g.plan t) x.0 f)
 
   pub first_underway : AreUnderway after m g tiles board
   first_underway = record {
-    count = s.count;
-    each = λ t x is. record { number = (s.fresh t x is).number; meaning = s.meanings t x is; underway = there t x is };
+    count = s.tiles_are.count;
+    each = λ t x is. record { number = (s.tiles_are.fresh t x is).number; meaning = s.tiles_are.meanings t x is; underway = there t x is };
     board_is = board_new m board s.edges;
   }
 
-  tile_first : (t : ℕ) (x : TileValue × B) (is : slice_get tiles t ≡ Some x) → Fresh m g.meaning (atoms_of g.start) (attempts g.plan t) x.0 (lists_of_tile board t) (there t x is) (s.fresh t x is).taken
-  tile_first t x is = begins m g.meaning (atoms_of g.start) (attempts g.plan t) x.0 (lists_of_tile board t) (there t x is) (s.fresh t x is).taken
+  tile_first : (t : ℕ) (x : TileValue × B) (is : slice_get tiles t ≡ Some x) → Fresh m g.meaning (atoms_of g.start) (attempts g.plan t) x.0 (lists_of_tile board t) (there t x is) (s.tiles_are.fresh t x is).taken
+  tile_first t x is = begins m g.meaning (atoms_of g.start) (attempts g.plan t) x.0 (lists_of_tile board t) (there t x is) (s.tiles_are.fresh t x is).taken
 
   first_matches : Matches m tiles board (first_machine g.start g.plan)
   first_matches = record {
-    tiles_are = λ t x is. let f = s.fresh t x is in let b = tile_first t x is in record {
+    tiles_are = λ t x is. let f = s.tiles_are.fresh t x is in let b = tile_first t x is in record {
       doing = b.doing ∙ ap (λ l. Some (next_draw l)) f.left;
       left = f.left;
       taken = f.taken;

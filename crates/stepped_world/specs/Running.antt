@@ -4,17 +4,18 @@ use Rattle.window_sites.specs.Window.{WindowValue}
 use Rattle.tile_map.specs.Plane.{Site, MapValue, tiles_of, in_window}
 use Rattle.tile_map.specs.Edges.{sizes_of, needs_of}
 use Rattle.cell_grid.specs.declared.record.Record.{Record}
-use Rattle.cell_grid.specs.Grid.{GridValue, IsGrid}
+use Rattle.cell_grid.specs.Grid.{GridValue}
 use Rattle.cell_grid.specs.Records.{replay}
-use Rattle.draw_stream.specs.Plans.{PlanValue, IsPlan, attempts}
+use Rattle.draw_stream.specs.Plans.{PlanValue, attempts}
 use Rattle.edge_lock.specs.PlainBoard.{PlainBoardValue, lists_of_tile, untouched_edge, sizes_of_board}
-use Rattle.border_cache.specs.Copies.{IsGridOf, IsCentre}
+use Rattle.border_cache.specs.Copies.{IsCentre}
 use Rattle.border_cache.specs.Windows.{has}
 use Rattle.tile_core.specs.declared.phase.Phase.{Phase}
 use Rattle.tile_core.specs.declared.phase.Phase.TheVariants.{Draw, Lock, Refresh, Behave, Write, Give, Back, Finished, Worn}
 use Rattle.tile_core.specs.Values.{TileValue, atoms_of, event_site}
-use Rattle.tile_core.specs.Underway.{IsUnderway, IsFreshTile}
+use Rattle.tile_core.specs.Underway.{IsUnderway}
 use Rattle.tile_core.specs.Boards.{IsBoardOf}
+use Rattle.serial_order.specs.Fresh.{AreFresh}
 use Rattle.stepped_world.specs.Machine.{Machine}
 use Rattle.stepped_world.specs.Matching.{Matches}
 
@@ -24,16 +25,9 @@ pub record Setting : Type 0 where
   pub start : GridValue
   pub plan : PlanValue
 
--- One fresh tile for each tile of the plane, in order, all for one start grid and with one meaning, and a fresh board of the
--- plane. The attempts are those of a plan, so at most 1,000,000 together.
+-- fresh tiles of the plane and a fresh board of it
 pub record IsStart {B : Type 0} (after : B → WindowValue → ℕ → WindowValue) (m : MapValue) (g : Setting) (tiles : List (TileValue × B)) (board : PlainBoardValue) : Type 0 where
-  pub grid : IsGrid g.start
-  pub fits : IsGridOf m g.start
-  pub plan : IsPlan g.plan
-  pub lists : length g.plan.lists ≡ tiles_of m
-  pub count : length tiles ≡ tiles_of m
-  pub fresh : (t : ℕ) (x : TileValue × B) → slice_get tiles t ≡ Some x → IsFreshTile m t (atoms_of g.start) (attempts g.plan t) x.0
-  pub meanings : (t : ℕ) (x : TileValue × B) → slice_get tiles t ≡ Some x → after x.1 ≡ g.meaning
+  pub tiles_are : AreFresh after m g.meaning g.start g.plan tiles
   pub edges : board.edges ≡ map untouched_edge (sizes_of m)
 
 -- a tile is underway on these lists of its ends

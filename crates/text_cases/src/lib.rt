@@ -5,10 +5,11 @@
 
 #[cfg(test)]
 mod journals;
+#[cfg(test)]
+mod lines;
+#[cfg(test)]
 mod made;
 #[cfg(test)]
 mod reports;
 #[cfg(test)]
 mod worlds;
-
-pub use made::{grid, journal, map};

@@ -4,7 +4,7 @@ ghost use Rattle.std.specs.Prelude.{◌-◌, ◌^◌, ◌<◌};
 use crate::made::{grid, journal, map};
 use event_journal::JournalFault;
 use feast_base::{MemSink, Name, NoMemory, Stop};
-use grid_print::{WriteFault, write_report};
+use grid_print::{WriteFault, atoms, write_report};
 use std::alloc::Global;
 use std::test::Fail;
 use world_text::{name, read};
@@ -79,6 +79,42 @@ fn a_report_is_written_line_by_line(rt: HostRuntime) -> Result<(), Fail> {
         assert_eq!(rt; sink.written(), report.as_bytes(), "{text}");
         let again = counted(alloc, text.as_bytes(), report.as_bytes())?;
         assert!(rt; matches!(again, Some(Ok((_, 0)))), "{text}");
+    }
+    Ok(())
+}
+
+/// The atoms that a world begins with, appended to a text. None where the text says no world.
+fn listed(alloc: Global, text: &[u8], before: &[u8]) -> Result<Option<Vec<u8>>, Fail> {
+    let mut names = Vec::new(alloc);
+    names.push(Name::new(alloc, b"Walker")?)?;
+    let Ok(raw) = read(alloc, text) else {
+        return Ok(None);
+    };
+    let Ok(world) = name(alloc, raw, names.as_slice()) else {
+        return Ok(None);
+    };
+    let grid = grid(alloc, &world, names.as_slice())?;
+    let mut out = Vec::from_slice(alloc, before)?;
+    atoms(&grid, names.as_slice(), &mut out)?;
+    Ok(Some(out))
+}
+
+/// Worlds, and the lines of their atoms.
+const ATOMS: [(&str, &str); 2] = [
+    (
+        "feast 1\ntiles 1 1\nsize 8 8\natom 4 3 Walker 00000000000000000a\natom 3 3 Walker\natom 7 2 Walker\n",
+        "feast 1\natoms 3\n7 2 Walker 000000000000000000\n3 3 Walker 000000000000000000\n4 3 Walker 00000000000000000a\n",
+    ),
+    ("feast 1\ntiles 1 1\nsize 8 8\n", "feast 1\natoms 0\n"),
+];
+
+#[test]
+fn atoms_are_appended_in_row_order(rt: HostRuntime) -> Result<(), Fail> {
+    for (text, wanted) in ATOMS {
+        match listed(rt.alloc(), text.as_bytes(), b"feast 1\n")? {
+            Some(out) => assert_eq!(rt; out.as_slice(), wanted.as_bytes(), "{text}"),
+            None => assert!(rt; false, "{text}"),
+        }
     }
     Ok(())
 }

@@ -10,8 +10,6 @@ mod field;
 mod hexadecimal;
 mod numbers;
 mod take;
-#[cfg(test)]
-mod tests;
 
 pub use cut::{first_field, is_skipped, next_ended, next_line};
 pub use field::{Field, push_line};

@@ -26,7 +26,8 @@ use Rattle.serial_order.specs.Words.{AreEdgeWords, closed_history, closed_histor
 use Rattle.serial_order.specs.Outcomes.{values_of}
 use Rattle.edge_lock.specs.Passes.{EdgeValue, PassValue}
 use Rattle.tile_threads.specs.Passes.{passes_of, IsClosedEdge, AreClosed}
-use Rattle.tile_threads.specs.Whole.{AreFresh, HaveReturned, HasRun}
+use Rattle.serial_order.specs.Fresh.{AreFresh}
+use Rattle.tile_threads.specs.Whole.{HaveReturned, HasRun}
 use Rattle.tile_threads.proofs.LettingGo.{eqb_of}
 
 module _ (m : MapValue) (lists : ℕ → ℕ → EndLists) (closed : List ClosedValue) (k : AreClosed m lists closed) where

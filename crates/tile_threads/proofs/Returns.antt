@@ -27,7 +27,8 @@ use Rattle.serial_order.specs.Outcomes.{IsMade}
 use Rattle.tile_threads.specs.declared.worker.Worker.{Worker}
 use Rattle.tile_threads.specs.Runs.{IsReady, HasWorked, EachDid}
 use Rattle.tile_threads.specs.Passes.{passes_of, let_go, AreMade}
-use Rattle.tile_threads.specs.Whole.{AreFresh, worker_of, workers_of, tiles_in, IsDone, CameHome, HaveComeHome, HaveReturned}
+use Rattle.serial_order.specs.Fresh.{AreFresh}
+use Rattle.tile_threads.specs.Whole.{worker_of, workers_of, tiles_in, IsDone, CameHome, HaveComeHome, HaveReturned}
 use Rattle.tile_threads.proofs.Lookups.{Found, found_own, own_stand, unused_lists}
 use Rattle.tile_threads.proofs.LettingGo.{let_go_free}
 use Rattle.tile_threads.proofs.Ended.{ended_back}

@@ -1,34 +1,23 @@
--- A whole run: from fresh tiles to tiles that are over and edges that are closed.
+-- A whole run: from workers of fresh tiles to tiles that are over and edges that are closed.
 use Rattle.std.specs.Prelude.{ℕ, ◌≡◌, ◌<◌, List, [], ◌∷◌, length, map, slice_get, slice_index_or, All, Some}
 use Rattle.window_sites.specs.Window.{WindowValue}
 use Rattle.tile_map.specs.Plane.{MapValue, tiles_of}
 use Rattle.tile_map.specs.Edges.{pairs_of}
-use Rattle.cell_grid.specs.Grid.{GridValue, IsGrid}
-use Rattle.draw_stream.specs.Plans.{PlanValue, IsPlan, attempts}
+use Rattle.cell_grid.specs.Grid.{GridValue}
+use Rattle.draw_stream.specs.Plans.{PlanValue, attempts}
 use Rattle.edge_lock.specs.EndLists.{EndLists}
 use Rattle.edge_lock.specs.Passes.{EdgeValue, PassValue, ClosedValue}
 use Rattle.edge_lock.specs.SharedEnds.{SharedEndValue, shared_end_value, edge_and_end, lists_at}
-use Rattle.border_cache.specs.Copies.{IsGridOf, IsEndOf}
+use Rattle.border_cache.specs.Copies.{IsEndOf}
 use Rattle.tile_core.specs.Values.{TileValue, atoms_of}
 use Rattle.tile_core.specs.Turns.{AgreeOnEdges}
-use Rattle.tile_core.specs.Underway.{IsFreshTile, IsSome}
+use Rattle.tile_core.specs.Underway.{IsSome}
 use Rattle.serial_order.specs.Scene.{IsOver, HasEnded}
 use Rattle.serial_order.specs.Words.{AreEdgeWords, closed_histories, closed_counts}
 use Rattle.serial_order.specs.Boards.{HasStopped}
 use Rattle.serial_order.specs.Outcomes.{IsMade, scene_of, values_of}
 use Rattle.tile_threads.specs.declared.worker.Worker.{Worker}
 use Rattle.tile_threads.specs.Passes.{passes_of, let_go, AreLeft}
-
--- One fresh tile for each tile of the plane, in order, all for one start grid and with one meaning. The attempts are those of a
--- plan, so at most 1,000,000 together.
-pub record AreFresh {B : Type 0} (after : B → WindowValue → ℕ → WindowValue) (m : MapValue) (meaning : WindowValue → ℕ → WindowValue) (start : GridValue) (plan : PlanValue) (tiles : List (TileValue × B)) : Type 0 where
-  pub grid : IsGrid start
-  pub fits : IsGridOf m start
-  pub plan_is : IsPlan plan
-  pub lists : length plan.lists ≡ tiles_of m
-  pub count : length tiles ≡ tiles_of m
-  pub fresh : (t : ℕ) (x : TileValue × B) → slice_get tiles t ≡ Some x → IsFreshTile m t (atoms_of start) (attempts plan t) x.0
-  pub meanings : (t : ℕ) (x : TileValue × B) → slice_get tiles t ≡ Some x → after x.1 ≡ meaning
 
 -- a worker of a tile with these passes
 abbrev pub worker_of : {B : Type 0} → TileValue × B → List PassValue → Worker B SharedEndValue

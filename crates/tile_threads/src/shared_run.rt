@@ -3,9 +3,10 @@ ghost use Rattle.std.specs.Prelude.{◌≡◌, ℕ, IfOk, length};
 ghost use Rattle.window_sites.specs.Window.{WindowValue};
 ghost use Rattle.cell_grid.specs.Grid.{GridValue};
 ghost use Rattle.draw_stream.specs.Plans.{PlanValue};
+ghost use Rattle.serial_order.specs.Fresh.{AreFresh};
 ghost use Rattle.tile_map.specs.Edges.{pairs_of};
 ghost use Rattle.tile_threads.specs.Passes.{AreMade};
-ghost use Rattle.tile_threads.specs.Whole.{AreFresh, HasRun, HaveReturned};
+ghost use Rattle.tile_threads.specs.Whole.{HasRun, HaveReturned};
 
 use crate::closing::close_edges;
 use crate::edges::make_edges;

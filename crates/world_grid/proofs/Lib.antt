@@ -1,4 +1,4 @@
+pub mod Blank
 pub mod Journals
 pub mod KnownAtoms
-pub mod Shutting
 pub mod Valid

@@ -12,17 +12,14 @@ use Rattle.cell_grid.specs.Grid.{GridValue, IsGrid}
 use Rattle.draw_stream.specs.declared.attempt.Attempt.{Attempt}
 use Rattle.draw_stream.specs.Plans.{PlanValue, IsPlan, attempts}
 use Rattle.draw_stream.proofs.Plans.{attempts_few}
-use Rattle.edge_lock.specs.PlainBoard.{PlainBoardValue, untouched_edge}
 use Rattle.border_cache.specs.Copies.{IsGridOf}
 use Rattle.tile_map.specs.Plane.{MapValue, IsMap, is_on, tiles_of}
-use Rattle.tile_map.specs.Edges.{sizes_of}
 use Rattle.tile_core.specs.Underway.{CanAttempt, IsFreshTile}
 use Rattle.tile_core.specs.Values.{TileValue, atoms_of}
-use Rattle.stepped_world.specs.Running.{IsStart}
-use Rattle.tile_threads.specs.Whole.{AreFresh as AreReady}
+use Rattle.serial_order.specs.Fresh.{AreFresh}
 use Rattle.world_grid.specs.Worlds.{IsAttempt, IsWorld}
 use Rattle.world_text.specs.Named.{WorldValue}
-use Rattle.world_runs.specs.Fresh.{AllCanAttempt, AreFresh, setting_of}
+use Rattle.world_runs.specs.Fresh.{AllCanAttempt, AreMade, setting_of}
 
 -- each of some tiles has only been made
 abbrev pub EachFresh : {B : Type 0} → MapValue → GridValue → PlanValue → List (TileValue × B) → Type 0
@@ -92,18 +89,17 @@ can_attempt w h p t inside list is = record {
 pub all_can : (w : WorldValue) → IsWorld w → IsPlan w.plan → AllCanAttempt w.plane w.plan
 all_can w h p t inside = can_attempt w h p t inside (attempts w.plan t) refl
 
--- fresh tiles on a fresh board, all with one meaning, begin the run of a world
-pub begins : {B : Type 0} (after : B → WindowValue → ℕ → WindowValue) (w : WorldValue) (meaning : WindowValue → ℕ → WindowValue) (behaves : List B) (tiles : List (TileValue × B)) (board : PlainBoardValue) (start : GridValue) → IsWorld w → IsPlan w.plan → IsGrid start → IsGridOf w.plane start → start ≡ (setting_of w meaning).start
-    → AreFresh w.plane start w.plan behaves tiles → length behaves ≡ tiles_of w.plane → All (λ b. after b ≡ meaning) behaves → board.edges ≡ map untouched_edge (sizes_of w.plane) → IsStart after w.plane (setting_of w meaning) tiles board
-begins {B} after w meaning behaves tiles board start h p grid fits is f count one edges = record {
+-- tiles that were made, all with one meaning, are fresh ones for the run of a world
+all_fresh : {B : Type 0} (after : B → WindowValue → ℕ → WindowValue) (w : WorldValue) (meaning : WindowValue → ℕ → WindowValue) (behaves : List B) (tiles : List (TileValue × B)) (start : GridValue) → IsWorld w → IsPlan w.plan → IsGrid start → IsGridOf w.plane start → start ≡ (setting_of w meaning).start
+    → AreMade w.plane start w.plan behaves tiles → length behaves ≡ tiles_of w.plane → All (λ b. after b ≡ meaning) behaves → AreFresh after w.plane meaning (setting_of w meaning).start w.plan tiles
+all_fresh {B} after w meaning behaves tiles start h p grid fits is f count one = record {
   grid = subst IsGrid is grid;
   fits = subst (IsGridOf w.plane) is fits;
-  plan = p;
+  plan_is = p;
   lists = h.lists;
   count = many ∙ count;
   fresh = λ t x at. subst (λ (g : GridValue). IsFreshTile w.plane t (atoms_of g) (attempts w.plan t) x.0) is (f.fresh t x at);
   meanings = means;
-  edges = edges;
 }
   where
     many : length tiles ≡ length behaves
@@ -116,17 +112,8 @@ begins {B} after w meaning behaves tiles board start h p grid fits is f count on
         subst (λ b. after b ≡ meaning) same (All-get_or (λ b. after b ≡ meaning) behaves t x.1 (omega (arith, inside, many)) one)
 
 -- the same on a map that is the world's
-pub begins_on : {B : Type 0} (after : B → WindowValue → ℕ → WindowValue) (w : WorldValue) (m : MapValue) (meaning : WindowValue → ℕ → WindowValue) (behaves : List B) (tiles : List (TileValue × B)) (board : PlainBoardValue) (start : GridValue) → m ≡ w.plane → IsWorld w → IsPlan w.plan → IsGrid start → IsGridOf w.plane start → start ≡ (setting_of w meaning).start
-    → AreFresh m start w.plan behaves tiles → length behaves ≡ tiles_of w.plane → All (λ b. after b ≡ meaning) behaves → board.edges ≡ map untouched_edge (sizes_of m) → IsStart after m (setting_of w meaning) tiles board
-begins_on after w m meaning behaves tiles board start same h p grid fits is f count one edges =
-    let fresh = subst (λ (n : MapValue). AreFresh n start w.plan behaves tiles) same f in
-    let here = subst (λ (n : MapValue). board.edges ≡ map untouched_edge (sizes_of n)) same edges in
-    subst (λ (n : MapValue). IsStart after n (setting_of w meaning) tiles board) (sym same) (begins after w meaning behaves tiles board start h p grid fits is fresh count one here)
-
--- fresh tiles, all with one meaning, begin the run of a world, whatever they run on
 pub all_ready : {B : Type 0} (after : B → WindowValue → ℕ → WindowValue) (w : WorldValue) (m : MapValue) (meaning : WindowValue → ℕ → WindowValue) (behaves : List B) (tiles : List (TileValue × B)) (start : GridValue) → m ≡ w.plane → IsWorld w → IsPlan w.plan → IsGrid start → IsGridOf w.plane start → start ≡ (setting_of w meaning).start
-    → AreFresh m start w.plan behaves tiles → length behaves ≡ tiles_of w.plane → All (λ b. after b ≡ meaning) behaves → AreReady after m meaning (setting_of w meaning).start w.plan tiles
-all_ready {B} after w m meaning behaves tiles start same h p grid fits is f count one =
-    let plain : PlainBoardValue = record { acting = 0; edges = map untouched_edge (sizes_of m) } in
-    let k = begins_on after w m meaning behaves tiles plain start same h p grid fits is f count one refl in
-    record { grid = k.grid; fits = k.fits; plan_is = k.plan; lists = k.lists; count = k.count; fresh = k.fresh; meanings = k.meanings }
+    → AreMade m start w.plan behaves tiles → length behaves ≡ tiles_of w.plane → All (λ b. after b ≡ meaning) behaves → AreFresh after m meaning (setting_of w meaning).start w.plan tiles
+all_ready after w m meaning behaves tiles start same h p grid fits is f count one =
+    let made = subst (λ (n : MapValue). AreMade n start w.plan behaves tiles) same f in
+    subst (λ (n : MapValue). AreFresh after n meaning (setting_of w meaning).start w.plan tiles) (sym same) (all_fresh after w meaning behaves tiles start h p grid fits is made count one)

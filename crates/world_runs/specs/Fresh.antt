@@ -15,7 +15,7 @@ abbrev pub AllCanAttempt : MapValue → PlanValue → Type 0
 AllCanAttempt m plan = (t : ℕ) → t < tiles_of m → CanAttempt m t (attempts plan t)
 
 -- tiles that have only been made, from the first one on, each with its attempts of the plan, and with these to act
-pub record AreFresh {B : Type 0} (m : MapValue) (start : GridValue) (plan : PlanValue) (behaves : List B) (tiles : List (TileValue × B)) : Type 0 where
+pub record AreMade {B : Type 0} (m : MapValue) (start : GridValue) (plan : PlanValue) (behaves : List B) (tiles : List (TileValue × B)) : Type 0 where
   pub fresh : (t : ℕ) (x : TileValue × B) → slice_get tiles t ≡ Some x → IsFreshTile m t (atoms_of start) (attempts plan t) x.0
   pub acts : map (λ (x : TileValue × B). x.1) tiles ≡ behaves
 

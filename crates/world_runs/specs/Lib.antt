@@ -1,3 +1,3 @@
 pub mod Orders
 pub mod Fresh
-pub mod Settled
+pub mod OneOrder

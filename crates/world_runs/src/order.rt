@@ -1,12 +1,10 @@
 //! The order of a stepped run.
-ghost use Rattle.std.specs.Prelude.{◌≡◌, ◌+◌, ◌*◌, ◌<◌, ◌≤◌, ◌++◌, ◌∷◌, [], ℕ, List, All, IfOk, OnOk, length, take, sum_by};
-ghost use Rattle.draw_stream.specs.Attempts.{attempt_at};
-ghost use Rattle.draw_stream.specs.Words.{tile_state};
+ghost use Rattle.std.specs.Prelude.{◌≡◌, ◌+◌, ◌*◌, ◌<◌, ◌≤◌, ◌++◌, ◌∷◌, [], ℕ, List, All, IfOk, OnOk, length};
 ghost use Rattle.tile_map.specs.Plane.{tiles_of};
 ghost use Rattle.world_text.specs.Named.{WorldValue};
 ghost use Rattle.world_text.specs.Printed.{IsNamed};
 ghost use Rattle.world_text.specs.Values.{world_value, order_value};
-ghost use Rattle.world_runs.specs.Orders.{IsOrder, attempts_in, drawn_order, order_in, turns_of};
+ghost use Rattle.world_runs.specs.Orders.{IsOrder, attempts_in, drawn_order, order_in};
 
 use draw_stream::{AttemptPlan, TileStream};
 use feast_base::NoMemory;

@@ -5,7 +5,7 @@ ghost use Rattle.tile_map.specs.Plane.{tiles_of};
 ghost use Rattle.world_grid.specs.Worlds.{IsWorld};
 ghost use Rattle.world_text.specs.Values.{world_value};
 ghost use Rattle.world_runs.specs.Fresh.{setting_of};
-ghost use Rattle.world_runs.specs.Settled.{IsSettled};
+ghost use Rattle.world_runs.specs.OneOrder.{StandsInOneOrder};
 
 use crate::plans::plan_fits;
 use crate::tiles::fresh_tiles;
@@ -32,7 +32,7 @@ pub fn threaded<R: Threads + Sync, B: Behave + Send + Drop, G: Gate>(
     requires world { IsWorld (world_value world.now) }
     requires one { length behaves.items ≡ tiles_of (world_value world.now).plane }
     requires meaning { (meaning : WindowValue → ℕ → WindowValue) × All (λ b. B.after b ≡ meaning) behaves.items }
-    ensures { IfOk result (λ o. (meaning : WindowValue → ℕ → WindowValue) → All (λ b. B.after b ≡ meaning) behaves.items → IsSettled (world_value world.now).plane (setting_of (world_value world.now) meaning) o) }
+    ensures { IfOk result (λ o. (meaning : WindowValue → ℕ → WindowValue) → All (λ b. B.after b ≡ meaning) behaves.items → StandsInOneOrder (world_value world.now).plane (setting_of (world_value world.now) meaning) o) }
 {
     let map = map_of(alloc, world)?;
     map.laws();

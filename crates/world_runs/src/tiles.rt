@@ -5,7 +5,7 @@ ghost use Rattle.draw_stream.specs.Plans.{attempts};
 ghost use Rattle.tile_core.specs.Underway.{CanAttempt, IsFreshTile};
 ghost use Rattle.tile_core.specs.Values.{atoms_of};
 ghost use Rattle.tile_map.specs.Plane.{tiles_of};
-ghost use Rattle.world_runs.specs.Fresh.{AllCanAttempt, AreFresh};
+ghost use Rattle.world_runs.specs.Fresh.{AllCanAttempt, AreMade};
 
 use cell_grid::{Behave, Grid};
 use draw_stream::AttemptPlan;
@@ -54,7 +54,7 @@ pub fn fresh_tiles<B: Behave + Drop>(
     requires lists { length plan.now.lists ≡ tiles_of map.now }
     requires can { AllCanAttempt map.now plan.now }
     requires one { length behaves.items ≡ tiles_of map.now }
-    ensures { IfOk result (λ v. AreFresh map.now start.now plan.now behaves.items v.items) }
+    ensures { IfOk result (λ v. AreMade map.now start.now plan.now behaves.items v.items) }
 {
     map.laws();
     let mut tiles = Vec::new(alloc);

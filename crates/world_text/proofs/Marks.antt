@@ -1,11 +1,11 @@
 -- Marks of the places that are taken.
-use Rattle.std.proofs.Common.{ℕ, zero, suc, ◌≡◌, ◌+◌, ◌<◌, ◌≤◌, ◌==◌, Bool, true, false, ◌||◌, List, [], ◌∷◌, ◌++◌, length, get_or, take, drop, map, replicate, refl, ap, sym, ◌∙◌, arith, Option, Some, None, is_some, inl, inr, if◌then◌else◌}
+use Rattle.std.proofs.Common.{ℕ, zero, suc, ◌≡◌, ◌+◌, ◌<◌, ◌≤◌, ◌==◌, Bool, true, false, ◌||◌, List, [], ◌∷◌, ◌++◌, length, get_or, take, drop, map, replicate, bytes_eq, cond, ◌-◌, refl, ap, sym, ◌∙◌, arith, Option, Some, None, is_some, inl, inr, if◌then◌else◌}
 use Rattle.std.specs.List.{list_any}
 use Rattle.std.proofs.Math.ListN.{set}
 use Rattle.std.proofs.Math.Seq.{drop-cons, drop-nil}
 use Rattle.std.proofs.lemmas.List.{take_more, map-append, get_or-set_same, get_or-set_other, length-set}
 use Rattle.std.proofs.lemmas.Bool.Decides.{eqb_tells}
-use Rattle.world_text.specs.Named.{name_fault, place_of, placed, type_of, or_zero, AreMarked}
+use Rattle.world_text.specs.Named.{name_fault, place_of, placed, type_from, type_of, or_zero, AreMarked}
 use Rattle.bit_field.specs.Atom.{AtomValue}
 use Rattle.world_text.specs.declared.draft.RawAtom.{RawAtom}
 use Rattle.world_text.specs.declared.world.Placed.{Placed}
@@ -39,6 +39,23 @@ marked_more marks before q m lt = λ p less. elim (eqb_tells q p) [
     or_false : (b : Bool) → (b || false) ≡ b
     or_false true = refl
     or_false false = refl
+
+-- behind the last name there is none
+pub no_kind : (names : List (List ℕ)) (k : ℕ) (name : List ℕ) → type_from k (drop (length names) names) name ≡ None
+unfolding type_from
+no_kind [] k name = refl
+no_kind (n ∷ names) k name = no_kind names k name
+
+-- the type numbers of the names from a place on, with the name before it
+pub kind_more : (names : List (List ℕ)) (i v : ℕ) (bytes known name : List ℕ) (old new : Option ℕ) → 0 < i → i ≤ length names → bytes ≡ known → known ≡ get_or names (i - 1) known → v ≡ i - 1 + 1 →
+    old ≡ type_from (i + 1) (drop i names) name → new ≡ cond (bytes_eq bytes name) (Some v) old → new ≡ type_from (i - 1 + 1) (drop (i - 1) names) name
+unfolding type_from
+kind_more names i v bytes known name old new some most same is number was step =
+    let next : suc (i - 1) ≡ i = omega (arith, some) in
+    let more : i - 1 + 1 + 1 ≡ i + 1 = omega (arith, some) in
+    let first = drop-cons names (i - 1) known (omega (arith, some, most)) in
+    let whole : drop (i - 1) names ≡ known ∷ drop i names = first ∙ (λ j. sym is j ∷ drop (next j) names) in
+    step ∙ (λ j. cond (bytes_eq (same j) name) (Some (number j)) (was j)) ∙ ap (λ k. cond (bytes_eq known name) (Some (i - 1 + 1)) (type_from k (drop i names) name)) (sym more) ∙ sym (ap (λ ns. type_from (i - 1 + 1) ns name) whole)
 
 -- what an atom after others comes to, before the rest
 abbrev pub one_atom : List (List ℕ) → ℕ → List ℕ → RawAtom → Option (ℕ × ℕ) → Option (ℕ × ℕ)

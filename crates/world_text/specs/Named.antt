@@ -1,5 +1,7 @@
 -- The names and the sites of a world's atoms, and the world.
 use Rattle.std.specs.Prelude.{ℕ, ◌≡◌, ◌+◌, ◌*◌, ◌<◌, ◌==◌, Bool, false, List, [], ◌∷◌, ◌++◌, length, map, slice_index_or, bytes_eq, Option, Some, None, is_some, Vec, Result, Ok, Err, if◌then◌else◌}
+use Rattle.std.specs.Borrow.{Bor}
+use Rattle.std.specs.HashMap.{HashMap, get_by}
 use Rattle.std.specs.List.{list_any}
 use Rattle.draw_stream.specs.Plans.{PlanValue, seeded, scripted}
 use Rattle.draw_stream.specs.declared.attempt.Attempt.{Attempt}
@@ -31,6 +33,10 @@ type_from k (n ∷ ns) name = if bytes_eq n name then Some k else type_from (k +
 -- the type number of a name: its place among the names, from 1
 abbrev pub type_of : List (List ℕ) → List ℕ → Option ℕ
 type_of names name = type_from 1 names name
+
+-- a map has the type number of each name
+abbrev pub AreKinds : {S : Type 0} → List (List ℕ) → HashMap (Bor (List ℕ)) ℕ S → Type 0
+AreKinds names kinds = (name : List ℕ) → get_by (λ k. bytes_eq name k.now) kinds ≡ type_of names name
 
 abbrev pub or_zero : Option ℕ → ℕ
 or_zero None = 0

@@ -1,8 +1,8 @@
 //! Giving the atoms of a world the types of their names.
-ghost use Rattle.std.specs.Prelude.{◌≡◌, ◌*◌, ◌≤◌, ◌<◌, ◌^◌, All, IfOk, IfSome, length};
+ghost use Rattle.std.specs.Prelude.{ℕ, ◌≡◌, ◌*◌, ◌≤◌, ◌<◌, ◌^◌, All, IfOk, IfSome, List, length};
 ghost use Rattle.draw_stream.specs.Plans.{IsPlan, scripted, tiles_on};
 ghost use Rattle.world_text.specs.declared.draft.RawAtom.{RawAtom};
-ghost use Rattle.world_text.specs.Named.{NamesAtoms, order_by, place_of, plan_by, type_of};
+ghost use Rattle.world_text.specs.Named.{AreKinds, NamesAtoms, order_by, place_of, plan_by, type_of};
 ghost use Rattle.world_text.specs.Printed.{IsNamed, IsPrintable};
 ghost use Rattle.world_text.specs.Values.{Names, order_value, world_value};
 
@@ -14,21 +14,25 @@ use bit_field::Atom;
 use draw_stream::{AttemptPlan, Script};
 use feast_base::{Name, NoMemory};
 use std::alloc::Global;
+use std::collections::HashMap;
 
-/// The type number of a name: its place among the names, from 1.
-#[tactic(auto, unfolding(crate::specs::Named::type_from))]
-fn type_of(names: &[Name], name: &[u8]) -> Option<u16>
+/// The type number of each name: its place among the names, from 1, the first where it has more.
+fn kinds_of(alloc: Global, names: &[Name]) -> Result<HashMap<&[u8], u16>, NoMemory>
     requires { length names.now ≤ 65535 }
-    ensures { result ≡ type_of names.now name.now }
+    ensures { IfOk result (λ m. AreKinds names.now m) }
 {
-    let mut kind = 1u32;
-    for known in names {
-        if known.bytes() == name {
-            return Some(kind as u16);
-        }
-        kind += 1;
+    let mut kinds = HashMap::new(alloc);
+    for place in (0..names.len()).rev() {
+        kinds.insert(names[place].bytes(), (place + 1) as u16)?;
     }
-    None
+    Ok(kinds)
+}
+
+/// The type number of a name.
+fn type_of(kinds: &HashMap<&[u8], u16>, name: &[u8]) -> Option<u16>
+    ensures { (names : List (List ℕ)) → AreKinds names kinds.now → result ≡ type_of names name.now }
+{
+    kinds.get(name).copied()
 }
 
 /// The place of an atom in row order.
@@ -54,10 +58,11 @@ fn name_atoms(
     requires inside { All (λ (a : RawAtom). (a.x < width) × (a.y < height) × (a.state < 2 ^ 71)) atoms.now }
     ensures { NamesAtoms names.now width atoms.now result }
 {
+    let kinds = kinds_of(alloc, names)?;
     let mut marks = Vec::from_elem(alloc, false, (width * height) as usize)?;
     let mut found = Vec::new(alloc);
     for raw in atoms {
-        let Some(kind) = type_of(names, raw.name.bytes()) else {
+        let Some(kind) = type_of(&kinds, raw.name.bytes()) else {
             return Err(WorldFault::UnknownElement(raw.line));
         };
         let place = place_of(width, height, raw);

@@ -129,6 +129,5 @@ fn refusals_of_journals_have_their_texts(rt: HostRuntime) -> Result<(), Fail> {
     assert!(rt; is_told(alloc, 82, 0, "f:3:5: E82 not a site of the tile\n")?);
     assert!(rt; is_told(alloc, 83, 0, "f:3:5: E83 not an attempt of the tile\n")?);
     assert!(rt; is_told(alloc, 84, 2, "f:3:5: E84 journal has 2 records\n")?);
-    assert!(rt; is_told(alloc, 90, 0, "f:3:5: E90 not built yet\n")?);
     Ok(())
 }

@@ -1,4 +1,4 @@
-use Rattle.std.proofs.Common.{◌≡◌, ◌≤◌, ◌+◌, ◌++◌, map, length, drop}
+use Rattle.std.proofs.Common.{◌≡◌, ◌+◌, ◌++◌, map, length, drop}
 use Rattle.code_gen.specs.Pieces.{size, lay}
 use Rattle.code_gen.specs.Views.{pieces_of, key_of}
 use Rattle.code_gen.proofs.emit.+emit.Given as goal

@@ -1,11 +1,13 @@
 use Rattle.std.proofs.Common.{List, ℕ, subst}
-use Rattle.event_journal.specs.Reading.{IsFault, fault_of, read_report}
-use Rattle.feast_run.proofs.Runs.{journal_stops}
+use Rattle.feast_run.proofs.Telling.{tells_then}
+use Rattle.feast_run.specs.Stages.{journal_in}
+use Rattle.feast_run.specs.Tellings.{Tells}
+use Rattle.feast_run.specs.Values.{journal_value}
 use Rattle.world_text.specs.Values.{world_value}
 use Rattle.feast_run.proofs.journals.load_journal.Goals as goal
 
 pub returns-clause-tells : goal.returns-clause-tells
 returns-clause-tells g c =
     let w = world_value c.args.world.now in
-    let asked = subst (λ (bytes : List ℕ). IsFault (read_report w.plane w.plan.lists bytes) (fault_of c.in-Err.fault)) c.as_slice.ensures.value c.in-Err.ensures in
-    journal_stops _ _ w c.in_ok-bytes.bytes.items (fault_of c.in-Err.fault) c.journal_stop.result c.in_ok-bytes.ensures.tells asked c.journal_stop.ensures
+    let rest = subst (λ (bytes : List ℕ). Tells journal_value (journal_in c.args.word.now w bytes) c.read_loaded.result) c.as_slice.ensures.value c.read_loaded.ensures in
+    tells_then journal_value _ (journal_in c.args.word.now w) c.in_ok-bytes.bytes.items c.read_loaded.result c.in_ok-bytes.ensures.tells rest

@@ -1,3 +1,4 @@
+use Rattle.feast_run.proofs.Generated.{unmoved}
 use Rattle.feast_run.proofs.stages.form_stages.Goals as goal
 
 pub returns-in-Run-clause-tells : goal.returns-in-Run-clause-tells
@@ -6,5 +7,14 @@ returns-in-Run-clause-tells g c = rw c.in-Run.is c.run_stages.ensures.tells
 pub returns-in-Replay-clause-tells : goal.returns-in-Replay-clause-tells
 returns-in-Replay-clause-tells g c = rw c.in-Replay.is c.replay_stages.ensures.tells
 
+pub returns-in-Audit-clause-tells : goal.returns-in-Audit-clause-tells
+returns-in-Audit-clause-tells g c = rw c.in-Audit.is c.audit_stages.ensures.tells
+
+pub returns-in-Rewind-clause-tells : goal.returns-in-Rewind-clause-tells
+returns-in-Rewind-clause-tells g c = rw c.in-Rewind.is c.rewind_stages.ensures.tells
+
 pub returns-in-Step-clause-tells : goal.returns-in-Step-clause-tells
 returns-in-Step-clause-tells g c = rw c.in-Step.is c.step_stages.ensures.tells
+
+pub returns-in-Gen-clause-moves : goal.returns-in-Gen-clause-moves
+returns-in-Gen-clause-moves g c = unmoved _ c.gen_stages.result c.gen_stages.ensures.none

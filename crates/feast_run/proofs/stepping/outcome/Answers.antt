@@ -4,6 +4,9 @@ use Rattle.element_set.specs.declared.actor.Actor.{Actor}
 use Rattle.ulam_meaning.specs.Events.{after}
 use Rattle.world_grid.proofs.Valid.{world_valid}
 use Rattle.world_text.specs.Values.{world_value}
+use Rattle.stepped_world.specs.Ends.{IsOutcome}
+use Rattle.world_runs.specs.Fresh.{setting_of}
+use Rattle.world_runs.specs.Orders.{order_in}
 use Rattle.feast_run.proofs.Machines.{outcome_by, tiles_few}
 use Rattle.feast_run.proofs.stepping.outcome.Goals as goal
 
@@ -20,4 +23,6 @@ pub stepped-requires-clause-meaning : goal.stepped-requires-clause-meaning
 stepped-requires-clause-meaning c = (after (program_of (set_value c.args.ready.now.set)), c.in_ok-actors.ensures.acts)
 
 pub returns : goal.returns
-returns c = outcome_by (λ (a : Actor). after (program_of (acting_set a))) (world_value c.args.ready.now.world) (after (program_of (set_value c.args.ready.now.set))) c.in_ok-actors.actors.items c.stepped.result c.in_ok-actors.ensures.acts c.stepped.ensures
+returns c =
+    let w = world_value c.args.ready.now.world in
+    outcome_by (λ (a : Actor). after (program_of (acting_set a))) (λ means o. IsOutcome w.plane (setting_of w means) (order_in w) o) (after (program_of (set_value c.args.ready.now.set))) c.in_ok-actors.actors.items c.stepped.result c.in_ok-actors.ensures.acts c.stepped.ensures

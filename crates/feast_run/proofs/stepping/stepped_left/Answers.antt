@@ -1,6 +1,7 @@
 use Rattle.element_set.specs.Sets.{element_names, set_value}
 use Rattle.event_journal.specs.Logs.{abandoned_in, records_in}
 use Rattle.feast_run.proofs.Machines.{is_run, left_named, machine_grid, machine_logs}
+use Rattle.feast_run.proofs.SetKnown.{brings_none}
 use Rattle.feast_run.specs.Values.{ready_value}
 use Rattle.grid_print.specs.Report.{report}
 use Rattle.world_grid.proofs.Valid.{world_known}
@@ -18,4 +19,6 @@ returns-clause-text c =
     (λ i. report (element_names (set_value c.args.ready.set)) (machine_grid r o h i) (records_in (machine_logs r o h i)) (abandoned_in (machine_logs r o h i)))
 
 pub returns-clause-writable : goal.returns-clause-writable
-returns-clause-writable c = left_named (ready_value c.args.ready) c.in_ok-outcome.outcome c.in_ok-outcome.ensures (world_known (element_names (set_value c.args.ready.set)) (world_value c.args.ready.world) c.requires)
+returns-clause-writable c =
+    let o = c.in_ok-outcome.outcome in
+    left_named (ready_value c.args.ready) o.grid (records_in o.journal) c.in_ok-outcome.ensures.settled.grid (brings_none (set_value c.args.ready.set)) (world_known (element_names (set_value c.args.ready.set)) (world_value c.args.ready.world) c.requires)

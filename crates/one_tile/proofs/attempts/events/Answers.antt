@@ -4,7 +4,7 @@ use Rattle.one_tile.proofs.Alone.{centres_left, fewer_left, one_event_more}
 use Rattle.one_tile.proofs.attempts.events.Goals as goal
 
 pub loop-attempt-preserved : goal.loop-attempt-preserved
-loop-attempt-preserved c =
+loop-attempt-preserved g c =
     let m = c.args.map.now in
     let list = c.loop-attempt.attempts in
     let rest = c.next.new.self in

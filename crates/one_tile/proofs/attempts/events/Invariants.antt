@@ -4,11 +4,11 @@ use Rattle.one_tile.specs.Events.{events_from}
 use Rattle.one_tile.proofs.attempts.events.Given as goal
 
 abbrev pub invariant-loop-attempt : goal.invariant-loop-attempt
-invariant-loop-attempt l = record {
+invariant-loop-attempt g l = record {
   few : l.number + length l.attempts ≤ 1000000;
   centres : All (λ (a : Attempt). a.centre < l.map.w * l.map.h) l.attempts;
   rest : l.records.items ++ events_from l.map l.number l.attempts ≡ events_from l.map 0 l.fn.attempts;
 }
 
 abbrev pub decreases-loop-attempt : goal.decreases-loop-attempt
-decreases-loop-attempt l = length l.attempts
+decreases-loop-attempt g l = length l.attempts

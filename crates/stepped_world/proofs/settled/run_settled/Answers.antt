@@ -16,7 +16,7 @@ settle-requires-clause-made g c =
     let r = c.requires.start in
     let h = c.run_steps.ensures.run r.0 (subst (λ (xs : List (TileValue × g.row.B.Denot)). IsStart g.B.Behave.after c.args.map.now r.0 xs c.args.board) (sym c.as_mut_slice.ensures.value) r.1) in
     let new = c.run_steps.new.tiles in
-    let same : length new ≡ length c.args.tiles.items = h.count ∙ sym r.1.count in
+    let same : length new ≡ length c.args.tiles.items = h.count ∙ sym r.1.tiles_are.count in
     subst (λ (xs : List (TileValue × g.row.B.Denot)). All (λ (x : TileValue × g.row.B.Denot). IsMade c.args.map.now x.0) xs) (sym (written_over c.args.tiles.len new c.args.tiles.items same c.args.tiles.ok.0)) h.made
 
 pub settle-requires-clause-words : goal.settle-requires-clause-words
@@ -29,7 +29,7 @@ settle-requires-clause-over g c =
     let r = c.requires.start in
     let h = c.run_steps.ensures.run r.0 (subst (λ (xs : List (TileValue × g.row.B.Denot)). IsStart g.B.Behave.after c.args.map.now r.0 xs c.args.board) (sym c.as_mut_slice.ensures.value) r.1) in
     let new = c.run_steps.new.tiles in
-    let same : length new ≡ length c.args.tiles.items = h.count ∙ sym r.1.count in (
+    let same : length new ≡ length c.args.tiles.items = h.count ∙ sym r.1.tiles_are.count in (
       r.0.meaning,
       r.0.start,
       r.0.plan,
@@ -42,7 +42,7 @@ returns g c =
     let r = c.requires.start in
     let h = c.run_steps.ensures.run r.0 (start r.0 r.1) in
     let new = c.run_steps.new.tiles in
-    let same : length new ≡ length c.args.tiles.items = h.count ∙ sym r.1.count in
+    let same : length new ≡ length c.args.tiles.items = h.count ∙ sym r.1.tiles_are.count in
     let all = written_over c.args.tiles.len new c.args.tiles.items same c.args.tiles.ok.0 in
     let e = c.run_steps.ensures.stepped in
     record {

@@ -1,9 +1,10 @@
 use Rattle.std.proofs.Common.{◌≡◌, ◌<◌, ◌∙◌, List, ap, arith, fold, get_or, length, subst, sym}
 use Rattle.border_cache.specs.Copies.{IsGridOf}
 use Rattle.cell_grid.specs.Grid.{GridValue}
-use Rattle.tile_map.specs.Plane.{plane_of}
+use Rattle.serial_order.specs.Outcomes.{IsBlank}
+use Rattle.tile_map.specs.Plane.{MapValue, plane_of}
 use Rattle.world_grid.specs.Start.{with_placed}
-use Rattle.world_grid.proofs.Shutting.{fits_bare, fits_placed, placed_more}
+use Rattle.world_grid.proofs.Blank.{blank_is, fits_placed, placed_more}
 use Rattle.world_text.specs.declared.world.Placed.{Placed}
 use Rattle.world_grid.proofs.starting.start.Goals as goal
 
@@ -11,9 +12,10 @@ pub loop-placed-init : goal.loop-placed-init
 loop-placed-init c =
     let w = c.args.world.now in
     let m = plane_of w.tx w.ty w.w w.h w.off.items in
+    let blank = subst (λ (n : MapValue). IsBlank n c.in_ok-grid.grid) c.in_ok-map.ensures c.in_ok-grid.ensures in
     record {
-      rest = ap (λ (g : GridValue). fold with_placed g w.atoms.items) c.in_ok-grid.ensures;
-      fits = subst (IsGridOf m) (sym c.in_ok-grid.ensures) (fits_bare m c.requires.map);
+      rest = ap (λ (g : GridValue). fold with_placed g w.atoms.items) (blank_is m c.requires.map c.in_ok-grid.grid blank);
+      fits = blank.fits;
     }
 
 pub loop-placed-preserved : goal.loop-placed-preserved

@@ -5,7 +5,7 @@ use Rattle.tile_map.specs.Plane.{MapValue}
 use Rattle.serial_order.specs.Outcomes.{values_of}
 use Rattle.world_text.specs.Values.{world_value}
 use Rattle.world_runs.specs.Fresh.{AllCanAttempt, setting_of}
-use Rattle.world_runs.specs.Settled.{IsSettled}
+use Rattle.world_runs.specs.OneOrder.{StandsInOneOrder}
 use Rattle.serial_order.specs.Words.{closed_histories}
 use Rattle.world_runs.proofs.Beginning.{all_can, all_ready}
 use Rattle.world_runs.proofs.threading.threaded.Goals as goal
@@ -32,5 +32,5 @@ returns g c =
     let w = world_value c.args.world.now in
     IfOk-weaker c.settle.result _ _ (λ o settled meaning one.
     let over = (c.in_ok-tiles-2.ensures meaning (setting_of (world_value c.args.world.now) meaning).start (world_value c.args.world.now).plan (all_ready g.B.Behave.after (world_value c.args.world.now) c.in_ok-map.map meaning c.args.behaves.items c.in_ok-tiles.tiles.items c.in_ok-grid.grid c.in_ok-map.ensures c.requires.world c.plan_fits.ensures (subst IsGrid c.grid.view_is c.grid.invariant.0) c.in_ok-grid.ensures.fits c.in_ok-grid.ensures.grid c.in_ok-tiles.ensures c.requires.one one)).over in
-    let whole : IsSettled c.in_ok-map.map (setting_of w meaning) o = record { tiles = values_of c.in_ok-tiles-2.tiles.items; edges = closed_histories c.in_ok-tiles-2.edges; settled = settled meaning (setting_of (world_value c.args.world.now) meaning).start (world_value c.args.world.now).plan over } in
-    subst (λ (m : MapValue). IsSettled m (setting_of w meaning) o) c.in_ok-map.ensures whole) c.settle.ensures.settled
+    let whole : StandsInOneOrder c.in_ok-map.map (setting_of w meaning) o = record { tiles = values_of c.in_ok-tiles-2.tiles.items; edges = closed_histories c.in_ok-tiles-2.edges; settled = settled meaning (setting_of (world_value c.args.world.now) meaning).start (world_value c.args.world.now).plan over } in
+    subst (λ (m : MapValue). StandsInOneOrder m (setting_of w meaning) o) c.in_ok-map.ensures whole) c.settle.ensures.settled

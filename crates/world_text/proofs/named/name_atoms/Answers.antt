@@ -14,7 +14,7 @@ returns-in_default c =
     let a = c.raw-item.result in
     let before = map (place_of c.args.width) (take i atoms) in
     let rest = name_fault names c.args.width (map (place_of c.args.width) (take (i + 1) atoms)) (drop (i + 1) atoms) in
-    let known : is_some (type_of names a.name) ≡ false = ap (λ n. is_some (type_of names n)) (sym c.bytes.ensures) ∙ ap is_some (sym c.in_default.ensures) in
+    let known : is_some (type_of names a.name) ≡ false = ap (λ n. is_some (type_of names n)) (sym c.bytes.ensures) ∙ ap is_some (sym (c.in_default.ensures names c.in_ok-kinds.ensures)) in
     sym c.loop-raw.invariant.rest ∙ next_atom names c.args.width atoms i a (omega arith) (sym c.raw-item.is) ∙ one_unknown names c.args.width before a rest known
 
 pub returns-then-index : goal.returns-then-index
@@ -25,7 +25,7 @@ returns-then-index c =
     let a = c.raw-item.result in
     let before = map (place_of c.args.width) (take i atoms) in
     let rest = name_fault names c.args.width (map (place_of c.args.width) (take (i + 1) atoms)) (drop (i + 1) atoms) in
-    let known : is_some (type_of names a.name) ≡ true = ap (λ n. is_some (type_of names n)) (sym c.bytes.ensures) ∙ ap is_some (sym c.in-Some.ensures) in
+    let known : is_some (type_of names a.name) ≡ true = ap (λ n. is_some (type_of names n)) (sym c.bytes.ensures) ∙ ap is_some (sym (c.in-Some.ensures names c.in_ok-kinds.ensures)) in
     let size = c.loop-raw.invariant.size in
     let inside : c.place_of-place.result < length c.loop-raw.marks.items = omega (arith, size, c.place_of-place.ensures.below) in
     let mark : list_any (λ p. p == place_of c.args.width a) before ≡ c.index.result.now =
@@ -41,7 +41,7 @@ loop-raw-preserved c =
     let a = c.raw-item.result in
     let before = map (place_of c.args.width) (take i atoms) in
     let rest = name_fault names c.args.width (map (place_of c.args.width) (take (i + 1) atoms)) (drop (i + 1) atoms) in
-    let type : type_of names a.name ≡ Some c.in-Some.kind = ap (λ n. type_of names n) (sym c.bytes.ensures) ∙ sym c.in-Some.ensures in
+    let type : type_of names a.name ≡ Some c.in-Some.kind = ap (λ n. type_of names n) (sym c.bytes.ensures) ∙ sym (c.in-Some.ensures names c.in_ok-kinds.ensures) in
     let known : is_some (type_of names a.name) ≡ true = ap is_some type in
     let size = c.loop-raw.invariant.size in
     let inside : c.place_of-place.result < length c.loop-raw.marks.items = omega (arith, size, c.place_of-place.ensures.below) in

@@ -1,0 +1,17 @@
+pub mod Acts
+pub mod Arguments
+pub mod Bytes
+pub mod Loops
+pub mod Sets
+pub mod Laws
+pub mod Gathers
+pub mod NumberLaws
+pub mod NameLaws
+pub mod ArgLaws
+pub mod InstrLaws
+pub mod ElementLaws
+pub mod Judges
+pub mod FileLaws
+pub mod KnownAtoms
+pub mod Ranges
+pub mod Rightness

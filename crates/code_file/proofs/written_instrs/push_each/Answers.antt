@@ -1,0 +1,6 @@
+use Rattle.feast_base.proofs.Appending.{Appends-at_exit}
+use Rattle.code_file.proofs.written_instrs.push_each.Goals as goal
+
+pub returns-in_err-push_instr : goal.returns-in_err-push_instr
+returns-in_err-push_instr c =
+    Appends-at_exit _ c.args.out.now.items c.loop-instr.out.items _ _ c.from_residual.result c.from_residual.ensures.1 (_, c.loop-instr.invariant) c.in_err-push_instr.ensures

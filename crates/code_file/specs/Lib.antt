@@ -1,0 +1,11 @@
+pub mod Acting
+pub mod ActingSet
+pub mod Form
+pub mod Instrs
+pub mod Judging
+pub mod Known
+pub mod Numbers
+pub mod Ranged
+pub mod Reading
+pub mod Right
+pub mod Words

@@ -1,0 +1,21 @@
+-- Numbers as bytes, the greatest byte first.
+use Rattle.std.specs.Prelude.{ℕ, zero, suc, ◌-◌, ◌*◌, ◌/◌, ◌%◌, ◌^◌, ℤ, pos, negsuc, List, [], ◌∷◌, ◌++◌, length}
+use Rattle.std.specs.List.{flat_map}
+
+-- the low w bytes of a number
+unfoldable pub be : ℕ → ℕ → List ℕ
+be zero n = []
+be (suc w) n = n / 2 ^ (8 * w) % 256 ∷ be w n
+
+-- a number with its sign, in nine bytes of two's complement
+abbrev pub signed : ℤ → List ℕ
+signed (pos n) = 0 ∷ be 8 n
+signed (negsuc n) = 255 ∷ be 8 (2 ^ 64 - 1 - n)
+
+-- a list behind its length, which has w bytes
+abbrev pub counted : {A : Type 0} → ℕ → (A → List ℕ) → List A → List ℕ
+counted w item xs = be w (length xs) ++ flat_map item xs
+
+-- a name behind its length
+abbrev pub name_bytes : List ℕ → List ℕ
+name_bytes name = be 4 (length name) ++ name

@@ -1,0 +1,51 @@
+//! What acts on windows as the codes of a file say.
+ghost use Rattle.std.specs.Prelude.{◌≡◌, IfOk};
+
+use crate::set::CodeSet;
+use cell_grid::Behave;
+use event_machine::Machine;
+use feast_base::{NoLedger, NoMemory, Steps};
+use std::alloc::Global;
+use window_sites::Window;
+
+/// What acts on windows as the codes of a file say: the code whose type number the atom at the
+/// centre has is run. An empty centre, and an atom whose type is that of no element, leave the
+/// window as it is. A run that fails leaves the old window with its centre empty.
+#[derive(Drop)]
+pub struct CodeActor<'a> {
+    set: &'a CodeSet,
+    machine: Machine,
+}
+
+impl Behave for CodeActor<'_> {
+    ghost use Rattle.code_file.specs.Acting.{after, idle-after};
+    ghost use Rattle.code_file.specs.ActingSet.{acting_codes};
+
+    ghost after = { λ a. after (acting_codes a) };
+
+    ghost idle = { λ a. idle-after (acting_codes a) };
+
+    fn act(&mut self, window: &mut Window, seed: u64) {
+        let Some(index) = window.get(0).kind().checked_sub(1) else {
+            return;
+        };
+        if let Some(code) = self.set.codes().get(index as usize) {
+            self.machine
+                .act(code, window, seed, &mut Steps::new(NoLedger));
+        }
+    }
+}
+
+impl CodeSet {
+    ghost use Rattle.code_file.specs.ActingSet.{acting_codes};
+    ghost use Rattle.code_file.specs.Form.{codes_of};
+
+    /// What acts on windows as these codes say. It takes all its memory here; `NoMemory` where that
+    /// is refused.
+    pub fn actor(&self, alloc: Global) -> Result<CodeActor<'_>, NoMemory>
+        ensures { IfOk result (λ a. acting_codes a ≡ codes_of self.now) }
+    {
+        let machine = Machine::new(alloc)?;
+        Ok(CodeActor { set: self, machine })
+    }
+}

@@ -1,0 +1,17 @@
+//! Which types cross threads. Nothing calls these functions: the check of this crate fails where
+//! one of the types may no longer be sent or shared.
+
+use crate::actor::CodeActor;
+use crate::set::CodeSet;
+
+fn sends<T: Send>(_value: &T) {}
+
+fn shares<T: Sync>(_value: &T) {}
+
+fn set_is_shared(set: &CodeSet) {
+    shares(set);
+}
+
+fn actor_is_sent(actor: &CodeActor<'_>) {
+    sends(actor);
+}

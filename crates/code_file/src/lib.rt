@@ -1,0 +1,31 @@
+//! Code files: compiled elements as bytes, written, read, and acting.
+//!
+//! A code file has one spelling: numbers have fixed widths, with the greatest byte first, each
+//! list stands behind its length, and nothing follows the last element.
+#![tactic(auto)]
+
+mod actor;
+mod args;
+mod crossing;
+mod elements;
+mod fault;
+mod field;
+mod functions;
+mod halt;
+mod instrs;
+mod law;
+mod magic;
+mod names;
+mod numbers;
+mod reading;
+mod set;
+mod writing;
+mod written_instrs;
+mod written_numbers;
+
+pub use actor::CodeActor;
+pub use fault::CodeFault;
+pub use law::file_laws;
+pub use reading::read;
+pub use set::CodeSet;
+pub use writing::write;

@@ -1,0 +1,116 @@
+//! Code files read.
+ghost use Rattle.std.specs.Prelude.{◌≡◌, ◌↔◌, [], IsTrue, IfOk, length, take, Result};
+ghost use Rattle.code_file.specs.Form.{CodesValue, elements, magic};
+ghost use Rattle.code_file.specs.Judging.{Admits, Answers, IsWithin, Reads, Tells, column_behind, fault_of, is_among, judged};
+ghost use Rattle.code_file.specs.declared.fault.CodeFault.{CodeFault};
+
+use crate::elements::{Draft, body};
+use crate::fault::CodeFault;
+use crate::halt::Halt;
+use crate::magic::MAGIC;
+use crate::set::CodeSet;
+use crate::writing::push_elements;
+use feast_base::{Name, NoMemory};
+use stack_code::{Code, RawCode, verify};
+use std::alloc::Global;
+
+/// Whether bytes begin as a code file does.
+fn has_magic(bytes: &[u8]) -> bool
+    ensures { IsTrue result ↔ (take 8 bytes.now ≡ magic) }
+{
+    bytes.len() >= 8 && &bytes[..8] == MAGIC.as_slice()
+}
+
+/// Whether a name is among others.
+#[tactic(auto, unfolding(crate::specs::Judging::is_among))]
+fn is_among(name: &Name, names: &[Name]) -> bool
+    ensures { result ≡ is_among name.now names.now }
+{
+    names.iter().any(|other| other.bytes() == name.bytes())
+}
+
+/// The first byte, counted from 1, of the element that stands behind these.
+fn column_behind(alloc: Global, names: &[Name], codes: &[Code]) -> Result<u64, NoMemory>
+    requires { length names.now ≡ length codes.now }
+    ensures { IfOk result (λ column. column ≡ column_behind (elements names.now codes.now)) }
+{
+    let mut before = Vec::new(alloc);
+    push_elements(&mut before, names, codes)?;
+    Ok(before.len() as u64 + 11)
+}
+
+/// Takes an element in behind others, where it has another name and its code is valid.
+fn admit(
+    alloc: Global,
+    names: &mut Vec<Name>,
+    codes: &mut Vec<Code>,
+    name: Name,
+    code: RawCode,
+) -> Result<(), CodeFault>
+    requires { length names.old.items ≡ length codes.old.items }
+    ensures admits { Admits (elements names.old.items codes.old.items) (record { name = name; code = code }) (elements names.new.items codes.new.items) result }
+    ensures same { IfOk result (λ _. length names.new.items ≡ length codes.new.items) }
+{
+    if is_among(&name, names.as_slice()) {
+        let column = column_behind(alloc, names.as_slice(), codes.as_slice())?;
+        return Err(CodeFault::SameName(column));
+    }
+    match verify(alloc, code)? {
+        Some(code) => {
+            names.push(name)?;
+            codes.push(code)?;
+            Ok(())
+        }
+        None => {
+            let column = column_behind(alloc, names.as_slice(), codes.as_slice())?;
+            Err(CodeFault::NotValid(column))
+        }
+    }
+}
+
+/// The set of elements, or the refusal of the first one that has the name of an earlier one or
+/// whose code is not valid.
+fn judge(alloc: Global, drafts: Vec<Draft>) -> Result<CodeSet, CodeFault>
+    ensures { Answers (judged [] drafts.items) result }
+{
+    let mut names = Vec::new(alloc);
+    let mut codes = Vec::new(alloc);
+    for draft in drafts {
+        let Draft { name, code } = draft;
+        admit(alloc, &mut names, &mut codes, name, code)?;
+    }
+    Ok(CodeSet::new(names, codes))
+}
+
+/// The fault of a reading that stopped in these bytes.
+fn fault_of(bytes: &[u8], halt: Halt) -> CodeFault
+    requires { IsWithin halt (length bytes.now) }
+    ensures { result ≡ fault_of (length bytes.now) halt }
+{
+    match halt {
+        Halt::NoMemory => CodeFault::NoMemory,
+        Halt::Bad(left) => CodeFault::BadForm((bytes.len() - left) as u64 + 1),
+    }
+}
+
+/// The elements that the bytes of a code file say.
+///
+/// # Errors
+/// `BadMagic` where the first 8 bytes are not those of a code file. `BadForm` where no code file
+/// has the bytes. Then, element by element, `SameName` where it has an earlier one's name, and
+/// `NotValid` where its code is not valid. `NoMemory` where the elements can't be kept; memory is
+/// taken for what was read, whatever number of elements, functions or instructions is told.
+pub fn read(alloc: Global, bytes: &[u8]) -> Result<CodeSet, CodeFault>
+    // The answer is an outcome of the reading, unless memory is wanted.
+    ensures tells { Tells bytes.now result }
+    // Whatever outcome the reading has is the answer.
+    ensures exactly { (r : Result CodesValue CodeFault) → Reads bytes.now r → Answers r result }
+{
+    if !has_magic(bytes) {
+        return Err(CodeFault::BadMagic);
+    }
+    match body(alloc, &bytes[8..]) {
+        Ok(drafts) => judge(alloc, drafts),
+        Err(halt) => Err(fault_of(bytes, halt)),
+    }
+}

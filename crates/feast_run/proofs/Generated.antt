@@ -1,0 +1,50 @@
+-- What the run of a generated world comes to.
+use Rattle.std.proofs.Common.{ℕ, ◌≡◌, List, Result, Ok, Err, refl, ap, subst, sym, ◌∙◌}
+use Rattle.std.specs.Result.{IfOk}
+use Rattle.element_set.specs.Sets.{SetValue}
+use Rattle.event_journal.specs.Logs.{abandoned_in, records_in}
+use Rattle.feast_base.specs.Outside.{Stock}
+use Rattle.feast_run.proofs.Machines.{is_run, machine_grid, machine_logs}
+use Rattle.feast_run.specs.Generating.{generated_ready, stepped_summary}
+use Rattle.feast_run.specs.Stages.{sourced}
+use Rattle.feast_run.specs.Stepped.{IsOutcomeOf, IsSteppedRun}
+use Rattle.feast_run.specs.Tellings.{MissesNone, Moves}
+use Rattle.feast_run.specs.declared.stop.Stop.{Stop}
+use Rattle.feast_run.specs.declared.stop.Stop.TheVariants.{Refused, Missing, NoMemory}
+use Rattle.generated_world.specs.Generated.{generated}
+use Rattle.generated_world.specs.Summary.{summary}
+use Rattle.serial_order.specs.declared.outcome.Outcome.{Outcome}
+use Rattle.world_runs.specs.Orders.{IsOrder}
+use Rattle.world_text.specs.Named.{WorldValue}
+
+-- its order is drawn
+pub order_drawn : (number : ℕ) (w : WorldValue) → w ≡ generated number → IsOrder w.plane w.order
+order_drawn number w e = subst (λ (v : WorldValue). IsOrder v.plane v.order) (sym e) tt
+
+pub is_generated_run : (number : ℕ) (w : WorldValue) (set : SetValue) (o : Outcome) → w ≡ generated number → IsOutcomeOf (sourced w set) o → IsSteppedRun (generated_ready number set)
+is_generated_run number w set o e h = subst (λ (v : WorldValue). IsSteppedRun (sourced v set)) e (is_run (sourced w set) o h)
+
+pub summary_is : (number : ℕ) (w : WorldValue) (set : SetValue) (o : Outcome) → w ≡ generated number → IsOutcomeOf (sourced w set) o →
+    summary number o.grid (records_in o.journal) (abandoned_in o.journal) ≡ stepped_summary number (generated_ready number set)
+summary_is number w set o e h =
+    let r = sourced w set in
+    let of_world : summary number o.grid (records_in o.journal) (abandoned_in o.journal) ≡ stepped_summary number r =
+    (λ i. summary number (machine_grid r o h i) (records_in (machine_logs r o h i)) (abandoned_in (machine_logs r o h i))) in
+    of_world ∙ ap (λ (v : WorldValue). stepped_summary number (sourced v set)) e
+
+-- where no load failed and no shelf was used, the shelf is as it was
+pub unmoved : {X : Type 0} (s : Stock) (r : Result X Stop) → MissesNone r → Moves s s r
+unmoved s (Ok x) h = record { failed = refl; later = λ n k. k }
+unmoved s (Err (Refused r)) h = record { failed = refl; later = λ n k. k }
+unmoved s (Err (Missing word)) h = absurd h
+unmoved s (Err NoMemory) h = record { failed = refl; later = λ n k. k }
+
+-- what is known where there is a text
+pub known : {X E P : Type 0} (r : Result X E) → P → IfOk r (λ _. P)
+known (Ok x) p = p
+known (Err e) p = tt
+
+-- a text that is another
+pub shown : {X E : Type 0} (r : Result X E) (text : X → List ℕ) (a b : List ℕ) → a ≡ b → IfOk r (λ v. text v ≡ a) → IfOk r (λ v. text v ≡ b)
+shown (Ok x) text a b e h = h ∙ e
+shown (Err x) text a b e h = tt

@@ -1,0 +1,60 @@
+-- A world and its set, as a judgement knows them.
+use Rattle.std.proofs.Common.{ℕ, ◌≡◌, ◌<◌, List, All, Result, Ok, Err, ap, length, refl, subst, sym}
+use Rattle.std.specs.Prelude.{IfOk}
+use Rattle.cell_grid.specs.Grid.{GridValue}
+use Rattle.cell_grid.specs.Records.{replay}
+use Rattle.cell_grid.specs.declared.record.Record.{Record}
+use Rattle.draw_stream.specs.declared.attempt.Attempt.{Attempt}
+use Rattle.element_set.specs.Sets.{Coded, SetValue, element_names, program_of}
+use Rattle.feast_run.specs.Answer.{rewinds}
+use Rattle.feast_run.specs.Audited.{Audits, judged_world}
+use Rattle.feast_run.specs.Faults.{IsStop}
+use Rattle.feast_run.specs.Outcomes.{RefusedValue}
+use Rattle.feast_run.specs.Stages.{JournalValue, ReadyValue, records_refused, sourced}
+use Rattle.feast_run.specs.Tellings.{Tells}
+use Rattle.feast_run.specs.declared.stop.Stop.{Stop}
+use Rattle.feast_run.specs.declared.stop.Stop.TheVariants.{Missing, NoMemory, Refused}
+use Rattle.grid_print.specs.Report.{AreNamed}
+use Rattle.journal_check.specs.Telling.{IsPlanOf}
+use Rattle.report_judge.specs.Judging.{Judges, Setting, judgement_text}
+use Rattle.report_judge.specs.declared.judgement.Judgement.{Judgement}
+use Rattle.tile_map.specs.Plane.{MapValue}
+use Rattle.ulam_meaning.specs.Events.{after}
+use Rattle.window_sites.specs.Window.{WindowValue}
+use Rattle.world_grid.proofs.KnownAtoms.{replay_known, start_known}
+use Rattle.world_grid.proofs.Valid.{world_known}
+use Rattle.world_grid.specs.Known.{BringsNone, IsKnown}
+use Rattle.world_grid.specs.Start.{start_grid}
+use Rattle.world_grid.specs.Worlds.{IsWorld}
+use Rattle.world_text.specs.Named.{WorldValue}
+use Rattle.world_text.specs.Printed.{IsNamed}
+
+no_attempt : Attempt
+no_attempt = record { centre = 0; seed = 0 }
+
+pub plan_of : (w : WorldValue) → IsWorld w → IsPlanOf w.plane w.plan
+plan_of w h = record { lists = h.lists; on = λ t some. (h.attempts t 0 no_attempt some).on; centres = λ t k d lt. (h.attempts t k d lt).centre }
+
+-- what events leave of the atoms of a world has names
+pub replay_named : (names : List (List ℕ)) (w : WorldValue) (means : WindowValue → ℕ → WindowValue) (g : GridValue) (rs : List Record) → IsNamed names w → BringsNone (length names) means → g ≡ start_grid w.plane w.atoms → AreNamed names (replay means g rs).atoms
+replay_named names w means g rs h brings is =
+    let n = length names in
+    let first = subst (λ (v : GridValue). All (IsKnown n) v.atoms) (sym is) (start_known n w.plane w.atoms (world_known names w h)) in
+    replay_known n means g rs brings first
+
+-- the setting of a judgement whose parts are a world's
+pub setting_same : (w : WorldValue) (s t : SetValue) (m : MapValue) (g : GridValue) (names : List (List ℕ)) → m ≡ w.plane → s ≡ t → names ≡ element_names t → g ≡ start_grid w.plane w.atoms →
+    record { map = m; plan = w.plan; meaning = after (program_of s); names = names; start = g } ≡ judged_world (sourced w t)
+setting_same w s t m g names em es en eg = λ i. record { map = em i; plan = w.plan; meaning = after (program_of (es i)); names = en i; start = eg i }
+
+-- the line of a right judgement
+pub line_audits : {A E : Type 0} (items : A → List ℕ) (r : ReadyValue) (bytes : List ℕ) (j : JournalValue) (s : Setting) (judgement : Judgement) (text : Result A E) → s ≡ judged_world r → Judges s bytes j.records j.abandoned judgement →
+    IfOk text (λ v. items v ≡ judgement_text judgement) → IfOk text (λ v. Audits r bytes j (items v))
+line_audits items r bytes j s judgement (Ok v) same right shown = record { judgement = judgement; judges = subst (λ (x : Setting). Judges x bytes j.records j.abandoned judgement) same right; shown = shown }
+line_audits items r bytes j s judgement (Err e) same right shown = tt
+
+-- a journal has fewer events than are to be left
+pub few_told : {X : Type 0} (value : X → List ℕ) (word : List ℕ) (k : ℕ) (r : ReadyValue) (j : JournalValue) (stop : Stop) → length j.records < k → IsStop (records_refused word (length j.records)) stop → Tells value (rewinds word k r j) (Err stop)
+few_told value word k r j (Refused s) few is = ((few, is.0), subst Coded (sym (ap (λ (v : RefusedValue). v.refusal.code) is.0)) is.1)
+few_told value word k r j (Missing v) few is = absurd is
+few_told value word k r j NoMemory few is = absurd is

@@ -1,0 +1,13 @@
+use Rattle.std.proofs.Common.{List, ℕ, subst}
+use Rattle.feast_run.proofs.Telling.{tells_then}
+use Rattle.feast_run.specs.Audited.{audit_with}
+use Rattle.feast_run.specs.Outputs.{output_text}
+use Rattle.feast_run.specs.Tellings.{Tells}
+use Rattle.feast_run.specs.Values.{ready_value}
+use Rattle.feast_run.proofs.auditing.audit_rest.Goals as goal
+
+pub returns-clause-tells : goal.returns-clause-tells
+returns-clause-tells g c =
+    let r = ready_value c.args.ready in
+    let rest = subst (λ (bytes : List ℕ). Tells output_text (audit_with c.args.word.now r bytes) c.audit_loaded.result) c.as_slice.ensures.value c.audit_loaded.ensures.tells in
+    tells_then output_text _ (audit_with c.args.word.now r) c.in_ok-bytes.bytes.items c.audit_loaded.result c.in_ok-bytes.ensures.tells rest

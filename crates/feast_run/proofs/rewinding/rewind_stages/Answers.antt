@@ -1,0 +1,9 @@
+use Rattle.feast_run.proofs.Telling.{tells_then}
+use Rattle.feast_run.specs.Outputs.{output_text}
+use Rattle.feast_run.specs.Values.{ready_value}
+use Rattle.feast_run.proofs.rewinding.rewind_stages.Goals as goal
+
+pub returns-clause-tells : goal.returns-clause-tells
+returns-clause-tells g c =
+    let rest = rw c.in_ok-ready.ensures.files at c.rewind_rest.ensures.tells in
+    tells_then output_text _ _ (ready_value c.in_ok-ready.ready) c.rewind_rest.result c.in_ok-ready.ensures.tells rest

@@ -1,0 +1,93 @@
+//! The stages of an audit.
+ghost use Rattle.std.specs.Prelude.{◌≡◌, ◌<◌, ◌≤◌, ◌^◌, IfOk, length, map, string_bytes};
+ghost use Rattle.feast_base.specs.Outside.{stock};
+ghost use Rattle.feast_run.specs.Answer.{form_answer};
+ghost use Rattle.feast_run.specs.Audited.{Audits, audit_of, audit_with};
+ghost use Rattle.feast_run.specs.Forms.{audit, most_files};
+ghost use Rattle.feast_run.specs.Outputs.{IsWritable, output_text};
+ghost use Rattle.feast_run.specs.Tellings.{Moves, Tells};
+ghost use Rattle.feast_run.specs.Values.{IsReady, journal_value, ready_value};
+
+use crate::journals::read_loaded;
+use crate::loading::{JOURNAL_LIMIT, load_file};
+use crate::output::Output;
+use crate::stop::Stop;
+use crate::worlds::{Ready, make_ready};
+use event_journal::ReadJournal;
+use feast_base::{NoMemory, Shelf};
+use report_judge::{judge, judgement_line};
+use std::alloc::Global;
+use world_grid::{map_of, start};
+
+/// The line of the judgement on a report of a world, whose bytes and journal these are.
+fn audit_line(
+    alloc: Global,
+    ready: &Ready,
+    bytes: &[u8],
+    journal: &ReadJournal,
+) -> Result<Vec<u8>, NoMemory>
+    requires { IsReady ready.now }
+    ensures { IfOk result (λ v. Audits (ready_value ready.now) bytes.now (journal_value journal.now) v.items) }
+{
+    let map = map_of(alloc, &ready.world)?;
+    let grid = start(alloc, &ready.world)?;
+    let mut actor = ready.set.actor(alloc)?;
+    let names = ready.set.names();
+    let plan = &ready.world.plan;
+    let judgement = judge(alloc, &map, plan, names, &grid, bytes, journal, &mut actor)?;
+    judgement_line(alloc, judgement)
+}
+
+/// The stages of an audit behind the bytes of its report.
+fn audit_loaded<'a>(
+    alloc: Global,
+    word: &'a str,
+    bytes: &[u8],
+    ready: &Ready,
+) -> Result<Output, Stop<'a>>
+    requires ready { IsReady ready.now }
+    requires short { length bytes.now < 2 ^ 63 }
+    ensures tells { Tells output_text (audit_with word.now (ready_value ready.now) bytes.now) result }
+    ensures writable { IfOk result IsWritable }
+{
+    let journal = read_loaded(alloc, word, bytes, &ready.world)?;
+    match audit_line(alloc, ready, bytes, &journal) {
+        Ok(text) => Ok(Output::Text(text)),
+        Err(NoMemory) => Err(Stop::NoMemory),
+    }
+}
+
+/// The stages of an audit from its report on.
+fn audit_rest<'a, F: Shelf>(
+    alloc: Global,
+    shelf: &mut F,
+    word: &'a str,
+    ready: Ready,
+) -> Result<Output, Stop<'a>>
+    requires { IsReady ready }
+    ensures files { F.files shelf.new ≡ F.files shelf.old }
+    ensures moves { Moves (stock F.files F.failed F.may_fail shelf.old) (stock F.files F.failed F.may_fail shelf.new) result }
+    ensures tells { Tells output_text (audit_of (F.files shelf.old) word.now (ready_value ready)) result }
+    ensures writable { IfOk result IsWritable }
+{
+    let bytes = load_file(alloc, shelf, word, JOURNAL_LIMIT)?;
+    audit_loaded(alloc, word, bytes.as_slice(), &ready)
+}
+
+/// The stages of an audit, up to its line.
+pub fn audit_stages<'a, F: Shelf>(
+    alloc: Global,
+    shelf: &mut F,
+    world: &'a str,
+    report: &'a str,
+    words: &'a [String],
+) -> Result<Output, Stop<'a>>
+    requires { length words.now ≤ most_files }
+    ensures files { F.files shelf.new ≡ F.files shelf.old }
+    ensures moves { Moves (stock F.files F.failed F.may_fail shelf.old) (stock F.files F.failed F.may_fail shelf.new) result }
+    ensures tells { Tells output_text (form_answer (F.files shelf.old) (audit world.now report.now (map string_bytes words.now))) result }
+    ensures writable { IfOk result IsWritable }
+{
+    let ready = make_ready(alloc, shelf, world, words)?;
+    audit_rest(alloc, shelf, report, ready)
+}

@@ -1,0 +1,64 @@
+//! The stages of the run of a generated world.
+ghost use Rattle.std.specs.Prelude.{◌≡◌, IfOk};
+ghost use Rattle.element_set.specs.Sets.{set_value};
+ghost use Rattle.feast_run.specs.Generating.{generated_ready, generates, stepped_summary};
+ghost use Rattle.feast_run.specs.Outcomes.{passes};
+ghost use Rattle.feast_run.specs.Outputs.{IsWritable, output_text};
+ghost use Rattle.feast_run.specs.Stages.{sourced};
+ghost use Rattle.feast_run.specs.Stepped.{IsOutcomeOf, IsSteppedRun};
+ghost use Rattle.feast_run.specs.Tellings.{MissesNone, Tells};
+ghost use Rattle.world_grid.specs.Worlds.{IsWorld};
+ghost use Rattle.world_runs.specs.Orders.{IsOrder};
+ghost use Rattle.world_text.specs.Values.{order_value, world_value};
+
+use crate::acting::{actors, tiles_in};
+use crate::output::Output;
+use crate::stop::Stop;
+use element_set::ElementSet;
+use feast_base::NoMemory;
+use generated_elements::elements;
+use generated_world::{generated, summary};
+use serial_order::Outcome;
+use std::alloc::Global;
+use world_runs::stepped;
+use world_text::World;
+
+/// What the stepped run of a world comes to, with the elements of a set.
+fn outcome(alloc: Global, world: &World, set: &ElementSet) -> Result<Outcome, NoMemory>
+    requires world { IsWorld (world_value world.now) }
+    requires order { IsOrder (world_value world.now).plane (order_value world.now.order) }
+    ensures { IfOk result (IsOutcomeOf (sourced (world_value world.now) (set_value set.now))) }
+{
+    let actors = actors(alloc, set, tiles_in(world))?;
+    stepped(alloc, world, actors)
+}
+
+/// The summary of the stepped run of the world of a number, with the elements of a set.
+fn summary_of(alloc: Global, number: u64, set: &ElementSet) -> Result<Vec<u8>, NoMemory>
+    ensures run { IfOk result (λ _. IsSteppedRun (generated_ready number (set_value set.now))) }
+    ensures text { IfOk result (λ v. v.items ≡ stepped_summary number (generated_ready number (set_value set.now))) }
+{
+    let world = generated(alloc, number)?;
+    let outcome = outcome(alloc, &world, set)?;
+    summary(alloc, number, &outcome.grid, &outcome.journal)
+}
+
+/// The summary of the stepped run of the world of a number, with its elements.
+fn summarized(alloc: Global, number: u64) -> Result<Vec<u8>, NoMemory>
+    ensures { IfOk result (λ v. generates number (passes v.items)) }
+{
+    let set = elements(alloc)?;
+    summary_of(alloc, number, &set)
+}
+
+/// The stages of the run of a generated world, up to its summary. No file is loaded.
+pub fn gen_stages<'a>(alloc: Global, number: u64) -> Result<Output, Stop<'a>>
+    ensures none { MissesNone result }
+    ensures tells { Tells output_text (generates number) result }
+    ensures writable { IfOk result IsWritable }
+{
+    match summarized(alloc, number) {
+        Ok(text) => Ok(Output::Text(text)),
+        Err(NoMemory) => Err(Stop::NoMemory),
+    }
+}

@@ -1,0 +1,25 @@
+//! The grid that events leave of a world.
+ghost use Rattle.std.specs.Prelude.{◌≡◌, All, IfOk};
+ghost use Rattle.element_set.specs.Sets.{element_names, set_value};
+ghost use Rattle.feast_run.specs.Answer.{grid_after};
+ghost use Rattle.feast_run.specs.Values.{IsReady, ready_value};
+ghost use Rattle.grid_print.specs.Report.{AreNamed};
+ghost use Rattle.world_grid.specs.Worlds.{IsLiveEvent};
+ghost use Rattle.world_text.specs.Values.{world_value};
+
+use crate::worlds::Ready;
+use cell_grid::{Grid, Record};
+use feast_base::NoMemory;
+use std::alloc::Global;
+use world_grid::replayed;
+
+/// The grid that some events leave of a world, by what its elements do.
+pub fn grid_after(alloc: Global, ready: &Ready, records: &[Record]) -> Result<Grid, NoMemory>
+    requires ready { IsReady ready.now }
+    requires live { All (IsLiveEvent (world_value ready.now.world).plane) records.now }
+    ensures grid { IfOk result (λ g. g ≡ grid_after (ready_value ready.now) records.now) }
+    ensures named { IfOk result (λ g. AreNamed (element_names (set_value ready.now.set)) g.atoms) }
+{
+    let mut actor = ready.set.actor(alloc)?;
+    replayed(alloc, &ready.world, records, &mut actor)
+}

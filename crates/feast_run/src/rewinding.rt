@@ -1,0 +1,138 @@
+//! The stages of a rewind.
+ghost use Rattle.std.specs.Prelude.{◌≡◌, ◌<◌, ◌≤◌, All, Err, IfOk, length, map, string_bytes, take};
+ghost use Rattle.feast_base.specs.Outside.{stock};
+ghost use Rattle.feast_run.specs.Answer.{atoms_after, form_answer, rewind_of, rewinds};
+ghost use Rattle.feast_run.specs.Faults.{IsStop};
+ghost use Rattle.feast_run.specs.Forms.{most_files, rewind};
+ghost use Rattle.feast_run.specs.Outputs.{IsWritable, output_text};
+ghost use Rattle.feast_run.specs.Stages.{records_refused};
+ghost use Rattle.feast_run.specs.Tellings.{Moves, Tells};
+ghost use Rattle.feast_run.specs.Values.{IsReady, journal_value, ready_value};
+ghost use Rattle.world_grid.specs.Worlds.{IsLiveEvent};
+ghost use Rattle.world_text.specs.Values.{world_value};
+
+use crate::journals::{load_journal, refused};
+use crate::loading::whole_file;
+use crate::output::Output;
+use crate::replaying::show;
+use crate::stop::Stop;
+use crate::worlds::{Ready, make_ready};
+use cell_grid::Record;
+use event_journal::ReadJournal;
+use feast_base::{NoMemory, Shelf};
+use report_judge::rewound;
+use std::alloc::Global;
+use world_grid::start;
+
+/// The code of a report that has too few events.
+const TOO_FEW: u8 = 84;
+
+/// The text of the atoms that the first `left` events of a journal leave of a world.
+fn rewind_text(
+    alloc: Global,
+    ready: &Ready,
+    records: &[Record],
+    left: usize,
+) -> Result<Vec<u8>, NoMemory>
+    requires ready { IsReady ready.now }
+    requires live { All (IsLiveEvent (world_value ready.now.world).plane) records.now }
+    requires enough { left ≤ length records.now }
+    ensures { IfOk result (λ v. v.items ≡ atoms_after (ready_value ready.now) (take left records.now)) }
+{
+    let first = start(alloc, &ready.world)?;
+    let mut actor = ready.set.actor(alloc)?;
+    let grid = rewound(alloc, first, records, left, &mut actor)?;
+    show(alloc, ready.set.names(), &grid)
+}
+
+/// The stop at a journal with too few events.
+fn too_few<'a>(word: &'a str, journal: &ReadJournal) -> Stop<'a>
+    ensures { IsStop (records_refused word.now (length journal.now.records.items)) result }
+{
+    refused(word, whole_file(TOO_FEW, journal.records.len() as u64))
+}
+
+/// The stop at a journal that has fewer events than are to be left.
+fn few<'a>(word: &'a str, left: u32, ready: &Ready, journal: &ReadJournal) -> Stop<'a>
+    requires { length journal.now.records.items < left }
+    ensures { Tells output_text (rewinds word.now left (ready_value ready.now) (journal_value journal.now)) (Err result) }
+{
+    too_few(word, journal)
+}
+
+/// The text of a rewind to no more events than the journal has.
+fn rewind_kept<'a>(
+    alloc: Global,
+    word: &'a str,
+    left: u32,
+    ready: &Ready,
+    journal: &ReadJournal,
+) -> Result<Output, Stop<'a>>
+    requires ready { IsReady ready.now }
+    requires live { All (IsLiveEvent (world_value ready.now.world).plane) journal.now.records.items }
+    requires enough { left ≤ length journal.now.records.items }
+    ensures tells { Tells output_text (rewinds word.now left (ready_value ready.now) (journal_value journal.now)) result }
+    ensures writable { IfOk result IsWritable }
+{
+    match rewind_text(alloc, ready, journal.records.as_slice(), left as usize) {
+        Ok(text) => Ok(Output::Text(text)),
+        Err(NoMemory) => Err(Stop::NoMemory),
+    }
+}
+
+/// The stages of a rewind behind its journal.
+fn rewind_loaded<'a>(
+    alloc: Global,
+    word: &'a str,
+    left: u32,
+    ready: &Ready,
+    journal: &ReadJournal,
+) -> Result<Output, Stop<'a>>
+    requires ready { IsReady ready.now }
+    requires live { All (IsLiveEvent (world_value ready.now.world).plane) journal.now.records.items }
+    ensures tells { Tells output_text (rewinds word.now left (ready_value ready.now) (journal_value journal.now)) result }
+    ensures writable { IfOk result IsWritable }
+{
+    if journal.records.len() < left as usize {
+        Err(few(word, left, ready, journal))
+    } else {
+        rewind_kept(alloc, word, left, ready, journal)
+    }
+}
+
+/// The stages of a rewind from its report on.
+fn rewind_rest<'a, F: Shelf>(
+    alloc: Global,
+    shelf: &mut F,
+    word: &'a str,
+    left: u32,
+    ready: Ready,
+) -> Result<Output, Stop<'a>>
+    requires { IsReady ready }
+    ensures files { F.files shelf.new ≡ F.files shelf.old }
+    ensures moves { Moves (stock F.files F.failed F.may_fail shelf.old) (stock F.files F.failed F.may_fail shelf.new) result }
+    ensures tells { Tells output_text (rewind_of (F.files shelf.old) word.now left (ready_value ready)) result }
+    ensures writable { IfOk result IsWritable }
+{
+    let journal = load_journal(alloc, shelf, word, &ready.world)?;
+    rewind_loaded(alloc, word, left, &ready, &journal)
+}
+
+/// The stages of a rewind, up to its text.
+pub fn rewind_stages<'a, F: Shelf>(
+    alloc: Global,
+    shelf: &mut F,
+    world: &'a str,
+    report: &'a str,
+    left: u32,
+    words: &'a [String],
+) -> Result<Output, Stop<'a>>
+    requires { length words.now ≤ most_files }
+    ensures files { F.files shelf.new ≡ F.files shelf.old }
+    ensures moves { Moves (stock F.files F.failed F.may_fail shelf.old) (stock F.files F.failed F.may_fail shelf.new) result }
+    ensures tells { Tells output_text (form_answer (F.files shelf.old) (rewind world.now report.now left (map string_bytes words.now))) result }
+    ensures writable { IfOk result IsWritable }
+{
+    let ready = make_ready(alloc, shelf, world, words)?;
+    rewind_rest(alloc, shelf, report, left, ready)
+}

@@ -1,0 +1,147 @@
+//! The stages of a run.
+ghost use Rattle.std.specs.Prelude.{◌≡◌, ◌≢◌, ◌≤◌, [], IfOk, length, map, string_bytes};
+ghost use Rattle.event_journal.specs.Logs.{abandoned_in, records_in};
+ghost use Rattle.feast_base.specs.Outside.{stock};
+ghost use Rattle.feast_run.specs.Answer.{form_answer, lone_logs, run_report, runs};
+ghost use Rattle.feast_run.specs.Forms.{most_files, run};
+ghost use Rattle.feast_run.specs.Outputs.{IsWritable, output_text};
+ghost use Rattle.feast_run.specs.Owing.{Reports};
+ghost use Rattle.feast_run.specs.Tellings.{Moves, Tells};
+ghost use Rattle.feast_run.specs.Threaded.{IsThreadedOf};
+ghost use Rattle.feast_run.specs.Values.{IsReady, ready_value};
+ghost use Rattle.one_tile.specs.Events.{events_of};
+ghost use Rattle.tile_map.specs.Plane.{tiles_of};
+ghost use Rattle.world_text.specs.Values.{world_value};
+
+use crate::acting::{actors, tiles_in};
+use crate::grids::grid_after;
+use crate::output::{Left, Output};
+use crate::stop::Stop;
+use crate::worlds::{Ready, make_ready};
+use event_journal::Journal;
+use feast_base::{Gate, NoMemory, Shelf};
+use one_tile::journal;
+use serial_order::Outcome;
+use std::alloc::Global;
+use std::thread::Threads;
+use world_grid::map_of;
+use world_runs::threaded;
+
+/// The journal of a world of one tile.
+fn journal_of<G: Gate>(alloc: Global, ready: &Ready, gate: &G) -> Result<Journal, NoMemory>
+    requires ready { IsReady ready.now }
+    requires alone { tiles_of (world_value ready.now.world).plane ≡ 1 }
+    ensures logs { IfOk result (λ j. j ≡ lone_logs (ready_value ready.now)) }
+    ensures records { IfOk result (λ j. records_in j ≡ events_of (world_value ready.now.world).plane ready.now.world.plan) }
+    ensures abandoned { IfOk result (λ j. abandoned_in j ≡ []) }
+{
+    let map = map_of(alloc, &ready.world)?;
+    journal(alloc, &map, &ready.world.plan, gate)
+}
+
+/// What a run of one tile leaves: no other tile shares a site with it, so its events are made on the
+/// one grid at once.
+fn ran_alone<G: Gate>(alloc: Global, ready: Ready, gate: &G) -> Result<Output, NoMemory>
+    requires ready { IsReady ready }
+    requires alone { tiles_of (world_value ready.world).plane ≡ 1 }
+    ensures text { IfOk result (λ o. output_text o ≡ run_report (ready_value ready)) }
+    ensures reports { IfOk result (λ o. Reports (ready_value ready) (output_text o)) }
+    ensures writable { IfOk result IsWritable }
+{
+    let journal = journal_of(alloc, &ready, gate)?;
+    let grid = grid_after(alloc, &ready, journal.log(0).records())?;
+    Ok(Output::Report(Left {
+        grid,
+        journal,
+        ready,
+    }))
+}
+
+/// What a run with a worker for each tile comes to.
+fn outcome<R: Threads + Sync, G: Gate>(
+    rt: &R,
+    alloc: Global,
+    ready: &Ready,
+    gate: &G,
+) -> Result<Outcome, NoMemory>
+    requires { IsReady ready.now }
+    ensures { IfOk result (IsThreadedOf (ready_value ready.now)) }
+{
+    let actors = actors(alloc, &ready.set, tiles_in(&ready.world))?;
+    threaded(rt, alloc, &ready.world, actors, gate)
+}
+
+/// What a run of several tiles leaves.
+fn ran_together<R: Threads + Sync, G: Gate>(
+    rt: &R,
+    alloc: Global,
+    ready: Ready,
+    gate: &G,
+) -> Result<Output, NoMemory>
+    requires ready { IsReady ready }
+    requires several { tiles_of (world_value ready.world).plane ≢ 1 }
+    ensures reports { IfOk result (λ o. Reports (ready_value ready) (output_text o)) }
+    ensures writable { IfOk result IsWritable }
+{
+    let outcome = outcome(rt, alloc, &ready, gate)?;
+    let Outcome { grid, journal } = outcome;
+    Ok(Output::Report(Left {
+        grid,
+        journal,
+        ready,
+    }))
+}
+
+/// What a run leaves.
+fn ran<R: Threads + Sync, G: Gate>(
+    rt: &R,
+    alloc: Global,
+    ready: Ready,
+    gate: &G,
+) -> Result<Output, NoMemory>
+    requires { IsReady ready }
+    ensures reports { IfOk result (λ o. Reports (ready_value ready) (output_text o)) }
+    ensures writable { IfOk result IsWritable }
+{
+    if tiles_in(&ready.world) == 1 {
+        ran_alone(alloc, ready, gate)
+    } else {
+        ran_together(rt, alloc, ready, gate)
+    }
+}
+
+/// The stage of a run itself.
+pub fn run_rest<'a, R: Threads + Sync, G: Gate>(
+    rt: &R,
+    alloc: Global,
+    ready: Ready,
+    gate: &G,
+) -> Result<Output, Stop<'a>>
+    requires { IsReady ready }
+    ensures tells { Tells output_text (runs (ready_value ready)) result }
+    ensures writable { IfOk result IsWritable }
+{
+    match ran(rt, alloc, ready, gate) {
+        Ok(output) => Ok(output),
+        Err(NoMemory) => Err(Stop::NoMemory),
+    }
+}
+
+/// The stages of a run, up to its report.
+pub fn run_stages<'a, R: Threads + Sync, F: Shelf, G: Gate>(
+    rt: &R,
+    alloc: Global,
+    shelf: &mut F,
+    world: &'a str,
+    words: &'a [String],
+    gate: &G,
+) -> Result<Output, Stop<'a>>
+    requires { length words.now ≤ most_files }
+    ensures files { F.files shelf.new ≡ F.files shelf.old }
+    ensures moves { Moves (stock F.files F.failed F.may_fail shelf.old) (stock F.files F.failed F.may_fail shelf.new) result }
+    ensures tells { Tells output_text (form_answer (F.files shelf.old) (run world.now (map string_bytes words.now))) result }
+    ensures writable { IfOk result IsWritable }
+{
+    let ready = make_ready(alloc, shelf, world, words)?;
+    run_rest(rt, alloc, ready, gate)
+}

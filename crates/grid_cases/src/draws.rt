@@ -1,0 +1,156 @@
+//! Worked values. They were worked out apart from this crate, from the published description of
+//! the generators.
+
+use draw_stream::{Attempt, AttemptPlan, Attempts, EventDraws, Script, TileStream};
+use std::test::Fail;
+
+#[test]
+fn a_tile_draws_pairs_of_words_of_its_seed(rt: HostRuntime) {
+    let mut stream = TileStream::new(0, 0);
+    assert_eq!(rt;
+        stream.attempt(4096),
+        Attempt {
+            centre: 0x3df,
+            seed: 0x61da_6f3d_c380_d507
+        }
+    );
+    assert_eq!(rt;
+        stream.attempt(64),
+        Attempt {
+            centre: 0x3c,
+            seed: 0x02ee_bf8c_3bbe_5e1a
+        }
+    );
+}
+
+#[test]
+fn the_seed_of_a_tile_is_taken_modulo_2_to_the_64(rt: HostRuntime) {
+    let mut stream = TileStream::new(u64::MAX, 3);
+    assert_eq!(rt;
+        stream.attempt(64),
+        Attempt {
+            centre: 42,
+            seed: 0x8983_7ec3_9e40_f2c8
+        }
+    );
+}
+
+#[test]
+fn an_event_draws_words_of_its_seed(rt: HostRuntime) {
+    let mut draws = EventDraws::new(0);
+    assert_eq!(rt; draws.below(u64::MAX), 0xe220_a839_7b1d_cdaf);
+    assert_eq!(rt; draws.below(u64::MAX), 0x6e78_9e6a_a1b9_65f4);
+    assert_eq!(rt; draws.below(10), 9);
+    let mut draws = EventDraws::new(7);
+    assert_eq!(rt; draws.below(u64::MAX), 0x63cb_e1e4_5932_0dd7);
+    assert_eq!(rt; draws.below(u64::MAX), 0x044c_3cd7_f43c_661c);
+    assert_eq!(rt; draws.below(10), 6);
+}
+
+/// The attempts, one after another.
+fn is_followed(attempts: &mut Attempts, expected: &[Attempt]) -> bool {
+    for attempt in expected {
+        if attempts.next() != Some(*attempt) {
+            return false;
+        }
+    }
+    attempts.next().is_none()
+}
+
+/// The first attempts of tile 0, where the seed is 7 and a tile has 256 sites.
+const OF_TILE_0: [Attempt; 4] = [
+    Attempt {
+        centre: 61,
+        seed: 0x2c0f_c8dd_fa4e_9e14,
+    },
+    Attempt {
+        centre: 114,
+        seed: 0x6d5d_9f6a_6318_013c,
+    },
+    Attempt {
+        centre: 118,
+        seed: 0x7738_5b62_7c22_c489,
+    },
+    Attempt {
+        centre: 128,
+        seed: 0x5470_5b5a_dc01_e528,
+    },
+];
+
+/// Those of tile 3.
+const OF_TILE_3: [Attempt; 4] = [
+    Attempt {
+        centre: 156,
+        seed: 0xcefc_a9b1_6c1d_4aea,
+    },
+    Attempt {
+        centre: 104,
+        seed: 0xc804_054b_f768_e31a,
+    },
+    Attempt {
+        centre: 192,
+        seed: 0x5231_e557_e54f_6c3d,
+    },
+    Attempt {
+        centre: 100,
+        seed: 0x10ec_667b_e540_2645,
+    },
+];
+
+#[test]
+fn a_seeded_plan_of_seed_7_on_tiles_of_16_by_16(rt: HostRuntime) -> Result<(), Fail> {
+    let off = [false, true, false, false];
+    let plan = AttemptPlan::seeded(rt.alloc(), 7, 4, &off, 256)?;
+    assert_eq!(rt;
+        (plan.origin(), plan.count(3), plan.count(1)),
+        (Some((7, 4)), 4, 0)
+    );
+    let mut attempts = plan.of_tile(rt.alloc(), 0)?;
+    assert_eq!(rt; attempts.left(), 4);
+    assert!(rt; is_followed(&mut attempts, &OF_TILE_0));
+    assert!(rt; is_followed(&mut plan.of_tile(rt.alloc(), 1)?, &[]));
+    assert!(rt; is_followed(&mut plan.of_tile(rt.alloc(), 3)?, &OF_TILE_3));
+    Ok(())
+}
+
+#[test]
+fn the_bound_on_attempts_is_over_the_tiles_that_are_on(rt: HostRuntime) -> Result<(), Fail> {
+    let off = [true, false, true];
+    let plan = AttemptPlan::seeded(rt.alloc(), 7, 1_000_000, &off, 64)?;
+    assert_eq!(rt;
+        (plan.count(0), plan.count(1), plan.count(2)),
+        (0, 1_000_000, 0)
+    );
+    Ok(())
+}
+
+#[test]
+fn a_script_is_followed(rt: HostRuntime) -> Result<(), Fail> {
+    let alloc = rt.alloc();
+    let lines = [
+        Attempt { centre: 9, seed: 1 },
+        Attempt {
+            centre: 4,
+            seed: u64::MAX,
+        },
+    ];
+    let mut scripts = Vec::new(alloc);
+    scripts.push(Script::new(Vec::new(alloc)))?;
+    scripts.push(Script::new(Vec::from_slice(alloc, &lines)?))?;
+    let plan = AttemptPlan::scripted(scripts);
+    assert_eq!(rt; (plan.origin(), plan.count(0), plan.count(1)), (None, 0, 2));
+    assert!(rt; is_followed(&mut plan.of_tile(alloc, 0)?, &[]));
+    let mut attempts = plan.of_tile(alloc, 1)?;
+    assert_eq!(rt; attempts.left(), 2);
+    assert!(rt; is_followed(&mut attempts, &lines));
+    assert_eq!(rt; attempts.left(), 0);
+    Ok(())
+}
+
+#[test]
+fn a_script_gives_its_attempts_back(rt: HostRuntime) -> Result<(), Fail> {
+    let lines = [Attempt { centre: 9, seed: 1 }];
+    let script = Script::new(Vec::from_slice(rt.alloc(), &lines)?);
+    assert_eq!(rt; script.into_attempts().as_slice(), lines.as_slice());
+    Ok(())
+}

@@ -1,0 +1,12 @@
+pub mod Accounting
+pub mod Copies
+pub mod Excusing
+pub mod Latest
+pub mod Lists
+pub mod Living
+pub mod Marking
+pub mod Orders
+pub mod Passing
+pub mod Splits
+pub mod Told
+pub mod Undoing

@@ -1,0 +1,52 @@
+-- How an abandoned attempt is excused, by the marks of its edge.
+use Rattle.std.specs.Prelude.{ℕ, ◌≡◌, ◌+◌, ◌*◌, ◌<◌, ◌==◌, ◌&&◌, ◌||◌, ◌⊎◌, Bool, true, List, Contains, length, nat_lt, slice_index_or}
+use Rattle.std.specs.List.{HoldsAt, list_any}
+use Rattle.cell_grid.specs.declared.record.Record.{Record}
+use Rattle.draw_stream.specs.Plans.{PlanValue}
+use Rattle.tile_map.specs.Plane.{MapValue, site, tiles_of}
+use Rattle.tile_map.specs.Edges.{needs_of}
+use Rattle.tile_map.specs.Laws.{Joins}
+use Rattle.event_journal.specs.Accounts.{IsExcusedBy}
+use Rattle.event_journal.specs.declared.abandoned.Abandoned.{Abandoned}
+use Rattle.journal_check.specs.Marks.{AreApart, HasMark, lane}
+use Rattle.journal_check.specs.declared.mark.Mark.{Mark}
+
+-- an abandoned attempt of a tile of the map at a site of the plane
+pub record IsGoneInside (m : MapValue) (g : Abandoned) : Type 0 where
+  pub tile : g.tile < tiles_of m
+  pub column : g.x < m.tx * m.w
+  pub row : g.y < m.ty * m.h
+
+-- whether an abandoned attempt stands before this attempt of the tile
+abbrev pub is_earlier : ℕ → ℕ → Abandoned → Bool
+is_earlier t i g = nat_lt g.tile t || (g.tile == t && nat_lt g.attempt i)
+
+-- an attempt that is among the abandoned ones, or is not
+abbrev pub IsFound : List Abandoned → ℕ → ℕ → Abandoned → Type 0
+IsFound abandoned t i g = Contains abandoned g × (g.tile ≡ t) × (g.attempt ≡ i)
+
+abbrev pub IsMissing : List Abandoned → ℕ → ℕ → Type 0
+IsMissing abandoned t i = (g : Abandoned) → Contains abandoned g → g.tile ≡ t → g.attempt ≡ i → ⊥
+
+-- whether an abandoned attempt needs the edge
+abbrev pub gone_needs : MapValue → ℕ → Abandoned → Bool
+gone_needs m e g = list_any (λ f. f == e) (needs_of m g.tile (site g.x g.y))
+
+-- the attempt that held the edge is among the marks of its tile, or was itself given up at a greater edge and needs this one
+abbrev pub IsHeld : MapValue → List Mark → List Abandoned → Abandoned → Type 0
+IsHeld m marks abandoned g =
+    HasMark marks g.holder_attempt ⊎ ((k : Abandoned) × IsFound abandoned g.holder g.holder_attempt k × (g.edge < k.edge) × (gone_needs m g.edge k ≡ true))
+
+-- the excuse by the marks of the edge
+pub record IsExcusedOn (m : MapValue) (table : List (List Mark)) (abandoned : List Abandoned) (g : Abandoned) : Type 0 where
+  pub needs : gone_needs m g.edge g ≡ true
+  pub ends : Joins m g.edge g.tile g.holder
+  pub held : IsHeld m (lane m table g.edge g.holder) abandoned g
+  pub after : AreApart (lane m table g.edge g.tile) g.attempt (lane m table g.edge g.holder) g.holder_attempt
+  pub before : AreApart (lane m table g.edge g.holder) (g.holder_attempt + 1) (lane m table g.edge g.tile) (g.attempt + 1)
+
+-- abandoned attempt k is the first that is not excused
+pub record IsFirstUnexcused (m : MapValue) (plan : PlanValue) (records : List Record) (abandoned : List Abandoned) (k : ℕ) : Type 0 where
+  pub within : k < length abandoned
+  pub before : (i : ℕ) (d : Abandoned) → i < k → IsExcusedBy m plan records abandoned (slice_index_or abandoned i d)
+  pub here : ¬ (HoldsAt (IsExcusedBy m plan records abandoned) abandoned k)

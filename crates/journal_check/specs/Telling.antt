@@ -1,0 +1,48 @@
+-- The entries of one tile, taken beside its attempts, one after another.
+use Rattle.std.specs.Prelude.{ℕ, ◌+◌, ◌≡◌, ◌==◌, ◌*◌, ◌<◌, Bool, true, false, ◌&&◌, if◌then◌else◌, List, [], ◌∷◌, All, filter, length}
+use Rattle.cell_grid.specs.declared.record.Record.{Record}
+use Rattle.draw_stream.specs.declared.attempt.Attempt.{Attempt}
+use Rattle.draw_stream.specs.Plans.{PlanValue, attempts}
+use Rattle.tile_map.specs.Plane.{MapValue, site_in, tiles_of, is_on}
+use Rattle.event_journal.specs.declared.abandoned.Abandoned.{Abandoned}
+
+-- the plan of a plane: a list for each tile, none of a tile that is off, and each attempt at a position of its tile's rectangle
+pub record IsPlanOf (m : MapValue) (plan : PlanValue) : Type 0 where
+  pub lists : length plan.lists ≡ tiles_of m
+  pub on : (t : ℕ) → 0 < length (attempts plan t) → is_on m t ≡ true
+  pub centres : (t : ℕ) → All (λ (a : Attempt). a.centre < m.w * m.h) (attempts plan t)
+
+-- the events of a tile, and the attempts that it gave up
+abbrev pub of_tile : ℕ → List Record → List Record
+of_tile t records = filter (λ (r : Record). r.tile == t) records
+
+abbrev pub gone_of : ℕ → List Abandoned → List Abandoned
+gone_of t abandoned = filter (λ (g : Abandoned). g.tile == t) abandoned
+
+-- whether a position of a tile is the site
+abbrev pub is_at : MapValue → ℕ → ℕ → ℕ → ℕ → Bool
+is_at m t centre x y = (site_in m t centre).x == x && (site_in m t centre).y == y
+
+-- whether an event is one of an attempt of the tile
+abbrev pub is_event : MapValue → ℕ → Attempt → Record → Bool
+is_event m t a r = is_at m t a.centre r.x r.y && a.seed == r.seed
+
+-- whether the first of those that the tile gave up is attempt i, and the rest passes too
+abbrev pub next_gone : MapValue → ℕ → ℕ → Attempt → List Abandoned → (List Abandoned → Bool) → Bool
+next_gone m t i a [] rest = false
+next_gone m t i a (g ∷ gs) rest = (g.attempt == i && is_at m t a.centre g.x g.y) && rest gs
+
+-- whether attempt i is the tile's next event or else the next that it gave up, and the rest passes too
+abbrev pub next_entry : MapValue → ℕ → ℕ → Attempt → List Record → List Abandoned → (List Record → List Abandoned → Bool) → Bool
+next_entry m t i a [] gs rest = next_gone m t i a gs (rest [])
+next_entry m t i a (r ∷ rs) gs rest = if r.attempt == i then is_event m t a r && rest rs gs else next_gone m t i a gs (rest (r ∷ rs))
+
+abbrev pub are_none : List Record → List Abandoned → Bool
+are_none [] [] = true
+are_none [] (g ∷ gs) = false
+are_none (r ∷ rs) gs = false
+
+-- whether the events and what was given up are a tile's attempts from number i on, each once, and nothing else
+unfoldable pub told : MapValue → ℕ → ℕ → List Attempt → List Record → List Abandoned → Bool
+told m t i [] rs gs = are_none rs gs
+told m t i (a ∷ more) rs gs = next_entry m t i a rs gs (told m t (i + 1) more)

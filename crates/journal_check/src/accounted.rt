@@ -1,0 +1,107 @@
+//! Whether each attempt has its one entry.
+ghost use Rattle.std.specs.Prelude.{◌≡◌, ◌<◌, All, AllPairs, IfOk, length};
+ghost use Rattle.std.specs.Bool.{Decides};
+ghost use Rattle.cell_grid.specs.Records.{Precedes};
+ghost use Rattle.cell_grid.specs.declared.record.Record.{Record};
+ghost use Rattle.event_journal.specs.Accounts.{IsAccounted};
+ghost use Rattle.event_journal.specs.Logs.{ComesBefore};
+ghost use Rattle.event_journal.specs.declared.abandoned.Abandoned.{Abandoned};
+ghost use Rattle.journal_check.specs.Telling.{IsPlanOf};
+
+use crate::telling::is_told;
+use cell_grid::Record;
+use draw_stream::AttemptPlan;
+use event_journal::Abandoned;
+use feast_base::NoMemory;
+use std::alloc::Global;
+use tile_map::Map;
+
+/// Whether the events stand in the order of a journal.
+fn are_in_order(records: &[Record]) -> bool
+    ensures { Decides result (AllPairs Precedes records.now) }
+{
+    for i in 1..records.len() {
+        if !records[i - 1].precedes(&records[i]) {
+            return false;
+        }
+    }
+    true
+}
+
+/// Whether an abandoned attempt stands before another: by tile, and then by attempt.
+fn comes_before(first: &Abandoned, second: &Abandoned) -> bool
+    ensures { Decides result (ComesBefore first.now second.now) }
+{
+    first.tile < second.tile || (first.tile == second.tile && first.attempt < second.attempt)
+}
+
+/// Whether the abandoned attempts stand by tile and then attempt.
+fn are_sorted(abandoned: &[Abandoned]) -> bool
+    ensures { Decides result (AllPairs ComesBefore abandoned.now) }
+{
+    for i in 1..abandoned.len() {
+        if !comes_before(&abandoned[i - 1], &abandoned[i]) {
+            return false;
+        }
+    }
+    true
+}
+
+/// Whether the events are of the first so many tiles.
+fn are_of_tiles(records: &[Record], tiles: u32) -> bool
+    ensures { Decides result (All (λ (r : Record). r.tile < tiles) records.now) }
+{
+    for entry in records {
+        if entry.tile >= tiles {
+            return false;
+        }
+    }
+    true
+}
+
+/// Whether the abandoned attempts are of the first so many tiles.
+fn are_gone_of_tiles(abandoned: &[Abandoned], tiles: u32) -> bool
+    ensures { Decides result (All (λ (g : Abandoned). g.tile < tiles) abandoned.now) }
+{
+    for entry in abandoned {
+        if entry.tile >= tiles {
+            return false;
+        }
+    }
+    true
+}
+
+/// Whether each attempt of each tile has one entry, an event or an abandoned attempt, at its site and
+/// with its seed, and there are no others; both lists are in order, and of two events of a tile the
+/// later attempt has the greater stamp. `NoMemory` where there is none for the attempts of a tile.
+pub(crate) fn is_accounted(
+    alloc: Global,
+    map: &Map,
+    plan: &AttemptPlan,
+    records: &[Record],
+    abandoned: &[Abandoned],
+) -> Result<bool, NoMemory>
+    requires { IsPlanOf map.now plan.now }
+    ensures { IfOk result (λ b. Decides b (IsAccounted map.now plan.now records.now abandoned.now)) }
+{
+    let tiles = map.tiles();
+    if !are_in_order(records) {
+        return Ok(false);
+    }
+    if !are_sorted(abandoned) {
+        return Ok(false);
+    }
+    if !are_of_tiles(records, tiles) {
+        return Ok(false);
+    }
+    if !are_gone_of_tiles(abandoned, tiles) {
+        return Ok(false);
+    }
+    for tile in 0..tiles {
+        let attempts = plan.of_tile(alloc, tile)?;
+        if !is_told(map, tile, attempts, records, abandoned) {
+            return Ok(false);
+        }
+    }
+    Ok(true)
+}

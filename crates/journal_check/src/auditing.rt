@@ -1,0 +1,54 @@
+//! The audit of a report.
+ghost use Rattle.std.specs.Prelude.{◌≡◌, IfOk};
+ghost use Rattle.serial_order.specs.Outcomes.{IsPlaneGrid};
+ghost use Rattle.journal_check.specs.Telling.{IsPlanOf};
+ghost use Rattle.journal_check.specs.Verdicts.{IsVerdict};
+
+use crate::accounted::is_accounted;
+use crate::copying::copied;
+use crate::excused::unexcused;
+use crate::stamped::misstamped;
+use crate::verdict::Verdict;
+use cell_grid::{Behave, Grid};
+use draw_stream::AttemptPlan;
+use event_journal::ReadJournal;
+use feast_base::NoMemory;
+use std::alloc::Global;
+use tile_map::Map;
+
+/// Judges the events and the abandoned attempts of a report, of whatever origin, by calculation:
+/// whether each attempt of the plan is accounted for, whether each event has the stamp that its
+/// links give, and whether each abandoned attempt is excused; then replays the events from the
+/// start, by what acts on windows. The first that does not hold is answered, with the position of
+/// its first event or abandoned attempt. The plan is one of the map, and the start is a grid of its
+/// plane. It takes no longer than n log n for n entries. `NoMemory` where there is none for the
+/// attempts of a tile, the clocks, the events of each edge or the grid.
+pub fn audit<B: Behave>(
+    alloc: Global,
+    map: &Map,
+    plan: &AttemptPlan,
+    start: &Grid,
+    journal: &ReadJournal,
+    behave: &mut B,
+) -> Result<Verdict, NoMemory>
+    requires plan { IsPlanOf map.now plan.now }
+    requires start { IsPlaneGrid map.now start.now }
+    ensures verdict { IfOk result (IsVerdict map.now plan.now (B.after behave.old) start.now journal.now.records.items journal.now.abandoned.items) }
+    ensures meaning { B.after behave.new ≡ B.after behave.old }
+{
+    map.laws();
+    let records = journal.records.as_slice();
+    let abandoned = journal.abandoned.as_slice();
+    if !is_accounted(alloc, map, plan, records, abandoned)? {
+        return Ok(Verdict::NotAccounted);
+    }
+    if let Some(k) = misstamped(alloc, map, records)? {
+        return Ok(Verdict::NotStamped(k));
+    }
+    if let Some(k) = unexcused(alloc, map, records, abandoned)? {
+        return Ok(Verdict::NotExcused(k));
+    }
+    let mut grid = copied(alloc, map, start)?;
+    grid.replay(records, behave);
+    Ok(Verdict::Yes(grid))
+}

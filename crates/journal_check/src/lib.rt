@@ -1,0 +1,27 @@
+//! Judging reports, and rewinding them.
+//!
+//! `audit` decides by calculation whether the events and the abandoned attempts of a report, of
+//! whatever origin, are accounted for, stamped and excused, and gives the grid of their replay.
+//!
+//! A film keeps of each event that it makes the window before it, and can take the events back, the
+//! last of them first.
+#![tactic(auto)]
+
+mod accounted;
+mod auditing;
+mod copying;
+mod excused;
+mod film;
+mod kept;
+mod law;
+mod mark;
+mod marks;
+mod stamped;
+mod telling;
+mod verdict;
+
+pub use auditing::audit;
+pub use film::Film;
+pub use kept::Kept;
+pub use law::films;
+pub use verdict::Verdict;

@@ -1,0 +1,31 @@
+use Rattle.std.proofs.Common.{ℕ, ◌≡◌, ◌≤◌, ◌<◌, ◌+◌, ◌-◌, ◌∙◌, ap, arith, length, subst, sym}
+use Rattle.report_judge.specs.Rewinding.{IsAt}
+use Rattle.report_judge.proofs.BackAgain.{alike_then, at_first, can_undo, taken_back}
+use Rattle.report_judge.proofs.rewinding.rewound.Goals as goal
+
+pub undo-requires : goal.undo-requires
+undo-requires g c =
+    let after = g.B.Behave.after c.args.behave.now in
+    let records = c.args.records.now in
+    let n = length records in
+    let k = n + c.args.count - (c.loop-taken._taken + 1) in
+    let low : c.args.count ≤ c.loop-taken._taken = omega arith in
+    let high : c.loop-taken._taken < n = omega arith in
+    let next : n + c.args.count - c.loop-taken._taken ≡ k + 1 = omega (arith, low, high) in
+    can_undo after c.args.start records k c.loop-taken.film c.loop-taken.grid (omega (arith, low, high)) c.requires.live c.loop-taken.invariant.plane
+    (subst (λ q. IsAt after c.args.start records q c.loop-taken.film c.loop-taken.grid) next c.loop-taken.invariant.at)
+
+pub loop-taken-preserved : goal.loop-taken-preserved
+loop-taken-preserved g c =
+    let after = g.B.Behave.after c.args.behave.now in
+    let records = c.args.records.now in
+    let n = length records in
+    let k = n + c.args.count - (c.loop-taken._taken + 1) in
+    let low : c.args.count ≤ c.loop-taken._taken = omega arith in
+    let high : c.loop-taken._taken < n = omega arith in
+    let next : n + c.args.count - c.loop-taken._taken ≡ k + 1 = omega (arith, low, high) in
+    record {
+      at = taken_back after c.args.start records k c.loop-taken.film c.undo.new.self c.loop-taken.grid c.undo.new.grid c.undo.result (omega (arith, low, high))
+          (subst (λ q. IsAt after c.args.start records q c.loop-taken.film c.loop-taken.grid) next c.loop-taken.invariant.at) c.undo.ensures.undoes;
+      plane = alike_then c.args.start c.loop-taken.grid c.undo.new.grid c.loop-taken.invariant.plane c.undo.ensures.plane;
+    }

@@ -1,0 +1,68 @@
+-- What is said of a report, in one line.
+use Rattle.std.specs.Prelude.{ℕ, ◌≡◌, ◌≢◌, ◌+◌, ◌-◌, ◌==◌, List, [], ◌∷◌, codes, count_by, decimal, length}
+use Rattle.window_sites.specs.Window.{WindowValue}
+use Rattle.cell_grid.specs.Grid.{GridValue}
+use Rattle.cell_grid.specs.Records.{replay}
+use Rattle.cell_grid.specs.declared.record.Record.{Record}
+use Rattle.draw_stream.specs.Plans.{PlanValue}
+use Rattle.tile_map.specs.Plane.{MapValue}
+use Rattle.event_journal.specs.Accounts.{AreExcused, IsAccounted, IsStamped}
+use Rattle.event_journal.specs.declared.abandoned.Abandoned.{Abandoned}
+use Rattle.grid_print.specs.Report.{report}
+use Rattle.text_lines.specs.Lines.{text_of}
+use Rattle.journal_check.specs.Clocks.{IsFirstMisstamped}
+use Rattle.journal_check.specs.Excuses.{IsFirstUnexcused}
+use Rattle.report_judge.specs.declared.judgement.Judgement.{Judgement}
+use Rattle.report_judge.specs.declared.judgement.Judgement.TheVariants.{Yes, NoAccounted, NoStamped, NoExcused, NoAtoms}
+
+-- how many lines a text has: each is ended by LF
+abbrev pub line_count : List ℕ → ℕ
+line_count bytes = count_by (λ b. b == 10) bytes
+
+-- the line of event k: the last lines of a report are those of its abandoned attempts, before them stands their count, and
+-- before that the lines of the events
+abbrev pub event_line : List ℕ → List Record → List Abandoned → ℕ → ℕ
+event_line bytes records abandoned k = line_count bytes - (length records + length abandoned) + k
+
+-- the line of abandoned attempt k
+abbrev pub abandoned_line : List ℕ → List Abandoned → ℕ → ℕ
+abandoned_line bytes abandoned k = line_count bytes - length abandoned + (k + 1)
+
+-- a world, as the map of its tiles, its plan, what its elements mean and are called, and the grid with which it starts
+pub record Setting : Type 0 where
+  pub map : MapValue
+  pub plan : PlanValue
+  pub meaning : WindowValue → ℕ → WindowValue
+  pub names : List (List ℕ)
+  pub start : GridValue
+
+-- each attempt is accounted for, each event has its stamp, and each abandoned attempt is excused
+pub record Holds (s : Setting) (records : List Record) (abandoned : List Abandoned) : Type 0 where
+  pub accounted : IsAccounted s.map s.plan records abandoned
+  pub stamped : IsStamped s.map records
+  pub excused : AreExcused s.map s.plan records abandoned
+
+-- the report of these events and abandoned attempts: its atoms are those that the events leave of the start
+abbrev pub own_report : Setting → List Record → List Abandoned → List ℕ
+own_report s records abandoned = report s.names (replay s.meaning s.start records) records abandoned
+
+-- a judgement is right
+abbrev pub Judges : Setting → List ℕ → List Record → List Abandoned → Judgement → Type 0
+Judges s bytes records abandoned Yes = Holds s records abandoned × (bytes ≡ own_report s records abandoned)
+Judges s bytes records abandoned NoAccounted = ¬ (IsAccounted s.map s.plan records abandoned)
+Judges s bytes records abandoned (NoStamped line) = IsAccounted s.map s.plan records abandoned × ((k : ℕ) × IsFirstMisstamped s.map records k × (line ≡ event_line bytes records abandoned k))
+Judges s bytes records abandoned (NoExcused line) =
+    IsAccounted s.map s.plan records abandoned × IsStamped s.map records × ((k : ℕ) × IsFirstUnexcused s.map s.plan records abandoned k × (line ≡ abandoned_line bytes abandoned k))
+Judges s bytes records abandoned NoAtoms = Holds s records abandoned × (bytes ≢ own_report s records abandoned)
+
+-- the words of a judgement
+abbrev pub judgement_fields : Judgement → List (List ℕ)
+judgement_fields Yes = codes "yes" ∷ []
+judgement_fields NoAccounted = codes "no" ∷ codes "accounted" ∷ []
+judgement_fields (NoStamped line) = codes "no" ∷ codes "stamped" ∷ decimal line ∷ []
+judgement_fields (NoExcused line) = codes "no" ∷ codes "excused" ∷ decimal line ∷ []
+judgement_fields NoAtoms = codes "no" ∷ codes "atoms" ∷ []
+
+-- its line
+abbrev pub judgement_text : Judgement → List ℕ
+judgement_text j = text_of (judgement_fields j ∷ [])

@@ -1,0 +1,79 @@
+//! The judgement on a report.
+ghost use Rattle.std.specs.Prelude.{◌≡◌, ◌<◌, ◌≤◌, ◌^◌, IfOk, length};
+ghost use Rattle.cell_grid.specs.Records.{replay};
+ghost use Rattle.grid_print.specs.Report.{AreNamed};
+ghost use Rattle.serial_order.specs.Outcomes.{IsPlaneGrid};
+ghost use Rattle.journal_check.specs.Telling.{IsPlanOf};
+ghost use Rattle.report_judge.specs.Judging.{Judges, abandoned_line, event_line, line_count};
+
+use crate::judgement::Judgement;
+use crate::reprinting::is_report;
+use cell_grid::{Behave, Grid};
+use draw_stream::AttemptPlan;
+use event_journal::ReadJournal;
+use feast_base::{Name, NoMemory};
+use journal_check::{Verdict, audit};
+use std::alloc::Global;
+use tile_map::Map;
+
+/// How many lines a text has.
+fn line_count(bytes: &[u8]) -> u64
+    ensures value { result ≡ line_count bytes.now }
+    ensures bound { result < 2 ^ 63 }
+{
+    bytes.iter().filter(|b| **b == b'\n').count() as u64
+}
+
+/// The line of an event of a report.
+fn event_line(bytes: &[u8], journal: &ReadJournal, k: u64) -> u64
+    requires { k < length journal.now.records.items }
+    ensures { result ≡ event_line bytes.now journal.now.records.items journal.now.abandoned.items k }
+{
+    let entries = journal.records.len() as u64 + journal.abandoned.len() as u64;
+    line_count(bytes).saturating_sub(entries) + k
+}
+
+/// The line of an abandoned attempt of a report.
+fn abandoned_line(bytes: &[u8], journal: &ReadJournal, k: u64) -> u64
+    requires { k < length journal.now.abandoned.items }
+    ensures { result ≡ abandoned_line bytes.now journal.now.abandoned.items k }
+{
+    line_count(bytes).saturating_sub(journal.abandoned.len() as u64) + (k + 1)
+}
+
+/// Judges the bytes of a report, whose events and abandoned attempts are these: whether each attempt
+/// of the plan is accounted for, each event has its stamp and each abandoned attempt is excused, and
+/// whether the bytes are the report of them over the grid that the events leave of the start. The
+/// first that does not hold is answered, with the line in the report. The plan is one of the map,
+/// the start is a grid of its plane, and what the events leave has names. `NoMemory` where there is
+/// none for the audit or for the report once more.
+pub fn judge<B: Behave>(
+    alloc: Global,
+    map: &Map,
+    plan: &AttemptPlan,
+    names: &[Name],
+    start: &Grid,
+    bytes: &[u8],
+    journal: &ReadJournal,
+    behave: &mut B,
+) -> Result<Judgement, NoMemory>
+    requires plan { IsPlanOf map.now plan.now }
+    requires start { IsPlaneGrid map.now start.now }
+    requires named { AreNamed names.now (replay (B.after behave.old) start.now journal.now.records.items).atoms }
+    ensures { IfOk result (Judges (record { map = map.now; plan = plan.now; meaning = B.after behave.old; names = names.now; start = start.now }) bytes.now journal.now.records.items journal.now.abandoned.items) }
+{
+    match audit(alloc, map, plan, start, journal, behave)? {
+        Verdict::NotAccounted => Ok(Judgement::NoAccounted),
+        Verdict::NotStamped(k) => Ok(Judgement::NoStamped(event_line(bytes, journal, k))),
+        Verdict::NotExcused(k) => Ok(Judgement::NoExcused(abandoned_line(bytes, journal, k))),
+        Verdict::Yes(grid) => {
+            let records = journal.records.as_slice();
+            let abandoned = journal.abandoned.as_slice();
+            if is_report(alloc, bytes, names, &grid, records, abandoned)? {
+                Ok(Judgement::Yes)
+            } else {
+                Ok(Judgement::NoAtoms)
+            }
+        }
+    }
+}

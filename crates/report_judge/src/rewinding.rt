@@ -1,0 +1,46 @@
+//! The grid that the first events of a journal leave, by taking the others back.
+ghost use Rattle.std.specs.Prelude.{◌≡◌, ◌≤◌, All, IfOk, length, take};
+ghost use Rattle.cell_grid.specs.Grid.{ArePlanesAlike, IsLive};
+ghost use Rattle.cell_grid.specs.Records.{replay};
+ghost use Rattle.cell_grid.specs.declared.record.Record.{Record};
+ghost use Rattle.report_judge.specs.Rewinding.{IsAt};
+
+use cell_grid::{Behave, Grid, Record};
+use feast_base::NoMemory;
+use journal_check::Film;
+use std::alloc::Global;
+
+/// Makes all events of a journal on a grid, and keeps them on a film that has room for them.
+fn run<B: Behave>(film: &mut Film, grid: &mut Grid, records: &[Record], behave: &mut B)
+    requires live { All (λ (r : Record). IsLive grid.old r.x r.y) records.now }
+    requires fresh { IsAt (B.after behave.old) grid.old records.now 0 film.old grid.old }
+    ensures at { IsAt (B.after behave.old) grid.old records.now (length records.now) film.new grid.new }
+    ensures plane { ArePlanesAlike grid.old grid.new }
+{
+    for entry in records {
+        film.apply(grid, entry, behave);
+    }
+}
+
+/// The grid that the first `count` of some events leave of a start, each at a live site: all are
+/// made, and the others are taken back, the last of them first. `NoMemory` where there is none for
+/// the film.
+pub fn rewound<B: Behave>(
+    alloc: Global,
+    start: Grid,
+    records: &[Record],
+    count: usize,
+    behave: &mut B,
+) -> Result<Grid, NoMemory>
+    requires live { All (λ (r : Record). IsLive start r.x r.y) records.now }
+    requires count { count ≤ length records.now }
+    ensures { IfOk result (λ g. g ≡ replay (B.after behave.old) start (take count records.now)) }
+{
+    let mut film = Film::new(alloc, records.len())?;
+    let mut grid = start;
+    run(&mut film, &mut grid, records, behave);
+    for _taken in count..records.len() {
+        film.undo(&mut grid);
+    }
+    Ok(grid)
+}

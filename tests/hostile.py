@@ -1,0 +1,57 @@
+#!/usr/bin/env python3
+"""Drives a program as a hostile user would: hostile.py [--long] PROGRAM [TABLE..].
+
+The tables are the modules of tests/hostile:
+
+  edge      files that can't be loaded, standard output that takes nothing or a part
+  memory    each request for memory refused in turn, small address spaces
+  elements  element files at their limits and past them, and what never ends
+  texts     worlds, reports and code files of hostile lines and of the greatest length
+  fronts    texts cut behind each line and byte, and texts with a change
+  workers   runs with a worker for each tile, each report checked
+
+`--long` tries the whole of each table, and without it what takes some seconds. What is not in
+tests/built is left out. docs/reliability.md has the figures.
+"""
+import importlib
+import pathlib
+import sys
+import time
+
+HERE = pathlib.Path(__file__).resolve().parent
+sys.dont_write_bytecode = True
+sys.path.insert(0, str(HERE / "hostile"))
+
+from bench import Bench  # noqa: E402
+
+TABLES = ["edge", "memory", "elements", "texts", "fronts", "workers"]
+
+
+def run(program, built, long, table):
+    """Runs a table, and says whether all of it held."""
+    bench = Bench(program, built, long)
+    bench.title = table
+    begin = time.monotonic()
+    print(f"{table}:", flush=True)
+    try:
+        getattr(importlib.import_module(table), table)(bench)
+    finally:
+        bench.close()
+    seconds = time.monotonic() - begin
+    print(f"{table}: {bench.held} held, {len(bench.faults)} did not, in {seconds:.0f} s", flush=True)
+    return not bench.faults
+
+
+def main():
+    words = [word for word in sys.argv[1:] if word != "--long"]
+    if not words or not set(words[1:]) <= set(TABLES):
+        print(__doc__, file=sys.stderr)
+        return 2
+    built = set((HERE / "built").read_text().strip().split(","))
+    long = "--long" in sys.argv
+    held = [run(words[0], built, long, table) for table in words[1:] or TABLES]
+    return 0 if all(held) else 1
+
+
+if __name__ == "__main__":
+    sys.exit(main())

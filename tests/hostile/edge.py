@@ -1,0 +1,351 @@
+"""The real edge: files that can't be loaded, standard output that takes nothing or a part.
+
+What can't be had by plain means (a read that fails in the middle of a file, a write of no byte) is put
+into the system's answers by `strace`, where the system has it.
+"""
+import os
+import signal
+import socket
+import subprocess
+import sys
+import threading
+import time
+
+from bench import BAD_ELEMENT, BAD_WORLD, DONE, MEMORY, SINK, UNREADABLE, USAGE, Limits, is_root, main_of, tool
+from jobs import ONE_TILE, WALKER, ZEROS, jobs_of, lay
+
+# A report of two pieces, of 4,096 and of 1,926 bytes.
+LONG_WORLD = b"feast 1\ntiles 1 1\nsize 8 8\n" + (b"try 0 0 0 " + ZEROS + b"\n") * 200
+LONG_REPORT = (
+    b"feast 1\natoms 0\njournal 200\n"
+    + b"".join(b"%d 0 %d 0 0 %s\n" % (i + 1, i, ZEROS) for i in range(200))
+    + b"abandoned 0\n"
+)
+
+
+def unreadable(name):
+    return name.encode() + b": E01 unreadable\n"
+
+
+def too_long(file):
+    return file.name.encode() + b": E02 longer than %d bytes\n" % file.most
+
+
+def clear(path):
+    """Takes away what lies at a path."""
+    if path.is_dir() and not path.is_symlink():
+        path.rmdir()
+    elif path.is_symlink() or path.exists():
+        path.unlink()
+
+
+def feed(path, pieces, pause, done):
+    """Writes pieces into a pipe with a name, one after another, once it is opened for reading."""
+    while not done.is_set():
+        try:
+            end = os.open(path, os.O_WRONLY | os.O_NONBLOCK)
+            break
+        except OSError:
+            time.sleep(0.002)
+    else:
+        return
+    os.set_blocking(end, True)
+    try:
+        for piece in pieces:
+            os.write(end, piece)
+            time.sleep(pause)
+    except BrokenPipeError:
+        pass
+    finally:
+        os.close(end)
+
+
+class Pipe:
+    """A pipe that stands in place of an input, fed by a thread."""
+
+    def __init__(self, path, pieces, pause):
+        clear(path)
+        os.mkfifo(path)
+        self.done = threading.Event()
+        self.thread = threading.Thread(target=feed, args=(path, pieces, pause, self.done))
+
+    def __enter__(self):
+        self.thread.start()
+
+    def __exit__(self, *_):
+        self.done.set()
+        self.thread.join()
+
+
+def replaced(bench, job, file):
+    """Each thing that can't be loaded in place of an input, and what is answered."""
+    path = bench.at(file.name)
+    refusal = unreadable(file.name)
+
+    def row(what, make, status=UNREADABLE, out=refusal):
+        clear(path)
+        make()
+        bench.expect(f"{job.name}: {file.name} is {what}", bench.call(job.words), status, out)
+        clear(path)
+
+    row("missing", lambda: None)
+    row("a folder", path.mkdir)
+    row("a link to nothing", lambda: path.symlink_to("nothing"))
+    row("a link to itself", lambda: path.symlink_to(file.name))
+    row("a file whose first read fails", lambda: path.symlink_to("/proc/self/mem"))
+    row("a socket", lambda: make_socket(path))
+    row("without an end", lambda: path.symlink_to("/dev/zero"), UNREADABLE, too_long(file))
+    if not is_root():
+        row("closed to the user", lambda: make_closed(path, file.text))
+    row("a link to the file", lambda: make_link(bench, path, file.text), DONE, job.out)
+    lay(bench, job)
+
+
+def make_socket(path):
+    """A socket with a name, which can't be opened as a file."""
+    with socket.socket(socket.AF_UNIX) as end:
+        end.bind(str(path))
+
+
+def make_closed(path, text):
+    path.write_bytes(text)
+    path.chmod(0)
+
+
+def make_link(bench, path, text):
+    bench.at("elsewhere").write_bytes(text)
+    path.symlink_to("elsewhere")
+
+
+def pipes(bench, job):
+    """Each input as a pipe, by single bytes and in two pieces."""
+    for file in job.files:
+        half = len(file.text) // 2
+        for what, pieces, pause in (
+            ("in two pieces", [file.text[:half], file.text[half:]], 0.02),
+            ("by single bytes", [bytes([byte]) for byte in file.text], 0),
+        ):
+            with Pipe(bench.at(file.name), pieces, pause):
+                answer = bench.call(job.words, seconds=20)
+            bench.expect(f"{job.name}: {file.name} comes through a pipe {what}", answer, DONE, job.out)
+        lay(bench, job)
+
+
+def first_missing(bench, job):
+    """Where several inputs are missing, the first that is loaded is told."""
+    for file in job.files:
+        clear(bench.at(file.name))
+    bench.expect(f"{job.name}: nothing is there", bench.call(job.words), UNREADABLE, unreadable(job.files[0].name))
+    lay(bench, job)
+
+
+def outputs(bench, job):
+    """Standard output that takes nothing."""
+    with open("/dev/full", "wb") as device:
+        bench.expect(f"{job.name}: full device", bench.call(job.words, out=device), SINK, None)
+    with open("/dev/null", "rb") as device:
+        bench.expect(f"{job.name}: output for reading alone", bench.call(job.words, out=device), SINK, None)
+    closed = Limits(then=lambda: os.close(1))
+    bench.expect(f"{job.name}: closed output", bench.call(job.words, closed), SINK, b"")
+    reader, writer = os.pipe()
+    os.close(reader)
+    bench.expect(f"{job.name}: pipe without a reader", bench.call(job.words, out=writer), SINK, None)
+    os.close(writer)
+    for count in sorted({0, 1, len(job.out) // 2, len(job.out) - 1}):
+        answer = bench.call(job.words, Limits(written=count))
+        bench.expect(f"{job.name}: output of at most {count} bytes", answer, SINK, job.out[:count])
+    answer = bench.call(job.words, Limits(written=len(job.out)))
+    bench.expect(f"{job.name}: output of just enough bytes", answer, DONE, job.out)
+    ends = Limits(then=lambda: (os.close(0), os.close(2)))
+    bench.expect(f"{job.name}: closed input and errors", bench.call(job.words, ends), DONE, job.out)
+
+
+def refusal_outputs(bench):
+    """A refusal is written like any text."""
+    bench.write("bad", b"@")
+    for words, status, line in (
+        ([], 2, None),
+        (["check", "missing"], UNREADABLE, unreadable("missing")),
+        (["check", "bad"], BAD_ELEMENT, b"bad:1:1: E10 bad byte\n"),
+        (["run", "bad", "bad"], BAD_WORLD, b"bad:1:1: E70 bad header\n"),
+    ):
+        answer = bench.call(words)
+        bench.expect(f"refusal of {words}", answer, status, line)
+        for count in (0, 1, len(answer.out) - 1):
+            cut = bench.call(words, Limits(written=count))
+            bench.expect(f"refusal of {words} into {count} bytes", cut, SINK, answer.out[:count])
+        with open("/dev/full", "wb") as device:
+            bench.expect(f"refusal of {words}: full device", bench.call(words, out=device), SINK, None)
+
+
+def pieces(bench):
+    """A report of two pieces whose second is not taken whole."""
+    bench.write("w", LONG_WORLD)
+    bench.write("e", WALKER)
+    words = ["run", "w", "e"]
+    bench.expect("a report of two pieces", bench.call(words), DONE, LONG_REPORT)
+    for count in (0, 1, 4095, 4096, 4097, len(LONG_REPORT) - 1):
+        answer = bench.call(words, Limits(written=count))
+        bench.expect(f"two pieces into {count} bytes", answer, SINK, LONG_REPORT[:count])
+    reader, writer = os.pipe()
+    os.set_blocking(writer, False)
+    os.write(writer, b" " * (65536 - 5000))
+    answer = bench.call(words, out=writer)
+    os.close(writer)
+    with os.fdopen(reader, "rb") as end:
+        taken = end.read()[65536 - 5000:]
+    held = answer.status == SINK and taken == LONG_REPORT[:4096]
+    bench.say(held, "a pipe that is full behind the first piece", f"{answer.shown()}, {len(taken)} bytes taken")
+
+
+def names(bench):
+    """Names of files are words as they are given."""
+    bench.write("a b", WALKER)
+    bench.write("-", WALKER)
+    for name in (b"a b", b"-", b"./-", b"/proc/self/cwd/-", b".//./-"):
+        bench.expect(f"a file named {name!r}", bench.call([b"check", name]), DONE, b"element Walker 1 0\n")
+    for name in (b"", b"a\nb", b"n" * 255, b"n" * 5000, b"d/" * 2000, b"\x01", "é".encode(), b"--help"):
+        answer = bench.call([b"check", name])
+        bench.expect(f"no file {name[:12]!r}", answer, UNREADABLE, name + b": E01 unreadable\n")
+
+
+def many_files(bench):
+    """Files are closed as soon as they are loaded, and there are 64 at most."""
+    for count in range(64):
+        bench.write(f"e{count}", b"element E%d { Void behave() { } }" % count)
+    words = ["check", *(f"e{count}" for count in range(64))]
+    layout = b"".join(b"element E%d %d 0\n" % (count, count + 1) for count in range(64))
+    bench.expect("64 files, one open at a time", bench.call(words, Limits(files=4)), DONE, layout)
+    bench.expect("65 files", bench.call([*words, "e0"]), 2, USAGE)
+    bench.expect("100,000 words", bench.call(["check"] + ["e0"] * 100_000), 2, USAGE)
+    bench.expect("a word of 100,000 bytes", bench.call(["w" * 100_000]), 2, USAGE)
+
+
+class Fault:
+    """What `strace` puts into the answers of the system at calls on one path."""
+
+    def __init__(self, path, call, answer):
+        self.before = (
+            b"strace", b"-f", b"-o", b"/dev/null", b"-P", os.fsencode(path),
+            b"-e", b"trace=" + call, b"-e", b"inject=" + call + b":" + answer,
+        )
+
+
+def may_trace():
+    """Whether `strace` is there and may trace."""
+    if tool("strace") is None:
+        return False
+    asked = ["strace", "-o", "/dev/null", "-e", "inject=getppid:error=EPERM", "true"]
+    return subprocess.run(asked, stderr=subprocess.DEVNULL, check=False).returncode == 0
+
+
+def read_faults(bench, job):
+    """Each read of each input fails in turn, the others take what is there."""
+    for file in job.files:
+        text = file.text
+        if file.name == "e":
+            text = text + b" " * 9000
+        elif file.name == "w":
+            text = text + b"#" + b" " * 9000 + b"\n"
+        bench.write(file.name, text)
+        path = bench.at(file.name)
+        reads = -(-len(text) // 4096) + 1
+        for number in range(1, reads + 1):
+            fault = Fault(path, b"read", b"error=EIO:when=%d" % number)
+            answer = bench.call(job.words, before=fault.before)
+            bench.expect(f"{job.name}: read {number} of {file.name} fails", answer, UNREADABLE, unreadable(file.name))
+        fault = Fault(path, b"read", b"error=EIO:when=%d" % (reads + 1))
+        bench.expect(f"{job.name}: {file.name} takes {reads} reads", bench.call(job.words, before=fault.before), DONE, job.out)
+        for code in (b"EACCES", b"EMFILE", b"EIO"):
+            fault = Fault(file.name, b"openat,open", b"error=" + code)
+            answer = bench.call(job.words, before=fault.before)
+            bench.expect(f"{job.name}: {file.name} can't be opened by {code}", answer, UNREADABLE, unreadable(file.name))
+        fault = Fault(file.name, b"openat,open", b"error=ENOMEM")
+        answer = bench.call(job.words, before=fault.before)
+        held = (answer.status, answer.out) in ((UNREADABLE, unreadable(file.name)), (MEMORY, b""))
+        bench.say(held, f"{job.name}: {file.name} can't be opened for want of memory", answer.shown())
+        fault = Fault(file.name, b"openat,open", b"error=EINTR:when=1")
+        bench.expect(f"{job.name}: opening {file.name} is interrupted", bench.call(job.words, before=fault.before), DONE, job.out)
+        lay(bench, job)
+
+
+def write_faults(bench):
+    """Each write of a report of two pieces fails in turn, or takes nothing."""
+    bench.write("w", LONG_WORLD)
+    bench.write("e", WALKER)
+    words = ["run", "w", "e"]
+    path = bench.at("standard.output")
+    for number in (1, 2):
+        for answer in (b"error=ENOSPC", b"error=EIO", b"error=EPIPE", b"retval=0"):
+            fault = Fault(path, b"write,writev", answer + b":when=%d" % number)
+            got = bench.call(words, before=fault.before)
+            bench.expect(f"write {number} ends by {answer.decode()}", got, SINK, LONG_REPORT[: 4096 * (number - 1)])
+
+
+def growing(bench):
+    """A file that grows while it is read is what the reads took of it, or too long."""
+    path = bench.at("e")
+    bench.write("e", WALKER + b" " * 20_000)
+    stop = threading.Event()
+
+    def grow():
+        with open(path, "ab", buffering=0) as file:
+            while not stop.is_set():
+                file.write(b" " * 8192)
+                time.sleep(0.001)
+
+    slow = Fault(path, b"read", b"delay_exit=2000")
+    for _ in range(3):
+        thread = threading.Thread(target=grow)
+        thread.start()
+        answer = bench.call(["check", "e"], before=slow.before if may_trace() else (), seconds=60)
+        stop.set()
+        thread.join()
+        stop.clear()
+        held = (answer.status, answer.out) in (
+            (DONE, b"element Walker 1 0\n"),
+            (UNREADABLE, b"e: E02 longer than 1048576 bytes\n"),
+        )
+        bench.say(held, "a file grows while it is read", answer.shown())
+
+
+def signals(bench):
+    """Output that can't be taken, where its signals are not ignored beforehand: a pipe without a reader
+    ends a call by its status, since the program ignores SIGPIPE; a limit on files ends it by its signal,
+    as it ends any program."""
+    bench.write("w", ONE_TILE)
+    bench.write("e", WALKER)
+    reader, writer = os.pipe()
+    os.close(reader)
+    answer = bench.call(["run", "w", "e"], Limits(quiet=False), out=writer)
+    os.close(writer)
+    bench.expect("a pipe without a reader, by its signal", answer, SINK, None)
+    answer = bench.call(["run", "w", "e"], Limits(written=10, quiet=False))
+    bench.say(answer.status in (SINK, -signal.SIGXFSZ), "a limit on files, by its signal", answer.shown())
+
+
+def edge(bench):
+    """The table."""
+    for job in jobs_of(bench):
+        for file in job.files:
+            replaced(bench, job, file)
+        if job.files:
+            pipes(bench, job)
+            first_missing(bench, job)
+        outputs(bench, job)
+        if may_trace():
+            read_faults(bench, job)
+    refusal_outputs(bench)
+    pieces(bench)
+    names(bench)
+    many_files(bench)
+    signals(bench)
+    growing(bench)
+    if may_trace():
+        write_faults(bench)
+    else:
+        bench.note("no strace here: faults of single reads and writes are left out")
+
+
+if __name__ == "__main__":
+    sys.exit(main_of(edge))

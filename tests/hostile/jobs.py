@@ -1,0 +1,102 @@
+"""A small job of each form of words: its inputs, and what it is to write."""
+
+WALKER = b"element Walker { EventWindow ew; Void behave() { ew.swap(0, 4); } }"
+ZEROS = b"0" * 16
+STATE = b"0" * 18
+
+ONE_TILE = b"feast 1\ntiles 1 1\nsize 8 8\ntry 0 3 4 " + ZEROS + b"\natom 3 4 Walker\n"
+TWO_TILES = b"feast 1\ntiles 2 1\nsize 16 16\ntry 0 15 4 " + ZEROS + b"\ntry 0 3 3 " + ZEROS + b"\natom 15 4 Walker\n"
+ONE_REPORT = b"feast 1\natoms 1\n4 4 Walker " + STATE + b"\njournal 1\n1 0 0 3 4 " + ZEROS + b"\nabandoned 0\n"
+TWO_REPORT = (
+    b"feast 1\natoms 1\n16 4 Walker " + STATE + b"\njournal 2\n1 0 0 15 4 " + ZEROS + b"\n2 0 1 3 3 " + ZEROS
+    + b"\nabandoned 0\n"
+)
+LAYOUT = b"element Walker 1 0\n"
+CODE = b"element Walker 1 4\nfunction 0 behave 0 0\n0 PushNum 0\n1 PushNum 4\n2 Swap\n3 ReturnVoid\n"
+PACKED = bytes.fromhex(
+    "4645415354430100" "0001" "00000006" + b"Walker".hex() + "00000001" "00000006" + b"behave".hex()
+    + "00" "00000000" "000000" "00000004" + "00" * 10 + "00" * 9 + "04" "0c" "30"
+)
+
+
+class File:
+    """An input: its name, its bytes, and the most bytes that it may have."""
+
+    def __init__(self, name, text, most):
+        self.name = name
+        self.text = text
+        self.most = most
+
+
+def world(text):
+    return File("w", text, 268_435_456)
+
+
+def report(text):
+    return File("j", text, 268_435_456)
+
+
+def code(text):
+    return File("c", text, 268_435_456)
+
+
+def element(text):
+    return File("e", text, 1_048_576)
+
+
+class Job:
+    """A form's name, its words, its inputs in the order in which they are loaded, and what it writes
+    (None: whatever it writes without a fault, which is the same each time)."""
+
+    def __init__(self, name, needs, words, files, out):
+        self.name = name
+        self.needs = needs
+        self.words = words.split()
+        self.files = files
+        self.out = out
+
+
+JOBS = [
+    Job("check", ["check"], "check e", [element(WALKER)], LAYOUT),
+    Job("code", ["code"], "code e", [element(WALKER)], CODE),
+    Job("pack", ["pack"], "pack e", [element(WALKER)], PACKED),
+    Job("run", ["run"], "run w e", [world(ONE_TILE), element(WALKER)], ONE_REPORT),
+    Job("run of two tiles", ["run", "threads"], "run w e", [world(TWO_TILES), element(WALKER)], TWO_REPORT),
+    Job("step", ["step"], "step w e", [world(TWO_TILES), element(WALKER)], TWO_REPORT),
+    Job("runpack", ["runpack", "threads"], "runpack w c", [world(TWO_TILES), code(PACKED)], TWO_REPORT),
+    Job("steppack", ["steppack"], "steppack w c", [world(TWO_TILES), code(PACKED)], TWO_REPORT),
+    Job(
+        "replay", ["replay"], "replay w j e", [world(TWO_TILES), element(WALKER), report(TWO_REPORT)],
+        b"feast 1\natoms 1\n16 4 Walker " + STATE + b"\n",
+    ),
+    Job("audit", ["audit"], "audit w j e", [world(TWO_TILES), element(WALKER), report(TWO_REPORT)], b"yes\n"),
+    Job(
+        "rewind", ["rewind"], "rewind w j 0 e", [world(TWO_TILES), element(WALKER), report(TWO_REPORT)],
+        b"feast 1\natoms 1\n15 4 Walker " + STATE + b"\n",
+    ),
+    Job("gen", ["gen"], "gen 5", [], None),
+]
+
+
+def jobs_of(bench):
+    """The jobs whose forms are built, their inputs made, and each with what it writes."""
+    for job in JOBS:
+        if bench.has(*job.needs):
+            lay(bench, job)
+            answer = bench.call(job.words)
+            if job.out is None:
+                job.out = answer.out
+            if bench.expect(f"{job.name}: as it is", answer, 0, job.out):
+                yield job
+
+
+def lay(bench, job):
+    """Makes the inputs of a job."""
+    for file in job.files:
+        path = bench.at(file.name)
+        if path.is_symlink() or path.is_fifo() or path.exists():
+            if path.is_dir() and not path.is_symlink():
+                path.rmdir()
+            else:
+                path.unlink()
+        path.write_bytes(file.text)

@@ -1,0 +1,97 @@
+#!/usr/bin/env python3
+"""Tries the pages of the repository against its files and a program: pages.py PROGRAM.
+
+Of each page (*.md): a link leads to a file; a path in backquotes that begins with a folder of the
+repository is there. A block of text behind a paragraph that ends with a path in backquotes and a
+colon is that file, or its first lines where the paragraph says so. A line `./feast WORDS` of a block
+is a call; a block behind `writes`, or a paragraph that ends with it, has what the last call wrote,
+and one behind `begins with` the first lines of it. A call that ends with `>report` leaves its report.
+The map of crates has a row for each crate of crates.txt.
+"""
+import pathlib
+import re
+import shutil
+import subprocess
+import sys
+import tempfile
+
+TOP = pathlib.Path(__file__).resolve().parent.parent
+FOLDERS = "bench|crates|docs|examples|tests"
+
+
+def pieces(page):
+    """The blocks of a page, each with the last line of the text before it."""
+    before, block = "", []
+    for line in [*page.splitlines(), "end"]:
+        if line.startswith("    "):
+            block.append(line[4:])
+        elif line and block:
+            yield before, "\n".join(block).rstrip("\n") + "\n"
+            before, block = line, []
+        elif line:
+            before = line
+        elif block:
+            block.append("")
+
+
+def lost_paths(page, folder):
+    """The links and the paths of a page that lead nowhere."""
+    links = [(folder / it, it) for it in re.findall(r"\]\(([^)#:]+)\)", page)]
+    paths = [(TOP / it, it) for it in re.findall(rf"`((?:{FOLDERS})/[\w./-]+)`", page)]
+    return [f"{name} is not there" for path, name in [*links, *paths] if "NAME" not in name and not path.exists()]
+
+
+def call(program, line, folder):
+    """What a call writes."""
+    words, _, to = line.removeprefix("./feast ").partition(" >")
+    text = subprocess.run([program, *words.split()], cwd=folder, capture_output=True, text=True, timeout=60).stdout
+    if to:
+        (folder / to).write_text(text)
+    return text
+
+
+def wrong_blocks(program, page, folder):
+    """The blocks that differ from the file or from the call that they are of."""
+    wrote = None
+    for before, block in pieces(page):
+        file = re.search(r"`(examples/\S+)`:$", before)
+        if file:
+            text = (TOP / file[1]).read_text()
+        elif wrote is not None and re.search(r"(writes|begins with|writes the report)$", before):
+            text = wrote
+        else:
+            calls = [line for line in block.splitlines() if line.startswith("./feast ") and "NAME" not in line]
+            for line in calls:
+                wrote = call(program, line, folder)
+            continue
+        is_front = "first lines" in before or before.endswith("begins with")
+        if not (text.startswith(block) if is_front else text == block):
+            yield f"the block behind '{before[-60:]}' differs from {text[:200]!r}"
+
+
+def map_faults():
+    """The crates of crates.txt that docs/crates.md has no row for, and the other way round."""
+    crates = set(re.findall(r"^([a-z_]+)[^:#]*:", (TOP / "crates.txt").read_text(), re.M))
+    rows = set(re.findall(r"^\| `([a-z_]+)` \|", (TOP / "docs/crates.md").read_text(), re.M)) - {"feast", "test"}
+    return [f"docs/crates.md: {crate} is not in both" for crate in sorted((crates - {"feast"}) ^ rows)]
+
+
+def faults(program, path):
+    """What is wrong with a page."""
+    page = path.read_text()
+    with tempfile.TemporaryDirectory() as name:
+        folder = pathlib.Path(name)
+        shutil.copytree(TOP / "examples", folder / "examples")
+        return [*lost_paths(page, path.parent), *wrong_blocks(program, page, folder)]
+
+
+def main():
+    program = str(pathlib.Path(sys.argv[1]).resolve())
+    pages = subprocess.run(["git", "ls-files", "*.md"], cwd=TOP, capture_output=True, text=True, check=True).stdout
+    found = [f"{page}: {fault}" for page in pages.split() for fault in faults(program, TOP / page)] + map_faults()
+    print(*found, f"{len(pages.split())} pages, {len(found)} faults", sep="\n")
+    return 1 if found else 0
+
+
+if __name__ == "__main__":
+    sys.exit(main())
