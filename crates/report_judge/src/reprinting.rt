@@ -37,7 +37,10 @@ fn push_gone(out: &mut Vec<u8>, abandoned: &[Abandoned]) -> Result<(), NoMemory>
 fn push_records(out: &mut Vec<u8>, records: &[Record]) -> Result<(), NoMemory>
     ensures { Appends out.old.items out.new.items result (text_of (record_lines records.now)) }
 {
-    push_line(out, count_fields(b"journal", records.len() as u64).as_slice())?;
+    push_line(
+        out,
+        count_fields(b"journal", records.len() as u64).as_slice(),
+    )?;
     push_events(out, records)
 }
 
