@@ -42,7 +42,7 @@ fn write<K: Sink>(alloc: Global, sink: &mut K, output: &Output) -> Result<(), Wr
                 alloc,
                 &left.grid,
                 &left.journal,
-                left.ready.set.names(),
+                left.ready.elements.names(),
                 sink,
             )
         }
