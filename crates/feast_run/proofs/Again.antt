@@ -1,5 +1,5 @@
 -- The report of a run replays to its own atoms.
-use Rattle.std.proofs.Common.{ℕ, ◌≡◌, ◌≤◌, List, ◌++◌, Some, Ok, Result, codes, length, ap, sym, subst, ◌∙◌, inr}
+use Rattle.std.proofs.Common.{ℕ, ◌≡◌, List, ◌++◌, Ok, codes, ap, sym, subst, ◌∙◌, inr}
 use Rattle.cell_grid.specs.Grid.{GridValue}
 use Rattle.cell_grid.specs.declared.record.Record.{Record}
 use Rattle.event_journal.specs.Reading.{read_report}
