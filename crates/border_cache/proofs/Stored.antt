@@ -19,8 +19,9 @@ use Rattle.border_cache.specs.Cells.{CellValue, cell_value, newest}
 use Rattle.border_cache.specs.News.{no_cell}
 use Rattle.border_cache.specs.Published.{cell_at}
 use Rattle.border_cache.specs.Windows.{has, IsEdgeFor, IsView, RefreshesAll, PublishesAll, seen_on}
-use Rattle.border_cache.specs.Copies.{CacheValue, cache_of, columns_of, rows_of, place_held, held_cell, window_cells, Puts, PutsFor, HoldsWindow, IsCentre, IsEndOf, IsFirstCopy, IsFirstRectangle, Stores, Refreshed}
+use Rattle.border_cache.specs.Copies.{CacheValue, cache_of, columns_of, rows_of, place_held, held_cell, cell_for, window_cells, Puts, PutsFor, HoldsWindow, IsCentre, IsEndOf, IsFirstCopy, IsFirstRectangle, Stores, Refreshed}
 use Rattle.border_cache.proofs.Apart.{sites_apart}
+use Rattle.border_cache.proofs.Needs.{adds_all_begins}
 use Rattle.border_cache.proofs.Refreshes.{less_or_same}
 
 pub place_inside : (m : MapValue) (t : ℕ) (s : Site) → is_held m t s ≡ true → place_held m t s < columns_of m t * rows_of m t
@@ -176,6 +177,15 @@ refreshed_by c edges old new a b before after same r s = record {
   reads = r.reads;
   stores = stores_by c (cell_at after) (λ n. newest (window_cells old c n) (seen_on old.map old.tile c r.more n edges)) old new
       (λ n lt. r.cells n lt ∙ ap (λ x. newest x (seen_on old.map old.tile c r.more n edges)) (same n lt)) s;
+}
+
+-- where no edge is needed, nothing is news
+pub refreshed_none : (c : Site) (v : CacheValue) (a : ℕ → EndLists) → Refreshed c [] v v a a
+refreshed_none c v a = record {
+  more = λ e. [];
+  adds = adds_all_begins a;
+  reads = λ e h. absurd (true≢false (sym h));
+  stores = record { differs = record { map = refl; tile = refl; others = λ s h out. refl }; done = λ n s lt at. sym (ap (cell_for v) at) };
 }
 
 pub publishes_by : (m : MapValue) (t : ℕ) (c : Site) (edges : List ℕ) (p q : ℕ → CellValue) (a b : ℕ → EndLists) → ((n : ℕ) → n < 41 → p n ≡ q n) → PublishesAll m t c edges p a b → PublishesAll m t c edges q a b
