@@ -5,7 +5,6 @@ use Rattle.std.specs.List.Sorted.{IsStrictlyIncreasing}
 use Rattle.std.proofs.lemmas.Bool.Decides.{nat_tests}
 use Rattle.std.proofs.lemmas.List.{get_or-set_same, get_or-set_other, get_or_default}
 use Rattle.std.proofs.lemmas.Nat.{mul-add-lt, same_from_place, mod-mul-add, div-mul-add}
-use Rattle.window_sites.specs.Window.{WindowValue}
 use Rattle.tile_map.specs.Plane.{Site, MapValue, site, is_held}
 use Rattle.tile_map.specs.Spans.{left_of, top_of}
 use Rattle.tile_map.specs.Edges.{window_site, needs_of, has_end, low_end, high_end}
@@ -18,7 +17,7 @@ use Rattle.edge_lock.specs.EndLists.{EndLists, IsHeld}
 use Rattle.border_cache.specs.Cells.{CellValue, cell_value, newest}
 use Rattle.border_cache.specs.News.{no_cell}
 use Rattle.border_cache.specs.Published.{cell_at}
-use Rattle.border_cache.specs.Windows.{has, IsEdgeFor, IsView, RefreshesAll, PublishesAll, seen_on}
+use Rattle.border_cache.specs.Windows.{has, IsEdgeFor, RefreshesAll, PublishesAll, seen_on}
 use Rattle.border_cache.specs.Copies.{CacheValue, cache_of, columns_of, rows_of, place_held, held_cell, cell_for, window_cells, Puts, PutsFor, HoldsWindow, IsCentre, IsEndOf, IsFirstCopy, IsFirstRectangle, Stores, Refreshed}
 use Rattle.border_cache.proofs.Apart.{sites_apart}
 use Rattle.border_cache.proofs.Needs.{adds_all_begins}
@@ -200,6 +199,3 @@ publishes_by m t c edges p q a b same r = record {
     only_written = w.only_written;
   };
 }
-
-pub views_by : (m : MapValue) (c : Site) (p q : ℕ → CellValue) (view : WindowValue) → ((n : ℕ) → n < 41 → p n ≡ q n) → IsView m c p view → IsView m c q view
-views_by m c p q view same v = record { valid = v.valid; live = v.live; atoms = λ n lt h. v.atoms n lt h ∙ ap (λ x. x.atom) (same n lt) }

@@ -109,8 +109,7 @@ impl Cache {
         ensures { IsView self.now.map (site x y) (window_cells self.now (site x y)) result }
     {
         map.laws();
-        let cells = self.around(map, x, y);
-        view_of(map, x, y, &cells)
+        view_of(map, self, x, y)
     }
 
     /// Gives each live site of the window at a centre its atom of an event's window and the event's
@@ -121,8 +120,7 @@ impl Cache {
         ensures { Marked (site x y) window.now stamp self.old self.new }
     {
         map.laws();
-        let cells = event_cells(window, stamp);
-        self.store(map, x, y, &cells);
+        self.mark_sites(map, x, y, window, stamp);
     }
 
     /// Writes the cell of each live site of the window at a centre to each needed edge that shares
@@ -207,6 +205,21 @@ impl Cache {
         }
     }
 
+    /// Gives each live site of the window at a centre its atom of an event's window and a stamp.
+    fn mark_sites(&mut self, map: &Map, x: u32, y: u32, window: &Window, stamp: u32)
+        requires map { map.now ≡ self.old.map }
+        requires valid { IsMap map.now }
+        requires holds { HoldsWindow self.old.map self.old.tile (site x y) }
+        requires x { x < map.now.tx * map.now.w }
+        requires y { y < map.now.ty * map.now.h }
+        ensures { Marked (site x y) window.now stamp self.old self.new }
+    {
+        let whole = is_whole(map, x, y);
+        for n in 0..41u8 {
+            self.put_around(map, x, y, n, whole, Cell::new(stamp, window.get(n)));
+        }
+    }
+
     /// Gives site `n` of the window at a centre a cell, if the site is live.
     fn put_around(&mut self, map: &Map, x: u32, y: u32, n: u8, whole: bool, cell: Cell)
         requires map { map.now ≡ self.old.map }
@@ -256,16 +269,4 @@ fn first_cells(
         cells.push(Cell::new(0, atom))?;
     }
     Ok(cells)
-}
-
-/// The cells that an event leaves, by the numbers of the sites of its window.
-fn event_cells(window: &Window, stamp: u32) -> [Cell; 41]
-    ensures cells { (n : ℕ) → n < 41 → cell_at result n ≡ cell_value stamp (atom_at window.now n) }
-    ensures count { length result ≡ 41 }
-{
-    let mut cells = [Cell::new(0, Atom::new(0, 0)); 41];
-    for n in 0..41u8 {
-        cells[n as usize] = Cell::new(stamp, window.get(n));
-    }
-    cells
 }
