@@ -1,5 +1,5 @@
 -- Windows all of whose sites are live: the sites between four live corners are live, since tiles have at least eight columns and rows.
-use Rattle.std.proofs.Common.{◌≡◌, ℕ, ◌+◌, ◌-◌, ◌*◌, ◌/◌, ◌<◌, ◌≤◌, Bool, true, false, refl, sym, ap, ◌∙◌, arith, ⊎_elim, ◌⊎◌, inl, inr, Some, None}
+use Rattle.std.proofs.Common.{◌≡◌, ℕ, ◌+◌, ◌-◌, ◌*◌, ◌/◌, ◌<◌, ◌≤◌, true, refl, ap, ◌∙◌, arith, ⊎_elim, ◌⊎◌, inl, inr, Option, Some, None}
 use Rattle.std.specs.Prelude.{ℤ, pos, negsuc, is_some, if◌then◌else◌}
 use Rattle.std.specs.Int.RustNames.{unsigned_abs}
 use Rattle.std.proofs.lemmas.Bool.Decides.{nat_tests}
@@ -9,7 +9,7 @@ use Rattle.list_laws.proofs.Tests.{both, together}
 use Rattle.window_sites.specs.Sites.{offset_of, shifted}
 use Rattle.window_sites.proofs.Offsets.{offset-near}
 use Rattle.tile_map.specs.Plane.{Site, MapValue, IsMap, site, is_on, is_live, owner_of}
-use Rattle.tile_map.specs.Edges.{live_site, window_site}
+use Rattle.tile_map.specs.Edges.{live_site}
 use Rattle.tile_map.proofs.Spans.{test_lt, live_plane, plane_test}
 use Rattle.border_cache.specs.Windows.{IsWhole}
 use Rattle.border_cache.proofs.Refreshes.{less_or_same}
@@ -83,10 +83,15 @@ corners_whole m valid c corners n lt =
     let live = live_between m valid c.x c.y corners p.at q.at p.low p.high q.low q.high in
     (λ i. is_some (live_site m (p.is i) (q.is i))) ∙ ap (λ b. is_some (if b then Some (site p.at q.at) else None)) live
 
--- a site of a whole window lies where its offset says
-pub whole_site : (m : MapValue) (c : Site) (n u v : ℕ) → IsWhole m c → n < 41 → shifted c.x (offset_of n).0 ≡ Some u → shifted c.y (offset_of n).1 ≡ Some v → window_site m c n ≡ Some (site u v)
-whole_site m c n u v whole lt x y = (λ i. live_site m (x i) (y i)) ∙ go (is_live m (site u v)) (sym (λ i. is_some (live_site m (x i) (y i))) ∙ whole n lt)
+-- a coordinate that is not below 0
+abbrev pub IsThere : Option ℕ → Type 0
+IsThere o = (u : ℕ) × (o ≡ Some u)
+
+-- both coordinates of a site of a whole window
+pub whole_there : (m : MapValue) (c : Site) (n : ℕ) → IsWhole m c → n < 41 → IsThere (shifted c.x (offset_of n).0) × IsThere (shifted c.y (offset_of n).1)
+whole_there m c n whole lt = go (shifted c.x (offset_of n).0) (shifted c.y (offset_of n).1) (whole n lt)
   where
-    go : (b : Bool) → is_some (if b then Some (site u v) else None) ≡ true → (if b then Some (site u v) else None) ≡ Some (site u v)
-    go true h = refl
-    go false h = absurd (cc h)
+    go : (a b : Option ℕ) → is_some (live_site m a b) ≡ true → IsThere a × IsThere b
+    go None b h = absurd (cc h)
+    go (Some u) None h = absurd (cc h)
+    go (Some u) (Some v) h = ((u, refl), (v, refl))
