@@ -212,8 +212,8 @@ pub fn lex(alloc: Global, bytes: &[u8], file: u32) -> Result<Vec<Token>, LexFaul
 }
 
 /// Each text has a list of tokens within the limit or a first fault, and never both. No text has two
-/// lists of tokens, or two first faults. A text with a bad byte, an open comment or a number too large behind some pieces has no list of any
-/// length. No numeral has two values.
+/// lists of tokens, or two first faults. A text with a bad byte, an open comment or a number too
+/// large behind some pieces has no list of any length. No numeral has two values.
 pub fn one_reading()
     ensures some { (file : ℕ) (text : List ℕ) → ((tokens : List Token) × IsTokensOf file text tokens × (length tokens ≤ most_tokens + 1)) ⊎ ((fault : LexFault) × IsFaultOf file text fault) }
     ensures list { (file : ℕ) (text : List ℕ) (a b : List Token) → IsTokensOf file text a → IsTokensOf file text b → a ≡ b }
