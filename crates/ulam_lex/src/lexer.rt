@@ -102,7 +102,7 @@ fn add(
     }
 }
 
-/// TakesPiece the piece of `len` bytes at a place: adds its token, if it is one, and gives its length
+/// Takes the piece of `len` bytes at a place: adds its token, if it is one, and gives its length
 /// and the place behind it.
 fn take_piece(
     bytes: &[u8],
@@ -130,7 +130,7 @@ fn take_piece(
     Ok((len, next))
 }
 
-/// TakesPiece the piece at a place, or finds the fault that stands there.
+/// Takes the piece at a place, or finds the fault that stands there.
 fn step(
     bytes: &[u8],
     at: usize,
