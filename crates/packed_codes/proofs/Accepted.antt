@@ -1,19 +1,15 @@
 -- The set of files that no stage refuses, as a code file.
-use Rattle.std.proofs.Common.{ℕ, ◌≡◌, ◌+◌, ◌≤◌, List, [], ◌∷◌, ◌++◌, length, None, Ok, Result, inl, inr, refl, sym, ap, subst, ◌∙◌, arith}
-use Rattle.std.specs.Prelude.{slice_get, Some}
+use Rattle.std.proofs.Common.{ℕ, ◌≡◌, ◌≤◌, List, [], ◌∷◌, length, Ok, Result, inl, inr, sym, ap, subst, ◌∙◌, arith}
+use Rattle.std.specs.Prelude.{true}
 use Rattle.std.proofs.lemmas.List.{length-map}
 use Rattle.window_sites.specs.Window.{WindowValue}
 use Rattle.feast_base.specs.Outside.{File}
+use Rattle.feast_base.specs.TypeNames.{is_type_name}
 use Rattle.ulam_lex.proofs.Spans.{in_order}
 use Rattle.ulam_parse.specs.Tokens.{toks}
 use Rattle.ulam_heirs.specs.Heads.{tokens_left}
-use Rattle.ulam_tree.specs.Raw.{Item}
-use Rattle.ulam_tree.specs.Resolved as r
 use Rattle.ulam_tree.specs.Typed as t
-use Rattle.ulam_names.specs.ClassRelation.{IsResolved}
-use Rattle.atom_layout.specs.Layouts.{first_wide, layout_of}
-use Rattle.ulam_types.specs.ProgramTyping.{IsTypedProgram}
-use Rattle.ulam_meaning.specs.Programs.{Program, element_classes}
+use Rattle.ulam_meaning.specs.Programs.{element_classes}
 use Rattle.ulam_meaning.specs.Events as meaning
 use Rattle.code_gen.specs.Compiling.{AreShort, IsCompilable, class_code, element_codes}
 use Rattle.source_laws.proofs.Programs.{compilable}
@@ -26,7 +22,7 @@ use Rattle.element_set.proofs.FormedNames.{names_formed}
 use Rattle.element_set.proofs.Named.{resolved_named, typed_named}
 use Rattle.element_set.proofs.NewNames.{new_elements}
 use Rattle.code_file.specs.Acting.{after}
-use Rattle.code_file.specs.Form.{CodesValue, IsSayable, codes_of, elements, file_bytes, names_of}
+use Rattle.code_file.specs.Form.{CodesValue, IsSayable, codes_of, file_bytes, names_of}
 use Rattle.code_file.specs.Judging.{Reads}
 use Rattle.code_file.specs.Right.{AreRight}
 use Rattle.code_file.specs.declared.fault.CodeFault.{CodeFault}
@@ -61,7 +57,7 @@ record Accepted (set : SetValue) : Type 0 where
   pub named : AreNamed set.classes
   pub formed : ClassesFormed set.classes
 
-pub accepted : (files : List File) (set : SetValue) → AcceptsFiles files set → Accepted set
+accepted : (files : List File) (set : SetValue) → AcceptsFiles files set → Accepted set
 accepted files set h =
     let trees = went (more_trees no_trees files) flat_set set h in
     let flat = went _ named_set set trees.rest in
@@ -98,7 +94,7 @@ sayable files set h =
       few = few;
       each = are_elements (length es) 1 es (λ k e at.
           let parts = element_at ns cs k e at in
-          is_element g a.compiles a.short a.formed (length es) k e (omega (arith, counted, long)) (omega (arith, few)) (all_at _ ns k e.name (names_formed files set h) parts.0) parts.1);
+          is_element g a.compiles a.short a.formed (length es) k e (omega (arith, counted, long)) (omega (arith, few)) (all_at (λ (n : List ℕ). is_type_name n ≡ true) ns k e.name (names_formed files set h) parts.0) parts.1);
     }
 
 pub right : (files : List File) (set : SetValue) → AcceptsFiles files set → AreRight (packed set)

@@ -1,7 +1,7 @@
 -- Each element of a set, with its code, is one of a code file, and the file says that each has its own name and valid code.
-use Rattle.std.proofs.Common.{ℕ, zero, suc, ◌≡◌, ◌+◌, ◌<◌, ◌≤◌, ◌^◌, Bool, true, false, List, [], ◌∷◌, ◌++◌, All, length, map, take, nat_le, Option, Some, None, refl, sym, ap, subst, ◌∙◌, arith, append_assoc, append-nil}
-use Rattle.std.specs.Prelude.{slice_get, bytes_eq, if◌then◌else◌, cond, ◌||◌}
-use Rattle.std.specs.List.{AllByRecursion, list_any}
+use Rattle.std.proofs.Common.{ℕ, zero, suc, ◌≡◌, ◌+◌, ◌<◌, ◌≤◌, ◌^◌, Bool, true, false, List, [], ◌∷◌, ◌++◌, All, length, map, take, Some, refl, sym, ap, subst, ◌∙◌, arith, append_assoc, append-nil}
+use Rattle.std.specs.Prelude.{slice_get, bytes_eq, if◌then◌else◌, ◌||◌}
+use Rattle.std.specs.List.{AllByRecursion}
 use Rattle.std.proofs.lemmas.Bool.{leb-true}
 use Rattle.std.proofs.lemmas.List.{length-map}
 use Rattle.std.proofs.lemmas.List.Elements.{All-head, All-tail}
@@ -12,11 +12,11 @@ use Rattle.stack_code.specs.Valid.{valid}
 use Rattle.ulam_tree.specs.Typed as t
 use Rattle.ulam_names.specs.Scopes as scopes
 use Rattle.ulam_meaning.specs.Programs.{Program, count_elements, element_classes, number_of}
-use Rattle.ulam_meaning.specs.Paths.{Key}
+use Rattle.ulam_meaning.specs.Laws.{bits_of}
+use Rattle.ulam_meaning.specs.Paths.{Key, function_of}
 use Rattle.ulam_meaning.specs.Events.{behave_key}
-use Rattle.code_gen.specs.Compiled.{element_code}
 use Rattle.code_gen.specs.Compiling.{AreShort, IsCompilable, class_code, element_codes}
-use Rattle.code_gen.specs.Drafts.{code_of, codes, has_room, keys, value_at}
+use Rattle.code_gen.specs.Drafts.{code_of, has_room, keys, value_at}
 use Rattle.code_gen.specs.Scheme.{draft_of, operand_of}
 use Rattle.code_gen.proofs.Drafted.{kinded_ready}
 use Rattle.code_gen.proofs.ElementCode.{kinded_compiled}
@@ -25,10 +25,9 @@ use Rattle.code_gen.proofs.Room.{keys_room}
 use Rattle.code_gen.proofs.TypedBodies.{program_kinded}
 use Rattle.code_file.specs.Form.{AreElements, CodesValue, ElementValue, IsElement, elements, names_of}
 use Rattle.code_file.specs.Judging.{is_among}
-use Rattle.code_file.specs.Ranged.{IsNamed, IsRanged, OfTypes}
+use Rattle.code_file.specs.Ranged.{IsRanged, OfTypes}
 use Rattle.code_file.specs.Right.{AreRight}
 use Rattle.code_file.proofs.Ranges.{valid_ranged}
-use Rattle.code_file.proofs.Sets.{names_are}
 use Rattle.element_set.specs.Names.{AreNew}
 use Rattle.packed_codes.proofs.SoundPieces.{codes_typed, keys_good, values_ranged}
 use Rattle.packed_codes.proofs.SoundPrograms.{key_sound}
@@ -97,10 +96,10 @@ module _ (g : Program) (compilable : IsCompilable g) (short : AreShort g) (forme
       ap valid (sym of.is) ∙ (kinded_compiled g (number_of g of.number) of.number kinded (short of.number of.element.class of.element.stands of.element.acts)).is_valid
 
   -- the functions of the code of an element
-  head_ranged : (main f : Key) → has_room (draft_of g) f ≡ true → IsFormedKey g f → IsRanged (value_at (draft_of g) 0 f)
-  head_ranged main f room h =
-      let low = leb-true _ 71 room in
-      let long = length-map _ operand_of in
+  head_ranged : (f : Key) → has_room (draft_of g) f ≡ true → IsFormedKey g f → IsRanged (value_at (draft_of g) 0 f)
+  head_ranged f room h =
+      let low = leb-true (f.base + bits_of g f.class) 71 room in
+      let long = length-map (function_of g f).params operand_of in
       record { name = h.0; base = omega (arith, low); params = omega (arith, h.1, long) }
 
   code_ranged : (most c : ℕ) → count_elements g.classes ≤ most → most < 2 ^ 16 → IsElementClass g.classes c → AllByRecursion IsRanged (class_code g c).functions × AllByRecursion (OfTypes most) (class_code g c).instrs
@@ -113,7 +112,7 @@ module _ (g : Program) (compilable : IsCompilable g) (short : AreShort g) (forme
       let kinded = program_kinded g c compilable.well compilable.named compilable.laid (compilable.acts c element.class element.stands element.acts) in
       let room = keys_room d main (kinded_ready g c kinded) in
       let good = keys_good most (IsFormedKey g) d sound main (behave_formed g c element.class formed element.stands element.acts) in (
-        values_ranged d 0 ks (all_from (λ (f : Key). IsRanged (value_at d 0 f)) ks (λ k f e. head_ranged main f (room k f e) (each_at (IsFormedKey g) ks k f good e))),
+        values_ranged d 0 ks (all_from (λ (f : Key). IsRanged (value_at d 0 f)) ks (λ k f e. head_ranged f (room k f e) (each_at (IsFormedKey g) ks k f good e))),
         codes_typed most (IsFormedKey g) d sound ks 0 ks,
       )
 

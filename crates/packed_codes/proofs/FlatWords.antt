@@ -1,14 +1,14 @@
 -- The members that a class has with those of its bases are members of the files' classes.
-use Rattle.std.proofs.Common.{ℕ, zero, suc, ◌≡◌, ◌+◌, Bool, true, false, not, cond, List, [], ◌∷◌, ◌++◌, Option, Some, None, sym, subst, arith}
+use Rattle.std.proofs.Common.{ℕ, zero, suc, ◌+◌, Bool, true, false, not, cond, List, [], ◌∷◌, ◌++◌}
 use Rattle.std.specs.Prelude.{filter, slice_get}
 use Rattle.std.specs.List.{flat_map}
 use Rattle.std.specs.Option.{option_to_list}
-use Rattle.ulam_heirs.specs.Files.{all_heirs, base_at, class_count, flat_files, flat_files_from, flat_items, heirs_in}
+use Rattle.ulam_heirs.specs.Files.{all_heirs, class_count, flat_files, flat_files_from, flat_items, heirs_in}
 use Rattle.ulam_heirs.specs.Flat.{flat_behind, flat_members, is_left_out}
 use Rattle.ulam_heirs.specs.Heads.{Heads}
 use Rattle.ulam_heirs.specs.Lines.{Heir, classes_at, line_numbers}
 use Rattle.ulam_tree.specs.Raw.{Member, Item, ulam, uses, class}
-use Rattle.packed_codes.proofs.FormedWords.{AreFormed, IsFormedMember, ItemsFormed}
+use Rattle.packed_codes.proofs.FormedWords.{AreFormed, ItemsFormed}
 
 abbrev pub FilesFormed : List (List Item) → Type 0
 FilesFormed [] = Unit {0}

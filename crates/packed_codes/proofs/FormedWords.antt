@@ -1,5 +1,5 @@
 -- The names of functions in the trees of accepted texts are names.
-use Rattle.std.proofs.Common.{ℕ, ◌≡◌, ◌+◌, ◌≤◌, ◌<◌, ◌==◌, Bool, true, false, not, ◌&&◌, ◌||◌, List, [], ◌∷◌, ◌++◌, length, nat_le, bytes_eq, refl, sym, ap, subst, ◌∙◌, arith, Option, Some, None, Ok, Err, if◌then◌else◌, slice_index, slice_range}
+use Rattle.std.proofs.Common.{ℕ, ◌≡◌, ◌+◌, ◌≤◌, ◌==◌, Bool, true, false, not, ◌&&◌, ◌||◌, List, [], ◌∷◌, ◌++◌, length, nat_le, bytes_eq, refl, sym, ap, subst, ◌∙◌, arith, Option, Some, None, Ok, Err, if◌then◌else◌, slice_index, slice_range}
 use Rattle.std.specs.Char.{is_ascii_digit, is_ascii_lowercase, is_ascii_uppercase}
 use Rattle.std.specs.List.{AllPass, list_all}
 use Rattle.std.proofs.lemmas.List.Elements.{All-head, All-tail}
@@ -8,13 +8,12 @@ use Rattle.feast_base.specs.TypeNames.{is_word_byte}
 use Rattle.ulam_lex.specs.Bytes.{class_of, is_keyword, is_white}
 use Rattle.ulam_lex.specs.Pieces.{IsToken, IsWord}
 use Rattle.ulam_lex.specs.Texts.{AreInOrder}
-use Rattle.ulam_lex.specs.declared.bytes.Class.{Class as ByteClass}
 use Rattle.ulam_lex.specs.declared.bytes.Class.TheVariants.{White, Small, Capital, Digit, Mark}
 use Rattle.ulam_lex.specs.declared.token.Token.{Token}
 use Rattle.ulam_lex.specs.declared.token.TokenKind.{TokenKind}
 use Rattle.ulam_lex.specs.declared.token.TokenKind.TheVariants as k
 use Rattle.ulam_parse.specs.Tokens.{Tok, tok, keywords, signs, symbol_in, symbol_of, toks}
-use Rattle.ulam_parse.specs.Grammar.{Span, TakesWord, IsWidth, IsSize, IsType, IsMember, AreMembers, AreItems, IsClass, IsFile, class_symbol}
+use Rattle.ulam_parse.specs.Grammar.{Span, IsWidth, IsSize, IsType, IsMember, AreMembers, AreItems, IsClass, IsFile, class_symbol}
 use Rattle.ulam_parse.specs.Reading.{Read, stops, tired}
 use Rattle.ulam_parse.specs.Files as read
 use Rattle.ulam_parse.specs.declared.symbol.Symbol.{Symbol}
@@ -23,7 +22,7 @@ use Rattle.ulam_parse.proofs.Tells.{Tells}
 use Rattle.ulam_parse.proofs.Rules.{Free}
 use Rattle.ulam_parse.proofs.FileRules.{member_law}
 use Rattle.ulam_heirs.specs.Heads.{is_taken, kept_at, at_each}
-use Rattle.ulam_tree.specs.Raw.{Word, Width, wide, wide_as, TypeRef, Member, typedef, constant, field, function, Class, Item, ulam, uses, class}
+use Rattle.ulam_tree.specs.Raw.{Width, wide, wide_as, TypeRef, Member, typedef, constant, field, function, Class, Item, ulam, uses, class}
 use Rattle.code_file.specs.Words.{is_name}
 use Rattle.element_set.proofs.TokensKept.{Each, item_keeps, takes_keeps}
 

@@ -1,5 +1,5 @@
 -- The codes of a program's elements leave of each window what the elements mean.
-use Rattle.std.proofs.Common.{ℕ, zero, suc, ◌≡◌, List, Option, Some, None, refl, sym, ap, ◌∙◌}
+use Rattle.std.proofs.Common.{ℕ, zero, suc, ◌≡◌, Option, Some, None, refl, sym, ap, ◌∙◌}
 use Rattle.std.specs.Prelude.{slice_get}
 use Rattle.window_sites.specs.Window.{WindowValue, atom_at}
 use Rattle.stack_code.specs.Machine.{CodeValue, runs}

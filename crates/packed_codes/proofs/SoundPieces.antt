@@ -1,13 +1,13 @@
 -- Pieces whose instructions have types of the file and which call functions of one sort, and the code that is laid down of them.
-use Rattle.std.proofs.Common.{ℕ, zero, suc, ◌≡◌, ◌+◌, ◌<◌, ◌≤◌, Bool, true, false, List, [], ◌∷◌, ◌++◌, length, Option, Some, None, arith}
+use Rattle.std.proofs.Common.{ℕ, zero, suc, ◌+◌, ◌≤◌, Bool, true, false, List, [], ◌∷◌, ◌++◌, Option, Some, None}
 use Rattle.std.specs.Prelude.{slice_get, if◌then◌else◌}
 use Rattle.std.specs.List.{AllByRecursion}
-use Rattle.stack_code.specs.Machine.{FunctionValue}
 use Rattle.stack_code.specs.declared.instr.Answer.{Answer}
 use Rattle.stack_code.specs.declared.instr.Answer.TheVariants.{Nothing, Number as NumberBack, Atom as AtomBack}
 use Rattle.stack_code.specs.declared.instr.Instr.{Instr}
+use Rattle.stack_code.specs.declared.instr.Instr.TheVariants.{Jump, JumpFalse, Turn}
 use Rattle.code_gen.specs.Pieces.{Key, Piece, none, seq, plain, asks, pick, only, loop, ever, out, next, gives, leaves, size, has_key, lay, add_calls}
-use Rattle.code_gen.specs.Drafts.{Drafts, codes, end_by, end_piece, key_piece, keys, on_key, reach, value_at, values}
+use Rattle.code_gen.specs.Drafts.{Drafts, codes, end_by, key_piece, keys, on_key, reach, value_at, values}
 use Rattle.code_file.specs.Ranged.{IsRanged, OfTypes}
 
 pub all_append : {A : Type 0} (P : A → Type 0) (xs ys : List A) → AllByRecursion P xs → AllByRecursion P ys → AllByRecursion P (xs ++ ys)
@@ -39,18 +39,26 @@ module _ (most : ℕ) (Good : Key → Type 0) where
   lay_sound ks (seq a b) p e c h = all_append (OfTypes most) (lay ks p e c a) (lay ks (p + size a) e c b) (lay_sound ks a p e c h.0) (lay_sound ks b (p + size a) e c h.1)
   lay_sound ks (plain i) p e c h = (h, tt)
   lay_sound ks (asks f) p e c h = (tt, tt)
-  lay_sound ks (pick a b) p e c h = (tt, all_append (OfTypes most) (lay ks (p + 1) e c a) _ (lay_sound ks a (p + 1) e c h.0) (tt, lay_sound ks b (p + 1 + size a + 1) e c h.1))
+  lay_sound ks (pick a b) p e c h =
+      let other = p + 1 + size a + 1 in
+      (tt, all_append (OfTypes most) (lay ks (p + 1) e c a) (Jump (other + size b) ∷ lay ks other e c b) (lay_sound ks a (p + 1) e c h.0) (tt, lay_sound ks b other e c h.1))
   lay_sound ks (only a) p e c h = (tt, lay_sound ks a (p + 1) e c h)
   lay_sound ks (loop t a b) p e c h =
       let q = p + size t + 1 in
       let past = q + size a + size b + 2 in
-      let back = q + size a in
-      all_append (OfTypes most) (lay ks p e c t) _ (lay_sound ks t p e c h.0)
-      (tt, all_append (OfTypes most) (lay ks q past back a) _ (lay_sound ks a q past back h.1) (all_append (OfTypes most) (lay ks back e c b) _ (lay_sound ks b back e c h.2) (tt, (tt, tt))))
+      let step = q + size a in
+      let round : List Instr = Turn ∷ (Jump p ∷ []) in
+      let xa = lay ks q past step a in
+      let xb = lay ks step e c b in
+      all_append (OfTypes most) (lay ks p e c t) (JumpFalse past ∷ (xa ++ (xb ++ round))) (lay_sound ks t p e c h.0)
+      (tt, all_append (OfTypes most) xa (xb ++ round) (lay_sound ks a q past step h.1) (all_append (OfTypes most) xb round (lay_sound ks b step e c h.2) (tt, (tt, tt))))
   lay_sound ks (ever a b) p e c h =
       let past = p + size a + size b + 2 in
-      let back = p + size a in
-      all_append (OfTypes most) (lay ks p past back a) _ (lay_sound ks a p past back h.0) (all_append (OfTypes most) (lay ks back e c b) _ (lay_sound ks b back e c h.1) (tt, (tt, tt)))
+      let step = p + size a in
+      let round : List Instr = Turn ∷ (Jump p ∷ []) in
+      let xa = lay ks p past step a in
+      let xb = lay ks step e c b in
+      all_append (OfTypes most) xa (xb ++ round) (lay_sound ks a p past step h.0) (all_append (OfTypes most) xb round (lay_sound ks b step e c h.1) (tt, (tt, tt)))
   lay_sound ks out p e c h = (tt, tt)
   lay_sound ks next p e c h = (tt, tt)
   lay_sound ks gives p e c h = (tt, tt)

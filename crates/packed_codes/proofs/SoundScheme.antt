@@ -1,6 +1,6 @@
 -- The pieces of typed trees make atoms of the program's types alone, and call functions that there are.
-use Rattle.std.proofs.Common.{ℕ, zero, suc, ◌≡◌, ◌+◌, ◌-◌, ◌<◌, ◌≤◌, ◌^◌, Bool, true, false, List, [], ◌∷◌, length, map, Option, Some, None, refl, sym, ap, subst, ◌∙◌, arith}
-use Rattle.std.specs.Prelude.{slice_get, slice_index_or, nat_le, pos, if◌then◌else◌}
+use Rattle.std.proofs.Common.{ℕ, zero, suc, ◌≡◌, ◌-◌, ◌<◌, ◌≤◌, ◌^◌, Bool, true, false, List, [], ◌∷◌, length, map, Option, Some, None, refl, sym, ap, subst, ◌∙◌, arith}
+use Rattle.std.specs.Prelude.{slice_get, nat_le, pos}
 use Rattle.std.specs.Option.{option_map_or}
 use Rattle.sat_math.specs.declared.NumType.{NumType}
 use Rattle.sat_math.specs.declared.Arith.{Arith}
@@ -19,16 +19,16 @@ use Rattle.ulam_tree.specs.Typed as t
 use Rattle.ulam_types.specs.Scopes as s
 use Rattle.ulam_types.specs.Programs.{class_sig, functions_of}
 use Rattle.ulam_types.specs.Well.{AreWell, IfSome, IsWell, IsWellBody, IsWellCond, IsWellForm, IsWellIndex, IsWellPart, IsWellResult, IsWellStatement, IsWellTest, IsWellValue}
-use Rattle.ulam_meaning.specs.Programs.{Function, Program, functions, type_number}
-use Rattle.ulam_meaning.specs.Paths.{Callee, Key, Scene, Spot, bit_of, built_in, called, callee, constant, itself, local, member, no_callee, nothing, part, spot, spot_type, window}
+use Rattle.ulam_meaning.specs.Programs.{Function, functions, type_number}
+use Rattle.ulam_meaning.specs.Paths.{Callee, Scene, Spot, bit_of, built_in, called, callee, constant, itself, local, member, no_callee, nothing, part, spot, spot_type, window}
 use Rattle.ulam_meaning.specs.Values.{arith_of, arith_with, number_type, width_of}
 use Rattle.ulam_meaning.specs.Statements.{count_op}
 use Rattle.stack_code.specs.declared.instr.Instr.{Instr}
 use Rattle.stack_code.specs.declared.instr.Instr.TheVariants.{AddI, AddL, AddU, AddV, DivI, DivL, DivU, DivV, MulI, MulL, MulU, MulV, Pop, PushNum, RemI, RemL, RemU, RemV, SubI, SubL, SubU, SubV}
 use Rattle.code_gen.specs.Pieces.{Piece, none, plain}
-use Rattle.code_gen.specs.Kinded.{PathIn, class_in}
+use Rattle.code_gen.specs.Kinded.{PathIn}
 use Rattle.code_gen.specs.Named.{AreNamed, IfNamed, IsNamed, IsNamedBody, IsNamedCond, IsNamedForm, IsNamedPart, IsNamedPath, IsNamedStatement}
-use Rattle.code_gen.specs.Scheme.{answer_of, args_piece, assign_piece, blank_instr, body_piece, built_instr, by_arith, call_piece, cond_piece, declare_piece, expr_piece, fit, form_piece, give_piece, if_nothing, if_swap, if_void, index_piece, load, load_at, loop_piece, minus_instr, nowhere, pair_instr, part_piece, prefix_instr, return_piece, statement_piece, store, store_at, update_instr}
+use Rattle.code_gen.specs.Scheme.{answer_of, args_piece, assign_piece, blank_instr, body_piece, built_instr, by_arith, call_piece, cond_piece, declare_piece, expr_piece, fit, form_piece, give_piece, if_nothing, if_swap, if_void, index_piece, load, load_at, loop_piece, minus_instr, nowhere, pair_instr, part_piece, prefix_instr, return_piece, statement_piece, store, store_at}
 use Rattle.code_gen.proofs.TypedKinds.{assigned_well}
 use Rattle.code_file.specs.Ranged.{OfTypes}
 use Rattle.packed_codes.proofs.SoundPieces.{Sound, end_sound}

@@ -1,5 +1,5 @@
 -- Functions keep their names and their parameters up to the typed tree, and each element keeps its `behave`.
-use Rattle.std.proofs.Common.{ℕ, zero, suc, ◌≡◌, ◌+◌, ◌<◌, ◌≤◌, Bool, true, false, ◌&&◌, ◌||◌, List, [], ◌∷◌, ◌++◌, length, Option, Some, None, refl, sym, ap, subst, ◌∙◌, arith, length-append, map, codes, bytes_eq, if◌then◌else◌}
+use Rattle.std.proofs.Common.{ℕ, zero, suc, ◌≡◌, ◌+◌, ◌<◌, ◌≤◌, Bool, true, false, ◌&&◌, ◌||◌, List, [], ◌∷◌, ◌++◌, length, Some, refl, sym, ap, subst, ◌∙◌, arith, length-append, map, codes, bytes_eq, if◌then◌else◌}
 use Rattle.std.specs.Prelude.{slice_get, slice_index_or}
 use Rattle.std.specs.List.{list_any}
 use Rattle.std.specs.Option.{option_map_or}
@@ -8,7 +8,7 @@ use Rattle.ulam_tree.specs.Resolved as r
 use Rattle.ulam_tree.specs.Typed as t
 use Rattle.ulam_names.specs.Scopes.{Head, Names, Text, no_names, most_params}
 use Rattle.ulam_names.specs.Classes.{HalfClass, Half, half_field, half_function, Known, is_behave, is_nothing, no_params}
-use Rattle.ulam_names.specs.ClassRelation.{AllBehave, AreClasses, AreItems, AreMembers, AreParams, AreWhole, IsMember, IsResolved, IsWhole}
+use Rattle.ulam_names.specs.ClassRelation.{AllBehave, AreClasses, AreItems, AreMembers, AreParams, AreWhole, IsMember, IsResolved}
 use Rattle.ulam_types.specs.Programs.{class_sig}
 use Rattle.ulam_types.specs.ProgramTyping.{AreTypedClasses, AreTypedMembers, IsTypedMember, IsTypedProgram}
 use Rattle.ulam_types.specs.Scopes.{ClassSig}
