@@ -1,4 +1,5 @@
 pub mod Again
+pub mod CodeStages
 pub mod Ended
 pub mod Generated
 pub mod Judged
@@ -10,6 +11,6 @@ pub mod PlansFit
 pub mod Promised
 pub mod Quiet
 pub mod Runs
-pub mod SetKnown
+pub mod Sound
 pub mod Sure
 pub mod Telling
