@@ -1,4 +1,4 @@
-mod Accepted
+pub mod Accepted
 mod Elements
 mod FlatWords
 mod FormedWords
