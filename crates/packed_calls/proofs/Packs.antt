@@ -26,7 +26,7 @@ use Rattle.packed_codes.specs.Packed.{packed}
 use Rattle.packed_codes.proofs.Accepted.{again, names, only, same}
 use Rattle.packed_calls.specs.PackedFile.{IsLoaded, IsPacked}
 use Rattle.packed_calls.proofs.Only.{Only, form_same}
-use Rattle.packed_calls.proofs.Shown.{OneTold, ran_same, stepped_same}
+use Rattle.packed_calls.proofs.Shown.{OneTold, one_report, ran_same, stepped_same}
 
 -- Loads
 
@@ -154,6 +154,9 @@ module _ (files : List File) (words : List (List ℕ)) (file : List ℕ) (packs 
 
   pub steps_to : (world text : List ℕ) → Shows files (step world words) text → Shows files (steppack world file) text
   steps_to world text = stepped_same files world text SetValue CodesValue source_elements code_elements (IsSet files words) (IsCodeFile files file) set (packed set) set_told codes_told (sym elements_same)
+
+  pub one_shown : (world a b : List ℕ) → Shows files (steppack world file) a → Shows files (step world words) b → a ≡ b
+  one_shown world a b p q = one_report files world a b SetValue source_elements (IsSet files words) set set_told (steps_from world a p) q
 
   pub runs_from : (world text : List ℕ) → Shows files (runpack world file) text → Shows files (run world words) text
   runs_from world text = ran_same files world text CodesValue SetValue code_elements source_elements (IsCodeFile files file) (IsSet files words) (packed set) set codes_told set_told elements_same
