@@ -7,21 +7,17 @@ use Rattle.element_set.proofs.OneSet.{set_one as built_one}
 use Rattle.element_set.specs.Sets.{SetValue, AcceptsFiles}
 use Rattle.feast_base.specs.Outside.{File, file_of}
 use Rattle.feast_run.proofs.CodeStages.{codes_are, codes_pass}
-use Rattle.feast_run.proofs.Laws.{decides_one, gives_one, known_one, then_one, went}
+use Rattle.feast_run.proofs.Laws.{gives_one, then_one, went}
 use Rattle.feast_run.proofs.Loads.{files_load}
 use Rattle.feast_run.proofs.Runs.{set_is}
-use Rattle.feast_run.specs.Answer.{shows, steps}
+use Rattle.feast_run.specs.Answer.{shows}
 use Rattle.feast_run.specs.CodeFiles.{code_limit, codes_from, codes_in}
 use Rattle.feast_run.specs.Elements.{ElementsValue, code_elements, source_elements}
 use Rattle.feast_run.specs.Forms.{run, runpack, step, steppack}
 use Rattle.feast_run.specs.Outcomes.{IsOne, Outcome, RefusedValue, Stage, and_then, passes, refuses}
 use Rattle.feast_run.specs.Packed.{pack_text}
 use Rattle.feast_run.specs.Promises.{IsCodeFile, IsSet, Shows}
-use Rattle.feast_run.specs.Stages.{ReadyValue, builds, draft_of, element_limit, load, load_all, load_more, named_by, ready_by, ready_with, set_of, world_limit, world_refused}
-use Rattle.feast_run.specs.Stepped.{IsSteppedRun, stepped_report}
-use Rattle.world_text.specs.Drafts.{DraftValue}
-use Rattle.world_text.specs.Named.{WorldValue, named}
-use Rattle.world_text.specs.Reading.{read_text}
+use Rattle.feast_run.specs.Stages.{ReadyValue, builds, element_limit, load, load_all, load_more, ready_by, set_of}
 use Rattle.packed_codes.specs.Packed.{packed}
 use Rattle.packed_codes.proofs.Accepted.{again, names, only, same}
 use Rattle.packed_calls.specs.PackedFile.{IsLoaded, IsPacked}
@@ -163,26 +159,3 @@ module _ (files : List File) (words : List (List ℕ)) (file : List ℕ) (packs 
 
   pub runs_to : (world text : List ℕ) → Shows files (run world words) text → Shows files (runpack world file) text
   runs_to world text = ran_same files world text SetValue CodesValue source_elements code_elements (IsSet files words) (IsCodeFile files file) set (packed set) set_told codes_told (sym elements_same)
-
-  -- a stepped run writes one text
-
-  sources_one : IsOne (set_of (Some files) words)
-  sources_one = record {
-    sure = record { apart = λ a r p q. set_only.never r q; one_refusal = λ r s p q. absurd (set_only.never r p) };
-    one_value = λ a b p q. set_only.one a p ∙ sym (set_only.one b q);
-  }
-
-  draft_one : (world : List ℕ) → IsOne (draft_of (Some files) world)
-  draft_one world = then_one _ _ (load_one files world_limit world) (λ bytes. decides_one (world_refused world) (read_text bytes))
-
-  named_one : (world : List ℕ) (draft : DraftValue) (e : ElementsValue) → IsOne (named_by world draft e)
-  named_one world draft e = then_one _ _ (decides_one (world_refused world) (named e.names draft)) (λ (w : WorldValue). gives_one (ready_with w e))
-
-  ready_one : (world : List ℕ) → IsOne (ready_by source_elements (set_of (Some files) words) (Some files) world)
-  ready_one world = then_one _ _ (draft_one world) (λ draft. then_one _ _ sources_one (λ a. named_one world draft (source_elements a)))
-
-  steps_one : (world : List ℕ) → IsOne (WithSources world steps)
-  steps_one world = then_one _ _ (ready_one world) (λ r. known_one (IsSteppedRun r) (stepped_report r))
-
-  pub one_text : (world a b : List ℕ) → WithCodes world steps (passes a) → WithSources world steps (passes b) → a ≡ b
-  one_text world a b p q = (steps_one world).one_value a b (from_pack world steps (passes a) tt p) q

@@ -3,7 +3,7 @@ ghost use Rattle.std.specs.Prelude.{◌≡◌, ◌↔◌, ℕ, List, Some};
 ghost use Rattle.feast_base.specs.Outside.{File};
 ghost use Rattle.feast_run.specs.Answer.{form_answer};
 ghost use Rattle.feast_run.specs.Forms.{run, runpack, step, steppack};
-ghost use Rattle.feast_run.specs.Outcomes.{Outcome, passes};
+ghost use Rattle.feast_run.specs.Outcomes.{Outcome};
 ghost use Rattle.feast_run.specs.Promises.{Shows};
 ghost use Rattle.packed_calls.specs.PackedFile.{IsLoaded, IsPacked};
 
@@ -13,7 +13,6 @@ ghost use Rattle.packed_calls.specs.PackedFile.{IsLoaded, IsPacked};
 /// told; and so it is with `runpack` and `run`. The call does nothing: its contract is the laws.
 pub fn packed_calls()
     ensures written { (files : List File) (world file : List ℕ) (words : List (List ℕ)) → IsPacked files words file → (a b : List ℕ) → Shows files (steppack world file) a → Shows files (step world words) b → a ≡ b }
-    ensures same { (files : List File) (world file : List ℕ) (words : List (List ℕ)) → IsPacked files words file → (a b : List ℕ) → form_answer (Some files) (steppack world file) (passes a) → form_answer (Some files) (step world words) (passes b) → a ≡ b }
     ensures step { (files : List File) (world file : List ℕ) (words : List (List ℕ)) → IsPacked files words file → (o : Outcome (List ℕ)) → IsLoaded o → form_answer (Some files) (steppack world file) o ↔ form_answer (Some files) (step world words) o }
     ensures run { (files : List File) (world file : List ℕ) (words : List (List ℕ)) → IsPacked files words file → (o : Outcome (List ℕ)) → IsLoaded o → form_answer (Some files) (runpack world file) o ↔ form_answer (Some files) (run world words) o }
     ensures stepped { (files : List File) (world file : List ℕ) (words : List (List ℕ)) → IsPacked files words file → (text : List ℕ) → Shows files (steppack world file) text ↔ Shows files (step world words) text }
