@@ -132,12 +132,12 @@ form_accepts files (pack words) h = then_accepts _ _ (set_one files words) h.0 (
 form_accepts files (run world words) h = then_accepts _ _ (sources_one files world words) (sourced h.0 h.1.given) (sources_pass files world words h.0 h.1) (λ s p. absurd p)
 form_accepts files (step world words) h = then_accepts _ _ (sources_one files world words) (sourced h.0 h.1.given) (sources_pass files world words h.0 h.1) (λ s p. absurd p)
 form_accepts files (replay world journal words) h =
-    then_accepts _ _ (sources_one files world words) (sourced h.0 h.2.given) (sources_pass files world words h.0 h.2)
-    (then_accepts _ _ (journal_one files journal h.0) h.1 h.3 (λ s p. absurd p))
+    then_accepts _ _ (sources_one files world words) (sourced h.0 h.2.0.given) (sources_pass files world words h.0 h.2.0)
+    (then_accepts _ _ (journal_one files journal h.0) h.1 h.2.1 (λ s p. absurd p))
 form_accepts files (gen number) h = then_accepts _ _ own_one accepted.0 accepted.1 (λ s p. absurd p)
 form_accepts files (audit world report words) h =
-    let b = went _ _ h.1 h.3 in
-    then_accepts _ _ (sources_one files world words) (sourced h.0 h.2.given) (sources_pass files world words h.0 h.2)
+    let b = went _ _ h.1 h.2.1 in
+    then_accepts _ _ (sources_one files world words) (sourced h.0 h.2.0.given) (sources_pass files world words h.0 h.2.0)
     (then_accepts _ _ (load_one files journal_limit report) b.value b.passed (then_accepts _ _ (in_one report h.0 b.value) h.1 b.rest (λ s p. absurd p)))
 form_accepts files (rewind world report k words) h =
     then_accepts _ _ (sources_one files world words) (sourced h.0 h.2.0.given) (sources_pass files world words h.0 h.2.0)
