@@ -1,8 +1,8 @@
 -- Stages that pass with one value and refuse nothing, and what may stand in place of them.
-use Rattle.std.proofs.Common.{ℕ, ◌≡◌, List, Option, refl, sym, ap, subst, inl, inr}
+use Rattle.std.proofs.Common.{ℕ, ◌≡◌, List, Option, subst, inl, inr}
 use Rattle.feast_base.specs.Outside.{File}
 use Rattle.feast_run.specs.Elements.{ElementsValue}
-use Rattle.feast_run.specs.Outcomes.{Outcome, passes, refuses, misses, RefusedValue, Stage, Halts, Goes, and_then}
+use Rattle.feast_run.specs.Outcomes.{Outcome, passes, refuses, misses, RefusedValue, Stage, Goes, and_then}
 use Rattle.feast_run.specs.Stages.{ReadyValue, draft_of, named_by, ready_by, with_elements}
 use Rattle.packed_calls.specs.PackedFile.{IsLoaded}
 

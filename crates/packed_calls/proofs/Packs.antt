@@ -1,20 +1,20 @@
 -- A packed code file gives the elements of the files that it was packed of.
-use Rattle.std.proofs.Common.{ℕ, ◌≡◌, ◌<◌, ◌≤◌, List, [], ◌∷◌, ◌++◌, length, Option, Some, None, Ok, Err, Result, refl, sym, ap, subst, ◌∙◌, arith, inl, inr}
-use Rattle.code_file.specs.Form.{CodesValue, file_bytes}
+use Rattle.std.proofs.Common.{ℕ, ◌≡◌, List, [], ◌∷◌, ◌++◌, length, Option, Some, None, Ok, Err, Result, sym, ap, subst, ◌∙◌, arith, inl, inr}
+use Rattle.code_file.specs.Form.{CodesValue}
 use Rattle.code_file.specs.Judging.{Reads}
 use Rattle.code_file.specs.declared.fault.CodeFault.{CodeFault}
 use Rattle.element_set.proofs.OneSet.{set_one as built_one}
 use Rattle.element_set.specs.Sets.{SetValue, AcceptsFiles}
-use Rattle.feast_base.specs.Outside.{File, file_of}
+use Rattle.feast_base.specs.Outside.{File}
 use Rattle.feast_run.proofs.CodeStages.{codes_are, codes_pass}
 use Rattle.feast_run.proofs.Laws.{gives_one, then_one, went}
 use Rattle.feast_run.proofs.Loads.{files_load}
 use Rattle.feast_run.proofs.Runs.{set_is}
 use Rattle.feast_run.specs.Answer.{shows}
 use Rattle.feast_run.specs.CodeFiles.{code_limit, codes_from, codes_in}
-use Rattle.feast_run.specs.Elements.{ElementsValue, code_elements, source_elements}
+use Rattle.feast_run.specs.Elements.{code_elements, source_elements}
 use Rattle.feast_run.specs.Forms.{run, runpack, step, steppack}
-use Rattle.feast_run.specs.Outcomes.{IsOne, Outcome, RefusedValue, Stage, and_then, passes, refuses}
+use Rattle.feast_run.specs.Outcomes.{IsOne, Outcome, Stage, and_then, passes, refuses}
 use Rattle.feast_run.specs.Packed.{pack_text}
 use Rattle.feast_run.specs.Promises.{IsCodeFile, IsSet, Shows}
 use Rattle.feast_run.specs.Stages.{ReadyValue, builds, element_limit, load, load_all, load_more, ready_by, set_of}
