@@ -51,14 +51,14 @@ loads_one files done (word ∷ words) = then_one _ _ (load_one files element_lim
 -- The set that was packed
 
 module _ (files : List File) (words : List (List ℕ)) (file : List ℕ) (packs : IsPacked files words file) where
-  record Set : Type 0 where
+  record Sources : Type 0 where
     pub set : SetValue
     pub sources : List File
     pub loaded : load_all (Some files) words (passes sources)
     pub accepted : AcceptsFiles sources set
     pub text : packs.text ≡ pack_text set
 
-  the_set : Set
+  the_set : Sources
   the_set =
       let s = went (set_of (Some files) words) (shows pack_text) packs.text packs.packed in
       let b = went (load_all (Some files) words) (builds words) s.value s.passed in
