@@ -8,10 +8,14 @@ use std::test::Fail;
 use std::thread::Threads;
 
 /// The files that are there. The report of `w` has more than 4,096 bytes, and less than 8,192.
-const FILES: [(&str, &str); 4] = [
+const FILES: [(&str, &str); 5] = [
     (
         "e",
         "element Walker { EventWindow ew; Void behave() { ew.swap(0, 4); } }",
+    ),
+    (
+        "c",
+        "FEASTC\x01\0\0\x01\0\0\0\x06Walker\0\0\0\x01\0\0\0\x06behave\0\0\0\0\0\0\0\0\0\0\0\x04\0\0\0\0\0\0\0\0\0\0\0\0\0\0\0\0\0\0\0\x04\x0c0",
     ),
     ("w", "feast 1\ntiles 1 1\nsize 8 8\nseed 7\nattempts 200\n"),
     (
@@ -25,12 +29,14 @@ const FILES: [(&str, &str); 4] = [
 ];
 
 /// Calls that end well, each with the files that it loads, in order.
-const CALLS: [(&str, &str); 5] = [
+const CALLS: [(&str, &str); 7] = [
     ("check e", "e"),
     ("code e", "e"),
     ("run w e", "w e"),
     ("step w e", "w e"),
     ("replay walk j e", "walk e j"),
+    ("steppack w c", "w c"),
+    ("runpack w c", "w c"),
 ];
 
 /// Puts that fail, each with how many first bytes of its piece are still appended.

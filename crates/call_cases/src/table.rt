@@ -8,7 +8,7 @@ use std::test::Fail;
 use std::thread::Threads;
 
 /// The files that are there, by their names.
-const FILES: [(&str, &str); 19] = [
+const FILES: [(&str, &str); 21] = [
     // elements
     ("empty", ""),
     ("byte", "@"),
@@ -27,6 +27,15 @@ const FILES: [(&str, &str); 19] = [
         "element Walker { EventWindow ew; Void behave() { ew.swap(0, 4); } }",
     ),
     ("stone", "element Stone { Void behave() { } }"),
+    // code files: that of the walker, and without its last byte
+    (
+        "coded",
+        "FEASTC\x01\0\0\x01\0\0\0\x06Walker\0\0\0\x01\0\0\0\x06behave\0\0\0\0\0\0\0\0\0\0\0\x04\0\0\0\0\0\0\0\0\0\0\0\0\0\0\0\0\0\0\0\x04\x0c0",
+    ),
+    (
+        "cut",
+        "FEASTC\x01\0\0\x01\0\0\0\x06Walker\0\0\0\x01\0\0\0\x06behave\0\0\0\0\0\0\0\0\0\0\0\x04\0\0\0\0\0\0\0\0\0\0\0\0\0\0\0\0\0\0\0\x04\x0c",
+    ),
     // worlds
     (
         "walk",
@@ -70,7 +79,7 @@ const USAGE: &str =
     "E00 usage: feast check|code|pack FILE.. | step|run WORLD FILE.. | steppack|runpack WORLD CODE | replay WORLD JOURNAL FILE.. | audit WORLD REPORT FILE.. | rewind WORLD REPORT K FILE.. | gen N\n";
 
 /// Calls by their words, with what they answer and put.
-const CALLS: [(&str, Status, &str); 22] = [
+const CALLS: [(&str, Status, &str); 31] = [
     (
         "check counter",
         Status::Done,
@@ -173,6 +182,49 @@ const CALLS: [(&str, Status, &str); 22] = [
         "replay garden missing stone",
         Status::WorldRefused,
         "garden:5:1: E73 unknown element\n",
+    ),
+    (
+        "steppack two coded",
+        Status::Done,
+        "feast 1\natoms 2\n4 4 Walker 000000000000000000\n29 4 Walker 000000000000000000\njournal 2\n1 0 0 3 4 0000000000000000\n1 1 0 28 4 0000000000000000\nabandoned 0\n",
+    ),
+    (
+        "runpack two coded",
+        Status::Done,
+        "feast 1\natoms 2\n4 4 Walker 000000000000000000\n29 4 Walker 000000000000000000\njournal 2\n1 0 0 3 4 0000000000000000\n1 1 0 28 4 0000000000000000\nabandoned 0\n",
+    ),
+    (
+        "runpack walk coded",
+        Status::Done,
+        "feast 1\natoms 1\n4 4 Walker 000000000000000000\njournal 1\n1 0 0 3 4 0000000000000000\nabandoned 0\n",
+    ),
+    ("steppack walk coded coded", Status::Usage, USAGE),
+    // the world is read before the code file is loaded
+    (
+        "steppack narrow missing",
+        Status::WorldRefused,
+        "narrow:3:1: E72 number out of range\n",
+    ),
+    (
+        "runpack walk missing",
+        Status::Unreadable,
+        "missing: E01 unreadable\n",
+    ),
+    (
+        "steppack walk walker",
+        Status::CodeRefused,
+        "walker:1:1: E61 not a code file\n",
+    ),
+    // a code file is refused before the names of a world
+    (
+        "runpack strange cut",
+        Status::CodeRefused,
+        "cut:1:68: E62 bad code file\n",
+    ),
+    (
+        "steppack strange coded",
+        Status::WorldRefused,
+        "strange:4:1: E73 unknown element\n",
     ),
 ];
 

@@ -2,19 +2,18 @@
 use Rattle.std.proofs.Common.{ℕ, ◌≡◌, ◌≤◌, List, ◌++◌, Ok, codes, length, ap, sym, subst, ◌∙◌, inr}
 use Rattle.cell_grid.specs.Grid.{GridValue}
 use Rattle.cell_grid.specs.declared.record.Record.{Record}
-use Rattle.element_set.proofs.FormedNames.{names_formed}
-use Rattle.element_set.specs.Sets.{SetValue, element_names}
 use Rattle.event_journal.specs.Reading.{read_report}
 use Rattle.event_journal.specs.declared.abandoned.Abandoned.{Abandoned}
 use Rattle.feast_base.specs.Outside.{File}
 use Rattle.feast_run.proofs.Machines.{left_named}
 use Rattle.feast_run.proofs.PlansFit.{HasSize, left_size, plan_fits}
 use Rattle.feast_run.proofs.ReportLength.{formed_short, report_short}
-use Rattle.feast_run.proofs.SetKnown.{brings_none}
+use Rattle.feast_run.proofs.Sound.{AreSound}
 use Rattle.feast_run.specs.Again.{ReplaysTo}
+use Rattle.feast_run.specs.Elements.{ElementsValue}
 use Rattle.feast_run.specs.Owing.{IsRun}
 use Rattle.feast_run.specs.Promises.{WorldTold}
-use Rattle.feast_run.specs.Stages.{JournalValue, journal_limit, journal_said, sourced}
+use Rattle.feast_run.specs.Stages.{JournalValue, journal_limit, journal_said, ready_with}
 use Rattle.grid_print.proofs.ReadAgain.{read_again}
 use Rattle.grid_print.specs.Again.{IsLeft}
 use Rattle.grid_print.specs.Report.{atoms_text, report}
@@ -23,25 +22,23 @@ use Rattle.world_text.specs.Named.{WorldValue}
 use Rattle.world_text.specs.Printed.{IsNamed}
 
 -- the report of what a run of a told world left
-pub replays_to : (files : List File) (word : List ℕ) (words : List (List ℕ)) (world : WorldValue) (set : SetValue) (grid : GridValue) (records : List Record) (abandoned : List Abandoned) (text : List ℕ) →
-    WorldTold files word words world set → IsRun (sourced world set) grid records abandoned → text ≡ report (element_names set) grid records abandoned → ReplaysTo (sourced world set) text grid
-replays_to files word words world set grid records abandoned text told run shown =
-    let r = sourced world set in
-    let names = element_names set in
+pub replays_to : (files : List File) (word : List ℕ) (world : WorldValue) (e : ElementsValue) (grid : GridValue) (records : List Record) (abandoned : List Abandoned) (text : List ℕ) → AreSound e →
+    WorldTold files word e.names world → IsRun (ready_with world e) grid records abandoned → text ≡ report e.names grid records abandoned → ReplaysTo (ready_with world e) text grid
+replays_to files word world e grid records abandoned text sound told run shown =
+    let names = e.names in
     let named : IsNamed names world = (told.reads.0, read_draft told.bytes told.reads.0 told.reads.1, told.reads.2) in
-    let size = subst (HasSize world.plane) (sym run.replayed) (left_size world.plane r.meaning world.atoms records) in
+    let size = subst (HasSize world.plane) (sym run.replayed) (left_size world.plane e.meaning world.atoms records) in
     let left : IsLeft names world.plane world.plan grid records abandoned = record {
       wide = size.wide;
       sites = size.sites;
-      named = left_named r grid records run.replayed (brings_none set) (world_known names world named);
+      named = left_named (ready_with world e) grid records run.replayed sound.brings (world_known names world named);
       accounted = run.accounted;
       stamped = run.stamped;
       excused = run.excused;
     } in
-    let formed = names_formed told.is_set.sources set told.is_set.accepted in
     let fits = plan_fits names world named in
-    let says = read_again names world.plane world.plan formed fits grid records abandoned left in
-    let short = report_short names world.plane world.plan (formed_short names formed) fits grid records abandoned left in
+    let says = read_again names world.plane world.plan sound.named fits grid records abandoned left in
+    let short = report_short names world.plane world.plan (formed_short names sound.named) fits grid records abandoned left in
     let journal : JournalValue = record { records = records; abandoned = abandoned } in
     let reads : journal_said (read_report world.plane world.plan.lists text) ≡ Ok journal =
     ap (λ bytes. journal_said (read_report world.plane world.plan.lists bytes)) shown ∙ ap journal_said says.1 ∙ (λ i. Ok (record { records = says.2 i; abandoned = says.3 i })) in

@@ -1,12 +1,12 @@
 -- What the run of a generated world comes to.
 use Rattle.std.proofs.Common.{ℕ, ◌≡◌, List, Result, Ok, Err, refl, ap, subst, sym, ◌∙◌}
 use Rattle.std.specs.Result.{IfOk}
-use Rattle.element_set.specs.Sets.{SetValue}
 use Rattle.event_journal.specs.Logs.{abandoned_in, records_in}
 use Rattle.feast_base.specs.Outside.{Stock}
 use Rattle.feast_run.proofs.Machines.{is_run, machine_grid, machine_logs}
-use Rattle.feast_run.specs.Generating.{generated_ready, stepped_summary}
-use Rattle.feast_run.specs.Stages.{sourced}
+use Rattle.feast_run.specs.Elements.{ElementsValue}
+use Rattle.feast_run.specs.Generating.{stepped_summary}
+use Rattle.feast_run.specs.Stages.{ready_with}
 use Rattle.feast_run.specs.Stepped.{IsOutcomeOf, IsSteppedRun}
 use Rattle.feast_run.specs.Tellings.{MissesNone, Moves}
 use Rattle.feast_run.specs.declared.stop.Stop.{Stop}
@@ -21,16 +21,16 @@ use Rattle.world_text.specs.Named.{WorldValue}
 pub order_drawn : (number : ℕ) (w : WorldValue) → w ≡ generated number → IsOrder w.plane w.order
 order_drawn number w e = subst (λ (v : WorldValue). IsOrder v.plane v.order) (sym e) tt
 
-pub is_generated_run : (number : ℕ) (w : WorldValue) (set : SetValue) (o : Outcome) → w ≡ generated number → IsOutcomeOf (sourced w set) o → IsSteppedRun (generated_ready number set)
-is_generated_run number w set o e h = subst (λ (v : WorldValue). IsSteppedRun (sourced v set)) e (is_run (sourced w set) o h)
+pub is_generated_run : (number : ℕ) (w : WorldValue) (es : ElementsValue) (o : Outcome) → w ≡ generated number → IsOutcomeOf (ready_with w es) o → IsSteppedRun (ready_with (generated number) es)
+is_generated_run number w es o e h = subst (λ (v : WorldValue). IsSteppedRun (ready_with v es)) e (is_run (ready_with w es) o h)
 
-pub summary_is : (number : ℕ) (w : WorldValue) (set : SetValue) (o : Outcome) → w ≡ generated number → IsOutcomeOf (sourced w set) o →
-    summary number o.grid (records_in o.journal) (abandoned_in o.journal) ≡ stepped_summary number (generated_ready number set)
-summary_is number w set o e h =
-    let r = sourced w set in
+pub summary_is : (number : ℕ) (w : WorldValue) (es : ElementsValue) (o : Outcome) → w ≡ generated number → IsOutcomeOf (ready_with w es) o →
+    summary number o.grid (records_in o.journal) (abandoned_in o.journal) ≡ stepped_summary number (ready_with (generated number) es)
+summary_is number w es o e h =
+    let r = ready_with w es in
     let of_world : summary number o.grid (records_in o.journal) (abandoned_in o.journal) ≡ stepped_summary number r =
     (λ i. summary number (machine_grid r o h i) (records_in (machine_logs r o h i)) (abandoned_in (machine_logs r o h i))) in
-    of_world ∙ ap (λ (v : WorldValue). stepped_summary number (sourced v set)) e
+    of_world ∙ ap (λ (v : WorldValue). stepped_summary number (ready_with v es)) e
 
 -- where no load failed and no shelf was used, the shelf is as it was
 pub unmoved : {X : Type 0} (s : Stock) (r : Result X Stop) → MissesNone r → Moves s s r

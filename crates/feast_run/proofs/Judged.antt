@@ -5,12 +5,12 @@ use Rattle.cell_grid.specs.Grid.{GridValue}
 use Rattle.cell_grid.specs.Records.{replay}
 use Rattle.cell_grid.specs.declared.record.Record.{Record}
 use Rattle.draw_stream.specs.declared.attempt.Attempt.{Attempt}
-use Rattle.element_set.specs.Sets.{Coded, SetValue, element_names, program_of}
+use Rattle.element_set.specs.Sets.{Coded}
 use Rattle.feast_run.specs.Answer.{rewinds}
 use Rattle.feast_run.specs.Audited.{Audits, judged_world}
 use Rattle.feast_run.specs.Faults.{IsStop}
 use Rattle.feast_run.specs.Outcomes.{RefusedValue}
-use Rattle.feast_run.specs.Stages.{JournalValue, ReadyValue, records_refused, sourced}
+use Rattle.feast_run.specs.Stages.{JournalValue, ReadyValue, records_refused}
 use Rattle.feast_run.specs.Tellings.{Tells}
 use Rattle.feast_run.specs.declared.stop.Stop.{Stop}
 use Rattle.feast_run.specs.declared.stop.Stop.TheVariants.{Missing, NoMemory, Refused}
@@ -19,7 +19,6 @@ use Rattle.journal_check.specs.Telling.{IsPlanOf}
 use Rattle.report_judge.specs.Judging.{Judges, Setting, judgement_text}
 use Rattle.report_judge.specs.declared.judgement.Judgement.{Judgement}
 use Rattle.tile_map.specs.Plane.{MapValue}
-use Rattle.ulam_meaning.specs.Events.{after}
 use Rattle.window_sites.specs.Window.{WindowValue}
 use Rattle.world_grid.proofs.KnownAtoms.{replay_known, start_known}
 use Rattle.world_grid.proofs.Valid.{world_known}
@@ -43,9 +42,9 @@ replay_named names w means g rs h brings is =
     replay_known n means g rs brings first
 
 -- the setting of a judgement whose parts are a world's
-pub setting_same : (w : WorldValue) (s t : SetValue) (m : MapValue) (g : GridValue) (names : List (List ℕ)) → m ≡ w.plane → s ≡ t → names ≡ element_names t → g ≡ start_grid w.plane w.atoms →
-    record { map = m; plan = w.plan; meaning = after (program_of s); names = names; start = g } ≡ judged_world (sourced w t)
-setting_same w s t m g names em es en eg = λ i. record { map = em i; plan = w.plan; meaning = after (program_of (es i)); names = en i; start = eg i }
+pub setting_same : (r : ReadyValue) (m : MapValue) (means : WindowValue → ℕ → WindowValue) (names : List (List ℕ)) (g : GridValue) → m ≡ r.world.plane → means ≡ r.meaning → names ≡ r.names → g ≡ start_grid r.world.plane r.world.atoms →
+    record { map = m; plan = r.world.plan; meaning = means; names = names; start = g } ≡ judged_world r
+setting_same r m means names g em ea en eg = λ i. record { map = em i; plan = r.world.plan; meaning = ea i; names = en i; start = eg i }
 
 -- the line of a right judgement
 pub line_audits : {A E : Type 0} (items : A → List ℕ) (r : ReadyValue) (bytes : List ℕ) (j : JournalValue) (s : Setting) (judgement : Judgement) (text : Result A E) → s ≡ judged_world r → Judges s bytes j.records j.abandoned judgement →

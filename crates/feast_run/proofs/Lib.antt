@@ -1,4 +1,5 @@
 pub mod Again
+pub mod CodeStages
 pub mod Ended
 pub mod Generated
 pub mod Judged
@@ -11,6 +12,6 @@ pub mod Promised
 pub mod Quiet
 pub mod ReportLength
 pub mod Runs
-pub mod SetKnown
+pub mod Sound
 pub mod Sure
 pub mod Telling

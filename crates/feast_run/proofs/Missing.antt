@@ -3,11 +3,13 @@ use Rattle.std.proofs.Common.{ℕ, ◌≡◌, List, [], ◌∷◌, Option, Some,
 use Rattle.feast_base.specs.Outside.{File, Stock, Told}
 use Rattle.feast_run.proofs.Laws.{then_misses}
 use Rattle.feast_run.specs.Answer.{form_answer}
+use Rattle.feast_run.specs.CodeFiles.{codes_from, ready_packed}
+use Rattle.feast_run.specs.Elements.{ElementsValue, code_elements, source_elements}
 use Rattle.feast_run.specs.Ending.{Ends, Leaves, status_of}
-use Rattle.feast_run.specs.Forms.{FormValue, check, code, pack, run, step, replay, gen, audit, rewind}
-use Rattle.feast_run.specs.Outcomes.{Outcome, MissesOf, passes, refuses, misses}
+use Rattle.feast_run.specs.Forms.{FormValue, check, code, pack, run, step, replay, gen, audit, rewind, steppack, runpack}
+use Rattle.feast_run.specs.Outcomes.{Stage, Outcome, MissesOf, passes, refuses, misses}
 use Rattle.feast_run.specs.Promises.{Noted, IsWordOf, file_words}
-use Rattle.feast_run.specs.Stages.{draft_of, load_more, ready, set_of, with_set}
+use Rattle.feast_run.specs.Stages.{draft_of, load_more, ready, ready_by, set_of, with_elements}
 use Rattle.feast_run.specs.declared.status.Status.{Status}
 use Rattle.feast_run.specs.declared.status.Status.TheVariants as how
 use Rattle.world_text.specs.Drafts.{DraftValue}
@@ -20,15 +22,25 @@ loads_miss P files done (word ∷ words) f = then_misses P _ _ (λ w h. f w (inl
 set_misses : (files : Option (List File)) (words : List (List ℕ)) → MissesOf (IsWordOf words) (set_of files words)
 set_misses files words = then_misses _ _ _ (loads_miss _ files [] words (λ w h. h)) (λ s w h. absurd h)
 
--- a world with its elements
-with_misses : (files : Option (List File)) (world : List ℕ) (words : List (List ℕ)) (d : DraftValue) → MissesOf (IsWordOf (world ∷ words)) (with_set files world words d)
-with_misses files world words d = then_misses (IsWordOf (world ∷ words)) _ _ (λ w h. inr (set_misses files words w h)) (λ s. then_misses (IsWordOf (world ∷ words)) _ _ (λ w h. absurd h) (λ v w h. absurd h))
+-- a code file
+codes_miss : (files : Option (List File)) (file : List ℕ) → MissesOf (IsWordOf (file ∷ [])) (codes_from files file)
+codes_miss files file = then_misses (IsWordOf (file ∷ [])) _ _ (λ w h. inl h) (λ bytes w h. absurd h)
 
+-- a world with its elements
 draft_misses : (files : Option (List File)) (world : List ℕ) (words : List (List ℕ)) → MissesOf (IsWordOf (world ∷ words)) (draft_of files world)
 draft_misses files world words = then_misses (IsWordOf (world ∷ words)) _ _ (λ w h. inl h) (λ b w h. absurd h)
 
-ready_misses : (files : Option (List File)) (world : List ℕ) (words : List (List ℕ)) → MissesOf (IsWordOf (world ∷ words)) (ready files world words)
-ready_misses files world words = then_misses (IsWordOf (world ∷ words)) _ _ (draft_misses files world words) (with_misses files world words)
+with_misses : {X : Type 0} (elements : X → ElementsValue) (S : Stage X) (world : List ℕ) (words : List (List ℕ)) (d : DraftValue) → MissesOf (IsWordOf words) S → MissesOf (IsWordOf (world ∷ words)) (with_elements elements S world d)
+with_misses elements S world words d f = then_misses (IsWordOf (world ∷ words)) _ _ (λ w h. inr (f w h)) (λ x. then_misses (IsWordOf (world ∷ words)) _ _ (λ w h. absurd h) (λ v w h. absurd h))
+
+ready_misses : {X : Type 0} (elements : X → ElementsValue) (S : Stage X) (files : Option (List File)) (world : List ℕ) (words : List (List ℕ)) → MissesOf (IsWordOf words) S → MissesOf (IsWordOf (world ∷ words)) (ready_by elements S files world)
+ready_misses elements S files world words f = then_misses (IsWordOf (world ∷ words)) _ _ (draft_misses files world words) (λ d. with_misses elements S world words d f)
+
+sources_miss : (files : Option (List File)) (world : List ℕ) (words : List (List ℕ)) → MissesOf (IsWordOf (world ∷ words)) (ready files world words)
+sources_miss files world words = ready_misses source_elements (set_of files words) files world words (set_misses files words)
+
+packed_miss : (files : Option (List File)) (world file : List ℕ) → MissesOf (IsWordOf (world ∷ file ∷ [])) (ready_packed files world file)
+packed_miss files world file = ready_misses code_elements (codes_from files file) files world (file ∷ []) (codes_miss files file)
 
 -- one word more
 later_word : (world journal : List ℕ) (words : List (List ℕ)) (w : List ℕ) → IsWordOf (world ∷ words) w → IsWordOf (world ∷ journal ∷ words) w
@@ -39,18 +51,20 @@ pub form_misses : (files : Option (List File)) (form : FormValue) → MissesOf (
 form_misses files (check words) = then_misses _ _ _ (set_misses files words) (λ s w h. absurd h)
 form_misses files (code words) = then_misses _ _ _ (set_misses files words) (λ s w h. absurd h)
 form_misses files (pack words) = then_misses _ _ _ (set_misses files words) (λ s w h. absurd h)
-form_misses files (run world words) = then_misses _ _ _ (ready_misses files world words) (λ r w h. absurd h)
-form_misses files (step world words) = then_misses _ _ _ (ready_misses files world words) (λ r w h. absurd h)
+form_misses files (run world words) = then_misses _ _ _ (sources_miss files world words) (λ r w h. absurd h)
+form_misses files (step world words) = then_misses _ _ _ (sources_miss files world words) (λ r w h. absurd h)
 form_misses files (replay world journal words) =
-    then_misses (IsWordOf (world ∷ journal ∷ words)) _ _ (λ w h. later_word world journal words w (ready_misses files world words w h))
+    then_misses (IsWordOf (world ∷ journal ∷ words)) _ _ (λ w h. later_word world journal words w (sources_miss files world words w h))
     (λ r. then_misses (IsWordOf (world ∷ journal ∷ words)) _ _ (then_misses (IsWordOf (world ∷ journal ∷ words)) _ _ (λ w h. inr (inl h)) (λ b w h. absurd h)) (λ j w h. absurd h))
 form_misses files (gen number) = then_misses _ _ _ (λ w h. absurd h) (λ set w h. absurd h)
 form_misses files (audit world report words) =
-    then_misses (IsWordOf (world ∷ report ∷ words)) _ _ (λ w h. later_word world report words w (ready_misses files world words w h))
+    then_misses (IsWordOf (world ∷ report ∷ words)) _ _ (λ w h. later_word world report words w (sources_miss files world words w h))
     (λ r. then_misses (IsWordOf (world ∷ report ∷ words)) _ _ (λ w h. inr (inl h)) (λ b. then_misses (IsWordOf (world ∷ report ∷ words)) _ _ (λ w h. absurd h) (λ j w h. absurd h)))
 form_misses files (rewind world report k words) =
-    then_misses (IsWordOf (world ∷ report ∷ words)) _ _ (λ w h. later_word world report words w (ready_misses files world words w h))
+    then_misses (IsWordOf (world ∷ report ∷ words)) _ _ (λ w h. later_word world report words w (sources_miss files world words w h))
     (λ r. then_misses (IsWordOf (world ∷ report ∷ words)) _ _ (then_misses (IsWordOf (world ∷ report ∷ words)) _ _ (λ w h. inr (inl h)) (λ b w h. absurd h)) (λ j w h. absurd h))
+form_misses files (steppack world file) = then_misses _ _ _ (packed_miss files world file) (λ r w h. absurd h)
+form_misses files (runpack world file) = then_misses _ _ _ (packed_miss files world file) (λ r w h. absurd h)
 
 noted_by : (f : FormValue) (old new : Stock) (o : Outcome (List ℕ)) (status : Status) → form_answer old.files f o → Leaves old new o →
     ((w : List ℕ) → o ≡ misses w → (status ≡ how.Unreadable) ⊎ ((status ≡ how.SinkFault) ⊎ (status ≡ how.NoMemory))) → Noted (Some f) old new status

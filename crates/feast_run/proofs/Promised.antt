@@ -6,19 +6,23 @@ use Rattle.feast_base.specs.Outside.{File, Grows, Stock, Told}
 use Rattle.feast_base.specs.Refusals.{refusal_line, unreadable_line}
 use Rattle.event_journal.specs.Logs.{abandoned_in, records_in}
 use Rattle.feast_run.proofs.Again.{replays_to}
+use Rattle.feast_run.proofs.CodeStages.{codes_are}
 use Rattle.feast_run.proofs.Laws.{went}
 use Rattle.feast_run.proofs.Runs.{ready_told, set_is}
+use Rattle.feast_run.proofs.Sound.{AreSound, codes_sound, set_sound}
 use Rattle.feast_run.proofs.Sure.{form_accepts, form_sure}
-use Rattle.feast_run.specs.Answer.{form_answer, replay_of, rewind_of, shows}
+use Rattle.feast_run.specs.Answer.{form_answer, replay_of, rewind_of, runs, shows, steps}
 use Rattle.feast_run.specs.Audited.{audit_of}
+use Rattle.feast_run.specs.CodeFiles.{codes_from}
+use Rattle.feast_run.specs.Elements.{ElementsValue, code_elements, source_elements}
 use Rattle.feast_run.specs.Ending.{Ends, Leaves, Whole, status_of, status_of_input, text_of}
 use Rattle.feast_run.specs.Packed.{pack_text}
-use Rattle.feast_run.specs.Forms.{FormValue, check, code, pack, run, step, replay, gen, audit, rewind}
+use Rattle.feast_run.specs.Forms.{FormValue, check, code, pack, run, step, replay, gen, audit, rewind, steppack, runpack}
 use Rattle.feast_run.specs.Generating.{generates}
 use Rattle.feast_run.specs.Outcomes.{Accepts, IsSure, Outcome, RefusedValue, Stage, and_then, passes, refuses, misses}
-use Rattle.feast_run.specs.Promises.{Agrees, Complete, Exactly, GenTold, Headline, Lines, RanTold, ReplayTold, SetTold, SteppedTold, Shows, UsageExactly, AuditTold, RewindTold}
+use Rattle.feast_run.specs.Promises.{Agrees, Complete, Exactly, GenTold, Headline, IsCodeFile, IsSet, Lines, RanTold, ReplayTold, SetTold, SteppedTold, Shows, UsageExactly, AuditTold, RewindTold}
 use Rattle.feast_run.specs.Owing.{Reports}
-use Rattle.feast_run.specs.Stages.{ReadyValue, set_of, sourced}
+use Rattle.feast_run.specs.Stages.{ReadyValue, ready_by, ready_with, set_of}
 use Rattle.feast_run.specs.Stepped.{IsSteppedRun, machine_of, stepped_logs, stepped_report}
 use Rattle.feast_run.specs.declared.status.Status.{Status}
 use Rattle.feast_run.specs.declared.status.Status.TheVariants as how
@@ -32,48 +36,64 @@ set_told text files words appended h =
     let s = went _ _ appended h in
     record { set = s.value; is_set = set_is files words s.value s.passed; shown = s.rest }
 
+-- elements that are told come of a stage, and what they do is right
+pub record AreTold {X : Type 0} (elements : X → ElementsValue) (S : Stage X) (IsTold : X → Type 0) : Type 0 where
+  pub told : (x : X) → S (passes x) → IsTold x
+  pub sound : (x : X) → IsTold x → AreSound (elements x)
+
+sources_told : (files : List File) (words : List (List ℕ)) → AreTold source_elements (set_of (Some files) words) (IsSet files words)
+sources_told files words = record { told = set_is files words; sound = set_sound files words }
+
+codes_told : (files : List File) (file : List ℕ) → AreTold code_elements (codes_from (Some files) file) (IsCodeFile files file)
+codes_told files file = record { told = codes_are files file; sound = codes_sound files file }
+
 -- a run that showed a text, part by part
-ran_told : (files : List File) (world : List ℕ) (words : List (List ℕ)) (text : List ℕ) → form_answer (Some files) (run world words) (passes text) → RanTold files world words text
-ran_told files world words text h =
+ran_told : {X : Type 0} (elements : X → ElementsValue) (S : Stage X) (IsTold : X → Type 0) (files : List File) (world text : List ℕ) → AreTold elements S IsTold → and_then (ready_by elements S (Some files) world) runs (passes text) → RanTold elements IsTold files world text
+ran_told elements S IsTold files world text are h =
     let r = went _ _ text h in
-    let s = ready_told files world words r.value r.passed in
+    let s = ready_told elements S files world r.value r.passed in
+    let is_told = are.told s.given s.passed in
     let reports = subst (λ (v : ReadyValue). Reports v text) s.is r.rest in
     record {
       world = s.world;
-      set = s.set;
+      given = s.given;
+      is_told = is_told;
       told_world = s.told;
       reports = reports;
-      replays = replays_to files world words s.world s.set reports.grid reports.records reports.abandoned text s.told reports.run reports.shown;
+      replays = replays_to files world s.world (elements s.given) reports.grid reports.records reports.abandoned text (are.sound s.given is_told) s.told reports.run reports.shown;
     }
 
 -- a stepped run that showed a text, part by part
-stepped_told : (files : List File) (world : List ℕ) (words : List (List ℕ)) (text : List ℕ) → form_answer (Some files) (step world words) (passes text) → SteppedTold files world words text
-stepped_told files world words text h =
+stepped_told : {X : Type 0} (elements : X → ElementsValue) (S : Stage X) (IsTold : X → Type 0) (files : List File) (world text : List ℕ) → AreTold elements S IsTold → and_then (ready_by elements S (Some files) world) steps (passes text) → SteppedTold elements IsTold files world text
+stepped_told elements S IsTold files world text are h =
     let r = went _ _ text h in
-    let s = ready_told files world words r.value r.passed in
+    let s = ready_told elements S files world r.value r.passed in
+    let is_told = are.told s.given s.passed in
     let run = subst IsSteppedRun s.is r.rest.0 in
     let shown = r.rest.1 ∙ ap stepped_report s.is in
-    let ready = sourced s.world s.set in
+    let ready = ready_with s.world (elements s.given) in
     record {
       world = s.world;
-      set = s.set;
+      given = s.given;
+      is_told = is_told;
       told_world = s.told;
       run = run;
       shown = shown;
-      replays = replays_to files world words s.world s.set (machine_of ready).grid (records_in (stepped_logs ready)) (abandoned_in (stepped_logs ready)) text s.told run shown;
+      replays = replays_to files world s.world (elements s.given) (machine_of ready).grid (records_in (stepped_logs ready)) (abandoned_in (stepped_logs ready)) text (are.sound s.given is_told) s.told run shown;
     }
 
 -- a replay that showed a text, part by part
 replay_told : (files : List File) (world journal : List ℕ) (words : List (List ℕ)) (text : List ℕ) → form_answer (Some files) (replay world journal words) (passes text) → ReplayTold files world journal words text
 replay_told files world journal words text h =
     let r = went _ _ text h in
-    let s = ready_told files world words r.value r.passed in
+    let s = ready_told source_elements (set_of (Some files) words) files world r.value r.passed in
     let rest = subst (λ (v : ReadyValue). replay_of (Some files) journal v (passes text)) s.is r.rest in
     let j = went _ _ text rest in
     let b = went _ _ j.value j.passed in
     record {
       world = s.world;
-      set = s.set;
+      set = s.given;
+      is_set = set_is files words s.given s.passed;
       told_world = s.told;
       journal_bytes = b.value;
       journal_file = b.passed.0;
@@ -93,13 +113,14 @@ gen_told number text h =
 audit_told : (files : List File) (world report : List ℕ) (words : List (List ℕ)) (text : List ℕ) → form_answer (Some files) (audit world report words) (passes text) → AuditTold files world report words text
 audit_told files world report words text h =
     let r = went _ _ text h in
-    let s = ready_told files world words r.value r.passed in
+    let s = ready_told source_elements (set_of (Some files) words) files world r.value r.passed in
     let rest = subst (λ (v : ReadyValue). audit_of (Some files) report v (passes text)) s.is r.rest in
     let b = went _ _ text rest in
     let j = went _ _ text b.rest in
     record {
       world = s.world;
-      set = s.set;
+      set = s.given;
+      is_set = set_is files words s.given s.passed;
       told_world = s.told;
       bytes = b.value;
       journal = j.value;
@@ -111,13 +132,14 @@ audit_told files world report words text h =
 rewind_told : (files : List File) (world report : List ℕ) (k : ℕ) (words : List (List ℕ)) (text : List ℕ) → form_answer (Some files) (rewind world report k words) (passes text) → RewindTold files world report k words text
 rewind_told files world report k words text h =
     let r = went _ _ text h in
-    let s = ready_told files world words r.value r.passed in
+    let s = ready_told source_elements (set_of (Some files) words) files world r.value r.passed in
     let rest = subst (λ (v : ReadyValue). rewind_of (Some files) report k v (passes text)) s.is r.rest in
     let j = went _ _ text rest in
     let b = went _ _ j.value j.passed in
     record {
       world = s.world;
-      set = s.set;
+      set = s.given;
+      is_set = set_is files words s.given s.passed;
       told_world = s.told;
       bytes = b.value;
       journal = j.value;
@@ -130,12 +152,14 @@ shows_of : (files : List File) (form : FormValue) (text : List ℕ) → form_ans
 shows_of files (check words) text h = set_told check_text files words text h
 shows_of files (code words) text h = set_told code_text files words text h
 shows_of files (pack words) text h = set_told pack_text files words text h
-shows_of files (run world words) text h = ran_told files world words text h
-shows_of files (step world words) text h = stepped_told files world words text h
+shows_of files (run world words) text h = ran_told source_elements (set_of (Some files) words) (IsSet files words) files world text (sources_told files words) h
+shows_of files (step world words) text h = stepped_told source_elements (set_of (Some files) words) (IsSet files words) files world text (sources_told files words) h
 shows_of files (replay world journal words) text h = replay_told files world journal words text h
 shows_of files (gen number) text h = gen_told number text h
 shows_of files (audit world report words) text h = audit_told files world report words text h
 shows_of files (rewind world report k words) text h = rewind_told files world report k words text h
+shows_of files (steppack world file) text h = stepped_told code_elements (codes_from (Some files) file) (IsCodeFile files file) files world text (codes_told files file) h
+shows_of files (runpack world file) text h = ran_told code_elements (codes_from (Some files) file) (IsCodeFile files file) files world text (codes_told files file) h
 
 -- no refusal has one of the statuses of a whole call
 not_done : (i : Input) → status_of_input i ≡ how.Done → ⊥
@@ -143,12 +167,14 @@ not_done input.File e = cc
 not_done input.Elements e = cc
 not_done input.World e = cc
 not_done input.Journal e = cc
+not_done input.Codes e = cc
 
 not_usage : (i : Input) → status_of_input i ≡ how.Usage → ⊥
 not_usage input.File e = cc
 not_usage input.Elements e = cc
 not_usage input.World e = cc
 not_usage input.Journal e = cc
+not_usage input.Codes e = cc
 
 -- an outcome with the status Done is a text
 done_by : (S : Stage (List ℕ)) (o : Outcome (List ℕ)) (status : Status) (text : List ℕ) → S o → status ≡ status_of o → text ≡ text_of o → status ≡ how.Done → S (passes text)

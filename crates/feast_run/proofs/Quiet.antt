@@ -35,6 +35,7 @@ not_fault input.File e = cc
 not_fault input.Elements e = cc
 not_fault input.World e = cc
 not_fault input.Journal e = cc
+not_fault input.Codes e = cc
 
 no_fault : (o : Outcome (List ℕ)) (status : Status) → status ≡ status_of o → status ≡ how.SinkFault → ⊥
 no_fault (passes t) status s e = let x : how.SinkFault ≡ how.Done = sym e ∙ s in cc

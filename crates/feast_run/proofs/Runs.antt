@@ -15,56 +15,69 @@ use Rattle.feast_run.proofs.Laws.{went}
 use Rattle.feast_run.proofs.Loads.{loaded_files}
 use Rattle.feast_run.specs.Answer.{grid_after, run_report}
 use Rattle.feast_run.specs.Faults.{IsJournalStop, IsWorldStop}
-use Rattle.feast_run.specs.Outcomes.{RefusedValue, passes}
+use Rattle.feast_run.specs.Elements.{ElementsValue}
+use Rattle.feast_run.specs.Outcomes.{RefusedValue, Stage, decides, passes}
 use Rattle.feast_run.specs.Owing.{Reports}
 use Rattle.feast_run.specs.Promises.{IsSet, WorldTold}
-use Rattle.feast_run.specs.Stages.{JournalValue, ReadyValue, journal_in, journal_limit, journal_of, journal_said, load, named_by, ready, set_of, sourced, with_set, world_limit}
+use Rattle.feast_run.specs.Stages.{JournalValue, ReadyValue, journal_in, journal_limit, journal_of, journal_said, load, ready_by, ready_with, set_of, with_elements, world_limit, world_refused}
 use Rattle.feast_run.specs.Tellings.{Tells}
-use Rattle.feast_run.specs.Values.{journal_value, ready_value}
+use Rattle.feast_run.specs.Values.{IsReady, elements_value, journal_value}
 use Rattle.feast_run.specs.declared.stop.Stop.{Stop}
+use Rattle.feast_run.specs.declared.worlds.Ready.{Ready}
 use Rattle.feast_run.specs.declared.stop.Stop.TheVariants.{Refused, Missing, NoMemory}
 use Rattle.grid_print.specs.Report.{AreNamed}
 use Rattle.one_tile.proofs.Alone.{each, no_attempt, owes_nothing}
 use Rattle.one_tile.specs.Events.{IsAlone, events_of}
-use Rattle.element_set.specs.Sets.{Coded, SetValue, element_names}
+use Rattle.element_set.specs.Sets.{Coded, SetValue}
 use Rattle.tile_map.specs.Plane.{MapValue, IsMap, in_plane, is_live, is_on, owner_of, site_in, tiles_of}
 use Rattle.tile_map.proofs.Spans.{lt_test}
 use Rattle.window_sites.specs.Window.{WindowValue}
 use Rattle.world_grid.proofs.Journals.{journal_live}
+use Rattle.world_grid.proofs.Valid.{world_known, world_valid}
 use Rattle.world_grid.specs.Known.{ArePlacedKnown, BringsNone, IsKnown}
 use Rattle.world_grid.specs.Worlds.{IsLiveEvent, IsWorld}
 use Rattle.world_text.specs.Drafts.{DraftValue}
 use Rattle.world_text.specs.Named.{WorldValue, named}
 use Rattle.world_text.specs.Reading.{read_text, IsFault as IsNameFault}
+use Rattle.world_text.specs.Values.{world_value}
 use Rattle.world_text.specs.declared.world.Placed.{Placed}
 
 pub set_is : (files : List File) (words : List (List ℕ)) (set : SetValue) → set_of (Some files) words (passes set) → IsSet files words set
 set_is files words set h = let l = went _ _ set h in record { sources = l.value; are_files = loaded_files files words l.value l.passed; accepted = l.rest }
 
--- a ready world is one that is told, with the elements of a set
-pub record Sourced (files : List File) (word : List ℕ) (words : List (List ℕ)) (r : ReadyValue) : Type 0 where
+-- a world that is ready is one that is told, with elements that came of a stage
+pub record ReadyTold {X : Type 0} (elements : X → ElementsValue) (S : Stage X) (files : List File) (word : List ℕ) (r : ReadyValue) : Type 0 where
   pub world : WorldValue
-  pub set : SetValue
-  pub is : r ≡ sourced world set
-  pub told : WorldTold files word words world set
+  pub given : X
+  pub passed : S (passes given)
+  pub is : r ≡ ready_with world (elements given)
+  pub told : WorldTold files word (elements given).names world
 
-with_told : (files : List File) (word : List ℕ) (words : List (List ℕ)) (d : DraftValue) (bytes : List ℕ) (r : ReadyValue) → file_of word files ≡ Some bytes → length bytes ≤ world_limit → read_text bytes ≡ Ok d →
-    with_set (Some files) word words d (passes r) → Sourced files word words r
-with_told files word words d bytes r file within reads h =
+with_told : {X : Type 0} (elements : X → ElementsValue) (S : Stage X) (files : List File) (word : List ℕ) (d : DraftValue) (bytes : List ℕ) (r : ReadyValue) → file_of word files ≡ Some bytes → length bytes ≤ world_limit → read_text bytes ≡ Ok d →
+    with_elements elements S word d (passes r) → ReadyTold elements S files word r
+with_told elements S files word d bytes r file within reads h =
     let w = went _ _ r h in
     let n = went _ _ r w.rest in
     record {
       world = n.value;
-      set = w.value;
+      given = w.value;
+      passed = w.passed;
       is = n.rest;
-      told = record { is_set = set_is files words w.value w.passed; bytes = bytes; file = file; within = within; reads = (d, reads, n.passed) };
+      told = record { bytes = bytes; file = file; within = within; reads = (d, reads, n.passed) };
     }
 
-pub ready_told : (files : List File) (word : List ℕ) (words : List (List ℕ)) (r : ReadyValue) → ready (Some files) word words (passes r) → Sourced files word words r
-ready_told files word words r h =
+pub ready_told : {X : Type 0} (elements : X → ElementsValue) (S : Stage X) (files : List File) (word : List ℕ) (r : ReadyValue) → ready_by elements S (Some files) word (passes r) → ReadyTold elements S files word r
+ready_told elements S files word r h =
     let a = went _ _ r h in
     let b = went _ _ a.value a.passed in
-    with_told files word words a.value b.value r b.passed.0 b.passed.1 b.rest a.rest
+    with_told elements S files word a.value b.value r b.passed.0 b.passed.1 b.rest a.rest
+
+-- a ready world is a world, whose atoms are known
+pub ready_valid : (r : Ready) → IsReady r → IsWorld (world_value r.world)
+ready_valid r h = world_valid (elements_value r.elements).names (world_value r.world) h.named
+
+pub ready_known : (r : Ready) → IsReady r → ArePlacedKnown (length (elements_value r.elements).names) (world_value r.world).atoms
+ready_known r h = world_known (elements_value r.elements).names (world_value r.world) h.named
 
 -- a world of one tile
 pub is_alone : (w : WorldValue) → IsWorld w → tiles_of w.plane ≡ 1 → IsAlone w.plane w.plan
@@ -144,10 +157,10 @@ journal_stops word w bytes (Some fault) (Refused s) asked is = ((fault, ap journ
 journal_stops word w bytes (Some fault) (Missing v) asked is = absurd is
 journal_stops word w bytes (Some fault) NoMemory asked is = absurd is
 
-pub names_stop : (word : List ℕ) (draft : DraftValue) (set : SetValue) (o : Option (ℕ × ℕ)) (stop : Stop) → IsNameFault (named (element_names set) draft) o → IsWorldStop word o stop → Tells ready_value (named_by word draft set) (Err stop)
-names_stop word draft set None (Refused s) asked is = absurd is
-names_stop word draft set None (Missing v) asked is = absurd is
-names_stop word draft set None NoMemory asked is = tt
-names_stop word draft set (Some fault) (Refused s) asked is = (inl (fault, asked, is.0), subst Coded (sym (ap (λ (v : RefusedValue). v.refusal.code) is.0)) is.1)
-names_stop word draft set (Some fault) (Missing v) asked is = absurd is
-names_stop word draft set (Some fault) NoMemory asked is = absurd is
+pub names_stop : {X : Type 0} (value : X → WorldValue) (word : List ℕ) (draft : DraftValue) (names : List (List ℕ)) (o : Option (ℕ × ℕ)) (stop : Stop) → IsNameFault (named names draft) o → IsWorldStop word o stop → Tells value (decides (world_refused word) (named names draft)) (Err stop)
+names_stop value word draft names None (Refused s) asked is = absurd is
+names_stop value word draft names None (Missing v) asked is = absurd is
+names_stop value word draft names None NoMemory asked is = tt
+names_stop value word draft names (Some fault) (Refused s) asked is = ((fault, asked, is.0), subst Coded (sym (ap (λ (v : RefusedValue). v.refusal.code) is.0)) is.1)
+names_stop value word draft names (Some fault) (Missing v) asked is = absurd is
+names_stop value word draft names (Some fault) NoMemory asked is = absurd is

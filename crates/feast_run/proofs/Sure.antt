@@ -1,20 +1,23 @@
 -- The stages of the forms have one outcome apart from loads that fail, where files are told.
 use Rattle.std.proofs.Common.{ℕ, ◌≡◌, List, [], ◌∷◌, ◌++◌, length, Option, Some, None, slice_index_or, refl, sym, ap, ◌∙◌, inr, arith}
 use Rattle.element_set.proofs.OneSet.{set_one as built_one}
-use Rattle.element_set.specs.Sets.{SetValue, check_text, code_text, element_names}
+use Rattle.element_set.specs.Sets.{SetValue, check_text, code_text}
 use Rattle.event_journal.specs.Reading.{read_report}
 use Rattle.feast_base.specs.Outside.{File}
+use Rattle.feast_run.proofs.CodeStages.{codes_in_one, codes_pass}
 use Rattle.feast_run.proofs.Loads.{files_load}
 use Rattle.feast_run.proofs.Laws.{then_accepts, then_sure, then_one, any_sure, gives_one, known_one, decides_one, went}
 use Rattle.feast_run.specs.Answer.{atoms_after, form_answer, rewinds}
 use Rattle.feast_run.specs.Packed.{pack_text}
-use Rattle.feast_run.specs.Forms.{FormValue, check, code, pack, run, step, replay, gen, audit, rewind}
+use Rattle.feast_run.specs.Forms.{FormValue, check, code, pack, run, step, replay, gen, audit, rewind, steppack, runpack}
 use Rattle.feast_run.specs.Generating.{generated_ready, own_set, stepped_summary}
 use Rattle.feast_run.specs.Audited.{Audits}
-use Rattle.feast_run.specs.Outcomes.{passes, refuses, Accepts, IsSure, IsOne, RefusedValue, refused}
+use Rattle.feast_run.specs.CodeFiles.{code_limit, codes_from, ready_packed}
+use Rattle.feast_run.specs.Elements.{ElementsValue, code_elements, source_elements}
+use Rattle.feast_run.specs.Outcomes.{Stage, passes, refuses, Accepts, IsSure, IsOne, RefusedValue, refused}
 use Rattle.feast_run.specs.Owing.{Reports}
-use Rattle.feast_run.specs.Promises.{IsGood, IsGoodWorld, IsSet}
-use Rattle.feast_run.specs.Stages.{JournalValue, ReadyValue, builds, draft_of, element_limit, journal_in, journal_limit, journal_of, journal_refused, journal_said, load, load_more, named_by, ready, set_of, sourced, with_set, world_limit, world_refused}
+use Rattle.feast_run.specs.Promises.{IsCodeFile, IsGood, IsGoodReady, IsGoodWorld, IsSet}
+use Rattle.feast_run.specs.Stages.{JournalValue, ReadyValue, builds, draft_of, element_limit, journal_in, journal_limit, journal_of, journal_refused, journal_said, load, load_more, coded, named_by, ready, ready_by, ready_with, set_of, sourced, world_limit, world_refused}
 use Rattle.feast_run.specs.Stepped.{IsSteppedRun, stepped_report}
 use Rattle.feast_run.specs.declared.stop.Input.TheVariants as input
 use Rattle.generated_elements.proofs.Accepted.{accepted}
@@ -61,14 +64,17 @@ set_one files words = then_one _ _ (loads_one files [] words) (builds_one words)
 draft_one : (files : List File) (word : List ℕ) → IsOne (draft_of (Some files) word)
 draft_one files word = then_one _ _ (load_one files world_limit word) (λ bytes. decides_one (world_refused word) (read_text bytes))
 
-named_one : (word : List ℕ) (draft : DraftValue) (set : SetValue) → IsOne (named_by word draft set)
-named_one word draft set = then_one _ _ (decides_one (world_refused word) (named (element_names set) draft)) (λ (world : WorldValue). gives_one (sourced world set))
+named_one : (word : List ℕ) (draft : DraftValue) (e : ElementsValue) → IsOne (named_by word draft e)
+named_one word draft e = then_one _ _ (decides_one (world_refused word) (named e.names draft)) (λ (world : WorldValue). gives_one (ready_with world e))
 
-with_one : (files : List File) (word : List ℕ) (words : List (List ℕ)) (draft : DraftValue) → IsOne (with_set (Some files) word words draft)
-with_one files word words draft = then_one _ _ (set_one files words) (named_one word draft)
+ready_one : {X : Type 0} (elements : X → ElementsValue) (S : Stage X) (files : List File) (word : List ℕ) → IsOne S → IsOne (ready_by elements S (Some files) word)
+ready_one elements S files word one = then_one _ _ (draft_one files word) (λ draft. then_one S (λ x. named_by word draft (elements x)) one (λ x. named_one word draft (elements x)))
 
-ready_one : (files : List File) (word : List ℕ) (words : List (List ℕ)) → IsOne (ready (Some files) word words)
-ready_one files word words = then_one _ _ (draft_one files word) (with_one files word words)
+sources_one : (files : List File) (word : List ℕ) (words : List (List ℕ)) → IsOne (ready (Some files) word words)
+sources_one files word words = ready_one source_elements (set_of (Some files) words) files word (set_one files words)
+
+packed_one : (files : List File) (word file : List ℕ) → IsOne (ready_packed (Some files) word file)
+packed_one files word file = ready_one code_elements (codes_from (Some files) file) files word (then_one _ _ (load_one files code_limit file) (codes_in_one file))
 
 journal_one : (files : List File) (word : List ℕ) (world : WorldValue) → IsOne (journal_of (Some files) word world)
 journal_one files word world = then_one _ _ (load_one files journal_limit word) (λ bytes. decides_one (journal_refused word) (journal_said (read_report world.plane world.plan.lists bytes)))
@@ -90,47 +96,51 @@ pub form_sure : (files : List File) (form : FormValue) → IsSure (form_answer (
 form_sure files (check words) = then_sure _ _ (set_one files words) (λ set. (gives_one (check_text set)).sure)
 form_sure files (code words) = then_sure _ _ (set_one files words) (λ set. (gives_one (code_text set)).sure)
 form_sure files (pack words) = then_sure _ _ (set_one files words) (λ set. (gives_one (pack_text set)).sure)
-form_sure files (run world words) = then_sure _ _ (ready_one files world words) (λ r. any_sure (Reports r))
-form_sure files (step world words) = then_sure _ _ (ready_one files world words) (λ r. (known_one (IsSteppedRun r) (stepped_report r)).sure)
+form_sure files (run world words) = then_sure _ _ (sources_one files world words) (λ r. any_sure (Reports r))
+form_sure files (step world words) = then_sure _ _ (sources_one files world words) (λ r. (known_one (IsSteppedRun r) (stepped_report r)).sure)
 form_sure files (replay world journal words) =
-    then_sure _ _ (ready_one files world words) (λ r. then_sure _ _ (journal_one files journal r.world) (λ j. (gives_one (atoms_after r j.records)).sure))
+    then_sure _ _ (sources_one files world words) (λ r. then_sure _ _ (journal_one files journal r.world) (λ j. (gives_one (atoms_after r j.records)).sure))
 form_sure files (gen number) = then_sure _ _ own_one (λ set. (known_one (IsSteppedRun (generated_ready number set)) (stepped_summary number (generated_ready number set))).sure)
 form_sure files (audit world report words) =
-    then_sure _ _ (ready_one files world words) (λ r. then_sure _ _ (load_one files journal_limit report) (λ bytes. then_sure _ _ (in_one report r.world bytes) (λ j. any_sure (Audits r bytes j))))
+    then_sure _ _ (sources_one files world words) (λ r. then_sure _ _ (load_one files journal_limit report) (λ bytes. then_sure _ _ (in_one report r.world bytes) (λ j. any_sure (Audits r bytes j))))
 form_sure files (rewind world report k words) =
-    then_sure _ _ (ready_one files world words) (λ r. then_sure _ _ (journal_one files report r.world) (λ j. rewinds_sure report k r j))
+    then_sure _ _ (sources_one files world words) (λ r. then_sure _ _ (journal_one files report r.world) (λ j. rewinds_sure report k r j))
+form_sure files (steppack world file) = then_sure _ _ (packed_one files world file) (λ r. (known_one (IsSteppedRun r) (stepped_report r)).sure)
+form_sure files (runpack world file) = then_sure _ _ (packed_one files world file) (λ r. any_sure (Reports r))
 
 -- the set of good files
 set_passes : (files : List File) (words : List (List ℕ)) (set : SetValue) → IsSet files words set → set_of (Some files) words (passes set)
 set_passes files words set s = inr (record { value = s.sources; passed = files_load files words s.sources s.are_files; rest = s.accepted })
 
-with_passes : (files : List File) (word : List ℕ) (words : List (List ℕ)) (w : WorldValue) (set : SetValue) (g : IsGoodWorld files word words w set) → with_set (Some files) word words g.draft (passes (sourced w set))
-with_passes files word words w set g = inr (record { value = set; passed = set_passes files words set g.is_set; rest = inr (record { value = w; passed = g.has_names; rest = refl }) })
+-- a good world with its elements
+ready_passes : {X : Type 0} (elements : X → ElementsValue) (S : Stage X) (files : List File) (word : List ℕ) (w : WorldValue) (x : X) → S (passes x) → IsGoodWorld files word (elements x).names w → ready_by elements S (Some files) word (passes (ready_with w (elements x)))
+ready_passes elements S files word w x p g =
+    let named = inr (record { value = w; passed = g.has_names; rest = refl }) in
+    inr (record { value = g.draft; passed = g.has_draft; rest = inr (record { value = x; passed = p; rest = named }) })
+
+sources_pass : (files : List File) (word : List ℕ) (words : List (List ℕ)) (w : WorldValue) (h : IsGoodReady source_elements (IsSet files words) files word w) → ready (Some files) word words (passes (sourced w h.given))
+sources_pass files word words w h = ready_passes source_elements (set_of (Some files) words) files word w h.given (set_passes files words h.given h.is_told) h.good
+
+packed_pass : (files : List File) (word file : List ℕ) (w : WorldValue) (h : IsGoodReady code_elements (IsCodeFile files file) files word w) → ready_packed (Some files) word file (passes (coded w h.given))
+packed_pass files word file w h = ready_passes code_elements (codes_from (Some files) file) files word w h.given (codes_pass files file h.given h.is_told) h.good
 
 -- good files of a form refuse nothing
 pub form_accepts : (files : List File) (form : FormValue) → IsGood files form → Accepts (form_answer (Some files) form)
 form_accepts files (check words) h = then_accepts _ _ (set_one files words) h.0 (set_passes files words h.0 h.1) (λ r p. absurd p)
 form_accepts files (code words) h = then_accepts _ _ (set_one files words) h.0 (set_passes files words h.0 h.1) (λ r p. absurd p)
 form_accepts files (pack words) h = then_accepts _ _ (set_one files words) h.0 (set_passes files words h.0 h.1) (λ r p. absurd p)
-form_accepts files (run world words) h =
-    then_accepts _ _ (ready_one files world words) (sourced h.0 h.1)
-    (inr (record { value = h.2.draft; passed = h.2.has_draft; rest = with_passes files world words h.0 h.1 h.2 }))
-    (λ s p. absurd p)
-form_accepts files (step world words) h =
-    then_accepts _ _ (ready_one files world words) (sourced h.0 h.1)
-    (inr (record { value = h.2.draft; passed = h.2.has_draft; rest = with_passes files world words h.0 h.1 h.2 }))
-    (λ s p. absurd p)
+form_accepts files (run world words) h = then_accepts _ _ (sources_one files world words) (sourced h.0 h.1.given) (sources_pass files world words h.0 h.1) (λ s p. absurd p)
+form_accepts files (step world words) h = then_accepts _ _ (sources_one files world words) (sourced h.0 h.1.given) (sources_pass files world words h.0 h.1) (λ s p. absurd p)
 form_accepts files (replay world journal words) h =
-    then_accepts _ _ (ready_one files world words) (sourced h.0 h.1)
-    (inr (record { value = h.2.draft; passed = h.2.has_draft; rest = with_passes files world words h.0 h.1 h.2 }))
-    (then_accepts _ _ (journal_one files journal h.0) h.3.0 h.3.1 (λ s p. absurd p))
+    then_accepts _ _ (sources_one files world words) (sourced h.0 h.2.0.given) (sources_pass files world words h.0 h.2.0)
+    (then_accepts _ _ (journal_one files journal h.0) h.1 h.2.1 (λ s p. absurd p))
 form_accepts files (gen number) h = then_accepts _ _ own_one accepted.0 accepted.1 (λ s p. absurd p)
 form_accepts files (audit world report words) h =
-    let b = went _ _ h.3.0 h.3.1 in
-    then_accepts _ _ (ready_one files world words) (sourced h.0 h.1)
-    (inr (record { value = h.2.draft; passed = h.2.has_draft; rest = with_passes files world words h.0 h.1 h.2 }))
-    (then_accepts _ _ (load_one files journal_limit report) b.value b.passed (then_accepts _ _ (in_one report h.0 b.value) h.3.0 b.rest (λ s p. absurd p)))
+    let b = went _ _ h.1 h.2.1 in
+    then_accepts _ _ (sources_one files world words) (sourced h.0 h.2.0.given) (sources_pass files world words h.0 h.2.0)
+    (then_accepts _ _ (load_one files journal_limit report) b.value b.passed (then_accepts _ _ (in_one report h.0 b.value) h.1 b.rest (λ s p. absurd p)))
 form_accepts files (rewind world report k words) h =
-    then_accepts _ _ (ready_one files world words) (sourced h.0 h.1)
-    (inr (record { value = h.2.draft; passed = h.2.has_draft; rest = with_passes files world words h.0 h.1 h.2 }))
-    (then_accepts _ _ (journal_one files report h.0) h.3.0 h.3.1 (λ s p. absurd (omega (arith, p.0, h.3.2))))
+    then_accepts _ _ (sources_one files world words) (sourced h.0 h.2.0.given) (sources_pass files world words h.0 h.2.0)
+    (then_accepts _ _ (journal_one files report h.0) h.1 h.2.1 (λ s p. absurd (omega (arith, p.0, h.3))))
+form_accepts files (steppack world file) h = then_accepts _ _ (packed_one files world file) (coded h.0 h.1.given) (packed_pass files world file h.0 h.1) (λ s p. absurd p)
+form_accepts files (runpack world file) h = then_accepts _ _ (packed_one files world file) (coded h.0 h.1.given) (packed_pass files world file h.0 h.1) (λ s p. absurd p)

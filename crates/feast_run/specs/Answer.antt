@@ -6,7 +6,8 @@ use Rattle.cell_grid.specs.Records.{replay as replay_from}
 use Rattle.element_set.specs.Sets.{SetValue, check_text, code_text}
 use Rattle.event_journal.specs.Logs.{LogValue, log_of}
 use Rattle.feast_base.specs.Outside.{File}
-use Rattle.feast_run.specs.Forms.{FormValue, check, code, pack, run, step, replay, gen, audit, rewind}
+use Rattle.feast_run.specs.CodeFiles.{ready_packed}
+use Rattle.feast_run.specs.Forms.{FormValue, check, code, pack, run, step, replay, gen, audit, rewind, steppack, runpack}
 use Rattle.feast_run.specs.Packed.{pack_text}
 use Rattle.feast_run.specs.Generating.{generates}
 use Rattle.feast_run.specs.Outcomes.{Stage, and_then, gives, gives_any, gives_known, passes, refuses, misses}
@@ -72,3 +73,5 @@ form_answer files (replay world journal words) = and_then (ready files world wor
 form_answer files (gen number) = generates number
 form_answer files (audit world report words) = and_then (ready files world words) (audit_of files report)
 form_answer files (rewind world report k words) = and_then (ready files world words) (rewind_of files report k)
+form_answer files (steppack world file) = and_then (ready_packed files world file) steps
+form_answer files (runpack world file) = and_then (ready_packed files world file) runs

@@ -18,6 +18,7 @@ status_of_input input.File = how.Unreadable
 status_of_input input.Elements = how.ElementRefused
 status_of_input input.World = how.WorldRefused
 status_of_input input.Journal = how.JournalRefused
+status_of_input input.Codes = how.CodeRefused
 
 -- the status of an outcome, and the text that is written with it
 abbrev pub status_of : Outcome (List ℕ) → Status

@@ -1,6 +1,9 @@
 -- Why a stage stops, by the fault of a text.
 use Rattle.std.specs.Prelude.{ℕ, ◌≡◌, List, Option, Some, None}
 use Rattle.event_journal.specs.declared.fault.LineFault.{LineFault}
+use Rattle.code_file.specs.declared.fault.CodeFault.{CodeFault}
+use Rattle.code_file.specs.declared.fault.CodeFault.TheVariants.{BadMagic, BadForm, NotValid, SameName, NoMemory as Want}
+use Rattle.feast_run.specs.CodeFiles.{code_refused}
 use Rattle.feast_run.specs.Outcomes.{RefusedValue}
 use Rattle.feast_run.specs.Stages.{journal_refused, world_refused}
 use Rattle.feast_run.specs.Tellings.{refused_value}
@@ -28,3 +31,10 @@ IsWorldStop word (Some fault) stop = IsStop (world_refused word fault) stop
 abbrev pub IsJournalStop : List ℕ → Option (ℕ × LineFault) → Stop → Type 0
 IsJournalStop word None stop = IsWant stop
 IsJournalStop word (Some fault) stop = IsStop (journal_refused word fault) stop
+
+abbrev pub IsCodeStop : List ℕ → CodeFault → Stop → Type 0
+IsCodeStop word BadMagic stop = IsStop (code_refused word 61 1) stop
+IsCodeStop word (BadForm column) stop = IsStop (code_refused word 62 column) stop
+IsCodeStop word (NotValid column) stop = IsStop (code_refused word 63 column) stop
+IsCodeStop word (SameName column) stop = IsStop (code_refused word 64 column) stop
+IsCodeStop word Want stop = IsWant stop

@@ -10,7 +10,8 @@ use Rattle.text_lines.specs.Fields.{number_of}
 -- what the words of a call ask for: a check of some element files; the codes of their elements; their code file; a run of
 -- the world in one file with the elements in others; the same as a stepped run; the atoms that a journal gives when its
 -- events are made once more from the world's start; the judgement on a report; the atoms that the first events of a report
--- give; and the summary of the run of a world that a number gives
+-- give; the summary of the run of a world that a number gives; and the stepped run and the run of the world in one file
+-- with the elements of the code file in another
 pub data FormValue : Type 0 where
   check : List (List ℕ) → FormValue
   code : List (List ℕ) → FormValue
@@ -21,6 +22,8 @@ pub data FormValue : Type 0 where
   gen : ℕ → FormValue
   audit : List ℕ → List ℕ → List (List ℕ) → FormValue
   rewind : List ℕ → List ℕ → ℕ → List (List ℕ) → FormValue
+  steppack : List ℕ → List ℕ → FormValue
+  runpack : List ℕ → List ℕ → FormValue
 
 -- the most element files
 abbrev pub most_files : ℕ
@@ -44,6 +47,18 @@ of_world make (world ∷ words) = form_with (make world) (of_files words)
 abbrev pub of_journal : (List ℕ → List ℕ → List (List ℕ) → FormValue) → List (List ℕ) → Option FormValue
 of_journal make [] = None
 of_journal make (world ∷ words) = of_world (make world) words
+
+-- two words
+abbrev pub two_words : List (List ℕ) → Option (List ℕ × List ℕ)
+two_words [] = None
+two_words (first ∷ []) = None
+two_words (first ∷ second ∷ []) = Some (first, second)
+two_words (first ∷ second ∷ third ∷ words) = None
+
+-- a form of a world and a code file
+abbrev pub of_code : (List ℕ → List ℕ → FormValue) → Option (List ℕ × List ℕ) → Option FormValue
+of_code make None = None
+of_code make (Some words) = Some (make words.0 words.1)
 
 -- a canonical decimal below 2 ^ 64
 abbrev pub small_number : List ℕ → Option ℕ
@@ -94,6 +109,8 @@ form_of (verb ∷ words) =
     else if bytes_eq verb (codes "gen") then option_map gen (of_number words)
     else if bytes_eq verb (codes "audit") then of_journal audit words
     else if bytes_eq verb (codes "rewind") then of_rewind words
+    else if bytes_eq verb (codes "steppack") then of_code steppack (two_words words)
+    else if bytes_eq verb (codes "runpack") then of_code runpack (two_words words)
     else None
 
 -- the code's form as this
@@ -107,6 +124,8 @@ form_value (kind.Replay world journal files) = replay world.now journal.now (map
 form_value (kind.Gen number) = gen number
 form_value (kind.Audit world report files) = audit world.now report.now (map string_bytes files.now)
 form_value (kind.Rewind world report left files) = rewind world.now report.now left (map string_bytes files.now)
+form_value (kind.StepPack world file) = steppack world.now file.now
+form_value (kind.RunPack world file) = runpack world.now file.now
 
 -- it has so many element files as a form may have
 abbrev pub IsFew : Form → Type 0
@@ -119,3 +138,5 @@ IsFew (kind.Replay world journal files) = length files.now ≤ most_files
 IsFew (kind.Gen number) = Unit {0}
 IsFew (kind.Audit world report files) = length files.now ≤ most_files
 IsFew (kind.Rewind world report left files) = length files.now ≤ most_files
+IsFew (kind.StepPack world file) = Unit {0}
+IsFew (kind.RunPack world file) = Unit {0}

@@ -1,7 +1,10 @@
+pub mod Acting
 pub mod Again
 pub mod Answer
 pub mod Audited
+pub mod CodeFiles
 pub mod Codes
+pub mod Elements
 pub mod Ending
 pub mod Faults
 pub mod Forms

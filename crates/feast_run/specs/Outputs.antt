@@ -4,14 +4,14 @@ use Rattle.event_journal.specs.Logs.{abandoned_in, records_in}
 use Rattle.feast_run.specs.declared.output.Output.{Output}
 use Rattle.feast_run.specs.declared.output.Output.TheVariants.{Text, Report}
 use Rattle.grid_print.specs.Report.{AreNamed, report}
-use Rattle.element_set.specs.Sets.{element_names, set_value}
+use Rattle.feast_run.specs.Values.{elements_value}
 
 -- the bytes of an output
 abbrev pub output_text : Output → List ℕ
 output_text (Text text) = text.items
-output_text (Report left) = report (element_names (set_value left.ready.set)) left.grid (records_in left.journal) (abandoned_in left.journal)
+output_text (Report left) = report (elements_value left.ready.elements).names left.grid (records_in left.journal) (abandoned_in left.journal)
 
 -- it can be written: each atom is empty or its type has a name
 abbrev pub IsWritable : Output → Type 0
 IsWritable (Text text) = Unit {0}
-IsWritable (Report left) = AreNamed (element_names (set_value left.ready.set)) left.grid.atoms
+IsWritable (Report left) = AreNamed (elements_value left.ready.elements).names left.grid.atoms

@@ -1,6 +1,8 @@
 -- What a call promises, in the words of who calls it. Each follows from how a call ends.
 use Rattle.std.specs.Prelude.{ℕ, ◌≡◌, ◌≢◌, ◌≤◌, length, take, List, [], ◌∷◌, ◌++◌, codes, Option, Some, None, Ok, ◌⊎◌}
 use Rattle.cell_grid.specs.Records.{replay as replay_from}
+use Rattle.code_file.specs.Form.{CodesValue, IsFile}
+use Rattle.code_file.specs.Right.{AreRight}
 use Rattle.element_set.specs.Sets.{SetValue, AcceptsFiles, check_text, code_text, element_names, program_of}
 use Rattle.event_journal.specs.Reading.{read_report}
 use Rattle.feast_base.specs.Held.{LoadMayFail, PutMayFail, ShelfHeld, SinkHeld, room_left}
@@ -10,13 +12,15 @@ use Rattle.feast_run.specs.Again.{ReplaysTo}
 use Rattle.feast_run.specs.Answer.{form_answer}
 use Rattle.feast_run.specs.Audited.{Audits}
 use Rattle.feast_run.specs.Ending.{ComesTo, status_of}
-use Rattle.feast_run.specs.Forms.{FormValue, check, code, pack, run, step, replay, gen, audit, rewind}
+use Rattle.feast_run.specs.Forms.{FormValue, check, code, pack, run, step, replay, gen, audit, rewind, steppack, runpack}
 use Rattle.feast_run.specs.Packed.{pack_text}
 use Rattle.feast_run.specs.Generating.{generated_ready, stepped_summary}
 use Rattle.feast_run.specs.Outcomes.{Outcome, passes, refuses, misses}
 use Rattle.feast_run.specs.Owing.{Reports}
 use Rattle.feast_run.specs.Stepped.{IsSteppedRun, machine_of, stepped_report}
-use Rattle.feast_run.specs.Stages.{JournalValue, sourced, draft_of, element_limit, journal_limit, journal_of, journal_said, world_limit}
+use Rattle.feast_run.specs.CodeFiles.{code_limit}
+use Rattle.feast_run.specs.Elements.{ElementsValue, code_elements, source_elements}
+use Rattle.feast_run.specs.Stages.{JournalValue, ready_with, sourced, draft_of, element_limit, journal_limit, journal_of, journal_said, world_limit}
 use Rattle.feast_run.specs.declared.status.Status.{Status}
 use Rattle.feast_run.specs.declared.status.Status.TheVariants as how
 use Rattle.generated_elements.specs.Elements.{source_files}
@@ -45,40 +49,51 @@ pub record SetTold (text : SetValue → List ℕ) (files : List File) (words : L
   pub is_set : IsSet files words set
   pub shown : appended ≡ text set
 
--- a world that is told, with the elements that its atoms are of
-pub record WorldTold (files : List File) (word : List ℕ) (words : List (List ℕ)) (world : WorldValue) (set : SetValue) : Type 0 where
-  pub is_set : IsSet files words set
+-- a code file that is told: it is the one spelling of these elements, no two of which have one name, and each code is valid
+pub record IsCodeFile (files : List File) (word : List ℕ) (es : CodesValue) : Type 0 where
+  pub bytes : List ℕ
+  pub file : file_of word files ≡ Some bytes
+  pub within : length bytes ≤ code_limit
+  pub is_file : IsFile bytes es
+  pub right : AreRight es
+
+-- a world that is told, whose atoms are of elements with these names
+pub record WorldTold (files : List File) (word : List ℕ) (names : List (List ℕ)) (world : WorldValue) : Type 0 where
   pub bytes : List ℕ
   pub file : file_of word files ≡ Some bytes
   pub within : length bytes ≤ world_limit
-  pub reads : ReadsWorld bytes (element_names set) world
+  pub reads : ReadsWorld bytes names world
 
--- a run whose files are told: the bytes appended are the report of what it left, by what the elements' source means
-pub record RanTold (files : List File) (word : List ℕ) (words : List (List ℕ)) (appended : List ℕ) : Type 0 where
+-- a run whose files are told, and what its elements were given as: the bytes appended are the report of what it left, by what
+-- these elements do
+pub record RanTold {X : Type 0} (elements : X → ElementsValue) (IsTold : X → Type 0) (files : List File) (word appended : List ℕ) : Type 0 where
   pub world : WorldValue
-  pub set : SetValue
-  pub told_world : WorldTold files word words world set
-  pub reports : Reports (sourced world set) appended
-  -- a replay of the report writes the report's own atoms
-  pub replays : ReplaysTo (sourced world set) appended reports.grid
+  pub given : X
+  pub is_told : IsTold given
+  pub told_world : WorldTold files word (elements given).names world
+  pub reports : Reports (ready_with world (elements given)) appended
+  -- a replay of the report by these elements comes to the report's own atoms
+  pub replays : ReplaysTo (ready_with world (elements given)) appended reports.grid
 
--- a stepped run whose files are told: the bytes appended are the report of the stepped machine of the world after the
--- steps of its order, and what that machine left is a run's, by what the elements' source means
-pub record SteppedTold (files : List File) (word : List ℕ) (words : List (List ℕ)) (appended : List ℕ) : Type 0 where
+-- a stepped run whose files are told, and what its elements were given as: the bytes appended are the report of the stepped
+-- machine of the world after the steps of its order, and what that machine left is a run's, by what these elements do
+pub record SteppedTold {X : Type 0} (elements : X → ElementsValue) (IsTold : X → Type 0) (files : List File) (word appended : List ℕ) : Type 0 where
   pub world : WorldValue
-  pub set : SetValue
-  pub told_world : WorldTold files word words world set
-  pub run : IsSteppedRun (sourced world set)
-  pub shown : appended ≡ stepped_report (sourced world set)
-  -- a replay of the report writes the report's own atoms
-  pub replays : ReplaysTo (sourced world set) appended (machine_of (sourced world set)).grid
+  pub given : X
+  pub is_told : IsTold given
+  pub told_world : WorldTold files word (elements given).names world
+  pub run : IsSteppedRun (ready_with world (elements given))
+  pub shown : appended ≡ stepped_report (ready_with world (elements given))
+  -- a replay of the report by these elements comes to the report's own atoms
+  pub replays : ReplaysTo (ready_with world (elements given)) appended (machine_of (ready_with world (elements given))).grid
 
 -- a replay whose files are told: the bytes appended are the atoms that the events of the journal give, one at a time, on
 -- one uncut grid that begins with the world's atoms, by what the elements' source means
 pub record ReplayTold (files : List File) (word journal_word : List ℕ) (words : List (List ℕ)) (appended : List ℕ) : Type 0 where
   pub world : WorldValue
   pub set : SetValue
-  pub told_world : WorldTold files word words world set
+  pub is_set : IsSet files words set
+  pub told_world : WorldTold files word (element_names set) world
   pub journal_bytes : List ℕ
   pub journal_file : file_of journal_word files ≡ Some journal_bytes
   pub journal_within : length journal_bytes ≤ journal_limit
@@ -106,7 +121,8 @@ pub record ReportTold (files : List File) (report_word : List ℕ) (world : Worl
 pub record AuditTold (files : List File) (word report_word : List ℕ) (words : List (List ℕ)) (appended : List ℕ) : Type 0 where
   pub world : WorldValue
   pub set : SetValue
-  pub told_world : WorldTold files word words world set
+  pub is_set : IsSet files words set
+  pub told_world : WorldTold files word (element_names set) world
   pub bytes : List ℕ
   pub journal : JournalValue
   pub told_report : ReportTold files report_word world bytes journal
@@ -117,7 +133,8 @@ pub record AuditTold (files : List File) (word report_word : List ℕ) (words : 
 pub record RewindTold (files : List File) (word report_word : List ℕ) (k : ℕ) (words : List (List ℕ)) (appended : List ℕ) : Type 0 where
   pub world : WorldValue
   pub set : SetValue
-  pub told_world : WorldTold files word words world set
+  pub is_set : IsSet files words set
+  pub told_world : WorldTold files word (element_names set) world
   pub bytes : List ℕ
   pub journal : JournalValue
   pub told_report : ReportTold files report_word world bytes journal
@@ -129,12 +146,14 @@ abbrev pub Shows : List File → FormValue → List ℕ → Type 0
 Shows files (check words) appended = SetTold check_text files words appended
 Shows files (code words) appended = SetTold code_text files words appended
 Shows files (pack words) appended = SetTold pack_text files words appended
-Shows files (run world words) appended = RanTold files world words appended
-Shows files (step world words) appended = SteppedTold files world words appended
+Shows files (run world words) appended = RanTold source_elements (IsSet files words) files world appended
+Shows files (step world words) appended = SteppedTold source_elements (IsSet files words) files world appended
 Shows files (replay world journal words) appended = ReplayTold files world journal words appended
 Shows files (gen number) appended = GenTold number appended
 Shows files (audit world report words) appended = AuditTold files world report words appended
 Shows files (rewind world report k words) appended = RewindTold files world report k words appended
+Shows files (steppack world file) appended = SteppedTold code_elements (IsCodeFile files file) files world appended
+Shows files (runpack world file) appended = RanTold code_elements (IsCodeFile files file) files world appended
 
 -- the headline: where the shelf tells its files and the sink what is written, and the status is Done, this was appended
 abbrev pub Headline : Option FormValue → Stock → Told → Told → Status → Type 0
@@ -166,25 +185,35 @@ pub record Exactly (form : Option FormValue) (old new : Stock) (sink sink' : Tol
   pub stages : (files : List File) (f : FormValue) (o : Outcome (List ℕ)) → form ≡ Some f → old.files ≡ Some files → form_answer (Some files) f o →
       Agrees old.failed new.failed o → sink'.faults ≡ sink.faults → ((status ≡ status_of o) × Lines sink sink' o) ⊎ (status ≡ how.NoMemory)
 
--- a world and element files that nothing is refused of
-pub record IsGoodWorld (files : List File) (word : List ℕ) (words : List (List ℕ)) (world : WorldValue) (set : SetValue) : Type 0 where
+-- a world whose atoms are of elements with these names, and that nothing is refused of
+pub record IsGoodWorld (files : List File) (word : List ℕ) (names : List (List ℕ)) (world : WorldValue) : Type 0 where
   pub draft : DraftValue
   pub has_draft : draft_of (Some files) word (passes draft)
-  pub is_set : IsSet files words set
-  pub has_names : named (element_names set) draft ≡ Ok world
+  pub has_names : named names draft ≡ Ok world
+
+-- a world with its elements that nothing is refused of
+pub record IsGoodReady {X : Type 0} (elements : X → ElementsValue) (IsTold : X → Type 0) (files : List File) (word : List ℕ) (world : WorldValue) : Type 0 where
+  pub given : X
+  pub is_told : IsTold given
+  pub good : IsGoodWorld files word (elements given).names world
+
+-- and a report of it
+abbrev pub IsGoodReport : List File → List ℕ → List (List ℕ) → List ℕ → WorldValue → JournalValue → Type 0
+IsGoodReport files word words report world journal = IsGoodReady source_elements (IsSet files words) files word world × journal_of (Some files) report world (passes journal)
 
 -- files of a form that nothing is refused of
 abbrev pub IsGood : List File → FormValue → Type 0
 IsGood files (check words) = (set : SetValue) × IsSet files words set
 IsGood files (code words) = (set : SetValue) × IsSet files words set
 IsGood files (pack words) = (set : SetValue) × IsSet files words set
-IsGood files (run world words) = (w : WorldValue) × (set : SetValue) × IsGoodWorld files world words w set
-IsGood files (step world words) = (w : WorldValue) × (set : SetValue) × IsGoodWorld files world words w set
-IsGood files (replay world journal words) = (w : WorldValue) × (set : SetValue) × IsGoodWorld files world words w set × ((j : JournalValue) × journal_of (Some files) journal w (passes j))
+IsGood files (run world words) = (w : WorldValue) × IsGoodReady source_elements (IsSet files words) files world w
+IsGood files (step world words) = (w : WorldValue) × IsGoodReady source_elements (IsSet files words) files world w
+IsGood files (replay world journal words) = (w : WorldValue) × (j : JournalValue) × IsGoodReport files world words journal w j
 IsGood files (gen number) = Unit {0}
-IsGood files (audit world report words) = (w : WorldValue) × (set : SetValue) × IsGoodWorld files world words w set × ((j : JournalValue) × journal_of (Some files) report w (passes j))
-IsGood files (rewind world report k words) =
-    (w : WorldValue) × (set : SetValue) × IsGoodWorld files world words w set × ((j : JournalValue) × journal_of (Some files) report w (passes j) × (k ≤ length j.records))
+IsGood files (audit world report words) = (w : WorldValue) × (j : JournalValue) × IsGoodReport files world words report w j
+IsGood files (rewind world report k words) = (w : WorldValue) × (j : JournalValue) × IsGoodReport files world words report w j × (k ≤ length j.records)
+IsGood files (steppack world file) = (w : WorldValue) × IsGoodReady code_elements (IsCodeFile files file) files world w
+IsGood files (runpack world file) = (w : WorldValue) × IsGoodReady code_elements (IsCodeFile files file) files world w
 
 -- completeness: good files of a form, and counts that stay, give Done, or want of memory
 abbrev pub Complete : Option FormValue → Stock → Stock → Told → Told → Status → Type 0
@@ -203,6 +232,8 @@ file_words (replay world journal words) = world ∷ journal ∷ words
 file_words (gen number) = []
 file_words (audit world report words) = world ∷ report ∷ words
 file_words (rewind world report k words) = world ∷ report ∷ words
+file_words (steppack world file) = world ∷ file ∷ []
+file_words (runpack world file) = world ∷ file ∷ []
 
 -- it is one of the words
 abbrev pub IsWordOf : List (List ℕ) → List ℕ → Type 0

@@ -1,17 +1,18 @@
 -- The stages that the forms are made of.
 use Rattle.std.specs.Prelude.{ℕ, ◌≡◌, ◌≤◌, List, [], ◌∷◌, ◌++◌, length, min, Option, Result, Ok, Err, slice_index_or}
 use Rattle.cell_grid.specs.declared.record.Record.{Record}
-use Rattle.element_set.specs.Sets.{SetValue, AcceptsFiles, RefusesFiles, element_names, program_of}
+use Rattle.code_file.specs.Form.{CodesValue}
+use Rattle.element_set.specs.Sets.{SetValue, AcceptsFiles, RefusesFiles}
 use Rattle.event_journal.specs.declared.abandoned.Abandoned.{Abandoned}
 use Rattle.event_journal.specs.declared.fault.LineFault.{LineFault}
 use Rattle.event_journal.specs.declared.fault.LineFault.TheVariants.{BadForm, OutOfTurn, ElsewhereThanTile, OtherThanAttempt}
 use Rattle.event_journal.specs.Reading.{Said, read_report}
 use Rattle.feast_base.specs.Outside.{File, TellsBytes, TellsLonger}
 use Rattle.feast_base.specs.declared.place.Refusal.{Refusal}
+use Rattle.feast_run.specs.Elements.{ElementsValue, source_elements, code_elements}
 use Rattle.feast_run.specs.Outcomes.{Stage, passes, refuses, misses, RefusedValue, refused, and_then, gives, decides}
 use Rattle.feast_run.specs.declared.stop.Input.{Input}
 use Rattle.feast_run.specs.declared.stop.Input.TheVariants as input
-use Rattle.ulam_meaning.specs.Events.{after}
 use Rattle.window_sites.specs.Window.{WindowValue}
 use Rattle.world_text.specs.Drafts.{DraftValue}
 use Rattle.world_text.specs.Named.{WorldValue, named}
@@ -89,21 +90,33 @@ pub record ReadyValue : Type 0 where
   pub names : List (List ℕ)
   pub meaning : WindowValue → ℕ → WindowValue
 
+-- a world with elements
+abbrev pub ready_with : WorldValue → ElementsValue → ReadyValue
+ready_with world e = record { world = world; names = e.names; meaning = e.meaning }
+
 -- a world with the elements of a set, which do what their source means
 abbrev pub sourced : WorldValue → SetValue → ReadyValue
-sourced world set = record { world = world; names = element_names set; meaning = after (program_of set) }
+sourced world set = ready_with world (source_elements set)
 
--- the names of a world's atoms
-abbrev pub named_by : List ℕ → DraftValue → SetValue → Stage ReadyValue
-named_by word draft set = and_then (decides (world_refused word) (named (element_names set) draft)) (λ (world : WorldValue). gives (sourced world set))
+-- a world with the elements of a code file, which do what their codes do
+abbrev pub coded : WorldValue → CodesValue → ReadyValue
+coded world es = ready_with world (code_elements es)
 
--- the elements of a world
-abbrev pub with_set : Option (List File) → List ℕ → List (List ℕ) → DraftValue → Stage ReadyValue
-with_set files word words draft = and_then (set_of files words) (named_by word draft)
+-- the names of a world's atoms, which are of these elements
+abbrev pub named_by : List ℕ → DraftValue → ElementsValue → Stage ReadyValue
+named_by word draft e = and_then (decides (world_refused word) (named e.names draft)) (λ (world : WorldValue). gives (ready_with world e))
 
--- a world with its elements
+-- the elements of a world, which come of a stage
+abbrev pub with_elements : {X : Type 0} → (X → ElementsValue) → Stage X → List ℕ → DraftValue → Stage ReadyValue
+with_elements value S word draft = and_then S (λ x. named_by word draft (value x))
+
+-- a world with the elements that come of a stage
+abbrev pub ready_by : {X : Type 0} → (X → ElementsValue) → Stage X → Option (List File) → List ℕ → Stage ReadyValue
+ready_by value S files word = and_then (draft_of files word) (with_elements value S word)
+
+-- a world with the elements of files
 abbrev pub ready : Option (List File) → List ℕ → List (List ℕ) → Stage ReadyValue
-ready files word words = and_then (draft_of files word) (with_set files word words)
+ready files word words = ready_by source_elements (set_of files words) files word
 
 -- the events and the abandoned attempts of a report
 pub record JournalValue : Type 0 where

@@ -1,17 +1,27 @@
 -- The code's structs as values.
-use Rattle.element_set.specs.Sets.{element_names, set_value}
+use Rattle.std.specs.Prelude.{length}
+use Rattle.element_set.specs.Sets.{set_value}
 use Rattle.event_journal.specs.declared.reader.ReadJournal.{ReadJournal}
-use Rattle.feast_run.specs.Stages.{JournalValue, ReadyValue, sourced}
+use Rattle.feast_run.specs.Elements.{ElementsValue, code_elements, source_elements}
+use Rattle.feast_run.specs.Stages.{JournalValue, ReadyValue, ready_with}
+use Rattle.feast_run.specs.declared.elements.Elements.{Elements}
+use Rattle.feast_run.specs.declared.elements.Elements.TheVariants.{Sources, Codes}
 use Rattle.feast_run.specs.declared.worlds.Ready.{Ready}
+use Rattle.world_grid.specs.Known.{BringsNone}
 use Rattle.world_text.specs.Printed.{IsNamed}
 use Rattle.world_text.specs.Values.{world_value}
 
+abbrev pub elements_value : Elements → ElementsValue
+elements_value (Sources set) = source_elements (set_value set)
+elements_value (Codes set) = code_elements set
+
 abbrev pub ready_value : Ready → ReadyValue
-ready_value r = sourced (world_value r.world) (set_value r.set)
+ready_value r = ready_with (world_value r.world) (elements_value r.elements)
 
 abbrev pub journal_value : ReadJournal → JournalValue
 journal_value j = record { records = j.records.items; abandoned = j.abandoned.items }
 
--- the atoms of the world are of the set's elements
-abbrev pub IsReady : Ready → Type 0
-IsReady r = IsNamed (element_names (set_value r.set)) (world_value r.world)
+-- the atoms of the world are of its elements, and these bring no others
+pub record IsReady (r : Ready) : Type 0 where
+  pub named : IsNamed (elements_value r.elements).names (world_value r.world)
+  pub brings : BringsNone (length (elements_value r.elements).names) (elements_value r.elements).meaning

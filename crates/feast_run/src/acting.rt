@@ -1,12 +1,11 @@
 //! What acts in the tiles of a world.
 ghost use Rattle.std.specs.Prelude.{◌≡◌, ◌≤◌, All, IfOk, length};
-ghost use Rattle.element_set.specs.Acting.{acting_set};
-ghost use Rattle.element_set.specs.Sets.{program_of, set_value};
+ghost use Rattle.feast_run.specs.Acting.{acts};
+ghost use Rattle.feast_run.specs.Values.{elements_value};
 ghost use Rattle.tile_map.specs.Plane.{tiles_of};
-ghost use Rattle.ulam_meaning.specs.Events.{after};
 ghost use Rattle.world_text.specs.Values.{world_value};
 
-use element_set::{Actor, ElementSet};
+use crate::elements::{ElementActor, Elements};
 use feast_base::NoMemory;
 use std::alloc::Global;
 use world_text::World;
@@ -19,14 +18,18 @@ pub fn tiles_in(world: &World) -> u32
     world.tx * world.ty
 }
 
-/// What acts as the elements of a set do, once for each tile.
-pub fn actors(alloc: Global, set: &ElementSet, tiles: u32) -> Result<Vec<Actor<'_>>, NoMemory>
+/// What acts as the elements of a world do, once for each tile.
+pub fn actors(
+    alloc: Global,
+    elements: &Elements,
+    tiles: u32,
+) -> Result<Vec<ElementActor<'_>>, NoMemory>
     ensures many { IfOk result (λ v. length v.items ≡ tiles) }
-    ensures acts { IfOk result (λ v. All (λ a. after (program_of (acting_set a)) ≡ after (program_of (set_value set.now))) v.items) }
+    ensures acts { IfOk result (λ v. All (λ a. acts a ≡ (elements_value elements.now).meaning) v.items) }
 {
     let mut actors = Vec::new(alloc);
     for _tile in 0..tiles {
-        let actor = set.actor(alloc)?;
+        let actor = elements.actor(alloc)?;
         actors.push(actor)?;
     }
     Ok(actors)

@@ -31,8 +31,8 @@ fn audit_line(
 {
     let map = map_of(alloc, &ready.world)?;
     let grid = start(alloc, &ready.world)?;
-    let mut actor = ready.set.actor(alloc)?;
-    let names = ready.set.names();
+    let mut actor = ready.elements.actor(alloc)?;
+    let names = ready.elements.names();
     let plan = &ready.world.plan;
     let judgement = judge(alloc, &map, plan, names, &grid, bytes, journal, &mut actor)?;
     judgement_line(alloc, judgement)

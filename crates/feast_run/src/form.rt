@@ -1,6 +1,6 @@
 //! The forms that the words of a call may have.
 ghost use Rattle.std.specs.Prelude.{◌≡◌, ◌≤◌, IfSome, MatchOption, None, Some, length, map, string_bytes};
-ghost use Rattle.feast_run.specs.Forms.{IsFew, form_of, form_value, most_files, of_files, of_number, left_of, of_rewind};
+ghost use Rattle.feast_run.specs.Forms.{IsFew, form_of, form_value, most_files, of_files, of_number, left_of, of_rewind, two_words};
 
 use text_lines::number;
 
@@ -34,6 +34,10 @@ pub enum Form<'a> {
     /// The atoms that so many of the first events of the report in the second file leave of the
     /// world in the first, with the elements in the others.
     Rewind(&'a str, &'a str, u32, &'a [String]),
+    /// A stepped run of the world in one file with the elements of the code file in another.
+    StepPack(&'a str, &'a str),
+    /// A run of the world in one file with the elements of the code file in another.
+    RunPack(&'a str, &'a str),
 }
 
 /// The words, where they are so many as a form may have element files.
@@ -64,6 +68,16 @@ fn left_of(word: &str) -> Option<u32>
 {
     let n = number(word.as_bytes())?;
     if n <= MOST_LEFT { Some(n as u32) } else { None }
+}
+
+/// The words, where they are two.
+fn two_words(words: &[String]) -> Option<(&str, &str)>
+    ensures { MatchOption result (two_words (map string_bytes words.now) ≡ None) (λ p. two_words (map string_bytes words.now) ≡ Some (p.0.now, p.1.now)) }
+{
+    match words {
+        [first, second] => Some((first.as_str(), second.as_str())),
+        _ => None,
+    }
 }
 
 /// The form of a rewind, of the words behind its first.
@@ -108,6 +122,14 @@ pub fn read_form(words: &[String]) -> Option<Form<'_>>
             Some(Form::Audit(world.as_str(), report.as_str(), of_files(rest)?))
         }
         "rewind" => read_rewind(rest),
+        "steppack" => {
+            let (world, code) = two_words(rest)?;
+            Some(Form::StepPack(world, code))
+        }
+        "runpack" => {
+            let (world, code) = two_words(rest)?;
+            Some(Form::RunPack(world, code))
+        }
         _ => None,
     }
 }

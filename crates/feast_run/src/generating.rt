@@ -1,20 +1,21 @@
 //! The stages of the run of a generated world.
 ghost use Rattle.std.specs.Prelude.{◌≡◌, IfOk};
-ghost use Rattle.element_set.specs.Sets.{set_value};
-ghost use Rattle.feast_run.specs.Generating.{generated_ready, generates, stepped_summary};
+ghost use Rattle.feast_run.specs.Generating.{generates, stepped_summary};
 ghost use Rattle.feast_run.specs.Outcomes.{passes};
 ghost use Rattle.feast_run.specs.Outputs.{IsWritable, output_text};
-ghost use Rattle.feast_run.specs.Stages.{sourced};
+ghost use Rattle.feast_run.specs.Stages.{ready_with};
 ghost use Rattle.feast_run.specs.Stepped.{IsOutcomeOf, IsSteppedRun};
 ghost use Rattle.feast_run.specs.Tellings.{MissesNone, Tells};
+ghost use Rattle.feast_run.specs.Values.{elements_value};
+ghost use Rattle.generated_world.specs.Generated.{generated};
 ghost use Rattle.world_grid.specs.Worlds.{IsWorld};
 ghost use Rattle.world_runs.specs.Orders.{IsOrder};
 ghost use Rattle.world_text.specs.Values.{order_value, world_value};
 
 use crate::acting::{actors, tiles_in};
+use crate::elements::Elements;
 use crate::output::Output;
 use crate::stop::Stop;
-use element_set::ElementSet;
 use feast_base::NoMemory;
 use generated_elements::elements;
 use generated_world::{generated, summary};
@@ -23,23 +24,23 @@ use std::alloc::Global;
 use world_runs::stepped;
 use world_text::World;
 
-/// What the stepped run of a world comes to, with the elements of a set.
-fn outcome(alloc: Global, world: &World, set: &ElementSet) -> Result<Outcome, NoMemory>
+/// What the stepped run of a world comes to, with these elements.
+fn outcome(alloc: Global, world: &World, elements: &Elements) -> Result<Outcome, NoMemory>
     requires world { IsWorld (world_value world.now) }
     requires order { IsOrder (world_value world.now).plane (order_value world.now.order) }
-    ensures { IfOk result (IsOutcomeOf (sourced (world_value world.now) (set_value set.now))) }
+    ensures { IfOk result (IsOutcomeOf (ready_with (world_value world.now) (elements_value elements.now))) }
 {
-    let actors = actors(alloc, set, tiles_in(world))?;
+    let actors = actors(alloc, elements, tiles_in(world))?;
     stepped(alloc, world, actors)
 }
 
-/// The summary of the stepped run of the world of a number, with the elements of a set.
-fn summary_of(alloc: Global, number: u64, set: &ElementSet) -> Result<Vec<u8>, NoMemory>
-    ensures run { IfOk result (λ _. IsSteppedRun (generated_ready number (set_value set.now))) }
-    ensures text { IfOk result (λ v. v.items ≡ stepped_summary number (generated_ready number (set_value set.now))) }
+/// The summary of the stepped run of the world of a number, with these elements.
+fn summary_of(alloc: Global, number: u64, elements: &Elements) -> Result<Vec<u8>, NoMemory>
+    ensures run { IfOk result (λ _. IsSteppedRun (ready_with (generated number) (elements_value elements.now))) }
+    ensures text { IfOk result (λ v. v.items ≡ stepped_summary number (ready_with (generated number) (elements_value elements.now))) }
 {
     let world = generated(alloc, number)?;
-    let outcome = outcome(alloc, &world, set)?;
+    let outcome = outcome(alloc, &world, elements)?;
     summary(alloc, number, &outcome.grid, &outcome.journal)
 }
 
@@ -47,8 +48,8 @@ fn summary_of(alloc: Global, number: u64, set: &ElementSet) -> Result<Vec<u8>, N
 fn summarized(alloc: Global, number: u64) -> Result<Vec<u8>, NoMemory>
     ensures { IfOk result (λ v. generates number (passes v.items)) }
 {
-    let set = elements(alloc)?;
-    summary_of(alloc, number, &set)
+    let own = Elements::Sources(elements(alloc)?);
+    summary_of(alloc, number, &own)
 }
 
 /// The stages of the run of a generated world, up to its summary. No file is loaded.

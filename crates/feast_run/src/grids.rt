@@ -1,8 +1,7 @@
 //! The grid that events leave of a world.
 ghost use Rattle.std.specs.Prelude.{◌≡◌, All, IfOk};
-ghost use Rattle.element_set.specs.Sets.{element_names, set_value};
 ghost use Rattle.feast_run.specs.Answer.{grid_after};
-ghost use Rattle.feast_run.specs.Values.{IsReady, ready_value};
+ghost use Rattle.feast_run.specs.Values.{IsReady, elements_value, ready_value};
 ghost use Rattle.grid_print.specs.Report.{AreNamed};
 ghost use Rattle.world_grid.specs.Worlds.{IsLiveEvent};
 ghost use Rattle.world_text.specs.Values.{world_value};
@@ -18,8 +17,8 @@ pub fn grid_after(alloc: Global, ready: &Ready, records: &[Record]) -> Result<Gr
     requires ready { IsReady ready.now }
     requires live { All (IsLiveEvent (world_value ready.now.world).plane) records.now }
     ensures grid { IfOk result (λ g. g ≡ grid_after (ready_value ready.now) records.now) }
-    ensures named { IfOk result (λ g. AreNamed (element_names (set_value ready.now.set)) g.atoms) }
+    ensures named { IfOk result (λ g. AreNamed (elements_value ready.now.elements).names g.atoms) }
 {
-    let mut actor = ready.set.actor(alloc)?;
+    let mut actor = ready.elements.actor(alloc)?;
     replayed(alloc, &ready.world, records, &mut actor)
 }

@@ -1,12 +1,13 @@
 //! One call of the simulator, from its words to what it writes.
 //!
-//! So far it does `check FILE..` and `code FILE..`, `run WORLD FILE..`, `step WORLD FILE..`,
-//! `replay WORLD JOURNAL FILE..`, and `gen N`.
+//! `feast` tells what the words of a call may be, and what each form of them writes.
 #![tactic(auto)]
 
 mod acting;
 mod auditing;
+mod code_files;
 mod element_files;
+mod elements;
 mod form;
 mod generating;
 mod grids;

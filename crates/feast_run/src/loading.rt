@@ -1,6 +1,7 @@
 //! Loading a file.
 ghost use Rattle.std.specs.Prelude.{◌≡◌, ◌≤◌, ◌<◌, ◌^◌, ◌-◌, ℕ, List};
 ghost use Rattle.feast_base.specs.Outside.{stock};
+ghost use Rattle.feast_run.specs.CodeFiles.{at_byte};
 ghost use Rattle.feast_run.specs.Stages.{at_line, load, whole_file};
 ghost use Rattle.feast_run.specs.Tellings.{Moves, Tells};
 
@@ -13,6 +14,9 @@ pub const WORLD_LIMIT: u32 = 268_435_456;
 
 /// The longest journal file, in bytes.
 pub const JOURNAL_LIMIT: u32 = 268_435_456;
+
+/// The longest code file, in bytes.
+pub const CODE_LIMIT: u32 = 268_435_456;
 
 /// The longest element file, in bytes.
 pub const ELEMENT_LIMIT: u32 = 1_048_576;
@@ -36,6 +40,22 @@ pub fn at_line(code: u8, line: u64, value: u64) -> Refusal
         column: 1,
     };
     Refusal { code, place, value }
+}
+
+/// A refusal of a byte of a code file, counted from 1.
+pub fn at_byte(code: u8, column: u64) -> Refusal
+    ensures { result ≡ at_byte code column }
+{
+    let place = Place {
+        file: 0,
+        line: 1,
+        column: column.min(u32::MAX as u64) as u32,
+    };
+    Refusal {
+        code,
+        place,
+        value: 0,
+    }
 }
 
 /// A refusal of a whole file, with its place at the file's first byte.

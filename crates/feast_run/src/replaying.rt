@@ -39,7 +39,7 @@ fn replay_text(alloc: Global, ready: &Ready, records: &[Record]) -> Result<Vec<u
     ensures { IfOk result (λ v. v.items ≡ atoms_after (ready_value ready.now) records.now) }
 {
     let grid = grid_after(alloc, ready, records)?;
-    show(alloc, ready.set.names(), &grid)
+    show(alloc, ready.elements.names(), &grid)
 }
 
 /// The stages of a replay from its journal on.

@@ -40,9 +40,9 @@ fn rewind_text(
     ensures { IfOk result (λ v. v.items ≡ atoms_after (ready_value ready.now) (take left records.now)) }
 {
     let first = start(alloc, &ready.world)?;
-    let mut actor = ready.set.actor(alloc)?;
+    let mut actor = ready.elements.actor(alloc)?;
     let grid = rewound(alloc, first, records, left, &mut actor)?;
-    show(alloc, ready.set.names(), &grid)
+    show(alloc, ready.elements.names(), &grid)
 }
 
 /// The stop at a journal with too few events.

@@ -3,7 +3,7 @@ ghost use Rattle.std.specs.Prelude.{◌≡◌, ◌≢◌, ◌≤◌, [], IfOk, l
 ghost use Rattle.event_journal.specs.Logs.{abandoned_in, records_in};
 ghost use Rattle.feast_base.specs.Outside.{stock};
 ghost use Rattle.feast_run.specs.Answer.{form_answer, lone_logs, run_report, runs};
-ghost use Rattle.feast_run.specs.Forms.{most_files, run};
+ghost use Rattle.feast_run.specs.Forms.{most_files, run, runpack};
 ghost use Rattle.feast_run.specs.Outputs.{IsWritable, output_text};
 ghost use Rattle.feast_run.specs.Owing.{Reports};
 ghost use Rattle.feast_run.specs.Tellings.{Moves, Tells};
@@ -17,7 +17,7 @@ use crate::acting::{actors, tiles_in};
 use crate::grids::grid_after;
 use crate::output::{Left, Output};
 use crate::stop::Stop;
-use crate::worlds::{Ready, make_ready};
+use crate::worlds::{Ready, make_packed, make_ready};
 use event_journal::Journal;
 use feast_base::{Gate, NoMemory, Shelf};
 use one_tile::journal;
@@ -67,7 +67,7 @@ fn outcome<R: Threads + Sync, G: Gate>(
     requires { IsReady ready.now }
     ensures { IfOk result (IsThreadedOf (ready_value ready.now)) }
 {
-    let actors = actors(alloc, &ready.set, tiles_in(&ready.world))?;
+    let actors = actors(alloc, &ready.elements, tiles_in(&ready.world))?;
     threaded(rt, alloc, &ready.world, actors, gate)
 }
 
@@ -143,5 +143,23 @@ pub fn run_stages<'a, R: Threads + Sync, F: Shelf, G: Gate>(
     ensures writable { IfOk result IsWritable }
 {
     let ready = make_ready(alloc, shelf, world, words)?;
+    run_rest(rt, alloc, ready, gate)
+}
+
+/// The stages of a run with the elements of a code file, up to its report.
+pub fn runpack_stages<'a, R: Threads + Sync, F: Shelf, G: Gate>(
+    rt: &R,
+    alloc: Global,
+    shelf: &mut F,
+    world: &'a str,
+    code: &'a str,
+    gate: &G,
+) -> Result<Output, Stop<'a>>
+    ensures files { F.files shelf.new ≡ F.files shelf.old }
+    ensures moves { Moves (stock F.files F.failed F.may_fail shelf.old) (stock F.files F.failed F.may_fail shelf.new) result }
+    ensures tells { Tells output_text (form_answer (F.files shelf.old) (runpack world.now code.now)) result }
+    ensures writable { IfOk result IsWritable }
+{
+    let ready = make_packed(alloc, shelf, world, code)?;
     run_rest(rt, alloc, ready, gate)
 }

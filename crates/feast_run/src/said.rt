@@ -33,6 +33,7 @@ fn status_of(input: Input) -> Status
         Input::Elements => Status::ElementRefused,
         Input::World => Status::WorldRefused,
         Input::Journal => Status::JournalRefused,
+        Input::Codes => Status::CodeRefused,
     }
 }
 

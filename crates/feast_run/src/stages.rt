@@ -14,8 +14,8 @@ use crate::output::Output;
 use crate::packing::pack_stages;
 use crate::replaying::replay_stages;
 use crate::rewinding::rewind_stages;
-use crate::running::run_stages;
-use crate::stepping::step_stages;
+use crate::running::{run_stages, runpack_stages};
+use crate::stepping::{step_stages, steppack_stages};
 use crate::stop::Stop;
 use feast_base::{Gate, NoMemory, Shelf};
 use std::alloc::Global;
@@ -87,5 +87,7 @@ pub fn form_stages<'a, R: Threads + Sync, F: Shelf, G: Gate>(
         Form::Rewind(world, report, left, words) => {
             rewind_stages(alloc, shelf, world, report, left, words)
         }
+        Form::StepPack(world, code) => steppack_stages(alloc, shelf, world, code),
+        Form::RunPack(world, code) => runpack_stages(rt, alloc, shelf, world, code, gate),
     }
 }

@@ -2,7 +2,7 @@
 ghost use Rattle.std.specs.Prelude.{◌≡◌, ◌≤◌, IfOk, length, map, string_bytes};
 ghost use Rattle.feast_base.specs.Outside.{stock};
 ghost use Rattle.feast_run.specs.Answer.{form_answer, steps};
-ghost use Rattle.feast_run.specs.Forms.{most_files, step};
+ghost use Rattle.feast_run.specs.Forms.{most_files, step, steppack};
 ghost use Rattle.feast_run.specs.Outputs.{IsWritable, output_text};
 ghost use Rattle.feast_run.specs.Stepped.{IsOutcomeOf, IsSteppedRun, stepped_report};
 ghost use Rattle.feast_run.specs.Tellings.{Moves, Tells};
@@ -11,7 +11,7 @@ ghost use Rattle.feast_run.specs.Values.{IsReady, ready_value};
 use crate::acting::{actors, tiles_in};
 use crate::output::{Left, Output};
 use crate::stop::Stop;
-use crate::worlds::{Ready, make_ready};
+use crate::worlds::{Ready, make_packed, make_ready};
 use feast_base::{NoMemory, Shelf};
 use serial_order::Outcome;
 use std::alloc::Global;
@@ -23,7 +23,7 @@ fn outcome(alloc: Global, ready: &Ready) -> Result<Outcome, NoMemory>
     ensures { IfOk result (IsOutcomeOf (ready_value ready.now)) }
 {
     listed_order();
-    let actors = actors(alloc, &ready.set, tiles_in(&ready.world))?;
+    let actors = actors(alloc, &ready.elements, tiles_in(&ready.world))?;
     stepped(alloc, &ready.world, actors)
 }
 
@@ -69,5 +69,21 @@ pub fn step_stages<'a, F: Shelf>(
     ensures writable { IfOk result IsWritable }
 {
     let ready = make_ready(alloc, shelf, world, words)?;
+    step_rest(alloc, ready)
+}
+
+/// The stages of a stepped run with the elements of a code file, up to its report.
+pub fn steppack_stages<'a, F: Shelf>(
+    alloc: Global,
+    shelf: &mut F,
+    world: &'a str,
+    code: &'a str,
+) -> Result<Output, Stop<'a>>
+    ensures files { F.files shelf.new ≡ F.files shelf.old }
+    ensures moves { Moves (stock F.files F.failed F.may_fail shelf.old) (stock F.files F.failed F.may_fail shelf.new) result }
+    ensures tells { Tells output_text (form_answer (F.files shelf.old) (steppack world.now code.now)) result }
+    ensures writable { IfOk result IsWritable }
+{
+    let ready = make_packed(alloc, shelf, world, code)?;
     step_rest(alloc, ready)
 }

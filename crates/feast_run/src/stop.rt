@@ -13,6 +13,8 @@ pub enum Input {
     World,
     /// The journal.
     Journal,
+    /// The code file.
+    Codes,
 }
 
 /// A refusal, and the word of the file that it stands in.

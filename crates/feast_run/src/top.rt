@@ -42,7 +42,7 @@ fn write<K: Sink>(alloc: Global, sink: &mut K, output: &Output) -> Result<(), Wr
                 alloc,
                 &left.grid,
                 &left.journal,
-                left.ready.set.names(),
+                left.ready.elements.names(),
                 sink,
             )
         }
@@ -85,8 +85,8 @@ fn call<R: Threads + Sync, F: Shelf, K: Sink, G: Gate>(
 
 /// Does what the words say, and answers how it ended.
 ///
-/// The words are those after the program's name. FILE stands for 1 to 64 element files. So far the
-/// words have nine forms:
+/// The words are those after the program's name. FILE stands for 1 to 64 element files. The words
+/// have eleven forms:
 ///
 /// - `check FILE..`: the layout of each class in the files is written.
 /// - `code FILE..`: the compiled code of each element in the files is written.
@@ -98,6 +98,8 @@ fn call<R: Threads + Sync, F: Shelf, K: Sink, G: Gate>(
 /// - `step WORLD FILE..`: the world in WORLD, of any number of tiles, is run on one thread in the
 ///   order that its lines say, and then one tile after another; its report is written as that of
 ///   a run.
+/// - `runpack WORLD CODE`, `steppack WORLD CODE`: the same as `run` and `step`, with the elements of
+///   the code file CODE in place of those of element files; what acts are its codes.
 /// - `replay WORLD JOURNAL FILE..`: the events of the report in JOURNAL are made once more, one
 ///   after another, from the start of the world in WORLD, and the atoms that they leave are written.
 /// - `gen N`: the world that the number N below 2^64 gives is run as `step` does, with elements of
@@ -114,21 +116,23 @@ fn call<R: Threads + Sync, F: Shelf, K: Sink, G: Gate>(
 ///
 /// - `Usage` where the words have no form.
 /// - `Unreadable` where a file can't be loaded, or is longer than its limit (268,435,456 bytes for
-///   WORLD, JOURNAL and REPORT, 1,048,576 for FILE).
+///   WORLD, JOURNAL, REPORT and CODE, 1,048,576 for FILE).
 /// - `ElementRefused` where the files are no set of elements.
+/// - `CodeRefused` where CODE is no code file, two of its elements have one name, or a code of it is
+///   not valid.
 /// - `WorldRefused` where WORLD says no world, names another type than an element's, or has two
 ///   atoms on one site.
 /// - `JournalRefused` where JOURNAL or REPORT is no report of the world in form, or has fewer than K
 ///   events.
 ///
-/// WORLD is loaded and read before the element files are loaded, and these are all loaded before
-/// the first is read. Then the names of the world's atoms are looked up, and then JOURNAL or REPORT
-/// is loaded and read. The first cause is answered. `SinkFault` comes where a put failed. `NoMemory` comes
-/// where memory is wanted; then nothing is put.
+/// WORLD is loaded and read before the element files or CODE are loaded, and the element files are
+/// all loaded before the first is read. Then the names of the world's atoms are looked up, and then
+/// JOURNAL or REPORT is loaded and read. The first cause is answered. `SinkFault` comes where a put
+/// failed. `NoMemory` comes where memory is wanted; then nothing is put.
 ///
-/// The shelf appends to its failed names only a file word whose load failed. On `run` each worker
-/// calls the gate before each attempt, with the tile's number and the attempt's; the other forms
-/// call no gate and start no thread.
+/// The shelf appends to its failed names only a file word whose load failed. On `run` and `runpack`
+/// each worker calls the gate before each attempt, with the tile's number and the attempt's; the
+/// other forms call no gate and start no thread.
 pub fn feast<R: Threads + Sync, F: Shelf, K: Sink, G: Gate>(
     rt: &R,
     alloc: Global,

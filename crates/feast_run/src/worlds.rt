@@ -1,19 +1,29 @@
 //! The stages of a world: its text, its elements, and the names of its atoms.
 ghost use Rattle.std.specs.Prelude.{◌≡◌, ◌≤◌, IfOk, length, map, string_bytes};
+ghost use Rattle.code_file.specs.Form.{IsSayable};
 ghost use Rattle.feast_base.specs.Outside.{stock};
 ghost use Rattle.feast_run.specs.Faults.{IsStop, IsWorldStop};
 ghost use Rattle.feast_run.specs.Forms.{most_files};
-ghost use Rattle.feast_run.specs.Stages.{draft_of, named_by, ready, with_set, world_refused};
+ghost use Rattle.feast_run.specs.CodeFiles.{codes_from, ready_packed};
+ghost use Rattle.feast_run.specs.Elements.{code_elements, source_elements};
+ghost use Rattle.feast_run.specs.Outcomes.{decides};
+ghost use Rattle.feast_run.specs.Stages.{draft_of, named_by, ready, set_of, with_elements, world_refused};
 ghost use Rattle.feast_run.specs.Tellings.{Moves, Tells};
 ghost use Rattle.feast_run.specs.Values.{IsReady, ready_value};
 ghost use Rattle.element_set.specs.Sets.{Coded, set_value};
+ghost use Rattle.world_text.specs.Named.{named};
+ghost use Rattle.world_text.specs.Printed.{IsNamed};
 ghost use Rattle.world_text.specs.Reading.{fault_of};
+ghost use Rattle.world_text.specs.Values.{world_value};
 
+use crate::code_files::load_codes;
 use crate::element_files::load_set;
+use crate::elements::Elements;
 use crate::loading::{WORLD_LIMIT, at_line, load_file};
 use crate::stop::{Input, Refused, Stop};
+use code_file::CodeSet;
 use element_set::ElementSet;
-use feast_base::Shelf;
+use feast_base::{Name, Shelf};
 use std::alloc::Global;
 use world_text::{RawWorld, World, WorldFault, name, read};
 
@@ -21,7 +31,7 @@ use world_text::{RawWorld, World, WorldFault, name, read};
 #[derive(Drop)]
 pub struct Ready {
     pub world: World,
-    pub set: ElementSet,
+    pub elements: Elements,
 }
 
 /// The refusal of a world whose file has this word.
@@ -69,24 +79,56 @@ fn load_draft<'a, F: Shelf>(
     }
 }
 
-/// A world with the names of its elements.
-fn with_names<'a>(
+/// The world of a draft whose elements have these names.
+fn named<'a>(
+    alloc: Global,
+    word: &'a str,
+    draft: RawWorld,
+    names: &[Name],
+) -> Result<World, Stop<'a>>
+    requires { length names.now ≤ 65535 }
+    ensures tells { Tells world_value (decides (world_refused word.now) (named names.now draft)) result }
+    ensures named { IfOk result (λ w. IsNamed names.now (world_value w)) }
+{
+    match name(alloc, draft, names) {
+        Ok(world) => Ok(world),
+        Err(fault) => Err(world_stop(word, fault)),
+    }
+}
+
+/// A world with the elements of a set.
+fn with_set<'a>(
     alloc: Global,
     word: &'a str,
     draft: RawWorld,
     set: ElementSet,
 ) -> Result<Ready, Stop<'a>>
-    ensures tells { Tells ready_value (named_by word.now draft (set_value set)) result }
+    ensures tells { Tells ready_value (named_by word.now draft (source_elements (set_value set))) result }
     ensures ready { IfOk result IsReady }
 {
-    match name(alloc, draft, set.names()) {
-        Ok(world) => Ok(Ready { world, set }),
-        Err(fault) => Err(world_stop(word, fault)),
-    }
+    let world = named(alloc, word, draft, set.names())?;
+    let elements = Elements::Sources(set);
+    Ok(Ready { world, elements })
 }
 
-/// Loads the elements of a world.
-fn with_elements<'a, F: Shelf>(
+/// A world with the elements of a code file.
+fn with_codes<'a>(
+    alloc: Global,
+    word: &'a str,
+    draft: RawWorld,
+    set: CodeSet,
+) -> Result<Ready, Stop<'a>>
+    requires { IsSayable set }
+    ensures tells { Tells ready_value (named_by word.now draft (code_elements set)) result }
+    ensures ready { IfOk result IsReady }
+{
+    let world = named(alloc, word, draft, set.names())?;
+    let elements = Elements::Codes(set);
+    Ok(Ready { world, elements })
+}
+
+/// Loads the element files of a world.
+fn with_element_files<'a, F: Shelf>(
     alloc: Global,
     shelf: &mut F,
     word: &'a str,
@@ -96,14 +138,31 @@ fn with_elements<'a, F: Shelf>(
     requires { length words.now ≤ most_files }
     ensures files { F.files shelf.new ≡ F.files shelf.old }
     ensures moves { Moves (stock F.files F.failed F.may_fail shelf.old) (stock F.files F.failed F.may_fail shelf.new) result }
-    ensures tells { Tells ready_value (with_set (F.files shelf.old) word.now (map string_bytes words.now) draft) result }
+    ensures tells { Tells ready_value (with_elements source_elements (set_of (F.files shelf.old) (map string_bytes words.now)) word.now draft) result }
     ensures ready { IfOk result IsReady }
 {
     let set = load_set(alloc, shelf, words)?;
-    with_names(alloc, word, draft, set)
+    with_set(alloc, word, draft, set)
 }
 
-/// Loads a world and its elements.
+/// Loads the code file of a world.
+fn with_code_file<'a, F: Shelf>(
+    alloc: Global,
+    shelf: &mut F,
+    word: &'a str,
+    code: &'a str,
+    draft: RawWorld,
+) -> Result<Ready, Stop<'a>>
+    ensures files { F.files shelf.new ≡ F.files shelf.old }
+    ensures moves { Moves (stock F.files F.failed F.may_fail shelf.old) (stock F.files F.failed F.may_fail shelf.new) result }
+    ensures tells { Tells ready_value (with_elements code_elements (codes_from (F.files shelf.old) code.now) word.now draft) result }
+    ensures ready { IfOk result IsReady }
+{
+    let set = load_codes(alloc, shelf, code)?;
+    with_codes(alloc, word, draft, set)
+}
+
+/// Loads a world and its element files.
 pub fn make_ready<'a, F: Shelf>(
     alloc: Global,
     shelf: &mut F,
@@ -117,5 +176,21 @@ pub fn make_ready<'a, F: Shelf>(
     ensures ready { IfOk result IsReady }
 {
     let draft = load_draft(alloc, shelf, word)?;
-    with_elements(alloc, shelf, word, words, draft)
+    with_element_files(alloc, shelf, word, words, draft)
+}
+
+/// Loads a world and its code file.
+pub fn make_packed<'a, F: Shelf>(
+    alloc: Global,
+    shelf: &mut F,
+    word: &'a str,
+    code: &'a str,
+) -> Result<Ready, Stop<'a>>
+    ensures files { F.files shelf.new ≡ F.files shelf.old }
+    ensures moves { Moves (stock F.files F.failed F.may_fail shelf.old) (stock F.files F.failed F.may_fail shelf.new) result }
+    ensures tells { Tells ready_value (ready_packed (F.files shelf.old) word.now code.now) result }
+    ensures ready { IfOk result IsReady }
+{
+    let draft = load_draft(alloc, shelf, word)?;
+    with_code_file(alloc, shelf, word, code, draft)
 }

@@ -51,13 +51,13 @@ trees_formed done (f ∷ fs) x h all =
     trees_formed (with_tree done g.value) fs x g.rest (files_more done.files g.value.items all here)
 
 -- what is known of a set that files have
-record Accepted (set : SetValue) : Type 0 where
+record IsAccepted (set : SetValue) : Type 0 where
   pub compiles : IsCompilable (program_of set)
   pub short : AreShort (program_of set)
   pub named : AreNamed set.classes
   pub formed : ClassesFormed set.classes
 
-accepted : (files : List File) (set : SetValue) → AcceptsFiles files set → Accepted set
+accepted : (files : List File) (set : SetValue) → AcceptsFiles files set → IsAccepted set
 accepted files set h =
     let trees = went (more_trees no_trees files) flat_set set h in
     let flat = went _ named_set set trees.rest in
@@ -66,7 +66,7 @@ accepted files set h =
     let typed = went _ (λ (us : List t.Class). coded (record { classes = us; layout = laid.value })) set laid.rest in
     let items = subst ItemsFormed (sym flat.passed.1) (flat_files_formed trees.value.files trees.value.heads (trees_formed no_trees files trees.value trees.passed tt)) in
     let compiles = subst (λ (l : List (List ℕ)). IsCompilable (record { classes = typed.value; layout = l })) (sym laid.passed.1) (compilable flat.value named.value typed.value named.passed laid.passed.0 typed.passed) in
-    subst Accepted (sym typed.rest.1)
+    subst IsAccepted (sym typed.rest.1)
     (record {
       compiles = compiles;
       short = typed.rest.0;

@@ -1,20 +1,18 @@
-use Rattle.std.proofs.Common.{ap, length, subst}
-use Rattle.feast_run.proofs.Runs.{known_grid}
-use Rattle.feast_run.proofs.SetKnown.{brings_none}
-use Rattle.element_set.specs.Acting.{acting_set}
-use Rattle.ulam_meaning.specs.Events.{after}
-use Rattle.element_set.specs.Sets.{SetValue, element_names, program_of, set_value}
-use Rattle.world_grid.proofs.Valid.{world_known, world_valid}
+use Rattle.std.proofs.Common.{ℕ, length, subst, sym}
+use Rattle.feast_run.proofs.Runs.{known_grid, ready_known, ready_valid}
+use Rattle.feast_run.specs.Acting.{acts}
+use Rattle.feast_run.specs.Values.{elements_value}
+use Rattle.window_sites.specs.Window.{WindowValue}
 use Rattle.world_grid.specs.Known.{BringsNone}
-use Rattle.world_text.specs.Values.{world_value}
 use Rattle.feast_run.proofs.grids.grid_after.Goals as goal
 
 pub replayed-requires-clause-world : goal.replayed-requires-clause-world
-replayed-requires-clause-world c = world_valid (element_names (set_value c.args.ready.now.set)) (world_value c.args.ready.now.world) c.requires.ready
+replayed-requires-clause-world c = ready_valid c.args.ready.now c.requires.ready
 
 pub returns-clause-named : goal.returns-clause-named
 returns-clause-named c =
-    let s = acting_set c.in_ok-actor.actor in
-    let names = element_names (set_value c.args.ready.now.set) in
-    let brings = subst (λ n. BringsNone n (after (program_of s))) (ap (λ (v : SetValue). length (element_names v)) c.in_ok-actor.ensures) (brings_none s) in
-    known_grid names c.args.ready.now.world.atoms.items (after (program_of s)) c.replayed.result (world_known names (world_value c.args.ready.now.world) c.requires.ready) brings c.replayed.ensures.known
+    let r = c.args.ready.now in
+    let names = (elements_value r.elements).names in
+    let means = acts c.in_ok-actor.actor in
+    let brings = subst (λ (m : WindowValue → ℕ → WindowValue). BringsNone (length names) m) (sym c.in_ok-actor.ensures) c.requires.ready.brings in
+    known_grid names r.world.atoms.items means c.replayed.result (ready_known r c.requires.ready) brings c.replayed.ensures.known

@@ -1,21 +1,19 @@
 use Rattle.std.proofs.Common.{◌∙◌, List, All, ap, inr, subst, sym}
 use Rattle.cell_grid.specs.declared.record.Record.{Record}
-use Rattle.feast_run.proofs.Runs.{journal_events}
+use Rattle.feast_run.proofs.Runs.{journal_events, ready_valid}
 use Rattle.feast_run.specs.Answer.{atoms_after}
 use Rattle.feast_run.specs.Values.{journal_value, ready_value}
-use Rattle.element_set.specs.Sets.{element_names, set_value}
-use Rattle.world_grid.proofs.Valid.{world_valid}
 use Rattle.world_grid.specs.Worlds.{IsLiveEvent}
 use Rattle.world_text.specs.Values.{world_value}
 use Rattle.feast_run.proofs.replaying.replay_rest.Goals as goal
 
 pub load_journal-requires : goal.load_journal-requires
-load_journal-requires g c = world_valid (element_names (set_value c.args.ready.set)) (world_value c.args.ready.world) c.requires
+load_journal-requires g c = ready_valid c.args.ready c.requires
 
 pub replay_text-requires-clause-live : goal.replay_text-requires-clause-live
 replay_text-requires-clause-live g c =
     let w = world_value c.args.ready.world in
-    let valid = world_valid (element_names (set_value c.args.ready.set)) w c.requires in
+    let valid = ready_valid c.args.ready c.requires in
     subst (λ (rs : List Record). All (IsLiveEvent w.plane) rs) (sym c.as_slice.ensures.value) (journal_events _ _ w (journal_value c.in_ok-journal.journal) valid c.in_ok-journal.ensures.tells)
 
 pub returns-in-Ok-clause-tells : goal.returns-in-Ok-clause-tells

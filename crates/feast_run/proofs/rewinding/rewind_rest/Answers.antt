@@ -1,19 +1,17 @@
-use Rattle.feast_run.proofs.Runs.{journal_events}
+use Rattle.feast_run.proofs.Runs.{journal_events, ready_valid}
 use Rattle.feast_run.proofs.Telling.{tells_then}
 use Rattle.feast_run.specs.Outputs.{output_text}
 use Rattle.feast_run.specs.Values.{journal_value}
-use Rattle.element_set.specs.Sets.{element_names, set_value}
-use Rattle.world_grid.proofs.Valid.{world_valid}
 use Rattle.world_text.specs.Values.{world_value}
 use Rattle.feast_run.proofs.rewinding.rewind_rest.Goals as goal
 
 pub load_journal-requires : goal.load_journal-requires
-load_journal-requires g c = world_valid (element_names (set_value c.args.ready.set)) (world_value c.args.ready.world) c.requires
+load_journal-requires g c = ready_valid c.args.ready c.requires
 
 pub rewind_loaded-requires-clause-live : goal.rewind_loaded-requires-clause-live
 rewind_loaded-requires-clause-live g c =
     let w = world_value c.args.ready.world in
-    let valid = world_valid (element_names (set_value c.args.ready.set)) w c.requires in
+    let valid = ready_valid c.args.ready c.requires in
     journal_events _ _ w (journal_value c.in_ok-journal.journal) valid c.in_ok-journal.ensures.tells
 
 pub returns-clause-tells : goal.returns-clause-tells

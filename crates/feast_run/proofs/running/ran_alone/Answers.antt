@@ -1,26 +1,24 @@
 use Rattle.std.proofs.Common.{◌≡◌, ◌∙◌, ap, List}
 use Rattle.cell_grid.specs.declared.record.Record.{Record}
-use Rattle.feast_run.proofs.Runs.{alone_reports, events_live, first_records, is_alone}
+use Rattle.feast_run.proofs.Runs.{alone_reports, events_live, first_records, is_alone, ready_valid}
 use Rattle.feast_run.specs.Answer.{grid_after}
-use Rattle.feast_run.specs.Values.{ready_value}
+use Rattle.feast_run.specs.Values.{elements_value, ready_value}
 use Rattle.grid_print.specs.Report.{report}
 use Rattle.one_tile.specs.Events.{events_of}
-use Rattle.element_set.specs.Sets.{element_names, set_value}
-use Rattle.world_grid.proofs.Valid.{world_valid}
 use Rattle.world_text.specs.Values.{world_value}
 use Rattle.feast_run.proofs.running.ran_alone.Goals as goal
 
 pub grid_after-requires-clause-live : goal.grid_after-requires-clause-live
 grid_after-requires-clause-live g c =
     let w = world_value c.args.ready.world in
-    let valid = world_valid (element_names (set_value c.args.ready.set)) w c.requires.ready in
+    let valid = ready_valid c.args.ready c.requires.ready in
     let all = first_records c.in_ok-journal.journal c.log.result.now (events_of w.plane w.plan) c.records.result.now c.in_ok-journal.ensures.logs c.log.ensures c.records.ensures in
     events_live w valid c.requires.alone c.records.result.now all
 
 pub returns-clause-text : goal.returns-clause-text
 returns-clause-text g c =
     let w = world_value c.args.ready.world in
-    let names = element_names (set_value c.args.ready.set) in
+    let names = (elements_value c.args.ready.elements).names in
     let all = first_records c.in_ok-journal.journal c.log.result.now (events_of w.plane w.plan) c.records.result.now c.in_ok-journal.ensures.logs c.log.ensures c.records.ensures in
     let grid = c.in_ok-grid.ensures.grid ∙ ap (grid_after (ready_value c.args.ready)) all in
     (λ i. report names (grid i) (c.in_ok-journal.ensures.records i) (c.in_ok-journal.ensures.abandoned i))
@@ -28,5 +26,5 @@ returns-clause-text g c =
 pub returns-clause-reports : goal.returns-clause-reports
 returns-clause-reports g c =
     let w = world_value c.args.ready.world in
-    let valid = world_valid (element_names (set_value c.args.ready.set)) w c.requires.ready in
+    let valid = ready_valid c.args.ready c.requires.ready in
     alone_reports (ready_value c.args.ready) _ (is_alone w valid c.requires.alone) (returns-clause-text g c)

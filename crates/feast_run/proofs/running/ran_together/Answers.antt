@@ -1,10 +1,7 @@
-use Rattle.element_set.specs.Sets.{element_names, set_value}
 use Rattle.event_journal.specs.Logs.{records_in}
 use Rattle.feast_run.proofs.Machines.{left_named, threaded_reports}
-use Rattle.feast_run.proofs.SetKnown.{brings_none}
+use Rattle.feast_run.proofs.Runs.{ready_known}
 use Rattle.feast_run.specs.Values.{ready_value}
-use Rattle.world_grid.proofs.Valid.{world_known}
-use Rattle.world_text.specs.Values.{world_value}
 use Rattle.feast_run.proofs.running.ran_together.Goals as goal
 
 pub returns-clause-reports : goal.returns-clause-reports
@@ -13,4 +10,4 @@ returns-clause-reports g c = threaded_reports (ready_value c.args.ready) c.in_ok
 pub returns-clause-writable : goal.returns-clause-writable
 returns-clause-writable g c =
     let o = c.in_ok-outcome.outcome in
-    left_named (ready_value c.args.ready) o.grid (records_in o.journal) c.in_ok-outcome.ensures.settled.grid (brings_none (set_value c.args.ready.set)) (world_known (element_names (set_value c.args.ready.set)) (world_value c.args.ready.world) c.requires.ready)
+    left_named (ready_value c.args.ready) o.grid (records_in o.journal) c.in_ok-outcome.ensures.settled.grid c.requires.ready.brings (ready_known c.args.ready c.requires.ready)

@@ -18,3 +18,9 @@ returns-in-Step-clause-tells g c = rw c.in-Step.is c.step_stages.ensures.tells
 
 pub returns-in-Gen-clause-moves : goal.returns-in-Gen-clause-moves
 returns-in-Gen-clause-moves g c = unmoved _ c.gen_stages.result c.gen_stages.ensures.none
+
+pub returns-in-StepPack-clause-tells : goal.returns-in-StepPack-clause-tells
+returns-in-StepPack-clause-tells g c = rw c.in-StepPack.is c.steppack_stages.ensures.tells
+
+pub returns-in-RunPack-clause-tells : goal.returns-in-RunPack-clause-tells
+returns-in-RunPack-clause-tells g c = rw c.in-RunPack.is c.runpack_stages.ensures.tells

@@ -4,5 +4,5 @@ use Rattle.feast_run.proofs.worlds.make_ready.Goals as goal
 
 pub returns-clause-tells : goal.returns-clause-tells
 returns-clause-tells g c =
-    let rest = rw c.in_ok-draft.ensures.files at c.with_elements.ensures.tells in
-    tells_then ready_value _ _ c.in_ok-draft.draft c.with_elements.result c.in_ok-draft.ensures.tells rest
+    let rest = rw c.in_ok-draft.ensures.files at c.with_element_files.ensures.tells in
+    tells_then ready_value _ _ c.in_ok-draft.draft c.with_element_files.result c.in_ok-draft.ensures.tells rest

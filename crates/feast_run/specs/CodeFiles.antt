@@ -1,0 +1,46 @@
+-- The stages of a code file, and of a world with its elements.
+use Rattle.std.specs.Prelude.{ℕ, ◌≡◌, List, min, Option, Ok, Err}
+use Rattle.code_file.specs.Form.{CodesValue}
+use Rattle.code_file.specs.Judging.{Reads}
+use Rattle.code_file.specs.declared.fault.CodeFault.{CodeFault}
+use Rattle.code_file.specs.declared.fault.CodeFault.TheVariants.{BadMagic, BadForm, NotValid, SameName, NoMemory}
+use Rattle.feast_base.specs.Outside.{File}
+use Rattle.feast_base.specs.declared.place.Refusal.{Refusal}
+use Rattle.feast_run.specs.Elements.{code_elements}
+use Rattle.feast_run.specs.Outcomes.{Stage, passes, refuses, misses, RefusedValue, refused, and_then}
+use Rattle.feast_run.specs.Stages.{ReadyValue, load, ready_by}
+use Rattle.feast_run.specs.declared.stop.Input.TheVariants as input
+
+-- the longest code file, in bytes
+abbrev pub code_limit : ℕ
+code_limit = 268435456
+
+-- a refusal of a byte, counted from 1; places number bytes up to 2^32 - 1, and no file that is loaded has more
+abbrev pub at_byte : ℕ → ℕ → Refusal
+at_byte code column = record { code = code; place = record { file = 0; line = 1; column = min column 4294967295 }; value = 0 }
+
+-- the refusal of a code file at a byte
+abbrev pub code_refused : List ℕ → ℕ → ℕ → RefusedValue
+code_refused word code column = refused input.Codes word (at_byte code column)
+
+-- the refusal of a code file by its fault; want of memory is none
+abbrev pub IsCodeRefused : List ℕ → CodeFault → RefusedValue → Type 0
+IsCodeRefused word BadMagic r = r ≡ code_refused word 61 1
+IsCodeRefused word (BadForm column) r = r ≡ code_refused word 62 column
+IsCodeRefused word (NotValid column) r = r ≡ code_refused word 63 column
+IsCodeRefused word (SameName column) r = r ≡ code_refused word 64 column
+IsCodeRefused word NoMemory r = ⊥
+
+-- the elements in the bytes of a code file
+abbrev pub codes_in : List ℕ → List ℕ → Stage CodesValue
+codes_in word bytes (passes es) = Reads bytes (Ok es)
+codes_in word bytes (refuses r) = (fault : CodeFault) × Reads bytes (Err fault) × IsCodeRefused word fault r
+codes_in word bytes (misses w) = ⊥
+
+-- the elements of a code file
+abbrev pub codes_from : Option (List File) → List ℕ → Stage CodesValue
+codes_from files word = and_then (load files code_limit word) (codes_in word)
+
+-- a world with the elements of a code file
+abbrev pub ready_packed : Option (List File) → List ℕ → List ℕ → Stage ReadyValue
+ready_packed files word code = ready_by code_elements (codes_from files code) files word
