@@ -1,5 +1,5 @@
 -- The stages of a code file.
-use Rattle.std.proofs.Common.{ℕ, ◌≡◌, List, Option, Some, Ok, Err, Result, ap, refl, subst, sym, ◌∙◌, inr}
+use Rattle.std.proofs.Common.{ℕ, ◌≡◌, List, Option, Some, Ok, Err, Result, ap, subst, sym, ◌∙◌, inr}
 use Rattle.code_file.proofs.FileLaws.{reads_one}
 use Rattle.code_file.proofs.Rightness.{read_right, written_reads}
 use Rattle.code_file.specs.Form.{CodesValue, IsSayable}

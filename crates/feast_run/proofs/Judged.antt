@@ -1,5 +1,5 @@
 -- A world and its set, as a judgement knows them.
-use Rattle.std.proofs.Common.{ℕ, ◌≡◌, ◌<◌, List, All, Result, Ok, Err, ap, length, refl, subst, sym}
+use Rattle.std.proofs.Common.{ℕ, ◌≡◌, ◌<◌, List, All, Result, Ok, Err, ap, length, subst, sym}
 use Rattle.std.specs.Prelude.{IfOk}
 use Rattle.cell_grid.specs.Grid.{GridValue}
 use Rattle.cell_grid.specs.Records.{replay}

@@ -1,5 +1,5 @@
 -- The plan of a world whose atoms have names is one for its tiles, and events leave a grid of its plane's size.
-use Rattle.std.proofs.Common.{ℕ, ◌≡◌, ◌+◌, ◌*◌, ◌%◌, ◌^◌, ◌<◌, ◌≤◌, List, [], ◌∷◌, All, Bool, Option, Some, None, Ok, fold, get_or, length, sum_by, refl, sym, ap, subst, ◌∙◌, arith, inl, inr}
+use Rattle.std.proofs.Common.{ℕ, ◌≡◌, ◌+◌, ◌*◌, ◌^◌, ◌<◌, ◌≤◌, List, [], ◌∷◌, All, Bool, Option, Some, None, Ok, fold, length, sum_by, refl, sym, ap, subst, ◌∙◌, arith, inl, inr}
 use Rattle.std.specs.Option.{IfSome}
 use Rattle.std.proofs.Math.ListN.{get_or-eq_default}
 use Rattle.std.proofs.Math.Nat.{mod-lt}
@@ -13,7 +13,7 @@ use Rattle.cell_grid.specs.Records.{replay}
 use Rattle.cell_grid.specs.declared.record.Record.{Record}
 use Rattle.draw_stream.specs.Attempts.{seeded_attempts, stream_seed}
 use Rattle.draw_stream.specs.Plans.{attempts, count_of, seeded, tiles_on}
-use Rattle.draw_stream.specs.Words.{tile_state, tile_step, tile_word}
+use Rattle.draw_stream.specs.Words.{tile_step, tile_word}
 use Rattle.draw_stream.specs.declared.attempt.Attempt.{Attempt}
 use Rattle.draw_stream.proofs.Plans.{length_seeded_attempts, length_seeded_lists, seeded_attempts_at, seeded_lists_at, sum_seeded_lists}
 use Rattle.grid_print.specs.Again.{IsPlanOf}

@@ -1,5 +1,5 @@
 -- What a world with its elements is, from the stages that made it.
-use Rattle.std.proofs.Common.{ℕ, ◌≡◌, ◌≤◌, ◌<◌, ◌+◌, ◌*◌, ◌/◌, ◌%◌, true, List, [], ◌∷◌, All, Option, Some, None, Result, Ok, Err, get_or, length, refl, sym, ap, subst, ◌∙◌, arith, inl, inr}
+use Rattle.std.proofs.Common.{ℕ, ◌≡◌, ◌≤◌, ◌<◌, ◌+◌, ◌*◌, ◌/◌, ◌%◌, true, List, [], ◌∷◌, All, Option, Some, None, Result, Ok, Err, get_or, length, refl, sym, ap, subst, ◌∙◌, arith}
 use Rattle.std.specs.Prelude.{nat_lt, slice_index_or}
 use Rattle.std.specs.Result.{IfOk}
 use Rattle.std.proofs.lemmas.Nat.{rows}
@@ -19,7 +19,7 @@ use Rattle.feast_run.specs.Elements.{ElementsValue}
 use Rattle.feast_run.specs.Outcomes.{RefusedValue, Stage, decides, passes}
 use Rattle.feast_run.specs.Owing.{Reports}
 use Rattle.feast_run.specs.Promises.{IsSet, WorldTold}
-use Rattle.feast_run.specs.Stages.{JournalValue, ReadyValue, journal_in, journal_limit, journal_of, journal_said, load, ready_by, ready_with, set_of, with_elements, world_limit, world_refused}
+use Rattle.feast_run.specs.Stages.{JournalValue, ReadyValue, journal_in, journal_of, journal_said, ready_by, ready_with, set_of, with_elements, world_limit, world_refused}
 use Rattle.feast_run.specs.Tellings.{Tells}
 use Rattle.feast_run.specs.Values.{IsReady, elements_value, journal_value}
 use Rattle.feast_run.specs.declared.stop.Stop.{Stop}

@@ -11,7 +11,6 @@ use Rattle.feast_base.specs.Outside.{File, TellsBytes, TellsLonger}
 use Rattle.feast_base.specs.declared.place.Refusal.{Refusal}
 use Rattle.feast_run.specs.Elements.{ElementsValue, source_elements, code_elements}
 use Rattle.feast_run.specs.Outcomes.{Stage, passes, refuses, misses, RefusedValue, refused, and_then, gives, decides}
-use Rattle.feast_run.specs.declared.stop.Input.{Input}
 use Rattle.feast_run.specs.declared.stop.Input.TheVariants as input
 use Rattle.window_sites.specs.Window.{WindowValue}
 use Rattle.world_text.specs.Drafts.{DraftValue}

@@ -1,7 +1,5 @@
 -- The stepped run of a world.
 use Rattle.std.specs.Prelude.{ℕ, List}
-use Rattle.cell_grid.specs.declared.record.Record.{Record}
-use Rattle.event_journal.specs.declared.abandoned.Abandoned.{Abandoned}
 use Rattle.event_journal.specs.Logs.{LogValue, abandoned_in, records_in}
 use Rattle.feast_run.specs.Owing.{IsRun}
 use Rattle.feast_run.specs.Stages.{ReadyValue}

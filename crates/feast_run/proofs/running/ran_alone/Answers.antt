@@ -1,5 +1,4 @@
-use Rattle.std.proofs.Common.{◌≡◌, ◌∙◌, ap, List}
-use Rattle.cell_grid.specs.declared.record.Record.{Record}
+use Rattle.std.proofs.Common.{◌∙◌, ap}
 use Rattle.feast_run.proofs.Runs.{alone_reports, events_live, first_records, is_alone, ready_valid}
 use Rattle.feast_run.specs.Answer.{grid_after}
 use Rattle.feast_run.specs.Values.{elements_value, ready_value}

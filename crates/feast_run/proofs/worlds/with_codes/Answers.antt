@@ -1,7 +1,5 @@
 use Rattle.std.proofs.Common.{ℕ, List, ap, arith, inr, length, refl, subst}
 use Rattle.feast_run.proofs.Sound.{codes_bring, codes_many}
-use Rattle.feast_run.specs.Elements.{code_elements}
-use Rattle.world_text.specs.Named.{named}
 use Rattle.world_text.specs.Printed.{IsNamed}
 use Rattle.world_text.specs.Values.{world_value}
 use Rattle.feast_run.proofs.worlds.with_codes.Goals as goal
