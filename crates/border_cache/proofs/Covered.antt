@@ -1,13 +1,15 @@
 -- The places that a window covers are those of its live sites among the shared sites of the edge.
-use Rattle.std.proofs.Common.{◌≡◌, ℕ, ◌+◌, ◌*◌, ◌<◌, true, refl, ap, ◌∙◌, arith, Option, Some, None, get_or, length}
-use Rattle.std.specs.Prelude.{◌==◌, ◌&&◌, slice_get}
+use Rattle.std.proofs.Common.{◌≡◌, ℕ, ◌+◌, ◌-◌, ◌*◌, ◌/◌, ◌<◌, true, refl, sym, ap, ◌∙◌, arith, Option, Some, None, get_or, length}
+use Rattle.std.specs.Prelude.{◌==◌, ◌&&◌, slice_get, if◌then◌else◌}
 use Rattle.std.specs.Option.{option_map}
 use Rattle.std.proofs.lemmas.Bool.Decides.{nat_tests}
 use Rattle.std.proofs.lemmas.List.Quantifiers.{position-Some}
 use Rattle.std.proofs.lemmas.Option.{slice_get-get_or}
-use Rattle.tile_map.specs.Plane.{Site, MapValue, in_window}
-use Rattle.tile_map.specs.Edges.{pairs_of, window_site, shared_of, register_of}
+use Rattle.window_sites.specs.Sites.{offset_of, shifted}
+use Rattle.tile_map.specs.Plane.{Site, MapValue, site, in_window}
+use Rattle.tile_map.specs.Edges.{pairs_of, low_end, live_site, window_site, shared_of, register_of}
 use Rattle.tile_map.specs.Laws.{IsPlane}
+use Rattle.tile_map.proofs.Spans.{held_parts}
 use Rattle.border_cache.specs.News.{Covers}
 use Rattle.border_cache.specs.Windows.{place_in, place_of, place_of_some}
 
@@ -40,3 +42,15 @@ in_covered m p c e k lt w =
     go : (o : Option ℕ) → option_map (λ k. 1 + 2 * k) o ≡ Some (1 + 2 * k) → o ≡ Some k
     go None h = absurd (cc h)
     go (Some j) h = let q : 1 + 2 * j ≡ 1 + 2 * k = ap inside h in ap Some (omega (arith, q))
+
+-- a site that an edge shares is live, so that its place needs no other test
+pub shared_place : (m : MapValue) → IsPlane m → (c : Site) (e n u v r : ℕ) → shifted c.x (offset_of n).0 ≡ Some u → shifted c.y (offset_of n).1 ≡ Some v → register_of m e (site u v) ≡ Some r → Some ((r - 1) / 2) ≡ place_in m c e n
+shared_place m p c e n u v r x y h =
+    let s = site u v in
+    let shared = p.registers.shared e r s h in
+    let live = (held_parts m (low_end m e) s (p.edges.held e shared.0 s shared.1).0).live in
+    half (place_of m e s) r h ∙ sym ((λ i. place_of_some m e (live_site m (x i) (y i))) ∙ ap (λ b. place_of_some m e (if b then Some s else None)) live)
+  where
+    half : (o : Option ℕ) (r : ℕ) → option_map (λ k. 1 + 2 * k) o ≡ Some r → Some ((r - 1) / 2) ≡ o
+    half None r h = absurd (cc h)
+    half (Some k) r h = let q : 1 + 2 * k ≡ r = ap inside h in ap Some (omega (arith, q))

@@ -5,7 +5,6 @@ use Rattle.std.specs.List.Sorted.{IsStrictlyIncreasing}
 use Rattle.std.proofs.lemmas.Bool.Decides.{nat_tests}
 use Rattle.std.proofs.lemmas.List.{get_or-set_same, get_or-set_other, get_or_default}
 use Rattle.std.proofs.lemmas.Nat.{mul-add-lt, same_from_place, mod-mul-add, div-mul-add}
-use Rattle.window_sites.specs.Window.{WindowValue}
 use Rattle.tile_map.specs.Plane.{Site, MapValue, site, is_held}
 use Rattle.tile_map.specs.Spans.{left_of, top_of}
 use Rattle.tile_map.specs.Edges.{window_site, needs_of, has_end, low_end, high_end}
@@ -18,9 +17,10 @@ use Rattle.edge_lock.specs.EndLists.{EndLists, IsHeld}
 use Rattle.border_cache.specs.Cells.{CellValue, cell_value, newest}
 use Rattle.border_cache.specs.News.{no_cell}
 use Rattle.border_cache.specs.Published.{cell_at}
-use Rattle.border_cache.specs.Windows.{has, IsEdgeFor, IsView, RefreshesAll, PublishesAll, seen_on}
-use Rattle.border_cache.specs.Copies.{CacheValue, cache_of, columns_of, rows_of, place_held, held_cell, window_cells, Puts, PutsFor, HoldsWindow, IsCentre, IsEndOf, IsFirstCopy, IsFirstRectangle, Stores, Refreshed}
+use Rattle.border_cache.specs.Windows.{has, IsEdgeFor, RefreshesAll, PublishesAll, seen_on}
+use Rattle.border_cache.specs.Copies.{CacheValue, cache_of, columns_of, rows_of, place_held, held_cell, cell_for, window_cells, Puts, PutsFor, HoldsWindow, IsCentre, IsEndOf, IsFirstCopy, IsFirstRectangle, Stores, Refreshed}
 use Rattle.border_cache.proofs.Apart.{sites_apart}
+use Rattle.border_cache.proofs.Needs.{adds_all_begins}
 use Rattle.border_cache.proofs.Refreshes.{less_or_same}
 
 pub place_inside : (m : MapValue) (t : ℕ) (s : Site) → is_held m t s ≡ true → place_held m t s < columns_of m t * rows_of m t
@@ -178,6 +178,15 @@ refreshed_by c edges old new a b before after same r s = record {
       (λ n lt. r.cells n lt ∙ ap (λ x. newest x (seen_on old.map old.tile c r.more n edges)) (same n lt)) s;
 }
 
+-- where no edge is needed, nothing is news
+pub refreshed_none : (c : Site) (v : CacheValue) (a : ℕ → EndLists) → Refreshed c [] v v a a
+refreshed_none c v a = record {
+  more = λ e. [];
+  adds = adds_all_begins a;
+  reads = λ e h. absurd (true≢false (sym h));
+  stores = record { differs = record { map = refl; tile = refl; others = λ s h out. refl }; done = λ n s lt at. sym (ap (cell_for v) at) };
+}
+
 pub publishes_by : (m : MapValue) (t : ℕ) (c : Site) (edges : List ℕ) (p q : ℕ → CellValue) (a b : ℕ → EndLists) → ((n : ℕ) → n < 41 → p n ≡ q n) → PublishesAll m t c edges p a b → PublishesAll m t c edges q a b
 publishes_by m t c edges p q a b same r = record {
   more = r.more;
@@ -190,6 +199,3 @@ publishes_by m t c edges p q a b same r = record {
     only_written = w.only_written;
   };
 }
-
-pub views_by : (m : MapValue) (c : Site) (p q : ℕ → CellValue) (view : WindowValue) → ((n : ℕ) → n < 41 → p n ≡ q n) → IsView m c p view → IsView m c q view
-views_by m c p q view same v = record { valid = v.valid; live = v.live; atoms = λ n lt h. v.atoms n lt h ∙ ap (λ x. x.atom) (same n lt) }

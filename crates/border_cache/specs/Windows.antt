@@ -81,6 +81,10 @@ Reads register accesses = (value : ℕ) × (accesses ≡ Read register value ∷
 abbrev pub is_shown : MapValue → Site → ℕ → Bool
 is_shown m c n = is_some (window_site m c n)
 
+-- all sites of the window at c are live
+abbrev pub IsWhole : MapValue → Site → Type 0
+IsWhole m c = (n : ℕ) → n < 41 → is_shown m c n ≡ true
+
 -- a window that shows the atoms of these cells at its live sites
 pub record IsView (m : MapValue) (c : Site) (cells : ℕ → CellValue) (view : WindowValue) : Type 0 where
   pub valid : IsWindow view

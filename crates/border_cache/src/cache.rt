@@ -8,11 +8,11 @@ ghost use Rattle.window_sites.specs.Window.{atom_at};
 ghost use Rattle.edge_lock.specs.EndLists.{IsHeld};
 ghost use Rattle.border_cache.specs.Cells.{cell_value};
 ghost use Rattle.border_cache.specs.Published.{cell_at};
-ghost use Rattle.border_cache.specs.Windows.{has, IsView, PublishesAll};
+ghost use Rattle.border_cache.specs.Windows.{has, IsView, IsWhole, PublishesAll};
 ghost use Rattle.border_cache.specs.Copies.{IsGridOf, IsFirstCopy, IsFirstRectangle, IsCentre, HoldsWindow, IsEndOf, Puts, PutsFor, Stores, Refreshed, Marked, place_held, held_cell, window_cells};
 
 use crate::cell::Cell;
-use crate::places::{publish_needs, refresh_needs, site_at};
+use crate::places::{is_whole, publish_needs, refresh_needs, site_at};
 use crate::view::view_of;
 use bit_field::Atom;
 use cell_grid::Grid;
@@ -94,6 +94,9 @@ impl Cache {
         ensures moved { D.moved board.old board.new }
     {
         map.laws();
+        if needs.len() == 0 {
+            return;
+        }
         let mut cells = self.around(map, x, y);
         refresh_needs(&mut cells, map, self.tile, x, y, needs, board);
         self.store(map, x, y, &cells);
@@ -106,8 +109,7 @@ impl Cache {
         ensures { IsView self.now.map (site x y) (window_cells self.now (site x y)) result }
     {
         map.laws();
-        let cells = self.around(map, x, y);
-        view_of(map, x, y, &cells)
+        view_of(map, self, x, y)
     }
 
     /// Gives each live site of the window at a centre its atom of an event's window and the event's
@@ -118,8 +120,7 @@ impl Cache {
         ensures { Marked (site x y) window.now stamp self.old self.new }
     {
         map.laws();
-        let cells = event_cells(window, stamp);
-        self.store(map, x, y, &cells);
+        self.mark_sites(map, x, y, window, stamp);
     }
 
     /// Writes the cell of each live site of the window at a centre to each needed edge that shares
@@ -137,6 +138,9 @@ impl Cache {
         ensures moved { D.moved board.old board.new }
     {
         map.laws();
+        if needs.len() == 0 {
+            return;
+        }
         let cells = self.around(map, x, y);
         publish_needs(&cells, map, self.tile, x, y, needs, board);
     }
@@ -160,24 +164,26 @@ impl Cache {
         ensures cells { (n : ℕ) → n < 41 → cell_at result n ≡ window_cells self.now (site x y) n }
         ensures count { length result ≡ 41 }
     {
+        let whole = is_whole(map, x, y);
         let mut cells = [Cell::new(0, Atom::new(0, 0)); 41];
         for n in 0..41u8 {
-            cells[n as usize] = self.cell_around(map, x, y, n);
+            cells[n as usize] = self.cell_around(map, x, y, n, whole);
         }
         cells
     }
 
     /// The cell of site `n` of the window at a centre.
-    fn cell_around(&self, map: &Map, x: u32, y: u32, n: u8) -> Cell
+    fn cell_around(&self, map: &Map, x: u32, y: u32, n: u8, whole: bool) -> Cell
         requires map { map.now ≡ self.now.map }
         requires valid { IsMap map.now }
         requires holds { HoldsWindow self.now.map self.now.tile (site x y) }
         requires n { n ≤ 40 }
         requires x { x < map.now.tx * map.now.w }
         requires y { y < map.now.ty * map.now.h }
+        requires whole { whole ≡ true → IsWhole map.now (site x y) }
         ensures { result ≡ window_cells self.now (site x y) n }
     {
-        match site_at(map, x, y, n) {
+        match site_at(map, x, y, n, whole) {
             Some((u, v)) => self.cells[self.index(u, v)],
             None => Cell::new(0, Atom::new(0, 0)),
         }
@@ -193,22 +199,39 @@ impl Cache {
         requires y { y < map.now.ty * map.now.h }
         ensures { Stores (site x y) (cell_at cells.now) self.old self.new }
     {
+        let whole = is_whole(map, x, y);
         for n in 0..41u8 {
-            self.put_around(map, x, y, n, cells[n as usize]);
+            self.put_around(map, x, y, n, whole, cells[n as usize]);
+        }
+    }
+
+    /// Gives each live site of the window at a centre its atom of an event's window and a stamp.
+    fn mark_sites(&mut self, map: &Map, x: u32, y: u32, window: &Window, stamp: u32)
+        requires map { map.now ≡ self.old.map }
+        requires valid { IsMap map.now }
+        requires holds { HoldsWindow self.old.map self.old.tile (site x y) }
+        requires x { x < map.now.tx * map.now.w }
+        requires y { y < map.now.ty * map.now.h }
+        ensures { Marked (site x y) window.now stamp self.old self.new }
+    {
+        let whole = is_whole(map, x, y);
+        for n in 0..41u8 {
+            self.put_around(map, x, y, n, whole, Cell::new(stamp, window.get(n)));
         }
     }
 
     /// Gives site `n` of the window at a centre a cell, if the site is live.
-    fn put_around(&mut self, map: &Map, x: u32, y: u32, n: u8, cell: Cell)
+    fn put_around(&mut self, map: &Map, x: u32, y: u32, n: u8, whole: bool, cell: Cell)
         requires map { map.now ≡ self.old.map }
         requires valid { IsMap map.now }
         requires holds { HoldsWindow self.old.map self.old.tile (site x y) }
         requires n { n ≤ 40 }
         requires x { x < map.now.tx * map.now.w }
         requires y { y < map.now.ty * map.now.h }
+        requires whole { whole ≡ true → IsWhole map.now (site x y) }
         ensures { PutsFor (window_site self.old.map (site x y) n) cell self.old self.new }
     {
-        if let Some((u, v)) = site_at(map, x, y, n) {
+        if let Some((u, v)) = site_at(map, x, y, n, whole) {
             self.put(u, v, cell);
         }
     }
@@ -246,16 +269,4 @@ fn first_cells(
         cells.push(Cell::new(0, atom))?;
     }
     Ok(cells)
-}
-
-/// The cells that an event leaves, by the numbers of the sites of its window.
-fn event_cells(window: &Window, stamp: u32) -> [Cell; 41]
-    ensures cells { (n : ℕ) → n < 41 → cell_at result n ≡ cell_value stamp (atom_at window.now n) }
-    ensures count { length result ≡ 41 }
-{
-    let mut cells = [Cell::new(0, Atom::new(0, 0)); 41];
-    for n in 0..41u8 {
-        cells[n as usize] = Cell::new(stamp, window.get(n));
-    }
-    cells
 }

@@ -1,5 +1,5 @@
 -- The report of a run replays to its own atoms.
-use Rattle.std.proofs.Common.{ℕ, ◌≡◌, List, ◌++◌, Ok, codes, ap, sym, subst, ◌∙◌, inr}
+use Rattle.std.proofs.Common.{ℕ, ◌≡◌, ◌≤◌, List, ◌++◌, Ok, codes, length, ap, sym, subst, ◌∙◌, inr}
 use Rattle.cell_grid.specs.Grid.{GridValue}
 use Rattle.cell_grid.specs.declared.record.Record.{Record}
 use Rattle.event_journal.specs.Reading.{read_report}
@@ -7,12 +7,13 @@ use Rattle.event_journal.specs.declared.abandoned.Abandoned.{Abandoned}
 use Rattle.feast_base.specs.Outside.{File}
 use Rattle.feast_run.proofs.Machines.{left_named}
 use Rattle.feast_run.proofs.PlansFit.{HasSize, left_size, plan_fits}
+use Rattle.feast_run.proofs.ReportLength.{formed_short, report_short}
 use Rattle.feast_run.proofs.Sound.{AreSound}
 use Rattle.feast_run.specs.Again.{ReplaysTo}
 use Rattle.feast_run.specs.Elements.{ElementsValue}
 use Rattle.feast_run.specs.Owing.{IsRun}
 use Rattle.feast_run.specs.Promises.{WorldTold}
-use Rattle.feast_run.specs.Stages.{JournalValue, journal_said, ready_with}
+use Rattle.feast_run.specs.Stages.{JournalValue, journal_limit, journal_said, ready_with}
 use Rattle.grid_print.proofs.ReadAgain.{read_again}
 use Rattle.grid_print.specs.Again.{IsLeft}
 use Rattle.grid_print.specs.Report.{atoms_text, report}
@@ -35,11 +36,14 @@ replays_to files word world e grid records abandoned text sound told run shown =
       stamped = run.stamped;
       excused = run.excused;
     } in
-    let says = read_again names world.plane world.plan sound.named (plan_fits names world named) grid records abandoned left in
+    let fits = plan_fits names world named in
+    let says = read_again names world.plane world.plan sound.named fits grid records abandoned left in
+    let short = report_short names world.plane world.plan (formed_short names sound.named) fits grid records abandoned left in
     let journal : JournalValue = record { records = records; abandoned = abandoned } in
     let reads : journal_said (read_report world.plane world.plan.lists text) ≡ Ok journal =
     ap (λ bytes. journal_said (read_report world.plane world.plan.lists bytes)) shown ∙ ap journal_said says.1 ∙ (λ i. Ok (record { records = says.2 i; abandoned = says.3 i })) in
-    λ others at file within.
+    let within : length text ≤ journal_limit = subst (λ bytes. length bytes ≤ journal_limit) (sym shown) short in
+    λ others at file.
     inr (record {
       value = journal;
       passed = inr (record { value = text; passed = (file, within); rest = reads });

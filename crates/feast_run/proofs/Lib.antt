@@ -10,6 +10,7 @@ pub mod Missing
 pub mod PlansFit
 pub mod Promised
 pub mod Quiet
+pub mod ReportLength
 pub mod Runs
 pub mod Sound
 pub mod Sure

@@ -14,7 +14,7 @@ use Rattle.world_grid.specs.Start.{start_grid}
 -- What a run left, and owes: its grid is what the events of its journal give, one at a time in the journal's order, on one
 -- uncut grid that begins with the world's atoms, by what the elements mean; each attempt of each tile is one
 -- event or one abandoned attempt; each stamp is 1 more than the greatest of the linked events before it; and each
--- abandoned attempt names one that held its edge.
+-- abandoned attempt is excused by the attempt that it names
 pub record IsRun (r : ReadyValue) (grid : GridValue) (records : List Record) (abandoned : List Abandoned) : Type 0 where
   pub replayed : grid ≡ replay_from r.meaning (start_grid r.world.plane r.world.atoms) records
   pub accounted : IsAccounted r.world.plane r.world.plan records abandoned

@@ -70,7 +70,8 @@ fn shut_off(map: &Map, tile: u32, grid: &mut Grid)
     grid.shut(area.left, area.top, area.columns, area.rows);
 }
 
-/// A grid of the map's plane with its live sites, all of them empty.
+/// A grid of the map's plane with its live sites, all of them empty, or `NoMemory` where there is no
+/// memory for it.
 pub fn blank_grid(alloc: Global, map: &Map) -> Result<Grid, NoMemory>
     ensures { IfOk result (λ g. IsBlank map.now g) }
 {

@@ -102,7 +102,7 @@ fn add(
     }
 }
 
-/// TakesPiece the piece of `len` bytes at a place: adds its token, if it is one, and gives its length
+/// Takes the piece of `len` bytes at a place: adds its token, if it is one, and gives its length
 /// and the place behind it.
 fn take_piece(
     bytes: &[u8],
@@ -130,7 +130,7 @@ fn take_piece(
     Ok((len, next))
 }
 
-/// TakesPiece the piece at a place, or finds the fault that stands there.
+/// Takes the piece at a place, or finds the fault that stands there.
 fn step(
     bytes: &[u8],
     at: usize,
@@ -212,8 +212,8 @@ pub fn lex(alloc: Global, bytes: &[u8], file: u32) -> Result<Vec<Token>, LexFaul
 }
 
 /// Each text has a list of tokens within the limit or a first fault, and never both. No text has two
-/// lists of tokens, or two first faults. A text with a bad byte, an open comment or a number too large behind some pieces has no list of any
-/// length. No numeral has two values.
+/// lists of tokens, or two first faults. A text with a bad byte, an open comment or a number too
+/// large behind some pieces has no list of any length. No numeral has two values.
 pub fn one_reading()
     ensures some { (file : ℕ) (text : List ℕ) → ((tokens : List Token) × IsTokensOf file text tokens × (length tokens ≤ most_tokens + 1)) ⊎ ((fault : LexFault) × IsFaultOf file text fault) }
     ensures list { (file : ℕ) (text : List ℕ) (a b : List Token) → IsTokensOf file text a → IsTokensOf file text b → a ≡ b }

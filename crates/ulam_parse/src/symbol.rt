@@ -187,17 +187,27 @@ pub enum Assigning {
 /// What a symbol begins where a statement is wanted.
 #[derive(Clone, Copy, Debug, PartialEq, Eq)]
 pub enum Starting {
+    /// A block, by `{`.
     Block,
+    /// The empty statement, by `;`.
     Empty,
+    /// A choice.
     If,
+    /// A loop with a test.
     While,
+    /// A loop with a start, a test and a step.
     For,
+    /// The end of a function.
     Return,
+    /// The end of a loop.
     Break,
+    /// The end of a turn of a loop.
     Continue,
+    /// A declaration of a local.
     Declare,
     /// An assignment, a count or a call.
     Simple,
+    /// No statement.
     Nothing,
 }
 

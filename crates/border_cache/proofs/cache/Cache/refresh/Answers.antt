@@ -1,9 +1,11 @@
-use Rattle.std.proofs.Common.{ap, sym, subst}
+use Rattle.std.proofs.Common.{ap, sym, ◌∙◌, subst}
 use Rattle.std.specs.Prelude.{All}
 use Rattle.tile_map.specs.Plane.{site}
 use Rattle.tile_map.specs.Laws.{IsPlane}
 use Rattle.border_cache.specs.Windows.{IsEdgeFor, RefreshesAll}
-use Rattle.border_cache.proofs.Stored.{centre_holds, needs_ready, refreshed_by}
+use Rattle.border_cache.specs.Copies.{Refreshed}
+use Rattle.border_cache.proofs.Needs.{no_edges}
+use Rattle.border_cache.proofs.Stored.{centre_holds, needs_ready, refreshed_by, refreshed_none}
 use Rattle.border_cache.proofs.cache.Cache.refresh.Goals as goal
 
 pub around-cells-requires-clause-holds : goal.around-cells-requires-clause-holds
@@ -32,3 +34,10 @@ returns-clause-refreshed g c =
     let p = subst (λ m. RefreshesAll m c.self.inside.tile s c.args.needs.now a b before after) c.requires.map c.refresh_needs.ensures.refreshes in
     let q = subst (λ t. RefreshesAll v.map t s c.args.needs.now a b before after) (ap (λ w. w.tile) c.self.view_is) p in
     refreshed_by s c.args.needs.now v c.store.new.self a b before after c.around-cells.ensures.cells q c.store.ensures
+
+pub returns-then-len-eq0-clause-refreshed : goal.returns-then-len-eq0-clause-refreshed
+returns-then-len-eq0-clause-refreshed g c =
+    let v = c.args.self.now in
+    let s = site c.args.x c.args.y in
+    let a = g.D.Board.lists c.args.board.now in
+    subst (λ es. Refreshed s es v v a a) (sym (no_edges c.args.needs.now (sym c.len.ensures.count ∙ c.if-len-eq0.true))) (refreshed_none s v a)

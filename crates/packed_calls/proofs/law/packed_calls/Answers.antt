@@ -1,0 +1,12 @@
+use Rattle.feast_run.specs.Answer.{runs, steps}
+use Rattle.packed_calls.proofs.Packs.{from_pack, one_shown, runs_from, runs_to, steps_from, steps_to, to_pack}
+use Rattle.packed_calls.proofs.law.packed_calls.Goals as goal
+
+pub returns : goal.returns
+returns c = record {
+  written = λ files world file words packs a b. one_shown files words file packs world a b;
+  step = λ files world file words packs o l. (from_pack files words file packs world steps o l, to_pack files words file packs world steps o l);
+  run = λ files world file words packs o l. (from_pack files words file packs world runs o l, to_pack files words file packs world runs o l);
+  stepped = λ files world file words packs text. (steps_from files words file packs world text, steps_to files words file packs world text);
+  ran = λ files world file words packs text. (runs_from files words file packs world text, runs_to files words file packs world text);
+}
