@@ -4,8 +4,7 @@
 Of each row of a table with an example, the refusal line that the program writes has to have the
 row's code, text and place, and the status of the row's stage. Examples of element files are the
 parts in backquotes, one behind another, each as often as `N times` before it says. Other examples
-change lines of the text, or bytes of the code, of the last block before the table. Rows of code files
-are left out as long as `steppack` is not among the forms that tests/built names.
+change lines of the text, or bytes of the code, of the last block before the table.
 """
 import pathlib
 import re
@@ -15,7 +14,6 @@ import tempfile
 
 TOP = pathlib.Path(__file__).resolve().parent.parent
 WALKER = (TOP / "examples/walker.ulam").read_text()
-BUILT = (TOP / "tests/built").read_text().strip().split(",")
 STATUS = {1: 4, 2: 4, 3: 4, 4: 4, 5: 4, 60: 4, 6: 9, 7: 5, 8: 6}
 
 
@@ -75,11 +73,6 @@ def files_of(program, code, example, blocks):
     return files, ["rewind", "w", "j", times[1], "e"] if times else ["replay", "w", "j", "e"], "j"
 
 
-def is_built(cells):
-    """Whether the program has the form that a row's example calls."""
-    return "steppack" in BUILT or not 61 <= int(cells[0][1:]) <= 64
-
-
 def fault(program, cells, blocks):
     """What is wrong with a row, or None."""
     code, text, _, example, place = cells
@@ -98,7 +91,7 @@ def fault(program, cells, blocks):
 def main():
     program = str(pathlib.Path(sys.argv[1]).resolve())
     page = (TOP / "docs/errors.md").read_text()
-    faults = [fault(program, *row) for row in rows(page) if is_built(row[0])]
+    faults = [fault(program, *row) for row in rows(page)]
     found = [it for it in faults if it is not None]
     print(*found, f"{len(faults) - len(found)} passed, {len(found)} failed", sep="\n")
     return 1 if found else 0

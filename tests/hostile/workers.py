@@ -2,7 +2,7 @@
 unequal load; all on one processor; and workers on small stacks or without any thread.
 
 What a report has to be is asked of the program itself, by forms that know no threads: `replay` of it has
-to write its atoms, and `audit`, where it is built, has to say yes. Its entries are counted here.
+to write its atoms, and `audit` has to say yes. Its entries are counted here.
 """
 import random
 import sys
@@ -48,8 +48,7 @@ def checked(bench, name, words, entries, limits=None, before=(), seconds=120):
     bench.say(records + abandoned == entries, f"{name}: each attempt once", f"{records} + {abandoned}, not {entries}")
     bench.write("j", text)
     bench.expect(f"{name}: replayed", bench.call(["replay", "w", "j", "e"], seconds=seconds), DONE, atoms)
-    if bench.has("audit"):
-        bench.expect(f"{name}: audited", bench.call(["audit", "w", "j", "e"], seconds=seconds), DONE, b"yes\n")
+    bench.expect(f"{name}: audited", bench.call(["audit", "w", "j", "e"], seconds=seconds), DONE, b"yes\n")
     return abandoned
 
 
@@ -145,9 +144,6 @@ def threadless(bench):
 
 def workers(bench):
     """The table."""
-    if not bench.has("threads"):
-        bench.note("workers are not built yet")
-        return
     many(bench)
     unequal(bench)
     crowded(bench)
