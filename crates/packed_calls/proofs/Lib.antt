@@ -1,3 +1,5 @@
+mod Empty
+mod EmptyWorld
 mod Only
 mod Packs
 mod Shown

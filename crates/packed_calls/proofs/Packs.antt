@@ -10,7 +10,6 @@ use Rattle.feast_run.proofs.CodeStages.{codes_are, codes_pass}
 use Rattle.feast_run.proofs.Laws.{gives_one, then_one, went}
 use Rattle.feast_run.proofs.Loads.{files_load}
 use Rattle.feast_run.proofs.Runs.{set_is}
-use Rattle.feast_run.specs.Answer.{shows}
 use Rattle.feast_run.specs.CodeFiles.{code_limit, codes_from, codes_in}
 use Rattle.feast_run.specs.Elements.{code_elements, source_elements}
 use Rattle.feast_run.specs.Forms.{run, runpack, step, steppack}
@@ -60,9 +59,8 @@ module _ (files : List File) (words : List (List ℕ)) (file : List ℕ) (packs 
 
   the_set : Sources
   the_set =
-      let s = went (set_of (Some files) words) (shows pack_text) packs.text packs.packed in
-      let b = went (load_all (Some files) words) (builds words) s.value s.passed in
-      record { set = s.value; sources = b.value; loaded = b.passed; accepted = b.rest; text = s.rest }
+      let told = packs.packed.is_set in
+      record { set = packs.packed.set; sources = told.sources; loaded = files_load files words told.sources told.are_files; accepted = told.accepted; text = packs.packed.shown }
 
   abbrev set : SetValue
   set = the_set.set

@@ -1,1 +1,2 @@
 pub mod PackedFile
+pub mod Example

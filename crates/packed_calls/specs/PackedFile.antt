@@ -1,15 +1,15 @@
 -- A code file that `pack` wrote.
 use Rattle.std.specs.Prelude.{ℕ, ◌≡◌, ◌≤◌, List, Some, length}
 use Rattle.feast_base.specs.Outside.{File, file_of}
-use Rattle.feast_run.specs.Answer.{form_answer}
 use Rattle.feast_run.specs.CodeFiles.{code_limit}
 use Rattle.feast_run.specs.Forms.{pack}
 use Rattle.feast_run.specs.Outcomes.{Outcome, passes, refuses, misses}
+use Rattle.feast_run.specs.Promises.{Shows}
 
 -- the first file of a name holds what `pack` writes of some element files, and is no longer than a code file may be
 pub record IsPacked (files : List File) (words : List (List ℕ)) (file : List ℕ) : Type 0 where
   pub text : List ℕ
-  pub packed : form_answer (Some files) (pack words) (passes text)
+  pub packed : Shows files (pack words) text
   pub stands : file_of file files ≡ Some text
   pub within : length text ≤ code_limit
 
