@@ -6,36 +6,24 @@ See README.md beside this file.
 """
 
 import pathlib
-import random
 import re
 import resource
 import subprocess
 import sys
 import tempfile
 
-HERE = pathlib.Path(__file__).resolve().parent
-CRATE = HERE.parent / "crates/feast"
-PROGRAM = CRATE / "out/feast"
+sys.path.insert(0, str(pathlib.Path(__file__).resolve().parent))
+sys.dont_write_bytecode = True
+from whole import CRATE, ELEMENTS, PROGRAM, world  # noqa: E402
+
 TILES = 4
 SIDE = 16
 ATTEMPTS = 20_000
-ELEMENTS = """element Wander { EventWindow ew; Random random; Void behave() {
-  Unsigned i = random.create(4) + 1; if (ew.isEmpty(i)) ew.swap(0, i); } }
-element Stone { Void behave() { } }
-"""
 
 
-def world(attempts):
-    """One site in eight has a Wander, one in eight a Stone; the order is drawn."""
-    draw = random.Random(5)
-    lines = ["feast 1", f"tiles {TILES} {TILES}", f"size {SIDE} {SIDE}", "seed 7", f"attempts {attempts}"]
-    for y in range(SIDE * TILES):
-        for x in range(SIDE * TILES):
-            kind = draw.randrange(8)
-            if kind < 2:
-                lines.append(f"atom {x} {y} {('Wander', 'Stone')[kind]}")
-    lines.append("order seed 8")
-    return "\n".join(lines) + "\n"
+def ordered(attempts):
+    """The world with so many attempts a tile; its order is drawn."""
+    return world(TILES, attempts * TILES**2, side=SIDE) + "order seed 8\n"
 
 
 def used():
@@ -46,7 +34,7 @@ def used():
 
 def timed(program, folder, attempts):
     """The processor time of the least of five runs in seconds, and the report."""
-    (folder / "w").write_text(world(attempts))
+    (folder / "w").write_text(ordered(attempts))
     (folder / "e").write_text(ELEMENTS)
     seconds = []
     for _ in range(5):

@@ -7,46 +7,19 @@ See README.md beside this file.
 
 import os
 import pathlib
-import random
 import subprocess
+import sys
 import tempfile
-import time
 
-HERE = pathlib.Path(__file__).resolve().parent
-CRATE = HERE.parent / "crates/feast"
-PROGRAM = CRATE / "out/feast"
-SIDE = 64
-ATTEMPTS = 1_000_000
-ELEMENTS = """element Wander { EventWindow ew; Random random; Void behave() {
-  Unsigned i = random.create(4) + 1; if (ew.isEmpty(i)) ew.swap(0, i); } }
-element Stone { Void behave() { } }
-"""
-
-
-def world(tiles):
-    """A world of so many tiles each way: one site in eight has a Wander, one in eight a Stone."""
-    draw = random.Random(5)
-    lines = ["feast 1", f"tiles {tiles} {tiles}", f"size {SIDE} {SIDE}"]
-    lines += ["seed 7", f"attempts {ATTEMPTS // tiles**2}"]
-    for y in range(SIDE * tiles):
-        for x in range(SIDE * tiles):
-            kind = draw.randrange(8)
-            if kind < 2:
-                lines.append(f"atom {x} {y} {('Wander', 'Stone')[kind]}")
-    return "\n".join(lines) + "\n"
+sys.path.insert(0, str(pathlib.Path(__file__).resolve().parent))
+sys.dont_write_bytecode = True
+from whole import ATTEMPTS, CRATE, ELEMENTS, PROGRAM, timed, world  # noqa: E402
 
 
 def entries(report):
     """How many events and abandoned attempts a report has."""
     counts = [line.split() for line in report.split(b"\n") if line.startswith((b"journal ", b"abandoned "))]
     return [int(count) for _, count in counts]
-
-
-def timed(words):
-    """Seconds of one run."""
-    begin = time.perf_counter()
-    subprocess.run(words, stdout=subprocess.DEVNULL, check=True)
-    return time.perf_counter() - begin
 
 
 def main():

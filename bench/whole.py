@@ -23,16 +23,16 @@ element Stone { Void behave() { } }
 """
 
 
-def world(tiles=1, attempts=ATTEMPTS, scripted=False):
-    """A world of so many tiles each way: one site in eight has a Wander, one in eight a Stone."""
+def world(tiles=1, attempts=ATTEMPTS, scripted=False, side=SIDE):
+    """A world of so many tiles each way, with so many attempts together: one site in eight has a Wander, one in eight a Stone."""
     draw = random.Random(5)
-    lines = ["feast 1", f"tiles {tiles} {tiles}", f"size {SIDE} {SIDE}"]
+    lines = ["feast 1", f"tiles {tiles} {tiles}", f"size {side} {side}"]
     if scripted:
-        lines += [f"try 0 {draw.randrange(SIDE)} {draw.randrange(SIDE)} {draw.getrandbits(64):016x}" for _ in range(attempts)]
+        lines += [f"try 0 {draw.randrange(side)} {draw.randrange(side)} {draw.getrandbits(64):016x}" for _ in range(attempts)]
     else:
         lines += ["seed 7", f"attempts {attempts // tiles**2}"]
-    for y in range(SIDE * tiles):
-        for x in range(SIDE * tiles):
+    for y in range(side * tiles):
+        for x in range(side * tiles):
             kind = draw.randrange(8)
             if kind < 2:
                 lines.append(f"atom {x} {y} {('Wander', 'Stone')[kind]}")
