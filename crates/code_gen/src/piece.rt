@@ -26,9 +26,9 @@ pub enum Piece {
     Plain(Instr),
     /// A call of a function.
     Asks(Key),
-    /// The first piece where the number on top isn't 0, else the second.
+    /// The first piece if the number on top isn't 0, otherwise the second.
     Pick(Box<Piece>, Box<Piece>),
-    /// The piece where the number on top isn't 0.
+    /// The piece if the number on top isn't 0.
     Only(Box<Piece>),
     /// A loop with a test, a body and a step.
     Loop(Box<Piece>, Box<Piece>, Box<Piece>),

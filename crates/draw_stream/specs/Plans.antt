@@ -33,7 +33,7 @@ seeded seed count off sites = record { lists = seeded_lists seed count off sites
 abbrev pub scripted : List (List Attempt) → PlanValue
 scripted lists = record { lists = lists; origin = None }
 
--- 1 to 64 tiles, and at most 1,000,000 attempts over all
+-- 1 to 64 tiles, and at most 1,000,000 attempts in total
 pub record IsPlan (plan : PlanValue) : Type 0 where
   pub some : 1 ≤ length plan.lists
   pub most : length plan.lists ≤ 64

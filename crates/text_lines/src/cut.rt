@@ -3,7 +3,7 @@ ghost use Rattle.std.specs.Prelude.{◌≡◌, ◌∷◌, ◌++◌, ◌+◌, ◌
 ghost use Rattle.text_lines.specs.Fields.{Lacks, args_of, fields};
 ghost use Rattle.text_lines.specs.Lines.{ended_lines, is_skipped, lines, without_cr};
 
-/// The bytes before the first `end`, and those behind it.
+/// The bytes before the first `end`, and those after it.
 fn until(bytes: &[u8], end: u8) -> Option<(&[u8], &[u8])>
     ensures { MatchOption result (Lacks bytes.now end) (λ r. Lacks r.0.now end × (bytes.now ≡ r.0.now ++ end ∷ r.1.now)) }
 {
