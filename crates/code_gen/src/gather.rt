@@ -55,7 +55,8 @@ fn keep_body(bodies: &mut Vec<Piece>, body: Piece) -> Result<(), NoMemory>
 }
 
 /// All functions of an element that begins with this one, and their bodies. None if the limits of
-/// code are passed.
+/// code are passed. The list is gone through at most 65,537 times: each function has an
+/// instruction, so code that calls more of them is too long anyway.
 pub fn gather<S: Source>(alloc: Global, source: &S, main: Key) -> Result<Option<Gathered>, NoMemory>
     requires { IsReady (S.drafts source.now) (key_of main) }
     ensures { Gathers (S.drafts source.now) (key_of main) result }

@@ -20,7 +20,8 @@ pub enum Piece {
     Nothing,
     /// One piece and then another.
     Seq(Box<Piece>, Box<Piece>),
-    /// Pieces one after another, however many.
+    /// Pieces one after another, however many. Whatever goes over pieces goes over these by a loop,
+    /// so its recursion is only as deep as statements and operators nest in the source.
     Block(Vec<Piece>),
     /// An instruction that goes on.
     Plain(Instr),

@@ -72,7 +72,8 @@ abbrev pub lists_in : View → EndLists
 lists_in (Paired registers end holds refusals) = end_lists holds refusals
 lists_in view = end_lists [] []
 
--- the number of registers, as far as the view keeps it
+-- The number of registers, as far as the view keeps it. The views of the two ends carry it, since
+-- the statement of a step can't read the table's key.
 abbrev pub registers_in : View → ℕ
 registers_in (First registers) = registers
 registers_in (Alone registers) = registers

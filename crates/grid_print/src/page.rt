@@ -24,7 +24,8 @@ fn put_piece<K: Sink>(sink: &mut K, piece: &[u8], rest: &[u8]) -> Result<(), Sin
     sink.put(piece)
 }
 
-/// Puts bytes in pieces: each has 4,096 bytes except the last, which has 1 to 4,096.
+/// Puts bytes in pieces: each has 4,096 bytes except the last, which has 1 to 4,096. No clause of a
+/// sink can say how a text was cut into puts, so `put_piece` requires these sizes.
 pub(crate) fn put_pieces<K: Sink>(sink: &mut K, bytes: &[u8]) -> Result<(), SinkFailed>
     requires { K.faults sink.old < 2 ^ 64 - 1 }
     ensures { PutsAll (told K.written K.faults K.may_fail sink.old) (told K.written K.faults K.may_fail sink.new) bytes.now result }

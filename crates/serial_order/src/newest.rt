@@ -1,4 +1,5 @@
-//! The settled cell of a site: the newest of its tile's and those of the tile's edges.
+//! The settled cell of a site: the newest of its tile's and those of the tile's edges. All edges of
+//! the plane are asked, since a map has no public list of a tile's edges.
 ghost use Rattle.std.specs.Prelude.{◌≡◌, ◌<◌, true, length, Some};
 ghost use Rattle.bit_field.specs.Atom.{LeavesGap};
 ghost use Rattle.tile_map.specs.Plane.{site, is_held};

@@ -115,7 +115,9 @@ impl<B: Behave> Tile<B> {
         self.state.taken
     }
 
-    /// The site of the attempt in hand. None exactly in the phases `Draw` and `Finished`.
+    /// The site of the attempt in hand. None exactly in the phases `Draw` and `Finished`: in `Give`
+    /// and `Back` the attempt has its entry, and the site is still the tile's until the next one is
+    /// drawn.
     pub fn in_hand(&self) -> Option<(u32, u32)>
         ensures { result ≡ in_hand_at self.now.0.phase self.now.0.x self.now.0.y }
     {

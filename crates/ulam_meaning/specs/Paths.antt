@@ -1,4 +1,5 @@
--- What a path names, and which function it calls.
+-- What a path names, and which function it calls. These are definitions by themselves, since the
+-- compiler has to agree with them.
 use Rattle.std.specs.Prelude.{ℕ, ◌+◌, ℤ, List, [], ◌∷◌, slice_index_or}
 use Rattle.sat_math.specs.declared.NumType.{NumType}
 use Rattle.ulam_tree.specs.declared.resolved.Ty.{Ty}
