@@ -13,7 +13,7 @@ use Rattle.event_journal.specs.declared.fault.JournalFault.TheVariants.{BadLine,
 use Rattle.event_journal.specs.Forms.{record_form, abandoned_form, is_atom, is_header, count_form}
 use Rattle.event_journal.specs.Logs.{is_before}
 
--- what the next line has to be: the first of this many, with the rest after it
+-- what the next line has to be, and how many more lines of its kind come after it
 pub data Wants : Type 0 where
   header : Wants
   atom_count : Wants

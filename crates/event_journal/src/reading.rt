@@ -14,7 +14,7 @@ use crate::seats::Seat;
 use cell_grid::Record;
 use tile_map::Map;
 
-/// What the next line has to be: the first of this many, with the rest after it.
+/// What the next line has to be, and how many more lines of its kind come after it.
 #[derive(Clone, Copy, Debug, PartialEq, Eq)]
 pub(crate) enum Wants {
     Header,
