@@ -45,7 +45,7 @@ impl<B> Model for Tile<B> {
 }
 
 impl<B: Behave> Tile<B> {
-    /// One whole step of the tile's phase; answers the phase that follows. At `Finished` and at
+    /// The one step of the tile's phase; answers the phase that follows. At `Finished` and at
     /// `Worn` nothing happens.
     ///
     /// The map is the one that the tile was made with, the board this tile's end of its edges, and
