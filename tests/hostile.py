@@ -13,6 +13,8 @@ The tables are the modules of tests/hostile:
 `--long` tries the whole of each table, and without it what takes some seconds. docs/reliability.md
 has the figures.
 """
+from __future__ import annotations
+
 import importlib
 import pathlib
 import sys
@@ -27,7 +29,7 @@ from bench import Bench  # noqa: E402
 TABLES = ["edge", "memory", "elements", "texts", "fronts", "workers"]
 
 
-def run(program, long, table):
+def run(program: str, long: bool, table: str) -> bool:
     """Runs a table, and says whether all of it held."""
     bench = Bench(program, long)
     bench.title = table
@@ -42,7 +44,8 @@ def run(program, long, table):
     return not bench.faults
 
 
-def main():
+def main() -> int:
+    """The command."""
     words = [word for word in sys.argv[1:] if word != "--long"]
     if not words or not set(words[1:]) <= set(TABLES):
         print(__doc__, file=sys.stderr)
