@@ -1,5 +1,5 @@
 #!/usr/bin/env python3
-"""Tries the first call of `./feast` on a small repository with a toolchain that only pretends: first_call.py.
+"""Tries the first call of `./feast` on a small repository with a toolchain that only pretends: first_call.py [TEST..].
 
 The repository is made in a temporary folder, with a copy of `feast` and of tools/first_call and three crates.
 The toolchain is tests/fakes/rt: it takes tenths of a second for a crate, and notes its calls.
@@ -105,6 +105,11 @@ class FirstCall(unittest.TestCase):
             capture_output=True,
         )
         self.assertEqual(process.stdout, b"proved call of <\xff>\n")
+
+    def test_signals_are_as_they_were(self) -> None:
+        ignored = int(Call(self, ["signals"]).end()[1].split()[-1], 16)
+        for number in (signal.SIGPIPE, signal.SIGXFSZ, signal.SIGINT):
+            self.assertFalse(ignored >> (number - 1) & 1, number.name)
 
     def test_built_program_is_run_at_once(self) -> None:
         Call(self, ["run"]).end()
@@ -274,7 +279,7 @@ def main() -> int:
     def tried(case: unittest.TestCase) -> unittest.TestResult:
         return case.run(unittest.TestResult()) or unittest.TestResult()
 
-    cases = list(unittest.defaultTestLoader.loadTestsFromTestCase(FirstCall))
+    cases = [FirstCall(name) for name in sys.argv[1:] or unittest.defaultTestLoader.getTestCaseNames(FirstCall)]
     with concurrent.futures.ThreadPoolExecutor(4) as pool:
         results = list(pool.map(tried, cases))
     faults = [fault for result in results for fault in [*result.failures, *result.errors]]
