@@ -27,8 +27,8 @@ PROVED, STATUS = "proved call of", 3
 WITH_LITTLE_MEMORY = """
 import pathlib, sys
 sys.path[0] = sys.argv[1] + "/tools"
-from first_call import proof
-proof.free_memory = lambda: 2
+from first_call import machine, preview
+machine.free_memory = preview.free_memory = lambda: 2
 from first_call.call import main
 sys.exit(main(pathlib.Path(sys.argv[1]), sys.argv[2:]))
 """
@@ -168,6 +168,7 @@ class FirstCall(unittest.TestCase):
         self.assertEqual([it for it in self.calls() if it.startswith(("all", "lib", "run"))], ["lib low", "lib middle", "run"])
         self.assertRegex(ended[2], "1 of 3 crates are proved; .* proving middle\n")
         self.assertNotIn("looking through", ended[2])
+        self.assertIn("no preview: it wants 4 gigabytes", ended[2])
 
     def test_four_calls_build_once(self) -> None:
         calls = [Call(self, ["run", str(number)]) for number in range(4)]

@@ -3,10 +3,13 @@
 `./feast` hands its words over to this package where the program isn't built, or a source is newer:
 
   call       the order of things: the lock, the preview, the proof, the program
-  crates     the crates that the program is made of, and which of them are kept
-  sources    whether the program is older than a source
+  build      the toolchain's runs, followed until they end
   lock       one build at a time
-  proof      the toolchain's runs, and what they are at
+  sources    whether the program is older than a source
+  crates     the crates that the program is made of
+  kept       what earlier runs have left of them
+  machine    memory and processors
+  proof      which runs of the toolchain there are, and what one is at
   progress   what is done, what is left, and how long that takes
   seconds    how long each crate takes: the table `seconds.txt`, and the last build here
   preview    the same call without any proof, in the meantime

@@ -10,8 +10,9 @@ from first_call.children import Child
 from first_call.crates import PROGRAM, Crate, crates_of_program
 from first_call.faults import said_of_faults
 from first_call.kept import Kept, kept
+from first_call.machine import lanes_here
 from first_call.progress import Progress
-from first_call.proof import WAITS, Log, Step, at_work, lanes_here, steps, told_crate
+from first_call.proof import WAITS, Log, Step, at_work, steps, told_crate
 from first_call.teller import Teller, spoken
 
 

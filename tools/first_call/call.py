@@ -81,7 +81,7 @@ class FirstCall:
             try:
                 self.preview = Preview(self.words, self.top / "crates" / PROGRAM)
                 self.teller.say("a preview of this call, run without proof, comes in a minute or two")
-            except NoPreview as why:
+            except (NoPreview, OSError) as why:
                 self.teller.say(f"no preview: {why}")
 
     def run_program(self) -> int:

@@ -8,17 +8,20 @@ from __future__ import annotations
 import os
 import re
 import stat
-import sys
 import tempfile
 from dataclasses import dataclass, field
 from pathlib import Path
 from typing import IO, Mapping, Optional
 
 from first_call.children import Child
+from first_call.machine import free_memory
 
 # Names that `rt try` keeps for itself.
 TAKEN = ("program", "stdin", "stdout", "stderr")
+# Its status where the call takes too long or writes too much.
 NO_ANSWER = 6
+# How many gigabytes of memory there must be for it.
+MEMORY = 4
 ENDED = re.compile(rb"^run=ended status=(\d+) .*proved=no\n\Z", re.M)
 # Bytes that a text doesn't have.
 NO_TEXT = re.compile(rb"[^\t\n\r -\x7e\x80-\xff]")
@@ -64,6 +67,8 @@ class Preview:
     """A call that runs without any proof."""
 
     def __init__(self, words: list[str], home: Path) -> None:
+        if free_memory() < MEMORY:
+            raise NoPreview(f"it wants {MEMORY} gigabytes of memory")
         call = Call()
         for word in words:
             call.add(word)

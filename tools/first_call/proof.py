@@ -6,7 +6,6 @@ each library is a run of its own, one after another. A last run builds the progr
 """
 from __future__ import annotations
 
-import os
 import re
 from dataclasses import dataclass
 from pathlib import Path
@@ -16,8 +15,6 @@ from first_call.children import commands_of
 from first_call.crates import PROGRAM, Crate
 from first_call.seconds import BUILDING, LOOKING
 
-# How many gigabytes one run over all crates wants, and how many each crate that is proved beside others.
-ALL_AT_ONCE, EACH = 12, 4
 # What the toolchain tells while it waits for another run of its own.
 WAITS = re.compile(r"^rt: (waiting for another rt .*|.*: another copy of the repository is building .*)$")
 
@@ -31,18 +28,6 @@ class Step:
     folder: Path
     ends: tuple[str, ...]
     work: frozenset[str] = frozenset()
-
-
-def free_memory() -> int:
-    """How many gigabytes of memory there are to be had."""
-    found = re.search(r"^MemAvailable:\s+(\d+)", Path("/proc/meminfo").read_text(), re.M)
-    return int(found[1]) // 1_000_000 if found else 0
-
-
-def lanes_here() -> int:
-    """How many crates to prove side by side: one for each processor that has its memory."""
-    memory = free_memory()
-    return max(min(len(os.sched_getaffinity(0)), memory // EACH), 1) if memory >= ALL_AT_ONCE else 1
 
 
 def steps(crates: list[Crate], lanes: int) -> list[Step]:
