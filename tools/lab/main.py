@@ -1,0 +1,59 @@
+"""The words of the lab."""
+import argparse
+import importlib
+import importlib.util
+import os
+import signal
+import sys
+from types import FrameType, ModuleType
+from typing import NoReturn
+
+from lab.errors import LabError
+
+VERBS = ("chain", "film", "sweep", "rates", "atoms", "paint")
+EPILOG = """Bad input gets one line on standard error and status 2. Files are written whole or not at all.
+The lab calls the program that ./feast has built; FEAST_PROGRAM names another one."""
+
+
+def verbs() -> dict[str, ModuleType]:
+    """The modules of the verbs. The doc string of each is its help, and the first line its summary."""
+    return {verb: importlib.import_module(f"lab.{verb}") for verb in VERBS
+            if importlib.util.find_spec(f"lab.{verb}") is not None}
+
+
+def parser(modules: dict[str, ModuleType]) -> argparse.ArgumentParser:
+    """What reads the words."""
+    form = argparse.RawDescriptionHelpFormatter
+    top = argparse.ArgumentParser(prog="./lab", formatter_class=form, epilog=EPILOG,
+                                  description="Long runs, films, sweeps, rates and atoms, beside the program.")
+    choice = top.add_subparsers(metavar="VERB", required=True)
+    for verb, module in modules.items():
+        text = module.__doc__ or ""
+        below = choice.add_parser(verb, help=text.partition("\n")[0], description=text, formatter_class=form)
+        module.add_arguments(below)
+        below.set_defaults(run=module.run)
+    return top
+
+
+def stop(number: int, _frame: FrameType | None) -> NoReturn:
+    """Ends at a signal, as an interrupt from the keyboard does, so that calls of the program end too."""
+    raise SystemExit(128 + number)
+
+
+def main(words: list[str]) -> int:
+    """Does what the words say, and gives back the status."""
+    signal.signal(signal.SIGTERM, stop)
+    arguments = parser(verbs()).parse_args(words)
+    try:
+        status: int = arguments.run(arguments)
+        sys.stdout.flush()
+        return status
+    except LabError as error:
+        print(f"lab: {error}", file=sys.stderr)
+        return 2
+    except KeyboardInterrupt:
+        print("lab: interrupted", file=sys.stderr)
+        return 128 + signal.SIGINT
+    except BrokenPipeError:
+        os.dup2(os.open(os.devnull, os.O_WRONLY), sys.stdout.fileno())
+        return 1
