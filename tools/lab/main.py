@@ -43,8 +43,8 @@ def stop(number: int, _frame: FrameType | None) -> NoReturn:
 def main(words: list[str]) -> int:
     """Does what the words say, and gives back the status."""
     signal.signal(signal.SIGTERM, stop)
-    arguments = parser(verbs()).parse_args(words)
     try:
+        arguments = parser(verbs()).parse_args(words)
         status: int = arguments.run(arguments)
         sys.stdout.flush()
         return status
