@@ -18,6 +18,7 @@ MANIFEST = "chain.json"
 START = "start.world"
 ELEMENTS = "elements"
 COURSE = "course.csv"
+KINDS = [str, list, bool, int, str, list]
 COLUMNS = ["leg", "attempts", "events", "abandoned", "aeps"]
 
 
@@ -148,9 +149,12 @@ class Folder:
             raise LabError(f"{self.path}: no chain was begun there: it has no file {MANIFEST}")
         try:
             found: Any = json.loads(read_text(path))
-            return Begun(**found)
+            begun = Begun(**found)
         except (ValueError, TypeError) as error:
             raise LabError(f"{path}: no manifest of a chain") from error
+        if json.dumps(found, indent=2) + "\n" != read_text(path) or list(map(type, found.values())) != KINDS:
+            raise LabError(f"{path}: not as the lab wrote it")
+        return begun
 
     def write_course(self, course: Course) -> None:
         """Writes the course; with its row a leg is done."""

@@ -21,11 +21,18 @@ def verbs() -> dict[str, ModuleType]:
             if importlib.util.find_spec(f"lab.{verb}") is not None}
 
 
-def parser(modules: dict[str, ModuleType]) -> argparse.ArgumentParser:
+class Parser(argparse.ArgumentParser):
+    """Reads words, and refuses those that it can't read in one line."""
+
+    def error(self, message: str) -> NoReturn:
+        self.exit(2, f"lab: {message}; see {self.prog} --help\n")
+
+
+def parser(modules: dict[str, ModuleType]) -> Parser:
     """What reads the words."""
     form = argparse.RawDescriptionHelpFormatter
-    top = argparse.ArgumentParser(prog="./lab", formatter_class=form, epilog=EPILOG,
-                                  description="Long runs, films, sweeps, rates and atoms, beside the program.")
+    top = Parser(prog="./lab", formatter_class=form, epilog=EPILOG,
+                 description="Long runs, films, sweeps, rates and atoms, beside the program.")
     choice = top.add_subparsers(metavar="VERB", required=True)
     for verb, module in modules.items():
         text = module.__doc__ or ""
