@@ -21,11 +21,18 @@ def verbs() -> dict[str, ModuleType]:
             if importlib.util.find_spec(f"lab.{verb}") is not None}
 
 
-def parser(modules: dict[str, ModuleType]) -> argparse.ArgumentParser:
+class Parser(argparse.ArgumentParser):
+    """Reads words, and refuses those that it can't read in one line."""
+
+    def error(self, message: str) -> NoReturn:
+        self.exit(2, f"lab: {message}; see {self.prog} --help\n")
+
+
+def parser(modules: dict[str, ModuleType]) -> Parser:
     """What reads the words."""
     form = argparse.RawDescriptionHelpFormatter
-    top = argparse.ArgumentParser(prog="./lab", formatter_class=form, epilog=EPILOG,
-                                  description="Long runs, films, sweeps, rates and atoms, beside the program.")
+    top = Parser(prog="./lab", formatter_class=form, epilog=EPILOG,
+                 description="Long runs, films, sweeps, rates and atoms, beside the program.")
     choice = top.add_subparsers(metavar="VERB", required=True)
     for verb, module in modules.items():
         text = module.__doc__ or ""
@@ -43,8 +50,8 @@ def stop(number: int, _frame: FrameType | None) -> NoReturn:
 def main(words: list[str]) -> int:
     """Does what the words say, and gives back the status."""
     signal.signal(signal.SIGTERM, stop)
-    arguments = parser(verbs()).parse_args(words)
     try:
+        arguments = parser(verbs()).parse_args(words)
         status: int = arguments.run(arguments)
         sys.stdout.flush()
         return status

@@ -34,7 +34,7 @@ class Progress:
     def at(self, done: float, leg: str) -> None:
         """Tells that so much of the total is done, and which leg is at work."""
         now = time.monotonic()
-        if now - self.shown < (REWRITTEN_EVERY if self.is_terminal else LINE_EVERY) and (self.is_open or now != self.begin):
+        if now - self.shown < (REWRITTEN_EVERY if self.is_terminal else LINE_EVERY):
             return
         self.shown = now
         line = f"{leg}: {100 * done / self.total:.0f} % done{self.left(done, now)}"
