@@ -22,23 +22,23 @@ class Packer:
         self.atom_bytes = bytearray()
         self.changes = 0
         self.frame_bytes = bytearray()
-        self.abandoned = 0
-        self.abandoned_bytes = bytearray()
+        self.place_bytes = bytearray()
         self.events: list[int] = []
+        self.abandoned: list[int] = []
 
     def add(self, frame: Frame) -> None:
         """Takes the next frame."""
         self.events.append(frame.events)
+        self.abandoned.append(frame.abandoned)
         sites = sorted(frame.changes)
         self.changes += len(sites)
         put_sites(self.frame_bytes, sites)
         for site in sites:
             put(self.frame_bytes, self.atom(frame.changes[site]))
-        sites = sorted(frame.abandoned)
-        self.abandoned += frame.abandoned.total()
-        put_sites(self.abandoned_bytes, sites)
+        sites = sorted(frame.places)
+        put_sites(self.place_bytes, sites)
         for site in sites:
-            put(self.abandoned_bytes, frame.abandoned[site])
+            put(self.place_bytes, frame.places[site])
 
     def atom(self, text: str) -> int:
         """The number of an atom; one that comes up for the first time is noted."""
@@ -56,7 +56,7 @@ class Packer:
         put(whole, len(self.atoms) - 1)
         whole += self.atom_bytes
         put(whole, self.changes)
-        whole += self.frame_bytes + self.abandoned_bytes
+        whole += self.frame_bytes + self.place_bytes
         return base64.b64encode(gzip.compress(whole, mtime=0)).decode()
 
 

@@ -6,7 +6,7 @@ journal of its own, and the program replays that. An event reads and writes its 
 all other sites are left out.
 """
 from collections import Counter
-from collections.abc import Sequence
+from collections.abc import Iterable, Sequence
 from dataclasses import replace
 from itertools import chain
 from pathlib import Path
@@ -36,7 +36,11 @@ class Plane:
     def begin(self, world: World) -> dict[int, str]:
         """Makes the plane that of the beginning of a world; gives back what changed."""
         self.world = replace(world, seed=None, attempts=None, tries=[], atoms=[], order=[])
-        return self.change(set(self.lines.values()), {atom.text() for atom in world.atoms})
+        return self.put(atom.text() for atom in world.atoms)
+
+    def put(self, atoms: Iterable[str]) -> dict[int, str]:
+        """Makes the plane one with these atoms, lines of a report; gives back what changed."""
+        return self.change(set(self.lines.values()), set(atoms))
 
     def play(self, records: Sequence[str]) -> dict[int, str]:
         """Makes the next events, which are lines of a journal; gives back what changed."""

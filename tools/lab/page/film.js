@@ -53,7 +53,7 @@ class Film {
     const reader = new Reader(bytes);
     this.readAtoms(reader);
     this.readFrames(reader);
-    this.readAbandoned(reader);
+    this.readPlaces(reader);
     this.playThrough();
   }
 
@@ -82,12 +82,12 @@ class Film {
     }
   }
 
-  readAbandoned(reader) {
-    this.abandoned = [];
+  readPlaces(reader) {
+    this.places = [];
     for (let frame = 0; frame <= this.last; frame++) {
       const sites = new Uint32Array(reader.number());
       reader.sites(sites, 0, sites.length);
-      this.abandoned.push({ sites, counts: Array.from(sites, () => reader.number()) });
+      this.places.push({ sites, counts: Array.from(sites, () => reader.number()) });
     }
   }
 

@@ -11,8 +11,9 @@ class Page {
     this.part('column').max = film.columns - 1;
     this.part('row').max = film.rows - 1;
     this.part('plane').setAttribute('aria-label', `Plane of ${film.columns} by ${film.rows} sites`);
+    this.abandoned = film.head.abandoned.reduce((sum, count) => sum + count, 0);
+    this.part('abandoned-choice').hidden = this.abandoned === 0;
     this.part('about').textContent = this.aboutText();
-    this.part('abandoned-choice').hidden = film.head.abandoned === 0;
     this.counts = film.head.elements.map((element) => this.addElement(element));
     this.listen();
     this.fit();
@@ -26,7 +27,7 @@ class Page {
     const { head, last } = this.film;
     const [across, down] = head.tiles;
     const tiles = across * down === 1 ? 'one tile' : `${across} by ${down} tiles, each`;
-    const gaveUp = head.abandoned === 0 ? '' : `, and ${spelled(head.abandoned)} abandoned attempts,`;
+    const gaveUp = this.abandoned === 0 ? '' : ` and ${spelled(this.abandoned)} abandoned attempts`;
     return `${spelled(head.events[last])} events${gaveUp} on ${tiles} of ${head.size[0]} by ${head.size[1]} sites.`;
   }
 
@@ -148,12 +149,11 @@ class Page {
     const [events, all] = [head.events[frame], head.events[last]];
     const eachSite = (events / head.liveSites).toFixed(1);
     const moment = `Frame ${frame} of ${last}: after ${spelled(events)} of ${spelled(all)} events, ${eachSite} a site`;
-    const gaveUp = film.abandoned[frame].counts.reduce((sum, count) => sum + count, 0);
     this.part('moment').textContent = moment;
     this.part('slider').value = frame;
     this.part('slider').setAttribute('aria-valuetext', moment);
     this.part('play').textContent = this.timer === null ? 'Play' : 'Pause';
-    this.part('abandoned-label').textContent = `${spelled(gaveUp)} attempts abandoned since the frame before`;
+    this.part('abandoned-label').textContent = `${spelled(head.abandoned[frame])} attempts abandoned since the frame before`;
     this.counts.forEach((cell, i) => (cell.textContent = spelled(film.counts[frame][i])));
     this.site.show(this.chosen);
     this.plane.draw(this.chosen, this.part('abandoned').checked);

@@ -95,7 +95,7 @@ class PlaneView {
   /** A dot for each site where attempts were abandoned, bigger for more of them. */
   drawAbandoned() {
     const { pen, film, side } = this;
-    const { sites, counts } = film.abandoned[film.frame];
+    const { sites, counts } = film.places[film.frame];
     pen.fillStyle = side < 5 ? 'rgba(90, 90, 90, 0.4)' : '#6b6b6b';
     sites.forEach((site, i) => {
       const [x, y] = this.middleOf(site);
