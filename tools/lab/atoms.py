@@ -9,6 +9,7 @@ import csv
 import sys
 from pathlib import Path
 
+from lab.errors import LabError
 from lab.layout import Layout
 from lab.program import Program
 from lab.report import Report
@@ -25,6 +26,9 @@ def run(arguments: argparse.Namespace) -> int:
     layout = Layout.of(Program.find(), arguments.files)
     report = Report.read(arguments.report)
     columns = list(dict.fromkeys(leaf.name for element in layout.elements for leaf in layout.numbers(element)))
+    for atom in report.atoms:
+        if atom.name not in layout.leaves:
+            raise LabError(f"{arguments.report}: it has atoms of {atom.name}, which no file has as an element")
     rows = [[atom.x, atom.y, atom.name, *cells(layout, columns, atom.name, atom.state)] for atom in report.atoms]
     out = csv.writer(sys.stdout, lineterminator="\n")
     out.writerow(["x", "y", "element", *columns])

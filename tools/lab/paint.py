@@ -56,10 +56,14 @@ def run(arguments: argparse.Namespace) -> int:
     layout = Layout.of(Program.find(), arguments.files)
     world = frame(arguments)
     drawing = Drawing.read(arguments.map)
-    keys = dict(key(text, layout) for text in arguments.keys)
+    keys: dict[str, Key] = {}
+    for text in arguments.keys:
+        symbol, meant = key(text, layout)
+        if keys.setdefault(symbol, meant) is not meant:
+            raise LabError(f"--key {symbol}: it is given twice")
     for symbol in drawing.empty:
         if symbol in keys:
-            raise LabError(f"--key {symbol}={keys[symbol].element}: {symbol} is always empty in {drawing.path}")
+            raise LabError(f"--key {symbol}: it is always empty in such a map as {drawing.path}")
     left, top = arguments.place
     for mark in drawing.marks:
         if mark.symbol not in keys:
@@ -101,6 +105,8 @@ def key(text: str, layout: Layout) -> tuple[str, Key]:
         pair = VALUE.fullmatch(part)
         if pair is None:
             raise LabError(f"--key {text}: {part} has to be member=value")
+        if pair["member"] in values:
+            raise LabError(f"--key {text}: {pair['member']} is given twice")
         values[pair["member"]] = number(text, pair["value"])
     try:
         return match["symbol"], Key(match["element"], layout.encode(match["element"], values))

@@ -114,7 +114,11 @@ def run(arguments: argparse.Namespace) -> int:
     first_atoms(program, arguments.world, arguments.files)
     texts = [read_text(file) for file in arguments.files]
     sets = [setting(text, texts) for text in arguments.sets]
-    sweep = Sweep(program, world, "step" if arguments.step else "run", [name for name, _ in sets], arguments.files)
+    names = [name for name, _ in sets]
+    for name in names:
+        if names.count(name) > 1:
+            raise LabError(f"--set {name}: it is given twice")
+    sweep = Sweep(program, world, "step" if arguments.step else "run", names, arguments.files)
     elements = Layout.of(program, arguments.files).elements
     seeds = [nth(base, world.tiles, turn) for turn in range(arguments.repeat)]
     with tempfile.TemporaryDirectory() as room:
