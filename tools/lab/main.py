@@ -1,7 +1,6 @@
 """The words of the lab."""
 import argparse
 import importlib
-import importlib.util
 import os
 import signal
 import sys
@@ -15,10 +14,13 @@ EPILOG = """Bad input gets one line on standard error and status 2. Files are wr
 The lab calls the program that ./feast has built; FEAST_PROGRAM names another one."""
 
 
-def verbs() -> dict[str, ModuleType]:
-    """The modules of the verbs. The doc string of each is its help, and the first line its summary."""
-    return {verb: importlib.import_module(f"lab.{verb}") for verb in VERBS
-            if importlib.util.find_spec(f"lab.{verb}") is not None}
+def verbs(words: list[str]) -> dict[str, ModuleType]:
+    """The module of the verb that the words begin with, or else of each verb.
+
+    Its doc string is the verb's help, and the first line of that its summary.
+    """
+    wanted = [verb for verb in VERBS if words[:1] == [verb]] or VERBS
+    return {verb: importlib.import_module(f"lab.{verb}") for verb in wanted}
 
 
 class Parser(argparse.ArgumentParser):
@@ -51,7 +53,7 @@ def main(words: list[str]) -> int:
     """Does what the words say, and gives back the status."""
     signal.signal(signal.SIGTERM, stop)
     try:
-        arguments = parser(verbs()).parse_args(words)
+        arguments = parser(verbs(words)).parse_args(words)
         status: int = arguments.run(arguments)
         sys.stdout.flush()
         return status
