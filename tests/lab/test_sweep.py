@@ -2,7 +2,7 @@
 import csv
 import io
 
-from calls import EXAMPLES, LabCase, feast, lab
+from calls import EXAMPLES, LabCase, feast
 
 SOURCE = """// constant Unsigned far = 9; element Decoy { constant Int near = 1; }
 quark Base { /* constant Int near = 1; } */ constant Unsigned near = 1 ;
@@ -109,9 +109,3 @@ class Sweeps(LabCase):
         self.refused("E73 unknown element", *words, self.world, self.stone)
         self.refused("its attempts have to be drawn", *words, EXAMPLES / "walk.world", self.mover, self.stone)
         self.refused(f"{self.mover}:4:17: E37", *words, self.world, self.file("mover.ulam", SOURCE.split("\n", 3)[3].join(["\n\n\n", ""])), self.stone)
-
-    def test_left_early(self) -> None:
-        """A reader that wants only the first rows is no error of the lab."""
-        done = lab("sweep", "--help")
-        self.assertEqual(done.returncode, 0)
-        self.assertIn("--repeat", done.stdout)
