@@ -47,15 +47,22 @@ class Worlds(LabCase):
         self.assertEqual(world.atoms, [Placed(1, 4, "Walker"), Placed(6, 2, "Walker", 0xb8 << 60)])
         self.assertEqual((world.sites, world.tile_at(7, 8), world.tile_at(8, 0)), (72, 0, 1))
 
+    def test_written_as_the_program_prints(self) -> None:
+        """Without comments, with each state, and the lists of an order in one line."""
+        printed = FULL.replace("# a comment\n\n", "").replace("atom 1 4 Walker", f"atom 1 4 Walker {'0' * 18}")
+        self.assertEqual(World.read(self.file("w", FULL)).text(), printed.replace("order 0 0\norder 0\n", "order 0 0 0\n"))
+
     def test_written_worlds_are_the_same_to_the_program(self) -> None:
-        for path in sorted(EXAMPLES.rglob("*.world")):
-            if path.name.endswith("-tiles.world") or path.parent != EXAMPLES:
-                continue
-            files = [EXAMPLES / f"{name}.ulam" for name in
-                     ({"walk": ["walker"], "garden": ["sower", "stone"]}.get(path.stem) or [path.stem])]
+        for name, *elements in [("fence-tiles", "fence"), ("garden", "sower", "stone"), ("walk", "walker")]:
+            path = EXAMPLES / f"{name}.world"
+            files = [EXAMPLES / f"{element}.ulam" for element in elements]
             again = self.file("again", World.read(path).text())
             self.assertEqual(feast("step", again, *files), feast("step", path, *files), path)
-            self.assertEqual(World.read(again), World.read(path), path)
+
+    def test_all_examples(self) -> None:
+        for path in sorted(EXAMPLES.rglob("*.world")):
+            world = World.read(path)
+            self.assertEqual(World.read(self.file("again", world.text())), world, path)
 
     def test_faults(self) -> None:
         lines = FULL.splitlines()
@@ -70,7 +77,7 @@ class Worlds(LabCase):
                               ("feast 1\ntiles 1 1\nsize 8 8\nseed 1", "attempts")]:
             with self.assertRaises(LabError) as raised:
                 World.read(self.file("w", text))
-            self.assertIn(f"should follow", str(raised.exception))
+            self.assertIn("should follow", str(raised.exception))
             self.assertIn(f"`{missing} ..`", str(raised.exception))
 
     def test_too_many_attempts(self) -> None:
