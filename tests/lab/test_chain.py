@@ -100,12 +100,16 @@ class Legs(ChainCase):
 
     def test_damage(self) -> None:
         """Before leg 3 exactly the atoms of the rectangles are cleared."""
-        self.passes(*self.words(4, "--step", "--keep", "reports", "--at", "3:clear:0,0,8,16", "--at", "3:clear:9,2,1,3"))
-        before = lines_of(self.chain / "0002.atoms")[2:]
-        after = [line[5:] for line in lines_of(self.chain / "0003.world") if line.startswith("atom ")]
-        gone = [line for line in before if int(line.split()[0]) < 8 or line.split()[0] == "9" and line.split()[1] in "234"]
-        self.assertTrue(gone and after)
-        self.assertEqual([line for line in before if line not in gone], after)
+        sites = [(x, y) for y in range(16) for x in range(16)]
+        stones = "".join(f"atom {x} {y} Stone\n" for x, y in sites)
+        world = self.file("stones.world", f"feast 1\ntiles 2 2\nsize 8 8\nseed 3\nattempts 10\n{stones}")
+        self.passes("chain", self.chain, "--legs", "4", "--keep", "reports", "--at", "3:clear:1,0,8,15",
+                    "--at", "3:clear:10,2,1,3", "--at", "9:clear:0,0,16,16", world, EXAMPLES / "stone.ulam")
+        left = [(x, y) for x, y in sites if not (1 <= x < 9 and y < 15 or x == 10 and 2 <= y < 5)]
+        for leg, expected in [(2, sites), (3, left), (4, left)]:
+            atoms = [line.split()[1:3] for line in lines_of(self.chain / f"{leg:04}.world") if line.startswith("atom ")]
+            self.assertEqual([(int(x), int(y)) for x, y in atoms], expected)
+        self.assertEqual([row["Stone"] for row in self.rows()], ["256", "256", "256", str(len(left)), str(len(left))])
         self.assertEqual(self.passes("chain", "--audit", self.chain), "yes\n")
 
     def test_off(self) -> None:
@@ -170,8 +174,9 @@ class GoingOn(ChainCase):
     def test_more_legs(self) -> None:
         """A chain that is over goes on with more legs, and one that has enough stays as it is."""
         expected = self.whole(4, "--step")
-        for legs in (1, 3, 2, 4):
+        for legs, are in [(1, 1), (3, 3), (2, 3), (4, 4)]:
             self.passes(*self.words(legs, "--step"))
+            self.assertEqual(len(self.rows()) - 1, are)
         self.assertEqual(contents(self.chain), expected)
 
     def test_own_copies(self) -> None:
@@ -223,7 +228,8 @@ class Refused(ChainCase):
     def test_words(self) -> None:
         self.refused("--legs 0: a chain has at least one leg", *self.words(0))
         self.refused("--seed -1: a seed is from 0", *self.words(1, "--seed", "-1"))
-        for text in ("1:clear:0,0,1", "0:clear:0,0,1,1", "1:clear:0,0,17,1", "1:clear:16,0,1,1", "1:clear:0,0,0,1", "1:fill:0,0,1,1"):
+        for text in ("1:clear:0,0,1", "0:clear:0,0,1,1", "1:clear:0,0,17,1", "1:clear:16,0,1,1", "1:clear:0,0,0,1", "1:clear:0,0,1,0",
+                     "1:clear:0,15,1,2", "1:fill:0,0,1,1"):
             self.refused(f"--at {text}: ", *self.words(1, "--at", text))
         self.refused("invalid int value: 'two'", "chain", self.chain, "--legs", "two", self.world, ELEMENTS)
         self.refused("required: FILE", "chain", self.chain, "--legs", "2", self.world)
