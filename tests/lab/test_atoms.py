@@ -32,6 +32,8 @@ class Atoms(LabCase):
         packed = self.room / "packed"
         packed.write_bytes(gzip.compress(report.read_bytes()))
         self.assertEqual(self.passes("atoms", packed, elements), told)
+        replayed = self.file("replayed", feast("replay", self.room / "w", report, elements))
+        self.assertEqual(self.passes("atoms", replayed, elements), told)
 
     def test_example(self) -> None:
         """The places of the posts of a fence: those that their digits say."""
@@ -50,5 +52,8 @@ class Atoms(LabCase):
                      self.file("fewer.ulam", "\n".join(ELEMENTS.splitlines()[:2])))
         self.refused("nowhere: can't be read: no such file", "atoms", self.room / "nowhere", elements)
         self.refused("report:2: no report", "atoms", self.file("report", text.replace("atoms", "atom")), elements)
+        self.refused("report:6: no report", "atoms", self.file("report", text.replace("journal", "journey")), elements)
+        self.refused("report:7: no report", "atoms", self.file("report", text.rpartition("abandoned")[0]), elements)
+        self.refused("report:2: no report", "atoms", self.file("report", "feast 1\n"), elements)
         self.refused("bad.ulam:1:9: E33 no behave", "atoms", report, self.file("bad.ulam", "element A { }"))
         self.refused("required: FILE", "atoms", report)

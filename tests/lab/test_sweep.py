@@ -82,6 +82,13 @@ class Sweeps(LabCase):
         self.assertEqual([row[:2] for row in csv.reader(io.StringIO(told))][1:],
                          [["true", "0"], ["true", "15"], ["false", "0"], ["false", "15"]])
 
+    def test_bytes_of_comments(self) -> None:
+        """Comments may have any bytes, and stay as they are."""
+        self.mover.write_bytes(SOURCE.replace("far = 9", "fär = \x00").encode("latin-1"))
+        self.world.write_bytes(WORLD.encode().replace(b"size", b"# \xff\nsize"))
+        told = self.passes("sweep", "--set", "Base.near=2", self.world, self.mover, self.stone)
+        self.assertEqual(list(csv.reader(io.StringIO(told)))[1], ["2", "5", *self.row("run", WORLD, "2", "- 2")])
+
     def test_refused_values(self) -> None:
         files = [self.world, self.mover, self.stone]
         self.refused(f"{self.mover}:9:45: E34 bad constant (with Mover.most=16)", "sweep", "--set", "Mover.most=3,16", *files)

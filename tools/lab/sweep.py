@@ -26,7 +26,7 @@ from pathlib import Path
 
 from lab.constants import constants, with_values
 from lab.errors import LabError
-from lab.files import read_text
+from lab.files import read_byte_text
 from lab.layout import Layout
 from lab.outcome import Outcome, counts
 from lab.program import Program, Refusal
@@ -77,7 +77,8 @@ class Sweep:
         """Writes the element files of a combination, and has the program read them with the world."""
         folder.mkdir()
         for name, text in zip(self.copies, texts, strict=True):
-            (folder / name).write_text(with_values(text, dict(zip(self.names, values, strict=True))), newline="")
+            text = with_values(text, dict(zip(self.names, values, strict=True)))
+            (folder / name).write_text(text, encoding="latin-1", newline="")
         try:
             first_atoms(self.program, world.resolve(), self.copies, folder)
         except Refusal as refusal:
@@ -112,7 +113,7 @@ def run(arguments: argparse.Namespace) -> int:
     program, world = Program.find(), drawn_world(arguments.world)
     base = world.seed or 0 if arguments.seed is None else arguments.seed
     first_atoms(program, arguments.world, arguments.files)
-    texts = [read_text(file) for file in arguments.files]
+    texts = [read_byte_text(file) for file in arguments.files]
     sets = [setting(text, texts) for text in arguments.sets]
     names = [name for name, _ in sets]
     for name in names:
