@@ -143,12 +143,12 @@ class Reader:
             raise LabError(f"{self.path}:{self.at + 1}: no report: a line `{word} N` should stand here")
         first = self.at + 1
         self.at = first + int(head[1])
+        if self.at >= len(self.lines):
+            raise LabError(f"{self.path}: the report ends too early: it has fewer than {head[1]} lines of `{word}`")
         found = self.lines[first:self.at]
         for number, line in enumerate(found, first + 1):
             if form.fullmatch(line) is None:
                 raise LabError(f"{self.path}:{number}: no line of the part `{word}` of a report: {line[:40]}")
-        if self.at >= len(self.lines):
-            raise LabError(f"{self.path}: the report ends too early: it has fewer than {head[1]} lines of `{word}`")
         return found
 
     @property
