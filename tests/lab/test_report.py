@@ -27,7 +27,7 @@ FAULTS = [
     (5, "journal 1", ":7: no report: a line `abandoned N`"),
     (6, "1 0 0 01 4 00000000000000ff", ":6: no line of the part `journal`"),
     (8, "abandoned 0", ":9: more lines than the report counts"),
-    (8, "abandoned 9", ":10: no line of the part `abandoned`"),
+    (8, "abandoned 9", ": the report ends too early"),
     (9, "1 0 8 4 0 2", ":9: no line of the part `abandoned`"),
 ]
 
