@@ -88,6 +88,8 @@ class Sweeps(LabCase):
         self.world.write_bytes(WORLD.encode().replace(b"size", b"# \xff\nsize"))
         told = self.passes("sweep", "--set", "Base.near=2", self.world, self.mover, self.stone)
         self.assertEqual(list(csv.reader(io.StringIO(told)))[1], ["2", "5", *self.row("run", WORLD, "2", "- 2")])
+        self.mover.write_bytes(SOURCE.replace("constant Bool", "/* ä */ constant Bool").encode("latin-1"))
+        self.refused(f"{self.mover}:6:25: E34", "sweep", "--set", "Mover.eager=1", self.world, self.mover, self.stone)
 
     def test_refused_values(self) -> None:
         files = [self.world, self.mover, self.stone]
