@@ -212,6 +212,9 @@ class Refused(ChainCase):
             ("course.csv", "\n1,", "\n2,", "course.csv:3: the row of leg 1"),
             ("course.csv", "\n1,2000,", "\n1,x,", "course.csv:3: no row"),
             ("course.csv", "0.0000", "0.0001", "course.csv: not as the lab wrote it"),
+            ("0002.atoms", "Regulator", "Resource", "0002.atoms: it has other atoms than course.csv says"),
+            ("start.world", "seed", "#\nseed", "start.world: not as it was"),
+            ("elements/00-regulator.ulam", "40", "50", "00-regulator.ulam: not as it was"),
             ("chain.json", "\"step\"", "\"stop\"", "chain.json: no manifest"),
             ("chain.json", "true", "\"a\"", "chain.json: not as the lab wrote it"),
             ("chain.json", "{", "", "chain.json: no manifest"),
@@ -224,6 +227,10 @@ class Refused(ChainCase):
         done = lab(*self.words(3, "--step"))
         self.assertEqual((done.returncode, done.stdout), (2, ""))
         self.assertIn("0002.atoms: can't be read: no such file", done.stderr)
+        self.file("chain/elements/01-more.ulam", "")
+        self.refused("elements: not as it was", *self.words(3, "--step"))
+        shutil.rmtree(self.chain / "elements")
+        self.refused("elements: can't be read: no such file", *self.words(3, "--step"))
 
     def test_words(self) -> None:
         self.refused("--legs 0: a chain has at least one leg", *self.words(0))
@@ -279,8 +286,8 @@ class Audits(ChainCase):
             ("0002.world", kept["0002.world"].replace(b"seed 8", b"seed 9"), "no leg 2: its world"),
             ("0001.atoms", kept["0001.atoms"] + b"#", "no leg 1: 0001.atoms has other atoms"),
             ("0000.atoms", kept["0001.atoms"], "no leg 0: 0000.atoms has other atoms"),
-            ("start.world", kept["start.world"] + b"#", "no start: start.world is not the world"),
-            ("elements/00-regulator.ulam", kept["elements/00-regulator.ulam"] + b" ", "no start: the element files"),
+            ("start.world", kept["start.world"] + b"#", "no start: start.world is not as it was"),
+            ("elements/00-regulator.ulam", kept["elements/00-regulator.ulam"] + b" ", "no start: 00-regulator.ulam is not as it was"),
             ("course.csv", kept["course.csv"].replace(b"\n1,2000,", b"\n1,2001,"), "no leg 1: its row in the course"),
         ]:
             self.assertNotEqual(kept[name], data, name)

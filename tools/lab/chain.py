@@ -26,7 +26,7 @@ import gzip
 from pathlib import Path
 
 from lab.chain_audit import Audit
-from lab.chain_folder import Begun, Course, Folder, Leg, digest, refuse_other
+from lab.chain_folder import COURSE, Begun, Course, Folder, Leg, digest, refuse_other
 from lab.chain_rule import Cut, Rule
 from lab.errors import LabError
 from lab.files import read_text, write_whole
@@ -72,12 +72,21 @@ def run(arguments: argparse.Namespace) -> int:
         if folder.is_begun:
             refuse_other(folder, folder.begun(), begun, arguments.world)
             course = folder.course(course.elements, world.sites)
+            refuse_changed(folder, course)
         else:
             course.legs.append(Leg(0, 0, 0, 0, counts(atoms, course.elements)))
             folder.begin(begun, arguments.world, arguments.files, atoms, course)
         go(program, folder, rule, begun, course, arguments.legs)
     print(f"{folder.path}: {len(course.legs) - 1} legs, {course.events} events, {course.events / world.sites:.4f} a site")
     return 0
+
+
+def refuse_changed(folder: Folder, course: Course) -> None:
+    """Refuses to go on from atoms that are not those of the last leg."""
+    last = course.legs[-1]
+    path = folder.atoms(last.number)
+    if counts(read_text(path), course.elements) != last.counts:
+        raise LabError(f"{path}: it has other atoms than {COURSE} says")
 
 
 def go(program: Program, folder: Folder, rule: Rule, begun: Begun, course: Course, legs: int) -> None:

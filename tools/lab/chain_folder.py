@@ -97,7 +97,18 @@ class Folder:
     @property
     def files(self) -> list[Path]:
         """The copies of the element files, in the order in which they were named."""
-        return sorted((self.path / ELEMENTS).iterdir())
+        copies = self.path / ELEMENTS
+        try:
+            return sorted(copies.iterdir())
+        except OSError as error:
+            raise LabError(f"{copies}: can't be read: {cause(error)}") from error
+
+    def changed(self, begun: Begun) -> Path | None:
+        """The first copy that is not as it was when the chain was begun."""
+        copies, were = [self.start, *self.files], [begun.world, *begun.elements]
+        if len(copies) != len(were):
+            return self.path / ELEMENTS
+        return next((copy for copy, was in zip(copies, were, strict=True) if digest(copy) != was), None)
 
     @property
     def is_begun(self) -> bool:
@@ -193,6 +204,9 @@ def digest(path: Path) -> str:
 
 def refuse_other(folder: Folder, was: Begun, now: Begun, world: Path) -> None:
     """Refuses to go on with something else than the chain was begun with."""
+    changed = folder.changed(was)
+    if changed is not None:
+        raise LabError(f"{changed}: not as it was when the chain was begun")
     if was.world != now.world:
         raise LabError(f"{folder.path}: the chain was begun with another world than {world}; its own is {folder.start}")
     if was.elements != now.elements:
