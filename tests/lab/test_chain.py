@@ -149,7 +149,7 @@ class GoingOn(ChainCase):
         """Whichever file is not in its place yet when the lab is killed, the end is the same."""
         options = ["--step", "--keep", "reports"]
         expected = self.whole(2, *options)
-        files = len(expected) + 2
+        files = len(expected) + 3  # the manifest is put in two places, and the course once more for each leg
         around = os.environ | {"FEAST_PROGRAM": str(program())}
         for number in range(1, files + 1):
             shutil.rmtree(self.chain, ignore_errors=True)
@@ -256,7 +256,11 @@ class Refused(ChainCase):
         self.refused("chain: no chain was begun there: it has no file chain.json", "chain", "--audit", self.chain)
         shutil.rmtree(self.chain)
         self.file("chain", "a file")
-        self.refused("chain: no folder can be made there", *self.words(1))
+        self.refused("chain: can't be the folder of a chain: file exists", *self.words(1))
+        (self.room / "chain").unlink()
+        (self.chain / "elements").mkdir(parents=True)
+        own = self.file("chain/elements/00-own.ulam", ELEMENTS.read_text())
+        self.refused("other files, such as elements", "chain", self.chain, "--legs", "1", self.world, own)
 
     def test_two_at_once(self) -> None:
         self.passes(*self.words(1))

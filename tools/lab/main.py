@@ -66,3 +66,6 @@ def main(words: list[str]) -> int:
     except BrokenPipeError:
         os.dup2(os.open(os.devnull, os.O_WRONLY), sys.stdout.fileno())
         return 1
+    except OSError as error:
+        print(f"lab: {error.filename or 'the system'}: {error.strerror or error}", file=sys.stderr)
+        return 2
