@@ -73,6 +73,14 @@ class Words(LabCase):
                               capture_output=True, text=True, check=False)
         self.assertEqual((done.stdout, done.stderr), ("x,y,element\n", ""))
 
+    def test_full_output(self) -> None:
+        """Output that can't be written is told in one line."""
+        report = self.file("report", "feast 1\natoms 0\njournal 0\nabandoned 0\n")
+        with open("/dev/full", "w") as full:
+            done = subprocess.run([TOP / "lab", "atoms", report, EXAMPLES / "stone.ulam"], stdout=full,
+                                  stderr=subprocess.PIPE, text=True, check=False)
+        self.assertEqual((done.returncode, done.stderr), (2, "lab: standard output: no space left on device\n"))
+
     def test_nothing_is_left_beside(self) -> None:
         """The lab leaves no compiled modules in the repository."""
         around = {name: value for name, value in os.environ.items() if not name.startswith("PYTHON")}

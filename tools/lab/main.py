@@ -8,6 +8,7 @@ from types import FrameType, ModuleType
 from typing import NoReturn
 
 from lab.errors import LabError
+from lab.files import cause
 
 VERBS = ("chain", "film", "sweep", "rates", "atoms", "paint")
 EPILOG = """Bad input gets one line on standard error and status 2. Files are written whole or not at all.
@@ -64,8 +65,14 @@ def main(words: list[str]) -> int:
         print("lab: interrupted", file=sys.stderr)
         return 128 + signal.SIGINT
     except BrokenPipeError:
-        os.dup2(os.open(os.devnull, os.O_WRONLY), sys.stdout.fileno())
+        drop_output()
         return 1
     except OSError as error:
-        print(f"lab: {error.filename or 'the system'}: {error.strerror or error}", file=sys.stderr)
+        drop_output()
+        print(f"lab: {error.filename or 'standard output'}: {cause(error)}", file=sys.stderr)
         return 2
+
+
+def drop_output() -> None:
+    """Drops what could not be written to standard output, so that no one tries again at the end."""
+    os.dup2(os.open(os.devnull, os.O_WRONLY), sys.stdout.fileno())
