@@ -65,14 +65,8 @@ def main(words: list[str]) -> int:
         print("lab: interrupted", file=sys.stderr)
         return 128 + signal.SIGINT
     except BrokenPipeError:
-        drop_output()
+        os.dup2(os.open(os.devnull, os.O_WRONLY), sys.stdout.fileno())
         return 1
     except OSError as error:
-        drop_output()
         print(f"lab: {error.filename or 'standard output'}: {cause(error)}", file=sys.stderr)
         return 2
-
-
-def drop_output() -> None:
-    """Drops what could not be written to standard output, so that no one tries again at the end."""
-    os.dup2(os.open(os.devnull, os.O_WRONLY), sys.stdout.fileno())
