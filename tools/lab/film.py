@@ -65,6 +65,8 @@ def run(arguments: argparse.Namespace) -> int:
         raise LabError(f"--frames {arguments.frames}: a film has at least one frame behind the first")
     if arguments.output is None and arguments.svg is None and not arguments.csv:
         raise LabError("a film has to be written to a file: -o FILE.html")
+    if arguments.output is not None and not arguments.output.absolute().parent.is_dir():
+        raise LabError(f"{arguments.output}: there is no such folder to write to")
     program = Program.find()
     source = Source.of(program, arguments.words)
     with tempfile.TemporaryDirectory() as folder:
@@ -93,10 +95,10 @@ def shown(plane: Plane, source: Source, count: int) -> Iterator[Frame]:
 
 def page_of(source: Source, films: Iterator[Frame]) -> str:
     """The film."""
+    marked = marks(source.layout.elements, source.files)
     packer = Packer(source.layout.elements)
     for frame in films:
         packer.add(frame)
-    marked = marks(source.layout.elements, source.files)
     return page(source.title, source.world, source.layout, marked, packer, source.cut_moments)
 
 

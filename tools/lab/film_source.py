@@ -32,9 +32,10 @@ class Source:
             return chain_source(program, words[0], words[1:])
         if len(words) < 3:
             raise LabError("a film takes WORLD REPORT FILE.., or the folder DIR of a chain")
-        world, report, *files = words
-        events = len(Report.read(report).journal)
-        return Source(world.name, World.read(world), Layout.of(program, files), files, [Reported(world, events, report)])
+        world, path, *files = words
+        report = Report.read(path)
+        leg = Reported(world, len(report.journal), path, report)
+        return Source(world.name, World.read(world), Layout.of(program, files), files, [leg])
 
     @property
     def ends(self) -> list[int]:

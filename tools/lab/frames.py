@@ -52,12 +52,17 @@ class Leg:
 
 @dataclass(frozen=True)
 class Reported(Leg):
-    """A leg whose report is at hand."""
+    """A leg whose report is at hand, and maybe read."""
 
     report: Path
+    known: Report | None = None
 
     def player(self, plane: Plane, world: World) -> Player:
-        return Played(plane, world, checked(plane, self.world, self.report))
+        report = self.known or Report.read(self.report)
+        lines = call_on(plane.program, self.report, plane.room, ["replay", self.world], plane.files)
+        if lines[2:] != [atom.text() for atom in report.atoms]:
+            raise LabError(f"{self.report}: its atoms are not those to which its events lead from {self.world}")
+        return Played(plane, world, report)
 
     def atoms_after(self, plane: Plane, events: int) -> list[str]:
         return call_on(plane.program, self.report, plane.room, ["rewind", self.world, str(events)], plane.files)[2:]
@@ -122,13 +127,13 @@ def frames(plane: Plane, legs: Sequence[Leg], moments: Collection[int]) -> Itera
     done = 0
     for number, leg in enumerate(legs):
         world = World.read(leg.world)
+        player = leg.player(plane, world)
         begun = plane.begin(world)
         frame.changes |= begun
         if number == 0 or begun:
             frame.events = done
             yield frame
             frame = Frame()
-        player = leg.player(plane, world)
         for upto in sorted({moment - done for moment in moments if done < moment <= done + leg.events} | {leg.events}):
             player.go(upto, frame)
             if upto > 0 and done + upto in moments:
@@ -136,15 +141,6 @@ def frames(plane: Plane, legs: Sequence[Leg], moments: Collection[int]) -> Itera
                 yield frame
                 frame = Frame()
         done += leg.events
-
-
-def checked(plane: Plane, world: Path, path: Path) -> Report:
-    """The report of a run, whose events are those of its world and lead to its atoms."""
-    report = Report.read(path)
-    lines = call_on(plane.program, path, plane.room, ["replay", world], plane.files)
-    if lines[2:] != [atom.text() for atom in report.atoms]:
-        raise LabError(f"{path}: its atoms are not those to which its events lead from {world}")
-    return report
 
 
 def moments_of(world: World, report: Report) -> list[tuple[int, int]]:

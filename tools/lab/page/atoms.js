@@ -33,7 +33,7 @@ class SiteView {
   }
 
   show(site) {
-    this.place.replaceChildren(...(site === null ? [made('p', 'No site is chosen.', 'hint')] : this.told(site)));
+    this.place.replaceChildren(...(site === null ? [made('p', 'Click a site of the plane to see its atom.', 'hint')] : this.told(site)));
   }
 
   told(site) {

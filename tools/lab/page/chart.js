@@ -19,7 +19,7 @@ class ChartView {
   fit() {
     this.scale = window.devicePixelRatio;
     const width = this.canvas.parentElement.clientWidth;
-    const height = Math.max(140, Math.min(260, window.innerHeight * 0.28));
+    const height = 170;
     for (const canvas of [this.canvas, this.curves]) {
       canvas.width = Math.floor(width * this.scale);
       canvas.height = Math.floor(height * this.scale);
@@ -66,7 +66,10 @@ class ChartView {
       pen.fillText(spelled(events), this.xOf(events), this.bottom + 6 * scale);
     }
     pen.fillText('events', (this.left + this.right) / 2, this.bottom + 21 * scale);
+    pen.strokeStyle = '#59636d';
+    pen.setLineDash([4 * scale, 4 * scale]);
     for (const events of this.film.head.cuts) pen.strokeRect(this.xOf(events), this.top, 0, this.bottom - this.top);
+    pen.setLineDash([]);
   }
 
   /** One curve, in the colour of its element; a bright one gets a dark edge. */

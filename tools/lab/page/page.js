@@ -13,6 +13,7 @@ class Page {
     this.part('plane').setAttribute('aria-label', `Plane of ${film.columns} by ${film.rows} sites`);
     this.abandoned = film.head.abandoned.reduce((sum, count) => sum + count, 0);
     this.part('abandoned-choice').hidden = this.abandoned === 0;
+    this.part('cuts').hidden = film.head.cuts.length === 0;
     this.part('about').textContent = this.aboutText();
     this.counts = film.head.elements.map((element) => this.addElement(element));
     this.listen();
@@ -28,7 +29,7 @@ class Page {
     const [across, down] = head.tiles;
     const tiles = across * down === 1 ? 'one tile' : `${across} by ${down} tiles, each`;
     const gaveUp = this.abandoned === 0 ? '' : ` and ${spelled(this.abandoned)} abandoned attempts`;
-    return `${spelled(head.events[last])} events${gaveUp} on ${tiles} of ${head.size[0]} by ${head.size[1]} sites.`;
+    return `A run of ${spelled(head.events[last])} events${gaveUp} on ${tiles} of ${head.size[0]} by ${head.size[1]} sites.`;
   }
 
   /** A row of the table of elements; gives back where its count is to be written. */
@@ -148,7 +149,7 @@ class Page {
     const { frame, last, head } = film;
     const [events, all] = [head.events[frame], head.events[last]];
     const eachSite = (events / head.liveSites).toFixed(1);
-    const moment = `Frame ${frame} of ${last}: after ${spelled(events)} of ${spelled(all)} events, ${eachSite} a site`;
+    const moment = `Frame ${frame} of ${last}: after ${spelled(events)} of ${spelled(all)} events (${eachSite} for each site)`;
     this.part('moment').textContent = moment;
     this.part('slider').value = frame;
     this.part('slider').setAttribute('aria-valuetext', moment);

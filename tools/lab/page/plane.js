@@ -29,7 +29,7 @@ class PlaneView {
   fit() {
     const scale = window.devicePixelRatio;
     const wide = (this.canvas.parentElement.clientWidth * scale - 2) / this.film.columns;
-    const high = (Math.max(240, window.innerHeight * 0.6) * scale - 2) / this.film.rows;
+    const high = (Math.max(260, window.innerHeight - 440) * scale - 2) / this.film.rows;
     this.side = Math.max(1, Math.floor(Math.min(wide, high, 48 * scale)));
     this.letters = this.side >= 12 * scale;
     this.canvas.width = this.film.columns * this.side + 2;
