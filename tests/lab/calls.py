@@ -20,10 +20,15 @@ def feast(*words: Word) -> str:
     return subprocess.run([program(), *words], stdout=subprocess.PIPE, check=True, text=True).stdout
 
 
+def around(instead: Path | None = None) -> dict[str, str]:
+    """The environment of a call of the lab: Python's own settings, and the program that it is to call."""
+    plain = {name: value for name, value in os.environ.items() if not name.startswith("PYTHON")}
+    return plain | {"FEAST_PROGRAM": str(instead or program())}
+
+
 def lab(*words: Word, instead: Path | None = None) -> subprocess.CompletedProcess[str]:
     """A call of the lab, with another program than that of the tests if one is named."""
-    around = os.environ | {"FEAST_PROGRAM": str(instead or program())}
-    return subprocess.run([TOP / "lab", *words], capture_output=True, text=True, env=around, timeout=300, check=False)
+    return subprocess.run([TOP / "lab", *words], capture_output=True, text=True, env=around(instead), timeout=300, check=False)
 
 
 class LabCase(unittest.TestCase):

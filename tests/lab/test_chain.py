@@ -9,7 +9,7 @@ import subprocess
 import sys
 from pathlib import Path
 
-from calls import EXAMPLES, TOP, LabCase, feast, lab, program
+from calls import EXAMPLES, LabCase, around, feast, lab, program
 
 WORLD = EXAMPLES / "regulator-tiles.world"
 ELEMENTS = EXAMPLES / "regulator.ulam"
@@ -150,23 +150,22 @@ class GoingOn(ChainCase):
         options = ["--step", "--keep", "reports"]
         expected = self.whole(2, *options)
         files = len(expected) + 3  # the manifest is put in two places, and the course once more for each leg
-        around = os.environ | {"FEAST_PROGRAM": str(program())}
         for number in range(1, files + 1):
             shutil.rmtree(self.chain, ignore_errors=True)
             dying = [sys.executable, HERE / "dying.py", str(number), *self.words(2, *options)]
-            killed = subprocess.run(dying, capture_output=True, env=around, timeout=60, check=False)
+            killed = subprocess.run(dying, capture_output=True, env=around(), timeout=60, check=False)
             self.assertEqual(killed.returncode, -signal.SIGKILL, number)
             self.passes(*self.words(2, *options))
             self.assertEqual(contents(self.chain), expected, number)
         done = subprocess.run([sys.executable, HERE / "dying.py", str(files + 1), *self.words(2, *options)],
-                              capture_output=True, env=around, timeout=60, check=False)
+                              capture_output=True, env=around(), timeout=60, check=False)
         self.assertEqual(done.returncode, 0)
 
     def test_begun_anew_with_other_elements(self) -> None:
         """A beginning that was killed leaves nothing behind that a later one takes for its own."""
         other = self.file("aaa.ulam", ELEMENTS.read_text() + "element Further { Void behave() { } }\n")
         dying = [sys.executable, HERE / "dying.py", "3", "chain", self.chain, "--legs", "1", self.world, other]
-        subprocess.run(dying, capture_output=True, env=os.environ, timeout=60, check=False)
+        subprocess.run(dying, capture_output=True, env=around(), timeout=60, check=False)
         self.assertTrue((self.chain / "elements").exists())
         self.passes(*self.words(1))
         self.assertEqual(list(self.rows()[0])[5:], ["Regulator", "Resource"])

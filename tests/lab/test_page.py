@@ -1,9 +1,8 @@
 """The page of the lab: its commands work as they stand, and what it shows is what they write."""
-import os
 import re
 import subprocess
 
-from calls import EXAMPLES, TOP, LabCase, program
+from calls import EXAMPLES, TOP, LabCase, around, program
 
 PAGE = TOP / "docs" / "lab.md"
 MAP = "F.....M\n\n..M\n"
@@ -26,8 +25,7 @@ class Page(LabCase):
 
     def call(self, command: str) -> subprocess.CompletedProcess[str]:
         """A command, as a shell runs it."""
-        around = os.environ | {"FEAST_PROGRAM": str(program())}
-        return subprocess.run(command, shell=True, cwd=self.room, env=around, capture_output=True, text=True, timeout=300, check=False)
+        return subprocess.run(command, shell=True, cwd=self.room, env=around(), capture_output=True, text=True, timeout=300, check=False)
 
     def test_commands(self) -> None:
         commands = [line for line in shown_lines() if line.startswith(("./lab ", "./feast "))]

@@ -4,7 +4,7 @@ import shutil
 import subprocess
 from pathlib import Path
 
-from calls import EXAMPLES, TOP, LabCase, lab, program
+from calls import EXAMPLES, TOP, LabCase, around, lab, program
 
 from lab.main import VERBS
 
@@ -41,9 +41,10 @@ class Words(LabCase):
 
         def call() -> tuple[int, str]:
             """The status of a call, and what it writes to standard error."""
-            around = {name: value for name, value in os.environ.items() if name != "FEAST_PROGRAM"}
+            bare = around()
+            del bare["FEAST_PROGRAM"]
             done = subprocess.run([self.room / "lab", "atoms", report, EXAMPLES / "fence.ulam"],
-                                  capture_output=True, text=True, env=around, check=False)
+                                  capture_output=True, text=True, env=bare, check=False)
             return done.returncode, done.stderr
 
         built = self.room / "crates" / "feast" / "out" / "feast"
@@ -73,7 +74,7 @@ class Words(LabCase):
             read, write = os.pipe()
             os.close(read)
             done = subprocess.run([TOP / "lab", "atoms", report, EXAMPLES / "stone.ulam"], stdout=write,
-                                  stderr=subprocess.PIPE, text=True, check=False)
+                                  stderr=subprocess.PIPE, text=True, env=around(), check=False)
             os.close(write)
             self.assertEqual((done.returncode, done.stderr), (1, ""))
 
@@ -82,11 +83,10 @@ class Words(LabCase):
         report = self.file("report", "feast 1\natoms 0\njournal 0\nabandoned 0\n")
         with open("/dev/full", "w") as full:
             done = subprocess.run([TOP / "lab", "atoms", report, EXAMPLES / "stone.ulam"], stdout=full,
-                                  stderr=subprocess.PIPE, text=True, check=False)
+                                  stderr=subprocess.PIPE, text=True, env=around(), check=False)
         self.assertEqual((done.returncode, done.stderr), (2, "lab: standard output: no space left on device\n"))
 
     def test_nothing_is_left_beside(self) -> None:
         """The lab leaves no compiled modules in the repository."""
-        around = {name: value for name, value in os.environ.items() if not name.startswith("PYTHON")}
-        subprocess.run([TOP / "lab", "--help"], capture_output=True, env=around, check=True)
+        self.passes("--help")
         self.assertEqual(list(Path(TOP / "tools").rglob("__pycache__")), [])

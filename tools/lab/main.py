@@ -65,8 +65,14 @@ def main(words: list[str]) -> int:
         print("lab: interrupted", file=sys.stderr)
         return 128 + signal.SIGINT
     except BrokenPipeError:
-        os.dup2(os.open(os.devnull, os.O_WRONLY), sys.stdout.fileno())
+        drop_output()
         return 1
     except OSError as error:
+        drop_output()
         print(f"lab: {error.filename or 'standard output'}: {cause(error)}", file=sys.stderr)
         return 2
+
+
+def drop_output() -> None:
+    """Drops what could not be written to standard output, which would else be tried again at the end."""
+    os.dup2(os.open(os.devnull, os.O_WRONLY), sys.stdout.fileno())
