@@ -34,7 +34,7 @@ from lab.layout import Layout
 from lab.outcome import Outcome, counts
 from lab.program import Program
 from lab.progress import Progress
-from lab.starting import drawn_world, first_atoms
+from lab.starting import drawn_world, first_atoms, first_seed
 
 PACKING = 3
 
@@ -57,11 +57,9 @@ def run(arguments: argparse.Namespace) -> int:
     """Begins a chain, or goes on with it, until it has its legs."""
     if arguments.legs < 1:
         raise LabError(f"--legs {arguments.legs}: a chain has at least one leg")
-    if arguments.seed is not None and not 0 <= arguments.seed < 1 << 64:
-        raise LabError(f"--seed {arguments.seed}: a seed is from 0 to {(1 << 64) - 1}")
     program, folder = Program.find(), Folder(arguments.folder)
     world = drawn_world(arguments.world)
-    seed = world.seed or 0 if arguments.seed is None else arguments.seed
+    seed = first_seed(world, arguments.seed)
     rule = Rule(world, seed, arguments.step, [Cut.of(text, world) for text in arguments.at])
     begun = Begun(digest(arguments.world), [digest(file) for file in arguments.files],
                   arguments.step, seed, arguments.keep, arguments.at)

@@ -22,6 +22,7 @@ from lab.drawing import Drawing
 from lab.errors import LabError
 from lab.layout import Layout
 from lab.program import Program
+from lab.seeds import MODULUS
 from lab.world import MOST_ATTEMPTS, Placed, World
 
 KEY = re.compile(r"(?P<symbol>[^=]+|=)=(?P<element>\w+)(?::(?P<members>.*))?")
@@ -87,8 +88,8 @@ def frame(arguments: argparse.Namespace) -> World:
     world = World(*arguments.tiles, *arguments.size, seed=arguments.seed, attempts=arguments.attempts)
     if (world.seed is None) != (world.attempts is None):
         raise LabError("--seed and --attempts belong together")
-    if world.seed is not None and not 0 <= world.seed < 1 << 64:
-        raise LabError(f"--seed {world.seed}: a seed is from 0 to {(1 << 64) - 1}")
+    if world.seed is not None and not 0 <= world.seed < MODULUS:
+        raise LabError(f"--seed {world.seed}: a seed is from 0 to {MODULUS - 1}")
     most = MOST_ATTEMPTS // world.tiles
     if world.attempts is not None and not 0 <= world.attempts <= most:
         raise LabError(f"--attempts {world.attempts}: {world.tiles} tiles may have from 0 to {most} each")
