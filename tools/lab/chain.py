@@ -26,7 +26,7 @@ import gzip
 from pathlib import Path
 
 from lab.chain_audit import Audit
-from lab.chain_folder import Begun, Course, Folder, Leg, digest, refuse_other
+from lab.chain_folder import COURSE, Begun, Course, Folder, Leg, digest, refuse_other
 from lab.chain_rule import Cut, Rule
 from lab.errors import LabError
 from lab.files import read_text, write_whole
@@ -34,7 +34,7 @@ from lab.layout import Layout
 from lab.outcome import Outcome, counts
 from lab.program import Program
 from lab.progress import Progress
-from lab.starting import drawn_world, first_atoms
+from lab.starting import drawn_world, first_atoms, first_seed
 
 PACKING = 3
 
@@ -57,11 +57,9 @@ def run(arguments: argparse.Namespace) -> int:
     """Begins a chain, or goes on with it, until it has its legs."""
     if arguments.legs < 1:
         raise LabError(f"--legs {arguments.legs}: a chain has at least one leg")
-    if arguments.seed is not None and not 0 <= arguments.seed < 1 << 64:
-        raise LabError(f"--seed {arguments.seed}: a seed is from 0 to {(1 << 64) - 1}")
     program, folder = Program.find(), Folder(arguments.folder)
     world = drawn_world(arguments.world)
-    seed = world.seed or 0 if arguments.seed is None else arguments.seed
+    seed = first_seed(world, arguments.seed)
     rule = Rule(world, seed, arguments.step, [Cut.of(text, world) for text in arguments.at])
     begun = Begun(digest(arguments.world), [digest(file) for file in arguments.files],
                   arguments.step, seed, arguments.keep, arguments.at)
@@ -72,12 +70,21 @@ def run(arguments: argparse.Namespace) -> int:
         if folder.is_begun:
             refuse_other(folder, folder.begun(), begun, arguments.world)
             course = folder.course(course.elements, world.sites)
+            refuse_changed(folder, course)
         else:
             course.legs.append(Leg(0, 0, 0, 0, counts(atoms, course.elements)))
             folder.begin(begun, arguments.world, arguments.files, atoms, course)
         go(program, folder, rule, begun, course, arguments.legs)
     print(f"{folder.path}: {len(course.legs) - 1} legs, {course.events} events, {course.events / world.sites:.4f} a site")
     return 0
+
+
+def refuse_changed(folder: Folder, course: Course) -> None:
+    """Refuses to go on from atoms that are not those of the last leg."""
+    last = course.legs[-1]
+    path = folder.atoms(last.number)
+    if counts(read_text(path), course.elements) != last.counts:
+        raise LabError(f"{path}: it has other atoms than {COURSE} says")
 
 
 def go(program: Program, folder: Folder, rule: Rule, begun: Begun, course: Course, legs: int) -> None:

@@ -6,7 +6,7 @@ from dataclasses import dataclass
 from pathlib import Path
 from typing import Any
 
-from lab.chain_folder import Begun, Course, Folder, Leg, digest
+from lab.chain_folder import Begun, Course, Folder, Leg
 from lab.chain_rule import Cut, Rule
 from lab.errors import LabError
 from lab.files import open_report, read_text, write_whole
@@ -56,10 +56,9 @@ class Chain:
 
     def faults(self) -> Iterator[str]:
         """What is wrong with the chain, leg by leg."""
-        if digest(self.folder.start) != self.begun.world:
-            yield f"start: {self.folder.start.name} is not the world that the chain was begun with"
-        if [digest(file) for file in self.folder.files] != self.begun.elements:
-            yield "start: the element files are not those that the chain was begun with"
+        changed = self.folder.changed(self.begun)
+        if changed is not None:
+            yield f"start: {changed.name} is not as it was when the chain was begun"
         atoms = first_atoms(self.program, self.folder.start, self.folder.files)
         yield from self.leaves(Leg(0, 0, 0, 0, counts(atoms, self.course.elements)), atoms)
         legs = len(self.course.legs) - 1

@@ -97,16 +97,48 @@ class Folder:
     @property
     def files(self) -> list[Path]:
         """The copies of the element files, in the order in which they were named."""
-        return sorted((self.path / ELEMENTS).iterdir())
+        copies = self.path / ELEMENTS
+        try:
+            return sorted(copies.iterdir())
+        except OSError as error:
+            raise LabError(f"{copies}: can't be read: {cause(error)}") from error
+
+    def changed(self, begun: Begun) -> Path | None:
+        """The first copy that is not as it was when the chain was begun."""
+        copies, were = [self.start, *self.files], [begun.world, *begun.elements]
+        if len(copies) != len(were):
+            return self.path / ELEMENTS
+        return next((copy for copy, was in zip(copies, were, strict=True) if digest(copy) != was), None)
+
+    @property
+    def manifest(self) -> Path:
+        """What the chain was begun with. It is put in its place last, so it speaks of files that are there."""
+        return self.path / MANIFEST
+
+    @property
+    def coming(self) -> Path:
+        """The manifest beside its place: it is there from the first moment of a beginning to the last."""
+        return self.path / (MANIFEST + PART)
 
     @property
     def is_begun(self) -> bool:
-        """Whether a chain was begun here: the manifest is written behind all that it speaks of."""
-        return (self.path / MANIFEST).exists()
+        """Whether a chain was begun here."""
+        return self.manifest.exists()
+
+    def make(self) -> None:
+        """Makes the folder, if it isn't there; refuses one that has files and no chain."""
+        try:
+            self.path.mkdir(parents=True, exist_ok=True)
+            names = [it.name for it in self.path.iterdir() if it.suffix != PART]
+        except OSError as error:
+            raise LabError(f"{self.path}: can't be the folder of a chain: {cause(error)}") from error
+        if names and not self.is_begun and not self.coming.exists():
+            raise LabError(f"{self.path}: no chain was begun there, and it has other files, such as {min(names)}")
 
     def begin(self, begun: Begun, world: Path, files: Sequence[Path], atoms: str, course: Course) -> None:
-        """Begins a chain in an empty folder, or in one that a beginning left when it was stopped."""
+        """Begins a chain in an empty folder, or in one where a beginning was stopped."""
         copies = self.path / ELEMENTS
+        write_whole(self.coming, json.dumps(asdict(begun), indent=2) + "\n")
         copies.mkdir(exist_ok=True)
         for left in copies.iterdir():
             left.unlink()
@@ -115,18 +147,7 @@ class Folder:
             write_whole(copies / f"{number:02}-{file.name}", read_bytes(file))
         write_whole(self.atoms(0), atoms)
         self.write_course(course)
-        write_whole(self.path / MANIFEST, json.dumps(asdict(begun), indent=2) + "\n")
-
-    def make(self) -> None:
-        """Makes the folder, if it isn't there; refuses one of no chain with files of something else."""
-        try:
-            self.path.mkdir(parents=True, exist_ok=True)
-        except OSError as error:
-            raise LabError(f"{self.path}: no folder can be made there: {cause(error)}") from error
-        own = {START, ELEMENTS, COURSE, self.atoms(0).name}
-        others = [it.name for it in self.path.iterdir() if it.name not in own and it.suffix != PART]
-        if others and not self.is_begun:
-            raise LabError(f"{self.path}: no chain was begun there, and it has other files, such as {min(others)}")
+        os.replace(self.coming, self.manifest)
 
     @contextmanager
     def held(self) -> Iterator[None]:
@@ -144,7 +165,7 @@ class Folder:
 
     def begun(self) -> Begun:
         """What the chain was begun with."""
-        path = self.path / MANIFEST
+        path = self.manifest
         if not self.is_begun:
             raise LabError(f"{self.path}: no chain was begun there: it has no file {MANIFEST}")
         try:
@@ -193,6 +214,9 @@ def digest(path: Path) -> str:
 
 def refuse_other(folder: Folder, was: Begun, now: Begun, world: Path) -> None:
     """Refuses to go on with something else than the chain was begun with."""
+    changed = folder.changed(was)
+    if changed is not None:
+        raise LabError(f"{changed}: not as it was when the chain was begun")
     if was.world != now.world:
         raise LabError(f"{folder.path}: the chain was begun with another world than {world}; its own is {folder.start}")
     if was.elements != now.elements:

@@ -3,7 +3,7 @@ import re
 from collections.abc import Iterator
 from dataclasses import dataclass
 
-TOKEN = re.compile(r"(?P<blank>\s+|//[^\n]*|/\*.*?(?:\*/|\Z))|(?P<word>\w+)|(?P<sign>.)", re.DOTALL)
+TOKEN = re.compile(r"(?P<blank>\s+|//[^\n]*|/\*.*?(?:\*/|\Z))|(?P<word>\w+)|(?P<sign>.)", re.DOTALL | re.ASCII)
 
 
 @dataclass(frozen=True)

@@ -8,7 +8,7 @@ from lab.errors import LabError
 from lab.files import read_text
 
 HEADER = re.compile(r"\s*x\s*=\s*(\d+)\s*,\s*y\s*=\s*(\d+).*")
-RUN = re.compile(r"\s*(\d*)\s*([p-y]?[A-X]|[.bo$!])|\s*(\S)")
+RUN = re.compile(r"\s*(?:(\d*)\s*([p-y]?[A-X]|[.bo$!])|(\d*\s*\S))")
 EMPTY_IN_RLE = (".", "b")
 EMPTY_IN_LETTERS = (".", " ")
 

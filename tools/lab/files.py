@@ -48,6 +48,11 @@ def read_text(path: Path) -> str:
         raise LabError(f"{path}: byte {error.start + 1} is no part of a text in UTF-8") from error
 
 
+def read_byte_text(path: Path) -> str:
+    """The text of a file whose comments may have any bytes: one letter for each byte, as in Latin-1."""
+    return read_bytes(path).decode("latin-1")
+
+
 @contextmanager
 def open_report(path: Path) -> Iterator[BinaryIO]:
     """A report to read from, unpacked if it was packed by gzip, whatever its name."""

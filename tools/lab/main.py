@@ -1,7 +1,6 @@
 """The words of the lab."""
 import argparse
 import importlib
-import importlib.util
 import os
 import signal
 import sys
@@ -9,16 +8,20 @@ from types import FrameType, ModuleType
 from typing import NoReturn
 
 from lab.errors import LabError
+from lab.files import cause
 
 VERBS = ("chain", "film", "sweep", "rates", "atoms", "paint")
 EPILOG = """Bad input gets one line on standard error and status 2. Files are written whole or not at all.
 The lab calls the program that ./feast has built; FEAST_PROGRAM names another one."""
 
 
-def verbs() -> dict[str, ModuleType]:
-    """The modules of the verbs. The doc string of each is its help, and the first line its summary."""
-    return {verb: importlib.import_module(f"lab.{verb}") for verb in VERBS
-            if importlib.util.find_spec(f"lab.{verb}") is not None}
+def verbs(words: list[str]) -> dict[str, ModuleType]:
+    """The module of the verb that the words begin with, or else of each verb.
+
+    Its doc string is the verb's help, and the first line of that its summary.
+    """
+    wanted = [verb for verb in VERBS if words[:1] == [verb]] or VERBS
+    return {verb: importlib.import_module(f"lab.{verb}") for verb in wanted}
 
 
 class Parser(argparse.ArgumentParser):
@@ -51,7 +54,7 @@ def main(words: list[str]) -> int:
     """Does what the words say, and gives back the status."""
     signal.signal(signal.SIGTERM, stop)
     try:
-        arguments = parser(verbs()).parse_args(words)
+        arguments = parser(verbs(words)).parse_args(words)
         status: int = arguments.run(arguments)
         sys.stdout.flush()
         return status
@@ -62,5 +65,14 @@ def main(words: list[str]) -> int:
         print("lab: interrupted", file=sys.stderr)
         return 128 + signal.SIGINT
     except BrokenPipeError:
-        os.dup2(os.open(os.devnull, os.O_WRONLY), sys.stdout.fileno())
+        drop_output()
         return 1
+    except OSError as error:
+        drop_output()
+        print(f"lab: {error.filename or 'standard output'}: {cause(error)}", file=sys.stderr)
+        return 2
+
+
+def drop_output() -> None:
+    """Drops what could not be written to standard output, which would else be tried again at the end."""
+    os.dup2(os.open(os.devnull, os.O_WRONLY), sys.stdout.fileno())

@@ -22,6 +22,7 @@ from lab.drawing import Drawing
 from lab.errors import LabError
 from lab.layout import Layout
 from lab.program import Program
+from lab.seeds import MODULUS
 from lab.world import MOST_ATTEMPTS, Placed, World
 
 KEY = re.compile(r"(?P<symbol>[^=]+|=)=(?P<element>\w+)(?::(?P<members>.*))?")
@@ -56,10 +57,14 @@ def run(arguments: argparse.Namespace) -> int:
     layout = Layout.of(Program.find(), arguments.files)
     world = frame(arguments)
     drawing = Drawing.read(arguments.map)
-    keys = dict(key(text, layout) for text in arguments.keys)
+    keys: dict[str, Key] = {}
+    for text in arguments.keys:
+        symbol, meant = key(text, layout)
+        if keys.setdefault(symbol, meant) is not meant:
+            raise LabError(f"--key {symbol}: it is given twice")
     for symbol in drawing.empty:
         if symbol in keys:
-            raise LabError(f"--key {symbol}={keys[symbol].element}: {symbol} is always empty in {drawing.path}")
+            raise LabError(f"--key {symbol}: it is always empty in such a map as {drawing.path}")
     left, top = arguments.place
     for mark in drawing.marks:
         if mark.symbol not in keys:
@@ -83,8 +88,8 @@ def frame(arguments: argparse.Namespace) -> World:
     world = World(*arguments.tiles, *arguments.size, seed=arguments.seed, attempts=arguments.attempts)
     if (world.seed is None) != (world.attempts is None):
         raise LabError("--seed and --attempts belong together")
-    if world.seed is not None and not 0 <= world.seed < 1 << 64:
-        raise LabError(f"--seed {world.seed}: a seed is from 0 to {(1 << 64) - 1}")
+    if world.seed is not None and not 0 <= world.seed < MODULUS:
+        raise LabError(f"--seed {world.seed}: a seed is from 0 to {MODULUS - 1}")
     most = MOST_ATTEMPTS // world.tiles
     if world.attempts is not None and not 0 <= world.attempts <= most:
         raise LabError(f"--attempts {world.attempts}: {world.tiles} tiles may have from 0 to {most} each")
@@ -101,6 +106,8 @@ def key(text: str, layout: Layout) -> tuple[str, Key]:
         pair = VALUE.fullmatch(part)
         if pair is None:
             raise LabError(f"--key {text}: {part} has to be member=value")
+        if pair["member"] in values:
+            raise LabError(f"--key {text}: {pair['member']} is given twice")
         values[pair["member"]] = number(text, pair["value"])
     try:
         return match["symbol"], Key(match["element"], layout.encode(match["element"], values))

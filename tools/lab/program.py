@@ -20,9 +20,8 @@ class Refusal(LabError):
 
 @dataclass(frozen=True)
 class Answer:
-    """What a call of the program that refused nothing wrote, with its status, which is 0."""
+    """What a call of the program wrote; its status was 0."""
 
-    status: int
     output: bytes
 
     @property
@@ -57,7 +56,7 @@ class Program:
                               stdout=subprocess.PIPE, check=False)
         if done.returncode != 0:
             raise Refusal(reason(done.returncode, done.stdout))
-        return Answer(done.returncode, done.stdout)
+        return Answer(done.stdout)
 
 
 def reason(status: int, output: bytes) -> str:

@@ -26,17 +26,19 @@ class Progress:
     def __init__(self, total: float, done: float = 0, to: TextIO | None = None) -> None:
         self.to = to or sys.stderr
         self.is_terminal = self.to.isatty()
+        self.every = REWRITTEN_EVERY if self.is_terminal else LINE_EVERY
         self.total = total
         self.start_done = done
-        self.begin = self.shown = time.monotonic()
+        self.begin = time.monotonic()
+        self.next = self.begin + (0 if self.is_terminal else LINE_EVERY)
         self.is_open = False
 
     def at(self, done: float, leg: str) -> None:
         """Tells that so much of the total is done, and which leg is at work."""
         now = time.monotonic()
-        if now - self.shown < (REWRITTEN_EVERY if self.is_terminal else LINE_EVERY):
+        if now < self.next:
             return
-        self.shown = now
+        self.next = now + self.every
         line = f"{leg}: {100 * done / self.total:.0f} % done{self.left(done, now)}"
         if self.is_terminal:
             self.to.write(f"\r{line}\x1b[K")

@@ -85,20 +85,20 @@ class Report:
     @staticmethod
     def read(path: Path) -> "Report":
         """The report of a file, packed by gzip or not; each line is tested for its form."""
-        with open_report(path) as file:
-            data = file.read()
-        try:
-            text = data.decode("ascii")
-        except UnicodeDecodeError as error:
-            raise LabError(f"{path}: byte {error.start + 1} is no part of a report") from error
-        reader = Reader(path, text.split("\n"))
-        report = Report(
-            [placed(line) for line in reader.part("atoms", ATOM)],
-            Entries(reader.part("journal", RECORD), Record.of),
-            Entries(reader.part("abandoned", ABANDONED), Abandoned.of),
-        )
+        reader = Reader.of(path)
+        report = reader.report(reader.atoms())
         reader.end()
         return report
+
+
+def read_atoms(path: Path) -> list[Placed]:
+    """The atoms of a report, or of what `replay` and `rewind` write, which is the first part of one."""
+    reader = Reader.of(path)
+    atoms = reader.atoms()
+    if not reader.is_over:
+        reader.report(atoms)
+    reader.end()
+    return atoms
 
 
 def placed(line: str) -> Placed:
@@ -117,6 +117,25 @@ class Reader:
         if lines[0] != "feast 1":
             raise LabError(f"{path}:1: no report: its first line is not `feast 1`")
 
+    @staticmethod
+    def of(path: Path) -> "Reader":
+        """What reads a file, packed by gzip or not."""
+        with open_report(path) as file:
+            data = file.read()
+        try:
+            return Reader(path, data.decode("ascii").split("\n"))
+        except UnicodeDecodeError as error:
+            raise LabError(f"{path}: byte {error.start + 1} is no part of a report") from error
+
+    def atoms(self) -> list[Placed]:
+        """The atoms, which come first."""
+        return [placed(line) for line in self.part("atoms", ATOM)]
+
+    def report(self, atoms: list[Placed]) -> Report:
+        """The report of which these atoms and the parts behind them are."""
+        journal, abandoned = self.part("journal", RECORD), self.part("abandoned", ABANDONED)
+        return Report(atoms, Entries(journal, Record.of), Entries(abandoned, Abandoned.of))
+
     def part(self, word: str, form: re.Pattern[str]) -> list[str]:
         """The lines of a part, which begins with a line that counts them."""
         head = re.fullmatch(f"{word} ({NUMBER})", self.lines[self.at]) if self.at < len(self.lines) else None
@@ -124,15 +143,20 @@ class Reader:
             raise LabError(f"{self.path}:{self.at + 1}: no report: a line `{word} N` should stand here")
         first = self.at + 1
         self.at = first + int(head[1])
+        if self.at >= len(self.lines):
+            raise LabError(f"{self.path}: the report ends too early: it has fewer than {head[1]} lines of `{word}`")
         found = self.lines[first:self.at]
         for number, line in enumerate(found, first + 1):
             if form.fullmatch(line) is None:
                 raise LabError(f"{self.path}:{number}: no line of the part `{word}` of a report: {line[:40]}")
-        if self.at >= len(self.lines):
-            raise LabError(f"{self.path}: the report ends too early: it has fewer than {head[1]} lines of `{word}`")
         return found
+
+    @property
+    def is_over(self) -> bool:
+        """Whether no line follows."""
+        return self.lines[self.at:] == [""]
 
     def end(self) -> None:
         """Refuses what follows the last part."""
-        if self.lines[self.at:] != [""]:
+        if not self.is_over:
             raise LabError(f"{self.path}:{self.at + 1}: more lines than the report counts")

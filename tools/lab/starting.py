@@ -5,6 +5,7 @@ from pathlib import Path
 
 from lab.errors import LabError
 from lab.program import Program
+from lab.seeds import MODULUS
 from lab.world import World
 
 NO_EVENTS = "feast 1\natoms 0\njournal 0\nabandoned 0\n"
@@ -24,3 +25,11 @@ def drawn_world(path: Path) -> World:
     if world.seed is None:
         raise LabError(f"{path}: its attempts have to be drawn, by lines `seed N` and `attempts K`")
     return world
+
+
+def first_seed(world: World, option: int | None) -> int:
+    """The first seed of several runs: that of the option --seed, or else the world's own."""
+    seed = world.seed if option is None else option
+    if seed is None or not 0 <= seed < MODULUS:
+        raise LabError(f"--seed {seed}: a seed is from 0 to {MODULUS - 1}")
+    return seed

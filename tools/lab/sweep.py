@@ -26,13 +26,13 @@ from pathlib import Path
 
 from lab.constants import constants, with_values
 from lab.errors import LabError
-from lab.files import read_text
+from lab.files import read_byte_text
 from lab.layout import Layout
 from lab.outcome import Outcome, counts
 from lab.program import Program, Refusal
 from lab.progress import Progress
-from lab.seeds import MODULUS, nth, of_order
-from lab.starting import drawn_world, first_atoms
+from lab.seeds import nth, of_order
+from lab.starting import drawn_world, first_atoms, first_seed
 from lab.world import World
 
 SETTING = re.compile(r"(?P<name>\w+\.\w+)=(?P<values>-?\w+(?:,-?\w+)*)")
@@ -77,7 +77,8 @@ class Sweep:
         """Writes the element files of a combination, and has the program read them with the world."""
         folder.mkdir()
         for name, text in zip(self.copies, texts, strict=True):
-            (folder / name).write_text(with_values(text, dict(zip(self.names, values, strict=True))), newline="")
+            text = with_values(text, dict(zip(self.names, values, strict=True)))
+            (folder / name).write_text(text, encoding="latin-1", newline="")
         try:
             first_atoms(self.program, world.resolve(), self.copies, folder)
         except Refusal as refusal:
@@ -107,19 +108,17 @@ def run(arguments: argparse.Namespace) -> int:
     """Writes the rows to standard output, when all combinations are known to be accepted."""
     if arguments.repeat < 1:
         raise LabError(f"--repeat {arguments.repeat}: each combination has at least one run")
-    if arguments.seed is not None and not 0 <= arguments.seed < MODULUS:
-        raise LabError(f"--seed {arguments.seed}: a seed is from 0 to {MODULUS - 1}")
     program, world = Program.find(), drawn_world(arguments.world)
-    base = world.seed or 0 if arguments.seed is None else arguments.seed
+    seed = first_seed(world, arguments.seed)
     first_atoms(program, arguments.world, arguments.files)
-    texts = [read_text(file) for file in arguments.files]
-    sets = [setting(text, texts) for text in arguments.sets]
-    sweep = Sweep(program, world, "step" if arguments.step else "run", [name for name, _ in sets], arguments.files)
+    texts = [read_byte_text(file) for file in arguments.files]
+    sets = settings(arguments.sets, texts)
+    sweep = Sweep(program, world, "step" if arguments.step else "run", list(sets), arguments.files)
     elements = Layout.of(program, arguments.files).elements
-    seeds = [nth(base, world.tiles, turn) for turn in range(arguments.repeat)]
+    seeds = [nth(seed, world.tiles, turn) for turn in range(arguments.repeat)]
     with tempfile.TemporaryDirectory() as room:
         jobs = []
-        for number, values in enumerate(itertools.product(*(values for _, values in sets))):
+        for number, values in enumerate(itertools.product(*sets.values())):
             folder = Path(room) / str(number)
             sweep.copy(texts, values, folder, arguments.world)
             jobs += [Job(values, seed, folder) for seed in seeds]
@@ -131,15 +130,21 @@ def run(arguments: argparse.Namespace) -> int:
     return 0
 
 
-def setting(text: str, texts: list[str]) -> tuple[str, list[str]]:
-    """The constant that an option `--set` names, and its values."""
-    match = SETTING.fullmatch(text)
-    if match is None:
-        raise LabError(f"--set {text}: it has to be Element.constant=A,B,.. with numbers or truth values")
-    known = [constant.name for it in texts for constant in constants(it)]
-    if match["name"] not in known:
-        raise LabError(f"--set {text}: the files have no constant {match['name']}; they have {', '.join(known) or 'none'}")
-    return match["name"], match["values"].split(",")
+def settings(options: list[str], texts: list[str]) -> dict[str, list[str]]:
+    """The constants that the options `--set` name, and their values."""
+    known = [constant.name for text in texts for constant in constants(text)]
+    found: dict[str, list[str]] = {}
+    for option in options:
+        match = SETTING.fullmatch(option)
+        if match is None:
+            raise LabError(f"--set {option}: it has to be Element.constant=A,B,.. with numbers or truth values")
+        name = match["name"]
+        if name not in known:
+            raise LabError(f"--set {option}: the files have no constant {name}; they have {', '.join(known) or 'none'}")
+        if name in found:
+            raise LabError(f"--set {name}: it is given twice")
+        found[name] = match["values"].split(",")
+    return found
 
 
 def rows(sweep: Sweep, jobs: list[Job], elements: list[str]) -> Iterator[list[str]]:

@@ -6,7 +6,7 @@ from pathlib import Path
 from typing import NoReturn
 
 from lab.errors import LabError
-from lab.files import read_text
+from lab.files import read_byte_text
 
 NAME = r"[A-Z][A-Za-z0-9_]{0,254}"
 NUMBER = r"(?:0|[1-9][0-9]{0,19})"
@@ -157,7 +157,7 @@ class Reader:
 
     def lines(self) -> Iterator[str]:
         """The lines that say something."""
-        for self.number, line in enumerate(read_text(self.path).split("\n"), 1):
+        for self.number, line in enumerate(read_byte_text(self.path).split("\n"), 1):
             bare = line.removesuffix("\r")
             if bare and not bare.startswith("#"):
                 yield bare
