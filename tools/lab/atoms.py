@@ -1,0 +1,43 @@
+"""The atoms of a report with the values of their members, as CSV.
+
+In place of a report there can be what `replay` or `rewind` writes, such as the NNNN.atoms of a chain.
+A row has the site, the element, and a column for each member of any element of the files, by its
+dotted name (`part.count`, `list[2]`); where an element lacks a member, its column is empty. `Unary` is
+shown as its number of ones, `Bits` as the number that the bits make, and `true` as 1.
+"""
+import argparse
+import csv
+import sys
+from pathlib import Path
+
+from lab.errors import LabError
+from lab.layout import Layout
+from lab.program import Program
+from lab.report import read_atoms
+
+
+def add_arguments(parser: argparse.ArgumentParser) -> None:
+    """The words of the verb."""
+    parser.add_argument("report", metavar="REPORT", type=Path, help="a report, packed by gzip or not, or what replay and rewind write")
+    parser.add_argument("files", metavar="FILE", nargs="+", help="the element files")
+
+
+def run(arguments: argparse.Namespace) -> int:
+    """Writes the atoms to standard output."""
+    layout = Layout.of(Program.find(), arguments.files)
+    atoms = read_atoms(arguments.report)
+    columns = list(dict.fromkeys(leaf.name for element in layout.elements for leaf in layout.numbers(element)))
+    for atom in atoms:
+        if atom.name not in layout.leaves:
+            raise LabError(f"{arguments.report}: it has atoms of {atom.name}, which no file has as an element")
+    rows = [[atom.x, atom.y, atom.name, *cells(layout, columns, atom.name, atom.state)] for atom in atoms]
+    out = csv.writer(sys.stdout, lineterminator="\n")
+    out.writerow(["x", "y", "element", *columns])
+    out.writerows(rows)
+    return 0
+
+
+def cells(layout: Layout, columns: list[str], element: str, state: int) -> list[str]:
+    """The values of an atom's members, column by column."""
+    values = dict(layout.decode(element, state))
+    return [str(values.get(column, "")) for column in columns]

@@ -1,0 +1,128 @@
+/** The least of 1, 2 and 5 times a power of ten that cuts a length into at most so many parts. */
+function stepOf(length, parts) {
+  const power = 10 ** Math.floor(Math.log10(Math.max(length / parts, 1)));
+  return [1, 2, 5, 10].map((times) => times * power).find((step) => length / step <= parts);
+}
+
+/** The curves of the counts over the events, with a cursor at the frame that is shown. */
+class ChartView {
+  constructor(canvas, film) {
+    this.canvas = canvas;
+    this.pen = canvas.getContext('2d');
+    this.film = film;
+    this.most = film.greatest();
+    this.events = Math.max(1, film.head.events[film.last]);
+    this.curves = new OffscreenCanvas(1, 1);
+  }
+
+  /** Takes the width that the page has, and draws the curves, which stay as they are from frame to frame. */
+  fit() {
+    this.scale = window.devicePixelRatio;
+    const width = this.canvas.parentElement.clientWidth;
+    const height = 170;
+    for (const canvas of [this.canvas, this.curves]) {
+      canvas.width = Math.floor(width * this.scale);
+      canvas.height = Math.floor(height * this.scale);
+    }
+    this.canvas.style.height = `${height}px`;
+    this.left = (16 + 8 * spelled(this.most).length) * this.scale;
+    this.right = this.canvas.width - 30 * this.scale;
+    this.top = 10 * this.scale;
+    this.bottom = this.canvas.height - 38 * this.scale;
+    const pen = this.curves.getContext('2d');
+    pen.fillStyle = '#fff';
+    pen.fillRect(0, 0, this.canvas.width, this.canvas.height);
+    this.drawAxes(pen);
+    this.film.head.elements.forEach((element, i) => this.drawCurve(pen, element, i));
+    this.drawSymbols(pen);
+  }
+
+  xOf(events) {
+    return this.left + ((this.right - this.left) * events) / this.events;
+  }
+
+  yOf(count) {
+    return this.bottom - ((this.bottom - this.top) * count) / this.most;
+  }
+
+  drawAxes(pen) {
+    const { scale } = this;
+    pen.font = `${12 * scale}px system-ui, sans-serif`;
+    pen.fillStyle = '#4a5560';
+    pen.strokeStyle = '#e0e2e4';
+    pen.lineWidth = scale;
+    pen.textBaseline = 'middle';
+    pen.textAlign = 'right';
+    const rise = stepOf(this.most, 5);
+    for (let count = 0; count <= this.most; count += rise) {
+      pen.strokeRect(this.left, this.yOf(count), this.right - this.left, 0);
+      pen.fillText(spelled(count), this.left - 6 * scale, this.yOf(count));
+    }
+    pen.textBaseline = 'top';
+    pen.textAlign = 'center';
+    const stride = stepOf(this.events, Math.max(2, Math.floor((this.right - this.left) / (110 * scale))));
+    for (let events = 0; events <= this.events; events += stride) {
+      pen.strokeRect(this.xOf(events), this.bottom, 0, 4 * scale);
+      pen.fillText(spelled(events), this.xOf(events), this.bottom + 6 * scale);
+    }
+    pen.fillText('events', (this.left + this.right) / 2, this.bottom + 21 * scale);
+    pen.strokeStyle = '#59636d';
+    pen.setLineDash([4 * scale, 4 * scale]);
+    for (const events of this.film.head.cuts) pen.strokeRect(this.xOf(events), this.top, 0, this.bottom - this.top);
+    pen.setLineDash([]);
+  }
+
+  /** One curve, in the colour of its element; a bright one gets a dark edge. */
+  drawCurve(pen, element, index) {
+    pen.beginPath();
+    this.film.counts.forEach((counts, frame) => {
+      pen.lineTo(this.xOf(this.film.head.events[frame]), this.yOf(counts[index]));
+    });
+    pen.lineJoin = 'round';
+    if (brightness(element.color) > 0.6) {
+      pen.strokeStyle = '#59636d';
+      pen.lineWidth = 4 * this.scale;
+      pen.stroke();
+    }
+    pen.strokeStyle = element.color;
+    pen.lineWidth = 2 * this.scale;
+    pen.stroke();
+  }
+
+  /** The symbol of each element at the end of its curve; none stands over another. */
+  drawSymbols(pen) {
+    const { scale } = this;
+    const last = this.film.counts[this.film.last];
+    const ends = this.film.head.elements.map((element, i) => ({ symbol: element.symbol, y: this.yOf(last[i]) }));
+    ends.sort((one, other) => other.y - one.y);
+    pen.font = `600 ${12 * scale}px system-ui, sans-serif`;
+    pen.textAlign = 'left';
+    pen.textBaseline = 'middle';
+    pen.fillStyle = '#1b1f24';
+    let above = Infinity;
+    for (const end of ends) {
+      above = Math.min(end.y, above - 13 * scale);
+      pen.fillText(end.symbol, this.right + 5 * scale, above);
+    }
+  }
+
+  draw() {
+    const { pen, scale } = this;
+    pen.drawImage(this.curves, 0, 0);
+    pen.fillStyle = '#1b1f24';
+    pen.fillRect(this.xOf(this.film.head.events[this.film.frame]) - scale, this.top, 2 * scale, this.bottom - this.top);
+  }
+
+  /** The frame that is nearest to where a click was. */
+  frameAt(event) {
+    const box = this.canvas.getBoundingClientRect();
+    const x = ((event.clientX - box.left) / box.width) * this.canvas.width;
+    const wanted = ((x - this.left) / (this.right - this.left)) * this.events;
+    const { events } = this.film.head;
+    let nearest = 0;
+    events.forEach((count, frame) => {
+      if (Math.abs(count - wanted) < Math.abs(events[nearest] - wanted)) nearest = frame;
+    });
+    return nearest;
+  }
+}

@@ -1,0 +1,136 @@
+/** The bytes of a film, read as one number after another. */
+class Reader {
+  constructor(bytes) {
+    this.bytes = bytes;
+    this.at = 0;
+  }
+
+  /** The next number: seven bits a byte, the lowest first; each byte but the last has its top bit set. */
+  number() {
+    let value = 0;
+    for (let scale = 1; ; scale *= 128) {
+      const byte = this.bytes[this.at++];
+      value += (byte % 128) * scale;
+      if (byte < 128) return value;
+    }
+  }
+
+  /** The next `count` bytes. */
+  take(count) {
+    this.at += count;
+    return this.bytes.subarray(this.at - count, this.at);
+  }
+
+  /** Fills `list` from `first` on with `count` sites, each told by its distance from the one before. */
+  sites(list, first, count) {
+    let site = -1;
+    for (let i = first; i < first + count; i++) {
+      site += this.number() + 1;
+      list[i] = site;
+    }
+  }
+}
+
+/** The bytes that stand in the page, compressed, as letters. */
+async function unpack(text) {
+  const packed = Uint8Array.from(atob(text), (letter) => letter.charCodeAt(0));
+  const stream = new Blob([packed]).stream().pipeThrough(new DecompressionStream('gzip'));
+  return new Uint8Array(await new Response(stream).arrayBuffer());
+}
+
+/**
+ * A film: the plane as it is at the frame that is shown, and how to get to any other frame.
+ *
+ * The frames are kept as what changed: frame f as the sites `sites[i]` with the atoms `after[i]` for i
+ * from `starts[f]` on, up to `starts[f + 1]`. Atoms are numbered from 1 by their kind and state; 0 is Empty.
+ */
+class Film {
+  constructor(head, bytes) {
+    this.head = head;
+    this.columns = head.tiles[0] * head.size[0];
+    this.rows = head.tiles[1] * head.size[1];
+    this.last = head.events.length - 1;
+    const reader = new Reader(bytes);
+    this.readAtoms(reader);
+    this.readFrames(reader);
+    this.readPlaces(reader);
+    this.playThrough();
+  }
+
+  readAtoms(reader) {
+    const count = reader.number();
+    this.kinds = new Uint16Array(count + 1);
+    this.states = [new Uint8Array(9)];
+    for (let atom = 1; atom <= count; atom++) {
+      this.kinds[atom] = reader.number();
+      this.states.push(reader.take(9));
+    }
+  }
+
+  readFrames(reader) {
+    const changes = reader.number();
+    this.starts = new Uint32Array(this.last + 2);
+    this.sites = new Uint32Array(changes);
+    this.after = new Uint32Array(changes);
+    this.before = new Uint32Array(changes);
+    for (let frame = 0; frame <= this.last; frame++) {
+      const first = this.starts[frame];
+      const count = reader.number();
+      reader.sites(this.sites, first, count);
+      for (let i = first; i < first + count; i++) this.after[i] = reader.number();
+      this.starts[frame + 1] = first + count;
+    }
+  }
+
+  readPlaces(reader) {
+    this.places = [];
+    for (let frame = 0; frame <= this.last; frame++) {
+      const sites = new Uint32Array(reader.number());
+      reader.sites(sites, 0, sites.length);
+      this.places.push({ sites, counts: Array.from(sites, () => reader.number()) });
+    }
+  }
+
+  /** Plays all frames once: notes what each change replaced, and the counts of each frame. */
+  playThrough() {
+    this.cells = new Uint32Array(this.columns * this.rows);
+    this.counts = [];
+    const counts = new Uint32Array(this.head.elements.length + 1);
+    for (let frame = 0; frame <= this.last; frame++) {
+      for (let i = this.starts[frame]; i < this.starts[frame + 1]; i++) {
+        const site = this.sites[i];
+        this.before[i] = this.cells[site];
+        counts[this.kinds[this.before[i]]]--;
+        counts[this.kinds[this.after[i]]]++;
+        this.cells[site] = this.after[i];
+      }
+      this.counts.push(counts.slice(1));
+    }
+    this.frame = this.last;
+    this.goTo(0);
+  }
+
+  /** Makes the plane that of a frame, which may be any. */
+  goTo(frame) {
+    while (this.frame < frame) {
+      this.frame++;
+      for (let i = this.starts[this.frame]; i < this.starts[this.frame + 1]; i++) this.cells[this.sites[i]] = this.after[i];
+    }
+    while (this.frame > frame) {
+      for (let i = this.starts[this.frame]; i < this.starts[this.frame + 1]; i++) this.cells[this.sites[i]] = this.before[i];
+      this.frame--;
+    }
+  }
+
+  /** The greatest number of atoms that any element has in any frame. */
+  greatest() {
+    return Math.max(1, ...this.counts.map((counts) => Math.max(0, ...counts)));
+  }
+
+  /** The tile that owns a site. */
+  tileOf(column, row) {
+    const [across] = this.head.tiles;
+    const [width, height] = this.head.size;
+    return Math.floor(row / height) * across + Math.floor(column / width);
+  }
+}

@@ -1,0 +1,80 @@
+"""The program that the lab calls."""
+import os
+import subprocess
+from collections.abc import Sequence
+from dataclasses import dataclass
+from pathlib import Path
+
+from lab.errors import LabError
+
+TOP = Path(__file__).resolve().parent.parent.parent
+BUILT = TOP / "crates" / "feast" / "out" / "feast"
+INSTEAD = "FEAST_PROGRAM"
+SOURCES = (".rt", ".antt")
+QUIET = {7: "it could not write its output", 8: "it ran out of memory"}
+
+
+class Refusal(LabError):
+    """The line with which the program refused a call."""
+
+
+@dataclass(frozen=True)
+class Answer:
+    """What a call of the program wrote; its status was 0."""
+
+    output: bytes
+
+    @property
+    def text(self) -> str:
+        """What the call wrote, as text."""
+        return self.output.decode()
+
+
+@dataclass(frozen=True)
+class Program:
+    """The built program."""
+
+    path: Path
+
+    @staticmethod
+    def find() -> "Program":
+        """The program that `./feast` would run: the built one, unless FEAST_PROGRAM names another."""
+        instead = os.environ.get(INSTEAD)
+        if instead:
+            if not os.access(instead, os.X_OK):
+                raise LabError(f"{instead}: {INSTEAD} names it, and it is no program")
+            return Program(Path(instead).resolve())
+        if not os.access(BUILT, os.X_OK):
+            raise LabError(f"{BUILT}: the program is not built yet; run ./feast once, which builds it")
+        if is_stale():
+            raise LabError(f"{BUILT}: older than its sources; run ./feast once, which builds it again")
+        return Program(BUILT)
+
+    def call(self, words: Sequence[str | Path], cwd: Path | None = None) -> Answer:
+        """Calls the program on words; what it refuses is raised as its own line."""
+        done = subprocess.run([self.path, *words], cwd=cwd, stdin=subprocess.DEVNULL,
+                              stdout=subprocess.PIPE, check=False)
+        if done.returncode != 0:
+            raise Refusal(reason(done.returncode, done.stdout))
+        return Answer(done.stdout)
+
+
+def reason(status: int, output: bytes) -> str:
+    """Why a call ended with a status that isn't 0."""
+    if status in QUIET:
+        return f"the program ended with status {status}: {QUIET[status]}"
+    if status < 0:
+        return f"the program was ended by signal {-status}"
+    return output.decode(errors="replace").strip() or f"the program ended with status {status}"
+
+
+def is_stale() -> bool:
+    """Whether a source is newer than the built program."""
+    built = BUILT.stat().st_mtime
+    crates = TOP / "crates"
+    for folder, folders, names in os.walk(crates):
+        folders[:] = [name for name in folders if name != "out"]
+        for name in names:
+            if name.endswith(SOURCES) and (Path(folder) / name).stat().st_mtime > built:
+                return True
+    return (TOP / "crates.txt").stat().st_mtime > built

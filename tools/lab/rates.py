@@ -1,0 +1,115 @@
+"""How many events and abandoned attempts each site of a run had, as CSV, and a heat map of them.
+
+A row has a site and its tile, or with --by tile a tile with the least, the mean and the greatest number that
+its sites have. A site that lies eight or fewer from the border of its tile needs an edge for its events, and its
+attempts are given up when that is held, so on small tiles the rates are uneven.
+"""
+import argparse
+import csv
+import sys
+from collections.abc import Iterable, Iterator, Sequence
+from dataclasses import dataclass
+from pathlib import Path
+
+from lab.errors import LabError
+from lab.files import write_whole
+from lab.heat import heat_map
+from lab.report import Report
+from lab.world import World
+
+
+@dataclass(frozen=True)
+class Rates:
+    """For each site, numbered row by row, how many events and how many abandoned attempts it had."""
+
+    world: World
+    events: list[int]
+    abandoned: list[int]
+
+    @staticmethod
+    def of(world_path: Path, report_path: Path) -> "Rates":
+        """The rates of a run. Refuses a report whose sites or numbers of attempts aren't those of the world."""
+        world = World.read(world_path)
+        report = Report.read(report_path)
+        events, abandoned = len(report.journal), len(report.abandoned)
+        attempts = len(world.tries)
+        if world.attempts is not None:
+            attempts = world.attempts * (world.tiles - len(world.off))
+        if events + abandoned != attempts:
+            raise LabError(f"{report_path}: it has {events} events and {abandoned} abandoned attempts, "
+                           f"but {world_path} has {attempts} attempts")
+        first = len(report.atoms) + 4  # the line of the first event
+        made = ((tile, x, y) for _, tile, _, x, y, _ in map(fields, report.journal.lines))
+        given_up = ((tile, x, y) for tile, _, x, y, *_ in map(fields, report.abandoned.lines))
+        return Rates(world, counts(world, report_path, first, made),
+                     counts(world, report_path, first + events + 1, given_up))
+
+    def live(self) -> list[int]:
+        """The sites whose tile is on, row by row."""
+        return sorted(site for tile in self.tiles() for site in self.sites_of(tile))
+
+    def sites_of(self, tile: int) -> Iterator[int]:
+        """The sites that a tile owns."""
+        across, down = tile % self.world.tiles_x * self.world.width, tile // self.world.tiles_x * self.world.height
+        for y in range(down, down + self.world.height):
+            yield from range(y * self.world.columns + across, y * self.world.columns + across + self.world.width)
+
+    def tiles(self) -> list[int]:
+        """The tiles that are on."""
+        return [tile for tile in range(self.world.tiles) if tile not in self.world.off]
+
+
+def add_arguments(parser: argparse.ArgumentParser) -> None:
+    """The words of the verb."""
+    parser.add_argument("world", metavar="WORLD", type=Path, help="a world")
+    parser.add_argument("report", metavar="REPORT", type=Path, help="the report of its run, packed by gzip or not")
+    parser.add_argument("--by", choices=("site", "tile"), default="site", help="what a row is of (default site)")
+    parser.add_argument("--svg", metavar="MAP.svg", type=Path, help="write a heat map too, as SVG")
+
+
+def run(arguments: argparse.Namespace) -> int:
+    """Writes the rates to standard output."""
+    rates = Rates.of(arguments.world, arguments.report)
+    if arguments.svg is not None:
+        panels = {"events": rates.events}
+        if any(rates.abandoned):
+            panels["abandoned attempts"] = rates.abandoned
+        write_whole(arguments.svg, heat_map(rates.world, rates.live(), panels, arguments.world.name))
+    out = csv.writer(sys.stdout, lineterminator="\n")
+    out.writerows(site_rows(rates) if arguments.by == "site" else tile_rows(rates))
+    return 0
+
+
+def fields(line: str) -> list[str]:
+    """The fields of a line."""
+    return line.split(" ")
+
+
+def counts(world: World, path: Path, first: int, entries: Iterable[tuple[str, str, str]]) -> list[int]:
+    """How many entries each site has; an entry is its tile and its site, and the first is in a line of the file."""
+    found = [0] * (world.columns * world.rows)
+    for number, (tile, x, y) in enumerate(entries, first):
+        column, row = int(x), int(y)
+        if column >= world.columns or row >= world.rows or world.tile_at(column, row) != int(tile):
+            raise LabError(f"{path}:{number}: tile {tile} of the world has no site in column {x} of row {y}")
+        found[row * world.columns + column] += 1
+    return found
+
+
+def site_rows(rates: Rates) -> Iterator[Sequence[object]]:
+    """A head and a row for each live site, row by row of the plane."""
+    yield "x", "y", "tile", "events", "abandoned"
+    for site in rates.live():
+        y, x = divmod(site, rates.world.columns)
+        yield x, y, rates.world.tile_at(x, y), rates.events[site], rates.abandoned[site]
+
+
+def tile_rows(rates: Rates) -> Iterator[Sequence[object]]:
+    """A head and a row for each tile that is on."""
+    yield ("tile", "sites", *(f"{what}_{name}" for what in ("events", "abandoned")
+                              for name in ("sum", "least", "mean", "greatest")))
+    for tile in rates.tiles():
+        sites = list(rates.sites_of(tile))
+        columns = [[of[site] for site in sites] for of in (rates.events, rates.abandoned)]
+        yield tile, len(sites), *(number for column in columns for number in
+                                  (sum(column), min(column), f"{sum(column) / len(sites):.4f}", max(column)))
