@@ -28,7 +28,8 @@ def around(instead: Path | None = None) -> dict[str, str]:
 
 def lab(*words: Word, instead: Path | None = None) -> subprocess.CompletedProcess[str]:
     """A call of the lab, with another program than that of the tests if one is named."""
-    return subprocess.run([TOP / "lab", *words], capture_output=True, text=True, env=around(instead), timeout=300, check=False)
+    return subprocess.run([TOP / "lab", *words], capture_output=True, text=True, env=around(instead), timeout=300,
+                          check=False)
 
 
 class LabCase(unittest.TestCase):
