@@ -149,6 +149,8 @@ def moments_of(world: World, report: Report) -> list[tuple[int, int]]:
     A report doesn't say when it was. An attempt is told with the next event of its tile, or, behind the last of
     them, at the end.
     """
+    if not report.abandoned:
+        return []
     attempts: dict[str, list[int]] = defaultdict(list)
     events: dict[str, list[int]] = defaultdict(list)
     for number, line in enumerate(report.journal.lines, 1):

@@ -2,22 +2,21 @@
 
 The events of a part, made from the atoms at its beginning, lead to the atoms at its end. So the part is
 written as a world of its own, whose tries are the events and whose atoms are those at the beginning, with a
-journal of its own, and the program replays that. An event reads and writes its window alone, so the atoms of
-all other sites are left out.
+journal of its own, and the program replays that. An event reads and writes its window alone, so atoms far
+from all events of the part are left out. For this the plane is kept in blocks as wide and high as a window
+reaches: a window lies in the block of its centre and the eight about that.
 """
-from collections import Counter
+from collections import Counter, defaultdict
 from collections.abc import Iterable, Sequence
 from dataclasses import replace
-from itertools import chain
 from pathlib import Path
 
 from lab.files import open_report
 from lab.program import Program, Refusal
 from lab.world import World
 
-REACH = 4  # how far a window goes
-# the rows of a window: how far each is from the centre, and how many sites it has to either side
-ROWS = [(down, REACH - abs(down)) for down in range(-REACH, REACH + 1)]
+SIDE = 4  # how many columns and rows a block has, and how far a window reaches
+Block = tuple[int, int]
 
 
 class Plane:
@@ -31,7 +30,7 @@ class Plane:
         self.files = files
         self.room = room
         self.world = World(1, 1, 8, 8)
-        self.lines: dict[int, str] = {}
+        self.blocks: defaultdict[Block, set[str]] = defaultdict(set)  # the atoms, as lines of a report
 
     def begin(self, world: World) -> dict[int, str]:
         """Makes the plane that of the beginning of a world; gives back what changed."""
@@ -40,61 +39,43 @@ class Plane:
 
     def put(self, atoms: Iterable[str]) -> dict[int, str]:
         """Makes the plane one with these atoms, lines of a report; gives back what changed."""
-        return self.change(set(self.lines.values()), set(atoms))
+        return self.change(set().union(*self.blocks.values()), set(atoms))
 
     def play(self, records: Sequence[str]) -> dict[int, str]:
         """Makes the next events, which are lines of a journal; gives back what changed."""
         if not records:
             return {}
-        reached = self.reached(records)
-        before = {line for site, line in self.lines.items() if reached[site]}
-        return self.change(before, set(self.replayed(records, before)))
+        fields = [line.split(" ") for line in records]
+        centres = {(int(x) // SIDE, int(y) // SIDE) for _, _, _, x, y, _ in fields}
+        reached = {(across + x, down + y) for across, down in centres for x in (-1, 0, 1) for y in (-1, 0, 1)}
+        before = set().union(*(self.blocks[block] for block in reached if block in self.blocks))
+        return self.change(before, set(self.replayed(fields, before)))
 
     def change(self, before: set[str], after: set[str]) -> dict[int, str]:
-        """Puts atoms in the place of others, all as lines of a report."""
+        """Puts atoms in the place of others, all as lines of a report; gives back what changed."""
         changes = {}
         for line in before - after:
-            site = self.site_of(line)
-            del self.lines[site]
-            changes[site] = ""
+            x, y, _ = line.split(" ", 2)
+            self.blocks[int(x) // SIDE, int(y) // SIDE].remove(line)
+            changes[int(y) * self.world.columns + int(x)] = ""
         for line in after - before:
-            site = self.site_of(line)
-            self.lines[site] = line
-            changes[site] = line.split(" ", 2)[2]
+            x, y, atom = line.split(" ", 2)
+            self.blocks[int(x) // SIDE, int(y) // SIDE].add(line)
+            changes[int(y) * self.world.columns + int(x)] = atom
         return changes
 
-    def site_of(self, line: str) -> int:
-        """The site of an atom."""
-        x, y, _ = line.split(" ", 2)
-        return int(y) * self.world.columns + int(x)
-
-    def reached(self, records: Sequence[str]) -> bytearray:
-        """For each site 1 where it is in the window of an event."""
-        wide = self.world.columns + 2 * REACH  # with so many more columns and rows about the plane
-        marks = bytearray(wide * (self.world.rows + 2 * REACH))
-        centres = {(int(x), int(y)) for x, y in (line.split(" ")[3:5] for line in records)}
-        rows = [(wide * (down + REACH) + REACH - side, b"\1" * (2 * side + 1)) for down, side in ROWS]
-        for x, y in centres:
-            centre = wide * y + x
-            for shift, ones in rows:
-                marks[centre + shift:centre + shift + len(ones)] = ones
-        first = wide * REACH + REACH
-        return bytearray(chain.from_iterable(
-            marks[first + wide * y:first + wide * y + self.world.columns] for y in range(self.world.rows)))
-
-    def replayed(self, records: Sequence[str], before: set[str]) -> list[str]:
+    def replayed(self, records: Iterable[Sequence[str]], before: Iterable[str]) -> list[str]:
         """The lines of the atoms that events leave, by a call of the program."""
         made: Counter[str] = Counter()
         tries, journal = [], []
-        for line in records:
-            stamp, tile, _, x, y, seed = line.split(" ")
+        for stamp, tile, _, x, y, seed in records:
             tries.append(f"try {tile} {x} {y} {seed}\n")
             journal.append(f"{stamp} {tile} {made[tile]} {x} {y} {seed}\n")
             made[tile] += 1
         world, report = self.room / "part.world", self.room / "part.report"
         atoms = "".join(f"atom {line}\n" for line in before)
         world.write_text(self.world.front() + "".join(tries) + atoms)
-        report.write_text(f"feast 1\natoms 0\njournal {len(records)}\n{''.join(journal)}abandoned 0\n")
+        report.write_text(f"feast 1\natoms 0\njournal {len(journal)}\n{''.join(journal)}abandoned 0\n")
         return self.program.call(["replay", world, report, *self.files]).text.splitlines()[2:]
 
 
