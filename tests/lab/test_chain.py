@@ -9,7 +9,7 @@ import subprocess
 import sys
 from pathlib import Path
 
-from calls import EXAMPLES, LabCase, around, feast, lab, program
+from calls import EXAMPLES, LabCase, around, feast, here, lab, program
 
 WORLD = """feast 1
 # a chain begins here
@@ -178,19 +178,19 @@ class GoingOn(ChainCase):
         for number in range(1, files + 1):
             shutil.rmtree(self.chain, ignore_errors=True)
             dying = [sys.executable, HERE / "dying.py", str(number), *self.words(2, *options)]
-            killed = subprocess.run(dying, capture_output=True, env=around(), timeout=60, check=False)
+            killed = subprocess.run(dying, capture_output=True, env=around(), timeout=300, check=False)
             self.assertEqual(killed.returncode, -signal.SIGKILL, number)
             self.passes(*self.words(2, *options))
             self.assertEqual(contents(self.chain), expected, number)
         done = subprocess.run([sys.executable, HERE / "dying.py", str(files + 1), *self.words(2, *options)],
-                              capture_output=True, env=around(), timeout=60, check=False)
+                              capture_output=True, env=around(), timeout=300, check=False)
         self.assertEqual(done.returncode, 0)
 
     def test_begun_anew_with_other_elements(self) -> None:
         """A beginning that was killed leaves nothing behind that a later one takes for its own."""
         other = self.file("aaa.ulam", ELEMENTS + "element Further { Void behave() { } }\n")
         dying = [sys.executable, HERE / "dying.py", "3", "chain", self.chain, "--legs", "1", self.world, other]
-        subprocess.run(dying, capture_output=True, env=around(), timeout=60, check=False)
+        subprocess.run(dying, capture_output=True, env=around(), timeout=300, check=False)
         self.assertTrue((self.chain / "elements").exists())
         self.passes(*self.words(1))
         self.assertEqual(list(self.rows()[0])[5:], ["Regulator", "Resource"])
@@ -249,9 +249,7 @@ class Refused(ChainCase):
             self.refused(says, *self.words(3, "--step"))
             path.write_bytes(kept[name])
         (self.chain / "0002.atoms").unlink()
-        done = lab(*self.words(3, "--step"))
-        self.assertEqual((done.returncode, done.stdout), (2, ""))
-        self.assertIn("0002.atoms: can't be read: no such file", done.stderr)
+        self.refused("0002.atoms: can't be read: no such file", *self.words(3, "--step"))
         self.file("chain/elements/01-more.ulam", "")
         self.refused("elements: not as it was", *self.words(3, "--step"))
         shutil.rmtree(self.chain / "elements")
@@ -322,10 +320,10 @@ class Audits(ChainCase):
         ]:
             self.assertNotEqual(kept[name], data, name)
             (self.chain / name).write_bytes(data)
-            done = lab("chain", "--audit", self.chain)
-            self.assertEqual((done.returncode, done.stderr), (1, ""), name)
-            self.assertEqual(done.stdout.count("\n"), 1)
-            self.assertTrue(done.stdout.startswith(says), done.stdout)
+            done = here("chain", "--audit", self.chain)
+            self.assertEqual((done.status, done.said), (1, ""), name)
+            self.assertEqual(done.wrote.count("\n"), 1)
+            self.assertTrue(done.wrote.startswith(says), done.wrote)
             (self.chain / name).write_bytes(kept[name])
         self.assertEqual(self.passes("chain", "--audit", self.chain), "yes\n")
 
@@ -336,6 +334,6 @@ class Audits(ChainCase):
         (self.chain / "0002.report.gz").write_bytes(b"\x1f\x8bnothing")
         self.refused("0002.report.gz: ", "chain", "--audit", self.chain)
         (self.chain / "0002.report.gz").write_bytes(b"something else")
-        done = lab("chain", "--audit", self.chain)
-        self.assertEqual((done.returncode, done.stderr), (1, ""))
-        self.assertIn("no leg 2: the audit of its report: ", done.stdout)
+        done = here("chain", "--audit", self.chain)
+        self.assertEqual((done.status, done.said), (1, ""))
+        self.assertIn("no leg 2: the audit of its report: ", done.wrote)

@@ -2,7 +2,7 @@
 import re
 import subprocess
 
-from calls import EXAMPLES, TOP, LabCase, around, program
+from calls import EXAMPLES, PROGRESS, TOP, LabCase, around, program
 
 PAGE = TOP / "docs" / "lab.md"
 MAP = "F.....M\n\n..M\n"
@@ -33,7 +33,7 @@ class Page(LabCase):
         self.assertGreater(len(commands), 5)
         for command in commands:
             done = self.call(command)
-            self.assertEqual((done.returncode, done.stderr), (0, ""), command)
+            self.assertEqual((done.returncode, PROGRESS.sub("", done.stderr)), (0, ""), command)
 
     def test_refusal(self) -> None:
         """The refusal that the page shows is that of the values it tells."""
