@@ -10,12 +10,11 @@ use Rattle.ulam_tree.specs.Raw.{Item}
 use Rattle.ulam_tree.specs.Resolved as r
 use Rattle.ulam_tree.specs.RawViews.{file_of}
 use Rattle.ulam_tree.specs.declared.raw.File.{File}
-use Rattle.ulam_names.specs.Faults.{fault_of}
+use Rattle.ulam_tree.specs.Found.{fault_of}
 use Rattle.ulam_names.specs.Classes as names
 use Rattle.ulam_names.specs.Shown.{Fails as NameFails}
 use Rattle.ulam_names.specs.declared.fault.NameFault.{NameFault}
 use Rattle.ulam_names.specs.declared.fault.NameFault.TheVariants as n
-use Rattle.ulam_types.specs.Faults.{fault_of as type_fault_of}
 use Rattle.ulam_types.specs.Programs as types
 use Rattle.ulam_types.specs.Shown.{Fails as TypeFails}
 use Rattle.ulam_types.specs.declared.fault.TypeFault.{TypeFault}
@@ -74,13 +73,13 @@ name_told X value xs T (n.BadWidth p) h = (inl (_, ap fault_of h, refl), record 
 name_told X value xs T n.NoMemory h = tt
 
 pub type_told : (X : Type 0) {B : Type 0} (value : X → B) (cs : List r.Class) (T : _ → Stage B) (f : TypeFault) → TypeFails f (types.program cs) → Tells {X = X} value (and_then (typed cs) T) (Err (type_fault f))
-type_told X value cs T (t.WrongType p) h = (inl (_, ap type_fault_of h, refl), record { is_code = refl })
-type_told X value cs T (t.MixedSigns p) h = (inl (_, ap type_fault_of h, refl), record { is_code = refl })
-type_told X value cs T (t.NotAssignable p) h = (inl (_, ap type_fault_of h, refl), record { is_code = refl })
-type_told X value cs T (t.WrongCount p) h = (inl (_, ap type_fault_of h, refl), record { is_code = refl })
-type_told X value cs T (t.BadAs p) h = (inl (_, ap type_fault_of h, refl), record { is_code = refl })
-type_told X value cs T (t.BreakOutside p) h = (inl (_, ap type_fault_of h, refl), record { is_code = refl })
-type_told X value cs T (t.MissingReturn p) h = (inl (_, ap type_fault_of h, refl), record { is_code = refl })
+type_told X value cs T (t.WrongType p) h = (inl (_, ap fault_of h, refl), record { is_code = refl })
+type_told X value cs T (t.MixedSigns p) h = (inl (_, ap fault_of h, refl), record { is_code = refl })
+type_told X value cs T (t.NotAssignable p) h = (inl (_, ap fault_of h, refl), record { is_code = refl })
+type_told X value cs T (t.WrongCount p) h = (inl (_, ap fault_of h, refl), record { is_code = refl })
+type_told X value cs T (t.BadAs p) h = (inl (_, ap fault_of h, refl), record { is_code = refl })
+type_told X value cs T (t.BreakOutside p) h = (inl (_, ap fault_of h, refl), record { is_code = refl })
+type_told X value cs T (t.MissingReturn p) h = (inl (_, ap fault_of h, refl), record { is_code = refl })
 type_told X value cs T t.NoMemory h = tt
 
 pub gen_told : (X : Type 0) (value : X → SetValue) (s : SetValue) (f : GenFault) → Compiles (program_of s) (Err f) → Tells {X = X} value (coded s) (Err (gen_fault f))

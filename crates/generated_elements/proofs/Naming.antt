@@ -2,7 +2,7 @@
 use Rattle.std.proofs.Common.{◌≡◌, true, List, None, refl, subst}
 use Rattle.std.specs.Prelude.{is_ok}
 use Rattle.atom_layout.specs.Layouts.{bits_within, first_wide}
-use Rattle.ulam_names.proofs.BodyMeans.{Means}
+use Rattle.ulam_tree.proofs.Means.{Means}
 use Rattle.ulam_names.proofs.ClassMeans.{program_means}
 use Rattle.ulam_names.specs.ClassRelation.{IsResolved}
 use Rattle.ulam_names.specs.Classes.{program}

@@ -6,7 +6,7 @@ use Rattle.ulam_tree.specs.Locals.{all_locals}
 use Rattle.ulam_tree.specs.Typed as t
 use Rattle.ulam_tree.specs.Ways.{leads}
 use Rattle.ulam_types.proofs.Classes.{program_means}
-use Rattle.ulam_types.proofs.Means.{Means}
+use Rattle.ulam_tree.proofs.Means.{Means}
 use Rattle.ulam_types.specs.Bodies.{body}
 use Rattle.ulam_types.specs.ProgramTyping.{IsTypedProgram}
 use Rattle.ulam_types.specs.Programs.{program}

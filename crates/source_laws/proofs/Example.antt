@@ -13,7 +13,7 @@ use Rattle.ulam_names.specs.Faults as names
 use Rattle.ulam_names.specs.Scopes.{built_in, of_window, of_random}
 use Rattle.ulam_names.specs.Classes.{program}
 use Rattle.ulam_names.specs.ClassRelation.{IsResolved}
-use Rattle.ulam_names.proofs.BodyMeans.{Means}
+use Rattle.ulam_tree.proofs.Means.{Means}
 use Rattle.ulam_names.proofs.ClassMeans.{program_means}
 use Rattle.atom_layout.specs.Layouts.{layout_of, first_wide, bits_within}
 use Rattle.ulam_types.specs.Faults as types
@@ -21,7 +21,6 @@ use Rattle.ulam_types.specs.Programs as typing
 use Rattle.ulam_types.specs.Walk.{expr}
 use Rattle.ulam_types.specs.Bodies.{statement}
 use Rattle.ulam_types.specs.ProgramTyping.{IsTypedProgram}
-use Rattle.ulam_types.proofs.Means.{Means as IfTyped}
 use Rattle.ulam_types.proofs.Classes.{program_means as typing_means}
 use Rattle.code_gen.specs.Compiling.{IsCompilable}
 use Rattle.source_laws.proofs.Programs.{compilable}
@@ -88,4 +87,4 @@ unfolding items built_in of_window of_random leads bits_within
 narrow = refl
 
 example : IsCompilable (record { classes = tree; layout = layout_of classes })
-example = compilable items classes tree (subst (Means (IsResolved items)) found (program_means items)) narrow (subst (IfTyped (IsTypedProgram classes)) typed_found (typing_means classes))
+example = compilable items classes tree (subst (Means (IsResolved items)) found (program_means items)) narrow (subst (Means (IsTypedProgram classes)) typed_found (typing_means classes))

@@ -10,7 +10,7 @@ use Rattle.ulam_tree.specs.declared.raw.Statement.TheVariants as s
 use Rattle.ulam_tree.specs.declared.resolved.Statement.{Statement}
 use Rattle.ulam_tree.proofs.RawRows.{block_is as raw_block_is}
 use Rattle.ulam_names.specs.declared.scope.Entry.{Entry}
-use Rattle.ulam_names.specs.Faults.{◌>>=◌}
+use Rattle.ulam_tree.specs.Found.{◌>>=◌}
 use Rattle.ulam_names.specs.Scopes.{Head, Scope, Context}
 use Rattle.ulam_names.specs.Walk as walk
 use Rattle.ulam_names.specs.Shown.{entries_of, scope_of, with_body}

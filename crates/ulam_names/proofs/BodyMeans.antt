@@ -9,35 +9,10 @@ use Rattle.ulam_tree.specs.declared.resolved.Step.{Step}
 use Rattle.ulam_tree.specs.declared.resolved.Named.{Named}
 use Rattle.ulam_tree.specs.Raw as t
 use Rattle.ulam_tree.specs.Resolved as r
-use Rattle.ulam_names.specs.Faults.{Fault, Found, found, must, ◌>>=◌}
+use Rattle.ulam_tree.proofs.Means.{Means, means_then, means_found, means_must, found_means, must_means}
 use Rattle.ulam_names.specs.Scopes.{Text, Basic, sized, whole, Head, Context, Entry, Scope, allows, is_named, most_locals, opened, next_name, first_name}
 use Rattle.ulam_names.specs.Walk as w
 use Rattle.ulam_names.specs.Relation.{IsWidth, IsSized, IsType, IsClass, AreSteps, IsPathFrom, IsPath, IsExpr, AreArgs, IsMaybe, IsLeft, IsCond, MayDeclare, IsStatement, IsPart, IsBody}
-
--- where something is found, this holds of it
-abbrev pub Means : {A : Type 0} → (A → Type 0) → Found A → Type 0
-Means Q (Ok x) = Q x
-Means Q (Err f) = Unit {0}
-
-pub means_then : {A B : Type 0} (P : A → Type 0) (Q : B → Type 0) (x : Found A) (f : A → Found B) → Means P x → ((a : A) → P a → Means Q (f a)) → Means Q (x >>= f)
-means_then P Q (Ok a) f h k = k a h
-means_then P Q (Err e) f h k = tt
-
-pub means_found : {A B : Type 0} (Q : B → Type 0) (o : Option A) (e : Fault) (f : A → Found B) → ((a : A) → o ≡ Some a → Means Q (f a)) → Means Q (found o e >>= f)
-means_found Q (Some a) e f k = k a refl
-means_found Q None e f k = tt
-
-pub means_must : {B : Type 0} (Q : B → Type 0) (b : Bool) (e : Fault) (f : Unit {0} → Found B) → (b ≡ true → Means Q (f tt)) → Means Q (must b e >>= f)
-means_must Q true e f k = k refl
-means_must Q false e f k = tt
-
-pub found_means : {A : Type 0} (o : Option A) (e : Fault) → Means (λ a. o ≡ Some a) (found o e)
-found_means (Some a) e = refl
-found_means None e = tt
-
-pub elim_must : (Q : Unit {0} → Type 0) (b : Bool) (e : Fault) → (b ≡ true → Q tt) → Means Q (must b e)
-elim_must Q true e k = k refl
-elim_must Q false e k = tt
 
 pub width_means : (values : Text → Option ℤ) (d : t.Width) → Means (IsWidth values d) (w.width_value values d)
 width_means values (t.wide n) = refl
@@ -131,7 +106,7 @@ declared_means c s n x =
     let Q : Unit {0} → Type 0 = λ _. MayDeclare c s n x in
     means_must Q (nat_lt n (c.params + most_locals)) _ _ (λ few.
     let apart : Bool = not (list_any (is_named x.name) (drop s.from s.entries)) in
-    elim_must Q apart _ (λ new. (ltb-true n (c.params + most_locals) few, not_false _ new)))
+    must_means Q apart _ (λ new. (ltb-true n (c.params + most_locals) few, not_false _ new)))
 
 mutual
   pub statement_means : (c : Context) (s : Scope) (n : ℕ) (f : t.Statement) → Means (IsStatement c s n f) (w.statement c s n f)

@@ -5,14 +5,16 @@ use Rattle.list_laws.proofs.Tests.{both}
 use Rattle.feast_base.specs.declared.place.Place.{Place}
 use Rattle.ulam_tree.specs.Raw as t
 use Rattle.ulam_tree.specs.Resolved as r
-use Rattle.ulam_names.specs.Faults.{Fault, Found, fault_of}
+use Rattle.ulam_tree.specs.Found.{fault_of}
+use Rattle.ulam_names.specs.Faults.{Fault, Found}
 use Rattle.ulam_names.specs.Scopes.{Text, Names, no_names, declares_name, small_names, Head, is_among, names_of, as_number, most_members, most_params, most_classes}
 use Rattle.ulam_names.specs.Classes as w
 use Rattle.ulam_names.specs.Walk.{width_value, body}
 use Rattle.ulam_names.specs.Classes.{Known, Half, HalfClass, half_field, half_function, first_fault}
 use Rattle.ulam_names.specs.ClassRelation.{AreKnown, IsNew, IsValue, IsLength, AreParams, IsMember, AreMembers, AreItems, AllBehave, NoneCyclic, IsWhole, AreWhole, AreClasses, IsResolved}
 use Rattle.ulam_names.proofs.ClassFits.{program_fits}
-use Rattle.ulam_names.proofs.BodyMeans.{Means, means_then, means_found, means_must, elim_must, found_means, not_false, type_means, width_means, body_means}
+use Rattle.ulam_tree.proofs.Means.{Means, means_then, means_found, means_must, must_means, found_means}
+use Rattle.ulam_names.proofs.BodyMeans.{not_false, type_means, width_means, body_means}
 
 neither : (a b : Bool) → not (a || b) ≡ true → (a ≡ false) × (b ≡ false)
 neither true b h = cc
@@ -49,7 +51,7 @@ new_means : (d : Names) (n : ℕ) (free : Bool) (x : t.Word) → Means (λ _. (f
 new_means d n free x =
     let Q : Unit {0} → Type 0 = λ _. (free ≡ true) × IsNew d n x in
     means_must Q (nat_lt n most_members) _ _ (λ few.
-    elim_must Q (free && not (declares_name d x.name)) _ (λ new.
+    must_means Q (free && not (declares_name d x.name)) _ (λ new.
     let p = both free (not (declares_name d x.name)) new in
     (p.0, (ltb-true n most_members few, not_false _ p.1))))
 

@@ -1,13 +1,13 @@
 -- Items of files, one after another.
 use Rattle.std.proofs.Common.{◌≡◌, ℕ, ◌+◌, ◌≤◌, ◌<◌, refl, sym, ap, subst, ◌∙◌, List, [], ◌∷◌, ◌++◌, length, map, Ok, Err, arith, append_assoc, length-append}
 use Rattle.ulam_tree.specs.Raw as t
-use Rattle.ulam_names.specs.Faults.{Found, ◌>>=◌}
+use Rattle.ulam_tree.specs.Found.{◌>>=◌, with_front}
+use Rattle.ulam_names.specs.Faults.{Found}
 use Rattle.ulam_names.specs.Scopes.{most_classes}
 use Rattle.ulam_names.specs.Classes as w
 use Rattle.ulam_names.specs.ClassRelation.{AreKnown, AreItems}
-use Rattle.ulam_names.specs.Shown.{with_front}
 use Rattle.ulam_names.proofs.BodyFits.{answer_or}
-use Rattle.ulam_names.proofs.BodyMeans.{Means}
+use Rattle.ulam_tree.proofs.Means.{Means, front_twice}
 use Rattle.ulam_names.proofs.ClassMeans.{known_means, items_mean}
 
 -- class names of items and of more
@@ -24,10 +24,6 @@ names_append done (t.class c ∷ xs) ys = go (w.new_class done c) (λ d. names_a
 
 pub names_on : (done done' : w.Known) (xs ys : List t.Item) → w.class_names done xs ≡ Ok done' → w.class_names done (xs ++ ys) ≡ w.class_names done' ys
 names_on done done' xs ys h = names_append done xs ys ∙ rw h refl
-
-front_twice : {A : Type 0} (front a : List A) (y : Found (List A)) → with_front front (y >>= λ (more : List A). Ok (a ++ more)) ≡ with_front (front ++ a) y
-front_twice front a (Ok more) = ap Ok (sym (append_assoc front a more))
-front_twice front a (Err f) = refl
 
 -- one item, and then the rest
 pub items_on : (known : w.Known) (front front' : List w.HalfClass) (x : t.Item) (xs : List t.Item) →

@@ -10,7 +10,8 @@ use Rattle.ulam_tree.specs.declared.raw.Statement.{Statement as RawStatement}
 use Rattle.ulam_tree.specs.declared.raw.Statement.TheVariants as s
 use Rattle.ulam_tree.proofs.RawRows.{for_is}
 use Rattle.ulam_names.specs.declared.scope.Entry.{Entry}
-use Rattle.ulam_names.specs.Faults.{Found, ◌>>=◌}
+use Rattle.ulam_tree.specs.Found.{◌>>=◌}
+use Rattle.ulam_names.specs.Faults.{Found}
 use Rattle.ulam_names.specs.Scopes.{Head, Scope, Context, opened}
 use Rattle.ulam_names.specs.Walk as walk
 use Rattle.ulam_names.specs.Shown.{entries_of, scope_of}

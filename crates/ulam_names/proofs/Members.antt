@@ -7,11 +7,13 @@ use Rattle.std.proofs.lemmas.List.{take_all, map-append}
 use Rattle.ulam_tree.specs.Raw as t
 use Rattle.ulam_tree.specs.Resolved as r
 use Rattle.ulam_tree.specs.declared.resolved.Named.{Named}
-use Rattle.ulam_names.specs.Faults.{Found, ◌>>=◌, too_many, declared_twice}
+use Rattle.ulam_tree.specs.Found.{◌>>=◌, with_front}
+use Rattle.ulam_names.specs.Faults.{Found, too_many, declared_twice}
 use Rattle.ulam_names.specs.Scopes.{Text, Names, Context, is_among, names_of, beside, declares_name}
 use Rattle.ulam_names.specs.Classes as w
-use Rattle.ulam_names.specs.Shown.{with_halves, with_front}
+use Rattle.ulam_names.specs.Shown.{with_halves}
 use Rattle.ulam_names.proofs.BodyFits.{answer_or}
+use Rattle.ulam_tree.proofs.Means.{front_on}
 
 -- none of four lists has a name that a class has not declared
 apart4 : (a b c d : Bool) → (a || b || c || d) ≡ false → (a ≡ false) × (b ≡ false) × (c ≡ false) × (d ≡ false)
@@ -52,15 +54,6 @@ members_on known d d' front front' m ms h = go (w.member known d m) h
 pub halves_none : (x : Found (Names × List w.Half)) → x ≡ with_halves [] x
 halves_none (Ok z) = refl
 halves_none (Err f) = refl
-
--- one parameter, and then the rest
-pub front_on : {A : Type 0} (front : List A) (a : A) (y : Found (List A)) → with_front front (y >>= λ (more : List A). Ok (a ∷ more)) ≡ with_front (front ++ (a ∷ [])) y
-front_on front a (Ok more) = ap Ok (sym (append_assoc front (a ∷ []) more))
-front_on front a (Err f) = refl
-
-pub front_none : {A : Type 0} (x : Found (List A)) → x ≡ with_front [] x
-front_none (Ok z) = refl
-front_none (Err f) = refl
 
 -- whether a name is among those that have something beside them
 pub among_is : {A : Type 0} (n : Text) (pairs : List (Text × A)) → is_some (beside n pairs) ≡ is_among n (names_of pairs)

@@ -9,12 +9,13 @@ use Rattle.ulam_tree.specs.declared.resolved.Program.{Program}
 use Rattle.ulam_names.specs.declared.fault.NameFault.{NameFault}
 use Rattle.ulam_names.specs.declared.fault.NameFault.TheVariants as n
 use Rattle.ulam_names.specs.declared.half.HalfClass.{HalfClass}
-use Rattle.ulam_names.specs.Faults.{Found, ◌>>=◌, declared_twice, unknown_name, cyclic_quark, no_behave, bad_constant, too_many, bad_width}
+use Rattle.ulam_tree.specs.Found.{◌>>=◌}
+use Rattle.ulam_names.specs.Faults.{Found, declared_twice, unknown_name, cyclic_quark, no_behave, bad_constant, too_many, bad_width}
 use Rattle.ulam_names.specs.Scopes.{Head}
 use Rattle.ulam_names.specs.Classes as w
 use Rattle.ulam_names.specs.ClassRelation.{IsResolved}
 use Rattle.ulam_names.specs.Shown.{Gives, Fails, half_class, head_of}
-use Rattle.ulam_names.proofs.BodyMeans.{Means}
+use Rattle.ulam_tree.proofs.Means.{Means}
 use Rattle.ulam_names.proofs.ClassMeans.{program_means, fault_means}
 use Rattle.ulam_names.proofs.Items.{classes_few}
 use Rattle.std.specs.Prelude.{◌∷◌}

@@ -4,7 +4,8 @@ use Rattle.ulam_tree.specs.Resolved as r
 use Rattle.ulam_tree.specs.declared.resolved.Expr.{Expr}
 use Rattle.ulam_tree.specs.declared.resolved.Statement.{Statement}
 use Rattle.ulam_tree.specs.ResolvedViews.{resolved_expr, resolved_statement, resolved_args, resolved_body}
-use Rattle.ulam_names.specs.Faults.{Found, ◌>>=◌}
+use Rattle.ulam_tree.specs.Found.{◌>>=◌}
+use Rattle.ulam_names.specs.Faults.{Found}
 use Rattle.ulam_names.specs.Shown.{join_args, with_args, join_body, with_body}
 
 pub args_whole : (es : List Expr) → join_args es r.no_args ≡ resolved_args es

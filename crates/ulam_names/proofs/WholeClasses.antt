@@ -9,11 +9,12 @@ use Rattle.ulam_names.specs.declared.half.Pending.{Pending}
 use Rattle.ulam_names.specs.declared.scope.Entry.{Entry}
 use Rattle.ulam_names.specs.Walk as walk
 use Rattle.ulam_tree.specs.Resolved as r
-use Rattle.ulam_names.specs.Faults.{Found, ◌>>=◌}
+use Rattle.ulam_tree.specs.Found.{◌>>=◌, with_front}
+use Rattle.ulam_names.specs.Faults.{Found}
 use Rattle.ulam_names.specs.Scopes.{Head, Names, names_of}
 use Rattle.ulam_names.specs.Classes as w
-use Rattle.ulam_names.specs.Shown.{with_front, entries_of, scope_of, param_of, pending_of}
-use Rattle.ulam_names.proofs.Members.{front_on}
+use Rattle.ulam_names.specs.Shown.{entries_of, scope_of, param_of, pending_of}
+use Rattle.ulam_tree.proofs.Means.{front_on}
 
 pub member_on : (known : w.Known) (heads : List Head) (k : ℕ) (d : Names) (front : List r.Member) (m : w.Half) (ms : List w.Half) (x : r.Member) →
     w.whole_member known heads k d m ≡ Ok x → with_front front (w.whole_members known heads k d (m ∷ ms)) ≡ with_front (front ++ (x ∷ [])) (w.whole_members known heads k d ms)

@@ -11,7 +11,8 @@ use Rattle.ulam_tree.specs.declared.resolved.Named.{Named}
 use Rattle.ulam_tree.specs.Raw as t
 use Rattle.ulam_tree.specs.Resolved as r
 use Rattle.ulam_tree.specs.Ways.{leads, class_number}
-use Rattle.ulam_names.specs.Faults.{declared_twice, unknown_name, bad_constant, too_many, bad_width, no_behave, cyclic_quark, Fault, Found, ◌>>=◌, found, must, fault_of}
+use Rattle.ulam_tree.specs.Found.{◌>>=◌, found, must, fault_of}
+use Rattle.ulam_names.specs.Faults.{declared_twice, unknown_name, bad_constant, too_many, bad_width, no_behave, cyclic_quark, Fault, Found}
 use Rattle.ulam_names.specs.Scopes.{Text, Basic, basic_named, Head, Names, no_names, declares_name, small_names, Value, Context, Entry, Scope, is_among, names_of, beside, built_in, as_number, is_truth, in_range, inside_local, most_members, most_params, most_classes}
 use Rattle.ulam_names.specs.Walk.{type_named, width_value, body}
 

@@ -12,7 +12,8 @@ use Rattle.ulam_names.specs.NamesView.{names_view}
 use Rattle.ulam_tree.specs.RawViews.{word_of, body_list}
 use Rattle.ulam_names.specs.declared.scope.Entry.{Entry}
 use Rattle.ulam_names.specs.declared.scope.Context.{Context}
-use Rattle.ulam_names.specs.Faults.{Found, ◌>>=◌, declared_twice, unknown_name, cyclic_quark, no_behave, bad_constant, too_many, bad_width}
+use Rattle.ulam_tree.specs.Found.{◌>>=◌}
+use Rattle.ulam_names.specs.Faults.{Found, declared_twice, unknown_name, cyclic_quark, no_behave, bad_constant, too_many, bad_width}
 use Rattle.ulam_tree.specs.declared.resolved.Step.{Step}
 use Rattle.ulam_tree.specs.Raw as t
 use Rattle.ulam_tree.specs.Resolved as r
@@ -102,10 +103,6 @@ is_simple (t.while_so k x) = false
 is_simple (t.for_all f k g x) = false
 is_simple (t.declares ty w e) = false
 is_simple x = true
-
--- what a list begins with, before more that is found
-abbrev pub with_front : {A : Type 0} → List A → Found (List A) → Found (List A)
-with_front {A = A} front found = found >>= λ (more : List A). Ok (front ++ more)
 
 -- members before more that are found
 abbrev pub with_halves : List w.Half → Found (s.Names × List w.Half) → Found (s.Names × List w.Half)

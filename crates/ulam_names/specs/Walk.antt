@@ -9,7 +9,8 @@ use Rattle.ulam_tree.specs.declared.resolved.Step.TheVariants as s
 use Rattle.ulam_tree.specs.declared.resolved.Named.{Named}
 use Rattle.ulam_tree.specs.Raw as t
 use Rattle.ulam_tree.specs.Resolved as r
-use Rattle.ulam_names.specs.Faults.{declared_twice, unknown_name, too_many, bad_width, Found, ◌>>=◌, found, must}
+use Rattle.ulam_tree.specs.Found.{◌>>=◌, found, must}
+use Rattle.ulam_names.specs.Faults.{declared_twice, unknown_name, too_many, bad_width, Found}
 use Rattle.ulam_names.specs.Scopes.{Text, Basic, sized, whole, basic_named, allows, Head, Value, Context, Entry, Scope, is_named, slot_named, first_name, next_name, is_element, inside_local, opened, added, most_locals, beside}
 
 -- the place of a path that has no name, which no text has

@@ -6,7 +6,7 @@ use ulam_tree::resolved::Ty;
 /// What the name of a type stands for.
 #[derive(Clone, Copy, Debug, PartialEq, Eq)]
 pub enum Basic {
-    /// A kind, which takes a width, with the width that it has where none is written.
+    /// A kind that takes a width, with the width that it has if none is written.
     Sized(Kind, u8),
     /// A type that takes no width.
     Whole(Ty),

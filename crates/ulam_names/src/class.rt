@@ -1,8 +1,9 @@
-//! Classes of files, but for bodies.
+//! Classes of files, without the bodies of functions.
 ghost use Rattle.std.specs.Prelude.{◌≡◌, [], ◌∷◌, ◌++◌, map};
 ghost use Rattle.ulam_names.specs.Classes as walk;
 ghost use Rattle.ulam_names.specs.Files.{all_items};
-ghost use Rattle.ulam_names.specs.Shown.{Gives, half_class, with_front};
+ghost use Rattle.ulam_tree.specs.Found.{with_front};
+ghost use Rattle.ulam_names.specs.Shown.{Gives, half_class};
 ghost use Rattle.ulam_tree.specs.RawViews as raw_view;
 
 use crate::class_scope::is_built_in;
@@ -40,7 +41,7 @@ fn file_names<'a>(known: &mut Table<'a, bool>, items: &'a [Item]) -> Result<(), 
     Ok(())
 }
 
-/// The names of all classes, and whether they are quarks.
+/// The names of all classes, and whether each is a quark.
 pub fn class_names<'a>(alloc: Global, files: &'a [File]) -> Result<Table<'a, bool>, NameFault>
     ensures { Gives (λ x. x) result (walk.class_names [] (all_items files.now)) }
 {
@@ -51,14 +52,14 @@ pub fn class_names<'a>(alloc: Global, files: &'a [File]) -> Result<Table<'a, boo
     Ok(known)
 }
 
-/// Whether `use` may name it.
+/// Whether a `use` may name a class.
 fn may_use(known: &Table<bool>, name: &[u8]) -> bool
     ensures { result ≡ walk.may_use known.now name.now }
 {
     name == b"EventWindow".as_slice() || name == b"Random".as_slice() || known.has(name)
 }
 
-/// A class, but for bodies.
+/// A class, without the bodies of its functions.
 fn half<'a>(
     alloc: Global,
     known: &Table<bool>,
@@ -115,7 +116,7 @@ fn file_items<'a>(
     Ok(())
 }
 
-/// All classes, but for bodies.
+/// All classes, without the bodies of their functions.
 pub fn items<'a>(
     alloc: Global,
     known: &Table<bool>,

@@ -1,7 +1,8 @@
 //! What the members of a class may name.
 ghost use Rattle.std.specs.Prelude.{◌≡◌, ◌-◌, ◌^◌, ◌+◌, is_some, option_map, int_le, pos, neg_ℤ};
 ghost use Rattle.ulam_names.specs.Classes as walk;
-ghost use Rattle.ulam_names.specs.Faults.{found, bad_width};
+ghost use Rattle.ulam_tree.specs.Found.{found};
+ghost use Rattle.ulam_names.specs.Faults.{bad_width};
 ghost use Rattle.ulam_names.specs.Scopes.{as_number, in_range};
 ghost use Rattle.ulam_names.specs.Shown.{context_of, class_context, Gives};
 ghost use Rattle.ulam_names.specs.NamesView.{names_view};
@@ -17,7 +18,7 @@ use sat_math::{Kind, NumType};
 use ulam_tree::resolved::{Named, Ty};
 use ulam_tree::{TypeRef, Width};
 
-/// A context without locals, in which all typedefs and constants so far are known.
+/// A context without locals, with all typedefs and constants so far.
 fn class_context<'c, 'a>(known: &'c Table<'a, bool>, names: &'c Names<'a>) -> Context<'c, 'a>
     ensures { context_of result ≡ class_context known.now (names_view names.now) }
 {
@@ -57,7 +58,7 @@ pub fn is_built_in(name: &[u8]) -> bool
     built_in(name).is_some()
 }
 
-/// The length of an array, 0 where there is none.
+/// The length of an array, or 0 if the member is not an array.
 pub fn array_length(
     known: &Table<bool>,
     names: &Names,
@@ -93,7 +94,7 @@ fn is_member_type(known: &Table<bool>, ty: Ty) -> bool
     }
 }
 
-/// Whether a type is one of numbers.
+/// Whether a type is a type of numbers.
 fn is_number_type(ty: Ty) -> bool
     ensures { result ≡ is_some (as_number ty) }
 {
@@ -136,7 +137,7 @@ fn above_power(value: i128, width: u8) -> bool
     value.unsigned_abs() <= 1u128 << width
 }
 
-/// Whether a type has a number.
+/// Whether a number is in the range of a type.
 fn in_range(num: NumType, value: i128) -> bool
     ensures { result ≡ in_range num value }
 {

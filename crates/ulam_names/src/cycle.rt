@@ -1,4 +1,4 @@
-//! Quarks that contain themselves, in rounds over all classes.
+//! Quarks that contain themselves, found in rounds over all classes.
 ghost use Rattle.std.specs.Prelude.{◌≡◌, ◌<◌, ◌≤◌, [], ℕ, length, map, slice_get, get_or, false, IfOk, IfErr};
 ghost use Rattle.std.specs.List.{list_any};
 ghost use Rattle.std.specs.Option.{option_map_or};
@@ -25,7 +25,7 @@ fn mark(row: &[bool], class: u32) -> bool
     }
 }
 
-/// Whether a type is the goal or leads to it, where the classes of a row do.
+/// Whether a type is the goal or leads to it, given the classes that do so by a row.
 fn type_leads(row: &[bool], ty: Ty, goal: u32) -> bool
     ensures { result ≡ list_any (leads_by row.now goal) (class_number ty) }
 {
@@ -62,7 +62,7 @@ fn fields_lead(row: &[bool], fields: &Table<Ty>, goal: u32) -> bool
     false
 }
 
-/// Which classes lead to the goal, by those of the round before.
+/// Which classes lead to the goal, given those of the previous round.
 fn next_row(
     alloc: Global,
     classes: &[HalfClass],
@@ -79,7 +79,7 @@ fn next_row(
     Ok(next)
 }
 
-/// Which classes lead to the goal, by as many rounds as there are classes.
+/// Which classes lead to the goal, after as many rounds as there are classes.
 fn whole_row(alloc: Global, classes: &[HalfClass], goal: u32) -> Result<Vec<bool>, NameFault>
     ensures row { IfOk result (λ r. r.items ≡ row_after (length classes.now) (map head_of classes.now) goal) }
     ensures memory { IfErr result (λ e. e ≡ NoMemory) }
@@ -101,7 +101,7 @@ fn holds_itself(alloc: Global, classes: &[HalfClass], class: u32) -> Result<bool
     Ok(mark(row.as_slice(), class))
 }
 
-/// Refuses a quark that contains itself, looking at each class by itself.
+/// Refuses a quark that contains itself, with a search for each class.
 fn each_apart(alloc: Global, classes: &[HalfClass]) -> Result<(), NameFault>
     requires { length classes.now ≤ 256 }
     ensures { Gives (λ x. x) result (walk.none_cyclic (map head_of classes.now) 0 (map half_class classes.now)) }

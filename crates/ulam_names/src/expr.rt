@@ -1,20 +1,23 @@
 //! Expressions.
 ghost use Rattle.std.specs.Prelude.{◌≡◌, ℕ, List, map};
+ghost use Rattle.std.specs.Box.{box_value};
 ghost use Rattle.ulam_names.specs.Walk as walk;
 ghost use Rattle.ulam_names.specs.Shown.{entry_of, context_of, Gives};
+ghost use Rattle.ulam_tree.specs.Raw as raw_tree;
 ghost use Rattle.ulam_tree.specs.RawViews as raw_view;
 ghost use Rattle.ulam_tree.specs.ResolvedViews.{resolved_expr, resolved_args};
 
-use crate::build;
 use crate::fault::NameFault;
 use crate::path::path;
 use crate::scope::{Context, Entry};
 use crate::types::{class_named, type_in};
+use feast_base::Place;
 use std::alloc::Global;
 use ulam_tree as raw;
 use ulam_tree::resolved::Expr;
+use ulam_tree::{Word, resolved_build as build};
 
-/// An expression.
+/// An expression. Each part goes into its box before the next one is looked up.
 #[cycle(expr)]
 #[tactic(auto, using(ulam_tree::proofs::RawRows::call_is))]
 pub fn expr(
@@ -30,43 +33,26 @@ pub fn expr(
             value,
             unsigned,
             place,
-        } => Ok(Expr::Number {
-            value: *value,
-            unsigned: *unsigned,
-            place: *place,
-        }),
-        raw::Expr::Truth { value, place } => Ok(Expr::Truth {
-            value: *value,
-            place: *place,
-        }),
+        } => Ok(build::number(*value, *unsigned, *place)),
+        raw::Expr::Truth { value, place } => Ok(build::truth(*value, *place)),
         raw::Expr::Path { path: words } => Ok(Expr::Path {
             path: path(alloc, context, entries, words)?,
         }),
         raw::Expr::Call { call } => {
-            let words = path(alloc, context, entries, &call.path)?;
-            let args = args(alloc, context, entries, call.args.as_slice())?;
-            Ok(build::call(words, args))
+            called(alloc, context, entries, &call.path, call.args.as_slice())
         }
-        raw::Expr::Index { path: words, at } => {
-            let words = path(alloc, context, entries, words)?;
-            let at = expr(alloc, context, entries, at)?;
-            Ok(build::index(alloc, words, at)?)
-        }
+        raw::Expr::Index { path: words, at } => index(alloc, context, entries, words, at),
         raw::Expr::Instance { class } => Ok(Expr::Instance {
             class: class_named(context, class)?,
         }),
         raw::Expr::Group { inner, place } => {
-            let inner = expr(alloc, context, entries, inner)?;
-            Ok(build::group(alloc, inner, *place)?)
+            let inner = boxed(alloc, context, entries, inner)?;
+            Ok(build::group(inner, *place))
         }
-        raw::Expr::Cast { to, value, place } => {
-            let to = type_in(context, entries, to)?;
-            let value = expr(alloc, context, entries, value)?;
-            Ok(build::cast(alloc, to, value, *place)?)
-        }
+        raw::Expr::Cast { to, value, place } => cast(alloc, context, entries, to, value, *place),
         raw::Expr::Prefix { op, value, place } => {
-            let value = expr(alloc, context, entries, value)?;
-            Ok(build::prefix(alloc, *op, value, *place)?)
+            let value = boxed(alloc, context, entries, value)?;
+            Ok(build::prefix(*op, value, *place))
         }
         raw::Expr::Pair {
             op,
@@ -74,20 +60,98 @@ pub fn expr(
             right,
             place,
         } => {
-            let left = expr(alloc, context, entries, left)?;
-            let right = expr(alloc, context, entries, right)?;
-            Ok(build::pair(alloc, *op, left, right, *place)?)
+            let left = boxed(alloc, context, entries, left)?;
+            let right = boxed(alloc, context, entries, right)?;
+            Ok(build::pair(*op, left, right, *place))
         }
         raw::Expr::Is {
             value,
             class,
             place,
-        } => {
-            let value = expr(alloc, context, entries, value)?;
-            let class = class_named(context, class)?;
-            Ok(build::is(alloc, value, class, *place)?)
-        }
+        } => is(alloc, context, entries, value, class, *place),
     }
+}
+
+/// A call.
+#[cycle(expr)]
+fn called(
+    alloc: Global,
+    context: &Context,
+    entries: &[Entry],
+    words: &raw::Path,
+    values: &[raw::Expr],
+) -> Result<Expr, NameFault>
+    ensures { Gives resolved_expr result (walk.expr (context_of context.now) (map entry_of entries.now) (raw_tree.calls (raw_view.path_of words.now) (raw_view.args_list values.now))) }
+{
+    let path = path(alloc, context, entries, words)?;
+    let args = args(alloc, context, entries, values)?;
+    Ok(build::call(path, args))
+}
+
+/// An element of an array.
+#[cycle(expr)]
+fn index(
+    alloc: Global,
+    context: &Context,
+    entries: &[Entry],
+    words: &raw::Path,
+    at: &raw::Expr,
+) -> Result<Expr, NameFault>
+    ensures { Gives resolved_expr result (walk.expr (context_of context.now) (map entry_of entries.now) (raw_tree.index (raw_view.path_of words.now) (raw_view.expr_of at.now))) }
+{
+    let path = path(alloc, context, entries, words)?;
+    let at = expr(alloc, context, entries, at)?;
+    let at = Box::new(alloc, at)?;
+    Ok(Expr::Index { path, at })
+}
+
+/// A cast.
+#[cycle(expr)]
+fn cast(
+    alloc: Global,
+    context: &Context,
+    entries: &[Entry],
+    to: &raw::TypeRef,
+    value: &raw::Expr,
+    place: Place,
+) -> Result<Expr, NameFault>
+    ensures { Gives resolved_expr result (walk.expr (context_of context.now) (map entry_of entries.now) (raw_tree.cast (raw_view.type_of to.now) (raw_view.expr_of value.now) place)) }
+{
+    let to = type_in(context, entries, to)?;
+    let value = expr(alloc, context, entries, value)?;
+    Ok(build::cast(to, Box::new(alloc, value)?, place))
+}
+
+/// A test of the class of a value.
+#[cycle(expr)]
+fn is(
+    alloc: Global,
+    context: &Context,
+    entries: &[Entry],
+    value: &raw::Expr,
+    class: &Word,
+    place: Place,
+) -> Result<Expr, NameFault>
+    ensures { Gives resolved_expr result (walk.expr (context_of context.now) (map entry_of entries.now) (raw_tree.is (raw_view.expr_of value.now) (raw_view.word_of class.now) place)) }
+{
+    let value = expr(alloc, context, entries, value)?;
+    let value = Box::new(alloc, value)?;
+    let class = class_named(context, class)?;
+    Ok(build::is(value, class, place))
+}
+
+/// A part of an expression.
+#[cycle(expr)]
+fn boxed(
+    alloc: Global,
+    context: &Context,
+    entries: &[Entry],
+    raw: &Box<raw::Expr>,
+) -> Result<Box<Expr>, NameFault>
+    ensures { Gives (λ b. resolved_expr (box_value b)) result (walk.expr (context_of context.now) (map entry_of entries.now) (raw_view.expr_of (box_value raw.now))) }
+{
+    let found = expr(alloc, context, entries, raw)?;
+    Ok(Box::new(alloc, found)?)
 }
 
 /// Arguments.

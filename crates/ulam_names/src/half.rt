@@ -1,4 +1,4 @@
-//! Classes whose members are resolved but for the bodies of functions.
+//! Classes whose members are resolved, except for the bodies of functions.
 ghost use Rattle.std.specs.Prelude.{◌≡◌, ◌<◌, ◌≤◌, [], ◌∷◌, ◌++◌, length, OnOk, OnErr};
 
 use crate::names::Names;
@@ -21,7 +21,7 @@ pub struct HalfClass<'a> {
 /// A data member or a function.
 #[derive(Drop)]
 pub enum Half<'a> {
-    /// A data member with the length of its array, 0 where it is none.
+    /// A data member with the length of its array, or 0 if it is not an array.
     Field(Named, &'a Word, u32),
     /// A function.
     Function(Pending<'a>),
@@ -65,7 +65,7 @@ impl<'a> Model for Params<'a> {
 }
 
 impl<'a> Params<'a> {
-    /// No parameter.
+    /// An empty list.
     pub fn new(alloc: Global) -> Params<'a>
         ensures { result ≡ [] }
     {
@@ -74,7 +74,7 @@ impl<'a> Params<'a> {
         }
     }
 
-    /// How many there are.
+    /// The number of parameters.
     pub fn len(&self) -> usize
         ensures count { result ≡ length self.now }
         ensures few { result ≤ 8 }

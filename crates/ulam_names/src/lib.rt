@@ -2,7 +2,6 @@
 #![tactic(auto)]
 
 mod basic;
-mod build;
 mod class;
 mod class_scope;
 mod cycle;

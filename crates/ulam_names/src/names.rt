@@ -24,7 +24,7 @@ pub struct Names<'a> {
 }
 
 impl<'a> Names<'a> {
-    /// No name.
+    /// Nothing declared.
     pub fn new(alloc: Global) -> Names<'a>
         ensures { names_view result ≡ no_names }
     {

@@ -52,15 +52,13 @@ fn left(
         }),
         Some(index) => {
             let index = expr(alloc, context, entries, index)?;
-            Ok(Left {
-                path: place,
-                index: Some(Box::new(alloc, index)?),
-            })
+            let index = Some(Box::new(alloc, index)?);
+            Ok(Left { path: place, index })
         }
     }
 }
 
-/// Whether entries have one of a name.
+/// Whether an entry has a name.
 fn has(entries: &[Entry], name: &[u8]) -> bool
     ensures { result ≡ list_any (is_named name.now) (entries_of entries.now) }
 {
@@ -144,7 +142,7 @@ pub fn cond(
     }
 }
 
-/// Shows the name of a condition as an element.
+/// Adds the name in a condition `as` an element to the scope.
 pub fn show<'a>(
     context: &Context<'_, 'a>,
     entries: &mut Vec<Entry<'a>>,
@@ -169,7 +167,7 @@ pub fn show<'a>(
     Ok(())
 }
 
-/// A declaration, which adds its local.
+/// A declaration, which adds its local to the scope.
 pub fn declare<'a>(
     alloc: Global,
     context: &Context<'_, 'a>,
@@ -203,7 +201,7 @@ pub fn declare<'a>(
     })
 }
 
-/// A statement that has no statement within and declares nothing.
+/// A statement that holds no other statement and declares nothing.
 pub fn simple(
     alloc: Global,
     context: &Context,
@@ -221,20 +219,20 @@ pub fn simple(
         raw::Statement::Break { place } => Ok(Statement::Break { place: *place }),
         raw::Statement::Continue { place } => Ok(Statement::Continue { place: *place }),
         raw::Statement::Assign {
-            left: place,
+            left: to,
             op,
             value,
         } => {
-            let place = left(alloc, context, entries, place)?;
+            let to = left(alloc, context, entries, to)?;
             let value = expr(alloc, context, entries, value)?;
             Ok(Statement::Assign {
-                left: place,
+                left: to,
                 op: *op,
                 value,
             })
         }
-        raw::Statement::Count { left: place, up } => Ok(Statement::Count {
-            left: left(alloc, context, entries, place)?,
+        raw::Statement::Count { left: to, up } => Ok(Statement::Count {
+            left: left(alloc, context, entries, to)?,
             up: *up,
         }),
         raw::Statement::Call { call } => {

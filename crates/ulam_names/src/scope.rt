@@ -18,7 +18,7 @@ pub struct Entry<'a> {
     pub inside: Ty,
 }
 
-/// What a body stands in.
+/// What a body is resolved in.
 #[derive(Clone, Copy)]
 pub struct Context<'c, 'a> {
     pub heads: &'c [HalfClass<'a>],
@@ -31,7 +31,7 @@ pub struct Context<'c, 'a> {
     pub params: u32,
 }
 
-/// The last entry of a name.
+/// The last entry with a name.
 pub fn last_named<'a>(entries: &[Entry<'a>], name: &[u8]) -> Option<Entry<'a>>
     ensures { option_map entry_of result ≡ spec.last_named name.now (map entry_of entries.now) }
 {
@@ -114,7 +114,7 @@ fn is_local(entry: &Entry, name: &[u8]) -> bool
     name == entry.name && entry.slot.is_some()
 }
 
-/// The slot of the last local of a name.
+/// The slot of the last local with a name.
 pub fn slot_named(entries: &[Entry], name: &[u8]) -> Option<u32>
     ensures { result ≡ spec.slot_named name.now (map entry_of entries.now) }
 {
@@ -126,7 +126,7 @@ pub fn slot_named(entries: &[Entry], name: &[u8]) -> Option<u32>
     None
 }
 
-/// A data member or function of the class in which a body stands.
+/// A data member or function of the class that a body belongs to.
 fn of_own_class(context: &Context, name: &[u8]) -> Option<(Step, Ty)>
     ensures { result ≡ option_and_then (λ h. spec.in_class context.now.own h name.now) (slice_get (map head_of context.now.heads.now) context.now.own) }
 {

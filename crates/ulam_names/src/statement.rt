@@ -3,13 +3,13 @@
 //! The entries are cut back where a scope ends. `from` is where the innermost scope begins among
 //! them, and `slot` the next free slot.
 ghost use Rattle.std.specs.Prelude.{◌≡◌, ◌≤◌, ◌+◌, ℕ, map, length, take, IfOk, OnOk};
+ghost use Rattle.std.specs.Box.{box_value};
 ghost use Rattle.ulam_names.specs.Scopes.{opened};
 ghost use Rattle.ulam_names.specs.Walk as walk;
 ghost use Rattle.ulam_names.specs.Shown.{head_of, context_of, scope_of, entries_of, Gives};
 ghost use Rattle.ulam_tree.specs.RawViews as raw_view;
 ghost use Rattle.ulam_tree.specs.ResolvedViews.{resolved_cond, resolved_statement, resolved_body, resolved_part};
 
-use crate::build;
 use crate::expr::expr;
 use crate::fault::NameFault;
 use crate::parts::{cond, declare, maybe_expr, show, simple};
@@ -17,6 +17,7 @@ use crate::scope::{Context, Entry};
 use std::alloc::Global;
 use ulam_tree as raw;
 use ulam_tree::resolved::{Cond, Statement};
+use ulam_tree::resolved_build as build;
 
 /// A statement, and the next slot.
 #[cycle(statement)]
@@ -52,12 +53,12 @@ pub fn statement<'a>(
             let (yes, next) = branch(alloc, context, entries, from, slot, yes, test, &found)?;
             let len = entries.len();
             let (no, next) = part(alloc, context, entries, len, next, no)?;
-            Ok((build::if_so(alloc, found, yes, no)?, next))
+            Ok((build::if_so(found, yes, no), next))
         }
         raw::Statement::While { cond: test, body } => {
             let test = expr(alloc, context, entries.as_slice(), test)?;
             let (body, next) = inner(alloc, context, entries, slot, body)?;
-            Ok((build::while_so(alloc, test, body)?, next))
+            Ok((Statement::While { cond: test, body }, next))
         }
         raw::Statement::For {
             first,
@@ -71,7 +72,7 @@ pub fn statement<'a>(
             let (step, next) = part(alloc, context, entries, len, next, step)?;
             let (body, next) = inner(alloc, context, entries, next, body)?;
             entries.truncate(len);
-            Ok((build::for_all(alloc, first, test, step, body)?, next))
+            Ok((build::for_all(first, test, step, body), next))
         }
         raw::Statement::Declare { of, word, value } => {
             let found = declare(alloc, context, entries, from, slot, of, word, value)?;
@@ -90,7 +91,7 @@ pub fn statement<'a>(
     }
 }
 
-/// A statement in a scope of its own.
+/// A statement inside another one, in a scope of its own.
 #[cycle(statement)]
 fn inner<'a>(
     alloc: Global,
@@ -98,21 +99,21 @@ fn inner<'a>(
     entries: &mut Vec<Entry<'a>>,
     slot: u32,
     raw: &'a raw::Statement,
-) -> Result<(Statement, u32), NameFault>
+) -> Result<(Box<Statement>, u32), NameFault>
     requires params { context.now.params ≤ 8 }
     requires slot { slot ≤ context.now.params + 64 }
-    ensures gives { Gives (λ x. resolved_statement x.0) result (walk.statement (context_of context.now) (scope_of entries.old.items (length entries.old.items)) slot (raw_view.statement_of raw.now)) }
+    ensures gives { Gives (λ x. resolved_statement (box_value x.0)) result (walk.statement (context_of context.now) (scope_of entries.old.items (length entries.old.items)) slot (raw_view.statement_of raw.now)) }
     ensures next { IfOk result (λ x. x.1 ≡ slot + walk.locals_of (raw_view.statement_of raw.now)) }
     ensures few { IfOk result (λ x. x.1 ≤ context.now.params + 64) }
     ensures same { OnOk result (entries.new.items ≡ entries.old.items) }
 {
     let len = entries.len();
-    let found = statement(alloc, context, entries, len, slot, raw)?;
+    let (found, next) = statement(alloc, context, entries, len, slot, raw)?;
     entries.truncate(len);
-    Ok(found)
+    Ok((Box::new(alloc, found)?, next))
 }
 
-/// An optional statement. What it declares is out of scope behind it.
+/// A statement that may be absent. What it declares is out of scope after it.
 #[cycle(statement)]
 fn part<'a>(
     alloc: Global,
@@ -141,7 +142,7 @@ fn part<'a>(
     }
 }
 
-/// The first statement of a `for`, which stands in scope behind it.
+/// The first statement of a `for`. What it declares stays in scope.
 #[cycle(statement)]
 fn first_part<'a>(
     alloc: Global,
@@ -169,7 +170,7 @@ fn first_part<'a>(
     }
 }
 
-/// The first branch of an `if`, in a scope of its own in which the condition shows an element.
+/// The first branch of an `if`, in a scope of its own with the name that the condition shows.
 #[cycle(statement)]
 #[tactic(auto, using(crate::proofs::Opened::opened_shown))]
 fn branch<'a>(
@@ -181,10 +182,10 @@ fn branch<'a>(
     raw: &'a raw::Statement,
     test: &'a raw::Cond,
     found: &Cond,
-) -> Result<(Statement, u32), NameFault>
+) -> Result<(Box<Statement>, u32), NameFault>
     requires params { context.now.params ≤ 8 }
     requires slot { slot ≤ context.now.params + 64 }
-    ensures gives { Gives (λ x. resolved_statement x.0) result (walk.statement (context_of context.now) (opened (walk.narrowed (map head_of context.now.heads.now) (scope_of entries.old.items from) (raw_view.cond_of test.now) (walk.shown (resolved_cond found.now)))) slot (raw_view.statement_of raw.now)) }
+    ensures gives { Gives (λ x. resolved_statement (box_value x.0)) result (walk.statement (context_of context.now) (opened (walk.narrowed (map head_of context.now.heads.now) (scope_of entries.old.items from) (raw_view.cond_of test.now) (walk.shown (resolved_cond found.now)))) slot (raw_view.statement_of raw.now)) }
     ensures next { IfOk result (λ x. x.1 ≡ slot + walk.locals_of (raw_view.statement_of raw.now)) }
     ensures few { IfOk result (λ x. x.1 ≤ context.now.params + 64) }
     ensures same { OnOk result (entries.new.items ≡ entries.old.items) }

@@ -100,7 +100,7 @@ pub fn width_value(context: &Context, entries: &[Entry], width: &Width) -> Resul
     }
 }
 
-/// A type of a width.
+/// A type with a width.
 fn sized_by(
     context: &Context,
     entries: &[Entry],
@@ -146,7 +146,7 @@ pub fn type_in(context: &Context, entries: &[Entry], of: &TypeRef) -> Result<Nam
     }
 }
 
-/// A type's name alone.
+/// A type named without a width.
 pub fn class_named(context: &Context, word: &Word) -> Result<Named, NameFault>
     ensures { Gives (λ v. v) result (walk.class_named (walk.basic_in (context_of context.now)) (raw_view.word_of word.now)) }
 {

@@ -47,7 +47,7 @@ fn field_open(row: &[bool], fields: &Table<Ty>, number: usize) -> bool
     }
 }
 
-/// Whether one of data members is an open class.
+/// Whether any of the data members is an open class.
 fn fields_open(row: &[bool], fields: &Table<Ty>) -> bool
     ensures { result ≡ list_any (open_by row.now) (field_parts fields.now) }
 {

@@ -12,8 +12,8 @@ use Rattle.ulam_parse.specs.Reading.{stops, tired, Read}
 use Rattle.ulam_parse.specs.Files.{whole_file, with_front}
 use Rattle.ulam_parse.specs.Marks.{tok_at}
 use Rattle.ulam_parse.specs.Views.{from, Fails}
-use Rattle.ulam_parse.specs.declared.halt.Stop.{Stop}
-use Rattle.ulam_parse.specs.declared.halt.Stop.TheVariants.{Left, Tired}
+use Rattle.ulam_parse.specs.declared.halt.Halt.{Halt as CodeHalt}
+use Rattle.ulam_parse.specs.declared.halt.Halt.TheVariants.{Left, OutOfSteps}
 use Rattle.ulam_parse.specs.declared.fault.ParseFault.{ParseFault}
 use Rattle.ulam_parse.specs.declared.fault.ParseFault.TheVariants.{NoMemory}
 use Rattle.ulam_parse.specs.Sentences.{place_at, EndsOnce, IsSentence, IsSyntaxFault, IsDepthFault, IsFaultOf, deep_from}
@@ -68,11 +68,11 @@ deep_within ts k d = let a = deep_is ts k d in omega (arith, a.long, ap length a
 
 -- why nothing was read
 
-pub fails_left : (f : Stop) (n : ℕ) (read : Read (List Item)) → f ≡ Left n → Fails f read → read ≡ Err (stops n)
-fails_left f n read e h = let F : Stop → Type 0 = λ x. Fails x read in subst F e h
+pub fails_left : (f : CodeHalt) (n : ℕ) (read : Read (List Item)) → f ≡ Left n → Fails f read → read ≡ Err (stops n)
+fails_left f n read e h = let F : CodeHalt → Type 0 = λ x. Fails x read in subst F e h
 
-pub fails_tired : (f : Stop) (read : Read (List Item)) → f ≡ Tired → Fails f read → read ≡ Err tired
-fails_tired f read e h = let F : Stop → Type 0 = λ x. Fails x read in subst F e h
+pub fails_tired : (f : CodeHalt) (read : Read (List Item)) → f ≡ OutOfSteps → Fails f read → read ≡ Err tired
+fails_tired f read e h = let F : CodeHalt → Type 0 = λ x. Fails x read in subst F e h
 
 pub told_fault : (ts : List Tok) (r e : ParseFault) → r ≡ e → IsFaultOf ts e → (r ≡ NoMemory) ⊎ IsFaultOf ts r
 told_fault ts r e q h = let F : ParseFault → Type 0 = λ x. IsFaultOf ts x in inr (subst F (sym q) h)

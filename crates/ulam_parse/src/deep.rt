@@ -1,4 +1,4 @@
-//! The first token with which tokens nest too deep.
+//! The first token at which tokens nest too deeply.
 ghost use Rattle.std.specs.Prelude.{◌≡◌, IfOk};
 ghost use Rattle.ulam_parse.specs.Nesting.{outside};
 ghost use Rattle.ulam_parse.specs.Sentences.{deep_from};
@@ -10,10 +10,10 @@ use crate::tape::Tape;
 use feast_base::NoMemory;
 use std::alloc::Global;
 
-/// How deep tokens may nest.
+/// The limit on nesting.
 const MOST_DEPTH: u32 = 64;
 
-/// The place of the first token such that those up to and with it nest deeper than 64.
+/// The index of the first token at which the nesting is deeper than 64.
 #[tactic(auto, using(crate::proofs::Deeper::deep_more, crate::proofs::Deeper::deep_hit, crate::proofs::Deeper::deep_none))]
 pub fn first_deep(alloc: Global, tape: &Tape) -> Result<Option<usize>, NoMemory>
     ensures { IfOk result (λ d. deep_from 0 outside (from tape.now 0) ≡ d) }

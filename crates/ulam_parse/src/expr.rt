@@ -4,8 +4,7 @@ ghost use Rattle.ulam_tree.specs.RawViews.{word_of, path_of, expr_of, args_list}
 ghost use Rattle.ulam_parse.specs.Reading as spec;
 ghost use Rattle.ulam_parse.specs.Views.{Gives, from};
 
-use crate::build::{call, cast, group, index, is, pair, prefix};
-use crate::halt::Stop;
+use crate::halt::Halt;
 use crate::symbol::{Infix, Opening, Symbol};
 use crate::tables::{infix_of, level, opening_of};
 use crate::take::{count_from, expect, mark_at, sees, sees_second, word};
@@ -13,11 +12,12 @@ use crate::tape::Tape;
 use crate::types::{path, type_ref};
 use feast_base::Place;
 use std::alloc::Global;
+use ulam_tree::raw_build::{call, cast, group, is, pair, prefix};
 use ulam_tree::{Expr, Path};
 
 /// A new atom of a class.
 #[tactic(auto, unfolding(crate::specs::Reading::new_atom))]
-fn new_atom(alloc: Global, tape: &Tape, at: usize) -> Result<(Expr, usize), Stop>
+fn new_atom(alloc: Global, tape: &Tape, at: usize) -> Result<(Expr, usize), Halt>
     ensures { Gives (λ x. (expr_of x.0, from tape.now x.1)) result (spec.new_atom (from tape.now at)) }
 {
     let (mark, next) = expect(Symbol::TypeName, tape, at)?;
@@ -27,15 +27,15 @@ fn new_atom(alloc: Global, tape: &Tape, at: usize) -> Result<(Expr, usize), Stop
     Ok((Expr::Instance { class }, next))
 }
 
-/// An expression of a level or a tighter one.
-pub fn expr(alloc: Global, least: u8, tape: &Tape, at: usize) -> Result<(Expr, usize), Stop>
+/// An expression whose operators bind at least as tightly as `least`.
+pub fn expr(alloc: Global, least: u8, tape: &Tape, at: usize) -> Result<(Expr, usize), Halt>
     requires { least < 13 }
     ensures { Gives (λ x. (expr_of x.0, from tape.now x.1)) result (spec.expr least (from tape.now at)) }
 {
     expr_in(alloc, count_from(tape, at) + 1, least, tape, at)
 }
 
-/// An expression, by fewer steps than a number of them.
+/// An expression, read in fewer than `steps` steps.
 #[cycle(expr)]
 #[tactic(auto, using(crate::proofs::Steps::expr_steps))]
 fn expr_in(
@@ -44,17 +44,17 @@ fn expr_in(
     least: u8,
     tape: &Tape,
     at: usize,
-) -> Result<(Expr, usize), Stop>
+) -> Result<(Expr, usize), Halt>
     requires { least < 13 }
     ensures { Gives (λ x. (expr_of x.0, from tape.now x.1)) result (spec.expr_in steps least (from tape.now at)) }
 {
     if steps == 0 {
-        return Err(Stop::Tired);
+        return Err(Halt::OutOfSteps);
     }
     climb(alloc, steps - 1, least, tape, at)
 }
 
-/// An operand and what is joined to it.
+/// An operand and the operators and operands that follow it.
 #[cycle(expr)]
 #[tactic(auto, unfolding(crate::specs::Reading::climb))]
 fn climb(
@@ -63,7 +63,7 @@ fn climb(
     least: u8,
     tape: &Tape,
     at: usize,
-) -> Result<(Expr, usize), Stop>
+) -> Result<(Expr, usize), Halt>
     requires { least < 13 }
     ensures { Gives (λ x. (expr_of x.0, from tape.now x.1)) result (spec.climb (spec.expr_in steps) least (from tape.now at)) }
 {
@@ -74,16 +74,16 @@ fn climb(
 /// An operand.
 #[cycle(expr)]
 #[tactic(auto, unfolding(crate::specs::Reading::operand), using(crate::proofs::Primaries::counts_only))]
-fn operand(alloc: Global, steps: usize, tape: &Tape, at: usize) -> Result<(Expr, usize), Stop>
+fn operand(alloc: Global, steps: usize, tape: &Tape, at: usize) -> Result<(Expr, usize), Halt>
     ensures { Gives (λ x. (expr_of x.0, from tape.now x.1)) result (spec.operand (spec.expr_in steps) (from tape.now at)) }
 {
     let Some(first) = mark_at(tape, at) else {
-        return Err(Stop::Left(0));
+        return Err(Halt::Left(0));
     };
     match opening_of(first.symbol) {
         Opening::Signs(op) => {
             let (value, next) = expr_in(alloc, steps, 12, tape, at + 1)?;
-            Ok((prefix(alloc, op, value, first.place)?, next))
+            Ok((prefix(op, Box::new(alloc, value)?, first.place), next))
         }
         Opening::Parens => in_parens(alloc, steps, first.place, tape, at + 1),
         Opening::Counts => {
@@ -100,11 +100,11 @@ fn operand(alloc: Global, steps: usize, tape: &Tape, at: usize) -> Result<(Expr,
         }
         Opening::Classes => new_atom(alloc, tape, at),
         Opening::Names | Opening::Owns => named(alloc, steps, tape, at),
-        Opening::Nothing => Err(Stop::Left(count_from(tape, at))),
+        Opening::Nothing => Err(Halt::Left(count_from(tape, at))),
     }
 }
 
-/// What stands behind a bracket that opens at a place.
+/// The rest of a bracket that opened at `place`: a cast or an expression in brackets.
 #[cycle(expr)]
 #[tactic(auto, unfolding(crate::specs::Reading::in_parens))]
 fn in_parens(
@@ -113,22 +113,23 @@ fn in_parens(
     place: Place,
     tape: &Tape,
     at: usize,
-) -> Result<(Expr, usize), Stop>
+) -> Result<(Expr, usize), Halt>
     ensures { Gives (λ x. (expr_of x.0, from tape.now x.1)) result (spec.in_parens (spec.expr_in steps) place (from tape.now at)) }
 {
     if sees(Symbol::TypeName, tape, at) && !sees_second(Symbol::Dot, tape, at) {
         let (to, next) = type_ref(alloc, tape, at)?;
         let (_, next) = expect(Symbol::CloseParen, tape, next)?;
         let (value, next) = expr_in(alloc, steps, 12, tape, next)?;
-        Ok((cast(alloc, to, value, place)?, next))
+        Ok((cast(to, Box::new(alloc, value)?, place), next))
     } else {
         let (inner, next) = expr_in(alloc, steps, 1, tape, at)?;
+        let inner = Box::new(alloc, inner)?;
         let (_, next) = expect(Symbol::CloseParen, tape, next)?;
-        Ok((group(alloc, inner, place)?, next))
+        Ok((group(inner, place), next))
     }
 }
 
-/// What is joined to an expression that stands before.
+/// The operators and operands that follow an expression.
 #[cycle(expr)]
 fn more(
     alloc: Global,
@@ -137,7 +138,7 @@ fn more(
     first: Expr,
     tape: &Tape,
     at: usize,
-) -> Result<(Expr, usize), Stop>
+) -> Result<(Expr, usize), Halt>
     requires { least < 13 }
     ensures { Gives (λ x. (expr_of x.0, from tape.now x.1)) result (spec.more (spec.expr_in steps) (length (from tape.now at) + 1) least 12 (expr_of first) (from tape.now at)) }
 {
@@ -151,8 +152,9 @@ fn more(
         match infix_of(sign.symbol) {
             Infix::Joins(op) => {
                 if least <= level(op) && level(op) <= top {
+                    let left = Box::new(alloc, value)?;
                     let (right, behind) = expr_in(alloc, steps, level(op) + 1, tape, next + 1)?;
-                    value = pair(alloc, op, value, right, sign.place)?;
+                    value = pair(op, left, Box::new(alloc, right)?, sign.place);
                     top = level(op);
                     next = behind;
                 } else {
@@ -162,7 +164,8 @@ fn more(
             Infix::Tests => {
                 if least <= 8 && 9 <= top {
                     let (mark, behind) = expect(Symbol::TypeName, tape, next + 1)?;
-                    value = is(alloc, value, word(alloc, tape, mark)?, sign.place)?;
+                    let tested = Box::new(alloc, value)?;
+                    value = is(tested, word(alloc, tape, mark)?, sign.place);
                     top = 8;
                     next = behind;
                 } else {
@@ -172,19 +175,19 @@ fn more(
             Infix::Opens | Infix::Ends => return Ok((value, next)),
         }
     }
-    Err(Stop::Tired)
+    Err(Halt::OutOfSteps)
 }
 
 /// A path, a call or an element of an array.
 #[cycle(expr)]
-fn named(alloc: Global, steps: usize, tape: &Tape, at: usize) -> Result<(Expr, usize), Stop>
+fn named(alloc: Global, steps: usize, tape: &Tape, at: usize) -> Result<(Expr, usize), Halt>
     ensures { Gives (λ x. (expr_of x.0, from tape.now x.1)) result (spec.named (spec.expr_in steps) (from tape.now at)) }
 {
     let (path, next) = path(alloc, tape, at)?;
     after_path(alloc, steps, path, tape, next)
 }
 
-/// A path, a call or an element of an array, behind the path.
+/// The rest of a path, a call or an element of an array, after the path.
 #[cycle(expr)]
 #[tactic(auto, unfolding(crate::specs::Reading::after_path))]
 fn after_path(
@@ -193,7 +196,7 @@ fn after_path(
     path: Path,
     tape: &Tape,
     at: usize,
-) -> Result<(Expr, usize), Stop>
+) -> Result<(Expr, usize), Halt>
     ensures { Gives (λ x. (expr_of x.0, from tape.now x.1)) result (spec.after_path (spec.expr_in steps) (path_of path) (from tape.now at)) }
 {
     if sees(Symbol::OpenParen, tape, at) {
@@ -203,17 +206,18 @@ fn after_path(
     } else if sees(Symbol::OpenBracket, tape, at) {
         let (_, next) = expect(Symbol::OpenBracket, tape, at)?;
         let (at, next) = expr_in(alloc, steps, 1, tape, next)?;
+        let at = Box::new(alloc, at)?;
         let (_, next) = expect(Symbol::CloseBracket, tape, next)?;
-        Ok((index(alloc, path, at)?, next))
+        Ok((Expr::Index { path, at }, next))
     } else {
         Ok((Expr::Path { path }, at))
     }
 }
 
-/// Arguments and the closing bracket, by fewer steps than a number of them.
+/// Arguments and the closing bracket, read in fewer than `steps` steps.
 #[cycle(expr)]
 #[tactic(auto, unfolding(crate::specs::Reading::args))]
-fn args_in(alloc: Global, steps: usize, tape: &Tape, at: usize) -> Result<(Vec<Expr>, usize), Stop>
+fn args_in(alloc: Global, steps: usize, tape: &Tape, at: usize) -> Result<(Vec<Expr>, usize), Halt>
     ensures { Gives (λ x. (args_list x.0.items, from tape.now x.1)) result (spec.args (spec.expr_in steps) (from tape.now at)) }
 {
     let mut found = Vec::new(alloc);
@@ -227,7 +231,7 @@ fn args_in(alloc: Global, steps: usize, tape: &Tape, at: usize) -> Result<(Vec<E
     Ok((found, next))
 }
 
-/// More arguments, each behind those that are there, and the closing bracket.
+/// Further arguments, appended to `found`, and the closing bracket.
 #[cycle(expr)]
 fn more_args(
     alloc: Global,
@@ -235,7 +239,7 @@ fn more_args(
     found: &mut Vec<Expr>,
     tape: &Tape,
     at: usize,
-) -> Result<usize, Stop>
+) -> Result<usize, Halt>
     ensures { Gives (λ x. (args_list found.new.items, from tape.now x)) result (spec.with_args (args_list found.old.items) (spec.more_args (spec.expr_in steps) (length (from tape.now at) + 1) (from tape.now at))) }
 {
     let mut next = at;
@@ -249,11 +253,11 @@ fn more_args(
         found.push(value)?;
         next = behind;
     }
-    Err(Stop::Tired)
+    Err(Halt::OutOfSteps)
 }
 
 /// Arguments and the closing bracket.
-pub fn args(alloc: Global, tape: &Tape, at: usize) -> Result<(Vec<Expr>, usize), Stop>
+pub fn args(alloc: Global, tape: &Tape, at: usize) -> Result<(Vec<Expr>, usize), Halt>
     ensures { Gives (λ x. (args_list x.0.items, from tape.now x.1)) result (spec.all_args (from tape.now at)) }
 {
     args_in(alloc, count_from(tape, at) + 1, tape, at)

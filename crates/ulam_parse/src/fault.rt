@@ -1,17 +1,17 @@
-//! Why tokens are no sentence.
+//! Why tokens have no tree.
 use feast_base::Place;
 use thiserror::Error;
 
-/// Why tokens are no sentence of the grammar, or nest too deep.
+/// Why tokens have no tree, or nest too deeply.
 #[derive(Clone, Copy, Debug, PartialEq, Eq, Error)]
 pub enum ParseFault {
-    /// The first token such that the tokens up to and with it begin no sentence.
+    /// The first token at which no sentence of the grammar can continue.
     #[error("syntax")]
     Syntax(Place),
-    /// The first token such that the tokens up to and with it nest deeper than 64.
+    /// The first token at which the nesting is deeper than 64.
     #[error("nested too deep")]
     TooDeep(Place),
-    /// The memory that the tree takes could not be had.
+    /// Memory ran out.
     #[error("out of memory")]
     NoMemory,
 }

@@ -1,8 +1,8 @@
-//! What stands between the brackets of a `for`.
+//! The parts of a `for` that are in its brackets.
 
 use ulam_tree::{Expr, Statement};
 
-/// What stands between the brackets of a `for`.
+/// The parts of a `for` that are in its brackets.
 #[derive(Drop)]
 pub struct ForParts {
     pub first: Option<Box<Statement>>,

@@ -1,48 +1,49 @@
-//! Why nothing was read.
+//! Why reading ended without a tree.
 
 use feast_base::NoMemory;
 use std::alloc::{AllocError, AllocFailed};
 
-/// Why nothing was read.
+/// Why reading ended without a tree.
 #[derive(Clone, Copy, Debug, PartialEq, Eq)]
-pub enum Stop {
+pub enum Halt {
     /// Memory ran out.
     NoMemory,
-    /// It goes on with no tree from the first of the last so many tokens on.
+    /// No tree continues the tokens read so far with the next one. The number counts the tokens
+    /// that were left, from that one to the end.
     Left(usize),
-    /// Out of steps, of which there are more than tokens.
-    Tired,
+    /// The limit on steps was reached. It is more than the number of tokens, so this never happens.
+    OutOfSteps,
 }
 
-impl From<AllocError> for Stop {
+impl From<AllocError> for Halt {
     ghost use Rattle.std.specs.Prelude.{◌≡◌};
-    ghost use Rattle.ulam_parse.specs.declared.halt.Stop.TheVariants.{NoMemory};
+    ghost use Rattle.ulam_parse.specs.declared.halt.Halt.TheVariants.{NoMemory};
 
     ghost from_gives = { λ _ e. e ≡ NoMemory };
 
-    fn from(_: AllocError) -> Stop {
-        Stop::NoMemory
+    fn from(_: AllocError) -> Halt {
+        Halt::NoMemory
     }
 }
 
-impl<T: Drop> From<AllocFailed<T>> for Stop {
+impl<T: Drop> From<AllocFailed<T>> for Halt {
     ghost use Rattle.std.specs.Prelude.{◌≡◌};
-    ghost use Rattle.ulam_parse.specs.declared.halt.Stop.TheVariants.{NoMemory};
+    ghost use Rattle.ulam_parse.specs.declared.halt.Halt.TheVariants.{NoMemory};
 
     ghost from_gives = { λ _ e. e ≡ NoMemory };
 
-    fn from(_: AllocFailed<T>) -> Stop {
-        Stop::NoMemory
+    fn from(_: AllocFailed<T>) -> Halt {
+        Halt::NoMemory
     }
 }
 
-impl From<NoMemory> for Stop {
+impl From<NoMemory> for Halt {
     ghost use Rattle.std.specs.Prelude.{◌≡◌};
-    ghost use Rattle.ulam_parse.specs.declared.halt.Stop.TheVariants.{NoMemory};
+    ghost use Rattle.ulam_parse.specs.declared.halt.Halt.TheVariants.{NoMemory};
 
     ghost from_gives = { λ _ e. e ≡ NoMemory };
 
-    fn from(_: NoMemory) -> Stop {
-        Stop::NoMemory
+    fn from(_: NoMemory) -> Halt {
+        Halt::NoMemory
     }
 }

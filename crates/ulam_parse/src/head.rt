@@ -8,7 +8,7 @@ ghost use Rattle.ulam_parse.specs.Views.{Gives, from};
 
 use crate::expr::expr;
 use crate::for_parts::ForParts;
-use crate::halt::Stop;
+use crate::halt::Halt;
 use crate::simple::{cond, declare, maybe, simple};
 use crate::symbol::Symbol;
 use crate::take::{expect, sees};
@@ -16,7 +16,7 @@ use crate::tape::Tape;
 use std::alloc::{AllocError, Global};
 use ulam_tree::{Cond, Expr, Statement};
 
-/// A part of a `for` that is there.
+/// A part of a `for` that is present.
 fn part(alloc: Global, statement: Statement) -> Result<Option<Box<Statement>>, AllocError>
     ensures { IfOk result (λ y. part_alone y ≡ t.part (statement_of statement)) }
 {
@@ -29,7 +29,7 @@ fn first_part(
     alloc: Global,
     tape: &Tape,
     at: usize,
-) -> Result<(Option<Box<Statement>>, usize), Stop>
+) -> Result<(Option<Box<Statement>>, usize), Halt>
     ensures { Gives (λ x. (part_alone x.0, from tape.now x.1)) result (spec.first_part (from tape.now at)) }
 {
     if sees(Symbol::Semi, tape, at) {
@@ -45,7 +45,7 @@ fn first_part(
 
 /// What a `for` does after each turn.
 #[tactic(auto, unfolding(crate::specs::Statements::step_part))]
-fn step_part(alloc: Global, tape: &Tape, at: usize) -> Result<(Option<Box<Statement>>, usize), Stop>
+fn step_part(alloc: Global, tape: &Tape, at: usize) -> Result<(Option<Box<Statement>>, usize), Halt>
     ensures { Gives (λ x. (part_alone x.0, from tape.now x.1)) result (spec.step_part (from tape.now at)) }
 {
     if sees(Symbol::CloseParen, tape, at) {
@@ -55,9 +55,9 @@ fn step_part(alloc: Global, tape: &Tape, at: usize) -> Result<(Option<Box<Statem
     Ok((part(alloc, statement)?, next))
 }
 
-/// What stands between the brackets of a `for`.
+/// The parts of a `for` that are in its brackets.
 #[tactic(auto, unfolding(crate::specs::Statements::for_head))]
-pub fn for_head(alloc: Global, tape: &Tape, at: usize) -> Result<(ForParts, usize), Stop>
+pub fn for_head(alloc: Global, tape: &Tape, at: usize) -> Result<(ForParts, usize), Halt>
     ensures { Gives (λ x. (head_of x.0, from tape.now x.1)) result (spec.for_head (from tape.now at)) }
 {
     let (_, next) = expect(Symbol::OpenParen, tape, at)?;
@@ -72,7 +72,7 @@ pub fn for_head(alloc: Global, tape: &Tape, at: usize) -> Result<(ForParts, usiz
 
 /// A condition in brackets.
 #[tactic(auto, unfolding(crate::specs::Statements::if_head))]
-pub fn if_head(alloc: Global, tape: &Tape, at: usize) -> Result<(Cond, usize), Stop>
+pub fn if_head(alloc: Global, tape: &Tape, at: usize) -> Result<(Cond, usize), Halt>
     ensures { Gives (λ x. (cond_of x.0, from tape.now x.1)) result (spec.if_head (from tape.now at)) }
 {
     let (_, next) = expect(Symbol::OpenParen, tape, at)?;
@@ -83,7 +83,7 @@ pub fn if_head(alloc: Global, tape: &Tape, at: usize) -> Result<(Cond, usize), S
 
 /// An expression in brackets.
 #[tactic(auto, unfolding(crate::specs::Statements::while_head))]
-pub fn while_head(alloc: Global, tape: &Tape, at: usize) -> Result<(Expr, usize), Stop>
+pub fn while_head(alloc: Global, tape: &Tape, at: usize) -> Result<(Expr, usize), Halt>
     ensures { Gives (λ x. (expr_of x.0, from tape.now x.1)) result (spec.while_head (from tape.now at)) }
 {
     let (_, next) = expect(Symbol::OpenParen, tape, at)?;

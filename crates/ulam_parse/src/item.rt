@@ -4,7 +4,7 @@ ghost use Rattle.ulam_tree.specs.RawViews.{word_of, width_of, type_of, param_of,
 ghost use Rattle.ulam_parse.specs.Files as spec;
 ghost use Rattle.ulam_parse.specs.Views.{Gives, from};
 
-use crate::halt::Stop;
+use crate::halt::Halt;
 use crate::member::member;
 use crate::symbol::Symbol;
 use crate::take::{count_from, expect, sees, word};
@@ -12,8 +12,8 @@ use crate::tape::Tape;
 use std::alloc::Global;
 use ulam_tree::{Class, Item, Member};
 
-/// Members, each behind those that are there, and the closing brace.
-fn members(alloc: Global, found: &mut Vec<Member>, tape: &Tape, at: usize) -> Result<usize, Stop>
+/// Members, appended to those read so far, and the closing brace.
+fn members(alloc: Global, found: &mut Vec<Member>, tape: &Tape, at: usize) -> Result<usize, Halt>
     ensures { Gives (λ x. (map member_of found.new.items, from tape.now x)) result (spec.with_front (map member_of found.old.items) (spec.members (length (from tape.now at) + 1) (from tape.now at))) }
 {
     let mut next = at;
@@ -26,7 +26,7 @@ fn members(alloc: Global, found: &mut Vec<Member>, tape: &Tape, at: usize) -> Re
         found.push(value)?;
         next = behind;
     }
-    Err(Stop::Tired)
+    Err(Halt::OutOfSteps)
 }
 
 /// A class that begins with a keyword.
@@ -37,7 +37,7 @@ fn class_in(
     quark: bool,
     tape: &Tape,
     at: usize,
-) -> Result<(Class, usize), Stop>
+) -> Result<(Class, usize), Halt>
     ensures { Gives (λ x. (class_of x.0, from tape.now x.1)) result (spec.class_in keyword quark (from tape.now at)) }
 {
     let (_, next) = expect(keyword, tape, at)?;
@@ -58,7 +58,7 @@ fn class_in(
 
 /// The version of the language.
 #[tactic(auto, unfolding(crate::specs::Files::version_in))]
-fn version_in(tape: &Tape, at: usize) -> Result<(Item, usize), Stop>
+fn version_in(tape: &Tape, at: usize) -> Result<(Item, usize), Halt>
     ensures { Gives (λ x. (item_of x.0, from tape.now x.1)) result (spec.version_in (from tape.now at)) }
 {
     let (_, next) = expect(Symbol::Ulam, tape, at)?;
@@ -69,7 +69,7 @@ fn version_in(tape: &Tape, at: usize) -> Result<(Item, usize), Stop>
 
 /// A `use`.
 #[tactic(auto, unfolding(crate::specs::Files::use_in))]
-fn use_in(alloc: Global, tape: &Tape, at: usize) -> Result<(Item, usize), Stop>
+fn use_in(alloc: Global, tape: &Tape, at: usize) -> Result<(Item, usize), Halt>
     ensures { Gives (λ x. (item_of x.0, from tape.now x.1)) result (spec.use_in (from tape.now at)) }
 {
     let (_, next) = expect(Symbol::Use, tape, at)?;
@@ -80,7 +80,7 @@ fn use_in(alloc: Global, tape: &Tape, at: usize) -> Result<(Item, usize), Stop>
 }
 
 /// An element or a quark.
-fn class(alloc: Global, tape: &Tape, at: usize) -> Result<(Class, usize), Stop>
+fn class(alloc: Global, tape: &Tape, at: usize) -> Result<(Class, usize), Halt>
     ensures { Gives (λ x. (class_of x.0, from tape.now x.1)) result (spec.any_class (from tape.now at)) }
 {
     if sees(Symbol::Quark, tape, at) {
@@ -92,7 +92,7 @@ fn class(alloc: Global, tape: &Tape, at: usize) -> Result<(Class, usize), Stop>
 
 /// An item.
 #[tactic(auto, unfolding(crate::specs::Files::item, crate::specs::Files::class_item))]
-fn item(alloc: Global, tape: &Tape, at: usize) -> Result<(Item, usize), Stop>
+fn item(alloc: Global, tape: &Tape, at: usize) -> Result<(Item, usize), Halt>
     ensures { Gives (λ x. (item_of x.0, from tape.now x.1)) result (spec.item (from tape.now at)) }
 {
     if sees(Symbol::Ulam, tape, at) {
@@ -105,8 +105,8 @@ fn item(alloc: Global, tape: &Tape, at: usize) -> Result<(Item, usize), Stop>
     Ok((Item::Class { class }, next))
 }
 
-/// Items, each behind those that are there, up to `End`.
-pub fn items(alloc: Global, found: &mut Vec<Item>, tape: &Tape, at: usize) -> Result<usize, Stop>
+/// Items, appended to those read so far, up to `End`.
+pub fn items(alloc: Global, found: &mut Vec<Item>, tape: &Tape, at: usize) -> Result<usize, Halt>
     ensures { Gives (λ x. (map item_of found.new.items, from tape.now x)) result (spec.with_front (map item_of found.old.items) (spec.items (length (from tape.now at) + 1) (from tape.now at))) }
 {
     let mut next = at;
@@ -118,5 +118,5 @@ pub fn items(alloc: Global, found: &mut Vec<Item>, tape: &Tape, at: usize) -> Re
         found.push(value)?;
         next = behind;
     }
-    Err(Stop::Tired)
+    Err(Halt::OutOfSteps)
 }

@@ -1,4 +1,4 @@
-//! Whether tokens are a sentence, and where and why they are none.
+//! Whether tokens have a tree, and if not, where and why not.
 ghost use Rattle.std.specs.Prelude.{◌≡◌, ◌⊎◌, ◌<◌, ◌≤◌, ◌+◌, ◌++◌, length, map, Some, None, IfOk, IfErr};
 ghost use Rattle.ulam_tree.specs.RawViews.{item_of};
 ghost use Rattle.ulam_parse.specs.Files as spec;
@@ -9,7 +9,7 @@ ghost use Rattle.ulam_parse.specs.Views.{Fails, from};
 
 use crate::deep::first_deep;
 use crate::fault::ParseFault;
-use crate::halt::Stop;
+use crate::halt::Halt;
 use crate::item::items;
 use crate::take::{count_from, mark_at};
 use crate::tape::Tape;
@@ -17,9 +17,9 @@ use feast_base::Place;
 use std::alloc::Global;
 use ulam_tree::Item;
 
-/// All items that the tokens are.
+/// The items of all tokens.
 #[tactic(auto, using(crate::proofs::Laws::front_none))]
-fn whole(alloc: Global, tape: &Tape) -> Result<Vec<Item>, Stop>
+fn whole(alloc: Global, tape: &Tape) -> Result<Vec<Item>, Halt>
     ensures read { IfOk result (λ v. ReadsTo (from tape.now 0) (map item_of v.items)) }
     ensures stops { IfErr result (λ e. Fails e (spec.whole_file (from tape.now 0))) }
 {
@@ -28,7 +28,7 @@ fn whole(alloc: Global, tape: &Tape) -> Result<Vec<Item>, Stop>
     Ok(found)
 }
 
-/// The place of the first of the last so many tokens.
+/// The place of the token with `left` tokens from it to the end.
 fn place_of_left(tape: &Tape, left: usize) -> Place
     requires some { 0 < left }
     requires few { left ≤ length (from tape.now 0) }
@@ -41,7 +41,7 @@ fn place_of_left(tape: &Tape, left: usize) -> Place
     }
 }
 
-/// The first tokens, so many.
+/// A number of tokens from the start.
 fn front<'t>(tape: &Tape<'t>, len: usize) -> Tape<'t>
     requires { len ≤ length tape.now.marks.now }
     ensures split { from tape.now 0 ≡ from result 0 ++ from tape.now len }
@@ -53,7 +53,7 @@ fn front<'t>(tape: &Tape<'t>, len: usize) -> Tape<'t>
     }
 }
 
-/// The items of tokens that nest nowhere too deep, or their fault.
+/// The items of tokens that nowhere nest too deeply, or their fault.
 fn of_shallow(alloc: Global, tape: &Tape) -> Result<Vec<Item>, ParseFault>
     requires ends { EndsOnce (from tape.now 0) }
     requires shallow { deep_from 0 outside (from tape.now 0) ≡ None }
@@ -62,13 +62,13 @@ fn of_shallow(alloc: Global, tape: &Tape) -> Result<Vec<Item>, ParseFault>
 {
     match whole(alloc, tape) {
         Ok(found) => Ok(found),
-        Err(Stop::Left(left)) => Err(ParseFault::Syntax(place_of_left(tape, left))),
-        Err(Stop::Tired) => unreachable!(),
-        Err(Stop::NoMemory) => Err(ParseFault::NoMemory),
+        Err(Halt::Left(left)) => Err(ParseFault::Syntax(place_of_left(tape, left))),
+        Err(Halt::OutOfSteps) => unreachable!(),
+        Err(Halt::NoMemory) => Err(ParseFault::NoMemory),
     }
 }
 
-/// The fault of tokens that nest too deep first at a place.
+/// The fault of tokens that first nest too deeply at a place.
 fn of_deep(alloc: Global, tape: &Tape, at: usize) -> ParseFault
     requires ends { EndsOnce (from tape.now 0) }
     requires deep { deep_from 0 outside (from tape.now 0) ≡ Some at }
@@ -80,15 +80,15 @@ fn of_deep(alloc: Global, tape: &Tape, at: usize) -> ParseFault
     let seen = front(tape, at + 1);
     match whole(alloc, &seen) {
         Ok(_) => ParseFault::TooDeep(mark.place),
-        Err(Stop::Left(left)) => {
+        Err(Halt::Left(left)) => {
             if left == 0 {
                 ParseFault::TooDeep(mark.place)
             } else {
                 ParseFault::Syntax(place_of_left(&seen, left))
             }
         }
-        Err(Stop::Tired) => unreachable!(),
-        Err(Stop::NoMemory) => ParseFault::NoMemory,
+        Err(Halt::OutOfSteps) => unreachable!(),
+        Err(Halt::NoMemory) => ParseFault::NoMemory,
     }
 }
 

@@ -4,7 +4,6 @@
 //! from how they are read.
 #![tactic(auto)]
 
-mod build;
 mod deep;
 mod expr;
 mod fault;

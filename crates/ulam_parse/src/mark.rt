@@ -1,9 +1,9 @@
-//! What a token is to the grammar.
+//! Tokens as the grammar sees them.
 
 use crate::symbol::Symbol;
 use feast_base::Place;
 
-/// A token, with its symbol, and for a number what it says.
+/// A token with its symbol, and its value if it is a number.
 #[derive(Clone, Copy)]
 pub struct Mark {
     pub symbol: Symbol,

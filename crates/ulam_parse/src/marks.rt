@@ -7,13 +7,13 @@ ghost use Rattle.ulam_lex.specs.Pieces.{IsNumberToken};
 ghost use Rattle.ulam_lex.specs.declared.token.TokenKind.TheVariants as kind;
 ghost use Rattle.ulam_parse.specs.Tokens as spec;
 
-use crate::halt::Stop;
+use crate::halt::Halt;
 use crate::mark::Mark;
 use crate::symbol::Symbol;
 use std::alloc::Global;
 use ulam_lex::{Numeral, Token, TokenKind, numeral_of};
 
-/// The symbol of a text, by a table; `:` for one that is not there.
+/// The symbol of a text in a table, or `:` if the table lacks it.
 fn symbol_in(table: &[(&str, Symbol)], text: &[u8]) -> Symbol
     ensures { result ≡ spec.symbol_in (map (λ e. (e.0.now, e.1)) table.now) text.now }
 {
@@ -25,7 +25,7 @@ fn symbol_in(table: &[(&str, Symbol)], text: &[u8]) -> Symbol
     Symbol::Colon
 }
 
-/// The words that are no names.
+/// The keywords.
 const KEYWORDS: [(&str, Symbol); 19] = [
     ("element", Symbol::Element),
     ("quark", Symbol::Quark),
@@ -111,7 +111,7 @@ fn sign(text: &[u8]) -> Symbol
     symbol_in(&SIGNS, text)
 }
 
-/// What a token of a kind, with this text, is to the grammar.
+/// The symbol of a token, from its kind and its text.
 fn symbol_of(kind: TokenKind, text: &[u8]) -> Symbol
     ensures { result ≡ spec.symbol_of kind text.now }
 {
@@ -125,7 +125,7 @@ fn symbol_of(kind: TokenKind, text: &[u8]) -> Symbol
     }
 }
 
-/// What a number says; for other tokens nothing that is used.
+/// The value of a number. It is not used for other tokens.
 #[tactic(auto, using(crate::proofs::Orders::numeral_is))]
 fn numeral_in(of: TokenKind, text: &[u8]) -> Numeral
     requires { of ≡ kind.Number → IsNumberToken text.now }
@@ -163,7 +163,7 @@ fn mark_of(bytes: &[u8], token: &Token) -> Mark
 }
 
 /// The tokens of a text as the grammar's.
-pub fn marks_of(alloc: Global, bytes: &[u8], tokens: &[Token]) -> Result<Vec<Mark>, Stop>
+pub fn marks_of(alloc: Global, bytes: &[u8], tokens: &[Token]) -> Result<Vec<Mark>, Halt>
     requires { All (λ t. IsSound bytes.now t) tokens.now }
     ensures same { IfOk result (λ v. map (λ m. tok_at bytes.now m) v.items ≡ spec.toks bytes.now tokens.now) }
     ensures sound { IfOk result (λ v. All (λ m. IsMark bytes.now m) v.items) }

@@ -4,7 +4,7 @@ ghost use Rattle.ulam_tree.specs.RawViews.{word_of, width_of, type_of, param_of,
 ghost use Rattle.ulam_parse.specs.Files as spec;
 ghost use Rattle.ulam_parse.specs.Views.{Gives, from};
 
-use crate::halt::Stop;
+use crate::halt::Halt;
 use crate::statement::whole_body;
 use crate::symbol::Symbol;
 use crate::take::{count_from, expect, sees, word};
@@ -15,7 +15,7 @@ use ulam_tree::{Const, Member, Param, TypeRef, Width, Word};
 
 /// A parameter.
 #[tactic(auto, unfolding(crate::specs::Files::param))]
-fn param(alloc: Global, tape: &Tape, at: usize) -> Result<(Param, usize), Stop>
+fn param(alloc: Global, tape: &Tape, at: usize) -> Result<(Param, usize), Halt>
     ensures { Gives (λ x. (param_of x.0, from tape.now x.1)) result (spec.param (from tape.now at)) }
 {
     let (of, next) = type_ref(alloc, tape, at)?;
@@ -24,8 +24,8 @@ fn param(alloc: Global, tape: &Tape, at: usize) -> Result<(Param, usize), Stop>
     Ok((Param { of, word }, next))
 }
 
-/// More parameters, each behind those that are there, and the closing bracket.
-fn more_params(alloc: Global, found: &mut Vec<Param>, tape: &Tape, at: usize) -> Result<usize, Stop>
+/// Further parameters, appended to `found`, and the closing bracket.
+fn more_params(alloc: Global, found: &mut Vec<Param>, tape: &Tape, at: usize) -> Result<usize, Halt>
     ensures { Gives (λ x. (map param_of found.new.items, from tape.now x)) result (spec.with_front (map param_of found.old.items) (spec.more_params (length (from tape.now at) + 1) (from tape.now at))) }
 {
     let mut next = at;
@@ -39,12 +39,12 @@ fn more_params(alloc: Global, found: &mut Vec<Param>, tape: &Tape, at: usize) ->
         found.push(value)?;
         next = behind;
     }
-    Err(Stop::Tired)
+    Err(Halt::OutOfSteps)
 }
 
 /// Parameters and the closing bracket.
 #[tactic(auto, unfolding(crate::specs::Files::params))]
-fn params(alloc: Global, tape: &Tape, at: usize) -> Result<(Vec<Param>, usize), Stop>
+fn params(alloc: Global, tape: &Tape, at: usize) -> Result<(Vec<Param>, usize), Halt>
     ensures { Gives (λ x. (map param_of x.0.items, from tape.now x.1)) result (spec.params (from tape.now at)) }
 {
     let mut found = Vec::new(alloc);
@@ -58,9 +58,9 @@ fn params(alloc: Global, tape: &Tape, at: usize) -> Result<(Vec<Param>, usize), 
     Ok((found, next))
 }
 
-/// A number, behind its sign where it has one.
+/// A number after its sign, if it has one.
 #[tactic(auto, unfolding(crate::specs::Files::const_in))]
-fn const_in(minus: bool, tape: &Tape, at: usize) -> Result<(Const, usize), Stop>
+fn const_in(minus: bool, tape: &Tape, at: usize) -> Result<(Const, usize), Halt>
     ensures { Gives (λ x. (const_of x.0, from tape.now x.1)) result (spec.const_in minus (from tape.now at)) }
 {
     let (mark, next) = expect(Symbol::Number, tape, at)?;
@@ -76,16 +76,16 @@ fn const_in(minus: bool, tape: &Tape, at: usize) -> Result<(Const, usize), Stop>
 
 /// `true` or `false`.
 #[tactic(auto, unfolding(crate::specs::Files::truth_in))]
-fn truth_in(symbol: Symbol, value: bool, tape: &Tape, at: usize) -> Result<(Const, usize), Stop>
+fn truth_in(symbol: Symbol, value: bool, tape: &Tape, at: usize) -> Result<(Const, usize), Halt>
     ensures { Gives (λ x. (const_of x.0, from tape.now x.1)) result (spec.truth_in symbol value (from tape.now at)) }
 {
     let (_, next) = expect(symbol, tape, at)?;
     Ok((Const::Truth { value }, next))
 }
 
-/// What a constant is declared to be.
+/// The value that a constant is declared with.
 #[tactic(auto, unfolding(crate::specs::Files::const_value))]
-fn const_value(alloc: Global, tape: &Tape, at: usize) -> Result<(Const, usize), Stop>
+fn const_value(alloc: Global, tape: &Tape, at: usize) -> Result<(Const, usize), Halt>
     ensures { Gives (λ x. (const_of x.0, from tape.now x.1)) result (spec.const_value (from tape.now at)) }
 {
     if sees(Symbol::Minus, tape, at) {
@@ -106,7 +106,7 @@ fn const_value(alloc: Global, tape: &Tape, at: usize) -> Result<(Const, usize), 
 
 /// A typedef.
 #[tactic(auto, unfolding(crate::specs::Files::typedef_in))]
-fn typedef_in(alloc: Global, tape: &Tape, at: usize) -> Result<(Member, usize), Stop>
+fn typedef_in(alloc: Global, tape: &Tape, at: usize) -> Result<(Member, usize), Halt>
     ensures { Gives (λ x. (member_of x.0, from tape.now x.1)) result (spec.typedef_in (from tape.now at)) }
 {
     let (_, next) = expect(Symbol::Typedef, tape, at)?;
@@ -119,7 +119,7 @@ fn typedef_in(alloc: Global, tape: &Tape, at: usize) -> Result<(Member, usize), 
 
 /// A constant.
 #[tactic(auto, unfolding(crate::specs::Files::constant_in))]
-fn constant_in(alloc: Global, tape: &Tape, at: usize) -> Result<(Member, usize), Stop>
+fn constant_in(alloc: Global, tape: &Tape, at: usize) -> Result<(Member, usize), Halt>
     ensures { Gives (λ x. (member_of x.0, from tape.now x.1)) result (spec.constant_in (from tape.now at)) }
 {
     let (_, next) = expect(Symbol::Constant, tape, at)?;
@@ -132,9 +132,9 @@ fn constant_in(alloc: Global, tape: &Tape, at: usize) -> Result<(Member, usize),
     Ok((Member::Constant { of, word, value }, next))
 }
 
-/// The length in square brackets that makes a data member an array.
+/// The length of an array in square brackets, if there is one.
 #[tactic(auto, unfolding(crate::specs::Files::length_in))]
-fn length_in(alloc: Global, tape: &Tape, at: usize) -> Result<(Option<Width>, usize), Stop>
+fn length_in(alloc: Global, tape: &Tape, at: usize) -> Result<(Option<Width>, usize), Halt>
     ensures { Gives (λ x. (option_map width_of x.0, from tape.now x.1)) result (spec.length_in (from tape.now at)) }
 {
     if sees(Symbol::OpenBracket, tape, at) {
@@ -144,7 +144,7 @@ fn length_in(alloc: Global, tape: &Tape, at: usize) -> Result<(Option<Width>, us
     }
 }
 
-/// A function behind its name.
+/// The rest of a function, after its name.
 #[tactic(auto, unfolding(crate::specs::Files::function_rest))]
 fn function_rest(
     alloc: Global,
@@ -152,7 +152,7 @@ fn function_rest(
     word: Word,
     tape: &Tape,
     at: usize,
-) -> Result<(Member, usize), Stop>
+) -> Result<(Member, usize), Halt>
     ensures { Gives (λ x. (member_of x.0, from tape.now x.1)) result (spec.function_rest (type_of of) (word_of word) (from tape.now at)) }
 {
     let (_, next) = expect(Symbol::OpenParen, tape, at)?;
@@ -170,7 +170,7 @@ fn function_rest(
     ))
 }
 
-/// A data member behind its name.
+/// The rest of a data member, after its name.
 #[tactic(auto, unfolding(crate::specs::Files::field_rest))]
 fn field_rest(
     alloc: Global,
@@ -178,7 +178,7 @@ fn field_rest(
     word: Word,
     tape: &Tape,
     at: usize,
-) -> Result<(Member, usize), Stop>
+) -> Result<(Member, usize), Halt>
     ensures { Gives (λ x. (member_of x.0, from tape.now x.1)) result (spec.field_rest (type_of of) (word_of word) (from tape.now at)) }
 {
     let (length, next) = length_in(alloc, tape, at)?;
@@ -188,7 +188,7 @@ fn field_rest(
 
 /// A data member or a function.
 #[tactic(auto, unfolding(crate::specs::Files::named_member))]
-fn named_member(alloc: Global, tape: &Tape, at: usize) -> Result<(Member, usize), Stop>
+fn named_member(alloc: Global, tape: &Tape, at: usize) -> Result<(Member, usize), Halt>
     ensures { Gives (λ x. (member_of x.0, from tape.now x.1)) result (spec.named_member (from tape.now at)) }
 {
     let (of, next) = type_ref(alloc, tape, at)?;
@@ -203,7 +203,7 @@ fn named_member(alloc: Global, tape: &Tape, at: usize) -> Result<(Member, usize)
 
 /// A member.
 #[tactic(auto, unfolding(crate::specs::Files::member))]
-pub fn member(alloc: Global, tape: &Tape, at: usize) -> Result<(Member, usize), Stop>
+pub fn member(alloc: Global, tape: &Tape, at: usize) -> Result<(Member, usize), Halt>
     ensures { Gives (λ x. (member_of x.0, from tape.now x.1)) result (spec.member (from tape.now at)) }
 {
     if sees(Symbol::Typedef, tape, at) {

@@ -9,7 +9,7 @@ use crate::tables::weight_of;
 use feast_base::NoMemory;
 use std::alloc::Global;
 
-/// Before the first token.
+/// The count before the first token.
 pub fn outside(alloc: Global) -> Nest
     ensures { nest_of result ≡ spec.outside }
 {
@@ -21,7 +21,7 @@ pub fn outside(alloc: Global) -> Nest
     }
 }
 
-/// How deep it is.
+/// The depth of the nesting.
 pub fn depth(nest: &Nest) -> u32
     requires { spec.depth (nest_of nest.now) ≤ 66 }
     ensures { result ≡ spec.depth (nest_of nest.now) }
@@ -29,7 +29,7 @@ pub fn depth(nest: &Nest) -> u32
     nest.inner + nest.around
 }
 
-/// The innermost count by what came last.
+/// The innermost count, according to the last symbol.
 fn count_at(inner: u32, last: Symbol, symbol: Symbol) -> u32
     requires { inner ≤ 64 }
     ensures count { result ≡ spec.count_at inner last symbol }
@@ -44,7 +44,7 @@ fn count_at(inner: u32, last: Symbol, symbol: Symbol) -> u32
     }
 }
 
-/// A bracket opens behind a count.
+/// The count after a bracket opens.
 #[tactic(auto, using(crate::proofs::Nests::reverse_push))]
 fn opened(nest: Nest, count: u32, last: Symbol) -> Result<Nest, NoMemory>
     requires few { nest.around + count ≤ 66 }
@@ -67,7 +67,7 @@ fn opened(nest: Nest, count: u32, last: Symbol) -> Result<Nest, NoMemory>
     })
 }
 
-/// The last open bracket closes, if there is one.
+/// The count after the last open bracket closes, if there is one.
 #[tactic(auto, using(crate::proofs::Nests::reverse_push))]
 fn closed(nest: Nest, count: u32, last: Symbol) -> Nest
     ensures { nest_of result ≡ spec.closed (nest_of nest).outer count last }
@@ -94,7 +94,7 @@ fn closed(nest: Nest, count: u32, last: Symbol) -> Nest
     }
 }
 
-/// Another innermost count.
+/// The count with a new innermost count.
 fn counted(nest: Nest, inner: u32, last: Symbol) -> Nest
     ensures { nest_of result ≡ record { inner = inner; outer = (nest_of nest).outer; last = last } }
 {
@@ -112,7 +112,7 @@ fn counted(nest: Nest, inner: u32, last: Symbol) -> Nest
     }
 }
 
-/// One more token.
+/// The count after one more token.
 pub fn step(nest: Nest, symbol: Symbol) -> Result<Nest, NoMemory>
     requires { spec.depth (nest_of nest) ≤ 64 }
     ensures steps { IfOk result (λ n. nest_of n ≡ spec.nest_step (nest_of nest) symbol) }

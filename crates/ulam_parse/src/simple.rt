@@ -9,18 +9,18 @@ ghost use Rattle.ulam_parse.specs.Statements as spec;
 ghost use Rattle.ulam_parse.specs.Views.{Gives, from};
 
 use crate::expr::{args, expr};
-use crate::halt::Stop;
+use crate::halt::Halt;
 use crate::symbol::{Assigning, Symbol};
 use crate::tables::assigning_of;
 use crate::take::{count_from, expect, mark_at, sees, sees_second, word};
 use crate::tape::Tape;
 use crate::types::{path, type_ref};
-use std::alloc::{AllocError, Global};
+use std::alloc::Global;
 use ulam_tree::{Call, Cond, Expr, Left, Path, Statement};
 
 /// What an `if` asks.
 #[tactic(auto, unfolding(crate::specs::Statements::cond))]
-pub fn cond(alloc: Global, tape: &Tape, at: usize) -> Result<(Cond, usize), Stop>
+pub fn cond(alloc: Global, tape: &Tape, at: usize) -> Result<(Cond, usize), Halt>
     ensures { Gives (λ x. (cond_of x.0, from tape.now x.1)) result (spec.cond (from tape.now at)) }
 {
     if sees(Symbol::Name, tape, at) && sees_second(Symbol::As, tape, at) {
@@ -42,16 +42,17 @@ pub fn cond(alloc: Global, tape: &Tape, at: usize) -> Result<(Cond, usize), Stop
     }
 }
 
-/// The index in square brackets that may stand behind a path.
+/// The index in square brackets after a path, if there is one.
 #[tactic(auto, unfolding(crate::specs::Statements::index_in))]
-fn index_in(alloc: Global, tape: &Tape, at: usize) -> Result<(Option<Box<Expr>>, usize), Stop>
+fn index_in(alloc: Global, tape: &Tape, at: usize) -> Result<(Option<Box<Expr>>, usize), Halt>
     ensures { Gives (λ x. (option_map (λ (b : Box Expr). expr_of (box_value b)) x.0, from tape.now x.1)) result (spec.index_in (from tape.now at)) }
 {
     if sees(Symbol::OpenBracket, tape, at) {
         let (_, next) = expect(Symbol::OpenBracket, tape, at)?;
         let (value, next) = expr(alloc, 1, tape, next)?;
+        let value = Box::new(alloc, value)?;
         let (_, next) = expect(Symbol::CloseBracket, tape, next)?;
-        Ok((Some(Box::new(alloc, value)?), next))
+        Ok((Some(value), next))
     } else {
         Ok((None, at))
     }
@@ -59,7 +60,7 @@ fn index_in(alloc: Global, tape: &Tape, at: usize) -> Result<(Option<Box<Expr>>,
 
 /// What is assigned to.
 #[tactic(auto, unfolding(crate::specs::Statements::left))]
-fn left_side(alloc: Global, tape: &Tape, at: usize) -> Result<(Left, usize), Stop>
+fn left_side(alloc: Global, tape: &Tape, at: usize) -> Result<(Left, usize), Halt>
     ensures { Gives (λ x. (left_of x.0, from tape.now x.1)) result (spec.left (from tape.now at)) }
 {
     let (path, next) = path(alloc, tape, at)?;
@@ -69,7 +70,7 @@ fn left_side(alloc: Global, tape: &Tape, at: usize) -> Result<(Left, usize), Sto
 
 /// An expression, unless `;` comes first.
 #[tactic(auto, unfolding(crate::specs::Statements::maybe))]
-pub fn maybe(alloc: Global, tape: &Tape, at: usize) -> Result<(Option<Expr>, usize), Stop>
+pub fn maybe(alloc: Global, tape: &Tape, at: usize) -> Result<(Option<Expr>, usize), Halt>
     ensures { Gives (λ x. (option_map expr_of x.0, from tape.now x.1)) result (spec.maybe (from tape.now at)) }
 {
     if sees(Symbol::Semi, tape, at) {
@@ -79,9 +80,9 @@ pub fn maybe(alloc: Global, tape: &Tape, at: usize) -> Result<(Option<Expr>, usi
     Ok((Some(value), next))
 }
 
-/// The value that a local may begin with.
+/// The initial value of a local, if there is one.
 #[tactic(auto, unfolding(crate::specs::Statements::start))]
-fn start(alloc: Global, tape: &Tape, at: usize) -> Result<(Option<Expr>, usize), Stop>
+fn start(alloc: Global, tape: &Tape, at: usize) -> Result<(Option<Expr>, usize), Halt>
     ensures { Gives (λ x. (option_map expr_of x.0, from tape.now x.1)) result (spec.start (from tape.now at)) }
 {
     if sees(Symbol::Set, tape, at) {
@@ -95,7 +96,7 @@ fn start(alloc: Global, tape: &Tape, at: usize) -> Result<(Option<Expr>, usize),
 
 /// The declaration of a local.
 #[tactic(auto, unfolding(crate::specs::Statements::declare))]
-pub fn declare(alloc: Global, tape: &Tape, at: usize) -> Result<(Statement, usize), Stop>
+pub fn declare(alloc: Global, tape: &Tape, at: usize) -> Result<(Statement, usize), Halt>
     ensures { Gives (λ x. (statement_of x.0, from tape.now x.1)) result (spec.declare (from tape.now at)) }
 {
     let (of, next) = type_ref(alloc, tape, at)?;
@@ -105,13 +106,13 @@ pub fn declare(alloc: Global, tape: &Tape, at: usize) -> Result<(Statement, usiz
     Ok((Statement::Declare { of, word, value }, next))
 }
 
-/// What is done to a place.
+/// The rest of an assignment or a count, after its left side.
 #[tactic(auto, unfolding(crate::specs::Statements::assign))]
-fn assign(alloc: Global, left: Left, tape: &Tape, at: usize) -> Result<(Statement, usize), Stop>
+fn assign(alloc: Global, left: Left, tape: &Tape, at: usize) -> Result<(Statement, usize), Halt>
     ensures { Gives (λ x. (statement_of x.0, from tape.now x.1)) result (spec.assign (left_of left) (from tape.now at)) }
 {
     let Some(sign) = mark_at(tape, at) else {
-        return Err(Stop::Left(0));
+        return Err(Halt::Left(0));
     };
     match assigning_of(sign.symbol) {
         Assigning::Assigns(op) => {
@@ -119,18 +120,18 @@ fn assign(alloc: Global, left: Left, tape: &Tape, at: usize) -> Result<(Statemen
             Ok((Statement::Assign { left, op, value }, next))
         }
         Assigning::Counts(up) => Ok((Statement::Count { left, up }, at + 1)),
-        Assigning::Nothing => Err(Stop::Left(count_from(tape, at))),
+        Assigning::Nothing => Err(Halt::Left(count_from(tape, at))),
     }
 }
 
-/// A call, or what is done to a place, behind its path.
+/// The rest of a call, an assignment or a count, after its path.
 #[tactic(auto, unfolding(crate::specs::Statements::after_names))]
 fn after_names(
     alloc: Global,
     path: Path,
     tape: &Tape,
     at: usize,
-) -> Result<(Statement, usize), Stop>
+) -> Result<(Statement, usize), Halt>
     ensures { Gives (λ x. (statement_of x.0, from tape.now x.1)) result (spec.after_names (path_of path) (from tape.now at)) }
 {
     if sees(Symbol::OpenParen, tape, at) {
@@ -144,7 +145,7 @@ fn after_names(
     }
 }
 
-/// A place behind its `++` or `--`.
+/// The left side of a count, after its `++` or `--`.
 #[tactic(auto, unfolding(crate::specs::Statements::counted))]
 fn counted(
     alloc: Global,
@@ -152,7 +153,7 @@ fn counted(
     up: bool,
     tape: &Tape,
     at: usize,
-) -> Result<(Statement, usize), Stop>
+) -> Result<(Statement, usize), Halt>
     ensures { Gives (λ x. (statement_of x.0, from tape.now x.1)) result (spec.counted sign up (from tape.now at)) }
 {
     let (_, next) = expect(sign, tape, at)?;
@@ -162,7 +163,7 @@ fn counted(
 
 /// An assignment, a count or a call.
 #[tactic(auto, unfolding(crate::specs::Statements::simple))]
-pub fn simple(alloc: Global, tape: &Tape, at: usize) -> Result<(Statement, usize), Stop>
+pub fn simple(alloc: Global, tape: &Tape, at: usize) -> Result<(Statement, usize), Halt>
     ensures { Gives (λ x. (statement_of x.0, from tape.now x.1)) result (spec.simple (from tape.now at)) }
 {
     if sees(Symbol::PlusPlus, tape, at) {

@@ -1,13 +1,11 @@
 //! Statements.
-ghost use Rattle.std.specs.Prelude.{◌≡◌, ◌+◌, ◌<◌, length, option_map, Some, IfOk};
-ghost use Rattle.ulam_tree.specs.Raw as t;
-ghost use Rattle.ulam_tree.specs.RawViews.{expr_of, cond_of, statement_of, part_alone, body_list};
-ghost use Rattle.ulam_parse.specs.Heads.{head_of};
+ghost use Rattle.std.specs.Prelude.{◌≡◌, ◌+◌, ◌<◌, length};
+ghost use Rattle.ulam_tree.specs.RawViews.{statement_of, part_alone, body_list};
 ghost use Rattle.ulam_parse.specs.Statements as spec;
 ghost use Rattle.ulam_parse.specs.Views.{Gives, from};
 
 use crate::for_parts::ForParts;
-use crate::halt::Stop;
+use crate::halt::Halt;
 use crate::head::{for_head, if_head, while_head};
 use crate::simple::{declare, maybe, simple};
 use crate::symbol::{Starting, Symbol};
@@ -15,71 +13,26 @@ use crate::tables::starting_of;
 use crate::take::{count_from, expect, mark_at, sees};
 use crate::tape::Tape;
 use feast_base::Place;
-use std::alloc::{AllocError, Global};
-use ulam_tree::{Cond, Expr, Statement};
+use std::alloc::Global;
+use ulam_tree::{Statement, raw_build as build};
 
-/// Statements in braces.
-#[tactic(auto, using(ulam_tree::proofs::RawRows::block_is))]
-fn block(body: Vec<Statement>) -> Statement
-    ensures { statement_of result ≡ t.block (body_list body.items) }
-{
-    Statement::Block { body }
-}
-
-/// An `if`.
-#[tactic(auto, using(ulam_tree::proofs::RawRows::if_is))]
-fn if_so(
-    alloc: Global,
-    cond: Cond,
-    yes: Statement,
-    no: Option<Box<Statement>>,
-) -> Result<Statement, AllocError>
-    ensures { IfOk result (λ x. statement_of x ≡ t.if_so (cond_of cond) (statement_of yes) (part_alone no)) }
-{
-    let yes = Box::new(alloc, yes)?;
-    Ok(Statement::If { cond, yes, no })
-}
-
-/// A `while`.
-fn while_so(alloc: Global, cond: Expr, body: Statement) -> Result<Statement, AllocError>
-    ensures { IfOk result (λ x. statement_of x ≡ t.while_so (expr_of cond) (statement_of body)) }
-{
-    let body = Box::new(alloc, body)?;
-    Ok(Statement::While { cond, body })
-}
-
-/// A `for`.
-#[tactic(auto, using(ulam_tree::proofs::RawRows::for_is))]
-fn for_all(alloc: Global, head: ForParts, body: Statement) -> Result<Statement, AllocError>
-    ensures { IfOk result (λ x. statement_of x ≡ t.for_all (part_alone head.first) (option_map expr_of head.cond) (part_alone head.step) (statement_of body)) }
-{
-    let ForParts { first, cond, step } = head;
-    let body = Box::new(alloc, body)?;
-    Ok(Statement::For {
-        first,
-        cond,
-        step,
-        body,
-    })
-}
-
-/// `;` behind a statement.
+/// The `;` after a statement.
 #[tactic(auto, unfolding(crate::specs::Statements::ended))]
-fn ended(statement: Statement, tape: &Tape, at: usize) -> Result<(Statement, usize), Stop>
+fn ended(statement: Statement, tape: &Tape, at: usize) -> Result<(Statement, usize), Halt>
     ensures { Gives (λ x. (statement_of x.0, from tape.now x.1)) result (spec.ended (statement_of statement) (from tape.now at)) }
 {
     let (_, next) = expect(Symbol::Semi, tape, at)?;
     Ok((statement, next))
 }
 
-/// What stands behind `return`.
+/// The rest of a `return`.
 #[tactic(auto, unfolding(crate::specs::Statements::return_rest))]
 fn return_rest(
     alloc: Global,
     place: Place,
     tape: &Tape,
     at: usize,
-) -> Result<(Statement, usize), Stop>
+) -> Result<(Statement, usize), Halt>
     ensures { Gives (λ x. (statement_of x.0, from tape.now x.1)) result (spec.return_rest place (from tape.now at)) }
 {
     let (value, next) = maybe(alloc, tape, at)?;
@@ -87,7 +40,7 @@ fn return_rest(
 }
 
 /// A declaration and its `;`.
-fn declared(alloc: Global, tape: &Tape, at: usize) -> Result<(Statement, usize), Stop>
+fn declared(alloc: Global, tape: &Tape, at: usize) -> Result<(Statement, usize), Halt>
     ensures { Gives (λ x. (statement_of x.0, from tape.now x.1)) result (spec.declared (from tape.now at)) }
 {
     let (statement, next) = declare(alloc, tape, at)?;
@@ -95,14 +48,14 @@ fn declared(alloc: Global, tape: &Tape, at: usize) -> Result<(Statement, usize),
 }
 
 /// An assignment, a count or a call, and its `;`.
-fn done(alloc: Global, tape: &Tape, at: usize) -> Result<(Statement, usize), Stop>
+fn done(alloc: Global, tape: &Tape, at: usize) -> Result<(Statement, usize), Halt>
     ensures { Gives (λ x. (statement_of x.0, from tape.now x.1)) result (spec.done (from tape.now at)) }
 {
     let (statement, next) = simple(alloc, tape, at)?;
     ended(statement, tape, next)
 }
 
-/// A statement, by fewer steps than a number of them.
+/// A statement, read in fewer than `steps` steps.
 #[cycle(statement)]
 #[tactic(auto, using(crate::proofs::Steps::statement_steps))]
 fn statement_in(
@@ -110,11 +63,11 @@ fn statement_in(
     steps: usize,
     tape: &Tape,
     at: usize,
-) -> Result<(Statement, usize), Stop>
+) -> Result<(Statement, usize), Halt>
     ensures { Gives (λ x. (statement_of x.0, from tape.now x.1)) result (spec.statement_in steps (from tape.now at)) }
 {
     if steps == 0 {
-        return Err(Stop::Tired);
+        return Err(Halt::OutOfSteps);
     }
     any_statement(alloc, steps - 1, tape, at)
 }
@@ -127,11 +80,11 @@ fn any_statement(
     steps: usize,
     tape: &Tape,
     at: usize,
-) -> Result<(Statement, usize), Stop>
+) -> Result<(Statement, usize), Halt>
     ensures { Gives (λ x. (statement_of x.0, from tape.now x.1)) result (spec.any_statement (spec.statement_in steps) (from tape.now at)) }
 {
     let Some(first) = mark_at(tape, at) else {
-        return Err(Stop::Left(0));
+        return Err(Halt::Left(0));
     };
     let place = first.place;
     match starting_of(first.symbol) {
@@ -145,11 +98,11 @@ fn any_statement(
         Starting::Continue => ended(Statement::Continue { place }, tape, at + 1),
         Starting::Declare => declared(alloc, tape, at),
         Starting::Simple => done(alloc, tape, at),
-        Starting::Nothing => Err(Stop::Left(count_from(tape, at))),
+        Starting::Nothing => Err(Halt::Left(count_from(tape, at))),
     }
 }
 
-/// What stands behind the brace that opens a block.
+/// The rest of a block.
 #[cycle(statement)]
 #[tactic(auto, unfolding(crate::specs::Statements::block_rest))]
 fn block_rest(
@@ -157,27 +110,28 @@ fn block_rest(
     steps: usize,
     tape: &Tape,
     at: usize,
-) -> Result<(Statement, usize), Stop>
+) -> Result<(Statement, usize), Halt>
     ensures { Gives (λ x. (statement_of x.0, from tape.now x.1)) result (spec.block_rest (spec.statement_in steps) (from tape.now at)) }
 {
     let mut body = Vec::new(alloc);
     let next = body_in(alloc, steps, &mut body, tape, at)?;
-    Ok((block(body), next))
+    Ok((build::block(body), next))
 }
 
-/// What stands behind `if`.
+/// The rest of an `if`.
 #[cycle(statement)]
 #[tactic(auto, unfolding(crate::specs::Statements::if_rest))]
-fn if_rest(alloc: Global, steps: usize, tape: &Tape, at: usize) -> Result<(Statement, usize), Stop>
+fn if_rest(alloc: Global, steps: usize, tape: &Tape, at: usize) -> Result<(Statement, usize), Halt>
     ensures { Gives (λ x. (statement_of x.0, from tape.now x.1)) result (spec.if_rest (spec.statement_in steps) (from tape.now at)) }
 {
     let (cond, next) = if_head(alloc, tape, at)?;
     let (yes, next) = statement_in(alloc, steps, tape, next)?;
+    let yes = Box::new(alloc, yes)?;
     let (no, next) = else_part(alloc, steps, tape, next)?;
-    Ok((if_so(alloc, cond, yes, no)?, next))
+    Ok((build::if_so(cond, yes, no), next))
 }
 
-/// The `else` that may stand behind the part of an `if`.
+/// The `else` of an `if`, if there is one.
 #[cycle(statement)]
 #[tactic(auto, unfolding(crate::specs::Statements::else_part))]
 fn else_part(
@@ -185,7 +139,7 @@ fn else_part(
     steps: usize,
     tape: &Tape,
     at: usize,
-) -> Result<(Option<Box<Statement>>, usize), Stop>
+) -> Result<(Option<Box<Statement>>, usize), Halt>
     ensures { Gives (λ x. (part_alone x.0, from tape.now x.1)) result (spec.else_part (spec.statement_in steps) (from tape.now at)) }
 {
     if sees(Symbol::Else, tape, at) {
@@ -197,7 +151,7 @@ fn else_part(
     }
 }
 
-/// What stands behind `while`.
+/// The rest of a `while`.
 #[cycle(statement)]
 #[tactic(auto, unfolding(crate::specs::Statements::while_rest))]
 fn while_rest(
@@ -205,26 +159,29 @@ fn while_rest(
     steps: usize,
     tape: &Tape,
     at: usize,
-) -> Result<(Statement, usize), Stop>
+) -> Result<(Statement, usize), Halt>
     ensures { Gives (λ x. (statement_of x.0, from tape.now x.1)) result (spec.while_rest (spec.statement_in steps) (from tape.now at)) }
 {
     let (cond, next) = while_head(alloc, tape, at)?;
     let (body, next) = statement_in(alloc, steps, tape, next)?;
-    Ok((while_so(alloc, cond, body)?, next))
+    let body = Box::new(alloc, body)?;
+    Ok((Statement::While { cond, body }, next))
 }
 
-/// What stands behind `for`.
+/// The rest of a `for`.
 #[cycle(statement)]
 #[tactic(auto, unfolding(crate::specs::Statements::for_rest))]
-fn for_rest(alloc: Global, steps: usize, tape: &Tape, at: usize) -> Result<(Statement, usize), Stop>
+fn for_rest(alloc: Global, steps: usize, tape: &Tape, at: usize) -> Result<(Statement, usize), Halt>
     ensures { Gives (λ x. (statement_of x.0, from tape.now x.1)) result (spec.for_rest (spec.statement_in steps) (from tape.now at)) }
 {
     let (head, next) = for_head(alloc, tape, at)?;
     let (body, next) = statement_in(alloc, steps, tape, next)?;
-    Ok((for_all(alloc, head, body)?, next))
+    let body = Box::new(alloc, body)?;
+    let ForParts { first, cond, step } = head;
+    Ok((build::for_all(first, cond, step, body), next))
 }
 
-/// Statements, each behind those that are there, and the closing brace.
+/// Statements, appended to `found`, and the closing brace.
 #[cycle(statement)]
 fn body_in(
     alloc: Global,
@@ -232,7 +189,7 @@ fn body_in(
     found: &mut Vec<Statement>,
     tape: &Tape,
     at: usize,
-) -> Result<usize, Stop>
+) -> Result<usize, Halt>
     ensures { Gives (λ x. (body_list found.new.items, from tape.now x)) result (spec.with_body (body_list found.old.items) (spec.body (spec.statement_in steps) (length (from tape.now at) + 1) (from tape.now at))) }
 {
     let mut next = at;
@@ -245,11 +202,11 @@ fn body_in(
         found.push(statement)?;
         next = behind;
     }
-    Err(Stop::Tired)
+    Err(Halt::OutOfSteps)
 }
 
 /// The statements of a function and the closing brace.
-pub fn whole_body(alloc: Global, tape: &Tape, at: usize) -> Result<(Vec<Statement>, usize), Stop>
+pub fn whole_body(alloc: Global, tape: &Tape, at: usize) -> Result<(Vec<Statement>, usize), Halt>
     ensures { Gives (λ x. (body_list x.0.items, from tape.now x.1)) result (spec.whole_body (from tape.now at)) }
 {
     let mut body = Vec::new(alloc);

@@ -139,14 +139,14 @@ pub enum Symbol {
     SetShiftRight,
 }
 
-/// What a symbol does with an expression that stands before it.
+/// What a symbol does with the expression before it.
 #[derive(Clone, Copy, Debug, PartialEq, Eq)]
 pub enum Infix {
     /// It joins it with another.
     Joins(PairOp),
     /// It asks for its class.
     Tests,
-    /// It goes on with a path.
+    /// It continues a path.
     Opens,
     /// It ends it.
     Ends,
@@ -178,7 +178,7 @@ pub enum Opening {
 pub enum Assigning {
     /// It assigns to it, by an operator or without.
     Assigns(Option<PairOp>),
-    /// It counts it up or down. It may also stand on the other side.
+    /// It counts it up or down. It may also be on the right.
     Counts(bool),
     /// Neither.
     Nothing,

@@ -6,7 +6,7 @@ ghost use Rattle.ulam_parse.specs.Tables as table;
 use crate::symbol::{Assigning, Infix, Opening, Starting, Symbol, Weight};
 use ulam_tree::{PairOp, PrefixOp};
 
-/// What a symbol does with an expression that stands before it.
+/// What a symbol does with the expression before it.
 pub fn infix_of(symbol: Symbol) -> Infix
     ensures { result ≡ table.infix_of symbol }
 {
@@ -35,7 +35,7 @@ pub fn infix_of(symbol: Symbol) -> Infix
     }
 }
 
-/// The level of an operator: the greater, the tighter.
+/// The level of an operator. A higher level binds more tightly.
 pub fn level(op: PairOp) -> u8
     ensures value { result ≡ table.level op }
     ensures small { result < 12 }

@@ -7,7 +7,7 @@ ghost use Rattle.ulam_parse.specs.Marks.{text_at, tok_at, word_at, IsMark};
 ghost use Rattle.ulam_parse.specs.Views.{Gives, from};
 ghost use Rattle.ulam_parse.specs.declared.symbol.Symbol.TheVariants.{Number};
 
-use crate::halt::Stop;
+use crate::halt::Halt;
 use crate::mark::Mark;
 use crate::symbol::Symbol;
 use crate::tape::Tape;
@@ -23,7 +23,7 @@ pub fn same(a: Symbol, b: Symbol) -> bool
     a == b
 }
 
-/// How many tokens there are from a place on.
+/// The number of tokens from an index to the end.
 pub fn count_from(tape: &Tape, at: usize) -> usize
     ensures count { result ≡ length (from tape.now at) }
     ensures small { result < 2 ^ 63 }
@@ -31,7 +31,7 @@ pub fn count_from(tape: &Tape, at: usize) -> usize
     tape.marks.len().saturating_sub(at)
 }
 
-/// The token at a place.
+/// The token at an index.
 pub fn mark_at(tape: &Tape, at: usize) -> Option<Mark>
     ensures some { IfSome result (λ m. from tape.now at ≡ tok_at tape.now.bytes.now m ∷ from tape.now (at + 1)) }
     ensures sound { IfSome result (λ m. IsMark tape.now.bytes.now m) }
@@ -45,7 +45,7 @@ pub fn mark_at(tape: &Tape, at: usize) -> Option<Mark>
     }
 }
 
-/// Whether the token at a place is of this symbol.
+/// Whether the token at an index has this symbol.
 pub fn sees(symbol: Symbol, tape: &Tape, at: usize) -> bool
     ensures { result ≡ spec.sees symbol (from tape.now at) }
 {
@@ -55,7 +55,7 @@ pub fn sees(symbol: Symbol, tape: &Tape, at: usize) -> bool
     }
 }
 
-/// Whether the token behind that at a place is of this symbol.
+/// Whether the token after the one at an index has this symbol.
 pub fn sees_second(symbol: Symbol, tape: &Tape, at: usize) -> bool
     ensures { result ≡ spec.sees_second symbol (from tape.now at) }
 {
@@ -65,8 +65,8 @@ pub fn sees_second(symbol: Symbol, tape: &Tape, at: usize) -> bool
     }
 }
 
-/// A token of this symbol.
-pub fn expect(symbol: Symbol, tape: &Tape, at: usize) -> Result<(Mark, usize), Stop>
+/// A token with this symbol.
+pub fn expect(symbol: Symbol, tape: &Tape, at: usize) -> Result<(Mark, usize), Halt>
     ensures gives { Gives (λ x. (word_at tape.now.bytes.now x.0, from tape.now x.1)) result (spec.expect symbol (from tape.now at)) }
     ensures symbol { IfOk result (λ x. x.0.symbol ≡ symbol) }
     ensures sound { IfOk result (λ x. IsMark tape.now.bytes.now x.0) }
@@ -76,14 +76,14 @@ pub fn expect(symbol: Symbol, tape: &Tape, at: usize) -> Result<(Mark, usize), S
             if same(first.symbol, symbol) {
                 Ok((first, at + 1))
             } else {
-                Err(Stop::Left(count_from(tape, at)))
+                Err(Halt::Left(count_from(tape, at)))
             }
         }
-        None => Err(Stop::Left(0)),
+        None => Err(Halt::Left(0)),
     }
 }
 
-/// The word that a token is.
+/// The word of a token.
 pub fn word(alloc: Global, tape: &Tape, mark: Mark) -> Result<Word, NoMemory>
     requires { IsMark tape.now.bytes.now mark }
     ensures { IfOk result (λ w. word_of w ≡ word_at tape.now.bytes.now mark) }

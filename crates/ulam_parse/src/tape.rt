@@ -4,7 +4,7 @@ ghost use Rattle.ulam_parse.specs.Marks.{IsMark};
 
 use crate::mark::Mark;
 
-/// A text with its tokens. A place on it is the index of a token, or their number.
+/// A text with its tokens. A position is the index of a token, or the number of tokens at the end.
 #[derive(Clone, Copy)]
 pub struct Tape<'t> {
     pub bytes: &'t [u8],

@@ -4,7 +4,7 @@ ghost use Rattle.ulam_tree.specs.RawViews.{word_of, width_of, type_of, path_of};
 ghost use Rattle.ulam_parse.specs.Reading as spec;
 ghost use Rattle.ulam_parse.specs.Views.{Gives, from};
 
-use crate::halt::Stop;
+use crate::halt::Halt;
 use crate::symbol::Symbol;
 use crate::take::{count_from, expect, sees, word};
 use crate::tape::Tape;
@@ -13,7 +13,7 @@ use ulam_tree::{Path, TypeRef, Width, Word};
 
 /// A width.
 #[tactic(auto, unfolding(crate::specs::Reading::width))]
-pub fn width(alloc: Global, tape: &Tape, at: usize) -> Result<(Width, usize), Stop>
+pub fn width(alloc: Global, tape: &Tape, at: usize) -> Result<(Width, usize), Halt>
     ensures { Gives (λ x. (width_of x.0, from tape.now x.1)) result (spec.width (from tape.now at)) }
 {
     if sees(Symbol::Number, tape, at) {
@@ -34,7 +34,7 @@ pub fn enclosed(
     behind: Symbol,
     tape: &Tape,
     at: usize,
-) -> Result<(Option<Width>, usize), Stop>
+) -> Result<(Option<Width>, usize), Halt>
     ensures { Gives (λ x. (option_map width_of x.0, from tape.now x.1)) result (spec.enclosed before behind (from tape.now at)) }
 {
     let (_, next) = expect(before, tape, at)?;
@@ -43,9 +43,9 @@ pub fn enclosed(
     Ok((Some(width), next))
 }
 
-/// The width in brackets that may stand behind the name of a type.
+/// The width in brackets after the name of a type, if there is one.
 #[tactic(auto, unfolding(crate::specs::Reading::size))]
-fn size(alloc: Global, tape: &Tape, at: usize) -> Result<(Option<Width>, usize), Stop>
+fn size(alloc: Global, tape: &Tape, at: usize) -> Result<(Option<Width>, usize), Halt>
     ensures { Gives (λ x. (option_map width_of x.0, from tape.now x.1)) result (spec.size (from tape.now at)) }
 {
     if sees(Symbol::OpenParen, tape, at) {
@@ -57,7 +57,7 @@ fn size(alloc: Global, tape: &Tape, at: usize) -> Result<(Option<Width>, usize),
 
 /// A type.
 #[tactic(auto, unfolding(crate::specs::Reading::type_ref))]
-pub fn type_ref(alloc: Global, tape: &Tape, at: usize) -> Result<(TypeRef, usize), Stop>
+pub fn type_ref(alloc: Global, tape: &Tape, at: usize) -> Result<(TypeRef, usize), Halt>
     ensures { Gives (λ x. (type_of x.0, from tape.now x.1)) result (spec.type_ref (from tape.now at)) }
 {
     let (mark, next) = expect(Symbol::TypeName, tape, at)?;
@@ -66,8 +66,8 @@ pub fn type_ref(alloc: Global, tape: &Tape, at: usize) -> Result<(TypeRef, usize
     Ok((TypeRef { word, width }, next))
 }
 
-/// The names behind dots, each behind those that are there.
-fn words_after(alloc: Global, words: &mut Vec<Word>, tape: &Tape, at: usize) -> Result<usize, Stop>
+/// The names after dots, appended to those read so far.
+fn words_after(alloc: Global, words: &mut Vec<Word>, tape: &Tape, at: usize) -> Result<usize, Halt>
     ensures { Gives (λ x. (map word_of words.new.items, from tape.now x)) result (spec.with_words (map word_of words.old.items) (spec.words_after (from tape.now at))) }
 {
     let mut next = at;
@@ -80,12 +80,12 @@ fn words_after(alloc: Global, words: &mut Vec<Word>, tape: &Tape, at: usize) -> 
         words.push(word(alloc, tape, mark)?)?;
         next = behind;
     }
-    Err(Stop::Tired)
+    Err(Halt::OutOfSteps)
 }
 
 /// A path.
 #[tactic(auto, unfolding(crate::specs::Reading::path))]
-pub fn path(alloc: Global, tape: &Tape, at: usize) -> Result<(Path, usize), Stop>
+pub fn path(alloc: Global, tape: &Tape, at: usize) -> Result<(Path, usize), Halt>
     ensures { Gives (λ x. (path_of x.0, from tape.now x.1)) result (spec.path (from tape.now at)) }
 {
     let mut words = Vec::new(alloc);

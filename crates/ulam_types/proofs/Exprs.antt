@@ -7,12 +7,14 @@ use Rattle.ulam_tree.specs.declared.resolved.Ty.{Ty}
 use Rattle.ulam_tree.specs.Resolved as r
 use Rattle.ulam_tree.specs.Typed as t
 use Rattle.ulam_types.specs.declared.scope.Want.{Want}
-use Rattle.ulam_types.specs.Faults.{Found, found, must}
+use Rattle.ulam_tree.specs.Found.{found, must}
+use Rattle.ulam_types.specs.Faults.{Found}
 use Rattle.ulam_types.specs.Scopes.{Scope, Callee, is_value, value_type, item_type, callee, wants_of}
 use Rattle.ulam_types.specs.Rows.{beside, plain_fits, pair_type, prefix_type, cast_type, is_atom, is_species, is_index, taken_want, all_suit, is_built, result_of}
 use Rattle.ulam_types.specs.Walk.{plain, count, operands, arguments, called_by, call_value, index_by, expr, args}
 use Rattle.ulam_types.specs.Typing.{IsCalled, IsTyped, AreTyped}
-use Rattle.ulam_types.proofs.Means.{Means, means_is, means_then, means_found, means_must, means_at, operands_fit, operands_mean}
+use Rattle.ulam_tree.proofs.Means.{Means, means_is, means_then, means_found, means_must, means_at}
+use Rattle.ulam_types.proofs.Operands.{operands_fit, operands_mean}
 
 -- only a plain number asks for the kind
 pub expr_any : (g : Scope) (e : r.Expr) → plain e ≡ false → (v w : Kind) → expr g v e ≡ expr g w e

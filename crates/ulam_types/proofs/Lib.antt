@@ -4,7 +4,7 @@ pub mod Classes
 pub mod Exprs
 pub mod Fails
 pub mod Lists
-pub mod Means
+pub mod Operands
 pub mod Programs
 pub mod Slots
 pub mod Statements

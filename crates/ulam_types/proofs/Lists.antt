@@ -1,12 +1,12 @@
 -- One more at the end of a list.
-use Rattle.std.proofs.Common.{◌≡◌, ℕ, ◌+◌, refl, sym, ap, ◌∙◌, List, [], ◌∷◌, ◌++◌, map, Ok, Err, append_assoc}
+use Rattle.std.proofs.Common.{◌≡◌, ℕ, ◌+◌, refl, sym, ap, ◌∙◌, List, [], ◌∷◌, ◌++◌, map, Ok, append_assoc}
 use Rattle.std.proofs.lemmas.List.{map-append}
 use Rattle.ulam_tree.specs.Resolved as r
 use Rattle.ulam_tree.specs.Typed as t
-use Rattle.ulam_types.specs.Faults.{Found, ◌>>=◌}
+use Rattle.ulam_tree.specs.Found.{with_front}
 use Rattle.ulam_types.specs.Scopes.{ClassSig}
 use Rattle.ulam_types.specs.Programs as p
-use Rattle.ulam_types.specs.Shown.{with_front}
+use Rattle.ulam_tree.proofs.Means.{front_on}
 
 module _ {X Y : Type 0} (view : X → Y) where
   pub one_more : (front more : List X) (x : X) (y : Y) (rest : List Y) → more ≡ front ++ (x ∷ []) → view x ≡ y → map view front ++ (y ∷ rest) ≡ map view more ++ rest
@@ -14,10 +14,6 @@ module _ {X Y : Type 0} (view : X → Y) where
       ap (λ z. map view front ++ (z ∷ rest)) (sym h)
       ∙ sym (append_assoc (map view front) (view x ∷ []) rest)
       ∙ ap (λ zs. zs ++ rest) (sym (ap (map view) e ∙ map-append view front (x ∷ [])))
-
-front_on : {A : Type 0} (front : List A) (a : A) (y : Found (List A)) → with_front front (y >>= λ (more : List A). Ok (a ∷ more)) ≡ with_front (front ++ (a ∷ [])) y
-front_on front a (Ok more) = ap Ok (sym (append_assoc front (a ∷ []) more))
-front_on front a (Err f) = refl
 
 pub member_on : (sigs : List ClassSig) (k : ℕ) (front : List t.Member) (m : r.Member) (ms : List r.Member) (a : t.Member) → p.member sigs k m ≡ Ok a →
     with_front front (p.members sigs k (m ∷ ms)) ≡ with_front (front ++ (a ∷ [])) (p.members sigs k ms)

@@ -1,41 +1,12 @@
--- Steps that may find a fault: what holds where they find none.
-use Rattle.std.proofs.Common.{◌≡◌, Bool, true, false, Option, Some, None, Ok, Err, refl, ap, sym, ◌∙◌, subst}
+-- The operands of an operator.
+use Rattle.std.proofs.Common.{◌≡◌, Bool, true, false, Ok, refl, ◌∙◌}
 use Rattle.sat_math.specs.declared.Kind.{Kind}
 use Rattle.sat_math.specs.declared.Kind.TheVariants as k
 use Rattle.ulam_tree.specs.Typed as t
-use Rattle.ulam_types.specs.Faults.{Fault, Found, ◌>>=◌, found, must}
+use Rattle.ulam_types.specs.Faults.{Found}
 use Rattle.ulam_types.specs.Rows.{taken, beside}
 use Rattle.ulam_types.specs.Walk.{operands}
-
--- where something is found, this holds of it
-abbrev pub Means : {A : Type 0} → (A → Type 0) → Found A → Type 0
-Means Q (Ok x) = Q x
-Means Q (Err f) = Unit {0}
-
-pub means_is : {A : Type 0} (x : Found A) → Means (λ a. x ≡ Ok a) x
-means_is (Ok a) = refl
-means_is (Err f) = tt
-
-pub means_then : {A B : Type 0} (P : A → Type 0) (Q : B → Type 0) (x : Found A) (f : A → Found B) → Means P x → ((a : A) → P a → Means Q (f a)) → Means Q (x >>= f)
-means_then P Q (Ok a) f h k = k a h
-means_then P Q (Err e) f h k = tt
-
-pub means_found : {A B : Type 0} (Q : B → Type 0) (o : Option A) (e : Fault) (f : A → Found B) → ((a : A) → o ≡ Some a → Means Q (f a)) → Means Q (found o e >>= f)
-means_found Q (Some a) e f k = k a refl
-means_found Q None e f k = tt
-
-pub means_must : {B : Type 0} (Q : B → Type 0) (b : Bool) (e : Fault) (f : Unit {0} → Found B) → (b ≡ true → Means Q (f tt)) → Means Q (must b e >>= f)
-means_must Q true e f k = k refl
-means_must Q false e f k = tt
-
--- what is found
-pub means_at : {A : Type 0} (Q : A → Type 0) (x : Found A) (a : A) → Means Q x → x ≡ Ok a → Q a
-means_at Q x a h e = subst (Means Q) e h
-
-pub ok_same : {A : Type 0} {x y : A} (r : Found A) → r ≡ Ok x → r ≡ Ok y → x ≡ y
-ok_same r p q = cc
-
--- Operands
+use Rattle.ulam_tree.proofs.Means.{Means, means_is, means_then}
 
 pub operands_fit : (pl pr : Bool) (left right : Kind → Found t.Expr) (a b : t.Expr) → (pl ≡ false → (v w : Kind) → left v ≡ left w) →
     left (beside pr (t.ty_of b)) ≡ Ok a → right (beside pl (t.ty_of a)) ≡ Ok b → operands pl pr left right ≡ Ok (a, b)

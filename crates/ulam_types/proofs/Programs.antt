@@ -12,7 +12,7 @@ use Rattle.ulam_types.specs.Programs.{program}
 use Rattle.ulam_types.specs.ProgramTyping.{IsTypedProgram}
 use Rattle.ulam_types.specs.Shown.{Gives, Fails}
 use Rattle.ulam_types.specs.Well.{IsWellProgram}
-use Rattle.ulam_types.proofs.Means.{Means}
+use Rattle.ulam_tree.proofs.Means.{Means}
 use Rattle.ulam_types.proofs.Classes.{program_fits, program_means}
 use Rattle.ulam_types.proofs.WellPrograms.{program_well}
 

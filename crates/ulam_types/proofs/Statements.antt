@@ -7,14 +7,15 @@ use Rattle.ulam_tree.specs.declared.op.PairOp.{PairOp}
 use Rattle.ulam_tree.specs.declared.op.PairOp.TheVariants as op
 use Rattle.ulam_tree.specs.Resolved as r
 use Rattle.ulam_tree.specs.Typed as t
-use Rattle.ulam_types.specs.Faults.{Found, found, must}
+use Rattle.ulam_tree.specs.Found.{found, must}
+use Rattle.ulam_types.specs.Faults.{Found}
 use Rattle.ulam_types.specs.Scopes.{Scope, in_loop, is_value, target_type}
 use Rattle.ulam_types.specs.Rows.{taken, plain_type, pair_type, is_truth, is_void, assignable}
 use Rattle.ulam_types.specs.Walk.{plain, count, index_by, expr, args, call}
 use Rattle.ulam_types.specs.Bodies as b
 use Rattle.ulam_types.specs.Bodies.{atom_slot, is_element_type}
 use Rattle.ulam_types.specs.Typing.{IsTyped, AreTyped, IsCall, IsLeftBy, IsLeft, IsValueFor, IsAssigned, IsTest, IsMaybe, IsCond, IsResult, IsTypedStatement, IsTypedPart, IsTypedBody}
-use Rattle.ulam_types.proofs.Means.{Means, means_then, means_found, means_must}
+use Rattle.ulam_tree.proofs.Means.{Means, means_then, means_found, means_must}
 use Rattle.ulam_types.proofs.Exprs.{expr_fits, args_fit, called_fits, expr_means, args_mean, called_means, index_means}
 
 left_by_fits : (g : Scope) (x : r.Path) (e : Option r.Expr) (a : t.Left) (ty : Ty) → IsLeftBy g x e a ty → b.left_by g x e ≡ Ok (a, ty)

@@ -11,7 +11,8 @@ use Rattle.ulam_tree.specs.declared.op.PairOp.TheVariants as op
 use Rattle.std.specs.Prelude.{Bool}
 use Rattle.ulam_tree.specs.Resolved as r
 use Rattle.ulam_tree.specs.Typed as t
-use Rattle.ulam_types.specs.Faults.{wrong_type, not_assignable, bad_as, break_outside, Found, ◌>>=◌, found, must}
+use Rattle.ulam_tree.specs.Found.{◌>>=◌, found, must}
+use Rattle.ulam_types.specs.Faults.{wrong_type, not_assignable, bad_as, break_outside, Found}
 use Rattle.ulam_types.specs.Scopes.{Scope, in_loop, narrowed, is_element, is_value, target_type}
 use Rattle.ulam_types.specs.Rows.{taken, plain_type, pair_type, pair_fault, is_truth, is_void, assignable}
 use Rattle.ulam_types.specs.Walk.{plain, place_of, index_by, expr, call}

@@ -1,6 +1,6 @@
--- Why there is no typed tree, and steps that may find such a fault.
-use Rattle.std.specs.Prelude.{Option, Some, None, Bool, true, false, Result, Ok, Err}
+-- Why there is no typed tree.
 use Rattle.feast_base.specs.declared.place.Place.{Place}
+use Rattle.ulam_tree.specs.Found as step
 
 -- Each has the place at which it stands.
 pub data Fault : Type 0 where
@@ -14,24 +14,4 @@ pub data Fault : Type 0 where
 
 -- what a step finds, or a fault
 abbrev pub Found : Type 0 → Type 0
-Found A = Result A Fault
-
--- one step and then another
-infixl 10 ◌>>=◌
-abbrev pub ◌>>=◌ : {A B : Type 0} → Found A → (A → Found B) → Found B
-(Ok x) >>= f = f x
-(Err e) >>= f = Err e
-
--- what there is, or else this fault
-abbrev pub found : {A : Type 0} → Option A → Fault → Found A
-found (Some x) f = Ok x
-found None f = Err f
-
--- a rule that holds, or else this fault
-abbrev pub must : Bool → Fault → Found (Unit {0})
-must true f = Ok tt
-must false f = Err f
-
-abbrev pub fault_of : {A : Type 0} → Found A → Option Fault
-fault_of (Ok x) = None
-fault_of (Err f) = Some f
+Found A = step.Found Fault A

@@ -11,7 +11,8 @@ use Rattle.ulam_tree.specs.Completes.{all_complete}
 use Rattle.ulam_types.specs.declared.scope.FieldSig.{FieldSig}
 use Rattle.ulam_types.specs.declared.scope.Want.{Want}
 use Rattle.ulam_types.specs.declared.scope.Want.TheVariants.{Value}
-use Rattle.ulam_types.specs.Faults.{Fault, wrong_type, missing_return, Found, ◌>>=◌, must, fault_of}
+use Rattle.ulam_tree.specs.Found.{◌>>=◌, must, fault_of}
+use Rattle.ulam_types.specs.Faults.{Fault, wrong_type, missing_return, Found}
 use Rattle.ulam_types.specs.Scopes.{Scope, FunctionSig, ClassSig, is_value}
 use Rattle.ulam_types.specs.Rows.{is_void}
 use Rattle.ulam_types.specs.Bodies as b

@@ -1,5 +1,5 @@
 -- What the code knows where an expression stands, as the definitions have it.
-use Rattle.std.specs.Prelude.{◌≡◌, List, [], ◌∷◌, ◌++◌, map, Result, Ok, Err}
+use Rattle.std.specs.Prelude.{◌≡◌, List, [], ◌∷◌, map, Result, Ok, Err}
 use Rattle.ulam_tree.specs.Resolved as r
 use Rattle.ulam_tree.specs.Typed as t
 use Rattle.ulam_tree.specs.TypedViews.{typed_expr, typed_statement}
@@ -10,7 +10,8 @@ use Rattle.ulam_types.specs.declared.fault.TypeFault.TheVariants as e
 use Rattle.ulam_types.specs.declared.scope.FunctionSig.{FunctionSig}
 use Rattle.ulam_types.specs.declared.scope.ClassSig.{ClassSig}
 use Rattle.ulam_types.specs.declared.scope.Scope.{Scope}
-use Rattle.ulam_types.specs.Faults.{Found, ◌>>=◌, wrong_type, mixed_signs, not_assignable, wrong_count, bad_as, break_outside, missing_return}
+use Rattle.ulam_tree.specs.Found.{◌>>=◌}
+use Rattle.ulam_types.specs.Faults.{Found, wrong_type, mixed_signs, not_assignable, wrong_count, bad_as, break_outside, missing_return}
 use Rattle.ulam_types.specs.Scopes as s
 
 abbrev pub function_view : FunctionSig → s.FunctionSig
@@ -53,7 +54,3 @@ join_body (x ∷ xs) more = t.then_so (typed_statement x) (join_body xs more)
 
 abbrev pub with_body : List Statement → Found t.Body → Found t.Body
 with_body front found = found >>= λ (more : t.Body). Ok (join_body front more)
-
--- what a list begins with, before more that is found
-abbrev pub with_front : {A : Type 0} → List A → Found (List A) → Found (List A)
-with_front {A = A} front found = found >>= λ (more : List A). Ok (front ++ more)

@@ -9,7 +9,8 @@ use Rattle.ulam_tree.specs.declared.op.PairOp.{PairOp}
 use Rattle.ulam_tree.specs.Resolved as r
 use Rattle.ulam_tree.specs.Typed as t
 use Rattle.ulam_types.specs.declared.scope.Want.{Want}
-use Rattle.ulam_types.specs.Faults.{wrong_type, wrong_count, bad_as, Found, ◌>>=◌, found, must}
+use Rattle.ulam_tree.specs.Found.{◌>>=◌, found, must}
+use Rattle.ulam_types.specs.Faults.{wrong_type, wrong_count, bad_as, Found}
 use Rattle.ulam_types.specs.Scopes.{Scope, Callee, is_value, value_type, item_type, callee, wants_of}
 use Rattle.ulam_types.specs.Rows.{unsigned, bool, taken, beside, plain_type, plain_fits, pair_type, pair_fault, prefix_type, cast_type, is_atom, is_species, instance_type, is_index, taken_want, all_suit, is_built, misfit, result_of}
 

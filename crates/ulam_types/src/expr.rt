@@ -1,30 +1,36 @@
 //! Types of expressions.
 ghost use Rattle.std.specs.Prelude.{◌≡◌, length, IfOk};
+ghost use Rattle.std.specs.Box.{box_value};
+ghost use Rattle.sat_math.specs.declared.Kind.{Kind};
+ghost use Rattle.ulam_tree.specs.Found.{found};
 ghost use Rattle.ulam_tree.specs.ResolvedViews.{resolved_expr, resolved_args, resolved_path};
+ghost use Rattle.ulam_tree.specs.Resolved as raw_tree;
 ghost use Rattle.ulam_tree.specs.Typed as tree;
 ghost use Rattle.ulam_tree.specs.TypedViews.{typed_form, typed_expr, typed_args};
+ghost use Rattle.ulam_types.specs.Faults.{wrong_type};
 ghost use Rattle.ulam_types.specs.Rows as row;
 ghost use Rattle.ulam_types.specs.Scopes as spec;
 ghost use Rattle.ulam_types.specs.Shown.{scope_view, Gives};
 ghost use Rattle.ulam_types.specs.Walk as walk;
 
-use crate::build;
+use crate::copy;
 use crate::fault::TypeFault;
 use crate::lookup::{
-    assignable, begins_local, function_at, instance_type, is_atom, is_species, is_value, item_type,
-    last_step, value_type,
+    begins_local, function_at, instance_type, is_atom, is_species, is_value, item_type, last_step,
+    value_type,
 };
 use crate::rows::{
-    beside, cast_type, is_index, is_unsigned, pair_row, plain_fits, plain_type, prefix_type, taken,
-    truth, unsigned, wide, width_of,
+    beside, cast_type, is_index, pair_row, plain_fits, plain_type, prefix_type, taken, truth,
+    unsigned,
 };
 use crate::scope::{Scope, Want};
+use crate::suits::{all_suit, create_width, taken_want};
 use feast_base::Place;
 use sat_math::Kind;
 use std::alloc::Global;
-use ulam_tree::resolved::{Built, Expr, Path, Step, Ty};
+use ulam_tree::resolved::{Built, Expr, Named, Path, Step, Ty};
 use ulam_tree::typed::Form;
-use ulam_tree::{PairOp, typed};
+use ulam_tree::{PairOp, typed, typed_build as build};
 
 /// Whether an expression is a number without `u`, in any number of brackets.
 pub fn plain(raw: &Expr) -> bool
@@ -37,7 +43,7 @@ pub fn plain(raw: &Expr) -> bool
     }
 }
 
-/// Where an expression stands.
+/// The place of an expression.
 pub fn place_of(raw: &Expr) -> Place
     ensures { result ≡ walk.place_of (resolved_expr raw.now) }
 {
@@ -82,74 +88,65 @@ fn number(want: Kind, value: u32, with_u: bool, place: Place) -> Result<typed::E
     }
 }
 
-/// The kind that a plain argument takes.
-fn taken_want(want: Want) -> Kind
-    ensures { result ≡ row.taken_want want }
-{
-    match want {
-        Want::Value { ty } => taken(ty),
-        Want::Site | Want::Bound => Kind::Int,
-    }
-}
-
-/// Whether a typed expression is a number without `u`, in any number of brackets.
-#[tactic(auto, using(crate::proofs::Args::call_not_plain))]
-fn is_plain(form: &Form) -> bool
-    ensures { result ≡ tree.plain_form (typed_form form.now) }
-{
-    match form {
-        Form::Number { unsigned, .. } => !*unsigned,
-        Form::Group { inner, .. } => is_plain(&inner.form),
-        _ => false,
-    }
-}
-
-fn suits(scope: &Scope, want: Want, value: &typed::Expr) -> bool
-    ensures { result ≡ row.suits (scope_view scope.now) want (typed_expr value.now) }
-{
-    match want {
-        Want::Value { ty } => assignable(scope, ty, value.ty),
-        Want::Site => is_index(value.ty),
-        Want::Bound => is_plain(&value.form) || is_unsigned(value.ty),
-    }
-}
-
-/// Whether each argument is what is wanted of it.
-fn all_suit(scope: &Scope, wants: &[Want], args: &[typed::Expr]) -> bool
-    requires { length wants.now ≡ length args.now }
-    ensures { result ≡ row.all_suit (scope_view scope.now) wants.now (typed_args args.now) }
-{
-    for i in 0..args.len() {
-        if !suits(scope, wants[i], &args[i]) {
-            return false;
-        }
-    }
-    true
-}
-
-/// The width of what `create` gives.
-fn create_width(args: &[typed::Expr]) -> u8
-    ensures { row.unsigned result ≡ row.built_result Built.Create (typed_args args.now) }
-{
-    match args {
-        [] => 32,
-        [first, ..] => wide(width_of(first.ty), 0),
-    }
-}
-
 /// Two operands with an operator between.
 fn pair(
-    alloc: Global,
     op: PairOp,
-    left: typed::Expr,
-    right: typed::Expr,
+    left: Box<typed::Expr>,
+    right: Box<typed::Expr>,
     plain_right: bool,
     place: Place,
 ) -> Result<typed::Expr, TypeFault>
-    ensures { Gives typed_expr result (walk.pair_by op plain_right place (typed_expr left, typed_expr right)) }
+    ensures { Gives typed_expr result (walk.pair_by op plain_right place (typed_expr (box_value left), typed_expr (box_value right))) }
 {
     let ty = pair_row(place, op, plain_right, left.ty, right.ty)?;
-    Ok(build::pair(alloc, op, left, right, place, ty)?)
+    Ok(build::pair(op, left, right, place, ty))
+}
+
+/// The type, or `WrongType` if there is none.
+fn known(ty: Option<Ty>, place: Place) -> Result<Ty, TypeFault>
+    ensures { Gives (λ x. x) result (found ty (wrong_type place)) }
+{
+    match ty {
+        None => Err(TypeFault::WrongType(place)),
+        Some(ty) => Ok(ty),
+    }
+}
+
+/// `true` or `false`.
+fn truth_at(value: bool, place: Place) -> typed::Expr
+    ensures { typed_expr result ≡ tree.typed (tree.truth value place) row.bool }
+{
+    typed::Expr {
+        form: Form::Truth { value, place },
+        ty: truth(),
+    }
+}
+
+/// A path as an expression.
+#[tactic(auto, unfolding(crate::specs::Walk::expr))]
+fn value_at(alloc: Global, scope: &Scope, path: &Path) -> Result<typed::Expr, TypeFault>
+    ensures { (want : Kind) → Gives typed_expr result (walk.expr (scope_view scope.now) want (raw_tree.reads (resolved_path path.now))) }
+{
+    let ty = known(value_type(scope, path.steps.as_slice()), path.place)?;
+    let path = copy::path(alloc, path)?;
+    Ok(typed::Expr {
+        form: Form::Path { path },
+        ty,
+    })
+}
+
+/// The `instanceof` of a class.
+#[tactic(auto, unfolding(crate::specs::Walk::expr))]
+fn instance(scope: &Scope, class: Named) -> Result<typed::Expr, TypeFault>
+    ensures { (want : Kind) → Gives typed_expr result (walk.expr (scope_view scope.now) want (raw_tree.instance class)) }
+{
+    if !is_species(scope, class.ty) {
+        return Err(TypeFault::BadAs(class.place));
+    }
+    Ok(typed::Expr {
+        form: Form::Instance { class },
+        ty: instance_type(class.ty),
+    })
 }
 
 /// An expression. A plain number takes the kind `want`.
@@ -164,59 +161,33 @@ pub fn expr(alloc: Global, scope: &Scope, want: Kind, raw: &Expr) -> Result<type
             unsigned,
             place,
         } => number(want, *value, *unsigned, *place),
-        Expr::Truth { value, place } => Ok(typed::Expr {
-            form: Form::Truth {
-                value: *value,
-                place: *place,
-            },
-            ty: truth(),
-        }),
-        Expr::Path { path } => match value_type(scope, path.steps.as_slice()) {
-            None => Err(TypeFault::WrongType(path.place)),
-            Some(ty) => Ok(typed::Expr {
-                form: Form::Path {
-                    path: build::path(alloc, path)?,
-                },
-                ty,
-            }),
-        },
+        Expr::Truth { value, place } => Ok(truth_at(*value, *place)),
+        Expr::Path { path } => value_at(alloc, scope, path),
         Expr::Call { call: called } => {
             let (args, ty) = call(alloc, scope, &called.path, called.args.as_slice())?;
             if !is_value(scope, ty) {
                 return Err(TypeFault::WrongType(called.path.place));
             }
-            Ok(build::call(build::path(alloc, &called.path)?, args, ty))
+            Ok(build::call(copy::path(alloc, &called.path)?, args, ty))
         }
         Expr::Index { path, at } => {
             let (at, ty) = index(alloc, scope, path, at)?;
-            Ok(build::index(alloc, build::path(alloc, path)?, at, ty)?)
+            Ok(build::index(copy::path(alloc, path)?, at, ty))
         }
-        Expr::Instance { class } => {
-            if !is_species(scope, class.ty) {
-                return Err(TypeFault::BadAs(class.place));
-            }
-            Ok(typed::Expr {
-                form: Form::Instance { class: *class },
-                ty: instance_type(class.ty),
-            })
-        }
+        Expr::Instance { class } => instance(scope, *class),
         Expr::Group { inner, place } => {
-            let inner = expr(alloc, scope, want, inner)?;
-            Ok(build::group(alloc, inner, *place)?)
+            let inner = boxed(alloc, scope, want, inner)?;
+            Ok(build::group(inner, *place))
         }
         Expr::Cast { to, value, place } => {
-            let value = expr(alloc, scope, Kind::Int, value)?;
-            match cast_type(to.ty, value.ty) {
-                None => Err(TypeFault::WrongType(*place)),
-                Some(ty) => Ok(build::cast(alloc, *to, value, *place, ty)?),
-            }
+            let value = boxed(alloc, scope, Kind::Int, value)?;
+            let ty = known(cast_type(to.ty, value.ty), *place)?;
+            Ok(build::cast(*to, value, *place, ty))
         }
         Expr::Prefix { op, value, place } => {
-            let value = expr(alloc, scope, Kind::Int, value)?;
-            match prefix_type(*op, value.ty) {
-                None => Err(TypeFault::WrongType(*place)),
-                Some(ty) => Ok(build::prefix(alloc, *op, value, *place, ty)?),
-            }
+            let value = boxed(alloc, scope, Kind::Int, value)?;
+            let ty = known(prefix_type(*op, value.ty), *place)?;
+            Ok(build::prefix(*op, value, *place, ty))
         }
         Expr::Pair {
             op,
@@ -227,46 +198,74 @@ pub fn expr(alloc: Global, scope: &Scope, want: Kind, raw: &Expr) -> Result<type
             let plain_left = plain(left);
             let plain_right = plain(right);
             if plain_left && !plain_right {
-                let right = expr(alloc, scope, Kind::Int, right)?;
-                let left = expr(alloc, scope, taken(right.ty), left)?;
-                pair(alloc, *op, left, right, plain_right, *place)
+                let right = boxed(alloc, scope, Kind::Int, right)?;
+                let left = boxed(alloc, scope, taken(right.ty), left)?;
+                pair(*op, left, right, plain_right, *place)
             } else {
-                let left = expr(alloc, scope, Kind::Int, left)?;
-                let right = expr(alloc, scope, beside(plain_left, left.ty), right)?;
-                pair(alloc, *op, left, right, plain_right, *place)
+                let left = boxed(alloc, scope, Kind::Int, left)?;
+                let right = boxed(alloc, scope, beside(plain_left, left.ty), right)?;
+                pair(*op, left, right, plain_right, *place)
             }
         }
         Expr::Is {
             value,
             class,
             place,
-        } => {
-            let value = expr(alloc, scope, Kind::Int, value)?;
-            if !is_atom(scope, value.ty) {
-                return Err(TypeFault::WrongType(*place));
-            }
-            if !is_species(scope, class.ty) {
-                return Err(TypeFault::BadAs(class.place));
-            }
-            Ok(build::is(alloc, value, *class, *place, truth())?)
-        }
+        } => is(alloc, scope, value, *class, *place),
     }
 }
 
-/// An index, and the type of what it gives.
+/// A test of the class of a value.
+#[cycle(expr)]
+#[tactic(auto, unfolding(crate::specs::Walk::expr))]
+fn is(
+    alloc: Global,
+    scope: &Scope,
+    value: &Expr,
+    class: Named,
+    place: Place,
+) -> Result<typed::Expr, TypeFault>
+    ensures { (want : Kind) → Gives typed_expr result (walk.expr (scope_view scope.now) want (raw_tree.is (resolved_expr value.now) class place)) }
+{
+    let value = expr(alloc, scope, Kind::Int, value)?;
+    let value = Box::new(alloc, value)?;
+    if !is_atom(scope, value.ty) {
+        return Err(TypeFault::WrongType(place));
+    }
+    if !is_species(scope, class.ty) {
+        return Err(TypeFault::BadAs(class.place));
+    }
+    Ok(build::is(value, class, place, truth()))
+}
+
+/// A part of an expression.
+#[cycle(expr)]
+fn boxed(
+    alloc: Global,
+    scope: &Scope,
+    want: Kind,
+    raw: &Box<Expr>,
+) -> Result<Box<typed::Expr>, TypeFault>
+    ensures { Gives (λ b. typed_expr (box_value b)) result (walk.expr (scope_view scope.now) want (resolved_expr (box_value raw.now))) }
+{
+    let found = expr(alloc, scope, want, raw)?;
+    Ok(Box::new(alloc, found)?)
+}
+
+/// A typed index, and the type of the element.
 #[cycle(expr)]
 pub fn index(
     alloc: Global,
     scope: &Scope,
     path: &Path,
     at: &Expr,
-) -> Result<(typed::Expr, Ty), TypeFault>
-    ensures { Gives (λ x. (typed_expr x.0, x.1)) result (walk.index_by (scope_view scope.now) (resolved_path path.now) (walk.expr (scope_view scope.now) Kind.Int (resolved_expr at.now))) }
+) -> Result<(Box<typed::Expr>, Ty), TypeFault>
+    ensures { Gives (λ x. (typed_expr (box_value x.0), x.1)) result (walk.index_by (scope_view scope.now) (resolved_path path.now) (walk.expr (scope_view scope.now) Kind.Int (resolved_expr at.now))) }
 {
     match item_type(scope, path.steps.as_slice()) {
         None => Err(TypeFault::WrongType(path.place)),
         Some(ty) => {
-            let at = expr(alloc, scope, Kind::Int, at)?;
+            let at = Box::new(alloc, expr(alloc, scope, Kind::Int, at)?)?;
             if is_index(at.ty) {
                 Ok((at, ty))
             } else {
@@ -335,7 +334,7 @@ fn built_call(
     }
 }
 
-/// So many arguments, of which this is wanted.
+/// The arguments of a call, as many as `wants`, each of which suits what is wanted.
 #[cycle(expr)]
 fn arguments(
     alloc: Global,
@@ -360,7 +359,7 @@ fn arguments(
     }
 }
 
-/// Arguments, by what is wanted of each.
+/// Typed arguments. A plain number takes the kind that is wanted.
 #[cycle(expr)]
 fn args(
     alloc: Global,

@@ -6,7 +6,7 @@ ghost use Rattle.ulam_types.specs.Programs as walk;
 ghost use Rattle.ulam_types.specs.Shown.{class_view, scope_view, Gives};
 ghost use Rattle.ulam_types.specs.declared.fault.TypeFault.TheVariants.{NoMemory};
 
-use crate::build;
+use crate::copy;
 use crate::ends::all_complete;
 use crate::fault::TypeFault;
 use crate::locals::slots;
@@ -19,7 +19,7 @@ use std::alloc::Global;
 use ulam_tree::resolved::{Member, Named, Param, Statement};
 use ulam_tree::typed;
 
-/// Refuses a parameter of which there are no values.
+/// Refuses a parameter whose type has no values.
 fn header(scope: &Scope, params: &[Param]) -> Result<(), TypeFault>
     ensures { Gives (λ x. x) result (walk.params (scope_view scope.now) (map resolved_param params.now)) }
 {
@@ -31,7 +31,7 @@ fn header(scope: &Scope, params: &[Param]) -> Result<(), TypeFault>
     Ok(())
 }
 
-/// A function's body, after its result and its parameters. `place` is that of its name.
+/// Checks a function's result, its parameters and its body. `place` is that of its name.
 fn function(
     alloc: Global,
     scope: &Scope,
@@ -63,7 +63,7 @@ fn copy_params(alloc: Global, params: &[Param]) -> Result<Vec<Param>, TypeFault>
     for param in params {
         copies.push(Param {
             of: param.of,
-            word: build::word(alloc, &param.word)?,
+            word: copy::word(alloc, &param.word)?,
         })?;
     }
     Ok(copies)
@@ -81,7 +81,7 @@ pub fn member(
     match raw {
         Member::Field { of, word, length } => Ok(typed::Member::Field {
             of: *of,
-            word: build::word(alloc, word)?,
+            word: copy::word(alloc, word)?,
             length: *length,
         }),
         Member::Function {
@@ -103,7 +103,7 @@ pub fn member(
             let body = function(alloc, &scope, *of, word.place, params, body)?;
             Ok(typed::Member::Function {
                 of: *of,
-                word: build::word(alloc, word)?,
+                word: copy::word(alloc, word)?,
                 params: copy_params(alloc, params)?,
                 body,
             })

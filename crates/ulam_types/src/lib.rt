@@ -1,7 +1,7 @@
 //! Types of element files: what each expression is, or the first place that breaks a rule.
 #![tactic(auto)]
 
-mod build;
+mod copy;
 mod ends;
 mod expr;
 mod fault;
@@ -15,6 +15,7 @@ mod rows;
 mod scope;
 mod sigs;
 mod statement;
+mod suits;
 
 pub use fault::TypeFault;
 pub use law::one_typing;

@@ -6,7 +6,7 @@ ghost use Rattle.ulam_tree.specs.TypedViews.{typed_expr, typed_left, typed_state
 ghost use Rattle.ulam_types.specs.Bodies as walk;
 ghost use Rattle.ulam_types.specs.Shown.{scope_view, Gives};
 
-use crate::build;
+use crate::copy;
 use crate::expr::{call, expr, index, place_of, plain};
 use crate::fault::TypeFault;
 use crate::lookup::{assignable, is_value, target_type};
@@ -16,7 +16,7 @@ use feast_base::Place;
 use sat_math::Kind;
 use std::alloc::{AllocError, Global};
 use ulam_tree::resolved::{Call, Expr, Left, Named, Ty};
-use ulam_tree::{PairOp, typed};
+use ulam_tree::{PairOp, typed, typed_build as build};
 
 /// A left side, and its type.
 fn left(alloc: Global, scope: &Scope, raw: &Left) -> Result<(typed::Left, Ty), TypeFault>
@@ -27,7 +27,7 @@ fn left(alloc: Global, scope: &Scope, raw: &Left) -> Result<(typed::Left, Ty), T
             None => Err(TypeFault::NotAssignable(raw.path.place)),
             Some(ty) => Ok((
                 typed::Left {
-                    path: build::path(alloc, &raw.path)?,
+                    path: copy::path(alloc, &raw.path)?,
                     index: None,
                 },
                 ty,
@@ -35,18 +35,14 @@ fn left(alloc: Global, scope: &Scope, raw: &Left) -> Result<(typed::Left, Ty), T
         },
         Some(at) => {
             let (at, ty) = index(alloc, scope, &raw.path, at)?;
-            Ok((
-                typed::Left {
-                    path: build::path(alloc, &raw.path)?,
-                    index: Some(Box::new(alloc, at)?),
-                },
-                ty,
-            ))
+            let path = copy::path(alloc, &raw.path)?;
+            let index = Some(at);
+            Ok((typed::Left { path, index }, ty))
         }
     }
 }
 
-/// A value for a type. `place` is that of what it is given to.
+/// A value for a type. `place` is the place of what it is assigned to.
 fn value(
     alloc: Global,
     scope: &Scope,
@@ -106,7 +102,7 @@ fn maybe_value(
     }
 }
 
-/// A value for a type, by `=` or by an operator between what is there and it.
+/// The value of an assignment, by `=` or by an operator with `=`.
 fn assigned(
     alloc: Global,
     scope: &Scope,
@@ -131,7 +127,7 @@ fn assigned(
     }
 }
 
-/// The value of a `return`, which stands there exactly where the function has a result.
+/// The value of a `return`, which has one exactly if the function has a result.
 fn returned(
     alloc: Global,
     scope: &Scope,
@@ -240,10 +236,10 @@ pub fn does(alloc: Global, scope: &Scope, raw: &Call) -> Result<typed::Statement
     ensures { Gives typed_statement result (walk.statement (scope_view scope.now) (raw_tree.does (resolved_path raw.now.path) (resolved_args raw.now.args.items))) }
 {
     let (args, _) = call(alloc, scope, &raw.path, raw.args.as_slice())?;
-    Ok(build::does(build::path(alloc, &raw.path)?, args))
+    Ok(build::does(copy::path(alloc, &raw.path)?, args))
 }
 
-/// The types of the slots, with another one at a slot.
+/// The types of the slots, with `ty` at one of them.
 pub fn slots_with(alloc: Global, slots: &[Ty], slot: u32, ty: Ty) -> Result<Vec<Ty>, AllocError>
     ensures { IfOk result (λ v. v.items ≡ slice_set slots.now slot ty) }
 {

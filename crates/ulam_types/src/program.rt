@@ -9,7 +9,7 @@ ghost use Rattle.ulam_types.specs.Shown.{class_view, Gives};
 ghost use Rattle.ulam_types.specs.Well.{IsWellProgram};
 ghost use Rattle.ulam_types.specs.declared.fault.TypeFault.TheVariants.{NoMemory};
 
-use crate::build;
+use crate::copy;
 use crate::fault::TypeFault;
 use crate::function::member;
 use crate::scope::ClassSig;
@@ -43,7 +43,7 @@ fn class(alloc: Global, sigs: &[ClassSig], own: u32, raw: &Class) -> Result<type
     let members = members(alloc, sigs, own, raw.members.as_slice())?;
     Ok(typed::Class {
         quark: raw.quark,
-        word: build::word(alloc, &raw.word)?,
+        word: copy::word(alloc, &raw.word)?,
         members,
     })
 }

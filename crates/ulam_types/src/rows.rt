@@ -1,6 +1,6 @@
 //! The table of types.
 ghost use Rattle.std.specs.Prelude.{◌≡◌, ◌^◌};
-ghost use Rattle.ulam_types.specs.Faults.{found};
+ghost use Rattle.ulam_tree.specs.Found.{found};
 ghost use Rattle.ulam_types.specs.Rows as row;
 ghost use Rattle.ulam_types.specs.Shown.{Gives};
 
@@ -71,7 +71,7 @@ pub fn class_of(ty: Ty) -> NumClass
     }
 }
 
-/// The kind that a plain number takes from a type.
+/// The kind that a plain number takes from the type that it is for.
 pub fn taken(ty: Ty) -> Kind
     ensures { result ≡ row.taken ty }
 {
@@ -98,7 +98,7 @@ pub fn plain_type(kind: Kind) -> Ty
     }
 }
 
-/// Whether a plain number of a kind may have a value.
+/// Whether a value is in the range of a plain number of a kind.
 pub fn plain_fits(kind: Kind, value: u32) -> bool
     ensures { result ≡ row.plain_fits kind value }
 {
@@ -108,7 +108,7 @@ pub fn plain_fits(kind: Kind, value: u32) -> bool
     }
 }
 
-/// The width of a result, by those of the operands.
+/// The width of a result, given those of the operands.
 pub fn wide(m: u8, n: u8) -> u8
     ensures { result ≡ row.wide m n }
 {
@@ -299,7 +299,7 @@ pub fn fits_number(kind: Kind, ty: Ty) -> bool
     }
 }
 
-/// The width that an operand counts with.
+/// The width of an operand in an operation.
 pub fn width_of(ty: Ty) -> u8
     ensures { result ≡ row.width_of ty }
 {

@@ -1,8 +1,8 @@
-//! What is known where an expression stands.
+//! What is known at an expression.
 
 use ulam_tree::resolved::Ty;
 
-/// What an argument has to be.
+/// What is wanted of an argument.
 #[derive(Clone, Copy, Debug, PartialEq, Eq)]
 pub enum Want {
     /// A value for a parameter of this type.
@@ -46,11 +46,11 @@ pub enum NumClass {
     Bits { width: u8 },
     /// `Bool`.
     Bool,
-    /// No number.
+    /// Not a number.
     Other,
 }
 
-/// Where an expression stands.
+/// The place of an expression.
 #[derive(Clone, Copy)]
 pub struct Scope<'a> {
     /// All classes.
@@ -61,6 +61,6 @@ pub struct Scope<'a> {
     pub slots: &'a [Ty],
     /// The function's result.
     pub result: Ty,
-    /// Whether a loop is around.
+    /// Whether it is inside a loop.
     pub looped: bool,
 }

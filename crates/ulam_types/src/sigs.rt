@@ -8,7 +8,7 @@ use crate::scope::{ClassSig, FieldSig, FunctionSig, Want};
 use std::alloc::{AllocError, Global};
 use ulam_tree::resolved::{Class, Member, Param};
 
-/// What arguments have to be.
+/// What is wanted of the arguments of a function.
 fn wants(alloc: Global, params: &[Param]) -> Result<Vec<Want>, AllocError>
     ensures { IfOk result (λ v. v.items ≡ map walk.want_of (map resolved_param params.now)) }
 {

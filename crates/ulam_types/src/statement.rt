@@ -1,18 +1,22 @@
 //! Types of statements.
+ghost use Rattle.std.specs.Box.{box_value};
+ghost use Rattle.ulam_tree.specs.Found.{must};
 ghost use Rattle.ulam_tree.specs.ResolvedViews.{resolved_cond, resolved_statement, resolved_body, resolved_part};
 ghost use Rattle.ulam_tree.specs.TypedViews.{typed_cond, typed_statement, typed_body, typed_part};
 ghost use Rattle.ulam_types.specs.Bodies as walk;
+ghost use Rattle.ulam_types.specs.Faults.{break_outside};
 ghost use Rattle.ulam_types.specs.Scopes.{in_loop};
 ghost use Rattle.ulam_types.specs.Shown.{scope_view, Gives};
 
-use crate::build;
+use crate::copy;
 use crate::fault::TypeFault;
 use crate::lookup::{atom_slot, is_element_type};
 use crate::parts::{assign, count, declare, does, give, maybe_test, slots_with, test};
 use crate::scope::Scope;
+use feast_base::Place;
 use std::alloc::Global;
 use ulam_tree::resolved::{Cond, Statement};
-use ulam_tree::typed;
+use ulam_tree::{typed, typed_build as build};
 
 /// A statement.
 #[cycle(statement)]
@@ -33,12 +37,12 @@ pub fn statement(
         Statement::If { cond, yes, no } => {
             let (cond, yes) = branch(alloc, scope, yes, cond)?;
             let no = part(alloc, scope, no)?;
-            Ok(build::if_so(alloc, cond, yes, no)?)
+            Ok(build::if_so(cond, yes, no))
         }
         Statement::While { cond, body } => {
             let cond = test(alloc, scope, cond)?;
             let body = turns(alloc, scope, body)?;
-            Ok(build::while_so(alloc, cond, body)?)
+            Ok(typed::Statement::While { cond, body })
         }
         Statement::For {
             first,
@@ -50,22 +54,16 @@ pub fn statement(
             let cond = maybe_test(alloc, scope, cond)?;
             let step = part(alloc, scope, step)?;
             let body = turns(alloc, scope, body)?;
-            Ok(build::for_all(alloc, first, cond, step, body)?)
+            Ok(build::for_all(first, cond, step, body))
         }
         Statement::Return { place, value } => give(alloc, scope, *place, value),
         Statement::Break { place } => {
-            if scope.looped {
-                Ok(typed::Statement::Break { place: *place })
-            } else {
-                Err(TypeFault::BreakOutside(*place))
-            }
+            within_loop(scope, *place)?;
+            Ok(typed::Statement::Break { place: *place })
         }
         Statement::Continue { place } => {
-            if scope.looped {
-                Ok(typed::Statement::Continue { place: *place })
-            } else {
-                Err(TypeFault::BreakOutside(*place))
-            }
+            within_loop(scope, *place)?;
+            Ok(typed::Statement::Continue { place: *place })
         }
         Statement::Declare {
             of,
@@ -79,19 +77,31 @@ pub fn statement(
     }
 }
 
+/// Refuses a place outside a loop.
+fn within_loop(scope: &Scope, place: Place) -> Result<(), TypeFault>
+    ensures { Gives (λ x. x) result (must (scope_view scope.now).looped (break_outside place)) }
+{
+    if scope.looped {
+        Ok(())
+    } else {
+        Err(TypeFault::BreakOutside(place))
+    }
+}
+
 /// The body of a loop.
 #[cycle(statement)]
-fn turns(alloc: Global, scope: &Scope, raw: &Statement) -> Result<typed::Statement, TypeFault>
-    ensures { Gives typed_statement result (walk.statement (in_loop (scope_view scope.now)) (resolved_statement raw.now)) }
+fn turns(alloc: Global, scope: &Scope, raw: &Statement) -> Result<Box<typed::Statement>, TypeFault>
+    ensures { Gives (λ b. typed_statement (box_value b)) result (walk.statement (in_loop (scope_view scope.now)) (resolved_statement raw.now)) }
 {
     let inner = Scope {
         looped: true,
         ..*scope
     };
-    statement(alloc, &inner, raw)
+    let found = statement(alloc, &inner, raw)?;
+    Ok(Box::new(alloc, found)?)
 }
 
-/// An optional statement.
+/// A statement that may be absent.
 #[cycle(statement)]
 #[tactic(auto, unfolding(crate::specs::Bodies::statement))]
 fn part(
@@ -117,13 +127,14 @@ fn branch(
     scope: &Scope,
     yes: &Statement,
     cond: &Cond,
-) -> Result<(typed::Cond, typed::Statement), TypeFault>
-    ensures { Gives (λ x. (typed_cond x.0, typed_statement x.1)) result (walk.branch (scope_view scope.now) (resolved_cond cond.now) (λ g. walk.statement g (resolved_statement yes.now))) }
+) -> Result<(typed::Cond, Box<typed::Statement>), TypeFault>
+    ensures { Gives (λ x. (typed_cond x.0, typed_statement (box_value x.1))) result (walk.branch (scope_view scope.now) (resolved_cond cond.now) (λ g. walk.statement g (resolved_statement yes.now))) }
 {
     match cond {
         Cond::Test { value } => {
             let value = test(alloc, scope, value)?;
             let yes = statement(alloc, scope, yes)?;
+            let yes = Box::new(alloc, yes)?;
             Ok((typed::Cond::Test { value }, yes))
         }
         Cond::Seen { path, class } => match atom_slot(scope, path.steps.as_slice()) {
@@ -138,7 +149,8 @@ fn branch(
                     ..*scope
                 };
                 let yes = statement(alloc, &inner, yes)?;
-                let path = build::path(alloc, path)?;
+                let yes = Box::new(alloc, yes)?;
+                let path = copy::path(alloc, path)?;
                 let class = *class;
                 Ok((typed::Cond::Seen { path, class }, yes))
             }

@@ -4,7 +4,7 @@ use Rattle.std.proofs.lemmas.Grind.{common_steps}
 use Rattle.ulam_tree.specs.RawViews.{item_of, file_of}
 use Rattle.ulam_tree.specs.declared.raw.File.{File}
 use Rattle.ulam_tree.specs.declared.raw.Item.{Item}
-use Rattle.ulam_names.specs.Faults.{◌>>=◌}
+use Rattle.ulam_tree.specs.Found.{◌>>=◌}
 use Rattle.ulam_names.specs.Classes as walk
 use Rattle.ulam_names.specs.Files.{all_items}
 use Rattle.ulam_names.proofs.Items.{names_on, names_append}

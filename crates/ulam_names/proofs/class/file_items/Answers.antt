@@ -3,9 +3,9 @@ use Rattle.std.proofs.lemmas.List.{at_drop_more}
 use Rattle.std.proofs.lemmas.Grind.{common_steps}
 use Rattle.ulam_tree.specs.RawViews.{item_of}
 use Rattle.ulam_tree.specs.declared.raw.Item.{Item}
-use Rattle.ulam_names.specs.Faults.{◌>>=◌}
+use Rattle.ulam_tree.specs.Found.{◌>>=◌, with_front}
 use Rattle.ulam_names.specs.Classes as walk
-use Rattle.ulam_names.specs.Shown.{half_class, with_front}
+use Rattle.ulam_names.specs.Shown.{half_class}
 use Rattle.ulam_names.proofs.Items.{item_fails, items_on}
 use Rattle.ulam_names.proofs.class.file_items.Goals as goal
 

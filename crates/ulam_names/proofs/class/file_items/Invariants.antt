@@ -1,6 +1,7 @@
 use Rattle.std.proofs.Common.{◌≡◌, map, drop}
 use Rattle.ulam_names.specs.Classes as walk
-use Rattle.ulam_names.specs.Shown.{half_class, with_front}
+use Rattle.ulam_tree.specs.Found.{with_front}
+use Rattle.ulam_names.specs.Shown.{half_class}
 use Rattle.ulam_tree.specs.RawViews as raw_view
 use Rattle.ulam_names.proofs.class.file_items.Given as goal
 

@@ -4,10 +4,10 @@ use Rattle.std.proofs.lemmas.Grind.{common_steps}
 use Rattle.ulam_tree.specs.RawViews.{item_of, file_of}
 use Rattle.ulam_tree.specs.declared.raw.File.{File}
 use Rattle.ulam_tree.specs.declared.raw.Item.{Item}
-use Rattle.ulam_names.specs.Faults.{◌>>=◌}
+use Rattle.ulam_tree.specs.Found.{◌>>=◌, with_front}
 use Rattle.ulam_names.specs.Classes as walk
 use Rattle.ulam_names.specs.Files.{all_items}
-use Rattle.ulam_names.specs.Shown.{half_class, with_front}
+use Rattle.ulam_names.specs.Shown.{half_class}
 use Rattle.ulam_names.proofs.Items.{files_on, items_fail}
 use Rattle.ulam_names.proofs.class.items.Goals as goal
 

@@ -3,7 +3,7 @@ use Rattle.std.proofs.lemmas.List.{at_drop_more}
 use Rattle.std.proofs.lemmas.Grind.{common_steps}
 use Rattle.ulam_tree.specs.RawViews.{member_of}
 use Rattle.ulam_tree.specs.declared.raw.Member.{Member}
-use Rattle.ulam_names.specs.Faults.{◌>>=◌}
+use Rattle.ulam_tree.specs.Found.{◌>>=◌}
 use Rattle.ulam_names.specs.Classes as walk
 use Rattle.ulam_names.specs.NamesView.{names_view}
 use Rattle.ulam_names.specs.Scopes.{Names, no_names}

@@ -8,11 +8,11 @@ use Rattle.ulam_tree.specs.RawViews as raw_view
 use Rattle.ulam_tree.specs.declared.raw.Param.{Param}
 use Rattle.ulam_tree.specs.declared.resolved.Named.{Named}
 use Rattle.ulam_names.specs.declared.half.HalfParam.{HalfParam}
-use Rattle.ulam_names.specs.Faults.{◌>>=◌}
+use Rattle.ulam_tree.specs.Found.{◌>>=◌, with_front}
 use Rattle.ulam_names.specs.Classes as walk
 use Rattle.ulam_names.specs.NamesView.{names_view}
 use Rattle.ulam_names.specs.Scopes.{Names, Text, is_among}
-use Rattle.ulam_names.specs.Shown.{param_of, param_names, with_front}
+use Rattle.ulam_names.specs.Shown.{param_of, param_names}
 use Rattle.ulam_names.proofs.Members.{param_many, param_twice, params_on}
 use Rattle.ulam_names.proofs.member.params.Goals as goal
 

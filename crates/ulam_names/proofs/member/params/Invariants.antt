@@ -1,7 +1,8 @@
 use Rattle.std.proofs.Common.{◌≡◌, map, drop, []}
 use Rattle.ulam_names.specs.Classes as walk
 use Rattle.ulam_names.specs.NamesView.{names_view}
-use Rattle.ulam_names.specs.Shown.{param_of, param_names, with_front}
+use Rattle.ulam_tree.specs.Found.{with_front}
+use Rattle.ulam_names.specs.Shown.{param_of, param_names}
 use Rattle.ulam_tree.specs.RawViews as raw_view
 use Rattle.ulam_names.proofs.member.params.Given as goal
 

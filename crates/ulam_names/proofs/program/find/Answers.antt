@@ -2,7 +2,7 @@ use Rattle.std.proofs.Common.{◌≡◌, ◌≤◌, ◌∙◌, sym, ap, subst, L
 use Rattle.std.proofs.lemmas.Grind.{common_steps}
 use Rattle.ulam_tree.specs.Raw as t
 use Rattle.ulam_names.specs.declared.half.HalfClass.{HalfClass}
-use Rattle.ulam_names.specs.Faults.{◌>>=◌}
+use Rattle.ulam_tree.specs.Found.{◌>>=◌}
 use Rattle.ulam_names.specs.Classes as walk
 use Rattle.ulam_names.specs.Files.{all_items}
 use Rattle.ulam_names.specs.Shown.{half_class, head_of}

@@ -14,7 +14,7 @@ use Rattle.ulam_tree.specs.RawViews as raw_view
 use Rattle.ulam_names.proofs.Rows.{body_whole}
 use Rattle.ulam_tree.specs.Resolved as r
 use Rattle.ulam_tree.proofs.RawRows.{block_is as raw_block_is}
-use Rattle.ulam_names.specs.Faults.{◌>>=◌}
+use Rattle.ulam_tree.specs.Found.{◌>>=◌}
 use Rattle.ulam_names.proofs.Bodies.{body_on, kept_long, kept_twice, walk_block}
 use Rattle.ulam_names.proofs.statement.+statement.Goals as goal
 
@@ -110,8 +110,8 @@ statement-returns-in_err-body-in-For-clause-gives t c =
     begin ∙ turns_body ctx one two len next c.in_ok-step-in-For.next a k g x (raw_view.statement_of c.deref-in-For.result.now) d b hd c.in_ok-step-in-For.ensures.gives c.in_ok-step-in-For.ensures.next c.in_ok-step-in-For.ensures.same (ap raw_view.statement_of c.deref-in-For.ensures) in
     rw body (first_of (search rules, grind (arith, common_steps)))
 
-pub statement-returns-in_ok-for_all-in-For-clause-gives : goal.statement-returns-in_ok-for_all-in-For-clause-gives
-statement-returns-in_ok-for_all-in-For-clause-gives t c =
+pub statement-returns-in_ok-body-in-For-clause-gives : goal.statement-returns-in_ok-body-in-For-clause-gives
+statement-returns-in_ok-body-in-For-clause-gives t c =
     let ctx : Context = context_of c.args.context.now in
     let es : List Entry = c.args.entries.now.items in
     let one : List Entry = c.first_part.new.entries.items in
@@ -131,4 +131,4 @@ statement-returns-in_ok-for_all-in-For-clause-gives t c =
     let two : List Entry = c.part-in-For.new.entries.items in
     let body : walk.statement ctx (scope_of es c.args.from) c.args.slot (raw_view.statement_of c.args.raw.now) ≡ (walk.statement ctx (scope_of two (length two)) c.in_ok-step-in-For.next (raw_view.statement_of c.deref-in-For.result.now) >>= λ (z : r.Statement). Ok (r.for_all a d b z)) =
     begin ∙ turns_body ctx one two len next c.in_ok-step-in-For.next a k g x (raw_view.statement_of c.deref-in-For.result.now) d b hd c.in_ok-step-in-For.ensures.gives c.in_ok-step-in-For.ensures.next c.in_ok-step-in-For.ensures.same (ap raw_view.statement_of c.deref-in-For.ensures) in
-    body ∙ rw c.in_ok-body-in-For.ensures.gives (ap Ok (sym c.in_ok-for_all-in-For.ensures))
+    body ∙ rw c.in_ok-body-in-For.ensures.gives (ap Ok (sym c.for_all.ensures))

@@ -4,10 +4,10 @@ use Rattle.std.proofs.lemmas.Grind.{common_steps}
 use Rattle.ulam_tree.specs.Resolved as r
 use Rattle.ulam_tree.specs.ResolvedViews.{resolved_class}
 use Rattle.ulam_names.specs.declared.half.HalfClass.{HalfClass}
-use Rattle.ulam_names.specs.Faults.{◌>>=◌}
+use Rattle.ulam_tree.specs.Found.{◌>>=◌, with_front}
 use Rattle.ulam_names.specs.Classes as walk
 use Rattle.ulam_names.specs.Scopes.{Head}
-use Rattle.ulam_names.specs.Shown.{head_of, half_class, with_front}
+use Rattle.ulam_names.specs.Shown.{head_of, half_class}
 use Rattle.ulam_names.proofs.WholeClasses.{class_on}
 use Rattle.ulam_names.proofs.whole.whole_classes.Goals as goal
 

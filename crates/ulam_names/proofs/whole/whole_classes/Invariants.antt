@@ -1,6 +1,7 @@
 use Rattle.std.proofs.Common.{◌≡◌, map, drop}
 use Rattle.ulam_names.specs.Classes as walk
-use Rattle.ulam_names.specs.Shown.{head_of, half_class, with_front}
+use Rattle.ulam_tree.specs.Found.{with_front}
+use Rattle.ulam_names.specs.Shown.{head_of, half_class}
 use Rattle.ulam_tree.specs.ResolvedViews.{resolved_class}
 use Rattle.ulam_names.proofs.whole.whole_classes.Given as goal
 

@@ -4,11 +4,11 @@ use Rattle.std.proofs.lemmas.Grind.{common_steps}
 use Rattle.ulam_tree.specs.Resolved as r
 use Rattle.ulam_tree.specs.ResolvedViews.{resolved_member}
 use Rattle.ulam_names.specs.declared.half.Half.{Half}
-use Rattle.ulam_names.specs.Faults.{◌>>=◌}
+use Rattle.ulam_tree.specs.Found.{◌>>=◌, with_front}
 use Rattle.ulam_names.specs.Classes as walk
 use Rattle.ulam_names.specs.NamesView.{names_view}
 use Rattle.ulam_names.specs.Scopes.{Head, Names}
-use Rattle.ulam_names.specs.Shown.{head_of, half_of, with_front}
+use Rattle.ulam_names.specs.Shown.{head_of, half_of}
 use Rattle.ulam_names.proofs.WholeClasses.{member_on}
 use Rattle.ulam_names.proofs.whole.whole_members.Goals as goal
 

@@ -1,7 +1,8 @@
 use Rattle.std.proofs.Common.{◌≡◌, map, drop}
 use Rattle.ulam_names.specs.Classes as walk
 use Rattle.ulam_names.specs.NamesView.{names_view}
-use Rattle.ulam_names.specs.Shown.{head_of, half_of, with_front}
+use Rattle.ulam_tree.specs.Found.{with_front}
+use Rattle.ulam_names.specs.Shown.{head_of, half_of}
 use Rattle.ulam_tree.specs.ResolvedViews.{resolved_member}
 use Rattle.ulam_names.proofs.whole.whole_members.Given as goal
 

@@ -13,8 +13,8 @@ pub place_of_left-requires-clause-few : goal.place_of_left-requires-clause-few
 place_of_left-requires-clause-few c =
     left_few (from c.front-seen.result 0) c.in-Err-Left.left (fails_left c.in-Err-Left.field-0 c.in-Err-Left.left _ c.in-Err-Left.field-0-is c.in-Err-Left.ensures.stops)
 
-pub unreachable-requires-in-Err-Tired : goal.unreachable-requires-in-Err-Tired
-unreachable-requires-in-Err-Tired c = never_tired (from c.front-seen.result 0) (fails_tired c.in-Err-Tired.field-0 _ c.in-Err-Tired.field-0-is c.in-Err-Tired.ensures.stops)
+pub unreachable-requires-in-Err-OutOfSteps : goal.unreachable-requires-in-Err-OutOfSteps
+unreachable-requires-in-Err-OutOfSteps c = never_tired (from c.front-seen.result 0) (fails_tired c.in-Err-OutOfSteps.field-0 _ c.in-Err-OutOfSteps.field-0-is c.in-Err-OutOfSteps.ensures.stops)
 
 pub returns : goal.returns
 returns c =

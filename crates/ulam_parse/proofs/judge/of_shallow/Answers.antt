@@ -13,7 +13,7 @@ place_of_left-requires-clause-few c =
     left_few (from c.args.tape.now 0) c.in-Err-Left.left (fails_left c.in-Err-Left.field-0 c.in-Err-Left.left _ c.in-Err-Left.field-0-is c.in-Err-Left.ensures.stops)
 
 pub unreachable-requires : goal.unreachable-requires
-unreachable-requires c = never_tired (from c.args.tape.now 0) (fails_tired c.in-Err-Tired.field-0 _ c.in-Err-Tired.field-0-is c.in-Err-Tired.ensures.stops)
+unreachable-requires c = never_tired (from c.args.tape.now 0) (fails_tired c.in-Err-OutOfSteps.field-0 _ c.in-Err-OutOfSteps.field-0-is c.in-Err-OutOfSteps.ensures.stops)
 
 pub returns-in-Ok-clause-found : goal.returns-in-Ok-clause-found
 returns-in-Ok-clause-found c = sentence_law (from c.args.tape.now 0) _ c.requires.ends c.requires.shallow c.in-Ok.ensures.read

@@ -62,3 +62,14 @@ arguments-returns-then-built t c = rw (count_is c.args.raw.now) (first_of (searc
 
 pub arguments-returns : goal.arguments-returns
 arguments-returns t c = rw (count_is c.args.raw.now) (first_of (search rules, grind (arith, common_steps)))
+
+pub expr-returns-in-Path : goal.expr-returns-in-Path
+expr-returns-in-Path t c = rw c.in-Path.is (c.value_at.ensures c.args.want)
+
+pub expr-returns-in-Instance : goal.expr-returns-in-Instance
+expr-returns-in-Instance t c = rw c.in-Instance.is (c.instance.ensures c.args.want)
+
+pub expr-returns-in-Is : goal.expr-returns-in-Is
+expr-returns-in-Is t c =
+    let e = c.is.ensures c.args.want in
+    rw c.in-Is.is (first_of (search (rules, e), grind (arith, common_steps)))

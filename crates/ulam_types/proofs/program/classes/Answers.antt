@@ -8,7 +8,8 @@ use Rattle.ulam_tree.specs.TypedViews.{typed_class}
 use Rattle.ulam_tree.specs.declared.resolved.Class.{Class}
 use Rattle.ulam_types.specs.Scopes.{ClassSig}
 use Rattle.ulam_types.specs.Programs as walk
-use Rattle.ulam_types.specs.Shown.{class_view, with_front}
+use Rattle.ulam_tree.specs.Found.{with_front}
+use Rattle.ulam_types.specs.Shown.{class_view}
 use Rattle.ulam_types.proofs.Lists.{class_on}
 use Rattle.ulam_types.proofs.program.classes.Goals as goal
 
