@@ -21,6 +21,13 @@ import unittest
 from typing import Optional
 
 TOP = pathlib.Path(__file__).resolve().parent.parent
+sys.dont_write_bytecode = True
+sys.path.insert(0, str(TOP / "tools"))
+
+from first_call import seconds  # noqa: E402
+from first_call.crates import Crate, crates_of_program  # noqa: E402
+from first_call.progress import Progress, wall_time  # noqa: E402
+
 CRATES = "low:\nmiddle: low # stands on low\nfeast: middle low\nother: low\n"
 # What the program of the pretended toolchain writes, and its status.
 PROVED, STATUS = "proved call of", 3
@@ -251,6 +258,33 @@ class FirstCall(unittest.TestCase):
         self.assertIn("install the Rattle kit", told)
 
 
+class Estimates(unittest.TestCase):
+    """The table of times, and what is made of it."""
+
+    def test_table_names_crates(self) -> None:
+        crates = {crate.name for crate in crates_of_program(TOP)}
+        named = set(seconds.read(seconds.TABLE)) - {seconds.LOOKING, seconds.BUILDING}
+        self.assertEqual(named - crates, set())
+        self.assertGreater(len(named), len(crates) / 2)
+
+    def test_time_of_several_lanes(self) -> None:
+        crates = [Crate("low", TOP, ()), Crate("aside", TOP, ()), Crate("high", TOP, ("low",))]
+        spent = {"low": 10.0, "aside": 5.0, "high": 20.0}
+        self.assertEqual([wall_time(crates, spent, lanes) for lanes in (1, 2, 3)], [35.0, 30.0, 30.0])
+
+    def test_measured_speed_corrects_what_is_left(self) -> None:
+        crates = [Crate("low", TOP, ()), Crate("high", TOP, ("low",))]
+        expected = {seconds.LOOKING: 0.0, "low": 100.0, "high": 100.0, seconds.BUILDING: 0.0}
+        progress = Progress(crates, 1, expected, set(expected), {seconds.LOOKING, seconds.BUILDING})
+        self.assertEqual(progress.status().left, 200.0)
+        progress.at_work({"low"})
+        progress.begun["low"] -= 260
+        progress.finish("low")
+        status = progress.status()
+        self.assertAlmostEqual(status.left, 100 * (60 + 260) / (60 + 100), delta=0.1)
+        self.assertAlmostEqual(status.share, 0.5)
+
+
 def read_all(terminal: int) -> str:
     """What is written to a terminal until nobody has it open."""
     found = b""
@@ -283,7 +317,9 @@ def main() -> int:
     def tried(case: unittest.TestCase) -> unittest.TestResult:
         return case.run(unittest.TestResult()) or unittest.TestResult()
 
-    cases = [FirstCall(name) for name in sys.argv[1:] or unittest.defaultTestLoader.getTestCaseNames(FirstCall)]
+    kinds = (FirstCall, Estimates)
+    names = [(kind, name) for kind in kinds for name in unittest.defaultTestLoader.getTestCaseNames(kind)]
+    cases = [kind(name) for kind, name in names if name in (sys.argv[1:] or [name])]
     with concurrent.futures.ThreadPoolExecutor(4) as pool:
         results = list(pool.map(tried, cases))
     faults = [fault for result in results for fault in [*result.failures, *result.errors]]
