@@ -6,24 +6,27 @@ row's code, text and place, and the status of the row's stage. Examples of eleme
 parts in backquotes, one behind another, each as often as `N times` before it says. Other examples
 change lines of the text, or bytes of the code, of the last block before the table.
 """
+from __future__ import annotations
+
 import pathlib
 import re
 import subprocess
 import sys
 import tempfile
+from typing import Iterator, Optional, Union
 
 TOP = pathlib.Path(__file__).resolve().parent.parent
 WALKER = (TOP / "examples/walker.ulam").read_text()
 STATUS = {1: 4, 2: 4, 3: 4, 4: 4, 5: 4, 60: 4, 6: 9, 7: 5, 8: 6}
 
 
-def element(example):
+def element(example: str) -> str:
     """The text of an element file."""
     parts = re.findall(r"(?:([\d,]+) times )?`([^`]*)`", example)
     return "".join(text * int((times or "1").replace(",", "")) for times, text in parts)
 
 
-def changed(block, example):
+def changed(block: list[str], example: str) -> str:
     """The lines of a block as an example has them."""
     lines = list(block)
     for number, text in re.findall(r"line (\d+) as `([^`]*)`", example):
@@ -32,15 +35,18 @@ def changed(block, example):
     return "".join(f"{line}\n" for at, line in enumerate(lines) if at not in left_out)
 
 
-def changed_bytes(content, example):
+def changed_bytes(content: bytes, example: str) -> bytes:
     """A code file as an example has it."""
-    number, text = re.search(r"byte (\d+) (?:as `(\w\w)`|left out)", example).groups()
+    found = re.search(r"byte (\d+) (?:as `(\w\w)`|left out)", example)
+    assert found, example
+    number, text = found.groups()
     return content[: int(number) - 1] + bytes.fromhex(text or "") + content[int(number) :]
 
 
-def rows(page):
+def rows(page: str) -> Iterator[tuple[list[str], list[list[str]]]]:
     """The blocks and the rows with a place, in order: for each row its cells and the blocks so far."""
-    blocks, is_inside = [], False
+    blocks: list[list[str]] = []
+    is_inside = False
     for line in page.splitlines():
         if line.startswith("    "):
             blocks += [] if is_inside else [[]]
@@ -50,7 +56,7 @@ def rows(page):
         is_inside = line.startswith("    ")
 
 
-def packed(program, source):
+def packed(program: str, source: str) -> bytes:
     """The code file of a source."""
     with tempfile.NamedTemporaryFile("w") as file:
         file.write(source)
@@ -58,7 +64,9 @@ def packed(program, source):
         return subprocess.run([program, "pack", file.name], capture_output=True, timeout=60).stdout
 
 
-def files_of(program, code, example, blocks):
+def files_of(
+    program: str, code: int, example: str, blocks: list[list[str]]
+) -> tuple[dict[str, Union[str, bytes]], list[str], str]:
     """The files of an example, the words of its call, and the file that is refused."""
     if 61 <= code <= 64:
         code_file = changed_bytes(packed(program, blocks[-1][0]), example)
@@ -73,7 +81,7 @@ def files_of(program, code, example, blocks):
     return files, ["rewind", "w", "j", times[1], "e"] if times else ["replay", "w", "j", "e"], "j"
 
 
-def fault(program, cells, blocks):
+def fault(program: str, cells: list[str], blocks: list[list[str]]) -> Optional[str]:
     """What is wrong with a row, or None."""
     code, text, _, example, place = cells
     number = int(code[1:])
@@ -88,7 +96,8 @@ def fault(program, cells, blocks):
     return None
 
 
-def main():
+def main() -> int:
+    """The command."""
     program = str(pathlib.Path(sys.argv[1]).resolve())
     page = (TOP / "docs/errors.md").read_text()
     faults = [fault(program, *row) for row in rows(page)]

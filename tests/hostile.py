@@ -10,9 +10,11 @@ The tables are the modules of tests/hostile:
   fronts    texts cut behind each line and byte, and texts with a change
   workers   runs with a worker for each tile, each report checked
 
-`--long` tries the whole of each table, and without it what takes some seconds. What is not in
-tests/built is left out. docs/reliability.md has the figures.
+`--long` tries the whole of each table, and without it what takes some seconds. docs/reliability.md
+has the figures.
 """
+from __future__ import annotations
+
 import importlib
 import pathlib
 import sys
@@ -27,9 +29,9 @@ from bench import Bench  # noqa: E402
 TABLES = ["edge", "memory", "elements", "texts", "fronts", "workers"]
 
 
-def run(program, built, long, table):
+def run(program: str, long: bool, table: str) -> bool:
     """Runs a table, and says whether all of it held."""
-    bench = Bench(program, built, long)
+    bench = Bench(program, long)
     bench.title = table
     begin = time.monotonic()
     print(f"{table}:", flush=True)
@@ -42,14 +44,14 @@ def run(program, built, long, table):
     return not bench.faults
 
 
-def main():
+def main() -> int:
+    """The command."""
     words = [word for word in sys.argv[1:] if word != "--long"]
     if not words or not set(words[1:]) <= set(TABLES):
         print(__doc__, file=sys.stderr)
         return 2
-    built = set((HERE / "built").read_text().strip().split(","))
     long = "--long" in sys.argv
-    held = [run(words[0], built, long, table) for table in words[1:] or TABLES]
+    held = [run(words[0], long, table) for table in words[1:] or TABLES]
     return 0 if all(held) else 1
 
 

@@ -8,20 +8,24 @@ is a call; a block behind `writes`, or a paragraph that ends with it, has what t
 and one behind `begins with` the first lines of it. A call that ends with `>report` leaves its report.
 The map of crates has a row for each crate of crates.txt.
 """
+from __future__ import annotations
+
 import pathlib
 import re
 import shutil
 import subprocess
 import sys
 import tempfile
+from typing import Iterator
 
 TOP = pathlib.Path(__file__).resolve().parent.parent
 FOLDERS = "bench|crates|docs|examples|tests"
 
 
-def pieces(page):
+def pieces(page: str) -> Iterator[tuple[str, str]]:
     """The blocks of a page, each with the last line of the text before it."""
-    before, block = "", []
+    before = ""
+    block: list[str] = []
     for line in [*page.splitlines(), "end"]:
         if line.startswith("    "):
             block.append(line[4:])
@@ -34,14 +38,14 @@ def pieces(page):
             block.append("")
 
 
-def lost_paths(page, folder):
+def lost_paths(page: str, folder: pathlib.Path) -> list[str]:
     """The links and the paths of a page that lead nowhere."""
     links = [(folder / it, it) for it in re.findall(r"\]\(([^)#:]+)\)", page)]
     paths = [(TOP / it, it) for it in re.findall(rf"`((?:{FOLDERS})/[\w./-]+)`", page)]
     return [f"{name} is not there" for path, name in [*links, *paths] if "NAME" not in name and not path.exists()]
 
 
-def call(program, line, folder):
+def call(program: str, line: str, folder: pathlib.Path) -> str:
     """What a call writes."""
     words, _, to = line.removeprefix("./feast ").partition(" >")
     text = subprocess.run([program, *words.split()], cwd=folder, capture_output=True, text=True, timeout=60).stdout
@@ -50,7 +54,7 @@ def call(program, line, folder):
     return text
 
 
-def wrong_blocks(program, page, folder):
+def wrong_blocks(program: str, page: str, folder: pathlib.Path) -> Iterator[str]:
     """The blocks that differ from the file or from the call that they are of."""
     wrote = None
     for before, block in pieces(page):
@@ -69,14 +73,14 @@ def wrong_blocks(program, page, folder):
             yield f"the block behind '{before[-60:]}' differs from {text[:200]!r}"
 
 
-def map_faults():
+def map_faults() -> list[str]:
     """The crates of crates.txt that docs/crates.md has no row for, and the other way round."""
     crates = set(re.findall(r"^([a-z_]+)[^:#]*:", (TOP / "crates.txt").read_text(), re.M))
     rows = set(re.findall(r"^\| `([a-z_]+)` \|", (TOP / "docs/crates.md").read_text(), re.M)) - {"feast", "test"}
     return [f"docs/crates.md: {crate} is not in both" for crate in sorted((crates - {"feast"}) ^ rows)]
 
 
-def faults(program, path):
+def faults(program: str, path: pathlib.Path) -> list[str]:
     """What is wrong with a page."""
     page = path.read_text()
     with tempfile.TemporaryDirectory() as name:
@@ -85,7 +89,8 @@ def faults(program, path):
         return [*lost_paths(page, path.parent), *wrong_blocks(program, page, folder)]
 
 
-def main():
+def main() -> int:
+    """The command."""
     program = str(pathlib.Path(sys.argv[1]).resolve())
     pages = subprocess.run(["git", "ls-files", "*.md"], cwd=TOP, capture_output=True, text=True, check=True).stdout
     found = [f"{page}: {fault}" for page in pages.split() for fault in faults(program, TOP / page)] + map_faults()

@@ -10,23 +10,26 @@ the folder examples/ that is an input too. Where `then` has words, they are a se
 first call wrote is its input `report`, and what is compared is its output; without `expected` that has
 to be the first lines of what the first call wrote.
 """
+from __future__ import annotations
+
 import pathlib
 import shutil
 import subprocess
 import sys
 import tempfile
+from typing import IO, Optional, Sequence, Union
 
 CASES = pathlib.Path(__file__).resolve().parent / "cases"
 EXAMPLES = CASES.parent.parent / "examples"
 
 
-def words_of(file):
+def words_of(file: pathlib.Path) -> list[bytes]:
     """The words of a call, as bytes."""
     text = file.read_bytes()
     return text.split(b"\n")[:-1] if text.endswith(b"\n") else text.split(b"\n")
 
 
-def make_spaces(folder):
+def make_spaces(folder: pathlib.Path) -> None:
     """Makes the inputs that are nothing but spaces."""
     lines = folder / "spaces"
     if lines.exists():
@@ -34,7 +37,7 @@ def make_spaces(folder):
             (folder / name).write_bytes(b" " * int(size))
 
 
-def copy_examples(folder):
+def copy_examples(folder: pathlib.Path) -> None:
     """Copies the examples that the case runs on."""
     names = folder / "examples"
     if names.exists():
@@ -42,13 +45,22 @@ def copy_examples(folder):
             shutil.copy(EXAMPLES / name, folder)
 
 
-def call(program, folder, words, stdout=subprocess.PIPE):
+def call(
+    program: str, folder: pathlib.Path, words: Sequence[bytes], stdout: Union[int, IO[bytes]] = subprocess.PIPE
+) -> subprocess.CompletedProcess[bytes]:
     """One call of the program."""
-    how = {"stdin": subprocess.DEVNULL, "stdout": stdout, "stderr": subprocess.DEVNULL}
-    return subprocess.run([program.encode(), *words], cwd=folder, timeout=60, check=False, **how)
+    return subprocess.run(
+        [program.encode(), *words],
+        cwd=folder,
+        stdin=subprocess.DEVNULL,
+        stdout=stdout,
+        stderr=subprocess.DEVNULL,
+        timeout=60,
+        check=False,
+    )
 
 
-def run(program, case):
+def run(program: str, case: pathlib.Path) -> Optional[str]:
     """What is wrong with a case, or None."""
     with tempfile.TemporaryDirectory() as folder:
         copy = pathlib.Path(folder) / case.name
@@ -74,7 +86,8 @@ def run(program, case):
     return None if is_right else f"wrote {done.stdout[:200]!r}"
 
 
-def main():
+def main() -> int:
+    """The command."""
     program = str(pathlib.Path(sys.argv[1]).resolve())
     names = sys.argv[2:] or sorted(case.name for case in CASES.iterdir())
     failed = 0

@@ -1,7 +1,6 @@
 """Calls of the program as a hostile user makes them, and what they came to.
 
-A `Bench` has the program, a folder for its inputs, and the words of `tests/built`, by which a table
-finds out which forms there are. It counts what held and keeps what did not.
+A `Bench` has the program and a folder for its inputs. It counts what held and keeps what did not.
 """
 import os
 import pathlib
@@ -71,11 +70,10 @@ class Limits:
 
 
 class Bench:
-    """The program, a folder for inputs, what is built, and what held so far."""
+    """The program, a folder for inputs, whether the whole is tried, and what held so far."""
 
-    def __init__(self, program, built, long):
+    def __init__(self, program, long):
         self.program = str(pathlib.Path(program).resolve())
-        self.built = built
         self.long = long
         self.folder = pathlib.Path(tempfile.mkdtemp(prefix="hostile-"))
         self.held = 0
@@ -150,10 +148,6 @@ class Bench:
         self.notes.append(f"{self.title}: {text}")
         print(f"  {text}", flush=True)
 
-    def has(self, *words):
-        """Whether all of these are built."""
-        return all(word in self.built for word in words)
-
 
 def wait(child, seconds):
     """The status of a child and what it used; one that takes longer is killed (status -9)."""
@@ -184,9 +178,7 @@ def is_root():
 
 def main_of(table):
     """Runs one table by itself: TABLE.py PROGRAM [--long]."""
-    top = pathlib.Path(__file__).resolve().parent
-    built = set((top.parent / "built").read_text().strip().split(","))
-    bench = Bench(sys.argv[1], built, "--long" in sys.argv)
+    bench = Bench(sys.argv[1], "--long" in sys.argv)
     bench.title = table.__name__
     try:
         table(bench)

@@ -76,14 +76,8 @@ def report_of(bench, text):
     return answer.out
 
 
-def report_forms(bench):
-    """The words of the forms that read a report."""
-    forms = [["replay", "w", "j", "e"]]
-    if bench.has("audit"):
-        forms.append(["audit", "w", "j", "e"])
-    if bench.has("rewind"):
-        forms.append(["rewind", "w", "j", "0", "e"])
-    return forms
+# The words of the forms that read a report.
+REPORT_FORMS = [["replay", "w", "j", "e"], ["audit", "w", "j", "e"], ["rewind", "w", "j", "0", "e"]]
 
 
 def report_answer(bench, name, words, text, fault):
@@ -100,7 +94,7 @@ def report_fronts(bench):
     for kind, text in WORLDS.items():
         report = report_of(bench, text)
         world = reading.read_world(text, NAMES)
-        for words in report_forms(bench):
+        for words in REPORT_FORMS:
             for count in range(report.count(b"\n")):
                 fault = 80, count + 1, 0
                 front = of_line(report, count)
@@ -111,7 +105,7 @@ def report_fronts(bench):
         for count in range(len(report)):
             front = report[:count]
             fault = reading.report_fault(front, world)
-            report_answer(bench, f"{kind}: its first {count} bytes", report_forms(bench)[0], front, fault)
+            report_answer(bench, f"{kind}: its first {count} bytes", REPORT_FORMS[0], front, fault)
             tried += 1
     return tried
 
@@ -275,9 +269,7 @@ def fronts(bench):
     """The table."""
     bench.write("e", WALKER)
     draw = random.Random(30)
-    tried = world_fronts(bench) + report_fronts(bench)
-    if bench.has("steppack"):
-        tried += code_fronts(bench)
+    tried = world_fronts(bench) + report_fronts(bench) + code_fronts(bench)
     tried += changed_worlds(bench, draw) + changed_reports(bench, draw) + changed_elements(bench, draw)
     bench.note(f"{tried} texts in all")
 

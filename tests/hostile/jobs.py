@@ -48,46 +48,44 @@ class Job:
     """A form's name, its words, its inputs in the order in which they are loaded, and what it writes
     (None: whatever it writes without a fault, which is the same each time)."""
 
-    def __init__(self, name, needs, words, files, out):
+    def __init__(self, name, words, files, out):
         self.name = name
-        self.needs = needs
         self.words = words.split()
         self.files = files
         self.out = out
 
 
 JOBS = [
-    Job("check", ["check"], "check e", [element(WALKER)], LAYOUT),
-    Job("code", ["code"], "code e", [element(WALKER)], CODE),
-    Job("pack", ["pack"], "pack e", [element(WALKER)], PACKED),
-    Job("run", ["run"], "run w e", [world(ONE_TILE), element(WALKER)], ONE_REPORT),
-    Job("run of two tiles", ["run", "threads"], "run w e", [world(TWO_TILES), element(WALKER)], TWO_REPORT),
-    Job("step", ["step"], "step w e", [world(TWO_TILES), element(WALKER)], TWO_REPORT),
-    Job("runpack", ["runpack", "threads"], "runpack w c", [world(TWO_TILES), code(PACKED)], TWO_REPORT),
-    Job("steppack", ["steppack"], "steppack w c", [world(TWO_TILES), code(PACKED)], TWO_REPORT),
+    Job("check", "check e", [element(WALKER)], LAYOUT),
+    Job("code", "code e", [element(WALKER)], CODE),
+    Job("pack", "pack e", [element(WALKER)], PACKED),
+    Job("run", "run w e", [world(ONE_TILE), element(WALKER)], ONE_REPORT),
+    Job("run of two tiles", "run w e", [world(TWO_TILES), element(WALKER)], TWO_REPORT),
+    Job("step", "step w e", [world(TWO_TILES), element(WALKER)], TWO_REPORT),
+    Job("runpack", "runpack w c", [world(TWO_TILES), code(PACKED)], TWO_REPORT),
+    Job("steppack", "steppack w c", [world(TWO_TILES), code(PACKED)], TWO_REPORT),
     Job(
-        "replay", ["replay"], "replay w j e", [world(TWO_TILES), element(WALKER), report(TWO_REPORT)],
+        "replay", "replay w j e", [world(TWO_TILES), element(WALKER), report(TWO_REPORT)],
         b"feast 1\natoms 1\n16 4 Walker " + STATE + b"\n",
     ),
-    Job("audit", ["audit"], "audit w j e", [world(TWO_TILES), element(WALKER), report(TWO_REPORT)], b"yes\n"),
+    Job("audit", "audit w j e", [world(TWO_TILES), element(WALKER), report(TWO_REPORT)], b"yes\n"),
     Job(
-        "rewind", ["rewind"], "rewind w j 0 e", [world(TWO_TILES), element(WALKER), report(TWO_REPORT)],
+        "rewind", "rewind w j 0 e", [world(TWO_TILES), element(WALKER), report(TWO_REPORT)],
         b"feast 1\natoms 1\n15 4 Walker " + STATE + b"\n",
     ),
-    Job("gen", ["gen"], "gen 5", [], None),
+    Job("gen", "gen 5", [], None),
 ]
 
 
 def jobs_of(bench):
-    """The jobs whose forms are built, their inputs made, and each with what it writes."""
+    """The jobs, their inputs made, and each with what it writes."""
     for job in JOBS:
-        if bench.has(*job.needs):
-            lay(bench, job)
-            answer = bench.call(job.words)
-            if job.out is None:
-                job.out = answer.out
-            if bench.expect(f"{job.name}: as it is", answer, 0, job.out):
-                yield job
+        lay(bench, job)
+        answer = bench.call(job.words)
+        if job.out is None:
+            job.out = answer.out
+        if bench.expect(f"{job.name}: as it is", answer, 0, job.out):
+            yield job
 
 
 def lay(bench, job):

@@ -107,12 +107,8 @@ def large(bench):
     bench.write("e", WALKER)
     bench.make("long", [WALKER, b" " * (1_048_576 - len(WALKER))])
     bench.make("text", [b"feast 1\ntiles 1 1\nsize 8 8\n", (b"try 0 0 0 " + ZEROS + b"\n") * 100_000])
-    forms = [["check", "long"], ["run", "text", "e"], ["step", "text", "e"], ["step", "w", "e"]]
-    if bench.has("threads"):
-        forms.append(["run", "w", "e"])
-    if bench.has("gen"):
-        forms.append(["gen", "1"])
-    for words in forms:
+    plane = [["step", "w", "e"], ["run", "w", "e"]]
+    for words in [["check", "long"], ["run", "text", "e"], ["step", "text", "e"], *plane, ["gen", "1"]]:
         enough = least_space(bench, words, DONE)
         begins = least_space(bench, [], 2)
         whole = bench.call(words)

@@ -192,10 +192,8 @@ def report_forms(bench, count, verdict=b"yes\n"):
     """The words of the forms that read a report of a plane without atoms, each with what it writes."""
     empty = b"feast 1\natoms 0\n"
     yield ["replay", "w", "j", "e"], empty
-    if bench.has("audit"):
-        yield ["audit", "w", "j", "e"], verdict
-    if bench.has("rewind"):
-        yield ["rewind", "w", "j", count, "e"], empty
+    yield ["audit", "w", "j", "e"], verdict
+    yield ["rewind", "w", "j", count, "e"], empty
 
 
 def most_attempts(bench):
@@ -316,10 +314,9 @@ def too_long(bench):
     for more, status, out in ((0, BAD_JOURNAL, b"j:1:1: E80 bad line\n"), (1, UNREADABLE, b"j: E02 longer than 268435456 bytes\n")):
         pieces = [*spaces, b" " * (rest + more)]
         long_text(bench, f"a report of {MOST + more:,} bytes", ["replay", "w", "j", "e"], "j", pieces, status, out)
-    if bench.has("steppack"):
-        for more, status, out in ((0, BAD_CODE, b"c:1:1: E61 not a code file\n"), (1, UNREADABLE, b"c: E02 longer than 268435456 bytes\n")):
-            pieces = [*spaces, b" " * (rest + more)]
-            long_text(bench, f"a code file of {MOST + more:,} bytes", ["steppack", "w", "c"], "c", pieces, status, out)
+    for more, status, out in ((0, BAD_CODE, b"c:1:1: E61 not a code file\n"), (1, UNREADABLE, b"c: E02 longer than 268435456 bytes\n")):
+        pieces = [*spaces, b" " * (rest + more)]
+        long_text(bench, f"a code file of {MOST + more:,} bytes", ["steppack", "w", "c"], "c", pieces, status, out)
 
 
 def full_plane(bench):
@@ -362,8 +359,7 @@ def texts(bench):
     total = MOST if bench.long else 16 * MILLION
     long_worlds(bench, total)
     long_reports(bench, total)
-    if bench.has("steppack"):
-        long_codes(bench, total)
+    long_codes(bench, total)
     if bench.long:
         too_long(bench)
 

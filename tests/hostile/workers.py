@@ -1,10 +1,15 @@
 """Runs with a worker for each tile: many small ones of many tiles, each report checked; workers of very
 unequal load; all on one processor; and workers on small stacks or without any thread.
 
+On the examples' tiles no tile may make far fewer events than the others.
+
 What a report has to be is asked of the program itself, by forms that know no threads: `replay` of it has
 to write its atoms, and `audit` has to say yes. Its entries are counted here.
 """
+import os
+import pathlib
 import random
+import statistics
 import sys
 
 from bench import DONE, MEMORY, Limits, main_of, tool
@@ -21,6 +26,7 @@ element Spin { Void behave() { while (true) { } } }
 element Fail { Random random; Void behave() { if (random.oneIn(3)) random.create(0); } }
 element Slow { EventWindow ew; Int x; Void behave() { for (Int i = 0; i < 900; i++) x = x * 7 + i; ew.swap(0, 4); } }
 """
+EXAMPLES = pathlib.Path(__file__).resolve().parents[2] / "examples"
 KINDS = [b"Wander", b"Copy", b"Eat", b"Spin", b"Fail", b"Slow"]
 
 
@@ -112,6 +118,39 @@ def crowded(bench):
     bench.note(f"crowded borders: {64 * count} attempts, {abandoned} abandoned")
 
 
+def events_of_tiles(report, tiles):
+    """How many events of a report each tile made."""
+    _, records, _ = sections(report)
+    lines = report.split(b"\n")
+    first = lines.index(b"journal %d" % records) + 1
+    events = [0] * tiles
+    for line in lines[first : first + records]:
+        events[int(line.split(b" ", 2)[1])] += 1
+    return events
+
+
+def even(bench):
+    """On the examples' tiles each tile makes at least a third of the mean number of events, as the middle of
+    five runs. The aim is more than twice that, so that a busy machine passes too."""
+    if len(os.sched_getaffinity(0)) < 2:
+        bench.note("how evenly tiles act: left out, since there is one processor")
+        return
+    for name in ("diffusion", "regulator", "sorter"):
+        world = (EXAMPLES / f"{name}-tiles.world").read_bytes()
+        bench.write("w", world)
+        bench.write("e", (EXAMPLES / f"{name}.ulam").read_bytes())
+        runs = []
+        for _ in range(5):
+            answer = bench.call(["run", "w", "e"])
+            if not bench.say(answer.status == DONE, f"{name} on tiles", answer.shown()):
+                return
+            runs.append(events_of_tiles(bench.at("standard.output").read_bytes(), 4))
+        middle = [statistics.median(counts) for counts in zip(*runs)]
+        bench.say(min(middle) >= statistics.mean(middle) / 3, f"{name}: the events of each tile", f"{middle}")
+        bench.note(f"{name} on tiles: the middle numbers of events are {middle}")
+    bench.write("e", ELEMENTS)
+
+
 def stacks(bench):
     """The deepest elements in workers, whose stacks are as large as the limit on stacks says."""
     world = b"feast 1\ntiles 2 1\nsize 8 8\ntry 0 3 4 " + ZEROS + b"\ntry 1 12 4 " + ZEROS + b"\natom 3 4 A\natom 12 4 A\n"
@@ -147,6 +186,7 @@ def workers(bench):
     many(bench)
     unequal(bench)
     crowded(bench)
+    even(bench)
     stacks(bench)
     threadless(bench)
     if tool("taskset") is not None:

@@ -1,12 +1,19 @@
 """Calls of the lab and of the program, for the tests."""
+import io
 import os
+import re
 import subprocess
 import tempfile
 import unittest
+from contextlib import redirect_stderr, redirect_stdout
+from dataclasses import dataclass
 from pathlib import Path
+
+from lab.main import main
 
 TOP = Path(__file__).resolve().parent.parent.parent
 EXAMPLES = TOP / "examples"
+PROGRESS = re.compile(r"^.*: \d+ % done.*\n", re.MULTILINE)
 Word = str | Path
 
 
@@ -28,7 +35,28 @@ def around(instead: Path | None = None) -> dict[str, str]:
 
 def lab(*words: Word, instead: Path | None = None) -> subprocess.CompletedProcess[str]:
     """A call of the lab, with another program than that of the tests if one is named."""
-    return subprocess.run([TOP / "lab", *words], capture_output=True, text=True, env=around(instead), timeout=300, check=False)
+    return subprocess.run([TOP / "lab", *words], capture_output=True, text=True, env=around(instead), timeout=300,
+                          check=False)
+
+
+@dataclass(frozen=True)
+class Done:
+    """A call of the lab that is over: its status, what it wrote, and what it said but for its progress."""
+
+    status: int
+    wrote: str
+    said: str
+
+
+def here(*words: Word) -> Done:
+    """A call of the lab in the process of the tests, which is over sooner."""
+    out, errors = io.StringIO(), io.StringIO()
+    with redirect_stdout(out), redirect_stderr(errors):
+        try:
+            status = main([str(word) for word in words])
+        except SystemExit as end:
+            status = int(end.code or 0)
+    return Done(status, out.getvalue(), PROGRESS.sub("", errors.getvalue()))
 
 
 class LabCase(unittest.TestCase):
@@ -47,15 +75,15 @@ class LabCase(unittest.TestCase):
 
     def passes(self, *words: Word) -> str:
         """What a call of the lab writes that is to go well, without a word on standard error."""
-        done = lab(*words)
-        self.assertEqual((done.returncode, done.stderr), (0, ""))
-        return done.stdout
+        done = here(*words)
+        self.assertEqual((done.status, done.said), (0, ""))
+        return done.wrote
 
     def refused(self, says: str, *words: Word) -> None:
         """Tries that a call of the lab is refused in one line, which has these words, and writes nothing else."""
         before = sorted(self.room.rglob("*"))
-        done = lab(*words)
-        self.assertEqual((done.returncode, done.stdout), (2, ""), done.stderr)
-        self.assertRegex(done.stderr, r"\Alab: [^\n]*\n\Z")
-        self.assertIn(says, done.stderr)
+        done = here(*words)
+        self.assertEqual((done.status, done.wrote), (2, ""), done.said)
+        self.assertRegex(done.said, r"\Alab: [^\n]*\n\Z")
+        self.assertIn(says, done.said)
         self.assertEqual(sorted(self.room.rglob("*")), before)

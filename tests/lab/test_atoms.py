@@ -6,7 +6,8 @@ import io
 from calls import EXAMPLES, LabCase, feast
 
 ELEMENTS = """quark Part { Unsigned(4) count; Bool on; }
-element Cell { Int(5) level; Unary(4) ones; Bits(8) mask; Bool f; Int(3) list[2]; Part part; EventWindow ew; Void behave() { } }
+element Cell {
+  Int(5) level; Unary(4) ones; Bits(8) mask; Bool f; Int(3) list[2]; Part part; EventWindow ew; Void behave() { } }
 element Wall { Unsigned(64) level; Bool f; EventWindow ew; Void behave() { } }
 element Bare { EventWindow ew; Void behave() { } }
 """
@@ -38,18 +39,20 @@ class Atoms(LabCase):
     def test_example(self) -> None:
         """The places of the posts of a fence: those that their digits say."""
         report = feast("run", EXAMPLES / "fence.world", EXAMPLES / "fence.ulam")
-        rows = list(csv.DictReader(io.StringIO(self.passes("atoms", self.file("report", report), EXAMPLES / "fence.ulam"))))
+        told = self.passes("atoms", self.file("report", report), EXAMPLES / "fence.ulam")
+        rows = list(csv.DictReader(io.StringIO(told)))
         lines = [line.split() for line in report.splitlines() if len(line.split()) == 4]
         self.assertGreater(len(lines), 5)
+        places = [str(int(state[:2], 16)) if name == "Fence" else "" for _, _, name, state in lines]
         self.assertEqual([[row["x"], row["y"], row["element"], row["place"]] for row in rows],
-                         [[x, y, name, str(int(state[:2], 16)) if name == "Fence" else ""] for x, y, name, state in lines])
+                         [[*line[:3], place] for line, place in zip(lines, places, strict=True)])
 
     def test_refused(self) -> None:
         elements = self.file("e.ulam", ELEMENTS)
         text = feast("step", self.file("w", WORLD), elements)
         report = self.file("report", text)
         self.refused("report: it has atoms of Wall, which no file has as an element", "atoms", report,
-                     self.file("fewer.ulam", "\n".join(ELEMENTS.splitlines()[:2])))
+                     self.file("fewer.ulam", "\n".join(ELEMENTS.splitlines()[:3])))
         self.refused("nowhere: can't be read: no such file", "atoms", self.room / "nowhere", elements)
         self.refused("report:2: no report", "atoms", self.file("report", text.replace("atoms", "atom")), elements)
         self.refused("report:6: no report", "atoms", self.file("report", text.replace("journal", "journey")), elements)

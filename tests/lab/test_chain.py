@@ -9,10 +9,33 @@ import subprocess
 import sys
 from pathlib import Path
 
-from calls import EXAMPLES, LabCase, around, feast, lab, program
+from calls import EXAMPLES, LabCase, around, feast, here, lab, program
 
-WORLD = EXAMPLES / "regulator-tiles.world"
-ELEMENTS = EXAMPLES / "regulator.ulam"
+WORLD = """feast 1
+# a chain begins here
+tiles 2 2
+size 8 8
+seed 3
+attempts 500
+atom 1 2 Resource
+atom 4 4 Regulator
+atom 11 4 Regulator
+atom 4 11 Regulator
+order 1 2 3
+"""
+ELEMENTS = """element Regulator {
+  EventWindow ew; Random random; Unsigned(9) age;
+  Void behave() {
+    Unsigned i = random.create(4) + 1;
+    age += 1;
+    if (!ew.isEmpty(i)) { if (random.oneIn(40)) ew[i] = Empty.instanceof; }
+    else if (random.oneIn(4)) ew[i] = self;
+    else if (random.oneIn(4)) ew[i] = Resource.instanceof;
+    else ew.swap(0, i);
+  }
+}
+element Resource { EventWindow ew; Void behave() { if (ew.isEmpty(4)) ew.swap(0, 4); } }
+"""
 HERE = Path(__file__).resolve().parent
 
 
@@ -33,12 +56,12 @@ class ChainCase(LabCase):
     def setUp(self) -> None:
         super().setUp()
         self.chain = self.room / "chain"
-        text = WORLD.read_text().replace("attempts 40000", "attempts 500").replace("atom 4 4 R", "atom 1 2 Resource\natom 4 4 R")
-        self.world = self.file("small.world", text)
+        self.world = self.file("small.world", WORLD)
+        self.elements = self.file("regulator.ulam", ELEMENTS)
 
     def words(self, legs: int, *more: str) -> list[str | Path]:
         """The words of the chain."""
-        return ["chain", self.chain, "--legs", str(legs), *more, self.world, ELEMENTS]
+        return ["chain", self.chain, "--legs", str(legs), *more, self.world, self.elements]
 
     def rows(self) -> list[dict[str, str]]:
         """The rows of the course."""
@@ -56,23 +79,25 @@ class Legs(ChainCase):
         self.assertEqual([row["leg"] for row in rows], [str(leg) for leg in range(11)])
         events = 0
         before = lines_of(self.chain / "0000.atoms")[2:]
-        self.assertEqual(sorted(before), sorted(f"{line[5:]} {'0' * 18}" for line in lines_of(self.world) if line[:4] == "atom"))
+        self.assertEqual(sorted(before), sorted(f"{line[5:]} {'0' * 18}" for line in WORLD.splitlines() if line[:4] == "atom"))
         for leg, row in enumerate(rows[1:], 1):
             world = lines_of(self.chain / f"{leg:04}.world")
             report = lines_of(self.chain / f"{leg:04}.report.gz")
-            self.assertEqual(world[:5], ["feast 1", "tiles 2 2", "size 8 8", f"seed {3 + 5 * (leg - 1)}", "attempts 500"])
+            seed = 3 + 5 * (leg - 1)
+            self.assertEqual(world[:5], ["feast 1", "tiles 2 2", "size 8 8", f"seed {seed}", "attempts 500"])
             self.assertEqual([line[5:] for line in world[5:-1]], before)
-            self.assertEqual(world[-1], f"order seed {3 + 5 * (leg - 1) + 4}")
+            self.assertEqual(world[-1], f"order seed {seed + 4}")
             records = [line for line in report if len(line.split()) == 6]
             given_up = [line for line in report if len(line.split()) == 7]
             before = [line for line in report if len(line.split()) == 4]
             events += len(records)
-            self.assertEqual((row["attempts"], row["events"], row["abandoned"]), ("2000", str(len(records)), str(len(given_up))))
+            self.assertEqual((row["attempts"], row["events"], row["abandoned"]),
+                             ("2000", str(len(records)), str(len(given_up))))
             self.assertEqual(row["aeps"], f"{events / 256:.4f}")
             self.assertEqual((row["Regulator"], row["Resource"]), (str(sum("Regulator" in line for line in before)),
                                                                    str(sum("Resource" in line for line in before))))
             self.assertEqual(lines_of(self.chain / f"{leg:04}.atoms"), ["feast 1", f"atoms {len(before)}", *before])
-            self.assertEqual("\n".join(report) + "\n", feast("step", self.chain / f"{leg:04}.world", ELEMENTS))
+            self.assertEqual("\n".join(report) + "\n", feast("step", self.chain / f"{leg:04}.world", self.elements))
         self.assertGreater(events, 4000)
         self.assertEqual(self.passes("chain", "--audit", self.chain), "yes\n")
 
@@ -136,8 +161,8 @@ class GoingOn(ChainCase):
         options = ["--step", "--keep", "reports", "--at", "2:clear:0,0,8,8"]
         expected = self.whole(6, *options)
         for leg, number in [(2, signal.SIGKILL), (4, signal.SIGTERM), (5, signal.SIGINT)]:
-            killing = self.file("killing", f"#!/bin/sh\ncase $* in step*/{leg:04}.world*) kill -{int(number)} $PPID; sleep 0.2 ;; esac\n"
-                                           f"exec {program()} \"$@\"\n")
+            kill = f"case $* in step*/{leg:04}.world*) kill -{int(number)} $PPID; sleep 0.2 ;; esac"
+            killing = self.file("killing", f"#!/bin/sh\n{kill}\nexec {program()} \"$@\"\n")
             killing.chmod(0o755)
             done = lab(*self.words(6, *options), instead=killing)
             self.assertEqual(done.returncode, -9 if number == signal.SIGKILL else 128 + number)
@@ -153,19 +178,19 @@ class GoingOn(ChainCase):
         for number in range(1, files + 1):
             shutil.rmtree(self.chain, ignore_errors=True)
             dying = [sys.executable, HERE / "dying.py", str(number), *self.words(2, *options)]
-            killed = subprocess.run(dying, capture_output=True, env=around(), timeout=60, check=False)
+            killed = subprocess.run(dying, capture_output=True, env=around(), timeout=300, check=False)
             self.assertEqual(killed.returncode, -signal.SIGKILL, number)
             self.passes(*self.words(2, *options))
             self.assertEqual(contents(self.chain), expected, number)
         done = subprocess.run([sys.executable, HERE / "dying.py", str(files + 1), *self.words(2, *options)],
-                              capture_output=True, env=around(), timeout=60, check=False)
+                              capture_output=True, env=around(), timeout=300, check=False)
         self.assertEqual(done.returncode, 0)
 
     def test_begun_anew_with_other_elements(self) -> None:
         """A beginning that was killed leaves nothing behind that a later one takes for its own."""
-        other = self.file("aaa.ulam", ELEMENTS.read_text() + "element Further { Void behave() { } }\n")
+        other = self.file("aaa.ulam", ELEMENTS + "element Further { Void behave() { } }\n")
         dying = [sys.executable, HERE / "dying.py", "3", "chain", self.chain, "--legs", "1", self.world, other]
-        subprocess.run(dying, capture_output=True, env=around(), timeout=60, check=False)
+        subprocess.run(dying, capture_output=True, env=around(), timeout=300, check=False)
         self.assertTrue((self.chain / "elements").exists())
         self.passes(*self.words(1))
         self.assertEqual(list(self.rows()[0])[5:], ["Regulator", "Resource"])
@@ -183,7 +208,7 @@ class GoingOn(ChainCase):
         expected = self.whole(3, "--step")
         self.passes(*self.words(1, "--step"))
         self.assertEqual((self.chain / "start.world").read_bytes(), self.world.read_bytes())
-        renamed = self.file("renamed.ulam", ELEMENTS.read_text())
+        renamed = self.file("renamed.ulam", ELEMENTS)
         self.passes("chain", self.chain, "--legs", "3", "--step", self.world, renamed)
         self.assertEqual(contents(self.chain), expected)
 
@@ -196,11 +221,12 @@ class Refused(ChainCase):
         self.refused("begun with --step set, not not set", *self.words(2))
         self.refused("begun with --seed 3, not 4", *self.words(2, "--step", "--seed", "4"))
         self.refused("begun with --keep none, not reports", *self.words(2, "--step", "--keep", "reports"))
-        self.refused("begun with --at not set, not 2:clear:0,0,1,1", *self.words(2, "--step", "--at", "2:clear:0,0,1,1"))
-        other = self.file("other.ulam", ELEMENTS.read_text() + " ")
+        self.refused("begun with --at not set, not 2:clear:0,0,1,1",
+                     *self.words(2, "--step", "--at", "2:clear:0,0,1,1"))
+        other = self.file("other.ulam", ELEMENTS + " ")
         self.refused("begun with other elements", "chain", self.chain, "--legs", "2", "--step", self.world, other)
         world = self.file("other.world", self.world.read_text() + "# another\n")
-        self.refused("begun with another world", "chain", self.chain, "--legs", "2", "--step", world, ELEMENTS)
+        self.refused("begun with another world", "chain", self.chain, "--legs", "2", "--step", world, self.elements)
         self.assertEqual(len(self.rows()), 2)
 
     def test_damaged_folder(self) -> None:
@@ -223,9 +249,7 @@ class Refused(ChainCase):
             self.refused(says, *self.words(3, "--step"))
             path.write_bytes(kept[name])
         (self.chain / "0002.atoms").unlink()
-        done = lab(*self.words(3, "--step"))
-        self.assertEqual((done.returncode, done.stdout), (2, ""))
-        self.assertIn("0002.atoms: can't be read: no such file", done.stderr)
+        self.refused("0002.atoms: can't be read: no such file", *self.words(3, "--step"))
         self.file("chain/elements/01-more.ulam", "")
         self.refused("elements: not as it was", *self.words(3, "--step"))
         shutil.rmtree(self.chain / "elements")
@@ -234,19 +258,20 @@ class Refused(ChainCase):
     def test_words(self) -> None:
         self.refused("--legs 0: a chain has at least one leg", *self.words(0))
         self.refused("--seed -1: a seed is from 0", *self.words(1, "--seed", "-1"))
-        for text in ("1:clear:0,0,1", "0:clear:0,0,1,1", "1:clear:0,0,17,1", "1:clear:16,0,1,1", "1:clear:0,0,0,1", "1:clear:0,0,1,0",
-                     "1:clear:0,15,1,2", "1:fill:0,0,1,1"):
+        for text in ("1:clear:0,0,1", "0:clear:0,0,1,1", "1:clear:0,0,17,1", "1:clear:16,0,1,1", "1:clear:0,0,0,1",
+                     "1:clear:0,0,1,0", "1:clear:0,15,1,2", "1:fill:0,0,1,1"):
             self.refused(f"--at {text}: ", *self.words(1, "--at", text))
         self.refused("invalid int value: 'two'", "chain", self.chain, "--legs", "two", self.world, ELEMENTS)
         self.refused("required: FILE", "chain", self.chain, "--legs", "2", self.world)
 
     def test_inputs(self) -> None:
-        self.refused("nowhere.world: can't be read", "chain", self.chain, "--legs", "1", self.room / "nowhere.world", ELEMENTS)
-        self.refused("walk.world: its attempts have to be drawn",
-                     "chain", self.chain, "--legs", "1", EXAMPLES / "walk.world", EXAMPLES / "walker.ulam")
-        self.refused("small.world:8:1: E73 unknown element", "chain", self.chain, "--legs", "1", self.world, EXAMPLES / "walker.ulam")
+        words = ["chain", self.chain, "--legs", "1"]
+        walker = EXAMPLES / "walker.ulam"
+        self.refused("nowhere.world: can't be read", *words, self.room / "nowhere.world", self.elements)
+        self.refused("walk.world: its attempts have to be drawn", *words, EXAMPLES / "walk.world", walker)
+        self.refused("small.world:7:1: E73 unknown element", *words, self.world, walker)
         bad = self.file("bad.ulam", "element A { }")
-        self.refused("bad.ulam:1:9: E33 no behave", "chain", self.chain, "--legs", "1", self.world, bad)
+        self.refused("bad.ulam:1:9: E33 no behave", *words, self.world, bad)
 
     def test_folders(self) -> None:
         self.chain.mkdir()
@@ -258,7 +283,7 @@ class Refused(ChainCase):
         self.refused("chain: can't be the folder of a chain: file exists", *self.words(1))
         (self.room / "chain").unlink()
         (self.chain / "elements").mkdir(parents=True)
-        own = self.file("chain/elements/00-own.ulam", ELEMENTS.read_text())
+        own = self.file("chain/elements/00-own.ulam", ELEMENTS)
         self.refused("other files, such as elements", "chain", self.chain, "--legs", "1", self.world, own)
 
     def test_two_at_once(self) -> None:
@@ -290,15 +315,15 @@ class Audits(ChainCase):
             ("0001.atoms", kept["0001.atoms"] + b"#", "no leg 1: 0001.atoms has other atoms"),
             ("0000.atoms", kept["0001.atoms"], "no leg 0: 0000.atoms has other atoms"),
             ("start.world", kept["start.world"] + b"#", "no start: start.world is not as it was"),
-            ("elements/00-regulator.ulam", kept["elements/00-regulator.ulam"] + b" ", "no start: 00-regulator.ulam is not as it was"),
+            ("elements/00-regulator.ulam", ELEMENTS.encode() + b" ", "no start: 00-regulator.ulam is not as it was"),
             ("course.csv", kept["course.csv"].replace(b"\n1,2000,", b"\n1,2001,"), "no leg 1: its row in the course"),
         ]:
             self.assertNotEqual(kept[name], data, name)
             (self.chain / name).write_bytes(data)
-            done = lab("chain", "--audit", self.chain)
-            self.assertEqual((done.returncode, done.stderr), (1, ""), name)
-            self.assertEqual(done.stdout.count("\n"), 1)
-            self.assertTrue(done.stdout.startswith(says), done.stdout)
+            done = here("chain", "--audit", self.chain)
+            self.assertEqual((done.status, done.said), (1, ""), name)
+            self.assertEqual(done.wrote.count("\n"), 1)
+            self.assertTrue(done.wrote.startswith(says), done.wrote)
             (self.chain / name).write_bytes(kept[name])
         self.assertEqual(self.passes("chain", "--audit", self.chain), "yes\n")
 
@@ -309,6 +334,6 @@ class Audits(ChainCase):
         (self.chain / "0002.report.gz").write_bytes(b"\x1f\x8bnothing")
         self.refused("0002.report.gz: ", "chain", "--audit", self.chain)
         (self.chain / "0002.report.gz").write_bytes(b"something else")
-        done = lab("chain", "--audit", self.chain)
-        self.assertEqual((done.returncode, done.stderr), (1, ""))
-        self.assertIn("no leg 2: the audit of its report: ", done.stdout)
+        done = here("chain", "--audit", self.chain)
+        self.assertEqual((done.status, done.said), (1, ""))
+        self.assertIn("no leg 2: the audit of its report: ", done.wrote)

@@ -2,9 +2,11 @@
 from calls import LabCase, feast
 
 ELEMENTS = """quark Part { Unsigned(4) count; Bool on; }
-element Cell { Int(5) level; Unary(4) ones; Bits(8) mask; Bool f; Int(3) list[2]; Part part; EventWindow ew; Void behave() { } }
+element Cell {
+  Int(5) level; Unary(4) ones; Bits(8) mask; Bool f; Int(3) list[2]; Part part; EventWindow ew; Void behave() { } }
 element Wall { EventWindow ew; Void behave() { } }
 """
+SIZE = ["--size", "8", "8"]
 GLIDER = "#N Glider\n#C a comment\nx = 3, y = 3, rule = B3/S23\nbo$2bo$\n3o!\nwhat follows is not read\n"
 
 
@@ -20,13 +22,15 @@ class Paintings(LabCase):
         return ["paint", self.file("map", text), *more, self.elements]
 
     def test_letters(self) -> None:
-        told = self.passes(*self.words("#. A\n\n  #.A\r\n       #\n", "--size", "8", "8", "--key", "#=Wall",
-                                       "--key", "A=Cell:level=-3,ones=2,mask=0xa5,f=true,list[1]=-1,part.count=9,part.on=1"))
+        told = self.passes(*self.words("#. A\n\n  #.A\r\n       #\n", *SIZE, "--key", "#=Wall",
+                                       "--key", 
+                                       "A=Cell:level=-3,ones=2,mask=0xa5,f=true,list[1]=-1,part.count=9,part.on=1"))
         # level 11101, ones 0011, mask 10100101, f 1, list 000 111, part 1001 1: behind a first bit of 0
         bits = ("0" + "11101" + "0011" + "10100101" + "1" + "000" + "111" + "1001" + "1").ljust(72, "0")
         state = f"{int(bits, 2):018x}"
-        self.assertEqual(told.splitlines(), ["feast 1", "tiles 1 1", "size 8 8", f"atom 0 0 Wall {'0' * 18}", f"atom 3 0 Cell {state}",
-                                             f"atom 2 2 Wall {'0' * 18}", f"atom 4 2 Cell {state}", f"atom 7 3 Wall {'0' * 18}"])
+        self.assertEqual(told.splitlines(), [
+            "feast 1", "tiles 1 1", "size 8 8", f"atom 0 0 Wall {'0' * 18}", f"atom 3 0 Cell {state}",
+            f"atom 2 2 Wall {'0' * 18}", f"atom 4 2 Cell {state}", f"atom 7 3 Wall {'0' * 18}"])
         report = feast("step", self.file("w", told), self.elements)
         self.assertEqual(report.splitlines()[2:7], [line[5:] for line in told.splitlines()[3:]])
 
@@ -38,18 +42,18 @@ class Paintings(LabCase):
         self.assertIn("journal 42", feast("step", self.file("w", told), self.elements))
 
     def test_pattern(self) -> None:
-        told = self.passes(*self.words(GLIDER, "--key", "o=Wall", "--size", "8", "8", "--place", "2", "1"))
+        told = self.passes(*self.words(GLIDER, "--key", "o=Wall", *SIZE, "--place", "2", "1"))
         self.assertEqual([line.split()[1:3] for line in told.splitlines()[3:]],
                          [["3", "1"], ["4", "2"], ["2", "3"], ["3", "3"], ["4", "3"]])
 
     def test_states_of_patterns(self) -> None:
-        told = self.passes(*self.words("x = 9, y = 9\n2.AB3$.2pA\n2 yOX!", "--key", "A=Cell:level=1", "--key", "B=Wall", "--key", "pA=Cell:f=true",
-                                       "--key", "yO=Wall", "--key", "X=Wall", "--size", "8", "8"))
+        told = self.passes(*self.words("x = 9, y = 9\n2.AB3$.2pA\n2 yOX!", "--key", "A=Cell:level=1", "--key", "B=Wall",
+                                       "--key", "pA=Cell:f=true", "--key", "yO=Wall", "--key", "X=Wall", *SIZE))
         self.assertEqual([" ".join(line.split()[1:4]) for line in told.splitlines()[3:]],
                          ["2 0 Cell", "3 0 Wall", "1 3 Cell", "2 3 Cell", "3 3 Wall", "4 3 Wall", "5 3 Wall"])
 
     def test_symbol_that_is_an_equals_sign(self) -> None:
-        told = self.passes(*self.words("=\n", "--key", "==Wall", "--size", "8", "8"))
+        told = self.passes(*self.words("=\n", "--key", "==Wall", *SIZE))
         self.assertEqual(told.splitlines()[3], f"atom 0 0 Wall {'0' * 18}")
 
     def test_refused_keys(self) -> None:
@@ -60,34 +64,34 @@ class Paintings(LabCase):
             ("A=Cell:ones=5", "Cell.ones can't be 5: it goes from 0 to 4"),
             ("A=Cell:f=2", "Cell.f can't be 2: it goes from 0 to 1"),
             ("A=Cell:level=ten", "ten is no number"),
-            ("A=Cell:list=1", "Cell has no member list; it has level, ones, mask, f, list[0], list[1], part.count, part.on"),
+            ("A=Cell:list=1", "Cell has no member list; it has level, ones, mask, f, list[0], list[1], part.count"),
             ("A=Cell:list[2]=1", "Cell has no member list[2]"),
             ("A=Part", "no file has an element Part; there are Cell, Wall"),
             ("A=Cell:f=1,f=0", "f is given twice"),
             (".=Wall", "--key .: it is always empty"),
         ]:
-            self.refused(f"{says}", *self.words("A\n", "--key", text, "--size", "8", "8"))
-        self.refused("--key A: it is given twice", *self.words("A\n", "--key", "A=Wall", "--key", "A=Cell", "--size", "8", "8"))
+            self.refused(f"{says}", *self.words("A\n", "--key", text, *SIZE))
+        self.refused("--key A: it is given twice", *self.words("A\n", "--key", "A=Wall", "--key", "A=Cell", *SIZE))
 
     def test_refused_maps(self) -> None:
         key = ["--key", "A=Wall", "--key", "o=Wall"]
-        self.refused("map: B at column 1 of row 1 has no --key", *self.words("A\n.B\n", *key, "--size", "8", "8"))
-        self.refused("A would stand at 8 0, outside the plane of 8 by 8", *self.words("........A\n", *key, "--size", "8", "8"))
-        self.refused("A would stand at 0 8, outside", *self.words("\n" * 8 + "A\n", *key, "--size", "8", "8"))
-        self.refused("A would stand at -1 0, outside", *self.words("A\n", *key, "--size", "8", "8", "--place", "-1", "0"))
-        self.refused("o would stand at 8 0, outside", *self.words("x = 1, y = 1\n99999999999999999999o!", *key, "--size", "8", "8"))
-        self.refused("map: 3q is no part of a pattern in RLE", *self.words("x = 1, y = 1\n3q!", *key, "--size", "8", "8"))
-        self.refused("map: the pattern has no end", *self.words("x = 1, y = 1\n3o", *key, "--size", "8", "8"))
+        self.refused("map: B at column 1 of row 1 has no --key", *self.words("A\n.B\n", *key, *SIZE))
+        self.refused("A would stand at 8 0, outside the plane of 8 by 8", *self.words("........A\n", *key, *SIZE))
+        self.refused("A would stand at 0 8, outside", *self.words("\n" * 8 + "A\n", *key, *SIZE))
+        self.refused("A would stand at -1 0, outside", *self.words("A\n", *key, *SIZE, "--place", "-1", "0"))
+        self.refused("o would stand at 8 0, outside", *self.words("x = 1, y = 1\n99999999999999999999o!", *key, *SIZE))
+        self.refused("map: 3q is no part of a pattern in RLE", *self.words("x = 1, y = 1\n3q!", *key, *SIZE))
+        self.refused("map: the pattern has no end", *self.words("x = 1, y = 1\n3o", *key, *SIZE))
         path = self.room / "map"
         path.write_bytes(b"A\xff")
-        self.refused("map: byte 2 is no part of a text in UTF-8", "paint", path, *key, "--size", "8", "8", self.elements)
+        self.refused("map: byte 2 is no part of a text in UTF-8", "paint", path, *key, *SIZE, self.elements)
 
     def test_refused_words(self) -> None:
         key = ["--key", "A=Wall"]
         self.refused("--size 7 8: both have to be from 8 to 64", *self.words("A", *key, "--size", "7", "8"))
-        self.refused("--tiles 1 9: both have to be from 1 to 8", *self.words("A", *key, "--size", "8", "8", "--tiles", "1", "9"))
-        self.refused("--seed and --attempts belong together", *self.words("A", *key, "--size", "8", "8", "--seed", "1"))
-        self.refused("--seed -1: a seed is", *self.words("A", *key, "--size", "8", "8", "--seed", "-1", "--attempts", "1"))
+        self.refused("--tiles 1 9: both have to be from 1 to 8", *self.words("A", *key, *SIZE, "--tiles", "1", "9"))
+        self.refused("--seed and --attempts belong together", *self.words("A", *key, *SIZE, "--seed", "1"))
+        self.refused("--seed -1: a seed is", *self.words("A", *key, *SIZE, "--seed", "-1", "--attempts", "1"))
         self.refused("--attempts 250001: 4 tiles may have from 0 to 250000 each",
-                     *self.words("A", *key, "--size", "8", "8", "--tiles", "2", "2", "--seed", "1", "--attempts", "250001"))
+                     *self.words("A", *key, *SIZE, "--tiles", "2", "2", "--seed", "1", "--attempts", "250001"))
         self.refused("required: --size", *self.words("A", *key))

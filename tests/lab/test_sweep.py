@@ -25,7 +25,8 @@ element Mover : Base {
 """
 STONE = "element Stone { constant Unsigned near = 3; Void behave() { } }\n"
 WORLD = "feast 1\ntiles 1 1\nsize 16 16\nseed 5\nattempts 30000\natom 4 4 Mover\natom 9 9 Mover\n"
-TILES = "feast 1\ntiles 2 1\nsize 8 16\nseed 18446744073709551615\nattempts 1000\natom 4 4 Mover\natom 9 9 Mover\norder 0 1\n"
+TILES = WORLD.replace("tiles 1 1", "tiles 2 1").replace("size 16 16", "size 8 16").replace("attempts 30000", "attempts 1000")
+TILES = TILES.replace("seed 5", "seed 18446744073709551615") + "order 0 1\n"
 
 
 class Sweeps(LabCase):
@@ -78,7 +79,8 @@ class Sweeps(LabCase):
         self.assertEqual([int(row["events"]) + int(row["abandoned"]) for row in rows], [2000] * 3)
 
     def test_other_values(self) -> None:
-        told = self.passes("sweep", "--set", "Mover.eager=true,false", "--set", "Mover.most=0,15", self.world, self.mover, self.stone)
+        told = self.passes("sweep", "--set", "Mover.eager=true,false", "--set", "Mover.most=0,15",
+                           self.world, self.mover, self.stone)
         self.assertEqual([row[:2] for row in csv.reader(io.StringIO(told))][1:],
                          [["true", "0"], ["true", "15"], ["false", "0"], ["false", "15"]])
 
@@ -93,7 +95,8 @@ class Sweeps(LabCase):
 
     def test_refused_values(self) -> None:
         files = [self.world, self.mover, self.stone]
-        self.refused(f"{self.mover}:9:45: E34 bad constant (with Mover.most=16)", "sweep", "--set", "Mover.most=3,16", *files)
+        self.refused(f"{self.mover}:9:45: E34 bad constant (with Mover.most=16)",
+                     "sweep", "--set", "Mover.most=3,16", *files)
         self.refused(f"{self.mover}:6:17: E34 bad constant (with Base.near=1, Mover.eager=1)",
                      "sweep", "--set", "Base.near=1,2", "--set", "Mover.eager=true,1", *files)
         self.refused("E31 unknown name (with Mover.shift=nothing)", "sweep", "--set", "Mover.shift=nothing", *files)
@@ -108,13 +111,15 @@ class Sweeps(LabCase):
 
     def test_refused_words(self) -> None:
         files = [self.world, self.mover, self.stone]
-        self.refused("--repeat 0: each combination", "sweep", "--set", "Base.near=1", "--repeat", "0", *files)
-        self.refused("--seed 18446744073709551616: a seed is", "sweep", "--set", "Base.near=1", "--seed", str(2**64), *files)
+        words = ["sweep", "--set", "Base.near=1"]
+        self.refused("--repeat 0: each combination", *words, "--repeat", "0", *files)
+        self.refused("--seed 18446744073709551616: a seed is", *words, "--seed", str(2**64), *files)
         self.refused("required: --set", "sweep", *files)
-        self.refused("--set Base.near: it is given twice", "sweep", "--set", "Base.near=1", "--set", "Base.near=2", *files)
+        self.refused("--set Base.near: it is given twice", *words, "--set", "Base.near=2", *files)
 
     def test_refused_inputs(self) -> None:
         words = ["sweep", "--set", "Base.near=1"]
         self.refused("E73 unknown element", *words, self.world, self.stone)
         self.refused("its attempts have to be drawn", *words, EXAMPLES / "walk.world", self.mover, self.stone)
-        self.refused(f"{self.mover}:4:17: E37", *words, self.world, self.file("mover.ulam", SOURCE.split("\n", 3)[3].join(["\n\n\n", ""])), self.stone)
+        baseless = self.file("mover.ulam", "\n\n\n" + SOURCE.split("\n", 3)[3])
+        self.refused(f"{self.mover}:4:17: E37", *words, self.world, baseless, self.stone)

@@ -48,17 +48,22 @@ class Words(LabCase):
             return done.returncode, done.stderr
 
         built = self.room / "crates" / "feast" / "out" / "feast"
-        self.assertEqual(call(), (2, f"lab: {built}: the program is not built yet; run ./feast once, which builds it\n"))
+        self.assertEqual(call(), (2, f"lab: {built}: the program is not built yet; "
+                                     "run ./feast once, which builds it\n"))
         built.parent.mkdir()
         shutil.copy(program(), built)
         self.assertEqual(call(), (0, ""))
         os.utime(source, (built.stat().st_mtime + 1,) * 2)
-        self.assertEqual(call(), (2, f"lab: {built}: older than its sources; run ./feast once, which builds it again\n"))
+        self.assertEqual(call(), (2, f"lab: {built}: older than its sources; "
+                                     "run ./feast once, which builds it again\n"))
 
     def test_program_that_fails(self) -> None:
         """A call that ends without a line of its own is told by its status or its signal."""
-        for script, says in [("exit 8", "ended with status 8: it ran out of memory"), ("exit 7", "ended with status 7"),
-                             ("exit 3", "ended with status 3"), ("kill -9 $$", "was ended by signal 9"), ("echo E99 so; exit 4", "lab: E99 so\n")]:
+        for script, says in [
+            ("exit 8", "ended with status 8: it ran out of memory"), ("exit 7", "ended with status 7"),
+            ("exit 3", "ended with status 3"), ("kill -9 $$", "was ended by signal 9"),
+            ("echo E99 so; exit 4", "lab: E99 so\n"),
+        ]:
             failing = self.room / "failing"
             failing.write_text(f"#!/bin/sh\n{script}\n")
             failing.chmod(0o755)
@@ -88,5 +93,5 @@ class Words(LabCase):
 
     def test_nothing_is_left_beside(self) -> None:
         """The lab leaves no compiled modules in the repository."""
-        self.passes("--help")
+        self.assertEqual(lab("--help").returncode, 0)
         self.assertEqual(list(Path(TOP / "tools").rglob("__pycache__")), [])

@@ -18,7 +18,8 @@ from lab.report import read_atoms
 
 def add_arguments(parser: argparse.ArgumentParser) -> None:
     """The words of the verb."""
-    parser.add_argument("report", metavar="REPORT", type=Path, help="a report, packed by gzip or not, or what replay and rewind write")
+    parser.add_argument("report", metavar="REPORT", type=Path,
+                        help="a report, packed by gzip or not, or what replay and rewind write")
     parser.add_argument("files", metavar="FILE", nargs="+", help="the element files")
 
 

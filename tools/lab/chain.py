@@ -42,7 +42,8 @@ PACKING = 3
 def add_arguments(parser: argparse.ArgumentParser) -> None:
     """The words of the verb."""
     parser.add_argument("--audit", metavar="DIR", action=Audit, help="audit the chain of DIR, and do nothing else")
-    parser.add_argument("folder", metavar="DIR", type=Path, help="the folder of the chain; it is made if it isn't there")
+    parser.add_argument("folder", metavar="DIR", type=Path,
+                        help="the folder of the chain; it is made if it isn't there")
     parser.add_argument("--legs", metavar="N", type=int, required=True, help="how many legs there are to be in all")
     parser.add_argument("--step", action="store_true", help="stepped legs, on one thread; else each tile has a thread")
     parser.add_argument("--seed", metavar="S", type=int, help="the seed of the first leg")
@@ -75,7 +76,8 @@ def run(arguments: argparse.Namespace) -> int:
             course.legs.append(Leg(0, 0, 0, 0, counts(atoms, course.elements)))
             folder.begin(begun, arguments.world, arguments.files, atoms, course)
         go(program, folder, rule, begun, course, arguments.legs)
-    print(f"{folder.path}: {len(course.legs) - 1} legs, {course.events} events, {course.events / world.sites:.4f} a site")
+    aeps = f"{course.events / world.sites:.4f}"
+    print(f"{folder.path}: {len(course.legs) - 1} legs, {course.events} events, {aeps} a site")
     return 0
 
 

@@ -220,7 +220,8 @@ def refuse_other(folder: Folder, was: Begun, now: Begun, world: Path) -> None:
     if was.world != now.world:
         raise LabError(f"{folder.path}: the chain was begun with another world than {world}; its own is {folder.start}")
     if was.elements != now.elements:
-        raise LabError(f"{folder.path}: the chain was begun with other elements; its own are in {folder.path / ELEMENTS}")
+        copies = folder.path / ELEMENTS
+        raise LabError(f"{folder.path}: the chain was begun with other elements; its own are in {copies}")
     for option in ("step", "seed", "keep", "at"):
         old, new = getattr(was, option), getattr(now, option)
         if old != new:

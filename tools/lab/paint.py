@@ -35,8 +35,10 @@ def add_arguments(parser: argparse.ArgumentParser) -> None:
     parser.add_argument("map", metavar="MAP", type=Path, help="the drawing or pattern")
     parser.add_argument("--key", metavar="S=Element[:member=value,..]", dest="keys", action="append", required=True,
                         help="what a symbol stands for; one for each symbol")
-    parser.add_argument("--size", metavar=("W", "H"), nargs=2, type=int, required=True, help="the sites of a tile, 8 to 64 each way")
-    parser.add_argument("--tiles", metavar=("TX", "TY"), nargs=2, type=int, default=[1, 1], help="the tiles, 1 to 8 each way")
+    parser.add_argument("--size", metavar=("W", "H"), nargs=2, type=int, required=True,
+                        help="the sites of a tile, 8 to 64 each way")
+    parser.add_argument("--tiles", metavar=("TX", "TY"), nargs=2, type=int, default=[1, 1],
+                        help="the tiles, 1 to 8 each way")
     parser.add_argument("--place", metavar=("X", "Y"), nargs=2, type=int, default=[0, 0],
                         help="the site of the map's first symbol")
     parser.add_argument("--seed", metavar="N", type=int, help="the seed from which attempts are drawn")

@@ -5,12 +5,13 @@ from collections.abc import Sequence
 from dataclasses import dataclass
 from pathlib import Path
 
+from first_call.sources import is_stale
+
 from lab.errors import LabError
 
 TOP = Path(__file__).resolve().parent.parent.parent
 BUILT = TOP / "crates" / "feast" / "out" / "feast"
 INSTEAD = "FEAST_PROGRAM"
-SOURCES = (".rt", ".antt")
 QUIET = {7: "it could not write its output", 8: "it ran out of memory"}
 
 
@@ -46,7 +47,7 @@ class Program:
             return Program(Path(instead).resolve())
         if not os.access(BUILT, os.X_OK):
             raise LabError(f"{BUILT}: the program is not built yet; run ./feast once, which builds it")
-        if is_stale():
+        if is_stale(TOP, BUILT):
             raise LabError(f"{BUILT}: older than its sources; run ./feast once, which builds it again")
         return Program(BUILT)
 
@@ -66,15 +67,3 @@ def reason(status: int, output: bytes) -> str:
     if status < 0:
         return f"the program was ended by signal {-status}"
     return output.decode(errors="replace").strip() or f"the program ended with status {status}"
-
-
-def is_stale() -> bool:
-    """Whether a source is newer than the built program."""
-    built = BUILT.stat().st_mtime
-    crates = TOP / "crates"
-    for folder, folders, names in os.walk(crates):
-        folders[:] = [name for name in folders if name != "out"]
-        for name in names:
-            if name.endswith(SOURCES) and (Path(folder) / name).stat().st_mtime > built:
-                return True
-    return (TOP / "crates.txt").stat().st_mtime > built

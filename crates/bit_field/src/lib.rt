@@ -105,7 +105,7 @@ impl Atom {
     }
 
     /// The atom of the low 64 and the high 32 bits, of which bits 7 to 15 of the high ones are 0.
-    /// There is one such atom and no other.
+    /// There is exactly one such atom.
     pub fn from_words(low: u64, high: u32) -> Atom
         requires { LeavesGap high }
         ensures value { result ≡ atom_of low high }

@@ -1,11 +1,11 @@
--- What the reads and writes of one hold tell, in order.
+-- What the reads and writes of one hold reveal, in order.
 use Rattle.std.specs.Prelude.{ℕ, ◌≡◌, ◌==◌, Bool, true, false, if◌then◌else◌, List, [], ◌∷◌, ◌++◌, Option, Some}
 use Rattle.edge_lock.specs.declared.history.Access.{Access}
 use Rattle.edge_lock.specs.declared.history.Access.TheVariants.{Read, Write}
 use Rattle.edge_lock.specs.declared.history.Hold.{Hold}
 use Rattle.edge_lock.specs.EndLists.{EndLists, end_lists, hold_of, change_last, known_value, Shows, replace_at}
 
--- the value of the last write to the register, where `start` was written before
+-- the value of the last write to the register, if `start` was written before
 abbrev pub last_write : List Access → ℕ → Option ℕ → Option ℕ
 last_write [] register start = start
 last_write (Read at value ∷ accesses) register start = last_write accesses register start

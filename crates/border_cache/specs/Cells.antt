@@ -1,4 +1,5 @@
--- Cells: an atom with the stamp of the event that left it, the newest of several, and the two words that say one.
+-- Cells: an atom with the stamp of the event that left it, the newest of several, and the two words
+-- that represent one.
 use Rattle.std.specs.Prelude.{ℕ, ◌/◌, ◌%◌, ◌^◌, List, [], ◌∷◌, nat_lt, if◌then◌else◌, Option, None, Some}
 use Rattle.bit_field.specs.Atom.{AtomValue}
 use Rattle.bit_field.specs.Words.{atom_of}
@@ -10,11 +11,12 @@ pub record CellValue : Type 0 where
 abbrev pub cell_value : ℕ → AtomValue → CellValue
 cell_value stamp atom = record { stamp = stamp; atom = atom }
 
--- the cell that two words say: the low 64 bits of the atom, and the stamp above the high 32 bits of the atom
+-- the cell that two words represent: the low 64 bits of the atom, and the stamp above the high 32
+-- bits of the atom
 abbrev pub cell_of : ℕ → ℕ → CellValue
 cell_of low high = cell_value (high / 2 ^ 32) (atom_of low (high % 2 ^ 32))
 
--- the newer of two cells, of which there may be only the first, which stays where both are of one stamp
+-- the newer of two cells, the second of which may be missing; the first, if both have one stamp
 abbrev pub newer : CellValue → Option CellValue → CellValue
 newer own None = own
 newer own (Some other) = if nat_lt own.stamp other.stamp then other else own

@@ -44,7 +44,7 @@ cell_for v (Some s) = held_cell v s
 abbrev pub window_cells : CacheValue → Site → ℕ → CellValue
 window_cells v c n = cell_for v (window_site v.map c n)
 
--- a site that the tile holds was given a cell, and no other site of its was
+-- a site that the tile holds was given a cell, and no other site of the tile was
 pub record Puts (s : Site) (cell : CellValue) (old new : CacheValue) : Type 0 where
   pub map : new.map ≡ old.map
   pub tile : new.tile ≡ old.tile

@@ -11,7 +11,7 @@ use Rattle.border_cache.specs.Accesses.{Adds}
 use Rattle.border_cache.specs.Cells.{CellValue, cell_of, cell_value, newer}
 use Rattle.bit_field.specs.Atom.{empty_atom}
 
--- one of the first n sites of the window stands at place k
+-- one of the first n sites of the window is at place k
 abbrev pub Covers : (ℕ → Option ℕ) → ℕ → ℕ → Type 0
 Covers places n k = (j : ℕ) × (j < n) × (places j ≡ Some k)
 
@@ -28,13 +28,13 @@ has_bit (Some word) k = bit_at word (k % 64) == 1
 abbrev pub is_news : ℕ → ℕ → List Access → ℕ → Bool
 is_news sites end accesses k = has_bit (found_value accesses (word_of sites end k)) k
 
--- the cell that two words say, where both were found
+-- the cell that two words represent, if both were found
 abbrev pub cell_in : Option ℕ → Option ℕ → Option CellValue
 cell_in None high = None
 cell_in (Some low) None = None
 cell_in (Some low) (Some high) = Some (cell_of low high)
 
--- the cell that was found at a place, where it was news
+-- the cell that was found at a place, if it was news
 abbrev pub seen_at : ℕ → ℕ → List Access → ℕ → Option CellValue
 seen_at sites end accesses k = if is_news sites end accesses k then cell_in (found_value accesses (1 + 2 * k)) (found_value accesses (2 + 2 * k)) else None
 
@@ -56,7 +56,7 @@ pub record IsRefresh (sites end : ℕ) (places : ℕ → Option ℕ) (n : ℕ) (
       → (low : ℕ) × (high : ℕ) × (found_value accesses (1 + 2 * k) ≡ Some low) × (found_value accesses (2 + 2 * k) ≡ Some high)
   pub only : (register value : ℕ) → found_value accesses register ≡ Some value → IsAsked sites end places n accesses register
 
--- the reads at one place: its news word, and its cell where the bit is set
+-- the reads at one place: its news word, and its cell if the bit is set
 abbrev pub IsSiteRead : ℕ → ℕ → ℕ → Option CellValue → List Access → Type 0
 IsSiteRead sites end k None accesses = (word : ℕ) × (accesses ≡ Read (word_of sites end k) word ∷ []) × (bit_at word (k % 64) ≡ 0)
 IsSiteRead sites end k (Some cell) accesses =
@@ -88,12 +88,12 @@ pub record Refreshes (sites end : ℕ) (places : ℕ → Option ℕ) (n edge : �
   pub reads : IsRefresh sites end places n more
   pub cells : AreNewer sites end places n more old new
 
--- the cells with a newer one at n, where one was found
+-- the cells with a newer one at n, if one was found
 abbrev pub with_newer : List CellValue → ℕ → Option CellValue → List CellValue
 with_newer cells n None = cells
 with_newer cells n (Some cell) = slice_set cells n (newer (slice_index_or cells n no_cell) (Some cell))
 
--- a refresh of cell n, which may stand at a place
+-- a refresh of cell n, which may be at a place
 abbrev pub IsSiteRefresh : ℕ → ℕ → Option ℕ → List Access → ℕ → List CellValue → List CellValue → Type 0
 IsSiteRefresh sites end None accesses n old new = (accesses ≡ []) × (new ≡ old)
 IsSiteRefresh sites end (Some k) accesses n old new = (found : Option CellValue) × IsSiteRead sites end k found accesses × (new ≡ with_newer old n found)

@@ -35,12 +35,12 @@ pub record IsMarked (sites end : ℕ) (bit : Bool) (places : ℕ → Option ℕ)
   pub only_read : (register : ℕ) → is_read accesses register ≡ true → (k : ℕ) × Covers places n k × (register ≡ word_of sites end k)
   pub only_written : (register value : ℕ) → last_write accesses register None ≡ Some value → (k : ℕ) × Covers places n k × (register ≡ word_of sites end k)
 
--- one bit is changed, where there is a place
+-- one bit is changed, if there is a place
 abbrev pub IsBitPut : ℕ → ℕ → Bool → Option ℕ → List Access → Type 0
 IsBitPut sites end bit None accesses = accesses ≡ []
 IsBitPut sites end bit (Some k) accesses = (old : ℕ) × (new : ℕ) × (accesses ≡ Read (word_of sites end k) old ∷ Write (word_of sites end k) new ∷ []) × IsWithBit old (k % 64) bit new
 
--- no two of the first n sites of a window stand at one place
+-- no two of the first n sites of a window are at one place
 abbrev pub ArePlaces : (ℕ → Option ℕ) → ℕ → Type 0
 ArePlaces places n = (i j k : ℕ) → i < n → j < n → places i ≡ Some k → places j ≡ Some k → i ≡ j
 

@@ -26,7 +26,7 @@ use window_sites::Window;
 /// A cell for each site that a tile holds: its atom, and the stamp of the event that left it.
 ///
 /// The cache keeps the numbers of the map that it was made with. Each call that takes a map takes
-/// that one, and a centre that is live and of the tile's own rectangle.
+/// that one, and a centre that is live and in the tile's own rectangle.
 #[derive(Drop)]
 pub struct Cache {
     plane: Plane,
@@ -49,7 +49,7 @@ impl Model for Cache {
 
 impl Cache {
     /// The cells of a tile at the start: each has stamp 0 and the grid's atom. The grid has the
-    /// size and the live sites of the map's plane. It takes all its memory here.
+    /// size and the live sites of the map's plane. All its memory is allocated here.
     pub fn new(alloc: Global, map: &Map, tile: u32, start: &Grid) -> Result<Cache, NoMemory>
         requires tile { tile < tiles_of map.now }
         requires start { IsGridOf map.now start.now }
@@ -79,7 +79,7 @@ impl Cache {
         (cell.stamp(), cell.atom())
     }
 
-    /// Brings the live sites of the window at a centre up to date: each has then the newest of its
+    /// Brings the live sites of the window at a centre up to date: each then has the newest of its
     /// own cell and of the cells of the needed edges that share it and have news of it for this
     /// tile. At equal stamps its own cell stays. It reads no other cell of an edge.
     pub fn refresh<D: Board>(&mut self, map: &Map, x: u32, y: u32, needs: &Needs, board: &mut D)

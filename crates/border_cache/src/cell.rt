@@ -45,7 +45,7 @@ impl Cell {
         self.atom
     }
 
-    /// The cell that the two registers of a shared site say.
+    /// The cell that the two registers of a shared site represent.
     #[tactic(auto, using(crate::proofs::Words::low_gap))]
     pub(crate) fn from_words(low: u64, high: u64) -> Cell
         requires { LeavesGap high }
@@ -56,7 +56,7 @@ impl Cell {
         Cell { stamp, atom }
     }
 
-    /// The newer of two cells; this one where both are of one stamp.
+    /// The newer of two cells; this one if both have one stamp.
     pub(crate) fn newer_of(self, other: Cell) -> Cell
         ensures { result ≡ newer self (Some other) }
     {
@@ -67,7 +67,7 @@ impl Cell {
         }
     }
 
-    /// The two registers of a shared site that say the cell.
+    /// The two registers of a shared site that represent the cell.
     pub(crate) fn words(&self) -> (u64, u64)
         ensures cell { cell_of result.0 result.1 ≡ self.now }
         ensures gap { LeavesGap result.1 }

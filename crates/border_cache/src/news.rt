@@ -1,4 +1,5 @@
-//! The cells and news bits of one edge, through a board.
+//! The cells and news bits of one edge, through a board. A news word is read, and written, once for
+//! each site of the window that it covers: slower than once a word, but without a table of words.
 ghost use Rattle.std.specs.Prelude.{◌≡◌, ◌+◌, ◌*◌, ◌<◌, ◌^◌, List, ℕ, length};
 ghost use Rattle.feast_base.specs.Edges.{registers_of};
 ghost use Rattle.edge_lock.specs.declared.history.Access.{Access};

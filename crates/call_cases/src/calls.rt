@@ -8,7 +8,7 @@ use std::alloc::Global;
 use std::test::Fail;
 use std::thread::Threads;
 
-/// The words of a text, which spaces part.
+/// The words of a text, separated by spaces.
 pub fn words(alloc: Global, text: &str) -> Result<Vec<String>, Fail> {
     let mut words = Vec::new(alloc);
     for word in text.split(' ') {
@@ -17,7 +17,7 @@ pub fn words(alloc: Global, text: &str) -> Result<Vec<String>, Fail> {
     Ok(words)
 }
 
-/// A shelf with these files, given as names and texts, of which the loads with these numbers fail.
+/// A shelf with these files, given as names and texts, whose loads with these numbers fail.
 pub fn shelf(alloc: Global, files: &[(&str, &str)], fails: Vec<u64>) -> Result<MemShelf, Fail> {
     let mut sources = Vec::new(alloc);
     for (name, text) in files {
@@ -26,7 +26,7 @@ pub fn shelf(alloc: Global, files: &[(&str, &str)], fails: Vec<u64>) -> Result<M
     Ok(MemShelf::new(alloc, sources, fails))
 }
 
-/// What a call answers.
+/// The answer of a call.
 pub fn answer<R: Threads + Sync, F: Shelf>(
     rt: &R,
     alloc: Global,

@@ -52,7 +52,7 @@ const STOPS: [(u64, u32); 9] = [
     (2, 5000),
 ];
 
-/// How a call ends where some loads and a put fail: its status, and the bytes that the sink has.
+/// How a call ends if some loads and a put fail: its status, and the bytes that the sink has.
 fn ended<R: Threads + Sync>(
     rt: &R,
     alloc: Global,

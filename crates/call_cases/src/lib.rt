@@ -1,5 +1,5 @@
 //! Whole calls, from words and files in memory to a status and what the sink holds. The crate has
-//! tests alone; they stand above the call, so that it is not proved once more for their sake.
+//! only tests; they are above the call, so that it is not proved again because of a test.
 #![tactic(auto)]
 
 #[cfg(test)]

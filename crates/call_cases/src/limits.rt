@@ -8,7 +8,7 @@ use std::test::Fail;
 
 const WORLD: &str = "feast 1\ntiles 1 1\nsize 8 8\ntry 0 3 4 0000000000000000\natom 3 4 Walker\n";
 
-/// The files `w`, a world of a walker, and `e` of so many spaces.
+/// The files `w`, a world of a walker, and `e` of this many spaces.
 fn spaces(alloc: Global, count: usize) -> Result<MemShelf, Fail> {
     let world = Vec::from_slice(alloc, WORLD.as_bytes())?;
     let files = vec![in alloc;
@@ -18,7 +18,7 @@ fn spaces(alloc: Global, count: usize) -> Result<MemShelf, Fail> {
     Ok(MemShelf::new(alloc, files, Vec::new(alloc)))
 }
 
-/// A shelf that keeps the limit of its last load, and wants memory.
+/// A shelf that keeps the limit of its last load, and answers that memory ran out.
 #[derive(Drop)]
 struct Asked {
     limit: usize,

@@ -1,4 +1,4 @@
-//! Files, and calls over them with what they come to.
+//! Files, and calls over them with their results.
 
 use crate::calls::{answer, shelf};
 use feast_base::MemSink;
@@ -235,7 +235,7 @@ const FAILING: [(u64, u64, Status, &str); 3] = [
     (2, 0, Status::Unreadable, "walker: E01 unreadable\n"),
 ];
 
-/// Whether a call, of which a load and a put fail, ends so.
+/// Whether a call ends so if a load and a put fail.
 fn ends<R: Threads + Sync>(
     rt: &R,
     alloc: Global,

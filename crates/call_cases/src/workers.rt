@@ -1,4 +1,4 @@
-//! Runs of several tiles, whose workers a gate keeps back, or nobody.
+//! Runs of several tiles whose workers a gate holds back, or nobody.
 
 use crate::calls::words;
 use feast_base::{Gate, MemShelf, MemSink, OpenGate, Source};
@@ -75,10 +75,11 @@ atom 15 16 Counter
 atom 16 16 Counter
 ";
 
-/// The most turns for which a gate keeps an attempt.
+/// The most turns for which a gate holds an attempt back.
 const MOST_TURNS: u32 = 1_000_000_000;
 
-/// An attempt that is kept until the other of two tiles has come to the gate with so many of its own.
+/// An attempt that is held back until the other of two tiles has come to the gate with this many of
+/// its own.
 #[derive(Clone, Copy)]
 struct Keep {
     tile: u32,
@@ -86,7 +87,8 @@ struct Keep {
     until: u64,
 }
 
-/// A gate that keeps some attempts of two tiles. It lets an attempt go at last when nobody comes.
+/// A gate that holds back some attempts of two tiles. It finally lets an attempt go if nobody
+/// comes.
 #[derive(Drop)]
 struct KeepingGate<'a> {
     keeps: &'a [Keep],
@@ -114,7 +116,7 @@ impl<'a> KeepingGate<'a> {
         if tile == 0 { &self.zero } else { &self.one }
     }
 
-    /// Waits until the other tile has come with so many attempts, for so many turns at most.
+    /// Waits until the other tile has come with this many attempts, for at most this many turns.
     fn wait(&self, tile: u32, until: u64) {
         for _turn in 0..MOST_TURNS {
             if self.come(1 - tile.min(1)).load(Ordering::SeqCst) >= until {
@@ -142,7 +144,7 @@ fn source(alloc: Global, name: &str, text: &str) -> Result<Source, Fail> {
     Ok(Source::new(alloc, name, bytes)?)
 }
 
-/// What a call over these files appends, where it is Done.
+/// What a call over these files appends, if it is Done.
 fn shown<R: Threads + Sync, G: Gate>(
     rt: &R,
     alloc: Global,
@@ -209,8 +211,8 @@ fn entries(report: &str) -> u64 {
     sum
 }
 
-/// Whether a run between such keeps has so many entries and is replayed to its own atoms, and the
-/// gate let nobody go in vain.
+/// Whether a run with these attempts held back has this many entries and is replayed to its own
+/// atoms, and the gate let nobody go in vain.
 fn meets<R: Threads + Sync>(
     rt: &R,
     alloc: Global,

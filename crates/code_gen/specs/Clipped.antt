@@ -1,4 +1,5 @@
--- Pieces whose numbers are cut off where an instruction or a key has no room for them. A piece that fits is left as it is.
+-- Pieces whose numbers are cut off if an instruction or a key has no room for them. A piece that
+-- fits is left as it is.
 use Rattle.std.specs.Prelude.{ℕ, min, pos}
 use Rattle.stack_code.specs.declared.instr.Instr.{Instr}
 use Rattle.stack_code.specs.declared.instr.Instr.TheVariants.{PushNum, NotB, LoadLocal, StoreLocal, LoadField, StoreField, LoadPart, StorePart, LoadFieldAt, StoreFieldAt, LoadPartAt, StorePartAt}
@@ -69,7 +70,7 @@ pair_of op.Both ty a b = seq a (pick b (plain (PushNum (pos 0))))
 pair_of op.Either ty a b = seq a (seq (plain NotB) (pick b (plain (PushNum (pos 1)))))
 pair_of o ty a b = seq a (seq b (plain (pair_instr o (arith_of ty) (width_of ty))))
 
--- the parts of an `if` behind its condition, by the piece of the first one
+-- the parts of an `if` after its condition, given the piece of the first one
 abbrev pub choice_of : Scene → Piece → t.Part → Piece
 choice_of z a t.no_part = only a
 choice_of z a (t.part y) = pick a (clip (statement_piece z y))

@@ -19,7 +19,8 @@ pub use Rattle.code_gen.specs.Sized.{program_view}
 use Rattle.code_gen.specs.declared.fault.GenFault.{GenFault}
 use Rattle.code_gen.specs.declared.fault.GenFault.TheVariants.{CodeTooLong, NoMemory}
 
--- what the compiler wants of a program: its types, its names and its layout are right, and each element has a `behave` without parameters and without a result
+-- what the compiler needs of a program: its types, its names and its layout are right, and each
+-- element has a `behave` without parameters and without a result
 pub record IsCompilable (g : Program) : Type 0 where
   pub well : IsWellProgram g.classes
   pub named : IsNamedProgram g
@@ -50,7 +51,7 @@ pub record IsFirstLong (g : Program) (c : ℕ) : Type 0 where
   pub long : HasShort g c → ⊥
   pub before : (d : ℕ) (e : t.Class) → d < c → slice_get g.classes d ≡ Some e → e.quark ≡ false → HasShort g d
 
--- what stands for the place of a class that there is none of
+-- a stand-in for the place of a class that does not exist
 abbrev pub no_place : Place
 no_place = record { file = 0; line = 0; column = 0 }
 
@@ -58,7 +59,8 @@ no_place = record { file = 0; line = 0; column = 0 }
 abbrev pub long_place : List t.Class → ℕ → Place
 long_place cs c = option_map_or (λ (k : t.Class). k.word.place) (slice_get cs c) no_place
 
--- The codes of all elements, where the limits let them through; else the place of the name of the first element whose code they don't.
+-- The codes of all elements, if the limits let them through; otherwise the place of the name of the
+-- first element whose code they don't.
 abbrev pub Compiles : Program → Result (Vec CodeValue Global) GenFault → Type 0
 Compiles g (Ok codes) = (codes.items ≡ element_codes g) × AreShort g
 Compiles g (Err (CodeTooLong at)) = (c : ℕ) × IsFirstLong g c × (at ≡ long_place g.classes c)
@@ -71,7 +73,7 @@ pub record HasCode (g : Program) (codes : List CodeValue) (kind c : ℕ) : Type 
   pub is_valid : valid code ≡ true
   pub means : Means g c code
 
--- each element has a code that does what it does, at its type number, where the first one has number 1
+-- each element has a code that does what it does, at its type number, if the first one has number 1
 abbrev pub AreCompiled : Program → Result (Vec CodeValue Global) GenFault → Type 0
 AreCompiled g (Ok codes) = (kind c : ℕ) → element_of g (suc kind) ≡ Some c → HasCode g codes.items kind c
 AreCompiled g (Err fault) = Unit {0}

@@ -42,7 +42,7 @@ abbrev pub answer_count : Bool → ℕ
 answer_count true = 0
 answer_count false = 1
 
--- a place may have so many operands
+-- a place may have this many operands
 abbrev pub at_most : ℕ → Option ℕ → Option ℕ
 at_most d o = if nat_le d 512 then o else None
 
@@ -50,7 +50,8 @@ abbrev pub and_depth : Option ℕ → (ℕ → Option ℕ) → Option ℕ
 and_depth None go = None
 and_depth (Some d) go = go d
 
--- how many operands there are after a piece that begins with d of them, 0 where it doesn't go on; None where some place has more than 512
+-- how many operands there are after a piece that begins with d of them, or 0 if it doesn't go on;
+-- None if some place has more than 512
 abbrev pub depth : Drafts → Piece → ℕ → Option ℕ
 depth g none d = Some d
 depth g (seq a b) d = and_depth (depth g a d) (depth g b)

@@ -1,4 +1,5 @@
--- The code of an element from the drafts of its functions: which there are, in which order, and where they stand.
+-- The code of an element from the drafts of its functions: which there are, their order, and their
+-- places.
 use Rattle.std.specs.Prelude.{ℕ, zero, suc, ◌+◌, nat_le, Bool, pos, Option, Some, None, List, [], ◌∷◌, ◌++◌, length, slice_get}
 use Rattle.stack_code.specs.Machine.{FunctionValue, CodeValue}
 use Rattle.stack_code.specs.Valid.{Kinds}
@@ -22,11 +23,12 @@ pub record Draft : Type 0 where
 abbrev pub Drafts : Type 0
 Drafts = Key → Draft
 
--- the parameters stand in the first slots
+-- the parameters are in the first slots
 abbrev pub slots_of : Draft → Kinds
 slots_of d = d.takes ++ d.locals
 
--- the end of a function: 0, or an atom with state 0, where its body comes to its end without a `return`
+-- the end of a function: 0, or an atom with state 0, if its body comes to its end without a
+-- `return`
 abbrev pub end_by : Answer → ℕ → Piece
 end_by Nothing k = leaves
 end_by NumberBack k = seq (plain (PushNum (pos 0))) gives
@@ -43,16 +45,18 @@ abbrev pub on_key : Option Key → List Key → (Key → List Key) → List Key
 on_key None ks go = ks
 on_key (Some f) ks go = go f
 
--- the functions that are called, where the calls of the first k are among them, with n more of them looked at
+-- the functions that are called, if the calls of the first k are among them, with n more of them
+-- looked at
 unfoldable pub reach : Drafts → ℕ → ℕ → List Key → List Key
 reach g zero k ks = ks
 reach g (suc n) k ks = on_key (slice_get ks k) ks (λ f. reach g n (suc k) (add_calls (key_piece g f) ks))
 
--- the functions of an element from its first one on, in the order of their first calls. Each has an instruction, so that no more are wanted than code may have
+-- the functions of an element from its first one on, in the order of their first calls. Each has an
+-- instruction, so that no more are needed than code may have
 unfoldable pub keys : Drafts → Key → List Key
 keys g main = reach g 65537 0 (main ∷ [])
 
--- the instructions of a function at a place: where no loop is around it, `out` and `next` lead to its end
+-- the instructions of a function at a place: outside of loops, `out` and `next` lead to its end
 abbrev pub function_code : Drafts → List Key → ℕ → Key → List Instr
 function_code g ks p f = lay ks p (p + size (g f).body) (p + size (g f).body) (key_piece g f)
 
@@ -61,7 +65,7 @@ abbrev pub codes : Drafts → List Key → ℕ → List Key → List Instr
 codes g ks p [] = []
 codes g ks p (f ∷ fs) = function_code g ks p f ++ codes g ks (p + size (key_piece g f)) fs
 
--- a function whose first instruction stands at a place
+-- a function whose first instruction is at a place
 abbrev pub value_at : Drafts → ℕ → Key → FunctionValue
 value_at g p f = record { name = (g f).name; base = f.base; first = p; params = length (g f).takes; slots = slots_of (g f); answer = (g f).answer }
 

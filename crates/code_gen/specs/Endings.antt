@@ -4,7 +4,8 @@ use Rattle.window_sites.specs.Window.{WindowValue}
 use Rattle.ulam_meaning.specs.Runs.{Outcome, Way, gives, fails, wrong}
 use Rattle.ulam_meaning.specs.Events.{emptied}
 
--- the window and the number of the failure, of an event that began with this window; none where there is no meaning
+-- the window and the number of the failure, of an event that began with this window; none if there
+-- is no meaning
 abbrev pub over : WindowValue → Outcome Way → Option (WindowValue × Option ℕ)
 over w (gives way s) = Some (s.window, None)
 over w (fails n) = Some (emptied w, Some n)

@@ -13,7 +13,7 @@ use Rattle.code_gen.specs.declared.gather.Gathered.{Gathered}
 abbrev pub body_at : Drafts → Key → Piece
 body_at g f = (g f).body
 
--- how many instructions there are with one function more, where the limits let it through
+-- how many instructions there are with one function more, if the limits let it through
 unfoldable pub longer : Drafts → Key → ℕ → Option ℕ
 longer g f sum = if is_some (depth g (key_piece g f) 0) then (if nat_le (sum + size (key_piece g f)) 65536 then Some (sum + size (key_piece g f)) else None) else None
 
@@ -23,13 +23,13 @@ pub record IsGathered (g : Drafts) (main : Key) (x : Gathered) : Type 0 where
   pub bodies : map piece_of x.bodies.items ≡ map (body_at g) (keys g main)
   pub short : IsShort g main
 
--- nothing comes only where the limits are passed
+-- nothing comes only if the limits are passed
 abbrev pub Gathers : Drafts → Key → Result (Option Gathered) NoMemory → Type 0
 Gathers g main (Ok (Some x)) = IsGathered g main x
 Gathers g main (Ok None) = IsShort g main → ⊥
 Gathers g main (Err e) = Unit {0}
 
--- the code of an element that the limits let through; nothing comes only where they don't
+-- the code of an element that the limits let through; nothing comes only if they don't
 abbrev pub Builds : Drafts → ℕ → Key → Result (Option CodeValue) NoMemory → Type 0
 Builds g kind main (Ok (Some c)) = (c ≡ code_of g kind main) × IsShort g main
 Builds g kind main (Ok None) = IsShort g main → ⊥

@@ -1,4 +1,5 @@
--- What the compiler wants of typed trees: the kinds of values, the slots, the widths of types, and paths that lead from class to class.
+-- What the compiler needs of typed trees: the kinds of values, the slots, the widths of types, and
+-- paths that lead from class to class.
 use Rattle.std.specs.Prelude.{◌≡◌, ℕ, ◌≤◌, true, List, [], ◌∷◌, map, length, slice_get, Option, Some, None, pos}
 use Rattle.sat_math.specs.declared.NumType.{NumType}
 use Rattle.ulam_tree.specs.declared.resolved.Ty.{Ty}
@@ -88,7 +89,7 @@ abbrev pub CastsTo : Option NumType → Operand → Type 0
 CastsTo None k = Unit {0}
 CastsTo (Some num) k = (k ≡ Number) × (type_fits num ≡ true)
 
--- and has then the kind of the type
+-- and then has the kind of the type
 abbrev pub StoresTo : Ty → Operand → Type 0
 StoresTo ty k = CastsTo (number_type ty) k × (k ≡ operand_of ty)
 
@@ -162,7 +163,8 @@ abbrev pub KindedTest : Scene → ℕ → Option t.Expr → Type 0
 KindedTest z c None = Unit {0}
 KindedTest z c (Some e) = Kinded z c e × IsNumber (t.ty_of e)
 
--- a value of this kind, and where its operator has one of this width, can be assigned, with an index or without
+-- a value of this kind, and of this width if its operator has one, can be assigned, with an index
+-- or without
 abbrev pub AssignsKind : Scene → Spot → Option t.Expr → Option PairOp → ℕ → Operand → Type 0
 AssignsKind z at None None w k = WritesKind z at k
 AssignsKind z at None (Some o) w k = (k ≡ Number) × ReadsKind z at Number × WritesKind z at Number × (args_fit (update_instr o (spot_type z at) w) ≡ true)

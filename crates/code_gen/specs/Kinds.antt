@@ -7,7 +7,8 @@ use Rattle.stack_code.specs.declared.instr.Answer.{Answer}
 use Rattle.code_gen.specs.Pieces.{Key, Piece, none, seq, plain, asks, pick, only, loop, ever, out, next, gives, leaves}
 use Rattle.code_gen.specs.Drafts.{Draft, Drafts, slots_of, has_room}
 
--- where a piece stands: among these functions, with these slots, in a function that gives this back
+-- the setting of a piece: among these functions, with these slots, in a function that gives this
+-- back
 pub record Setting : Type 0 where
   pub drafts : Drafts
   pub slots : Kinds
@@ -29,7 +30,7 @@ below (k ∷ ks) = ks
 abbrev pub after_ask : Draft → Kinds → Kinds
 after_ask d ks = answer_on d.answer (drop (length d.takes) ks)
 
--- the kinds after a piece: none where it doesn't go on
+-- the kinds after a piece: none if it doesn't go on
 abbrev pub ends : Setting → Piece → Kinds → Kinds
 ends n none ks = ks
 ends n (seq a b) ks = ends n b (ends n a ks)

@@ -9,7 +9,8 @@ use Rattle.code_gen.specs.Drafts.{Drafts, slots_of, code_of, has_room}
 use Rattle.code_gen.specs.Kinds.{setting_of, ends, Fits}
 use Rattle.code_gen.specs.Runs.{event, event_over}
 
--- a function's body finds what it takes and leaves no operands where it comes to its end, and there are at most 72 slots
+-- a function's body finds what it takes and leaves no operands if it comes to its end, and there
+-- are at most 72 slots
 pub record IsGood (g : Drafts) (f : Key) : Type 0 where
   pub fits : Fits (setting_of g f) (g f).body []
   pub stops : ends (setting_of g f) (g f).body [] ≡ []

@@ -1,4 +1,5 @@
--- What names make sure of in a typed tree: where paths lead, which slots locals have, and that widths and numbers are allowed.
+-- What names ensure in a typed tree: where paths lead, which slots locals have, and that widths and
+-- numbers are allowed.
 use Rattle.std.specs.Prelude.{◌≡◌, ℕ, ◌≤◌, true, List, [], ◌∷◌, length, slice_get, Option, Some, None, pos}
 use Rattle.ulam_tree.specs.declared.resolved.Ty.{Ty}
 use Rattle.ulam_tree.specs.declared.resolved.Ty.TheVariants as y
@@ -21,7 +22,7 @@ abbrev pub AllWide : List Ty → Type 0
 AllWide [] = Unit {0}
 AllWide (ty ∷ tys) = IsWide ty × AllWide tys
 
--- a path in a function of class c; where one goes on behind a local, the local holds an atom
+-- a path in a function of class c; if one goes on after a local, the local holds an atom
 abbrev pub IsNamedPath : Scene → ℕ → List Step → Type 0
 IsNamedPath z c (Local i ∷ s ∷ rest) = HasPath z.program c (Local i ∷ s ∷ rest) × HasSlot z i Atom
 IsNamedPath z c (Constant num v ∷ rest) = IsLast rest × (type_fits num ≡ true) × (number_fits v ≡ true)

@@ -53,7 +53,8 @@ abbrev pub has_key : List Key → Key → Bool
 has_key [] f = false
 has_key (k ∷ ks) f = if same_key k f then true else has_key ks f
 
--- the instructions of a piece that stands at place p, where functions are numbered as they lie in the list; `out` leads to place e, `next` to place c
+-- the instructions of a piece at place p, with functions numbered as they are in the list; `out`
+-- leads to place e, `next` to place c
 abbrev pub lay : List Key → ℕ → ℕ → ℕ → Piece → List Instr
 lay ks p e c none = []
 lay ks p e c (seq a b) = lay ks p e c a ++ lay ks (p + size a) e c b
@@ -69,11 +70,12 @@ lay ks p e c next = Jump c ∷ []
 lay ks p e c gives = Return ∷ []
 lay ks p e c leaves = ReturnVoid ∷ []
 
--- the list with a function behind it, unless it is there
+-- the list with a function appended, unless it is there
 abbrev pub add_key : List Key → Key → List Key
 add_key ks f = if has_key ks f then ks else ks ++ (f ∷ [])
 
--- the list with the functions that a piece calls behind it, in the order of the calls, where they are new
+-- the list with the functions that a piece calls appended, in the order of the calls, if they are
+-- new
 abbrev pub add_calls : Piece → List Key → List Key
 add_calls none ks = ks
 add_calls (seq a b) ks = add_calls b (add_calls a ks)

@@ -26,7 +26,7 @@ pub data Out : Type 0 where
   stops : (w : WindowValue) → Out
   lacks : Out
 
--- what comes next, where it goes on
+-- what comes next, if it goes on
 abbrev pub out_then : Out → (Now → Out) → Out
 out_then (goes s) go = go s
 out_then (leaps s) go = leaps s
@@ -92,7 +92,8 @@ hand_top s (x ∷ st) = hands (x ∷ []) s
 abbrev pub Asks : Type 0
 Asks = Key → Now → Out
 
--- a piece, in an event of this acting type. Each round of a loop takes a turn, so that no loop has more rounds than there are turns, and one
+-- a piece, in an event of this acting type. Each round of a loop takes a turn, so that a loop has
+-- at most one round more than there are turns
 abbrev pub run : ℕ → Asks → Piece → Now → Out
 run kind h none s = goes s
 run kind h (seq a b) s = out_then (run kind h a s) (run kind h b)
@@ -117,7 +118,7 @@ finish (fails n) go = fails n
 finish (stops w) go = stops w
 finish lacks go = lacks
 
--- as many operands as wanted: none, or one
+-- as many operands as needed: none, or one
 abbrev pub as_many : Bool → List Datum → Bool
 as_many true [] = true
 as_many true (x ∷ xs) = false
@@ -128,7 +129,7 @@ as_many false (x ∷ y ∷ xs) = false
 abbrev pub answers : Answer → List Datum → Bool
 answers r vs = as_many (is_nothing r) vs
 
--- the caller goes on with its own operands and slots, and what it is given
+-- the caller goes on with its own operands and slots, and with what the function gave
 abbrev pub given : Bool → List Datum → List Datum → List Datum → Now → Out
 given true st sl vs s = goes (record { held = record s.held { stack = vs ++ st; slots = sl }; turns = s.turns })
 given false st sl vs s = lacks
@@ -155,7 +156,7 @@ ask_turn d s go = if nat_le (length d.takes) (length s.held.stack) then turn_out
 abbrev pub run_function : ℕ → Asks → Draft → Now → Out
 run_function kind h d s = finish (run kind h d.body s) (run kind h (end_piece d))
 
--- the calls of functions, with so many levels of depth left
+-- the calls of functions, with this many levels of depth left
 unfoldable pub asks_at : Drafts → ℕ → ℕ → Asks
 asks_at g kind zero f s = ask_turn (g f) s (λ t. fails 2)
 asks_at g kind (suc d) f s = ask_turn (g f) s (λ t. handed (g f).answer (drop (length (g f).takes) s.held.stack) s.held.slots (run_function kind (asks_at g kind d) (g f) (entered (g f) s t)))

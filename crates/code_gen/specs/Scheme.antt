@@ -30,7 +30,7 @@ use Rattle.code_gen.specs.Drafts.{Drafts, end_by}
 
 -- Types
 
--- what holds a value of a type
+-- the kind that holds a value of a type
 abbrev pub operand_of : Ty → Operand
 operand_of (y.Num num) = Number
 operand_of ty = Atom
@@ -97,11 +97,11 @@ blank_instr g ty = PushAtom (type_number g ty)
 
 -- Values
 
--- what no typed tree needs: a plain instruction that is none
+-- a stand-in for what no typed tree needs: a plain instruction that is none
 abbrev pub nowhere : Piece
 nowhere = plain (Jump 0)
 
--- a cast to a type of numbers, where there is one
+-- a cast to a type of numbers, if there is one
 abbrev pub fit : Option NumType → Piece
 fit None = none
 fit (Some num) = plain (Fit num.kind num.width)
@@ -195,7 +195,7 @@ abbrev pub cond_piece : Scene → t.Cond → Piece
 cond_piece z (t.seen x c) = seq (load (spot z.program z.base x.steps)) (plain (IsKind (type_number z.program c.ty)))
 cond_piece z (t.test a) = expr_piece z a
 
--- an index, where there is one
+-- an index, if there is one
 abbrev pub index_piece : Scene → Option t.Expr → Option Piece
 index_piece z None = None
 index_piece z (Some i) = Some (expr_piece z i)

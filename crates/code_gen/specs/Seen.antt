@@ -45,7 +45,7 @@ callee_of (c.Called k) = called (key_of k)
 callee_of (c.Built b) = built_in b
 callee_of c.Nothing = no_callee
 
--- whose bits data members are: those of the atom in a slot, and else of the acting element
+-- whose bits data members are: those of the atom in a slot, or else of the acting element
 abbrev pub numbers_of : Option ℕ → Span → Spot
 numbers_of None = member
 numbers_of (Some i) = part i

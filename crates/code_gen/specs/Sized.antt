@@ -1,4 +1,4 @@
--- Programs of typed trees, and the sizes that give the numbers of their code room.
+-- Programs of typed trees, and the sizes that ensure room for the numbers of their code.
 use Rattle.std.specs.Prelude.{ℕ, ◌≤◌, List, length}
 use Rattle.ulam_tree.specs.TypedViews.{typed_program}
 use Rattle.ulam_tree.specs.declared.typed.Typed.{Typed}

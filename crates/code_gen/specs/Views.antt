@@ -31,7 +31,7 @@ abbrev mutual
   row_piece end_of-Piece = none
   row_piece (more_of-Piece p rest) = seq (piece_of p) (row_piece rest)
 
--- the same of a vector that stands alone
+-- the same for a vector by itself
 abbrev pub pieces_of : List CodePiece → Piece
 pieces_of [] = none
 pieces_of (p ∷ ps) = seq (piece_of p) (pieces_of ps)

@@ -25,14 +25,14 @@ pub fn byte(n: u32) -> u8
     n.min(255) as u8
 }
 
-/// What stands for what no typed tree has.
+/// A stand-in for what no typed tree has.
 pub fn nowhere() -> Piece
     ensures { piece_of result ≡ clip nowhere }
 {
     Piece::Plain(Instr::Jump(0))
 }
 
-/// A cast to a type of numbers, where there is one.
+/// A cast to a type of numbers, if there is one.
 pub fn fit(num: Option<NumType>) -> Piece
     ensures { piece_of result ≡ clip (fit num) }
 {
@@ -142,14 +142,14 @@ pub fn load_at(scene: &Scene, path: &Path) -> Piece
     load_at_spot(spot(scene, path))
 }
 
-/// The type of what a path names, where something can be stored there.
+/// The type of what a path names, if something can be stored there.
 pub fn type_at(scene: &Scene, path: &Path) -> Ty
     ensures { result ≡ spot_type (scene_of scene.now) (spot (scene_of scene.now).program (scene_of scene.now).base (resolved_path path.now).steps) }
 {
     spot_type(scene, spot(scene, path))
 }
 
-/// Stores the value on top where a path says.
+/// Stores the value on top at a path.
 pub fn store(alloc: Global, scene: &Scene, path: &Path) -> Result<Piece, NoMemory>
     ensures { IfOk result (λ q. piece_of q ≡ clip (store (scene_of scene.now) (spot (scene_of scene.now).program (scene_of scene.now).base (resolved_path path.now).steps))) }
 {

@@ -30,7 +30,7 @@ fn add_one(keys: &mut Vec<Key>, key: Key) -> Result<(), NoMemory>
     Ok(())
 }
 
-/// Appends the functions that a piece calls, in the order of the calls, where they are new.
+/// Appends the functions that a piece calls, in the order of the calls, if they are new.
 #[cycle(calls)]
 pub fn add_calls(keys: &mut Vec<Key>, piece: &Piece) -> Result<(), NoMemory>
     ensures { OnOk result (map key_of keys.new.items ≡ add_calls (piece_of piece.now) (map key_of keys.old.items)) }
@@ -52,7 +52,7 @@ pub fn add_calls(keys: &mut Vec<Key>, piece: &Piece) -> Result<(), NoMemory>
     }
 }
 
-/// The same of pieces one after another.
+/// The same for pieces one after another.
 #[cycle(calls)]
 fn add_all(keys: &mut Vec<Key>, list: &[Piece]) -> Result<(), NoMemory>
     ensures { OnOk result (map key_of keys.new.items ≡ add_calls (pieces_of list.now) (map key_of keys.old.items)) }

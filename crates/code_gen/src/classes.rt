@@ -1,4 +1,4 @@
-//! The classes of a program, and where the parts of a function's body stand in them.
+//! The classes of a program, and the setting of the parts of a function's body.
 ghost use Rattle.code_gen.specs.Sized.{program_view, IsSized};
 
 use crate::piece::Key;
@@ -15,7 +15,7 @@ pub struct Classes<'a> {
     ghost sized: { IsSized (program_view typed.now layout.now) },
 }
 
-/// A data member: its type, and its length, which is 0 where it is no array.
+/// A data member: its type, and its length, which is 0 if it is not an array.
 #[derive(Clone, Copy)]
 pub struct Field {
     pub ty: Ty,
@@ -31,7 +31,7 @@ pub struct Function<'a> {
     pub body: &'a [Statement],
 }
 
-/// Where a statement stands: the first bit of the class whose function this is, the types of its
+/// The setting of a statement: the first bit of the class whose function this is, the types of its
 /// locals by their slots, and that of its result.
 #[derive(Drop)]
 pub struct Scene<'a> {
@@ -42,7 +42,7 @@ pub struct Scene<'a> {
 }
 
 /// Numbers in an atom's state: the first bit, the type of each, and how many there are, which is 0
-/// where it is no array.
+/// if it is not an array.
 #[derive(Clone, Copy)]
 pub struct Span {
     pub first: u32,
@@ -59,7 +59,7 @@ pub enum Spot {
     Local { slot: u32 },
     /// A number, or an array of numbers, of the acting element.
     Member { span: Span },
-    /// The same of the atom in a local.
+    /// The same for the atom in a local.
     Part { slot: u32, span: Span },
     /// The event's window.
     Window,

@@ -55,7 +55,7 @@ fn after_instr(instr: Instr, d: u32) -> u32
     }
 }
 
-/// The number of operands, where a place may have so many.
+/// The number of operands, if a place may have this many.
 fn few(d: u32) -> Option<u32>
     ensures value { result ≡ at_most d (Some d) }
     ensures bound { IsBelow 512 result }
@@ -76,8 +76,8 @@ fn after_call(head: Head, d: u32) -> u32
     }
 }
 
-/// How many operands there are after a piece that begins with d of them, 0 where it doesn't go on.
-/// None where some place of it has more than 512.
+/// How many operands there are after a piece that begins with d of them, or 0 if it doesn't go on.
+/// None if some place of it has more than 512.
 #[cycle(depth)]
 pub fn depth<S: Source>(source: &S, piece: &Piece, d: u32) -> Option<u32>
     requires { d ≤ 513 }
@@ -121,7 +121,7 @@ pub fn depth<S: Source>(source: &S, piece: &Piece, d: u32) -> Option<u32>
     }
 }
 
-/// The same of pieces one after another.
+/// The same for pieces one after another.
 #[cycle(depth)]
 fn depth_of_all<S: Source>(source: &S, list: &[Piece], d: u32) -> Option<u32>
     requires { d ≤ 513 }
@@ -135,7 +135,7 @@ fn depth_of_all<S: Source>(source: &S, list: &[Piece], d: u32) -> Option<u32>
     Some(left)
 }
 
-/// The same of the end of a function.
+/// The same for the end of a function.
 pub fn end_depth(answer: Answer, d: u32) -> Option<u32>
     requires { d ≤ 513 }
     ensures { (g : Drafts) (blank : ℕ) → result ≡ depth g (end_by answer blank) d }

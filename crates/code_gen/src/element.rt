@@ -65,9 +65,9 @@ fn lay_out<S: Source>(
     Ok(RawCode::new(kind, functions, code))
 }
 
-/// The code of an element of this type number, which begins with the function `main`. None where
-/// the limits don't let it through: it would have more than 65,536 instructions, or more than 512
-/// operands at some place. `NoMemory` where the functions, their bodies or the code can't be kept.
+/// The code of an element of this type number, which begins with the function `main`. None if the
+/// limits don't let it through: it would have more than 65,536 instructions, or more than 512
+/// operands at some place. `NoMemory` if the functions, their bodies or the code can't be kept.
 #[tactic(auto, using(crate::proofs::Built::verified))]
 pub fn build<S: Source>(
     alloc: Global,

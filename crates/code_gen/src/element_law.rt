@@ -9,9 +9,9 @@ ghost use Rattle.code_gen.specs.Kinded.{IsKinded};
 ghost use Rattle.code_gen.specs.Compiled.{element_code};
 ghost use Rattle.code_gen.specs.Means.{Means};
 
-/// Where the trees of a program have the right kinds and the limits let the code of an element
+/// If the trees of a program have the right kinds and the limits let the code of an element
 /// through, this code leaves on each window whose centre has the element's type, and each seed, the
-/// window that the element leaves, and fails where that fails, with its number.
+/// window that the element leaves, and fails if the element fails, with its number.
 pub fn same_meaning()
     ensures { (program : Program) (class : ℕ) (element : typed.Class) → slice_get program.classes class ≡ Some element → element.quark ≡ false → IsKinded program class → IsShort (draft_of program) (behave_key program class) → Means program class (element_code program (number_of program class) class) }
 {}

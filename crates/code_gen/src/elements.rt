@@ -35,9 +35,9 @@ fn keep(codes: &mut Vec<Code>, code: Code) -> Result<(), NoMemory>
     Ok(())
 }
 
-/// The codes of the elements of a program, in the order of their classes. `CodeTooLong` where an
+/// The codes of the elements of a program, in the order of their classes. `CodeTooLong` if an
 /// element would have more than 65,536 instructions, or more than 512 operands at some place, at
-/// the name of the first such element; `NoMemory` where the codes can't be made.
+/// the name of the first such element; `NoMemory` if the codes can't be made.
 pub fn compile(alloc: Global, typed: &Typed, layout: &Layout) -> Result<Vec<Code>, GenFault>
     requires few { length typed.now.classes.items ≤ 65535 }
     requires compilable { IsCompilable (program_view typed.now layout.now) }
@@ -46,7 +46,7 @@ pub fn compile(alloc: Global, typed: &Typed, layout: &Layout) -> Result<Vec<Code
     ensures codes { Compiles (program_view typed.now layout.now) result }
 
     // On each window whose centre has the element's type, and each seed, a code leaves the window
-    // that the element leaves, and fails where that fails, with its number.
+    // that the element leaves, and fails if the element fails, with its number.
     ensures means { AreCompiled (program_view typed.now layout.now) result }
 {
     let classes = Classes { typed, layout };

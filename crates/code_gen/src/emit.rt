@@ -45,15 +45,15 @@ fn number(keys: &[Key], key: Key) -> u32
     n
 }
 
-/// What a block comes to: its pieces one after another. The call does nothing: its contract is the
-/// law.
+/// What becomes of a block: its pieces one after another. The call does nothing: its contract is
+/// the law.
 #[tactic(auto, using(crate::proofs::Blocks::block_is))]
 fn block_law(list: &Vec<Piece>)
     ensures { piece_of (Block list.now) ≡ pieces_of list.now.items }
 {}
 
 /// Appends the instructions of a piece, in which `Out` leads to the place `out` and `Next` to the
-/// place `next`, and functions are numbered as they lie in `keys`.
+/// place `next`, and functions are numbered as they are in `keys`.
 #[cycle(emit)]
 pub fn emit(
     code: &mut Vec<Instr>,
@@ -109,7 +109,7 @@ pub fn emit(
     }
 }
 
-/// The same of a piece behind a jump that leads to the place `past` where the number on top is 0.
+/// The same for a piece after a jump that leads to the place `past` if the number on top is 0.
 #[cycle(emit)]
 fn emit_if(
     code: &mut Vec<Instr>,
@@ -128,7 +128,7 @@ fn emit_if(
     emit(code, keys, out, next, piece)
 }
 
-/// The same of pieces one after another.
+/// The same for pieces one after another.
 #[cycle(emit)]
 fn emit_all(
     code: &mut Vec<Instr>,

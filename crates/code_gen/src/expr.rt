@@ -53,8 +53,8 @@ fn casts(alloc: Global, params: &[Param]) -> Result<Vec<Option<NumType>>, NoMemo
     Ok(found)
 }
 
-/// An operator on the values of both sides. The right side of `&&` and `||` runs only where the
-/// left one does not settle the value.
+/// An operator on the values of both sides. The right side of `&&` and `||` runs only if the left
+/// one does not settle the value.
 fn pair(alloc: Global, op: PairOp, ty: Ty, left: Piece, right: Piece) -> Result<Piece, NoMemory>
     ensures { IfOk result (λ q. piece_of q ≡ pair_of op ty (piece_of left) (piece_of right)) }
 {
@@ -76,7 +76,7 @@ fn pair(alloc: Global, op: PairOp, ty: Ty, left: Piece, right: Piece) -> Result<
     }
 }
 
-/// The first piece where a call gives nothing, else the second.
+/// The first piece if a call gives nothing, otherwise the second.
 pub fn if_nothing(classes: &Classes, target: Callee, so: Piece, other: Piece) -> Piece
     ensures { piece_of result ≡ scheme.if_nothing (program_of classes.now) (callee_of target) (piece_of so) (piece_of other) }
 {
@@ -93,7 +93,7 @@ pub fn if_nothing(classes: &Classes, target: Callee, so: Piece, other: Piece) ->
     }
 }
 
-/// What stands behind all arguments that have a cast.
+/// What follows all arguments that have a cast.
 fn args_end(same: bool) -> Piece
     ensures { piece_of result ≡ (if same then spec.none else scheme.nowhere) }
 {

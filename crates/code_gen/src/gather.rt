@@ -20,7 +20,7 @@ pub struct Gathered {
     pub bodies: Vec<Piece>,
 }
 
-/// How many instructions there are with one function more, where the limits let it through.
+/// How many instructions there are with one function more, if the limits let it through.
 #[tactic(auto, unfolding(crate::specs::Gathers::longer))]
 fn longer<S: Source>(source: &S, key: Key, body: &Piece, sum: u32) -> Option<u32>
     requires sum { sum ≤ 65536 }
@@ -38,7 +38,7 @@ fn longer<S: Source>(source: &S, key: Key, body: &Piece, sum: u32) -> Option<u32
     }
 }
 
-/// Appends a function, or wants memory.
+/// Appends a function, unless memory runs out.
 fn keep_key(keys: &mut Vec<Key>, key: Key) -> Result<(), NoMemory>
     ensures { OnOk result (keys.new.items ≡ keys.old.items ++ key ∷ []) }
 {
@@ -46,7 +46,7 @@ fn keep_key(keys: &mut Vec<Key>, key: Key) -> Result<(), NoMemory>
     Ok(())
 }
 
-/// Appends a body, or wants memory.
+/// Appends a body, unless memory runs out.
 fn keep_body(bodies: &mut Vec<Piece>, body: Piece) -> Result<(), NoMemory>
     ensures { OnOk result (bodies.new.items ≡ bodies.old.items ++ body ∷ []) }
 {
@@ -54,8 +54,9 @@ fn keep_body(bodies: &mut Vec<Piece>, body: Piece) -> Result<(), NoMemory>
     Ok(())
 }
 
-/// All functions of an element that begins with this one, and their bodies. None where the limits
-/// of code are passed.
+/// All functions of an element that begins with this one, and their bodies. None if the limits of
+/// code are passed. The list is gone through at most 65,537 times: each function has an
+/// instruction, so code that calls more of them is too long anyway.
 pub fn gather<S: Source>(alloc: Global, source: &S, main: Key) -> Result<Option<Gathered>, NoMemory>
     requires { IsReady (S.drafts source.now) (key_of main) }
     ensures { Gathers (S.drafts source.now) (key_of main) result }

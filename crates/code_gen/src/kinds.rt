@@ -34,7 +34,7 @@ pub fn answer_of(ty: Ty) -> Answer
     }
 }
 
-/// The type of numbers that a type is, where it is one.
+/// The type of numbers that a type is, if it is one.
 pub fn number_type(ty: Ty) -> Option<NumType>
     ensures { result ≡ number_type ty }
 {
@@ -76,8 +76,8 @@ pub fn arith_of(ty: Ty) -> Arith
     }
 }
 
-/// The arithmetic of an operator with `=` behind it, by the type of the left side and the width of
-/// the right one.
+/// The arithmetic of an operator followed by `=`, by the type of the left side and the width of the
+/// right one.
 fn arith_with(ty: Ty, width: u8) -> Arith
     ensures { result ≡ arith_with ty width }
 {
@@ -100,7 +100,7 @@ fn by_arith(how: Arith, int: Instr, unsigned: Instr, long: Instr, long_unsigned:
 }
 
 /// The instruction of an operator, by its arithmetic and the width of its left side. `&&` and `||`
-/// are choices, and not of one instruction.
+/// are choices, and have no single instruction.
 pub fn pair_instr(op: PairOp, how: Arith, width: u8) -> Instr
     ensures { result ≡ pair_instr op how width }
 {
@@ -125,7 +125,7 @@ pub fn pair_instr(op: PairOp, how: Arith, width: u8) -> Instr
     }
 }
 
-/// The instruction of an operator with `=` behind it, by the type of the left side and the width of
+/// The instruction of an operator followed by `=`, by the type of the left side and the width of
 /// the right one.
 pub fn update_instr(op: PairOp, ty: Ty, width: u8) -> Instr
     ensures { result ≡ update_instr op ty width }
@@ -133,7 +133,7 @@ pub fn update_instr(op: PairOp, ty: Ty, width: u8) -> Instr
     pair_instr(op, arith_with(ty, width), width_of(ty))
 }
 
-/// The operator of `++`, where `up`, or of `--`.
+/// The operator of `++`, if `up`, or of `--`.
 pub fn count_op(up: bool) -> PairOp
     ensures { result ≡ count_op up }
 {

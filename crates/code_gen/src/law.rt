@@ -22,26 +22,24 @@ ghost use Rattle.code_gen.specs.Compiled.{element_code, IsCompiled};
 ghost use Rattle.code_gen.specs.Compiling.{element_codes, AreShort, IsFirstLong};
 ghost use Rattle.code_gen.specs.Laws.{IsReady, IsRight};
 
-/// Where the functions of a program are ready and the limits let the code of an element through,
-/// this code is valid, and on each window and seed it has the window and the ending of its
-/// functions.
+/// If the functions of a program are ready and the limits let the code of an element through, this
+/// code is valid, and on each window and seed it has the window and the ending of its functions.
 pub fn right()
     ensures { (g : Drafts) (kind : ℕ) (main : Key) → IsReady g main → IsShort g main → IsRight g kind main }
 {}
 
-/// Of a piece that fits, the depth is the length of the list of kinds after it, and there is one
-/// exactly where no place has more than 512 operands.
+/// For a piece that fits, the depth is the length of the list of kinds after it, and there is one
+/// exactly when no place has more than 512 operands.
 pub fn depths()
     ensures some { (n : Setting) (q : Piece) (ks : Kinds) (d : ℕ) → Fits n q ks → depth n.drafts q (length ks) ≡ Some d → (length (ends n q ks) ≡ d) × Shallow (shapes n q ks) }
     ensures shallow { (n : Setting) (q : Piece) (ks : Kinds) → Fits n q ks → Shallow (shapes n q ks) → depth n.drafts q (length ks) ≡ Some (length (ends n q ks)) }
 {}
 
-/// Typed classes with the heads of resolved ones are laid out by the layout of these, where none
+/// Typed classes with the heads of resolved ones are laid out by the layout of these, if none
 /// contains itself and none is too wide. A program that is well typed, named and laid out has trees
-/// of the right kinds. Where the trees of
-/// a program have the right kinds and the limits let the code of an element
-/// through, its functions are ready; and this code is valid, and on each window and seed it has the
-/// window and the ending that the element's event means.
+/// of the right kinds. If the trees of a program have the right kinds and the limits let the code
+/// of an element through, its functions are ready; and this code is valid, and on each window and
+/// seed it has the window and the ending that the element's event means.
 pub fn compiled()
     ensures layout { (classes : List resolved.Class) (typed : List typed.Class) → NoneContainsItself classes → first_wide classes ≡ None → map class_sig typed ≡ map class_sig classes → IsLaidOut (record { classes = typed; layout = layout_of classes }) }
     ensures kinds { (g : Program) (c : ℕ) → IsWellProgram g.classes → IsNamedProgram g → IsLaidOut g → HasBehave g c → IsKinded g c }
@@ -50,15 +48,15 @@ pub fn compiled()
 {}
 
 /// The limits let the code of each element of a program through, or there is a first element whose
-/// code they don't; never both, and no two first ones.
+/// code they don't; never both, and never two first ones.
 pub fn one_compiling()
     ensures some { (program : Program) → AreShort program ⊎ ((class : ℕ) × IsFirstLong program class) }
     ensures either { (program : Program) (class : ℕ) → AreShort program → IsFirstLong program class → ⊥ }
     ensures one { (program : Program) (a b : ℕ) → IsFirstLong program a → IsFirstLong program b → a ≡ b }
 {}
 
-/// The code of the element of a type number stands at this number in the codes of all elements, of
-/// which the first has the number 1; and where no element has the number, no code stands there.
+/// The code of the element of a type number is at this number in the codes of all elements, of
+/// which the first has the number 1; and if no element has the number, there is no code at it.
 pub fn codes_in_order()
     ensures some { (program : Program) (kind class : ℕ) → element_of program (suc kind) ≡ Some class → slice_get (element_codes program) kind ≡ Some (element_code program (suc kind) class) }
     ensures none { (program : Program) (kind : ℕ) → element_of program (suc kind) ≡ None → slice_get (element_codes program) kind ≡ None }

@@ -1,7 +1,7 @@
 //! The compiler, from typed trees to stack code.
 //!
-//! A function's tree becomes a piece: code before places and numbers are given out. The functions of
-//! an element are found by their calls, and laid down one after another.
+//! A function's tree becomes a piece: code before places and numbers are given out. The functions
+//! of an element are found by their calls, and laid out one after another.
 #![tactic(auto)]
 
 mod access;

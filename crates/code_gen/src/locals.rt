@@ -57,7 +57,7 @@ fn push_locals(one: &Statement, types: &mut Vec<Ty>) -> Result<(), NoMemory>
     }
 }
 
-/// The same of an optional statement.
+/// The same for an optional statement.
 #[cycle(locals)]
 #[tactic(auto, unfolding(ulam_tree::specs::Locals::locals))]
 fn push_part(part: &Option<Box<Statement>>, types: &mut Vec<Ty>) -> Result<(), NoMemory>
@@ -69,7 +69,7 @@ fn push_part(part: &Option<Box<Statement>>, types: &mut Vec<Ty>) -> Result<(), N
     }
 }
 
-/// The same of statements.
+/// The same for statements.
 #[cycle(locals)]
 fn push_body(list: &[Statement], types: &mut Vec<Ty>) -> Result<(), NoMemory>
     ensures { OnOk result (types.new.items ≡ types.old.items ++ locals.all_locals (typed_body list.now)) }

@@ -1,4 +1,4 @@
-//! What stands in the classes of a program: data members, functions and type numbers.
+//! What the classes of a program declare: data members, functions and type numbers.
 ghost use Rattle.std.specs.Prelude.{◌≡◌, ◌<◌, ◌+◌, map, length, if◌then◌else◌};
 ghost use Rattle.ulam_tree.specs.TypedViews.{typed_class, typed_member};
 ghost use Rattle.atom_layout.specs.Layouts.{first_bit};
@@ -57,8 +57,8 @@ fn field_count(classes: &Classes, class: u32) -> usize
     count
 }
 
-/// The first bit of a data member in the bits of its class, and behind all of them where there is
-/// none of the number.
+/// The first bit of a data member in the bits of its class, or the bit after all of them if there
+/// is none with the number.
 pub fn first_bit(classes: &Classes, class: u32, member: u32) -> u32
     ensures { result ≡ first_bit (program_of classes.now).layout class member }
 {
@@ -148,7 +148,7 @@ fn number_of(classes: &Classes, class: u32) -> u16
     number
 }
 
-/// The type number that stands for a type: an element's, and else that of Empty.
+/// The type number of a type: an element's, otherwise that of Empty.
 pub fn type_number(classes: &Classes, ty: Ty) -> u16
     ensures { result ≡ type_number (program_of classes.now) ty }
 {

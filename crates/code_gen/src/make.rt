@@ -9,8 +9,7 @@ use feast_base::NoMemory;
 use stack_code::Instr;
 use std::alloc::Global;
 
-/// One piece and then another. `NoMemory` where they can't be kept, here and in the calls that
-/// follow.
+/// One piece and then another. `NoMemory` if they can't be kept, here and in the calls that follow.
 pub fn seq(alloc: Global, a: Piece, b: Piece) -> Result<Piece, NoMemory>
     ensures { IfOk result (λ q. piece_of q ≡ seq (piece_of a) (piece_of b)) }
 {
@@ -24,14 +23,14 @@ pub fn then_instr(alloc: Global, a: Piece, instr: Instr) -> Result<Piece, NoMemo
     seq(alloc, a, Piece::Plain(instr))
 }
 
-/// The first piece where the number on top isn't 0, else the second.
+/// The first piece if the number on top isn't 0, otherwise the second.
 pub fn pick(alloc: Global, a: Piece, b: Piece) -> Result<Piece, NoMemory>
     ensures { IfOk result (λ q. piece_of q ≡ pick (piece_of a) (piece_of b)) }
 {
     Ok(Piece::Pick(Box::new(alloc, a)?, Box::new(alloc, b)?))
 }
 
-/// The piece where the number on top isn't 0.
+/// The piece if the number on top isn't 0.
 pub fn only(alloc: Global, a: Piece) -> Result<Piece, NoMemory>
     ensures { IfOk result (λ q. piece_of q ≡ only (piece_of a)) }
 {

@@ -17,7 +17,7 @@ fn bit_of(classes: &Classes, base: u32, class: u32, member: u32) -> u32
     base.saturating_add(first_bit(classes, class, member))
 }
 
-/// A data member that begins at a bit: of the atom in a slot, and else of the acting element.
+/// A data member that begins at a bit: of the atom in a slot, or else of the acting element.
 fn field_spot(slot: Option<u32>, first: u32, field: Field) -> Spot
     ensures { spot_of result ≡ field_spot (numbers_of slot) first (field_of field).length (field_of field).ty }
 {

@@ -20,15 +20,16 @@ pub enum Piece {
     Nothing,
     /// One piece and then another.
     Seq(Box<Piece>, Box<Piece>),
-    /// Pieces one after another, however many.
+    /// Pieces one after another, however many. Whatever goes over pieces goes over these by a loop,
+    /// so its recursion is only as deep as statements and operators nest in the source.
     Block(Vec<Piece>),
     /// An instruction that goes on.
     Plain(Instr),
     /// A call of a function.
     Asks(Key),
-    /// The first piece where the number on top isn't 0, else the second.
+    /// The first piece if the number on top isn't 0, otherwise the second.
     Pick(Box<Piece>, Box<Piece>),
-    /// The piece where the number on top isn't 0.
+    /// The piece if the number on top isn't 0.
     Only(Box<Piece>),
     /// A loop with a test, a body and a step.
     Loop(Box<Piece>, Box<Piece>, Box<Piece>),

@@ -11,7 +11,7 @@ use stack_code::Answer;
 /// The most instructions of a code.
 pub const MOST_INSTRS: u32 = 65_536;
 
-/// The sum of two sizes, as far as it is told: 65,537 stands for all above the most.
+/// The sum of two sizes, up to a limit: 65,537 stands for everything above the most.
 pub fn capped(a: u32, b: u32) -> u32
     requires left { a ≤ 65537 }
     requires right { b ≤ 65537 }
@@ -25,7 +25,8 @@ pub fn capped(a: u32, b: u32) -> u32
     }
 }
 
-/// How many instructions a piece has, where they are no more than the most, else one more.
+/// How many instructions a piece has, if they are no more than the most, otherwise one more than
+/// that.
 #[cycle(size)]
 pub fn size_of(piece: &Piece) -> u32
     ensures { result ≡ min (size (piece_of piece.now)) 65537 }
@@ -50,7 +51,7 @@ pub fn size_of(piece: &Piece) -> u32
     }
 }
 
-/// The same of pieces one after another.
+/// The same for pieces one after another.
 #[cycle(size)]
 fn size_of_all(list: &[Piece]) -> u32
     ensures { result ≡ min (size (pieces_of list.now)) 65537 }

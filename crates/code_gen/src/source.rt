@@ -12,7 +12,7 @@ pub struct Head {
     pub params: u32,
     /// What it gives back.
     pub answer: Answer,
-    /// The type of the atom that its end gives, where it gives an atom back.
+    /// The type of the atom that its end gives, if it gives an atom back.
     pub blank: u16,
 }
 
@@ -29,13 +29,13 @@ pub trait Source {
     fn head(&self, key: Key) -> Head
         ensures { IsHead result (drafts self.now (key_of key)) };
 
-    /// The body of a function. `NoMemory` where its pieces can't be kept.
+    /// The body of a function. `NoMemory` if its pieces can't be kept.
     fn body(&self, alloc: Global, key: Key) -> Result<Piece, NoMemory>
         requires { IsGood (drafts self.now) (key_of key) }
         ensures { IfOk result (λ q. piece_of q ≡ (drafts self.now (key_of key)).body) };
 
-    /// A function as the code has it, with its first instruction at a place. `NoMemory` where its
-    /// name and its slots can't be kept.
+    /// A function as the code has it, with its first instruction at a place. `NoMemory` if its name
+    /// and its slots can't be kept.
     fn function(&self, alloc: Global, key: Key, first: u32) -> Result<RawFunction, NoMemory>
         requires { key.base ≤ 71 }
         ensures { IfOk result (λ f. f ≡ value_at (drafts self.now) first (key_of key)) };

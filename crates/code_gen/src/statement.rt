@@ -65,7 +65,7 @@ fn statement(alloc: Global, scene: &Scene, one: &Statement) -> Result<Piece, NoM
     }
 }
 
-/// The parts of an `if` behind its condition, of which the first one is made.
+/// The parts of an `if` after its condition, of which the first one is made.
 #[cycle(statement)]
 fn choice(
     alloc: Global,

@@ -1,4 +1,4 @@
--- What the fields of a plan, and of the attempts of a tile, stand for.
+-- What the fields of a plan, and of the attempts of a tile, represent.
 use Rattle.std.specs.Prelude.{ℕ, ◌≤◌, List, length, drop}
 use Rattle.draw_stream.specs.declared.attempt.Attempt.{Attempt}
 use Rattle.draw_stream.specs.declared.plan.Plan.{Plan}
@@ -27,7 +27,7 @@ abbrev pub left_of : Rest → List Attempt
 left_of (Drawn stream sites left) = next_attempts stream sites left
 left_of (Listed list next) = drop next list.items
 
--- so many can be given
+-- this many can be given
 abbrev pub CanTake : Rest → Type 0
 CanTake (Drawn stream sites left) = IsSites sites
 CanTake (Listed list next) = next ≤ length list.items

@@ -4,7 +4,8 @@ use Rattle.std.specs.List.{range_with_len}
 use Rattle.draw_stream.specs.declared.attempt.Attempt.{Attempt}
 use Rattle.draw_stream.specs.Attempts.{seeded_attempts}
 
--- the attempts of each tile, and of a seeded plan its seed and how many attempts each tile that is on draws
+-- the attempts of each tile; for a seeded plan also its seed and how many attempts each tile that
+-- is on draws
 pub record PlanValue : Type 0 where
   pub lists : List (List Attempt)
   pub origin : Option (ℕ × ℕ)
@@ -13,11 +14,11 @@ pub record PlanValue : Type 0 where
 abbrev pub attempts : PlanValue → ℕ → List Attempt
 attempts plan tile = slice_index_or plan.lists tile []
 
--- how many of some tiles are on, where each has a mark that says whether it is off
+-- how many of some tiles are on, given a mark for each that says whether it is off
 abbrev pub tiles_on : List Bool → ℕ
 tiles_on off = length (filter not off)
 
--- how many attempts a tile draws: none where it is off
+-- how many attempts a tile draws: none if it is off
 abbrev pub count_of : ℕ → List Bool → ℕ → ℕ
 count_of count off tile = if slice_index_or off tile true then 0 else count
 
@@ -32,13 +33,13 @@ seeded seed count off sites = record { lists = seeded_lists seed count off sites
 abbrev pub scripted : List (List Attempt) → PlanValue
 scripted lists = record { lists = lists; origin = None }
 
--- 1 to 64 tiles, and at most 1,000,000 attempts over all
+-- 1 to 64 tiles, and at most 1,000,000 attempts in total
 pub record IsPlan (plan : PlanValue) : Type 0 where
   pub some : 1 ≤ length plan.lists
   pub most : length plan.lists ≤ 64
   pub few : sum_by length plan.lists ≤ 1000000
 
--- what is taken from a list of attempts: the first, where there is one
+-- what is taken from a list of attempts: the first, if there is one
 abbrev pub TakesNext : List Attempt → Option Attempt → List Attempt → Type 0
 TakesNext [] taken rest = (taken ≡ None) × (rest ≡ [])
 TakesNext (first ∷ others) taken rest = (taken ≡ Some first) × (rest ≡ others)

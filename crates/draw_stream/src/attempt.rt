@@ -1,6 +1,6 @@
 //! An attempt.
 
-/// One attempt of a tile: where, and the seed of the event there.
+/// One attempt of a tile: its site, and the seed of the event there.
 #[derive(Clone, Copy, Debug, PartialEq, Eq)]
 pub struct Attempt {
     /// The centre, as a position in row order of the rectangle that the tile owns.

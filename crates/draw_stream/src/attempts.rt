@@ -17,13 +17,13 @@ pub struct Attempts {
 /// Where the attempts that are left come from.
 #[derive(Drop)]
 pub(crate) enum Rest {
-    /// So many are still to be drawn, in a tile of so many sites.
+    /// This many are still to be drawn, in a tile of this many sites.
     Drawn {
         stream: TileStream,
         sites: u64,
         left: u64,
     },
-    /// They stand in a list, from a place on.
+    /// They are in a list, from a place on.
     Listed {
         list: Vec<Attempt>,
         next: usize,
@@ -55,7 +55,7 @@ impl Attempts {
         }
     }
 
-    /// The next attempt. None exactly where none is left.
+    /// The next attempt. None exactly when none is left.
     pub fn next(&mut self) -> Option<Attempt>
         ensures { TakesNext self.old result self.new }
     {
@@ -70,7 +70,7 @@ impl Attempts {
     }
 }
 
-/// The next of so many attempts that are still to be drawn.
+/// The next of the attempts that are still to be drawn.
 #[tactic(auto, using(crate::proofs::Places::next_attempts_none, crate::proofs::Places::next_attempts_some, crate::proofs::Places::takes_none, crate::proofs::Places::takes_first))]
 fn next_drawn(stream: &mut TileStream, sites: u64, left: &mut u64) -> Option<Attempt>
     requires { IsSites sites }

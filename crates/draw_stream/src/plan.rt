@@ -40,7 +40,7 @@ impl Script {
     }
 }
 
-/// The attempts of each tile of a world. Contracts see the lists of them, and of a seeded plan its
+/// The attempts of each tile of a world. Contracts see the lists of them, and for a seeded plan its
 /// seed and how many attempts each tile makes.
 #[derive(Drop)]
 pub struct AttemptPlan {
@@ -91,10 +91,10 @@ impl Model for AttemptPlan {
 
 impl AttemptPlan {
     /// The plan by which each of 1 to 64 tiles draws `count` attempts from the generator of the
-    /// seed and its number, but for the tiles that are off, which have none: `off` has an entry for
-    /// each tile. A tile has 1 to 4,096 sites. There are at most 1,000,000 attempts over all tiles.
+    /// seed and its number, except that a tile that is off has none: `off` has an entry for each
+    /// tile. A tile has 1 to 4,096 sites. There are at most 1,000,000 attempts over all tiles.
     ///
-    /// `NoMemory`: there was no memory for the marks.
+    /// `NoMemory` if there was no memory for the marks.
     #[tactic(auto, using(crate::proofs::Plans::length_seeded_lists))]
     pub fn seeded(
         alloc: Global,
@@ -123,7 +123,7 @@ impl AttemptPlan {
     }
 
     /// The plan by which each tile has the attempts of its script. There are 1 to 64 scripts, with
-    /// at most 1,000,000 attempts over all.
+    /// at most 1,000,000 attempts in total.
     pub fn scripted(lists: Vec<Script>) -> AttemptPlan
         requires { IsPlan (scripted lists.items) }
         ensures { result ≡ scripted lists.items }
@@ -133,7 +133,7 @@ impl AttemptPlan {
         }
     }
 
-    /// The seed of a seeded plan, and how many attempts each of its tiles makes that is on. None
+    /// The seed of a seeded plan, and how many attempts each of its tiles that is on makes. None
     /// exactly for a plan that is written out.
     pub fn origin(&self) -> Option<(u64, u64)>
         ensures value { result ≡ self.now.origin }
@@ -159,7 +159,7 @@ impl AttemptPlan {
         }
     }
 
-    /// The attempts of a tile of the plan. Refused only for want of memory, and never for a seeded
+    /// The attempts of a tile of the plan. Refused only if memory runs out, and never for a seeded
     /// plan.
     #[tactic(auto, using(crate::proofs::Plans::seeded_lists_at, crate::proofs::Plans::seeded_attempts_drawn, crate::proofs::Plans::length_seeded_lists, crate::proofs::Plans::attempts_few, crate::proofs::Plans::count_few, crate::proofs::Places::length_next_attempts))]
     pub fn of_tile(&self, alloc: Global, tile: u32) -> Result<Attempts, NoMemory>

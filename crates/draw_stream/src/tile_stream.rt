@@ -44,8 +44,8 @@ impl TileStream {
         self.words.next_word()
     }
 
-    /// The next attempt in a tile of so many sites, 1 to 4,096. Its centre is the next word modulo
-    /// the number of sites, and its seed the word after that.
+    /// The next attempt in a tile of the given number of sites, 1 to 4,096. Its centre is the next
+    /// word modulo the number of sites, and its seed the word after that.
     #[tactic(auto, using(crate::proofs::Places::attempt_in_place, crate::proofs::Places::state_in_place))]
     pub fn attempt(&mut self, sites: u64) -> Attempt
         requires some { 1 ≤ sites }

@@ -44,13 +44,13 @@ last_accesses [] = []
 last_accesses (hold ∷ []) = hold.accesses
 last_accesses (hold ∷ next ∷ holds) = last_accesses (next ∷ holds)
 
--- what the last read or write of the register showed, where `start` was known before
+-- what the last read or write of the register showed, if `start` was known before
 abbrev pub last_shown : List Access → ℕ → Option ℕ → Option ℕ
 last_shown [] register start = start
 last_shown (Read at value ∷ accesses) register start = last_shown accesses register (if register == at then Some value else start)
 last_shown (Write at value ∷ accesses) register start = last_shown accesses register (if register == at then Some value else start)
 
--- where a value is known, it is this one
+-- if a value is known, it is this one
 abbrev pub Shows : Option ℕ → ℕ → Type 0
 Shows None value = Unit {0}
 Shows (Some known) value = value ≡ known
@@ -76,7 +76,7 @@ with_hold lists hold = end_lists (lists.holds ++ hold ∷ []) lists.refusals
 abbrev pub IsHeld : EndLists → Type 0
 IsHeld lists = is_held lists.holds ≡ true
 
--- the end has not the edge
+-- the end does not have the edge
 abbrev pub IsFree : EndLists → Type 0
 IsFree lists = is_held lists.holds ≡ false
 
@@ -112,6 +112,6 @@ known_value lists register = last_shown (last_accesses lists.holds) register Non
 abbrev pub HasNoWrite : EndLists → Type 0
 HasNoWrite lists = writes_nothing (last_accesses lists.holds) ≡ true
 
--- the lists of all edges, where those of one edge are replaced
+-- the lists of all edges, with those of one edge replaced
 abbrev pub replace_at : (ℕ → EndLists) → ℕ → EndLists → ℕ → EndLists
 replace_at lists edge other i = if i == edge then other else lists i

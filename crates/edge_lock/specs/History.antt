@@ -16,7 +16,7 @@ abbrev pub trace : List Hold → List Access
 trace [] = []
 trace (hold ∷ holds) = hold.accesses ++ trace holds
 
--- what a register has after these accesses, where it had `start` before
+-- what a register has after these accesses, if it had `start` before
 abbrev pub written : List Access → ℕ → ℕ → ℕ
 written [] register start = start
 written (Read at value ∷ accesses) register start = written accesses register start
@@ -26,11 +26,11 @@ written (Write at value ∷ accesses) register start = written accesses register
 abbrev pub value : List Hold → ℕ → ℕ
 value holds register = written (trace holds) register 0
 
--- a register after the first so many holds
+-- a register after the first n holds
 abbrev pub value_after : List Hold → ℕ → ℕ → ℕ
 value_after holds count register = value (take count holds) register
 
--- each read gives the last value written to its register before it, else 0
+-- each read gives the last value written to its register before it, or else 0
 abbrev pub ReadsTrue : List Access → Type 0
 ReadsTrue accesses = (before : List Access) (register value : ℕ) (rest : List Access) → accesses ≡ before ++ Read register value ∷ rest → value ≡ written before register 0
 
@@ -40,8 +40,8 @@ found_value [] register = None
 found_value (Read at value ∷ accesses) register = if register == at then Some value else found_value accesses register
 found_value (Write at value ∷ accesses) register = if register == at then None else found_value accesses register
 
--- how many shared sites an edge of so many registers has. One register is the clock; of the others, each 64 sites take
--- 130, and the sites that are left take two each and two more.
+-- how many shared sites an edge with this many registers has. One register is the clock; of the
+-- others, every 64 sites take 130, and the sites that are left take two each and two more.
 unfoldable pub site_count : ℕ → ℕ
 site_count registers = let pairs = (registers - 1) / 2 in 64 * (pairs / 65) + (pairs % 65 - 1)
 
@@ -59,13 +59,13 @@ OnlyLastOpen [] = Unit {0}
 OnlyLastOpen (hold ∷ []) = Unit {0}
 OnlyLastOpen (hold ∷ next ∷ holds) = (hold.is_open ≡ false) × OnlyLastOpen (next ∷ holds)
 
--- the last hold, where it is open
+-- the last hold, if it is open
 abbrev pub open_hold : List Hold → Option Hold
 open_hold [] = None
 open_hold (hold ∷ []) = if hold.is_open then Some hold else None
 open_hold (hold ∷ next ∷ holds) = open_hold (next ∷ holds)
 
--- whose hold it is: the end and its attempt
+-- whose hold it is: an end and its attempt
 abbrev pub key : Hold → ℕ × ℕ
 key hold = (hold.end, hold.attempt)
 
@@ -111,7 +111,7 @@ pub record IsSide (keys : List (ℕ × ℕ)) (end : ℕ) (refusals : List Refusa
 abbrev pub IsEnd : ℕ × ℕ → Type 0
 IsEnd key = key.0 < 2
 
--- the holds of an edge with so many shared sites
+-- the holds of an edge with this many shared sites
 pub record IsHistory (sites : ℕ) (holds : List Hold) : Type 0 where
   pub ends : All IsEnd (keys holds)
   pub only_last : OnlyLastOpen holds

@@ -31,7 +31,7 @@ end_of edge tile = if edge.lower == tile then 0 else 1
 abbrev pub is_end : PlainEdgeValue → ℕ → Bool
 is_end edge tile = (edge.lower == tile) || (edge.higher == tile)
 
--- by an edge's number: how many registers it has, 0 where it is no edge of the acting tile
+-- by an edge's number: how many registers it has, or 0 if the acting tile has no such edge
 abbrev pub registers_on : PlainBoardValue → ℕ → ℕ
 registers_on board edge = if is_end (edge_at board edge) board.acting then (edge_at board edge).registers else 0
 
@@ -65,7 +65,7 @@ MayCall end (reads register) edge = IsHeld (own_lists end edge) × (register < e
 MayCall end (writes register value) edge = IsHeld (own_lists end edge) × (register < edge.registers) × IsAllowed (site_count edge.registers) register value
 MayCall end gives edge = IsHeld (own_lists end edge)
 
--- a try gets the edge exactly where nobody has it, and is refused by the hold that is open
+-- a try gets the edge exactly when nobody has it; otherwise the open hold refuses it
 abbrev pub tried_at : Option Hold → ℕ → ℕ → PlainEdgeValue → PlainEdgeValue
 tried_at None end attempt edge = edge_after_try end attempt Got edge
 tried_at (Some hold) end attempt edge = edge_after_try end attempt (Busy hold.attempt) edge
@@ -77,7 +77,8 @@ effect_of end (reads register) edge = edge_after_access (Read register (value ed
 effect_of end (writes register value) edge = edge_after_access (Write register value) edge
 effect_of end gives edge = edge_after_give edge
 
--- The new board comes from the old one by this call of the acting tile's end on this edge. All other edges stay, and so does the acting tile.
+-- The new board comes from the old one by this call of the acting tile's end on this edge. All
+-- other edges stay as they are, and so does the acting tile.
 pub record IsCall (old : PlainBoardValue) (edge : ℕ) (call : Call) (new : PlainBoardValue) : Type 0 where
   pub inside : edge < length old.edges
   pub ours : is_end (edge_at old edge) old.acting ≡ true

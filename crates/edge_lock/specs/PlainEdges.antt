@@ -103,7 +103,8 @@ abbrev pub edge_after_try : ℕ → ℕ → Take → PlainEdgeValue → PlainEdg
 edge_after_try end attempt Got edge = with_view edge (plain_view edge.registers (edge.holds ++ new_hold end attempt ∷ []) edge.low edge.high)
 edge_after_try end attempt (Busy holder) edge = with_view edge (with_refusal end (refusal_of attempt holder) (view_of edge))
 
--- Got is answered exactly where nobody has the edge, Busy exactly where the other end has it, with the attempt that has it
+-- Got is answered exactly when nobody has the edge, Busy exactly when the other end has it, with
+-- the attempt that has it
 abbrev pub IsAnswer : ℕ → PlainEdgeValue → Take → Type 0
 IsAnswer end edge Got = open_hold edge.holds ≡ None
 IsAnswer end edge (Busy holder) = (hold : Hold) × (open_hold edge.holds ≡ Some hold) × (hold.end ≡ 1 - end) × (hold.attempt ≡ holder)

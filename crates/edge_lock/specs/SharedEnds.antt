@@ -10,11 +10,11 @@ pub record SharedEndValue : Type 0 where
 abbrev pub shared_end_value : ℕ → List PassValue → SharedEndValue
 shared_end_value tile passes = record { tile = tile; passes = passes }
 
--- the pass was made with the edge that stands at its number
+-- the pass was made with the edge at its number
 abbrev pub IsPassOf : List EdgeValue → PassValue → Type 0
 IsPassOf edges pass = slice_get edges pass.of.number ≡ Some pass.of
 
--- by an edge's number: how many registers it has, 0 where there is no pass of it
+-- by an edge's number: how many registers it has, or 0 if there is no pass for it
 abbrev pub registers_at : List PassValue → ℕ → ℕ
 registers_at [] edge = 0
 registers_at (pass ∷ passes) edge = if pass.of.number == edge then pass.of.registers else registers_at passes edge

@@ -1,5 +1,6 @@
--- The rule over the words of an edge that two threads share, and what each step tells its caller.
--- Word 0 is the base's own, word 1 is the lock, word 2 counts the ends that are claimed, and the registers follow.
+-- The rule over the words of an edge that two threads share, and what each step reveals to its
+-- caller. Word 0 is the base's own, word 1 is the lock, word 2 counts the ends that are claimed,
+-- and the registers follow.
 use Rattle.std.specs.Prelude.{◌≡◌, ℕ, ◌+◌, ◌-◌, ◌*◌, ◌/◌, ◌<◌, ◌==◌, Bool, true, false, List, [], ◌∷◌, ◌++◌, length, slice_index, Option, Some, None, if◌then◌else◌}
 use mathlib.Core.Option.{some}
 use lib.ListN.{get_elem?}
@@ -12,7 +13,7 @@ use Rattle.edge_lock.specs.declared.edge_steps.View.TheVariants.{First, Alone, S
 use Rattle.edge_lock.specs.History.{own, value, open_hold, keys, site_count, IsAllowed, IsHistory, IsSide, IsEdgeHistory}
 use Rattle.edge_lock.specs.EndLists.{EndLists, end_lists, new_hold, refusal_of, with_access, closed_hold, change_last, known_value, Shows}
 
--- the lock word: 0 where nobody has the edge, else the attempt and the end that have it
+-- the lock word: 0 if nobody has the edge, otherwise the attempt and the end that have it
 abbrev pub lock_word : Option Hold → ℕ
 lock_word None = 0
 lock_word (Some hold) = 1 + 2 * hold.attempt + hold.end
@@ -35,9 +36,10 @@ abbrev pub claims : List View → ℕ
 claims [] = 0
 claims (view ∷ views) = claims_of view + claims views
 
--- What the rule says of the view of the seat `id`, of so many seats. There is one history of both ends, `holds`.
--- A view before the split is the only one. After it seat 0 has end 0 and seat 1 has end 1, and a view has its end's part.
--- After the join one view has both parts, and then the whole.
+-- What the rule says about the view of the seat `id`, one of this many seats. There is one history
+-- of both ends, `holds`. A view before the split is the only one. After it seat 0 has end 0 and
+-- seat 1 has end 1, and a view has its end's part. After the join one view has both parts, and then
+-- the whole.
 abbrev pub IsPart : Bool → List Hold → ℕ → ℕ → View → Type 0
 IsPart joined holds count id (First registers) = (joined ≡ false) × (count ≡ 1) × (holds ≡ [])
 IsPart joined holds count id (Alone registers) = (joined ≡ false) × (count ≡ 1) × (holds ≡ [])
@@ -47,7 +49,8 @@ IsPart joined holds count id (Joined registers low low_refusals high high_refusa
 IsPart joined holds count id (Settled all low_refusals high_refusals) = (joined ≡ true) × (all ≡ holds) × IsSide (keys holds) 0 low_refusals × IsSide (keys holds) 1 high_refusals
 IsPart joined holds count id Spent = joined ≡ true
 
--- the rule of an edge with so many registers: the words are those of one history, and each view is a part of it
+-- the rule of an edge with this many registers: the words are those of one history, and each view
+-- is a part of it
 pub record IsShared (registers_count : ℕ) (s : State (Unit {0}) View) : Type 0 where
   pub hs : List Hold
   pub joined : Bool
@@ -69,7 +72,8 @@ abbrev pub lists_in : View → EndLists
 lists_in (Paired registers end holds refusals) = end_lists holds refusals
 lists_in view = end_lists [] []
 
--- the number of registers, as far as the view keeps it
+-- The number of registers, as far as the view keeps it. The views of the two ends carry it, since
+-- the statement of a step can't read the table's key.
 abbrev pub registers_in : View → ℕ
 registers_in (First registers) = registers
 registers_in (Alone registers) = registers
@@ -143,6 +147,6 @@ abbrev pub register_in : View → ℕ → ℕ
 register_in (Settled all low_refusals high_refusals) register = value all register
 register_in view register = 0
 
--- a later load: it tells a register of the one history
+-- a later load: it reveals a register of the one history
 abbrev pub Tells : Taken → Seated → ℕ → Seated → Type 0
 Tells step me word next = (next ≡ me) × (word ≡ register_in me.0 (step.word - 3))

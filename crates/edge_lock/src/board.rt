@@ -2,7 +2,7 @@
 ghost use Rattle.std.specs.Prelude.{◌≡◌, ◌<◌, ℕ};
 ghost use Rattle.edge_lock.specs.declared.history.Access.TheVariants.{Read, Write};
 
-/// What a try to take an edge gave.
+/// The answer to a try to take an edge.
 #[derive(Clone, Copy, PartialEq, Eq, Debug)]
 pub enum Take {
     /// The tile has the edge now.
@@ -17,8 +17,8 @@ pub enum Take {
 /// One tile's end of its edges.
 ///
 /// Contracts see the tile, its edges with their numbers of registers, and what this end did on each
-/// of them: a list of holds and a list of refusals. A call changes the lists of the named edge
-/// alone, and neither the tile nor its edges. Each call needs an edge of the tile.
+/// of them: a list of holds and a list of refusals. A call changes only the lists of the named
+/// edge, and neither the tile nor its edges. Each call needs an edge of the tile.
 pub trait Board {
     ghost use Rattle.edge_lock.specs.History.{IsAllowed, site_count};
     ghost use Rattle.edge_lock.specs.EndLists.{EndLists, IsHeld, IsFree, IsNew, HasNoWrite, Shows, after_try, after_access, after_give, known_value, replace_at};
@@ -26,21 +26,21 @@ pub trait Board {
     // The tile whose end it is.
     ghost tile: { Self → ℕ };
 
-    // By an edge's number: how many registers it has, and 0 where it is no edge of the tile.
+    // By an edge's number: how many registers it has, or 0 if it is not an edge of the tile.
     ghost registers: { Self → ℕ → ℕ };
 
-    // Which end of the edge the tile is: 0 or 1, where it is an edge of the tile.
+    // Which end of the edge the tile is, 0 or 1, if it is an edge of the tile.
     ghost end_of: { Self → ℕ → ℕ };
 
     // The holds and refusals of this end on the edge.
     ghost lists: { Self → ℕ → EndLists };
 
-    // What calls may do to a board, beyond this end's own lists. Each implementation says what it is.
+    // What calls may do to a board beyond this end's own lists. Each implementation defines it.
     ghost moved: { Self → Self → Type 0 };
 
-    /// Tries to take an edge that this end has not. Got begins a hold; Busy notes a refusal with
-    /// the attempt of the other end that has the edge. The attempt is greater than each that this
-    /// end tried on the edge before.
+    /// Tries to take an edge that this end does not have. Got begins a hold; Busy notes a refusal
+    /// with the attempt of the other end that has the edge. The attempt is greater than each that
+    /// this end tried on the edge before.
     fn try_take(&mut self, edge: u32, attempt: u64) -> Take
         requires edge { 0 < registers self.old edge }
         requires free { IsFree (lists self.old edge) }
@@ -51,8 +51,8 @@ pub trait Board {
         ensures edges { (registers self.new ≡ registers self.old) × (end_of self.new ≡ end_of self.old) }
         ensures moved { moved self.old self.new };
 
-    /// What a register of an edge has that this end has: what this hold last read or wrote there,
-    /// where it did. The second register of a shared site has bits 7 to 15 equal to 0.
+    /// What a register has, of an edge that this end has: what this hold last read or wrote there,
+    /// if it did. The second register of a shared site has bits 7 to 15 equal to 0.
     fn read(&mut self, edge: u32, register: u32) -> u64
         requires edge { register < registers self.old edge }
         requires held { IsHeld (lists self.old edge) }

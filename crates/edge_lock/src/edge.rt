@@ -34,8 +34,8 @@ impl Model for Edge {
     ghost invariant = { λ e. e.table.shared.table_id.words ≡ 3 + e.table.shared.key };
 }
 
-/// One end's right to take an edge. Contracts see of which edge and which end it is, and what that
-/// end did: its holds and its refusals, in order.
+/// One end's right to take an edge. Contracts see which edge and which end it is, and what that end
+/// did: its holds and its refusals, in order.
 #[derive(Drop)]
 pub struct Pass {
     seat: Seat<(), View>,
@@ -97,11 +97,11 @@ impl Closed {
 }
 
 impl Edge {
-    /// An edge of this number and so many shared sites, with a pass for each end, the first for
+    /// An edge with this number and this many shared sites, and a pass for each end, the first for
     /// end 0. Its registers are the clock, two for each site and the news words of both ends, all
     /// of them 0.
     ///
-    /// `NoMemory`: there was no memory for the words.
+    /// `NoMemory` if there was no memory for the words.
     pub fn new(alloc: Global, edge: u32, sites: u32) -> Result<(Edge, Pass, Pass), NoMemory>
         requires fits { registers_of sites < 2 ^ 32 }
         ensures edge { IfOk result (λ r. (r.0.number ≡ edge) × (r.0.registers ≡ registers_of sites)) }
@@ -111,7 +111,7 @@ impl Edge {
         Edge::with_registers(alloc, edge, registers)
     }
 
-    /// An edge of this number and so many registers, with a pass for each end.
+    /// An edge with this number and this many registers, and a pass for each end.
     fn with_registers(
         alloc: Global,
         edge: u32,
@@ -138,8 +138,8 @@ impl Edge {
         Ok((edge, lower, higher))
     }
 
-    /// Puts what both ends did together. The holds of both passes are one history, each end's own
-    /// once and in order, and every refusal names a hold of the other end, at its place.
+    /// Joins what both ends did. The holds of both passes are one history, each end's own once and
+    /// in order, and every refusal names a hold of the other end, at its place.
     pub fn close(self, lower: Pass, higher: Pass) -> Closed
         requires lower { (lower.of ≡ self) × (lower.end ≡ 0) × IsFree lower.lists }
         requires higher { (higher.of ≡ self) × (higher.end ≡ 1) × IsFree higher.lists }
@@ -162,8 +162,8 @@ impl Edge {
         Closed { table, seat }
     }
 
-    /// One exchange of the lock word. Where it finds 0 the end has the edge from then on, else the
-    /// word that it found names the attempt of the other end's hold.
+    /// One exchange of the lock word. If it finds 0, the end has the edge from then on; otherwise
+    /// the word that it found names the attempt of the other end's hold.
     pub(crate) fn try_take(&self, pass: &mut Pass, attempt: u64) -> Take
         requires edge { pass.old.of ≡ self.now }
         requires free { IsFree pass.old.lists }

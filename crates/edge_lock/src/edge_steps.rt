@@ -1,5 +1,5 @@
 //! The atomic steps on the words of a shared edge: what a seat knows, the rule that all steps keep,
-//! and what each kind of step tells the end that makes it.
+//! and what each kind of step reveals to the end that makes it.
 use crate::history::{Hold, Refusal};
 use atomic_table::{Join, Play, Split, TableRule};
 use std::collections::LinkedList;
@@ -20,7 +20,7 @@ pub enum View {
     First(u32),
     /// The only seat, with end 0.
     Alone(u32),
-    /// The seat beside end 0, with no end yet.
+    /// The other seat, beside end 0, with no end yet.
     Second(u32),
     /// One of two seats: its end, its holds and its refusals.
     Paired(u32, u64, LinkedList<Hold>, LinkedList<Refusal>),
@@ -89,7 +89,7 @@ impl Play<(), View> for Give {
     ghost then = { Gives };
 }
 
-/// How the two seats of an edge are cut apart and joined again.
+/// How the two seats of an edge are split and joined again.
 pub struct Ends;
 
 impl Split<View> for Ends {

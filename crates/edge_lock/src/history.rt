@@ -1,5 +1,5 @@
-//! What the history of one edge is made of. Contracts speak of these types as lists and records;
-//! no running code makes a value of them.
+//! What the history of one edge is made of. Contracts use these types as lists and records; no
+//! running code makes a value of them.
 use std::collections::LinkedList;
 
 /// One read or write of a register in a hold: the register's number and the value.

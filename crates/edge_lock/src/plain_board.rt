@@ -15,7 +15,7 @@ use std::marker::Model;
 /// All edges of a plane, each with the history of both its ends. Contracts see the tile whose end
 /// acts, and each edge with its two tiles, its number of registers and its history.
 ///
-/// A try is Busy exactly where the other end has the edge.
+/// A try is Busy exactly when the other end has the edge.
 #[derive(Drop)]
 pub struct PlainBoard {
     edges: Vec<PlainEdge>,
@@ -36,7 +36,7 @@ impl Model for PlainBoard {
 impl PlainBoard {
     /// The board of these edges. All registers are 0, nothing has happened, and tile 0's end acts.
     ///
-    /// `NoMemory`: there was no memory for the edges.
+    /// `NoMemory` if there was no memory for the edges.
     pub fn new<S: EdgeSizes>(alloc: Global, sizes: &S) -> Result<PlainBoard, NoMemory>
         ensures made { IfOk result (λ b. (b.acting ≡ 0) × (b.edges ≡ map untouched_edge (S.sizes sizes.now))) }
         ensures sizes { IfOk result (λ b. sizes_of_board b ≡ S.sizes sizes.now) }
@@ -84,7 +84,7 @@ impl Board for PlainBoard {
 
     ghost moved = { Moved };
 
-    /// Tries to take an edge. Busy comes exactly where the other end has it.
+    /// Tries to take an edge. Busy comes exactly when the other end has it.
     fn try_take(&mut self, edge: u32, attempt: u64) -> Take
         requires edge { 0 < registers_on self.old edge }
         requires free { IsFree (lists_on self.old edge) }

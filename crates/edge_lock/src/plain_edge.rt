@@ -39,7 +39,7 @@ impl Model for PlainEdge {
 impl PlainEdge {
     /// An edge between these tiles whose registers are all 0.
     ///
-    /// `NoMemory`: there was no memory for the words.
+    /// `NoMemory` if there was no memory for the words.
     pub(crate) fn new(
         alloc: Global,
         lower: u32,
@@ -58,7 +58,7 @@ impl PlainEdge {
         })
     }
 
-    /// Which end the tile is: 0 for the lower tile, else 1.
+    /// Which end the tile is: 0 for the lower tile, otherwise 1.
     pub(crate) fn end_of(&self, tile: u32) -> u32
         ensures end { result ≡ if self.now.lower == tile then 0 else 1 }
         ensures small { result < 2 }

@@ -1,5 +1,5 @@
 //! The steps on the words of a plain edge: what its one seat knows, the rule that all steps keep,
-//! and what each kind of step tells.
+//! and what each kind of step reveals.
 use crate::history::{Hold, Refusal};
 use atomic_table::{Play, TableRule};
 use std::collections::LinkedList;

@@ -9,9 +9,9 @@ use std::marker::Model;
 /// One tile's end of its shared edges: the edges of the plane, and the tile's own passes.
 /// Contracts see the tile and the passes.
 ///
-/// A try is Busy only where its one exchange found the word of the other end's hold, which names
-/// the attempt. The pass keeps it as a refusal. When the edge is closed, that hold stands in the
-/// history of the other end.
+/// A try is Busy only if its one exchange found the word of the other end's hold, which names the
+/// attempt. The pass keeps it as a refusal. When the edge is closed, that hold is in the history of
+/// the other end.
 #[derive(Drop)]
 pub struct SharedEnd<'a> {
     edges: &'a [Edge],

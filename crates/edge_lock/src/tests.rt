@@ -13,7 +13,7 @@ use std::alloc::{AllocError, Global};
 use std::test::Fail;
 use std::thread::{Threads, join_mut};
 
-/// Tries an edge once, and adds 1 to register 0 where it is got.
+/// Tries an edge once, and adds 1 to register 0 if it gets it.
 fn bump<D: Board>(board: &mut D, edge: u32, attempt: u64) -> bool
     requires edge { 0 < D.registers board.old edge }
     requires free { IsFree (D.lists board.old edge) }
@@ -34,7 +34,7 @@ fn bump<D: Board>(board: &mut D, edge: u32, attempt: u64) -> bool
     }
 }
 
-/// Tries an edge so many times. The answer is the number of holds.
+/// Tries an edge this many times. The answer is the number of holds.
 fn count_up<D: Board>(board: &mut D, edge: u32, tries: u64) -> u64
     requires edge { 0 < D.registers board.old edge }
     requires fresh { D.lists board.old edge ≡ end_lists [] [] }
@@ -106,7 +106,8 @@ fn two_threads_count(rt: HostRuntime) -> Result<(), Fail> {
     Ok(())
 }
 
-/// Both ends of a shared edge take turns: what the higher end reads, where each try is answered as it is with one board.
+/// Both ends of a shared edge take turns: what the higher end reads, if each try is answered as it
+/// is on one board.
 fn take_turns<A: Board, B: Board>(low: &mut A, high: &mut B) -> Option<u64>
     requires low { (0 < A.registers low.old 0) × (A.lists low.old 0 ≡ end_lists [] []) }
     requires high { (0 < B.registers high.old 0) × (B.lists high.old 0 ≡ end_lists [] []) }
@@ -221,7 +222,8 @@ fn try_once<D: Board>(board: &mut D, edge: u32, attempt: u64) -> Take
     board.try_take(edge, attempt)
 }
 
-/// Of such a try on a plain board it is known that Busy came where the other end had the edge, and Got where nobody had it.
+/// On a plain board such a try is known to be Busy when the other end had the edge, and Got when
+/// nobody had it.
 fn try_on_board(board: &mut PlainBoard, edge: u32, attempt: u64) -> Take
     requires edge { 0 < registers_on board.old edge }
     requires free { IsFree (lists_on board.old edge) }
@@ -239,7 +241,7 @@ fn one_try_of_generic_code(rt: HostRuntime) -> Result<(), Fail> {
     Ok(())
 }
 
-/// How many sites edges of so many registers share.
+/// How many sites edges with this many registers share.
 fn tell_site_counts()
     ensures smallest { (site_count 1 ≡ 0) × (site_count 5 ≡ 1) }
     ensures words { (site_count 131 ≡ 64) × (site_count 135 ≡ 65) × (site_count 197 ≡ 96) }

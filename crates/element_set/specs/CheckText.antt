@@ -11,7 +11,7 @@ use Rattle.atom_layout.specs.Layouts.{class_at, first_bit}
 use Rattle.element_set.specs.Names.{names_in}
 use Rattle.element_set.specs.Value.{SetValue}
 
--- a word and the space behind it
+-- a word and a space
 abbrev pub spaced : List ℕ → List ℕ
 spaced word = word ++ codes " "
 
@@ -19,7 +19,7 @@ spaced word = word ++ codes " "
 abbrev pub in_parens : ℕ → List ℕ
 in_parens n = codes "(" ++ (decimal n ++ codes ")")
 
--- a number type, with its width but for `Bool`
+-- a number type, with its width except for `Bool`
 abbrev pub number_text : Kind → ℕ → List ℕ
 number_text Int n = codes "Int" ++ in_parens n
 number_text Unsigned n = codes "Unsigned" ++ in_parens n
@@ -37,7 +37,7 @@ type_text cs (y.Num num) = number_text num.kind num.width
 type_text cs (y.Class k) = class_name cs k
 type_text cs ty = []
 
--- the length of an array, and nothing where it is none
+-- the length of an array, or nothing if it is not one
 abbrev pub length_text : ℕ → List ℕ
 length_text zero = []
 length_text (suc n) = codes "[" ++ (decimal (suc n) ++ codes "]")
@@ -64,7 +64,7 @@ quark_line name bits = codes "quark " ++ (spaced name ++ (decimal bits ++ codes 
 abbrev pub element_line : List ℕ → ℕ → ℕ → List ℕ
 element_line name number bits = codes "element " ++ (spaced name ++ (spaced (decimal number) ++ (decimal bits ++ codes "\n")))
 
--- a class of so many bits, where the elements before it are so many
+-- a class of this many bits, with this many elements before it
 abbrev pub class_line : t.Class → ℕ → ℕ → List ℕ
 class_line c before bits = if c.quark then quark_line c.word.name bits else element_line c.word.name (before + 1) bits
 

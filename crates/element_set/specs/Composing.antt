@@ -1,4 +1,4 @@
--- Stages that pass with a value or refuse their input, and one behind another.
+-- Stages that pass with a value or refuse their input, and one stage after another.
 use Rattle.std.specs.Prelude.{◌≡◌, ◌⊎◌, Result, Ok, Err}
 use Rattle.feast_base.specs.declared.place.Refusal.{Refusal}
 
@@ -6,7 +6,7 @@ use Rattle.feast_base.specs.declared.place.Refusal.{Refusal}
 abbrev pub Stage : Type 0 → Type 1
 Stage A = Result A Refusal → Type 0
 
--- a stage refuses, and so do all behind it
+-- a stage refuses, and so do all after it
 abbrev pub Halts : {A B : Type 0} → Stage A → Result B Refusal → Type 0
 Halts S (Ok b) = ⊥
 Halts S (Err r) = S (Err r)
@@ -26,7 +26,7 @@ abbrev pub gives : {A : Type 0} → A → Stage A
 gives a (Ok b) = b ≡ a
 gives a (Err r) = ⊥
 
--- a stage has one outcome at most
+-- a stage has at most one outcome
 pub record IsOne {A : Type 0} (S : Stage A) : Type 0 where
   pub value : (a b : A) → S (Ok a) → S (Ok b) → a ≡ b
   pub refusal : (r s : Refusal) → S (Err r) → S (Err s) → r ≡ s

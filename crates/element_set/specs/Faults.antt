@@ -1,4 +1,4 @@
--- The refusals that the faults of the stages are told as.
+-- The refusals that report the faults of the stages.
 use Rattle.std.specs.Prelude.{ℕ}
 use Rattle.feast_base.specs.declared.place.Place.{Place}
 use Rattle.feast_base.specs.declared.place.Refusal.{Refusal}
@@ -35,7 +35,7 @@ counted code place value = record { code = code; place = place; value = value }
 abbrev pub refusal : ℕ → Place → Refusal
 refusal code place = counted code place 0
 
--- The codes of each stage. Want of memory is no refusal.
+-- The codes of each stage. Running out of memory is not a refusal.
 
 abbrev pub lex_fault : LexFault → BuildFault
 lex_fault (x.BadByte at) = Refused (refusal 10 at)

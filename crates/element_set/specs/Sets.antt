@@ -25,7 +25,7 @@ RefusesFiles files r = set_of files (Err r)
 abbrev pub set_value : ElementSet → SetValue
 set_value s = set_view s.typed s.layout
 
--- what building answers
+-- the answer of building
 abbrev pub Builds : List File → Result ElementSet BuildFault → Type 0
 Builds files result = Tells set_value (set_of files) result
 

@@ -62,7 +62,7 @@ no_trees = record { files = []; heads = [] }
 abbrev pub with_tree : Trees → Tree → Trees
 with_tree done x = record { files = done.files ++ x.items ∷ []; heads = done.heads ++ x.heads ∷ [] }
 
--- the files behind some, each lexed and parsed before the next is lexed
+-- the files after some, each lexed and parsed before the next is lexed
 abbrev pub more_trees : Trees → List File → Stage Trees
 more_trees done [] = gives done
 more_trees done (f ∷ fs) = and_then (tree_of (length done.files) f.1) (λ (x : Tree). more_trees (with_tree done x) fs)

@@ -10,7 +10,7 @@ use Rattle.element_set.specs.declared.fault.BuildFault.TheVariants.{Refused, NoM
 use Rattle.element_set.specs.Composing.{Stage}
 use Rattle.element_set.specs.Faults.{Coded}
 
--- an outcome of the stage, of which a refusal has a text; or memory was wanted
+-- an outcome of the stage, of which a refusal has a text; or memory ran out
 abbrev pub Tells : {X A : Type 0} → (X → A) → Stage A → Result X BuildFault → Type 0
 Tells value S (Ok x) = S (Ok (value x))
 Tells value S (Err (Refused r)) = S (Err r) × Coded r.code

@@ -8,8 +8,8 @@ use feast_base::{NoLedger, NoMemory, Steps};
 use std::alloc::Global;
 use window_sites::Window;
 
-/// What acts on windows as the elements of a set do: the element whose atom stands at the centre
-/// acts. An empty centre, and an atom whose type is that of no element, leave the window as it is.
+/// What acts on windows as the elements of a set do: the element whose atom is at the centre acts.
+/// An empty centre, and an atom whose type is that of no element, leave the window as it is.
 #[derive(Drop)]
 pub struct Actor<'a> {
     set: &'a ElementSet,
@@ -40,8 +40,8 @@ impl ElementSet {
     ghost use Rattle.element_set.specs.Acting.{acting_set};
     ghost use Rattle.element_set.specs.Sets.{set_value};
 
-    /// What acts on windows as the elements of this set do. It takes all its memory here;
-    /// `NoMemory` where that is refused.
+    /// What acts on windows as the elements of this set do. All its memory is allocated here;
+    /// `NoMemory` if that is refused.
     pub fn actor(&self, alloc: Global) -> Result<Actor<'_>, NoMemory>
         ensures { IfOk result (λ a. acting_set a ≡ set_value self.now) }
     {

@@ -80,13 +80,12 @@ fn flat_set(alloc: Global, trees: Trees) -> Result<ElementSet, BuildFault>
 }
 
 impl ElementSet {
-    /// The set of the elements of files, in the order in which their classes stand.
+    /// The set of the elements of files, in the order of their classes.
     ///
     /// # Errors
     /// `Refused` by the first stage that refuses: lexing and parsing, file by file (codes 10 to 13,
-    /// 20 and 21); then, of all files, bases (37 to 39), names (30 to 36), the layout (40 and 41)
-    /// types (50 to 56) and
-    /// code (60). `NoMemory` where the set can't be kept.
+    /// 20 and 21); then, for all files, bases (37 to 39), names (30 to 36), the layout (40 and 41),
+    /// types (50 to 56) and code (60). `NoMemory` if the set can't be kept.
     pub fn build(alloc: Global, files: &[Source]) -> Result<ElementSet, BuildFault>
         requires few { length files.now < 2 ^ 32 }
         requires short { All (λ f. length f.1 < 2 ^ 32 - 1) files.now }

@@ -24,7 +24,7 @@ impl ElementSet {
         self.codes.as_slice()
     }
 
-    /// The number of the element of a name, None exactly where no element has it.
+    /// The number of the element of a name, None exactly when no element has it.
     pub fn number(&self, name: &[u8]) -> Option<u16>
         ensures { result ≡ number_of (set_value self.now) name.now }
     {

@@ -1,4 +1,4 @@
-//! Why files are no set of elements.
+//! Why files are not a set of elements.
 ghost use Rattle.std.specs.Prelude.{◌≡◌};
 ghost use Rattle.element_set.specs.Faults as spec;
 ghost use Rattle.element_set.specs.declared.fault.BuildFault.TheVariants as fault;
@@ -14,11 +14,11 @@ use ulam_names::NameFault;
 use ulam_parse::ParseFault;
 use ulam_types::TypeFault;
 
-/// Why files are no set of elements.
+/// Why files are not a set of elements.
 #[derive(Clone, Copy, Debug, PartialEq, Eq, Error)]
 pub enum BuildFault {
-    /// What the first stage refuses that refuses anything. The file of the place is a number among
-    /// the files that were to be built.
+    /// The refusal of the first stage that refuses. The file of its place is a number among the
+    /// files to be built.
     #[error("refused")]
     Refused(Refusal),
     /// Memory ran out.

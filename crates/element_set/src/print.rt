@@ -115,7 +115,7 @@ struct Span {
     width: u32,
 }
 
-/// Appends a data member, where it takes bits.
+/// Appends a data member, if it takes bits.
 fn push_field(
     out: &mut Vec<u8>,
     classes: &[Class],
@@ -182,7 +182,7 @@ fn push_element(out: &mut Vec<u8>, name: &[u8], number: u32, bits: u32) -> Resul
     push_last(out, bits)
 }
 
-/// Appends the line of a class, where so many elements are before it.
+/// Appends the line of a class, with this many elements before it.
 fn push_head(out: &mut Vec<u8>, class: &Class, before: u32, bits: u32) -> Result<(), NoMemory>
     requires { before ≤ 256 }
     ensures { OnOk result (out.new.items ≡ out.old.items ++ text.class_line (typed_class class.now) before bits) }
@@ -195,7 +195,7 @@ fn push_head(out: &mut Vec<u8>, class: &Class, before: u32, bits: u32) -> Result
     }
 }
 
-/// Appends the class of a number, where so many elements are before it.
+/// Appends the class of a number, with this many elements before it.
 fn push_class(
     out: &mut Vec<u8>,
     classes: &[Class],
@@ -240,8 +240,8 @@ fn push_classes(out: &mut Vec<u8>, classes: &[Class], layout: &Layout) -> Result
 
 impl ElementSet {
     /// Appends the text that shows the classes: a line for each class with its bits, and for an
-    /// element with its number, and a line for each data member that takes bits. `NoMemory` where
-    /// the text can't be made or `out` can't grow by it; `out` is then as it was.
+    /// element with its number, and a line for each data member that takes bits. `NoMemory` if the
+    /// text can't be made or `out` can't grow by it; `out` is then as it was.
     pub fn print_check(&self, out: &mut Vec<u8>) -> Result<(), NoMemory>
         ensures ok { OnOk result (out.new.items ≡ out.old.items ++ check_text (set_value self.now)) }
         ensures err { OnErr result (out.new.items ≡ out.old.items) }

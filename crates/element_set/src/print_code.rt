@@ -18,9 +18,9 @@ fn push_codes(out: &mut Vec<u8>, names: &[Name], codes: &[Code]) -> Result<(), N
 }
 
 impl ElementSet {
-    /// Appends the text that shows the codes: of each element in order a line with its number and
-    /// the length of its code, and for each function a line and its instructions. `NoMemory` where
-    /// the text can't be made or `out` can't grow by it; `out` is then as it was.
+    /// Appends the text that shows the codes: for each element in order a line with its number and
+    /// the length of its code, and for each function a line and its instructions. `NoMemory` if the
+    /// text can't be made or `out` can't grow by it; `out` is then as it was.
     pub fn print_code(&self, out: &mut Vec<u8>) -> Result<(), NoMemory>
         ensures ok { OnOk result (out.new.items ≡ out.old.items ++ code_text (set_value self.now)) }
         ensures err { OnErr result (out.new.items ≡ out.old.items) }

@@ -24,7 +24,7 @@ abandoned_at t i abandoned = count_by (λ (a : Abandoned). a.tile == t && a.atte
 abbrev pub IsEventOf : MapValue → PlanValue → Record → Type 0
 IsEventOf m plan r = (a : Attempt) × (slice_get (attempts plan r.tile) r.attempt ≡ Some a) × (site r.x r.y ≡ site_in m r.tile a.centre) × (r.seed ≡ a.seed)
 
--- an attempt of its tile that was given up: its site is that of the attempt's centre
+-- an attempt of its tile that was given up, at the site of the attempt's centre
 abbrev pub IsGivenUpOf : MapValue → PlanValue → Abandoned → Type 0
 IsGivenUpOf m plan g = (a : Attempt) × (slice_get (attempts plan g.tile) g.attempt ≡ Some a) × (site g.x g.y ≡ site_in m g.tile a.centre)
 
@@ -46,7 +46,8 @@ edges_of m r = needs_of m r.tile (site r.x r.y)
 abbrev pub are_linked : MapValue → Record → Record → Bool
 are_linked m r s = r.tile == s.tile || list_any (λ e. list_any (λ f. f == e) (edges_of m s)) (edges_of m r)
 
--- the stamp of an event behind others: 1 more than the greatest of those that are linked with it, and 1 where none is
+-- the stamp of an event that comes after others: 1 more than the greatest of those that are linked
+-- with it, or 1 if none is
 unfoldable pub stamp_after : MapValue → List Record → Record → ℕ
 stamp_after m before r = 1 + fold (λ greatest (s : Record). max greatest s.stamp) 0 (filter (are_linked m r) before)
 

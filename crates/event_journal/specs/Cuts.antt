@@ -7,6 +7,6 @@ use Rattle.tile_map.specs.Plane.{MapValue}
 use Rattle.event_journal.specs.Reading.{Said, read_report}
 use Rattle.event_journal.specs.declared.fault.LineFault.TheVariants.{BadForm}
 
--- where the text of some lines is a report, the first k of these lines lack line k + 1
+-- if the text of some lines is a report, the first k of these lines lack line k + 1
 abbrev pub AreCutShort : MapValue → List (List Attempt) → Type 0
 AreCutShort m lists = (ls : List (List (List ℕ))) (d : Said) (k : ℕ) → All IsLine ls → read_report m lists (text_of ls) ≡ Ok d → k < length ls → read_report m lists (text_of (take k ls)) ≡ Err (k + 1, BadForm)

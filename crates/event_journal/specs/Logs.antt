@@ -15,7 +15,7 @@ pub record LogValue : Type 0 where
 abbrev pub log_of : ℕ → List Record → List Abandoned → LogValue
 log_of tile records abandoned = record { tile = tile; records = records; abandoned = abandoned }
 
--- of two events of a tile the later one has the greater attempt and the greater stamp
+-- of two events of a tile the later has the greater attempt and the greater stamp
 abbrev pub Follows : Record → Record → Type 0
 Follows r s = (r.attempt < s.attempt) × (r.stamp < s.stamp)
 
@@ -39,13 +39,13 @@ abandoned_of l = l.abandoned
 abbrev pub abandoned_in : List LogValue → List Abandoned
 abandoned_in logs = flat_map abandoned_of logs
 
--- log t is of tile t, there are at most 64 logs, and at most 1,000,000 entries over all
+-- log t is of tile t, there are at most 64 logs, and at most 1,000,000 entries in total
 pub record AreLogs (logs : List LogValue) : Type 0 where
   pub tiles : map tile_of logs ≡ range_with_len 0 (length logs)
   pub most : length logs ≤ 64
   pub few : length (flat_map records_of logs) + length (abandoned_in logs) ≤ 1000000
 
--- whether an event stands before another in a journal: by stamp, and then by tile
+-- whether an event comes before another in a journal: by stamp, and then by tile
 abbrev pub is_before : Record → Record → Bool
 is_before r s = nat_lt r.stamp s.stamp || (r.stamp == s.stamp && nat_lt r.tile s.tile)
 
@@ -53,7 +53,7 @@ is_before r s = nat_lt r.stamp s.stamp || (r.stamp == s.stamp && nat_lt r.tile s
 unfoldable pub records_in : List LogValue → List Record
 records_in logs = merged is_before (map records_of logs)
 
--- an abandoned attempt that stands before another: by tile, and then by attempt
+-- whether an abandoned attempt comes before another: by tile, and then by attempt
 abbrev pub ComesBefore : Abandoned → Abandoned → Type 0
 ComesBefore a b = (a.tile < b.tile) ⊎ ((a.tile ≡ b.tile) × (a.attempt < b.attempt))
 
@@ -62,7 +62,7 @@ pub record IsJournal (logs : List LogValue) : Type 0 where
   -- its records are those of the logs, each once, in the order of the journal
   pub records : IsPermutation (flat_map records_of logs) (records_in logs)
   pub order : AllPairs Precedes (records_in logs)
-  -- no other list is that
+  -- no other list has this property
   pub one : (rs : List Record) → IsPermutation (flat_map records_of logs) rs → AllPairs Precedes rs → rs ≡ records_in logs
   -- its abandoned attempts are in order of tile and then attempt
   pub abandoned : AllPairs ComesBefore (abandoned_in logs)

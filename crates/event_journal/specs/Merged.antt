@@ -1,7 +1,8 @@
 -- Lists that are merged by an order.
 use Rattle.std.specs.Prelude.{ℕ, zero, suc, ◌+◌, List, [], ◌∷◌, Bool, Option, Some, None, if◌then◌else◌, length, drop, flat_map}
 
--- what is better of what was found and the first element of list k: what was found, where neither is before the other
+-- the better one of what was found and the first element of list k: what was found, if neither
+-- comes before the other
 abbrev pub better : {A : Type 0} → (A → A → Bool) → Option (ℕ × A) → ℕ → A → Option (ℕ × A)
 better lt None k x = Some (k, x)
 better lt (Some p) k x = if lt x p.1 then Some (k, x) else Some p
@@ -23,7 +24,7 @@ abbrev pub and_then : {A : Type 0} → Option (ℕ × A) → (ℕ → List A) �
 and_then None rest = []
 and_then (Some p) rest = p.1 ∷ rest p.0
 
--- the first n elements that come of some lists by taking again and again the least of the first ones
+-- the first n elements obtained from some lists by repeatedly taking the least of the first ones
 unfoldable pub merged_few : {A : Type 0} → (A → A → Bool) → ℕ → List (List A) → List A
 merged_few lt zero ls = []
 merged_few lt (suc n) ls = and_then (least_from lt None 0 ls) (λ k. merged_few lt n (without ls k))
@@ -32,6 +33,6 @@ merged_few lt (suc n) ls = and_then (least_from lt None 0 ls) (λ k. merged_few 
 abbrev pub joined : {A : Type 0} → List (List A) → List A
 joined ls = flat_map (λ xs. xs) ls
 
--- the elements of some lists: again and again the least of the first ones
+-- the elements of some lists: repeatedly the least of the first ones
 unfoldable pub merged : {A : Type 0} → (A → A → Bool) → List (List A) → List A
 merged lt ls = merged_few lt (length (joined ls)) ls

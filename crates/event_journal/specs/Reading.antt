@@ -1,4 +1,4 @@
--- What the text of a report says of a journal, or its first fault.
+-- What the text of a report says about a journal, or its first fault.
 use Rattle.std.specs.Prelude.{ℕ, zero, suc, ◌≡◌, ◌+◌, ◌-◌, ◌*◌, ◌==◌, Bool, true, false, not, ◌&&◌, List, [], ◌∷◌, ◌++◌, drop, replicate, nat_le, nat_lt, codes, Option, Some, None, Result, Ok, Err, slice_index_or, slice_set, if◌then◌else◌}
 use Rattle.text_lines.specs.Fields.{fields}
 use Rattle.text_lines.specs.Lines.{ended_lines}
@@ -13,7 +13,7 @@ use Rattle.event_journal.specs.declared.fault.JournalFault.TheVariants.{BadLine,
 use Rattle.event_journal.specs.Forms.{record_form, abandoned_form, is_atom, is_header, count_form}
 use Rattle.event_journal.specs.Logs.{is_before}
 
--- what the next line has to be: one of so many more behind it
+-- what the next line has to be, and how many more lines of its kind come after it
 pub data Wants : Type 0 where
   header : Wants
   atom_count : Wants
@@ -36,8 +36,8 @@ abbrev pub want_abandoned : ℕ → Wants
 want_abandoned zero = nothing
 want_abandoned (suc k) = abandoned k
 
--- what the lines so far say: what comes next, the record before, of each tile the line and the attempt of its last record,
--- the records and the abandoned attempts
+-- what the lines so far say: what comes next, the record before, for each tile the line and the
+-- attempt of its last record, the records and the abandoned attempts
 pub record Said : Type 0 where
   pub wants : Wants
   pub before : Option Record
@@ -45,17 +45,18 @@ pub record Said : Type 0 where
   pub journal : List Record
   pub gone : List Abandoned
 
--- whether a record comes behind the one before, in the order of a journal; the first has a stamp of at least 1
+-- whether a record comes after the previous one in the order of a journal; the first has a stamp of
+-- at least 1
 abbrev pub is_behind : Option Record → Record → Bool
 is_behind None r = nat_le 1 r.stamp
 is_behind (Some p) r = is_before p r
 
--- the line of the record before, and 0 where there is none
+-- the line of the previous record, or 0 if there is none
 abbrev pub line_before : ℕ → Option Record → ℕ
 line_before n None = 0
 line_before n (Some p) = n - 1
 
--- the line of the tile's last record, where that has an attempt that is not smaller
+-- the line of the tile's last record, if the attempt of that is not smaller
 abbrev pub not_later : Option (ℕ × ℕ) → ℕ → Option ℕ
 not_later None attempt = None
 not_later (Some p) attempt = if nat_lt p.1 attempt then None else Some p.0
@@ -67,7 +68,8 @@ is_at_home m r = in_plane m (site r.x r.y) && owner_of m (site r.x r.y) == r.til
 abbrev pub is_site : Site → ℕ → ℕ → Bool
 is_site s x y = s.x == x && s.y == y
 
--- whether a record is this attempt of its tile: the attempt's centre is the position of its site, and the seeds are one
+-- whether a record is this attempt of its tile: the attempt's centre is the position of its site,
+-- and the seeds are equal
 abbrev pub is_attempt : MapValue → Option Attempt → Record → Bool
 is_attempt m None r = false
 is_attempt m (Some a) r = nat_lt a.centre (m.w * m.h) && (is_site (site_in m r.tile a.centre) r.x r.y && a.seed == r.seed)
@@ -77,7 +79,8 @@ abbrev pub first_of : List Attempt → Option Attempt
 first_of [] = None
 first_of (a ∷ rest) = Some a
 
--- the fault of a record elsewhere than its tile, or other than its attempt among those of its tile
+-- the fault of a record whose site is not its tile's, or whose attempt is not among those of its
+-- tile
 abbrev pub place_fault : MapValue → List Attempt → Record → Option LineFault
 place_fault m list r = if not (is_at_home m r) then Some ElsewhereThanTile else (if not (is_attempt m (first_of (drop r.attempt list)) r) then Some OtherThanAttempt else None)
 
@@ -86,7 +89,8 @@ abbrev pub earlier : Option ℕ → Option LineFault → Option LineFault
 earlier (Some line) other = Some (OutOfTurn line)
 earlier None other = other
 
--- the fault of the record of line n: behind the record before, the last one of its tile, and among the attempts of its tile
+-- the fault of the record of line n: against the previous record, the last one of its tile, and the
+-- attempts of its tile
 unfoldable pub record_fault : MapValue → ℕ → Option Record → Option (ℕ × ℕ) → List Attempt → Record → Option LineFault
 record_fault m n before last list r =
     if not (is_behind before r) then Some (OutOfTurn (line_before n before))
@@ -140,7 +144,7 @@ abbrev pub go_on : ℕ → Result Said LineFault → (Said → Result Said (ℕ 
 go_on n (Ok e) next = next e
 go_on n (Err fault) next = Err (n, fault)
 
--- what lines say behind others, or the first fault and its line, where the first line has number n
+-- what lines say after others, or the first fault and its line, if the first line has number n
 unfoldable pub read_lines : MapValue → List (List Attempt) → ℕ → Said → List (Option (List ℕ)) → Result Said (ℕ × LineFault)
 read_lines m lists n d [] = if is_over d.wants then Ok d else Err (n, BadForm)
 read_lines m lists n d (t ∷ ts) = go_on n (line_step m lists n d t) (λ e. read_lines m lists (n + 1) e ts)
@@ -153,7 +157,7 @@ nothing_said m = record { wants = header; before = None; lasts = replicate (tile
 unfoldable pub read_report : MapValue → List (List Attempt) → List ℕ → Result Said (ℕ × LineFault)
 read_report m lists bytes = read_lines m lists 1 (nothing_said m) (ended_lines bytes)
 
--- the line and the cause of a fault; None where memory was wanted
+-- the line and the cause of a fault; None if memory ran out
 abbrev pub fault_of : JournalFault → Option (ℕ × LineFault)
 fault_of (BadLine line) = Some (line, BadForm)
 fault_of (OutOfOrder line previous) = Some (line, OutOfTurn previous)
@@ -161,12 +165,12 @@ fault_of (NotOwned line) = Some (line, ElsewhereThanTile)
 fault_of (NotDrawn line) = Some (line, OtherThanAttempt)
 fault_of NoMemory = None
 
--- an answer by a fault is the one that is asked; want of memory says nothing
+-- an answer with a fault is the expected one; running out of memory says nothing
 abbrev pub IsFault : {X : Type 0} → Result X (ℕ × LineFault) → Option (ℕ × LineFault) → Type 0
 IsFault asked None = Unit {0}
 IsFault asked (Some fault) = asked ≡ Err fault
 
--- what comes of line n: at Ok what is said then, else the fault
+-- the result for line n: at Ok what is said then, otherwise the fault
 abbrev pub Steps : ℕ → Result Said LineFault → Said → Result (Unit {0}) JournalFault → Type 0
 Steps n asked new (Ok x) = asked ≡ Ok new
 Steps n asked new (Err fault) = IsFault (go_on n asked (λ e. Ok e)) (fault_of fault)

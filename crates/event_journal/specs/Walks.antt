@@ -14,7 +14,7 @@ lists_of refs = map (λ (b : Bor (List Record)). b.now) refs
 abbrev pub left_of : Walk → List Record
 left_of w = merged is_before (lists_of w.lefts.items)
 
--- what was found, or the first record of list k where it stands before that
+-- what was found, or the first record of list k if that comes earlier
 abbrev pub better_first : Option (ℕ × Record) → ℕ → List Record → Option (ℕ × Record)
 better_first found k [] = found
 better_first found k (r ∷ rs) = better is_before found k r

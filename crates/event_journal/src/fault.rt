@@ -1,19 +1,19 @@
-//! Why a text says no journal.
+//! Why a text is not a journal.
 ghost use Rattle.std.specs.Prelude.{◌≡◌, Some};
 ghost use Rattle.event_journal.specs.Reading.{fault_of};
 
 use feast_base::NoMemory;
 use std::alloc::{AllocError, AllocFailed};
 
-/// Why a text says no journal, with the number of the line, from 1.
+/// Why a text is not a journal, with the number of the line, from 1.
 #[derive(Clone, Copy, Debug, PartialEq, Eq)]
 pub enum JournalFault {
     /// A line has another form, a count does not agree, or a line is missing or one too many (80).
-    /// Of a missing line it is the number of the line behind the last.
+    /// For a missing line it is the number of the line after the last.
     BadLine(u64),
-    /// A record does not stand behind that of the line before it, by stamp and then tile, or the
-    /// attempt of its tile's last record is not smaller (81). The second number is the line of
-    /// that other record; 0 where the first record has the stamp 0.
+    /// A record does not come after that of the line before it, by stamp and then tile, or the
+    /// attempt of its tile's last record is not smaller (81). The second number is the line of that
+    /// other record, or 0 if the first record has the stamp 0.
     OutOfOrder(u64, u64),
     /// There is no such tile, or it does not own the site (82).
     NotOwned(u64),
@@ -26,13 +26,14 @@ pub enum JournalFault {
 /// What is wrong with a line.
 #[derive(Clone, Copy, Debug, PartialEq, Eq)]
 pub enum LineFault {
-    /// It has another form than the line that is wanted there.
+    /// It has another form than the line that must be there.
     BadForm,
-    /// Its record stands in the wrong order to that of a line, or to none (0).
+    /// Its record is in the wrong order relative to that of a line, or is a first record of stamp 0
+    /// (0).
     OutOfTurn(u64),
     /// Its site is not one of its tile.
     ElsewhereThanTile,
-    /// It is none of the attempts of its tile.
+    /// It is not one of the attempts of its tile.
     OtherThanAttempt,
 }
 

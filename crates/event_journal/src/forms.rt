@@ -97,7 +97,7 @@ pub(crate) fn abandoned_form(args: Option<&[u8]>) -> Option<Abandoned>
     })
 }
 
-/// The count behind a word.
+/// The count after a word.
 #[tactic(auto, unfolding(crate::specs::Forms::count_form))]
 pub(crate) fn count_form(word: &[u8], args: Option<&[u8]>) -> Option<u32>
     ensures { result ≡ count_form word.now (args_of (option_copied args.entry)) }

@@ -76,7 +76,7 @@ impl Journal {
         count_abandoned(self.logs.as_slice())
     }
 
-    /// A walk through the records, which gives them in the order of the journal. `NoMemory` where
+    /// A walk through the records, which gives them in the order of the journal. `NoMemory` if
     /// there is none for one place a log.
     #[tactic(auto, unfolding(crate::specs::Logs::records_in))]
     pub fn walk(&self, alloc: Global) -> Result<Walk<'_>, NoMemory>
@@ -85,9 +85,9 @@ impl Journal {
         Walk::new(alloc, self.logs.as_slice())
     }
 
-    /// What holds of every journal: its records are those of the logs, each once, by stamp and
-    /// then tile, and no other list is that; its abandoned attempts are by tile and then attempt.
-    /// It changes nothing.
+    /// What holds of every journal: its records are those of the logs, each once, by stamp and then
+    /// tile, and no other list has this property; its abandoned attempts are by tile and then
+    /// attempt. It changes nothing.
     pub fn laws(&self)
         ensures { IsJournal self.now }
     {

@@ -52,7 +52,7 @@ impl TileLog {
         self.abandoned.as_slice()
     }
 
-    /// What holds of every log: what `new` asks. It does nothing.
+    /// What holds of every log, as `new` requires. It does nothing.
     pub fn laws(&self)
         ensures { IsLog self.now }
     {

@@ -37,7 +37,7 @@ impl Extent {
     }
 }
 
-/// Whether a record stands behind the one before, or may be the first.
+/// Whether a record comes after the previous one, or may be the first.
 fn is_behind(before: Option<Record>, r: &Record) -> bool
     ensures { result ≡ is_behind before r.now }
 {
@@ -47,7 +47,7 @@ fn is_behind(before: Option<Record>, r: &Record) -> bool
     }
 }
 
-/// The line of the record before, and 0 where there is none.
+/// The line of the previous record, or 0 if there is none.
 fn line_before(n: u64, before: Option<Record>) -> u64
     requires { 1 ≤ n }
     ensures { result ≡ line_before n before }
@@ -66,7 +66,7 @@ fn is_at_home(map: &Map, extent: &Extent, r: &Record) -> bool
     r.x < extent.width && r.y < extent.height && map.owner(r.x, r.y) == r.tile
 }
 
-/// Whether a record whose tile is there is this attempt of it.
+/// Whether a record whose tile exists is this attempt of it.
 fn is_attempt(map: &Map, extent: &Extent, attempt: Option<Attempt>, r: &Record) -> bool
     requires extent { IsExtent extent.now map.now }
     requires tile { r.now.tile < tiles_of map.now }
@@ -84,7 +84,7 @@ fn is_attempt(map: &Map, extent: &Extent, attempt: Option<Attempt>, r: &Record) 
     }
 }
 
-/// The line of the tile's last record, where that has an attempt that is not smaller.
+/// The line of the tile's last record, if the attempt of that is not smaller.
 fn not_later(seat: &Seat, attempt: u64) -> Option<u64>
     ensures value { result ≡ not_later (last_of seat.now) attempt }
     ensures passed { result ≡ None → passed_of seat.now ≤ attempt }
@@ -96,7 +96,7 @@ fn not_later(seat: &Seat, attempt: u64) -> Option<u64>
     }
 }
 
-/// The fault of a record elsewhere than its tile, which is there, or other than its attempt.
+/// The fault of a record whose site is not its tile's, or that is not its attempt. The tile exists.
 fn place_fault(map: &Map, extent: &Extent, n: u64, seat: &mut Seat, r: &Record) -> Option<LineFault>
     requires extent { IsExtent extent.now map.now }
     requires tile { r.now.tile < tiles_of map.now }
@@ -117,8 +117,8 @@ fn place_fault(map: &Map, extent: &Extent, n: u64, seat: &mut Seat, r: &Record) 
     }
 }
 
-/// The fault of the record of line `n`, whose tile is there. Without one the tile's seat has passed
-/// its attempt.
+/// The fault of the record of line `n`, whose tile exists. If there is none, the tile's seat has
+/// passed its attempt.
 #[tactic(auto, unfolding(crate::specs::Reading::record_fault))]
 fn record_fault(
     map: &Map,
@@ -144,7 +144,7 @@ fn record_fault(
     }
 }
 
-/// The fault of the record of line `n`, whose tile is none.
+/// The fault of the record of line `n`, whose tile does not exist.
 fn no_tile(n: u64, before: Option<Record>, r: &Record) -> LineFault
     requires { 1 ≤ n }
     ensures { result ≡ (if not (is_behind before r.now) then OutOfTurn (line_before n before) else ElsewhereThanTile) }
@@ -156,7 +156,7 @@ fn no_tile(n: u64, before: Option<Record>, r: &Record) -> LineFault
     }
 }
 
-/// The fault of the record of line `n`. Without one the tile's seat has passed its attempt.
+/// The fault of the record of line `n`. If there is none, the tile's seat has passed its attempt.
 pub(crate) fn record_at(
     map: &Map,
     extent: &Extent,

@@ -16,7 +16,7 @@ use feast_base::NoMemory;
 use std::alloc::Global;
 use text_lines::{Field, push_line};
 
-/// The fields of the line of a count, behind a word.
+/// The fields of the line of a count, after a word.
 pub fn count_fields(word: &[u8], count: u64) -> [Field<'_>; 2]
     ensures { map field_text result ≡ count_fields word.now count }
 {
@@ -102,9 +102,9 @@ fn push_abandoned(out: &mut Vec<u8>, journal: &Journal) -> Result<(), NoMemory>
     push_logs(out, journal.logs())
 }
 
-/// Appends the part of a report that tells the journal: how many events there are and their lines
+/// Appends the part of a report that shows the journal: how many events there are and their lines
 /// in the order of the journal, and then how many attempts were given up and their lines.
-/// `NoMemory` where there is none for the walk or `out` can't grow.
+/// `NoMemory` if there is none for the walk or `out` can't grow.
 pub fn print(alloc: Global, journal: &Journal, out: &mut Vec<u8>) -> Result<(), NoMemory>
     ensures { Appends out.old.items out.new.items result (journal_text (records_in journal.now) (abandoned_in journal.now)) }
 {

@@ -17,7 +17,7 @@ use std::alloc::Global;
 use text_lines::next_ended;
 use tile_map::Map;
 
-/// The events and the abandoned attempts of a report, as they stand in its text.
+/// The events and the abandoned attempts of a report, in the order of its text.
 #[derive(Drop)]
 pub struct ReadJournal {
     /// The events.
@@ -83,10 +83,10 @@ fn read_lines(
 }
 
 /// Reads a whole report of a map and a plan of its attempts, which has a list for each tile, and
-/// keeps the events and the abandoned attempts. The first line with a fault is answered; of a
-/// record's line `BadLine` comes first, then `OutOfOrder`, `NotOwned` and `NotDrawn`. Atoms and
-/// abandoned attempts are tested for their form alone. `NoMemory` where there is none for the
-/// lists or for the attempts of the plan.
+/// keeps the events and the abandoned attempts. The answer is the first line with a fault; for a
+/// record's line `BadLine` comes first, then `OutOfOrder`, `NotOwned` and `NotDrawn`. Only the form
+/// of atoms and abandoned attempts is tested. `NoMemory` if there is none for the lists or for the
+/// attempts of the plan.
 pub fn read(
     alloc: Global,
     bytes: &[u8],

@@ -14,7 +14,7 @@ use crate::seats::Seat;
 use cell_grid::Record;
 use tile_map::Map;
 
-/// What the next line has to be: one of so many more behind it.
+/// What the next line has to be, and how many more lines of its kind come after it.
 #[derive(Clone, Copy, Debug, PartialEq, Eq)]
 pub(crate) enum Wants {
     Header,
@@ -37,7 +37,7 @@ pub(crate) struct Reading {
     pub(crate) gone: Vec<Abandoned>,
 }
 
-/// What comes behind an atom, where so many more follow.
+/// What comes after an atom, if this many more follow.
 fn want_atoms(left: u32) -> Wants
     ensures { wants_value result ≡ want_atoms left }
 {
@@ -48,7 +48,7 @@ fn want_atoms(left: u32) -> Wants
     }
 }
 
-/// What comes behind a record, where so many more follow.
+/// What comes after a record, if this many more follow.
 fn want_records(left: u32) -> Wants
     ensures { wants_value result ≡ want_records left }
 {
@@ -59,7 +59,7 @@ fn want_records(left: u32) -> Wants
     }
 }
 
-/// What comes behind an abandoned attempt, where so many more follow.
+/// What comes after an abandoned attempt, if this many more follow.
 fn want_abandoned(left: u32) -> Wants
     ensures { wants_value result ≡ want_abandoned left }
 {
@@ -70,14 +70,14 @@ fn want_abandoned(left: u32) -> Wants
     }
 }
 
-/// Whether nothing more is wanted.
+/// Whether nothing more is expected.
 pub(crate) fn is_over(wants: Wants) -> bool
     ensures { result ≡ is_over (wants_value wants) }
 {
     matches!(wants, Wants::Nothing)
 }
 
-/// Takes the record of line `n`, or says why it can't stand.
+/// Takes the record of line `n`, or says why it can't be there.
 #[tactic(auto, unfolding(crate::specs::Reading::record_step))]
 fn take_record(
     map: &Map,
@@ -109,7 +109,7 @@ fn take_record(
     }
 }
 
-/// Takes the abandoned attempt of line `n`, or says why it can't stand.
+/// Takes the abandoned attempt of line `n`, or says why it can't be there.
 fn take_abandoned(
     n: u64,
     reading: &mut Reading,
@@ -127,7 +127,7 @@ fn take_abandoned(
     Ok(())
 }
 
-/// Takes line `n` by what it has to be, or says why it can't stand.
+/// Takes line `n` as what it has to be, or says why it can't be there.
 #[tactic(auto, unfolding(crate::specs::Reading::fields_step))]
 pub(crate) fn take_fields(
     map: &Map,

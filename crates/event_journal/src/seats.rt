@@ -6,7 +6,7 @@ ghost use Rattle.event_journal.specs.Seats.{last_of, passed_of, Serves};
 
 use draw_stream::{Attempt, Attempts};
 
-/// Passes over so many attempts, or over all.
+/// Passes over this many attempts, or over all.
 fn pass(stream: &mut Attempts, count: u64)
     ensures { stream.new ≡ drop count stream.old }
 {
@@ -18,7 +18,7 @@ fn pass(stream: &mut Attempts, count: u64)
     }
 }
 
-/// The attempt after so many others, where there is one.
+/// The attempt after this many others, if there is one.
 fn seek(stream: &mut Attempts, count: u64) -> Option<Attempt>
     ensures value { result ≡ first_of (drop count stream.old) }
     ensures left { stream.new ≡ drop (count + 1) stream.old }
@@ -27,8 +27,8 @@ fn seek(stream: &mut Attempts, count: u64) -> Option<Attempt>
     stream.next()
 }
 
-/// A tile's attempts that are left, the attempt of its last record, and that record's line, which is
-/// 0 where it has none.
+/// A tile's attempts that are left, the attempt of its last record, and that record's line, which
+/// is 0 if it has none.
 #[derive(Drop)]
 pub(crate) struct Seat {
     pub(crate) stream: Attempts,
@@ -36,7 +36,7 @@ pub(crate) struct Seat {
     pub(crate) line: u64,
 }
 
-/// How many attempts stand before one and were not passed.
+/// How many attempts come before one and were not passed.
 fn between(seat: &Seat, attempt: u64) -> u64
     requires { passed_of seat.now ≤ attempt }
     ensures { passed_of seat.now + result ≡ attempt }
@@ -48,7 +48,7 @@ fn between(seat: &Seat, attempt: u64) -> u64
     }
 }
 
-/// The attempt of a number, where the tile has it. It is not one that was passed.
+/// The attempt of a number, if the tile has it. It is not one that was passed.
 pub(crate) fn drawn(seat: &mut Seat, attempt: u64, line: u64) -> Option<Attempt>
     requires later { passed_of seat.old ≤ attempt }
     requires line { 1 ≤ line }

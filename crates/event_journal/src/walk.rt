@@ -17,8 +17,7 @@ pub struct Walk<'a> {
 }
 
 impl<'a> Walk<'a> {
-    /// The walk through the records of these logs. `NoMemory` where there is none for one place a
-    /// log.
+    /// The walk through the records of these logs. `NoMemory` if there is none for one place a log.
     pub(crate) fn new(alloc: Global, logs: &'a [TileLog]) -> Result<Walk<'a>, NoMemory>
         ensures { IfOk result (λ w. left_of w ≡ merged is_before (map records_of logs.now)) }
     {
@@ -39,7 +38,7 @@ fn records_of_all<'a>(alloc: Global, logs: &'a [TileLog]) -> Result<Vec<&'a [Rec
     Ok(lefts)
 }
 
-/// Whether an event stands before another in the order of the journal.
+/// Whether an event comes before another in the order of the journal.
 fn is_before(first: &Record, second: &Record) -> bool
     ensures { result ≡ is_before first.now second.now }
 {
@@ -57,7 +56,7 @@ fn least(lefts: &[&[Record]]) -> Option<(usize, Record)>
     found
 }
 
-/// What was found, or the first record of list `k` where it stands before that.
+/// What was found, or the first record of list `k` if that comes earlier.
 fn better(found: Option<(usize, Record)>, k: usize, left: &[Record]) -> Option<(usize, Record)>
     ensures { result ≡ better_first found k left.now }
 {
@@ -106,7 +105,7 @@ impl Iterator for Walk<'_> {
 
     ghost remaining = { item_count left_of };
 
-    /// The next record in the order of the journal. None exactly where all were given.
+    /// The next record in the order of the journal. None exactly when all were given.
     fn next(&mut self) -> Option<Record> {
         take(self.lefts.as_mut_slice())
     }

@@ -4,21 +4,43 @@
 use feast_base::{FileShelf, OpenGate, StdSink};
 use feast_run::{Status, feast};
 use std::alloc::Global;
-use std::env::Env;
+use std::env::{Env, FillError};
 use std::process::ExitCode;
 use std::rt::Files;
 use std::thread::Threads;
 use std::{env, io};
 
+/// The arguments after the program's name. The name itself may be any bytes: nobody reads it.
+struct AfterName<'a, R> {
+    rt: &'a R,
+}
+
+impl<R: Env> Env for AfterName<'_, R> {
+    fn arg(&self, i: usize, buf: &mut [u8]) -> Result<usize, FillError> {
+        match i.checked_add(1) {
+            Some(next) => self.rt.arg(next, buf),
+            None => Err(FillError::NotPresent),
+        }
+    }
+
+    fn var(&self, name: &str, buf: &mut [u8]) -> Result<usize, FillError> {
+        self.rt.var(name, buf)
+    }
+
+    fn var_at(&self, i: usize, buf: &mut [u8]) -> Result<usize, FillError> {
+        self.rt.var_at(i, buf)
+    }
+}
+
 /// The words after the program's name.
 ///
-/// Where one is no text there are none, since such words have no form. `NoMemory` for want of
-/// memory.
-fn words<R: Env + AllocGlobal>(rt: &R, alloc: Global) -> Result<Vec<String>, Status> {
+/// If one of them is not valid UTF-8 there are none, since no form has such a word. `NoMemory` if
+/// memory runs out.
+fn words<R: Env>(rt: &R, alloc: Global) -> Result<Vec<String>, Status> {
     let mut words = Vec::new(alloc);
-    match env::args(rt) {
+    match env::args(&(AfterName { rt }, alloc)) {
         Ok(args) => {
-            for word in args.skip(1) {
+            for word in args {
                 if words.push(word).is_err() {
                     return Err(Status::NoMemory);
                 }

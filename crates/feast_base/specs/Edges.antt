@@ -1,11 +1,13 @@
 -- The edges of a plane as numbers.
 use Rattle.std.specs.Prelude.{ℕ, ◌<◌, ◌+◌, ◌*◌, ◌/◌, List, slice_index_or}
 
--- how many news words each end of an edge of n shared sites has: one bit for each site, 64 bits a word
+-- how many news words each end of an edge with n shared sites has: one bit for each site, 64 bits a
+-- word
 abbrev pub news_words : ℕ → ℕ
 news_words sites = (sites + 63) / 64
 
--- how many registers an edge of n shared sites has: the clock, two for each site, and the news words of both ends
+-- how many registers an edge with n shared sites has: the clock, two for each site, and the news
+-- words of both ends
 abbrev pub registers_of : ℕ → ℕ
 registers_of sites = 1 + 2 * sites + 2 * news_words sites
 

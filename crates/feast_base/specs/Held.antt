@@ -4,14 +4,16 @@ use Rattle.feast_base.specs.Counting.{next_count}
 use Rattle.feast_base.specs.Outside.{File, file_of}
 use Rattle.feast_base.specs.declared.stop.Stop.{Stop}
 
--- a shelf: its files, the names whose load failed, how many loads there were, and the numbers of the loads that are to fail
+-- a shelf: its files, the names whose load failed, how many loads there were, and the numbers of
+-- the loads that shall fail
 pub record ShelfHeld : Type 0 where
   pub files : List File
   pub failed : List (List ℕ)
   pub calls : ℕ
   pub fail : List ℕ
 
--- a sink: the bytes put, how many puts failed, how many puts there were, its stops, and the room in all
+-- a sink: the bytes put, how many puts failed, how many puts there were, its stops, and its total
+-- room
 pub record SinkHeld : Type 0 where
   pub written : List ℕ
   pub faults : ℕ
@@ -27,16 +29,17 @@ LoadFails s name = Contains s.fail (next_count s.calls) ⊎ (file_of name s.file
 abbrev pub LoadMayFail : ShelfHeld → List ℕ → Type 0
 LoadMayFail s name = (0 < length s.fail) ⊎ (file_of name s.files ≡ None)
 
--- a stop of the call of this number, of whose piece nothing is kept
+-- a stop at the put with this number, of whose piece nothing is kept
 abbrev pub stop_at : ℕ → Stop
 stop_at call = record { call = call; keep = 0 }
 
--- how many bytes are kept of the call of this number, where a stop names it; the first stop counts
+-- how many bytes are kept of the put with this number, if a stop names it; the first such stop
+-- counts
 abbrev pub kept_at : ℕ → List Stop → Option ℕ
 kept_at call [] = None
 kept_at call (s ∷ stops) = if s.call == call then Some s.keep else kept_at call stops
 
--- so many first bytes, where there is a number
+-- the first n bytes, if a number n is given
 abbrev pub front_of : Option ℕ → List ℕ → List ℕ
 front_of None bytes = []
 front_of (Some keep) bytes = take keep bytes
@@ -45,15 +48,17 @@ front_of (Some keep) bytes = take keep bytes
 abbrev pub room_left : SinkHeld → ℕ
 room_left s = s.room - length s.written
 
--- the next put, of so many bytes, fails: a stop names it, or it is longer than the room that is left
+-- the next put, of this many bytes, fails: a stop names it, or it is longer than the room that is
+-- left
 abbrev pub PutFails : SinkHeld → ℕ → Type 0
 PutFails s size = (kept_at (next_count s.calls) s.stops ≢ None) ⊎ (room_left s < size)
 
--- what the next put, of these bytes, appends where it fails: as many first bytes as its stop keeps, or nothing where
--- they are more than the room that is left
+-- what the next put, of these bytes, appends if it fails: as many of its first bytes as the stop
+-- keeps, or nothing if the piece is longer than the room that is left
 abbrev pub put_front : SinkHeld → List ℕ → List ℕ
 put_front s bytes = if nat_lt (room_left s) (length bytes) then [] else front_of (kept_at (next_count s.calls) s.stops) bytes
 
--- putting so many bytes may fail from now on: there is a stop, or they are more than the room that is left
+-- putting this many bytes may fail from now on: there is a stop, or they are more than the room
+-- that is left
 abbrev pub PutMayFail : SinkHeld → ℕ → Type 0
 PutMayFail s size = (0 < length s.stops) ⊎ (room_left s < size)

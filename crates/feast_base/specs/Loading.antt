@@ -10,21 +10,21 @@ use Rattle.feast_base.specs.declared.sink.SinkFailed.{SinkFailed}
 abbrev pub AppendsSome : List ℕ → List ℕ → (List ℕ → Type 0) → Type 0
 AppendsSome old new P = (more : List ℕ) × (new ≡ old ++ more) × P more
 
--- what the answer of a load says of the bytes that were taken
+-- what the answer of a load says about the bytes that were taken
 abbrev pub IsLoad : {T : Type 0} → Option (List File) → List ℕ → ℕ → List ℕ → Result T LoadFault → Type 0
 IsLoad files name limit taken (Ok x) = (length taken ≤ limit) × TellsBytes files name taken
 IsLoad files name limit taken (Err Failed) = length taken ≤ limit
 IsLoad files name limit taken (Err TooLong) = (length taken ≡ limit + 1) × TellsLonger files name limit × TellsFront files name (limit + 1) taken
 IsLoad files name limit taken (Err NoMemory) = length taken ≤ limit
 
--- a load notes its name where it failed, and nothing at any other answer
+-- a load notes its name if it failed, and nothing with any other answer
 abbrev pub NotesFailed : {T : Type 0} → List (List ℕ) → List (List ℕ) → List ℕ → Result T LoadFault → Type 0
 NotesFailed failed failed' name (Ok x) = failed' ≡ failed
 NotesFailed failed failed' name (Err Failed) = failed' ≡ failed ++ name ∷ []
 NotesFailed failed failed' name (Err TooLong) = failed' ≡ failed
 NotesFailed failed failed' name (Err NoMemory) = failed' ≡ failed
 
--- a copy of bytes: all of them, or one past the limit where they are more
+-- a copy of bytes: all of them, or the first limit + 1 if there are more than the limit
 abbrev pub Copies : {T : Type 0} → List ℕ → ℕ → List ℕ → List ℕ → Result T LoadFault → Type 0
 Copies bytes limit into into' (Ok x) = (length bytes ≤ limit) × (into' ≡ into ++ bytes)
 Copies bytes limit into into' (Err Failed) = ⊥
@@ -51,15 +51,17 @@ pub record IsCut (old new : Told) (text : List ℕ) : Type 0 where
   pub more : old.faults < new.faults
   pub cause : (m : ℕ) → length text ≤ m → old.may_fail m
 
--- what a reading loop says of the bytes that it took from what a reader had left, where that is known: at Ok they were
--- all; at a fault of the reader, and past the limit, they were the first; at want of memory some may be lost
+-- what a reading loop says about the bytes that it took from what a reader had left, if that is
+-- known: at Ok they were all of them; after a fault of the reader, or past the limit, they were the
+-- first; when memory ran out some may be lost
 abbrev pub ReadsWhole : {T : Type 0} → Option (List ℕ) → Option (List ℕ) → ℕ → List ℕ → Result T LoadFault → Type 0
 ReadsWhole left left' limit taken (Ok x) = (length taken ≤ limit) × Consumes left left' taken × IsAtEnd left'
 ReadsWhole left left' limit taken (Err Failed) = (length taken ≤ limit) × Consumes left left' taken
 ReadsWhole left left' limit taken (Err TooLong) = (length taken ≡ limit + 1) × Consumes left left' taken
 ReadsWhole left left' limit taken (Err NoMemory) = length taken ≤ limit
 
--- what a writing loop gave to a writer, where it is known what that holds: at Ok all the bytes, and else the first
+-- what a writing loop gave to a writer, if it is known what that holds: at Ok all the bytes, and
+-- otherwise the first of them
 abbrev pub WritesWhole : {T : Type 0} → Option (List ℕ) → Option (List ℕ) → List ℕ → Result T SinkFailed → Type 0
 WritesWhole held held' bytes (Ok x) = AppendsKnown held held' bytes
 WritesWhole held held' bytes (Err e) = (front : List ℕ) × (rest : List ℕ) × (bytes ≡ front ++ rest) × AppendsKnown held held' front

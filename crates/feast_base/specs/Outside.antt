@@ -1,4 +1,4 @@
--- What a shelf tells of its files, and a sink of what was written.
+-- What a shelf reveals of its files, and a sink of what was written.
 use Rattle.std.specs.Prelude.{◌≡◌, ℕ, ◌<◌, List, [], ◌∷◌, ◌++◌, length, take, Option, Some, None, if◌then◌else◌}
 use Rattle.std.specs.Str.{bytes_eq}
 
@@ -11,28 +11,28 @@ abbrev pub file_of : List ℕ → List File → Option (List ℕ)
 file_of name [] = None
 file_of name (f ∷ fs) = if bytes_eq f.0 name then Some f.1 else file_of name fs
 
--- where files are told, the first file of that name has these bytes
+-- if the files are known, the first file of that name has these bytes
 abbrev pub TellsBytes : Option (List File) → List ℕ → List ℕ → Type 0
 TellsBytes None name bytes = Unit {0}
 TellsBytes (Some files) name bytes = file_of name files ≡ Some bytes
 
--- where files are told, the first file of that name is longer than the limit
+-- if the files are known, the first file of that name is longer than the limit
 abbrev pub TellsLonger : Option (List File) → List ℕ → ℕ → Type 0
 TellsLonger None name limit = Unit {0}
 TellsLonger (Some files) name limit = (bytes : List ℕ) × (file_of name files ≡ Some bytes) × (limit < length bytes)
 
--- where files are told, these are so many first bytes of the first file of that name
+-- if the files are known, these are this many first bytes of the first file of that name
 abbrev pub TellsFront : Option (List File) → List ℕ → ℕ → List ℕ → Type 0
 TellsFront None name count front = Unit {0}
 TellsFront (Some files) name count front = (bytes : List ℕ) × (file_of name files ≡ Some bytes) × (front ≡ take count bytes)
 
--- what was told has grown by this piece
+-- the known output has grown by this piece
 abbrev pub Grows : Option (List ℕ) → Option (List ℕ) → List ℕ → Type 0
 Grows None new piece = new ≡ None
 Grows (Some old) new piece = new ≡ Some (old ++ piece)
 
--- the three meanings of a shelf: its files where it tells them, the names whose load failed, and the names whose load
--- may fail
+-- what is known of a shelf: its files if it reveals them, the names whose load failed, and the
+-- names whose load may fail
 pub record Stock : Type 1 where
   pub files : Option (List File)
   pub failed : List (List ℕ)
@@ -41,8 +41,8 @@ pub record Stock : Type 1 where
 abbrev pub stock : {F : Type 0} → (F → Option (List File)) → (F → List (List ℕ)) → (F → List ℕ → Type 0) → F → Stock
 stock files failed may_fail shelf = record { files = files shelf; failed = failed shelf; may_fail = may_fail shelf }
 
--- the three meanings of a sink: what was written where it tells it, the number of its faults, and the numbers of bytes
--- whose putting may fail
+-- what is known of a sink: what was written if it reveals that, the number of its faults, and the
+-- numbers of bytes that it may fail to put
 pub record Told : Type 1 where
   pub written : Option (List ℕ)
   pub faults : ℕ

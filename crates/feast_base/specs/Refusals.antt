@@ -1,4 +1,4 @@
--- The one line that tells of a refusal.
+-- The line that reports a refusal.
 use Rattle.std.specs.Prelude.{◌≡◌, ℕ, true, List, [], ◌∷◌, ◌++◌, codes, decimal, map, if◌then◌else◌, ◌==◌}
 use Rattle.std.specs.List.{list_any}
 use Rattle.feast_base.specs.declared.place.Refusal.{Refusal}
@@ -55,7 +55,7 @@ text_in code (t ∷ ts) = if code == t.0 then t.1 else text_in code ts
 unfoldable pub plain_text : ℕ → List ℕ
 plain_text code = text_in code plain_texts
 
--- the text of a code, with its number where it shows one
+-- the text of a code, with its number if it shows one
 abbrev pub refusal_text : ℕ → ℕ → List ℕ
 refusal_text code value =
     if code == 40 then codes "quark takes " ++ (decimal value ++ codes " bits, at most 32")
@@ -93,7 +93,8 @@ abbrev pub placed_line : List ℕ → Refusal → List ℕ
 placed_line name refusal =
     place_text name refusal.place.line refusal.place.column ++ ((codes ": E" ++ (decimal refusal.code ++ codes " ")) ++ (refusal_text refusal.code refusal.value ++ codes "\n"))
 
--- the line of a refusal: 0 tells of the words, 1 and 2 of a file as a whole, all other codes of a place in a file
+-- the line of a refusal: 0 is about the words, 1 and 2 about a file as a whole, all other codes
+-- about a place in a file
 unfoldable pub refusal_line : List ℕ → Refusal → List ℕ
 refusal_line name refusal =
     if refusal.code == 0 then usage_line

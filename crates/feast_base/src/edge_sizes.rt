@@ -1,8 +1,8 @@
-//! The edges of a plane as numbers, for the crates that know no map.
+//! The edges of a plane as numbers, for the crates that know nothing of maps.
 ghost use Rattle.std.specs.Prelude.{◌≡◌, ◌<◌, ◌^◌, ℕ, length, All};
 
-/// The edges of a plane: each has the two tiles that it joins, and a number of shared sites, from
-/// which its number of registers follows.
+/// The edges of a plane: each joins two tiles and has a number of shared sites, from which its
+/// number of registers follows.
 pub trait EdgeSizes {
     ghost use Rattle.feast_base.specs.Edges.{EdgeSize, IsEdgeSize, size_at, registers_of};
     ghost use Rattle.std.specs.Prelude.{List};

@@ -10,7 +10,8 @@ use std::io::Read;
 use std::marker::Model;
 use std::rt::Files;
 
-/// The files of the system. It tells none of them; it is seen as the names whose load failed.
+/// The files of the system. Their contents are unknown to contracts; a shelf is seen as the names
+/// whose load failed.
 #[derive(Drop)]
 pub struct FileShelf<'a, R: Files> {
     rt: &'a R,
@@ -74,9 +75,9 @@ impl<R: Files> Shelf for FileShelf<'_, R> {
 
     ghost may_fail = { λ _ _. Unit {0} };
 
-    /// Appends the whole file of that path to `into`, where it has at most `limit` bytes.
+    /// Appends the whole file at that path to `into`, if it has at most `limit` bytes.
     ///
-    /// `Failed` comes where it can't be opened or a read fails.
+    /// `Failed` if it can't be opened or a read fails.
     fn load(&mut self, name: &str, limit: usize, into: &mut Vec<u8>) -> Result<(), LoadFault> {
         let mut file = match fs::open(self.rt, name) {
             Ok(file) => file,

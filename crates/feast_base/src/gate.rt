@@ -2,7 +2,7 @@
 
 /// What each worker calls before each attempt.
 pub trait Gate: Sync {
-    /// Comes back when the worker of `tile` may begin its attempt of that number, from 0.
+    /// Returns when the worker of `tile` may begin the attempt with that number, counted from 0.
     fn reach(&self, tile: u32, attempt: u64);
 }
 

@@ -1,6 +1,6 @@
-//! The outside of the simulator and what all its crates share: want of memory, names, places in
-//! files, refusals and the lines that tell them, shelves to load from, sinks to write to, gates
-//! that workers pass, steps that are counted, and the edges of a plane as numbers.
+//! The outside of the simulator, and what all its crates share: running out of memory, names,
+//! places in files, refusals and their lines, shelves to load from, sinks to write to, gates that
+//! workers pass, counted steps, and the edges of a plane as numbers.
 #![tactic(auto)]
 
 mod edge_sizes;

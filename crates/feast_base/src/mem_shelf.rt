@@ -40,7 +40,7 @@ fn found<'a>(files: &'a [Source], name: &str) -> Option<&'a [u8]>
     None
 }
 
-/// Appends all the bytes, where they are at most `limit`, and else the first `limit + 1`.
+/// Appends all the bytes if there are at most `limit`, and otherwise the first `limit + 1`.
 fn append_whole(bytes: &[u8], limit: usize, into: &mut Vec<u8>) -> Result<(), LoadFault>
     requires { limit < 2 ^ 64 - 1 }
     ensures { Copies bytes.now limit into.old.items into.new.items result }
@@ -75,10 +75,10 @@ impl Shelf for MemShelf {
 
     ghost may_fail = { LoadMayFail };
 
-    /// Appends the first file of that name to `into`, where it has at most `limit` bytes.
+    /// Appends the first file of that name to `into`, if it has at most `limit` bytes.
     ///
-    /// `Failed` comes exactly where the number of this load is listed or no file has the name;
-    /// then nothing is appended to `into`. The count of loads stays at 2^64 - 1 once it is there.
+    /// `Failed` comes exactly when the number of this load is listed or no file has the name; then
+    /// nothing is appended to `into`. The count of loads stays at 2^64 - 1 once it gets there.
     fn load(&mut self, name: &str, limit: usize, into: &mut Vec<u8>) -> Result<(), LoadFault>
         requires { limit < 2 ^ 64 - 1 }
         ensures files { self.new.files ≡ self.old.files }

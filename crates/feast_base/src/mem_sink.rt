@@ -30,7 +30,7 @@ impl Model for MemSink {
     ghost invariant = { λ s. (vec_len s.bytes ≤ s.room) × (s.room ≤ vec_capacity s.bytes) };
 }
 
-/// How many bytes are kept of the put of this number, where a stop names it.
+/// How many bytes are kept of the put with this number, if a stop names it.
 fn kept_at(stops: &[Stop], call: u64) -> Option<u32>
     ensures { MatchOption result (kept_at call stops.now ≡ None) (λ keep. kept_at call stops.now ≡ Some keep) }
 {
@@ -55,16 +55,16 @@ fn stops_at(alloc: Global, calls: &[u64]) -> Result<Vec<Stop>, NoMemory>
 
 impl MemSink {
     /// A sink with room for `room` bytes. Its puts of the numbers in `fail`, counted from 1, fail
-    /// and append nothing. `NoMemory` where the room or the list can't be reserved.
+    /// and append nothing. `NoMemory` if the room or the list can't be reserved.
     pub fn new(alloc: Global, fail: Vec<u64>, room: usize) -> Result<MemSink, NoMemory>
         ensures { IfOk result (λ s. s ≡ record { written = []; faults = 0; calls = 0; stops = map stop_at fail.items; room = room }) }
     {
         MemSink::stopping(alloc, stops_at(alloc, fail.as_slice())?, room)
     }
 
-    /// A sink with room for `room` bytes. Each put that a stop names fails, and appends as many
-    /// first bytes of its piece as the stop keeps; where two stops name one put, the first counts.
-    /// `NoMemory` where the room can't be reserved.
+    /// A sink with room for `room` bytes. Each put that a stop names fails, and appends as many of
+    /// the first bytes of its piece as the stop keeps; if two stops name one put, the first counts.
+    /// `NoMemory` if the room can't be reserved.
     pub fn stopping(alloc: Global, stops: Vec<Stop>, room: usize) -> Result<MemSink, NoMemory>
         ensures { IfOk result (λ s. s ≡ record { written = []; faults = 0; calls = 0; stops = stops.items; room = room }) }
     {
@@ -85,7 +85,7 @@ impl MemSink {
         self.bytes.as_slice()
     }
 
-    /// How many puts there were. The count stays at 2^64 - 1 once it is there.
+    /// How many puts there were. The count stays at 2^64 - 1 once it gets there.
     pub fn calls(&self) -> u64
         ensures { result ≡ self.now.calls }
     {
@@ -113,9 +113,9 @@ impl Sink for MemSink {
 
     /// Appends all the bytes to what is written.
     ///
-    /// `SinkFailed` comes exactly where a stop names this put or it is longer than the room that
-    /// is left. Then the first bytes that the stop keeps are appended, and nothing where the room
-    /// is too small.
+    /// `SinkFailed` comes exactly when a stop names this put or it is longer than the room that is
+    /// left. Then the first bytes that the stop keeps are appended, or nothing if the room is too
+    /// small.
     fn put(&mut self, bytes: &[u8]) -> Result<(), SinkFailed>
         requires some { 0 < length bytes.now }
         requires room { self.old.faults < 2 ^ 64 - 1 }

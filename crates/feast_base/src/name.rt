@@ -18,7 +18,7 @@ impl Model for Name {
 }
 
 impl Name {
-    /// A name of these bytes. `NoMemory` where they can't be kept.
+    /// A name of these bytes. `NoMemory` if they can't be kept.
     pub fn new(alloc: Global, bytes: &[u8]) -> Result<Name, NoMemory>
         ensures { IfOk result (λ n. n ≡ bytes.now) }
     {

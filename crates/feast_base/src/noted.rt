@@ -13,7 +13,7 @@ fn keep(alloc: Global, names: &mut Vec<Name>, name: &str) -> Result<(), NoMemory
     Ok(())
 }
 
-/// Notes the name of a load that failed, and answers so, or want of memory.
+/// Notes the name of a load that failed. The answer is `Failed`, or that memory ran out.
 pub(crate) fn note(alloc: Global, failed: &mut Vec<Name>, name: &str) -> LoadFault
     ensures { ((result ≡ LoadFault.Failed) × (failed.new.items ≡ failed.old.items ++ name.now ∷ []))
         ⊎ ((result ≡ LoadFault.NoMemory) × (failed.new.items ≡ failed.old.items)) }

@@ -16,8 +16,8 @@ pub struct Place {
 pub struct Refusal {
     /// The number of the cause, as the refusal line shows it after `E`.
     pub code: u8,
-    /// Where the cause stands.
+    /// Where the cause is.
     pub place: Place,
-    /// The number that the text of the cause shows, and 0 where it shows none.
+    /// The number that the text of the cause shows, or 0 if it shows none.
     pub value: u64,
 }

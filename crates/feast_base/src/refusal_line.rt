@@ -1,4 +1,4 @@
-//! The one line that tells of a refusal.
+//! The line that reports a refusal.
 ghost use Rattle.std.specs.Prelude.{◌≡◌, ℕ, ◌+◌, ◌++◌, codes, decimal};
 ghost use Rattle.feast_base.specs.Appending.{Appends};
 ghost use Rattle.feast_base.specs.Refusals.{IsCode, longer_line, place_text, placed_line, plain_text, refusal_line, refusal_text, unreadable_line};
@@ -6,16 +6,15 @@ ghost use Rattle.feast_base.specs.Refusals.{IsCode, longer_line, place_text, pla
 use crate::text::{push, push_number};
 use crate::{NoMemory, Refusal};
 
-/// What the words of a call may be.
+/// The forms that the words of a call may have.
 const USAGE: &[u8] =
     b"E00 usage: feast check|code|pack FILE.. | step|run WORLD FILE.. | steppack|runpack WORLD CODE | replay WORLD JOURNAL FILE.. | audit WORLD REPORT FILE.. | rewind WORLD REPORT K FILE.. | gen N\n";
 
-/// Appends the line that tells of a refusal of the file with this name.
+/// Appends the line that reports a refusal of the file with this name.
 ///
-/// Code 0 tells that the words have none of the forms, without a name; 1 that the file is
-/// unreadable, and 2 that it is longer than `value` bytes, without a place. Each other code is
-/// told as `NAME:LINE:COLUMN: ECODE TEXT`. The line ends with LF. `NoMemory` where `out` can't
-/// grow.
+/// Code 0 means that the words have none of the forms, and shows no name; 1 that the file is
+/// unreadable, and 2 that it is longer than `value` bytes, both without a place. Each other code is
+/// shown as `NAME:LINE:COLUMN: ECODE TEXT`. The line ends with LF. `NoMemory` if `out` can't grow.
 #[tactic(auto, unfolding(crate::specs::Refusals::refusal_line))]
 pub fn print_refusal(name: &str, refusal: &Refusal, out: &mut Vec<u8>) -> Result<(), NoMemory>
     requires { IsCode refusal.now.code }
@@ -82,7 +81,7 @@ fn push_place(out: &mut Vec<u8>, name: &[u8], line: u32, column: u32) -> Result<
     push_number(out, column as u64)
 }
 
-/// Appends what stands between a place and a text.
+/// Appends what is between a place and a text.
 fn push_code(out: &mut Vec<u8>, code: u8) -> Result<(), NoMemory>
     ensures { Appends out.old.items out.new.items result (codes ": E" ++ (decimal code ++ codes " ")) }
 {
@@ -91,7 +90,7 @@ fn push_code(out: &mut Vec<u8>, code: u8) -> Result<(), NoMemory>
     push(out, b" ")
 }
 
-/// Appends the text of a code, with its number where it shows one.
+/// Appends the text of a code, with its number if it shows one.
 fn push_text(out: &mut Vec<u8>, code: u8, value: u64) -> Result<(), NoMemory>
     ensures { Appends out.old.items out.new.items result (refusal_text code value) }
 {

@@ -16,7 +16,7 @@ pub enum LoadFault {
     /// The file is longer than the limit.
     #[error("too long")]
     TooLong,
-    /// Want of memory.
+    /// Running out of memory.
     #[error("out of memory")]
     NoMemory,
 }
@@ -31,9 +31,9 @@ impl From<AllocError> for LoadFault {
 
 /// A place that files are loaded from.
 ///
-/// It has three meanings. `files` are the files that it holds, where it tells them; no call
+/// Contracts see three things. `files` are the files that it holds, if it reveals them; no call
 /// changes them. `failed` are the names whose load failed, in the order of the loads. `may_fail`
-/// says of a name whether a load of it may fail from now on.
+/// says of a name whether loading it may fail from now on.
 pub trait Shelf {
     ghost files: { Self → Option (List File) };
 
@@ -41,12 +41,12 @@ pub trait Shelf {
 
     ghost may_fail: { Self → List ℕ → Type 0 };
 
-    /// Appends the whole file of that name to `into`, where it has at most `limit` bytes.
+    /// Appends the whole file of that name to `into`, if it has at most `limit` bytes.
     ///
-    /// `Failed` comes where there is no such file or it can't be read, and then the name is
-    /// appended to the names that failed. `TooLong` comes where the file has more bytes than
-    /// `limit`, of which `limit + 1` were appended; at any other fault at most `limit` bytes were
-    /// appended. After a fault the earlier bytes of `into` still stand before what was appended.
+    /// `Failed` if there is no such file or it can't be read; the name is then appended to the
+    /// names that failed. `TooLong` if the file has more bytes than `limit`, of which `limit + 1`
+    /// were appended; with any other fault at most `limit` bytes were appended. After a fault the
+    /// earlier bytes of `into` are still there, in front of what was appended.
     fn load(&mut self, name: &str, limit: usize, into: &mut Vec<u8>) -> Result<(), LoadFault>
         requires { limit < 2 ^ 64 - 1 }
         ensures files { files self.new ≡ files self.old }

@@ -12,9 +12,9 @@ pub struct SinkFailed;
 
 /// A place that bytes are put to.
 ///
-/// It has three meanings. `written` are all bytes that were put, where it tells them. `faults` is
-/// how many faults there were; it never falls. `may_fail` says of a number of bytes whether
-/// putting so many more, in one piece or in several, may fail.
+/// Contracts see three things. `written` are all bytes that were put, if it reveals them. `faults`
+/// is how many faults there were; it never falls. `may_fail` says of a number of bytes whether
+/// putting that many more, in one piece or in several, may fail.
 pub trait Sink {
     ghost written: { Self → Option (List ℕ) };
 

@@ -22,7 +22,7 @@ impl Model for Source {
 }
 
 impl Source {
-    /// A file of this name and these bytes. `NoMemory` where the name can't be kept.
+    /// A file of this name and these bytes. `NoMemory` if the name can't be kept.
     pub fn new(alloc: Global, name: &str, bytes: Vec<u8>) -> Result<Source, NoMemory>
         ensures { IfOk result (λ s. s ≡ (name.now, bytes.items)) }
     {

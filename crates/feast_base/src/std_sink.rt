@@ -8,7 +8,7 @@ use std::io;
 use std::io::Write;
 use std::marker::Model;
 
-/// Standard output. It tells none of its bytes; it is seen as the number of its faults.
+/// Standard output. Its bytes are unknown to contracts; it is seen as the number of its faults.
 #[derive(Drop)]
 pub struct StdSink<'a, R: Print> {
     rt: &'a R,
@@ -32,7 +32,7 @@ impl<'a, R: Print> StdSink<'a, R> {
     }
 }
 
-/// Writes all the bytes, and flushes. A write of no byte is a fault.
+/// Writes all the bytes, and flushes. A write that takes no byte is a fault.
 pub(crate) fn write_whole<W: Write>(to: &mut W, bytes: &[u8]) -> Result<(), SinkFailed>
     ensures { WritesWhole (W.contents to.old) (W.contents to.new) bytes.now result }
 {

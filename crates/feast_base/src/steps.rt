@@ -4,10 +4,9 @@ ghost use Rattle.feast_base.specs.Counting.{next_count};
 
 use std::marker::Model;
 
-/// What takes a note of each step.
+/// Takes a note of each step.
 ///
-/// Its meaning `noted` relates two of its values where one note leads from the first to the
-/// second.
+/// Its meaning `noted` relates two of its values if one note leads from the first to the second.
 pub trait Ledger {
     ghost noted: { Self → Self → Type 0 };
 
@@ -26,7 +25,7 @@ impl Ledger for NoLedger {
     fn note(&mut self) {}
 }
 
-/// A ledger that counts its notes. The count stays at 2^64 - 1 once it is there.
+/// A ledger that counts its notes. The count stays at 2^64 - 1 once it gets there.
 #[derive(Drop)]
 pub struct CountLedger {
     notes: u64,
@@ -66,7 +65,7 @@ impl Ledger for CountLedger {
 
 /// A number of steps, each of which was noted in a ledger.
 ///
-/// It is seen as the number and the ledger. The number stays at 2^64 - 1 once it is there.
+/// It is seen as the number and the ledger. The number stays at 2^64 - 1 once it gets there.
 #[derive(Drop)]
 pub struct Steps<L: Ledger> {
     count: u64,
@@ -82,7 +81,7 @@ impl<L: Ledger> Model for Steps<L> {
 }
 
 impl<L: Ledger> Steps<L> {
-    /// No step yet, over this ledger.
+    /// No step yet, with this ledger.
     pub fn new(ledger: L) -> Steps<L>
         ensures { result ≡ record { count = 0; ledger = ledger } }
     {

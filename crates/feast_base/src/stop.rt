@@ -5,6 +5,6 @@
 pub struct Stop {
     /// The number of the put, counted from 1.
     pub call: u64,
-    /// How many first bytes of its piece are still appended; all of them where it has fewer.
+    /// How many of the first bytes of its piece are still appended; all of them if it has fewer.
     pub keep: u32,
 }

@@ -6,7 +6,7 @@ ghost use Rattle.feast_base.specs.Digits.{glyph, hex};
 use crate::NoMemory;
 use itoa::Buffer;
 
-/// Appends bytes. `NoMemory` where `out` can't grow.
+/// Appends bytes. `NoMemory` if `out` can't grow.
 pub fn push(out: &mut Vec<u8>, bytes: &[u8]) -> Result<(), NoMemory>
     ensures { Appends out.old.items out.new.items result bytes.now }
 {
@@ -14,7 +14,7 @@ pub fn push(out: &mut Vec<u8>, bytes: &[u8]) -> Result<(), NoMemory>
     Ok(())
 }
 
-/// Appends a number in decimal. `NoMemory` where `out` can't grow.
+/// Appends a number in decimal. `NoMemory` if `out` can't grow.
 pub fn push_number(out: &mut Vec<u8>, n: u64) -> Result<(), NoMemory>
     ensures { Appends out.old.items out.new.items result (decimal n) }
 {
@@ -36,7 +36,7 @@ fn digit_at(n: u128, k: u32) -> u8
 }
 
 /// Appends the low `count` hexadecimal digits of a number, the greatest first and in lower case.
-/// `NoMemory` where `out` can't grow.
+/// `NoMemory` if `out` can't grow.
 pub fn push_hex(out: &mut Vec<u8>, n: u128, count: u32) -> Result<(), NoMemory>
     requires { count ≤ 32 }
     ensures { Appends out.old.items out.new.items result (hex count n) }

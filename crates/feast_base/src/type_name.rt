@@ -6,14 +6,14 @@ ghost use Rattle.feast_base.specs.TypeNames.{is_type_name, is_word_byte};
 /// The most bytes that a name has.
 pub const LONGEST_NAME: usize = 255;
 
-/// Whether it is a byte that names go on with: a letter, a digit or `_`.
+/// Whether it is a byte that a name may go on with: a letter, a digit or `_`.
 pub fn is_word_byte(byte: u8) -> bool
     ensures { result ≡ is_word_byte byte }
 {
     byte.is_ascii_alphanumeric() || byte == b'_'
 }
 
-/// Whether all are bytes that names go on with.
+/// Whether all are bytes that a name may go on with.
 fn are_word_bytes(bytes: &[u8]) -> bool
     ensures { result ≡ list_all is_word_byte bytes.now }
 {

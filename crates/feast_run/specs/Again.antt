@@ -7,7 +7,7 @@ use Rattle.feast_run.specs.Outcomes.{passes}
 use Rattle.feast_run.specs.Stages.{ReadyValue}
 use Rattle.grid_print.specs.Report.{atoms_text}
 
--- in whatever file that is told this text stands, it is a journal of the world, and what a replay of it comes to is the
--- header and the atoms of this grid
+-- in whatever file has this known text, it is a journal of the world, and a replay of it comes to
+-- the header and the atoms of this grid
 abbrev pub ReplaysTo : ReadyValue → List ℕ → GridValue → Type 0
 ReplaysTo r text grid = (files : List File) (word : List ℕ) → file_of word files ≡ Some text → replay_of (Some files) word r (passes (codes "feast 1\n" ++ atoms_text r.names grid))

@@ -43,7 +43,7 @@ shows text set = gives (text set)
 abbrev pub runs : ReadyValue → Stage (List ℕ)
 runs r = gives_any (Reports r)
 
--- the report of the stepped machine; that what it left is a run's is known
+-- the report of the stepped machine; what it left is known to be a run's
 abbrev pub steps : ReadyValue → Stage (List ℕ)
 steps r = gives_known (IsSteppedRun r) (stepped_report r)
 
@@ -53,7 +53,7 @@ replays r journal = gives (atoms_after r journal.records)
 abbrev pub replay_of : Option (List File) → List ℕ → ReadyValue → Stage (List ℕ)
 replay_of files journal r = and_then (journal_of files journal r.world) (replays r)
 
--- the atoms that the first k events of a journal leave, where it has so many
+-- the atoms that the first k events of a journal leave, if it has that many
 abbrev pub rewinds : List ℕ → ℕ → ReadyValue → JournalValue → Stage (List ℕ)
 rewinds word k r journal (passes text) = (k ≤ length journal.records) × (text ≡ atoms_after r (take k journal.records))
 rewinds word k r journal (refuses x) = (length journal.records < k) × (x ≡ records_refused word (length journal.records))

@@ -20,7 +20,7 @@ pub record Audits (r : ReadyValue) (bytes : List ℕ) (journal : JournalValue) (
 abbrev pub audits : ReadyValue → List ℕ → JournalValue → Stage (List ℕ)
 audits r bytes journal = gives_any (Audits r bytes journal)
 
--- the stages of an audit behind its world and elements
+-- the stages of an audit after its world and elements
 abbrev pub audit_with : List ℕ → ReadyValue → List ℕ → Stage (List ℕ)
 audit_with word r bytes = and_then (journal_in word r.world bytes) (audits r bytes)
 

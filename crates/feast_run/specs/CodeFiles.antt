@@ -23,7 +23,7 @@ at_byte code column = record { code = code; place = record { file = 0; line = 1;
 abbrev pub code_refused : List ℕ → ℕ → ℕ → RefusedValue
 code_refused word code column = refused input.Codes word (at_byte code column)
 
--- the refusal of a code file by its fault; want of memory is none
+-- the refusal of a code file by its fault; running out of memory is none
 abbrev pub IsCodeRefused : List ℕ → CodeFault → RefusedValue → Type 0
 IsCodeRefused word BadMagic r = r ≡ code_refused word 61 1
 IsCodeRefused word (BadForm column) r = r ≡ code_refused word 62 column

@@ -1,4 +1,4 @@
--- The elements of a world, whatever they were given as.
+-- The elements of a world, however they were given.
 use Rattle.std.specs.Prelude.{ℕ, List}
 use Rattle.code_file.specs.Acting.{after as after_codes}
 use Rattle.code_file.specs.Form.{CodesValue, codes_of, names_of}

@@ -62,7 +62,7 @@ pub record Missed (S : Stage (List ℕ)) (old new : Stock) : Type 0 where
   pub comes : S (misses word)
   pub notes : Notes old new word
 
--- at want of memory no name was noted, or one whose load failed
+-- if memory ran out no name was noted, or one whose load failed
 abbrev pub Wants : Option FormValue → Stock → Stock → Type 0
 Wants None old new = Keeps old new
 Wants (Some form) old new = Keeps old new ⊎ Missed (form_answer old.files form) old new
@@ -81,7 +81,7 @@ pub record Broken (form : Option FormValue) (old new : Stock) (sink sink' : Told
   pub cut : IsCut sink sink' text
   pub status_is : status ≡ how.SinkFault
 
--- a call that wanted memory: nothing was written
+-- a call that ran out of memory: nothing was written
 pub record Wanted (form : Option FormValue) (old new : Stock) (sink sink' : Told) (status : Status) : Type 0 where
   pub wants : Wants form old new
   pub nothing : sink'.written ≡ sink.written
@@ -92,7 +92,8 @@ pub record Wanted (form : Option FormValue) (old new : Stock) (sink sink' : Told
 abbrev pub Ends : Option FormValue → Stock → Stock → Told → Told → Status → Type 0
 Ends form old new sink sink' status = Whole form old new sink sink' status ⊎ (Broken form old new sink sink' status ⊎ Wanted form old new sink sink' status)
 
--- a text with a status was written: the answer is that status where all of it was put, else SinkFault or NoMemory
+-- a text with a status was written: the answer is that status if all of it was put, otherwise
+-- SinkFault or NoMemory
 abbrev pub PutWith : Status → List ℕ → Told → Told → Status → Type 0
 PutWith right text sink sink' status =
     ((status ≡ right) × IsPut sink sink' text) ⊎ (((status ≡ how.SinkFault) × IsCut sink sink' text) ⊎ ((status ≡ how.NoMemory) × (sink'.written ≡ sink.written) × (sink'.faults ≡ sink.faults)))

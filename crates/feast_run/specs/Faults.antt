@@ -17,13 +17,13 @@ IsStop r (Refused s) = (refused_value s ≡ r) × Coded r.refusal.code
 IsStop r (Missing word) = ⊥
 IsStop r NoMemory = ⊥
 
--- memory was wanted
+-- memory ran out
 abbrev pub IsWant : Stop → Type 0
 IsWant (Refused s) = ⊥
 IsWant (Missing word) = ⊥
 IsWant NoMemory = Unit {0}
 
--- it is the refusal by a fault, or memory was wanted
+-- it is the refusal by a fault, or memory ran out
 abbrev pub IsWorldStop : List ℕ → Option (ℕ × ℕ) → Stop → Type 0
 IsWorldStop word None stop = IsWant stop
 IsWorldStop word (Some fault) stop = IsStop (world_refused word fault) stop

@@ -70,24 +70,24 @@ of_number [] = None
 of_number (word ∷ []) = small_number word
 of_number (word ∷ other ∷ words) = None
 
--- how many events are to be left: a canonical decimal, at most 1,000,000
+-- how many events remain: a canonical decimal, at most 1,000,000
 abbrev pub most_left : ℕ
 most_left = 1000000
 
 abbrev pub left_of : List ℕ → Option ℕ
 left_of word = option_and_then (λ n. if nat_le n most_left then Some n else None) (number_of word)
 
--- a form of how many are left and file words
+-- a form of how many remain and file words
 abbrev pub form_left : (ℕ → List (List ℕ) → FormValue) → Option ℕ → Option (List (List ℕ)) → Option FormValue
 form_left make None words = None
 form_left make (Some n) words = form_with (make n) words
 
--- how many are left, and then file words
+-- how many remain, and then file words
 abbrev pub of_left : (ℕ → List (List ℕ) → FormValue) → List (List ℕ) → Option FormValue
 of_left make [] = None
 of_left make (word ∷ words) = form_left make (left_of word) (of_files words)
 
--- two words, how many are left, and then file words
+-- two words, how many remain, and then file words
 abbrev pub of_report : (List ℕ → ℕ → List (List ℕ) → FormValue) → List (List ℕ) → Option FormValue
 of_report make [] = None
 of_report make (word ∷ words) = of_left (make word) words
@@ -127,7 +127,7 @@ form_value (kind.Rewind world report left files) = rewind world.now report.now l
 form_value (kind.StepPack world file) = steppack world.now file.now
 form_value (kind.RunPack world file) = runpack world.now file.now
 
--- it has so many element files as a form may have
+-- it has as many element files as a form may have
 abbrev pub IsFew : Form → Type 0
 IsFew (kind.Check files) = length files.now ≤ most_files
 IsFew (kind.Code files) = length files.now ≤ most_files

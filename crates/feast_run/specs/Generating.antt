@@ -23,7 +23,7 @@ generated_ready number set = sourced (generated number) set
 abbrev pub stepped_summary : ℕ → ReadyValue → List ℕ
 stepped_summary number r = summary number (machine_of r).grid (records_in (stepped_logs r)) (abandoned_in (stepped_logs r))
 
--- that summary; that what the machine left is a run's is known
+-- that summary; what the machine left is known to be a run's
 abbrev pub summarizes : ℕ → SetValue → Stage (List ℕ)
 summarizes number set = gives_known (IsSteppedRun (generated_ready number set)) (stepped_summary number (generated_ready number set))
 

@@ -3,7 +3,7 @@ use Rattle.std.specs.Prelude.{ℕ, ◌≡◌, List, ◌⊎◌, Result, Ok, Err}
 use Rattle.feast_base.specs.declared.place.Refusal.{Refusal}
 use Rattle.feast_run.specs.declared.stop.Input.{Input}
 
--- a refusal, the input that it is about, and the word of the file that it stands in
+-- a refusal, the input that it is about, and the word of the file that it is in
 pub record RefusedValue : Type 0 where
   pub input : Input
   pub word : List ℕ
@@ -62,12 +62,12 @@ decides refusal said (passes a) = said ≡ Ok a
 decides {A} {E} refusal said (refuses r) = (e : E) × (said ≡ Err e) × (r ≡ refusal e)
 decides refusal said (misses w) = ⊥
 
--- apart from loads that fail, no refusal beside a value, and one refusal at most
+-- apart from loads that fail, no refusal beside a value, and at most one refusal
 pub record IsSure {A : Type 0} (S : Stage A) : Type 0 where
   pub apart : (a : A) (r : RefusedValue) → S (passes a) → S (refuses r) → ⊥
   pub one_refusal : (r s : RefusedValue) → S (refuses r) → S (refuses s) → r ≡ s
 
--- and one value at most
+-- and at most one value
 pub record IsOne {A : Type 0} (S : Stage A) : Type 0 where
   pub sure : IsSure S
   pub one_value : (a b : A) → S (passes a) → S (passes b) → a ≡ b

@@ -1,4 +1,4 @@
--- What a run left, and owes.
+-- What a run left, and what holds of it.
 use Rattle.std.specs.Prelude.{ℕ, ◌≡◌, List, []}
 use Rattle.cell_grid.specs.declared.record.Record.{Record}
 use Rattle.cell_grid.specs.Grid.{GridValue}
@@ -11,10 +11,11 @@ use Rattle.one_tile.specs.Events.{events_of}
 use Rattle.tile_map.specs.Plane.{tiles_of}
 use Rattle.world_grid.specs.Start.{start_grid}
 
--- What a run left, and owes: its grid is what the events of its journal give, one at a time in the journal's order, on one
--- uncut grid that begins with the world's atoms, by what the elements mean; each attempt of each tile is one
--- event or one abandoned attempt; each stamp is 1 more than the greatest of the linked events before it; and each
--- abandoned attempt is excused by the attempt that it names
+-- What a run left, and what holds of it: its grid is what the events of its journal make, one at a
+-- time in the journal's order, on one uncut grid that begins with the world's atoms, by what the
+-- elements mean; each attempt of each tile is one event or one abandoned attempt; each stamp is 1
+-- more than the greatest of the linked events before it; and each abandoned attempt is excused by
+-- the attempt that it names
 pub record IsRun (r : ReadyValue) (grid : GridValue) (records : List Record) (abandoned : List Abandoned) : Type 0 where
   pub replayed : grid ≡ replay_from r.meaning (start_grid r.world.plane r.world.atoms) records
   pub accounted : IsAccounted r.world.plane r.world.plan records abandoned
@@ -27,6 +28,6 @@ pub record Reports (r : ReadyValue) (text : List ℕ) : Type 0 where
   pub records : List Record
   pub abandoned : List Abandoned
   pub run : IsRun r grid records abandoned
-  -- of one tile each attempt is an event, in its order
+  -- for one tile each attempt is an event, in its order
   pub alone : tiles_of r.world.plane ≡ 1 → (records ≡ events_of r.world.plane r.world.plan) × (abandoned ≡ [])
   pub shown : text ≡ report r.names grid records abandoned

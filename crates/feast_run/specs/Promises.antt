@@ -1,4 +1,4 @@
--- What a call promises, in the words of who calls it. Each follows from how a call ends.
+-- What a call promises, in the caller's terms. Each follows from how a call ends.
 use Rattle.std.specs.Prelude.{ℕ, ◌≡◌, ◌≢◌, ◌≤◌, length, take, List, [], ◌∷◌, ◌++◌, codes, Option, Some, None, Ok, ◌⊎◌}
 use Rattle.cell_grid.specs.Records.{replay as replay_from}
 use Rattle.code_file.specs.Form.{CodesValue, IsFile}
@@ -30,26 +30,29 @@ use Rattle.world_grid.specs.Start.{start_grid}
 use Rattle.world_text.specs.Drafts.{DraftValue}
 use Rattle.world_text.specs.Named.{ReadsWorld, WorldValue, named}
 
--- the element files of some words, in order: of each word the first file of that name, within its limit
+-- the element files of some words, in order: for each word the first file of that name, within its
+-- limit
 abbrev pub AreFiles : List File → List (List ℕ) → List File → Type 0
 AreFiles files [] [] = Unit {0}
 AreFiles files [] (s ∷ ss) = ⊥
 AreFiles files (w ∷ ws) [] = ⊥
 AreFiles files (w ∷ ws) (s ∷ ss) = (s.0 ≡ w) × (file_of w files ≡ Some s.1) × (length s.1 ≤ element_limit) × AreFiles files ws ss
 
--- element files that are told, and the set that they are: no stage refuses them
+-- element files that are known, and the set that they are: no stage refuses them
 pub record IsSet (files : List File) (words : List (List ℕ)) (set : SetValue) : Type 0 where
   pub sources : List File
   pub are_files : AreFiles files words sources
   pub accepted : AcceptsFiles sources set
 
--- a form of element files alone, whose files are told: the bytes appended are this text of their set
+-- a form of element files alone, whose files are known: the bytes appended are this text of their
+-- set
 pub record SetTold (text : SetValue → List ℕ) (files : List File) (words : List (List ℕ)) (appended : List ℕ) : Type 0 where
   pub set : SetValue
   pub is_set : IsSet files words set
   pub shown : appended ≡ text set
 
--- a code file that is told: it is the one spelling of these elements, no two of which have one name, and each code is valid
+-- a code file that is known: it is the one spelling of these elements, no two of which have one
+-- name, and each code is valid
 pub record IsCodeFile (files : List File) (word : List ℕ) (es : CodesValue) : Type 0 where
   pub bytes : List ℕ
   pub file : file_of word files ≡ Some bytes
@@ -57,15 +60,15 @@ pub record IsCodeFile (files : List File) (word : List ℕ) (es : CodesValue) : 
   pub is_file : IsFile bytes es
   pub right : AreRight es
 
--- a world that is told, whose atoms are of elements with these names
+-- a world that is known, whose atoms are of elements with these names
 pub record WorldTold (files : List File) (word : List ℕ) (names : List (List ℕ)) (world : WorldValue) : Type 0 where
   pub bytes : List ℕ
   pub file : file_of word files ≡ Some bytes
   pub within : length bytes ≤ world_limit
   pub reads : ReadsWorld bytes names world
 
--- a run whose files are told, and what its elements were given as: the bytes appended are the report of what it left, by what
--- these elements do
+-- a run whose files are known, and what its elements were given as: the bytes appended are the
+-- report of what it left, by what these elements do
 pub record RanTold {X : Type 0} (elements : X → ElementsValue) (IsTold : X → Type 0) (files : List File) (word appended : List ℕ) : Type 0 where
   pub world : WorldValue
   pub given : X
@@ -75,8 +78,9 @@ pub record RanTold {X : Type 0} (elements : X → ElementsValue) (IsTold : X →
   -- a replay of the report by these elements comes to the report's own atoms
   pub replays : ReplaysTo (ready_with world (elements given)) appended reports.grid
 
--- a stepped run whose files are told, and what its elements were given as: the bytes appended are the report of the stepped
--- machine of the world after the steps of its order, and what that machine left is a run's, by what these elements do
+-- a stepped run whose files are known, and what its elements were given as: the bytes appended are
+-- the report of the stepped machine of the world after the steps of its order, and what that
+-- machine left is a run's, by what these elements do
 pub record SteppedTold {X : Type 0} (elements : X → ElementsValue) (IsTold : X → Type 0) (files : List File) (word appended : List ℕ) : Type 0 where
   pub world : WorldValue
   pub given : X
@@ -87,8 +91,9 @@ pub record SteppedTold {X : Type 0} (elements : X → ElementsValue) (IsTold : X
   -- a replay of the report by these elements comes to the report's own atoms
   pub replays : ReplaysTo (ready_with world (elements given)) appended (machine_of (ready_with world (elements given))).grid
 
--- a replay whose files are told: the bytes appended are the atoms that the events of the journal give, one at a time, on
--- one uncut grid that begins with the world's atoms, by what the elements' source means
+-- a replay whose files are known: the bytes appended are the atoms that the events of the journal
+-- make, one at a time, on one uncut grid that begins with the world's atoms, by what the elements'
+-- source means
 pub record ReplayTold (files : List File) (word journal_word : List ℕ) (words : List (List ℕ)) (appended : List ℕ) : Type 0 where
   pub world : WorldValue
   pub set : SetValue
@@ -110,14 +115,14 @@ pub record GenTold (number : ℕ) (appended : List ℕ) : Type 0 where
   pub run : IsSteppedRun (generated_ready number set)
   pub shown : appended ≡ stepped_summary number (generated_ready number set)
 
--- a report that is told, and the journal that it says, of a world that is told
+-- a report that is known, and the journal that it says, of a world that is known
 pub record ReportTold (files : List File) (report_word : List ℕ) (world : WorldValue) (bytes : List ℕ) (journal : JournalValue) : Type 0 where
   pub file : file_of report_word files ≡ Some bytes
   pub within : length bytes ≤ journal_limit
   pub reads : journal_said (read_report world.plane world.plan.lists bytes) ≡ Ok journal
 
--- an audit whose files are told: the bytes appended are the line of the judgement on the report, by what the elements' source
--- means
+-- an audit whose files are known: the bytes appended are the line of the judgement on the report,
+-- by what the elements' source means
 pub record AuditTold (files : List File) (word report_word : List ℕ) (words : List (List ℕ)) (appended : List ℕ) : Type 0 where
   pub world : WorldValue
   pub set : SetValue
@@ -128,8 +133,9 @@ pub record AuditTold (files : List File) (word report_word : List ℕ) (words : 
   pub told_report : ReportTold files report_word world bytes journal
   pub audits : Audits (sourced world set) bytes journal appended
 
--- a rewind whose files are told: the report has so many events, and the bytes appended are the atoms that its first k events
--- give, one at a time, on one uncut grid that begins with the world's atoms, by what the elements' source means
+-- a rewind whose files are known: the report has this many events, and the bytes appended are the
+-- atoms that its first k events make, one at a time, on one uncut grid that begins with the world's
+-- atoms, by what the elements' source means
 pub record RewindTold (files : List File) (word report_word : List ℕ) (k : ℕ) (words : List (List ℕ)) (appended : List ℕ) : Type 0 where
   pub world : WorldValue
   pub set : SetValue
@@ -141,7 +147,7 @@ pub record RewindTold (files : List File) (word report_word : List ℕ) (k : ℕ
   pub enough : k ≤ length journal.records
   pub shown : appended ≡ codes "feast 1\n" ++ atoms_text (element_names set) (replay_from (after (program_of set)) (start_grid world.plane world.atoms) (take k journal.records))
 
--- the text that a form writes, where files are told
+-- the text that a form writes, if the files are known
 abbrev pub Shows : List File → FormValue → List ℕ → Type 0
 Shows files (check words) appended = SetTold check_text files words appended
 Shows files (code words) appended = SetTold code_text files words appended
@@ -155,13 +161,14 @@ Shows files (rewind world report k words) appended = RewindTold files world repo
 Shows files (steppack world file) appended = SteppedTold code_elements (IsCodeFile files file) files world appended
 Shows files (runpack world file) appended = RanTold code_elements (IsCodeFile files file) files world appended
 
--- the headline: where the shelf tells its files and the sink what is written, and the status is Done, this was appended
+-- the headline: if the shelf reveals its files and the sink what is written, and the status is
+-- Done, this was appended
 abbrev pub Headline : Option FormValue → Stock → Told → Told → Status → Type 0
 Headline form old sink sink' status =
     (files : List File) (before : List ℕ) → old.files ≡ Some files → sink.written ≡ Some before → status ≡ how.Done →
     (f : FormValue) × (form ≡ Some f) × (appended : List ℕ) × (sink'.written ≡ Some (before ++ appended)) × Shows files f appended
 
--- Usage comes exactly where the words have no form, unless memory is wanted or the sink fails
+-- Usage comes exactly when the words have no form, unless memory runs out or the sink fails
 pub record UsageExactly (form : Option FormValue) (status : Status) : Type 0 where
   pub only : status ≡ how.Usage → form ≡ None
   pub where_ : form ≡ None → (status ≡ how.Usage) ⊎ ((status ≡ how.SinkFault) ⊎ (status ≡ how.NoMemory))
@@ -172,26 +179,27 @@ Agrees failed failed' (passes text) = failed' ≡ failed
 Agrees failed failed' (refuses r) = failed' ≡ failed
 Agrees failed failed' (misses word) = failed' ≡ failed ++ word ∷ []
 
--- the line of an outcome that is no text was appended
+-- the line of an outcome that is not a text was appended
 abbrev pub Lines : Told → Told → Outcome (List ℕ) → Type 0
 Lines sink sink' (passes text) = Unit {0}
 Lines sink sink' (refuses r) = Grows sink.written sink'.written (refusal_line r.word r.refusal)
 Lines sink sink' (misses word) = Grows sink.written sink'.written (unreadable_line word)
 
--- where files are told and the sink's count stays: whatever outcome the stages may have that agrees with the names
--- noted, the call ends with its status and its line, or wants memory; and words of no form are told the forms
+-- if the files are known and the sink's count stays: whatever outcome the stages may have that
+-- agrees with the names noted, the call ends with its status and its line, or runs out of memory;
+-- and words of no form are answered with the forms
 pub record Exactly (form : Option FormValue) (old new : Stock) (sink sink' : Told) (status : Status) : Type 0 where
   pub usage : form ≡ None → sink'.faults ≡ sink.faults → ((status ≡ how.Usage) × Grows sink.written sink'.written usage_line) ⊎ (status ≡ how.NoMemory)
   pub stages : (files : List File) (f : FormValue) (o : Outcome (List ℕ)) → form ≡ Some f → old.files ≡ Some files → form_answer (Some files) f o →
       Agrees old.failed new.failed o → sink'.faults ≡ sink.faults → ((status ≡ status_of o) × Lines sink sink' o) ⊎ (status ≡ how.NoMemory)
 
--- a world whose atoms are of elements with these names, and that nothing is refused of
+-- a world whose atoms are of elements with these names, and of which nothing is refused
 pub record IsGoodWorld (files : List File) (word : List ℕ) (names : List (List ℕ)) (world : WorldValue) : Type 0 where
   pub draft : DraftValue
   pub has_draft : draft_of (Some files) word (passes draft)
   pub has_names : named names draft ≡ Ok world
 
--- a world with its elements that nothing is refused of
+-- a world with its elements of which nothing is refused
 pub record IsGoodReady {X : Type 0} (elements : X → ElementsValue) (IsTold : X → Type 0) (files : List File) (word : List ℕ) (world : WorldValue) : Type 0 where
   pub given : X
   pub is_told : IsTold given
@@ -201,7 +209,7 @@ pub record IsGoodReady {X : Type 0} (elements : X → ElementsValue) (IsTold : X
 abbrev pub IsGoodReport : List File → List ℕ → List (List ℕ) → List ℕ → WorldValue → JournalValue → Type 0
 IsGoodReport files word words report world journal = IsGoodReady source_elements (IsSet files words) files word world × journal_of (Some files) report world (passes journal)
 
--- files of a form that nothing is refused of
+-- files of a form of which nothing is refused
 abbrev pub IsGood : List File → FormValue → Type 0
 IsGood files (check words) = (set : SetValue) × IsSet files words set
 IsGood files (code words) = (set : SetValue) × IsSet files words set
@@ -215,7 +223,7 @@ IsGood files (rewind world report k words) = (w : WorldValue) × (j : JournalVal
 IsGood files (steppack world file) = (w : WorldValue) × IsGoodReady code_elements (IsCodeFile files file) files world w
 IsGood files (runpack world file) = (w : WorldValue) × IsGoodReady code_elements (IsCodeFile files file) files world w
 
--- completeness: good files of a form, and counts that stay, give Done, or want of memory
+-- completeness: good files of a form, and counts that stay, give Done, or running out of memory
 abbrev pub Complete : Option FormValue → Stock → Stock → Told → Told → Status → Type 0
 Complete form old new sink sink' status =
     (files : List File) (f : FormValue) → form ≡ Some f → old.files ≡ Some files → IsGood files f →
@@ -261,8 +269,9 @@ stock_held = stock (λ shelf. Some shelf.files) (λ shelf. shelf.failed) LoadMay
 abbrev pub told_held : SinkHeld → Told
 told_held = told (λ sink. Some sink.written) (λ sink. sink.faults) PutMayFail
 
--- over a shelf and a sink in memory: where no call is listed to fail, each file word has a file and there is room for
--- whatever text the call comes to, no count rises; so neither SinkFault comes, nor a name is noted
+-- over a shelf and a sink in memory: if no call is listed to fail, each file word has a file and
+-- there is room for whatever text the call comes to, no count rises; so neither SinkFault comes,
+-- nor is a name noted
 abbrev pub IsQuiet : Option FormValue → ShelfHeld → ShelfHeld → SinkHeld → SinkHeld → Status → Type 0
 IsQuiet form shelf shelf' sink sink' status =
     shelf.fail ≡ [] → sink.stops ≡ [] →

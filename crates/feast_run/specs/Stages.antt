@@ -54,7 +54,7 @@ line_refusal line OtherThanAttempt = at_line 83 line 0
 abbrev pub journal_refused : List ℕ → ℕ × LineFault → RefusedValue
 journal_refused word fault = refused input.Journal word (line_refusal fault.0 fault.1)
 
--- the load of one file: its bytes, where files are told those of the first file of that name
+-- the load of one file: its bytes, if files are known those of the first file of that name
 abbrev pub load : Option (List File) → ℕ → List ℕ → Stage (List ℕ)
 load files limit word (passes bytes) = TellsBytes files word bytes × (length bytes ≤ limit)
 load files limit word (refuses r) = TellsLonger files word limit × (r ≡ too_long word limit)
@@ -69,7 +69,7 @@ load_more files done (word ∷ words) = and_then (load files element_limit word)
 abbrev pub load_all : Option (List File) → List (List ℕ) → Stage (List File)
 load_all files words = load_more files [] words
 
--- the building of loaded element files; the word of a refusal is that of the file in which it stands
+-- the building of loaded element files; the word of a refusal is that of the file it is in
 abbrev pub builds : List (List ℕ) → List File → Stage SetValue
 builds words sources (passes set) = AcceptsFiles sources set
 builds words sources (refuses r) = RefusesFiles sources r.refusal × (r ≡ refused input.Elements (slice_index_or words r.refusal.place.file []) r.refusal)
@@ -83,7 +83,7 @@ set_of files words = and_then (load_all files words) (builds words)
 abbrev pub draft_of : Option (List File) → List ℕ → Stage DraftValue
 draft_of files word = and_then (load files world_limit word) (λ bytes. decides (world_refused word) (read_text bytes))
 
--- a world, and what the elements that its atoms are of are called, by type number from 1, and do
+-- a world, and what the elements of its atoms are called, by type number from 1, and do
 pub record ReadyValue : Type 0 where
   pub world : WorldValue
   pub names : List (List ℕ)
@@ -105,11 +105,11 @@ coded world es = ready_with world (code_elements es)
 abbrev pub named_by : List ℕ → DraftValue → ElementsValue → Stage ReadyValue
 named_by word draft e = and_then (decides (world_refused word) (named e.names draft)) (λ (world : WorldValue). gives (ready_with world e))
 
--- the elements of a world, which come of a stage
+-- the elements of a world, which a stage gives
 abbrev pub with_elements : {X : Type 0} → (X → ElementsValue) → Stage X → List ℕ → DraftValue → Stage ReadyValue
 with_elements value S word draft = and_then S (λ x. named_by word draft (value x))
 
--- a world with the elements that come of a stage
+-- a world with the elements that a stage gives
 abbrev pub ready_by : {X : Type 0} → (X → ElementsValue) → Stage X → Option (List File) → List ℕ → Stage ReadyValue
 ready_by value S files word = and_then (draft_of files word) (with_elements value S word)
 

@@ -35,7 +35,7 @@ MissesNone (Err (Refused r)) = Unit {0}
 MissesNone (Err (Missing word)) = ⊥
 MissesNone (Err NoMemory) = Unit {0}
 
--- an answer is an outcome of the stage, or memory was wanted
+-- an answer is an outcome of the stage, or memory ran out
 abbrev pub Tells : {X A : Type 0} → (X → A) → Stage A → Result X Stop → Type 0
 Tells value S (Ok x) = S (passes (value x))
 Tells value S (Err (Refused r)) = S (refuses (refused_value r)) × Coded r.refusal.code

@@ -38,7 +38,7 @@ fn audit_line(
     judgement_line(alloc, judgement)
 }
 
-/// The stages of an audit behind the bytes of its report.
+/// The stages of an audit after the bytes of its report.
 fn audit_loaded<'a>(
     alloc: Global,
     word: &'a str,

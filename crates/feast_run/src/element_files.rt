@@ -39,7 +39,7 @@ fn load_files<'a, F: Shelf>(
     Ok(sources)
 }
 
-/// The word of the file of a number, and no word where there is none.
+/// The word of the file of a number, or no word if there is none.
 fn word_of(words: &[String], file: u32) -> &str
     ensures { result.now ≡ slice_index_or (map string_bytes words.now) file [] }
 {

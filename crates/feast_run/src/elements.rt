@@ -54,7 +54,7 @@ impl Elements {
         }
     }
 
-    /// What acts on windows as these elements do. It takes all its memory here; `NoMemory` where
+    /// What acts on windows as these elements do. All its memory is allocated here; `NoMemory` if
     /// that is refused.
     pub fn actor(&self, alloc: Global) -> Result<ElementActor<'_>, NoMemory>
         ensures { IfOk result (λ a. acts a ≡ (elements_value self.now).meaning) }

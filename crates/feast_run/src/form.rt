@@ -31,8 +31,8 @@ pub enum Form<'a> {
     /// The judgement on the report in the second file, of the world in the first, with the elements
     /// in the others.
     Audit(&'a str, &'a str, &'a [String]),
-    /// The atoms that so many of the first events of the report in the second file leave of the
-    /// world in the first, with the elements in the others.
+    /// The atoms that the first events of the report in the second file make of the world in the
+    /// first, with the elements in the others; the number is how many events.
     Rewind(&'a str, &'a str, u32, &'a [String]),
     /// A stepped run of the world in one file with the elements of the code file in another.
     StepPack(&'a str, &'a str),
@@ -40,7 +40,7 @@ pub enum Form<'a> {
     RunPack(&'a str, &'a str),
 }
 
-/// The words, where they are so many as a form may have element files.
+/// The words, if there are as many as a form may have element files.
 fn of_files(words: &[String]) -> Option<&[String]>
     ensures value { MatchOption result (of_files (map string_bytes words.now) ≡ None) (λ f. of_files (map string_bytes words.now) ≡ Some (map string_bytes f.now)) }
     ensures few { IfSome result (λ f. length f.now ≤ most_files) }
@@ -52,7 +52,7 @@ fn of_files(words: &[String]) -> Option<&[String]>
     }
 }
 
-/// The number that the words are, where they are one word and it is a canonical decimal below 2^64.
+/// The number that the words are, if they are one word and it is a canonical decimal below 2^64.
 fn of_number(words: &[String]) -> Option<u64>
     ensures { MatchOption result (of_number (map string_bytes words.now) ≡ None) (λ n. of_number (map string_bytes words.now) ≡ Some n) }
 {
@@ -62,7 +62,7 @@ fn of_number(words: &[String]) -> Option<u64>
     }
 }
 
-/// How many events a word says are to be left: a canonical decimal, at most 1,000,000.
+/// How many events remain, as a word says: a canonical decimal, at most 1,000,000.
 fn left_of(word: &str) -> Option<u32>
     ensures { result ≡ left_of word.now }
 {
@@ -70,7 +70,7 @@ fn left_of(word: &str) -> Option<u32>
     if n <= MOST_LEFT { Some(n as u32) } else { None }
 }
 
-/// The words, where they are two.
+/// The words, if they are two.
 fn two_words(words: &[String]) -> Option<(&str, &str)>
     ensures { MatchOption result (two_words (map string_bytes words.now) ≡ None) (λ p. two_words (map string_bytes words.now) ≡ Some (p.0.now, p.1.now)) }
 {
@@ -80,7 +80,7 @@ fn two_words(words: &[String]) -> Option<(&str, &str)>
     }
 }
 
-/// The form of a rewind, of the words behind its first.
+/// The form of a rewind, from the words after its first.
 fn read_rewind(words: &[String]) -> Option<Form<'_>>
     ensures value { MatchOption result (of_rewind (map string_bytes words.now) ≡ None) (λ f. of_rewind (map string_bytes words.now) ≡ Some (form_value f)) }
     ensures few { IfSome result IsFew }

@@ -24,7 +24,7 @@ use std::alloc::Global;
 use world_runs::stepped;
 use world_text::World;
 
-/// What the stepped run of a world comes to, with these elements.
+/// The result of the stepped run of a world, with these elements.
 fn outcome(alloc: Global, world: &World, elements: &Elements) -> Result<Outcome, NoMemory>
     requires world { IsWorld (world_value world.now) }
     requires order { IsOrder (world_value world.now).plane (order_value world.now.order) }

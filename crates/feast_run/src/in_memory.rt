@@ -11,8 +11,8 @@ use std::thread::Threads;
 
 /// Does what the words say, as `feast` does, over files and a sink in memory, and ends as it does.
 ///
-/// Where no call of them is listed to fail, each file word has a file, and the sink has room for
-/// the text, no load and no put fails; so the status is none of those that a failure gives.
+/// If no call of them is listed to fail, each file word has a file, and the sink has room for the
+/// text, no load and no put fails; so the status is none of those that a failure gives.
 pub fn feast_in_memory<R: Threads + Sync, G: Gate>(
     rt: &R,
     alloc: Global,

@@ -1,6 +1,6 @@
 //! One call of the simulator, from its words to what it writes.
 //!
-//! `feast` tells what the words of a call may be, and what each form of them writes.
+//! `feast` documents the forms that the words of a call may have, and what each of them writes.
 #![tactic(auto)]
 
 mod acting;

@@ -21,7 +21,7 @@ use grid_print::atoms;
 use std::alloc::Global;
 use text_lines::{Field, push_line};
 
-/// The text of the atoms of a grid, behind its header.
+/// The text of the atoms of a grid, after its header.
 pub fn show(alloc: Global, names: &[Name], grid: &Grid) -> Result<Vec<u8>, NoMemory>
     requires { AreNamed names.now grid.now.atoms }
     ensures { IfOk result (λ v. v.items ≡ codes "feast 1\n" ++ atoms_text names.now grid.now) }

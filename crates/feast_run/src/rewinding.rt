@@ -52,7 +52,7 @@ fn too_few<'a>(word: &'a str, journal: &ReadJournal) -> Stop<'a>
     refused(word, whole_file(TOO_FEW, journal.records.len() as u64))
 }
 
-/// The stop at a journal that has fewer events than are to be left.
+/// The stop at a journal that has fewer events than are to remain.
 fn few<'a>(word: &'a str, left: u32, ready: &Ready, journal: &ReadJournal) -> Stop<'a>
     requires { length journal.now.records.items < left }
     ensures { Tells output_text (rewinds word.now left (ready_value ready.now) (journal_value journal.now)) (Err result) }
@@ -80,7 +80,7 @@ fn rewind_kept<'a>(
     }
 }
 
-/// The stages of a rewind behind its journal.
+/// The stages of a rewind after its journal.
 fn rewind_loaded<'a>(
     alloc: Global,
     word: &'a str,

@@ -57,7 +57,7 @@ fn ran_alone<G: Gate>(alloc: Global, ready: Ready, gate: &G) -> Result<Output, N
     }))
 }
 
-/// What a run with a worker for each tile comes to.
+/// The result of a run with a worker for each tile.
 fn outcome<R: Threads + Sync, G: Gate>(
     rt: &R,
     alloc: Global,

@@ -19,7 +19,7 @@ pub enum Status {
     JournalRefused,
     /// The sink failed.
     SinkFault,
-    /// Want of memory.
+    /// Memory ran out.
     NoMemory,
     /// A code file is refused.
     CodeRefused,

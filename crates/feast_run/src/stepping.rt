@@ -17,7 +17,7 @@ use serial_order::Outcome;
 use std::alloc::Global;
 use world_runs::{listed_order, stepped};
 
-/// What a stepped run comes to.
+/// The result of a stepped run.
 fn outcome(alloc: Global, ready: &Ready) -> Result<Outcome, NoMemory>
     requires { IsReady ready.now }
     ensures { IfOk result (IsOutcomeOf (ready_value ready.now)) }

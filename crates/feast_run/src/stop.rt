@@ -17,7 +17,7 @@ pub enum Input {
     Codes,
 }
 
-/// A refusal, and the word of the file that it stands in.
+/// A refusal, and the word of the file that it is in.
 #[derive(Clone, Copy)]
 pub struct Refused<'a> {
     pub input: Input,
@@ -32,6 +32,6 @@ pub enum Stop<'a> {
     Refused(Refused<'a>),
     /// The load of this word failed.
     Missing(&'a str),
-    /// Want of memory.
+    /// Memory ran out.
     NoMemory,
 }

@@ -49,7 +49,7 @@ fn write<K: Sink>(alloc: Global, sink: &mut K, output: &Output) -> Result<(), Wr
     }
 }
 
-/// Writes what is said, and answers its status where it is put whole.
+/// Writes what is said, and answers its status if it is put whole.
 fn put<K: Sink>(alloc: Global, sink: &mut K, said: &Said) -> Status
     requires room { K.faults sink.old < 2 ^ 64 - 1 }
     requires writable { IsWritable said.now.output }
@@ -91,44 +91,45 @@ fn call<R: Threads + Sync, F: Shelf, K: Sink, G: Gate>(
 /// - `check FILE..`: the layout of each class in the files is written.
 /// - `code FILE..`: the compiled code of each element in the files is written.
 /// - `pack FILE..`: the code file of the elements in the files is written.
-/// - `run WORLD FILE..`: the world in WORLD, of any number of tiles, is run with the elements of the
-///   files, with a worker for each tile, in a thread of its own as far as threads can be had; its
-///   report is written, in pieces of 4,096 bytes. The events stand in one serial order, that of the
-///   journal, however the workers' steps fall. Of one tile the report is one and the same each time.
+/// - `run WORLD FILE..`: the world in WORLD, of any number of tiles, is run with the elements of
+///   the files, with a worker for each tile, in a thread of its own as far as there are threads;
+///   its report is written, in pieces of 4,096 bytes. The events stand in one serial order, that of
+///   the journal, in whatever order the workers make their steps. A plane of one tile is run on the
+///   flat grid, and its report is the same each time.
 /// - `step WORLD FILE..`: the world in WORLD, of any number of tiles, is run on one thread in the
-///   order that its lines say, and then one tile after another; its report is written as that of
-///   a run.
+///   order that its lines give, and then one tile after another; its report is written as for a
+///   run.
 /// - `runpack WORLD CODE`, `steppack WORLD CODE`: the same as `run` and `step`, with the elements of
 ///   the code file CODE in place of those of element files; what acts are its codes.
-/// - `replay WORLD JOURNAL FILE..`: the events of the report in JOURNAL are made once more, one
-///   after another, from the start of the world in WORLD, and the atoms that they leave are written.
+/// - `replay WORLD JOURNAL FILE..`: the events of the report in JOURNAL are made again, one after
+///   another, from the start of the world in WORLD, and the atoms that they leave are written.
 /// - `gen N`: the world that the number N below 2^64 gives is run as `step` does, with elements of
-///   the program's own, and what it left is counted: the events, the abandoned attempts, and the
-///   atoms of each element. No file is loaded, and nothing is refused.
+///   the program's own, and a summary is written: how many events, abandoned attempts, and atoms of
+///   each element. No file is loaded, and nothing is refused.
 /// - `audit WORLD REPORT FILE..`: whether REPORT is a report of the world in WORLD, by calculation,
 ///   whoever made it: one line is written, `yes` or the first thing that does not hold, with its line.
 /// - `rewind WORLD REPORT K FILE..`: all events of REPORT are made from the start of the world, all
-///   but the first K are taken back, the last of them first, and the atoms then are written. K is up
-///   to 1,000,000.
+///   but the first K are undone, the last of them first, and the atoms are then written. K is up to
+///   1,000,000.
 ///
-/// Any other text is put in one piece, and not at all where it is empty. Any refusal is told in one
+/// Any other text is put in one piece, or not at all if it is empty. Any refusal is reported in one
 /// line, put in place of the text:
 ///
-/// - `Usage` where the words have no form.
-/// - `Unreadable` where a file can't be loaded, or is longer than its limit (268,435,456 bytes for
+/// - `Usage` if the words have no form.
+/// - `Unreadable` if a file can't be loaded, or is longer than its limit (268,435,456 bytes for
 ///   WORLD, JOURNAL, REPORT and CODE, 1,048,576 for FILE).
-/// - `ElementRefused` where the files are no set of elements.
-/// - `CodeRefused` where CODE is no code file, two of its elements have one name, or a code of it is
-///   not valid.
-/// - `WorldRefused` where WORLD says no world, names another type than an element's, or has two
+/// - `ElementRefused` if the files are not a set of elements.
+/// - `CodeRefused` if CODE is not a code file, two of its elements have one name, or one of its
+///   codes is not valid.
+/// - `WorldRefused` if WORLD is not a world, names a type that is not an element's, or has two
 ///   atoms on one site.
-/// - `JournalRefused` where JOURNAL or REPORT is no report of the world in form, or has fewer than K
-///   events.
+/// - `JournalRefused` if JOURNAL or REPORT does not have the form of a report of the world, or has
+///   fewer than K events.
 ///
 /// WORLD is loaded and read before the element files or CODE are loaded, and the element files are
 /// all loaded before the first is read. Then the names of the world's atoms are looked up, and then
-/// JOURNAL or REPORT is loaded and read. The first cause is answered. `SinkFault` comes where a put
-/// failed. `NoMemory` comes where memory is wanted; then nothing is put.
+/// JOURNAL or REPORT is loaded and read. The answer is the first cause. `SinkFault` comes if a put
+/// failed. `NoMemory` comes if memory runs out; then nothing is put.
 ///
 /// The shelf appends to its failed names only a file word whose load failed. On `run` and `runpack`
 /// each worker calls the gate before each attempt, with the tile's number and the attempt's; the

@@ -27,7 +27,7 @@ use feast_base::{Name, Shelf};
 use std::alloc::Global;
 use world_text::{RawWorld, World, WorldFault, name, read};
 
-/// A world, and the elements that its atoms are of.
+/// A world, and the elements of its atoms.
 #[derive(Drop)]
 pub struct Ready {
     pub world: World,

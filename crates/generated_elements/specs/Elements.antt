@@ -2,7 +2,8 @@
 use Rattle.std.specs.Prelude.{ℕ, List, [], ◌∷◌, codes}
 use Rattle.feast_base.specs.Outside.{File}
 
--- their source: Wander goes to one of the four nearest sites, where it is empty, and Stone does nothing
+-- their source: Wander goes to one of the four nearest sites, if it is empty, and Stone does
+-- nothing
 unfoldable pub source_text : List ℕ
 source_text = codes "element Wander { EventWindow ew; Random random; Void behave() {\n  Unsigned i = random.create(4) + 1; if (ew.isEmpty(i)) ew.swap(0, i); } }\nelement Stone { Void behave() { } }\n"
 

@@ -18,7 +18,7 @@ fn source(alloc: Global) -> Result<Source, NoMemory>
 }
 
 /// The set of the elements of generated worlds: `Wander` has the type number 1, `Stone` 2.
-/// `NoMemory` where the set can't be built or kept; nothing else refuses it.
+/// `NoMemory` if the set can't be built or kept; nothing else refuses it.
 pub fn elements(alloc: Global) -> Result<ElementSet, NoMemory>
     ensures { IfOk result (λ set. AcceptsFiles source_files (set_value set)) }
 {

@@ -1,5 +1,5 @@
-//! The elements of generated worlds: `Wander`, which goes to one of the four nearest sites where it
-//! is empty, and `Stone`, which does nothing. That no stage refuses their source is proved.
+//! The elements of generated worlds: `Wander`, which goes to one of the four nearest sites if it is
+//! empty, and `Stone`, which does nothing. That no stage refuses their source is proved.
 #![tactic(auto)]
 
 mod built;

@@ -10,7 +10,7 @@ use Rattle.world_text.specs.declared.world.Placed.{Placed}
 abbrev pub plane : MapValue
 plane = whole_plane 4 4 16 16
 
--- a seed so many behind a number, which goes around at 2 ^ 64
+-- a seed this far after a number, modulo 2 ^ 64
 abbrev pub seed_behind : ℕ → ℕ → ℕ
 seed_behind number k = (number + k) % 2 ^ 64
 
@@ -18,13 +18,15 @@ seed_behind number k = (number + k) % 2 ^ 64
 abbrev pub placed_at : ℕ → ℕ → Placed
 placed_at place kind = record { x = place % 64; y = place / 64; atom = record { kind = kind; state = 0 } }
 
--- what a word puts on the site of a place, by what is left of it when it is divided by 8: an atom of type 1, of type 2, or none
+-- what a word puts on the site of a place, by its remainder modulo 8: an atom of type 1, of type 2,
+-- or none
 abbrev pub put_by : ℕ → ℕ → List Placed
 put_by place zero = placed_at place 1 ∷ []
 put_by place (suc zero) = placed_at place 2 ∷ []
 put_by place (suc (suc rest)) = []
 
--- the atoms of the first so many sites in row order, each of which takes the next word of the seed's generator
+-- the atoms of the first n sites in row order, each of which takes the next word of the seed's
+-- generator
 unfoldable pub drawn_atoms : (seed sites : ℕ) → List Placed
 drawn_atoms seed sites = flat_map (λ place. put_by place (tile_word seed place % 8)) (range_with_len 0 sites)
 

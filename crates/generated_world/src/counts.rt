@@ -21,7 +21,7 @@ fn count_kind(grid: &Grid, kind: u16) -> u64
 
 /// The summary of what the run of the world of a number left: the number, how many events and
 /// abandoned attempts there were, and how many atoms of types 1 and 2, `Wander` and `Stone`, there
-/// are at the end. `NoMemory` where there is none for the text.
+/// are at the end. `NoMemory` if there is none for the text.
 pub fn summary(
     alloc: Global,
     number: u64,

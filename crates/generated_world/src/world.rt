@@ -46,7 +46,7 @@ fn put(atoms: &mut Vec<Placed>, place: u32, number: u32) -> Result<(), NoMemory>
     Ok(())
 }
 
-/// Puts atoms on the sites of two places, one behind the other.
+/// Puts atoms on the sites of two places, one after the other.
 fn put_two(atoms: &mut Vec<Placed>, place: u32, one: u32, other: u32) -> Result<(), NoMemory>
     requires { place < 4096 }
     ensures { OnOk result (atoms.new.items ≡ atoms.old.items ++ (put_by place one ++ put_by (place + 1) other)) }
@@ -95,8 +95,8 @@ fn drawn_world(alloc: Global, number: u64) -> Result<World, NoMemory>
 }
 
 /// The world of a number: 4 by 4 tiles of 16 by 16 sites, whose plan, order and atoms are drawn.
-/// Of eight sites about one has a `Wander` (type 1), one a `Stone` (type 2), and the others nothing.
-/// `NoMemory` where there is none for the marks of its tiles or for its atoms.
+/// About one of eight sites has a `Wander` (type 1), one a `Stone` (type 2), and the others
+/// nothing. `NoMemory` if there is none for the marks of its tiles or for its atoms.
 pub fn generated(alloc: Global, number: u64) -> Result<World, NoMemory>
     ensures value { IfOk result (λ w. world_value w ≡ generated number) }
     ensures world { IfOk result (λ w. IsWorld (world_value w)) }

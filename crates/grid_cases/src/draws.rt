@@ -1,5 +1,5 @@
-//! Worked values. They were worked out apart from this crate, from the published description of
-//! the generators.
+//! Worked values. They were computed apart from this crate, from the published description of the
+//! generators.
 
 use draw_stream::{Attempt, AttemptPlan, Attempts, EventDraws, Script, TileStream};
 use std::test::Fail;
@@ -57,7 +57,7 @@ fn is_followed(attempts: &mut Attempts, expected: &[Attempt]) -> bool {
     attempts.next().is_none()
 }
 
-/// The first attempts of tile 0, where the seed is 7 and a tile has 256 sites.
+/// The first attempts of tile 0, with seed 7 and 256 sites a tile.
 const OF_TILE_0: [Attempt; 4] = [
     Attempt {
         centre: 61,

@@ -1,4 +1,4 @@
-//! Worked grids. The windows were worked out apart from this crate, from the sorted offsets.
+//! Worked grids. The windows were computed apart from this crate, from the sorted offsets.
 
 ghost use Rattle.std.specs.Prelude.{◌≡◌};
 ghost use Rattle.cell_grid.specs.Tried.{after_turn, idle-turn};
@@ -9,11 +9,11 @@ use std::alloc::Global;
 use std::process::Abort;
 use window_sites::Window;
 
-/// Stands for a site that is not live or not of the plane.
+/// Stands for a site that is not live or not on the plane.
 const OUT: u128 = 192;
 
 /// The centres of some windows of the numbered grid, and the states of their 41 sites. The first
-/// two lie as far from the borders and from what is shut as a window needs.
+/// two are as far from the borders and from what is shut as a window needs.
 const WINDOWS: [(u32, u32, [u128; 41]); 10] = [
     (
         5,

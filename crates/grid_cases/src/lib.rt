@@ -1,6 +1,6 @@
-//! Windows, the streams of what tiles and events draw, and grids, worked out apart from the code. The
-//! crate has tests alone; they stand above these crates, so that none of them is proved once more for
-//! their sake.
+//! Windows, the streams of what tiles and events draw, and grids, computed apart from the code. The
+//! crate has only tests; they are above these crates, so that none of these is proved again because
+//! of a test.
 #![tactic(auto)]
 
 #[cfg(test)]

@@ -53,8 +53,8 @@ fn only_live_sites_change(rt: HostRuntime) {
     assert_eq!(rt; (window.is_live(0), window.is_live(1)), (true, false));
 }
 
-/// The places of the 41 sites in rows of 12, where the first row and column begin at place 5:
-/// worked out apart from this crate, from the sorted offsets.
+/// The places of the 41 sites in rows of 12, if the first row and column begin at place 5: computed
+/// apart from this crate, from the sorted offsets.
 const PLACES: [u8; 41] = [
     57, 56, 45, 69, 58, 55, 44, 68, 33, 81, 46, 70, 59, 54, 43, 67, 32, 80, 21, 93, 34, 82, 47, 71,
     60, 53, 42, 66, 31, 79, 20, 92, 9, 105, 22, 94, 35, 83, 48, 72, 61,

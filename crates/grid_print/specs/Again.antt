@@ -20,15 +20,17 @@ AreFormed names = All (λ n. is_type_name n ≡ true) names
 abbrev pub IsDrawable : MapValue → Attempt → Type 0
 IsDrawable m a = (a.centre < m.w * m.h) × IsWord a.seed
 
--- a plan for the tiles of a plane: each tile has its list of attempts, and there are at most 1,000,000 over all
+-- a plan for the tiles of a plane: each tile has its list of attempts, and there are at most
+-- 1,000,000 in total
 pub record IsPlanOf (m : MapValue) (plan : PlanValue) : Type 0 where
   pub map : IsMap m
   pub lists : length plan.lists ≡ tiles_of m
   pub few : sum_by length plan.lists ≤ 1000000
   pub attempts : (t : ℕ) → All (IsDrawable m) (attempts plan t)
 
--- what a run of a plan left, and owes: a grid of the plane whose atoms are empty or have a name, and a journal in which each
--- attempt is accounted for, each stamp is that of the rule, and each abandoned attempt is excused
+-- what a run of a plan left, and what holds of it: a grid of the plane whose atoms are empty or
+-- have a name, and a journal in which each attempt is accounted for, each stamp is that of the
+-- rule, and each abandoned attempt is excused
 pub record IsLeft (names : List (List ℕ)) (m : MapValue) (plan : PlanValue) (g : GridValue) (records : List Record) (abandoned : List Abandoned) : Type 0 where
   pub wide : g.width ≡ m.tx * m.w
   pub sites : length g.atoms ≡ m.tx * m.w * (m.ty * m.h)

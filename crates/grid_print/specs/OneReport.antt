@@ -1,4 +1,4 @@
--- Reports of equal bytes.
+-- Reports with equal bytes.
 use Rattle.std.specs.Prelude.{ℕ, ◌≡◌, ◌≢◌, ◌^◌, ◌<◌, ◌≤◌, List, All, AllPairs, length, true}
 use Rattle.bit_field.specs.Atom.{AtomValue, IsAtom}
 use Rattle.cell_grid.specs.Grid.{GridValue}
@@ -27,7 +27,8 @@ AreAbandonedWords a = IsWord a.tile × IsWord a.attempt × IsWord a.x × IsWord 
 abbrev pub AreWords : LogValue → Type 0
 AreWords l = All AreRecordWords l.records × All AreAbandonedWords l.abandoned
 
--- what a report is made of: a grid of a width and so many sites, whose atoms are empty or have a name, and entries of words
+-- what a report is made of: a grid of a width and this many sites, whose atoms are empty or have a
+-- name, and entries of words
 pub record IsReported (names : List (List ℕ)) (g : GridValue) (r : List Record) (a : List Abandoned) : Type 0 where
   pub wide : 1 ≤ g.width
   pub sites : IsWord (length g.atoms)

@@ -17,7 +17,7 @@ pub record Shown : Type 0 where
 abbrev pub shown_at : ℕ → ℕ → AtomValue → Shown
 shown_at width i a = record { x = i % width; y = i / width; atom = a }
 
--- the atom of place i, where it is not empty
+-- the atom of place i, if it is not empty
 abbrev pub shown_one : ℕ → ℕ → AtomValue → List Shown
 shown_one width i a = if a.kind == 0 then [] else shown_at width i a ∷ []
 

@@ -6,11 +6,11 @@ ghost use Rattle.grid_print.specs.Writing.{PutsAll};
 
 use feast_base::{Sink, SinkFailed};
 
-/// How many bytes each piece has but the last.
+/// How many bytes each piece but the last has.
 const PIECE: usize = 4096;
 
-/// Puts a piece of 4,096 bytes, or of 1 to 4,096 where it is the last one: `rest` is what comes
-/// behind it.
+/// Puts a piece of 4,096 bytes, or of 1 to 4,096 if it is the last one: `rest` is what comes after
+/// it.
 fn put_piece<K: Sink>(sink: &mut K, piece: &[u8], rest: &[u8]) -> Result<(), SinkFailed>
     requires room { K.faults sink.old < 2 ^ 64 - 1 }
     requires some { 1 ≤ length piece.now }
@@ -24,7 +24,8 @@ fn put_piece<K: Sink>(sink: &mut K, piece: &[u8], rest: &[u8]) -> Result<(), Sin
     sink.put(piece)
 }
 
-/// Puts bytes in pieces: each has 4,096 bytes but the last, which has 1 to 4,096.
+/// Puts bytes in pieces: each has 4,096 bytes except the last, which has 1 to 4,096. No clause of a
+/// sink can say how a text was cut into puts, so `put_piece` requires these sizes.
 pub(crate) fn put_pieces<K: Sink>(sink: &mut K, bytes: &[u8]) -> Result<(), SinkFailed>
     requires { K.faults sink.old < 2 ^ 64 - 1 }
     ensures { PutsAll (told K.written K.faults K.may_fail sink.old) (told K.written K.faults K.may_fail sink.new) bytes.now result }

@@ -33,7 +33,7 @@ fn name_of(names: &[Name], kind: u16) -> &[u8]
     names[kind as usize - 1].bytes()
 }
 
-/// Appends the line of an atom at a place in row order, where it is not empty.
+/// Appends the line of an atom at a place in row order, if it is not empty.
 fn push_atom(
     out: &mut Vec<u8>,
     names: &[Name],
@@ -74,8 +74,8 @@ fn push_atoms(out: &mut Vec<u8>, names: &[Name], width: u32, atoms: &[Atom]) -> 
 }
 
 /// Appends how many atoms of a grid are not empty, and a line for each of them in row order. Each
-/// atom is empty or its type has a name: type numbers count the names from 1. `NoMemory` where
-/// `out` can't grow.
+/// atom is empty or its type has a name: type numbers count the names from 1. `NoMemory` if `out`
+/// can't grow.
 pub fn atoms(grid: &Grid, names: &[Name], out: &mut Vec<u8>) -> Result<(), NoMemory>
     requires { AreNamed names.now grid.now.atoms }
     ensures { Appends out.old.items out.new.items result (atoms_text names.now grid.now) }

@@ -26,12 +26,12 @@ fn text(alloc: Global, grid: &Grid, journal: &Journal, names: &[Name]) -> Result
     Ok(out)
 }
 
-/// Puts the report of a run: its grid's atoms and its journal. Each atom is empty or its type has
-/// a name: type numbers count the names from 1. All memory is taken before the first put, and the
-/// pieces that are put have 4,096 bytes each but the last, which has 1 to 4,096.
+/// Puts the report of a run: its grid's atoms and its journal. Each atom is empty or its type has a
+/// name: type numbers count the names from 1. All memory is allocated before the first put, and the
+/// pieces that are put have 4,096 bytes each except the last, which has 1 to 4,096.
 ///
-/// `Sink` only where the sink failed in this call; it then has a first part of the report.
-/// `NoMemory` where there was none for the text; then nothing was put.
+/// `Sink` only if the sink failed in this call; it then has a first part of the report. `NoMemory`
+/// if there was none for the text; then nothing was put.
 pub fn write_report<K: Sink>(
     alloc: Global,
     grid: &Grid,

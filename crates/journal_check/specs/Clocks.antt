@@ -16,7 +16,7 @@ pub record IsInside (m : MapValue) (r : Record) : Type 0 where
 abbrev pub needs_edge : MapValue → ℕ → Record → Bool
 needs_edge m e r = list_any (λ f. f == e) (edges_of m r)
 
--- the greatest stamp of those events that pass a test, and 0 where none does
+-- the greatest stamp of those events that pass a test, or 0 if none does
 abbrev pub latest : (Record → Bool) → List Record → ℕ
 latest p records = fold (λ greatest (s : Record). max greatest s.stamp) 0 (filter p records)
 
@@ -31,12 +31,13 @@ pub record AreClocks (m : MapValue) (before : List Record) (tiles edges : List �
 abbrev pub set_at : List ℕ → List ℕ → ℕ → List ℕ → Type 0
 set_at old es stamp new = (e : ℕ) → e < length old → slice_index new e ≡ (if list_any (λ f. f == e) es then stamp else slice_index old e)
 
--- true where the event's stamp is that after those before, and then the clocks are those after it; false where it is not
+-- true if the event's stamp is the one that follows from those before, and then the clocks are
+-- those after it; false if it is not
 abbrev pub Ticks : MapValue → List Record → Record → List ℕ → List ℕ → Bool → Type 0
 Ticks m before r tiles edges true = (r.stamp ≡ stamp_after m before r) × AreClocks m (before ++ r ∷ []) tiles edges
 Ticks m before r tiles edges false = r.stamp ≢ stamp_after m before r
 
--- event k has the stamp that those before it give
+-- event k has the stamp that follows from those before it
 abbrev pub HasStamp : MapValue → List Record → ℕ → Type 0
 HasStamp m records k = (d : Record) → (slice_index_or records k d).stamp ≡ stamp_after m (take k records) (slice_index_or records k d)
 

@@ -17,7 +17,7 @@ pub record IsGoneInside (m : MapValue) (g : Abandoned) : Type 0 where
   pub column : g.x < m.tx * m.w
   pub row : g.y < m.ty * m.h
 
--- whether an abandoned attempt stands before this attempt of the tile
+-- whether an abandoned attempt comes before this attempt of the tile
 abbrev pub is_earlier : ℕ → ℕ → Abandoned → Bool
 is_earlier t i g = nat_lt g.tile t || (g.tile == t && nat_lt g.attempt i)
 

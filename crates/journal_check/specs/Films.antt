@@ -40,7 +40,7 @@ UndoesAll = (after : WindowValue → ℕ → WindowValue) (g : GridValue) (recor
 abbrev pub CanUndo : FilmValue → GridValue → Type 0
 CanUndo film g = (kept : List Kept) (k : Kept) → film.kept ≡ kept ++ k ∷ [] → IsLive g k.x k.y
 
--- what comes of undoing the last event: true where one was kept, and false where none was
+-- the result of undoing the last event: true if one was kept, and false if none was
 abbrev pub Undoes : FilmValue → FilmValue → GridValue → GridValue → Bool → Type 0
 Undoes old new g h true = (k : Kept) × (old.kept ≡ new.kept ++ k ∷ []) × (new.spare ≡ old.spare + 1) × (h ≡ restored g k)
 Undoes old new g h false = (old.kept ≡ []) × (new ≡ old) × (h ≡ g)

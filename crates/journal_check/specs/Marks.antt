@@ -27,7 +27,7 @@ pub record AreMarks (m : MapValue) (records : List Record) (table : List (List M
   pub many : length table ≡ length (pairs_of m) * tiles_of m
   pub each : (e t : ℕ) → e < length (pairs_of m) → t < tiles_of m → lane m table e t ≡ marks_on m t e records
 
--- a mark was appended to the lists of a tile, of n in all, and of each of some edges
+-- a mark was appended to the lists of a tile, one of n, at each of some edges
 abbrev pub AddsMark : List (List Mark) → List ℕ → ℕ → ℕ → Mark → List (List Mark) → Type 0
 AddsMark old es n t mark new = (k : ℕ) → k < length old → slice_index_or new k [] ≡ slice_index_or old k [] ++ (if list_any (λ e. e * n + t == k) es then mark ∷ [] else [])
 
@@ -38,7 +38,7 @@ Rises a b = (a.attempt < b.attempt) × (a.stamp < b.stamp)
 abbrev pub AreRising : List Mark → Type 0
 AreRising marks = AllPairs Rises marks
 
--- so many of some marks are of attempts before one, and the others are not
+-- the first n of some marks are of attempts before one, and the others are not
 pub record IsSplit (marks : List Mark) (attempt k : ℕ) : Type 0 where
   pub bound : k ≤ length marks
   pub before : AllWithin (λ (a : Mark). a.attempt < attempt) marks 0 k

@@ -1,4 +1,4 @@
--- What is left of the lists of entries once one was taken.
+-- What is left of the lists of entries after one was taken.
 use Rattle.std.specs.Prelude.{ℕ, ◌≡◌, Bool, false, List, [], ◌∷◌, Option, Some, None}
 use denote.Ref.{Bor}
 use Rattle.cell_grid.specs.declared.record.Record.{Record}
@@ -14,7 +14,7 @@ abbrev pub IsFirstGone : ℕ → List Abandoned → Type 0
 IsFirstGone t [] = Unit {0}
 IsFirstGone t (g ∷ gs) = g.tile ≡ t
 
--- whether the tile's entries that are left pass a test, where an entry was taken
+-- whether the tile's entries that are left pass a test, if an entry was taken
 abbrev pub passes : ℕ → (List Record → List Abandoned → Bool) → Option (Bor (List Record) × Bor (List Abandoned)) → Bool
 passes t rest None = false
 passes t rest (Some p) = rest (of_tile t p.0.now) (gone_of t p.1.now)

@@ -6,7 +6,8 @@ use Rattle.draw_stream.specs.Plans.{PlanValue, attempts}
 use Rattle.tile_map.specs.Plane.{MapValue, site_in, tiles_of, is_on}
 use Rattle.event_journal.specs.declared.abandoned.Abandoned.{Abandoned}
 
--- the plan of a plane: a list for each tile, none of a tile that is off, and each attempt at a position of its tile's rectangle
+-- the plan of a plane: a list for each tile, empty for a tile that is off, and each attempt at a
+-- position of its tile's rectangle
 pub record IsPlanOf (m : MapValue) (plan : PlanValue) : Type 0 where
   pub lists : length plan.lists ≡ tiles_of m
   pub on : (t : ℕ) → 0 < length (attempts plan t) → is_on m t ≡ true

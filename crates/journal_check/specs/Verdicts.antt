@@ -13,8 +13,9 @@ use Rattle.journal_check.specs.Excuses.{IsFirstUnexcused}
 use Rattle.journal_check.specs.declared.verdict.Verdict.{Verdict}
 use Rattle.journal_check.specs.declared.verdict.Verdict.TheVariants.{Yes, NotAccounted, NotStamped, NotExcused}
 
--- yes: each attempt is accounted for, each event has its stamp and each abandoned attempt is excused, and the grid is what the
--- events leave of the start. Else the first of the three that does not hold, with its first event or abandoned attempt.
+-- yes: each attempt is accounted for, each event has its stamp and each abandoned attempt is
+-- excused, and the grid is what the events make of the start. Otherwise the first of the three that
+-- does not hold, with its first event or abandoned attempt.
 abbrev pub IsVerdict : MapValue → PlanValue → (WindowValue → ℕ → WindowValue) → GridValue → List Record → List Abandoned → Verdict → Type 0
 IsVerdict m plan after start records abandoned (Yes grid) =
     IsAccounted m plan records abandoned × IsStamped m records × AreExcused m plan records abandoned × (grid ≡ replay after start records)

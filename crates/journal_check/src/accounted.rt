@@ -16,7 +16,7 @@ use feast_base::NoMemory;
 use std::alloc::Global;
 use tile_map::Map;
 
-/// Whether the events stand in the order of a journal.
+/// Whether the events are in the order of a journal.
 fn are_in_order(records: &[Record]) -> bool
     ensures { Decides result (AllPairs Precedes records.now) }
 {
@@ -28,14 +28,14 @@ fn are_in_order(records: &[Record]) -> bool
     true
 }
 
-/// Whether an abandoned attempt stands before another: by tile, and then by attempt.
+/// Whether an abandoned attempt comes before another: by tile, and then by attempt.
 fn comes_before(first: &Abandoned, second: &Abandoned) -> bool
     ensures { Decides result (ComesBefore first.now second.now) }
 {
     first.tile < second.tile || (first.tile == second.tile && first.attempt < second.attempt)
 }
 
-/// Whether the abandoned attempts stand by tile and then attempt.
+/// Whether the abandoned attempts are ordered by tile and then attempt.
 fn are_sorted(abandoned: &[Abandoned]) -> bool
     ensures { Decides result (AllPairs ComesBefore abandoned.now) }
 {
@@ -47,7 +47,7 @@ fn are_sorted(abandoned: &[Abandoned]) -> bool
     true
 }
 
-/// Whether the events are of the first so many tiles.
+/// Whether the events are of the first n tiles.
 fn are_of_tiles(records: &[Record], tiles: u32) -> bool
     ensures { Decides result (All (λ (r : Record). r.tile < tiles) records.now) }
 {
@@ -59,7 +59,7 @@ fn are_of_tiles(records: &[Record], tiles: u32) -> bool
     true
 }
 
-/// Whether the abandoned attempts are of the first so many tiles.
+/// Whether the abandoned attempts are of the first n tiles.
 fn are_gone_of_tiles(abandoned: &[Abandoned], tiles: u32) -> bool
     ensures { Decides result (All (λ (g : Abandoned). g.tile < tiles) abandoned.now) }
 {
@@ -71,9 +71,9 @@ fn are_gone_of_tiles(abandoned: &[Abandoned], tiles: u32) -> bool
     true
 }
 
-/// Whether each attempt of each tile has one entry, an event or an abandoned attempt, at its site and
-/// with its seed, and there are no others; both lists are in order, and of two events of a tile the
-/// later attempt has the greater stamp. `NoMemory` where there is none for the attempts of a tile.
+/// Whether each attempt of each tile has one entry, an event or an abandoned attempt, at its site
+/// and with its seed, and there are no others; both lists are in order, and of two events of a tile
+/// the later attempt has the greater stamp. `NoMemory` if there is none for the attempts of a tile.
 pub(crate) fn is_accounted(
     alloc: Global,
     map: &Map,

@@ -1,4 +1,4 @@
-//! A grid once more.
+//! A copy of a grid.
 ghost use Rattle.std.specs.Prelude.{◌≡◌, IfOk};
 ghost use Rattle.serial_order.specs.Outcomes.{IsPlaneGrid};
 
@@ -8,7 +8,7 @@ use serial_order::blank_grid;
 use std::alloc::Global;
 use tile_map::Map;
 
-/// A grid of a map's plane once more. `NoMemory` where there is none for it.
+/// A copy of a grid of a map's plane. `NoMemory` if there is none for it.
 pub(crate) fn copied(alloc: Global, map: &Map, grid: &Grid) -> Result<Grid, NoMemory>
     requires { IsPlaneGrid map.now grid.now }
     ensures { IfOk result (λ g. g ≡ grid.now) }

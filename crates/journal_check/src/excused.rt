@@ -60,7 +60,7 @@ fn has_mark(marks: &[Mark], attempt: u64) -> bool
     marks[place].attempt == attempt
 }
 
-/// How many abandoned attempts stand before an attempt of a tile.
+/// How many abandoned attempts come before an attempt of a tile.
 fn earlier(abandoned: &[Abandoned], tile: u32, attempt: u64) -> usize
     requires { AllPairs ComesBefore abandoned.now }
     ensures bound { result ≤ length abandoned.now }
@@ -166,8 +166,8 @@ fn is_excused(map: &Map, table: &[Marks], abandoned: &[Abandoned], entry: &Aband
     are_apart(other, held + 1, own, attempt + 1)
 }
 
-/// The first abandoned attempt that is not excused. `NoMemory` where there is none for the events
-/// of each edge.
+/// The first abandoned attempt that is not excused. `NoMemory` if there is none for the events of
+/// each edge.
 pub(crate) fn unexcused(
     alloc: Global,
     map: &Map,

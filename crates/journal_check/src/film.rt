@@ -1,4 +1,4 @@
-//! Events that can be taken back.
+//! Events that can be undone.
 ghost use Rattle.std.specs.Prelude.{◌≡◌, ◌<◌, ◌+◌, ◌∷◌, ◌++◌, [], IfOk};
 ghost use Rattle.cell_grid.specs.Grid.{ArePlanesAlike, IsLive, event};
 ghost use Rattle.journal_check.specs.Films.{CanUndo, Undoes, film_value, kept_of};
@@ -9,8 +9,8 @@ use feast_base::NoMemory;
 use std::alloc::Global;
 use std::marker::Model;
 
-/// Events that were made on a grid, in their order, and room for so many more. Contracts see the
-/// list of them, each as its centre and the window before it, and how many more there is room for.
+/// Events that were made on a grid, in their order, and room for some more. Contracts see the list
+/// of them, each as its centre and the window before it, and how many more there is room for.
 #[derive(Drop)]
 pub struct Film {
     kept: Vec<Kept>,
@@ -30,8 +30,8 @@ impl Model for Film {
 }
 
 impl Film {
-    /// A film that keeps no event yet and has room for so many. It takes all its memory here, 720
-    /// bytes an event; `NoMemory` where there is none.
+    /// A film that keeps no event yet and has room for `room` of them. All its memory is allocated
+    /// here, 720 bytes an event; `NoMemory` if there is none.
     pub fn new(alloc: Global, events: usize) -> Result<Film, NoMemory>
         ensures { IfOk result (λ f. f ≡ film_value [] events) }
     {
@@ -41,14 +41,14 @@ impl Film {
         })
     }
 
-    /// For how many more events there is room.
+    /// How many more events there is room for.
     pub fn spare(&self) -> usize
         ensures { result ≡ self.now.spare }
     {
         self.spare
     }
 
-    /// Keeps one event more.
+    /// Keeps one more event.
     fn keep(&mut self, event: Kept)
         requires { 0 < self.old.spare }
         ensures kept { self.new.kept ≡ self.old.kept ++ event ∷ [] }
@@ -60,8 +60,8 @@ impl Film {
         }
     }
 
-    /// Makes the event of a record on a grid, where its centre is a live site, and keeps it. There
-    /// is room for it.
+    /// Makes the event of a record on a grid, if its centre is a live site, and keeps it. There is
+    /// room for it.
     pub fn apply<B: Behave>(&mut self, grid: &mut Grid, entry: &Record, behave: &mut B)
         requires spare { 0 < self.old.spare }
         requires live { IsLive grid.old entry.now.x entry.now.y }
@@ -79,9 +79,9 @@ impl Film {
         grid.event(entry.x, entry.y, entry.seed, behave);
     }
 
-    /// Takes the last event back: each live site of its window has again the atom that it had
-    /// before, and all other sites stay. The centre of that event is a live site of the grid. False
-    /// exactly where no event is kept, and then nothing changes.
+    /// Undoes the last event: each live site of its window has again the atom that it had before,
+    /// and all other sites stay. The centre of that event is a live site of the grid. False exactly
+    /// when no event is kept, and then nothing changes.
     pub fn undo(&mut self, grid: &mut Grid) -> bool
         requires { CanUndo self.old grid.old }
         ensures undoes { Undoes self.old self.new grid.old grid.new result }

@@ -1,8 +1,8 @@
 //! What holds of films.
 ghost use Rattle.journal_check.specs.Films.{UndoesAll};
 
-/// Whatever events are made on a grid and then taken back, the last of them first, the grid is what
-/// it was. The call does nothing: its contract is the law.
+/// Whatever events are made on a grid and then undone, the last of them first, the grid is what it
+/// was. The call does nothing: its contract is the law.
 pub fn films()
     ensures { UndoesAll }
 {}

@@ -3,8 +3,8 @@
 //! `audit` decides by calculation whether the events and the abandoned attempts of a report, of
 //! whatever origin, are accounted for, stamped and excused, and gives the grid of their replay.
 //!
-//! A film keeps of each event that it makes the window before it, and can take the events back, the
-//! last of them first.
+//! A film keeps the window before each event that it makes, and can undo the events, the last of
+//! them first.
 #![tactic(auto)]
 
 mod accounted;

@@ -50,7 +50,7 @@ fn set(clocks: &mut [u32], needs: &Needs, stamp: u32)
     }
 }
 
-/// Moves the clocks on by an event, where its stamp is 1 more than the greatest of those of its tile
+/// Advances the clocks by an event, if its stamp is 1 more than the greatest of those of its tile
 /// and of the edges that it needs.
 fn tick(map: &Map, clocks: &mut Clocks, entry: &Record) -> bool
     requires inside { IsInside map.now entry.now }
@@ -70,7 +70,7 @@ fn tick(map: &Map, clocks: &mut Clocks, entry: &Record) -> bool
 }
 
 /// The first event whose stamp is not 1 more than the greatest of those before it that are linked
-/// with it. `NoMemory` where there is none for the clocks.
+/// with it. `NoMemory` if there is none for the clocks.
 pub(crate) fn misstamped(
     alloc: Global,
     map: &Map,

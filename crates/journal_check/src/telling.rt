@@ -60,8 +60,8 @@ fn is_event(map: &Map, tile: u32, attempt: &Attempt, entry: &Record) -> bool
     is_at(map, tile, attempt.centre, entry.x, entry.y) && attempt.seed == entry.seed
 }
 
-/// The events and the abandoned attempts of a tile behind those of an attempt, where the next that
-/// the tile gave up is the attempt of this number. The first of both lists are of the tile.
+/// The events and the abandoned attempts of a tile after those of an attempt, if the next that the
+/// tile gave up is the attempt of this number. The first of both lists are of the tile.
 fn passed_gone<'a>(
     map: &Map,
     tile: u32,
@@ -88,8 +88,8 @@ fn passed_gone<'a>(
     }
 }
 
-/// The events and the abandoned attempts of a tile behind those of an attempt, where its number is
-/// that of the tile's next event, or else of the next that the tile gave up, and that entry is right.
+/// The events and the abandoned attempts of a tile after those of an attempt, if its number is that
+/// of the tile's next event, or else of the next that the tile gave up, and that entry is right.
 fn passed<'a>(
     map: &Map,
     tile: u32,

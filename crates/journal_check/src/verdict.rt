@@ -1,16 +1,16 @@
-//! What is said of a report.
+//! The verdict on a report.
 
 use cell_grid::Grid;
 
-/// What an audit says of a report: yes, or the first thing that does not hold.
+/// The verdict of an audit on a report: yes, or the first thing that does not hold.
 #[derive(Drop)]
 pub enum Verdict {
     /// Each attempt is accounted for, each event has the stamp that its links give, and each
-    /// abandoned attempt is excused. This is the grid that the events leave of the start.
+    /// abandoned attempt is excused. This is the grid that the events make of the start.
     Yes(Grid),
     /// Some attempt has no entry, two, or a wrong one, or the entries are not in order.
     NotAccounted,
-    /// The event at this position, from 0, is the first with another stamp than its links give.
+    /// The event at this position, from 0, is the first with a stamp other than its links give.
     NotStamped(u64),
     /// The abandoned attempt at this position, from 0, is the first that is not excused.
     NotExcused(u64),

@@ -1,3 +1,3 @@
 //! Lemmas on truth values and lists that the proofs of several crates cite. It knows nothing of the
-//! simulator, and it has no code: all of it stands in `proofs/`.
+//! simulator and has no code: everything is in `proofs/`.
 #![tactic(auto)]

@@ -26,8 +26,9 @@ pub record IsAlone (m : MapValue) (plan : PlanValue) : Type 0 where
   pub lists : length plan.lists ≡ 1
   pub centres : All (λ (a : Attempt). a.centre < m.w * m.h) (attempts plan 0)
 
--- what a journal of events without an abandoned attempt owes: each attempt of the plan is accounted for, the stamps are
--- those of the events before that are linked, and no attempt was given up
+-- what holds of a journal of events without an abandoned attempt: each attempt of the plan is
+-- accounted for, the stamps are those of the events before that are linked, and no attempt was
+-- given up
 pub record OwesNothing (m : MapValue) (plan : PlanValue) (records : List Record) : Type 0 where
   pub accounted : IsAccounted m plan records []
   pub stamped : IsStamped m records

@@ -67,8 +67,8 @@ fn journal_of(alloc: Global, records: Vec<Record>) -> Result<Journal, NoMemory>
 }
 
 /// The journal of a plane of one tile with these attempts: each is an event, and none is given up.
-/// The gate is called before each, with the number of the tile, which is 0, and that of the attempt.
-/// `NoMemory` where there is none for the events.
+/// The gate is called before each, with the number of the tile, which is 0, and that of the
+/// attempt. `NoMemory` if there is none for the events.
 pub fn journal<G: Gate>(
     alloc: Global,
     map: &Map,

@@ -1,5 +1,5 @@
-//! The journal of a plane of one tile: no attempt is given up, so each is an event, in the order
-//! of the attempts. Its gate is called before each, as that of a worker is.
+//! The journal of a plane of one tile: no attempt is given up, so each is an event, in the order of
+//! the attempts. Its gate is called before each, as a worker's is.
 #![tactic(auto)]
 
 mod attempts;

@@ -40,7 +40,7 @@ fn counted(atom: Atom) -> Atom
     }
 }
 
-/// The number of the site to which an atom goes after so many events.
+/// The number of the site to which an atom goes after this many events.
 fn next_site(events: u128) -> u8
     ensures value { result ≡ next_site events }
     ensures bound { result ≤ 40 }

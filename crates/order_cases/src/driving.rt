@@ -54,7 +54,7 @@ fn step<B: Behave>(map: &Map, tiles: &mut [Tile<B>], board: &mut PlainBoard, til
     tiles[tile as usize].advance(map, board);
 }
 
-/// One step of a tile; nothing where the number is no tile's.
+/// One step of a tile; nothing if no tile has the number.
 fn step_named<B: Behave>(map: &Map, tiles: &mut [Tile<B>], board: &mut PlainBoard, tile: u32)
     requires { IsDriven B.after map.now tiles.old board.old }
     ensures { IsDriven B.after map.now tiles.new board.new }
@@ -113,7 +113,7 @@ fn are_finished<B: Behave>(tiles: &[Tile<B>]) -> bool
     true
 }
 
-/// What a run has come to whose tiles acted on one board. None where a tile is not finished.
+/// The result of a run whose tiles acted on one board. None if a tile is not finished.
 pub fn settled<B: Behave + Drop>(
     alloc: Global,
     map: &Map,

@@ -1,5 +1,5 @@
 //! Tests of settling: worked runs on the board of one thread, with their atoms and their journals.
-//! They stand above the order of events, so that it is proved once.
+//! They are above the order of events, so that it is proved once.
 #![tactic(auto)]
 
 mod acts;

@@ -1,4 +1,4 @@
-//! Worked runs, with the atom and the journal that they come to.
+//! Worked runs, with the resulting atom and journal.
 use crate::acts::{Turner, Walker};
 use crate::plans::{Shape, Try};
 use crate::runs::run;
@@ -30,7 +30,7 @@ fn at(tile: u32, x: u32, y: u32) -> Try {
     Try { tile, x, y }
 }
 
-/// The place and the state of the one atom of a grid; none where there is no atom, or a second one.
+/// The place and the state of the one atom of a grid; none if there is no atom, or more than one.
 fn lone(grid: &Grid) -> Option<(usize, u128)> {
     let mut found = None;
     for (place, atom) in grid.atoms().iter().enumerate() {

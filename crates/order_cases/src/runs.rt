@@ -13,7 +13,7 @@ use serial_order::{Outcome, blank_grid};
 use std::alloc::Global;
 use tile_map::Map;
 
-/// Gives a site of a grid an atom of type 1 and state 0, where the site is live.
+/// Gives a site of a grid an atom of type 1 and state 0, if the site is live.
 fn put(map: &Map, grid: &mut Grid, x: u32, y: u32)
     requires { IsPlaneGrid map.now grid.old }
     ensures { IsPlaneGrid map.now grid.new }
@@ -25,7 +25,7 @@ fn put(map: &Map, grid: &mut Grid, x: u32, y: u32)
     grid.set(x, y, Atom::new(1, 0));
 }
 
-/// A grid of a map's plane with one atom, of type 1 and state 0, where the site is live.
+/// A grid of a map's plane with one atom, of type 1 and state 0, if the site is live.
 fn start(alloc: Global, map: &Map, x: u32, y: u32) -> Result<Grid, NoMemory>
     ensures { IfOk result (λ g. IsPlaneGrid map.now g) }
 {
@@ -36,7 +36,7 @@ fn start(alloc: Global, map: &Map, x: u32, y: u32) -> Result<Grid, NoMemory>
 
 /// A run of a plane without tiles that are off: one atom of type 1 and state 0 at the site, the
 /// attempts in their order, steps of the tiles that `order` names, and then of one tile after
-/// another. None where some tile is not finished by then.
+/// another. None if some tile is not finished by then.
 pub fn run<B: Behave + Copy + Drop>(
     alloc: Global,
     shape: Shape,

@@ -1,4 +1,4 @@
--- An element file in which nothing stands, the code file that `pack` writes of it, and a world without atoms.
+-- An empty element file, the code file that `pack` writes for it, and a world without atoms.
 use Rattle.std.specs.Prelude.{ℕ, List, [], ◌∷◌, ◌++◌, codes}
 use Rattle.feast_base.specs.Outside.{File}
 

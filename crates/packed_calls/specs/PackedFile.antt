@@ -6,7 +6,8 @@ use Rattle.feast_run.specs.Forms.{pack}
 use Rattle.feast_run.specs.Outcomes.{Outcome, passes, refuses, misses}
 use Rattle.feast_run.specs.Promises.{Shows}
 
--- the first file of a name holds what `pack` writes of some element files, and is no longer than a code file may be
+-- the first file of a name holds what `pack` writes for some element files, and is no longer than a
+-- code file may be
 pub record IsPacked (files : List File) (words : List (List ℕ)) (file : List ℕ) : Type 0 where
   pub text : List ℕ
   pub packed : Shows files (pack words) text

@@ -8,12 +8,12 @@ ghost use Rattle.feast_run.specs.Promises.{Shows};
 ghost use Rattle.packed_calls.specs.Example.{empty_word, example_files, packed_word, world_word};
 ghost use Rattle.packed_calls.specs.PackedFile.{IsLoaded, IsPacked};
 
-/// Where a file holds what `pack` writes of some element files, and is no longer than a code file
-/// may be, `steppack` with it writes what `step` writes with these files. More than that: the stages
-/// of both come to the same, text or refusal, but for loads that fail, and of a text the same is
-/// told; and so it is with `runpack` and `run`. An example has what is asked for: an element file in
-/// which nothing stands, its code file, and a world that `steppack` and `runpack` run with it. The
-/// call does nothing: its contract is the laws.
+/// If a file holds what `pack` writes for some element files, and is no longer than a code file may
+/// be, `steppack` with it writes what `step` writes with these files. Moreover, the stages of both
+/// come to the same text or refusal, except for loads that fail, and the same is known of a text;
+/// likewise for `runpack` and `run`. An example meets the conditions: an empty element file, its
+/// code file, and a world that `steppack` and `runpack` run with it. The call does nothing: its
+/// contract is the laws.
 pub fn packed_calls()
     ensures written { (files : List File) (world file : List ℕ) (words : List (List ℕ)) → IsPacked files words file → (a b : List ℕ) → Shows files (steppack world file) a → Shows files (step world words) b → a ≡ b }
     ensures step { (files : List File) (world file : List ℕ) (words : List (List ℕ)) → IsPacked files words file → (o : Outcome (List ℕ)) → IsLoaded o → form_answer (Some files) (steppack world file) o ↔ form_answer (Some files) (step world words) o }

@@ -1,6 +1,6 @@
-//! What calls with a packed code file do.
+//! What holds of calls with a packed code file.
 //!
-//! It has no code: [`packed_calls`] says that a call with the code file that `pack` wrote of some
+//! It has no code: [`packed_calls`] says that a call with the code file that `pack` wrote for some
 //! element files does what the call with these files does.
 #![tactic(auto)]
 

@@ -12,11 +12,11 @@ ghost use Rattle.code_file.specs.Right.{AreRight};
 ghost use Rattle.code_file.specs.declared.fault.CodeFault.{CodeFault};
 ghost use Rattle.packed_codes.specs.Packed.{packed};
 
-/// A set has a code for each of its elements. Where no stage refuses the files, a code file can say
+/// A set has a code for each of its elements. If no stage refuses the files, a code file can say
 /// the elements of their set with these codes; each has its own name and valid code; the file that
-/// is written of them is read as them, and its reading has no other outcome; and on each window and
-/// seed the codes leave the window that the elements mean. The call does nothing: its contract is
-/// the laws.
+/// is written from them is read as them, and its reading has no other outcome; and on each window
+/// and seed the codes leave the window that the elements mean. The call does nothing: its contract
+/// is the laws.
 pub fn packed_laws()
     ensures sayable { (files : List File) (set : SetValue) → AcceptsFiles files set → IsSayable (packed set) }
     ensures right { (files : List File) (set : SetValue) → AcceptsFiles files set → AreRight (packed set) }

@@ -1,6 +1,6 @@
-//! Planes with their edges, needs, shared sites and registers, worked out apart from the code. The
-//! crate has tests alone; they stand above the plane, so that it is not proved once more for their
-//! sake.
+//! Planes with their edges, needs, shared sites and registers, computed apart from the code. The
+//! crate has only tests; they are above the plane, so that it is not proved again because of a
+//! test.
 #![tactic(auto)]
 
 #[cfg(test)]

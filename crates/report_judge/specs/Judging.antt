@@ -1,4 +1,4 @@
--- What is said of a report, in one line.
+-- The judgement on a report, in one line.
 use Rattle.std.specs.Prelude.{ℕ, ◌≡◌, ◌≢◌, ◌+◌, ◌-◌, ◌==◌, List, [], ◌∷◌, codes, count_by, decimal, length}
 use Rattle.window_sites.specs.Window.{WindowValue}
 use Rattle.cell_grid.specs.Grid.{GridValue}
@@ -19,8 +19,8 @@ use Rattle.report_judge.specs.declared.judgement.Judgement.TheVariants.{Yes, NoA
 abbrev pub line_count : List ℕ → ℕ
 line_count bytes = count_by (λ b. b == 10) bytes
 
--- the line of event k: the last lines of a report are those of its abandoned attempts, before them stands their count, and
--- before that the lines of the events
+-- the line of event k: the last lines of a report are those of its abandoned attempts, before them
+-- comes their count, and before that the lines of the events
 abbrev pub event_line : List ℕ → List Record → List Abandoned → ℕ → ℕ
 event_line bytes records abandoned k = line_count bytes - (length records + length abandoned) + k
 
@@ -42,7 +42,8 @@ pub record Holds (s : Setting) (records : List Record) (abandoned : List Abandon
   pub stamped : IsStamped s.map records
   pub excused : AreExcused s.map s.plan records abandoned
 
--- the report of these events and abandoned attempts: its atoms are those that the events leave of the start
+-- the report of these events and abandoned attempts: its atoms are those that the events make of
+-- the start
 abbrev pub own_report : Setting → List Record → List Abandoned → List ℕ
 own_report s records abandoned = report s.names (replay s.meaning s.start records) records abandoned
 

@@ -1,4 +1,4 @@
--- Events that are made and taken back.
+-- Events that are made and undone.
 use Rattle.std.specs.Prelude.{ℕ, ◌≡◌, ◌+◌, List, length, take}
 use Rattle.window_sites.specs.Window.{WindowValue}
 use Rattle.cell_grid.specs.Grid.{GridValue}

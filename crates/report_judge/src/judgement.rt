@@ -1,4 +1,4 @@
-//! What is said of a report, and its line.
+//! The judgement on a report, and its line.
 ghost use Rattle.std.specs.Prelude.{◌≡◌, IfOk};
 ghost use Rattle.report_judge.specs.Judging.{judgement_text};
 
@@ -6,7 +6,7 @@ use feast_base::NoMemory;
 use std::alloc::Global;
 use text_lines::{Field, push_line};
 
-/// What is said of a report.
+/// The verdict on a report.
 #[derive(Clone, Copy, Debug, PartialEq, Eq)]
 pub enum Judgement {
     /// Each attempt is accounted for, each event has its stamp, each abandoned attempt is excused,
@@ -14,15 +14,15 @@ pub enum Judgement {
     Yes,
     /// Some attempt is not accounted for.
     NoAccounted,
-    /// The event in this line is the first that has another stamp than its links give.
+    /// The event in this line is the first with a stamp other than its links give.
     NoStamped(u64),
     /// The abandoned attempt in this line is the first that is not excused.
     NoExcused(u64),
-    /// The three hold, and the report has other atoms than the events leave of the start.
+    /// The three hold, and the report has other atoms than the events make of the start.
     NoAtoms,
 }
 
-/// The line of a judgement, with its LF. `NoMemory` where there is none for it.
+/// The line of a judgement, with its LF. `NoMemory` if there is none for it.
 pub fn judgement_line(alloc: Global, judgement: Judgement) -> Result<Vec<u8>, NoMemory>
     ensures { IfOk result (λ v. v.items ≡ judgement_text judgement) }
 {

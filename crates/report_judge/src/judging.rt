@@ -41,12 +41,12 @@ fn abandoned_line(bytes: &[u8], journal: &ReadJournal, k: u64) -> u64
     line_count(bytes).saturating_sub(journal.abandoned.len() as u64) + (k + 1)
 }
 
-/// Judges the bytes of a report, whose events and abandoned attempts are these: whether each attempt
-/// of the plan is accounted for, each event has its stamp and each abandoned attempt is excused, and
-/// whether the bytes are the report of them over the grid that the events leave of the start. The
-/// first that does not hold is answered, with the line in the report. The plan is one of the map,
-/// the start is a grid of its plane, and what the events leave has names. `NoMemory` where there is
-/// none for the audit or for the report once more.
+/// Judges the bytes of a report that has these events and abandoned attempts: whether each attempt
+/// of the plan is accounted for, each event has its stamp and each abandoned attempt is excused,
+/// and whether the bytes are the report of them over the grid that the events make of the start.
+/// The answer is the first of these that does not hold, with the line in the report. The plan is
+/// one of the map, the start is a grid of its plane, and the types of the atoms that the events
+/// leave have names. `NoMemory` if there is none for the audit or for printing the report again.
 pub fn judge<B: Behave>(
     alloc: Global,
     map: &Map,

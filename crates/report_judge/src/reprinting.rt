@@ -1,4 +1,4 @@
-//! The report of events and abandoned attempts, printed once more.
+//! The report of events and abandoned attempts, printed again.
 ghost use Rattle.std.specs.Prelude.{◌≡◌, IfOk, List, ℕ, map};
 ghost use Rattle.std.specs.Bool.{Decides};
 ghost use Rattle.feast_base.specs.Appending.{Appends};
@@ -55,7 +55,7 @@ fn push_abandoned(out: &mut Vec<u8>, abandoned: &[Abandoned]) -> Result<(), NoMe
     push_gone(out, abandoned)
 }
 
-/// Appends the part of a report that tells the journal.
+/// Appends the part of a report that shows the journal.
 fn push_journal(
     out: &mut Vec<u8>,
     records: &[Record],

@@ -1,4 +1,4 @@
-//! The grid that the first events of a journal leave, by taking the others back.
+//! The grid that the first events of a journal leave, by undoing the others.
 ghost use Rattle.std.specs.Prelude.{◌≡◌, ◌≤◌, All, IfOk, length, take};
 ghost use Rattle.cell_grid.specs.Grid.{ArePlanesAlike, IsLive};
 ghost use Rattle.cell_grid.specs.Records.{replay};
@@ -22,9 +22,9 @@ fn run<B: Behave>(film: &mut Film, grid: &mut Grid, records: &[Record], behave: 
     }
 }
 
-/// The grid that the first `count` of some events leave of a start, each at a live site: all are
-/// made, and the others are taken back, the last of them first. `NoMemory` where there is none for
-/// the film.
+/// The grid that the first `count` of some events make of a start, each at a live site: all are
+/// made, and the others are undone, the last of them first. `NoMemory` if there is none for the
+/// film.
 pub fn rewound<B: Behave>(
     alloc: Global,
     start: Grid,

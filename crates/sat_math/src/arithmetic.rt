@@ -61,8 +61,8 @@ pub fn neg(how: Arith, a: i128) -> i128
     clamp(type_of(how), -a)
 }
 
-/// The quotient without its fraction, so rounded toward 0, or the nearest number of the type. Both
-/// numbers are from -2^63 to 2^64 - 1. An error exactly where `b` is 0.
+/// The quotient rounded toward 0, or the nearest number of the type. Both numbers are from -2^63 to
+/// 2^64 - 1. An error exactly when `b` is 0.
 #[tactic(auto, using(crate::proofs::Handed::quotient_fits))]
 pub fn div(how: Arith, a: i128, b: i128) -> Result<i128, DivideByZero>
     requires left { IsNumber a }
@@ -77,8 +77,8 @@ pub fn div(how: Arith, a: i128, b: i128) -> Result<i128, DivideByZero>
     }
 }
 
-/// What the quotient rounded toward 0 leaves of `a`, so with the sign of `a`, or the nearest
-/// number of the type. Both numbers are from -2^63 to 2^64 - 1. An error exactly where `b` is 0.
+/// The remainder of the quotient rounded toward 0, so with the sign of `a`, or the nearest number
+/// of the type. Both numbers are from -2^63 to 2^64 - 1. An error exactly when `b` is 0.
 #[tactic(auto, using(crate::proofs::Handed::quotient_fits))]
 pub fn rem(how: Arith, a: i128, b: i128) -> Result<i128, DivideByZero>
     requires left { IsNumber a }
@@ -93,7 +93,7 @@ pub fn rem(how: Arith, a: i128, b: i128) -> Result<i128, DivideByZero>
     }
 }
 
-/// Whether the two numbers, each from -2^63 to 2^64 - 1, stand as the test says.
+/// Whether the two numbers, each from -2^63 to 2^64 - 1, compare as the test says.
 pub fn compare(op: CompareOp, a: i128, b: i128) -> bool
     requires left { IsNumber a }
     requires right { IsNumber b }

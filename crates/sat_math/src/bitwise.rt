@@ -25,7 +25,7 @@ pub fn xor(a: u64, b: u64) -> u64
     a ^ b
 }
 
-/// So many low bits that are ones, and no others.
+/// `count` low bits that are ones, and no others.
 pub(crate) fn ones(count: u8) -> u64
     requires { count ≤ widest }
     ensures { result ≡ 2 ^ count - 1 }

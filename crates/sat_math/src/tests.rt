@@ -1,4 +1,4 @@
-//! Worked values. The tables were worked out apart from this crate, with whole numbers of any size.
+//! Worked values. The tables were computed apart from this crate, with whole numbers of any size.
 
 ghost use Rattle.sat_math.specs.Numbers.{IsNumType, IsNumber};
 
@@ -439,7 +439,7 @@ const MOVED_DOWN: [(u64, u64, u64); 6] = [
     (1099511627776, 33, 128),
 ];
 
-/// A test, and what it says of a number below another and of a number beside itself.
+/// A test, and its answer for a number and a greater one, and for a number and itself.
 const COMPARED: [(CompareOp, bool, bool); 6] = [
     (CompareOp::Eq, false, true),
     (CompareOp::Ne, true, false),
@@ -449,7 +449,7 @@ const COMPARED: [(CompareOp, bool, bool); 6] = [
     (CompareOp::Ge, false, true),
 ];
 
-/// The type of a kind and a width, which has to be one that the kind allows.
+/// The type of a kind and a width, which the kind must allow.
 fn num_type(rt: &impl Abort, kind: Kind, width: u8) -> NumType
     ensures { IsNumType result }
 {
@@ -465,7 +465,7 @@ fn num_type(rt: &impl Abort, kind: Kind, width: u8) -> NumType
     NumType { kind, width }
 }
 
-/// What is loaded again of a number that is stored in a type, and its bits.
+/// What is loaded after a number is stored in a type, and its bits.
 fn kept(of: NumType, v: i128) -> (i128, u64)
     requires kind { IsNumType of }
     requires number { IsNumber v }

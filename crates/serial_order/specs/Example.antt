@@ -27,7 +27,7 @@ first_record = record { stamp = 1; tile = 0; attempt = 0; x = 0; y = 0; seed = 5
 abbrev pub stays : WindowValue → ℕ → WindowValue
 stays w seed = w
 
--- the cell at a place of the rectangle: the event's, where it lies in the window
+-- the cell at a place of the rectangle: the event's, if the window covers it
 abbrev pub cell_left_at : ℕ → CellValue
 cell_left_at i = cell_value (if nat_le (i % 8 + i / 8) 4 then 1 else 0) empty_atom
 

@@ -52,7 +52,8 @@ pub data Leads (rs : List Record) (gs : List Abandoned) : Abandoned → Type 0 w
   arrives : (g : Abandoned) (r : Record) → Contains rs r → r.tile ≡ g.holder → r.attempt ≡ g.holder_attempt → Leads rs gs g
   goes : (g k : Abandoned) → Contains gs k → k.tile ≡ g.holder → k.attempt ≡ g.holder_attempt → g.edge < k.edge → Leads rs gs k → Leads rs gs g
 
--- where the news bit of an end is 0 for a shared site, the edge's cell has no greater stamp than that end's own
+-- if the news bit of an end is 0 for a shared site, the edge's cell has no greater stamp than that
+-- end's own
 abbrev pub HasNoNews : Scene → Type 0
 HasNoNews s = (e k t : ℕ) (u : Site) (tile : TileValue) → e < length (pairs_of s.map) → has_end s.map t e ≡ true → slice_get s.tiles t ≡ Some tile → slice_get (shared_of s.map e) k ≡ Some u
     → bit_at (registers_at s.edges e (word_of (sites_on s.map e) (end_at s.map t e) k)) (k % 64) ≡ 0

@@ -1,4 +1,4 @@
--- From what a run is settled, and what comes of it.
+-- What a run is settled from, and the result.
 use Rattle.std.specs.Prelude.{ℕ, ◌≡◌, ◌<◌, ◌*◌, ◌+◌, ◌||◌, ◌/◌, ◌%◌, true, false, List, All, length, map, slice_get, slice_index_or, replicate, nat_le, Some}
 use Rattle.bit_field.specs.Atom.{empty_atom}
 use Rattle.window_sites.specs.Window.{WindowValue}
@@ -64,7 +64,8 @@ pub record AreTilesOf (m : MapValue) (tiles : List TileValue) : Type 0 where
 abbrev pub IsPlaneGrid : MapValue → GridValue → Type 0
 IsPlaneGrid m g = IsGrid g × IsGridOf m g
 
--- a site of a grid of the plane was given its settled atom, where it is live, and no other live site was changed
+-- a site of a grid of the plane was given its settled atom, if it is live, and no other live site
+-- was changed
 pub record SettlesSite (m : MapValue) (tiles : List TileValue) (registers : ℕ → ℕ → ℕ) (s : Site) (old new : GridValue) : Type 0 where
   pub grid : IsGrid new
   pub plane : ArePlanesAlike old new

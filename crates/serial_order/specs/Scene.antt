@@ -63,7 +63,8 @@ IsStopped Back rest turns = ⊥
 IsStopped Finished rest turns = (rest ≡ []) × Wearless turns
 IsStopped Worn rest turns = WearsLast turns
 
--- a tile is over: it has played the first of these attempts on its edges, all of them where it is finished, and its cells are those that its turns left
+-- a tile is over: it has played the first of these attempts on its edges, all of them if it is
+-- finished, and its cells are those that its turns left
 pub record HasEnded (m : MapValue) (meaning : WindowValue → ℕ → WindowValue) (start : Site → AtomValue) (given : List Attempt) (lists : ℕ → EndLists) (tile : TileValue) : Type 0 where
   pub made : List Attempt
   pub rest : List Attempt

@@ -8,12 +8,12 @@ use Rattle.border_cache.specs.Copies.{IsGridOf, held_cell}
 use Rattle.border_cache.specs.Windows.{and_cell, place_of}
 use Rattle.tile_core.specs.Values.{TileValue}
 
--- the cell that an edge's registers say of the shared site at a place, where there is one
+-- the cell that an edge's registers represent for the shared site at a place, if there is one
 abbrev pub cell_in_registers : (ℕ → ℕ) → Option ℕ → Option CellValue
 cell_in_registers registers None = None
 cell_in_registers registers (Some k) = Some (cell_of (registers (1 + 2 * k)) (registers (2 + 2 * k)))
 
--- the cells that these edges have of a site, where they share it
+-- the cells that these edges have of a site, if they share it
 abbrev pub edge_cells : MapValue → (ℕ → ℕ → ℕ) → List ℕ → Site → List CellValue
 edge_cells m registers [] s = []
 edge_cells m registers (e ∷ es) s = and_cell (cell_in_registers (registers e) (place_of m e s)) (edge_cells m registers es s)

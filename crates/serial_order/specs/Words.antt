@@ -43,6 +43,6 @@ pub record AreEdgeWords (m : MapValue) (edges : List EdgeHistory) (counts : ℕ 
   pub registers : (e : ℕ) → e < length (pairs_of m) → counts e ≡ registers_of (sites_on m e)
   pub histories : (e : ℕ) → e < length edges → IsEdgeHistory (sites_on m e) (history_at edges e).holds (history_at edges e).low (history_at edges e).high
 
--- the newer of a cell and the one that an edge has of a site, where a tile is an end of the edge
+-- the newer of a cell and the one that an edge has of a site, if a tile is an end of the edge
 abbrev pub newer_on : MapValue → (ℕ → ℕ → ℕ) → ℕ → Site → CellValue → ℕ → CellValue
 newer_on m registers t s cell e = if has_end m t e then newer cell (cell_in_registers (registers e) (place_of m e s)) else cell

@@ -56,7 +56,7 @@ fn own_area(map: &Map, tile: u32) -> Area
     }
 }
 
-/// Makes the rectangle of a tile not live, where the tile is off.
+/// Makes the rectangle of a tile not live, if the tile is off.
 fn shut_off(map: &Map, tile: u32, grid: &mut Grid)
     requires tile { tile < tiles_of map.now }
     requires grid { IsShutTo map.now tile grid.old }
@@ -70,7 +70,7 @@ fn shut_off(map: &Map, tile: u32, grid: &mut Grid)
     grid.shut(area.left, area.top, area.columns, area.rows);
 }
 
-/// A grid of the map's plane with its live sites, all of them empty, or `NoMemory` where there is no
+/// A grid of the map's plane with its live sites, all of them empty. `NoMemory` if there is no
 /// memory for it.
 pub fn blank_grid(alloc: Global, map: &Map) -> Result<Grid, NoMemory>
     ensures { IfOk result (λ g. IsBlank map.now g) }

@@ -20,8 +20,8 @@ ghost use Rattle.serial_order.specs.Example.{small_scene};
 /// are those of Lamport's rule, and each attempt that was given up is excused. A grid that has at
 /// each live site the newest of the owner's cell and those of the owner's edges is the replay of
 /// the records from the start grid. No stamp is greater than the number of records, two records of
-/// one stamp have no live site in common, and following the named holders leads to a record. Where
-/// the news bit of an end is 0 for a site, the edge's cell there is not newer than that end's own.
+/// one stamp have no live site in common, and following the named holders leads to a record. If the
+/// news bit of an end is 0 for a site, the edge's cell there is not newer than that end's own.
 ///
 /// It does nothing.
 pub fn one_order()
@@ -34,7 +34,8 @@ pub fn finds_what_stands()
     ensures { FindsWhatStands }
 {}
 
-/// A run that meets all that `one_order` asks: one tile, one attempt, one event. It does nothing.
+/// A run that meets all the requirements of `one_order`: one tile, one attempt, one event. It does
+/// nothing.
 pub fn small_run()
     ensures { IsOver small_scene }
 {}

@@ -1,5 +1,5 @@
-//! One serial order of all events: what tiles that are over owe to their plan, however their steps
-//! were woven together.
+//! One serial order of all events: what holds of tiles that are over, however their steps were
+//! interleaved.
 #![tactic(auto)]
 
 mod blank;

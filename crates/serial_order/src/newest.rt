@@ -1,4 +1,5 @@
-//! The settled cell of a site: the newest of its tile's and those of the tile's edges.
+//! The settled cell of a site: the newest of its tile's and those of the tile's edges. All edges of
+//! the plane are asked, since a map has no public list of a tile's edges.
 ghost use Rattle.std.specs.Prelude.{◌≡◌, ◌<◌, true, length, Some};
 ghost use Rattle.bit_field.specs.Atom.{LeavesGap};
 ghost use Rattle.tile_map.specs.Plane.{site, is_held};
@@ -15,7 +16,7 @@ use bit_field::Atom;
 use border_cache::Cache;
 use tile_map::Map;
 
-/// The newer of a stamp with its atom and the cell that two words say; the first where both are of
+/// The newer of a stamp with its atom and the cell that two words represent; the first if both have
 /// one stamp.
 fn newer_of(own: (u32, Atom), low: u64, high: u64) -> (u32, Atom)
     requires { LeavesGap high }
@@ -46,7 +47,7 @@ fn newer_on_edge<E: EdgeWords>(
     match map.register(edge, x, y) {
         None => own,
         Some(register) => {
-            // There are so few shared sites that their registers have numbers of 32 bits.
+            // The number of shared sites is so small that their registers have numbers of 32 bits.
             let _sites = map.shared(edge);
             let low = words.word(edge, register);
             let high = words.word(edge, register + 1);
@@ -55,7 +56,7 @@ fn newer_on_edge<E: EdgeWords>(
     }
 }
 
-/// The same for an edge of which the tile may not be an end.
+/// The same for an edge that the tile may not be an end of.
 fn newer_at_end<E: EdgeWords>(
     map: &Map,
     edge: u32,
@@ -98,9 +99,9 @@ fn newest_of<E: EdgeWords>(
     best
 }
 
-/// The settled atom of a site that a tile holds, once the tiles are over: that of the newest of
-/// the tile's own cell and those that its edges have of the site. At equal stamps its own cell
-/// stays, and else the edge of the smaller number counts.
+/// The settled atom of a site that a tile holds, once the tiles are over: that of the newest of the
+/// tile's own cell and those that its edges have of the site. At equal stamps its own cell stays;
+/// among edges the one with the smaller number counts.
 pub fn settled_atom<E: EdgeWords>(
     map: &Map,
     tile: u32,

@@ -17,7 +17,7 @@ use std::alloc::Global;
 use tile_core::Tile;
 use tile_map::Map;
 
-/// What a run has come to.
+/// The result of a run.
 #[derive(Drop)]
 pub struct Outcome {
     /// The atoms.
@@ -88,13 +88,13 @@ fn logs<B: Behave + Drop>(alloc: Global, tiles: Vec<Tile<B>>) -> Result<Vec<Tile
 /// Settles a run: the newest atom of each live site, and the logs of all tiles as one journal.
 ///
 /// There is one tile for each of the map's, made with it, and each is finished or worn out; what
-/// the tiles did on their edges are the histories that the words are the end of. Then no tile is
-/// worn out, and all events stand in one serial order: the journal accounts for each attempt, its
-/// stamps are those of Lamport's rule, each attempt that was given up is excused, and the grid is
-/// what the journal's events make of the start, one after another on one grid. This holds for any
-/// start and plan from which the tiles have played.
+/// the tiles did on their edges are the histories that end with these words. Then no tile is worn
+/// out, and all events stand in one serial order: the journal accounts for each attempt, its stamps
+/// are those of Lamport's rule, each attempt that was given up is excused, and the grid is what the
+/// journal's events make of the start, one after another on one grid. This holds for any start and
+/// plan from which the tiles have played.
 ///
-/// `NoMemory` where there is none for the grid or the list of logs; the tiles are dropped then.
+/// `NoMemory` if there is none for the grid or the list of logs; the tiles are dropped then.
 pub fn settle<B: Behave + Drop, E: EdgeWords>(
     alloc: Global,
     map: &Map,

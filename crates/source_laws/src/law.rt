@@ -8,8 +8,8 @@ ghost use Rattle.atom_layout.specs.Layouts.{layout_of, first_wide};
 ghost use Rattle.ulam_types.specs.ProgramTyping.{IsTypedProgram};
 ghost use Rattle.code_gen.specs.Compiling.{IsCompilable};
 
-/// Where the items of all files are resolved to these classes, none of which is too wide, and the
-/// classes have this typed tree, the tree with the classes' layout is what the compiler asks for: it
+/// If the items of all files are resolved to these classes, none of which is too wide, and the
+/// classes have this typed tree, the tree with the classes' layout is what the compiler needs: it
 /// is well typed, its paths, slots, widths and numbers are right, it is laid out, and each element
 /// has a `behave` without parameters and without a result.
 pub fn names_hold()

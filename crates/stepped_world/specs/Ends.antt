@@ -29,7 +29,8 @@ pub record HasFinished {B : Type 0} (after : B → WindowValue → ℕ → Windo
   pub phase : x.0.phase ≡ Finished
   pub played : HasPlayed m g.meaning (atoms_of g.start) t (attempts g.plan t) x.0.records x.0.abandoned (lists_of_tile board t)
 
--- the run is over: each tile has played all its attempts, nobody has an edge, and there is what the settling of the grid asks for
+-- the run is over: each tile has played all its attempts, nobody has an edge, and everything holds
+-- that the settling of the grid requires
 pub record HasRun {B : Type 0} (after : B → WindowValue → ℕ → WindowValue) (m : MapValue) (g : Setting) (tiles : List (TileValue × B)) (board : PlainBoardValue) : Type 0 where
   pub count : length tiles ≡ tiles_of m
   pub finished : (t : ℕ) (x : TileValue × B) → slice_get tiles t ≡ Some x → HasFinished after m g board t x
@@ -50,7 +51,8 @@ pub record IsAsStepped {B : Type 0} (m : MapValue) (g : Setting) (tiles : List (
   pub newest : (h : GridValue) → IsSettled m (values_of tiles) (registers_at (histories_on board)) h → h ≡ (stepped m g.meaning g.start g.plan order).grid
   pub replayed : replay g.meaning g.start (records_in (logs_in m (stepped m g.meaning g.start g.plan order))) ≡ (stepped m g.meaning g.start g.plan order).grid
 
--- what a run comes to: the grid and the logs of the stepped machine. All its events stand in one serial order, that of the journal.
+-- the result of a run: the grid and the logs of the stepped machine. All its events stand in one
+-- serial order, that of the journal.
 pub record IsOutcome (m : MapValue) (g : Setting) (order : List ℕ) (o : Outcome) : Type 0 where
   pub grid : o.grid ≡ (stepped m g.meaning g.start g.plan order).grid
   pub journal : o.journal ≡ logs_in m (stepped m g.meaning g.start g.plan order)

@@ -19,8 +19,9 @@ pub record Hand : Type 0 where
   pub site : Site
   pub seed : ℕ
 
--- What a tile is doing: what its next step does. Locking has the edges that the attempt got, the one that is tried next, and
--- those behind it; Giving (after an event) and Backing (after a refusal) have the edge that is freed next, and those behind it.
+-- What a tile is doing: what its next step does. Locking has the edges that the attempt got, the
+-- one that is tried next, and those after it; Giving (after an event) and Backing (after a refusal)
+-- have the edge that is freed next, and those after it.
 pub data Doing : Type 0 where
   Drawing Done : Doing
   Locking : Hand → List ℕ → ℕ → List ℕ → Doing
@@ -47,7 +48,7 @@ pub record Machine : Type 0 where
   pub records : List Record
   pub abandoned : List Abandoned
 
--- f, but for this value at k
+-- f, except for this value at k
 abbrev pub at : {A : Type 0} → (ℕ → A) → ℕ → A → ℕ → A
 at f k a j = if j == k then a else f j
 
@@ -97,7 +98,8 @@ abbrev pub draw : MapValue → ℕ → List Attempt → Machine → Machine
 draw m t [] s = does t Done s
 draw m t (attempt ∷ others) s = record s { tile = at s.tile t (drawn m t attempt others (s.tile t)) }
 
--- Lock: the attempt has the edge where nobody had it; else it is abandoned, which notes who has it
+-- Lock: the attempt has the edge if nobody had it; otherwise it is abandoned, which notes who has
+-- it
 abbrev pub lock : ℕ → Hand → List ℕ → ℕ → List ℕ → Option (ℕ × ℕ) → Machine → Machine
 lock t hand had e es None s = does t (next_lock hand (had ++ e ∷ []) es) (is_held_by e (Some (t, hand.attempt)) s)
 lock t hand had e es (Some holder) s = does t (next_back had (s.tile t).left) (record s { abandoned = s.abandoned ++ entry_of t hand e holder ∷ [] })
@@ -138,17 +140,17 @@ abbrev pub steps : MapValue → (WindowValue → ℕ → WindowValue) → List �
 steps m meaning [] s = s
 steps m meaning (t ∷ ts) s = steps m meaning ts (step m meaning t s)
 
--- so many steps of one tile
+-- this many steps of one tile
 abbrev pub steps_of : MapValue → (WindowValue → ℕ → WindowValue) → ℕ → ℕ → Machine → Machine
 steps_of m meaning t zero s = s
 steps_of m meaning t (suc n) s = steps_of m meaning t n (step m meaning t s)
 
--- how many steps the attempts take at most that tile t has not drawn
+-- how many steps the attempts that tile t has not drawn take at most
 abbrev pub steps_for : MapValue → ℕ → List Attempt → ℕ
 steps_for m t [] = 0
 steps_for m t (attempt ∷ others) = 3 * length (needs_of m t (site_in m t attempt.centre)) + 4 + steps_for m t others
 
--- and what it is doing
+-- and what it is doing now
 abbrev pub steps_to_end : MapValue → ℕ → Doing → ℕ
 steps_to_end m t Drawing = 1
 steps_to_end m t Done = 0

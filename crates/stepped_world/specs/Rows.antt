@@ -68,7 +68,7 @@ GoesRound s = Notes s (event_of 1 0 0 7 7 ∷ event_of 2 1 0 8 7 ∷ event_of 3 
 abbrev pub IsRefusedInARow : Machine → Type 0
 IsRefusedInARow s = Notes s (event_of 1 2 0 7 8 ∷ event_of 2 3 0 8 8 ∷ []) (refusal_of 0 0 7 7 0 1 0 ∷ refusal_of 1 0 8 7 4 3 0 ∷ [])
 
--- what these runs come to
+-- the results of these runs
 pub record AreComputed : Type 0 where
   pub crosses : CrossesTheBorder (at_the_border (0 ∷ 0 ∷ 0 ∷ 0 ∷ 0 ∷ 0 ∷ 1 ∷ []))
   pub refused : IsRefusedAtTheBorder (at_the_border (0 ∷ 0 ∷ 1 ∷ 1 ∷ []))

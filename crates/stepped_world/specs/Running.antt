@@ -42,7 +42,7 @@ pub record AreUnderway {B : Type 0} (after : B → WindowValue → ℕ → Windo
   pub each : (t : ℕ) (x : TileValue × B) → slice_get tiles t ≡ Some x → IsTileOf after m g board t x
   pub board_is : IsBoardOf m board
 
--- whether no step of the tile does anything any more
+-- whether a step of the tile does nothing any more
 abbrev pub is_still : Phase → Bool
 is_still Draw = false
 is_still Lock = false
@@ -79,7 +79,7 @@ steps_ahead (Some x) = 50 * length x.0.left + steps_in_hand x.0 x.0.phase
 abbrev pub AnyIsWorn : {B : Type 0} → List (TileValue × B) → Type 0
 AnyIsWorn {B} tiles = (t : ℕ) × (x : TileValue × B) × (slice_get tiles t ≡ Some x) × (x.0.phase ≡ Worn)
 
--- where two events have a live site in common, the first has the smaller stamp
+-- if two events have a live site in common, the first has the smaller stamp
 abbrev pub ComesBefore : MapValue → Record → Record → Type 0
 ComesBefore m r q = (s : Site) → in_window m (event_site r) s ≡ true → in_window m (event_site q) s ≡ true → r.stamp < q.stamp
 
@@ -104,8 +104,9 @@ pub record IsLike {B : Type 0} (m : MapValue) (g : Setting) (tiles : List (TileV
 abbrev pub AreLike : {B : Type 0} → MapValue → Setting → List (TileValue × B) → PlainBoardValue → Machine → Type 0
 AreLike m g tiles board s = IsLike m g tiles board s ⊎ AnyIsWorn tiles
 
--- The tiles made some steps, as the machine does: from whatever setting they were underway, they still are; wherever they were
--- as a machine has them, they are now as that machine has them after its steps. A tile that stood still still does.
+-- The tiles made some steps, as the machine does: from whatever setting they were underway, they
+-- still are; if they were as a machine has them, they are now as that machine has them after its
+-- steps. A tile that stood still still does.
 pub record Follows {B : Type 0} (after : B → WindowValue → ℕ → WindowValue) (m : MapValue) (tiles tiles' : List (TileValue × B)) (board board' : PlainBoardValue) (acts : (WindowValue → ℕ → WindowValue) → Machine → Machine) : Type 0 where
   pub underway : (g : Setting) → AreUnderway after m g tiles board → AreUnderway after m g tiles' board'
   pub like : (g : Setting) (s : Machine) → AreUnderway after m g tiles board → AreLike m g tiles board s → AreLike m g tiles' board' (acts g.meaning s)

@@ -75,13 +75,13 @@ fn finish_all<B: Behave>(map: &Map, tiles: &mut [Tile<B>], board: &mut PlainBoar
 }
 
 /// Runs all tiles of a plane on one board: a step of each tile that the order names, one after
-/// another, where a finished tile is passed over; then steps of tile 0 until it is finished, of
-/// tile 1, and so on. It takes no memory.
+/// another, passing over finished tiles; then steps of tile 0 until it is finished, of tile 1, and
+/// so on. It allocates no memory.
 ///
 /// There is one fresh tile for each tile of the map, in order, all from one start grid and one plan
-/// and with one meaning, and the board is fresh and of this map. The order ends and names tiles.
-/// Then all tiles are finished and nobody has an edge, and tiles, edges and entries are those of the
-/// stepped machine; a grid of the newest cells is its grid.
+/// and with one meaning, and the board is fresh and of this map. The order is finite and names
+/// tiles. Then all tiles are finished and nobody has an edge, and tiles, edges and entries are
+/// those of the stepped machine; a grid of the newest cells is its grid.
 pub fn run_steps<B: Behave, O: Iterator<Item = u32>>(
     map: &Map,
     tiles: &mut [Tile<B>],

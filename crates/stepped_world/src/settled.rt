@@ -17,7 +17,7 @@ use tile_map::Map;
 /// Runs all tiles of a plane on one board in this order, as `run_steps` does and under its
 /// conditions, and settles what they leave: the grid and the journal of the stepped machine.
 ///
-/// `NoMemory` where there is none for the grid or the list of logs; the tiles are dropped then.
+/// `NoMemory` if there is none for the grid or the list of logs; the tiles are dropped then.
 pub fn run_settled<B: Behave + Drop, O: Iterator<Item = u32>>(
     alloc: Global,
     map: &Map,

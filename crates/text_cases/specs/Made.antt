@@ -12,7 +12,7 @@ pub record AreMade (tile used stamp : ℕ) (records : List Record) : Type 0 wher
   pub attempts : All (λ (r : Record). used + r.attempt < stamp) records
   pub count : used + length records ≡ stamp
 
--- the logs of the first n tiles, with so many records over all and no abandoned attempt
+-- the logs of the first n tiles, with this many records in total and no abandoned attempt
 pub record AreMadeLogs (n used : ℕ) (logs : List LogValue) : Type 0 where
   pub tiles : map tile_of logs ≡ range_with_len 0 n
   pub entries : length (flat_map records_of logs) ≡ used

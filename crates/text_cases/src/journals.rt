@@ -1,4 +1,4 @@
-//! Reports of two tiles with an attempt each, and what their journals come to.
+//! Reports of two tiles with an attempt each, and the results of reading their journals.
 
 use draw_stream::{Attempt, AttemptPlan, Script};
 use event_journal::{JournalFault, read};
@@ -32,7 +32,7 @@ fn counted(alloc: Global, text: &str) -> Result<Result<(usize, usize), JournalFa
     }
 }
 
-/// Reports with what they come to.
+/// Reports with the results of reading them.
 const REPORTS: [(&str, Result<(usize, usize), JournalFault>); 14] = [
     (
         "feast 1\natoms 1\n17 4 Walker 000000000000000000\njournal 2\n1 0 0 15 4 0000000000000000\n2 1 0 16 4 0000000000000000\nabandoned 0\n",

@@ -1,6 +1,6 @@
-//! Texts of worlds and reports with what they come to, and what runs of worlds could leave. The
-//! tests stand above the crates that read and print, so that none of these is proved twice for
-//! its tests' sake.
+//! Texts of worlds and reports with the results of reading them, and what runs of worlds could
+//! leave. The tests are above the crates that read and print, so that none of these is proved again
+//! because of a test.
 #![tactic(auto)]
 
 #[cfg(test)]

@@ -9,8 +9,8 @@ use std::alloc::Global;
 use std::test::Fail;
 use world_text::{name, read};
 
-/// What writing the report comes to in which each attempt of a world is an event and no atom has
-/// moved. None where the text says no world.
+/// The result of writing the report in which each attempt of a world is an event and no atom has
+/// moved. None if the text is not a world.
 fn written(
     alloc: Global,
     text: &[u8],
@@ -31,8 +31,8 @@ fn written(
     Ok(Some(write_report(alloc, &grid, &journal, names.as_slice(), sink)))
 }
 
-/// How many events and abandoned attempts a report of a world says, or its fault. None where the
-/// text says no world.
+/// How many events and abandoned attempts a report of a world says, or its fault. None if the text
+/// is not a world.
 fn counted(
     alloc: Global,
     text: &[u8],
@@ -83,7 +83,7 @@ fn a_report_is_written_line_by_line(rt: HostRuntime) -> Result<(), Fail> {
     Ok(())
 }
 
-/// The atoms that a world begins with, appended to a text. None where the text says no world.
+/// The atoms that a world begins with, appended to a text. None if the text is not a world.
 fn listed(alloc: Global, text: &[u8], before: &[u8]) -> Result<Option<Vec<u8>>, Fail> {
     let mut names = Vec::new(alloc);
     names.push(Name::new(alloc, b"Walker")?)?;

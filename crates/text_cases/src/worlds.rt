@@ -5,8 +5,8 @@ use std::alloc::Global;
 use std::test::Fail;
 use world_text::{WorldFault, laws, name, print, read, reads_again};
 
-/// What a text comes to, where Walker and Stone are the elements: its text as it is printed, or its
-/// fault.
+/// The result of reading a text, with Walker and Stone as the elements: its text as it is printed,
+/// or its fault.
 fn printed(alloc: Global, text: &str) -> Result<Result<Vec<u8>, WorldFault>, Fail> {
     let mut names = Vec::new(alloc);
     names.push(Name::new(alloc, b"Walker")?)?;

@@ -6,7 +6,7 @@ use Rattle.std.specs.List.{list_all}
 abbrev pub Lacks : List ℕ → ℕ → Type 0
 Lacks bytes end = All (λ b. b ≢ end) bytes
 
--- the fields of what `front` and the bytes are together, where `front` has no space
+-- the fields of `front` followed by the bytes, if `front` has no space
 unfoldable pub fields_after : List ℕ → List ℕ → List (List ℕ)
 fields_after front [] = front ∷ []
 fields_after front (b ∷ bs) = if b == 32 then front ∷ fields_after [] bs else fields_after (front ++ b ∷ []) bs
@@ -15,12 +15,12 @@ fields_after front (b ∷ bs) = if b == 32 then front ∷ fields_after [] bs els
 abbrev pub fields : List ℕ → List (List ℕ)
 fields line = fields_after [] line
 
--- the fields that are left: none where the line is over
+-- the fields that are left: none if the line has ended
 abbrev pub args_of : Option (List ℕ) → List (List ℕ)
 args_of None = []
 args_of (Some rest) = fields rest
 
--- how much there is left to read
+-- how much is left to read
 abbrev pub size_of : Option (List ℕ) → ℕ
 size_of None = 0
 size_of (Some rest) = length rest + 1

@@ -2,7 +2,7 @@
 use Rattle.std.specs.Prelude.{ℕ, List, [], ◌∷◌, Option, Some, None, option_map}
 use Rattle.text_lines.specs.Fields.{number_of, hex_of}
 
--- what comes of an answer
+-- applies a function to an answer, if there is one
 abbrev pub with : {X Y : Type 0} → Option X → (X → Option Y) → Option Y
 with None next = None
 with (Some x) next = next x

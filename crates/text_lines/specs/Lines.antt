@@ -5,8 +5,8 @@ use Rattle.std.specs.Prelude.{ℕ, ◌-◌, ◌==◌, Bool, true, List, [], ◌�
 unfoldable pub without_cr : List ℕ → List ℕ
 without_cr line = if slice_index_or line (length line - 1) 0 == 13 then take (length line - 1) line else line
 
--- the lines of what `front` and the bytes are together, where `front` has no LF; the last line may lack its LF, and a CR
--- before an LF is dropped
+-- the lines of `front` followed by the bytes, if `front` has no LF; the last line may lack its LF,
+-- and a CR before an LF is dropped
 unfoldable pub lines_after : List ℕ → List ℕ → List (List ℕ)
 lines_after [] [] = []
 lines_after (f ∷ fs) [] = (f ∷ fs) ∷ []
@@ -21,7 +21,8 @@ abbrev pub is_skipped : List ℕ → Bool
 is_skipped [] = true
 is_skipped (b ∷ bs) = b == 35
 
--- the lines of what `front` and the bytes are together, where `front` has no LF; None for a last line that lacks its LF
+-- the lines of `front` followed by the bytes, if `front` has no LF; None for a last line that lacks
+-- its LF
 unfoldable pub ended_after : List ℕ → List ℕ → List (Option (List ℕ))
 ended_after [] [] = []
 ended_after (f ∷ fs) [] = None ∷ []
@@ -35,7 +36,7 @@ ended_lines bytes = ended_after [] bytes
 abbrev pub more_text : List (List ℕ) → List ℕ
 more_text fields = flat_map (λ f. 32 ∷ f) fields
 
--- fields, parted by one space
+-- fields, separated by one space
 abbrev pub line_text : List (List ℕ) → List ℕ
 line_text [] = []
 line_text (f ∷ fs) = f ++ more_text fs

@@ -1,4 +1,4 @@
--- Fields that a line can be printed of, so that it is read again as them.
+-- Fields that can be printed as a line that reads back as them.
 use Rattle.std.specs.Prelude.{ℕ, ◌≡◌, ◌≤◌, Bool, true, List, length, nat_le}
 use Rattle.std.specs.List.{list_all}
 

@@ -3,7 +3,7 @@ ghost use Rattle.std.specs.Prelude.{◌≡◌, ◌∷◌, ◌++◌, ◌+◌, ◌
 ghost use Rattle.text_lines.specs.Fields.{Lacks, args_of, fields};
 ghost use Rattle.text_lines.specs.Lines.{ended_lines, is_skipped, lines, without_cr};
 
-/// The bytes before the first `end`, and those behind it.
+/// The bytes before the first `end`, and those after it.
 fn until(bytes: &[u8], end: u8) -> Option<(&[u8], &[u8])>
     ensures { MatchOption result (Lacks bytes.now end) (λ r. Lacks r.0.now end × (bytes.now ≡ r.0.now ++ end ∷ r.1.now)) }
 {
@@ -11,7 +11,7 @@ fn until(bytes: &[u8], end: u8) -> Option<(&[u8], &[u8])>
     Some((&bytes[..at], &bytes[at + 1..]))
 }
 
-/// The first field of a line, and the text of the others where a space stands behind it.
+/// The first field of a line, and the text of the others if a space follows it.
 pub fn first_field(text: &[u8]) -> (&[u8], Option<&[u8]>)
     ensures fields { fields text.now ≡ result.0.now ∷ args_of (option_copied result.1) }
     ensures shorter { IfSome result.1 (λ rest. length rest.now < length text.now) }
@@ -35,7 +35,7 @@ fn without_cr(line: &[u8]) -> &[u8]
     }
 }
 
-/// The first line of a text whose last line may lack its LF, and the bytes behind it. A CR before
+/// The first line of a text whose last line may lack its LF, and the bytes after it. A CR before
 /// the LF is dropped. None exactly for the empty text.
 pub fn next_line(bytes: &[u8]) -> Option<(&[u8], &[u8])>
     ensures { MatchOption result (bytes.now ≡ []) (λ r. (lines bytes.now ≡ r.0.now ∷ lines r.1.now) × (length r.1.now < length bytes.now)) }
@@ -50,7 +50,7 @@ pub fn next_line(bytes: &[u8]) -> Option<(&[u8], &[u8])>
 }
 
 /// The first line of a text that is not empty and each of whose lines has its LF, and the bytes
-/// behind it. None exactly where no LF is left.
+/// after it. None exactly when no LF is left.
 pub fn next_ended(bytes: &[u8]) -> Option<(&[u8], &[u8])>
     ensures { MatchOption result (Lacks bytes.now 10) (λ r. (ended_lines bytes.now ≡ Some r.0.now ∷ ended_lines r.1.now) × (length r.1.now < length bytes.now)) }
 {

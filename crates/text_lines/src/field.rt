@@ -1,4 +1,4 @@
-//! Fields, and lines that are printed of them.
+//! Fields, and lines that are printed from them.
 ghost use Rattle.std.specs.Prelude.{◌≡◌, ◌++◌, codes, map};
 ghost use Rattle.feast_base.specs.Appending.{Appends};
 ghost use Rattle.text_lines.specs.Lines.{ended_line, line_text, more_text};
@@ -17,7 +17,7 @@ pub enum Field<'a> {
     Number(u64),
     /// A number of 16 hexadecimal digits.
     Seed(u64),
-    /// A number of 18 hexadecimal digits, the low ones where it has more.
+    /// A number of 18 hexadecimal digits, the low ones if it has more.
     State(u128),
 }
 
@@ -51,7 +51,7 @@ fn push_more(out: &mut Vec<u8>, fields: &[Field<'_>]) -> Result<(), NoMemory>
     Ok(())
 }
 
-/// Appends fields, parted by one space.
+/// Appends fields, separated by one space.
 fn push_fields(out: &mut Vec<u8>, fields: &[Field<'_>]) -> Result<(), NoMemory>
     ensures { Appends out.old.items out.new.items result (line_text (map field_text fields.now)) }
 {
@@ -64,7 +64,7 @@ fn push_fields(out: &mut Vec<u8>, fields: &[Field<'_>]) -> Result<(), NoMemory>
     }
 }
 
-/// Appends a line of fields with its LF. `NoMemory` where `out` can't grow.
+/// Appends a line of fields with its LF. `NoMemory` if `out` can't grow.
 pub fn push_line(out: &mut Vec<u8>, fields: &[Field<'_>]) -> Result<(), NoMemory>
     ensures { Appends out.old.items out.new.items result (ended_line (map field_text fields.now)) }
 {

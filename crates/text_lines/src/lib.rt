@@ -1,8 +1,8 @@
-//! Texts that are made of lines, and lines that are made of fields: how they are taken apart, which
-//! numbers and digits the fields are, and how they are printed.
+//! Texts that are made of lines, and lines that are made of fields: how to take them apart, which
+//! numbers and digits the fields are, and how to print them.
 //!
-//! Fields are parted by one space. A number is a canonical decimal, 0 or a first digit that is not
-//! 0, of at most 20 digits. A seed has 16 and a state 18 hexadecimal digits in lower case.
+//! Fields are separated by one space. A number is a canonical decimal, 0 or a first digit that is
+//! not 0, of at most 20 digits. A seed has 16 and a state 18 hexadecimal digits in lower case.
 #![tactic(auto)]
 
 mod cut;

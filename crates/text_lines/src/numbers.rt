@@ -53,7 +53,7 @@ fn small_worth(digits: &[u8]) -> u64
     value
 }
 
-/// The number that a field is: a canonical decimal of at most 20 digits. None where it is none.
+/// The number that a field is: a canonical decimal of at most 20 digits. None if it is not one.
 pub fn number(field: &[u8]) -> Option<u128>
     ensures { result ≡ number_of field.now }
 {
@@ -119,8 +119,8 @@ fn seed_worth(digits: &[u8]) -> u64
     value
 }
 
-/// The number that a field of 18 lower-case hexadecimal digits is, below 2^72. None where it is
-/// none.
+/// The number that a field of 18 lower-case hexadecimal digits is, below 2^72. None if it is not
+/// one.
 pub fn state(field: &[u8]) -> Option<u128>
     ensures value { result ≡ hex_of 18 field.now }
     ensures bound { IfSome result (λ n. n < 2 ^ 72) }
@@ -132,7 +132,7 @@ pub fn state(field: &[u8]) -> Option<u128>
     }
 }
 
-/// The number that a field of 16 lower-case hexadecimal digits is. None where it is none.
+/// The number that a field of 16 lower-case hexadecimal digits is. None if it is not one.
 pub fn seed(field: &[u8]) -> Option<u64>
     ensures { result ≡ hex_of 16 field.now }
 {

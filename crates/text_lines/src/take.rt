@@ -1,5 +1,5 @@
-//! Taking the fields of a line one after another. The fields that are left are a text, or none
-//! where the line is over.
+//! Taking the fields of a line one after another. The fields that are left are a text, or none if
+//! the line has ended.
 ghost use Rattle.std.specs.Prelude.{◌≡◌, option_map, option_copied};
 ghost use Rattle.text_lines.specs.Fields.{args_of};
 ghost use Rattle.text_lines.specs.Forms.{one_field, one_number, one_seed, take_number, two_numbers};
@@ -7,8 +7,8 @@ ghost use Rattle.text_lines.specs.Forms.{one_field, one_number, one_seed, take_n
 use crate::cut::first_field;
 use crate::numbers::{number, seed};
 
-/// The number that the first of some fields is, and the other fields. None where there is no
-/// field, or it is no number.
+/// The number that the first of some fields is, and the other fields. None if there is no field, or
+/// the first is not a number.
 #[tactic(auto, unfolding(crate::specs::Forms::take_number))]
 pub fn take_number(args: Option<&[u8]>) -> Option<(u128, Option<&[u8]>)>
     ensures { option_map (λ r. (r.0, args_of (option_copied r.1))) result ≡ take_number (args_of (option_copied args.entry)) }
@@ -20,7 +20,7 @@ pub fn take_number(args: Option<&[u8]>) -> Option<(u128, Option<&[u8]>)>
     }
 }
 
-/// The field, where there is one alone.
+/// The field, if there is exactly one.
 #[tactic(auto, using(crate::proofs::Takes::two_fields), unfolding(crate::specs::Forms::one_field))]
 pub fn one_field(args: Option<&[u8]>) -> Option<&[u8]>
     ensures { option_copied result ≡ one_field (args_of (option_copied args.entry)) }
@@ -31,22 +31,23 @@ pub fn one_field(args: Option<&[u8]>) -> Option<&[u8]>
     }
 }
 
-/// The number that the one field is. None where there is no field, a second one, or no number.
+/// The number that the one field is. None if there is no field, more than one, or it is not a
+/// number.
 pub fn one_number(args: Option<&[u8]>) -> Option<u128>
     ensures { result ≡ one_number (args_of (option_copied args.entry)) }
 {
     number(one_field(args)?)
 }
 
-/// The number whose 16 digits the one field is. None where there is no field, a second one, or one
-/// of another form.
+/// The number whose 16 digits the one field is. None if there is no field, more than one, or one of
+/// another form.
 pub fn one_seed(args: Option<&[u8]>) -> Option<u64>
     ensures { result ≡ one_seed (args_of (option_copied args.entry)) }
 {
     seed(one_field(args)?)
 }
 
-/// The two numbers that the fields are. None where they are fewer, more, or no numbers.
+/// The two numbers that the fields are. None if there are fewer or more, or one is not a number.
 pub fn two_numbers(args: Option<&[u8]>) -> Option<(u128, u128)>
     ensures { result ≡ two_numbers (args_of (option_copied args.entry)) }
 {

@@ -81,7 +81,7 @@ pub fn empty_board(alloc: Global, map: &Map) -> Result<PlainBoard, NoMemory>
     Ok(board)
 }
 
-/// The next attempt of a tile that is alone, from its start to its end; nothing where none is left.
+/// The next attempt of a tile that is alone, from its start to its end; nothing if none is left.
 /// Answers the phase.
 pub fn attempt(tile: &mut Tile<Turn>, map: &Map, board: &mut PlainBoard) -> Phase
     requires { IsAlone map.now tile.old.0 board.old }

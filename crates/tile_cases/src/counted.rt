@@ -7,14 +7,14 @@ ghost use Rattle.tile_core.specs.Boards.{IsBoardOf};
 use edge_lock::{Board, PlainBoard, Take};
 use tile_map::Map;
 
-/// A plain board whose edges share so many sites each, with the number of cells that were read.
+/// A plain board whose edges share this many sites each, with the number of cells that were read.
 #[derive(Drop)]
 pub struct CountedBoard {
     /// The board.
     pub board: PlainBoard,
     /// How many sites each edge shares.
     pub sites: u32,
-    /// How often the first register of a shared site was read. It stands still at its end.
+    /// How often the first register of a shared site was read. It stays at its greatest value.
     pub cells: u64,
 }
 
@@ -58,7 +58,7 @@ impl Board for CountedBoard {
 }
 
 impl CountedBoard {
-    /// Counts a read of a register, where it is the first of a shared site.
+    /// Counts a read of a register, if it is the first of a shared site.
     fn count(&mut self, register: u32)
         ensures same { self.new.board ≡ self.old.board }
         ensures sites { self.new.sites ≡ self.old.sites }

@@ -1,5 +1,5 @@
-//! Tests of a tile: its phases, its entries, and its copy of the sites.
-//! They stand above the caches and the phases, so that these are proved once.
+//! Tests of a tile: its phases, its entries, and its copy of the sites. They are above the caches
+//! and the phases, so that these are proved once.
 #![tactic(auto)]
 
 mod alone;

@@ -31,7 +31,7 @@ value_of s = record {
   phase = s.phase;
 }
 
--- how many entries the attempt in hand still owes
+-- how many entries are still due for the attempt in hand
 abbrev pub owed : Phase → ℕ
 owed Draw = 0
 owed Lock = 1

@@ -26,7 +26,7 @@ abbrev pub begun : List ℕ → Phase
 begun [] = Refresh
 begun (e ∷ es) = Lock
 
--- the phase after a refusal, with so many edges to give back
+-- the phase after a refusal, with this many edges to give back
 abbrev pub refused_phase : ℕ → List Attempt → Phase
 refused_phase zero left = over left
 refused_phase (suc n) left = Back
@@ -94,7 +94,8 @@ pub record Renews (old new : TileValue) (top : ℕ) (between lists' : ℕ → En
   pub cells : Refreshed (centre old) old.needs old.cache new.cache between lists'
   pub is : new ≡ refreshed old top new.cache
 
--- Refresh: the clocks of all needed edges are read. Then the tile is worn out, where one is too great, or the cells of the window are brought up to date.
+-- Refresh: the clocks of all needed edges are read. Then the tile is worn out if one is too great,
+-- or else the cells of the window are brought up to date.
 pub record Refreshes (old new : TileValue) (lists lists' : ℕ → EndLists) : Type 0 where
   pub top : ℕ
   pub between : ℕ → EndLists
@@ -128,7 +129,7 @@ abbrev pub freed : Bool → TileValue → TileValue
 freed true tile = record tile { next = tile.next + 1 }
 freed false tile = record tile { phase = over tile.left }
 
--- Give and Back: one edge is freed, of the first so many that are needed
+-- Give and Back: one edge is freed, one of the first n that are needed
 pub record Frees (count : ℕ) (old new : TileValue) (lists lists' : ℕ → EndLists) : Type 0 where
   pub lists_are : lists' ≡ replace_at lists (next_edge old) (after_give (lists (next_edge old)))
   pub is : new ≡ freed (nat_lt (old.next + 1) count) old
@@ -150,7 +151,7 @@ StepsIn m meaning end_of old new lists lists' Back = Frees old.count old new lis
 StepsIn m meaning end_of old new lists lists' Finished = Rests old new lists lists'
 StepsIn m meaning end_of old new lists lists' Worn = Rests old new lists lists'
 
--- whether no attempt is in hand any more that goes on
+-- whether no attempt in hand goes on
 abbrev pub is_over : Phase → Bool
 is_over Draw = true
 is_over Lock = false

@@ -1,4 +1,5 @@
--- What a tile did, attempt by attempt (the newest turn first), and what that says of the lists of its end of each edge.
+-- What a tile did, attempt by attempt (the newest turn first), and what follows for the lists of
+-- its end of each edge.
 use Rattle.std.specs.Prelude.{ℕ, ◌≡◌, ◌≤◌, ◌<◌, ◌+◌, ◌-◌, ◌*◌, ◌/◌, ◌==◌, ◌⊎◌, max, if◌then◌else◌, List, [], ◌∷◌, ◌++◌, length, slice_get, Bool, true, false, Option, Some, None}
 use Rattle.bit_field.specs.Atom.{AtomValue, empty_atom}
 use Rattle.window_sites.specs.Window.{WindowValue, atom_at}
@@ -69,12 +70,12 @@ refusals_at (Wears w) e = []
 abbrev pub as_open : Bool → Hold → Hold
 as_open is_open hold = hold_of hold.end hold.attempt hold.accesses is_open
 
--- a hold, where there is one
+-- a hold, if there is one
 abbrev pub one_if : Bool → Hold → List Hold
 one_if true hold = hold ∷ []
 one_if false hold = []
 
--- the lists with a hold more, where there is one, and refusals more
+-- the lists with one more hold, if there is one, and with more refusals
 abbrev pub with_more : List Hold → List Refusal → EndLists → EndLists
 with_more holds refusals lists = end_lists (lists.holds ++ holds) (lists.refusals ++ refusals)
 
@@ -87,7 +88,8 @@ abbrev pub lists_of : MapValue → ℕ → List Turn → ℕ → EndLists
 lists_of m t [] e = end_lists [] []
 lists_of m t (x ∷ xs) e = with_more (one_if (has e (edges_of m t x)) (hold_at x e)) (refusals_at x e) (lists_of m t xs e)
 
--- the same while the holds of the last turn are given back: `is_left` tells whether the one of an edge is still open
+-- the same while the holds of the last turn are given back: `is_left` says whether the one on an
+-- edge is still open
 abbrev pub lists_left : MapValue → ℕ → (ℕ → Bool) → Turn → List Turn → ℕ → EndLists
 lists_left m t is_left x xs e = with_more (one_if (has e (edges_of m t x)) (as_open (is_left e) (hold_at x e))) (refusals_at x e) (lists_of m t xs e)
 
@@ -98,7 +100,7 @@ cells_of m start (Wins w ∷ xs) s = if in_window m (event_site w.note) s then c
 cells_of m start (Loses l ∷ xs) s = cells_of m start xs s
 cells_of m start (Wears w ∷ xs) s = cells_of m start xs s
 
--- the stamp of the tile's last event, 0 where there is none
+-- the stamp of the tile's last event, or 0 if there is none
 abbrev pub stamp_of : List Turn → ℕ
 stamp_of [] = 0
 stamp_of (Wins w ∷ xs) = w.note.stamp
@@ -118,7 +120,8 @@ abbrev pub greatest : ℕ → (ℕ → ℕ) → List ℕ → ℕ
 greatest n f [] = n
 greatest n f (e ∷ es) = greatest (max n (f e)) f es
 
--- what a hold of an event found and left on an edge with so many shared sites, of which the window covers some places
+-- what a hold of an event found and left on an edge with this many shared sites, of which the
+-- window covers some places
 pub record IsEventHold (sites end : ℕ) (places : ℕ → Option ℕ) (cells : ℕ → CellValue) (stamp : ℕ) (accesses : List Access) : Type 0 where
   pub clock : (c : ℕ) × (found_value accesses 0 ≡ Some c)
   pub stamped : last_write accesses 0 None ≡ Some stamp
@@ -206,7 +209,7 @@ Wearless (Wins w ∷ xs) = Wearless xs
 Wearless (Loses l ∷ xs) = Wearless xs
 Wearless (Wears w ∷ xs) = ⊥
 
--- each turn is as what came before it makes it, and only the last may be a worn one
+-- each turn is as what came before it determines, and only the last may be a worn one
 abbrev pub AreTurns : MapValue → (WindowValue → ℕ → WindowValue) → (Site → AtomValue) → ℕ → List Turn → Type 0
 AreTurns m meaning start t [] = Unit {0}
 AreTurns m meaning start t (x ∷ xs) = IsTurn m meaning start t xs x × Wearless xs × AreTurns m meaning start t xs

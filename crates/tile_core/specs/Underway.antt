@@ -1,4 +1,4 @@
--- What a tile and the lists of its end of each edge say at each phase.
+-- What is known of a tile and of the lists of its end of each edge at each phase.
 use Rattle.std.specs.Prelude.{ℕ, ◌≡◌, ◌≤◌, ◌<◌, ◌+◌, ◌*◌, ◌⊎◌, ◌&&◌, not, List, [], ◌∷◌, length, take, drop, slice_get, Bool, true, false, Some, None}
 use Rattle.std.specs.List.Sorted.{IsStrictlyIncreasing}
 use Rattle.bit_field.specs.Atom.{AtomValue}

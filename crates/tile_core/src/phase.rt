@@ -21,12 +21,12 @@ pub enum Phase {
     Back,
     /// Nothing: no attempt is left.
     Finished,
-    /// Nothing: a clock has come to its end, and the tile stays as it is, with its edges.
+    /// Nothing: a clock has reached its end, and the tile stays as it is, with its edges.
     Worn,
 }
 
 impl Phase {
-    /// Whether no attempt is in hand that goes on: the phase is `Draw`, `Finished` or `Worn`.
+    /// Whether no attempt in hand goes on: the phase is `Draw`, `Finished` or `Worn`.
     pub fn is_over(self) -> bool
         ensures { result ≡ is_over self }
     {

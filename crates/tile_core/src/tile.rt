@@ -45,8 +45,8 @@ impl<B> Model for Tile<B> {
 }
 
 impl<B: Behave> Tile<B> {
-    /// One step, by the phase, which is over then; answers the phase that follows. At `Finished`
-    /// and at `Worn` nothing happens.
+    /// The one step of the tile's phase; answers the phase that follows. At `Finished` and at
+    /// `Worn` nothing happens.
     ///
     /// The map is the one that the tile was made with, the board this tile's end of its edges, and
     /// what the board's lists have is what this tile's steps have made.
@@ -115,7 +115,9 @@ impl<B: Behave> Tile<B> {
         self.state.taken
     }
 
-    /// The site of the attempt in hand. None exactly in the phases `Draw` and `Finished`.
+    /// The site of the attempt in hand. None exactly in the phases `Draw` and `Finished`: in `Give`
+    /// and `Back` the attempt has its entry, and the site is still the tile's until the next one is
+    /// drawn.
     pub fn in_hand(&self) -> Option<(u32, u32)>
         ensures { result ≡ in_hand_at self.now.0.phase self.now.0.x self.now.0.y }
     {
@@ -140,8 +142,8 @@ impl<B: Behave> Tile<B> {
     }
 
     /// What holds of each tile that is underway: between attempts it has played those that it drew,
-    /// at the end all its attempts, and where it is worn out those that it drew, the last of which
-    /// has its edges still. It does nothing.
+    /// at the end all its attempts, and if it is worn out those that it drew, the last of which
+    /// still has its edges. It does nothing.
     pub fn laws(&self)
         ensures draw { IsPlayedAt Draw self.now.0 }
         ensures worn { IsPlayedAt Worn self.now.0 }
@@ -157,10 +159,10 @@ impl<B: Behave> Tile<B> {
 }
 
 impl<B: Behave + Drop> Tile<B> {
-    /// A tile with the atoms of a grid, all of whose attempts are left. It takes all its memory
+    /// A tile with the atoms of a grid, all of whose attempts are left. All its memory is allocated
     /// here. The grid has the size and the live sites of the map's plane; there are at most
-    /// 1,000,000 attempts, each centre is a position of the tile's rectangle, and a tile that is off
-    /// has none.
+    /// 1,000,000 attempts, each centre is a position of the tile's rectangle, and a tile that is
+    /// off has none.
     pub fn new(
         alloc: Global,
         map: &Map,

@@ -22,7 +22,7 @@ pub record HasOwners (m : MapValue) : Type 0 where
   -- a live site has an owner, which holds it
   pub owner : (s : Site) → is_live m s ≡ true → is_owned m (owner_of m s) s ≡ true
   pub holder : (s : Site) → is_live m s ≡ true → is_held m (owner_of m s) s ≡ true
-  -- and no other owner
+  -- and it has no other owner
   pub one : (t : ℕ) (s : Site) → is_owned m t s ≡ true → t ≡ owner_of m s
   -- the positions of a tile's rectangle are its sites in row order
   pub positions : (t k : ℕ) → t < tiles_of m → k < m.w * m.h → slice_get (filter (is_owned m t) (sites_of m)) k ≡ Some (site_in m t k)

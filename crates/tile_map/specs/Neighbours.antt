@@ -1,4 +1,4 @@
--- Neighbours by the columns and rows in which the tiles stand, tx in a row.
+-- Neighbours by the columns and rows of the tiles, tx in a row.
 use Rattle.std.specs.Prelude.{ℕ, ◌+◌, ◌/◌, ◌%◌, List, Bool, ◌&&◌, nat_le, nat_lt, map, filter, flat_map}
 use Rattle.std.specs.List.{range_with_len}
 
@@ -10,7 +10,7 @@ are_near tx t u = nat_lt t u && ((nat_le (t % tx) (u % tx + 1) && nat_le (u % tx
 abbrev pub are_joined : (ℕ → Bool) → ℕ → ℕ → ℕ → Bool
 are_joined on tx t u = (on t && on u) && are_near tx t u
 
--- the pairs of a lower tile of n in all
+-- the pairs of a lower tile, of n tiles in total
 abbrev pub near_from : (ℕ → Bool) → ℕ → ℕ → ℕ → List (ℕ × ℕ)
 near_from on tx n t = map (λ u. (t, u)) (filter (are_joined on tx t) (range_with_len 0 n))
 

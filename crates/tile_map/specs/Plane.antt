@@ -42,7 +42,7 @@ whole_plane tx ty w h = plane_of tx ty w h (replicate (tx * ty) false)
 abbrev pub site : ℕ → ℕ → Site
 site x y = record { x = x; y = y }
 
--- tile t stands in column t % tx and row t / tx of the tiles
+-- tile t is in column t % tx and row t / tx of the tiles
 abbrev pub tiles_of : MapValue → ℕ
 tiles_of m = m.tx * m.ty
 

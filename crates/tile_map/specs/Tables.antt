@@ -19,7 +19,7 @@ block x n y k = flat_map (row x n) (range_with_len y k)
 abbrev pub sites_in : Area → List Site
 sites_in a = block a.columns.first (a.columns.end - a.columns.first) a.rows.first (a.rows.end - a.rows.first)
 
--- those of them that are live
+-- the live ones among them
 abbrev pub live_in : MapValue → Area → List Site
 live_in m a = filter (is_live m) (sites_in a)
 

@@ -14,7 +14,7 @@ use std::marker::Model;
 use window_sites::offset;
 
 /// The numbers of a plane: how many tiles there are, how large they are, and which of them are off.
-/// Who keeps one knows for which plane it was made.
+/// A type that keeps one knows for which plane it was made.
 #[derive(Drop)]
 pub struct Plane {
     tx: u32,
@@ -111,7 +111,8 @@ impl Plane {
         (x, y)
     }
 
-    /// Whether the first is the lower of two tiles that are on and neighbours, diagonally too.
+    /// Whether the first is the lower of two neighbouring tiles that are on; diagonal neighbours
+    /// count.
     pub(crate) fn are_neighbours(&self, lower: u32, higher: u32) -> bool
         ensures { result ≡ are_joined (is_on self.now) self.now.tx lower higher }
     {
@@ -137,8 +138,8 @@ impl Plane {
         }
     }
 
-    /// The same, by each site of the window. Where the centre is live, which it is for an event, the
-    /// distance from the tile tells it at once.
+    /// The same, by each site of the window. If the centre is live, as it is for an event, the
+    /// distance from the tile gives the answer at once.
     fn holds_one(&self, tile: u32, x: u32, y: u32) -> bool
         requires small { (x < 512) × (y < 512) }
         ensures { result ≡ reaches self.now (site x y) tile }

@@ -10,9 +10,9 @@ use feast_base::NoMemory;
 use std::alloc::Global;
 use std::marker::Model;
 
-/// The live sites of the columns and rows that both ends of an edge reach. Where tiles are off they
-/// are no rectangle, so each place of these columns and rows has the number of its site, if that is
-/// live.
+/// The live sites of the columns and rows that both ends of an edge reach. If tiles are off these
+/// sites may form no rectangle, so each place of the columns and rows has the number of its site,
+/// if that is live.
 #[derive(Drop)]
 pub(crate) struct SharedSites {
     area: Area,
@@ -63,7 +63,7 @@ impl SharedSites {
         self.count
     }
 
-    /// The number of a site, where it is one of them.
+    /// The number of a site, if it is one of them.
     pub(crate) fn number(&self, x: u32, y: u32) -> Option<u32>
         ensures { result ≡ number_at self.now x y }
     {

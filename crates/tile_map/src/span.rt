@@ -12,8 +12,7 @@ pub(crate) struct Span {
 }
 
 impl Span {
-    /// What lies in one of `parts` parts of a size, or at most 4 outside it, where they are one
-    /// beside the other.
+    /// What lies in one of `parts` adjacent parts of one size, or at most 4 outside it.
     pub(crate) fn around(part: u32, size: u32, parts: u32) -> Span
         requires one { part < parts }
         requires few { parts ≤ 8 }
@@ -81,7 +80,7 @@ impl Area {
         self.columns.len() * self.rows.len()
     }
 
-    /// The place of a site, row by row, where the area has it.
+    /// The place of a site, row by row, if the area has it.
     pub(crate) fn place(self, x: u32, y: u32) -> Option<u32>
         requires columns { self.columns.end ≤ 512 }
         requires rows { self.rows.end ≤ 512 }
@@ -95,7 +94,7 @@ impl Area {
     }
 }
 
-/// The coordinate with an offset added, where it does not fall below 0.
+/// The coordinate plus an offset, unless it falls below 0.
 pub(crate) fn shift(x: u32, by: i32) -> Option<u32>
     requires small { x < 512 }
     requires near { by ≤ℤ pos 4 }

@@ -22,11 +22,11 @@ edge_of edges e = slice_index_or edges e no_edge
 abbrev pub passes_of : List (List PassValue) → ℕ → List PassValue
 passes_of all t = slice_index_or all t []
 
--- of which edge, and which end of it, tile t's pass of edge e is
+-- which edge, and which end of it, tile t's pass of edge e is of
 abbrev pub right_to : MapValue → List EdgeValue → ℕ → ℕ → EdgeAndEnd
 right_to m edges t e = record { of = edge_of edges e; end = end_at m t e }
 
--- each edge stands at its number and has the registers of its shared sites
+-- each edge is at its number and has the registers of its shared sites
 pub record AreEdges (m : MapValue) (edges : List EdgeValue) : Type 0 where
   pub numbers : (e : ℕ) → e < length edges → (edge_of edges e).number ≡ e
   pub registers : (e : ℕ) → e < length edges → (edge_of edges e).registers ≡ registers_of (sites_on m e)

@@ -38,8 +38,9 @@ pub record IsReady {B D : Type 0} (after : B → WindowValue → ℕ → WindowV
 abbrev pub Ends : MapValue → (WindowValue → ℕ → WindowValue) → {B D : Type 0} → (D → ℕ → EndLists) → Worker B D → Worker B D → Type 0
 Ends m meaning lists old new = (start : Site → AtomValue) (attempts : List Attempt) → IsUnderway m meaning start attempts old.tile.0 (lists old.end) → HasEnded m meaning start attempts (lists new.end) new.tile.0
 
--- A worker that is done: its tile is finished, or worn out with the edges of its last attempt, and has played its attempts on the
--- lists of its end. Number, map and meaning stay, and so do the end's tile and edges, and the end has moved from what it was.
+-- A worker that is done: its tile is finished, or worn out with the edges of its last attempt, and
+-- has played its attempts on the lists of its end. Number, map and meaning stay, and so do the
+-- end's tile and edges, and the end has moved on from what it was.
 pub record HasWorked {B D : Type 0} (after : B → WindowValue → ℕ → WindowValue) (tile : D → ℕ) (registers end_of : D → ℕ → ℕ) (lists : D → ℕ → EndLists) (moved : D → D → Type 0) (m : MapValue) (old new : Worker B D) : Type 0 where
   pub stopped : HasStopped new.tile.0
   pub far : GoesFar m (after old.tile.1) old.tile.0 (lists old.end) new.tile.0 (lists new.end)
@@ -51,6 +52,6 @@ pub record HasWorked {B D : Type 0} (after : B → WindowValue → ℕ → Windo
   pub edges : (registers new.end ≡ registers old.end) × (end_of new.end ≡ end_of old.end)
   pub moved_on : moved old.end new.end
 
--- each of the one list became that of the other
+-- each worker of the one list became that of the other
 abbrev pub EachDid : {W : Type 0} → (W → W → Type 0) → List W → List W → Type 0
 EachDid {W} did old new = (k : ℕ) (none : W) → k < length old → did (slice_index_or old k none) (slice_index_or new k none)

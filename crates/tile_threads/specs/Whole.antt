@@ -57,7 +57,7 @@ pub record HaveReturned {B : Type 0} (m : MapValue) (meaning : WindowValue → �
   pub ended : (t : ℕ) (x : TileValue × B) → slice_get tiles t ≡ Some x → HasEnded m meaning (atoms_of start) (attempts plan t) (lists_at (passes_of passes t)) x.0
   pub left : AreLeft m edges (λ t. lists_at (passes_of passes t)) 0 (length (pairs_of m)) passes
 
--- the run is over: there is what the settling of its grid and journal asks for
+-- the run is over: everything holds that the settling of its grid and journal requires
 pub record HasRun {B : Type 0} (m : MapValue) (meaning : WindowValue → ℕ → WindowValue) (start : GridValue) (plan : PlanValue) (tiles : List (TileValue × B)) (closed : List ClosedValue) : Type 0 where
   pub made : All (λ (x : TileValue × B). IsMade m x.0) tiles
   pub words : AreEdgeWords m (closed_histories closed) (closed_counts closed)

@@ -33,7 +33,7 @@ fn close_edge(map: &Map, edge: Edge, number: u32, passes: &mut Vec<TilePasses>) 
 }
 
 /// Closes all edges of the map's plane. Each tile has the passes of its edges, in their order, and
-/// has no edge any more.
+/// no longer has an edge.
 pub(crate) fn close_edges(
     alloc: Global,
     map: &Map,

@@ -17,7 +17,7 @@ fn give_pass(passes: &mut Vec<TilePasses>, tile: u32, pass: Pass) -> Result<(), 
     passes[tile as usize].push(pass)
 }
 
-/// For each tile no pass.
+/// An empty list of passes for each tile.
 fn no_passes(alloc: Global, tiles: u32) -> Result<Vec<TilePasses>, NoMemory>
     ensures { IfOk result (λ v. v.items ≡ replicate tiles []) }
 {

@@ -47,10 +47,11 @@ fn run_over<R: Threads + Sync, B: Behave + Send + Drop, G: Gate>(
 /// closes the edges. Answers the tiles and the closed edges, which are then settled.
 ///
 /// There is one fresh tile for each tile of the map, in order, all for one start grid and with one
-/// meaning. However the threads' steps fall, each tile has then played its attempts on its ends of
-/// the edges, and all that the ends of an edge did is one history: whatever settling asks for.
+/// meaning. In whatever order the threads make their steps, each tile has then played its attempts
+/// on its ends of the edges, and all that the ends of an edge did is one history: what settling
+/// requires.
 ///
-/// `NoMemory` where there is none for the edges or the lists of workers; the tiles are dropped then.
+/// `NoMemory` if there is none for the edges or the lists of workers; the tiles are dropped then.
 pub fn run_shared<R: Threads + Sync, B: Behave + Send + Drop, G: Gate>(
     rt: &R,
     alloc: Global,

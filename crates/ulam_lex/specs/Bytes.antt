@@ -9,7 +9,7 @@ use Rattle.ulam_lex.specs.declared.bytes.Class.TheVariants.{White, Small, Capita
 abbrev pub is_white : ℕ → Bool
 is_white b = b == 32 || b == 9 || b == 13 || b == 10
 
--- what names go on with: letters, digits and `_`
+-- what a name may go on with: letters, digits and `_`
 abbrev pub is_word_byte : ℕ → Bool
 is_word_byte b = is_ascii_alphanumeric b || b == 95
 
@@ -22,7 +22,7 @@ class_of b =
     else (if is_ascii_digit b then Digit
     else Mark)))
 
--- the words that are no names
+-- the words that are not names
 unfoldable pub keywords : List (List ℕ)
 keywords =
     codes "element" ∷ codes "quark" ∷ codes "ulam" ∷ codes "use" ∷ codes "typedef" ∷ codes "constant" ∷ codes "if" ∷ codes "else" ∷ codes "while" ∷ codes "for"

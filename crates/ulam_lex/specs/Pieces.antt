@@ -23,7 +23,7 @@ is_in_line b = not (b == 10)
 abbrev pub IsLineComment : List ℕ → Type 0
 IsLineComment bytes = (body : List ℕ) × (bytes ≡ codes "//" ++ body) × AllPass is_in_line body
 
--- the part stands somewhere in the bytes
+-- the part occurs somewhere in the bytes
 abbrev pub Holds : List ℕ → List ℕ → Type 0
 Holds bytes part = (front : List ℕ) × (back : List ℕ) × (bytes ≡ front ++ (part ++ back))
 
@@ -47,11 +47,11 @@ radix_of Binary = 2
 radix_of Decimal = 10
 radix_of Hexadecimal = 16
 
--- what digits are worth together, where n stands before them
+-- the value of digits that follow the number n
 abbrev pub worth_after : ℕ → ℕ → List ℕ → ℕ
 worth_after radix n digits = fold (λ (v d : ℕ). v * radix + digit_value d) n digits
 
--- in base ten 0 stands first only by itself
+-- in base ten only 0 itself begins with 0
 abbrev pub IsCanonical : Base → List ℕ → Type 0
 IsCanonical Binary digits = Unit {0}
 IsCanonical Decimal digits = slice_index digits 0 ≡ 48 → length digits ≡ 1
@@ -80,7 +80,7 @@ pub record IsNumeral (bytes : List ℕ) (value : ℕ) (unsigned : Bool) : Type 0
 abbrev pub IsNumberToken : List ℕ → Type 0
 IsNumberToken bytes = (value : ℕ) × (unsigned : Bool) × IsNumeral bytes value unsigned × (value < 2 ^ 32)
 
--- a token of a kind. The token at the end of a text is no piece of it
+-- a token of a kind. The token at the end of a text is not a piece of it
 abbrev pub IsToken : TokenKind → List ℕ → Type 0
 IsToken Name bytes = (class_of (slice_index bytes 0) ≡ Small) × IsWord bytes × (is_keyword bytes ≡ false)
 IsToken TypeName bytes = (class_of (slice_index bytes 0) ≡ Capital) × IsWord bytes

@@ -1,4 +1,4 @@
--- What stands at the front of a text.
+-- What is at the front of a text.
 use Rattle.std.specs.Prelude.{◌≡◌, ◌≢◌, ◌⊎◌, ℕ, ◌<◌, ◌≤◌, ◌^◌, ◌==◌, Bool, false, List, [], ◌++◌, length, slice_index, take, drop, codes, if◌then◌else◌}
 use Rattle.std.specs.List.{prefix_len}
 use Rattle.std.specs.Char.{is_digit}
@@ -17,11 +17,11 @@ LeavesOpen text = (after : List ℕ) × (text ≡ codes "/*" ++ after) × ¬ Hol
 abbrev pub BeginsTooLarge : List ℕ → Type 0
 BeginsTooLarge text = (front : List ℕ) × (back : List ℕ) × (value : ℕ) × (unsigned : Bool) × (text ≡ front ++ back) × IsNumeral front value unsigned × (2 ^ 32 ≤ value)
 
--- the text is a base's prefix, and behind it no digit of the base
+-- the text is a base's prefix, followed by no digit of the base
 abbrev pub LacksDigit : Base → List ℕ → List ℕ → List ℕ → Type 0
 LacksDigit base text front back = (text ≡ front ++ back) × (front ≡ prefix_of base) × (is_digit (slice_index back 0) (radix_of base) ≡ false)
 
--- the text begins with `0x` or `0b` and lacks the digit behind it
+-- the text begins with `0x` or `0b`, and no digit follows
 abbrev pub IsDigitless : List ℕ → List ℕ → List ℕ → Type 0
 IsDigitless text front back = LacksDigit Hexadecimal text front back ⊎ LacksDigit Binary text front back
 
@@ -51,13 +51,13 @@ IsBaseAt Binary text = text ≡ codes "0b" ++ drop 2 text
 IsBaseAt Decimal text = ((rest : List ℕ) → text ≢ codes "0b" ++ rest) × ((rest : List ℕ) → text ≢ codes "0x" ++ rest)
 IsBaseAt Hexadecimal text = text ≡ codes "0x" ++ drop 2 text
 
--- how many digits of a base stand at the front
+-- how many digits of a base are at the front
 abbrev pub digit_count : Base → List ℕ → ℕ
 digit_count Binary bytes = prefix_len (λ d. is_digit d 2) bytes
 digit_count Decimal bytes = if (slice_index bytes 0 == 48) then 1 else prefix_len (λ d. is_digit d 10) bytes
 digit_count Hexadecimal bytes = prefix_len (λ d. is_digit d 16) bytes
 
--- what stands behind the prefix of a base, the digits that it begins with, and what stands behind these
+-- what follows the prefix of a base, the digits that it begins with, and what follows these
 abbrev pub body_of : Base → List ℕ → List ℕ
 body_of base text = drop (length (prefix_of base)) text
 

@@ -10,7 +10,7 @@ use Rattle.ulam_lex.specs.declared.scan.PieceKind.TheVariants as piece
 use Rattle.ulam_lex.specs.Starts.{Stands}
 use Rattle.ulam_lex.specs.Texts.{TextPiece, spelled, is_joined, ArePieces, place_after, token_list, tokens_after, most_tokens, IsFaultAt}
 
--- the place behind one more byte
+-- the place after one more byte
 abbrev pub next_place : Place → ℕ → Place
 next_place p b = if (b == 10) then record { file = p.file; line = p.line + 1; column = 1 } else record { file = p.file; line = p.line; column = p.column + 1 }
 
@@ -23,7 +23,7 @@ IsAdded kind first end place old new (Err (NumberTooLarge p)) = ⊥
 IsAdded kind first end place old new (Err (TooManyTokens p)) = (length old ≡ most_tokens) × (p ≡ place) × ((token : TokenKind) × (kind ≡ piece.Token token))
 IsAdded kind first end place old new (Err NoMemory) = Unit {0}
 
--- the fault stands in the rest, unless it is want of memory
+-- the fault is in the rest, unless memory ran out
 abbrev pub IsFaultIn : ℕ → List ℕ → ℕ → List ℕ → LexFault → Type 0
 IsFaultIn file before count rest (BadByte p) = IsFaultAt file before count rest (BadByte p)
 IsFaultIn file before count rest (OpenComment p) = IsFaultAt file before count rest (OpenComment p)
@@ -31,7 +31,7 @@ IsFaultIn file before count rest (NumberTooLarge p) = IsFaultAt file before coun
 IsFaultIn file before count rest (TooManyTokens p) = IsFaultAt file before count rest (TooManyTokens p)
 IsFaultIn file before count rest NoMemory = Unit {0}
 
--- a piece of n bytes stands in front of the rest and was taken
+-- a piece of n bytes is in front of the rest and was taken
 pub record TakesPiece (file : ℕ) (before rest : List ℕ) (old new : List Token) (n : ℕ) (next : Place) : Type 0 where
   pub kind : PieceKind
   pub some : 0 < n
@@ -42,7 +42,7 @@ pub record TakesPiece (file : ℕ) (before rest : List ℕ) (old new : List Toke
   pub few : length new ≤ most_tokens
   pub placed : next ≡ place_after file (before ++ take n rest)
 
--- a piece was taken, or a fault stands there
+-- a piece was taken, or there is a fault
 abbrev pub IsStep : ℕ → List ℕ → List ℕ → List Token → List Token → Result (ℕ × Place) LexFault → Type 0
 IsStep file before rest old new (Ok taken) = TakesPiece file before rest old new taken.0 taken.1
 IsStep file before rest old new (Err fault) = IsFaultIn file before (length old) rest fault

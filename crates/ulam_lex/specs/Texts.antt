@@ -1,4 +1,4 @@
--- Which list of tokens a text has, and where and why it has none.
+-- Which list of tokens a text has, or where and why it has none.
 use Rattle.std.specs.Prelude.{◌≡◌, ◌⊎◌, ℕ, ◌+◌, ◌<◌, ◌≤◌, ◌==◌, Bool, true, false, ◌&&◌, List, [], ◌∷◌, ◌++◌, length, slice_index, slice_range, flat_map, count_by}
 use Rattle.std.specs.List.{suffix_len}
 use Rattle.feast_base.specs.declared.place.Place.{Place}
@@ -33,16 +33,17 @@ is_word_kind (piece.Token Number) = true
 is_word_kind (piece.Token Sign) = false
 is_word_kind (piece.Token End) = false
 
--- a letter, a digit or `_` stands straight behind a word or a number
+-- a letter, a digit or `_` directly follows a word or a number
 abbrev pub is_joined : PieceKind → List ℕ → Bool
 is_joined kind back = is_word_kind kind && is_word_byte (slice_index back 0)
 
--- these pieces stand one after another, and then the rest
+-- these pieces come one after another, and then the rest
 abbrev pub ArePieces : List TextPiece → List ℕ → Type 0
 ArePieces [] rest = Unit {0}
 ArePieces (p ∷ ps) rest = Stands p.kind (p.bytes ++ (spelled ps ++ rest)) p.bytes (spelled ps ++ rest) × (is_joined p.kind (spelled ps ++ rest) ≡ false) × ArePieces ps rest
 
--- the place behind some bytes of a file: 1 line more than LFs, and 1 column more than bytes since the last LF
+-- the place after some bytes of a file: 1 line more than LFs, and 1 column more than bytes since
+-- the last LF
 abbrev pub place_after : ℕ → List ℕ → Place
 place_after file before = record { file = file; line = 1 + count_by (λ b. b == 10) before; column = 1 + suffix_len is_in_line before }
 
@@ -52,7 +53,7 @@ token_list piece.Space first end place = []
 token_list piece.Comment first end place = []
 token_list (piece.Token kind) first end place = record { kind = kind; first = first; end = end; place = place } ∷ []
 
--- the tokens of pieces that stand behind some bytes
+-- the tokens of pieces that follow some bytes
 abbrev pub tokens_after : ℕ → List ℕ → List TextPiece → List Token
 tokens_after file before [] = []
 tokens_after file before (p ∷ ps) = token_list p.kind (length before) (length before + length p.bytes) (place_after file before) ++ tokens_after file (before ++ p.bytes) ps
@@ -61,27 +62,28 @@ tokens_after file before (p ∷ ps) = token_list p.kind (length before) (length 
 abbrev pub end_token : ℕ → List ℕ → Token
 end_token file text = record { kind = End; first = length text; end = length text; place = place_after file text }
 
--- the text has this list of tokens: it is a list of pieces, and these are those of them that are tokens, and `End`
+-- the text has this list of tokens: it is a list of pieces, and these are its tokens, and `End`
 abbrev pub IsTokensOf : ℕ → List ℕ → List Token → Type 0
 IsTokensOf file text tokens = (pieces : List TextPiece) × (text ≡ spelled pieces) × ArePieces pieces [] × (tokens ≡ tokens_after file [] pieces ++ end_token file text ∷ [])
 
--- how many tokens a text may have, without `End`
+-- how many tokens a text may have, not counting `End`
 abbrev pub most_tokens : ℕ
 most_tokens = 200000
 
--- the word or number at the front is followed straight by a letter, a digit or `_`, and it is no token too many
+-- a letter, a digit or `_` directly follows the word or number at the front, which is not one token
+-- too many
 abbrev pub JoinsWord : ℕ → List ℕ → List ℕ → List ℕ → Type 0
 JoinsWord count text front back = (kind : PieceKind) × Stands kind text front back × (is_joined kind back ≡ true) × (count < most_tokens)
 
--- behind the front stands a byte that can't stand there
+-- a byte that can't be there follows the front
 abbrev pub IsBadBehind : ℕ → List ℕ → List ℕ → List ℕ → Type 0
 IsBadBehind count text front back = BeginsNothing text front back ⊎ (IsDigitless text front back ⊎ JoinsWord count text front back)
 
--- one token more than a text may have stands at the front
+-- one token more than a text may have is at the front
 abbrev pub IsOneTooMany : ℕ → List ℕ → Type 0
 IsOneTooMany count text = (count ≡ most_tokens) × (kind : TokenKind) × (front : List ℕ) × (back : List ℕ) × Stands (piece.Token kind) text front back
 
--- behind some bytes with so many tokens, this fault stands in the rest
+-- after some bytes with this many tokens, this fault is in the rest
 abbrev pub IsFaultAt : ℕ → List ℕ → ℕ → List ℕ → LexFault → Type 0
 IsFaultAt file before count rest (BadByte place) = (front : List ℕ) × (back : List ℕ) × IsBadBehind count rest front back × (place ≡ place_after file (before ++ front))
 IsFaultAt file before count rest (OpenComment place) = LeavesOpen rest × (place ≡ place_after file before)
@@ -89,15 +91,16 @@ IsFaultAt file before count rest (NumberTooLarge place) = BeginsTooLarge rest ×
 IsFaultAt file before count rest (TooManyTokens place) = IsOneTooMany count rest × (place ≡ place_after file before)
 IsFaultAt file before count rest NoMemory = ⊥
 
--- how many tokens are among pieces
+-- how many of the pieces are tokens
 abbrev pub token_count : List TextPiece → ℕ
 token_count pieces = length (tokens_after 0 [] pieces)
 
--- the first fault of a text: pieces with no more tokens than it may have stand before it
+-- the first fault of a text: the pieces before it have no more tokens than a text may have
 abbrev pub IsFaultOf : ℕ → List ℕ → LexFault → Type 0
 IsFaultOf file text fault = (pieces : List TextPiece) × (rest : List ℕ) × (text ≡ spelled pieces ++ rest) × ArePieces pieces rest × (token_count pieces ≤ most_tokens) × IsFaultAt file (spelled pieces) (token_count pieces) rest fault
 
--- each token stands behind the one before it and is one of its kind, and the last stands at the end of the text and is its only `End`
+-- each token comes after the one before it and is one of its kind, and the last is at the end of
+-- the text and is its only `End`
 abbrev pub AreInOrder : List ℕ → ℕ → List Token → Type 0
 AreInOrder text from [] = ⊥
 AreInOrder text from (t ∷ []) = (t.kind ≡ End) × (from ≤ t.first) × (t.first ≡ length text) × (t.end ≡ length text)

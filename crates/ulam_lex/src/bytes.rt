@@ -25,7 +25,7 @@ pub fn is_white(byte: u8) -> bool
     byte == b' ' || byte == b'\t' || byte == b'\r' || byte == b'\n'
 }
 
-/// Whether a byte is one that names go on with.
+/// Whether a byte is one that a name may go on with.
 pub fn is_word_byte(byte: u8) -> bool
     ensures { result ≡ is_word_byte byte }
 {
@@ -56,7 +56,7 @@ fn is_among(words: &[&str], text: &[u8]) -> bool
     words.iter().any(|word| word.as_bytes() == text)
 }
 
-/// The words that are no names.
+/// The words that are not names.
 const KEYWORDS: [&str; 19] = [
     "element",
     "quark",

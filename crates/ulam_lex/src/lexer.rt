@@ -25,7 +25,7 @@ impl PieceKind {
     }
 }
 
-/// Whether a letter, a digit or `_` stands straight behind a word or a number.
+/// Whether a letter, a digit or `_` directly follows a word or a number.
 fn is_joined(kind: PieceKind, back: &[u8]) -> bool
     ensures { result ≡ is_joined kind back.now }
 {
@@ -38,7 +38,7 @@ fn is_joined(kind: PieceKind, back: &[u8]) -> bool
 /// The column of the first byte of a line.
 const FIRST_COLUMN: u32 = 1;
 
-/// The place behind one more byte.
+/// The place after one more byte.
 fn next_place(place: Place, byte: u8) -> Place
     requires line { place.line + 1 < 2 ^ 32 }
     requires column { place.column + 1 < 2 ^ 32 }
@@ -58,7 +58,7 @@ fn next_place(place: Place, byte: u8) -> Place
     }
 }
 
-/// The place behind some more bytes.
+/// The place after some more bytes.
 fn passed(place: Place, bytes: &[u8]) -> Place
     requires line { place.line + length bytes.now < 2 ^ 32 }
     requires column { place.column + length bytes.now < 2 ^ 32 }
@@ -71,7 +71,7 @@ fn passed(place: Place, bytes: &[u8]) -> Place
     end
 }
 
-/// The most tokens that a text may have, without `End`.
+/// The most tokens that a text may have, not counting `End`.
 const MOST_TOKENS: usize = 200_000;
 
 /// Adds the token of a piece, if it is one.
@@ -103,7 +103,7 @@ fn add(
 }
 
 /// Takes the piece of `len` bytes at a place: adds its token, if it is one, and gives its length
-/// and the place behind it.
+/// and the place after it.
 fn take_piece(
     bytes: &[u8],
     at: usize,
@@ -130,7 +130,7 @@ fn take_piece(
     Ok((len, next))
 }
 
-/// Takes the piece at a place, or finds the fault that stands there.
+/// Takes the piece at a place, or finds the fault that is there.
 fn step(
     bytes: &[u8],
     at: usize,
@@ -191,17 +191,16 @@ fn read(alloc: Global, bytes: &[u8], file: u32) -> Result<Vec<Token>, LexFault>
 /// `/*` to the next `*/`. Everything else is tokens, each the longest that begins there.
 ///
 /// # Errors
-/// The first fault of the text: a byte that can't stand where it stands, a comment that is not
-/// closed, a number of 2^32 or more, or the 200,001st token. `NoMemory` where the list could not
-/// grow.
+/// The first fault of the text: a byte that can't be where it is, a comment that is not closed, a
+/// number of 2^32 or more, or the 200,001st token. `NoMemory` if the list could not grow.
 pub fn lex(alloc: Global, bytes: &[u8], file: u32) -> Result<Vec<Token>, LexFault>
     requires { length bytes.now < 2 ^ 32 - 1 }
 
-    // What is given is the text's list of tokens, or its first fault.
+    // The result is the text's list of tokens, or its first fault.
     ensures tokens { IfOk result (λ v. IsTokensOf file bytes.now v.items × (length v.items ≤ most_tokens + 1)) }
     ensures fault { IfErr result (λ e. (e ≡ LexFault.NoMemory) ⊎ IsFaultOf file bytes.now e) }
 
-    // The tokens stand one behind another, and `End` is the last alone.
+    // The tokens come one after another, and `End` is only the last.
     ensures order { IfOk result (λ v. AreInOrder bytes.now 0 v.items) }
 
     // A text that has a list of tokens gets it, and one that has a first fault gets that, unless memory runs out.
@@ -211,9 +210,9 @@ pub fn lex(alloc: Global, bytes: &[u8], file: u32) -> Result<Vec<Token>, LexFaul
     read(alloc, bytes, file)
 }
 
-/// Each text has a list of tokens within the limit or a first fault, and never both. No text has two
-/// lists of tokens, or two first faults. A text with a bad byte, an open comment or a number too
-/// large behind some pieces has no list of any length. No numeral has two values.
+/// Each text has a list of tokens within the limit or a first fault, and never both. No text has
+/// two lists of tokens, or two first faults. A text with a bad byte, an open comment or a number
+/// that is too large after some pieces has no list of any length. No numeral has two values.
 pub fn one_reading()
     ensures some { (file : ℕ) (text : List ℕ) → ((tokens : List Token) × IsTokensOf file text tokens × (length tokens ≤ most_tokens + 1)) ⊎ ((fault : LexFault) × IsFaultOf file text fault) }
     ensures list { (file : ℕ) (text : List ℕ) (a b : List Token) → IsTokensOf file text a → IsTokensOf file text b → a ≡ b }

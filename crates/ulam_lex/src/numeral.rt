@@ -61,7 +61,7 @@ fn digit_run(radix: u32, bytes: &[u8]) -> usize
         .count()
 }
 
-/// How many digits of a base stand at the front. A decimal has nothing behind a 0 at its front.
+/// How many digits of a base are at the front. In a decimal nothing follows a 0 at its front.
 fn digit_count(base: Base, bytes: &[u8]) -> usize
     ensures { result ≡ digit_count base bytes.now }
 {
@@ -73,7 +73,7 @@ fn digit_count(base: Base, bytes: &[u8]) -> usize
     }
 }
 
-/// Whether this byte stands at the front.
+/// Whether this byte is at the front.
 fn starts_with(bytes: &[u8], byte: u8) -> bool
     requires { 0 < byte }
     ensures { result ≡ (slice_index bytes.now 0 == byte) }
@@ -84,7 +84,7 @@ fn starts_with(bytes: &[u8], byte: u8) -> bool
     }
 }
 
-/// The value of a digit, and 36 for what is none.
+/// The value of a digit, or 36 if it is not one.
 fn digit_value(byte: u8) -> u32
     ensures value { result ≡ digit_value byte }
     ensures small { result ≤ 36 }
@@ -117,14 +117,14 @@ pub fn worth(base: Base, digits: &[u8]) -> Option<u32>
     Some(value)
 }
 
-/// How long the `u` behind the digits of a number is.
+/// How long the `u` after the digits of a number is.
 pub fn suffix_len(rest: &[u8]) -> usize
     ensures { result ≡ (if (slice_index rest.now 0 == 117) then 1 else 0) }
 {
     if starts_with(rest, b'u') { 1 } else { 0 }
 }
 
-/// A number with its base: its digits and the bytes behind them.
+/// A number with its base: its digits and the bytes after them.
 pub fn digits_at(base: Base, bytes: &[u8]) -> (&[u8], &[u8])
     requires { IsBaseAt base bytes.now }
     ensures digits { result.0.now ≡ digits_of base bytes.now }
@@ -143,7 +143,7 @@ pub struct Numeral {
     pub unsigned: bool,
 }
 
-/// What the text of a number says, as that of each token of the kind `Number`.
+/// What the text of a number says. The text is that of a token of the kind `Number`.
 pub fn numeral_of(text: &[u8]) -> Numeral
     requires { IsNumberToken text.now }
     ensures { IsNumeral text.now result.value result.unsigned }

@@ -1,4 +1,4 @@
-//! What stands at the front of a text.
+//! What is at the front of a text.
 ghost use Rattle.std.specs.Prelude.{◌≡◌, ℕ, ◌+◌, ◌*◌, ◌<◌, ◌≤◌, ◌^◌, ◌==◌, ◌++◌, length, slice_index, take, drop, IfSome, IfNone, nat_lt, if◌then◌else◌, min, true, false, codes};
 ghost use Rattle.std.specs.Char.{digit_value, is_digit};
 ghost use Rattle.std.specs.List.{prefix_len};
@@ -21,12 +21,12 @@ pub enum PieceKind {
     Token(TokenKind),
 }
 
-/// What stands at the front of a text.
+/// What is at the front of a text.
 #[derive(Clone, Copy, Debug, PartialEq, Eq)]
 pub enum Start {
-    /// A piece of so many bytes.
+    /// A piece of that many bytes.
     Piece(PieceKind, usize),
-    /// A byte that can't stand behind so many bytes.
+    /// A byte that can't follow that many bytes.
     BadByte(usize),
     /// A comment that is not closed.
     OpenComment,
@@ -53,7 +53,7 @@ fn space(bytes: &[u8]) -> Start
 /// The most bytes that a word may have.
 const LONGEST_WORD: usize = 255;
 
-/// How many bytes at the front go on a word.
+/// How many bytes at the front continue a word.
 fn word_run(bytes: &[u8]) -> usize
     ensures { result ≡ prefix_len is_word_byte bytes.now }
 {
@@ -112,14 +112,14 @@ fn number(bytes: &[u8]) -> Start
     }
 }
 
-/// How many bytes stand before the end of the line.
+/// How many bytes come before the end of the line.
 fn line_len(bytes: &[u8]) -> usize
     ensures { result ≡ prefix_len is_in_line bytes.now }
 {
     bytes.iter().take_while(|byte| **byte != b'\n').count()
 }
 
-/// Where the first `*/` stands.
+/// Where the first `*/` is.
 fn close_at(bytes: &[u8]) -> Option<usize>
     ensures within { IfSome result (λ n. n + 1 < length bytes.now) }
     ensures found { IfSome result (λ n. (slice_index bytes.now n ≡ 42) × (slice_index bytes.now (n + 1) ≡ 47)) }
@@ -155,7 +155,7 @@ fn block_comment(bytes: &[u8]) -> Start
     }
 }
 
-/// How many bytes the longest sign at the front has, and 0 where there is none.
+/// How many bytes the longest sign at the front has, or 0 if there is none.
 fn sign_len(bytes: &[u8]) -> usize
     ensures within { result ≤ length bytes.now }
     ensures sign { 0 < result → is_sign (take result bytes.now) ≡ true }
@@ -199,7 +199,7 @@ fn mark(bytes: &[u8]) -> Start
     }
 }
 
-/// What stands at the front of a text.
+/// What is at the front of a text.
 pub fn start_of(bytes: &[u8]) -> Start
     requires { 0 < length bytes.now }
     ensures { IsStart bytes.now result }

@@ -5,7 +5,7 @@ use thiserror::Error;
 /// What a token is.
 #[derive(Clone, Copy, Debug, PartialEq, Eq)]
 pub enum TokenKind {
-    /// A word that begins with a lower-case letter or `_` and is no keyword.
+    /// A word that begins with a lower-case letter or `_` and is not a keyword.
     Name,
     /// A word that begins with an upper-case letter.
     TypeName,
@@ -28,14 +28,14 @@ pub struct Token {
     pub first: u32,
     /// The index of the byte after its last.
     pub end: u32,
-    /// Where its first byte stands.
+    /// Where its first byte is.
     pub place: Place,
 }
 
 /// Why a text has no list of tokens.
 #[derive(Clone, Copy, Debug, PartialEq, Eq, Error)]
 pub enum LexFault {
-    /// A byte that can't stand where it stands.
+    /// A byte that can't be where it is.
     #[error("bad byte")]
     BadByte(Place),
     /// A comment, by its first byte, that is not closed.
@@ -47,7 +47,7 @@ pub enum LexFault {
     /// The first token past the limit of 200,000.
     #[error("too many tokens")]
     TooManyTokens(Place),
-    /// The memory that the list takes could not be had.
+    /// There was no memory for the list.
     #[error("out of memory")]
     NoMemory,
 }

@@ -25,28 +25,30 @@ fresh [] tys = map fill tys
 fresh (x ∷ xs) [] = []
 fresh (x ∷ xs) (ty ∷ tys) = x ∷ fresh xs tys
 
--- what a function gives: nothing if it is `Void`, and else what it returns; no typed function with a result comes to its end without a value
+-- what a function gives: nothing if it is `Void`, otherwise what it returns; no typed function with
+-- a result comes to its end without a value
 abbrev pub answer : Program → Ty → Option Datum → Option Datum
 answer g y.Nothing v = None
 answer g ty None = Some (default_of g ty)
 answer g ty (Some x) = Some x
 
--- the same by how its body ended
+-- the same, by how its body ended
 abbrev pub answer_by : Program → Ty → Way → Option Datum
 answer_by g ty goes_on = answer g ty None
 answer_by g ty breaks = answer g ty None
 answer_by g ty continues = answer g ty None
 answer_by g ty (returns v) = answer g ty v
 
--- the body of a function with these arguments, where so many turns are left
+-- the body of a function with these arguments, with this many turns left
 abbrev pub run_body : Event → Program → Calls → Key → List Datum → ℕ → Store → Outcome Way
 run_body e g h f xs n s = exec_all e (scene_of g f) h (function_of g f).body (record s { locals = fresh xs (slot_types (function_of g f)); turns = n })
 
--- a body that is over: what the function gives, and the caller's locals again
+-- a body that has ended: what the function gives, and the caller's locals again
 abbrev pub returned : Program → Ty → List Datum → Outcome Way → Outcome (Option Datum)
 returned g ty locals r = and_then r (λ way s. gives (answer_by g ty way) (record s { locals = locals }))
 
--- Calls that may nest so deep: a call takes a turn, then tests the depth, and then runs the body with fresh locals.
+-- Calls that may nest this deep: a call takes a turn, then tests the depth, and then runs the body
+-- with fresh locals.
 unfoldable pub calls_at : Event → Program → ℕ → Calls
 calls_at e g zero f xs s = on_turn s.turns (λ n. fails too_deep)
 calls_at e g (suc d) f xs s = on_turn s.turns (λ n. returned g (function_of g f).result s.locals (run_body e g (calls_at e g d) f xs n s))
@@ -71,7 +73,7 @@ left_by w (gives way s) = s.window
 left_by w (fails n) = emptied w
 left_by w wrong = w
 
--- the number of an event's failure, and None where it succeeds
+-- the number of an event's failure, or None if it succeeds
 abbrev pub failure : Outcome Way → Option ℕ
 failure (gives way s) = None
 failure (fails n) = Some n
@@ -81,11 +83,12 @@ failure wrong = None
 abbrev pub event_of : WindowValue → ℕ → Event
 event_of w seed = record { acting = (atom_at w 0).kind; seed = seed }
 
--- the window after the event of an element, where there is one
+-- the window after the event of an element, if there is one
 abbrev pub after_by : Program → WindowValue → ℕ → Option ℕ → WindowValue
 after_by g w seed None = w
 after_by g w seed (Some c) = left_by w (behaves (event_of w seed) g c w)
 
--- the window after an event: the window itself where site 0 is Empty or its type has no element, and else what the element leaves
+-- the window after an event: the window itself if site 0 is Empty or its type has no element,
+-- otherwise what the element leaves
 unfoldable pub after : Program → WindowValue → ℕ → WindowValue
 after g w seed = after_by g w seed (element_of g (atom_at w 0).kind)

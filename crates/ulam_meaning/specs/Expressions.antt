@@ -79,11 +79,11 @@ value_given (Some x) s = gives x s
 
 -- Operators
 
--- `a && b`: b is run only where a holds
+-- `a && b`: b is run only if a holds
 abbrev pub both : Datum → Store → (Store → Outcome Datum) → Outcome Datum
 both x s right = on_number x (λ v. if is_zero v then gives (Number (pos 0)) s else right s)
 
--- `a || b`: b is run only where a does not hold
+-- `a || b`: b is run only if a does not hold
 abbrev pub either : Datum → Store → (Store → Outcome Datum) → Outcome Datum
 either x s right = on_number x (λ v. if is_zero v then right s else gives (Number (pos 1)) s)
 
@@ -118,7 +118,7 @@ abbrev mutual
   eval_form e z h (t.pair o a b p) ty s = and_then (eval e z h a s) (λ x s1. and_then (eval e z h b s1) (λ y s2. operate (operator o (arith_of ty) (width_of ty)) x y s2))
   eval_form e z h (t.is a c p) ty s = and_then (eval e z h a s) (λ x s1. has_kind (type_number z.program c.ty) x s1)
 
-  -- the values of arguments, from left to right, each cast as said
+  -- the values of arguments, from left to right, each cast as required
   pub arguments : Event → Scene → Calls → t.Args → List (Option NumType) → Store → Outcome (List Datum)
   arguments e z h t.no_args [] s = gives [] s
   arguments e z h t.no_args (c ∷ cs) s = wrong

@@ -31,7 +31,8 @@ pub record IsFailure (n : ℕ) : Type 0 where
   pub least : 1 ≤ n
   pub most : n ≤ 7
 
--- A run from a store: no more turns are left at its end than at its beginning, and where it fails, by one of the seven failures.
+-- A run from a store: no more turns are left at its end than at its beginning, and if it fails,
+-- then by one of the seven failures.
 abbrev pub TakesTurns : {X : Type 0} → Store → Outcome X → Type 0
 TakesTurns s (gives x s1) = s1.turns ≤ s.turns
 TakesTurns s (fails n) = IsFailure n
@@ -41,7 +42,8 @@ TakesTurns s wrong = Unit {0}
 abbrev pub bits_of : Program → ℕ → ℕ
 bits_of g c = sum (class_at g.layout c)
 
--- A layout of a program: it has for each class the bits of the data members, where a quark has those that it has for that class; and no class takes more than 71.
+-- A layout of a program: it gives for each class the bits of its data members, where a member of a
+-- quark type takes the bits that the layout gives for the quark; and no class takes more than 71.
 pub record IsLaidOut (g : Program) : Type 0 where
   pub widths : (c : ℕ) → class_at g.layout c ≡ map (λ (f : Field). member_bits (bits_of g) f.ty f.length) (fields (members_of g c))
   pub most : (c : ℕ) → bits_of g c ≤ 71

@@ -1,4 +1,5 @@
--- What a path names, and which function it calls.
+-- What a path names, and which function it calls. These are definitions by themselves, since the
+-- compiler has to agree with them.
 use Rattle.std.specs.Prelude.{ℕ, ◌+◌, ℤ, List, [], ◌∷◌, slice_index_or}
 use Rattle.sat_math.specs.declared.NumType.{NumType}
 use Rattle.ulam_tree.specs.declared.resolved.Ty.{Ty}
@@ -9,7 +10,8 @@ use Rattle.ulam_tree.specs.declared.resolved.Built.{Built}
 use Rattle.atom_layout.specs.Layouts.{first_bit}
 use Rattle.ulam_meaning.specs.Programs.{Program, Function, field_at, function_at, slot_types}
 
--- numbers in an atom's state: the first bit, the type of each, and how many there are, which is 0 where it is no array
+-- numbers in an atom's state: the first bit, the type of each, and how many there are, which is 0
+-- if it is not an array
 pub record Span : Type 0 where
   pub first : ℕ
   pub num : NumType
@@ -32,7 +34,7 @@ pub data Spot : Type 0 where
   -- nothing that has a value or that square brackets may follow
   nothing : Spot
 
--- a data member that begins at a bit, where `numbers` says whose bits they are
+-- a data member that begins at a bit, if `numbers` says whose bits they are
 abbrev pub field_spot : (Span → Spot) → ℕ → ℕ → Ty → Spot
 field_spot numbers first n (y.Num num) = numbers (record { first = first; num = num; length = n })
 field_spot numbers first n y.Window = window
@@ -81,7 +83,8 @@ callee g base (AFunction c f ∷ steps) = called (record { class = c; function =
 callee g base (ABuilt b ∷ steps) = built_in b
 callee g base steps = no_callee
 
--- where a statement stands: the first bit of the class whose function this is, the types of its locals by their slots, and that of its result
+-- the surroundings of a statement: the first bit of the class whose function this is, the types of
+-- its locals by their slots, and that of its result
 pub record Scene : Type 0 where
   pub program : Program
   pub base : ℕ

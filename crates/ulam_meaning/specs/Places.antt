@@ -33,14 +33,16 @@ read_at e (member p) i s = on_number i (λ u. on_self e s.window (λ a. on_index
 read_at e (part l p) i s = on_number i (λ u. on_part s l (λ a. on_index u p.length (λ j. gives (Number (number_at a (bit_at p j) p.num)) s)))
 read_at e spot i s = wrong
 
--- A value stored where a path says, cast to the type there. A member of the acting element first tests that site 0 has the acting type.
+-- A value stored at a path, cast to the type there. A member of the acting element first tests that
+-- site 0 has the acting type.
 abbrev pub write : Event → Scene → Spot → Datum → Store → Outcome Way
 write e z (local i) x s = and_then (cast_to (number_type (spot_type z (local i))) x s) (λ v s1. gives goes_on (with_local s1 i v))
 write e z (member p) x s = on_number x (λ v. on_self e s.window (λ a. gives goes_on (with_site s 0 (with_number a p.first p.num v))))
 write e z (part i p) x s = on_number x (λ v. on_part s i (λ a. gives goes_on (with_local s i (Atom (with_part a p.first p.num v)))))
 write e z spot x s = wrong
 
--- A value stored at an index behind a path: an atom at a site, or a number in an array. Site 0 and the index are tested as where it is read.
+-- A value stored at an index after a path: an atom at a site, or a number in an array. Site 0 and
+-- the index are tested as for a read.
 abbrev pub write_at : Event → Spot → Datum → Datum → Store → Outcome Way
 write_at e window i x s = on_atom x (λ a. on_number i (λ u. on_site u (λ n. gives goes_on (with_site s n a))))
 write_at e (member p) i x s = on_number x (λ v. on_number i (λ u. on_self e s.window (λ a. on_index u p.length (λ j. gives goes_on (with_site s 0 (with_number a (bit_at p j) p.num v))))))

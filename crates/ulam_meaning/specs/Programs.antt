@@ -13,7 +13,7 @@ pub record Program : Type 0 where
   pub classes : List t.Class
   pub layout : List (List ℕ)
 
--- a data member: its type, and its length, which is 0 where it is no array
+-- a data member: its type, and its length, which is 0 if it is not an array
 pub record Field : Type 0 where
   pub ty : Ty
   pub length : ℕ
@@ -42,11 +42,11 @@ functions [] = []
 functions (t.field of w n ∷ ms) = functions ms
 functions (t.function of w ps b ∷ ms) = record { name = w.name; params = param_types ps; result = of.ty; body = b } ∷ functions ms
 
--- what stands for a data member that there is none of
+-- a stand-in for a data member that does not exist
 abbrev pub no_field : Field
 no_field = record { ty = y.Nothing; length = 0 }
 
--- what stands for a function that there is none of
+-- a stand-in for a function that does not exist
 abbrev pub no_function : Function
 no_function = record { name = []; params = []; result = y.Nothing; body = t.no_more }
 
@@ -77,7 +77,7 @@ slot_types f = f.params ++ all_locals f.body
 
 -- Elements
 
--- which classes are elements, where the first of these is class c
+-- which classes are elements, if the first of these is class c
 abbrev pub element_classes : ℕ → List t.Class → List ℕ
 element_classes c [] = []
 element_classes c (k ∷ ks) = if k.quark then element_classes (suc c) ks else c ∷ element_classes (suc c) ks
@@ -96,7 +96,7 @@ unfoldable pub element_of : Program → ℕ → Option ℕ
 element_of g zero = None
 element_of g (suc k) = slice_get (element_classes 0 g.classes) k
 
--- the type number that stands for a type: an element's, and else that of Empty
+-- the type number of a type: an element's, otherwise that of Empty
 abbrev pub type_number : Program → Ty → ℕ
 type_number g (y.Class c) = number_of g c
 type_number g ty = 0

@@ -1,4 +1,4 @@
--- What a run goes over, and how it ends.
+-- The state of a run, and how it ends.
 use Rattle.std.specs.Prelude.{ℕ, zero, suc, nat_lt, nat_le, nat_eq, ℤ, pos, negsuc, List, [], ◌∷◌, Option, Some, None, slice_set, if◌then◌else◌}
 use Rattle.bit_field.specs.Atom.{AtomValue}
 use Rattle.window_sites.specs.Window.{WindowValue, atom_at, put_at, swap_at}
@@ -13,20 +13,22 @@ pub record Event : Type 0 where
   pub acting : ℕ
   pub seed : ℕ
 
--- what a run goes over: the locals by their slots, the window, how many random words are taken, and how many turns are left
+-- the state of a run: the locals by their slots, the window, how many random words are taken, and
+-- how many turns are left
 pub record Store : Type 0 where
   pub locals : List Datum
   pub window : WindowValue
   pub taken : ℕ
   pub turns : ℕ
 
--- The end of a run: it gives something, and leaves a store; the event fails; or, of a program without types alone, there is no meaning.
+-- The end of a run: it gives something, and leaves a store; the event fails; or, only in a program
+-- without types, there is no meaning.
 pub data Outcome (X : Type 0) : Type 0 where
   gives : (x : X) → (s : Store) → Outcome X
   fails : (n : ℕ) → Outcome X
   wrong : Outcome X
 
--- how a statement ends that does not fail; `return` has a value or none
+-- how a statement that does not fail ends; `return` has a value or none
 pub data Way : Type 0 where
   goes_on : Way
   breaks : Way
@@ -55,11 +57,11 @@ divided_by_zero = 3
 abbrev pub no_such_site : ℕ
 no_such_site = 4
 
--- a random number below 0, of which there is none
+-- a random number with a bound below 1, which does not exist
 abbrev pub no_bound : ℕ
 no_bound = 5
 
--- site 0 has not the acting type any more
+-- site 0 no longer has the acting type
 abbrev pub lost_self : ℕ
 lost_self = 6
 
@@ -82,7 +84,7 @@ by_way breaks s next = gives breaks s
 by_way continues s next = gives continues s
 by_way (returns v) s next = gives (returns v) s
 
--- a statement, and the next one where it goes on
+-- a statement, and the next one if it goes on
 abbrev pub go_on : Outcome Way → (Store → Outcome Way) → Outcome Way
 go_on r next = and_then r (λ way s. by_way way s next)
 
@@ -124,14 +126,14 @@ abbrev pub on_slot : {Y : Type 0} → Option Datum → (Datum → Outcome Y) →
 on_slot None go = wrong
 on_slot (Some x) go = go x
 
--- a value cast to a type of numbers, and any value as it is where there is none
+-- a value cast to a type of numbers, or any value as it is if there is no such type
 abbrev pub cast_to : Option NumType → Datum → Store → Outcome Datum
 cast_to None x s = gives x s
 cast_to (Some num) x s = on_number x (λ v. gives (Number (cast num v)) s)
 
 -- What may fail
 
--- the atom at site 0, where it has the acting type
+-- the atom at site 0, if it has the acting type
 abbrev pub on_self : {Y : Type 0} → Event → WindowValue → (AtomValue → Outcome Y) → Outcome Y
 on_self e w go = if nat_eq (atom_at w 0).kind e.acting then go (atom_at w 0) else fails lost_self
 
@@ -151,7 +153,7 @@ on_bound (negsuc n) go = fails no_bound
 on_bound (pos zero) go = fails no_bound
 on_bound (pos (suc n)) go = go (suc n)
 
--- a turn, and how many are left behind it
+-- a turn, and how many are left after it
 abbrev pub on_turn : {Y : Type 0} → ℕ → (ℕ → Outcome Y) → Outcome Y
 on_turn zero go = fails turns_spent
 on_turn (suc t) go = go t
@@ -167,10 +169,10 @@ on_result (Some v) go = go v
 abbrev pub with_local : Store → ℕ → Datum → Store
 with_local s i x = record s { locals = slice_set s.locals i x }
 
--- another atom at a site, where that is live
+-- another atom at a site, if that is live
 abbrev pub with_site : Store → ℕ → AtomValue → Store
 with_site s n a = record s { window = put_at s.window n a }
 
--- two sites exchanged, where both are live
+-- two sites exchanged, if both are live
 abbrev pub with_swapped : Store → ℕ → ℕ → Store
 with_swapped s m n = record s { window = swap_at s.window m n }

@@ -29,7 +29,9 @@ abbrev pub test : Option (Store → Outcome Datum) → Store → (Store → Outc
 test None s where_so where_not = where_so s
 test (Some c) s where_so where_not = choose (c s) where_so where_not
 
--- A loop: test the condition; run the body; run the step; take a turn; test again. It has at most as many rounds as told, and is told one more than there are turns, so that turns end it first.
+-- A loop: test the condition; run the body; run the step; take a turn; test again. It has at most
+-- as many rounds as it is allowed, and it is allowed one more than there are turns, so that turns
+-- end it first.
 abbrev pub loop : ℕ → Option (Store → Outcome Datum) → (Store → Outcome Way) → (Store → Outcome Way) → Store → Outcome Way
 loop zero c body step s = wrong
 loop (suc m) c body step s = test c s

@@ -32,7 +32,7 @@ is_zero (pos zero) = true
 is_zero (pos (suc n)) = false
 is_zero (negsuc n) = false
 
--- the type of numbers that a type is, where it is one
+-- the type of numbers that a type is, if it is one
 abbrev pub number_type : Ty → Option NumType
 number_type (y.Num num) = Some num
 number_type ty = None
@@ -56,7 +56,8 @@ abbrev pub arith_of : Ty → Arith
 arith_of (y.Num num) = arith_by num.kind (nat_le num.width 32)
 arith_of ty = Int32
 
--- the arithmetic of `p op= e`, by the type of p and the width of e: at 32 bits where both have at most 32
+-- the arithmetic of `p op= e`, by the type of p and the width of e: at 32 bits if both have at most
+-- 32
 abbrev pub arith_with : Ty → ℕ → Arith
 arith_with (y.Num num) w = arith_by num.kind (nat_le num.width 32 && nat_le w 32)
 arith_with ty w = Int32
@@ -73,12 +74,12 @@ unless_zero b r = if is_zero b then None else r
 abbrev pub as_bits : ℤ → ℕ
 as_bits v = modulo v (2 ^ 64)
 
--- moved up in so many bits; by a negative number there is no move, and 0 is left
+-- moved up within this many bits; a negative number moves nothing, and 0 is left
 abbrev pub shifted_up : ℕ → ℤ → ℤ → Option ℤ
 shifted_up w a (negsuc b) = Some (pos 0)
 shifted_up w a (pos b) = Some (pos (moved_up w (as_bits a) b))
 
--- moved down; by a negative number there is no move, and 0 is left
+-- moved down; a negative number moves nothing, and 0 is left
 abbrev pub shifted_down : ℤ → ℤ → Option ℤ
 shifted_down a (negsuc b) = Some (pos 0)
 shifted_down a (pos b) = Some (pos (as_bits a / 2 ^ b))
@@ -87,7 +88,8 @@ shifted_down a (pos b) = Some (pos (as_bits a / 2 ^ b))
 abbrev pub comparison : CompareOp → ℤ → ℤ → Option ℤ
 comparison o a b = Some (truth_of (compared o a b))
 
--- What an operator gives, None where it divides by 0: by its arithmetic and, for a shift, the width of its left side. Of `&&` and `||` the right side may not run, so they stand with the expressions.
+-- What an operator gives, or None if it divides by 0: by its arithmetic and, for a shift, the width
+-- of its left side. The right side of `&&` and `||` may not run, so they are with the expressions.
 abbrev pub operator : PairOp → Arith → ℕ → ℤ → ℤ → Option ℤ
 operator op.Add how w a b = exact how (a +ℤ b)
 operator op.Sub how w a b = exact how (a -ℤ b)
@@ -133,6 +135,6 @@ number_at a first num = value num (field a first num.width)
 abbrev pub with_number : AtomValue → ℕ → NumType → ℤ → AtomValue
 with_number a first num v = with_field a first num.width (bits num (cast num v))
 
--- the same, where it is not Empty, which has no members
+-- the same, unless it is Empty, which has no members
 abbrev pub with_part : AtomValue → ℕ → NumType → ℤ → AtomValue
 with_part a first num v = if nat_eq a.kind 0 then a else with_number a first num v

@@ -16,13 +16,13 @@ ghost use Rattle.ulam_meaning.specs.Laws.{IsKnown, EachAtom, HasState, KeepsMark
 
 /// What holds of every program, window and seed.
 ///
-/// No statement and no call gives a turn back (`statements`, `calls`), and a loop's rounds are ended
-/// by turns, however many more it may have (`rounds`). An event leaves a window (`window`): live marks
-/// stay, and only live sites change (`marks`); states stay below 2^71 where the data members have a
-/// layout (`states`); where each atom is Empty or of one of the elements, so is each afterwards
-/// (`known`). A failure is one of seven (`failures`) and leaves the old window with Empty at site 0
-/// (`failed`). An empty centre and a type without an element leave the window as it is (`idle`,
-/// `stranger`).
+/// No statement and no call gives a turn back (`statements`, `calls`), and a loop's rounds are
+/// ended by turns, however many more it may have (`rounds`). An event leaves a window (`window`):
+/// live marks stay, and only live sites change (`marks`); states stay below 2^71 if the data
+/// members have a layout (`states`); if each atom is Empty or of one of the elements, so is each
+/// afterwards (`known`). A failure is one of seven (`failures`) and leaves the old window with
+/// Empty at site 0 (`failed`). An empty centre and a type without an element leave the window as it
+/// is (`idle`, `stranger`).
 pub fn laws()
     ensures statements { (event : Event) (scene : Scene) (depth : ℕ) (statement : typed.Statement) (s : Store) → TakesTurns s (exec event scene (calls_at event scene.program depth) statement s) }
     ensures calls { (program : Program) (event : Event) (depth : ℕ) (function : Key) (arguments : List Datum) (s : Store) → TakesTurns s (calls_at event program depth function arguments s) }

@@ -1,3 +1,4 @@
+pub mod Means
 pub mod RawRows
 pub mod ResolvedRows
 pub mod TypedRows

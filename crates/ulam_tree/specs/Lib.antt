@@ -1,4 +1,5 @@
 pub mod Completes
+pub mod Found
 pub mod Locals
 pub mod Raw
 pub mod RawViews

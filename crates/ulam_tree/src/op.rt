@@ -1,6 +1,6 @@
 //! Operators.
 
-/// An operator that stands before its operand.
+/// An operator in front of its operand.
 #[derive(Clone, Copy, Debug, PartialEq, Eq)]
 pub enum PrefixOp {
     /// `-`
@@ -11,7 +11,7 @@ pub enum PrefixOp {
     Flip,
 }
 
-/// An operator that stands between its operands.
+/// An operator between its operands.
 #[derive(Clone, Copy, Debug, PartialEq, Eq)]
 pub enum PairOp {
     /// `+`

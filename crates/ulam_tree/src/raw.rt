@@ -3,12 +3,12 @@
 use crate::op::{PairOp, PrefixOp};
 use feast_base::{Name, Place};
 
-/// A name, or the name of a type, and where it stands.
+/// A name, or the name of a type, and its place.
 #[derive(Drop)]
 pub struct Word {
     /// Its bytes.
     pub name: Name,
-    /// Where its first byte stands.
+    /// The place of its first byte.
     pub place: Place,
 }
 
@@ -20,7 +20,6 @@ pub struct File {
 }
 
 /// A part of a file.
-#[derive(Drop)]
 pub enum Item {
     /// `ulam`, the version of the language that the file is written in.
     Ulam { number: u32 },
@@ -28,6 +27,17 @@ pub enum Item {
     Uses { word: Word },
     /// An element or a quark.
     Class { class: Class },
+}
+
+// By hand, so that callers drop by a call.
+impl Drop for Item {
+    fn drop(self) {
+        match self {
+            Item::Ulam { number: _number } => {}
+            Item::Uses { word: _word } => {}
+            Item::Class { class: _class } => {}
+        }
+    }
 }
 
 /// An element or a quark.
@@ -42,7 +52,6 @@ pub struct Class {
 }
 
 /// A declaration in a class.
-#[derive(Drop)]
 pub enum Member {
     /// Another name of a type.
     Typedef {
@@ -70,6 +79,34 @@ pub enum Member {
     },
 }
 
+// By hand, so that callers drop by a call.
+impl Drop for Member {
+    fn drop(self) {
+        match self {
+            Member::Typedef {
+                of: _of,
+                word: _word,
+            } => {}
+            Member::Constant {
+                of: _of,
+                word: _word,
+                value: _value,
+            } => {}
+            Member::Field {
+                of: _of,
+                word: _word,
+                length: _length,
+            } => {}
+            Member::Function {
+                of: _of,
+                word: _word,
+                params: _params,
+                body: _body,
+            } => {}
+        }
+    }
+}
+
 /// A parameter of a function.
 #[derive(Drop)]
 pub struct Param {
@@ -79,10 +116,9 @@ pub struct Param {
     pub word: Word,
 }
 
-/// What a constant is declared to be.
-#[derive(Drop)]
+/// The value that a constant is declared with.
 pub enum Const {
-    /// A number, maybe with `-` before it; `unsigned` where `u` follows it.
+    /// A number, with `minus` if `-` is before it and `unsigned` if `u` is after it.
     Number {
         minus: bool,
         value: u32,
@@ -98,17 +134,40 @@ pub enum Const {
     },
 }
 
+// By hand, so that callers drop by a call.
+impl Drop for Const {
+    fn drop(self) {
+        match self {
+            Const::Number {
+                minus: _minus,
+                value: _value,
+                unsigned: _unsigned,
+            } => {}
+            Const::Truth { value: _value } => {}
+            Const::Named { word: _word } => {}
+        }
+    }
+}
+
 /// A type by its name.
-#[derive(Drop)]
 pub struct TypeRef {
     /// The name.
     pub word: Word,
-    /// The number of bits that stands in brackets behind it.
+    /// The number of bits in brackets after it.
     pub width: Option<Width>,
 }
 
+// By hand, so that callers drop by a call.
+impl Drop for TypeRef {
+    fn drop(self) {
+        let TypeRef {
+            word: _word,
+            width: _width,
+        } = self;
+    }
+}
+
 /// A number of bits, or the length of an array.
-#[derive(Drop)]
 pub enum Width {
     /// As a number.
     Number { value: u32 },
@@ -116,8 +175,17 @@ pub enum Width {
     Named { word: Word },
 }
 
+// By hand, so that callers drop by a call.
+impl Drop for Width {
+    fn drop(self) {
+        match self {
+            Width::Number { value: _value } => {}
+            Width::Named { word: _word } => {}
+        }
+    }
+}
+
 /// A statement.
-#[derive(Drop)]
 pub enum Statement {
     /// Statements in braces.
     Block {
@@ -125,7 +193,7 @@ pub enum Statement {
     },
     /// `;` alone.
     Nothing,
-    /// `if`, with the part behind `else` where there is one.
+    /// `if`, with the part after `else` if there is one.
     If {
         cond: Cond,
         yes: Box<Statement>,
@@ -163,13 +231,13 @@ pub enum Statement {
         word: Word,
         value: Option<Expr>,
     },
-    /// `=`, where `op` is None, or an operator with `=` behind it.
+    /// `=` if `op` is `None`, or an operator with `=` after it.
     Assign {
         left: Left,
         op: Option<PairOp>,
         value: Expr,
     },
-    /// `++`, where `up`, or `--`, on either side.
+    /// `++` if `up`, or `--`, on either side.
     Count {
         left: Left,
         up: bool,
@@ -180,8 +248,53 @@ pub enum Statement {
     },
 }
 
+// By hand, so that callers drop by a call.
+impl Drop for Statement {
+    fn drop(self) {
+        match self {
+            Statement::Block { body: _body } => {}
+            Statement::Nothing => {}
+            Statement::If {
+                cond: _cond,
+                yes: _yes,
+                no: _no,
+            } => {}
+            Statement::While {
+                cond: _cond,
+                body: _body,
+            } => {}
+            Statement::For {
+                first: _first,
+                cond: _cond,
+                step: _step,
+                body: _body,
+            } => {}
+            Statement::Return {
+                place: _place,
+                value: _value,
+            } => {}
+            Statement::Break { place: _place } => {}
+            Statement::Continue { place: _place } => {}
+            Statement::Declare {
+                of: _of,
+                word: _word,
+                value: _value,
+            } => {}
+            Statement::Assign {
+                left: _left,
+                op: _op,
+                value: _value,
+            } => {}
+            Statement::Count {
+                left: _left,
+                up: _up,
+            } => {}
+            Statement::Call { call: _call } => {}
+        }
+    }
+}
+
 /// What an `if` asks.
-#[derive(Drop)]
 pub enum Cond {
     /// A name `as` a class: whether it holds an atom of the class, as which it is then seen.
     Seen { word: Word, class: Word },
@@ -189,22 +302,44 @@ pub enum Cond {
     Test { value: Expr },
 }
 
+// By hand, so that callers drop by a call.
+impl Drop for Cond {
+    fn drop(self) {
+        match self {
+            Cond::Seen {
+                word: _word,
+                class: _class,
+            } => {}
+            Cond::Test { value: _value } => {}
+        }
+    }
+}
+
 /// Names with dots between.
 #[derive(Drop)]
 pub struct Path {
-    /// Where `self` stands, if the path begins with it.
+    /// The place of `self`, if the path begins with it.
     pub own: Option<Place>,
-    /// The names. One at least where the path doesn't begin with `self`.
+    /// The names. There is at least one if the path doesn't begin with `self`.
     pub words: Vec<Word>,
 }
 
 /// What is assigned to.
-#[derive(Drop)]
 pub struct Left {
     /// Its names.
     pub path: Path,
     /// The index in square brackets.
     pub index: Option<Box<Expr>>,
+}
+
+// By hand, so that callers drop by a call.
+impl Drop for Left {
+    fn drop(self) {
+        let Left {
+            path: _path,
+            index: _index,
+        } = self;
+    }
 }
 
 /// A call.
@@ -220,9 +355,8 @@ pub struct Call {
 /// An expression. `place` is that of the operator in `Prefix`, `Pair` and `Is`, and else that of
 /// the first token.
 #[cycle(raw)]
-#[derive(Drop)]
 pub enum Expr {
-    /// A number; `unsigned` where `u` follows it.
+    /// A number, with `unsigned` if `u` is after it.
     Number {
         value: u32,
         unsigned: bool,
@@ -255,7 +389,7 @@ pub enum Expr {
         inner: Box<Expr>,
         place: Place,
     },
-    /// A type in brackets, and the expression that is turned into it.
+    /// A type in brackets, and the expression that is converted to it.
     Cast {
         to: TypeRef,
         value: Box<Expr>,
@@ -280,4 +414,53 @@ pub enum Expr {
         class: Word,
         place: Place,
     },
+}
+
+// By hand, so that callers drop by a call.
+impl Drop for Expr {
+    fn drop(self) {
+        match self {
+            Expr::Number {
+                value: _value,
+                unsigned: _unsigned,
+                place: _place,
+            } => {}
+            Expr::Truth {
+                value: _value,
+                place: _place,
+            } => {}
+            Expr::Path { path: _path } => {}
+            Expr::Call { call: _call } => {}
+            Expr::Index {
+                path: _path,
+                at: _at,
+            } => {}
+            Expr::Instance { class: _class } => {}
+            Expr::Group {
+                inner: _inner,
+                place: _place,
+            } => {}
+            Expr::Cast {
+                to: _to,
+                value: _value,
+                place: _place,
+            } => {}
+            Expr::Prefix {
+                op: _op,
+                value: _value,
+                place: _place,
+            } => {}
+            Expr::Pair {
+                op: _op,
+                left: _left,
+                right: _right,
+                place: _place,
+            } => {}
+            Expr::Is {
+                value: _value,
+                class: _class,
+                place: _place,
+            } => {}
+        }
+    }
 }

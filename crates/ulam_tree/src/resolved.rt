@@ -28,9 +28,8 @@ pub struct Class {
 }
 
 /// A data member or a function of a class.
-#[derive(Drop)]
 pub enum Member {
-    /// A data member. `length` is that of an array, and 0 for what is no array.
+    /// A data member. `length` is that of an array, or 0 if it is not an array.
     Field {
         of: Named,
         word: Word,
@@ -43,6 +42,25 @@ pub enum Member {
         params: Vec<Param>,
         body: Vec<Statement>,
     },
+}
+
+// By hand, so that callers drop by a call.
+impl Drop for Member {
+    fn drop(self) {
+        match self {
+            Member::Field {
+                of: _of,
+                word: _word,
+                length: _length,
+            } => {}
+            Member::Function {
+                of: _of,
+                word: _word,
+                params: _params,
+                body: _body,
+            } => {}
+        }
+    }
 }
 
 /// A parameter of a function.
@@ -78,14 +96,14 @@ pub enum Ty {
 pub struct Named {
     /// The type.
     pub ty: Ty,
-    /// Where its name stands.
+    /// The place of its name.
     pub place: Place,
 }
 
 /// What names with dots between mean, name by name.
 #[derive(Drop)]
 pub struct Path {
-    /// Where the first one stands.
+    /// The place of the first one.
     pub place: Place,
     /// What each means.
     pub steps: Vec<Step>,
@@ -124,7 +142,6 @@ pub enum Built {
 }
 
 /// A statement.
-#[derive(Drop)]
 pub enum Statement {
     /// Statements in braces.
     Block {
@@ -132,7 +149,7 @@ pub enum Statement {
     },
     /// `;` alone.
     Nothing,
-    /// `if`, with the part behind `else` where there is one.
+    /// `if`, with the part after `else` if there is one.
     If {
         cond: Cond,
         yes: Box<Statement>,
@@ -170,13 +187,13 @@ pub enum Statement {
         place: Place,
         value: Option<Expr>,
     },
-    /// `=`, where `op` is None, or an operator with `=` behind it.
+    /// `=` if `op` is `None`, or an operator with `=` after it.
     Assign {
         left: Left,
         op: Option<PairOp>,
         value: Expr,
     },
-    /// `++`, where `up`, or `--`, on either side.
+    /// `++` if `up`, or `--`, on either side.
     Count {
         left: Left,
         up: bool,
@@ -187,8 +204,54 @@ pub enum Statement {
     },
 }
 
+// By hand, so that callers drop by a call.
+impl Drop for Statement {
+    fn drop(self) {
+        match self {
+            Statement::Block { body: _body } => {}
+            Statement::Nothing => {}
+            Statement::If {
+                cond: _cond,
+                yes: _yes,
+                no: _no,
+            } => {}
+            Statement::While {
+                cond: _cond,
+                body: _body,
+            } => {}
+            Statement::For {
+                first: _first,
+                cond: _cond,
+                step: _step,
+                body: _body,
+            } => {}
+            Statement::Return {
+                place: _place,
+                value: _value,
+            } => {}
+            Statement::Break { place: _place } => {}
+            Statement::Continue { place: _place } => {}
+            Statement::Declare {
+                of: _of,
+                slot: _slot,
+                place: _place,
+                value: _value,
+            } => {}
+            Statement::Assign {
+                left: _left,
+                op: _op,
+                value: _value,
+            } => {}
+            Statement::Count {
+                left: _left,
+                up: _up,
+            } => {}
+            Statement::Call { call: _call } => {}
+        }
+    }
+}
+
 /// What an `if` asks.
-#[derive(Drop)]
 pub enum Cond {
     /// A name `as` a class: whether it holds an atom of the class, as which it is then seen. The
     /// path has one step.
@@ -197,13 +260,35 @@ pub enum Cond {
     Test { value: Expr },
 }
 
+// By hand, so that callers drop by a call.
+impl Drop for Cond {
+    fn drop(self) {
+        match self {
+            Cond::Seen {
+                path: _path,
+                class: _class,
+            } => {}
+            Cond::Test { value: _value } => {}
+        }
+    }
+}
+
 /// What is assigned to.
-#[derive(Drop)]
 pub struct Left {
     /// Its names.
     pub path: Path,
     /// The index in square brackets.
     pub index: Option<Box<Expr>>,
+}
+
+// By hand, so that callers drop by a call.
+impl Drop for Left {
+    fn drop(self) {
+        let Left {
+            path: _path,
+            index: _index,
+        } = self;
+    }
 }
 
 /// A call.
@@ -219,9 +304,8 @@ pub struct Call {
 /// An expression. `place` is that of the operator in `Prefix`, `Pair` and `Is`, and else that of
 /// the first token.
 #[cycle(resolved)]
-#[derive(Drop)]
 pub enum Expr {
-    /// A number; `unsigned` where `u` follows it.
+    /// A number, with `unsigned` if `u` is after it.
     Number {
         value: u32,
         unsigned: bool,
@@ -254,7 +338,7 @@ pub enum Expr {
         inner: Box<Expr>,
         place: Place,
     },
-    /// A type in brackets, and the expression that is turned into it.
+    /// A type in brackets, and the expression that is converted to it.
     Cast {
         to: Named,
         value: Box<Expr>,
@@ -279,4 +363,53 @@ pub enum Expr {
         class: Named,
         place: Place,
     },
+}
+
+// By hand, so that callers drop by a call.
+impl Drop for Expr {
+    fn drop(self) {
+        match self {
+            Expr::Number {
+                value: _value,
+                unsigned: _unsigned,
+                place: _place,
+            } => {}
+            Expr::Truth {
+                value: _value,
+                place: _place,
+            } => {}
+            Expr::Path { path: _path } => {}
+            Expr::Call { call: _call } => {}
+            Expr::Index {
+                path: _path,
+                at: _at,
+            } => {}
+            Expr::Instance { class: _class } => {}
+            Expr::Group {
+                inner: _inner,
+                place: _place,
+            } => {}
+            Expr::Cast {
+                to: _to,
+                value: _value,
+                place: _place,
+            } => {}
+            Expr::Prefix {
+                op: _op,
+                value: _value,
+                place: _place,
+            } => {}
+            Expr::Pair {
+                op: _op,
+                left: _left,
+                right: _right,
+                place: _place,
+            } => {}
+            Expr::Is {
+                value: _value,
+                class: _class,
+                place: _place,
+            } => {}
+        }
+    }
 }

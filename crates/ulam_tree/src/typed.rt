@@ -1,7 +1,7 @@
 //! Trees whose types are known.
 //!
-//! They are those of `resolved` with one change: each expression has its type. A plain number has
-//! that of what stands beside it, or of what it is given to.
+//! They are those of `resolved` with one change: each expression has its type. A plain number takes
+//! that of the other operand, or of what it is assigned to.
 
 use crate::op::{PairOp, PrefixOp};
 use crate::raw::Word;
@@ -27,9 +27,8 @@ pub struct Class {
 }
 
 /// A data member or a function of a class.
-#[derive(Drop)]
 pub enum Member {
-    /// A data member. `length` is that of an array, and 0 for what is no array.
+    /// A data member. `length` is that of an array, or 0 if it is not an array.
     Field {
         of: Named,
         word: Word,
@@ -44,8 +43,26 @@ pub enum Member {
     },
 }
 
+// By hand, so that callers drop by a call.
+impl Drop for Member {
+    fn drop(self) {
+        match self {
+            Member::Field {
+                of: _of,
+                word: _word,
+                length: _length,
+            } => {}
+            Member::Function {
+                of: _of,
+                word: _word,
+                params: _params,
+                body: _body,
+            } => {}
+        }
+    }
+}
+
 /// A statement.
-#[derive(Drop)]
 pub enum Statement {
     /// Statements in braces.
     Block {
@@ -53,7 +70,7 @@ pub enum Statement {
     },
     /// `;` alone.
     Nothing,
-    /// `if`, with the part behind `else` where there is one.
+    /// `if`, with the part after `else` if there is one.
     If {
         cond: Cond,
         yes: Box<Statement>,
@@ -91,13 +108,13 @@ pub enum Statement {
         place: Place,
         value: Option<Expr>,
     },
-    /// `=`, where `op` is None, or an operator with `=` behind it.
+    /// `=` if `op` is `None`, or an operator with `=` after it.
     Assign {
         left: Left,
         op: Option<PairOp>,
         value: Expr,
     },
-    /// `++`, where `up`, or `--`, on either side.
+    /// `++` if `up`, or `--`, on either side.
     Count {
         left: Left,
         up: bool,
@@ -108,8 +125,54 @@ pub enum Statement {
     },
 }
 
+// By hand, so that callers drop by a call.
+impl Drop for Statement {
+    fn drop(self) {
+        match self {
+            Statement::Block { body: _body } => {}
+            Statement::Nothing => {}
+            Statement::If {
+                cond: _cond,
+                yes: _yes,
+                no: _no,
+            } => {}
+            Statement::While {
+                cond: _cond,
+                body: _body,
+            } => {}
+            Statement::For {
+                first: _first,
+                cond: _cond,
+                step: _step,
+                body: _body,
+            } => {}
+            Statement::Return {
+                place: _place,
+                value: _value,
+            } => {}
+            Statement::Break { place: _place } => {}
+            Statement::Continue { place: _place } => {}
+            Statement::Declare {
+                of: _of,
+                slot: _slot,
+                place: _place,
+                value: _value,
+            } => {}
+            Statement::Assign {
+                left: _left,
+                op: _op,
+                value: _value,
+            } => {}
+            Statement::Count {
+                left: _left,
+                up: _up,
+            } => {}
+            Statement::Call { call: _call } => {}
+        }
+    }
+}
+
 /// What an `if` asks.
-#[derive(Drop)]
 pub enum Cond {
     /// A name `as` a class: whether it holds an atom of the class, as which it is then seen. The
     /// path has one step.
@@ -118,13 +181,35 @@ pub enum Cond {
     Test { value: Expr },
 }
 
+// By hand, so that callers drop by a call.
+impl Drop for Cond {
+    fn drop(self) {
+        match self {
+            Cond::Seen {
+                path: _path,
+                class: _class,
+            } => {}
+            Cond::Test { value: _value } => {}
+        }
+    }
+}
+
 /// What is assigned to.
-#[derive(Drop)]
 pub struct Left {
     /// Its names.
     pub path: Path,
     /// The index in square brackets.
     pub index: Option<Box<Expr>>,
+}
+
+// By hand, so that callers drop by a call.
+impl Drop for Left {
+    fn drop(self) {
+        let Left {
+            path: _path,
+            index: _index,
+        } = self;
+    }
 }
 
 /// A call.
@@ -150,9 +235,8 @@ pub struct Expr {
 /// What an expression consists of. `place` is that of the operator in `Prefix`, `Pair` and `Is`,
 /// and else that of the first token.
 #[cycle(typed)]
-#[derive(Drop)]
 pub enum Form {
-    /// A number; `unsigned` where `u` follows it.
+    /// A number, with `unsigned` if `u` is after it.
     Number {
         value: u32,
         unsigned: bool,
@@ -185,7 +269,7 @@ pub enum Form {
         inner: Box<Expr>,
         place: Place,
     },
-    /// A type in brackets, and the expression that is turned into it.
+    /// A type in brackets, and the expression that is converted to it.
     Cast {
         to: Named,
         value: Box<Expr>,
@@ -210,4 +294,54 @@ pub enum Form {
         class: Named,
         place: Place,
     },
+}
+
+// By hand, so that callers drop by a call.
+impl Drop for Form {
+    #[cycle(form_drop)]
+    fn drop(self) {
+        match self {
+            Form::Number {
+                value: _value,
+                unsigned: _unsigned,
+                place: _place,
+            } => {}
+            Form::Truth {
+                value: _value,
+                place: _place,
+            } => {}
+            Form::Path { path: _path } => {}
+            Form::Call { call: _call } => {}
+            Form::Index {
+                path: _path,
+                at: _at,
+            } => {}
+            Form::Instance { class: _class } => {}
+            Form::Group {
+                inner: _inner,
+                place: _place,
+            } => {}
+            Form::Cast {
+                to: _to,
+                value: _value,
+                place: _place,
+            } => {}
+            Form::Prefix {
+                op: _op,
+                value: _value,
+                place: _place,
+            } => {}
+            Form::Pair {
+                op: _op,
+                left: _left,
+                right: _right,
+                place: _place,
+            } => {}
+            Form::Is {
+                value: _value,
+                class: _class,
+                place: _place,
+            } => {}
+        }
+    }
 }

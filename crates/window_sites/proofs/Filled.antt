@@ -1,20 +1,12 @@
 -- A window's atoms read into place, the last site first.
-use Rattle.std.proofs.Common.{ℕ, suc, zero, ◌≡◌, ◌+◌, ◌≤◌, ◌<◌, List, [], ◌∷◌, length, get_or, set, refl, sym, ◌∙◌, arith, inl, inr}
+use Rattle.std.proofs.Common.{ℕ, suc, zero, ◌≡◌, ◌+◌, ◌≤◌, ◌<◌, List, [], ◌∷◌, length, get_or, refl, sym, ◌∙◌, arith, inl, inr}
 use Rattle.std.specs.List.{range_with_len}
 use Rattle.std.proofs.Math.ListN.{length-set}
 use Rattle.std.proofs.lemmas.Bool.Decides.{eqb_tells}
-use Rattle.std.proofs.lemmas.List.{get_or-set_other, get_or-set_same}
+use Rattle.std.proofs.lemmas.List.{get_or-set_other, get_or-set_same, get_or_read_under}
 use Rattle.std.proofs.lemmas.List.FromFn.{fill_by_all, length-map-range_with_len}
 use Rattle.bit_field.specs.Atom.{AtomValue, empty_atom}
-use Rattle.window_sites.specs.Inner.{inner_place, inner_atoms, site_numbers}
-
--- a list with the atoms of some sites written, the last of them first
-abbrev pub filled : List AtomValue → List AtomValue → ℕ → ℕ → List ℕ → List AtomValue
-filled into plane low width [] = into
-filled into plane low width (n ∷ ns) = set (filled into plane low width ns) n (get_or plane (inner_place low width n) empty_atom)
-
-unfoldable pub all_filled : List AtomValue → List AtomValue → ℕ → ℕ → List AtomValue
-all_filled into plane low width = filled into plane low width site_numbers
+use Rattle.window_sites.specs.Inner.{filled, inner_place, inner_atoms, site_numbers, with_sites_read}
 
 length-filled : (into plane : List AtomValue) (low width : ℕ) (ns : List ℕ) → length (filled into plane low width ns) ≡ length into
 length-filled into plane low width [] = refl
@@ -37,12 +29,16 @@ filled-at into plane low width a (suc k) long le j from to =
           ∙ filled-at into plane low width (a + 1) k long (omega (arith, le)) j (later a j from other.1) (omega (arith, to))
     ]
 
-pub all_filled-is : (into plane : List AtomValue) (low width : ℕ) → length into ≡ 41 → all_filled into plane low width ≡ inner_atoms plane low width
-unfolding all_filled inner_atoms
-all_filled-is into plane low width long =
+pub with_sites_read-all : (into plane : List AtomValue) (low width : ℕ) → length into ≡ 41 → with_sites_read into plane low width 0 41 ≡ inner_atoms plane low width
+unfolding with_sites_read inner_atoms
+with_sites_read-all into plane low width long =
     fill_by_all (λ n. get_or plane (inner_place low width n) empty_atom) (filled into plane low width site_numbers) 41 empty_atom (length-filled into plane low width site_numbers ∙ long)
     (λ j lt. filled-at into plane low width 0 41 long (omega arith) j (omega arith) (omega (arith, lt)))
 
 pub length-inner_atoms : (atoms : List AtomValue) (low width : ℕ) → length (inner_atoms atoms low width) ≡ 41
 unfolding inner_atoms
 length-inner_atoms atoms low width = length-map-range_with_len {X = AtomValue} (λ n. get_or atoms (inner_place low width n) empty_atom) 0 41
+
+-- what a read gives, whatever stands past the end
+pub read_at : (xs : List AtomValue) (i : ℕ) (x : AtomValue) → x ≡ get_or xs i x → i < length xs → x ≡ get_or xs i empty_atom
+read_at xs i x e h = get_or_read_under xs i (length xs) x empty_atom e h refl

@@ -1,4 +1,4 @@
--- The tiles of a plane before their first step, and from what the run of a world starts.
+-- The tiles of a plane before their first step, and what the run of a world starts from.
 use Rattle.std.specs.Prelude.{ℕ, ◌≡◌, ◌<◌, List, map, slice_get, Some}
 use Rattle.window_sites.specs.Window.{WindowValue}
 use Rattle.cell_grid.specs.Grid.{GridValue}

@@ -1,4 +1,4 @@
--- What the run of a world comes to.
+-- The result of the run of a world.
 use Rattle.std.specs.Prelude.{List}
 use Rattle.serial_order.specs.Outcomes.{IsSettlement, scene_of}
 use Rattle.serial_order.specs.Scene.{EdgeHistory}
@@ -7,7 +7,8 @@ use Rattle.stepped_world.specs.Running.{Setting}
 use Rattle.tile_core.specs.Values.{TileValue}
 use Rattle.tile_map.specs.Plane.{MapValue}
 
--- whoever wove the steps of its tiles: its events stand in one serial order, that of the journal, and the grid is what they leave
+-- however the steps of its tiles were interleaved: its events stand in one serial order, that of
+-- the journal, and the grid is what they leave
 pub record StandsInOneOrder (m : MapValue) (g : Setting) (o : Outcome) : Type 0 where
   pub tiles : List TileValue
   pub edges : List EdgeHistory

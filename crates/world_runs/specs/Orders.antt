@@ -6,7 +6,8 @@ use Rattle.draw_stream.specs.Words.{tile_word}
 use Rattle.tile_map.specs.Plane.{MapValue, tiles_of}
 use Rattle.world_text.specs.Named.{WorldValue, OrderValue, listed, drawn}
 
--- the tiles that the first words of a seed's generator name: what is left of a word when it is divided by the number of tiles
+-- the tiles that the first words of a seed's generator name: the remainder of a word modulo the
+-- number of tiles
 unfoldable pub drawn_order : (seed tiles count : ℕ) → List ℕ
 drawn_order seed tiles count = map (λ i. tile_word seed i % tiles) (range_with_len 0 count)
 

@@ -11,8 +11,8 @@ use feast_base::NoMemory;
 use std::alloc::Global;
 use world_text::{Order, World};
 
-/// The order that a world's lines say names tiles of its plane. The call does nothing: its contract
-/// is the law.
+/// The order that a world's lines give names tiles of its plane. The call does nothing: its
+/// contract is the law.
 pub fn listed_order()
     ensures { (names : List (List ℕ)) (w : WorldValue) → IsNamed names w → IsOrder w.plane w.order }
 {}
@@ -39,8 +39,8 @@ fn push_two(order: &mut Vec<u32>, one: u32, other: u32) -> Result<(), NoMemory>
     Ok(())
 }
 
-/// The tiles that a seed draws: each word of its generator names one, by what is left of it when it
-/// is divided by the number of tiles. An attempt of a stream takes two words.
+/// The tiles that a seed draws: each word of its generator names one, by its remainder modulo the
+/// number of tiles. An attempt of a stream takes two words.
 fn drawn(alloc: Global, seed: u64, tiles: u32, pairs: u32) -> Result<Vec<u32>, NoMemory>
     requires some { 1 ≤ tiles }
     requires most { tiles ≤ 64 }
@@ -57,7 +57,7 @@ fn drawn(alloc: Global, seed: u64, tiles: u32, pairs: u32) -> Result<Vec<u32>, N
 }
 
 /// The order of a world's stepped run, a tile for each step: the tiles that are written out, or 16
-/// for each attempt of all tiles, drawn from a seed. `NoMemory` where there is none for the list.
+/// for each attempt of all tiles, drawn from a seed. `NoMemory` if there is none for the list.
 pub fn order_of(alloc: Global, world: &World) -> Result<Vec<u32>, NoMemory>
     requires tiles { (1 ≤ tiles_of (world_value world.now).plane) × (tiles_of (world_value world.now).plane ≤ 64) }
     requires lists { length world.now.plan.lists ≡ tiles_of (world_value world.now).plane }

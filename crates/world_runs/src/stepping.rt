@@ -22,8 +22,8 @@ use world_text::World;
 
 /// The stepped run of a world on one thread, settled: its grid and its journal are those of the
 /// stepped machine, and all its events stand in one serial order, that of the journal. There is one
-/// of those that act for each tile, and all have one meaning. `NoMemory` where the tiles, the board,
-/// the order or the grid can't be made.
+/// value that acts for each tile, and all have one meaning. `NoMemory` if the tiles, the board, the
+/// order or the grid can't be made.
 pub fn stepped<B: Behave + Drop>(
     alloc: Global,
     world: &World,

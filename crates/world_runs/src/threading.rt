@@ -18,10 +18,10 @@ use tile_threads::run_shared;
 use world_grid::{map_of, start};
 use world_text::World;
 
-/// The run of a world with a worker for each tile, side by side in threads, settled: however their
-/// steps fall, all events stand in one serial order, that of the journal. Each worker calls the gate
-/// before each attempt. There is one of those that act for each tile, and all have one meaning.
-/// `NoMemory` where the tiles, the edges or the grid can't be made.
+/// The run of a world with a worker for each tile, side by side in threads, settled: in whatever
+/// order they make their steps, all events stand in one serial order, that of the journal. Each
+/// worker calls the gate before each attempt. There is one value that acts for each tile, and all
+/// have one meaning. `NoMemory` if the tiles, the edges or the grid can't be made.
 pub fn threaded<R: Threads + Sync, B: Behave + Send + Drop, G: Gate>(
     rt: &R,
     alloc: Global,

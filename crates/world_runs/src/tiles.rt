@@ -33,7 +33,7 @@ fn fresh_tile<B: Behave + Drop>(
     Tile::new(alloc, map, tile, start, attempts, behave)
 }
 
-/// How many there are, of no more than there can be tiles.
+/// How many there are, given that there are no more than there can be tiles.
 fn count<T>(items: &[T]) -> u32
     requires { length items.now ≤ 64 }
     ensures { result ≡ length items.now }
@@ -42,7 +42,7 @@ fn count<T>(items: &[T]) -> u32
 }
 
 /// All tiles of a map, in order, each with the atoms of the start grid, its attempts of the plan,
-/// and one of those that act: there is one for each tile. `NoMemory` where a tile can't be made.
+/// and one of the values that act: there is one for each tile. `NoMemory` if a tile can't be made.
 pub fn fresh_tiles<B: Behave + Drop>(
     alloc: Global,
     map: &Map,

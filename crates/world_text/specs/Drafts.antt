@@ -44,7 +44,7 @@ kind_of (atom x y name s) = Atom
 kind_of (order_seed n) = OrderSeed
 kind_of (order ts) = Order
 
--- the tiles' size is said, and no attempt yet
+-- the tiles' size is given, and no attempt yet
 abbrev pub after_size : Kind → Bool
 after_size Size = true
 after_size Off = true
@@ -61,7 +61,8 @@ abbrev pub after_atoms : Kind → Bool
 after_atoms Atom = true
 after_atoms k = after_tries k
 
--- whether a line of a kind may come after one of another kind; `off` lines come in a world of the second version alone
+-- whether a line of a kind may come after one of another kind; only a world of the second version
+-- has `off` lines
 abbrev pub may_follow : Bool → Kind → Kind → Bool
 may_follow second Start Header = true
 may_follow second Header Tiles = true
@@ -80,7 +81,7 @@ may_follow second last next = false
 abbrev pub between : ℕ → ℕ → ℕ → Bool
 between low high n = nat_le low n && nat_le n high
 
--- an `off` line: a tile behind those that are off, and one more stays on
+-- an `off` line: a tile that comes after those that are off, and at least one stays on
 abbrev pub off_in_range : MapValue → ℕ → Bool
 off_in_range m t = nat_lt t (tiles_of m) && (not (list_any (λ o. o) (drop t m.off)) && nat_lt 1 (tiles_on m.off))
 
@@ -105,7 +106,7 @@ in_range m (atom x y name s) = atom_in_range m x y s
 in_range m (order_seed n) = nat_lt n (2 ^ 64)
 in_range m (order ts) = list_all (is_on m) ts
 
--- whether a line asks for more than 1,000,000 attempts over all tiles
+-- whether a line asks for more than 1,000,000 attempts in total
 unfoldable pub too_many : DraftValue → Line → Bool
 too_many d (attempts k) = nat_lt 1000000 (k * tiles_on d.plane.off)
 too_many d (try t x y s) = nat_le 1000000 d.made
@@ -135,7 +136,7 @@ put n d (atom x y name s) = record d { last = Atom; atoms = d.atoms ++ raw_atom 
 put n d (order_seed s) = record d { last = OrderSeed; order_seed = Some s }
 put n d (order ts) = record d { last = Order; order = d.order ++ ts }
 
--- the code of a line that can't stand where it does: the first one, or a later one
+-- the code of a line that can't be where it is: the first one, or a later one
 abbrev pub misplaced : Kind → ℕ
 misplaced Start = 70
 misplaced k = 71

@@ -5,12 +5,12 @@ use Rattle.text_lines.specs.Fields.{fields, number_of, hex_of}
 use Rattle.text_lines.specs.Forms.{with, take_number, one_field, one_number, one_seed, two_numbers}
 use Rattle.world_text.specs.Line.{Line, header, tiles, size, off, seed, attempts, try, atom, order_seed, order}
 
--- the state that the fields behind a name say: 0 where there are none
+-- the state that the fields after a name say: 0 if there are none
 unfoldable pub state_of : List (List ℕ) → Option ℕ
 state_of [] = Some 0
 state_of (f ∷ fs) = with (one_field (f ∷ fs)) (hex_of 18)
 
--- the name of a type, and maybe the digits of a state
+-- the name of a type, and perhaps the digits of a state
 unfoldable pub name_state : List (List ℕ) → Option (List ℕ × ℕ)
 name_state [] = None
 name_state (f ∷ fs) = if is_type_name f then option_map (λ s. (f, s)) (state_of fs) else None
@@ -36,7 +36,7 @@ version_form args = with (one_field args) version_of
 abbrev pub try_form : List (List ℕ) → Option Line
 try_form args = with (take_number args) (λ t. with (take_number t.1) (λ x. with (take_number x.1) (λ y. option_map (try t.0 x.0 y.0) (one_seed y.1))))
 
--- a site, a name and maybe a state
+-- a site, a name and perhaps a state
 abbrev pub atom_form : List (List ℕ) → Option Line
 atom_form args = with (take_number args) (λ x. with (take_number x.1) (λ y. option_map (λ n. atom x.0 y.0 n.0 n.1) (name_state y.1)))
 
@@ -51,7 +51,7 @@ short_form word args =
     else (if bytes_eq word (codes "feast") then version_form args
     else None)))))
 
--- what a word and the fields behind it say
+-- what a word and the fields after it say
 unfoldable pub form : List ℕ → List (List ℕ) → Option Line
 form word args =
     if bytes_eq word (codes "try") then try_form args
@@ -59,7 +59,7 @@ form word args =
     else (if bytes_eq word (codes "order") then order_form args
     else short_form word args))
 
--- what the fields of a line say, where they have one of the forms
+-- what the fields of a line say, if they have one of the forms
 unfoldable pub form_of : List (List ℕ) → Option Line
 form_of [] = None
 form_of (word ∷ args) = form word args

@@ -50,7 +50,8 @@ placed names a = record { x = a.x; y = a.y; atom = record { kind = or_zero (type
 abbrev pub place_of : ℕ → RawAtom → ℕ
 place_of width a = a.y * width + a.x
 
--- the first fault of atoms after others at these places: 73 for a name that is none of the names, then 74 for a place that is taken
+-- the first fault of atoms that come after others at these places: 73 for an unknown name, then 74
+-- for a place that is taken
 unfoldable pub name_fault : List (List ℕ) → ℕ → List ℕ → List RawAtom → Option (ℕ × ℕ)
 name_fault names width before [] = None
 name_fault names width before (a ∷ more) =
@@ -58,7 +59,8 @@ name_fault names width before (a ∷ more) =
     then (if list_any (λ p. p == place_of width a) before then Some (74, a.line) else name_fault names width (before ++ place_of width a ∷ []) more)
     else Some (73, a.line)
 
--- the plan of the attempts of tiles of so many sites: drawn from a seed, or those that were written out
+-- the plan of the attempts of tiles of this many sites: drawn from a seed, or those that were
+-- written out
 abbrev pub plan_by : List Bool → ℕ → List (List Attempt) → Option (ℕ × ℕ) → PlanValue
 plan_by off sites tries None = scripted tries
 plan_by off sites tries (Some o) = seeded o.0 o.1 off sites
@@ -92,12 +94,12 @@ AreMarked marks before = (p : ℕ) → p < length marks → slice_index_or marks
 abbrev pub places_of : ℕ → List RawAtom → List ℕ
 places_of width atoms = map (place_of width) atoms
 
--- a fault is the one that is asked; want of memory says nothing
+-- a fault is the expected one; running out of memory says nothing
 abbrev pub IsNameFault : Option (ℕ × ℕ) → Option (ℕ × ℕ) → Type 0
 IsNameFault asked None = Unit {0}
 IsNameFault asked (Some fault) = asked ≡ Some fault
 
--- at Ok the atoms with their types, else the first fault
+-- at Ok the atoms with their types, otherwise the first fault
 abbrev pub NamesAtoms : List (List ℕ) → ℕ → List RawAtom → Result (Vec Placed Global) WorldFault → Type 0
 NamesAtoms names width atoms (Ok v) = (name_fault names width [] atoms ≡ None) × (v.items ≡ map (placed names) atoms)
 NamesAtoms names width atoms (Err fault) = IsNameFault (name_fault names width [] atoms) (fault_of fault)

@@ -23,11 +23,11 @@ line_fields (atom x y name s) = codes "atom" ∷ decimal x ∷ decimal y ∷ nam
 line_fields (order_seed n) = codes "order" ∷ codes "seed" ∷ decimal n ∷ []
 line_fields (order ts) = codes "order" ∷ map decimal ts
 
--- the `off` line of a tile, where it is off
+-- the `off` line of a tile, if it is off
 abbrev pub off_one : ℕ → Bool → List Line
 off_one t o = if o then off t ∷ [] else []
 
--- the `off` lines, where the first of these marks is that of tile t
+-- the `off` lines, if the first of these marks is that of tile t
 unfoldable pub off_lines : ℕ → List Bool → List Line
 off_lines t [] = []
 off_lines t (o ∷ more) = off_one t o ++ off_lines (t + 1) more
@@ -53,13 +53,13 @@ name_of names kind = slice_index_or names (kind - 1) []
 abbrev pub atom_line : List (List ℕ) → Placed → Line
 atom_line names p = atom p.x p.y (name_of names p.atom.kind) p.atom.state
 
--- the order: nothing where it is empty
+-- the order: nothing if it is empty
 abbrev pub order_lines : OrderValue → List Line
 order_lines (listed []) = []
 order_lines (listed (t ∷ ts)) = order (t ∷ ts) ∷ []
 order_lines (drawn n) = order_seed n ∷ []
 
--- the lines of a world; it is of the second version where a tile is off
+-- the lines of a world; it is of the second version if a tile is off
 abbrev pub world_lines : List (List ℕ) → WorldValue → List Line
 world_lines names w =
     header (list_any (λ o. o) w.plane.off) ∷ tiles w.plane.tx w.plane.ty ∷ size w.plane.w w.plane.h

@@ -20,7 +20,7 @@ abbrev pub go_on : ℕ → Result DraftValue ℕ → (DraftValue → Result Draf
 go_on n (Ok e) next = next e
 go_on n (Err code) next = Err (code, n)
 
--- what lines say after a draft, or their first fault and its line, where the first line has number n
+-- what lines say after a draft, or their first fault and its line, if the first line has number n
 unfoldable pub read_lines : ℕ → DraftValue → List (List ℕ) → Result DraftValue (ℕ × ℕ)
 read_lines n d [] = over n d (missing d.last)
 read_lines n d (t ∷ ts) = go_on n (line_step n d t) (λ e. read_lines (n + 1) e ts)
@@ -29,7 +29,7 @@ read_lines n d (t ∷ ts) = go_on n (line_step n d t) (λ e. read_lines (n + 1) 
 unfoldable pub read_text : List ℕ → Result DraftValue (ℕ × ℕ)
 read_text bytes = read_lines 1 nothing_said (lines bytes)
 
--- the code and the line of a fault; None where memory was wanted
+-- the code and the line of a fault; None if memory ran out
 abbrev pub fault_of : WorldFault → Option (ℕ × ℕ)
 fault_of (BadHeader line) = Some (70, line)
 fault_of (BadLine line) = Some (71, line)
@@ -40,17 +40,17 @@ fault_of (TooManyAttempts line) = Some (75, line)
 fault_of (MissingLine line) = Some (76, line)
 fault_of NoMemory = None
 
--- an answer by a fault is the one that is asked; want of memory says nothing
+-- an answer with a fault is the expected one; running out of memory says nothing
 abbrev pub IsFault : {X : Type 0} → Result X (ℕ × ℕ) → Option (ℕ × ℕ) → Type 0
 IsFault asked None = Unit {0}
 IsFault asked (Some fault) = asked ≡ Err fault
 
--- what comes of a line of number n: at Ok the new draft, else the fault
+-- the result for a line of number n: at Ok the new draft, otherwise the fault
 abbrev pub Steps : ℕ → Result DraftValue ℕ → DraftValue → Result (Unit {0}) WorldFault → Type 0
 Steps n asked new (Ok x) = asked ≡ Ok new
 Steps n asked new (Err fault) = IsFault (go_on n asked (λ e. Ok e)) (fault_of fault)
 
--- at Ok what the text says, else its first fault
+-- at Ok what the text says, otherwise its first fault
 abbrev pub Reads : List ℕ → Result DraftValue WorldFault → Type 0
 Reads bytes (Ok d) = read_text bytes ≡ Ok d
 Reads bytes (Err fault) = IsFault (read_text bytes) (fault_of fault)

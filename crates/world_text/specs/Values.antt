@@ -48,7 +48,7 @@ order_value (Drawn n) = drawn n
 abbrev pub world_value : World → WorldValue
 world_value w = record { plane = plane_of w.tx w.ty w.w w.h w.off.items; plan = w.plan; atoms = w.atoms.items; order = order_value w.order }
 
--- at Ok the world that a draft says with these names, else its first fault
+-- at Ok the world that a draft says with these names, otherwise its first fault
 abbrev pub Names : List (List ℕ) → DraftValue → Result World WorldFault → Type 0
 Names names d (Ok w) = named names d ≡ Ok (world_value w)
 Names names d (Err fault) = IsFault (named names d) (fault_of fault)

@@ -34,7 +34,7 @@ impl Tries {
         }
     }
 
-    /// Adds an attempt. `NoMemory` where there is none for it.
+    /// Adds an attempt. `NoMemory` if there is none for it.
     pub(crate) fn push(&mut self, attempt: Attempt) -> Result<(), NoMemory>
         ensures { IfOk result (λ _. self.new ≡ self.old ++ attempt ∷ []) }
     {
@@ -78,7 +78,7 @@ pub(crate) struct Draft {
     pub(crate) order: Vec<u32>,
 }
 
-/// As many empty lists of attempts.
+/// This many empty lists of attempts.
 pub(crate) fn empty_lists(alloc: Global, count: usize) -> Result<Vec<Tries>, NoMemory>
     ensures { IfOk result (λ v. v.items ≡ replicate count []) }
 {

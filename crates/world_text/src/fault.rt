@@ -1,14 +1,14 @@
-//! Why a text says no world.
+//! Why a text is not a world.
 
 use feast_base::NoMemory;
 use std::alloc::{AllocError, AllocFailed};
 
-/// Why a text says no world, with the number of the line, from 1.
+/// Why a text is not a world, with the number of the line, from 1.
 #[derive(Clone, Copy, Debug, PartialEq, Eq)]
 pub enum WorldFault {
-    /// The first line is none of the headers, or there is no line (70).
+    /// The first line is not one of the headers, or there is no line (70).
     BadHeader(u64),
-    /// A line has none of the forms, or can't stand where it does (71).
+    /// A line has none of the forms, or can't be where it is (71).
     BadLine(u64),
     /// A number is outside its range (72).
     OutOfRange(u64),
@@ -18,7 +18,7 @@ pub enum WorldFault {
     SiteTaken(u64),
     /// There are more than 1,000,000 attempts (75).
     TooManyAttempts(u64),
-    /// The text ends too early; the line is that behind the last (76).
+    /// The text ends too early; the line is the one after the last (76).
     MissingLine(u64),
     /// There was no memory.
     NoMemory,

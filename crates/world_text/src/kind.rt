@@ -7,7 +7,7 @@ ghost use Rattle.world_text.specs.Values.{line_value};
 use crate::fault::WorldFault;
 use crate::line::Line;
 
-/// The kind of a line of a world, or `Start` where none stands before.
+/// The kind of a line of a world, or `Start` if there is no line before.
 #[derive(Clone, Copy, Debug, PartialEq, Eq)]
 pub(crate) enum Kind {
     Start,
@@ -23,7 +23,7 @@ pub(crate) enum Kind {
     Order,
 }
 
-/// Whether the tiles' size is said, and no attempt yet.
+/// Whether the tiles' size is given, and no attempt yet.
 fn after_size(kind: Kind) -> bool
     ensures { result ≡ after_size kind }
 {
@@ -90,7 +90,7 @@ pub(crate) fn kind_of(line: &Line) -> Kind
     }
 }
 
-/// The fault of line `n`, where it can't stand where it does.
+/// The fault of line `n`, if it can't be where it is.
 pub(crate) fn misplaced(last: Kind, n: u64) -> WorldFault
     ensures { fault_of result ≡ Some (misplaced last, n) }
 {
@@ -100,7 +100,7 @@ pub(crate) fn misplaced(last: Kind, n: u64) -> WorldFault
     }
 }
 
-/// The fault of a world that ends before line `n`, where it may not end there.
+/// The fault of a world that ends before line `n`, if it may not end there.
 #[tactic(auto, unfolding(crate::specs::Drafts::missing))]
 pub(crate) fn missing(last: Kind, n: u64) -> Option<WorldFault>
     ensures { MatchOption result (missing last ≡ None) (λ fault. option_map (λ code. (code, n)) (missing last) ≡ fault_of fault) }

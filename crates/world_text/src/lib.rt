@@ -1,9 +1,9 @@
 //! The text of a world: its plane of tiles, the attempts of the tiles, its atoms, and the order of
 //! a stepped run.
 //!
-//! A text is read in two steps. `read` takes it apart and answers what it says, or the first line
-//! that says nothing there; `name` then gives the atoms the types of their names. `print` writes a
-//! world as a text that reads as this world again.
+//! A text is read in two steps. `read` takes it apart and answers what it says, or the first faulty
+//! line; `name` then gives the atoms the types of their names. `print` writes a world as a text
+//! that reads as this world again.
 #![tactic(auto)]
 
 mod draft;

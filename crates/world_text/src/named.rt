@@ -16,7 +16,8 @@ use feast_base::{Name, NoMemory};
 use std::alloc::Global;
 use std::collections::HashMap;
 
-/// The type number of each name: its place among the names, from 1, the first where it has more.
+/// The type number of each name: its place among the names, from 1, the first one if it has
+/// several.
 fn kinds_of(alloc: Global, names: &[Name]) -> Result<HashMap<&[u8], u16>, NoMemory>
     requires { length names.now ≤ 65535 }
     ensures { IfOk result (λ m. AreKinds names.now m) }
@@ -149,9 +150,9 @@ fn world(alloc: Global, raw: RawWorld, names: &[Name]) -> Result<World, WorldFau
     })
 }
 
-/// The world that a text says, by what `read` gave and the names of the elements, in the order of
+/// The world that a text says, from what `read` gave and the names of the elements, in the order of
 /// their type numbers. `UnknownElement` at the first `atom` line whose name no element has, and
-/// `SiteTaken` at the first whose site an earlier one has, whichever comes first. `NoMemory` where
+/// `SiteTaken` at the first whose site an earlier one has, whichever comes first. `NoMemory` if
 /// there is none for the world.
 #[tactic(auto, using(crate::proofs::Prints::named_of, crate::proofs::Prints::valid_of))]
 pub fn name(alloc: Global, raw: RawWorld, names: &[Name]) -> Result<World, WorldFault>

@@ -59,7 +59,7 @@ fn push_plane(out: &mut Vec<u8>, world: &World) -> Result<(), NoMemory>
     push_two(out, b"size", world.w, world.h)
 }
 
-/// Appends the `off` line of a tile, where it is off.
+/// Appends the `off` line of a tile, if it is off.
 fn push_mark(out: &mut Vec<u8>, tile: usize, is_off: bool) -> Result<(), NoMemory>
     ensures { Appends out.old.items out.new.items result (lines_text (off_one tile is_off)) }
 {
@@ -188,7 +188,7 @@ fn order_fields(alloc: Global, turns: &[u32]) -> Result<Vec<Field<'static>>, NoM
     Ok(fields)
 }
 
-/// Appends the line of the order, where there is one.
+/// Appends the line of the order, if there is one.
 fn push_order(alloc: Global, out: &mut Vec<u8>, order: &Order) -> Result<(), NoMemory>
     ensures { Appends out.old.items out.new.items result (lines_text (order_lines (order_value order.now))) }
 {
@@ -205,7 +205,7 @@ fn push_order(alloc: Global, out: &mut Vec<u8>, order: &Order) -> Result<(), NoM
     }
 }
 
-/// Appends the line of the turns of a run, where there are any.
+/// Appends the line of the turns of a run, if there are any.
 fn push_turns(alloc: Global, out: &mut Vec<u8>, turns: &[u32]) -> Result<(), NoMemory>
     ensures { Appends out.old.items out.new.items result (lines_text (order_lines (listed turns.now))) }
 {
@@ -216,9 +216,9 @@ fn push_turns(alloc: Global, out: &mut Vec<u8>, turns: &[u32]) -> Result<(), NoM
     push_line(out, fields.as_slice())
 }
 
-/// Appends the text of a world that `name` gave with these names. It is of version 2 exactly where
-/// a tile is off, and a plan that is drawn from a seed is printed as its seed and count. `NoMemory`
-/// where there is none for the attempts of a tile or for the order, or `out` can't grow.
+/// Appends the text of a world that `name` gave with these names. It is of version 2 exactly when a
+/// tile is off, and a plan that is drawn from a seed is printed as its seed and count. `NoMemory`
+/// if there is none for the attempts of a tile or for the order, or `out` can't grow.
 pub fn print(
     alloc: Global,
     world: &World,

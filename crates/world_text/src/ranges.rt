@@ -17,7 +17,7 @@ fn is_on(draft: &Draft, tile: u128) -> bool
     tile < (draft.tx * draft.ty) as u128 && !draft.off[tile as usize]
 }
 
-/// Whether a site is of the plane.
+/// Whether a site is on the plane.
 fn in_plane(draft: &Draft, x: u128, y: u128) -> bool
     requires { IsMap (draft_value draft.now).plane }
     ensures { result ≡ in_plane (draft_value draft.now).plane (site x y) }
@@ -34,7 +34,7 @@ fn owner(draft: &Draft, x: u32, y: u32) -> u32
     y / draft.h * draft.tx + x / draft.w
 }
 
-/// The tile whose rectangle has a site, where the site is live.
+/// The tile whose rectangle has a site, if the site is live.
 fn live_owner(draft: &Draft, x: u128, y: u128) -> Option<u32>
     requires { IsMap (draft_value draft.now).plane }
     ensures { result ≡ (if is_live (draft_value draft.now).plane (site x y) then Some (owner_of (draft_value draft.now).plane (site x y)) else None) }
@@ -91,7 +91,7 @@ fn try_in_range(draft: &Draft, tile: u128, x: u128, y: u128, seed: u64) -> bool
     }
 }
 
-/// Whether an atom stands on a live site and its state fits.
+/// Whether an atom is on a live site and its state fits.
 fn atom_in_range(draft: &Draft, x: u128, y: u128, state: u128) -> bool
     requires { IsMap (draft_value draft.now).plane }
     ensures { result ≡ atom_in_range (draft_value draft.now).plane x y state }
@@ -134,7 +134,7 @@ pub(crate) fn in_range(draft: &Draft, line: &Line) -> bool
     }
 }
 
-/// Whether a line asks for more than 1,000,000 attempts over all tiles.
+/// Whether a line asks for more than 1,000,000 attempts in total.
 #[tactic(auto, unfolding(crate::specs::Drafts::too_many))]
 pub(crate) fn too_many(draft: &Draft, line: &Line) -> bool
     ensures { result ≡ too_many (draft_value draft.now) (line_value line.now) }

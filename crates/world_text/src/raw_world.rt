@@ -27,7 +27,7 @@ impl Model for RawWorld {
 }
 
 impl RawWorld {
-    /// What some lines say, where none is missing.
+    /// What some lines say, if none is missing.
     pub(crate) fn new(draft: Draft) -> RawWorld
         requires draft { IsDraft (draft_value draft) }
         requires whole { missing draft.last ≡ None }
@@ -52,7 +52,7 @@ impl RawWorld {
         let _ = &self.draft;
     }
 
-    /// How many tiles there are, those that are off among them: 1 to 64.
+    /// How many tiles there are, including those that are off: 1 to 64.
     pub fn tiles(&self) -> u32
         ensures value { result ≡ tiles_of self.now.plane }
         ensures few { result ≤ 64 }

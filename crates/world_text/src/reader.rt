@@ -10,9 +10,9 @@ use crate::step::take_line;
 use std::alloc::Global;
 use text_lines::next_line;
 
-/// What a text says, before its atoms have their types. The first line with a fault is answered,
-/// by `BadHeader`, `BadLine`, `OutOfRange`, `TooManyAttempts` or `MissingLine`; within a line
-/// `BadLine` comes before `OutOfRange`, and that before `TooManyAttempts`. `NoMemory` where there
+/// What a text says, before its atoms have their types. The answer to a bad text is its first line
+/// with a fault: `BadHeader`, `BadLine`, `OutOfRange`, `TooManyAttempts` or `MissingLine`; within a
+/// line `BadLine` comes before `OutOfRange`, and that before `TooManyAttempts`. `NoMemory` if there
 /// is none for what the text says.
 pub fn read(alloc: Global, bytes: &[u8]) -> Result<RawWorld, WorldFault>
     requires { length bytes.now < 2 ^ 63 }

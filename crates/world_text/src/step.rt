@@ -131,7 +131,7 @@ fn put_count(draft: &mut Draft, count: u64)
     }
 }
 
-/// Takes a line that may stand here.
+/// Takes a line that may come here.
 #[tactic(auto, unfolding(crate::specs::Drafts::put, crate::specs::Drafts::in_range, crate::specs::Drafts::too_many))]
 fn put(alloc: Global, draft: &mut Draft, n: u64, line: &Line) -> Result<(), NoMemory>
     requires shape { IsDraft (draft_value draft.old) }
@@ -153,7 +153,7 @@ fn put(alloc: Global, draft: &mut Draft, n: u64, line: &Line) -> Result<(), NoMe
     }
 }
 
-/// Takes line `n`, or says why it can't stand.
+/// Takes line `n`, or says why it can't be there.
 #[tactic(auto, unfolding(crate::specs::Drafts::step))]
 fn step_line(alloc: Global, draft: &mut Draft, n: u64, line: &Line) -> Result<(), WorldFault>
     requires { IsDraft (draft_value draft.old) }
@@ -174,7 +174,7 @@ fn step_line(alloc: Global, draft: &mut Draft, n: u64, line: &Line) -> Result<()
     }
 }
 
-/// Takes the text of line `n`, or says why it can't stand.
+/// Takes the text of line `n`, or says why it can't be there.
 #[tactic(auto, unfolding(crate::specs::Drafts::step))]
 fn step_text(alloc: Global, draft: &mut Draft, n: u64, text: &[u8]) -> Result<(), WorldFault>
     requires { IsDraft (draft_value draft.old) }
@@ -187,7 +187,7 @@ fn step_text(alloc: Global, draft: &mut Draft, n: u64, text: &[u8]) -> Result<()
     }
 }
 
-/// Takes the text of line `n`, or passes over it, or says why it can't stand.
+/// Takes the text of line `n`, or passes over it, or says why it can't be there.
 #[tactic(auto, unfolding(crate::specs::Reading::line_step))]
 pub(crate) fn take_line(
     alloc: Global,

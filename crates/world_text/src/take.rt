@@ -22,7 +22,7 @@ fn try_form<'a>(args: Option<&'a [u8]>) -> Option<Line<'a>>
     Some(Line::Try { tile, x, y, seed })
 }
 
-/// The state that the fields behind a name say: 0 where there are none.
+/// The state that the fields after a name say: 0 if there are none.
 #[tactic(auto, using(crate::proofs::Takes::state_some), unfolding(crate::specs::Forms::state_of))]
 fn state_of(args: Option<&[u8]>) -> Option<u128>
     ensures { result ≡ state_of (args_of (option_copied args.entry)) }
@@ -33,7 +33,7 @@ fn state_of(args: Option<&[u8]>) -> Option<u128>
     }
 }
 
-/// The name of a type, and maybe a state.
+/// The name of a type, and perhaps a state.
 #[tactic(auto, unfolding(crate::specs::Forms::name_state))]
 fn name_state(args: Option<&[u8]>) -> Option<(&[u8], u128)>
     ensures { option_map (λ r. (r.0.now, r.1)) result ≡ name_state (args_of (option_copied args.entry)) }

@@ -8,9 +8,8 @@ use crate::world::World;
 use feast_base::Name;
 
 /// What holds of every text that is made of lines as `print` makes them: it says what its lines
-/// say, one after another; and where it is a world, its first lines are one too, which the same
-/// names name, unless a line is missing behind them. The call does nothing: its contract is the
-/// laws.
+/// say, one after another; and if it is a world, its first lines are one too, with the same names,
+/// unless a line is missing after them. The call does nothing: its contract is the laws.
 #[tactic(auto, using(crate::proofs::Again::text_again, crate::proofs::Cut::are_cut))]
 pub fn laws(world: &World)
     ensures says { SaysItsLines }
@@ -20,8 +19,8 @@ pub fn laws(world: &World)
 }
 
 /// What holds of the text that `print` writes of a world that `name` gave with these names: read
-/// and named with them it says this world; and its first lines say a world that they name, unless
-/// a line is missing behind them. The call does nothing: its contract is the laws.
+/// and named with them it says this world; and its first lines say a world that they name, unless a
+/// line is missing after them. The call does nothing: its contract is the laws.
 #[tactic(auto, using(crate::proofs::Round::reads_again))]
 pub fn reads_again(world: &World, names: &[Name])
     requires { IsNamed names.now (world_value world.now) }

@@ -27,9 +27,9 @@ pub enum Order {
 /// tiles, the atoms at the start, and the order of a stepped run.
 #[derive(Drop)]
 pub struct World {
-    /// How many tiles stand in a row, 1 to 8.
+    /// How many tiles a row of them has, 1 to 8.
     pub tx: u32,
-    /// How many tiles stand in a column, 1 to 8.
+    /// How many tiles a column of them has, 1 to 8.
     pub ty: u32,
     /// How many sites a tile has in a row, 8 to 64.
     pub w: u32,

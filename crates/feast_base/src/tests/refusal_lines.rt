@@ -6,7 +6,7 @@ use crate::{NoMemory, Place, Refusal, print_refusal};
 use std::alloc::Global;
 use std::test::Fail;
 
-/// What the words may be.
+/// The forms that the words may have.
 const USAGE: &str =
     "E00 usage: feast check|code|pack FILE.. | step|run WORLD FILE.. | steppack|runpack WORLD CODE | replay WORLD JOURNAL FILE.. | audit WORLD REPORT FILE.. | rewind WORLD REPORT K FILE.. | gen N\n";
 

@@ -7,7 +7,7 @@ use std::io;
 use std::io::{ErrorKind, Read, Write};
 use std::test::Fail;
 
-/// Gives one byte a call, and fails where so many bytes are left.
+/// Gives one byte a call, and fails once this many bytes are left.
 #[derive(Drop)]
 struct Drip {
     bytes: &'static [u8],

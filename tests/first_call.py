@@ -1,0 +1,294 @@
+#!/usr/bin/env python3
+"""Tries the first call of `./feast` on a small repository with a toolchain that only pretends: first_call.py [TEST..].
+
+The repository is made in a temporary folder, with a copy of `feast` and of tools/first_call and three crates.
+The toolchain is tests/fakes/rt: it takes tenths of a second for a crate, and notes its calls.
+"""
+from __future__ import annotations
+
+import concurrent.futures
+import os
+import pathlib
+import pty
+import re
+import shutil
+import signal
+import subprocess
+import sys
+import tempfile
+import time
+import unittest
+from typing import Optional
+
+TOP = pathlib.Path(__file__).resolve().parent.parent
+CRATES = "low:\nmiddle: low # stands on low\nfeast: middle low\nother: low\n"
+# What the program of the pretended toolchain writes, and its status.
+PROVED, STATUS = "proved call of", 3
+WITH_LITTLE_MEMORY = """
+import pathlib, sys
+sys.path[0] = sys.argv[1] + "/tools"
+from first_call import machine, preview
+machine.free_memory = preview.free_memory = lambda: 2
+from first_call.call import main
+sys.exit(main(pathlib.Path(sys.argv[1]), sys.argv[2:]))
+"""
+
+
+class Call:
+    """A call under way, and how it ended."""
+
+    def __init__(self, case: "FirstCall", words: list[str], command: Optional[list[str]] = None, **changes: str) -> None:
+        environment = {name: value for name, value in os.environ.items() if name not in ("CI", "FEAST_PREVIEW")}
+        environment["PATH"] = f"{TOP / 'tests' / 'fakes'}:{environment['PATH']}"
+        environment["PRETENDED"] = str(case.top)
+        self.process = subprocess.Popen(
+            [*(command or [str(case.top / "feast")]), *words],
+            cwd=case.folder,
+            env={**environment, **changes},
+            stdout=subprocess.PIPE,
+            stderr=subprocess.PIPE,
+            text=True,
+            start_new_session=True,
+        )
+
+    def end(self) -> tuple[int, str, str]:
+        """The status, standard output and standard error."""
+        out, err = self.process.communicate(timeout=60)
+        return self.process.returncode, out, err
+
+
+class FirstCall(unittest.TestCase):
+    """A small repository, and calls in it."""
+
+    def setUp(self) -> None:
+        self.folder = pathlib.Path(tempfile.mkdtemp(prefix="first-call-"))
+        self.addCleanup(shutil.rmtree, self.folder)
+        self.top = self.folder / "repository"
+        self.top.mkdir()
+        shutil.copy(TOP / "feast", self.top)
+        shutil.copytree(TOP / "tools" / "first_call", self.top / "tools" / "first_call")
+        (self.top / "crates.txt").write_text(CRATES)
+        for name in ("low", "middle", "feast", "other"):
+            (self.top / "crates" / name / "src").mkdir(parents=True)
+            (self.top / "crates" / name / "src" / "lib.rt").write_text("// a source\n")
+        self.program = self.top / "crates" / "feast" / "out" / "feast"
+        (self.folder / "world").write_text("feast 1\n")
+
+    def calls(self) -> list[str]:
+        """The calls of the toolchain so far."""
+        notes = self.top / "calls"
+        return notes.read_text().splitlines() if notes.exists() else []
+
+    def count(self, call: str) -> int:
+        """How many calls of the toolchain began so."""
+        return sum(it.startswith(call) for it in self.calls())
+
+    def assert_ran(self, ended: tuple[int, str, str], words: str) -> None:
+        """Tests that a call ended as the program does, with its output alone."""
+        self.assertEqual((ended[0], ended[1]), (STATUS, f"{PROVED} {words}\n"), ended[2])
+
+    def wait_for(self, what: str) -> None:
+        """Waits until the toolchain has begun a call."""
+        end = time.monotonic() + 20
+        while not self.count(what) and time.monotonic() < end:
+            time.sleep(0.02)
+        self.assertTrue(self.count(what), what)
+
+    def test_program_runs_at_the_end(self) -> None:
+        ended = Call(self, ["run", "world", "", "two words"]).end()
+        self.assert_ran(ended, "<run> <world> <> <two words>")
+
+    def test_word_that_is_no_text_is_handed_on(self) -> None:
+        process = subprocess.run(
+            [str(self.top / "feast"), b"\xff"],
+            env={**os.environ, "PATH": f"{TOP / 'tests' / 'fakes'}:{os.environ['PATH']}", "PRETENDED": str(self.top)},
+            capture_output=True,
+        )
+        self.assertEqual(process.stdout, b"proved call of <\xff>\n")
+
+    def test_signals_are_as_they_were(self) -> None:
+        ignored = int(Call(self, ["signals"]).end()[1].split()[-1], 16)
+        for number in (signal.SIGPIPE, signal.SIGXFSZ, signal.SIGINT):
+            self.assertFalse(ignored >> (number - 1) & 1, number.name)
+
+    def test_built_program_is_run_at_once(self) -> None:
+        Call(self, ["run"]).end()
+        before = self.calls()
+        begin = time.monotonic()
+        ended = Call(self, ["check", "world"]).end()
+        self.assert_ran(ended, "<check> <world>")
+        self.assertEqual(ended[2], "")
+        self.assertLess(time.monotonic() - begin, 0.5)
+        self.assertEqual(self.calls(), before)
+
+    def test_changed_source_is_proved(self) -> None:
+        Call(self, ["run"]).end()
+        before = self.count("run")
+        time.sleep(0.01)
+        (self.top / "crates" / "middle" / "src" / "lib.rt").write_text("// changed\n")
+        status, _, told = Call(self, ["run"]).end()
+        self.assertEqual((status, self.count("run")), (STATUS, before + 1))
+        self.assertIn("of its 3 crates 1 are kept", told)
+
+    def test_progress_is_told_line_by_line(self) -> None:
+        told = Call(self, ["run"], FEAST_PREVIEW="no").end()[2]
+        self.assertIn("of its 3 crates 0 are kept", told)
+        lines = re.findall(r"feast: (\d) of 3 crates are proved; (.*) gone, about (.*) left; (.*)", told)
+        self.assertEqual([it[0] for it in lines], sorted(it[0] for it in lines), told)
+        doing = [it[3] for it in lines]
+        wanted = ["proving low", "proving middle", "proving feast", "building the program"]
+        self.assertEqual([it for it in doing if it in wanted], wanted, told)
+        self.assertEqual(lines[-1][0], "3")
+        self.assertRegex(told, r"proved and built in \d+ s; the program by itself is /.*/crates/feast/out/feast\n\Z")
+
+    def test_sources_are_looked_through_first(self) -> None:
+        told = Call(self, ["run"], FEAST_PREVIEW="no").end()[2]
+        if "side by side" in self.calls()[0]:
+            self.assertRegex(told, "0 of 3 .* looking through all sources\n(.*\n)*.*proving low")
+
+    def test_progress_is_a_bar_on_a_terminal(self) -> None:
+        ours, theirs = pty.openpty()
+        process = subprocess.Popen(
+            [str(self.top / "feast"), "run"],
+            env={**os.environ, "PATH": f"{TOP / 'tests' / 'fakes'}:{os.environ['PATH']}", "PRETENDED": str(self.top)},
+            stdout=subprocess.PIPE,
+            stderr=theirs,
+            start_new_session=True,
+        )
+        os.close(theirs)
+        told = read_all(ours)
+        out = process.communicate(timeout=60)[0]
+        self.assertEqual(out, b"proved call of <run>\n")
+        self.assertRegex(told, r"\r\x1b\[K\[#+\.+\] 1/3 crates, \d+ s gone, \d+ s left: proving middle\r")
+        self.assertRegex(told, r"preview of <run>\r\n")
+
+    def test_little_memory_proves_one_after_another(self) -> None:
+        ended = Call(self, ["run"], [sys.executable, "-Bc", WITH_LITTLE_MEMORY, str(self.top)]).end()
+        self.assert_ran(ended, "<run>")
+        self.assertEqual([it for it in self.calls() if it.startswith(("all", "lib", "run"))], ["lib low", "lib middle", "run"])
+        self.assertRegex(ended[2], "1 of 3 crates are proved; .* proving middle\n")
+        self.assertNotIn("looking through", ended[2])
+        self.assertIn("no preview: it wants 4 gigabytes", ended[2])
+
+    def test_four_calls_build_once(self) -> None:
+        calls = [Call(self, ["run", str(number)]) for number in range(4)]
+        ends = [call.end() for call in calls]
+        for number, ended in enumerate(ends):
+            self.assert_ran(ended, f"<run> <{number}>")
+        self.assertEqual(self.count("run"), 1)
+        self.assertEqual(sum("another ./feast builds the program" in told for _, _, told in ends), 3)
+
+    def test_call_that_waited_builds_if_the_first_could_not(self) -> None:
+        first = Call(self, ["run"])
+        self.wait_for("try")
+        second = Call(self, ["check"])
+        time.sleep(0.5)
+        os.kill(first.process.pid, signal.SIGTERM)
+        self.assertEqual(first.end()[0], 130)
+        self.assert_ran(second.end(), "<check>")
+
+    def test_preview_is_on_standard_error_alone(self) -> None:
+        ended = Call(self, ["run", "world"]).end()
+        self.assert_ran(ended, "<run> <world>")
+        shown = "preview, not proved yet: the call writes\npreview of <run> <world>\n.*end of the preview .status 0."
+        self.assertRegex(ended[2], shown)
+        self.assertEqual(self.count(f"try --data world={self.folder.resolve()}/world -- run world"), 1, self.calls())
+
+    def test_no_preview(self) -> None:
+        for changes in ({"FEAST_PREVIEW": "no"}, {"CI": "true"}):
+            with self.subTest(changes):
+                shutil.rmtree(self.program.parent, ignore_errors=True)
+                status, _, told = Call(self, ["run"], **changes).end()
+                self.assertEqual((status, self.count("try")), (STATUS, 0))
+                self.assertNotIn("preview", told)
+
+    def test_call_too_long_for_a_preview(self) -> None:
+        (self.top / "try-status").write_text("6")
+        ended = Call(self, ["run"]).end()
+        self.assert_ran(ended, "<run>")
+        self.assertIn("feast: no preview: the call takes longer, or writes more, than one may\n", ended[2])
+        self.assertNotIn("preview of <", ended[2])
+
+    def test_pipe_is_left_to_the_program(self) -> None:
+        os.mkfifo(self.folder / "pipe")
+        ended = Call(self, ["run", "pipe"]).end()
+        self.assert_ran(ended, "<run> <pipe>")
+        self.assertIn("no preview: pipe is no plain file", ended[2])
+        self.assertEqual(self.count("try"), 0)
+
+    def test_interrupted(self) -> None:
+        for number in (signal.SIGINT, signal.SIGTERM):
+            for moment in ("try", "low is proved"):
+                with self.subTest(f"{number.name} at {moment}"):
+                    (self.top / "calls").unlink(missing_ok=True)
+                    shutil.rmtree(self.top / "crates" / "low" / "out", ignore_errors=True)
+                    call = Call(self, ["run"])
+                    self.wait_for(moment)
+                    os.kill(call.process.pid, number)
+                    status, out, told = call.end()
+                    self.assertEqual((status, out), (130, ""))
+                    self.assertIn("feast: interrupted: what is proved is kept", told)
+                    self.assertEqual(left_over(self.top), [])
+        self.assertIn("of its 3 crates 1 are kept", Call(self, ["run"]).end()[2])
+
+    def test_what_cannot_be_proved_is_shown(self) -> None:
+        (self.top / "fails").write_text("middle")
+        status, out, told = Call(self, ["run"], FEAST_PREVIEW="no").end()
+        self.assertEqual((status, out), (1, ""))
+        self.assertIn("error: the sum of middle is not proved\n", told)
+        self.assertNotIn("fn good: proved", told)
+        self.assertNotIn("a word of low", told)
+        self.assertNotIn("2 of 3 crates are proved", told)
+        self.assertTrue(told.endswith("feast: the program could not be built: what the toolchain says of it stands above\n"))
+
+    def test_without_the_toolchain(self) -> None:
+        call = Call(self, ["run"], PATH="/usr/bin:/bin")
+        status, out, told = call.end()
+        self.assertEqual((status, out), (1, ""))
+        self.assertIn("install the Rattle kit", told)
+
+
+def read_all(terminal: int) -> str:
+    """What is written to a terminal until nobody has it open."""
+    found = b""
+    try:
+        while True:
+            more = os.read(terminal, 4096)
+            if not more:
+                break
+            found += more
+    except OSError:
+        pass
+    return found.decode()
+
+
+def left_over(top: pathlib.Path) -> list[str]:
+    """The processes that still work in a repository."""
+    found = []
+    for entry in pathlib.Path("/proc").iterdir():
+        try:
+            if entry.name.isdigit() and os.readlink(entry / "cwd").startswith(str(top)):
+                found.append((entry / "cmdline").read_bytes().decode())
+        except OSError:
+            continue
+    return found
+
+
+def main() -> int:
+    """Tries all, several at a time, since they mostly wait."""
+
+    def tried(case: unittest.TestCase) -> unittest.TestResult:
+        return case.run(unittest.TestResult()) or unittest.TestResult()
+
+    cases = [FirstCall(name) for name in sys.argv[1:] or unittest.defaultTestLoader.getTestCaseNames(FirstCall)]
+    with concurrent.futures.ThreadPoolExecutor(4) as pool:
+        results = list(pool.map(tried, cases))
+    faults = [fault for result in results for fault in [*result.failures, *result.errors]]
+    for case, said in faults:
+        print(f"{case}:\n{said}")
+    print(f"{len(cases) - len(faults)} passed, {len(faults)} failed")
+    return 1 if faults else 0
+
+
+if __name__ == "__main__":
+    sys.exit(main())

@@ -1,0 +1,19 @@
+"""The first call of `./feast`: proves and builds the program, tells how far that has come, and runs it.
+
+`./feast` hands its words over to this package where the program isn't built, or a source is newer:
+
+  call       the order of things: the lock, the preview, the proof, the program
+  build      the toolchain's runs, followed until they end
+  lock       one build at a time
+  sources    whether the program is older than a source
+  crates     the crates that the program is made of
+  kept       what earlier runs have left of them
+  machine    memory and processors
+  proof      which runs of the toolchain there are, and what one is at
+  progress   what is done, what is left, and how long that takes
+  seconds    how long each crate takes: the table `seconds.txt`, and the last build here
+  preview    the same call without any proof, in the meantime
+  faults     what the toolchain said of what it could not prove
+  teller     standard error: a bar, or lines
+  children   processes that are started, watched and ended
+"""

@@ -1,0 +1,96 @@
+"""A build: the toolchain's runs one after another, followed until they end."""
+from __future__ import annotations
+
+import os
+from pathlib import Path
+from typing import Callable, Optional
+
+from first_call import seconds
+from first_call.children import Child
+from first_call.crates import PROGRAM, Crate, crates_of_program
+from first_call.faults import said_of_faults
+from first_call.kept import Kept, kept
+from first_call.machine import lanes_here
+from first_call.progress import Progress
+from first_call.proof import WAITS, Log, Step, at_work, steps, told_crate
+from first_call.teller import Teller, spoken
+
+
+class Refused(Exception):
+    """The toolchain could not prove or build something; what it said."""
+
+
+class Build:
+    """A build of the program below a folder. `pause` is called again and again while it waits."""
+
+    def __init__(self, top: Path, program: Path, teller: Teller, pause: Callable[[], None]) -> None:
+        self.program = program
+        self.measured = program.with_name("seconds.txt")
+        self.log = program.with_name("first-call.log")
+        self.teller = teller
+        self.pause = pause
+        self.run: Optional[Child] = None
+        self.crates = crates_of_program(top)
+        self.lanes = lanes_here()
+        self.progress = self.expected(kept(top, self.crates))
+
+    def expected(self, found: dict[str, Kept]) -> Progress:
+        """What is to be done, where this much is kept of each crate."""
+        whole = seconds.expected(self.crates, self.measured)
+        likely = {name: spent * found.get(name, Kept.NOTHING).value for name, spent in whole.items()}
+        anew = {name for name in whole if found.get(name, Kept.NOTHING) is Kept.NOTHING}
+        done = {name for name, it in found.items() if it is Kept.BUILT}
+        is_looked_through = self.lanes == 1 or len(done) == len(self.crates) - 1
+        done |= {seconds.LOOKING} if is_looked_through else set()
+        return Progress(self.crates, self.lanes, likely, anew, done)
+
+    def announce(self) -> None:
+        """Says what is to be done, and how long that takes."""
+        status = self.progress.status()
+        self.teller.say(
+            f"the program isn't built: of its {status.crates} crates {status.done} are kept, and the others are"
+            f" proved first, {self.lanes} at a time, in about {spoken(status.left)}"
+        )
+        self.teller.say("it can be interrupted: what is proved is kept, and the same command goes on from there")
+        if seconds.LOOKING not in self.progress.done:
+            looking = spoken(self.progress.expected[seconds.LOOKING])
+            self.teller.say(f"all sources are looked through before the first proof, for about {looking}")
+
+    def go(self) -> None:
+        """Proves the crates and builds the program."""
+        for step in steps(self.crates, self.lanes):
+            self.follow(step)
+        os.utime(self.program)
+        seconds.write(self.measured, {**seconds.read(self.measured), **self.progress.measured})
+
+    def follow(self, step: Step) -> None:
+        """Runs the toolchain, and tells how far it is until it ends."""
+        with open(self.log, "wb") as out:
+            self.run = Child(step.words, step.folder, out)
+        log = Log(self.log)
+        status = None
+        while status is None:
+            self.pause()
+            status = self.run.status()
+            self.progress.at_work(step.work or at_work(self.run.process.pid))
+            self.take_in(log.new_lines())
+            self.teller.status(self.progress.status())
+        if status != 0:
+            raise Refused(said_of_faults(self.log.read_text(errors="replace")))
+        for name in step.ends:
+            self.progress.finish(name)
+
+    def take_in(self, lines: list[str]) -> None:
+        """Takes in what the toolchain says."""
+        for line in lines:
+            name = told_crate(line)
+            for crate in self.crates:
+                if crate.name == name and crate.is_built():
+                    self.progress.finish(name)
+            if WAITS.match(line):
+                self.teller.say(line)
+
+    def end(self) -> None:
+        """Ends what is under way."""
+        if self.run:
+            self.run.end()

@@ -1,0 +1,69 @@
+"""Processes that are started, watched and ended, each with all that it starts."""
+from __future__ import annotations
+
+import os
+import signal
+import subprocess
+import time
+from pathlib import Path
+from typing import IO, Iterator, Optional, Sequence
+
+# How long a process has to end by itself, in seconds.
+PATIENCE = 8.0
+# How often what goes on is looked at, in seconds.
+TICK = 0.1
+
+
+class Child:
+    """A command in a session of its own, which takes no input."""
+
+    def __init__(self, words: Sequence[str], folder: Path, out: IO[bytes], err: Optional[IO[bytes]] = None) -> None:
+        self.process = subprocess.Popen(
+            words,
+            cwd=folder,
+            stdin=subprocess.DEVNULL,
+            stdout=out,
+            stderr=subprocess.STDOUT if err is None else err,
+            start_new_session=True,
+        )
+
+    def status(self) -> Optional[int]:
+        """The exit status, below 0 for a signal; None while it runs."""
+        return self.process.poll()
+
+    def end(self) -> None:
+        """Ends the command, and all of its group, in peace if that serves."""
+        if self.status() is None:
+            self.tell(signal.SIGTERM)
+            try:
+                self.process.wait(PATIENCE)
+            except subprocess.TimeoutExpired:
+                pass
+            self.tell(signal.SIGKILL)
+            self.process.wait()
+
+    def tell(self, number: int) -> None:
+        """Sends a signal to the whole group."""
+        try:
+            os.killpg(self.process.pid, number)
+        except ProcessLookupError:
+            pass
+
+
+def pause() -> None:
+    """Waits a moment."""
+    time.sleep(TICK)
+
+
+def commands_of(session: int) -> Iterator[list[str]]:
+    """The words of each process of a session, as the system tells them."""
+    for entry in Path("/proc").iterdir():
+        if not entry.name.isdigit():
+            continue
+        try:
+            # Behind the name, which stands in brackets: state, parent, group, session.
+            fields = (entry / "stat").read_text(errors="replace").rpartition(")")[2].split()
+            if int(fields[3]) == session:
+                yield (entry / "cmdline").read_bytes().decode(errors="replace").split("\0")
+        except (OSError, IndexError, ValueError):
+            continue

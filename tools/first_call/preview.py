@@ -1,0 +1,104 @@
+"""The same call without any proof, while the proof goes on: `rt try`, shown on standard error.
+
+`rt try` takes no lock. It runs the program in a new folder, so each file that a word names is handed to
+it under that word. It answers only calls that end within a minute and write at most a mebibyte.
+"""
+from __future__ import annotations
+
+import os
+import re
+import stat
+import tempfile
+from dataclasses import dataclass, field
+from pathlib import Path
+from typing import IO, Mapping, Optional
+
+from first_call.children import Child
+from first_call.machine import free_memory
+
+# Names that `rt try` keeps for itself.
+TAKEN = ("program", "stdin", "stdout", "stderr")
+# Its status where the call takes too long or writes too much.
+NO_ANSWER = 6
+# How many gigabytes of memory there must be for it.
+MEMORY = 4
+ENDED = re.compile(rb"^run=ended status=(\d+) .*proved=no\n\Z", re.M)
+# Bytes that a text doesn't have.
+NO_TEXT = re.compile(rb"[^\t\n\r -\x7e\x80-\xff]")
+
+
+class NoPreview(Exception):
+    """Why there is no preview, as a reader is told."""
+
+
+@dataclass
+class Call:
+    """A call as `rt try` takes it: its words, and a file for each name in the program's folder."""
+
+    words: list[str] = field(default_factory=list)
+    files: dict[str, str] = field(default_factory=dict)
+
+    def add(self, word: str) -> None:
+        """Adds a word; one that names a file is handed over under the same name, if it can be."""
+        if word and os.path.exists(word):
+            path = os.path.realpath(word)
+            if not stat.S_ISREG(os.stat(path).st_mode) and not os.path.isdir(path) and path != os.devnull:
+                raise NoPreview(f"{word} is no plain file, and can be read only once")
+            name = os.path.normpath(word)
+            first = name.split("/")[0]
+            if os.path.isabs(name) or "=" in word or first in ("..", *TAKEN):
+                word = path
+            elif os.path.isfile(path):
+                self.files[name] = path
+        self.words.append(word)
+
+    def command(self) -> list[str]:
+        """The words of `rt try`."""
+        data = [it for name, path in self.files.items() for it in ("--data", f"{name}={path}")]
+        return ["rt", "try", *data, "--", *self.words]
+
+
+def is_wanted(environment: Mapping[str, str], is_terminal: bool) -> bool:
+    """Whether a preview is wanted: not with FEAST_PREVIEW=no, nor where nobody looks on in CI."""
+    return environment.get("FEAST_PREVIEW") != "no" and (is_terminal or not environment.get("CI"))
+
+
+class Preview:
+    """A call that runs without any proof."""
+
+    def __init__(self, words: list[str], home: Path) -> None:
+        if free_memory() < MEMORY:
+            raise NoPreview(f"it wants {MEMORY} gigabytes of memory")
+        call = Call()
+        for word in words:
+            call.add(word)
+        self.out: IO[bytes] = tempfile.TemporaryFile()
+        self.err: IO[bytes] = tempfile.TemporaryFile()
+        self.child = Child(call.command(), home, self.out, self.err)
+
+    def answer(self) -> Optional[str]:
+        """What is to be shown once the call has ended, None while it runs."""
+        status = self.child.status()
+        if status is None:
+            return None
+        self.err.seek(0)
+        ended = ENDED.search(self.err.read())
+        self.out.seek(0)
+        return shown(self.out.read(), int(ended[1])) if ended else refused(status)
+
+
+def shown(out: bytes, status: int) -> str:
+    """What a preview shows of a call that wrote these bytes."""
+    if NO_TEXT.search(out):
+        text = f"({len(out)} bytes that are no text)\n"
+    else:
+        text = out.decode(errors="replace")
+        text += "" if text.endswith("\n") or not text else "\n"
+    return f"feast: preview, not proved yet: the call writes\n{text}feast: end of the preview (status {status})\n"
+
+
+def refused(status: int) -> str:
+    """What is shown where `rt try` gave no answer."""
+    if status == NO_ANSWER:
+        return "feast: no preview: the call takes longer, or writes more, than one may\n"
+    return f"feast: no preview: rt try ended with status {status}\n"

@@ -1,0 +1,83 @@
+"""Standard error: a bar that rewrites itself on a terminal, else a line whenever something changes."""
+from __future__ import annotations
+
+import os
+import sys
+from typing import Optional
+
+from first_call.progress import Status
+
+BAR = 16
+
+
+def spoken(seconds: float) -> str:
+    """A time as one says it."""
+    if seconds < 60:
+        return f"{seconds:.0f} s"
+    minutes = round(seconds / 60)
+    return f"{minutes} min" if minutes < 90 else f"{minutes // 60} h {minutes % 60} min"
+
+
+def as_line(status: Status) -> str:
+    """How far a build is, in one line."""
+    times = f"{spoken(status.gone)} gone, about {spoken(status.left)} left"
+    return f"{status.done} of {status.crates} crates are proved; {times}; {status.now}"
+
+
+def as_bar(status: Status, width: int) -> str:
+    """How far a build is, in one line of a terminal."""
+    full = int(BAR * status.share)
+    bar = "#" * full + "." * (BAR - full)
+    times = f"{spoken(status.gone)} gone, {spoken(status.left)} left"
+    return f"[{bar}] {status.done}/{status.crates} crates, {times}: {status.now}"[: width - 1]
+
+
+class Teller:
+    """Tells on standard error."""
+
+    def __init__(self) -> None:
+        self.is_terminal = sys.stderr.isatty()
+        self.told: Optional[tuple[int, str]] = None
+        self.bar = ""
+
+    def write(self, text: str) -> None:
+        """Writes; who can't be told any more isn't."""
+        try:
+            sys.stderr.write(text)
+            sys.stderr.flush()
+        except (OSError, ValueError):
+            pass
+
+    def say(self, text: str) -> None:
+        """Writes a line of its own."""
+        self.show(f"feast: {text}\n")
+
+    def show(self, text: str) -> None:
+        """Writes lines, above the bar if there is one."""
+        bar, self.bar = self.bar, ""
+        self.write(f"\r\x1b[K{text}{bar}" if bar else text)
+        self.bar = bar
+
+    def status(self, status: Status) -> None:
+        """Tells how far the build is, if that has changed."""
+        if self.is_terminal:
+            bar = as_bar(status, self.width())
+            if bar != self.bar:
+                self.write(f"\r\x1b[K{bar}")
+                self.bar = bar
+        elif (status.done, status.now) != self.told:
+            self.told = (status.done, status.now)
+            self.say(as_line(status))
+
+    def width(self) -> int:
+        """How wide the terminal is."""
+        try:
+            return os.get_terminal_size(sys.stderr.fileno()).columns or 80
+        except OSError:
+            return 80
+
+    def clear(self) -> None:
+        """Takes the bar away."""
+        if self.bar:
+            self.write("\r\x1b[K")
+            self.bar = ""
