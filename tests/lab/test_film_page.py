@@ -29,7 +29,8 @@ COLORS = """(() => {
     .map((part) => part.toString(16).padStart(2, '0')).join('');
   return Array.from({ length: %d }, (_, y) => Array.from({ length: %d }, (_, x) => hex(x, y)));
 })()"""
-MEMBERS = """Object.fromEntries([...document.querySelectorAll('#site dt')].map((name) => [name.textContent, name.nextSibling.textContent]))"""
+MEMBERS = """Object.fromEntries([...document.querySelectorAll('#site dt')].map(
+    (name) => [name.textContent, name.nextSibling.textContent]))"""
 # texts whose colour is too near to that of what is behind them
 PALE = """(() => {
   const shine = (color) => {
@@ -53,8 +54,10 @@ NAMED = ("button", "slider", "checkbox", "combobox", "spinbutton", "application"
 KINDS = """
 quark Pair { Int(5) less; Bool truth; }
 /** \\symbol K \\color #ffff00 */
-element Kinds { Int(6) low; Unsigned(9) high; Unary(5) ones; Bits(7) bits; Bool no; Pair pair; Unsigned(4) list[3]; Int(3) last[2];
-  Void behave() { } }
+element Kinds {
+  Int(6) low; Unsigned(9) high; Unary(5) ones; Bits(7) bits; Bool no; Pair pair; Unsigned(4) list[3]; Int(3) last[2];
+  Void behave() { }
+}
 """
 KINDS_WORLD = """feast 1
 tiles 1 1
@@ -124,9 +127,8 @@ class FilmPage(LabCase):
 
     def box(self, part: str) -> tuple[float, float, float, float]:
         """Where a part of the page is in the window: left, top, width and height."""
-        left, top, width, height = self.browser.value(
-            f"(({{ left, top, width, height }}) => [left, top, width, height])(document.getElementById('{part}').getBoundingClientRect())")
-        return left, top, width, height
+        box = self.browser.value(f"document.getElementById('{part}').getBoundingClientRect().toJSON()")
+        return box["left"], box["top"], box["width"], box["height"]
 
     def click_site(self, x: int, y: int, columns: int, rows: int) -> None:
         """Clicks in the middle of a site."""

@@ -33,7 +33,8 @@ class SiteView {
   }
 
   show(site) {
-    this.place.replaceChildren(...(site === null ? [made('p', 'Click a site of the plane to see its atom.', 'hint')] : this.told(site)));
+    const hint = made('p', 'Click a site of the plane to see its atom.', 'hint');
+    this.place.replaceChildren(...(site === null ? [hint] : this.told(site)));
   }
 
   told(site) {
