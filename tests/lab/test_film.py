@@ -2,7 +2,6 @@
 import csv
 import gzip
 import io
-import os
 import xml.etree.ElementTree as xml
 from collections import Counter
 from collections.abc import Sequence
@@ -94,9 +93,10 @@ class Frames(FilmCase):
         world, file = self.file("off.world", text), EXAMPLES / "regulator.ulam"
         shots, report = self.shown(world, file)
         self.check(shots, world, report, file)
-        tries = [line.split() for line in report.read_text().split("\njournal ")[1].split("\nabandoned")[0].splitlines()[1:]]
-        lines = [f"try {tile} {x} {y} {seed}\n" for _, tile, _, x, y, seed in tries]
-        written = self.file("tries.world", text.split("seed")[0] + "".join(lines) + "atom 2 2 Regulator\natom 20 12 Regulator\n")
+        records = report.read_text().split("\njournal ")[1].split("\nabandoned")[0].splitlines()[1:]
+        tries = [f"try {tile} {x} {y} {seed}\n" for _, tile, _, x, y, seed in map(str.split, records)]
+        front, _, back = text.partition("seed 5\nattempts 3000\n")
+        written = self.file("tries.world", front + "".join(tries) + back)
         shots, report = self.shown(written, file)
         self.check(shots, written, report, file)
 
@@ -226,10 +226,13 @@ class Refusals(FilmCase):
     def test_files(self) -> None:
         """Files that are missing, or others than they should be."""
         missing = self.room / "missing"
-        for words in ((missing, self.report, self.elements), (self.world, missing, self.elements), (self.world, self.report, missing)):
+        for place in range(3):
+            words = [self.world, self.report, self.elements]
+            words[place] = missing
             self.refused(str(missing), "film", *words, "-o", self.out)
         self.refused(f"{self.world}:2: no report", "film", self.world, self.world, "-o", self.out, self.elements)
-        self.refused("sorter.world:7:1: E73 unknown element", "film", EXAMPLES / "sorter.world", self.report, "-o", self.out, self.elements)
+        sorter = EXAMPLES / "sorter.world"
+        self.refused(f"{sorter}:7:1: E73 unknown element", "film", sorter, self.report, "-o", self.out, self.elements)
         other = self.file("other.world", self.world.read_text().replace("seed 7", "seed 8"))
         self.refused(f"{self.report}:12:1: E83", "film", other, self.report, "-o", self.out, self.elements)
 
@@ -244,11 +247,13 @@ class Refusals(FilmCase):
 
     def test_marks(self) -> None:
         """Commands of doc comments that don't say a colour or a symbol."""
-        for command, line in (("\\color red", 2), ("\\color #12", 2), ("\\symbol long", 2), ("\\symbol", 2)):
-            file = self.file("bad.ulam", f"/** A mouse.\n  {command} */\n" + self.elements.read_text().split("/** Wanders")[1].partition("*/")[2]
-                             + self.elements.read_text().split("/** Wanders")[0])
-            self.refused(f"{file}:{line}: {command.split()[0]} takes", "film", self.world, self.report, "-o", self.out, file)
-        os.remove(file)
+        front = self.elements.read_text().split("/** Wanders")[0]
+        line = front.count("\n") + 2
+        for command in ("\\color red", "\\color #12", "\\symbol long", "\\symbol"):
+            text = self.elements.read_text().replace("/** Wanders,", f"/** Wanders\n{command} */ /*")
+            file = self.file("bad.ulam", text)
+            says = f"{file}:{line}: {command.split()[0]} takes"
+            self.refused(says, "film", self.world, self.report, "-o", self.out, file)
 
     def test_output(self) -> None:
         """A place where nothing can be written."""

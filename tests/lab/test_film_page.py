@@ -29,7 +29,8 @@ COLORS = """(() => {
     .map((part) => part.toString(16).padStart(2, '0')).join('');
   return Array.from({ length: %d }, (_, y) => Array.from({ length: %d }, (_, x) => hex(x, y)));
 })()"""
-MEMBERS = """Object.fromEntries([...document.querySelectorAll('#site dt')].map((name) => [name.textContent, name.nextSibling.textContent]))"""
+MEMBERS = """Object.fromEntries([...document.querySelectorAll('#site dt')].map(
+    (name) => [name.textContent, name.nextSibling.textContent]))"""
 # texts whose colour is too near to that of what is behind them
 PALE = """(() => {
   const shine = (color) => {
@@ -49,12 +50,14 @@ PALE = """(() => {
   }).map((node) => node.textContent);
 })()"""
 WORLD, ELEMENTS = EXAMPLES / "fence-tiles.world", EXAMPLES / "fence.ulam"
-NAMED = ("button", "slider", "checkbox", "combobox", "spinbutton", "application", "img")
+NAMED = ("button", "slider", "checkbox", "combobox", "spinbutton", "application", "image")
 KINDS = """
 quark Pair { Int(5) less; Bool truth; }
 /** \\symbol K \\color #ffff00 */
-element Kinds { Int(6) low; Unsigned(9) high; Unary(5) ones; Bits(7) bits; Bool no; Pair pair; Unsigned(4) list[3]; Int(3) last[2];
-  Void behave() { } }
+element Kinds {
+  Int(6) low; Unsigned(9) high; Unary(5) ones; Bits(7) bits; Bool no; Pair pair; Unsigned(4) list[3]; Int(3) last[2];
+  Void behave() { }
+}
 """
 KINDS_WORLD = """feast 1
 tiles 1 1
@@ -124,9 +127,8 @@ class FilmPage(LabCase):
 
     def box(self, part: str) -> tuple[float, float, float, float]:
         """Where a part of the page is in the window: left, top, width and height."""
-        left, top, width, height = self.browser.value(
-            f"(({{ left, top, width, height }}) => [left, top, width, height])(document.getElementById('{part}').getBoundingClientRect())")
-        return left, top, width, height
+        box = self.browser.value(f"document.getElementById('{part}').getBoundingClientRect().toJSON()")
+        return box["left"], box["top"], box["width"], box["height"]
 
     def click_site(self, x: int, y: int, columns: int, rows: int) -> None:
         """Clicks in the middle of a site."""
@@ -194,7 +196,7 @@ class Fence(FilmPage):
             self.click_site(x, y, 16, 16)
             self.assertIn(f"Column {x}, row {y}, in tile {y // 8 * 2 + x // 8}: {row['element']}", self.text("site"))
             shown = self.browser.value(MEMBERS)
-            self.assertEqual(shown.pop("state"), self.end[x, y].split()[1])
+            self.assertEqual(shown.pop("whole state"), self.end[x, y].split()[1])
             self.assertEqual(shown, {"place": row["place"]} if row["place"] else {})
         self.click_site(0, 0, 16, 16)
         self.assertEqual(self.text("site"), "Column 0, row 0, in tile 0: Empty")
@@ -238,7 +240,7 @@ class Fence(FilmPage):
         """Each control has a name, each text can be read, and small windows show all of it."""
         nodes = self.browser.call("Accessibility.getFullAXTree")["nodes"]
         controls = [node for node in nodes if node.get("role", {}).get("value") in NAMED]
-        self.assertGreaterEqual(len(controls), 10)
+        self.assertEqual(len(controls), 10)
         self.assertEqual([node for node in controls if not node["name"]["value"].strip()], [])
         self.assertEqual(self.browser.value(PALE), [])
         for width, height, scale in ((1280, 700, 1), (768, 1024, 2), (320, 568, 2)):
@@ -266,7 +268,7 @@ class Others(FilmPage):
         for row in csv.DictReader(io.StringIO(self.passes("atoms", self.room / "report", file))):
             self.click_site(int(row["x"]), int(row["y"]), 9, 8)
             shown: dict[str, Any] = self.browser.value(MEMBERS)
-            self.assertEqual(shown.pop("state"), atoms[int(row["x"]), int(row["y"])].split()[1])
+            self.assertEqual(shown.pop("whole state"), atoms[int(row["x"]), int(row["y"])].split()[1])
             numbers = {name: {"true": "1", "false": "0"}.get(value, value) for name, value in shown.items()}
             self.assertEqual(numbers, {name: row[name] for name in list(row)[3:]})
 

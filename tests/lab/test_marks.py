@@ -39,8 +39,9 @@ class Marks(LabCase):
     def test_examples(self) -> None:
         """The elements of each example have marks of their own."""
         for name in ("regulator", "sorter", "seasons"):
-            elements = [line.split()[1] for line in (EXAMPLES / f"{name}.ulam").read_text().splitlines() if line.startswith("element")]
-            found = marks(elements, [EXAMPLES / f"{name}.ulam"])
+            file = EXAMPLES / f"{name}.ulam"
+            elements = [line.split()[1] for line in file.read_text().splitlines() if line.startswith("element")]
+            found = marks(elements, [file])
             self.assertEqual(len({(mark.color, mark.symbol) for mark in found}), len(elements))
 
     def test_ink(self) -> None:

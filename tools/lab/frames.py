@@ -58,6 +58,7 @@ class Reported(Leg):
     known: Report | None = None
 
     def player(self, plane: Plane, world: World) -> Player:
+        """What plays the leg. Refuses a report whose events aren't those of its world, or don't lead to its atoms."""
         report = self.known or Report.read(self.report)
         lines = call_on(plane.program, self.report, plane.room, ["replay", self.world], plane.files)
         if lines[2:] != [atom.text() for atom in report.atoms]:
@@ -65,6 +66,7 @@ class Reported(Leg):
         return Played(plane, world, report)
 
     def atoms_after(self, plane: Plane, events: int) -> list[str]:
+        """The lines of the atoms, by `rewind`."""
         return call_on(plane.program, self.report, plane.room, ["rewind", self.world, str(events)], plane.files)[2:]
 
 
@@ -76,9 +78,11 @@ class Ended(Leg):
     abandoned: int
 
     def player(self, plane: Plane, world: World) -> Player:
+        """What plays the leg from its beginning to its end at once."""
         return Kept(plane, self)
 
     def atoms_after(self, plane: Plane, events: int) -> list[str]:
+        """The lines of the atoms at its beginning or its end; refuses other moments."""
         if events == self.events:
             return atom_lines(read_text(self.atoms))
         if events == 0:

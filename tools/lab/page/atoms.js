@@ -33,7 +33,8 @@ class SiteView {
   }
 
   show(site) {
-    this.place.replaceChildren(...(site === null ? [made('p', 'Click a site of the plane to see its atom.', 'hint')] : this.told(site)));
+    const hint = made('p', 'Click a site of the plane to see its atom.', 'hint');
+    this.place.replaceChildren(...(site === null ? [hint] : this.told(site)));
   }
 
   told(site) {
@@ -55,7 +56,7 @@ class SiteView {
     for (const member of this.film.head.elements[this.film.kinds[atom] - 1].members) {
       list.append(made('dt', member.name), made('dd', valueOf(state, member)));
     }
-    list.append(made('dt', 'state'), made('dd', state.toString(16).padStart(18, '0')));
+    list.append(made('dt', 'whole state'), made('dd', state.toString(16).padStart(18, '0')));
     return list;
   }
 }

@@ -124,7 +124,7 @@ class Film {
 
   /** The greatest number of atoms that any element has in any frame. */
   greatest() {
-    return Math.max(1, ...this.counts.map((counts) => Math.max(0, ...counts)));
+    return this.counts.reduce((most, counts) => Math.max(most, ...counts), 1);
   }
 
   /** The tile that owns a site. */
