@@ -4,11 +4,12 @@ import gzip
 import json
 import re
 from collections import Counter
-from collections.abc import Iterator
+from collections.abc import Iterable, Iterator
 from dataclasses import dataclass
 from typing import Any
 
 Site = tuple[int, int]
+Plane = dict[Site, str]
 
 
 @dataclass
@@ -16,8 +17,14 @@ class Shot:
     """A frame: how many events lie before it, its atoms, and the attempts that were given up since the last."""
 
     events: int
-    atoms: dict[Site, str]
+    atoms: Plane
     abandoned: Counter[Site]
+
+
+def plane_of(lines: Iterable[str]) -> Plane:
+    """The atoms of a report's lines by their sites, each as `NAME STATE`."""
+    places = [line.split(" ", 2) for line in lines]
+    return {(int(x), int(y)): atom for x, y, atom in places}
 
 
 def part(html: str, name: str) -> str:

@@ -14,11 +14,9 @@ from calls import EXAMPLES, LabCase, Word, feast
 SVG = "{http://www.w3.org/2000/svg}"
 
 
-def atoms_after(world: Path, report: Path, events: int, *files: Word) -> dict[films.Site, str]:
+def atoms_after(world: Path, report: Path, events: int, *files: Word) -> films.Plane:
     """The atoms after so many events, as `rewind` says."""
-    lines = feast("rewind", world, report, str(events), *files).splitlines()[2:]
-    places = [line.split(" ", 2) for line in lines]
-    return {(int(x), int(y)): atom for x, y, atom in places}
+    return films.plane_of(feast("rewind", world, report, str(events), *files).splitlines()[2:])
 
 
 def given_up(report: str, since: int, upto: int) -> Counter[films.Site]:
@@ -144,10 +142,9 @@ class Chains(LabCase):
         with (self.chain / "course.csv").open() as file:
             return list(csv.DictReader(file)), page.read_text()
 
-    def atoms(self, leg: int) -> dict[films.Site, str]:
+    def atoms(self, leg: int) -> films.Plane:
         """The atoms that a leg left."""
-        lines = (self.chain / f"{leg:04}.atoms").read_text().splitlines()[2:]
-        return {(int(x), int(y)): atom for x, y, atom in (line.split(" ", 2) for line in lines)}
+        return films.plane_of((self.chain / f"{leg:04}.atoms").read_text().splitlines()[2:])
 
     def test_reports(self) -> None:
         """Frames in the midst of legs are those of the leg's report, and the cleared plane has one."""
