@@ -49,7 +49,7 @@ PALE = """(() => {
   }).map((node) => node.textContent);
 })()"""
 WORLD, ELEMENTS = EXAMPLES / "fence-tiles.world", EXAMPLES / "fence.ulam"
-NAMED = ("button", "slider", "checkbox", "combobox", "spinbutton", "application", "img")
+NAMED = ("button", "slider", "checkbox", "combobox", "spinbutton", "application", "image")
 KINDS = """
 quark Pair { Int(5) less; Bool truth; }
 /** \\symbol K \\color #ffff00 */
@@ -194,7 +194,7 @@ class Fence(FilmPage):
             self.click_site(x, y, 16, 16)
             self.assertIn(f"Column {x}, row {y}, in tile {y // 8 * 2 + x // 8}: {row['element']}", self.text("site"))
             shown = self.browser.value(MEMBERS)
-            self.assertEqual(shown.pop("state"), self.end[x, y].split()[1])
+            self.assertEqual(shown.pop("whole state"), self.end[x, y].split()[1])
             self.assertEqual(shown, {"place": row["place"]} if row["place"] else {})
         self.click_site(0, 0, 16, 16)
         self.assertEqual(self.text("site"), "Column 0, row 0, in tile 0: Empty")
@@ -238,7 +238,7 @@ class Fence(FilmPage):
         """Each control has a name, each text can be read, and small windows show all of it."""
         nodes = self.browser.call("Accessibility.getFullAXTree")["nodes"]
         controls = [node for node in nodes if node.get("role", {}).get("value") in NAMED]
-        self.assertGreaterEqual(len(controls), 10)
+        self.assertEqual(len(controls), 10)
         self.assertEqual([node for node in controls if not node["name"]["value"].strip()], [])
         self.assertEqual(self.browser.value(PALE), [])
         for width, height, scale in ((1280, 700, 1), (768, 1024, 2), (320, 568, 2)):
@@ -266,7 +266,7 @@ class Others(FilmPage):
         for row in csv.DictReader(io.StringIO(self.passes("atoms", self.room / "report", file))):
             self.click_site(int(row["x"]), int(row["y"]), 9, 8)
             shown: dict[str, Any] = self.browser.value(MEMBERS)
-            self.assertEqual(shown.pop("state"), atoms[int(row["x"]), int(row["y"])].split()[1])
+            self.assertEqual(shown.pop("whole state"), atoms[int(row["x"]), int(row["y"])].split()[1])
             numbers = {name: {"true": "1", "false": "0"}.get(value, value) for name, value in shown.items()}
             self.assertEqual(numbers, {name: row[name] for name in list(row)[3:]})
 

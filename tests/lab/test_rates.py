@@ -75,9 +75,10 @@ class Rates(RatesCase):
         path = self.room / "map.svg"
         self.assertEqual(self.rows(self.world, self.report, "--svg", str(path)), sites)
         texts = {text.text for text in xml.fromstring(path.read_text()).iter(f"{SVG}text")}
-        for what in ("events", "abandoned"):
+        for what, name in (("events", "events"), ("abandoned", "abandoned attempts")):
             numbers = [int(site[what]) for site in sites]
-            self.assertLessEqual({f"least {min(numbers)}", f"mean {fmean(numbers):,.1f}", f"greatest {max(numbers)}"}, texts)
+            head = f"small.world: {name} of a site (mean {fmean(numbers):,.1f})"
+            self.assertLessEqual({head, f"least {min(numbers)}", f"greatest {max(numbers)}"}, texts)
 
     def test_one_tile(self) -> None:
         """With one tile there are no abandoned attempts, and one panel."""
@@ -86,7 +87,7 @@ class Rates(RatesCase):
         path = self.room / "map.svg"
         self.passes("rates", world, report, "--svg", str(path))
         texts = [text.text for text in xml.fromstring(path.read_text()).iter(f"{SVG}text")]
-        self.assertEqual(texts, ["walk.world: events of a site", "least 0", "mean 0.1", "greatest 1"])
+        self.assertEqual(texts, ["walk.world: events of a site (mean 0.1)", "least 0", "greatest 1"])
 
 
 class Refusals(RatesCase):

@@ -43,9 +43,9 @@ def panel(world: World, sites: Sequence[int], numbers: Sequence[int], title: str
                for level in sorted(levels)]
     below = world.rows * size + svg.LINE + 8
     labels = [svg.text(0, below + BAR + 16, f"least {least:,}"),
-              svg.text(wide / 2, below + BAR + 16, f"mean {sum(live) / len(live):,.1f}", ' text-anchor="middle"'),
               svg.text(wide, below + BAR + 16, f"greatest {greatest:,}", ' text-anchor="end"')]
-    return [svg.text(0, 14, title), svg.placed(0, svg.LINE, [*painted, *svg.borders(world, size)]),
+    head = f"{title} (mean {sum(live) / len(live):,.1f})"
+    return [svg.text(0, 14, head), svg.placed(0, svg.LINE, [*painted, *svg.borders(world, size)]),
             svg.rectangle(0, below, wide, BAR, f'fill="url(#scale)" stroke="{svg.BORDER}"'), *labels]
 
 

@@ -55,7 +55,7 @@ class SiteView {
     for (const member of this.film.head.elements[this.film.kinds[atom] - 1].members) {
       list.append(made('dt', member.name), made('dd', valueOf(state, member)));
     }
-    list.append(made('dt', 'state'), made('dd', state.toString(16).padStart(18, '0')));
+    list.append(made('dt', 'whole state'), made('dd', state.toString(16).padStart(18, '0')));
     return list;
   }
 }
