@@ -18,7 +18,6 @@ import sys
 import tempfile
 import time
 import unittest
-from typing import Optional
 
 TOP = pathlib.Path(__file__).resolve().parent.parent
 sys.dont_write_bytecode = True
@@ -31,25 +30,17 @@ from first_call.progress import Progress, wall_time  # noqa: E402
 CRATES = "low:\nmiddle: low # stands on low\nfeast: middle low\nother: low\n"
 # What the program of the pretended toolchain writes, and its status.
 PROVED, STATUS = "proved call of", 3
-WITH_LITTLE_MEMORY = """
-import pathlib, sys
-sys.path[0] = sys.argv[1] + "/tools"
-from first_call import machine, preview
-machine.free_memory = preview.free_memory = lambda: 2
-from first_call.call import main
-sys.exit(main(pathlib.Path(sys.argv[1]), sys.argv[2:]))
-"""
 
 
 class Call:
     """A call under way, and how it ended."""
 
-    def __init__(self, case: "FirstCall", words: list[str], command: Optional[list[str]] = None, **changes: str) -> None:
+    def __init__(self, case: "FirstCall", words: list[str], **changes: str) -> None:
         environment = {name: value for name, value in os.environ.items() if name not in ("CI", "FEAST_PREVIEW")}
         environment["PATH"] = f"{TOP / 'tests' / 'fakes'}:{environment['PATH']}"
         environment["PRETENDED"] = str(case.top)
         self.process = subprocess.Popen(
-            [*(command or [str(case.top / "feast")]), *words],
+            [str(case.top / "feast"), *words],
             cwd=case.folder,
             env={**environment, **changes},
             stdout=subprocess.PIPE,
@@ -74,15 +65,21 @@ class FirstCall(unittest.TestCase):
         self.top.mkdir()
         shutil.copy(TOP / "feast", self.top)
         shutil.copytree(TOP / "tools" / "first_call", self.top / "tools" / "first_call")
-        # The pretended toolchain is quicker than the true one, so it is looked at more often.
-        pace = self.top / "tools" / "first_call" / "children.py"
-        pace.write_text(pace.read_text().replace("TICK = 0.5", "TICK = 0.1"))
+        # The pretended toolchain is quicker than the true one, so it is looked at more often; and memory is enough.
+        self.change("children.py", "TICK = 0.5", "TICK = 0.1")
+        self.change("machine.py", "int(found[1]) // 1_000_000 if found else 0", "16")
         (self.top / "crates.txt").write_text(CRATES)
         for name in ("low", "middle", "feast", "other"):
             (self.top / "crates" / name / "src").mkdir(parents=True)
             (self.top / "crates" / name / "src" / "lib.rt").write_text("// a source\n")
         self.program = self.top / "crates" / "feast" / "out" / "feast"
         (self.folder / "world").write_text("feast 1\n")
+
+    def change(self, module: str, old: str, new: str) -> None:
+        """Changes a text of the copied package."""
+        path = self.top / "tools" / "first_call" / module
+        self.assertIn(old, path.read_text())
+        path.write_text(path.read_text().replace(old, new))
 
     def calls(self) -> list[str]:
         """The calls of the toolchain so far."""
@@ -173,7 +170,8 @@ class FirstCall(unittest.TestCase):
         self.assertRegex(told, r"preview of <run>\r\n")
 
     def test_little_memory_proves_one_after_another(self) -> None:
-        ended = Call(self, ["run"], [sys.executable, "-Bc", WITH_LITTLE_MEMORY, str(self.top)]).end()
+        self.change("machine.py", "return 16", "return 2")
+        ended = Call(self, ["run"]).end()
         self.assert_ran(ended, "<run>")
         self.assertEqual([it for it in self.calls() if it.startswith(("all", "lib", "run"))], ["lib low", "lib middle", "run"])
         self.assertRegex(ended[2], "1 of 3 crates are proved; .* proving middle\n")

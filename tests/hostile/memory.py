@@ -141,7 +141,7 @@ def ordinary(bench):
     file = element(ELEMENT)
     plane = world(b"feast 1\ntiles 2 2\nsize 8 8\nseed 7\nattempts 4\natom 7 7 Counter " + STATE + b"\norder seed 9\n")
     for words, files in (("check e", [file]), ("code e", [file]), ("step w e", [plane, file])):
-        job = Job(f"{words.split()[0]} of an ordinary file", [], words, files, None)
+        job = Job(f"{words.split()[0]} of an ordinary file", words, files, None)
         lay(bench, job)
         answer = bench.call(job.words)
         bench.expect(job.name, answer, DONE, None)
