@@ -71,7 +71,7 @@ def main() -> int:
     """Compares all quantities; fails if one is more than four standard errors apart."""
     parser = argparse.ArgumentParser(description="Compares means over many runs with those of the model.")
     parser.add_argument("program", type=lambda word: pathlib.Path(word).resolve())
-    parser.add_argument("-n", type=int, default=10, metavar="RUNS", help="how many runs of each (10)")
+    parser.add_argument("-n", type=int, default=20, metavar="RUNS", help="how many runs of each (20)")
     options = parser.parse_args()
     failed = False
     for it in QUANTITIES:

@@ -64,6 +64,7 @@ class Window:
 
     @me.setter
     def me(self, atom: Atom) -> None:
+        """Puts the atom that acts in another state; the event fails likewise."""
         if self.atom(0).kind != self.acting:
             raise Failure
         self.written[0] = atom

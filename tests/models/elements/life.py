@@ -32,6 +32,7 @@ def live_on(window: Window) -> None:
 def plain_life(alive: set[tuple[int, int]], width: int, height: int) -> set[tuple[int, int]]:
     """The next generation on a plane beyond whose border nothing lives."""
     def count(x: int, y: int) -> int:
+        """How many of the eight around a site are alive."""
         return sum((x + dx, y + dy) in alive for dx, dy in AROUND)
     sites = ((x, y) for x in range(width) for y in range(height))
     return {site for site in sites if count(*site) == 3 or count(*site) == 2 and site in alive}
