@@ -3,6 +3,7 @@
 
 The tables are the modules of tests/hostile:
 
+  words     words that are no text, empty and long words, other names of the program
   edge      files that can't be loaded, standard output that takes nothing or a part
   memory    each request for memory refused in turn, small address spaces
   elements  element files at their limits and past them, and what never ends
@@ -26,7 +27,7 @@ sys.path.insert(0, str(HERE / "hostile"))
 
 from bench import Bench  # noqa: E402
 
-TABLES = ["edge", "memory", "elements", "texts", "fronts", "workers"]
+TABLES = ["words", "edge", "memory", "elements", "texts", "fronts", "workers"]
 
 
 def run(program: str, long: bool, table: str) -> bool:
