@@ -57,10 +57,11 @@ def is_replayed(world: pathlib.Path, text: str, elements: Elements) -> bool:
 
 def faults(program: pathlib.Path, example: Example) -> Iterator[str]:
     """In what the program and the model differ."""
-    one, several = EXAMPLES / f"{example.name}.world", EXAMPLES / f"{example.name}-tiles.world"
+    several = EXAMPLES / f"{example.name}-tiles.world"
     elements = example.elements()
-    if call(program, "run", str(one), *example.files()) != machine.of_one_tile(read_world(one), elements).text():
-        yield "one tile"
+    for one in sorted({*EXAMPLES.glob(f"{example.name}*.world")} - {several}):
+        if call(program, "run", str(one), *example.files()) != machine.of_one_tile(read_world(one), elements).text():
+            yield one.name
     if call(program, "step", str(several), *example.files()) != machine.stepped(read_world(several), elements).text():
         yield "stepped"
     if not is_replayed(several, call(program, "run", str(several), *example.files()), elements):
