@@ -6,7 +6,8 @@ repository is there. A block of text behind a paragraph that ends with a path in
 colon is that file, or its first lines where the paragraph says so. A line `./feast WORDS` of a block
 is a call; a block behind `writes`, or a paragraph that ends with it, has what the last call wrote,
 and one behind `begins with` the first lines of it. A call that ends with `>report` leaves its report.
-The map of crates has a row for each crate of crates.txt.
+The map of crates has a row for each crate of crates.txt. A page has at most 200 lines, and the README
+names each page of docs.
 """
 from __future__ import annotations
 
@@ -20,6 +21,7 @@ from typing import Iterator
 
 TOP = pathlib.Path(__file__).resolve().parent.parent
 FOLDERS = "bench|crates|docs|examples|tests"
+MOST_LINES = 200
 
 
 def pieces(page: str) -> Iterator[tuple[str, str]]:
@@ -80,20 +82,30 @@ def map_faults() -> list[str]:
     return [f"docs/crates.md: {crate} is not in both" for crate in sorted((crates - {"feast"}) ^ rows)]
 
 
+def list_faults() -> list[str]:
+    """The pages of docs that the README does not name."""
+    readme = (TOP / "README.md").read_text()
+    pages = [f"docs/{path.name}" for path in sorted((TOP / "docs").glob("*.md"))]
+    return [f"README.md: {page} is not named" for page in pages if f"`{page}`" not in readme]
+
+
 def faults(program: str, path: pathlib.Path) -> list[str]:
     """What is wrong with a page."""
     page = path.read_text()
+    lines = page.count("\n")
+    too_long = [f"it has {lines} lines, at most {MOST_LINES}"] if lines > MOST_LINES else []
     with tempfile.TemporaryDirectory() as name:
         folder = pathlib.Path(name)
         shutil.copytree(TOP / "examples", folder / "examples")
-        return [*lost_paths(page, path.parent), *wrong_blocks(program, page, folder)]
+        return [*too_long, *lost_paths(page, path.parent), *wrong_blocks(program, page, folder)]
 
 
 def main() -> int:
     """The command."""
     program = str(pathlib.Path(sys.argv[1]).resolve())
     pages = subprocess.run(["git", "ls-files", "*.md"], cwd=TOP, capture_output=True, text=True, check=True).stdout
-    found = [f"{page}: {fault}" for page in pages.split() for fault in faults(program, TOP / page)] + map_faults()
+    found = [f"{page}: {fault}" for page in pages.split() for fault in faults(program, TOP / page)]
+    found += map_faults() + list_faults()
     print(*found, f"{len(pages.split())} pages, {len(found)} faults", sep="\n")
     return 1 if found else 0
 
