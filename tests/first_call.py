@@ -67,6 +67,9 @@ class FirstCall(unittest.TestCase):
         self.top.mkdir()
         shutil.copy(TOP / "feast", self.top)
         shutil.copytree(TOP / "tools" / "first_call", self.top / "tools" / "first_call")
+        # The pretended toolchain is quicker than the true one, so it is looked at more often.
+        pace = self.top / "tools" / "first_call" / "children.py"
+        pace.write_text(pace.read_text().replace("TICK = 0.5", "TICK = 0.1"))
         (self.top / "crates.txt").write_text(CRATES)
         for name in ("low", "middle", "feast", "other"):
             (self.top / "crates" / name / "src").mkdir(parents=True)

@@ -2,6 +2,7 @@
 import io
 import os
 import re
+import signal
 import subprocess
 import tempfile
 import unittest
@@ -33,10 +34,15 @@ def around(instead: Path | None = None) -> dict[str, str]:
     return plain | {"FEAST_PROGRAM": str(instead or program())}
 
 
+def be_interruptible() -> None:
+    """Takes interrupts, which a shell has what it starts in the background ignore."""
+    signal.signal(signal.SIGINT, signal.SIG_DFL)
+
+
 def lab(*words: Word, instead: Path | None = None) -> subprocess.CompletedProcess[str]:
     """A call of the lab, with another program than that of the tests if one is named."""
     return subprocess.run([TOP / "lab", *words], capture_output=True, text=True, env=around(instead), timeout=300,
-                          check=False)
+                          preexec_fn=be_interruptible, check=False)
 
 
 @dataclass(frozen=True)

@@ -26,7 +26,7 @@ class Page(LabCase):
     def call(self, command: str) -> subprocess.CompletedProcess[str]:
         """A command, as a shell runs it."""
         return subprocess.run(command, shell=True, cwd=self.room, env=around(), capture_output=True, text=True,
-                              timeout=300, check=False)
+                              timeout=900, check=False)
 
     def test_commands(self) -> None:
         commands = [line for line in shown_lines() if line.startswith(("./lab ", "./feast "))]

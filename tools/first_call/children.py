@@ -11,7 +11,7 @@ from typing import IO, Iterator, Optional, Sequence
 # How long a process has to end by itself, in seconds.
 PATIENCE = 8.0
 # How often what goes on is looked at, in seconds.
-TICK = 0.1
+TICK = 0.5
 
 
 class Child:

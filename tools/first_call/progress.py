@@ -99,7 +99,7 @@ class Progress:
         return Status(
             crates=len(self.crates),
             done=sum(crate.name in self.done for crate in self.crates),
-            now=said_of(self.now),
+            now=said_of(self.now) or ("between crates" if self.begun else "starting"),
             share=max(1 - sum(left.values()) / slowness / whole, 0.0),
             gone=time.monotonic() - self.start,
             left=left[LOOKING] + wall_time(self.crates, left, self.lanes) + left[BUILDING],
@@ -107,9 +107,9 @@ class Progress:
 
 
 def said_of(now: tuple[str, ...]) -> str:
-    """What is at work, in words."""
+    """What is at work, in words; empty if nothing is."""
     if LOOKING in now:
         return "looking through all sources"
     if BUILDING in now:
         return "building the program"
-    return f"proving {', '.join(now)}" if now else "starting the next"
+    return f"proving {', '.join(now)}" if now else ""

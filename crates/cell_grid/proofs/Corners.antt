@@ -18,7 +18,7 @@ use Rattle.cell_grid.proofs.Places.{add-mul}
 use Rattle.cell_grid.proofs.Windows.{IsGrid-put}
 use Rattle.cell_grid.specs.Calm.{AreCalm, IsCorner}
 use Rattle.window_sites.specs.Inner.{inner_place, inner_atoms, inner_window, from_low, site_numbers}
-use Rattle.cell_grid.specs.Inner.{with_inner, with_sites}
+use Rattle.cell_grid.specs.Inner.{with_inner, with_sites, with_sites_put}
 
 shift-near : (x w : ℕ) (d : ℤ) → unsigned_abs d ≤ 4 → 4 ≤ x → x + 4 < w → (shifted x d ≡ Some (x - 4 + from_low d)) × (x - 4 + from_low d < w) × (x - 4 + from_low d ≤ x + 4) × (x ≤ x - 4 + from_low d + 4)
 shift-near x w (pos d) h a b = (ap Some (omega (arith, a)), omega (arith, h, a, b), omega (arith, h, a), omega (arith, h, a))
@@ -90,3 +90,7 @@ IsGrid-inner g x y low w h k = subst IsGrid (sym (put_window-inner g x y low w k
 pub length-with_inner : (atoms : List AtomValue) (low width : ℕ) (from : List AtomValue) → length (with_inner atoms low width from) ≡ length atoms
 unfolding with_inner
 length-with_inner atoms low width from = length-with_sites atoms low width from site_numbers
+
+pub length-with_sites_put : (atoms : List AtomValue) (low width : ℕ) (from : List AtomValue) (first count : ℕ) → length (with_sites_put atoms low width from first count) ≡ length atoms
+unfolding with_sites_put
+length-with_sites_put atoms low width from first count = length-with_sites atoms low width from (range_with_len first count)

@@ -1,5 +1,6 @@
 -- The sites of a window that lies in the plane as a whole, written.
 use Rattle.std.specs.Prelude.{ℕ, List, [], ◌∷◌, slice_index_or, slice_set}
+use Rattle.std.specs.List.{range_with_len}
 use Rattle.bit_field.specs.Atom.{AtomValue, empty_atom}
 use Rattle.window_sites.specs.Inner.{inner_place, site_numbers}
 
@@ -11,3 +12,7 @@ with_sites atoms low width from (n ∷ ns) = slice_set (with_sites atoms low wid
 -- the atoms with those of all 41 sites written
 unfoldable pub with_inner : List AtomValue → ℕ → ℕ → List AtomValue → List AtomValue
 with_inner atoms low width from = with_sites atoms low width from site_numbers
+
+-- the atoms with those of `count` sites, from site `first` on, written
+unfoldable pub with_sites_put : List AtomValue → ℕ → ℕ → List AtomValue → ℕ → ℕ → List AtomValue
+with_sites_put atoms low width from first count = with_sites atoms low width from (range_with_len first count)

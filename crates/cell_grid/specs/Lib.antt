@@ -1,6 +1,7 @@
 pub mod Calm
 pub mod Grid
 pub mod Inner
+pub mod Known
 pub mod Records
 pub mod Shut
 pub mod Steps

@@ -1,16 +1,17 @@
-//! What acts on a window.
+//! Behaviours: what acts on a window.
 ghost use Rattle.std.specs.Prelude.{◌≡◌, ℕ};
 ghost use Rattle.bit_field.specs.Atom.{empty_atom};
 ghost use Rattle.window_sites.specs.Window.{WindowValue, atom_at};
 
 use window_sites::Window;
 
-/// What acts on a window. Its meaning `after` gives the window that an act leaves, by the window
-/// and the seed. A window whose centre is empty stays as it is, whatever the seed (`idle`).
+/// A behaviour acts on a window. Its meaning, `after`, is the window that an act leaves, given the
+/// window and a seed. A window with an empty centre stays as it is, whatever the seed (`idle`).
 pub trait Behave {
     ghost after: { Self → WindowValue → ℕ → WindowValue };
 
-    /// Leaves the window that the meaning gives, with the same sites live. The meaning stays.
+    /// Turns the window into the one that the meaning gives. The same sites stay live, and the
+    /// meaning stays the same.
     fn act(&mut self, window: &mut Window, seed: u64)
         ensures window { window.new ≡ after self.old window.old seed }
         ensures live { window.new.live ≡ window.old.live }

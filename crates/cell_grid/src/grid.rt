@@ -1,4 +1,4 @@
-//! A flat grid of atoms, its windows, events and the replay of records.
+//! A flat grid of atoms: its sites, windows and events.
 ghost use Rattle.std.specs.Prelude.{◌≡◌, false, true, All, ◌+◌, ◌*◌, ◌≤◌, ◌<◌, ◌^◌, ℕ, IfOk, IfSome, None, is_some, length, slice_index_or};
 ghost use Rattle.std.specs.Int.RustNames.{unsigned_abs};
 ghost use Rattle.window_sites.specs.Sites.{shifted};
@@ -25,7 +25,7 @@ pub struct Grid {
     height: u32,
     atoms: Vec<Atom>,
     live: Vec<bool>,
-    /// A mark stands only where each site of the plane within 4 columns and 4 rows is live.
+    /// A site is marked only if every site of the plane within 4 columns and 4 rows is live.
     calm: Vec<bool>,
 }
 
@@ -40,8 +40,8 @@ impl Model for Grid {
     ghost invariant = { λ g. IsGrid (record { width = g.width; height = g.height; atoms = g.atoms.items; live = g.live.items }) × AreCalm g.width g.height g.live.items g.calm.items };
 }
 
-/// The coordinate with an offset added, where it does not fall below 0 and lies below an end. (What
-/// falls below 0 goes around to the greatest numbers, so one comparison tells both.)
+/// The coordinate plus an offset, if the sum is not negative and is below `end`. (A negative sum
+/// wraps to a large number, so one comparison covers both.)
 #[tactic(auto, using(crate::proofs::Shifts::shift_around))]
 fn shift(x: u32, by: i32, end: u32) -> Option<u32>
     requires small { x < 2 ^ 31 }
@@ -55,7 +55,8 @@ fn shift(x: u32, by: i32, end: u32) -> Option<u32>
 }
 
 impl Grid {
-    /// A grid of empty atoms on live sites, of 8 to 512 columns and 8 to 512 rows.
+    /// A grid whose sites are all live and empty. It has 8 to 512 columns and 8 to 512 rows.
+    /// `NoMemory` if memory runs out.
     pub fn new(alloc: Global, width: u32, height: u32) -> Result<Grid, NoMemory>
         requires wide { (8 ≤ width) × (width ≤ 512) }
         requires high { (8 ≤ height) × (height ≤ 512) }
@@ -103,7 +104,7 @@ impl Grid {
         self.atoms.as_slice()
     }
 
-    /// Whether a site of the plane is live.
+    /// Whether a site is live.
     pub fn is_live(&self, x: u32, y: u32) -> bool
         requires column { x < self.now.width }
         requires row { y < self.now.height }
@@ -121,7 +122,7 @@ impl Grid {
         self.atoms[(y * self.width + x) as usize]
     }
 
-    /// Gives a live site an atom.
+    /// Puts an atom at a live site.
     pub fn set(&mut self, x: u32, y: u32, atom: Atom)
         requires live { IsLive self.old x y }
         ensures { self.new ≡ with_site self.old x y atom }
@@ -129,7 +130,8 @@ impl Grid {
         self.atoms[(y * self.width + x) as usize] = atom;
     }
 
-    /// Makes a rectangle of `w` columns and `h` rows not live. It lies in the plane and is empty.
+    /// Makes the sites of a rectangle not live. It has `w` columns and `h` rows, lies in the plane and
+    /// is empty.
     pub fn shut(&mut self, x: u32, y: u32, w: u32, h: u32)
         requires columns { x + w ≤ self.old.width }
         requires rows { y + h ≤ self.old.height }
@@ -153,7 +155,7 @@ impl Grid {
         clear(self.calm.as_mut_slice(), width, around);
     }
 
-    /// The place of a site of a window, where it is of the plane and live.
+    /// The index of site `n` of the window at `(x, y)`, if that site is in the plane and live.
     fn place(&self, x: u32, y: u32, n: u8) -> Option<usize>
         requires column { x < self.now.width }
         requires row { y < self.now.height }
@@ -168,8 +170,8 @@ impl Grid {
         if self.live[i] { Some(i) } else { None }
     }
 
-    /// The place of the first of nine rows and nine columns around a site, where all sites of its window are in the plane
-    /// and live.
+    /// The index at which the nine rows and nine columns around a site start, if its whole window is
+    /// in the plane and live.
     fn corner(&self, x: u32, y: u32) -> Option<usize>
         requires column { x < self.now.width }
         requires row { y < self.now.height }
@@ -187,7 +189,7 @@ impl Grid {
         }
     }
 
-    /// The places of the sites of a window.
+    /// The indices of all sites of the window at `(x, y)`.
     fn places(&self, x: u32, y: u32) -> [Option<usize>; 41]
         requires column { x < self.now.width }
         requires row { y < self.now.height }
@@ -201,7 +203,7 @@ impl Grid {
         places
     }
 
-    /// What a window shows of a site at a place.
+    /// The atom that a window shows at a site with this index.
     fn seen(&self, place: Option<usize>) -> Atom
         requires { IsLivePlace self.now place }
         ensures { result ≡ seen self.now place }
@@ -212,7 +214,7 @@ impl Grid {
         }
     }
 
-    /// The window whose sites have these places, read site by site.
+    /// The window whose sites have these indices, read one by one.
     fn window_by_sites(&self, places: &[Option<usize>; 41]) -> Window
         requires live { AreLivePlaces self.now places.now }
         requires centre { is_some (slice_index_or places.now 0 None) ≡ true }
@@ -238,7 +240,7 @@ impl Grid {
         window
     }
 
-    /// Makes a window at hand the window at a live site. Whoever reads many keeps one.
+    /// As `window_at`, into a window of the caller's. Keep one to read many.
     #[tactic(auto, using(crate::proofs::Windows::centre_found))]
     pub fn read_window(&self, x: u32, y: u32, window: &mut Window)
         requires live { IsLive self.now x y }
@@ -250,7 +252,7 @@ impl Grid {
         }
     }
 
-    /// Writes an atom at the place of a live site, where there is one.
+    /// Writes an atom at an index, if there is one.
     fn put_place(&mut self, place: Option<usize>, atom: Atom)
         requires { IsLivePlace self.old place }
         ensures { self.new ≡ with_atom self.old place atom }
@@ -260,7 +262,7 @@ impl Grid {
         }
     }
 
-    /// Gives each live site of a window, whose sites have these places, its atom, one by one.
+    /// Writes a window back, one by one, to the sites with these indices.
     fn put_by_sites(&mut self, places: &[Option<usize>; 41], window: &Window)
         requires live { AreLivePlaces self.old places.now }
         ensures grid { (x y : ℕ) → ArePlacesOf self.old x y places.now → self.new ≡ put_window self.old x y window.now }
@@ -271,7 +273,7 @@ impl Grid {
         }
     }
 
-    /// Gives each live site of the window at a live site its atom of a window.
+    /// Writes a window back at a live site: each live site there gets its atom.
     pub fn put_window(&mut self, x: u32, y: u32, window: &Window)
         requires live { IsLive self.old x y }
         ensures grid { self.new ≡ put_window self.old x y window.now }
@@ -289,7 +291,7 @@ impl Grid {
         }
     }
 
-    /// The event at a live site, its window read and written site by site.
+    /// The event at a live site. Its window is read and written site by site.
     #[tactic(auto, using(crate::proofs::Windows::centre_found))]
     fn event_by_sites<B: Behave>(
         &mut self,
@@ -310,8 +312,8 @@ impl Grid {
         self.put_by_sites(&places, window);
     }
 
-    /// The event at a live site: what acts sees the window there, and each live site of it then
-    /// has the atom that the act left. At an empty centre nothing changes.
+    /// The event at a live site: the behaviour acts on the window there, and each live site of it
+    /// gets the atom that the act left. If the centre is empty, nothing changes.
     pub fn event<B: Behave>(&mut self, x: u32, y: u32, seed: u64, behave: &mut B)
         requires live { IsLive self.old x y }
         ensures grid { self.new ≡ event (B.after behave.old) self.old x y seed }
@@ -323,8 +325,8 @@ impl Grid {
         }
     }
 
-    /// The event at a live site, by a window at hand, of which nothing is said afterwards. Whoever
-    /// makes many events keeps one.
+    /// As `event`, with a window of the caller's to work in; its contents afterwards are not
+    /// specified. Keep one to make many events.
     pub fn event_in<B: Behave>(
         &mut self,
         x: u32,
@@ -351,7 +353,7 @@ impl Grid {
         }
     }
 
-    /// The events of the records, one after another, each at a live site.
+    /// The events of the records, one after another. Each is at a live site.
     pub fn replay<B: Behave>(&mut self, records: &[Record], behave: &mut B)
         requires { All (λ r. IsLive self.old r.x r.y) records.now }
         ensures grid { self.new ≡ replay (B.after behave.old) self.old records.now }

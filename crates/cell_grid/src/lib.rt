@@ -1,9 +1,9 @@
-//! A flat grid of atoms, its windows, its events, and the replay of records.
+//! A flat grid of atoms, its windows and events, and the replay of records.
 //!
 //! A grid is a plane of sites in row order, some of which are live. An event has a centre and a
-//! seed: what acts sees the window there, and each live site of the window then has the atom that
-//! the act left. A window shows a site that is not live, or not of the plane, as empty and without
-//! a live mark, and a write there has no effect.
+//! seed: the behaviour sees the window there, and each live site of the window then gets the atom
+//! that it left. A window shows a site that is not live, or not in the plane, as empty and not live,
+//! and a write to such a site does nothing.
 #![tactic(auto)]
 
 mod behave;

@@ -1,4 +1,4 @@
-//! Marks of a plane, one for each site in row order.
+//! The marks of a plane: one for each site, in row order.
 ghost use Rattle.std.specs.Prelude.{◌≡◌, ◌≤◌, ◌*◌, length};
 ghost use Rattle.cell_grid.specs.Shut.{cleared, is_inside};
 
@@ -12,7 +12,7 @@ pub(crate) struct Bounds {
 }
 
 impl Bounds {
-    /// Whether a site lies in it.
+    /// Whether a site lies inside the rectangle.
     fn is_inside(&self, u: u32, v: u32) -> bool
         ensures { result ≡ is_inside (record { left = self.now.left; top = self.now.top; right = self.now.right; bottom = self.now.bottom }) u v }
     {
@@ -20,7 +20,7 @@ impl Bounds {
     }
 }
 
-/// Clears the marks of a rectangle, in a plane of `width` columns.
+/// Clears the marks inside a rectangle of a plane with `width` columns.
 pub(crate) fn clear(marks: &mut [bool], width: u32, bounds: Bounds)
     requires some { 1 ≤ width }
     requires short { length marks.old ≤ 512 * 512 }

@@ -1,4 +1,4 @@
-//! The events that took place.
+//! Records of events.
 ghost use Rattle.std.specs.Prelude.{◌≡◌, ◌↔◌, IsTrue};
 ghost use Rattle.cell_grid.specs.Records.{Precedes};
 
@@ -7,7 +7,7 @@ ghost use Rattle.cell_grid.specs.Records.{Precedes};
 pub struct Record {
     /// The clock stamp, from 1.
     pub stamp: u32,
-    /// The tile whose event it is.
+    /// The tile that did it.
     pub tile: u32,
     /// The number of the tile's attempt, from 0.
     pub attempt: u64,
@@ -20,7 +20,7 @@ pub struct Record {
 }
 
 impl Record {
-    /// Whether this record stands before another in a journal: by stamp, and then by tile.
+    /// Whether this record comes before another in a journal: by stamp, then by tile.
     pub fn precedes(&self, other: &Record) -> bool
         ensures { IsTrue result ↔ Precedes self.now other.now }
     {

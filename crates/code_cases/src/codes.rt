@@ -1,4 +1,4 @@
-//! Worked values: which code is valid, and texts of codes.
+//! Worked cases: which code is valid, and the text of some code.
 
 use feast_base::Name;
 use sat_math::Kind;

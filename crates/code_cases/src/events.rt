@@ -1,5 +1,5 @@
-//! Small programs by instruction, each with what it leaves, and numbers of steps. The values were
-//! worked out apart from the machine.
+//! Small programs in stack code, each with what it leaves, and numbers of steps. The values were
+//! worked out independently of the machine.
 
 use bit_field::Atom;
 use event_machine::{Ended, Machine};

@@ -1,6 +1,6 @@
-//! Small codes with what comes of them: which are valid, their texts, and what events of them leave.
-//! The crate has tests alone; they stand above the stack code and its machine, so that these are
-//! proved once.
+//! Small pieces of code: which are valid, their texts, and what their events leave. This crate has
+//! only tests. They are kept apart from the stack code and its machine so that those are proved only
+//! once.
 #![tactic(auto)]
 
 #[cfg(test)]

@@ -19,7 +19,7 @@ use Rattle.stack_code.specs.Machine.{CodeValue, FunctionValue, Frame, State, Hel
 use Rattle.code_file.specs.Acting.{after, after_by, code_of, left_by}
 use Rattle.code_file.specs.Form.{AreElements, CodesValue, IsSayable, codes_of}
 use Rattle.code_file.specs.Instrs.{IsInstr}
-use Rattle.code_file.specs.Known.{BringsNone, IsKnown, ShowsKnown}
+use Rattle.cell_grid.specs.Known.{BringsNone, IsKnown, ShowsKnown}
 
 module _ (n : ℕ) where
   abbrev KnownDatum : Datum → Type 0

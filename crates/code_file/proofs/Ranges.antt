@@ -3,29 +3,25 @@ use Rattle.std.proofs.Common.{◌≡◌, ℕ, zero, suc, ◌+◌, ◌-◌, ◌*�
 use Rattle.std.specs.Prelude.{slice_get, nat_lt, nat_le, nat_eq, if◌then◌else◌, replicate, is_some}
 use Rattle.std.specs.List.{AllByRecursion}
 use Rattle.std.proofs.lemmas.Bool.{cases_lt, eqb-true, leb-true, ltb-true}
+use Rattle.std.proofs.lemmas.Option.{slice_get_within}
 use Rattle.sat_math.specs.Numbers.{greatest_width, least_width}
 use Rattle.sat_math.specs.declared.Kind.{Kind}
 use Rattle.sat_math.specs.declared.Kind.TheVariants as kind
 use Rattle.stack_code.specs.Machine.{CodeValue, FunctionValue}
 use Rattle.stack_code.specs.Sorts.{num_type, sort}
-use Rattle.stack_code.specs.Valid.{Around, Exits, Kinds, Notes, after_call, and_pop, args_fit, around, end_with, exits, falls_exit, field_fits, first_fits, forward_fits, function_fits, if_atom, jump_fits, length_fits, pass, pass_all, pass_function, pop, pop_slot, push, push_slot, then_pass, type_fits, valid}
+use Rattle.stack_code.specs.Valid.{Around, Exits, Kinds, Notes, after_call, and_pop, args_fit, around, end_with, exits, falls_exit, field_fits, first_fits, forward_fits, function_fits, if_atom, jump_fits, length_fits, pass, pass_all, pass_function, pop, pop_slot, push, push_slot, type_fits, valid}
 use Rattle.stack_code.specs.declared.instr.Instr.{Instr}
 use Rattle.stack_code.specs.declared.instr.Instr.TheVariants.{Call, Fit, IsKind, Jump, JumpFalse, LoadField, LoadFieldAt, LoadLocal, LoadPart, LoadPartAt, NotW, PushAtom, PushNum, Shl, StoreField, StoreFieldAt, StoreLocal, StorePart, StorePartAt}
 use Rattle.stack_code.specs.declared.instr.Operand.{Operand}
 use Rattle.stack_code.specs.declared.instr.Operand.TheVariants.{Number}
-use Rattle.stack_code.proofs.Bound.{all_fine, both_true, is_some_gives}
-use Rattle.stack_code.proofs.Passes.{FinePlace, fork_gives, if_gives, jump_gives}
+use Rattle.stack_code.proofs.Bound.{all_fine, is_some_gives, then_gives}
+use Rattle.stack_code.proofs.Passes.{FinePlace, fork_gives, if_gives, if_true, jump_gives}
 use Rattle.stack_code.proofs.Typed.{Jumps, forward_gives, jumps_by}
 use Rattle.code_file.specs.Form.{ElementValue, IsElement, IsFunction}
 use Rattle.code_file.specs.Instrs.{IsByte, IsField, IsInstr, IsPlace}
 use Rattle.code_file.specs.Ranged.{IsNamed, IsRanged, OfTypes}
 
 -- Lists
-
-get_within : {A : Type 0} (xs : List A) (k : ℕ) (x : A) → slice_get xs k ≡ Some x → k < length xs
-get_within [] k x e = absurd cc
-get_within (y ∷ xs) zero x e = omega arith
-get_within (y ∷ xs) (suc k) x e = omega (arith, get_within xs k x e)
 
 all_at : {A : Type 0} (P : A → Type 0) (xs : List A) → AllByRecursion P xs → (k : ℕ) (x : A) → slice_get xs k ≡ Some x → P x
 all_at P [] all k x e = absurd cc
@@ -54,7 +50,7 @@ greatest_most kind.Unary = omega arith
 
 type_in : (k : Kind) (w : ℕ) → type_fits (num_type k w) ≡ true → (1 ≤ w) × (w ≤ 64)
 type_in k w e =
-    let y = both_true (nat_le (least_width k) w) (nat_le w (greatest_width k)) e in
+    let y = if_true (nat_le (least_width k) w) (nat_le w (greatest_width k)) e in
     let low = leb-true (least_width k) w y.0 in
     let high = leb-true w (greatest_width k) y.1 in
     (omega (arith, least_one k, low), omega (arith, greatest_most k, high))
@@ -65,8 +61,8 @@ times (suc n) w h = omega (arith, times n w h, h, suc-mul n w)
 
 field_in : (f w n : ℕ) (k : Kind) → field_fits f (num_type k w) n ≡ true → IsField f w × IsByte n
 field_in f w n k e =
-    let y = both_true (type_fits (num_type k w)) (if nat_le 1 n then nat_le (f + n * w) 71 else false) e in
-    let z = both_true (nat_le 1 n) (nat_le (f + n * w) 71) y.1 in
+    let y = if_true (type_fits (num_type k w)) (if nat_le 1 n then nat_le (f + n * w) 71 else false) e in
+    let z = if_true (nat_le 1 n) (nat_le (f + n * w) 71) y.1 in
     let h = leb-true (f + n * w) 71 z.1 in
     let t = type_in k w y.0 in
     let m = times n w t.0 in
@@ -80,7 +76,7 @@ found {A = A} xs s f none x h = by (slice_get xs s) refl h
   where
     by : (o : Option A) → slice_get xs s ≡ o → falls_exit (f o) ≡ Some x → s < length xs
     by None e h = let never = ap falls_exit (sym none) ∙ h in absurd cc
-    by (Some y) e h = get_within xs s y e
+    by (Some y) e h = slice_get_within xs s y e
 
 -- where a place of valid code stands
 record Bounds (a : Around) (p : ℕ) : Type 0 where
@@ -121,14 +117,10 @@ module _ (most : ℕ) (a : Around) (p : ℕ) (ks : Kinds) (x : Exits) (h : Bound
 
 -- Functions
 
-then_gives : (r : Option Notes) (go : Notes → Option Notes) (m : Notes) → then_pass r go ≡ Some m → (n : Notes) × (r ≡ Some n) × (go n ≡ Some m)
-then_gives None go m e = cc
-then_gives (Some n) go m e = (n, refl, e)
-
 fits_parts : (g : FunctionValue) (p end : ℕ) → function_fits g p end ≡ true → (g.first ≡ p) × (p < end)
 fits_parts g p end e =
-    let x = both_true (nat_eq g.first p) (if nat_lt p end then (if nat_le g.params (length g.slots) then nat_le (length g.slots) 72 else false) else false) e in
-    let y = both_true (nat_lt p end) (if nat_le g.params (length g.slots) then nat_le (length g.slots) 72 else false) x.1 in
+    let x = if_true (nat_eq g.first p) (if nat_lt p end then (if nat_le g.params (length g.slots) then nat_le (length g.slots) 72 else false) else false) e in
+    let y = if_true (nat_lt p end) (if nat_le g.params (length g.slots) then nat_le (length g.slots) 72 else false) x.1 in
     (eqb-true g.first p x.0, ltb-true p end y.0)
 
 some_first : (gs : List FunctionValue) → first_fits gs ≡ true → 1 ≤ length gs
@@ -187,10 +179,10 @@ pub valid_ranged : (most kind : ℕ) (e : ElementValue) → IsNamed most kind e 
 unfolding valid
 valid_ranged most kind e h v =
     let c = e.code in
-    let x = both_true (length_fits (length c.instrs)) (if first_fits c.functions then is_some (pass_all c c.functions 0 (replicate (length c.instrs) None)) else false) v in
-    let y = both_true (first_fits c.functions) (is_some (pass_all c c.functions 0 (replicate (length c.instrs) None))) x.1 in
+    let x = if_true (length_fits (length c.instrs)) (if first_fits c.functions then is_some (pass_all c c.functions 0 (replicate (length c.instrs) None)) else false) v in
+    let y = if_true (first_fits c.functions) (is_some (pass_all c c.functions 0 (replicate (length c.instrs) None))) x.1 in
     let z = is_some_gives (pass_all c c.functions 0 (replicate (length c.instrs) None)) y.1 in
-    let l = both_true (nat_le 1 (length c.instrs)) (nat_le (length c.instrs) 65536) x.0 in
+    let l = if_true (nat_le 1 (length c.instrs)) (nat_le (length c.instrs) 65536) x.0 in
     let few = leb-true (length c.instrs) 65536 l.1 in
     let many = counted c c.functions 0 (replicate (length c.instrs) None) z.0 z.1 in
     let fine = (all_fine c c.functions 0 (replicate (length c.instrs) None) z.0 z.1).3 in
@@ -206,7 +198,7 @@ valid_ranged most kind e h v =
       some_instrs = leb-true 1 (length c.instrs) l.0;
       few_instrs = few;
       instrs = all_from (IsInstr most) c.instrs (λ k i at.
-          let u = placed c c.functions 0 (replicate (length c.instrs) None) z.0 z.1 k i (omega arith) (get_within c.instrs k i at) at in
+          let u = placed c c.functions 0 (replicate (length c.instrs) None) z.0 z.1 k i (omega arith) (slice_get_within c.instrs k i at) at in
           let b : Bounds (around c u.function u.end) k = record { slots = u.few; end = omega (arith, u.within, few); high = u.high; functions = omega (arith, many, few) } in
           in_range most (around c u.function u.end) k u.fine.kinds u.fine.exit b i (all_at (OfTypes most) c.instrs h.types k i at) u.fine.args u.fine.leads);
     }

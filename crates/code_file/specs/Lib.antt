@@ -3,7 +3,6 @@ pub mod ActingSet
 pub mod Form
 pub mod Instrs
 pub mod Judging
-pub mod Known
 pub mod Numbers
 pub mod Ranged
 pub mod Reading

@@ -1,4 +1,4 @@
-//! What acts on windows as the codes of a file say.
+//! The behaviour that runs the codes of a file.
 ghost use Rattle.std.specs.Prelude.{◌≡◌, IfOk};
 
 use crate::set::CodeSet;
@@ -8,9 +8,9 @@ use feast_base::{NoLedger, NoMemory, Steps};
 use std::alloc::Global;
 use window_sites::Window;
 
-/// What acts on windows as the codes of a file say: the code whose type number the atom at the
-/// centre has is run. An empty centre, and an atom whose type is that of no element, leave the
-/// window as it is. A run that fails leaves the old window with its centre empty.
+/// The behaviour that runs the codes of a file: the code of the type of the atom at the centre. If
+/// the centre is empty, or no element has the type of its atom, the window stays as it is. A run
+/// that fails leaves the old window with an empty centre.
 #[derive(Drop)]
 pub struct CodeActor<'a> {
     set: &'a CodeSet,
@@ -40,8 +40,8 @@ impl CodeSet {
     ghost use Rattle.code_file.specs.ActingSet.{acting_codes};
     ghost use Rattle.code_file.specs.Form.{codes_of};
 
-    /// What acts on windows as these codes say. It takes all its memory here; `NoMemory` where that
-    /// is refused.
+    /// The behaviour that runs these codes. It allocates all its memory here. `NoMemory` if that is
+    /// not available.
     pub fn actor(&self, alloc: Global) -> Result<CodeActor<'_>, NoMemory>
         ensures { IfOk result (λ a. acting_codes a ≡ codes_of self.now) }
     {

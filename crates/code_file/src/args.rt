@@ -1,4 +1,4 @@
-//! The arguments of instructions from bytes.
+//! Reading the arguments of instructions.
 ghost use Rattle.std.specs.Prelude.{◌≡◌, ◌≤◌};
 ghost use Rattle.code_file.specs.Reading.{Gives, any_byte, array_at, field_at, fit_at, kind_at, kind_of, part_array_at, part_at, place_at, type_at, width_at};
 
@@ -7,7 +7,7 @@ use crate::halt::Halt;
 use crate::numbers::number;
 use sat_math::Kind;
 
-/// A kind of numbers by its byte.
+/// The kind of number that a byte stands for.
 fn kind_of(code: u64) -> Kind
     ensures { result ≡ kind_of code }
 {
@@ -24,7 +24,7 @@ fn kind_of(code: u64) -> Kind
     }
 }
 
-/// A kind of numbers, and the bytes behind it.
+/// A kind of number, and the remaining bytes.
 #[tactic(auto, unfolding(crate::specs::Reading::kind_at))]
 fn kind(bytes: &[u8]) -> Result<(Kind, &[u8]), Halt>
     ensures { Gives (λ x. (x.0, x.1.now)) result (kind_at bytes.now) }
@@ -33,7 +33,7 @@ fn kind(bytes: &[u8]) -> Result<(Kind, &[u8]), Halt>
     Ok((kind_of(code), rest))
 }
 
-/// A number of one byte, and the bytes behind it.
+/// A number of one byte, and the remaining bytes.
 #[tactic(auto, unfolding(crate::specs::Reading::any_byte))]
 pub fn any_byte(bytes: &[u8]) -> Result<(u8, &[u8]), Halt>
     ensures { Gives (λ x. (x.0, x.1.now)) result (any_byte bytes.now) }
@@ -42,7 +42,7 @@ pub fn any_byte(bytes: &[u8]) -> Result<(u8, &[u8]), Halt>
     Ok((byte as u8, rest))
 }
 
-/// A place or the number of a function, and the bytes behind it.
+/// A place or the number of a function, and the remaining bytes.
 #[tactic(auto, unfolding(crate::specs::Reading::place_at))]
 pub fn place(bytes: &[u8]) -> Result<(u32, &[u8]), Halt>
     ensures { Gives (λ x. (x.0, x.1.now)) result (place_at bytes.now) }
@@ -51,7 +51,7 @@ pub fn place(bytes: &[u8]) -> Result<(u32, &[u8]), Halt>
     Ok((place as u32, rest))
 }
 
-/// The width of a number, and the bytes behind it.
+/// The width of a number, and the remaining bytes.
 #[tactic(auto, unfolding(crate::specs::Reading::width_at))]
 pub fn width(bytes: &[u8]) -> Result<(u8, &[u8]), Halt>
     ensures { Gives (λ x. (x.0, x.1.now)) result (width_at bytes.now) }
@@ -60,7 +60,7 @@ pub fn width(bytes: &[u8]) -> Result<(u8, &[u8]), Halt>
     Ok((width as u8, rest))
 }
 
-/// A type number up to a greatest one, and the bytes behind it.
+/// A type number up to a greatest one, and the remaining bytes.
 #[tactic(auto, unfolding(crate::specs::Reading::type_at))]
 pub fn type_number(bytes: &[u8], greatest: u16) -> Result<(u16, &[u8]), Halt>
     ensures { Gives (λ x. (x.0, x.1.now)) result (type_at greatest bytes.now) }
@@ -69,7 +69,7 @@ pub fn type_number(bytes: &[u8], greatest: u16) -> Result<(u16, &[u8]), Halt>
     Ok((kind as u16, rest))
 }
 
-/// A field, and the bytes behind it.
+/// A field, and the remaining bytes.
 #[tactic(auto, unfolding(crate::specs::Reading::field_at))]
 pub fn field(bytes: &[u8]) -> Result<(Field, &[u8]), Halt>
     ensures { Gives (λ x. (x.0, x.1.now)) result (field_at bytes.now) }
@@ -80,7 +80,7 @@ pub fn field(bytes: &[u8]) -> Result<(Field, &[u8]), Halt>
     Ok((Field { first, width, kind }, rest))
 }
 
-/// A slot and a field, and the bytes behind them.
+/// A slot and a field, and the remaining bytes.
 #[tactic(auto, unfolding(crate::specs::Reading::part_at))]
 pub fn part(bytes: &[u8]) -> Result<((u8, Field), &[u8]), Halt>
     ensures { Gives (λ x. (x.0, x.1.now)) result (part_at bytes.now) }
@@ -90,7 +90,7 @@ pub fn part(bytes: &[u8]) -> Result<((u8, Field), &[u8]), Halt>
     Ok(((slot, field), rest))
 }
 
-/// A field and the length of its array, and the bytes behind them.
+/// A field and the length of its array, and the remaining bytes.
 #[tactic(auto, unfolding(crate::specs::Reading::array_at))]
 pub fn array(bytes: &[u8]) -> Result<((Field, u8), &[u8]), Halt>
     ensures { Gives (λ x. (x.0, x.1.now)) result (array_at bytes.now) }
@@ -100,7 +100,7 @@ pub fn array(bytes: &[u8]) -> Result<((Field, u8), &[u8]), Halt>
     Ok(((field, length), rest))
 }
 
-/// A slot, a field and the length of its array, and the bytes behind them.
+/// A slot, a field and the length of its array, and the remaining bytes.
 #[tactic(auto, unfolding(crate::specs::Reading::part_array_at))]
 pub fn part_array(bytes: &[u8]) -> Result<((u8, (Field, u8)), &[u8]), Halt>
     ensures { Gives (λ x. (x.0, x.1.now)) result (part_array_at bytes.now) }
@@ -110,7 +110,7 @@ pub fn part_array(bytes: &[u8]) -> Result<((u8, (Field, u8)), &[u8]), Halt>
     Ok(((slot, array), rest))
 }
 
-/// A kind and a width, and the bytes behind them.
+/// A kind and a width, and the remaining bytes.
 #[tactic(auto, unfolding(crate::specs::Reading::fit_at))]
 pub fn fit(bytes: &[u8]) -> Result<((Kind, u8), &[u8]), Halt>
     ensures { Gives (λ x. (x.0, x.1.now)) result (fit_at bytes.now) }

@@ -1,5 +1,5 @@
-//! Which types cross threads. Nothing calls these functions: the check of this crate fails where
-//! one of the types may no longer be sent or shared.
+//! The types that cross threads. Nothing calls these functions: the check of this crate fails if one
+//! of the types can no longer be sent or shared.
 
 use crate::actor::CodeActor;
 use crate::set::CodeSet;

@@ -1,4 +1,4 @@
-//! Elements from bytes.
+//! Reading elements.
 ghost use Rattle.std.specs.Prelude.{◌≡◌, ◌≤◌, ◌+◌, ◌<◌, [], length};
 ghost use Rattle.code_file.specs.Reading.{Gives, alone, body_at, element_at, elements_at, elements_from};
 
@@ -12,7 +12,7 @@ use stack_code::RawCode;
 use std::alloc::Global;
 use std::marker::Model;
 
-/// An element whose code is not verified yet.
+/// An element whose code has not been verified yet.
 #[derive(Drop)]
 pub struct Draft {
     pub name: Name,
@@ -27,7 +27,7 @@ impl Model for Draft {
     ghost view = { λ d. record { name = d.name; code = d.code } };
 }
 
-/// An element of a type number, of a file with so many elements, and the bytes behind it.
+/// An element of a type number, of a file with this many elements, and the remaining bytes.
 #[tactic(auto, unfolding(crate::specs::Reading::element_at))]
 fn element(alloc: Global, most: u16, kind: u16, bytes: &[u8]) -> Result<(Draft, &[u8]), Halt>
     ensures { Gives (λ x. (x.0, x.1.now)) result (element_at most kind bytes.now) }
@@ -39,7 +39,7 @@ fn element(alloc: Global, most: u16, kind: u16, bytes: &[u8]) -> Result<(Draft, 
     Ok((Draft { name, code }, rest))
 }
 
-/// So many elements, and the bytes behind them. Memory is taken as they are read.
+/// This many elements, and the remaining bytes. Memory is allocated as they are read.
 fn elements_in(alloc: Global, count: u16, bytes: &[u8]) -> Result<(Vec<Draft>, &[u8]), Halt>
     requires { count ≤ 256 }
     ensures { Gives (λ x. (x.0.items, x.1.now)) result (elements_from count count [] bytes.now) }
@@ -54,7 +54,7 @@ fn elements_in(alloc: Global, count: u16, bytes: &[u8]) -> Result<(Vec<Draft>, &
     Ok((elements, rest))
 }
 
-/// Elements behind their number, and the bytes behind them.
+/// A counted list of elements, and the remaining bytes.
 #[tactic(auto, unfolding(crate::specs::Reading::elements_at))]
 fn elements(alloc: Global, bytes: &[u8]) -> Result<(Vec<Draft>, &[u8]), Halt>
     ensures { Gives (λ x. (x.0.items, x.1.now)) result (elements_at bytes.now) }
@@ -63,7 +63,7 @@ fn elements(alloc: Global, bytes: &[u8]) -> Result<(Vec<Draft>, &[u8]), Halt>
     elements_in(alloc, count as u16, rest)
 }
 
-/// All that stands behind the first 8 bytes of a file.
+/// Everything after the first 8 bytes of a file.
 #[tactic(auto, unfolding(crate::specs::Reading::body_at))]
 pub fn body(alloc: Global, bytes: &[u8]) -> Result<Vec<Draft>, Halt>
     ensures { Gives (λ v. v.items) result (body_at bytes.now) }

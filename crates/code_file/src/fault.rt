@@ -1,21 +1,22 @@
-//! Why bytes are no code file.
+//! Why bytes are not a code file.
 
 use feast_base::NoMemory;
 use std::alloc::{AllocError, AllocFailed};
 
-/// Why bytes are no code file, with the place of a byte, counted from 1.
+/// Why bytes are not a code file. The number is the position of a byte, counted from 1.
 #[derive(Clone, Copy, Debug, PartialEq, Eq)]
 pub enum CodeFault {
-    /// The first 8 bytes are others, or missing (61).
+    /// The first 8 bytes are wrong or missing (61).
     BadMagic,
-    /// The first byte with which the bytes up to it begin no file; or the place behind the last
-    /// byte, where all of them begin one (62).
+    /// The first byte at which the bytes no longer begin any file, or the position after the last
+    /// byte if the file is cut short (62).
     BadForm(u64),
-    /// The code of an element is not valid; the first byte of its name's length (63).
+    /// The code of an element is not valid. The byte is the first of the length of its name (63).
     NotValid(u64),
-    /// An element has the name of an earlier one; the first byte of its name's length (64).
+    /// An element has the name of an earlier one. The byte is the first of the length of its name
+    /// (64).
     SameName(u64),
-    /// There was no memory.
+    /// Memory ran out.
     NoMemory,
 }
 

@@ -1,4 +1,4 @@
-//! Functions from bytes.
+//! Reading functions.
 ghost use Rattle.std.specs.Prelude.{◌≡◌};
 ghost use Rattle.code_file.specs.Reading.{Gives, answer_at, answer_of, function_at, functions_at, operand_of, slot_at, slots_at, times};
 
@@ -8,7 +8,7 @@ use crate::numbers::number;
 use stack_code::{Answer, Operand, RawFunction};
 use std::alloc::Global;
 
-/// What a slot holds, by its byte.
+/// The kind of slot that a byte stands for.
 fn operand_of(code: u64) -> Operand
     ensures { result ≡ operand_of code }
 {
@@ -19,7 +19,7 @@ fn operand_of(code: u64) -> Operand
     }
 }
 
-/// What a function gives back, by its byte.
+/// The result of a function that a byte stands for.
 fn answer_of(code: u64) -> Answer
     ensures { result ≡ answer_of code }
 {
@@ -32,7 +32,7 @@ fn answer_of(code: u64) -> Answer
     }
 }
 
-/// A slot, and the bytes behind it.
+/// A slot, and the remaining bytes.
 #[tactic(auto, unfolding(crate::specs::Reading::slot_at))]
 fn slot(bytes: &[u8]) -> Result<(Operand, &[u8]), Halt>
     ensures { Gives (λ x. (x.0, x.1.now)) result (slot_at bytes.now) }
@@ -41,7 +41,7 @@ fn slot(bytes: &[u8]) -> Result<(Operand, &[u8]), Halt>
     Ok((operand_of(code), rest))
 }
 
-/// What a function gives back, and the bytes behind it.
+/// The result of a function, and the remaining bytes.
 #[tactic(auto, unfolding(crate::specs::Reading::answer_at))]
 fn answer(bytes: &[u8]) -> Result<(Answer, &[u8]), Halt>
     ensures { Gives (λ x. (x.0, x.1.now)) result (answer_at bytes.now) }
@@ -50,7 +50,7 @@ fn answer(bytes: &[u8]) -> Result<(Answer, &[u8]), Halt>
     Ok((answer_of(code), rest))
 }
 
-/// So many slots, and the bytes behind them.
+/// This many slots, and the remaining bytes.
 fn slots_in(alloc: Global, count: u64, bytes: &[u8]) -> Result<(Vec<Operand>, &[u8]), Halt>
     ensures { Gives (λ x. (x.0.items, x.1.now)) result (times slot_at count bytes.now) }
 {
@@ -64,7 +64,7 @@ fn slots_in(alloc: Global, count: u64, bytes: &[u8]) -> Result<(Vec<Operand>, &[
     Ok((slots, rest))
 }
 
-/// Slots behind their number, and the bytes behind them.
+/// A counted list of slots, and the remaining bytes.
 #[tactic(auto, unfolding(crate::specs::Reading::slots_at))]
 fn slots(alloc: Global, bytes: &[u8]) -> Result<(Vec<Operand>, &[u8]), Halt>
     ensures { Gives (λ x. (x.0.items, x.1.now)) result (slots_at bytes.now) }
@@ -73,7 +73,7 @@ fn slots(alloc: Global, bytes: &[u8]) -> Result<(Vec<Operand>, &[u8]), Halt>
     slots_in(alloc, count, rest)
 }
 
-/// A function, and the bytes behind it.
+/// A function, and the remaining bytes.
 #[tactic(auto, unfolding(crate::specs::Reading::function_at))]
 fn function(alloc: Global, bytes: &[u8]) -> Result<(RawFunction, &[u8]), Halt>
     ensures { Gives (λ x. (x.0, x.1.now)) result (function_at bytes.now) }
@@ -95,7 +95,7 @@ fn function(alloc: Global, bytes: &[u8]) -> Result<(RawFunction, &[u8]), Halt>
     Ok((function, rest))
 }
 
-/// So many functions, and the bytes behind them. Memory is taken as they are read.
+/// This many functions, and the remaining bytes. Memory is allocated as they are read.
 fn functions_in(alloc: Global, count: u64, bytes: &[u8]) -> Result<(Vec<RawFunction>, &[u8]), Halt>
     ensures { Gives (λ x. (x.0.items, x.1.now)) result (times function_at count bytes.now) }
 {
@@ -109,7 +109,7 @@ fn functions_in(alloc: Global, count: u64, bytes: &[u8]) -> Result<(Vec<RawFunct
     Ok((functions, rest))
 }
 
-/// Functions behind their number, and the bytes behind them.
+/// A counted list of functions, and the remaining bytes.
 #[tactic(auto, unfolding(crate::specs::Reading::functions_at))]
 pub fn functions(alloc: Global, bytes: &[u8]) -> Result<(Vec<RawFunction>, &[u8]), Halt>
     ensures { Gives (λ x. (x.0.items, x.1.now)) result (functions_at bytes.now) }

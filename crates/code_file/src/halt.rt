@@ -1,14 +1,14 @@
-//! Why the reading of a form stops.
+//! Why reading stops.
 
 use feast_base::NoMemory;
 use std::alloc::{AllocError, AllocFailed};
 
-/// Why the reading of a form stops.
+/// Why reading stops.
 #[derive(Clone, Copy, Debug, PartialEq, Eq)]
 pub enum Halt {
-    /// There was no memory.
+    /// Memory ran out.
     NoMemory,
-    /// A byte is wrong, or missing: how many bytes are left, with the wrong one.
+    /// A byte is wrong or missing. The number is how many bytes are left, including the wrong one.
     Bad(usize),
 }
 

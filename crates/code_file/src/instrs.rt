@@ -1,4 +1,4 @@
-//! Instructions from bytes.
+//! Reading instructions. Their opcodes are those of `written_instrs::opcode`.
 ghost use Rattle.std.specs.Prelude.{◌≡◌, ◌≤◌, ℕ};
 ghost use Rattle.code_file.specs.Reading.{Gives, args_at, instr_at, instrs_at, times};
 
@@ -8,8 +8,7 @@ use crate::numbers::{number, signed};
 use stack_code::Instr;
 use std::alloc::Global;
 
-/// The instructions from PushNum to Pop, by the byte of the name, and the bytes behind the
-/// arguments.
+/// The instructions from PushNum to Pop, by opcode, and the remaining bytes.
 #[tactic(auto, unfolding(crate::specs::Reading::args_at))]
 fn operands(code: u64, most: u16, bytes: &[u8]) -> Result<(Instr, &[u8]), Halt>
     requires least { 0 ≤ code }
@@ -37,8 +36,7 @@ fn operands(code: u64, most: u16, bytes: &[u8]) -> Result<(Instr, &[u8]), Halt>
     }
 }
 
-/// The instructions from LoadField to StorePart, by the byte of the name, and the bytes behind the
-/// arguments.
+/// The instructions from LoadField to StorePart, by opcode, and the remaining bytes.
 #[tactic(auto, unfolding(crate::specs::Reading::args_at))]
 fn fields(code: u64, bytes: &[u8]) -> Result<(Instr, &[u8]), Halt>
     requires least { 5 ≤ code }
@@ -65,8 +63,7 @@ fn fields(code: u64, bytes: &[u8]) -> Result<(Instr, &[u8]), Halt>
     }
 }
 
-/// The instructions from LoadSelf to IsKind, by the byte of the name, and the bytes behind the
-/// arguments.
+/// The instructions from LoadSelf to IsKind, by opcode, and the remaining bytes.
 #[tactic(auto, unfolding(crate::specs::Reading::args_at))]
 fn sites(code: u64, bytes: &[u8]) -> Result<(Instr, &[u8]), Halt>
     requires least { 9 ≤ code }
@@ -89,8 +86,7 @@ fn sites(code: u64, bytes: &[u8]) -> Result<(Instr, &[u8]), Halt>
     }
 }
 
-/// The instructions from AddI to Xor, by the byte of the name, and the bytes behind the
-/// arguments.
+/// The instructions from AddI to Xor, by opcode, and the remaining bytes.
 #[tactic(auto, unfolding(crate::specs::Reading::args_at))]
 fn sums(code: u64, bytes: &[u8]) -> Result<(Instr, &[u8]), Halt>
     requires least { 18 ≤ code }
@@ -115,8 +111,7 @@ fn sums(code: u64, bytes: &[u8]) -> Result<(Instr, &[u8]), Halt>
     }
 }
 
-/// The instructions from NotW to Ge, by the byte of the name, and the bytes behind the
-/// arguments.
+/// The instructions from NotW to Ge, by opcode, and the remaining bytes.
 #[tactic(auto, unfolding(crate::specs::Reading::args_at))]
 fn tests(code: u64, bytes: &[u8]) -> Result<(Instr, &[u8]), Halt>
     requires least { 32 ≤ code }
@@ -147,8 +142,7 @@ fn tests(code: u64, bytes: &[u8]) -> Result<(Instr, &[u8]), Halt>
     }
 }
 
-/// The instructions from Jump to ReturnVoid, by the byte of the name, and the bytes behind the
-/// arguments.
+/// The instructions from Jump to ReturnVoid, by opcode, and the remaining bytes.
 #[tactic(auto, unfolding(crate::specs::Reading::args_at))]
 fn jumps(code: u64, bytes: &[u8]) -> Result<(Instr, &[u8]), Halt>
     requires least { 43 ≤ code }
@@ -174,8 +168,7 @@ fn jumps(code: u64, bytes: &[u8]) -> Result<(Instr, &[u8]), Halt>
     }
 }
 
-/// The instructions from AddL to Dup, by the byte of the name, and the bytes behind the
-/// arguments.
+/// The instructions from AddL to Dup, by opcode, and the remaining bytes.
 #[tactic(auto, unfolding(crate::specs::Reading::args_at))]
 fn long_sums(code: u64, bytes: &[u8]) -> Result<(Instr, &[u8]), Halt>
     requires least { 49 ≤ code }
@@ -198,8 +191,7 @@ fn long_sums(code: u64, bytes: &[u8]) -> Result<(Instr, &[u8]), Halt>
     }
 }
 
-/// The instructions from LoadFieldAt to StorePartAt, by the byte of the name, and the bytes behind the
-/// arguments.
+/// The instructions from LoadFieldAt to StorePartAt, by opcode, and the remaining bytes.
 #[tactic(auto, unfolding(crate::specs::Reading::args_at))]
 fn arrays(code: u64, bytes: &[u8]) -> Result<(Instr, &[u8]), Halt>
     requires least { 61 ≤ code }
@@ -226,7 +218,7 @@ fn arrays(code: u64, bytes: &[u8]) -> Result<(Instr, &[u8]), Halt>
     }
 }
 
-/// An instruction by the byte of its name, and the bytes behind its arguments.
+/// An instruction by opcode, and the remaining bytes.
 fn args(code: u64, most: u16, bytes: &[u8]) -> Result<(Instr, &[u8]), Halt>
     requires { code ≤ 64 }
     ensures { Gives (λ x. (x.0, x.1.now)) result (args_at most code bytes.now) }
@@ -250,7 +242,7 @@ fn args(code: u64, most: u16, bytes: &[u8]) -> Result<(Instr, &[u8]), Halt>
     }
 }
 
-/// An instruction of a file with so many elements, and the bytes behind it.
+/// An instruction of a file with this many elements, and the remaining bytes.
 #[tactic(auto, unfolding(crate::specs::Reading::instr_at))]
 fn instr(most: u16, bytes: &[u8]) -> Result<(Instr, &[u8]), Halt>
     ensures { Gives (λ x. (x.0, x.1.now)) result (instr_at most bytes.now) }
@@ -259,7 +251,7 @@ fn instr(most: u16, bytes: &[u8]) -> Result<(Instr, &[u8]), Halt>
     args(code, most, rest)
 }
 
-/// So many instructions, and the bytes behind them. Memory is taken as they are read.
+/// This many instructions, and the remaining bytes. Memory is allocated as they are read.
 fn instrs_in(
     alloc: Global,
     most: u16,
@@ -278,7 +270,7 @@ fn instrs_in(
     Ok((instrs, rest))
 }
 
-/// Instructions behind their number, and the bytes behind them.
+/// A counted list of instructions, and the remaining bytes.
 #[tactic(auto, unfolding(crate::specs::Reading::instrs_at))]
 pub fn instrs(alloc: Global, most: u16, bytes: &[u8]) -> Result<(Vec<Instr>, &[u8]), Halt>
     ensures { Gives (λ x. (x.0.items, x.1.now)) result (instrs_at most bytes.now) }

@@ -1,7 +1,7 @@
-//! Code files: compiled elements as bytes, written, read, and acting.
+//! Code files: compiled elements as bytes. They are written, read, and run as a behaviour.
 //!
-//! A code file has one spelling: numbers have fixed widths, with the greatest byte first, each
-//! list stands behind its length, and nothing follows the last element.
+//! There is only one way to spell a code file: numbers have fixed widths and are big-endian, each
+//! list comes after its length, and nothing follows the last element.
 #![tactic(auto)]
 
 mod actor;

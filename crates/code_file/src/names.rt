@@ -1,7 +1,5 @@
-//! Names from bytes.
-ghost use Rattle.std.specs.Prelude.{◌≡◌, ◌+◌, ◌<◌, bytes_eq, length, slice_index_or, take};
-ghost use Rattle.std.specs.List.{list_any};
-ghost use Rattle.ulam_lex.specs.Bytes.{is_keyword};
+//! Reading names.
+ghost use Rattle.std.specs.Prelude.{◌≡◌, ◌+◌, ◌<◌, length, slice_index_or, take};
 ghost use Rattle.code_file.specs.Reading.{Gives, letters_at, name_at};
 ghost use Rattle.code_file.specs.Words.{follows, may_end, stands, starts};
 
@@ -9,55 +7,18 @@ use crate::halt::Halt;
 use crate::numbers::number;
 use feast_base::{LONGEST_NAME, Name, is_word_byte};
 use std::alloc::Global;
+use ulam_lex::is_keyword;
 
 /// The form of a name.
 #[derive(Clone, Copy, Debug, PartialEq, Eq)]
 pub enum NameForm {
     /// The name of an element: A to Z, then letters, digits and `_`.
     OfElement,
-    /// The name of a function: a to z or `_`, then letters, digits and `_`, and no keyword.
+    /// The name of a function: a to z or `_`, then letters, digits and `_`, but not a keyword.
     OfFunction,
 }
 
-/// The words that are no names.
-const KEYWORDS: [&str; 19] = [
-    "element",
-    "quark",
-    "ulam",
-    "use",
-    "typedef",
-    "constant",
-    "if",
-    "else",
-    "while",
-    "for",
-    "return",
-    "break",
-    "continue",
-    "is",
-    "as",
-    "self",
-    "true",
-    "false",
-    "instanceof",
-];
-
-/// Whether a text is one of some words.
-fn is_among(words: &[&str], text: &[u8]) -> bool
-    ensures { result ≡ list_any (λ word. bytes_eq word.now text.now) words.now }
-{
-    words.iter().any(|word| word.as_bytes() == text)
-}
-
-/// Whether a word is a keyword.
-#[tactic(auto, unfolding(ulam_lex::specs::Bytes::keywords))]
-fn is_keyword(word: &[u8]) -> bool
-    ensures { result ≡ is_keyword word.now }
-{
-    is_among(&KEYWORDS, word)
-}
-
-/// Whether a name of a form may begin with a byte.
+/// Whether a name may begin with a byte.
 fn starts(form: NameForm, byte: u8) -> bool
     ensures { result ≡ starts form byte }
 {
@@ -67,7 +28,7 @@ fn starts(form: NameForm, byte: u8) -> bool
     }
 }
 
-/// Whether a byte may follow the others of a name.
+/// Whether a byte may follow those of a name so far.
 fn follows(form: NameForm, done: &[u8], byte: u8) -> bool
     ensures { result ≡ follows form done.now byte }
 {
@@ -77,7 +38,7 @@ fn follows(form: NameForm, done: &[u8], byte: u8) -> bool
     }
 }
 
-/// Whether a name of a form may end here.
+/// Whether a name may end here.
 fn may_end(form: NameForm, name: &[u8]) -> bool
     ensures { result ≡ may_end form name.now }
 {
@@ -87,7 +48,7 @@ fn may_end(form: NameForm, name: &[u8]) -> bool
     }
 }
 
-/// Whether the byte at a place may stand behind those before it, where so many more follow it.
+/// Whether the byte at an index is allowed after those before it, with this many still to come.
 #[tactic(auto, using(std::proofs::lemmas::List::take_more))]
 fn stands(form: NameForm, bytes: &[u8], place: usize, left: usize) -> bool
     requires { place < length bytes.now }
@@ -101,7 +62,7 @@ fn stands(form: NameForm, bytes: &[u8], place: usize, left: usize) -> bool
     }
 }
 
-/// A name of so many bytes, and the bytes behind it.
+/// A name of this many bytes, and the remaining bytes.
 fn letters(form: NameForm, bytes: &[u8], count: usize) -> Result<(&[u8], &[u8]), Halt>
     ensures { Gives (λ x. (x.0.now, x.1.now)) result (letters_at form count bytes.now) }
 {
@@ -116,7 +77,7 @@ fn letters(form: NameForm, bytes: &[u8], count: usize) -> Result<(&[u8], &[u8]),
     Ok(bytes.split_at(count))
 }
 
-/// A name behind its length, and the bytes behind it.
+/// A name after its length, and the remaining bytes.
 #[tactic(auto, unfolding(crate::specs::Reading::name_at))]
 pub fn name(alloc: Global, form: NameForm, bytes: &[u8]) -> Result<(Name, &[u8]), Halt>
     ensures { Gives (λ x. (x.0, x.1.now)) result (name_at form bytes.now) }

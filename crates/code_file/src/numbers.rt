@@ -1,10 +1,11 @@
-//! Numbers from bytes, the greatest byte first.
+//! Reading big-endian numbers.
 ghost use Rattle.std.specs.Prelude.{◌≡◌, ◌≤◌, ◌<◌, ◌^◌, IfOk, pos, negsuc, ◌≤ℤ◌};
 ghost use Rattle.code_file.specs.Reading.{Gives, digit_at, is_sign, may_be, number_at, signed_at, signed_rest};
 
 use crate::halt::Halt;
 
-/// Whether the first bytes of a number lie between those of two ends, which have so many more.
+/// Whether the first bytes of a number are within those of two bounds; this many bytes are still to
+/// come.
 fn may_be(left: u32, least: u64, greatest: u64, value: u128) -> bool
     requires { left < 8 }
     ensures { result ≡ may_be left least greatest value }
@@ -12,7 +13,7 @@ fn may_be(left: u32, least: u64, greatest: u64, value: u128) -> bool
     u128::from(least >> (8 * left)) <= value && value <= u128::from(greatest >> (8 * left))
 }
 
-/// The next byte of a number, behind the value of the bytes before it; so many follow.
+/// The next byte of a number, after the value of the bytes before it; this many are still to come.
 fn digit(
     bytes: &[u8],
     left: u32,
@@ -37,7 +38,7 @@ fn digit(
     }
 }
 
-/// A number of so many bytes between two ends, and the bytes behind it.
+/// A number of this many bytes between two bounds, and the remaining bytes.
 pub fn number(bytes: &[u8], width: u32, least: u64, greatest: u64) -> Result<(u64, &[u8]), Halt>
     requires { width ≤ 8 }
     ensures gives { Gives (λ x. (x.0, x.1.now)) result (number_at width least greatest bytes.now) }
@@ -53,7 +54,7 @@ pub fn number(bytes: &[u8], width: u32, least: u64, greatest: u64) -> Result<(u6
     Ok((value, rest))
 }
 
-/// A number of 8 bytes behind the byte of its sign, and the bytes behind it.
+/// A number of 8 bytes after its sign byte, and the remaining bytes.
 fn signed_rest(sign: u8, bytes: &[u8]) -> Result<(i128, &[u8]), Halt>
     ensures { Gives (λ x. (x.0, x.1.now)) result (signed_rest sign bytes.now) }
 {
@@ -66,7 +67,7 @@ fn signed_rest(sign: u8, bytes: &[u8]) -> Result<(i128, &[u8]), Halt>
     }
 }
 
-/// A number in nine bytes of two's complement, and the bytes behind it.
+/// A number in nine bytes, in two's complement, and the remaining bytes.
 #[tactic(auto, unfolding(crate::specs::Reading::signed_at))]
 pub fn signed(bytes: &[u8]) -> Result<(i128, &[u8]), Halt>
     ensures { Gives (λ x. (x.0, x.1.now)) result (signed_at bytes.now) }

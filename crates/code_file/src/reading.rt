@@ -1,4 +1,4 @@
-//! Code files read.
+//! Reading code files.
 ghost use Rattle.std.specs.Prelude.{◌≡◌, ◌↔◌, [], IsTrue, IfOk, length, take, Result};
 ghost use Rattle.code_file.specs.Form.{CodesValue, elements, magic};
 ghost use Rattle.code_file.specs.Judging.{Admits, Answers, IsWithin, Reads, Tells, column_behind, fault_of, is_among, judged};
@@ -29,7 +29,7 @@ fn is_among(name: &Name, names: &[Name]) -> bool
     names.iter().any(|other| other.bytes() == name.bytes())
 }
 
-/// The first byte, counted from 1, of the element that stands behind these.
+/// The position of the first byte of the element after these, counted from 1.
 fn column_behind(alloc: Global, names: &[Name], codes: &[Code]) -> Result<u64, NoMemory>
     requires { length names.now ≡ length codes.now }
     ensures { IfOk result (λ column. column ≡ column_behind (elements names.now codes.now)) }
@@ -39,7 +39,7 @@ fn column_behind(alloc: Global, names: &[Name], codes: &[Code]) -> Result<u64, N
     Ok(before.len() as u64 + 11)
 }
 
-/// Takes an element in behind others, where it has another name and its code is valid.
+/// Adds an element to others, if its name is new and its code is valid.
 fn admit(
     alloc: Global,
     names: &mut Vec<Name>,
@@ -68,8 +68,8 @@ fn admit(
     }
 }
 
-/// The set of elements, or the refusal of the first one that has the name of an earlier one or
-/// whose code is not valid.
+/// The set of elements, or the fault of the first one that has the name of an earlier one or whose
+/// code is not valid.
 fn judge(alloc: Global, drafts: Vec<Draft>) -> Result<CodeSet, CodeFault>
     ensures { Answers (judged [] drafts.items) result }
 {
@@ -82,7 +82,7 @@ fn judge(alloc: Global, drafts: Vec<Draft>) -> Result<CodeSet, CodeFault>
     Ok(CodeSet::new(names, codes))
 }
 
-/// The fault of a reading that stopped in these bytes.
+/// The fault for reading that stopped in these bytes.
 fn fault_of(bytes: &[u8], halt: Halt) -> CodeFault
     requires { IsWithin halt (length bytes.now) }
     ensures { result ≡ fault_of (length bytes.now) halt }
@@ -93,13 +93,13 @@ fn fault_of(bytes: &[u8], halt: Halt) -> CodeFault
     }
 }
 
-/// The elements that the bytes of a code file say.
+/// The elements of a code file.
 ///
 /// # Errors
-/// `BadMagic` where the first 8 bytes are not those of a code file. `BadForm` where no code file
-/// has the bytes. Then, element by element, `SameName` where it has an earlier one's name, and
-/// `NotValid` where its code is not valid. `NoMemory` where the elements can't be kept; memory is
-/// taken for what was read, whatever number of elements, functions or instructions is told.
+/// `BadMagic` if the first 8 bytes are not those of a code file. `BadForm` if the bytes spell no code
+/// file. Then, element by element, `SameName` if it has the name of an earlier one, and `NotValid`
+/// if its code is not valid. `NoMemory` if memory runs out; memory is allocated for what was read,
+/// whatever number of elements, functions or instructions the file announces.
 pub fn read(alloc: Global, bytes: &[u8]) -> Result<CodeSet, CodeFault>
     // The answer is an outcome of the reading, unless memory is wanted.
     ensures tells { Tells bytes.now result }

@@ -1,4 +1,4 @@
-//! The elements that a code file says.
+//! The elements of a code file.
 ghost use Rattle.std.specs.Prelude.{◌≡◌, length};
 ghost use Rattle.code_file.specs.Form.{codes_of, elements, names_of};
 
@@ -6,7 +6,7 @@ use feast_base::Name;
 use stack_code::Code;
 use std::marker::Model;
 
-/// The elements that a code file says, each with a name and a code. The first has type number 1.
+/// The elements of a code file, each with a name and a code. The first has type number 1.
 #[derive(Drop)]
 pub struct CodeSet {
     names: Vec<Name>,
@@ -25,7 +25,7 @@ impl Model for CodeSet {
 }
 
 impl CodeSet {
-    /// The elements of these names and codes.
+    /// Elements with these names and codes.
     pub(crate) fn new(names: Vec<Name>, codes: Vec<Code>) -> CodeSet
         requires { length names.items ≡ length codes.items }
         ensures { result ≡ elements names.items codes.items }
@@ -41,7 +41,7 @@ impl CodeSet {
         self.names.as_slice()
     }
 
-    /// The codes of the elements, as many as names and in the same order.
+    /// The codes of the elements, as many as there are names and in the same order.
     #[tactic(auto, using(crate::proofs::Sets::codes_are))]
     pub fn codes(&self) -> &[Code]
         ensures { result.now ≡ codes_of self.now }

@@ -1,4 +1,4 @@
-//! Code files written.
+//! Writing code files.
 ghost use Rattle.std.specs.Prelude.{◌≡◌, ◌++◌, length};
 ghost use Rattle.std.specs.List.{flat_map};
 ghost use Rattle.feast_base.specs.Appending.{Appends};
@@ -12,7 +12,7 @@ use feast_base::text::push;
 use feast_base::{Name, NoMemory};
 use stack_code::{Answer, Code, Operand, RawFunction};
 
-/// The byte of what a slot holds.
+/// The byte for the kind of a slot.
 fn operand_code(operand: Operand) -> u8
     ensures { result ≡ operand_code operand }
 {
@@ -22,7 +22,7 @@ fn operand_code(operand: Operand) -> u8
     }
 }
 
-/// The byte of what a function gives back.
+/// The byte for the result of a function.
 fn answer_code(answer: Answer) -> u8
     ensures { result ≡ answer_code answer }
 {
@@ -43,7 +43,7 @@ fn push_each_slot(out: &mut Vec<u8>, slots: &[Operand]) -> Result<(), NoMemory>
     Ok(())
 }
 
-/// Appends slots behind their number.
+/// Appends slots after their count.
 fn push_slots(out: &mut Vec<u8>, slots: &[Operand]) -> Result<(), NoMemory>
     ensures { Appends out.old.items out.new.items result (counted 1 slot_bytes slots.now) }
 {
@@ -73,7 +73,7 @@ fn push_each_function(out: &mut Vec<u8>, functions: &[RawFunction]) -> Result<()
     Ok(())
 }
 
-/// Appends functions behind their number.
+/// Appends functions after their count.
 fn push_functions(out: &mut Vec<u8>, functions: &[RawFunction]) -> Result<(), NoMemory>
     ensures { Appends out.old.items out.new.items result (counted 4 function_bytes functions.now) }
 {
@@ -101,12 +101,11 @@ pub fn push_elements(out: &mut Vec<u8>, names: &[Name], codes: &[Code]) -> Resul
     Ok(())
 }
 
-/// Appends the code file of elements with these names and codes, of which the first has type
-/// number 1: the one spelling of them. `NoMemory` where `out` can't grow; what it had stays in
-/// front.
+/// Appends the code file of elements with these names and codes. The first has type number 1.
+/// `NoMemory` if `out` can't grow; what it held before stays at its front.
 ///
-/// `read` reads the file again where the names differ, each number is in its range and no code
-/// makes an atom of a type that has no name here.
+/// `read` reads the file back if the names differ, each number is in range and no code makes an atom
+/// of a type that has no name here.
 pub fn write(names: &[Name], codes: &[Code], out: &mut Vec<u8>) -> Result<(), NoMemory>
     requires { length names.now ≡ length codes.now }
     ensures { Appends out.old.items out.new.items result (file_bytes (elements names.now codes.now)) }

@@ -1,4 +1,4 @@
-//! Instructions to bytes.
+//! Writing instructions.
 ghost use Rattle.std.specs.Prelude.{◌≡◌, ◌++◌};
 ghost use Rattle.std.specs.List.{flat_map};
 ghost use Rattle.feast_base.specs.Appending.{Appends};
@@ -10,7 +10,7 @@ use feast_base::NoMemory;
 use sat_math::Kind;
 use stack_code::Instr;
 
-/// The byte of an instruction's name.
+/// The opcode of an instruction.
 fn opcode(instr: Instr) -> u8
     ensures { result ≡ opcode instr }
 {
@@ -83,7 +83,7 @@ fn opcode(instr: Instr) -> u8
     }
 }
 
-/// The byte of a kind of numbers.
+/// The byte for a kind of number.
 fn kind_code(kind: Kind) -> u8
     ensures { result ≡ kind_code kind }
 {
@@ -117,7 +117,7 @@ fn push_type(out: &mut Vec<u8>, kind: u16) -> Result<(), NoMemory>
     push_number(out, u128::from(kind), 2)
 }
 
-/// Appends a field: its first bit, its width, its kind.
+/// Appends a field: its first bit, its width and its kind.
 fn push_field(out: &mut Vec<u8>, first: u8, width: u8, kind: Kind) -> Result<(), NoMemory>
     ensures { Appends out.old.items out.new.items result (field_bytes first width kind) }
 {
@@ -202,7 +202,7 @@ fn push_each(out: &mut Vec<u8>, instrs: &[Instr]) -> Result<(), NoMemory>
     Ok(())
 }
 
-/// Appends instructions behind their number.
+/// Appends instructions after their count.
 pub fn push_instrs(out: &mut Vec<u8>, instrs: &[Instr]) -> Result<(), NoMemory>
     ensures { Appends out.old.items out.new.items result (counted 4 instr_bytes instrs.now) }
 {

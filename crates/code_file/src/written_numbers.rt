@@ -1,4 +1,4 @@
-//! Numbers to bytes, the greatest byte first.
+//! Writing big-endian numbers.
 ghost use Rattle.std.specs.Prelude.{◌≡◌, ◌*◌, ◌/◌, ◌%◌, ◌^◌, ◌≤◌, ◌<◌, ◌++◌, length};
 ghost use Rattle.feast_base.specs.Appending.{Appends};
 ghost use Rattle.code_file.specs.Numbers.{be, name_bytes, signed};
@@ -6,7 +6,7 @@ ghost use Rattle.code_file.specs.Numbers.{be, name_bytes, signed};
 use feast_base::text::push;
 use feast_base::{Name, NoMemory};
 
-/// The byte of a number at a place, of which place 0 is the lowest.
+/// The byte of a number at a place. Place 0 is the lowest.
 fn byte_of(n: u128, place: u32) -> u8
     requires { place < 8 }
     ensures { result ≡ n / 2 ^ (8 * place) % 256 }
@@ -14,7 +14,7 @@ fn byte_of(n: u128, place: u32) -> u8
     ((n >> (8 * place)) % 256) as u8
 }
 
-/// Appends the low bytes of a number, so many.
+/// Appends this many low bytes of a number.
 pub fn push_number(out: &mut Vec<u8>, n: u128, width: u32) -> Result<(), NoMemory>
     requires { width ≤ 8 }
     ensures { Appends out.old.items out.new.items result (be width n) }
@@ -25,7 +25,7 @@ pub fn push_number(out: &mut Vec<u8>, n: u128, width: u32) -> Result<(), NoMemor
     Ok(())
 }
 
-/// Appends a number in nine bytes of two's complement.
+/// Appends a number in nine bytes, in two's complement.
 pub fn push_signed(out: &mut Vec<u8>, n: i128) -> Result<(), NoMemory>
     ensures { Appends out.old.items out.new.items result (signed n) }
 {
@@ -42,7 +42,7 @@ pub fn push_signed(out: &mut Vec<u8>, n: i128) -> Result<(), NoMemory>
     }
 }
 
-/// Appends a name behind its length.
+/// Appends a name after its length.
 pub fn push_name(out: &mut Vec<u8>, name: &Name) -> Result<(), NoMemory>
     ensures { Appends out.old.items out.new.items result (name_bytes name.now) }
 {

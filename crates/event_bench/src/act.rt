@@ -1,11 +1,11 @@
-//! What acts in the bench.
+//! The behaviour in this bench.
 ghost use Rattle.event_bench.specs.Turned.{after_turn, idle-turn};
 
 use bit_field::Atom;
 use cell_grid::Behave;
 use window_sites::Window;
 
-/// Exchanges the centre and its eastern neighbour, unless the centre is empty.
+/// Swaps the centre and its eastern neighbour, unless the centre is empty.
 #[derive(Clone, Copy)]
 pub struct Turn;
 

@@ -1,5 +1,5 @@
-//! How long events take: for some ways to fill a grid and to choose centres, the events of one
-//! million attempts, made once and counted without a word, and timed with the word `time`.
+//! A bench of events: for some ways to fill a grid and to choose centres, the events of one million
+//! attempts. Without an argument it makes them once, to be counted; with `time` it times them.
 #![tactic(auto)]
 
 ghost use Rattle.std.specs.Prelude.{◌≤◌};
@@ -18,16 +18,16 @@ use std::time::Instant;
 use std::{env, io};
 use window_sites::Window;
 
-/// How many columns and rows the grid has.
+/// The number of columns and of rows of the grid.
 const SIDE: u32 = 64;
 
-/// How many events are made.
+/// The number of events.
 const EVENTS: u32 = 1_000_000;
 
-/// How many of them are timed at once.
+/// The number of events that are timed together.
 const PART: usize = 20_000;
 
-/// One site in `every` has an atom.
+/// A grid in which one site in `every` has an atom.
 fn filled(alloc: Global, every: u32) -> Result<Grid, NoMemory>
     requires { 1 ≤ every }
 {
@@ -41,7 +41,7 @@ fn filled(alloc: Global, every: u32) -> Result<Grid, NoMemory>
     Ok(grid)
 }
 
-/// The attempts, of centres in a square of `side` columns and rows.
+/// The attempts. Their centres lie in a square of `side` columns and rows.
 fn drawn(alloc: Global, side: u32) -> Result<Vec<Attempt>, NoMemory>
     requires some { 1 ≤ side }
     requires most { side ≤ 64 }
@@ -59,7 +59,7 @@ fn drawn(alloc: Global, side: u32) -> Result<Vec<Attempt>, NoMemory>
     Ok(attempts)
 }
 
-/// Makes the events of the attempts, whose square lies in the middle of the grid.
+/// Makes the events of the attempts. Their square lies in the middle of the grid.
 fn make(grid: &mut Grid, attempts: &[Attempt], side: u32)
     requires some { 1 ≤ side }
     requires most { side ≤ 64 }
@@ -75,7 +75,7 @@ fn make(grid: &mut Grid, attempts: &[Attempt], side: u32)
     }
 }
 
-/// The sum of the places of the sites that are occupied.
+/// The sum of the indices of the occupied sites.
 fn places(grid: &Grid) -> u64 {
     let empty = Atom::new(0, 0);
     let mut sum = 0u64;
@@ -87,7 +87,7 @@ fn places(grid: &Grid) -> u64 {
     sum
 }
 
-/// The least time of some parts of the attempts, in picoseconds an event.
+/// The shortest time per event over all parts, in picoseconds.
 fn picoseconds(
     clock: &impl Clock,
     grid: &mut Grid,

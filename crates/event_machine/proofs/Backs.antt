@@ -1,6 +1,7 @@
 -- A return does not see the operands that are left.
-use Rattle.std.proofs.Common.{◌≡◌, ◌<◌, ◌≤◌, ℕ, zero, suc, List, [], ◌∷◌, length, get_or, Some, None, refl, sym, ap, ◌∙◌, subst, arith}
+use Rattle.std.proofs.Common.{◌≡◌, ◌≤◌, ℕ, List, [], ◌∷◌, length, None, refl, sym, ap, ◌∙◌, subst}
 use Rattle.std.specs.Prelude.{slice_get}
+use Rattle.std.proofs.lemmas.Option.{slice_get_past}
 use Rattle.event_machine.specs.Works.{StepsTo}
 use Rattle.event_machine.specs.declared.ending.Leads.{Leads}
 use Rattle.datum.specs.declared.Datum.{Datum}
@@ -21,19 +22,6 @@ back_like s t given new r a b h =
     let e : back s given s.below ≡ back t given t.below = ap (back s given) b ∙ back_from s t given t.below a in
     subst (λ l. StepsTo l new r) e h
 
-get_at : {A : Type 0} (xs : List A) (i : ℕ) (x : A) → i < length xs → ((d : A) → x ≡ get_or xs i d) → slice_get xs i ≡ Some x
-get_at [] i x lt f = absurd (omega arith)
-get_at (y ∷ xs) zero x lt f = ap Some (sym (f y))
-get_at (y ∷ xs) (suc i) x lt f = get_at xs i x (omega arith) f
-
-get_past : {A : Type 0} (xs : List A) (i : ℕ) → length xs ≤ i → slice_get xs i ≡ None
-get_past [] i le = refl
-get_past (y ∷ xs) zero le = absurd (omega arith)
-get_past (y ∷ xs) (suc i) le = get_past xs i (omega arith)
-
--- what a lookup in a list of this contents found
-pub get_some : {A : Type 0} (xs ys : List A) (i : ℕ) (x : A) → xs ≡ ys → i < length xs → ((d : A) → x ≡ get_or xs i d) → slice_get ys i ≡ Some x
-get_some xs ys i x e lt f = ap (λ l. slice_get l i) (sym e) ∙ get_at xs i x lt f
-
+-- what a lookup in a list of this contents did not find
 pub get_none : {A : Type 0} (xs ys : List A) (i : ℕ) → xs ≡ ys → length xs ≤ i → slice_get ys i ≡ None
-get_none xs ys i e le = ap (λ l. slice_get l i) (sym e) ∙ get_past xs i le
+get_none xs ys i e le = ap (λ l. slice_get l i) (sym e) ∙ slice_get_past xs i le

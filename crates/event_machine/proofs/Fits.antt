@@ -12,16 +12,13 @@ use Rattle.sat_math.specs.declared.Arith.TheVariants.{Int32, Unsigned32, Int64, 
 use Rattle.sat_math.specs.Numbers.{IsNumType, IsNumber, IsInRange, least_width, greatest_width}
 use Rattle.sat_math.specs.Operations.{type_of}
 use Rattle.stack_code.specs.Valid.{type_fits, field_fits, number_fits}
+use Rattle.stack_code.proofs.Passes.{if_true}
 use Rattle.event_machine.specs.Works.{FieldFits}
-
-both : (b c : Bool) → (if b then c else false) ≡ true → (b ≡ true) × (c ≡ true)
-both true c e = (refl, e)
-both false c e = cc
 
 -- a type that fits is a type
 pub type_is : (t : NumType) → type_fits t ≡ true → IsNumType t
 type_is t e =
-    let b = both (nat_le (least_width t.kind) t.width) (nat_le t.width (greatest_width t.kind)) e in
+    let b = if_true (nat_le (least_width t.kind) t.width) (nat_le t.width (greatest_width t.kind)) e in
     record { wide_enough = leb-true (least_width t.kind) t.width b.0; narrow_enough = leb-true t.width (greatest_width t.kind) b.1 }
 
 pub type_narrow : (t : NumType) → IsNumType t → t.width ≤ 64
@@ -46,8 +43,8 @@ type_some t h = some_at t.kind t.width h
 
 pub field_is : (f : ℕ) (t : NumType) (n : ℕ) → field_fits f t n ≡ true → FieldFits f t n
 field_is f t n e =
-    let b = both (type_fits t) (if nat_le 1 n then nat_le (f + n * t.width) 71 else false) e in
-    let d = both (nat_le 1 n) (nat_le (f + n * t.width) 71) b.1 in
+    let b = if_true (type_fits t) (if nat_le 1 n then nat_le (f + n * t.width) 71 else false) e in
+    let d = if_true (nat_le 1 n) (nat_le (f + n * t.width) 71) b.1 in
     record { type = type_is t b.0; some = leb-true 1 n d.0; within = leb-true (f + n * t.width) 71 d.1 }
 
 range_at : (k : Kind) (n : ℕ) (v : ℤ) → IsNumType (record { kind = k; width = n }) → IsInRange (record { kind = k; width = n }) v → IsNumber v

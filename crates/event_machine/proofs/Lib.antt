@@ -1,5 +1,5 @@
 pub mod Fits
-pub mod Piles
+pub mod Operands
 pub mod Slots
 pub mod Backs
 pub mod Running

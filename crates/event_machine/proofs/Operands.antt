@@ -1,4 +1,4 @@
--- The topmost operands of a pile.
+-- The topmost operands of a stack.
 use Rattle.std.proofs.Common.{◌≡◌, ℕ, ◌-◌, ◌≤◌, List, [], ◌∷◌, ◌++◌, length, take, drop, refl, sym, ap, ◌∙◌, arith}
 use Rattle.std.specs.Prelude.{reverse}
 use Rattle.std.proofs.lemmas.List.{reverse-append, take-append-drop, length-reverse, length-drop, reverse-reverse}

@@ -1,4 +1,4 @@
-//! What the running function has: its operands and slots, the window and the random words.
+//! The activation of the running function.
 
 ghost use Rattle.std.specs.Prelude.{◌≡◌, ◌<◌, ◌≤◌, ◌+◌, ℤ, List, [], ◌∷◌, length, IfSome, MatchOption, slice_get, slice_set};
 ghost use Rattle.bit_field.specs.Atom.{AtomValue};
@@ -7,45 +7,45 @@ ghost use Rattle.datum.specs.declared.Datum.{Datum};
 ghost use Rattle.datum.specs.declared.Datum.TheVariants.{Number as ANumber, Atom as AnAtom};
 ghost use Rattle.event_machine.specs.Works.{with_any, with_one, with_lead, with_two, with_atom};
 
-use crate::operands::Pile;
+use crate::operands::OperandStack;
 use bit_field::Atom;
 use datum::{Datum, Number};
 use draw_stream::EventDraws;
 use std::marker::Model;
 use window_sites::Window;
 
-/// The operands and slots of the running function, a window of its own to work on, and the
-/// generator of the event's random words.
+/// The activation of the running function: its operands and slots, the event's copy of the window,
+/// and the generator of the event's random words.
 #[derive(Drop)]
-pub struct Hand {
-    pub(crate) pile: Pile,
+pub struct Activation {
+    pub(crate) operands: OperandStack,
     pub(crate) slots: Vec<Datum>,
     pub(crate) window: Window,
     pub(crate) draws: EventDraws,
 }
 
-impl Model for Hand {
+impl Model for Activation {
     ghost use Rattle.std.specs.Prelude.{◌≤◌, vec_capacity};
     ghost use Rattle.stack_code.specs.Machine.{Held};
 
     ghost Value = { Held };
 
-    ghost view = { λ h. record { stack = h.pile; slots = h.slots.items; window = h.window; words = h.draws } };
+    ghost view = { λ a. record { stack = a.operands; slots = a.slots.items; window = a.window; words = a.draws } };
 
-    ghost invariant = { λ h. 72 ≤ vec_capacity h.slots };
+    ghost invariant = { λ a. 72 ≤ vec_capacity a.slots };
 }
 
-impl Hand {
-    /// Puts an operand on top.
+impl Activation {
+    /// Pushes an operand.
     #[inline(always)]
     pub fn push(&mut self, x: Datum)
         requires { length self.old.stack < 513 }
         ensures { self.new ≡ record self.old { stack = x ∷ self.old.stack } }
     {
-        self.pile.push(x);
+        self.operands.push(x);
     }
 
-    /// Takes the topmost operand, if there is one.
+    /// Pops an operand, if there is one.
     #[inline(always)]
     pub fn any(&mut self) -> Option<Datum>
         ensures takes { (go : Datum → List Datum → Led Held) → on_top self.old.stack go ≡ with_any result self.new.stack go }
@@ -53,10 +53,10 @@ impl Hand {
         ensures kept { self.new ≡ record self.old { stack = self.new.stack } }
         ensures room { length self.new.stack ≤ length self.old.stack }
     {
-        self.pile.take()
+        self.operands.take()
     }
 
-    /// Takes the topmost operand, if it is a number.
+    /// Pops an operand, if it is a number.
     #[inline(always)]
     pub fn number(&mut self) -> Option<Number>
         ensures takes { (go : ℤ → List Datum → Led Held) → on_number self.old.stack go ≡ with_one result self.new.stack go }
@@ -64,26 +64,26 @@ impl Hand {
         ensures kept { self.new ≡ record self.old { stack = self.new.stack } }
         ensures room { IfSome result (λ v. length self.new.stack + 1 ≡ length self.old.stack) }
     {
-        match self.pile.take()? {
+        match self.operands.take()? {
             Datum::Number(v) => Some(v),
             Datum::Atom(_) => None,
         }
     }
 
-    /// Takes the topmost operand, if it is an atom.
+    /// Pops an operand, if it is an atom.
     #[inline(always)]
     pub fn atom(&mut self) -> Option<Atom>
         ensures takes { (go : AtomValue → List Datum → Led Held) → on_atom self.old.stack go ≡ with_atom result self.new.stack go }
         ensures kept { self.new ≡ record self.old { stack = self.new.stack } }
         ensures room { IfSome result (λ v. length self.new.stack + 1 ≡ length self.old.stack) }
     {
-        match self.pile.take()? {
+        match self.operands.take()? {
             Datum::Number(_) => None,
             Datum::Atom(a) => Some(a),
         }
     }
 
-    /// Takes the two topmost operands, if they are numbers. The second was on top.
+    /// Pops two operands, if they are numbers. The second one was on top.
     #[inline(always)]
     pub fn two(&mut self) -> Option<(Number, Number)>
         ensures takes { (go : ℤ → ℤ → List Datum → Led Held) → on_numbers self.old.stack go ≡ with_two result self.new.stack go }
@@ -95,7 +95,7 @@ impl Hand {
         Some((a, b))
     }
 
-    /// The atom at the centre, if it has the acting type.
+    /// The atom at the centre, if it is of the acting type.
     #[inline(always)]
     pub fn own(&self, kind: u16) -> Option<Atom>
         ensures { result ≡ own_of kind self.now.window }
@@ -108,7 +108,7 @@ impl Hand {
         }
     }
 
-    /// What a slot holds, if there is such a slot.
+    /// The value of a slot, if there is such a slot.
     #[inline(always)]
     pub fn slot(&self, s: u8) -> Option<Datum>
         ensures { result ≡ slice_get self.now.slots s }
@@ -119,7 +119,7 @@ impl Hand {
         }
     }
 
-    /// The atom that a slot holds, if it holds one.
+    /// The atom in a slot, if the slot holds one.
     #[inline(always)]
     pub fn slot_atom(&self, s: u8) -> Option<Atom>
         ensures { result ≡ atom_in (slice_get self.now.slots s) }
@@ -130,7 +130,7 @@ impl Hand {
         }
     }
 
-    /// Writes a slot, if there is such a slot.
+    /// Sets a slot, if there is such a slot.
     #[inline(always)]
     pub fn set_slot(&mut self, s: u8, x: Datum)
         ensures { self.new ≡ record self.old { slots = slice_set self.old.slots s x } }

@@ -1,26 +1,27 @@
-//! Where instructions lead, and how events end.
+//! What follows an instruction, and how an event ends.
 
 /// How an event ended.
 #[derive(Clone, Copy, Debug, PartialEq, Eq)]
 pub enum Ended {
-    /// The code came to its end.
+    /// The code ran to its end.
     Done,
-    /// The code failed, with a number from 1 to 7: 1 no turn is left, 2 calls nested too deep,
-    /// 3 division by 0, 4 no such site, 5 a bound of a random number below 1, 6 the centre is no
-    /// longer of the acting type, 7 no such element of an array.
+    /// The code failed, with a number from 1 to 7: 1 for no turn left, 2 for calls nested too deep,
+    /// 3 for division by 0, 4 for a site that does not exist, 5 for a random number with a bound
+    /// below 1, 6 for a centre that is no longer of the acting type, 7 for an array index out of
+    /// range.
     Failed(u8),
 }
 
-/// Where an instruction leads.
+/// What follows an instruction.
 #[derive(Clone, Copy, Debug, PartialEq, Eq)]
 pub enum Leads {
-    /// To another instruction.
+    /// Another instruction.
     On,
-    /// To a failure.
+    /// A failure.
     Fail(u8),
-    /// To the end of the event.
+    /// The end of the event.
     Done,
-    /// Nowhere, for want of an operand, a slot, an instruction or a function. Valid code never
-    /// comes here.
+    /// Nothing: an operand, a slot, an instruction or a function is missing. This never happens in
+    /// valid code.
     Want,
 }

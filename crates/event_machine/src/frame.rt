@@ -1,11 +1,11 @@
-//! The functions that wait for the one that they called, and how a function begins.
+//! The frames of waiting functions, and how a function begins and returns.
 
 ghost use Rattle.std.specs.Prelude.{◌≡◌, ◌≤◌, ◌+◌, ◌++◌, [], length, map, take, drop, reverse, vec_len, vec_capacity};
 ghost use Rattle.stack_code.specs.Machine.{fill, fresh};
 ghost use Rattle.draw_stream.specs.Words.{event_state};
 
-use crate::hand::Hand;
-use crate::operands::{Pile, reserve};
+use crate::activation::Activation;
+use crate::operands::{OperandStack, reserve};
 use bit_field::Atom;
 use datum::{Datum, Number};
 use draw_stream::EventDraws;
@@ -19,39 +19,40 @@ use window_sites::Window;
 /// The most slots of a function.
 pub const MOST_SLOTS: usize = 72;
 
-/// The place of a function that waits: where it goes on, its operands and its slots.
+/// The frame of a function that waits for the one it called: where it continues, its operands and
+/// its slots.
 #[derive(Drop)]
-pub struct Seat {
+pub struct Frame {
     pub(crate) place: usize,
-    pub(crate) pile: Pile,
+    pub(crate) operands: OperandStack,
     pub(crate) slots: Vec<Datum>,
 }
 
-impl Model for Seat {
+impl Model for Frame {
     ghost use Rattle.std.specs.Prelude.{◌≤◌, length, vec_capacity};
-    ghost use Rattle.stack_code.specs.Machine.{Frame};
+    ghost use Rattle.stack_code.specs.Machine.{Frame as FrameValue};
 
-    ghost Value = { Frame };
+    ghost Value = { FrameValue };
 
-    ghost view = { λ s. record { place = s.place; stack = s.pile; slots = s.slots.items } };
+    ghost view = { λ f. record { place = f.place; stack = f.operands; slots = f.slots.items } };
 
-    ghost invariant = { λ s. (length s.pile ≤ 512) × (72 ≤ vec_capacity s.slots) };
+    ghost invariant = { λ f. (length f.operands ≤ 512) × (72 ≤ vec_capacity f.slots) };
 }
 
-impl Seat {
-    /// A seat with all the memory that a function needs. `NoMemory` where it is refused.
-    pub fn new(alloc: Global) -> Result<Seat, NoMemory> {
-        let pile = Pile::new(alloc)?;
+impl Frame {
+    /// A frame with all the memory that a function needs. `NoMemory` if it is not available.
+    pub fn new(alloc: Global) -> Result<Frame, NoMemory> {
+        let operands = OperandStack::new(alloc)?;
         let slots = reserve(alloc, MOST_SLOTS)?;
-        Ok(Seat {
+        Ok(Frame {
             place: 0,
-            pile,
+            operands,
             slots,
         })
     }
 }
 
-/// What a slot holds at first: 0, or the empty atom.
+/// The first value of a slot of this kind: 0 or the empty atom.
 fn filled(kind: Operand) -> Datum
     ensures { result ≡ fill kind }
 {
@@ -61,7 +62,7 @@ fn filled(kind: Operand) -> Datum
     }
 }
 
-/// Appends what slots of these kinds hold at first.
+/// Appends the first values of slots of these kinds.
 fn fill(slots: &mut Vec<Datum>, kinds: &[Operand])
     requires { vec_len slots.old + length kinds.now ≤ vec_capacity slots.old }
     ensures items { slots.new.items ≡ slots.old.items ++ map fill kinds.now }
@@ -72,44 +73,44 @@ fn fill(slots: &mut Vec<Datum>, kinds: &[Operand])
     }
 }
 
-impl Hand {
-    /// Begins a function, whose arguments are the topmost operands. The caller waits in the seat,
-    /// to go on at a place.
+impl Activation {
+    /// Begins a function. Its arguments are the topmost operands. The caller waits in the frame and
+    /// will continue at `place`.
     #[tactic(auto, using(crate::proofs::Slots::fresh_filled))]
-    pub fn pass(&mut self, function: &RawFunction, seat: &mut Seat, place: usize)
+    pub fn pass(&mut self, function: &RawFunction, frame: &mut Frame, place: usize)
         requires args { function.now.params ≤ length self.old.stack }
         requires slots { function.now.params ≤ length function.now.slots }
         requires few { length function.now.slots ≤ 72 }
         requires room { length self.old.stack ≤ 512 }
         ensures begun { self.new ≡ record self.old { stack = []; slots = fresh (reverse (take function.now.params self.old.stack)) function.now.slots } }
-        ensures waits { seat.new ≡ record { place = place; stack = drop function.now.params self.old.stack; slots = self.old.slots } }
+        ensures waits { frame.new ≡ record { place = place; stack = drop function.now.params self.old.stack; slots = self.old.slots } }
     {
         let params = function.params() as usize;
-        seat.pile.clear();
-        seat.slots.clear();
-        self.pile.hand_over(params, &mut seat.slots);
-        fill(&mut seat.slots, &function.slots()[params..]);
-        mem::swap(&mut self.pile, &mut seat.pile);
-        mem::swap(&mut self.slots, &mut seat.slots);
-        seat.place = place;
+        frame.operands.clear();
+        frame.slots.clear();
+        self.operands.hand_over(params, &mut frame.slots);
+        fill(&mut frame.slots, &function.slots()[params..]);
+        mem::swap(&mut self.operands, &mut frame.operands);
+        mem::swap(&mut self.slots, &mut frame.slots);
+        frame.place = place;
     }
 
-    /// Goes on with the function that waits in the seat.
-    pub fn resume(&mut self, seat: &mut Seat)
+    /// Continues the function that waits in the frame.
+    pub fn resume(&mut self, frame: &mut Frame)
         requires { length self.old.stack ≤ 512 }
-        ensures back { self.new ≡ record self.old { stack = seat.old.stack; slots = seat.old.slots } }
+        ensures back { self.new ≡ record self.old { stack = frame.old.stack; slots = frame.old.slots } }
         ensures room { length self.new.stack ≤ 512 }
     {
-        mem::swap(&mut self.pile, &mut seat.pile);
-        mem::swap(&mut self.slots, &mut seat.slots);
+        mem::swap(&mut self.operands, &mut frame.operands);
+        mem::swap(&mut self.slots, &mut frame.slots);
     }
 
-    /// Begins an event, with slots of these kinds.
+    /// Begins an event with slots of these kinds.
     pub fn begin(&mut self, slots: &[Operand], window: &Window, seed: u64)
         requires { length slots.now ≤ 72 }
         ensures { self.new ≡ record { stack = []; slots = map fill slots.now; window = window.now; words = event_state seed 0 } }
     {
-        self.pile.clear();
+        self.operands.clear();
         self.slots.clear();
         fill(&mut self.slots, slots);
         self.window = *window;
@@ -117,15 +118,15 @@ impl Hand {
     }
 }
 
-/// Gives back all seats.
-pub fn recover(waiting: &mut Vec<Seat>, spare: &mut Vec<Seat>)
+/// Moves all waiting frames to the spare ones.
+pub fn recover(waiting: &mut Vec<Frame>, spare: &mut Vec<Frame>)
     requires { vec_len waiting.old + vec_len spare.old ≤ vec_capacity spare.old }
     ensures none { waiting.new.items ≡ [] }
     ensures sum { vec_len spare.new ≡ vec_len waiting.old + vec_len spare.old }
     ensures waiting_room { vec_capacity waiting.new ≡ vec_capacity waiting.old }
     ensures spare_room { vec_capacity spare.new ≡ vec_capacity spare.old }
 {
-    while let Some(seat) = waiting.pop() {
-        spare.push_reserved(seat);
+    while let Some(frame) = waiting.pop() {
+        spare.push_reserved(frame);
     }
 }

@@ -1,14 +1,15 @@
-//! The machine that runs an event's code over a window.
+//! The machine that runs an event's code on a window.
 #![tactic(auto)]
 
+mod activation;
 mod dispatch;
 mod ending;
-mod hand;
+mod fields;
+mod frame;
 mod machine;
 mod numbers;
 mod operands;
 mod plain;
-mod seat;
 
 pub use ending::Ended;
 pub use machine::Machine;

@@ -1,4 +1,4 @@
-//! The machine: the running function, and the functions that wait.
+//! The machine: the running function and the functions that wait.
 
 ghost use Rattle.std.specs.Prelude.{◌≡◌, ◌<◌, ◌≤◌, ◌+◌, ◌*◌, ◌^◌, ℕ, length, ◌-◌, min, true, false, IfOk, vec_len, vec_capacity, Some};
 ghost use Rattle.window_sites.specs.Window.{live_at, atom_at};
@@ -9,11 +9,11 @@ ghost use Rattle.event_machine.specs.Works.{StepsTo, Ready, FunctionsFit, as_lis
 ghost use Rattle.event_machine.specs.Endings.{number_of, IsEnding};
 ghost use Rattle.event_machine.specs.Ticks.{Ticks};
 
+use crate::activation::Activation;
 use crate::dispatch::plain;
 use crate::ending::{Ended, Leads};
-use crate::hand::Hand;
-use crate::operands::{Pile, reserve};
-use crate::seat::{MOST_SLOTS, Seat, recover};
+use crate::frame::{Frame, MOST_SLOTS, recover};
+use crate::operands::{OperandStack, reserve};
 use bit_field::Atom;
 use datum::Datum;
 use draw_stream::EventDraws;
@@ -23,20 +23,20 @@ use std::alloc::Global;
 use std::marker::Model;
 use window_sites::Window;
 
-/// The most functions that may wait.
+/// The most functions that can wait.
 const MOST_WAITING: usize = 16;
 
-/// The turns of an event.
+/// The number of turns of an event.
 const TURNS: u32 = 1000;
 
-/// A machine that runs the code of events, one event after another, in memory that it took once.
+/// A machine that runs the code of one event after another, in memory that it allocated once.
 #[derive(Drop)]
 pub struct Machine {
     place: usize,
     turns: u32,
-    hand: Hand,
-    waiting: Vec<Seat>,
-    spare: Vec<Seat>,
+    running: Activation,
+    waiting: Vec<Frame>,
+    spare: Vec<Frame>,
 }
 
 impl Model for Machine {
@@ -45,13 +45,13 @@ impl Model for Machine {
 
     ghost Value = { State };
 
-    ghost view = { λ m. record { place = m.place; held = m.hand; below = reverse m.waiting.items; turns = m.turns } };
+    ghost view = { λ m. record { place = m.place; held = m.running; below = reverse m.waiting.items; turns = m.turns } };
 
     ghost invariant = { λ m. (vec_len m.waiting + vec_len m.spare ≡ 16) × (16 ≤ vec_capacity m.waiting) × (16 ≤ vec_capacity m.spare) };
 }
 
-/// The memory of a list of seats.
-fn reserve_seats(alloc: Global) -> Result<Vec<Seat>, NoMemory>
+/// Memory for a list of frames.
+fn reserve_frames(alloc: Global) -> Result<Vec<Frame>, NoMemory>
     ensures len { IfOk result (λ v. vec_len v ≡ 0) }
     ensures room { IfOk result (λ v. vec_capacity v ≡ 16) }
 {
@@ -61,28 +61,28 @@ fn reserve_seats(alloc: Global) -> Result<Vec<Seat>, NoMemory>
     }
 }
 
-/// Seats for all functions that may wait.
-fn seats(alloc: Global) -> Result<Vec<Seat>, NoMemory>
+/// Frames for all functions that can wait.
+fn frames(alloc: Global) -> Result<Vec<Frame>, NoMemory>
     ensures len { IfOk result (λ v. vec_len v ≡ 16) }
     ensures room { IfOk result (λ v. vec_capacity v ≡ 16) }
 {
-    let mut spare = reserve_seats(alloc)?;
+    let mut spare = reserve_frames(alloc)?;
     while spare.len() < MOST_WAITING {
-        let seat = Seat::new(alloc)?;
-        spare.push_reserved(seat);
+        let frame = Frame::new(alloc)?;
+        spare.push_reserved(frame);
     }
     Ok(spare)
 }
 
 impl Machine {
-    /// A machine with all the memory that events will need. `NoMemory` where it is refused.
+    /// A machine with all the memory that events need. `NoMemory` if it is not available.
     pub fn new(alloc: Global) -> Result<Machine, NoMemory> {
-        let pile = Pile::new(alloc)?;
+        let operands = OperandStack::new(alloc)?;
         let slots = reserve(alloc, MOST_SLOTS)?;
-        let spare = seats(alloc)?;
-        let waiting = reserve_seats(alloc)?;
-        let hand = Hand {
-            pile,
+        let spare = frames(alloc)?;
+        let waiting = reserve_frames(alloc)?;
+        let running = Activation {
+            operands,
             slots,
             window: Window::empty(),
             draws: EventDraws::new(0),
@@ -90,7 +90,7 @@ impl Machine {
         Ok(Machine {
             place: 0,
             turns: 0,
-            hand,
+            running,
             waiting,
             spare,
         })
@@ -104,7 +104,7 @@ impl Machine {
         requires place { self.old.place + 1 < 2 ^ 64 }
         ensures { StepsTo (enter self.old (Some function.now)) self.new result }
     {
-        if self.hand.pile.len() < function.params() as usize {
+        if self.running.operands.len() < function.params() as usize {
             return Leads::Want;
         }
         if self.turns == 0 {
@@ -112,42 +112,42 @@ impl Machine {
         }
         match self.spare.pop() {
             None => Leads::Fail(2),
-            Some(mut seat) => {
+            Some(mut frame) => {
                 self.turns -= 1;
-                self.hand.pass(function, &mut seat, self.place + 1);
-                self.waiting.push_reserved(seat);
+                self.running.pass(function, &mut frame, self.place + 1);
+                self.waiting.push_reserved(frame);
                 self.place = function.first() as usize;
                 Leads::On
             }
         }
     }
 
-    /// Ends a function, with what it gives back.
+    /// Returns from a function, with its result.
     fn back(&mut self, given: Option<Datum>) -> Leads
         requires { length self.old.held.stack ≤ 512 }
         ensures { StepsTo (back self.old (as_list given) self.old.below) self.new result }
     {
         match self.waiting.pop() {
             None => Leads::Done,
-            Some(mut seat) => {
-                self.place = seat.place;
-                self.hand.resume(&mut seat);
+            Some(mut frame) => {
+                self.place = frame.place;
+                self.running.resume(&mut frame);
                 if let Some(x) = given {
-                    self.hand.push(x);
+                    self.running.push(x);
                 }
-                self.spare.push_reserved(seat);
+                self.spare.push_reserved(frame);
                 Leads::On
             }
         }
     }
 
-    /// Takes a number and goes on at a place where it is 0.
+    /// Pops a number and continues at a place if it is 0.
     #[inline(always)]
     fn jump_false(&mut self, p: u32) -> Leads
         requires { self.old.place + 1 < 2 ^ 64 }
         ensures { (code : CodeValue) → StepsTo (go_by code (GotoFalse p) self.old) self.new result }
     {
-        match self.hand.number() {
+        match self.running.number() {
             Some(v) => {
                 self.place = if v.value() == 0 {
                     p as usize
@@ -160,7 +160,7 @@ impl Machine {
         }
     }
 
-    /// Takes a turn.
+    /// Uses up a turn.
     #[inline(always)]
     fn take_turn(&mut self) -> Leads
         requires { self.old.place + 1 < 2 ^ 64 }
@@ -174,7 +174,7 @@ impl Machine {
         Leads::On
     }
 
-    /// Does a plain instruction, and goes on at the next place.
+    /// Does a plain instruction and continues at the next place.
     #[inline(always)]
     fn onward(&mut self, kind: u16, i: &Instr) -> Leads
         requires fits { args_fit i.now ≡ true }
@@ -182,7 +182,7 @@ impl Machine {
         requires place { self.old.place + 1 < 2 ^ 64 }
         ensures { StepsTo (onward self.old (work kind (sort i.now) self.old.held)) self.new result }
     {
-        let leads = plain(&mut self.hand, kind, i);
+        let leads = plain(&mut self.running, kind, i);
         if leads == Leads::On {
             self.place += 1;
         }
@@ -210,7 +210,7 @@ impl Machine {
                 Some(function) => self.call(function),
                 None => Leads::Want,
             },
-            Instr::Return => match self.hand.any() {
+            Instr::Return => match self.running.any() {
                 Some(x) => self.back(Some(x)),
                 None => Leads::Want,
             },
@@ -219,7 +219,7 @@ impl Machine {
         }
     }
 
-    /// Does the instruction at the machine's place, of all instructions of the code.
+    /// Does the instruction at the machine's place.
     #[inline(always)]
     fn step(&mut self, code: &Code, instrs: &[Instr]) -> Leads
         requires ready { Ready code.now self.old }
@@ -241,8 +241,8 @@ impl Machine {
         self.place = 0;
         self.turns = TURNS;
         match code.functions().get(0) {
-            Some(function) => self.hand.begin(function.slots(), window, seed),
-            None => self.hand.begin(&[], window, seed),
+            Some(function) => self.running.begin(function.slots(), window, seed),
+            None => self.running.begin(&[], window, seed),
         }
     }
 
@@ -263,13 +263,13 @@ impl Machine {
         }
     }
 
-    /// Leaves the window of an event that ended so.
+    /// Sets the window to what an event with this ending leaves.
     #[tactic(auto, using(crate::proofs::Runs::put_emptied))]
     fn leave(&self, ended: Ended, window: &mut Window)
         ensures { window.new ≡ window_after window.old self.now ended }
     {
         match ended {
-            Ended::Done => *window = self.hand.window,
+            Ended::Done => *window = self.running.window,
             Ended::Failed(_) => {
                 window.laws();
                 window.put(0, Atom::new(0, 0));
@@ -277,11 +277,11 @@ impl Machine {
         }
     }
 
-    /// Runs an event's code on a window, with the random words of a seed. It takes no memory.
+    /// Runs an event's code on a window, with the random words of a seed. It allocates no memory.
     ///
-    /// The window is then that of the code's run, and after a failure the old one with its centre
-    /// empty. Each instruction that was run, a failing one included, is counted as one step; they
-    /// are at most 1,001 times as many as the code has.
+    /// The window becomes what the run leaves. After a failure it is the old window with an empty
+    /// centre. Each instruction that ran counts as one step, including one that failed. There are at
+    /// most 1,001 times as many steps as the code has instructions.
     pub fn act<L: Ledger>(
         &mut self,
         code: &Code,

@@ -1,4 +1,4 @@
-//! Operators on numbers, and what numbers stand for: sites, indices, bounds, fields of atoms.
+//! Operators on numbers, and numbers as sites, indices, bounds and fields of atoms.
 
 ghost use Rattle.std.specs.Prelude.{◌≡◌, ℕ, ℤ, pos, ◌<◌, ◌^◌, true, Option, IfSome, ◌≤◌, int_div, int_rem};
 ghost use Rattle.sat_math.specs.declared.Kind.TheVariants.{Bits};
@@ -27,30 +27,30 @@ pub enum PairOp {
     Div(Arith),
     /// The remainder.
     Rem(Arith),
-    /// The bits that both have.
+    /// The bitwise and.
     And,
-    /// The bits that one has, or both.
+    /// The bitwise or.
     Or,
-    /// The bits that one has and not both.
+    /// The bitwise exclusive or.
     Xor,
-    /// The bits moved up, so many of them kept.
+    /// The bits shifted left; this many low bits are kept.
     Shl(u8),
-    /// The bits moved down.
+    /// The bits shifted right.
     Shr,
-    /// 1 where the two stand so, else 0.
+    /// 1 if the comparison holds, otherwise 0.
     Test(CompareOp),
 }
 
 /// An operator on one number.
 #[derive(Clone, Copy, PartialEq, Eq, Debug)]
 pub enum SingleOp {
-    /// The number with its sign turned.
+    /// The negation.
     Neg(Arith),
-    /// So many low bits of the complement.
+    /// This many low bits of the complement.
     Flip(u8),
-    /// The number that it becomes in a type.
+    /// The number converted to a type.
     Fit(NumType),
-    /// 1 for 0, else 0.
+    /// 1 for 0, otherwise 0.
     Not,
 }
 
@@ -62,7 +62,7 @@ pub fn low64(v: i128) -> u64
     v.rem_euclid(1i128 << 64) as u64
 }
 
-/// The number of a word.
+/// A word as a number.
 #[inline(always)]
 #[tactic(auto, using(crate::proofs::Fits::small_number))]
 pub fn of_word(n: u64) -> Number
@@ -79,7 +79,7 @@ pub fn of_bool(b: bool) -> Number
     if b { of_word(1) } else { of_word(0) }
 }
 
-/// The quotient, or `None` where the divisor is 0.
+/// The quotient, or `None` if the divisor is 0.
 #[inline(always)]
 #[tactic(auto, using(crate::proofs::Fits::saturated_number))]
 fn quotient(how: Arith, a: i128, b: i128) -> Option<Number>
@@ -93,7 +93,7 @@ fn quotient(how: Arith, a: i128, b: i128) -> Option<Number>
     }
 }
 
-/// The remainder, or `None` where the divisor is 0.
+/// The remainder, or `None` if the divisor is 0.
 #[inline(always)]
 #[tactic(auto, using(crate::proofs::Fits::saturated_number))]
 fn remainder(how: Arith, a: i128, b: i128) -> Option<Number>
@@ -107,7 +107,7 @@ fn remainder(how: Arith, a: i128, b: i128) -> Option<Number>
     }
 }
 
-/// The bits moved up by a count, `width` of them kept. A negative count gives 0.
+/// The bits shifted left by a count; the low `width` bits are kept. A negative count gives 0.
 #[inline(always)]
 fn shifted_up(width: u8, a: i128, b: i128) -> Number
     requires fits { type_fits (num_type Bits width) ≡ true }
@@ -121,7 +121,7 @@ fn shifted_up(width: u8, a: i128, b: i128) -> Number
     }
 }
 
-/// The bits moved down by a count. A negative count gives 0.
+/// The bits shifted right by a count. A negative count gives 0.
 #[inline(always)]
 fn shifted_down(a: i128, b: i128) -> Number
     requires { IsNumber b }
@@ -134,7 +134,7 @@ fn shifted_down(a: i128, b: i128) -> Number
     }
 }
 
-/// What an operator makes of two numbers, or `None` for a division by 0.
+/// The result of an operator on two numbers, or `None` for a division by 0.
 #[inline(always)]
 #[tactic(auto, using(crate::proofs::Fits::saturated_number))]
 pub fn apply(op: PairOp, a: Number, b: Number) -> Option<Number>
@@ -157,7 +157,7 @@ pub fn apply(op: PairOp, a: Number, b: Number) -> Option<Number>
     }
 }
 
-/// What an operator makes of one number.
+/// The result of an operator on one number.
 #[inline(always)]
 #[tactic(auto, using(crate::proofs::Fits::saturated_number, crate::proofs::Fits::in_range_number, crate::proofs::Fits::type_is))]
 pub fn turn(op: SingleOp, a: Number) -> Number
@@ -183,7 +183,7 @@ fn flipped(width: u8, a: i128) -> Number
     of_word(sat_math::not(width, low64(a)))
 }
 
-/// The site that has the number, if there is one.
+/// The site with this number, if there is one.
 #[inline(always)]
 pub fn site(v: Number) -> Option<u8>
     ensures within { IfSome result (λ n. n ≤ 40) }
@@ -193,7 +193,7 @@ pub fn site(v: Number) -> Option<u8>
     if v < 0 || v > 40 { None } else { Some(v as u8) }
 }
 
-/// The index that a number is, if it is one of an array of this length.
+/// The number as an index, if it is in range for an array of this length.
 #[inline(always)]
 pub fn index(v: Number, n: u8) -> Option<u8>
     ensures within { IfSome result (λ i. i < n) }
@@ -207,7 +207,7 @@ pub fn index(v: Number, n: u8) -> Option<u8>
     }
 }
 
-/// The bound that a number is of a random number, if it is above 0.
+/// The number as the bound of a random number, if it is above 0.
 #[inline(always)]
 pub fn bound(v: Number) -> Option<u64>
     ensures some { IfSome result (λ n. 0 < n) }
@@ -228,7 +228,7 @@ pub fn read_field(atom: &Atom, first: u8, of: NumType) -> Number
     Number::new(sat_math::load(of, bits))
 }
 
-/// The atom with a field set to what a number becomes in its type.
+/// The atom with a field set to a number, converted to the type of the field.
 #[inline(always)]
 #[tactic(auto, using(crate::proofs::Fits::field_is))]
 pub fn write_field(atom: Atom, first: u8, of: NumType, v: Number) -> Atom

@@ -1,4 +1,4 @@
-//! The operands of a function.
+//! The operand stack of a function.
 
 ghost use Rattle.std.specs.Prelude.{◌≡◌, ◌<◌, ◌≤◌, ◌+◌, [], ◌∷◌, ◌++◌, length, IfOk, MatchOption, take, drop, reverse, vec_len, vec_capacity};
 
@@ -7,10 +7,10 @@ use feast_base::NoMemory;
 use std::alloc::Global;
 use std::marker::Model;
 
-/// The most operands at a place, and the one that the last instruction there gives beyond them.
+/// The most operands at a place, and one more that the instruction there may push.
 const MOST_OPERANDS: usize = 513;
 
-/// The memory of so many operands or slots. `NoMemory` where it is refused.
+/// Memory for this many operands or slots. `NoMemory` if it is not available.
 pub fn reserve(alloc: Global, count: usize) -> Result<Vec<Datum>, NoMemory>
     ensures none { IfOk result (λ v. v.items ≡ []) }
     ensures room { IfOk result (λ v. vec_capacity v ≡ count) }
@@ -21,7 +21,7 @@ pub fn reserve(alloc: Global, count: usize) -> Result<Vec<Datum>, NoMemory>
     }
 }
 
-/// Appends operands where there is room.
+/// Appends operands to a vector that has room for them.
 fn append(to: &mut Vec<Datum>, from: &[Datum])
     requires { vec_len to.old + length from.now ≤ vec_capacity to.old }
     ensures items { to.new.items ≡ to.old.items ++ from.now }
@@ -32,13 +32,13 @@ fn append(to: &mut Vec<Datum>, from: &[Datum])
     }
 }
 
-/// Operands. Contracts see them with the topmost first.
+/// The operands of a function. In contracts the topmost comes first.
 #[derive(Drop)]
-pub struct Pile {
+pub struct OperandStack {
     items: Vec<Datum>,
 }
 
-impl Model for Pile {
+impl Model for OperandStack {
     ghost use Rattle.std.specs.Prelude.{◌≤◌, List, reverse, vec_len, vec_capacity};
     ghost use Rattle.datum.specs.declared.Datum.{Datum};
 
@@ -49,16 +49,17 @@ impl Model for Pile {
     ghost invariant = { λ p. (vec_len p.items ≤ 513) × (513 ≤ vec_capacity p.items) };
 }
 
-impl Pile {
-    /// No operands, and the memory of all that there may be. `NoMemory` where it is refused.
-    pub fn new(alloc: Global) -> Result<Pile, NoMemory>
+impl OperandStack {
+    /// An empty stack with memory for all operands that there may be. `NoMemory` if it is not
+    /// available.
+    pub fn new(alloc: Global) -> Result<OperandStack, NoMemory>
         ensures { IfOk result (λ p. p ≡ []) }
     {
         let items = reserve(alloc, MOST_OPERANDS)?;
-        Ok(Pile { items })
+        Ok(OperandStack { items })
     }
 
-    /// Puts an operand on top.
+    /// Pushes an operand.
     #[inline(always)]
     pub fn push(&mut self, x: Datum)
         requires { length self.old < 513 }
@@ -67,7 +68,7 @@ impl Pile {
         self.items.push_reserved(x);
     }
 
-    /// Takes the topmost operand, if there is one.
+    /// Pops an operand, if there is one.
     #[inline(always)]
     pub fn take(&mut self) -> Option<Datum>
         ensures { MatchOption result ((self.old ≡ []) × (self.new ≡ [])) (λ x. self.old ≡ x ∷ self.new) }
@@ -75,21 +76,21 @@ impl Pile {
         self.items.pop()
     }
 
-    /// Drops all operands.
+    /// Removes all operands.
     pub fn clear(&mut self)
         ensures { self.new ≡ [] }
     {
         self.items.clear();
     }
 
-    /// How many operands there are.
+    /// The number of operands.
     pub fn len(&self) -> usize
         ensures { result ≡ length self.now }
     {
         self.items.len()
     }
 
-    /// Takes the topmost operands and appends them elsewhere, the topmost last.
+    /// Pops this many operands and appends them to a vector, the topmost last.
     pub fn hand_over(&mut self, count: usize, to: &mut Vec<Datum>)
         requires some { count ≤ length self.old }
         requires room { vec_len to.old + count ≤ vec_capacity to.old }

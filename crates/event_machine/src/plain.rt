@@ -1,69 +1,66 @@
-//! The plain instructions, a function for each sort.
+//! The plain instructions on numbers, slots and sites: a function for each sort.
 
-ghost use Rattle.std.specs.Prelude.{◌≡◌, ◌<◌, ◌≤◌, ◌+◌, ◌*◌, ℕ, length, true};
+ghost use Rattle.std.specs.Prelude.{◌≡◌, ◌≤◌, ℕ, length, true};
 ghost use Rattle.sat_math.specs.Numbers.{cast};
 ghost use Rattle.window_sites.specs.Window.{live_at};
-ghost use Rattle.stack_code.specs.Sorts.{Give, One, Two, Load, Store, Drop, Field, SetField, Part, SetPart, Own, Site, SetSite, Exchange, Ask, Draw, Same, Double, FieldAt, SetFieldAt, PartAt, SetPartAt, is_empty_at, as_drawn, one_in, num_type, sort};
-ghost use Rattle.stack_code.specs.Machine.{work, with_part, kept};
-ghost use Rattle.stack_code.specs.Valid.{args_fit, type_fits};
-ghost use Rattle.event_machine.specs.Works.{Works, pair_of, PairFits, single_of, SingleFits, FieldFits};
+ghost use Rattle.stack_code.specs.Sorts.{Give, One, Two, Load, Store, Drop, Own, Site, SetSite, Exchange, Ask, Draw, Same, Double, is_empty_at, as_drawn, one_in, num_type};
+ghost use Rattle.stack_code.specs.Machine.{work};
+ghost use Rattle.stack_code.specs.Valid.{type_fits};
+ghost use Rattle.event_machine.specs.Works.{Works, pair_of, PairFits, single_of, SingleFits};
 
+use crate::activation::Activation;
 use crate::ending::Leads;
-use crate::hand::Hand;
-use crate::numbers::{
-    PairOp, SingleOp, apply, bound, index, of_bool, of_word, read_field, site, turn, write_field,
-};
-use bit_field::Atom;
+use crate::numbers::{PairOp, SingleOp, apply, bound, of_bool, of_word, site, turn};
 use datum::{Datum, Number};
 use sat_math::{Kind, NumType};
 
-/// Gives a datum.
+/// Pushes a datum.
 #[inline(always)]
-pub fn give(h: &mut Hand, x: Datum) -> Leads
-    requires { length h.old.stack ≤ 512 }
-    ensures { (kind : ℕ) → Works (work kind (Give x) h.old) h.new result }
+pub fn give(running: &mut Activation, x: Datum) -> Leads
+    requires { length running.old.stack ≤ 512 }
+    ensures { (kind : ℕ) → Works (work kind (Give x) running.old) running.new result }
 {
-    h.push(x);
+    running.push(x);
     Leads::On
 }
 
-/// An operator on one number.
+/// Applies an operator to one number.
 #[inline(always)]
-pub fn single(h: &mut Hand, op: SingleOp) -> Leads
+pub fn single(running: &mut Activation, op: SingleOp) -> Leads
     requires fits { SingleFits op }
-    requires room { length h.old.stack ≤ 512 }
-    ensures { (kind : ℕ) → Works (work kind (One (single_of op)) h.old) h.new result }
+    requires room { length running.old.stack ≤ 512 }
+    ensures { (kind : ℕ) → Works (work kind (One (single_of op)) running.old) running.new result }
 {
-    match h.number() {
+    match running.number() {
         Some(a) => {
-            h.push(Datum::Number(turn(op, a)));
+            running.push(Datum::Number(turn(op, a)));
             Leads::On
         }
         None => Leads::Want,
     }
 }
 
-/// What a number becomes in a type.
+/// Converts a number to a type.
 #[inline(always)]
-pub fn fit(h: &mut Hand, of: Kind, width: u8) -> Leads
+pub fn fit(running: &mut Activation, of: Kind, width: u8) -> Leads
     requires fits { type_fits (num_type of width) ≡ true }
-    requires room { length h.old.stack ≤ 512 }
-    ensures { (kind : ℕ) → Works (work kind (One (cast (num_type of width))) h.old) h.new result }
+    requires room { length running.old.stack ≤ 512 }
+    ensures { (kind : ℕ) → Works (work kind (One (cast (num_type of width))) running.old) running.new result }
 {
-    single(h, SingleOp::Fit(NumType { kind: of, width }))
+    single(running, SingleOp::Fit(NumType { kind: of, width }))
 }
 
-/// An operator on two numbers. Failure 3 for a division by 0.
+/// Applies an operator to two numbers. Failure 3 for a division by 0.
 #[inline(always)]
-pub fn pair(h: &mut Hand, op: PairOp) -> Leads
+pub fn pair(running: &mut Activation, op: PairOp) -> Leads
     requires fits { PairFits op }
-    requires room { length h.old.stack ≤ 512 }
-    ensures { (kind : ℕ) → Works (work kind (Two (pair_of op)) h.old) h.new result }
+    requires room { length running.old.stack ≤ 512 }
+    ensures { (kind : ℕ) → Works (work kind (Two (pair_of op)) running.old) running.new result }
 {
-    match h.two() {
+    match running.two() {
         Some((a, b)) => match apply(op, a, b) {
             Some(v) => {
-                h.push(Datum::Number(v));
+                running.push(Datum::Number(v));
                 Leads::On
             }
             None => Leads::Fail(3),
@@ -72,45 +69,45 @@ pub fn pair(h: &mut Hand, op: PairOp) -> Leads
     }
 }
 
-/// Gives what a slot holds.
+/// Pushes the value of a slot.
 #[inline(always)]
-pub fn load(h: &mut Hand, s: u8) -> Leads
-    requires { length h.old.stack ≤ 512 }
-    ensures { (kind : ℕ) → Works (work kind (Load s) h.old) h.new result }
+pub fn load(running: &mut Activation, s: u8) -> Leads
+    requires { length running.old.stack ≤ 512 }
+    ensures { (kind : ℕ) → Works (work kind (Load s) running.old) running.new result }
 {
-    match h.slot(s) {
+    match running.slot(s) {
         Some(x) => {
-            h.push(x);
+            running.push(x);
             Leads::On
         }
         None => Leads::Want,
     }
 }
 
-/// Takes an operand into a slot.
+/// Pops an operand into a slot.
 #[inline(always)]
-pub fn store(h: &mut Hand, s: u8) -> Leads
-    ensures { (kind : ℕ) → Works (work kind (Store s) h.old) h.new result }
+pub fn store(running: &mut Activation, s: u8) -> Leads
+    ensures { (kind : ℕ) → Works (work kind (Store s) running.old) running.new result }
 {
-    match h.any() {
+    match running.any() {
         Some(x) => {
-            h.set_slot(s, x);
+            running.set_slot(s, x);
             Leads::On
         }
         None => Leads::Want,
     }
 }
 
-/// Takes two sites and exchanges their atoms. Failure 4.
+/// Pops two sites and swaps their atoms. Failure 4.
 #[inline(always)]
-pub fn exchange(h: &mut Hand) -> Leads
-    ensures { (kind : ℕ) → Works (work kind Exchange h.old) h.new result }
+pub fn exchange(running: &mut Activation) -> Leads
+    ensures { (kind : ℕ) → Works (work kind Exchange running.old) running.new result }
 {
-    match h.two() {
+    match running.two() {
         Some((i, j)) => match site(i) {
             Some(m) => match site(j) {
                 Some(n) => {
-                    h.window.swap(m, n);
+                    running.window.swap(m, n);
                     Leads::On
                 }
                 None => Leads::Fail(4),
@@ -121,128 +118,43 @@ pub fn exchange(h: &mut Hand) -> Leads
     }
 }
 
-/// Takes an operand.
+/// Pops an operand.
 #[inline(always)]
-pub fn drop_top(h: &mut Hand) -> Leads
-    ensures { (kind : ℕ) → Works (work kind Drop h.old) h.new result }
+pub fn drop_top(running: &mut Activation) -> Leads
+    ensures { (kind : ℕ) → Works (work kind Drop running.old) running.new result }
 {
-    match h.any() {
+    match running.any() {
         Some(_) => Leads::On,
         None => Leads::Want,
     }
 }
 
-/// Gives a field of the atom at the centre. Failure 6.
+/// Pushes the atom at the centre. Failure 6.
 #[inline(always)]
-pub fn load_field(h: &mut Hand, kind: u16, first: u8, width: u8, of: Kind) -> Leads
-    requires fits { FieldFits first (num_type of width) 1 }
-    requires room { length h.old.stack ≤ 512 }
-    ensures { Works (work kind (Field first (num_type of width)) h.old) h.new result }
+pub fn own(running: &mut Activation, kind: u16) -> Leads
+    requires { length running.old.stack ≤ 512 }
+    ensures { Works (work kind Own running.old) running.new result }
 {
-    let of = NumType { kind: of, width };
-    match h.own(kind) {
+    match running.own(kind) {
         Some(atom) => {
-            h.push(Datum::Number(read_field(&atom, first, of)));
+            running.push(Datum::Atom(atom));
             Leads::On
         }
         None => Leads::Fail(6),
     }
 }
 
-/// Takes a number into a field of the atom at the centre. Failure 6.
+/// Pops a site and pushes its atom. Failure 4.
 #[inline(always)]
-pub fn store_field(h: &mut Hand, kind: u16, first: u8, width: u8, of: Kind) -> Leads
-    requires { FieldFits first (num_type of width) 1 }
-    ensures { Works (work kind (SetField first (num_type of width)) h.old) h.new result }
+pub fn load_site(running: &mut Activation) -> Leads
+    requires { length running.old.stack ≤ 512 }
+    ensures { (kind : ℕ) → Works (work kind Site running.old) running.new result }
 {
-    let of = NumType { kind: of, width };
-    match h.number() {
-        Some(v) => match h.own(kind) {
-            Some(atom) => {
-                h.window.put(0, write_field(atom, first, of, v));
-                Leads::On
-            }
-            None => Leads::Fail(6),
-        },
-        None => Leads::Want,
-    }
-}
-
-/// Gives a field of the atom in a slot.
-#[inline(always)]
-pub fn load_part(h: &mut Hand, s: u8, first: u8, width: u8, of: Kind) -> Leads
-    requires fits { FieldFits first (num_type of width) 1 }
-    requires room { length h.old.stack ≤ 512 }
-    ensures { (kind : ℕ) → Works (work kind (Part s first (num_type of width)) h.old) h.new result }
-{
-    let of = NumType { kind: of, width };
-    match h.slot_atom(s) {
-        Some(atom) => {
-            h.push(Datum::Number(read_field(&atom, first, of)));
-            Leads::On
-        }
-        None => Leads::Want,
-    }
-}
-
-/// The atom with a field set, unless it has type 0.
-#[inline(always)]
-fn with_part(atom: Atom, first: u8, of: NumType, v: Number) -> Atom
-    requires { FieldFits first of 1 }
-    ensures { result ≡ with_part atom first of.width (kept of v) }
-{
-    if atom.kind() == 0 {
-        atom
-    } else {
-        write_field(atom, first, of, v)
-    }
-}
-
-/// Takes a number into a field of the atom in a slot.
-#[inline(always)]
-pub fn store_part(h: &mut Hand, s: u8, first: u8, width: u8, of: Kind) -> Leads
-    requires { FieldFits first (num_type of width) 1 }
-    ensures { (kind : ℕ) → Works (work kind (SetPart s first (num_type of width)) h.old) h.new result }
-{
-    let of = NumType { kind: of, width };
-    match h.number() {
-        Some(v) => match h.slot_atom(s) {
-            Some(atom) => {
-                h.set_slot(s, Datum::Atom(with_part(atom, first, of, v)));
-                Leads::On
-            }
-            None => Leads::Want,
-        },
-        None => Leads::Want,
-    }
-}
-
-/// Gives the atom at the centre. Failure 6.
-#[inline(always)]
-pub fn own(h: &mut Hand, kind: u16) -> Leads
-    requires { length h.old.stack ≤ 512 }
-    ensures { Works (work kind Own h.old) h.new result }
-{
-    match h.own(kind) {
-        Some(atom) => {
-            h.push(Datum::Atom(atom));
-            Leads::On
-        }
-        None => Leads::Fail(6),
-    }
-}
-
-/// Takes a site and gives its atom. Failure 4.
-#[inline(always)]
-pub fn load_site(h: &mut Hand) -> Leads
-    requires { length h.old.stack ≤ 512 }
-    ensures { (kind : ℕ) → Works (work kind Site h.old) h.new result }
-{
-    match h.number() {
+    match running.number() {
         Some(i) => match site(i) {
             Some(n) => {
-                let atom = h.window.get(n);
-                h.push(Datum::Atom(atom));
+                let atom = running.window.get(n);
+                running.push(Datum::Atom(atom));
                 Leads::On
             }
             None => Leads::Fail(4),
@@ -251,16 +163,16 @@ pub fn load_site(h: &mut Hand) -> Leads
     }
 }
 
-/// Takes an atom, then a site, and puts the atom there. Failure 4.
+/// Pops an atom, then a site, and puts the atom there. Failure 4.
 #[inline(always)]
-pub fn store_site(h: &mut Hand) -> Leads
-    ensures { (kind : ℕ) → Works (work kind SetSite h.old) h.new result }
+pub fn store_site(running: &mut Activation) -> Leads
+    ensures { (kind : ℕ) → Works (work kind SetSite running.old) running.new result }
 {
-    match h.atom() {
-        Some(atom) => match h.number() {
+    match running.atom() {
+        Some(atom) => match running.number() {
             Some(i) => match site(i) {
                 Some(n) => {
-                    h.window.put(n, atom);
+                    running.window.put(n, atom);
                     Leads::On
                 }
                 None => Leads::Fail(4),
@@ -271,17 +183,17 @@ pub fn store_site(h: &mut Hand) -> Leads
     }
 }
 
-/// Takes a site and gives whether it is live. Failure 4.
+/// Pops a site and pushes whether it is live. Failure 4.
 #[inline(always)]
-pub fn is_live(h: &mut Hand) -> Leads
-    requires { length h.old.stack ≤ 512 }
-    ensures { (kind : ℕ) → Works (work kind (Ask live_at) h.old) h.new result }
+pub fn is_live(running: &mut Activation) -> Leads
+    requires { length running.old.stack ≤ 512 }
+    ensures { (kind : ℕ) → Works (work kind (Ask live_at) running.old) running.new result }
 {
-    match h.number() {
+    match running.number() {
         Some(i) => match site(i) {
             Some(n) => {
-                let live = h.window.is_live(n);
-                h.push(Datum::Number(of_bool(live)));
+                let live = running.window.is_live(n);
+                running.push(Datum::Number(of_bool(live)));
                 Leads::On
             }
             None => Leads::Fail(4),
@@ -290,17 +202,17 @@ pub fn is_live(h: &mut Hand) -> Leads
     }
 }
 
-/// Takes a site and gives whether its atom has type 0. Failure 4.
+/// Pops a site and pushes whether its atom is of type 0. Failure 4.
 #[inline(always)]
-pub fn is_empty(h: &mut Hand) -> Leads
-    requires { length h.old.stack ≤ 512 }
-    ensures { (kind : ℕ) → Works (work kind (Ask is_empty_at) h.old) h.new result }
+pub fn is_empty(running: &mut Activation) -> Leads
+    requires { length running.old.stack ≤ 512 }
+    ensures { (kind : ℕ) → Works (work kind (Ask is_empty_at) running.old) running.new result }
 {
-    match h.number() {
+    match running.number() {
         Some(i) => match site(i) {
             Some(n) => {
-                let empty = h.window.get(n).kind() == 0;
-                h.push(Datum::Number(of_bool(empty)));
+                let empty = running.window.get(n).kind() == 0;
+                running.push(Datum::Number(of_bool(empty)));
                 Leads::On
             }
             None => Leads::Fail(4),
@@ -309,17 +221,17 @@ pub fn is_empty(h: &mut Hand) -> Leads
     }
 }
 
-/// Takes a bound and gives the next random word modulo it. Failure 5.
+/// Pops a bound and pushes the next random word modulo it. Failure 5.
 #[inline(always)]
-pub fn create(h: &mut Hand) -> Leads
-    requires { length h.old.stack ≤ 512 }
-    ensures { (kind : ℕ) → Works (work kind (Draw as_drawn) h.old) h.new result }
+pub fn create(running: &mut Activation) -> Leads
+    requires { length running.old.stack ≤ 512 }
+    ensures { (kind : ℕ) → Works (work kind (Draw as_drawn) running.old) running.new result }
 {
-    match h.number() {
+    match running.number() {
         Some(v) => match bound(v) {
             Some(n) => {
-                let r = h.draws.below(n);
-                h.push(Datum::Number(of_word(r)));
+                let r = running.draws.below(n);
+                running.push(Datum::Number(of_word(r)));
                 Leads::On
             }
             None => Leads::Fail(5),
@@ -328,17 +240,17 @@ pub fn create(h: &mut Hand) -> Leads
     }
 }
 
-/// Takes a bound and gives whether the next random word modulo it is 0. Failure 5.
+/// Pops a bound and pushes whether the next random word modulo it is 0. Failure 5.
 #[inline(always)]
-pub fn one_in(h: &mut Hand) -> Leads
-    requires { length h.old.stack ≤ 512 }
-    ensures { (kind : ℕ) → Works (work kind (Draw one_in) h.old) h.new result }
+pub fn one_in(running: &mut Activation) -> Leads
+    requires { length running.old.stack ≤ 512 }
+    ensures { (kind : ℕ) → Works (work kind (Draw one_in) running.old) running.new result }
 {
-    match h.number() {
+    match running.number() {
         Some(v) => match bound(v) {
             Some(n) => {
-                let r = h.draws.below(n);
-                h.push(Datum::Number(of_bool(r == 0)));
+                let r = running.draws.below(n);
+                running.push(Datum::Number(of_bool(r == 0)));
                 Leads::On
             }
             None => Leads::Fail(5),
@@ -347,139 +259,33 @@ pub fn one_in(h: &mut Hand) -> Leads
     }
 }
 
-/// Takes an atom and gives whether it has a type.
+/// Pops an atom and pushes whether it is of a type.
 #[inline(always)]
-pub fn same(h: &mut Hand, k: u16) -> Leads
-    requires { length h.old.stack ≤ 512 }
-    ensures { (kind : ℕ) → Works (work kind (Same k) h.old) h.new result }
+pub fn same(running: &mut Activation, k: u16) -> Leads
+    requires { length running.old.stack ≤ 512 }
+    ensures { (kind : ℕ) → Works (work kind (Same k) running.old) running.new result }
 {
-    match h.atom() {
+    match running.atom() {
         Some(atom) => {
-            h.push(Datum::Number(of_bool(atom.kind() == k)));
+            running.push(Datum::Number(of_bool(atom.kind() == k)));
             Leads::On
         }
         None => Leads::Want,
     }
 }
 
-/// Takes a number and gives it twice.
+/// Pops a number and pushes it twice.
 #[inline(always)]
-pub fn double(h: &mut Hand) -> Leads
-    requires { length h.old.stack ≤ 512 }
-    ensures { (kind : ℕ) → Works (work kind Double h.old) h.new result }
+pub fn double(running: &mut Activation) -> Leads
+    requires { length running.old.stack ≤ 512 }
+    ensures { (kind : ℕ) → Works (work kind Double running.old) running.new result }
 {
-    match h.number() {
+    match running.number() {
         Some(v) => {
-            h.push(Datum::Number(v));
-            h.push(Datum::Number(v));
+            running.push(Datum::Number(v));
+            running.push(Datum::Number(v));
             Leads::On
         }
-        None => Leads::Want,
-    }
-}
-
-/// Where an element of an array begins.
-#[inline(always)]
-#[tactic(auto, using(crate::proofs::Fits::element_fits))]
-fn element(first: u8, of: NumType, n: u8, i: u8) -> u8
-    requires fits { FieldFits first of n }
-    requires below { i < n }
-    ensures value { result ≡ first + i * of.width }
-    ensures fits { FieldFits result of 1 }
-{
-    first + i * of.width
-}
-
-/// Takes an index and gives that element of an array of the atom at the centre. Failures 6, 7.
-#[inline(always)]
-pub fn load_field_at(h: &mut Hand, kind: u16, first: u8, width: u8, of: Kind, n: u8) -> Leads
-    requires fits { FieldFits first (num_type of width) n }
-    requires room { length h.old.stack ≤ 512 }
-    ensures { Works (work kind (FieldAt first (num_type of width) n) h.old) h.new result }
-{
-    let of = NumType { kind: of, width };
-    match h.number() {
-        Some(v) => match h.own(kind) {
-            Some(atom) => match index(v, n) {
-                Some(i) => {
-                    h.push(Datum::Number(read_field(&atom, element(first, of, n, i), of)));
-                    Leads::On
-                }
-                None => Leads::Fail(7),
-            },
-            None => Leads::Fail(6),
-        },
-        None => Leads::Want,
-    }
-}
-
-/// Takes a number, then an index, into an array of the atom at the centre. Failures 6, 7.
-#[inline(always)]
-pub fn store_field_at(h: &mut Hand, kind: u16, first: u8, width: u8, of: Kind, n: u8) -> Leads
-    requires { FieldFits first (num_type of width) n }
-    ensures { Works (work kind (SetFieldAt first (num_type of width) n) h.old) h.new result }
-{
-    let of = NumType { kind: of, width };
-    match h.two() {
-        Some((v, x)) => match h.own(kind) {
-            Some(atom) => match index(v, n) {
-                Some(i) => {
-                    h.window
-                        .put(0, write_field(atom, element(first, of, n, i), of, x));
-                    Leads::On
-                }
-                None => Leads::Fail(7),
-            },
-            None => Leads::Fail(6),
-        },
-        None => Leads::Want,
-    }
-}
-
-/// Takes an index and gives that element of an array of the atom in a slot. Failure 7.
-#[inline(always)]
-pub fn load_part_at(h: &mut Hand, s: u8, first: u8, width: u8, of: Kind, n: u8) -> Leads
-    requires fits { FieldFits first (num_type of width) n }
-    requires room { length h.old.stack ≤ 512 }
-    ensures { (kind : ℕ) → Works (work kind (PartAt s first (num_type of width) n) h.old) h.new result }
-{
-    let of = NumType { kind: of, width };
-    match h.number() {
-        Some(v) => match h.slot_atom(s) {
-            Some(atom) => match index(v, n) {
-                Some(i) => {
-                    h.push(Datum::Number(read_field(&atom, element(first, of, n, i), of)));
-                    Leads::On
-                }
-                None => Leads::Fail(7),
-            },
-            None => Leads::Want,
-        },
-        None => Leads::Want,
-    }
-}
-
-/// Takes a number, then an index, into an array of the atom in a slot. Failure 7.
-#[inline(always)]
-pub fn store_part_at(h: &mut Hand, s: u8, first: u8, width: u8, of: Kind, n: u8) -> Leads
-    requires { FieldFits first (num_type of width) n }
-    ensures { (kind : ℕ) → Works (work kind (SetPartAt s first (num_type of width) n) h.old) h.new result }
-{
-    let of = NumType { kind: of, width };
-    match h.two() {
-        Some((v, x)) => match h.slot_atom(s) {
-            Some(atom) => match index(v, n) {
-                Some(i) => {
-                    h.set_slot(
-                        s,
-                        Datum::Atom(with_part(atom, element(first, of, n, i), of, x)),
-                    );
-                    Leads::On
-                }
-                None => Leads::Fail(7),
-            },
-            None => Leads::Want,
-        },
         None => Leads::Want,
     }
 }

@@ -22,7 +22,7 @@ use Rattle.tile_map.specs.Plane.{MapValue}
 use Rattle.window_sites.specs.Window.{WindowValue}
 use Rattle.world_grid.proofs.KnownAtoms.{replay_known, start_known}
 use Rattle.world_grid.proofs.Valid.{world_known}
-use Rattle.world_grid.specs.Known.{BringsNone, IsKnown}
+use Rattle.cell_grid.specs.Known.{BringsNone, IsKnown}
 use Rattle.world_grid.specs.Start.{start_grid}
 use Rattle.world_grid.specs.Worlds.{IsWorld}
 use Rattle.world_text.specs.Named.{WorldValue}

@@ -16,7 +16,8 @@ use Rattle.serial_order.specs.declared.outcome.Outcome.{Outcome}
 use Rattle.tile_map.specs.Plane.{MapValue, IsMap, tiles_of}
 use Rattle.window_sites.specs.Window.{WindowValue}
 use Rattle.world_grid.proofs.KnownAtoms.{replay_known, start_known}
-use Rattle.world_grid.specs.Known.{ArePlacedKnown, BringsNone}
+use Rattle.cell_grid.specs.Known.{BringsNone}
+use Rattle.world_grid.specs.Known.{ArePlacedKnown}
 use Rattle.world_grid.specs.Start.{start_grid}
 
 pub machine_grid : (r : ReadyValue) (o : Outcome) → IsOutcomeOf r o → o.grid ≡ (machine_of r).grid

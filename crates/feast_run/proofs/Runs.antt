@@ -34,7 +34,8 @@ use Rattle.tile_map.proofs.Spans.{lt_test}
 use Rattle.window_sites.specs.Window.{WindowValue}
 use Rattle.world_grid.proofs.Journals.{journal_live}
 use Rattle.world_grid.proofs.Valid.{world_known, world_valid}
-use Rattle.world_grid.specs.Known.{ArePlacedKnown, BringsNone, IsKnown}
+use Rattle.cell_grid.specs.Known.{BringsNone, IsKnown}
+use Rattle.world_grid.specs.Known.{ArePlacedKnown}
 use Rattle.world_grid.specs.Worlds.{IsLiveEvent, IsWorld}
 use Rattle.world_text.specs.Drafts.{DraftValue}
 use Rattle.world_text.specs.Named.{WorldValue, named}

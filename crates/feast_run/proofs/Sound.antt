@@ -14,7 +14,7 @@ use Rattle.feast_run.specs.Elements.{ElementsValue, code_elements, source_elemen
 use Rattle.feast_run.specs.Promises.{IsCodeFile, IsSet}
 use Rattle.ulam_meaning.proofs.EventLaws.{stays_known}
 use Rattle.ulam_meaning.specs.Events.{after}
-use Rattle.world_grid.specs.Known.{BringsNone}
+use Rattle.cell_grid.specs.Known.{BringsNone}
 
 pub record AreSound (e : ElementsValue) : Type 0 where
   pub named : All (λ n. is_type_name n ≡ true) e.names

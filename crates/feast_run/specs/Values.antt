@@ -7,7 +7,7 @@ use Rattle.feast_run.specs.Stages.{JournalValue, ReadyValue, ready_with}
 use Rattle.feast_run.specs.declared.elements.Elements.{Elements}
 use Rattle.feast_run.specs.declared.elements.Elements.TheVariants.{Sources, Codes}
 use Rattle.feast_run.specs.declared.worlds.Ready.{Ready}
-use Rattle.world_grid.specs.Known.{BringsNone}
+use Rattle.cell_grid.specs.Known.{BringsNone}
 use Rattle.world_text.specs.Printed.{IsNamed}
 use Rattle.world_text.specs.Values.{world_value}
 

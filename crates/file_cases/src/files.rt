@@ -1,4 +1,4 @@
-//! A code file of one element, what it says and does, and files that are one byte away from it.
+//! A code file of one element, its contents and behaviour, and files that differ from it by one byte.
 
 use bit_field::Atom;
 use cell_grid::Behave;

@@ -1,5 +1,5 @@
-//! Code files from bytes on: what they say, why they are refused, and what their codes do. The
-//! crate has tests alone; they stand above the code files, so that these are proved once.
+//! Code files as bytes: what they contain, why they are refused, and what their codes do. This crate
+//! has only tests. They are kept apart from the code files so that those are proved only once.
 #![tactic(auto)]
 
 #[cfg(test)]

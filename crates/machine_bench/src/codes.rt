@@ -1,4 +1,4 @@
-//! The codes that the bench runs.
+//! The codes that this bench runs.
 
 use feast_base::{Name, NoMemory};
 use stack_code::Instr::*;
@@ -8,13 +8,13 @@ use std::alloc::Global;
 /// Which code.
 #[derive(Clone, Copy, Debug, PartialEq, Eq)]
 pub enum Which {
-    /// The end alone.
+    /// Only the end.
     End,
-    /// Ten instructions in a row, with an exchange of two sites.
+    /// Ten instructions in a row, one of which swaps two sites.
     Row,
-    /// A loop of eight instructions that turns 900 times.
+    /// A loop of eight instructions that runs 900 times.
     Loop,
-    /// A loop of ten instructions that calls a function in each of 400 turns.
+    /// A loop of ten instructions that runs 400 times and calls a function each time.
     Calls,
 }
 
@@ -32,7 +32,7 @@ fn function(
     }
 }
 
-/// The code of these functions and instructions, for atoms of type 1. None where it is not valid.
+/// Code with these functions and instructions, for atoms of type 1. None if it is not valid.
 fn code(
     alloc: Global,
     functions: Vec<RawFunction>,
@@ -44,7 +44,7 @@ fn code(
     }
 }
 
-/// The code of one function of these instructions.
+/// Code with one function, of these instructions.
 fn alone(alloc: Global, instrs: &[Instr]) -> Result<Option<Code>, NoMemory> {
     let main = function(alloc, b"behave", 0, Answer::Nothing)?;
     match vec![in alloc; main] {
@@ -70,7 +70,7 @@ fn row(alloc: Global) -> Result<Option<Code>, NoMemory> {
     alone(alloc, &instrs)
 }
 
-/// A loop of eight instructions, made 900 times.
+/// A loop of eight instructions that runs 900 times.
 fn turns(alloc: Global) -> Result<Option<Code>, NoMemory> {
     let instrs = [
         PushNum(900),
@@ -88,7 +88,7 @@ fn turns(alloc: Global) -> Result<Option<Code>, NoMemory> {
     alone(alloc, &instrs)
 }
 
-/// A loop that calls a function, made 400 times.
+/// A loop that runs 400 times and calls a function each time.
 fn calls(alloc: Global) -> Result<Option<Code>, NoMemory> {
     let instrs = [
         PushNum(400),
@@ -113,7 +113,7 @@ fn calls(alloc: Global) -> Result<Option<Code>, NoMemory> {
     }
 }
 
-/// A code. None where it is not valid.
+/// The code to run. None if it is not valid.
 pub fn made(alloc: Global, which: Which) -> Result<Option<Code>, NoMemory> {
     match which {
         Which::End => alone(alloc, &[ReturnVoid]),

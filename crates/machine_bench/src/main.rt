@@ -1,6 +1,6 @@
-//! How long the machine takes: for some codes, many events of each on fresh windows. Without a
-//! word the steps of all codes are printed, with the word `time` times too. With the name of a
-//! code that one alone runs, to be counted from outside; with the name `none` nothing runs.
+//! A bench of the machine: many events of some codes, each on a fresh window. Without an argument
+//! it prints the number of steps of each code, and with `time` the times too. With the name of a code
+//! it runs only that code, to be counted from outside; with `none` it runs nothing.
 #![tactic(auto)]
 
 mod codes;
@@ -17,10 +17,10 @@ use std::time::Instant;
 use std::{env, io};
 use window_sites::Window;
 
-/// How many events are made of a code.
+/// The number of events of each code.
 const EVENTS: u64 = 2_000;
 
-/// How many of them are timed at once.
+/// The number of events that are timed together.
 const PART: u64 = 100;
 
 /// The codes and their names.
@@ -31,15 +31,15 @@ const CODES: [(&str, Which); 4] = [
     ("calls", Which::Calls),
 ];
 
-/// A window of live sites with an atom of type 1 at the centre, and none elsewhere.
+/// A window of live sites that is empty but for an atom of type 1 at the centre.
 fn fresh() -> Window {
     let mut window = Window::empty();
     window.put(0, Atom::new(1, 0));
     window
 }
 
-/// Makes events on one window after another, as an actor does. What they leave at the eastern
-/// site is summed, so that no event is left out.
+/// Makes events on one window after another, as a behaviour does. It sums what they leave at the
+/// eastern site, so that no event can be optimised away.
 fn make(machine: &mut Machine, code: &Code, events: u64) -> u64 {
     let start = fresh();
     let mut sum = 0u64;
@@ -60,7 +60,7 @@ fn steps_of(machine: &mut Machine, code: &Code) -> u64 {
     steps.into_ledger().count()
 }
 
-/// The least time of some parts of the events, in picoseconds an event.
+/// The shortest time per event over all parts, in picoseconds.
 fn picoseconds(clock: &impl Clock, machine: &mut Machine, code: &Code) -> io::Result<u128> {
     let mut least = u128::MAX;
     for _ in 0..EVENTS / PART {
@@ -71,7 +71,7 @@ fn picoseconds(clock: &impl Clock, machine: &mut Machine, code: &Code) -> io::Re
     Ok(least.saturating_mul(1_000) / u128::from(PART))
 }
 
-/// A code, or an error for want of memory or a code that is not valid.
+/// The code to run, or an error if memory ran out or the code is not valid.
 fn loaded(alloc: Global, which: Which) -> io::Result<Code> {
     match made(alloc, which) {
         Ok(Some(code)) => Ok(code),
@@ -80,7 +80,8 @@ fn loaded(alloc: Global, which: Which) -> io::Result<Code> {
     }
 }
 
-/// Runs a code as a word asks: none for its steps, `time` for its time, its name for its events.
+/// Runs a code as the argument asks: none for its steps, `time` for its time, its name for its
+/// events.
 fn run(
     rt: &HostRuntime,
     machine: &mut Machine,

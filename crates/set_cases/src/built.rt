@@ -1,11 +1,11 @@
-//! Sets of texts, and the lines of refusals.
+//! Sets built from texts, and the lines of refusals.
 
 use element_set::{BuildFault, ElementSet};
 use feast_base::{Place, Refusal, Source};
 use std::alloc::Global;
 use std::test::Fail;
 
-/// The set of two texts, which are shorter than the longest by far.
+/// The set built from two texts. They are far shorter than the longest that are allowed.
 pub fn built(
     alloc: Global,
     first: &str,

@@ -1,4 +1,4 @@
-//! The codes of elements as texts, and events.
+//! The codes of elements as text, and their events.
 
 use crate::built::built;
 use bit_field::Atom;
@@ -8,10 +8,10 @@ use std::alloc::Global;
 use std::test::Fail;
 use window_sites::Window;
 
-/// An element that exchanges itself and its eastern neighbour.
+/// An element that swaps itself with its eastern neighbour.
 const WALKER: &str = "element Walker { EventWindow ew; Void behave() { ew.swap(0, 4); } }";
 
-/// The set of two texts that are accepted.
+/// The set built from two texts that are accepted.
 fn accepted(alloc: Global, first: &str, second: &str) -> Result<ElementSet, Fail> {
     match built(alloc, first, second)? {
         Ok(set) => Ok(set),
@@ -62,7 +62,7 @@ fn texts_with_the_codes_of_their_elements(rt: HostRuntime) -> Result<(), Fail> {
     Ok(())
 }
 
-/// The types at the centre and at its eastern neighbour after an event of the atoms of two types.
+/// The types at the centre and at its eastern neighbour after an event that began with these two.
 fn acted(alloc: Global, set: &ElementSet, centre: u16, east: u16) -> Result<(u16, u16), Fail> {
     let mut actor = set.actor(alloc)?;
     let mut window = Window::empty();

@@ -1,7 +1,6 @@
-//! Texts of element files with the sets of elements that they are built to, from bytes on: how
-//! their classes are shown, the names and numbers of their elements, their codes and events, or why
-//! they are refused. The crate has tests alone; they stand above the set, so that it is not proved
-//! once more for their sake.
+//! Element files as text and the sets that are built from them: how their classes are shown, the
+//! names and numbers of their elements, their codes and events, or why they are refused. This crate
+//! has only tests. They are kept apart from the set so that it is proved only once.
 #![tactic(auto)]
 
 #[cfg(test)]

@@ -1,11 +1,11 @@
-//! Texts with how their classes are shown, or the refusal of the first stage that refuses them.
+//! Texts, with their classes as shown or the refusal of the first stage that refuses them.
 
 use crate::built::{built, line};
 use element_set::{BuildFault, one_building};
 use std::alloc::Global;
 use std::test::Fail;
 
-/// How the classes of two texts are shown, or the line of their refusal.
+/// The classes of two texts as shown, or the line of their refusal.
 fn shown(alloc: Global, first: &str, second: &str) -> Result<String, Fail> {
     match built(alloc, first, second)? {
         Ok(set) => {
@@ -148,7 +148,7 @@ fn texts_with_the_first_refusal_of_all_stages(rt: HostRuntime) -> Result<(), Fai
     Ok(())
 }
 
-/// A text whose last element has one more member and this body.
+/// A text whose last element has one more member, with this body.
 fn framed(alloc: Global, member: &str, body: &str) -> Result<String, Fail> {
     let frame =
         "quark Tally { Unsigned(5) count; Void bump() { count += 1; } Int(4) get() { return 1; } }\nelement B { Int(3) n; Void f() { } Void behave() { } }\nelement A { EventWindow ew; Random random; Int(8) n; Int(8) m; Unsigned(8) u; Unsigned(8) v; Unary(8) y; Bits(8) b; Bits(4) c; Bool p; Bool q; Tally t; constant Int k = 3; constant Bool yes = true; Void go() { } Int(4) num() { return 1; } Unsigned(4) uns() { return 1; } Bits(4) bts() { return 1; } Bool tru() { return true; } Atom atm() { return self; } A elm() { return self; } Void two(Int a, Bool d) { } ";

@@ -9,6 +9,7 @@ use Rattle.stack_code.specs.Valid.{Notes, around, pass, pass_function, pass_all,
 use Rattle.feast_base.specs.declared.memory.NoMemory.{NoMemory}
 use Rattle.stack_code.specs.declared.kind_lists.Node.{Node}
 use Rattle.stack_code.specs.KindLists.{PassLeaves, OneLeaves}
+use Rattle.stack_code.proofs.Passes.{if_true}
 
 pub one_false : (c : CodeValue) (g : FunctionValue) (p end : ℕ) (n : Notes) → function_fits g p end ≡ false → pass_function c g p end n ≡ None
 one_false c g p end n e = ap (λ (b : Bool). if b then pass (around c g end) (take (end - p) (drop p c.instrs)) p (Some []) n else None) e
@@ -28,14 +29,10 @@ one_true c g p end n is lists notes r fits e h =
 pub one_short : (o : Option Notes) (len end : ℕ) (lists : List Node) (notes : List ℕ) → len < end → OneLeaves o len end lists notes (Ok false)
 one_short o len end lists notes h = inr h
 
-both : (b c : Bool) → (if b then c else false) ≡ true → (b ≡ true) × (c ≡ true)
-both true c e = (refl, e)
-both false c e = cc
-
 fits_before : (g : FunctionValue) (p end : ℕ) → function_fits g p end ≡ true → p < end
 fits_before g p end e =
-    let x = both (nat_eq g.first p) (if nat_lt p end then (if nat_le g.params (length g.slots) then nat_le (length g.slots) 72 else false) else false) e in
-    let y = both (nat_lt p end) (if nat_le g.params (length g.slots) then nat_le (length g.slots) 72 else false) x.1 in
+    let x = if_true (nat_eq g.first p) (if nat_lt p end then (if nat_le g.params (length g.slots) then nat_le (length g.slots) 72 else false) else false) e in
+    let y = if_true (nat_lt p end) (if nat_le g.params (length g.slots) then nat_le (length g.slots) 72 else false) x.1 in
     ltb-true p end y.0
 
 then_none : (o : Option Notes) (go : Notes → Option Notes) → ((m : Notes) → go m ≡ None) → then_pass o go ≡ None

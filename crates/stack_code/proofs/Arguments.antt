@@ -6,6 +6,7 @@ use Rattle.stack_code.specs.Valid.{Kinds, instr_before, same_kind, same_kinds, a
 use Rattle.stack_code.specs.Machine.{FunctionValue}
 use Rattle.stack_code.specs.declared.instr.Answer.{Answer}
 use Rattle.std.proofs.lemmas.Bool.{le-leb}
+use Rattle.std.proofs.lemmas.Option.{slice_get_read}
 use Rattle.stack_code.specs.KindLists.{and_takes, takes}
 use Rattle.stack_code.specs.declared.instr.Operand.{Operand}
 use Rattle.stack_code.specs.declared.instr.Operand.TheVariants.{Number, Atom}
@@ -94,10 +95,6 @@ after_call_is g ks h =
     ap (map_answer g.answer) (takes_is g.params g.slots ks h) ∙ sym (answer_chosen g.answer t (drop g.params ks))
     ∙ sym (ap (λ (b : Bool). if b then (if t then Some (answer_on g.answer (drop g.params ks)) else None) else None) e)
 
-get_at : {A : Type 0} (xs : List A) (i : ℕ) (x : A) → i < length xs → ((d : A) → x ≡ get_or xs i d) → slice_get xs i ≡ Some x
-get_at [] i x lt f = absurd (omega arith)
-get_at (y ∷ xs) zero x lt f = ap Some (sym (f y))
-get_at (y ∷ xs) (suc i) x lt f = get_at xs i x (omega arith) f
-
+-- what a lookup in a list of this contents found
 pub get_some : {A : Type 0} (xs ys : List A) (i : ℕ) (x : A) → xs ≡ ys → i < length xs → ((d : A) → x ≡ get_or xs i d) → slice_get ys i ≡ Some x
-get_some xs ys i x e lt f = ap (λ l. slice_get l i) (sym e) ∙ get_at xs i x lt f
+get_some xs ys i x e lt f = ap (λ l. slice_get l i) (sym e) ∙ slice_get_read xs (length xs) i x refl lt (f x)

@@ -9,7 +9,7 @@ use Rattle.stack_code.specs.Machine.{FunctionValue, CodeValue, Led, Goes, Fails,
 use Rattle.stack_code.specs.Laws.{IsOver, RunsWell}
 use Rattle.stack_code.specs.Valid.{Notes, Around, around, pass, pass_all, pass_function, then_pass, function_fits, end_with, valid, back_of, first_fits, length_fits}
 use Rattle.stack_code.specs.declared.instr.Instr.{Instr}
-use Rattle.stack_code.proofs.Passes.{if_gives, FinePlace, FineAll, Extends, pass_fine, extends_on, extends_same}
+use Rattle.stack_code.proofs.Passes.{if_gives, if_true, FinePlace, FineAll, Extends, pass_fine, extends_on, extends_same}
 use Rattle.stack_code.proofs.Typed.{FunctionFine, CodeFine, Typed, measure, NextLed, step_next, fill_kinds, start_free, weight_by}
 
 weight_some : (len p : ℕ) (o : Option ℕ) → p < len → 0 < weight_by len p o
@@ -66,18 +66,14 @@ fine_at a shapes (j ∷ is) p (suc k) i f e =
     let q : p + 1 + k ≡ p + suc k = omega arith in
     subst (λ n. FinePlace a shapes n i) q (fine_at a shapes is (p + 1) k i f.1 e)
 
-pub both_true : (b c : Bool) → (if b then c else false) ≡ true → (b ≡ true) × (c ≡ true)
-both_true true c e = (refl, e)
-both_true false c e = cc
-
 fits_gives : (g : FunctionValue) (p end : ℕ) → function_fits g p end ≡ true → (nat_eq g.first p ≡ true) × (p < end) × (g.params ≤ length g.slots) × (length g.slots ≤ 72)
 fits_gives g p end e =
-    let x = both_true (nat_eq g.first p) (if nat_lt p end then (if nat_le g.params (length g.slots) then nat_le (length g.slots) 72 else false) else false) e in
-    let y = both_true (nat_lt p end) (if nat_le g.params (length g.slots) then nat_le (length g.slots) 72 else false) x.1 in
-    let z = both_true (nat_le g.params (length g.slots)) (nat_le (length g.slots) 72) y.1 in
+    let x = if_true (nat_eq g.first p) (if nat_lt p end then (if nat_le g.params (length g.slots) then nat_le (length g.slots) 72 else false) else false) e in
+    let y = if_true (nat_lt p end) (if nat_le g.params (length g.slots) then nat_le (length g.slots) 72 else false) x.1 in
+    let z = if_true (nat_le g.params (length g.slots)) (nat_le (length g.slots) 72) y.1 in
     (x.0, ltb-true p end y.0, leb-true g.params (length g.slots) z.0, leb-true (length g.slots) 72 z.1)
 
-then_gives : (r : Option Notes) (go : Notes → Option Notes) (m : Notes) → then_pass r go ≡ Some m → (n : Notes) × (r ≡ Some n) × (go n ≡ Some m)
+pub then_gives : (r : Option Notes) (go : Notes → Option Notes) (m : Notes) → then_pass r go ≡ Some m → (n : Notes) × (r ≡ Some n) × (go n ≡ Some m)
 then_gives None go m e = cc
 then_gives (Some n) go m e = (n, refl, e)
 
@@ -179,10 +175,10 @@ module _ (c : CodeValue) where
   pub starts : valid c ≡ true → (w : WindowValue) (seed : ℕ) → Starts w seed
   unfolding valid
   starts e w seed =
-      let x = both_true (length_fits (length c.instrs)) (if first_fits c.functions then is_some (pass_all c c.functions 0 (replicate (length c.instrs) None)) else false) e in
-      let y = both_true (first_fits c.functions) (is_some (pass_all c c.functions 0 (replicate (length c.instrs) None))) x.1 in
+      let x = if_true (length_fits (length c.instrs)) (if first_fits c.functions then is_some (pass_all c c.functions 0 (replicate (length c.instrs) None)) else false) e in
+      let y = if_true (first_fits c.functions) (is_some (pass_all c c.functions 0 (replicate (length c.instrs) None))) x.1 in
       let z = is_some_gives (pass_all c c.functions 0 (replicate (length c.instrs) None)) y.1 in
-      let l = both_true (nat_le 1 (length c.instrs)) (nat_le (length c.instrs) 65536) x.0 in
+      let l = if_true (nat_le 1 (length c.instrs)) (nat_le (length c.instrs) 65536) x.0 in
       starts_with c.functions z.0 refl y.0 z.1 (leb-true (length c.instrs) 65536 l.1) w seed
 
   -- valid code ends, and never lacks an operand

@@ -1,9 +1,10 @@
 -- An event keeps the live marks and changes no site that is not live, and its failures have numbers from 1 to 7.
-use Rattle.std.proofs.Common.{◌≡◌, ℕ, zero, suc, ◌+◌, ◌*◌, ◌%◌, ◌≤◌, ◌≢◌, List, [], ◌∷◌, Option, Some, None, refl, ap, ◌∙◌, arith, Bool, true, false}
+use Rattle.std.proofs.Common.{◌≡◌, ℕ, zero, suc, ◌+◌, ◌*◌, ◌%◌, ◌≤◌, List, [], ◌∷◌, Option, Some, None, refl, ap, ◌∙◌, arith, Bool, true, false}
 use Rattle.std.specs.Prelude.{slice_get, slice_set, slice_index_or, nat_lt, nat_le, nat_eq, ◌&&◌, if◌then◌else◌, ℤ, pos, negsuc}
 use Rattle.bit_field.specs.Atom.{AtomValue, empty_atom}
 use Rattle.bit_field.specs.Words.{with_field}
 use Rattle.window_sites.specs.Window.{WindowValue, atom_at, live_at, put_at, swap_at}
+use Rattle.window_sites.proofs.Marks.{set_apart}
 use Rattle.draw_stream.specs.Words.{event_step}
 use Rattle.stack_code.specs.Sorts.{of_bool, is_zero, Sort, Give, One, Two, Load, Store, Drop, Field, SetField, Part, SetPart, Own, Site, SetSite, Exchange, Ask, Draw, Same, Double, FieldAt, SetFieldAt, PartAt, SetPartAt, Goto, GotoFalse, Take, Enter, GiveBack, Leave, sort}
 use Rattle.datum.specs.declared.Datum.{Datum}
@@ -25,18 +26,8 @@ kept_on u v w a b = record {
   dead = λ n h. b.dead n (ap (λ l. slice_index_or l n false) a.live ∙ h) ∙ a.dead n h;
 }
 
-set_apart : (xs : List AtomValue) (p n : ℕ) (a d : AtomValue) → p ≢ n → slice_index_or (slice_set xs p a) n d ≡ slice_index_or xs n d
-set_apart [] p n a d ne = refl
-set_apart (x ∷ xs) zero zero a d ne = absurd (ne refl)
-set_apart (x ∷ xs) zero (suc n) a d ne = refl
-set_apart (x ∷ xs) (suc p) zero a d ne = refl
-set_apart (x ∷ xs) (suc p) (suc n) a d ne = set_apart xs p n a d (λ e. ne (ap suc e))
-
-live_apart : (w : WindowValue) (p n : ℕ) → live_at w p ≡ true → live_at w n ≡ false → p ≢ n
-live_apart w p n a b e = let s : live_at w p ≡ live_at w n = ap (live_at w) e in absurd (cc)
-
 put_by : (w : WindowValue) (p : ℕ) (a : AtomValue) (b : Bool) → live_at w p ≡ b → Kept w (if b then record w { atoms = slice_set w.atoms p a } else w)
-put_by w p a true e = record { live = refl; dead = λ n h. set_apart w.atoms p n a empty_atom (live_apart w p n e h) }
+put_by w p a true e = record { live = refl; dead = λ n h. set_apart w w.atoms p n a e h }
 put_by w p a false e = kept_same w
 
 kept_put : (w : WindowValue) (p : ℕ) (a : AtomValue) → Kept w (put_at w p a)
@@ -46,7 +37,7 @@ swap_by : (w : WindowValue) (p q : ℕ) (b d : Bool) → live_at w p ≡ b → l
 swap_by w p q true true e f = record {
   live = refl;
   dead = λ n h.
-      set_apart (slice_set w.atoms p (atom_at w q)) q n (atom_at w p) empty_atom (live_apart w q n f h) ∙ set_apart w.atoms p n (atom_at w q) empty_atom (live_apart w p n e h);
+      set_apart w (slice_set w.atoms p (atom_at w q)) q n (atom_at w p) f h ∙ set_apart w w.atoms p n (atom_at w q) e h;
 }
 swap_by w p q true false e f = kept_same w
 swap_by w p q false d e f = kept_same w
@@ -224,4 +215,4 @@ iter_kept c (suc n) s = then_kept s.held.window (step c s) (iter c n) (step_kept
 
 -- a failed event empties the centre, if it is live
 pub emptied_kept : (w : WindowValue) → live_at w 0 ≡ true → Kept w (emptied w)
-emptied_kept w live = record { live = refl; dead = λ n h. set_apart w.atoms 0 n empty_atom empty_atom (live_apart w 0 n live h) }
+emptied_kept w live = record { live = refl; dead = λ n h. set_apart w w.atoms 0 n empty_atom live h }

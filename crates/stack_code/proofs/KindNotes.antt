@@ -6,31 +6,9 @@ use Rattle.stack_code.specs.declared.kind_lists.Node.{Node}
 use Rattle.stack_code.specs.KindLists.{list_at, Grows, noted, notes_of, NotesFit, maybe, exit_of, jump_of, PassLeaves}
 use Rattle.stack_code.specs.declared.instr.Instr.{Instr}
 use Rattle.std.proofs.Math.ListN.{drop_of_length-le}
+use Rattle.std.specs.Option.{option_map}
+use Rattle.std.proofs.lemmas.Option.{slice_get-get_or, slice_get-map, slice_get_past}
 use Rattle.stack_code.specs.declared.exits.Exit.{Exit}
-
-get_at : {A : Type 0} (xs : List A) (i : ℕ) (d : A) → i < length xs → slice_get xs i ≡ Some (get_or xs i d)
-get_at [] i d lt = absurd (omega arith)
-get_at (y ∷ xs) zero d lt = refl
-get_at (y ∷ xs) (suc i) d lt = get_at xs i d (omega arith)
-
-get_past : {A : Type 0} (xs : List A) (i : ℕ) → length xs ≤ i → slice_get xs i ≡ None
-get_past [] i le = refl
-get_past (y ∷ xs) zero le = absurd (omega arith)
-get_past (y ∷ xs) (suc i) le = get_past xs i (omega arith)
-
-option_map : {A B : Type 0} → (A → B) → Option A → Option B
-option_map f None = None
-option_map f (Some x) = Some (f x)
-
-get_map : {A B : Type 0} (f : A → B) (xs : List A) (i : ℕ) (x : A) → slice_get xs i ≡ Some x → slice_get (map f xs) i ≡ Some (f x)
-get_map f [] i x e = cc
-get_map f (y ∷ xs) zero x e = let s : y ≡ x = cc in ap (λ z. Some (f z)) s
-get_map f (y ∷ xs) (suc i) x e = get_map f xs i x e
-
-get_map_none : {A B : Type 0} (f : A → B) (xs : List A) (i : ℕ) → slice_get xs i ≡ None → slice_get (map f xs) i ≡ None
-get_map_none f [] i e = refl
-get_map_none f (y ∷ xs) zero e = cc
-get_map_none f (y ∷ xs) (suc i) e = get_map_none f xs i e
 
 set_map : {A B : Type 0} (f : A → B) (xs : List A) (i : ℕ) (x : A) → map f (slice_set xs i x) ≡ slice_set (map f xs) i (f x)
 set_map f [] i x = refl
@@ -39,10 +17,10 @@ set_map f (y ∷ xs) (suc i) x = ap (λ l. f y ∷ l) (set_map f xs i x)
 
 -- what is noted at a place that there is
 noted_at : (lists : List Node) (notes : List ℕ) (p : ℕ) → p < length notes → slice_get (notes_of lists notes) p ≡ Some (noted lists (get_or notes p 0))
-noted_at lists notes p lt = get_map (noted lists) notes p (get_or notes p 0) (get_at notes p 0 lt)
+noted_at lists notes p lt = slice_get-map (noted lists) notes p ∙ ap (option_map (noted lists)) (slice_get-get_or notes p 0 lt)
 
 pub noted_past : (lists : List Node) (notes : List ℕ) (p : ℕ) → length notes ≤ p → slice_get (notes_of lists notes) p ≡ None
-noted_past lists notes p le = get_map_none (noted lists) notes p (get_past notes p le)
+noted_past lists notes p le = slice_get-map (noted lists) notes p ∙ ap (option_map (noted lists)) (slice_get_past notes p le)
 
 pub noted_none : (lists : List Node) (notes : List ℕ) (p : ℕ) → p < length notes → get_or notes p 0 ≡ 0 → slice_get (notes_of lists notes) p ≡ Some None
 noted_none lists notes p lt h = noted_at lists notes p lt ∙ ap (λ e. Some (noted lists e)) h
@@ -55,7 +33,7 @@ pub noted_old : (lists : List Node) (notes : List ℕ) (p : ℕ) → p < length 
 noted_old lists notes p lt h = noted_at lists notes p lt ∙ ap Some (noted_some lists (get_or notes p 0) h)
 
 pub noted_below : (lists : List Node) (notes : List ℕ) (p : ℕ) → NotesFit lists notes → p < length notes → 0 < get_or notes p 0 → get_or notes p 0 - 1 ≤ length lists
-noted_below lists notes p fit lt h = let a = fit p (get_or notes p 0) (get_at notes p 0 lt) in omega (arith, a, h)
+noted_below lists notes p fit lt h = let a = fit p (get_or notes p 0) (slice_get-get_or notes p 0 lt) in omega (arith, a, h)
 
 -- a note written
 pub notes_set : (lists : List Node) (notes : List ℕ) (p id : ℕ) → notes_of lists (slice_set notes p (id + 1)) ≡ slice_set (notes_of lists notes) p (Some (list_at lists id))

@@ -19,7 +19,8 @@ same_kind_eq Number Atom e = cc
 same_kind_eq Atom Number e = cc
 same_kind_eq Atom Atom e = refl
 
-if_true : (b c : Bool) → (if b then c else false) ≡ true → (b ≡ true) × (c ≡ true)
+-- two tests of which the second is made only if the first holds
+pub if_true : (b c : Bool) → (if b then c else false) ≡ true → (b ≡ true) × (c ≡ true)
 if_true true c e = (refl, e)
 if_true false c e = cc
 

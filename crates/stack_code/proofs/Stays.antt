@@ -8,9 +8,9 @@ use Rattle.stack_code.specs.Valid.{Kinds, Notes, Around, around, Exits, exits, p
 use Rattle.stack_code.specs.declared.instr.Operand.TheVariants.{Number}
 use Rattle.stack_code.specs.declared.instr.Instr.{Instr}
 use Rattle.stack_code.specs.declared.instr.Instr.TheVariants.{Jump, JumpFalse}
-use Rattle.stack_code.proofs.Passes.{jump_gives, fork_gives}
+use Rattle.stack_code.proofs.Passes.{if_true, jump_gives, fork_gives}
 use Rattle.stack_code.proofs.Typed.{Jumps, jumps_by, forward_gives}
-use Rattle.stack_code.proofs.Bound.{FineUpTo, all_fine, both_true, is_some_gives}
+use Rattle.stack_code.proofs.Bound.{FineUpTo, all_fine, is_some_gives}
 
 target_goto : (i : Instr) (q : ℕ) → target_of i ≡ Some q → (sort i ≡ Goto q) ⊎ (sort i ≡ GotoFalse q)
 target_goto (Jump r) q e = let s : r ≡ q = cc in inl (ap Goto s)
@@ -36,8 +36,8 @@ module _ (c : CodeValue) where
   passed : valid c ≡ true → (shapes : Notes) × (pass_all c c.functions 0 (replicate (length c.instrs) None) ≡ Some shapes)
   unfolding valid
   passed e =
-      let x = both_true (length_fits (length c.instrs)) (if first_fits c.functions then is_some (pass_all c c.functions 0 (replicate (length c.instrs) None)) else false) e in
-      let y = both_true (first_fits c.functions) (is_some (pass_all c c.functions 0 (replicate (length c.instrs) None))) x.1 in
+      let x = if_true (length_fits (length c.instrs)) (if first_fits c.functions then is_some (pass_all c c.functions 0 (replicate (length c.instrs) None)) else false) e in
+      let y = if_true (first_fits c.functions) (is_some (pass_all c c.functions 0 (replicate (length c.instrs) None))) x.1 in
       is_some_gives (pass_all c c.functions 0 (replicate (length c.instrs) None)) y.1
 
   -- each function of valid code is fine, up to where the next one begins

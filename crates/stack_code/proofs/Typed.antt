@@ -15,7 +15,7 @@ use Rattle.stack_code.specs.declared.instr.Answer.{Answer}
 use Rattle.stack_code.specs.declared.instr.Answer.TheVariants.{Nothing, Number as NumberBack, Atom as AtomBack}
 use Rattle.stack_code.specs.declared.instr.Instr.{Instr}
 use Rattle.stack_code.specs.declared.instr.Instr.TheVariants.{Turn, Jump}
-use Rattle.stack_code.proofs.Passes.{if_gives, same_kinds_eq, falls_gives, jump_gives, end_gives, fork_gives, FinePlace}
+use Rattle.stack_code.proofs.Passes.{if_gives, if_true, same_kinds_eq, falls_gives, jump_gives, end_gives, fork_gives, FinePlace}
 use Rattle.stack_code.proofs.Plain.{kinds_of, Good, pop_gives, work_good}
 
 -- what is known of a function of valid code
@@ -110,25 +110,21 @@ back_gives : (i : Instr) (p q : ℕ) → back_by p (Some i) ≡ Some q → (sort
 back_gives (Jump r) p q e = let g = if_gives (nat_lt r p) (Some r) q e in let s : r ≡ q = cc in let l = ltb-true r p g.0 in (ap Goto s, subst (λ r. r < p) s l)
 back_gives i p q e = cc
 
-both_true : (b c : Bool) → (if b then c else false) ≡ true → (b ≡ true) × (c ≡ true)
-both_true true c e = (refl, e)
-both_true false c e = cc
-
 none_of : {A : Type 0} (o : Option A) → is_none o ≡ true → o ≡ None
 none_of None e = refl
 none_of (Some x) e = cc
 
 pub forward_gives : (a : Around) (p q : ℕ) → forward_fits a p q ≡ true → (p < q) × (q < a.end) × (back_of a.code.instrs q ≡ None)
 forward_gives a p q e =
-    let x = both_true (nat_lt p q) (if nat_lt q a.end then is_none (back_of a.code.instrs q) else false) e in
-    let y = both_true (nat_lt q a.end) (is_none (back_of a.code.instrs q)) x.1 in
+    let x = if_true (nat_lt p q) (if nat_lt q a.end then is_none (back_of a.code.instrs q) else false) e in
+    let y = if_true (nat_lt q a.end) (is_none (back_of a.code.instrs q)) x.1 in
     (ltb-true p q x.0, ltb-true q a.end y.0, none_of (back_of a.code.instrs q) y.1)
 
 back_gives_all : (a : Around) (p q : ℕ) → back_fits a p q ≡ true → (q < p) × (a.function.first ≤ q) × (is_turn (instr_before a.code.instrs p) ≡ true) × (back_of a.code.instrs q ≡ None)
 back_gives_all a p q e =
-    let x = both_true (nat_lt q p) (if nat_le a.function.first q then (if is_turn (instr_before a.code.instrs p) then is_none (back_of a.code.instrs q) else false) else false) e in
-    let y = both_true (nat_le a.function.first q) (if is_turn (instr_before a.code.instrs p) then is_none (back_of a.code.instrs q) else false) x.1 in
-    let z = both_true (is_turn (instr_before a.code.instrs p)) (is_none (back_of a.code.instrs q)) y.1 in
+    let x = if_true (nat_lt q p) (if nat_le a.function.first q then (if is_turn (instr_before a.code.instrs p) then is_none (back_of a.code.instrs q) else false) else false) e in
+    let y = if_true (nat_le a.function.first q) (if is_turn (instr_before a.code.instrs p) then is_none (back_of a.code.instrs q) else false) x.1 in
+    let z = if_true (is_turn (instr_before a.code.instrs p)) (is_none (back_of a.code.instrs q)) y.1 in
     (ltb-true q p x.0, leb-true a.function.first q y.0, z.0, none_of (back_of a.code.instrs q) z.1)
 
 -- a jump goes forward, or back

@@ -1,4 +1,4 @@
-//! Functions, and the code of an element.
+//! Functions and the code of an element.
 
 ghost use Rattle.std.specs.Prelude.{◌≡◌, ◌≤◌, ℕ, length, true};
 ghost use Rattle.window_sites.specs.Window.{WindowValue};
@@ -10,8 +10,8 @@ use crate::instr::{Answer, Instr, Operand};
 use feast_base::Name;
 use std::marker::Model;
 
-/// A function: its name, the first state bit of the class that it works on, the place of its
-/// first instruction, how many of its slots are parameters, its slots, and what it gives back.
+/// A function: its name, the first state bit of the class that it works on, the index of its
+/// first instruction, the number of its parameters, its slots, and what it returns.
 #[derive(Drop)]
 pub struct RawFunction {
     name: Name,
@@ -34,7 +34,7 @@ impl Model for RawFunction {
 }
 
 impl RawFunction {
-    /// A function of these parts. The base is at most 71.
+    /// A function with these parts. The base is at most 71.
     pub fn new(
         name: Name,
         base: u32,
@@ -71,7 +71,7 @@ impl RawFunction {
         self.base
     }
 
-    /// The place of the first instruction.
+    /// The index of the first instruction.
     #[inline(always)]
     pub fn first(&self) -> u32
         ensures { result ≡ self.now.first }
@@ -79,7 +79,7 @@ impl RawFunction {
         self.first
     }
 
-    /// How many of the slots are parameters. They are the first ones.
+    /// The number of parameters. They are the first slots.
     #[inline(always)]
     pub fn params(&self) -> u32
         ensures { result ≡ self.now.params }
@@ -87,7 +87,7 @@ impl RawFunction {
         self.params
     }
 
-    /// What each slot holds.
+    /// The kind of each slot.
     #[inline(always)]
     pub fn slots(&self) -> &[Operand]
         ensures { result.now ≡ self.now.slots }
@@ -95,7 +95,7 @@ impl RawFunction {
         self.slots.as_slice()
     }
 
-    /// What the function gives back.
+    /// What the function returns.
     #[inline(always)]
     pub fn answer(&self) -> Answer
         ensures { result ≡ self.now.answer }
@@ -104,7 +104,7 @@ impl RawFunction {
     }
 }
 
-/// The code of an element, valid or not: its type number, its functions, and all their
+/// The code of an element, valid or not: its type number, its functions and all their
 /// instructions.
 #[derive(Drop)]
 pub struct RawCode {
@@ -122,7 +122,7 @@ impl Model for RawCode {
 }
 
 impl RawCode {
-    /// Code of these parts.
+    /// Code with these parts.
     pub fn new(kind: u16, functions: Vec<RawFunction>, instrs: Vec<Instr>) -> RawCode
         ensures { result ≡ record { kind = kind; functions = functions.items; instrs = instrs.items } }
     {
@@ -141,7 +141,7 @@ impl RawCode {
         self.kind
     }
 
-    /// The functions, of which an event runs the first.
+    /// The functions. An event runs the first.
     #[inline(always)]
     pub fn functions(&self) -> &[RawFunction]
         ensures { result.now ≡ self.now.functions }
@@ -158,7 +158,7 @@ impl RawCode {
     }
 }
 
-/// Code that is valid.
+/// Valid code.
 #[derive(Drop)]
 pub struct Code {
     raw: RawCode,
@@ -177,7 +177,7 @@ impl Model for Code {
 }
 
 impl Code {
-    /// The code, which is valid.
+    /// Wraps code that is valid.
     pub(crate) fn new(raw: RawCode) -> Code
         requires { valid raw ≡ true }
         ensures { result ≡ raw }
@@ -185,16 +185,16 @@ impl Code {
         Code { raw }
     }
 
-    /// The code, as it may be written without being valid.
+    /// The code itself, without the promise that it is valid.
     pub(crate) fn raw(&self) -> &RawCode
         ensures { result.now ≡ self.now }
     {
         &self.raw
     }
 
-    /// What holds of valid code: each run comes to its end or to a failure within 1,001 times as
-    /// many instructions as there are, without lacking an operand, a slot, an instruction or a
-    /// function, and no jump leaves its function. It does nothing.
+    /// States what is true of valid code. A run ends or fails after at most 1,001 times as many
+    /// instructions as the code has. It never misses an operand, a slot, an instruction or a
+    /// function, and no jump leaves its function. The call does nothing.
     #[inline(always)]
     pub fn laws(&self)
         ensures valid { valid self.now ≡ true }
@@ -204,7 +204,7 @@ impl Code {
         let _raw = &self.raw;
     }
 
-    /// How many instructions the code has.
+    /// The number of instructions.
     #[inline(always)]
     pub fn len(&self) -> usize
         ensures { result ≡ length self.now.instrs }
@@ -220,7 +220,7 @@ impl Code {
         self.raw.kind
     }
 
-    /// The functions, of which an event runs the first.
+    /// The functions. An event runs the first.
     #[inline(always)]
     pub fn functions(&self) -> &[RawFunction]
         ensures { result.now ≡ self.now.functions }

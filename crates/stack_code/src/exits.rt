@@ -1,4 +1,4 @@
-//! Where the instructions of a function lead.
+//! Which places the instructions of a function lead to, and with which operands.
 
 ghost use Rattle.std.specs.Prelude.{◌≡◌, ◌≤◌, List, length, Option, Some, Ok};
 ghost use Rattle.stack_code.specs.Sorts.{sort};
@@ -13,19 +13,19 @@ use crate::instr::{Answer, Instr, Operand};
 use crate::kind_lists::KindLists;
 use feast_base::NoMemory;
 
-/// The most operands at a place.
+/// The most operands that there may be at a place.
 const MOST_OPERANDS: u32 = 512;
 
-/// Where a place leads: the list that falls through, and a jump's place with the list there.
+/// Where a place leads: the list that falls through to the next place, and a jump with its list.
 #[derive(Clone, Copy, Debug, PartialEq, Eq)]
 pub struct Exit {
     /// The list that falls through to the next place.
     pub falls: Option<u32>,
-    /// The place of a jump, and the list that goes there.
+    /// The target of a jump, and the list that arrives there.
     pub jumps: Option<(u32, u32)>,
 }
 
-/// A function of a code, and the place where the next one begins.
+/// A function in its code, and the place where the next one begins.
 #[derive(Clone, Copy)]
 pub struct Around<'a> {
     /// The code.
@@ -36,7 +36,7 @@ pub struct Around<'a> {
     pub end: usize,
 }
 
-/// The target of the jump back at a place, if there is one.
+/// The target of the backward jump at a place, if there is one.
 #[tactic(auto, unfolding(crate::specs::Valid::back_of))]
 fn back_of(instrs: &[Instr], p: usize) -> Option<u32>
     ensures { result ≡ back_of instrs.now p }
@@ -47,7 +47,7 @@ fn back_of(instrs: &[Instr], p: usize) -> Option<u32>
     }
 }
 
-/// Whether a `Turn` stands before a place.
+/// Whether the instruction before a place is a `Turn`.
 #[tactic(auto, using(crate::proofs::Arguments::before_first, crate::proofs::Arguments::before_other))]
 fn after_turn(instrs: &[Instr], p: usize) -> bool
     ensures { result ≡ is_turn (instr_before instrs.now p) }
@@ -62,7 +62,7 @@ fn after_turn(instrs: &[Instr], p: usize) -> bool
 }
 
 impl Around<'_> {
-    /// Whether a jump forward is allowed: inside the function, and not to a jump back.
+    /// Whether a forward jump is allowed: its target is inside the function and is no backward jump.
     fn forward_fits(&self, p: usize, q: u32) -> bool
         ensures { result ≡ forward_fits (around self.now.code.now self.now.function.now self.now.end) p q }
     {
@@ -75,8 +75,8 @@ impl Around<'_> {
         false
     }
 
-    /// Whether a jump back is allowed: inside the function, straight after a `Turn`, and not to a
-    /// jump back.
+    /// Whether a backward jump is allowed: it comes right after a `Turn`, and its target is inside
+    /// the function and is no backward jump.
     fn back_fits(&self, p: usize, q: u32) -> bool
         ensures { result ≡ back_fits (around self.now.code.now self.now.function.now self.now.end) p q }
     {
@@ -139,7 +139,7 @@ impl Around<'_> {
         }
     }
 
-    /// Where an instruction leads from a list, where its arguments and the list's depth are
+    /// Where an instruction leads from a list, if its arguments and the depth of the list are
     /// allowed.
     #[tactic(auto, using(crate::proofs::KindNotes::grows_same))]
     fn lead(
@@ -181,7 +181,7 @@ impl Around<'_> {
         }
     }
 
-    /// Where an instruction leads from a list. None where it may not stand there.
+    /// Where an instruction leads from a list, or None if it is not allowed there.
     #[tactic(auto, using(crate::proofs::KindNotes::grows_same))]
     pub fn exits(
         &self,
@@ -218,7 +218,7 @@ fn end_if(lists: &KindLists, allowed: bool) -> Option<Exit>
     }
 }
 
-/// Whether a function gives nothing back.
+/// Whether a function returns nothing.
 pub fn gives_nothing(answer: Answer) -> bool
     ensures { result ≡ is_nothing answer }
 {
@@ -228,7 +228,7 @@ pub fn gives_nothing(answer: Answer) -> bool
     }
 }
 
-/// Whether a list has on top what a function gives back.
+/// Whether the top of a list is what a function returns.
 fn answers(lists: &KindLists, answer: Answer, id: u32) -> bool
     requires { id ≤ length lists.now }
     ensures { result ≡ answer_found answer (list_at lists.now id) }
@@ -249,7 +249,7 @@ fn answers(lists: &KindLists, answer: Answer, id: u32) -> bool
     }
 }
 
-/// The list below the arguments of a call, of which the last is on top.
+/// The list below the arguments of a call. The last argument is on top.
 fn takes(lists: &KindLists, slots: &[Operand], params: u32, id: u32) -> Option<u32>
     requires list { id ≤ length lists.now }
     requires params { params ≤ length slots.now }
@@ -266,7 +266,7 @@ fn takes(lists: &KindLists, slots: &[Operand], params: u32, id: u32) -> Option<u
     Some(id)
 }
 
-/// What a call leaves of a list.
+/// The list after a call.
 fn call(lists: &mut KindLists, callee: &RawFunction, id: u32) -> Result<Option<u32>, NoMemory>
     requires { id ≤ length lists.old }
     ensures { Leaves lists.old lists.new (after_call (Some callee.now) (list_at lists.old id)) result }
@@ -278,7 +278,7 @@ fn call(lists: &mut KindLists, callee: &RawFunction, id: u32) -> Result<Option<u
     answered(lists, callee.answer(), below)
 }
 
-/// A list, if there is one, with what a function gives back on top.
+/// A list, if there is one, with what a function returns on top.
 #[tactic(auto, using(crate::proofs::KindNotes::grows_same))]
 fn answered(
     lists: &mut KindLists,
@@ -298,7 +298,7 @@ fn answered(
     }
 }
 
-/// A list, if there is one, falls through.
+/// The exit by which a list, if there is one, falls through.
 fn falls(list: Result<Option<u32>, NoMemory>) -> Result<Option<Exit>, NoMemory>
     ensures { (old new : List Node) (o : Option Kinds) → Leaves old new o list → ExitLeaves old new (falls_exit o) result }
 {

@@ -1,4 +1,4 @@
-//! Whether the arguments of an instruction are allowed.
+//! The test of an instruction's arguments.
 
 ghost use Rattle.std.specs.Prelude.{◌≡◌};
 ghost use Rattle.stack_code.specs.Valid.{args_fit, type_fits, field_fits, number_fits};
@@ -7,7 +7,7 @@ ghost use Rattle.sat_math.specs.Numbers.{least_width, greatest_width};
 use crate::instr::Instr;
 use sat_math::{Kind, NumType};
 
-/// The bits of an atom's state.
+/// The number of bits of an atom's state.
 const STATE_BITS: u32 = 71;
 
 /// The least width of a kind.
@@ -30,7 +30,7 @@ fn greatest_width(kind: Kind) -> u8
     }
 }
 
-/// Whether the kind allows the width.
+/// Whether a kind allows a width.
 fn type_fits(of: NumType) -> bool
     ensures { result ≡ type_fits of }
 {
@@ -41,7 +41,7 @@ fn type_fits(of: NumType) -> bool
     }
 }
 
-/// Whether `n` fields from a first bit on lie in an atom's state, and are one at least.
+/// Whether there is at least one field, and all `n` from the first bit on fit in an atom's state.
 fn fields_fit(first: u8, width: u8, kind: Kind, n: u8) -> bool
     ensures { result ≡ field_fits first (record { kind = kind; width = width }) n }
 {
@@ -54,7 +54,7 @@ fn fields_fit(first: u8, width: u8, kind: Kind, n: u8) -> bool
     u32::from(first) + u32::from(n) * u32::from(width) <= STATE_BITS
 }
 
-/// Whether an operand can be this number.
+/// Whether this number can be an operand.
 fn number_fits(v: i128) -> bool
     ensures { result ≡ number_fits v }
 {
@@ -65,7 +65,7 @@ fn number_fits(v: i128) -> bool
     }
 }
 
-/// Whether the kind `Bits` allows the width.
+/// Whether the kind `Bits` allows a width.
 fn bits_fit(width: u8) -> bool
     ensures { result ≡ type_fits (record { kind = Kind.Bits; width = width }) }
 {
@@ -75,7 +75,8 @@ fn bits_fit(width: u8) -> bool
     })
 }
 
-/// Whether the arguments of an instruction are allowed, but for slots, places and functions.
+/// Whether the arguments of an instruction are allowed. It does not look at slots, jump targets
+/// and functions.
 pub fn args_fit(i: Instr) -> bool
     ensures { result ≡ args_fit i }
 {

@@ -1,8 +1,8 @@
-//! The instructions, and what operands, slots and answers are.
+//! The instructions, and the kinds of operands, slots and results.
 
 use sat_math::Kind;
 
-/// What an operand or a slot holds.
+/// The kind of an operand or a slot.
 #[derive(Clone, Copy, Debug, PartialEq, Eq)]
 pub enum Operand {
     /// A number from -2^63 to 2^64 - 1.
@@ -11,10 +11,10 @@ pub enum Operand {
     Atom,
 }
 
-/// What a function gives back.
+/// What a function returns.
 #[derive(Clone, Copy, Debug, PartialEq, Eq)]
 pub enum Answer {
-    /// No operand.
+    /// Nothing.
     Nothing,
     /// A number.
     Number,
@@ -22,49 +22,50 @@ pub enum Answer {
     Atom,
 }
 
-/// One instruction. Operands are taken from the top, and what is given is put on top. The fields
-/// are the arguments in their order: a first bit, a width, a kind of number, and for an array its
-/// length; a slot comes before them. A place is that of an instruction of the whole code, from 0
-/// on, and a function is named by its number.
+/// One instruction. It pops its operands from the top of the stack and pushes its result. Its
+/// arguments are, in this order: a first bit, a width, a kind of number and, for an array, its
+/// length; a slot comes before them. A place is the index of an instruction in the whole code, from
+/// 0 on. A function is named by its number.
 #[derive(Clone, Copy, Debug, PartialEq, Eq)]
 pub enum Instr {
-    /// Gives the number, which is from -2^63 to 2^64 - 1.
+    /// Pushes the number, from -2^63 to 2^64 - 1.
     PushNum(i128),
-    /// Gives the atom of the type with state 0.
+    /// Pushes the atom of this type with state 0.
     PushAtom(u16),
-    /// Gives what is in the slot.
+    /// Pushes the value of the slot.
     LoadLocal(u8),
-    /// Takes an operand and puts it into the slot.
+    /// Pops an operand into the slot.
     StoreLocal(u8),
-    /// Takes an operand.
+    /// Pops an operand.
     Pop,
-    /// Gives a field of the atom at site 0. Failure 6 if that has not the acting type.
+    /// Pushes a field of the atom at site 0. Failure 6 if that atom is not of the acting type.
     LoadField(u8, u8, Kind),
-    /// Takes a number and writes it to a field of the atom at site 0. Failure 6.
+    /// Pops a number into a field of the atom at site 0. Failure 6.
     StoreField(u8, u8, Kind),
-    /// Gives a field of the atom in the slot.
+    /// Pushes a field of the atom in the slot.
     LoadPart(u8, u8, u8, Kind),
-    /// Takes a number and writes it to a field of the atom in the slot, unless that is of type 0.
+    /// Pops a number into a field of the atom in the slot, unless that atom is of type 0.
     StorePart(u8, u8, u8, Kind),
-    /// Gives the atom at site 0. Failure 6.
+    /// Pushes the atom at site 0. Failure 6.
     LoadSelf,
-    /// Takes the number of a site and gives its atom. Failure 4 if no site has the number.
+    /// Pops the number of a site and pushes its atom. Failure 4 if there is no such site.
     LoadSite,
-    /// Takes an atom, then the number of a site, and puts the atom there. Failure 4.
+    /// Pops an atom, then the number of a site, and puts the atom there. Failure 4.
     StoreSite,
-    /// Takes the numbers of two sites and exchanges their atoms. Failure 4.
+    /// Pops the numbers of two sites and swaps their atoms. Failure 4.
     Swap,
-    /// Takes the number of a site and gives 1 where it is live, else 0. Failure 4.
+    /// Pops the number of a site and pushes 1 if it is live, otherwise 0. Failure 4.
     IsLive,
-    /// Takes the number of a site and gives 1 where its atom has type 0, else 0. Failure 4.
+    /// Pops the number of a site and pushes 1 if its atom has type 0, otherwise 0. Failure 4.
     IsEmpty,
-    /// Takes a number and gives the next random word modulo it. Failure 5 if it is below 1.
+    /// Pops a number and pushes the next random word modulo it. Failure 5 if it is below 1.
     RandCreate,
-    /// Takes a number and gives 1 where the next random word modulo it is 0, else 0. Failure 5.
+    /// Pops a number and pushes 1 if the next random word modulo it is 0, otherwise 0. Failure 5.
     RandOneIn,
-    /// Takes an atom and gives 1 where it has the type, else 0.
+    /// Pops an atom and pushes 1 if it has this type, otherwise 0.
     IsKind(u16),
-    /// Takes two numbers and gives their sum, in `Int` of 32 bits, as the four that follow.
+    /// Pops two numbers and pushes their sum as an `Int` of 32 bits. The next four work in that type
+    /// too.
     AddI,
     /// The difference.
     SubI,
@@ -74,7 +75,7 @@ pub enum Instr {
     DivI,
     /// The remainder, with the sign of the lower operand. Failure 3 if the upper operand is 0.
     RemI,
-    /// The sum in `Unsigned` of 32 bits, as the four that follow.
+    /// The sum as an `Unsigned` of 32 bits. The next four work in that type too.
     AddU,
     /// The difference.
     SubU,
@@ -84,52 +85,51 @@ pub enum Instr {
     DivU,
     /// The remainder. Failure 3.
     RemU,
-    /// Takes a number and gives it with its sign turned, in `Int` of 32 bits.
+    /// Pops a number and pushes its negation as an `Int` of 32 bits.
     NegI,
-    /// Takes two numbers and gives the bits that both have. Of a number the bits are those of its
-    /// remainder by 2^64, here and in the five that follow.
+    /// Pops two numbers and pushes their bitwise and. Here and in the next five, the bits of a number
+    /// are those of its remainder modulo 2^64.
     And,
-    /// The bits that one of the two has, or both.
+    /// The bitwise or.
     Or,
-    /// The bits that one of the two has, and not both.
+    /// The bitwise exclusive or.
     Xor,
-    /// Takes a number and gives the low bits of its complement, as many as the width.
+    /// Pops a number and pushes the low bits of its complement, as many as the width.
     NotW(u8),
-    /// Takes two numbers and moves the bits of the lower up by the upper, keeping as many low bits
-    /// as the width. A negative count gives 0.
+    /// Pops two numbers and shifts the lower one left by the upper one, keeping as many low bits as
+    /// the width. A negative count gives 0.
     Shl(u8),
-    /// Takes two numbers and moves the bits of the lower down by the upper. A negative count
-    /// gives 0.
+    /// Pops two numbers and shifts the lower one right by the upper one. A negative count gives 0.
     Shr,
-    /// Takes a number and gives what it becomes in a type of numbers.
+    /// Pops a number and pushes it converted to a number type.
     Fit(Kind, u8),
-    /// Takes a number and gives 1 for 0, else 0.
+    /// Pops a number and pushes 1 if it is 0, otherwise 0.
     NotB,
-    /// Takes two numbers and gives 1 where they are equal, else 0.
+    /// Pops two numbers and pushes 1 if they are equal, otherwise 0.
     Eq,
-    /// 1 where they differ.
+    /// 1 if they differ.
     Ne,
-    /// 1 where the lower operand is less.
+    /// 1 if the lower operand is less.
     Lt,
-    /// 1 where the lower operand is not greater.
+    /// 1 if the lower operand is less or equal.
     Le,
-    /// 1 where the lower operand is greater.
+    /// 1 if the lower operand is greater.
     Gt,
-    /// 1 where the lower operand is not less.
+    /// 1 if the lower operand is greater or equal.
     Ge,
-    /// Goes on at the place.
+    /// Continues at the place.
     Jump(u32),
-    /// Takes a number and goes on at the place where it is 0.
+    /// Pops a number and continues at the place if it is 0.
     JumpFalse(u32),
-    /// Takes a turn. Failure 1 if none is left.
+    /// Uses up a turn. Failure 1 if none is left.
     Turn,
-    /// Calls the function. Takes a turn, then a level of depth. Failures 1 and 2.
+    /// Calls the function. Uses up a turn, then a level of depth. Failures 1 and 2.
     Call(u32),
-    /// Takes an operand and ends the function with it.
+    /// Pops an operand and returns it.
     Return,
-    /// Ends the function.
+    /// Returns nothing.
     ReturnVoid,
-    /// The sum in `Int` of 64 bits, as the four that follow.
+    /// The sum as an `Int` of 64 bits. The next four work in that type too.
     AddL,
     /// The difference.
     SubL,
@@ -139,7 +139,7 @@ pub enum Instr {
     DivL,
     /// The remainder. Failure 3.
     RemL,
-    /// The sum in `Unsigned` of 64 bits, as the four that follow.
+    /// The sum as an `Unsigned` of 64 bits. The next four work in that type too.
     AddV,
     /// The difference.
     SubV,
@@ -149,18 +149,18 @@ pub enum Instr {
     DivV,
     /// The remainder. Failure 3.
     RemV,
-    /// Takes a number and gives it with its sign turned, in `Int` of 64 bits.
+    /// Pops a number and pushes its negation as an `Int` of 64 bits.
     NegL,
-    /// Takes a number and gives it twice.
+    /// Pops a number and pushes it twice.
     Dup,
-    /// Takes an index and gives that element of an array of fields of the atom at site 0.
-    /// Failure 6, then failure 7 if the index is below 0 or not below the length.
+    /// Pops an index and pushes that element of an array of fields of the atom at site 0. Failure 6,
+    /// then failure 7 if the index is below 0 or not below the length.
     LoadFieldAt(u8, u8, Kind, u8),
-    /// Takes a number, then an index, and writes the number to that element of an array of fields
-    /// of the atom at site 0. Failures 6, then 7.
+    /// Pops a number, then an index, and writes the number to that element of an array of fields of
+    /// the atom at site 0. Failure 6, then failure 7.
     StoreFieldAt(u8, u8, Kind, u8),
-    /// As `LoadFieldAt`, of the atom in the slot. Failure 7.
+    /// As `LoadFieldAt`, for the atom in the slot. Failure 7.
     LoadPartAt(u8, u8, u8, Kind, u8),
-    /// As `StoreFieldAt`, of the atom in the slot, unless that is of type 0. Failure 7.
+    /// As `StoreFieldAt`, for the atom in the slot, unless that atom is of type 0. Failure 7.
     StorePartAt(u8, u8, u8, Kind, u8),
 }

@@ -1,4 +1,4 @@
-//! Lists of kinds of operands that share their lower parts, and what is noted at places.
+//! Lists of operand kinds that share their lower parts, and the notes at places.
 
 ghost use Rattle.std.specs.Prelude.{◌≡◌, ◌<◌, ◌≤◌, ◌+◌, [], ◌∷◌, length, IfOk, IfSome, MatchOption, reverse, slice_set, slice_get, vec_len, Some, None, if◌then◌else◌};
 ghost use Rattle.stack_code.specs.Valid.{same_kinds, same_kind, pop, and_pop, push, note, arrive};
@@ -9,21 +9,21 @@ use feast_base::NoMemory;
 use std::alloc::Global;
 use std::marker::Model;
 
-/// The most lists that there may be, so that their numbers fit 32 bits.
+/// The most lists that there may be, so that their numbers fit in 32 bits.
 const MOST_LISTS: usize = 4_000_000_000;
 
-/// A list that is an earlier list with one kind on top.
+/// A list: an earlier list with one kind on top.
 #[derive(Clone, Copy, Debug, PartialEq, Eq)]
 pub struct Node {
     /// The number of the earlier list.
     pub below: u32,
     /// The kind on top.
     pub top: Operand,
-    /// How many kinds the list has.
+    /// The length of the list.
     pub depth: u32,
 }
 
-/// Lists of kinds of operands, by number. List 0 is empty.
+/// Lists of operand kinds, by number. List 0 is empty.
 #[derive(Drop)]
 pub struct KindLists {
     nodes: Vec<Node>,
@@ -42,7 +42,7 @@ impl Model for KindLists {
 }
 
 impl KindLists {
-    /// The empty list alone.
+    /// Only the empty list.
     pub fn new(alloc: Global) -> KindLists
         ensures { result ≡ [] }
     {
@@ -51,7 +51,7 @@ impl KindLists {
         }
     }
 
-    /// How many lists there are beside the empty one.
+    /// The number of lists, not counting the empty one.
     pub fn len(&self) -> usize
         ensures value { result ≡ length self.now }
         ensures most { result ≤ 4000000000 }
@@ -71,7 +71,7 @@ impl KindLists {
         self.nodes[(id - 1) as usize]
     }
 
-    /// How many kinds a list has.
+    /// The length of a list.
     #[tactic(auto, using(crate::proofs::KindLists::list_zero))]
     pub fn depth(&self, id: u32) -> u32
         requires { id ≤ length self.now }
@@ -94,7 +94,7 @@ impl KindLists {
         Some((node.top, node.below))
     }
 
-    /// The list with a kind on top. `NoMemory` where it can't be kept.
+    /// The list with a kind on top. `NoMemory` if there is no room for it.
     pub fn push(&mut self, id: u32, top: Operand) -> Result<u32, NoMemory>
         requires { id ≤ length self.old }
         ensures list { IfOk result (λ r. list_at self.new r ≡ top ∷ list_at self.old id) }
@@ -142,7 +142,7 @@ impl KindLists {
         true
     }
 
-    /// The list below, where this kind is on top.
+    /// The list below, if this kind is on top.
     pub fn pop(&self, top: Operand, id: u32) -> Option<u32>
         requires { id ≤ length self.now }
         ensures list { maybe self.now result ≡ pop top (list_at self.now id) }
@@ -160,7 +160,7 @@ impl KindLists {
         }
     }
 
-    /// The list below two kinds, of which the first is on top.
+    /// The list below two kinds, if the first is on top and the second below it.
     pub fn pop_two(&self, top: Operand, next: Operand, id: u32) -> Option<u32>
         requires { id ≤ length self.now }
         ensures list { maybe self.now result ≡ and_pop next (pop top (list_at self.now id)) }
@@ -172,7 +172,7 @@ impl KindLists {
         }
     }
 
-    /// A kind on top of a list, if there is one. `NoMemory` where it can't be kept.
+    /// The list with a kind on top, if there is a list. `NoMemory` if there is no room for it.
     #[tactic(auto, using(crate::proofs::KindNotes::grows_same))]
     pub fn give(&mut self, id: Option<u32>, top: Operand) -> Result<Option<u32>, NoMemory>
         requires { MaybeFits self.old id }
@@ -187,8 +187,8 @@ impl KindLists {
         }
     }
 
-    /// A number in place of the number on top of a list, or None where it isn't there. `NoMemory`
-    /// where the list can't be kept.
+    /// The list after a number replaces the number on top, or None if there is none. `NoMemory` if
+    /// there is no room for the list.
     pub fn replace_one(&mut self, id: u32) -> Result<Option<u32>, NoMemory>
         requires { id ≤ length self.old }
         ensures { Leaves self.old self.new (push Operand.Number (pop Operand.Number (list_at self.old id))) result }
@@ -197,8 +197,8 @@ impl KindLists {
         self.give(below, Operand::Number)
     }
 
-    /// A number in place of the two numbers on top of a list, or None where they aren't there.
-    /// `NoMemory` where the list can't be kept.
+    /// The list after a number replaces the two numbers on top, or None if they are not there.
+    /// `NoMemory` if there is no room for the list.
     pub fn replace_two(&mut self, id: u32) -> Result<Option<u32>, NoMemory>
         requires { id ≤ length self.old }
         ensures { Leaves self.old self.new (push Operand.Number (and_pop Operand.Number (pop Operand.Number (list_at self.old id)))) result }
@@ -207,8 +207,8 @@ impl KindLists {
         self.give(below, Operand::Number)
     }
 
-    /// What is noted at a place, if there is such a place. A note is 0 for nothing, else one more
-    /// than the number of a list.
+    /// The note at a place, if there is such a place: 0 for none, otherwise one more than the number
+    /// of a list.
     #[tactic(auto, using(crate::proofs::KindNotes::noted_past, crate::proofs::KindNotes::noted_none, crate::proofs::KindNotes::noted_old, crate::proofs::KindNotes::noted_below))]
     fn noted(&self, notes: &[u32], p: usize) -> Option<Option<u32>>
         requires { NotesFit self.now notes.now }
@@ -226,7 +226,7 @@ impl KindLists {
         }
     }
 
-    /// The list of a place, from what falls through to it and what is noted there, if they agree.
+    /// The list at a place, if what falls through to it and what is noted there agree.
     #[tactic(auto, using(crate::proofs::KindLists::list_zero))]
     pub fn arrive(&self, notes: &[u32], here: Option<u32>, p: usize) -> Option<u32>
         requires notes { NotesFit self.now notes.now }
@@ -247,7 +247,7 @@ impl KindLists {
         }
     }
 
-    /// Notes a list at a place. False where there is no such place, or another list is noted
+    /// Notes a list at a place. False if there is no such place, or if another list is noted
     /// there.
     #[tactic(auto, using(crate::proofs::KindNotes::notes_set, crate::proofs::KindNotes::fits_set))]
     pub fn note(&self, notes: &mut Vec<u32>, p: usize, id: u32) -> bool

@@ -1,4 +1,5 @@
-//! Stack code: the instructions of an element's functions, when code is valid, and its text.
+//! Stack code: the instructions of an element's functions, the test of whether code is valid, and
+//! its text form.
 #![tactic(auto)]
 
 mod code;

@@ -14,7 +14,7 @@ use feast_base::NoMemory;
 const MOST_SLOTS: usize = 72;
 
 impl Around<'_> {
-    /// One place of the pass: what falls through to the next. None where the code is not valid.
+    /// One place of the pass: what falls through to the next, or None if the code is not valid.
     fn place(
         &self,
         lists: &mut KindLists,
@@ -50,7 +50,7 @@ impl Around<'_> {
         }
     }
 
-    /// The pass over the instructions of the function, of which the first stands at a place.
+    /// The pass over the instructions of the function from a place on.
     fn pass(
         &self,
         lists: &mut KindLists,
@@ -75,7 +75,7 @@ impl Around<'_> {
     }
 }
 
-/// Whether a function begins at p and is not empty, and its slots are allowed.
+/// Whether a function begins at `p`, is not empty and has slots that are allowed.
 fn function_fits(function: &RawFunction, p: usize, end: usize) -> bool
     ensures { result ≡ function_fits function.now p end }
 {
@@ -89,7 +89,7 @@ fn function_fits(function: &RawFunction, p: usize, end: usize) -> bool
     false
 }
 
-/// The pass over a function that is to stand from p to the end.
+/// The pass over a function that has to reach from `p` to `end`.
 #[tactic(auto, using(crate::proofs::AllFunctions::one_false, crate::proofs::AllFunctions::one_true, crate::proofs::AllFunctions::one_short))]
 fn pass_function(
     code: &RawCode,
@@ -116,7 +116,7 @@ fn pass_function(
     around.pass(lists, notes, &code.instrs()[p..end], p)
 }
 
-/// The place where function k begins, or the end of the code.
+/// The place where function `k` begins, or the end of the code.
 pub fn end_of(code: &RawCode, k: usize) -> usize
     ensures { result ≡ end_with (length code.now.instrs) (drop k code.now.functions) }
 {

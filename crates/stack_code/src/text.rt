@@ -1,4 +1,4 @@
-//! The text of a code.
+//! The text form of code.
 
 ghost use Rattle.std.specs.Prelude.{◌≡◌, ◌+◌, ◌-◌, ◌≤◌, ◌++◌, [], drop, take, codes, decimal};
 ghost use Rattle.std.specs.Fmt.{signed_decimal};
@@ -115,7 +115,7 @@ fn push_count(out: &mut Vec<u8>, n: u64) -> Result<(), NoMemory>
     push_number(out, n)
 }
 
-/// Appends a space and a number with its sign.
+/// Appends a space and a signed number.
 fn push_signed(out: &mut Vec<u8>, n: i128) -> Result<(), NoMemory>
     ensures { Appends out.old.items out.new.items result (spaced (signed_decimal n)) }
 {
@@ -123,7 +123,7 @@ fn push_signed(out: &mut Vec<u8>, n: i128) -> Result<(), NoMemory>
     push_word(out, buffer.format(n).as_bytes())
 }
 
-/// Appends a field: its first bit, its width, its kind.
+/// Appends a field: its first bit, its width and its kind.
 fn push_field(out: &mut Vec<u8>, first: u8, width: u8, kind: Kind) -> Result<(), NoMemory>
     ensures { Appends out.old.items out.new.items result (field_text first width kind) }
 {
@@ -185,7 +185,7 @@ fn push_args(out: &mut Vec<u8>, instr: Instr) -> Result<(), NoMemory>
     }
 }
 
-/// Appends the line of the instruction at a place.
+/// Appends the line of the instruction with this index.
 fn push_instr(out: &mut Vec<u8>, place: u64, instr: &Instr) -> Result<(), NoMemory>
     ensures { Appends out.old.items out.new.items result (instr_line place instr.now) }
 {
@@ -195,7 +195,7 @@ fn push_instr(out: &mut Vec<u8>, place: u64, instr: &Instr) -> Result<(), NoMemo
     push(out, b"\n")
 }
 
-/// Appends the lines of instructions, the first of which stands at a place.
+/// Appends the lines of instructions; the first has this index.
 fn push_instrs(out: &mut Vec<u8>, first: u32, instrs: &[Instr]) -> Result<(), NoMemory>
     ensures { Appends out.old.items out.new.items result (instr_lines first instrs.now) }
 {
@@ -217,7 +217,7 @@ fn push_head(out: &mut Vec<u8>, number: u64, function: &RawFunction) -> Result<(
     push(out, b"\n")
 }
 
-/// The instructions from a place on, up to another, as far as there are so many.
+/// The instructions from one index up to another, as far as they exist.
 #[tactic(auto, using(std::proofs::lemmas::List::drop_min, std::proofs::lemmas::List::take_min))]
 fn between(instrs: &[Instr], first: usize, end: usize) -> &[Instr]
     ensures { result.now ≡ take (end - first) (drop first instrs.now) }
@@ -264,8 +264,8 @@ fn push_element(out: &mut Vec<u8>, name: &Name, code: &RawCode) -> Result<(), No
     push(out, b"\n")
 }
 
-/// Appends the text of the code of an element of this name: a line for the element, and for each
-/// function a line and its instructions with their places. `NoMemory` where `out` can't grow.
+/// Appends the text of the code of an element with this name: a line for the element, then for each
+/// function a line and its instructions with their indices. `NoMemory` if `out` can't grow.
 pub fn print(code: &Code, name: &Name, out: &mut Vec<u8>) -> Result<(), NoMemory>
     ensures { Appends out.old.items out.new.items result (code_text name.now code.now) }
 {

@@ -1,4 +1,4 @@
-//! Whether code is valid.
+//! The test of whether code is valid.
 
 ghost use Rattle.std.specs.Prelude.{◌≡◌, length, replicate, IfOk, Some, None, if◌then◌else◌};
 ghost use Rattle.stack_code.specs.Valid.{valid, first_fits, length_fits};
@@ -10,17 +10,17 @@ use crate::pass::pass_all;
 use feast_base::NoMemory;
 use std::alloc::Global;
 
-/// The most instructions of a code.
+/// The most instructions that code may have.
 const MOST_INSTRS: usize = 65_536;
 
-/// Whether a code may have so many instructions.
+/// Whether code may have this many instructions.
 fn length_fits(n: usize) -> bool
     ensures { result ≡ length_fits n }
 {
     if n >= 1 { n <= MOST_INSTRS } else { false }
 }
 
-/// Whether there is a first function, without parameters, that gives nothing back.
+/// Whether there is a first function, and it has no parameters and returns nothing.
 fn first_fits(raw: &RawCode) -> bool
     ensures { result ≡ first_fits raw.now.functions }
 {
@@ -36,7 +36,7 @@ fn first_fits(raw: &RawCode) -> bool
     }
 }
 
-/// No notes yet.
+/// Notes for this many places, all empty.
 fn blank(alloc: Global, len: usize) -> Result<Vec<u32>, NoMemory>
     ensures { IfOk result (λ v. v.items ≡ replicate len 0) }
 {
@@ -62,8 +62,8 @@ fn is_valid(alloc: Global, raw: &RawCode) -> Result<bool, NoMemory>
     pass_all(raw, &mut lists, &mut notes)
 }
 
-/// The same code where it is valid, else None. `NoMemory` where the pass over the code can't keep
-/// its notes: 4 bytes for each instruction, and 12 for each operand that one of them gives.
+/// The code if it is valid, otherwise None. `NoMemory` if there is no room for the notes of the
+/// pass: 4 bytes for each instruction, and 12 for each operand that one of them pushes.
 pub fn verify(alloc: Global, raw: RawCode) -> Result<Option<Code>, NoMemory>
     ensures { IfOk result (λ o. o ≡ (if valid raw then Some raw else None)) }
 {

@@ -1,12 +1,14 @@
-//! Copies of words, types and expressions.
+//! Copies of words, types and expressions, with the same places.
 ghost use Rattle.std.specs.Prelude.{◌≡◌, map, option_map, IfOk};
+ghost use Rattle.std.specs.Box.{box_value};
+ghost use Rattle.ulam_tree.specs.Raw as tree;
 ghost use Rattle.ulam_tree.specs.RawViews.{word_of, width_of, type_of, path_of, expr_of, args_list, left_of, cond_of};
 
-use crate::build;
-use feast_base::{Name, NoMemory};
+use feast_base::{Name, NoMemory, Place};
 use std::alloc::Global;
-use ulam_tree::{Cond, Expr, Left, Path, TypeRef, Width, Word};
+use ulam_tree::{Cond, Expr, Left, Path, TypeRef, Width, Word, raw_build as build};
 
+/// A copy of a name.
 pub fn copy_word(alloc: Global, word: &Word) -> Result<Word, NoMemory>
     ensures { IfOk result (λ w. word_of w ≡ word_of word.now) }
 {
@@ -16,6 +18,7 @@ pub fn copy_word(alloc: Global, word: &Word) -> Result<Word, NoMemory>
     })
 }
 
+/// Copies of names.
 fn copy_words(alloc: Global, words: &[Word]) -> Result<Vec<Word>, NoMemory>
     ensures { IfOk result (λ v. map word_of v.items ≡ map word_of words.now) }
 {
@@ -27,6 +30,7 @@ fn copy_words(alloc: Global, words: &[Word]) -> Result<Vec<Word>, NoMemory>
     Ok(found)
 }
 
+/// A copy of a path.
 pub fn copy_path(alloc: Global, path: &Path) -> Result<Path, NoMemory>
     ensures { IfOk result (λ x. path_of x ≡ path_of path.now) }
 {
@@ -37,6 +41,7 @@ pub fn copy_path(alloc: Global, path: &Path) -> Result<Path, NoMemory>
     })
 }
 
+/// A copy of a width.
 fn copy_width(alloc: Global, width: &Width) -> Result<Width, NoMemory>
     ensures { IfOk result (λ w. width_of w ≡ width_of width.now) }
 {
@@ -49,6 +54,7 @@ fn copy_width(alloc: Global, width: &Width) -> Result<Width, NoMemory>
     }
 }
 
+/// A copy of a width or of a length, if there is one.
 pub fn copy_size(alloc: Global, size: &Option<Width>) -> Result<Option<Width>, NoMemory>
     ensures { IfOk result (λ x. option_map width_of x ≡ option_map width_of size.now) }
 {
@@ -61,6 +67,7 @@ pub fn copy_size(alloc: Global, size: &Option<Width>) -> Result<Option<Width>, N
     }
 }
 
+/// A copy of the name of a type.
 pub fn copy_type(alloc: Global, of: &TypeRef) -> Result<TypeRef, NoMemory>
     ensures { IfOk result (λ x. type_of x ≡ type_of of.now) }
 {
@@ -69,6 +76,8 @@ pub fn copy_type(alloc: Global, of: &TypeRef) -> Result<TypeRef, NoMemory>
     Ok(TypeRef { word, width })
 }
 
+/// A copy of an expression. Its parts are copied into boxes first, since a box is cheap to drop if
+/// memory runs out.
 #[cycle(expr)]
 #[tactic(auto, using(ulam_tree::proofs::RawRows::call_is))]
 pub fn copy_expr(alloc: Global, raw: &Expr) -> Result<Expr, NoMemory>
@@ -79,15 +88,8 @@ pub fn copy_expr(alloc: Global, raw: &Expr) -> Result<Expr, NoMemory>
             value,
             unsigned,
             place,
-        } => Ok(Expr::Number {
-            value: *value,
-            unsigned: *unsigned,
-            place: *place,
-        }),
-        Expr::Truth { value, place } => Ok(Expr::Truth {
-            value: *value,
-            place: *place,
-        }),
+        } => Ok(build::number(*value, *unsigned, *place)),
+        Expr::Truth { value, place } => Ok(build::truth(*value, *place)),
         Expr::Path { path } => {
             let path = copy_path(alloc, path)?;
             Ok(Expr::Path { path })
@@ -98,26 +100,22 @@ pub fn copy_expr(alloc: Global, raw: &Expr) -> Result<Expr, NoMemory>
             Ok(build::call(path, args))
         }
         Expr::Index { path, at } => {
+            let at = copy_boxed(alloc, at)?;
             let path = copy_path(alloc, path)?;
-            let at = copy_expr(alloc, at)?;
-            Ok(build::index(alloc, path, at)?)
+            Ok(Expr::Index { path, at })
         }
         Expr::Instance { class } => {
             let class = copy_word(alloc, class)?;
             Ok(Expr::Instance { class })
         }
         Expr::Group { inner, place } => {
-            let inner = copy_expr(alloc, inner)?;
-            Ok(build::group(alloc, inner, *place)?)
+            let inner = copy_boxed(alloc, inner)?;
+            Ok(build::group(inner, *place))
         }
-        Expr::Cast { to, value, place } => {
-            let to = copy_type(alloc, to)?;
-            let value = copy_expr(alloc, value)?;
-            Ok(build::cast(alloc, to, value, *place)?)
-        }
+        Expr::Cast { to, value, place } => copy_cast(alloc, to, value, *place),
         Expr::Prefix { op, value, place } => {
-            let value = copy_expr(alloc, value)?;
-            Ok(build::prefix(alloc, *op, value, *place)?)
+            let value = copy_boxed(alloc, value)?;
+            Ok(build::prefix(*op, value, *place))
         }
         Expr::Pair {
             op,
@@ -125,22 +123,50 @@ pub fn copy_expr(alloc: Global, raw: &Expr) -> Result<Expr, NoMemory>
             right,
             place,
         } => {
-            let left = copy_expr(alloc, left)?;
-            let right = copy_expr(alloc, right)?;
-            Ok(build::pair(alloc, *op, left, right, *place)?)
+            let left = copy_boxed(alloc, left)?;
+            let right = copy_boxed(alloc, right)?;
+            Ok(build::pair(*op, left, right, *place))
         }
         Expr::Is {
             value,
             class,
             place,
-        } => {
-            let value = copy_expr(alloc, value)?;
-            let class = copy_word(alloc, class)?;
-            Ok(build::is(alloc, value, class, *place)?)
-        }
+        } => copy_is(alloc, value, class, *place),
     }
 }
 
+/// A copy of a cast.
+#[cycle(expr)]
+fn copy_cast(alloc: Global, to: &TypeRef, value: &Expr, place: Place) -> Result<Expr, NoMemory>
+    ensures { IfOk result (λ e. expr_of e ≡ tree.cast (type_of to.now) (expr_of value.now) place) }
+{
+    let value = copy_expr(alloc, value)?;
+    let value = Box::new(alloc, value)?;
+    let to = copy_type(alloc, to)?;
+    Ok(build::cast(to, value, place))
+}
+
+/// A copy of a test of a class.
+#[cycle(expr)]
+fn copy_is(alloc: Global, value: &Expr, class: &Word, place: Place) -> Result<Expr, NoMemory>
+    ensures { IfOk result (λ e. expr_of e ≡ tree.is (expr_of value.now) (word_of class.now) place) }
+{
+    let value = copy_expr(alloc, value)?;
+    let value = Box::new(alloc, value)?;
+    let class = copy_word(alloc, class)?;
+    Ok(build::is(value, class, place))
+}
+
+/// A copy of a part of an expression.
+#[cycle(expr)]
+fn copy_boxed(alloc: Global, raw: &Box<Expr>) -> Result<Box<Expr>, NoMemory>
+    ensures { IfOk result (λ b. expr_of (box_value b) ≡ expr_of (box_value raw.now)) }
+{
+    let copied = copy_expr(alloc, raw)?;
+    Ok(Box::new(alloc, copied)?)
+}
+
+/// Copies of arguments.
 #[cycle(expr)]
 pub fn copy_args(alloc: Global, raw: &[Expr]) -> Result<Vec<Expr>, NoMemory>
     ensures { IfOk result (λ v. args_list v.items ≡ args_list raw.now) }
@@ -153,6 +179,7 @@ pub fn copy_args(alloc: Global, raw: &[Expr]) -> Result<Vec<Expr>, NoMemory>
     Ok(found)
 }
 
+/// A copy of an expression, if there is one.
 pub fn copy_maybe(alloc: Global, raw: &Option<Expr>) -> Result<Option<Expr>, NoMemory>
     ensures { IfOk result (λ x. option_map expr_of x ≡ option_map expr_of raw.now) }
 {
@@ -165,22 +192,27 @@ pub fn copy_maybe(alloc: Global, raw: &Option<Expr>) -> Result<Option<Expr>, NoM
     }
 }
 
+/// A copy of what is assigned to.
 pub fn copy_left(alloc: Global, raw: &Left) -> Result<Left, NoMemory>
     ensures { IfOk result (λ x. left_of x ≡ left_of raw.now) }
 {
-    let path = copy_path(alloc, &raw.path)?;
     match &raw.index {
-        None => Ok(Left { path, index: None }),
+        None => {
+            let path = copy_path(alloc, &raw.path)?;
+            Ok(Left { path, index: None })
+        }
         Some(at) => {
-            let at = copy_expr(alloc, at)?;
+            let at = copy_boxed(alloc, at)?;
+            let path = copy_path(alloc, &raw.path)?;
             Ok(Left {
                 path,
-                index: Some(Box::new(alloc, at)?),
+                index: Some(at),
             })
         }
     }
 }
 
+/// A copy of what an `if` asks.
 pub fn copy_cond(alloc: Global, raw: &Cond) -> Result<Cond, NoMemory>
     ensures { IfOk result (λ x. cond_of x ≡ cond_of raw.now) }
 {

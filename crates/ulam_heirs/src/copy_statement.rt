@@ -1,17 +1,58 @@
 //! Copies of statements.
-ghost use Rattle.std.specs.Prelude.{◌≡◌, ◌⊎◌, IfOk, true};
-ghost use Rattle.ulam_tree.specs.RawViews.{statement_of, part_alone, body_list};
+ghost use Rattle.std.specs.Prelude.{◌≡◌, ◌⊎◌, option_map, IfOk, true};
+ghost use Rattle.std.specs.Box.{box_value};
+ghost use Rattle.ulam_tree.specs.Raw as tree;
+ghost use Rattle.ulam_tree.specs.RawViews.{word_of, type_of, path_of, expr_of, args_list, left_of, statement_of, part_alone, body_list};
 ghost use Rattle.ulam_heirs.specs.Simple.{is_simple};
 
-use crate::build;
 use crate::copy::{
     copy_args, copy_cond, copy_expr, copy_left, copy_maybe, copy_path, copy_type, copy_word,
 };
 use feast_base::NoMemory;
 use std::alloc::Global;
-use ulam_tree::{Call, Statement};
+use ulam_tree::{Call, Expr, Left, PairOp, Path, Statement, TypeRef, Word, raw_build as build};
 
-/// A copy of a statement that has none within. Others come out as `;`.
+/// A copy of the declaration of a local.
+fn copy_declare(
+    alloc: Global,
+    of: &TypeRef,
+    word: &Word,
+    value: &Option<Expr>,
+) -> Result<Statement, NoMemory>
+    ensures { IfOk result (λ x. statement_of x ≡ tree.declares (type_of of.now) (word_of word.now) (option_map expr_of value.now)) }
+{
+    let word = copy_word(alloc, word)?;
+    let of = copy_type(alloc, of)?;
+    let value = copy_maybe(alloc, value)?;
+    Ok(Statement::Declare { of, word, value })
+}
+
+/// A copy of an assignment.
+fn copy_assign(
+    alloc: Global,
+    left: &Left,
+    op: Option<PairOp>,
+    value: &Expr,
+) -> Result<Statement, NoMemory>
+    ensures { IfOk result (λ x. statement_of x ≡ tree.assigns (left_of left.now) op (expr_of value.now)) }
+{
+    let left = copy_left(alloc, left)?;
+    let value = copy_expr(alloc, value)?;
+    Ok(Statement::Assign { left, op, value })
+}
+
+/// A copy of a call that is a statement.
+fn copy_does(alloc: Global, path: &Path, args: &[Expr]) -> Result<Statement, NoMemory>
+    ensures { IfOk result (λ x. statement_of x ≡ tree.does (path_of path.now) (args_list args.now)) }
+{
+    let path = copy_path(alloc, path)?;
+    let args = copy_args(alloc, args)?;
+    Ok(Statement::Call {
+        call: Call { path, args },
+    })
+}
+
+/// A copy of a statement that holds no other statement.
 fn copy_simple(alloc: Global, raw: &Statement) -> Result<Statement, NoMemory>
     requires { is_simple (statement_of raw.now) ≡ true }
     ensures { IfOk result (λ x. statement_of x ≡ statement_of raw.now) }
@@ -26,32 +67,13 @@ fn copy_simple(alloc: Global, raw: &Statement) -> Result<Statement, NoMemory>
         }
         Statement::Break { place } => Ok(Statement::Break { place: *place }),
         Statement::Continue { place } => Ok(Statement::Continue { place: *place }),
-        Statement::Declare { of, word, value } => {
-            let of = copy_type(alloc, of)?;
-            let word = copy_word(alloc, word)?;
-            let value = copy_maybe(alloc, value)?;
-            Ok(Statement::Declare { of, word, value })
-        }
-        Statement::Assign { left, op, value } => {
-            let left = copy_left(alloc, left)?;
-            let value = copy_expr(alloc, value)?;
-            Ok(Statement::Assign {
-                left,
-                op: *op,
-                value,
-            })
-        }
+        Statement::Declare { of, word, value } => copy_declare(alloc, of, word, value),
+        Statement::Assign { left, op, value } => copy_assign(alloc, left, *op, value),
         Statement::Count { left, up } => {
             let left = copy_left(alloc, left)?;
             Ok(Statement::Count { left, up: *up })
         }
-        Statement::Call { call } => {
-            let path = copy_path(alloc, &call.path)?;
-            let args = copy_args(alloc, call.args.as_slice())?;
-            Ok(Statement::Call {
-                call: Call { path, args },
-            })
-        }
+        Statement::Call { call } => copy_does(alloc, &call.path, call.args.as_slice()),
         Statement::Nothing
         | Statement::Block { .. }
         | Statement::If { .. }
@@ -71,15 +93,15 @@ pub fn copy_statement(alloc: Global, raw: &Statement) -> Result<Statement, NoMem
             Ok(build::block(body))
         }
         Statement::If { cond, yes, no } => {
-            let cond = copy_cond(alloc, cond)?;
-            let yes = copy_statement(alloc, yes)?;
+            let yes = copy_boxed(alloc, yes)?;
             let no = copy_part(alloc, no)?;
-            Ok(build::if_so(alloc, cond, yes, no)?)
+            let cond = copy_cond(alloc, cond)?;
+            Ok(build::if_so(cond, yes, no))
         }
         Statement::While { cond, body } => {
+            let body = copy_boxed(alloc, body)?;
             let cond = copy_expr(alloc, cond)?;
-            let body = copy_statement(alloc, body)?;
-            Ok(build::while_so(alloc, cond, body)?)
+            Ok(Statement::While { cond, body })
         }
         Statement::For {
             first,
@@ -88,10 +110,10 @@ pub fn copy_statement(alloc: Global, raw: &Statement) -> Result<Statement, NoMem
             body,
         } => {
             let first = copy_part(alloc, first)?;
-            let cond = copy_maybe(alloc, cond)?;
             let step = copy_part(alloc, step)?;
-            let body = copy_statement(alloc, body)?;
-            Ok(build::for_all(alloc, first, cond, step, body)?)
+            let body = copy_boxed(alloc, body)?;
+            let cond = copy_maybe(alloc, cond)?;
+            Ok(build::for_all(first, cond, step, body))
         }
         Statement::Nothing
         | Statement::Return { .. }
@@ -104,6 +126,16 @@ pub fn copy_statement(alloc: Global, raw: &Statement) -> Result<Statement, NoMem
     }
 }
 
+/// A copy of a statement inside another one.
+#[cycle(statement)]
+fn copy_boxed(alloc: Global, raw: &Box<Statement>) -> Result<Box<Statement>, NoMemory>
+    ensures { IfOk result (λ b. statement_of (box_value b) ≡ statement_of (box_value raw.now)) }
+{
+    let copied = copy_statement(alloc, raw)?;
+    Ok(Box::new(alloc, copied)?)
+}
+
+/// A copy of a statement that may be absent.
 #[cycle(statement)]
 fn copy_part(
     alloc: Global,
@@ -120,6 +152,7 @@ fn copy_part(
     }
 }
 
+/// Copies of the statements of a block or of a function.
 #[cycle(statement)]
 pub fn copy_body(alloc: Global, raw: &[Statement]) -> Result<Vec<Statement>, NoMemory>
     ensures { IfOk result (λ v. body_list v.items ≡ body_list raw.now) }

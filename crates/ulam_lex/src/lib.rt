@@ -7,6 +7,7 @@ mod numeral;
 mod scan;
 mod token;
 
+pub use bytes::is_keyword;
 pub use lexer::{lex, one_reading};
 pub use numeral::{Numeral, numeral_of};
 pub use token::{LexFault, Token, TokenKind};

@@ -6,6 +6,7 @@ use Rattle.std.specs.Prelude.{sum, map, slice_set, slice_index_or, nat_eq, ◌&&
 use Rattle.bit_field.specs.Atom.{AtomValue, empty_atom}
 use Rattle.bit_field.proofs.Fields.{replaced-below}
 use Rattle.window_sites.specs.Window.{WindowValue, IsWindow, atom_at, live_at, put_at, swap_at}
+use Rattle.window_sites.proofs.Marks.{set_apart}
 use Rattle.sat_math.specs.declared.NumType.{NumType}
 use Rattle.sat_math.specs.declared.Kind.{Kind}
 use Rattle.sat_math.specs.declared.Kind.TheVariants as k
@@ -129,16 +130,6 @@ set_length [] p a = refl
 set_length (x ∷ xs) zero a = refl
 set_length (x ∷ xs) (suc p) a = ap suc (set_length xs p a)
 
-set_apart : (xs : List AtomValue) (p n : ℕ) (a d : AtomValue) → p ≢ n → slice_index_or (slice_set xs p a) n d ≡ slice_index_or xs n d
-set_apart [] p n a d ne = refl
-set_apart (x ∷ xs) zero zero a d ne = absurd (ne refl)
-set_apart (x ∷ xs) zero (suc n) a d ne = refl
-set_apart (x ∷ xs) (suc p) zero a d ne = refl
-set_apart (x ∷ xs) (suc p) (suc n) a d ne = set_apart xs p n a d (λ e. ne (ap suc e))
-
-live_apart : (w : WindowValue) (p n : ℕ) → live_at w p ≡ true → live_at w n ≡ false → p ≢ n
-live_apart w p n a b e = let s : live_at w p ≡ live_at w n = ap (live_at w) e in absurd (cc)
-
 marks_same : (w : WindowValue) → KeepsMarks w w
 marks_same w = record { sites = refl; live = refl; others = λ n h. refl }
 
@@ -151,7 +142,7 @@ marks_on u v w a b = record {
 
 -- another atom at a site that is live
 marks_set : (w : WindowValue) (p : ℕ) (a : AtomValue) → live_at w p ≡ true → KeepsMarks w (record w { atoms = slice_set w.atoms p a })
-marks_set w p a h = record { sites = set_length w.atoms p a; live = refl; others = λ n d. set_apart w.atoms p n a empty_atom (live_apart w p n h d) }
+marks_set w p a h = record { sites = set_length w.atoms p a; live = refl; others = λ n d. set_apart w w.atoms p n a h d }
 
 marks_put : (w : WindowValue) (p : ℕ) (a : AtomValue) (b : Bool) → live_at w p ≡ b → KeepsMarks w (if b then record w { atoms = slice_set w.atoms p a } else w)
 marks_put w p a true h = marks_set w p a h

@@ -11,7 +11,8 @@ use Rattle.cell_grid.specs.declared.record.Record.{Record}
 use Rattle.cell_grid.specs.Grid.{GridValue, atom_left, event, place_of, put_window, seen, sites_at, window_of}
 use Rattle.cell_grid.specs.Records.{replay}
 use Rattle.tile_map.specs.Plane.{MapValue}
-use Rattle.world_grid.specs.Known.{ArePlacedKnown, BringsNone, IsKnown, ShowsKnown}
+use Rattle.cell_grid.specs.Known.{BringsNone, IsKnown, ShowsKnown}
+use Rattle.world_grid.specs.Known.{ArePlacedKnown}
 use Rattle.world_grid.specs.Start.{bare_grid, count_of, start_grid, with_placed}
 use Rattle.world_text.specs.declared.world.Placed.{Placed}
 

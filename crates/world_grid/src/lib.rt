@@ -1,5 +1,5 @@
-//! From a world to what runs: its map, the flat grid with which it starts, and what the replay of
-//! records leaves of it.
+//! From a world to what runs: its map, the flat grid that it starts with, and the grid that the
+//! replay of records leaves.
 #![tactic(auto)]
 
 mod law;

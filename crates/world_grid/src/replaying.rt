@@ -1,8 +1,9 @@
-//! What the replay of records leaves of a world.
+//! The replay of records in a world.
 ghost use Rattle.std.specs.Prelude.{◌≡◌, ℕ, All, IfOk};
 ghost use Rattle.border_cache.specs.Copies.{IsGridOf};
 ghost use Rattle.cell_grid.specs.Records.{replay};
-ghost use Rattle.world_grid.specs.Known.{ArePlacedKnown, BringsNone, IsKnown};
+ghost use Rattle.cell_grid.specs.Known.{BringsNone, IsKnown};
+ghost use Rattle.world_grid.specs.Known.{ArePlacedKnown};
 ghost use Rattle.world_grid.specs.Start.{start_grid};
 ghost use Rattle.world_grid.specs.Worlds.{IsLiveEvent, IsWorld};
 ghost use Rattle.world_text.specs.Values.{world_value};
@@ -14,9 +15,9 @@ use std::alloc::Global;
 use world_text::World;
 
 /// The grid that the events of some records leave, one after another, from the start of a world.
-/// Each is at a live site. Where no event brings an atom of another type into a window than of the
-/// first n, as the atoms of the world are, none is left on the grid. `NoMemory` where there is none
-/// for the grid.
+/// Each event is at a live site. If the atoms of the world are of the first n types and no event
+/// brings an atom of another type into a window, the grid has none either. `NoMemory` if there is
+/// not enough memory for the grid.
 pub fn replayed<B: Behave>(
     alloc: Global,
     world: &World,

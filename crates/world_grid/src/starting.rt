@@ -1,4 +1,4 @@
-//! The map of a world, and the flat grid with which it starts.
+//! The map of a world, and the flat grid that it starts with.
 ghost use Rattle.std.specs.Prelude.{◌≡◌, IfOk};
 ghost use Rattle.border_cache.specs.Copies.{IsGridOf};
 ghost use Rattle.tile_map.specs.Plane.{IsMap};
@@ -13,7 +13,7 @@ use std::alloc::Global;
 use tile_map::Map;
 use world_text::World;
 
-/// The map of a world. `NoMemory` where there is none for its edges.
+/// The map of a world. `NoMemory` if there is not enough memory for its edges.
 pub fn map_of(alloc: Global, world: &World) -> Result<Map, NoMemory>
     requires { IsMap (world_value world.now).plane }
     ensures { IfOk result (λ m. m ≡ (world_value world.now).plane) }
@@ -28,8 +28,8 @@ pub fn map_of(alloc: Global, world: &World) -> Result<Map, NoMemory>
     )
 }
 
-/// The flat grid with which the run of a world starts: its atoms, on the sites of the tiles that
-/// are on. `NoMemory` where there is none for the sites or the map's edges.
+/// The flat grid that the run of a world starts with: its atoms, on the sites of the tiles that are
+/// on. `NoMemory` if there is not enough memory for the sites or the map's edges.
 pub fn start(alloc: Global, world: &World) -> Result<Grid, NoMemory>
     requires { IsWorld (world_value world.now) }
     ensures grid { IfOk result (λ g. g ≡ start_grid (world_value world.now).plane world.now.atoms.items) }

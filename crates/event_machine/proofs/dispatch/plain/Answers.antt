@@ -8,11 +8,11 @@ use Rattle.event_machine.proofs.dispatch.plain.Goals as goal
 pub returns-in-PushNum : goal.returns-in-PushNum
 returns-in-PushNum c =
     let p : c.new.result ≡ c.in-PushNum.v = search rules in
-    rw c.in-PushNum.is (subst (λ (v : ℤ). Works (now c.args.h.now (ANumber v ∷ c.args.h.now.stack)) c.give.new.h c.give.result) p (c.give.ensures c.args.kind))
+    rw c.in-PushNum.is (subst (λ (v : ℤ). Works (now c.args.running.now (ANumber v ∷ c.args.running.now.stack)) c.give.new.running c.give.result) p (c.give.ensures c.args.kind))
 
 pub returns-in-PushAtom : goal.returns-in-PushAtom
 returns-in-PushAtom c =
-    rw c.in-PushAtom.is (subst (λ (a : AtomValue). Works (now c.args.h.now (AnAtom a ∷ c.args.h.now.stack)) c.give-in-PushAtom.new.h c.give-in-PushAtom.result) c.new-in-PushAtom.ensures (c.give-in-PushAtom.ensures c.args.kind))
+    rw c.in-PushAtom.is (subst (λ (a : AtomValue). Works (now c.args.running.now (AnAtom a ∷ c.args.running.now.stack)) c.give-in-PushAtom.new.running c.give-in-PushAtom.result) c.new-in-PushAtom.ensures (c.give-in-PushAtom.ensures c.args.kind))
 
 pub returns-in-LoadLocal : goal.returns-in-LoadLocal
 returns-in-LoadLocal c = rw c.in-LoadLocal.is (c.load.ensures c.args.kind)

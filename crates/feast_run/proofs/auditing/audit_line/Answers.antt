@@ -8,7 +8,7 @@ use Rattle.cell_grid.specs.Records.{replay}
 use Rattle.journal_check.specs.Telling.{IsPlanOf}
 use Rattle.tile_map.specs.Plane.{MapValue}
 use Rattle.window_sites.specs.Window.{WindowValue}
-use Rattle.world_grid.specs.Known.{BringsNone}
+use Rattle.cell_grid.specs.Known.{BringsNone}
 use Rattle.world_text.specs.Values.{world_value}
 use Rattle.feast_run.proofs.auditing.audit_line.Goals as goal
 

@@ -3,7 +3,7 @@ use Rattle.feast_run.proofs.Runs.{known_grid, ready_known, ready_valid}
 use Rattle.feast_run.specs.Acting.{acts}
 use Rattle.feast_run.specs.Values.{elements_value}
 use Rattle.window_sites.specs.Window.{WindowValue}
-use Rattle.world_grid.specs.Known.{BringsNone}
+use Rattle.cell_grid.specs.Known.{BringsNone}
 use Rattle.feast_run.proofs.grids.grid_after.Goals as goal
 
 pub replayed-requires-clause-world : goal.replayed-requires-clause-world

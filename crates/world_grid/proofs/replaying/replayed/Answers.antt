@@ -1,7 +1,7 @@
 use Rattle.std.proofs.Common.{All, subst, sym}
 use Rattle.cell_grid.specs.Grid.{GridValue}
 use Rattle.tile_map.specs.Plane.{plane_of}
-use Rattle.world_grid.specs.Known.{IsKnown}
+use Rattle.cell_grid.specs.Known.{IsKnown}
 use Rattle.world_grid.proofs.KnownAtoms.{replay_known, start_known}
 use Rattle.world_grid.proofs.replaying.replayed.Goals as goal
 

@@ -3,7 +3,7 @@ use Rattle.std.specs.Prelude.{reverse, map}
 use Rattle.std.proofs.lemmas.Grind.{common_steps}
 use Rattle.stack_code.specs.Machine.{fill, fresh}
 use Rattle.event_machine.proofs.Slots.{fresh_filled}
-use Rattle.event_machine.proofs.hand.Hand.pass.Goals as goal
+use Rattle.event_machine.proofs.activation.Activation.pass.Goals as goal
 
 pub returns-clause-begun : goal.returns-clause-begun
 returns-clause-begun c =

@@ -1,7 +1,8 @@
 use Rattle.std.proofs.Common.{◌≡◌, Some, None, ◌∷◌, [], rules, ap, ◌∙◌}
 use Rattle.stack_code.specs.Machine.{Held}
 use Rattle.std.specs.Prelude.{slice_get, reverse}
-use Rattle.event_machine.proofs.Backs.{back_like, get_some, get_none}
+use Rattle.stack_code.proofs.Arguments.{get_some}
+use Rattle.event_machine.proofs.Backs.{back_like, get_none}
 use Rattle.event_machine.proofs.machine.Machine.perform.Goals as goal
 
 pub returns-in-JumpFalse : goal.returns-in-JumpFalse
@@ -25,8 +26,8 @@ returns-in-None c =
 pub returns-in-Some-any : goal.returns-in-Some-any
 returns-in-Some-any c =
     let e : c.args.self.now.held.stack ≡ c.in-Some-any.x ∷ c.any.new.self.stack = search rules in
-    let w0 : c.self-in-Return.inside.hand.window ≡ c.args.self.now.held.window = search rules in
-    let d0 : c.self-in-Return.inside.hand.words ≡ c.args.self.now.held.words = search rules in
+    let w0 : c.self-in-Return.inside.running.window ≡ c.args.self.now.held.window = search rules in
+    let d0 : c.self-in-Return.inside.running.words ≡ c.args.self.now.held.words = search rules in
     let w : c.any.new.self.window ≡ c.args.self.now.held.window = ap (λ (h : Held). h.window) c.any.ensures.kept ∙ w0 in
     let d : c.any.new.self.words ≡ c.args.self.now.held.words = ap (λ (h : Held). h.words) c.any.ensures.kept ∙ d0 in
     let u : c.self-in-Return.inside.turns ≡ c.args.self.now.turns = search rules in

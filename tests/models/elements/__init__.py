@@ -1,0 +1,1 @@
+"""The elements of the examples, written once more in Python: a module for each example."""
