@@ -94,16 +94,16 @@ class ChartView {
     const { scale } = this;
     const last = this.film.counts[this.film.last];
     const ends = this.film.head.elements.map((element, i) => ({ symbol: element.symbol, y: this.yOf(last[i]) }));
-    ends.sort((one, other) => other.y - one.y);
+    ends.sort((one, other) => one.y - other.y);
+    const high = 13 * scale;
+    for (let i = 1; i < ends.length; i++) ends[i].y = Math.max(ends[i].y, ends[i - 1].y + high);
+    let below = this.bottom + high;
+    for (let i = ends.length - 1; i >= 0; i--) below = ends[i].y = Math.min(ends[i].y, below - high);
     pen.font = `600 ${12 * scale}px system-ui, sans-serif`;
     pen.textAlign = 'left';
     pen.textBaseline = 'middle';
     pen.fillStyle = '#1b1f24';
-    let above = Infinity;
-    for (const end of ends) {
-      above = Math.min(end.y, above - 13 * scale);
-      pen.fillText(end.symbol, this.right + 5 * scale, above);
-    }
+    for (const end of ends) pen.fillText(end.symbol, this.right + 5 * scale, end.y);
   }
 
   draw() {

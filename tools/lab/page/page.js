@@ -148,7 +148,7 @@ class Page {
     const { film } = this;
     const { frame, last, head } = film;
     const [events, all] = [head.events[frame], head.events[last]];
-    const eachSite = (events / head.liveSites).toFixed(1);
+    const eachSite = (events / head.liveSites).toFixed(2);
     const moment = `Frame ${frame} of ${last}: after ${spelled(events)} of ${spelled(all)} events (${eachSite} for each site)`;
     this.part('moment').textContent = moment;
     this.part('slider').value = frame;
@@ -172,7 +172,7 @@ async function begin() {
     new Page(film);
   } catch (cause) {
     fault.hidden = false;
-    fault.textContent = `This browser can't show the film (it takes Chrome 80, Firefox 113, Safari 16.4 or later): ${cause}`;
+    fault.textContent = `This browser can't show the film (it takes Chrome 85, Firefox 113, Safari 16.4 or later): ${cause}`;
   }
 }
 
