@@ -1,5 +1,5 @@
 pub mod Fits
-pub mod Operands
+pub mod OperandStacks
 pub mod Slots
 pub mod Backs
 pub mod Running

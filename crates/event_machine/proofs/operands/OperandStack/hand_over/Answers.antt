@@ -2,7 +2,7 @@ use Rattle.std.proofs.Common.{◌≡◌, ◌-◌, ◌≤◌, length, drop, take,
 use Rattle.std.specs.Prelude.{reverse}
 use Rattle.std.proofs.lemmas.List.{length-reverse}
 use Rattle.std.proofs.lemmas.Grind.{common_steps}
-use Rattle.event_machine.proofs.Operands.{handed, left}
+use Rattle.event_machine.proofs.OperandStacks.{handed, left}
 use Rattle.event_machine.proofs.operands.OperandStack.hand_over.Goals as goal
 
 pub returns-clause-given : goal.returns-clause-given
