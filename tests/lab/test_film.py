@@ -185,14 +185,15 @@ class Figures(FilmCase):
         """The figure has a box and a symbol for each atom."""
         world, file = EXAMPLES / "fence-tiles.world", EXAMPLES / "fence.ulam"
         report = self.file("report", feast("step", world, file))
-        for events in (0, 5000, 17993):
+        last = int(report.read_text().split("\njournal ")[1].split()[0])
+        for events in (0, 5000, last):
             picture = xml.fromstring(self.passes("film", world, report, "--svg", str(events), file))
             atoms = atoms_after(world, report, events, file)
             counts = Counter(atom.split()[0] for atom in atoms.values())
             described = picture.findtext(f"{SVG}desc")
             self.assertEqual(described, f"A plane of 16 by 16 sites with {counts['Fence']} Fence, {counts['Mouse']} Mouse.")
             texts = [text.text for text in picture.iter(f"{SVG}text")]
-            self.assertEqual(texts.count("F") + texts.count("M"), len(atoms) + 2)  # each stands once in the legend
+            self.assertEqual(texts.count("Fe") + texts.count("Mo"), len(atoms) + 2)  # each stands once in the legend
             self.assertIn(f"Fence {counts['Fence']}", texts)
 
     def test_file(self) -> None:
@@ -234,7 +235,8 @@ class Refusals(FilmCase):
         sorter = EXAMPLES / "sorter.world"
         self.refused(f"{sorter}:7:1: E73 unknown element", "film", sorter, self.report, "-o", self.out, self.elements)
         other = self.file("other.world", self.world.read_text().replace("seed 7", "seed 8"))
-        self.refused(f"{self.report}:12:1: E83", "film", other, self.report, "-o", self.out, self.elements)
+        first = int(self.report.read_text().split()[3]) + 4  # behind `atoms N`, N atoms, and `journal ..`
+        self.refused(f"{self.report}:{first}:1: E83", "film", other, self.report, "-o", self.out, self.elements)
 
     def test_atoms(self) -> None:
         """A report whose atoms are not those of its events, packed or not."""

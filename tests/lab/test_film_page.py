@@ -175,8 +175,9 @@ class Fence(FilmPage):
         self.picture("fence-start")
         for _ in range(20):
             self.browser.press("ArrowRight")
-        self.assertIn("Frame 20 of 40: after 8,996 of 17,993 events", self.text("moment"))
-        wanted = feast("rewind", WORLD, self.report, "8996", ELEMENTS)
+        last = int(self.report.read_text().split("\njournal ")[1].split()[0])
+        self.assertIn(f"Frame 20 of 40: after {last // 2:,} of {last:,} events", self.text("moment"))
+        wanted = feast("rewind", WORLD, self.report, str(last // 2), ELEMENTS)
         self.agrees(films.plane_of(wanted.splitlines()[2:]), self.colors_of, 16, 16)
         self.picture("fence-midst")
         self.browser.press("End")
