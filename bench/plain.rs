@@ -139,11 +139,6 @@ impl Shape {
         self.width + 2 * REACH
     }
 
-    /// The rows of a tile's copy.
-    fn rows(&self) -> usize {
-        self.height + 2 * REACH
-    }
-
     /// The columns and the rows of a copy that the neighbour in a direction holds too. Seen from either tile they are
     /// as many, so both number the sites of their edge alike.
     fn shared(&self, direction: usize) -> (Range<usize>, Range<usize>) {
@@ -402,6 +397,8 @@ struct Tile<'a> {
     clock: u32,
     cells: Cells,
     log: Log,
+    /// What a stepped run does next.
+    phase: Phase,
     in_hand: Attempt,
     needs: Vec<Need<'a>>,
     /// The holds on the first of the needed edges.
@@ -551,63 +548,42 @@ enum Phase {
     Finished,
 }
 
-/// A tile of a stepped run.
-struct Stepper<'t, 'a> {
-    tile: &'t mut Tile<'a>,
-    phase: Phase,
-}
-
-impl<'t, 'a> Stepper<'t, 'a> {
-    fn new(tile: &'t mut Tile<'a>) -> Self {
-        let mut stepper = Stepper { tile, phase: Phase::Finished };
-        stepper.phase = stepper.freed();
-        stepper
-    }
-
+impl Tile<'_> {
     /// Makes one step; a tile that is finished makes none.
     fn step(&mut self) {
-        let tile = &mut self.tile;
-        self.phase = match self.phase {
+        match self.phase {
+            Phase::Draw if self.attempts.left() == 0 => self.phase = Phase::Finished,
             Phase::Draw => {
-                tile.draw();
-                self.taken()
+                self.draw();
+                self.phase = self.lock_or_refresh();
             }
-            Phase::Lock if tile.lock() => self.taken(),
-            Phase::Lock => self.freed(),
+            Phase::Lock => self.phase = if self.lock() { self.lock_or_refresh() } else { self.free_or_draw() },
             Phase::Refresh => {
-                tile.refresh();
-                Phase::Behave
+                self.refresh();
+                self.phase = Phase::Behave;
             }
             Phase::Behave => {
-                tile.behave();
-                Phase::Write
+                self.behave();
+                self.phase = Phase::Write;
             }
             Phase::Write => {
-                tile.write();
-                self.freed()
+                self.write();
+                self.phase = self.free_or_draw();
             }
             Phase::Free => {
-                tile.holds.remove(0);
-                self.freed()
+                self.holds.remove(0);
+                self.phase = self.free_or_draw();
             }
-            Phase::Finished => Phase::Finished,
+            Phase::Finished => {}
         }
     }
 
-    /// The phase after a draw or an edge that was taken.
-    fn taken(&self) -> Phase {
-        if self.tile.holds.len() < self.tile.needs.len() { Phase::Lock } else { Phase::Refresh }
+    fn lock_or_refresh(&self) -> Phase {
+        if self.holds.len() < self.needs.len() { Phase::Lock } else { Phase::Refresh }
     }
 
-    /// The phase once an attempt only has edges to free, if it has any.
-    fn freed(&self) -> Phase {
-        if !self.tile.holds.is_empty() {
-            Phase::Free
-        } else if self.tile.attempts.left() > 0 {
-            Phase::Draw
-        } else {
-            Phase::Finished
-        }
+    fn free_or_draw(&self) -> Phase {
+        if self.holds.is_empty() { Phase::Draw } else { Phase::Free }
     }
 }
 
@@ -615,15 +591,14 @@ impl<'t, 'a> Stepper<'t, 'a> {
 fn step_tiles(tiles: &mut [Tile<'_>], world: &World) {
     let attempts: usize = tiles.iter().map(|tile| tile.attempts.left()).sum();
     let count = tiles.len() as u64;
-    let mut steppers: Vec<_> = tiles.iter_mut().map(Stepper::new).collect();
     if let Some(seed) = world.order_seed {
         let mut stream = Xoshiro::new(seed);
-        (0..16 * attempts).for_each(|_| steppers[(stream.next() % count) as usize].step());
+        (0..16 * attempts).for_each(|_| tiles[(stream.next() % count) as usize].step());
     }
-    world.order.iter().for_each(|&tile| steppers[tile].step());
-    for stepper in &mut steppers {
-        while stepper.phase != Phase::Finished {
-            stepper.step();
+    world.order.iter().for_each(|&tile| tiles[tile].step());
+    for tile in tiles {
+        while tile.phase != Phase::Finished {
+            tile.step();
         }
     }
 }
@@ -686,10 +661,7 @@ impl World {
             Some(b"tiles") => self.tiles = (decimal(field()) as usize, decimal(field()) as usize),
             Some(b"size") => {
                 self.size = (decimal(field()) as usize, decimal(field()) as usize);
-                let tiles = self.tiles.0 * self.tiles.1;
-                self.on = vec![true; tiles];
-                self.tries = vec![Vec::new(); tiles];
-                self.grid = vec![EMPTY; tiles * self.size.0 * self.size.1];
+                self.make_tiles();
             }
             Some(b"off") => {
                 let tile = decimal(field()) as usize;
@@ -705,15 +677,22 @@ impl World {
             }
             Some(b"atom") => {
                 let [x, y] = std::array::from_fn(|_| decimal(field()) as usize);
-                let name = field();
+                let (site, name) = (y * self.width() + x, field());
                 let kind = NAMES.iter().position(|n| *n == name).expect("Wander or Stone") + 1;
-                let site = y * self.width() + x;
                 self.grid[site] = (kind as Atom) << TYPE | fields.next().map_or(0, hexadecimal);
             }
             Some(b"order") if line.starts_with(b"order seed ") => self.order_seed = fields.nth(1).map(decimal),
             Some(b"order") => self.order.extend(fields.map(|tile| decimal(tile) as usize)),
             _ => {}
         }
+    }
+
+    /// Makes all tiles of the plane, empty and without attempts.
+    fn make_tiles(&mut self) {
+        let tiles = self.tiles.0 * self.tiles.1;
+        self.on = vec![true; tiles];
+        self.tries = vec![Vec::new(); tiles];
+        self.grid = vec![EMPTY; tiles * self.size.0 * self.size.1];
     }
 
     /// The columns of the plane.
@@ -768,8 +747,9 @@ impl World {
     /// The cells that a tile holds at the start.
     fn cells(&self, tile: usize, shape: &Shape) -> Cells {
         let (x, y) = self.corner(tile);
-        let (pitch, rows) = (shape.pitch(), shape.rows());
-        let mut atoms = vec![WALL; pitch * rows];
+        let pitch = shape.pitch();
+        let sites = pitch * (shape.height + 2 * REACH);
+        let mut atoms = vec![WALL; sites];
         let first = x.saturating_sub(REACH);
         let columns = first..(x + self.size.0 + REACH).min(self.width());
         for row in y.saturating_sub(REACH)..(y + self.size.1 + REACH).min(self.tiles.1 * self.size.1) {
@@ -777,7 +757,7 @@ impl World {
             let from = row * self.width();
             atoms[to..to + columns.len()].copy_from_slice(&self.grid[from + columns.start..from + columns.end]);
         }
-        Cells { pitch, atoms, stamps: vec![0; pitch * rows] }
+        Cells { pitch, atoms, stamps: vec![0; sites] }
     }
 
     fn attempts(&self, tile: usize) -> Attempts {
@@ -803,6 +783,7 @@ impl World {
             drawn: 0,
             clock: 0,
             cells: self.cells(number, shape),
+            phase: Phase::Draw,
             in_hand: Attempt::default(),
             needs: Vec::with_capacity(8),
             holds: Vec::with_capacity(8),
@@ -872,8 +853,11 @@ impl Line {
             self.text(&DECIMAL[n as usize % 100]);
             n /= 100;
         }
-        let digits = &DECIMAL[n as usize];
-        self.text(if n < 10 { &digits[1..] } else { digits });
+        if n < 10 {
+            self.text(&[b'0' + n as u8]);
+        } else {
+            self.text(&DECIMAL[n as usize]);
+        }
     }
 
     /// Numbers, the first of them in front, each with a space after it.
