@@ -266,7 +266,8 @@ impl Registers {
     }
 }
 
-/// What two tiles share. Edges lie apart in memory, so that no two locks are in one line of a processor's cache.
+/// What two tiles share. Edges lie apart in memory, and so do tiles: no two of them are in one line of a processor's
+/// cache, where threads that change one of them each would wait for each other.
 #[repr(align(128))]
 struct Edge {
     tiles: (u32, u32),
@@ -385,6 +386,7 @@ struct Need<'a> {
 }
 
 /// A tile, with one method for each step of an attempt.
+#[repr(align(128))]
 struct Tile<'a> {
     shape: &'a Shape,
     number: u32,
