@@ -39,10 +39,10 @@ def world(tiles=1, attempts=ATTEMPTS, scripted=False, side=SIDE):
     return "\n".join(lines) + "\n"
 
 
-def build_plain(folder):
-    """Builds the plain program."""
-    plain = folder / "flat"
-    subprocess.run(["rustc", "-O", "-C", "target-cpu=x86-64-v2", HERE / "flat.rs", "-o", plain], check=True)
+def build_plain(folder, source=HERE / "flat.rs"):
+    """Builds a plain program, that of one tile unless another is named."""
+    plain = folder / source.stem
+    subprocess.run(["rustc", "-O", "-C", "target-cpu=x86-64-v2", source, "-o", plain], check=True)
     return plain
 
 
