@@ -11,6 +11,7 @@ use std::thread::Threads;
 use std::{env, io};
 
 /// The arguments after the program's name. The name itself may be any bytes: nobody reads it.
+#[derive(Drop)]
 struct AfterName<'a, R> {
     rt: &'a R,
 }
