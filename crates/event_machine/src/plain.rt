@@ -1,9 +1,11 @@
 //! The plain instructions on numbers, slots and sites: a function for each shape.
 
-ghost use Rattle.std.specs.Prelude.{◌≤◌, ℕ, length};
+ghost use Rattle.std.specs.Prelude.{◌≡◌, ◌≤◌, ℕ, length, true};
+ghost use Rattle.sat_math.specs.Numbers.{cast};
 ghost use Rattle.window_sites.specs.Window.{live_at};
-ghost use Rattle.stack_code.specs.Sorts.{Give, One, Two, Load, Store, Drop, Own, Site, SetSite, Exchange, Ask, Draw, Same, Double, is_empty_at, as_drawn, one_in};
+ghost use Rattle.stack_code.specs.Sorts.{Give, One, Two, Load, Store, Drop, Own, Site, SetSite, Exchange, Ask, Draw, Same, Double, is_empty_at, as_drawn, one_in, num_type};
 ghost use Rattle.stack_code.specs.Machine.{work};
+ghost use Rattle.stack_code.specs.Valid.{type_fits};
 ghost use Rattle.stack_code.specs.Shapes.{binary_of, BinaryFits, unary_of, UnaryFits};
 ghost use Rattle.event_machine.specs.Works.{Works};
 
@@ -11,6 +13,7 @@ use crate::activation::Activation;
 use crate::ending::Leads;
 use crate::numbers::{apply_one, apply_two, bound, of_bool, of_word, site};
 use datum::{Datum, Number};
+use sat_math::{Kind, NumType};
 use stack_code::{BinaryOp, UnaryOp};
 
 /// Pushes a datum.
@@ -37,6 +40,16 @@ pub fn one(running: &mut Activation, op: UnaryOp) -> Leads
         }
         None => Leads::Want,
     }
+}
+
+/// Converts a number to a type.
+#[inline(always)]
+pub fn fit(running: &mut Activation, of: Kind, width: u8) -> Leads
+    requires fits { type_fits (num_type of width) ≡ true }
+    requires room { length running.old.stack ≤ 512 }
+    ensures { (kind : ℕ) → Works (work kind (One (cast (num_type of width))) running.old) running.new result }
+{
+    one(running, UnaryOp::Fit(NumType { kind: of, width }))
 }
 
 /// Applies an operator to two numbers. Failure 3 for a division by 0.
