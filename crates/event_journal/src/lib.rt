@@ -5,6 +5,7 @@
 #![tactic(auto)]
 
 mod abandoned;
+mod cursors;
 mod cutting;
 mod fault;
 mod forms;
@@ -14,7 +15,6 @@ mod placing;
 mod printed;
 mod reader;
 mod reading;
-mod seats;
 mod walk;
 
 pub use abandoned::Abandoned;

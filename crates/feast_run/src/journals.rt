@@ -1,7 +1,7 @@
 //! The stage of a journal.
 ghost use Rattle.std.specs.Prelude.{◌≡◌, ◌<◌, ◌^◌, length};
 ghost use Rattle.event_journal.specs.Reading.{fault_of};
-ghost use Rattle.event_journal.specs.Seats.{ReadsJournal};
+ghost use Rattle.event_journal.specs.Cursors.{ReadsJournal};
 ghost use Rattle.feast_base.specs.Outside.{stock};
 ghost use Rattle.feast_run.specs.Faults.{IsJournalStop, IsStop};
 ghost use Rattle.feast_run.specs.Outcomes.{refused};

@@ -2,7 +2,7 @@
 use Rattle.std.specs.Prelude.{ℕ, ◌≡◌, ◌+◌, ◌*◌, ◌<◌, ◌==◌, List, [], Option, Some, None, drop, length, map, slice_index_or, Result, Ok, Err, if◌then◌else◌}
 use Rattle.draw_stream.specs.declared.attempt.Attempt.{Attempt}
 use Rattle.tile_map.specs.Plane.{MapValue, IsMap}
-use Rattle.event_journal.specs.declared.seats.Seat.{Seat}
+use Rattle.event_journal.specs.declared.cursors.LogCursor.{LogCursor}
 use Rattle.event_journal.specs.declared.placing.Extent.{Extent}
 use Rattle.event_journal.specs.declared.reading.Reading.{Reading}
 use Rattle.event_journal.specs.declared.reading.Wants.{Wants as CodeWants}
@@ -20,24 +20,24 @@ pub record IsExtent (e : Extent) (m : MapValue) : Type 0 where
   pub sites : e.sites ≡ m.w * m.h
 
 -- the line and the attempt of a tile's last record
-abbrev pub last_of : Seat → Option (ℕ × ℕ)
+abbrev pub last_of : LogCursor → Option (ℕ × ℕ)
 last_of s = if s.line == 0 then None else Some (s.line, s.last)
 
-abbrev pub lasts_of : List Seat → List (Option (ℕ × ℕ))
-lasts_of seats = map last_of seats
+abbrev pub lasts_of : List LogCursor → List (Option (ℕ × ℕ))
+lasts_of cursors = map last_of cursors
 
 -- how many attempts were passed
-abbrev pub passed_of : Seat → ℕ
+abbrev pub passed_of : LogCursor → ℕ
 passed_of s = if s.line == 0 then 0 else s.last + 1
 
 -- the attempts that are left are those of this list
-abbrev pub Serves : Seat → List Attempt → Type 0
+abbrev pub Serves : LogCursor → List Attempt → Type 0
 Serves s list = s.stream ≡ drop (passed_of s) list
 
 -- each tile's attempts that are left are those of its list
-pub record AllServe (seats : List Seat) (lists : List (List Attempt)) : Type 0 where
-  pub as_many : length lists ≡ length seats
-  pub each : (t : ℕ) (d : Seat) → t < length seats → Serves (slice_index_or seats t d) (slice_index_or lists t [])
+pub record AllServe (cursors : List LogCursor) (lists : List (List Attempt)) : Type 0 where
+  pub as_many : length lists ≡ length cursors
+  pub each : (t : ℕ) (d : LogCursor) → t < length cursors → Serves (slice_index_or cursors t d) (slice_index_or lists t [])
 
 abbrev pub wants_value : CodeWants → Wants
 wants_value Header = header
@@ -51,7 +51,7 @@ wants_value Nothing = nothing
 
 -- what the lines so far say
 abbrev pub said_value : Reading → Said
-said_value d = record { wants = wants_value d.wants; before = d.before; lasts = lasts_of d.seats.items; journal = d.journal.items; gone = d.gone.items }
+said_value d = record { wants = wants_value d.wants; before = d.before; lasts = lasts_of d.cursors.items; journal = d.journal.items; gone = d.gone.items }
 
 -- a report is read as these records and abandoned attempts
 abbrev pub IsRead : Result Said (ℕ × LineFault) → ReadJournal → Type 0

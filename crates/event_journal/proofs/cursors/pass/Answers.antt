@@ -1,6 +1,6 @@
 use Rattle.std.proofs.Common.{arith, ◌∙◌, ap, drop, ◌+◌, refl}
 use Rattle.event_journal.proofs.Takings.{takes_over, takes_left, drop_more}
-use Rattle.event_journal.proofs.seats.pass.Goals as goal
+use Rattle.event_journal.proofs.cursors.pass.Goals as goal
 
 pub returns-in-None : goal.returns-in-None
 returns-in-None c = takes_over c.args.stream.now c.loop-i.stream c.next.new.self c.next.result c.loop-i._i c.args.count (omega arith) c.loop-i.invariant c.in-None.is c.next.ensures

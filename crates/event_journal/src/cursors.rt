@@ -2,7 +2,7 @@
 ghost use Rattle.std.specs.Prelude.{◌≡◌, ◌+◌, ◌-◌, ◌≤◌, ◌<◌, ◌^◌, length, drop, List, Some};
 ghost use Rattle.draw_stream.specs.declared.attempt.Attempt.{Attempt};
 ghost use Rattle.event_journal.specs.Reading.{first_of};
-ghost use Rattle.event_journal.specs.Seats.{last_of, passed_of, Serves};
+ghost use Rattle.event_journal.specs.Cursors.{last_of, passed_of, Serves};
 
 use draw_stream::{Attempt, Attempts};
 
@@ -30,35 +30,35 @@ fn seek(stream: &mut Attempts, count: u64) -> Option<Attempt>
 /// A tile's attempts that are left, the attempt of its last record, and that record's line, which
 /// is 0 if it has none.
 #[derive(Drop)]
-pub(crate) struct Seat {
+pub(crate) struct LogCursor {
     pub(crate) stream: Attempts,
     pub(crate) last: u64,
     pub(crate) line: u64,
 }
 
 /// How many attempts come before one and were not passed.
-fn between(seat: &Seat, attempt: u64) -> u64
-    requires { passed_of seat.now ≤ attempt }
-    ensures { passed_of seat.now + result ≡ attempt }
+fn between(cursor: &LogCursor, attempt: u64) -> u64
+    requires { passed_of cursor.now ≤ attempt }
+    ensures { passed_of cursor.now + result ≡ attempt }
 {
-    if seat.line == 0 {
+    if cursor.line == 0 {
         attempt
     } else {
-        attempt - seat.last - 1
+        attempt - cursor.last - 1
     }
 }
 
 /// The attempt of a number, if the tile has it. It is not one that was passed.
-pub(crate) fn drawn(seat: &mut Seat, attempt: u64, line: u64) -> Option<Attempt>
-    requires later { passed_of seat.old ≤ attempt }
+pub(crate) fn drawn(cursor: &mut LogCursor, attempt: u64, line: u64) -> Option<Attempt>
+    requires later { passed_of cursor.old ≤ attempt }
     requires line { 1 ≤ line }
-    ensures value { (list : List Attempt) → Serves seat.old list → result ≡ first_of (drop attempt list) }
-    ensures left { (list : List Attempt) → Serves seat.old list → Serves seat.new list }
-    ensures last { last_of seat.new ≡ Some (line, attempt) }
+    ensures value { (list : List Attempt) → Serves cursor.old list → result ≡ first_of (drop attempt list) }
+    ensures left { (list : List Attempt) → Serves cursor.old list → Serves cursor.new list }
+    ensures last { last_of cursor.new ≡ Some (line, attempt) }
 {
-    let count = between(seat, attempt);
-    let found = seek(&mut seat.stream, count);
-    seat.last = attempt;
-    seat.line = line;
+    let count = between(cursor, attempt);
+    let found = seek(&mut cursor.stream, count);
+    cursor.last = attempt;
+    cursor.line = line;
     found
 }
