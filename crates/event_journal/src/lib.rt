@@ -22,6 +22,6 @@ pub use cutting::cuts;
 pub use fault::{JournalFault, LineFault};
 pub use journal::Journal;
 pub use log::TileLog;
-pub use printed::{abandoned_fields, count_fields, print, record_fields};
+pub use printed::{abandoned_fields, count_fields, print, print_entries, record_fields};
 pub use reader::{ReadJournal, read};
 pub use walk::Walk;

@@ -14,12 +14,12 @@ ghost use Rattle.world_text.specs.Values.{world_value};
 use crate::journals::{load_journal, refused};
 use crate::loading::whole_file;
 use crate::output::Output;
-use crate::replaying::show;
 use crate::stop::Stop;
 use crate::worlds::{Ready, make_ready};
 use cell_grid::Record;
 use event_journal::ReadJournal;
 use feast_base::{NoMemory, Shelf};
+use grid_print::grid_text;
 use report_judge::rewound;
 use std::alloc::Global;
 use world_grid::start;
@@ -42,7 +42,7 @@ fn rewind_text(
     let first = start(alloc, &ready.world)?;
     let mut actor = ready.elements.actor(alloc)?;
     let grid = rewound(alloc, first, records, left, &mut actor)?;
-    show(alloc, ready.elements.names(), &grid)
+    grid_text(alloc, &grid, ready.elements.names())
 }
 
 /// The stop at a journal with too few events.

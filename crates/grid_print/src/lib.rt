@@ -17,4 +17,4 @@ pub use again::reads_again;
 pub use fault::WriteFault;
 pub use shown::atoms;
 pub use texts::one_report;
-pub use writer::write_report;
+pub use writer::{grid_text, report_text, write_report};

@@ -18,8 +18,8 @@ start-requires c = ready_valid c.args.ready.now c.requires.ready
 pub rewound-requires-clause-live : goal.rewound-requires-clause-live
 rewound-requires-clause-live c = λ k d lt. live_in (world_value c.args.ready.now.world).plane c.in_ok-first.first _ _ c.in_ok-first.ensures.fits (c.requires.live k d lt)
 
-pub show-requires : goal.show-requires
-show-requires c =
+pub grid_text-requires : goal.grid_text-requires
+grid_text-requires c =
     let w = world_value c.args.ready.now.world in
     let names = (elements_value c.args.ready.now.elements).names in
     let means = acts c.in_ok-actor.actor in

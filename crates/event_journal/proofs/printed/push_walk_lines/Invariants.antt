@@ -2,7 +2,7 @@ use Rattle.std.proofs.Common.{List, ℕ, ◌≡◌, ◌++◌, map}
 use Rattle.text_lines.specs.Lines.{text_of}
 use Rattle.event_journal.specs.Text.{record_fields}
 use Rattle.event_journal.specs.Walks.{left_of}
-use Rattle.event_journal.proofs.printed.push_records.Given as goal
+use Rattle.event_journal.proofs.printed.push_walk_lines.Given as goal
 
 abbrev pub invariant-loop-entry : goal.invariant-loop-entry
 invariant-loop-entry l = record {

@@ -1,5 +1,5 @@
 use Rattle.feast_base.proofs.Appending.{Appends-at_exit}
-use Rattle.report_judge.proofs.reprinting.push_events.Goals as goal
+use Rattle.event_journal.proofs.printed.push_walk_lines.Goals as goal
 
 pub returns-in_err-push_line : goal.returns-in_err-push_line
 returns-in_err-push_line c =

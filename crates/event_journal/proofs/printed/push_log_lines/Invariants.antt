@@ -2,7 +2,7 @@ use Rattle.std.proofs.Common.{List, ℕ, ◌≡◌, ◌++◌, drop, map}
 use Rattle.text_lines.specs.Lines.{text_of}
 use Rattle.event_journal.specs.Logs.{abandoned_in}
 use Rattle.event_journal.specs.Text.{abandoned_fields}
-use Rattle.event_journal.proofs.printed.push_logs.Given as goal
+use Rattle.event_journal.proofs.printed.push_log_lines.Given as goal
 
 abbrev pub invariant-loop-log : goal.invariant-loop-log
 invariant-loop-log l = record {

@@ -1,7 +1,7 @@
 use Rattle.std.proofs.Common.{List, ℕ, ◌≡◌, ◌++◌, drop, map}
 use Rattle.text_lines.specs.Lines.{text_of}
 use Rattle.event_journal.specs.Text.{abandoned_fields}
-use Rattle.event_journal.proofs.printed.push_entries.Given as goal
+use Rattle.event_journal.proofs.printed.push_abandoned_lines.Given as goal
 
 abbrev pub invariant-loop-entry : goal.invariant-loop-entry
 invariant-loop-entry l = record {
