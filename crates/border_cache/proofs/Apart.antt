@@ -8,7 +8,7 @@ use Rattle.window_sites.proofs.Offsets.{offset-one}
 use Rattle.tile_map.specs.Plane.{Site, MapValue, site, is_live}
 use Rattle.tile_map.specs.Edges.{window_site, live_site, shared_of}
 use Rattle.border_cache.specs.Published.{ArePlaces}
-use Rattle.border_cache.specs.Windows.{place_in, place_of_some}
+use Rattle.border_cache.specs.Windows.{place_in, edge_place_some}
 
 abbrev inside : Option ℕ → ℕ
 inside None = 0
@@ -54,7 +54,7 @@ shifts_of m (Some u) (Some v) s h = go (is_live m (site u v)) h
 placed : (m : MapValue) (c : Site) (e n k : ℕ) → place_in m c e n ≡ Some k → (shifted c.x (offset_of n).0 ≡ Some (get_or (shared_of m e) k c).x) × (shifted c.y (offset_of n).1 ≡ Some (get_or (shared_of m e) k c).y)
 placed m c e n k h = go (window_site m c n) refl h
   where
-    go : (o : Option Site) → window_site m c n ≡ o → place_of_some m e o ≡ Some k → (shifted c.x (offset_of n).0 ≡ Some (get_or (shared_of m e) k c).x) × (shifted c.y (offset_of n).1 ≡ Some (get_or (shared_of m e) k c).y)
+    go : (o : Option Site) → window_site m c n ≡ o → edge_place_some m e o ≡ Some k → (shifted c.x (offset_of n).0 ≡ Some (get_or (shared_of m e) k c).x) × (shifted c.y (offset_of n).1 ≡ Some (get_or (shared_of m e) k c).y)
     go None is h = absurd (cc h)
     go (Some s) is h =
         let found = (position-Some (λ p. p.x == s.x && p.y == s.y) (shared_of m e) k c h).1 in

@@ -9,7 +9,7 @@ use Rattle.edge_lock.specs.declared.history.Access.{Access}
 use Rattle.edge_lock.specs.declared.history.Access.TheVariants.{Read, Write}
 use Rattle.edge_lock.specs.declared.history.Hold.{Hold}
 use Rattle.edge_lock.specs.History.{own, trace, written, value, value_after, found_value, open_hold, IsHistory}
-use Rattle.edge_lock.specs.EndLists.{is_held, last_shown}
+use Rattle.edge_lock.specs.EndLists.{is_last_open, last_shown}
 use Rattle.edge_lock.proofs.LastHolds.{written-append, open_hold-snoc}
 use Rattle.edge_lock.proofs.SharedHolds.{holder}
 
@@ -69,7 +69,7 @@ pub record OpenIsOwn (hs : List Hold) (end : ℕ) : Type 0 where
   pub past : List Hold
   pub last : own end hs ≡ past ++ hold ∷ []
 
-pub open_is_own : {n : ℕ} (hs : List Hold) (end : ℕ) → IsHistory n hs → is_held (own end hs) ≡ true → OpenIsOwn hs end
+pub open_is_own : {n : ℕ} (hs : List Hold) (end : ℕ) → IsHistory n hs → is_last_open (own end hs) ≡ true → OpenIsOwn hs end
 open_is_own {n} hs end i held = let has = holder hs (own end hs) end i refl held in record {
   hold = has.h;
   is_open = ap open_hold has.is ∙ (open_hold-snoc has.past has.h ∙ ap (λ b. cond b (Some has.h) None) has.is_open);
@@ -79,7 +79,7 @@ open_is_own {n} hs end i held = let has = holder hs (own end hs) end i refl held
 }
 
 -- where neither end's last hold is open, nobody has the edge
-pub open_is_none : {n : ℕ} (hs : List Hold) → IsHistory n hs → is_held (own 0 hs) ≡ false → is_held (own 1 hs) ≡ false → open_hold hs ≡ None
+pub open_is_none : {n : ℕ} (hs : List Hold) → IsHistory n hs → is_last_open (own 0 hs) ≡ false → is_last_open (own 1 hs) ≡ false → open_hold hs ≡ None
 open_is_none {n} hs i low high = Rattle.edge_lock.proofs.SharedSeats.all_given hs (own 0 hs) (own 1 hs) i refl refl low high
 
 known_by : (b : Bool) (xs : List Access) (r u v : ℕ) → ((w : ℕ) → last_shown xs r (Some w) ≢ None) → last_shown xs r (cond b (Some u) (Some v)) ≢ None

@@ -9,7 +9,7 @@ use Rattle.edge_lock.specs.declared.history.Access.{Access}
 use Rattle.edge_lock.specs.declared.history.Access.TheVariants.{Read, Write}
 use Rattle.edge_lock.specs.declared.history.Hold.{Hold}
 use Rattle.edge_lock.specs.declared.history.Refusal.{Refusal}
-use Rattle.edge_lock.specs.History.{own, trace, written, value, ReadsTrue, IsAllowedAccess, open_hold, key, keys, attempts_of, IsRising, refused_attempt, IsBefore, IsAfter, IsPlaced, IsSide, IsHistory, IsEnd}
+use Rattle.edge_lock.specs.History.{own, trace, written, value, ReadsTrue, IsAllowedAccess, open_hold, key, keys, attempts_of, IsRising, refused_attempt, IsBefore, IsAfter, NamesHold, IsSide, IsHistory, IsEnd}
 use Rattle.edge_lock.specs.EndLists.{new_hold, refusal_of, with_access, closed_hold, IsHoldBelow, IsRefusalBelow}
 use Rattle.edge_lock.proofs.LastHolds.{trace-snoc, written-append, reads-snoc, only_last-change, only_last-more, keys-snoc, attempts-append, rising-snoc}
 
@@ -55,7 +55,7 @@ attempts_below a e (x ∷ ks) h = dite (ℕ_discrete x.0 e)
     (all-cons (λ y. y < a) x.1 (attempts_of e ks) (all-head (IsBefore e a) x ks h is) (attempts_below a e ks (all-tail (IsBefore e a) x ks h))))
     (λ apart. subst (λ b. All (λ y. y < a) (cond b (x.1 ∷ attempts_of e ks) (attempts_of e ks))) (sym (ne_eqb x.0 e apart)) (attempts_below a e ks (all-tail (IsBefore e a) x ks h)))
 
-fits_more : (ks : List (ℕ × ℕ)) (e : ℕ) (r : Refusal) (k : ℕ × ℕ) → IsPlaced ks e r → IsAfter e r.attempt k → IsPlaced (ks ++ k ∷ []) e r
+fits_more : (ks : List (ℕ × ℕ)) (e : ℕ) (r : Refusal) (k : ℕ × ℕ) → NamesHold ks e r → IsAfter e r.attempt k → NamesHold (ks ++ k ∷ []) e r
 fits_more ks e r k f later = record {
   before = f.before;
   after = f.after ++ k ∷ [];
@@ -85,7 +85,7 @@ pub side_refuses : (ks past : List (ℕ × ℕ)) (e a b : ℕ) (rs : List Refusa
 side_refuses ks past e a b rs s is below new = record {
   rise = s.rise;
   refusals_rise = subst IsRising (sym (map-append refused_attempt rs (refusal_of a b ∷ []))) (rising-snoc (map refused_attempt rs) a s.refusals_rise (all-map refused_attempt (λ x. x < a) rs new));
-  fits = All-push (IsPlaced ks e) rs (refusal_of a b) s.fits record {
+  fits = All-push (NamesHold ks e) rs (refusal_of a b) s.fits record {
     before = past;
     after = [];
     splits = is;

@@ -17,7 +17,7 @@ use Rattle.edge_lock.specs.declared.history.Hold.{Hold}
 use Rattle.edge_lock.specs.declared.history.Refusal.{Refusal}
 use Rattle.edge_lock.specs.declared.plain_steps.PlainView.{PlainView}
 use Rattle.edge_lock.specs.History.{own, trace, written, value, ReadsTrue, IsAllowed, IsAllowedAccess, open_hold, key, keys, site_count, IsEnd, IsSide, IsHistory}
-use Rattle.edge_lock.specs.EndLists.{end_lists, new_hold, refusal_of, with_access, closed_hold, change_last, is_held, IsHoldBelow, IsRefusalBelow, last_accesses, last_shown, Shows, known_value, after_try, IsFree, IsHeld}
+use Rattle.edge_lock.specs.EndLists.{end_lists, new_hold, refusal_of, with_access, closed_hold, change_last, is_last_open, IsHoldBelow, IsRefusalBelow, last_accesses, last_shown, Shows, known_value, after_try, IsFree, IsHeld}
 use Rattle.edge_lock.specs.SharedRule.{lock_word, attempt_in}
 use Rattle.edge_lock.specs.PlainEdges.{plain_view, IsKept, Agrees, IsPlain, with_refusal, end_in, PlainTries, plain_view_after_change, PlainReads, PlainWrites, PlainGives, PlainTells, PlainEdgeValue, view_of, own_lists, edge_after_try, with_view, IsAnswer}
 use Rattle.edge_lock.proofs.LastHolds.{open_hold-snoc, ends_open, is_held-snoc, keys-snoc, none_or_held, change_last-snoc, last_accesses-snoc, trace-snoc}
@@ -78,14 +78,14 @@ pub record Other (hs : List Hold) (e : ℕ) (h : Hold) : Type 0 where
   pub is : hs ≡ past ++ h ∷ []
   pub end : h.end ≡ 1 - e
 
-pub other : {n : ℕ} (hs : List Hold) (e : ℕ) (h : Hold) → IsHistory n hs → e < 2 → is_held (own e hs) ≡ false → open_hold hs ≡ Some h → Other hs e h
+pub other : {n : ℕ} (hs : List Hold) (e : ℕ) (h : Hold) → IsHistory n hs → e < 2 → is_last_open (own e hs) ≡ false → open_hold hs ≡ Some h → Other hs e h
 other hs e h i end shut is_open =
     let last = ends_open hs h is_open in let past = last.0.past in let is = last.0.is in
-    let not_own : h.end ≢ e = λ same. true≢false (sym last.1 ∙ (sym (is_held-snoc (own e past) h) ∙ (ap is_held (sym (own-here e past h same) ∙ ap (own e) (sym is)) ∙ shut))) in
+    let not_own : h.end ≢ e = λ same. true≢false (sym last.1 ∙ (sym (is_held-snoc (own e past) h) ∙ (ap is_last_open (sym (own-here e past h same) ∙ ap (own e) (sym is)) ∙ shut))) in
     let bound : h.end < 2 = all-last IsEnd (keys past) (key h) (subst (All IsEnd) (ap keys is ∙ keys-snoc past h) i.ends) in
     record { past = past; is = is; end = omega arith }
 
-pub tries : (size slots id e a w : ℕ) (me : M) → me.1 ≡ [] → e < 2 → w ≡ 1 + 2 * a + e → is_held (own e me.0.holds) ≡ false → All (IsHoldBelow a) (own e me.0.holds) → All (IsRefusalBelow a) (cond (eqb e 0) me.0.low me.0.high)
+pub tries : (size slots id e a w : ℕ) (me : M) → me.1 ≡ [] → e < 2 → w ≡ 1 + 2 * a + e → is_last_open (own e me.0.holds) ≡ false → All (IsHoldBelow a) (own e me.0.holds) → All (IsRefusalBelow a) (cond (eqb e 0) me.0.low me.0.high)
     → Allows (IsPlain size) slots id me 1 (λ n. either (eqb n 0) w n) (PlainTries (step slots 1 0 w none) me)
 tries size slots id e a w me bare end word shut new news s r _ at _ =
     let v : PlainView = me.0 in let agrees = r.agrees id v at in let n : ℕ = get_or s.words 1 0 in let found = agrees.lock in let long = agrees.long in
@@ -104,14 +104,14 @@ tries size slots id e a w me bare end word shut new news s r _ at _ =
       ),
     ) in
     ⊎_elim
-    (λ (f : (open_hold v.holds ≡ None) × (is_held v.holds ≡ false)). let is_zero : n ≡ 0 = found ∙ ap lock_word f.0 in
+    (λ (f : (open_hold v.holds ≡ None) × (is_last_open v.holds ≡ false)). let is_zero : n ≡ 0 = found ∙ ap lock_word f.0 in
     told true (eq-eqb n 0 is_zero) record {
       history = takes e a v end agrees.history f.0 new news;
       long = length-set s.words 1 w ∙ long;
       lock = get_or-set_same s.words 1 w 0 (omega arith) ∙ (word ∙ ap lock_word (sym (open_hold-snoc v.holds (new_hold e a))));
       registers = λ k l. get_or-set_other s.words 1 (3 + k) w 0 (λ h. omega arith) ∙ (agrees.registers k l ∙ sym (value-opened v.holds e a k));
     })
-    (λ (f : (h : Hold) × (open_hold v.holds ≡ Some h) × (is_held v.holds ≡ true)).
+    (λ (f : (h : Hold) × (open_hold v.holds ≡ Some h) × (is_last_open v.holds ≡ true)).
     let h = f.0 in let is : n ≡ 1 + 2 * h.attempt + h.end = found ∙ ap lock_word f.1 in let some_word : n ≢ 0 = λ z. omega arith in
     let o = other v.holds e h agrees.history.holds end shut f.1 in let who = o.end in let that : h.attempt ≡ attempt_in n = omega arith in
     let same = same_holds e (refusal_of a (attempt_in n)) v in
@@ -131,7 +131,7 @@ kept_change v past h g k is same i = let ks = ap keys is ∙ sym (keys-change pa
 }
 
 -- one step of the end e, which has the edge
-module _ (size slots id e : ℕ) (me : M) (bare : me.1 ≡ []) (held : is_held (own e me.0.holds) ≡ true) where
+module _ (size slots id e : ℕ) (me : M) (bare : me.1 ≡ []) (held : is_last_open (own e me.0.holds) ≡ true) where
   abbrev v : PlainView
   v = me.0
 
@@ -237,14 +237,14 @@ opens size words is =
 -- what a try answers, by the word that it found
 pub answers_got : (e n : ℕ) (x : PlainEdgeValue) → n ≡ lock_word (open_hold x.holds) → n ≡ 0 → IsAnswer e x Got
 answers_got e n x is zero_word = ⊎_elim
-    (λ (f : (open_hold x.holds ≡ None) × (is_held x.holds ≡ false)). f.0)
-    (λ (f : (h : Hold) × (open_hold x.holds ≡ Some h) × (is_held x.holds ≡ true)). let w : n ≡ 1 + 2 * f.0.attempt + f.0.end = is ∙ ap lock_word f.1 in absurd (omega arith))
+    (λ (f : (open_hold x.holds ≡ None) × (is_last_open x.holds ≡ false)). f.0)
+    (λ (f : (h : Hold) × (open_hold x.holds ≡ Some h) × (is_last_open x.holds ≡ true)). let w : n ≡ 1 + 2 * f.0.attempt + f.0.end = is ∙ ap lock_word f.1 in absurd (omega arith))
     (none_or_held x.holds)
 
 pub answers_busy : (e n : ℕ) (x : PlainEdgeValue) → IsKept (view_of x) → e < 2 → IsFree (own_lists e x) → n ≡ lock_word (open_hold x.holds) → n ≢ 0 → IsAnswer e x (Busy (attempt_in n))
 answers_busy e n x k end free is some_word = ⊎_elim
-    (λ (f : (open_hold x.holds ≡ None) × (is_held x.holds ≡ false)). absurd (some_word (is ∙ ap lock_word f.0)))
-    (λ (f : (h : Hold) × (open_hold x.holds ≡ Some h) × (is_held x.holds ≡ true)).
+    (λ (f : (open_hold x.holds ≡ None) × (is_last_open x.holds ≡ false)). absurd (some_word (is ∙ ap lock_word f.0)))
+    (λ (f : (h : Hold) × (open_hold x.holds ≡ Some h) × (is_last_open x.holds ≡ true)).
     let h = f.0 in let w : n ≡ 1 + 2 * h.attempt + h.end = is ∙ ap lock_word f.1 in let o = other x.holds e h k.holds end free f.1 in let who = o.end in (h, f.1, who, omega arith))
     (none_or_held x.holds)
 

@@ -15,7 +15,7 @@ use Rattle.edge_lock.specs.declared.history.Hold.{Hold}
 use Rattle.edge_lock.specs.declared.history.Refusal.{Refusal}
 use Rattle.edge_lock.specs.declared.edge_steps.View.TheVariants.{Paired}
 use Rattle.edge_lock.specs.History.{own, trace, written, value, ReadsTrue, IsAllowed, IsAllowedAccess, OnlyLastOpen, open_hold, key, keys, site_count, IsSide, IsHistory}
-use Rattle.edge_lock.specs.EndLists.{end_lists, is_held, change_last, with_access, closed_hold, last_accesses, last_shown, Shows, known_value, IsHeld}
+use Rattle.edge_lock.specs.EndLists.{end_lists, is_last_open, change_last, with_access, closed_hold, last_accesses, last_shown, Shows, known_value, IsHeld}
 use Rattle.edge_lock.specs.SharedRule.{lock_word, IsPart, IsShared, lists_in, Reads, Writes, Gives}
 use Rattle.edge_lock.proofs.LastHolds.{open_hold-snoc, ends_open, change_last-snoc, last_accesses-snoc, none_or_held, trace-snoc, written-append}
 use Rattle.edge_lock.proofs.HistorySteps.{all-cons, all-none, all-tail, all-head, history_accesses, history_ends, keys-change, value-read, value-write, value-ended, own-here, own-there}
@@ -38,12 +38,12 @@ past_shut [] h o = all-none Shut
 past_shut (x ∷ []) h o = all-cons Shut x [] o.0 (all-none Shut)
 past_shut (x ∷ y ∷ past) h o = all-cons Shut x (y ∷ past) o.0 (past_shut (y ∷ past) h o.1)
 
-not_held : (hs : List Hold) → All Shut hs → is_held hs ≡ false
+not_held : (hs : List Hold) → All Shut hs → is_last_open hs ≡ false
 not_held [] a = refl
 not_held (x ∷ []) a = all-head Shut x [] a
 not_held (x ∷ y ∷ hs) a = not_held (y ∷ hs) (all-tail Shut x (y ∷ hs) a)
 
-own_shut : (e : ℕ) (hs : List Hold) → All Shut hs → is_held (own e hs) ≡ false
+own_shut : (e : ℕ) (hs : List Hold) → All Shut hs → is_last_open (own e hs) ≡ false
 own_shut e hs a = not_held (own e hs) (All-filter (λ (h : Hold). eqb h.end e) Shut hs a)
 
 pub record Holder (hs mine : List Hold) (e : ℕ) : Type 0 where
@@ -55,14 +55,14 @@ pub record Holder (hs mine : List Hold) (e : ℕ) : Type 0 where
   pub is_open : h.is_open ≡ true
 
 -- the end whose own last hold is open has the last hold of all
-pub holder : {n : ℕ} (hs mine : List Hold) (e : ℕ) → IsHistory n hs → own e hs ≡ mine → is_held mine ≡ true → Holder hs mine e
+pub holder : {n : ℕ} (hs mine : List Hold) (e : ℕ) → IsHistory n hs → own e hs ≡ mine → is_last_open mine ≡ true → Holder hs mine e
 holder hs mine e i own_is held =
     ⊎_elim
-    (λ (f : (open_hold hs ≡ None) × (is_held hs ≡ false)). absurd (true≢false (sym held ∙ (ap is_held (sym own_is) ∙ own_shut e hs (all_shut hs i.only_last f.0)))))
-    (λ (f : (h : Hold) × (open_hold hs ≡ Some h) × (is_held hs ≡ true)). let h = f.0 in let last = ends_open hs h f.1 in let past = last.0.past in let is = last.0.is in
+    (λ (f : (open_hold hs ≡ None) × (is_last_open hs ≡ false)). absurd (true≢false (sym held ∙ (ap is_last_open (sym own_is) ∙ own_shut e hs (all_shut hs i.only_last f.0)))))
+    (λ (f : (h : Hold) × (open_hold hs ≡ Some h) × (is_last_open hs ≡ true)). let h = f.0 in let last = ends_open hs h f.1 in let past = last.0.past in let is = last.0.is in
     dite (ℕ_discrete h.end e)
     (λ same. record { past = past; h = h; is = is; mine_is = sym own_is ∙ (ap (own e) is ∙ own-here e past h same); end = same; is_open = last.1 })
-    (λ apart. absurd (true≢false (sym held ∙ (ap is_held (sym own_is ∙ (ap (own e) is ∙ own-there e past h apart)) ∙ own_shut e past (past_shut past h (subst OnlyLastOpen is i.only_last)))))))
+    (λ apart. absurd (true≢false (sym held ∙ (ap is_last_open (sym own_is ∙ (ap (own e) is ∙ own-there e past h apart)) ∙ own_shut e past (past_shut past h (subst OnlyLastOpen is i.only_last)))))))
     (none_or_held hs)
 
 -- the last hold h becomes g
@@ -109,7 +109,7 @@ shows_value before (Write q v ∷ xs) r o t s =
     (shows_value (before ++ Write q v ∷ []) xs r (cond (eqb r q) (Some v) o) (subst ReadsTrue (sym now) t)
     (subst (λ x. Shows (cond (eqb r q) (Some v) o) x) (sym (written-append before (Write q v ∷ []) r 0)) (shows_cond (eqb r q) o v (written before r 0) s)))
 
-module _ (e : ℕ) (mine : List Hold) (rs : List Refusal) (held : is_held mine ≡ true) (size : ℕ) (s : S) (r : IsShared size s) (id : ℕ) (at : get_elem? s.views id ≡ some (Paired size e mine rs)) where
+module _ (e : ℕ) (mine : List Hold) (rs : List Refusal) (held : is_last_open mine ≡ true) (size : ℕ) (s : S) (r : IsShared size s) (id : ℕ) (at : get_elem? s.views id ≡ some (Paired size e mine rs)) where
   abbrev mine_is : IsPart r.joined r.hs (length s.views) id (Paired size e mine rs)
   mine_is = r.views id (Paired size e mine rs) at
 
@@ -169,7 +169,7 @@ abbrev Held : ℕ → ℕ → M → Type 0
 Held size e me = (me ≡ (Paired size e (lists_in me.0).holds (lists_in me.0).refusals, [])) × IsHeld (lists_in me.0)
 
 -- a step that is allowed at a paired view is allowed at a seat that is known to have such a view
-at_view : (P : M → Type 0) (size e : ℕ) (me : M) → Held size e me → ((mine : List Hold) (rs : List Refusal) → is_held mine ≡ true → P (Paired size e mine rs, [])) → P me
+at_view : (P : M → Type 0) (size e : ℕ) (me : M) → Held size e me → ((mine : List Hold) (rs : List Refusal) → is_last_open mine ≡ true → P (Paired size e mine rs, [])) → P me
 at_view P size e me h p = subst P (sym h.0) (p (lists_in me.0).holds (lists_in me.0).refusals h.1)
 
 pub reads : (size slots id e q w : ℕ) (me : M) → Held size e me → q < size → w ≡ q + 3 → Allows (IsShared size) slots id me w (λ n. n) (Reads (step slots w 0 0 none) me)

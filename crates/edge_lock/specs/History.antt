@@ -95,7 +95,7 @@ IsAfter end attempt key = key.0 ≡ end → attempt < key.1
 
 -- A refusal names a hold of the other end. That hold lies after every hold of the refused end with a smaller attempt
 -- and before every one with a greater attempt, and no hold of the refused end has the refused attempt.
-pub record IsPlaced (keys : List (ℕ × ℕ)) (end : ℕ) (refusal : Refusal) : Type 0 where
+pub record NamesHold (keys : List (ℕ × ℕ)) (end : ℕ) (refusal : Refusal) : Type 0 where
   pub before : List (ℕ × ℕ)
   pub after : List (ℕ × ℕ)
   pub splits : keys ≡ before ++ (1 - end, refusal.holder) ∷ after
@@ -106,7 +106,7 @@ pub record IsPlaced (keys : List (ℕ × ℕ)) (end : ℕ) (refusal : Refusal) :
 pub record IsSide (keys : List (ℕ × ℕ)) (end : ℕ) (refusals : List Refusal) : Type 0 where
   pub rise : IsRising (attempts_of end keys)
   pub refusals_rise : IsRising (map refused_attempt refusals)
-  pub fits : All (IsPlaced keys end) refusals
+  pub fits : All (NamesHold keys end) refusals
 
 abbrev pub IsEnd : ℕ × ℕ → Type 0
 IsEnd key = key.0 < 2

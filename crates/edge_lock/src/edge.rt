@@ -74,13 +74,13 @@ pub struct Closed {
 
 impl Model for Closed {
     ghost use Rattle.std.specs.Prelude.{◌≡◌, ◌+◌};
-    ghost use Rattle.edge_lock.specs.Passes.{ClosedValue, closed_value, IsSettled};
+    ghost use Rattle.edge_lock.specs.Passes.{ClosedValue, closed_value, KeepsHistory};
 
     ghost Value = { ClosedValue };
 
     ghost view = { λ c. closed_value c.table.shared.key c.seat.me.0 };
 
-    ghost invariant = { λ c. (c.table.shared.table_id.words ≡ 3 + c.table.shared.key) × (c.seat.table_id ≡ c.table.shared.table_id) × IsSettled c.seat.me };
+    ghost invariant = { λ c. (c.table.shared.table_id.words ≡ 3 + c.table.shared.key) × (c.seat.table_id ≡ c.table.shared.table_id) × KeepsHistory c.seat.me };
 }
 
 impl Closed {

@@ -11,7 +11,7 @@ use Rattle.cell_grid.specs.declared.record.Record.{Record}
 use Rattle.cell_grid.specs.Records.{Precedes}
 use Rattle.event_journal.specs.declared.abandoned.Abandoned.{Abandoned}
 use Rattle.event_journal.specs.Merged.{joined, merged}
-use Rattle.event_journal.specs.Logs.{LogValue, IsLog, AreLogs, IsJournal, Follows, ComesBefore, tile_of, records_of, abandoned_of, abandoned_in, is_before, records_in}
+use Rattle.event_journal.specs.Logs.{LogValue, IsLog, AreLogs, IsJournal, RisesTo, ComesBefore, tile_of, records_of, abandoned_of, abandoned_in, is_before, records_in}
 use Rattle.event_journal.proofs.Merging.{RisesBy, AllRise, AreApart, merged_permutes, merged_rises, one_order}
 use Rattle.event_journal.proofs.WalkSteps.{before_order}
 
@@ -79,7 +79,7 @@ joined-map f [] = refl
 joined-map f (l ∷ ls) = ap (λ z. f l ++ z) (joined-map f ls)
 
 log_rises : (l : LogValue) → IsLog l → RisesBy is_before l.records
-log_rises l log = rises_by is_before Follows l.records (λ x y i j f. rw (is_lt x.stamp y.stamp f.1) refl) log.rising
+log_rises l log = rises_by is_before RisesTo l.records (λ x y i j f. rw (is_lt x.stamp y.stamp f.1) refl) log.rising
 
 all_rise : (ls : List LogValue) → All IsLog ls → AllRise is_before (map records_of ls)
 all_rise [] all = tt

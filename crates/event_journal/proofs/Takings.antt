@@ -11,7 +11,7 @@ use Rattle.cell_grid.specs.declared.record.Record.{Record}
 use Rattle.tile_map.specs.Plane.{MapValue, IsMap, site, tiles_of, in_plane, owner_of}
 use Rattle.tile_map.proofs.PlaneLaws.{owner_low}
 use Rattle.event_journal.specs.declared.fault.LineFault.TheVariants.{OutOfTurn, ElsewhereThanTile, OtherThanAttempt}
-use Rattle.event_journal.specs.Reading.{first_of, record_fault, is_behind, line_before, is_at_home, is_attempt, place_fault}
+use Rattle.event_journal.specs.Reading.{first_of, record_fault, is_behind, line_before, is_at_home, is_attempt, attempt_fault}
 
 pub drop_more : (l : List Attempt) (i j k : ℕ) → i + j ≡ k → drop j (drop i l) ≡ drop k l
 drop_more l i j k e = drop-drop j i l ∙ ap (λ n. drop n l) e
@@ -34,13 +34,13 @@ pub takes_over : (s l m : List Attempt) (o : Option Attempt) (i k : ℕ) → i �
 takes_over s [] m o i k le e n t = t.1 ∙ sym (drop_none (k - i)) ∙ ap (λ z. drop (k - i) z) e ∙ drop_more s i (k - i) k (omega arith)
 takes_over s (a ∷ rest) m o i k le e n t = let u = t.0 in cc
 
-pub placed_elsewhere : (m : MapValue) (list : List Attempt) (r : Record) → is_at_home m r ≡ false → place_fault m list r ≡ Some ElsewhereThanTile
+pub placed_elsewhere : (m : MapValue) (list : List Attempt) (r : Record) → is_at_home m r ≡ false → attempt_fault m list r ≡ Some ElsewhereThanTile
 placed_elsewhere m list r e = rw e refl
 
-pub placed_other : (m : MapValue) (list : List Attempt) (r : Record) → is_at_home m r ≡ true → is_attempt m (first_of (drop r.attempt list)) r ≡ false → place_fault m list r ≡ Some OtherThanAttempt
+pub placed_other : (m : MapValue) (list : List Attempt) (r : Record) → is_at_home m r ≡ true → is_attempt m (first_of (drop r.attempt list)) r ≡ false → attempt_fault m list r ≡ Some OtherThanAttempt
 placed_other m list r e f = rw (e, f) refl
 
-pub placed_well : (m : MapValue) (list : List Attempt) (r : Record) → is_at_home m r ≡ true → is_attempt m (first_of (drop r.attempt list)) r ≡ true → place_fault m list r ≡ None
+pub placed_well : (m : MapValue) (list : List Attempt) (r : Record) → is_at_home m r ≡ true → is_attempt m (first_of (drop r.attempt list)) r ≡ true → attempt_fault m list r ≡ None
 placed_well m list r e f = rw (e, f) refl
 
 pub cursor_serves : (cursors : List LogCursor) (lists : List (List Attempt)) (t : ℕ) (s : LogCursor) → AllServe cursors lists → t < length cursors → s ≡ get_or cursors t s → Serves s (get_or lists t [])

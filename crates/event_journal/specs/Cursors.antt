@@ -54,10 +54,10 @@ abbrev pub said_value : Reading → Said
 said_value d = record { wants = wants_value d.wants; before = d.before; lasts = lasts_of d.cursors.items; journal = d.journal.items; gone = d.gone.items }
 
 -- a report is read as these records and abandoned attempts
-abbrev pub IsRead : Result Said (ℕ × LineFault) → ReadJournal → Type 0
-IsRead asked j = (d : Said) × (asked ≡ Ok d) × (d.journal ≡ j.records.items) × (d.gone ≡ j.abandoned.items)
+abbrev pub ReadsAs : Result Said (ℕ × LineFault) → ReadJournal → Type 0
+ReadsAs asked j = (d : Said) × (asked ≡ Ok d) × (d.journal ≡ j.records.items) × (d.gone ≡ j.abandoned.items)
 
 -- at Ok the records and the abandoned attempts that a report says, otherwise its first fault
 abbrev pub ReadsJournal : MapValue → List (List Attempt) → List ℕ → Result ReadJournal JournalFault → Type 0
-ReadsJournal m lists bytes (Ok j) = IsRead (read_report m lists bytes) j
+ReadsJournal m lists bytes (Ok j) = ReadsAs (read_report m lists bytes) j
 ReadsJournal m lists bytes (Err fault) = IsFault (read_report m lists bytes) (fault_of fault)

@@ -16,14 +16,14 @@ abbrev pub log_of : ℕ → List Record → List Abandoned → LogValue
 log_of tile records abandoned = record { tile = tile; records = records; abandoned = abandoned }
 
 -- of two events of a tile the later has the greater attempt and the greater stamp
-abbrev pub Follows : Record → Record → Type 0
-Follows r s = (r.attempt < s.attempt) × (r.stamp < s.stamp)
+abbrev pub RisesTo : Record → Record → Type 0
+RisesTo r s = (r.attempt < s.attempt) × (r.stamp < s.stamp)
 
 -- the entries of one tile, in the order in which they were made
 pub record IsLog (l : LogValue) : Type 0 where
   pub records : All (λ (r : Record). r.tile ≡ l.tile) l.records
   pub abandoned : All (λ (a : Abandoned). a.tile ≡ l.tile) l.abandoned
-  pub rising : AllPairs Follows l.records
+  pub rising : AllPairs RisesTo l.records
   pub attempts : AllPairs (λ (a b : Abandoned). a.attempt < b.attempt) l.abandoned
 
 abbrev pub tile_of : LogValue → ℕ

@@ -3,7 +3,7 @@ ghost use Rattle.std.specs.Prelude.{◌≡◌, ◌*◌, ◌≤◌, ◌<◌, ◌+
 ghost use Rattle.cell_grid.specs.declared.record.Record.{Record};
 ghost use Rattle.draw_stream.specs.declared.attempt.Attempt.{Attempt};
 ghost use Rattle.tile_map.specs.Plane.{IsMap, tiles_of};
-ghost use Rattle.event_journal.specs.Reading.{is_at_home, is_attempt, is_behind, line_before, not_later, place_fault, record_fault};
+ghost use Rattle.event_journal.specs.Reading.{is_at_home, is_attempt, is_behind, line_before, not_later, attempt_fault, record_fault};
 ghost use Rattle.event_journal.specs.Cursors.{AllServe, IsExtent, Serves, last_of, lasts_of, passed_of};
 ghost use Rattle.event_journal.specs.declared.fault.LineFault.TheVariants.{ElsewhereThanTile, OutOfTurn};
 
@@ -97,7 +97,7 @@ fn not_later(cursor: &LogCursor, attempt: u64) -> Option<u64>
 }
 
 /// The fault of a record whose site is not its tile's, or that is not its attempt. The tile exists.
-fn place_fault(
+fn attempt_fault(
     map: &Map,
     extent: &Extent,
     n: u64,
@@ -108,7 +108,7 @@ fn place_fault(
     requires tile { r.now.tile < tiles_of map.now }
     requires line { 1 ≤ n }
     requires later { passed_of cursor.old ≤ r.now.attempt }
-    ensures fault { (list : List Attempt) → Serves cursor.old list → result ≡ place_fault map.now list r.now }
+    ensures fault { (list : List Attempt) → Serves cursor.old list → result ≡ attempt_fault map.now list r.now }
     ensures serves { result ≡ None → (list : List Attempt) → Serves cursor.old list → Serves cursor.new list }
     ensures last { result ≡ None → last_of cursor.new ≡ Some (n, r.now.attempt) }
 {
@@ -146,7 +146,7 @@ fn record_fault(
     }
     match not_later(cursor, r.attempt) {
         Some(line) => Some(LineFault::OutOfTurn(line)),
-        None => place_fault(map, extent, n, cursor, r),
+        None => attempt_fault(map, extent, n, cursor, r),
     }
 }
 

@@ -5,7 +5,7 @@ ghost use Rattle.text_lines.specs.Lines.{ended_line, text_of};
 ghost use Rattle.text_lines.specs.Values.{field_text};
 ghost use Rattle.event_journal.specs.Logs.{abandoned_in, abandoned_of, records_in};
 ghost use Rattle.event_journal.specs.Text.{abandoned_fields, abandoned_lines, count_fields, journal_text, record_fields, record_lines};
-ghost use Rattle.event_journal.specs.Walks.{left_of};
+ghost use Rattle.event_journal.specs.Walks.{rest_of};
 
 use crate::abandoned::Abandoned;
 use crate::journal::Journal;
@@ -64,7 +64,7 @@ fn push_record_lines(out: &mut Vec<u8>, records: &[Record]) -> Result<(), NoMemo
 
 /// Appends the lines of the events that a walk has left.
 fn push_walk_lines(out: &mut Vec<u8>, walk: Walk<'_>) -> Result<(), NoMemory>
-    ensures { Appends out.old.items out.new.items result (text_of (map record_fields (left_of walk.entry))) }
+    ensures { Appends out.old.items out.new.items result (text_of (map record_fields (rest_of walk.entry))) }
 {
     for entry in walk {
         push_line(out, record_fields(&entry).as_slice())?;
@@ -105,7 +105,7 @@ fn push_records(out: &mut Vec<u8>, records: &[Record]) -> Result<(), NoMemory>
 
 /// Appends the number of a journal's events and their lines, by a walk through all of them.
 fn push_walk(out: &mut Vec<u8>, journal: &Journal, walk: Walk<'_>) -> Result<(), NoMemory>
-    requires { left_of walk ≡ records_in journal.now }
+    requires { rest_of walk ≡ records_in journal.now }
     ensures { Appends out.old.items out.new.items result (text_of (record_lines (records_in journal.now))) }
 {
     push_line(out, count_fields(b"journal", journal.len()).as_slice())?;

@@ -16,7 +16,7 @@ use Rattle.feast_run.specs.declared.stop.Stop.{Stop}
 use Rattle.feast_run.specs.declared.stop.Stop.TheVariants.{Missing, NoMemory, Refused}
 use Rattle.grid_print.specs.Report.{AreNamed}
 use Rattle.journal_check.specs.Telling.{IsPlanOf}
-use Rattle.report_judge.specs.Judging.{Judges, Setting, judgement_text}
+use Rattle.report_judge.specs.Judging.{Judges, JudgedWorld, judgement_text}
 use Rattle.report_judge.specs.declared.judgement.Judgement.{Judgement}
 use Rattle.tile_map.specs.Plane.{MapValue}
 use Rattle.window_sites.specs.Window.{WindowValue}
@@ -47,9 +47,9 @@ pub setting_same : (r : ReadyValue) (m : MapValue) (means : WindowValue → ℕ 
 setting_same r m means names g em ea en eg = λ i. record { map = em i; plan = r.world.plan; meaning = ea i; names = en i; start = eg i }
 
 -- the line of a right judgement
-pub line_audits : {A E : Type 0} (items : A → List ℕ) (r : ReadyValue) (bytes : List ℕ) (j : JournalValue) (s : Setting) (judgement : Judgement) (text : Result A E) → s ≡ judged_world r → Judges s bytes j.records j.abandoned judgement →
+pub line_audits : {A E : Type 0} (items : A → List ℕ) (r : ReadyValue) (bytes : List ℕ) (j : JournalValue) (s : JudgedWorld) (judgement : Judgement) (text : Result A E) → s ≡ judged_world r → Judges s bytes j.records j.abandoned judgement →
     IfOk text (λ v. items v ≡ judgement_text judgement) → IfOk text (λ v. Audits r bytes j (items v))
-line_audits items r bytes j s judgement (Ok v) same right shown = record { judgement = judgement; judges = subst (λ (x : Setting). Judges x bytes j.records j.abandoned judgement) same right; shown = shown }
+line_audits items r bytes j s judgement (Ok v) same right shown = record { judgement = judgement; judges = subst (λ (x : JudgedWorld). Judges x bytes j.records j.abandoned judgement) same right; shown = shown }
 line_audits items r bytes j s judgement (Err e) same right shown = tt
 
 -- a journal has fewer events than are to be left

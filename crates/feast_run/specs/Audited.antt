@@ -3,12 +3,12 @@ use Rattle.std.specs.Prelude.{ℕ, ◌≡◌, List, Option}
 use Rattle.feast_base.specs.Outside.{File}
 use Rattle.feast_run.specs.Outcomes.{Stage, and_then, gives_any}
 use Rattle.feast_run.specs.Stages.{JournalValue, ReadyValue, journal_in, journal_limit, load}
-use Rattle.report_judge.specs.Judging.{Judges, Setting, judgement_text}
+use Rattle.report_judge.specs.Judging.{Judges, JudgedWorld, judgement_text}
 use Rattle.report_judge.specs.declared.judgement.Judgement.{Judgement}
 use Rattle.world_grid.specs.Start.{start_grid}
 
 -- a world with its elements, as a judgement knows it
-abbrev pub judged_world : ReadyValue → Setting
+abbrev pub judged_world : ReadyValue → JudgedWorld
 judged_world r = record { map = r.world.plane; plan = r.world.plan; meaning = r.meaning; names = r.names; start = start_grid r.world.plane r.world.atoms }
 
 -- a text is the line of the judgement on the bytes of a report with this journal

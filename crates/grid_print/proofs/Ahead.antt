@@ -14,14 +14,14 @@ use Rattle.draw_stream.specs.declared.attempt.Attempt.{Attempt}
 use Rattle.draw_stream.specs.Plans.{PlanValue, attempts}
 use Rattle.event_journal.specs.Accounts.{IsAccounted, IsEventOf, events_at}
 use Rattle.event_journal.specs.Logs.{is_before}
-use Rattle.event_journal.specs.Reading.{Said, Wants, first_of, is_at_home, is_attempt, is_behind, not_later, place_fault, put_record, record_fault}
+use Rattle.event_journal.specs.Reading.{Said, Wants, first_of, is_at_home, is_attempt, is_behind, not_later, attempt_fault, put_record, record_fault}
 use Rattle.event_journal.specs.declared.abandoned.Abandoned.{Abandoned}
 use Rattle.event_journal.specs.declared.fault.LineFault.{LineFault}
 use Rattle.event_journal.proofs.Journals.{before_of, contains_of}
 use Rattle.tile_map.specs.Plane.{MapValue, in_plane, owner_of, site, site_in}
 use Rattle.grid_print.proofs.Bounds.{IsOfPlan, event_of_plan}
 use Rattle.grid_print.proofs.Counting.{some_pass}
-use Rattle.grid_print.specs.Again.{IsPlanOf}
+use Rattle.grid_print.specs.Again.{IsDrawablePlan}
 
 lt_true : (a b : ℕ) → a < b → nat_lt a b ≡ true
 lt_true a b h = grind arith
@@ -86,7 +86,7 @@ tail_comes m plan [] is = tt
 tail_comes m plan (r ∷ rs) is = (first_comes m plan r rs is, tail_comes m plan rs (tail_more m plan r rs is))
 
 -- each two events of a journal that is accounted for
-pub events_come : (m : MapValue) (plan : PlanValue) (records : List Record) (abandoned : List Abandoned) → IsPlanOf m plan → IsAccounted m plan records abandoned → InOrder Comes records
+pub events_come : (m : MapValue) (plan : PlanValue) (records : List Record) (abandoned : List Abandoned) → IsDrawablePlan m plan → IsAccounted m plan records abandoned → InOrder Comes records
 events_come m plan records abandoned p accounted = tail_comes m plan records (record {
   once = λ t i lt. let once = accounted.once t i lt in omega (arith, once);
   there = λ r i. let c = get_in records r r i in let e = event_of_plan m plan p records abandoned accounted (get_or records c.0 r) (accounted.events c.0 r c.1) in subst (λ (z : Record). z.attempt < length (attempts plan z.tile)) c.2 e.attempt;

@@ -29,7 +29,7 @@ use Rattle.grid_print.proofs.Ahead.{Comes, IsAhead, IsInPlace, ahead_more, event
 use Rattle.grid_print.proofs.Bounds.{IsSmallAbandoned, IsSmallRecord, abandoned_small, abandoned_words, event_of_plan, events_few, given_up_few, record_words, records_small}
 use Rattle.grid_print.proofs.Lines.{abandoned_line, count_line, counted_lines, each_line, record_line}
 use Rattle.grid_print.proofs.Stamps.{stamps_low}
-use Rattle.grid_print.specs.Again.{AreFormed, AreReadAgain, IsLeft, IsPlanOf, SaysThese}
+use Rattle.grid_print.specs.Again.{AreFormed, AreReadAgain, IsLeft, IsDrawablePlan, SaysThese}
 use Rattle.grid_print.specs.Report.{AreNamed, Shown, atom_fields, atom_lines, name_of, report, report_lines, shown, shown_at, shown_from, shown_one}
 
 lt_true : (a b : ℕ) → a < b → nat_lt a b ≡ true
@@ -291,7 +291,7 @@ plane_low m k =
     square a b p q = grind arith
 
 -- the report of what a run left says its events and its abandoned attempts
-pub read_again : (names : List (List ℕ)) (m : MapValue) (plan : PlanValue) → AreFormed names → IsPlanOf m plan → AreReadAgain names m plan
+pub read_again : (names : List (List ℕ)) (m : MapValue) (plan : PlanValue) → AreFormed names → IsDrawablePlan m plan → AreReadAgain names m plan
 read_again names m plan formed p = λ g rs gs left.
     let plane = plane_low m p.map in
     let wide = left.wide in

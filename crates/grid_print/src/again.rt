@@ -1,5 +1,5 @@
 //! What holds of reports that are read again.
-ghost use Rattle.grid_print.specs.Again.{AreFormed, AreReadAgain, IsPlanOf};
+ghost use Rattle.grid_print.specs.Again.{AreFormed, AreReadAgain, IsDrawablePlan};
 
 use draw_stream::AttemptPlan;
 use feast_base::Name;
@@ -10,7 +10,7 @@ use tile_map::Map;
 /// nothing: its contract is the law.
 pub fn reads_again(map: &Map, plan: &AttemptPlan, names: &[Name])
     requires names { AreFormed names.now }
-    requires plan { IsPlanOf map.now plan.now }
+    requires plan { IsDrawablePlan map.now plan.now }
     ensures { AreReadAgain names.now map.now plan.now }
 {
     let _tiles = map.tiles();

@@ -15,8 +15,8 @@ use Rattle.tile_map.specs.Laws.{IsPlane, Joins}
 use Rattle.event_journal.specs.Accounts.{IsAccounted, IsEventOf, IsExcusedBy, IsGivenUpOf, Needs, edges_of}
 use Rattle.event_journal.specs.declared.abandoned.Abandoned.{Abandoned}
 use Rattle.journal_check.specs.Clocks.{needs_edge}
-use Rattle.journal_check.specs.Excuses.{IsExcusedOn, IsHeld, gone_needs}
-use Rattle.journal_check.specs.Marks.{AreApart, AreMarks, is_on_edge, lane, mark_of, marks_on}
+use Rattle.journal_check.specs.Excuses.{IsExcusedOn, WasHeld, gone_needs}
+use Rattle.journal_check.specs.Marks.{AreApart, AreMarks, is_on_edge, marks_at, mark_of, marks_on}
 use Rattle.journal_check.specs.declared.mark.Mark.{Mark}
 use Rattle.journal_check.proofs.Latest.{any_in, needs_in}
 use Rattle.journal_check.proofs.Lists.{all_in, contains_in, in_contains}
@@ -105,10 +105,10 @@ module _ (m : MapValue) (plan : PlanValue) (records : List Record) (abandoned : 
     known : (gone_needs m g.edge g ≡ true) → g.edge < length (pairs_of m)
     known h = needs_known m g.tile (site g.x g.y) g.edge h
 
-    own_is : gone_needs m g.edge g ≡ true → Joins m g.edge g.tile g.holder → lane m table g.edge g.tile ≡ marks_on m g.tile g.edge records
+    own_is : gone_needs m g.edge g ≡ true → Joins m g.edge g.tile g.holder → marks_at m table g.edge g.tile ≡ marks_on m g.tile g.edge records
     own_is h j = marks.each g.edge g.tile (known h) (joined_tiles m plane g.edge g.tile g.holder (known h) j).0
 
-    other_is : gone_needs m g.edge g ≡ true → Joins m g.edge g.tile g.holder → lane m table g.edge g.holder ≡ marks_on m g.holder g.edge records
+    other_is : gone_needs m g.edge g ≡ true → Joins m g.edge g.tile g.holder → marks_at m table g.edge g.holder ≡ marks_on m g.holder g.edge records
     other_is h j = marks.each g.edge g.holder (known h) (joined_tiles m plane g.edge g.tile g.holder (known h) j).1
 
     pub excused_by : IsExcusedOn m table abandoned g → IsExcusedBy m plan records abandoned g
@@ -125,11 +125,11 @@ module _ (m : MapValue) (plan : PlanValue) (records : List Record) (abandoned : 
           (λ n. inr (n.1.0.0, n.0, n.1.0.1, n.1.0.2, (n.1.1, n.1.2, n.2))) h.held;
       after = events_apart g.edge g.tile g.attempt g.holder g.holder_attempt
           (subst (λ (l : List Mark). AreApart l g.attempt (marks_on m g.holder g.edge records) g.holder_attempt) (own_is h.needs h.ends)
-          (subst (λ (l : List Mark). AreApart (lane m table g.edge g.tile) g.attempt l g.holder_attempt) (other_is h.needs h.ends) h.after));
+          (subst (λ (l : List Mark). AreApart (marks_at m table g.edge g.tile) g.attempt l g.holder_attempt) (other_is h.needs h.ends) h.after));
       before = λ r s c d tile tile' needs needs' lt le.
           events_apart g.edge g.holder (g.holder_attempt + 1) g.tile (g.attempt + 1)
           (subst (λ (l : List Mark). AreApart l (g.holder_attempt + 1) (marks_on m g.tile g.edge records) (g.attempt + 1)) (other_is h.needs h.ends)
-          (subst (λ (l : List Mark). AreApart (lane m table g.edge g.holder) (g.holder_attempt + 1) l (g.attempt + 1)) (own_is h.needs h.ends) h.before))
+          (subst (λ (l : List Mark). AreApart (marks_at m table g.edge g.holder) (g.holder_attempt + 1) l (g.attempt + 1)) (own_is h.needs h.ends) h.before))
           s r d c tile' tile needs' needs (omega (arith, le)) (omega (arith, lt));
     }
 
@@ -137,16 +137,16 @@ module _ (m : MapValue) (plan : PlanValue) (records : List Record) (abandoned : 
     excused_on h = record {
       needs = needs;
       ends = h.ends;
-      held = ⊎_elim {C = IsHeld m (lane m table g.edge g.holder) abandoned g}
+      held = ⊎_elim {C = WasHeld m (marks_at m table g.edge g.holder) abandoned g}
           (λ q. let c : Contains records q.1 = (q.0, q.2, q.3) in
           inl (mark_of q.1, subst (λ (l : List Mark). Contains l (mark_of q.1)) (sym (other_is needs h.ends)) (mark_in g.edge g.holder q.1 c q.4.0 (needs_event g.edge g.holder g.holder_attempt q.1 c q.4.0 q.4.1 h.held)), q.4.1))
           (λ q. let c : Contains abandoned q.1 = (q.0, q.2, q.3) in
           inr (q.1, (c, q.4.0, q.4.1), q.4.2, shows_gone g.edge g.holder g.holder_attempt q.1 c q.4.0 q.4.1 h.held)) h.owed;
       after =
-          subst (λ (l : List Mark). AreApart l g.attempt (lane m table g.edge g.holder) g.holder_attempt) (sym (own_is needs h.ends))
+          subst (λ (l : List Mark). AreApart l g.attempt (marks_at m table g.edge g.holder) g.holder_attempt) (sym (own_is needs h.ends))
           (subst (λ (l : List Mark). AreApart (marks_on m g.tile g.edge records) g.attempt l g.holder_attempt) (sym (other_is needs h.ends)) (apart_events g.edge g.tile g.attempt g.holder g.holder_attempt h.after));
       before =
-          subst (λ (l : List Mark). AreApart l (g.holder_attempt + 1) (lane m table g.edge g.tile) (g.attempt + 1)) (sym (other_is needs h.ends))
+          subst (λ (l : List Mark). AreApart l (g.holder_attempt + 1) (marks_at m table g.edge g.tile) (g.attempt + 1)) (sym (other_is needs h.ends))
           (subst (λ (l : List Mark). AreApart (marks_on m g.holder g.edge records) (g.holder_attempt + 1) l (g.attempt + 1)) (sym (own_is needs h.ends))
           (apart_events g.edge g.holder (g.holder_attempt + 1) g.tile (g.attempt + 1) (λ s r d c tile' tile needs' needs'' lt le. h.before r s c d tile tile' needs'' needs' (omega (arith, le)) (omega (arith, lt)))));
     }

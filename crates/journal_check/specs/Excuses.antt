@@ -8,7 +8,7 @@ use Rattle.tile_map.specs.Edges.{needs_of}
 use Rattle.tile_map.specs.Laws.{Joins}
 use Rattle.event_journal.specs.Accounts.{IsExcusedBy}
 use Rattle.event_journal.specs.declared.abandoned.Abandoned.{Abandoned}
-use Rattle.journal_check.specs.Marks.{AreApart, HasMark, lane}
+use Rattle.journal_check.specs.Marks.{AreApart, HasMark, marks_at}
 use Rattle.journal_check.specs.declared.mark.Mark.{Mark}
 
 -- an abandoned attempt of a tile of the map at a site of the plane
@@ -33,17 +33,17 @@ abbrev pub gone_needs : MapValue → ℕ → Abandoned → Bool
 gone_needs m e g = list_any (λ f. f == e) (needs_of m g.tile (site g.x g.y))
 
 -- the attempt that held the edge is among the marks of its tile, or was itself given up at a greater edge and needs this one
-abbrev pub IsHeld : MapValue → List Mark → List Abandoned → Abandoned → Type 0
-IsHeld m marks abandoned g =
+abbrev pub WasHeld : MapValue → List Mark → List Abandoned → Abandoned → Type 0
+WasHeld m marks abandoned g =
     HasMark marks g.holder_attempt ⊎ ((k : Abandoned) × IsFound abandoned g.holder g.holder_attempt k × (g.edge < k.edge) × (gone_needs m g.edge k ≡ true))
 
 -- the excuse by the marks of the edge
 pub record IsExcusedOn (m : MapValue) (table : List (List Mark)) (abandoned : List Abandoned) (g : Abandoned) : Type 0 where
   pub needs : gone_needs m g.edge g ≡ true
   pub ends : Joins m g.edge g.tile g.holder
-  pub held : IsHeld m (lane m table g.edge g.holder) abandoned g
-  pub after : AreApart (lane m table g.edge g.tile) g.attempt (lane m table g.edge g.holder) g.holder_attempt
-  pub before : AreApart (lane m table g.edge g.holder) (g.holder_attempt + 1) (lane m table g.edge g.tile) (g.attempt + 1)
+  pub held : WasHeld m (marks_at m table g.edge g.holder) abandoned g
+  pub after : AreApart (marks_at m table g.edge g.tile) g.attempt (marks_at m table g.edge g.holder) g.holder_attempt
+  pub before : AreApart (marks_at m table g.edge g.holder) (g.holder_attempt + 1) (marks_at m table g.edge g.tile) (g.attempt + 1)
 
 -- abandoned attempt k is the first that is not excused
 pub record IsFirstUnexcused (m : MapValue) (plan : PlanValue) (records : List Record) (abandoned : List Abandoned) (k : ℕ) : Type 0 where

@@ -11,11 +11,11 @@ ghost use Rattle.event_journal.specs.Accounts.{AreExcused, IsAccounted};
 ghost use Rattle.event_journal.specs.Logs.{ComesBefore};
 ghost use Rattle.event_journal.specs.declared.abandoned.Abandoned.{Abandoned};
 ghost use Rattle.journal_check.specs.Clocks.{IsInside};
-ghost use Rattle.journal_check.specs.Excuses.{IsExcusedOn, IsFirstUnexcused, IsFound, IsGoneInside, IsHeld, IsMissing, is_earlier};
+ghost use Rattle.journal_check.specs.Excuses.{IsExcusedOn, IsFirstUnexcused, IsFound, IsGoneInside, WasHeld, IsMissing, is_earlier};
 ghost use Rattle.journal_check.specs.Marks.{AreApart, AreRising, HasMark, IsSplit, marks_on};
 
 use crate::mark::Mark;
-use crate::marks::{Marks, lane, marks_of};
+use crate::marks::{Marks, marks_at, marks_of};
 use cell_grid::Record;
 use event_journal::Abandoned;
 use feast_base::NoMemory;
@@ -120,11 +120,11 @@ fn joins(map: &Map, edge: u32, tile: u32, holder: u32) -> bool
 
 /// Whether the attempt that held the edge is among its tile's marks, or was itself given up at a
 /// greater edge and needs this one.
-fn is_held(map: &Map, marks: &[Mark], abandoned: &[Abandoned], entry: &Abandoned) -> bool
+fn was_held(map: &Map, marks: &[Mark], abandoned: &[Abandoned], entry: &Abandoned) -> bool
     requires rising { AreRising marks.now }
     requires sorted { AllPairs ComesBefore abandoned.now }
     requires inside { All (IsGoneInside map.now) abandoned.now }
-    ensures { Decides result (IsHeld map.now marks.now abandoned.now entry.now) }
+    ensures { Decides result (WasHeld map.now marks.now abandoned.now entry.now) }
 {
     if has_mark(marks, entry.holder_attempt) {
         return true;
@@ -153,9 +153,9 @@ fn is_excused(map: &Map, table: &[Marks], abandoned: &[Abandoned], entry: &Aband
     if !joins(map, entry.edge, entry.tile, entry.holder) {
         return false;
     }
-    let own = lane(map, table, entry.edge, entry.tile);
-    let other = lane(map, table, entry.edge, entry.holder);
-    if !is_held(map, other, abandoned, entry) {
+    let own = marks_at(map, table, entry.edge, entry.tile);
+    let other = marks_at(map, table, entry.edge, entry.holder);
+    if !was_held(map, other, abandoned, entry) {
         return false;
     }
     let attempt = u128::from(entry.attempt);

@@ -4,7 +4,7 @@ ghost use Rattle.std.specs.List.Sorted.{IsStrictlyIncreasing};
 ghost use Rattle.tile_map.specs.Edges.{pairs_of};
 ghost use Rattle.tile_map.specs.Plane.{tiles_of};
 ghost use Rattle.journal_check.specs.Clocks.{IsInside};
-ghost use Rattle.journal_check.specs.Marks.{AddsMark, AreMarks, AreRising, lane};
+ghost use Rattle.journal_check.specs.Marks.{AddsMark, AreMarks, AreRising, marks_at};
 
 use crate::mark::Mark;
 use cell_grid::Record;
@@ -109,12 +109,12 @@ pub(crate) fn marks_of(alloc: Global, map: &Map, records: &[Record]) -> Result<V
 }
 
 /// The marks of a tile's events that need an edge.
-pub(crate) fn lane<'a>(map: &Map, table: &'a [Marks], edge: u32, tile: u32) -> &'a [Mark]
+pub(crate) fn marks_at<'a>(map: &Map, table: &'a [Marks], edge: u32, tile: u32) -> &'a [Mark]
     requires edge { edge < length (pairs_of map.now) }
     requires tile { tile < tiles_of map.now }
     requires many { length table.now ≡ length (pairs_of map.now) * tiles_of map.now }
     requires rising { All AreRising table.now }
-    ensures value { result.now ≡ lane map.now table.entry.now edge tile }
+    ensures value { result.now ≡ marks_at map.now table.entry.now edge tile }
     ensures rising { AreRising result.now }
 {
     let tiles = map.tiles() as usize;

@@ -16,7 +16,7 @@ use Rattle.cell_grid.specs.Records.{Precedes}
 use Rattle.draw_stream.specs.declared.attempt.Attempt.{Attempt}
 use Rattle.draw_stream.specs.Plans.{PlanValue, TakesNext, attempts}
 use Rattle.event_journal.specs.Accounts.{IsAccounted, IsEventOf, IsStamped, are_linked, events_at, stamp_after}
-use Rattle.event_journal.specs.Logs.{AreLogs, Follows, IsLog, LogValue, log_of, records_in}
+use Rattle.event_journal.specs.Logs.{AreLogs, RisesTo, IsLog, LogValue, log_of, records_in}
 use Rattle.event_journal.proofs.Journals.{journal_of}
 use Rattle.tile_map.specs.Plane.{MapValue}
 use Rattle.one_tile.specs.Events.{IsAlone, OwesNothing, event_of, events_from, events_of}
@@ -49,7 +49,7 @@ pub log_is : (m : MapValue) (i : ℕ) (list : List Attempt) → IsLog (log_of 0 
 log_is m i list = record {
   records = each m i list (λ (r : Record). r.tile ≡ 0) (λ k lt. refl);
   abandoned = λ k d lt. absurd (omega (arith, lt));
-  rising = each_two m i list Follows (λ j k lt small. (omega (arith, lt), omega (arith, lt)));
+  rising = each_two m i list RisesTo (λ j k lt small. (omega (arith, lt), omega (arith, lt)));
   attempts = λ j k d lt small. absurd (omega (arith, lt, small));
 }
 

@@ -18,7 +18,7 @@ use Rattle.edge_lock.proofs.Counts.{sites_back}
 use Rattle.border_cache.specs.Windows.{has, end_at, sites_on}
 use Rattle.tile_core.specs.declared.phase.Phase.TheVariants.{Finished, Worn}
 use Rattle.tile_core.specs.Values.{TileValue, atoms_of, centre, event_site, given_up_site}
-use Rattle.tile_core.specs.Turns.{Turn, Worn as WornTurn, Wins, Loses, Wears, AgreeOnEdges, AreAttempts, IsAttempt, IsAttemptOf, IsWorn, lists_of, with_more, one_if, greatest, stamp_of, clock_in}
+use Rattle.tile_core.specs.Turns.{Turn, Worn as WornTurn, Wins, Loses, Wears, AgreeOnEdges, AreAttempts, IsNthAttempt, IsAttemptOf, IsWorn, lists_of, with_more, one_if, greatest, stamp_of, clock_in}
 use Rattle.tile_core.specs.Underway.{IsUnderway, InPhase, IsDrawn, is_refreshed}
 use Rattle.tile_core.specs.Boards.{IsBoardOf}
 use Rattle.tile_core.proofs.Boards.{end_known, edge_end}
@@ -73,7 +73,7 @@ get_first zero (suc n) (x ∷ xs) lt = refl
 get_first (suc k) (suc n) (x ∷ xs) lt = get_first k n xs (omega (arith, lt))
 
 module _ (m : MapValue) (t : ℕ) (given : List Attempt) (n : ℕ) where
-  first_attempt : (k : ℕ) (s : Site) (seed : ℕ) → k < n → IsAttempt m t given k s seed → IsAttempt m t (take n given) k s seed
+  first_attempt : (k : ℕ) (s : Site) (seed : ℕ) → k < n → IsNthAttempt m t given k s seed → IsNthAttempt m t (take n given) k s seed
   first_attempt k s seed lt a = record { attempt = a.attempt; is = get_first k n given lt ∙ a.is; site_is = a.site_is; seed_is = a.seed_is }
 
   first_turn : (k : ℕ) (x : Turn) → k < n → IsAttemptOf m t given k x → IsAttemptOf m t (take n given) k x

@@ -14,7 +14,7 @@ use Rattle.edge_lock.specs.History.{found_value}
 use Rattle.border_cache.specs.Cells.{cell_value, cell_of}
 use Rattle.border_cache.specs.News.{Covers, word_of, has_bit, is_news}
 use Rattle.border_cache.specs.Published.{IsWordMarked, digit}
-use Rattle.border_cache.specs.Windows.{place_in, place_of_some, end_at, sites_on}
+use Rattle.border_cache.specs.Windows.{place_in, edge_place_some, end_at, sites_on}
 use Rattle.border_cache.proofs.Covered.{covered_in, in_covered}
 use Rattle.list_laws.proofs.Members.{In}
 use Rattle.tile_core.specs.Values.{event_site}
@@ -114,7 +114,7 @@ module _ (m : MapValue) (plane : IsPlane m) (meaning : WindowValue → ℕ → W
   left_cell : (n k : ℕ) → place_in m (event_site w.note) e n ≡ Some k → cell_left m w n ≡ cell_value w.note.stamp (at_place empty_atom w.after (slice_get (shared_of m e) k))
   left_cell n k h = go (window_site m (event_site w.note) n) h
     where
-      go : (o : Option Site) → place_of_some m e o ≡ Some k → cell_value w.note.stamp (atom_for o w.after) ≡ cell_value w.note.stamp (at_place empty_atom w.after (slice_get (shared_of m e) k))
+      go : (o : Option Site) → edge_place_some m e o ≡ Some k → cell_value w.note.stamp (atom_for o w.after) ≡ cell_value w.note.stamp (at_place empty_atom w.after (slice_get (shared_of m e) k))
       go None q = absurd (cc (q))
       go (Some s) q = ap (λ o. cell_value w.note.stamp (at_place empty_atom w.after o)) (sym (placed m plane e k s q))
 

@@ -12,7 +12,7 @@ use Rattle.event_journal.proofs.Journals.{contains_of, of_contains}
 use Rattle.tile_map.specs.Plane.{Site, MapValue, tiles_of, is_on, is_live, is_held, owner_of, in_plane, in_window}
 use Rattle.tile_map.specs.Edges.{pairs_of, low_end, high_end, shared_of, needs_of}
 use Rattle.tile_map.specs.Laws.{IsPlane, Joins}
-use Rattle.border_cache.specs.Windows.{has, end_at, place_of}
+use Rattle.border_cache.specs.Windows.{has, end_at, edge_place}
 
 -- the tile is an end of the edge
 abbrev pub IsEnd : MapValue → ℕ → ℕ → Type 0
@@ -82,7 +82,7 @@ module _ (m : MapValue) (plane : IsPlane m) where
       subst (λ d. In d (needs_of m (owner_of m c) c)) (sym same) i
 
   -- the site at a place of the edge's shared ones
-  pub placed : (e k : ℕ) (s : Site) → place_of m e s ≡ Some k → slice_get (shared_of m e) k ≡ Some s
+  pub placed : (e k : ℕ) (s : Site) → edge_place m e s ≡ Some k → slice_get (shared_of m e) k ≡ Some s
   placed e k s h =
       let found = position-Some (λ p. p.x == s.x && p.y == s.y) (shared_of m e) k s h in
       let q = get_or (shared_of m e) k s in
@@ -94,8 +94,8 @@ module _ (m : MapValue) (plane : IsPlane m) where
   register_inside None = 0
   register_inside (Some x) = x
 
-  pub place_is : (e k : ℕ) (s : Site) → e < length (pairs_of m) → slice_get (shared_of m e) k ≡ Some s → place_of m e s ≡ Some k
-  place_is e k s lt at = go (place_of m e s) (plane.registers.found e k s lt at)
+  pub place_is : (e k : ℕ) (s : Site) → e < length (pairs_of m) → slice_get (shared_of m e) k ≡ Some s → edge_place m e s ≡ Some k
+  place_is e k s lt at = go (edge_place m e s) (plane.registers.found e k s lt at)
     where
       go : (o : Option ℕ) → option_map (λ j. 1 + 2 * j) o ≡ Some (1 + 2 * k) → o ≡ Some k
       go None h = absurd (cc h)

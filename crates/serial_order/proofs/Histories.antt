@@ -174,7 +174,7 @@ not_other : (b : ℕ) → (b ≡ 0) ⊎ (b ≡ 1) → 1 - b ≢ b
 not_other b (inl z) e = absurd (omega (arith, z, e))
 not_other b (inr z) e = absurd (omega (arith, z, e))
 
-pub placed_back : (hs : List Hold) (b : ℕ) (r : Refusal) → (b ≡ 0) ⊎ (b ≡ 1) → edge.IsPlaced (keys hs) b r → IsPlaced (back hs) b r.attempt r.holder
+pub placed_back : (hs : List Hold) (b : ℕ) (r : Refusal) → (b ≡ 0) ⊎ (b ≡ 1) → edge.NamesHold (keys hs) b r → IsPlaced (back hs) b r.attempt r.holder
 placed_back hs b r small p =
     let q = keys_split hs p.before (1 - b, r.holder) p.after p.splits in
     record {

@@ -21,7 +21,7 @@ use Rattle.event_journal.proofs.Journals.{contains_of, of_contains, journal_of, 
 use Rattle.tile_core.specs.declared.phase.Phase.{Phase}
 use Rattle.tile_core.specs.declared.phase.Phase.TheVariants.{Draw, Lock, Refresh, Behave, Write, Give, Back, Finished, Worn}
 use Rattle.tile_core.specs.Values.{atoms_of, TileValue}
-use Rattle.tile_core.specs.Turns.{Won, Lost, Worn as WornTurn, Turn, Wins, Loses, Wears, records_of, abandoned_of}
+use Rattle.tile_core.specs.Turns.{Won, Lost, Worn as WornTurn, Turn, Wins, Loses, Wears, records_in_turns, abandoned_in_turns}
 use Rattle.serial_order.specs.Scene.{Scene, IsOver, log_of_tile, logs_of, IsStopped, WearsLast, lists_at}
 use Rattle.serial_order.specs.Order.{records, abandoned, NoneIsWorn}
 use Rattle.serial_order.proofs.Lists.{past_end, none_past}
@@ -169,7 +169,7 @@ module _ (s : Scene) (o : IsOver s) where
       let t = map_in log_of_tile s.tiles l.0 l.1 in
       let p = place_in s.tiles t.0 t.1 in
       let told = tile_told s o p.0 t.0 p.1 in
-      let k : In n (records_of (turns s o p.0)) = subst (In n) told.records (subst (λ (q : LogValue). In n q.records) t.2 l.2) in
+      let k : In n (records_in_turns (turns s o p.0)) = subst (In n) told.records (subst (λ (q : LogValue). In n q.records) t.2 l.2) in
       let r = log.in_records n (turns s o p.0) k in
       let own = log.own_record s.map s.meaning (atoms_of s.start) p.0 (turns s o p.0) (played p.0) n k in
       (r.0, subst (λ u. In (Wins r.0) (turns s o u)) (sym own) r.1, r.2)
@@ -187,7 +187,7 @@ module _ (s : Scene) (o : IsOver s) where
       let t = map_in log_of_tile s.tiles l.0 l.1 in
       let p = place_in s.tiles t.0 t.1 in
       let told = tile_told s o p.0 t.0 p.1 in
-      let k : In g (abandoned_of (turns s o p.0)) = subst (In g) told.abandoned (subst (λ (q : LogValue). In g q.abandoned) t.2 l.2) in
+      let k : In g (abandoned_in_turns (turns s o p.0)) = subst (In g) told.abandoned (subst (λ (q : LogValue). In g q.abandoned) t.2 l.2) in
       let r = log.in_abandoned g (turns s o p.0) k in
       let own = log.own_gone s.map s.meaning (atoms_of s.start) p.0 (turns s o p.0) (played p.0) g k in
       (r.0, subst (λ u. In (Loses r.0) (turns s o u)) (sym own) r.1, r.2)

@@ -12,7 +12,7 @@ use Rattle.edge_lock.specs.declared.history.Hold.{Hold}
 use Rattle.list_laws.proofs.Members.{In, InOrder}
 use Rattle.border_cache.specs.Cells.{CellValue, cell_value, cell_of}
 use Rattle.border_cache.specs.Copies.{IsGridOf}
-use Rattle.border_cache.specs.Windows.{and_cell, place_of}
+use Rattle.border_cache.specs.Windows.{and_cell, edge_place}
 use Rattle.tile_core.specs.Turns.{Won, Turn, cells_of}
 use Rattle.tile_core.specs.Values.{event_site, atoms_of}
 use Rattle.serial_order.specs.Settled.{cell_in_registers, edge_cells, settled_cell}
@@ -31,24 +31,24 @@ use Rattle.serial_order.proofs.Replay.{DoneAt, Split, IsJournal, notes, replayed
 abbrev pub HasEdges : MapValue → ℕ → List ℕ → Site → Type 0
 HasEdges m t es s = (e : ℕ) → e < length (pairs_of m) → IsEnd m t e → Shares m e s → In e es
 
-left_by : (m : MapValue) (registers : ℕ → ℕ → ℕ) (es : List ℕ) (s : Site) (d : CellValue) → In d (edge_cells m registers es s) → (e : ℕ) × (k : ℕ) × In e es × (place_of m e s ≡ Some k) × (d ≡ cell_at (registers e) k)
+left_by : (m : MapValue) (registers : ℕ → ℕ → ℕ) (es : List ℕ) (s : Site) (d : CellValue) → In d (edge_cells m registers es s) → (e : ℕ) × (k : ℕ) × In e es × (edge_place m e s ≡ Some k) × (d ≡ cell_at (registers e) k)
 left_by m registers [] s d i = absurd i
-left_by m registers (e ∷ es) s d i = go (place_of m e s) refl i (λ j. left_by m registers es s d j)
+left_by m registers (e ∷ es) s d i = go (edge_place m e s) refl i (λ j. left_by m registers es s d j)
   where
-    go : (o : Option ℕ) → place_of m e s ≡ o → In d (and_cell (cell_in_registers (registers e) o) (edge_cells m registers es s))
-        → (In d (edge_cells m registers es s) → (c : ℕ) × (k : ℕ) × In c es × (place_of m c s ≡ Some k) × (d ≡ cell_at (registers c) k))
-        → (c : ℕ) × (k : ℕ) × In c (e ∷ es) × (place_of m c s ≡ Some k) × (d ≡ cell_at (registers c) k)
+    go : (o : Option ℕ) → edge_place m e s ≡ o → In d (and_cell (cell_in_registers (registers e) o) (edge_cells m registers es s))
+        → (In d (edge_cells m registers es s) → (c : ℕ) × (k : ℕ) × In c es × (edge_place m c s ≡ Some k) × (d ≡ cell_at (registers c) k))
+        → (c : ℕ) × (k : ℕ) × In c (e ∷ es) × (edge_place m c s ≡ Some k) × (d ≡ cell_at (registers c) k)
     go None p i rec = let r = rec i in (r.0, r.1, inr r.2, r.3, r.4)
     go (Some k) p i rec = ⊎_elim (λ q. (e, k, inl refl, p, q)) (λ j. let r = rec j in (r.0, r.1, inr r.2, r.3, r.4)) i
 
-by_left : (m : MapValue) (registers : ℕ → ℕ → ℕ) (es : List ℕ) (s : Site) (e k : ℕ) → In e es → place_of m e s ≡ Some k → In (cell_at (registers e) k) (edge_cells m registers es s)
+by_left : (m : MapValue) (registers : ℕ → ℕ → ℕ) (es : List ℕ) (s : Site) (e k : ℕ) → In e es → edge_place m e s ≡ Some k → In (cell_at (registers e) k) (edge_cells m registers es s)
 by_left m registers [] s e k i h = absurd i
-by_left m registers (c ∷ es) s e k i h = go (place_of m c s) refl i (λ j. by_left m registers es s e k j h)
+by_left m registers (c ∷ es) s e k i h = go (edge_place m c s) refl i (λ j. by_left m registers es s e k j h)
   where
-    go : (o : Option ℕ) → place_of m c s ≡ o → In e (c ∷ es) → (In e es → In (cell_at (registers e) k) (edge_cells m registers es s)) → In (cell_at (registers e) k) (and_cell (cell_in_registers (registers c) o) (edge_cells m registers es s))
-    go None p i rec = ⊎_elim (λ q. absurd (cc (ap (λ x. place_of m x s) q, p, h))) (λ j. rec j) i
+    go : (o : Option ℕ) → edge_place m c s ≡ o → In e (c ∷ es) → (In e es → In (cell_at (registers e) k) (edge_cells m registers es s)) → In (cell_at (registers e) k) (and_cell (cell_in_registers (registers c) o) (edge_cells m registers es s))
+    go None p i rec = ⊎_elim (λ q. absurd (cc (ap (λ x. edge_place m x s) q, p, h))) (λ j. rec j) i
     go (Some j) p i rec =
-        ⊎_elim (λ (q : e ≡ c). let same : k ≡ j = cc (ap (λ x. place_of m x s) q, p, h) in inl (λ i. cell_at (registers (q i)) (same i))) (λ g. inr (rec g)) i
+        ⊎_elim (λ (q : e ≡ c). let same : k ≡ j = cc (ap (λ x. edge_place m x s) q, p, h) in inl (λ i. cell_at (registers (q i)) (same i))) (λ g. inr (rec g)) i
 
 module _ (m : MapValue) (meaning : WindowValue → ℕ → WindowValue) (first : GridValue) (turns : ℕ → List Turn) (hist : ℕ → List Hold) (run : IsRun m meaning (atoms_of first) turns hist) where
   abbrev pub registers : ℕ → ℕ → ℕ

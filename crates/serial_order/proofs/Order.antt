@@ -10,8 +10,8 @@ use Rattle.edge_lock.specs.declared.history.Hold.{Hold}
 use Rattle.edge_lock.specs.History.{found_value}
 use Rattle.list_laws.proofs.Members.{In}
 use Rattle.border_cache.specs.Cells.{CellValue, cell_value, cell_of, newest}
-use Rattle.border_cache.specs.News.{word_of, is_news, cell_in, seen}
-use Rattle.border_cache.specs.Windows.{and_cell, place_of, end_at, sites_on}
+use Rattle.border_cache.specs.News.{word_of, is_news, cell_in, found_cell}
+use Rattle.border_cache.specs.Windows.{and_cell, edge_place, end_at, sites_on}
 use Rattle.tile_core.specs.Values.{event_site}
 use Rattle.tile_core.specs.Turns.{Won, Turn, cells_of, accesses_at}
 use Rattle.serial_order.proofs.Coherence.{Latest, untouched, touched, Candidates, coherent}
@@ -26,7 +26,7 @@ use Rattle.serial_order.proofs.World.{IsRun, IsEvent, Needs, EventOn, deeds, pas
 
 -- the cell that an event found at a site on an edge, where it was news
 abbrev pub seen_of : MapValue → Won → ℕ → Site → Option CellValue
-seen_of m w e s = seen (sites_on m e) (end_at m w.note.tile e) (accesses_at w e) (place_of m e s)
+seen_of m w e s = found_cell (sites_on m e) (end_at m w.note.tile e) (accesses_at w e) (edge_place m e s)
 
 -- the cells that an event found at a site, edge by edge
 abbrev pub found_cells : MapValue → Won → List ℕ → Site → List CellValue
@@ -52,7 +52,7 @@ by_found m w (c ∷ es) s e d i h = go (seen_of m w c s) refl i (λ j. by_found 
 -- the parts of a cell that was found
 pub record IsFound (m : MapValue) (w : Won) (e : ℕ) (s : Site) (c : CellValue) : Type 0 where
   pub place : ℕ
-  pub is_place : place_of m e s ≡ Some place
+  pub is_place : edge_place m e s ≡ Some place
   pub fresh : is_news (sites_on m e) (end_at m w.note.tile e) (accesses_at w e) place ≡ true
   pub low : ℕ
   pub high : ℕ
@@ -61,26 +61,26 @@ pub record IsFound (m : MapValue) (w : Won) (e : ℕ) (s : Site) (c : CellValue)
   pub cell : cell_of low high ≡ c
 
 pub found_parts : (m : MapValue) (w : Won) (e : ℕ) (s : Site) (c : CellValue) → seen_of m w e s ≡ Some c → IsFound m w e s c
-found_parts m w e s c h = go (place_of m e s) refl h
+found_parts m w e s c h = go (edge_place m e s) refl h
   where
-    words : (k : ℕ) → place_of m e s ≡ Some k → is_news (sites_on m e) (end_at m w.note.tile e) (accesses_at w e) k ≡ true → (low high : Option ℕ)
+    words : (k : ℕ) → edge_place m e s ≡ Some k → is_news (sites_on m e) (end_at m w.note.tile e) (accesses_at w e) k ≡ true → (low high : Option ℕ)
         → found_value (accesses_at w e) (1 + 2 * k) ≡ low → found_value (accesses_at w e) (2 + 2 * k) ≡ high → cell_in low high ≡ Some c → IsFound m w e s c
     words k at f None high p q is = absurd (cc (is))
     words k at f (Some low) None p q is = absurd (cc (is))
     words k at f (Some low) (Some high) p q is = record { place = k; is_place = at; fresh = f; low = low; high = high; low_found = p; high_found = q; cell = cc (is) }
 
-    news : (k : ℕ) → place_of m e s ≡ Some k → (b : Bool) → is_news (sites_on m e) (end_at m w.note.tile e) (accesses_at w e) k ≡ b
+    news : (k : ℕ) → edge_place m e s ≡ Some k → (b : Bool) → is_news (sites_on m e) (end_at m w.note.tile e) (accesses_at w e) k ≡ b
         → (if b then cell_in (found_value (accesses_at w e) (1 + 2 * k)) (found_value (accesses_at w e) (2 + 2 * k)) else None) ≡ Some c → IsFound m w e s c
     news k at true f is = words k at f (found_value (accesses_at w e) (1 + 2 * k)) (found_value (accesses_at w e) (2 + 2 * k)) refl refl is
     news k at false f is = absurd (cc (is))
 
-    go : (o : Option ℕ) → place_of m e s ≡ o → seen (sites_on m e) (end_at m w.note.tile e) (accesses_at w e) o ≡ Some c → IsFound m w e s c
+    go : (o : Option ℕ) → edge_place m e s ≡ o → found_cell (sites_on m e) (end_at m w.note.tile e) (accesses_at w e) o ≡ Some c → IsFound m w e s c
     go None at is = absurd (cc (is))
     go (Some k) at is = news k at (is_news (sites_on m e) (end_at m w.note.tile e) (accesses_at w e) k) refl is
 
 pub parts_found : (m : MapValue) (w : Won) (e : ℕ) (s : Site) (c : CellValue) → IsFound m w e s c → seen_of m w e s ≡ Some c
 parts_found m w e s c f =
-    ap (seen (sites_on m e) (end_at m w.note.tile e) (accesses_at w e)) f.is_place
+    ap (found_cell (sites_on m e) (end_at m w.note.tile e) (accesses_at w e)) f.is_place
     ∙ (λ i. if f.fresh i then cell_in (f.low_found i) (f.high_found i) else None) ∙ ap Some f.cell
 
 -- w is an event that wrote the site
@@ -310,7 +310,7 @@ module _ (m : MapValue) (meaning : WindowValue → ℕ → WindowValue) (start :
           lt : b.edge < length (pairs_of m)
           lt = inside m run.plane w.note.tile (event_site w.note) b.edge b.first
 
-          place : place_of m b.edge s ≡ Some b.shares.0
+          place : edge_place m b.edge s ≡ Some b.shares.0
           place = place_is m run.plane b.edge b.shares.0 s lt b.shares.1
 
           near : covers m b.edge (event_site w.note) b.shares.0 ≡ true

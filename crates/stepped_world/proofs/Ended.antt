@@ -10,7 +10,7 @@ use Rattle.tile_map.specs.Edges.{pairs_of, low_end, high_end, has_end}
 use Rattle.tile_map.proofs.PlaneLaws.{plane}
 use Rattle.draw_stream.specs.Plans.{attempts}
 use Rattle.edge_lock.specs.History.{own, open_hold}
-use Rattle.edge_lock.specs.EndLists.{is_held, IsFree}
+use Rattle.edge_lock.specs.EndLists.{is_last_open, IsFree}
 use Rattle.edge_lock.specs.PlainBoard.{PlainBoardValue, no_edge, edge_at, lists_of_tile}
 use Rattle.edge_lock.proofs.HistoryLaws.{open_is_none}
 use Rattle.border_cache.specs.Windows.{end_at}
@@ -98,9 +98,9 @@ module _ {B : Type 0} (after : B → WindowValue → ℕ → WindowValue) (m : M
         let h = subst (InPhase m g.meaning (atoms_of g.start) (attempts g.plan t) k.underway.turns x.0.0 (lists_of_tile board t)) (finished t x.0 x.1) k.underway.hand in
         subst IsFree (sym (h.2 e (ap (λ n. has_end m n e) k.number ∙ end))) (free_of m g.meaning (atoms_of g.start) x.0.0.number k.underway.turns e k.underway.each k.underway.unworn)
 
-    end_free : (t e b : ℕ) → t < tiles_of m → has_end m t e ≡ true → e < length (pairs_of m) → end_at m t e ≡ b → is_held (own b (edge_at board e).holds) ≡ false
+    end_free : (t e b : ℕ) → t < tiles_of m → has_end m t e ≡ true → e < length (pairs_of m) → end_at m t e ≡ b → is_last_open (own b (edge_at board e).holds) ≡ false
     end_free t e b lt end known is =
-        ap (λ n. is_held (own n (edge_at board e).holds)) (sym is ∙ sym (edge_end m e (edge_at board e) (u.board_is.each e known) t)) ∙ free_tile t e lt end
+        ap (λ n. is_last_open (own n (edge_at board e).holds)) (sym is ∙ sym (edge_end m e (edge_at board e) (u.board_is.each e known) t)) ∙ free_tile t e lt end
 
     shut : (e : ℕ) → open_hold (edge_at board e).holds ≡ None
     shut e = go (nat_lt e (length (pairs_of m))) refl

@@ -16,7 +16,7 @@ use Rattle.list_laws.proofs.Members.{In, InOrder, in_filter, filter_in, get_in}
 use Rattle.border_cache.specs.Cells.{CellValue, cell_value}
 use Rattle.border_cache.specs.Copies.{IsGridOf, IsCentre}
 use Rattle.tile_core.specs.Values.{TileValue, atoms_of, event_site}
-use Rattle.tile_core.specs.Turns.{Won, Turn, Wins, records_of}
+use Rattle.tile_core.specs.Turns.{Won, Turn, Wins, records_in_turns}
 use Rattle.event_journal.specs.Logs.{log_of, records_in}
 use Rattle.serial_order.specs.Scene.{log_of_tile, logs_of, Scene, IsOver, registers_at}
 use Rattle.serial_order.specs.Order.{records}
@@ -36,14 +36,14 @@ use Rattle.serial_order.proofs.Whole.{turns, hist, run, laws, tile_told, tile_of
 use Rattle.serial_order.proofs.World.{IsRun, IsEvent}
 use Rattle.stepped_world.specs.Machine.{Machine, records_by, abandoned_by}
 use Rattle.stepped_world.specs.Ends.{logs_in}
-use Rattle.stepped_world.specs.Running.{Setting, ComesBefore, IsLike}
+use Rattle.stepped_world.specs.Running.{Setting, StampsRise, IsLike}
 use Rattle.stepped_world.proofs.Slots.{some_at, value_at, map_places}
 
 pairs_order : {A : Type 0} (R : A → A → Type 0) (xs : List A) → AllPairs R xs → InOrder R xs
 pairs_order R [] h = tt
 pairs_order R (x ∷ xs) h = (λ y i. let q = get_in xs y y i in let lt = q.1 in subst (R x) q.2 (h 0 (suc q.0) y (omega arith) (omega (arith, lt))), pairs_order R xs (λ i j d lt within. h (suc i) (suc j) d (omega (arith, lt)) (omega (arith, within))))
 
-rises_in_time : (m : MapValue) (ws : List Won) → InOrder (ComesBefore m) (notes ws) → WritesRise m ws
+rises_in_time : (m : MapValue) (ws : List Won) → InOrder (StampsRise m) (notes ws) → WritesRise m ws
 rises_in_time m [] o = tt
 rises_in_time m (w ∷ ws) o = (λ v s i a b. o.0 v.note (in_notes v ws i) s a b, rises_in_time m ws o.1)
 
@@ -83,7 +83,7 @@ module _ {B : Type 0} (m : MapValue) (g : Setting) (tiles : List (TileValue × B
   mine t r e = grind (arith, nat_tests, e)
 
   -- a tile's entries among the machine's are those of its turns
-  same_records : (t : ℕ) (x : TileValue × B) → slice_get tiles t ≡ Some x → records_by t s.records ≡ records_of (turns c o t)
+  same_records : (t : ℕ) (x : TileValue × B) → slice_get tiles t ≡ Some x → records_by t s.records ≡ records_in_turns (turns c o t)
   same_records t x is = sym (k.matches.records t x is) ∙ (tile_told c o t x.0 (value_there t x is)).records
 
   owner_there : (n : Record) → In n s.records → n.tile < length tiles
@@ -112,7 +112,7 @@ module _ {B : Type 0} (m : MapValue) (g : Setting) (tiles : List (TileValue × B
   journal_leaves =
       let time = journal m g.meaning (atoms_of g.start) (turns c o) (hist c o) (run c o) s.records entries in
       let first = events c o in
-      let rises = rises_in_time m time.0 (subst (InOrder (ComesBefore m)) (sym time.1) (pairs_order (ComesBefore m) s.records k.sound.rises)) in
+      let rises = rises_in_time m time.0 (subst (InOrder (StampsRise m)) (sym time.1) (pairs_order (StampsRise m) s.records k.sound.rises)) in
       let order = journal_rises m g.meaning g.start (turns c o) (hist c o) (run c o) first.0 first.2.events (subst (InOrder Precedes) (sym first.1) (ordered c o)) in
       ap (replay g.meaning g.start) (sym first.1)
       ∙ (two_orders m g.meaning g.start (turns c o) (hist c o) (run c o) o.grid o.fits first.0 time.0 first.2 time.2 order rises

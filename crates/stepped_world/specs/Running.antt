@@ -80,8 +80,8 @@ abbrev pub AnyIsWorn : {B : Type 0} → List (TileValue × B) → Type 0
 AnyIsWorn {B} tiles = (t : ℕ) × (x : TileValue × B) × (slice_get tiles t ≡ Some x) × (x.0.phase ≡ Worn)
 
 -- if two events have a live site in common, the first has the smaller stamp
-abbrev pub ComesBefore : MapValue → Record → Record → Type 0
-ComesBefore m r q = (s : Site) → in_window m (event_site r) s ≡ true → in_window m (event_site q) s ≡ true → r.stamp < q.stamp
+abbrev pub StampsRise : MapValue → Record → Record → Type 0
+StampsRise m r q = (s : Site) → in_window m (event_site r) s ≡ true → in_window m (event_site q) s ≡ true → r.stamp < q.stamp
 
 -- the clocks of an event's tile and of the edges that it needs are not below its stamp
 pub record HasClocks (m : MapValue) (s : Machine) (r : Record) : Type 0 where
@@ -93,7 +93,7 @@ pub record HasClocks (m : MapValue) (s : Machine) (r : Record) : Type 0 where
 pub record IsSound (m : MapValue) (g : Setting) (s : Machine) : Type 0 where
   pub owned : All (λ (r : Record). IsCentre m r.tile (event_site r)) s.records
   pub clocks : All (HasClocks m s) s.records
-  pub rises : AllPairs (ComesBefore m) s.records
+  pub rises : AllPairs (StampsRise m) s.records
   pub grid : s.grid ≡ replay g.meaning g.start s.records
 
 pub record IsLike {B : Type 0} (m : MapValue) (g : Setting) (tiles : List (TileValue × B)) (board : PlainBoardValue) (s : Machine) : Type 0 where

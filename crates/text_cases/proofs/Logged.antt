@@ -8,7 +8,7 @@ use Rattle.std.proofs.lemmas.List.FromFn.{length-range_with_len}
 use Rattle.std.proofs.lemmas.List.Quantifiers.{all_pairs_push}
 use Rattle.list_laws.proofs.Ranges.{range_cut}
 use Rattle.cell_grid.specs.declared.record.Record.{Record}
-use Rattle.event_journal.specs.Logs.{AreLogs, Follows, IsLog, LogValue, abandoned_of, log_of, records_of, tile_of}
+use Rattle.event_journal.specs.Logs.{AreLogs, RisesTo, IsLog, LogValue, abandoned_of, log_of, records_of, tile_of}
 use Rattle.text_cases.specs.Made.{AreMade, AreMadeLogs}
 
 pub none_made : (tile used : ℕ) → AreMade tile used used []
@@ -23,7 +23,7 @@ none_made tile used = record {
 pub made_more : (tile used stamp : ℕ) (records : List Record) (r : Record) → AreMade tile used stamp records → r.tile ≡ tile → r.stamp ≡ stamp + 1 → used + r.attempt + 1 ≡ stamp + 1 → AreMade tile used (stamp + 1) (records ++ r ∷ [])
 made_more tile used stamp records r p same next attempt = record {
   tiles = All-append (λ (s : Record). s.tile ≡ tile) records (r ∷ []) p.tiles (All-cons (λ (s : Record). s.tile ≡ tile) r [] same (All-nil _));
-  rising = all_pairs_push Follows records r p.rising (λ k d lt. let s = p.stamps k d lt in let a = p.attempts k d lt in (omega (arith, a, attempt), omega (arith, s, next)));
+  rising = all_pairs_push RisesTo records r p.rising (λ k d lt. let s = p.stamps k d lt in let a = p.attempts k d lt in (omega (arith, a, attempt), omega (arith, s, next)));
   stamps = All-append (λ (s : Record). s.stamp ≤ stamp + 1) records (r ∷ []) (λ k d lt. let s = p.stamps k d lt in omega (arith, s)) (All-cons (λ (s : Record). s.stamp ≤ stamp + 1) r [] (omega (arith, next)) (All-nil _));
   attempts = All-append (λ (s : Record). used + s.attempt < stamp + 1) records (r ∷ []) (λ k d lt. let a = p.attempts k d lt in omega (arith, a))
       (All-cons (λ (s : Record). used + s.attempt < stamp + 1) r [] (omega (arith, attempt)) (All-nil _));

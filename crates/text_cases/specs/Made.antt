@@ -2,12 +2,12 @@
 use Rattle.std.specs.Prelude.{ℕ, ◌≡◌, ◌+◌, ◌≤◌, ◌<◌, List, [], All, AllPairs, flat_map, length, map}
 use Rattle.std.specs.List.{range_with_len}
 use Rattle.cell_grid.specs.declared.record.Record.{Record}
-use Rattle.event_journal.specs.Logs.{Follows, LogValue, abandoned_in, records_of, tile_of}
+use Rattle.event_journal.specs.Logs.{RisesTo, LogValue, abandoned_in, records_of, tile_of}
 
 -- the records of a tile with stamps above `used` and up to `stamp`, and attempts from 0 on
 pub record AreMade (tile used stamp : ℕ) (records : List Record) : Type 0 where
   pub tiles : All (λ (r : Record). r.tile ≡ tile) records
-  pub rising : AllPairs Follows records
+  pub rising : AllPairs RisesTo records
   pub stamps : All (λ (r : Record). r.stamp ≤ stamp) records
   pub attempts : All (λ (r : Record). used + r.attempt < stamp) records
   pub count : used + length records ≡ stamp

@@ -9,7 +9,7 @@ use Rattle.edge_lock.specs.History.{found_value}
 use Rattle.edge_lock.specs.EndLists.{last_shown, writes_nothing, Shows}
 use Rattle.border_cache.specs.Accesses.{last_write, is_read, with_known, IsHonest}
 use Rattle.border_cache.specs.Cells.{CellValue}
-use Rattle.border_cache.specs.News.{Covers, word_of, has_bit, is_news, cell_in, seen, IsRefresh}
+use Rattle.border_cache.specs.News.{Covers, word_of, has_bit, is_news, cell_in, found_cell, IsRefresh}
 use Rattle.border_cache.specs.Published.{IsWordMarked, IsPublish}
 use Rattle.border_cache.proofs.Runs.{known_after}
 use Rattle.border_cache.proofs.Found.{found_more, found_new, shown_at, steady}
@@ -184,7 +184,7 @@ module _ (sites end c stamp : ℕ) (places : ℕ → Option ℕ) (cells : ℕ �
           go false is f = absurd (none-some v f)
 
   -- the window's cells were seen before the event was written
-  pub seen_all : (n : ℕ) → n < 41 → seen sites end all (places n) ≡ seen sites end first_part (places n)
+  pub seen_all : (n : ℕ) → n < 41 → found_cell sites end all (places n) ≡ found_cell sites end first_part (places n)
   seen_all n lt = go (places n) refl
     where
       head_word : (k : ℕ) → found_value first_part (word_of sites end k) ≡ found_value reads (word_of sites end k)
@@ -201,7 +201,7 @@ module _ (sites end c stamp : ℕ) (places : ℕ → Option ℕ) (cells : ℕ �
           same : (q v : ℕ) → 0 < q → found_value reads q ≡ Some v → found_value all q ≡ found_value first_part q
           same q v big is = past_clock q big ∙ (found_more reads last_part q v is ∙ (sym is ∙ sym (head_cell q big)))
 
-      go : (o : Option ℕ) → places n ≡ o → seen sites end all o ≡ seen sites end first_part o
+      go : (o : Option ℕ) → places n ≡ o → found_cell sites end all o ≡ found_cell sites end first_part o
       go None at = refl
       go (Some k) at =
           let cov : Covers places 41 k = (n, lt, at) in

@@ -14,7 +14,7 @@ use Rattle.edge_lock.specs.History.{found_value}
 use Rattle.edge_lock.specs.EndLists.{EndLists, IsHeld, hold_of, known_value}
 use Rattle.border_cache.specs.Cells.{newest}
 use Rattle.border_cache.specs.Accesses.{IsHonest}
-use Rattle.border_cache.specs.News.{seen, has_bit, word_of, cell_in}
+use Rattle.border_cache.specs.News.{found_cell, has_bit, word_of, cell_in}
 use Rattle.border_cache.specs.Windows.{has, place_in, end_at, sites_on, seen_on}
 use Rattle.border_cache.specs.Copies.{CacheValue, held_cell}
 use Rattle.border_cache.proofs.Runs.{known_after, known_all, honest_append}
@@ -32,7 +32,7 @@ use Rattle.tile_core.proofs.Writes.{known_open, seen_same_on}
 use Rattle.tile_core.proofs.Copies.{Renewed, renewed}
 
 -- a read of the clock before shows nothing of the cells
-pub seen_clock : (sites end c : ℕ) (xs : List Access) (o : Option ℕ) → seen sites end (Read 0 c ∷ xs) o ≡ seen sites end xs o
+pub seen_clock : (sites end c : ℕ) (xs : List Access) (o : Option ℕ) → found_cell sites end (Read 0 c ∷ xs) o ≡ found_cell sites end xs o
 seen_clock sites end c xs None = refl
 seen_clock sites end c xs (Some k) =
     let skip : (q : ℕ) → 0 < q → found_value (Read 0 c ∷ xs) q ≡ found_value xs q = λ q big. (let e : eqb q 0 ≡ false = grind (arith, big) in ap (λ b. cond b (Some c) (found_value xs q)) e) in
@@ -122,7 +122,7 @@ module _ (m : MapValue) (meaning : WindowValue → ℕ → WindowValue) (start :
           let held = centre_holds m plane t c refreshing.0.centre_is n s lt at in
           f.cells n s lt at ∙ (ap (λ x. newest x (seen_on m t c f.more n tile.needs)) (u.cells s held (inl (ap is_refreshed is)))
           ∙ (ap (newest own) (seen_same_on m t c f.more (λ e. r.more e ++ f.more e) n tile.needs
-          (λ e h. sym (ap (λ xs. seen (sites_on m e) (end_at m t e) xs (place_in m c e n)) (reads_is e h) ∙ seen_clock (sites_on m e) (end_at m t e) (r.clock e) (f.more e) (place_in m c e n))))
+          (λ e h. sym (ap (λ xs. found_cell (sites_on m e) (end_at m t e) xs (place_in m c e n)) (reads_is e h) ∙ seen_clock (sites_on m e) (end_at m t e) (r.clock e) (f.more e) (place_in m c e n))))
           ∙ (ap (λ es. newest own (seen_on m t c (λ e. r.more e ++ f.more e) n es)) refreshing.0.needs
           ∙ ap (λ o. newest (own_cell o (cells_of m start u.turns)) (seen_on m t c (λ e. r.more e ++ f.more e) n (needs_of m t c))) (sym at))))
 

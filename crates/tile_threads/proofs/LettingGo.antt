@@ -10,7 +10,7 @@ use Rattle.tile_map.specs.Plane.{Site, MapValue, in_plane, is_live, is_on, owner
 use Rattle.tile_map.specs.Edges.{needs_of, has_end}
 use Rattle.draw_stream.specs.declared.attempt.Attempt.{Attempt}
 use Rattle.edge_lock.specs.declared.history.Hold.{Hold}
-use Rattle.edge_lock.specs.EndLists.{EndLists, hold_of, is_held, writes_nothing, IsHeld, IsFree, HasNoWrite, after_give, replace_at}
+use Rattle.edge_lock.specs.EndLists.{EndLists, hold_of, is_last_open, writes_nothing, IsHeld, IsFree, HasNoWrite, after_give, replace_at}
 use Rattle.edge_lock.proofs.BoardLaws.{here_after, else_after, free_given}
 use Rattle.border_cache.specs.Windows.{has, end_at}
 use Rattle.border_cache.specs.Copies.{IsCentre}
@@ -83,9 +83,9 @@ gave_all m t needs a b h n le so_far e own = so_far e own ∙ (ap (λ es. if has
 
 -- an end that has given back what it had has nothing
 pub let_go_free : (l : EndLists) → IsFree (let_go l)
-let_go_free l = go (is_held l.holds) refl
+let_go_free l = go (is_last_open l.holds) refl
   where
-    go : (x : Bool) → is_held l.holds ≡ x → IsFree (if x then after_give l else l)
+    go : (x : Bool) → is_last_open l.holds ≡ x → IsFree (if x then after_give l else l)
     go true q = free_given l
     go false q = q
 
@@ -107,7 +107,7 @@ module _ (m : MapValue) (meaning : WindowValue → ℕ → WindowValue) (start :
     ends = u.needs.ends;
     held = λ e q. subst IsHeld (sym (here e q)) (held_more (hold e) [] (past e) refl);
     quiet = λ e q. subst HasNoWrite (sym (here e q)) (quiet_more (hold e) [] (past e) (ap writes_nothing (h.1.2.is e q)));
-    free = λ e own q. subst IsFree (sym (h.1.1 e own ∙ ap (λ x. with_more (one_if x (hold e)) [] (past e)) q)) (ap is_held (append-nil (past e).holds) ∙ free_of m meaning start tile.number u.turns e u.each u.unworn);
+    free = λ e own q. subst IsFree (sym (h.1.1 e own ∙ ap (λ x. with_more (one_if x (hold e)) [] (past e)) q)) (ap is_last_open (append-nil (past e).holds) ∙ free_of m meaning start tile.number u.turns e u.each u.unworn);
   }
     where
       h : InPhase m meaning start attempts u.turns tile a Worn

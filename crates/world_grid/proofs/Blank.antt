@@ -11,7 +11,7 @@ use Rattle.cell_grid.specs.Grid.{GridValue, IsLive}
 use Rattle.serial_order.specs.Outcomes.{IsBlank}
 use Rattle.tile_map.specs.Plane.{MapValue, IsMap, site, in_plane, is_on, is_live, owner_of}
 use Rattle.tile_map.proofs.Spans.{test_lt}
-use Rattle.world_grid.specs.Start.{bare_grid, count_of, site_at, with_placed}
+use Rattle.world_grid.specs.Start.{bare_grid, plane_sites, site_at, with_placed}
 use Rattle.world_text.specs.declared.world.Placed.{Placed}
 
 -- a place is that of a site of the plane
@@ -34,12 +34,12 @@ wide m k = some_columns m.tx m.w k.sizes.tx_low k.sizes.w_low
 pub blank_is : (m : MapValue) → IsMap m → (g : GridValue) → IsBlank m g → g ≡ bare_grid m
 unfolding bare_grid
 blank_is m k g h =
-    let count : g.width * g.height ≡ count_of m = (λ i. h.fits.wide i * h.fits.high i) in
-    let atoms : g.atoms ≡ replicate (count_of m) empty_atom = h.empty ∙ ap (λ n. replicate n empty_atom) count in
-    let live = fill_by_all (λ i. is_live m (site_at m i)) g.live (count_of m) false (h.grid.marked ∙ count) live_at in
+    let count : g.width * g.height ≡ plane_sites m = (λ i. h.fits.wide i * h.fits.high i) in
+    let atoms : g.atoms ≡ replicate (plane_sites m) empty_atom = h.empty ∙ ap (λ n. replicate n empty_atom) count in
+    let live = fill_by_all (λ i. is_live m (site_at m i)) g.live (plane_sites m) false (h.grid.marked ∙ count) live_at in
     λ i. record { width = h.fits.wide i; height = h.fits.high i; atoms = atoms i; live = live i }
   where
-    live_at : (i : ℕ) → i < count_of m → get_or g.live i false ≡ is_live m (site_at m i)
+    live_at : (i : ℕ) → i < plane_sites m → get_or g.live i false ≡ is_live m (site_at m i)
     live_at i lt =
         let w = m.tx * m.w in
         let x : i % w < g.width = let a = column_in i w (wide m k) in omega (arith, a, h.fits.wide) in

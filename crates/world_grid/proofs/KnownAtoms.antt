@@ -13,7 +13,7 @@ use Rattle.cell_grid.specs.Records.{replay}
 use Rattle.tile_map.specs.Plane.{MapValue}
 use Rattle.cell_grid.specs.Known.{BringsNone, IsKnown, ShowsKnown}
 use Rattle.world_grid.specs.Known.{ArePlacedKnown}
-use Rattle.world_grid.specs.Start.{bare_grid, count_of, start_grid, with_placed}
+use Rattle.world_grid.specs.Start.{bare_grid, plane_sites, start_grid, with_placed}
 use Rattle.world_text.specs.declared.world.Placed.{Placed}
 
 -- the atom at any place, also at none
@@ -56,4 +56,4 @@ placed_known n g (p ∷ ps) known all =
 
 pub start_known : (n : ℕ) (m : MapValue) (ps : List Placed) → ArePlacedKnown n ps → All (IsKnown n) (start_grid m ps).atoms
 unfolding bare_grid
-start_known n m ps known = placed_known n (bare_grid m) ps known (All-replicate (IsKnown n) (count_of m) empty_atom (inl refl))
+start_known n m ps known = placed_known n (bare_grid m) ps known (All-replicate (IsKnown n) (plane_sites m) empty_atom (inl refl))

@@ -7,8 +7,8 @@ use Rattle.tile_map.specs.Plane.{MapValue, Site, site, is_live}
 use Rattle.world_text.specs.declared.world.Placed.{Placed}
 
 -- how many sites a plane has
-abbrev pub count_of : MapValue → ℕ
-count_of m = m.tx * m.w * (m.ty * m.h)
+abbrev pub plane_sites : MapValue → ℕ
+plane_sites m = m.tx * m.w * (m.ty * m.h)
 
 -- the site at a place in row order
 abbrev pub site_at : MapValue → ℕ → Site
@@ -19,8 +19,8 @@ unfoldable pub bare_grid : MapValue → GridValue
 bare_grid m = record {
   width = m.tx * m.w;
   height = m.ty * m.h;
-  atoms = replicate (count_of m) empty_atom;
-  live = map (λ i. is_live m (site_at m i)) (range_with_len 0 (count_of m));
+  atoms = replicate (plane_sites m) empty_atom;
+  live = map (λ i. is_live m (site_at m i)) (range_with_len 0 (plane_sites m));
 }
 
 -- the grid with one atom more

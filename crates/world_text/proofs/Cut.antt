@@ -6,7 +6,7 @@ use Rattle.std.proofs.lemmas.List.Elements.{All-head, All-tail, All-cons, All-ni
 use Rattle.tile_map.specs.Plane.{MapValue}
 use Rattle.world_text.specs.Line.{Line, IsFormed, header, tiles, size, off, seed, attempts, try, atom, order_seed, order}
 use Rattle.world_text.specs.Drafts.{DraftValue, IsDraft, is_early, step, put, kind_of, may_follow, in_range, too_many, misplaced, missing, nothing_said, only_plane, raw_atom}
-use Rattle.world_text.specs.Named.{ReadsWorld, WorldValue, name_fault, named, place_of, type_of, unless, world_of}
+use Rattle.world_text.specs.Named.{ReadsWorld, WorldValue, name_fault, named, atom_place, type_of, unless, world_of}
 use Rattle.world_text.specs.Printed.{IsNamed, lines_text, world_lines}
 use Rattle.world_text.specs.Reading.{go_on, over, read_text}
 use Rattle.world_text.specs.Saying.{AreCut, AreNamedToo, AreWorldCuts, IsPrinted, IsReadBut, IsWorldBut, last_kind, said}
@@ -160,11 +160,11 @@ front_fine : (names : List (List ℕ)) (width : ℕ) (before : List ℕ) (front 
 unfolding name_fault
 front_fine names width before [] more h = refl
 front_fine names width before (a ∷ front) more h =
-    on (is_some (type_of names a.name)) (list_any (λ p. p == place_of width a) before) h (λ g. front_fine names width (before ++ place_of width a ∷ []) front more g)
+    on (is_some (type_of names a.name)) (list_any (λ p. p == atom_place width a) before) h (λ g. front_fine names width (before ++ atom_place width a ∷ []) front more g)
   where
-    on : (b t : Bool) → (if b then (if t then Some (74, a.line) else name_fault names width (before ++ place_of width a ∷ []) (front ++ more)) else Some (73, a.line)) ≡ None →
-        (name_fault names width (before ++ place_of width a ∷ []) (front ++ more) ≡ None → name_fault names width (before ++ place_of width a ∷ []) front ≡ None) →
-        (if b then (if t then Some (74, a.line) else name_fault names width (before ++ place_of width a ∷ []) front) else Some (73, a.line)) ≡ None
+    on : (b t : Bool) → (if b then (if t then Some (74, a.line) else name_fault names width (before ++ atom_place width a ∷ []) (front ++ more)) else Some (73, a.line)) ≡ None →
+        (name_fault names width (before ++ atom_place width a ∷ []) (front ++ more) ≡ None → name_fault names width (before ++ atom_place width a ∷ []) front ≡ None) →
+        (if b then (if t then Some (74, a.line) else name_fault names width (before ++ atom_place width a ∷ []) front) else Some (73, a.line)) ≡ None
     on false t h rest = cc
     on true true h rest = cc
     on true false h rest = rest h

@@ -6,7 +6,7 @@ use Rattle.draw_stream.specs.Plans.{TakesNext}
 use Rattle.draw_stream.proofs.Plans.{length_seeded_lists}
 use Rattle.std.specs.List.{list_any}
 use Rattle.world_text.specs.Drafts.{DraftValue, IsDraft}
-use Rattle.world_text.specs.Named.{WorldValue, named, name_fault, or_zero, place_of, placed, plan_by, type_from, type_of, unless, world_of}
+use Rattle.world_text.specs.Named.{WorldValue, named, name_fault, or_zero, atom_place, placed, plan_by, type_from, type_of, unless, world_of}
 use Rattle.world_text.specs.Printed.{IsNamed, IsPrintable, line_fields, lines_text}
 use Rattle.world_text.specs.Values.{Names, world_value}
 use Rattle.world_text.specs.declared.fault.WorldFault.{WorldFault}
@@ -43,10 +43,10 @@ pub all_known : (names : List (List ℕ)) (width : ℕ) (before : List ℕ) (ato
 unfolding name_fault
 all_known names width before [] e = All-nil _
 all_known names width before (a ∷ more) e =
-    on (is_some (type_of names a.name)) (list_any (λ p. p == place_of width a) before) refl e (λ h. all_known names width (before ++ place_of width a ∷ []) more h)
+    on (is_some (type_of names a.name)) (list_any (λ p. p == atom_place width a) before) refl e (λ h. all_known names width (before ++ atom_place width a ∷ []) more h)
   where
-    on : (b t : Bool) → is_some (type_of names a.name) ≡ b → (if b then (if t then Some (74, a.line) else name_fault names width (before ++ place_of width a ∷ []) more) else Some (73, a.line)) ≡ None →
-        (name_fault names width (before ++ place_of width a ∷ []) more ≡ None → All (IsKnown names) more) → All (IsKnown names) (a ∷ more)
+    on : (b t : Bool) → is_some (type_of names a.name) ≡ b → (if b then (if t then Some (74, a.line) else name_fault names width (before ++ atom_place width a ∷ []) more) else Some (73, a.line)) ≡ None →
+        (name_fault names width (before ++ atom_place width a ∷ []) more ≡ None → All (IsKnown names) more) → All (IsKnown names) (a ∷ more)
     on false t is h rest = cc
     on true true is h rest = cc
     on true false is h rest = All-cons (IsKnown names) a more is (rest h)

@@ -11,7 +11,7 @@ use Rattle.draw_stream.specs.Plans.{PlanValue, tiles_on}
 use Rattle.tile_map.specs.Plane.{MapValue, IsMap, in_plane, is_on, site, tiles_of, whole_plane}
 use Rattle.world_text.specs.Line.{Line, atom, attempts, header, order, order_seed, seed, size, tiles}
 use Rattle.world_text.specs.Drafts.{DraftValue, IsDraft, IsRawAtom, after_atoms, after_size, in_range, missing, nothing_said, only_plane, put, raw_atom, too_many}
-use Rattle.world_text.specs.Named.{OrderValue, ReadsWorld, WorldValue, drawn, listed, name_fault, named, or_zero, order_by, place_of, placed, plan_by, type_from, type_of, unless, world_of}
+use Rattle.world_text.specs.Named.{OrderValue, ReadsWorld, WorldValue, drawn, listed, name_fault, named, or_zero, order_by, atom_place, placed, plan_by, type_from, type_of, unless, world_of}
 use Rattle.world_text.specs.Printed.{IsNamed, atom_line, line_fields, lines_text, name_of, off_lines, order_lines, plan_lines, try_lines, world_lines, world_text}
 use Rattle.world_text.specs.Reading.{over, read_text}
 use Rattle.world_text.specs.Saying.{IsPrinted, said}
@@ -127,14 +127,14 @@ fine_more : (names : List (List ℕ)) (a b : RawAtom) (more again : List RawAtom
     (width : ℕ) (before : List ℕ) → name_fault names width before (a ∷ more) ≡ None → name_fault names width before (b ∷ again) ≡ None
 unfolding name_fault
 fine_more names a b more again known name x y fine width before h =
-    let place : place_of width b ≡ place_of width a = ap (λ k. k * width + b.x) y ∙ ap (λ k. a.y * width + k) x in
+    let place : atom_place width b ≡ atom_place width a = ap (λ k. k * width + b.x) y ∙ ap (λ k. a.y * width + k) x in
     let type : is_some (type_of names b.name) ≡ true = ap (λ z. is_some (type_of names z)) name ∙ known in
-    rw (type, place) (on (list_any (λ p. p == place_of width a) before) (rw known at h))
+    rw (type, place) (on (list_any (λ p. p == atom_place width a) before) (rw known at h))
   where
-    on : (t : Bool) → (if t then Some (74, a.line) else name_fault names width (before ++ place_of width a ∷ []) more) ≡ None →
-        (if t then Some (74, b.line) else name_fault names width (before ++ place_of width a ∷ []) again) ≡ None
+    on : (t : Bool) → (if t then Some (74, a.line) else name_fault names width (before ++ atom_place width a ∷ []) more) ≡ None →
+        (if t then Some (74, b.line) else name_fault names width (before ++ atom_place width a ∷ []) again) ≡ None
     on true h = cc
-    on false h = fine width (before ++ place_of width a ∷ []) h
+    on false h = fine width (before ++ atom_place width a ∷ []) h
 
 atom_taken : (names : List (List ℕ)) (a : RawAtom) (n : ℕ) (d : DraftValue) → IsMap d.plane → after_atoms d.last ≡ true → IsRawAtom d.plane a → (name : List ℕ) → name ≡ a.name →
     Takes n d (atom a.x a.y name a.state ∷ []) (n + 1) (record d { last = Atom; atoms = d.atoms ++ raw_atom n a.x a.y name a.state ∷ [] })

@@ -2,7 +2,7 @@ use Rattle.std.proofs.Common.{◌+◌, ◌*◌, ap, sym, subst, arith, ◌∙◌
 use Rattle.tile_map.specs.Edges.{pairs_of}
 use Rattle.journal_check.specs.Marks.{AreRising}
 use Rattle.journal_check.proofs.Marking.{lane_in}
-use Rattle.journal_check.proofs.marks.lane.Goals as goal
+use Rattle.journal_check.proofs.marks.marks_at.Goals as goal
 
 pub returns-clause-rising : goal.returns-clause-rising
 returns-clause-rising c =

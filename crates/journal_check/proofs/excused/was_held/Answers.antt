@@ -3,7 +3,7 @@ use Rattle.std.proofs.lemmas.Option.{MatchOption-at_none, MatchOption-at_some}
 use Rattle.event_journal.specs.declared.abandoned.Abandoned.{Abandoned}
 use Rattle.journal_check.specs.Excuses.{IsFound, IsMissing, gone_needs}
 use Rattle.journal_check.proofs.Splits.{one_found}
-use Rattle.journal_check.proofs.excused.is_held.Goals as goal
+use Rattle.journal_check.proofs.excused.was_held.Goals as goal
 
 pub returns-in_default : goal.returns-in_default
 returns-in_default c =

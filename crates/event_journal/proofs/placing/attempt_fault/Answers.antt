@@ -1,7 +1,7 @@
 use Rattle.std.proofs.Common.{ap, sym, ◌∙◌}
 use Rattle.event_journal.proofs.Takings.{placed_elsewhere, placed_other, placed_well}
 use Rattle.event_journal.specs.Reading.{is_attempt}
-use Rattle.event_journal.proofs.placing.place_fault.Goals as goal
+use Rattle.event_journal.proofs.placing.attempt_fault.Goals as goal
 
 pub returns-then-not-is_at_home-clause-fault : goal.returns-then-not-is_at_home-clause-fault
 returns-then-not-is_at_home-clause-fault c = λ list is.
