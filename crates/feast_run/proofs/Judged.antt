@@ -15,7 +15,7 @@ use Rattle.feast_run.specs.Tellings.{Tells}
 use Rattle.feast_run.specs.declared.stop.Stop.{Stop}
 use Rattle.feast_run.specs.declared.stop.Stop.TheVariants.{Missing, NoMemory, Refused}
 use Rattle.grid_print.specs.Report.{AreNamed}
-use Rattle.journal_check.specs.Telling.{IsPlanOf}
+use Rattle.journal_check.specs.Entries.{IsPlanOf}
 use Rattle.report_judge.specs.Judging.{Judges, JudgedWorld, judgement_text}
 use Rattle.report_judge.specs.declared.judgement.Judgement.{Judgement}
 use Rattle.tile_map.specs.Plane.{MapValue}

@@ -15,7 +15,7 @@ use Rattle.tile_map.specs.Laws.{IsPlane, Joins}
 use Rattle.event_journal.specs.Accounts.{IsAccounted, IsEventOf, IsExcusedBy, IsGivenUpOf, Needs, edges_of}
 use Rattle.event_journal.specs.declared.abandoned.Abandoned.{Abandoned}
 use Rattle.journal_check.specs.Clocks.{needs_edge}
-use Rattle.journal_check.specs.Excuses.{IsExcusedOn, WasHeld, gone_needs}
+use Rattle.journal_check.specs.Excuses.{IsExcusedOn, WasHeld, abandoned_needs}
 use Rattle.journal_check.specs.Marks.{AreApart, AreMarks, is_on_edge, marks_at, mark_of, marks_on}
 use Rattle.journal_check.specs.declared.mark.Mark.{Mark}
 use Rattle.journal_check.proofs.Latest.{any_in, needs_in}
@@ -73,13 +73,13 @@ module _ (m : MapValue) (plan : PlanValue) (records : List Record) (abandoned : 
       let same : own.0 ≡ ev.0 = same_Some own.0 ev.0 (sym own.1 ∙ ev.1) in
       subst (λ (s : Site). Contains (needs_of m r.tile s) e) (sym ev.2) (subst (λ (a : Attempt). Contains (needs_of m r.tile (site_in m r.tile a.centre)) e) same own.2)
 
-  gone_shows : (e t i : ℕ) (g : Abandoned) → Contains abandoned g → g.tile ≡ t → g.attempt ≡ i → gone_needs m e g ≡ true → Needs m plan t i e
+  gone_shows : (e t i : ℕ) (g : Abandoned) → Contains abandoned g → g.tile ≡ t → g.attempt ≡ i → abandoned_needs m e g ≡ true → Needs m plan t i e
   gone_shows e t i g c tile attempt h =
       let ev = given g c in
       let own : Needs m plan g.tile g.attempt e = (ev.0, ev.1, subst (λ (s : Site). Contains (needs_of m g.tile s) e) ev.2 (any_contains (needs_of m g.tile (site g.x g.y)) e h)) in
       subst (λ u. Needs m plan u i e) tile (subst (λ j. Needs m plan g.tile j e) attempt own)
 
-  shows_gone : (e t i : ℕ) (g : Abandoned) → Contains abandoned g → g.tile ≡ t → g.attempt ≡ i → Needs m plan t i e → gone_needs m e g ≡ true
+  shows_gone : (e t i : ℕ) (g : Abandoned) → Contains abandoned g → g.tile ≡ t → g.attempt ≡ i → Needs m plan t i e → abandoned_needs m e g ≡ true
   shows_gone e t i g c tile attempt n =
       let ev = given g c in
       let own : Needs m plan g.tile g.attempt e = subst (λ u. Needs m plan u g.attempt e) (sym tile) (subst (λ j. Needs m plan t j e) (sym attempt) n) in
@@ -102,13 +102,13 @@ module _ (m : MapValue) (plan : PlanValue) (records : List Record) (abandoned : 
       omega (arith, x, ap (λ (z : Mark). z.stamp) p.4, ap (λ (z : Mark). z.stamp) q.4)
 
   module _ (g : Abandoned) (mine : Contains abandoned g) where
-    known : (gone_needs m g.edge g ≡ true) → g.edge < length (pairs_of m)
+    known : (abandoned_needs m g.edge g ≡ true) → g.edge < length (pairs_of m)
     known h = needs_known m g.tile (site g.x g.y) g.edge h
 
-    own_is : gone_needs m g.edge g ≡ true → Joins m g.edge g.tile g.holder → marks_at m table g.edge g.tile ≡ marks_on m g.tile g.edge records
+    own_is : abandoned_needs m g.edge g ≡ true → Joins m g.edge g.tile g.holder → marks_at m table g.edge g.tile ≡ marks_on m g.tile g.edge records
     own_is h j = marks.each g.edge g.tile (known h) (joined_tiles m plane g.edge g.tile g.holder (known h) j).0
 
-    other_is : gone_needs m g.edge g ≡ true → Joins m g.edge g.tile g.holder → marks_at m table g.edge g.holder ≡ marks_on m g.holder g.edge records
+    other_is : abandoned_needs m g.edge g ≡ true → Joins m g.edge g.tile g.holder → marks_at m table g.edge g.holder ≡ marks_on m g.holder g.edge records
     other_is h j = marks.each g.edge g.holder (known h) (joined_tiles m plane g.edge g.tile g.holder (known h) j).1
 
     pub excused_by : IsExcusedOn m table abandoned g → IsExcusedBy m plan records abandoned g
@@ -151,5 +151,5 @@ module _ (m : MapValue) (plan : PlanValue) (records : List Record) (abandoned : 
           (apart_events g.edge g.holder (g.holder_attempt + 1) g.tile (g.attempt + 1) (λ s r d c tile' tile needs' needs'' lt le. h.before r s c d tile tile' needs'' needs' (omega (arith, le)) (omega (arith, lt)))));
     }
       where
-        needs : gone_needs m g.edge g ≡ true
+        needs : abandoned_needs m g.edge g ≡ true
         needs = shows_gone g.edge g.tile g.attempt g mine refl refl h.needs

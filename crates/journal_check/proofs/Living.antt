@@ -14,8 +14,8 @@ use Rattle.list_laws.proofs.Tests.{both, together}
 use Rattle.event_journal.specs.Accounts.{IsAccounted, IsEventOf, IsGivenUpOf}
 use Rattle.event_journal.specs.declared.abandoned.Abandoned.{Abandoned}
 use Rattle.journal_check.specs.Clocks.{IsInside}
-use Rattle.journal_check.specs.Excuses.{IsGoneInside}
-use Rattle.journal_check.specs.Telling.{IsPlanOf}
+use Rattle.journal_check.specs.Excuses.{IsAbandonedInside}
+use Rattle.journal_check.specs.Entries.{IsPlanOf}
 use Rattle.journal_check.proofs.Lists.{all_in, in_all}
 
 less_test : (a b : ℕ) → a < b → nat_lt a b ≡ true
@@ -77,7 +77,7 @@ module _ (m : MapValue) (map : IsMap m) (plan : PlanValue) (fits : IsPlanOf m pl
         row = subst (λ (s : Site). s.y < m.ty * m.h) (sym e.2) (row_in m map r.tile e.0.centre tile centre);
       }
 
-  gone_inside : (g : Abandoned) → IsGivenUpOf m plan g → IsGoneInside m g
+  gone_inside : (g : Abandoned) → IsGivenUpOf m plan g → IsAbandonedInside m g
   gone_inside g e =
       let tile = tile_in g.tile g.attempt e.0 e.1 in
       let centre = centre_in g.tile g.attempt e.0 e.1 in
@@ -94,8 +94,8 @@ module _ (m : MapValue) (map : IsMap m) (plan : PlanValue) (fits : IsPlanOf m pl
     pub events_inside : All (IsInside m) records
     events_inside = in_all (IsInside m) records (λ r i. event_inside r (all_in (IsEventOf m plan) records k.events r i))
 
-    pub all_gone_inside : All (IsGoneInside m) abandoned
-    all_gone_inside = in_all (IsGoneInside m) abandoned (λ g i. gone_inside g (all_in (IsGivenUpOf m plan) abandoned k.given_up g i))
+    pub all_gone_inside : All (IsAbandonedInside m) abandoned
+    all_gone_inside = in_all (IsAbandonedInside m) abandoned (λ g i. gone_inside g (all_in (IsGivenUpOf m plan) abandoned k.given_up g i))
 
     pub events_live : (g : GridValue) → IsGridOf m g → All (λ (r : Record). IsLive g r.x r.y) records
     events_live g of = in_all (λ (r : Record). IsLive g r.x r.y) records (λ r i.

@@ -1,7 +1,7 @@
 //! The audit of a report.
 ghost use Rattle.std.specs.Prelude.{◌≡◌, IfOk};
 ghost use Rattle.serial_order.specs.Outcomes.{IsPlaneGrid};
-ghost use Rattle.journal_check.specs.Telling.{IsPlanOf};
+ghost use Rattle.journal_check.specs.Entries.{IsPlanOf};
 ghost use Rattle.journal_check.specs.Verdicts.{IsVerdict};
 
 use crate::accounted::is_accounted;

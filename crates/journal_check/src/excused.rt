@@ -11,7 +11,7 @@ ghost use Rattle.event_journal.specs.Accounts.{AreExcused, IsAccounted};
 ghost use Rattle.event_journal.specs.Logs.{ComesBefore};
 ghost use Rattle.event_journal.specs.declared.abandoned.Abandoned.{Abandoned};
 ghost use Rattle.journal_check.specs.Clocks.{IsInside};
-ghost use Rattle.journal_check.specs.Excuses.{IsExcusedOn, IsFirstUnexcused, IsFound, IsGoneInside, WasHeld, IsMissing, is_earlier};
+ghost use Rattle.journal_check.specs.Excuses.{IsExcusedOn, IsFirstUnexcused, IsFound, IsAbandonedInside, WasHeld, IsMissing, is_earlier};
 ghost use Rattle.journal_check.specs.Marks.{AreApart, AreRising, HasMark, IsSplit, marks_on};
 
 use crate::mark::Mark;
@@ -123,7 +123,7 @@ fn joins(map: &Map, edge: u32, tile: u32, holder: u32) -> bool
 fn was_held(map: &Map, marks: &[Mark], abandoned: &[Abandoned], entry: &Abandoned) -> bool
     requires rising { AreRising marks.now }
     requires sorted { AllPairs ComesBefore abandoned.now }
-    requires inside { All (IsGoneInside map.now) abandoned.now }
+    requires inside { All (IsAbandonedInside map.now) abandoned.now }
     ensures { Decides result (WasHeld map.now marks.now abandoned.now entry.now) }
 {
     if has_mark(marks, entry.holder_attempt) {
@@ -140,8 +140,8 @@ fn was_held(map: &Map, marks: &[Mark], abandoned: &[Abandoned], entry: &Abandone
 
 /// Whether an abandoned attempt is excused, by the marks of its edge.
 fn is_excused(map: &Map, table: &[Marks], abandoned: &[Abandoned], entry: &Abandoned) -> bool
-    requires here { IsGoneInside map.now entry.now }
-    requires inside { All (IsGoneInside map.now) abandoned.now }
+    requires here { IsAbandonedInside map.now entry.now }
+    requires inside { All (IsAbandonedInside map.now) abandoned.now }
     requires sorted { AllPairs ComesBefore abandoned.now }
     requires many { length table.now ≡ length (pairs_of map.now) * tiles_of map.now }
     requires rising { All AreRising table.now }
@@ -175,7 +175,7 @@ pub(crate) fn unexcused(
     abandoned: &[Abandoned],
 ) -> Result<Option<u64>, NoMemory>
     requires events { All (IsInside map.now) records.now }
-    requires inside { All (IsGoneInside map.now) abandoned.now }
+    requires inside { All (IsAbandonedInside map.now) abandoned.now }
     requires sorted { AllPairs ComesBefore abandoned.now }
     requires rising { (e t : ℕ) → AreRising (marks_on map.now t e records.now) }
     ensures { (plan : PlanValue) → IsAccounted map.now plan records.now abandoned.now →

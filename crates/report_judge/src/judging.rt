@@ -4,7 +4,7 @@ ghost use Rattle.std.specs.Bool.{Decides};
 ghost use Rattle.cell_grid.specs.Records.{replay};
 ghost use Rattle.grid_print.specs.Report.{AreNamed, report};
 ghost use Rattle.serial_order.specs.Outcomes.{IsPlaneGrid};
-ghost use Rattle.journal_check.specs.Telling.{IsPlanOf};
+ghost use Rattle.journal_check.specs.Entries.{IsPlanOf};
 ghost use Rattle.report_judge.specs.Judging.{Judges, abandoned_line, event_line, line_count};
 
 use crate::judgement::Judgement;

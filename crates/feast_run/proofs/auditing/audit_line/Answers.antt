@@ -5,7 +5,7 @@ use Rattle.feast_run.specs.Acting.{acts}
 use Rattle.feast_run.specs.Values.{elements_value, journal_value, ready_value}
 use Rattle.grid_print.specs.Report.{AreNamed}
 use Rattle.cell_grid.specs.Records.{replay}
-use Rattle.journal_check.specs.Telling.{IsPlanOf}
+use Rattle.journal_check.specs.Entries.{IsPlanOf}
 use Rattle.tile_map.specs.Plane.{MapValue}
 use Rattle.window_sites.specs.Window.{WindowValue}
 use Rattle.cell_grid.specs.Known.{BringsNone}

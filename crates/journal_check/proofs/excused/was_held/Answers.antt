@@ -1,7 +1,7 @@
 use Rattle.std.proofs.Common.{◌≡◌, ⊎_elim, inr, ap, sym, subst, ◌∙◌, arith, true, false}
 use Rattle.std.proofs.lemmas.Option.{MatchOption-at_none, MatchOption-at_some}
 use Rattle.event_journal.specs.declared.abandoned.Abandoned.{Abandoned}
-use Rattle.journal_check.specs.Excuses.{IsFound, IsMissing, gone_needs}
+use Rattle.journal_check.specs.Excuses.{IsFound, IsMissing, abandoned_needs}
 use Rattle.journal_check.proofs.Splits.{one_found}
 use Rattle.journal_check.proofs.excused.was_held.Goals as goal
 
@@ -28,5 +28,5 @@ returns c =
       (λ q. inr (c.in-Some.gone, found, omega arith, sym c.needs_edge.ensures ∙ q)),
       (λ h. ⊎_elim {C = c.needs_edge.result ≡ true} (λ a. let yes = c.has_mark.ensures.1 a in let no = c.if-has_mark.false in cc)
           (λ k. let same = one_found c.args.abandoned.now e.holder e.holder_attempt c.in-Some.gone k.0 c.requires.sorted found k.1 in
-          c.needs_edge.ensures ∙ subst (λ (g : Abandoned). gone_needs c.args.map.now e.edge g ≡ true) same k.3) h),
+          c.needs_edge.ensures ∙ subst (λ (g : Abandoned). abandoned_needs c.args.map.now e.edge g ≡ true) same k.3) h),
     )

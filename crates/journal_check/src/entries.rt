@@ -4,8 +4,8 @@ ghost use Rattle.cell_grid.specs.declared.record.Record.{Record};
 ghost use Rattle.draw_stream.specs.declared.attempt.Attempt.{Attempt};
 ghost use Rattle.tile_map.specs.Plane.{tiles_of};
 ghost use Rattle.event_journal.specs.declared.abandoned.Abandoned.{Abandoned};
-ghost use Rattle.journal_check.specs.Telling.{are_none, gone_of, is_at, is_event, next_entry, next_gone, of_tile, told};
-ghost use Rattle.journal_check.specs.Passing.{IsFirstGone, IsFirstOf, passes};
+ghost use Rattle.journal_check.specs.Entries.{are_none, abandoned_by, is_at, is_event, next_entry, next_abandoned, of_tile, are_entries};
+ghost use Rattle.journal_check.specs.Passing.{IsFirstAbandoned, IsFirstOf, passes};
 
 use cell_grid::Record;
 use draw_stream::{Attempt, Attempts};
@@ -28,9 +28,9 @@ fn from_next<'a>(records: &'a [Record], tile: u32) -> &'a [Record]
 }
 
 /// The abandoned attempts from the next one of a tile on.
-fn from_next_gone<'a>(abandoned: &'a [Abandoned], tile: u32) -> &'a [Abandoned]
-    ensures same { gone_of tile result.now ≡ gone_of tile abandoned.entry.now }
-    ensures first { IsFirstGone tile result.now }
+fn from_next_abandoned<'a>(abandoned: &'a [Abandoned], tile: u32) -> &'a [Abandoned]
+    ensures same { abandoned_by tile result.now ≡ abandoned_by tile abandoned.entry.now }
+    ensures first { IsFirstAbandoned tile result.now }
 {
     let mut left = abandoned;
     while let Some((first, rest)) = left.split_first() {
@@ -62,7 +62,7 @@ fn is_event(map: &Map, tile: u32, attempt: &Attempt, entry: &Record) -> bool
 
 /// The events and the abandoned attempts of a tile after those of an attempt, if the next that the
 /// tile gave up is the attempt of this number. The first of both lists are of the tile.
-fn passed_gone<'a>(
+fn passed_abandoned<'a>(
     map: &Map,
     tile: u32,
     number: u64,
@@ -72,8 +72,8 @@ fn passed_gone<'a>(
 ) -> Option<(&'a [Record], &'a [Abandoned])>
     requires tile { tile < tiles_of map.now }
     requires centre { attempt.now.centre < map.now.w * map.now.h }
-    requires first { IsFirstGone tile abandoned.now }
-    ensures { (rest : List Record → List Abandoned → Bool) → next_gone map.now tile number attempt.now (gone_of tile abandoned.entry.now) (rest (of_tile tile records.entry.now)) ≡ passes tile rest result }
+    requires first { IsFirstAbandoned tile abandoned.now }
+    ensures { (rest : List Record → List Abandoned → Bool) → next_abandoned map.now tile number attempt.now (abandoned_by tile abandoned.entry.now) (rest (of_tile tile records.entry.now)) ≡ passes tile rest result }
 {
     let Some((first, others)) = abandoned.split_first() else {
         return None;
@@ -100,15 +100,15 @@ fn passed<'a>(
 ) -> Option<(&'a [Record], &'a [Abandoned])>
     requires tile { tile < tiles_of map.now }
     requires centre { attempt.now.centre < map.now.w * map.now.h }
-    ensures { (rest : List Record → List Abandoned → Bool) → next_entry map.now tile number attempt.now (of_tile tile records.entry.now) (gone_of tile abandoned.entry.now) rest ≡ passes tile rest result }
+    ensures { (rest : List Record → List Abandoned → Bool) → next_entry map.now tile number attempt.now (of_tile tile records.entry.now) (abandoned_by tile abandoned.entry.now) rest ≡ passes tile rest result }
 {
     let events = from_next(records, tile);
-    let gone = from_next_gone(abandoned, tile);
+    let gone = from_next_abandoned(abandoned, tile);
     let Some((first, others)) = events.split_first() else {
-        return passed_gone(map, tile, number, attempt, events, gone);
+        return passed_abandoned(map, tile, number, attempt, events, gone);
     };
     if first.attempt != number {
-        return passed_gone(map, tile, number, attempt, events, gone);
+        return passed_abandoned(map, tile, number, attempt, events, gone);
     }
     if is_event(map, tile, attempt, first) {
         Some((others, gone))
@@ -119,14 +119,14 @@ fn passed<'a>(
 
 /// Whether some events and abandoned attempts have none of a tile.
 fn are_none(tile: u32, records: &[Record], abandoned: &[Abandoned]) -> bool
-    ensures { result ≡ are_none (of_tile tile records.now) (gone_of tile abandoned.now) }
+    ensures { result ≡ are_none (of_tile tile records.now) (abandoned_by tile abandoned.now) }
 {
-    from_next(records, tile).is_empty() && from_next_gone(abandoned, tile).is_empty()
+    from_next(records, tile).is_empty() && from_next_abandoned(abandoned, tile).is_empty()
 }
 
 /// Whether the events and the abandoned attempts of a tile are its attempts, each once, and nothing
 /// else.
-pub(crate) fn is_told(
+pub(crate) fn are_entries(
     map: &Map,
     tile: u32,
     mut attempts: Attempts,
@@ -136,7 +136,7 @@ pub(crate) fn is_told(
     requires tile { tile < tiles_of map.now }
     requires few { length attempts < 2 ^ 32 }
     requires centres { All (λ (a : Attempt). a.centre < map.now.w * map.now.h) attempts }
-    ensures { result ≡ told map.now tile 0 attempts (of_tile tile records.now) (gone_of tile abandoned.now) }
+    ensures { result ≡ are_entries map.now tile 0 attempts (of_tile tile records.now) (abandoned_by tile abandoned.now) }
 {
     let mut events = records;
     let mut gone = abandoned;

@@ -1,10 +1,10 @@
 use Rattle.std.proofs.Common.{◌≡◌, ◌+◌, ◌*◌, ◌<◌, ◌∷◌, length, sym, ap, subst, arith, ◌∙◌, All}
 use Rattle.std.proofs.lemmas.List.Elements.{All-head, All-tail}
 use Rattle.draw_stream.specs.declared.attempt.Attempt.{Attempt}
-use Rattle.journal_check.specs.Telling.{gone_of, of_tile, told}
+use Rattle.journal_check.specs.Entries.{abandoned_by, of_tile, are_entries}
 use Rattle.journal_check.specs.Passing.{passes}
-use Rattle.journal_check.proofs.Passing.{over, taken, told_none, told_taken}
-use Rattle.journal_check.proofs.telling.is_told.Goals as goal
+use Rattle.journal_check.proofs.Passing.{over, taken, entries_none, entries_taken}
+use Rattle.journal_check.proofs.entries.are_entries.Goals as goal
 
 pub passed-requires-clause-centre : goal.passed-requires-clause-centre
 passed-requires-clause-centre c =
@@ -18,9 +18,9 @@ returns-in_default-passed c =
     let t = c.args.tile in
     let n = c.loop-attempt.number in
     let list = taken c.loop-attempt.attempts c.next.new.self c.in-Some.attempt c.next.result c.in-Some.is c.next.ensures in
-    let more = told m t (n + 1) c.next.new.self in
+    let more = are_entries m t (n + 1) c.next.new.self in
     sym (sym c.loop-attempt.invariant.rest
-    ∙ told_taken m t n c.loop-attempt.attempts c.in-Some.attempt c.next.new.self (of_tile t c.loop-attempt.events.now) (gone_of t c.loop-attempt.gone.now) list
+    ∙ entries_taken m t n c.loop-attempt.attempts c.in-Some.attempt c.next.new.self (of_tile t c.loop-attempt.events.now) (abandoned_by t c.loop-attempt.gone.now) list
     ∙ c.passed.ensures more ∙ ap (passes t more) c.in_default-passed.is)
 
 pub loop-attempt-preserved : goal.loop-attempt-preserved
@@ -34,9 +34,9 @@ loop-attempt-preserved c =
       few = omega (arith, c.loop-attempt.invariant.few, long);
       centres = All-tail (λ (a : Attempt). a.centre < m.w * m.h) c.in-Some.attempt c.next.new.self (subst (All (λ (a : Attempt). a.centre < m.w * m.h)) list c.loop-attempt.invariant.centres);
       rest =
-          let more = told m t (n + 1) c.next.new.self in
+          let more = are_entries m t (n + 1) c.next.new.self in
           sym (sym c.loop-attempt.invariant.rest
-          ∙ told_taken m t n c.loop-attempt.attempts c.in-Some.attempt c.next.new.self (of_tile t c.loop-attempt.events.now) (gone_of t c.loop-attempt.gone.now) list
+          ∙ entries_taken m t n c.loop-attempt.attempts c.in-Some.attempt c.next.new.self (of_tile t c.loop-attempt.events.now) (abandoned_by t c.loop-attempt.gone.now) list
           ∙ c.passed.ensures more ∙ ap (passes t more) c.in-Some-passed.is);
     }
 
@@ -45,5 +45,5 @@ returns c =
     let m = c.args.map.now in
     let t = c.args.tile in
     let none = over c.loop-attempt.attempts c.next.new.self c.next.result c.in_default.is c.next.ensures in
-    c.are_none.ensures ∙ sym (told_none m t c.loop-attempt.number (of_tile t c.loop-attempt.events.now) (gone_of t c.loop-attempt.gone.now))
-    ∙ sym (ap (λ q. told m t c.loop-attempt.number q (of_tile t c.loop-attempt.events.now) (gone_of t c.loop-attempt.gone.now)) none) ∙ c.loop-attempt.invariant.rest
+    c.are_none.ensures ∙ sym (entries_none m t c.loop-attempt.number (of_tile t c.loop-attempt.events.now) (abandoned_by t c.loop-attempt.gone.now))
+    ∙ sym (ap (λ q. are_entries m t c.loop-attempt.number q (of_tile t c.loop-attempt.events.now) (abandoned_by t c.loop-attempt.gone.now)) none) ∙ c.loop-attempt.invariant.rest

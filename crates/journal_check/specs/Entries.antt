@@ -17,8 +17,8 @@ pub record IsPlanOf (m : MapValue) (plan : PlanValue) : Type 0 where
 abbrev pub of_tile : ℕ → List Record → List Record
 of_tile t records = filter (λ (r : Record). r.tile == t) records
 
-abbrev pub gone_of : ℕ → List Abandoned → List Abandoned
-gone_of t abandoned = filter (λ (g : Abandoned). g.tile == t) abandoned
+abbrev pub abandoned_by : ℕ → List Abandoned → List Abandoned
+abandoned_by t abandoned = filter (λ (g : Abandoned). g.tile == t) abandoned
 
 -- whether a position of a tile is the site
 abbrev pub is_at : MapValue → ℕ → ℕ → ℕ → ℕ → Bool
@@ -29,14 +29,14 @@ abbrev pub is_event : MapValue → ℕ → Attempt → Record → Bool
 is_event m t a r = is_at m t a.centre r.x r.y && a.seed == r.seed
 
 -- whether the first of those that the tile gave up is attempt i, and the rest passes too
-abbrev pub next_gone : MapValue → ℕ → ℕ → Attempt → List Abandoned → (List Abandoned → Bool) → Bool
-next_gone m t i a [] rest = false
-next_gone m t i a (g ∷ gs) rest = (g.attempt == i && is_at m t a.centre g.x g.y) && rest gs
+abbrev pub next_abandoned : MapValue → ℕ → ℕ → Attempt → List Abandoned → (List Abandoned → Bool) → Bool
+next_abandoned m t i a [] rest = false
+next_abandoned m t i a (g ∷ gs) rest = (g.attempt == i && is_at m t a.centre g.x g.y) && rest gs
 
 -- whether attempt i is the tile's next event or else the next that it gave up, and the rest passes too
 abbrev pub next_entry : MapValue → ℕ → ℕ → Attempt → List Record → List Abandoned → (List Record → List Abandoned → Bool) → Bool
-next_entry m t i a [] gs rest = next_gone m t i a gs (rest [])
-next_entry m t i a (r ∷ rs) gs rest = if r.attempt == i then is_event m t a r && rest rs gs else next_gone m t i a gs (rest (r ∷ rs))
+next_entry m t i a [] gs rest = next_abandoned m t i a gs (rest [])
+next_entry m t i a (r ∷ rs) gs rest = if r.attempt == i then is_event m t a r && rest rs gs else next_abandoned m t i a gs (rest (r ∷ rs))
 
 abbrev pub are_none : List Record → List Abandoned → Bool
 are_none [] [] = true
@@ -44,6 +44,6 @@ are_none [] (g ∷ gs) = false
 are_none (r ∷ rs) gs = false
 
 -- whether the events and what was given up are a tile's attempts from number i on, each once, and nothing else
-unfoldable pub told : MapValue → ℕ → ℕ → List Attempt → List Record → List Abandoned → Bool
-told m t i [] rs gs = are_none rs gs
-told m t i (a ∷ more) rs gs = next_entry m t i a rs gs (told m t (i + 1) more)
+unfoldable pub are_entries : MapValue → ℕ → ℕ → List Attempt → List Record → List Abandoned → Bool
+are_entries m t i [] rs gs = are_none rs gs
+are_entries m t i (a ∷ more) rs gs = next_entry m t i a rs gs (are_entries m t (i + 1) more)

@@ -1,6 +1,6 @@
 use Rattle.std.proofs.Common.{◌≡◌, length}
-use Rattle.journal_check.specs.Telling.{of_tile}
-use Rattle.journal_check.proofs.telling.from_next.Given as goal
+use Rattle.journal_check.specs.Entries.{of_tile}
+use Rattle.journal_check.proofs.entries.from_next.Given as goal
 
 abbrev pub invariant-loop-first : goal.invariant-loop-first
 invariant-loop-first l = of_tile l.tile l.left ≡ of_tile l.tile l.records
