@@ -14,7 +14,7 @@ use Rattle.window_sites.specs.Window.{WindowValue, atom_at}
 use Rattle.tile_map.specs.Plane.{Site, MapValue, site, in_plane, is_on, is_live, owner_of, in_window}
 use Rattle.tile_map.specs.Edges.{window_site, live_site}
 use Rattle.tile_map.specs.Laws.{IsPlane}
-use Rattle.cell_grid.specs.Grid.{GridValue, IsGrid, site_atom, below_end, placed, live_place, place_of, seen, is_place, sites_at, window_of, atom_left, put_window}
+use Rattle.cell_grid.specs.Grid.{GridValue, IsGrid, site_atom, below_end, place_by, live_place, place_of, seen, is_place, sites_at, window_of, atom_left, put_window}
 use Rattle.cell_grid.proofs.Windows.{put-plane}
 use Rattle.border_cache.specs.Cells.{CellValue}
 use Rattle.border_cache.specs.Copies.{IsGridOf}
@@ -60,7 +60,7 @@ module _ (m : MapValue) (plane : IsPlane m) where
   place_is g of c n = go (shifted c.x (offset_of n).0) (shifted c.y (offset_of n).1)
     where
       marked : (u v : ℕ) (a b : Bool) → nat_lt u g.width ≡ a → nat_lt v g.height ≡ b
-          → live_place g.live (placed g.width (if a then Some u else None) (if b then Some v else None)) ≡ option_map (index g) (if is_live m (site u v) then Some (site u v) else None)
+          → live_place g.live (place_by g.width (if a then Some u else None) (if b then Some v else None)) ≡ option_map (index g) (if is_live m (site u v) then Some (site u v) else None)
       marked u v true true p q =
           let x : u < g.width = grind (arith, nat_tests, p) in
           let y : v < g.height = grind (arith, nat_tests, q) in
@@ -77,7 +77,7 @@ module _ (m : MapValue) (plane : IsPlane m) where
           dead false is = is
       marked u v false b p q = none b ∙ sym (ap (λ b. option_map (index g) (if b then Some (site u v) else None)) (dead (is_live m (site u v)) refl))
         where
-          none : (b : Bool) → live_place g.live (placed g.width None (if b then Some v else None)) ≡ None
+          none : (b : Bool) → live_place g.live (place_by g.width None (if b then Some v else None)) ≡ None
           none true = refl
           none false = refl
 
@@ -85,11 +85,11 @@ module _ (m : MapValue) (plane : IsPlane m) where
           dead true is = let r = in_columns (site u v) is in absurd (grind (arith, nat_tests, r.0, of.wide, p))
           dead false is = is
 
-      half : (u : ℕ) (a : Bool) → live_place g.live (placed g.width (if a then Some u else None) None) ≡ None
+      half : (u : ℕ) (a : Bool) → live_place g.live (place_by g.width (if a then Some u else None) None) ≡ None
       half u true = refl
       half u false = refl
 
-      go : (o q : Option ℕ) → live_place g.live (placed g.width (below_end g.width o) (below_end g.height q)) ≡ option_map (index g) (live_site m o q)
+      go : (o q : Option ℕ) → live_place g.live (place_by g.width (below_end g.width o) (below_end g.height q)) ≡ option_map (index g) (live_site m o q)
       go None q = refl
       go (Some u) None = half u (nat_lt u g.width)
       go (Some u) (Some v) = marked u v (nat_lt u g.width) (nat_lt v g.height) refl refl
