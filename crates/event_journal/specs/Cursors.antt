@@ -1,4 +1,4 @@
--- What the reader of a report keeps of each tile, and of the plane.
+-- What the reader of a report keeps for each tile, and of the plane.
 use Rattle.std.specs.Prelude.{ℕ, ◌≡◌, ◌+◌, ◌*◌, ◌<◌, ◌==◌, List, [], Option, Some, None, drop, length, map, slice_index_or, Result, Ok, Err, if◌then◌else◌}
 use Rattle.draw_stream.specs.declared.attempt.Attempt.{Attempt}
 use Rattle.tile_map.specs.Plane.{MapValue, IsMap}

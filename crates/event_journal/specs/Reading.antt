@@ -99,7 +99,7 @@ record_fault m n before last list r =
 abbrev pub put_record : ℕ → Said → Wants → Record → Said
 put_record n d next r = record d { wants = next; before = Some r; lasts = slice_set d.lasts r.tile (Some (n, r.attempt)); journal = d.journal ++ r ∷ [] }
 
--- what is said with more, or the fault
+-- what has been said, unless there is a fault
 abbrev pub unless : Option LineFault → Said → Result Said LineFault
 unless None d = Ok d
 unless (Some fault) d = Err fault
@@ -165,7 +165,7 @@ fault_of (NotOwned line) = Some (line, ElsewhereThanTile)
 fault_of (NotDrawn line) = Some (line, OtherThanAttempt)
 fault_of NoMemory = None
 
--- an answer with a fault is the expected one; running out of memory says nothing
+-- a fault is answered only if it is the one that is asked for; running out of memory says nothing
 abbrev pub IsFault : {X : Type 0} → Result X (ℕ × LineFault) → Option (ℕ × LineFault) → Type 0
 IsFault asked None = Unit {0}
 IsFault asked (Some fault) = asked ≡ Err fault

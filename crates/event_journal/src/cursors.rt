@@ -6,7 +6,7 @@ ghost use Rattle.event_journal.specs.Cursors.{last_of, passed_of, Serves};
 
 use draw_stream::{Attempt, Attempts};
 
-/// Passes over this many attempts, or over all.
+/// Passes over this many attempts, or over all of them if there are fewer.
 fn pass(stream: &mut Attempts, count: u64)
     ensures { stream.new ≡ drop count stream.old }
 {
@@ -27,8 +27,8 @@ fn seek(stream: &mut Attempts, count: u64) -> Option<Attempt>
     stream.next()
 }
 
-/// A tile's attempts that are left, the attempt of its last record, and that record's line, which
-/// is 0 if it has none.
+/// How far a report has come in the log of a tile: the tile's attempts that are left, the attempt
+/// of its last record, and the line of that record, which is 0 if there is none yet.
 #[derive(Drop)]
 pub(crate) struct LogCursor {
     pub(crate) stream: Attempts,
@@ -36,7 +36,7 @@ pub(crate) struct LogCursor {
     pub(crate) line: u64,
 }
 
-/// How many attempts come before one and were not passed.
+/// How many attempts that were not passed come before this one.
 fn between(cursor: &LogCursor, attempt: u64) -> u64
     requires { passed_of cursor.now ≤ attempt }
     ensures { passed_of cursor.now + result ≡ attempt }
@@ -48,7 +48,7 @@ fn between(cursor: &LogCursor, attempt: u64) -> u64
     }
 }
 
-/// The attempt of a number, if the tile has it. It is not one that was passed.
+/// The tile's attempt of this number, if it has one. That attempt was not passed before.
 pub(crate) fn drawn(cursor: &mut LogCursor, attempt: u64, line: u64) -> Option<Attempt>
     requires later { passed_of cursor.old ≤ attempt }
     requires line { 1 ≤ line }

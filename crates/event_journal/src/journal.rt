@@ -77,7 +77,7 @@ impl Journal {
     }
 
     /// A walk through the records, which gives them in the order of the journal. `NoMemory` if
-    /// there is none for one place a log.
+    /// there is none for the walk, which keeps one slice for each log.
     #[tactic(auto, unfolding(crate::specs::Logs::records_in))]
     pub fn walk(&self, alloc: Global) -> Result<Walk<'_>, NoMemory>
         ensures { IfOk result (λ w. rest_of w ≡ records_in self.now) }
@@ -87,7 +87,7 @@ impl Journal {
 
     /// What holds of every journal: its records are those of the logs, each once, by stamp and then
     /// tile, and no other list has this property; its abandoned attempts are by tile and then
-    /// attempt. It changes nothing.
+    /// attempt. The call does nothing: its contract is the law.
     pub fn laws(&self)
         ensures { IsJournal self.now }
     {

@@ -1,4 +1,4 @@
-//! A record among the attempts of its tile.
+//! Whether a record is one of its tile's attempts.
 ghost use Rattle.std.specs.Prelude.{◌≡◌, ◌*◌, ◌≤◌, ◌<◌, ◌+◌, IfSome, List, None, Option, Some, [], length, not, slice_index_or, slice_set, if◌then◌else◌};
 ghost use Rattle.cell_grid.specs.declared.record.Record.{Record};
 ghost use Rattle.draw_stream.specs.declared.attempt.Attempt.{Attempt};
@@ -22,7 +22,7 @@ pub(crate) struct Extent {
 }
 
 impl Extent {
-    /// The extent of a map's plane: what the last tile reaches ends where the plane does.
+    /// The extent of a map's plane, which ends where the reach of the last tile ends.
     pub(crate) fn of(map: &Map) -> Extent
         ensures { IsExtent result map.now }
     {
@@ -58,7 +58,7 @@ fn line_before(n: u64, before: Option<Record>) -> u64
     }
 }
 
-/// Whether the site of a record is one of its tile's rectangle.
+/// Whether the site of a record lies in its tile's rectangle.
 fn is_at_home(map: &Map, extent: &Extent, r: &Record) -> bool
     requires { IsExtent extent.now map.now }
     ensures { result ≡ is_at_home map.now r.now }
@@ -66,7 +66,7 @@ fn is_at_home(map: &Map, extent: &Extent, r: &Record) -> bool
     r.x < extent.width && r.y < extent.height && map.owner(r.x, r.y) == r.tile
 }
 
-/// Whether a record whose tile exists is this attempt of it.
+/// Whether a record is this attempt of its tile, which exists.
 fn is_attempt(map: &Map, extent: &Extent, attempt: Option<Attempt>, r: &Record) -> bool
     requires extent { IsExtent extent.now map.now }
     requires tile { r.now.tile < tiles_of map.now }
@@ -84,7 +84,7 @@ fn is_attempt(map: &Map, extent: &Extent, attempt: Option<Attempt>, r: &Record) 
     }
 }
 
-/// The line of the tile's last record, if the attempt of that is not smaller.
+/// The line of the tile's last record, if the attempt of that record is not smaller than this one.
 fn not_later(cursor: &LogCursor, attempt: u64) -> Option<u64>
     ensures value { result ≡ not_later (last_of cursor.now) attempt }
     ensures passed { result ≡ None → passed_of cursor.now ≤ attempt }
@@ -96,7 +96,8 @@ fn not_later(cursor: &LogCursor, attempt: u64) -> Option<u64>
     }
 }
 
-/// The fault of a record whose site is not its tile's, or that is not its attempt. The tile exists.
+/// The fault of a record whose site is not its tile's, or that is not one of its tile's attempts.
+/// The tile exists.
 fn attempt_fault(
     map: &Map,
     extent: &Extent,

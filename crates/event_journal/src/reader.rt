@@ -44,7 +44,7 @@ fn cursors(alloc: Global, plan: &AttemptPlan, tiles: u32) -> Result<Vec<LogCurso
     Ok(cursors)
 }
 
-/// Reads a report with these cursors, of which none has passed an attempt.
+/// Reads a report with these cursors, none of which has passed an attempt.
 fn read_lines(
     alloc: Global,
     map: &Map,
@@ -82,10 +82,10 @@ fn read_lines(
     }
 }
 
-/// Reads a whole report of a map and a plan of its attempts, which has a list for each tile, and
-/// keeps the events and the abandoned attempts. The answer is the first line with a fault; for a
-/// record's line `BadLine` comes first, then `OutOfOrder`, `NotOwned` and `NotDrawn`. Only the form
-/// of atoms and abandoned attempts is tested. `NoMemory` if there is none for the lists or for the
+/// Reads a whole report for a map and a plan, which has a list of attempts for each tile, and keeps
+/// the events and the abandoned attempts. A fault names the first line that has one; on the line of
+/// a record `BadLine` comes first, then `OutOfOrder`, `NotOwned` and `NotDrawn`. Of atoms and
+/// abandoned attempts only the form is tested. `NoMemory` if there is none for the lists or for the
 /// attempts of the plan.
 pub fn read(
     alloc: Global,

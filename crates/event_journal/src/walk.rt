@@ -10,14 +10,14 @@ use cell_grid::Record;
 use feast_base::NoMemory;
 use std::alloc::Global;
 
-/// The records of a journal that were not given yet: a list for each log.
+/// The records of a journal that have not been given yet: a list for each log.
 #[derive(Drop)]
 pub struct Walk<'a> {
     lefts: Vec<&'a [Record]>,
 }
 
 impl<'a> Walk<'a> {
-    /// The walk through the records of these logs. `NoMemory` if there is none for one place a log.
+    /// The walk through the records of these logs. `NoMemory` if there is none for one slice a log.
     pub(crate) fn new(alloc: Global, logs: &'a [TileLog]) -> Result<Walk<'a>, NoMemory>
         ensures { IfOk result (λ w. rest_of w ≡ merged is_before (map records_of logs.now)) }
     {
@@ -75,7 +75,7 @@ fn better(found: Option<(usize, Record)>, k: usize, left: &[Record]) -> Option<(
     }
 }
 
-/// Leaves out the first record of a list.
+/// Drops the first record of a list.
 fn pass<'a>(lefts: &mut [&'a [Record]], k: usize)
     requires { k < length lefts.old }
     ensures { lists_behind lefts.new ≡ without (lists_behind lefts.old) k }
@@ -105,7 +105,7 @@ impl Iterator for Walk<'_> {
 
     ghost remaining = { item_count rest_of };
 
-    /// The next record in the order of the journal. None exactly when all were given.
+    /// The next record in the order of the journal; None exactly when all have been given.
     fn next(&mut self) -> Option<Record> {
         take(self.lefts.as_mut_slice())
     }

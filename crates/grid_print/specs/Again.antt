@@ -12,7 +12,7 @@ use Rattle.tile_map.specs.Plane.{MapValue, IsMap, tiles_of}
 use Rattle.grid_print.specs.OneReport.{IsWord}
 use Rattle.grid_print.specs.Report.{AreNamed, report}
 
--- names of types
+-- each is the name of a type
 abbrev pub AreFormed : List (List ℕ) → Type 0
 AreFormed names = All (λ n. is_type_name n ≡ true) names
 

@@ -38,7 +38,7 @@ name_of names kind = slice_index_or names (kind - 1) []
 abbrev pub atom_fields : List (List ℕ) → Shown → List (List ℕ)
 atom_fields names s = decimal s.x ∷ decimal s.y ∷ name_of names s.atom.kind ∷ hex 18 s.atom.state ∷ []
 
--- how many atoms there are, and one line for each
+-- the number of atoms, and a line for each
 abbrev pub atom_lines : List (List ℕ) → List Shown → List (List (List ℕ))
 atom_lines names atoms = count_fields (codes "atoms") (length atoms) ∷ map (atom_fields names) atoms
 

@@ -1,13 +1,13 @@
-//! What holds of reports that are read again.
+//! A law on reports that are read again.
 ghost use Rattle.grid_print.specs.Again.{AreFormed, AreReadAgain, IsDrawablePlan};
 
 use draw_stream::AttemptPlan;
 use feast_base::Name;
 use tile_map::Map;
 
-/// What holds of the report of every run of a plan, with these names of types: read with the map
-/// and the plan it says the events and the abandoned attempts that the run left. The call does
-/// nothing: its contract is the law.
+/// The report of any run of a plan, printed with these names of types and read with the map and the
+/// plan, says the events and the abandoned attempts that the run left. The call does nothing: its
+/// contract is the law.
 pub fn reads_again(map: &Map, plan: &AttemptPlan, names: &[Name])
     requires names { AreFormed names.now }
     requires plan { IsDrawablePlan map.now plan.now }

@@ -9,8 +9,8 @@ use feast_base::{Sink, SinkFailed};
 /// How many bytes each piece but the last has.
 const PIECE: usize = 4096;
 
-/// Puts a piece of 4,096 bytes, or of 1 to 4,096 if it is the last one: `rest` is what comes after
-/// it.
+/// Puts a piece of 4,096 bytes, or of 1 to 4,096 if it is the last one. What comes after it is
+/// `rest`.
 fn put_piece<K: Sink>(sink: &mut K, piece: &[u8], rest: &[u8]) -> Result<(), SinkFailed>
     requires room { K.faults sink.old < 2 ^ 64 - 1 }
     requires some { 1 ≤ length piece.now }

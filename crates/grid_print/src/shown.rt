@@ -73,9 +73,9 @@ fn push_atoms(out: &mut Vec<u8>, names: &[Name], width: u32, atoms: &[Atom]) -> 
     Ok(())
 }
 
-/// Appends how many atoms of a grid are not empty, and a line for each of them in row order. Each
-/// atom is empty or its type has a name: type numbers count the names from 1. `NoMemory` if `out`
-/// can't grow.
+/// Appends the number of atoms of a grid that are not empty, and a line for each of them in row
+/// order. Each atom is empty or its type has a name: type numbers count the names from 1.
+/// `NoMemory` if `out` can't grow.
 pub fn atoms(grid: &Grid, names: &[Name], out: &mut Vec<u8>) -> Result<(), NoMemory>
     requires { AreNamed names.now grid.now.atoms }
     ensures { Appends out.old.items out.new.items result (atoms_text names.now grid.now) }

@@ -1,4 +1,4 @@
-//! What holds of reports as texts.
+//! Laws on reports as texts.
 ghost use Rattle.std.specs.Prelude.{◌≡◌, All, length};
 ghost use Rattle.bit_field.specs.Atom.{IsAtom};
 ghost use Rattle.event_journal.specs.Logs.{abandoned_in, records_in};
@@ -98,10 +98,10 @@ fn is_reported(grid: &Grid, journal: &Journal, names: &[Name])
     let _abandoned = journal.abandoned_len();
 }
 
-/// What holds of any two reports with these names, no two of which are the same: if they are equal
-/// as texts, they show the same atoms, so that grids of one size are the same, and have the same
-/// events and the same abandoned attempts. What `write_report` takes with these names makes such a
-/// report. The call does nothing: its contract is the law.
+/// If two reports with these names are equal as texts, they show the same atoms, so that grids of
+/// one size are the same, and they have the same events and the same abandoned attempts. No two of
+/// the names are the same. What `write_report` takes with these names makes such a report. The call
+/// does nothing: its contract is the law.
 pub fn one_report(grid: &Grid, journal: &Journal, names: &[Name])
     requires named { AreNamed names.now grid.now.atoms }
     requires names { AreTypeNames names.now }

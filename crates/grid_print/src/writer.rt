@@ -15,8 +15,8 @@ use std::alloc::Global;
 use text_lines::{Field, push_line};
 
 /// The text of a grid alone, with which a report begins: the line `feast 1`, and the atoms as
-/// `atoms` prints them. Each atom is empty or its type has a name: type numbers count the names from
-/// 1. `NoMemory` if there is none for the text.
+/// `atoms` prints them. Each atom is empty or its type has a name: type numbers count the names
+/// from 1. `NoMemory` if there is none for the text.
 pub fn grid_text(alloc: Global, grid: &Grid, names: &[Name]) -> Result<Vec<u8>, NoMemory>
     requires { AreNamed names.now grid.now.atoms }
     ensures { IfOk result (λ v. v.items ≡ codes "feast 1\n" ++ atoms_text names.now grid.now) }
@@ -28,8 +28,8 @@ pub fn grid_text(alloc: Global, grid: &Grid, names: &[Name]) -> Result<Vec<u8>, 
 }
 
 /// The text of the report that shows a grid, these events and these abandoned attempts. Each atom
-/// is empty or its type has a name: type numbers count the names from 1. `NoMemory` if there is none
-/// for the text.
+/// is empty or its type has a name: type numbers count the names from 1. `NoMemory` if there is
+/// none for the text.
 pub fn report_text(
     alloc: Global,
     grid: &Grid,

@@ -13,7 +13,7 @@ pub record IsPlanOf (m : MapValue) (plan : PlanValue) : Type 0 where
   pub on : (t : ℕ) → 0 < length (attempts plan t) → is_on m t ≡ true
   pub centres : (t : ℕ) → All (λ (a : Attempt). a.centre < m.w * m.h) (attempts plan t)
 
--- the events of a tile, and the attempts that it gave up
+-- the events of a tile, and the attempts that it abandoned
 abbrev pub of_tile : ℕ → List Record → List Record
 of_tile t records = filter (λ (r : Record). r.tile == t) records
 
@@ -28,12 +28,12 @@ is_at m t centre x y = (site_in m t centre).x == x && (site_in m t centre).y == 
 abbrev pub is_event : MapValue → ℕ → Attempt → Record → Bool
 is_event m t a r = is_at m t a.centre r.x r.y && a.seed == r.seed
 
--- whether the first of those that the tile gave up is attempt i, and the rest passes too
+-- whether the first abandoned attempt is attempt i, and the rest passes too
 abbrev pub next_abandoned : MapValue → ℕ → ℕ → Attempt → List Abandoned → (List Abandoned → Bool) → Bool
 next_abandoned m t i a [] rest = false
 next_abandoned m t i a (g ∷ gs) rest = (g.attempt == i && is_at m t a.centre g.x g.y) && rest gs
 
--- whether attempt i is the tile's next event or else the next that it gave up, and the rest passes too
+-- whether attempt i is the tile's next event, or else its next abandoned attempt, and the rest passes too
 abbrev pub next_entry : MapValue → ℕ → ℕ → Attempt → List Record → List Abandoned → (List Record → List Abandoned → Bool) → Bool
 next_entry m t i a [] gs rest = next_abandoned m t i a gs (rest [])
 next_entry m t i a (r ∷ rs) gs rest = if r.attempt == i then is_event m t a r && rest rs gs else next_abandoned m t i a gs (rest (r ∷ rs))
@@ -43,7 +43,7 @@ are_none [] [] = true
 are_none [] (g ∷ gs) = false
 are_none (r ∷ rs) gs = false
 
--- whether the events and what was given up are a tile's attempts from number i on, each once, and nothing else
+-- whether the events and the abandoned attempts are a tile's attempts from number i on, each once, and nothing else
 unfoldable pub are_entries : MapValue → ℕ → ℕ → List Attempt → List Record → List Abandoned → Bool
 are_entries m t i [] rs gs = are_none rs gs
 are_entries m t i (a ∷ more) rs gs = next_entry m t i a rs gs (are_entries m t (i + 1) more)

@@ -5,7 +5,7 @@ use Rattle.cell_grid.specs.declared.record.Record.{Record}
 use Rattle.event_journal.specs.declared.abandoned.Abandoned.{Abandoned}
 use Rattle.journal_check.specs.Entries.{abandoned_by, of_tile}
 
--- events of which the first is one of the tile
+-- there are no events, or the first is one of the tile's
 abbrev pub IsFirstOf : ℕ → List Record → Type 0
 IsFirstOf t [] = Unit {0}
 IsFirstOf t (r ∷ rs) = r.tile ≡ t

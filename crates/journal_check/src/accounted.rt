@@ -47,7 +47,7 @@ fn are_sorted(abandoned: &[Abandoned]) -> bool
     true
 }
 
-/// Whether the events are of the first n tiles.
+/// Whether the events are of tiles below this number.
 fn are_of_tiles(records: &[Record], tiles: u32) -> bool
     ensures { Decides result (All (λ (r : Record). r.tile < tiles) records.now) }
 {
@@ -59,7 +59,7 @@ fn are_of_tiles(records: &[Record], tiles: u32) -> bool
     true
 }
 
-/// Whether the abandoned attempts are of the first n tiles.
+/// Whether the abandoned attempts are of tiles below this number.
 fn are_abandoned_by_tiles(abandoned: &[Abandoned], tiles: u32) -> bool
     ensures { Decides result (All (λ (g : Abandoned). g.tile < tiles) abandoned.now) }
 {

@@ -12,7 +12,7 @@ use draw_stream::{Attempt, Attempts};
 use event_journal::Abandoned;
 use tile_map::Map;
 
-/// The events from the next one of a tile on.
+/// The events from the tile's next one on.
 fn from_next<'a>(records: &'a [Record], tile: u32) -> &'a [Record]
     ensures same { of_tile tile result.now ≡ of_tile tile records.entry.now }
     ensures first { IsFirstOf tile result.now }
@@ -27,7 +27,7 @@ fn from_next<'a>(records: &'a [Record], tile: u32) -> &'a [Record]
     left
 }
 
-/// The abandoned attempts from the next one of a tile on.
+/// The abandoned attempts from the tile's next one on.
 fn from_next_abandoned<'a>(abandoned: &'a [Abandoned], tile: u32) -> &'a [Abandoned]
     ensures same { abandoned_by tile result.now ≡ abandoned_by tile abandoned.entry.now }
     ensures first { IsFirstAbandoned tile result.now }
@@ -51,7 +51,7 @@ fn is_at(map: &Map, tile: u32, centre: u32, x: u32, y: u32) -> bool
     map.site_of(tile, centre) == (x, y)
 }
 
-/// Whether an event is one of an attempt of a tile.
+/// Whether an event is that of an attempt of a tile, by its site and its seed.
 fn is_event(map: &Map, tile: u32, attempt: &Attempt, entry: &Record) -> bool
     requires tile { tile < tiles_of map.now }
     requires centre { attempt.now.centre < map.now.w * map.now.h }
@@ -60,8 +60,9 @@ fn is_event(map: &Map, tile: u32, attempt: &Attempt, entry: &Record) -> bool
     is_at(map, tile, attempt.centre, entry.x, entry.y) && attempt.seed == entry.seed
 }
 
-/// The events and the abandoned attempts of a tile after those of an attempt, if the next that the
-/// tile gave up is the attempt of this number. The first of both lists are of the tile.
+/// The events and the abandoned attempts that come after the entry of an attempt, if the next one
+/// that the tile gave up is the attempt of this number. Each list is empty or begins with an entry
+/// of the tile.
 fn passed_abandoned<'a>(
     map: &Map,
     tile: u32,
@@ -88,8 +89,9 @@ fn passed_abandoned<'a>(
     }
 }
 
-/// The events and the abandoned attempts of a tile after those of an attempt, if its number is that
-/// of the tile's next event, or else of the next that the tile gave up, and that entry is right.
+/// The events and the abandoned attempts that come after the entry of an attempt, if the tile's
+/// next event has its number, or else the next attempt that the tile gave up, and that entry is
+/// right.
 fn passed<'a>(
     map: &Map,
     tile: u32,
@@ -117,7 +119,7 @@ fn passed<'a>(
     }
 }
 
-/// Whether some events and abandoned attempts have none of a tile.
+/// Whether neither the events nor the abandoned attempts have one of a tile.
 fn are_none(tile: u32, records: &[Record], abandoned: &[Abandoned]) -> bool
     ensures { result ≡ are_none (of_tile tile records.now) (abandoned_by tile abandoned.now) }
 {

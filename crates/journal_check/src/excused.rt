@@ -22,7 +22,7 @@ use feast_base::NoMemory;
 use std::alloc::Global;
 use tile_map::Map;
 
-/// How many marks are of attempts before one.
+/// How many marks are of attempts before this one.
 fn behind(marks: &[Mark], attempt: u128) -> usize
     requires { AreRising marks.now }
     ensures { IsSplit marks.now attempt result }
@@ -30,8 +30,8 @@ fn behind(marks: &[Mark], attempt: u128) -> usize
     marks.partition_point(|mark| u128::from(mark.attempt) < attempt)
 }
 
-/// Whether each of the first marks before an attempt has a smaller stamp than each of the second
-/// from another attempt on.
+/// Whether each of the first marks before the attempt `below` has a smaller stamp than each of the
+/// second from the attempt `from` on.
 fn are_apart(first: &[Mark], below: u128, second: &[Mark], from: u128) -> bool
     requires first { AreRising first.now }
     requires second { AreRising second.now }
@@ -72,7 +72,7 @@ fn earlier(abandoned: &[Abandoned], tile: u32, attempt: u64) -> usize
     })
 }
 
-/// The abandoned attempt that is this one of a tile.
+/// The abandoned attempt of this tile and number, if there is one.
 fn find(abandoned: &[Abandoned], tile: u32, attempt: u64) -> Option<Abandoned>
     requires { AllPairs ComesBefore abandoned.now }
     ensures { MatchOption result (IsMissing abandoned.now tile attempt) (IsFound abandoned.now tile attempt) }
@@ -108,7 +108,7 @@ fn needs_edge(map: &Map, tile: u32, x: u32, y: u32, edge: u32) -> bool
     false
 }
 
-/// Whether an edge is one between two tiles.
+/// Whether an edge joins two tiles.
 fn joins(map: &Map, edge: u32, tile: u32, holder: u32) -> bool
     requires { edge < length (pairs_of map.now) }
     ensures joins { Decides result (Joins map.now edge tile holder) }
@@ -118,8 +118,8 @@ fn joins(map: &Map, edge: u32, tile: u32, holder: u32) -> bool
     (lower == tile && higher == holder) || (lower == holder && higher == tile)
 }
 
-/// Whether the attempt that held the edge is among its tile's marks, or was itself given up at a
-/// greater edge and needs this one.
+/// Whether the attempt that held the edge is among the marks of its tile, or was itself given up at
+/// a greater edge and needs this one.
 fn was_held(map: &Map, marks: &[Mark], abandoned: &[Abandoned], entry: &Abandoned) -> bool
     requires rising { AreRising marks.now }
     requires sorted { AllPairs ComesBefore abandoned.now }

@@ -54,7 +54,7 @@ impl Marks {
     }
 }
 
-/// This many lists without a mark.
+/// This many lists, each without a mark.
 fn no_marks(alloc: Global, count: usize) -> Result<Vec<Marks>, NoMemory>
     ensures { IfOk result (λ v. v.items ≡ replicate count []) }
 {
@@ -87,8 +87,8 @@ fn add(
     Ok(())
 }
 
-/// For each edge and each tile the marks of its events. Those of edge e and tile t are at e times
-/// the number of tiles, plus t.
+/// For each edge and each tile the marks of the tile's events that need the edge. Those of edge e
+/// and tile t are at position e times the number of tiles, plus t.
 pub(crate) fn marks_of(alloc: Global, map: &Map, records: &[Record]) -> Result<Vec<Marks>, NoMemory>
     requires { All (IsInside map.now) records.now }
     ensures { IfOk result (λ v. AreMarks map.now records.now v.items) }

@@ -47,7 +47,7 @@ pub record Holds (s : JudgedWorld) (records : List Record) (abandoned : List Aba
 abbrev pub own_report : JudgedWorld → List Record → List Abandoned → List ℕ
 own_report s records abandoned = report s.names (replay s.meaning s.start records) records abandoned
 
--- a judgement is right
+-- what a judgement says is right
 abbrev pub Judges : JudgedWorld → List ℕ → List Record → List Abandoned → Judgement → Type 0
 Judges s bytes records abandoned Yes = Holds s records abandoned × (bytes ≡ own_report s records abandoned)
 Judges s bytes records abandoned NoAccounted = ¬ (IsAccounted s.map s.plan records abandoned)

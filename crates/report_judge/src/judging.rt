@@ -49,7 +49,7 @@ fn are_same(first: &[u8], second: &[u8]) -> bool
     first == second
 }
 
-/// Whether some bytes are the report of a grid, events and abandoned attempts.
+/// Whether bytes are the report of a grid, events and abandoned attempts.
 fn is_report(
     alloc: Global,
     bytes: &[u8],
@@ -67,10 +67,10 @@ fn is_report(
 
 /// Judges the bytes of a report that has these events and abandoned attempts: whether each attempt
 /// of the plan is accounted for, each event has its stamp and each abandoned attempt is excused,
-/// and whether the bytes are the report of them over the grid that the events make of the start.
-/// The answer is the first of these that does not hold, with the line in the report. The plan is
-/// one of the map, the start is a grid of its plane, and the types of the atoms that the events
-/// leave have names. `NoMemory` if there is none for the audit or for printing the report again.
+/// and whether the bytes are their report over the grid that the events make of the start. The
+/// answer is the first of these that does not hold, with its line in the report. The plan is one of
+/// the map, the start is a grid of its plane, and the types of the atoms that the events leave have
+/// names. `NoMemory` if there is none for the audit or for printing the report again.
 pub fn judge<B: Behave>(
     alloc: Global,
     map: &Map,
