@@ -156,7 +156,7 @@ impl Grid {
     }
 
     /// The index of site `n` of the window at `(x, y)`, if that site is in the plane and live.
-    fn place(&self, x: u32, y: u32, n: u8) -> Option<usize>
+    fn place_of(&self, x: u32, y: u32, n: u8) -> Option<usize>
         requires column { x < self.now.width }
         requires row { y < self.now.height }
         requires n_in { n ≤ 40 }
@@ -198,7 +198,7 @@ impl Grid {
     {
         let mut places = [None; 41];
         for n in 0..41u8 {
-            places[n as usize] = self.place(x, y, n);
+            places[n as usize] = self.place_of(x, y, n);
         }
         places
     }

@@ -2,7 +2,7 @@ use Rattle.std.proofs.Common.{rules, ◌≡◌, Some, sym, ◌∙◌}
 use Rattle.window_sites.specs.Sites.{shifted, offset_of}
 use Rattle.tile_map.specs.Plane.{site}
 use Rattle.border_cache.proofs.Covered.{shared_place}
-use Rattle.border_cache.proofs.places.place.Goals as goal
+use Rattle.border_cache.proofs.places.place_in.Goals as goal
 
 pub returns : goal.returns
 returns c =
