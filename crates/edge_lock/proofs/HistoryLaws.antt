@@ -8,7 +8,7 @@ use native.Mathlib.Decide.{ℕ_discrete}
 use Rattle.edge_lock.specs.declared.history.Access.{Access}
 use Rattle.edge_lock.specs.declared.history.Access.TheVariants.{Read, Write}
 use Rattle.edge_lock.specs.declared.history.Hold.{Hold}
-use Rattle.edge_lock.specs.History.{own, trace, written, value, value_after, found_value, open_hold, IsHistory}
+use Rattle.edge_lock.specs.History.{own, trace, written, register_value, value_after, found_value, open_hold, IsHistory}
 use Rattle.edge_lock.specs.EndLists.{is_last_open, last_shown}
 use Rattle.edge_lock.proofs.LastHolds.{written-append, open_hold-snoc}
 use Rattle.edge_lock.proofs.SharedHolds.{holder}
@@ -48,13 +48,13 @@ trace-append [] gs = refl
 trace-append (h ∷ hs) gs = ap (λ l. h.accesses ++ l) (trace-append hs gs) ∙ sym (append_assoc h.accesses (trace hs) (trace gs))
 
 -- what a hold finds in a register is that register's value as the hold begins
-pub finds : {n : ℕ} (before : List Hold) (h : Hold) (after : List Hold) (r v : ℕ) → IsHistory n (before ++ h ∷ after) → found_value h.accesses r ≡ Some v → v ≡ value before r
+pub finds : {n : ℕ} (before : List Hold) (h : Hold) (after : List Hold) (r v : ℕ) → IsHistory n (before ++ h ∷ after) → found_value h.accesses r ≡ Some v → v ≡ register_value before r
 finds before h after r v i e =
     let f = first_read h.accesses r v e in
     let whole : trace (before ++ h ∷ after) ≡ (trace before ++ f.first) ++ Read r v ∷ (f.rest ++ trace after) =
     trace-append before (h ∷ after) ∙ (ap (λ l. trace before ++ (l ++ trace after)) f.is
     ∙ (ap (λ l. trace before ++ l) (append_assoc f.first (Read r v ∷ f.rest) (trace after)) ∙ sym (append_assoc (trace before) f.first (Read r v ∷ (f.rest ++ trace after))))) in
-    i.reads (trace before ++ f.first) r v (f.rest ++ trace after) whole ∙ (written-append (trace before) f.first r 0 ∙ unwritten r f.first (value before r) f.no_write)
+    i.reads (trace before ++ f.first) r v (f.rest ++ trace after) whole ∙ (written-append (trace before) f.first r 0 ∙ unwritten r f.first (register_value before r) f.no_write)
 
 -- the same of the hold at a position: the registers as it begins are those after the holds before it
 pub finds_at : {n : ℕ} (hs : List Hold) (k : ℕ) (d : Hold) (r v : ℕ) → IsHistory n hs → k < length hs → found_value (get_or hs k d).accesses r ≡ Some v → v ≡ value_after hs k r

@@ -9,7 +9,7 @@ use mathlib.Core.Logic.{dite}
 use native.Mathlib.Decide.{ℕ_discrete}
 use Rattle.edge_lock.specs.declared.history.Access.TheVariants.{Read, Write}
 use Rattle.edge_lock.specs.declared.history.Hold.{Hold}
-use Rattle.edge_lock.specs.History.{own, value, open_hold}
+use Rattle.edge_lock.specs.History.{own, register_value, open_hold}
 use Rattle.edge_lock.specs.EndLists.{is_last_open, change_last, new_hold, with_access, closed_hold, IsFree}
 use Rattle.edge_lock.specs.PlainEdges.{PlainEdgeValue, own_lists}
 use Rattle.edge_lock.specs.PlainBoard.{PlainBoardValue, no_edge, edge_at, size_of, sizes_of_board, untouched_edge, end_on, lists_on, Call, tries, reads, writes, gives, MayCall, tried_at, effect_of, Moved, stays, goes}
@@ -80,7 +80,7 @@ module _ (e : ℕ) (x : PlainEdgeValue) (t : Seen) where
 
   called : (call : Call) → MayCall e call x → GoesFrom (e, effect_of e call x) t → GoesFrom (e, x) t
   called (tries a) can g = tried_one a (open_hold x.holds) can.0 g
-  called (reads r) can g = changed_one (with_access (Read r (value x.holds r))) (effect_of e (reads r) x) refl (λ h. refl) (λ h. refl) can.0 g
+  called (reads r) can g = changed_one (with_access (Read r (register_value x.holds r))) (effect_of e (reads r) x) refl (λ h. refl) (λ h. refl) can.0 g
   called (writes r v) can g = changed_one (with_access (Write r v)) (effect_of e (writes r v) x) refl (λ h. refl) (λ h. refl) can.0 g
   called gives can g = given_one (effect_of e gives x) refl can g
 

@@ -14,11 +14,11 @@ use Rattle.edge_lock.specs.declared.history.Access.TheVariants.{Read, Write}
 use Rattle.edge_lock.specs.declared.history.Hold.{Hold}
 use Rattle.edge_lock.specs.declared.history.Refusal.{Refusal}
 use Rattle.edge_lock.specs.declared.edge_steps.View.TheVariants.{Paired}
-use Rattle.edge_lock.specs.History.{own, trace, written, value, ReadsTrue, IsAllowed, IsAllowedAccess, OnlyLastOpen, open_hold, key, keys, site_count, IsSide, IsHistory}
+use Rattle.edge_lock.specs.History.{own, trace, written, register_value, ReadsTrue, IsAllowed, IsAllowedAccess, OnlyLastOpen, open_hold, key, keys, site_count, IsSide, IsHistory}
 use Rattle.edge_lock.specs.EndLists.{end_lists, is_last_open, change_last, with_access, closed_hold, last_accesses, last_shown, Shows, known_value, IsHeld}
 use Rattle.edge_lock.specs.SharedRule.{lock_word, IsPart, IsShared, lists_in, Reads, Writes, Gives}
 use Rattle.edge_lock.proofs.LastHolds.{open_hold-snoc, ends_open, change_last-snoc, last_accesses-snoc, none_or_held, trace-snoc, written-append}
-use Rattle.edge_lock.proofs.HistorySteps.{all-cons, all-none, all-tail, all-head, history_accesses, history_ends, keys-change, value-read, value-write, value-ended, own-here, own-there}
+use Rattle.edge_lock.proofs.HistorySteps.{all-cons, all-none, all-tail, all-head, history_accesses, history_ends, keys-change, register_value-read, register_value-write, register_value-ended, own-here, own-there}
 use Rattle.edge_lock.proofs.SharedSteps.{S, M, GoesOn, moved}
 
 abbrev Shut : Hold → Type 0
@@ -121,7 +121,7 @@ module _ (e : ℕ) (mine : List Hold) (rs : List Refusal) (held : is_last_open m
 
   -- the last hold becomes g, the word i becomes n
   turned : (i n : ℕ) (f : Hold → Hold) → i ≢ 2 → key has.h ≡ key (f has.h) → IsHistory (site_count size) (has.past ++ f has.h ∷ []) → get_or (set s.words i n) 1 0 ≡ lock_word (open_hold (has.past ++ f has.h ∷ []))
-      → ((k : ℕ) → k < size → get_or (set s.words i n) (3 + k) 0 ≡ value (has.past ++ f has.h ∷ []) k)
+      → ((k : ℕ) → k < size → get_or (set s.words i n) (3 + k) 0 ≡ register_value (has.past ++ f has.h ∷ []) k)
       → IsShared size (stepped s i n id [] (Paired size e (change_last f mine) rs) keeps)
   turned i n f not_claims same h lock registers =
       let ends : has.h.end ≡ (f has.h).end = ap (λ (k : ℕ × ℕ). k.0) same in
@@ -132,11 +132,11 @@ module _ (e : ℕ) (mine : List Hold) (rs : List Refusal) (held : is_last_open m
   reads_one : (q : ℕ) → q < size → IsShared size (stepped s (3 + q) (get_or s.words (3 + q) 0) id [] (Paired size e (change_last (with_access (Read q (get_or s.words (3 + q) 0))) mine) rs) keeps)
   reads_one q inside =
       let n : ℕ = get_or s.words (3 + q) 0 in let same_words = set-get_or s.words (3 + q) 0 in
-      let found : n ≡ value (has.past ++ has.h ∷ []) q = r.registers q inside ∙ ap (λ l. value l q) has.is in
+      let found : n ≡ register_value (has.past ++ has.h ∷ []) q = r.registers q inside ∙ ap (λ l. register_value l q) has.is in
       turned (3 + q) n (with_access (Read q n)) (λ h. omega arith) refl
-      (history_accesses has.past has.h (Read q n) history (λ p v x. let a : q ≡ p = cc in let b : n ≡ v = cc in sym b ∙ (found ∙ ap (value (has.past ++ has.h ∷ [])) a)) tt)
+      (history_accesses has.past has.h (Read q n) history (λ p v x. let a : q ≡ p = cc in let b : n ≡ v = cc in sym b ∙ (found ∙ ap (register_value (has.past ++ has.h ∷ [])) a)) tt)
       (ap (λ l. get_or l 1 0) same_words ∙ (r.lock ∙ (ap (λ l. lock_word (open_hold l)) has.is ∙ sym (same_word has.past has.h (Read q n)))))
-      (λ k l. ap (λ t. get_or t (3 + k) 0) same_words ∙ (r.registers k l ∙ (ap (λ t. value t k) has.is ∙ sym (value-read has.past has.h q n k))))
+      (λ k l. ap (λ t. get_or t (3 + k) 0) same_words ∙ (r.registers k l ∙ (ap (λ t. register_value t k) has.is ∙ sym (register_value-read has.past has.h q n k))))
 
   writes_one : (q v : ℕ) → q < size → IsAllowed (site_count size) q v → IsShared size (stepped s (3 + q) v id [] (Paired size e (change_last (with_access (Write q v)) mine) rs) keeps)
   writes_one q v inside ok =
@@ -145,21 +145,21 @@ module _ (e : ℕ) (mine : List Hold) (rs : List Refusal) (held : is_last_open m
       (history_accesses has.past has.h (Write q v) history (λ p w x. absurd (cc)) ok)
       (get_or-set_other s.words (3 + q) 1 v 0 (λ h. omega arith) ∙ (r.lock ∙ (ap (λ l. lock_word (open_hold l)) has.is ∙ sym (same_word has.past has.h (Write q v)))))
       (λ k l. dite (ℕ_discrete k q)
-      (λ same. ap (λ y. get_or (set s.words (3 + q) v) (3 + y) 0) same ∙ (get_or-set_same s.words (3 + q) v 0 (omega arith) ∙ (ap (λ b. cond b v (value (has.past ++ has.h ∷ []) k)) (sym (eq-eqb k q same)) ∙ sym (value-write has.past has.h q v k))))
-      (λ apart. get_or-set_other s.words (3 + q) (3 + k) v 0 (λ h. apart (omega arith)) ∙ (r.registers k l ∙ (ap (λ t. value t k) has.is
-      ∙ (ap (λ b. cond b v (value (has.past ++ has.h ∷ []) k)) (sym (ne_eqb k q apart)) ∙ sym (value-write has.past has.h q v k))))))
+      (λ same. ap (λ y. get_or (set s.words (3 + q) v) (3 + y) 0) same ∙ (get_or-set_same s.words (3 + q) v 0 (omega arith) ∙ (ap (λ b. cond b v (register_value (has.past ++ has.h ∷ []) k)) (sym (eq-eqb k q same)) ∙ sym (register_value-write has.past has.h q v k))))
+      (λ apart. get_or-set_other s.words (3 + q) (3 + k) v 0 (λ h. apart (omega arith)) ∙ (r.registers k l ∙ (ap (λ t. register_value t k) has.is
+      ∙ (ap (λ b. cond b v (register_value (has.past ++ has.h ∷ []) k)) (sym (ne_eqb k q apart)) ∙ sym (register_value-write has.past has.h q v k))))))
 
   gives_one : IsShared size (stepped s 1 0 id [] (Paired size e (change_last closed_hold mine) rs) keeps)
   gives_one =
       let long = r.long in
       turned 1 0 closed_hold (λ h. omega arith) refl (history_ends has.past has.h history)
       (get_or-set_same s.words 1 0 0 (omega arith) ∙ ap lock_word (sym (open_hold-snoc has.past (closed_hold has.h))))
-      (λ k l. get_or-set_other s.words 1 (3 + k) 0 0 (λ h. omega arith) ∙ (r.registers k l ∙ (ap (λ t. value t k) has.is ∙ sym (value-ended has.past has.h k))))
+      (λ k l. get_or-set_other s.words 1 (3 + k) 0 0 (λ h. omega arith) ∙ (r.registers k l ∙ (ap (λ t. register_value t k) has.is ∙ sym (register_value-ended has.past has.h k))))
 
   shows_one : (q : ℕ) → q < size → Shows (known_value (end_lists mine rs) q) (get_or s.words (3 + q) 0) × IsAllowed (site_count size) q (get_or s.words (3 + q) 0)
   shows_one q inside =
       let all = trace-snoc has.past has.h in
-      let found : get_or s.words (3 + q) 0 ≡ written (trace has.past ++ has.h.accesses) q 0 = r.registers q inside ∙ (ap (λ l. value l q) has.is ∙ ap (λ t. written t q 0) all) in
+      let found : get_or s.words (3 + q) 0 ≡ written (trace has.past ++ has.h.accesses) q 0 = r.registers q inside ∙ (ap (λ l. register_value l q) has.is ∙ ap (λ t. written t q 0) all) in
       let mine_last : last_accesses mine ≡ has.h.accesses = ap last_accesses has.mine_is ∙ last_accesses-snoc (own e has.past) has.h in (
         subst (λ (x : List Access × ℕ). Shows (last_shown x.0 q None) x.1) (λ i. (sym mine_last i, sym found i)) (shows_value (trace has.past) has.h.accesses q None (subst ReadsTrue all history.reads) tt),
         subst (IsAllowed (site_count size) q) (sym found) (allowed_value (site_count size) q (trace has.past ++ has.h.accesses) 0 (subst (All (IsAllowedAccess (site_count size))) all history.writes) (λ k _ _. refl)),

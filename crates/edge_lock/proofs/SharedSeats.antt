@@ -15,7 +15,7 @@ use Rattle.std.specs.Prelude.{All}
 use Rattle.edge_lock.specs.EndLists.{EndLists, is_last_open, IsFree}
 use Rattle.edge_lock.specs.Passes.{closed_value, holds_in, low_in, high_in, IsClosed}
 use Rattle.edge_lock.proofs.LastHolds.{ends_open, is_held-snoc, keys-snoc, none_or_held}
-use Rattle.edge_lock.specs.History.{own, value, ReadsTrue, open_hold, key, keys, NamesHold, IsEnd, IsAllowedAccess, IsSide, IsHistory}
+use Rattle.edge_lock.specs.History.{own, register_value, ReadsTrue, open_hold, key, keys, NamesHold, IsEnd, IsAllowedAccess, IsSide, IsHistory}
 use Rattle.edge_lock.specs.SharedRule.{claims_of, claims, IsPart, IsShared, Claims, both_of, BecomesWhole, Settles, Tells, low_view, high_view}
 use Rattle.edge_lock.proofs.HistorySteps.{all-none, all-last, own-here}
 use Rattle.edge_lock.proofs.SharedSteps.{S, M}
@@ -176,7 +176,7 @@ shows size slots id q w me all rs qs is inside word = subst (λ m. Allows (IsSha
       keeps,
       tt,
       looked size s r id w v v at refl mine,
-      (refl, ap (λ y. get_or s.words y 0) at_word ∙ (r.registers q inside ∙ (ap (λ h. value h q) (sym mine.1) ∙ ap (value all) back))),
+      (refl, ap (λ y. get_or s.words y 0) at_word ∙ (r.registers q inside ∙ (ap (λ h. register_value h q) (sym mine.1) ∙ ap (register_value all) back))),
     ))
 
 pub opens : (size : ℕ) (words : List ℕ) → words ≡ replicate (3 + size) 0 → IsShared size (opening words [] (First size))

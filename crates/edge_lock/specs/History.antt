@@ -23,12 +23,12 @@ written (Read at value ∷ accesses) register start = written accesses register 
 written (Write at value ∷ accesses) register start = written accesses register (if register == at then value else start)
 
 -- a register after these holds; each is 0 at first
-abbrev pub value : List Hold → ℕ → ℕ
-value holds register = written (trace holds) register 0
+abbrev pub register_value : List Hold → ℕ → ℕ
+register_value holds register = written (trace holds) register 0
 
 -- a register after the first n holds
 abbrev pub value_after : List Hold → ℕ → ℕ → ℕ
-value_after holds count register = value (take count holds) register
+value_after holds count register = register_value (take count holds) register
 
 -- each read gives the last value written to its register before it, or else 0
 abbrev pub ReadsTrue : List Access → Type 0

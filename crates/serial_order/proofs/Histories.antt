@@ -10,7 +10,7 @@ use Rattle.edge_lock.specs.declared.history.Access.TheVariants.{Read, Write}
 use Rattle.edge_lock.specs.declared.history.Hold.{Hold}
 use Rattle.edge_lock.specs.declared.history.Refusal.{Refusal}
 use Rattle.edge_lock.specs.History as edge
-use Rattle.edge_lock.specs.History.{written, found_value, value, trace, own, key, keys, attempts_of, IsRising, IsEnd, IsEdgeHistory}
+use Rattle.edge_lock.specs.History.{written, found_value, register_value, trace, own, key, keys, attempts_of, IsRising, IsEnd, IsEdgeHistory}
 use Rattle.edge_lock.specs.EndLists.{writes_nothing}
 use Rattle.edge_lock.proofs.HistoryLaws.{finds}
 use Rattle.edge_lock.proofs.LastHolds.{written-append}
@@ -87,7 +87,7 @@ trace_append [] hs = refl
 trace_append (g ∷ gs) hs = ap (λ r. g.accesses ++ r) (trace_append gs hs) ∙ sym (append_assoc g.accesses (trace gs) (trace hs))
 
 -- the registers, either way round
-pub values_back : (hs : List Hold) → Snoc hs → (r : ℕ) → values (back hs) r ≡ value hs r
+pub values_back : (hs : List Hold) → Snoc hs → (r : ℕ) → values (back hs) r ≡ register_value hs r
 values_back hs empty r = refl
 values_back _ (snoc gs h t) r =
     ap (λ q. values q r) (back_snoc gs h)

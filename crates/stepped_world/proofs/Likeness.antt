@@ -13,7 +13,7 @@ use Rattle.edge_lock.specs.declared.history.Access.{Access}
 use Rattle.edge_lock.specs.declared.history.Hold.{Hold}
 use Rattle.edge_lock.specs.declared.board.Take.{Take}
 use Rattle.edge_lock.specs.declared.board.Take.TheVariants.{Got, Busy}
-use Rattle.edge_lock.specs.History.{own, value, written, open_hold, IsHistory}
+use Rattle.edge_lock.specs.History.{own, register_value, written, open_hold, IsHistory}
 use Rattle.edge_lock.specs.EndLists.{EndLists, change_last, closed_hold, new_hold, writes_nothing, last_accesses, after_try, after_give, replace_at, hold_of, IsHeld}
 use Rattle.edge_lock.specs.PlainEdges.{PlainEdgeValue, view_of, IsKept, IsAnswer}
 use Rattle.edge_lock.specs.PlainBoard.{PlainBoardValue, edge_at, end_of, is_end, end_on, lists_on, lists_of_tile}
@@ -266,9 +266,9 @@ module _ {B : Type 0} (after : B → WindowValue → ℕ → WindowValue) (m : M
             let two : writes_nothing (w.cells.more d) ≡ true = (w.cells.reads d h).silent in
             let holds = added (r.clocks.more d) (w.cells.more d) d o (twice r.clocks.more w.cells.more r.between d (r.clocks.adds.lists d) (w.cells.adds.lists d)) in
             let i = k.edges d lt in
-            let clock : written ((o.hold.accesses ++ r.clocks.more d) ++ w.cells.more d) 0 (value o.past 0) ≡ (s.edge d).clock =
-            written_more o.hold.accesses (r.clocks.more d) (w.cells.more d) (value o.past 0)
-            ∙ (quiet (w.cells.more d) 0 _ two ∙ (quiet (r.clocks.more d) 0 _ one ∙ (sym (value_snoc o.past o.hold 0) ∙ (ap (λ hs. value hs 0) (sym o.holds) ∙ i.clock)))) in
+            let clock : written ((o.hold.accesses ++ r.clocks.more d) ++ w.cells.more d) 0 (register_value o.past 0) ≡ (s.edge d).clock =
+            written_more o.hold.accesses (r.clocks.more d) (w.cells.more d) (register_value o.past 0)
+            ∙ (quiet (w.cells.more d) 0 _ two ∙ (quiet (r.clocks.more d) 0 _ one ∙ (sym (value_snoc o.past o.hold 0) ∙ (ap (λ hs. register_value hs 0) (sym o.holds) ∙ i.clock)))) in
             turned_edge m d (s.edge d).clock o.past o.hold (with_all (w.cells.more d) (with_all (r.clocks.more d) o.hold)) (edge_at b d).holds (edge_at c d).holds (s.edge d) o.holds holds o.is_open refl refl refl clock i
 
     -- the tile is worn out, or its edges have the clocks that they had
@@ -315,8 +315,8 @@ module _ {B : Type 0} (after : B → WindowValue → ℕ → WindowValue) (m : M
         let o = open_at b d (kept d lt) (held_here d h) in
         let r = writing.1.2 in
         let read = r.is d h in
-        let found : value (o.past ++ o.hold ∷ []) 0 ≡ r.clock d = found_clock o.past o.hold (r.clock d) (r.reads d) (subst (IsHistory _) o.holds (kept d lt).holds) (accesses_are d h o ∙ read) (r.refresh d h).silent in
-        ap clock_in read ∙ (sym found ∙ (ap (λ hs. value hs 0) (sym o.holds) ∙ (k.edges d lt).clock))
+        let found : register_value (o.past ++ o.hold ∷ []) 0 ≡ r.clock d = found_clock o.past o.hold (r.clock d) (r.reads d) (subst (IsHistory _) o.holds (kept d lt).holds) (accesses_are d h o ∙ read) (r.refresh d h).silent in
+        ap clock_in read ∙ (sym found ∙ (ap (λ hs. register_value hs 0) (sym o.holds) ∙ (k.edges d lt).clock))
 
     stamp_is : x.0.event_stamp ≡ next_stamp m t (hand_in x.0) s
     stamp_is = writing.1.3.stamp ∙ ap (λ n. 1 + n)
@@ -330,8 +330,8 @@ module _ {B : Type 0} (after : B → WindowValue → ℕ → WindowValue) (m : M
         go true h =
             let o = open_at b d (kept d lt) (held_here d h) in
             let holds = added (w.publishes.more d) (w.stamps.more d) d o (twice w.publishes.more w.stamps.more w.between d (w.publishes.adds.lists d) (w.stamps.adds.lists d)) in
-            let clock : written ((o.hold.accesses ++ w.publishes.more d) ++ w.stamps.more d) 0 (value o.past 0) ≡ x.0.event_stamp =
-            written_more o.hold.accesses (w.publishes.more d) (w.stamps.more d) (value o.past 0) ∙ ap (λ xs. written xs 0 (written (w.publishes.more d) 0 (written o.hold.accesses 0 (value o.past 0)))) (w.stamps.is d h) in
+            let clock : written ((o.hold.accesses ++ w.publishes.more d) ++ w.stamps.more d) 0 (register_value o.past 0) ≡ x.0.event_stamp =
+            written_more o.hold.accesses (w.publishes.more d) (w.stamps.more d) (register_value o.past 0) ∙ ap (λ xs. written xs 0 (written (w.publishes.more d) 0 (written o.hold.accesses 0 (register_value o.past 0)))) (w.stamps.is d h) in
             turned_edge m d x.0.event_stamp o.past o.hold (with_all (w.stamps.more d) (with_all (w.publishes.more d) o.hold)) (edge_at b d).holds (edge_at c d).holds (s.edge d) o.holds holds o.is_open refl refl refl clock (k.edges d lt)
 
     wrote : Writes m x.0 y.0 (lists_on b) (lists_on c) → Aim y.0 (step m g.meaning t s)

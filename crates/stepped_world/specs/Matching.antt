@@ -3,7 +3,7 @@ use Rattle.std.specs.Prelude.{ℕ, ◌≡◌, ◌<◌, ◌-◌, List, Option, So
 use Rattle.tile_map.specs.Plane.{MapValue}
 use Rattle.tile_map.specs.Edges.{pairs_of, low_end, high_end}
 use Rattle.edge_lock.specs.declared.history.Hold.{Hold}
-use Rattle.edge_lock.specs.History.{value, open_hold}
+use Rattle.edge_lock.specs.History.{register_value, open_hold}
 use Rattle.edge_lock.specs.PlainBoard.{PlainBoardValue, edge_at}
 use Rattle.tile_core.specs.declared.phase.Phase.{Phase}
 use Rattle.tile_core.specs.declared.phase.Phase.TheVariants.{Draw, Lock, Refresh, Behave, Write, Give, Back, Finished, Worn}
@@ -40,7 +40,7 @@ who m e (Some hold) = Some (if hold.end == 0 then low_end m e else high_end m e,
 
 -- an edge with these holds is as the machine has it: its register 0 is the clock, and its open hold is the holder's
 pub record IsEdgeIn (m : MapValue) (e : ℕ) (holds : List Hold) (state : EdgeState) : Type 0 where
-  pub clock : value holds 0 ≡ state.clock
+  pub clock : register_value holds 0 ≡ state.clock
   pub holder : who m e (open_hold holds) ≡ state.holder
 
 -- all tiles and all edges are as the machine has them, and so are the tiles' entries
