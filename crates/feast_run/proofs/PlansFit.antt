@@ -20,9 +20,9 @@ use Rattle.grid_print.specs.Again.{IsPlanOf}
 use Rattle.grid_print.specs.OneReport.{IsWord}
 use Rattle.tile_map.specs.Plane.{MapValue}
 use Rattle.window_sites.specs.Window.{WindowValue}
-use Rattle.world_grid.proofs.Valid.{world_valid}
-use Rattle.world_grid.specs.Start.{bare_grid, count_of as sites_of, start_grid, with_placed}
-use Rattle.world_grid.specs.Worlds.{IsWorld}
+use Rattle.world_runs.proofs.Valid.{world_valid}
+use Rattle.world_runs.specs.Start.{bare_grid, count_of as sites_of, start_grid, with_placed}
+use Rattle.world_runs.specs.Worlds.{IsWorld}
 use Rattle.world_text.specs.Drafts.{DraftValue, IsDraft}
 use Rattle.world_text.specs.Named.{WorldValue, name_fault, plan_by, unless, world_of}
 use Rattle.world_text.specs.Printed.{IsNamed}
