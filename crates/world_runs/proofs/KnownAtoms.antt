@@ -12,8 +12,9 @@ use Rattle.cell_grid.specs.Grid.{GridValue, atom_left, event, place_of, put_wind
 use Rattle.cell_grid.specs.Records.{replay}
 use Rattle.tile_map.specs.Plane.{MapValue}
 use Rattle.cell_grid.specs.Known.{BringsNone, IsKnown, ShowsKnown}
+use Rattle.serial_order.specs.BlankGrid.{blank_grid, count_of}
 use Rattle.world_runs.specs.Known.{ArePlacedKnown}
-use Rattle.world_runs.specs.Start.{bare_grid, count_of, start_grid, with_placed}
+use Rattle.world_runs.specs.Start.{start_grid, with_placed}
 use Rattle.world_text.specs.declared.world.Placed.{Placed}
 
 -- the atom at any place, also at none
@@ -55,5 +56,5 @@ placed_known n g (p ∷ ps) known all =
     placed_known n (with_placed g p) ps (All-tail (λ (p : Placed). (1 ≤ p.atom.kind) × (p.atom.kind ≤ n)) p ps known) (All-set (IsKnown n) g.atoms (p.y * g.width + p.x) p.atom (inr one) all)
 
 pub start_known : (n : ℕ) (m : MapValue) (ps : List Placed) → ArePlacedKnown n ps → All (IsKnown n) (start_grid m ps).atoms
-unfolding bare_grid
-start_known n m ps known = placed_known n (bare_grid m) ps known (All-replicate (IsKnown n) (count_of m) empty_atom (inl refl))
+unfolding blank_grid
+start_known n m ps known = placed_known n (blank_grid m) ps known (All-replicate (IsKnown n) (count_of m) empty_atom (inl refl))

@@ -1,8 +1,8 @@
 pub mod Alone
 mod Beginning
-pub mod Blank
 mod Drawing
 mod Given
 pub mod Journals
 pub mod KnownAtoms
+pub mod Placing
 pub mod Valid

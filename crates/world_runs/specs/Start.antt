@@ -1,27 +1,9 @@
 -- The flat grid with which the run of a world starts.
-use Rattle.std.specs.Prelude.{ℕ, ◌*◌, ◌/◌, ◌%◌, List, map, fold, replicate}
-use Rattle.std.specs.List.{range_with_len}
-use Rattle.bit_field.specs.Atom.{empty_atom}
+use Rattle.std.specs.Prelude.{List, fold}
 use Rattle.cell_grid.specs.Grid.{GridValue, with_site}
-use Rattle.tile_map.specs.Plane.{MapValue, Site, site, is_live}
+use Rattle.serial_order.specs.BlankGrid.{blank_grid}
+use Rattle.tile_map.specs.Plane.{MapValue}
 use Rattle.world_text.specs.declared.world.Placed.{Placed}
-
--- how many sites a plane has
-abbrev pub count_of : MapValue → ℕ
-count_of m = m.tx * m.w * (m.ty * m.h)
-
--- the site at a place in row order
-abbrev pub site_at : MapValue → ℕ → Site
-site_at m i = site (i % (m.tx * m.w)) (i / (m.tx * m.w))
-
--- a plane of empty sites, which are live where their tile is on
-unfoldable pub bare_grid : MapValue → GridValue
-bare_grid m = record {
-  width = m.tx * m.w;
-  height = m.ty * m.h;
-  atoms = replicate (count_of m) empty_atom;
-  live = map (λ i. is_live m (site_at m i)) (range_with_len 0 (count_of m));
-}
 
 -- the grid with one atom more
 abbrev pub with_placed : GridValue → Placed → GridValue
@@ -29,4 +11,4 @@ with_placed g p = with_site g p.x p.y p.atom
 
 -- the flat grid of a world's atoms
 abbrev pub start_grid : MapValue → List Placed → GridValue
-start_grid m atoms = fold with_placed (bare_grid m) atoms
+start_grid m atoms = fold with_placed (blank_grid m) atoms

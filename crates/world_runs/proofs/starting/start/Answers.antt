@@ -1,10 +1,10 @@
 use Rattle.std.proofs.Common.{◌≡◌, ◌<◌, ◌∙◌, List, ap, arith, fold, get_or, length, subst, sym}
 use Rattle.border_cache.specs.Copies.{IsGridOf}
 use Rattle.cell_grid.specs.Grid.{GridValue}
-use Rattle.serial_order.specs.Outcomes.{IsBlank}
+use Rattle.serial_order.specs.BlankGrid.{blank_grid}
 use Rattle.tile_map.specs.Plane.{MapValue, plane_of}
 use Rattle.world_runs.specs.Start.{with_placed}
-use Rattle.world_runs.proofs.Blank.{blank_is, fits_placed, placed_more}
+use Rattle.world_runs.proofs.Placing.{fits_placed, placed_more}
 use Rattle.world_text.specs.declared.world.Placed.{Placed}
 use Rattle.world_runs.proofs.starting.start.Goals as goal
 
@@ -12,10 +12,10 @@ pub loop-placed-init : goal.loop-placed-init
 loop-placed-init c =
     let w = c.args.world.now in
     let m = plane_of w.tx w.ty w.w w.h w.off.items in
-    let blank = subst (λ (n : MapValue). IsBlank n c.in_ok-grid.grid) c.in_ok-map.ensures c.in_ok-grid.ensures in
+    let blank : c.in_ok-grid.grid ≡ blank_grid m = c.in_ok-grid.ensures.grid ∙ ap blank_grid c.in_ok-map.ensures in
     record {
-      rest = ap (λ (g : GridValue). fold with_placed g w.atoms.items) (blank_is m c.requires.map c.in_ok-grid.grid blank);
-      fits = blank.fits;
+      rest = ap (λ (g : GridValue). fold with_placed g w.atoms.items) blank;
+      fits = subst (λ (n : MapValue). IsGridOf n c.in_ok-grid.grid) c.in_ok-map.ensures c.in_ok-grid.ensures.fits.1;
     }
 
 pub loop-placed-preserved : goal.loop-placed-preserved
