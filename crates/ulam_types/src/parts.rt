@@ -43,14 +43,14 @@ fn left(alloc: Global, scope: &Scope, raw: &Left) -> Result<(typed::Left, Ty), T
 }
 
 /// A value for a type. `place` is the place of what it is assigned to.
-fn value(
+fn value_for(
     alloc: Global,
     scope: &Scope,
     place: Place,
     ty: Ty,
     raw: &Expr,
 ) -> Result<typed::Expr, TypeFault>
-    ensures { Gives typed_expr result (walk.value (scope_view scope.now) place ty (resolved_expr raw.now)) }
+    ensures { Gives typed_expr result (walk.value_for (scope_view scope.now) place ty (resolved_expr raw.now)) }
 {
     let found = expr(alloc, scope, taken(ty), raw)?;
     if assignable(scope, ty, found.ty) {
@@ -94,11 +94,11 @@ fn maybe_value(
     ty: Ty,
     raw: &Option<Expr>,
 ) -> Result<Option<typed::Expr>, TypeFault>
-    ensures { Gives (option_map typed_expr) result (walk.maybe (walk.value (scope_view scope.now) place ty) (option_map resolved_expr raw.now)) }
+    ensures { Gives (option_map typed_expr) result (walk.maybe (walk.value_for (scope_view scope.now) place ty) (option_map resolved_expr raw.now)) }
 {
     match raw {
         None => Ok(None),
-        Some(raw) => Ok(Some(value(alloc, scope, place, ty, raw)?)),
+        Some(raw) => Ok(Some(value_for(alloc, scope, place, ty, raw)?)),
     }
 }
 
@@ -114,7 +114,7 @@ fn assigned(
     ensures { Gives typed_expr result (walk.assigned (scope_view scope.now) place ty op (resolved_expr raw.now)) }
 {
     match op {
-        None => value(alloc, scope, place, ty, raw),
+        None => value_for(alloc, scope, place, ty, raw),
         Some(op) => {
             let found = expr(alloc, scope, taken(ty), raw)?;
             let sum = pair_row(place, op, plain(raw), ty, found.ty)?;
