@@ -1,10 +1,10 @@
 -- From what a call comes to say to how it ends.
-use Rattle.std.proofs.Common.{ℕ, List, Option, Some, None, sym, subst, inl, inr, ◌⊎◌}
+use Rattle.std.proofs.Common.{ℕ, List, Option, Some, None, sym, subst, inl, inr, ◌⊎◌, Result, Ok, Err}
 use Rattle.feast_base.specs.Outside.{Stock, Told}
 use Rattle.feast_run.specs.Answer.{form_answer}
 use Rattle.feast_run.specs.Ending.{ComesTo, Ends, Leaves, Missed, PutWith, Wants}
 use Rattle.feast_run.specs.Forms.{FormValue}
-use Rattle.feast_run.specs.Outcomes.{Outcome, passes, refuses, misses}
+use Rattle.feast_run.specs.Halting.{HaltValue, misses, refuses}
 use Rattle.feast_run.specs.Tellings.{Keeps}
 use Rattle.feast_run.specs.declared.status.Status.{Status}
 
@@ -13,10 +13,10 @@ wants_of : (form : Option FormValue) (old new : Stock) (status : Status) (text :
 wants_of None old new status text comes = comes.leaves
 wants_of (Some f) old new status text comes = by_outcome comes.outcome comes.comes comes.leaves
   where
-    by_outcome : (o : Outcome (List ℕ)) → form_answer old.files f o → Leaves old new o → Keeps old new ⊎ Missed (form_answer old.files f) old new
-    by_outcome (passes t) h k = inl k
-    by_outcome (refuses r) h k = inl k
-    by_outcome (misses w) h k = inr (record { word = w; comes = h; notes = k })
+    by_outcome : (o : Result (List ℕ) HaltValue) → form_answer old.files f o → Leaves old new o → Keeps old new ⊎ Missed (form_answer old.files f) old new
+    by_outcome (Ok t) h k = inl k
+    by_outcome (Err (refuses r)) h k = inl k
+    by_outcome (Err (misses w)) h k = inr (record { word = w; comes = h; notes = k })
 
 -- a call that came to say something, which was written
 pub ends_of : (form : Option FormValue) (old new : Stock) (sink sink' : Told) (right : Status) (text : List ℕ) (status : Status) →

@@ -1,16 +1,16 @@
 -- Over a shelf and a sink in memory that have no reason to fail, no count rises.
-use Rattle.std.proofs.Common.{ℕ, ◌≡◌, ◌≢◌, ◌≤◌, List, [], length, Option, Some, None, inl, inr, ap, ◌∙◌, sym, arith}
+use Rattle.std.proofs.Common.{ℕ, ◌≡◌, ◌≢◌, ◌≤◌, List, [], length, Option, Some, None, inl, inr, ap, ◌∙◌, sym, arith, Result, Ok, Err}
 use Rattle.feast_base.specs.Held.{LoadMayFail, PutMayFail, ShelfHeld, SinkHeld, room_left}
 use Rattle.feast_base.specs.Outside.{Stock, file_of}
 use Rattle.feast_run.proofs.Missing.{noted_of}
 use Rattle.feast_run.specs.Ending.{ComesTo, Ends, status_of, status_of_input}
 use Rattle.feast_run.specs.Forms.{FormValue}
-use Rattle.feast_run.specs.Outcomes.{Outcome, passes, refuses, misses}
+use Rattle.feast_run.specs.Halting.{HaltValue, misses, refuses}
 use Rattle.feast_run.specs.Promises.{IsQuiet, IsWordOf, file_words, stock_held, told_held}
 use Rattle.feast_run.specs.declared.status.Status.{Status}
 use Rattle.feast_run.specs.declared.status.Status.TheVariants as how
-use Rattle.feast_run.specs.declared.stop.Input.{Input}
-use Rattle.feast_run.specs.declared.stop.Input.TheVariants as input
+use Rattle.feast_run.specs.declared.halt.Input.{Input}
+use Rattle.feast_run.specs.declared.halt.Input.TheVariants as input
 
 -- a load that may fail where none is listed and the file is there
 load_not : (shelf : ShelfHeld) (word : List ℕ) → shelf.fail ≡ [] → file_of word shelf.files ≢ None → LoadMayFail shelf word → ⊥
@@ -37,10 +37,10 @@ not_fault input.World e = cc
 not_fault input.Journal e = cc
 not_fault input.Codes e = cc
 
-no_fault : (o : Outcome (List ℕ)) (status : Status) → status ≡ status_of o → status ≡ how.SinkFault → ⊥
-no_fault (passes t) status s e = let x : how.SinkFault ≡ how.Done = sym e ∙ s in cc
-no_fault (refuses r) status s e = not_fault r.input (sym s ∙ e)
-no_fault (misses w) status s e = let x : how.SinkFault ≡ how.Unreadable = sym e ∙ s in cc
+no_fault : (o : Result (List ℕ) HaltValue) (status : Status) → status ≡ status_of o → status ≡ how.SinkFault → ⊥
+no_fault (Ok t) status s e = let x : how.SinkFault ≡ how.Done = sym e ∙ s in cc
+no_fault (Err (refuses r)) status s e = not_fault r.input (sym s ∙ e)
+no_fault (Err (misses w)) status s e = let x : how.SinkFault ≡ how.Unreadable = sym e ∙ s in cc
 
 -- no call comes to say it
 comes_no_fault : (form : Option FormValue) (old new : Stock) (status : Status) (text : List ℕ) → ComesTo form old new status text → status ≡ how.SinkFault → ⊥

@@ -1,16 +1,17 @@
 -- How a call ends.
-use Rattle.std.specs.Prelude.{ℕ, ◌≡◌, List, Option, Some, None, ◌⊎◌}
+use Rattle.std.specs.Prelude.{ℕ, ◌≡◌, List, Option, Some, None, ◌⊎◌, Result, Ok, Err}
 use Rattle.feast_base.specs.Loading.{IsCut, IsPut}
 use Rattle.feast_base.specs.Outside.{Stock, Told}
 use Rattle.feast_base.specs.Refusals.{refusal_line, usage_line, unreadable_line}
 use Rattle.feast_run.specs.Answer.{form_answer}
 use Rattle.feast_run.specs.Forms.{FormValue}
-use Rattle.feast_run.specs.Outcomes.{Stage, Outcome, passes, refuses, misses}
+use Rattle.feast_base.specs.Stages.{Stage}
+use Rattle.feast_run.specs.Halting.{HaltValue, misses, refuses}
 use Rattle.feast_run.specs.Tellings.{Keeps, Notes}
 use Rattle.feast_run.specs.declared.status.Status.{Status}
 use Rattle.feast_run.specs.declared.status.Status.TheVariants as how
-use Rattle.feast_run.specs.declared.stop.Input.{Input}
-use Rattle.feast_run.specs.declared.stop.Input.TheVariants as input
+use Rattle.feast_run.specs.declared.halt.Input.{Input}
+use Rattle.feast_run.specs.declared.halt.Input.TheVariants as input
 
 -- the status of a refusal, by the input that it is about
 abbrev pub status_of_input : Input → Status
@@ -21,24 +22,24 @@ status_of_input input.Journal = how.JournalRefused
 status_of_input input.Codes = how.CodeRefused
 
 -- the status of an outcome, and the text that is written with it
-abbrev pub status_of : Outcome (List ℕ) → Status
-status_of (passes text) = how.Done
-status_of (refuses r) = status_of_input r.input
-status_of (misses word) = how.Unreadable
+abbrev pub status_of : Result (List ℕ) HaltValue → Status
+status_of (Ok text) = how.Done
+status_of (Err (refuses r)) = status_of_input r.input
+status_of (Err (misses word)) = how.Unreadable
 
-abbrev pub text_of : Outcome (List ℕ) → List ℕ
-text_of (passes text) = text
-text_of (refuses r) = refusal_line r.word r.refusal
-text_of (misses word) = unreadable_line word
+abbrev pub text_of : Result (List ℕ) HaltValue → List ℕ
+text_of (Ok text) = text
+text_of (Err (refuses r)) = refusal_line r.word r.refusal
+text_of (Err (misses word)) = unreadable_line word
 
 -- what an outcome leaves on the shelf
-abbrev pub Leaves : Stock → Stock → Outcome (List ℕ) → Type 0
-Leaves old new (passes text) = Keeps old new
-Leaves old new (refuses r) = Keeps old new
-Leaves old new (misses word) = Notes old new word
+abbrev pub Leaves : Stock → Stock → Result (List ℕ) HaltValue → Type 0
+Leaves old new (Ok text) = Keeps old new
+Leaves old new (Err (refuses r)) = Keeps old new
+Leaves old new (Err (misses word)) = Notes old new word
 
 -- what the stages of a form come to say: the status and text of one of their outcomes
-pub record Comes (S : Stage (List ℕ)) (old new : Stock) (status : Status) (text : List ℕ) : Type 0 where
+pub record Comes (S : Stage (List ℕ) HaltValue) (old new : Stock) (status : Status) (text : List ℕ) : Type 0 where
   pub outcome : Outcome (List ℕ)
   pub comes : S outcome
   pub leaves : Leaves old new outcome
@@ -57,9 +58,9 @@ ComesTo None old new status text = IsUsage old new status text
 ComesTo (Some form) old new status text = Comes (form_answer old.files form) old new status text
 
 -- the load of a word failed that the stages may miss
-pub record Missed (S : Stage (List ℕ)) (old new : Stock) : Type 0 where
+pub record Missed (S : Stage (List ℕ) HaltValue) (old new : Stock) : Type 0 where
   pub word : List ℕ
-  pub comes : S (misses word)
+  pub comes : S (Err (misses word))
   pub notes : Notes old new word
 
 -- if memory ran out no name was noted, or one whose load failed

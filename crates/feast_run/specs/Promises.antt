@@ -1,5 +1,5 @@
 -- What a call promises, in the caller's terms. Each follows from how a call ends.
-use Rattle.std.specs.Prelude.{ℕ, ◌≡◌, ◌≢◌, ◌≤◌, length, take, List, [], ◌∷◌, ◌++◌, codes, Option, Some, None, Ok, ◌⊎◌}
+use Rattle.std.specs.Prelude.{ℕ, ◌≡◌, ◌≢◌, ◌≤◌, length, take, List, [], ◌∷◌, ◌++◌, codes, Option, Some, None, Ok, ◌⊎◌, Result, Err}
 use Rattle.cell_grid.specs.Records.{replay as replay_from}
 use Rattle.code_file.specs.Form.{CodesValue, IsFile}
 use Rattle.code_file.specs.Right.{AreRight}
@@ -15,7 +15,7 @@ use Rattle.feast_run.specs.Ending.{ComesTo, status_of}
 use Rattle.feast_run.specs.Forms.{FormValue, check, code, pack, run, step, replay, gen, audit, rewind, steppack, runpack}
 use Rattle.feast_run.specs.Packed.{pack_text}
 use Rattle.feast_run.specs.Generating.{generated_ready, stepped_summary}
-use Rattle.feast_run.specs.Outcomes.{Outcome, passes, refuses, misses}
+use Rattle.feast_run.specs.Halting.{HaltValue, misses, refuses}
 use Rattle.feast_run.specs.Owing.{Reports}
 use Rattle.feast_run.specs.Stepped.{IsSteppedRun, machine_of, stepped_report}
 use Rattle.feast_run.specs.CodeFiles.{code_limit}
@@ -174,29 +174,29 @@ pub record UsageExactly (form : Option FormValue) (status : Status) : Type 0 whe
   pub where_ : form ≡ None → (status ≡ how.Usage) ⊎ ((status ≡ how.SinkFault) ⊎ (status ≡ how.NoMemory))
 
 -- the names that were noted agree with an outcome
-abbrev pub Agrees : List (List ℕ) → List (List ℕ) → Outcome (List ℕ) → Type 0
-Agrees failed failed' (passes text) = failed' ≡ failed
-Agrees failed failed' (refuses r) = failed' ≡ failed
-Agrees failed failed' (misses word) = failed' ≡ failed ++ word ∷ []
+abbrev pub Agrees : List (List ℕ) → List (List ℕ) → Result (List ℕ) HaltValue → Type 0
+Agrees failed failed' (Ok text) = failed' ≡ failed
+Agrees failed failed' (Err (refuses r)) = failed' ≡ failed
+Agrees failed failed' (Err (misses word)) = failed' ≡ failed ++ word ∷ []
 
 -- the line of an outcome that is not a text was appended
-abbrev pub Lines : Told → Told → Outcome (List ℕ) → Type 0
-Lines sink sink' (passes text) = Unit {0}
-Lines sink sink' (refuses r) = Grows sink.written sink'.written (refusal_line r.word r.refusal)
-Lines sink sink' (misses word) = Grows sink.written sink'.written (unreadable_line word)
+abbrev pub Lines : Told → Told → Result (List ℕ) HaltValue → Type 0
+Lines sink sink' (Ok text) = Unit {0}
+Lines sink sink' (Err (refuses r)) = Grows sink.written sink'.written (refusal_line r.word r.refusal)
+Lines sink sink' (Err (misses word)) = Grows sink.written sink'.written (unreadable_line word)
 
 -- if the files are known and the sink's count stays: whatever outcome the stages may have that
 -- agrees with the names noted, the call ends with its status and its line, or runs out of memory;
 -- and words of no form are answered with the forms
 pub record Exactly (form : Option FormValue) (old new : Stock) (sink sink' : Told) (status : Status) : Type 0 where
   pub usage : form ≡ None → sink'.faults ≡ sink.faults → ((status ≡ how.Usage) × Grows sink.written sink'.written usage_line) ⊎ (status ≡ how.NoMemory)
-  pub stages : (files : List File) (f : FormValue) (o : Outcome (List ℕ)) → form ≡ Some f → old.files ≡ Some files → form_answer (Some files) f o →
+  pub stages : (files : List File) (f : FormValue) (o : Result (List ℕ) HaltValue) → form ≡ Some f → old.files ≡ Some files → form_answer (Some files) f o →
       Agrees old.failed new.failed o → sink'.faults ≡ sink.faults → ((status ≡ status_of o) × Lines sink sink' o) ⊎ (status ≡ how.NoMemory)
 
 -- a world whose atoms are of elements with these names, and of which nothing is refused
 pub record IsGoodWorld (files : List File) (word : List ℕ) (names : List (List ℕ)) (world : WorldValue) : Type 0 where
   pub draft : DraftValue
-  pub has_draft : draft_of (Some files) word (passes draft)
+  pub has_draft : draft_of (Some files) word (Ok draft)
   pub has_names : named names draft ≡ Ok world
 
 -- a world with its elements of which nothing is refused
@@ -207,7 +207,7 @@ pub record IsGoodReady {X : Type 0} (elements : X → ElementsValue) (IsTold : X
 
 -- and a report of it
 abbrev pub IsGoodReport : List File → List ℕ → List (List ℕ) → List ℕ → WorldValue → JournalValue → Type 0
-IsGoodReport files word words report world journal = IsGoodReady source_elements (IsSet files words) files word world × journal_of (Some files) report world (passes journal)
+IsGoodReport files word words report world journal = IsGoodReady source_elements (IsSet files words) files word world × journal_of (Some files) report world (Ok journal)
 
 -- files of a form of which nothing is refused
 abbrev pub IsGood : List File → FormValue → Type 0

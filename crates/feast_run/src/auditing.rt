@@ -8,10 +8,10 @@ ghost use Rattle.feast_run.specs.Outputs.{IsWritable, output_text};
 ghost use Rattle.feast_run.specs.Tellings.{Moves, Tells};
 ghost use Rattle.feast_run.specs.Values.{IsReady, journal_value, ready_value};
 
+use crate::halt::Halt;
 use crate::journals::read_loaded;
 use crate::loading::{JOURNAL_LIMIT, load_file};
 use crate::output::Output;
-use crate::stop::Stop;
 use crate::worlds::{Ready, make_ready};
 use event_journal::ReadJournal;
 use feast_base::{NoMemory, Shelf};
@@ -44,7 +44,7 @@ fn audit_loaded<'a>(
     word: &'a str,
     bytes: &[u8],
     ready: &Ready,
-) -> Result<Output, Stop<'a>>
+) -> Result<Output, Halt<'a>>
     requires ready { IsReady ready.now }
     requires short { length bytes.now < 2 ^ 63 }
     ensures tells { Tells output_text (audit_with word.now (ready_value ready.now) bytes.now) result }
@@ -53,7 +53,7 @@ fn audit_loaded<'a>(
     let journal = read_loaded(alloc, word, bytes, &ready.world)?;
     match audit_line(alloc, ready, bytes, &journal) {
         Ok(text) => Ok(Output::Text(text)),
-        Err(NoMemory) => Err(Stop::NoMemory),
+        Err(NoMemory) => Err(Halt::NoMemory),
     }
 }
 
@@ -63,7 +63,7 @@ fn audit_rest<'a, F: Shelf>(
     shelf: &mut F,
     word: &'a str,
     ready: Ready,
-) -> Result<Output, Stop<'a>>
+) -> Result<Output, Halt<'a>>
     requires { IsReady ready }
     ensures files { F.files shelf.new ≡ F.files shelf.old }
     ensures moves { Moves (stock F.files F.failed F.may_fail shelf.old) (stock F.files F.failed F.may_fail shelf.new) result }
@@ -81,7 +81,7 @@ pub fn audit_stages<'a, F: Shelf>(
     world: &'a str,
     report: &'a str,
     words: &'a [String],
-) -> Result<Output, Stop<'a>>
+) -> Result<Output, Halt<'a>>
     requires { length words.now ≤ most_files }
     ensures files { F.files shelf.new ≡ F.files shelf.old }
     ensures moves { Moves (stock F.files F.failed F.may_fail shelf.old) (stock F.files F.failed F.may_fail shelf.new) result }

@@ -11,6 +11,7 @@ mod elements;
 mod form;
 mod generating;
 mod grids;
+mod halt;
 mod in_memory;
 mod journals;
 mod loading;
@@ -23,7 +24,6 @@ mod said;
 mod stages;
 mod status;
 mod stepping;
-mod stop;
 mod top;
 mod worlds;
 

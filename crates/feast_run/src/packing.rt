@@ -9,8 +9,8 @@ ghost use Rattle.feast_run.specs.Packed.{pack_text};
 ghost use Rattle.feast_run.specs.Tellings.{Moves, Tells};
 
 use crate::element_files::load_set;
+use crate::halt::Halt;
 use crate::output::Output;
-use crate::stop::Stop;
 use code_file::write;
 use element_set::ElementSet;
 use feast_base::{NoMemory, Shelf};
@@ -30,7 +30,7 @@ pub fn pack_stages<'a, F: Shelf>(
     alloc: Global,
     shelf: &mut F,
     words: &'a [String],
-) -> Result<Output, Stop<'a>>
+) -> Result<Output, Halt<'a>>
     requires { length words.now ≤ most_files }
     ensures files { F.files shelf.new ≡ F.files shelf.old }
     ensures moves { Moves (stock F.files F.failed F.may_fail shelf.old) (stock F.files F.failed F.may_fail shelf.new) result }
@@ -40,6 +40,6 @@ pub fn pack_stages<'a, F: Shelf>(
     let set = load_set(alloc, shelf, words)?;
     match packed(alloc, &set) {
         Ok(text) => Ok(Output::Text(text)),
-        Err(NoMemory) => Err(Stop::NoMemory),
+        Err(NoMemory) => Err(Halt::NoMemory),
     }
 }

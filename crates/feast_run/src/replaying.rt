@@ -11,9 +11,9 @@ ghost use Rattle.world_grid.specs.Worlds.{IsLiveEvent};
 ghost use Rattle.world_text.specs.Values.{world_value};
 
 use crate::grids::grid_after;
+use crate::halt::Halt;
 use crate::journals::load_journal;
 use crate::output::Output;
-use crate::stop::Stop;
 use crate::worlds::{Ready, make_ready};
 use cell_grid::{Grid, Record};
 use feast_base::{Name, NoMemory, Shelf};
@@ -48,7 +48,7 @@ fn replay_rest<'a, F: Shelf>(
     shelf: &mut F,
     word: &'a str,
     ready: Ready,
-) -> Result<Output, Stop<'a>>
+) -> Result<Output, Halt<'a>>
     requires { IsReady ready }
     ensures files { F.files shelf.new ≡ F.files shelf.old }
     ensures moves { Moves (stock F.files F.failed F.may_fail shelf.old) (stock F.files F.failed F.may_fail shelf.new) result }
@@ -58,7 +58,7 @@ fn replay_rest<'a, F: Shelf>(
     let journal = load_journal(alloc, shelf, word, &ready.world)?;
     match replay_text(alloc, &ready, journal.records.as_slice()) {
         Ok(text) => Ok(Output::Text(text)),
-        Err(NoMemory) => Err(Stop::NoMemory),
+        Err(NoMemory) => Err(Halt::NoMemory),
     }
 }
 
@@ -69,7 +69,7 @@ pub fn replay_stages<'a, F: Shelf>(
     world: &'a str,
     journal: &'a str,
     words: &'a [String],
-) -> Result<Output, Stop<'a>>
+) -> Result<Output, Halt<'a>>
     requires { length words.now ≤ most_files }
     ensures files { F.files shelf.new ≡ F.files shelf.old }
     ensures moves { Moves (stock F.files F.failed F.may_fail shelf.old) (stock F.files F.failed F.may_fail shelf.new) result }

@@ -15,8 +15,8 @@ ghost use Rattle.world_text.specs.Values.{world_value};
 
 use crate::acting::{actors, tiles_in};
 use crate::grids::grid_after;
+use crate::halt::Halt;
 use crate::output::{Left, Output};
-use crate::stop::Stop;
 use crate::worlds::{Ready, make_packed, make_ready};
 use event_journal::Journal;
 use feast_base::{Gate, NoMemory, Shelf};
@@ -116,14 +116,14 @@ pub fn run_rest<'a, R: Threads + Sync, G: Gate>(
     alloc: Global,
     ready: Ready,
     gate: &G,
-) -> Result<Output, Stop<'a>>
+) -> Result<Output, Halt<'a>>
     requires { IsReady ready }
     ensures tells { Tells output_text (runs (ready_value ready)) result }
     ensures writable { IfOk result IsWritable }
 {
     match ran(rt, alloc, ready, gate) {
         Ok(output) => Ok(output),
-        Err(NoMemory) => Err(Stop::NoMemory),
+        Err(NoMemory) => Err(Halt::NoMemory),
     }
 }
 
@@ -135,7 +135,7 @@ pub fn run_stages<'a, R: Threads + Sync, F: Shelf, G: Gate>(
     world: &'a str,
     words: &'a [String],
     gate: &G,
-) -> Result<Output, Stop<'a>>
+) -> Result<Output, Halt<'a>>
     requires { length words.now ≤ most_files }
     ensures files { F.files shelf.new ≡ F.files shelf.old }
     ensures moves { Moves (stock F.files F.failed F.may_fail shelf.old) (stock F.files F.failed F.may_fail shelf.new) result }
@@ -154,7 +154,7 @@ pub fn runpack_stages<'a, R: Threads + Sync, F: Shelf, G: Gate>(
     world: &'a str,
     code: &'a str,
     gate: &G,
-) -> Result<Output, Stop<'a>>
+) -> Result<Output, Halt<'a>>
     ensures files { F.files shelf.new ≡ F.files shelf.old }
     ensures moves { Moves (stock F.files F.failed F.may_fail shelf.old) (stock F.files F.failed F.may_fail shelf.new) result }
     ensures tells { Tells output_text (form_answer (F.files shelf.old) (runpack world.now code.now)) result }

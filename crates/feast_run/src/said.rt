@@ -9,10 +9,10 @@ ghost use Rattle.feast_run.specs.Outputs.{IsWritable, output_text};
 
 use crate::Status;
 use crate::form::{Form, read_form};
+use crate::halt::{Halt, Input};
 use crate::loading::{UNREADABLE, USAGE, whole_file};
 use crate::output::Output;
 use crate::stages::form_stages;
-use crate::stop::{Input, Stop};
 use feast_base::{Gate, NoMemory, Refusal, Shelf, print_refusal};
 use std::alloc::Global;
 use std::thread::Threads;
@@ -71,14 +71,14 @@ fn said_form<R: Threads + Sync, F: Shelf, G: Gate>(
             status: Status::Done,
             output,
         }),
-        Err(Stop::Refused(r)) => refuse(alloc, status_of(r.input), r.word, &r.refusal),
-        Err(Stop::Missing(word)) => refuse(
+        Err(Halt::Refused(r)) => refuse(alloc, status_of(r.input), r.word, &r.refusal),
+        Err(Halt::Missing(word)) => refuse(
             alloc,
             Status::Unreadable,
             word,
             &whole_file(UNREADABLE, 0),
         ),
-        Err(Stop::NoMemory) => Err(NoMemory),
+        Err(Halt::NoMemory) => Err(NoMemory),
     }
 }
 

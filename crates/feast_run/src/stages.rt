@@ -10,13 +10,13 @@ use crate::auditing::audit_stages;
 use crate::element_files::load_set;
 use crate::form::Form;
 use crate::generating::gen_stages;
+use crate::halt::Halt;
 use crate::output::Output;
 use crate::packing::pack_stages;
 use crate::replaying::replay_stages;
 use crate::rewinding::rewind_stages;
 use crate::running::{run_stages, runpack_stages};
 use crate::stepping::{step_stages, steppack_stages};
-use crate::stop::Stop;
 use feast_base::{Gate, NoMemory, Shelf};
 use std::alloc::Global;
 use std::thread::Threads;
@@ -26,7 +26,7 @@ fn check_stages<'a, F: Shelf>(
     alloc: Global,
     shelf: &mut F,
     words: &'a [String],
-) -> Result<Output, Stop<'a>>
+) -> Result<Output, Halt<'a>>
     requires { length words.now ≤ most_files }
     ensures files { F.files shelf.new ≡ F.files shelf.old }
     ensures moves { Moves (stock F.files F.failed F.may_fail shelf.old) (stock F.files F.failed F.may_fail shelf.new) result }
@@ -37,7 +37,7 @@ fn check_stages<'a, F: Shelf>(
     let mut text = Vec::new(alloc);
     match set.print_check(&mut text) {
         Ok(()) => Ok(Output::Text(text)),
-        Err(NoMemory) => Err(Stop::NoMemory),
+        Err(NoMemory) => Err(Halt::NoMemory),
     }
 }
 
@@ -46,7 +46,7 @@ fn code_stages<'a, F: Shelf>(
     alloc: Global,
     shelf: &mut F,
     words: &'a [String],
-) -> Result<Output, Stop<'a>>
+) -> Result<Output, Halt<'a>>
     requires { length words.now ≤ most_files }
     ensures files { F.files shelf.new ≡ F.files shelf.old }
     ensures moves { Moves (stock F.files F.failed F.may_fail shelf.old) (stock F.files F.failed F.may_fail shelf.new) result }
@@ -57,7 +57,7 @@ fn code_stages<'a, F: Shelf>(
     let mut text = Vec::new(alloc);
     match set.print_code(&mut text) {
         Ok(()) => Ok(Output::Text(text)),
-        Err(NoMemory) => Err(Stop::NoMemory),
+        Err(NoMemory) => Err(Halt::NoMemory),
     }
 }
 
@@ -68,7 +68,7 @@ pub fn form_stages<'a, R: Threads + Sync, F: Shelf, G: Gate>(
     shelf: &mut F,
     form: Form<'a>,
     gate: &G,
-) -> Result<Output, Stop<'a>>
+) -> Result<Output, Halt<'a>>
     requires { IsFew form }
     ensures files { F.files shelf.new ≡ F.files shelf.old }
     ensures moves { Moves (stock F.files F.failed F.may_fail shelf.old) (stock F.files F.failed F.may_fail shelf.new) result }

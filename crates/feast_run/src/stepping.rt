@@ -9,8 +9,8 @@ ghost use Rattle.feast_run.specs.Tellings.{Moves, Tells};
 ghost use Rattle.feast_run.specs.Values.{IsReady, ready_value};
 
 use crate::acting::{actors, tiles_in};
+use crate::halt::Halt;
 use crate::output::{Left, Output};
-use crate::stop::Stop;
 use crate::worlds::{Ready, make_packed, make_ready};
 use feast_base::{NoMemory, Shelf};
 use serial_order::Outcome;
@@ -44,14 +44,14 @@ fn stepped_left(alloc: Global, ready: Ready) -> Result<Output, NoMemory>
 }
 
 /// The stage of a stepped run itself.
-fn step_rest<'a>(alloc: Global, ready: Ready) -> Result<Output, Stop<'a>>
+fn step_rest<'a>(alloc: Global, ready: Ready) -> Result<Output, Halt<'a>>
     requires { IsReady ready }
     ensures tells { Tells output_text (steps (ready_value ready)) result }
     ensures writable { IfOk result IsWritable }
 {
     match stepped_left(alloc, ready) {
         Ok(output) => Ok(output),
-        Err(NoMemory) => Err(Stop::NoMemory),
+        Err(NoMemory) => Err(Halt::NoMemory),
     }
 }
 
@@ -61,7 +61,7 @@ pub fn step_stages<'a, F: Shelf>(
     shelf: &mut F,
     world: &'a str,
     words: &'a [String],
-) -> Result<Output, Stop<'a>>
+) -> Result<Output, Halt<'a>>
     requires { length words.now ≤ most_files }
     ensures files { F.files shelf.new ≡ F.files shelf.old }
     ensures moves { Moves (stock F.files F.failed F.may_fail shelf.old) (stock F.files F.failed F.may_fail shelf.new) result }
@@ -78,7 +78,7 @@ pub fn steppack_stages<'a, F: Shelf>(
     shelf: &mut F,
     world: &'a str,
     code: &'a str,
-) -> Result<Output, Stop<'a>>
+) -> Result<Output, Halt<'a>>
     ensures files { F.files shelf.new ≡ F.files shelf.old }
     ensures moves { Moves (stock F.files F.failed F.may_fail shelf.old) (stock F.files F.failed F.may_fail shelf.new) result }
     ensures tells { Tells output_text (form_answer (F.files shelf.old) (steppack world.now code.now)) result }

@@ -27,7 +27,7 @@ pub struct Refused<'a> {
 
 /// Why a stage of a call goes no further.
 #[derive(Clone, Copy)]
-pub enum Stop<'a> {
+pub enum Halt<'a> {
     /// An input is refused.
     Refused(Refused<'a>),
     /// The load of this word failed.
