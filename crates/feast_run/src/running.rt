@@ -16,7 +16,7 @@ ghost use Rattle.world_text.specs.Values.{world_value};
 use crate::acting::{actors, tiles_in};
 use crate::grids::grid_after;
 use crate::halt::Halt;
-use crate::output::{Left, Output};
+use crate::output::{FinishedRun, Output};
 use crate::worlds::{Ready, make_packed, make_ready};
 use event_journal::Journal;
 use feast_base::{Gate, NoMemory, Shelf};
@@ -50,7 +50,7 @@ fn ran_alone<G: Gate>(alloc: Global, ready: Ready, gate: &G) -> Result<Output, N
 {
     let journal = journal_of(alloc, &ready, gate)?;
     let grid = grid_after(alloc, &ready, journal.log(0).records())?;
-    Ok(Output::Report(Left {
+    Ok(Output::Report(FinishedRun {
         grid,
         journal,
         ready,
@@ -85,7 +85,7 @@ fn ran_together<R: Threads + Sync, G: Gate>(
 {
     let outcome = outcome(rt, alloc, &ready, gate)?;
     let Outcome { grid, journal } = outcome;
-    Ok(Output::Report(Left {
+    Ok(Output::Report(FinishedRun {
         grid,
         journal,
         ready,

@@ -10,7 +10,7 @@ ghost use Rattle.feast_run.specs.Values.{IsReady, ready_value};
 
 use crate::acting::{actors, tiles_in};
 use crate::halt::Halt;
-use crate::output::{Left, Output};
+use crate::output::{FinishedRun, Output};
 use crate::worlds::{Ready, make_packed, make_ready};
 use feast_base::{NoMemory, Shelf};
 use serial_order::Outcome;
@@ -28,7 +28,7 @@ fn outcome(alloc: Global, ready: &Ready) -> Result<Outcome, NoMemory>
 }
 
 /// What a stepped run leaves.
-fn stepped_left(alloc: Global, ready: Ready) -> Result<Output, NoMemory>
+fn ran_stepped(alloc: Global, ready: Ready) -> Result<Output, NoMemory>
     requires { IsReady ready }
     ensures run { IfOk result (λ _. IsSteppedRun (ready_value ready)) }
     ensures text { IfOk result (λ o. output_text o ≡ stepped_report (ready_value ready)) }
@@ -36,7 +36,7 @@ fn stepped_left(alloc: Global, ready: Ready) -> Result<Output, NoMemory>
 {
     let outcome = outcome(alloc, &ready)?;
     let Outcome { grid, journal } = outcome;
-    Ok(Output::Report(Left {
+    Ok(Output::Report(FinishedRun {
         grid,
         journal,
         ready,
@@ -49,7 +49,7 @@ fn step_rest<'a>(alloc: Global, ready: Ready) -> Result<Output, Halt<'a>>
     ensures tells { Tells output_text (steps (ready_value ready)) result }
     ensures writable { IfOk result IsWritable }
 {
-    match stepped_left(alloc, ready) {
+    match ran_stepped(alloc, ready) {
         Ok(output) => Ok(output),
         Err(NoMemory) => Err(Halt::NoMemory),
     }

@@ -9,7 +9,7 @@ ghost use Rattle.grid_print.specs.Writing.{Writes};
 
 use crate::Status;
 use crate::output::Output;
-use crate::said::{Said, said_words};
+use crate::reply::{Reply, reply_to_words};
 use feast_base::{Gate, NoMemory, Shelf, Sink, SinkFailed};
 use grid_print::{WriteFault, write_report};
 use std::alloc::Global;
@@ -37,26 +37,26 @@ fn write<K: Sink>(alloc: Global, sink: &mut K, output: &Output) -> Result<(), Wr
 {
     match output {
         Output::Text(text) => put_text(sink, text.as_slice()),
-        Output::Report(left) => {
+        Output::Report(finished) => {
             write_report(
                 alloc,
-                &left.grid,
-                &left.journal,
-                left.ready.elements.names(),
+                &finished.grid,
+                &finished.journal,
+                finished.ready.elements.names(),
                 sink,
             )
         }
     }
 }
 
-/// Writes what is said, and answers its status if it is put whole.
-fn put<K: Sink>(alloc: Global, sink: &mut K, said: &Said) -> Status
+/// Writes a reply, and answers its status if it is put whole.
+fn put<K: Sink>(alloc: Global, sink: &mut K, reply: &Reply) -> Status
     requires room { K.faults sink.old < 2 ^ 64 - 1 }
-    requires writable { IsWritable said.now.output }
-    ensures { PutWith said.now.status (output_text said.now.output) (told K.written K.faults K.may_fail sink.old) (told K.written K.faults K.may_fail sink.new) result }
+    requires writable { IsWritable reply.now.output }
+    ensures { PutWith reply.now.status (output_text reply.now.output) (told K.written K.faults K.may_fail sink.old) (told K.written K.faults K.may_fail sink.new) result }
 {
-    match write(alloc, sink, &said.output) {
-        Ok(()) => said.status,
+    match write(alloc, sink, &reply.output) {
+        Ok(()) => reply.status,
         Err(WriteFault::Sink) => Status::SinkFault,
         Err(WriteFault::NoMemory) => Status::NoMemory,
     }
@@ -77,8 +77,8 @@ fn call<R: Threads + Sync, F: Shelf, K: Sink, G: Gate>(
         (stock F.files F.failed F.may_fail shelf.old) (stock F.files F.failed F.may_fail shelf.new)
         (told K.written K.faults K.may_fail sink.old) (told K.written K.faults K.may_fail sink.new) result }
 {
-    match said_words(rt, alloc, shelf, words, gate) {
-        Ok(said) => put(alloc, sink, &said),
+    match reply_to_words(rt, alloc, shelf, words, gate) {
+        Ok(reply) => put(alloc, sink, &reply),
         Err(NoMemory) => Status::NoMemory,
     }
 }

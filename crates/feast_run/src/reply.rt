@@ -1,4 +1,4 @@
-//! What a call comes to say.
+//! The reply to the words of a call.
 ghost use Rattle.std.specs.Prelude.{◌≡◌, IfOk, MatchResult, Some, map, string_bytes};
 ghost use Rattle.element_set.specs.Sets.{Coded};
 ghost use Rattle.feast_base.specs.Outside.{stock};
@@ -17,9 +17,9 @@ use feast_base::{Gate, NoMemory, Refusal, Shelf, print_refusal};
 use std::alloc::Global;
 use std::thread::Threads;
 
-/// What a call comes to say: a status, and what is written with it.
+/// The reply to a call: a status, and what is written with it.
 #[derive(Drop)]
-pub struct Said {
+pub struct Reply {
     pub status: Status,
     pub output: Output,
 }
@@ -37,37 +37,37 @@ fn status_of(input: Input) -> Status
     }
 }
 
-/// What is said at a refusal: its line.
-fn refuse(alloc: Global, status: Status, word: &str, refusal: &Refusal) -> Result<Said, NoMemory>
+/// The reply to a refusal: its line.
+fn refuse(alloc: Global, status: Status, word: &str, refusal: &Refusal) -> Result<Reply, NoMemory>
     requires { Coded refusal.now.code }
-    ensures line { IfOk result (λ said. (said.status ≡ status) × (output_text said.output ≡ refusal_line word.now refusal.now)) }
-    ensures writable { IfOk result (λ said. IsWritable said.output) }
+    ensures line { IfOk result (λ reply. (reply.status ≡ status) × (output_text reply.output ≡ refusal_line word.now refusal.now)) }
+    ensures writable { IfOk result (λ reply. IsWritable reply.output) }
 {
     let mut text = Vec::new(alloc);
     print_refusal(word, refusal, &mut text)?;
-    Ok(Said {
+    Ok(Reply {
         status,
         output: Output::Text(text),
     })
 }
 
-/// What a form comes to say.
+/// The reply to a form.
 #[tactic(auto, unfolding(feast_base::specs::Refusals::refusal_line))]
-fn said_form<R: Threads + Sync, F: Shelf, G: Gate>(
+fn reply_to_form<R: Threads + Sync, F: Shelf, G: Gate>(
     rt: &R,
     alloc: Global,
     shelf: &mut F,
     form: Form<'_>,
     gate: &G,
-) -> Result<Said, NoMemory>
+) -> Result<Reply, NoMemory>
     requires { IsFew form }
     ensures files { F.files shelf.new ≡ F.files shelf.old }
     ensures says { let old = stock F.files F.failed F.may_fail shelf.old in let new = stock F.files F.failed F.may_fail shelf.new in let form = Some (form_value form.entry) in
-        MatchResult result (λ said. ComesTo form old new said.status (output_text said.output)) (λ _. Wants form old new) }
-    ensures writable { IfOk result (λ said. IsWritable said.output) }
+        MatchResult result (λ reply. ComesTo form old new reply.status (output_text reply.output)) (λ _. Wants form old new) }
+    ensures writable { IfOk result (λ reply. IsWritable reply.output) }
 {
     match form_stages(rt, alloc, shelf, form, gate) {
-        Ok(output) => Ok(Said {
+        Ok(output) => Ok(Reply {
             status: Status::Done,
             output,
         }),
@@ -82,22 +82,22 @@ fn said_form<R: Threads + Sync, F: Shelf, G: Gate>(
     }
 }
 
-/// What words come to say.
+/// The reply to words.
 #[tactic(auto, unfolding(feast_base::specs::Refusals::refusal_line))]
-pub fn said_words<R: Threads + Sync, F: Shelf, G: Gate>(
+pub fn reply_to_words<R: Threads + Sync, F: Shelf, G: Gate>(
     rt: &R,
     alloc: Global,
     shelf: &mut F,
     words: &[String],
     gate: &G,
-) -> Result<Said, NoMemory>
+) -> Result<Reply, NoMemory>
     ensures files { F.files shelf.new ≡ F.files shelf.old }
     ensures says { let old = stock F.files F.failed F.may_fail shelf.old in let new = stock F.files F.failed F.may_fail shelf.new in let form = form_of (map string_bytes words.now) in
-        MatchResult result (λ said. ComesTo form old new said.status (output_text said.output)) (λ _. Wants form old new) }
-    ensures writable { IfOk result (λ said. IsWritable said.output) }
+        MatchResult result (λ reply. ComesTo form old new reply.status (output_text reply.output)) (λ _. Wants form old new) }
+    ensures writable { IfOk result (λ reply. IsWritable reply.output) }
 {
     match read_form(words) {
-        Some(form) => said_form(rt, alloc, shelf, form, gate),
+        Some(form) => reply_to_form(rt, alloc, shelf, form, gate),
         None => refuse(alloc, Status::Usage, "", &whole_file(USAGE, 0)),
     }
 }
