@@ -51,10 +51,8 @@ fn audit_loaded<'a>(
     ensures writable { IfOk result IsWritable }
 {
     let journal = read_loaded(alloc, word, bytes, &ready.world)?;
-    match audit_line(alloc, ready, bytes, &journal) {
-        Ok(text) => Ok(Output::Text(text)),
-        Err(NoMemory) => Err(Halt::NoMemory),
-    }
+    let text = audit_line(alloc, ready, bytes, &journal)?;
+    Ok(Output::Text(text))
 }
 
 /// The stages of an audit from its report on.

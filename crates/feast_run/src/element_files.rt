@@ -9,7 +9,7 @@ ghost use Rattle.feast_run.specs.Tellings.{Moves, Tells};
 use crate::halt::{Halt, Input, Refused};
 use crate::loading::{ELEMENT_LIMIT, load_file};
 use element_set::{BuildFault, ElementSet};
-use feast_base::{NoMemory, Shelf, Source};
+use feast_base::{Shelf, Source};
 use std::alloc::Global;
 
 /// Loads element files, in order.
@@ -27,14 +27,8 @@ fn load_files<'a, F: Shelf>(
     let mut sources = Vec::new(alloc);
     for word in words {
         let bytes = load_file(alloc, shelf, word.as_str(), ELEMENT_LIMIT)?;
-        let source = match Source::new(alloc, word.as_str(), bytes) {
-            Ok(source) => source,
-            Err(NoMemory) => return Err(Halt::NoMemory),
-        };
-        match sources.push(source) {
-            Ok(()) => {}
-            Err(_) => return Err(Halt::NoMemory),
-        }
+        let source = Source::new(alloc, word.as_str(), bytes)?;
+        sources.push(source)?;
     }
     Ok(sources)
 }

@@ -57,8 +57,6 @@ pub fn gen_stages<'a>(alloc: Global, number: u64) -> Result<Output, Halt<'a>>
     ensures tells { Tells output_text (generates number) result }
     ensures writable { IfOk result IsWritable }
 {
-    match summarized(alloc, number) {
-        Ok(text) => Ok(Output::Text(text)),
-        Err(NoMemory) => Err(Halt::NoMemory),
-    }
+    let text = summarized(alloc, number)?;
+    Ok(Output::Text(text))
 }

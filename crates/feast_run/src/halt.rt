@@ -1,6 +1,7 @@
-//! Why a stage of a call goes no further.
+//! Why a stage of a call halts.
 
-use feast_base::Refusal;
+use feast_base::{NoMemory, Refusal};
+use std::alloc::AllocFailed;
 
 /// What a refusal is about; by it the status is chosen with which the call ends.
 #[derive(Clone, Copy, Debug, PartialEq, Eq)]
@@ -25,7 +26,7 @@ pub struct Refused<'a> {
     pub refusal: Refusal,
 }
 
-/// Why a stage of a call goes no further.
+/// Why a stage of a call halts.
 #[derive(Clone, Copy)]
 pub enum Halt<'a> {
     /// An input is refused.
@@ -34,4 +35,26 @@ pub enum Halt<'a> {
     Missing(&'a str),
     /// Memory ran out.
     NoMemory,
+}
+
+impl From<NoMemory> for Halt<'_> {
+    ghost use Rattle.std.specs.Prelude.{◌≡◌};
+    ghost use Rattle.feast_run.specs.declared.halt.Halt.TheVariants.{NoMemory as no_memory};
+
+    ghost from_gives = { λ _ h. h ≡ no_memory };
+
+    fn from(_refused: NoMemory) -> Self {
+        Halt::NoMemory
+    }
+}
+
+impl<T: Drop> From<AllocFailed<T>> for Halt<'_> {
+    ghost use Rattle.std.specs.Prelude.{◌≡◌};
+    ghost use Rattle.feast_run.specs.declared.halt.Halt.TheVariants.{NoMemory as no_memory};
+
+    ghost from_gives = { λ _ h. h ≡ no_memory };
+
+    fn from(_refused: AllocFailed<T>) -> Self {
+        Halt::NoMemory
+    }
 }

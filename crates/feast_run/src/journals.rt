@@ -16,7 +16,7 @@ ghost use Rattle.world_text.specs.Values.{world_value};
 use crate::halt::{Halt, Input, Refused};
 use crate::loading::{JOURNAL_LIMIT, at_line, load_file};
 use event_journal::{JournalFault, ReadJournal, read};
-use feast_base::{NoMemory, Refusal, Shelf};
+use feast_base::{Refusal, Shelf};
 use std::alloc::Global;
 use world_grid::map_of;
 use world_text::World;
@@ -52,10 +52,8 @@ fn read_journal(alloc: Global, bytes: &[u8], world: &World) -> Result<ReadJourna
     requires short { length bytes.now < 2 ^ 63 }
     ensures { ReadsJournal (world_value world.now).plane world.now.plan.lists bytes.now result }
 {
-    match map_of(alloc, world) {
-        Ok(map) => read(alloc, bytes, &map, &world.plan),
-        Err(NoMemory) => Err(JournalFault::NoMemory),
-    }
+    let map = map_of(alloc, world)?;
+    read(alloc, bytes, &map, &world.plan)
 }
 
 /// Reads the journal of a world in the bytes of a report, whose file has this word.

@@ -38,8 +38,6 @@ pub fn pack_stages<'a, F: Shelf>(
     ensures writable { IfOk result IsWritable }
 {
     let set = load_set(alloc, shelf, words)?;
-    match packed(alloc, &set) {
-        Ok(text) => Ok(Output::Text(text)),
-        Err(NoMemory) => Err(Halt::NoMemory),
-    }
+    let text = packed(alloc, &set)?;
+    Ok(Output::Text(text))
 }

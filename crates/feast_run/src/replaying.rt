@@ -56,10 +56,8 @@ fn replay_rest<'a, F: Shelf>(
     ensures writable { IfOk result IsWritable }
 {
     let journal = load_journal(alloc, shelf, word, &ready.world)?;
-    match replay_text(alloc, &ready, journal.records.as_slice()) {
-        Ok(text) => Ok(Output::Text(text)),
-        Err(NoMemory) => Err(Halt::NoMemory),
-    }
+    let text = replay_text(alloc, &ready, journal.records.as_slice())?;
+    Ok(Output::Text(text))
 }
 
 /// The stages of a replay, up to its text.

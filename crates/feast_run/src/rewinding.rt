@@ -74,10 +74,8 @@ fn rewind_kept<'a>(
     ensures tells { Tells output_text (rewinds word.now left (ready_value ready.now) (journal_value journal.now)) result }
     ensures writable { IfOk result IsWritable }
 {
-    match rewind_text(alloc, ready, journal.records.as_slice(), left as usize) {
-        Ok(text) => Ok(Output::Text(text)),
-        Err(NoMemory) => Err(Halt::NoMemory),
-    }
+    let text = rewind_text(alloc, ready, journal.records.as_slice(), left as usize)?;
+    Ok(Output::Text(text))
 }
 
 /// The stages of a rewind after its journal.

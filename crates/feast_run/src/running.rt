@@ -121,10 +121,7 @@ pub fn run_rest<'a, R: Threads + Sync, G: Gate>(
     ensures tells { Tells output_text (runs (ready_value ready)) result }
     ensures writable { IfOk result IsWritable }
 {
-    match ran(rt, alloc, ready, gate) {
-        Ok(output) => Ok(output),
-        Err(NoMemory) => Err(Halt::NoMemory),
-    }
+    Ok(ran(rt, alloc, ready, gate)?)
 }
 
 /// The stages of a run, up to its report.

@@ -17,7 +17,7 @@ use crate::replaying::replay_stages;
 use crate::rewinding::rewind_stages;
 use crate::running::{run_stages, runpack_stages};
 use crate::stepping::{step_stages, steppack_stages};
-use feast_base::{Gate, NoMemory, Shelf};
+use feast_base::{Gate, Shelf};
 use std::alloc::Global;
 use std::thread::Threads;
 
@@ -35,10 +35,8 @@ fn check_stages<'a, F: Shelf>(
 {
     let set = load_set(alloc, shelf, words)?;
     let mut text = Vec::new(alloc);
-    match set.print_check(&mut text) {
-        Ok(()) => Ok(Output::Text(text)),
-        Err(NoMemory) => Err(Halt::NoMemory),
-    }
+    set.print_check(&mut text)?;
+    Ok(Output::Text(text))
 }
 
 /// The stages of the codes of elements, up to their text.
@@ -55,10 +53,8 @@ fn code_stages<'a, F: Shelf>(
 {
     let set = load_set(alloc, shelf, words)?;
     let mut text = Vec::new(alloc);
-    match set.print_code(&mut text) {
-        Ok(()) => Ok(Output::Text(text)),
-        Err(NoMemory) => Err(Halt::NoMemory),
-    }
+    set.print_code(&mut text)?;
+    Ok(Output::Text(text))
 }
 
 /// The stages of a form, up to what it writes.

@@ -49,10 +49,7 @@ fn step_rest<'a>(alloc: Global, ready: Ready) -> Result<Output, Halt<'a>>
     ensures tells { Tells output_text (steps (ready_value ready)) result }
     ensures writable { IfOk result IsWritable }
 {
-    match ran_stepped(alloc, ready) {
-        Ok(output) => Ok(output),
-        Err(NoMemory) => Err(Halt::NoMemory),
-    }
+    Ok(ran_stepped(alloc, ready)?)
 }
 
 /// The stages of a stepped run, up to its report.
