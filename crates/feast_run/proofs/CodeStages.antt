@@ -5,7 +5,7 @@ use Rattle.code_file.proofs.Rightness.{read_right, written_reads}
 use Rattle.code_file.specs.Form.{CodesValue, IsSayable}
 use Rattle.code_file.specs.Judging.{Reads, Tells as TellsCodes}
 use Rattle.code_file.specs.declared.fault.CodeFault.{CodeFault}
-use Rattle.code_file.specs.declared.fault.CodeFault.TheVariants.{BadMagic, BadForm, NotValid, SameName, NoMemory as Want}
+use Rattle.code_file.specs.declared.fault.CodeFault.TheVariants.{BadMagic, BadForm, NotValid, SameName, NoMemory as no_memory}
 use Rattle.element_set.specs.Sets.{Coded}
 use Rattle.feast_base.specs.Outside.{File}
 use Rattle.feast_base.proofs.Stages.{went}
@@ -31,9 +31,9 @@ codes_halt value word bytes BadMagic halt t is = halts_by value word bytes BadMa
 codes_halt value word bytes (BadForm column) halt t is = halts_by value word bytes (BadForm column) 62 column halt t (λ r e. e) is
 codes_halt value word bytes (NotValid column) halt t is = halts_by value word bytes (NotValid column) 63 column halt t (λ r e. e) is
 codes_halt value word bytes (SameName column) halt t is = halts_by value word bytes (SameName column) 64 column halt t (λ r e. e) is
-codes_halt value word bytes Want (Refused s) t is = absurd is
-codes_halt value word bytes Want (Missing v) t is = absurd is
-codes_halt value word bytes Want NoMemory t is = tt
+codes_halt value word bytes no_memory (Refused s) t is = absurd is
+codes_halt value word bytes no_memory (Missing v) t is = absurd is
+codes_halt value word bytes no_memory NoMemory t is = tt
 
 -- bytes have one reading
 refused_one : (word : List ℕ) (fault : CodeFault) (r s : RefusedValue) → IsCodeRefused word fault r → IsCodeRefused word fault s → r ≡ s
@@ -41,7 +41,7 @@ refused_one word BadMagic r s p q = p ∙ sym q
 refused_one word (BadForm column) r s p q = p ∙ sym q
 refused_one word (NotValid column) r s p q = p ∙ sym q
 refused_one word (SameName column) r s p q = p ∙ sym q
-refused_one word Want r s p q = absurd p
+refused_one word no_memory r s p q = absurd p
 
 abbrev read : CodesValue → Result CodesValue CodeFault
 read es = Ok es

@@ -1,6 +1,6 @@
 -- Only file words are noted.
 use Rattle.std.proofs.Common.{ℕ, ◌≡◌, List, [], ◌∷◌, Option, Some, None, refl, inl, inr, ◌⊎◌, Result, Ok, Err}
-use Rattle.feast_base.specs.Outside.{File, Stock, Told}
+use Rattle.feast_base.specs.Outside.{File, ShelfState, SinkState}
 use Rattle.feast_run.proofs.Laws.{then_misses}
 use Rattle.feast_run.specs.Answer.{form_answer}
 use Rattle.feast_run.specs.CodeFiles.{codes_from, ready_packed}
@@ -67,7 +67,7 @@ form_misses files (rewind world report k words) =
 form_misses files (steppack world file) = then_misses _ _ _ (packed_miss files world file) (λ r w h. absurd h)
 form_misses files (runpack world file) = then_misses _ _ _ (packed_miss files world file) (λ r w h. absurd h)
 
-noted_by : (f : FormValue) (old new : Stock) (o : Result (List ℕ) HaltValue) (status : Status) → form_answer old.files f o → Leaves old new o →
+noted_by : (f : FormValue) (old new : ShelfState) (o : Result (List ℕ) HaltValue) (status : Status) → form_answer old.files f o → Leaves old new o →
     ((w : List ℕ) → o ≡ Err (misses w) → (status ≡ how.Unreadable) ⊎ ((status ≡ how.SinkFault) ⊎ (status ≡ how.NoMemory))) → Noted (Some f) old new status
 noted_by f old new (Ok t) status h k s = inl k.failed
 noted_by f old new (Err (refuses r)) status h k s = inl k.failed
@@ -78,15 +78,15 @@ status_at : (o : Result (List ℕ) HaltValue) (status : Status) (w : List ℕ) �
 status_at o status w s e = rw e at s
 
 -- which names are noted, from how a call ends
-pub noted_of : (form : Option FormValue) (old new : Stock) (sink sink' : Told) (status : Status) → Ends form old new sink sink' status → Noted form old new status
+pub noted_of : (form : Option FormValue) (old new : ShelfState) (sink sink' : SinkState) (status : Status) → Ends form old new sink sink' status → Noted form old new status
 noted_of None old new sink sink' status ends =
-    elim ends [ inl whole ↦ inl whole.comes.leaves.failed | inr rest ↦ elim rest [ inl b ↦ inl b.comes.leaves.failed | inr w ↦ inl w.wants.failed ] ]
+    elim ends [ inl whole ↦ inl whole.comes.leaves.failed | inr rest ↦ elim rest [ inl b ↦ inl b.comes.leaves.failed | inr w ↦ inl w.leaves.failed ] ]
 noted_of (Some f) old new sink sink' status ends =
     elim ends [
       | inl whole ↦ noted_by f old new whole.comes.outcome status whole.comes.comes whole.comes.leaves (λ w e. inl (status_at whole.comes.outcome status w whole.comes.status_is e))
       | inr rest ↦ elim rest [
         | inl b ↦ noted_by f old new b.comes.outcome status b.comes.comes b.comes.leaves (λ w e. inr (inl b.status_is))
-        | inr w ↦ elim w.wants [
+        | inr w ↦ elim w.leaves [
           | inl same ↦ inl same.failed
           | inr missed ↦ noted_by f old new (Err (misses missed.word)) status missed.comes missed.notes (λ v e. inr (inr w.status_is))
         ]

@@ -2,7 +2,7 @@
 use Rattle.std.proofs.Common.{ℕ, ◌≡◌, List, [], ◌∷◌, ◌++◌, length, Option, Some, None, refl, sym, ap, subst, ◌∙◌, inl, inr, arith, Result, Ok, Err}
 use Rattle.std.proofs.lemmas.List.{length-append, append_cancel_left}
 use Rattle.element_set.specs.Sets.{SetValue, check_text, code_text}
-use Rattle.feast_base.specs.Outside.{File, Grows, Stock, Told}
+use Rattle.feast_base.specs.Outside.{File, Grows, ShelfState, SinkState}
 use Rattle.feast_base.specs.Refusals.{refusal_line, unreadable_line}
 use Rattle.event_journal.specs.Logs.{abandoned_in, records_in}
 use Rattle.feast_run.proofs.Again.{replays_to}
@@ -190,7 +190,7 @@ no_usage (Ok t) status s e = let x : how.Usage ≡ how.Done = sym e ∙ s in cc
 no_usage (Err (refuses r)) status s e = not_usage r.input (sym s ∙ e)
 no_usage (Err (misses w)) status s e = let x : how.Usage ≡ how.Unreadable = sym e ∙ s in cc
 
-headline_by : (form : Option FormValue) (files : List File) (old new : Stock) (sink sink' : Told) (before : List ℕ) (status : Status) → old.files ≡ Some files → sink.written ≡ Some before →
+headline_by : (form : Option FormValue) (files : List File) (old new : ShelfState) (sink sink' : SinkState) (before : List ℕ) (status : Status) → old.files ≡ Some files → sink.written ≡ Some before →
     Whole form old new sink sink' status → status ≡ how.Done → (f : FormValue) × (form ≡ Some f) × (text : List ℕ) × (sink'.written ≡ Some (before ++ text)) × Shows files f text
 headline_by None files old new sink sink' before status told w h done = let x : how.Usage ≡ how.Done = sym h.comes.status_is ∙ done in cc
 headline_by (Some f) files old new sink sink' before status told w h done =
@@ -203,7 +203,7 @@ headline_by (Some f) files old new sink sink' before status told w h done =
     )
 
 -- the headline, from how a call ends
-pub headline_of : (form : Option FormValue) (old new : Stock) (sink sink' : Told) (status : Status) → Ends form old new sink sink' status → Headline form old sink sink' status
+pub headline_of : (form : Option FormValue) (old new : ShelfState) (sink sink' : SinkState) (status : Status) → Ends form old new sink sink' status → Headline form old sink sink' status
 headline_of form old new sink sink' status ends = λ files before told w done.
     elim ends [
       | inl whole ↦ headline_by form files old new sink sink' before status told w whole done
@@ -214,7 +214,7 @@ headline_of form old new sink sink' status ends = λ files before told w done.
     ]
 
 -- when Usage comes, from how a call ends
-pub usage_of : (form : Option FormValue) (old new : Stock) (sink sink' : Told) (status : Status) → Ends form old new sink sink' status → UsageExactly form status
+pub usage_of : (form : Option FormValue) (old new : ShelfState) (sink sink' : SinkState) (status : Status) → Ends form old new sink sink' status → UsageExactly form status
 usage_of None old new sink sink' status ends = record {
   only = λ e. refl;
   where_ = λ e. elim ends [ inl whole ↦ inl whole.comes.status_is | inr rest ↦ inr (elim rest [ inl b ↦ inl b.status_is | inr w ↦ inr w.status_is ]) ];
@@ -239,7 +239,7 @@ noted_one : (failed : List (List ℕ)) (v w : List ℕ) → failed ++ v ∷ [] �
 noted_one failed v w e = let same = append_cancel_left failed (v ∷ []) (w ∷ []) e in cc
 
 -- what was put is as any outcome says that agrees with the names noted
-told_by : (S : Stage (List ℕ) HaltValue) (old new : Stock) (sink sink' : Told) (status : Status) (text : List ℕ) (a o : Result (List ℕ) HaltValue) → IsSure IsRefusal S → S a → S o →
+told_by : (S : Stage (List ℕ) HaltValue) (old new : ShelfState) (sink sink' : SinkState) (status : Status) (text : List ℕ) (a o : Result (List ℕ) HaltValue) → IsSure IsRefusal S → S a → S o →
     Leaves old new a → Agrees old.failed new.failed o → status ≡ status_of a → text ≡ text_of a → Grows sink.written sink'.written text → (status ≡ status_of o) × Lines sink sink' o
 told_by S old new sink sink' status text (Ok t) (Ok u) sure ha ho k agrees s e g = (s, tt)
 told_by S old new sink sink' status text (Ok t) (Err (refuses r)) sure ha ho k agrees s e g = absurd (sure.apart t (refuses r) tt ha ho)
@@ -256,7 +256,7 @@ told_by S old new sink sink' status text (Err (misses v)) (Err (misses w)) sure 
     (s, subst (λ (z : List ℕ). Grows sink.written sink'.written z) (e ∙ ap unreadable_line one) g)
 
 -- each status exactly where it is due, from how a call ends
-pub exactly_of : (form : Option FormValue) (old new : Stock) (sink sink' : Told) (status : Status) → Ends form old new sink sink' status → Exactly form old new sink sink' status
+pub exactly_of : (form : Option FormValue) (old new : ShelfState) (sink sink' : SinkState) (status : Status) → Ends form old new sink sink' status → Exactly form old new sink sink' status
 exactly_of None old new sink sink' status ends = record {
   usage = λ none same. elim ends [
     | inl whole ↦ inl (whole.comes.status_is, subst (λ (v : List ℕ). Grows sink.written sink'.written v) whole.comes.text_is whole.put.grows)
@@ -276,13 +276,13 @@ exactly_of (Some g) old new sink sink' status ends = record {
   ];
 }
 
-done_of : (S : Stage (List ℕ) HaltValue) (old new : Stock) (o : Result (List ℕ) HaltValue) (status : Status) → Accepts S → S o → Leaves old new o → status ≡ status_of o → new.failed ≡ old.failed → status ≡ how.Done
+done_of : (S : Stage (List ℕ) HaltValue) (old new : ShelfState) (o : Result (List ℕ) HaltValue) (status : Status) → Accepts S → S o → Leaves old new o → status ≡ status_of o → new.failed ≡ old.failed → status ≡ how.Done
 done_of S old new (Ok t) status accepts o k s same = s
 done_of S old new (Err (refuses q)) status accepts o k s same = absurd (accepts q o)
 done_of S old new (Err (misses w)) status accepts o k s same = absurd (not_noted old.failed w (sym k.failed ∙ same))
 
 -- completeness, from how a call ends
-pub complete_of : (form : Option FormValue) (old new : Stock) (sink sink' : Told) (status : Status) → Ends form old new sink sink' status → Complete form old new sink sink' status
+pub complete_of : (form : Option FormValue) (old new : ShelfState) (sink sink' : SinkState) (status : Status) → Ends form old new sink sink' status → Complete form old new sink sink' status
 complete_of None old new sink sink' status ends = λ files f is told good kept same. let x : None ≡ Some f = is in cc
 complete_of (Some g) old new sink sink' status ends = λ files f is told good kept same.
     elim ends [

@@ -1,14 +1,14 @@
 -- From the answers of two calls to that of both.
 use Rattle.std.proofs.Common.{◌≡◌, Result, Ok, Err, ◌∙◌, inl, inr, subst, sym}
 use Rattle.std.specs.Result.{IsErrAnd}
-use Rattle.feast_base.specs.Outside.{Stock}
+use Rattle.feast_base.specs.Outside.{ShelfState}
 use Rattle.feast_base.specs.Stages.{Stage, and_then}
 use Rattle.feast_run.specs.Halting.{HaltValue}
 use Rattle.feast_run.specs.Tellings.{Keeps, Tells}
 use Rattle.feast_run.specs.declared.halt.Halt.{Halt}
 use Rattle.feast_run.specs.declared.halt.Halt.TheVariants.{Refused, Missing, NoMemory}
 
-pub keeps_then : (a b c : Stock) → Keeps a b → Keeps b c → Keeps a c
+pub keeps_then : (a b c : ShelfState) → Keeps a b → Keeps b c → Keeps a c
 keeps_then a b c p q = record { failed = q.failed ∙ p.failed; later = λ n h. p.later n (q.later n h) }
 
 -- a stage that passed, and then the rest

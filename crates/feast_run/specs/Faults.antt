@@ -2,7 +2,7 @@
 use Rattle.std.specs.Prelude.{ℕ, ◌≡◌, List, Option, Some, None}
 use Rattle.event_journal.specs.declared.fault.LineFault.{LineFault}
 use Rattle.code_file.specs.declared.fault.CodeFault.{CodeFault}
-use Rattle.code_file.specs.declared.fault.CodeFault.TheVariants.{BadMagic, BadForm, NotValid, SameName, NoMemory as Want}
+use Rattle.code_file.specs.declared.fault.CodeFault.TheVariants.{BadMagic, BadForm, NotValid, SameName, NoMemory as no_memory}
 use Rattle.feast_run.specs.CodeFiles.{code_refused}
 use Rattle.feast_run.specs.Halting.{RefusedValue}
 use Rattle.feast_run.specs.Stages.{journal_refused, world_refused}
@@ -18,18 +18,18 @@ IsHalt r (Missing word) = ⊥
 IsHalt r NoMemory = ⊥
 
 -- memory ran out
-abbrev pub IsWant : Halt → Type 0
-IsWant (Refused s) = ⊥
-IsWant (Missing word) = ⊥
-IsWant NoMemory = Unit {0}
+abbrev pub IsOutOfMemory : Halt → Type 0
+IsOutOfMemory (Refused s) = ⊥
+IsOutOfMemory (Missing word) = ⊥
+IsOutOfMemory NoMemory = Unit {0}
 
 -- it is the refusal by a fault, or memory ran out
 abbrev pub IsWorldHalt : List ℕ → Option (ℕ × ℕ) → Halt → Type 0
-IsWorldHalt word None halt = IsWant halt
+IsWorldHalt word None halt = IsOutOfMemory halt
 IsWorldHalt word (Some fault) halt = IsHalt (world_refused word fault) halt
 
 abbrev pub IsJournalHalt : List ℕ → Option (ℕ × LineFault) → Halt → Type 0
-IsJournalHalt word None halt = IsWant halt
+IsJournalHalt word None halt = IsOutOfMemory halt
 IsJournalHalt word (Some fault) halt = IsHalt (journal_refused word fault) halt
 
 abbrev pub IsCodeHalt : List ℕ → CodeFault → Halt → Type 0
@@ -37,4 +37,4 @@ IsCodeHalt word BadMagic halt = IsHalt (code_refused word 61 1) halt
 IsCodeHalt word (BadForm column) halt = IsHalt (code_refused word 62 column) halt
 IsCodeHalt word (NotValid column) halt = IsHalt (code_refused word 63 column) halt
 IsCodeHalt word (SameName column) halt = IsHalt (code_refused word 64 column) halt
-IsCodeHalt word Want halt = IsWant halt
+IsCodeHalt word no_memory halt = IsOutOfMemory halt

@@ -6,7 +6,7 @@ use Rattle.code_file.specs.Right.{AreRight}
 use Rattle.element_set.specs.Sets.{SetValue, AcceptsFiles, check_text, code_text, element_names, program_of}
 use Rattle.event_journal.specs.Reading.{read_report}
 use Rattle.feast_base.specs.Held.{LoadMayFail, PutMayFail, ShelfHeld, SinkHeld, room_left}
-use Rattle.feast_base.specs.Outside.{File, Grows, Stock, Told, file_of, stock, told}
+use Rattle.feast_base.specs.Outside.{File, Grows, ShelfState, SinkState, file_of, shelf_state, sink_state}
 use Rattle.feast_base.specs.Refusals.{refusal_line, unreadable_line, usage_line}
 use Rattle.feast_run.specs.Again.{ReplaysTo}
 use Rattle.feast_run.specs.Answer.{form_answer}
@@ -163,7 +163,7 @@ Shows files (runpack world file) appended = RanTold code_elements (IsCodeFile fi
 
 -- the headline: if the shelf reveals its files and the sink what is written, and the status is
 -- Done, this was appended
-abbrev pub Headline : Option FormValue → Stock → Told → Told → Status → Type 0
+abbrev pub Headline : Option FormValue → ShelfState → SinkState → SinkState → Status → Type 0
 Headline form old sink sink' status =
     (files : List File) (before : List ℕ) → old.files ≡ Some files → sink.written ≡ Some before → status ≡ how.Done →
     (f : FormValue) × (form ≡ Some f) × (appended : List ℕ) × (sink'.written ≡ Some (before ++ appended)) × Shows files f appended
@@ -180,7 +180,7 @@ Agrees failed failed' (Err (refuses r)) = failed' ≡ failed
 Agrees failed failed' (Err (misses word)) = failed' ≡ failed ++ word ∷ []
 
 -- the line of an outcome that is not a text was appended
-abbrev pub Lines : Told → Told → Result (List ℕ) HaltValue → Type 0
+abbrev pub Lines : SinkState → SinkState → Result (List ℕ) HaltValue → Type 0
 Lines sink sink' (Ok text) = Unit {0}
 Lines sink sink' (Err (refuses r)) = Grows sink.written sink'.written (refusal_line r.word r.refusal)
 Lines sink sink' (Err (misses word)) = Grows sink.written sink'.written (unreadable_line word)
@@ -188,7 +188,7 @@ Lines sink sink' (Err (misses word)) = Grows sink.written sink'.written (unreada
 -- if the files are known and the sink's count stays: whatever outcome the stages may have that
 -- agrees with the names noted, the call ends with its status and its line, or runs out of memory;
 -- and words of no form are answered with the forms
-pub record Exactly (form : Option FormValue) (old new : Stock) (sink sink' : Told) (status : Status) : Type 0 where
+pub record Exactly (form : Option FormValue) (old new : ShelfState) (sink sink' : SinkState) (status : Status) : Type 0 where
   pub usage : form ≡ None → sink'.faults ≡ sink.faults → ((status ≡ how.Usage) × Grows sink.written sink'.written usage_line) ⊎ (status ≡ how.NoMemory)
   pub stages : (files : List File) (f : FormValue) (o : Result (List ℕ) HaltValue) → form ≡ Some f → old.files ≡ Some files → form_answer (Some files) f o →
       Agrees old.failed new.failed o → sink'.faults ≡ sink.faults → ((status ≡ status_of o) × Lines sink sink' o) ⊎ (status ≡ how.NoMemory)
@@ -224,7 +224,7 @@ IsGood files (steppack world file) = (w : WorldValue) × IsGoodReady code_elemen
 IsGood files (runpack world file) = (w : WorldValue) × IsGoodReady code_elements (IsCodeFile files file) files world w
 
 -- completeness: good files of a form, and counts that stay, give Done, or running out of memory
-abbrev pub Complete : Option FormValue → Stock → Stock → Told → Told → Status → Type 0
+abbrev pub Complete : Option FormValue → ShelfState → ShelfState → SinkState → SinkState → Status → Type 0
 Complete form old new sink sink' status =
     (files : List File) (f : FormValue) → form ≡ Some f → old.files ≡ Some files → IsGood files f →
     new.failed ≡ old.failed → sink'.faults ≡ sink.faults → (status ≡ how.Done) ⊎ (status ≡ how.NoMemory)
@@ -249,7 +249,7 @@ IsWordOf [] word = ⊥
 IsWordOf (w ∷ words) word = (word ≡ w) ⊎ IsWordOf words word
 
 -- one name was noted: a file word of the form, whose load might fail, and the status is one of three
-pub record NotedOne (form : Option FormValue) (old new : Stock) (status : Status) : Type 0 where
+pub record NotedOne (form : Option FormValue) (old new : ShelfState) (status : Status) : Type 0 where
   pub f : FormValue
   pub form_is : form ≡ Some f
   pub word : List ℕ
@@ -259,22 +259,22 @@ pub record NotedOne (form : Option FormValue) (old new : Stock) (status : Status
   pub status_is : (status ≡ how.Unreadable) ⊎ ((status ≡ how.SinkFault) ⊎ (status ≡ how.NoMemory))
 
 -- no name was noted, or one
-abbrev pub Noted : Option FormValue → Stock → Stock → Status → Type 0
+abbrev pub Noted : Option FormValue → ShelfState → ShelfState → Status → Type 0
 Noted form old new status = (new.failed ≡ old.failed) ⊎ NotedOne form old new status
 
 -- what contracts see of a shelf and of a sink in memory, as any shelf's and sink's meanings
-abbrev pub stock_held : ShelfHeld → Stock
-stock_held = stock (λ shelf. Some shelf.files) (λ shelf. shelf.failed) LoadMayFail
+abbrev pub mem_shelf_state : ShelfHeld → ShelfState
+mem_shelf_state = shelf_state (λ shelf. Some shelf.files) (λ shelf. shelf.failed) LoadMayFail
 
-abbrev pub told_held : SinkHeld → Told
-told_held = told (λ sink. Some sink.written) (λ sink. sink.faults) PutMayFail
+abbrev pub mem_sink_state : SinkHeld → SinkState
+mem_sink_state = sink_state (λ sink. Some sink.written) (λ sink. sink.faults) PutMayFail
 
 -- over a shelf and a sink in memory: if no call is listed to fail, each file word has a file and
 -- there is room for whatever text the call comes to, no count rises; so neither SinkFault comes,
 -- nor is a name noted
-abbrev pub IsQuiet : Option FormValue → ShelfHeld → ShelfHeld → SinkHeld → SinkHeld → Status → Type 0
-IsQuiet form shelf shelf' sink sink' status =
+abbrev pub NothingFails : Option FormValue → ShelfHeld → ShelfHeld → SinkHeld → SinkHeld → Status → Type 0
+NothingFails form shelf shelf' sink sink' status =
     shelf.fail ≡ [] → sink.stops ≡ [] →
     ((f : FormValue) (word : List ℕ) → form ≡ Some f → IsWordOf (file_words f) word → file_of word shelf.files ≢ None) →
-    ((right : Status) (text : List ℕ) → ComesTo form (stock_held shelf) (stock_held shelf') right text → length text ≤ room_left sink) →
+    ((right : Status) (text : List ℕ) → ComesTo form (mem_shelf_state shelf) (mem_shelf_state shelf') right text → length text ≤ room_left sink) →
     (shelf'.failed ≡ shelf.failed) × (sink'.faults ≡ sink.faults) × (status ≢ how.SinkFault)

@@ -1,6 +1,6 @@
 //! The stages of an audit.
 ghost use Rattle.std.specs.Prelude.{◌≡◌, ◌<◌, ◌≤◌, ◌^◌, IfOk, length, map, string_bytes};
-ghost use Rattle.feast_base.specs.Outside.{stock};
+ghost use Rattle.feast_base.specs.Outside.{shelf_state};
 ghost use Rattle.feast_run.specs.Answer.{form_answer};
 ghost use Rattle.feast_run.specs.Audited.{Audits, audit_of, audit_with};
 ghost use Rattle.feast_run.specs.Forms.{audit, most_files};
@@ -64,7 +64,7 @@ fn audit_rest<'a, F: Shelf>(
 ) -> Result<Output, Halt<'a>>
     requires { IsReady ready }
     ensures files { F.files shelf.new ≡ F.files shelf.old }
-    ensures moves { Moves (stock F.files F.failed F.may_fail shelf.old) (stock F.files F.failed F.may_fail shelf.new) result }
+    ensures moves { Moves (shelf_state F.files F.failed F.may_fail shelf.old) (shelf_state F.files F.failed F.may_fail shelf.new) result }
     ensures tells { Tells output_text (audit_of (F.files shelf.old) word.now (ready_value ready)) result }
     ensures writable { IfOk result IsWritable }
 {
@@ -82,7 +82,7 @@ pub fn audit_stages<'a, F: Shelf>(
 ) -> Result<Output, Halt<'a>>
     requires { length words.now ≤ most_files }
     ensures files { F.files shelf.new ≡ F.files shelf.old }
-    ensures moves { Moves (stock F.files F.failed F.may_fail shelf.old) (stock F.files F.failed F.may_fail shelf.new) result }
+    ensures moves { Moves (shelf_state F.files F.failed F.may_fail shelf.old) (shelf_state F.files F.failed F.may_fail shelf.new) result }
     ensures tells { Tells output_text (form_answer (F.files shelf.old) (audit world.now report.now (map string_bytes words.now))) result }
     ensures writable { IfOk result IsWritable }
 {

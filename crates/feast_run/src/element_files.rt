@@ -1,7 +1,7 @@
 //! Loading and building element files.
 ghost use Rattle.std.specs.Prelude.{◌≡◌, ◌≤◌, ◌<◌, ◌^◌, ◌-◌, [], IfOk, All, length, map, slice_index_or, string_bytes};
 ghost use Rattle.element_set.specs.Sets.{set_value};
-ghost use Rattle.feast_base.specs.Outside.{stock};
+ghost use Rattle.feast_base.specs.Outside.{shelf_state};
 ghost use Rattle.feast_run.specs.Forms.{most_files};
 ghost use Rattle.feast_run.specs.Stages.{builds, element_limit, load_all, set_of};
 ghost use Rattle.feast_run.specs.Tellings.{Moves, Tells};
@@ -19,7 +19,7 @@ fn load_files<'a, F: Shelf>(
     words: &'a [String],
 ) -> Result<Vec<Source>, Halt<'a>>
     ensures files { F.files shelf.new ≡ F.files shelf.old }
-    ensures moves { Moves (stock F.files F.failed F.may_fail shelf.old) (stock F.files F.failed F.may_fail shelf.new) result }
+    ensures moves { Moves (shelf_state F.files F.failed F.may_fail shelf.old) (shelf_state F.files F.failed F.may_fail shelf.new) result }
     ensures tells { Tells (λ v. v.items) (load_all (F.files shelf.old) (map string_bytes words.now)) result }
     ensures many { IfOk result (λ v. length v.items ≡ length words.now) }
     ensures short { IfOk result (λ v. All (λ f. length f.1 ≤ element_limit) v.items) }
@@ -68,7 +68,7 @@ pub fn load_set<'a, F: Shelf>(
 ) -> Result<ElementSet, Halt<'a>>
     requires { length words.now ≤ most_files }
     ensures files { F.files shelf.new ≡ F.files shelf.old }
-    ensures moves { Moves (stock F.files F.failed F.may_fail shelf.old) (stock F.files F.failed F.may_fail shelf.new) result }
+    ensures moves { Moves (shelf_state F.files F.failed F.may_fail shelf.old) (shelf_state F.files F.failed F.may_fail shelf.new) result }
     ensures tells { Tells set_value (set_of (F.files shelf.old) (map string_bytes words.now)) result }
 {
     let sources = load_files(alloc, shelf, words)?;

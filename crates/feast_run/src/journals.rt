@@ -2,7 +2,7 @@
 ghost use Rattle.std.specs.Prelude.{◌≡◌, ◌<◌, ◌^◌, length};
 ghost use Rattle.event_journal.specs.Reading.{fault_of};
 ghost use Rattle.event_journal.specs.Seats.{ReadsJournal};
-ghost use Rattle.feast_base.specs.Outside.{stock};
+ghost use Rattle.feast_base.specs.Outside.{shelf_state};
 ghost use Rattle.feast_run.specs.Faults.{IsJournalHalt, IsHalt};
 ghost use Rattle.feast_run.specs.Halting.{refused};
 ghost use Rattle.feast_run.specs.Stages.{journal_in, journal_of};
@@ -82,7 +82,7 @@ pub fn load_journal<'a, F: Shelf>(
 ) -> Result<ReadJournal, Halt<'a>>
     requires { IsWorld (world_value world.now) }
     ensures files { F.files shelf.new ≡ F.files shelf.old }
-    ensures moves { Moves (stock F.files F.failed F.may_fail shelf.old) (stock F.files F.failed F.may_fail shelf.new) result }
+    ensures moves { Moves (shelf_state F.files F.failed F.may_fail shelf.old) (shelf_state F.files F.failed F.may_fail shelf.new) result }
     ensures tells { Tells journal_value (journal_of (F.files shelf.old) word.now (world_value world.now)) result }
 {
     let bytes = load_file(alloc, shelf, word, JOURNAL_LIMIT)?;

@@ -1,6 +1,6 @@
 //! The stages of a replay.
 ghost use Rattle.std.specs.Prelude.{◌≡◌, ◌≤◌, ◌++◌, All, IfOk, codes, length, map, string_bytes};
-ghost use Rattle.feast_base.specs.Outside.{stock};
+ghost use Rattle.feast_base.specs.Outside.{shelf_state};
 ghost use Rattle.feast_run.specs.Answer.{atoms_after, form_answer, replay_of};
 ghost use Rattle.feast_run.specs.Forms.{most_files, replay};
 ghost use Rattle.feast_run.specs.Outputs.{IsWritable, output_text};
@@ -51,7 +51,7 @@ fn replay_rest<'a, F: Shelf>(
 ) -> Result<Output, Halt<'a>>
     requires { IsReady ready }
     ensures files { F.files shelf.new ≡ F.files shelf.old }
-    ensures moves { Moves (stock F.files F.failed F.may_fail shelf.old) (stock F.files F.failed F.may_fail shelf.new) result }
+    ensures moves { Moves (shelf_state F.files F.failed F.may_fail shelf.old) (shelf_state F.files F.failed F.may_fail shelf.new) result }
     ensures tells { Tells output_text (replay_of (F.files shelf.old) word.now (ready_value ready)) result }
     ensures writable { IfOk result IsWritable }
 {
@@ -70,7 +70,7 @@ pub fn replay_stages<'a, F: Shelf>(
 ) -> Result<Output, Halt<'a>>
     requires { length words.now ≤ most_files }
     ensures files { F.files shelf.new ≡ F.files shelf.old }
-    ensures moves { Moves (stock F.files F.failed F.may_fail shelf.old) (stock F.files F.failed F.may_fail shelf.new) result }
+    ensures moves { Moves (shelf_state F.files F.failed F.may_fail shelf.old) (shelf_state F.files F.failed F.may_fail shelf.new) result }
     ensures tells { Tells output_text (form_answer (F.files shelf.old) (replay world.now journal.now (map string_bytes words.now))) result }
     ensures writable { IfOk result IsWritable }
 {

@@ -1,9 +1,9 @@
 //! The reply to the words of a call.
 ghost use Rattle.std.specs.Prelude.{◌≡◌, IfOk, MatchResult, Some, map, string_bytes};
 ghost use Rattle.element_set.specs.Sets.{Coded};
-ghost use Rattle.feast_base.specs.Outside.{stock};
+ghost use Rattle.feast_base.specs.Outside.{shelf_state};
 ghost use Rattle.feast_base.specs.Refusals.{refusal_line};
-ghost use Rattle.feast_run.specs.Ending.{ComesTo, Wants, status_of_input};
+ghost use Rattle.feast_run.specs.Ending.{ComesTo, KeepsOrMisses, status_of_input};
 ghost use Rattle.feast_run.specs.Forms.{IsFew, form_of, form_value};
 ghost use Rattle.feast_run.specs.Outputs.{IsWritable, output_text};
 
@@ -62,8 +62,8 @@ fn reply_to_form<R: Threads + Sync, F: Shelf, G: Gate>(
 ) -> Result<Reply, NoMemory>
     requires { IsFew form }
     ensures files { F.files shelf.new ≡ F.files shelf.old }
-    ensures says { let old = stock F.files F.failed F.may_fail shelf.old in let new = stock F.files F.failed F.may_fail shelf.new in let form = Some (form_value form.entry) in
-        MatchResult result (λ reply. ComesTo form old new reply.status (output_text reply.output)) (λ _. Wants form old new) }
+    ensures says { let old = shelf_state F.files F.failed F.may_fail shelf.old in let new = shelf_state F.files F.failed F.may_fail shelf.new in let form = Some (form_value form.entry) in
+        MatchResult result (λ reply. ComesTo form old new reply.status (output_text reply.output)) (λ _. KeepsOrMisses form old new) }
     ensures writable { IfOk result (λ reply. IsWritable reply.output) }
 {
     match form_stages(rt, alloc, shelf, form, gate) {
@@ -92,8 +92,8 @@ pub fn reply_to_words<R: Threads + Sync, F: Shelf, G: Gate>(
     gate: &G,
 ) -> Result<Reply, NoMemory>
     ensures files { F.files shelf.new ≡ F.files shelf.old }
-    ensures says { let old = stock F.files F.failed F.may_fail shelf.old in let new = stock F.files F.failed F.may_fail shelf.new in let form = form_of (map string_bytes words.now) in
-        MatchResult result (λ reply. ComesTo form old new reply.status (output_text reply.output)) (λ _. Wants form old new) }
+    ensures says { let old = shelf_state F.files F.failed F.may_fail shelf.old in let new = shelf_state F.files F.failed F.may_fail shelf.new in let form = form_of (map string_bytes words.now) in
+        MatchResult result (λ reply. ComesTo form old new reply.status (output_text reply.output)) (λ _. KeepsOrMisses form old new) }
     ensures writable { IfOk result (λ reply. IsWritable reply.output) }
 {
     match read_form(words) {

@@ -1,6 +1,6 @@
 //! The stages of a rewind.
 ghost use Rattle.std.specs.Prelude.{◌≡◌, ◌<◌, ◌≤◌, All, Err, IfOk, length, map, string_bytes, take};
-ghost use Rattle.feast_base.specs.Outside.{stock};
+ghost use Rattle.feast_base.specs.Outside.{shelf_state};
 ghost use Rattle.feast_run.specs.Answer.{atoms_after, form_answer, rewind_of, rewinds};
 ghost use Rattle.feast_run.specs.Faults.{IsHalt};
 ghost use Rattle.feast_run.specs.Forms.{most_files, rewind};
@@ -108,7 +108,7 @@ fn rewind_rest<'a, F: Shelf>(
 ) -> Result<Output, Halt<'a>>
     requires { IsReady ready }
     ensures files { F.files shelf.new ≡ F.files shelf.old }
-    ensures moves { Moves (stock F.files F.failed F.may_fail shelf.old) (stock F.files F.failed F.may_fail shelf.new) result }
+    ensures moves { Moves (shelf_state F.files F.failed F.may_fail shelf.old) (shelf_state F.files F.failed F.may_fail shelf.new) result }
     ensures tells { Tells output_text (rewind_of (F.files shelf.old) word.now left (ready_value ready)) result }
     ensures writable { IfOk result IsWritable }
 {
@@ -127,7 +127,7 @@ pub fn rewind_stages<'a, F: Shelf>(
 ) -> Result<Output, Halt<'a>>
     requires { length words.now ≤ most_files }
     ensures files { F.files shelf.new ≡ F.files shelf.old }
-    ensures moves { Moves (stock F.files F.failed F.may_fail shelf.old) (stock F.files F.failed F.may_fail shelf.new) result }
+    ensures moves { Moves (shelf_state F.files F.failed F.may_fail shelf.old) (shelf_state F.files F.failed F.may_fail shelf.new) result }
     ensures tells { Tells output_text (form_answer (F.files shelf.old) (rewind world.now report.now left (map string_bytes words.now))) result }
     ensures writable { IfOk result IsWritable }
 {

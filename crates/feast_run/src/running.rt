@@ -1,7 +1,7 @@
 //! The stages of a run.
 ghost use Rattle.std.specs.Prelude.{◌≡◌, ◌≢◌, ◌≤◌, [], IfOk, length, map, string_bytes};
 ghost use Rattle.event_journal.specs.Logs.{abandoned_in, records_in};
-ghost use Rattle.feast_base.specs.Outside.{stock};
+ghost use Rattle.feast_base.specs.Outside.{shelf_state};
 ghost use Rattle.feast_run.specs.Answer.{form_answer, lone_logs, run_report, runs};
 ghost use Rattle.feast_run.specs.Forms.{most_files, run, runpack};
 ghost use Rattle.feast_run.specs.Outputs.{IsWritable, output_text};
@@ -135,7 +135,7 @@ pub fn run_stages<'a, R: Threads + Sync, F: Shelf, G: Gate>(
 ) -> Result<Output, Halt<'a>>
     requires { length words.now ≤ most_files }
     ensures files { F.files shelf.new ≡ F.files shelf.old }
-    ensures moves { Moves (stock F.files F.failed F.may_fail shelf.old) (stock F.files F.failed F.may_fail shelf.new) result }
+    ensures moves { Moves (shelf_state F.files F.failed F.may_fail shelf.old) (shelf_state F.files F.failed F.may_fail shelf.new) result }
     ensures tells { Tells output_text (form_answer (F.files shelf.old) (run world.now (map string_bytes words.now))) result }
     ensures writable { IfOk result IsWritable }
 {
@@ -153,7 +153,7 @@ pub fn runpack_stages<'a, R: Threads + Sync, F: Shelf, G: Gate>(
     gate: &G,
 ) -> Result<Output, Halt<'a>>
     ensures files { F.files shelf.new ≡ F.files shelf.old }
-    ensures moves { Moves (stock F.files F.failed F.may_fail shelf.old) (stock F.files F.failed F.may_fail shelf.new) result }
+    ensures moves { Moves (shelf_state F.files F.failed F.may_fail shelf.old) (shelf_state F.files F.failed F.may_fail shelf.new) result }
     ensures tells { Tells output_text (form_answer (F.files shelf.old) (runpack world.now code.now)) result }
     ensures writable { IfOk result IsWritable }
 {

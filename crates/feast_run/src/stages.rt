@@ -1,6 +1,6 @@
 //! The stages of the forms, up to what is written.
 ghost use Rattle.std.specs.Prelude.{◌≡◌, ◌≤◌, IfOk, length, map, string_bytes};
-ghost use Rattle.feast_base.specs.Outside.{stock};
+ghost use Rattle.feast_base.specs.Outside.{shelf_state};
 ghost use Rattle.feast_run.specs.Answer.{form_answer};
 ghost use Rattle.feast_run.specs.Forms.{IsFew, check, code, form_value, most_files};
 ghost use Rattle.feast_run.specs.Outputs.{IsWritable, output_text};
@@ -29,7 +29,7 @@ fn check_stages<'a, F: Shelf>(
 ) -> Result<Output, Halt<'a>>
     requires { length words.now ≤ most_files }
     ensures files { F.files shelf.new ≡ F.files shelf.old }
-    ensures moves { Moves (stock F.files F.failed F.may_fail shelf.old) (stock F.files F.failed F.may_fail shelf.new) result }
+    ensures moves { Moves (shelf_state F.files F.failed F.may_fail shelf.old) (shelf_state F.files F.failed F.may_fail shelf.new) result }
     ensures tells { Tells output_text (form_answer (F.files shelf.old) (check (map string_bytes words.now))) result }
     ensures writable { IfOk result IsWritable }
 {
@@ -47,7 +47,7 @@ fn code_stages<'a, F: Shelf>(
 ) -> Result<Output, Halt<'a>>
     requires { length words.now ≤ most_files }
     ensures files { F.files shelf.new ≡ F.files shelf.old }
-    ensures moves { Moves (stock F.files F.failed F.may_fail shelf.old) (stock F.files F.failed F.may_fail shelf.new) result }
+    ensures moves { Moves (shelf_state F.files F.failed F.may_fail shelf.old) (shelf_state F.files F.failed F.may_fail shelf.new) result }
     ensures tells { Tells output_text (form_answer (F.files shelf.old) (code (map string_bytes words.now))) result }
     ensures writable { IfOk result IsWritable }
 {
@@ -67,7 +67,7 @@ pub fn form_stages<'a, R: Threads + Sync, F: Shelf, G: Gate>(
 ) -> Result<Output, Halt<'a>>
     requires { IsFew form }
     ensures files { F.files shelf.new ≡ F.files shelf.old }
-    ensures moves { Moves (stock F.files F.failed F.may_fail shelf.old) (stock F.files F.failed F.may_fail shelf.new) result }
+    ensures moves { Moves (shelf_state F.files F.failed F.may_fail shelf.old) (shelf_state F.files F.failed F.may_fail shelf.new) result }
     ensures tells { Tells output_text (form_answer (F.files shelf.old) (form_value form.entry)) result }
     ensures writable { IfOk result IsWritable }
 {

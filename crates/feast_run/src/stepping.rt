@@ -1,6 +1,6 @@
 //! The stages of a stepped run.
 ghost use Rattle.std.specs.Prelude.{◌≡◌, ◌≤◌, IfOk, length, map, string_bytes};
-ghost use Rattle.feast_base.specs.Outside.{stock};
+ghost use Rattle.feast_base.specs.Outside.{shelf_state};
 ghost use Rattle.feast_run.specs.Answer.{form_answer, steps};
 ghost use Rattle.feast_run.specs.Forms.{most_files, step, steppack};
 ghost use Rattle.feast_run.specs.Outputs.{IsWritable, output_text};
@@ -61,7 +61,7 @@ pub fn step_stages<'a, F: Shelf>(
 ) -> Result<Output, Halt<'a>>
     requires { length words.now ≤ most_files }
     ensures files { F.files shelf.new ≡ F.files shelf.old }
-    ensures moves { Moves (stock F.files F.failed F.may_fail shelf.old) (stock F.files F.failed F.may_fail shelf.new) result }
+    ensures moves { Moves (shelf_state F.files F.failed F.may_fail shelf.old) (shelf_state F.files F.failed F.may_fail shelf.new) result }
     ensures tells { Tells output_text (form_answer (F.files shelf.old) (step world.now (map string_bytes words.now))) result }
     ensures writable { IfOk result IsWritable }
 {
@@ -77,7 +77,7 @@ pub fn steppack_stages<'a, F: Shelf>(
     code: &'a str,
 ) -> Result<Output, Halt<'a>>
     ensures files { F.files shelf.new ≡ F.files shelf.old }
-    ensures moves { Moves (stock F.files F.failed F.may_fail shelf.old) (stock F.files F.failed F.may_fail shelf.new) result }
+    ensures moves { Moves (shelf_state F.files F.failed F.may_fail shelf.old) (shelf_state F.files F.failed F.may_fail shelf.new) result }
     ensures tells { Tells output_text (form_answer (F.files shelf.old) (steppack world.now code.now)) result }
     ensures writable { IfOk result IsWritable }
 {

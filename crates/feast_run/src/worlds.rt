@@ -1,7 +1,7 @@
 //! The stages of a world: its text, its elements, and the names of its atoms.
 ghost use Rattle.std.specs.Prelude.{◌≡◌, ◌≤◌, IfOk, length, map, string_bytes};
 ghost use Rattle.code_file.specs.Form.{IsSayable};
-ghost use Rattle.feast_base.specs.Outside.{stock};
+ghost use Rattle.feast_base.specs.Outside.{shelf_state};
 ghost use Rattle.feast_run.specs.Faults.{IsHalt, IsWorldHalt};
 ghost use Rattle.feast_run.specs.Forms.{most_files};
 ghost use Rattle.feast_run.specs.CodeFiles.{codes_from, ready_packed};
@@ -69,7 +69,7 @@ fn load_draft<'a, F: Shelf>(
     word: &'a str,
 ) -> Result<RawWorld, Halt<'a>>
     ensures files { F.files shelf.new ≡ F.files shelf.old }
-    ensures moves { Moves (stock F.files F.failed F.may_fail shelf.old) (stock F.files F.failed F.may_fail shelf.new) result }
+    ensures moves { Moves (shelf_state F.files F.failed F.may_fail shelf.old) (shelf_state F.files F.failed F.may_fail shelf.new) result }
     ensures tells { Tells (λ d. d) (draft_of (F.files shelf.old) word.now) result }
 {
     let bytes = load_file(alloc, shelf, word, WORLD_LIMIT)?;
@@ -137,7 +137,7 @@ fn with_element_files<'a, F: Shelf>(
 ) -> Result<Ready, Halt<'a>>
     requires { length words.now ≤ most_files }
     ensures files { F.files shelf.new ≡ F.files shelf.old }
-    ensures moves { Moves (stock F.files F.failed F.may_fail shelf.old) (stock F.files F.failed F.may_fail shelf.new) result }
+    ensures moves { Moves (shelf_state F.files F.failed F.may_fail shelf.old) (shelf_state F.files F.failed F.may_fail shelf.new) result }
     ensures tells { Tells ready_value (with_elements source_elements (set_of (F.files shelf.old) (map string_bytes words.now)) word.now draft) result }
     ensures ready { IfOk result IsReady }
 {
@@ -154,7 +154,7 @@ fn with_code_file<'a, F: Shelf>(
     draft: RawWorld,
 ) -> Result<Ready, Halt<'a>>
     ensures files { F.files shelf.new ≡ F.files shelf.old }
-    ensures moves { Moves (stock F.files F.failed F.may_fail shelf.old) (stock F.files F.failed F.may_fail shelf.new) result }
+    ensures moves { Moves (shelf_state F.files F.failed F.may_fail shelf.old) (shelf_state F.files F.failed F.may_fail shelf.new) result }
     ensures tells { Tells ready_value (with_elements code_elements (codes_from (F.files shelf.old) code.now) word.now draft) result }
     ensures ready { IfOk result IsReady }
 {
@@ -171,7 +171,7 @@ pub fn make_ready<'a, F: Shelf>(
 ) -> Result<Ready, Halt<'a>>
     requires { length words.now ≤ most_files }
     ensures files { F.files shelf.new ≡ F.files shelf.old }
-    ensures moves { Moves (stock F.files F.failed F.may_fail shelf.old) (stock F.files F.failed F.may_fail shelf.new) result }
+    ensures moves { Moves (shelf_state F.files F.failed F.may_fail shelf.old) (shelf_state F.files F.failed F.may_fail shelf.new) result }
     ensures tells { Tells ready_value (ready (F.files shelf.old) word.now (map string_bytes words.now)) result }
     ensures ready { IfOk result IsReady }
 {
@@ -187,7 +187,7 @@ pub fn make_packed<'a, F: Shelf>(
     code: &'a str,
 ) -> Result<Ready, Halt<'a>>
     ensures files { F.files shelf.new ≡ F.files shelf.old }
-    ensures moves { Moves (stock F.files F.failed F.may_fail shelf.old) (stock F.files F.failed F.may_fail shelf.new) result }
+    ensures moves { Moves (shelf_state F.files F.failed F.may_fail shelf.old) (shelf_state F.files F.failed F.may_fail shelf.new) result }
     ensures tells { Tells ready_value (ready_packed (F.files shelf.old) word.now code.now) result }
     ensures ready { IfOk result IsReady }
 {
