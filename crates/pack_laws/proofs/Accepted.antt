@@ -1,8 +1,9 @@
 -- The set of files that no stage refuses, as a code file.
-use Rattle.std.proofs.Common.{ℕ, ◌≡◌, ◌≤◌, List, [], ◌∷◌, length, Ok, Result, inl, inr, sym, ap, subst, ◌∙◌, arith}
+use Rattle.std.proofs.Common.{ℕ, ◌≡◌, ◌≤◌, List, [], ◌∷◌, length, Ok, Result, sym, ap, subst, ◌∙◌, arith}
 use Rattle.std.specs.Prelude.{true}
 use Rattle.std.proofs.lemmas.List.{length-map}
 use Rattle.window_sites.specs.Window.{WindowValue}
+use Rattle.feast_base.proofs.Stages.{went}
 use Rattle.feast_base.specs.Outside.{File}
 use Rattle.feast_base.specs.TypeNames.{is_type_name}
 use Rattle.ulam_lex.proofs.Spans.{in_order}
@@ -13,7 +14,6 @@ use Rattle.ulam_meaning.specs.Programs.{element_classes}
 use Rattle.ulam_meaning.specs.Events as meaning
 use Rattle.code_gen.specs.Compiling.{AreShort, IsCompilable, class_code, element_codes}
 use Rattle.source_laws.proofs.Programs.{compilable}
-use Rattle.element_set.specs.Composing.{Stage, Goes, and_then}
 use Rattle.element_set.specs.Names.{AreNamed}
 use Rattle.element_set.specs.Sets.{AcceptsFiles, SetValue, element_names, program_of}
 use Rattle.element_set.specs.Stages.{Trees, coded, flat_set, laid_set, lexed, more_trees, named_set, no_trees, parsed, tree_of, typed_set, with_tree}
@@ -37,9 +37,6 @@ use Rattle.pack_laws.proofs.Meanings.{codes_mean}
 use Rattle.pack_laws.proofs.TypedWords.{ClassesFormed, typed_formed}
 
 -- Stages
-
-went : {A B : Type 0} (S : Stage A) (T : A → Stage B) (b : B) → and_then S T (Ok b) → Goes S T (Ok b)
-went S T b h = elim h [ inl never ↦ absurd never | inr g ↦ g ]
 
 trees_formed : (done : Trees) (fs : List File) (x : Trees) → more_trees done fs (Ok x) → FilesFormed done.files → FilesFormed x.files
 trees_formed done [] x h all = subst (λ (y : Trees). FilesFormed y.files) (sym h) all

@@ -16,10 +16,10 @@ replay_text-requires-clause-live g c =
     let valid = ready_valid c.args.ready c.requires in
     subst (λ (rs : List Record). All (IsLiveEvent w.plane) rs) (sym c.as_slice.ensures.value) (journal_events _ _ w (journal_value c.in_ok-journal.journal) valid c.in_ok-journal.ensures.tells)
 
-pub returns-in-Ok-clause-tells : goal.returns-in-Ok-clause-tells
-returns-in-Ok-clause-tells g c =
+pub returns-clause-tells : goal.returns-clause-tells
+returns-clause-tells g c =
     inr (record {
       value = journal_value c.in_ok-journal.journal;
       passed = c.in_ok-journal.ensures.tells;
-      rest = c.in-Ok.ensures ∙ ap (atoms_after (ready_value c.args.ready)) c.as_slice.ensures.value;
+      rest = c.in_ok-text.ensures ∙ ap (atoms_after (ready_value c.args.ready)) c.as_slice.ensures.value;
     })
