@@ -20,11 +20,11 @@ use Rattle.report_judge.specs.Judging.{Judges, Setting, judgement_text}
 use Rattle.report_judge.specs.declared.judgement.Judgement.{Judgement}
 use Rattle.tile_map.specs.Plane.{MapValue}
 use Rattle.window_sites.specs.Window.{WindowValue}
-use Rattle.world_grid.proofs.KnownAtoms.{replay_known, start_known}
-use Rattle.world_grid.proofs.Valid.{world_known}
+use Rattle.world_runs.proofs.KnownAtoms.{replay_known, start_known}
+use Rattle.world_runs.proofs.Valid.{world_known}
 use Rattle.cell_grid.specs.Known.{BringsNone, IsKnown}
-use Rattle.world_grid.specs.Start.{start_grid}
-use Rattle.world_grid.specs.Worlds.{IsWorld}
+use Rattle.world_runs.specs.Start.{start_grid}
+use Rattle.world_runs.specs.Worlds.{IsWorld}
 use Rattle.world_text.specs.Named.{WorldValue}
 use Rattle.world_text.specs.Printed.{IsNamed}
 

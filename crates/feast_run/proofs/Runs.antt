@@ -26,17 +26,17 @@ use Rattle.feast_run.specs.declared.stop.Stop.{Stop}
 use Rattle.feast_run.specs.declared.worlds.Ready.{Ready}
 use Rattle.feast_run.specs.declared.stop.Stop.TheVariants.{Refused, Missing, NoMemory}
 use Rattle.grid_print.specs.Report.{AreNamed}
-use Rattle.one_tile.proofs.Alone.{each, no_attempt, owes_nothing}
-use Rattle.one_tile.specs.Events.{IsAlone, events_of}
+use Rattle.world_runs.proofs.Alone.{each, no_attempt, owes_nothing}
+use Rattle.world_runs.specs.OneTile.{IsAlone, events_of}
 use Rattle.element_set.specs.Sets.{Coded, SetValue}
 use Rattle.tile_map.specs.Plane.{MapValue, IsMap, in_plane, is_live, is_on, owner_of, site_in, tiles_of}
 use Rattle.tile_map.proofs.Spans.{lt_test}
 use Rattle.window_sites.specs.Window.{WindowValue}
-use Rattle.world_grid.proofs.Journals.{journal_live}
-use Rattle.world_grid.proofs.Valid.{world_known, world_valid}
+use Rattle.world_runs.proofs.Journals.{journal_live}
+use Rattle.world_runs.proofs.Valid.{world_known, world_valid}
 use Rattle.cell_grid.specs.Known.{BringsNone, IsKnown}
-use Rattle.world_grid.specs.Known.{ArePlacedKnown}
-use Rattle.world_grid.specs.Worlds.{IsLiveEvent, IsWorld}
+use Rattle.world_runs.specs.Known.{ArePlacedKnown}
+use Rattle.world_runs.specs.Worlds.{IsLiveEvent, IsWorld}
 use Rattle.world_text.specs.Drafts.{DraftValue}
 use Rattle.world_text.specs.Named.{WorldValue, named}
 use Rattle.world_text.specs.Reading.{read_text, IsFault as IsNameFault}

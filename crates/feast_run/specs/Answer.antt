@@ -16,8 +16,8 @@ use Rattle.feast_run.specs.Owing.{Reports}
 use Rattle.feast_run.specs.Stages.{JournalValue, ReadyValue, journal_of, ready, records_refused, set_of}
 use Rattle.feast_run.specs.Stepped.{IsSteppedRun, stepped_report}
 use Rattle.grid_print.specs.Report.{atoms_text, report}
-use Rattle.one_tile.specs.Events.{events_of}
-use Rattle.world_grid.specs.Start.{start_grid}
+use Rattle.world_runs.specs.OneTile.{events_of}
+use Rattle.world_runs.specs.Start.{start_grid}
 
 -- the flat grid that some events leave, one after another, from the start of a world, by what its elements mean
 abbrev pub grid_after : ReadyValue → List Record → GridValue

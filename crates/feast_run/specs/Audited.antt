@@ -5,7 +5,7 @@ use Rattle.feast_run.specs.Outcomes.{Stage, and_then, gives_any}
 use Rattle.feast_run.specs.Stages.{JournalValue, ReadyValue, journal_in, journal_limit, load}
 use Rattle.report_judge.specs.Judging.{Judges, Setting, judgement_text}
 use Rattle.report_judge.specs.declared.judgement.Judgement.{Judgement}
-use Rattle.world_grid.specs.Start.{start_grid}
+use Rattle.world_runs.specs.Start.{start_grid}
 
 -- a world with its elements, as a judgement knows it
 abbrev pub judged_world : ReadyValue → Setting

@@ -5,7 +5,7 @@ use Rattle.event_journal.specs.Logs.{abandoned_in, records_in}
 use Rattle.feast_run.specs.Outcomes.{Stage, passes, refuses, misses, and_then, gives_known}
 use Rattle.feast_run.specs.Stages.{ReadyValue, sourced}
 use Rattle.feast_run.specs.Stepped.{IsSteppedRun, machine_of, stepped_logs}
-use Rattle.generated_elements.specs.Elements.{source_files}
+use Rattle.generated_world.specs.Elements.{source_files}
 use Rattle.generated_world.specs.Generated.{generated}
 use Rattle.generated_world.specs.Summary.{summary}
 

@@ -23,10 +23,10 @@ use Rattle.feast_run.specs.Elements.{ElementsValue, code_elements, source_elemen
 use Rattle.feast_run.specs.Stages.{JournalValue, ready_with, sourced, draft_of, element_limit, journal_limit, journal_of, journal_said, world_limit}
 use Rattle.feast_run.specs.declared.status.Status.{Status}
 use Rattle.feast_run.specs.declared.status.Status.TheVariants as how
-use Rattle.generated_elements.specs.Elements.{source_files}
+use Rattle.generated_world.specs.Elements.{source_files}
 use Rattle.grid_print.specs.Report.{atoms_text}
 use Rattle.ulam_meaning.specs.Events.{after}
-use Rattle.world_grid.specs.Start.{start_grid}
+use Rattle.world_runs.specs.Start.{start_grid}
 use Rattle.world_text.specs.Drafts.{DraftValue}
 use Rattle.world_text.specs.Named.{ReadsWorld, WorldValue, named}
 

@@ -17,7 +17,7 @@ use event_journal::ReadJournal;
 use feast_base::{NoMemory, Shelf};
 use report_judge::{judge, judgement_line};
 use std::alloc::Global;
-use world_grid::{map_of, start};
+use world_runs::{map_of, start};
 
 /// The line of the judgement on a report of a world, whose bytes and journal these are.
 fn audit_line(

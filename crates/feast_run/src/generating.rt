@@ -8,7 +8,7 @@ ghost use Rattle.feast_run.specs.Stepped.{IsOutcomeOf, IsSteppedRun};
 ghost use Rattle.feast_run.specs.Tellings.{MissesNone, Tells};
 ghost use Rattle.feast_run.specs.Values.{elements_value};
 ghost use Rattle.generated_world.specs.Generated.{generated};
-ghost use Rattle.world_grid.specs.Worlds.{IsWorld};
+ghost use Rattle.world_runs.specs.Worlds.{IsWorld};
 ghost use Rattle.world_runs.specs.Orders.{IsOrder};
 ghost use Rattle.world_text.specs.Values.{order_value, world_value};
 
@@ -17,8 +17,7 @@ use crate::elements::Elements;
 use crate::output::Output;
 use crate::stop::Stop;
 use feast_base::NoMemory;
-use generated_elements::elements;
-use generated_world::{generated, summary};
+use generated_world::{elements, generated, summary};
 use serial_order::Outcome;
 use std::alloc::Global;
 use world_runs::stepped;

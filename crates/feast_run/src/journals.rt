@@ -10,7 +10,7 @@ ghost use Rattle.feast_run.specs.Tellings.{Moves, Tells};
 ghost use Rattle.feast_run.specs.Values.{journal_value};
 ghost use Rattle.feast_run.specs.declared.stop.Input.TheVariants as input;
 ghost use Rattle.element_set.specs.Sets.{Coded};
-ghost use Rattle.world_grid.specs.Worlds.{IsWorld};
+ghost use Rattle.world_runs.specs.Worlds.{IsWorld};
 ghost use Rattle.world_text.specs.Values.{world_value};
 
 use crate::loading::{JOURNAL_LIMIT, at_line, load_file};
@@ -18,7 +18,7 @@ use crate::stop::{Input, Refused, Stop};
 use event_journal::{JournalFault, ReadJournal, read};
 use feast_base::{NoMemory, Refusal, Shelf};
 use std::alloc::Global;
-use world_grid::map_of;
+use world_runs::map_of;
 use world_text::World;
 
 /// The stop at a refusal of a journal whose file has this word.

@@ -7,7 +7,7 @@ ghost use Rattle.feast_run.specs.Outputs.{IsWritable, output_text};
 ghost use Rattle.feast_run.specs.Tellings.{Moves, Tells};
 ghost use Rattle.feast_run.specs.Values.{IsReady, ready_value};
 ghost use Rattle.grid_print.specs.Report.{AreNamed, atoms_text};
-ghost use Rattle.world_grid.specs.Worlds.{IsLiveEvent};
+ghost use Rattle.world_runs.specs.Worlds.{IsLiveEvent};
 ghost use Rattle.world_text.specs.Values.{world_value};
 
 use crate::grids::grid_after;

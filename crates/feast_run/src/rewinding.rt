@@ -8,7 +8,7 @@ ghost use Rattle.feast_run.specs.Outputs.{IsWritable, output_text};
 ghost use Rattle.feast_run.specs.Stages.{records_refused};
 ghost use Rattle.feast_run.specs.Tellings.{Moves, Tells};
 ghost use Rattle.feast_run.specs.Values.{IsReady, journal_value, ready_value};
-ghost use Rattle.world_grid.specs.Worlds.{IsLiveEvent};
+ghost use Rattle.world_runs.specs.Worlds.{IsLiveEvent};
 ghost use Rattle.world_text.specs.Values.{world_value};
 
 use crate::journals::{load_journal, refused};
@@ -22,7 +22,7 @@ use event_journal::ReadJournal;
 use feast_base::{NoMemory, Shelf};
 use report_judge::rewound;
 use std::alloc::Global;
-use world_grid::start;
+use world_runs::start;
 
 /// The code of a report that has too few events.
 const TOO_FEW: u8 = 84;

@@ -9,7 +9,7 @@ ghost use Rattle.feast_run.specs.Owing.{Reports};
 ghost use Rattle.feast_run.specs.Tellings.{Moves, Tells};
 ghost use Rattle.feast_run.specs.Threaded.{IsThreadedOf};
 ghost use Rattle.feast_run.specs.Values.{IsReady, ready_value};
-ghost use Rattle.one_tile.specs.Events.{events_of};
+ghost use Rattle.world_runs.specs.OneTile.{events_of};
 ghost use Rattle.tile_map.specs.Plane.{tiles_of};
 ghost use Rattle.world_text.specs.Values.{world_value};
 
@@ -20,12 +20,10 @@ use crate::stop::Stop;
 use crate::worlds::{Ready, make_packed, make_ready};
 use event_journal::Journal;
 use feast_base::{Gate, NoMemory, Shelf};
-use one_tile::journal;
 use serial_order::Outcome;
 use std::alloc::Global;
 use std::thread::Threads;
-use world_grid::map_of;
-use world_runs::threaded;
+use world_runs::{journal, map_of, threaded};
 
 /// The journal of a world of one tile.
 fn journal_of<G: Gate>(alloc: Global, ready: &Ready, gate: &G) -> Result<Journal, NoMemory>

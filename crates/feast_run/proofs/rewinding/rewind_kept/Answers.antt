@@ -3,7 +3,7 @@ use Rattle.std.specs.Prelude.{take}
 use Rattle.cell_grid.specs.declared.record.Record.{Record}
 use Rattle.feast_run.specs.Answer.{atoms_after}
 use Rattle.feast_run.specs.Values.{ready_value}
-use Rattle.world_grid.specs.Worlds.{IsLiveEvent}
+use Rattle.world_runs.specs.Worlds.{IsLiveEvent}
 use Rattle.world_text.specs.Values.{world_value}
 use Rattle.feast_run.proofs.rewinding.rewind_kept.Goals as goal
 
