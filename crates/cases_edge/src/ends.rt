@@ -1,5 +1,5 @@
 //! An edge of one shared site, so of five registers, whose ends take turns on one thread.
-ghost use Rattle.std.specs.Prelude.{◌≡◌, ◌<◌, ◌+◌, [], IfOk, IfSome};
+ghost use Rattle.std.specs.Prelude.{◌≡◌, ◌<◌, [], IfOk, IfSome};
 ghost use Rattle.edge_lock.specs.declared.board.Take.TheVariants.{Busy};
 ghost use Rattle.bit_field.specs.Atom.{LeavesGap};
 ghost use Rattle.edge_lock.specs.History.{site_count};
