@@ -25,10 +25,11 @@ fn becomes(
     functions: usize,
     instrs: &[Instr],
 ) -> Result<(), Fail> {
-    if text.len() >= 1_000_000 {
+    let bytes = text.as_bytes();
+    if bytes.len() >= 1_000_000 {
         return Err(Fail::from("too long"));
     }
-    match last(codes_of(alloc, text.as_bytes())) {
+    match last(codes_of(alloc, bytes)) {
         None => Err(Fail::from("no code")),
         Some(code) => {
             assert_eq!(rt; (code.kind(), code.functions().len()), (1, functions));
