@@ -1,42 +1,37 @@
 -- The names of a set's elements are names of types.
-use Rattle.std.proofs.Common.{ℕ, ◌≡◌, ◌+◌, ◌≤◌, ◌==◌, Bool, true, false, not, ◌&&◌, ◌||◌, List, [], ◌∷◌, ◌++◌, All, length, map, nat_le, bytes_eq, refl, sym, ap, subst, ◌∙◌, arith, Ok, inl, inr, if◌then◌else◌, slice_index, slice_range}
+use Rattle.std.proofs.Common.{ℕ, ◌≡◌, ◌+◌, ◌≤◌, ◌==◌, Bool, true, false, not, ◌&&◌, ◌||◌, List, [], ◌∷◌, ◌++◌, All, length, nat_le, bytes_eq, refl, sym, ap, subst, ◌∙◌, arith, Ok, if◌then◌else◌, slice_index, slice_range}
 use Rattle.std.specs.Char.{is_ascii_digit, is_ascii_lowercase, is_ascii_uppercase}
 use Rattle.std.specs.List.{AllPass, flat_map, list_all}
 use Rattle.std.proofs.lemmas.List.Elements.{All-cons, All-head, All-nil, All-tail}
 use Rattle.list_laws.proofs.Tests.{together}
 use Rattle.feast_base.specs.Outside.{File}
+use Rattle.feast_base.proofs.Stages.{went}
 use Rattle.feast_base.specs.TypeNames.{is_type_name, is_word_byte}
 use Rattle.ulam_lex.specs.Bytes.{class_of, is_white}
 use Rattle.ulam_lex.specs.Pieces.{IsToken, IsWord}
 use Rattle.ulam_lex.specs.Texts.{AreInOrder}
-use Rattle.ulam_lex.specs.declared.bytes.Class.{Class as ByteClass}
 use Rattle.ulam_lex.specs.declared.bytes.Class.TheVariants.{White, Small, Capital, Digit, Mark}
 use Rattle.ulam_lex.specs.declared.token.Token.{Token}
 use Rattle.ulam_lex.specs.declared.token.TokenKind.{TokenKind}
 use Rattle.ulam_lex.specs.declared.token.TokenKind.TheVariants as k
 use Rattle.ulam_lex.proofs.Spans.{in_order}
-use Rattle.ulam_parse.specs.Tokens.{Tok, tok, keywords, signs, symbol_in, symbol_of, tok_of, toks}
+use Rattle.ulam_parse.specs.Tokens.{Tok, tok, keywords, signs, symbol_in, symbol_of, toks}
 use Rattle.ulam_parse.specs.Grammar.{AreItems, IsClass, IsFile, class_symbol}
 use Rattle.ulam_parse.specs.declared.symbol.Symbol.{Symbol}
 use Rattle.ulam_parse.specs.declared.symbol.Symbol.TheVariants as s
-use Rattle.ulam_heirs.specs.Files.{flat_files, flat_files_from, flat_items, class_count}
+use Rattle.ulam_heirs.specs.Files.{flat_files_from, flat_items, class_count}
 use Rattle.ulam_heirs.specs.Heads.{is_taken, kept_at, at_each, tokens_left}
 use Rattle.ulam_heirs.specs.Lines.{Heir}
 use Rattle.ulam_tree.specs.Raw.{Item, Class, ulam, uses, class}
 use Rattle.ulam_tree.specs.Statements.{Class as AnyClass}
 use Rattle.ulam_tree.specs.Typed as t
 use Rattle.ulam_names.specs.Classes.{HalfClass, Known}
-use Rattle.ulam_names.specs.ClassRelation.{IsResolved, AreItems as AreDeclared}
-use Rattle.ulam_types.specs.Programs.{class_sig}
-use Rattle.element_set.specs.Names.{class_names, element_name, names_in}
+use Rattle.ulam_names.specs.ClassRelation.{AreItems as AreDeclared}
+use Rattle.element_set.specs.Names.{class_names, names_in}
 use Rattle.element_set.specs.Sets.{SetValue, AcceptsFiles, element_names}
 use Rattle.element_set.specs.Stages.{Trees, lexed, parsed, tree_of, more_trees, no_trees, with_tree, flat_set, named_set, laid_set, typed_set, coded}
-use Rattle.element_set.specs.Composing.{Stage, Goes, and_then}
 use Rattle.element_set.proofs.Named.{classes_half, half_names, typed_names}
 use Rattle.element_set.proofs.TokensKept.{Each, item_keeps, takes_keeps}
-
-went : {A B : Type 0} (S : Stage A) (T : A → Stage B) (b : B) → and_then S T (Ok b) → Goes S T (Ok b)
-went S T b h = elim h [ inl never ↦ absurd never | inr g ↦ g ]
 
 -- Bytes: the token of a type's name is one
 

@@ -1,6 +1,5 @@
 pub mod Acting
 pub mod CodesText
-pub mod Composing
 pub mod Counting
 pub mod Fitting
 pub mod FormedNames

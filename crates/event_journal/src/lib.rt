@@ -6,10 +6,10 @@
 
 mod abandoned;
 mod cursors;
-mod cutting;
 mod fault;
 mod forms;
 mod journal;
+mod law;
 mod log;
 mod placing;
 mod printed;
@@ -18,9 +18,9 @@ mod reading;
 mod walk;
 
 pub use abandoned::Abandoned;
-pub use cutting::cuts;
 pub use fault::{JournalFault, LineFault};
 pub use journal::Journal;
+pub use law::cuts;
 pub use log::TileLog;
 pub use printed::{abandoned_fields, count_fields, print, print_entries, record_fields};
 pub use reader::{ReadJournal, read};

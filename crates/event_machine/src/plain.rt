@@ -36,7 +36,7 @@ pub fn single(running: &mut Activation, op: SingleOp) -> Leads
             running.push(Datum::Number(turn(op, a)));
             Leads::On
         }
-        None => Leads::Want,
+        None => Leads::Lack,
     }
 }
 
@@ -65,7 +65,7 @@ pub fn pair(running: &mut Activation, op: PairOp) -> Leads
             }
             None => Leads::Fail(3),
         },
-        None => Leads::Want,
+        None => Leads::Lack,
     }
 }
 
@@ -80,7 +80,7 @@ pub fn load(running: &mut Activation, s: u8) -> Leads
             running.push(x);
             Leads::On
         }
-        None => Leads::Want,
+        None => Leads::Lack,
     }
 }
 
@@ -94,7 +94,7 @@ pub fn store(running: &mut Activation, s: u8) -> Leads
             running.set_slot(s, x);
             Leads::On
         }
-        None => Leads::Want,
+        None => Leads::Lack,
     }
 }
 
@@ -114,7 +114,7 @@ pub fn exchange(running: &mut Activation) -> Leads
             },
             None => Leads::Fail(4),
         },
-        None => Leads::Want,
+        None => Leads::Lack,
     }
 }
 
@@ -125,7 +125,7 @@ pub fn drop_top(running: &mut Activation) -> Leads
 {
     match running.any() {
         Some(_) => Leads::On,
-        None => Leads::Want,
+        None => Leads::Lack,
     }
 }
 
@@ -159,7 +159,7 @@ pub fn load_site(running: &mut Activation) -> Leads
             }
             None => Leads::Fail(4),
         },
-        None => Leads::Want,
+        None => Leads::Lack,
     }
 }
 
@@ -177,9 +177,9 @@ pub fn store_site(running: &mut Activation) -> Leads
                 }
                 None => Leads::Fail(4),
             },
-            None => Leads::Want,
+            None => Leads::Lack,
         },
-        None => Leads::Want,
+        None => Leads::Lack,
     }
 }
 
@@ -198,7 +198,7 @@ pub fn is_live(running: &mut Activation) -> Leads
             }
             None => Leads::Fail(4),
         },
-        None => Leads::Want,
+        None => Leads::Lack,
     }
 }
 
@@ -217,7 +217,7 @@ pub fn is_empty(running: &mut Activation) -> Leads
             }
             None => Leads::Fail(4),
         },
-        None => Leads::Want,
+        None => Leads::Lack,
     }
 }
 
@@ -236,7 +236,7 @@ pub fn create(running: &mut Activation) -> Leads
             }
             None => Leads::Fail(5),
         },
-        None => Leads::Want,
+        None => Leads::Lack,
     }
 }
 
@@ -255,7 +255,7 @@ pub fn one_in(running: &mut Activation) -> Leads
             }
             None => Leads::Fail(5),
         },
-        None => Leads::Want,
+        None => Leads::Lack,
     }
 }
 
@@ -270,7 +270,7 @@ pub fn same(running: &mut Activation, k: u16) -> Leads
             running.push(Datum::Number(of_bool(atom.kind() == k)));
             Leads::On
         }
-        None => Leads::Want,
+        None => Leads::Lack,
     }
 }
 
@@ -286,6 +286,6 @@ pub fn double(running: &mut Activation) -> Leads
             running.push(Datum::Number(v));
             Leads::On
         }
-        None => Leads::Want,
+        None => Leads::Lack,
     }
 }

@@ -6,4 +6,5 @@ pub mod Held
 pub mod Loading
 pub mod Outside
 pub mod Refusals
+pub mod Stages
 pub mod TypeNames

@@ -15,10 +15,10 @@ use Rattle.grid_print.specs.Report.{AreNamed, report}
 use Rattle.serial_order.specs.declared.outcome.Outcome.{Outcome}
 use Rattle.tile_map.specs.Plane.{MapValue, IsMap, tiles_of}
 use Rattle.window_sites.specs.Window.{WindowValue}
-use Rattle.world_grid.proofs.KnownAtoms.{replay_known, start_known}
+use Rattle.world_runs.proofs.KnownAtoms.{replay_known, start_known}
 use Rattle.cell_grid.specs.Known.{BringsNone}
-use Rattle.world_grid.specs.Known.{ArePlacedKnown}
-use Rattle.world_grid.specs.Start.{start_grid}
+use Rattle.world_runs.specs.Known.{ArePlacedKnown}
+use Rattle.world_runs.specs.Start.{start_grid}
 
 pub machine_grid : (r : ReadyValue) (o : Outcome) → IsOutcomeOf r o → o.grid ≡ (machine_of r).grid
 unfolding machine_of

@@ -10,7 +10,7 @@ use Rattle.draw_stream.specs.Plans.{attempts, count_of, seeded}
 use Rattle.draw_stream.specs.Words.{tile_word}
 use Rattle.draw_stream.proofs.Plans.{length_seeded_lists, seeded_lists_at}
 use Rattle.tile_map.specs.Plane.{IsMap, is_on}
-use Rattle.world_grid.specs.Worlds.{IsAttempt, IsWorld}
+use Rattle.world_runs.specs.Worlds.{IsAttempt, IsWorld}
 use Rattle.world_text.specs.Named.{WorldValue}
 use Rattle.generated_world.specs.Generated.{generated, plane, seed_behind}
 use Rattle.generated_world.proofs.Drawing.{drawn_live}

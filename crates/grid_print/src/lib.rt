@@ -6,15 +6,14 @@
 //! number of attempts that were given up and a line for each.
 #![tactic(auto)]
 
-mod again;
 mod fault;
+mod fitting;
+mod law;
 mod page;
 mod shown;
-mod texts;
 mod writer;
 
-pub use again::reads_again;
 pub use fault::WriteFault;
+pub use law::{one_report, reads_again};
 pub use shown::atoms;
-pub use texts::one_report;
 pub use writer::{grid_text, report_text, write_report};

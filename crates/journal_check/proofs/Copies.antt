@@ -10,7 +10,7 @@ use Rattle.cell_grid.specs.Grid.{GridValue, IsGrid, site_atom, with_site}
 use Rattle.tile_map.specs.Plane.{MapValue, in_plane, is_on, owner_of}
 use Rattle.list_laws.proofs.Tests.{both}
 use Rattle.serial_order.proofs.Promises.{one_grid}
-use Rattle.serial_order.specs.Outcomes.{IsBlank, IsPlaneGrid}
+use Rattle.serial_order.specs.Outcomes.{IsPlaneGrid}
 
 -- the first k sites are those of the other grid, where they are live
 pub record IsCopied (m : MapValue) (first : GridValue) (k : ℕ) (g : GridValue) : Type 0 where
@@ -18,8 +18,8 @@ pub record IsCopied (m : MapValue) (first : GridValue) (k : ℕ) (g : GridValue)
   pub fits : IsGridOf m g
   pub atoms : (i : ℕ) → i < k → get_or g.live i false ≡ true → get_or g.atoms i empty_atom ≡ get_or first.atoms i empty_atom
 
-pub none_copied : (m : MapValue) (first g : GridValue) → IsBlank m g → IsCopied m first 0 g
-none_copied m first g b = record { grid = b.grid; fits = b.fits; atoms = λ i lt. absurd (omega (arith, lt)) }
+pub none_copied : (m : MapValue) (first g : GridValue) → IsPlaneGrid m g → IsCopied m first 0 g
+none_copied m first g b = record { grid = b.0; fits = b.1; atoms = λ i lt. absurd (omega (arith, lt)) }
 
 pub column_in : (k w : ℕ) → 0 < w → k % w < w
 column_in k w some = grind (arith, rows)

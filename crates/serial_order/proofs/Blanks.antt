@@ -16,7 +16,7 @@ use Rattle.cell_grid.specs.Shut.{Rectangle, rectangle, is_inside, IsEmptyIn, cle
 use Rattle.cell_grid.proofs.Cleared.{IsGrid-shut}
 use Rattle.cell_grid.proofs.Places.{below}
 use Rattle.event_journal.proofs.Extents.{sites_is}
-use Rattle.serial_order.specs.Outcomes.{IsAreaOf, IsBlank, IsShutTo}
+use Rattle.serial_order.specs.Outcomes.{IsAreaOf, IsPlaneGrid, IsShutTo}
 use Rattle.serial_order.specs.declared.blank.Area.{Area}
 
 -- how many columns and rows a plane has
@@ -185,8 +185,8 @@ module _ (m : MapValue) where
             get_or-replicate (m.tx * m.w * (m.ty * m.h)) (y * (m.tx * m.w) + x) true false (below x y (m.tx * m.w) (m.ty * m.h) lx ly) ∙ sym (ap (λ b. b || is_on m (owner_of m (site x y))) first);
       }
 
-  pub shut_all : IsMap m → (n : ℕ) (g : GridValue) → tiles_of m ≤ n → IsShutTo m n g → IsBlank m g
-  shut_all valid n g all h = record { grid = h.grid; fits = record { wide = h.wide; high = h.high; live = live }; empty = h.empty }
+  pub shut_all : IsMap m → (n : ℕ) (g : GridValue) → tiles_of m ≤ n → IsShutTo m n g → IsPlaneGrid m g
+  shut_all valid n g all h = (h.grid, record { wide = h.wide; high = h.high; live = live })
     where
       live : (x y : ℕ) → x < g.width → y < g.height → get_or g.live (y * g.width + x) false ≡ is_live m (site x y)
       live x y lx ly =

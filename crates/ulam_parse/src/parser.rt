@@ -3,9 +3,8 @@ ghost use Rattle.std.specs.Prelude.{◌≡◌, ◌⊎◌, List, IfOk, IfErr, IsE
 ghost use Rattle.ulam_tree.specs.Raw.{Item};
 ghost use Rattle.ulam_tree.specs.RawViews.{file_of};
 ghost use Rattle.ulam_lex.specs.Texts.{AreInOrder};
-ghost use Rattle.ulam_parse.specs.Grammar.{IsFile};
 ghost use Rattle.ulam_parse.specs.Sentences.{IsSentence, IsFaultOf};
-ghost use Rattle.ulam_parse.specs.Tokens.{Tok, toks};
+ghost use Rattle.ulam_parse.specs.Tokens.{toks};
 ghost use Rattle.ulam_parse.specs.declared.fault.ParseFault as declared;
 
 use crate::fault::ParseFault;
@@ -53,11 +52,3 @@ pub fn parse(alloc: Global, bytes: &[u8], tokens: &[Token]) -> Result<File, Pars
 {
     read(alloc, bytes, tokens)
 }
-
-/// No tokens are two trees, or have a tree and a fault within the limit of nesting, or two first
-/// faults.
-pub fn one_tree()
-    ensures tree { (ts : List Tok) (xs ys : List Item) → IsFile xs ts → IsFile ys ts → xs ≡ ys }
-    ensures either { (ts : List Tok) (xs : List Item) (fault : declared.ParseFault) → IsSentence xs ts → IsFaultOf ts fault → ⊥ }
-    ensures fault { (ts : List Tok) (a b : declared.ParseFault) → IsFaultOf ts a → IsFaultOf ts b → a ≡ b }
-{}

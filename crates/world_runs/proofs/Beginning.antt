@@ -17,7 +17,7 @@ use Rattle.tile_map.specs.Plane.{MapValue, IsMap, is_on, tiles_of}
 use Rattle.tile_core.specs.Underway.{CanAttempt, IsFreshTile}
 use Rattle.tile_core.specs.Values.{TileValue, atoms_of}
 use Rattle.serial_order.specs.Fresh.{AreFresh}
-use Rattle.world_grid.specs.Worlds.{IsAttempt, IsWorld}
+use Rattle.world_runs.specs.Worlds.{IsAttempt, IsWorld}
 use Rattle.world_text.specs.Named.{WorldValue}
 use Rattle.world_runs.specs.Fresh.{AllCanAttempt, AreMade, setting_of}
 

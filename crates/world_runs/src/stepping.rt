@@ -3,13 +3,14 @@ ghost use Rattle.std.specs.Prelude.{◌≡◌, ℕ, All, IfOk, length};
 ghost use Rattle.window_sites.specs.Window.{WindowValue};
 ghost use Rattle.stepped_world.specs.Ends.{IsOutcome};
 ghost use Rattle.tile_map.specs.Plane.{tiles_of};
-ghost use Rattle.world_grid.specs.Worlds.{IsWorld};
+ghost use Rattle.world_runs.specs.Worlds.{IsWorld};
 ghost use Rattle.world_text.specs.Values.{world_value, order_value};
 ghost use Rattle.world_runs.specs.Fresh.{setting_of};
 ghost use Rattle.world_runs.specs.Orders.{IsOrder, order_in};
 
 use crate::order::order_of;
 use crate::plans::plan_fits;
+use crate::starting::{map_of, start};
 use crate::tiles::fresh_tiles;
 use cell_grid::Behave;
 use edge_lock::PlainBoard;
@@ -17,7 +18,6 @@ use feast_base::NoMemory;
 use serial_order::Outcome;
 use std::alloc::Global;
 use stepped_world::run_settled;
-use world_grid::{map_of, start};
 use world_text::World;
 
 /// The stepped run of a world on one thread, settled: its grid and its journal are those of the

@@ -2,12 +2,13 @@
 ghost use Rattle.std.specs.Prelude.{◌≡◌, ℕ, All, IfOk, length};
 ghost use Rattle.window_sites.specs.Window.{WindowValue};
 ghost use Rattle.tile_map.specs.Plane.{tiles_of};
-ghost use Rattle.world_grid.specs.Worlds.{IsWorld};
+ghost use Rattle.world_runs.specs.Worlds.{IsWorld};
 ghost use Rattle.world_text.specs.Values.{world_value};
 ghost use Rattle.world_runs.specs.Fresh.{setting_of};
 ghost use Rattle.world_runs.specs.OneOrder.{StandsInOneOrder};
 
 use crate::plans::plan_fits;
+use crate::starting::{map_of, start};
 use crate::tiles::fresh_tiles;
 use cell_grid::Behave;
 use feast_base::{Gate, NoMemory};
@@ -15,7 +16,6 @@ use serial_order::{Outcome, settle};
 use std::alloc::Global;
 use std::thread::Threads;
 use tile_threads::run_shared;
-use world_grid::{map_of, start};
 use world_text::World;
 
 /// The run of a world with a worker for each tile, side by side in threads, settled: in whatever

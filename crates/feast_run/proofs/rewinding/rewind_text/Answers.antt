@@ -7,7 +7,7 @@ use Rattle.feast_run.specs.Values.{elements_value}
 use Rattle.grid_print.specs.Report.{AreNamed}
 use Rattle.cell_grid.specs.Grid.{GridValue}
 use Rattle.window_sites.specs.Window.{WindowValue}
-use Rattle.world_grid.proofs.Blank.{live_in}
+use Rattle.world_runs.proofs.Placing.{live_in}
 use Rattle.cell_grid.specs.Known.{BringsNone}
 use Rattle.world_text.specs.Values.{world_value}
 use Rattle.feast_run.proofs.rewinding.rewind_text.Goals as goal

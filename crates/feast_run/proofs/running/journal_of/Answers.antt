@@ -1,6 +1,6 @@
 use Rattle.std.proofs.Common.{subst, sym}
 use Rattle.feast_run.proofs.Runs.{is_alone, ready_valid}
-use Rattle.one_tile.specs.Events.{IsAlone}
+use Rattle.world_runs.specs.OneTile.{IsAlone}
 use Rattle.tile_map.specs.Plane.{MapValue}
 use Rattle.world_text.specs.Values.{world_value}
 use Rattle.feast_run.proofs.running.journal_of.Goals as goal

@@ -3,7 +3,7 @@ use Rattle.element_set.specs.Sets.{set_value}
 use Rattle.feast_run.proofs.Sound.{set_brings}
 use Rattle.feast_run.proofs.Telling.{tells_exit}
 use Rattle.feast_run.specs.Elements.{source_elements}
-use Rattle.feast_run.specs.Outcomes.{decides}
+use Rattle.feast_run.specs.Halting.{decides}
 use Rattle.feast_run.specs.Stages.{world_refused}
 use Rattle.feast_run.specs.Tellings.{Tells}
 use Rattle.feast_run.specs.Values.{ready_value}
@@ -25,7 +25,7 @@ returns-clause-ready c =
 
 pub returns-in_err-world-clause-tells : goal.returns-in_err-world-clause-tells
 returns-in_err-world-clause-tells c =
-    let stop = c.in_err-world.field-0.0 in
+    let halt = c.in_err-world.field-0.0 in
     let S = λ (names : List (List ℕ)). decides (world_refused c.args.word.now) (named names c.args.draft) in
-    let stopped = subst (λ (names : List (List ℕ)). Tells world_value (S names) (Err stop)) c.names.ensures.value c.in_err-world.ensures.tells in
-    tells_exit world_value ready_value (S (source_elements (set_value c.args.set)).names) _ stop c.from_residual.result c.from_residual.ensures.1 stopped
+    let halted = subst (λ (names : List (List ℕ)). Tells world_value (S names) (Err halt)) c.names.ensures.value c.in_err-world.ensures.tells in
+    tells_exit world_value ready_value (S (source_elements (set_value c.args.set)).names) _ halt c.from_residual.result c.from_residual.ensures.1 halted
