@@ -14,7 +14,7 @@ use feast_base::{Name, NoMemory, Sink};
 use std::alloc::Global;
 use text_lines::{Field, push_line};
 
-/// The text of a grid alone, with which a report begins: the line `feast 1`, and the atoms as
+/// The text that shows a grid, with which its report begins: the line `feast 1`, and the atoms as
 /// `atoms` prints them. Each atom is empty or its type has a name: type numbers count the names
 /// from 1. `NoMemory` if there is none for the text.
 pub fn grid_text(alloc: Global, grid: &Grid, names: &[Name]) -> Result<Vec<u8>, NoMemory>
