@@ -240,7 +240,7 @@ def may_trace():
 
 
 def read_faults(bench, job):
-    """Each read of each input fails in turn, the others take what is there."""
+    """Each read of each input fails or is interrupted in turn, the others take what is there."""
     for file in job.files:
         text = file.text
         if file.name == "e":
@@ -251,9 +251,11 @@ def read_faults(bench, job):
         path = bench.at(file.name)
         reads = -(-len(text) // 4096) + 1
         for number in range(1, reads + 1):
-            fault = Fault(path, b"read", b"error=EIO:when=%d" % number)
-            answer = bench.call(job.words, before=fault.before)
-            bench.expect(f"{job.name}: read {number} of {file.name} fails", answer, UNREADABLE, unreadable(file.name))
+            for code in (b"EIO", b"EINTR"):
+                fault = Fault(path, b"read", b"error=%s:when=%d" % (code, number))
+                answer = bench.call(job.words, before=fault.before)
+                name = f"{job.name}: read {number} of {file.name} fails by {code.decode()}"
+                bench.expect(name, answer, UNREADABLE, unreadable(file.name))
         fault = Fault(path, b"read", b"error=EIO:when=%d" % (reads + 1))
         bench.expect(f"{job.name}: {file.name} takes {reads} reads", bench.call(job.words, before=fault.before), DONE, job.out)
         for code in (b"EACCES", b"EMFILE", b"EIO"):
@@ -270,13 +272,13 @@ def read_faults(bench, job):
 
 
 def write_faults(bench):
-    """Each write of a report of two pieces fails in turn, or takes nothing."""
+    """Each write of a report of two pieces fails in turn, is interrupted, or takes nothing."""
     bench.write("w", LONG_WORLD)
     bench.write("e", WALKER)
     words = ["run", "w", "e"]
     path = bench.at("standard.output")
     for number in (1, 2):
-        for answer in (b"error=ENOSPC", b"error=EIO", b"error=EPIPE", b"retval=0"):
+        for answer in (b"error=ENOSPC", b"error=EIO", b"error=EPIPE", b"error=EINTR", b"retval=0"):
             fault = Fault(path, b"write,writev", answer + b":when=%d" % number)
             got = bench.call(words, before=fault.before)
             bench.expect(f"write {number} ends by {answer.decode()}", got, SINK, LONG_REPORT[: 4096 * (number - 1)])

@@ -2,7 +2,7 @@
 
 ghost use Rattle.std.specs.Prelude.{◌≡◌, ◌^◌, ◌-◌, ◌<◌};
 
-use feast_base::{MemShelf, MemSink, OpenGate, Shelf, Source};
+use feast_base::{Gate, MemShelf, MemSink, OpenGate, Shelf, Source};
 use feast_run::{Status, feast};
 use std::alloc::Global;
 use std::test::Fail;
@@ -26,6 +26,21 @@ pub fn shelf(alloc: Global, files: &[(&str, &str)], fails: Vec<u64>) -> Result<M
     Ok(MemShelf::new(alloc, sources, fails))
 }
 
+/// The answer of a call whose workers pass a gate.
+pub fn gated<R: Threads + Sync, F: Shelf, G: Gate>(
+    rt: &R,
+    alloc: Global,
+    text: &str,
+    shelf: &mut F,
+    sink: &mut MemSink,
+    gate: &G,
+) -> Result<Status, Fail>
+    requires { sink.old.faults < 2 ^ 64 - 1 }
+{
+    let words = words(alloc, text)?;
+    Ok(feast(rt, alloc, words.as_slice(), shelf, sink, gate))
+}
+
 /// The answer of a call.
 pub fn answer<R: Threads + Sync, F: Shelf>(
     rt: &R,
@@ -36,6 +51,5 @@ pub fn answer<R: Threads + Sync, F: Shelf>(
 ) -> Result<Status, Fail>
     requires { sink.old.faults < 2 ^ 64 - 1 }
 {
-    let words = words(alloc, text)?;
-    Ok(feast(rt, alloc, words.as_slice(), shelf, sink, &OpenGate))
+    gated(rt, alloc, text, shelf, sink, &OpenGate)
 }

@@ -1,6 +1,6 @@
 //! Each load and each put of each form fails in turn, also in the middle of a piece.
 
-use crate::calls::{answer, shelf, words};
+use crate::calls::{answer, shelf};
 use feast_base::{MemSink, Stop};
 use feast_run::Status;
 use std::alloc::Global;
@@ -28,15 +28,19 @@ const FILES: [(&str, &str); 5] = [
     ),
 ];
 
-/// Calls that end well, each with the files that it loads, in order.
-const CALLS: [(&str, &str); 7] = [
-    ("check e", "e"),
-    ("code e", "e"),
-    ("run w e", "w e"),
-    ("step w e", "w e"),
-    ("replay walk j e", "walk e j"),
-    ("steppack w c", "w c"),
-    ("runpack w c", "w c"),
+/// A call of each form that ends well, with the files that it loads, in order.
+const CALLS: [(&str, &[&str]); 11] = [
+    ("check e", &["e"]),
+    ("code e", &["e"]),
+    ("pack e", &["e"]),
+    ("run w e", &["w", "e"]),
+    ("step w e", &["w", "e"]),
+    ("runpack w c", &["w", "c"]),
+    ("steppack w c", &["w", "c"]),
+    ("replay walk j e", &["walk", "e", "j"]),
+    ("audit walk j e", &["walk", "e", "j"]),
+    ("rewind walk j 0 e", &["walk", "e", "j"]),
+    ("gen 5", &[]),
 ];
 
 /// Puts that fail, each with how many first bytes of its piece are still appended.
@@ -69,8 +73,7 @@ fn ended<R: Threads + Sync>(
 #[test]
 fn each_load_fails_in_turn(rt: HostRuntime) -> Result<(), Fail> {
     let alloc = rt.alloc();
-    for (call, loads) in CALLS {
-        let names = words(alloc, loads)?;
+    for (call, names) in CALLS {
         for index in 0..names.len() {
             let (status, written) = ended(&rt, alloc, call, index as u64 + 1, (0, 0))?;
             let mut line = Vec::from_slice(alloc, names[index].as_bytes())?;

@@ -2,6 +2,7 @@
 
 use feast_base::Name;
 use sat_math::Kind;
+use stack_code::Instr::*;
 use stack_code::{Answer, Instr, Operand, RawCode, RawFunction, print, verify};
 use std::alloc::Global;
 use std::test::Fail;
@@ -34,23 +35,18 @@ fn accepts(alloc: Global, instrs: &[Instr]) -> Result<bool, Fail> {
 
 // So many numbers given and then taken.
 fn deep(alloc: Global, count: usize) -> Result<Vec<Instr>, Fail> {
-    let mut instrs = vec![in alloc; Instr::PushNum(0); count]?;
+    let mut instrs = vec![in alloc; PushNum(0); count]?;
     for _ in 0..count {
-        instrs.push(Instr::Pop)?;
+        instrs.push(Pop)?;
     }
-    instrs.push(Instr::ReturnVoid)?;
+    instrs.push(ReturnVoid)?;
     Ok(instrs)
 }
 
 #[test]
 fn verify_gives_the_same_code_where_it_is_valid(rt: HostRuntime) -> Result<(), Fail> {
     let alloc = rt.alloc();
-    let instrs = [
-        Instr::PushNum(0),
-        Instr::PushNum(4),
-        Instr::Swap,
-        Instr::ReturnVoid,
-    ];
+    let instrs = [PushNum(0), PushNum(4), Swap, ReturnVoid];
     let raw = code(alloc, &instrs)?;
     assert_eq!(rt;
         (raw.kind(), raw.instrs().len(), raw.functions().len()),
@@ -74,109 +70,166 @@ fn verify_gives_the_same_code_where_it_is_valid(rt: HostRuntime) -> Result<(), F
     Ok(())
 }
 
+/// Instructions of one function, with whether they are valid code, and what that shows.
+const RULES: [(&str, bool, &[Instr]); 29] = [
+    ("an exchange of no operands", false, &[Swap, ReturnVoid]),
+    ("a jump to its own place", false, &[Jump(0)]),
+    ("no end", false, &[PushNum(0)]),
+    ("no instruction", false, &[]),
+    (
+        "code that is not reached",
+        true,
+        &[ReturnVoid, PushNum(0), Pop, ReturnVoid],
+    ),
+    ("a jump back straight after a turn", true, &[Turn, Jump(0)]),
+    (
+        "a jump back without a turn",
+        false,
+        &[PushNum(0), Pop, Jump(0)],
+    ),
+    (
+        "a jump to a jump back",
+        false,
+        &[PushNum(0), JumpFalse(3), Turn, Jump(0)],
+    ),
+    (
+        "a jump back on zero",
+        false,
+        &[Turn, PushNum(0), JumpFalse(0), ReturnVoid],
+    ),
+    (
+        "lists that differ where ways meet",
+        false,
+        &[PushNum(0), JumpFalse(3), PushNum(1), ReturnVoid],
+    ),
+    (
+        "lists that differ at a loop",
+        false,
+        &[PushNum(0), Turn, Jump(0)],
+    ),
+    (
+        "slots of their kinds",
+        true,
+        &[
+            PushNum(0),
+            StoreLocal(0),
+            PushAtom(0),
+            StoreLocal(1),
+            ReturnVoid,
+        ],
+    ),
+    (
+        "a number for an atom's slot",
+        false,
+        &[PushNum(0), StoreLocal(1), ReturnVoid],
+    ),
+    (
+        "a slot that is not there",
+        false,
+        &[LoadLocal(2), Pop, ReturnVoid],
+    ),
+    (
+        "a part of a number's slot",
+        false,
+        &[LoadPart(0, 0, 1, Kind::Bits), Pop, ReturnVoid],
+    ),
+    (
+        "a field that ends at bit 71",
+        true,
+        &[LoadField(7, 64, Kind::Int), Pop, ReturnVoid],
+    ),
+    (
+        "a field that ends past bit 71",
+        false,
+        &[LoadField(8, 64, Kind::Int), Pop, ReturnVoid],
+    ),
+    (
+        "a width that is too small",
+        false,
+        &[LoadField(0, 1, Kind::Int), Pop, ReturnVoid],
+    ),
+    (
+        "a width that is too great",
+        false,
+        &[LoadField(0, 2, Kind::Bool), Pop, ReturnVoid],
+    ),
+    (
+        "an array that ends at bit 71",
+        true,
+        &[
+            PushNum(0),
+            LoadFieldAt(5, 11, Kind::Bits, 6),
+            Pop,
+            ReturnVoid,
+        ],
+    ),
+    (
+        "an array that ends past bit 71",
+        false,
+        &[
+            PushNum(0),
+            LoadFieldAt(6, 11, Kind::Bits, 6),
+            Pop,
+            ReturnVoid,
+        ],
+    ),
+    (
+        "an array of no elements",
+        false,
+        &[
+            PushNum(0),
+            LoadFieldAt(6, 11, Kind::Bits, 0),
+            Pop,
+            ReturnVoid,
+        ],
+    ),
+    (
+        "the greatest operand",
+        true,
+        &[
+            PushNum(18_446_744_073_709_551_615),
+            NotW(64),
+            Pop,
+            ReturnVoid,
+        ],
+    ),
+    (
+        "a greater operand",
+        false,
+        &[PushNum(18_446_744_073_709_551_616), Pop, ReturnVoid],
+    ),
+    (
+        "an operand below the least",
+        false,
+        &[PushNum(-9_223_372_036_854_775_809), Pop, ReturnVoid],
+    ),
+    (
+        "bits of no width",
+        false,
+        &[PushNum(1), NotW(65), Pop, ReturnVoid],
+    ),
+    ("a call of no function", false, &[Call(1), ReturnVoid]),
+    ("a call", true, &[Call(0), ReturnVoid]),
+    (
+        "an answer of a function that has none",
+        false,
+        &[PushNum(0), Return],
+    ),
+];
+
 #[test]
 fn verify_goes_by_the_rule(rt: HostRuntime) -> Result<(), Fail> {
-    use Instr::*;
+    for (shows, valid, instrs) in RULES {
+        assert_eq!(rt; accepts(rt.alloc(), instrs)?, valid, "{shows}");
+    }
+    Ok(())
+}
+
+#[test]
+fn code_has_at_most_512_operands_at_once(rt: HostRuntime) -> Result<(), Fail> {
     let alloc = rt.alloc();
-    // want of operands, a jump to its own place, no end, code that isn't reached
-    assert!(rt; !accepts(alloc, &[Swap, ReturnVoid])?);
-    assert!(rt; !accepts(alloc, &[Jump(0)])?);
-    assert!(rt; !accepts(alloc, &[PushNum(0)])?);
-    assert!(rt; !accepts(alloc, &[])?);
-    assert!(rt; accepts(alloc, &[ReturnVoid, PushNum(0), Pop, ReturnVoid])?);
-    // 512 operands and no more
     assert!(rt; accepts(alloc, deep(alloc, 512)?.as_slice())?);
     assert!(rt; !accepts(alloc, deep(alloc, 513)?.as_slice())?);
-    // a jump back stands straight after a turn, and no jump names it
-    assert!(rt; accepts(alloc, &[Turn, Jump(0)])?);
-    assert!(rt; !accepts(alloc, &[PushNum(0), Pop, Jump(0)])?);
-    assert!(rt; !accepts(alloc, &[PushNum(0), JumpFalse(3), Turn, Jump(0)])?);
-    assert!(rt; !accepts(alloc, &[Turn, PushNum(0), JumpFalse(0), ReturnVoid])?);
-    // lists that differ where ways meet, and at a loop
-    assert!(rt; !accepts(alloc, &[PushNum(0), JumpFalse(3), PushNum(1), ReturnVoid])?);
-    assert!(rt; !accepts(alloc, &[PushNum(0), Turn, Jump(0)])?);
-    // slots and kinds
-    assert!(rt;
-        accepts(
-            alloc,
-            &[
-                PushNum(0),
-                StoreLocal(0),
-                PushAtom(0),
-                StoreLocal(1),
-                ReturnVoid
-            ]
-        )?
-    );
-    assert!(rt; !accepts(alloc, &[PushNum(0), StoreLocal(1), ReturnVoid])?);
-    assert!(rt; !accepts(alloc, &[LoadLocal(2), Pop, ReturnVoid])?);
-    assert!(rt; !accepts(alloc, &[LoadPart(0, 0, 1, Kind::Bits), Pop, ReturnVoid])?);
-    // arguments: widths, fields that end past bit 71, numbers that no operand is
-    assert!(rt; accepts(alloc, &[LoadField(7, 64, Kind::Int), Pop, ReturnVoid])?);
-    assert!(rt; !accepts(alloc, &[LoadField(8, 64, Kind::Int), Pop, ReturnVoid])?);
-    assert!(rt; !accepts(alloc, &[LoadField(0, 1, Kind::Int), Pop, ReturnVoid])?);
-    assert!(rt; !accepts(alloc, &[LoadField(0, 2, Kind::Bool), Pop, ReturnVoid])?);
-    assert!(rt;
-        accepts(
-            alloc,
-            &[
-                PushNum(0),
-                LoadFieldAt(5, 11, Kind::Bits, 6),
-                Pop,
-                ReturnVoid
-            ]
-        )?
-    );
-    assert!(rt;
-        !accepts(
-            alloc,
-            &[
-                PushNum(0),
-                LoadFieldAt(6, 11, Kind::Bits, 6),
-                Pop,
-                ReturnVoid
-            ]
-        )?
-    );
-    assert!(rt;
-        !accepts(
-            alloc,
-            &[
-                PushNum(0),
-                LoadFieldAt(6, 11, Kind::Bits, 0),
-                Pop,
-                ReturnVoid
-            ]
-        )?
-    );
-    assert!(rt;
-        accepts(
-            alloc,
-            &[
-                PushNum(18_446_744_073_709_551_615),
-                NotW(64),
-                Pop,
-                ReturnVoid
-            ]
-        )?
-    );
-    assert!(rt;
-        !accepts(
-            alloc,
-            &[PushNum(18_446_744_073_709_551_616), Pop, ReturnVoid]
-        )?
-    );
-    assert!(rt;
-        !accepts(
-            alloc,
-            &[PushNum(-9_223_372_036_854_775_809), Pop, ReturnVoid]
-        )?
-    );
-    assert!(rt; !accepts(alloc, &[PushNum(1), NotW(65), Pop, ReturnVoid])?);
-    // calls and answers
-    assert!(rt; !accepts(alloc, &[Call(1), ReturnVoid])?);
-    assert!(rt; accepts(alloc, &[Call(0), ReturnVoid])?);
-    assert!(rt; !accepts(alloc, &[PushNum(0), Return])?);
     Ok(())
 }
 
@@ -190,7 +243,6 @@ fn calling(alloc: Global, first: u32, answer: Answer, instrs: &[Instr]) -> Resul
 
 #[test]
 fn functions_lie_one_after_another(rt: HostRuntime) -> Result<(), Fail> {
-    use Instr::*;
     let alloc = rt.alloc();
     let instrs = [Call(1), Pop, ReturnVoid, PushNum(5), Return];
     assert!(rt; verify(alloc, calling(alloc, 3, Answer::Number, &instrs)?)?.is_some());
@@ -213,47 +265,62 @@ fn text_of(alloc: Global, name: &[u8], raw: RawCode) -> Result<Vec<u8>, Fail> {
     Ok(out)
 }
 
+const WALKER: &str =
+    "element Walker 1 4\nfunction 0 behave 0 0\n0 PushNum 0\n1 PushNum 4\n2 Swap\n3 ReturnVoid\n";
+
+const TWICE: [Instr; 6] = [
+    Call(1),
+    Pop,
+    ReturnVoid,
+    PushNum(-5),
+    Fit(Kind::Int, 4),
+    Return,
+];
+
+const TWICE_TEXT: &str =
+    "element Twice 1 6\nfunction 0 behave 0 0\n0 Call 1\n1 Pop\n2 ReturnVoid\nfunction 1 other 0 0\n3 PushNum -5\n4 Fit Int 4\n5 Return\n";
+
 #[test]
 fn a_code_is_printed_with_its_functions_and_places(rt: HostRuntime) -> Result<(), Fail> {
-    use Instr::*;
     let alloc = rt.alloc();
     let main = function(alloc, b"behave", 0, &[], Answer::Nothing)?;
     let walker = vec![in alloc; PushNum(0), PushNum(4), Swap, ReturnVoid]?;
     let walker = RawCode::new(1, vec![in alloc; main]?, walker);
-    assert_eq!(rt;
-        text_of(alloc, b"Walker", walker)?.as_slice(),
-        b"element Walker 1 4\nfunction 0 behave 0 0\n0 PushNum 0\n1 PushNum 4\n2 Swap\n3 ReturnVoid\n".as_slice()
-    );
-    let instrs = [
-        Call(1),
-        Pop,
-        ReturnVoid,
-        PushNum(-5),
-        Fit(Kind::Int, 4),
-        Return,
-    ];
-    assert_eq!(rt;
-        text_of(alloc, b"Twice", calling(alloc, 3, Answer::Number, &instrs)?)?.as_slice(),
-        b"element Twice 1 6\nfunction 0 behave 0 0\n0 Call 1\n1 Pop\n2 ReturnVoid\nfunction 1 other 0 0\n3 PushNum -5\n4 Fit Int 4\n5 Return\n".as_slice()
-    );
-    let instrs = [
-        LoadPart(1, 0, 2, Kind::Unsigned),
-        StorePartAt(1, 0, 3, Kind::Bits, 4),
-        ReturnVoid,
-    ];
-    assert_eq!(rt;
-        text_of(alloc, b"A", code(alloc, &instrs)?)?.as_slice(),
-        [].as_slice()
-    );
-    let instrs = [
-        PushNum(0),
-        LoadPart(1, 0, 2, Kind::Unsigned),
-        StorePartAt(1, 0, 3, Kind::Bits, 4),
-        ReturnVoid,
-    ];
-    assert_eq!(rt;
-        text_of(alloc, b"A", code(alloc, &instrs)?)?.as_slice(),
-        b"element A 1 4\nfunction 0 behave 0 2\n0 PushNum 0\n1 LoadPart 1 0 2 Unsigned\n2 StorePartAt 1 0 3 Bits 4\n3 ReturnVoid\n".as_slice()
-    );
+    let walker = text_of(alloc, b"Walker", walker)?;
+    assert_eq!(rt; walker.as_slice(), WALKER.as_bytes());
+    let twice = calling(alloc, 3, Answer::Number, &TWICE)?;
+    let twice = text_of(alloc, b"Twice", twice)?;
+    assert_eq!(rt; twice.as_slice(), TWICE_TEXT.as_bytes());
+    Ok(())
+}
+
+/// Codes of one function with their texts; what is not valid has none.
+const PRINTED: [(&[Instr], &str); 2] = [
+    (
+        &[
+            LoadPart(1, 0, 2, Kind::Unsigned),
+            StorePartAt(1, 0, 3, Kind::Bits, 4),
+            ReturnVoid,
+        ],
+        "",
+    ),
+    (
+        &[
+            PushNum(0),
+            LoadPart(1, 0, 2, Kind::Unsigned),
+            StorePartAt(1, 0, 3, Kind::Bits, 4),
+            ReturnVoid,
+        ],
+        "element A 1 4\nfunction 0 behave 0 2\n0 PushNum 0\n1 LoadPart 1 0 2 Unsigned\n2 StorePartAt 1 0 3 Bits 4\n3 ReturnVoid\n",
+    ),
+];
+
+#[test]
+fn instructions_are_printed_with_their_arguments(rt: HostRuntime) -> Result<(), Fail> {
+    let alloc = rt.alloc();
+    for (instrs, wanted) in PRINTED {
+        let text = text_of(alloc, b"A", code(alloc, instrs)?)?;
+        assert_eq!(rt; text.as_slice(), wanted.as_bytes());
+    }
     Ok(())
 }

@@ -4,6 +4,10 @@
 #![tactic(auto)]
 
 #[cfg(test)]
+mod acting;
+#[cfg(test)]
 mod codes;
 #[cfg(test)]
 mod events;
+#[cfg(test)]
+mod values;

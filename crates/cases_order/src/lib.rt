@@ -12,4 +12,4 @@ mod runs;
 pub use acts::{Turner, Walker};
 pub use driving::{drive, finish, settled, tiles};
 pub use plans::{Shape, Try, plan};
-pub use runs::run;
+pub use runs::{run, start};

@@ -26,7 +26,7 @@ fn put(map: &Map, grid: &mut Grid, x: u32, y: u32)
 }
 
 /// A grid of a map's plane with one atom, of type 1 and state 0, if the site is live.
-fn start(alloc: Global, map: &Map, x: u32, y: u32) -> Result<Grid, NoMemory>
+pub fn start(alloc: Global, map: &Map, x: u32, y: u32) -> Result<Grid, NoMemory>
     ensures { IfOk result (λ g. IsPlaneGrid map.now g) }
 {
     let mut grid = blank_grid(alloc, map)?;

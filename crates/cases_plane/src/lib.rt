@@ -4,4 +4,6 @@
 #![tactic(auto)]
 
 #[cfg(test)]
+mod off;
+#[cfg(test)]
 mod planes;

@@ -81,47 +81,50 @@ fn shown(alloc: Global, text: &str) -> Result<String, Fail> {
     }
 }
 
+/// Texts, with the layouts of their classes, or the fault of the layout.
+const LAYOUTS: [(&str, &str); 9] = [
+    (
+        "element A { Int(2) a; Int(32) b; Unsigned(1) c; Bits(1) d; Unary(1) e; Bool f; EventWindow ew; Bits g; Random random; Unary(5) h; Void behave() { } }",
+        "51: 0+2 2+32 34+1 35+1 36+1 37+1 38+0 38+8 46+0 46+5",
+    ),
+    (
+        "quark In { Int(3) a; Bool b; } quark Out { Bool p; In i; EventWindow ew; In j; } element A { Out o; Bool z; In i; Void behave() { } }",
+        "4: 0+3 3+1, 9: 0+1 1+4 5+0 5+4, 14: 0+9 9+1 10+4",
+    ),
+    (
+        "element A { Bool a[71]; Void behave() { } } quark Q { Bits(31) a; Bool b; }",
+        "71: 0+71, 32: 0+31 31+1",
+    ),
+    (
+        "element A { P p; Q q; Void behave() { } } quark P { Q a; Q b; } quark Q { Unsigned(3) a[2]; Void f() { } Bool n; }",
+        "21: 0+14 14+7, 14: 0+7 7+7, 7: 0+6 6+1",
+    ),
+    (
+        "quark Q { Bits k; Void clear() { k = 0; } } element A { EventWindow ew; Q q; Int m; Void behave() { q.clear(); q.k = 1; Atom a = ew[1]; if (a as A) { a.m = self.m; a.q.k = q.k; } } }",
+        "8: 0+8, 40: 0+0 0+8 8+32",
+    ),
+    (
+        "quark R { Q a; Bool b; } quark Q { Bits(32) a; Bool b; }",
+        "quark takes more than 32 bits: 34 at 7",
+    ),
+    (
+        "quark Q { Bits(32) a; } element A { Q a; Q b; Bits(8) c; Void behave() { } }",
+        "element takes more than 71 bits: 72 at 33",
+    ),
+    (
+        "quark Q { Bits(30) a; } element A { Q a; Q b; Q c; Void behave() { } } quark R { Q a; Q b; }",
+        "element takes more than 71 bits: 90 at 33",
+    ),
+    (
+        "quark Q { Unsigned(8) a[5]; }",
+        "quark takes more than 32 bits: 40 at 7",
+    ),
+];
+
 #[test]
 fn texts_with_their_layouts(rt: HostRuntime) -> Result<(), Fail> {
     one_width();
-    for (text, wanted) in [
-        (
-            "element A { Int(2) a; Int(32) b; Unsigned(1) c; Bits(1) d; Unary(1) e; Bool f; EventWindow ew; Bits g; Random random; Unary(5) h; Void behave() { } }",
-            "51: 0+2 2+32 34+1 35+1 36+1 37+1 38+0 38+8 46+0 46+5",
-        ),
-        (
-            "quark In { Int(3) a; Bool b; } quark Out { Bool p; In i; EventWindow ew; In j; } element A { Out o; Bool z; In i; Void behave() { } }",
-            "4: 0+3 3+1, 9: 0+1 1+4 5+0 5+4, 14: 0+9 9+1 10+4",
-        ),
-        (
-            "element A { Bool a[71]; Void behave() { } } quark Q { Bits(31) a; Bool b; }",
-            "71: 0+71, 32: 0+31 31+1",
-        ),
-        (
-            "element A { P p; Q q; Void behave() { } } quark P { Q a; Q b; } quark Q { Unsigned(3) a[2]; Void f() { } Bool n; }",
-            "21: 0+14 14+7, 14: 0+7 7+7, 7: 0+6 6+1",
-        ),
-        (
-            "quark Q { Bits k; Void clear() { k = 0; } } element A { EventWindow ew; Q q; Int m; Void behave() { q.clear(); q.k = 1; Atom a = ew[1]; if (a as A) { a.m = self.m; a.q.k = q.k; } } }",
-            "8: 0+8, 40: 0+0 0+8 8+32",
-        ),
-        (
-            "quark R { Q a; Bool b; } quark Q { Bits(32) a; Bool b; }",
-            "quark takes more than 32 bits: 34 at 7",
-        ),
-        (
-            "quark Q { Bits(32) a; } element A { Q a; Q b; Bits(8) c; Void behave() { } }",
-            "element takes more than 71 bits: 72 at 33",
-        ),
-        (
-            "quark Q { Bits(30) a; } element A { Q a; Q b; Q c; Void behave() { } } quark R { Q a; Q b; }",
-            "element takes more than 71 bits: 90 at 33",
-        ),
-        (
-            "quark Q { Unsigned(8) a[5]; }",
-            "quark takes more than 32 bits: 40 at 7",
-        ),
-    ] {
+    for (text, wanted) in LAYOUTS {
         let found = shown(rt.alloc(), text)?;
         assert_eq!(rt; found.as_str(), wanted, "{text}");
     }

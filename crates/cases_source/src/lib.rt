@@ -4,6 +4,8 @@
 #![tactic(auto)]
 
 #[cfg(test)]
+mod grammar;
+#[cfg(test)]
 mod layouts;
 #[cfg(test)]
 mod names;

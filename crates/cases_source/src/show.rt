@@ -2,226 +2,77 @@
 //!
 //! A local is `$` and its slot; a data member `m` and a function `f` with the numbers of its class
 //! and its own; a constant its number and its type; a class as a type `#` and its number.
+mod exprs;
 
+use exprs::{behind, call, cond, expr, left, named, word};
 use feast_base::Place;
-use sat_math::NumType;
 use std::alloc::{AllocError, Global};
-use ulam_tree::Word;
-use ulam_tree::resolved::{
-    Call, Class, Cond, Expr, Left, Member, Named, Param, Path, Program, Statement, Step, Ty,
-};
+use ulam_tree::PairOp;
+use ulam_tree::resolved::{Class, Expr, Left, Member, Named, Param, Program, Statement};
 
-fn word(alloc: Global, word: &Word) -> Result<String, AllocError> {
-    let name = str::from_utf8(word.name.bytes()).unwrap_or("?");
-    let Place { column, .. } = word.place;
-    format!(in alloc; "{name}@{column}")
+fn returned(alloc: Global, place: Place, value: &Option<Expr>) -> Result<String, AllocError> {
+    let value = behind(alloc, " ", value)?;
+    let Place { column, .. } = place;
+    format!(in alloc; "return@{column}{value};")
 }
 
-fn number_type(alloc: Global, num: NumType) -> Result<String, AllocError> {
-    let NumType { kind, width } = num;
-    format!(in alloc; "{kind:?}({width})")
+/// A jump out of a loop or to its next turn, by its name.
+fn jump(alloc: Global, name: &str, place: Place) -> Result<String, AllocError> {
+    let Place { column, .. } = place;
+    format!(in alloc; "{name}@{column};")
 }
 
-fn ty(alloc: Global, ty: Ty) -> Result<String, AllocError> {
-    match ty {
-        Ty::Num { num } => number_type(alloc, num),
-        Ty::Class { class } => format!(in alloc; "#{class}"),
-        other => format!(in alloc; "{other:?}"),
+fn declare(
+    alloc: Global,
+    of: Named,
+    slot: u32,
+    place: Place,
+    value: &Option<Expr>,
+) -> Result<String, AllocError> {
+    let of = named(alloc, of)?;
+    let value = behind(alloc, " = ", value)?;
+    let Place { column, .. } = place;
+    format!(in alloc; "{of} ${slot}@{column}{value};")
+}
+
+fn assign(
+    alloc: Global,
+    to: &Left,
+    op: Option<PairOp>,
+    value: &Expr,
+) -> Result<String, AllocError> {
+    let to = left(alloc, to)?;
+    let value = expr(alloc, value)?;
+    match op {
+        None => format!(in alloc; "{to} = {value};"),
+        Some(op) => format!(in alloc; "{to} {op:?}= {value};"),
     }
 }
 
-fn named(alloc: Global, named: Named) -> Result<String, AllocError> {
-    let ty = ty(alloc, named.ty)?;
-    let Place { column, .. } = named.place;
-    format!(in alloc; "{ty}@{column}")
-}
-
-fn step(alloc: Global, step: Step) -> Result<String, AllocError> {
-    match step {
-        Step::Own => format!(in alloc; "self"),
-        Step::Local { slot } => format!(in alloc; "${slot}"),
-        Step::Member { class, member } => format!(in alloc; "m{class}/{member}"),
-        Step::Function { class, function } => format!(in alloc; "f{class}/{function}"),
-        Step::Constant { num, value } => {
-            let num = number_type(alloc, num)?;
-            format!(in alloc; "{value}:{num}")
-        }
-        Step::Built { call } => format!(in alloc; "{call:?}"),
-    }
-}
-
-fn path(alloc: Global, path: &Path) -> Result<String, AllocError> {
-    let mut out = String::new(alloc);
-    for one in &path.steps {
-        if !out.is_empty() {
-            out.push_str(".")?;
-        }
-        out.push_str(step(alloc, *one)?.as_str())?;
-    }
-    let Place { column, .. } = path.place;
-    format!(in alloc; "{out}@{column}")
-}
-
-#[cycle(expr)]
-fn call(alloc: Global, call: &Call) -> Result<String, AllocError> {
-    let mut out = path(alloc, &call.path)?;
-    out.push_str("(")?;
-    let mut first = true;
-    for arg in &call.args {
-        if !first {
-            out.push_str(", ")?;
-        }
-        first = false;
-        out.push_str(expr(alloc, arg)?.as_str())?;
-    }
-    out.push_str(")")?;
-    Ok(out)
-}
-
-#[cycle(expr)]
-fn expr(alloc: Global, whole: &Expr) -> Result<String, AllocError> {
-    match whole {
-        Expr::Number {
-            value,
-            unsigned,
-            place,
-        } => {
-            let u = if *unsigned { "u" } else { "" };
-            let Place { column, .. } = *place;
-            format!(in alloc; "{value}{u}@{column}")
-        }
-        Expr::Truth { value, place } => {
-            let Place { column, .. } = *place;
-            format!(in alloc; "{value}@{column}")
-        }
-        Expr::Path { path: words } => path(alloc, words),
-        Expr::Call { call: one } => call(alloc, one),
-        Expr::Index { path: words, at } => {
-            let words = path(alloc, words)?;
-            let at = expr(alloc, at)?;
-            format!(in alloc; "{words}[{at}]")
-        }
-        Expr::Instance { class } => {
-            let class = named(alloc, *class)?;
-            format!(in alloc; "{class}.instanceof")
-        }
-        Expr::Group { inner, place } => {
-            let inner = expr(alloc, inner)?;
-            let Place { column, .. } = *place;
-            format!(in alloc; "({inner})@{column}")
-        }
-        Expr::Cast { to, value, place } => {
-            let to = named(alloc, *to)?;
-            let value = expr(alloc, value)?;
-            let Place { column, .. } = *place;
-            format!(in alloc; "({to})@{column} {value}")
-        }
-        Expr::Prefix { op, value, place } => {
-            let value = expr(alloc, value)?;
-            let Place { column, .. } = *place;
-            format!(in alloc; "{op:?}@{column} {value}")
-        }
-        Expr::Pair {
-            op,
-            left,
-            right,
-            place,
-        } => {
-            let left = expr(alloc, left)?;
-            let right = expr(alloc, right)?;
-            let Place { column, .. } = *place;
-            format!(in alloc; "[{left} {op:?}@{column} {right}]")
-        }
-        Expr::Is {
-            value,
-            class,
-            place,
-        } => {
-            let value = expr(alloc, value)?;
-            let class = named(alloc, *class)?;
-            let Place { column, .. } = *place;
-            format!(in alloc; "[{value} is@{column} {class}]")
-        }
-    }
-}
-
-/// An expression behind a text, or nothing.
-fn behind(alloc: Global, front: &str, value: &Option<Expr>) -> Result<String, AllocError> {
-    match value {
-        None => Ok(String::new(alloc)),
-        Some(value) => {
-            let value = expr(alloc, value)?;
-            format!(in alloc; "{front}{value}")
-        }
-    }
-}
-
-fn left(alloc: Global, left: &Left) -> Result<String, AllocError> {
-    let words = path(alloc, &left.path)?;
-    match &left.index {
-        None => Ok(words),
-        Some(index) => {
-            let index = expr(alloc, index)?;
-            format!(in alloc; "{words}[{index}]")
-        }
-    }
-}
-
-fn cond(alloc: Global, cond: &Cond) -> Result<String, AllocError> {
-    match cond {
-        Cond::Test { value } => expr(alloc, value),
-        Cond::Seen { path: words, class } => {
-            let words = path(alloc, words)?;
-            let class = named(alloc, *class)?;
-            format!(in alloc; "{words} as {class}")
-        }
-    }
+fn count(alloc: Global, to: &Left, up: bool) -> Result<String, AllocError> {
+    let to = left(alloc, to)?;
+    let sign = if up { "++" } else { "--" };
+    format!(in alloc; "{to}{sign};")
 }
 
 /// A statement that has none within.
 fn simple(alloc: Global, one: &Statement) -> Result<String, AllocError> {
     match one {
-        Statement::Return { place, value } => {
-            let value = behind(alloc, " ", value)?;
-            let Place { column, .. } = *place;
-            format!(in alloc; "return@{column}{value};")
-        }
-        Statement::Break { place } => {
-            let Place { column, .. } = *place;
-            format!(in alloc; "break@{column};")
-        }
-        Statement::Continue { place } => {
-            let Place { column, .. } = *place;
-            format!(in alloc; "continue@{column};")
-        }
+        Statement::Return { place, value } => returned(alloc, *place, value),
+        Statement::Break { place } => jump(alloc, "break", *place),
+        Statement::Continue { place } => jump(alloc, "continue", *place),
         Statement::Declare {
             of,
             slot,
             place,
             value,
-        } => {
-            let of = named(alloc, *of)?;
-            let value = behind(alloc, " = ", value)?;
-            let Place { column, .. } = *place;
-            format!(in alloc; "{of} ${slot}@{column}{value};")
-        }
+        } => declare(alloc, *of, *slot, *place, value),
         Statement::Assign {
             left: to,
             op,
             value,
-        } => {
-            let to = left(alloc, to)?;
-            let value = expr(alloc, value)?;
-            match op {
-                None => format!(in alloc; "{to} = {value};"),
-                Some(op) => format!(in alloc; "{to} {op:?}= {value};"),
-            }
-        }
-        Statement::Count { left: to, up } => {
-            let to = left(alloc, to)?;
-            let sign = if *up { "++" } else { "--" };
-            format!(in alloc; "{to}{sign};")
-        }
+        } => assign(alloc, to, *op, value),
+        Statement::Count { left: to, up } => count(alloc, to, *up),
         Statement::Call { call: one } => {
             let call = call(alloc, one)?;
             format!(in alloc; "{call};")

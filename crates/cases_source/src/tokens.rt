@@ -65,62 +65,61 @@ fn check(rt: &impl Abort, alloc: Global, table: &[(&str, &str)]) -> Result<(), F
     Ok(())
 }
 
+/// Texts, with their tokens.
+const TOKENS: [(&str, &str); 18] = [
+    ("", "End 0..0 1:1"),
+    (" \t\r\n", "End 4..4 2:1"),
+    ("// no LF", "End 8..8 1:9"),
+    ("//\n;", "Sign 3..4 2:1, End 4..4 2:2"),
+    ("/**/;/***/", "Sign 4..5 1:5, End 10..10 1:11"),
+    ("/*/ @\n*/x", "Name 8..9 2:3, End 9..9 2:4"),
+    ("/*// */ a", "Name 8..9 1:9, End 9..9 1:10"),
+    ("a\r\n b", "Name 0..1 1:1, Name 4..5 2:2, End 5..5 2:3"),
+    (
+        "if iff _if If",
+        "Keyword 0..2 1:1, Name 3..6 1:4, Name 7..10 1:8, TypeName 11..13 1:12, End 13..13 1:14",
+    ),
+    (
+        "x_1Z9 T_t",
+        "Name 0..5 1:1, TypeName 6..9 1:7, End 9..9 1:10",
+    ),
+    (
+        "0 0u 10 7u",
+        "Number 0..1 1:1, Number 2..4 1:3, Number 5..7 1:6, Number 8..10 1:9, End 10..10 1:11",
+    ),
+    (
+        "0xfFu 0b10u",
+        "Number 0..5 1:1, Number 6..11 1:7, End 11..11 1:12",
+    ),
+    (
+        "4294967295 0xffffffff",
+        "Number 0..10 1:1, Number 11..21 1:12, End 21..21 1:22",
+    ),
+    (
+        "0x00000000f 0b0",
+        "Number 0..11 1:1, Number 12..15 1:13, End 15..15 1:16",
+    ),
+    (
+        "<<=<<<=",
+        "Sign 0..3 1:1, Sign 3..5 1:4, Sign 5..7 1:6, End 7..7 1:8",
+    ),
+    (
+        "+++ -=",
+        "Sign 0..2 1:1, Sign 2..3 1:3, Sign 4..6 1:5, End 6..6 1:7",
+    ),
+    (
+        "a=!b",
+        "Name 0..1 1:1, Sign 1..2 1:2, Sign 2..3 1:3, Name 3..4 1:4, End 4..4 1:5",
+    ),
+    (
+        "1.5:/=",
+        "Number 0..1 1:1, Sign 1..2 1:2, Number 2..3 1:3, Sign 3..4 1:4, Sign 4..6 1:5, End 6..6 1:7",
+    ),
+];
+
 #[test]
 fn texts_with_their_tokens(rt: HostRuntime) -> Result<(), Fail> {
-    check(
-        &rt,
-        rt.alloc(),
-        &[
-            ("", "End 0..0 1:1"),
-            (" \t\r\n", "End 4..4 2:1"),
-            ("// no LF", "End 8..8 1:9"),
-            ("//\n;", "Sign 3..4 2:1, End 4..4 2:2"),
-            ("/**/;/***/", "Sign 4..5 1:5, End 10..10 1:11"),
-            ("/*/ @\n*/x", "Name 8..9 2:3, End 9..9 2:4"),
-            ("/*// */ a", "Name 8..9 1:9, End 9..9 1:10"),
-            ("a\r\n b", "Name 0..1 1:1, Name 4..5 2:2, End 5..5 2:3"),
-            (
-                "if iff _if If",
-                "Keyword 0..2 1:1, Name 3..6 1:4, Name 7..10 1:8, TypeName 11..13 1:12, End 13..13 1:14",
-            ),
-            (
-                "x_1Z9 T_t",
-                "Name 0..5 1:1, TypeName 6..9 1:7, End 9..9 1:10",
-            ),
-            (
-                "0 0u 10 7u",
-                "Number 0..1 1:1, Number 2..4 1:3, Number 5..7 1:6, Number 8..10 1:9, End 10..10 1:11",
-            ),
-            (
-                "0xfFu 0b10u",
-                "Number 0..5 1:1, Number 6..11 1:7, End 11..11 1:12",
-            ),
-            (
-                "4294967295 0xffffffff",
-                "Number 0..10 1:1, Number 11..21 1:12, End 21..21 1:22",
-            ),
-            (
-                "0x00000000f 0b0",
-                "Number 0..11 1:1, Number 12..15 1:13, End 15..15 1:16",
-            ),
-            (
-                "<<=<<<=",
-                "Sign 0..3 1:1, Sign 3..5 1:4, Sign 5..7 1:6, End 7..7 1:8",
-            ),
-            (
-                "+++ -=",
-                "Sign 0..2 1:1, Sign 2..3 1:3, Sign 4..6 1:5, End 6..6 1:7",
-            ),
-            (
-                "a=!b",
-                "Name 0..1 1:1, Sign 1..2 1:2, Sign 2..3 1:3, Name 3..4 1:4, End 4..4 1:5",
-            ),
-            (
-                "1.5:/=",
-                "Number 0..1 1:1, Sign 1..2 1:2, Number 2..3 1:3, Sign 3..4 1:4, Sign 4..6 1:5, End 6..6 1:7",
-            ),
-        ],
-    )
+    check(&rt, rt.alloc(), &TOKENS)
 }
 
 /// Each word that is no name, with spaces between.
@@ -157,41 +156,40 @@ fn each_keyword_and_each_sign_is_one_token(rt: HostRuntime) -> Result<(), Fail> 
     each_is(&rt, alloc, SIGNS, TokenKind::Sign, 44)
 }
 
+/// Texts that have no tokens, with their first fault.
+const FAULTS: [(&str, &str); 24] = [
+    ("@", "bad byte 3:1:1"),
+    ("a\n # ", "bad byte 3:2:2"),
+    ("\x0b", "bad byte 3:1:1"),
+    ("né", "bad byte 3:1:2"),
+    ("1a", "bad byte 3:1:2"),
+    ("00", "bad byte 3:1:2"),
+    ("0_", "bad byte 3:1:2"),
+    ("1uu", "bad byte 3:1:3"),
+    ("0b12", "bad byte 3:1:4"),
+    ("0X1", "bad byte 3:1:2"),
+    ("0x", "bad byte 3:1:3"),
+    ("0xg", "bad byte 3:1:3"),
+    ("0b\n", "bad byte 3:1:3"),
+    ("0bu", "bad byte 3:1:3"),
+    ("a /* b", "comment is not closed 3:1:3"),
+    ("/*/", "comment is not closed 3:1:1"),
+    ("\n  /* * /", "comment is not closed 3:2:3"),
+    ("4294967296", "number too large 3:1:1"),
+    ("x 0x100000000u", "number too large 3:1:3"),
+    ("4294967296x", "number too large 3:1:1"),
+    (
+        "0b111111111111111111111111111111111",
+        "number too large 3:1:1",
+    ),
+    ("99999999999999999999999999 @", "number too large 3:1:1"),
+    ("@ /*", "bad byte 3:1:1"),
+    ("/* @", "comment is not closed 3:1:1"),
+];
+
 #[test]
 fn texts_with_their_faults(rt: HostRuntime) -> Result<(), Fail> {
-    check(
-        &rt,
-        rt.alloc(),
-        &[
-            ("@", "bad byte 3:1:1"),
-            ("a\n # ", "bad byte 3:2:2"),
-            ("\x0b", "bad byte 3:1:1"),
-            ("né", "bad byte 3:1:2"),
-            ("1a", "bad byte 3:1:2"),
-            ("00", "bad byte 3:1:2"),
-            ("0_", "bad byte 3:1:2"),
-            ("1uu", "bad byte 3:1:3"),
-            ("0b12", "bad byte 3:1:4"),
-            ("0X1", "bad byte 3:1:2"),
-            ("0x", "bad byte 3:1:3"),
-            ("0xg", "bad byte 3:1:3"),
-            ("0b\n", "bad byte 3:1:3"),
-            ("0bu", "bad byte 3:1:3"),
-            ("a /* b", "comment is not closed 3:1:3"),
-            ("/*/", "comment is not closed 3:1:1"),
-            ("\n  /* * /", "comment is not closed 3:2:3"),
-            ("4294967296", "number too large 3:1:1"),
-            ("x 0x100000000u", "number too large 3:1:3"),
-            ("4294967296x", "number too large 3:1:1"),
-            (
-                "0b111111111111111111111111111111111",
-                "number too large 3:1:1",
-            ),
-            ("99999999999999999999999999 @", "number too large 3:1:1"),
-            ("@ /*", "bad byte 3:1:1"),
-            ("/* @", "comment is not closed 3:1:1"),
-        ],
-    )
+    check(&rt, rt.alloc(), &FAULTS)
 }
 
 /// A file as people write them.

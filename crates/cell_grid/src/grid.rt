@@ -43,7 +43,7 @@ impl Model for Grid {
 /// The coordinate plus an offset, if the sum is not negative and is below `end`. (A negative sum
 /// wraps to a large number, so one comparison covers both.)
 #[tactic(auto, using(crate::proofs::Shifts::shift_around))]
-fn shift(x: u32, by: i32, end: u32) -> Option<u32>
+fn shift_below(x: u32, by: i32, end: u32) -> Option<u32>
     requires small { x < 2 ^ 31 }
     requires near { unsigned_abs by ≤ 4 }
     requires low { end ≤ 2 ^ 31 }
@@ -164,8 +164,8 @@ impl Grid {
         ensures live { IsLivePlace self.now result }
     {
         let (dx, dy) = offset(n);
-        let u = shift(x, dx, self.width)?;
-        let v = shift(y, dy, self.height)?;
+        let u = shift_below(x, dx, self.width)?;
+        let v = shift_below(y, dy, self.height)?;
         let i = (v * self.width + u) as usize;
         if self.live[i] { Some(i) } else { None }
     }

@@ -64,13 +64,13 @@ pushed (Some x) st = x ∷ st
 abbrev pub call_out : ℕ → List Datum → Outcome (Option Datum) → Out
 call_out seed st r = out_of (λ v s. goes (at seed (pushed v st) s)) r
 
--- a law of what a run gives
-abbrev pub Gives : {X : Type 0} → (X → Type 0) → Outcome X → Type 0
-Gives P (m.gives x s) = P x
-Gives P (m.fails n) = Unit {0}
-Gives P m.wrong = Unit {0}
+-- if a run gives something, this holds of it
+abbrev pub IfGives : {X : Type 0} → (X → Type 0) → Outcome X → Type 0
+IfGives P (m.gives x s) = P x
+IfGives P (m.fails n) = Unit {0}
+IfGives P m.wrong = Unit {0}
 
-then_gives : {X Y : Type 0} (P : Y → Type 0) (r : Outcome X) (next : X → Store → Outcome Y) → ((x : X) (s : Store) → Gives P (next x s)) → Gives P (m.and_then r next)
+then_gives : {X Y : Type 0} (P : Y → Type 0) (r : Outcome X) (next : X → Store → Outcome Y) → ((x : X) (s : Store) → IfGives P (next x s)) → IfGives P (m.and_then r next)
 then_gives P (m.gives x s) next h = h x s
 then_gives P (m.fails n) next h = tt
 then_gives P m.wrong next h = tt
@@ -158,16 +158,16 @@ CalleeAnswers g no_callee v = ⊥
 
 module _ (e : Event) (hh : Asks) where
   -- a run, and a piece that goes on with what it gives
-  pub next_same : {X Y : Type 0} (n : X → Store → Now) (f : Y → Store → Out) (P : X → Type 0) (r : Outcome X) (next : X → Store → Outcome Y) (go : Now → Out) → Gives P r → ((x : X) (s : Store) → P x → go (n x s) ≡ out_of f (next x s)) → out_then (out_of (λ x s. goes (n x s)) r) go ≡ out_of f (m.and_then r next)
+  pub next_same : {X Y : Type 0} (n : X → Store → Now) (f : Y → Store → Out) (P : X → Type 0) (r : Outcome X) (next : X → Store → Outcome Y) (go : Now → Out) → IfGives P r → ((x : X) (s : Store) → P x → go (n x s) ≡ out_of f (next x s)) → out_then (out_of (λ x s. goes (n x s)) r) go ≡ out_of f (m.and_then r next)
   next_same n f P (m.gives x s) next go p h = h x s p
   next_same n f P (m.fails i) next go p h = refl
   next_same n f P m.wrong next go p h = refl
 
   -- the same of two pieces
-  pub seq_with : {X Y : Type 0} (n : X → Store → Now) (f : Y → Store → Out) (P : X → Type 0) (s0 : Now) (a q : Piece) (r : Outcome X) (next : X → Store → Outcome Y) → Gives P r → run e.acting hh a s0 ≡ out_of (λ x s. goes (n x s)) r → ((x : X) (s : Store) → P x → run e.acting hh q (n x s) ≡ out_of f (next x s)) → run e.acting hh (seq a q) s0 ≡ out_of f (m.and_then r next)
+  pub seq_with : {X Y : Type 0} (n : X → Store → Now) (f : Y → Store → Out) (P : X → Type 0) (s0 : Now) (a q : Piece) (r : Outcome X) (next : X → Store → Outcome Y) → IfGives P r → run e.acting hh a s0 ≡ out_of (λ x s. goes (n x s)) r → ((x : X) (s : Store) → P x → run e.acting hh q (n x s) ≡ out_of f (next x s)) → run e.acting hh (seq a q) s0 ≡ out_of f (m.and_then r next)
   seq_with n f P s0 a q r next p u h = ap (λ o. out_then o (run e.acting hh q)) u ∙ next_same n f P r next (run e.acting hh q) p h
 
-  any_given : {X : Type 0} (r : Outcome X) → Gives (λ x. Unit {0}) r
+  any_given : {X : Type 0} (r : Outcome X) → IfGives (λ x. Unit {0}) r
   any_given (m.gives x s) = tt
   any_given (m.fails i) = tt
   any_given m.wrong = tt
@@ -335,41 +335,41 @@ module _ (e : Event) (hh : Asks) where
   built_same b.Create xs st s l = one_arg RandCreate (λ x. draw e itself_drawn x s) xs st s l (λ x. draw_same RandCreate itself_drawn refl x st s)
   built_same b.OneIn xs st s l = one_arg RandOneIn (λ x. draw e one_in x s) xs st s l (λ x. draw_same RandOneIn one_in refl x st s)
 
-  number_gives : {Y : Type 0} (P : Y → Type 0) (x : Datum) (go : ℤ → Outcome Y) → ((v : ℤ) → Gives P (go v)) → Gives P (m.on_number x go)
+  number_gives : {Y : Type 0} (P : Y → Type 0) (x : Datum) (go : ℤ → Outcome Y) → ((v : ℤ) → IfGives P (go v)) → IfGives P (m.on_number x go)
   number_gives P (Number v) go h = h v
   number_gives P (Atom a) go h = tt
 
-  site_gives : {Y : Type 0} (P : Y → Type 0) (i : ℤ) (go : ℕ → Outcome Y) → ((n : ℕ) → Gives P (go n)) → Gives P (m.on_site i go)
+  site_gives : {Y : Type 0} (P : Y → Type 0) (i : ℤ) (go : ℕ → Outcome Y) → ((n : ℕ) → IfGives P (go n)) → IfGives P (m.on_site i go)
   site_gives P (negsuc n) go h = tt
   site_gives P (pos n) go h = by (nat_le n 40)
     where
-      by : (b : Bool) → Gives P (if b then go n else m.fails 4)
+      by : (b : Bool) → IfGives P (if b then go n else m.fails 4)
       by true = h n
       by false = tt
 
-  bound_gives : {Y : Type 0} (P : Y → Type 0) (i : ℤ) (go : ℕ → Outcome Y) → ((n : ℕ) → Gives P (go n)) → Gives P (m.on_bound i go)
+  bound_gives : {Y : Type 0} (P : Y → Type 0) (i : ℤ) (go : ℕ → Outcome Y) → ((n : ℕ) → IfGives P (go n)) → IfGives P (m.on_bound i go)
   bound_gives P (negsuc n) go h = tt
   bound_gives P (pos zero) go h = tt
   bound_gives P (pos (suc n)) go h = h (suc n)
 
-  one_gives : {Y : Type 0} (P : Y → Type 0) (xs : List Datum) (go : Datum → Outcome Y) → ((x : Datum) → Gives P (go x)) → Gives P (m.on_one xs go)
+  one_gives : {Y : Type 0} (P : Y → Type 0) (xs : List Datum) (go : Datum → Outcome Y) → ((x : Datum) → IfGives P (go x)) → IfGives P (m.on_one xs go)
   one_gives P [] go h = tt
   one_gives P (x ∷ []) go h = h x
   one_gives P (x ∷ y ∷ xs) go h = tt
 
-  two_gives : {Y : Type 0} (P : Y → Type 0) (xs : List Datum) (go : Datum → Datum → Outcome Y) → ((x y : Datum) → Gives P (go x y)) → Gives P (m.on_two xs go)
+  two_gives : {Y : Type 0} (P : Y → Type 0) (xs : List Datum) (go : Datum → Datum → Outcome Y) → ((x y : Datum) → IfGives P (go x y)) → IfGives P (m.on_two xs go)
   two_gives P [] go h = tt
   two_gives P (x ∷ []) go h = tt
   two_gives P (x ∷ y ∷ []) go h = h x y
   two_gives P (x ∷ y ∷ u ∷ xs) go h = tt
 
-  ask_gives : (question : WindowValue → ℕ → Bool) (P : Option Datum → Type 0) (x : Datum) (s : Store) → ((v : Datum) → P (Some v)) → Gives P (ask question x s)
+  ask_gives : (question : WindowValue → ℕ → Bool) (P : Option Datum → Type 0) (x : Datum) (s : Store) → ((v : Datum) → P (Some v)) → IfGives P (ask question x s)
   ask_gives question P x s h = number_gives P x _ (λ i. site_gives P i _ (λ n. h _))
 
-  draw_gives : (f : ℕ → ℤ) (P : Option Datum → Type 0) (x : Datum) (s : Store) → ((v : Datum) → P (Some v)) → Gives P (draw e f x s)
+  draw_gives : (f : ℕ → ℤ) (P : Option Datum → Type 0) (x : Datum) (s : Store) → ((v : Datum) → P (Some v)) → IfGives P (draw e f x s)
   draw_gives f P x s h = number_gives P x _ (λ i. bound_gives P i _ (λ n. h _))
 
-  built_gives : (c : Built) (xs : List Datum) (s : Store) → Gives (BuiltAnswers c) (built e c xs s)
+  built_gives : (c : Built) (xs : List Datum) (s : Store) → IfGives (BuiltAnswers c) (built e c xs s)
   built_gives b.Swap xs s = two_gives (BuiltAnswers b.Swap) xs (λ x y. exchange x y s) (λ x y. number_gives (BuiltAnswers b.Swap) x _ (λ i. number_gives (BuiltAnswers b.Swap) y _ (λ j. site_gives (BuiltAnswers b.Swap) i _ (λ a. site_gives (BuiltAnswers b.Swap) j _ (λ c. tt)))))
   built_gives b.IsLive xs s = one_gives (BuiltAnswers b.IsLive) xs (λ x. ask live_at x s) (λ x. ask_gives live_at (BuiltAnswers b.IsLive) x s (λ v. tt))
   built_gives b.IsEmpty xs s = one_gives (BuiltAnswers b.IsEmpty) xs (λ x. ask is_empty_at x s) (λ x. ask_gives is_empty_at (BuiltAnswers b.IsEmpty) x s (λ v. tt))
@@ -404,22 +404,22 @@ module _ (e : Event) (hh : Asks) where
   -- what calls of functions do, seen from both sides
   pub record SameCalls (g : Program) (h : Calls) : Type 0 where
     pub same : (f : Key) (xs st : List Datum) (s : Store) → length xs ≡ length (casts (function_of g f).params) → hh f (at e.seed (reverse_aux xs st) s) ≡ call_out e.seed st (h f xs s)
-    pub answers : (f : Key) (xs : List Datum) (s : Store) → Gives (Answers (function_of g f).result) (h f xs s)
+    pub answers : (f : Key) (xs : List Datum) (s : Store) → IfGives (Answers (function_of g f).result) (h f xs s)
 
   module _ (z : Scene) (h : Calls) (sc : SameCalls z.program h) where
     -- as many arguments as casts
-    args_long : (es : t.Args) (cs : List (Option NumType)) (s : Store) → Gives (λ xs. length xs ≡ length cs) (arguments e z h es cs s)
+    args_long : (es : t.Args) (cs : List (Option NumType)) (s : Store) → IfGives (λ xs. length xs ≡ length cs) (arguments e z h es cs s)
     args_long t.no_args [] s = refl
     args_long t.no_args (c ∷ cs) s = tt
     args_long (t.arg a es) [] s = tt
     args_long (t.arg a es) (c ∷ cs) s = then_gives (λ xs. length xs ≡ length (c ∷ cs)) (eval e z h a s) _ (λ x s1. then_gives (λ xs. length xs ≡ length (c ∷ cs)) (m.cast_to c x s1) _ (λ y s2. one_more y (arguments e z h es cs s2) (args_long es cs s2)))
       where
-        one_more : (y : Datum) (r : Outcome (List Datum)) → Gives (λ xs. length xs ≡ length cs) r → Gives (λ xs. length xs ≡ suc (length cs)) (with_first y r)
+        one_more : (y : Datum) (r : Outcome (List Datum)) → IfGives (λ xs. length xs ≡ length cs) r → IfGives (λ xs. length xs ≡ suc (length cs)) (with_first y r)
         one_more y (m.gives xs s) l = ap suc l
         one_more y (m.fails n) l = tt
         one_more y m.wrong l = tt
 
-    pub call_gives : (c : Callee) (args : List (Option NumType) → Outcome (List Datum)) → Gives (CalleeAnswers z.program c) (call e z.program h c args)
+    pub call_gives : (c : Callee) (args : List (Option NumType) → Outcome (List Datum)) → IfGives (CalleeAnswers z.program c) (call e z.program h c args)
     call_gives (called f) args = then_gives (CalleeAnswers z.program (called f)) (args (casts (function_of z.program f).params)) (λ xs s. h f xs s) (λ xs s. sc.answers f xs s)
     call_gives (built_in c) args = then_gives (CalleeAnswers z.program (built_in c)) (args (built_casts c)) (λ xs s. built e c xs s) (λ xs s. built_gives c xs s)
     call_gives no_callee args = tt

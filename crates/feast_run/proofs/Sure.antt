@@ -36,13 +36,13 @@ some_one : {X : Type 0} (o : Option X) (x y : X) → o ≡ Some x → o ≡ Some
 unfolding some_of
 some_one o x y p q = ap (some_of x) (sym p ∙ q)
 
-pub load_one : (files : List File) (limit : ℕ) (word : List ℕ) → IsOne IsRefusal (load (Some files) limit word)
+load_one : (files : List File) (limit : ℕ) (word : List ℕ) → IsOne IsRefusal (load (Some files) limit word)
 load_one files limit word = record {
   sure = sure_by (load (Some files) limit word) (λ a r p q. let e = ap length (some_one _ a q.0.0 p.0 q.0.1) in absurd (omega (arith, e, p.1, q.0.2))) (λ r s p q. p.1 ∙ sym q.1);
   one_value = λ a b p q. some_one _ a b p.0 q.0;
 }
 
-pub loads_one : (files : List File) (done : List File) (words : List (List ℕ)) → IsOne IsRefusal (load_more (Some files) done words)
+loads_one : (files : List File) (done : List File) (words : List (List ℕ)) → IsOne IsRefusal (load_more (Some files) done words)
 loads_one files done [] = gives_one done
 loads_one files done (word ∷ words) = then_one _ _ (load_one files element_limit word) (λ bytes. loads_one files (done ++ (word, bytes) ∷ []) words)
 
@@ -57,7 +57,7 @@ builds_one words sources = record {
   one_value = λ a b p q. (built_one sources).one_value a b p q;
 }
 
-set_one : (files : List File) (words : List (List ℕ)) → IsOne IsRefusal (set_of (Some files) words)
+pub set_one : (files : List File) (words : List (List ℕ)) → IsOne IsRefusal (set_of (Some files) words)
 set_one files words = then_one _ _ (loads_one files [] words) (builds_one words)
 
 draft_one : (files : List File) (word : List ℕ) → IsOne IsRefusal (draft_of (Some files) word)
@@ -72,8 +72,11 @@ ready_one elements S files word one = then_one _ _ (draft_one files word) (λ dr
 sources_one : (files : List File) (word : List ℕ) (words : List (List ℕ)) → IsOne IsRefusal (ready (Some files) word words)
 sources_one files word words = ready_one source_elements (set_of (Some files) words) files word (set_one files words)
 
+pub codes_one : (files : List File) (word : List ℕ) → IsOne IsRefusal (codes_from (Some files) word)
+codes_one files word = then_one _ _ (load_one files code_limit word) (codes_in_one word)
+
 packed_one : (files : List File) (word file : List ℕ) → IsOne IsRefusal (ready_packed (Some files) word file)
-packed_one files word file = ready_one code_elements (codes_from (Some files) file) files word (then_one _ _ (load_one files code_limit file) (codes_in_one file))
+packed_one files word file = ready_one code_elements (codes_from (Some files) file) files word (codes_one files file)
 
 journal_one : (files : List File) (word : List ℕ) (world : WorldValue) → IsOne IsRefusal (journal_of (Some files) word world)
 journal_one files word world = then_one _ _ (load_one files journal_limit word) (λ bytes. decides_one (journal_refused word) (journal_said (read_report world.plane world.plan.lists bytes)))

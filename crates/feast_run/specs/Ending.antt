@@ -40,7 +40,7 @@ Leaves old new (Err (misses word)) = Notes old new word
 
 -- what the stages of a form come to say: the status and text of one of their outcomes
 pub record Comes (S : Stage (List ℕ) HaltValue) (old new : ShelfState) (status : Status) (text : List ℕ) : Type 0 where
-  pub outcome : Outcome (List ℕ)
+  pub outcome : Result (List ℕ) HaltValue
   pub comes : S outcome
   pub leaves : Leaves old new outcome
   pub status_is : status ≡ status_of outcome

@@ -2,8 +2,8 @@
 use Rattle.std.proofs.Common.{ℕ, ◌≡◌, List, Option, subst, inl, inr, Result, Ok, Err}
 use Rattle.feast_base.specs.Outside.{File}
 use Rattle.feast_run.specs.Elements.{ElementsValue}
-use Rattle.feast_base.specs.Stages.{Stage, Goes, and_then}
-use Rattle.feast_run.specs.Halting.{HaltValue, RefusedValue, misses, refuses}
+use Rattle.feast_base.specs.Stages.{Stage, Goes, IsOne, and_then}
+use Rattle.feast_run.specs.Halting.{HaltValue, IsRefusal, RefusedValue, misses, refuses}
 use Rattle.feast_run.specs.Stages.{ReadyValue, draft_of, named_by, ready_by, with_elements}
 use Rattle.pack_laws.specs.PackedFile.{IsLoaded}
 
@@ -12,6 +12,10 @@ pub record Only {A : Type 0} (S : Stage A HaltValue) (x : A) : Type 0 where
   pub passed : S (Ok x)
   pub one : (a : A) → S (Ok a) → a ≡ x
   pub never : (r : RefusedValue) → S (Err (refuses r)) → ⊥
+
+-- a stage that passes with it and has one outcome
+pub only_one : {A : Type 0} (S : Stage A HaltValue) (x : A) → IsOne IsRefusal S → S (Ok x) → Only S x
+only_one S x is_one p = record { passed = p; one = λ a q. is_one.one_value a x q p; never = λ r q. is_one.sure.apart x (refuses r) tt p q }
 
 goes_on : {A B : Type 0} (S : Stage A HaltValue) (T : A → Stage B HaltValue) (x : A) (o : Result B HaltValue) → Only S x → Goes S T o → T x o
 goes_on S T x o h g = subst (λ a. T a o) (h.one g.value g.passed) g.rest

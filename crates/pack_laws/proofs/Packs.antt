@@ -1,28 +1,25 @@
 -- A packed code file gives the elements of the files that it was packed of.
-use Rattle.std.proofs.Common.{ℕ, ◌≡◌, List, [], Some, Ok, Err, Result, sym, subst, inl, inr}
+use Rattle.std.proofs.Common.{ℕ, ◌≡◌, List, Some, Ok, Result, sym, subst, inr}
 use Rattle.code_file.specs.Form.{CodesValue}
 use Rattle.code_file.specs.Judging.{Reads}
-use Rattle.code_file.specs.declared.fault.CodeFault.{CodeFault}
-use Rattle.element_set.proofs.OneSet.{set_one as built_one}
 use Rattle.element_set.specs.Sets.{SetValue, AcceptsFiles}
 use Rattle.feast_base.specs.Outside.{File}
 use Rattle.feast_run.proofs.CodeStages.{codes_are, codes_pass}
-use Rattle.feast_base.proofs.Stages.{went}
 use Rattle.feast_run.proofs.Loads.{files_load}
 use Rattle.feast_run.proofs.Runs.{set_is}
-use Rattle.feast_run.proofs.Sure.{load_one, loads_one}
-use Rattle.feast_run.specs.CodeFiles.{code_limit, codes_from, codes_in}
+use Rattle.feast_run.proofs.Sure.{codes_one, set_one}
+use Rattle.feast_run.specs.CodeFiles.{codes_from}
 use Rattle.feast_run.specs.Elements.{code_elements, source_elements}
 use Rattle.feast_run.specs.Forms.{run, runpack, step, steppack}
-use Rattle.feast_base.specs.Stages.{IsOne, Stage, and_then}
-use Rattle.feast_run.specs.Halting.{HaltValue, IsRefusal, refuses}
+use Rattle.feast_base.specs.Stages.{Stage, and_then}
+use Rattle.feast_run.specs.Halting.{HaltValue}
 use Rattle.feast_run.specs.Packed.{pack_text}
 use Rattle.feast_run.specs.Promises.{IsCodeFile, IsSet, Shows}
-use Rattle.feast_run.specs.Stages.{ReadyValue, builds, load, load_all, ready_by, set_of}
+use Rattle.feast_run.specs.Stages.{ReadyValue, load_all, ready_by, set_of}
 use Rattle.pack_laws.specs.Packed.{packed}
-use Rattle.pack_laws.proofs.Accepted.{again, names, only, same}
+use Rattle.pack_laws.proofs.Accepted.{again, names, same}
 use Rattle.pack_laws.specs.PackedFile.{IsLoaded, IsPacked}
-use Rattle.pack_laws.proofs.Only.{Only, form_same}
+use Rattle.pack_laws.proofs.Only.{Only, form_same, only_one}
 use Rattle.pack_laws.proofs.Shown.{OneTold, one_report, ran_same, stepped_same}
 
 -- The set that was packed
@@ -45,50 +42,15 @@ module _ (files : List File) (words : List (List ℕ)) (file : List ℕ) (packs 
 
   -- the element files give this set alone
   set_only : Only (set_of (Some files) words) set
-  set_only = record {
-    passed = inr (record { value = the_set.sources; passed = the_set.loaded; rest = the_set.accepted });
-    one = λ a p.
-        let b = went (load_all (Some files) words) (builds words) a p in
-        let sources = (loads_one files [] words).one_value b.value the_set.sources b.passed the_set.loaded in
-        (built_one the_set.sources).one_value a set (subst (λ l. AcceptsFiles l a) sources b.rest) the_set.accepted;
-    never = λ r p. elim p [
-      | inl halt ↦ (loads_one files [] words).sure.apart the_set.sources (refuses r) tt the_set.loaded halt
-      | inr b ↦
-          let sources = (loads_one files [] words).one_value b.value the_set.sources b.passed the_set.loaded in
-          (built_one the_set.sources).sure.apart set r.refusal tt the_set.accepted (subst (λ l. builds words l (Err (refuses r))) sources b.rest).0
-    ];
-  }
+  set_only = only_one (set_of (Some files) words) set (set_one files words) (inr (record { value = the_set.sources; passed = the_set.loaded; rest = the_set.accepted }))
 
   -- what the bytes of the code file say
-  says : (r : Result CodesValue CodeFault) → Reads packs.text r → r ≡ Ok (packed set)
-  says r reads = only the_set.sources set the_set.accepted r (subst (λ bytes. Reads bytes r) the_set.text reads)
-
   said : Reads packs.text (Ok (packed set))
   said = subst (λ bytes. Reads bytes (Ok (packed set))) (sym the_set.text) (again the_set.sources set the_set.accepted)
 
-  abbrev loads : IsOne IsRefusal (load (Some files) code_limit file)
-  loads = load_one files code_limit file
-
-  abbrev stands : load (Some files) code_limit file (Ok packs.text)
-  stands = (packs.stands, packs.within)
-
   -- the code file gives the set's elements with their codes alone
   codes_only : Only (codes_from (Some files) file) (packed set)
-  codes_only = record {
-    passed = inr (record { value = packs.text; passed = stands; rest = said });
-    one = λ a p.
-        let b = went (load (Some files) code_limit file) (codes_in file) a p in
-        let bytes = loads.one_value b.value packs.text b.passed stands in
-        let e = says (Ok a) (subst (λ l. Reads l (Ok a)) bytes b.rest) in
-        cc;
-    never = λ r p. elim p [
-      | inl halt ↦ loads.sure.apart packs.text (refuses r) tt stands halt
-      | inr b ↦
-          let bytes = loads.one_value b.value packs.text b.passed stands in
-          let e = says (Err b.rest.0) (subst (λ l. Reads l (Err b.rest.0)) bytes b.rest.1) in
-          cc
-    ];
-  }
+  codes_only = only_one (codes_from (Some files) file) (packed set) (codes_one files file) (inr (record { value = packs.text; passed = (packs.stands, packs.within); rest = said }))
 
   -- they are called and do the same
   elements_same : code_elements (packed set) ≡ source_elements set

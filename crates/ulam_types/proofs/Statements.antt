@@ -28,10 +28,10 @@ left_by_means g x (Some e) =
     let Q : t.Left × Ty → Type 0 = λ a. IsLeftBy g x (Some e) a.0 a.1 in
     means_then _ Q (index_by g x (expr g k.Int e)) _ (index_means g x (IsTyped g k.Int e) (expr g k.Int e) (expr_means g k.Int e)) (λ i h. (i.0, h.0, h.1, h.2, refl))
 
-value_fits : (g : Scope) (p : Place) (ty : Ty) (e : r.Expr) (a : t.Expr) → IsValueFor g ty e a → b.value g p ty e ≡ Ok a
+value_fits : (g : Scope) (p : Place) (ty : Ty) (e : r.Expr) (a : t.Expr) → IsValueFor g ty e a → b.value_for g p ty e ≡ Ok a
 value_fits g p ty e a h = rw (expr_fits g (taken ty) e a h.0, h.1) refl
 
-value_means : (g : Scope) (p : Place) (ty : Ty) (e : r.Expr) → Means (IsValueFor g ty e) (b.value g p ty e)
+value_means : (g : Scope) (p : Place) (ty : Ty) (e : r.Expr) → Means (IsValueFor g ty e) (b.value_for g p ty e)
 value_means g p ty e =
     let Q = IsValueFor g ty e in
     means_then _ Q (expr g (taken ty) e) _ (expr_means g (taken ty) e) (λ a ha.
@@ -118,7 +118,7 @@ mutual
   statement_fits g (r.returns p e) u h = rw (result_fits g p e h.0 h.1) (ap Ok (sym h.2))
   statement_fits g (r.breaks p) u h = rw h.0 (ap Ok (sym h.1))
   statement_fits g (r.continues p) u h = rw h.0 (ap Ok (sym h.1))
-  statement_fits g (r.declares of n p e) u h = rw (h.1, maybe_fits (IsValueFor g of.ty) (b.value g p of.ty) (value_fits g p of.ty) e h.0 h.2) (ap Ok (sym h.3))
+  statement_fits g (r.declares of n p e) u h = rw (h.1, maybe_fits (IsValueFor g of.ty) (b.value_for g p of.ty) (value_fits g p of.ty) e h.0 h.2) (ap Ok (sym h.3))
   statement_fits g (r.assigns l op e) u h = rw (left_by_fits g l.path l.index h.0 h.1 h.3, assigned_fits g l.path.place h.1 op e h.2 h.4) (ap Ok (sym h.5))
   statement_fits g (r.counts l up) u h = rw (left_by_fits g l.path l.index h.0 h.1 h.3, h.4, h.5) (ap Ok (sym h.6))
   statement_fits g (r.does x es) u h = rw (call_fits g x es h.0 h.1 h.2) (ap Ok (sym h.3))
@@ -160,7 +160,7 @@ mutual
   statement_means g (r.declares of n p e) =
       let Q = IsTypedStatement g (r.declares of n p e) in
       means_must Q (is_value g of.ty) _ _ (λ hv.
-      means_then _ Q (b.maybe (b.value g p of.ty) e) _ (maybe_means (IsValueFor g of.ty) (b.value g p of.ty) (value_means g p of.ty) e) (λ a ha. (a, hv, ha, refl)))
+      means_then _ Q (b.maybe (b.value_for g p of.ty) e) _ (maybe_means (IsValueFor g of.ty) (b.value_for g p of.ty) (value_means g p of.ty) e) (λ a ha. (a, hv, ha, refl)))
   statement_means g (r.assigns l op e) =
       let Q = IsTypedStatement g (r.assigns l op e) in
       means_then _ Q (b.left g l) _ (left_by_means g l.path l.index) (λ a ha.

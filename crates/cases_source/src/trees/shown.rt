@@ -4,7 +4,8 @@ use feast_base::Place;
 use std::alloc::AllocError;
 use std::str;
 use ulam_tree::{
-    Call, Class, Cond, Const, Expr, File, Item, Left, Member, Path, Statement, TypeRef, Width, Word,
+    Call, Class, Cond, Const, Expr, File, Item, Left, Member, PairOp, Path, PrefixOp, Statement,
+    TypeRef, Width, Word,
 };
 
 /// The column of a place.
@@ -59,6 +60,75 @@ fn node(out: &mut String, name: &str, place: Place) -> Result<(), AllocError> {
     column(out, place)
 }
 
+fn numeral(out: &mut String, value: u32, unsigned: bool, place: Place) -> Result<(), AllocError> {
+    number(out, " ", value, unsigned)?;
+    column(out, place)
+}
+
+fn truth(out: &mut String, value: bool, place: Place) -> Result<(), AllocError> {
+    out.push_str(if value { " true" } else { " false" })?;
+    column(out, place)
+}
+
+fn instance(out: &mut String, class: &Word) -> Result<(), AllocError> {
+    word(out, " (new ", class)?;
+    out.push_str(")")
+}
+
+#[cycle(expr)]
+fn index(out: &mut String, names: &Path, at: &Expr) -> Result<(), AllocError> {
+    out.push_str(" (at")?;
+    path(out, names)?;
+    expr(out, at)?;
+    out.push_str(")")
+}
+
+#[cycle(expr)]
+fn group(out: &mut String, inner: &Expr, place: Place) -> Result<(), AllocError> {
+    node(out, "group", place)?;
+    expr(out, inner)?;
+    out.push_str(")")
+}
+
+#[cycle(expr)]
+fn cast(out: &mut String, to: &TypeRef, value: &Expr, place: Place) -> Result<(), AllocError> {
+    node(out, "cast", place)?;
+    type_ref(out, to)?;
+    expr(out, value)?;
+    out.push_str(")")
+}
+
+#[cycle(expr)]
+fn prefix(out: &mut String, op: PrefixOp, value: &Expr, place: Place) -> Result<(), AllocError> {
+    write!(out, " ({op:?}")?;
+    column(out, place)?;
+    expr(out, value)?;
+    out.push_str(")")
+}
+
+#[cycle(expr)]
+fn pair(
+    out: &mut String,
+    op: PairOp,
+    left: &Expr,
+    right: &Expr,
+    place: Place,
+) -> Result<(), AllocError> {
+    write!(out, " ({op:?}")?;
+    column(out, place)?;
+    expr(out, left)?;
+    expr(out, right)?;
+    out.push_str(")")
+}
+
+#[cycle(expr)]
+fn is(out: &mut String, value: &Expr, class: &Word, place: Place) -> Result<(), AllocError> {
+    node(out, "is", place)?;
+    expr(out, value)?;
+    word(out, " ", class)?;
+    out.push_str(")")
+}
+
 #[cycle(expr)]
 fn expr(out: &mut String, of: &Expr) -> Result<(), AllocError> {
     match of {
@@ -66,58 +136,27 @@ fn expr(out: &mut String, of: &Expr) -> Result<(), AllocError> {
             value,
             unsigned,
             place,
-        } => {
-            number(out, " ", *value, *unsigned)?;
-            return column(out, *place);
-        }
-        Expr::Truth { value, place } => {
-            out.push_str(if *value { " true" } else { " false" })?;
-            return column(out, *place);
-        }
-        Expr::Path { path: names } => return path(out, names),
-        Expr::Call { call: of } => return call(out, of),
-        Expr::Index { path: names, at } => {
-            out.push_str(" (at")?;
-            path(out, names)?;
-            expr(out, at)?;
-        }
-        Expr::Instance { class } => word(out, " (new ", class)?,
-        Expr::Group { inner, place } => {
-            node(out, "group", *place)?;
-            expr(out, inner)?;
-        }
-        Expr::Cast { to, value, place } => {
-            node(out, "cast", *place)?;
-            type_ref(out, to)?;
-            expr(out, value)?;
-        }
-        Expr::Prefix { op, value, place } => {
-            write!(out, " ({op:?}")?;
-            column(out, *place)?;
-            expr(out, value)?;
-        }
+        } => numeral(out, *value, *unsigned, *place),
+        Expr::Truth { value, place } => truth(out, *value, *place),
+        Expr::Path { path: names } => path(out, names),
+        Expr::Call { call: of } => call(out, of),
+        Expr::Index { path: names, at } => index(out, names, at),
+        Expr::Instance { class } => instance(out, class),
+        Expr::Group { inner, place } => group(out, inner, *place),
+        Expr::Cast { to, value, place } => cast(out, to, value, *place),
+        Expr::Prefix { op, value, place } => prefix(out, *op, value, *place),
         Expr::Pair {
             op,
             left,
             right,
             place,
-        } => {
-            write!(out, " ({op:?}")?;
-            column(out, *place)?;
-            expr(out, left)?;
-            expr(out, right)?;
-        }
+        } => pair(out, *op, left, right, *place),
         Expr::Is {
             value,
             class,
             place,
-        } => {
-            node(out, "is", *place)?;
-            expr(out, value)?;
-            word(out, " ", class)?;
-        }
+        } => is(out, value, class, *place),
     }
-    out.push_str(")")
 }
 
 #[cycle(expr)]
@@ -131,13 +170,10 @@ fn call(out: &mut String, of: &Call) -> Result<(), AllocError> {
 }
 
 fn left(out: &mut String, of: &Left) -> Result<(), AllocError> {
-    let Some(at) = &of.index else {
-        return path(out, &of.path);
-    };
-    out.push_str(" (at")?;
-    path(out, &of.path)?;
-    expr(out, at)?;
-    out.push_str(")")
+    match &of.index {
+        None => path(out, &of.path),
+        Some(at) => index(out, &of.path, at),
+    }
 }
 
 fn cond(out: &mut String, of: &Cond) -> Result<(), AllocError> {
@@ -170,74 +206,115 @@ fn part(out: &mut String, before: &str, of: &Option<Box<Statement>>) -> Result<(
 }
 
 #[cycle(statement)]
+fn choice(
+    out: &mut String,
+    asked: &Cond,
+    yes: &Statement,
+    no: &Option<Box<Statement>>,
+) -> Result<(), AllocError> {
+    out.push_str(" (if")?;
+    cond(out, asked)?;
+    statement(out, yes)?;
+    part(out, " else", no)?;
+    out.push_str(")")
+}
+
+#[cycle(statement)]
+fn while_loop(out: &mut String, cond: &Expr, body: &Statement) -> Result<(), AllocError> {
+    out.push_str(" (while")?;
+    expr(out, cond)?;
+    statement(out, body)?;
+    out.push_str(")")
+}
+
+#[cycle(statement)]
+fn for_loop(
+    out: &mut String,
+    first: &Option<Box<Statement>>,
+    cond: &Option<Expr>,
+    step: &Option<Box<Statement>>,
+    body: &Statement,
+) -> Result<(), AllocError> {
+    out.push_str(" (for")?;
+    part(out, "", first)?;
+    out.push_str(";")?;
+    maybe(out, cond)?;
+    out.push_str(";")?;
+    part(out, "", step)?;
+    statement(out, body)?;
+    out.push_str(")")
+}
+
+fn returned(out: &mut String, place: Place, value: &Option<Expr>) -> Result<(), AllocError> {
+    node(out, "return", place)?;
+    maybe(out, value)?;
+    out.push_str(")")
+}
+
+/// A jump out of a loop or to its next turn, by its name.
+fn jump(out: &mut String, name: &str, place: Place) -> Result<(), AllocError> {
+    node(out, name, place)?;
+    out.push_str(")")
+}
+
+fn local(
+    out: &mut String,
+    of: &TypeRef,
+    name: &Word,
+    value: &Option<Expr>,
+) -> Result<(), AllocError> {
+    out.push_str(" (local")?;
+    type_ref(out, of)?;
+    word(out, " ", name)?;
+    maybe(out, value)?;
+    out.push_str(")")
+}
+
+fn assign(out: &mut String, to: &Left, op: Option<PairOp>, value: &Expr) -> Result<(), AllocError> {
+    out.push_str(" (set")?;
+    if let Some(op) = op {
+        write!(out, " {op:?}")?;
+    }
+    left(out, to)?;
+    expr(out, value)?;
+    out.push_str(")")
+}
+
+fn count(out: &mut String, to: &Left, up: bool) -> Result<(), AllocError> {
+    out.push_str(if up { " (up" } else { " (down" })?;
+    left(out, to)?;
+    out.push_str(")")
+}
+
+#[cycle(statement)]
 fn statement(out: &mut String, of: &Statement) -> Result<(), AllocError> {
     match of {
-        Statement::Block { body } => return block(out, body.as_slice()),
-        Statement::Nothing => return out.push_str(" nothing"),
-        Statement::Call { call: of } => return call(out, of),
-        Statement::If {
-            cond: asked,
-            yes,
-            no,
-        } => {
-            out.push_str(" (if")?;
-            cond(out, asked)?;
-            statement(out, yes)?;
-            part(out, " else", no)?;
-        }
-        Statement::While { cond, body } => {
-            out.push_str(" (while")?;
-            expr(out, cond)?;
-            statement(out, body)?;
-        }
+        Statement::Block { body } => block(out, body.as_slice()),
+        Statement::Nothing => out.push_str(" nothing"),
+        Statement::Call { call: of } => call(out, of),
+        Statement::If { cond, yes, no } => choice(out, cond, yes, no),
+        Statement::While { cond, body } => while_loop(out, cond, body),
         Statement::For {
             first,
             cond,
             step,
             body,
-        } => {
-            out.push_str(" (for")?;
-            part(out, "", first)?;
-            out.push_str(";")?;
-            maybe(out, cond)?;
-            out.push_str(";")?;
-            part(out, "", step)?;
-            statement(out, body)?;
-        }
-        Statement::Return { place, value } => {
-            node(out, "return", *place)?;
-            maybe(out, value)?;
-        }
-        Statement::Break { place } => node(out, "break", *place)?,
-        Statement::Continue { place } => node(out, "continue", *place)?,
+        } => for_loop(out, first, cond, step, body),
+        Statement::Return { place, value } => returned(out, *place, value),
+        Statement::Break { place } => jump(out, "break", *place),
+        Statement::Continue { place } => jump(out, "continue", *place),
         Statement::Declare {
             of,
             word: name,
             value,
-        } => {
-            out.push_str(" (local")?;
-            type_ref(out, of)?;
-            word(out, " ", name)?;
-            maybe(out, value)?;
-        }
+        } => local(out, of, name, value),
         Statement::Assign {
             left: to,
             op,
             value,
-        } => {
-            out.push_str(" (set")?;
-            if let Some(op) = op {
-                write!(out, " {op:?}")?;
-            }
-            left(out, to)?;
-            expr(out, value)?;
-        }
-        Statement::Count { left: to, up } => {
-            out.push_str(if *up { " (up" } else { " (down" })?;
-            left(out, to)?;
-        }
+        } => assign(out, to, *op, value),
+        Statement::Count { left: to, up } => count(out, to, *up),
     }
-    out.push_str(")")
 }
 
 #[cycle(statement)]

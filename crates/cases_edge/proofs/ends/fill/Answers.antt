@@ -1,7 +1,7 @@
 use Rattle.std.proofs.Common.{ℕ, ◌≡◌, ap, ◌∙◌, refl, arith}
 use Rattle.edge_lock.specs.History.{site_count}
 use Rattle.edge_lock.proofs.Counts.{sites_back}
-use Rattle.edge_lock.proofs.tests.fill.Goals as goal
+use Rattle.cases_edge.proofs.ends.fill.Goals as goal
 
 pub write-requires-4-clause-value : goal.write-requires-4-clause-value
 write-requires-4-clause-value g c = λ site lt is.

@@ -3,7 +3,7 @@ use Rattle.edge_lock.specs.declared.board.Take.TheVariants.{Got, Busy}
 use Rattle.edge_lock.specs.declared.history.Access.TheVariants.{Read, Write}
 use Rattle.edge_lock.specs.EndLists.{IsHeld, IsFree, IsNew, after_try, after_access, after_give}
 use Rattle.edge_lock.proofs.BoardLaws.{here_after, held_got, held_accessed, free_given, new_tried, new_accessed, new_given}
-use Rattle.edge_lock.proofs.tests.bump.Goals as goal
+use Rattle.cases_edge.proofs.counting.bump.Goals as goal
 
 pub read-n-requires-clause-held : goal.read-n-requires-clause-held
 read-n-requires-clause-held g c =

@@ -1,5 +1,5 @@
-//! An edge of one shared site, so of five registers, used by both its ends, on one thread and on two.
-ghost use Rattle.std.specs.Prelude.{◌≡◌, ◌≤◌, ◌<◌, ◌+◌, [], IfOk, IfSome};
+//! An edge of one shared site, so of five registers, whose ends take turns on one thread.
+ghost use Rattle.std.specs.Prelude.{◌≡◌, ◌<◌, [], IfOk, IfSome};
 ghost use Rattle.edge_lock.specs.declared.board.Take.TheVariants.{Busy};
 ghost use Rattle.bit_field.specs.Atom.{LeavesGap};
 ghost use Rattle.edge_lock.specs.History.{site_count};
@@ -7,104 +7,10 @@ ghost use Rattle.edge_lock.specs.EndLists.{IsFree, IsNew, end_lists, after_try};
 ghost use Rattle.edge_lock.specs.PlainEdges.{IsAnswer};
 ghost use Rattle.edge_lock.specs.PlainBoard.{registers_on, lists_on, end_on, edge_at, IsKeptEdge};
 
-use crate::{Board, Edge, PlainBoard, SharedEnd, Take};
+use edge_lock::{Board, Edge, PlainBoard, SharedEnd, Take};
 use feast_base::{EdgeSizes, NoMemory};
-use std::alloc::{AllocError, Global};
+use std::alloc::Global;
 use std::test::Fail;
-use std::thread::{Threads, join_mut};
-
-/// Tries an edge once, and adds 1 to register 0 if it gets it.
-fn bump<D: Board>(board: &mut D, edge: u32, attempt: u64) -> bool
-    requires edge { 0 < D.registers board.old edge }
-    requires free { IsFree (D.lists board.old edge) }
-    requires attempt { (attempt < 1000000) × IsNew attempt (D.lists board.old edge) }
-    ensures free { IsFree (D.lists board.new edge) }
-    ensures attempt { IsNew (attempt + 1) (D.lists board.new edge) }
-    ensures edge { D.registers board.new ≡ D.registers board.old }
-    ensures moved { D.moved board.old board.new }
-{
-    match board.try_take(edge, attempt) {
-        Take::Got => {
-            let n = board.read(edge, 0);
-            board.write(edge, 0, n.wrapping_add(1));
-            board.give(edge);
-            true
-        }
-        Take::Busy { .. } => false,
-    }
-}
-
-/// Tries an edge this many times. The answer is the number of holds.
-fn count_up<D: Board>(board: &mut D, edge: u32, tries: u64) -> u64
-    requires edge { 0 < D.registers board.old edge }
-    requires fresh { D.lists board.old edge ≡ end_lists [] [] }
-    requires tries { tries ≤ 1000 }
-    ensures free { IsFree (D.lists board.new edge) }
-    ensures moved { D.moved board.old board.new }
-    ensures few { result ≤ tries }
-{
-    let mut got = 0;
-    for attempt in 0..tries {
-        if bump(board, edge, attempt) {
-            got += 1;
-        }
-    }
-    got
-}
-
-/// Both ends count, each in a thread of its own.
-fn count_both<R: Threads, A: Board + Send, B: Board + Send>(
-    rt: &R,
-    low: &mut A,
-    high: &mut B,
-) -> u64
-    requires low { (0 < A.registers low.old 0) × (A.lists low.old 0 ≡ end_lists [] []) }
-    requires high { (0 < B.registers high.old 0) × (B.lists high.old 0 ≡ end_lists [] []) }
-    ensures low { A.moved low.old low.new × IsFree (A.lists low.new 0) }
-    ensures high { B.moved high.old high.new × IsFree (B.lists high.new 0) }
-{
-    let (one, other) = join_mut(
-        rt,
-        &mut || -> u64
-            requires { (0 < A.registers low.now 0) × (A.lists low.now 0 ≡ end_lists [] []) }
-            ensures { (result ≤ 1000) × A.moved low.entry.now low.exit.now × IsFree (A.lists low.exit.now 0) }
-        { count_up(low, 0, 1000) },
-        &mut || -> u64
-            requires { (0 < B.registers high.now 0) × (B.lists high.now 0 ≡ end_lists [] []) }
-            ensures { (result ≤ 1000) × B.moved high.entry.now high.exit.now × IsFree (B.lists high.exit.now 0) }
-        { count_up(high, 0, 1000) },
-    );
-    one + other
-}
-
-/// The number of holds of two threads, and what register 0 has then.
-fn counted<R: Threads>(rt: &R, alloc: Global) -> Result<(u64, u64), Fail> {
-    let (edge, low, high) = Edge::new(alloc, 0, 1)?;
-    let mut edges = Vec::from_array(alloc, [edge])?;
-    let mut lower = SharedEnd::new(edges.as_slice(), Vec::from_array(alloc, [low])?, 0);
-    let mut higher = SharedEnd::new(edges.as_slice(), Vec::from_array(alloc, [high])?, 1);
-    let holds = count_both(rt, &mut lower, &mut higher);
-    let mut lows = lower.into_passes();
-    let mut highs = higher.into_passes();
-    let Some(edge) = edges.pop() else {
-        unreachable!()
-    };
-    let Some(low) = lows.pop() else {
-        unreachable!()
-    };
-    let Some(high) = highs.pop() else {
-        unreachable!()
-    };
-    let mut closed = edge.close(low, high);
-    Ok((holds, closed.word(0)))
-}
-
-#[test]
-fn two_threads_count(rt: HostRuntime) -> Result<(), Fail> {
-    let (holds, word) = counted(&rt, rt.alloc())?;
-    assert_eq!(rt; holds, word);
-    Ok(())
-}
 
 /// Both ends of a shared edge take turns: what the higher end reads, if each try is answered as it
 /// is on one board.

@@ -1,5 +1,5 @@
 use Rattle.edge_lock.proofs.Counts.{sites_back}
-use Rattle.edge_lock.proofs.tests.tell_site_counts.Goals as goal
+use Rattle.cases_edge.proofs.ends.tell_site_counts.Goals as goal
 
 pub returns-clause-smallest : goal.returns-clause-smallest
 returns-clause-smallest c = (sites_back 0, sites_back 1)
