@@ -1,7 +1,8 @@
 #!/usr/bin/env python3
 """Lists where crates.txt or docs/crates.md disagree with the libraries that the crates name: uses.py
 
-A crate names a library where its code says `library::` or `use library`, or a contract or a proof says `Rattle.library.`.
+A crate names a library if its code says `library::` or `use library`, or a contract or a proof says
+`Rattle.library.`.
 The column *Uses* of the map has those that the code names, nearest first, and after *in proofs* the others.
 """
 from __future__ import annotations
