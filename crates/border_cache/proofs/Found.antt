@@ -1,6 +1,7 @@
 -- What is found by a run of reads.
 use Rattle.std.proofs.Common.{◌≡◌, ℕ, eqb, Bool, true, false, cond, true≢false, List, [], ◌∷◌, ◌++◌, refl, sym, ap, ◌∙◌, arith, Option, None, Some}
 use Rattle.std.proofs.lemmas.Option.{none-some}
+use Rattle.list_laws.specs.Options.{or_zero}
 use Rattle.edge_lock.specs.declared.history.Access.{Access}
 use Rattle.edge_lock.specs.declared.history.Access.TheVariants.{Read, Write}
 use Rattle.edge_lock.specs.History.{found_value}
@@ -33,14 +34,9 @@ silent_both [] ys w u = u
 silent_both (Read at x ∷ xs) ys w u = silent_both xs ys w u
 silent_both (Write at x ∷ xs) ys w u = absurd (true≢false (sym w))
 
--- reads alone change nothing that is known
-abbrev inner : Option ℕ → ℕ
-inner None = 0
-inner (Some x) = x
-
 pub shown_at : (k : Option ℕ) (x v : ℕ) → Shows k v → k ≡ Some x → v ≡ x
 shown_at None x v s h = absurd (none-some x h)
-shown_at (Some y) x v s h = s ∙ ap inner h
+shown_at (Some y) x v s h = s ∙ ap or_zero h
 
 kept_if : (known : ℕ → Option ℕ) (r at x v : ℕ) → Shows (known at) v → known r ≡ Some x → (b : Bool) → eqb r at ≡ b → cond b (Some v) (known r) ≡ Some x
 kept_if known r at x v s h true is = ap Some (shown_at (known at) x v s (let e : at ≡ r = grind (arith, is) in ap known e ∙ h))

@@ -3,6 +3,7 @@ use Rattle.std.proofs.Common.{◌≡◌, ◌≢◌, ℕ, ◌+◌, ◌*◌, ◌<�
 use Rattle.std.proofs.lemmas.Option.{none-some}
 use Rattle.std.specs.Prelude.{◌==◌, length, slice_index_or, slice_set}
 use Rattle.std.proofs.lemmas.List.{get_or-set_same, get_or-set_other, length-set, append-nil}
+use Rattle.list_laws.proofs.Numbers.{less_or_same}
 use Rattle.edge_lock.specs.EndLists.{EndLists, IsHeld, known_value}
 use Rattle.edge_lock.specs.declared.history.Access.{Access}
 use Rattle.edge_lock.specs.declared.history.Access.TheVariants.{Read}
@@ -13,9 +14,6 @@ use Rattle.border_cache.specs.Accesses.{with_known, IsHonest, Adds}
 use Rattle.border_cache.specs.News.{Covers, word_of, has_bit, is_news, cell_in, seen, IsAsked, IsRefresh, IsSiteRead, AreNewer, no_cell, with_newer, IsSiteRefresh, Refreshes}
 use Rattle.border_cache.proofs.Runs.{known_after, honest_append, last_shown-append, adds_none, adds_then, known_adds}
 use Rattle.border_cache.proofs.Found.{found_more, found_new, found_read, silent_both}
-
-pub less_or_same : (j n : ℕ) → j < n + 1 → (j < n) ⊎ (j ≡ n)
-less_or_same j n lt = grind arith
 
 pub covers_more : (places : ℕ → Option ℕ) (n k : ℕ) → Covers places n k → Covers places (n + 1) k
 covers_more places n k c = (c.0, omega (arith, c.1), c.2)

@@ -2,7 +2,8 @@
 use Rattle.std.proofs.Common.{ℕ, ◌≡◌, ◌+◌, ◌≤◌, ◌==◌, Bool, true, false, not, ◌&&◌, ◌||◌, List, [], ◌∷◌, ◌++◌, All, length, map, nat_le, bytes_eq, refl, sym, ap, subst, ◌∙◌, arith, Ok, inl, inr, if◌then◌else◌, slice_index, slice_range}
 use Rattle.std.specs.Char.{is_ascii_digit, is_ascii_lowercase, is_ascii_uppercase}
 use Rattle.std.specs.List.{AllPass, flat_map, list_all}
-use Rattle.std.proofs.lemmas.List.Elements.{All-cons, All-head, All-nil, All-tail}
+use Rattle.std.proofs.lemmas.List.Elements.{All-cons, All-nil, All-tail}
+use Rattle.std.proofs.lemmas.List.Sums.{list_all-from_AllPass}
 use Rattle.list_laws.proofs.Tests.{together}
 use Rattle.feast_base.specs.Outside.{File}
 use Rattle.feast_base.specs.TypeNames.{is_type_name, is_word_byte}
@@ -40,10 +41,6 @@ went S T b h = elim h [ inl never ↦ absurd never | inr g ↦ g ]
 
 -- Bytes: the token of a type's name is one
 
-all_pass : (p : ℕ → Bool) (bs : List ℕ) → AllPass p bs → list_all p bs ≡ true
-all_pass p [] all = refl
-all_pass p (b ∷ bs) all = together _ _ (All-head (λ x. p x ≡ true) b bs all) (all_pass p bs (All-tail (λ x. p x ≡ true) b bs all))
-
 capital_is : (b : ℕ) → class_of b ≡ Capital → is_ascii_uppercase b ≡ true
 capital_is b h = on (is_white b) (is_ascii_lowercase b || b == 95) (is_ascii_uppercase b) (is_ascii_digit b) h
   where
@@ -57,7 +54,7 @@ capital_is b h = on (is_white b) (is_ascii_lowercase b || b == 95) (is_ascii_upp
 type_name_by : (bytes : List ℕ) → class_of (slice_index bytes 0) ≡ Capital → length bytes ≤ 255 → AllPass is_word_byte bytes → is_type_name bytes ≡ true
 type_name_by [] first few all = cc first
 type_name_by (b ∷ bs) first few all =
-    together _ _ (together _ _ (capital_is b first) (all_pass is_word_byte bs (All-tail (λ x. is_word_byte x ≡ true) b bs all))) (le_true (length bs + 1) 255 (omega (arith, few)))
+    together _ _ (together _ _ (capital_is b first) (list_all-from_AllPass is_word_byte bs (All-tail (λ x. is_word_byte x ≡ true) b bs all))) (le_true (length bs + 1) 255 (omega (arith, few)))
   where
     le_true : (m n : ℕ) → m ≤ n → nat_le m n ≡ true
     le_true m n h = grind arith

@@ -1,5 +1,6 @@
 -- Files have one set or one refusal, and never both.
 use Rattle.std.proofs.Common.{ℕ, ◌≡◌, List, [], ◌∷◌, length, Option, Some, None, sym, ap, ◌∙◌}
+use Rattle.list_laws.proofs.Options.{some_once}
 use Rattle.feast_base.specs.Outside.{File}
 use Rattle.feast_base.specs.declared.place.Refusal.{Refusal}
 use Rattle.ulam_lex.specs.declared.token.Token.{Token}
@@ -25,10 +26,6 @@ use Rattle.element_set.proofs.Composing.{gives_one, then_one}
 -- a fault that is told as two refusals
 told_one : {F : Type 0} (told : F → BuildFault) (f g : F) (a b : Refusal) → f ≡ g → told f ≡ Refused a → told g ≡ Refused b → a ≡ b
 told_one told f g a b e h k = let q : Refused a ≡ Refused b = sym h ∙ ap told e ∙ k in cc
-
--- two faults that are first
-some_one : {F : Type 0} (o : Option F) (f g : F) → o ≡ Some f → o ≡ Some g → f ≡ g
-some_one o f g h k = let q : Some f ≡ Some g = sym h ∙ k in cc
 
 none_some : {F : Type 0} (o : Option F) (f : F) → o ≡ None → o ≡ Some f → ⊥
 none_some o f h k = let q : None ≡ Some f = sym h ∙ k in cc
@@ -62,28 +59,28 @@ more_one done (f ∷ fs) =
 flat_one : (x : Trees) → IsOne (flat x)
 flat_one x = record {
   value = λ a b h k. h.1 ∙ sym k.1;
-  refusal = λ a b h k. told_one heirs_fault h.0 k.0 a b (some_one _ h.0 k.0 h.1 k.1) h.2 k.2;
+  refusal = λ a b h k. told_one heirs_fault h.0 k.0 a b (some_once _ h.0 k.0 h.1 k.1) h.2 k.2;
   either = λ a e h k. none_some _ k.0 h.0 k.1;
 }
 
 named_one : (xs : List Item) → IsOne (named xs)
 named_one xs = record {
   value = λ a b h k. one_resolution xs a b h k;
-  refusal = λ a b h k. h.2 ∙ ap name_refusal (some_one _ h.0 k.0 h.1 k.1) ∙ sym k.2;
+  refusal = λ a b h k. h.2 ∙ ap name_refusal (some_once _ h.0 k.0 h.1 k.1) ∙ sym k.2;
   either = λ a e h k. none_some _ k.0 (no_name_fault xs a h) k.1;
 }
 
 laid_one : (cs : List r.Class) → IsOne (laid cs)
 laid_one cs = record {
   value = λ a b h k. h.1 ∙ sym k.1;
-  refusal = λ a b h k. told_one layout_fault h.0 k.0 a b (some_one _ h.0 k.0 h.1 k.1) h.2 k.2;
+  refusal = λ a b h k. told_one layout_fault h.0 k.0 a b (some_once _ h.0 k.0 h.1 k.1) h.2 k.2;
   either = λ a e h k. none_some _ k.0 h.0 k.1;
 }
 
 typed_one : (cs : List r.Class) → IsOne (typed cs)
 typed_one cs = record {
   value = λ a b h k. one_typing cs a b h k;
-  refusal = λ a b h k. h.2 ∙ ap type_refusal (some_one _ h.0 k.0 h.1 k.1) ∙ sym k.2;
+  refusal = λ a b h k. h.2 ∙ ap type_refusal (some_once _ h.0 k.0 h.1 k.1) ∙ sym k.2;
   either = λ a e h k. none_some _ k.0 (no_type_fault cs a h) k.1;
 }
 

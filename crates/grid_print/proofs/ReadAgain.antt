@@ -1,7 +1,6 @@
 -- The report of what a run left is read as its events and its abandoned attempts.
-use Rattle.std.proofs.Common.{ℕ, zero, suc, ◌≡◌, ◌+◌, ◌*◌, ◌/◌, ◌%◌, ◌^◌, ◌<◌, ◌≤◌, ◌==◌, Bool, true, false, ◌&&◌, not, List, [], ◌∷◌, ◌++◌, All, append_assoc, append-nil, codes, decimal, bytes_eq, length, get_or, map, refl, ap, sym, subst, ◌∙◌, arith, ◌-◌, ◌⊎◌, Option, Some, None, is_some, Ok, inl, inr, if◌then◌else◌}
+use Rattle.std.proofs.Common.{ℕ, zero, suc, ◌≡◌, ◌+◌, ◌*◌, ◌/◌, ◌%◌, ◌^◌, ◌<◌, ◌≤◌, ◌==◌, Bool, true, false, ◌&&◌, not, List, [], ◌∷◌, ◌++◌, All, append_assoc, append-nil, codes, decimal, bytes_eq, length, get_or, map, refl, ap, sym, subst, ◌∙◌, arith, ◌-◌, ◌⊎◌, Option, Some, None, is_some, Ok, inl, inr, if◌then◌else◌, lt-ltb}
 use Rattle.std.specs.List.{list_all}
-use Rattle.std.specs.Prelude.{nat_lt}
 use Rattle.std.proofs.Math.Nat.{div-add-mod'}
 use Rattle.std.proofs.lemmas.List.{map-append}
 use Rattle.std.proofs.lemmas.List.Elements.{All-append, All-cons, All-get_or, All-head, All-nil, All-tail}
@@ -32,18 +31,15 @@ use Rattle.grid_print.proofs.Stamps.{stamps_low}
 use Rattle.grid_print.specs.Again.{AreFormed, AreReadAgain, IsLeft, IsPlanOf, SaysThese}
 use Rattle.grid_print.specs.Report.{AreNamed, Shown, atom_fields, atom_lines, name_of, report, report_lines, shown, shown_at, shown_from, shown_one}
 
-lt_true : (a b : ℕ) → a < b → nat_lt a b ≡ true
-lt_true a b h = grind arith
-
 -- Forms: what is printed has the form that is wanted
 
 small_taken : (bound n : ℕ) (fs : List (List ℕ)) → n < bound → bound ≤ 2 ^ 64 → take_below bound (decimal n ∷ fs) ≡ Some (n, fs)
 unfolding take_number
-small_taken bound n fs low most = rw (number_decimal n (omega (arith, low, most)), lt_true n bound low) refl
+small_taken bound n fs low most = rw (number_decimal n (omega (arith, low, most)), lt-ltb n bound low) refl
 
 count_again : (word : List ℕ) (k : ℕ) → bytes_eq word word ≡ true → k < 2 ^ 32 → count_form word (count_fields word k) ≡ Some k
 unfolding count_form one_field
-count_again word k same low = rw (same, number_decimal k (omega (arith, low)), lt_true k (2 ^ 32) low) refl
+count_again word k same low = rw (same, number_decimal k (omega (arith, low)), lt-ltb k (2 ^ 32) low) refl
 
 record_again : (r : Record) → IsSmallRecord r → record_form (record_fields r) ≡ Some r
 unfolding record_form one_field
@@ -64,7 +60,7 @@ abandoned_again a p =
     let y = small_taken (2 ^ 32) a.y (decimal a.edge ∷ decimal a.holder ∷ decimal a.holder_attempt ∷ []) p.y (omega arith) in
     let edge = small_taken (2 ^ 32) a.edge (decimal a.holder ∷ decimal a.holder_attempt ∷ []) p.edge (omega arith) in
     let holder = small_taken (2 ^ 32) a.holder (decimal a.holder_attempt ∷ []) p.holder (omega arith) in
-    rw (tile, attempt, x, y, edge, holder, number_decimal a.holder_attempt p.holder_attempt, lt_true a.holder_attempt (2 ^ 64) p.holder_attempt) refl
+    rw (tile, attempt, x, y, edge, holder, number_decimal a.holder_attempt p.holder_attempt, lt-ltb a.holder_attempt (2 ^ 64) p.holder_attempt) refl
 
 -- the digits of a state are such, however great it is
 state_digits : (k n : ℕ) → (length (hex k n) ≡ k) × (list_all is_nibble (hex k n) ≡ true)

@@ -6,6 +6,7 @@ use Rattle.std.proofs.lemmas.Bool.{leb-true}
 use Rattle.std.proofs.lemmas.List.{length-map}
 use Rattle.std.proofs.lemmas.List.Elements.{All-head, All-tail}
 use Rattle.std.proofs.lemmas.Slice.Eq.{bytes_eq-Decides}
+use Rattle.list_laws.proofs.Entries.{all_from_get}
 use Rattle.feast_base.specs.TypeNames.{is_type_name}
 use Rattle.stack_code.specs.Machine.{CodeValue}
 use Rattle.stack_code.specs.Valid.{valid}
@@ -44,10 +45,6 @@ pub all_at : {A : Type 0} (P : A → Type 0) (xs : List A) (k : ℕ) (x : A) →
 all_at P [] k x all e = absurd cc
 all_at P (y ∷ xs) zero x all e = let same : y ≡ x = cc in subst P same (All-head P y xs all)
 all_at P (y ∷ xs) (suc k) x all e = all_at P xs k x (All-tail P y xs all) e
-
-all_from : {A : Type 0} (P : A → Type 0) (xs : List A) → ((k : ℕ) (x : A) → slice_get xs k ≡ Some x → P x) → AllByRecursion P xs
-all_from P [] h = tt
-all_from P (x ∷ xs) h = (h 0 x refl, all_from P xs (λ k. h (suc k)))
 
 each_at : {A : Type 0} (P : A → Type 0) (xs : List A) (k : ℕ) (x : A) → AllByRecursion P xs → slice_get xs k ≡ Some x → P x
 each_at P [] k x all e = absurd cc
@@ -112,7 +109,7 @@ module _ (g : Program) (compilable : IsCompilable g) (short : AreShort g) (forme
       let kinded = program_kinded g c compilable.well compilable.named compilable.laid (compilable.acts c element.class element.stands element.acts) in
       let room = keys_room d main (kinded_ready g c kinded) in
       let good = keys_good most (IsFormedKey g) d sound main (behave_formed g c element.class formed element.stands element.acts) in (
-        values_ranged d 0 ks (all_from (λ (f : Key). IsRanged (value_at d 0 f)) ks (λ k f e. head_ranged f (room k f e) (each_at (IsFormedKey g) ks k f good e))),
+        values_ranged d 0 ks (all_from_get (λ (f : Key). IsRanged (value_at d 0 f)) ks (λ k f e. head_ranged f (room k f e) (each_at (IsFormedKey g) ks k f good e))),
         codes_typed most (IsFormedKey g) d sound ks 0 ks,
       )
 

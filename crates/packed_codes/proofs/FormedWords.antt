@@ -2,7 +2,8 @@
 use Rattle.std.proofs.Common.{ℕ, ◌≡◌, ◌+◌, ◌≤◌, ◌==◌, Bool, true, false, not, ◌&&◌, ◌||◌, List, [], ◌∷◌, ◌++◌, length, nat_le, bytes_eq, refl, sym, ap, subst, ◌∙◌, arith, Option, Some, None, Ok, Err, if◌then◌else◌, slice_index, slice_range}
 use Rattle.std.specs.Char.{is_ascii_digit, is_ascii_lowercase, is_ascii_uppercase}
 use Rattle.std.specs.List.{AllPass, list_all}
-use Rattle.std.proofs.lemmas.List.Elements.{All-head, All-tail}
+use Rattle.std.proofs.lemmas.List.Elements.{All-tail}
+use Rattle.std.proofs.lemmas.List.Sums.{list_all-from_AllPass}
 use Rattle.list_laws.proofs.Tests.{together}
 use Rattle.feast_base.specs.TypeNames.{is_word_byte}
 use Rattle.ulam_lex.specs.Bytes.{class_of, is_keyword, is_white}
@@ -28,10 +29,6 @@ use Rattle.element_set.proofs.TokensKept.{Each, item_keeps, takes_keeps}
 
 -- Bytes: the token of a name is one
 
-all_pass : (p : ℕ → Bool) (bs : List ℕ) → AllPass p bs → list_all p bs ≡ true
-all_pass p [] all = refl
-all_pass p (b ∷ bs) all = together _ _ (All-head (λ x. p x ≡ true) b bs all) (all_pass p bs (All-tail (λ x. p x ≡ true) b bs all))
-
 small_is : (b : ℕ) → class_of b ≡ Small → (is_ascii_lowercase b || b == 95) ≡ true
 small_is b h = on (is_white b) (is_ascii_lowercase b || b == 95) (is_ascii_uppercase b) (is_ascii_digit b) h
   where
@@ -46,7 +43,7 @@ name_by : (bytes : List ℕ) → class_of (slice_index bytes 0) ≡ Small → le
 name_by [] first few all other = cc first
 name_by (b ∷ bs) first few all other =
     together _ _ (small_is b first)
-    (together _ _ (all_pass is_word_byte bs (All-tail (λ x. is_word_byte x ≡ true) b bs all))
+    (together _ _ (list_all-from_AllPass is_word_byte bs (All-tail (λ x. is_word_byte x ≡ true) b bs all))
     (together _ _ (le_true (length (b ∷ bs)) 255 few) (ap not other)))
   where
     le_true : (m n : ℕ) → m ≤ n → nat_le m n ≡ true

@@ -3,6 +3,7 @@ use Rattle.std.proofs.Common.{ℕ, zero, suc, ◌≡◌, ◌+◌, ◌<◌, ◌�
 use Rattle.std.specs.Prelude.{slice_get, slice_index_or}
 use Rattle.std.specs.List.{list_any}
 use Rattle.std.specs.Option.{option_map_or}
+use Rattle.list_laws.proofs.Tests.{or_second}
 use Rattle.ulam_tree.specs.Raw as raw
 use Rattle.ulam_tree.specs.Resolved as r
 use Rattle.ulam_tree.specs.Typed as t
@@ -101,10 +102,6 @@ pub record IsFormedClass (c : t.Class) : Type 0 where
 abbrev pub ClassesFormed : List t.Class → Type 0
 ClassesFormed [] = Unit {0}
 ClassesFormed (c ∷ cs) = IsFormedClass c × ClassesFormed cs
-
-or_second : (a b : Bool) → (a || b) ≡ true → a ≡ false → b ≡ true
-or_second false b h e = h
-or_second true b h e = cc
 
 module _ (known : Known) (heads : List Head) (sigs : List ClassSig) where
   members_kept : (k : ℕ) (d : Names) (hs : List Half) (xs : List r.Member) (us : List t.Member) → AreWhole known heads k d hs xs → AreTypedMembers sigs k xs us → Kept hs (functions us)

@@ -4,6 +4,7 @@ use Rattle.std.specs.Prelude.{nat_lt, slice_index_or, if◌then◌else◌}
 use Rattle.std.specs.Option.{option_map}
 use Rattle.std.proofs.lemmas.Bool.Decides.{nat_tests}
 use Rattle.std.proofs.lemmas.List.FromFn.{fill_by_all, get_or-map-range_with_len}
+use Rattle.std.proofs.lemmas.Nat.{mul-add-lt}
 use Rattle.list_laws.proofs.Members.{In, in_filter, filter_in, in_range, range_in}
 use Rattle.list_laws.proofs.Ranges.{filter_none}
 use Rattle.list_laws.proofs.Tests.{both}
@@ -27,9 +28,6 @@ index g s = s.y * g.width + s.x
 not_true : (b : Bool) → b ≡ false → b ≡ true → ⊥
 not_true true p q = cc
 not_true false p q = cc
-
-index_inside : (x y w h : ℕ) → x < w → y < h → y * w + x < w * h
-index_inside x y w h a b = grind (arith)
 
 times_more : (a b w : ℕ) → a < b → a * w + w ≤ b * w
 times_more a b w lt = grind arith
@@ -96,7 +94,7 @@ module _ (m : MapValue) (plane : IsPlane m) where
 
   -- a live site is one of the grid's
   pub index_live : (g : GridValue) → IsGridOf m g → IsGrid g → (s : Site) → is_live m s ≡ true → index g s < length g.atoms
-  index_live g of good s live = let r = in_columns s live in let a = index_inside s.x s.y g.width g.height (omega (arith, r.0, of.wide)) (omega (arith, r.1, of.high)) in omega (arith, a, good.whole)
+  index_live g of good s live = let r = in_columns s live in let a = mul-add-lt s.y g.width s.x g.height (omega (arith, r.1, of.high)) (omega (arith, r.0, of.wide)) in omega (arith, a, good.whole)
 
   pub one_site : (g : GridValue) → IsGridOf m g → (s q : Site) → is_live m s ≡ true → is_live m q ≡ true → index g q ≡ index g s → q ≡ s
   one_site g of s q a b e =

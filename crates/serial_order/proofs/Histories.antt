@@ -5,6 +5,7 @@ use Rattle.std.specs.List.{All}
 use Rattle.std.proofs.lemmas.Bool.Decides.{nat_tests}
 use Rattle.std.proofs.lemmas.List.{append-nil}
 use Rattle.std.proofs.lemmas.List.Elements.{All-contains, filter-append}
+use Rattle.list_laws.specs.Options.{value_or}
 use Rattle.edge_lock.specs.declared.history.Access.{Access}
 use Rattle.edge_lock.specs.declared.history.Access.TheVariants.{Read, Write}
 use Rattle.edge_lock.specs.declared.history.Hold.{Hold}
@@ -16,17 +17,12 @@ use Rattle.edge_lock.proofs.HistoryLaws.{finds}
 use Rattle.edge_lock.proofs.LastHolds.{written-append}
 use Rattle.border_cache.specs.Accesses.{last_write}
 use Rattle.border_cache.specs.Cells.{CellValue, cell_of}
-use Rattle.list_laws.proofs.Members.{In, in_right}
-use Rattle.event_journal.proofs.Journals.{contains_of}
+use Rattle.list_laws.proofs.Members.{In, in_right, in_contains}
 use Rattle.serial_order.proofs.Lists.{back, back_append, back_snoc, Snoc, empty, snoc, snocs, in_back}
 
 -- what a hold leaves in a register, where it writes to it
 abbrev pub left_in : List Access → ℕ → Option ℕ
 left_in accesses register = last_write accesses register None
-
-abbrev pub or_else : ℕ → Option ℕ → ℕ
-or_else v None = v
-or_else v (Some x) = x
 
 -- the registers after these holds
 abbrev pub values : List Hold → ℕ → ℕ
@@ -61,17 +57,17 @@ pub record IsPlaced (hs : List Hold) (end attempt holder_attempt : ℕ) : Type 0
   pub after : (g : Hold) → In g older → g.end ≡ end → g.attempt < attempt
   pub before : (g : Hold) → In g newer → g.end ≡ end → attempt < g.attempt
 
-put_from : (xs : List Access) (k v : ℕ) (o : Option ℕ) → written xs k (or_else v o) ≡ or_else v (last_write xs k o)
+put_from : (xs : List Access) (k v : ℕ) (o : Option ℕ) → written xs k (value_or v o) ≡ value_or v (last_write xs k o)
 put_from [] k v o = refl
 put_from (Read q x ∷ xs) k v o = put_from xs k v o
 put_from (Write q x ∷ xs) k v o = go (k == q) (put_from xs k v o) (put_from xs k v (Some x))
   where
-    go : (b : Bool) → written xs k (or_else v o) ≡ or_else v (last_write xs k o) → written xs k x ≡ or_else v (last_write xs k (Some x)) → written xs k (if b then x else or_else v o) ≡ or_else v (last_write xs k (if b then Some x else o))
+    go : (b : Bool) → written xs k (value_or v o) ≡ value_or v (last_write xs k o) → written xs k x ≡ value_or v (last_write xs k (Some x)) → written xs k (if b then x else value_or v o) ≡ value_or v (last_write xs k (if b then Some x else o))
     go true e f = f
     go false e f = e
 
 -- a register after a hold: what it left there, or what was there before
-pub put_is : (xs : List Access) (k v : ℕ) → written xs k v ≡ or_else v (left_in xs k)
+pub put_is : (xs : List Access) (k v : ℕ) → written xs k v ≡ value_or v (left_in xs k)
 put_is xs k v = put_from xs k v None
 
 quiet_from : (xs : List Access) (k : ℕ) (o : Option ℕ) → writes_nothing xs ≡ true → last_write xs k o ≡ o
@@ -99,7 +95,7 @@ in_keys [] h i = absurd i
 in_keys (g ∷ hs) h i = ⊎_elim (λ e. inl (ap key e)) (λ j. inr (in_keys hs h j)) i
 
 all_in : {X : Type 0} (P : X → Type 0) (xs : List X) (x : X) → All P xs → In x xs → P x
-all_in P xs x a i = All-contains P xs x a (contains_of xs x i)
+all_in P xs x a i = All-contains P xs x a (in_contains xs x i)
 
 pub end_two : (n : ℕ) → n < 2 → (n ≡ 0) ⊎ (n ≡ 1)
 end_two zero lt = inl refl

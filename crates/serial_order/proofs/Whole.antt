@@ -15,9 +15,8 @@ use Rattle.edge_lock.specs.declared.history.Refusal.{Refusal}
 use Rattle.edge_lock.specs.History.{own, keys, IsEdgeHistory}
 use Rattle.edge_lock.specs.History as edge
 use Rattle.edge_lock.specs.EndLists.{EndLists, end_lists, refusal_of}
-use Rattle.event_journal.proofs.Journals.{contains_of}
 use Rattle.std.proofs.lemmas.List.Elements.{All-contains}
-use Rattle.list_laws.proofs.Members.{In, in_left, in_right}
+use Rattle.list_laws.proofs.Members.{In, in_left, in_right, in_contains}
 use Rattle.border_cache.specs.Windows.{end_at, sites_on}
 use Rattle.border_cache.specs.Copies.{held_cell}
 use Rattle.tile_core.specs.Values.{atoms_of, TileValue, given_up_site}
@@ -241,8 +240,8 @@ module _ (s : Scene) (o : IsOver s) where
       inside = subst (λ (l : EndLists). In r l.refusals) (sym is) i
 
       by : (b : ℕ) → IsEdgeHistory (sites_on s.map e) (history_at s.edges e).holds (history_at s.edges e).low (history_at s.edges e).high → (b ≡ 0) ⊎ (b ≡ 1) → In r (end_lists_of b (history_at s.edges e)).refusals → edge.IsPlaced (keys (history_at s.edges e).holds) b r
-      by b k (inl z) j = subst (λ n. edge.IsPlaced (keys (history_at s.edges e).holds) n r) (sym z) (All-contains (edge.IsPlaced (keys (history_at s.edges e).holds) 0) (history_at s.edges e).low r k.lower.fits (contains_of (history_at s.edges e).low r (subst (λ n. In r (end_lists_of n (history_at s.edges e)).refusals) z j)))
-      by b k (inr z) j = subst (λ n. edge.IsPlaced (keys (history_at s.edges e).holds) n r) (sym z) (All-contains (edge.IsPlaced (keys (history_at s.edges e).holds) 1) (history_at s.edges e).high r k.higher.fits (contains_of (history_at s.edges e).high r (subst (λ n. In r (end_lists_of n (history_at s.edges e)).refusals) z j)))
+      by b k (inl z) j = subst (λ n. edge.IsPlaced (keys (history_at s.edges e).holds) n r) (sym z) (All-contains (edge.IsPlaced (keys (history_at s.edges e).holds) 0) (history_at s.edges e).low r k.lower.fits (in_contains (history_at s.edges e).low r (subst (λ n. In r (end_lists_of n (history_at s.edges e)).refusals) z j)))
+      by b k (inr z) j = subst (λ n. edge.IsPlaced (keys (history_at s.edges e).holds) n r) (sym z) (All-contains (edge.IsPlaced (keys (history_at s.edges e).holds) 1) (history_at s.edges e).high r k.higher.fits (in_contains (history_at s.edges e).high r (subst (λ n. In r (end_lists_of n (history_at s.edges e)).refusals) z j)))
 
       none : (b : ℕ) → In r (end_lists_of b no_history).refusals → ⊥
       none b j = pick (b == 0) j

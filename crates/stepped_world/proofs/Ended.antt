@@ -4,6 +4,7 @@ use Rattle.std.specs.Prelude.{slice_get, nat_lt}
 use Rattle.std.proofs.lemmas.Bool.Decides.{nat_tests}
 use Rattle.std.proofs.lemmas.List.{get_or_past, length-map}
 use Rattle.std.proofs.lemmas.Option.{slice_get-get_or, slice_get_within}
+use Rattle.list_laws.proofs.Slots.{get_inside}
 use Rattle.window_sites.specs.Window.{WindowValue}
 use Rattle.tile_map.specs.Plane.{MapValue, IsMap, tiles_of}
 use Rattle.tile_map.specs.Edges.{pairs_of, low_end, high_end, has_end}
@@ -31,7 +32,7 @@ use Rattle.serial_order.proofs.Promises.{one_order}
 use Rattle.stepped_world.specs.Machine.{Machine}
 use Rattle.stepped_world.specs.Running.{Setting, IsStart, AreUnderway, is_still, stands_still, AnyIsWorn, IsLike, AreLike}
 use Rattle.stepped_world.specs.Ends.{HasRun}
-use Rattle.stepped_world.proofs.Slots.{value_at, some_at}
+use Rattle.stepped_world.proofs.Slots.{value_at}
 
 has_low : (m : MapValue) (e : ℕ) → has_end m (low_end m e) e ≡ true
 has_low m e = grind (arith, nat_tests)
@@ -93,7 +94,7 @@ module _ {B : Type 0} (after : B → WindowValue → ℕ → WindowValue) (m : M
     -- the tile has no edge any more
     free_tile : (t e : ℕ) → t < tiles_of m → has_end m t e ≡ true → IsFree (lists_of_tile board t e)
     free_tile t e lt end =
-        let x = some_at tiles t (let n = u.count in omega (arith, lt, n)) in
+        let x = get_inside tiles t (let n = u.count in omega (arith, lt, n)) in
         let k = u.each t x.0 x.1 in
         let h = subst (InPhase m g.meaning (atoms_of g.start) (attempts g.plan t) k.underway.turns x.0.0 (lists_of_tile board t)) (finished t x.0 x.1) k.underway.hand in
         subst IsFree (sym (h.2 e (ap (λ n. has_end m n e) k.number ∙ end))) (free_of m g.meaning (atoms_of g.start) x.0.0.number k.underway.turns e k.underway.each k.underway.unworn)

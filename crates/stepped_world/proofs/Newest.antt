@@ -1,10 +1,11 @@
 -- At the end the newest cells are the machine's grid: the events one after another in the order of time leave what they leave in the journal's order.
-use Rattle.std.proofs.Common.{◌≡◌, ℕ, suc, ◌+◌, ◌<◌, map, ◌==◌, List, [], ◌∷◌, length, refl, sym, ap, ◌∙◌, subst, arith, inr, ⊎_elim, true, Some}
-use Rattle.std.specs.Prelude.{slice_get, AllPairs}
+use Rattle.std.proofs.Common.{◌≡◌, ℕ, ◌+◌, ◌<◌, map, ◌==◌, List, [], ◌∷◌, length, refl, sym, ap, ◌∙◌, subst, arith, inr, ⊎_elim, true, Some}
+use Rattle.std.specs.Prelude.{slice_get}
 use Rattle.std.specs.List.{range_with_len}
 use Rattle.std.specs.Option.{option_map}
 use Rattle.std.proofs.lemmas.Bool.Decides.{nat_tests}
 use Rattle.std.proofs.lemmas.Option.{slice_get-map}
+use Rattle.list_laws.proofs.Slots.{get_inside}
 use Rattle.window_sites.specs.Window.{WindowValue}
 use Rattle.tile_map.specs.Plane.{MapValue, tiles_of}
 use Rattle.cell_grid.specs.declared.record.Record.{Record}
@@ -12,7 +13,7 @@ use Rattle.cell_grid.specs.Grid.{GridValue, IsGrid, site_atom}
 use Rattle.cell_grid.specs.Records.{Precedes, replay}
 use Rattle.edge_lock.specs.declared.history.Hold.{Hold}
 use Rattle.edge_lock.specs.PlainBoard.{PlainBoardValue}
-use Rattle.list_laws.proofs.Members.{In, InOrder, in_filter, filter_in, get_in}
+use Rattle.list_laws.proofs.Members.{In, InOrder, in_filter, filter_in, get_in, pairs_order}
 use Rattle.border_cache.specs.Cells.{CellValue, cell_value}
 use Rattle.border_cache.specs.Copies.{IsGridOf, IsCentre}
 use Rattle.tile_core.specs.Values.{TileValue, atoms_of, event_site}
@@ -37,11 +38,7 @@ use Rattle.serial_order.proofs.World.{IsRun, IsEvent}
 use Rattle.stepped_world.specs.Machine.{Machine, records_by, abandoned_by}
 use Rattle.stepped_world.specs.Ends.{logs_in}
 use Rattle.stepped_world.specs.Running.{Setting, ComesBefore, IsLike}
-use Rattle.stepped_world.proofs.Slots.{some_at, value_at, map_places}
-
-pairs_order : {A : Type 0} (R : A → A → Type 0) (xs : List A) → AllPairs R xs → InOrder R xs
-pairs_order R [] h = tt
-pairs_order R (x ∷ xs) h = (λ y i. let q = get_in xs y y i in let lt = q.1 in subst (R x) q.2 (h 0 (suc q.0) y (omega arith) (omega (arith, lt))), pairs_order R xs (λ i j d lt within. h (suc i) (suc j) d (omega (arith, lt)) (omega (arith, within))))
+use Rattle.stepped_world.proofs.Slots.{value_at, map_places}
 
 rises_in_time : (m : MapValue) (ws : List Won) → InOrder (ComesBefore m) (notes ws) → WritesRise m ws
 rises_in_time m [] o = tt
@@ -98,7 +95,7 @@ module _ {B : Type 0} (m : MapValue) (g : Setting) (tiles : List (TileValue × B
   entries : AreEntries (turns c o) s.records
   entries = record {
     events = λ n i.
-        let x = some_at tiles n.tile (owner_there n i) in
+        let x = get_inside tiles n.tile (owner_there n i) in
         let r = in_records n (turns c o n.tile) (subst (In n) (same_records n.tile x.0 x.1) (in_filter (λ (r : Record). r.tile == n.tile) s.records n i (mine n.tile n refl))) in
         (r.0, subst (λ t. In (Wins r.0) (turns c o t)) (ap (λ (q : Record). q.tile) r.2) r.1, r.2);
     all = λ w i.

@@ -1,7 +1,8 @@
 -- The hold of an event: what the clock, the refresh, the publishing and the stamp make of it.
-use Rattle.std.proofs.Common.{◌≡◌, ◌≢◌, ℕ, zero, suc, ◌+◌, ◌*◌, ◌/◌, ◌-◌, ◌<◌, ◌≤◌, eqb, Bool, true, false, cond, true≢false, List, [], ◌∷◌, ◌++◌, refl, sym, ap, ◌∙◌, subst, arith, ◌⊎◌, inl, inr, ⊎_elim, Option, Some, None}
+use Rattle.std.proofs.Common.{◌≡◌, ◌≢◌, ℕ, zero, suc, ◌+◌, ◌*◌, ◌/◌, ◌-◌, ◌<◌, ◌≤◌, eqb, Bool, true, false, cond, true≢false, List, [], ◌∷◌, ◌++◌, refl, sym, ap, ◌∙◌, subst, arith, ◌⊎◌, inl, inr, ⊎_elim, Option, Some, None, ne_eqb}
 use Rattle.std.proofs.lemmas.Option.{none-some}
 use Rattle.std.specs.Int.{bit_at}
+use Rattle.list_laws.proofs.Options.{none_from}
 use Rattle.feast_base.specs.Edges.{news_register, news_words}
 use Rattle.edge_lock.specs.declared.history.Access.{Access}
 use Rattle.edge_lock.specs.declared.history.Access.TheVariants.{Read, Write}
@@ -43,13 +44,6 @@ silent_write [] r s h = refl
 silent_write (Read at x ∷ xs) r s h = silent_write xs r s h
 silent_write (Write at x ∷ xs) r s h = absurd (true≢false (sym h))
 
-eqb_apart : (q r : ℕ) → q ≢ r → eqb q r ≡ false
-eqb_apart q r h = grind (arith, h)
-
-none_or : (o : Option ℕ) → ((v : ℕ) → o ≡ Some v → ⊥) → o ≡ None
-none_or None f = refl
-none_or (Some v) f = absurd (f v refl)
-
 module _ (sites end c stamp : ℕ) (places : ℕ → Option ℕ) (cells : ℕ → CellValue) (reads pub_ : List Access) (small : end < 2) (low : (k : ℕ) → Covers places 41 k → k < sites)
     (r : IsRefresh sites end places 41 reads) (w : IsPublish sites end cells places 41 pub_) where
   abbrev first_part : List Access
@@ -78,7 +72,7 @@ module _ (sites end c stamp : ℕ) (places : ℕ → Option ℕ) (cells : ℕ �
 
   -- past the clock
   past_clock : (q : ℕ) → 0 < q → found_value all q ≡ found_value (reads ++ last_part) q
-  past_clock q big = ap (λ b. cond b (Some c) (found_value (reads ++ last_part) q)) (eqb_apart q 0 (omega (arith, big)))
+  past_clock q big = ap (λ b. cond b (Some c) (found_value (reads ++ last_part) q)) (ne_eqb q 0 (omega (arith, big)))
 
   found_word : (k v : ℕ) → found_value reads (word_of sites end k) ≡ Some v → found_value all (word_of sites end k) ≡ Some v
   found_word k v is = past_clock (word_of sites end k) (omega arith) ∙ found_more reads last_part (word_of sites end k) v is
@@ -89,7 +83,7 @@ module _ (sites end c stamp : ℕ) (places : ℕ → Option ℕ) (cells : ℕ �
 
   stays_written : (q v : ℕ) → 0 < q → last_write pub_ q None ≡ Some v → last_write all q None ≡ Some v
   stays_written q v big is =
-      writes_of q ∙ (last_write-append pub_ (Write 0 stamp ∷ []) q None ∙ (ap (λ b. cond b (Some stamp) (last_write pub_ q None)) (eqb_apart q 0 (omega (arith, big))) ∙ is))
+      writes_of q ∙ (last_write-append pub_ (Write 0 stamp ∷ []) q None ∙ (ap (λ b. cond b (Some stamp) (last_write pub_ q None)) (ne_eqb q 0 (omega (arith, big))) ∙ is))
 
   news_same : (k : ℕ) → Covers places 41 k → is_news sites end all k ≡ is_news sites end reads k
   news_same k cov = let v = r.words k cov in ap (λ o. has_bit o k) (found_word k v.0 v.1 ∙ sym v.1)
@@ -112,7 +106,7 @@ module _ (sites end c stamp : ℕ) (places : ℕ → Option ℕ) (cells : ℕ �
 
   -- the refresh does not ask for the other end's words
   unasked : (k : ℕ) → Covers places 41 k → found_value reads (word_of sites (1 - end) k) ≡ None
-  unasked k cov = none_or (found_value reads (word_of sites (1 - end) k)) (λ v is.
+  unasked k cov = none_from (found_value reads (word_of sites (1 - end) k)) (λ v is.
       let a = r.only (word_of sites (1 - end) k) v is in
       let lt = low a.0 a.1 in
       let high = word_high (1 - end) k in
@@ -147,7 +141,7 @@ module _ (sites end c stamp : ℕ) (places : ℕ → Option ℕ) (cells : ℕ �
   no_word q k b j lt on is = let high = word_high b j in ⊎_elim (λ (e : q ≡ 1 + 2 * k). omega (arith, e, is, high, lt)) (λ (e : q ≡ 2 + 2 * k). omega (arith, e, is, high, lt)) on
 
   cell_read : (q k : ℕ) → k < sites → OnCell q k → is_read all q ≡ true → Covers places 41 k × (is_news sites end all k ≡ true)
-  cell_read q k lt on is = ⊎_elim by_reads by_last (read_in reads last_part q (sym (ap (λ b. cond b true (is_read (reads ++ last_part) q)) (eqb_apart q 0 (let p = not_zero q k on in omega (arith, p)))) ∙ is))
+  cell_read q k lt on is = ⊎_elim by_reads by_last (read_in reads last_part q (sym (ap (λ b. cond b true (is_read (reads ++ last_part) q)) (ne_eqb q 0 (let p = not_zero q k on in omega (arith, p)))) ∙ is))
     where
       by_reads : is_read reads q ≡ true → Covers places 41 k × (is_news sites end all k ≡ true)
       by_reads f = let v = read_is_found reads q r.silent f in let a = r.only q v.0 v.1 in
@@ -188,10 +182,10 @@ module _ (sites end c stamp : ℕ) (places : ℕ → Option ℕ) (cells : ℕ �
   seen_all n lt = go (places n) refl
     where
       head_word : (k : ℕ) → found_value first_part (word_of sites end k) ≡ found_value reads (word_of sites end k)
-      head_word k = ap (λ b. cond b (Some c) (found_value reads (word_of sites end k))) (eqb_apart (word_of sites end k) 0 (omega arith))
+      head_word k = ap (λ b. cond b (Some c) (found_value reads (word_of sites end k))) (ne_eqb (word_of sites end k) 0 (omega arith))
 
       head_cell : (q : ℕ) → 0 < q → found_value first_part q ≡ found_value reads q
-      head_cell q big = ap (λ b. cond b (Some c) (found_value reads q)) (eqb_apart q 0 (omega (arith, big)))
+      head_cell q big = ap (λ b. cond b (Some c) (found_value reads q)) (ne_eqb q 0 (omega (arith, big)))
 
       of_news : (k : ℕ) → Covers places 41 k → (b : Bool) → is_news sites end reads k ≡ b
           → cond b (cell_in (found_value all (1 + 2 * k)) (found_value all (2 + 2 * k))) None ≡ cond b (cell_in (found_value first_part (1 + 2 * k)) (found_value first_part (2 + 2 * k))) None

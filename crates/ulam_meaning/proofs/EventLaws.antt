@@ -3,6 +3,7 @@ use Rattle.std.proofs.Common.{◌≡◌, ◌≢◌, inl, inr, ℕ, zero, suc, �
 use Rattle.std.proofs.lemmas.Nat.{pow_pos}
 use Rattle.std.proofs.lemmas.Int.{ints, clamps}
 use Rattle.std.specs.Prelude.{sum, map, slice_set, slice_index_or, nat_eq, ◌&&◌, if◌then◌else◌, ℤ}
+use Rattle.list_laws.proofs.Slots.{length_set}
 use Rattle.bit_field.specs.Atom.{AtomValue, empty_atom}
 use Rattle.bit_field.proofs.Fields.{replaced-below}
 use Rattle.window_sites.specs.Window.{WindowValue, IsWindow, atom_at, live_at, put_at, swap_at}
@@ -125,11 +126,6 @@ conditions_take e z d (Some x) = λ s. expressions_take e z d x s
 
 -- Live marks
 
-set_length : {X : Type 0} (xs : List X) (p : ℕ) (a : X) → length (slice_set xs p a) ≡ length xs
-set_length [] p a = refl
-set_length (x ∷ xs) zero a = refl
-set_length (x ∷ xs) (suc p) a = ap suc (set_length xs p a)
-
 marks_same : (w : WindowValue) → KeepsMarks w w
 marks_same w = record { sites = refl; live = refl; others = λ n h. refl }
 
@@ -142,7 +138,7 @@ marks_on u v w a b = record {
 
 -- another atom at a site that is live
 marks_set : (w : WindowValue) (p : ℕ) (a : AtomValue) → live_at w p ≡ true → KeepsMarks w (record w { atoms = slice_set w.atoms p a })
-marks_set w p a h = record { sites = set_length w.atoms p a; live = refl; others = λ n d. set_apart w w.atoms p n a h d }
+marks_set w p a h = record { sites = length_set w.atoms p a; live = refl; others = λ n d. set_apart w w.atoms p n a h d }
 
 marks_put : (w : WindowValue) (p : ℕ) (a : AtomValue) (b : Bool) → live_at w p ≡ b → KeepsMarks w (if b then record w { atoms = slice_set w.atoms p a } else w)
 marks_put w p a true h = marks_set w p a h

@@ -1,6 +1,6 @@
 -- What is found for files is a resolution.
 use Rattle.std.proofs.Common.{◌≡◌, ℕ, ◌+◌, ◌<◌, refl, sym, ap, subst, ◌∙◌, List, [], ◌∷◌, ◌++◌, length, map, Option, Some, None, Bool, true, false, not, ◌&&◌, ◌||◌, Ok, Err, pos, nat_lt, int_le, is_some}
-use Rattle.std.proofs.lemmas.Bool.{ltb-true}
+use Rattle.std.proofs.lemmas.Bool.{ltb-true, not-true}
 use Rattle.list_laws.proofs.Tests.{both}
 use Rattle.feast_base.specs.declared.place.Place.{Place}
 use Rattle.ulam_tree.specs.Raw as t
@@ -14,7 +14,7 @@ use Rattle.ulam_names.specs.Classes.{Known, Half, HalfClass, half_field, half_fu
 use Rattle.ulam_names.specs.ClassRelation.{AreKnown, IsNew, IsValue, IsLength, AreParams, IsMember, AreMembers, AreItems, AllBehave, NoneCyclic, IsWhole, AreWhole, AreClasses, IsResolved}
 use Rattle.ulam_names.proofs.ClassFits.{program_fits}
 use Rattle.ulam_tree.proofs.Means.{Means, means_then, means_found, means_must, must_means, found_means}
-use Rattle.ulam_names.proofs.BodyMeans.{not_false, type_means, width_means, body_means}
+use Rattle.ulam_names.proofs.BodyMeans.{type_means, width_means, body_means}
 
 neither : (a b : Bool) → not (a || b) ≡ true → (a ≡ false) × (b ≡ false)
 neither true b h = cc
@@ -53,7 +53,7 @@ new_means d n free x =
     means_must Q (nat_lt n most_members) _ _ (λ few.
     must_means Q (free && not (declares_name d x.name)) _ (λ new.
     let p = both free (not (declares_name d x.name)) new in
-    (p.0, (ltb-true n most_members few, not_false _ p.1))))
+    (p.0, (ltb-true n most_members few, not-true _ p.1))))
 
 value_means : (d : Names) (k : t.Const) → Means (IsValue d k) (w.const_value d k)
 value_means d (t.const_number minus n u) = refl
@@ -75,7 +75,7 @@ params_mean known d done (p ∷ ps) =
     means_must Q (nat_lt (length done) most_params) _ _ (λ few.
     means_must Q (not (is_among p.word.name done)) _ _ (λ new.
     means_then _ Q (w.params_of known d (done ++ p.word.name ∷ []) ps) _ (params_mean known d (done ++ p.word.name ∷ []) ps) (λ more hm.
-    (n, more, hn, ltb-true (length done) most_params few, not_false _ new, hm, refl)))))
+    (n, more, hn, ltb-true (length done) most_params few, not-true _ new, hm, refl)))))
 
 member_means : (known : Known) (d : Names) (m : t.Member) → Means (IsMember known d m) (w.member known d m)
 member_means known d (t.typedef ty x) =
@@ -83,7 +83,7 @@ member_means known d (t.typedef ty x) =
     means_then _ Q (w.member_type known d ty) _ (type_means (w.basics known d) (w.values d) ty) (λ n hn.
     means_found Q (as_number n.ty) _ _ (λ num hu.
     means_then _ Q (w.new_name d (small_names d) (not (w.is_built_in x.name)) x) _ (new_means d (small_names d) (not (w.is_built_in x.name)) x) (λ u hw.
-    (n, num, hn, hu, hw.1, not_false _ hw.0, refl))))
+    (n, num, hn, hu, hw.1, not-true _ hw.0, refl))))
 member_means known d (t.constant ty x k) =
     let Q : Names × List Half → Type 0 = IsMember known d (t.constant ty x k) in
     means_then _ Q (w.member_type known d ty) _ (type_means (w.basics known d) (w.values d) ty) (λ n hn.
@@ -151,7 +151,7 @@ apart_means : (heads : List Head) (k : ℕ) (hs : List HalfClass) → Means (λ 
 apart_means heads k [] = tt
 apart_means heads k (x ∷ hs) =
     means_must (λ _. NoneCyclic heads k (x ∷ hs)) (not (w.holds_itself heads k)) _ _ (λ ok.
-    means_then_last (λ _. NoneCyclic heads (k + 1) hs) (λ _. NoneCyclic heads k (x ∷ hs)) (w.none_cyclic heads (k + 1) hs) (apart_means heads (k + 1) hs) (λ u hh. (not_false _ ok, hh)))
+    means_then_last (λ _. NoneCyclic heads (k + 1) hs) (λ _. NoneCyclic heads k (x ∷ hs)) (w.none_cyclic heads (k + 1) hs) (apart_means heads (k + 1) hs) (λ u hh. (not-true _ ok, hh)))
 
 whole_means : (known : Known) (heads : List Head) (k : ℕ) (d : Names) (m : Half) → Means (IsWhole known heads k d m) (w.whole_member known heads k d m)
 whole_means known heads k d (half_field n z len) = refl

@@ -1,5 +1,6 @@
 -- The rule of conditions.
 use Rattle.std.proofs.Common.{ℕ, ◌+◌, ◌≤◌, ◌<◌, ◌≡◌, ◌⊎◌, inl, inr, List, [], ◌∷◌, length, Option, Some, None, Bool, true, false, ◌&&◌, ◌||◌, refl, ap, sym, ◌∙◌, arith}
+use Rattle.std.proofs.lemmas.Bool.{or_cases}
 use Rattle.feast_base.specs.declared.place.Place.{Place}
 use Rattle.ulam_tree.specs.Raw.{Word, Path, Expr, number, truth, reads, calls, index, instance, group, cast, prefix, pair, is, Args, Cond, seen, test}
 use Rattle.ulam_parse.specs.declared.symbol.Symbol.{Symbol}
@@ -31,12 +32,8 @@ closes us = sees s.Semi us || sees s.CloseParen us
 abbrev pub Closed : {A : Type 0} → A → List Tok → Type 0
 Closed a us = closes us ≡ true
 
-either : (a b : Bool) → (a || b) ≡ true → (a ≡ true) ⊎ (b ≡ true)
-either true b h = inl refl
-either false b h = inr h
-
 closing : (us : List Tok) → closes us ≡ true → (sees s.Semi us ≡ true) ⊎ (sees s.CloseParen us ≡ true)
-closing us h = either (sees s.Semi us) (sees s.CloseParen us) h
+closing us h = or_cases (sees s.Semi us) (sees s.CloseParen us) h
 
 -- the first token, by what is seen
 pub seen_at : (k : Symbol) (us : List Tok) → sees k us ≡ true → (w : Text) × (p : Place) × (rest : List Tok) × (us ≡ tok k w p ∷ rest)

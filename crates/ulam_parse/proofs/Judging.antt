@@ -1,5 +1,6 @@
 -- What the reading of tokens up to one says of all.
-use Rattle.std.proofs.Common.{ℕ, zero, suc, ◌+◌, ◌≤◌, ◌≡◌, inl, inr, List, [], ◌∷◌, ◌++◌, length, drop, Bool, true, false, ◌||◌, cond, Ok, Err, refl, ap, sym, ◌∙◌, subst, arith, append_assoc, length-append, append-nil}
+use Rattle.std.proofs.Common.{ℕ, zero, suc, ◌+◌, ◌≤◌, ◌≡◌, inl, inr, List, [], ◌∷◌, ◌++◌, length, drop, Bool, true, false, cond, Ok, Err, refl, ap, sym, ◌∙◌, subst, arith, append_assoc, length-append, append-nil}
+use Rattle.std.proofs.Math.Bool.{or-true}
 use Rattle.feast_base.specs.declared.place.Place.{Place}
 use Rattle.ulam_tree.specs.Raw.{Item}
 use Rattle.ulam_parse.specs.declared.symbol.Symbol.TheVariants as s
@@ -54,13 +55,9 @@ tok_first d (t ∷ ts) = t
 
 -- `End` stands once
 
-or_end : (b : Bool) → (b || true) ≡ true
-or_end true = refl
-or_end false = refl
-
 end_among : (front : List Tok) (w : Text) (p : Place) (back : List Tok) → has_end (front ++ (tok s.End w p ∷ back)) ≡ true
 end_among [] w p back = refl
-end_among (tok k v q ∷ ts) w p back = let e = end_among ts w p back in rw e (or_end (is_end k))
+end_among (tok k v q ∷ ts) w p back = let e = end_among ts w p back in rw e (or-true (is_end k))
 
 last_end : (front init : List Tok) (w v : Text) (p q : Place) (back : List Tok) → front ++ (tok s.End w p ∷ back) ≡ init ++ (tok s.End v q ∷ []) → has_end init ≡ false → back ≡ []
 last_end front init w v p q back e n = elim (two_splits front init (tok s.End w p) (tok s.End v q) back [] e) as (λ z. back ≡ []) [

@@ -1,5 +1,6 @@
 -- The rules of what stands before `;`, and of the heads of `if`, `while` and `for`.
-use Rattle.std.proofs.Common.{ℕ, ◌<◌, ◌≡◌, ◌⊎◌, inl, inr, List, [], ◌∷◌, length, Option, Some, None, Bool, true, false, ◌||◌, refl, ap, sym, ◌∙◌, subst, arith}
+use Rattle.std.proofs.Common.{ℕ, ◌<◌, ◌≡◌, ◌⊎◌, inl, inr, List, [], ◌∷◌, length, Option, Some, None, Bool, true, false, refl, ap, sym, ◌∙◌, subst, arith}
+use Rattle.std.proofs.Math.Bool.{or-true}
 use Rattle.feast_base.specs.declared.place.Place.{Place}
 use Rattle.ulam_tree.specs.Raw.{Word, Path, Expr, reads, Cond, Left, Statement, declares, assigns, counts, does, Part, no_part, part}
 use Rattle.ulam_parse.specs.declared.symbol.Symbol.{Symbol}
@@ -260,12 +261,8 @@ first_rule n = record { rel = IsFirst; filled = record { tree = no_part; fill = 
 abbrev pub Bracketed : {A : Type 0} → A → List Tok → Type 0
 Bracketed a us = sees s.CloseParen us ≡ true
 
-or_true : (b : Bool) → (b || true) ≡ true
-or_true true = refl
-or_true false = refl
-
 bracketed_closes : (us : List Tok) → sees s.CloseParen us ≡ true → closes us ≡ true
-bracketed_closes us h = rw h (or_true (sees s.Semi us))
+bracketed_closes us h = rw h (or-true (sees s.Semi us))
 
 step_from : Back (Seen s.CloseParen) IsStep (λ b us rest. (b ≡ no_part) × (us ≡ rest)) Bracketed Free
 step_from no_part vs end c h w = ((refl, h), tt)

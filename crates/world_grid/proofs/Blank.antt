@@ -1,28 +1,17 @@
 -- A blank grid of a world's plane, and its atoms, set one after another.
-use Rattle.std.proofs.Common.{ℕ, ◌≡◌, ◌+◌, ◌*◌, ◌/◌, ◌%◌, ◌<◌, ◌≤◌, false, true, List, ◌∷◌, length, get_or, drop, fold, replicate, sym, ap, ◌∙◌, arith}
+use Rattle.std.proofs.Common.{ℕ, ◌≡◌, ◌+◌, ◌*◌, ◌/◌, ◌%◌, ◌<◌, ◌≤◌, false, true, List, ◌∷◌, length, get_or, drop, fold, replicate, sym, ap, ◌∙◌, arith, ltb-true, mod-lt, div-add-mod'}
 use Rattle.std.specs.Prelude.{nat_lt}
 use Rattle.std.proofs.lemmas.List.{drop_more}
 use Rattle.std.proofs.lemmas.List.FromFn.{fill_by_all}
-use Rattle.std.proofs.lemmas.Nat.{rows}
+use Rattle.list_laws.proofs.Numbers.{div_lt}
 use Rattle.list_laws.proofs.Tests.{both}
 use Rattle.bit_field.specs.Atom.{empty_atom}
 use Rattle.border_cache.specs.Copies.{IsGridOf}
 use Rattle.cell_grid.specs.Grid.{GridValue, IsLive}
 use Rattle.serial_order.specs.Outcomes.{IsBlank}
 use Rattle.tile_map.specs.Plane.{MapValue, IsMap, site, in_plane, is_on, is_live, owner_of}
-use Rattle.tile_map.proofs.Spans.{test_lt}
 use Rattle.world_grid.specs.Start.{bare_grid, count_of, site_at, with_placed}
 use Rattle.world_text.specs.declared.world.Placed.{Placed}
-
--- a place is that of a site of the plane
-column_in : (i w : ℕ) → 0 < w → i % w < w
-column_in i w some = grind (arith, rows)
-
-row_in : (i w h : ℕ) → 0 < w → i < w * h → i / w < h
-row_in i w h some lt = grind (arith, rows)
-
-whole_place : (i w : ℕ) → 0 < w → i / w * w + i % w ≡ i
-whole_place i w some = grind (arith, rows)
 
 some_columns : (a b : ℕ) → 1 ≤ a → 8 ≤ b → 0 < a * b
 some_columns a b p q = grind arith
@@ -42,9 +31,9 @@ blank_is m k g h =
     live_at : (i : ℕ) → i < count_of m → get_or g.live i false ≡ is_live m (site_at m i)
     live_at i lt =
         let w = m.tx * m.w in
-        let x : i % w < g.width = let a = column_in i w (wide m k) in omega (arith, a, h.fits.wide) in
-        let y : i / w < g.height = let b = row_in i w (m.ty * m.h) (wide m k) lt in omega (arith, b, h.fits.high) in
-        let place : i / w * g.width + i % w ≡ i = ap (λ n. i / w * n + i % w) h.fits.wide ∙ whole_place i w (wide m k) in
+        let x : i % w < g.width = let a = mod-lt i (wide m k) in omega (arith, a, h.fits.wide) in
+        let y : i / w < g.height = let b = div_lt i w (m.ty * m.h) (wide m k) lt in omega (arith, b, h.fits.high) in
+        let place : i / w * g.width + i % w ≡ i = ap (λ n. i / w * n + i % w) h.fits.wide ∙ div-add-mod' i w in
         sym (ap (λ n. get_or g.live n false) place) ∙ h.fits.live (i % w) (i / w) x y
 
 pub fits_placed : (m : MapValue) (g : GridValue) (p : Placed) → IsGridOf m g → IsGridOf m (with_placed g p)
@@ -54,8 +43,8 @@ fits_placed m g p h = record { wide = h.wide; high = h.high; live = h.live }
 pub live_in : (m : MapValue) (g : GridValue) (x y : ℕ) → IsGridOf m g → is_live m (site x y) ≡ true → IsLive g x y
 live_in m g x y h live =
     let inside = both (nat_lt x (m.tx * m.w)) (nat_lt y (m.ty * m.h)) (both (in_plane m (site x y)) (is_on m (owner_of m (site x y))) live).0 in
-    let a : x < g.width = let lt = test_lt _ _ inside.0 in omega (arith, lt, h.wide) in
-    let b : y < g.height = let lt = test_lt _ _ inside.1 in omega (arith, lt, h.high) in
+    let a : x < g.width = let lt = ltb-true _ _ inside.0 in omega (arith, lt, h.wide) in
+    let b : y < g.height = let lt = ltb-true _ _ inside.1 in omega (arith, lt, h.high) in
     record { column = a; row = b; marked = h.live x y a b ∙ live }
 
 -- one atom more

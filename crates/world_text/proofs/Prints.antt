@@ -6,12 +6,13 @@ use Rattle.draw_stream.specs.Plans.{TakesNext}
 use Rattle.draw_stream.proofs.Plans.{length_seeded_lists}
 use Rattle.std.specs.List.{list_any}
 use Rattle.world_text.specs.Drafts.{DraftValue, IsDraft}
-use Rattle.world_text.specs.Named.{WorldValue, named, name_fault, or_zero, place_of, placed, plan_by, type_from, type_of, unless, world_of}
+use Rattle.world_text.specs.Named.{WorldValue, named, name_fault, place_of, placed, plan_by, type_from, type_of, unless, world_of}
 use Rattle.world_text.specs.Printed.{IsNamed, IsPrintable, line_fields, lines_text}
 use Rattle.world_text.specs.Values.{Names, world_value}
 use Rattle.world_text.specs.declared.fault.WorldFault.{WorldFault}
 use Rattle.world_text.specs.declared.world.World.{World}
 use Rattle.std.specs.Result.{IfOk}
+use Rattle.list_laws.specs.Options.{or_zero}
 use Rattle.text_lines.specs.Lines.{ended_line}
 use Rattle.world_text.specs.Line.{Line}
 use Rattle.world_text.specs.declared.draft.RawAtom.{RawAtom}
