@@ -1,6 +1,7 @@
 -- What is found by a run of reads.
 use Rattle.std.proofs.Common.{◌≡◌, ℕ, eqb, Bool, true, false, cond, true≢false, List, [], ◌∷◌, ◌++◌, refl, sym, ap, ◌∙◌, arith, Option, None, Some}
 use Rattle.std.proofs.lemmas.Option.{none-some}
+use Rattle.edge_lock.proofs.HistoryLaws.{found_stays}
 use Rattle.list_laws.specs.Options.{or_zero}
 use Rattle.edge_lock.specs.declared.history.Access.{Access}
 use Rattle.edge_lock.specs.declared.history.Access.TheVariants.{Read, Write}
@@ -13,11 +14,6 @@ use Rattle.border_cache.proofs.Runs.{known_after}
 more_if : (b : Bool) (o p u : Option ℕ) (v : ℕ) → (o ≡ Some v → p ≡ Some v) → cond b u o ≡ Some v → cond b u p ≡ Some v
 more_if true o p u v f h = h
 more_if false o p u v f h = f h
-
-pub found_more : (xs ys : List Access) (r v : ℕ) → found_value xs r ≡ Some v → found_value (xs ++ ys) r ≡ Some v
-found_more [] ys r v h = absurd (none-some v h)
-found_more (Read at x ∷ xs) ys r v h = more_if (eqb r at) (found_value xs r) (found_value (xs ++ ys) r) (Some x) v (found_more xs ys r v) h
-found_more (Write at x ∷ xs) ys r v h = more_if (eqb r at) (found_value xs r) (found_value (xs ++ ys) r) None v (found_more xs ys r v) h
 
 -- where reads found nothing, the next ones tell
 new_if : (b : Bool) (x : ℕ) (o p q : Option ℕ) → (o ≡ None → p ≡ q) → cond b (Some x) o ≡ None → cond b (Some x) p ≡ q
@@ -66,4 +62,4 @@ found_read xs zs known r v w h shows = go (found_value xs r) refl
   where
     go : (o : Option ℕ) → found_value xs r ≡ o → found_value (xs ++ Read r v ∷ zs) r ≡ Some v
     go None is = found_new xs (Read r v ∷ zs) r w is ∙ (let e : eqb r r ≡ true = grind arith in ap (λ b. cond b (Some v) (found_value zs r)) e)
-    go (Some u) is = found_more xs (Read r v ∷ zs) r u is ∙ ap Some (sym (shown_at (known_after known xs r) u v shows (steady xs known r u w h is (known r))))
+    go (Some u) is = found_stays xs (Read r v ∷ zs) r u is ∙ ap Some (sym (shown_at (known_after known xs r) u v shows (steady xs known r u w h is (known r))))

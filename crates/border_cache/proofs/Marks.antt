@@ -5,6 +5,8 @@ use mathlib.Core.Logic.{dite}
 use native.Mathlib.Decide.{ℕ_discrete}
 use Rattle.std.proofs.lemmas.List.{append-nil}
 use Rattle.std.specs.Int.{bit_at}
+use Rattle.edge_lock.proofs.BoardLaws.{last_shown-append}
+use Rattle.edge_lock.proofs.HistoryLaws.{found_stays}
 use Rattle.list_laws.specs.Options.{or_zero}
 use Rattle.feast_base.specs.Edges.{news_register}
 use Rattle.edge_lock.specs.declared.history.Access.{Access}
@@ -14,8 +16,8 @@ use Rattle.edge_lock.specs.EndLists.{last_shown, writes_nothing, Shows}
 use Rattle.border_cache.specs.Accesses.{last_write, is_read, reads_nothing, IsHonest}
 use Rattle.border_cache.specs.News.{Covers, word_of}
 use Rattle.border_cache.specs.Published.{IsWithBit, IsWordMarked, IsMarked, IsBitPut}
-use Rattle.border_cache.proofs.Runs.{known_after, last_shown-append}
-use Rattle.border_cache.proofs.Found.{found_more, shown_at}
+use Rattle.border_cache.proofs.Runs.{known_after}
+use Rattle.border_cache.proofs.Found.{shown_at}
 use Rattle.border_cache.proofs.Refreshes.{covers_more, covers_last}
 
 pub last_write-append : (xs ys : List Access) (r : ℕ) (o : Option ℕ) → last_write (xs ++ ys) r o ≡ last_write ys r (last_write xs r o)
@@ -231,7 +233,7 @@ module _ (sites end : ℕ) (bit : Bool) (places : ℕ → Option ℕ) (n : ℕ) 
     word_again o same = record {
       first = o.first;
       last = w;
-      found = found_more xs (pair r v w) r o.first o.found;
+      found = found_stays xs (pair r v w) r o.first o.found;
       written = write_here xs r v w;
       marked = λ i lt c. dite (ℕ_discrete i (k % 64))
           (λ (e : i ≡ k % 64). ap (bit_at w) e ∙ put.same)

@@ -4,6 +4,7 @@ use Rattle.std.proofs.lemmas.Option.{none-some}
 use mathlib.Core.Logic.{dite}
 use native.Mathlib.Decide.{ℕ_discrete}
 use Rattle.std.proofs.lemmas.List.{append-nil}
+use Rattle.edge_lock.proofs.HistoryLaws.{found_stays}
 use Rattle.list_laws.specs.Options.{or_zero}
 use Rattle.list_laws.proofs.Numbers.{less_or_same}
 use Rattle.feast_base.specs.Edges.{news_register, news_words}
@@ -14,7 +15,6 @@ use Rattle.border_cache.specs.Accesses.{last_write, is_read, reads_nothing}
 use Rattle.border_cache.specs.Cells.{CellValue, cell_of}
 use Rattle.border_cache.specs.News.{Covers, word_of, IsPlace}
 use Rattle.border_cache.specs.Published.{IsWordMarked, IsMarked, ArePut, IsCellPut, IsPublish, ArePlaces}
-use Rattle.border_cache.proofs.Found.{found_more}
 use Rattle.border_cache.proofs.Marks.{last_write-append, untouched, no_write, some_write, written_in, found_is_read, read_in, unread_writes}
 use Rattle.border_cache.proofs.Refreshes.{covers_more}
 
@@ -161,7 +161,7 @@ module _ (sites end n : ℕ) (cells : ℕ → CellValue) (places : ℕ → Optio
       let o = m.words k c in
       let r = word_of sites end k in
       let z = other_word k c zs end (1 - end) true (λ i j a b h. ends_apart j i b a (sym h)) t in
-      as_word end false ys (k / 64) o (past_cells end k ∙ found_more ys zs r o.first o.found)
+      as_word end false ys (k / 64) o (past_cells end k ∙ found_stays ys zs r o.first o.found)
       (last_of r (word_high end k) ∙ (last_write-append ys zs r None ∙ (no_write zs r (last_write ys r None) z.1 ∙ o.written)))
 
   their_word : (k : ℕ) → Covers places n k → IsWordMarked sites (1 - end) true places n all (k / 64)

@@ -1,5 +1,5 @@
 -- The places of held sites, and cells that are stored at the sites of a window.
-use Rattle.std.proofs.Common.{◌≡◌, ℕ, zero, suc, ◌+◌, ◌-◌, ◌*◌, ◌/◌, ◌%◌, ◌<◌, ◌≤◌, eqb, Bool, true, false, cond, true≢false, List, [], ◌∷◌, length, get_or, refl, sym, ap, ◌∙◌, subst, arith, ⊎_elim, Option, Some, None, ltb-true}
+use Rattle.std.proofs.Common.{◌≡◌, ℕ, zero, suc, ◌+◌, ◌-◌, ◌*◌, ◌/◌, ◌%◌, ◌<◌, eqb, Bool, true, false, cond, true≢false, List, [], ◌∷◌, length, get_or, refl, sym, ap, ◌∙◌, subst, arith, ⊎_elim, Option, Some, None, ltb-true}
 use Rattle.std.specs.Prelude.{slice_set, slice_index_or, All}
 use Rattle.std.specs.List.Sorted.{IsStrictlyIncreasing}
 use Rattle.std.proofs.lemmas.Bool.Decides.{nat_tests}
@@ -10,7 +10,7 @@ use Rattle.tile_map.specs.Plane.{Site, MapValue, site, is_held}
 use Rattle.tile_map.specs.Spans.{left_of, top_of}
 use Rattle.tile_map.specs.Edges.{window_site, needs_of, has_end, low_end, high_end}
 use Rattle.tile_map.specs.Laws.{IsPlane, Joins}
-use Rattle.tile_map.proofs.Spans.{held_span, live_plane, times_more}
+use Rattle.tile_map.proofs.Spans.{held_span, live_plane}
 use Rattle.tile_map.proofs.Near.{window_site-near}
 use Rattle.list_laws.proofs.Tests.{both}
 use Rattle.cell_grid.specs.Grid.{GridValue, site_atom}
@@ -115,10 +115,6 @@ centre_column m t c q = ltb-true c.x (m.tx * m.w) (both _ _ (live_plane m c q.li
 pub centre_row : (m : MapValue) (t : ℕ) (c : Site) → IsCentre m t c → c.y < m.ty * m.h
 centre_row m t c q = ltb-true c.y (m.ty * m.h) (both _ _ (live_plane m c q.live)).1
 
--- a plane has at most 512 columns, and so rows
-pub few_sites : (k n : ℕ) → k ≤ 8 → n ≤ 64 → k * n ≤ 512
-few_sites k n p q = omega (arith, times_more k 8 n p, q)
-
 -- the cells of the rectangle at the start
 pub first_copy : (m : MapValue) (t : ℕ) (g : GridValue) (cells : List CellValue) → IsFirstRectangle g (left_of m t) (top_of m t) (columns_of m t) (rows_of m t) cells → IsFirstCopy m t g (cache_of m t cells)
 first_copy m t g cells r = record {
@@ -133,7 +129,7 @@ first_copy m t g cells r = record {
 }
 
 -- a needed edge is one of the tile's, and the board has it
-has_get : (es : List ℕ) (k d : ℕ) → k < length es → has (get_or es k d) es ≡ true
+pub has_get : (es : List ℕ) (k d : ℕ) → k < length es → has (get_or es k d) es ≡ true
 has_get [] k d lt = absurd (omega (arith, lt))
 has_get (e ∷ es) zero d lt = let q : eqb e e ≡ true = grind arith in ap (λ b. cond b true (has e es)) q
 has_get (e ∷ es) (suc k) d lt = go (eqb (get_or es k d) e) (has_get es k d (omega (arith, lt)))

@@ -4,6 +4,7 @@ use Rattle.std.specs.Prelude.{slice_get, nat_lt, nat_le, nat_eq, if◌then◌els
 use Rattle.std.specs.List.{AllByRecursion}
 use Rattle.std.proofs.lemmas.Bool.{cases_lt, eqb-true, leb-true, ltb-true}
 use Rattle.std.proofs.lemmas.Option.{slice_get_within}
+use Rattle.sat_math.proofs.Laws.{least_one}
 use Rattle.list_laws.proofs.Entries.{all_from_get}
 use Rattle.sat_math.specs.Numbers.{greatest_width, least_width}
 use Rattle.sat_math.specs.declared.Kind.{Kind}
@@ -30,13 +31,6 @@ all_at P (y ∷ xs) all zero x e = let same : y ≡ x = cc in subst P same all.0
 all_at P (y ∷ xs) all (suc k) x e = all_at P xs all.1 k x e
 
 -- Widths
-
-least_one : (k : Kind) → 1 ≤ least_width k
-least_one kind.Int = omega arith
-least_one kind.Unsigned = omega arith
-least_one kind.Bits = omega arith
-least_one kind.Bool = omega arith
-least_one kind.Unary = omega arith
 
 greatest_most : (k : Kind) → greatest_width k ≤ 64
 greatest_most kind.Int = omega arith

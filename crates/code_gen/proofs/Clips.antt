@@ -3,6 +3,7 @@ use Rattle.std.proofs.Common.{◌≡◌, ℕ, ◌+◌, ◌*◌, ◌≤◌, min, 
 use Rattle.std.specs.Prelude.{slice_get, nat_le, if◌then◌else◌}
 use Rattle.std.proofs.lemmas.Bool.{leb-true}
 use Rattle.std.proofs.lemmas.Option.{slice_get_within}
+use Rattle.sat_math.proofs.Laws.{least_one}
 use Rattle.sat_math.specs.declared.Kind.{Kind}
 use Rattle.sat_math.specs.declared.Kind.TheVariants as k
 use Rattle.sat_math.specs.declared.NumType.{NumType}
@@ -238,13 +239,6 @@ if_clipped z c x (t.part y) = refl
 
 min_same : (n m : ℕ) → n ≤ m → min n m ≡ n
 min_same n m le = omega (arith, le)
-
-least_one : (kd : Kind) → 1 ≤ least_width kd
-least_one k.Int = omega arith
-least_one k.Unsigned = omega arith
-least_one k.Bits = omega arith
-least_one k.Bool = omega arith
-least_one k.Unary = omega arith
 
 wide_one : (num : NumType) → type_fits num ≡ true → 1 ≤ num.width
 wide_one num = by (nat_le (least_width num.kind) num.width) (nat_le num.width (greatest_width num.kind)) refl

@@ -136,3 +136,7 @@ journal_of ls logs all =
 pub length-records_in : (ls : List LogValue) → length (records_in ls) ≡ length (flat_map records_of ls)
 unfolding records_in
 length-records_in ls = length_permutation (joined (map records_of ls)) (merged is_before (map records_of ls)) (merged_permutes is_before before_order (map records_of ls)) ∙ ap length (joined-map records_of ls)
+
+-- a stand-in for an event that does not exist
+abbrev pub no_record : Record
+no_record = record { stamp = 0; tile = 0; attempt = 0; x = 0; y = 0; seed = 0 }

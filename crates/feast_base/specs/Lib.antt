@@ -5,5 +5,6 @@ pub mod Edges
 pub mod Held
 pub mod Loading
 pub mod Outside
+pub mod Places
 pub mod Refusals
 pub mod TypeNames

@@ -3,6 +3,7 @@ use Rattle.std.proofs.Common.{ℕ, ◌≡◌, ◌≤◌, ◌<◌, ◌+◌, ◌*�
 use Rattle.std.specs.Prelude.{nat_lt, slice_index_or}
 use Rattle.std.specs.Result.{IfOk}
 use Rattle.std.proofs.lemmas.Nat.{rows}
+use Rattle.draw_stream.proofs.Plans.{no_attempt}
 use Rattle.list_laws.proofs.Tests.{together}
 use Rattle.cell_grid.specs.Grid.{GridValue}
 use Rattle.cell_grid.specs.declared.record.Record.{Record}
@@ -26,7 +27,7 @@ use Rattle.feast_run.specs.declared.stop.Stop.{Stop}
 use Rattle.feast_run.specs.declared.worlds.Ready.{Ready}
 use Rattle.feast_run.specs.declared.stop.Stop.TheVariants.{Refused, Missing, NoMemory}
 use Rattle.grid_print.specs.Report.{AreNamed}
-use Rattle.one_tile.proofs.Alone.{each, no_attempt, owes_nothing}
+use Rattle.one_tile.proofs.Alone.{each, owes_nothing}
 use Rattle.one_tile.specs.Events.{IsAlone, events_of}
 use Rattle.element_set.specs.Sets.{Coded, SetValue}
 use Rattle.tile_map.specs.Plane.{MapValue, IsMap, in_plane, is_live, is_on, owner_of, site_in, tiles_of}

@@ -27,7 +27,7 @@ use Rattle.world_text.specs.Drafts.{DraftValue}
 use Rattle.world_text.specs.Named.{WorldValue, named}
 use Rattle.world_text.specs.Reading.{read_text}
 
-load_one : (files : List File) (limit : ℕ) (word : List ℕ) → IsOne (load (Some files) limit word)
+pub load_one : (files : List File) (limit : ℕ) (word : List ℕ) → IsOne (load (Some files) limit word)
 load_one files limit word = record {
   sure = record {
     apart = λ a r p q. let e = ap length (some_once _ a q.0.0 p.0 q.0.1) in absurd (omega (arith, e, p.1, q.0.2));
@@ -36,7 +36,7 @@ load_one files limit word = record {
   one_value = λ a b p q. some_once _ a b p.0 q.0;
 }
 
-loads_one : (files : List File) (done : List File) (words : List (List ℕ)) → IsOne (load_more (Some files) done words)
+pub loads_one : (files : List File) (done : List File) (words : List (List ℕ)) → IsOne (load_more (Some files) done words)
 loads_one files done [] = gives_one done
 loads_one files done (word ∷ words) = then_one _ _ (load_one files element_limit word) (λ bytes. loads_one files (done ++ (word, bytes) ∷ []) words)
 

@@ -10,9 +10,9 @@ use Rattle.cell_grid.specs.declared.record.Record.{Record}
 use Rattle.draw_stream.specs.Plans.{PlanValue, attempts}
 use Rattle.tile_map.specs.Plane.{MapValue, tiles_of}
 use Rattle.event_journal.specs.Accounts.{IsAccounted, IsEventOf, IsGivenUpOf, events_at}
-use Rattle.event_journal.specs.Logs.{ComesBefore}
+use Rattle.event_journal.specs.Logs.{ComesBefore, of_tile, gone_of}
 use Rattle.event_journal.specs.declared.abandoned.Abandoned.{Abandoned}
-use Rattle.journal_check.specs.Telling.{gone_of, of_tile, told}
+use Rattle.journal_check.specs.Telling.{told}
 use Rattle.journal_check.proofs.Lists.{all_in, count_filter, count_less, count_two, order_both, order_two, order_with}
 use Rattle.journal_check.proofs.Told.{EventIn, GoneIn, IsTold, told_from, told_is}
 

@@ -2,12 +2,13 @@
 use Rattle.std.proofs.Common.{ℕ, ◌≡◌, ◌≢◌, ◌+◌, ◌==◌, List, [], ◌∷◌, refl, sym, ap, arith, Bool, false, ◌&&◌, ◌∙◌, cond, length, Option, Some, None, ◌≤◌, eq-eqb, ne_eqb}
 use Rattle.std.specs.Prelude.{if◌then◌else◌}
 use Rattle.std.proofs.lemmas.Bool.Decides.{nat_tests}
+use Rattle.event_journal.specs.Logs.{of_tile, gone_of}
 use Rattle.draw_stream.specs.declared.attempt.Attempt.{Attempt}
 use Rattle.draw_stream.specs.Plans.{TakesNext}
 use Rattle.cell_grid.specs.declared.record.Record.{Record}
 use Rattle.tile_map.specs.Plane.{MapValue}
 use Rattle.event_journal.specs.declared.abandoned.Abandoned.{Abandoned}
-use Rattle.journal_check.specs.Telling.{are_none, gone_of, is_at, is_event, next_entry, next_gone, of_tile, told}
+use Rattle.journal_check.specs.Telling.{are_none, is_at, is_event, next_entry, next_gone, told}
 use Rattle.journal_check.specs.Passing.{IsFirstGone, IsFirstOf}
 
 pub first_of : (t : ℕ) (rs : List Record) (r : Record) (rest : List Record) → IsFirstOf t rs → rs ≡ r ∷ rest → of_tile t rs ≡ r ∷ of_tile t rest

@@ -1,5 +1,6 @@
 -- A packed code file gives the elements of the files that it was packed of.
-use Rattle.std.proofs.Common.{ℕ, ◌≡◌, List, [], ◌∷◌, ◌++◌, length, Option, Some, None, Ok, Err, Result, sym, ap, subst, ◌∙◌, arith, inl, inr}
+use Rattle.std.proofs.Common.{ℕ, ◌≡◌, List, [], Option, Some, None, Ok, Err, Result, sym, ap, subst, ◌∙◌, inl, inr}
+use Rattle.feast_run.proofs.Sure.{load_one, loads_one}
 use Rattle.code_file.specs.Form.{CodesValue}
 use Rattle.code_file.specs.Judging.{Reads}
 use Rattle.code_file.specs.declared.fault.CodeFault.{CodeFault}
@@ -7,7 +8,7 @@ use Rattle.element_set.proofs.OneSet.{set_one as built_one}
 use Rattle.element_set.specs.Sets.{SetValue, AcceptsFiles}
 use Rattle.feast_base.specs.Outside.{File}
 use Rattle.feast_run.proofs.CodeStages.{codes_are, codes_pass}
-use Rattle.feast_run.proofs.Laws.{gives_one, then_one, went}
+use Rattle.feast_run.proofs.Laws.{went}
 use Rattle.feast_run.proofs.Loads.{files_load}
 use Rattle.feast_run.proofs.Runs.{set_is}
 use Rattle.feast_run.specs.CodeFiles.{code_limit, codes_from, codes_in}
@@ -16,7 +17,7 @@ use Rattle.feast_run.specs.Forms.{run, runpack, step, steppack}
 use Rattle.feast_run.specs.Outcomes.{IsOne, Outcome, Stage, and_then, passes, refuses}
 use Rattle.feast_run.specs.Packed.{pack_text}
 use Rattle.feast_run.specs.Promises.{IsCodeFile, IsSet, Shows}
-use Rattle.feast_run.specs.Stages.{ReadyValue, builds, element_limit, load, load_all, load_more, ready_by, set_of}
+use Rattle.feast_run.specs.Stages.{ReadyValue, builds, load, load_all, ready_by, set_of}
 use Rattle.packed_codes.specs.Packed.{packed}
 use Rattle.packed_codes.proofs.Accepted.{again, names, only, same}
 use Rattle.packed_calls.specs.PackedFile.{IsLoaded, IsPacked}
@@ -33,19 +34,6 @@ bytes_of (Some bytes) = bytes
 one_content : (o : Option (List ℕ)) (a b : List ℕ) → o ≡ Some a → o ≡ Some b → a ≡ b
 unfolding bytes_of
 one_content o a b p q = ap bytes_of (sym p ∙ q)
-
-load_one : (files : List File) (limit : ℕ) (word : List ℕ) → IsOne (load (Some files) limit word)
-load_one files limit word = record {
-  sure = record {
-    apart = λ a r p q. let e = ap length (one_content _ a q.0.0 p.0 q.0.1) in absurd (omega (arith, e, p.1, q.0.2));
-    one_refusal = λ r s p q. p.1 ∙ sym q.1;
-  };
-  one_value = λ a b p q. one_content _ a b p.0 q.0;
-}
-
-loads_one : (files : List File) (done : List File) (words : List (List ℕ)) → IsOne (load_more (Some files) done words)
-loads_one files done [] = gives_one done
-loads_one files done (word ∷ words) = then_one _ _ (load_one files element_limit word) (λ bytes. loads_one files (done ++ (word, bytes) ∷ []) words)
 
 -- The set that was packed
 

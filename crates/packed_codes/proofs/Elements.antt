@@ -30,6 +30,7 @@ use Rattle.code_file.specs.Ranged.{IsRanged, OfTypes}
 use Rattle.code_file.specs.Right.{AreRight}
 use Rattle.code_file.proofs.Ranges.{valid_ranged}
 use Rattle.element_set.specs.Names.{AreNew}
+use Rattle.element_set.proofs.Acting.{IsElement as IsElementClass}
 use Rattle.packed_codes.proofs.SoundPieces.{codes_typed, keys_good, values_ranged}
 use Rattle.packed_codes.proofs.SoundPrograms.{key_sound}
 use Rattle.packed_codes.proofs.TypedWords.{ClassesFormed, IsFormedKey, behave_formed}
@@ -52,12 +53,6 @@ each_at P (y ∷ xs) zero x all e = let same : y ≡ x = cc in subst P same all.
 each_at P (y ∷ xs) (suc k) x all e = each_at P xs k x all.1 e
 
 -- Elements of a program
-
--- a class that is an element
-pub record IsElementClass (cs : List t.Class) (c : ℕ) : Type 0 where
-  pub class : t.Class
-  pub stands : slice_get cs c ≡ Some class
-  pub acts : class.quark ≡ false
 
 class_at : (d : ℕ) (cs : List t.Class) (i c : ℕ) → slice_get (element_classes d cs) i ≡ Some c → (k : ℕ) × (c ≡ d + k) × IsElementClass cs k
 class_at d [] i c h = absurd cc

@@ -5,6 +5,7 @@ use Rattle.std.specs.Int.{bit_at}
 use Rattle.std.proofs.lemmas.Nat.{pow_pos, div_below}
 use Rattle.std.proofs.lemmas.Option.{slice_get_within}
 use Rattle.std.proofs.lemmas.Bool.{both_ways}
+use Rattle.list_laws.specs.Booleans.{digit}
 use Rattle.list_laws.proofs.Options.{none_from}
 use Rattle.bit_field.specs.Atom.{AtomValue, empty_atom}
 use Rattle.window_sites.specs.Window.{WindowValue}
@@ -16,7 +17,7 @@ use Rattle.edge_lock.specs.declared.history.Access.{Access}
 use Rattle.edge_lock.specs.History.{found_value}
 use Rattle.border_cache.specs.Cells.{cell_value, cell_of}
 use Rattle.border_cache.specs.News.{Covers, word_of, has_bit, is_news}
-use Rattle.border_cache.specs.Published.{IsWordMarked, digit}
+use Rattle.border_cache.specs.Published.{IsWordMarked}
 use Rattle.border_cache.specs.Windows.{place_in, place_of_some, end_at, sites_on}
 use Rattle.border_cache.proofs.Covered.{covered_in, in_covered}
 use Rattle.list_laws.proofs.Members.{In}

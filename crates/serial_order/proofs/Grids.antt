@@ -15,7 +15,7 @@ use Rattle.window_sites.specs.Window.{WindowValue, atom_at}
 use Rattle.tile_map.specs.Plane.{Site, MapValue, site, in_plane, is_on, is_live, owner_of, in_window}
 use Rattle.tile_map.specs.Edges.{window_site, live_site}
 use Rattle.tile_map.specs.Laws.{IsPlane}
-use Rattle.cell_grid.specs.Grid.{GridValue, IsGrid, site_atom, below_end, placed, live_place, place_of, seen, is_place, sites_at, window_of, atom_left, put_window}
+use Rattle.cell_grid.specs.Grid.{GridValue, IsGrid, site_atom, placed, live_place, place_of, seen, is_place, sites_at, window_of, atom_left, put_window, below}
 use Rattle.cell_grid.proofs.Windows.{put-plane}
 use Rattle.border_cache.specs.Cells.{CellValue}
 use Rattle.border_cache.specs.Copies.{IsGridOf}
@@ -87,7 +87,7 @@ module _ (m : MapValue) (plane : IsPlane m) where
       half u true = refl
       half u false = refl
 
-      go : (o q : Option ℕ) → live_place g.live (placed g.width (below_end g.width o) (below_end g.height q)) ≡ option_map (index g) (live_site m o q)
+      go : (o q : Option ℕ) → live_place g.live (placed g.width (below g.width o) (below g.height q)) ≡ option_map (index g) (live_site m o q)
       go None q = refl
       go (Some u) None = half u (nat_lt u g.width)
       go (Some u) (Some v) = marked u v (nat_lt u g.width) (nat_lt v g.height) refl refl

@@ -5,6 +5,7 @@ use Rattle.std.specs.List.{All}
 use Rattle.std.proofs.lemmas.Bool.Decides.{nat_tests}
 use Rattle.std.proofs.lemmas.List.{append-nil}
 use Rattle.std.proofs.lemmas.List.Elements.{All-contains, filter-append}
+use Rattle.tile_core.proofs.Events.{silent_write}
 use Rattle.list_laws.specs.Options.{value_or}
 use Rattle.edge_lock.specs.declared.history.Access.{Access}
 use Rattle.edge_lock.specs.declared.history.Access.TheVariants.{Read, Write}
@@ -13,7 +14,7 @@ use Rattle.edge_lock.specs.declared.history.Refusal.{Refusal}
 use Rattle.edge_lock.specs.History as edge
 use Rattle.edge_lock.specs.History.{written, found_value, value, trace, own, key, keys, attempts_of, IsRising, IsEnd, IsEdgeHistory}
 use Rattle.edge_lock.specs.EndLists.{writes_nothing}
-use Rattle.edge_lock.proofs.HistoryLaws.{finds}
+use Rattle.edge_lock.proofs.HistoryLaws.{finds, trace-append}
 use Rattle.edge_lock.proofs.LastHolds.{written-append}
 use Rattle.border_cache.specs.Accesses.{last_write}
 use Rattle.border_cache.specs.Cells.{CellValue, cell_of}
@@ -70,17 +71,8 @@ put_from (Write q x ∷ xs) k v o = go (k == q) (put_from xs k v o) (put_from xs
 pub put_is : (xs : List Access) (k v : ℕ) → written xs k v ≡ value_or v (left_in xs k)
 put_is xs k v = put_from xs k v None
 
-quiet_from : (xs : List Access) (k : ℕ) (o : Option ℕ) → writes_nothing xs ≡ true → last_write xs k o ≡ o
-quiet_from [] k o e = refl
-quiet_from (Read q x ∷ xs) k o e = quiet_from xs k o e
-quiet_from (Write q x ∷ xs) k o e = absurd (cc (e))
-
 pub quiet : (h : Hold) → writes_nothing h.accesses ≡ true → IsQuiet h
-quiet h e k = quiet_from h.accesses k None e
-
-trace_append : (gs hs : List Hold) → trace (gs ++ hs) ≡ trace gs ++ trace hs
-trace_append [] hs = refl
-trace_append (g ∷ gs) hs = ap (λ r. g.accesses ++ r) (trace_append gs hs) ∙ sym (append_assoc g.accesses (trace gs) (trace hs))
+quiet h e k = silent_write h.accesses k None e
 
 -- the registers, either way round
 pub values_back : (hs : List Hold) → Snoc hs → (r : ℕ) → values (back hs) r ≡ value hs r
@@ -88,7 +80,7 @@ values_back hs empty r = refl
 values_back _ (snoc gs h t) r =
     ap (λ q. values q r) (back_snoc gs h)
     ∙ ap (written h.accesses r) (values_back gs t r)
-    ∙ sym (ap (λ q. written q r 0) (trace_append gs (h ∷ []) ∙ ap (λ q. trace gs ++ q) (append-nil h.accesses)) ∙ written-append (trace gs) h.accesses r 0)
+    ∙ sym (ap (λ q. written q r 0) (trace-append gs (h ∷ []) ∙ ap (λ q. trace gs ++ q) (append-nil h.accesses)) ∙ written-append (trace gs) h.accesses r 0)
 
 in_keys : (hs : List Hold) (h : Hold) → In h hs → In (key h) (keys hs)
 in_keys [] h i = absurd i

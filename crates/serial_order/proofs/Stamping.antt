@@ -12,7 +12,7 @@ use Rattle.event_journal.specs.Accounts.{edges_of, are_linked, stamp_after, IsSt
 use Rattle.serial_order.proofs.Tile.{max_cases}
 use Rattle.serial_order.proofs.Stamps.{Linked, IsStamp, Stamped}
 
-abbrev top : ℕ → List Record → ℕ
+abbrev pub top : ℕ → List Record → ℕ
 top a xs = fold (λ greatest (s : Record). max greatest s.stamp) a xs
 
 max_left : (a b : ℕ) → a ≤ max a b

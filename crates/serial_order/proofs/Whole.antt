@@ -82,16 +82,16 @@ refusal_in m t l (x ∷ xs) i = ⊎_elim (λ e. in_right (lists_of m t xs l.gone
     here : In (refusal_of l.gone.attempt l.gone.holder_attempt) (refusals_at (Loses l) l.gone.edge)
     here = let same : (l.gone.edge == l.gone.edge) ≡ true = grind (arith, nat_tests) in rw same (inl refl)
 
-has_low : (m : MapValue) (e : ℕ) → has_end m (low_end m e) e ≡ true
+pub has_low : (m : MapValue) (e : ℕ) → has_end m (low_end m e) e ≡ true
 has_low m e = grind (arith, nat_tests)
 
-has_high : (m : MapValue) (e : ℕ) → has_end m (high_end m e) e ≡ true
+pub has_high : (m : MapValue) (e : ℕ) → has_end m (high_end m e) e ≡ true
 has_high m e = grind (arith, nat_tests)
 
-low_is : (m : MapValue) (e : ℕ) → end_at m (low_end m e) e ≡ 0
+pub low_is : (m : MapValue) (e : ℕ) → end_at m (low_end m e) e ≡ 0
 low_is m e = grind (arith, nat_tests)
 
-high_is : (m : MapValue) (e : ℕ) → low_end m e < high_end m e → end_at m (high_end m e) e ≡ 1
+pub high_is : (m : MapValue) (e : ℕ) → low_end m e < high_end m e → end_at m (high_end m e) e ≡ 1
 high_is m e lt = grind (arith, nat_tests, lt)
 
 joins_other : (m : MapValue) (t e u : ℕ) → u ≡ other_end m t e → IsEnd m t e → low_end m e < high_end m e → Joins m e t u

@@ -6,7 +6,7 @@ use Rattle.std.specs.Str.{bytes_eq}
 use Rattle.std.proofs.lemmas.List.{append-nil, map-append, length-append}
 use Rattle.std.proofs.lemmas.List.Folds.{list_any-append}
 use Rattle.std.proofs.lemmas.Slice.Eq.{bytes_eq-Decides}
-use Rattle.std.proofs.lemmas.Bool.{or_parts}
+use Rattle.ulam_names.proofs.Members.{new_function}
 use Rattle.list_laws.proofs.Tests.{both, or_second}
 use Rattle.ulam_tree.specs.declared.resolved.Ty.{Ty}
 use Rattle.ulam_tree.specs.declared.resolved.Ty.TheVariants as y
@@ -117,10 +117,6 @@ FirstBehaves [] = ⊥
 FirstBehaves (half_field n w len ∷ hs) = FirstBehaves hs
 FirstBehaves (half_function f ∷ hs) = ((is_named_behave f ≡ true) × (f.of.ty ≡ y.Nothing) × (f.params ≡ [])) ⊎ ((is_named_behave f ≡ false) × FirstBehaves hs)
 
--- a name that a class does not declare is none of its functions
-no_function_named : (d : Names) (name : Text) → declares_name d name ≡ false → is_among name d.functions ≡ false
-no_function_named d name h = (or_parts (is_among name (names_of d.typedefs) || is_among name (names_of d.constants) || is_among name (names_of d.fields)) (is_among name d.functions) h).1
-
 abbrev has_behave : Names → Bool
 has_behave d = is_among (codes "behave") d.functions
 
@@ -145,7 +141,7 @@ not_again d w has new = go (bytes_eq w.name (codes "behave")) refl
     go false e = refl
     go true e =
         let same = (bytes_eq-Decides w.name (codes "behave")).0 e in
-        let none = no_function_named d w.name new in
+        let none = new_function d w.name new in
         sym has ∙ ap (λ (name : Text). is_among name d.functions) (sym same) ∙ none
 
 -- behind a function that is named so

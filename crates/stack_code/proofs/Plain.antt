@@ -2,14 +2,16 @@
 use Rattle.std.proofs.Common.{◌≡◌, ℕ, zero, suc, ◌+◌, List, [], ◌∷◌, Option, Some, None, refl, sym, ap, ◌∙◌, Bool, true, false}
 use Rattle.std.specs.Prelude.{slice_get, slice_set, nat_lt, nat_le, nat_eq, if◌then◌else◌, map, ℤ, pos, negsuc, ◌+◌, ◌*◌, ◌%◌}
 use Rattle.std.proofs.lemmas.Option.{same_Some}
+use Rattle.datum.specs.Fields.{get_field}
+use Rattle.sat_math.specs.Operations.{of_bool}
 use Rattle.bit_field.specs.Atom.{AtomValue}
 use Rattle.window_sites.specs.Window.{WindowValue, atom_at, put_at, swap_at}
-use Rattle.stack_code.specs.Sorts.{kind_of, Sort, Give, One, Two, Load, Store, Drop, Field, SetField, Part, SetPart, Own, Site, SetSite, Exchange, Ask, Draw, Same, Goto, GotoFalse, Take, Enter, GiveBack, Leave, Double, FieldAt, SetFieldAt, PartAt, SetPartAt, of_bool}
+use Rattle.stack_code.specs.Sorts.{kind_of, Sort, Give, One, Two, Load, Store, Drop, Field, SetField, Part, SetPart, Own, Site, SetSite, Exchange, Ask, Draw, Same, Goto, GotoFalse, Take, Enter, GiveBack, Leave, Double, FieldAt, SetFieldAt, PartAt, SetPartAt}
 use Rattle.datum.specs.declared.Datum.{Datum}
 use Rattle.datum.specs.declared.Datum.TheVariants.{Number as ANumber, Atom as AnAtom}
 use Rattle.bit_field.specs.Words.{with_field}
 use Rattle.draw_stream.specs.Words.{event_step}
-use Rattle.stack_code.specs.Machine.{Held, Led, Goes, Fails, Ends, Lacks, now, at_self, at_site, at_bound, at_index, result_of, with_part, on_slot, own_of, on_own, atom_in, on_part, on_top, on_number, on_atom, on_numbers, kept, get_field, put_own, put_slot, work}
+use Rattle.stack_code.specs.Machine.{Held, Led, Goes, Fails, Ends, Lacks, now, at_self, at_site, at_bound, at_index, result_of, with_part, on_slot, own_of, on_own, atom_in, on_part, on_top, on_number, on_atom, on_numbers, kept, put_own, put_slot, work}
 use Rattle.stack_code.specs.Valid.{Kinds, same_kind, pop, pop_any, and_pop, push, push_slot, pop_slot, if_atom, after}
 use Rattle.stack_code.specs.declared.instr.Operand.{Operand}
 use Rattle.stack_code.specs.declared.instr.Operand.TheVariants.{Number, Atom}

@@ -3,9 +3,10 @@ use Rattle.std.proofs.Common.{◌≡◌, ℕ, zero, suc, ◌+◌, ◌-◌, ◌*�
 use Rattle.std.specs.Prelude.{slice_get, nat_lt, nat_le, if◌then◌else◌, map, reverse, ℤ, is_none}
 use Rattle.std.proofs.lemmas.Bool.{leb-true, ltb-true, lt-ltb, le-ltb, le-leb}
 use Rattle.std.proofs.lemmas.List.{take-map, drop-map, length-reverse, length-take}
+use Rattle.sat_math.specs.Operations.{is_zero}
 use Rattle.list_laws.proofs.Slots.{get_inside}
 use mathlib.Core.List.{reverse_aux}
-use Rattle.stack_code.specs.Sorts.{kind_of, Sort, Goto, GotoFalse, Take, Enter, GiveBack, Leave, sort, is_zero}
+use Rattle.stack_code.specs.Sorts.{kind_of, Sort, Goto, GotoFalse, Take, Enter, GiveBack, Leave, sort}
 use Rattle.datum.specs.declared.Datum.{Datum}
 use Rattle.datum.specs.declared.Datum.TheVariants.{Number as ANumber, Atom as AnAtom}
 use Rattle.stack_code.specs.Machine.{FunctionValue, CodeValue, Held, Led, Goes, Fails, Ends, Lacks, fill, Frame, State, work, onward, on_turn, on_test, fresh, into, enter, enter_with, back, back_one, go_by, step, step_on}
@@ -82,7 +83,7 @@ NextLed c shapes s (Fails n) = Unit {0}
 NextLed c shapes s (Ends w) = Unit {0}
 NextLed c shapes s Lacks = ⊥
 
-abbrev is_goto : Sort → Bool
+abbrev pub is_goto : Sort → Bool
 is_goto (Goto p) = true
 is_goto so = false
 
@@ -94,7 +95,7 @@ turn_take : (i : Instr) → is_turn (Some i) ≡ true → is_take (sort i) ≡ t
 turn_take Turn e = refl
 turn_take i e = cc
 
-not_goto : (i : Instr) (p : ℕ) → is_goto (sort i) ≡ false → back_by p (Some i) ≡ None
+pub not_goto : (i : Instr) (p : ℕ) → is_goto (sort i) ≡ false → back_by p (Some i) ≡ None
 not_goto (Jump q) p e = cc
 not_goto i p e = refl
 

@@ -4,6 +4,7 @@ use Rattle.std.specs.Prelude.{slice_get, nat_lt}
 use Rattle.std.proofs.lemmas.Bool.Decides.{nat_tests}
 use Rattle.std.proofs.lemmas.List.{get_or_past, length-map}
 use Rattle.std.proofs.lemmas.Option.{slice_get-get_or, slice_get_within}
+use Rattle.serial_order.proofs.Whole.{has_high, has_low, high_is, low_is}
 use Rattle.list_laws.proofs.Slots.{get_inside}
 use Rattle.window_sites.specs.Window.{WindowValue}
 use Rattle.tile_map.specs.Plane.{MapValue, IsMap, tiles_of}
@@ -33,18 +34,6 @@ use Rattle.stepped_world.specs.Machine.{Machine}
 use Rattle.stepped_world.specs.Running.{Setting, IsStart, AreUnderway, is_still, stands_still, AnyIsWorn, IsLike, AreLike}
 use Rattle.stepped_world.specs.Ends.{HasRun}
 use Rattle.stepped_world.proofs.Slots.{value_at}
-
-has_low : (m : MapValue) (e : ℕ) → has_end m (low_end m e) e ≡ true
-has_low m e = grind (arith, nat_tests)
-
-has_high : (m : MapValue) (e : ℕ) → has_end m (high_end m e) e ≡ true
-has_high m e = grind (arith, nat_tests)
-
-low_is : (m : MapValue) (e : ℕ) → end_at m (low_end m e) e ≡ 0
-low_is m e = grind (arith, nat_tests)
-
-high_is : (m : MapValue) (e : ℕ) → low_end m e < high_end m e → end_at m (high_end m e) e ≡ 1
-high_is m e lt = grind (arith, nat_tests, lt)
 
 -- a tile that stands still has stopped
 stopped_in : (tile : TileValue) → (p : Phase) → tile.phase ≡ p → is_still p ≡ true → HasStopped tile

@@ -18,11 +18,11 @@ use Rattle.tile_core.specs.declared.phase.Phase.{Phase}
 use Rattle.tile_core.specs.declared.phase.Phase.TheVariants.{Draw, Lock, Refresh, Behave, Write, Give, Back, Finished, Worn}
 use Rattle.tile_core.specs.Values.{TileValue, atoms_of}
 use Rattle.tile_core.specs.Underway.{IsUnderway}
-use Rattle.tile_core.specs.Steps.{StepsIn, WearsOut, Renews, begun, got, tried, freed, is_over}
+use Rattle.tile_core.specs.Steps.{StepsIn, WearsOut, Renews, begun, got, tried, freed, is_over, steps_in}
 use Rattle.tile_core.proofs.Falls.{steps_fall}
 use Rattle.stepped_world.specs.Machine.{Machine, Doing, Done, step, steps, finish_tile, finish}
 use Rattle.stepped_world.specs.Matching.{doing_in, IsEdgeIn, Matches}
-use Rattle.stepped_world.specs.Running.{Setting, AreUnderway, is_still, stands_still, steps_in_hand, steps_ahead, AnyIsWorn, IsLike, AreLike, Follows}
+use Rattle.stepped_world.specs.Running.{Setting, AreUnderway, is_still, stands_still, steps_ahead, AnyIsWorn, IsLike, AreLike, Follows}
 use Rattle.stepped_world.proofs.Finishing.{finishing, finished}
 use Rattle.stepped_world.proofs.Stepping.{Advances, turned, steps_on}
 use Rattle.stepped_world.proofs.Likeness.{step_like, writes_own}
@@ -187,10 +187,10 @@ module _ {B : Type 0} (after : B → WindowValue → ℕ → WindowValue) (m : M
     same_left Finished f s = absurd (true≢false f)
     same_left Worn f s = absurd (true≢false f)
 
-    begun_steps : (z : TileValue) (needs : List ℕ) → z.needs ≡ needs → z.phase ≡ begun needs → length needs ≤ 8 → steps_in_hand z z.phase ≤ 48
-    begun_steps z needs same is few = subst (λ p. steps_in_hand z p ≤ 48) (sym is) (go needs same few)
+    begun_steps : (z : TileValue) (needs : List ℕ) → z.needs ≡ needs → z.phase ≡ begun needs → length needs ≤ 8 → steps_in z z.phase ≤ 48
+    begun_steps z needs same is few = subst (λ p. steps_in z p ≤ 48) (sym is) (go needs same few)
       where
-        go : (es : List ℕ) → z.needs ≡ es → length es ≤ 8 → steps_in_hand z (begun es) ≤ 48
+        go : (es : List ℕ) → z.needs ≡ es → length es ≤ 8 → steps_in z (begun es) ≤ 48
         go [] e le = omega arith
         go (d ∷ es) e le = omega (arith, ap length e, le)
 
@@ -203,13 +203,13 @@ module _ {B : Type 0} (after : B → WindowValue → ℕ → WindowValue) (m : M
             let k = (turned after m g tiles a b same u).each t x is in
             subst (λ (p : (WindowValue → ℕ → WindowValue) × ℕ). IsUnderway m p.0 (atoms_of g.start) (attempts g.plan t) x.0 (lists_of_tile b p.1)) (λ i. (sym k.meaning i, sym d.acting i)) k.underway
 
-        falls : is_over x.0.phase ≡ false → 50 * length y.0.left + steps_in_hand y.0 y.0.phase < 50 * length x.0.left + steps_in_hand x.0 x.0.phase
+        falls : is_over x.0.phase ≡ false → 50 * length y.0.left + steps_in y.0 y.0.phase < 50 * length x.0.left + steps_in x.0 x.0.phase
         falls f =
             let l = same_left x.0.phase f d.step in
-            let less : steps_in_hand y.0 y.0.phase < steps_in_hand x.0 x.0.phase = steps_fall m (after x.1) (atoms_of g.start) (attempts g.plan t) x.0 (lists_on b) before (end_on b) y.0 (lists_on c) f d.step in
+            let less : steps_in y.0 y.0.phase < steps_in x.0 x.0.phase = steps_fall m (after x.1) (atoms_of g.start) (attempts g.plan t) x.0 (lists_on b) before (end_on b) y.0 (lists_on c) f d.step in
             omega (arith, ap length l, less)
 
-        go : (p : Phase) → x.0.phase ≡ p → is_still p ≡ false → StepsIn m (after x.1) (end_on b) x.0 y.0 (lists_on b) (lists_on c) p → 50 * length y.0.left + steps_in_hand y.0 y.0.phase < 50 * length x.0.left + steps_in_hand x.0 x.0.phase
+        go : (p : Phase) → x.0.phase ≡ p → is_still p ≡ false → StepsIn m (after x.1) (end_on b) x.0 y.0 (lists_on b) (lists_on c) p → 50 * length y.0.left + steps_in y.0 y.0.phase < 50 * length x.0.left + steps_in x.0 x.0.phase
         go Draw now e s =
             let n = s.0 in
             let few : length y.0.needs ≤ 8 = (d.on (atoms_of g.start) (attempts g.plan t) before).0.needs.few in

@@ -18,7 +18,7 @@ use Rattle.border_cache.specs.Cells.{CellValue, cell_value}
 use Rattle.border_cache.specs.Copies.{IsGridOf, IsCentre}
 use Rattle.tile_core.specs.Values.{TileValue, atoms_of, event_site}
 use Rattle.tile_core.specs.Turns.{Won, Turn, Wins, records_of}
-use Rattle.event_journal.specs.Logs.{log_of, records_in}
+use Rattle.event_journal.specs.Logs.{log_of, records_in, of_tile, gone_of}
 use Rattle.serial_order.specs.Scene.{log_of_tile, logs_of, Scene, IsOver, registers_at}
 use Rattle.serial_order.specs.Order.{records}
 use Rattle.serial_order.specs.Settled.{IsSettled}
@@ -35,7 +35,7 @@ use Rattle.serial_order.proofs.Tile.{cell_by}
 use Rattle.serial_order.proofs.TileLog.{in_records, records_in as note_in}
 use Rattle.serial_order.proofs.Whole.{turns, hist, run, laws, tile_told, tile_of}
 use Rattle.serial_order.proofs.World.{IsRun, IsEvent}
-use Rattle.stepped_world.specs.Machine.{Machine, records_by, abandoned_by}
+use Rattle.stepped_world.specs.Machine.{Machine}
 use Rattle.stepped_world.specs.Ends.{logs_in}
 use Rattle.stepped_world.specs.Running.{Setting, ComesBefore, IsLike}
 use Rattle.stepped_world.proofs.Slots.{value_at, map_places}
@@ -80,7 +80,7 @@ module _ {B : Type 0} (m : MapValue) (g : Setting) (tiles : List (TileValue × B
   mine t r e = grind (arith, nat_tests, e)
 
   -- a tile's entries among the machine's are those of its turns
-  same_records : (t : ℕ) (x : TileValue × B) → slice_get tiles t ≡ Some x → records_by t s.records ≡ records_of (turns c o t)
+  same_records : (t : ℕ) (x : TileValue × B) → slice_get tiles t ≡ Some x → of_tile t s.records ≡ records_of (turns c o t)
   same_records t x is = sym (k.matches.records t x is) ∙ (tile_told c o t x.0 (value_there t x is)).records
 
   owner_there : (n : Record) → In n s.records → n.tile < length tiles
@@ -122,15 +122,15 @@ module _ {B : Type 0} (m : MapValue) (g : Setting) (tiles : List (TileValue × B
   -- the tiles' logs
   pub logs_are : logs_of (values_of tiles) ≡ logs_in m s
   logs_are =
-      map_places log_of_tile (λ t. log_of t (records_by t s.records) (abandoned_by t s.abandoned)) (values_of tiles) 0 each
-      ∙ ap (λ n. map (λ t. log_of t (records_by t s.records) (abandoned_by t s.abandoned)) (range_with_len 0 n)) o.count
+      map_places log_of_tile (λ t. log_of t (of_tile t s.records) (gone_of t s.abandoned)) (values_of tiles) 0 each
+      ∙ ap (λ n. map (λ t. log_of t (of_tile t s.records) (gone_of t s.abandoned)) (range_with_len 0 n)) o.count
     where
-      each : (t : ℕ) (tile : TileValue) → slice_get (values_of tiles) t ≡ Some tile → log_of_tile tile ≡ log_of (0 + t) (records_by (0 + t) s.records) (abandoned_by (0 + t) s.abandoned)
+      each : (t : ℕ) (tile : TileValue) → slice_get (values_of tiles) t ≡ Some tile → log_of_tile tile ≡ log_of (0 + t) (of_tile (0 + t) s.records) (gone_of (0 + t) s.abandoned)
       each t tile is =
           let x = value_at tiles t tile is in
           let z : 0 + t ≡ t = omega arith in
           (λ i. log_of (o.numbers t tile is i) ((ap (λ (v : TileValue). v.records) (sym x.2) ∙ k.matches.records t x.0 x.1) i) ((ap (λ (v : TileValue). v.abandoned) (sym x.2) ∙ k.matches.abandoned t x.0 x.1) i))
-          ∙ ap (λ n. log_of n (records_by n s.records) (abandoned_by n s.abandoned)) (sym z)
+          ∙ ap (λ n. log_of n (of_tile n s.records) (gone_of n s.abandoned)) (sym z)
 
   pub replay_is : replay g.meaning g.start (records_in (logs_in m s)) ≡ s.grid
   replay_is = ap (λ ls. replay g.meaning g.start (records_in ls)) (sym logs_are) ∙ journal_leaves

@@ -2,6 +2,7 @@
 use Rattle.std.proofs.Common.{◌≡◌, ◌≢◌, ℕ, zero, suc, ◌+◌, ◌*◌, ◌/◌, ◌-◌, ◌<◌, ◌≤◌, eqb, Bool, true, false, cond, true≢false, List, [], ◌∷◌, ◌++◌, refl, sym, ap, ◌∙◌, subst, arith, ◌⊎◌, inl, inr, ⊎_elim, Option, Some, None, ne_eqb}
 use Rattle.std.proofs.lemmas.Option.{none-some}
 use Rattle.std.specs.Int.{bit_at}
+use Rattle.edge_lock.proofs.HistoryLaws.{found_stays}
 use Rattle.list_laws.proofs.Options.{none_from}
 use Rattle.feast_base.specs.Edges.{news_register, news_words}
 use Rattle.edge_lock.specs.declared.history.Access.{Access}
@@ -13,7 +14,7 @@ use Rattle.border_cache.specs.Cells.{CellValue}
 use Rattle.border_cache.specs.News.{Covers, word_of, has_bit, is_news, cell_in, seen, IsRefresh}
 use Rattle.border_cache.specs.Published.{IsWordMarked, IsPublish}
 use Rattle.border_cache.proofs.Runs.{known_after}
-use Rattle.border_cache.proofs.Found.{found_more, found_new, shown_at, steady}
+use Rattle.border_cache.proofs.Found.{found_new, shown_at, steady}
 use Rattle.border_cache.proofs.Marks.{last_write-append, written_in, read_is_found, read_in}
 use Rattle.tile_core.specs.Turns.{IsEventHold}
 
@@ -75,7 +76,7 @@ module _ (sites end c stamp : ℕ) (places : ℕ → Option ℕ) (cells : ℕ �
   past_clock q big = ap (λ b. cond b (Some c) (found_value (reads ++ last_part) q)) (ne_eqb q 0 (omega (arith, big)))
 
   found_word : (k v : ℕ) → found_value reads (word_of sites end k) ≡ Some v → found_value all (word_of sites end k) ≡ Some v
-  found_word k v is = past_clock (word_of sites end k) (omega arith) ∙ found_more reads last_part (word_of sites end k) v is
+  found_word k v is = past_clock (word_of sites end k) (omega arith) ∙ found_stays reads last_part (word_of sites end k) v is
 
   -- what is written is what the last part writes
   writes_of : (q : ℕ) → last_write all q None ≡ last_write last_part q None
@@ -121,7 +122,7 @@ module _ (sites end c stamp : ℕ) (places : ℕ → Option ℕ) (cells : ℕ �
       record {
         first = o.first;
         last = o.last;
-        found = past_clock q (omega arith) ∙ (found_new reads last_part q r.silent (unasked k cov) ∙ found_more pub_ (Write 0 stamp ∷ []) q o.first o.found);
+        found = past_clock q (omega arith) ∙ (found_new reads last_part q r.silent (unasked k cov) ∙ found_stays pub_ (Write 0 stamp ∷ []) q o.first o.found);
         written = stays_written q o.last (omega arith) o.written;
         marked = o.marked;
         kept = o.kept;
@@ -161,7 +162,7 @@ module _ (sites end c stamp : ℕ) (places : ℕ → Option ℕ) (cells : ℕ �
     mine = my_word known h g;
     theirs = their_word;
     finds = λ k cov news. let f = r.cells k cov (sym (news_same k cov) ∙ news) in
-        (f.0, f.1, past_clock (1 + 2 * k) (omega arith) ∙ found_more reads last_part (1 + 2 * k) f.0 f.2, past_clock (2 + 2 * k) (omega arith) ∙ found_more reads last_part (2 + 2 * k) f.1 f.3);
+        (f.0, f.1, past_clock (1 + 2 * k) (omega arith) ∙ found_stays reads last_part (1 + 2 * k) f.0 f.2, past_clock (2 + 2 * k) (omega arith) ∙ found_stays reads last_part (2 + 2 * k) f.1 f.3);
     reads_only = λ k lt f. ⊎_elim (λ a. cell_read (1 + 2 * k) k lt (inl refl) a) (λ a. cell_read (2 + 2 * k) k lt (inr refl) a) f;
     leaves = λ n k lt at. let d = w.cells_put n k lt at in (d.0, d.1, stays_written (1 + 2 * k) d.0 (omega arith) d.2, stays_written (2 + 2 * k) d.1 (omega arith) d.3, d.4);
     spares = λ q v is. ⊎_elim
@@ -193,7 +194,7 @@ module _ (sites end c stamp : ℕ) (places : ℕ → Option ℕ) (cells : ℕ �
       of_news k cov true is = let f = r.cells k cov is in (λ i. cell_in (same (1 + 2 * k) f.0 (omega arith) f.2 i) (same (2 + 2 * k) f.1 (omega arith) f.3 i))
         where
           same : (q v : ℕ) → 0 < q → found_value reads q ≡ Some v → found_value all q ≡ found_value first_part q
-          same q v big is = past_clock q big ∙ (found_more reads last_part q v is ∙ (sym is ∙ sym (head_cell q big)))
+          same q v big is = past_clock q big ∙ (found_stays reads last_part q v is ∙ (sym is ∙ sym (head_cell q big)))
 
       go : (o : Option ℕ) → places n ≡ o → seen sites end all o ≡ seen sites end first_part o
       go None at = refl

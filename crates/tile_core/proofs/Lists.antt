@@ -93,7 +93,7 @@ give_more h rs l = ap (λ hs. end_lists hs (l.refusals ++ rs)) (change_last-snoc
 pub same_closed : (h : Hold) → h.is_open ≡ false → as_open false h ≡ h
 same_closed h is = λ i. hold_of h.end h.attempt h.accesses (sym is i)
 
-eqb_of : (d e : ℕ) → eqb d e ≡ true → e ≡ d
+pub eqb_of : (d e : ℕ) → eqb d e ≡ true → e ≡ d
 eqb_of d e is = grind (arith, is)
 
 -- the lock phase

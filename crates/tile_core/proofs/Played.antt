@@ -107,7 +107,7 @@ module _ (m : MapValue) (meaning : WindowValue → ℕ → WindowValue) (start :
       go e b q = ap (λ es. with_more (one_if (has e es) (worn.hold e)) [] (lists_of m tile.number u.turns e)) d.needs
 
 -- the greatest of some numbers is not below the first
-greatest_above : (n : ℕ) (f : ℕ → ℕ) (es : List ℕ) → n ≤ greatest n f es
+pub greatest_above : (n : ℕ) (f : ℕ → ℕ) (es : List ℕ) → n ≤ greatest n f es
 greatest_above n f [] = omega arith
 greatest_above n f (e ∷ es) = let le = greatest_above (max n (f e)) f es in grind (arith, le)
 

@@ -20,11 +20,8 @@ use Rattle.tile_core.specs.declared.phase.Phase.TheVariants.{Finished, Worn}
 use Rattle.tile_core.specs.Values.{TileValue, centre}
 use Rattle.tile_core.specs.Turns.{AgreeOnEdges, lists_of, with_more, one_if}
 use Rattle.tile_core.specs.Underway.{IsUnderway, InPhase}
-use Rattle.tile_core.proofs.Lists.{free_of, held_more, quiet_more}
+use Rattle.tile_core.proofs.Lists.{free_of, held_more, quiet_more, eqb_of}
 use Rattle.tile_threads.specs.Passes.{let_go}
-
-pub eqb_of : (d e : ℕ) → eqb d e ≡ true → e ≡ d
-eqb_of d e is = grind (arith, is)
 
 -- the end has these edges, on which its holds have written nothing, and no other
 pub record HasHolds (m : MapValue) (t : ℕ) (needs : List ℕ) (a : ℕ → EndLists) : Type 0 where

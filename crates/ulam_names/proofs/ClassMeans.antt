@@ -13,17 +13,13 @@ use Rattle.ulam_names.specs.Walk.{width_value, body}
 use Rattle.ulam_names.specs.Classes.{Known, Half, HalfClass, half_field, half_function, first_fault}
 use Rattle.ulam_names.specs.ClassRelation.{AreKnown, IsNew, IsValue, IsLength, AreParams, IsMember, AreMembers, AreItems, AllBehave, NoneCyclic, IsWhole, AreWhole, AreClasses, IsResolved}
 use Rattle.ulam_names.proofs.ClassFits.{program_fits}
-use Rattle.ulam_tree.proofs.Means.{Means, means_then, means_found, means_must, must_means, found_means}
+use Rattle.ulam_tree.proofs.Means.{Means, means_then, means_found, means_must, must_means, found_means, means_more}
 use Rattle.ulam_names.proofs.BodyMeans.{type_means, width_means, body_means}
 
 neither : (a b : Bool) → not (a || b) ≡ true → (a ≡ false) × (b ≡ false)
 neither true b h = cc
 neither false true h = cc
 neither false false h = (refl, refl)
-
-means_then_last : {A : Type 0} (P : A → Type 0) (Q : A → Type 0) (x : Found A) → Means P x → ((a : A) → P a → Q a) → Means Q x
-means_then_last P Q (Ok a) h k = k a h
-means_then_last P Q (Err e) h k = tt
 
 -- what is known after one more class
 abbrev IsNewClass : Known → t.Class → Known → Type 0
@@ -44,7 +40,7 @@ known_means done (t.uses x ∷ xs) = known_means done xs
 known_means done (t.class c ∷ xs) =
     let Q : Known → Type 0 = AreKnown done (t.class c ∷ xs) in
     means_then (IsNewClass done c) Q (w.new_class done c) _ (new_class_means done c) (λ more hm.
-    means_then_last (AreKnown more xs) Q (w.class_names more xs) (known_means more xs)
+    means_more (AreKnown more xs) Q (w.class_names more xs) (known_means more xs)
     (λ known hk. (hm.0, hm.1, hm.2, subst (λ (d : Known). AreKnown d xs known) hm.3 hk)))
 
 new_means : (d : Names) (n : ℕ) (free : Bool) (x : t.Word) → Means (λ _. (free ≡ true) × IsNew d n x) (w.new_name d n free x)
@@ -145,13 +141,13 @@ items_mean known (t.class c ∷ xs) =
 behave_means : (hs : List HalfClass) → Means (λ _. AllBehave hs) (w.all_behave hs)
 behave_means [] = tt
 behave_means (x ∷ hs) =
-    means_must (λ _. AllBehave (x ∷ hs)) (w.behaves x) _ _ (λ ok. means_then_last (λ _. AllBehave hs) (λ _. AllBehave (x ∷ hs)) (w.all_behave hs) (behave_means hs) (λ u hh. (ok, hh)))
+    means_must (λ _. AllBehave (x ∷ hs)) (w.behaves x) _ _ (λ ok. means_more (λ _. AllBehave hs) (λ _. AllBehave (x ∷ hs)) (w.all_behave hs) (behave_means hs) (λ u hh. (ok, hh)))
 
 apart_means : (heads : List Head) (k : ℕ) (hs : List HalfClass) → Means (λ _. NoneCyclic heads k hs) (w.none_cyclic heads k hs)
 apart_means heads k [] = tt
 apart_means heads k (x ∷ hs) =
     means_must (λ _. NoneCyclic heads k (x ∷ hs)) (not (w.holds_itself heads k)) _ _ (λ ok.
-    means_then_last (λ _. NoneCyclic heads (k + 1) hs) (λ _. NoneCyclic heads k (x ∷ hs)) (w.none_cyclic heads (k + 1) hs) (apart_means heads (k + 1) hs) (λ u hh. (not-true _ ok, hh)))
+    means_more (λ _. NoneCyclic heads (k + 1) hs) (λ _. NoneCyclic heads k (x ∷ hs)) (w.none_cyclic heads (k + 1) hs) (apart_means heads (k + 1) hs) (λ u hh. (not-true _ ok, hh)))
 
 whole_means : (known : Known) (heads : List Head) (k : ℕ) (d : Names) (m : Half) → Means (IsWhole known heads k d m) (w.whole_member known heads k d m)
 whole_means known heads k d (half_field n z len) = refl
@@ -188,7 +184,7 @@ program_means xs =
     means_then _ Q (w.items known xs) _ (items_mean known xs) (λ hs hd.
     means_then _ Q (w.all_behave hs) _ (behave_means hs) (λ u hb.
     means_then _ Q (w.none_cyclic (map w.head_of hs) 0 hs) _ (apart_means (map w.head_of hs) 0 hs) (λ v ha.
-    means_then_last (AreClasses known (map w.head_of hs) 0 hs) Q (w.whole_classes known (map w.head_of hs) 0 hs) (classes_mean known (map w.head_of hs) 0 hs) (λ cs hc.
+    means_more (AreClasses known (map w.head_of hs) 0 hs) Q (w.whole_classes known (map w.head_of hs) 0 hs) (classes_mean known (map w.head_of hs) 0 hs) (λ cs hc.
     record { known = known; halves = hs; named = hn; declared = hd; behave = hb; apart = ha; whole = hc })))))
 
 -- Where there is a fault there is no resolution, and where there is none there is one.

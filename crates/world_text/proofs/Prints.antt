@@ -22,10 +22,6 @@ pub taken_none : (l m : List Attempt) → TakesNext l None m → l ≡ []
 taken_none [] m t = refl
 taken_none (a ∷ rest) m t = let u = t.0 in cc
 
-pub taken_some : (l m : List Attempt) (a : Attempt) → TakesNext l (Some a) m → l ≡ a ∷ m
-taken_some [] m a t = let u = t.0 in cc
-taken_some (x ∷ rest) m a t = let u = t.0 in let v = t.1 in cc
-
 -- a type number is one of those of the names
 type_bound : (names : List (List ℕ)) (k : ℕ) (name : List ℕ) (j : ℕ) → type_from k names name ≡ Some j → (k ≤ j) × (j + 1 ≤ k + length names)
 unfolding type_from

@@ -6,14 +6,14 @@ use Rattle.std.proofs.lemmas.List.Elements.{All-head, All-tail, All-append, All-
 use Rattle.std.proofs.lemmas.Slice.Eq.{bytes_eq-Decides}
 use Rattle.list_laws.specs.Options.{or_zero}
 use Rattle.list_laws.proofs.Tests.{both, together}
-use Rattle.feast_base.specs.TypeNames.{is_type_name}
+use Rattle.feast_base.specs.TypeNames.{is_type_name, name_of}
 use Rattle.draw_stream.specs.declared.attempt.Attempt.{Attempt}
 use Rattle.draw_stream.specs.Plans.{PlanValue, tiles_on}
 use Rattle.tile_map.specs.Plane.{MapValue, IsMap, in_plane, is_on, site, tiles_of, whole_plane}
 use Rattle.world_text.specs.Line.{Line, atom, attempts, header, order, order_seed, seed, size, tiles}
 use Rattle.world_text.specs.Drafts.{DraftValue, IsDraft, IsRawAtom, after_atoms, after_size, in_range, missing, nothing_said, only_plane, put, raw_atom, too_many}
 use Rattle.world_text.specs.Named.{OrderValue, ReadsWorld, WorldValue, drawn, listed, name_fault, named, order_by, place_of, placed, plan_by, type_from, type_of, unless, world_of}
-use Rattle.world_text.specs.Printed.{IsNamed, atom_line, line_fields, lines_text, name_of, off_lines, order_lines, plan_lines, try_lines, world_lines, world_text}
+use Rattle.world_text.specs.Printed.{IsNamed, atom_line, line_fields, lines_text, off_lines, order_lines, plan_lines, try_lines, world_lines, world_text}
 use Rattle.world_text.specs.Reading.{over, read_text}
 use Rattle.world_text.specs.Saying.{IsPrinted, said}
 use Rattle.world_text.specs.declared.draft.RawAtom.{RawAtom}
