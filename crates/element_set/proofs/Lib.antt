@@ -4,6 +4,7 @@ pub mod Composing
 pub mod Counting
 pub mod Fitting
 pub mod FormedNames
+pub mod FormedTokens
 pub mod Named
 pub mod NewNames
 pub mod Numbering
@@ -12,3 +13,4 @@ pub mod Sharing
 pub mod SomeSet
 pub mod Telling
 pub mod TokensKept
+pub mod TreesHold
