@@ -10,11 +10,6 @@ use Rattle.edge_lock.specs.EndLists.{last_shown, writes_nothing, Shows}
 use Rattle.border_cache.specs.Accesses.{with_known, IsHonest}
 use Rattle.border_cache.proofs.Runs.{known_after}
 
--- what was found stays found
-more_if : (b : Bool) (o p u : Option ℕ) (v : ℕ) → (o ≡ Some v → p ≡ Some v) → cond b u o ≡ Some v → cond b u p ≡ Some v
-more_if true o p u v f h = h
-more_if false o p u v f h = f h
-
 -- where reads found nothing, the next ones tell
 new_if : (b : Bool) (x : ℕ) (o p q : Option ℕ) → (o ≡ None → p ≡ q) → cond b (Some x) o ≡ None → cond b (Some x) p ≡ q
 new_if true x o p q f h = absurd (none-some x (sym h))

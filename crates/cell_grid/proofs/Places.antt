@@ -1,12 +1,8 @@
 -- Places of a plane's sites in row order.
-use Rattle.std.proofs.Common.{ℕ, zero, suc, ◌≡◌, ◌+◌, ◌*◌, ◌<◌, true, false, get_or, ap, ◌∙◌, arith}
+use Rattle.std.proofs.Common.{ℕ, ◌+◌, ◌*◌, ◌<◌, true, false, get_or, ap, ◌∙◌}
 use Rattle.std.proofs.lemmas.List.{get_or-replicate}
 use Rattle.std.proofs.lemmas.Nat.{mul-add-lt}
 use Rattle.cell_grid.specs.Grid.{GridValue, IsLive, IsAllLive}
-
-pub add-mul : (a b w : ℕ) → (a + b) * w ≡ a * w + b * w
-add-mul zero b w = omega arith
-add-mul (suc a) b w = let r = add-mul a b w in omega (arith, r)
 
 -- where all sites are live each site of the plane is
 pub IsLive-all : (g : GridValue) (x y : ℕ) → IsAllLive g → x < g.width → y < g.height → IsLive g x y

@@ -1,5 +1,5 @@
 -- A packed code file gives the elements of the files that it was packed of.
-use Rattle.std.proofs.Common.{ℕ, ◌≡◌, List, [], Option, Some, None, Ok, Err, Result, sym, ap, subst, ◌∙◌, inl, inr}
+use Rattle.std.proofs.Common.{ℕ, ◌≡◌, List, [], Some, Ok, Err, Result, sym, subst, inl, inr}
 use Rattle.feast_run.proofs.Sure.{load_one, loads_one}
 use Rattle.code_file.specs.Form.{CodesValue}
 use Rattle.code_file.specs.Judging.{Reads}
@@ -23,17 +23,6 @@ use Rattle.packed_codes.proofs.Accepted.{again, names, only, same}
 use Rattle.packed_calls.specs.PackedFile.{IsLoaded, IsPacked}
 use Rattle.packed_calls.proofs.Only.{Only, form_same}
 use Rattle.packed_calls.proofs.Shown.{OneTold, one_report, ran_same, stepped_same}
-
--- Loads
-
-bytes_of : Option (List ℕ) → List ℕ
-bytes_of None = []
-bytes_of (Some bytes) = bytes
-
--- a file has one content
-one_content : (o : Option (List ℕ)) (a b : List ℕ) → o ≡ Some a → o ≡ Some b → a ≡ b
-unfolding bytes_of
-one_content o a b p q = ap bytes_of (sym p ∙ q)
 
 -- The set that was packed
 

@@ -36,6 +36,7 @@ seen_clock sites end c xs (Some k) =
     let skip : (q : ℕ) → 0 < q → found_value (Read 0 c ∷ xs) q ≡ found_value xs q = λ q big. (let e : eqb q 0 ≡ false = grind (arith, big) in ap (λ b. cond b (Some c) (found_value xs q)) e) in
     (λ j. cond (has_bit (skip (word_of sites end k) (omega arith) j) k) (cell_in (skip (1 + 2 * k) (omega arith) j) (skip (2 + 2 * k) (omega arith) j)) None)
 
+-- what holds of each edge holds of those of the list
 pub all_had : (P : ℕ → Type 0) (xs : List ℕ) → ((e : ℕ) → has e xs ≡ true → P e) → All P xs
 all_had P xs f = λ k d lt. f (get_or xs k d) (has_get xs k d lt)
 
