@@ -25,6 +25,7 @@ silent_both [] ys w u = u
 silent_both (Read at x ∷ xs) ys w u = silent_both xs ys w u
 silent_both (Write at x ∷ xs) ys w u = absurd (true≢false (sym w))
 
+-- reads alone change nothing that is known
 pub shown_at : (k : Option ℕ) (x v : ℕ) → Shows k v → k ≡ Some x → v ≡ x
 shown_at None x v s h = absurd (none-some x h)
 shown_at (Some y) x v s h = s ∙ ap or_zero h

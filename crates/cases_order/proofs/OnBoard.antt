@@ -23,6 +23,7 @@ use Rattle.serial_order.specs.Words.{histories_on}
 use Rattle.serial_order.proofs.Boards.{over}
 use Rattle.cases_order.specs.Driven.{AreMade, IsTileOn, IsDriven}
 
+-- a list with one element more
 get_more : {A : Type 0} (xs : List A) (y : A) (k : ℕ) (x : A) → slice_get (xs ++ y ∷ []) k ≡ Some x → (slice_get xs k ≡ Some x) ⊎ ((k ≡ length xs) × (y ≡ x))
 get_more [] y zero x is = inr (refl, cc (is))
 get_more [] y (suc k) x is = absurd (cc (is))

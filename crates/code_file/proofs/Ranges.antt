@@ -52,7 +52,7 @@ field_in f w n k e =
     let z = if_true (nat_le 1 n) (nat_le (f + n * w) 71) y.1 in
     let h = leb-true (f + n * w) 71 z.1 in
     let t = type_in k w y.0 in
-    let m = le-mul_of_pos_right n t.0 in
+    let m : n ≤ n * w = le-mul_of_pos_right n t.0 in
     ((omega (arith, h), omega (arith, t.1)), omega (arith, h, m))
 
 -- Instructions

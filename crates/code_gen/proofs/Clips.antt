@@ -253,7 +253,7 @@ field_within f n num = by (type_fits num) (nat_le 1 n) (nat_le (f + n * num.widt
     by : (a b c : Bool) → type_fits num ≡ a → nat_le (f + n * num.width) 71 ≡ c → (if a then (if b then c else false) else false) ≡ true → (f ≤ 71) × (n ≤ 71)
     by true true true e h x =
         let le = leb-true (f + n * num.width) 71 h in
-        let more = le-mul_of_pos_right n (wide_one num e) in
+        let more : n ≤ n * num.width = le-mul_of_pos_right n (wide_one num e) in
         (omega (arith, le), omega (arith, le, more))
     by true true false e h x = absurd cc
     by true false c e h x = absurd cc

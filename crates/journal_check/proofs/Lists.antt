@@ -39,6 +39,7 @@ pub order_both : {A : Type 0} (R S : A → A → Type 0) (xs : List A) → InOrd
 order_both R S [] o p = tt
 order_both R S (x ∷ xs) o p = ((λ y i. (o.0 y i, p.0 y i)), order_both R S xs o.1 p.1)
 
+-- counts
 pub count_filter : {A : Type 0} (p q : A → Bool) (xs : List A) → count_by (λ x. p x && q x) xs ≡ count_by q (filter p xs)
 count_filter p q [] = refl
 count_filter {A = A} p q (x ∷ xs) = go (p x) refl (count_filter p q xs)

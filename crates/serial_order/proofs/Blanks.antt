@@ -39,6 +39,7 @@ some_sites m valid = let s = valid.sizes in let low = times_more 1 m.w m.h (omeg
 pub sites_by : (m : MapValue) → IsMap m → (width height tiles : ℕ) → width ≡ m.tx * m.w → height ≡ m.ty * m.h → tiles ≡ tiles_of m → width * height / tiles ≡ m.w * m.h
 sites_by m valid width height tiles a b c = (λ i. a i * b i / c i) ∙ sites_is m valid
 
+-- the first site of a tile
 first_column : (w : ℕ) → 1 ≤ w → 0 % w ≡ 0
 first_column w p = let none : 0 ≡ 0 * w + 0 = omega arith in ap (λ n. n % w) none ∙ mod-mul-add 0 w 0 (omega (arith, p))
 

@@ -65,23 +65,23 @@ abbrev typed_in : types.Found (List t.Class) → List t.Class
 typed_in (Ok us) = us
 typed_in (Err f) = []
 
-abbrev classes : List r.Class
-classes = resolved_in (program items)
+abbrev example_classes : List r.Class
+example_classes = resolved_in (program items)
 
 abbrev tree : List t.Class
-tree = typed_in (typing.program classes)
+tree = typed_in (typing.program example_classes)
 
-found : program items ≡ Ok classes
+found : program items ≡ Ok example_classes
 unfolding items built_in of_window of_random leads
 found = refl
 
-typed_found : typing.program classes ≡ Ok tree
+typed_found : typing.program example_classes ≡ Ok tree
 unfolding items built_in of_window of_random leads expr statement locals
 typed_found = refl
 
-narrow : first_wide classes ≡ None
+narrow : first_wide example_classes ≡ None
 unfolding items built_in of_window of_random leads bits_within
 narrow = refl
 
-example : IsCompilable (record { classes = tree; layout = layout_of classes })
-example = compilable items classes tree (subst (Means (IsResolved items)) found (program_means items)) narrow (subst (Means (IsTypedProgram classes)) typed_found (typing_means classes))
+example : IsCompilable (record { classes = tree; layout = layout_of example_classes })
+example = compilable items example_classes tree (subst (Means (IsResolved items)) found (program_means items)) narrow (subst (Means (IsTypedProgram example_classes)) typed_found (typing_means example_classes))

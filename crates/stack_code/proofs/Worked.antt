@@ -19,7 +19,7 @@ one_function : List Instr → CodeValue
 one_function is = record { kind = 1; functions = main_with [] ∷ []; instrs = is }
 
 -- a window of 41 live sites with atoms of type 1
-pub full : WindowValue
+unfoldable pub full : WindowValue
 full = record { atoms = replicate 41 (atom_of 1); live = replicate 41 true }
 
 walker : CodeValue

@@ -1,5 +1,5 @@
 pub mod EventLaws
-pub mod Examples
+mod Examples
 mod Failures
 pub mod Kept
 pub mod Layouts

@@ -20,7 +20,6 @@ abbrev pub ShallowFrom : Nest → List Tok → Type 0
 ShallowFrom n ts = (front back : List Tok) → ts ≡ front ++ back → depth (after n front) ≤ 64
 
 some_is : (a b : ℕ) → Some a ≡ Some b → a ≡ b
-unfolding value_or
 some_is a b e = ap (value_or a) e
 
 -- a front of tokens with one in front
