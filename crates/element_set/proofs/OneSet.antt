@@ -1,5 +1,6 @@
 -- Files have one set or one refusal, and never both.
 use Rattle.std.proofs.Common.{ℕ, ◌≡◌, List, [], ◌∷◌, length, Option, Some, None, sym, ap, ◌∙◌}
+use Rattle.list_laws.proofs.Options.{some_once}
 use Rattle.feast_base.specs.Outside.{File}
 use Rattle.feast_base.proofs.Stages.{gives_one, then_one}
 use Rattle.feast_base.specs.Stages.{IsOne, every}
@@ -25,10 +26,6 @@ use Rattle.element_set.specs.Value.{SetValue, program_of}
 -- a fault that is told as two refusals
 told_one : {F : Type 0} (told : F → BuildFault) (f g : F) (a b : Refusal) → f ≡ g → told f ≡ Refused a → told g ≡ Refused b → a ≡ b
 told_one told f g a b e h k = let q : Refused a ≡ Refused b = sym h ∙ ap told e ∙ k in cc
-
--- two faults that are first
-some_one : {F : Type 0} (o : Option F) (f g : F) → o ≡ Some f → o ≡ Some g → f ≡ g
-some_one o f g h k = let q : Some f ≡ Some g = sym h ∙ k in cc
 
 none_some : {F : Type 0} (o : Option F) (f : F) → o ≡ None → o ≡ Some f → ⊥
 none_some o f h k = let q : None ≡ Some f = sym h ∙ k in cc
@@ -59,25 +56,25 @@ more_one done (f ∷ fs) =
 
 flat_one : (x : Trees) → IsOne every (flat x)
 flat_one x = record {
-  sure = record { apart = λ a e counts h k. none_some _ k.0 h.0 k.1; one_halt = λ a b counts count h k. told_one heirs_fault h.0 k.0 a b (some_one _ h.0 k.0 h.1 k.1) h.2 k.2 };
+  sure = record { apart = λ a e counts h k. none_some _ k.0 h.0 k.1; one_halt = λ a b counts count h k. told_one heirs_fault h.0 k.0 a b (some_once _ h.0 k.0 h.1 k.1) h.2 k.2 };
   one_value = λ a b h k. h.1 ∙ sym k.1;
 }
 
 named_one : (xs : List Item) → IsOne every (named xs)
 named_one xs = record {
-  sure = record { apart = λ a e counts h k. none_some _ k.0 (no_name_fault xs a h) k.1; one_halt = λ a b counts count h k. h.2 ∙ ap name_refusal (some_one _ h.0 k.0 h.1 k.1) ∙ sym k.2 };
+  sure = record { apart = λ a e counts h k. none_some _ k.0 (no_name_fault xs a h) k.1; one_halt = λ a b counts count h k. h.2 ∙ ap name_refusal (some_once _ h.0 k.0 h.1 k.1) ∙ sym k.2 };
   one_value = λ a b h k. one_resolution xs a b h k;
 }
 
 laid_one : (cs : List r.Class) → IsOne every (laid cs)
 laid_one cs = record {
-  sure = record { apart = λ a e counts h k. none_some _ k.0 h.0 k.1; one_halt = λ a b counts count h k. told_one layout_fault h.0 k.0 a b (some_one _ h.0 k.0 h.1 k.1) h.2 k.2 };
+  sure = record { apart = λ a e counts h k. none_some _ k.0 h.0 k.1; one_halt = λ a b counts count h k. told_one layout_fault h.0 k.0 a b (some_once _ h.0 k.0 h.1 k.1) h.2 k.2 };
   one_value = λ a b h k. h.1 ∙ sym k.1;
 }
 
 typed_one : (cs : List r.Class) → IsOne every (typed cs)
 typed_one cs = record {
-  sure = record { apart = λ a e counts h k. none_some _ k.0 (no_type_fault cs a h) k.1; one_halt = λ a b counts count h k. h.2 ∙ ap type_refusal (some_one _ h.0 k.0 h.1 k.1) ∙ sym k.2 };
+  sure = record { apart = λ a e counts h k. none_some _ k.0 (no_type_fault cs a h) k.1; one_halt = λ a b counts count h k. h.2 ∙ ap type_refusal (some_once _ h.0 k.0 h.1 k.1) ∙ sym k.2 };
   one_value = λ a b h k. one_typing cs a b h k;
 }
 

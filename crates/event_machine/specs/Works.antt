@@ -1,17 +1,17 @@
 -- What the calls of the machine do, beside the definition of the stack machine.
 use Rattle.std.specs.Prelude.{◌≡◌, ℕ, ◌+◌, ◌*◌, ◌≤◌, ◌<◌, true, ℤ, List, [], ◌∷◌, length, Option, Some, None, slice_get}
 use Rattle.bit_field.specs.Atom.{AtomValue}
-use Rattle.window_sites.specs.Window.{WindowValue}
+use Rattle.window_sites.specs.Window.{WindowValue, emptied}
 use Rattle.sat_math.specs.declared.Kind.TheVariants.{Bits}
 use Rattle.sat_math.specs.declared.NumType.{NumType}
 use Rattle.sat_math.specs.Numbers.{cast, IsNumType}
-use Rattle.sat_math.specs.Operations.{IsSigned}
+use Rattle.sat_math.specs.Operations.{IsSigned, shifted_up, shifted_down, comparison}
 use Rattle.feast_base.specs.Counting.{Counted}
 use Rattle.event_machine.specs.Ticks.{Ticks}
 use Rattle.std.specs.Prelude.{int_div, int_rem, bit_and, bit_or, bit_xor}
 use Rattle.datum.specs.declared.Datum.{Datum}
-use Rattle.stack_code.specs.Sorts.{exact, divided, sum, difference, product, negated, on_bits, flip, left, right, tested, not_bool, num_type}
-use Rattle.stack_code.specs.Machine.{Held, Led, Goes, Fails, Ends, Lacks, State, CodeValue, FunctionValue, emptied, iter, count, start}
+use Rattle.stack_code.specs.Sorts.{exact, divided, sum, difference, product, negated, on_bits, flip, not_bool, num_type}
+use Rattle.stack_code.specs.Machine.{Held, Led, Goes, Fails, Ends, Lacks, State, CodeValue, FunctionValue, iter, count, start}
 use Rattle.stack_code.specs.Valid.{type_fits, args_fit, valid}
 use Rattle.event_machine.specs.declared.ending.Leads.{Leads}
 use Rattle.event_machine.specs.declared.ending.Leads.TheVariants.{On, Fail, Done, Lack}
@@ -94,9 +94,9 @@ pair_of (Rem how) = divided how int_rem
 pair_of And = on_bits bit_and
 pair_of Or = on_bits bit_or
 pair_of Xor = on_bits bit_xor
-pair_of (Shl w) = left w
-pair_of Shr = right
-pair_of (Test op) = tested op
+pair_of (Shl w) = shifted_up w
+pair_of Shr = shifted_down
+pair_of (Test op) = comparison op
 
 abbrev pub PairFits : PairOp → Type 0
 PairFits (Shl w) = type_fits (num_type Bits w) ≡ true

@@ -1,9 +1,10 @@
 //! The plain instructions on numbers, slots and sites: a function for each sort.
 
-ghost use Rattle.std.specs.Prelude.{◌≡◌, ◌≤◌, ℕ, length, true};
+ghost use Rattle.std.specs.Prelude.{◌≡◌, ◌≤◌, ℕ, length, true, pos};
+ghost use Rattle.sat_math.specs.Operations.{one_in};
 ghost use Rattle.sat_math.specs.Numbers.{cast};
-ghost use Rattle.window_sites.specs.Window.{live_at};
-ghost use Rattle.stack_code.specs.Sorts.{Give, One, Two, Load, Store, Drop, Own, Site, SetSite, Exchange, Ask, Draw, Same, Double, is_empty_at, as_drawn, one_in, num_type};
+ghost use Rattle.window_sites.specs.Window.{live_at, is_empty_at};
+ghost use Rattle.stack_code.specs.Sorts.{Give, One, Two, Load, Store, Drop, Own, Site, SetSite, Exchange, Ask, Draw, Same, Double, num_type};
 ghost use Rattle.stack_code.specs.Machine.{work};
 ghost use Rattle.stack_code.specs.Valid.{type_fits};
 ghost use Rattle.event_machine.specs.Works.{Works, pair_of, PairFits, single_of, SingleFits};
@@ -225,7 +226,7 @@ pub fn is_empty(running: &mut Activation) -> Leads
 #[inline(always)]
 pub fn create(running: &mut Activation) -> Leads
     requires { length running.old.stack ≤ 512 }
-    ensures { (kind : ℕ) → Works (work kind (Draw as_drawn) running.old) running.new result }
+    ensures { (kind : ℕ) → Works (work kind (Draw pos) running.old) running.new result }
 {
     match running.number() {
         Some(v) => match bound(v) {

@@ -1,10 +1,10 @@
 -- A world and its set, as a judgement knows them.
 use Rattle.std.proofs.Common.{ℕ, ◌≡◌, ◌<◌, List, All, Result, Ok, Err, ap, length, subst, sym}
 use Rattle.std.specs.Prelude.{IfOk}
+use Rattle.draw_stream.proofs.Plans.{no_attempt}
 use Rattle.cell_grid.specs.Grid.{GridValue}
 use Rattle.cell_grid.specs.Records.{replay}
 use Rattle.cell_grid.specs.declared.record.Record.{Record}
-use Rattle.draw_stream.specs.declared.attempt.Attempt.{Attempt}
 use Rattle.element_set.specs.Sets.{Coded}
 use Rattle.feast_run.specs.Answer.{rewinds}
 use Rattle.feast_run.specs.Audited.{Audits, judged_world}
@@ -27,9 +27,6 @@ use Rattle.world_runs.specs.Start.{start_grid}
 use Rattle.world_runs.specs.Worlds.{IsWorld}
 use Rattle.world_text.specs.Named.{WorldValue}
 use Rattle.world_text.specs.Printed.{IsNamed}
-
-no_attempt : Attempt
-no_attempt = record { centre = 0; seed = 0 }
 
 pub plan_of : (w : WorldValue) → IsWorld w → IsPlanOf w.plane w.plan
 plan_of w h = record { lists = h.lists; on = λ t some. (h.attempts t 0 no_attempt some).on; centres = λ t k d lt. (h.attempts t k d lt).centre }

@@ -1,8 +1,9 @@
 -- What a world with its elements is, from the stages that made it.
-use Rattle.std.proofs.Common.{ℕ, ◌≡◌, ◌≤◌, ◌<◌, ◌+◌, ◌*◌, ◌/◌, ◌%◌, true, List, [], ◌∷◌, All, Option, Some, None, Result, Ok, Err, get_or, length, refl, sym, ap, subst, ◌∙◌, arith}
+use Rattle.std.proofs.Common.{ℕ, ◌≡◌, ◌≤◌, ◌<◌, ◌+◌, ◌*◌, ◌/◌, ◌%◌, true, List, [], ◌∷◌, All, Option, Some, None, Result, Ok, Err, get_or, length, refl, sym, ap, subst, ◌∙◌, arith, lt-ltb}
 use Rattle.std.specs.Prelude.{nat_lt, slice_index_or}
 use Rattle.std.specs.Result.{IfOk}
 use Rattle.std.proofs.lemmas.Nat.{rows}
+use Rattle.draw_stream.proofs.Plans.{no_attempt}
 use Rattle.list_laws.proofs.Tests.{together}
 use Rattle.cell_grid.specs.Grid.{GridValue}
 use Rattle.cell_grid.specs.declared.record.Record.{Record}
@@ -27,11 +28,10 @@ use Rattle.feast_run.specs.declared.halt.Halt.{Halt}
 use Rattle.feast_run.specs.declared.worlds.Ready.{Ready}
 use Rattle.feast_run.specs.declared.halt.Halt.TheVariants.{Refused, Missing, NoMemory}
 use Rattle.grid_print.specs.Report.{AreNamed}
-use Rattle.world_runs.proofs.Alone.{each, no_attempt, owes_nothing}
+use Rattle.world_runs.proofs.Alone.{each, owes_nothing}
 use Rattle.world_runs.specs.OneTile.{IsAlone, events_of}
 use Rattle.element_set.specs.Sets.{Coded, SetValue}
 use Rattle.tile_map.specs.Plane.{MapValue, IsMap, in_plane, is_live, is_on, owner_of, site_in, tiles_of}
-use Rattle.tile_map.proofs.Spans.{lt_test}
 use Rattle.window_sites.specs.Window.{WindowValue}
 use Rattle.world_runs.proofs.Journals.{journal_live}
 use Rattle.world_runs.proofs.Valid.{world_known, world_valid}
@@ -122,7 +122,7 @@ site_live m valid one on k lt =
     let parts : owner_of m (site_in m 0 k) ≡ 0 * m.tx + 0 = (λ i. row i * m.tx + column i) in
     let owner : owner_of m (site_in m 0 k) ≡ 0 = parts ∙ omega arith in
     together (in_plane m (site_in m 0 k)) (is_on m (owner_of m (site_in m 0 k)))
-    (together (nat_lt (site_in m 0 k).x (m.tx * m.w)) (nat_lt (site_in m 0 k).y (m.ty * m.h)) (lt_test _ _ x) (lt_test _ _ y)) (ap (is_on m) owner ∙ on)
+    (together (nat_lt (site_in m 0 k).x (m.tx * m.w)) (nat_lt (site_in m 0 k).y (m.ty * m.h)) (lt-ltb _ _ x) (lt-ltb _ _ y)) (ap (is_on m) owner ∙ on)
 
 pub events_live : (w : WorldValue) → IsWorld w → tiles_of w.plane ≡ 1 → (rs : List Record) → rs ≡ events_of w.plane w.plan → All (IsLiveEvent w.plane) rs
 events_live w h one rs is = subst (All (IsLiveEvent w.plane)) (sym is) (each w.plane 0 (attempts w.plan 0) (IsLiveEvent w.plane) (λ k lt.

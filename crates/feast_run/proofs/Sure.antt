@@ -1,5 +1,6 @@
 -- The stages of the forms have one outcome apart from loads that fail, where files are told.
 use Rattle.std.proofs.Common.{ℕ, ◌≡◌, List, [], ◌∷◌, ◌++◌, length, Option, Some, None, slice_index_or, refl, sym, ap, ◌∙◌, inr, arith, Ok, Err}
+use Rattle.list_laws.proofs.Options.{some_once}
 use Rattle.element_set.proofs.OneSet.{set_one as built_one}
 use Rattle.element_set.specs.Sets.{SetValue, check_text, code_text}
 use Rattle.event_journal.specs.Reading.{read_report}
@@ -28,18 +29,10 @@ use Rattle.world_text.specs.Drafts.{DraftValue}
 use Rattle.world_text.specs.Named.{WorldValue, named}
 use Rattle.world_text.specs.Reading.{read_text}
 
-some_of : {X : Type 0} (d : X) → Option X → X
-some_of d None = d
-some_of d (Some x) = x
-
-some_one : {X : Type 0} (o : Option X) (x y : X) → o ≡ Some x → o ≡ Some y → x ≡ y
-unfolding some_of
-some_one o x y p q = ap (some_of x) (sym p ∙ q)
-
 load_one : (files : List File) (limit : ℕ) (word : List ℕ) → IsOne IsRefusal (load (Some files) limit word)
 load_one files limit word = record {
-  sure = sure_by (load (Some files) limit word) (λ a r p q. let e = ap length (some_one _ a q.0.0 p.0 q.0.1) in absurd (omega (arith, e, p.1, q.0.2))) (λ r s p q. p.1 ∙ sym q.1);
-  one_value = λ a b p q. some_one _ a b p.0 q.0;
+  sure = sure_by (load (Some files) limit word) (λ a r p q. let e = ap length (some_once _ a q.0.0 p.0 q.0.1) in absurd (omega (arith, e, p.1, q.0.2))) (λ r s p q. p.1 ∙ sym q.1);
+  one_value = λ a b p q. some_once _ a b p.0 q.0;
 }
 
 loads_one : (files : List File) (done : List File) (words : List (List ℕ)) → IsOne IsRefusal (load_more (Some files) done words)

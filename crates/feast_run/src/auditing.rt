@@ -17,7 +17,7 @@ use event_journal::ReadJournal;
 use feast_base::{NoMemory, Shelf};
 use report_judge::{judge, judgement_line};
 use std::alloc::Global;
-use world_runs::{map_of, start};
+use world_runs::start;
 
 /// The line of the judgement on a report of a world, whose bytes and journal these are.
 fn audit_line(
@@ -29,12 +29,12 @@ fn audit_line(
     requires { IsReady ready.now }
     ensures { IfOk result (λ v. Audits (ready_value ready.now) bytes.now (journal_value journal.now) v.items) }
 {
-    let map = map_of(alloc, &ready.world)?;
-    let grid = start(alloc, &ready.world)?;
+    let grid = start(alloc, &ready.map, &ready.world)?;
     let mut actor = ready.elements.actor(alloc)?;
     let names = ready.elements.names();
+    let map = &ready.map;
     let plan = &ready.world.plan;
-    let judgement = judge(alloc, &map, plan, names, &grid, bytes, journal, &mut actor)?;
+    let judgement = judge(alloc, map, plan, names, &grid, bytes, journal, &mut actor)?;
     judgement_line(alloc, judgement)
 }
 
@@ -50,7 +50,7 @@ fn audit_loaded<'a>(
     ensures tells { Tells output_text (audit_with word.now (ready_value ready.now) bytes.now) result }
     ensures writable { IfOk result IsWritable }
 {
-    let journal = read_loaded(alloc, word, bytes, &ready.world)?;
+    let journal = read_loaded(alloc, word, bytes, &ready.map, &ready.world)?;
     let text = audit_line(alloc, ready, bytes, &journal)?;
     Ok(Output::Text(text))
 }

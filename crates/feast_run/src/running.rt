@@ -23,7 +23,7 @@ use feast_base::{Gate, NoMemory, Shelf};
 use serial_order::Outcome;
 use std::alloc::Global;
 use std::thread::Threads;
-use world_runs::{journal, map_of, threaded};
+use world_runs::{journal, threaded};
 
 /// The journal of a world of one tile.
 fn journal_of<G: Gate>(alloc: Global, ready: &Ready, gate: &G) -> Result<Journal, NoMemory>
@@ -33,8 +33,7 @@ fn journal_of<G: Gate>(alloc: Global, ready: &Ready, gate: &G) -> Result<Journal
     ensures records { IfOk result (λ j. records_in j ≡ events_of (world_value ready.now.world).plane ready.now.world.plan) }
     ensures abandoned { IfOk result (λ j. abandoned_in j ≡ []) }
 {
-    let map = map_of(alloc, &ready.world)?;
-    journal(alloc, &map, &ready.world.plan, gate)
+    journal(alloc, &ready.map, &ready.world.plan, gate)
 }
 
 /// What a run of one tile leaves: no other tile shares a site with it, so its events are made on the
@@ -66,7 +65,7 @@ fn outcome<R: Threads + Sync, G: Gate>(
     ensures { IfOk result (IsThreadedOf (ready_value ready.now)) }
 {
     let actors = actors(alloc, &ready.elements, tiles_in(&ready.world))?;
-    threaded(rt, alloc, &ready.world, actors, gate)
+    threaded(rt, alloc, &ready.map, &ready.world, actors, gate)
 }
 
 /// What a run of several tiles leaves.

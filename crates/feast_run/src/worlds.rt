@@ -1,4 +1,4 @@
-//! The stages of a world: its text, its elements, and the names of its atoms.
+//! The stages of a world: its text, its elements, the names of its atoms, and its map.
 ghost use Rattle.std.specs.Prelude.{◌≡◌, ◌≤◌, IfOk, length, map, string_bytes};
 ghost use Rattle.code_file.specs.Form.{IsSayable};
 ghost use Rattle.feast_base.specs.Outside.{shelf_state};
@@ -25,12 +25,15 @@ use code_file::CodeSet;
 use element_set::ElementSet;
 use feast_base::{Name, Shelf};
 use std::alloc::Global;
+use tile_map::Map;
+use world_runs::map_of;
 use world_text::{RawWorld, World, WorldFault, name, read};
 
-/// A world, and the elements of its atoms.
+/// A world, its map, and the elements of its atoms.
 #[derive(Drop)]
 pub struct Ready {
     pub world: World,
+    pub map: Map,
     pub elements: Elements,
 }
 
@@ -107,8 +110,13 @@ fn with_set<'a>(
     ensures ready { IfOk result IsReady }
 {
     let world = named(alloc, word, draft, set.names())?;
+    let map = map_of(alloc, &world)?;
     let elements = Elements::Sources(set);
-    Ok(Ready { world, elements })
+    Ok(Ready {
+        world,
+        map,
+        elements,
+    })
 }
 
 /// A world with the elements of a code file.
@@ -123,8 +131,13 @@ fn with_codes<'a>(
     ensures ready { IfOk result IsReady }
 {
     let world = named(alloc, word, draft, set.names())?;
+    let map = map_of(alloc, &world)?;
     let elements = Elements::Codes(set);
-    Ok(Ready { world, elements })
+    Ok(Ready {
+        world,
+        map,
+        elements,
+    })
 }
 
 /// Loads the element files of a world.

@@ -1,10 +1,11 @@
 //! The entries of one tile, taken beside its attempts.
 ghost use Rattle.std.specs.Prelude.{◌≡◌, ◌<◌, ◌*◌, ◌^◌, All, Bool, List, length};
+ghost use Rattle.event_journal.specs.Logs.{of_tile, abandoned_by};
 ghost use Rattle.cell_grid.specs.declared.record.Record.{Record};
 ghost use Rattle.draw_stream.specs.declared.attempt.Attempt.{Attempt};
 ghost use Rattle.tile_map.specs.Plane.{tiles_of};
 ghost use Rattle.event_journal.specs.declared.abandoned.Abandoned.{Abandoned};
-ghost use Rattle.journal_check.specs.Entries.{are_none, abandoned_by, is_at, is_event, next_entry, next_abandoned, of_tile, are_entries};
+ghost use Rattle.journal_check.specs.Entries.{are_none, is_at, is_event, next_entry, next_abandoned, are_entries};
 ghost use Rattle.journal_check.specs.Passing.{IsFirstAbandoned, IsFirstOf, passes};
 
 use cell_grid::Record;

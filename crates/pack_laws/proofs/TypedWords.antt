@@ -2,7 +2,8 @@
 use Rattle.std.proofs.Common.{ℕ, zero, suc, ◌≡◌, ◌+◌, ◌<◌, ◌≤◌, Bool, true, false, ◌&&◌, ◌||◌, List, [], ◌∷◌, ◌++◌, length, Some, refl, sym, ap, subst, ◌∙◌, arith, length-append, map, codes, bytes_eq, if◌then◌else◌}
 use Rattle.std.specs.Prelude.{slice_get, slice_index_or}
 use Rattle.std.specs.List.{list_any}
-use Rattle.std.specs.Option.{option_map_or}
+use Rattle.code_gen.proofs.LaidOut.{members_at}
+use Rattle.list_laws.proofs.Tests.{or_second}
 use Rattle.ulam_tree.specs.Raw as raw
 use Rattle.ulam_tree.specs.Resolved as r
 use Rattle.ulam_tree.specs.Typed as t
@@ -102,10 +103,6 @@ abbrev pub ClassesFormed : List t.Class → Type 0
 ClassesFormed [] = Unit {0}
 ClassesFormed (c ∷ cs) = IsFormedClass c × ClassesFormed cs
 
-or_second : (a b : Bool) → (a || b) ≡ true → a ≡ false → b ≡ true
-or_second false b h e = h
-or_second true b h e = cc
-
 module _ (known : Known) (heads : List Head) (sigs : List ClassSig) where
   members_kept : (k : ℕ) (d : Names) (hs : List Half) (xs : List r.Member) (us : List t.Member) → AreWhole known heads k d hs xs → AreTypedMembers sigs k xs us → Kept hs (functions us)
   members_kept k d [] xs us h i =
@@ -158,17 +155,12 @@ behave_found (g ∷ fs) all e = on (is_named_behave g) e (λ h. behave_found fs 
     on true h rest = all.0
     on false h rest = rest h
 
-members_at : List t.Class → ℕ → List t.Member
-members_at us c = option_map_or (λ (k : t.Class). k.members) (slice_get us c) []
-
 class_formed : (us : List t.Class) (c : ℕ) → ClassesFormed us → FunctionsFormed (functions (members_at us c))
-unfolding members_at
 class_formed [] c all = tt
 class_formed (u ∷ us) zero all = all.0.formed
 class_formed (u ∷ us) (suc c) all = class_formed us c all.1
 
 element_formed : (us : List t.Class) (c : ℕ) (u : t.Class) → ClassesFormed us → slice_get us c ≡ Some u → u.quark ≡ false → list_any is_named_behave (functions (members_at us c)) ≡ true
-unfolding members_at
 element_formed [] c u all at q = cc
 element_formed (x ∷ us) zero u all at q = let same : x ≡ u = cc in all.0.behave (ap (λ (y : t.Class). y.quark) same ∙ q)
 element_formed (x ∷ us) (suc c) u all at q = element_formed us c u all.1 at q
@@ -178,9 +170,9 @@ abbrev pub IsFormedKey : Program → Key → Type 0
 IsFormedKey g f = IsFormedFunction (function_of g f)
 
 pub key_formed : (g : Program) (f : Key) (fn : Function) → ClassesFormed g.classes → slice_get (functions (members_of g f.class)) f.function ≡ Some fn → IsFormedKey g f
-unfolding function_at members_at
+unfolding function_at
 key_formed g f fn all at = function_found (functions (members_of g f.class)) f.function fn (class_formed g.classes f.class all) at
 
 pub behave_formed : (g : Program) (c : ℕ) (u : t.Class) → ClassesFormed g.classes → slice_get g.classes c ≡ Some u → u.quark ≡ false → IsFormedKey g (behave_key g c)
-unfolding function_at behave_of members_at
+unfolding function_at behave_of
 behave_formed g c u all at q = behave_found (functions (members_of g c)) (class_formed g.classes c all) (element_formed g.classes c u all at q)

@@ -1,5 +1,6 @@
 -- The walk over a statement finds exactly its typed tree.
-use Rattle.std.proofs.Common.{◌≡◌, Bool, true, false, not, List, [], ◌∷◌, Option, Some, None, Ok, Err, refl, ap, sym, ◌∙◌}
+use Rattle.std.proofs.Common.{◌≡◌, true, not, List, [], ◌∷◌, Option, Some, None, Ok, Err, refl, ap, sym, ◌∙◌}
+use Rattle.std.proofs.lemmas.Bool.{not-true}
 use Rattle.feast_base.specs.declared.place.Place.{Place}
 use Rattle.sat_math.specs.declared.Kind.TheVariants as k
 use Rattle.ulam_tree.specs.declared.resolved.Ty.{Ty}
@@ -86,13 +87,6 @@ call_fits g x es xs ty h = called_fits g x (count es) (λ ws bs. AreTyped g ws e
 call_means : (g : Scope) (x : r.Path) (es : r.Args) → Means (λ (c : t.Args × Ty). IsCall g x es c.0 c.1) (call g x es)
 call_means g x es = called_means g x (count es) (λ ws bs. AreTyped g ws es bs) (λ ws. args g ws es) (λ ws. args_mean g ws es)
 
-not_false : (v : Bool) → v ≡ false → not v ≡ true
-not_false v h = rw h refl
-
-false_not : (v : Bool) → not v ≡ true → v ≡ false
-false_not true h = sym h
-false_not false h = refl
-
 result_fits : (g : Scope) (p : Place) (e : Option r.Expr) (a : Option t.Expr) → IsResult g e a → b.result g p e ≡ Ok a
 result_fits g p None a h = rw h.0 (ap Ok (sym h.1))
 result_fits g p (Some e) a h = rw (expr_fits g (taken g.result) e h.0 h.2.0, h.1, h.2.1) (ap Ok (sym h.3))
@@ -103,7 +97,7 @@ result_means g p (Some e) =
     let Q = IsResult g (Some e) in
     means_then _ Q (expr g (taken g.result) e) _ (expr_means g (taken g.result) e) (λ a ha.
     means_must Q (not (is_void g.result)) _ _ (λ hv.
-    means_must Q (assignable g g.result (t.ty_of a)) _ _ (λ hx. (a, false_not _ hv, (ha, hx), refl))))
+    means_must Q (assignable g g.result (t.ty_of a)) _ _ (λ hx. (a, not-true _ hv, (ha, hx), refl))))
 
 mutual
   unfolding IsTypedStatement b.statement

@@ -1,5 +1,6 @@
 use Rattle.std.proofs.Common.{◌≡◌, true, sym, ap, ◌∙◌, arith, refl, below_more}
-use Rattle.journal_check.specs.Entries.{abandoned_by, of_tile, are_entries}
+use Rattle.event_journal.specs.Logs.{of_tile, abandoned_by}
+use Rattle.journal_check.specs.Entries.{are_entries}
 use Rattle.journal_check.proofs.Accounting.{accounted, tested}
 use Rattle.journal_check.proofs.accounted.is_accounted.Goals as goal
 

@@ -1,6 +1,7 @@
 use Rattle.std.proofs.Common.{ℕ, ◌≡◌, ◌<◌, true}
+use Rattle.event_journal.specs.Logs.{of_tile, abandoned_by}
 use Rattle.draw_stream.specs.Plans.{attempts}
-use Rattle.journal_check.specs.Entries.{abandoned_by, of_tile, are_entries}
+use Rattle.journal_check.specs.Entries.{are_entries}
 use Rattle.journal_check.proofs.accounted.is_accounted.Given as goal
 
 abbrev pub invariant-loop-tile : goal.invariant-loop-tile

@@ -1,7 +1,8 @@
 use Rattle.std.proofs.Common.{◌≡◌, ◌+◌, ◌*◌, ◌<◌, ◌∷◌, length, sym, ap, subst, arith, ◌∙◌, All}
 use Rattle.std.proofs.lemmas.List.Elements.{All-head, All-tail}
+use Rattle.event_journal.specs.Logs.{of_tile, abandoned_by}
 use Rattle.draw_stream.specs.declared.attempt.Attempt.{Attempt}
-use Rattle.journal_check.specs.Entries.{abandoned_by, of_tile, are_entries}
+use Rattle.journal_check.specs.Entries.{are_entries}
 use Rattle.journal_check.specs.Passing.{passes}
 use Rattle.journal_check.proofs.Passing.{over, taken, entries_none, entries_taken}
 use Rattle.journal_check.proofs.entries.are_entries.Goals as goal

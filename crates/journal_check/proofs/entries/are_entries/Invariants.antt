@@ -1,6 +1,7 @@
 use Rattle.std.proofs.Common.{◌≡◌, ◌+◌, ◌*◌, ◌<◌, ◌^◌, All, length}
+use Rattle.event_journal.specs.Logs.{of_tile, abandoned_by}
 use Rattle.draw_stream.specs.declared.attempt.Attempt.{Attempt}
-use Rattle.journal_check.specs.Entries.{abandoned_by, of_tile, are_entries}
+use Rattle.journal_check.specs.Entries.{are_entries}
 use Rattle.journal_check.proofs.entries.are_entries.Given as goal
 
 abbrev pub invariant-loop-attempt : goal.invariant-loop-attempt

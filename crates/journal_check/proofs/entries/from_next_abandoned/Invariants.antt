@@ -1,5 +1,5 @@
 use Rattle.std.proofs.Common.{◌≡◌, length}
-use Rattle.journal_check.specs.Entries.{abandoned_by}
+use Rattle.event_journal.specs.Logs.{abandoned_by}
 use Rattle.journal_check.proofs.entries.from_next_abandoned.Given as goal
 
 abbrev pub invariant-loop-first : goal.invariant-loop-first
