@@ -70,6 +70,7 @@ fn ended<R: Threads + Sync>(
     Ok((status, Vec::from_slice(alloc, sink.written())?))
 }
 
+/// A form that loads a file twice, in another order, or goes on after a load that failed, fails here.
 #[test]
 fn each_load_fails_in_turn(rt: HostRuntime) -> Result<(), Fail> {
     let alloc = rt.alloc();
@@ -122,6 +123,7 @@ fn puts_fail<R: Threads + Sync + Abort>(
     Ok(())
 }
 
+/// A form that puts more after a put that failed, or says that all is done, fails here.
 #[test]
 fn each_put_fails_in_turn(rt: HostRuntime) -> Result<(), Fail> {
     for (call, _) in CALLS {
