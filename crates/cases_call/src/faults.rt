@@ -4,6 +4,7 @@ use crate::calls::{answer, shelf};
 use feast_base::{MemSink, Stop};
 use feast_run::Status;
 use std::alloc::Global;
+use std::process::Abort;
 use std::test::Fail;
 use std::thread::Threads;
 
@@ -28,8 +29,8 @@ const FILES: [(&str, &str); 5] = [
     ),
 ];
 
-/// A call of each form that ends well, with the files that it loads, in order.
-const CALLS: [(&str, &[&str]); 11] = [
+/// A call of each form but `gen` that ends well, with the files that it loads, in order.
+const CALLS: [(&str, &[&str]); 10] = [
     ("check e", &["e"]),
     ("code e", &["e"]),
     ("pack e", &["e"]),
@@ -40,7 +41,6 @@ const CALLS: [(&str, &[&str]); 11] = [
     ("replay walk j e", &["walk", "e", "j"]),
     ("audit walk j e", &["walk", "e", "j"]),
     ("rewind walk j 0 e", &["walk", "e", "j"]),
-    ("gen 5", &[]),
 ];
 
 /// Puts that fail, each with how many first bytes of its piece are still appended.
@@ -70,6 +70,7 @@ fn ended<R: Threads + Sync>(
     Ok((status, Vec::from_slice(alloc, sink.written())?))
 }
 
+/// A form that loads a file twice, in another order, or goes on after a load that failed, fails here.
 #[test]
 fn each_load_fails_in_turn(rt: HostRuntime) -> Result<(), Fail> {
     let alloc = rt.alloc();
@@ -95,27 +96,46 @@ fn each_load_fails_in_turn(rt: HostRuntime) -> Result<(), Fail> {
     Ok(())
 }
 
-#[test]
-fn each_put_fails_in_turn(rt: HostRuntime) -> Result<(), Fail> {
-    let alloc = rt.alloc();
-    for (call, _) in CALLS {
-        let (_, whole) = ended(&rt, alloc, call, 0, (0, 0))?;
-        for (put, keep) in STOPS {
-            let (status, written) = ended(&rt, alloc, call, 0, (put, keep))?;
-            let before = if put == 1 { 0usize } else { 4096 };
-            if before < whole.len() {
-                let len = whole.len().min(before + (keep as usize).min(4096));
-                assert_eq!(rt; status, Status::SinkFault, "{call}: {put} {keep}");
-                assert_eq!(rt;
-                    written.as_slice(),
-                    &whole.as_slice()[..len],
-                    "{call}: {put} {keep}"
-                );
-            } else {
-                assert_eq!(rt; status, Status::Done, "{call}");
-                assert_eq!(rt; written.as_slice(), whole.as_slice(), "{call}");
-            }
+/// Each of these puts of a call fails in turn, if it comes to it.
+fn puts_fail<R: Threads + Sync + Abort>(
+    rt: &R,
+    alloc: Global,
+    call: &str,
+    stops: &[(u64, u32)],
+) -> Result<(), Fail> {
+    let (_, whole) = ended(rt, alloc, call, 0, (0, 0))?;
+    for (put, keep) in stops {
+        let (status, written) = ended(rt, alloc, call, 0, (*put, *keep))?;
+        let before = if *put == 1 { 0usize } else { 4096 };
+        if before < whole.len() {
+            let len = whole.len().min(before + (*keep as usize).min(4096));
+            assert_eq!(rt; status, Status::SinkFault, "{call}: {put} {keep}");
+            assert_eq!(rt;
+                written.as_slice(),
+                &whole.as_slice()[..len],
+                "{call}: {put} {keep}"
+            );
+        } else {
+            assert_eq!(rt; status, Status::Done, "{call}");
+            assert_eq!(rt; written.as_slice(), whole.as_slice(), "{call}");
         }
     }
     Ok(())
+}
+
+/// A form that puts more after a put that failed, or says that all is done, fails here.
+#[test]
+fn each_put_fails_in_turn(rt: HostRuntime) -> Result<(), Fail> {
+    for (call, _) in CALLS {
+        puts_fail(&rt, rt.alloc(), call, &STOPS)?;
+    }
+    Ok(())
+}
+
+#[test]
+fn a_generated_run_loads_nothing_and_its_put_fails(rt: HostRuntime) -> Result<(), Fail> {
+    let alloc = rt.alloc();
+    let (status, _) = ended(&rt, alloc, "gen 5", 1, (0, 0))?;
+    assert_eq!(rt; status, Status::Done);
+    puts_fail(&rt, alloc, "gen 5", &[(1, 0), (1, 10)])
 }

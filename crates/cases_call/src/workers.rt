@@ -265,6 +265,8 @@ fn two_workers_are_at_the_gate_at_once(rt: HostRuntime) -> Result<(), Fail> {
     Ok(())
 }
 
+/// Tile 1's attempt waits for attempt 1 of tile 0, so nobody has the edge when it comes. A worker that
+/// gives up at an edge that nobody holds fails here, and one that calls its gate with attempt 0 alone.
 #[test]
 fn the_higher_tile_comes_second(rt: HostRuntime) -> Result<(), Fail> {
     let keeps = [Keep {
@@ -278,6 +280,8 @@ fn the_higher_tile_comes_second(rt: HostRuntime) -> Result<(), Fail> {
     Ok(())
 }
 
+/// The same the other way round. A run in an order of its own, whatever its gates let through, fails
+/// one of these two.
 #[test]
 fn the_lower_tile_comes_second(rt: HostRuntime) -> Result<(), Fail> {
     let keeps = [Keep {

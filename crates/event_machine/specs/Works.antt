@@ -2,23 +2,15 @@
 use Rattle.std.specs.Prelude.{◌≡◌, ℕ, ◌+◌, ◌*◌, ◌≤◌, ◌<◌, true, ℤ, List, [], ◌∷◌, length, Option, Some, None, slice_get}
 use Rattle.bit_field.specs.Atom.{AtomValue}
 use Rattle.window_sites.specs.Window.{WindowValue, emptied}
-use Rattle.sat_math.specs.declared.Kind.TheVariants.{Bits}
 use Rattle.sat_math.specs.declared.NumType.{NumType}
-use Rattle.sat_math.specs.Numbers.{cast, IsNumType}
-use Rattle.sat_math.specs.Operations.{IsSigned, shifted_up, shifted_down, comparison}
+use Rattle.sat_math.specs.Numbers.{IsNumType}
 use Rattle.feast_base.specs.Counting.{Counted}
 use Rattle.event_machine.specs.Ticks.{Ticks}
-use Rattle.std.specs.Prelude.{int_div, int_rem, bit_and, bit_or, bit_xor}
 use Rattle.datum.specs.declared.Datum.{Datum}
-use Rattle.stack_code.specs.Sorts.{exact, divided, sum, difference, product, negated, on_bits, flip, not_bool, num_type}
 use Rattle.stack_code.specs.Machine.{Held, Led, Goes, Fails, Ends, Lacks, State, CodeValue, FunctionValue, iter, count, start}
-use Rattle.stack_code.specs.Valid.{type_fits, args_fit, valid}
+use Rattle.stack_code.specs.Valid.{args_fit, valid}
 use Rattle.event_machine.specs.declared.ending.Leads.{Leads}
 use Rattle.event_machine.specs.declared.ending.Leads.TheVariants.{On, Fail, Done, Lack}
-use Rattle.event_machine.specs.declared.numbers.PairOp.{PairOp}
-use Rattle.event_machine.specs.declared.numbers.PairOp.TheVariants.{Add, Sub, Mul, Div, Rem, And, Or, Xor, Shl, Shr, Test}
-use Rattle.event_machine.specs.declared.numbers.SingleOp.{SingleOp}
-use Rattle.event_machine.specs.declared.numbers.SingleOp.TheVariants.{Neg, Flip, Fit, Not}
 use Rattle.stack_code.specs.declared.instr.Instr.{Instr}
 use Rattle.event_machine.specs.declared.ending.Ended.{Ended}
 use Rattle.event_machine.specs.declared.ending.Ended.TheVariants.{Done as DoneEnd, Failed}
@@ -83,36 +75,6 @@ with_atom (Some a) s go = go a s
 abbrev pub with_place : ℕ → Option ℕ → (ℕ → Led Held) → Led Held
 with_place m None go = Fails m
 with_place m (Some n) go = go n
-
--- the operators
-abbrev pub pair_of : PairOp → ℤ → ℤ → Option ℤ
-pair_of (Add how) = exact how sum
-pair_of (Sub how) = exact how difference
-pair_of (Mul how) = exact how product
-pair_of (Div how) = divided how int_div
-pair_of (Rem how) = divided how int_rem
-pair_of And = on_bits bit_and
-pair_of Or = on_bits bit_or
-pair_of Xor = on_bits bit_xor
-pair_of (Shl w) = shifted_up w
-pair_of Shr = shifted_down
-pair_of (Test op) = comparison op
-
-abbrev pub PairFits : PairOp → Type 0
-PairFits (Shl w) = type_fits (num_type Bits w) ≡ true
-PairFits op = Unit {0}
-
-abbrev pub single_of : SingleOp → ℤ → ℤ
-single_of (Neg how) = negated how
-single_of (Flip w) = flip w
-single_of (Fit t) = cast t
-single_of Not = not_bool
-
-abbrev pub SingleFits : SingleOp → Type 0
-SingleFits (Neg how) = IsSigned how
-SingleFits (Flip w) = type_fits (num_type Bits w) ≡ true
-SingleFits (Fit t) = type_fits t ≡ true
-SingleFits op = Unit {0}
 
 -- a field of a type, or so many one after another, that lies in an atom
 pub record FieldFits (f : ℕ) (t : NumType) (n : ℕ) : Type 0 where

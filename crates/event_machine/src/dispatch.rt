@@ -1,99 +1,56 @@
-//! The table of plain instructions.
+//! The plain instructions, by their shapes.
 
-ghost use Rattle.std.specs.Prelude.{◌≡◌, ◌≤◌, length, true};
+ghost use Rattle.std.specs.Prelude.{◌≤◌, length};
 ghost use Rattle.stack_code.specs.Machine.{work};
-ghost use Rattle.stack_code.specs.Sorts.{sort};
-ghost use Rattle.stack_code.specs.Valid.{args_fit};
+ghost use Rattle.stack_code.specs.Shapes.{sort_of, ShapeFits};
 ghost use Rattle.event_machine.specs.Works.{Works};
 
 use crate::activation::Activation;
 use crate::ending::Leads;
-use crate::numbers::{PairOp, SingleOp};
 use crate::{fields, plain};
 use bit_field::Atom;
 use datum::{Datum, Number};
-use sat_math::{Arith, CompareOp};
-use stack_code::Instr;
+use stack_code::Shape;
 
-/// Does a plain instruction, in an event whose acting type is `kind`.
+/// Does a plain instruction of this shape, in an event whose acting type is `kind`.
 #[inline(always)]
 #[tactic(auto, using(crate::proofs::Fits::field_is, crate::proofs::Fits::number_is))]
-pub fn plain(running: &mut Activation, kind: u16, i: &Instr) -> Leads
-    requires fits { args_fit i.now ≡ true }
+pub fn plain(running: &mut Activation, kind: u16, shape: Shape) -> Leads
+    requires fits { ShapeFits shape }
     requires room { length running.old.stack ≤ 512 }
-    ensures { Works (work kind (sort i.now) running.old) running.new result }
+    ensures { Works (work kind (sort_of shape) running.old) running.new result }
 {
-    match *i {
-        Instr::PushNum(v) => plain::give(running, Datum::Number(Number::new(v))),
-        Instr::PushAtom(k) => plain::give(running, Datum::Atom(Atom::new(k, 0))),
-        Instr::LoadLocal(s) => plain::load(running, s),
-        Instr::StoreLocal(s) => plain::store(running, s),
-        Instr::Pop => plain::drop_top(running),
-        Instr::LoadField(f, w, number) => fields::load_field(running, kind, f, w, number),
-        Instr::StoreField(f, w, number) => fields::store_field(running, kind, f, w, number),
-        Instr::LoadPart(s, f, w, number) => fields::load_part(running, s, f, w, number),
-        Instr::StorePart(s, f, w, number) => fields::store_part(running, s, f, w, number),
-        Instr::LoadSelf => plain::own(running, kind),
-        Instr::LoadSite => plain::load_site(running),
-        Instr::StoreSite => plain::store_site(running),
-        Instr::Swap => plain::exchange(running),
-        Instr::IsLive => plain::is_live(running),
-        Instr::IsEmpty => plain::is_empty(running),
-        Instr::RandCreate => plain::create(running),
-        Instr::RandOneIn => plain::one_in(running),
-        Instr::IsKind(k) => plain::same(running, k),
-        Instr::AddI => plain::pair(running, PairOp::Add(Arith::Int32)),
-        Instr::SubI => plain::pair(running, PairOp::Sub(Arith::Int32)),
-        Instr::MulI => plain::pair(running, PairOp::Mul(Arith::Int32)),
-        Instr::DivI => plain::pair(running, PairOp::Div(Arith::Int32)),
-        Instr::RemI => plain::pair(running, PairOp::Rem(Arith::Int32)),
-        Instr::AddU => plain::pair(running, PairOp::Add(Arith::Unsigned32)),
-        Instr::SubU => plain::pair(running, PairOp::Sub(Arith::Unsigned32)),
-        Instr::MulU => plain::pair(running, PairOp::Mul(Arith::Unsigned32)),
-        Instr::DivU => plain::pair(running, PairOp::Div(Arith::Unsigned32)),
-        Instr::RemU => plain::pair(running, PairOp::Rem(Arith::Unsigned32)),
-        Instr::NegI => plain::single(running, SingleOp::Neg(Arith::Int32)),
-        Instr::And => plain::pair(running, PairOp::And),
-        Instr::Or => plain::pair(running, PairOp::Or),
-        Instr::Xor => plain::pair(running, PairOp::Xor),
-        Instr::NotW(w) => plain::single(running, SingleOp::Flip(w)),
-        Instr::Shl(w) => plain::pair(running, PairOp::Shl(w)),
-        Instr::Shr => plain::pair(running, PairOp::Shr),
-        Instr::Fit(number, w) => plain::fit(running, number, w),
-        Instr::NotB => plain::single(running, SingleOp::Not),
-        Instr::Eq => plain::pair(running, PairOp::Test(CompareOp::Eq)),
-        Instr::Ne => plain::pair(running, PairOp::Test(CompareOp::Ne)),
-        Instr::Lt => plain::pair(running, PairOp::Test(CompareOp::Lt)),
-        Instr::Le => plain::pair(running, PairOp::Test(CompareOp::Le)),
-        Instr::Gt => plain::pair(running, PairOp::Test(CompareOp::Gt)),
-        Instr::Ge => plain::pair(running, PairOp::Test(CompareOp::Ge)),
-        Instr::AddL => plain::pair(running, PairOp::Add(Arith::Int64)),
-        Instr::SubL => plain::pair(running, PairOp::Sub(Arith::Int64)),
-        Instr::MulL => plain::pair(running, PairOp::Mul(Arith::Int64)),
-        Instr::DivL => plain::pair(running, PairOp::Div(Arith::Int64)),
-        Instr::RemL => plain::pair(running, PairOp::Rem(Arith::Int64)),
-        Instr::AddV => plain::pair(running, PairOp::Add(Arith::Unsigned64)),
-        Instr::SubV => plain::pair(running, PairOp::Sub(Arith::Unsigned64)),
-        Instr::MulV => plain::pair(running, PairOp::Mul(Arith::Unsigned64)),
-        Instr::DivV => plain::pair(running, PairOp::Div(Arith::Unsigned64)),
-        Instr::RemV => plain::pair(running, PairOp::Rem(Arith::Unsigned64)),
-        Instr::NegL => plain::single(running, SingleOp::Neg(Arith::Int64)),
-        Instr::Dup => plain::double(running),
-        Instr::LoadFieldAt(f, w, number, n) => fields::load_field_at(
-            running, kind, f, w, number, n,
-        ),
-        Instr::StoreFieldAt(f, w, number, n) => fields::store_field_at(
-            running, kind, f, w, number, n,
-        ),
-        Instr::LoadPartAt(s, f, w, number, n) => fields::load_part_at(running, s, f, w, number, n),
-        Instr::StorePartAt(s, f, w, number, n) => fields::store_part_at(
-            running, s, f, w, number, n,
-        ),
-        Instr::Jump(_)
-        | Instr::JumpFalse(_)
-        | Instr::Turn
-        | Instr::Call(_)
-        | Instr::Return
-        | Instr::ReturnVoid => Leads::Lack,
+    match shape {
+        Shape::GiveNumber(v) => plain::give(running, Datum::Number(Number::new(v))),
+        Shape::GiveAtom(k) => plain::give(running, Datum::Atom(Atom::new(k, 0))),
+        Shape::One(op) => plain::one(running, op),
+        Shape::Two(op) => plain::two(running, op),
+        Shape::Load(s) => plain::load(running, s),
+        Shape::Store(s) => plain::store(running, s),
+        Shape::Drop => plain::drop_top(running),
+        Shape::Field(f, of) => fields::load_field(running, kind, f, of),
+        Shape::SetField(f, of) => fields::store_field(running, kind, f, of),
+        Shape::Part(s, f, of) => fields::load_part(running, s, f, of),
+        Shape::SetPart(s, f, of) => fields::store_part(running, s, f, of),
+        Shape::Own => plain::own(running, kind),
+        Shape::Site => plain::load_site(running),
+        Shape::SetSite => plain::store_site(running),
+        Shape::Exchange => plain::exchange(running),
+        Shape::AskLive => plain::is_live(running),
+        Shape::AskEmpty => plain::is_empty(running),
+        Shape::Draw => plain::create(running),
+        Shape::DrawOneIn => plain::one_in(running),
+        Shape::Same(k) => plain::same(running, k),
+        Shape::Double => plain::double(running),
+        Shape::FieldAt(f, of, n) => fields::load_field_at(running, kind, f, of, n),
+        Shape::SetFieldAt(f, of, n) => fields::store_field_at(running, kind, f, of, n),
+        Shape::PartAt(s, f, of, n) => fields::load_part_at(running, s, f, of, n),
+        Shape::SetPartAt(s, f, of, n) => fields::store_part_at(running, s, f, of, n),
+        Shape::Goto(_)
+        | Shape::GotoFalse(_)
+        | Shape::Take
+        | Shape::Enter(_)
+        | Shape::GiveBack
+        | Shape::Leave => Leads::Lack,
     }
 }

@@ -1,7 +1,7 @@
-//! The plain instructions on fields of atoms and on their elements: a function for each sort.
+//! The plain instructions on fields of atoms and on their elements: a function for each shape.
 
 ghost use Rattle.std.specs.Prelude.{◌≡◌, ◌<◌, ◌≤◌, ◌+◌, ◌*◌, ℕ, length};
-ghost use Rattle.stack_code.specs.Sorts.{Field, SetField, Part, SetPart, FieldAt, SetFieldAt, PartAt, SetPartAt, num_type};
+ghost use Rattle.stack_code.specs.Sorts.{Field, SetField, Part, SetPart, FieldAt, SetFieldAt, PartAt, SetPartAt};
 ghost use Rattle.stack_code.specs.Machine.{work, with_part, kept};
 ghost use Rattle.event_machine.specs.Works.{Works, FieldFits};
 
@@ -10,16 +10,15 @@ use crate::ending::Leads;
 use crate::numbers::{index, read_field, write_field};
 use bit_field::Atom;
 use datum::{Datum, Number};
-use sat_math::{Kind, NumType};
+use sat_math::NumType;
 
 /// Pushes a field of the atom at the centre. Failure 6.
 #[inline(always)]
-pub fn load_field(running: &mut Activation, kind: u16, first: u8, width: u8, of: Kind) -> Leads
-    requires fits { FieldFits first (num_type of width) 1 }
+pub fn load_field(running: &mut Activation, kind: u16, first: u8, of: NumType) -> Leads
+    requires fits { FieldFits first of 1 }
     requires room { length running.old.stack ≤ 512 }
-    ensures { Works (work kind (Field first (num_type of width)) running.old) running.new result }
+    ensures { Works (work kind (Field first of) running.old) running.new result }
 {
-    let of = NumType { kind: of, width };
     match running.own(kind) {
         Some(atom) => {
             running.push(Datum::Number(read_field(&atom, first, of)));
@@ -31,11 +30,10 @@ pub fn load_field(running: &mut Activation, kind: u16, first: u8, width: u8, of:
 
 /// Pops a number into a field of the atom at the centre. Failure 6.
 #[inline(always)]
-pub fn store_field(running: &mut Activation, kind: u16, first: u8, width: u8, of: Kind) -> Leads
-    requires { FieldFits first (num_type of width) 1 }
-    ensures { Works (work kind (SetField first (num_type of width)) running.old) running.new result }
+pub fn store_field(running: &mut Activation, kind: u16, first: u8, of: NumType) -> Leads
+    requires { FieldFits first of 1 }
+    ensures { Works (work kind (SetField first of) running.old) running.new result }
 {
-    let of = NumType { kind: of, width };
     match running.number() {
         Some(v) => match running.own(kind) {
             Some(atom) => {
@@ -50,12 +48,11 @@ pub fn store_field(running: &mut Activation, kind: u16, first: u8, width: u8, of
 
 /// Pushes a field of the atom in a slot.
 #[inline(always)]
-pub fn load_part(running: &mut Activation, s: u8, first: u8, width: u8, of: Kind) -> Leads
-    requires fits { FieldFits first (num_type of width) 1 }
+pub fn load_part(running: &mut Activation, s: u8, first: u8, of: NumType) -> Leads
+    requires fits { FieldFits first of 1 }
     requires room { length running.old.stack ≤ 512 }
-    ensures { (kind : ℕ) → Works (work kind (Part s first (num_type of width)) running.old) running.new result }
+    ensures { (kind : ℕ) → Works (work kind (Part s first of) running.old) running.new result }
 {
-    let of = NumType { kind: of, width };
     match running.slot_atom(s) {
         Some(atom) => {
             running.push(Datum::Number(read_field(&atom, first, of)));
@@ -80,11 +77,10 @@ fn with_part(atom: Atom, first: u8, of: NumType, v: Number) -> Atom
 
 /// Pops a number into a field of the atom in a slot.
 #[inline(always)]
-pub fn store_part(running: &mut Activation, s: u8, first: u8, width: u8, of: Kind) -> Leads
-    requires { FieldFits first (num_type of width) 1 }
-    ensures { (kind : ℕ) → Works (work kind (SetPart s first (num_type of width)) running.old) running.new result }
+pub fn store_part(running: &mut Activation, s: u8, first: u8, of: NumType) -> Leads
+    requires { FieldFits first of 1 }
+    ensures { (kind : ℕ) → Works (work kind (SetPart s first of) running.old) running.new result }
 {
-    let of = NumType { kind: of, width };
     match running.number() {
         Some(v) => match running.slot_atom(s) {
             Some(atom) => {
@@ -111,19 +107,11 @@ fn element(first: u8, of: NumType, n: u8, i: u8) -> u8
 
 /// Pops an index and pushes that element of an array of the atom at the centre. Failures 6, 7.
 #[inline(always)]
-pub fn load_field_at(
-    running: &mut Activation,
-    kind: u16,
-    first: u8,
-    width: u8,
-    of: Kind,
-    n: u8,
-) -> Leads
-    requires fits { FieldFits first (num_type of width) n }
+pub fn load_field_at(running: &mut Activation, kind: u16, first: u8, of: NumType, n: u8) -> Leads
+    requires fits { FieldFits first of n }
     requires room { length running.old.stack ≤ 512 }
-    ensures { Works (work kind (FieldAt first (num_type of width) n) running.old) running.new result }
+    ensures { Works (work kind (FieldAt first of n) running.old) running.new result }
 {
-    let of = NumType { kind: of, width };
     match running.number() {
         Some(v) => match running.own(kind) {
             Some(atom) => match index(v, n) {
@@ -142,18 +130,10 @@ pub fn load_field_at(
 /// Pops a number, then an index, and writes that element of an array of the atom at the centre.
 /// Failures 6, 7.
 #[inline(always)]
-pub fn store_field_at(
-    running: &mut Activation,
-    kind: u16,
-    first: u8,
-    width: u8,
-    of: Kind,
-    n: u8,
-) -> Leads
-    requires { FieldFits first (num_type of width) n }
-    ensures { Works (work kind (SetFieldAt first (num_type of width) n) running.old) running.new result }
+pub fn store_field_at(running: &mut Activation, kind: u16, first: u8, of: NumType, n: u8) -> Leads
+    requires { FieldFits first of n }
+    ensures { Works (work kind (SetFieldAt first of n) running.old) running.new result }
 {
-    let of = NumType { kind: of, width };
     match running.two() {
         Some((v, x)) => match running.own(kind) {
             Some(atom) => match index(v, n) {
@@ -173,12 +153,11 @@ pub fn store_field_at(
 
 /// Pops an index and pushes that element of an array of the atom in a slot. Failure 7.
 #[inline(always)]
-pub fn load_part_at(running: &mut Activation, s: u8, first: u8, width: u8, of: Kind, n: u8) -> Leads
-    requires fits { FieldFits first (num_type of width) n }
+pub fn load_part_at(running: &mut Activation, s: u8, first: u8, of: NumType, n: u8) -> Leads
+    requires fits { FieldFits first of n }
     requires room { length running.old.stack ≤ 512 }
-    ensures { (kind : ℕ) → Works (work kind (PartAt s first (num_type of width) n) running.old) running.new result }
+    ensures { (kind : ℕ) → Works (work kind (PartAt s first of n) running.old) running.new result }
 {
-    let of = NumType { kind: of, width };
     match running.number() {
         Some(v) => match running.slot_atom(s) {
             Some(atom) => match index(v, n) {
@@ -197,18 +176,10 @@ pub fn load_part_at(running: &mut Activation, s: u8, first: u8, width: u8, of: K
 /// Pops a number, then an index, and writes that element of an array of the atom in a slot.
 /// Failure 7.
 #[inline(always)]
-pub fn store_part_at(
-    running: &mut Activation,
-    s: u8,
-    first: u8,
-    width: u8,
-    of: Kind,
-    n: u8,
-) -> Leads
-    requires { FieldFits first (num_type of width) n }
-    ensures { (kind : ℕ) → Works (work kind (SetPartAt s first (num_type of width) n) running.old) running.new result }
+pub fn store_part_at(running: &mut Activation, s: u8, first: u8, of: NumType, n: u8) -> Leads
+    requires { FieldFits first of n }
+    ensures { (kind : ℕ) → Works (work kind (SetPartAt s first of n) running.old) running.new result }
 {
-    let of = NumType { kind: of, width };
     match running.two() {
         Some((v, x)) => match running.slot_atom(s) {
             Some(atom) => match index(v, n) {

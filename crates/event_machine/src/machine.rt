@@ -182,7 +182,7 @@ impl Machine {
         requires place { self.old.place + 1 < 2 ^ 64 }
         ensures { StepsTo (onward self.old (work kind (sort i.now) self.old.held)) self.new result }
     {
-        let leads = plain(&mut self.running, kind, i);
+        let leads = plain(&mut self.running, kind, i.shape());
         if leads == Leads::On {
             self.place += 1;
         }

@@ -1,4 +1,4 @@
-//! Operators on numbers, and numbers as sites, indices, bounds and fields of atoms.
+//! What operators give, and numbers as sites, indices, bounds and fields of atoms.
 
 ghost use Rattle.std.specs.Prelude.{◌≡◌, ℕ, ℤ, pos, ◌<◌, ◌^◌, true, Option, IfSome, ◌≤◌, int_div, int_rem};
 ghost use Rattle.datum.specs.Fields.{get_field};
@@ -10,51 +10,13 @@ ghost use Rattle.bit_field.specs.Atom.{AtomValue};
 ghost use Rattle.stack_code.specs.Sorts.{divided, flip, num_type};
 ghost use Rattle.stack_code.specs.Machine.{Led, Held, at_site, at_index, at_bound, kept};
 ghost use Rattle.stack_code.specs.Valid.{field_fits, type_fits};
-ghost use Rattle.event_machine.specs.Works.{pair_of, PairFits, single_of, SingleFits, FieldFits, with_place};
+ghost use Rattle.stack_code.specs.Shapes.{binary_of, BinaryFits, unary_of, UnaryFits};
+ghost use Rattle.event_machine.specs.Works.{FieldFits, with_place};
 
 use bit_field::Atom;
 use datum::Number;
-use sat_math::{Arith, CompareOp, NumType};
-
-/// An operator on two numbers.
-#[derive(Clone, Copy, PartialEq, Eq, Debug)]
-pub enum PairOp {
-    /// The sum.
-    Add(Arith),
-    /// The difference.
-    Sub(Arith),
-    /// The product.
-    Mul(Arith),
-    /// The quotient.
-    Div(Arith),
-    /// The remainder.
-    Rem(Arith),
-    /// The bitwise and.
-    And,
-    /// The bitwise or.
-    Or,
-    /// The bitwise exclusive or.
-    Xor,
-    /// The bits shifted left; this many low bits are kept.
-    Shl(u8),
-    /// The bits shifted right.
-    Shr,
-    /// 1 if the comparison holds, otherwise 0.
-    Test(CompareOp),
-}
-
-/// An operator on one number.
-#[derive(Clone, Copy, PartialEq, Eq, Debug)]
-pub enum SingleOp {
-    /// The negation.
-    Neg(Arith),
-    /// This many low bits of the complement.
-    Flip(u8),
-    /// The number converted to a type.
-    Fit(NumType),
-    /// 1 for 0, otherwise 0.
-    Not,
-}
+use sat_math::{Arith, NumType};
+use stack_code::{BinaryOp, UnaryOp};
 
 /// The low 64 bits of a number.
 #[inline(always)]
@@ -139,39 +101,39 @@ fn shifted_down(a: i128, b: i128) -> Number
 /// The result of an operator on two numbers, or `None` for a division by 0.
 #[inline(always)]
 #[tactic(auto, using(crate::proofs::Fits::saturated_number))]
-pub fn apply(op: PairOp, a: Number, b: Number) -> Option<Number>
-    requires { PairFits op }
-    ensures { result ≡ pair_of op a b }
+pub fn apply_two(op: BinaryOp, a: Number, b: Number) -> Option<Number>
+    requires { BinaryFits op }
+    ensures { result ≡ binary_of op a b }
 {
     let (x, y) = (a.value(), b.value());
     match op {
-        PairOp::Add(how) => Some(Number::new(sat_math::add(how, x, y))),
-        PairOp::Sub(how) => Some(Number::new(sat_math::sub(how, x, y))),
-        PairOp::Mul(how) => Some(Number::new(sat_math::mul(how, x, y))),
-        PairOp::Div(how) => quotient(how, x, y),
-        PairOp::Rem(how) => remainder(how, x, y),
-        PairOp::And => Some(of_word(sat_math::and(low64(x), low64(y)))),
-        PairOp::Or => Some(of_word(sat_math::or(low64(x), low64(y)))),
-        PairOp::Xor => Some(of_word(sat_math::xor(low64(x), low64(y)))),
-        PairOp::Shl(width) => Some(shifted_up(width, x, y)),
-        PairOp::Shr => Some(shifted_down(x, y)),
-        PairOp::Test(op) => Some(of_bool(sat_math::compare(op, x, y))),
+        BinaryOp::Add(how) => Some(Number::new(sat_math::add(how, x, y))),
+        BinaryOp::Sub(how) => Some(Number::new(sat_math::sub(how, x, y))),
+        BinaryOp::Mul(how) => Some(Number::new(sat_math::mul(how, x, y))),
+        BinaryOp::Div(how) => quotient(how, x, y),
+        BinaryOp::Rem(how) => remainder(how, x, y),
+        BinaryOp::And => Some(of_word(sat_math::and(low64(x), low64(y)))),
+        BinaryOp::Or => Some(of_word(sat_math::or(low64(x), low64(y)))),
+        BinaryOp::Xor => Some(of_word(sat_math::xor(low64(x), low64(y)))),
+        BinaryOp::Shl(width) => Some(shifted_up(width, x, y)),
+        BinaryOp::Shr => Some(shifted_down(x, y)),
+        BinaryOp::Test(op) => Some(of_bool(sat_math::compare(op, x, y))),
     }
 }
 
 /// The result of an operator on one number.
 #[inline(always)]
 #[tactic(auto, using(crate::proofs::Fits::saturated_number, crate::proofs::Fits::in_range_number, crate::proofs::Fits::type_is))]
-pub fn turn(op: SingleOp, a: Number) -> Number
-    requires { SingleFits op }
-    ensures { result ≡ single_of op a }
+pub fn apply_one(op: UnaryOp, a: Number) -> Number
+    requires { UnaryFits op }
+    ensures { result ≡ unary_of op a }
 {
     let x = a.value();
     match op {
-        SingleOp::Neg(how) => Number::new(sat_math::neg(how, x)),
-        SingleOp::Flip(width) => flipped(width, x),
-        SingleOp::Fit(to) => Number::new(sat_math::cast(to, x)),
-        SingleOp::Not => of_bool(x == 0),
+        UnaryOp::Neg(how) => Number::new(sat_math::neg(how, x)),
+        UnaryOp::Flip(width) => flipped(width, x),
+        UnaryOp::Fit(to) => Number::new(sat_math::cast(to, x)),
+        UnaryOp::Not => of_bool(x == 0),
     }
 }
 

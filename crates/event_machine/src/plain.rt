@@ -1,19 +1,17 @@
-//! The plain instructions on numbers, slots and sites: a function for each sort.
+//! The plain instructions on numbers, slots and sites: a function for each shape.
 
-ghost use Rattle.std.specs.Prelude.{◌≡◌, ◌≤◌, ℕ, length, true, pos};
-ghost use Rattle.sat_math.specs.Operations.{one_in};
-ghost use Rattle.sat_math.specs.Numbers.{cast};
-ghost use Rattle.window_sites.specs.Window.{live_at, is_empty_at};
-ghost use Rattle.stack_code.specs.Sorts.{Give, One, Two, Load, Store, Drop, Own, Site, SetSite, Exchange, Ask, Draw, Same, Double, num_type};
+ghost use Rattle.std.specs.Prelude.{◌≤◌, ℕ, length};
+ghost use Rattle.window_sites.specs.Window.{live_at};
+ghost use Rattle.stack_code.specs.Sorts.{Give, One, Two, Load, Store, Drop, Own, Site, SetSite, Exchange, Ask, Draw, Same, Double, is_empty_at, as_drawn, one_in};
 ghost use Rattle.stack_code.specs.Machine.{work};
-ghost use Rattle.stack_code.specs.Valid.{type_fits};
-ghost use Rattle.event_machine.specs.Works.{Works, pair_of, PairFits, single_of, SingleFits};
+ghost use Rattle.stack_code.specs.Shapes.{binary_of, BinaryFits, unary_of, UnaryFits};
+ghost use Rattle.event_machine.specs.Works.{Works};
 
 use crate::activation::Activation;
 use crate::ending::Leads;
-use crate::numbers::{PairOp, SingleOp, apply, bound, of_bool, of_word, site, turn};
+use crate::numbers::{apply_one, apply_two, bound, of_bool, of_word, site};
 use datum::{Datum, Number};
-use sat_math::{Kind, NumType};
+use stack_code::{BinaryOp, UnaryOp};
 
 /// Pushes a datum.
 #[inline(always)]
@@ -27,39 +25,29 @@ pub fn give(running: &mut Activation, x: Datum) -> Leads
 
 /// Applies an operator to one number.
 #[inline(always)]
-pub fn single(running: &mut Activation, op: SingleOp) -> Leads
-    requires fits { SingleFits op }
+pub fn one(running: &mut Activation, op: UnaryOp) -> Leads
+    requires fits { UnaryFits op }
     requires room { length running.old.stack ≤ 512 }
-    ensures { (kind : ℕ) → Works (work kind (One (single_of op)) running.old) running.new result }
+    ensures { (kind : ℕ) → Works (work kind (One (unary_of op)) running.old) running.new result }
 {
     match running.number() {
         Some(a) => {
-            running.push(Datum::Number(turn(op, a)));
+            running.push(Datum::Number(apply_one(op, a)));
             Leads::On
         }
         None => Leads::Lack,
     }
 }
 
-/// Converts a number to a type.
-#[inline(always)]
-pub fn fit(running: &mut Activation, of: Kind, width: u8) -> Leads
-    requires fits { type_fits (num_type of width) ≡ true }
-    requires room { length running.old.stack ≤ 512 }
-    ensures { (kind : ℕ) → Works (work kind (One (cast (num_type of width))) running.old) running.new result }
-{
-    single(running, SingleOp::Fit(NumType { kind: of, width }))
-}
-
 /// Applies an operator to two numbers. Failure 3 for a division by 0.
 #[inline(always)]
-pub fn pair(running: &mut Activation, op: PairOp) -> Leads
-    requires fits { PairFits op }
+pub fn two(running: &mut Activation, op: BinaryOp) -> Leads
+    requires fits { BinaryFits op }
     requires room { length running.old.stack ≤ 512 }
-    ensures { (kind : ℕ) → Works (work kind (Two (pair_of op)) running.old) running.new result }
+    ensures { (kind : ℕ) → Works (work kind (Two (binary_of op)) running.old) running.new result }
 {
     match running.two() {
-        Some((a, b)) => match apply(op, a, b) {
+        Some((a, b)) => match apply_two(op, a, b) {
             Some(v) => {
                 running.push(Datum::Number(v));
                 Leads::On

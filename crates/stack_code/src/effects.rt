@@ -1,12 +1,13 @@
 //! The effect of plain instructions on the kinds of the operands.
 
 ghost use Rattle.std.specs.Prelude.{◌≡◌, ◌≤◌, ◌∷◌, length, slice_get, Option, Some, None, if◌then◌else◌};
-ghost use Rattle.stack_code.specs.Sorts.{sort};
+ghost use Rattle.stack_code.specs.Shapes.{sort_of};
 ghost use Rattle.stack_code.specs.Valid.{after, and_pop, if_atom, Kinds, pop, pop_any, pop_slot, push, push_slot};
 ghost use Rattle.stack_code.specs.KindLists.{list_at, Leaves};
 
-use crate::instr::{Instr, Operand};
+use crate::instr::Operand;
 use crate::kind_lists::KindLists;
+use crate::shapes::Shape;
 use feast_base::NoMemory;
 
 /// The kind of a slot.
@@ -176,85 +177,48 @@ fn store_element(
     }
 }
 
-/// The list after an instruction. None if the operands are not those that it pops, or if it jumps,
-/// calls or returns.
+/// The list after an instruction of this shape. None if the operands are not those that it pops, or
+/// if it jumps, calls or returns.
 #[tactic(auto, using(crate::proofs::KindNotes::grows_same, crate::proofs::KindNotes::grows_on))]
 pub fn after(
     lists: &mut KindLists,
     slots: &[Operand],
-    i: Instr,
+    shape: Shape,
     id: u32,
 ) -> Result<Option<u32>, NoMemory>
     requires { id ≤ length lists.old }
-    ensures { Leaves lists.old lists.new (after slots.now (sort i) (list_at lists.old id)) result }
+    ensures { Leaves lists.old lists.new (after slots.now (sort_of shape) (list_at lists.old id)) result }
 {
-    match i {
-        Instr::PushNum(_) => lists.give(Some(id), Operand::Number),
-        Instr::PushAtom(_) => lists.give(Some(id), Operand::Atom),
-        Instr::NegI
-        | Instr::NegL
-        | Instr::NotW(_)
-        | Instr::Fit(_, _)
-        | Instr::NotB
-        | Instr::IsLive
-        | Instr::IsEmpty
-        | Instr::RandCreate
-        | Instr::RandOneIn => lists.replace_one(id),
-        Instr::AddI
-        | Instr::SubI
-        | Instr::MulI
-        | Instr::DivI
-        | Instr::RemI
-        | Instr::AddU
-        | Instr::SubU
-        | Instr::MulU
-        | Instr::DivU
-        | Instr::RemU
-        | Instr::AddL
-        | Instr::SubL
-        | Instr::MulL
-        | Instr::DivL
-        | Instr::RemL => lists.replace_two(id),
-        Instr::AddV
-        | Instr::SubV
-        | Instr::MulV
-        | Instr::DivV
-        | Instr::RemV
-        | Instr::And
-        | Instr::Or
-        | Instr::Xor
-        | Instr::Shl(_)
-        | Instr::Shr
-        | Instr::Eq
-        | Instr::Ne
-        | Instr::Lt
-        | Instr::Le
-        | Instr::Gt
-        | Instr::Ge => lists.replace_two(id),
-        Instr::Swap => Ok(lists.pop_two(Operand::Number, Operand::Number, id)),
-        Instr::StoreSite => Ok(lists.pop_two(Operand::Atom, Operand::Number, id)),
-        Instr::LoadSite => replace_top(lists, Operand::Number, Operand::Atom, id),
-        Instr::IsKind(_) => replace_top(lists, Operand::Atom, Operand::Number, id),
-        Instr::LoadLocal(s) => push_local(lists, slots, s, id),
-        Instr::StoreLocal(s) => pop_local(lists, slots, s, id),
-        Instr::Pop => pop_one(lists, id),
-        Instr::LoadField(_, _, _) => lists.give(Some(id), Operand::Number),
-        Instr::StoreField(_, _, _) => Ok(lists.pop(Operand::Number, id)),
-        Instr::LoadSelf => lists.give(Some(id), Operand::Atom),
-        Instr::LoadPart(s, _, _, _) => load_part(lists, slots, s, id),
-        Instr::StorePart(s, _, _, _) => store_part(lists, slots, s, id),
-        Instr::Dup => push_again(lists, id),
-        Instr::LoadFieldAt(_, _, _, _) => lists.replace_one(id),
-        Instr::StoreFieldAt(_, _, _, _) => {
+    match shape {
+        Shape::GiveNumber(_) | Shape::Field(_, _) => lists.give(Some(id), Operand::Number),
+        Shape::GiveAtom(_) | Shape::Own => lists.give(Some(id), Operand::Atom),
+        Shape::One(_)
+        | Shape::AskLive
+        | Shape::AskEmpty
+        | Shape::Draw
+        | Shape::DrawOneIn
+        | Shape::FieldAt(_, _, _) => lists.replace_one(id),
+        Shape::Two(_) => lists.replace_two(id),
+        Shape::Load(s) => push_local(lists, slots, s, id),
+        Shape::Store(s) => pop_local(lists, slots, s, id),
+        Shape::Drop => pop_one(lists, id),
+        Shape::SetField(_, _) => Ok(lists.pop(Operand::Number, id)),
+        Shape::Part(s, _, _) => load_part(lists, slots, s, id),
+        Shape::SetPart(s, _, _) => store_part(lists, slots, s, id),
+        Shape::Site => replace_top(lists, Operand::Number, Operand::Atom, id),
+        Shape::SetSite => Ok(lists.pop_two(Operand::Atom, Operand::Number, id)),
+        Shape::Exchange | Shape::SetFieldAt(_, _, _) => {
             Ok(lists.pop_two(Operand::Number, Operand::Number, id))
         }
-        Instr::LoadPartAt(s, _, _, _, _) => load_element(lists, slots, s, id),
-        Instr::StorePartAt(s, _, _, _, _) => store_element(lists, slots, s, id),
-        Instr::Jump(_)
-        | Instr::JumpFalse(_)
-        | Instr::Turn
-        | Instr::Call(_)
-        | Instr::Return
-        | Instr::ReturnVoid => Ok(None),
+        Shape::Same(_) => replace_top(lists, Operand::Atom, Operand::Number, id),
+        Shape::Double => push_again(lists, id),
+        Shape::PartAt(s, _, _, _) => load_element(lists, slots, s, id),
+        Shape::SetPartAt(s, _, _, _) => store_element(lists, slots, s, id),
+        Shape::Goto(_)
+        | Shape::GotoFalse(_)
+        | Shape::Take
+        | Shape::Enter(_)
+        | Shape::GiveBack
+        | Shape::Leave => Ok(None),
     }
 }

@@ -1,7 +1,7 @@
 //! Which places the instructions of a function lead to, and with which operands.
 
 ghost use Rattle.std.specs.Prelude.{◌≡◌, ◌≤◌, List, length, Option, Some, Ok};
-ghost use Rattle.stack_code.specs.Sorts.{sort};
+ghost use Rattle.stack_code.specs.Shapes.{sort_of};
 ghost use Rattle.stack_code.specs.Valid.{around, exits, exits_of, back_of, forward_fits, back_fits, jump_fits, is_turn, instr_before, answer_found, is_nothing, pop, jump_exit, fork_exit, end_exit, after_call, map_answer, falls_exit, Kinds};
 ghost use Rattle.stack_code.specs.KindLists.{list_at, Leaves, maybe, MaybeFits, ExitLeaves, takes};
 ghost use Rattle.stack_code.specs.declared.kind_lists.Node.{Node};
@@ -11,6 +11,7 @@ use crate::effects::after;
 use crate::fits::args_fit;
 use crate::instr::{Answer, Instr, Operand};
 use crate::kind_lists::KindLists;
+use crate::shapes::Shape;
 use feast_base::NoMemory;
 
 /// The most operands that there may be at a place.
@@ -139,35 +140,34 @@ impl Around<'_> {
         }
     }
 
-    /// Where an instruction leads from a list, if its arguments and the depth of the list are
-    /// allowed.
+    /// Where an instruction of this shape leads from a list.
     #[tactic(auto, using(crate::proofs::KindNotes::grows_same))]
     fn lead(
         &self,
         lists: &mut KindLists,
-        i: Instr,
+        shape: Shape,
         p: usize,
         id: u32,
     ) -> Result<Option<Exit>, NoMemory>
         requires { id ≤ length lists.old }
-        ensures { ExitLeaves lists.old lists.new (exits (around self.now.code.now self.now.function.now self.now.end) p (sort i) (list_at lists.old id)) result }
+        ensures { ExitLeaves lists.old lists.new (exits (around self.now.code.now self.now.function.now self.now.end) p (sort_of shape) (list_at lists.old id)) result }
     {
-        match i {
-            Instr::Jump(q) => Ok(self.jump(lists, p, q, id)),
-            Instr::JumpFalse(q) => Ok(self.fork(lists, p, q, id)),
-            Instr::Turn => Ok(Some(Exit {
+        match shape {
+            Shape::Goto(q) => Ok(self.jump(lists, p, q, id)),
+            Shape::GotoFalse(q) => Ok(self.fork(lists, p, q, id)),
+            Shape::Take => Ok(Some(Exit {
                 falls: Some(id),
                 jumps: None,
             })),
-            Instr::Return => {
+            Shape::GiveBack => {
                 let allowed = answers(lists, self.function.answer(), id);
                 Ok(end_if(lists, allowed))
             }
-            Instr::ReturnVoid => {
+            Shape::Leave => {
                 let allowed = gives_nothing(self.function.answer());
                 Ok(end_if(lists, allowed))
             }
-            Instr::Call(f) => match self.code.functions().get(f as usize) {
+            Shape::Enter(f) => match self.code.functions().get(f as usize) {
                 None => Ok(None),
                 Some(callee) => falls(call(lists, callee, id)),
             },
@@ -199,7 +199,7 @@ impl Around<'_> {
         if lists.depth(id) > MOST_OPERANDS {
             return Ok(None);
         }
-        self.lead(lists, i, p, id)
+        self.lead(lists, i.shape(), p, id)
     }
 }
 

@@ -8,11 +8,15 @@ mod exits;
 mod fits;
 mod instr;
 mod kind_lists;
+mod operators;
 mod pass;
+mod shapes;
 mod text;
 mod verifier;
 
 pub use code::{Code, RawCode, RawFunction};
 pub use instr::{Answer, Instr, Operand};
+pub use operators::{BinaryOp, UnaryOp};
+pub use shapes::Shape;
 pub use text::print;
 pub use verifier::verify;

@@ -36,8 +36,8 @@ fn read(alloc: Global, bytes: &[u8], tokens: &[Token]) -> Result<File, ParseFaul
 ///
 /// # Errors
 /// `Syntax` at the first token such that the tokens up to and with it begin no file, `TooDeep` at
-/// the first such that they nest deeper than 64, whichever comes first, and `Syntax` where both are
-/// one token. `NoMemory` where the tree could not grow.
+/// the first such that they nest deeper than 64, whichever comes first, and `Syntax` if both are
+/// one token. `NoMemory` if the tree could not grow.
 pub fn parse(alloc: Global, bytes: &[u8], tokens: &[Token]) -> Result<File, ParseFault>
     // The tokens stand one behind another, each a text of its kind, and `End` is the last alone.
     requires { AreInOrder bytes.now 0 tokens.now }

@@ -5,167 +5,65 @@ use Rattle.stack_code.specs.Machine.{now}
 use Rattle.event_machine.specs.Works.{Works}
 use Rattle.event_machine.proofs.dispatch.plain.Goals as goal
 
-pub returns-in-PushNum : goal.returns-in-PushNum
-returns-in-PushNum c =
-    let p : c.new.result ≡ c.in-PushNum.v = search rules in
-    rw c.in-PushNum.is (subst (λ (v : ℤ). Works (now c.args.running.now (ANumber v ∷ c.args.running.now.stack)) c.give.new.running c.give.result) p (c.give.ensures c.args.kind))
+pub returns-in-GiveNumber : goal.returns-in-GiveNumber
+returns-in-GiveNumber c =
+    let p : c.new.result ≡ c.in-GiveNumber.v = search rules in
+    rw c.in-GiveNumber.is (subst (λ (v : ℤ). Works (now c.args.running.now (ANumber v ∷ c.args.running.now.stack)) c.give.new.running c.give.result) p (c.give.ensures c.args.kind))
 
-pub returns-in-PushAtom : goal.returns-in-PushAtom
-returns-in-PushAtom c =
-    rw c.in-PushAtom.is (subst (λ (a : AtomValue). Works (now c.args.running.now (AnAtom a ∷ c.args.running.now.stack)) c.give-in-PushAtom.new.running c.give-in-PushAtom.result) c.new-in-PushAtom.ensures (c.give-in-PushAtom.ensures c.args.kind))
+pub returns-in-GiveAtom : goal.returns-in-GiveAtom
+returns-in-GiveAtom c =
+    rw c.in-GiveAtom.is (subst (λ (a : AtomValue). Works (now c.args.running.now (AnAtom a ∷ c.args.running.now.stack)) c.give-in-GiveAtom.new.running c.give-in-GiveAtom.result) c.new-in-GiveAtom.ensures (c.give-in-GiveAtom.ensures c.args.kind))
 
-pub returns-in-LoadLocal : goal.returns-in-LoadLocal
-returns-in-LoadLocal c = rw c.in-LoadLocal.is (c.load.ensures c.args.kind)
+pub returns-in-One : goal.returns-in-One
+returns-in-One c = rw c.in-One.is (c.one.ensures c.args.kind)
 
-pub returns-in-StoreLocal : goal.returns-in-StoreLocal
-returns-in-StoreLocal c = rw c.in-StoreLocal.is (c.store.ensures c.args.kind)
+pub returns-in-Two : goal.returns-in-Two
+returns-in-Two c = rw c.in-Two.is (c.two.ensures c.args.kind)
 
-pub returns-in-Pop : goal.returns-in-Pop
-returns-in-Pop c = rw c.in-Pop.is (c.drop_top.ensures c.args.kind)
+pub returns-in-Load : goal.returns-in-Load
+returns-in-Load c = rw c.in-Load.is (c.load.ensures c.args.kind)
 
-pub returns-in-LoadPart : goal.returns-in-LoadPart
-returns-in-LoadPart c = rw c.in-LoadPart.is (c.load_part.ensures c.args.kind)
+pub returns-in-Store : goal.returns-in-Store
+returns-in-Store c = rw c.in-Store.is (c.store.ensures c.args.kind)
 
-pub returns-in-StorePart : goal.returns-in-StorePart
-returns-in-StorePart c = rw c.in-StorePart.is (c.store_part.ensures c.args.kind)
+pub returns-in-Drop : goal.returns-in-Drop
+returns-in-Drop c = rw c.in-Drop.is (c.drop_top.ensures c.args.kind)
 
-pub returns-in-LoadSite : goal.returns-in-LoadSite
-returns-in-LoadSite c = rw c.in-LoadSite.is (c.load_site.ensures c.args.kind)
+pub returns-in-Part : goal.returns-in-Part
+returns-in-Part c = rw c.in-Part.is (c.load_part.ensures c.args.kind)
 
-pub returns-in-StoreSite : goal.returns-in-StoreSite
-returns-in-StoreSite c = rw c.in-StoreSite.is (c.store_site.ensures c.args.kind)
+pub returns-in-SetPart : goal.returns-in-SetPart
+returns-in-SetPart c = rw c.in-SetPart.is (c.store_part.ensures c.args.kind)
 
-pub returns-in-Swap : goal.returns-in-Swap
-returns-in-Swap c = rw c.in-Swap.is (c.exchange.ensures c.args.kind)
+pub returns-in-Site : goal.returns-in-Site
+returns-in-Site c = rw c.in-Site.is (c.load_site.ensures c.args.kind)
 
-pub returns-in-IsLive : goal.returns-in-IsLive
-returns-in-IsLive c = rw c.in-IsLive.is (c.is_live.ensures c.args.kind)
+pub returns-in-SetSite : goal.returns-in-SetSite
+returns-in-SetSite c = rw c.in-SetSite.is (c.store_site.ensures c.args.kind)
 
-pub returns-in-IsEmpty : goal.returns-in-IsEmpty
-returns-in-IsEmpty c = rw c.in-IsEmpty.is (c.is_empty.ensures c.args.kind)
+pub returns-in-Exchange : goal.returns-in-Exchange
+returns-in-Exchange c = rw c.in-Exchange.is (c.exchange.ensures c.args.kind)
 
-pub returns-in-RandCreate : goal.returns-in-RandCreate
-returns-in-RandCreate c = rw c.in-RandCreate.is (c.create.ensures c.args.kind)
+pub returns-in-AskLive : goal.returns-in-AskLive
+returns-in-AskLive c = rw c.in-AskLive.is (c.is_live.ensures c.args.kind)
 
-pub returns-in-RandOneIn : goal.returns-in-RandOneIn
-returns-in-RandOneIn c = rw c.in-RandOneIn.is (c.one_in.ensures c.args.kind)
+pub returns-in-AskEmpty : goal.returns-in-AskEmpty
+returns-in-AskEmpty c = rw c.in-AskEmpty.is (c.is_empty.ensures c.args.kind)
 
-pub returns-in-IsKind : goal.returns-in-IsKind
-returns-in-IsKind c = rw c.in-IsKind.is (c.same.ensures c.args.kind)
+pub returns-in-Draw : goal.returns-in-Draw
+returns-in-Draw c = rw c.in-Draw.is (c.create.ensures c.args.kind)
 
-pub returns-in-AddI : goal.returns-in-AddI
-returns-in-AddI c = rw c.in-AddI.is (c.pair.ensures c.args.kind)
+pub returns-in-DrawOneIn : goal.returns-in-DrawOneIn
+returns-in-DrawOneIn c = rw c.in-DrawOneIn.is (c.one_in.ensures c.args.kind)
 
-pub returns-in-SubI : goal.returns-in-SubI
-returns-in-SubI c = rw c.in-SubI.is (c.pair-in-SubI.ensures c.args.kind)
+pub returns-in-Same : goal.returns-in-Same
+returns-in-Same c = rw c.in-Same.is (c.same.ensures c.args.kind)
 
-pub returns-in-MulI : goal.returns-in-MulI
-returns-in-MulI c = rw c.in-MulI.is (c.pair-in-MulI.ensures c.args.kind)
+pub returns-in-Double : goal.returns-in-Double
+returns-in-Double c = rw c.in-Double.is (c.double.ensures c.args.kind)
 
-pub returns-in-DivI : goal.returns-in-DivI
-returns-in-DivI c = rw c.in-DivI.is (c.pair-in-DivI.ensures c.args.kind)
+pub returns-in-PartAt : goal.returns-in-PartAt
+returns-in-PartAt c = rw c.in-PartAt.is (c.load_part_at.ensures c.args.kind)
 
-pub returns-in-RemI : goal.returns-in-RemI
-returns-in-RemI c = rw c.in-RemI.is (c.pair-in-RemI.ensures c.args.kind)
-
-pub returns-in-AddU : goal.returns-in-AddU
-returns-in-AddU c = rw c.in-AddU.is (c.pair-in-AddU.ensures c.args.kind)
-
-pub returns-in-SubU : goal.returns-in-SubU
-returns-in-SubU c = rw c.in-SubU.is (c.pair-in-SubU.ensures c.args.kind)
-
-pub returns-in-MulU : goal.returns-in-MulU
-returns-in-MulU c = rw c.in-MulU.is (c.pair-in-MulU.ensures c.args.kind)
-
-pub returns-in-DivU : goal.returns-in-DivU
-returns-in-DivU c = rw c.in-DivU.is (c.pair-in-DivU.ensures c.args.kind)
-
-pub returns-in-RemU : goal.returns-in-RemU
-returns-in-RemU c = rw c.in-RemU.is (c.pair-in-RemU.ensures c.args.kind)
-
-pub returns-in-NegI : goal.returns-in-NegI
-returns-in-NegI c = rw c.in-NegI.is (c.single.ensures c.args.kind)
-
-pub returns-in-And : goal.returns-in-And
-returns-in-And c = rw c.in-And.is (c.pair-in-And.ensures c.args.kind)
-
-pub returns-in-Or : goal.returns-in-Or
-returns-in-Or c = rw c.in-Or.is (c.pair-in-Or.ensures c.args.kind)
-
-pub returns-in-Xor : goal.returns-in-Xor
-returns-in-Xor c = rw c.in-Xor.is (c.pair-in-Xor.ensures c.args.kind)
-
-pub returns-in-NotW : goal.returns-in-NotW
-returns-in-NotW c = rw c.in-NotW.is (c.single-in-NotW.ensures c.args.kind)
-
-pub returns-in-Shl : goal.returns-in-Shl
-returns-in-Shl c = rw c.in-Shl.is (c.pair-in-Shl.ensures c.args.kind)
-
-pub returns-in-Shr : goal.returns-in-Shr
-returns-in-Shr c = rw c.in-Shr.is (c.pair-in-Shr.ensures c.args.kind)
-
-pub returns-in-Fit : goal.returns-in-Fit
-returns-in-Fit c = rw c.in-Fit.is (c.fit.ensures c.args.kind)
-
-pub returns-in-NotB : goal.returns-in-NotB
-returns-in-NotB c = rw c.in-NotB.is (c.single-in-NotB.ensures c.args.kind)
-
-pub returns-in-Eq : goal.returns-in-Eq
-returns-in-Eq c = rw c.in-Eq.is (c.pair-in-Eq.ensures c.args.kind)
-
-pub returns-in-Ne : goal.returns-in-Ne
-returns-in-Ne c = rw c.in-Ne.is (c.pair-in-Ne.ensures c.args.kind)
-
-pub returns-in-Lt : goal.returns-in-Lt
-returns-in-Lt c = rw c.in-Lt.is (c.pair-in-Lt.ensures c.args.kind)
-
-pub returns-in-Le : goal.returns-in-Le
-returns-in-Le c = rw c.in-Le.is (c.pair-in-Le.ensures c.args.kind)
-
-pub returns-in-Gt : goal.returns-in-Gt
-returns-in-Gt c = rw c.in-Gt.is (c.pair-in-Gt.ensures c.args.kind)
-
-pub returns-in-Ge : goal.returns-in-Ge
-returns-in-Ge c = rw c.in-Ge.is (c.pair-in-Ge.ensures c.args.kind)
-
-pub returns-in-Dup : goal.returns-in-Dup
-returns-in-Dup c = rw c.in-Dup.is (c.double.ensures c.args.kind)
-
-pub returns-in-LoadPartAt : goal.returns-in-LoadPartAt
-returns-in-LoadPartAt c = rw c.in-LoadPartAt.is (c.load_part_at.ensures c.args.kind)
-
-pub returns-in-StorePartAt : goal.returns-in-StorePartAt
-returns-in-StorePartAt c = rw c.in-StorePartAt.is (c.store_part_at.ensures c.args.kind)
-
-pub returns-in-AddL : goal.returns-in-AddL
-returns-in-AddL c = rw c.in-AddL.is (c.pair-in-AddL.ensures c.args.kind)
-
-pub returns-in-SubL : goal.returns-in-SubL
-returns-in-SubL c = rw c.in-SubL.is (c.pair-in-SubL.ensures c.args.kind)
-
-pub returns-in-MulL : goal.returns-in-MulL
-returns-in-MulL c = rw c.in-MulL.is (c.pair-in-MulL.ensures c.args.kind)
-
-pub returns-in-DivL : goal.returns-in-DivL
-returns-in-DivL c = rw c.in-DivL.is (c.pair-in-DivL.ensures c.args.kind)
-
-pub returns-in-RemL : goal.returns-in-RemL
-returns-in-RemL c = rw c.in-RemL.is (c.pair-in-RemL.ensures c.args.kind)
-
-pub returns-in-AddV : goal.returns-in-AddV
-returns-in-AddV c = rw c.in-AddV.is (c.pair-in-AddV.ensures c.args.kind)
-
-pub returns-in-SubV : goal.returns-in-SubV
-returns-in-SubV c = rw c.in-SubV.is (c.pair-in-SubV.ensures c.args.kind)
-
-pub returns-in-MulV : goal.returns-in-MulV
-returns-in-MulV c = rw c.in-MulV.is (c.pair-in-MulV.ensures c.args.kind)
-
-pub returns-in-DivV : goal.returns-in-DivV
-returns-in-DivV c = rw c.in-DivV.is (c.pair-in-DivV.ensures c.args.kind)
-
-pub returns-in-RemV : goal.returns-in-RemV
-returns-in-RemV c = rw c.in-RemV.is (c.pair-in-RemV.ensures c.args.kind)
-
-pub returns-in-NegL : goal.returns-in-NegL
-returns-in-NegL c = rw c.in-NegL.is (c.single-in-NegL.ensures c.args.kind)
+pub returns-in-SetPartAt : goal.returns-in-SetPartAt
+returns-in-SetPartAt c = rw c.in-SetPartAt.is (c.store_part_at.ensures c.args.kind)

@@ -8,5 +8,5 @@ use Rattle.stack_code.proofs.exits.Around.lead.Goals as goal
 pub returns-in-Some : goal.returns-in-Some
 returns-in-Some c =
     let a = c.in-Some.ensures.lookup in
-    let e : slice_get c.args.self.now.code.now.functions c.in-Call.f ≡ Some c.in-Some.callee.now = get_some c.functions.result.now c.args.self.now.code.now.functions c.in-Call.f c.in-Some.callee.now c.functions.ensures a.3.0 a.3.1 in
-    rw (c.in-Call.is, e) (c.falls.ensures c.args.lists.now c.call.new.lists (after_call (Some c.in-Some.callee.now) (list_at c.args.lists.now c.args.id)) c.call.ensures)
+    let e : slice_get c.args.self.now.code.now.functions c.in-Enter.f ≡ Some c.in-Some.callee.now = get_some c.functions.result.now c.args.self.now.code.now.functions c.in-Enter.f c.in-Some.callee.now c.functions.ensures a.3.0 a.3.1 in
+    rw (c.in-Enter.is, e) (c.falls.ensures c.args.lists.now c.call.new.lists (after_call (Some c.in-Some.callee.now) (list_at c.args.lists.now c.args.id)) c.call.ensures)
