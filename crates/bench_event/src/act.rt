@@ -1,5 +1,5 @@
 //! The behaviour in this bench.
-ghost use Rattle.bench_event.specs.Turned.{after_turn, idle-turn};
+ghost use Rattle.cell_grid.specs.Tried.{after_turn, idle-turn};
 
 use bit_field::Atom;
 use cell_grid::Behave;

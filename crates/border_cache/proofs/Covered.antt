@@ -5,6 +5,7 @@ use Rattle.std.specs.Option.{option_map}
 use Rattle.std.proofs.lemmas.Bool.Decides.{nat_tests}
 use Rattle.std.proofs.lemmas.List.Quantifiers.{position-Some}
 use Rattle.std.proofs.lemmas.Option.{slice_get-get_or}
+use Rattle.list_laws.specs.Options.{or_zero}
 use Rattle.window_sites.specs.Sites.{offset_of, shifted}
 use Rattle.tile_map.specs.Plane.{Site, MapValue, site, in_window}
 use Rattle.tile_map.specs.Edges.{pairs_of, low_end, live_site, window_site, shared_of, register_of}
@@ -29,10 +30,6 @@ covered_in m p c e k cov = go (window_site m c cov.0) refl cov.2
         let y : q.y ≡ s.y = grind (arith, nat_tests, found.1) in
         (s, slice_get-get_or (shared_of m e) k c found.0 ∙ (λ z. Some (record { x = x z; y = y z })), p.windows.site c s cov.0 (omega (arith, cov.1)) is)
 
-abbrev inside : Option ℕ → ℕ
-inside None = 0
-inside (Some x) = x
-
 pub in_covered : (m : MapValue) → IsPlane m → (c : Site) (e k : ℕ) → e < length (pairs_of m) → IsInWindow m c e k → Covers (place_in m c e) 41 k
 in_covered m p c e k lt w =
     let n = p.windows.number c w.0 w.2 in
@@ -41,7 +38,7 @@ in_covered m p c e k lt w =
   where
     go : (o : Option ℕ) → option_map (λ k. 1 + 2 * k) o ≡ Some (1 + 2 * k) → o ≡ Some k
     go None h = absurd (cc h)
-    go (Some j) h = let q : 1 + 2 * j ≡ 1 + 2 * k = ap inside h in ap Some (omega (arith, q))
+    go (Some j) h = let q : 1 + 2 * j ≡ 1 + 2 * k = ap or_zero h in ap Some (omega (arith, q))
 
 -- a site that an edge shares is live, so that its place needs no other test
 pub shared_place : (m : MapValue) → IsPlane m → (c : Site) (e n u v r : ℕ) → shifted c.x (offset_of n).0 ≡ Some u → shifted c.y (offset_of n).1 ≡ Some v → register_of m e (site u v) ≡ Some r → Some ((r - 1) / 2) ≡ place_in m c e n
@@ -53,4 +50,4 @@ shared_place m p c e n u v r x y h =
   where
     half : (o : Option ℕ) (r : ℕ) → option_map (λ k. 1 + 2 * k) o ≡ Some r → Some ((r - 1) / 2) ≡ o
     half None r h = absurd (cc h)
-    half (Some k) r h = let q : 1 + 2 * k ≡ r = ap inside h in ap Some (omega (arith, q))
+    half (Some k) r h = let q : 1 + 2 * k ≡ r = ap or_zero h in ap Some (omega (arith, q))

@@ -150,11 +150,6 @@ module _ (m : MapValue) (t : ℕ) (c : Site) (needs : List ℕ) (i e : ℕ) (lt 
           ∙ (newest_push own (seen_on m t c more' n (take i needs)) (seen (sites_on m e) (end_at m t e) (more' e) (place_in m c e n))
           ∙ (λ j. newer (newest own (seen_before needs i e lt rise at m t c n s.more r.more (take i needs) (fresh needs i e lt rise at) j)) (seen (sites_on m e) (end_at m t e) (mine j) (place_in m c e n)))))
 
--- no number of a list without length
-pub no_edges : (es : List ℕ) → length es ≡ 0 → es ≡ []
-no_edges [] h = refl
-no_edges (e ∷ es) h = absurd (omega (arith, h))
-
 pub refreshes_all_begin : (m : MapValue) (t : ℕ) (c : Site) (a : ℕ → EndLists) (cells : List CellValue) → RefreshesAll m t c [] a a cells cells
 refreshes_all_begin m t c a cells = record { more = λ e. []; adds = adds_all_begins a; reads = λ e h. absurd (true≢false (sym h)); length = refl; cells = λ n small. refl }
 

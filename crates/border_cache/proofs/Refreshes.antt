@@ -3,6 +3,9 @@ use Rattle.std.proofs.Common.{◌≡◌, ◌≢◌, ℕ, ◌+◌, ◌*◌, ◌<�
 use Rattle.std.proofs.lemmas.Option.{none-some}
 use Rattle.std.specs.Prelude.{◌==◌, length, slice_index_or, slice_set}
 use Rattle.std.proofs.lemmas.List.{get_or-set_same, get_or-set_other, length-set, append-nil}
+use Rattle.edge_lock.proofs.BoardLaws.{last_shown-append}
+use Rattle.edge_lock.proofs.HistoryLaws.{found_stays}
+use Rattle.list_laws.proofs.Numbers.{less_or_same}
 use Rattle.edge_lock.specs.EndLists.{EndLists, IsHeld, known_value}
 use Rattle.edge_lock.specs.declared.history.Access.{Access}
 use Rattle.edge_lock.specs.declared.history.Access.TheVariants.{Read}
@@ -11,11 +14,8 @@ use Rattle.edge_lock.specs.EndLists.{writes_nothing, Shows}
 use Rattle.border_cache.specs.Cells.{CellValue, newer}
 use Rattle.border_cache.specs.Accesses.{with_known, IsHonest, Adds}
 use Rattle.border_cache.specs.News.{Covers, word_of, has_bit, is_news, cell_in, seen, IsAsked, IsRefresh, IsSiteRead, AreNewer, no_cell, with_newer, IsSiteRefresh, Refreshes}
-use Rattle.border_cache.proofs.Runs.{known_after, honest_append, last_shown-append, adds_none, adds_then, known_adds}
-use Rattle.border_cache.proofs.Found.{found_more, found_new, found_read, silent_both}
-
-pub less_or_same : (j n : ℕ) → j < n + 1 → (j < n) ⊎ (j ≡ n)
-less_or_same j n lt = grind arith
+use Rattle.border_cache.proofs.Runs.{known_after, honest_append, adds_none, adds_then, known_adds}
+use Rattle.border_cache.proofs.Found.{found_new, found_read, silent_both}
 
 pub covers_more : (places : ℕ → Option ℕ) (n k : ℕ) → Covers places n k → Covers places (n + 1) k
 covers_more places n k c = (c.0, omega (arith, c.1), c.2)
@@ -31,10 +31,10 @@ has_word (Some v) k h = (v, refl)
 pub news_more : (sites end : ℕ) (xs ys : List Access) (k : ℕ) → is_news sites end xs k ≡ true → is_news sites end (xs ++ ys) k ≡ true
 news_more sites end xs ys k h =
     let w = has_word (found_value xs (word_of sites end k)) k h in
-    ap (λ o. has_bit o k) (found_more xs ys (word_of sites end k) w.0 w.1 ∙ sym w.1) ∙ h
+    ap (λ o. has_bit o k) (found_stays xs ys (word_of sites end k) w.0 w.1 ∙ sym w.1) ∙ h
 
 pub news_same : (sites end : ℕ) (xs ys : List Access) (k v : ℕ) → found_value xs (word_of sites end k) ≡ Some v → is_news sites end (xs ++ ys) k ≡ is_news sites end xs k
-news_same sites end xs ys k v is = ap (λ o. has_bit o k) (found_more xs ys (word_of sites end k) v is ∙ sym is)
+news_same sites end xs ys k v is = ap (λ o. has_bit o k) (found_stays xs ys (word_of sites end k) v is ∙ sym is)
 
 pub asked_more : (sites end : ℕ) (places : ℕ → Option ℕ) (n : ℕ) (xs ys : List Access) (r : ℕ) → IsAsked sites end places n xs r → IsAsked sites end places (n + 1) (xs ++ ys) r
 asked_more sites end places n xs ys r a =
@@ -61,12 +61,12 @@ pub refresh_some : (sites end : ℕ) (places : ℕ → Option ℕ) (n k : ℕ) (
     → IsRefresh sites end places (n + 1) (xs ++ ys)
 refresh_some sites end places n k xs ys at f w word cell only = record {
   silent = silent_both xs ys f.silent w;
-  words = λ j c. ⊎_elim (λ old. let v = f.words j old in (v.0, found_more xs ys (word_of sites end j) v.0 v.1))
+  words = λ j c. ⊎_elim (λ old. let v = f.words j old in (v.0, found_stays xs ys (word_of sites end j) v.0 v.1))
       (λ p. let e : k ≡ j = ap inside (sym at ∙ p) in subst (λ i. (v : ℕ) × (found_value (xs ++ ys) (word_of sites end i) ≡ Some v)) e word)
       (covers_last places n j c);
   cells = λ j c. ⊎_elim
       (λ old news. let v = f.words j old in let g = f.cells j old (sym (news_same sites end xs ys j v.0 v.1) ∙ news) in
-      (g.0, g.1, found_more xs ys (1 + 2 * j) g.0 g.2, found_more xs ys (2 + 2 * j) g.1 g.3))
+      (g.0, g.1, found_stays xs ys (1 + 2 * j) g.0 g.2, found_stays xs ys (2 + 2 * j) g.1 g.3))
       (λ p. let e : k ≡ j = ap inside (sym at ∙ p) in
       subst (λ i. is_news sites end (xs ++ ys) i ≡ true → (low : ℕ) × (high : ℕ) × (found_value (xs ++ ys) (1 + 2 * i) ≡ Some low) × (found_value (xs ++ ys) (2 + 2 * i) ≡ Some high)) e cell)
       (covers_last places n j c);
@@ -90,7 +90,7 @@ seen_same sites end places n j xs ys lt f = go (places j) refl
     of_news k c true is = let g = f.cells k c is in (λ i. cell_in (same (1 + 2 * k) g.0 g.2 i) (same (2 + 2 * k) g.1 g.3 i))
       where
         same : (r v : ℕ) → found_value xs r ≡ Some v → found_value (xs ++ ys) r ≡ found_value xs r
-        same r v is = found_more xs ys r v is ∙ sym is
+        same r v is = found_stays xs ys r v is ∙ sym is
     of_news k c false is = refl
 
     go : (o : Option ℕ) → places j ≡ o → seen sites end (xs ++ ys) o ≡ seen sites end xs o

@@ -1,8 +1,7 @@
 -- The code of the two functions, that they are ready and short, and what an event of them leaves.
-use Rattle.std.proofs.Common.{◌≡◌, ℕ, zero, suc, [], ◌∷◌, refl, arith, true}
-use Rattle.std.specs.Prelude.{pos, replicate, codes as letters, Some, None}
-use Rattle.window_sites.specs.Window.{WindowValue}
-use Rattle.stack_code.specs.Sorts.{atom_of}
+use Rattle.std.proofs.Common.{◌≡◌, ℕ, zero, suc, [], ◌∷◌, refl, arith}
+use Rattle.std.specs.Prelude.{pos, codes as letters, Some, None}
+use Rattle.stack_code.proofs.Worked.{full}
 use Rattle.stack_code.specs.declared.instr.Operand.TheVariants.{Number}
 use Rattle.stack_code.specs.declared.instr.Answer.TheVariants.{Nothing, Number as NumberBack}
 use Rattle.stack_code.specs.declared.instr.Instr.TheVariants.{PushNum, LoadLocal, StoreLocal, SubI, Jump, JumpFalse, Turn, Call, Return, ReturnVoid}
@@ -30,10 +29,6 @@ two_ready = record { good = λ f room. good_at f.function f.class f.base; room =
 two_short : IsShort two (key 0)
 unfolding keys reach
 two_short = record { few = omega arith; low = refl }
-
--- a window whose atoms are all of type 1, at live sites
-full : WindowValue
-full = record { atoms = replicate 41 (atom_of 1); live = replicate 41 true }
 
 -- it ends, and leaves the window as it was
 two_event : event_over full (event two 1 (key 0) full 5) ≡ Some (full, None)

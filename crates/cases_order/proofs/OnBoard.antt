@@ -1,9 +1,11 @@
 -- One step of one of the tiles on a board leaves all of them underway there.
-use Rattle.std.proofs.Common.{ℕ, zero, suc, ◌≡◌, ◌≢◌, ◌<◌, List, [], ◌∷◌, ◌++◌, All, length, map, get_or, refl, sym, ap, subst, ◌∙◌, arith, ◌⊎◌, inl, inr, ⊎_elim, Option, Some, None}
+use Rattle.std.proofs.Common.{ℕ, zero, suc, ◌≡◌, ◌≢◌, ◌<◌, List, [], ◌∷◌, ◌++◌, All, length, map, get_or, refl, sym, ap, subst, ◌∙◌, ◌⊎◌, inl, inr, ⊎_elim, Option, Some, None}
 use Rattle.std.specs.Prelude.{slice_get, slice_set}
 use Rattle.std.specs.Option.{option_map}
 use Rattle.std.proofs.lemmas.List.{length-set, length-map}
 use Rattle.std.proofs.lemmas.Option.{slice_get_within, slice_get-map, slice_get-get_or, get_or_from_slice_get}
+use Rattle.std.proofs.lemmas.Bool.{cases_eq}
+use Rattle.list_laws.proofs.Slots.{get_set_same, get_set_other}
 use Rattle.window_sites.specs.Window.{WindowValue}
 use Rattle.tile_map.specs.Plane.{MapValue, IsMap, tiles_of}
 use Rattle.tile_map.specs.Edges.{sizes_of}
@@ -19,21 +21,7 @@ use Rattle.serial_order.specs.Boards.{HasStopped, HaveStopped}
 use Rattle.serial_order.specs.Outcomes.{IsMade, values_of, AreOver}
 use Rattle.serial_order.specs.Words.{histories_on}
 use Rattle.serial_order.proofs.Boards.{over}
-use Rattle.serial_order.proofs.Ground.{same_or_not}
 use Rattle.cases_order.specs.Driven.{AreMade, IsTileOn, IsDriven}
-
--- a list with one element changed, and one with an element more
-set_here : {A : Type 0} (xs : List A) (k : ℕ) (y : A) → k < length xs → slice_get (slice_set xs k y) k ≡ Some y
-set_here [] k y lt = absurd (omega (arith, lt))
-set_here (x ∷ xs) zero y lt = refl
-set_here (x ∷ xs) (suc k) y lt = set_here xs k y (omega (arith, lt))
-
-set_there : {A : Type 0} (xs : List A) (k j : ℕ) (y : A) → j ≢ k → slice_get (slice_set xs k y) j ≡ slice_get xs j
-set_there [] k j y ne = refl
-set_there (x ∷ xs) zero zero y ne = absurd (ne refl)
-set_there (x ∷ xs) zero (suc j) y ne = refl
-set_there (x ∷ xs) (suc k) zero y ne = refl
-set_there (x ∷ xs) (suc k) (suc j) y ne = set_there xs k j y (λ e. ne (ap suc e))
 
 get_more : {A : Type 0} (xs : List A) (y : A) (k : ℕ) (x : A) → slice_get (xs ++ y ∷ []) k ≡ Some x → (slice_get xs k ≡ Some x) ⊎ ((k ≡ length xs) × (y ≡ x))
 get_more [] y zero x is = inr (refl, cc (is))
@@ -131,10 +119,10 @@ module _ {B : Type 0} (after : B → WindowValue → ℕ → WindowValue) (m : M
         count = length-set tiles t y ∙ d.count;
         edges = board_moved m c e moved board_is;
         each = λ v z at. ⊎_elim
-            (λ (q : v ≡ t). let same' : y ≡ z = cc (sym (set_here tiles t y (slice_get_within tiles t x is)) ∙ (ap (slice_get (slice_set tiles t y)) (sym q) ∙ at)) in
+            (λ (q : v ≡ t). let same' : y ≡ z = cc (sym (get_set_same tiles t y (slice_get_within tiles t x is)) ∙ (ap (slice_get (slice_set tiles t y)) (sym q) ∙ at)) in
             subst (λ (p : ℕ × (TileValue × B)). IsTileOn after m d.meaning d.start d.plan e p.0 p.1) (λ i. (sym q i, same' i)) here)
-            (λ (ne : v ≢ t). there v z ne (sym (set_there tiles t v y ne) ∙ at))
-            (same_or_not v t);
+            (λ (ne : v ≢ t). there v z ne (sym (get_set_other tiles t v y ne) ∙ at))
+            (cases_eq v t);
       }
 
   -- tiles that have stopped

@@ -5,11 +5,10 @@ use Rattle.std.proofs.lemmas.Bool.Decides.{nat_tests}
 use Rattle.std.proofs.lemmas.List.{get_or-replicate}
 use Rattle.std.proofs.lemmas.List.Elements.{All-head, All-tail, All-get_or}
 use Rattle.std.proofs.lemmas.List.Sums.{sum_by-cons}
-use Rattle.std.proofs.lemmas.Nat.{mod_below}
+use Rattle.std.proofs.lemmas.Nat.{mod_below, mul-add-lt}
 use Rattle.std.proofs.lemmas.Option.{slice_get_within, get_or_from_slice_get}
 use Rattle.list_laws.proofs.Tests.{together}
 use Rattle.tile_map.specs.Plane.{MapValue, AreSizes, whole_plane, tiles_of}
-use Rattle.cell_grid.proofs.Places.{below}
 use Rattle.draw_stream.specs.declared.attempt.Attempt.{Attempt}
 use Rattle.draw_stream.specs.Plans.{PlanValue, IsPlan, scripted, attempts}
 use Rattle.tile_core.specs.Underway.{CanAttempt}
@@ -17,7 +16,7 @@ use Rattle.cases_order.specs.Plans.{IsWithin, IsScript, IsPlanFor}
 
 -- a site taken into a tile's rectangle
 pub centre_within : (x y w h : ℕ) → 1 ≤ w → 1 ≤ h → y % h * w + x % w < w * h
-centre_within x y w h p q = below (x % w) (y % h) w h (mod_below x w (omega (arith, p))) (mod_below y h (omega (arith, q)))
+centre_within x y w h p q = mul-add-lt (y % h) w (x % w) h (mod_below y h (omega (arith, q))) (mod_below x w (omega (arith, p)))
 
 sum_few : (sites : ℕ) (lists : List (List Attempt)) → All (IsScript sites) lists → sum_by length lists ≤ 100 * length lists
 sum_few sites [] all = omega arith

@@ -1,16 +1,15 @@
 -- A program that meets what the law of the compile scheme asks, and its code.
 --     quark Q { Unsigned(4) v; Void inc(Unsigned(2) k) { v += k; } }
 --     element A { Bool b; Q q; Void behave() { q.inc(1); if (q.v > 2u) b = true; } }
-use Rattle.std.proofs.Common.{◌≡◌, ◌≤◌, ℕ, zero, suc, [], ◌∷◌, length, refl, arith, true, false, Some, None, map}
+use Rattle.std.proofs.Common.{◌≡◌, ◌≤◌, ℕ, zero, suc, [], ◌∷◌, length, refl, arith, true, false, Some, None}
 use Rattle.std.specs.Prelude.{pos, codes}
+use Rattle.ulam_meaning.proofs.Examples.{tools_most, tools_widths}
 use Rattle.ulam_tree.specs.declared.resolved.Step.TheVariants.{Local, Member, Function}
 use Rattle.ulam_tree.specs.declared.op.PairOp.TheVariants.{Add, Gt}
 use Rattle.ulam_tree.specs.Locals.{all_locals}
-use Rattle.atom_layout.specs.Layouts.{class_at, member_bits}
-use Rattle.ulam_meaning.specs.Programs.{Program, Field, fields, members_of, field_at, function_at, behave_of, number_of, slot_types}
+use Rattle.ulam_meaning.specs.Programs.{Program, field_at, function_at, behave_of, number_of, slot_types}
 use Rattle.ulam_meaning.specs.Paths.{scene_of}
 use Rattle.ulam_meaning.specs.Events.{behave_key}
-use Rattle.ulam_meaning.specs.Laws.{bits_of}
 use Rattle.ulam_meaning.proofs.Shorthand.{unsigned, bool, void, class, typed, number_form, truth_form, reads_form, pair_form, arg, no_args, no_more, then_so, no_part, test, if_so, assign_to, does_call, field_member, function_member, element, quark}
 use Rattle.sat_math.specs.declared.Kind.TheVariants as k
 use Rattle.stack_code.specs.declared.instr.Instr.TheVariants.{PushNum, LoadLocal, LoadField, StoreField, AddU, Gt as GtInstr, Fit, JumpFalse, Call, ReturnVoid}
@@ -34,18 +33,6 @@ tools = record {
 tools_code : (element_code tools 1 1).instrs ≡ PushNum (pos 1) ∷ Fit k.Unsigned 2 ∷ Call 1 ∷ LoadField 1 4 k.Unsigned ∷ PushNum (pos 2) ∷ GtInstr ∷ JumpFalse 9 ∷ PushNum (pos 1) ∷ StoreField 0 1 k.Bool ∷ ReturnVoid ∷ LoadField 1 4 k.Unsigned ∷ LoadLocal 0 ∷ AddU ∷ StoreField 1 4 k.Unsigned ∷ ReturnVoid ∷ []
 unfolding tools field_at function_at behave_of number_of all_locals code_of keys reach
 tools_code = refl
-
-tools_widths : (c : ℕ) → class_at tools.layout c ≡ map (λ (f : Field). member_bits (bits_of tools) f.ty f.length) (fields (members_of tools c))
-unfolding tools
-tools_widths zero = refl
-tools_widths (suc zero) = refl
-tools_widths (suc (suc c)) = refl
-
-tools_most : (c : ℕ) → bits_of tools c ≤ 71
-unfolding tools
-tools_most zero = omega arith
-tools_most (suc zero) = omega arith
-tools_most (suc (suc c)) = omega arith
 
 tools_bodies : (c f base : ℕ) → KindedBody (scene_of tools (record { class = c; function = f; base = base })) c (function_at tools c f).body
 unfolding tools field_at function_at all_locals

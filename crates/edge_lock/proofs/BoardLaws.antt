@@ -65,7 +65,7 @@ pub new_given : (a : ℕ) (l : EndLists) → IsNew a l → IsNew a (after_give l
 new_given a l n = record { holds = below-change_last a closed_hold l.holds (λ y. refl) n.holds; refusals = n.refusals }
 
 -- what is known of registers, and whether something was written, in the open hold after each kind of call
-last_shown-append : (xs ys : List Access) (r : ℕ) (o : Option ℕ) → last_shown (xs ++ ys) r o ≡ last_shown ys r (last_shown xs r o)
+pub last_shown-append : (xs ys : List Access) (r : ℕ) (o : Option ℕ) → last_shown (xs ++ ys) r o ≡ last_shown ys r (last_shown xs r o)
 last_shown-append [] ys r o = refl
 last_shown-append (Read q v ∷ xs) ys r o = last_shown-append xs ys r (cond (eqb r q) (Some v) o)
 last_shown-append (Write q v ∷ xs) ys r o = last_shown-append xs ys r (cond (eqb r q) (Some v) o)

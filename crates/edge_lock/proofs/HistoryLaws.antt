@@ -43,7 +43,7 @@ first_read (Write q u ∷ xs) r v e = dite (ℕ_discrete r q)
     (λ apart. let f = first_read xs r v (sym (ap (λ b. cond b None (found_value xs r)) (ne_eqb r q apart)) ∙ e) in
     record { first = Write q u ∷ f.first; rest = f.rest; is = ap (λ l. Write q u ∷ l) f.is; no_write = (apart, f.no_write) })
 
-trace-append : (hs gs : List Hold) → trace (hs ++ gs) ≡ trace hs ++ trace gs
+pub trace-append : (hs gs : List Hold) → trace (hs ++ gs) ≡ trace hs ++ trace gs
 trace-append [] gs = refl
 trace-append (h ∷ hs) gs = ap (λ l. h.accesses ++ l) (trace-append hs gs) ∙ sym (append_assoc h.accesses (trace hs) (trace gs))
 

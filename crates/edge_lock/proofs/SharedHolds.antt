@@ -16,7 +16,7 @@ use Rattle.edge_lock.specs.declared.history.Refusal.{Refusal}
 use Rattle.edge_lock.specs.declared.edge_steps.View.TheVariants.{Paired}
 use Rattle.edge_lock.specs.History.{own, trace, written, value, ReadsTrue, IsAllowed, IsAllowedAccess, OnlyLastOpen, open_hold, key, keys, site_count, IsSide, IsHistory}
 use Rattle.edge_lock.specs.EndLists.{end_lists, is_held, change_last, with_access, closed_hold, last_accesses, last_shown, Shows, known_value, IsHeld}
-use Rattle.edge_lock.specs.SharedRule.{lock_word, IsPart, IsShared, lists_in, Reads, Writes, Gives}
+use Rattle.edge_lock.specs.SharedRule.{lock_word, IsPart, IsShared, lists_in, Reads, Writes, GivesBack}
 use Rattle.edge_lock.proofs.LastHolds.{open_hold-snoc, ends_open, change_last-snoc, last_accesses-snoc, none_or_held, trace-snoc, written-append}
 use Rattle.edge_lock.proofs.HistorySteps.{all-cons, all-none, all-tail, all-head, history_accesses, history_ends, keys-change, value-read, value-write, value-ended, own-here, own-there}
 use Rattle.edge_lock.proofs.SharedSteps.{S, M, GoesOn, moved}
@@ -199,7 +199,7 @@ writes size slots id e q w v me h inside ok word =
       refl,
     )))
 
-pub gives : (size slots id e : ℕ) (me : M) → Held size e me → Allows (IsShared size) slots id me 1 (λ _. 0) (λ _. Gives (step slots 1 0 0 none) me 0)
+pub gives : (size slots id e : ℕ) (me : M) → Held size e me → Allows (IsShared size) slots id me 1 (λ _. 0) (λ _. GivesBack (step slots 1 0 0 none) me 0)
 gives size slots id e me h =
-    at_view (λ m. Allows (IsShared size) slots id m 1 (λ _. 0) (λ _. Gives (step slots 1 0 0 none) m 0)) size e me h (λ mine rs held s r _ at _.
+    at_view (λ m. Allows (IsShared size) slots id m 1 (λ _. 0) (λ _. GivesBack (step slots 1 0 0 none) m 0)) size e me h (λ mine rs held s r _ at _.
     (Paired size e (change_last closed_hold mine) rs, keeps, tt, gives_one e mine rs held size s r id at, refl))

@@ -121,8 +121,8 @@ abbrev pub Writes : Taken → Seated → ℕ → Seated → Type 0
 Writes step me word next = next ≡ (view_after_change (with_access (Write (step.word - 3) step.first)) me.0, me.1)
 
 -- the store of 0 to the lock word by the end that has the edge
-abbrev pub Gives : Taken → Seated → ℕ → Seated → Type 0
-Gives step me word next = next ≡ (view_after_change closed_hold me.0, me.1)
+abbrev pub GivesBack : Taken → Seated → ℕ → Seated → Type 0
+GivesBack step me word next = next ≡ (view_after_change closed_hold me.0, me.1)
 
 -- the view of the seat that keeps both ends' lists
 abbrev pub both_of : View → View → View

@@ -1,5 +1,5 @@
 -- The logs of the tiles, and the journal that they make.
-use Rattle.std.specs.Prelude.{ℕ, ◌≡◌, ◌≤◌, ◌<◌, ◌+◌, ◌⊎◌, ◌==◌, Bool, ◌&&◌, ◌||◌, nat_lt, List, All, AllPairs, length, map, flat_map, IsPermutation}
+use Rattle.std.specs.Prelude.{ℕ, ◌≡◌, ◌≤◌, ◌<◌, ◌+◌, ◌⊎◌, ◌==◌, Bool, ◌&&◌, ◌||◌, nat_lt, List, All, AllPairs, length, map, flat_map, IsPermutation, filter}
 use Rattle.std.specs.List.{range_with_len}
 use Rattle.cell_grid.specs.declared.record.Record.{Record}
 use Rattle.cell_grid.specs.Records.{Precedes}
@@ -66,3 +66,11 @@ pub record IsJournal (logs : List LogValue) : Type 0 where
   pub one : (rs : List Record) → IsPermutation (flat_map records_of logs) rs → AllPairs Precedes rs → rs ≡ records_in logs
   -- its abandoned attempts are in order of tile and then attempt
   pub abandoned : AllPairs ComesBefore (abandoned_in logs)
+
+-- the events of a tile
+abbrev pub of_tile : ℕ → List Record → List Record
+of_tile t records = filter (λ (r : Record). r.tile == t) records
+
+-- the abandoned attempts of a tile
+abbrev pub gone_of : ℕ → List Abandoned → List Abandoned
+gone_of t abandoned = filter (λ (g : Abandoned). g.tile == t) abandoned

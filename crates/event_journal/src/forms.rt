@@ -1,8 +1,9 @@
 //! The forms of the lines of a report.
 ghost use Rattle.std.specs.Prelude.{◌≡◌, ◌^◌, is_some, option_copied, option_map};
+ghost use Rattle.cell_grid.specs.Grid.{below};
 ghost use Rattle.text_lines.specs.Fields.{args_of, fields, hex_of};
 ghost use Rattle.text_lines.specs.Forms.{one_field, one_number, with};
-ghost use Rattle.event_journal.specs.Forms.{abandoned_form, below, count_form, is_atom, is_header, is_name_state, is_one, record_form, site_form, take_attempt, take_small};
+ghost use Rattle.event_journal.specs.Forms.{abandoned_form, count_form, is_atom, is_header, is_name_state, is_one, record_form, site_form, take_attempt, take_small};
 
 use crate::abandoned::Abandoned;
 use cell_grid::Record;

@@ -1,20 +1,20 @@
 -- What the calls of the machine do, beside the definition of the stack machine.
 use Rattle.std.specs.Prelude.{◌≡◌, ℕ, ◌+◌, ◌*◌, ◌≤◌, ◌<◌, true, ℤ, List, [], ◌∷◌, length, Option, Some, None, slice_get}
 use Rattle.bit_field.specs.Atom.{AtomValue}
-use Rattle.window_sites.specs.Window.{WindowValue}
+use Rattle.window_sites.specs.Window.{WindowValue, emptied}
 use Rattle.sat_math.specs.declared.Kind.TheVariants.{Bits}
 use Rattle.sat_math.specs.declared.NumType.{NumType}
 use Rattle.sat_math.specs.Numbers.{cast, IsNumType}
-use Rattle.sat_math.specs.Operations.{IsSigned}
+use Rattle.sat_math.specs.Operations.{IsSigned, shifted_up, shifted_down, comparison}
 use Rattle.feast_base.specs.Counting.{Counted}
 use Rattle.event_machine.specs.Ticks.{Ticks}
 use Rattle.std.specs.Prelude.{int_div, int_rem, bit_and, bit_or, bit_xor}
 use Rattle.datum.specs.declared.Datum.{Datum}
-use Rattle.stack_code.specs.Sorts.{exact, divided, sum, difference, product, negated, on_bits, flip, left, right, tested, not_bool, num_type}
-use Rattle.stack_code.specs.Machine.{Held, Led, Goes, Fails, Ends, Lacks, State, CodeValue, FunctionValue, emptied, iter, count, start}
+use Rattle.stack_code.specs.Sorts.{exact, divided, sum, difference, product, negated, on_bits, flip, not_bool, num_type}
+use Rattle.stack_code.specs.Machine.{Held, Led, Goes, Fails, Ends, Lacks, State, CodeValue, FunctionValue, iter, count, start}
 use Rattle.stack_code.specs.Valid.{type_fits, args_fit, valid}
 use Rattle.event_machine.specs.declared.ending.Leads.{Leads}
-use Rattle.event_machine.specs.declared.ending.Leads.TheVariants.{On, Fail, Done, Want}
+use Rattle.event_machine.specs.declared.ending.Leads.TheVariants.{On, Fail, Done, Lack}
 use Rattle.event_machine.specs.declared.numbers.PairOp.{PairOp}
 use Rattle.event_machine.specs.declared.numbers.PairOp.TheVariants.{Add, Sub, Mul, Div, Rem, And, Or, Xor, Shl, Shr, Test}
 use Rattle.event_machine.specs.declared.numbers.SingleOp.{SingleOp}
@@ -28,35 +28,35 @@ abbrev pub Works : Led Held → Held → Leads → Type 0
 Works (Goes h) new On = h ≡ new
 Works (Goes h) new (Fail n) = ⊥
 Works (Goes h) new Done = ⊥
-Works (Goes h) new Want = ⊥
+Works (Goes h) new Lack = ⊥
 Works (Fails m) new On = ⊥
 Works (Fails m) new (Fail n) = m ≡ n
 Works (Fails m) new Done = ⊥
-Works (Fails m) new Want = ⊥
+Works (Fails m) new Lack = ⊥
 Works (Ends w) new l = ⊥
 Works Lacks new On = ⊥
 Works Lacks new (Fail n) = ⊥
 Works Lacks new Done = ⊥
-Works Lacks new Want = Unit {0}
+Works Lacks new Lack = Unit {0}
 
 -- the same for a whole machine
 abbrev pub StepsTo : Led State → State → Leads → Type 0
 StepsTo (Goes s) new On = s ≡ new
 StepsTo (Goes s) new (Fail n) = ⊥
 StepsTo (Goes s) new Done = ⊥
-StepsTo (Goes s) new Want = ⊥
+StepsTo (Goes s) new Lack = ⊥
 StepsTo (Fails m) new On = ⊥
 StepsTo (Fails m) new (Fail n) = m ≡ n
 StepsTo (Fails m) new Done = ⊥
-StepsTo (Fails m) new Want = ⊥
+StepsTo (Fails m) new Lack = ⊥
 StepsTo (Ends w) new On = ⊥
 StepsTo (Ends w) new (Fail n) = ⊥
 StepsTo (Ends w) new Done = w ≡ new.held.window
-StepsTo (Ends w) new Want = ⊥
+StepsTo (Ends w) new Lack = ⊥
 StepsTo Lacks new On = ⊥
 StepsTo Lacks new (Fail n) = ⊥
 StepsTo Lacks new Done = ⊥
-StepsTo Lacks new Want = Unit {0}
+StepsTo Lacks new Lack = Unit {0}
 
 -- what goes on with operands that were found
 abbrev pub with_any : Option Datum → List Datum → (Datum → List Datum → Led Held) → Led Held
@@ -94,9 +94,9 @@ pair_of (Rem how) = divided how int_rem
 pair_of And = on_bits bit_and
 pair_of Or = on_bits bit_or
 pair_of Xor = on_bits bit_xor
-pair_of (Shl w) = left w
-pair_of Shr = right
-pair_of (Test op) = tested op
+pair_of (Shl w) = shifted_up w
+pair_of Shr = shifted_down
+pair_of (Test op) = comparison op
 
 abbrev pub PairFits : PairOp → Type 0
 PairFits (Shl w) = type_fits (num_type Bits w) ≡ true

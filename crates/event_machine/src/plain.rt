@@ -1,9 +1,10 @@
 //! The plain instructions on numbers, slots and sites: a function for each sort.
 
-ghost use Rattle.std.specs.Prelude.{◌≡◌, ◌≤◌, ℕ, length, true};
+ghost use Rattle.std.specs.Prelude.{◌≡◌, ◌≤◌, ℕ, length, true, pos};
+ghost use Rattle.sat_math.specs.Operations.{one_in};
 ghost use Rattle.sat_math.specs.Numbers.{cast};
-ghost use Rattle.window_sites.specs.Window.{live_at};
-ghost use Rattle.stack_code.specs.Sorts.{Give, One, Two, Load, Store, Drop, Own, Site, SetSite, Exchange, Ask, Draw, Same, Double, is_empty_at, as_drawn, one_in, num_type};
+ghost use Rattle.window_sites.specs.Window.{live_at, is_empty_at};
+ghost use Rattle.stack_code.specs.Sorts.{Give, One, Two, Load, Store, Drop, Own, Site, SetSite, Exchange, Ask, Draw, Same, Double, num_type};
 ghost use Rattle.stack_code.specs.Machine.{work};
 ghost use Rattle.stack_code.specs.Valid.{type_fits};
 ghost use Rattle.event_machine.specs.Works.{Works, pair_of, PairFits, single_of, SingleFits};
@@ -36,7 +37,7 @@ pub fn single(running: &mut Activation, op: SingleOp) -> Leads
             running.push(Datum::Number(turn(op, a)));
             Leads::On
         }
-        None => Leads::Want,
+        None => Leads::Lack,
     }
 }
 
@@ -65,7 +66,7 @@ pub fn pair(running: &mut Activation, op: PairOp) -> Leads
             }
             None => Leads::Fail(3),
         },
-        None => Leads::Want,
+        None => Leads::Lack,
     }
 }
 
@@ -80,7 +81,7 @@ pub fn load(running: &mut Activation, s: u8) -> Leads
             running.push(x);
             Leads::On
         }
-        None => Leads::Want,
+        None => Leads::Lack,
     }
 }
 
@@ -94,7 +95,7 @@ pub fn store(running: &mut Activation, s: u8) -> Leads
             running.set_slot(s, x);
             Leads::On
         }
-        None => Leads::Want,
+        None => Leads::Lack,
     }
 }
 
@@ -114,7 +115,7 @@ pub fn exchange(running: &mut Activation) -> Leads
             },
             None => Leads::Fail(4),
         },
-        None => Leads::Want,
+        None => Leads::Lack,
     }
 }
 
@@ -125,7 +126,7 @@ pub fn drop_top(running: &mut Activation) -> Leads
 {
     match running.any() {
         Some(_) => Leads::On,
-        None => Leads::Want,
+        None => Leads::Lack,
     }
 }
 
@@ -159,7 +160,7 @@ pub fn load_site(running: &mut Activation) -> Leads
             }
             None => Leads::Fail(4),
         },
-        None => Leads::Want,
+        None => Leads::Lack,
     }
 }
 
@@ -177,9 +178,9 @@ pub fn store_site(running: &mut Activation) -> Leads
                 }
                 None => Leads::Fail(4),
             },
-            None => Leads::Want,
+            None => Leads::Lack,
         },
-        None => Leads::Want,
+        None => Leads::Lack,
     }
 }
 
@@ -198,7 +199,7 @@ pub fn is_live(running: &mut Activation) -> Leads
             }
             None => Leads::Fail(4),
         },
-        None => Leads::Want,
+        None => Leads::Lack,
     }
 }
 
@@ -217,7 +218,7 @@ pub fn is_empty(running: &mut Activation) -> Leads
             }
             None => Leads::Fail(4),
         },
-        None => Leads::Want,
+        None => Leads::Lack,
     }
 }
 
@@ -225,7 +226,7 @@ pub fn is_empty(running: &mut Activation) -> Leads
 #[inline(always)]
 pub fn create(running: &mut Activation) -> Leads
     requires { length running.old.stack ≤ 512 }
-    ensures { (kind : ℕ) → Works (work kind (Draw as_drawn) running.old) running.new result }
+    ensures { (kind : ℕ) → Works (work kind (Draw pos) running.old) running.new result }
 {
     match running.number() {
         Some(v) => match bound(v) {
@@ -236,7 +237,7 @@ pub fn create(running: &mut Activation) -> Leads
             }
             None => Leads::Fail(5),
         },
-        None => Leads::Want,
+        None => Leads::Lack,
     }
 }
 
@@ -255,7 +256,7 @@ pub fn one_in(running: &mut Activation) -> Leads
             }
             None => Leads::Fail(5),
         },
-        None => Leads::Want,
+        None => Leads::Lack,
     }
 }
 
@@ -270,7 +271,7 @@ pub fn same(running: &mut Activation, k: u16) -> Leads
             running.push(Datum::Number(of_bool(atom.kind() == k)));
             Leads::On
         }
-        None => Leads::Want,
+        None => Leads::Lack,
     }
 }
 
@@ -286,6 +287,6 @@ pub fn double(running: &mut Activation) -> Leads
             running.push(Datum::Number(v));
             Leads::On
         }
-        None => Leads::Want,
+        None => Leads::Lack,
     }
 }

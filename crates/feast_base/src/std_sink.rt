@@ -1,7 +1,7 @@
 //! Standard output.
 ghost use Rattle.std.specs.Prelude.{◌≡◌, ℕ, ◌+◌, ◌-◌, ◌^◌, ◌≤◌, ◌<◌, IsErr, IsOk, None, OnErr, length};
 ghost use Rattle.feast_base.specs.Loading.{Puts, WritesWhole};
-ghost use Rattle.feast_base.specs.Outside.{told};
+ghost use Rattle.feast_base.specs.Outside.{sink_state};
 
 use crate::{Sink, SinkFailed};
 use std::io;
@@ -63,7 +63,7 @@ impl<R: Print> Sink for StdSink<'_, R> {
     fn put(&mut self, bytes: &[u8]) -> Result<(), SinkFailed>
         requires some { 0 < length bytes.now }
         requires room { self.old < 2 ^ 64 - 1 }
-        ensures puts { Puts (told (λ _. None) (λ s. s) (λ _ _. Unit {0}) self.old) (told (λ _. None) (λ s. s) (λ _ _. Unit {0}) self.new) bytes.now result }
+        ensures puts { Puts (sink_state (λ _. None) (λ s. s) (λ _ _. Unit {0}) self.old) (sink_state (λ _. None) (λ s. s) (λ _ _. Unit {0}) self.new) bytes.now result }
         ensures cause { IsErr result → (m : ℕ) → length bytes.now ≤ m → Unit {0} }
         ensures later { IsOk result → (m : ℕ) → Unit {0} → Unit {0} }
         ensures once { OnErr result (self.new ≡ self.old + 1) }

@@ -1,6 +1,6 @@
 //! The stages of a replay.
 ghost use Rattle.std.specs.Prelude.{◌≡◌, ◌≤◌, ◌++◌, All, IfOk, codes, length, map, string_bytes};
-ghost use Rattle.feast_base.specs.Outside.{stock};
+ghost use Rattle.feast_base.specs.Outside.{shelf_state};
 ghost use Rattle.feast_run.specs.Answer.{atoms_after, form_answer, replay_of};
 ghost use Rattle.feast_run.specs.Forms.{most_files, replay};
 ghost use Rattle.feast_run.specs.Outputs.{IsWritable, output_text};
@@ -11,9 +11,9 @@ ghost use Rattle.world_runs.specs.Worlds.{IsLiveEvent};
 ghost use Rattle.world_text.specs.Values.{world_value};
 
 use crate::grids::grid_after;
+use crate::halt::Halt;
 use crate::journals::load_journal;
 use crate::output::Output;
-use crate::stop::Stop;
 use crate::worlds::{Ready, make_ready};
 use cell_grid::{Grid, Record};
 use feast_base::{Name, NoMemory, Shelf};
@@ -48,18 +48,16 @@ fn replay_rest<'a, F: Shelf>(
     shelf: &mut F,
     word: &'a str,
     ready: Ready,
-) -> Result<Output, Stop<'a>>
+) -> Result<Output, Halt<'a>>
     requires { IsReady ready }
     ensures files { F.files shelf.new ≡ F.files shelf.old }
-    ensures moves { Moves (stock F.files F.failed F.may_fail shelf.old) (stock F.files F.failed F.may_fail shelf.new) result }
+    ensures moves { Moves (shelf_state F.files F.failed F.may_fail shelf.old) (shelf_state F.files F.failed F.may_fail shelf.new) result }
     ensures tells { Tells output_text (replay_of (F.files shelf.old) word.now (ready_value ready)) result }
     ensures writable { IfOk result IsWritable }
 {
-    let journal = load_journal(alloc, shelf, word, &ready.world)?;
-    match replay_text(alloc, &ready, journal.records.as_slice()) {
-        Ok(text) => Ok(Output::Text(text)),
-        Err(NoMemory) => Err(Stop::NoMemory),
-    }
+    let journal = load_journal(alloc, shelf, word, &ready.map, &ready.world)?;
+    let text = replay_text(alloc, &ready, journal.records.as_slice())?;
+    Ok(Output::Text(text))
 }
 
 /// The stages of a replay, up to its text.
@@ -69,10 +67,10 @@ pub fn replay_stages<'a, F: Shelf>(
     world: &'a str,
     journal: &'a str,
     words: &'a [String],
-) -> Result<Output, Stop<'a>>
+) -> Result<Output, Halt<'a>>
     requires { length words.now ≤ most_files }
     ensures files { F.files shelf.new ≡ F.files shelf.old }
-    ensures moves { Moves (stock F.files F.failed F.may_fail shelf.old) (stock F.files F.failed F.may_fail shelf.new) result }
+    ensures moves { Moves (shelf_state F.files F.failed F.may_fail shelf.old) (shelf_state F.files F.failed F.may_fail shelf.new) result }
     ensures tells { Tells output_text (form_answer (F.files shelf.old) (replay world.now journal.now (map string_bytes words.now))) result }
     ensures writable { IfOk result IsWritable }
 {

@@ -1,6 +1,7 @@
 -- The source is accepted, and its elements are Wander and Stone, in this order.
 use Rattle.std.proofs.Common.{◌≡◌, ◌<◌, ◌-◌, ◌^◌, List, [], ◌∷◌, All, Result, Ok, Err, codes, length, refl, sym, ap, subst, ◌∙◌, inr, arith}
 use Rattle.std.proofs.lemmas.List.Elements.{All-cons, All-nil}
+use Rattle.ulam_heirs.specs.Laws.{no_heads}
 use Rattle.element_set.proofs.OneSet.{set_one}
 use Rattle.element_set.specs.Sets.{SetValue, AcceptsFiles, Builds, RefusesFiles, element_names, set_value}
 use Rattle.element_set.specs.declared.fault.BuildFault.{BuildFault}
@@ -14,7 +15,7 @@ use Rattle.generated_world.proofs.Coding.{are_short, own_set, two_names_of}
 use Rattle.generated_world.proofs.Lexing.{tokens, are_tokens, few_tokens}
 use Rattle.generated_world.proofs.Naming.{classes, are_classes, not_wide}
 use Rattle.generated_world.proofs.Parsing.{are_heads, is_flat, is_tree, no_fault, seen}
-use Rattle.generated_world.proofs.Trees.{no_heads, tree}
+use Rattle.generated_world.proofs.Trees.{tree}
 use Rattle.generated_world.proofs.Typing.{typed, are_typed}
 
 read : tree_of 0 source_text (Ok (record { items = tree; heads = no_heads }))

@@ -1,6 +1,7 @@
 -- The source has its tree.
 use Rattle.std.proofs.Common.{◌≡◌, List, [], ◌∷◌, None, Ok, Err, refl}
 use Rattle.std.specs.Prelude.{flat_map}
+use Rattle.ulam_heirs.specs.Laws.{no_heads}
 use Rattle.ulam_heirs.specs.Faults.{first_fault}
 use Rattle.ulam_heirs.specs.Files.{all_heirs, flat_files}
 use Rattle.ulam_heirs.specs.Heads.{heads_of, role_of, tokens_left}
@@ -20,7 +21,7 @@ use Rattle.ulam_tree.specs.Raw.{Item}
 use Rattle.ulam_tree.specs.Ways.{leads}
 use Rattle.generated_world.specs.Elements.{source_text}
 use Rattle.generated_world.proofs.Lexing.{pieces, tokens, are_tokens}
-use Rattle.generated_world.proofs.Trees.{tree, no_heads}
+use Rattle.generated_world.proofs.Trees.{tree}
 
 -- what the parser sees
 unfoldable pub seen : List Tok

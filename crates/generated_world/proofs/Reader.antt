@@ -2,7 +2,7 @@
 use Rattle.std.proofs.Common.{ℕ, zero, suc, ◌≡◌, ◌<◌, ◌≤◌, ◌^◌, Bool, true, false, cond, not, ◌&&◌, List, [], ◌∷◌, ◌++◌, length, get_or, take, drop, Option, Some, None, refl, sym, ap, subst, ◌∙◌, arith, nat_lt, take-append-drop}
 use Rattle.std.specs.Prelude.{◌==◌}
 use Rattle.std.specs.List.{prefix_len}
-use Rattle.std.proofs.lemmas.Bool.{and_parts, ltb-true, false≢true}
+use Rattle.std.proofs.lemmas.Bool.{and_parts, ltb-true, not-true}
 use Rattle.std.proofs.lemmas.List.{append-nil}
 use Rattle.ulam_lex.specs.declared.bytes.Class.{Class}
 use Rattle.ulam_lex.specs.declared.bytes.Class.TheVariants.{White, Small, Capital, Digit, Mark}
@@ -62,16 +62,12 @@ decimal_by text digit h =
     (λ rest e. not_same (get_or text 1 0) 98 a.0 (ap (λ l. get_or l 1 0) e), λ rest e. not_same (get_or text 1 0) 120 b.0 (ap (λ l. get_or l 1 0) e))
     (ltb-true _ _ c.0) (ltb-true _ _ c.1)
 
-flipped : (b : Bool) → not b ≡ true → b ≡ false
-flipped true h = absurd (false≢true h)
-flipped false h = refl
-
 -- no sign of two or three bytes
 no_longer : (text : List ℕ) → not (is_sign (take 2 text)) ≡ true → not (is_sign (take 3 text)) ≡ true → (m : ℕ) → 1 < m → m ≤ 3 → is_sign (take m text) ≡ false
 no_longer text two three zero lt le = absurd (omega arith)
 no_longer text two three (suc zero) lt le = absurd (omega arith)
-no_longer text two three (suc (suc zero)) lt le = flipped _ two
-no_longer text two three (suc (suc (suc zero))) lt le = flipped _ three
+no_longer text two three (suc (suc zero)) lt le = not-true _ two
+no_longer text two three (suc (suc (suc zero))) lt le = not-true _ three
 no_longer text two three (suc (suc (suc (suc m)))) lt le = absurd (omega arith)
 
 sign_by : (text : List ℕ) → class_of (get_or text 0 0) ≡ Mark → is_short_sign text ≡ true → IsStart text (Piece (Token Sign) 1)

@@ -1,7 +1,6 @@
 -- The tree of the source.
 use Rattle.std.proofs.Common.{ℕ, List, [], ◌∷◌, Some, None, false, codes}
 use Rattle.feast_base.specs.declared.place.Place.{Place}
-use Rattle.ulam_heirs.specs.Heads.{Heads}
 use Rattle.ulam_tree.specs.declared.op.PairOp.TheVariants.{Add}
 use Rattle.ulam_tree.specs.Raw.{Word, TypeRef, Path, number, reads, calls, pair, arg, no_args, test, if_so, declares, does, no_part, then_so, no_more, field, function, Item, class}
 
@@ -46,7 +45,3 @@ stone = class (record {
 
 unfoldable pub tree : List Item
 tree = wander ∷ stone ∷ []
-
--- nothing is said of bases
-abbrev pub no_heads : Heads
-no_heads = record { bases = []; virtuals = [] }

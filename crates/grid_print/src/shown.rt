@@ -1,9 +1,10 @@
 //! The atoms of a grid.
 ghost use Rattle.std.specs.Prelude.{◌≡◌, ◌≤◌, ◌⊎◌, length, map};
+ghost use Rattle.feast_base.specs.TypeNames.{name_of};
 ghost use Rattle.bit_field.specs.Atom.{empty_atom};
 ghost use Rattle.feast_base.specs.Appending.{Appends};
 ghost use Rattle.text_lines.specs.Lines.{text_of};
-ghost use Rattle.grid_print.specs.Report.{AreNamed, atom_fields, atoms_text, name_of, shown, shown_from, shown_one};
+ghost use Rattle.grid_print.specs.Report.{AreNamed, atom_fields, atoms_text, shown, shown_from, shown_one};
 
 use bit_field::Atom;
 use cell_grid::Grid;

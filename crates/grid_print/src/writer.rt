@@ -1,6 +1,6 @@
 //! The report of a run.
 ghost use Rattle.std.specs.Prelude.{◌≡◌, ◌-◌, ◌^◌, ◌<◌, [], IfOk};
-ghost use Rattle.feast_base.specs.Outside.{told};
+ghost use Rattle.feast_base.specs.Outside.{sink_state};
 ghost use Rattle.event_journal.specs.Logs.{abandoned_in, records_in};
 ghost use Rattle.grid_print.specs.Report.{AreNamed, report};
 ghost use Rattle.grid_print.specs.Writing.{Writes};
@@ -41,7 +41,7 @@ pub fn write_report<K: Sink>(
 ) -> Result<(), WriteFault>
     requires named { AreNamed names.now grid.now.atoms }
     requires room { K.faults sink.old < 2 ^ 64 - 1 }
-    ensures { Writes (told K.written K.faults K.may_fail sink.old) (told K.written K.faults K.may_fail sink.new) (report names.now grid.now (records_in journal.now) (abandoned_in journal.now)) result }
+    ensures { Writes (sink_state K.written K.faults K.may_fail sink.old) (sink_state K.written K.faults K.may_fail sink.new) (report names.now grid.now (records_in journal.now) (abandoned_in journal.now)) result }
 {
     let text = text(alloc, grid, journal, names)?;
     put_pieces(sink, text.as_slice())?;

@@ -1,19 +1,19 @@
 -- What the tests of the entries say together.
-use Rattle.std.proofs.Common.{ℕ, ◌≡◌, ◌≤◌, ◌<◌, ◌==◌, List, [], ◌∷◌, All, AllPairs, refl, sym, ap, subst, arith, ◌⊎◌, inl, inr, ⊎_elim, true, ◌&&◌, ◌∙◌, length}
+use Rattle.std.proofs.Common.{ℕ, ◌≡◌, ◌≤◌, ◌<◌, ◌==◌, List, [], ◌∷◌, All, AllPairs, refl, sym, ap, subst, arith, ◌⊎◌, inl, inr, ⊎_elim, true, ◌&&◌, ◌∙◌, length, eq-eqb, eqb-true}
 use Rattle.std.proofs.lemmas.Bool.{cases_lt}
 use Rattle.std.proofs.lemmas.Bool.Decides.{nat_tests}
 use Rattle.std.proofs.lemmas.Option.{slice_get_within}
 use Rattle.std.proofs.lemmas.List.{get_or_past}
-use Rattle.list_laws.proofs.Members.{In, InOrder, in_filter, filter_in, order-filter}
+use Rattle.list_laws.proofs.Members.{In, InOrder, in_filter, filter_in, order-filter, pairs_order, contains_in, in_contains, in_all}
 use Rattle.cell_grid.specs.Records.{Precedes}
 use Rattle.cell_grid.specs.declared.record.Record.{Record}
 use Rattle.draw_stream.specs.Plans.{PlanValue, attempts}
 use Rattle.tile_map.specs.Plane.{MapValue, tiles_of}
 use Rattle.event_journal.specs.Accounts.{IsAccounted, IsEventOf, IsGivenUpOf, events_at}
-use Rattle.event_journal.specs.Logs.{ComesBefore}
+use Rattle.event_journal.specs.Logs.{ComesBefore, of_tile, gone_of}
 use Rattle.event_journal.specs.declared.abandoned.Abandoned.{Abandoned}
-use Rattle.journal_check.specs.Telling.{gone_of, of_tile, told}
-use Rattle.journal_check.proofs.Lists.{all_in, contains_in, count_filter, count_less, count_two, in_all, in_contains, order_both, order_two, order_with, pairs_order}
+use Rattle.journal_check.specs.Telling.{told}
+use Rattle.journal_check.proofs.Lists.{all_in, count_filter, count_less, count_two, order_both, order_two, order_with}
 use Rattle.journal_check.proofs.Told.{EventIn, GoneIn, IsTold, told_from, told_is}
 
 -- what is tested: both lists are in order, all entries are of tiles, and each tile's are its attempts
@@ -24,24 +24,18 @@ pub record AreTested (m : MapValue) (plan : PlanValue) (records : List Record) (
   pub gone_tiles : All (λ (g : Abandoned). g.tile < tiles_of m) abandoned
   pub each : (t : ℕ) → t < tiles_of m → told m t 0 (attempts plan t) (of_tile t records) (gone_of t abandoned) ≡ true
 
-same_tile : (a b : ℕ) → (a == b) ≡ true → a ≡ b
-same_tile a b e = grind (arith, nat_tests)
-
-tile_test : (a b : ℕ) → a ≡ b → (a == b) ≡ true
-tile_test a b e = grind (arith, nat_tests)
-
 module _ (m : MapValue) (plan : PlanValue) (records : List Record) (abandoned : List Abandoned) (lists : length plan.lists ≡ tiles_of m) where
   in_tile : (t : ℕ) (r : Record) → In r (of_tile t records) → In r records × (r.tile ≡ t)
-  in_tile t r i = let f = filter_in (λ (s : Record). s.tile == t) records r i in (f.0, same_tile r.tile t f.1)
+  in_tile t r i = let f = filter_in (λ (s : Record). s.tile == t) records r i in (f.0, eqb-true r.tile t f.1)
 
   in_gone : (t : ℕ) (g : Abandoned) → In g (gone_of t abandoned) → In g abandoned × (g.tile ≡ t)
-  in_gone t g i = let f = filter_in (λ (s : Abandoned). s.tile == t) abandoned g i in (f.0, same_tile g.tile t f.1)
+  in_gone t g i = let f = filter_in (λ (s : Abandoned). s.tile == t) abandoned g i in (f.0, eqb-true g.tile t f.1)
 
   of_its : (r : Record) → In r records → In r (of_tile r.tile records)
-  of_its r i = in_filter (λ (s : Record). s.tile == r.tile) records r i (tile_test r.tile r.tile refl)
+  of_its r i = in_filter (λ (s : Record). s.tile == r.tile) records r i (eq-eqb r.tile r.tile refl)
 
   gone_its : (g : Abandoned) → In g abandoned → In g (gone_of g.tile abandoned)
-  gone_its g i = in_filter (λ (s : Abandoned). s.tile == g.tile) abandoned g i (tile_test g.tile g.tile refl)
+  gone_its g i = in_filter (λ (s : Abandoned). s.tile == g.tile) abandoned g i (eq-eqb g.tile g.tile refl)
 
   -- a tile with attempts is one of the map
   has_tile : (t : ℕ) (i : ℕ) → i < length (attempts plan t) → t < tiles_of m
@@ -74,7 +68,7 @@ module _ (m : MapValue) (plan : PlanValue) (records : List Record) (abandoned : 
       rises : (r s : Record) → In r records → In s records → r.tile ≡ s.tile → r.attempt < s.attempt → r.stamp < s.stamp
       rises r s i j e lt =
           let t = r.tile in
-          let there : In s (of_tile t records) = in_filter (λ (q : Record). q.tile == t) records s j (tile_test s.tile t (sym e)) in
+          let there : In s (of_tile t records) = in_filter (λ (q : Record). q.tile == t) records s j (eq-eqb s.tile t (sym e)) in
           let told_ = entries t (all_in (λ (q : Record). q.tile < tiles_of m) records k.tiles r i) in
           let o = order_both Precedes (λ (a b : Record). a.attempt < b.attempt) (of_tile t records) (order-filter Precedes (λ (q : Record). q.tile == t) records (pairs_order Precedes records k.order)) told_.rising in
           ⊎_elim {C = r.stamp < s.stamp} (λ (same : r ≡ s). absurd (omega (arith, lt, ap (λ (q : Record). q.attempt) same)))

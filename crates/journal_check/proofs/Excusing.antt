@@ -1,10 +1,9 @@
 -- The excuse by the marks of the edge is the excuse by the events.
-use Rattle.std.proofs.Common.{ℕ, ◌≡◌, ◌≤◌, ◌<◌, ◌+◌, ◌==◌, List, refl, sym, ap, subst, arith, ◌⊎◌, inl, inr, ⊎_elim, true, ◌∙◌, length, filter}
+use Rattle.std.proofs.Common.{ℕ, ◌≡◌, ◌≤◌, ◌<◌, ◌+◌, ◌==◌, List, refl, sym, ap, subst, arith, ◌⊎◌, inl, inr, ⊎_elim, true, ◌∙◌, length, filter, eq-eqb, eqb-true}
 use Rattle.std.specs.Prelude.{Contains}
 use Rattle.std.specs.List.{Any, list_any}
-use Rattle.std.proofs.lemmas.Bool.Decides.{nat_tests}
 use Rattle.std.proofs.lemmas.Option.{same_Some}
-use Rattle.list_laws.proofs.Members.{filter_in, in_any, in_filter, in_map, map_in}
+use Rattle.list_laws.proofs.Members.{filter_in, in_any, in_filter, in_map, map_in, contains_in, in_contains}
 use Rattle.list_laws.proofs.Tests.{both, together}
 use Rattle.cell_grid.specs.declared.record.Record.{Record}
 use Rattle.draw_stream.specs.declared.attempt.Attempt.{Attempt}
@@ -19,19 +18,13 @@ use Rattle.journal_check.specs.Excuses.{IsExcusedOn, IsHeld, gone_needs}
 use Rattle.journal_check.specs.Marks.{AreApart, AreMarks, is_on_edge, lane, mark_of, marks_on}
 use Rattle.journal_check.specs.declared.mark.Mark.{Mark}
 use Rattle.journal_check.proofs.Latest.{any_in, needs_in}
-use Rattle.journal_check.proofs.Lists.{all_in, contains_in, in_contains}
-
-same_test : (a b : ℕ) → a ≡ b → (a == b) ≡ true
-same_test a b e = grind (arith, nat_tests)
-
-test_same : (a b : ℕ) → (a == b) ≡ true → a ≡ b
-test_same a b e = grind (arith, nat_tests)
+use Rattle.journal_check.proofs.Lists.{all_in}
 
 pub any_contains : (es : List ℕ) (e : ℕ) → list_any (λ f. f == e) es ≡ true → Contains es e
 any_contains es e h = in_contains es e (any_in es e h)
 
 pub contains_any : (es : List ℕ) (e : ℕ) → Contains es e → list_any (λ f. f == e) es ≡ true
-contains_any es e c = in_any (λ f. f == e) es e (contains_in es e c) (same_test e e refl)
+contains_any es e c = in_any (λ f. f == e) es e (contains_in es e c) (eq-eqb e e refl)
 
 pub needs_known : (m : MapValue) (t : ℕ) (s : Site) (e : ℕ) → list_any (λ f. f == e) (needs_of m t s) ≡ true → e < length (pairs_of m)
 needs_known m t s e h = needs_in m t s e (any_in (needs_of m t s) e h)
@@ -44,14 +37,14 @@ module _ (m : MapValue) (plan : PlanValue) (records : List Record) (abandoned : 
   mark_in : (e t : ℕ) (r : Record) → Contains records r → r.tile ≡ t → Contains (edges_of m r) e → Contains (marks_on m t e records) (mark_of r)
   mark_in e t r c tile needs =
       in_contains (marks_on m t e records) (mark_of r) (in_map mark_of (filter (is_on_edge m t e) records) r
-      (in_filter (is_on_edge m t e) records r (contains_in records r c) (together (r.tile == t) (needs_edge m e r) (same_test r.tile t tile) (contains_any (edges_of m r) e needs))))
+      (in_filter (is_on_edge m t e) records r (contains_in records r c) (together (r.tile == t) (needs_edge m e r) (eq-eqb r.tile t tile) (contains_any (edges_of m r) e needs))))
 
   in_mark : (e t : ℕ) (a : Mark) → Contains (marks_on m t e records) a → (r : Record) × Contains records r × (r.tile ≡ t) × Contains (edges_of m r) e × (a ≡ mark_of r)
   in_mark e t a c =
       let q = map_in mark_of (filter (is_on_edge m t e) records) a (contains_in (marks_on m t e records) a c) in
       let f = filter_in (is_on_edge m t e) records q.0 q.1 in
       let p = both (q.0.tile == t) (needs_edge m e q.0) f.1 in
-      (q.0, in_contains records q.0 f.0, test_same q.0.tile t p.0, any_contains (edges_of m q.0) e p.1, q.2)
+      (q.0, in_contains records q.0 f.0, eqb-true q.0.tile t p.0, any_contains (edges_of m q.0) e p.1, q.2)
 
   event : (r : Record) → Contains records r → IsEventOf m plan r
   event r c = all_in (IsEventOf m plan) records k.events r (contains_in records r c)

@@ -1,34 +1,29 @@
 -- One entry taken from the lists.
-use Rattle.std.proofs.Common.{ℕ, ◌≡◌, ◌≢◌, ◌+◌, ◌==◌, List, [], ◌∷◌, refl, sym, ap, arith, Bool, true, false, ◌&&◌, ◌∙◌, cond, length, Option, Some, None, ◌≤◌}
+use Rattle.std.proofs.Common.{ℕ, ◌≡◌, ◌≢◌, ◌+◌, ◌==◌, List, [], ◌∷◌, refl, sym, ap, arith, Bool, false, ◌&&◌, ◌∙◌, cond, length, Option, Some, None, ◌≤◌, eq-eqb, ne_eqb}
 use Rattle.std.specs.Prelude.{if◌then◌else◌}
 use Rattle.std.proofs.lemmas.Bool.Decides.{nat_tests}
+use Rattle.event_journal.specs.Logs.{of_tile, gone_of}
 use Rattle.draw_stream.specs.declared.attempt.Attempt.{Attempt}
 use Rattle.draw_stream.specs.Plans.{TakesNext}
 use Rattle.cell_grid.specs.declared.record.Record.{Record}
 use Rattle.tile_map.specs.Plane.{MapValue}
 use Rattle.event_journal.specs.declared.abandoned.Abandoned.{Abandoned}
-use Rattle.journal_check.specs.Telling.{are_none, gone_of, is_at, is_event, next_entry, next_gone, of_tile, told}
+use Rattle.journal_check.specs.Telling.{are_none, is_at, is_event, next_entry, next_gone, told}
 use Rattle.journal_check.specs.Passing.{IsFirstGone, IsFirstOf}
-
-equal : (a b : ℕ) → a ≡ b → (a == b) ≡ true
-equal a b e = grind (arith, nat_tests)
-
-unequal : (a b : ℕ) → a ≢ b → (a == b) ≡ false
-unequal a b e = grind (arith, nat_tests)
 
 pub first_of : (t : ℕ) (rs : List Record) (r : Record) (rest : List Record) → IsFirstOf t rs → rs ≡ r ∷ rest → of_tile t rs ≡ r ∷ of_tile t rest
 first_of t [] r rest f e = cc
 first_of t (x ∷ xs) r rest f e =
     let same : x ≡ r = cc in
     let tail : xs ≡ rest = cc in
-    ap (λ b. cond b (x ∷ of_tile t xs) (of_tile t xs)) (equal x.tile t f) ∙ (λ i. same i ∷ of_tile t (tail i))
+    ap (λ b. cond b (x ∷ of_tile t xs) (of_tile t xs)) (eq-eqb x.tile t f) ∙ (λ i. same i ∷ of_tile t (tail i))
 
 pub first_gone : (t : ℕ) (gs : List Abandoned) (g : Abandoned) (rest : List Abandoned) → IsFirstGone t gs → gs ≡ g ∷ rest → gone_of t gs ≡ g ∷ gone_of t rest
 first_gone t [] g rest f e = cc
 first_gone t (x ∷ xs) g rest f e =
     let same : x ≡ g = cc in
     let tail : xs ≡ rest = cc in
-    ap (λ b. cond b (x ∷ gone_of t xs) (gone_of t xs)) (equal x.tile t f) ∙ (λ i. same i ∷ gone_of t (tail i))
+    ap (λ b. cond b (x ∷ gone_of t xs) (gone_of t xs)) (eq-eqb x.tile t f) ∙ (λ i. same i ∷ gone_of t (tail i))
 
 pub none_of : (t : ℕ) (rs : List Record) → length rs ≡ 0 → of_tile t rs ≡ []
 none_of t [] e = refl
@@ -45,13 +40,13 @@ gone_over m t i a gs rest e = ap (λ q. next_gone m t i a q rest) (none_gone t g
 pub gone_other : (m : MapValue) (t i : ℕ) (a : Attempt) (gs more : List Abandoned) (g : Abandoned) (rest : List Abandoned → Bool) → IsFirstGone t gs → gs ≡ g ∷ more → g.attempt ≢ i →
     next_gone m t i a (gone_of t gs) rest ≡ false
 gone_other m t i a gs more g rest f e ne =
-    ap (λ q. next_gone m t i a q rest) (first_gone t gs g more f e) ∙ ap (λ b. (b && is_at m t a.centre g.x g.y) && rest (gone_of t more)) (unequal g.attempt i ne)
+    ap (λ q. next_gone m t i a q rest) (first_gone t gs g more f e) ∙ ap (λ b. (b && is_at m t a.centre g.x g.y) && rest (gone_of t more)) (ne_eqb g.attempt i ne)
 
 pub gone_here : (m : MapValue) (t i : ℕ) (a : Attempt) (gs more : List Abandoned) (g : Abandoned) (rest : List Abandoned → Bool) (b : Bool) → IsFirstGone t gs → gs ≡ g ∷ more → g.attempt ≡ i → b ≡ is_at m t a.centre g.x g.y →
     next_gone m t i a (gone_of t gs) rest ≡ (b && rest (gone_of t more))
 gone_here m t i a gs more g rest b f e same is =
     ap (λ q. next_gone m t i a q rest) (first_gone t gs g more f e)
-    ∙ ap (λ c. (c && is_at m t a.centre g.x g.y) && rest (gone_of t more)) (equal g.attempt i same)
+    ∙ ap (λ c. (c && is_at m t a.centre g.x g.y) && rest (gone_of t more)) (eq-eqb g.attempt i same)
     ∙ ap (λ c. c && rest (gone_of t more)) (sym is)
 
 -- the next event, or else the next that was given up
@@ -66,7 +61,7 @@ pub event_other : (m : MapValue) (t i : ℕ) (a : Attempt) (rs rs' others : List
 event_other m t i a rs rs' others r gs gs' rest first is ne e f =
     let n = first_of t rs' r others first is in
     ap (λ q. next_entry m t i a q (gone_of t gs) rest) (sym e ∙ n)
-    ∙ ap (λ b. if b then is_event m t a r && rest (of_tile t others) (gone_of t gs) else next_gone m t i a (gone_of t gs) (rest (r ∷ of_tile t others))) (unequal r.attempt i ne)
+    ∙ ap (λ b. if b then is_event m t a r && rest (of_tile t others) (gone_of t gs) else next_gone m t i a (gone_of t gs) (rest (r ∷ of_tile t others))) (ne_eqb r.attempt i ne)
     ∙ ap (λ q. next_gone m t i a q (rest (r ∷ of_tile t others))) (sym f) ∙ ap (λ q. next_gone m t i a (gone_of t gs') (rest q)) (sym n)
 
 pub event_here : (m : MapValue) (t i : ℕ) (a : Attempt) (rs rs' others : List Record) (r : Record) (gs gs' : List Abandoned) (rest : List Record → List Abandoned → Bool) (b : Bool) → IsFirstOf t rs' → rs' ≡ r ∷ others → r.attempt ≡ i →
@@ -74,7 +69,7 @@ pub event_here : (m : MapValue) (t i : ℕ) (a : Attempt) (rs rs' others : List 
 event_here m t i a rs rs' others r gs gs' rest b first is same e f ok =
     let n = first_of t rs' r others first is in
     ap (λ q. next_entry m t i a q (gone_of t gs) rest) (sym e ∙ n)
-    ∙ ap (λ c. if c then is_event m t a r && rest (of_tile t others) (gone_of t gs) else next_gone m t i a (gone_of t gs) (rest (r ∷ of_tile t others))) (equal r.attempt i same)
+    ∙ ap (λ c. if c then is_event m t a r && rest (of_tile t others) (gone_of t gs) else next_gone m t i a (gone_of t gs) (rest (r ∷ of_tile t others))) (eq-eqb r.attempt i same)
     ∙ ap (λ c. c && rest (of_tile t others) (gone_of t gs)) (sym ok) ∙ ap (λ q. b && rest (of_tile t others) q) (sym f)
 
 -- no entry of the tile

@@ -1,9 +1,11 @@
 -- The entries of a tile beside its attempts: what the test says of them.
-use Rattle.std.proofs.Common.{ℕ, suc, ◌≡◌, ◌≢◌, ◌≤◌, ◌<◌, ◌+◌, ◌==◌, List, [], ◌∷◌, refl, sym, ap, subst, arith, ◌⊎◌, inl, inr, ⊎_elim, Bool, true, false, ◌&&◌, ◌∙◌, length, drop, get_or, count_by, Some, length-drop}
+use Rattle.std.proofs.Common.{ℕ, suc, ◌≡◌, ◌≢◌, ◌≤◌, ◌<◌, ◌+◌, ◌==◌, List, [], ◌∷◌, refl, sym, ap, subst, arith, inl, inr, ⊎_elim, Bool, true, false, ◌&&◌, ◌∙◌, length, drop, get_or, count_by, Some, length-drop, eq-eqb, eqb-true, ne_eqb}
 use Rattle.std.specs.Prelude.{slice_get, if◌then◌else◌}
 use Rattle.std.proofs.lemmas.Bool.Decides.{nat_tests}
 use Rattle.std.proofs.lemmas.List.{drop_more}
 use Rattle.std.proofs.lemmas.Option.{same_Some, slice_get-get_or, slice_get_within}
+use Rattle.list_laws.proofs.Counts.{count_none, count_some, count_yes, count_no}
+use Rattle.list_laws.proofs.Numbers.{same_or_more}
 use Rattle.list_laws.proofs.Members.{In, InOrder}
 use Rattle.list_laws.proofs.Tests.{both, together}
 use Rattle.cell_grid.specs.declared.record.Record.{Record}
@@ -11,7 +13,6 @@ use Rattle.draw_stream.specs.declared.attempt.Attempt.{Attempt}
 use Rattle.tile_map.specs.Plane.{MapValue, Site, site, site_in}
 use Rattle.event_journal.specs.declared.abandoned.Abandoned.{Abandoned}
 use Rattle.journal_check.specs.Telling.{is_at, is_event, next_entry, next_gone, told}
-use Rattle.journal_check.proofs.Lists.{count_no, count_none, count_some, count_yes}
 
 -- an event of an attempt of these, and an attempt of these that was given up
 abbrev pub EventIn : MapValue → List Attempt → ℕ → Record → Type 0
@@ -36,33 +37,21 @@ pub record IsTold (m : MapValue) (list : List Attempt) (t i : ℕ) (rs : List Re
   pub rising : InOrder (λ (r s : Record). r.attempt < s.attempt) rs
   pub rising_gone : InOrder (λ (g h : Abandoned). g.attempt < h.attempt) gs
 
-same_test : (a b : ℕ) → a ≡ b → (a == b) ≡ true
-same_test a b e = grind (arith, nat_tests)
-
-apart_test : (a b : ℕ) → a ≢ b → (a == b) ≡ false
-apart_test a b e = grind (arith, nat_tests)
-
-test_same : (a b : ℕ) → (a == b) ≡ true → a ≡ b
-test_same a b e = grind (arith, nat_tests)
-
 test_apart : (a b : ℕ) → (a == b) ≡ false → a ≢ b
 test_apart a b e = grind (arith, nat_tests)
-
-more_or_same : (i k : ℕ) → i ≤ k → (k ≡ i) ⊎ (i + 1 ≤ k)
-more_or_same i k le = grind arith
 
 site_at : (m : MapValue) (t c x y : ℕ) → is_at m t c x y ≡ true → site x y ≡ site_in m t c
 site_at m t c x y h =
     let p = both ((site_in m t c).x == x) ((site_in m t c).y == y) h in
-    let a : x ≡ (site_in m t c).x = sym (test_same (site_in m t c).x x p.0) in
-    let b : y ≡ (site_in m t c).y = sym (test_same (site_in m t c).y y p.1) in
+    let a : x ≡ (site_in m t c).x = sym (eqb-true (site_in m t c).x x p.0) in
+    let b : y ≡ (site_in m t c).y = sym (eqb-true (site_in m t c).y y p.1) in
     λ i. record { x = a i; y = b i }
 
 at_site : (m : MapValue) (t c x y : ℕ) → site x y ≡ site_in m t c → is_at m t c x y ≡ true
 at_site m t c x y e =
     together ((site_in m t c).x == x) ((site_in m t c).y == y)
-    (same_test (site_in m t c).x x (sym (ap (λ (s : Site). s.x) e)))
-    (same_test (site_in m t c).y y (sym (ap (λ (s : Site). s.y) e)))
+    (eq-eqb (site_in m t c).x x (sym (ap (λ (s : Site). s.x) e)))
+    (eq-eqb (site_in m t c).y y (sym (ap (λ (s : Site). s.y) e)))
 
 -- the first attempt that is left
 pub record IsNext (list : List Attempt) (i : ℕ) (a : Attempt) (rest : List Attempt) : Type 0 where
@@ -91,13 +80,13 @@ module _ (m : MapValue) (list : List Attempt) (t : ℕ) where
     gone = k.gone;
     once = λ n low high. ⊎_elim {C = at n (r ∷ rs) + gone_at n gs ≡ 1}
         (λ (f : n ≡ i).
-        let yes = count_yes (λ (s : Record). s.attempt == n) r rs (same_test r.attempt n (e ∙ sym f)) in
-        let none = count_none (λ (s : Record). s.attempt == n) rs (λ s j. apart_test s.attempt n (λ (q : s.attempt ≡ n). omega (arith, q, f, k.from s j))) in
-        let none' = count_none (λ (s : Abandoned). s.attempt == n) gs (λ s j. apart_test s.attempt n (λ (q : s.attempt ≡ n). omega (arith, q, f, k.from_gone s j))) in
+        let yes = count_yes (λ (s : Record). s.attempt == n) r rs (eq-eqb r.attempt n (e ∙ sym f)) in
+        let none = count_none (λ (s : Record). s.attempt == n) rs (λ s j. ne_eqb s.attempt n (λ (q : s.attempt ≡ n). omega (arith, q, f, k.from s j))) in
+        let none' = count_none (λ (s : Abandoned). s.attempt == n) gs (λ s j. ne_eqb s.attempt n (λ (q : s.attempt ≡ n). omega (arith, q, f, k.from_gone s j))) in
         omega (arith, yes, none, none'))
         (λ (l : i + 1 ≤ n).
-        let no = count_no (λ (s : Record). s.attempt == n) r rs (apart_test r.attempt n (λ (q : r.attempt ≡ n). omega (arith, q, e, l))) in
-        omega (arith, no, k.once n l high)) (more_or_same i n low);
+        let no = count_no (λ (s : Record). s.attempt == n) r rs (ne_eqb r.attempt n (λ (q : r.attempt ≡ n). omega (arith, q, e, l))) in
+        omega (arith, no, k.once n l high)) (same_or_more i n low);
     rising = ((λ s j. omega (arith, e, k.from s j)), k.rising);
     rising_gone = k.rising_gone;
   }
@@ -110,13 +99,13 @@ module _ (m : MapValue) (list : List Attempt) (t : ℕ) where
     gone = λ s j. ⊎_elim {C = GoneIn m list t s} (λ (f : s ≡ g). subst (GoneIn m list t) (sym f) of) (λ l. k.gone s l) j;
     once = λ n low high. ⊎_elim {C = at n rs + gone_at n (g ∷ gs) ≡ 1}
         (λ (f : n ≡ i).
-        let yes = count_yes (λ (s : Abandoned). s.attempt == n) g gs (same_test g.attempt n (e ∙ sym f)) in
-        let none = count_none (λ (s : Record). s.attempt == n) rs (λ s j. apart_test s.attempt n (λ (q : s.attempt ≡ n). omega (arith, q, f, k.from s j))) in
-        let none' = count_none (λ (s : Abandoned). s.attempt == n) gs (λ s j. apart_test s.attempt n (λ (q : s.attempt ≡ n). omega (arith, q, f, k.from_gone s j))) in
+        let yes = count_yes (λ (s : Abandoned). s.attempt == n) g gs (eq-eqb g.attempt n (e ∙ sym f)) in
+        let none = count_none (λ (s : Record). s.attempt == n) rs (λ s j. ne_eqb s.attempt n (λ (q : s.attempt ≡ n). omega (arith, q, f, k.from s j))) in
+        let none' = count_none (λ (s : Abandoned). s.attempt == n) gs (λ s j. ne_eqb s.attempt n (λ (q : s.attempt ≡ n). omega (arith, q, f, k.from_gone s j))) in
         omega (arith, yes, none, none'))
         (λ (l : i + 1 ≤ n).
-        let no = count_no (λ (s : Abandoned). s.attempt == n) g gs (apart_test g.attempt n (λ (q : g.attempt ≡ n). omega (arith, q, e, l))) in
-        omega (arith, no, k.once n l high)) (more_or_same i n low);
+        let no = count_no (λ (s : Abandoned). s.attempt == n) g gs (ne_eqb g.attempt n (λ (q : g.attempt ≡ n). omega (arith, q, e, l))) in
+        omega (arith, no, k.once n l high)) (same_or_more i n low);
     rising = k.rising;
     rising_gone = ((λ s j. omega (arith, e, k.from_gone s j)), k.rising_gone);
   }
@@ -127,14 +116,14 @@ module _ (m : MapValue) (list : List Attempt) (t : ℕ) where
     from = λ s j. omega (arith, k.rising.0 s j, e);
     from_gone = λ g j. ⊎_elim {C = i + 1 ≤ g.attempt}
         (λ (f : g.attempt ≡ i).
-        let yes = count_yes (λ (s : Record). s.attempt == i) r rs (same_test r.attempt i e) in
-        let some = count_some (λ (s : Abandoned). s.attempt == i) gs g j (same_test g.attempt i f) in
+        let yes = count_yes (λ (s : Record). s.attempt == i) r rs (eq-eqb r.attempt i e) in
+        let some = count_some (λ (s : Abandoned). s.attempt == i) gs g j (eq-eqb g.attempt i f) in
         absurd (omega (arith, yes, some, k.once i (omega arith) less)))
-        (λ l. l) (more_or_same i g.attempt (k.from_gone g j));
+        (λ l. l) (same_or_more i g.attempt (k.from_gone g j));
     events = λ s j. k.events s (inr j);
     gone = k.gone;
     once = λ n low high.
-        let no = count_no (λ (s : Record). s.attempt == n) r rs (apart_test r.attempt n (λ (q : r.attempt ≡ n). omega (arith, q, e, low))) in
+        let no = count_no (λ (s : Record). s.attempt == n) r rs (ne_eqb r.attempt n (λ (q : r.attempt ≡ n). omega (arith, q, e, low))) in
         omega (arith, no, k.once n (omega (arith, low)) high);
     rising = k.rising.1;
     rising_gone = k.rising_gone;
@@ -144,15 +133,15 @@ module _ (m : MapValue) (list : List Attempt) (t : ℕ) where
   gone_less i g rs gs e less k = record {
     from = λ s j. ⊎_elim {C = i + 1 ≤ s.attempt}
         (λ (f : s.attempt ≡ i).
-        let yes = count_yes (λ (q : Abandoned). q.attempt == i) g gs (same_test g.attempt i e) in
-        let some = count_some (λ (q : Record). q.attempt == i) rs s j (same_test s.attempt i f) in
+        let yes = count_yes (λ (q : Abandoned). q.attempt == i) g gs (eq-eqb g.attempt i e) in
+        let some = count_some (λ (q : Record). q.attempt == i) rs s j (eq-eqb s.attempt i f) in
         absurd (omega (arith, yes, some, k.once i (omega arith) less)))
-        (λ l. l) (more_or_same i s.attempt (k.from s j));
+        (λ l. l) (same_or_more i s.attempt (k.from s j));
     from_gone = λ s j. omega (arith, k.rising_gone.0 s j, e);
     events = k.events;
     gone = λ s j. k.gone s (inr j);
     once = λ n low high.
-        let no = count_no (λ (s : Abandoned). s.attempt == n) g gs (apart_test g.attempt n (λ (q : g.attempt ≡ n). omega (arith, q, e, low))) in
+        let no = count_no (λ (s : Abandoned). s.attempt == n) g gs (ne_eqb g.attempt n (λ (q : g.attempt ≡ n). omega (arith, q, e, low))) in
         omega (arith, no, k.once n (omega (arith, low)) high);
     rising = k.rising;
     rising_gone = k.rising_gone.1;
@@ -162,16 +151,16 @@ module _ (m : MapValue) (list : List Attempt) (t : ℕ) where
   pub gone_first : (i : ℕ) (rs : List Record) (gs : List Abandoned) → IsTold m list t i rs gs → i < length list → ((r : Record) → In r rs → r.attempt ≢ i) →
       (g : Abandoned) × (more : List Abandoned) × (gs ≡ g ∷ more) × (g.attempt ≡ i)
   gone_first i rs [] k less none =
-      let no = count_none (λ (s : Record). s.attempt == i) rs (λ s j. apart_test s.attempt i (none s j)) in
+      let no = count_none (λ (s : Record). s.attempt == i) rs (λ s j. ne_eqb s.attempt i (none s j)) in
       absurd (omega (arith, no, k.once i (omega arith) less))
   gone_first i rs (g ∷ gs) k less none = ⊎_elim {C = (h : Abandoned) × (more : List Abandoned) × (g ∷ gs ≡ h ∷ more) × (h.attempt ≡ i)}
       (λ (e : g.attempt ≡ i). (g, gs, refl, e))
       (λ (l : i + 1 ≤ g.attempt).
-      let no = count_none (λ (s : Record). s.attempt == i) rs (λ s j. apart_test s.attempt i (none s j)) in
-      let no' = count_no (λ (s : Abandoned). s.attempt == i) g gs (apart_test g.attempt i (λ (q : g.attempt ≡ i). omega (arith, q, l))) in
-      let none' = count_none (λ (s : Abandoned). s.attempt == i) gs (λ s j. apart_test s.attempt i (λ (q : s.attempt ≡ i). omega (arith, q, l, k.rising_gone.0 s j))) in
+      let no = count_none (λ (s : Record). s.attempt == i) rs (λ s j. ne_eqb s.attempt i (none s j)) in
+      let no' = count_no (λ (s : Abandoned). s.attempt == i) g gs (ne_eqb g.attempt i (λ (q : g.attempt ≡ i). omega (arith, q, l))) in
+      let none' = count_none (λ (s : Abandoned). s.attempt == i) gs (λ s j. ne_eqb s.attempt i (λ (q : s.attempt ≡ i). omega (arith, q, l, k.rising_gone.0 s j))) in
       absurd (omega (arith, no, no', none', k.once i (omega arith) less)))
-      (more_or_same i g.attempt (k.from_gone g (inl refl)))
+      (same_or_more i g.attempt (k.from_gone g (inl refl)))
 
   -- what the test of one entry says
   next_gone_is : (i : ℕ) (a : Attempt) (rs : List Record) (gs : List Abandoned) (rest : List Abandoned → Bool) → slice_get list i ≡ Some a → next_gone m t i a gs rest ≡ true →
@@ -180,7 +169,7 @@ module _ (m : MapValue) (list : List Attempt) (t : ℕ) where
   next_gone_is i a rs (g ∷ gs) rest here h told =
       let p = both (g.attempt == i && is_at m t a.centre g.x g.y) (rest gs) h in
       let q = both (g.attempt == i) (is_at m t a.centre g.x g.y) p.0 in
-      let e = test_same g.attempt i q.0 in
+      let e = eqb-true g.attempt i q.0 in
       gone_more i g rs gs e (a, ap (slice_get list) e ∙ here, site_at m t a.centre g.x g.y q.1) (told gs p.1)
 
   next_entry_is : (i : ℕ) (a : Attempt) (rs : List Record) (gs : List Abandoned) (rest : List Record → List Abandoned → Bool) → slice_get list i ≡ Some a → next_entry m t i a rs gs rest ≡ true →
@@ -192,8 +181,8 @@ module _ (m : MapValue) (list : List Attempt) (t : ℕ) where
       go true is q =
           let p = both (is_event m t a r) (rest rs gs) q in
           let of = both (is_at m t a.centre r.x r.y) (a.seed == r.seed) p.0 in
-          let e = test_same r.attempt i is in
-          event_more i r rs gs e (a, ap (slice_get list) e ∙ here, site_at m t a.centre r.x r.y of.0, sym (test_same a.seed r.seed of.1)) (told rs gs p.1)
+          let e = eqb-true r.attempt i is in
+          event_more i r rs gs e (a, ap (slice_get list) e ∙ here, site_at m t a.centre r.x r.y of.0, sym (eqb-true a.seed r.seed of.1)) (told rs gs p.1)
       go false is q = next_gone_is i a (r ∷ rs) gs (rest (r ∷ rs)) here q (told (r ∷ rs))
 
   pub told_is : (i : ℕ) (left : List Attempt) (rs : List Record) (gs : List Abandoned) → drop i list ≡ left → told m t i left rs gs ≡ true → IsTold m list t i rs gs
@@ -226,7 +215,7 @@ module _ (m : MapValue) (list : List Attempt) (t : ℕ) where
       let of = k.gone g (inl refl) in
       let same : of.0 ≡ a = same_Some of.0 a (sym of.1 ∙ ap (slice_get list) e ∙ here) in
       together (g.attempt == i && is_at m t a.centre g.x g.y) (rest gs)
-      (together (g.attempt == i) (is_at m t a.centre g.x g.y) (same_test g.attempt i e) (at_site m t a.centre g.x g.y (of.2 ∙ ap (λ (b : Attempt). site_in m t b.centre) same)))
+      (together (g.attempt == i) (is_at m t a.centre g.x g.y) (eq-eqb g.attempt i e) (at_site m t a.centre g.x g.y (of.2 ∙ ap (λ (b : Attempt). site_in m t b.centre) same)))
       (told gs (gone_less i g rs gs e less k))
 
   entry_true : (i : ℕ) (a : Attempt) (rs : List Record) (gs : List Abandoned) (rest : List Record → List Abandoned → Bool) → slice_get list i ≡ Some a → i < length list → IsTold m list t i rs gs →
@@ -236,12 +225,12 @@ module _ (m : MapValue) (list : List Attempt) (t : ℕ) where
     where
       go : (b : Bool) → (r.attempt == i) ≡ b → (if b then is_event m t a r && rest rs gs else next_gone m t i a gs (rest (r ∷ rs))) ≡ true
       go true is =
-          let e = test_same r.attempt i is in
+          let e = eqb-true r.attempt i is in
           let of = k.events r (inl refl) in
           let same : of.0 ≡ a = same_Some of.0 a (sym of.1 ∙ ap (slice_get list) e ∙ here) in
           together (is_event m t a r) (rest rs gs)
           (together (is_at m t a.centre r.x r.y) (a.seed == r.seed) (at_site m t a.centre r.x r.y (of.2 ∙ ap (λ (b : Attempt). site_in m t b.centre) same))
-          (same_test a.seed r.seed (sym (of.3 ∙ ap (λ (b : Attempt). b.seed) same))))
+          (eq-eqb a.seed r.seed (sym (of.3 ∙ ap (λ (b : Attempt). b.seed) same))))
           (told rs gs (event_less i r rs gs e less k))
       go false is =
           let apart = test_apart r.attempt i is in

@@ -1,9 +1,9 @@
 -- What is left of the lists of entries after one was taken.
 use Rattle.std.specs.Prelude.{ℕ, ◌≡◌, Bool, false, List, [], ◌∷◌, Option, Some, None}
+use Rattle.event_journal.specs.Logs.{of_tile, gone_of}
 use denote.Ref.{Bor}
 use Rattle.cell_grid.specs.declared.record.Record.{Record}
 use Rattle.event_journal.specs.declared.abandoned.Abandoned.{Abandoned}
-use Rattle.journal_check.specs.Telling.{gone_of, of_tile}
 
 -- events of which the first is one of the tile
 abbrev pub IsFirstOf : ℕ → List Record → Type 0

@@ -1,5 +1,5 @@
 -- The entries of one tile, taken beside its attempts, one after another.
-use Rattle.std.specs.Prelude.{ℕ, ◌+◌, ◌≡◌, ◌==◌, ◌*◌, ◌<◌, Bool, true, false, ◌&&◌, if◌then◌else◌, List, [], ◌∷◌, All, filter, length}
+use Rattle.std.specs.Prelude.{ℕ, ◌+◌, ◌≡◌, ◌==◌, ◌*◌, ◌<◌, Bool, true, false, ◌&&◌, if◌then◌else◌, List, [], ◌∷◌, All, length}
 use Rattle.cell_grid.specs.declared.record.Record.{Record}
 use Rattle.draw_stream.specs.declared.attempt.Attempt.{Attempt}
 use Rattle.draw_stream.specs.Plans.{PlanValue, attempts}
@@ -12,13 +12,6 @@ pub record IsPlanOf (m : MapValue) (plan : PlanValue) : Type 0 where
   pub lists : length plan.lists ≡ tiles_of m
   pub on : (t : ℕ) → 0 < length (attempts plan t) → is_on m t ≡ true
   pub centres : (t : ℕ) → All (λ (a : Attempt). a.centre < m.w * m.h) (attempts plan t)
-
--- the events of a tile, and the attempts that it gave up
-abbrev pub of_tile : ℕ → List Record → List Record
-of_tile t records = filter (λ (r : Record). r.tile == t) records
-
-abbrev pub gone_of : ℕ → List Abandoned → List Abandoned
-gone_of t abandoned = filter (λ (g : Abandoned). g.tile == t) abandoned
 
 -- whether a position of a tile is the site
 abbrev pub is_at : MapValue → ℕ → ℕ → ℕ → ℕ → Bool

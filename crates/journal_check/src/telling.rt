@@ -1,10 +1,11 @@
 //! The entries of one tile, taken beside its attempts.
 ghost use Rattle.std.specs.Prelude.{◌≡◌, ◌<◌, ◌*◌, ◌^◌, All, Bool, List, length};
+ghost use Rattle.event_journal.specs.Logs.{of_tile, gone_of};
 ghost use Rattle.cell_grid.specs.declared.record.Record.{Record};
 ghost use Rattle.draw_stream.specs.declared.attempt.Attempt.{Attempt};
 ghost use Rattle.tile_map.specs.Plane.{tiles_of};
 ghost use Rattle.event_journal.specs.declared.abandoned.Abandoned.{Abandoned};
-ghost use Rattle.journal_check.specs.Telling.{are_none, gone_of, is_at, is_event, next_entry, next_gone, of_tile, told};
+ghost use Rattle.journal_check.specs.Telling.{are_none, is_at, is_event, next_entry, next_gone, told};
 ghost use Rattle.journal_check.specs.Passing.{IsFirstGone, IsFirstOf, passes};
 
 use cell_grid::Record;

@@ -1,8 +1,9 @@
 -- The set of files that no stage refuses, as a code file.
-use Rattle.std.proofs.Common.{ℕ, ◌≡◌, ◌≤◌, List, [], ◌∷◌, length, Ok, Result, inl, inr, sym, ap, subst, ◌∙◌, arith}
+use Rattle.std.proofs.Common.{ℕ, ◌≡◌, ◌≤◌, List, [], length, Ok, Result, sym, ap, subst, ◌∙◌, arith}
 use Rattle.std.specs.Prelude.{true}
 use Rattle.std.proofs.lemmas.List.{length-map}
 use Rattle.window_sites.specs.Window.{WindowValue}
+use Rattle.feast_base.proofs.Stages.{went}
 use Rattle.feast_base.specs.Outside.{File}
 use Rattle.feast_base.specs.TypeNames.{is_type_name}
 use Rattle.ulam_lex.proofs.Spans.{in_order}
@@ -13,13 +14,13 @@ use Rattle.ulam_meaning.specs.Programs.{element_classes}
 use Rattle.ulam_meaning.specs.Events as meaning
 use Rattle.code_gen.specs.Compiling.{AreShort, IsCompilable, class_code, element_codes}
 use Rattle.source_laws.proofs.Programs.{compilable}
-use Rattle.element_set.specs.Composing.{Stage, Goes, and_then}
 use Rattle.element_set.specs.Names.{AreNamed}
 use Rattle.element_set.specs.Sets.{AcceptsFiles, SetValue, element_names, program_of}
-use Rattle.element_set.specs.Stages.{Trees, coded, flat_set, laid_set, lexed, more_trees, named_set, no_trees, parsed, tree_of, typed_set, with_tree}
+use Rattle.element_set.specs.Stages.{Tree, coded, flat_set, laid_set, lexed, more_trees, named_set, no_trees, parsed, tree_of, typed_set}
 use Rattle.element_set.proofs.Counting.{element_count, elements_counted, few_elements}
 use Rattle.element_set.proofs.FormedNames.{names_formed}
 use Rattle.element_set.proofs.Named.{resolved_named, typed_named}
+use Rattle.element_set.proofs.TreesHold.{trees_hold}
 use Rattle.element_set.proofs.NewNames.{new_elements}
 use Rattle.code_file.specs.Acting.{after}
 use Rattle.code_file.specs.Form.{CodesValue, IsSayable, codes_of, file_bytes, names_of}
@@ -31,24 +32,17 @@ use Rattle.code_file.proofs.Rightness.{written_reads}
 use Rattle.code_file.proofs.Sets.{codes_are, elements_long, names_are}
 use Rattle.pack_laws.specs.Packed.{packed}
 use Rattle.pack_laws.proofs.Elements.{all_at, are_elements, are_right, code_valid, element_at, is_element}
-use Rattle.pack_laws.proofs.FlatWords.{FilesFormed, files_more, flat_files_formed}
-use Rattle.pack_laws.proofs.FormedWords.{ItemsFormed, file_formed, left_formed, order_formed, toks_formed}
+use Rattle.pack_laws.proofs.FlatWords.{flat_files_formed}
+use Rattle.pack_laws.proofs.FormedWords.{ItemsFormed, file_formed, text_formed}
 use Rattle.pack_laws.proofs.Meanings.{codes_mean}
 use Rattle.pack_laws.proofs.TypedWords.{ClassesFormed, typed_formed}
 
 -- Stages
 
-went : {A B : Type 0} (S : Stage A) (T : A → Stage B) (b : B) → and_then S T (Ok b) → Goes S T (Ok b)
-went S T b h = elim h [ inl never ↦ absurd never | inr g ↦ g ]
-
-trees_formed : (done : Trees) (fs : List File) (x : Trees) → more_trees done fs (Ok x) → FilesFormed done.files → FilesFormed x.files
-trees_formed done [] x h all = subst (λ (y : Trees). FilesFormed y.files) (sym h) all
-trees_formed done (f ∷ fs) x h all =
-    let g = went (tree_of (length done.files) f.1) (λ y. more_trees (with_tree done y) fs) x h in
-    let p = went (lexed (length done.files) f.1) (parsed f.1) g.value g.passed in
-    let tokens = left_formed f.1 [] p.value (order_formed f.1 0 p.value (in_order (length done.files) f.1 p.value p.passed.0)) in
-    let here = file_formed g.value.items (toks f.1 (tokens_left f.1 p.value)) p.rest.0.0 (toks_formed f.1 (tokens_left f.1 p.value) tokens) in
-    trees_formed (with_tree done g.value) fs x g.rest (files_more done.files g.value.items all here)
+tree_formed : (file : ℕ) (bytes : List ℕ) (x : Tree) → tree_of file bytes (Ok x) → ItemsFormed x.items
+tree_formed file bytes x h =
+    let p = went (lexed file bytes) (parsed bytes) x h in
+    file_formed x.items (toks bytes (tokens_left bytes p.value)) p.rest.0.0 (text_formed bytes p.value (in_order file bytes p.value p.passed.0))
 
 -- what is known of a set that files have
 record IsAccepted (set : SetValue) : Type 0 where
@@ -64,7 +58,7 @@ accepted files set h =
     let named = went _ laid_set set flat.rest in
     let laid = went _ (typed_set named.value) set named.rest in
     let typed = went _ (λ (us : List t.Class). coded (record { classes = us; layout = laid.value })) set laid.rest in
-    let items = subst ItemsFormed (sym flat.passed.1) (flat_files_formed trees.value.files trees.value.heads (trees_formed no_trees files trees.value trees.passed tt)) in
+    let items = subst ItemsFormed (sym flat.passed.1) (flat_files_formed trees.value.files trees.value.heads (trees_hold ItemsFormed tree_formed no_trees files trees.value trees.passed tt)) in
     let compiles = subst (λ (l : List (List ℕ)). IsCompilable (record { classes = typed.value; layout = l })) (sym laid.passed.1) (compilable flat.value named.value typed.value named.passed laid.passed.0 typed.passed) in
     subst IsAccepted (sym typed.rest.1)
     (record {

@@ -6,6 +6,7 @@ use Rattle.std.proofs.lemmas.Bool.{leb-true}
 use Rattle.std.proofs.lemmas.List.{length-map}
 use Rattle.std.proofs.lemmas.List.Elements.{All-head, All-tail}
 use Rattle.std.proofs.lemmas.Slice.Eq.{bytes_eq-Decides}
+use Rattle.list_laws.proofs.Entries.{all_from_get}
 use Rattle.feast_base.specs.TypeNames.{is_type_name}
 use Rattle.stack_code.specs.Machine.{CodeValue}
 use Rattle.stack_code.specs.Valid.{valid}
@@ -29,6 +30,7 @@ use Rattle.code_file.specs.Ranged.{IsRanged, OfTypes}
 use Rattle.code_file.specs.Right.{AreRight}
 use Rattle.code_file.proofs.Ranges.{valid_ranged}
 use Rattle.element_set.specs.Names.{AreNew}
+use Rattle.element_set.proofs.Acting.{IsElement as IsElementClass}
 use Rattle.pack_laws.proofs.SoundPieces.{codes_typed, keys_good, values_ranged}
 use Rattle.pack_laws.proofs.SoundPrograms.{key_sound}
 use Rattle.pack_laws.proofs.TypedWords.{ClassesFormed, IsFormedKey, behave_formed}
@@ -45,22 +47,12 @@ all_at P [] k x all e = absurd cc
 all_at P (y ∷ xs) zero x all e = let same : y ≡ x = cc in subst P same (All-head P y xs all)
 all_at P (y ∷ xs) (suc k) x all e = all_at P xs k x (All-tail P y xs all) e
 
-all_from : {A : Type 0} (P : A → Type 0) (xs : List A) → ((k : ℕ) (x : A) → slice_get xs k ≡ Some x → P x) → AllByRecursion P xs
-all_from P [] h = tt
-all_from P (x ∷ xs) h = (h 0 x refl, all_from P xs (λ k. h (suc k)))
-
 each_at : {A : Type 0} (P : A → Type 0) (xs : List A) (k : ℕ) (x : A) → AllByRecursion P xs → slice_get xs k ≡ Some x → P x
 each_at P [] k x all e = absurd cc
 each_at P (y ∷ xs) zero x all e = let same : y ≡ x = cc in subst P same all.0
 each_at P (y ∷ xs) (suc k) x all e = each_at P xs k x all.1 e
 
 -- Elements of a program
-
--- a class that is an element
-pub record IsElementClass (cs : List t.Class) (c : ℕ) : Type 0 where
-  pub class : t.Class
-  pub stands : slice_get cs c ≡ Some class
-  pub acts : class.quark ≡ false
 
 class_at : (d : ℕ) (cs : List t.Class) (i c : ℕ) → slice_get (element_classes d cs) i ≡ Some c → (k : ℕ) × (c ≡ d + k) × IsElementClass cs k
 class_at d [] i c h = absurd cc
@@ -112,7 +104,7 @@ module _ (g : Program) (compilable : IsCompilable g) (short : AreShort g) (forme
       let kinded = program_kinded g c compilable.well compilable.named compilable.laid (compilable.acts c element.class element.stands element.acts) in
       let room = keys_room d main (kinded_ready g c kinded) in
       let good = keys_good most (IsFormedKey g) d sound main (behave_formed g c element.class formed element.stands element.acts) in (
-        values_ranged d 0 ks (all_from (λ (f : Key). IsRanged (value_at d 0 f)) ks (λ k f e. head_ranged f (room k f e) (each_at (IsFormedKey g) ks k f good e))),
+        values_ranged d 0 ks (all_from_get (λ (f : Key). IsRanged (value_at d 0 f)) ks (λ k f e. head_ranged f (room k f e) (each_at (IsFormedKey g) ks k f good e))),
         codes_typed most (IsFormedKey g) d sound ks 0 ks,
       )
 

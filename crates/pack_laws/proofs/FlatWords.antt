@@ -8,15 +8,11 @@ use Rattle.ulam_heirs.specs.Flat.{flat_behind, flat_members, is_left_out}
 use Rattle.ulam_heirs.specs.Heads.{Heads}
 use Rattle.ulam_heirs.specs.Lines.{Heir, classes_at, line_numbers}
 use Rattle.ulam_tree.specs.Raw.{Member, Item, ulam, uses, class}
+use Rattle.element_set.proofs.TreesHold.{EachFile}
 use Rattle.pack_laws.proofs.FormedWords.{AreFormed, ItemsFormed}
 
 abbrev pub FilesFormed : List (List Item) → Type 0
-FilesFormed [] = Unit {0}
-FilesFormed (f ∷ fs) = ItemsFormed f × FilesFormed fs
-
-pub files_more : (fs : List (List Item)) (f : List Item) → FilesFormed fs → ItemsFormed f → FilesFormed (fs ++ f ∷ [])
-files_more [] f all here = (here, tt)
-files_more (g ∷ fs) f all here = (all.0, files_more fs f all.1 here)
+FilesFormed = EachFile ItemsFormed
 
 abbrev HeirsFormed : List Heir → Type 0
 HeirsFormed [] = Unit {0}

@@ -1,8 +1,9 @@
 -- The names of functions in the trees of accepted texts are names.
-use Rattle.std.proofs.Common.{ℕ, ◌≡◌, ◌+◌, ◌≤◌, ◌==◌, Bool, true, false, not, ◌&&◌, ◌||◌, List, [], ◌∷◌, ◌++◌, length, nat_le, bytes_eq, refl, sym, ap, subst, ◌∙◌, arith, Option, Some, None, Ok, Err, if◌then◌else◌, slice_index, slice_range}
+use Rattle.std.proofs.Common.{ℕ, ◌≡◌, ◌+◌, ◌≤◌, ◌==◌, Bool, true, false, not, ◌&&◌, ◌||◌, List, [], ◌∷◌, ◌++◌, length, nat_le, bytes_eq, refl, sym, ap, subst, ◌∙◌, arith, Option, Some, None, Ok, Err, if◌then◌else◌, slice_index}
 use Rattle.std.specs.Char.{is_ascii_digit, is_ascii_lowercase, is_ascii_uppercase}
 use Rattle.std.specs.List.{AllPass, list_all}
-use Rattle.std.proofs.lemmas.List.Elements.{All-head, All-tail}
+use Rattle.std.proofs.lemmas.List.Elements.{All-tail}
+use Rattle.std.proofs.lemmas.List.Sums.{list_all-from_AllPass}
 use Rattle.list_laws.proofs.Tests.{together}
 use Rattle.feast_base.specs.TypeNames.{is_word_byte}
 use Rattle.ulam_lex.specs.Bytes.{class_of, is_keyword, is_white}
@@ -12,7 +13,7 @@ use Rattle.ulam_lex.specs.declared.bytes.Class.TheVariants.{White, Small, Capita
 use Rattle.ulam_lex.specs.declared.token.Token.{Token}
 use Rattle.ulam_lex.specs.declared.token.TokenKind.{TokenKind}
 use Rattle.ulam_lex.specs.declared.token.TokenKind.TheVariants as k
-use Rattle.ulam_parse.specs.Tokens.{Tok, tok, keywords, signs, symbol_in, symbol_of, toks}
+use Rattle.ulam_parse.specs.Tokens.{Tok, keywords, signs, symbol_in, symbol_of, toks}
 use Rattle.ulam_parse.specs.Grammar.{Span, IsWidth, IsSize, IsType, IsMember, AreMembers, AreItems, IsClass, IsFile, class_symbol}
 use Rattle.ulam_parse.specs.Reading.{Read, stops, tired}
 use Rattle.ulam_parse.specs.Files as read
@@ -21,16 +22,13 @@ use Rattle.ulam_parse.specs.declared.symbol.Symbol.TheVariants as s
 use Rattle.ulam_parse.proofs.Tells.{Tells}
 use Rattle.ulam_parse.proofs.Rules.{Free}
 use Rattle.ulam_parse.proofs.FileRules.{member_law}
-use Rattle.ulam_heirs.specs.Heads.{is_taken, kept_at, at_each}
+use Rattle.ulam_heirs.specs.Heads.{tokens_left}
 use Rattle.ulam_tree.specs.Raw.{Width, wide, wide_as, TypeRef, Member, typedef, constant, field, function, Class, Item, ulam, uses, class}
 use Rattle.code_file.specs.Words.{is_name}
+use Rattle.element_set.proofs.FormedTokens.{IsSpelled, left_formed, order_formed, toks_formed}
 use Rattle.element_set.proofs.TokensKept.{Each, item_keeps, takes_keeps}
 
 -- Bytes: the token of a name is one
-
-all_pass : (p : ℕ → Bool) (bs : List ℕ) → AllPass p bs → list_all p bs ≡ true
-all_pass p [] all = refl
-all_pass p (b ∷ bs) all = together _ _ (All-head (λ x. p x ≡ true) b bs all) (all_pass p bs (All-tail (λ x. p x ≡ true) b bs all))
 
 small_is : (b : ℕ) → class_of b ≡ Small → (is_ascii_lowercase b || b == 95) ≡ true
 small_is b h = on (is_white b) (is_ascii_lowercase b || b == 95) (is_ascii_uppercase b) (is_ascii_digit b) h
@@ -46,7 +44,7 @@ name_by : (bytes : List ℕ) → class_of (slice_index bytes 0) ≡ Small → le
 name_by [] first few all other = cc first
 name_by (b ∷ bs) first few all other =
     together _ _ (small_is b first)
-    (together _ _ (all_pass is_word_byte bs (All-tail (λ x. is_word_byte x ≡ true) b bs all))
+    (together _ _ (list_all-from_AllPass is_word_byte bs (All-tail (λ x. is_word_byte x ≡ true) b bs all))
     (together _ _ (le_true (length (b ∷ bs)) 255 few) (ap not other)))
   where
     le_true : (m n : ℕ) → m ≤ n → nat_le m n ≡ true
@@ -61,26 +59,6 @@ token_formed k.Sign bytes h e = cc e
 token_formed k.End bytes h e = absurd h
 
 -- Tokens of a text, and those of a sentence
-
-abbrev IsFormed : List ℕ → Token → Type 0
-IsFormed text t = t.kind ≡ k.Name → is_name (slice_range text t.first t.end) ≡ true
-
-abbrev pub AllFormed : List ℕ → List Token → Type 0
-AllFormed text [] = Unit {0}
-AllFormed text (t ∷ ts) = IsFormed text t × AllFormed text ts
-
-pub order_formed : (text : List ℕ) (from : ℕ) (ts : List Token) → AreInOrder text from ts → AllFormed text ts
-order_formed text from [] h = absurd h
-order_formed text from (t ∷ []) h = (λ e. let same : k.End ≡ k.Name = sym h.0 ∙ e in cc same, tt)
-order_formed text from (t ∷ u ∷ ts) h = (λ e. token_formed t.kind (slice_range text t.first t.end) h.0 e, order_formed text t.end (u ∷ ts) h.4)
-
-pub left_formed : (text : List ℕ) (before ts : List Token) → AllFormed text ts → AllFormed text (at_each (kept_at text) before ts)
-left_formed text before [] all = tt
-left_formed text before (t ∷ ts) all = on (is_taken text before t ts) (left_formed text (t ∷ before) ts all.1)
-  where
-    on : (b : Bool) → AllFormed text (at_each (kept_at text) (t ∷ before) ts) → AllFormed text ((if b then [] else t ∷ []) ++ at_each (kept_at text) (t ∷ before) ts)
-    on true rest = rest
-    on false rest = (all.0, rest)
 
 abbrev is_name_symbol : Symbol → Bool
 is_name_symbol s.Name = true
@@ -117,11 +95,12 @@ symbol_kind k.Sign text e = let same : false ≡ true = sym (sign_other text) �
 
 -- the text of a name in a sentence is one
 abbrev pub IsNamedWell : Tok → Type 0
-IsNamedWell (tok kind word place) = kind ≡ s.Name → is_name word ≡ true
+IsNamedWell = IsSpelled s.Name is_name
 
-pub toks_formed : (text : List ℕ) (ts : List Token) → AllFormed text ts → Each IsNamedWell (toks text ts)
-toks_formed text [] all = tt
-toks_formed text (t ∷ ts) all = (λ e. all.0 (symbol_kind t.kind (slice_range text t.first t.end) e), toks_formed text ts all.1)
+pub text_formed : (text : List ℕ) (ts : List Token) → AreInOrder text 0 ts → Each (IsSpelled s.Name is_name) (toks text (tokens_left text ts))
+text_formed text ts h =
+    toks_formed k.Name s.Name is_name symbol_kind text (tokens_left text ts)
+    (left_formed k.Name is_name text [] ts (order_formed k.Name is_name (λ same. cc same) token_formed text 0 ts h))
 
 -- Members
 

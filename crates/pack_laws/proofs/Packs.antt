@@ -1,51 +1,26 @@
 -- A packed code file gives the elements of the files that it was packed of.
-use Rattle.std.proofs.Common.{ℕ, ◌≡◌, List, [], ◌∷◌, ◌++◌, length, Option, Some, None, Ok, Err, Result, sym, ap, subst, ◌∙◌, arith, inl, inr}
+use Rattle.std.proofs.Common.{ℕ, ◌≡◌, List, Some, Ok, Result, sym, subst, inr}
 use Rattle.code_file.specs.Form.{CodesValue}
 use Rattle.code_file.specs.Judging.{Reads}
-use Rattle.code_file.specs.declared.fault.CodeFault.{CodeFault}
-use Rattle.element_set.proofs.OneSet.{set_one as built_one}
 use Rattle.element_set.specs.Sets.{SetValue, AcceptsFiles}
 use Rattle.feast_base.specs.Outside.{File}
 use Rattle.feast_run.proofs.CodeStages.{codes_are, codes_pass}
-use Rattle.feast_run.proofs.Laws.{gives_one, then_one, went}
 use Rattle.feast_run.proofs.Loads.{files_load}
 use Rattle.feast_run.proofs.Runs.{set_is}
-use Rattle.feast_run.specs.CodeFiles.{code_limit, codes_from, codes_in}
+use Rattle.feast_run.proofs.Sure.{codes_one, set_one}
+use Rattle.feast_run.specs.CodeFiles.{codes_from}
 use Rattle.feast_run.specs.Elements.{code_elements, source_elements}
 use Rattle.feast_run.specs.Forms.{run, runpack, step, steppack}
-use Rattle.feast_run.specs.Outcomes.{IsOne, Outcome, Stage, and_then, passes, refuses}
+use Rattle.feast_base.specs.Stages.{Stage, and_then}
+use Rattle.feast_run.specs.Halting.{HaltValue}
 use Rattle.feast_run.specs.Packed.{pack_text}
 use Rattle.feast_run.specs.Promises.{IsCodeFile, IsSet, Shows}
-use Rattle.feast_run.specs.Stages.{ReadyValue, builds, element_limit, load, load_all, load_more, ready_by, set_of}
+use Rattle.feast_run.specs.Stages.{ReadyValue, load_all, ready_by, set_of}
 use Rattle.pack_laws.specs.Packed.{packed}
-use Rattle.pack_laws.proofs.Accepted.{again, names, only, same}
+use Rattle.pack_laws.proofs.Accepted.{again, names, same}
 use Rattle.pack_laws.specs.PackedFile.{IsLoaded, IsPacked}
-use Rattle.pack_laws.proofs.Only.{Only, form_same}
+use Rattle.pack_laws.proofs.Only.{Only, form_same, only_one}
 use Rattle.pack_laws.proofs.Shown.{OneTold, one_report, ran_same, stepped_same}
-
--- Loads
-
-bytes_of : Option (List ℕ) → List ℕ
-bytes_of None = []
-bytes_of (Some bytes) = bytes
-
--- a file has one content
-one_content : (o : Option (List ℕ)) (a b : List ℕ) → o ≡ Some a → o ≡ Some b → a ≡ b
-unfolding bytes_of
-one_content o a b p q = ap bytes_of (sym p ∙ q)
-
-load_one : (files : List File) (limit : ℕ) (word : List ℕ) → IsOne (load (Some files) limit word)
-load_one files limit word = record {
-  sure = record {
-    apart = λ a r p q. let e = ap length (one_content _ a q.0.0 p.0 q.0.1) in absurd (omega (arith, e, p.1, q.0.2));
-    one_refusal = λ r s p q. p.1 ∙ sym q.1;
-  };
-  one_value = λ a b p q. one_content _ a b p.0 q.0;
-}
-
-loads_one : (files : List File) (done : List File) (words : List (List ℕ)) → IsOne (load_more (Some files) done words)
-loads_one files done [] = gives_one done
-loads_one files done (word ∷ words) = then_one _ _ (load_one files element_limit word) (λ bytes. loads_one files (done ++ (word, bytes) ∷ []) words)
 
 -- The set that was packed
 
@@ -53,7 +28,7 @@ module _ (files : List File) (words : List (List ℕ)) (file : List ℕ) (packs 
   record Sources : Type 0 where
     pub set : SetValue
     pub sources : List File
-    pub loaded : load_all (Some files) words (passes sources)
+    pub loaded : load_all (Some files) words (Ok sources)
     pub accepted : AcceptsFiles sources set
     pub text : packs.text ≡ pack_text set
 
@@ -67,50 +42,15 @@ module _ (files : List File) (words : List (List ℕ)) (file : List ℕ) (packs 
 
   -- the element files give this set alone
   set_only : Only (set_of (Some files) words) set
-  set_only = record {
-    passed = inr (record { value = the_set.sources; passed = the_set.loaded; rest = the_set.accepted });
-    one = λ a p.
-        let b = went (load_all (Some files) words) (builds words) a p in
-        let sources = (loads_one files [] words).one_value b.value the_set.sources b.passed the_set.loaded in
-        (built_one the_set.sources).value a set (subst (λ l. AcceptsFiles l a) sources b.rest) the_set.accepted;
-    never = λ r p. elim p [
-      | inl halt ↦ (loads_one files [] words).sure.apart the_set.sources r the_set.loaded halt
-      | inr b ↦
-          let sources = (loads_one files [] words).one_value b.value the_set.sources b.passed the_set.loaded in
-          (built_one the_set.sources).either set r.refusal the_set.accepted (subst (λ l. builds words l (refuses r)) sources b.rest).0
-    ];
-  }
+  set_only = only_one (set_of (Some files) words) set (set_one files words) (inr (record { value = the_set.sources; passed = the_set.loaded; rest = the_set.accepted }))
 
   -- what the bytes of the code file say
-  says : (r : Result CodesValue CodeFault) → Reads packs.text r → r ≡ Ok (packed set)
-  says r reads = only the_set.sources set the_set.accepted r (subst (λ bytes. Reads bytes r) the_set.text reads)
-
   said : Reads packs.text (Ok (packed set))
   said = subst (λ bytes. Reads bytes (Ok (packed set))) (sym the_set.text) (again the_set.sources set the_set.accepted)
 
-  abbrev loads : IsOne (load (Some files) code_limit file)
-  loads = load_one files code_limit file
-
-  abbrev stands : load (Some files) code_limit file (passes packs.text)
-  stands = (packs.stands, packs.within)
-
   -- the code file gives the set's elements with their codes alone
   codes_only : Only (codes_from (Some files) file) (packed set)
-  codes_only = record {
-    passed = inr (record { value = packs.text; passed = stands; rest = said });
-    one = λ a p.
-        let b = went (load (Some files) code_limit file) (codes_in file) a p in
-        let bytes = loads.one_value b.value packs.text b.passed stands in
-        let e = says (Ok a) (subst (λ l. Reads l (Ok a)) bytes b.rest) in
-        cc;
-    never = λ r p. elim p [
-      | inl halt ↦ loads.sure.apart packs.text r stands halt
-      | inr b ↦
-          let bytes = loads.one_value b.value packs.text b.passed stands in
-          let e = says (Err b.rest.0) (subst (λ l. Reads l (Err b.rest.0)) bytes b.rest.1) in
-          cc
-    ];
-  }
+  codes_only = only_one (codes_from (Some files) file) (packed set) (codes_one files file) (inr (record { value = packs.text; passed = (packs.stands, packs.within); rest = said }))
 
   -- they are called and do the same
   elements_same : code_elements (packed set) ≡ source_elements set
@@ -129,16 +69,16 @@ module _ (files : List File) (words : List (List ℕ)) (file : List ℕ) (packs 
   }
 
   -- a form with the code file, and the same with the element files
-  abbrev WithCodes : List ℕ → (ReadyValue → Stage (List ℕ)) → Stage (List ℕ)
+  abbrev WithCodes : List ℕ → (ReadyValue → Stage (List ℕ) HaltValue) → Stage (List ℕ) HaltValue
   WithCodes world F = and_then (ready_by code_elements (codes_from (Some files) file) (Some files) world) F
 
-  abbrev WithSources : List ℕ → (ReadyValue → Stage (List ℕ)) → Stage (List ℕ)
+  abbrev WithSources : List ℕ → (ReadyValue → Stage (List ℕ) HaltValue) → Stage (List ℕ) HaltValue
   WithSources world F = and_then (ready_by source_elements (set_of (Some files) words) (Some files) world) F
 
-  pub from_pack : (world : List ℕ) (F : ReadyValue → Stage (List ℕ)) (o : Outcome (List ℕ)) → IsLoaded o → WithCodes world F o → WithSources world F o
+  pub from_pack : (world : List ℕ) (F : ReadyValue → Stage (List ℕ) HaltValue) (o : Result (List ℕ) HaltValue) → IsLoaded o → WithCodes world F o → WithSources world F o
   from_pack world F o l h = form_same CodesValue SetValue code_elements source_elements (codes_from (Some files) file) (set_of (Some files) words) (packed set) set codes_only set_only elements_same (Some files) world F o l h
 
-  pub to_pack : (world : List ℕ) (F : ReadyValue → Stage (List ℕ)) (o : Outcome (List ℕ)) → IsLoaded o → WithSources world F o → WithCodes world F o
+  pub to_pack : (world : List ℕ) (F : ReadyValue → Stage (List ℕ) HaltValue) (o : Result (List ℕ) HaltValue) → IsLoaded o → WithSources world F o → WithCodes world F o
   to_pack world F o l h = form_same SetValue CodesValue source_elements code_elements (set_of (Some files) words) (codes_from (Some files) file) set (packed set) set_only codes_only (sym elements_same) (Some files) world F o l h
 
   -- what a call shows

@@ -1,7 +1,8 @@
 -- Each function of a program that is well typed and named has a sound piece.
-use Rattle.std.proofs.Common.{ℕ, zero, suc, ◌≡◌, ◌+◌, ◌<◌, ◌≤◌, ◌^◌, Bool, true, false, List, [], ◌∷◌, map, take, refl, arith}
-use Rattle.std.specs.Prelude.{slice_get, slice_index_or, if◌then◌else◌}
+use Rattle.std.proofs.Common.{ℕ, zero, suc, ◌≡◌, ◌+◌, ◌<◌, ◌≤◌, ◌^◌, false, List, [], ◌∷◌, map, refl, arith}
+use Rattle.std.specs.Prelude.{slice_get, slice_index_or}
 use Rattle.std.specs.Option.{option_map_or}
+use Rattle.ulam_meaning.proofs.EventLaws.{count_first}
 use Rattle.ulam_tree.specs.declared.resolved.Ty.{Ty}
 use Rattle.ulam_tree.specs.declared.resolved.Ty.TheVariants as y
 use Rattle.ulam_tree.specs.Typed as t
@@ -19,19 +20,10 @@ use Rattle.pack_laws.proofs.TypedWords.{ClassesFormed, IsFormedKey}
 
 -- Type numbers
 
-count_by : (b : Bool) (m n : ℕ) → m ≤ n → (if b then m else suc m) ≤ (if b then n else suc n)
-count_by true m n h = h
-count_by false m n h = omega (arith, h)
-
-count_start : (n : ℕ) (cs : List t.Class) → count_elements (take n cs) ≤ count_elements cs
-count_start zero cs = omega arith
-count_start (suc n) [] = omega arith
-count_start (suc n) (c ∷ cs) = count_by c.quark (count_elements (take n cs)) (count_elements cs) (count_start n cs)
-
 -- no type has a greater number than there are elements
 pub few_types : (g : Program) (ty : Ty) → type_number g ty ≤ count_elements g.classes
 unfolding number_of
-few_types g (y.Class c) = count_start (suc c) g.classes
+few_types g (y.Class c) = count_first (suc c) g.classes
 few_types g ty = omega arith
 
 -- Bodies

@@ -2,7 +2,8 @@
 use Rattle.std.proofs.Common.{ℕ, zero, suc, ◌≡◌, ◌+◌, ◌<◌, ◌≤◌, Bool, true, false, ◌&&◌, ◌||◌, List, [], ◌∷◌, ◌++◌, length, Some, refl, sym, ap, subst, ◌∙◌, arith, length-append, map, codes, bytes_eq, if◌then◌else◌}
 use Rattle.std.specs.Prelude.{slice_get, slice_index_or}
 use Rattle.std.specs.List.{list_any}
-use Rattle.std.specs.Option.{option_map_or}
+use Rattle.code_gen.proofs.LaidOut.{members_at}
+use Rattle.list_laws.proofs.Tests.{or_second}
 use Rattle.ulam_tree.specs.Raw as raw
 use Rattle.ulam_tree.specs.Resolved as r
 use Rattle.ulam_tree.specs.Typed as t
@@ -102,10 +103,6 @@ abbrev pub ClassesFormed : List t.Class → Type 0
 ClassesFormed [] = Unit {0}
 ClassesFormed (c ∷ cs) = IsFormedClass c × ClassesFormed cs
 
-or_second : (a b : Bool) → (a || b) ≡ true → a ≡ false → b ≡ true
-or_second false b h e = h
-or_second true b h e = cc
-
 module _ (known : Known) (heads : List Head) (sigs : List ClassSig) where
   members_kept : (k : ℕ) (d : Names) (hs : List Half) (xs : List r.Member) (us : List t.Member) → AreWhole known heads k d hs xs → AreTypedMembers sigs k xs us → Kept hs (functions us)
   members_kept k d [] xs us h i =
@@ -157,9 +154,6 @@ behave_found (g ∷ fs) all e = on (is_named_behave g) e (λ h. behave_found fs 
     on : (b : Bool) → (b || list_any is_named_behave fs) ≡ true → (list_any is_named_behave fs ≡ true → IsFormedFunction (slice_index_or fs (number_named (codes "behave") fs) no_function)) → IsFormedFunction (slice_index_or (g ∷ fs) (if b then 0 else suc (number_named (codes "behave") fs)) no_function)
     on true h rest = all.0
     on false h rest = rest h
-
-members_at : List t.Class → ℕ → List t.Member
-members_at us c = option_map_or (λ (k : t.Class). k.members) (slice_get us c) []
 
 class_formed : (us : List t.Class) (c : ℕ) → ClassesFormed us → FunctionsFormed (functions (members_at us c))
 unfolding members_at

@@ -1,9 +1,9 @@
 -- A code file that `pack` wrote.
-use Rattle.std.specs.Prelude.{ℕ, ◌≡◌, ◌≤◌, List, Some, length}
+use Rattle.std.specs.Prelude.{ℕ, ◌≡◌, ◌≤◌, List, Some, length, Result, Ok, Err}
 use Rattle.feast_base.specs.Outside.{File, file_of}
 use Rattle.feast_run.specs.CodeFiles.{code_limit}
 use Rattle.feast_run.specs.Forms.{pack}
-use Rattle.feast_run.specs.Outcomes.{Outcome, passes, refuses, misses}
+use Rattle.feast_run.specs.Halting.{HaltValue, misses, refuses}
 use Rattle.feast_run.specs.Promises.{Shows}
 
 -- the first file of a name holds what `pack` writes for some element files, and is no longer than a
@@ -15,7 +15,7 @@ pub record IsPacked (files : List File) (words : List (List ℕ)) (file : List �
   pub within : length text ≤ code_limit
 
 -- no load failed
-abbrev pub IsLoaded : {A : Type 0} → Outcome A → Type 0
-IsLoaded (passes a) = Unit {0}
-IsLoaded (refuses r) = Unit {0}
-IsLoaded (misses w) = ⊥
+abbrev pub IsLoaded : {A : Type 0} → Result A HaltValue → Type 0
+IsLoaded (Ok a) = Unit {0}
+IsLoaded (Err (refuses r)) = Unit {0}
+IsLoaded (Err (misses w)) = ⊥

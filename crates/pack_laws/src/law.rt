@@ -12,7 +12,7 @@ ghost use Rattle.code_file.specs.Right.{AreRight};
 ghost use Rattle.code_file.specs.declared.fault.CodeFault.{CodeFault};
 ghost use Rattle.feast_run.specs.Answer.{form_answer};
 ghost use Rattle.feast_run.specs.Forms.{run, runpack, step, steppack};
-ghost use Rattle.feast_run.specs.Outcomes.{Outcome};
+ghost use Rattle.feast_run.specs.Halting.{HaltValue};
 ghost use Rattle.feast_run.specs.Promises.{Shows};
 ghost use Rattle.pack_laws.specs.Example.{empty_word, example_files, packed_word, world_word};
 ghost use Rattle.pack_laws.specs.Packed.{packed};
@@ -41,8 +41,8 @@ pub fn packed_laws()
 /// contract is the laws.
 pub fn packed_calls()
     ensures written { (files : List File) (world file : List ℕ) (words : List (List ℕ)) → IsPacked files words file → (a b : List ℕ) → Shows files (steppack world file) a → Shows files (step world words) b → a ≡ b }
-    ensures step { (files : List File) (world file : List ℕ) (words : List (List ℕ)) → IsPacked files words file → (o : Outcome (List ℕ)) → IsLoaded o → form_answer (Some files) (steppack world file) o ↔ form_answer (Some files) (step world words) o }
-    ensures run { (files : List File) (world file : List ℕ) (words : List (List ℕ)) → IsPacked files words file → (o : Outcome (List ℕ)) → IsLoaded o → form_answer (Some files) (runpack world file) o ↔ form_answer (Some files) (run world words) o }
+    ensures step { (files : List File) (world file : List ℕ) (words : List (List ℕ)) → IsPacked files words file → (o : Result (List ℕ) HaltValue) → IsLoaded o → form_answer (Some files) (steppack world file) o ↔ form_answer (Some files) (step world words) o }
+    ensures run { (files : List File) (world file : List ℕ) (words : List (List ℕ)) → IsPacked files words file → (o : Result (List ℕ) HaltValue) → IsLoaded o → form_answer (Some files) (runpack world file) o ↔ form_answer (Some files) (run world words) o }
     ensures stepped { (files : List File) (world file : List ℕ) (words : List (List ℕ)) → IsPacked files words file → (text : List ℕ) → Shows files (steppack world file) text ↔ Shows files (step world words) text }
     ensures ran { (files : List File) (world file : List ℕ) (words : List (List ℕ)) → IsPacked files words file → (text : List ℕ) → Shows files (runpack world file) text ↔ Shows files (run world words) text }
     ensures example { IsPacked example_files (empty_word ∷ []) packed_word }

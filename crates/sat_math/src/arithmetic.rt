@@ -20,6 +20,20 @@ fn type_of(how: Arith) -> NumType
     NumType { kind, width }
 }
 
+/// The number of the operation's type that is nearest to `v`. Each type has its own arm, so that its
+/// ends are constants where the type is known only at run time.
+fn nearest(how: Arith, v: i128) -> i128
+    ensures value { result ≡ saturated how v }
+    ensures range { IsInRange (type_of how) result }
+{
+    match how {
+        Arith::Int32 => clamp(type_of(Arith::Int32), v),
+        Arith::Unsigned32 => clamp(type_of(Arith::Unsigned32), v),
+        Arith::Int64 => clamp(type_of(Arith::Int64), v),
+        Arith::Unsigned64 => clamp(type_of(Arith::Unsigned64), v),
+    }
+}
+
 /// The sum, or the nearest number of the type. Both numbers are from -2^63 to 2^64 - 1.
 pub fn add(how: Arith, a: i128, b: i128) -> i128
     requires left { IsNumber a }
@@ -27,7 +41,7 @@ pub fn add(how: Arith, a: i128, b: i128) -> i128
     ensures value { result ≡ saturated how (a +ℤ b) }
     ensures range { IsInRange (type_of how) result }
 {
-    clamp(type_of(how), a + b)
+    nearest(how, a + b)
 }
 
 /// The difference, or the nearest number of the type. Both numbers are from -2^63 to 2^64 - 1.
@@ -37,7 +51,7 @@ pub fn sub(how: Arith, a: i128, b: i128) -> i128
     ensures value { result ≡ saturated how (a -ℤ b) }
     ensures range { IsInRange (type_of how) result }
 {
-    clamp(type_of(how), a - b)
+    nearest(how, a - b)
 }
 
 /// The product, or the nearest number of the type. Both numbers are from -2^63 to 2^64 - 1.
@@ -47,7 +61,7 @@ pub fn mul(how: Arith, a: i128, b: i128) -> i128
     ensures value { result ≡ saturated how (a *ℤ b) }
     ensures range { IsInRange (type_of how) result }
 {
-    clamp(type_of(how), a.saturating_mul(b))
+    nearest(how, a.saturating_mul(b))
 }
 
 /// The number with its sign turned, or the nearest number of the type, which is an `Int`. The
@@ -58,7 +72,7 @@ pub fn neg(how: Arith, a: i128) -> i128
     ensures value { result ≡ saturated how (neg_ℤ a) }
     ensures range { IsInRange (type_of how) result }
 {
-    clamp(type_of(how), -a)
+    nearest(how, -a)
 }
 
 /// The quotient rounded toward 0, or the nearest number of the type. Both numbers are from -2^63 to
@@ -72,7 +86,7 @@ pub fn div(how: Arith, a: i128, b: i128) -> Result<i128, DivideByZero>
     ensures zero { IsErr result ↔ (b ≡ pos 0) }
 {
     match a.checked_div(b) {
-        Some(quotient) => Ok(clamp(type_of(how), quotient)),
+        Some(quotient) => Ok(nearest(how, quotient)),
         None => Err(DivideByZero),
     }
 }
@@ -88,7 +102,7 @@ pub fn rem(how: Arith, a: i128, b: i128) -> Result<i128, DivideByZero>
     ensures zero { IsErr result ↔ (b ≡ pos 0) }
 {
     match a.checked_rem(b) {
-        Some(remainder) => Ok(clamp(type_of(how), remainder)),
+        Some(remainder) => Ok(nearest(how, remainder)),
         None => Err(DivideByZero),
     }
 }

@@ -1,22 +1,12 @@
 -- A grid of a plane, all of whose sites are empty, is the plane's blank grid.
-use Rattle.std.proofs.Common.{ℕ, ◌≡◌, ◌*◌, ◌/◌, ◌%◌, ◌+◌, ◌<◌, ◌≤◌, false, get_or, replicate, sym, ap, ◌∙◌, arith}
+use Rattle.std.proofs.Common.{ℕ, ◌≡◌, ◌*◌, ◌/◌, ◌%◌, ◌+◌, ◌<◌, ◌≤◌, false, get_or, replicate, sym, ap, ◌∙◌, arith, mod-lt, div-add-mod'}
 use Rattle.std.proofs.lemmas.List.FromFn.{fill_by_all}
-use Rattle.std.proofs.lemmas.Nat.{rows}
+use Rattle.list_laws.proofs.Numbers.{div_lt}
 use Rattle.bit_field.specs.Atom.{empty_atom}
 use Rattle.border_cache.specs.Copies.{IsGridOf}
 use Rattle.cell_grid.specs.Grid.{GridValue, IsGrid}
 use Rattle.tile_map.specs.Plane.{MapValue, IsMap, is_live}
 use Rattle.serial_order.specs.BlankGrid.{blank_grid, count_of, site_at}
-
--- a place is that of a site of the plane
-column_in : (i w : ℕ) → 0 < w → i % w < w
-column_in i w some = grind (arith, rows)
-
-row_in : (i w h : ℕ) → 0 < w → i < w * h → i / w < h
-row_in i w h some lt = grind (arith, rows)
-
-whole_place : (i w : ℕ) → 0 < w → i / w * w + i % w ≡ i
-whole_place i w some = grind (arith, rows)
 
 some_columns : (a b : ℕ) → 1 ≤ a → 8 ≤ b → 0 < a * b
 some_columns a b p q = grind arith
@@ -36,7 +26,7 @@ blank_is m k g grid fits empty =
     live_at : (i : ℕ) → i < count_of m → get_or g.live i false ≡ is_live m (site_at m i)
     live_at i lt =
         let w = m.tx * m.w in
-        let x : i % w < g.width = let a = column_in i w (wide m k) in omega (arith, a, fits.wide) in
-        let y : i / w < g.height = let b = row_in i w (m.ty * m.h) (wide m k) lt in omega (arith, b, fits.high) in
-        let place : i / w * g.width + i % w ≡ i = ap (λ n. i / w * n + i % w) fits.wide ∙ whole_place i w (wide m k) in
+        let x : i % w < g.width = let a = mod-lt i (wide m k) in omega (arith, a, fits.wide) in
+        let y : i / w < g.height = let b = div_lt i w (m.ty * m.h) (wide m k) lt in omega (arith, b, fits.high) in
+        let place : i / w * g.width + i % w ≡ i = ap (λ n. i / w * n + i % w) fits.wide ∙ div-add-mod' i w in
         sym (ap (λ n. get_or g.live n false) place) ∙ fits.live (i % w) (i / w) x y

@@ -1,6 +1,8 @@
 -- In the end the newest cells are those of the replayed grid.
 use Rattle.std.proofs.Common.{ℕ, ◌≡◌, ◌≢◌, ◌≤◌, ◌<◌, List, [], ◌∷◌, refl, sym, ap, subst, arith, ◌⊎◌, inl, inr, ⊎_elim, true, Option, Some, None, ◌∙◌, length}
 use Rattle.std.specs.Prelude.{slice_get}
+use Rattle.std.proofs.lemmas.Bool.{cases_eq}
+use Rattle.std.proofs.lemmas.Option.{slice_get_within}
 use Rattle.bit_field.specs.Atom.{empty_atom}
 use Rattle.window_sites.specs.Window.{WindowValue}
 use Rattle.tile_map.specs.Plane.{Site, MapValue, is_live, is_held}
@@ -17,7 +19,7 @@ use Rattle.tile_core.specs.Turns.{Won, Turn, cells_of}
 use Rattle.tile_core.specs.Values.{event_site, atoms_of}
 use Rattle.serial_order.specs.Settled.{cell_in_registers, edge_cells, settled_cell}
 use Rattle.serial_order.proofs.Coherence.{Latest, untouched, touched, Candidates, coherent}
-use Rattle.serial_order.proofs.Ground.{IsEnd, same_or_not, inside_of, needed, placed, place_is}
+use Rattle.serial_order.proofs.Ground.{IsEnd, needed, placed, place_is}
 use Rattle.serial_order.proofs.Histories.{values, cell_at}
 use Rattle.serial_order.proofs.Edge.{HasHold, latest_is}
 use Rattle.serial_order.proofs.Edge.{cell_by as cell_on}
@@ -69,7 +71,7 @@ module _ (m : MapValue) (meaning : WindowValue → ℕ → WindowValue) (first :
       )
 
   known_left : (s : Site) (e k : ℕ) → slice_get (shared_of m e) k ≡ Some s → ((cell_at (values (hist e)) k).stamp ≡ 0) ⊎ ((v : Won) × Writes m turns s v × (cell_at (values (hist e)) k ≡ cell_by v s))
-  known_left s e k at = go (latest_is (deeds m turns e) (hist e) (run.histories e) (of_events m meaning (atoms_of first) turns hist run e) k (inside_of (shared_of m e) k s at))
+  known_left s e k at = go (latest_is (deeds m turns e) (hist e) (run.histories e) (of_events m meaning (atoms_of first) turns hist run e) k (slice_get_within (shared_of m e) k s at))
     where
       go : Latest (λ y. HasHold (deeds m turns e) (hist e) y × ((deeds m turns e).covers y k ≡ true)) (λ y. cell_on (deeds m turns e) y k) (cell_of 0 0) (cell_at (values (hist e)) k)
           → ((cell_at (values (hist e)) k).stamp ≡ 0) ⊎ ((v : Won) × Writes m turns s v × (cell_at (values (hist e)) k ≡ cell_by v s))
@@ -77,7 +79,7 @@ module _ (m : MapValue) (meaning : WindowValue → ℕ → WindowValue) (first :
       go (touched y j is low) = inr (y.won, (y.did, subst (λ o. is_near m (event_site y.won.note) o ≡ true) at j.1), is ∙ (λ i. record { stamp = y.won.note.stamp; atom = at_place (empty_atom) y.won.after (at i) }))
 
   covers_left : (s : Site) (e k : ℕ) (v : Won) → slice_get (shared_of m e) k ≡ Some s → Writes m turns s v → Needs m v e → v.note.stamp ≤ (cell_at (values (hist e)) k).stamp
-  covers_left s e k v at i n = go (latest_is (deeds m turns e) (hist e) (run.histories e) (of_events m meaning (atoms_of first) turns hist run e) k (inside_of (shared_of m e) k s at))
+  covers_left s e k v at i n = go (latest_is (deeds m turns e) (hist e) (run.histories e) (of_events m meaning (atoms_of first) turns hist run e) k (slice_get_within (shared_of m e) k s at))
     where
       x : EventOn m turns e
       x = record { won = v; did = i.0; needs = n }
@@ -97,7 +99,7 @@ module _ (m : MapValue) (meaning : WindowValue → ℕ → WindowValue) (first :
     found_known = λ d i.
         let r = left_by m registers es s d i in
         ⊎_elim (λ (z : (cell_at (values (hist r.0)) r.1).stamp ≡ 0). inl (ap (λ (c : CellValue). c.stamp) r.4 ∙ z)) (λ (z : (v : Won) × Writes m turns s v × (cell_at (values (hist r.0)) r.1 ≡ cell_by v s)). inr (z.0, z.1, r.4 ∙ z.2)) (known_left s r.0 r.1 (placed m run.plane r.0 r.1 s r.3));
-    covered = λ v i. ⊎_elim (λ e. inl (own_covers v i e (last_is m meaning (atoms_of first) t (turns t) (run.played t) s))) (λ ne. inr (other v i ne)) (same_or_not t v.note.tile);
+    covered = λ v i. ⊎_elim (λ e. inl (own_covers v i e (last_is m meaning (atoms_of first) t (turns t) (run.played t) s))) (λ ne. inr (other v i ne)) (cases_eq t v.note.tile);
     positive = λ v i. let o = past_of m meaning (atoms_of first) turns hist run v i.0 in omega (arith, grows m meaning (atoms_of first) v.note.tile o.before v o.won);
   }
     where

@@ -1,5 +1,5 @@
 -- One tile's log: its entries are its turns.
-use Rattle.std.proofs.Common.{ℕ, suc, ◌≡◌, ◌≤◌, ◌<◌, ◌+◌, List, [], ◌∷◌, refl, sym, ap, subst, arith, inl, inr, ⊎_elim, ◌∙◌, ◌==◌, ◌&&◌, length, All, cond}
+use Rattle.std.proofs.Common.{ℕ, suc, ◌≡◌, ◌≤◌, ◌<◌, ◌+◌, List, [], ◌∷◌, refl, sym, ap, subst, arith, inl, inr, ⊎_elim, ◌∙◌, ◌==◌, ◌&&◌, length, cond}
 use Rattle.std.specs.Prelude.{nat_lt, if◌then◌else◌}
 use Rattle.std.proofs.lemmas.Bool.Decides.{nat_tests}
 use Rattle.std.proofs.lemmas.List.{length-append}
@@ -9,16 +9,13 @@ use Rattle.window_sites.specs.Window.{WindowValue}
 use Rattle.tile_map.specs.Plane.{Site, MapValue}
 use Rattle.cell_grid.specs.declared.record.Record.{Record}
 use Rattle.draw_stream.specs.declared.attempt.Attempt.{Attempt}
-use Rattle.list_laws.proofs.Members.{In, InOrder, in_either, in_left, in_right, in_get, order-append, order-pairs}
+use Rattle.list_laws.proofs.Members.{In, InOrder, in_either, in_left, in_right, order-append, order-pairs, in_all}
 use Rattle.event_journal.specs.declared.abandoned.Abandoned.{Abandoned}
 use Rattle.event_journal.specs.Logs.{IsLog, Follows, log_of}
 use Rattle.event_journal.specs.Accounts.{events_at, abandoned_at}
 use Rattle.tile_core.specs.Values.{event_site, given_up_site}
 use Rattle.tile_core.specs.Turns.{Won, Lost, Worn, Turn, Wins, Loses, Wears, records_of, abandoned_of, AreAttempts, IsAttempt}
 use Rattle.serial_order.proofs.Tile.{Played, grows, stamps}
-
-pub all_from : {X : Type 0} (P : X → Type 0) (xs : List X) → ((x : X) → In x xs → P x) → All P xs
-all_from P xs f k d lt = f _ (in_get xs k d lt)
 
 pub in_records : (n : Record) (xs : List Turn) → In n (records_of xs) → (w : Won) × In (Wins w) xs × (n ≡ w.note)
 in_records n [] i = absurd i
@@ -135,8 +132,8 @@ module _ (m : MapValue) (meaning : WindowValue → ℕ → WindowValue) (start :
   -- the entries of a tile are a log
   pub is_log : (xs : List Turn) → Played m meaning start t xs → IsLog (log_of t (records_of xs) (abandoned_of xs))
   is_log xs p = record {
-    records = all_from (λ (r : Record). r.tile ≡ t) (records_of xs) (λ n i. own_record xs p n i);
-    abandoned = all_from (λ (g : Abandoned). g.tile ≡ t) (abandoned_of xs) (λ g i. own_gone xs p g i);
+    records = in_all (λ (r : Record). r.tile ≡ t) (records_of xs) (λ n i. own_record xs p n i);
+    abandoned = in_all (λ (g : Abandoned). g.tile ≡ t) (abandoned_of xs) (λ g i. own_gone xs p g i);
     rising = order-pairs Follows (records_of xs) (follow xs p);
     attempts = order-pairs IsSooner (abandoned_of xs) (sooner xs p);
   }

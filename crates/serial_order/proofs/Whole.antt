@@ -15,9 +15,8 @@ use Rattle.edge_lock.specs.declared.history.Refusal.{Refusal}
 use Rattle.edge_lock.specs.History.{own, keys, IsEdgeHistory}
 use Rattle.edge_lock.specs.History as edge
 use Rattle.edge_lock.specs.EndLists.{EndLists, end_lists, refusal_of}
-use Rattle.event_journal.proofs.Journals.{contains_of}
 use Rattle.std.proofs.lemmas.List.Elements.{All-contains}
-use Rattle.list_laws.proofs.Members.{In, in_left, in_right}
+use Rattle.list_laws.proofs.Members.{In, in_left, in_right, in_contains}
 use Rattle.border_cache.specs.Windows.{end_at, sites_on}
 use Rattle.border_cache.specs.Copies.{held_cell}
 use Rattle.tile_core.specs.Values.{atoms_of, TileValue, given_up_site}
@@ -83,16 +82,16 @@ refusal_in m t l (x ∷ xs) i = ⊎_elim (λ e. in_right (lists_of m t xs l.gone
     here : In (refusal_of l.gone.attempt l.gone.holder_attempt) (refusals_at (Loses l) l.gone.edge)
     here = let same : (l.gone.edge == l.gone.edge) ≡ true = grind (arith, nat_tests) in rw same (inl refl)
 
-has_low : (m : MapValue) (e : ℕ) → has_end m (low_end m e) e ≡ true
+pub has_low : (m : MapValue) (e : ℕ) → has_end m (low_end m e) e ≡ true
 has_low m e = grind (arith, nat_tests)
 
-has_high : (m : MapValue) (e : ℕ) → has_end m (high_end m e) e ≡ true
+pub has_high : (m : MapValue) (e : ℕ) → has_end m (high_end m e) e ≡ true
 has_high m e = grind (arith, nat_tests)
 
-low_is : (m : MapValue) (e : ℕ) → end_at m (low_end m e) e ≡ 0
+pub low_is : (m : MapValue) (e : ℕ) → end_at m (low_end m e) e ≡ 0
 low_is m e = grind (arith, nat_tests)
 
-high_is : (m : MapValue) (e : ℕ) → low_end m e < high_end m e → end_at m (high_end m e) e ≡ 1
+pub high_is : (m : MapValue) (e : ℕ) → low_end m e < high_end m e → end_at m (high_end m e) e ≡ 1
 high_is m e lt = grind (arith, nat_tests, lt)
 
 joins_other : (m : MapValue) (t e u : ℕ) → u ≡ other_end m t e → IsEnd m t e → low_end m e < high_end m e → Joins m e t u
@@ -241,8 +240,8 @@ module _ (s : Scene) (o : IsOver s) where
       inside = subst (λ (l : EndLists). In r l.refusals) (sym is) i
 
       by : (b : ℕ) → IsEdgeHistory (sites_on s.map e) (history_at s.edges e).holds (history_at s.edges e).low (history_at s.edges e).high → (b ≡ 0) ⊎ (b ≡ 1) → In r (end_lists_of b (history_at s.edges e)).refusals → edge.IsPlaced (keys (history_at s.edges e).holds) b r
-      by b k (inl z) j = subst (λ n. edge.IsPlaced (keys (history_at s.edges e).holds) n r) (sym z) (All-contains (edge.IsPlaced (keys (history_at s.edges e).holds) 0) (history_at s.edges e).low r k.lower.fits (contains_of (history_at s.edges e).low r (subst (λ n. In r (end_lists_of n (history_at s.edges e)).refusals) z j)))
-      by b k (inr z) j = subst (λ n. edge.IsPlaced (keys (history_at s.edges e).holds) n r) (sym z) (All-contains (edge.IsPlaced (keys (history_at s.edges e).holds) 1) (history_at s.edges e).high r k.higher.fits (contains_of (history_at s.edges e).high r (subst (λ n. In r (end_lists_of n (history_at s.edges e)).refusals) z j)))
+      by b k (inl z) j = subst (λ n. edge.IsPlaced (keys (history_at s.edges e).holds) n r) (sym z) (All-contains (edge.IsPlaced (keys (history_at s.edges e).holds) 0) (history_at s.edges e).low r k.lower.fits (in_contains (history_at s.edges e).low r (subst (λ n. In r (end_lists_of n (history_at s.edges e)).refusals) z j)))
+      by b k (inr z) j = subst (λ n. edge.IsPlaced (keys (history_at s.edges e).holds) n r) (sym z) (All-contains (edge.IsPlaced (keys (history_at s.edges e).holds) 1) (history_at s.edges e).high r k.higher.fits (in_contains (history_at s.edges e).high r (subst (λ n. In r (end_lists_of n (history_at s.edges e)).refusals) z j)))
 
       none : (b : ℕ) → In r (end_lists_of b no_history).refusals → ⊥
       none b j = pick (b == 0) j

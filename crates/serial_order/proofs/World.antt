@@ -2,6 +2,7 @@
 use Rattle.std.proofs.Common.{ℕ, ◌≡◌, ◌<◌, List, [], ◌∷◌, ◌++◌, refl, sym, ap, subst, arith, ◌⊎◌, inl, inr, ⊎_elim, Bool, true, false, Option, Some, None, ◌∙◌, ◌==◌}
 use Rattle.std.specs.Prelude.{if◌then◌else◌, slice_get}
 use Rattle.std.proofs.lemmas.Bool.Decides.{nat_tests}
+use Rattle.list_laws.specs.Options.{or_zero}
 use Rattle.bit_field.specs.Atom.{AtomValue, empty_atom}
 use Rattle.window_sites.specs.Window.{WindowValue}
 use Rattle.tile_map.specs.Plane.{Site, MapValue, owner_of, is_live}
@@ -12,7 +13,7 @@ use Rattle.edge_lock.specs.History.{own, found_value}
 use Rattle.list_laws.proofs.Members.{In, in_filter, filter_in}
 use Rattle.border_cache.specs.Windows.{has, end_at, sites_on}
 use Rattle.tile_core.specs.Values.{event_site}
-use Rattle.tile_core.specs.Turns.{Won, Turn, Wins, Loses, Wears, IsTurn, IsWon, IsSilent, edges_of, hold_at, one_if, lists_of, before, stamp_of, clock_in, accesses_at, known_or_0}
+use Rattle.tile_core.specs.Turns.{Won, Turn, Wins, Loses, Wears, IsTurn, IsWon, IsSilent, edges_of, hold_at, one_if, lists_of, before, stamp_of, clock_in, accesses_at}
 use Rattle.serial_order.proofs.Lists.{back, back_append}
 use Rattle.serial_order.proofs.Histories.{IsQuiet, IsHistory, quiet}
 use Rattle.serial_order.proofs.Ground.{IsEnd, has_in, in_has, ends_of}
@@ -124,7 +125,7 @@ module _ (m : MapValue) (meaning : WindowValue → ℕ → WindowValue) (start :
 
   clock_low : (e : ℕ) (w : Won) (before : List Turn) (c : ℕ) → IsWon m meaning start w.note.tile before w → Needs m w e → found_value (accesses_at w e) 0 ≡ Some c → c < w.note.stamp
   clock_low e w before c k i f =
-      let at : clock_in (accesses_at w e) ≡ c = ap known_or_0 f in
+      let at : clock_in (accesses_at w e) ≡ c = ap or_zero f in
       omega (arith, k.stamp, at, greatest_each (stamp_of before) (λ d. clock_in (accesses_at w d)) (needs_of m w.note.tile (event_site w.note)) e i)
 
   -- the hold of an event, as the edge sees it

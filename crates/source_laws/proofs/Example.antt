@@ -2,7 +2,7 @@
 --     quark Q { Unsigned(4) v; Void inc(Unsigned(2) k) { v += k; } }
 --     element A { constant Unsigned(3) most = 5; EventWindow ew; Q q; Void behave() { Atom n = ew[1]; if (n as A) q.v = n.q.v; q.inc(most); } }
 use Rattle.std.proofs.Common.{◌≡◌, ℕ, List, [], ◌∷◌, Some, None, codes, refl, subst, Ok, Err, true, false}
-use Rattle.feast_base.specs.declared.place.Place.{Place}
+use Rattle.ulam_meaning.proofs.Shorthand.{here}
 use Rattle.ulam_tree.specs.declared.op.PairOp.TheVariants.{Add}
 use Rattle.ulam_tree.specs.Raw as raw
 use Rattle.ulam_tree.specs.Resolved as r
@@ -24,9 +24,6 @@ use Rattle.ulam_types.specs.ProgramTyping.{IsTypedProgram}
 use Rattle.ulam_types.proofs.Classes.{program_means as typing_means}
 use Rattle.code_gen.specs.Compiling.{IsCompilable}
 use Rattle.source_laws.proofs.Programs.{compilable}
-
-abbrev here : Place
-here = record { file = 0; line = 1; column = 1 }
 
 abbrev word : List ℕ → raw.Word
 word name = record { name = name; place = here }

@@ -3,7 +3,8 @@ use Rattle.std.proofs.Common.{◌≡◌, ◌≢◌, ℕ, ◌+◌, ◌<◌, ◌�
 use Rattle.std.specs.Prelude.{AllPairs, if◌then◌else◌}
 use Rattle.std.proofs.lemmas.List.Elements.{All-push}
 use Rattle.std.proofs.lemmas.List.Quantifiers.{all_pairs_push}
-use Rattle.std.proofs.lemmas.Bool.{eqb-true}
+use Rattle.std.proofs.lemmas.Bool.{eqb-true, cases_eq}
+use Rattle.tile_core.proofs.Played.{greatest_above}
 use Rattle.window_sites.specs.Window.{WindowValue}
 use Rattle.tile_map.specs.Plane.{MapValue, is_held}
 use Rattle.tile_map.specs.Edges.{needs_of}
@@ -15,8 +16,8 @@ use Rattle.draw_stream.specs.declared.attempt.Attempt.{Attempt}
 use Rattle.border_cache.specs.Copies.{IsCentre}
 use Rattle.border_cache.specs.Windows.{has}
 use Rattle.tile_core.specs.Values.{event_site}
-use Rattle.serial_order.proofs.Ground.{needed, has_in, in_has, same_or_not}
-use Rattle.serial_order.proofs.Tile.{greatest_first, greatest_each}
+use Rattle.serial_order.proofs.Ground.{needed, has_in, in_has}
+use Rattle.serial_order.proofs.Tile.{greatest_each}
 use Rattle.stepped_world.specs.Machine.{Hand, Doing, Drawing, Done, Locking, Refreshing, Behaving, Writing, Giving, Backing, TileState, EdgeState, Machine, at, next_lock, next_give, next_back, does, is_held_by, record_of, drawn, draw, lock, next_stamp, write, step_in, step}
 use Rattle.stepped_world.specs.Running.{Setting, ComesBefore, HasClocks, IsSound}
 
@@ -81,7 +82,7 @@ module _ (m : MapValue) (plane : IsPlane m) (g : Setting) (t : ℕ) (s : Machine
     after = write m g.meaning t h (next_stamp m t h s) s
 
     above_tile : (s.tile t).clock < next_stamp m t h s
-    above_tile = let r = greatest_first (s.tile t).clock (λ e. (s.edge e).clock) (needs_of m t h.site) in omega (arith, r)
+    above_tile = let r = greatest_above (s.tile t).clock (λ e. (s.edge e).clock) (needs_of m t h.site) in omega (arith, r)
 
     above_edge : (e : ℕ) → has e (needs_of m t h.site) ≡ true → (s.edge e).clock < next_stamp m t h s
     above_edge e i = let r = greatest_each (s.tile t).clock (λ e. (s.edge e).clock) (needs_of m t h.site) e (has_in e (needs_of m t h.site) i) in omega (arith, r)
@@ -111,7 +112,7 @@ module _ (m : MapValue) (plane : IsPlane m) (g : Setting) (t : ℕ) (s : Machine
     later r c clocks u a b = ⊎_elim {C = r.stamp < next_stamp m t h s}
         (λ (e : r.tile ≡ t). let lt = above_tile in let low = clocks.tile in omega (arith, low, lt, ap (λ n. (s.tile n).clock) e))
         (λ ne. far ne)
-        (same_or_not r.tile t)
+        (cases_eq r.tile t)
       where
         far : r.tile ≢ t → r.stamp < next_stamp m t h s
         far ne =

@@ -1,5 +1,6 @@
 -- When the tiles of a plane and their edges are as the stepped machine has them.
 use Rattle.std.specs.Prelude.{ℕ, ◌≡◌, ◌<◌, ◌-◌, List, Option, Some, None, ◌==◌, if◌then◌else◌, length, take, drop, slice_get}
+use Rattle.event_journal.specs.Logs.{of_tile, gone_of}
 use Rattle.tile_map.specs.Plane.{MapValue}
 use Rattle.tile_map.specs.Edges.{pairs_of, low_end, high_end}
 use Rattle.edge_lock.specs.declared.history.Hold.{Hold}
@@ -8,7 +9,7 @@ use Rattle.edge_lock.specs.PlainBoard.{PlainBoardValue, edge_at}
 use Rattle.tile_core.specs.declared.phase.Phase.{Phase}
 use Rattle.tile_core.specs.declared.phase.Phase.TheVariants.{Draw, Lock, Refresh, Behave, Write, Give, Back, Finished, Worn}
 use Rattle.tile_core.specs.Values.{TileValue, centre}
-use Rattle.stepped_world.specs.Machine.{Hand, Doing, Drawing, Done, Refreshing, Behaving, Writing, TileState, EdgeState, Machine, next_lock, next_give, next_back, records_by, abandoned_by}
+use Rattle.stepped_world.specs.Machine.{Hand, Doing, Drawing, Done, Refreshing, Behaving, Writing, TileState, EdgeState, Machine, next_lock, next_give, next_back}
 
 -- the attempt that a tile has in hand
 abbrev pub hand_in : TileValue → Hand
@@ -46,6 +47,6 @@ pub record IsEdgeIn (m : MapValue) (e : ℕ) (holds : List Hold) (state : EdgeSt
 -- all tiles and all edges are as the machine has them, and so are the tiles' entries
 pub record Matches {B : Type 0} (m : MapValue) (tiles : List (TileValue × B)) (board : PlainBoardValue) (s : Machine) : Type 0 where
   pub tiles_are : (t : ℕ) (x : TileValue × B) → slice_get tiles t ≡ Some x → IsTileIn x.0 (s.tile t)
-  pub records : (t : ℕ) (x : TileValue × B) → slice_get tiles t ≡ Some x → x.0.records ≡ records_by t s.records
-  pub abandoned : (t : ℕ) (x : TileValue × B) → slice_get tiles t ≡ Some x → x.0.abandoned ≡ abandoned_by t s.abandoned
+  pub records : (t : ℕ) (x : TileValue × B) → slice_get tiles t ≡ Some x → x.0.records ≡ of_tile t s.records
+  pub abandoned : (t : ℕ) (x : TileValue × B) → slice_get tiles t ≡ Some x → x.0.abandoned ≡ gone_of t s.abandoned
   pub edges : (e : ℕ) → e < length (pairs_of m) → IsEdgeIn m e (edge_at board e).holds (s.edge e)

@@ -1,5 +1,6 @@
 -- All tiles of a plane on one board: at the start of the stepped run, and underway.
-use Rattle.std.specs.Prelude.{ℕ, ◌≡◌, ◌<◌, ◌≤◌, ◌+◌, ◌-◌, ◌*◌, ◌⊎◌, List, All, AllPairs, length, map, slice_get, Bool, true, false, Option, Some, None}
+use Rattle.std.specs.Prelude.{ℕ, ◌≡◌, ◌<◌, ◌≤◌, ◌+◌, ◌*◌, ◌⊎◌, List, All, AllPairs, length, map, slice_get, Bool, true, false, Option, Some, None}
+use Rattle.tile_core.specs.Steps.{steps_in}
 use Rattle.window_sites.specs.Window.{WindowValue}
 use Rattle.tile_map.specs.Plane.{Site, MapValue, tiles_of, in_window}
 use Rattle.tile_map.specs.Edges.{sizes_of, needs_of}
@@ -58,22 +59,10 @@ abbrev pub stands_still : {B : Type 0} → Option (TileValue × B) → Bool
 stands_still None = true
 stands_still (Some x) = is_still x.0.phase
 
--- how many steps the attempt in hand takes at most
-abbrev pub steps_in_hand : TileValue → Phase → ℕ
-steps_in_hand tile Draw = 0
-steps_in_hand tile Lock = 40 + (length tile.needs - tile.next)
-steps_in_hand tile Refresh = 30
-steps_in_hand tile Behave = 29
-steps_in_hand tile Write = 28
-steps_in_hand tile Give = 1 + (length tile.needs - tile.next)
-steps_in_hand tile Back = 1 + (tile.count - tile.next)
-steps_in_hand tile Finished = 0
-steps_in_hand tile Worn = 0
-
 -- how many steps a tile makes at most
 abbrev pub steps_ahead : {B : Type 0} → Option (TileValue × B) → ℕ
 steps_ahead None = 0
-steps_ahead (Some x) = 50 * length x.0.left + steps_in_hand x.0 x.0.phase
+steps_ahead (Some x) = 50 * length x.0.left + steps_in x.0 x.0.phase
 
 -- one tile is worn out
 abbrev pub AnyIsWorn : {B : Type 0} → List (TileValue × B) → Type 0

@@ -1,8 +1,9 @@
 -- The lists of an end while an attempt is in hand.
-use Rattle.std.proofs.Common.{◌≡◌, ◌≢◌, ℕ, ◌+◌, ◌<◌, ◌≤◌, eqb, Bool, true, false, cond, List, [], ◌∷◌, ◌++◌, length, get_or, take, refl, sym, ap, ◌∙◌, subst, arith}
+use Rattle.std.proofs.Common.{◌≡◌, ℕ, ◌+◌, ◌<◌, ◌≤◌, eqb, Bool, true, false, cond, List, [], ◌∷◌, ◌++◌, length, get_or, take, refl, sym, ap, ◌∙◌, subst, arith}
 use Rattle.std.specs.Prelude.{if◌then◌else◌, ◌==◌, ◌&&◌, not, All}
 use Rattle.std.proofs.lemmas.List.{take_all, append-nil}
 use Rattle.std.proofs.lemmas.List.Elements.{All-push}
+use Rattle.std.proofs.lemmas.Bool.{eqb-false}
 use Rattle.bit_field.specs.Atom.{AtomValue}
 use Rattle.window_sites.specs.Window.{WindowValue}
 use Rattle.edge_lock.specs.declared.board.Take.TheVariants.{Got, Busy}
@@ -92,11 +93,8 @@ give_more h rs l = ap (λ hs. end_lists hs (l.refusals ++ rs)) (change_last-snoc
 pub same_closed : (h : Hold) → h.is_open ≡ false → as_open false h ≡ h
 same_closed h is = λ i. hold_of h.end h.attempt h.accesses (sym is i)
 
-eqb_of : (d e : ℕ) → eqb d e ≡ true → e ≡ d
+pub eqb_of : (d e : ℕ) → eqb d e ≡ true → e ≡ d
 eqb_of d e is = grind (arith, is)
-
-eqb_not : (d e : ℕ) → eqb d e ≡ false → d ≢ e
-eqb_not d e is = grind (arith, is)
 
 -- the lock phase
 module _ (m : MapValue) (t i n e : ℕ) (turns : List Turn) (needs : List ℕ) (a b : ℕ → EndLists) (rise : Rises needs) (lt : n < length needs) (at : e ≡ get_or needs n 0)
@@ -122,7 +120,7 @@ module _ (m : MapValue) (t i n e : ℕ) (turns : List Turn) (needs : List ℕ) (
           let here : b e ≡ with_more (hold_of (end_at m t e) i [] true ∷ []) [] (lists_of m t turns e) =
           here_after a b e (after_try k i Got (a e)) is ∙ ((λ j. after_try (end j) i Got (here_free j)) ∙ ap (λ rs. end_lists ((lists_of m t turns e).holds ++ hold_of (end_at m t e) i [] true ∷ []) rs) (sym (append-nil (lists_of m t turns e).refusals))) in
           subst (λ x. b x ≡ with_more (hold_of (end_at m t x) i [] true ∷ []) [] (lists_of m t turns x)) same here ∙ ap aim (sym (more ∙ ap (λ x. if x then true else has d (take n needs)) q))
-      go false q = else_after a b e d (after_try k i Got (a e)) is (eqb_not d e q) ∙ (had d own ∙ ap aim (sym (more ∙ ap (λ x. if x then true else has d (take n needs)) q)))
+      go false q = else_after a b e d (after_try k i Got (a e)) is (eqb-false d e q) ∙ (had d own ∙ ap aim (sym (more ∙ ap (λ x. if x then true else has d (take n needs)) q)))
 
   -- the attempt is abandoned
   pub busy_left : (k j : ℕ) (l : Lost) → l.gone.edge ≡ e → l.gone.attempt ≡ i → l.gone.holder_attempt ≡ j → edges_of m t (Loses l) ≡ take n needs → ((d : ℕ) → l.hold d ≡ hold_of (end_at m t d) i [] false)
@@ -150,7 +148,7 @@ module _ (m : MapValue) (t i n e : ℕ) (turns : List Turn) (needs : List ℕ) (
           here_after a b e (after_try k i (Busy j) (a e)) is ∙ (ap (after_try k i (Busy j)) here_free ∙ ap (λ hs. end_lists hs (past.refusals ++ refusal_of i j ∷ [])) (sym (append-nil past.holds))) in
           subst (λ x. b x ≡ with_more [] (refusal_of i j ∷ []) (lists_of m t turns x)) same here
           ∙ sym (whole false (ap (λ x. has x (take n needs)) (sym same) ∙ fresh) (refusal_of i j ∷ []) (refused true q))
-      go false q = else_after a b e d (after_try k i (Busy j) (a e)) is (eqb_not d e q) ∙ (had d own ∙ (open_is (has d (take n needs)) ∙ sym (whole (has d (take n needs)) refl [] (refused false q))))
+      go false q = else_after a b e d (after_try k i (Busy j) (a e)) is (eqb-false d e q) ∙ (had d own ∙ (open_is (has d (take n needs)) ∙ sym (whole (has d (take n needs)) refl [] (refused false q))))
 
 -- giving back
 module _ (m : MapValue) (t n e : ℕ) (x : Turn) (older : List Turn) (edges : List ℕ) (a b : ℕ → EndLists) (rise : Rises edges) (lt : n < length edges) (at : e ≡ get_or edges n 0)
@@ -192,7 +190,7 @@ module _ (m : MapValue) (t n e : ℕ) (x : Turn) (older : List Turn) (edges : Li
           subst (λ k. b k ≡ with_more (as_open false (hold_at x k) ∷ []) (refusals_at x k) (lists_of m t older k)) e_is_d here
           ∙ ((λ z. with_more (one_if (sym there z) (as_open (sym (shut (has d edges)) z) (hold_at x d))) (refusals_at x d) (lists_of m t older d))
           ∙ ap aim (sym (more ∙ ap (λ y. if y then true else has d (take n edges)) q)))
-      go false q = else_after a b e d (after_give (a e)) is (eqb_not d e q) ∙ (left d own ∙ ap aim (sym (more ∙ ap (λ y. if y then true else has d (take n edges)) q)))
+      go false q = else_after a b e d (after_give (a e)) is (eqb-false d e q) ∙ (left d own ∙ ap aim (sym (more ∙ ap (λ y. if y then true else has d (take n edges)) q)))
 
 -- all were given back
 pub all_left : (m : MapValue) (t : ℕ) (x : Turn) (older : List Turn) (edges : List ℕ) (a : ℕ → EndLists) → edges ≡ edges_of m t x → ((d : ℕ) → has d (edges_of m t x) ≡ true → (hold_at x d).is_open ≡ false)

@@ -1,10 +1,11 @@
 -- What is over is played, and the entries of the turns make a log.
 use Rattle.std.proofs.Common.{◌≡◌, ℕ, zero, suc, ◌<◌, ◌≤◌, Bool, true, List, [], ◌∷◌, length, take, refl, sym, ap, ◌∙◌, subst, arith}
-use Rattle.std.specs.Prelude.{drop, slice_get, max, All, AllPairs}
+use Rattle.std.specs.Prelude.{max, All, AllPairs}
 use Rattle.std.proofs.lemmas.List.{take_all}
 use Rattle.std.proofs.lemmas.List.Elements.{All-push}
 use Rattle.std.proofs.lemmas.List.Quantifiers.{all_pairs_push}
 use Rattle.std.proofs.lemmas.Option.{slice_get_within}
+use Rattle.list_laws.proofs.Slots.{get_take, drop_none}
 use Rattle.bit_field.specs.Atom.{AtomValue}
 use Rattle.window_sites.specs.Window.{WindowValue}
 use Rattle.tile_map.specs.Plane.{Site, MapValue}
@@ -21,23 +22,10 @@ use Rattle.tile_core.specs.Values.{TileValue, centre, event_site, given_up_site}
 use Rattle.tile_core.specs.Turns.{Turn, Wins, Loses, Wears, Worn, AreTurns, IsAttempt, IsAttemptOf, AreAttempts, IsWorn, HasPlayed, accesses_at, AgreeOnEdges, lists_of, with_more, one_if, stamp_of, clock_in, greatest, records_of, abandoned_of}
 use Rattle.tile_core.specs.Underway.{IsUnderway, InPhase, IsDrawn}
 
--- the first attempts of a list
-get_take : {A : Type 0} (k n : ℕ) (xs : List A) → k < n → slice_get (take n xs) k ≡ slice_get xs k
-get_take k zero xs lt = absurd (omega (arith, lt))
-get_take k (suc n) [] lt = refl
-get_take zero (suc n) (x ∷ xs) lt = refl
-get_take (suc k) (suc n) (x ∷ xs) lt = get_take k n xs (omega (arith, lt))
-
 length_take : {A : Type 0} (n : ℕ) (xs : List A) → n ≤ length xs → length (take n xs) ≡ n
 length_take zero xs le = refl
 length_take (suc n) [] le = absurd (omega (arith, le))
 length_take (suc n) (x ∷ xs) le = ap (λ k. suc k) (length_take n xs (omega (arith, le)))
-
-drop_empty : {A : Type 0} (n : ℕ) (xs : List A) → drop n xs ≡ [] → length xs ≤ n
-drop_empty zero [] h = omega arith
-drop_empty zero (x ∷ xs) h = absurd (cc h)
-drop_empty (suc n) [] h = omega arith
-drop_empty (suc n) (x ∷ xs) h = let le = drop_empty n xs h in omega (arith, le)
 
 module _ (m : MapValue) (t : ℕ) (attempts : List Attempt) where
   attempt_within : (n k : ℕ) (s : Site) (seed : ℕ) → k < n → IsAttempt m t attempts k s seed → IsAttempt m t (take n attempts) k s seed
@@ -81,7 +69,7 @@ module _ (m : MapValue) (meaning : WindowValue → ℕ → WindowValue) (start :
   pub played_at_end : tile.phase ≡ Finished → HasPlayed m meaning start tile.number attempts tile.records tile.abandoned lists
   played_at_end is =
       let h = subst (InPhase m meaning start attempts u.turns tile lists) is u.hand in
-      let le = drop_empty tile.taken attempts (sym u.left ∙ h.1) in
+      let le = drop_none tile.taken attempts (sym u.left ∙ h.1) in
       subst (λ as_played. HasPlayed m meaning start tile.number as_played tile.records tile.abandoned lists) (take_all tile.taken attempts le) (with_turns tile.taken (sym h.0) h.2)
 
   -- a tile that is worn out has played the attempts that it drew, and the holds of the last are open
@@ -119,7 +107,7 @@ module _ (m : MapValue) (meaning : WindowValue → ℕ → WindowValue) (start :
       go e b q = ap (λ es. with_more (one_if (has e es) (worn.hold e)) [] (lists_of m tile.number u.turns e)) d.needs
 
 -- the greatest of some numbers is not below the first
-greatest_above : (n : ℕ) (f : ℕ → ℕ) (es : List ℕ) → n ≤ greatest n f es
+pub greatest_above : (n : ℕ) (f : ℕ → ℕ) (es : List ℕ) → n ≤ greatest n f es
 greatest_above n f [] = omega arith
 greatest_above n f (e ∷ es) = let le = greatest_above (max n (f e)) f es in grind (arith, le)
 

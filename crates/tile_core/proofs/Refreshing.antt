@@ -1,7 +1,6 @@
 -- The step Refresh keeps a tile underway.
 use Rattle.std.proofs.Common.{inl, ◌≡◌, ℕ, ◌+◌, ◌*◌, ◌<◌, ◌≤◌, eqb, true, false, true≢false, cond, List, [], ◌∷◌, ◌++◌, length, get_or, refl, sym, ap, ◌∙◌, subst, arith, ⊎_elim, Option, Some, None}
 use Rattle.std.specs.Prelude.{All}
-use Rattle.std.proofs.lemmas.List.{get_or_default}
 use Rattle.bit_field.specs.Atom.{AtomValue}
 use Rattle.window_sites.specs.Window.{WindowValue}
 use Rattle.tile_map.specs.Plane.{Site, MapValue, in_window}
@@ -18,8 +17,7 @@ use Rattle.border_cache.specs.News.{seen, has_bit, word_of, cell_in}
 use Rattle.border_cache.specs.Windows.{has, place_in, end_at, sites_on, seen_on}
 use Rattle.border_cache.specs.Copies.{CacheValue, held_cell}
 use Rattle.border_cache.proofs.Runs.{known_after, known_all, honest_append}
-use Rattle.border_cache.proofs.Needs.{has_at}
-use Rattle.border_cache.proofs.Stored.{centre_holds}
+use Rattle.border_cache.proofs.Stored.{centre_holds, has_get}
 use Rattle.tile_core.specs.declared.phase.Phase.TheVariants.{Refresh, Worn}
 use Rattle.tile_core.specs.Values.{TileValue, centre}
 use Rattle.tile_core.specs.Turns.{Turn, lists_of, with_more, one_if, own_cell, newest_at, clock_in, greatest, stamp_of, cells_of}
@@ -39,11 +37,8 @@ seen_clock sites end c xs (Some k) =
     (λ j. cond (has_bit (skip (word_of sites end k) (omega arith) j) k) (cell_in (skip (1 + 2 * k) (omega arith) j) (skip (2 + 2 * k) (omega arith) j)) None)
 
 -- what holds of each edge holds of those of the list
-has_any : (xs : List ℕ) (k d : ℕ) → k < length xs → has (get_or xs k d) xs ≡ true
-has_any xs k d lt = ap (λ e. has e xs) (get_or_default xs k d 0 lt) ∙ has_at k xs lt
-
 pub all_had : (P : ℕ → Type 0) (xs : List ℕ) → ((e : ℕ) → has e xs ≡ true → P e) → All P xs
-all_had P xs f = λ k d lt. f (get_or xs k d) (has_any xs k d lt)
+all_had P xs f = λ k d lt. f (get_or xs k d) (has_get xs k d lt)
 
 -- the open hold of a needed edge
 pub open_held : (m : MapValue) (t i : ℕ) (turns : List Turn) (needs : List ℕ) (accesses : ℕ → List Access) (a : ℕ → EndLists) → ((e : ℕ) → has e needs ≡ true → has_end m t e ≡ true) → HasOpen m t i turns needs accesses a

@@ -1,6 +1,7 @@
 -- What a tile did, attempt by attempt (the newest turn first), and what follows for the lists of
 -- its end of each edge.
 use Rattle.std.specs.Prelude.{ℕ, ◌≡◌, ◌≤◌, ◌<◌, ◌+◌, ◌-◌, ◌*◌, ◌/◌, ◌==◌, ◌⊎◌, max, if◌then◌else◌, List, [], ◌∷◌, ◌++◌, length, slice_get, Bool, true, false, Option, Some, None}
+use Rattle.list_laws.specs.Options.{or_zero}
 use Rattle.bit_field.specs.Atom.{AtomValue, empty_atom}
 use Rattle.window_sites.specs.Window.{WindowValue, atom_at}
 use Rattle.tile_map.specs.Plane.{Site, MapValue, site_in, in_window}
@@ -107,13 +108,9 @@ stamp_of (Wins w ∷ xs) = w.note.stamp
 stamp_of (Loses l ∷ xs) = stamp_of xs
 stamp_of (Wears w ∷ xs) = stamp_of xs
 
-abbrev pub known_or_0 : Option ℕ → ℕ
-known_or_0 None = 0
-known_or_0 (Some c) = c
-
 -- the clock that a hold found
 abbrev pub clock_in : List Access → ℕ
-clock_in accesses = known_or_0 (found_value accesses 0)
+clock_in accesses = or_zero (found_value accesses 0)
 
 -- the greatest of n and the values of f for these edges
 abbrev pub greatest : ℕ → (ℕ → ℕ) → List ℕ → ℕ

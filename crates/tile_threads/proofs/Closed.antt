@@ -3,6 +3,7 @@ use Rattle.std.proofs.Common.{◌≡◌, ℕ, zero, suc, ◌<◌, eqb, true, con
 use Rattle.std.specs.Prelude.{slice_get, if◌then◌else◌, ◌||◌}
 use Rattle.std.proofs.lemmas.List.{length-map, get_or-map}
 use Rattle.std.proofs.lemmas.Option.{slice_get_within}
+use Rattle.tile_core.proofs.Lists.{eqb_of}
 use mathlib.Core.Logic.{dite}
 use native.Mathlib.Decide.{ℕ_discrete}
 use Rattle.window_sites.specs.Window.{WindowValue}
@@ -28,7 +29,6 @@ use Rattle.edge_lock.specs.Passes.{EdgeValue, PassValue}
 use Rattle.tile_threads.specs.Passes.{passes_of, IsClosedEdge, AreClosed}
 use Rattle.serial_order.specs.Fresh.{AreFresh}
 use Rattle.tile_threads.specs.Whole.{HaveReturned, HasRun}
-use Rattle.tile_threads.proofs.LettingGo.{eqb_of}
 
 module _ (m : MapValue) (lists : ℕ → ℕ → EndLists) (closed : List ClosedValue) (k : AreClosed m lists closed) where
   history_is : (e : ℕ) → e < length (pairs_of m) → history_at (closed_histories closed) e ≡ closed_history (closed_at closed e)

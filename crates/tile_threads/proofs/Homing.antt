@@ -1,7 +1,7 @@
 -- Workers sent out and taken apart one by one.
-use Rattle.std.proofs.Common.{◌≡◌, ℕ, ◌<◌, ◌≤◌, List, [], ◌∷◌, ◌++◌, take, drop, length, get_or, refl, sym, ap, ◌∙◌, subst, arith, length-append}
+use Rattle.std.proofs.Common.{◌≡◌, ℕ, ◌<◌, ◌≤◌, List, [], ◌∷◌, ◌++◌, length, get_or, refl, sym, ap, ◌∙◌, subst, arith, length-append}
 use Rattle.std.specs.Prelude.{slice_index_or}
-use Rattle.std.proofs.lemmas.List.{append_assoc, get_or_append_left, take-append-le, take_all}
+use Rattle.std.proofs.lemmas.List.{append_assoc, get_or_append_left}
 use mathlib.Core.Logic.{dite}
 use native.Mathlib.Decide.{ℕ_discrete}
 use Rattle.edge_lock.specs.Passes.{PassValue}
@@ -44,7 +44,3 @@ pub home_of : (m : MapValue) (t n : ℕ) (was old new : SharedEndValue) (passes 
 home_of m t n was old new passes number is moved lists same =
     subst (CameHome m t was.passes) (sym same)
     (subst (λ (y : ℕ × SharedEndValue). CameHome m y.0 y.1.passes new.passes) (λ i. (number i, is i)) (record { same = moved.passes; lists_are = lists }))
-
--- a list that was lent whole and came back
-pub whole_back : {X : Type 0} (n : ℕ) (new old : List X) → length new ≡ length old → n ≡ length old → take n (new ++ drop (length new) old) ≡ new
-whole_back n new old long is = take-append-le n new (drop (length new) old) (omega (arith, long, is)) ∙ take_all n new (omega (arith, long, is))

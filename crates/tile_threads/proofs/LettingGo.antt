@@ -1,8 +1,9 @@
 -- The edges of a worn tile, given back one by one.
-use Rattle.std.proofs.Common.{◌≡◌, ◌≢◌, ℕ, ◌+◌, ◌*◌, ◌<◌, ◌≤◌, eqb, Bool, true, false, List, [], ◌∷◌, length, get_or, take, refl, sym, ap, ◌∙◌, subst, arith}
+use Rattle.std.proofs.Common.{◌≡◌, ℕ, ◌+◌, ◌*◌, ◌<◌, ◌≤◌, eqb, Bool, true, false, List, [], ◌∷◌, length, get_or, take, refl, sym, ap, ◌∙◌, subst, arith}
 use Rattle.std.specs.Prelude.{if◌then◌else◌, ◌==◌, nat_lt}
 use Rattle.std.proofs.lemmas.List.{take_all, append-nil}
 use Rattle.std.proofs.lemmas.Bool.Decides.{nat_tests}
+use Rattle.std.proofs.lemmas.Bool.{eqb-false}
 use Rattle.list_laws.proofs.Tests.{both}
 use Rattle.bit_field.specs.Atom.{AtomValue}
 use Rattle.window_sites.specs.Window.{WindowValue}
@@ -19,14 +20,8 @@ use Rattle.tile_core.specs.declared.phase.Phase.TheVariants.{Finished, Worn}
 use Rattle.tile_core.specs.Values.{TileValue, centre}
 use Rattle.tile_core.specs.Turns.{AgreeOnEdges, lists_of, with_more, one_if}
 use Rattle.tile_core.specs.Underway.{IsUnderway, InPhase}
-use Rattle.tile_core.proofs.Lists.{free_of, held_more, quiet_more}
+use Rattle.tile_core.proofs.Lists.{free_of, held_more, quiet_more, eqb_of}
 use Rattle.tile_threads.specs.Passes.{let_go}
-
-pub eqb_of : (d e : ℕ) → eqb d e ≡ true → e ≡ d
-eqb_of d e is = grind (arith, is)
-
-eqb_not : (d e : ℕ) → eqb d e ≡ false → d ≢ e
-eqb_not d e is = grind (arith, is)
 
 -- the end has these edges, on which its holds have written nothing, and no other
 pub record HasHolds (m : MapValue) (t : ℕ) (needs : List ℕ) (a : ℕ → EndLists) : Type 0 where
@@ -67,7 +62,7 @@ module _ (m : MapValue) (t : ℕ) (needs : List ℕ) (a b : ℕ → EndLists) (h
           let same : e ≡ d = eqb_of d e q in
           let here : c e ≡ after_give (a e) = here_after b c e (after_give (b e)) is ∙ ap after_give still in
           subst (λ k. c k ≡ after_give (a k)) same here ∙ ap aim (sym (more ∙ ap (λ x. if x then true else has d (take n needs)) q))
-      go false q = else_after b c e d (after_give (b e)) is (eqb_not d e q) ∙ (so_far d own ∙ ap aim (sym (more ∙ ap (λ x. if x then true else has d (take n needs)) q)))
+      go false q = else_after b c e d (after_give (b e)) is (eqb-false d e q) ∙ (so_far d own ∙ ap aim (sym (more ∙ ap (λ x. if x then true else has d (take n needs)) q)))
 
 -- nothing is given back yet
 pub gave_none : (m : MapValue) (t : ℕ) (needs : List ℕ) (a : ℕ → EndLists) → AgreeOnEdges m t a (after_some a needs 0)

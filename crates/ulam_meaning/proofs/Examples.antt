@@ -207,14 +207,14 @@ unfolding stores field_at function_at behave_of number_of element_of calls_at be
 stores_in_range = refl
 
 -- the layout that the law on states asks for
-tools_widths : (c : ℕ) → class_at tools.layout c ≡ map (λ (f : Field). member_bits (bits_of tools) f.ty f.length) (fields (members_of tools c))
+pub tools_widths : (c : ℕ) → class_at tools.layout c ≡ map (λ (f : Field). member_bits (bits_of tools) f.ty f.length) (fields (members_of tools c))
 unfolding tools
 tools_widths zero = refl
 tools_widths (suc zero) = refl
 tools_widths (suc (suc zero)) = refl
 tools_widths (suc (suc (suc c))) = refl
 
-tools_most : (c : ℕ) → bits_of tools c ≤ 71
+pub tools_most : (c : ℕ) → bits_of tools c ≤ 71
 unfolding tools
 tools_most zero = omega arith
 tools_most (suc zero) = omega arith

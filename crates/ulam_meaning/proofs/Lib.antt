@@ -1,5 +1,5 @@
 pub mod EventLaws
-mod Examples
+pub mod Examples
 mod Failures
 pub mod Kept
 pub mod Layouts

@@ -11,6 +11,7 @@ use Rattle.std.proofs.lemmas.List.Elements.{All-cons, All-contains, All-nil, All
 use Rattle.std.proofs.lemmas.List.Sorted.{IsPermutation-refl}
 use Rattle.std.proofs.lemmas.List.Sums.{sum_by-cons}
 use Rattle.std.proofs.lemmas.Option.{slice_get-get_or}
+use Rattle.draw_stream.proofs.Plans.{taken_first, no_attempt}
 use Rattle.cell_grid.specs.declared.record.Record.{Record}
 use Rattle.cell_grid.specs.Records.{Precedes}
 use Rattle.draw_stream.specs.declared.attempt.Attempt.{Attempt}
@@ -20,9 +21,6 @@ use Rattle.event_journal.specs.Logs.{AreLogs, Follows, IsLog, LogValue, log_of, 
 use Rattle.event_journal.proofs.Journals.{journal_of}
 use Rattle.tile_map.specs.Plane.{MapValue}
 use Rattle.world_runs.specs.OneTile.{IsAlone, OwesNothing, event_of, events_from, events_of}
-
-abbrev pub no_attempt : Attempt
-no_attempt = record { centre = 0; seed = 0 }
 
 pub length-events : (m : MapValue) (i : ℕ) (list : List Attempt) → length (events_from m i list) ≡ length list
 length-events m i list = length-map (enumerate_from i list) (event_of m) ∙ length-enumerate_from i list
@@ -148,11 +146,6 @@ owes_nothing m plan alone = record {
   stamped = stamped m (attempts plan 0);
   excused = λ k d lt. absurd (omega (arith, lt));
 }
-
--- what is taken from attempts is the first
-taken_first : (l m : List Attempt) (a : Attempt) → TakesNext l (Some a) m → l ≡ a ∷ m
-taken_first [] m a t = let u = t.0 in cc
-taken_first (x ∷ rest) m a t = let u = t.0 in let v = t.1 in cc
 
 -- one event more
 pub one_event_more : (m : MapValue) (n : ℕ) (old new : List Record) (r : Record) (a : Attempt) (list rest : List Attempt) (all : List Record) → TakesNext list (Some a) rest → r ≡ event_of m (n, a) → new ≡ old ++ r ∷ [] →

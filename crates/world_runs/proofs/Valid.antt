@@ -1,5 +1,5 @@
 -- A world that has names has what a run needs.
-use Rattle.std.proofs.Common.{ℕ, ◌≡◌, ◌+◌, ◌*◌, ◌<◌, ◌≤◌, Bool, true, false, not, List, [], ◌∷◌, All, Option, Some, None, Result, Ok, Err, length, get_or, refl, sym, ap, subst, ◌∙◌, arith, inl, inr}
+use Rattle.std.proofs.Common.{ℕ, ◌≡◌, ◌+◌, ◌*◌, ◌<◌, ◌≤◌, Bool, true, false, not, List, [], ◌∷◌, All, Option, Some, None, Result, Ok, Err, length, get_or, refl, sym, ap, subst, ◌∙◌, arith, inl, inr, lt-ltb}
 use Rattle.std.specs.Prelude.{if◌then◌else◌, nat_lt}
 use Rattle.std.proofs.Math.Nat.{mod-lt}
 use Rattle.std.proofs.lemmas.Bool.{cases_lt}
@@ -12,7 +12,6 @@ use Rattle.draw_stream.specs.Attempts.{seeded_attempts}
 use Rattle.draw_stream.specs.Plans.{attempts, count_of, seeded}
 use Rattle.draw_stream.proofs.Plans.{length_seeded_attempts, length_seeded_lists, seeded_attempts_at, seeded_lists_at}
 use Rattle.tile_map.specs.Plane.{MapValue, IsMap, tiles_of}
-use Rattle.tile_map.proofs.Spans.{lt_test}
 use Rattle.text_lines.specs.Lines.{lines}
 use Rattle.world_text.specs.Drafts.{DraftValue, IsDraft, missing, nothing_said}
 use Rattle.world_text.specs.Named.{ReadsWorld, WorldValue, name_fault, placed, plan_by, unless, world_of}
@@ -38,7 +37,7 @@ drawn_are m k seed count t inside false is = λ i d lt.
     let small : i < count_of count m.off t = omega (arith, lt, length_seeded_attempts seed (count_of count m.off t) (m.w * m.h) t) in
     let here = seeded_attempts_at seed (count_of count m.off t) (m.w * m.h) t i d small in
     let mark : get_or m.off t false ≡ false = get_or_default m.off t false true (omega (arith, inside, k.marks)) ∙ is in
-    let on = together (nat_lt t (tiles_of m)) (not (get_or m.off t false)) (lt_test _ _ inside) (ap not mark) in
+    let on = together (nat_lt t (tiles_of m)) (not (get_or m.off t false)) (lt-ltb _ _ inside) (ap not mark) in
     let centre = ap (λ (a : Attempt). a.centre) here in
     record { on = on; centre = subst (λ n. n < m.w * m.h) (sym centre) (mod-lt _ (positive m k)) }
 

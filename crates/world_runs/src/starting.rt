@@ -29,14 +29,14 @@ pub fn map_of(alloc: Global, world: &World) -> Result<Map, NoMemory>
 }
 
 /// The flat grid that the run of a world starts with: its atoms, on the sites of the tiles that are
-/// on. `NoMemory` if there is not enough memory for the sites or the map's edges.
-pub fn start(alloc: Global, world: &World) -> Result<Grid, NoMemory>
-    requires { IsWorld (world_value world.now) }
+/// on. The map is the world's. `NoMemory` if there is not enough memory for the sites.
+pub fn start(alloc: Global, map: &Map, world: &World) -> Result<Grid, NoMemory>
+    requires world { IsWorld (world_value world.now) }
+    requires map { map.now ≡ (world_value world.now).plane }
     ensures grid { IfOk result (λ g. g ≡ start_grid (world_value world.now).plane world.now.atoms.items) }
     ensures fits { IfOk result (λ g. IsGridOf (world_value world.now).plane g) }
 {
-    let map = map_of(alloc, world)?;
-    let mut grid = blank_grid(alloc, &map)?;
+    let mut grid = blank_grid(alloc, map)?;
     for placed in world.atoms.as_slice() {
         grid.set(placed.x, placed.y, placed.atom);
     }

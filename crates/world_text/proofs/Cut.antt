@@ -3,6 +3,7 @@ use Rattle.std.proofs.Common.{ℕ, zero, suc, ◌≡◌, ◌+◌, ◌*◌, ◌�
 use Rattle.std.specs.List.{list_any}
 use Rattle.std.proofs.lemmas.List.{append-nil}
 use Rattle.std.proofs.lemmas.List.Elements.{All-head, All-tail, All-cons, All-nil}
+use Rattle.std.proofs.lemmas.Bool.{both_ways}
 use Rattle.tile_map.specs.Plane.{MapValue}
 use Rattle.world_text.specs.Line.{Line, IsFormed, header, tiles, size, off, seed, attempts, try, atom, order_seed, order}
 use Rattle.world_text.specs.Drafts.{DraftValue, IsDraft, is_early, step, put, kind_of, may_follow, in_range, too_many, misplaced, missing, nothing_said, only_plane, raw_atom}
@@ -38,13 +39,9 @@ record Grows (d e : DraftValue) : Type 0 where
   plane : is_early d.last ≡ false → e.plane ≡ d.plane
   late : is_early d.last ≡ false → is_early e.last ≡ false
 
-clash : (b : Bool) → b ≡ true → b ≡ false → ⊥
-clash true t f = cc
-clash false t f = cc
-
 -- a line of the plane comes early alone
 not_late : (second : Bool) (last next : Kind) → may_follow second last next ≡ true → is_early next ≡ true → is_early last ≡ false → ⊥
-not_late second last next may early late = clash (is_early last) (early_before second last next may early) late
+not_late second last next may early late = both_ways (is_early last) late (early_before second last next may early)
 
 grows_early : (d e : DraftValue) (next : Kind) → may_follow d.second d.last next ≡ true → is_early next ≡ true → e.atoms ≡ d.atoms → Grows d e
 grows_early d e next may early same = record {

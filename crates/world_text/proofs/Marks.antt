@@ -5,18 +5,12 @@ use Rattle.std.proofs.Math.ListN.{set}
 use Rattle.std.proofs.Math.Seq.{drop-cons, drop-nil}
 use Rattle.std.proofs.lemmas.List.{take_more, map-append, get_or-set_same, get_or-set_other, length-set}
 use Rattle.std.proofs.lemmas.Bool.Decides.{eqb_tells}
-use Rattle.world_text.specs.Named.{name_fault, place_of, placed, type_from, type_of, or_zero, AreMarked}
+use Rattle.std.proofs.lemmas.List.Folds.{list_any-append}
+use Rattle.list_laws.specs.Options.{or_zero}
+use Rattle.world_text.specs.Named.{name_fault, place_of, placed, type_from, type_of, AreMarked}
 use Rattle.bit_field.specs.Atom.{AtomValue}
 use Rattle.world_text.specs.declared.draft.RawAtom.{RawAtom}
 use Rattle.world_text.specs.declared.world.Placed.{Placed}
-
-any_append : (p : ℕ → Bool) (xs ys : List ℕ) → list_any p (xs ++ ys) ≡ (list_any p xs || list_any p ys)
-any_append p [] ys = refl
-any_append p (x ∷ xs) ys = let e = any_append p xs ys in rw e (sym (or_assoc (p x) (list_any p xs) (list_any p ys)))
-  where
-    or_assoc : (a b c : Bool) → ((a || b) || c) ≡ (a || (b || c))
-    or_assoc true b c = refl
-    or_assoc false b c = refl
 
 pub unmarked : (n : ℕ) → AreMarked (replicate n false) []
 unmarked n = λ p lt. none n p
@@ -28,8 +22,8 @@ unmarked n = λ p lt. none n p
 
 pub marked_more : (marks : List Bool) (before : List ℕ) (q : ℕ) → AreMarked marks before → q < length marks → AreMarked (set marks q true) (before ++ q ∷ [])
 marked_more marks before q m lt = λ p less. elim (eqb_tells q p) [
-  | inl same ↦ ap (λ k. get_or (set marks q true) k false) (sym same.1) ∙ get_or-set_same marks q true false lt ∙ sym (any_append (λ r. r == p) before (q ∷ []) ∙ rw same.0 (or_true (list_any (λ r. r == p) before)))
-  | inr other ↦ get_or-set_other marks q p true false (λ e. other.1 (sym e)) ∙ m p (omega (arith, length-set marks q true, less)) ∙ sym (any_append (λ r. r == p) before (q ∷ []) ∙ rw other.0 (or_false (list_any (λ r. r == p) before)))
+  | inl same ↦ ap (λ k. get_or (set marks q true) k false) (sym same.1) ∙ get_or-set_same marks q true false lt ∙ sym (list_any-append (λ r. r == p) before (q ∷ []) ∙ rw same.0 (or_true (list_any (λ r. r == p) before)))
+  | inr other ↦ get_or-set_other marks q p true false (λ e. other.1 (sym e)) ∙ m p (omega (arith, length-set marks q true, less)) ∙ sym (list_any-append (λ r. r == p) before (q ∷ []) ∙ rw other.0 (or_false (list_any (λ r. r == p) before)))
 ]
   where
     or_true : (b : Bool) → (b || true) ≡ true

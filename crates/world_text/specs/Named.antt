@@ -8,6 +8,7 @@ use Rattle.draw_stream.specs.declared.attempt.Attempt.{Attempt}
 use Rattle.tile_map.specs.Plane.{MapValue}
 use Rattle.world_text.specs.Drafts.{DraftValue}
 use Rattle.std.specs.Global.{Global}
+use Rattle.list_laws.specs.Options.{or_zero}
 use Rattle.world_text.specs.Reading.{read_text, fault_of}
 use Rattle.world_text.specs.declared.fault.WorldFault.{WorldFault}
 use Rattle.world_text.specs.declared.draft.RawAtom.{RawAtom}
@@ -37,10 +38,6 @@ type_of names name = type_from 1 names name
 -- a map has the type number of each name
 abbrev pub AreKinds : {S : Type 0} → List (List ℕ) → HashMap (Bor (List ℕ)) ℕ S → Type 0
 AreKinds names kinds = (name : List ℕ) → get_by (λ k. bytes_eq name k.now) kinds ≡ type_of names name
-
-abbrev pub or_zero : Option ℕ → ℕ
-or_zero None = 0
-or_zero (Some k) = k
 
 -- an atom whose name is one of the names
 abbrev pub placed : List (List ℕ) → RawAtom → Placed

@@ -1,10 +1,10 @@
 use Rattle.std.proofs.Common.{arith, ◌≡◌, ◌<◌, ap, sym, ◌∙◌, ⊎_elim, None}
 use Rattle.std.proofs.lemmas.List.{get_or-set_same, get_or-set_other, length-set}
 use Rattle.std.specs.Prelude.{slice_set}
+use Rattle.list_laws.proofs.Numbers.{less_or_same}
 use Rattle.tile_map.specs.Plane.{site}
 use Rattle.border_cache.specs.News.{place_at}
 use Rattle.border_cache.specs.Windows.{place_in}
-use Rattle.border_cache.proofs.Refreshes.{less_or_same}
 use Rattle.border_cache.proofs.places.places.Goals as goal
 
 pub loop-n-preserved : goal.loop-n-preserved

@@ -8,4 +8,4 @@ use Rattle.feast_run.proofs.running.journal_of.Goals as goal
 pub journal-requires-clause-alone : goal.journal-requires-clause-alone
 journal-requires-clause-alone g c = λ lives bounds.
     let w = world_value c.args.ready.now.world in
-    subst (λ (m : MapValue). IsAlone m w.plan) (sym c.in_ok-map.ensures) (is_alone w (ready_valid c.args.ready.now c.requires.ready) c.requires.alone)
+    subst (λ (m : MapValue). IsAlone m w.plan) (sym c.requires.ready.map) (is_alone w (ready_valid c.args.ready.now c.requires.ready) c.requires.alone)

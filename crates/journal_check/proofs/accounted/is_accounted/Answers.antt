@@ -1,5 +1,6 @@
 use Rattle.std.proofs.Common.{◌≡◌, true, sym, ap, ◌∙◌, arith, refl, below_more}
-use Rattle.journal_check.specs.Telling.{gone_of, of_tile, told}
+use Rattle.event_journal.specs.Logs.{of_tile, gone_of}
+use Rattle.journal_check.specs.Telling.{told}
 use Rattle.journal_check.proofs.Accounting.{accounted, tested}
 use Rattle.journal_check.proofs.accounted.is_accounted.Goals as goal
 

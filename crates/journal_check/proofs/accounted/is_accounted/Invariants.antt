@@ -1,6 +1,7 @@
 use Rattle.std.proofs.Common.{ℕ, ◌≡◌, ◌<◌, true}
+use Rattle.event_journal.specs.Logs.{of_tile, gone_of}
 use Rattle.draw_stream.specs.Plans.{attempts}
-use Rattle.journal_check.specs.Telling.{gone_of, of_tile, told}
+use Rattle.journal_check.specs.Telling.{told}
 use Rattle.journal_check.proofs.accounted.is_accounted.Given as goal
 
 abbrev pub invariant-loop-tile : goal.invariant-loop-tile

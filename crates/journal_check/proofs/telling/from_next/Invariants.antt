@@ -1,5 +1,5 @@
 use Rattle.std.proofs.Common.{◌≡◌, length}
-use Rattle.journal_check.specs.Telling.{of_tile}
+use Rattle.event_journal.specs.Logs.{of_tile}
 use Rattle.journal_check.proofs.telling.from_next.Given as goal
 
 abbrev pub invariant-loop-first : goal.invariant-loop-first

@@ -1,5 +1,5 @@
 use Rattle.std.proofs.Common.{◌≡◌, length}
-use Rattle.journal_check.specs.Telling.{gone_of}
+use Rattle.event_journal.specs.Logs.{gone_of}
 use Rattle.journal_check.proofs.telling.from_next_gone.Given as goal
 
 abbrev pub invariant-loop-first : goal.invariant-loop-first

@@ -1,7 +1,8 @@
 use Rattle.std.proofs.Common.{◌≡◌, ◌+◌, ◌*◌, ◌<◌, ◌∷◌, length, sym, ap, subst, arith, ◌∙◌, All}
 use Rattle.std.proofs.lemmas.List.Elements.{All-head, All-tail}
+use Rattle.event_journal.specs.Logs.{of_tile, gone_of}
 use Rattle.draw_stream.specs.declared.attempt.Attempt.{Attempt}
-use Rattle.journal_check.specs.Telling.{gone_of, of_tile, told}
+use Rattle.journal_check.specs.Telling.{told}
 use Rattle.journal_check.specs.Passing.{passes}
 use Rattle.journal_check.proofs.Passing.{over, taken, told_none, told_taken}
 use Rattle.journal_check.proofs.telling.is_told.Goals as goal

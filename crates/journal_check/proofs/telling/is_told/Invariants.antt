@@ -1,6 +1,7 @@
 use Rattle.std.proofs.Common.{◌≡◌, ◌+◌, ◌*◌, ◌<◌, ◌^◌, All, length}
+use Rattle.event_journal.specs.Logs.{of_tile, gone_of}
 use Rattle.draw_stream.specs.declared.attempt.Attempt.{Attempt}
-use Rattle.journal_check.specs.Telling.{gone_of, of_tile, told}
+use Rattle.journal_check.specs.Telling.{told}
 use Rattle.journal_check.proofs.telling.is_told.Given as goal
 
 abbrev pub invariant-loop-attempt : goal.invariant-loop-attempt

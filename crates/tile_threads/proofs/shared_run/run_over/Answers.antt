@@ -1,11 +1,11 @@
 use Rattle.std.proofs.Common.{◌≡◌, List, length, sym, ap, ◌∙◌, subst, rules}
 use Rattle.std.specs.Prelude.{All}
+use Rattle.list_laws.proofs.Slots.{take_over}
 use Rattle.edge_lock.specs.SharedEnds.{SharedEndValue, SamePasses, registers_at, end_at, lists_at}
 use Rattle.tile_threads.specs.declared.worker.Worker.{Worker}
 use Rattle.tile_threads.specs.Runs.{IsReady, HasWorked, EachDid}
 use Rattle.tile_threads.specs.Whole.{IsDone, HaveComeHome, HaveReturned, tiles_in}
 use Rattle.tile_threads.proofs.Returns.{all_stand, ready, all_done, returned}
-use Rattle.tile_threads.proofs.Homing.{whole_back}
 use Rattle.tile_threads.proofs.shared_run.run_over.Goals as goal
 
 pub send_out-requires-clause-passes : goal.send_out-requires-clause-passes
@@ -24,7 +24,7 @@ come_home-requires g c =
     let value = c.as_mut_slice.ensures.value in
     let now = value ∙ c.in_ok-workers.ensures in
     let long : length new ≡ length c.as_mut_slice.result.now = search rules in
-    let back = whole_back c.in_ok-workers.workers.len new c.in_ok-workers.workers.items (long ∙ ap (λ l. length l) value) (sym c.as_mut_slice.ensures.len ∙ ap (λ l. length l) value) in
+    let back = take_over c.in_ok-workers.workers.len new c.in_ok-workers.workers.items (long ∙ ap (λ l. length l) value) (sym c.as_mut_slice.ensures.len ∙ ap (λ l. length l) value) in
     let did = subst (λ (l : List (Worker g.row.B.Denot SharedEndValue)). EachDid (HasWorked g.B.Behave.after (λ (s : SharedEndValue). s.tile) (λ s. registers_at s.passes) (λ s. end_at s.passes) (λ s. lists_at s.passes) SamePasses c.args.map.now) l new) now c.run_tiles.ensures in
     subst (All (IsDone {B = g.row.B.Denot} (λ (s : SharedEndValue). s.tile) (λ s. registers_at s.passes) (λ s. end_at s.passes) (λ s. lists_at s.passes) c.args.map.now)) (sym back)
     (all_done g.B.Behave.after c.args.map.now c.args.edges.now c.args.passes.items c.requires.made f.0 f.1 f.2 c.args.tiles.items f.3 new (long ∙ ap (λ l. length l) now) did)
@@ -35,7 +35,7 @@ returns g c meaning start plan f =
     let value = c.as_mut_slice.ensures.value in
     let now = value ∙ c.in_ok-workers.ensures in
     let long : length new ≡ length c.as_mut_slice.result.now = search rules in
-    let back = whole_back c.in_ok-workers.workers.len new c.in_ok-workers.workers.items (long ∙ ap (λ l. length l) value) (sym c.as_mut_slice.ensures.len ∙ ap (λ l. length l) value) in
+    let back = take_over c.in_ok-workers.workers.len new c.in_ok-workers.workers.items (long ∙ ap (λ l. length l) value) (sym c.as_mut_slice.ensures.len ∙ ap (λ l. length l) value) in
     let did = subst (λ (l : List (Worker g.row.B.Denot SharedEndValue)). EachDid (HasWorked g.B.Behave.after (λ (s : SharedEndValue). s.tile) (λ s. registers_at s.passes) (λ s. end_at s.passes) (λ s. lists_at s.passes) SamePasses c.args.map.now) l new) now c.run_tiles.ensures in
     let home = subst (λ (l : List (Worker g.row.B.Denot SharedEndValue)). HaveComeHome c.args.map.now l c.in_ok-tiles.passes.items) back c.in_ok-tiles.ensures.passes in
     let tiles = c.in_ok-tiles.ensures.tiles ∙ ap (λ (l : List (Worker g.row.B.Denot SharedEndValue)). tiles_in l) back in

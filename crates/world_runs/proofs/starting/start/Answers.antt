@@ -12,10 +12,10 @@ pub loop-placed-init : goal.loop-placed-init
 loop-placed-init c =
     let w = c.args.world.now in
     let m = plane_of w.tx w.ty w.w w.h w.off.items in
-    let blank : c.in_ok-grid.grid ≡ blank_grid m = c.in_ok-grid.ensures.grid ∙ ap blank_grid c.in_ok-map.ensures in
+    let blank : c.in_ok-grid.grid ≡ blank_grid m = c.in_ok-grid.ensures.grid ∙ ap blank_grid c.requires.map in
     record {
       rest = ap (λ (g : GridValue). fold with_placed g w.atoms.items) blank;
-      fits = subst (λ (n : MapValue). IsGridOf n c.in_ok-grid.grid) c.in_ok-map.ensures c.in_ok-grid.ensures.fits.1;
+      fits = subst (λ (n : MapValue). IsGridOf n c.in_ok-grid.grid) c.requires.map c.in_ok-grid.ensures.fits.1;
     }
 
 pub loop-placed-preserved : goal.loop-placed-preserved

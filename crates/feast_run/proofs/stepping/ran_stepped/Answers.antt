@@ -3,7 +3,7 @@ use Rattle.feast_run.proofs.Machines.{is_run, left_named, machine_grid, machine_
 use Rattle.feast_run.proofs.Runs.{ready_known}
 use Rattle.feast_run.specs.Values.{ready_value}
 use Rattle.grid_print.specs.Report.{report}
-use Rattle.feast_run.proofs.stepping.stepped_left.Goals as goal
+use Rattle.feast_run.proofs.stepping.ran_stepped.Goals as goal
 
 pub returns-clause-run : goal.returns-clause-run
 returns-clause-run c = is_run (ready_value c.args.ready) c.in_ok-outcome.outcome c.in_ok-outcome.ensures
