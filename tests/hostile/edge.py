@@ -251,11 +251,10 @@ def read_faults(bench, job):
         path = bench.at(file.name)
         reads = -(-len(text) // 4096) + 1
         for number in range(1, reads + 1):
-            for code in (b"EIO", b"EINTR"):
+            for code, status, out in ((b"EIO", UNREADABLE, unreadable(file.name)), (b"EINTR", DONE, job.out)):
                 fault = Fault(path, b"read", b"error=%s:when=%d" % (code, number))
                 answer = bench.call(job.words, before=fault.before)
-                name = f"{job.name}: read {number} of {file.name} fails by {code.decode()}"
-                bench.expect(name, answer, UNREADABLE, unreadable(file.name))
+                bench.expect(f"{job.name}: read {number} of {file.name} ends by {code.decode()}", answer, status, out)
         fault = Fault(path, b"read", b"error=EIO:when=%d" % (reads + 1))
         bench.expect(f"{job.name}: {file.name} takes {reads} reads", bench.call(job.words, before=fault.before), DONE, job.out)
         for code in (b"EACCES", b"EMFILE", b"EIO"):
@@ -278,10 +277,12 @@ def write_faults(bench):
     words = ["run", "w", "e"]
     path = bench.at("standard.output")
     for number in (1, 2):
-        for answer in (b"error=ENOSPC", b"error=EIO", b"error=EPIPE", b"error=EINTR", b"retval=0"):
+        for answer in (b"error=ENOSPC", b"error=EIO", b"error=EPIPE", b"retval=0"):
             fault = Fault(path, b"write,writev", answer + b":when=%d" % number)
             got = bench.call(words, before=fault.before)
             bench.expect(f"write {number} ends by {answer.decode()}", got, SINK, LONG_REPORT[: 4096 * (number - 1)])
+        fault = Fault(path, b"write,writev", b"error=EINTR:when=%d" % number)
+        bench.expect(f"write {number} is interrupted", bench.call(words, before=fault.before), DONE, LONG_REPORT)
 
 
 def growing(bench):
