@@ -21,7 +21,7 @@ use ulam_tree::resolved_build as build;
 
 /// A statement, and the next slot.
 #[cycle(statement)]
-#[tactic(auto, using(crate::proofs::Bodies::walk_block, crate::proofs::Opened::opened_is))]
+#[tactic(auto, using(crate::proofs::Opened::opened_is))]
 pub fn statement<'a>(
     alloc: Global,
     context: &Context<'_, 'a>,

@@ -84,7 +84,7 @@ pub fn expr(alloc: Global, scope: &Scope, want: Kind, raw: &Expr) -> Result<type
     }
 }
 
-/// An expression in brackets, or an operator with its operands.
+/// An expression in brackets, or an operator with its operands. No other expression comes here.
 #[cycle(expr)]
 #[tactic(auto, unfolding(crate::specs::Walk::expr))]
 fn compound(alloc: Global, scope: &Scope, want: Kind, raw: &Expr) -> Result<typed::Expr, TypeFault>
