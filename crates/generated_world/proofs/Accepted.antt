@@ -41,7 +41,7 @@ accepted = (own_set, inr (record { value = with_tree no_trees (record { items = 
 
 pub two_names : (set : SetValue) → AcceptsFiles source_files set → element_names set ≡ codes "Wander" ∷ codes "Stone" ∷ []
 unfolding accepted
-two_names set is = ap element_names ((set_one source_files).value set accepted.0 is accepted.1) ∙ two_names_of
+two_names set is = ap element_names ((set_one source_files).one_value set accepted.0 is accepted.1) ∙ two_names_of
 
 -- What building the one file answers
 
@@ -53,4 +53,4 @@ pub is_set : (fs : List File) (r : Result ElementSet BuildFault) (s : ElementSet
 is_set fs r s e builds is = subst (λ (l : List File). AcceptsFiles l (set_value s)) e (subst (Builds fs) is builds)
 
 pub not_refused : (fs : List File) (r : Result ElementSet BuildFault) (f : Refusal) → fs ≡ source_files → Builds fs r → r ≡ Err (Refused f) → ⊥
-not_refused fs r f e builds is = (set_one source_files).either accepted.0 f accepted.1 (subst (λ (l : List File). RefusesFiles l f) e (subst (Builds fs) is builds).0)
+not_refused fs r f e builds is = (set_one source_files).sure.apart accepted.0 f tt accepted.1 (subst (λ (l : List File). RefusesFiles l f) e (subst (Builds fs) is builds).0)
