@@ -6,7 +6,7 @@ use Rattle.std.proofs.lemmas.Bool.{eqb-true}
 use Rattle.datum.specs.Fields.{get_field}
 use Rattle.sat_math.specs.Operations.{of_bool, is_zero}
 use mathlib.Core.List.{reverse_aux}
-use Rattle.bit_field.specs.Atom.{AtomValue, empty_atom, atom_of}
+use Rattle.bit_field.specs.Atom.{AtomValue, empty_atom, new_atom}
 use Rattle.bit_field.specs.Words.{with_field}
 use Rattle.window_sites.specs.Window.{WindowValue, atom_at, live_at, put_at, swap_at}
 use Rattle.draw_stream.specs.Words.{event_step}
@@ -301,7 +301,7 @@ module _ (n : ℕ) where
 
   -- Instructions of a file
 
-  pushed : (k : ℕ) → k ≤ n → IsKnown n (atom_of k)
+  pushed : (k : ℕ) → k ≤ n → IsKnown n (new_atom k)
   pushed zero h = inl refl
   pushed (suc k) h = inr (omega arith, h)
 

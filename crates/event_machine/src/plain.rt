@@ -1,8 +1,9 @@
 //! The plain instructions on numbers, slots and sites: a function for each shape.
 
-ghost use Rattle.std.specs.Prelude.{◌≤◌, ℕ, length};
-ghost use Rattle.window_sites.specs.Window.{live_at};
-ghost use Rattle.stack_code.specs.Sorts.{Give, One, Two, Load, Store, Drop, Own, Site, SetSite, Exchange, Ask, Draw, Same, Double, is_empty_at, as_drawn, one_in};
+ghost use Rattle.std.specs.Prelude.{◌≤◌, ℕ, length, pos};
+ghost use Rattle.sat_math.specs.Operations.{one_in};
+ghost use Rattle.window_sites.specs.Window.{live_at, is_empty_at};
+ghost use Rattle.stack_code.specs.Sorts.{Give, One, Two, Load, Store, Drop, Own, Site, SetSite, Exchange, Ask, Draw, Same, Double};
 ghost use Rattle.stack_code.specs.Machine.{work};
 ghost use Rattle.stack_code.specs.Shapes.{binary_of, BinaryFits, unary_of, UnaryFits};
 ghost use Rattle.event_machine.specs.Works.{Works};

@@ -1,7 +1,7 @@
 -- Worked values: small codes, whether they are valid, and what they do.
 use Rattle.std.proofs.Common.{◌≡◌, ℕ, List, [], ◌∷◌, ◌++◌, refl, true, false}
 use Rattle.std.specs.Prelude.{pos, replicate, codes, ◌*◌, length}
-use Rattle.bit_field.specs.Atom.{atom_of}
+use Rattle.bit_field.specs.Atom.{new_atom}
 use Rattle.window_sites.specs.Window.{WindowValue}
 use Rattle.sat_math.specs.declared.Kind.TheVariants.{Int, Unsigned}
 use Rattle.stack_code.specs.Machine.{CodeValue, FunctionValue, Fails, start, count, iter}
@@ -20,7 +20,7 @@ one_function is = record { kind = 1; functions = main_with [] ∷ []; instrs = i
 
 -- a window of 41 live sites with atoms of type 1
 unfoldable pub full : WindowValue
-full = record { atoms = replicate 41 (atom_of 1); live = replicate 41 true }
+full = record { atoms = replicate 41 (new_atom 1); live = replicate 41 true }
 
 walker : CodeValue
 walker = one_function (PushNum (pos 0) ∷ PushNum (pos 4) ∷ Swap ∷ ReturnVoid ∷ [])

@@ -1,6 +1,6 @@
 -- What each instruction is: its sort, with the arguments. The machine and the rule on valid code go by sorts.
 use Rattle.std.specs.Prelude.{ℕ, Bool, ℤ, pos, ◌+ℤ◌, ◌-ℤ◌, ◌*ℤ◌, neg_ℤ, int_div, int_rem, bit_and, bit_or, bit_xor, Option, Some, None, if◌then◌else◌}
-use Rattle.bit_field.specs.Atom.{atom_of}
+use Rattle.bit_field.specs.Atom.{new_atom}
 use Rattle.window_sites.specs.Window.{WindowValue, live_at, is_empty_at}
 use Rattle.sat_math.specs.declared.Kind.{Kind}
 use Rattle.sat_math.specs.declared.NumType.{NumType}
@@ -100,7 +100,7 @@ not_bool v = of_bool (is_zero v)
 -- the sort of each instruction
 abbrev pub sort : Instr → Sort
 sort (PushNum v) = Give (ANumber v)
-sort (PushAtom k) = Give (AnAtom (atom_of k))
+sort (PushAtom k) = Give (AnAtom (new_atom k))
 sort (LoadLocal s) = Load s
 sort (StoreLocal s) = Store s
 sort Pop = Drop

@@ -5,7 +5,7 @@ use Rattle.datum.proofs.Failures.{is_failure}
 use Rattle.datum.specs.Failures.{IsFailure}
 use Rattle.datum.specs.Fields.{get_field}
 use Rattle.sat_math.specs.Operations.{is_zero, one_in}
-use Rattle.bit_field.specs.Atom.{AtomValue, empty_atom, atom_of}
+use Rattle.bit_field.specs.Atom.{AtomValue, empty_atom, new_atom}
 use Rattle.window_sites.specs.Window.{WindowValue, atom_at, live_at, put_at, swap_at, is_empty_at, emptied}
 use Rattle.sat_math.specs.declared.NumType.{NumType}
 use Rattle.datum.specs.declared.Datum.{Datum}
@@ -48,7 +48,7 @@ IfNumber m ty = Unit {0}
 -- laws of windows, of values, and of the types of numbers in states, that each change keeps
 pub record Kept (g : Program) (e : Event) (w : WindowValue → Type 0) (q : Datum → Type 0) (m : NumType → Type 0) : Type 0 where
   pub number : (v : ℤ) → q (Number v)
-  pub blank : (ty : Ty) → q (Atom (atom_of (type_number g ty)))
+  pub blank : (ty : Ty) → q (Atom (new_atom (type_number g ty)))
   pub empty : q (Atom empty_atom)
   pub member : (c k : ℕ) → IfNumber m (field_at g c k).ty
   pub site : (x : WindowValue) (n : ℕ) → w x → q (Atom (atom_at x n))

@@ -1,7 +1,7 @@
 -- What an expression means, form by form.
 use Rattle.std.specs.Prelude.{ℕ, suc, ◌%◌, nat_eq, Bool, ℤ, pos, List, [], ◌∷◌, Option, Some, None, if◌then◌else◌}
 use Rattle.sat_math.specs.Operations.{of_bool, is_zero, one_in}
-use Rattle.bit_field.specs.Atom.{atom_of}
+use Rattle.bit_field.specs.Atom.{new_atom}
 use Rattle.window_sites.specs.Window.{WindowValue, live_at, is_empty_at}
 use Rattle.draw_stream.specs.Words.{event_word}
 use Rattle.sat_math.specs.declared.NumType.{NumType}
@@ -99,7 +99,7 @@ abbrev mutual
   eval_form e z h (t.reads x) ty s = read e (spot z.program z.base x.steps) s
   eval_form e z h (t.calls x es) ty s = and_then (call e z.program h (callee z.program z.base x.steps) (λ cs. arguments e z h es cs s)) value_given
   eval_form e z h (t.index x i) ty s = and_then (eval e z h i s) (λ n s1. read_at e (spot z.program z.base x.steps) n s1)
-  eval_form e z h (t.instance c) ty s = gives (Atom (atom_of (type_number z.program c.ty))) s
+  eval_form e z h (t.instance c) ty s = gives (Atom (new_atom (type_number z.program c.ty))) s
   eval_form e z h (t.group a p) ty s = eval e z h a s
   eval_form e z h (t.cast c a p) ty s = and_then (eval e z h a s) (λ x s1. cast_to (number_type c.ty) x s1)
   eval_form e z h (t.prefix o a p) ty s = and_then (eval e z h a s) (λ x s1. on_number x (λ v. gives (Number (prefixed o ty v)) s1))

@@ -1,6 +1,6 @@
 -- Values: what operators and casts make of numbers, and numbers in the state of an atom.
 use Rattle.std.specs.Prelude.{ℕ, nat_le, nat_eq, Bool, true, false, ◌&&◌, ℤ, pos, ◌+ℤ◌, ◌-ℤ◌, ◌*ℤ◌, neg_ℤ, int_div, int_rem, bit_and, bit_or, bit_xor, Option, Some, None, if◌then◌else◌}
-use Rattle.bit_field.specs.Atom.{AtomValue, atom_of}
+use Rattle.bit_field.specs.Atom.{AtomValue, new_atom}
 use Rattle.bit_field.specs.Words.{with_field}
 use Rattle.sat_math.specs.declared.Kind.{Kind}
 use Rattle.sat_math.specs.declared.Kind.TheVariants as k
@@ -92,7 +92,7 @@ prefixed pre.Flip ty v = pos (complement (width_of ty) (low64 v))
 -- what a declaration without a value gives: 0, Empty, or the element's atom with state 0
 abbrev pub default_of : Program → Ty → Datum
 default_of g (y.Num num) = Number (pos 0)
-default_of g ty = Atom (atom_of (type_number g ty))
+default_of g ty = Atom (new_atom (type_number g ty))
 
 -- the atom with a number in its state, cast to the type
 abbrev pub with_number : AtomValue → ℕ → NumType → ℤ → AtomValue
