@@ -1,4 +1,4 @@
-"""How long the stack machine takes, by the codes of the crate `machine_bench`.
+"""How long the stack machine takes, by the codes of the crate `bench_machine`.
 
     python3 bench/machine.py            times, in nanoseconds an event
     python3 bench/machine.py --count    instructions of the processor, counted by valgrind
@@ -13,8 +13,8 @@ import sys
 import tempfile
 
 HERE = pathlib.Path(__file__).resolve().parent
-CRATE = HERE.parent / "crates/machine_bench"
-BENCH = CRATE / "out/machine_bench"
+CRATE = HERE.parent / "crates/bench_machine"
+BENCH = CRATE / "out/bench_machine"
 
 
 def lines(*words):

@@ -16,7 +16,7 @@ import tempfile
 HERE = pathlib.Path(__file__).resolve().parent
 CRATES = HERE.parent / "crates"
 PROGRAM = CRATES / "feast/out/feast"
-BENCH = CRATES / "event_bench/out/event_bench"
+BENCH = CRATES / "bench_event/out/bench_event"
 WALKER = "element Walker { EventWindow ew; Void behave() { ew.swap(0, 4); } }\n"
 SIDE = 64
 # one site in so many is occupied, and centres lie in a square of so many columns and rows
@@ -25,7 +25,7 @@ CASES = [(1, 56), (1, 64), (20, 56), (20, 64)]
 
 def build(folder):
     """Builds the proved programs where they aren't built yet, and the plain one."""
-    for name in ("feast", "event_bench"):
+    for name in ("feast", "bench_event"):
         subprocess.run(["rt", "run"], cwd=CRATES / name, stdin=subprocess.DEVNULL, capture_output=True)
     plain = folder / "flat"
     subprocess.run(["rustc", "-O", "-C", "target-cpu=x86-64-v2", HERE / "flat.rs", "-o", plain], check=True)

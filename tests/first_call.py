@@ -25,7 +25,8 @@ sys.path.insert(0, str(TOP / "tools"))
 
 from first_call import seconds  # noqa: E402
 from first_call.crates import Crate, crates_of_program  # noqa: E402
-from first_call.progress import Progress, wall_time  # noqa: E402
+from first_call.progress import Progress, Status, wall_time  # noqa: E402
+from first_call.teller import as_bar  # noqa: E402
 
 CRATES = "low:\nmiddle: low # stands on low\nfeast: middle low\nother: low\n"
 # What the program of the pretended toolchain writes, and its status.
@@ -135,11 +136,11 @@ class FirstCall(unittest.TestCase):
         (self.top / "crates" / "middle" / "src" / "lib.rt").write_text("// changed\n")
         status, _, told = Call(self, ["run"]).end()
         self.assertEqual((status, self.count("run")), (STATUS, before + 1))
-        self.assertIn("of its 3 crates 1 are kept", told)
+        self.assertIn("1 of its 3 crates is proved, and the others", told)
 
     def test_progress_is_told_line_by_line(self) -> None:
         told = Call(self, ["run"], FEAST_PREVIEW="no").end()[2]
-        self.assertIn("of its 3 crates 0 are kept", told)
+        self.assertIn("the program is still to be built: its 3 crates are proved first", told)
         lines = re.findall(r"feast: (\d) of 3 crates are proved; (.*) gone, about (.*) left; (.*)", told)
         self.assertEqual([it[0] for it in lines], sorted(it[0] for it in lines), told)
         doing = [it[3] for it in lines]
@@ -151,7 +152,7 @@ class FirstCall(unittest.TestCase):
     def test_sources_are_looked_through_first(self) -> None:
         told = Call(self, ["run"], FEAST_PREVIEW="no").end()[2]
         if "side by side" in self.calls()[0]:
-            self.assertRegex(told, "0 of 3 .* looking through all sources\n(.*\n)*.*proving low")
+            self.assertRegex(told, "0 of 3 .* reading all sources\n(.*\n)*.*proving low")
 
     def test_progress_is_a_bar_on_a_terminal(self) -> None:
         ours, theirs = pty.openpty()
@@ -175,7 +176,7 @@ class FirstCall(unittest.TestCase):
         self.assert_ran(ended, "<run>")
         self.assertEqual([it for it in self.calls() if it.startswith(("all", "lib", "run"))], ["lib low", "lib middle", "run"])
         self.assertRegex(ended[2], "1 of 3 crates are proved; .* proving middle\n")
-        self.assertNotIn("looking through", ended[2])
+        self.assertNotIn("reading all sources", ended[2])
         self.assertIn("no preview: it wants 4 gigabytes", ended[2])
 
     def test_four_calls_build_once(self) -> None:
@@ -184,7 +185,7 @@ class FirstCall(unittest.TestCase):
         for number, ended in enumerate(ends):
             self.assert_ran(ended, f"<run> <{number}>")
         self.assertEqual(self.count("run"), 1)
-        self.assertEqual(sum("another ./feast builds the program" in told for _, _, told in ends), 3)
+        self.assertEqual(sum("another ./feast is building the program" in told for _, _, told in ends), 3)
 
     def test_call_that_waited_builds_if_the_first_could_not(self) -> None:
         first = Call(self, ["run"])
@@ -214,7 +215,7 @@ class FirstCall(unittest.TestCase):
         (self.top / "try-status").write_text("6")
         ended = Call(self, ["run"]).end()
         self.assert_ran(ended, "<run>")
-        self.assertIn("feast: no preview: the call takes longer, or writes more, than one may\n", ended[2])
+        self.assertIn("feast: no preview: the call takes longer than a minute, or writes more than a mebibyte\n", ended[2])
         self.assertNotIn("preview of <", ended[2])
 
     def test_pipe_is_left_to_the_program(self) -> None:
@@ -237,7 +238,7 @@ class FirstCall(unittest.TestCase):
                     self.assertEqual((status, out), (130, ""))
                     self.assertIn("feast: interrupted: what is proved is kept", told)
                     self.assertEqual(left_over(self.top), [])
-        self.assertIn("of its 3 crates 1 are kept", Call(self, ["run"]).end()[2])
+        self.assertIn("1 of its 3 crates is proved", Call(self, ["run"]).end()[2])
 
     def test_what_cannot_be_proved_is_shown(self) -> None:
         (self.top / "fails").write_text("middle")
@@ -247,7 +248,7 @@ class FirstCall(unittest.TestCase):
         self.assertNotIn("fn good: proved", told)
         self.assertNotIn("a word of low", told)
         self.assertNotIn("2 of 3 crates are proved", told)
-        self.assertTrue(told.endswith("feast: the program could not be built: what the toolchain says of it stands above\n"))
+        self.assertTrue(told.endswith("feast: the program could not be built: the toolchain's reasons are above\n"))
 
     def test_without_the_toolchain(self) -> None:
         call = Call(self, ["run"], PATH="/usr/bin:/bin")
@@ -283,6 +284,18 @@ class Estimates(unittest.TestCase):
         self.assertAlmostEqual(status.share, 0.5)
 
 
+class Lines(unittest.TestCase):
+    """How a status looks on a terminal."""
+
+    def test_names_are_shown_whole(self) -> None:
+        names = "proving edge_lock, atom_layout, ulam_types, code_gen"
+        status = Status(crates=42, done=10, now=names, share=0.25, gone=480, left=3180)
+        shown = as_bar(status, 80)
+        self.assertEqual(shown, "[##........] 10/42 crates, 8 min gone, 53 min left: proving edge_lock, ..")
+        self.assertTrue(as_bar(status, 120).endswith(names))
+        self.assertEqual(len(as_bar(status, 20)), 19)
+
+
 def read_all(terminal: int) -> str:
     """What is written to a terminal until nobody has it open."""
     found = b""
@@ -315,7 +328,7 @@ def main() -> int:
     def tried(case: unittest.TestCase) -> unittest.TestResult:
         return case.run(unittest.TestResult()) or unittest.TestResult()
 
-    kinds = (FirstCall, Estimates)
+    kinds = (FirstCall, Estimates, Lines)
     names = [(kind, name) for kind in kinds for name in unittest.defaultTestLoader.getTestCaseNames(kind)]
     cases = [kind(name) for kind, name in names if name in (sys.argv[1:] or [name])]
     with concurrent.futures.ThreadPoolExecutor(4) as pool:

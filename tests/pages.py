@@ -2,15 +2,16 @@
 """Tries the pages of the repository against its files and a program: pages.py PROGRAM.
 
 Of each page (*.md): a link leads to a file; a path in backquotes that begins with a folder of the
-repository is there. A block of text behind a paragraph that ends with a path in backquotes and a
-colon is that file, or its first lines where the paragraph says so. A line `./feast WORDS` of a block
-is a call; a block behind `writes`, or a paragraph that ends with it, has what the last call wrote,
-and one behind `begins with` the first lines of it. A call that ends with `>report` leaves its report.
-The map of crates has a row for each crate of crates.txt. A page has at most 200 lines, and the README
-names each page of docs.
+repository is there. A block of text after a paragraph that ends with a path in backquotes and a colon is
+that file, or its first lines if the paragraph says so. A block of classes is a file that `check` accepts.
+A block of commands is run by a shell, in a folder that looks like the top of a clone, one block of a page
+after another; a block after a paragraph that ends with `writes` has what the last one wrote, and one
+after `begins with` the first lines of it. The map of crates has a row for each crate of crates.txt. A page
+has at most 200 lines, and the README names each page of docs.
 """
 from __future__ import annotations
 
+import os
 import pathlib
 import re
 import shutil
@@ -22,6 +23,9 @@ from typing import Iterator
 TOP = pathlib.Path(__file__).resolve().parent.parent
 FOLDERS = "bench|crates|docs|examples|tests"
 MOST_LINES = 200
+# How the commands of a page begin, and the classes. Commands for no file in particular have NAME in place of one.
+COMMANDS = ("./feast ", "./lab ", "grep ", "sed ", "for ", "python3 examples/")
+CLASSES = ("element ", "quark ", "/** ")
 
 
 def pieces(page: str) -> Iterator[tuple[str, str]]:
@@ -47,28 +51,48 @@ def lost_paths(page: str, folder: pathlib.Path) -> list[str]:
     return [f"{name} is not there" for path, name in [*links, *paths] if "NAME" not in name and not path.exists()]
 
 
-def call(program: str, line: str, folder: pathlib.Path) -> str:
-    """What a call writes."""
-    words, _, to = line.removeprefix("./feast ").partition(" >")
-    text = subprocess.run([program, *words.split()], cwd=folder, capture_output=True, text=True, timeout=60).stdout
-    if to:
-        (folder / to).write_text(text)
-    return text
+def make_top(folder: pathlib.Path, program: str) -> None:
+    """Makes a folder look like the top of a clone, with a program."""
+    shutil.copytree(TOP / "examples", folder / "examples")
+    (folder / "docs" / "pictures").mkdir(parents=True)
+    (folder / "feast").symlink_to(program)
+    (folder / "lab").symlink_to(TOP / "lab")
+
+
+def call(program: str, commands: str, folder: pathlib.Path) -> subprocess.CompletedProcess[str]:
+    """What a shell does with commands."""
+    around = {**os.environ, "FEAST_PROGRAM": program}
+    words = ["sh", "-e", "-c", commands]
+    return subprocess.run(words, cwd=folder, env=around, capture_output=True, text=True, timeout=600, check=False)
+
+
+def refusal(program: str, classes: str, folder: pathlib.Path) -> str:
+    """The line with which a text of classes is refused; empty if it isn't."""
+    (folder / "listing.ulam").write_text(classes)
+    checked = call(program, "./feast check listing.ulam", folder)
+    return checked.stdout if checked.returncode else ""
 
 
 def wrong_blocks(program: str, page: str, folder: pathlib.Path) -> Iterator[str]:
-    """The blocks that differ from the file or from the call that they are of."""
+    """The blocks that differ from the file or from the call that they are of, and those that fail."""
     wrote = None
     for before, block in pieces(page):
         file = re.search(r"`(examples/\S+)`:$", before)
+        if block.startswith(COMMANDS) and "NAME" not in block:
+            done = call(program, block, folder)
+            wrote = done.stdout
+            if done.returncode:
+                yield f"the commands behind '{before[-60:]}' fail: {done.stdout[-200:]}{done.stderr[-200:]}"
+            continue
+        if block.startswith(CLASSES) and "{ .. }" not in block:
+            refused = refusal(program, block, folder)
+            if refused:
+                yield f"the classes behind '{before[-60:]}' are refused: {refused}"
         if file:
             text = (TOP / file[1]).read_text()
         elif wrote is not None and re.search(r"(writes|begins with|writes the report)$", before):
             text = wrote
         else:
-            calls = [line for line in block.splitlines() if line.startswith("./feast ") and "NAME" not in line]
-            for line in calls:
-                wrote = call(program, line, folder)
             continue
         is_front = "first lines" in before or before.endswith("begins with")
         if not (text.startswith(block) if is_front else text == block):
@@ -96,7 +120,7 @@ def faults(program: str, path: pathlib.Path) -> list[str]:
     too_long = [f"it has {lines} lines, at most {MOST_LINES}"] if lines > MOST_LINES else []
     with tempfile.TemporaryDirectory() as name:
         folder = pathlib.Path(name)
-        shutil.copytree(TOP / "examples", folder / "examples")
+        make_top(folder, program)
         return [*too_long, *lost_paths(page, path.parent), *wrong_blocks(program, page, folder)]
 
 

@@ -240,7 +240,7 @@ def may_trace():
 
 
 def read_faults(bench, job):
-    """Each read of each input fails in turn, the others take what is there."""
+    """Each read of each input fails or is interrupted in turn, the others take what is there."""
     for file in job.files:
         text = file.text
         if file.name == "e":
@@ -251,9 +251,10 @@ def read_faults(bench, job):
         path = bench.at(file.name)
         reads = -(-len(text) // 4096) + 1
         for number in range(1, reads + 1):
-            fault = Fault(path, b"read", b"error=EIO:when=%d" % number)
-            answer = bench.call(job.words, before=fault.before)
-            bench.expect(f"{job.name}: read {number} of {file.name} fails", answer, UNREADABLE, unreadable(file.name))
+            for code, status, out in ((b"EIO", UNREADABLE, unreadable(file.name)), (b"EINTR", DONE, job.out)):
+                fault = Fault(path, b"read", b"error=%s:when=%d" % (code, number))
+                answer = bench.call(job.words, before=fault.before)
+                bench.expect(f"{job.name}: read {number} of {file.name} ends by {code.decode()}", answer, status, out)
         fault = Fault(path, b"read", b"error=EIO:when=%d" % (reads + 1))
         bench.expect(f"{job.name}: {file.name} takes {reads} reads", bench.call(job.words, before=fault.before), DONE, job.out)
         for code in (b"EACCES", b"EMFILE", b"EIO"):
@@ -270,7 +271,7 @@ def read_faults(bench, job):
 
 
 def write_faults(bench):
-    """Each write of a report of two pieces fails in turn, or takes nothing."""
+    """Each write of a report of two pieces fails in turn, is interrupted, or takes nothing."""
     bench.write("w", LONG_WORLD)
     bench.write("e", WALKER)
     words = ["run", "w", "e"]
@@ -280,6 +281,8 @@ def write_faults(bench):
             fault = Fault(path, b"write,writev", answer + b":when=%d" % number)
             got = bench.call(words, before=fault.before)
             bench.expect(f"write {number} ends by {answer.decode()}", got, SINK, LONG_REPORT[: 4096 * (number - 1)])
+        fault = Fault(path, b"write,writev", b"error=EINTR:when=%d" % number)
+        bench.expect(f"write {number} is interrupted", bench.call(words, before=fault.before), DONE, LONG_REPORT)
 
 
 def growing(bench):

@@ -1,6 +1,6 @@
-"""The first call of `./feast`: proves and builds the program, tells how far that has come, and runs it.
+"""The first call of `./feast`: proves and builds the program, shows progress, and runs it.
 
-`./feast` hands its words over to this package where the program isn't built, or a source is newer:
+`./feast` hands its words over to this package if the program isn't built, or a source is newer:
 
   call       the order of things: the lock, the preview, the proof, the program
   build      the toolchain's runs, followed until they end

@@ -1,4 +1,4 @@
-"""`python3 tools/first_call TOP WORD..`: what `./feast WORD..` does where the program isn't built."""
+"""`python3 tools/first_call TOP WORD..`: what `./feast WORD..` does if the program isn't built."""
 import pathlib
 import sys
 

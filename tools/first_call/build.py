@@ -47,14 +47,18 @@ class Build:
     def announce(self) -> None:
         """Says what is to be done, and how long that takes."""
         status = self.progress.status()
+        crates = f"its {status.crates} crates are"
+        if status.done:
+            proved = f"{status.done} of its {status.crates} crates {'is' if status.done == 1 else 'are'} proved"
+            crates = f"{proved}, and the others are"
         self.teller.say(
-            f"the program isn't built: of its {status.crates} crates {status.done} are kept, and the others are"
-            f" proved first, {self.lanes} at a time, in about {spoken(status.left)}"
+            f"the program is still to be built: {crates} proved first, {self.lanes} at a time,"
+            f" in about {spoken(status.left)}"
         )
-        self.teller.say("it can be interrupted: what is proved is kept, and the same command goes on from there")
+        self.teller.say("you can interrupt this: what is proved is kept, and the same command goes on from there")
         if seconds.LOOKING not in self.progress.done:
             looking = spoken(self.progress.expected[seconds.LOOKING])
-            self.teller.say(f"all sources are looked through before the first proof, for about {looking}")
+            self.teller.say(f"all sources are read before the first proof, which takes about {looking}")
 
     def go(self) -> None:
         """Proves the crates and builds the program."""
@@ -64,7 +68,7 @@ class Build:
         seconds.write(self.measured, {**seconds.read(self.measured), **self.progress.measured})
 
     def follow(self, step: Step) -> None:
-        """Runs the toolchain, and tells how far it is until it ends."""
+        """Runs the toolchain, and shows progress until it ends."""
         with open(self.log, "wb") as out:
             self.run = Child(step.words, step.folder, out)
         log = Log(self.log)

@@ -1,4 +1,4 @@
-"""What `./feast WORDS` does where the program isn't built: a lock, a preview, the proof, the program."""
+"""What `./feast WORDS` does if the program isn't built: a lock, a preview, the proof, the program."""
 from __future__ import annotations
 
 import os
@@ -56,7 +56,7 @@ class FirstCall:
     def make_ready(self) -> None:
         """Has the program built, by this call or by another."""
         lock = Lock(self.program.with_name("first-call.lock"))
-        lock.take(lambda: self.teller.say("another ./feast builds the program: waiting for it"), self.pause)
+        lock.take(lambda: self.teller.say("another ./feast is building the program: waiting for it"), self.pause)
         if is_stale(self.top, self.program):
             self.build()
 
@@ -94,7 +94,7 @@ class FirstCall:
 
 
 def main(top: Path, words: list[str]) -> int:
-    """Builds the program if need be and runs it; the status where that can't be."""
+    """Builds the program if need be and runs it; the status if that can't be."""
     call = FirstCall(top, words)
     call.listen()
     try:
@@ -105,7 +105,7 @@ def main(top: Path, words: list[str]) -> int:
         return INTERRUPTED
     except Refused as fault:
         call.teller.show(str(fault))
-        call.teller.say("the program could not be built: what the toolchain says of it stands above")
+        call.teller.say("the program could not be built: the toolchain's reasons are above")
     except OSError as fault:
         call.teller.say(str(fault))
     return FAILED

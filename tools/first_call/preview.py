@@ -18,7 +18,7 @@ from first_call.machine import free_memory
 
 # Names that `rt try` keeps for itself.
 TAKEN = ("program", "stdin", "stdout", "stderr")
-# Its status where the call takes too long or writes too much.
+# Its status if the call takes too long or writes too much.
 NO_ANSWER = 6
 # How many gigabytes of memory there must be for it.
 MEMORY = 4
@@ -59,7 +59,7 @@ class Call:
 
 
 def is_wanted(environment: Mapping[str, str], is_terminal: bool) -> bool:
-    """Whether a preview is wanted: not with FEAST_PREVIEW=no, nor where nobody looks on in CI."""
+    """Whether a preview is wanted: not with FEAST_PREVIEW=no, nor in CI without a terminal."""
     return environment.get("FEAST_PREVIEW") != "no" and (is_terminal or not environment.get("CI"))
 
 
@@ -98,7 +98,7 @@ def shown(out: bytes, status: int) -> str:
 
 
 def refused(status: int) -> str:
-    """What is shown where `rt try` gave no answer."""
+    """What is shown if `rt try` gave no answer."""
     if status == NO_ANSWER:
-        return "feast: no preview: the call takes longer, or writes more, than one may\n"
+        return "feast: no preview: the call takes longer than a minute, or writes more than a mebibyte\n"
     return f"feast: no preview: rt try ended with status {status}\n"

@@ -109,7 +109,7 @@ class Progress:
 def said_of(now: tuple[str, ...]) -> str:
     """What is at work, in words; empty if nothing is."""
     if LOOKING in now:
-        return "looking through all sources"
+        return "reading all sources"
     if BUILDING in now:
         return "building the program"
     return f"proving {', '.join(now)}" if now else ""

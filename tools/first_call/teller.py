@@ -7,11 +7,12 @@ from typing import Optional
 
 from first_call.progress import Status
 
-BAR = 16
+# The length of the bar, in letters.
+BAR = 10
 
 
 def spoken(seconds: float) -> str:
-    """A time as one says it."""
+    """A time in words."""
     if seconds < 60:
         return f"{seconds:.0f} s"
     minutes = round(seconds / 60)
@@ -29,7 +30,16 @@ def as_bar(status: Status, width: int) -> str:
     full = int(BAR * status.share)
     bar = "#" * full + "." * (BAR - full)
     times = f"{spoken(status.gone)} gone, {spoken(status.left)} left"
-    return f"[{bar}] {status.done}/{status.crates} crates, {times}: {status.now}"[: width - 1]
+    front = f"[{bar}] {status.done}/{status.crates} crates, {times}: "
+    return (front + shortened(status.now, width - 1 - len(front)))[: width - 1]
+
+
+def shortened(names: str, room: int) -> str:
+    """As many whole names of a list as there is room for; two dots stand for the others."""
+    if len(names) <= room:
+        return names
+    whole, comma, _ = names[: max(room - 3, 0)].rpartition(",")
+    return f"{whole}, .." if comma else names
 
 
 class Teller:
@@ -41,7 +51,7 @@ class Teller:
         self.bar = ""
 
     def write(self, text: str) -> None:
-        """Writes; who can't be told any more isn't."""
+        """Writes, if anybody is still there to read it."""
         try:
             sys.stderr.write(text)
             sys.stderr.flush()
@@ -59,7 +69,7 @@ class Teller:
         self.bar = bar
 
     def status(self, status: Status) -> None:
-        """Tells how far the build is, if that has changed."""
+        """Shows how far the build has come, if that has changed."""
         if self.is_terminal:
             bar = as_bar(status, self.width())
             if bar != self.bar:

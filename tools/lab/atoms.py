@@ -1,8 +1,8 @@
 """The atoms of a report with the values of their members, as CSV.
 
-In place of a report there can be what `replay` or `rewind` writes, such as the NNNN.atoms of a chain.
+In place of a report you can give what `replay` or `rewind` writes, such as the NNNN.atoms of a chain.
 A row has the site, the element, and a column for each member of any element of the files, by its
-dotted name (`part.count`, `list[2]`); where an element lacks a member, its column is empty. `Unary` is
+dotted name (`part.count`, `list[2]`); if an element lacks a member, its field is empty. `Unary` is
 shown as its number of ones, `Bits` as the number that the bits make, and `true` as 1.
 """
 import argparse

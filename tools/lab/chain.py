@@ -1,4 +1,4 @@
-"""A run as long as one likes, as a chain of calls.
+"""A run as long as you like, as a chain of calls.
 
 A call makes at most 1,000,000 attempts over all tiles. In a chain each call, a leg, begins with the
 atoms that the leg before left, and makes the attempts that WORLD says (`attempts K` for each tile). DIR
@@ -7,19 +7,19 @@ then has, for each leg NNNN from 0001 on,
   NNNN.world      the world of the leg
   NNNN.atoms      the atoms at its end, as `replay` writes them (0000.atoms: at the start)
   NNNN.report.gz  its report, with --keep reports
-  course.csv      for each leg: its attempts, events and abandoned attempts; aeps, the events a live
-                  site of all legs so far; and how many atoms of each element it left. Leg 0 is the start.
+  course.csv      for each leg: its attempts, events and abandoned attempts; aeps, the events per live
+                  site in all legs so far; and how many atoms of each element it left. Leg 0 is the start.
 
-and copies of the world and the element files, which the legs are run with. A chain that was stopped, at
-whatever moment, goes on if the same command is given again, also with more legs. It goes on with the
-same world, elements and options alone.
+and copies of the world and the element files, with which the legs are run. A chain that was stopped, at
+whatever moment, goes on if the same command is given again, also with more legs. Another world, other
+elements or other options are refused.
 
 Seeds: leg k takes the seed S + (k - 1) * (tiles + 1), modulo 2^64, where S is that of --seed or else
 of WORLD. Tile t draws from the seed + t, and the order of a stepped leg is drawn from the seed + tiles,
 so no two legs and no two tiles share a seed. An `order` line of WORLD is not used.
 
 --audit audits the report of each leg, and tests that each leg begins with exactly what the one before
-left, but for what --at cleared. It writes `yes` or `no` with the first leg at fault, and ends with 0 or 1.
+left, except for what --at cleared. It writes `yes` or `no` with the first leg at fault, and ends with 0 or 1.
 """
 import argparse
 import gzip
@@ -44,7 +44,7 @@ def add_arguments(parser: argparse.ArgumentParser) -> None:
     parser.add_argument("--audit", metavar="DIR", action=Audit, help="audit the chain of DIR, and do nothing else")
     parser.add_argument("folder", metavar="DIR", type=Path,
                         help="the folder of the chain; it is made if it isn't there")
-    parser.add_argument("--legs", metavar="N", type=int, required=True, help="how many legs there are to be in all")
+    parser.add_argument("--legs", metavar="N", type=int, required=True, help="the number of legs in all")
     parser.add_argument("--step", action="store_true", help="stepped legs, on one thread; else each tile has a thread")
     parser.add_argument("--seed", metavar="S", type=int, help="the seed of the first leg")
     parser.add_argument("--keep", choices=["none", "reports"], default="none", help="keep the report of each leg")

@@ -4,8 +4,8 @@ The page plays without a network: the plane with the borders of its tiles, the n
 events, where attempts were abandoned, and the members of the atom at any site. Colours and letters of the
 elements are those of \\color and \\symbol in the doc comments above them, as in \\color #0072b2 and \\symbol Fe.
 
-In place of WORLD, REPORT and the element files there can be the folder of a chain. Of a chain that keeps no
-reports the plane is known at the ends of its legs alone, so these are the frames.
+In place of WORLD, REPORT and the element files you can give the folder of a chain. If the chain keeps no
+reports, the plane is known only at the ends of its legs, so these are the frames.
 """
 import argparse
 import csv

@@ -12,7 +12,7 @@ from lab.files import cause
 
 VERBS = ("chain", "film", "sweep", "rates", "atoms", "paint")
 EPILOG = """Bad input gets one line on standard error and status 2. Files are written whole or not at all.
-The lab calls the program that ./feast has built; FEAST_PROGRAM names another one."""
+The lab calls the program that ./feast has built; the variable FEAST_PROGRAM names another one."""
 
 
 def verbs(words: list[str]) -> dict[str, ModuleType]:

@@ -10,7 +10,7 @@ range of the member; members of parts have dotted names (`part.count=3`), and it
 (`list[2]=1`). Each symbol of the map needs a key.
 
 The world goes to standard output. With --seed and --attempts each tile draws so many attempts; without
-them the world has none, and lines for them can be added behind `size`.
+them the world has none, and you can add lines for them after `size`.
 """
 import argparse
 import re

@@ -1,7 +1,7 @@
 """How many events and abandoned attempts each site of a run had, as CSV, and a heat map of them.
 
-A row has a site and its tile, or with --by tile a tile with the least, the mean and the greatest number that
-its sites have. A site in the eight rows or columns along a border with another tile needs an edge for its events,
+A row is a site with its tile, or with --by tile a tile with the least, the mean and the greatest number of
+its sites. A site in the eight rows or columns along a border with another tile needs an edge for its events,
 and its attempts are abandoned if that is held, so on small tiles the rates are uneven.
 """
 import argparse

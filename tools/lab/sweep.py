@@ -1,13 +1,13 @@
 """Runs over values of constants and over seeds, as CSV.
 
-Each --set names a constant of a class of the element files, and its values; together they make every
-combination. The elements of a combination are copies of the files in which the constants have its values.
+Each --set names a constant of a class of the element files, and its values; every combination of them is
+run. A combination runs copies of the files in which the constants have its values.
 Each combination is run R times, with the seeds S, S + (tiles + 1), S + 2 * (tiles + 1) .. modulo 2^64,
 the same ones for each, where S is that of --seed or else of WORLD; the order of a stepped run is drawn
 from its seed + tiles. So no two tiles of two repetitions share a seed.
 
-A row has the values, the seed, the events and the abandoned attempts, aeps (the events a live site), and
-how many atoms of each element there are at the end. The rows stand in the order of the values.
+A row has the values, the seed, the events and the abandoned attempts, aeps (the events per live site), and
+how many atoms of each element there are at the end. The rows come in the order of the values.
 
 Runs on one thread are made side by side, one for each processor. Runs with a thread for each tile are
 made one after another.

@@ -5,7 +5,7 @@ use std::alloc::{AllocError, AllocFailed};
 use thiserror::Error;
 
 /// The first class that takes too many bits, by the place of its name, with the number of its bits;
-/// 2^64 - 1 where there are more.
+/// 2^64 - 1 if there are more.
 #[derive(Clone, Copy, Debug, PartialEq, Eq, Error)]
 pub enum LayoutFault {
     /// A quark of more than 32 bits.

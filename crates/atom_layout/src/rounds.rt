@@ -11,7 +11,7 @@ use crate::table::Layout;
 use std::alloc::Global;
 use ulam_tree::resolved::{Class, Member, Program, Ty};
 
-/// The bits of a type, where classes have those of a row.
+/// The bits of a type, if classes have those of a row.
 fn type_bits(row: &[u64], ty: Ty) -> u64
     ensures { result ≡ spec.type_bits (in_row row.now) ty }
 {
@@ -117,8 +117,8 @@ fn class_widths(alloc: Global, row: &[u64], class: &Class) -> Result<Vec<u32>, L
     Ok(bits)
 }
 
-/// The layout of all classes. `QuarkTooWide` or `ElementTooWide` where a quark takes more than 32
-/// bits or an element more than 71, at the first such class; `NoMemory` where it can't be kept.
+/// The layout of all classes. `QuarkTooWide` or `ElementTooWide` if a quark takes more than 32
+/// bits or an element more than 71, at the first such class; `NoMemory` if it can't be kept.
 pub fn layout(alloc: Global, program: &Program) -> Result<Layout, LayoutFault>
     ensures layout { IfOk result (λ l. l ≡ layout_of (resolved_program program.now)) }
     ensures narrow { IfOk result (λ l. first_wide (resolved_program program.now) ≡ None) }

@@ -3,34 +3,31 @@ use Rattle.std.proofs.Common.{◌≡◌, ℕ, ◌+◌, ◌-◌, ◌<◌, Bool, t
 use Rattle.std.specs.Prelude.{ℤ, pos, negsuc, nat_lt, if◌then◌else◌, ◌==◌, ◌&&◌}
 use Rattle.std.proofs.lemmas.Bool.Decides.{nat_tests}
 use Rattle.std.proofs.lemmas.List.Quantifiers.{position-Some}
+use Rattle.list_laws.specs.Options.{or_zero}
 use Rattle.window_sites.specs.Sites.{offset_of, shifted}
 use Rattle.window_sites.proofs.Offsets.{offset-one}
 use Rattle.tile_map.specs.Plane.{Site, MapValue, site, is_live}
 use Rattle.tile_map.specs.Edges.{window_site, live_site, shared_of}
 use Rattle.border_cache.specs.Published.{ArePlaces}
-use Rattle.border_cache.specs.Windows.{place_in, place_of_some}
-
-abbrev inside : Option ℕ → ℕ
-inside None = 0
-inside (Some x) = x
+use Rattle.border_cache.specs.Windows.{place_in, edge_place_some}
 
 -- two offsets that lead to one place are one
 two_ways : (x a d e : ℕ) → shifted x (pos d) ≡ Some a → shifted x (negsuc e) ≡ Some a → ⊥
-two_ways x a d e h g = let p : x + d ≡ a = ap inside h in go (nat_lt e x) refl g p
+two_ways x a d e h g = let p : x + d ≡ a = ap or_zero h in go (nat_lt e x) refl g p
   where
     go : (b : Bool) → nat_lt e x ≡ b → (if b then Some (x - e - 1) else None) ≡ Some a → x + d ≡ a → ⊥
-    go true is g p = let q : x - e - 1 ≡ a = ap inside g in let lt : e < x = grind (arith, nat_tests, is) in omega (arith, p, q, lt)
+    go true is g p = let q : x - e - 1 ≡ a = ap or_zero g in let lt : e < x = grind (arith, nat_tests, is) in omega (arith, p, q, lt)
     go false is g p = absurd (cc g)
 
 shift_one : (x a : ℕ) (d e : ℤ) → shifted x d ≡ Some a → shifted x e ≡ Some a → d ≡ e
-shift_one x a (pos d) (pos e) h g = let p : x + d ≡ a = ap inside h in let q : x + e ≡ a = ap inside g in ap pos (omega (arith, p, q))
+shift_one x a (pos d) (pos e) h g = let p : x + d ≡ a = ap or_zero h in let q : x + e ≡ a = ap or_zero g in ap pos (omega (arith, p, q))
 shift_one x a (pos d) (negsuc e) h g = absurd (two_ways x a d e h g)
 shift_one x a (negsuc d) (pos e) h g = absurd (two_ways x a e d g h)
 shift_one x a (negsuc d) (negsuc e) h g = go (nat_lt d x) refl h (nat_lt e x) refl g
   where
     go : (b : Bool) → nat_lt d x ≡ b → (if b then Some (x - d - 1) else None) ≡ Some a → (c : Bool) → nat_lt e x ≡ c → (if c then Some (x - e - 1) else None) ≡ Some a → negsuc d ≡ negsuc e
     go true is h true js g =
-        let p : x - d - 1 ≡ a = ap inside h in let q : x - e - 1 ≡ a = ap inside g in
+        let p : x - d - 1 ≡ a = ap or_zero h in let q : x - e - 1 ≡ a = ap or_zero g in
         let lt : d < x = grind (arith, nat_tests, is) in let less : e < x = grind (arith, nat_tests, js) in
         ap negsuc (omega (arith, p, q, lt, less))
     go true is h false js g = absurd (cc g)
@@ -54,7 +51,7 @@ shifts_of m (Some u) (Some v) s h = go (is_live m (site u v)) h
 placed : (m : MapValue) (c : Site) (e n k : ℕ) → place_in m c e n ≡ Some k → (shifted c.x (offset_of n).0 ≡ Some (get_or (shared_of m e) k c).x) × (shifted c.y (offset_of n).1 ≡ Some (get_or (shared_of m e) k c).y)
 placed m c e n k h = go (window_site m c n) refl h
   where
-    go : (o : Option Site) → window_site m c n ≡ o → place_of_some m e o ≡ Some k → (shifted c.x (offset_of n).0 ≡ Some (get_or (shared_of m e) k c).x) × (shifted c.y (offset_of n).1 ≡ Some (get_or (shared_of m e) k c).y)
+    go : (o : Option Site) → window_site m c n ≡ o → edge_place_some m e o ≡ Some k → (shifted c.x (offset_of n).0 ≡ Some (get_or (shared_of m e) k c).x) × (shifted c.y (offset_of n).1 ≡ Some (get_or (shared_of m e) k c).y)
     go None is h = absurd (cc h)
     go (Some s) is h =
         let found = (position-Some (λ p. p.x == s.x && p.y == s.y) (shared_of m e) k c h).1 in

@@ -5,13 +5,14 @@ use Rattle.std.specs.Option.{option_map}
 use Rattle.std.proofs.lemmas.Bool.Decides.{nat_tests}
 use Rattle.std.proofs.lemmas.List.Quantifiers.{position-Some}
 use Rattle.std.proofs.lemmas.Option.{slice_get-get_or}
+use Rattle.list_laws.specs.Options.{or_zero}
 use Rattle.window_sites.specs.Sites.{offset_of, shifted}
 use Rattle.tile_map.specs.Plane.{Site, MapValue, site, in_window}
 use Rattle.tile_map.specs.Edges.{pairs_of, low_end, live_site, window_site, shared_of, register_of}
 use Rattle.tile_map.specs.Laws.{IsPlane}
 use Rattle.tile_map.proofs.Spans.{held_parts}
 use Rattle.border_cache.specs.News.{Covers}
-use Rattle.border_cache.specs.Windows.{place_in, place_of, place_of_some}
+use Rattle.border_cache.specs.Windows.{place_in, edge_place, edge_place_some}
 
 -- shared site k is a live site of the window
 abbrev pub IsInWindow : MapValue → Site → ℕ → ℕ → Type 0
@@ -20,7 +21,7 @@ IsInWindow m c e k = (s : Site) × (slice_get (shared_of m e) k ≡ Some s) × (
 pub covered_in : (m : MapValue) → IsPlane m → (c : Site) (e k : ℕ) → Covers (place_in m c e) 41 k → IsInWindow m c e k
 covered_in m p c e k cov = go (window_site m c cov.0) refl cov.2
   where
-    go : (o : Option Site) → window_site m c cov.0 ≡ o → place_of_some m e o ≡ Some k → IsInWindow m c e k
+    go : (o : Option Site) → window_site m c cov.0 ≡ o → edge_place_some m e o ≡ Some k → IsInWindow m c e k
     go None is h = absurd (cc h)
     go (Some s) is h =
         let found = position-Some (λ p. p.x == s.x && p.y == s.y) (shared_of m e) k c h in
@@ -29,19 +30,15 @@ covered_in m p c e k cov = go (window_site m c cov.0) refl cov.2
         let y : q.y ≡ s.y = grind (arith, nat_tests, found.1) in
         (s, slice_get-get_or (shared_of m e) k c found.0 ∙ (λ z. Some (record { x = x z; y = y z })), p.windows.site c s cov.0 (omega (arith, cov.1)) is)
 
-abbrev inside : Option ℕ → ℕ
-inside None = 0
-inside (Some x) = x
-
 pub in_covered : (m : MapValue) → IsPlane m → (c : Site) (e k : ℕ) → e < length (pairs_of m) → IsInWindow m c e k → Covers (place_in m c e) 41 k
 in_covered m p c e k lt w =
     let n = p.windows.number c w.0 w.2 in
     let r : register_of m e w.0 ≡ Some (1 + 2 * k) = p.registers.found e k w.0 lt w.1 in
-    (n.0, omega (arith, n.1), ap (place_of_some m e) n.2 ∙ go (place_of m e w.0) r)
+    (n.0, omega (arith, n.1), ap (edge_place_some m e) n.2 ∙ go (edge_place m e w.0) r)
   where
     go : (o : Option ℕ) → option_map (λ k. 1 + 2 * k) o ≡ Some (1 + 2 * k) → o ≡ Some k
     go None h = absurd (cc h)
-    go (Some j) h = let q : 1 + 2 * j ≡ 1 + 2 * k = ap inside h in ap Some (omega (arith, q))
+    go (Some j) h = let q : 1 + 2 * j ≡ 1 + 2 * k = ap or_zero h in ap Some (omega (arith, q))
 
 -- a site that an edge shares is live, so that its place needs no other test
 pub shared_place : (m : MapValue) → IsPlane m → (c : Site) (e n u v r : ℕ) → shifted c.x (offset_of n).0 ≡ Some u → shifted c.y (offset_of n).1 ≡ Some v → register_of m e (site u v) ≡ Some r → Some ((r - 1) / 2) ≡ place_in m c e n
@@ -49,8 +46,8 @@ shared_place m p c e n u v r x y h =
     let s = site u v in
     let shared = p.registers.shared e r s h in
     let live = (held_parts m (low_end m e) s (p.edges.held e shared.0 s shared.1).0).live in
-    half (place_of m e s) r h ∙ sym ((λ i. place_of_some m e (live_site m (x i) (y i))) ∙ ap (λ b. place_of_some m e (if b then Some s else None)) live)
+    half (edge_place m e s) r h ∙ sym ((λ i. edge_place_some m e (live_site m (x i) (y i))) ∙ ap (λ b. edge_place_some m e (if b then Some s else None)) live)
   where
     half : (o : Option ℕ) (r : ℕ) → option_map (λ k. 1 + 2 * k) o ≡ Some r → Some ((r - 1) / 2) ≡ o
     half None r h = absurd (cc h)
-    half (Some k) r h = let q : 1 + 2 * k ≡ r = ap inside h in ap Some (omega (arith, q))
+    half (Some k) r h = let q : 1 + 2 * k ≡ r = ap or_zero h in ap Some (omega (arith, q))

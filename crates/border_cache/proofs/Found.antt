@@ -1,22 +1,14 @@
 -- What is found by a run of reads.
 use Rattle.std.proofs.Common.{◌≡◌, ℕ, eqb, Bool, true, false, cond, true≢false, List, [], ◌∷◌, ◌++◌, refl, sym, ap, ◌∙◌, arith, Option, None, Some}
 use Rattle.std.proofs.lemmas.Option.{none-some}
+use Rattle.edge_lock.proofs.HistoryLaws.{found_stays}
+use Rattle.list_laws.specs.Options.{or_zero}
 use Rattle.edge_lock.specs.declared.history.Access.{Access}
 use Rattle.edge_lock.specs.declared.history.Access.TheVariants.{Read, Write}
 use Rattle.edge_lock.specs.History.{found_value}
 use Rattle.edge_lock.specs.EndLists.{last_shown, writes_nothing, Shows}
 use Rattle.border_cache.specs.Accesses.{with_known, IsHonest}
 use Rattle.border_cache.proofs.Runs.{known_after}
-
--- what was found stays found
-more_if : (b : Bool) (o p u : Option ℕ) (v : ℕ) → (o ≡ Some v → p ≡ Some v) → cond b u o ≡ Some v → cond b u p ≡ Some v
-more_if true o p u v f h = h
-more_if false o p u v f h = f h
-
-pub found_more : (xs ys : List Access) (r v : ℕ) → found_value xs r ≡ Some v → found_value (xs ++ ys) r ≡ Some v
-found_more [] ys r v h = absurd (none-some v h)
-found_more (Read at x ∷ xs) ys r v h = more_if (eqb r at) (found_value xs r) (found_value (xs ++ ys) r) (Some x) v (found_more xs ys r v) h
-found_more (Write at x ∷ xs) ys r v h = more_if (eqb r at) (found_value xs r) (found_value (xs ++ ys) r) None v (found_more xs ys r v) h
 
 -- where reads found nothing, the next ones tell
 new_if : (b : Bool) (x : ℕ) (o p q : Option ℕ) → (o ≡ None → p ≡ q) → cond b (Some x) o ≡ None → cond b (Some x) p ≡ q
@@ -34,13 +26,9 @@ silent_both (Read at x ∷ xs) ys w u = silent_both xs ys w u
 silent_both (Write at x ∷ xs) ys w u = absurd (true≢false (sym w))
 
 -- reads alone change nothing that is known
-abbrev inner : Option ℕ → ℕ
-inner None = 0
-inner (Some x) = x
-
 pub shown_at : (k : Option ℕ) (x v : ℕ) → Shows k v → k ≡ Some x → v ≡ x
 shown_at None x v s h = absurd (none-some x h)
-shown_at (Some y) x v s h = s ∙ ap inner h
+shown_at (Some y) x v s h = s ∙ ap or_zero h
 
 kept_if : (known : ℕ → Option ℕ) (r at x v : ℕ) → Shows (known at) v → known r ≡ Some x → (b : Bool) → eqb r at ≡ b → cond b (Some v) (known r) ≡ Some x
 kept_if known r at x v s h true is = ap Some (shown_at (known at) x v s (let e : at ≡ r = grind (arith, is) in ap known e ∙ h))
@@ -70,4 +58,4 @@ found_read xs zs known r v w h shows = go (found_value xs r) refl
   where
     go : (o : Option ℕ) → found_value xs r ≡ o → found_value (xs ++ Read r v ∷ zs) r ≡ Some v
     go None is = found_new xs (Read r v ∷ zs) r w is ∙ (let e : eqb r r ≡ true = grind arith in ap (λ b. cond b (Some v) (found_value zs r)) e)
-    go (Some u) is = found_more xs (Read r v ∷ zs) r u is ∙ ap Some (sym (shown_at (known_after known xs r) u v shows (steady xs known r u w h is (known r))))
+    go (Some u) is = found_stays xs (Read r v ∷ zs) r u is ∙ ap Some (sym (shown_at (known_after known xs r) u v shows (steady xs known r u w h is (known r))))

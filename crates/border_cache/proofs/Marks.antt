@@ -1,10 +1,13 @@
 -- One more place of a publishing: its bit in a news word.
-use Rattle.std.proofs.Common.{◌≡◌, ◌≢◌, ℕ, ◌+◌, ◌*◌, ◌/◌, ◌%◌, ◌<◌, eqb, Bool, true, false, cond, true≢false, List, [], ◌∷◌, ◌++◌, refl, sym, ap, ◌∙◌, subst, arith, ◌⊎◌, inl, inr, ⊎_elim, Option, Some, None}
+use Rattle.std.proofs.Common.{◌≡◌, ◌≢◌, ℕ, ◌+◌, ◌*◌, ◌/◌, ◌%◌, ◌<◌, eqb, Bool, true, false, cond, true≢false, List, [], ◌∷◌, ◌++◌, refl, sym, ap, ◌∙◌, subst, arith, ◌⊎◌, inl, inr, ⊎_elim, Option, Some, None, ne_eqb}
 use Rattle.std.proofs.lemmas.Option.{none-some}
 use mathlib.Core.Logic.{dite}
 use native.Mathlib.Decide.{ℕ_discrete}
 use Rattle.std.proofs.lemmas.List.{append-nil}
 use Rattle.std.specs.Int.{bit_at}
+use Rattle.edge_lock.proofs.BoardLaws.{last_shown-append}
+use Rattle.edge_lock.proofs.HistoryLaws.{found_stays}
+use Rattle.list_laws.specs.Options.{or_zero}
 use Rattle.feast_base.specs.Edges.{news_register}
 use Rattle.edge_lock.specs.declared.history.Access.{Access}
 use Rattle.edge_lock.specs.declared.history.Access.TheVariants.{Read, Write}
@@ -13,8 +16,8 @@ use Rattle.edge_lock.specs.EndLists.{last_shown, writes_nothing, Shows}
 use Rattle.border_cache.specs.Accesses.{last_write, is_read, reads_nothing, IsHonest}
 use Rattle.border_cache.specs.News.{Covers, word_of}
 use Rattle.border_cache.specs.Published.{IsWithBit, IsWordMarked, IsMarked, IsBitPut}
-use Rattle.border_cache.proofs.Runs.{known_after, last_shown-append}
-use Rattle.border_cache.proofs.Found.{found_more, shown_at}
+use Rattle.border_cache.proofs.Runs.{known_after}
+use Rattle.border_cache.proofs.Found.{shown_at}
 use Rattle.border_cache.proofs.Refreshes.{covers_more, covers_last}
 
 pub last_write-append : (xs ys : List Access) (r : ℕ) (o : Option ℕ) → last_write (xs ++ ys) r o ≡ last_write ys r (last_write xs r o)
@@ -127,38 +130,31 @@ unread_writes (Write q x ∷ xs) r h = unread_writes xs r h
 eqb_same : (r : ℕ) → eqb r r ≡ true
 eqb_same r = grind arith
 
-eqb_apart : (q r : ℕ) → q ≢ r → eqb q r ≡ false
-eqb_apart q r h = grind (arith, h)
-
 abbrev pair : ℕ → ℕ → ℕ → List Access
 pair r v w = Read r v ∷ Write r w ∷ []
 
 -- a read and a write of another register
 found_else : (xs : List Access) (q r v w : ℕ) → q ≢ r → found_value (xs ++ pair r v w) q ≡ found_value xs q
-found_else [] q r v w ne = ap (λ b. cond b (Some v) (cond b None None)) (eqb_apart q r ne)
+found_else [] q r v w ne = ap (λ b. cond b (Some v) (cond b None None)) (ne_eqb q r ne)
 found_else (Read p x ∷ xs) q r v w ne = ap (cond (eqb q p) (Some x)) (found_else xs q r v w ne)
 found_else (Write p x ∷ xs) q r v w ne = ap (cond (eqb q p) None) (found_else xs q r v w ne)
 
 read_else : (xs : List Access) (q r v w : ℕ) → q ≢ r → is_read (xs ++ pair r v w) q ≡ is_read xs q
-read_else [] q r v w ne = ap (λ b. cond b true false) (eqb_apart q r ne)
+read_else [] q r v w ne = ap (λ b. cond b true false) (ne_eqb q r ne)
 read_else (Read p x ∷ xs) q r v w ne = ap (cond (eqb q p) true) (read_else xs q r v w ne)
 read_else (Write p x ∷ xs) q r v w ne = read_else xs q r v w ne
 
 write_else : (xs : List Access) (q r v w : ℕ) → q ≢ r → last_write (xs ++ pair r v w) q None ≡ last_write xs q None
-write_else xs q r v w ne = last_write-append xs (pair r v w) q None ∙ ap (λ b. cond b (Some w) (last_write xs q None)) (eqb_apart q r ne)
+write_else xs q r v w ne = last_write-append xs (pair r v w) q None ∙ ap (λ b. cond b (Some w) (last_write xs q None)) (ne_eqb q r ne)
 
 shown_else : (xs : List Access) (q r v w : ℕ) (s : Option ℕ) → q ≢ r → last_shown (xs ++ pair r v w) q s ≡ last_shown xs q s
-shown_else xs q r v w s ne = last_shown-append xs (pair r v w) q s ∙ ap (λ b. cond b (Some w) (cond b (Some v) (last_shown xs q s))) (eqb_apart q r ne)
+shown_else xs q r v w s ne = last_shown-append xs (pair r v w) q s ∙ ap (λ b. cond b (Some w) (cond b (Some v) (last_shown xs q s))) (ne_eqb q r ne)
 
 write_here : (xs : List Access) (r v w : ℕ) → last_write (xs ++ pair r v w) r None ≡ Some w
 write_here xs r v w = last_write-append xs (pair r v w) r None ∙ ap (λ b. cond b (Some w) (last_write xs r None)) (eqb_same r)
 
 shown_here : (xs : List Access) (r v w : ℕ) (s : Option ℕ) → last_shown (xs ++ pair r v w) r s ≡ Some w
 shown_here xs r v w s = last_shown-append xs (pair r v w) r s ∙ ap (λ b. cond b (Some w) (cond b (Some v) (last_shown xs r s))) (eqb_same r)
-
-abbrev inside : Option ℕ → ℕ
-inside None = 0
-inside (Some x) = x
 
 same_word : (sites end i j : ℕ) → news_register sites end i ≡ news_register sites end j → i ≡ j
 same_word sites end i j h = omega (arith, h)
@@ -217,7 +213,7 @@ module _ (sites end : ℕ) (bit : Bool) (places : ℕ → Option ℕ) (n : ℕ) 
 
     -- a place that is covered now was covered before, or is this one
     split : (j : ℕ) → New j → Old j ⊎ (k ≡ j)
-    split j c = ⊎_elim (λ h. inl h) (λ p. inr (ap inside (sym at ∙ p))) (covers_last places n j c)
+    split j c = ⊎_elim (λ h. inl h) (λ p. inr (ap or_zero (sym at ∙ p))) (covers_last places n j c)
 
     -- another word stays
     word_else : (j : ℕ) → j ≢ k / 64 → IsWordMarked sites end bit places n xs j → IsWordMarked sites end bit places (n + 1) ys j
@@ -237,7 +233,7 @@ module _ (sites end : ℕ) (bit : Bool) (places : ℕ → Option ℕ) (n : ℕ) 
     word_again o same = record {
       first = o.first;
       last = w;
-      found = found_more xs (pair r v w) r o.first o.found;
+      found = found_stays xs (pair r v w) r o.first o.found;
       written = write_here xs r v w;
       marked = λ i lt c. dite (ℕ_discrete i (k % 64))
           (λ (e : i ≡ k % 64). ap (bit_at w) e ∙ put.same)

@@ -10,7 +10,7 @@ use Rattle.edge_lock.proofs.BoardLaws.{here_after, else_after}
 use Rattle.tile_map.specs.Plane.{Site, MapValue}
 use Rattle.border_cache.specs.Cells.{CellValue, newer, newest}
 use Rattle.border_cache.specs.Accesses.{IsHonest, after_all, Adds}
-use Rattle.border_cache.specs.News.{seen, IsRefresh, Refreshes, no_cell}
+use Rattle.border_cache.specs.News.{found_cell, IsRefresh, Refreshes, no_cell}
 use Rattle.border_cache.specs.Windows.{has, place_in, end_at, sites_on, AddsAll, and_cell, seen_on, RefreshesAll, PublishesAll}
 use Rattle.border_cache.specs.Published.{IsPublish}
 use Rattle.border_cache.proofs.Runs.{after_none}
@@ -97,21 +97,21 @@ module _ (needs : List ℕ) (i e : ℕ) (lt : i < length needs) (rise : Rises ne
   seen_before m t c n xs more (d ∷ ds) h = go (eqb e d) refl h (seen_before m t c n xs more ds)
     where
       go : (x : Bool) → eqb e d ≡ x → (if x then true else has e ds) ≡ false → (has e ds ≡ false → seen_on m t c (put_on e xs more) n ds ≡ seen_on m t c more n ds)
-          → and_cell (seen (sites_on m d) (end_at m t d) (put_on e xs more d) (place_in m c d n)) (seen_on m t c (put_on e xs more) n ds) ≡ and_cell (seen (sites_on m d) (end_at m t d) (more d) (place_in m c d n)) (seen_on m t c more n ds)
+          → and_cell (found_cell (sites_on m d) (end_at m t d) (put_on e xs more d) (place_in m c d n)) (seen_on m t c (put_on e xs more) n ds) ≡ and_cell (found_cell (sites_on m d) (end_at m t d) (more d) (place_in m c d n)) (seen_on m t c more n ds)
       go true is h f = absurd (true≢false h)
       go false is h f =
           let q : eqb d e ≡ false = grind (arith, is) in
-          (λ j. and_cell (seen (sites_on m d) (end_at m t d) (cond (q j) xs (more d)) (place_in m c d n)) (f h j))
+          (λ j. and_cell (found_cell (sites_on m d) (end_at m t d) (cond (q j) xs (more d)) (place_in m c d n)) (f h j))
 
 and_cells : Option CellValue → List CellValue → List CellValue → List CellValue
 and_cells o xs ys = and_cell o (xs ++ ys)
 
-push_seen : (m : MapValue) (t : ℕ) (c : Site) (n e : ℕ) (more : ℕ → List Access) (es : List ℕ) → seen_on m t c more n (es ++ e ∷ []) ≡ seen_on m t c more n es ++ and_cell (seen (sites_on m e) (end_at m t e) (more e) (place_in m c e n)) []
+push_seen : (m : MapValue) (t : ℕ) (c : Site) (n e : ℕ) (more : ℕ → List Access) (es : List ℕ) → seen_on m t c more n (es ++ e ∷ []) ≡ seen_on m t c more n es ++ and_cell (found_cell (sites_on m e) (end_at m t e) (more e) (place_in m c e n)) []
 push_seen m t c n e more [] = refl
-push_seen m t c n e more (d ∷ ds) = go (seen (sites_on m d) (end_at m t d) (more d) (place_in m c d n)) (push_seen m t c n e more ds)
+push_seen m t c n e more (d ∷ ds) = go (found_cell (sites_on m d) (end_at m t d) (more d) (place_in m c d n)) (push_seen m t c n e more ds)
   where
-    go : (o : Option CellValue) → seen_on m t c more n (ds ++ e ∷ []) ≡ seen_on m t c more n ds ++ and_cell (seen (sites_on m e) (end_at m t e) (more e) (place_in m c e n)) []
-        → and_cell o (seen_on m t c more n (ds ++ e ∷ [])) ≡ and_cell o (seen_on m t c more n ds) ++ and_cell (seen (sites_on m e) (end_at m t e) (more e) (place_in m c e n)) []
+    go : (o : Option CellValue) → seen_on m t c more n (ds ++ e ∷ []) ≡ seen_on m t c more n ds ++ and_cell (found_cell (sites_on m e) (end_at m t e) (more e) (place_in m c e n)) []
+        → and_cell o (seen_on m t c more n (ds ++ e ∷ [])) ≡ and_cell o (seen_on m t c more n ds) ++ and_cell (found_cell (sites_on m e) (end_at m t e) (more e) (place_in m c e n)) []
     go None h = h
     go (Some x) h = ap (λ ys. x ∷ ys) h
 
@@ -128,7 +128,7 @@ module _ (m : MapValue) (t : ℕ) (c : Site) (needs : List ℕ) (i e : ℕ) (lt 
     adds = adds_all_more needs i e lt rise at a b d r.more s.more r.adds s.adds;
     reads = λ f h. go f (eqb f e) refl (sym (split_has needs i e lt rise at f) ∙ h);
     length = s.cells.length ∙ r.length;
-    cells = λ n small. s.cells.done n small ∙ ((λ j. newer (r.cells n small j) (seen (sites_on m e) (end_at m t e) s.more (place_in m c e n))) ∙ sym (whole n));
+    cells = λ n small. s.cells.done n small ∙ ((λ j. newer (r.cells n small j) (found_cell (sites_on m e) (end_at m t e) s.more (place_in m c e n))) ∙ sym (whole n));
   }
     where
       more' : ℕ → List Access
@@ -141,19 +141,14 @@ module _ (m : MapValue) (t : ℕ) (c : Site) (needs : List ℕ) (i e : ℕ) (lt 
       go f true is h = let q : e ≡ f = grind (arith, is) in subst (λ k. IsRefresh (sites_on m k) (end_at m t k) (place_in m c k) 41 s.more) q s.reads
       go f false is h = r.reads f h
 
-      whole : (n : ℕ) → newest (slice_index_or old n no_cell) (seen_on m t c more' n (take (i + 1) needs)) ≡ newer (newest (slice_index_or old n no_cell) (seen_on m t c r.more n (take i needs))) (seen (sites_on m e) (end_at m t e) s.more (place_in m c e n))
+      whole : (n : ℕ) → newest (slice_index_or old n no_cell) (seen_on m t c more' n (take (i + 1) needs)) ≡ newer (newest (slice_index_or old n no_cell) (seen_on m t c r.more n (take i needs))) (found_cell (sites_on m e) (end_at m t e) s.more (place_in m c e n))
       whole n =
           let own = slice_index_or old n no_cell in
           let same : take (i + 1) needs ≡ take i needs ++ e ∷ [] = take_more needs i 0 lt ∙ ap (λ x. take i needs ++ x ∷ []) (sym at) in
           ap (λ es. newest own (seen_on m t c more' n es)) same
           ∙ (ap (newest own) (push_seen m t c n e more' (take i needs))
-          ∙ (newest_push own (seen_on m t c more' n (take i needs)) (seen (sites_on m e) (end_at m t e) (more' e) (place_in m c e n))
-          ∙ (λ j. newer (newest own (seen_before needs i e lt rise at m t c n s.more r.more (take i needs) (fresh needs i e lt rise at) j)) (seen (sites_on m e) (end_at m t e) (mine j) (place_in m c e n)))))
-
--- no number of a list without length
-pub no_edges : (es : List ℕ) → length es ≡ 0 → es ≡ []
-no_edges [] h = refl
-no_edges (e ∷ es) h = absurd (omega (arith, h))
+          ∙ (newest_push own (seen_on m t c more' n (take i needs)) (found_cell (sites_on m e) (end_at m t e) (more' e) (place_in m c e n))
+          ∙ (λ j. newer (newest own (seen_before needs i e lt rise at m t c n s.more r.more (take i needs) (fresh needs i e lt rise at) j)) (found_cell (sites_on m e) (end_at m t e) (mine j) (place_in m c e n)))))
 
 pub refreshes_all_begin : (m : MapValue) (t : ℕ) (c : Site) (a : ℕ → EndLists) (cells : List CellValue) → RefreshesAll m t c [] a a cells cells
 refreshes_all_begin m t c a cells = record { more = λ e. []; adds = adds_all_begins a; reads = λ e h. absurd (true≢false (sym h)); length = refl; cells = λ n small. refl }

@@ -1,9 +1,12 @@
 -- One more cell of a publishing, and the three parts of it together.
-use Rattle.std.proofs.Common.{◌≡◌, ◌≢◌, ℕ, zero, suc, ◌+◌, ◌*◌, ◌/◌, ◌-◌, ◌<◌, ◌≤◌, eqb, Bool, true, false, cond, true≢false, List, [], ◌∷◌, ◌++◌, refl, sym, ap, ◌∙◌, subst, arith, inl, inr, ⊎_elim, Option, Some, None}
+use Rattle.std.proofs.Common.{◌≡◌, ◌≢◌, ℕ, zero, suc, ◌+◌, ◌*◌, ◌/◌, ◌-◌, ◌<◌, ◌≤◌, eqb, Bool, true, false, cond, true≢false, List, [], ◌∷◌, ◌++◌, refl, sym, ap, ◌∙◌, subst, arith, inl, inr, ⊎_elim, Option, Some, None, ne_eqb}
 use Rattle.std.proofs.lemmas.Option.{none-some}
 use mathlib.Core.Logic.{dite}
 use native.Mathlib.Decide.{ℕ_discrete}
 use Rattle.std.proofs.lemmas.List.{append-nil}
+use Rattle.edge_lock.proofs.HistoryLaws.{found_stays}
+use Rattle.list_laws.specs.Options.{or_zero}
+use Rattle.list_laws.proofs.Numbers.{less_or_same}
 use Rattle.feast_base.specs.Edges.{news_register, news_words}
 use Rattle.edge_lock.specs.declared.history.Access.{Access}
 use Rattle.edge_lock.specs.declared.history.Access.TheVariants.{Read, Write}
@@ -12,9 +15,8 @@ use Rattle.border_cache.specs.Accesses.{last_write, is_read, reads_nothing}
 use Rattle.border_cache.specs.Cells.{CellValue, cell_of}
 use Rattle.border_cache.specs.News.{Covers, word_of, IsPlace}
 use Rattle.border_cache.specs.Published.{IsWordMarked, IsMarked, ArePut, IsCellPut, IsPublish, ArePlaces}
-use Rattle.border_cache.proofs.Found.{found_more}
 use Rattle.border_cache.proofs.Marks.{last_write-append, untouched, no_write, some_write, written_in, found_is_read, read_in, unread_writes}
-use Rattle.border_cache.proofs.Refreshes.{covers_more, less_or_same}
+use Rattle.border_cache.proofs.Refreshes.{covers_more}
 
 pub puts_begin : (cells : ℕ → CellValue) (places : ℕ → Option ℕ) → ArePut cells places 0 []
 puts_begin cells places = record {
@@ -23,18 +25,11 @@ puts_begin cells places = record {
   only = λ r v g. absurd (none-some v g);
 }
 
-abbrev inside : Option ℕ → ℕ
-inside None = 0
-inside (Some x) = x
-
 abbrev words : ℕ → ℕ → ℕ → List Access
 words k low high = Write (1 + 2 * k) low ∷ Write (2 + 2 * k) high ∷ []
 
 eqb_same : (r : ℕ) → eqb r r ≡ true
 eqb_same r = grind arith
-
-eqb_apart : (q r : ℕ) → q ≢ r → eqb q r ≡ false
-eqb_apart q r h = grind (arith, h)
 
 only_writes : (xs ys : List Access) → reads_nothing xs ≡ true → reads_nothing ys ≡ true → reads_nothing (xs ++ ys) ≡ true
 only_writes [] ys h k = k
@@ -64,7 +59,7 @@ module _ (cells : ℕ → CellValue) (places : ℕ → Option ℕ) (n k : ℕ) (
 
   at_low : last_write ys (1 + 2 * k) None ≡ Some low
   at_low = last_write-append xs (words k low high) (1 + 2 * k) None
-      ∙ ((λ i. cond (eqb_apart (1 + 2 * k) (2 + 2 * k) (omega arith) i) (Some high) (cond (eqb_same (1 + 2 * k) i) (Some low) (last_write xs (1 + 2 * k) None))))
+      ∙ ((λ i. cond (ne_eqb (1 + 2 * k) (2 + 2 * k) (omega arith) i) (Some high) (cond (eqb_same (1 + 2 * k) i) (Some low) (last_write xs (1 + 2 * k) None))))
 
   at_high : last_write ys (2 + 2 * k) None ≡ Some high
   at_high = last_write-append xs (words k low high) (2 + 2 * k) None
@@ -72,7 +67,7 @@ module _ (cells : ℕ → CellValue) (places : ℕ → Option ℕ) (n k : ℕ) (
 
   elsewhere : (q : ℕ) → q ≢ 1 + 2 * k → q ≢ 2 + 2 * k → last_write ys q None ≡ last_write xs q None
   elsewhere q a b = last_write-append xs (words k low high) q None
-      ∙ (λ i. cond (eqb_apart q (2 + 2 * k) b i) (Some high) (cond (eqb_apart q (1 + 2 * k) a i) (Some low) (last_write xs q None)))
+      ∙ (λ i. cond (ne_eqb q (2 + 2 * k) b i) (Some high) (cond (ne_eqb q (1 + 2 * k) a i) (Some low) (last_write xs q None)))
 
   pub puts_some : ArePut cells places (n + 1) ys
   puts_some = record {
@@ -83,7 +78,7 @@ module _ (cells : ℕ → CellValue) (places : ℕ → Option ℕ) (n k : ℕ) (
         let d = p.done j h old is in
         (d.0, d.1, elsewhere (1 + 2 * h) (omega (arith, ne)) (omega (arith, ne)) ∙ d.2, elsewhere (2 + 2 * h) (omega (arith, ne)) (omega (arith, ne)) ∙ d.3, d.4))
         (λ (e : j ≡ n).
-        let same : k ≡ h = ap inside (sym at ∙ (ap places (sym e) ∙ is)) in
+        let same : k ≡ h = ap or_zero (sym at ∙ (ap places (sym e) ∙ is)) in
         subst (λ x. (l : ℕ) × (u : ℕ) × (last_write ys (1 + 2 * x) None ≡ Some l) × (last_write ys (2 + 2 * x) None ≡ Some u) × (cell_of l u ≡ cells j)) same (low, high, at_low, at_high, says ∙ ap cells (sym e)))
         (less_or_same j n lt);
     only = λ q v g. dite (ℕ_discrete q (1 + 2 * k))
@@ -166,7 +161,7 @@ module _ (sites end n : ℕ) (cells : ℕ → CellValue) (places : ℕ → Optio
       let o = m.words k c in
       let r = word_of sites end k in
       let z = other_word k c zs end (1 - end) true (λ i j a b h. ends_apart j i b a (sym h)) t in
-      as_word end false ys (k / 64) o (past_cells end k ∙ found_more ys zs r o.first o.found)
+      as_word end false ys (k / 64) o (past_cells end k ∙ found_stays ys zs r o.first o.found)
       (last_of r (word_high end k) ∙ (last_write-append ys zs r None ∙ (no_write zs r (last_write ys r None) z.1 ∙ o.written)))
 
   their_word : (k : ℕ) → Covers places n k → IsWordMarked sites (1 - end) true places n all (k / 64)

@@ -3,6 +3,9 @@ use Rattle.std.proofs.Common.{◌≡◌, ◌≢◌, ℕ, ◌+◌, ◌*◌, ◌<�
 use Rattle.std.proofs.lemmas.Option.{none-some}
 use Rattle.std.specs.Prelude.{◌==◌, length, slice_index_or, slice_set}
 use Rattle.std.proofs.lemmas.List.{get_or-set_same, get_or-set_other, length-set, append-nil}
+use Rattle.edge_lock.proofs.BoardLaws.{last_shown-append}
+use Rattle.edge_lock.proofs.HistoryLaws.{found_stays}
+use Rattle.list_laws.proofs.Numbers.{less_or_same}
 use Rattle.edge_lock.specs.EndLists.{EndLists, IsHeld, known_value}
 use Rattle.edge_lock.specs.declared.history.Access.{Access}
 use Rattle.edge_lock.specs.declared.history.Access.TheVariants.{Read}
@@ -10,12 +13,9 @@ use Rattle.edge_lock.specs.History.{found_value}
 use Rattle.edge_lock.specs.EndLists.{writes_nothing, Shows}
 use Rattle.border_cache.specs.Cells.{CellValue, newer}
 use Rattle.border_cache.specs.Accesses.{with_known, IsHonest, Adds}
-use Rattle.border_cache.specs.News.{Covers, word_of, has_bit, is_news, cell_in, seen, IsAsked, IsRefresh, IsSiteRead, AreNewer, no_cell, with_newer, IsSiteRefresh, Refreshes}
-use Rattle.border_cache.proofs.Runs.{known_after, honest_append, last_shown-append, adds_none, adds_then, known_adds}
-use Rattle.border_cache.proofs.Found.{found_more, found_new, found_read, silent_both}
-
-pub less_or_same : (j n : ℕ) → j < n + 1 → (j < n) ⊎ (j ≡ n)
-less_or_same j n lt = grind arith
+use Rattle.border_cache.specs.News.{Covers, word_of, has_bit, is_news, cell_in, found_cell, IsAsked, IsRefresh, IsSiteRead, AreNewer, no_cell, with_newer, IsSiteRefresh, Refreshes}
+use Rattle.border_cache.proofs.Runs.{known_after, honest_append, adds_none, adds_then, known_adds}
+use Rattle.border_cache.proofs.Found.{found_new, found_read, silent_both}
 
 pub covers_more : (places : ℕ → Option ℕ) (n k : ℕ) → Covers places n k → Covers places (n + 1) k
 covers_more places n k c = (c.0, omega (arith, c.1), c.2)
@@ -31,10 +31,10 @@ has_word (Some v) k h = (v, refl)
 pub news_more : (sites end : ℕ) (xs ys : List Access) (k : ℕ) → is_news sites end xs k ≡ true → is_news sites end (xs ++ ys) k ≡ true
 news_more sites end xs ys k h =
     let w = has_word (found_value xs (word_of sites end k)) k h in
-    ap (λ o. has_bit o k) (found_more xs ys (word_of sites end k) w.0 w.1 ∙ sym w.1) ∙ h
+    ap (λ o. has_bit o k) (found_stays xs ys (word_of sites end k) w.0 w.1 ∙ sym w.1) ∙ h
 
 pub news_same : (sites end : ℕ) (xs ys : List Access) (k v : ℕ) → found_value xs (word_of sites end k) ≡ Some v → is_news sites end (xs ++ ys) k ≡ is_news sites end xs k
-news_same sites end xs ys k v is = ap (λ o. has_bit o k) (found_more xs ys (word_of sites end k) v is ∙ sym is)
+news_same sites end xs ys k v is = ap (λ o. has_bit o k) (found_stays xs ys (word_of sites end k) v is ∙ sym is)
 
 pub asked_more : (sites end : ℕ) (places : ℕ → Option ℕ) (n : ℕ) (xs ys : List Access) (r : ℕ) → IsAsked sites end places n xs r → IsAsked sites end places (n + 1) (xs ++ ys) r
 asked_more sites end places n xs ys r a =
@@ -61,12 +61,12 @@ pub refresh_some : (sites end : ℕ) (places : ℕ → Option ℕ) (n k : ℕ) (
     → IsRefresh sites end places (n + 1) (xs ++ ys)
 refresh_some sites end places n k xs ys at f w word cell only = record {
   silent = silent_both xs ys f.silent w;
-  words = λ j c. ⊎_elim (λ old. let v = f.words j old in (v.0, found_more xs ys (word_of sites end j) v.0 v.1))
+  words = λ j c. ⊎_elim (λ old. let v = f.words j old in (v.0, found_stays xs ys (word_of sites end j) v.0 v.1))
       (λ p. let e : k ≡ j = ap inside (sym at ∙ p) in subst (λ i. (v : ℕ) × (found_value (xs ++ ys) (word_of sites end i) ≡ Some v)) e word)
       (covers_last places n j c);
   cells = λ j c. ⊎_elim
       (λ old news. let v = f.words j old in let g = f.cells j old (sym (news_same sites end xs ys j v.0 v.1) ∙ news) in
-      (g.0, g.1, found_more xs ys (1 + 2 * j) g.0 g.2, found_more xs ys (2 + 2 * j) g.1 g.3))
+      (g.0, g.1, found_stays xs ys (1 + 2 * j) g.0 g.2, found_stays xs ys (2 + 2 * j) g.1 g.3))
       (λ p. let e : k ≡ j = ap inside (sym at ∙ p) in
       subst (λ i. is_news sites end (xs ++ ys) i ≡ true → (low : ℕ) × (high : ℕ) × (found_value (xs ++ ys) (1 + 2 * i) ≡ Some low) × (found_value (xs ++ ys) (2 + 2 * i) ≡ Some high)) e cell)
       (covers_last places n j c);
@@ -82,7 +82,7 @@ refresh_some sites end places n k xs ys at f w word cell only = record {
     asked r v g (Some u) is = asked_more sites end places n xs ys r (f.only r u is)
 
 -- what was seen stays seen
-pub seen_same : (sites end : ℕ) (places : ℕ → Option ℕ) (n j : ℕ) (xs ys : List Access) → j < n → IsRefresh sites end places n xs → seen sites end (xs ++ ys) (places j) ≡ seen sites end xs (places j)
+pub seen_same : (sites end : ℕ) (places : ℕ → Option ℕ) (n j : ℕ) (xs ys : List Access) → j < n → IsRefresh sites end places n xs → found_cell sites end (xs ++ ys) (places j) ≡ found_cell sites end xs (places j)
 seen_same sites end places n j xs ys lt f = go (places j) refl
   where
     of_news : (k : ℕ) → Covers places n k → (b : Bool) → is_news sites end xs k ≡ b
@@ -90,10 +90,10 @@ seen_same sites end places n j xs ys lt f = go (places j) refl
     of_news k c true is = let g = f.cells k c is in (λ i. cell_in (same (1 + 2 * k) g.0 g.2 i) (same (2 + 2 * k) g.1 g.3 i))
       where
         same : (r v : ℕ) → found_value xs r ≡ Some v → found_value (xs ++ ys) r ≡ found_value xs r
-        same r v is = found_more xs ys r v is ∙ sym is
+        same r v is = found_stays xs ys r v is ∙ sym is
     of_news k c false is = refl
 
-    go : (o : Option ℕ) → places j ≡ o → seen sites end (xs ++ ys) o ≡ seen sites end xs o
+    go : (o : Option ℕ) → places j ≡ o → found_cell sites end (xs ++ ys) o ≡ found_cell sites end xs o
     go None is = refl
     go (Some k) is =
         let c : Covers places n k = (j, lt, is) in
@@ -111,7 +111,7 @@ refresh_begins sites end places = record {
 
 -- the reads at a place serve the refresh
 pub site_none : (sites end : ℕ) (places : ℕ → Option ℕ) (n k : ℕ) (known : ℕ → Option ℕ) (xs ys : List Access) → places n ≡ Some k → IsRefresh sites end places n xs → IsHonest known xs → IsHonest (known_after known xs) ys
-    → IsSiteRead sites end k None ys → IsRefresh sites end places (n + 1) (xs ++ ys) × (seen sites end (xs ++ ys) (places n) ≡ None)
+    → IsSiteRead sites end k None ys → IsRefresh sites end places (n + 1) (xs ++ ys) × (found_cell sites end (xs ++ ys) (places n) ≡ None)
 site_none sites end places n k known xs ys at f h g (v, is, clear) =
     let r = word_of sites end k in
     let shows : Shows (known_after known xs r) v = (subst (IsHonest (known_after known xs)) is g).0 in
@@ -120,7 +120,7 @@ site_none sites end places n k known xs ys at f h g (v, is, clear) =
       refresh_some sites end places n k xs ys at f (ap writes_nothing is) (v, found)
           (λ news. absurd (true≢false (sym news ∙ not_news)))
           (λ q u same. inl (only_at q u (sym (ap (λ zs. found_value zs q) is) ∙ same))),
-      ap (seen sites end (xs ++ ys)) at ∙ ap (λ b. cond b (cell_in (found_value (xs ++ ys) (1 + 2 * k)) (found_value (xs ++ ys) (2 + 2 * k))) None) not_news,
+      ap (found_cell sites end (xs ++ ys)) at ∙ ap (λ b. cond b (cell_in (found_value (xs ++ ys) (1 + 2 * k)) (found_value (xs ++ ys) (2 + 2 * k))) None) not_news,
     )
   where
     only_at : (q u : ℕ) → found_value (Read (word_of sites end k) v ∷ []) q ≡ Some u → q ≡ word_of sites end k
@@ -131,7 +131,7 @@ site_none sites end places n k known xs ys at f h g (v, is, clear) =
         go false is same = absurd (none-some u same)
 
 pub site_some : (sites end : ℕ) (places : ℕ → Option ℕ) (n k : ℕ) (cell : CellValue) (known : ℕ → Option ℕ) (xs ys : List Access) → places n ≡ Some k → IsRefresh sites end places n xs → IsHonest known xs → IsHonest (known_after known xs) ys
-    → IsSiteRead sites end k (Some cell) ys → IsRefresh sites end places (n + 1) (xs ++ ys) × (seen sites end (xs ++ ys) (places n) ≡ Some cell)
+    → IsSiteRead sites end k (Some cell) ys → IsRefresh sites end places (n + 1) (xs ++ ys) × (found_cell sites end (xs ++ ys) (places n) ≡ Some cell)
 site_some sites end places n k cell known xs ys at f h g (v, low, high, is, set, says) =
     let r = word_of sites end k in
     let g' : IsHonest (known_after known xs) (three v low high) = subst (IsHonest (known_after known xs)) is g in
@@ -155,7 +155,7 @@ site_some sites end places n k cell known xs ys at f h g (v, low, high, is, set,
     let news : is_news sites end (xs ++ ys) k ≡ true = ap (λ o. has_bit o k) f1 ∙ ap (λ b. b == 1) set in (
       refresh_some sites end places n k xs ys at f (ap writes_nothing is) (v, f1) (λ _. (low, high, f2, f3))
           (λ q u same. ⊎_elim (λ w. inl w) (λ c. inr (news, c)) (only_at q u (sym (ap (λ zs. found_value zs q) is) ∙ same))),
-      ap (seen sites end (xs ++ ys)) at ∙ ((λ i. cond (news i) (cell_in (f2 i) (f3 i)) None) ∙ ap Some (sym says)),
+      ap (found_cell sites end (xs ++ ys)) at ∙ ((λ i. cond (news i) (cell_in (f2 i) (f3 i)) None) ∙ ap Some (sym says)),
     )
   where
     one : ℕ → List Access
@@ -194,13 +194,13 @@ newer_else mid n j None ne = refl
 newer_else mid n j (Some c) ne = get_or-set_other mid n j (newer (slice_index_or mid n no_cell) (Some c)) no_cell ne
 
 module _ (sites end : ℕ) (places : ℕ → Option ℕ) (n : ℕ) (xs ys : List Access) (old mid new : List CellValue) (lt : n < length mid) where
-  cells_on : (found : Option CellValue) → IsRefresh sites end places n xs → AreNewer sites end places n xs old mid → new ≡ with_newer mid n found → seen sites end (xs ++ ys) (places n) ≡ found
+  cells_on : (found : Option CellValue) → IsRefresh sites end places n xs → AreNewer sites end places n xs old mid → new ≡ with_newer mid n found → found_cell sites end (xs ++ ys) (places n) ≡ found
       → AreNewer sites end places (n + 1) (xs ++ ys) old new
   cells_on found f a is saw = record {
     length = ap length is ∙ (newer_step old mid n found lt ∙ a.length);
     done = λ j less. ⊎_elim
         (λ (h : j < n). ap (λ zs. slice_index_or zs j no_cell) is ∙ (newer_else mid n j found (omega (arith, h)) ∙ (a.done j h ∙ ap (newer (slice_index_or old j no_cell)) (sym (seen_same sites end places n j xs ys h f)))))
-        (λ (h : j ≡ n). subst (λ i. slice_index_or new i no_cell ≡ newer (slice_index_or old i no_cell) (seen sites end (xs ++ ys) (places i))) (sym h)
+        (λ (h : j ≡ n). subst (λ i. slice_index_or new i no_cell ≡ newer (slice_index_or old i no_cell) (found_cell sites end (xs ++ ys) (places i))) (sym h)
         (ap (λ zs. slice_index_or zs n no_cell) is ∙ (newer_here mid n found lt ∙ ((λ i. newer (a.rest n (omega arith) i) found) ∙ ap (newer (slice_index_or old n no_cell)) (sym saw)))))
         (less_or_same j n less);
     rest = λ j more. ap (λ zs. slice_index_or zs j no_cell) is ∙ (newer_else mid n j found (omega (arith, more)) ∙ a.rest j (omega (arith, more)));
@@ -227,7 +227,7 @@ module _ (sites end : ℕ) (places : ℕ → Option ℕ) (n : ℕ) (xs ys : List
       go : (o : Option ℕ) → places n ≡ o → IsSiteRefresh sites end o ys n mid new → Refreshes sites end places (n + 1) edge a d old new
       go None at r =
           let none_more : xs ≡ xs ++ ys = sym (append-nil xs) ∙ ap (λ zs. xs ++ zs) (sym r.0) in
-          let e : seen sites end (xs ++ ys) (places n) ≡ None = ap (seen sites end (xs ++ ys)) at in
+          let e : found_cell sites end (xs ++ ys) (places n) ≡ None = ap (found_cell sites end (xs ++ ys)) at in
           record { more = xs ++ ys; adds = both; reads = subst (IsRefresh sites end places (n + 1)) none_more (refresh_none sites end places n xs at f); cells = cells_on None f m r.1 e }
       go (Some k) at r = of_site k at r.0 r.1 r.2
 
@@ -264,5 +264,5 @@ module _ (sites end : ℕ) (p q : ℕ → Option ℕ) (n : ℕ) (same : (j : ℕ
     more = r.more;
     adds = r.adds;
     reads = refresh_by r.more r.reads;
-    cells = record { length = r.cells.length; done = λ j lt. r.cells.done j lt ∙ ap (λ o. newer (slice_index_or old j no_cell) (seen sites end r.more o)) (same j lt); rest = r.cells.rest };
+    cells = record { length = r.cells.length; done = λ j lt. r.cells.done j lt ∙ ap (λ o. newer (slice_index_or old j no_cell) (found_cell sites end r.more o)) (same j lt); rest = r.cells.rest };
   }

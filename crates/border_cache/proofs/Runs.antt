@@ -1,16 +1,11 @@
 -- Runs of reads and writes in one hold, one after another.
-use Rattle.std.proofs.Common.{◌≡◌, ℕ, eqb, Bool, true, false, cond, true≢false, List, [], ◌∷◌, ◌++◌, refl, sym, ap, ◌∙◌, subst, arith, append_assoc, Option, None, Some}
+use Rattle.std.proofs.Common.{◌≡◌, ℕ, eqb, Bool, true, false, cond, true≢false, List, [], ◌∷◌, ◌++◌, refl, sym, ap, ◌∙◌, subst, arith, append_assoc, Option, None}
 use Rattle.edge_lock.specs.declared.history.Access.{Access}
 use Rattle.edge_lock.specs.declared.history.Access.TheVariants.{Read, Write}
 use Rattle.edge_lock.specs.declared.history.Hold.{Hold}
-use Rattle.edge_lock.specs.EndLists.{EndLists, change_last, is_held, last_accesses, last_shown, known_value, IsHeld, Shows, after_access, replace_at, end_lists, hold_of}
-use Rattle.edge_lock.proofs.BoardLaws.{here_after}
+use Rattle.edge_lock.specs.EndLists.{EndLists, change_last, is_last_open, last_accesses, last_shown, known_value, IsHeld, Shows, after_access, replace_at, end_lists, hold_of}
+use Rattle.edge_lock.proofs.BoardLaws.{here_after, is_held-change_last, last_shown-append}
 use Rattle.border_cache.specs.Accesses.{with_known, IsHonest, with_all, after_all, Adds}
-
-pub last_shown-append : (xs ys : List Access) (r : ℕ) (o : Option ℕ) → last_shown (xs ++ ys) r o ≡ last_shown ys r (last_shown xs r o)
-last_shown-append [] ys r o = refl
-last_shown-append (Read q v ∷ xs) ys r o = last_shown-append xs ys r (cond (eqb r q) (Some v) o)
-last_shown-append (Write q v ∷ xs) ys r o = last_shown-append xs ys r (cond (eqb r q) (Some v) o)
 
 -- what is known of a register after a run
 abbrev pub known_after : (ℕ → Option ℕ) → List Access → ℕ → Option ℕ
@@ -21,16 +16,10 @@ honest_append known [] ys h k = k
 honest_append known (Read at v ∷ xs) ys h k = (h.0, honest_append (with_known known at v) xs ys h.1 k)
 honest_append known (Write at v ∷ xs) ys h k = honest_append (with_known known at v) xs ys h k
 
-held_last : (f : Hold → Hold) (hs : List Hold) → ((h : Hold) → (f h).is_open ≡ h.is_open) → is_held (change_last f hs) ≡ is_held hs
-held_last f [] k = refl
-held_last f (x ∷ []) k = k x
-held_last f (x ∷ y ∷ []) k = k y
-held_last f (x ∷ y ∷ z ∷ hs) k = held_last f (y ∷ z ∷ hs) k
-
 pub held_all : (more : List Access) (l : EndLists) → IsHeld l → IsHeld (after_all more l)
-held_all more l h = held_last (with_all more) l.holds (λ x. refl) ∙ h
+held_all more l h = is_held-change_last (with_all more) l.holds (λ x. refl) ∙ h
 
-accesses_all : (more : List Access) (hs : List Hold) → is_held hs ≡ true → last_accesses (change_last (with_all more) hs) ≡ last_accesses hs ++ more
+accesses_all : (more : List Access) (hs : List Hold) → is_last_open hs ≡ true → last_accesses (change_last (with_all more) hs) ≡ last_accesses hs ++ more
 accesses_all more [] held = absurd (true≢false (sym held))
 accesses_all more (h ∷ []) held = refl
 accesses_all more (h ∷ g ∷ []) held = refl

@@ -1,15 +1,16 @@
 -- The places of held sites, and cells that are stored at the sites of a window.
-use Rattle.std.proofs.Common.{◌≡◌, ℕ, zero, suc, ◌+◌, ◌-◌, ◌*◌, ◌/◌, ◌%◌, ◌<◌, ◌≤◌, eqb, Bool, true, false, cond, true≢false, List, [], ◌∷◌, length, get_or, refl, sym, ap, ◌∙◌, subst, arith, ⊎_elim, Option, Some, None}
+use Rattle.std.proofs.Common.{◌≡◌, ℕ, zero, suc, ◌+◌, ◌-◌, ◌*◌, ◌/◌, ◌%◌, ◌<◌, eqb, Bool, true, false, cond, true≢false, List, [], ◌∷◌, length, get_or, refl, sym, ap, ◌∙◌, subst, arith, ⊎_elim, Option, Some, None, ltb-true}
 use Rattle.std.specs.Prelude.{slice_set, slice_index_or, All}
 use Rattle.std.specs.List.Sorted.{IsStrictlyIncreasing}
 use Rattle.std.proofs.lemmas.Bool.Decides.{nat_tests}
 use Rattle.std.proofs.lemmas.List.{get_or-set_same, get_or-set_other, get_or_default}
 use Rattle.std.proofs.lemmas.Nat.{mul-add-lt, same_from_place, mod-mul-add, div-mul-add}
+use Rattle.list_laws.proofs.Numbers.{less_or_same}
 use Rattle.tile_map.specs.Plane.{Site, MapValue, site, is_held}
 use Rattle.tile_map.specs.Spans.{left_of, top_of}
 use Rattle.tile_map.specs.Edges.{window_site, needs_of, has_end, low_end, high_end}
 use Rattle.tile_map.specs.Laws.{IsPlane, Joins}
-use Rattle.tile_map.proofs.Spans.{held_span, test_lt, live_plane, times_more}
+use Rattle.tile_map.proofs.Spans.{held_span, live_plane}
 use Rattle.tile_map.proofs.Near.{window_site-near}
 use Rattle.list_laws.proofs.Tests.{both}
 use Rattle.cell_grid.specs.Grid.{GridValue, site_atom}
@@ -21,7 +22,6 @@ use Rattle.border_cache.specs.Windows.{has, IsEdgeFor, RefreshesAll, PublishesAl
 use Rattle.border_cache.specs.Copies.{CacheValue, cache_of, columns_of, rows_of, place_held, held_cell, cell_for, window_cells, Puts, PutsFor, HoldsWindow, IsCentre, IsEndOf, IsFirstCopy, IsFirstRectangle, Stores, Refreshed}
 use Rattle.border_cache.proofs.Apart.{sites_apart}
 use Rattle.border_cache.proofs.Needs.{adds_all_begins}
-use Rattle.border_cache.proofs.Refreshes.{less_or_same}
 
 pub place_inside : (m : MapValue) (t : ℕ) (s : Site) → is_held m t s ≡ true → place_held m t s < columns_of m t * rows_of m t
 place_inside m t s h =
@@ -110,14 +110,10 @@ centre_holds m p t c q n s lt at = subst (λ u. is_held m u s ≡ true) q.owned 
 
 -- the columns and rows of a centre
 pub centre_column : (m : MapValue) (t : ℕ) (c : Site) → IsCentre m t c → c.x < m.tx * m.w
-centre_column m t c q = test_lt c.x (m.tx * m.w) (both _ _ (live_plane m c q.live)).0
+centre_column m t c q = ltb-true c.x (m.tx * m.w) (both _ _ (live_plane m c q.live)).0
 
 pub centre_row : (m : MapValue) (t : ℕ) (c : Site) → IsCentre m t c → c.y < m.ty * m.h
-centre_row m t c q = test_lt c.y (m.ty * m.h) (both _ _ (live_plane m c q.live)).1
-
--- a plane has at most 512 columns, and so rows
-pub few_sites : (k n : ℕ) → k ≤ 8 → n ≤ 64 → k * n ≤ 512
-few_sites k n p q = omega (arith, times_more k 8 n p, q)
+centre_row m t c q = ltb-true c.y (m.ty * m.h) (both _ _ (live_plane m c q.live)).1
 
 -- the cells of the rectangle at the start
 pub first_copy : (m : MapValue) (t : ℕ) (g : GridValue) (cells : List CellValue) → IsFirstRectangle g (left_of m t) (top_of m t) (columns_of m t) (rows_of m t) cells → IsFirstCopy m t g (cache_of m t cells)
@@ -133,7 +129,7 @@ first_copy m t g cells r = record {
 }
 
 -- a needed edge is one of the tile's, and the board has it
-has_get : (es : List ℕ) (k d : ℕ) → k < length es → has (get_or es k d) es ≡ true
+pub has_get : (es : List ℕ) (k d : ℕ) → k < length es → has (get_or es k d) es ≡ true
 has_get [] k d lt = absurd (omega (arith, lt))
 has_get (e ∷ es) zero d lt = let q : eqb e e ≡ true = grind arith in ap (λ b. cond b true (has e es)) q
 has_get (e ∷ es) (suc k) d lt = go (eqb (get_or es k d) e) (has_get es k d (omega (arith, lt)))

@@ -2,6 +2,7 @@
 use Rattle.std.proofs.Common.{◌≡◌, ℕ, ◌+◌, ◌<◌, Bool, true, false, cond, List, length, refl, sym, ap, ◌∙◌, arith, ⊎_elim}
 use Rattle.std.specs.Prelude.{slice_index_or, slice_set, is_some, Some, None, pos, if◌then◌else◌}
 use Rattle.std.proofs.lemmas.List.{get_or-set_same, get_or-set_other}
+use Rattle.list_laws.proofs.Numbers.{less_or_same}
 use Rattle.bit_field.specs.Atom.{AtomValue, empty_atom}
 use Rattle.window_sites.specs.Sites.{sites, offset_of, shifted}
 use Rattle.window_sites.specs.Window.{IsWindow}
@@ -9,7 +10,6 @@ use Rattle.tile_map.specs.Plane.{Site, MapValue, is_live}
 use Rattle.tile_map.specs.Edges.{live_site}
 use Rattle.border_cache.specs.Cells.{CellValue}
 use Rattle.border_cache.specs.Windows.{is_shown, IsView}
-use Rattle.border_cache.proofs.Refreshes.{less_or_same}
 
 at_centre : offset_of 0 ≡ (pos 0, pos 0)
 unfolding sites

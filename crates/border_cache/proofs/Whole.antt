@@ -1,18 +1,18 @@
 -- Windows all of whose sites are live: the sites between four live corners are live, since tiles have at least eight columns and rows.
-use Rattle.std.proofs.Common.{◌≡◌, ℕ, ◌+◌, ◌-◌, ◌*◌, ◌/◌, ◌<◌, ◌≤◌, true, refl, ap, ◌∙◌, arith, ⊎_elim, ◌⊎◌, inl, inr, Option, Some, None}
+use Rattle.std.proofs.Common.{◌≡◌, ℕ, ◌+◌, ◌-◌, ◌*◌, ◌/◌, ◌<◌, ◌≤◌, true, refl, ap, ◌∙◌, arith, ⊎_elim, ◌⊎◌, inl, inr, Option, Some, None, ltb-true}
 use Rattle.std.specs.Prelude.{ℤ, pos, negsuc, is_some, if◌then◌else◌}
 use Rattle.std.specs.Int.RustNames.{unsigned_abs}
 use Rattle.std.proofs.lemmas.Bool.Decides.{nat_tests}
 use Rattle.std.proofs.lemmas.Nat.{le-div}
 use Rattle.std.proofs.Math.Nat.{div-mul-le_self, add-div_left}
+use Rattle.list_laws.proofs.Numbers.{less_or_same}
 use Rattle.list_laws.proofs.Tests.{both, together}
 use Rattle.window_sites.specs.Sites.{offset_of, shifted}
 use Rattle.window_sites.proofs.Offsets.{offset-near}
 use Rattle.tile_map.specs.Plane.{Site, MapValue, IsMap, site, is_on, is_live, owner_of}
 use Rattle.tile_map.specs.Edges.{live_site}
-use Rattle.tile_map.proofs.Spans.{test_lt, live_plane, plane_test}
+use Rattle.tile_map.proofs.Spans.{live_plane, plane_test}
 use Rattle.border_cache.specs.Windows.{IsWhole}
-use Rattle.border_cache.proofs.Refreshes.{less_or_same}
 
 -- a greater number has no smaller quotient
 div_grows : (w a b : ℕ) → 8 ≤ w → a ≤ b → a / w ≤ b / w
@@ -47,8 +47,8 @@ module _ (m : MapValue) (valid : IsMap m) (x y : ℕ) (c : HasCorners m x y) whe
   pub live_between : (u v : ℕ) → x ≤ u + 4 → u ≤ x + 4 → y ≤ v + 4 → v ≤ y + 4 → is_live m (site u v) ≡ true
   live_between u v ul uh vl vh =
       let inside = both _ _ (live_plane m (site (x + 4) (y + 4)) c.high_right) in
-      let wide = test_lt (x + 4) (m.tx * m.w) inside.0 in
-      let tall = test_lt (y + 4) (m.ty * m.h) inside.1 in
+      let wide = ltb-true (x + 4) (m.tx * m.w) inside.0 in
+      let tall = ltb-true (y + 4) (m.ty * m.h) inside.1 in
       let column = in_part m.w (x - 4) (x + 4) u valid.sizes.w_low (omega (arith, ul, c.west)) uh (omega (arith, c.west)) in
       let row = in_part m.h (y - 4) (y + 4) v valid.sizes.h_low (omega (arith, vl, c.north)) vh (omega (arith, c.north)) in
       together _ _ (plane_test m u v (omega (arith, uh, wide)) (omega (arith, vh, tall)))

@@ -35,13 +35,13 @@ cell_in (Some low) None = None
 cell_in (Some low) (Some high) = Some (cell_of low high)
 
 -- the cell that was found at a place, if it was news
-abbrev pub seen_at : ℕ → ℕ → List Access → ℕ → Option CellValue
-seen_at sites end accesses k = if is_news sites end accesses k then cell_in (found_value accesses (1 + 2 * k)) (found_value accesses (2 + 2 * k)) else None
+abbrev pub found_cell_at : ℕ → ℕ → List Access → ℕ → Option CellValue
+found_cell_at sites end accesses k = if is_news sites end accesses k then cell_in (found_value accesses (1 + 2 * k)) (found_value accesses (2 + 2 * k)) else None
 
 -- the same for a site that the edge may not share
-abbrev pub seen : ℕ → ℕ → List Access → Option ℕ → Option CellValue
-seen sites end accesses None = None
-seen sites end accesses (Some k) = seen_at sites end accesses k
+abbrev pub found_cell : ℕ → ℕ → List Access → Option ℕ → Option CellValue
+found_cell sites end accesses None = None
+found_cell sites end accesses (Some k) = found_cell_at sites end accesses k
 
 -- the register is the news word of a covered place, or one of the two registers of a covered place that was found to be news
 abbrev pub IsAsked : ℕ → ℕ → (ℕ → Option ℕ) → ℕ → List Access → ℕ → Type 0
@@ -63,8 +63,8 @@ IsSiteRead sites end k (Some cell) accesses =
     (word : ℕ) × (low : ℕ) × (high : ℕ) × (accesses ≡ Read (word_of sites end k) word ∷ Read (1 + 2 * k) low ∷ Read (2 + 2 * k) high ∷ []) × (bit_at word (k % 64) ≡ 1) × (cell ≡ cell_of low high)
 
 -- the places of a window's sites, as a list
-abbrev pub place_at : List (Option ℕ) → ℕ → Option ℕ
-place_at places n = slice_index_or places n None
+abbrev pub nth_place : List (Option ℕ) → ℕ → Option ℕ
+nth_place places n = slice_index_or places n None
 
 -- no cell
 abbrev pub no_cell : CellValue
@@ -73,7 +73,7 @@ no_cell = cell_value 0 empty_atom
 -- the cells of a window after those that were seen on one edge
 pub record AreNewer (sites end : ℕ) (places : ℕ → Option ℕ) (n : ℕ) (accesses : List Access) (old new : List CellValue) : Type 0 where
   pub length : length new ≡ length old
-  pub done : (j : ℕ) → j < n → slice_index_or new j no_cell ≡ newer (slice_index_or old j no_cell) (seen sites end accesses (places j))
+  pub done : (j : ℕ) → j < n → slice_index_or new j no_cell ≡ newer (slice_index_or old j no_cell) (found_cell sites end accesses (places j))
   pub rest : (j : ℕ) → n ≤ j → slice_index_or new j no_cell ≡ slice_index_or old j no_cell
 
 -- a place is one of an edge's shared sites

@@ -1,6 +1,7 @@
 -- What a publishing does on one edge: it writes cells, and marks them as no news for the one end and as news for the other.
 use Rattle.std.specs.Prelude.{ℕ, ◌≡◌, ◌+◌, ◌*◌, ◌/◌, ◌%◌, ◌-◌, ◌<◌, ◌⊎◌, slice_index_or, Bool, true, false, List, [], ◌∷◌, Option, Some, None}
 use Rattle.std.specs.Int.{bit_at}
+use Rattle.list_laws.specs.Booleans.{digit}
 use Rattle.feast_base.specs.Edges.{news_register}
 use Rattle.edge_lock.specs.declared.history.Access.{Access}
 use Rattle.edge_lock.specs.declared.history.Access.TheVariants.{Read, Write}
@@ -9,10 +10,6 @@ use Rattle.edge_lock.specs.EndLists.{last_shown}
 use Rattle.border_cache.specs.Accesses.{last_write, is_read, reads_nothing}
 use Rattle.border_cache.specs.Cells.{CellValue, cell_of}
 use Rattle.border_cache.specs.News.{Covers, word_of, no_cell}
-
-abbrev pub digit : Bool → ℕ
-digit true = 1
-digit false = 0
 
 -- a word with one bit changed
 pub record IsWithBit (old : ℕ) (i : ℕ) (bit : Bool) (new : ℕ) : Type 0 where

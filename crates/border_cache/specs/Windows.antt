@@ -10,7 +10,7 @@ use Rattle.tile_map.specs.Plane.{Site, MapValue}
 use Rattle.tile_map.specs.Edges.{shared_of, low_end, pairs_of, window_site}
 use Rattle.border_cache.specs.Cells.{CellValue, newest}
 use Rattle.border_cache.specs.Accesses.{IsHonest, after_all}
-use Rattle.border_cache.specs.News.{seen, IsRefresh, no_cell}
+use Rattle.border_cache.specs.News.{found_cell, IsRefresh, no_cell}
 
 -- whether e is one of the edges
 abbrev pub has : ℕ → List ℕ → Bool
@@ -18,16 +18,16 @@ has e [] = false
 has e (d ∷ ds) = if e == d then true else has e ds
 
 -- the place of a site among those that an edge shares
-abbrev pub place_of : MapValue → ℕ → Site → Option ℕ
-place_of m e s = position (λ p. p.x == s.x && p.y == s.y) (shared_of m e)
+abbrev pub edge_place : MapValue → ℕ → Site → Option ℕ
+edge_place m e s = position (λ p. p.x == s.x && p.y == s.y) (shared_of m e)
 
-abbrev pub place_of_some : MapValue → ℕ → Option Site → Option ℕ
-place_of_some m e None = None
-place_of_some m e (Some s) = place_of m e s
+abbrev pub edge_place_some : MapValue → ℕ → Option Site → Option ℕ
+edge_place_some m e None = None
+edge_place_some m e (Some s) = edge_place m e s
 
 -- the place of site n of the window at c
 abbrev pub place_in : MapValue → Site → ℕ → ℕ → Option ℕ
-place_in m c e n = place_of_some m e (window_site m c n)
+place_in m c e n = edge_place_some m e (window_site m c n)
 
 -- which end of the edge tile t is
 abbrev pub end_at : MapValue → ℕ → ℕ → ℕ
@@ -57,7 +57,7 @@ and_cell (Some cell) cells = cell ∷ cells
 -- the cells that were seen at site n of the window, edge by edge
 abbrev pub seen_on : MapValue → ℕ → Site → (ℕ → List Access) → ℕ → List ℕ → List CellValue
 seen_on m t c more n [] = []
-seen_on m t c more n (e ∷ es) = and_cell (seen (sites_on m e) (end_at m t e) (more e) (place_in m c e n)) (seen_on m t c more n es)
+seen_on m t c more n (e ∷ es) = and_cell (found_cell (sites_on m e) (end_at m t e) (more e) (place_in m c e n)) (seen_on m t c more n es)
 
 -- a refresh of the cells of the window at c from these edges
 pub record RefreshesAll (m : MapValue) (t : ℕ) (c : Site) (edges : List ℕ) (lists lists' : ℕ → EndLists) (old new : List CellValue) : Type 0 where

@@ -5,7 +5,7 @@ ghost use Rattle.feast_base.specs.Edges.{registers_of};
 ghost use Rattle.edge_lock.specs.declared.history.Access.{Access};
 ghost use Rattle.edge_lock.specs.EndLists.{IsHeld};
 ghost use Rattle.border_cache.specs.Accesses.{Adds};
-ghost use Rattle.border_cache.specs.News.{word_of, IsSiteRead, Refreshes, IsPlace, place_at, IsSiteRefresh};
+ghost use Rattle.border_cache.specs.News.{word_of, IsSiteRead, Refreshes, IsPlace, nth_place, IsSiteRefresh};
 ghost use Rattle.border_cache.specs.Published.{IsWithBit, IsBitPut, IsMarked, ArePut, IsCellPut, IsPublish, ArePlaces, cell_at};
 
 use crate::cell::Cell;
@@ -64,9 +64,9 @@ pub(crate) fn refresh_edge<D: Board>(
     requires fits { registers_of sites < 2 ^ 32 }
     requires registers { D.registers board.old edge ≡ registers_of sites }
     requires end { end < 2 }
-    requires places { (n : ℕ) → n < length places.now → IsPlace sites (place_at places.now n) }
+    requires places { (n : ℕ) → n < length places.now → IsPlace sites (nth_place places.now n) }
     requires held { IsHeld (D.lists board.old edge) }
-    ensures refreshes { Refreshes sites end (place_at places.now) (length places.now) edge (D.lists board.old) (D.lists board.new) cells.old cells.new }
+    ensures refreshes { Refreshes sites end (nth_place places.now) (length places.now) edge (D.lists board.old) (D.lists board.new) cells.old cells.new }
     ensures tile { D.tile board.new ≡ D.tile board.old }
     ensures edges { (D.registers board.new ≡ D.registers board.old) × (D.end_of board.new ≡ D.end_of board.old) }
     ensures moved { D.moved board.old board.new }
@@ -148,9 +148,9 @@ fn put_bits<D: Board>(
     requires fits { registers_of sites < 2 ^ 32 }
     requires registers { D.registers board.old edge ≡ registers_of sites }
     requires end { end < 2 }
-    requires places { (n : ℕ) → n < length places.now → IsPlace sites (place_at places.now n) }
+    requires places { (n : ℕ) → n < length places.now → IsPlace sites (nth_place places.now n) }
     requires held { IsHeld (D.lists board.old edge) }
-    ensures put { (more : List Access) × Adds (D.lists board.old) (D.lists board.new) edge more × IsMarked sites end bit (place_at places.now) (length places.now) more }
+    ensures put { (more : List Access) × Adds (D.lists board.old) (D.lists board.new) edge more × IsMarked sites end bit (nth_place places.now) (length places.now) more }
     ensures tile { D.tile board.new ≡ D.tile board.old }
     ensures edges { (D.registers board.new ≡ D.registers board.old) × (D.end_of board.new ≡ D.end_of board.old) }
     ensures moved { D.moved board.old board.new }
@@ -183,10 +183,10 @@ fn put_cells<D: Board>(board: &mut D, edge: u32, sites: u32, places: &[Option<u3
     requires together { length cells.now ≡ length places.now }
     requires fits { registers_of sites < 2 ^ 32 }
     requires registers { D.registers board.old edge ≡ registers_of sites }
-    requires places { (n : ℕ) → n < length places.now → IsPlace sites (place_at places.now n) }
-    requires apart { ArePlaces (place_at places.now) (length places.now) }
+    requires places { (n : ℕ) → n < length places.now → IsPlace sites (nth_place places.now n) }
+    requires apart { ArePlaces (nth_place places.now) (length places.now) }
     requires held { IsHeld (D.lists board.old edge) }
-    ensures put { (more : List Access) × Adds (D.lists board.old) (D.lists board.new) edge more × ArePut (cell_at cells.now) (place_at places.now) (length places.now) more }
+    ensures put { (more : List Access) × Adds (D.lists board.old) (D.lists board.new) edge more × ArePut (cell_at cells.now) (nth_place places.now) (length places.now) more }
     ensures tile { D.tile board.new ≡ D.tile board.old }
     ensures edges { (D.registers board.new ≡ D.registers board.old) × (D.end_of board.new ≡ D.end_of board.old) }
     ensures moved { D.moved board.old board.new }
@@ -209,10 +209,10 @@ pub(crate) fn publish_edge<D: Board>(
     requires fits { registers_of sites < 2 ^ 32 }
     requires registers { D.registers board.old edge ≡ registers_of sites }
     requires end { end < 2 }
-    requires places { (n : ℕ) → n < length places.now → IsPlace sites (place_at places.now n) }
-    requires apart { ArePlaces (place_at places.now) (length places.now) }
+    requires places { (n : ℕ) → n < length places.now → IsPlace sites (nth_place places.now n) }
+    requires apart { ArePlaces (nth_place places.now) (length places.now) }
     requires held { IsHeld (D.lists board.old edge) }
-    ensures published { (more : List Access) × Adds (D.lists board.old) (D.lists board.new) edge more × IsPublish sites end (cell_at cells.now) (place_at places.now) (length places.now) more }
+    ensures published { (more : List Access) × Adds (D.lists board.old) (D.lists board.new) edge more × IsPublish sites end (cell_at cells.now) (nth_place places.now) (length places.now) more }
     ensures tile { D.tile board.new ≡ D.tile board.old }
     ensures edges { (D.registers board.new ≡ D.registers board.old) × (D.end_of board.new ≡ D.end_of board.old) }
     ensures moved { D.moved board.old board.new }

@@ -2,13 +2,12 @@
 use Rattle.std.proofs.Common.{ℕ, ◌≡◌, ◌+◌, ◌-◌, ◌*◌, ◌/◌, ◌%◌, ◌≤◌, ◌<◌, Bool, true, false, ◌&&◌, not, List, length, get_or, refl, sym, subst, ◌∙◌, arith, inl, inr, ◌⊎◌}
 use Rattle.std.proofs.lemmas.List.FromFn.{fill_by_all, get_or-map-range_with_len, length-map-range_with_len}
 use Rattle.std.proofs.Math.Nat.{mod-lt, mul_comm, mod-add-div', div-lt_iff_lt-mul}
-use Rattle.std.proofs.lemmas.Nat.{mod-mul-add, div-mul-add}
+use Rattle.std.proofs.lemmas.Nat.{mod-mul-add, div-mul-add, mul-add-lt}
 use Rattle.std.proofs.lemmas.Bool.Decides.{nat_tests}
 use Rattle.bit_field.specs.Atom.{empty_atom}
 use Rattle.cell_grid.specs.Grid.{GridValue, IsGrid}
 use Rattle.cell_grid.specs.Calm.{AreCalm}
 use Rattle.cell_grid.specs.Shut.{Rectangle, is_inside, cleared, shut, IsEmptyIn}
-use Rattle.cell_grid.proofs.Places.{below}
 
 abbrev kept : List Bool → ℕ → Rectangle → ℕ → Bool
 kept marks width r i = get_or marks i false && not (is_inside r (i % width) (i / width))
@@ -80,8 +79,8 @@ pub AreCalm-shut : (width height : ℕ) (live calm : List Bool) (r s : Rectangle
 AreCalm-shut width height live calm r s whole around h = record {
   size = length-cleared calm width s ∙ h.size ∙ sym (length-cleared live width r);
   near = λ x y u v x_in y_in u_in v_in b c d e mark.
-      let i : y * width + x < length live = let q = below x y width height x_in y_in in omega (arith, q, whole) in
-      let j : v * width + u < length live = let q = below u v width height u_in v_in in omega (arith, q, whole) in
+      let i : y * width + x < length live = let q = mul-add-lt y width x height y_in x_in in omega (arith, q, whole) in
+      let j : v * width + u < length live = let q = mul-add-lt v width u height v_in u_in in omega (arith, q, whole) in
       let m = stays _ _ (sym (get-cleared calm width s (y * width + x) (omega (arith, i, h.size))) ∙ mark) in
       let far : is_inside s x y ≡ false = rw (mod-mul-add y width x x_in, div-mul-add y width x x_in) at m.1 in
       let l = h.near x y u v x_in y_in u_in v_in b c d e m.0 in

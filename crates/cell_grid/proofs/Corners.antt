@@ -4,7 +4,7 @@ use Rattle.std.specs.Prelude.{ℤ, pos, negsuc}
 use Rattle.std.specs.List.{range_with_len}
 use Rattle.std.specs.Int.RustNames.{unsigned_abs}
 use Rattle.std.proofs.Math.ListN.{length-set}
-use Rattle.std.proofs.Math.Nat.{mul_comm}
+use Rattle.std.proofs.Math.Nat.{add-mul, mul_comm}
 use Rattle.std.proofs.lemmas.Bool.{lt-ltb}
 use Rattle.std.proofs.lemmas.Bool.Decides.{eqb_tells}
 use Rattle.std.proofs.lemmas.List.{get_or-set_other, get_or-set_same, get_or-replicate, length-replicate}
@@ -14,7 +14,6 @@ use Rattle.window_sites.specs.Sites.{offset_of, shifted}
 use Rattle.window_sites.specs.Window.{WindowValue, atom_at}
 use Rattle.window_sites.proofs.Offsets.{offset-near}
 use Rattle.cell_grid.specs.Grid.{GridValue, IsGrid, place_of, seen, window_of, sites_at, atom_left, put_window}
-use Rattle.cell_grid.proofs.Places.{add-mul}
 use Rattle.cell_grid.proofs.Windows.{IsGrid-put}
 use Rattle.cell_grid.specs.Calm.{AreCalm, IsCorner}
 use Rattle.window_sites.specs.Inner.{inner_place, inner_atoms, inner_window, from_low, site_numbers}

@@ -1,24 +1,10 @@
 -- Places of a plane's sites in row order.
-use Rattle.std.proofs.Common.{ℕ, zero, suc, ◌≡◌, ◌+◌, ◌-◌, ◌*◌, ◌<◌, true, false, get_or, ap, ◌∙◌, arith}
-use Rattle.std.proofs.Math.Nat.{mul_comm}
+use Rattle.std.proofs.Common.{ℕ, ◌+◌, ◌*◌, ◌<◌, true, false, get_or, ap, ◌∙◌}
 use Rattle.std.proofs.lemmas.List.{get_or-replicate}
+use Rattle.std.proofs.lemmas.Nat.{mul-add-lt}
 use Rattle.cell_grid.specs.Grid.{GridValue, IsLive, IsAllLive}
-
-pub add-mul : (a b w : ℕ) → (a + b) * w ≡ a * w + b * w
-add-mul zero b w = omega arith
-add-mul (suc a) b w = let r = add-mul a b w in omega (arith, r)
-
--- a site of the plane has a place
-pub below : (x y w h : ℕ) → x < w → y < h → y * w + x < w * h
-below x y w h a b =
-    let r = add-mul (y + 1) (h - (y + 1)) w in
-    let s = add-mul y 1 w in
-    let t : y + 1 + (h - (y + 1)) ≡ h = omega (arith, b) in
-    let u = rw t at r in
-    let m = mul_comm h w in
-    omega (arith, u, s, a, m)
 
 -- where all sites are live each site of the plane is
 pub IsLive-all : (g : GridValue) (x y : ℕ) → IsAllLive g → x < g.width → y < g.height → IsLive g x y
 IsLive-all g x y all a b =
-    record { column = a; row = b; marked = ap (λ marks. get_or marks (y * g.width + x) false) all ∙ get_or-replicate (g.width * g.height) (y * g.width + x) true false (below x y g.width g.height a b) }
+    record { column = a; row = b; marked = ap (λ marks. get_or marks (y * g.width + x) false) all ∙ get_or-replicate (g.width * g.height) (y * g.width + x) true false (mul-add-lt y g.width x g.height b a) }

@@ -214,7 +214,7 @@ IsGrid-put g x y w h = record {
 }
 
 -- the atom of a site of the window
-seen-at : (g : GridValue) (x y n : ℕ) → n < 41 → atom_at (window_of g x y) n ≡ seen g (place_of g x y n)
+pub seen-at : (g : GridValue) (x y n : ℕ) → n < 41 → atom_at (window_of g x y) n ≡ seen g (place_of g x y n)
 unfolding window_of
 seen-at g x y n lt = get_or-map-range_with_len (λ n. seen g (place_of g x y n)) 0 41 n n empty_atom lt (omega arith)
 

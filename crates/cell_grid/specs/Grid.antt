@@ -54,15 +54,15 @@ abbrev pub with_site : GridValue → ℕ → ℕ → AtomValue → GridValue
 with_site g x y a = record g { atoms = slice_set g.atoms (y * g.width + x) a }
 
 -- a coordinate, where it lies below an end
-abbrev pub below_end : ℕ → Option ℕ → Option ℕ
-below_end end None = None
-below_end end (Some u) = if nat_lt u end then Some u else None
+abbrev pub below : ℕ → Option ℕ → Option ℕ
+below end None = None
+below end (Some u) = if nat_lt u end then Some u else None
 
 -- the place of a site in row order, by its column and its row, where it has both
-abbrev pub placed : ℕ → Option ℕ → Option ℕ → Option ℕ
-placed width None v = None
-placed width (Some u) None = None
-placed width (Some u) (Some v) = Some (v * width + u)
+abbrev pub place_by : ℕ → Option ℕ → Option ℕ → Option ℕ
+place_by width None v = None
+place_by width (Some u) None = None
+place_by width (Some u) (Some v) = Some (v * width + u)
 
 -- that place, where its site is live
 abbrev pub live_place : List Bool → Option ℕ → Option ℕ
@@ -71,7 +71,7 @@ live_place live (Some i) = if slice_index_or live i false then Some i else None
 
 -- the place of site n of the window at (x, y), where the site is of the plane and live
 abbrev pub place_of : GridValue → ℕ → ℕ → ℕ → Option ℕ
-place_of g x y n = live_place g.live (placed g.width (below_end g.width (shifted x (offset_of n).0)) (below_end g.height (shifted y (offset_of n).1)))
+place_of g x y n = live_place g.live (place_by g.width (below g.width (shifted x (offset_of n).0)) (below g.height (shifted y (offset_of n).1)))
 
 -- what a window shows of a place
 abbrev pub seen : GridValue → Option ℕ → AtomValue

@@ -3,7 +3,7 @@ ghost use Rattle.std.specs.Prelude.{◌≡◌, false, true, All, ◌+◌, ◌*�
 ghost use Rattle.std.specs.Int.RustNames.{unsigned_abs};
 ghost use Rattle.window_sites.specs.Sites.{shifted};
 ghost use Rattle.cell_grid.specs.Calm.{IsCorner};
-ghost use Rattle.cell_grid.specs.Grid.{GridValue, IsLive, ArePlanesAlike, empty_grid, site_atom, with_site, below_end, place_of, seen, window_of, put_window, event};
+ghost use Rattle.cell_grid.specs.Grid.{GridValue, IsLive, ArePlanesAlike, empty_grid, site_atom, with_site, place_of, seen, window_of, put_window, event, below};
 ghost use Rattle.cell_grid.specs.Records.{replay};
 ghost use Rattle.cell_grid.specs.Shut.{IsEmptyIn, rectangle, shut};
 ghost use Rattle.cell_grid.specs.Steps.{IsLivePlace, AreLivePlaces, ArePlacesOf, with_atom};
@@ -43,11 +43,11 @@ impl Model for Grid {
 /// The coordinate plus an offset, if the sum is not negative and is below `end`. (A negative sum
 /// wraps to a large number, so one comparison covers both.)
 #[tactic(auto, using(crate::proofs::Shifts::shift_around))]
-fn shift(x: u32, by: i32, end: u32) -> Option<u32>
+fn shift_below(x: u32, by: i32, end: u32) -> Option<u32>
     requires small { x < 2 ^ 31 }
     requires near { unsigned_abs by ≤ 4 }
     requires low { end ≤ 2 ^ 31 }
-    ensures value { result ≡ below_end end (shifted x by) }
+    ensures value { result ≡ below end (shifted x by) }
     ensures inside { IfSome result (λ u. u < end) }
 {
     let to = x.wrapping_add_signed(by);
@@ -156,7 +156,7 @@ impl Grid {
     }
 
     /// The index of site `n` of the window at `(x, y)`, if that site is in the plane and live.
-    fn place(&self, x: u32, y: u32, n: u8) -> Option<usize>
+    fn place_of(&self, x: u32, y: u32, n: u8) -> Option<usize>
         requires column { x < self.now.width }
         requires row { y < self.now.height }
         requires n_in { n ≤ 40 }
@@ -164,8 +164,8 @@ impl Grid {
         ensures live { IsLivePlace self.now result }
     {
         let (dx, dy) = offset(n);
-        let u = shift(x, dx, self.width)?;
-        let v = shift(y, dy, self.height)?;
+        let u = shift_below(x, dx, self.width)?;
+        let v = shift_below(y, dy, self.height)?;
         let i = (v * self.width + u) as usize;
         if self.live[i] { Some(i) } else { None }
     }
@@ -198,7 +198,7 @@ impl Grid {
     {
         let mut places = [None; 41];
         for n in 0..41u8 {
-            places[n as usize] = self.place(x, y, n);
+            places[n as usize] = self.place_of(x, y, n);
         }
         places
     }

@@ -3,19 +3,21 @@ use Rattle.std.proofs.Common.{◌≡◌, ℕ, zero, suc, ◌+◌, ◌*◌, ◌%�
 use Rattle.std.specs.Prelude.{◌&&◌, slice_get, slice_set, slice_index_or, nat_lt, nat_le, nat_eq, if◌then◌else◌, map, reverse, ℤ, pos, negsuc}
 use Rattle.std.specs.List.{AllByRecursion}
 use Rattle.std.proofs.lemmas.Bool.{eqb-true}
+use Rattle.datum.specs.Fields.{get_field}
+use Rattle.sat_math.specs.Operations.{of_bool, is_zero}
 use mathlib.Core.List.{reverse_aux}
-use Rattle.bit_field.specs.Atom.{AtomValue, empty_atom}
+use Rattle.bit_field.specs.Atom.{AtomValue, empty_atom, new_atom}
 use Rattle.bit_field.specs.Words.{with_field}
 use Rattle.window_sites.specs.Window.{WindowValue, atom_at, live_at, put_at, swap_at}
 use Rattle.draw_stream.specs.Words.{event_step}
-use Rattle.stack_code.specs.Sorts.{atom_of, of_bool, is_zero, Sort, Give, One, Two, Load, Store, Drop, Field, SetField, Part, SetPart, Own, Site, SetSite, Exchange, Ask, Draw, Same, Double, FieldAt, SetFieldAt, PartAt, SetPartAt, Goto, GotoFalse, Take, Enter, GiveBack, Leave, sort}
+use Rattle.stack_code.specs.Sorts.{Sort, Give, One, Two, Load, Store, Drop, Field, SetField, Part, SetPart, Own, Site, SetSite, Exchange, Ask, Draw, Same, Double, FieldAt, SetFieldAt, PartAt, SetPartAt, Goto, GotoFalse, Take, Enter, GiveBack, Leave, sort}
 use Rattle.datum.specs.declared.Datum.{Datum}
 use Rattle.datum.specs.declared.Datum.TheVariants.{Number as ANumber, Atom as AnAtom}
 use Rattle.stack_code.specs.declared.instr.Operand.{Operand}
 use Rattle.stack_code.specs.declared.instr.Operand.TheVariants.{Number, Atom}
 use Rattle.stack_code.specs.declared.instr.Instr.{Instr}
 use Rattle.stack_code.specs.declared.instr.Instr.TheVariants.{PushAtom}
-use Rattle.stack_code.specs.Machine.{CodeValue, FunctionValue, Frame, State, Held, Led, ending, Goes, Fails, Ends, Lacks, fill, fresh, now, at_self, on_own, at_site, at_bound, at_index, result_of, with_part, on_slot, atom_in, on_part, on_top, on_number, on_atom, on_numbers, kept, get_field, put_own, put_slot, work, onward, on_turn, on_test, enter, enter_with, into, back, back_one, go_by, step, step_on, and_then, iter, runs, start, start_with}
+use Rattle.stack_code.specs.Machine.{CodeValue, FunctionValue, Frame, State, Held, Led, ending, Goes, Fails, Ends, Lacks, fill, fresh, now, at_self, on_own, at_site, at_bound, at_index, result_of, with_part, on_slot, atom_in, on_part, on_top, on_number, on_atom, on_numbers, kept, put_own, put_slot, work, onward, on_turn, on_test, enter, enter_with, into, back, back_one, go_by, step, step_on, and_then, iter, runs, start, start_with}
 use Rattle.code_file.specs.Acting.{after, after_by, code_of, left_by}
 use Rattle.code_file.specs.Form.{AreElements, CodesValue, IsSayable, codes_of}
 use Rattle.code_file.specs.Instrs.{IsInstr}
@@ -299,7 +301,7 @@ module _ (n : ℕ) where
 
   -- Instructions of a file
 
-  pushed : (k : ℕ) → k ≤ n → IsKnown n (atom_of k)
+  pushed : (k : ℕ) → k ≤ n → IsKnown n (new_atom k)
   pushed zero h = inl refl
   pushed (suc k) h = inr (omega arith, h)
 

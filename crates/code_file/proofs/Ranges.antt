@@ -1,9 +1,11 @@
 -- Valid code has its numbers in their ranges.
-use Rattle.std.proofs.Common.{◌≡◌, ℕ, zero, suc, ◌+◌, ◌-◌, ◌*◌, ◌<◌, ◌≤◌, List, [], ◌∷◌, length, Option, Some, None, refl, sym, ap, subst, ◌∙◌, suc-mul, arith, Bool, true, false, inl, inr, take, drop}
+use Rattle.std.proofs.Common.{◌≡◌, ℕ, zero, suc, ◌+◌, ◌-◌, ◌*◌, ◌<◌, ◌≤◌, List, [], ◌∷◌, length, Option, Some, None, refl, sym, ap, subst, ◌∙◌, arith, Bool, true, false, inl, inr, take, drop, le-mul_of_pos_right}
 use Rattle.std.specs.Prelude.{slice_get, nat_lt, nat_le, nat_eq, if◌then◌else◌, replicate, is_some}
 use Rattle.std.specs.List.{AllByRecursion}
 use Rattle.std.proofs.lemmas.Bool.{cases_lt, eqb-true, leb-true, ltb-true}
 use Rattle.std.proofs.lemmas.Option.{slice_get_within}
+use Rattle.sat_math.proofs.Laws.{least_one}
+use Rattle.list_laws.proofs.Entries.{all_from_get}
 use Rattle.sat_math.specs.Numbers.{greatest_width, least_width}
 use Rattle.sat_math.specs.declared.Kind.{Kind}
 use Rattle.sat_math.specs.declared.Kind.TheVariants as kind
@@ -28,18 +30,7 @@ all_at P [] all k x e = absurd cc
 all_at P (y ∷ xs) all zero x e = let same : y ≡ x = cc in subst P same all.0
 all_at P (y ∷ xs) all (suc k) x e = all_at P xs all.1 k x e
 
-all_from : {A : Type 0} (P : A → Type 0) (xs : List A) → ((k : ℕ) (x : A) → slice_get xs k ≡ Some x → P x) → AllByRecursion P xs
-all_from P [] h = tt
-all_from P (x ∷ xs) h = (h 0 x refl, all_from P xs (λ k. h (suc k)))
-
 -- Widths
-
-least_one : (k : Kind) → 1 ≤ least_width k
-least_one kind.Int = omega arith
-least_one kind.Unsigned = omega arith
-least_one kind.Bits = omega arith
-least_one kind.Bool = omega arith
-least_one kind.Unary = omega arith
 
 greatest_most : (k : Kind) → greatest_width k ≤ 64
 greatest_most kind.Int = omega arith
@@ -55,17 +46,13 @@ type_in k w e =
     let high = leb-true w (greatest_width k) y.1 in
     (omega (arith, least_one k, low), omega (arith, greatest_most k, high))
 
-times : (n w : ℕ) → 1 ≤ w → n ≤ n * w
-times zero w h = omega arith
-times (suc n) w h = omega (arith, times n w h, h, suc-mul n w)
-
 field_in : (f w n : ℕ) (k : Kind) → field_fits f (num_type k w) n ≡ true → IsField f w × IsByte n
 field_in f w n k e =
     let y = if_true (type_fits (num_type k w)) (if nat_le 1 n then nat_le (f + n * w) 71 else false) e in
     let z = if_true (nat_le 1 n) (nat_le (f + n * w) 71) y.1 in
     let h = leb-true (f + n * w) 71 z.1 in
     let t = type_in k w y.0 in
-    let m = times n w t.0 in
+    let m : n ≤ n * w = le-mul_of_pos_right n t.0 in
     ((omega (arith, h), omega (arith, t.1)), omega (arith, h, m))
 
 -- Instructions
@@ -191,13 +178,13 @@ valid_ranged most kind e h v =
       kind_is = h.kind_is;
       some_functions = some_first c.functions y.0;
       few_functions = omega (arith, many, few);
-      functions = all_from IsFunction c.functions (λ k f at.
+      functions = all_from_get IsFunction c.functions (λ k f at.
           let g = all_at IsRanged c.functions h.functions k f at in
           let u = (fine k f at).0 in
           record { name = g.name; base = g.base; first = omega (arith, u.some, u.within, few); params = g.params; slots = u.few });
       some_instrs = leb-true 1 (length c.instrs) l.0;
       few_instrs = few;
-      instrs = all_from (IsInstr most) c.instrs (λ k i at.
+      instrs = all_from_get (IsInstr most) c.instrs (λ k i at.
           let u = placed c c.functions 0 (replicate (length c.instrs) None) z.0 z.1 k i (omega arith) (slice_get_within c.instrs k i at) at in
           let b : Bounds (around c u.function u.end) k = record { slots = u.few; end = omega (arith, u.within, few); high = u.high; functions = omega (arith, many, few) } in
           in_range most (around c u.function u.end) k u.fine.kinds u.fine.exit b i (all_at (OfTypes most) c.instrs h.types k i at) u.fine.args u.fine.leads);

@@ -1,7 +1,9 @@
 -- Pieces whose numbers are cut off: the parts of the scheme, and what fits is left as it is.
-use Rattle.std.proofs.Common.{◌≡◌, ℕ, ◌+◌, ◌*◌, ◌≤◌, min, List, [], ◌∷◌, length, Option, Some, None, refl, sym, ap, ◌∙◌, arith, Bool, true, false}
+use Rattle.std.proofs.Common.{◌≡◌, ℕ, ◌+◌, ◌*◌, ◌≤◌, min, List, [], ◌∷◌, length, Option, Some, None, refl, sym, ap, ◌∙◌, arith, Bool, true, false, le-mul_of_pos_right}
 use Rattle.std.specs.Prelude.{slice_get, nat_le, if◌then◌else◌}
 use Rattle.std.proofs.lemmas.Bool.{leb-true}
+use Rattle.std.proofs.lemmas.Option.{slice_get_within}
+use Rattle.sat_math.proofs.Laws.{least_one}
 use Rattle.sat_math.specs.declared.Kind.{Kind}
 use Rattle.sat_math.specs.declared.Kind.TheVariants as k
 use Rattle.sat_math.specs.declared.NumType.{NumType}
@@ -34,7 +36,6 @@ use Rattle.code_gen.specs.Scheme.{by_arith, pair_instr, load, load_at, store, st
 use Rattle.code_gen.specs.Clipped.{byte, word, clip_instr, clip, clip_spot, clip_callee, pair_of, choice_of}
 use Rattle.code_gen.specs.Seen.{numbers_of}
 use Rattle.code_gen.proofs.Handed.{top_fits}
-use Rattle.code_gen.proofs.ElementCodes.{get_within}
 
 -- numbers
 
@@ -239,13 +240,6 @@ if_clipped z c x (t.part y) = refl
 min_same : (n m : ℕ) → n ≤ m → min n m ≡ n
 min_same n m le = omega (arith, le)
 
-least_one : (kd : Kind) → 1 ≤ least_width kd
-least_one k.Int = omega arith
-least_one k.Unsigned = omega arith
-least_one k.Bits = omega arith
-least_one k.Bool = omega arith
-least_one k.Unary = omega arith
-
 wide_one : (num : NumType) → type_fits num ≡ true → 1 ≤ num.width
 wide_one num = by (nat_le (least_width num.kind) num.width) (nat_le num.width (greatest_width num.kind)) refl
   where
@@ -253,16 +247,13 @@ wide_one num = by (nat_le (least_width num.kind) num.width) (nat_le num.width (g
     by true b e h = omega (arith, leb-true (least_width num.kind) num.width e, least_one num.kind)
     by false b e h = cc
 
-times_least : (n w : ℕ) → 1 ≤ w → n ≤ n * w
-times_least n w le = grind (arith, le)
-
 field_within : (f n : ℕ) (num : NumType) → field_fits f num n ≡ true → (f ≤ 71) × (n ≤ 71)
 field_within f n num = by (type_fits num) (nat_le 1 n) (nat_le (f + n * num.width) 71) refl refl
   where
     by : (a b c : Bool) → type_fits num ≡ a → nat_le (f + n * num.width) 71 ≡ c → (if a then (if b then c else false) else false) ≡ true → (f ≤ 71) × (n ≤ 71)
     by true true true e h x =
         let le = leb-true (f + n * num.width) 71 h in
-        let more = times_least n num.width (wide_one num e) in
+        let more : n ≤ n * num.width = le-mul_of_pos_right n (wide_one num e) in
         (omega (arith, le), omega (arith, le, more))
     by true true false e h x = absurd cc
     by true false c e h x = absurd cc
@@ -273,7 +264,7 @@ slot_within slots i f none_is ls e short = by (slice_get slots i) refl
   where
     by : (o : Option Operand) → slice_get slots i ≡ o → byte i ≡ i
     by None h = let x : None ≡ Some ls = sym none_is ∙ ap f (sym h) ∙ e in absurd cc
-    by (Some k) h = min_same i 255 (omega (arith, get_within slots i k h, short))
+    by (Some k) h = min_same i 255 (omega (arith, slice_get_within slots i k h, short))
 
 first_same : (f n : ℕ) (num : NumType) → field_fits f num n ≡ true → byte f ≡ f
 first_same f n num e = let x = field_within f n num e in min_same f 255 (omega (arith, x))

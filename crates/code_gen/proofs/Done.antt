@@ -1,6 +1,7 @@
 -- The piece of a statement does what the statement means.
 use Rattle.std.proofs.Common.{◌≡◌, ℕ, zero, suc, List, [], ◌∷◌, Option, Some, None, refl, sym, ap, ◌∙◌, Bool, true, false}
 use Rattle.std.specs.Prelude.{slice_set, if◌then◌else◌, pos}
+use Rattle.sat_math.specs.Operations.{is_zero}
 use Rattle.bit_field.specs.Atom.{AtomValue}
 use Rattle.window_sites.specs.Window.{put_at}
 use Rattle.datum.specs.declared.Datum.{Datum}
@@ -11,7 +12,7 @@ use Rattle.ulam_tree.specs.declared.op.PairOp.{PairOp}
 use Rattle.ulam_tree.specs.Typed as t
 use Rattle.ulam_meaning.specs.Programs.{Program, type_number}
 use Rattle.ulam_meaning.specs.Paths.{Spot, itself, local, member, part, window, constant, nothing, spot, callee, Scene, spot_type}
-use Rattle.ulam_meaning.specs.Values.{is_zero, number_type, width_of, arith_with, operator, default_of, with_number, with_part}
+use Rattle.ulam_meaning.specs.Values.{number_type, width_of, arith_with, operator, default_of, with_number, with_part}
 use Rattle.ulam_meaning.specs.Runs as m
 use Rattle.ulam_meaning.specs.Runs.{Event, Store, Outcome, Way, Calls}
 use Rattle.ulam_meaning.specs.Places.{bit_at, read, read_at, write, write_at}

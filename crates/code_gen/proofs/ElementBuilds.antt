@@ -3,6 +3,7 @@ use Rattle.std.proofs.Common.{◌≡◌, ℕ, ◌<◌, ◌≤◌, List, map, len
 use Rattle.std.specs.Prelude.{slice_get}
 use Rattle.std.specs.Option.{option_map_or}
 use Rattle.std.proofs.lemmas.List.{length-map}
+use Rattle.feast_base.specs.Places.{no_place}
 use Rattle.ulam_tree.specs.Typed as t
 use Rattle.ulam_tree.specs.TypedViews.{typed_class}
 use Rattle.ulam_tree.specs.declared.typed.Class.{Class}
@@ -16,7 +17,7 @@ use Rattle.code_gen.specs.Limits.{IsShort}
 use Rattle.code_gen.specs.Laws.{IsReady}
 use Rattle.code_gen.specs.Gathers.{Builds}
 use Rattle.code_gen.specs.Scheme.{draft_of}
-use Rattle.code_gen.specs.Compiling.{program_view, IsCompilable, long_place, no_place}
+use Rattle.code_gen.specs.Compiling.{program_view, IsCompilable, long_place}
 use Rattle.code_gen.proofs.TypedBodies.{program_kinded}
 use Rattle.code_gen.proofs.Drafted.{kinded_ready}
 use Rattle.code_gen.proofs.LayRounds.{get_seen}

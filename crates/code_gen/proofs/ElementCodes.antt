@@ -2,6 +2,7 @@
 use Rattle.std.proofs.Common.{◌≡◌, ◌⊎◌, inl, inr, ⊎_elim, ℕ, zero, suc, ◌+◌, ◌<◌, ◌≤◌, List, [], ◌∷◌, map, length, take, Option, Some, None, refl, sym, ap, ◌∙◌, subst, arith, Bool, true, false}
 use Rattle.std.specs.Prelude.{slice_get, nat_le, if◌then◌else◌}
 use Rattle.std.proofs.lemmas.Bool.{cases_lt, cases_order, le-leb, leb-true}
+use Rattle.std.proofs.lemmas.Option.{slice_get_within}
 use Rattle.ulam_tree.specs.Typed as t
 use Rattle.ulam_meaning.specs.Programs.{Program, element_classes, count_elements, number_of, element_of}
 use Rattle.ulam_meaning.specs.Events.{behave_key}
@@ -20,11 +21,6 @@ get_map_none : {A B : Type 0} (f : A → B) (xs : List A) (k : ℕ) → slice_ge
 get_map_none f [] k h = refl
 get_map_none f (y ∷ xs) zero h = cc
 get_map_none f (y ∷ xs) (suc k) h = get_map_none f xs k h
-
-pub get_within : {A : Type 0} (xs : List A) (k : ℕ) (x : A) → slice_get xs k ≡ Some x → k < length xs
-get_within [] k x h = cc
-get_within (y ∷ xs) zero x h = omega arith
-get_within (y ∷ xs) (suc k) x h = omega (arith, get_within xs k x h)
 
 -- an element has the number that it stands at
 class_numbered : (d : ℕ) (ks : List t.Class) (k c : ℕ) → slice_get (element_classes d ks) k ≡ Some c → (i : ℕ) × (c ≡ d + i) × (count_elements (take (suc i) ks) ≡ suc k)
@@ -90,7 +86,7 @@ short_below g zero = inl (λ d e lt h f. absurd (omega arith))
 short_below g (suc n) = ⊎_elim (λ b. one_further g n b (slice_get g.classes n) refl) (λ x. inr x) (short_below g n)
 
 pub all_or_first : (g : Program) → AreShort g ⊎ ((c : ℕ) × IsFirstLong g c)
-all_or_first g = ⊎_elim (λ b. inl (λ c e h f. b c e (get_within g.classes c e h) h f)) (λ x. inr x) (short_below g (length g.classes))
+all_or_first g = ⊎_elim (λ b. inl (λ c e h f. b c e (slice_get_within g.classes c e h) h f)) (λ x. inr x) (short_below g (length g.classes))
 
 pub all_nor_first : (g : Program) (c : ℕ) → AreShort g → IsFirstLong g c → ⊥
 all_nor_first g c s x = x.long (s c x.element x.stands x.acts)

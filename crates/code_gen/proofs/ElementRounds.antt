@@ -2,6 +2,7 @@
 use Rattle.std.proofs.Common.{◌≡◌, ℕ, zero, suc, ◌+◌, ◌<◌, ◌≤◌, List, [], ◌∷◌, ◌++◌, map, length, take, get_or, Some, refl, sym, ap, ◌∙◌, subst, arith, Bool, true, false, add-one, append-nil}
 use Rattle.std.specs.Prelude.{slice_get, if◌then◌else◌}
 use Rattle.std.proofs.lemmas.List.{take_all, map-append}
+use Rattle.std.proofs.lemmas.Option.{slice_get_within}
 use Rattle.ulam_tree.specs.Typed as t
 use Rattle.ulam_tree.specs.TypedViews.{typed_class}
 use Rattle.ulam_tree.specs.declared.typed.Class.{Class}
@@ -14,7 +15,7 @@ use Rattle.code_gen.proofs.ElementCode.{kinded_compiled}
 use Rattle.code_gen.proofs.ElementMeans.{element_means}
 use Rattle.code_gen.proofs.TypedBodies.{program_kinded}
 use Rattle.code_gen.proofs.Rounds.{get_mapped}
-use Rattle.code_gen.proofs.ElementCodes.{Below, below_more, get_within, number_is, code_stands}
+use Rattle.code_gen.proofs.ElementCodes.{Below, below_more, number_is, code_stands}
 
 either_more : (b c : Bool) (x d : ℕ) (e1 e2 more : List ℕ) → e1 ≡ e2 ++ more → (if b then e1 else x ∷ e1) ≡ (if b then e2 else x ∷ e2) ++ more
 either_more true c x d e1 e2 more h = h
@@ -118,7 +119,7 @@ module _ (g : Program) (n kind : ℕ) (codes : List CodeValue) (k : t.Class) (d 
 
 pub all_done : (g : Program) (n kind : ℕ) (codes : List CodeValue) → Done g n kind codes → length g.classes ≤ n → (codes ≡ element_codes g) × AreShort g
 all_done g n kind codes d le =
-    (d.codes_are ∙ ap (λ ks. map (class_code g) (element_classes 0 ks)) (take_all n g.classes le), λ c e h f. d.short c e (omega (arith, get_within g.classes c e h, le)) h f)
+    (d.codes_are ∙ ap (λ ks. map (class_code g) (element_classes 0 ks)) (take_all n g.classes le), λ c e h f. d.short c e (omega (arith, slice_get_within g.classes c e h, le)) h f)
 
 -- the class of a type number is an element
 record IsElement (ks : List t.Class) (d c : ℕ) : Type 0 where

@@ -23,7 +23,7 @@ use Rattle.code_gen.specs.Drafts.{Draft, slots_of, end_piece}
 use Rattle.code_gen.specs.Scheme.{operand_of, answer_of, draft_of}
 use Rattle.code_gen.specs.Endings.{over}
 use Rattle.code_gen.specs.Runs.{Now, Out, goes, hands, fails, lacks, turn_out, Asks, run, finish, answers, given, handed, entered, ask_turn, run_function, asks_at, event, event_over}
-use Rattle.code_gen.proofs.Meant.{at, out_of, pushed, call_out, Gives, Answers, SameCalls}
+use Rattle.code_gen.proofs.Meant.{at, out_of, pushed, call_out, IfGives, Answers, SameCalls}
 use Rattle.code_gen.proofs.Done.{way_out, end_same, body_same}
 
 -- Arguments lie on the operands with the last one topmost.
@@ -164,11 +164,11 @@ module _ (e : Event) (g : Program) where
       let a : reverse (take (length (draft_of g f).takes) (reverse_aux xs st)) ≡ xs = ap (λ n. reverse (take n (reverse_aux xs st))) l ∙ ap reverse (take_rest xs st) ∙ reverse-reverse xs in
       ap (λ ys. at e.seed [] (record s { locals = fresh ys (slots_of (draft_of g f)); turns = t })) a ∙ ap (λ ys. at e.seed [] (record s { locals = ys; turns = t })) (slots_same g f xs)
 
-  turn_gives : (P : Option Datum → Type 0) (n : ℕ) (go : ℕ → Outcome (Option Datum)) → ((t : ℕ) → Gives P (go t)) → Gives P (m.on_turn n go)
+  turn_gives : (P : Option Datum → Type 0) (n : ℕ) (go : ℕ → Outcome (Option Datum)) → ((t : ℕ) → IfGives P (go t)) → IfGives P (m.on_turn n go)
   turn_gives P zero go h = tt
   turn_gives P (suc t) go h = h t
 
-  returned_gives : (ty : Ty) (locals : List Datum) (r : Outcome Way) → Gives (Answers ty) (returned g ty locals r)
+  returned_gives : (ty : Ty) (locals : List Datum) (r : Outcome Way) → IfGives (Answers ty) (returned g ty locals r)
   returned_gives ty locals (m.gives way s) = way_fits g ty way
   returned_gives ty locals (m.fails n) = tt
   returned_gives ty locals m.wrong = tt

@@ -2,6 +2,7 @@
 use Rattle.std.proofs.Common.{◌≡◌, ℕ, suc, ◌+◌, ◌<◌, ◌≤◌, inl, inr, ⊎_elim, List, [], ◌∷◌, length, Option, Some, None, refl, sym, ap, ◌∙◌, subst, arith, add-one, Bool, true, false, take, drop}
 use Rattle.std.specs.Prelude.{slice_get, nat_lt, nat_le, if◌then◌else◌, is_none, reverse}
 use Rattle.std.proofs.lemmas.Bool.{cases_lt, lt-ltb, le-ltb, le-leb}
+use Rattle.stack_code.proofs.Typed.{is_goto, not_goto}
 use Rattle.stack_code.specs.Sorts.{Sort, Goto, GotoFalse, Take, Enter, GiveBack, Leave, sort}
 use Rattle.stack_code.specs.Machine.{FunctionValue, CodeValue}
 use Rattle.stack_code.specs.Valid.{Kinds, same_kinds, after, after_call, answer_on, args_fit, Around, around, exits, Exits, falls_exit, jump_exit, fork_exit, end_exit, jump_fits, forward_fits, back_fits, back_of, back_by, is_turn, answer_found, is_nothing}
@@ -13,17 +14,9 @@ use Rattle.code_gen.specs.Pieces.{Key, Piece, none, seq, plain, asks, pick, only
 use Rattle.code_gen.specs.Kinds.{Setting, after_ask, ends, IsEmpty, Fits}
 use Rattle.code_gen.proofs.Places.{At, HasPiece, Here, HasKinds}
 
-abbrev is_goto : Sort → Bool
-is_goto (Goto p) = true
-is_goto so = false
-
 plain_goto : (slots ks ls : Kinds) (so : Sort) → after slots so ks ≡ Some ls → is_goto so ≡ false
 plain_goto slots ks ls (Goto p) e = cc
 plain_goto slots ks ls so e = refl
-
-not_goto : (i : Instr) (p : ℕ) → is_goto (sort i) ≡ false → back_by p (Some i) ≡ None
-not_goto (Jump q) p e = cc
-not_goto i p e = refl
 
 -- a plain instruction goes on
 exits_plain : (a : Around) (p : ℕ) (so : Sort) (ks ls : Kinds) → after a.function.slots so ks ≡ Some ls → exits a p so ks ≡ falls_exit (Some ls)

@@ -5,6 +5,7 @@ use Rattle.std.proofs.lemmas.Bool.{le-leb}
 use Rattle.std.proofs.lemmas.List.{reverse-reverse, length-reverse}
 use Rattle.std.proofs.lemmas.Grind.{reverse_onto}
 use Rattle.std.proofs.Math.Seq.{take-append_seam, drop-append_seam}
+use Rattle.sat_math.specs.Operations.{of_bool}
 use mathlib.Core.List.{reverse_aux}
 use Rattle.sat_math.specs.declared.NumType.{NumType}
 use Rattle.sat_math.specs.declared.Arith.{Arith}
@@ -20,7 +21,7 @@ use Rattle.ulam_tree.specs.declared.op.PairOp.TheVariants as op
 use Rattle.ulam_tree.specs.Typed as t
 use Rattle.ulam_meaning.specs.Programs.{type_number}
 use Rattle.ulam_meaning.specs.Paths.{Span, Spot, itself, local, member, part, window, constant, nothing, spot, Key, function_of, Callee, called, built_in, no_callee, callee, Scene, spot_type}
-use Rattle.ulam_meaning.specs.Values.{truth_of, number_type, width_of, arith_of, arith_with}
+use Rattle.ulam_meaning.specs.Values.{number_type, width_of, arith_of, arith_with}
 use Rattle.ulam_meaning.specs.Expressions.{casts, built_casts}
 use Rattle.ulam_meaning.specs.Statements.{count_op}
 use Rattle.ulam_meaning.specs.Laws.{bits_of, IsLaidOut}
@@ -246,9 +247,9 @@ module _ (z : Scene) (c : ℕ) (lo : IsLaidOut z.program) (room : z.base + bits_
   drop_leaves (built_in o) = pop_leaves Number
   drop_leaves no_callee = (tt, refl)
 
-  truth_leaves : (v : Bool) (ks : Kinds) → Leaves n (plain (PushNum (truth_of v))) ks (Number ∷ ks)
-  truth_leaves true ks = plain_leaves n (PushNum (truth_of true)) ks (Number ∷ ks) refl refl
-  truth_leaves false ks = plain_leaves n (PushNum (truth_of false)) ks (Number ∷ ks) refl refl
+  truth_leaves : (v : Bool) (ks : Kinds) → Leaves n (plain (PushNum (of_bool v))) ks (Number ∷ ks)
+  truth_leaves true ks = plain_leaves n (PushNum (of_bool true)) ks (Number ∷ ks) refl refl
+  truth_leaves false ks = plain_leaves n (PushNum (of_bool false)) ks (Number ∷ ks) refl refl
 
   abbrev at_path : t.Path → Spot
   at_path x = spot z.program z.base x.steps
@@ -262,7 +263,7 @@ module _ (z : Scene) (c : ℕ) (lo : IsLaidOut z.program) (room : z.base + bits_
 
     form_leaves : (f : t.Form) (ty : Ty) (ks : Kinds) → KindedForm z c f ty → Leaves n (form_piece z f ty) ks (operand_of ty ∷ ks)
     form_leaves (t.number v u p) ty ks h = leaves_at n (plain (PushNum (pos v))) ks ks Number (operand_of ty) (sym h.0) (plain_leaves n (PushNum (pos v)) ks (Number ∷ ks) h.1 refl)
-    form_leaves (t.truth v p) ty ks h = leaves_at n (plain (PushNum (truth_of v))) ks ks Number (operand_of ty) (sym h) (truth_leaves v ks)
+    form_leaves (t.truth v p) ty ks h = leaves_at n (plain (PushNum (of_bool v))) ks ks Number (operand_of ty) (sym h) (truth_leaves v ks)
     form_leaves (t.reads x) ty ks h = load_leaves (at_path x) (operand_of ty) ks (spot_in z.program lo c z.base room x.steps h.0) h.1
     form_leaves (t.calls x es) ty ks h =
         let f = calls_of x in

@@ -1,8 +1,9 @@
 -- What the end of a function hands over is as many operands as the function gives back.
 use Rattle.std.proofs.Common.{◌≡◌, ℕ, zero, suc, List, [], ◌∷◌, refl, Bool, true, false}
+use Rattle.sat_math.specs.Operations.{is_zero}
 use Rattle.datum.specs.declared.Datum.{Datum}
 use Rattle.datum.specs.declared.Datum.TheVariants.{Number as ANumber, Atom as AnAtom}
-use Rattle.stack_code.specs.Sorts.{is_zero, sort}
+use Rattle.stack_code.specs.Sorts.{sort}
 use Rattle.stack_code.specs.Machine.{Held, Led, Goes, Fails, Ends, Lacks, work}
 use Rattle.stack_code.specs.Valid.{Kinds, answer_found, is_nothing}
 use Rattle.stack_code.specs.declared.instr.Operand.TheVariants.{Number, Atom}

@@ -1,14 +1,15 @@
 -- The layout that the sums over data members give is one that the compiler can use, where no class is too wide.
-use Rattle.std.proofs.Common.{◌≡◌, ℕ, zero, suc, ◌*◌, ◌≤◌, List, [], ◌∷◌, length, Option, Some, None, refl, sym, ap, ◌∙◌, subst, arith, map}
+use Rattle.std.proofs.Common.{◌≡◌, ℕ, zero, suc, ◌≤◌, List, [], ◌∷◌, length, Option, Some, None, refl, sym, ap, ◌∙◌, subst, arith, map}
 use Rattle.std.specs.Prelude.{slice_get, get_or, sum}
 use Rattle.std.specs.Option.{option_map_or, option_or}
+use Rattle.ulam_meaning.proofs.Layouts.{by_field, member_same}
 use Rattle.ulam_tree.specs.declared.resolved.Ty.{Ty}
 use Rattle.ulam_tree.specs.declared.resolved.Ty.TheVariants as y
 use Rattle.ulam_tree.specs.Resolved as r
 use Rattle.ulam_tree.specs.Typed as t
 use Rattle.ulam_tree.specs.Ways.{NoneContainsItself}
 use Rattle.atom_layout.specs.declared.fault.LayoutFault.{LayoutFault}
-use Rattle.atom_layout.specs.Layouts.{times, member_bits, widths, bits_within, class_bits, total, layout_of, fault_in, first_of, first_wide}
+use Rattle.atom_layout.specs.Layouts.{member_bits, widths, bits_within, class_bits, total, layout_of, fault_in, first_of, first_wide}
 use Rattle.atom_layout.proofs.Depth.{width_is}
 use Rattle.atom_layout.proofs.Told.{narrow_by}
 use Rattle.ulam_types.specs.declared.scope.FieldSig.{FieldSig}
@@ -29,9 +30,6 @@ fields_map (t.function of w ps b ∷ ms) = fields_map ms
 abbrev sig_bits : (ℕ → ℕ) → FieldSig → ℕ
 sig_bits quark f = member_bits quark f.ty f.length
 
-abbrev field_bits : (ℕ → ℕ) → Field → ℕ
-field_bits quark f = member_bits quark f.ty f.length
-
 widths_map : (quark : ℕ → ℕ) (ms : List r.Member) → widths quark ms ≡ map (sig_bits quark) (fields_of ms)
 widths_map quark [] = refl
 widths_map quark (r.field n w len ∷ ms) = ap (λ l. member_bits quark n.ty len ∷ l) (widths_map quark ms)
@@ -40,8 +38,8 @@ widths_map quark (r.function n w ps b ∷ ms) = widths_map quark ms
 abbrev resolved_at : List r.Class → ℕ → List r.Member
 resolved_at cs k = option_map_or (λ (c : r.Class). c.members) (slice_get cs k) []
 
-abbrev typed_at : List t.Class → ℕ → List t.Member
-typed_at us k = option_map_or (λ (c : t.Class). c.members) (slice_get us k) []
+abbrev pub members_at : List t.Class → ℕ → List t.Member
+members_at us k = option_map_or (λ (c : t.Class). c.members) (slice_get us k) []
 
 row_at : (quark : ℕ → ℕ) (cs : List r.Class) (k : ℕ) → get_or (map (λ (c : r.Class). widths quark c.members) cs) k [] ≡ widths quark (resolved_at cs k)
 row_at quark [] k = refl
@@ -49,19 +47,14 @@ row_at quark (c ∷ cs) zero = refl
 row_at quark (c ∷ cs) (suc k) = row_at quark cs k
 
 -- classes with the same heads have the same data members
-heads_at : (us : List t.Class) (cs : List r.Class) → map class_sig us ≡ map class_sig cs → (k : ℕ) → fields_of (typed_at us k) ≡ fields_of (resolved_at cs k)
+heads_at : (us : List t.Class) (cs : List r.Class) → map class_sig us ≡ map class_sig cs → (k : ℕ) → fields_of (members_at us k) ≡ fields_of (resolved_at cs k)
 heads_at [] [] e k = refl
 heads_at [] (c ∷ cs) e k = cc
 heads_at (u ∷ us) [] e k = cc
 heads_at (u ∷ us) (c ∷ cs) e zero = let h : class_sig u ≡ class_sig c = cc in ap (λ (c : ClassSig). c.fields) h
 heads_at (u ∷ us) (c ∷ cs) e (suc k) = let h : map class_sig us ≡ map class_sig cs = cc in heads_at us cs h k
 
-member_same : (p q : ℕ → ℕ) → ((k : ℕ) → p k ≡ q k) → (ty : Ty) (n : ℕ) → member_bits p ty n ≡ member_bits q ty n
-member_same p q h (y.Class k) n = ap (λ b. b * times n) (h k)
-member_same p q h (y.Num num) n = refl
-member_same p q h ty n = refl
-
-sigs_map : (p q : ℕ → ℕ) → ((k : ℕ) → p k ≡ q k) → (fs : List FieldSig) → map (sig_bits p) fs ≡ map (field_bits q) (map field_of fs)
+sigs_map : (p q : ℕ → ℕ) → ((k : ℕ) → p k ≡ q k) → (fs : List FieldSig) → map (sig_bits p) fs ≡ map (by_field q) (map field_of fs)
 sigs_map p q h [] = refl
 sigs_map p q h (f ∷ fs) = ap (λ b. b ∷ map (sig_bits p) fs) (member_same p q h f.ty f.length) ∙ ap (λ l. member_bits q f.ty f.length ∷ l) (sigs_map p q h fs)
 
@@ -102,7 +95,7 @@ module _ (cs : List r.Class) (us : List t.Class) (none : NoneContainsItself cs) 
         row_at (class_bits cs) cs k
         ∙ widths_map (class_bits cs) (resolved_at cs k)
         ∙ ap (map (sig_bits (class_bits cs))) (sym (heads_at us cs heads k))
-        ∙ sigs_map (class_bits cs) (bits_of laid) (λ j. sym (bits_same j).0) (fields_of (typed_at us k))
-        ∙ ap (map (field_bits (bits_of laid))) (sym (fields_map (typed_at us k)));
+        ∙ sigs_map (class_bits cs) (bits_of laid) (λ j. sym (bits_same j).0) (fields_of (members_at us k))
+        ∙ ap (map (by_field (bits_of laid))) (sym (fields_map (members_at us k)));
     most = λ k. let b = bits_same k in omega (arith, b.0, b.1);
   }

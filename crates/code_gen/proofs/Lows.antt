@@ -2,6 +2,7 @@
 use Rattle.std.proofs.Common.{◌≡◌, ℕ, suc, ◌+◌, ◌-◌, ◌≤◌, List, [], ◌∷◌, ◌++◌, length, Option, Some, None, refl, sym, ap, ◌∙◌, subst, arith, Bool, true, false, drop, length-drop}
 use Rattle.std.specs.Prelude.{nat_le, slice_get, if◌then◌else◌}
 use Rattle.std.proofs.lemmas.Bool.{le-leb, leb-true}
+use Rattle.std.proofs.lemmas.Option.{same_Some}
 use Rattle.stack_code.specs.Sorts.{Sort, Give, One, Two, Load, Store, Drop, Double, FieldAt, SetFieldAt, PartAt, SetPartAt, Field, SetField, Part, SetPart, Own, Site, SetSite, Exchange, Ask, Draw, Same, Goto, GotoFalse, Take, Enter, GiveBack, Leave, sort}
 use Rattle.stack_code.specs.Valid.{Kinds, same_kind, pop, pop_any, and_pop, push, push_slot, pop_slot, if_atom, after, answer_on, is_nothing}
 use Rattle.stack_code.specs.declared.instr.Operand.{Operand}
@@ -109,16 +110,13 @@ most_gives m o d e = let x = if_gives (nat_le m 512) o d e in (leb-true m 512 x.
 most_yes : (m : ℕ) (o : Option ℕ) → m ≤ 512 → at_most m o ≡ o
 most_yes m o le = ap (λ (b : Bool). if b then o else None) (le-leb m 512 le)
 
-some_same : {A : Type 0} {x y : A} → Some x ≡ Some y → x ≡ y
-some_same e = cc
-
 module _ (n : Setting) where
   -- what a depth says of the kinds
   abbrev Deep : Piece → Kinds → ℕ → Type 0
   Deep q ks d = (length (ends n q ks) ≡ d) × Shallow (shapes n q ks)
 
   one_deep : (ks ls : Kinds) (d m : ℕ) → at_most (length ks) (Some m) ≡ Some d → length ls ≡ m → (length ls ≡ d) × Shallow (ks ∷ [])
-  one_deep ks ls d m e f = let x = most_gives (length ks) (Some m) d e in (f ∙ some_same x.1, (x.0, tt))
+  one_deep ks ls d m e f = let x = most_gives (length ks) (Some m) d e in (f ∙ same_Some _ _ x.1, (x.0, tt))
 
   after_long : (i : Instr) (ks : Kinds) → Fits n (plain i) ks → length (ends n (plain i) ks) ≡ length ks + makes (sort i) - takes (sort i)
   after_long i ks f =
@@ -132,7 +130,7 @@ module _ (n : Setting) where
       omega (arith, h, length-drop (length d.takes) ks)
 
   pub depth_gives : (q : Piece) (ks : Kinds) (d : ℕ) → Fits n q ks → depth n.drafts q (length ks) ≡ Some d → Deep q ks d
-  depth_gives none ks d f e = (some_same e, tt)
+  depth_gives none ks d f e = (same_Some _ _ e, tt)
   depth_gives (seq a b) ks d f e =
       let x = and_gives (depth n.drafts a (length ks)) (depth n.drafts b) d e in
       let ra = depth_gives a ks x.0 f.0 x.1 in
@@ -162,7 +160,7 @@ module _ (n : Setting) where
       let x = most_gives (length (Number ∷ ks)) (and_depth (depth g a m) (λ k. Some m)) d e in
       let y = and_gives (depth g a m) (λ k. Some m) d x.1 in
       let ra = depth_gives a ks y.0 f.0 (ap (depth g a) s ∙ y.1) in
-      (s ∙ some_same y.2, (x.0, ra.1))
+      (s ∙ same_Some _ _ y.2, (x.0, ra.1))
   depth_gives (loop t a b) (k ∷ ks) d f e = absurd f.0
   depth_gives (loop t a b) [] d f e =
       let g = n.drafts in
@@ -178,7 +176,7 @@ module _ (n : Setting) where
       let rb = depth_gives b [] w.0 f.5 w.1 in
       let le : length (ends n t []) ≤ 512 = omega (arith, rt.0, y.0) in
       let back : List Kinds = [] ∷ ([] ∷ []) in
-      (some_same w.2, shallow_join (shapes n t []) (ends n t [] ∷ (shapes n a [] ++ (shapes n b [] ++ back))) rt.1 (le, shallow_join (shapes n a []) (shapes n b [] ++ back) ra.1 (shallow_join (shapes n b []) back rb.1 (omega arith, (omega arith, tt)))))
+      (same_Some _ _ w.2, shallow_join (shapes n t []) (ends n t [] ∷ (shapes n a [] ++ (shapes n b [] ++ back))) rt.1 (le, shallow_join (shapes n a []) (shapes n b [] ++ back) ra.1 (shallow_join (shapes n b []) back rb.1 (omega arith, (omega arith, tt)))))
   depth_gives (ever a b) (k ∷ ks) d f e = absurd f.0
   depth_gives (ever a b) [] d f e =
       let g = n.drafts in
@@ -189,7 +187,7 @@ module _ (n : Setting) where
       let ra = depth_gives a [] z.0 f.1 z.1 in
       let rb = depth_gives b [] w.0 f.3 w.1 in
       let back : List Kinds = [] ∷ ([] ∷ []) in
-      (some_same w.2, shallow_join (shapes n a []) (shapes n b [] ++ back) ra.1 (shallow_join (shapes n b []) back rb.1 (omega arith, (omega arith, tt))))
+      (same_Some _ _ w.2, shallow_join (shapes n a []) (shapes n b [] ++ back) ra.1 (shallow_join (shapes n b []) back rb.1 (omega arith, (omega arith, tt))))
   depth_gives out ks d f e = one_deep ks [] d 0 e refl
   depth_gives next ks d f e = one_deep ks [] d 0 e refl
   depth_gives gives ks d f e = one_deep ks [] d 0 e refl

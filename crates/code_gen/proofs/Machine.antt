@@ -1,9 +1,10 @@
 -- The machine does what a piece does.
 use Rattle.std.proofs.Common.{◌≡◌, ℕ, zero, suc, ◌+◌, ◌<◌, ◌≤◌, List, [], ◌∷◌, Some, refl, ap, ◌∙◌, subst, arith, Bool, true, false}
 use Rattle.std.specs.Prelude.{slice_get, if◌then◌else◌}
+use Rattle.sat_math.specs.Operations.{is_zero}
 use Rattle.datum.specs.declared.Datum.{Datum}
 use Rattle.datum.specs.declared.Datum.TheVariants.{Number as ANumber, Atom as AnAtom}
-use Rattle.stack_code.specs.Sorts.{is_zero, Sort, Goto, GotoFalse, Take, Enter, GiveBack, Leave, sort}
+use Rattle.stack_code.specs.Sorts.{Sort, Goto, GotoFalse, Take, Enter, GiveBack, Leave, sort}
 use Rattle.stack_code.specs.Machine.{CodeValue, Held, Led, Goes, Fails, Ends, Lacks, Frame, State, back, back_one, go_by, onward, on_turn, on_test, work}
 use Rattle.stack_code.specs.Valid.{Kinds, after}
 use Rattle.stack_code.specs.declared.instr.Instr.TheVariants.{Jump, JumpFalse, Turn, Call, Return, ReturnVoid}

@@ -1,16 +1,17 @@
 -- The piece of an expression does what the expression means.
 use Rattle.std.proofs.Common.{◌≡◌, ℕ, zero, suc, List, [], ◌∷◌, length, Option, Some, None, refl, ap, ◌∙◌, arith, Bool, true, false}
 use Rattle.std.specs.Prelude.{slice_get, nat_lt, nat_le, nat_eq, if◌then◌else◌, ℤ, pos, negsuc, neg_ℤ, ◌%◌}
+use Rattle.datum.specs.Fields.{get_field}
 use mathlib.Core.List.{reverse_aux}
 use Rattle.bit_field.specs.Atom.{AtomValue}
-use Rattle.window_sites.specs.Window.{WindowValue, atom_at, live_at, swap_at}
+use Rattle.window_sites.specs.Window.{WindowValue, atom_at, live_at, swap_at, is_empty_at}
 use Rattle.draw_stream.specs.Words.{event_step, event_state, event_word}
 use Rattle.sat_math.specs.declared.NumType.{NumType}
 use Rattle.sat_math.specs.declared.Arith.{Arith}
 use Rattle.sat_math.specs.declared.Arith.TheVariants.{Int32, Unsigned32, Int64, Unsigned64}
 use Rattle.sat_math.specs.declared.Kind.TheVariants as k
 use Rattle.sat_math.specs.Numbers.{cast}
-use Rattle.sat_math.specs.Operations.{saturated}
+use Rattle.sat_math.specs.Operations.{saturated, of_bool, is_zero, one_in}
 use Rattle.datum.specs.declared.Datum.{Datum}
 use Rattle.datum.specs.declared.Datum.TheVariants.{Number, Atom}
 use Rattle.ulam_tree.specs.declared.resolved.Ty.{Ty}
@@ -24,11 +25,11 @@ use Rattle.ulam_tree.specs.declared.op.PairOp.TheVariants as op
 use Rattle.ulam_tree.specs.Typed as t
 use Rattle.ulam_meaning.specs.Programs.{Program, type_number}
 use Rattle.ulam_meaning.specs.Paths.{Spot, itself, local, member, part, window, constant, nothing, spot, Key, function_of, Callee, called, built_in, no_callee, callee, Scene}
-use Rattle.ulam_meaning.specs.Values.{truth_of, is_zero, arith_by, number_type, width_of, arith_of, operator, prefixed, number_at}
+use Rattle.ulam_meaning.specs.Values.{arith_by, number_type, width_of, arith_of, operator, prefixed}
 use Rattle.ulam_meaning.specs.Runs as m
 use Rattle.ulam_meaning.specs.Runs.{Event, Store, Outcome, Calls}
 use Rattle.ulam_meaning.specs.Places.{on_part, bit_at, read, read_at}
-use Rattle.ulam_meaning.specs.Expressions.{is_empty_at, ask, itself_drawn, one_in, draw, exchange, built, casts, built_casts, with_first, call, value_given, both, either, operate, has_kind, eval, eval_form, arguments}
+use Rattle.ulam_meaning.specs.Expressions.{ask, draw, exchange, built, casts, built_casts, with_first, call, value_given, both, either, operate, has_kind, eval, eval_form, arguments}
 use Rattle.stack_code.specs.Sorts.{Sort, One, Two, Ask, Draw, sort}
 use Rattle.stack_code.specs.Machine.{Held, Led, Goes, Fails, work, at_self, on_own, at_site, at_index, at_bound, on_slot, atom_in, on_part as on_part_of, result_of}
 use Rattle.stack_code.specs.declared.instr.Instr.{Instr}
@@ -64,13 +65,13 @@ pushed (Some x) st = x ∷ st
 abbrev pub call_out : ℕ → List Datum → Outcome (Option Datum) → Out
 call_out seed st r = out_of (λ v s. goes (at seed (pushed v st) s)) r
 
--- a law of what a run gives
-abbrev pub Gives : {X : Type 0} → (X → Type 0) → Outcome X → Type 0
-Gives P (m.gives x s) = P x
-Gives P (m.fails n) = Unit {0}
-Gives P m.wrong = Unit {0}
+-- if a run gives something, this holds of it
+abbrev pub IfGives : {X : Type 0} → (X → Type 0) → Outcome X → Type 0
+IfGives P (m.gives x s) = P x
+IfGives P (m.fails n) = Unit {0}
+IfGives P m.wrong = Unit {0}
 
-then_gives : {X Y : Type 0} (P : Y → Type 0) (r : Outcome X) (next : X → Store → Outcome Y) → ((x : X) (s : Store) → Gives P (next x s)) → Gives P (m.and_then r next)
+then_gives : {X Y : Type 0} (P : Y → Type 0) (r : Outcome X) (next : X → Store → Outcome Y) → ((x : X) (s : Store) → IfGives P (next x s)) → IfGives P (m.and_then r next)
 then_gives P (m.gives x s) next h = h x s
 then_gives P (m.fails n) next h = tt
 then_gives P m.wrong next h = tt
@@ -158,16 +159,16 @@ CalleeAnswers g no_callee v = ⊥
 
 module _ (e : Event) (hh : Asks) where
   -- a run, and a piece that goes on with what it gives
-  pub next_same : {X Y : Type 0} (n : X → Store → Now) (f : Y → Store → Out) (P : X → Type 0) (r : Outcome X) (next : X → Store → Outcome Y) (go : Now → Out) → Gives P r → ((x : X) (s : Store) → P x → go (n x s) ≡ out_of f (next x s)) → out_then (out_of (λ x s. goes (n x s)) r) go ≡ out_of f (m.and_then r next)
+  pub next_same : {X Y : Type 0} (n : X → Store → Now) (f : Y → Store → Out) (P : X → Type 0) (r : Outcome X) (next : X → Store → Outcome Y) (go : Now → Out) → IfGives P r → ((x : X) (s : Store) → P x → go (n x s) ≡ out_of f (next x s)) → out_then (out_of (λ x s. goes (n x s)) r) go ≡ out_of f (m.and_then r next)
   next_same n f P (m.gives x s) next go p h = h x s p
   next_same n f P (m.fails i) next go p h = refl
   next_same n f P m.wrong next go p h = refl
 
   -- the same of two pieces
-  pub seq_with : {X Y : Type 0} (n : X → Store → Now) (f : Y → Store → Out) (P : X → Type 0) (s0 : Now) (a q : Piece) (r : Outcome X) (next : X → Store → Outcome Y) → Gives P r → run e.acting hh a s0 ≡ out_of (λ x s. goes (n x s)) r → ((x : X) (s : Store) → P x → run e.acting hh q (n x s) ≡ out_of f (next x s)) → run e.acting hh (seq a q) s0 ≡ out_of f (m.and_then r next)
+  pub seq_with : {X Y : Type 0} (n : X → Store → Now) (f : Y → Store → Out) (P : X → Type 0) (s0 : Now) (a q : Piece) (r : Outcome X) (next : X → Store → Outcome Y) → IfGives P r → run e.acting hh a s0 ≡ out_of (λ x s. goes (n x s)) r → ((x : X) (s : Store) → P x → run e.acting hh q (n x s) ≡ out_of f (next x s)) → run e.acting hh (seq a q) s0 ≡ out_of f (m.and_then r next)
   seq_with n f P s0 a q r next p u h = ap (λ o. out_then o (run e.acting hh q)) u ∙ next_same n f P r next (run e.acting hh q) p h
 
-  any_given : {X : Type 0} (r : Outcome X) → Gives (λ x. Unit {0}) r
+  any_given : {X : Type 0} (r : Outcome X) → IfGives (λ x. Unit {0}) r
   any_given (m.gives x s) = tt
   any_given (m.fails i) = tt
   any_given m.wrong = tt
@@ -245,8 +246,8 @@ module _ (e : Event) (hh : Asks) where
   pub load_same : (l : Spot) (st : List Datum) (s : Store) → run e.acting hh (load l) (at e.seed st s) ≡ value_out e.seed st (read e l s)
   load_same itself st s = self_same (λ x s. goes (at e.seed (x ∷ st) s)) s (λ a. Goes (record (at e.seed st s).held { stack = Atom a ∷ st })) (λ a. m.gives (Atom a) s) (λ a. refl)
   load_same (local i) st s = slot_same (λ x s. goes (at e.seed (x ∷ st) s)) (slice_get s.locals i) s.turns (λ x. Goes (record (at e.seed st s).held { stack = x ∷ st })) (λ x. m.gives x s) (λ x. refl)
-  load_same (member p) st s = self_same (λ x s. goes (at e.seed (x ∷ st) s)) s (λ a. Goes (record (at e.seed st s).held { stack = Number (number_at a p.first p.num) ∷ st })) (λ a. m.gives (Number (number_at a p.first p.num)) s) (λ a. refl)
-  load_same (part i p) st s = part_same (λ x s. goes (at e.seed (x ∷ st) s)) s i (λ a. Goes (record (at e.seed st s).held { stack = Number (number_at a p.first p.num) ∷ st })) (λ a. m.gives (Number (number_at a p.first p.num)) s) (λ a. refl)
+  load_same (member p) st s = self_same (λ x s. goes (at e.seed (x ∷ st) s)) s (λ a. Goes (record (at e.seed st s).held { stack = Number (get_field a p.first p.num) ∷ st })) (λ a. m.gives (Number (get_field a p.first p.num)) s) (λ a. refl)
+  load_same (part i p) st s = part_same (λ x s. goes (at e.seed (x ∷ st) s)) s i (λ a. Goes (record (at e.seed st s).held { stack = Number (get_field a p.first p.num) ∷ st })) (λ a. m.gives (Number (get_field a p.first p.num)) s) (λ a. refl)
   load_same (constant v) st s = refl
   load_same window st s = refl
   load_same nothing st s = refl
@@ -255,13 +256,13 @@ module _ (e : Event) (hh : Asks) where
   load_at_same window (Number i) st s = site_same (λ x s. goes (at e.seed (x ∷ st) s)) i s.turns (λ n. Goes (record (at e.seed st s).held { stack = Atom (atom_at s.window n) ∷ st })) (λ n. m.gives (Atom (atom_at s.window n)) s) (λ n. refl)
   load_at_same window (Atom a) st s = refl
   load_at_same (member p) (Number i) st s =
-      let go = λ (a : AtomValue) (j : ℕ). Goes (record (at e.seed st s).held { stack = Number (number_at a (bit_at p j) p.num) ∷ st }) in
-      let fo = λ (a : AtomValue) (j : ℕ). m.gives (Number (number_at a (bit_at p j) p.num)) s in
+      let go = λ (a : AtomValue) (j : ℕ). Goes (record (at e.seed st s).held { stack = Number (get_field a (bit_at p j) p.num) ∷ st }) in
+      let fo = λ (a : AtomValue) (j : ℕ). m.gives (Number (get_field a (bit_at p j) p.num)) s in
       self_same (λ x s. goes (at e.seed (x ∷ st) s)) s (λ a. at_index i p.length (go a)) (λ a. m.on_index i p.length (fo a)) (λ a. index_same (λ x s. goes (at e.seed (x ∷ st) s)) i p.length s.turns (go a) (fo a) (λ j. refl))
   load_at_same (member p) (Atom a) st s = refl
   load_at_same (part l p) (Number i) st s =
-      let go = λ (a : AtomValue) (j : ℕ). Goes (record (at e.seed st s).held { stack = Number (number_at a (bit_at p j) p.num) ∷ st }) in
-      let fo = λ (a : AtomValue) (j : ℕ). m.gives (Number (number_at a (bit_at p j) p.num)) s in
+      let go = λ (a : AtomValue) (j : ℕ). Goes (record (at e.seed st s).held { stack = Number (get_field a (bit_at p j) p.num) ∷ st }) in
+      let fo = λ (a : AtomValue) (j : ℕ). m.gives (Number (get_field a (bit_at p j) p.num)) s in
       part_same (λ x s. goes (at e.seed (x ∷ st) s)) s l (λ a. at_index i p.length (go a)) (λ a. m.on_index i p.length (fo a)) (λ a. index_same (λ x s. goes (at e.seed (x ∷ st) s)) i p.length s.turns (go a) (fo a) (λ j. refl))
   load_at_same (part l p) (Atom a) st s = refl
   load_at_same itself x st s = refl
@@ -286,7 +287,7 @@ module _ (e : Event) (hh : Asks) where
   either_same : (b : Piece) (x : Datum) (st : List Datum) (s : Store) (right : Store → Outcome Datum) → run e.acting hh b (at e.seed st s) ≡ value_out e.seed st (right s) → run e.acting hh (seq (plain NotB) (pick b (plain (PushNum (pos 1))))) (at e.seed (x ∷ st) s) ≡ value_out e.seed st (either x s right)
   either_same b (Number v) st s right h = by_zero (is_zero v)
     where
-      by_zero : (z : Bool) → (if is_zero (truth_of z) then run e.acting hh (plain (PushNum (pos 1))) (at e.seed st s) else run e.acting hh b (at e.seed st s)) ≡ value_out e.seed st (if z then right s else m.gives (Number (pos 1)) s)
+      by_zero : (z : Bool) → (if is_zero (of_bool z) then run e.acting hh (plain (PushNum (pos 1))) (at e.seed st s) else run e.acting hh b (at e.seed st s)) ≡ value_out e.seed st (if z then right s else m.gives (Number (pos 1)) s)
       by_zero true = h
       by_zero false = refl
   either_same b (Atom a) st s right h = refl
@@ -298,7 +299,7 @@ module _ (e : Event) (hh : Asks) where
   -- Calls of functions of the window and of the random stream
 
   ask_same : (i : Instr) (question : WindowValue → ℕ → Bool) → sort i ≡ Ask question → (x : Datum) (st : List Datum) (s : Store) → run e.acting hh (plain i) (at e.seed (x ∷ st) s) ≡ call_out e.seed st (ask question x s)
-  ask_same i question u (Number v) st s = by_sort i (Ask question) (at e.seed (Number v ∷ st) s) _ u (site_same (λ v s. goes (at e.seed (pushed v st) s)) v s.turns (λ n. Goes (record (at e.seed st s).held { stack = Number (truth_of (question s.window n)) ∷ st })) (λ n. m.gives (Some (Number (truth_of (question s.window n)))) s) (λ n. refl))
+  ask_same i question u (Number v) st s = by_sort i (Ask question) (at e.seed (Number v ∷ st) s) _ u (site_same (λ v s. goes (at e.seed (pushed v st) s)) v s.turns (λ n. Goes (record (at e.seed st s).held { stack = Number (of_bool (question s.window n)) ∷ st })) (λ n. m.gives (Some (Number (of_bool (question s.window n)))) s) (λ n. refl))
   ask_same i question u (Atom a) st s = by_sort i (Ask question) (at e.seed (Atom a ∷ st) s) _ u refl
 
   draw_same : (i : Instr) (f : ℕ → ℤ) → sort i ≡ Draw f → (x : Datum) (st : List Datum) (s : Store) → run e.acting hh (plain i) (at e.seed (x ∷ st) s) ≡ call_out e.seed st (draw e f x s)
@@ -332,48 +333,48 @@ module _ (e : Event) (hh : Asks) where
   built_same b.Swap xs st s l = two_args Swap (λ x y. exchange x y s) xs st s l (λ x y. swap_same x y st s)
   built_same b.IsLive xs st s l = one_arg IsLive (λ x. ask live_at x s) xs st s l (λ x. ask_same IsLive live_at refl x st s)
   built_same b.IsEmpty xs st s l = one_arg IsEmpty (λ x. ask is_empty_at x s) xs st s l (λ x. ask_same IsEmpty is_empty_at refl x st s)
-  built_same b.Create xs st s l = one_arg RandCreate (λ x. draw e itself_drawn x s) xs st s l (λ x. draw_same RandCreate itself_drawn refl x st s)
+  built_same b.Create xs st s l = one_arg RandCreate (λ x. draw e pos x s) xs st s l (λ x. draw_same RandCreate pos refl x st s)
   built_same b.OneIn xs st s l = one_arg RandOneIn (λ x. draw e one_in x s) xs st s l (λ x. draw_same RandOneIn one_in refl x st s)
 
-  number_gives : {Y : Type 0} (P : Y → Type 0) (x : Datum) (go : ℤ → Outcome Y) → ((v : ℤ) → Gives P (go v)) → Gives P (m.on_number x go)
+  number_gives : {Y : Type 0} (P : Y → Type 0) (x : Datum) (go : ℤ → Outcome Y) → ((v : ℤ) → IfGives P (go v)) → IfGives P (m.on_number x go)
   number_gives P (Number v) go h = h v
   number_gives P (Atom a) go h = tt
 
-  site_gives : {Y : Type 0} (P : Y → Type 0) (i : ℤ) (go : ℕ → Outcome Y) → ((n : ℕ) → Gives P (go n)) → Gives P (m.on_site i go)
+  site_gives : {Y : Type 0} (P : Y → Type 0) (i : ℤ) (go : ℕ → Outcome Y) → ((n : ℕ) → IfGives P (go n)) → IfGives P (m.on_site i go)
   site_gives P (negsuc n) go h = tt
   site_gives P (pos n) go h = by (nat_le n 40)
     where
-      by : (b : Bool) → Gives P (if b then go n else m.fails 4)
+      by : (b : Bool) → IfGives P (if b then go n else m.fails 4)
       by true = h n
       by false = tt
 
-  bound_gives : {Y : Type 0} (P : Y → Type 0) (i : ℤ) (go : ℕ → Outcome Y) → ((n : ℕ) → Gives P (go n)) → Gives P (m.on_bound i go)
+  bound_gives : {Y : Type 0} (P : Y → Type 0) (i : ℤ) (go : ℕ → Outcome Y) → ((n : ℕ) → IfGives P (go n)) → IfGives P (m.on_bound i go)
   bound_gives P (negsuc n) go h = tt
   bound_gives P (pos zero) go h = tt
   bound_gives P (pos (suc n)) go h = h (suc n)
 
-  one_gives : {Y : Type 0} (P : Y → Type 0) (xs : List Datum) (go : Datum → Outcome Y) → ((x : Datum) → Gives P (go x)) → Gives P (m.on_one xs go)
+  one_gives : {Y : Type 0} (P : Y → Type 0) (xs : List Datum) (go : Datum → Outcome Y) → ((x : Datum) → IfGives P (go x)) → IfGives P (m.on_one xs go)
   one_gives P [] go h = tt
   one_gives P (x ∷ []) go h = h x
   one_gives P (x ∷ y ∷ xs) go h = tt
 
-  two_gives : {Y : Type 0} (P : Y → Type 0) (xs : List Datum) (go : Datum → Datum → Outcome Y) → ((x y : Datum) → Gives P (go x y)) → Gives P (m.on_two xs go)
+  two_gives : {Y : Type 0} (P : Y → Type 0) (xs : List Datum) (go : Datum → Datum → Outcome Y) → ((x y : Datum) → IfGives P (go x y)) → IfGives P (m.on_two xs go)
   two_gives P [] go h = tt
   two_gives P (x ∷ []) go h = tt
   two_gives P (x ∷ y ∷ []) go h = h x y
   two_gives P (x ∷ y ∷ u ∷ xs) go h = tt
 
-  ask_gives : (question : WindowValue → ℕ → Bool) (P : Option Datum → Type 0) (x : Datum) (s : Store) → ((v : Datum) → P (Some v)) → Gives P (ask question x s)
+  ask_gives : (question : WindowValue → ℕ → Bool) (P : Option Datum → Type 0) (x : Datum) (s : Store) → ((v : Datum) → P (Some v)) → IfGives P (ask question x s)
   ask_gives question P x s h = number_gives P x _ (λ i. site_gives P i _ (λ n. h _))
 
-  draw_gives : (f : ℕ → ℤ) (P : Option Datum → Type 0) (x : Datum) (s : Store) → ((v : Datum) → P (Some v)) → Gives P (draw e f x s)
+  draw_gives : (f : ℕ → ℤ) (P : Option Datum → Type 0) (x : Datum) (s : Store) → ((v : Datum) → P (Some v)) → IfGives P (draw e f x s)
   draw_gives f P x s h = number_gives P x _ (λ i. bound_gives P i _ (λ n. h _))
 
-  built_gives : (c : Built) (xs : List Datum) (s : Store) → Gives (BuiltAnswers c) (built e c xs s)
+  built_gives : (c : Built) (xs : List Datum) (s : Store) → IfGives (BuiltAnswers c) (built e c xs s)
   built_gives b.Swap xs s = two_gives (BuiltAnswers b.Swap) xs (λ x y. exchange x y s) (λ x y. number_gives (BuiltAnswers b.Swap) x _ (λ i. number_gives (BuiltAnswers b.Swap) y _ (λ j. site_gives (BuiltAnswers b.Swap) i _ (λ a. site_gives (BuiltAnswers b.Swap) j _ (λ c. tt)))))
   built_gives b.IsLive xs s = one_gives (BuiltAnswers b.IsLive) xs (λ x. ask live_at x s) (λ x. ask_gives live_at (BuiltAnswers b.IsLive) x s (λ v. tt))
   built_gives b.IsEmpty xs s = one_gives (BuiltAnswers b.IsEmpty) xs (λ x. ask is_empty_at x s) (λ x. ask_gives is_empty_at (BuiltAnswers b.IsEmpty) x s (λ v. tt))
-  built_gives b.Create xs s = one_gives (BuiltAnswers b.Create) xs (λ x. draw e itself_drawn x s) (λ x. draw_gives itself_drawn (BuiltAnswers b.Create) x s (λ v. tt))
+  built_gives b.Create xs s = one_gives (BuiltAnswers b.Create) xs (λ x. draw e pos x s) (λ x. draw_gives pos (BuiltAnswers b.Create) x s (λ v. tt))
   built_gives b.OneIn xs s = one_gives (BuiltAnswers b.OneIn) xs (λ x. draw e one_in x s) (λ x. draw_gives one_in (BuiltAnswers b.OneIn) x s (λ v. tt))
 
   -- a value after a call, and a call alone
@@ -404,22 +405,22 @@ module _ (e : Event) (hh : Asks) where
   -- what calls of functions do, seen from both sides
   pub record SameCalls (g : Program) (h : Calls) : Type 0 where
     pub same : (f : Key) (xs st : List Datum) (s : Store) → length xs ≡ length (casts (function_of g f).params) → hh f (at e.seed (reverse_aux xs st) s) ≡ call_out e.seed st (h f xs s)
-    pub answers : (f : Key) (xs : List Datum) (s : Store) → Gives (Answers (function_of g f).result) (h f xs s)
+    pub answers : (f : Key) (xs : List Datum) (s : Store) → IfGives (Answers (function_of g f).result) (h f xs s)
 
   module _ (z : Scene) (h : Calls) (sc : SameCalls z.program h) where
     -- as many arguments as casts
-    args_long : (es : t.Args) (cs : List (Option NumType)) (s : Store) → Gives (λ xs. length xs ≡ length cs) (arguments e z h es cs s)
+    args_long : (es : t.Args) (cs : List (Option NumType)) (s : Store) → IfGives (λ xs. length xs ≡ length cs) (arguments e z h es cs s)
     args_long t.no_args [] s = refl
     args_long t.no_args (c ∷ cs) s = tt
     args_long (t.arg a es) [] s = tt
     args_long (t.arg a es) (c ∷ cs) s = then_gives (λ xs. length xs ≡ length (c ∷ cs)) (eval e z h a s) _ (λ x s1. then_gives (λ xs. length xs ≡ length (c ∷ cs)) (m.cast_to c x s1) _ (λ y s2. one_more y (arguments e z h es cs s2) (args_long es cs s2)))
       where
-        one_more : (y : Datum) (r : Outcome (List Datum)) → Gives (λ xs. length xs ≡ length cs) r → Gives (λ xs. length xs ≡ suc (length cs)) (with_first y r)
+        one_more : (y : Datum) (r : Outcome (List Datum)) → IfGives (λ xs. length xs ≡ length cs) r → IfGives (λ xs. length xs ≡ suc (length cs)) (with_first y r)
         one_more y (m.gives xs s) l = ap suc l
         one_more y (m.fails n) l = tt
         one_more y m.wrong l = tt
 
-    pub call_gives : (c : Callee) (args : List (Option NumType) → Outcome (List Datum)) → Gives (CalleeAnswers z.program c) (call e z.program h c args)
+    pub call_gives : (c : Callee) (args : List (Option NumType) → Outcome (List Datum)) → IfGives (CalleeAnswers z.program c) (call e z.program h c args)
     call_gives (called f) args = then_gives (CalleeAnswers z.program (called f)) (args (casts (function_of z.program f).params)) (λ xs s. h f xs s) (λ xs s. sc.answers f xs s)
     call_gives (built_in c) args = then_gives (CalleeAnswers z.program (built_in c)) (args (built_casts c)) (λ xs s. built e c xs s) (λ xs s. built_gives c xs s)
     call_gives no_callee args = tt

@@ -3,6 +3,7 @@ use Rattle.std.proofs.Common.{◌≡◌, ℕ, zero, suc, ◌+◌, ◌-◌, ◌<�
 use Rattle.std.specs.Prelude.{slice_get, nat_eq, nat_lt, nat_le, if◌then◌else◌, replicate, is_some, pos}
 use Rattle.std.proofs.lemmas.Bool.{lt-ltb, le-leb, eq-eqb}
 use Rattle.std.proofs.lemmas.List.{length-take, length-replicate}
+use Rattle.list_laws.proofs.Slots.{get_drop}
 use Rattle.stack_code.specs.Sorts.{sort}
 use Rattle.stack_code.specs.Machine.{FunctionValue, CodeValue}
 use Rattle.stack_code.specs.Valid.{Kinds, Notes, after, args_fit, answer_found, is_nothing, around, Exits, end_exit, back_of, back_by, pass, pass_function, pass_all, then_pass, function_fits, first_fits, length_fits, end_with, valid}
@@ -41,11 +42,6 @@ pub record FineKey (g : Drafts) (ks : List Key) (f : Key) : Type 0 where
 abbrev pub FineKeys : Drafts → List Key → List Key → Type 0
 FineKeys g ks [] = Unit {0}
 FineKeys g ks (f ∷ fs) = FineKey g ks f × FineKeys g ks fs
-
-get_drop : {A : Type 0} (p k : ℕ) (xs : List A) → slice_get (drop p xs) k ≡ slice_get xs (p + k)
-get_drop zero k xs = let e : k ≡ 0 + k = omega arith in ap (slice_get xs) e
-get_drop (suc p) k [] = refl
-get_drop (suc p) k (x ∷ xs) = let e : suc (p + k) ≡ suc p + k = omega arith in get_drop p k xs ∙ ap (slice_get (x ∷ xs)) e
 
 get_take : {A : Type 0} (n k : ℕ) (xs : List A) (x : A) → slice_get (take n xs) k ≡ Some x → slice_get xs k ≡ Some x
 get_take zero k xs x e = cc
@@ -107,13 +103,10 @@ module _ (c : CodeValue) (h : FunctionValue) (end : ℕ) (ks : List Key) (n : Se
       let y = piece_fine c h end ks n shape ag q p e e [] has.0 kinds.0 fit (x.0 ∙ sym stop) x.1 (omega (arith, first)) (omega (arith, len, some)) target target (inl b.0) in
       (b.0, fines_join c h end ks n shape p (size q) (size (end_by r m)) y.0 (x.2 y.1))
 
-nat_same : (n : ℕ) → nat_eq n n ≡ true
-nat_same n = eq-eqb n n refl
-
 fits_yes : (h : FunctionValue) (p end : ℕ) → h.first ≡ p → p < end → h.params ≤ length h.slots → length h.slots ≤ 72 → function_fits h p end ≡ true
 fits_yes h p end e lt le most =
     ap (λ q. if nat_eq q p then (if nat_lt p end then (if nat_le h.params (length h.slots) then nat_le (length h.slots) 72 else false) else false) else false) e
-    ∙ ap (λ (b : Bool). if b then (if nat_lt p end then (if nat_le h.params (length h.slots) then nat_le (length h.slots) 72 else false) else false) else false) (nat_same p)
+    ∙ ap (λ (b : Bool). if b then (if nat_lt p end then (if nat_le h.params (length h.slots) then nat_le (length h.slots) 72 else false) else false) else false) (eq-eqb p p refl)
     ∙ ap (λ (b : Bool). if b then (if nat_le h.params (length h.slots) then nat_le (length h.slots) 72 else false) else false) (lt-ltb p end lt)
     ∙ ap (λ (b : Bool). if b then nat_le (length h.slots) 72 else false) (le-leb h.params (length h.slots) le)
     ∙ le-leb (length h.slots) 72 most
@@ -191,7 +184,7 @@ module _ (g : Drafts) (c : CodeValue) (ks : List Key) (sh : List Kinds) (fns : c
 
   pass_each : (fs : List Key) (p : ℕ) (notes : Notes) → Stands c.instrs p (codes g ks p fs) → Stands sh p (all_shapes g fs) → Shallow (all_shapes g fs) → FineKeys g ks fs → p + total g fs ≡ length c.instrs → Agree (shape_in sh) (length c.instrs) notes → (r : Notes) × (pass_all c (values g p fs) p notes ≡ Some r)
   unfolding pass_all
-  pass_each [] p notes at st sha fk len ag = (notes, ap (λ (b : Bool). if b then Some notes else None) (ap (nat_eq p) (let e : length c.instrs ≡ p = omega (arith, len) in e) ∙ nat_same p))
+  pass_each [] p notes at st sha fk len ag = (notes, ap (λ (b : Bool). if b then Some notes else None) (ap (nat_eq p) (let e : length c.instrs ≡ p = omega (arith, len) in e) ∙ (eq-eqb p p refl)))
   pass_each (f ∷ fs) p notes at st sha fk len ag =
       let n = setting_of g f in
       let q = p + size (key_piece g f) in

@@ -22,8 +22,8 @@ use Rattle.code_gen.specs.Compiled.{element_code}
 use Rattle.code_gen.specs.Means.{Means}
 use Rattle.code_gen.proofs.ElementMeans.{element_means}
 
-tools : Program
-tools = record {
+counter : Program
+counter = record {
   classes =
       quark (field_member (unsigned 4) 0 ∷ function_member void (codes "inc") (unsigned 2 ∷ []) (then_so (assign_to (Member 0 0 ∷ []) None (Some Add) (typed (reads_form (Local 0 ∷ [])) (unsigned 2))) no_more) ∷ []) ∷
       element (field_member bool 0 ∷ field_member (class 0) 0 ∷ function_member void (codes "behave") [] (then_so (does_call (Member 1 1 ∷ Function 0 0 ∷ []) (arg (typed (number_form 1 false) (unsigned 32)) no_args)) (then_so (if_so (test (typed (pair_form Gt (typed (reads_form (Member 1 1 ∷ Member 0 0 ∷ [])) (unsigned 4)) (typed (number_form 2 true) (unsigned 32))) bool)) (assign_to (Member 1 0 ∷ []) None None (typed (truth_form true) bool)) no_part) no_more)) ∷ []) ∷
@@ -31,52 +31,52 @@ tools = record {
   layout = (4 ∷ []) ∷ (1 ∷ 4 ∷ []) ∷ [];
 }
 
-tools_code : (element_code tools 1 1).instrs ≡ PushNum (pos 1) ∷ Fit k.Unsigned 2 ∷ Call 1 ∷ LoadField 1 4 k.Unsigned ∷ PushNum (pos 2) ∷ GtInstr ∷ JumpFalse 9 ∷ PushNum (pos 1) ∷ StoreField 0 1 k.Bool ∷ ReturnVoid ∷ LoadField 1 4 k.Unsigned ∷ LoadLocal 0 ∷ AddU ∷ StoreField 1 4 k.Unsigned ∷ ReturnVoid ∷ []
-unfolding tools field_at function_at behave_of number_of all_locals code_of keys reach
-tools_code = refl
+counter_code : (element_code counter 1 1).instrs ≡ PushNum (pos 1) ∷ Fit k.Unsigned 2 ∷ Call 1 ∷ LoadField 1 4 k.Unsigned ∷ PushNum (pos 2) ∷ GtInstr ∷ JumpFalse 9 ∷ PushNum (pos 1) ∷ StoreField 0 1 k.Bool ∷ ReturnVoid ∷ LoadField 1 4 k.Unsigned ∷ LoadLocal 0 ∷ AddU ∷ StoreField 1 4 k.Unsigned ∷ ReturnVoid ∷ []
+unfolding counter field_at function_at behave_of number_of all_locals code_of keys reach
+counter_code = refl
 
-tools_widths : (c : ℕ) → class_at tools.layout c ≡ map (λ (f : Field). member_bits (bits_of tools) f.ty f.length) (fields (members_of tools c))
-unfolding tools
-tools_widths zero = refl
-tools_widths (suc zero) = refl
-tools_widths (suc (suc c)) = refl
+counter_widths : (c : ℕ) → class_at counter.layout c ≡ map (λ (f : Field). member_bits (bits_of counter) f.ty f.length) (fields (members_of counter c))
+unfolding counter
+counter_widths zero = refl
+counter_widths (suc zero) = refl
+counter_widths (suc (suc c)) = refl
 
-tools_most : (c : ℕ) → bits_of tools c ≤ 71
-unfolding tools
-tools_most zero = omega arith
-tools_most (suc zero) = omega arith
-tools_most (suc (suc c)) = omega arith
+counter_most : (c : ℕ) → bits_of counter c ≤ 71
+unfolding counter
+counter_most zero = omega arith
+counter_most (suc zero) = omega arith
+counter_most (suc (suc c)) = omega arith
 
-tools_bodies : (c f base : ℕ) → KindedBody (scene_of tools (record { class = c; function = f; base = base })) c (function_at tools c f).body
-unfolding tools field_at function_at all_locals
-tools_bodies zero zero base = ((((refl, tt), tt), ((0, tt), refl), (refl, (refl, refl), (refl, refl), refl)), tt)
-tools_bodies zero (suc f) base = tt
-tools_bodies (suc zero) zero base = (((refl, (refl, tt)), ((refl, refl), refl, (refl, refl), tt)), ((((((refl, (refl, tt)), (refl, refl)), (refl, refl), refl, refl, refl, refl), refl), ((((refl, tt), tt), refl, (refl, refl))), tt), tt))
-tools_bodies (suc zero) (suc f) base = tt
-tools_bodies (suc (suc c)) f base = tt
+counter_bodies : (c f base : ℕ) → KindedBody (scene_of counter (record { class = c; function = f; base = base })) c (function_at counter c f).body
+unfolding counter field_at function_at all_locals
+counter_bodies zero zero base = ((((refl, tt), tt), ((0, tt), refl), (refl, (refl, refl), (refl, refl), refl)), tt)
+counter_bodies zero (suc f) base = tt
+counter_bodies (suc zero) zero base = (((refl, (refl, tt)), ((refl, refl), refl, (refl, refl), tt)), ((((((refl, (refl, tt)), (refl, refl)), (refl, refl), refl, refl, refl, refl), refl), ((((refl, tt), tt), refl, (refl, refl))), tt), tt))
+counter_bodies (suc zero) (suc f) base = tt
+counter_bodies (suc (suc c)) f base = tt
 
-tools_slots : (c f : ℕ) → length (slot_types (function_at tools c f)) ≤ 72
-unfolding tools function_at all_locals
-tools_slots zero zero = omega arith
-tools_slots zero (suc f) = omega arith
-tools_slots (suc zero) zero = omega arith
-tools_slots (suc zero) (suc f) = omega arith
-tools_slots (suc (suc c)) f = omega arith
+counter_slots : (c f : ℕ) → length (slot_types (function_at counter c f)) ≤ 72
+unfolding counter function_at all_locals
+counter_slots zero zero = omega arith
+counter_slots zero (suc f) = omega arith
+counter_slots (suc zero) zero = omega arith
+counter_slots (suc zero) (suc f) = omega arith
+counter_slots (suc (suc c)) f = omega arith
 
-tools_kinded : IsKinded tools 1
-unfolding tools function_at behave_of
-tools_kinded = record {
-  laid = record { widths = tools_widths; most = tools_most };
-  bodies = λ f. tools_bodies f.class f.function f.base;
-  slots = λ f. tools_slots f.class f.function;
+counter_kinded : IsKinded counter 1
+unfolding counter function_at behave_of
+counter_kinded = record {
+  laid = record { widths = counter_widths; most = counter_most };
+  bodies = λ f. counter_bodies f.class f.function f.base;
+  slots = λ f. counter_slots f.class f.function;
   no_params = refl;
   no_result = refl;
 }
 
-tools_short : IsShort (draft_of tools) (behave_key tools 1)
-unfolding tools field_at function_at behave_of number_of all_locals keys reach
-tools_short = record { few = omega arith; low = refl }
+counter_short : IsShort (draft_of counter) (behave_key counter 1)
+unfolding counter field_at function_at behave_of number_of all_locals keys reach
+counter_short = record { few = omega arith; low = refl }
 
-tools_mean : Means tools 1 (element_code tools (number_of tools 1) 1)
-unfolding tools
-tools_mean = element_means tools 1 _ refl refl tools_kinded tools_short
+counter_mean : Means counter 1 (element_code counter (number_of counter 1) 1)
+unfolding counter
+counter_mean = element_means counter 1 _ refl refl counter_kinded counter_short

@@ -1,8 +1,9 @@
 -- No turn is given back.
 use Rattle.std.proofs.Common.{◌≡◌, ℕ, zero, suc, ◌≤◌, List, [], ◌∷◌, refl, arith, Bool, true, false}
+use Rattle.sat_math.specs.Operations.{is_zero}
 use Rattle.datum.specs.declared.Datum.{Datum}
 use Rattle.datum.specs.declared.Datum.TheVariants.{Number as ANumber, Atom as AnAtom}
-use Rattle.stack_code.specs.Sorts.{is_zero, sort}
+use Rattle.stack_code.specs.Sorts.{sort}
 use Rattle.stack_code.specs.Machine.{Held, Led, Goes, Fails, Ends, Lacks, work}
 use Rattle.code_gen.specs.Pieces.{Key, Piece, none, seq, plain, asks, pick, only, loop, ever, out, next, gives, leaves}
 use Rattle.code_gen.specs.Runs.{Now, Out, goes, leaps, nexts, hands, fails, stops, lacks, out_then, out_again, after_work, with_stack, with_turns, on_zero, turn_out, by_bool, rounds, ever_rounds, hand_top, Asks, run}

@@ -1,6 +1,6 @@
 -- A tree that is well typed and named has the right kinds.
-use Rattle.std.proofs.Common.{◌≡◌, ℕ, ◌⊎◌, inl, inr, ⊎_elim, List, [], ◌∷◌, length, Option, Some, None, refl, sym, ap, ◌∙◌, subst, arith, Bool, true, false, map}
-use Rattle.std.specs.Prelude.{◌||◌}
+use Rattle.std.proofs.Common.{◌≡◌, ℕ, ⊎_elim, List, [], ◌∷◌, length, Option, Some, None, refl, sym, ap, ◌∙◌, subst, arith, Bool, true, false, map}
+use Rattle.std.proofs.lemmas.Bool.{or_cases}
 use Rattle.sat_math.specs.declared.NumType.{NumType}
 use Rattle.ulam_tree.specs.declared.resolved.Ty.{Ty}
 use Rattle.ulam_tree.specs.declared.resolved.Ty.TheVariants as y
@@ -58,10 +58,6 @@ value_kinds (ty ∷ tys) = ap (λ l. operand_of ty ∷ l) (value_kinds tys)
 value_wide : (tys : List Ty) → AllWide tys → WideWants (map Value tys)
 value_wide [] h = tt
 value_wide (ty ∷ tys) h = (h.0, value_wide tys h.1)
-
-either_true : (a c : Bool) → (a || c) ≡ true → (a ≡ true) ⊎ (c ≡ true)
-either_true true c e = inl refl
-either_true false c e = inr e
 
 atom_bits : (ty : Ty) → IsAtom ty → BitsWide ty
 atom_bits (y.Num num) e = absurd (cc)
@@ -207,7 +203,7 @@ module _ (g : s.Scope) (z : Scene) (c : ℕ) (sees : Sees g z c) (fields_wide : 
         ((typed_kinded e h.0 n.0).0, index_number (t.ty_of e) p.0, tt, args_kinded ws es (omega (arith, l)) p.1 w h.1 n.1)
     args_kinded (Bound ∷ ws) (t.arg e es) l f w h n =
         let p = both (suits g Bound e) (all_suit g ws es) f in
-        ((typed_kinded e h.0 n.0).0, ⊎_elim (λ q. plain_number g e h.0 q) (λ u. unsigned_number (t.ty_of e) u) (either_true (t.plain e) (is_unsigned (t.ty_of e)) p.0), tt, args_kinded ws es (omega (arith, l)) p.1 w h.1 n.1)
+        ((typed_kinded e h.0 n.0).0, ⊎_elim (λ q. plain_number g e h.0 q) (λ u. unsigned_number (t.ty_of e) u) (or_cases (t.plain e) (is_unsigned (t.ty_of e)) p.0), tt, args_kinded ws es (omega (arith, l)) p.1 w h.1 n.1)
 
   pub index_kinded : (i : Option t.Expr) (x : t.Path) (ty : Ty) → IsWellIndex g x i ty → IfNamed z c i → KindedTest z c i
   index_kinded None x ty h n = tt

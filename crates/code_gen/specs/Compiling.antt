@@ -2,6 +2,7 @@
 use Rattle.std.specs.Prelude.{◌≡◌, ◌<◌, ℕ, suc, true, false, List, map, slice_get, Some, Result, Ok, Err, Vec}
 use Rattle.std.specs.Option.{option_map_or}
 use Rattle.std.specs.declared.alloc.Global.{Global}
+use Rattle.feast_base.specs.Places.{no_place}
 use Rattle.feast_base.specs.declared.place.Place.{Place}
 use Rattle.ulam_tree.specs.Typed as t
 use Rattle.ulam_types.specs.Well.{IsWellProgram}
@@ -50,10 +51,6 @@ pub record IsFirstLong (g : Program) (c : ℕ) : Type 0 where
   pub acts : element.quark ≡ false
   pub long : HasShort g c → ⊥
   pub before : (d : ℕ) (e : t.Class) → d < c → slice_get g.classes d ≡ Some e → e.quark ≡ false → HasShort g d
-
--- a stand-in for the place of a class that does not exist
-abbrev pub no_place : Place
-no_place = record { file = 0; line = 0; column = 0 }
 
 -- the place of the name of class c
 abbrev pub long_place : List t.Class → ℕ → Place

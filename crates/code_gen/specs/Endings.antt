@@ -1,8 +1,7 @@
 -- How an event ends by the meaning of its element, as the machine's runs say it.
 use Rattle.std.specs.Prelude.{ℕ, Option, Some, None}
-use Rattle.window_sites.specs.Window.{WindowValue}
+use Rattle.window_sites.specs.Window.{WindowValue, emptied}
 use Rattle.ulam_meaning.specs.Runs.{Outcome, Way, gives, fails, wrong}
-use Rattle.ulam_meaning.specs.Events.{emptied}
 
 -- the window and the number of the failure, of an event that began with this window; none if there
 -- is no meaning

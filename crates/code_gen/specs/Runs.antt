@@ -1,11 +1,12 @@
 -- What a piece does, by big steps: between the meaning of a tree and the machine.
 use Rattle.std.specs.Prelude.{ℕ, zero, suc, nat_le, Bool, true, false, List, [], ◌∷◌, ◌++◌, length, Option, Some, None, reverse, take, drop, if◌then◌else◌}
-use Rattle.window_sites.specs.Window.{WindowValue}
+use Rattle.sat_math.specs.Operations.{is_zero}
+use Rattle.window_sites.specs.Window.{WindowValue, emptied}
 use Rattle.draw_stream.specs.Words.{event_state}
 use Rattle.datum.specs.declared.Datum.{Datum}
 use Rattle.datum.specs.declared.Datum.TheVariants.{Number as ANumber, Atom as AnAtom}
-use Rattle.stack_code.specs.Sorts.{is_zero, sort}
-use Rattle.stack_code.specs.Machine.{Held, Led, Goes, Fails, Ends, Lacks, fresh, work, emptied}
+use Rattle.stack_code.specs.Sorts.{sort}
+use Rattle.stack_code.specs.Machine.{Held, Led, Goes, Fails, Ends, Lacks, fresh, work}
 use Rattle.stack_code.specs.Valid.{is_nothing}
 use Rattle.stack_code.specs.declared.instr.Answer.{Answer}
 use Rattle.code_gen.specs.Pieces.{Key, Piece, none, seq, plain, asks, pick, only, loop, ever, out, next, gives, leaves}

@@ -1,5 +1,6 @@
 -- The compile scheme: the piece of each form of a tree, and the drafts of a program's functions.
 use Rattle.std.specs.Prelude.{ℕ, nat_le, Bool, true, false, pos, List, [], ◌∷◌, map, Option, Some, None}
+use Rattle.sat_math.specs.Operations.{of_bool}
 use Rattle.sat_math.specs.declared.NumType.{NumType}
 use Rattle.sat_math.specs.declared.Arith.{Arith}
 use Rattle.sat_math.specs.declared.Arith.TheVariants.{Int32, Unsigned32, Int64, Unsigned64}
@@ -15,7 +16,7 @@ use Rattle.ulam_tree.specs.Typed as t
 use Rattle.ulam_tree.specs.Locals.{all_locals}
 use Rattle.ulam_meaning.specs.Programs.{Program, type_number}
 use Rattle.ulam_meaning.specs.Paths.{Spot, itself, local, member, part, window, constant, nothing, spot, function_of, Callee, called, built_in, no_callee, callee, Scene, scene_of, spot_type}
-use Rattle.ulam_meaning.specs.Values.{truth_of, number_type, width_of, arith_of, arith_with}
+use Rattle.ulam_meaning.specs.Values.{number_type, width_of, arith_of, arith_with}
 use Rattle.ulam_meaning.specs.Expressions.{casts, built_casts}
 use Rattle.ulam_meaning.specs.Statements.{count_op}
 use Rattle.ulam_meaning.specs.Laws.{bits_of}
@@ -168,7 +169,7 @@ abbrev mutual
   -- each form, with its type
   pub form_piece : Scene → t.Form → Ty → Piece
   form_piece z (t.number v u p) ty = plain (PushNum (pos v))
-  form_piece z (t.truth b p) ty = plain (PushNum (truth_of b))
+  form_piece z (t.truth b p) ty = plain (PushNum (of_bool b))
   form_piece z (t.reads x) ty = load (spot z.program z.base x.steps)
   form_piece z (t.calls x es) ty = seq (call_piece z.program (callee z.program z.base x.steps) (args_piece z es)) (if_nothing z.program (callee z.program z.base x.steps) nowhere none)
   form_piece z (t.index x i) ty = seq (expr_piece z i) (load_at (spot z.program z.base x.steps))

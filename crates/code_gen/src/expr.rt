@@ -1,11 +1,11 @@
 //! The pieces of expressions.
 ghost use Rattle.std.specs.Prelude.{◌≡◌, ◌∷◌, ◌++◌, [], map, IfOk, OnOk, if◌then◌else◌};
+ghost use Rattle.sat_math.specs.Operations.{of_bool};
 ghost use Rattle.ulam_tree.specs.ResolvedViews.{resolved_path, resolved_param};
 ghost use Rattle.ulam_tree.specs.TypedViews.{typed_expr, typed_args};
 ghost use Rattle.ulam_meaning.specs.Programs.{param_types};
 ghost use Rattle.ulam_meaning.specs.Paths as paths;
 ghost use Rattle.ulam_meaning.specs.Expressions as meaning;
-ghost use Rattle.ulam_meaning.specs.Values.{truth_of};
 ghost use Rattle.code_gen.specs.Pieces as spec;
 ghost use Rattle.code_gen.specs.Clipped.{clip, pair_of};
 ghost use Rattle.code_gen.specs.Scheme as scheme;
@@ -29,7 +29,7 @@ use ulam_tree::typed::{Expr, Form};
 
 /// Truth as a number.
 fn truth(value: bool) -> i128
-    ensures { result ≡ truth_of value }
+    ensures { result ≡ of_bool value }
 {
     if value { 1 } else { 0 }
 }

@@ -1,5 +1,5 @@
-//! Laws of code that is made of pieces.
-ghost use Rattle.std.specs.Prelude.{◌≡◌, ◌⊎◌, ℕ, suc, List, map, length, slice_get, Some, None};
+//! Laws of code that is made of pieces, and of the compile scheme.
+ghost use Rattle.std.specs.Prelude.{◌≡◌, ◌⊎◌, ℕ, suc, false, List, map, length, slice_get, Some, None};
 ghost use Rattle.stack_code.specs.Valid.{Kinds};
 ghost use Rattle.ulam_tree.specs.Resolved as resolved;
 ghost use Rattle.ulam_tree.specs.Typed as typed;
@@ -7,7 +7,7 @@ ghost use Rattle.ulam_tree.specs.Ways.{NoneContainsItself};
 ghost use Rattle.atom_layout.specs.Layouts.{layout_of, first_wide};
 ghost use Rattle.ulam_types.specs.Programs.{class_sig};
 ghost use Rattle.ulam_types.specs.Well.{IsWellProgram};
-ghost use Rattle.ulam_meaning.specs.Programs.{Program, element_of};
+ghost use Rattle.ulam_meaning.specs.Programs.{Program, element_of, number_of};
 ghost use Rattle.ulam_meaning.specs.Laws.{IsLaidOut};
 ghost use Rattle.ulam_meaning.specs.Events.{behave_key};
 ghost use Rattle.code_gen.specs.Pieces.{Key, Piece};
@@ -21,6 +21,7 @@ ghost use Rattle.code_gen.specs.Named.{IsNamedProgram, HasBehave};
 ghost use Rattle.code_gen.specs.Compiled.{element_code, IsCompiled};
 ghost use Rattle.code_gen.specs.Compiling.{element_codes, AreShort, IsFirstLong};
 ghost use Rattle.code_gen.specs.Laws.{IsReady, IsRight};
+ghost use Rattle.code_gen.specs.Means.{Means};
 
 /// If the functions of a program are ready and the limits let the code of an element through, this
 /// code is valid, and on each window and seed it has the window and the ending of its functions.
@@ -45,6 +46,13 @@ pub fn compiled()
     ensures kinds { (g : Program) (c : ℕ) → IsWellProgram g.classes → IsNamedProgram g → IsLaidOut g → HasBehave g c → IsKinded g c }
     ensures ready { (g : Program) (c : ℕ) → IsKinded g c → IsReady (draft_of g) (behave_key g c) }
     ensures compiled { (g : Program) (kind c : ℕ) → IsKinded g c → IsShort (draft_of g) (behave_key g c) → IsCompiled g kind c }
+{}
+
+/// If the trees of a program have the right kinds and the limits let the code of an element
+/// through, this code leaves on each window whose centre has the element's type, and each seed, the
+/// window that the element leaves, and fails if the element fails, with its number.
+pub fn same_meaning()
+    ensures { (program : Program) (class : ℕ) (element : typed.Class) → slice_get program.classes class ≡ Some element → element.quark ≡ false → IsKinded program class → IsShort (draft_of program) (behave_key program class) → Means program class (element_code program (number_of program class) class) }
 {}
 
 /// The limits let the code of each element of a program through, or there is a first element whose

@@ -9,7 +9,6 @@ mod calls;
 mod classes;
 mod depth;
 mod element;
-mod element_law;
 mod elements;
 mod emit;
 mod expr;
@@ -29,9 +28,8 @@ mod statement;
 mod trees;
 
 pub use element::build;
-pub use element_law::same_meaning;
 pub use elements::compile;
 pub use fault::GenFault;
-pub use law::{codes_in_order, compiled, depths, one_compiling, right};
+pub use law::{codes_in_order, compiled, depths, one_compiling, right, same_meaning};
 pub use piece::{Key, Piece};
 pub use source::{Head, Source};

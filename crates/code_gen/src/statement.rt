@@ -9,7 +9,7 @@ ghost use Rattle.code_gen.specs.Views.{piece_of};
 use crate::classes::Scene;
 use crate::expr::expr;
 use crate::make;
-use crate::parts::{around, assign_value, cond, count, declare, does, give_back};
+use crate::parts::{self, around, assign_value, count, declare, does, give_back};
 use crate::piece::Piece;
 use feast_base::NoMemory;
 use std::alloc::Global;
@@ -23,12 +23,8 @@ fn statement(alloc: Global, scene: &Scene, one: &Statement) -> Result<Piece, NoM
     match one {
         Statement::Block { body: list } => body(alloc, scene, list.as_slice()),
         Statement::Nothing => Ok(Piece::Nothing),
-        Statement::If {
-            cond: asked,
-            yes,
-            no,
-        } => {
-            let asked = cond(alloc, scene, asked)?;
+        Statement::If { cond, yes, no } => {
+            let asked = parts::cond(alloc, scene, cond)?;
             let yes = statement(alloc, scene, yes)?;
             let choice = choice(alloc, scene, no, yes)?;
             make::seq(alloc, asked, choice)

@@ -1,5 +1,5 @@
 -- How many attempts a plan has, and which.
-use Rattle.std.proofs.Common.{ℕ, zero, suc, ◌≡◌, ◌+◌, ◌*◌, ◌<◌, ◌≤◌, Bool, true, false, List, [], ◌∷◌, ◌++◌, sym, ap, ◌∙◌, arith, map, take, get_or, length}
+use Rattle.std.proofs.Common.{ℕ, zero, suc, ◌≡◌, ◌+◌, ◌*◌, ◌<◌, ◌≤◌, Bool, true, false, List, [], ◌∷◌, ◌++◌, sym, ap, ◌∙◌, arith, map, take, get_or, length, Some}
 use Rattle.std.specs.Prelude.{not, filter, if◌then◌else◌, sum_by, slice_index_or}
 use Rattle.std.proofs.lemmas.List.{take_all, take_more, length-append}
 use Rattle.std.proofs.lemmas.List.Elements.{filter-append}
@@ -9,7 +9,7 @@ use Rattle.std.proofs.lemmas.List.Sums.{get_or-le-sum_by}
 use Rattle.draw_stream.specs.declared.attempt.Attempt.{Attempt}
 use Rattle.draw_stream.specs.Words.{tile_state}
 use Rattle.draw_stream.specs.Attempts.{attempt_at, stream_seed, seeded_attempts, next_attempts}
-use Rattle.draw_stream.specs.Plans.{PlanValue, IsPlan, attempts, tiles_on, count_of, seeded, seeded_lists}
+use Rattle.draw_stream.specs.Plans.{PlanValue, IsPlan, attempts, tiles_on, count_of, seeded, seeded_lists, TakesNext}
 use Rattle.draw_stream.proofs.Places.{next_attempts-at}
 
 pub length_seeded_attempts : (seed count sites tile : ℕ) → length (seeded_attempts seed count sites tile) ≡ count
@@ -83,3 +83,12 @@ count_few seed count off sites tile h lt =
     let e : length (attempts (seeded seed count off sites) tile) ≡ count_of count off tile =
     ap length (seeded_lists_at seed count off sites tile lt) ∙ length_seeded_attempts seed (count_of count off tile) sites tile in
     omega arith
+
+-- what is taken from attempts is the first
+pub taken_first : (l m : List Attempt) (a : Attempt) → TakesNext l (Some a) m → l ≡ a ∷ m
+taken_first [] m a t = let u = t.0 in cc
+taken_first (x ∷ rest) m a t = let u = t.0 in let v = t.1 in cc
+
+-- a stand-in for an attempt that does not exist
+abbrev pub no_attempt : Attempt
+no_attempt = record { centre = 0; seed = 0 }

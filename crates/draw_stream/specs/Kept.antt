@@ -23,9 +23,9 @@ CanGive (Seeded o) = IsSites o.sites × IsPlan (seeded o.seed o.count o.off.item
 CanGive (Scripted scripts) = IsPlan (scripted scripts.items)
 
 -- the attempts that are left
-abbrev pub left_of : Rest → List Attempt
-left_of (Drawn stream sites left) = next_attempts stream sites left
-left_of (Listed list next) = drop next list.items
+abbrev pub rest_of : Rest → List Attempt
+rest_of (Drawn stream sites left) = next_attempts stream sites left
+rest_of (Listed list next) = drop next list.items
 
 -- this many can be given
 abbrev pub CanTake : Rest → Type 0

@@ -36,9 +36,9 @@ impl Model for Attempts {
 
     ghost Value = { List Attempt };
 
-    ghost use Rattle.draw_stream.specs.Kept.{left_of, CanTake};
+    ghost use Rattle.draw_stream.specs.Kept.{rest_of, CanTake};
 
-    ghost view = { λ a. left_of a.rest };
+    ghost view = { λ a. rest_of a.rest };
 
     ghost invariant = { λ a. CanTake a.rest };
 }

@@ -7,7 +7,7 @@ use Rattle.edge_lock.specs.declared.board.Take.TheVariants.{Got, Busy}
 use Rattle.edge_lock.specs.declared.history.Access.{Access}
 use Rattle.edge_lock.specs.declared.history.Access.TheVariants.{Read, Write}
 use Rattle.edge_lock.specs.declared.history.Hold.{Hold}
-use Rattle.edge_lock.specs.EndLists.{EndLists, change_last, is_held, new_hold, refusal_of, with_access, closed_hold, last_accesses, last_shown, writes_nothing, known_value, HasNoWrite, IsHeld, IsFree, IsNew, IsHoldBelow, IsRefusalBelow, after_try, after_access, after_give, replace_at, end_lists, hold_of, with_hold}
+use Rattle.edge_lock.specs.EndLists.{EndLists, change_last, is_last_open, new_hold, refusal_of, with_access, closed_hold, last_accesses, last_shown, writes_nothing, known_value, HasNoWrite, IsHeld, IsFree, IsNew, IsHoldBelow, IsRefusalBelow, after_try, after_access, after_give, replace_at, end_lists, hold_of, with_hold}
 use Rattle.edge_lock.proofs.LastHolds.{replace_at-here, replace_at-else, is_held-snoc, last_accesses-snoc, change_last-snoc}
 use Rattle.edge_lock.proofs.HistorySteps.{all-cons, all-none, all-head, all-tail}
 
@@ -19,13 +19,13 @@ here_after f g e x is = ap (λ (h : ℕ → EndLists). h e) is ∙ replace_at-he
 pub else_after : (f g : ℕ → EndLists) (e i : ℕ) (x : EndLists) → g ≡ replace_at f e x → i ≢ e → g i ≡ f i
 else_after f g e i x is apart = ap (λ (h : ℕ → EndLists). h i) is ∙ replace_at-else f e i x apart
 
-pub is_held-change_last : (f : Hold → Hold) (hs : List Hold) → ((h : Hold) → (f h).is_open ≡ h.is_open) → is_held (change_last f hs) ≡ is_held hs
+pub is_held-change_last : (f : Hold → Hold) (hs : List Hold) → ((h : Hold) → (f h).is_open ≡ h.is_open) → is_last_open (change_last f hs) ≡ is_last_open hs
 is_held-change_last f [] k = refl
 is_held-change_last f (x ∷ []) k = k x
 is_held-change_last f (x ∷ y ∷ []) k = k y
 is_held-change_last f (x ∷ y ∷ z ∷ hs) k = is_held-change_last f (y ∷ z ∷ hs) k
 
-is_held-closed : (hs : List Hold) → is_held (change_last closed_hold hs) ≡ false
+is_held-closed : (hs : List Hold) → is_last_open (change_last closed_hold hs) ≡ false
 is_held-closed [] = refl
 is_held-closed (x ∷ []) = refl
 is_held-closed (x ∷ y ∷ []) = refl
@@ -65,13 +65,13 @@ pub new_given : (a : ℕ) (l : EndLists) → IsNew a l → IsNew a (after_give l
 new_given a l n = record { holds = below-change_last a closed_hold l.holds (λ y. refl) n.holds; refusals = n.refusals }
 
 -- what is known of registers, and whether something was written, in the open hold after each kind of call
-last_shown-append : (xs ys : List Access) (r : ℕ) (o : Option ℕ) → last_shown (xs ++ ys) r o ≡ last_shown ys r (last_shown xs r o)
+pub last_shown-append : (xs ys : List Access) (r : ℕ) (o : Option ℕ) → last_shown (xs ++ ys) r o ≡ last_shown ys r (last_shown xs r o)
 last_shown-append [] ys r o = refl
 last_shown-append (Read q v ∷ xs) ys r o = last_shown-append xs ys r (cond (eqb r q) (Some v) o)
 last_shown-append (Write q v ∷ xs) ys r o = last_shown-append xs ys r (cond (eqb r q) (Some v) o)
 
 -- the accesses of the open hold after one more
-pub last_accesses-access : (x : Access) (hs : List Hold) → is_held hs ≡ true → last_accesses (change_last (with_access x) hs) ≡ last_accesses hs ++ x ∷ []
+pub last_accesses-access : (x : Access) (hs : List Hold) → is_last_open hs ≡ true → last_accesses (change_last (with_access x) hs) ≡ last_accesses hs ++ x ∷ []
 last_accesses-access x [] held = absurd (true≢false (sym held))
 last_accesses-access x (h ∷ []) held = refl
 last_accesses-access x (h ∷ g ∷ []) held = refl

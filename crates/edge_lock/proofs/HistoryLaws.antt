@@ -8,8 +8,8 @@ use native.Mathlib.Decide.{ℕ_discrete}
 use Rattle.edge_lock.specs.declared.history.Access.{Access}
 use Rattle.edge_lock.specs.declared.history.Access.TheVariants.{Read, Write}
 use Rattle.edge_lock.specs.declared.history.Hold.{Hold}
-use Rattle.edge_lock.specs.History.{own, trace, written, value, value_after, found_value, open_hold, IsHistory}
-use Rattle.edge_lock.specs.EndLists.{is_held, last_shown}
+use Rattle.edge_lock.specs.History.{own, trace, written, register_value, value_after, found_value, open_hold, IsHistory}
+use Rattle.edge_lock.specs.EndLists.{is_last_open, last_shown}
 use Rattle.edge_lock.proofs.LastHolds.{written-append, open_hold-snoc}
 use Rattle.edge_lock.proofs.SharedHolds.{holder}
 
@@ -43,18 +43,18 @@ first_read (Write q u ∷ xs) r v e = dite (ℕ_discrete r q)
     (λ apart. let f = first_read xs r v (sym (ap (λ b. cond b None (found_value xs r)) (ne_eqb r q apart)) ∙ e) in
     record { first = Write q u ∷ f.first; rest = f.rest; is = ap (λ l. Write q u ∷ l) f.is; no_write = (apart, f.no_write) })
 
-trace-append : (hs gs : List Hold) → trace (hs ++ gs) ≡ trace hs ++ trace gs
+pub trace-append : (hs gs : List Hold) → trace (hs ++ gs) ≡ trace hs ++ trace gs
 trace-append [] gs = refl
 trace-append (h ∷ hs) gs = ap (λ l. h.accesses ++ l) (trace-append hs gs) ∙ sym (append_assoc h.accesses (trace hs) (trace gs))
 
 -- what a hold finds in a register is that register's value as the hold begins
-pub finds : {n : ℕ} (before : List Hold) (h : Hold) (after : List Hold) (r v : ℕ) → IsHistory n (before ++ h ∷ after) → found_value h.accesses r ≡ Some v → v ≡ value before r
+pub finds : {n : ℕ} (before : List Hold) (h : Hold) (after : List Hold) (r v : ℕ) → IsHistory n (before ++ h ∷ after) → found_value h.accesses r ≡ Some v → v ≡ register_value before r
 finds before h after r v i e =
     let f = first_read h.accesses r v e in
     let whole : trace (before ++ h ∷ after) ≡ (trace before ++ f.first) ++ Read r v ∷ (f.rest ++ trace after) =
     trace-append before (h ∷ after) ∙ (ap (λ l. trace before ++ (l ++ trace after)) f.is
     ∙ (ap (λ l. trace before ++ l) (append_assoc f.first (Read r v ∷ f.rest) (trace after)) ∙ sym (append_assoc (trace before) f.first (Read r v ∷ (f.rest ++ trace after))))) in
-    i.reads (trace before ++ f.first) r v (f.rest ++ trace after) whole ∙ (written-append (trace before) f.first r 0 ∙ unwritten r f.first (value before r) f.no_write)
+    i.reads (trace before ++ f.first) r v (f.rest ++ trace after) whole ∙ (written-append (trace before) f.first r 0 ∙ unwritten r f.first (register_value before r) f.no_write)
 
 -- the same of the hold at a position: the registers as it begins are those after the holds before it
 pub finds_at : {n : ℕ} (hs : List Hold) (k : ℕ) (d : Hold) (r v : ℕ) → IsHistory n hs → k < length hs → found_value (get_or hs k d).accesses r ≡ Some v → v ≡ value_after hs k r
@@ -69,7 +69,7 @@ pub record OpenIsOwn (hs : List Hold) (end : ℕ) : Type 0 where
   pub past : List Hold
   pub last : own end hs ≡ past ++ hold ∷ []
 
-pub open_is_own : {n : ℕ} (hs : List Hold) (end : ℕ) → IsHistory n hs → is_held (own end hs) ≡ true → OpenIsOwn hs end
+pub open_is_own : {n : ℕ} (hs : List Hold) (end : ℕ) → IsHistory n hs → is_last_open (own end hs) ≡ true → OpenIsOwn hs end
 open_is_own {n} hs end i held = let has = holder hs (own end hs) end i refl held in record {
   hold = has.h;
   is_open = ap open_hold has.is ∙ (open_hold-snoc has.past has.h ∙ ap (λ b. cond b (Some has.h) None) has.is_open);
@@ -79,7 +79,7 @@ open_is_own {n} hs end i held = let has = holder hs (own end hs) end i refl held
 }
 
 -- where neither end's last hold is open, nobody has the edge
-pub open_is_none : {n : ℕ} (hs : List Hold) → IsHistory n hs → is_held (own 0 hs) ≡ false → is_held (own 1 hs) ≡ false → open_hold hs ≡ None
+pub open_is_none : {n : ℕ} (hs : List Hold) → IsHistory n hs → is_last_open (own 0 hs) ≡ false → is_last_open (own 1 hs) ≡ false → open_hold hs ≡ None
 open_is_none {n} hs i low high = Rattle.edge_lock.proofs.SharedSeats.all_given hs (own 0 hs) (own 1 hs) i refl refl low high
 
 known_by : (b : Bool) (xs : List Access) (r u v : ℕ) → ((w : ℕ) → last_shown xs r (Some w) ≢ None) → last_shown xs r (cond b (Some u) (Some v)) ≢ None

@@ -9,7 +9,7 @@ use Rattle.edge_lock.specs.declared.history.Access.{Access}
 use Rattle.edge_lock.specs.declared.history.Access.TheVariants.{Read, Write}
 use Rattle.edge_lock.specs.declared.history.Hold.{Hold}
 use Rattle.edge_lock.specs.declared.history.Refusal.{Refusal}
-use Rattle.edge_lock.specs.History.{own, trace, written, value, ReadsTrue, IsAllowedAccess, open_hold, key, keys, attempts_of, IsRising, refused_attempt, IsBefore, IsAfter, IsPlaced, IsSide, IsHistory, IsEnd}
+use Rattle.edge_lock.specs.History.{own, trace, written, register_value, ReadsTrue, IsAllowedAccess, open_hold, key, keys, attempts_of, IsRising, refused_attempt, IsBefore, IsAfter, NamesHold, IsSide, IsHistory, IsEnd}
 use Rattle.edge_lock.specs.EndLists.{new_hold, refusal_of, with_access, closed_hold, IsHoldBelow, IsRefusalBelow}
 use Rattle.edge_lock.proofs.LastHolds.{trace-snoc, written-append, reads-snoc, only_last-change, only_last-more, keys-snoc, attempts-append, rising-snoc}
 
@@ -55,7 +55,7 @@ attempts_below a e (x ∷ ks) h = dite (ℕ_discrete x.0 e)
     (all-cons (λ y. y < a) x.1 (attempts_of e ks) (all-head (IsBefore e a) x ks h is) (attempts_below a e ks (all-tail (IsBefore e a) x ks h))))
     (λ apart. subst (λ b. All (λ y. y < a) (cond b (x.1 ∷ attempts_of e ks) (attempts_of e ks))) (sym (ne_eqb x.0 e apart)) (attempts_below a e ks (all-tail (IsBefore e a) x ks h)))
 
-fits_more : (ks : List (ℕ × ℕ)) (e : ℕ) (r : Refusal) (k : ℕ × ℕ) → IsPlaced ks e r → IsAfter e r.attempt k → IsPlaced (ks ++ k ∷ []) e r
+fits_more : (ks : List (ℕ × ℕ)) (e : ℕ) (r : Refusal) (k : ℕ × ℕ) → NamesHold ks e r → IsAfter e r.attempt k → NamesHold (ks ++ k ∷ []) e r
 fits_more ks e r k f later = record {
   before = f.before;
   after = f.after ++ k ∷ [];
@@ -85,7 +85,7 @@ pub side_refuses : (ks past : List (ℕ × ℕ)) (e a b : ℕ) (rs : List Refusa
 side_refuses ks past e a b rs s is below new = record {
   rise = s.rise;
   refusals_rise = subst IsRising (sym (map-append refused_attempt rs (refusal_of a b ∷ []))) (rising-snoc (map refused_attempt rs) a s.refusals_rise (all-map refused_attempt (λ x. x < a) rs new));
-  fits = All-push (IsPlaced ks e) rs (refusal_of a b) s.fits record {
+  fits = All-push (NamesHold ks e) rs (refusal_of a b) s.fits record {
     before = past;
     after = [];
     splits = is;
@@ -109,7 +109,7 @@ trace-accessed past h x = trace-snoc past (with_access x h) ∙ (sym (append_ass
 pub keys-change : (past : List Hold) (h g : Hold) → key h ≡ key g → keys (past ++ g ∷ []) ≡ keys (past ++ h ∷ [])
 keys-change past h g e = keys-snoc past g ∙ (ap (λ k. keys past ++ k ∷ []) (sym e) ∙ sym (keys-snoc past h))
 
-pub history_accesses : {n : ℕ} (past : List Hold) (h : Hold) (x : Access) → IsHistory n (past ++ h ∷ []) → ((r v : ℕ) → x ≡ Read r v → v ≡ value (past ++ h ∷ []) r) → IsAllowedAccess n x → IsHistory n (past ++ with_access x h ∷ [])
+pub history_accesses : {n : ℕ} (past : List Hold) (h : Hold) (x : Access) → IsHistory n (past ++ h ∷ []) → ((r v : ℕ) → x ≡ Read r v → v ≡ register_value (past ++ h ∷ []) r) → IsAllowedAccess n x → IsHistory n (past ++ with_access x h ∷ [])
 history_accesses {n} past h x i reads ok = let now = trace-accessed past h x in record {
   ends = subst (All IsEnd) (sym (keys-change past h (with_access x h) refl)) i.ends;
   only_last = only_last-change past h (with_access x h) i.only_last;
@@ -126,17 +126,17 @@ history_ends {n} past h i = let same : trace (past ++ closed_hold h ∷ []) ≡ 
 }
 
 -- a register after one more access
-pub value-read : (past : List Hold) (h : Hold) (q v r : ℕ) → value (past ++ with_access (Read q v) h ∷ []) r ≡ value (past ++ h ∷ []) r
-value-read past h q v r = ap (λ t. written t r 0) (trace-accessed past h (Read q v)) ∙ written-append (trace (past ++ h ∷ [])) (Read q v ∷ []) r 0
+pub register_value-read : (past : List Hold) (h : Hold) (q v r : ℕ) → register_value (past ++ with_access (Read q v) h ∷ []) r ≡ register_value (past ++ h ∷ []) r
+register_value-read past h q v r = ap (λ t. written t r 0) (trace-accessed past h (Read q v)) ∙ written-append (trace (past ++ h ∷ [])) (Read q v ∷ []) r 0
 
-pub value-write : (past : List Hold) (h : Hold) (q v r : ℕ) → value (past ++ with_access (Write q v) h ∷ []) r ≡ cond (eqb r q) v (value (past ++ h ∷ []) r)
-value-write past h q v r = ap (λ t. written t r 0) (trace-accessed past h (Write q v)) ∙ written-append (trace (past ++ h ∷ [])) (Write q v ∷ []) r 0
+pub register_value-write : (past : List Hold) (h : Hold) (q v r : ℕ) → register_value (past ++ with_access (Write q v) h ∷ []) r ≡ cond (eqb r q) v (register_value (past ++ h ∷ []) r)
+register_value-write past h q v r = ap (λ t. written t r 0) (trace-accessed past h (Write q v)) ∙ written-append (trace (past ++ h ∷ [])) (Write q v ∷ []) r 0
 
-pub value-ended : (past : List Hold) (h : Hold) (r : ℕ) → value (past ++ closed_hold h ∷ []) r ≡ value (past ++ h ∷ []) r
-value-ended past h r = ap (λ t. written t r 0) (trace-snoc past (closed_hold h) ∙ sym (trace-snoc past h))
+pub register_value-ended : (past : List Hold) (h : Hold) (r : ℕ) → register_value (past ++ closed_hold h ∷ []) r ≡ register_value (past ++ h ∷ []) r
+register_value-ended past h r = ap (λ t. written t r 0) (trace-snoc past (closed_hold h) ∙ sym (trace-snoc past h))
 
-pub value-opened : (hs : List Hold) (e a r : ℕ) → value (hs ++ new_hold e a ∷ []) r ≡ value hs r
-value-opened hs e a r = ap (λ t. written t r 0) (trace-snoc hs (new_hold e a) ∙ append-nil (trace hs))
+pub register_value-opened : (hs : List Hold) (e a r : ℕ) → register_value (hs ++ new_hold e a ∷ []) r ≡ register_value hs r
+register_value-opened hs e a r = ap (λ t. written t r 0) (trace-snoc hs (new_hold e a) ∙ append-nil (trace hs))
 
 -- the holds of one end after a change of the last one
 pub own-here : (e : ℕ) (hs : List Hold) (h : Hold) → h.end ≡ e → own e (hs ++ h ∷ []) ≡ own e hs ++ h ∷ []

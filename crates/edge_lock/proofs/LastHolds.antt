@@ -9,7 +9,7 @@ use Rattle.edge_lock.specs.declared.history.Access.TheVariants.{Read, Write}
 use Rattle.edge_lock.specs.declared.history.Hold.{Hold}
 use Rattle.edge_lock.specs.History.{trace, written, ReadsTrue, OnlyLastOpen, open_hold, key, keys, attempts_of, IsRising}
 use Rattle.edge_lock.specs.declared.board.Take.TheVariants.{Got}
-use Rattle.edge_lock.specs.EndLists.{EndLists, change_last, is_held, last_accesses, writes_nothing, new_hold, replace_at, after_try, IsHeld, HasNoWrite}
+use Rattle.edge_lock.specs.EndLists.{EndLists, change_last, is_last_open, last_accesses, writes_nothing, new_hold, replace_at, after_try, IsHeld, HasNoWrite}
 
 pub replace_at-here : (f : ℕ → EndLists) (e : ℕ) (x : EndLists) → replace_at f e x e ≡ x
 replace_at-here f e x = ap (λ b. cond b x (f e)) (eq-eqb e e refl)
@@ -17,7 +17,7 @@ replace_at-here f e x = ap (λ b. cond b x (f e)) (eq-eqb e e refl)
 pub replace_at-else : (f : ℕ → EndLists) (e i : ℕ) (x : EndLists) → i ≢ e → replace_at f e x i ≡ f i
 replace_at-else f e i x n = ap (λ b. cond b x (f i)) (ne_eqb i e n)
 
-pub is_held-snoc : (hs : List Hold) (h : Hold) → is_held (hs ++ h ∷ []) ≡ h.is_open
+pub is_held-snoc : (hs : List Hold) (h : Hold) → is_last_open (hs ++ h ∷ []) ≡ h.is_open
 is_held-snoc [] h = refl
 is_held-snoc (x ∷ []) h = refl
 is_held-snoc (x ∷ y ∷ hs) h = is_held-snoc (y ∷ hs) h
@@ -54,16 +54,16 @@ ends_open [] h e = absurd (none-some h e)
 ends_open (x ∷ []) h e = let p = if_open x.is_open x h e in (record { past = []; is = ap (λ y. y ∷ []) p.1 }, subst (λ (y : Hold). y.is_open ≡ true) p.1 p.0)
 ends_open (x ∷ y ∷ hs) h e = let r = ends_open (y ∷ hs) h e in (record { past = x ∷ r.0.past; is = ap (λ l. x ∷ l) r.0.is }, r.1)
 
-pub none_or_held : (hs : List Hold) → ((open_hold hs ≡ None) × (is_held hs ≡ false)) ⊎ ((h : Hold) × (open_hold hs ≡ Some h) × (is_held hs ≡ true))
+pub none_or_held : (hs : List Hold) → ((open_hold hs ≡ None) × (is_last_open hs ≡ false)) ⊎ ((h : Hold) × (open_hold hs ≡ Some h) × (is_last_open hs ≡ true))
 none_or_held [] = inl (refl, refl)
 none_or_held (x ∷ []) = one x x.is_open refl
   where
-    one : (x : Hold) (b : Bool) → x.is_open ≡ b → ((open_hold (x ∷ []) ≡ None) × (is_held (x ∷ []) ≡ false)) ⊎ ((h : Hold) × (open_hold (x ∷ []) ≡ Some h) × (is_held (x ∷ []) ≡ true))
+    one : (x : Hold) (b : Bool) → x.is_open ≡ b → ((open_hold (x ∷ []) ≡ None) × (is_last_open (x ∷ []) ≡ false)) ⊎ ((h : Hold) × (open_hold (x ∷ []) ≡ Some h) × (is_last_open (x ∷ []) ≡ true))
     one x true e = inr (x, ap (λ b. cond b (Some x) None) e, e)
     one x false e = inl (ap (λ b. cond b (Some x) None) e, e)
 none_or_held (x ∷ y ∷ hs) = none_or_held (y ∷ hs)
 
-pub ends_held : (hs : List Hold) → is_held hs ≡ true → (h : Hold) × Ends hs h × (h.is_open ≡ true)
+pub ends_held : (hs : List Hold) → is_last_open hs ≡ true → (h : Hold) × Ends hs h × (h.is_open ≡ true)
 ends_held [] e = absurd (true≢false (sym e))
 ends_held (x ∷ []) e = (x, record { past = []; is = refl }, e)
 ends_held (x ∷ y ∷ hs) e = let r = ends_held (y ∷ hs) e in (r.0, record { past = x ∷ r.1.past; is = ap (λ l. x ∷ l) r.1.is }, r.2)

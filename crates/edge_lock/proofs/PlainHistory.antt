@@ -9,8 +9,8 @@ use mathlib.Core.Logic.{dite}
 use native.Mathlib.Decide.{ℕ_discrete}
 use Rattle.edge_lock.specs.declared.history.Access.TheVariants.{Read, Write}
 use Rattle.edge_lock.specs.declared.history.Hold.{Hold}
-use Rattle.edge_lock.specs.History.{own, value, open_hold}
-use Rattle.edge_lock.specs.EndLists.{is_held, change_last, new_hold, with_access, closed_hold, IsFree}
+use Rattle.edge_lock.specs.History.{own, register_value, open_hold}
+use Rattle.edge_lock.specs.EndLists.{is_last_open, change_last, new_hold, with_access, closed_hold, IsFree}
 use Rattle.edge_lock.specs.PlainEdges.{PlainEdgeValue, own_lists}
 use Rattle.edge_lock.specs.PlainBoard.{PlainBoardValue, no_edge, edge_at, size_of, sizes_of_board, untouched_edge, end_on, lists_on, Call, tries, reads, writes, gives, MayCall, tried_at, effect_of, Moved, stays, goes}
 use Rattle.edge_lock.proofs.LastHolds.{is_held-snoc, change_last-snoc}
@@ -37,8 +37,8 @@ record GoesFrom (s t : Seen) : Type 0 where
   from_free : IsFree (own_lists s.0 s.1) → Since s.1.holds (own s.0 s.1.holds) t.1.holds (own t.0 t.1.holds)
   from_held : (past : List Hold) (h : Hold) → s.1.holds ≡ past ++ h ∷ [] → h.end ≡ s.0 → h.is_open ≡ true → Since past (own s.0 past) t.1.holds (own t.0 t.1.holds)
 
-no_hold_left : (e : ℕ) (past : List Hold) (h : Hold) (x : PlainEdgeValue) → x.holds ≡ past ++ h ∷ [] → h.end ≡ e → h.is_open ≡ true → is_held (own e x.holds) ≡ true
-no_hold_left e past h x is end is_open = ap (λ l. is_held (own e l)) is ∙ (ap is_held (own-here e past h end) ∙ (is_held-snoc (own e past) h ∙ is_open))
+no_hold_left : (e : ℕ) (past : List Hold) (h : Hold) (x : PlainEdgeValue) → x.holds ≡ past ++ h ∷ [] → h.end ≡ e → h.is_open ≡ true → is_last_open (own e x.holds) ≡ true
+no_hold_left e past h x is end is_open = ap (λ l. is_last_open (own e l)) is ∙ (ap is_last_open (own-here e past h end) ∙ (is_held-snoc (own e past) h ∙ is_open))
 
 -- the hold that comes first in what follows
 since_more : (past mine holds own_holds : List Hold) (h : Hold) → Since (past ++ h ∷ []) (mine ++ h ∷ []) holds own_holds → Since past mine holds own_holds
@@ -50,14 +50,14 @@ since_more past mine holds own_holds h s = record {
 
 -- one call, and what follows it
 module _ (e : ℕ) (x : PlainEdgeValue) (t : Seen) where
-  changed_one : (f : Hold → Hold) (y : PlainEdgeValue) → y.holds ≡ change_last f x.holds → ((h : Hold) → (f h).end ≡ h.end) → ((h : Hold) → (f h).is_open ≡ h.is_open) → is_held (own e x.holds) ≡ true
+  changed_one : (f : Hold → Hold) (y : PlainEdgeValue) → y.holds ≡ change_last f x.holds → ((h : Hold) → (f h).end ≡ h.end) → ((h : Hold) → (f h).is_open ≡ h.is_open) → is_last_open (own e x.holds) ≡ true
       → GoesFrom (e, y) t → GoesFrom (e, x) t
   changed_one f y now keeps_end keeps_open held g = record {
     from_free = λ free. absurd (true≢false (sym held ∙ free));
     from_held = λ past h is end is_open. g.from_held past (f h) (now ∙ (ap (change_last f) is ∙ change_last-snoc f past h)) (keeps_end h ∙ end) (keeps_open h ∙ is_open);
   }
 
-  given_one : (y : PlainEdgeValue) → y.holds ≡ change_last closed_hold x.holds → is_held (own e x.holds) ≡ true → GoesFrom (e, y) t → GoesFrom (e, x) t
+  given_one : (y : PlainEdgeValue) → y.holds ≡ change_last closed_hold x.holds → is_last_open (own e x.holds) ≡ true → GoesFrom (e, y) t → GoesFrom (e, x) t
   given_one y now held g = record {
     from_free = λ free. absurd (true≢false (sym held ∙ free));
     from_held = λ past h is end is_open.
@@ -65,7 +65,7 @@ module _ (e : ℕ) (x : PlainEdgeValue) (t : Seen) where
         let there : y.holds ≡ past ++ shut ∷ [] = now ∙ (ap (change_last closed_hold) is ∙ change_last-snoc closed_hold past h) in
         let mine : own e y.holds ≡ own e past ++ shut ∷ [] = ap (own e) there ∙ own-here e past shut end in
         since_more past (own e past) t.1.holds (own t.0 t.1.holds) shut
-        (subst (λ (p : List Hold × List Hold). Since p.0 p.1 t.1.holds (own t.0 t.1.holds)) (λ i. (there i, mine i)) (g.from_free (ap is_held mine ∙ is_held-snoc (own e past) shut)));
+        (subst (λ (p : List Hold × List Hold). Since p.0 p.1 t.1.holds (own t.0 t.1.holds)) (λ i. (there i, mine i)) (g.from_free (ap is_last_open mine ∙ is_held-snoc (own e past) shut)));
   }
 
   tried_one : (a : ℕ) (o : Option Hold) → IsFree (own_lists e x) → GoesFrom (e, tried_at o e a x) t → GoesFrom (e, x) t
@@ -80,7 +80,7 @@ module _ (e : ℕ) (x : PlainEdgeValue) (t : Seen) where
 
   called : (call : Call) → MayCall e call x → GoesFrom (e, effect_of e call x) t → GoesFrom (e, x) t
   called (tries a) can g = tried_one a (open_hold x.holds) can.0 g
-  called (reads r) can g = changed_one (with_access (Read r (value x.holds r))) (effect_of e (reads r) x) refl (λ h. refl) (λ h. refl) can.0 g
+  called (reads r) can g = changed_one (with_access (Read r (register_value x.holds r))) (effect_of e (reads r) x) refl (λ h. refl) (λ h. refl) can.0 g
   called (writes r v) can g = changed_one (with_access (Write r v)) (effect_of e (writes r v) x) refl (λ h. refl) (λ h. refl) can.0 g
   called gives can g = given_one (effect_of e gives x) refl can g
 

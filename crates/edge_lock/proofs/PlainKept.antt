@@ -7,7 +7,7 @@ use native.Mathlib.Decide.{ℕ_discrete}
 use Rattle.edge_lock.specs.declared.board.Take.TheVariants.{Got, Busy}
 use Rattle.edge_lock.specs.declared.history.Access.TheVariants.{Read, Write}
 use Rattle.edge_lock.specs.declared.history.Hold.{Hold}
-use Rattle.edge_lock.specs.History.{own, value, open_hold, key, keys, site_count, IsHistory}
+use Rattle.edge_lock.specs.History.{own, register_value, open_hold, key, keys, site_count, IsHistory}
 use Rattle.edge_lock.specs.EndLists.{change_last, with_access, closed_hold, IsHeld}
 use Rattle.edge_lock.specs.PlainEdges.{PlainEdgeValue, plain_view, own_lists, view_of, plain_view_after_change, IsKept}
 use Rattle.edge_lock.specs.PlainBoard.{PlainBoardValue, edge_at, end_of, is_end, end_on, lists_of_tile, Call, tries, reads, writes, gives, MayCall, tried_at, effect_of, Moved, stays, goes}
@@ -31,8 +31,8 @@ kept_effect e (tries a) x end k can = by (open_hold x.holds) refl
     by None free = takes e a (view_of x) end k free can.1.holds can.1.refusals
     by (Some h) is_open = let o = other x.holds e h k.holds end can.0 is_open in let who = o.end in
         refuses e a h.attempt (keys o.past) (view_of x) end k (ap keys o.is ∙ (keys-snoc o.past h ∙ ap (λ n. keys o.past ++ (n, h.attempt) ∷ []) who)) can.1.holds can.1.refusals
-kept_effect e (reads r) x end k can = kept_last e x (with_access (Read r (value x.holds r))) k can.0 (λ h. refl)
-    (λ past h is i. history_accesses past h (Read r (value x.holds r)) i (λ p v same. let a : r ≡ p = cc in let b : value x.holds r ≡ v = cc in sym b ∙ (ap (λ l. value l r) is ∙ ap (value (past ++ h ∷ [])) a)) tt)
+kept_effect e (reads r) x end k can = kept_last e x (with_access (Read r (register_value x.holds r))) k can.0 (λ h. refl)
+    (λ past h is i. history_accesses past h (Read r (register_value x.holds r)) i (λ p v same. let a : r ≡ p = cc in let b : register_value x.holds r ≡ v = cc in sym b ∙ (ap (λ l. register_value l r) is ∙ ap (register_value (past ++ h ∷ [])) a)) tt)
 kept_effect e (writes r v) x end k can = kept_last e x (with_access (Write r v)) k can.0 (λ h. refl) (λ past h is i. history_accesses past h (Write r v) i (λ p w same. absurd (cc)) can.2)
 kept_effect e gives x end k can = kept_last e x closed_hold k can (λ h. refl) (λ past h is i. history_ends past h i)
 
@@ -42,7 +42,7 @@ other_effect e (tries a) x end k can = by (open_hold x.holds)
     by : (o : Option Hold) → own_lists (1 - e) (tried_at o e a x) ≡ own_lists (1 - e) x
     by None = other_tried e a Got x end
     by (Some h) = other_tried e a (Busy h.attempt) x end
-other_effect e (reads r) x end k can = other_changed e (with_access (Read r (value x.holds r))) x end (λ h. refl) k can.0
+other_effect e (reads r) x end k can = other_changed e (with_access (Read r (register_value x.holds r))) x end (λ h. refl) k can.0
 other_effect e (writes r v) x end k can = other_changed e (with_access (Write r v)) x end (λ h. refl) k can.0
 other_effect e gives x end k can = other_changed e closed_hold x end (λ h. refl) k can
 

@@ -8,7 +8,7 @@ use Rattle.edge_lock.specs.declared.board.Take.TheVariants.{Got, Busy}
 use Rattle.edge_lock.specs.declared.history.Access.TheVariants.{Read, Write}
 use Rattle.edge_lock.specs.declared.history.Hold.{Hold}
 use Rattle.edge_lock.specs.declared.history.Refusal.{Refusal}
-use Rattle.edge_lock.specs.History.{own, value, open_hold}
+use Rattle.edge_lock.specs.History.{own, register_value, open_hold}
 use Rattle.edge_lock.specs.EndLists.{EndLists, end_lists, change_last, new_hold, refusal_of, with_access, closed_hold, after_try, replace_at, IsFree}
 use Rattle.edge_lock.specs.PlainEdges.{PlainEdgeValue, own_lists, view_of, IsKept, IsAnswer}
 use Rattle.edge_lock.specs.PlainBoard.{PlainBoardValue, no_edge, edge_at, end_of, end_on, lists_on, Call, tries, reads, writes, gives, MayCall, tried_at, effect_of, IsCall, Moved, stays, goes}
@@ -71,7 +71,7 @@ grows_tried e a x (Some h) end = subst (Grows (own_lists e x)) (sym (own_tried e
 
 grows_effect : (e : ℕ) (call : Call) (x : PlainEdgeValue) → e < 2 → Grows (own_lists e x) (own_lists e (effect_of e call x))
 grows_effect e (tries a) x end = grows_tried e a x (open_hold x.holds) end
-grows_effect e (reads r) x end = changed_last e (with_access (Read r (value x.holds r))) x (λ h. refl)
+grows_effect e (reads r) x end = changed_last e (with_access (Read r (register_value x.holds r))) x (λ h. refl)
 grows_effect e (writes r v) x end = changed_last e (with_access (Write r v)) x (λ h. refl)
 grows_effect e gives x end = changed_last e closed_hold x (λ h. refl)
 

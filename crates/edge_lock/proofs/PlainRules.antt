@@ -16,12 +16,12 @@ use Rattle.edge_lock.specs.declared.history.Access.TheVariants.{Read, Write}
 use Rattle.edge_lock.specs.declared.history.Hold.{Hold}
 use Rattle.edge_lock.specs.declared.history.Refusal.{Refusal}
 use Rattle.edge_lock.specs.declared.plain_steps.PlainView.{PlainView}
-use Rattle.edge_lock.specs.History.{own, trace, written, value, ReadsTrue, IsAllowed, IsAllowedAccess, open_hold, key, keys, site_count, IsEnd, IsSide, IsHistory}
-use Rattle.edge_lock.specs.EndLists.{end_lists, new_hold, refusal_of, with_access, closed_hold, change_last, is_held, IsHoldBelow, IsRefusalBelow, last_accesses, last_shown, Shows, known_value, after_try, IsFree, IsHeld}
+use Rattle.edge_lock.specs.History.{own, trace, written, register_value, ReadsTrue, IsAllowed, IsAllowedAccess, open_hold, key, keys, site_count, IsEnd, IsSide, IsHistory}
+use Rattle.edge_lock.specs.EndLists.{end_lists, new_hold, refusal_of, with_access, closed_hold, change_last, is_last_open, IsHoldBelow, IsRefusalBelow, last_accesses, last_shown, Shows, known_value, after_try, IsFree, IsHeld}
 use Rattle.edge_lock.specs.SharedRule.{lock_word, attempt_in}
 use Rattle.edge_lock.specs.PlainEdges.{plain_view, IsKept, Agrees, IsPlain, with_refusal, end_in, PlainTries, plain_view_after_change, PlainReads, PlainWrites, PlainGives, PlainTells, PlainEdgeValue, view_of, own_lists, edge_after_try, with_view, IsAnswer}
 use Rattle.edge_lock.proofs.LastHolds.{open_hold-snoc, ends_open, is_held-snoc, keys-snoc, none_or_held, change_last-snoc, last_accesses-snoc, trace-snoc}
-use Rattle.edge_lock.proofs.HistorySteps.{all-last, own_below, side_takes, side_stays, side_refuses, history_takes, history_accesses, history_ends, keys-change, value-opened, value-read, value-write, value-ended, own-here, own-there}
+use Rattle.edge_lock.proofs.HistorySteps.{all-last, own_below, side_takes, side_stays, side_refuses, history_takes, history_accesses, history_ends, keys-change, register_value-opened, register_value-read, register_value-write, register_value-ended, own-here, own-there}
 use Rattle.edge_lock.proofs.SharedHolds.{holder, same_word, shows_value, allowed_value}
 use Rattle.edge_lock.proofs.SharedSeats.{at_inside, side_none, history_none}
 
@@ -78,14 +78,14 @@ pub record Other (hs : List Hold) (e : ℕ) (h : Hold) : Type 0 where
   pub is : hs ≡ past ++ h ∷ []
   pub end : h.end ≡ 1 - e
 
-pub other : {n : ℕ} (hs : List Hold) (e : ℕ) (h : Hold) → IsHistory n hs → e < 2 → is_held (own e hs) ≡ false → open_hold hs ≡ Some h → Other hs e h
+pub other : {n : ℕ} (hs : List Hold) (e : ℕ) (h : Hold) → IsHistory n hs → e < 2 → is_last_open (own e hs) ≡ false → open_hold hs ≡ Some h → Other hs e h
 other hs e h i end shut is_open =
     let last = ends_open hs h is_open in let past = last.0.past in let is = last.0.is in
-    let not_own : h.end ≢ e = λ same. true≢false (sym last.1 ∙ (sym (is_held-snoc (own e past) h) ∙ (ap is_held (sym (own-here e past h same) ∙ ap (own e) (sym is)) ∙ shut))) in
+    let not_own : h.end ≢ e = λ same. true≢false (sym last.1 ∙ (sym (is_held-snoc (own e past) h) ∙ (ap is_last_open (sym (own-here e past h same) ∙ ap (own e) (sym is)) ∙ shut))) in
     let bound : h.end < 2 = all-last IsEnd (keys past) (key h) (subst (All IsEnd) (ap keys is ∙ keys-snoc past h) i.ends) in
     record { past = past; is = is; end = omega arith }
 
-pub tries : (size slots id e a w : ℕ) (me : M) → me.1 ≡ [] → e < 2 → w ≡ 1 + 2 * a + e → is_held (own e me.0.holds) ≡ false → All (IsHoldBelow a) (own e me.0.holds) → All (IsRefusalBelow a) (cond (eqb e 0) me.0.low me.0.high)
+pub tries : (size slots id e a w : ℕ) (me : M) → me.1 ≡ [] → e < 2 → w ≡ 1 + 2 * a + e → is_last_open (own e me.0.holds) ≡ false → All (IsHoldBelow a) (own e me.0.holds) → All (IsRefusalBelow a) (cond (eqb e 0) me.0.low me.0.high)
     → Allows (IsPlain size) slots id me 1 (λ n. either (eqb n 0) w n) (PlainTries (step slots 1 0 w none) me)
 tries size slots id e a w me bare end word shut new news s r _ at _ =
     let v : PlainView = me.0 in let agrees = r.agrees id v at in let n : ℕ = get_or s.words 1 0 in let found = agrees.lock in let long = agrees.long in
@@ -104,14 +104,14 @@ tries size slots id e a w me bare end word shut new news s r _ at _ =
       ),
     ) in
     ⊎_elim
-    (λ (f : (open_hold v.holds ≡ None) × (is_held v.holds ≡ false)). let is_zero : n ≡ 0 = found ∙ ap lock_word f.0 in
+    (λ (f : (open_hold v.holds ≡ None) × (is_last_open v.holds ≡ false)). let is_zero : n ≡ 0 = found ∙ ap lock_word f.0 in
     told true (eq-eqb n 0 is_zero) record {
       history = takes e a v end agrees.history f.0 new news;
       long = length-set s.words 1 w ∙ long;
       lock = get_or-set_same s.words 1 w 0 (omega arith) ∙ (word ∙ ap lock_word (sym (open_hold-snoc v.holds (new_hold e a))));
-      registers = λ k l. get_or-set_other s.words 1 (3 + k) w 0 (λ h. omega arith) ∙ (agrees.registers k l ∙ sym (value-opened v.holds e a k));
+      registers = λ k l. get_or-set_other s.words 1 (3 + k) w 0 (λ h. omega arith) ∙ (agrees.registers k l ∙ sym (register_value-opened v.holds e a k));
     })
-    (λ (f : (h : Hold) × (open_hold v.holds ≡ Some h) × (is_held v.holds ≡ true)).
+    (λ (f : (h : Hold) × (open_hold v.holds ≡ Some h) × (is_last_open v.holds ≡ true)).
     let h = f.0 in let is : n ≡ 1 + 2 * h.attempt + h.end = found ∙ ap lock_word f.1 in let some_word : n ≢ 0 = λ z. omega arith in
     let o = other v.holds e h agrees.history.holds end shut f.1 in let who = o.end in let that : h.attempt ≡ attempt_in n = omega arith in
     let same = same_holds e (refusal_of a (attempt_in n)) v in
@@ -119,7 +119,7 @@ tries size slots id e a w me bare end word shut new news s r _ at _ =
       history = refuses e a (attempt_in n) (keys o.past) v end agrees.history (ap keys o.is ∙ (keys-snoc o.past h ∙ ap (λ k. keys o.past ++ k ∷ []) (λ i. (who i, that i)))) new news;
       long = length-set s.words 1 n ∙ long;
       lock = get_or-set_same s.words 1 n 0 (omega arith) ∙ (found ∙ ap (λ l. lock_word (open_hold l)) (sym same));
-      registers = λ k l. get_or-set_other s.words 1 (3 + k) n 0 (λ h. omega arith) ∙ (agrees.registers k l ∙ ap (λ t. value t k) (sym same));
+      registers = λ k l. get_or-set_other s.words 1 (3 + k) n 0 (λ h. omega arith) ∙ (agrees.registers k l ∙ ap (λ t. register_value t k) (sym same));
     })
     (none_or_held v.holds)
 
@@ -131,7 +131,7 @@ kept_change v past h g k is same i = let ks = ap keys is ∙ sym (keys-change pa
 }
 
 -- one step of the end e, which has the edge
-module _ (size slots id e : ℕ) (me : M) (bare : me.1 ≡ []) (held : is_held (own e me.0.holds) ≡ true) where
+module _ (size slots id e : ℕ) (me : M) (bare : me.1 ≡ []) (held : is_last_open (own e me.0.holds) ≡ true) where
   abbrev v : PlainView
   v = me.0
 
@@ -150,19 +150,19 @@ module _ (size slots id e : ℕ) (me : M) (bare : me.1 ≡ []) (held : is_held (
       let agrees = r.agrees id v at in let n : ℕ = get_or s.words (3 + q) 0 in let words = set-get_or s.words (3 + q) 0 in let back : q ≡ (3 + q) - 3 = omega arith in
       let has = holder v.holds (own e v.holds) e agrees.history.holds refl held in let past = has.past in let h = has.h in
       let old : IsHistory (site_count v.registers) (past ++ h ∷ []) = subst (IsHistory (site_count v.registers)) has.is agrees.history.holds in
-      let found : n ≡ value (past ++ h ∷ []) q = agrees.registers q inside ∙ ap (λ l. value l q) has.is in
+      let found : n ≡ register_value (past ++ h ∷ []) q = agrees.registers q inside ∙ ap (λ l. register_value l q) has.is in
       let f : Hold → Hold = with_access (Read q n) in
       let p = turned s r at (3 + q) n f past h has.is record {
-        history = kept_change v past h (f h) agrees.history has.is refl (history_accesses past h (Read q n) old (λ x y e. let a : q ≡ x = cc in let b : n ≡ y = cc in sym b ∙ (found ∙ ap (value (past ++ h ∷ [])) a)) tt);
+        history = kept_change v past h (f h) agrees.history has.is refl (history_accesses past h (Read q n) old (λ x y e. let a : q ≡ x = cc in let b : n ≡ y = cc in sym b ∙ (found ∙ ap (register_value (past ++ h ∷ [])) a)) tt);
         long = ap length words ∙ agrees.long;
         lock = ap (λ l. get_or l 1 0) words ∙ (agrees.lock ∙ (ap (λ l. lock_word (open_hold l)) has.is ∙ sym (same_word past h (Read q n))));
-        registers = λ k l. ap (λ t. get_or t (3 + k) 0) words ∙ (agrees.registers k l ∙ (ap (λ t. value t k) has.is ∙ sym (value-read past h q n k)));
+        registers = λ k l. ap (λ t. get_or t (3 + k) 0) words ∙ (agrees.registers k l ∙ (ap (λ t. register_value t k) has.is ∙ sym (register_value-read past h q n k)));
       } in (
         plain_view_after_change (with_access (Read ((3 + q) - 3) n)) v,
         keeps,
         tt,
         subst (λ y. IsPlain size (stepped s (3 + q) n id me.1 (plain_view_after_change (with_access (Read y n)) v) keeps)) back p.0,
-        (refl, ap (λ y. get_or s.words (3 + y) 0) refl ∙ (agrees.registers q inside ∙ ap (value v.holds) back), subst (λ y. IsKept (plain_view_after_change (with_access (Read y n)) v)) back p.1),
+        (refl, ap (λ y. get_or s.words (3 + y) 0) refl ∙ (agrees.registers q inside ∙ ap (register_value v.holds) back), subst (λ y. IsKept (plain_view_after_change (with_access (Read y n)) v)) back p.1),
       ))
 
   pub writes : (q w x : ℕ) → q < size → IsAllowed (site_count v.registers) q x → w ≡ q + 3 → Allows (IsPlain size) slots id me w (λ _. x) (λ _. PlainWrites (step slots w x 0 none) me x)
@@ -177,8 +177,8 @@ module _ (size slots id e : ℕ) (me : M) (bare : me.1 ≡ []) (held : is_held (
         long = length-set s.words (3 + q) x ∙ long;
         lock = get_or-set_other s.words (3 + q) 1 x 0 (λ h. omega arith) ∙ (agrees.lock ∙ (ap (λ l. lock_word (open_hold l)) has.is ∙ sym (same_word past h (Write q x))));
         registers = λ k l. dite (ℕ_discrete k q)
-            (λ same. ap (λ y. get_or (set s.words (3 + q) x) (3 + y) 0) same ∙ (get_or-set_same s.words (3 + q) x 0 (omega arith) ∙ (ap (λ b. cond b x (value (past ++ h ∷ []) k)) (sym (eq-eqb k q same)) ∙ sym (value-write past h q x k))))
-            (λ apart. get_or-set_other s.words (3 + q) (3 + k) x 0 (λ h. apart (omega arith)) ∙ (agrees.registers k l ∙ (ap (λ t. value t k) has.is ∙ (ap (λ b. cond b x (value (past ++ h ∷ []) k)) (sym (ne_eqb k q apart)) ∙ sym (value-write past h q x k)))));
+            (λ same. ap (λ y. get_or (set s.words (3 + q) x) (3 + y) 0) same ∙ (get_or-set_same s.words (3 + q) x 0 (omega arith) ∙ (ap (λ b. cond b x (register_value (past ++ h ∷ []) k)) (sym (eq-eqb k q same)) ∙ sym (register_value-write past h q x k))))
+            (λ apart. get_or-set_other s.words (3 + q) (3 + k) x 0 (λ h. apart (omega arith)) ∙ (agrees.registers k l ∙ (ap (λ t. register_value t k) has.is ∙ (ap (λ b. cond b x (register_value (past ++ h ∷ []) k)) (sym (ne_eqb k q apart)) ∙ sym (register_value-write past h q x k)))));
       } in (
         plain_view_after_change (with_access (Write ((3 + q) - 3) x)) v,
         keeps,
@@ -196,15 +196,15 @@ module _ (size slots id e : ℕ) (me : M) (bare : me.1 ≡ []) (held : is_held (
         history = kept_change v past h (closed_hold h) agrees.history has.is refl (history_ends past h old);
         long = length-set s.words 1 0 ∙ long;
         lock = get_or-set_same s.words 1 0 0 (omega arith) ∙ ap lock_word (sym (open_hold-snoc past (closed_hold h)));
-        registers = λ k l. get_or-set_other s.words 1 (3 + k) 0 0 (λ h. omega arith) ∙ (agrees.registers k l ∙ (ap (λ t. value t k) has.is ∙ sym (value-ended past h k)));
+        registers = λ k l. get_or-set_other s.words 1 (3 + k) 0 0 (λ h. omega arith) ∙ (agrees.registers k l ∙ (ap (λ t. register_value t k) has.is ∙ sym (register_value-ended past h k)));
       } in (plain_view_after_change closed_hold v, keeps, tt, p.0, (refl, p.1))
 
   -- what a read shows, of a history that is kept
-  pub shows_known : (q n : ℕ) (rs : List Refusal) → IsKept v → n ≡ value v.holds q → Shows (known_value (end_lists (own e v.holds) rs) q) n × IsAllowed (site_count v.registers) q n
+  pub shows_known : (q n : ℕ) (rs : List Refusal) → IsKept v → n ≡ register_value v.holds q → Shows (known_value (end_lists (own e v.holds) rs) q) n × IsAllowed (site_count v.registers) q n
   shows_known q n rs k is =
       let has = holder v.holds (own e v.holds) e k.holds refl held in let all = trace-snoc has.past has.h in
       let old : IsHistory (site_count v.registers) (has.past ++ has.h ∷ []) = subst (IsHistory (site_count v.registers)) has.is k.holds in
-      let found : n ≡ written (trace has.past ++ has.h.accesses) q 0 = is ∙ (ap (λ l. value l q) has.is ∙ ap (λ t. written t q 0) all) in
+      let found : n ≡ written (trace has.past ++ has.h.accesses) q 0 = is ∙ (ap (λ l. register_value l q) has.is ∙ ap (λ t. written t q 0) all) in
       let mine_last : last_accesses (own e v.holds) ≡ has.h.accesses = ap last_accesses has.mine_is ∙ last_accesses-snoc (own e has.past) has.h in (
         subst (λ (x : List Access × ℕ). Shows (last_shown x.0 q None) x.1) (λ i. (sym mine_last i, sym found i)) (shows_value (trace has.past) has.h.accesses q None (subst ReadsTrue all old.reads) tt),
         subst (IsAllowed (site_count v.registers) q) (sym found) (allowed_value (site_count v.registers) q (trace has.past ++ has.h.accesses) 0 (subst (All (IsAllowedAccess (site_count v.registers))) all old.writes) (λ k _ _. refl)),
@@ -218,7 +218,7 @@ shows size slots id q w me bare inside word = let at_word : w ≡ 3 + q = omega 
       keeps,
       tt,
       subst (λ c. IsPlain size (stepped s (3 + q) (get_or s.words (3 + q) 0) id c v keeps)) (sym bare) (replaced size s r id (3 + q) (get_or s.words (3 + q) 0) v v at (subst (λ l. Agrees size l v) (sym words) agrees)),
-      (refl, agrees.registers q inside ∙ ap (value v.holds) back),
+      (refl, agrees.registers q inside ∙ ap (register_value v.holds) back),
     ))
 
 pub kept_none : (size : ℕ) → IsKept (plain_view size [] [] [])
@@ -237,14 +237,14 @@ opens size words is =
 -- what a try answers, by the word that it found
 pub answers_got : (e n : ℕ) (x : PlainEdgeValue) → n ≡ lock_word (open_hold x.holds) → n ≡ 0 → IsAnswer e x Got
 answers_got e n x is zero_word = ⊎_elim
-    (λ (f : (open_hold x.holds ≡ None) × (is_held x.holds ≡ false)). f.0)
-    (λ (f : (h : Hold) × (open_hold x.holds ≡ Some h) × (is_held x.holds ≡ true)). let w : n ≡ 1 + 2 * f.0.attempt + f.0.end = is ∙ ap lock_word f.1 in absurd (omega arith))
+    (λ (f : (open_hold x.holds ≡ None) × (is_last_open x.holds ≡ false)). f.0)
+    (λ (f : (h : Hold) × (open_hold x.holds ≡ Some h) × (is_last_open x.holds ≡ true)). let w : n ≡ 1 + 2 * f.0.attempt + f.0.end = is ∙ ap lock_word f.1 in absurd (omega arith))
     (none_or_held x.holds)
 
 pub answers_busy : (e n : ℕ) (x : PlainEdgeValue) → IsKept (view_of x) → e < 2 → IsFree (own_lists e x) → n ≡ lock_word (open_hold x.holds) → n ≢ 0 → IsAnswer e x (Busy (attempt_in n))
 answers_busy e n x k end free is some_word = ⊎_elim
-    (λ (f : (open_hold x.holds ≡ None) × (is_held x.holds ≡ false)). absurd (some_word (is ∙ ap lock_word f.0)))
-    (λ (f : (h : Hold) × (open_hold x.holds ≡ Some h) × (is_held x.holds ≡ true)).
+    (λ (f : (open_hold x.holds ≡ None) × (is_last_open x.holds ≡ false)). absurd (some_word (is ∙ ap lock_word f.0)))
+    (λ (f : (h : Hold) × (open_hold x.holds ≡ Some h) × (is_last_open x.holds ≡ true)).
     let h = f.0 in let w : n ≡ 1 + 2 * h.attempt + h.end = is ∙ ap lock_word f.1 in let o = other x.holds e h k.holds end free f.1 in let who = o.end in (h, f.1, who, omega arith))
     (none_or_held x.holds)
 

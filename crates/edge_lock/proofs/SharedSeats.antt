@@ -12,10 +12,10 @@ use Rattle.edge_lock.specs.declared.history.Refusal.{Refusal}
 use Rattle.edge_lock.specs.declared.edge_steps.View.{View}
 use Rattle.edge_lock.specs.declared.edge_steps.View.TheVariants.{First, Alone, Second, Paired, Joined, Settled, Spent}
 use Rattle.std.specs.Prelude.{All}
-use Rattle.edge_lock.specs.EndLists.{EndLists, is_held, IsFree}
+use Rattle.edge_lock.specs.EndLists.{EndLists, is_last_open, IsFree}
 use Rattle.edge_lock.specs.Passes.{closed_value, holds_in, low_in, high_in, IsClosed}
 use Rattle.edge_lock.proofs.LastHolds.{ends_open, is_held-snoc, keys-snoc, none_or_held}
-use Rattle.edge_lock.specs.History.{own, value, ReadsTrue, open_hold, key, keys, IsPlaced, IsEnd, IsAllowedAccess, IsSide, IsHistory}
+use Rattle.edge_lock.specs.History.{own, register_value, ReadsTrue, open_hold, key, keys, NamesHold, IsEnd, IsAllowedAccess, IsSide, IsHistory}
 use Rattle.edge_lock.specs.SharedRule.{claims_of, claims, IsPart, IsShared, Claims, both_of, BecomesWhole, Settles, Tells, low_view, high_view}
 use Rattle.edge_lock.proofs.HistorySteps.{all-none, all-last, own-here}
 use Rattle.edge_lock.proofs.SharedSteps.{S, M}
@@ -55,7 +55,7 @@ claims_bound [] = omega arith
 claims_bound (x ∷ vs) = let r = claims_bound vs in let s = claims_small x in omega arith
 
 pub side_none : (e : ℕ) → IsSide [] e []
-side_none e = record { rise = tt; refusals_rise = tt; fits = all-none (IsPlaced [] e) }
+side_none e = record { rise = tt; refusals_rise = tt; fits = all-none (NamesHold [] e) }
 
 pub history_none : {n : ℕ} → IsHistory n []
 history_none {n} = record { ends = all-none IsEnd; only_last = tt; reads = no_reads; writes = all-none (IsAllowedAccess n) }
@@ -176,7 +176,7 @@ shows size slots id q w me all rs qs is inside word = subst (λ m. Allows (IsSha
       keeps,
       tt,
       looked size s r id w v v at refl mine,
-      (refl, ap (λ y. get_or s.words y 0) at_word ∙ (r.registers q inside ∙ (ap (λ h. value h q) (sym mine.1) ∙ ap (value all) back))),
+      (refl, ap (λ y. get_or s.words y 0) at_word ∙ (r.registers q inside ∙ (ap (λ h. register_value h q) (sym mine.1) ∙ ap (register_value all) back))),
     ))
 
 pub opens : (size : ℕ) (words : List ℕ) → words ≡ replicate (3 + size) 0 → IsShared size (opening words [] (First size))
@@ -203,16 +203,16 @@ pub joins_as : (size id other : ℕ) (v w : View) (low high : List Hold) (rs qs 
 joins_as size id other v w low high rs qs is also = subst (λ (x : View × View). Joins (IsShared size) id x.0 other x.1 (both_of x.0 x.1) Spent) (λ i. (sym is i, sym also i)) (joins size id other low high rs qs)
 
 -- two ends that have no open hold: no hold is open
-pub all_given : {n : ℕ} (all low high : List Hold) → IsHistory n all → own 0 all ≡ low → own 1 all ≡ high → is_held low ≡ false → is_held high ≡ false → open_hold all ≡ None
+pub all_given : {n : ℕ} (all low high : List Hold) → IsHistory n all → own 0 all ≡ low → own 1 all ≡ high → is_last_open low ≡ false → is_last_open high ≡ false → open_hold all ≡ None
 all_given all low high i is also shut shut' =
     ⊎_elim
-    (λ (f : (open_hold all ≡ None) × (is_held all ≡ false)). f.0)
-    (λ (f : (h : Hold) × (open_hold all ≡ Some h) × (is_held all ≡ true)).
+    (λ (f : (open_hold all ≡ None) × (is_last_open all ≡ false)). f.0)
+    (λ (f : (h : Hold) × (open_hold all ≡ Some h) × (is_last_open all ≡ true)).
     let h = f.0 in let last = ends_open all h f.1 in let past = last.0.past in
     let bound : h.end < 2 = all-last IsEnd (keys past) (key h) (subst (All IsEnd) (ap keys last.0.is ∙ keys-snoc past h) i.ends) in
     absurd (dite (ℕ_discrete h.end 0)
-    (λ e. true≢false (sym last.1 ∙ (sym (is_held-snoc (own 0 past) h) ∙ (ap is_held (sym (own-here 0 past h e) ∙ (ap (own 0) (sym last.0.is) ∙ is)) ∙ shut))))
-    (λ n. let e : h.end ≡ 1 = omega arith in true≢false (sym last.1 ∙ (sym (is_held-snoc (own 1 past) h) ∙ (ap is_held (sym (own-here 1 past h e) ∙ (ap (own 1) (sym last.0.is) ∙ also)) ∙ shut'))))))
+    (λ e. true≢false (sym last.1 ∙ (sym (is_held-snoc (own 0 past) h) ∙ (ap is_last_open (sym (own-here 0 past h e) ∙ (ap (own 0) (sym last.0.is) ∙ is)) ∙ shut))))
+    (λ n. let e : h.end ≡ 1 = omega arith in true≢false (sym last.1 ∙ (sym (is_held-snoc (own 1 past) h) ∙ (ap is_last_open (sym (own-here 1 past h e) ∙ (ap (own 1) (sym last.0.is) ∙ also)) ∙ shut'))))))
     (none_or_held all)
 
 pub joined_view : (size : ℕ) (low high : M) (a b : EndLists) → low ≡ (Paired size 0 a.holds a.refusals, []) → high ≡ (Paired size 1 b.holds b.refusals, [])

@@ -10,12 +10,12 @@ use Rattle.edge_lock.specs.declared.history.Hold.{Hold}
 use Rattle.edge_lock.specs.declared.history.Refusal.{Refusal}
 use Rattle.edge_lock.specs.declared.edge_steps.View.{View}
 use Rattle.edge_lock.specs.declared.edge_steps.View.TheVariants.{First, Alone, Second, Paired, Joined, Settled, Spent}
-use Rattle.edge_lock.specs.History.{own, value, open_hold, key, keys, site_count, IsEnd, IsSide, IsHistory}
-use Rattle.edge_lock.specs.EndLists.{new_hold, refusal_of, is_held, IsHoldBelow, IsRefusalBelow, IsFree, IsNew}
+use Rattle.edge_lock.specs.History.{own, register_value, open_hold, key, keys, site_count, IsEnd, IsSide, IsHistory}
+use Rattle.edge_lock.specs.EndLists.{new_hold, refusal_of, is_last_open, IsHoldBelow, IsRefusalBelow, IsFree, IsNew}
 use Rattle.edge_lock.specs.Passes.{IsPaired}
 use Rattle.edge_lock.specs.SharedRule.{lock_word, attempt_in, claims_of, claims, IsPart, IsShared, lists_in, view_after_try, Tries}
 use Rattle.edge_lock.proofs.LastHolds.{open_hold-snoc, ends_open, is_held-snoc, keys-snoc, none_or_held}
-use Rattle.edge_lock.proofs.HistorySteps.{all-last, own_below, side_takes, side_stays, side_refuses, history_takes, value-opened, own-here, own-there}
+use Rattle.edge_lock.proofs.HistorySteps.{all-last, own_below, side_takes, side_stays, side_refuses, history_takes, register_value-opened, own-here, own-there}
 
 abbrev pub S : Type 0
 S = State (Unit {0}) View
@@ -46,7 +46,7 @@ stays_there hs gs e count id g two apart Spent s = absurd (true≢false (sym s))
 -- one end steps on the word i
 pub moved : (size : ℕ) (s : S) (r : IsShared size s) (id e i n : ℕ) (mine now : List Hold) (rs qs : List Refusal) (gs : List Hold) → get_elem? s.views id ≡ some (Paired size e mine rs)
     → GoesOn (site_count size) r.hs e gs → i ≢ 2 → get_or (set s.words i n) 1 0 ≡ lock_word (open_hold gs)
-    → ((k : ℕ) → k < size → get_or (set s.words i n) (3 + k) 0 ≡ value gs k)
+    → ((k : ℕ) → k < size → get_or (set s.words i n) (3 + k) 0 ≡ register_value gs k)
     → own e gs ≡ now → IsSide (keys gs) e qs → IsShared size (stepped s i n id [] (Paired size e now qs) keeps)
 moved size s r id e i n mine now rs qs gs at g not_claims lock registers here side =
     let mine_is = r.views id (Paired size e mine rs) at in let count = length-set s.views id (Paired size e now qs) in let long = r.long in let words = length-set s.words i n in record {
@@ -64,7 +64,7 @@ moved size s r id e i n mine now rs qs gs at g not_claims lock registers here si
           (at_set s.views id j (Paired size e now qs) v p));
     }
 
-module _ (size e a : ℕ) (mine : List Hold) (rs : List Refusal) (end : e < 2) (shut : is_held mine ≡ false) (new : All (IsHoldBelow a) mine) (news : All (IsRefusalBelow a) rs) where
+module _ (size e a : ℕ) (mine : List Hold) (rs : List Refusal) (end : e < 2) (shut : is_last_open mine ≡ false) (new : All (IsHoldBelow a) mine) (news : All (IsRefusalBelow a) rs) where
   abbrev me : M
   me = (Paired size e mine rs, [])
 
@@ -83,7 +83,7 @@ module _ (size e a : ℕ) (mine : List Hold) (rs : List Refusal) (end : e < 2) (
       }
       (λ h. omega arith)
       (get_or-set_same s.words 1 mark 0 (omega arith) ∙ ap lock_word (sym (open_hold-snoc hs (new_hold e a))))
-      (λ k l. get_or-set_other s.words 1 (3 + k) mark 0 (λ h. omega arith) ∙ (r.registers k l ∙ sym (value-opened hs e a k)))
+      (λ k l. get_or-set_other s.words 1 (3 + k) mark 0 (λ h. omega arith) ∙ (r.registers k l ∙ sym (register_value-opened hs e a k)))
       (own-here e hs (new_hold e a) refl ∙ ap (λ l. l ++ new_hold e a ∷ []) mine_is.3)
       (subst (λ ks. IsSide ks e rs) (sym now) (side_takes (keys hs) e a rs mine_is.4 below news))
 
@@ -93,7 +93,7 @@ module _ (size e a : ℕ) (mine : List Hold) (rs : List Refusal) (end : e < 2) (
       let mine_is = r.views id me.0 at in let hs = r.hs in let n : ℕ = get_or s.words 1 0 in let long = r.long in
       let last = ends_open hs h is_open in let past = last.0.past in let is = last.0.is in
       let word : n ≡ 1 + 2 * h.attempt + h.end = r.lock ∙ ap lock_word is_open in
-      let other : h.end ≢ e = λ same. true≢false (sym last.1 ∙ (sym (is_held-snoc (own e past) h) ∙ (ap is_held (sym (own-here e past h same) ∙ (ap (own e) (sym is) ∙ mine_is.3)) ∙ shut))) in
+      let other : h.end ≢ e = λ same. true≢false (sym last.1 ∙ (sym (is_held-snoc (own e past) h) ∙ (ap is_last_open (sym (own-here e past h same) ∙ (ap (own e) (sym is) ∙ mine_is.3)) ∙ shut))) in
       let bound : h.end < 2 = all-last IsEnd (keys past) (key h) (subst (All IsEnd) (ap keys is ∙ keys-snoc past h) r.history.ends) in
       let who : h.end ≡ 1 - e = omega arith in let which : h.attempt ≡ attempt_in n = omega arith in
       let below = own_below a e hs (subst (All (IsHoldBelow a)) (sym mine_is.3) new) in
@@ -111,7 +111,7 @@ module _ (size e a : ℕ) (mine : List Hold) (rs : List Refusal) (end : e < 2) (
   pub tries : (slots id : ℕ) → Allows (IsShared size) slots id me 1 (λ n. either (eqb n 0) mark n) (Tries (step slots 1 0 mark none) me)
   tries slots id s r _ at _ = let n : ℕ = get_or s.words 1 0 in
       ⊎_elim
-      (λ (f : (open_hold r.hs ≡ None) × (is_held r.hs ≡ false)). let zero_word : n ≡ 0 = r.lock ∙ ap lock_word f.0 in let hit = eq-eqb n 0 zero_word in (
+      (λ (f : (open_hold r.hs ≡ None) × (is_last_open r.hs ≡ false)). let zero_word : n ≡ 0 = r.lock ∙ ap lock_word f.0 in let hit = eq-eqb n 0 zero_word in (
         view_after_try (attempt_in mark) n me.0,
         keeps,
         tt,
@@ -119,7 +119,7 @@ module _ (size e a : ℕ) (mine : List Hold) (rs : List Refusal) (end : e < 2) (
             (gets s r id at zero_word f.0),
         refl,
       ))
-      (λ (f : (h : Hold) × (open_hold r.hs ≡ Some h) × (is_held r.hs ≡ true)). let some_word : n ≢ 0 = λ z. let w : n ≡ 1 + 2 * f.0.attempt + f.0.end = r.lock ∙ ap lock_word f.1 in omega arith in let miss = ne_eqb n 0 some_word in (
+      (λ (f : (h : Hold) × (open_hold r.hs ≡ Some h) × (is_last_open r.hs ≡ true)). let some_word : n ≢ 0 = λ z. let w : n ≡ 1 + 2 * f.0.attempt + f.0.end = r.lock ∙ ap lock_word f.1 in omega arith in let miss = ne_eqb n 0 some_word in (
         view_after_try (attempt_in mark) n me.0,
         keeps,
         tt,

@@ -33,10 +33,10 @@ change_last change (hold ∷ []) = change hold ∷ []
 change_last change (hold ∷ next ∷ holds) = hold ∷ change_last change (next ∷ holds)
 
 -- whether the last hold is open
-abbrev pub is_held : List Hold → Bool
-is_held [] = false
-is_held (hold ∷ []) = hold.is_open
-is_held (hold ∷ next ∷ holds) = is_held (next ∷ holds)
+abbrev pub is_last_open : List Hold → Bool
+is_last_open [] = false
+is_last_open (hold ∷ []) = hold.is_open
+is_last_open (hold ∷ next ∷ holds) = is_last_open (next ∷ holds)
 
 -- the accesses of the last hold
 abbrev pub last_accesses : List Hold → List Access
@@ -74,11 +74,11 @@ with_hold lists hold = end_lists (lists.holds ++ hold ∷ []) lists.refusals
 
 -- the end has the edge
 abbrev pub IsHeld : EndLists → Type 0
-IsHeld lists = is_held lists.holds ≡ true
+IsHeld lists = is_last_open lists.holds ≡ true
 
 -- the end does not have the edge
 abbrev pub IsFree : EndLists → Type 0
-IsFree lists = is_held lists.holds ≡ false
+IsFree lists = is_last_open lists.holds ≡ false
 
 abbrev pub IsHoldBelow : ℕ → Hold → Type 0
 IsHoldBelow attempt hold = hold.attempt < attempt

@@ -23,12 +23,12 @@ written (Read at value ∷ accesses) register start = written accesses register 
 written (Write at value ∷ accesses) register start = written accesses register (if register == at then value else start)
 
 -- a register after these holds; each is 0 at first
-abbrev pub value : List Hold → ℕ → ℕ
-value holds register = written (trace holds) register 0
+abbrev pub register_value : List Hold → ℕ → ℕ
+register_value holds register = written (trace holds) register 0
 
 -- a register after the first n holds
 abbrev pub value_after : List Hold → ℕ → ℕ → ℕ
-value_after holds count register = value (take count holds) register
+value_after holds count register = register_value (take count holds) register
 
 -- each read gives the last value written to its register before it, or else 0
 abbrev pub ReadsTrue : List Access → Type 0
@@ -95,7 +95,7 @@ IsAfter end attempt key = key.0 ≡ end → attempt < key.1
 
 -- A refusal names a hold of the other end. That hold lies after every hold of the refused end with a smaller attempt
 -- and before every one with a greater attempt, and no hold of the refused end has the refused attempt.
-pub record IsPlaced (keys : List (ℕ × ℕ)) (end : ℕ) (refusal : Refusal) : Type 0 where
+pub record NamesHold (keys : List (ℕ × ℕ)) (end : ℕ) (refusal : Refusal) : Type 0 where
   pub before : List (ℕ × ℕ)
   pub after : List (ℕ × ℕ)
   pub splits : keys ≡ before ++ (1 - end, refusal.holder) ∷ after
@@ -106,7 +106,7 @@ pub record IsPlaced (keys : List (ℕ × ℕ)) (end : ℕ) (refusal : Refusal) :
 pub record IsSide (keys : List (ℕ × ℕ)) (end : ℕ) (refusals : List Refusal) : Type 0 where
   pub rise : IsRising (attempts_of end keys)
   pub refusals_rise : IsRising (map refused_attempt refusals)
-  pub fits : All (IsPlaced keys end) refusals
+  pub fits : All (NamesHold keys end) refusals
 
 abbrev pub IsEnd : ℕ × ℕ → Type 0
 IsEnd key = key.0 < 2

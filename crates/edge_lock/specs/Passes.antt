@@ -62,8 +62,8 @@ abbrev pub closed_value : ℕ → View → ClosedValue
 closed_value registers view = record { registers = registers; holds = holds_in view; low = low_in view; high = high_in view }
 
 -- the seat keeps the one history
-abbrev pub IsSettled : Me (Unit {0}) View → Type 0
-IsSettled me = me ≡ (Settled (holds_in me.0) (low_in me.0) (high_in me.0), [])
+abbrev pub KeepsHistory : Me (Unit {0}) View → Type 0
+KeepsHistory me = me ≡ (Settled (holds_in me.0) (low_in me.0) (high_in me.0), [])
 
 -- at close the holds and refusals of both ends are one history, which has each end's own holds in order, and no hold is open
 pub record IsClosed (closed : ClosedValue) (lower higher : EndLists) : Type 0 where

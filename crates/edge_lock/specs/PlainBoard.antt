@@ -4,7 +4,7 @@ use Rattle.feast_base.specs.Edges.{EdgeSize, registers_of}
 use Rattle.edge_lock.specs.declared.board.Take.TheVariants.{Got, Busy}
 use Rattle.edge_lock.specs.declared.history.Access.TheVariants.{Read, Write}
 use Rattle.edge_lock.specs.declared.history.Hold.{Hold}
-use Rattle.edge_lock.specs.History.{value, open_hold, site_count, IsAllowed}
+use Rattle.edge_lock.specs.History.{register_value, open_hold, site_count, IsAllowed}
 use Rattle.edge_lock.specs.EndLists.{EndLists, IsFree, IsHeld, IsNew}
 use Rattle.edge_lock.specs.PlainEdges.{PlainEdgeValue, plain_edge_value, plain_view, own_lists, edge_after_try, edge_after_access, edge_after_give, IsKept, view_of}
 
@@ -73,7 +73,7 @@ tried_at (Some hold) end attempt edge = edge_after_try end attempt (Busy hold.at
 -- the edge after the call of an end
 abbrev pub effect_of : ℕ → Call → PlainEdgeValue → PlainEdgeValue
 effect_of end (tries attempt) edge = tried_at (open_hold edge.holds) end attempt edge
-effect_of end (reads register) edge = edge_after_access (Read register (value edge.holds register)) edge
+effect_of end (reads register) edge = edge_after_access (Read register (register_value edge.holds register)) edge
 effect_of end (writes register value) edge = edge_after_access (Write register value) edge
 effect_of end gives edge = edge_after_give edge
 

@@ -10,7 +10,7 @@ use Rattle.edge_lock.specs.declared.history.Access.TheVariants.{Read, Write}
 use Rattle.edge_lock.specs.declared.history.Hold.{Hold}
 use Rattle.edge_lock.specs.declared.history.Refusal.{Refusal}
 use Rattle.edge_lock.specs.declared.plain_steps.PlainView.{PlainView}
-use Rattle.edge_lock.specs.History.{own, value, open_hold, site_count, IsEdgeHistory}
+use Rattle.edge_lock.specs.History.{own, register_value, open_hold, site_count, IsEdgeHistory}
 use Rattle.edge_lock.specs.EndLists.{EndLists, end_lists, new_hold, refusal_of, with_access, closed_hold, change_last}
 use Rattle.edge_lock.specs.SharedRule.{lock_word, attempt_in}
 
@@ -26,7 +26,7 @@ pub record Agrees (registers_count : ℕ) (words : List ℕ) (view : PlainView) 
   pub history : IsKept view
   pub long : length words ≡ 3 + registers_count
   pub lock : slice_index words 1 ≡ lock_word (open_hold view.holds)
-  pub registers : (register : ℕ) → register < registers_count → slice_index words (3 + register) ≡ value view.holds register
+  pub registers : (register : ℕ) → register < registers_count → slice_index words (3 + register) ≡ register_value view.holds register
 
 -- the rule of a plain edge: there is one seat, and the words are those of its history
 pub record IsPlain (registers_count : ℕ) (s : State (Unit {0}) PlainView) : Type 0 where
@@ -61,7 +61,7 @@ plain_view_after_change change view = plain_view view.registers (change_last cha
 
 abbrev pub PlainReads : Taken → Seated → ℕ → Seated → Type 0
 PlainReads step me word next =
-    let register = step.word - 3 in (next ≡ (plain_view_after_change (with_access (Read register word)) me.0, me.1)) × (word ≡ value me.0.holds register) × IsKept next.0
+    let register = step.word - 3 in (next ≡ (plain_view_after_change (with_access (Read register word)) me.0, me.1)) × (word ≡ register_value me.0.holds register) × IsKept next.0
 
 abbrev pub PlainWrites : Taken → Seated → ℕ → Seated → Type 0
 PlainWrites step me word next = (next ≡ (plain_view_after_change (with_access (Write (step.word - 3) step.first)) me.0, me.1)) × IsKept next.0
@@ -70,7 +70,7 @@ abbrev pub PlainGives : Taken → Seated → ℕ → Seated → Type 0
 PlainGives step me word next = (next ≡ (plain_view_after_change closed_hold me.0, me.1)) × IsKept next.0
 
 abbrev pub PlainTells : Taken → Seated → ℕ → Seated → Type 0
-PlainTells step me word next = (next ≡ me) × (word ≡ value me.0.holds (step.word - 3))
+PlainTells step me word next = (next ≡ me) × (word ≡ register_value me.0.holds (step.word - 3))
 
 -- a plain edge: its two tiles, its number of registers, the holds of both ends, and the refusals of each end
 pub record PlainEdgeValue : Type 0 where

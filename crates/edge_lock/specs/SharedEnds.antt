@@ -15,24 +15,24 @@ abbrev pub IsPassOf : List EdgeValue → PassValue → Type 0
 IsPassOf edges pass = slice_get edges pass.of.number ≡ Some pass.of
 
 -- by an edge's number: how many registers it has, or 0 if there is no pass for it
-abbrev pub registers_at : List PassValue → ℕ → ℕ
-registers_at [] edge = 0
-registers_at (pass ∷ passes) edge = if pass.of.number == edge then pass.of.registers else registers_at passes edge
+abbrev pub pass_registers : List PassValue → ℕ → ℕ
+pass_registers [] edge = 0
+pass_registers (pass ∷ passes) edge = if pass.of.number == edge then pass.of.registers else pass_registers passes edge
 
 -- which end the pass of an edge is
-abbrev pub end_at : List PassValue → ℕ → ℕ
-end_at [] edge = 0
-end_at (pass ∷ passes) edge = if pass.of.number == edge then pass.end else end_at passes edge
+abbrev pub pass_end : List PassValue → ℕ → ℕ
+pass_end [] edge = 0
+pass_end (pass ∷ passes) edge = if pass.of.number == edge then pass.end else pass_end passes edge
 
 -- what the pass of an edge did
-abbrev pub lists_at : List PassValue → ℕ → EndLists
-lists_at [] edge = end_lists [] []
-lists_at (pass ∷ passes) edge = if pass.of.number == edge then pass.lists else lists_at passes edge
+abbrev pub pass_lists : List PassValue → ℕ → EndLists
+pass_lists [] edge = end_lists [] []
+pass_lists (pass ∷ passes) edge = if pass.of.number == edge then pass.lists else pass_lists passes edge
 
 -- the position of the pass of an edge
-abbrev pub place : List PassValue → ℕ → ℕ
-place [] edge = 0
-place (pass ∷ passes) edge = if pass.of.number == edge then 0 else suc (place passes edge)
+abbrev pub pass_position : List PassValue → ℕ → ℕ
+pass_position [] edge = 0
+pass_position (pass ∷ passes) edge = if pass.of.number == edge then 0 else suc (pass_position passes edge)
 
 -- which edge and which end a pass is of
 pub record EdgeAndEnd : Type 0 where

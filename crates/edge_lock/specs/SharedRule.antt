@@ -10,7 +10,7 @@ use Rattle.edge_lock.specs.declared.history.Hold.{Hold}
 use Rattle.edge_lock.specs.declared.history.Refusal.{Refusal}
 use Rattle.edge_lock.specs.declared.edge_steps.View.{View}
 use Rattle.edge_lock.specs.declared.edge_steps.View.TheVariants.{First, Alone, Second, Paired, Joined, Settled, Spent}
-use Rattle.edge_lock.specs.History.{own, value, open_hold, keys, site_count, IsAllowed, IsHistory, IsSide, IsEdgeHistory}
+use Rattle.edge_lock.specs.History.{own, register_value, open_hold, keys, site_count, IsAllowed, IsHistory, IsSide, IsEdgeHistory}
 use Rattle.edge_lock.specs.EndLists.{EndLists, end_lists, new_hold, refusal_of, with_access, closed_hold, change_last, known_value, Shows}
 
 -- the lock word: 0 if nobody has the edge, otherwise the attempt and the end that have it
@@ -58,7 +58,7 @@ pub record IsShared (registers_count : ℕ) (s : State (Unit {0}) View) : Type 0
   pub long : length s.words ≡ 3 + registers_count
   pub lock : slice_index s.words 1 ≡ lock_word (open_hold hs)
   pub claimed : slice_index s.words 2 ≡ claims s.views
-  pub registers : (register : ℕ) → register < registers_count → slice_index s.words (3 + register) ≡ value hs register
+  pub registers : (register : ℕ) → register < registers_count → slice_index s.words (3 + register) ≡ register_value hs register
   pub views : (id : ℕ) (view : View) → get_elem? s.views id ≡ some view → IsPart joined hs (length s.views) id view
 
 abbrev Seated : Type 0
@@ -121,8 +121,8 @@ abbrev pub Writes : Taken → Seated → ℕ → Seated → Type 0
 Writes step me word next = next ≡ (view_after_change (with_access (Write (step.word - 3) step.first)) me.0, me.1)
 
 -- the store of 0 to the lock word by the end that has the edge
-abbrev pub Gives : Taken → Seated → ℕ → Seated → Type 0
-Gives step me word next = next ≡ (view_after_change closed_hold me.0, me.1)
+abbrev pub GivesBack : Taken → Seated → ℕ → Seated → Type 0
+GivesBack step me word next = next ≡ (view_after_change closed_hold me.0, me.1)
 
 -- the view of the seat that keeps both ends' lists
 abbrev pub both_of : View → View → View
@@ -144,7 +144,7 @@ abbrev pub Settles : Taken → Seated → ℕ → Seated → Type 0
 Settles step me word next = BecomesWhole me.0 next.0 × (next.1 ≡ me.1)
 
 abbrev pub register_in : View → ℕ → ℕ
-register_in (Settled all low_refusals high_refusals) register = value all register
+register_in (Settled all low_refusals high_refusals) register = register_value all register
 register_in view register = 0
 
 -- a later load: it reveals a register of the one history

@@ -2,7 +2,7 @@
 ghost use Rattle.std.specs.Prelude.{◌≡◌, ◌<◌, ◌^◌, IfOk};
 ghost use Rattle.feast_base.specs.Edges.{registers_of};
 ghost use Rattle.edge_lock.specs.declared.history.Access.TheVariants.{Read, Write};
-ghost use Rattle.edge_lock.specs.History.{value, site_count, IsAllowed};
+ghost use Rattle.edge_lock.specs.History.{register_value, site_count, IsAllowed};
 ghost use Rattle.edge_lock.specs.EndLists.{IsNew, IsFree, IsHeld, after_try, after_access, after_give, known_value, Shows};
 ghost use Rattle.edge_lock.specs.Passes.{with_lists, IsFresh, IsClosed};
 
@@ -74,13 +74,13 @@ pub struct Closed {
 
 impl Model for Closed {
     ghost use Rattle.std.specs.Prelude.{◌≡◌, ◌+◌};
-    ghost use Rattle.edge_lock.specs.Passes.{ClosedValue, closed_value, IsSettled};
+    ghost use Rattle.edge_lock.specs.Passes.{ClosedValue, closed_value, KeepsHistory};
 
     ghost Value = { ClosedValue };
 
     ghost view = { λ c. closed_value c.table.shared.key c.seat.me.0 };
 
-    ghost invariant = { λ c. (c.table.shared.table_id.words ≡ 3 + c.table.shared.key) × (c.seat.table_id ≡ c.table.shared.table_id) × IsSettled c.seat.me };
+    ghost invariant = { λ c. (c.table.shared.table_id.words ≡ 3 + c.table.shared.key) × (c.seat.table_id ≡ c.table.shared.table_id) × KeepsHistory c.seat.me };
 }
 
 impl Closed {
@@ -88,7 +88,7 @@ impl Closed {
     pub fn word(&mut self, register: u32) -> u64
         requires { register < self.old.registers }
         ensures same { self.new ≡ self.old }
-        ensures value { result ≡ value self.old.holds register }
+        ensures value { result ≡ register_value self.old.holds register }
     {
         let word = register as usize + FIRST_REGISTER;
         let table = &self.table;

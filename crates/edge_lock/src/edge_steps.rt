@@ -84,9 +84,9 @@ impl Play<(), View> for Change {
 pub struct Give;
 
 impl Play<(), View> for Give {
-    ghost use Rattle.edge_lock.specs.SharedRule.{Gives};
+    ghost use Rattle.edge_lock.specs.SharedRule.{GivesBack};
 
-    ghost then = { Gives };
+    ghost then = { GivesBack };
 }
 
 /// How the two seats of an edge are split and joined again.

@@ -16,8 +16,6 @@ mod plain_board;
 mod plain_edge;
 mod plain_steps;
 mod shared_end;
-#[cfg(test)]
-mod tests;
 
 pub use board::{Board, Take};
 pub use edge::{Closed, Edge, Pass};

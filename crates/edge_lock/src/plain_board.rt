@@ -1,7 +1,7 @@
 //! All edges of a plane on one board, for one thread. One tile's end acts at a time.
 ghost use Rattle.std.specs.Prelude.{◌≡◌, ◌<◌, length, map, IfOk, All};
 ghost use Rattle.edge_lock.specs.declared.history.Access.TheVariants.{Read, Write};
-ghost use Rattle.edge_lock.specs.History.{value, site_count, IsAllowed};
+ghost use Rattle.edge_lock.specs.History.{register_value, site_count, IsAllowed};
 ghost use Rattle.edge_lock.specs.EndLists.{IsFree, IsHeld, IsNew, HasNoWrite, Shows, known_value, after_try, after_access, after_give, replace_at};
 ghost use Rattle.edge_lock.specs.PlainEdges.{IsAnswer};
 ghost use Rattle.edge_lock.specs.PlainBoard.{edge_at, registers_on, end_on, lists_on, other_lists_on, tries, reads, writes, gives, IsCall, Moved, untouched_edge, sizes_of_board, IsKeptEdge};
@@ -56,7 +56,7 @@ impl PlainBoard {
         requires edge { edge < length self.old.edges }
         requires register { register < (edge_at self.old edge).registers }
         ensures same { self.new ≡ self.old }
-        ensures value { result ≡ value (edge_at self.old edge).holds register }
+        ensures value { result ≡ register_value (edge_at self.old edge).holds register }
     {
         self.edges[edge as usize].word(register)
     }
@@ -109,7 +109,7 @@ impl Board for PlainBoard {
         requires edge { register < registers_on self.old edge }
         requires held { IsHeld (lists_on self.old edge) }
         ensures value { Shows (known_value (lists_on self.old edge) register) result × IsAllowed (site_count (registers_on self.old edge)) register result }
-        ensures is_register { result ≡ value (edge_at self.old edge).holds register }
+        ensures is_register { result ≡ register_value (edge_at self.old edge).holds register }
         ensures call { IsCall self.old edge (reads register) self.new }
         ensures lists { lists_on self.new ≡ replace_at (lists_on self.old) edge (after_access (Read register result) (lists_on self.old edge)) }
         ensures tile { self.new.acting ≡ self.old.acting }

@@ -1,7 +1,7 @@
 //! One edge of the plain board: its words on a table with one seat.
 ghost use Rattle.std.specs.Prelude.{◌≡◌, ◌<◌, ◌-◌, ◌==◌, if◌then◌else◌, IfOk};
 ghost use Rattle.edge_lock.specs.declared.history.Access.TheVariants.{Read, Write};
-ghost use Rattle.edge_lock.specs.History.{value, site_count, IsAllowed};
+ghost use Rattle.edge_lock.specs.History.{register_value, site_count, IsAllowed};
 ghost use Rattle.edge_lock.specs.EndLists.{IsNew, IsFree, IsHeld, known_value, Shows, after_try, after_access, after_give};
 ghost use Rattle.edge_lock.specs.PlainEdges.{own_lists, edge_after_try, edge_after_access, edge_after_give, IsUntouched, IsAnswer, IsKept, view_of};
 
@@ -97,7 +97,7 @@ impl PlainEdge {
         requires end { end < 2 }
         requires register { register < self.old.registers }
         requires held { IsHeld (own_lists end self.old) }
-        ensures value { (result ≡ value self.old.holds register) × IsAllowed (site_count self.old.registers) register result × Shows (known_value (own_lists end self.old) register) result }
+        ensures value { (result ≡ register_value self.old.holds register) × IsAllowed (site_count self.old.registers) register result × Shows (known_value (own_lists end self.old) register) result }
         ensures edge { self.new ≡ edge_after_access (Read register result) self.old }
         ensures own { own_lists end self.new ≡ after_access (Read register result) (own_lists end self.old) }
         ensures other { own_lists (1 - end) self.new ≡ own_lists (1 - end) self.old }
@@ -145,7 +145,7 @@ impl PlainEdge {
     pub(crate) fn word(&mut self, register: u32) -> u64
         requires { register < self.old.registers }
         ensures same { self.new ≡ self.old }
-        ensures value { result ≡ value self.old.holds register }
+        ensures value { result ≡ register_value self.old.holds register }
     {
         let word = register as usize + FIRST_REGISTER;
         let table = &self.table;

@@ -1,6 +1,6 @@
 //! One tile's end of edges that tiles of other threads use too.
 ghost use Rattle.std.specs.Prelude.{◌≡◌, ◌<◌, All, length};
-ghost use Rattle.edge_lock.specs.SharedEnds.{IsPassOf, place, registers_at};
+ghost use Rattle.edge_lock.specs.SharedEnds.{IsPassOf, pass_position, pass_registers};
 
 use crate::board::{Board, Take};
 use crate::edge::{Edge, Pass};
@@ -31,9 +31,9 @@ impl<'a> Model for SharedEnd<'a> {
 }
 
 /// The position of the pass of an edge. A tile has at most eight edges.
-fn place_of(passes: &[Pass], edge: u32) -> usize
-    requires { 0 < registers_at passes.now edge }
-    ensures is { result ≡ place passes.now edge }
+fn pass_position(passes: &[Pass], edge: u32) -> usize
+    requires { 0 < pass_registers passes.now edge }
+    ensures is { result ≡ pass_position passes.now edge }
     ensures inside { result < length passes.now }
 {
     for i in 0..passes.len() {
@@ -74,35 +74,35 @@ impl<'a> SharedEnd<'a> {
 impl<'a> Board for SharedEnd<'a> {
     ghost use Rattle.std.specs.Prelude.{refl};
     ghost use Rattle.std.proofs.Common.{◌∙◌};
-    ghost use Rattle.edge_lock.specs.SharedEnds.{registers_at, end_at, lists_at, SamePasses};
+    ghost use Rattle.edge_lock.specs.SharedEnds.{pass_registers, pass_end, pass_lists, SamePasses};
 
     ghost tile = { λ s. s.tile };
 
-    ghost registers = { λ s. registers_at s.passes };
+    ghost registers = { λ s. pass_registers s.passes };
 
-    ghost end_of = { λ s. end_at s.passes };
+    ghost end_of = { λ s. pass_end s.passes };
 
-    ghost lists = { λ s. lists_at s.passes };
+    ghost lists = { λ s. pass_lists s.passes };
 
     ghost moved = { SamePasses };
 
     fn try_take(&mut self, edge: u32, attempt: u64) -> Take {
-        let i = place_of(self.passes.as_slice(), edge);
+        let i = pass_position(self.passes.as_slice(), edge);
         self.edges[edge as usize].try_take(&mut self.passes[i], attempt)
     }
 
     fn read(&mut self, edge: u32, register: u32) -> u64 {
-        let i = place_of(self.passes.as_slice(), edge);
+        let i = pass_position(self.passes.as_slice(), edge);
         self.edges[edge as usize].read(&mut self.passes[i], register)
     }
 
     fn write(&mut self, edge: u32, register: u32, value: u64) {
-        let i = place_of(self.passes.as_slice(), edge);
+        let i = pass_position(self.passes.as_slice(), edge);
         self.edges[edge as usize].write(&mut self.passes[i], register, value);
     }
 
     fn give(&mut self, edge: u32) {
-        let i = place_of(self.passes.as_slice(), edge);
+        let i = pass_position(self.passes.as_slice(), edge);
         self.edges[edge as usize].give(&mut self.passes[i]);
     }
 

@@ -16,7 +16,7 @@ use Rattle.code_gen.proofs.ElementMeans.{element_means}
 use Rattle.code_gen.proofs.TypedBodies.{program_kinded}
 
 -- a class that is an element
-record IsElement (ks : List t.Class) (c : ℕ) : Type 0 where
+pub record IsElement (ks : List t.Class) (c : ℕ) : Type 0 where
   pub class : t.Class
   pub stands : slice_get ks c ≡ Some class
   pub acts : class.quark ≡ false

@@ -1,48 +1,42 @@
 -- The names of a set's elements are names of types.
-use Rattle.std.proofs.Common.{ℕ, ◌≡◌, ◌+◌, ◌≤◌, ◌==◌, Bool, true, false, not, ◌&&◌, ◌||◌, List, [], ◌∷◌, ◌++◌, All, length, map, nat_le, bytes_eq, refl, sym, ap, subst, ◌∙◌, arith, Ok, inl, inr, if◌then◌else◌, slice_index, slice_range}
+use Rattle.std.proofs.Common.{ℕ, ◌≡◌, ◌+◌, ◌≤◌, ◌==◌, Bool, true, false, not, ◌&&◌, ◌||◌, List, [], ◌∷◌, ◌++◌, All, length, nat_le, bytes_eq, refl, sym, ap, subst, ◌∙◌, arith, Ok, if◌then◌else◌, slice_index}
 use Rattle.std.specs.Char.{is_ascii_digit, is_ascii_lowercase, is_ascii_uppercase}
 use Rattle.std.specs.List.{AllPass, flat_map, list_all}
-use Rattle.std.proofs.lemmas.List.Elements.{All-cons, All-head, All-nil, All-tail}
+use Rattle.std.proofs.lemmas.List.Elements.{All-cons, All-nil, All-tail}
+use Rattle.std.proofs.lemmas.List.Sums.{list_all-from_AllPass}
 use Rattle.list_laws.proofs.Tests.{together}
 use Rattle.feast_base.specs.Outside.{File}
+use Rattle.feast_base.proofs.Stages.{went}
 use Rattle.feast_base.specs.TypeNames.{is_type_name, is_word_byte}
 use Rattle.ulam_lex.specs.Bytes.{class_of, is_white}
 use Rattle.ulam_lex.specs.Pieces.{IsToken, IsWord}
 use Rattle.ulam_lex.specs.Texts.{AreInOrder}
-use Rattle.ulam_lex.specs.declared.bytes.Class.{Class as ByteClass}
 use Rattle.ulam_lex.specs.declared.bytes.Class.TheVariants.{White, Small, Capital, Digit, Mark}
 use Rattle.ulam_lex.specs.declared.token.Token.{Token}
 use Rattle.ulam_lex.specs.declared.token.TokenKind.{TokenKind}
 use Rattle.ulam_lex.specs.declared.token.TokenKind.TheVariants as k
 use Rattle.ulam_lex.proofs.Spans.{in_order}
-use Rattle.ulam_parse.specs.Tokens.{Tok, tok, keywords, signs, symbol_in, symbol_of, tok_of, toks}
+use Rattle.ulam_parse.specs.Tokens.{Tok, keywords, signs, symbol_in, symbol_of, toks}
 use Rattle.ulam_parse.specs.Grammar.{AreItems, IsClass, IsFile, class_symbol}
 use Rattle.ulam_parse.specs.declared.symbol.Symbol.{Symbol}
 use Rattle.ulam_parse.specs.declared.symbol.Symbol.TheVariants as s
-use Rattle.ulam_heirs.specs.Files.{flat_files, flat_files_from, flat_items, class_count}
-use Rattle.ulam_heirs.specs.Heads.{is_taken, kept_at, at_each, tokens_left}
+use Rattle.ulam_heirs.specs.Files.{flat_files_from, flat_items, class_count}
+use Rattle.ulam_heirs.specs.Heads.{tokens_left}
 use Rattle.ulam_heirs.specs.Lines.{Heir}
 use Rattle.ulam_tree.specs.Raw.{Item, Class, ulam, uses, class}
 use Rattle.ulam_tree.specs.Statements.{Class as AnyClass}
 use Rattle.ulam_tree.specs.Typed as t
 use Rattle.ulam_names.specs.Classes.{HalfClass, Known}
-use Rattle.ulam_names.specs.ClassRelation.{IsResolved, AreItems as AreDeclared}
-use Rattle.ulam_types.specs.Programs.{class_sig}
-use Rattle.element_set.specs.Names.{class_names, element_name, names_in}
+use Rattle.ulam_names.specs.ClassRelation.{AreItems as AreDeclared}
+use Rattle.element_set.specs.Names.{class_names, names_in}
 use Rattle.element_set.specs.Sets.{SetValue, AcceptsFiles, element_names}
-use Rattle.element_set.specs.Stages.{Trees, lexed, parsed, tree_of, more_trees, no_trees, with_tree, flat_set, named_set, laid_set, typed_set, coded}
-use Rattle.element_set.specs.Composing.{Stage, Goes, and_then}
+use Rattle.element_set.specs.Stages.{Tree, lexed, parsed, tree_of, more_trees, no_trees, flat_set, named_set, laid_set, typed_set, coded}
 use Rattle.element_set.proofs.Named.{classes_half, half_names, typed_names}
+use Rattle.element_set.proofs.FormedTokens.{IsSpelled, left_formed, order_formed, toks_formed}
+use Rattle.element_set.proofs.TreesHold.{EachFile, trees_hold}
 use Rattle.element_set.proofs.TokensKept.{Each, item_keeps, takes_keeps}
 
-went : {A B : Type 0} (S : Stage A) (T : A → Stage B) (b : B) → and_then S T (Ok b) → Goes S T (Ok b)
-went S T b h = elim h [ inl never ↦ absurd never | inr g ↦ g ]
-
 -- Bytes: the token of a type's name is one
-
-all_pass : (p : ℕ → Bool) (bs : List ℕ) → AllPass p bs → list_all p bs ≡ true
-all_pass p [] all = refl
-all_pass p (b ∷ bs) all = together _ _ (All-head (λ x. p x ≡ true) b bs all) (all_pass p bs (All-tail (λ x. p x ≡ true) b bs all))
 
 capital_is : (b : ℕ) → class_of b ≡ Capital → is_ascii_uppercase b ≡ true
 capital_is b h = on (is_white b) (is_ascii_lowercase b || b == 95) (is_ascii_uppercase b) (is_ascii_digit b) h
@@ -57,7 +51,7 @@ capital_is b h = on (is_white b) (is_ascii_lowercase b || b == 95) (is_ascii_upp
 type_name_by : (bytes : List ℕ) → class_of (slice_index bytes 0) ≡ Capital → length bytes ≤ 255 → AllPass is_word_byte bytes → is_type_name bytes ≡ true
 type_name_by [] first few all = cc first
 type_name_by (b ∷ bs) first few all =
-    together _ _ (together _ _ (capital_is b first) (all_pass is_word_byte bs (All-tail (λ x. is_word_byte x ≡ true) b bs all))) (le_true (length bs + 1) 255 (omega (arith, few)))
+    together _ _ (together _ _ (capital_is b first) (list_all-from_AllPass is_word_byte bs (All-tail (λ x. is_word_byte x ≡ true) b bs all))) (le_true (length bs + 1) 255 (omega (arith, few)))
   where
     le_true : (m n : ℕ) → m ≤ n → nat_le m n ≡ true
     le_true m n h = grind arith
@@ -71,26 +65,6 @@ token_formed k.Sign bytes h e = cc e
 token_formed k.End bytes h e = absurd h
 
 -- Tokens of a text, and those of a sentence
-
-abbrev IsFormed : List ℕ → Token → Type 0
-IsFormed text t = t.kind ≡ k.TypeName → is_type_name (slice_range text t.first t.end) ≡ true
-
-abbrev AllFormed : List ℕ → List Token → Type 0
-AllFormed text [] = Unit {0}
-AllFormed text (t ∷ ts) = IsFormed text t × AllFormed text ts
-
-order_formed : (text : List ℕ) (from : ℕ) (ts : List Token) → AreInOrder text from ts → AllFormed text ts
-order_formed text from [] h = absurd h
-order_formed text from (t ∷ []) h = (λ e. let same : k.End ≡ k.TypeName = sym h.0 ∙ e in cc same, tt)
-order_formed text from (t ∷ u ∷ ts) h = (λ e. token_formed t.kind (slice_range text t.first t.end) h.0 e, order_formed text t.end (u ∷ ts) h.4)
-
-left_formed : (text : List ℕ) (before ts : List Token) → AllFormed text ts → AllFormed text (at_each (kept_at text) before ts)
-left_formed text before [] all = tt
-left_formed text before (t ∷ ts) all = on (is_taken text before t ts) (left_formed text (t ∷ before) ts all.1)
-  where
-    on : (b : Bool) → AllFormed text (at_each (kept_at text) (t ∷ before) ts) → AllFormed text ((if b then [] else t ∷ []) ++ at_each (kept_at text) (t ∷ before) ts)
-    on true rest = rest
-    on false rest = (all.0, rest)
 
 abbrev is_type_symbol : Symbol → Bool
 is_type_symbol s.TypeName = true
@@ -127,11 +101,12 @@ symbol_kind k.Sign text e = let same : false ≡ true = sym (sign_other text) �
 
 -- the text of a type's name in a sentence is one
 abbrev IsNamedWell : Tok → Type 0
-IsNamedWell (tok kind word place) = kind ≡ s.TypeName → is_type_name word ≡ true
+IsNamedWell = IsSpelled s.TypeName is_type_name
 
-toks_formed : (text : List ℕ) (ts : List Token) → AllFormed text ts → Each IsNamedWell (toks text ts)
-toks_formed text [] all = tt
-toks_formed text (t ∷ ts) all = (λ e. all.0 (symbol_kind t.kind (slice_range text t.first t.end) e), toks_formed text ts all.1)
+text_formed : (text : List ℕ) (ts : List Token) → AreInOrder text 0 ts → Each (IsSpelled s.TypeName is_type_name) (toks text (tokens_left text ts))
+text_formed text ts h =
+    toks_formed k.TypeName s.TypeName is_type_name symbol_kind text (tokens_left text ts)
+    (left_formed k.TypeName is_type_name text [] ts (order_formed k.TypeName is_type_name (λ same. cc same) token_formed text 0 ts h))
 
 -- Names, through all stages
 
@@ -160,22 +135,13 @@ items_formed (class c ∷ xs) us rest h all = (class_formed c us h.0 h.1 all, it
 file_formed : (xs : List Item) (us : List Tok) → IsFile xs us → Each IsNamedWell us → Formed (item_names xs)
 file_formed xs us h all = items_formed xs us h.0 h.1 all
 
+tree_formed : (file : ℕ) (bytes : List ℕ) (x : Tree) → tree_of file bytes (Ok x) → Formed (item_names x.items)
+tree_formed file bytes x h =
+    let p = went (lexed file bytes) (parsed bytes) x h in
+    file_formed x.items (toks bytes (tokens_left bytes p.value)) p.rest.0.0 (text_formed bytes p.value (in_order file bytes p.value p.passed.0))
+
 abbrev FilesFormed : List (List Item) → Type 0
-FilesFormed [] = Unit {0}
-FilesFormed (f ∷ fs) = Formed (item_names f) × FilesFormed fs
-
-files_more : (fs : List (List Item)) (f : List Item) → FilesFormed fs → Formed (item_names f) → FilesFormed (fs ++ f ∷ [])
-files_more [] f all here = (here, tt)
-files_more (g ∷ fs) f all here = (all.0, files_more fs f all.1 here)
-
-trees_formed : (done : Trees) (fs : List File) (x : Trees) → more_trees done fs (Ok x) → FilesFormed done.files → FilesFormed x.files
-trees_formed done [] x h all = subst (λ (y : Trees). FilesFormed y.files) (sym h) all
-trees_formed done (f ∷ fs) x h all =
-    let g = went (tree_of (length done.files) f.1) (λ y. more_trees (with_tree done y) fs) x h in
-    let p = went (lexed (length done.files) f.1) (parsed f.1) g.value g.passed in
-    let tokens = left_formed f.1 [] p.value (order_formed f.1 0 p.value (in_order (length done.files) f.1 p.value p.passed.0)) in
-    let here = file_formed g.value.items (toks f.1 (tokens_left f.1 p.value)) p.rest.0.0 (toks_formed f.1 (tokens_left f.1 p.value) tokens) in
-    trees_formed (with_tree done g.value) fs x g.rest (files_more done.files g.value.items all here)
+FilesFormed = EachFile (λ (f : List Item). Formed (item_names f))
 
 flat_same : (hs : List Heir) (n : ℕ) (xs : List Item) → item_names (flat_items hs n xs) ≡ item_names xs
 flat_same hs n [] = refl
@@ -220,7 +186,7 @@ names_formed files set h =
     let named = went _ laid_set set flat.rest in
     let laid = went _ (typed_set named.value) set named.rest in
     let typed = went _ (λ (us : List t.Class). coded (record { classes = us; layout = laid.value })) set laid.rest in
-    let items = subst (λ (xs : List Item). Formed (item_names xs)) (sym flat.passed.1) (flat_formed _ 0 trees.value.files (trees_formed no_trees files trees.value trees.passed tt)) in
+    let items = subst (λ (xs : List Item). Formed (item_names xs)) (sym flat.passed.1) (flat_formed _ 0 trees.value.files (trees_hold (λ (f : List Item). Formed (item_names f)) tree_formed no_trees files trees.value trees.passed tt)) in
     let resolved = named.passed in
     let halves = halves_formed resolved.known flat.value resolved.halves resolved.declared items in
     let classes = subst Formed (sym (classes_half resolved.known _ 0 resolved.halves named.value resolved.whole)) halves in

@@ -1,9 +1,9 @@
 pub mod Acting
 pub mod CodesText
-pub mod Composing
 pub mod Counting
 pub mod Fitting
 pub mod FormedNames
+pub mod FormedTokens
 pub mod Named
 pub mod NewNames
 pub mod Numbering
@@ -12,3 +12,4 @@ pub mod Sharing
 pub mod SomeSet
 pub mod Telling
 pub mod TokensKept
+pub mod TreesHold

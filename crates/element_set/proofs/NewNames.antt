@@ -2,13 +2,10 @@
 use Rattle.std.proofs.Common.{ℕ, ◌≡◌, List, [], ◌∷◌, ◌++◌, Bool, true, false, cond, ◌||◌, refl, sym, ◌∙◌}
 use Rattle.std.proofs.lemmas.List.Folds.{list_any-append}
 use Rattle.std.specs.Str.{bytes_eq}
+use Rattle.std.proofs.lemmas.Bool.{or_parts}
 use Rattle.ulam_tree.specs.Statements.{Class}
 use Rattle.ulam_names.specs.Scopes.{is_among}
 use Rattle.element_set.specs.Names.{names_in, class_names, AreNew}
-
-or_false : (a b : Bool) → (a || b) ≡ false → (a ≡ false) × (b ≡ false)
-or_false true b h = absurd cc
-or_false false b h = (refl, h)
 
 both_false : (a b : Bool) → a ≡ false → b ≡ false → (a || b) ≡ false
 both_false a b h k = rw h k
@@ -21,11 +18,11 @@ abbrev Fewer : List (List ℕ) → List (List ℕ) → Type 0
 Fewer xs ys = (n : List ℕ) → is_among n xs ≡ false → is_among n ys ≡ false
 
 fewer_end : (xs ys : List (List ℕ)) (x : List ℕ) → Fewer xs ys → Fewer (xs ++ x ∷ []) ys
-fewer_end xs ys x f n h = f n (or_false _ _ (sym (among_end n xs x) ∙ h)).0
+fewer_end xs ys x f n h = f n (or_parts _ _ (sym (among_end n xs x) ∙ h)).0
 
 fewer_both : (xs ys : List (List ℕ)) (x : List ℕ) → Fewer xs ys → Fewer (xs ++ x ∷ []) (ys ++ x ∷ [])
 fewer_both xs ys x f n h =
-    let o = or_false _ _ (sym (among_end n xs x) ∙ h) in
+    let o = or_parts _ _ (sym (among_end n xs x) ∙ h) in
     among_end n ys x ∙ both_false _ _ (f n o.0) o.1
 
 new_by : (b : Bool) (name : List ℕ) (done : List (List ℕ)) (more : List (List ℕ)) → is_among name done ≡ false → (b ≡ true → AreNew done more) → (b ≡ false → AreNew (done ++ name ∷ []) more) → AreNew done (cond b [] (name ∷ []) ++ more)

@@ -6,6 +6,7 @@ use Rattle.std.proofs.lemmas.List.{take-append-drop}
 use Rattle.std.specs.Option.{option_or, option_and_then}
 use Rattle.feast_base.specs.Outside.{File}
 use Rattle.feast_base.specs.declared.place.Place.{Place}
+use Rattle.feast_base.specs.Stages.{Stage, and_then}
 use Rattle.feast_base.specs.declared.place.Refusal.{Refusal}
 use Rattle.ulam_lex.specs.declared.token.Token.{Token}
 use Rattle.ulam_lex.specs.declared.token.LexFault.{LexFault}
@@ -45,21 +46,20 @@ use Rattle.ulam_types.specs.Programs.{first_fault as first_type_fault}
 use Rattle.ulam_types.specs.Faults.{Fault as TypeFault}
 use Rattle.code_gen.proofs.ElementCodes.{all_or_first}
 use Rattle.ulam_types.proofs.Classes.{some_typed}
-use Rattle.element_set.specs.Composing.{Stage, and_then}
 use Rattle.code_gen.specs.Compiling.{AreShort, IsFirstLong, long_place}
 use Rattle.element_set.specs.Faults.{refusal, counted, name_refusal, type_refusal}
 use Rattle.element_set.specs.Stages.{lexed, Tree, parsed, tree_of, Trees, no_trees, with_tree, more_trees, flat, named, laid, typed, coded, typed_set, laid_set, named_set, flat_set, set_of}
 use Rattle.element_set.specs.Value.{SetValue, program_of}
 
 -- an outcome of a stage
-abbrev SomeOf : {A : Type 0} → Stage A → Type 0
+abbrev SomeOf : {A : Type 0} → Stage A Refusal → Type 0
 SomeOf {A = A} S = (o : Result A Refusal) × S o
 
-then_by : {A B : Type 0} (S : Stage A) (T : A → Stage B) (o : Result A Refusal) → S o → ((a : A) → S (Ok a) → SomeOf (T a)) → SomeOf (and_then S T)
+then_by : {A B : Type 0} (S : Stage A Refusal) (T : A → Stage B Refusal) (o : Result A Refusal) → S o → ((a : A) → S (Ok a) → SomeOf (T a)) → SomeOf (and_then S T)
 then_by S T (Ok a) s f = let t = f a s in (t.0, inr (record { value = a; passed = s; rest = t.1 }))
 then_by S T (Err e) s f = (Err e, inl s)
 
-then_some : {A B : Type 0} (S : Stage A) (T : A → Stage B) → SomeOf S → ((a : A) → S (Ok a) → SomeOf (T a)) → SomeOf (and_then S T)
+then_some : {A B : Type 0} (S : Stage A Refusal) (T : A → Stage B Refusal) → SomeOf S → ((a : A) → S (Ok a) → SomeOf (T a)) → SomeOf (and_then S T)
 then_some S T s f = then_by S T s.0 s.1 f
 
 -- Each file by itself

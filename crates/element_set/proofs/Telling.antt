@@ -2,6 +2,7 @@
 use Rattle.std.proofs.Common.{ℕ, ◌≡◌, ◌⊎◌, List, [], ◌∷◌, ◌++◌, map, Result, Ok, Err, refl, sym, ap, subst, inl, inr}
 use Rattle.std.specs.List.{flat_map}
 use Rattle.std.specs.Result.{IsErrAnd}
+use Rattle.feast_base.specs.Stages.{Stage, and_then}
 use Rattle.feast_base.specs.declared.place.Refusal.{Refusal}
 use Rattle.ulam_lex.specs.declared.token.LexFault.{LexFault}
 use Rattle.ulam_lex.specs.declared.token.LexFault.TheVariants as x
@@ -21,7 +22,6 @@ use Rattle.ulam_types.specs.declared.fault.TypeFault.{TypeFault}
 use Rattle.ulam_types.specs.declared.fault.TypeFault.TheVariants as t
 use Rattle.element_set.specs.declared.fault.BuildFault.{BuildFault}
 use Rattle.element_set.specs.declared.fault.BuildFault.TheVariants.{Refused, NoMemory}
-use Rattle.element_set.specs.Composing.{Stage, and_then}
 use Rattle.code_gen.specs.Compiling.{Compiles}
 use Rattle.code_gen.specs.declared.fault.GenFault.{GenFault}
 use Rattle.code_gen.specs.declared.fault.GenFault.TheVariants as g
@@ -31,27 +31,27 @@ use Rattle.element_set.specs.Value.{SetValue, program_of}
 use Rattle.element_set.specs.Told.{Tells}
 
 -- a stage that passed, and then the rest
-pub tells_then : {X A B : Type 0} (value : X → B) (S : Stage A) (T : A → Stage B) (a : A) (r : Result X BuildFault) → S (Ok a) → Tells value (T a) r → Tells value (and_then S T) r
+pub tells_then : {X A B : Type 0} (value : X → B) (S : Stage A Refusal) (T : A → Stage B Refusal) (a : A) (r : Result X BuildFault) → S (Ok a) → Tells value (T a) r → Tells value (and_then S T) r
 tells_then value S T a (Ok x) h t = inr (record { value = a; passed = h; rest = t })
 tells_then value S T a (Err (Refused s)) h t = (inr (record { value = a; passed = h; rest = t.0 }), t.1)
 tells_then value S T a (Err NoMemory) h t = tt
 
 -- a stage that did not pass
-pub tells_halt : (X Y : Type 0) {A B : Type 0} (value : X → A) (other : Y → B) (S : Stage A) (T : A → Stage B) (e : BuildFault) → Tells {X = X} value S (Err e) → Tells {X = Y} other (and_then S T) (Err e)
+pub tells_halt : (X Y : Type 0) {A B : Type 0} (value : X → A) (other : Y → B) (S : Stage A Refusal) (T : A → Stage B Refusal) (e : BuildFault) → Tells {X = X} value S (Err e) → Tells {X = Y} other (and_then S T) (Err e)
 tells_halt X Y value other S T (Refused s) t = (inl t.0, t.1)
 tells_halt X Y value other S T NoMemory t = tt
 
 -- where each outcome of one stage is one of another
-pub tells_via : (X : Type 0) {B : Type 0} (value : X → B) (S T : Stage B) (e : BuildFault) → ((o : Result B Refusal) → S o → T o) → Tells {X = X} value S (Err e) → Tells {X = X} value T (Err e)
+pub tells_via : (X : Type 0) {B : Type 0} (value : X → B) (S T : Stage B Refusal) (e : BuildFault) → ((o : Result B Refusal) → S o → T o) → Tells {X = X} value S (Err e) → Tells {X = X} value T (Err e)
 tells_via X value S T (Refused s) f t = (f (Err s) t.0, t.1)
 tells_via X value S T NoMemory f t = tt
 
 -- the exit of a `?`
-pub tells_exit : {X B : Type 0} (value : X → B) (S : Stage B) (e : BuildFault) (r : Result X BuildFault) → IsErrAnd r (λ d. d ≡ e) → Tells {X = X} value S (Err e) → Tells value S r
+pub tells_exit : {X B : Type 0} (value : X → B) (S : Stage B Refusal) (e : BuildFault) (r : Result X BuildFault) → IsErrAnd r (λ d. d ≡ e) → Tells {X = X} value S (Err e) → Tells value S r
 tells_exit value S e (Ok x) failed t = absurd failed
 tells_exit {X = X} value S e (Err d) failed t = subst (λ f. Tells {X = X} value S (Err f)) (sym failed) t
 
-pub lex_told : (X : Type 0) {B : Type 0} (value : X → B) (file : ℕ) (bytes : List ℕ) (T : _ → Stage B) (f : LexFault) → (f ≡ x.NoMemory) ⊎ lex.IsFaultOf file bytes f → Tells {X = X} value (and_then (lexed file bytes) T) (Err (lex_fault f))
+pub lex_told : (X : Type 0) {B : Type 0} (value : X → B) (file : ℕ) (bytes : List ℕ) (T : _ → Stage B Refusal) (f : LexFault) → (f ≡ x.NoMemory) ⊎ lex.IsFaultOf file bytes f → Tells {X = X} value (and_then (lexed file bytes) T) (Err (lex_fault f))
 lex_told X value file bytes T (x.BadByte p) (inl e) = absurd cc
 lex_told X value file bytes T (x.BadByte p) (inr h) = (inl (x.BadByte p, h, refl), record { is_code = refl })
 lex_told X value file bytes T (x.OpenComment p) (inl e) = absurd cc
@@ -62,7 +62,7 @@ lex_told X value file bytes T (x.TooManyTokens p) (inl e) = absurd cc
 lex_told X value file bytes T (x.TooManyTokens p) (inr h) = (inl (x.TooManyTokens p, h, refl), record { is_code = refl })
 lex_told X value file bytes T x.NoMemory h = tt
 
-pub name_told : (X : Type 0) {B : Type 0} (value : X → B) (xs : List Item) (T : List r.Class → Stage B) (f : NameFault) → NameFails f (names.program xs) → Tells {X = X} value (and_then (named xs) T) (Err (name_fault f))
+pub name_told : (X : Type 0) {B : Type 0} (value : X → B) (xs : List Item) (T : List r.Class → Stage B Refusal) (f : NameFault) → NameFails f (names.program xs) → Tells {X = X} value (and_then (named xs) T) (Err (name_fault f))
 name_told X value xs T (n.DuplicateName p) h = (inl (_, ap fault_of h, refl), record { is_code = refl })
 name_told X value xs T (n.UnknownName p) h = (inl (_, ap fault_of h, refl), record { is_code = refl })
 name_told X value xs T (n.CyclicQuark p) h = (inl (_, ap fault_of h, refl), record { is_code = refl })
@@ -72,7 +72,7 @@ name_told X value xs T (n.TooMany p) h = (inl (_, ap fault_of h, refl), record {
 name_told X value xs T (n.BadWidth p) h = (inl (_, ap fault_of h, refl), record { is_code = refl })
 name_told X value xs T n.NoMemory h = tt
 
-pub type_told : (X : Type 0) {B : Type 0} (value : X → B) (cs : List r.Class) (T : _ → Stage B) (f : TypeFault) → TypeFails f (types.program cs) → Tells {X = X} value (and_then (typed cs) T) (Err (type_fault f))
+pub type_told : (X : Type 0) {B : Type 0} (value : X → B) (cs : List r.Class) (T : _ → Stage B Refusal) (f : TypeFault) → TypeFails f (types.program cs) → Tells {X = X} value (and_then (typed cs) T) (Err (type_fault f))
 type_told X value cs T (t.WrongType p) h = (inl (_, ap fault_of h, refl), record { is_code = refl })
 type_told X value cs T (t.MixedSigns p) h = (inl (_, ap fault_of h, refl), record { is_code = refl })
 type_told X value cs T (t.NotAssignable p) h = (inl (_, ap fault_of h, refl), record { is_code = refl })

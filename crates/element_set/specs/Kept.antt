@@ -1,6 +1,5 @@
 -- What a set keeps beside its classes and their layout.
-use Rattle.std.specs.Prelude.{ℕ, ◌≡◌, ◌≤◌, List, length, map, Vec}
-use Rattle.std.specs.declared.alloc.Global.{Global}
+use Rattle.std.specs.Prelude.{ℕ, ◌≡◌, ◌≤◌, List, length, map}
 use Rattle.ulam_tree.specs.Typed as t
 use Rattle.ulam_tree.specs.TypedViews.{typed_class, typed_program}
 use Rattle.ulam_tree.specs.declared.typed.Class.{Class}
@@ -9,9 +8,6 @@ use Rattle.ulam_names.specs.Scopes.{most_classes}
 use Rattle.element_set.specs.Names.{names_in, counts, AreSlim}
 use Rattle.element_set.specs.Value.{SetValue, program_of}
 use Rattle.code_gen.specs.Compiling.{IsCompilable, AreShort}
-
-abbrev pub texts_of : List (Vec ℕ Global) → List (List ℕ)
-texts_of vs = map (λ (v : Vec ℕ Global). v.items) vs
 
 abbrev pub set_view : Typed → List (List ℕ) → SetValue
 set_view typed layout = record { classes = typed_program typed; layout = layout }

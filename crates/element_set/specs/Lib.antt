@@ -1,7 +1,6 @@
 pub mod Acting
 pub mod CheckText
 pub mod CodeText
-pub mod Composing
 pub mod Faults
 pub mod Kept
 pub mod Names

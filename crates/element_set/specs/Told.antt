@@ -1,5 +1,7 @@
 -- What a call answers by a stage.
 use Rattle.std.specs.Prelude.{Result, Ok, Err}
+use Rattle.feast_base.specs.Stages.{Stage}
+use Rattle.feast_base.specs.declared.place.Refusal.{Refusal}
 use Rattle.ulam_tree.specs.RawViews.{file_of}
 use Rattle.ulam_heirs.specs.Views.{files_of}
 use Rattle.element_set.specs.declared.trees.Tree.{Tree}
@@ -7,11 +9,10 @@ use Rattle.element_set.specs.declared.trees.Trees.{Trees}
 use Rattle.element_set.specs.Stages as stage
 use Rattle.element_set.specs.declared.fault.BuildFault.{BuildFault}
 use Rattle.element_set.specs.declared.fault.BuildFault.TheVariants.{Refused, NoMemory}
-use Rattle.element_set.specs.Composing.{Stage}
 use Rattle.element_set.specs.Faults.{Coded}
 
 -- an outcome of the stage, of which a refusal has a text; or memory ran out
-abbrev pub Tells : {X A : Type 0} → (X → A) → Stage A → Result X BuildFault → Type 0
+abbrev pub Tells : {X A : Type 0} → (X → A) → Stage A Refusal → Result X BuildFault → Type 0
 Tells value S (Ok x) = S (Ok (value x))
 Tells value S (Err (Refused r)) = S (Err r) × Coded r.code
 Tells value S (Err NoMemory) = Unit {0}

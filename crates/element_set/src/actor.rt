@@ -17,8 +17,8 @@ pub struct Actor<'a> {
 }
 
 impl Behave for Actor<'_> {
-    ghost use Rattle.ulam_meaning.specs.Events.{after};
-    ghost use Rattle.element_set.specs.Acting.{acting_set, idle-after};
+    ghost use Rattle.ulam_meaning.specs.Events.{after, idle-after};
+    ghost use Rattle.element_set.specs.Acting.{acting_set};
     ghost use Rattle.element_set.specs.Sets.{program_of};
 
     ghost after = { λ a. after (program_of (acting_set a)) };

@@ -16,11 +16,11 @@ pub struct Numbers {
 
 impl Model for Numbers {
     ghost use Rattle.std.specs.Prelude.{List, ℕ, length, ◌≤◌};
-    ghost use Rattle.element_set.specs.Kept.{texts_of};
+    ghost use Rattle.atom_layout.specs.Rows.{rows_of};
 
     ghost Value = { List (List ℕ) };
 
-    ghost view = { λ n. texts_of n.set.keys };
+    ghost view = { λ n. rows_of n.set.keys };
 
     ghost invariant = { λ n. length n.set.keys ≤ 256 };
 }

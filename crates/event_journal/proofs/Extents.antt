@@ -1,22 +1,16 @@
 -- The extent of a plane by what its last tile reaches.
-use Rattle.std.proofs.Common.{ℕ, zero, suc, ◌≡◌, ◌+◌, ◌-◌, ◌*◌, ◌/◌, ◌%◌, ◌<◌, ◌≤◌, arith, ap, ◌∙◌, min}
+use Rattle.std.proofs.Common.{ℕ, zero, ◌≡◌, ◌+◌, ◌-◌, ◌*◌, ◌/◌, ◌%◌, ◌<◌, ◌≤◌, arith, ap, ◌∙◌, min}
 use Rattle.std.proofs.Math.Nat.{mul-div_cancel}
 use Rattle.std.proofs.lemmas.Nat.{div-mul-add, mod-mul-add}
+use Rattle.list_laws.proofs.Numbers.{mul_less_one}
 use Rattle.tile_map.specs.Plane.{MapValue, IsMap, tiles_of}
 use Rattle.tile_map.specs.Spans.{right_of, bottom_of}
 
-last_tile : (a b : ℕ) → 1 ≤ a → 1 ≤ b → a * b - 1 ≡ (b - 1) * a + (a - 1)
-last_tile a zero p q = absurd (omega (arith, q))
-last_tile a (suc b) p q =
-    let e : a * suc b ≡ b * a + a = grind arith in
-    let less : suc b - 1 ≡ b = omega arith in
-    let f = ap (λ k. k * a) less in omega (arith, e, f, p)
-
 last_column : (a b : ℕ) → 1 ≤ a → 1 ≤ b → (a * b - 1) % a ≡ a - 1
-last_column a b p q = ap (λ n. n % a) (last_tile a b p q) ∙ mod-mul-add (b - 1) a (a - 1) (omega (arith, p))
+last_column a b p q = ap (λ n. n % a) (mul_less_one a b p q) ∙ mod-mul-add (b - 1) a (a - 1) (omega (arith, p))
 
 last_row : (a b : ℕ) → 1 ≤ a → 1 ≤ b → (a * b - 1) / a ≡ b - 1
-last_row a b p q = ap (λ n. n / a) (last_tile a b p q) ∙ div-mul-add (b - 1) a (a - 1) (omega (arith, p))
+last_row a b p q = ap (λ n. n / a) (mul_less_one a b p q) ∙ div-mul-add (b - 1) a (a - 1) (omega (arith, p))
 
 whole : (n s k : ℕ) → 1 ≤ n → k ≡ n - 1 → min ((k + 1) * s + 4) (n * s) ≡ n * s
 whole n s k some is = let e : k + 1 ≡ n = omega (arith, some, is) in rw e (omega arith)

@@ -1,47 +1,32 @@
 -- The journal of some logs.
-use Rattle.std.proofs.Common.{ℕ, suc, ◌≡◌, ◌≤◌, ◌<◌, ◌+◌, List, [], ◌∷◌, ◌++◌, refl, sym, ap, subst, arith, ◌⊎◌, inl, inr, ⊎_elim, Bool, true, false, ◌∙◌, length, map, All}
-use Rattle.std.specs.Prelude.{◌↔◌, ◌==◌, ◌&&◌, ◌||◌, IsTrue, nat_lt, AllPairs, Contains, flat_map, IsPermutation}
+use Rattle.std.proofs.Common.{ℕ, suc, ◌≡◌, ◌≤◌, ◌<◌, ◌+◌, List, [], ◌∷◌, ◌++◌, refl, sym, ap, subst, arith, ◌⊎◌, inl, inr, ⊎_elim, Bool, true, false, ◌∙◌, length, map, All, eq-eqb, lt-ltb, ltb-true, eqb-true}
+use Rattle.std.specs.Prelude.{◌↔◌, ◌==◌, ◌&&◌, ◌||◌, IsTrue, nat_lt, AllPairs, flat_map, IsPermutation}
 use Rattle.std.specs.List.{range_with_len}
 use Rattle.std.proofs.lemmas.Bool.Decides.{nat_tests}
 use Rattle.std.proofs.lemmas.List.Elements.{All-head, All-tail, All-contains}
 use Rattle.std.proofs.lemmas.List.Sorted.{Contains-permutation, IsPermutation-sym, length_permutation}
-use Rattle.list_laws.proofs.Members.{In, InOrder, in_either, get_in, in_get, order-append, order-pairs}
+use Rattle.std.proofs.lemmas.Bool.{or_right}
+use Rattle.list_laws.proofs.Members.{In, InOrder, in_either, get_in, order-append, order-pairs, contains_in, in_contains}
 use Rattle.list_laws.proofs.Tests.{both}
 use Rattle.cell_grid.specs.declared.record.Record.{Record}
 use Rattle.cell_grid.specs.Records.{Precedes}
 use Rattle.event_journal.specs.declared.abandoned.Abandoned.{Abandoned}
 use Rattle.event_journal.specs.Merged.{joined, merged}
-use Rattle.event_journal.specs.Logs.{LogValue, IsLog, AreLogs, IsJournal, Follows, ComesBefore, tile_of, records_of, abandoned_of, abandoned_in, is_before, records_in}
+use Rattle.event_journal.specs.Logs.{LogValue, IsLog, AreLogs, IsJournal, RisesTo, ComesBefore, tile_of, records_of, abandoned_of, abandoned_in, is_before, records_in}
 use Rattle.event_journal.proofs.Merging.{RisesBy, AllRise, AreApart, merged_permutes, merged_rises, one_order}
 use Rattle.event_journal.proofs.WalkSteps.{before_order}
 
-lt_of : (a b : ℕ) → nat_lt a b ≡ true → a < b
-lt_of a b h = grind arith
-
-is_lt : (a b : ℕ) → a < b → nat_lt a b ≡ true
-is_lt a b h = grind arith
-
-eq_of : (a b : ℕ) → (a == b) ≡ true → a ≡ b
-eq_of a b h = grind arith
-
-is_eq : (a b : ℕ) → a ≡ b → (a == b) ≡ true
-is_eq a b h = grind arith
-
-or_right : (a b : Bool) → b ≡ true → (a || b) ≡ true
-or_right true b h = refl
-or_right false b h = h
-
 pub before_of : (r s : Record) → Precedes r s → is_before r s ≡ true
 before_of r s p = ⊎_elim
-    (λ a. rw (is_lt r.stamp s.stamp a) refl)
-    (λ b. or_right (nat_lt r.stamp s.stamp) (r.stamp == s.stamp && nat_lt r.tile s.tile) (rw (is_eq r.stamp s.stamp b.0, is_lt r.tile s.tile b.1) refl)) p
+    (λ a. rw (lt-ltb r.stamp s.stamp a) refl)
+    (λ b. or_right (nat_lt r.stamp s.stamp) (r.stamp == s.stamp && nat_lt r.tile s.tile) (rw (eq-eqb r.stamp s.stamp b.0, lt-ltb r.tile s.tile b.1) refl)) p
 
 pub of_before : (r s : Record) → is_before r s ≡ true → Precedes r s
 of_before r s h = go (nat_lt r.stamp s.stamp) refl h
   where
     go : (b : Bool) → nat_lt r.stamp s.stamp ≡ b → (b || (r.stamp == s.stamp && nat_lt r.tile s.tile)) ≡ true → Precedes r s
-    go true is e = inl (lt_of r.stamp s.stamp is)
-    go false is e = let p = both (r.stamp == s.stamp) (nat_lt r.tile s.tile) e in inr (eq_of r.stamp s.stamp p.0, lt_of r.tile s.tile p.1)
+    go true is e = inl (ltb-true r.stamp s.stamp is)
+    go false is e = let p = both (r.stamp == s.stamp) (nat_lt r.tile s.tile) e in inr (eqb-true r.stamp s.stamp p.0, ltb-true r.tile s.tile p.1)
 
 -- an answer that tells whether an event precedes another
 pub tells_before : (b : Bool) (r s : Record) → (IsTrue b ↔ Precedes r s) → b ≡ is_before r s
@@ -67,19 +52,13 @@ pairs_of {A = A} lt R xs so rises = order-pairs R xs (go xs rises)
     go [] r = tt
     go (y ∷ ys) r = (λ z i. so y z (r.0 z i), go ys r.1)
 
-pub contains_of : {A : Type 0} (xs : List A) (x : A) → In x xs → Contains xs x
-contains_of xs x i = get_in xs x x i
-
-pub of_contains : {A : Type 0} (xs : List A) (x : A) → Contains xs x → In x xs
-of_contains xs x c = subst (λ y. In y xs) c.2 (in_get xs c.0 x c.1)
-
 -- the lists of all logs, one after another
 pub joined-map : {L A : Type 0} (f : L → List A) (ls : List L) → joined (map f ls) ≡ flat_map f ls
 joined-map f [] = refl
 joined-map f (l ∷ ls) = ap (λ z. f l ++ z) (joined-map f ls)
 
 log_rises : (l : LogValue) → IsLog l → RisesBy is_before l.records
-log_rises l log = rises_by is_before Follows l.records (λ x y i j f. rw (is_lt x.stamp y.stamp f.1) refl) log.rising
+log_rises l log = rises_by is_before RisesTo l.records (λ x y i j f. rw (lt-ltb x.stamp y.stamp f.1) refl) log.rising
 
 all_rise : (ls : List LogValue) → All IsLog ls → AllRise is_before (map records_of ls)
 all_rise [] all = tt
@@ -93,7 +72,7 @@ tile_above f t own n (l ∷ ls) tiles all x i =
     let first : l.tile ≡ n = cc in
     let rest : map tile_of ls ≡ range_with_len (n + 1) (length ls) = cc in
     ⊎_elim
-    (λ j. let e = All-contains (λ y. t y ≡ l.tile) (f l) x (own l (All-head IsLog l ls all)) (contains_of (f l) x j) in omega (arith, e, first))
+    (λ j. let e = All-contains (λ y. t y ≡ l.tile) (f l) x (own l (All-head IsLog l ls all)) (in_contains (f l) x j) in omega (arith, e, first))
     (λ j. let le = tile_above f t own (n + 1) ls rest (All-tail IsLog l ls all) x j in omega (arith, le)) (in_either (f l) (flat_map f ls) x i)
 
 of_other : (a b : Record) → a.tile < b.tile → (is_before a b ≡ true) ⊎ (is_before b a ≡ true)
@@ -109,7 +88,7 @@ all_apart n (l ∷ ls) tiles all =
     let first : l.tile ≡ n = cc in
     let rest : map tile_of ls ≡ range_with_len (n + 1) (length ls) = cc in (
       λ x y i j.
-          let mine = All-contains (λ (r : Record). r.tile ≡ l.tile) l.records x (All-head IsLog l ls all).records (contains_of l.records x i) in
+          let mine = All-contains (λ (r : Record). r.tile ≡ l.tile) l.records x (All-head IsLog l ls all).records (in_contains l.records x i) in
           let other = tile_above records_of (λ (r : Record). r.tile) (λ k log. log.records) (n + 1) ls rest (All-tail IsLog l ls all) y (subst (In y) (joined-map records_of ls) j) in
           of_other x y (omega (arith, mine, first, other)),
       all_apart (n + 1) ls rest (All-tail IsLog l ls all),
@@ -123,7 +102,7 @@ abandoned_order n (l ∷ ls) tiles all =
     let log = All-head IsLog l ls all in
     order-append ComesBefore l.abandoned (abandoned_in ls) (in_log l.abandoned log.abandoned log.attempts) (abandoned_order (n + 1) ls rest (All-tail IsLog l ls all))
     (λ x y i j.
-    let mine = All-contains (λ (a : Abandoned). a.tile ≡ l.tile) l.abandoned x log.abandoned (contains_of l.abandoned x i) in
+    let mine = All-contains (λ (a : Abandoned). a.tile ≡ l.tile) l.abandoned x log.abandoned (in_contains l.abandoned x i) in
     let other = tile_above abandoned_of (λ (a : Abandoned). a.tile) (λ k kept. kept.abandoned) (n + 1) ls rest (All-tail IsLog l ls all) y j in
     inl (omega (arith, mine, first, other)))
   where
@@ -134,7 +113,7 @@ abandoned_order n (l ∷ ls) tiles all =
           let p = get_in xs y x i in
           let less : x.attempt < y.attempt = subst (λ (z : Abandoned). x.attempt < z.attempt) p.2 (pairs 0 (suc p.0) x (omega arith) (omega (arith, p.1))) in
           let one = All-head (λ (a : Abandoned). a.tile ≡ l.tile) x xs own in
-          let two = All-contains (λ (a : Abandoned). a.tile ≡ l.tile) xs y (All-tail (λ (a : Abandoned). a.tile ≡ l.tile) x xs own) (contains_of xs y i) in
+          let two = All-contains (λ (a : Abandoned). a.tile ≡ l.tile) xs y (All-tail (λ (a : Abandoned). a.tile ≡ l.tile) x xs own) (in_contains xs y i) in
           inr (one ∙ sym two, less),
       in_log xs (All-tail (λ (a : Abandoned). a.tile ≡ l.tile) x xs own) (λ i j d a b. pairs (suc i) (suc j) d (omega (arith, a)) (omega (arith, b))),
     )
@@ -148,8 +127,8 @@ journal_of ls logs all =
       records = permutes;
       order = pairs_of is_before Precedes (merged is_before (map records_of ls)) of_before rises;
       one = λ rs same pairs. one_order is_before before_order rs (merged is_before (map records_of ls)) (rises_by is_before Precedes rs (λ x y i j p. before_of x y p) pairs) rises
-          (λ z i. of_contains (merged is_before (map records_of ls)) z (Contains-permutation _ _ z permutes (Contains-permutation _ _ z (IsPermutation-sym _ _ same) (contains_of rs z i))))
-          (λ z i. of_contains rs z (Contains-permutation _ _ z same (Contains-permutation _ _ z (IsPermutation-sym _ _ permutes) (contains_of (merged is_before (map records_of ls)) z i))));
+          (λ z i. contains_in (merged is_before (map records_of ls)) z (Contains-permutation _ _ z permutes (Contains-permutation _ _ z (IsPermutation-sym _ _ same) (in_contains rs z i))))
+          (λ z i. contains_in rs z (Contains-permutation _ _ z same (Contains-permutation _ _ z (IsPermutation-sym _ _ permutes) (in_contains (merged is_before (map records_of ls)) z i))));
       abandoned = order-pairs ComesBefore (abandoned_in ls) (abandoned_order 0 ls logs.tiles all);
     }
 
@@ -157,3 +136,7 @@ journal_of ls logs all =
 pub length-records_in : (ls : List LogValue) → length (records_in ls) ≡ length (flat_map records_of ls)
 unfolding records_in
 length-records_in ls = length_permutation (joined (map records_of ls)) (merged is_before (map records_of ls)) (merged_permutes is_before before_order (map records_of ls)) ∙ ap length (joined-map records_of ls)
+
+-- a stand-in for an event that does not exist
+abbrev pub no_record : Record
+no_record = record { stamp = 0; tile = 0; attempt = 0; x = 0; y = 0; seed = 0 }

@@ -3,7 +3,7 @@ use Rattle.std.proofs.Common.{ℕ, ◌≡◌, ◌+◌, List, [], ◌∷◌, ◌+
 use Rattle.std.specs.Prelude.{if◌then◌else◌, slice_get, IsPermutation}
 use Rattle.std.proofs.lemmas.List.Sorted.{IsPermutation-refl, IsPermutation-cons, IsPermutation-append_right, IsPermutation-middle, IsPermutation-trans, length_permutation}
 use Rattle.list_laws.proofs.Members.{In, in_left, in_right, in_either}
-use Rattle.event_journal.specs.Merged.{joined, better, least_from, without, and_then, merged_few, merged}
+use Rattle.event_journal.specs.Merged.{joined, better, least_from, without, found_then, merged_few, merged}
 
 -- a strict order: of two elements that are in order a third is after the first or before the second
 pub record IsOrder {A : Type 0} (lt : A → A → Bool) : Type 0 where
@@ -101,7 +101,7 @@ module _ {A : Type 0} (lt : A → A → Bool) (o : IsOrder lt) where
       go (x ∷ xs) e' = absurd (omega (arith, e'))
   merged_all (suc n) ls e = go (least_from lt None 0 ls) (found None 0 ls) (λ ks le. merged_all n ks le)
     where
-      go : (r : Option (ℕ × A)) → Found None 0 ls r → ((ks : List (List A)) → length (joined ks) ≡ n → IsPermutation (joined ks) (merged_few lt n ks)) → IsPermutation (joined ls) (and_then r (λ k. merged_few lt n (without ls k)))
+      go : (r : Option (ℕ × A)) → Found None 0 ls r → ((ks : List (List A)) → length (joined ks) ≡ n → IsPermutation (joined ks) (merged_few lt n ks)) → IsPermutation (joined ls) (found_then r (λ k. merged_few lt n (without ls k)))
       go None f rec = absurd (omega (arith, e, ap length f.1))
       go (Some p) f rec = ⊎_elim (λ h. absurd (cc (h)))
           (λ (q : (j : ℕ) × (xs : List A) × (p.0 ≡ 0 + j) × (slice_get ls j ≡ Some (p.1 ∷ xs))).
@@ -184,7 +184,7 @@ module _ {A : Type 0} (lt : A → A → Bool) (o : IsOrder lt) where
       there (ys ∷ ls) zero x xs q = let e : ys ≡ x ∷ xs = cc (q) in in_left ys (joined ls) x (subst (In x) (sym e) (inl refl))
       there (ys ∷ ls) (suc k) x xs q = in_right ys (joined ls) x (there ls k x xs q)
 
-      go : (r : Option (ℕ × A)) → Found None 0 ls r → In y (and_then r (λ k. merged_few lt n (without ls k))) → ((k : ℕ) → In y (merged_few lt n (without ls k)) → In y (joined (without ls k))) → In y (joined ls)
+      go : (r : Option (ℕ × A)) → Found None 0 ls r → In y (found_then r (λ k. merged_few lt n (without ls k))) → ((k : ℕ) → In y (merged_few lt n (without ls k)) → In y (joined (without ls k))) → In y (joined ls)
       go None f j rec = absurd j
       go (Some p) f j rec = ⊎_elim (λ (h : None ≡ Some p). absurd (cc (h)))
           (λ (q : (j : ℕ) × (xs : List A) × (p.0 ≡ 0 + j) × (slice_get ls j ≡ Some (p.1 ∷ xs))). ⊎_elim (λ (e : y ≡ p.1). subst (λ z. In z (joined ls)) (sym e) (there ls q.0 p.1 q.1 q.3)) (λ l. still_in ls p.0 y (rec p.0 l)) j) f.0
@@ -194,7 +194,7 @@ module _ {A : Type 0} (lt : A → A → Bool) (o : IsOrder lt) where
   rises_in zero ls r a = tt
   rises_in (suc n) ls r a = go (least_from lt None 0 ls) (found None 0 ls) (λ k. rises_in n (without ls k) (still_rise ls k r) (still_apart ls k a))
     where
-      go : (m : Option (ℕ × A)) → Found None 0 ls m → ((k : ℕ) → RisesBy lt (merged_few lt n (without ls k))) → RisesBy lt (and_then m (λ k. merged_few lt n (without ls k)))
+      go : (m : Option (ℕ × A)) → Found None 0 ls m → ((k : ℕ) → RisesBy lt (merged_few lt n (without ls k))) → RisesBy lt (found_then m (λ k. merged_few lt n (without ls k)))
       go None f rec = tt
       go (Some p) f rec = ⊎_elim (λ (h : None ≡ Some p). absurd (cc (h)))
           (λ (q : (j : ℕ) × (xs : List A) × (p.0 ≡ 0 + j) × (slice_get ls j ≡ Some (p.1 ∷ xs))).
@@ -240,7 +240,7 @@ module _ {A : Type 0} (lt : A → A → Bool) (o : IsOrder lt) where
 
       go : (n : ℕ) → length (joined ls) ≡ n → merged_few lt n ls ≡ p.1 ∷ merged_few lt (length (joined (without ls p.0))) (without ls p.0)
       go zero is = absurd (omega (arith, is, long))
-      go (suc n) is = let k : n ≡ length (joined (without ls p.0)) = omega (arith, is, long) in ap (λ r. and_then r (λ i. merged_few lt n (without ls i))) e ∙ ap (λ j. p.1 ∷ merged_few lt j (without ls p.0)) k
+      go (suc n) is = let k : n ≡ length (joined (without ls p.0)) = omega (arith, is, long) in ap (λ r. found_then r (λ i. merged_few lt n (without ls i))) e ∙ ap (λ j. p.1 ∷ merged_few lt j (without ls p.0)) k
 
   pub next_inside : (ls : List (List A)) (p : ℕ × A) → least_from lt None 0 ls ≡ Some p → (xs : List A) × (slice_get ls p.0 ≡ Some (p.1 ∷ xs))
   next_inside ls p e = ⊎_elim (λ (h : None ≡ Some p). absurd (cc (h)))

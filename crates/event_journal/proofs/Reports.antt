@@ -11,9 +11,9 @@ use Rattle.draw_stream.specs.declared.attempt.Attempt.{Attempt}
 use Rattle.tile_map.specs.Plane.{MapValue}
 use Rattle.event_journal.specs.declared.fault.LineFault.{LineFault}
 use Rattle.event_journal.specs.declared.fault.LineFault.TheVariants.{BadForm}
-use Rattle.event_journal.specs.declared.seats.Seat.{Seat}
+use Rattle.event_journal.specs.declared.cursors.LogCursor.{LogCursor}
 use Rattle.event_journal.specs.Reading.{Said, fields_step, line_step, read_report, read_lines, nothing_said, is_over, go_on, IsFault, fault_of}
-use Rattle.event_journal.specs.Seats.{Serves, last_of, lasts_of, ReadsJournal}
+use Rattle.event_journal.specs.Cursors.{Serves, last_of, lasts_of, ReadsJournal}
 use Rattle.event_journal.specs.declared.fault.JournalFault.{JournalFault}
 use Rattle.event_journal.specs.declared.reader.ReadJournal.{ReadJournal}
 
@@ -65,19 +65,19 @@ replicate_more : (n : ℕ) → replicate n None ++ None ∷ [] ≡ replicate {A 
 replicate_more zero = refl
 replicate_more (suc n) = ap (λ z. None ∷ z) (replicate_more n)
 
--- a seat more that has passed nothing
-pub fresh_more : (seats : List Seat) (n : ℕ) (s : Seat) → last_of s ≡ None → lasts_of seats ≡ replicate n None → lasts_of (seats ++ s ∷ []) ≡ replicate (n + 1) None
-fresh_more seats n s is was =
-    map-append last_of seats (s ∷ []) ∙ ap (λ z. z ++ last_of s ∷ []) was ∙ ap (λ (o : Option (ℕ × ℕ)). replicate n None ++ o ∷ []) is ∙ replicate_more n
+-- one more cursor, which has passed nothing
+pub fresh_more : (cursors : List LogCursor) (n : ℕ) (s : LogCursor) → last_of s ≡ None → lasts_of cursors ≡ replicate n None → lasts_of (cursors ++ s ∷ []) ≡ replicate (n + 1) None
+fresh_more cursors n s is was =
+    map-append last_of cursors (s ∷ []) ∙ ap (λ z. z ++ last_of s ∷ []) was ∙ ap (λ (o : Option (ℕ × ℕ)). replicate n None ++ o ∷ []) is ∙ replicate_more n
     ∙ (let next : suc n ≡ n + 1 = omega arith in ap (λ k. replicate {A = Option (ℕ × ℕ)} k None) next)
 
-pub serve_more : (seats : List Seat) (lists : List (List Attempt)) (n : ℕ) (s : Seat) → length seats ≡ n → ((t : ℕ) (d : Seat) → t < n → Serves (get_or seats t d) (get_or lists t [])) →
-    Serves s (get_or lists n []) → (t : ℕ) (d : Seat) → t < n + 1 → Serves (get_or (seats ++ s ∷ []) t d) (get_or lists t [])
-serve_more seats lists n s size before last t d less = elim (eqb_tells t n) [
-  | inl same ↦ subst (λ k. Serves (get_or (seats ++ s ∷ []) k d) (get_or lists k [])) (sym same.1)
-      (subst (λ (z : Seat). Serves z (get_or lists n [])) (sym (ap (λ k. get_or (seats ++ s ∷ []) k d) (sym size) ∙ get_or-append_seam seats s [] d)) last)
+pub serve_more : (cursors : List LogCursor) (lists : List (List Attempt)) (n : ℕ) (s : LogCursor) → length cursors ≡ n → ((t : ℕ) (d : LogCursor) → t < n → Serves (get_or cursors t d) (get_or lists t [])) →
+    Serves s (get_or lists n []) → (t : ℕ) (d : LogCursor) → t < n + 1 → Serves (get_or (cursors ++ s ∷ []) t d) (get_or lists t [])
+serve_more cursors lists n s size before last t d less = elim (eqb_tells t n) [
+  | inl same ↦ subst (λ k. Serves (get_or (cursors ++ s ∷ []) k d) (get_or lists k [])) (sym same.1)
+      (subst (λ (z : LogCursor). Serves z (get_or lists n [])) (sym (ap (λ k. get_or (cursors ++ s ∷ []) k d) (sym size) ∙ get_or-append_seam cursors s [] d)) last)
   | inr other ↦ let o = other.1 in let lt : t < n = below t n less o in
-      subst (λ (z : Seat). Serves z (get_or lists t [])) (sym (get_or_append_left seats (s ∷ []) d t (omega (arith, size, lt)))) (before t d lt)
+      subst (λ (z : LogCursor). Serves z (get_or lists t [])) (sym (get_or_append_left cursors (s ∷ []) d t (omega (arith, size, lt)))) (before t d lt)
 ]
   where
     below : (t n : ℕ) → t < n + 1 → t ≢ n → t < n

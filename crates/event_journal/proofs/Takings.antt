@@ -3,15 +3,15 @@ use Rattle.std.proofs.Common.{ℕ, zero, suc, true, false, ◌≡◌, ◌+◌, �
 use Rattle.std.proofs.Math.ListN.{set}
 use Rattle.std.proofs.lemmas.Bool.Decides.{eqb_tells}
 use Rattle.std.proofs.lemmas.List.{drop-drop, get_or-map, get_or-set_same, get_or-set_other, length-set}
-use Rattle.event_journal.specs.declared.seats.Seat.{Seat}
-use Rattle.event_journal.specs.Seats.{last_of, lasts_of, Serves, AllServe}
+use Rattle.event_journal.specs.declared.cursors.LogCursor.{LogCursor}
+use Rattle.event_journal.specs.Cursors.{last_of, lasts_of, Serves, AllServe}
 use Rattle.draw_stream.specs.declared.attempt.Attempt.{Attempt}
 use Rattle.draw_stream.specs.Plans.{TakesNext}
 use Rattle.cell_grid.specs.declared.record.Record.{Record}
 use Rattle.tile_map.specs.Plane.{MapValue, IsMap, site, tiles_of, in_plane, owner_of}
 use Rattle.tile_map.proofs.PlaneLaws.{owner_low}
 use Rattle.event_journal.specs.declared.fault.LineFault.TheVariants.{OutOfTurn, ElsewhereThanTile, OtherThanAttempt}
-use Rattle.event_journal.specs.Reading.{first_of, record_fault, is_behind, line_before, is_at_home, is_attempt, place_fault}
+use Rattle.event_journal.specs.Reading.{first_of, record_fault, is_behind, line_before, is_at_home, is_attempt, attempt_fault}
 
 pub drop_more : (l : List Attempt) (i j k : ℕ) → i + j ≡ k → drop j (drop i l) ≡ drop k l
 drop_more l i j k e = drop-drop j i l ∙ ap (λ n. drop n l) e
@@ -34,27 +34,27 @@ pub takes_over : (s l m : List Attempt) (o : Option Attempt) (i k : ℕ) → i �
 takes_over s [] m o i k le e n t = t.1 ∙ sym (drop_none (k - i)) ∙ ap (λ z. drop (k - i) z) e ∙ drop_more s i (k - i) k (omega arith)
 takes_over s (a ∷ rest) m o i k le e n t = let u = t.0 in cc
 
-pub placed_elsewhere : (m : MapValue) (list : List Attempt) (r : Record) → is_at_home m r ≡ false → place_fault m list r ≡ Some ElsewhereThanTile
+pub placed_elsewhere : (m : MapValue) (list : List Attempt) (r : Record) → is_at_home m r ≡ false → attempt_fault m list r ≡ Some ElsewhereThanTile
 placed_elsewhere m list r e = rw e refl
 
-pub placed_other : (m : MapValue) (list : List Attempt) (r : Record) → is_at_home m r ≡ true → is_attempt m (first_of (drop r.attempt list)) r ≡ false → place_fault m list r ≡ Some OtherThanAttempt
+pub placed_other : (m : MapValue) (list : List Attempt) (r : Record) → is_at_home m r ≡ true → is_attempt m (first_of (drop r.attempt list)) r ≡ false → attempt_fault m list r ≡ Some OtherThanAttempt
 placed_other m list r e f = rw (e, f) refl
 
-pub placed_well : (m : MapValue) (list : List Attempt) (r : Record) → is_at_home m r ≡ true → is_attempt m (first_of (drop r.attempt list)) r ≡ true → place_fault m list r ≡ None
+pub placed_well : (m : MapValue) (list : List Attempt) (r : Record) → is_at_home m r ≡ true → is_attempt m (first_of (drop r.attempt list)) r ≡ true → attempt_fault m list r ≡ None
 placed_well m list r e f = rw (e, f) refl
 
-pub seat_serves : (seats : List Seat) (lists : List (List Attempt)) (t : ℕ) (s : Seat) → AllServe seats lists → t < length seats → s ≡ get_or seats t s → Serves s (get_or lists t [])
-seat_serves seats lists t s all lt is = subst (λ (z : Seat). Serves z (get_or lists t [])) (sym is) (all.each t s lt)
+pub cursor_serves : (cursors : List LogCursor) (lists : List (List Attempt)) (t : ℕ) (s : LogCursor) → AllServe cursors lists → t < length cursors → s ≡ get_or cursors t s → Serves s (get_or lists t [])
+cursor_serves cursors lists t s all lt is = subst (λ (z : LogCursor). Serves z (get_or lists t [])) (sym is) (all.each t s lt)
 
-pub seat_last : (seats : List Seat) (t : ℕ) (s : Seat) → t < length seats → s ≡ get_or seats t s → get_or (lasts_of seats) t None ≡ last_of s
-seat_last seats t s lt is = get_or-map last_of seats t s None lt ∙ ap last_of (sym is)
+pub cursor_last : (cursors : List LogCursor) (t : ℕ) (s : LogCursor) → t < length cursors → s ≡ get_or cursors t s → get_or (lasts_of cursors) t None ≡ last_of s
+cursor_last cursors t s lt is = get_or-map last_of cursors t s None lt ∙ ap last_of (sym is)
 
-pub seats_serve : (seats : List Seat) (lists : List (List Attempt)) (t : ℕ) (new : Seat) → AllServe seats lists → t < length seats → Serves new (get_or lists t []) → AllServe (set seats t new) lists
-seats_serve seats lists t new all lt serves = record {
-  as_many = all.as_many ∙ sym (length-set seats t new);
+pub cursors_serve : (cursors : List LogCursor) (lists : List (List Attempt)) (t : ℕ) (new : LogCursor) → AllServe cursors lists → t < length cursors → Serves new (get_or lists t []) → AllServe (set cursors t new) lists
+cursors_serve cursors lists t new all lt serves = record {
+  as_many = all.as_many ∙ sym (length-set cursors t new);
   each = λ u d less. elim (eqb_tells u t) [
-    | inl same ↦ subst (λ (s : Seat). Serves s (get_or lists u [])) (sym (ap (λ k. get_or (set seats t new) k d) same.1 ∙ get_or-set_same seats t new d lt)) (subst (λ (k : ℕ). Serves new (get_or lists k [])) (sym same.1) serves)
-    | inr other ↦ subst (λ (s : Seat). Serves s (get_or lists u [])) (sym (get_or-set_other seats t u new d other.1)) (all.each u d (omega (arith, length-set seats t new, less)))
+    | inl same ↦ subst (λ (s : LogCursor). Serves s (get_or lists u [])) (sym (ap (λ k. get_or (set cursors t new) k d) same.1 ∙ get_or-set_same cursors t new d lt)) (subst (λ (k : ℕ). Serves new (get_or lists k [])) (sym same.1) serves)
+    | inr other ↦ subst (λ (s : LogCursor). Serves s (get_or lists u [])) (sym (get_or-set_other cursors t u new d other.1)) (all.each u d (omega (arith, length-set cursors t new, less)))
   ];
 }
 

@@ -55,7 +55,7 @@ stamp_after m before r = 1 + fold (λ greatest (s : Record). max greatest s.stam
 abbrev pub IsStamped : MapValue → List Record → Type 0
 IsStamped m records = (k : ℕ) (d : Record) → k < length records → (slice_index_or records k d).stamp ≡ stamp_after m (take k records) (slice_index_or records k d)
 
--- attempt i of tile t is there, and needs the edge
+-- tile t has an attempt i, and it needs the edge
 abbrev pub Needs : MapValue → PlanValue → ℕ → ℕ → ℕ → Type 0
 Needs m plan t i e = (a : Attempt) × (slice_get (attempts plan t) i ≡ Some a) × Contains (needs_of m t (site_in m t a.centre)) e
 

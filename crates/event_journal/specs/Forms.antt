@@ -1,15 +1,11 @@
 -- The forms of the lines of a report.
 use Rattle.std.specs.Prelude.{ℕ, ◌^◌, Bool, false, ◌&&◌, List, [], ◌∷◌, nat_lt, codes, bytes_eq, Option, Some, None, option_map, is_some, if◌then◌else◌}
+use Rattle.cell_grid.specs.Grid.{below}
 use Rattle.feast_base.specs.TypeNames.{is_type_name}
 use Rattle.text_lines.specs.Fields.{hex_of}
 use Rattle.text_lines.specs.Forms.{with, take_number, one_field, one_number, one_seed}
 use Rattle.cell_grid.specs.declared.record.Record.{Record}
 use Rattle.event_journal.specs.declared.abandoned.Abandoned.{Abandoned}
-
--- a number below a bound
-abbrev pub below : ℕ → Option ℕ → Option ℕ
-below bound None = None
-below bound (Some n) = if nat_lt n bound then Some n else None
 
 -- the number below a bound that the first field is, and the other fields
 abbrev pub take_below : ℕ → List (List ℕ) → Option (ℕ × List (List ℕ))

@@ -1,9 +1,9 @@
 pub mod Accounts
+pub mod Cursors
 pub mod Cuts
 pub mod Forms
 pub mod Logs
 pub mod Merged
 pub mod Reading
-pub mod Seats
 pub mod Text
 pub mod Walks

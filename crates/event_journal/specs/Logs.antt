@@ -1,5 +1,5 @@
 -- The logs of the tiles, and the journal that they make.
-use Rattle.std.specs.Prelude.{ℕ, ◌≡◌, ◌≤◌, ◌<◌, ◌+◌, ◌⊎◌, ◌==◌, Bool, ◌&&◌, ◌||◌, nat_lt, List, All, AllPairs, length, map, flat_map, IsPermutation}
+use Rattle.std.specs.Prelude.{ℕ, ◌≡◌, ◌≤◌, ◌<◌, ◌+◌, ◌⊎◌, ◌==◌, Bool, ◌&&◌, ◌||◌, nat_lt, List, All, AllPairs, length, map, flat_map, IsPermutation, filter}
 use Rattle.std.specs.List.{range_with_len}
 use Rattle.cell_grid.specs.declared.record.Record.{Record}
 use Rattle.cell_grid.specs.Records.{Precedes}
@@ -16,14 +16,14 @@ abbrev pub log_of : ℕ → List Record → List Abandoned → LogValue
 log_of tile records abandoned = record { tile = tile; records = records; abandoned = abandoned }
 
 -- of two events of a tile the later has the greater attempt and the greater stamp
-abbrev pub Follows : Record → Record → Type 0
-Follows r s = (r.attempt < s.attempt) × (r.stamp < s.stamp)
+abbrev pub RisesTo : Record → Record → Type 0
+RisesTo r s = (r.attempt < s.attempt) × (r.stamp < s.stamp)
 
 -- the entries of one tile, in the order in which they were made
 pub record IsLog (l : LogValue) : Type 0 where
   pub records : All (λ (r : Record). r.tile ≡ l.tile) l.records
   pub abandoned : All (λ (a : Abandoned). a.tile ≡ l.tile) l.abandoned
-  pub rising : AllPairs Follows l.records
+  pub rising : AllPairs RisesTo l.records
   pub attempts : AllPairs (λ (a b : Abandoned). a.attempt < b.attempt) l.abandoned
 
 abbrev pub tile_of : LogValue → ℕ
@@ -66,3 +66,11 @@ pub record IsJournal (logs : List LogValue) : Type 0 where
   pub one : (rs : List Record) → IsPermutation (flat_map records_of logs) rs → AllPairs Precedes rs → rs ≡ records_in logs
   -- its abandoned attempts are in order of tile and then attempt
   pub abandoned : AllPairs ComesBefore (abandoned_in logs)
+
+-- the events of a tile
+abbrev pub of_tile : ℕ → List Record → List Record
+of_tile t records = filter (λ (r : Record). r.tile == t) records
+
+-- the abandoned attempts of a tile
+abbrev pub abandoned_by : ℕ → List Abandoned → List Abandoned
+abandoned_by t abandoned = filter (λ (g : Abandoned). g.tile == t) abandoned

@@ -20,14 +20,14 @@ without (xs ∷ ls) zero = drop 1 xs ∷ ls
 without (xs ∷ ls) (suc k) = xs ∷ without ls k
 
 -- an element that was found, and then those of the lists without it
-abbrev pub and_then : {A : Type 0} → Option (ℕ × A) → (ℕ → List A) → List A
-and_then None rest = []
-and_then (Some p) rest = p.1 ∷ rest p.0
+abbrev pub found_then : {A : Type 0} → Option (ℕ × A) → (ℕ → List A) → List A
+found_then None rest = []
+found_then (Some p) rest = p.1 ∷ rest p.0
 
 -- the first n elements obtained from some lists by repeatedly taking the least of the first ones
 unfoldable pub merged_few : {A : Type 0} → (A → A → Bool) → ℕ → List (List A) → List A
 merged_few lt zero ls = []
-merged_few lt (suc n) ls = and_then (least_from lt None 0 ls) (λ k. merged_few lt n (without ls k))
+merged_few lt (suc n) ls = found_then (least_from lt None 0 ls) (λ k. merged_few lt n (without ls k))
 
 -- all elements of some lists, list by list
 abbrev pub joined : {A : Type 0} → List (List A) → List A

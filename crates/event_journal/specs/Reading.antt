@@ -81,8 +81,8 @@ first_of (a ∷ rest) = Some a
 
 -- the fault of a record whose site is not its tile's, or whose attempt is not among those of its
 -- tile
-abbrev pub place_fault : MapValue → List Attempt → Record → Option LineFault
-place_fault m list r = if not (is_at_home m r) then Some ElsewhereThanTile else (if not (is_attempt m (first_of (drop r.attempt list)) r) then Some OtherThanAttempt else None)
+abbrev pub attempt_fault : MapValue → List Attempt → Record → Option LineFault
+attempt_fault m list r = if not (is_at_home m r) then Some ElsewhereThanTile else (if not (is_attempt m (first_of (drop r.attempt list)) r) then Some OtherThanAttempt else None)
 
 -- the fault by the line of an earlier record of the tile, or else another one
 abbrev pub earlier : Option ℕ → Option LineFault → Option LineFault
@@ -94,12 +94,12 @@ earlier None other = other
 unfoldable pub record_fault : MapValue → ℕ → Option Record → Option (ℕ × ℕ) → List Attempt → Record → Option LineFault
 record_fault m n before last list r =
     if not (is_behind before r) then Some (OutOfTurn (line_before n before))
-    else earlier (not_later last r.attempt) (place_fault m list r)
+    else earlier (not_later last r.attempt) (attempt_fault m list r)
 
 abbrev pub put_record : ℕ → Said → Wants → Record → Said
 put_record n d next r = record d { wants = next; before = Some r; lasts = slice_set d.lasts r.tile (Some (n, r.attempt)); journal = d.journal ++ r ∷ [] }
 
--- what is said with more, or the fault
+-- what has been said, unless there is a fault
 abbrev pub unless : Option LineFault → Said → Result Said LineFault
 unless None d = Ok d
 unless (Some fault) d = Err fault
@@ -165,7 +165,7 @@ fault_of (NotOwned line) = Some (line, ElsewhereThanTile)
 fault_of (NotDrawn line) = Some (line, OtherThanAttempt)
 fault_of NoMemory = None
 
--- an answer with a fault is the expected one; running out of memory says nothing
+-- a fault is answered only if it is the one that is asked for; running out of memory says nothing
 abbrev pub IsFault : {X : Type 0} → Result X (ℕ × LineFault) → Option (ℕ × LineFault) → Type 0
 IsFault asked None = Unit {0}
 IsFault asked (Some fault) = asked ≡ Err fault

@@ -17,11 +17,11 @@ record_fields r = decimal r.stamp ∷ decimal r.tile ∷ decimal r.attempt ∷ d
 abbrev pub abandoned_fields : Abandoned → List (List ℕ)
 abandoned_fields a = decimal a.tile ∷ decimal a.attempt ∷ decimal a.x ∷ decimal a.y ∷ decimal a.edge ∷ decimal a.holder ∷ decimal a.holder_attempt ∷ []
 
--- how many events there are, and one line for each
+-- the number of events, and a line for each
 abbrev pub record_lines : List Record → List (List (List ℕ))
 record_lines records = count_fields (codes "journal") (length records) ∷ map record_fields records
 
--- how many attempts were given up, and one line for each
+-- the number of attempts that were given up, and a line for each
 abbrev pub abandoned_lines : List Abandoned → List (List (List ℕ))
 abandoned_lines abandoned = count_fields (codes "abandoned") (length abandoned) ∷ map abandoned_fields abandoned
 

@@ -1,9 +1,9 @@
 //! The attempts that were given up.
 
-/// An attempt that was given up, since an edge that it needs was held.
+/// An attempt that was given up because an edge that it needs was held.
 #[derive(Clone, Copy, Debug, PartialEq, Eq)]
 pub struct Abandoned {
-    /// The tile whose attempt it is.
+    /// The tile that made the attempt.
     pub tile: u32,
     /// The number of the tile's attempt, from 0.
     pub attempt: u64,
@@ -15,6 +15,6 @@ pub struct Abandoned {
     pub edge: u32,
     /// The tile at the edge's other end, which held it.
     pub holder: u32,
-    /// The number of that tile's attempt for which it held the edge.
+    /// The number of the holder's attempt for which it held the edge.
     pub holder_attempt: u64,
 }

@@ -8,8 +8,9 @@ use std::alloc::{AllocError, AllocFailed};
 /// Why a text is not a journal, with the number of the line, from 1.
 #[derive(Clone, Copy, Debug, PartialEq, Eq)]
 pub enum JournalFault {
-    /// A line has another form, a count does not agree, or a line is missing or one too many (80).
-    /// For a missing line it is the number of the line after the last.
+    /// A line does not have the form that is due, a count does not agree, a line is missing, or
+    /// there is one too many (80). If a line is missing, the number is that of the line after the
+    /// last.
     BadLine(u64),
     /// A record does not come after that of the line before it, by stamp and then tile, or the
     /// attempt of its tile's last record is not smaller (81). The second number is the line of that
@@ -17,23 +18,23 @@ pub enum JournalFault {
     OutOfOrder(u64, u64),
     /// There is no such tile, or it does not own the site (82).
     NotOwned(u64),
-    /// The tile has no such attempt, or one of another centre or seed (83).
+    /// The tile has no attempt of this number, or that attempt has another centre or seed (83).
     NotDrawn(u64),
-    /// There was no memory.
+    /// Memory ran out.
     NoMemory,
 }
 
 /// What is wrong with a line.
 #[derive(Clone, Copy, Debug, PartialEq, Eq)]
 pub enum LineFault {
-    /// It has another form than the line that must be there.
+    /// It does not have the form that is due.
     BadForm,
-    /// Its record is in the wrong order relative to that of a line, or is a first record of stamp 0
-    /// (0).
+    /// Its record is out of order with that of the line of this number, or it is a first record
+    /// with the stamp 0; the number is then 0.
     OutOfTurn(u64),
-    /// Its site is not one of its tile.
+    /// Its site is not one of its tile's.
     ElsewhereThanTile,
-    /// It is not one of the attempts of its tile.
+    /// It is not one of its tile's attempts.
     OtherThanAttempt,
 }
 

@@ -1,15 +1,16 @@
 //! The forms of the lines of a report.
 ghost use Rattle.std.specs.Prelude.{◌≡◌, ◌^◌, is_some, option_copied, option_map};
+ghost use Rattle.cell_grid.specs.Grid.{below};
 ghost use Rattle.text_lines.specs.Fields.{args_of, fields, hex_of};
 ghost use Rattle.text_lines.specs.Forms.{one_field, one_number, with};
-ghost use Rattle.event_journal.specs.Forms.{abandoned_form, below, count_form, is_atom, is_header, is_name_state, is_one, record_form, site_form, take_attempt, take_small};
+ghost use Rattle.event_journal.specs.Forms.{abandoned_form, count_form, is_atom, is_header, is_name_state, is_one, record_form, site_form, take_attempt, take_small};
 
 use crate::abandoned::Abandoned;
 use cell_grid::Record;
 use feast_base::is_type_name;
 use text_lines::{first_field, one_field, one_number, one_seed, state, take_number};
 
-/// The number below 2^32 that the first field is, and the other fields.
+/// The first field as a number below 2^32, and the other fields.
 fn take_small(args: Option<&[u8]>) -> Option<(u32, Option<&[u8]>)>
     ensures { option_map (λ r. (r.0, args_of (option_copied r.1))) result ≡ take_small (args_of (option_copied args.entry)) }
 {
@@ -21,7 +22,7 @@ fn take_small(args: Option<&[u8]>) -> Option<(u32, Option<&[u8]>)>
     }
 }
 
-/// The number below 2^64 that the first field is, and the other fields.
+/// The first field as a number below 2^64, and the other fields.
 fn take_attempt(args: Option<&[u8]>) -> Option<(u64, Option<&[u8]>)>
     ensures { option_map (λ r. (r.0, args_of (option_copied r.1))) result ≡ take_attempt (args_of (option_copied args.entry)) }
 {
@@ -33,7 +34,7 @@ fn take_attempt(args: Option<&[u8]>) -> Option<(u64, Option<&[u8]>)>
     }
 }
 
-/// A site and a seed.
+/// The fields as a site and a seed.
 fn site_form(args: Option<&[u8]>) -> Option<(u32, u32, u64)>
     ensures { result ≡ site_form (args_of (option_copied args.entry)) }
 {
@@ -43,7 +44,7 @@ fn site_form(args: Option<&[u8]>) -> Option<(u32, u32, u64)>
     Some((x, y, seed))
 }
 
-/// The event that some fields are.
+/// The fields as an event.
 #[tactic(auto, unfolding(crate::specs::Forms::record_form))]
 pub(crate) fn record_form(args: Option<&[u8]>) -> Option<Record>
     ensures { result ≡ record_form (args_of (option_copied args.entry)) }
@@ -62,7 +63,7 @@ pub(crate) fn record_form(args: Option<&[u8]>) -> Option<Record>
     })
 }
 
-/// The attempt that the last field of a line is.
+/// The last field of a line as the number of an attempt.
 fn last_attempt(args: Option<&[u8]>) -> Option<u64>
     ensures { result ≡ below (2 ^ 64) (one_number (args_of (option_copied args.entry))) }
 {
@@ -74,7 +75,7 @@ fn last_attempt(args: Option<&[u8]>) -> Option<u64>
     }
 }
 
-/// The abandoned attempt that some fields are.
+/// The fields as an abandoned attempt.
 #[tactic(auto, unfolding(crate::specs::Forms::abandoned_form))]
 pub(crate) fn abandoned_form(args: Option<&[u8]>) -> Option<Abandoned>
     ensures { result ≡ abandoned_form (args_of (option_copied args.entry)) }
@@ -97,7 +98,7 @@ pub(crate) fn abandoned_form(args: Option<&[u8]>) -> Option<Abandoned>
     })
 }
 
-/// The count after a word.
+/// The fields as a word and a count, if the word is this one.
 #[tactic(auto, unfolding(crate::specs::Forms::count_form))]
 pub(crate) fn count_form(word: &[u8], args: Option<&[u8]>) -> Option<u32>
     ensures { result ≡ count_form word.now (args_of (option_copied args.entry)) }
@@ -114,7 +115,7 @@ pub(crate) fn count_form(word: &[u8], args: Option<&[u8]>) -> Option<u32>
     }
 }
 
-/// Whether the one field is the digits of a state.
+/// Whether there is one field, and it is the digits of a state.
 fn is_state(args: Option<&[u8]>) -> bool
     ensures { result ≡ is_some (with (one_field (args_of (option_copied args.entry))) (hex_of 18)) }
 {
@@ -124,7 +125,7 @@ fn is_state(args: Option<&[u8]>) -> bool
     }
 }
 
-/// Whether some fields are the name of a type and the digits of a state.
+/// Whether the fields are the name of a type and the digits of a state.
 #[tactic(auto, unfolding(crate::specs::Forms::is_name_state))]
 fn is_name_state(args: Option<&[u8]>) -> bool
     ensures { result ≡ is_name_state (args_of (option_copied args.entry)) }
@@ -136,7 +137,7 @@ fn is_name_state(args: Option<&[u8]>) -> bool
     is_type_name(name) && is_state(rest)
 }
 
-/// Whether some fields are those of an atom.
+/// Whether the fields are those of an atom.
 #[tactic(auto, unfolding(crate::specs::Forms::is_atom))]
 pub(crate) fn is_atom(args: Option<&[u8]>) -> bool
     ensures { result ≡ is_atom (args_of (option_copied args.entry)) }
@@ -150,7 +151,7 @@ pub(crate) fn is_atom(args: Option<&[u8]>) -> bool
     }
 }
 
-/// Whether the one field is `1`.
+/// Whether there is one field, and it is `1`.
 fn is_one(args: Option<&[u8]>) -> bool
     ensures { result ≡ is_one (one_field (args_of (option_copied args.entry))) }
 {
@@ -160,7 +161,7 @@ fn is_one(args: Option<&[u8]>) -> bool
     }
 }
 
-/// Whether the fields of a text are those of a first line.
+/// Whether a text has the fields of the first line of a report.
 #[tactic(auto, unfolding(crate::specs::Forms::is_header))]
 pub(crate) fn is_header(text: &[u8]) -> bool
     ensures { result ≡ is_header (fields text.now) }

@@ -1,7 +1,7 @@
 //! The journal of a run.
 ghost use Rattle.std.specs.Prelude.{◌≡◌, ◌≤◌, ◌<◌, [], All, IfOk, length, slice_index_or};
 ghost use Rattle.event_journal.specs.Logs.{AreLogs, IsJournal, IsLog, abandoned_in, log_of, records_in};
-ghost use Rattle.event_journal.specs.Walks.{left_of};
+ghost use Rattle.event_journal.specs.Walks.{rest_of};
 
 use crate::log::TileLog;
 use crate::walk::Walk;
@@ -77,17 +77,17 @@ impl Journal {
     }
 
     /// A walk through the records, which gives them in the order of the journal. `NoMemory` if
-    /// there is none for one place a log.
+    /// there is none for the walk, which keeps one slice for each log.
     #[tactic(auto, unfolding(crate::specs::Logs::records_in))]
     pub fn walk(&self, alloc: Global) -> Result<Walk<'_>, NoMemory>
-        ensures { IfOk result (λ w. left_of w ≡ records_in self.now) }
+        ensures { IfOk result (λ w. rest_of w ≡ records_in self.now) }
     {
         Walk::new(alloc, self.logs.as_slice())
     }
 
     /// What holds of every journal: its records are those of the logs, each once, by stamp and then
     /// tile, and no other list has this property; its abandoned attempts are by tile and then
-    /// attempt. It changes nothing.
+    /// attempt. The call does nothing: its contract is the law.
     pub fn laws(&self)
         ensures { IsJournal self.now }
     {

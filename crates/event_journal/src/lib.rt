@@ -5,23 +5,23 @@
 #![tactic(auto)]
 
 mod abandoned;
-mod cutting;
+mod cursors;
 mod fault;
 mod forms;
 mod journal;
+mod law;
 mod log;
 mod placing;
 mod printed;
 mod reader;
 mod reading;
-mod seats;
 mod walk;
 
 pub use abandoned::Abandoned;
-pub use cutting::cuts;
 pub use fault::{JournalFault, LineFault};
 pub use journal::Journal;
+pub use law::cuts;
 pub use log::TileLog;
-pub use printed::{abandoned_fields, count_fields, print, record_fields};
+pub use printed::{abandoned_fields, count_fields, print, print_entries, record_fields};
 pub use reader::{ReadJournal, read};
 pub use walk::Walk;

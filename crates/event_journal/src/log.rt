@@ -52,7 +52,8 @@ impl TileLog {
         self.abandoned.as_slice()
     }
 
-    /// What holds of every log, as `new` requires. It does nothing.
+    /// What holds of every log, since `new` requires it. The call does nothing: its contract is the
+    /// law.
     pub fn laws(&self)
         ensures { IsLog self.now }
     {

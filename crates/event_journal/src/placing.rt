@@ -1,14 +1,14 @@
-//! A record among the attempts of its tile.
+//! Whether a record is one of its tile's attempts.
 ghost use Rattle.std.specs.Prelude.{◌≡◌, ◌*◌, ◌≤◌, ◌<◌, ◌+◌, IfSome, List, None, Option, Some, [], length, not, slice_index_or, slice_set, if◌then◌else◌};
 ghost use Rattle.cell_grid.specs.declared.record.Record.{Record};
 ghost use Rattle.draw_stream.specs.declared.attempt.Attempt.{Attempt};
 ghost use Rattle.tile_map.specs.Plane.{IsMap, tiles_of};
-ghost use Rattle.event_journal.specs.Reading.{is_at_home, is_attempt, is_behind, line_before, not_later, place_fault, record_fault};
-ghost use Rattle.event_journal.specs.Seats.{AllServe, IsExtent, Serves, last_of, lasts_of, passed_of};
+ghost use Rattle.event_journal.specs.Reading.{is_at_home, is_attempt, is_behind, line_before, not_later, attempt_fault, record_fault};
+ghost use Rattle.event_journal.specs.Cursors.{AllServe, IsExtent, Serves, last_of, lasts_of, passed_of};
 ghost use Rattle.event_journal.specs.declared.fault.LineFault.TheVariants.{ElsewhereThanTile, OutOfTurn};
 
+use crate::cursors::{LogCursor, drawn};
 use crate::fault::LineFault;
-use crate::seats::{Seat, drawn};
 use cell_grid::Record;
 use draw_stream::Attempt;
 use tile_map::Map;
@@ -22,7 +22,7 @@ pub(crate) struct Extent {
 }
 
 impl Extent {
-    /// The extent of a map's plane: what the last tile reaches ends where the plane does.
+    /// The extent of a map's plane, which ends where the reach of the last tile ends.
     pub(crate) fn of(map: &Map) -> Extent
         ensures { IsExtent result map.now }
     {
@@ -58,7 +58,7 @@ fn line_before(n: u64, before: Option<Record>) -> u64
     }
 }
 
-/// Whether the site of a record is one of its tile's rectangle.
+/// Whether the site of a record lies in its tile's rectangle.
 fn is_at_home(map: &Map, extent: &Extent, r: &Record) -> bool
     requires { IsExtent extent.now map.now }
     ensures { result ≡ is_at_home map.now r.now }
@@ -66,7 +66,7 @@ fn is_at_home(map: &Map, extent: &Extent, r: &Record) -> bool
     r.x < extent.width && r.y < extent.height && map.owner(r.x, r.y) == r.tile
 }
 
-/// Whether a record whose tile exists is this attempt of it.
+/// Whether a record is this attempt of its tile, which exists.
 fn is_attempt(map: &Map, extent: &Extent, attempt: Option<Attempt>, r: &Record) -> bool
     requires extent { IsExtent extent.now map.now }
     requires tile { r.now.tile < tiles_of map.now }
@@ -84,32 +84,39 @@ fn is_attempt(map: &Map, extent: &Extent, attempt: Option<Attempt>, r: &Record) 
     }
 }
 
-/// The line of the tile's last record, if the attempt of that is not smaller.
-fn not_later(seat: &Seat, attempt: u64) -> Option<u64>
-    ensures value { result ≡ not_later (last_of seat.now) attempt }
-    ensures passed { result ≡ None → passed_of seat.now ≤ attempt }
+/// The line of the tile's last record, if the attempt of that record is not smaller than this one.
+fn not_later(cursor: &LogCursor, attempt: u64) -> Option<u64>
+    ensures value { result ≡ not_later (last_of cursor.now) attempt }
+    ensures passed { result ≡ None → passed_of cursor.now ≤ attempt }
 {
-    if seat.line == 0 || seat.last < attempt {
+    if cursor.line == 0 || cursor.last < attempt {
         None
     } else {
-        Some(seat.line)
+        Some(cursor.line)
     }
 }
 
-/// The fault of a record whose site is not its tile's, or that is not its attempt. The tile exists.
-fn place_fault(map: &Map, extent: &Extent, n: u64, seat: &mut Seat, r: &Record) -> Option<LineFault>
+/// The fault of a record whose site is not its tile's, or that is not one of its tile's attempts.
+/// The tile exists.
+fn attempt_fault(
+    map: &Map,
+    extent: &Extent,
+    n: u64,
+    cursor: &mut LogCursor,
+    r: &Record,
+) -> Option<LineFault>
     requires extent { IsExtent extent.now map.now }
     requires tile { r.now.tile < tiles_of map.now }
     requires line { 1 ≤ n }
-    requires later { passed_of seat.old ≤ r.now.attempt }
-    ensures fault { (list : List Attempt) → Serves seat.old list → result ≡ place_fault map.now list r.now }
-    ensures serves { result ≡ None → (list : List Attempt) → Serves seat.old list → Serves seat.new list }
-    ensures last { result ≡ None → last_of seat.new ≡ Some (n, r.now.attempt) }
+    requires later { passed_of cursor.old ≤ r.now.attempt }
+    ensures fault { (list : List Attempt) → Serves cursor.old list → result ≡ attempt_fault map.now list r.now }
+    ensures serves { result ≡ None → (list : List Attempt) → Serves cursor.old list → Serves cursor.new list }
+    ensures last { result ≡ None → last_of cursor.new ≡ Some (n, r.now.attempt) }
 {
     if !is_at_home(map, extent, r) {
         return Some(LineFault::ElsewhereThanTile);
     }
-    let found = drawn(seat, r.attempt, n);
+    let found = drawn(cursor, r.attempt, n);
     if is_attempt(map, extent, found, r) {
         None
     } else {
@@ -117,7 +124,7 @@ fn place_fault(map: &Map, extent: &Extent, n: u64, seat: &mut Seat, r: &Record) 
     }
 }
 
-/// The fault of the record of line `n`, whose tile exists. If there is none, the tile's seat has
+/// The fault of the record of line `n`, whose tile exists. If there is none, the tile's cursor has
 /// passed its attempt.
 #[tactic(auto, unfolding(crate::specs::Reading::record_fault))]
 fn record_fault(
@@ -125,22 +132,22 @@ fn record_fault(
     extent: &Extent,
     n: u64,
     before: Option<Record>,
-    seat: &mut Seat,
+    cursor: &mut LogCursor,
     r: &Record,
 ) -> Option<LineFault>
     requires extent { IsExtent extent.now map.now }
     requires tile { r.now.tile < tiles_of map.now }
     requires line { 1 ≤ n }
-    ensures fault { (list : List Attempt) → Serves seat.old list → result ≡ record_fault map.now n before (last_of seat.old) list r.now }
-    ensures serves { result ≡ None → (list : List Attempt) → Serves seat.old list → Serves seat.new list }
-    ensures last { result ≡ None → last_of seat.new ≡ Some (n, r.now.attempt) }
+    ensures fault { (list : List Attempt) → Serves cursor.old list → result ≡ record_fault map.now n before (last_of cursor.old) list r.now }
+    ensures serves { result ≡ None → (list : List Attempt) → Serves cursor.old list → Serves cursor.new list }
+    ensures last { result ≡ None → last_of cursor.new ≡ Some (n, r.now.attempt) }
 {
     if !is_behind(before, r) {
         return Some(LineFault::OutOfTurn(line_before(n, before)));
     }
-    match not_later(seat, r.attempt) {
+    match not_later(cursor, r.attempt) {
         Some(line) => Some(LineFault::OutOfTurn(line)),
-        None => place_fault(map, extent, n, seat, r),
+        None => attempt_fault(map, extent, n, cursor, r),
     }
 }
 
@@ -156,27 +163,27 @@ fn no_tile(n: u64, before: Option<Record>, r: &Record) -> LineFault
     }
 }
 
-/// The fault of the record of line `n`. If there is none, the tile's seat has passed its attempt.
+/// The fault of the record of line `n`. If there is none, the tile's cursor has passed its attempt.
 pub(crate) fn record_at(
     map: &Map,
     extent: &Extent,
     n: u64,
     before: Option<Record>,
-    seats: &mut Vec<Seat>,
+    cursors: &mut Vec<LogCursor>,
     r: &Record,
 ) -> Option<LineFault>
     requires extent { IsExtent extent.now map.now }
     requires line { 1 ≤ n }
-    requires seats { length seats.old.items ≡ tiles_of map.now }
-    ensures fault { (lists : List (List Attempt)) → AllServe seats.old.items lists →
-        result ≡ record_fault map.now n before (slice_index_or (lasts_of seats.old.items) r.now.tile None) (slice_index_or lists r.now.tile []) r.now }
-    ensures serve { result ≡ None → (lists : List (List Attempt)) → AllServe seats.old.items lists → AllServe seats.new.items lists }
-    ensures many { length seats.new.items ≡ length seats.old.items }
-    ensures last { result ≡ None → lasts_of seats.new.items ≡ slice_set (lasts_of seats.old.items) r.now.tile (Some (n, r.now.attempt)) }
+    requires cursors { length cursors.old.items ≡ tiles_of map.now }
+    ensures fault { (lists : List (List Attempt)) → AllServe cursors.old.items lists →
+        result ≡ record_fault map.now n before (slice_index_or (lasts_of cursors.old.items) r.now.tile None) (slice_index_or lists r.now.tile []) r.now }
+    ensures serve { result ≡ None → (lists : List (List Attempt)) → AllServe cursors.old.items lists → AllServe cursors.new.items lists }
+    ensures many { length cursors.new.items ≡ length cursors.old.items }
+    ensures last { result ≡ None → lasts_of cursors.new.items ≡ slice_set (lasts_of cursors.old.items) r.now.tile (Some (n, r.now.attempt)) }
 {
     let at = r.tile as usize;
-    if at >= seats.len() {
+    if at >= cursors.len() {
         return Some(no_tile(n, before, r));
     }
-    record_fault(map, extent, n, before, &mut seats[at], r)
+    record_fault(map, extent, n, before, &mut cursors[at], r)
 }

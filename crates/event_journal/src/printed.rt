@@ -5,7 +5,7 @@ ghost use Rattle.text_lines.specs.Lines.{ended_line, text_of};
 ghost use Rattle.text_lines.specs.Values.{field_text};
 ghost use Rattle.event_journal.specs.Logs.{abandoned_in, abandoned_of, records_in};
 ghost use Rattle.event_journal.specs.Text.{abandoned_fields, abandoned_lines, count_fields, journal_text, record_fields, record_lines};
-ghost use Rattle.event_journal.specs.Walks.{left_of};
+ghost use Rattle.event_journal.specs.Walks.{rest_of};
 
 use crate::abandoned::Abandoned;
 use crate::journal::Journal;
@@ -52,9 +52,19 @@ pub fn abandoned_fields(entry: &Abandoned) -> [Field<'static>; 7]
     ]
 }
 
+/// Appends the lines of events.
+fn push_record_lines(out: &mut Vec<u8>, records: &[Record]) -> Result<(), NoMemory>
+    ensures { Appends out.old.items out.new.items result (text_of (map record_fields records.now)) }
+{
+    for entry in records {
+        push_line(out, record_fields(entry).as_slice())?;
+    }
+    Ok(())
+}
+
 /// Appends the lines of the events that a walk has left.
-fn push_records(out: &mut Vec<u8>, walk: Walk<'_>) -> Result<(), NoMemory>
-    ensures { Appends out.old.items out.new.items result (text_of (map record_fields (left_of walk.entry))) }
+fn push_walk_lines(out: &mut Vec<u8>, walk: Walk<'_>) -> Result<(), NoMemory>
+    ensures { Appends out.old.items out.new.items result (text_of (map record_fields (rest_of walk.entry))) }
 {
     for entry in walk {
         push_line(out, record_fields(&entry).as_slice())?;
@@ -63,7 +73,7 @@ fn push_records(out: &mut Vec<u8>, walk: Walk<'_>) -> Result<(), NoMemory>
 }
 
 /// Appends the lines of abandoned attempts.
-fn push_entries(out: &mut Vec<u8>, abandoned: &[Abandoned]) -> Result<(), NoMemory>
+fn push_abandoned_lines(out: &mut Vec<u8>, abandoned: &[Abandoned]) -> Result<(), NoMemory>
     ensures { Appends out.old.items out.new.items result (text_of (map abandoned_fields abandoned.now)) }
 {
     for entry in abandoned {
@@ -72,43 +82,80 @@ fn push_entries(out: &mut Vec<u8>, abandoned: &[Abandoned]) -> Result<(), NoMemo
     Ok(())
 }
 
-/// Appends the lines of the abandoned attempts of some logs.
-fn push_logs(out: &mut Vec<u8>, logs: &[TileLog]) -> Result<(), NoMemory>
+/// Appends the lines of the abandoned attempts of logs.
+fn push_log_lines(out: &mut Vec<u8>, logs: &[TileLog]) -> Result<(), NoMemory>
     ensures { Appends out.old.items out.new.items result (text_of (map abandoned_fields (abandoned_in logs.now))) }
 {
     for log in logs {
-        push_entries(out, log.abandoned())?;
+        push_abandoned_lines(out, log.abandoned())?;
     }
     Ok(())
 }
 
-/// Appends the count of the events and their lines.
-fn push_journal(out: &mut Vec<u8>, journal: &Journal, walk: Walk<'_>) -> Result<(), NoMemory>
-    requires { left_of walk ≡ records_in journal.now }
+/// Appends the number of events and their lines.
+fn push_records(out: &mut Vec<u8>, records: &[Record]) -> Result<(), NoMemory>
+    ensures { Appends out.old.items out.new.items result (text_of (record_lines records.now)) }
+{
+    push_line(
+        out,
+        count_fields(b"journal", records.len() as u64).as_slice(),
+    )?;
+    push_record_lines(out, records)
+}
+
+/// Appends the number of a journal's events and their lines, by a walk through all of them.
+fn push_walk(out: &mut Vec<u8>, journal: &Journal, walk: Walk<'_>) -> Result<(), NoMemory>
+    requires { rest_of walk ≡ records_in journal.now }
     ensures { Appends out.old.items out.new.items result (text_of (record_lines (records_in journal.now))) }
 {
     push_line(out, count_fields(b"journal", journal.len()).as_slice())?;
-    push_records(out, walk)
+    push_walk_lines(out, walk)
 }
 
-/// Appends the count of the abandoned attempts and their lines.
-fn push_abandoned(out: &mut Vec<u8>, journal: &Journal) -> Result<(), NoMemory>
+/// Appends the number of abandoned attempts and their lines.
+fn push_abandoned(out: &mut Vec<u8>, abandoned: &[Abandoned]) -> Result<(), NoMemory>
+    ensures { Appends out.old.items out.new.items result (text_of (abandoned_lines abandoned.now)) }
+{
+    push_line(
+        out,
+        count_fields(b"abandoned", abandoned.len() as u64).as_slice(),
+    )?;
+    push_abandoned_lines(out, abandoned)
+}
+
+/// Appends the number of a journal's abandoned attempts and their lines.
+fn push_logs(out: &mut Vec<u8>, journal: &Journal) -> Result<(), NoMemory>
     ensures { Appends out.old.items out.new.items result (text_of (abandoned_lines (abandoned_in journal.now))) }
 {
     push_line(
         out,
         count_fields(b"abandoned", journal.abandoned_len()).as_slice(),
     )?;
-    push_logs(out, journal.logs())
+    push_log_lines(out, journal.logs())
 }
 
-/// Appends the part of a report that shows the journal: how many events there are and their lines
-/// in the order of the journal, and then how many attempts were given up and their lines.
-/// `NoMemory` if there is none for the walk or `out` can't grow.
+/// Appends the part of a report that shows these events and these abandoned attempts: the number
+/// of events and a line for each, and then the number of abandoned attempts and a line for each.
+/// `NoMemory` if `out` can't grow.
+pub fn print_entries(
+    records: &[Record],
+    abandoned: &[Abandoned],
+    out: &mut Vec<u8>,
+) -> Result<(), NoMemory>
+    ensures { Appends out.old.items out.new.items result (journal_text records.now abandoned.now) }
+{
+    push_records(out, records)?;
+    push_abandoned(out, abandoned)
+}
+
+/// Appends the part of a report that shows a journal, as `print_entries` does: its events in the
+/// journal's order, and its abandoned attempts by tile and then attempt. The events are not listed
+/// first, but printed as a walk gives them. `NoMemory` if there is none for the walk or `out` can't
+/// grow.
 pub fn print(alloc: Global, journal: &Journal, out: &mut Vec<u8>) -> Result<(), NoMemory>
     ensures { Appends out.old.items out.new.items result (journal_text (records_in journal.now) (abandoned_in journal.now)) }
 {
     let walk = journal.walk(alloc)?;
-    push_journal(out, journal, walk)?;
-    push_abandoned(out, journal)
+    push_walk(out, journal, walk)?;
+    push_logs(out, journal)
 }

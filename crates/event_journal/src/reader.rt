@@ -3,13 +3,13 @@ ghost use Rattle.std.specs.Prelude.{◌≡◌, ◌<◌, ◌≤◌, ◌^◌, IfOk
 ghost use Rattle.draw_stream.specs.declared.attempt.Attempt.{Attempt};
 ghost use Rattle.tile_map.specs.Plane.{tiles_of};
 ghost use Rattle.event_journal.specs.Reading.{read_report};
-ghost use Rattle.event_journal.specs.Seats.{AllServe, IsExtent, ReadsJournal, lasts_of};
+ghost use Rattle.event_journal.specs.Cursors.{AllServe, IsExtent, ReadsJournal, lasts_of};
 
 use crate::abandoned::Abandoned;
+use crate::cursors::LogCursor;
 use crate::fault::JournalFault;
 use crate::placing::Extent;
 use crate::reading::{Reading, Wants, is_over, take_fields};
-use crate::seats::Seat;
 use cell_grid::Record;
 use draw_stream::AttemptPlan;
 use feast_base::NoMemory;
@@ -26,42 +26,42 @@ pub struct ReadJournal {
     pub abandoned: Vec<Abandoned>,
 }
 
-/// A seat for each tile of a plan.
-fn seats(alloc: Global, plan: &AttemptPlan, tiles: u32) -> Result<Vec<Seat>, NoMemory>
+/// A cursor for each tile of a plan.
+fn cursors(alloc: Global, plan: &AttemptPlan, tiles: u32) -> Result<Vec<LogCursor>, NoMemory>
     requires { length plan.now.lists ≡ tiles }
     ensures many { IfOk result (λ v. length v.items ≡ tiles) }
     ensures fresh { IfOk result (λ v. lasts_of v.items ≡ replicate tiles None) }
     ensures serve { IfOk result (λ v. AllServe v.items plan.now.lists) }
 {
-    let mut seats = Vec::new(alloc);
+    let mut cursors = Vec::new(alloc);
     for tile in 0..tiles {
-        seats.push(Seat {
+        cursors.push(LogCursor {
             stream: plan.of_tile(alloc, tile)?,
             last: 0,
             line: 0,
         })?;
     }
-    Ok(seats)
+    Ok(cursors)
 }
 
-/// Reads a report with these seats, of which none has passed an attempt.
+/// Reads a report with these cursors, none of which has passed an attempt.
 fn read_lines(
     alloc: Global,
     map: &Map,
     extent: &Extent,
-    seats: Vec<Seat>,
+    cursors: Vec<LogCursor>,
     bytes: &[u8],
 ) -> Result<ReadJournal, JournalFault>
     requires extent { IsExtent extent.now map.now }
     requires short { length bytes.now < 2 ^ 63 }
-    requires seats { length seats.items ≡ tiles_of map.now }
-    requires fresh { lasts_of seats.items ≡ replicate (tiles_of map.now) None }
-    ensures { (lists : List (List Attempt)) → AllServe seats.items lists → ReadsJournal map.now lists bytes.now result }
+    requires cursors { length cursors.items ≡ tiles_of map.now }
+    requires fresh { lasts_of cursors.items ≡ replicate (tiles_of map.now) None }
+    ensures { (lists : List (List Attempt)) → AllServe cursors.items lists → ReadsJournal map.now lists bytes.now result }
 {
     let mut reading = Reading {
         wants: Wants::Header,
         before: None,
-        seats,
+        cursors,
         journal: Vec::new(alloc),
         gone: Vec::new(alloc),
     };
@@ -82,10 +82,10 @@ fn read_lines(
     }
 }
 
-/// Reads a whole report of a map and a plan of its attempts, which has a list for each tile, and
-/// keeps the events and the abandoned attempts. The answer is the first line with a fault; for a
-/// record's line `BadLine` comes first, then `OutOfOrder`, `NotOwned` and `NotDrawn`. Only the form
-/// of atoms and abandoned attempts is tested. `NoMemory` if there is none for the lists or for the
+/// Reads a whole report for a map and a plan, which has a list of attempts for each tile, and keeps
+/// the events and the abandoned attempts. A fault names the first line that has one; on the line of
+/// a record `BadLine` comes first, then `OutOfOrder`, `NotOwned` and `NotDrawn`. Of atoms and
+/// abandoned attempts only the form is tested. `NoMemory` if there is none for the lists or for the
 /// attempts of the plan.
 pub fn read(
     alloc: Global,
@@ -97,6 +97,6 @@ pub fn read(
     requires plan { length plan.now.lists ≡ tiles_of map.now }
     ensures { ReadsJournal map.now plan.now.lists bytes.now result }
 {
-    let seats = seats(alloc, plan, map.tiles())?;
-    read_lines(alloc, map, &Extent::of(map), seats, bytes)
+    let cursors = cursors(alloc, plan, map.tiles())?;
+    read_lines(alloc, map, &Extent::of(map), cursors, bytes)
 }

@@ -4,13 +4,13 @@ ghost use Rattle.draw_stream.specs.declared.attempt.Attempt.{Attempt};
 ghost use Rattle.text_lines.specs.Fields.{fields};
 ghost use Rattle.tile_map.specs.Plane.{tiles_of};
 ghost use Rattle.event_journal.specs.Reading.{Steps, counted, fields_step, is_over, put_abandoned, record_step, want_abandoned, want_atoms, want_records};
-ghost use Rattle.event_journal.specs.Seats.{AllServe, IsExtent, said_value, wants_value};
+ghost use Rattle.event_journal.specs.Cursors.{AllServe, IsExtent, said_value, wants_value};
 
 use crate::abandoned::Abandoned;
+use crate::cursors::LogCursor;
 use crate::fault::JournalFault;
 use crate::forms::{abandoned_form, count_form, is_atom, is_header, record_form};
 use crate::placing::{Extent, record_at};
-use crate::seats::Seat;
 use cell_grid::Record;
 use tile_map::Map;
 
@@ -32,7 +32,7 @@ pub(crate) enum Wants {
 pub(crate) struct Reading {
     pub(crate) wants: Wants,
     pub(crate) before: Option<Record>,
-    pub(crate) seats: Vec<Seat>,
+    pub(crate) cursors: Vec<LogCursor>,
     pub(crate) journal: Vec<Record>,
     pub(crate) gone: Vec<Abandoned>,
 }
@@ -89,16 +89,16 @@ fn take_record(
 ) -> Result<(), JournalFault>
     requires extent { IsExtent extent.now map.now }
     requires line { 1 ≤ n }
-    requires seats { length reading.old.seats.items ≡ tiles_of map.now }
-    ensures steps { (lists : List (List Attempt)) → AllServe reading.old.seats.items lists →
+    requires cursors { length reading.old.cursors.items ≡ tiles_of map.now }
+    ensures steps { (lists : List (List Attempt)) → AllServe reading.old.cursors.items lists →
         Steps n (record_step map.now lists n (said_value reading.old) (want_records left) entry) (said_value reading.new) result }
-    ensures many { length reading.new.seats.items ≡ length reading.old.seats.items }
-    ensures serve { IsOk result → (lists : List (List Attempt)) → AllServe reading.old.seats.items lists → AllServe reading.new.seats.items lists }
+    ensures many { length reading.new.cursors.items ≡ length reading.old.cursors.items }
+    ensures serve { IsOk result → (lists : List (List Attempt)) → AllServe reading.old.cursors.items lists → AllServe reading.new.cursors.items lists }
 {
     let Some(r) = entry else {
         return Err(JournalFault::BadLine(n));
     };
-    match record_at(map, extent, n, reading.before, &mut reading.seats, &r) {
+    match record_at(map, extent, n, reading.before, &mut reading.cursors, &r) {
         Some(fault) => Err(fault.at(n)),
         None => {
             reading.journal.push(r)?;
@@ -117,7 +117,7 @@ fn take_abandoned(
     entry: Option<Abandoned>,
 ) -> Result<(), JournalFault>
     ensures steps { Steps n (put_abandoned (said_value reading.old) (want_abandoned left) entry) (said_value reading.new) result }
-    ensures kept { reading.new.seats ≡ reading.old.seats }
+    ensures kept { reading.new.cursors ≡ reading.old.cursors }
 {
     let Some(a) = entry else {
         return Err(JournalFault::BadLine(n));
@@ -138,11 +138,11 @@ pub(crate) fn take_fields(
 ) -> Result<(), JournalFault>
     requires extent { IsExtent extent.now map.now }
     requires line { 1 ≤ n }
-    requires seats { length reading.old.seats.items ≡ tiles_of map.now }
-    ensures steps { (lists : List (List Attempt)) → AllServe reading.old.seats.items lists →
+    requires cursors { length reading.old.cursors.items ≡ tiles_of map.now }
+    ensures steps { (lists : List (List Attempt)) → AllServe reading.old.cursors.items lists →
         Steps n (fields_step map.now lists n (said_value reading.old) (wants_value reading.old.wants) (fields text.now)) (said_value reading.new) result }
-    ensures many { length reading.new.seats.items ≡ length reading.old.seats.items }
-    ensures serve { IsOk result → (lists : List (List Attempt)) → AllServe reading.old.seats.items lists → AllServe reading.new.seats.items lists }
+    ensures many { length reading.new.cursors.items ≡ length reading.old.cursors.items }
+    ensures serve { IsOk result → (lists : List (List Attempt)) → AllServe reading.old.cursors.items lists → AllServe reading.new.cursors.items lists }
 {
     let next = match reading.wants {
         Wants::Records(left) => {

@@ -3,23 +3,23 @@ ghost use Rattle.std.specs.Prelude.{◌≡◌, ◌<◌, ◌∷◌, [], None, Mat
 ghost use Rattle.std.specs.Iterator.{YieldsFirst, item_count};
 ghost use Rattle.event_journal.specs.Logs.{is_before, records_of};
 ghost use Rattle.event_journal.specs.Merged.{least_from, merged, without};
-ghost use Rattle.event_journal.specs.Walks.{better_first, left_of, lists_of};
+ghost use Rattle.event_journal.specs.Walks.{better_first, rest_of, lists_behind};
 
 use crate::log::TileLog;
 use cell_grid::Record;
 use feast_base::NoMemory;
 use std::alloc::Global;
 
-/// The records of a journal that were not given yet: a list for each log.
+/// The records of a journal that have not been given yet: a list for each log.
 #[derive(Drop)]
 pub struct Walk<'a> {
     lefts: Vec<&'a [Record]>,
 }
 
 impl<'a> Walk<'a> {
-    /// The walk through the records of these logs. `NoMemory` if there is none for one place a log.
+    /// The walk through the records of these logs. `NoMemory` if there is none for one slice a log.
     pub(crate) fn new(alloc: Global, logs: &'a [TileLog]) -> Result<Walk<'a>, NoMemory>
-        ensures { IfOk result (λ w. left_of w ≡ merged is_before (map records_of logs.now)) }
+        ensures { IfOk result (λ w. rest_of w ≡ merged is_before (map records_of logs.now)) }
     {
         Ok(Walk {
             lefts: records_of_all(alloc, logs)?,
@@ -29,7 +29,7 @@ impl<'a> Walk<'a> {
 
 /// The records of each log.
 fn records_of_all<'a>(alloc: Global, logs: &'a [TileLog]) -> Result<Vec<&'a [Record]>, NoMemory>
-    ensures { IfOk result (λ v. lists_of v.items ≡ map records_of logs.now) }
+    ensures { IfOk result (λ v. lists_behind v.items ≡ map records_of logs.now) }
 {
     let mut lefts = Vec::new(alloc);
     for log in logs {
@@ -47,7 +47,7 @@ fn is_before(first: &Record, second: &Record) -> bool
 
 /// The least of the first records, and the number of its list.
 fn least(lefts: &[&[Record]]) -> Option<(usize, Record)>
-    ensures { result ≡ least_from is_before None 0 (lists_of lefts.now) }
+    ensures { result ≡ least_from is_before None 0 (lists_behind lefts.now) }
 {
     let mut found: Option<(usize, Record)> = None;
     for (k, left) in lefts.iter().enumerate() {
@@ -75,10 +75,10 @@ fn better(found: Option<(usize, Record)>, k: usize, left: &[Record]) -> Option<(
     }
 }
 
-/// Leaves out the first record of a list.
+/// Drops the first record of a list.
 fn pass<'a>(lefts: &mut [&'a [Record]], k: usize)
     requires { k < length lefts.old }
-    ensures { lists_of lefts.new ≡ without (lists_of lefts.old) k }
+    ensures { lists_behind lefts.new ≡ without (lists_behind lefts.old) k }
 {
     if let Some((_, rest)) = lefts[k].split_first() {
         lefts[k] = rest;
@@ -87,7 +87,7 @@ fn pass<'a>(lefts: &mut [&'a [Record]], k: usize)
 
 /// Takes the least of the first records.
 fn take(lefts: &mut [&[Record]]) -> Option<Record>
-    ensures { MatchOption result ((merged is_before (lists_of lefts.old) ≡ []) × (merged is_before (lists_of lefts.new) ≡ [])) (λ r. merged is_before (lists_of lefts.old) ≡ r ∷ merged is_before (lists_of lefts.new)) }
+    ensures { MatchOption result ((merged is_before (lists_behind lefts.old) ≡ []) × (merged is_before (lists_behind lefts.new) ≡ [])) (λ r. merged is_before (lists_behind lefts.old) ≡ r ∷ merged is_before (lists_behind lefts.new)) }
 {
     match least(lefts) {
         None => None,
@@ -101,11 +101,11 @@ fn take(lefts: &mut [&[Record]]) -> Option<Record>
 impl Iterator for Walk<'_> {
     type Item = Record;
 
-    ghost next_gives = { YieldsFirst left_of };
+    ghost next_gives = { YieldsFirst rest_of };
 
-    ghost remaining = { item_count left_of };
+    ghost remaining = { item_count rest_of };
 
-    /// The next record in the order of the journal. None exactly when all were given.
+    /// The next record in the order of the journal; None exactly when all have been given.
     fn next(&mut self) -> Option<Record> {
         take(self.lefts.as_mut_slice())
     }

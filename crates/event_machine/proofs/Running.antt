@@ -7,7 +7,7 @@ use Rattle.stack_code.proofs.Bound.{measure_some, starts}
 use Rattle.feast_base.specs.Counting.{Counted}
 use Rattle.event_machine.specs.Ticks.{IsTick, Ticks}
 use Rattle.event_machine.specs.Works.{StepsTo, Ready, Ran, Started}
-use Rattle.event_machine.specs.declared.ending.Leads.TheVariants.{On, Fail, Done, Want}
+use Rattle.event_machine.specs.declared.ending.Leads.TheVariants.{On, Fail, Done, Lack}
 use Rattle.event_machine.specs.declared.ending.Ended.TheVariants.{Done as DoneEnd, Failed}
 
 -- the machine came from s by so many steps, each counted once, and agrees with the notes
@@ -56,7 +56,7 @@ ends_is (Fails m) new h = absurd h
 ends_is (Ends w) new h = ap Ends h
 ends_is Lacks new h = absurd h
 
-lacks_is : (l : Led State) (new : State) → StepsTo l new Want → l ≡ Lacks
+lacks_is : (l : Led State) (new : State) → StepsTo l new Lack → l ≡ Lacks
 lacks_is (Goes s) new h = absurd h
 lacks_is (Fails m) new h = absurd h
 lacks_is (Ends w) new h = absurd h
@@ -122,8 +122,8 @@ module _ {L : Type 0} (noted : L → L → Type 0) (c : CodeValue) (s now new : 
       let a : count c (1001 * length c.instrs) s ≡ r.k + 1 = ap (λ i. count c i s) whole ∙ r.counted (suc left) ∙ ap (λ l. r.k + one_more (count c left) l) e in
       (ap (λ i. iter c i s) whole ∙ r.later (suc left) ∙ ap (λ l. and_then l (iter c left)) e, all_ticks m1 t a)
 
-  pub never_wants : StepsTo (step c now) new Want → ⊥
-  never_wants h = subst (NextLed c r.shapes now) (lacks_is (step c now) new h) (step_next c r.shapes r.fine now r.typed)
+  pub never_lacks : StepsTo (step c now) new Lack → ⊥
+  never_lacks h = subst (NextLed c r.shapes now) (lacks_is (step c now) new h) (step_next c r.shapes r.fine now r.typed)
 
 -- the machine can do its next step
 pub ready : {L : Type 0} (noted : L → L → Type 0) (c : CodeValue) (s now : State) (n m : Counted L) → Running noted c s now n m → Ready c now

@@ -1,13 +1,14 @@
 -- What a run that is over says of the whole event.
 use Rattle.std.proofs.Common.{◌≡◌, ℕ, zero, suc, ◌+◌, ◌-◌, ◌*◌, ◌^◌, ◌≤◌, length, Option, Some, None, refl, sym, ap, ◌∙◌, subst, arith}
 use Rattle.std.specs.Prelude.{Bool, true, slice_get, min, if◌then◌else◌}
+use Rattle.datum.specs.Failures.{IsFailure}
 use Rattle.bit_field.specs.Atom.{empty_atom}
-use Rattle.window_sites.specs.Window.{WindowValue, live_at, put_at}
-use Rattle.stack_code.specs.Machine.{CodeValue, FunctionValue, State, start_with, start, Led, Goes, Ends, Fails, Lacks, step, iter, count, one_more, ending, emptied, runs}
+use Rattle.window_sites.specs.Window.{WindowValue, live_at, put_at, emptied}
+use Rattle.stack_code.specs.Machine.{CodeValue, FunctionValue, State, start_with, start, Led, Goes, Ends, Fails, Lacks, step, iter, count, one_more, ending, runs}
 use Rattle.stack_code.specs.Laws.{IsOver}
 use Rattle.stack_code.specs.Valid.{valid}
 use Rattle.stack_code.proofs.Bound.{starts, runs_well}
-use Rattle.stack_code.proofs.Kept.{Kept, KeptState, IsFailure, iter_kept, emptied_kept}
+use Rattle.stack_code.proofs.Kept.{Kept, KeptState, iter_kept, emptied_kept}
 use Rattle.feast_base.specs.Counting.{Counted}
 use Rattle.event_machine.specs.Ticks.{Ticks}
 use Rattle.event_machine.specs.Works.{Ran, FunctionsFit, window_after}

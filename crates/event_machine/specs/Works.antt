@@ -1,16 +1,16 @@
 -- What the calls of the machine do, beside the definition of the stack machine.
 use Rattle.std.specs.Prelude.{◌≡◌, ℕ, ◌+◌, ◌*◌, ◌≤◌, ◌<◌, true, ℤ, List, [], ◌∷◌, length, Option, Some, None, slice_get}
 use Rattle.bit_field.specs.Atom.{AtomValue}
-use Rattle.window_sites.specs.Window.{WindowValue}
+use Rattle.window_sites.specs.Window.{WindowValue, emptied}
 use Rattle.sat_math.specs.declared.NumType.{NumType}
 use Rattle.sat_math.specs.Numbers.{IsNumType}
 use Rattle.feast_base.specs.Counting.{Counted}
 use Rattle.event_machine.specs.Ticks.{Ticks}
 use Rattle.datum.specs.declared.Datum.{Datum}
-use Rattle.stack_code.specs.Machine.{Held, Led, Goes, Fails, Ends, Lacks, State, CodeValue, FunctionValue, emptied, iter, count, start}
+use Rattle.stack_code.specs.Machine.{Held, Led, Goes, Fails, Ends, Lacks, State, CodeValue, FunctionValue, iter, count, start}
 use Rattle.stack_code.specs.Valid.{args_fit, valid}
 use Rattle.event_machine.specs.declared.ending.Leads.{Leads}
-use Rattle.event_machine.specs.declared.ending.Leads.TheVariants.{On, Fail, Done, Want}
+use Rattle.event_machine.specs.declared.ending.Leads.TheVariants.{On, Fail, Done, Lack}
 use Rattle.stack_code.specs.declared.instr.Instr.{Instr}
 use Rattle.event_machine.specs.declared.ending.Ended.{Ended}
 use Rattle.event_machine.specs.declared.ending.Ended.TheVariants.{Done as DoneEnd, Failed}
@@ -20,35 +20,35 @@ abbrev pub Works : Led Held → Held → Leads → Type 0
 Works (Goes h) new On = h ≡ new
 Works (Goes h) new (Fail n) = ⊥
 Works (Goes h) new Done = ⊥
-Works (Goes h) new Want = ⊥
+Works (Goes h) new Lack = ⊥
 Works (Fails m) new On = ⊥
 Works (Fails m) new (Fail n) = m ≡ n
 Works (Fails m) new Done = ⊥
-Works (Fails m) new Want = ⊥
+Works (Fails m) new Lack = ⊥
 Works (Ends w) new l = ⊥
 Works Lacks new On = ⊥
 Works Lacks new (Fail n) = ⊥
 Works Lacks new Done = ⊥
-Works Lacks new Want = Unit {0}
+Works Lacks new Lack = Unit {0}
 
 -- the same for a whole machine
 abbrev pub StepsTo : Led State → State → Leads → Type 0
 StepsTo (Goes s) new On = s ≡ new
 StepsTo (Goes s) new (Fail n) = ⊥
 StepsTo (Goes s) new Done = ⊥
-StepsTo (Goes s) new Want = ⊥
+StepsTo (Goes s) new Lack = ⊥
 StepsTo (Fails m) new On = ⊥
 StepsTo (Fails m) new (Fail n) = m ≡ n
 StepsTo (Fails m) new Done = ⊥
-StepsTo (Fails m) new Want = ⊥
+StepsTo (Fails m) new Lack = ⊥
 StepsTo (Ends w) new On = ⊥
 StepsTo (Ends w) new (Fail n) = ⊥
 StepsTo (Ends w) new Done = w ≡ new.held.window
-StepsTo (Ends w) new Want = ⊥
+StepsTo (Ends w) new Lack = ⊥
 StepsTo Lacks new On = ⊥
 StepsTo Lacks new (Fail n) = ⊥
 StepsTo Lacks new Done = ⊥
-StepsTo Lacks new Want = Unit {0}
+StepsTo Lacks new Lack = Unit {0}
 
 -- what goes on with operands that were found
 abbrev pub with_any : Option Datum → List Datum → (Datum → List Datum → Led Held) → Led Held

@@ -89,6 +89,6 @@ pub fn plain(running: &mut Activation, kind: u16, i: &Instr) -> Leads
         | Instr::Turn
         | Instr::Call(_)
         | Instr::Return
-        | Instr::ReturnVoid => Leads::Want,
+        | Instr::ReturnVoid => Leads::Lack,
     }
 }

@@ -23,5 +23,5 @@ pub enum Leads {
     Done,
     /// Nothing: an operand, a slot, an instruction or a function is missing. This never happens in
     /// valid code.
-    Want,
+    Lack,
 }

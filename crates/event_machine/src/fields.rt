@@ -44,7 +44,7 @@ pub fn store_field(running: &mut Activation, kind: u16, first: u8, width: u8, of
             }
             None => Leads::Fail(6),
         },
-        None => Leads::Want,
+        None => Leads::Lack,
     }
 }
 
@@ -61,7 +61,7 @@ pub fn load_part(running: &mut Activation, s: u8, first: u8, width: u8, of: Kind
             running.push(Datum::Number(read_field(&atom, first, of)));
             Leads::On
         }
-        None => Leads::Want,
+        None => Leads::Lack,
     }
 }
 
@@ -91,9 +91,9 @@ pub fn store_part(running: &mut Activation, s: u8, first: u8, width: u8, of: Kin
                 running.set_slot(s, Datum::Atom(with_part(atom, first, of, v)));
                 Leads::On
             }
-            None => Leads::Want,
+            None => Leads::Lack,
         },
-        None => Leads::Want,
+        None => Leads::Lack,
     }
 }
 
@@ -135,7 +135,7 @@ pub fn load_field_at(
             },
             None => Leads::Fail(6),
         },
-        None => Leads::Want,
+        None => Leads::Lack,
     }
 }
 
@@ -167,7 +167,7 @@ pub fn store_field_at(
             },
             None => Leads::Fail(6),
         },
-        None => Leads::Want,
+        None => Leads::Lack,
     }
 }
 
@@ -188,9 +188,9 @@ pub fn load_part_at(running: &mut Activation, s: u8, first: u8, width: u8, of: K
                 }
                 None => Leads::Fail(7),
             },
-            None => Leads::Want,
+            None => Leads::Lack,
         },
-        None => Leads::Want,
+        None => Leads::Lack,
     }
 }
 
@@ -221,8 +221,8 @@ pub fn store_part_at(
                 }
                 None => Leads::Fail(7),
             },
-            None => Leads::Want,
+            None => Leads::Lack,
         },
-        None => Leads::Want,
+        None => Leads::Lack,
     }
 }

@@ -105,7 +105,7 @@ impl Machine {
         ensures { StepsTo (enter self.old (Some function.now)) self.new result }
     {
         if self.running.operands.len() < function.params() as usize {
-            return Leads::Want;
+            return Leads::Lack;
         }
         if self.turns == 0 {
             return Leads::Fail(1);
@@ -156,7 +156,7 @@ impl Machine {
                 };
                 Leads::On
             }
-            None => Leads::Want,
+            None => Leads::Lack,
         }
     }
 
@@ -208,11 +208,11 @@ impl Machine {
             Instr::Turn => self.take_turn(),
             Instr::Call(f) => match code.functions().get(f as usize) {
                 Some(function) => self.call(function),
-                None => Leads::Want,
+                None => Leads::Lack,
             },
             Instr::Return => match self.running.any() {
                 Some(x) => self.back(Some(x)),
-                None => Leads::Want,
+                None => Leads::Lack,
             },
             Instr::ReturnVoid => self.back(None),
             _ => self.onward(kind, i),
@@ -227,7 +227,7 @@ impl Machine {
         ensures { StepsTo (step code.now self.old) self.new result }
     {
         match instrs.get(self.place) {
-            None => Leads::Want,
+            None => Leads::Lack,
             Some(i) => self.perform(code, i),
         }
     }
@@ -258,7 +258,7 @@ impl Machine {
                 Leads::On => {}
                 Leads::Fail(n) => return Ended::Failed(n),
                 Leads::Done => return Ended::Done,
-                Leads::Want => unreachable!(),
+                Leads::Lack => unreachable!(),
             }
         }
     }

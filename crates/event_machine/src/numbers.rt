@@ -1,12 +1,14 @@
 //! What operators give, and numbers as sites, indices, bounds and fields of atoms.
 
 ghost use Rattle.std.specs.Prelude.{◌≡◌, ℕ, ℤ, pos, ◌<◌, ◌^◌, true, Option, IfSome, ◌≤◌, int_div, int_rem};
+ghost use Rattle.datum.specs.Fields.{get_field};
+ghost use Rattle.sat_math.specs.Operations.{of_bool, is_zero, low64, shifted_up, shifted_down};
 ghost use Rattle.sat_math.specs.declared.Kind.TheVariants.{Bits};
 ghost use Rattle.sat_math.specs.Numbers.{modulo, IsNumber};
 ghost use Rattle.bit_field.specs.Words.{with_field};
 ghost use Rattle.bit_field.specs.Atom.{AtomValue};
-ghost use Rattle.stack_code.specs.Sorts.{is_zero, of_bool, low64, divided, left, right, flip, num_type};
-ghost use Rattle.stack_code.specs.Machine.{Led, Held, at_site, at_index, at_bound, get_field, kept};
+ghost use Rattle.stack_code.specs.Sorts.{divided, flip, num_type};
+ghost use Rattle.stack_code.specs.Machine.{Led, Held, at_site, at_index, at_bound, kept};
 ghost use Rattle.stack_code.specs.Valid.{field_fits, type_fits};
 ghost use Rattle.stack_code.specs.Shapes.{binary_of, BinaryFits, unary_of, UnaryFits};
 ghost use Rattle.event_machine.specs.Works.{FieldFits, with_place};
@@ -74,7 +76,7 @@ fn remainder(how: Arith, a: i128, b: i128) -> Option<Number>
 fn shifted_up(width: u8, a: i128, b: i128) -> Number
     requires fits { type_fits (num_type Bits width) ≡ true }
     requires count { IsNumber b }
-    ensures { Some result ≡ left width a b }
+    ensures { Some result ≡ shifted_up width a b }
 {
     if b < 0 {
         of_word(0)
@@ -87,7 +89,7 @@ fn shifted_up(width: u8, a: i128, b: i128) -> Number
 #[inline(always)]
 fn shifted_down(a: i128, b: i128) -> Number
     requires { IsNumber b }
-    ensures { Some result ≡ right a b }
+    ensures { Some result ≡ shifted_down a b }
 {
     if b < 0 {
         of_word(0)

@@ -1,9 +1,10 @@
 //! The plain instructions on numbers, slots and sites: a function for each shape.
 
-ghost use Rattle.std.specs.Prelude.{◌≡◌, ◌≤◌, ℕ, length, true};
+ghost use Rattle.std.specs.Prelude.{◌≡◌, ◌≤◌, ℕ, length, pos, true};
 ghost use Rattle.sat_math.specs.Numbers.{cast};
-ghost use Rattle.window_sites.specs.Window.{live_at};
-ghost use Rattle.stack_code.specs.Sorts.{Give, One, Two, Load, Store, Drop, Own, Site, SetSite, Exchange, Ask, Draw, Same, Double, is_empty_at, as_drawn, one_in, num_type};
+ghost use Rattle.sat_math.specs.Operations.{one_in};
+ghost use Rattle.window_sites.specs.Window.{live_at, is_empty_at};
+ghost use Rattle.stack_code.specs.Sorts.{Give, One, Two, Load, Store, Drop, Own, Site, SetSite, Exchange, Ask, Draw, Same, Double, num_type};
 ghost use Rattle.stack_code.specs.Machine.{work};
 ghost use Rattle.stack_code.specs.Valid.{type_fits};
 ghost use Rattle.stack_code.specs.Shapes.{binary_of, BinaryFits, unary_of, UnaryFits};
@@ -38,7 +39,7 @@ pub fn one(running: &mut Activation, op: UnaryOp) -> Leads
             running.push(Datum::Number(apply_one(op, a)));
             Leads::On
         }
-        None => Leads::Want,
+        None => Leads::Lack,
     }
 }
 
@@ -67,7 +68,7 @@ pub fn two(running: &mut Activation, op: BinaryOp) -> Leads
             }
             None => Leads::Fail(3),
         },
-        None => Leads::Want,
+        None => Leads::Lack,
     }
 }
 
@@ -82,7 +83,7 @@ pub fn load(running: &mut Activation, s: u8) -> Leads
             running.push(x);
             Leads::On
         }
-        None => Leads::Want,
+        None => Leads::Lack,
     }
 }
 
@@ -96,7 +97,7 @@ pub fn store(running: &mut Activation, s: u8) -> Leads
             running.set_slot(s, x);
             Leads::On
         }
-        None => Leads::Want,
+        None => Leads::Lack,
     }
 }
 
@@ -116,7 +117,7 @@ pub fn exchange(running: &mut Activation) -> Leads
             },
             None => Leads::Fail(4),
         },
-        None => Leads::Want,
+        None => Leads::Lack,
     }
 }
 
@@ -127,7 +128,7 @@ pub fn drop_top(running: &mut Activation) -> Leads
 {
     match running.any() {
         Some(_) => Leads::On,
-        None => Leads::Want,
+        None => Leads::Lack,
     }
 }
 
@@ -161,7 +162,7 @@ pub fn load_site(running: &mut Activation) -> Leads
             }
             None => Leads::Fail(4),
         },
-        None => Leads::Want,
+        None => Leads::Lack,
     }
 }
 
@@ -179,9 +180,9 @@ pub fn store_site(running: &mut Activation) -> Leads
                 }
                 None => Leads::Fail(4),
             },
-            None => Leads::Want,
+            None => Leads::Lack,
         },
-        None => Leads::Want,
+        None => Leads::Lack,
     }
 }
 
@@ -200,7 +201,7 @@ pub fn is_live(running: &mut Activation) -> Leads
             }
             None => Leads::Fail(4),
         },
-        None => Leads::Want,
+        None => Leads::Lack,
     }
 }
 
@@ -219,7 +220,7 @@ pub fn is_empty(running: &mut Activation) -> Leads
             }
             None => Leads::Fail(4),
         },
-        None => Leads::Want,
+        None => Leads::Lack,
     }
 }
 
@@ -227,7 +228,7 @@ pub fn is_empty(running: &mut Activation) -> Leads
 #[inline(always)]
 pub fn create(running: &mut Activation) -> Leads
     requires { length running.old.stack ≤ 512 }
-    ensures { (kind : ℕ) → Works (work kind (Draw as_drawn) running.old) running.new result }
+    ensures { (kind : ℕ) → Works (work kind (Draw pos) running.old) running.new result }
 {
     match running.number() {
         Some(v) => match bound(v) {
@@ -238,7 +239,7 @@ pub fn create(running: &mut Activation) -> Leads
             }
             None => Leads::Fail(5),
         },
-        None => Leads::Want,
+        None => Leads::Lack,
     }
 }
 
@@ -257,7 +258,7 @@ pub fn one_in(running: &mut Activation) -> Leads
             }
             None => Leads::Fail(5),
         },
-        None => Leads::Want,
+        None => Leads::Lack,
     }
 }
 
@@ -272,7 +273,7 @@ pub fn same(running: &mut Activation, k: u16) -> Leads
             running.push(Datum::Number(of_bool(atom.kind() == k)));
             Leads::On
         }
-        None => Leads::Want,
+        None => Leads::Lack,
     }
 }
 
@@ -288,6 +289,6 @@ pub fn double(running: &mut Activation) -> Leads
             running.push(Datum::Number(v));
             Leads::On
         }
-        None => Leads::Want,
+        None => Leads::Lack,
     }
 }

@@ -1,3 +1,4 @@
 pub mod Appending
 pub mod Digits
+pub mod Stages
 pub mod Streams

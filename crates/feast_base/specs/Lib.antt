@@ -5,5 +5,7 @@ pub mod Edges
 pub mod Held
 pub mod Loading
 pub mod Outside
+pub mod Places
 pub mod Refusals
+pub mod Stages
 pub mod TypeNames

@@ -1,7 +1,7 @@
 -- What a load and a put leave, answer by answer.
 use Rattle.std.specs.Prelude.{◌≡◌, ℕ, ◌+◌, ◌<◌, ◌≤◌, List, [], ◌∷◌, ◌++◌, length, take, Option, Result, Ok, Err}
 use Rattle.std.specs.Io.KnownBytes.{Consumes, IsAtEnd, Appends as AppendsKnown}
-use Rattle.feast_base.specs.Outside.{File, TellsBytes, TellsLonger, TellsFront, Grows, Told}
+use Rattle.feast_base.specs.Outside.{File, TellsBytes, TellsLonger, TellsFront, Grows, SinkState}
 use Rattle.feast_base.specs.declared.shelf.LoadFault.{LoadFault}
 use Rattle.feast_base.specs.declared.shelf.LoadFault.TheVariants.{Failed, TooLong, NoMemory}
 use Rattle.feast_base.specs.declared.sink.SinkFailed.{SinkFailed}
@@ -32,18 +32,18 @@ Copies bytes limit into into' (Err TooLong) = (limit < length bytes) × (into' �
 Copies bytes limit into into' (Err NoMemory) = into' ≡ into
 
 -- a put: all bytes and no fault, or a prefix and a fault
-abbrev pub Puts : {T : Type 0} → Told → Told → List ℕ → Result T SinkFailed → Type 0
+abbrev pub Puts : {T : Type 0} → SinkState → SinkState → List ℕ → Result T SinkFailed → Type 0
 Puts old new bytes (Ok x) = Grows old.written new.written bytes × (new.faults ≡ old.faults)
 Puts old new bytes (Err e) = (front : List ℕ) × (rest : List ℕ) × (bytes ≡ front ++ rest) × Grows old.written new.written front × (old.faults < new.faults)
 
 -- all of a text was put, in one piece or in several
-pub record IsPut (old new : Told) (text : List ℕ) : Type 0 where
+pub record IsPut (old new : SinkState) (text : List ℕ) : Type 0 where
   pub grows : Grows old.written new.written text
   pub same : new.faults ≡ old.faults
   pub later : (m : ℕ) → new.may_fail m → old.may_fail (length text + m)
 
 -- the sink failed when a text was put, and has a first part of it
-pub record IsCut (old new : Told) (text : List ℕ) : Type 0 where
+pub record IsCut (old new : SinkState) (text : List ℕ) : Type 0 where
   pub front : List ℕ
   pub rest : List ℕ
   pub split : text ≡ front ++ rest

@@ -33,20 +33,20 @@ Grows (Some old) new piece = new ≡ Some (old ++ piece)
 
 -- what is known of a shelf: its files if it reveals them, the names whose load failed, and the
 -- names whose load may fail
-pub record Stock : Type 1 where
+pub record ShelfState : Type 1 where
   pub files : Option (List File)
   pub failed : List (List ℕ)
   pub may_fail : List ℕ → Type 0
 
-abbrev pub stock : {F : Type 0} → (F → Option (List File)) → (F → List (List ℕ)) → (F → List ℕ → Type 0) → F → Stock
-stock files failed may_fail shelf = record { files = files shelf; failed = failed shelf; may_fail = may_fail shelf }
+abbrev pub shelf_state : {F : Type 0} → (F → Option (List File)) → (F → List (List ℕ)) → (F → List ℕ → Type 0) → F → ShelfState
+shelf_state files failed may_fail shelf = record { files = files shelf; failed = failed shelf; may_fail = may_fail shelf }
 
 -- what is known of a sink: what was written if it reveals that, the number of its faults, and the
 -- numbers of bytes that it may fail to put
-pub record Told : Type 1 where
+pub record SinkState : Type 1 where
   pub written : Option (List ℕ)
   pub faults : ℕ
   pub may_fail : ℕ → Type 0
 
-abbrev pub told : {K : Type 0} → (K → Option (List ℕ)) → (K → ℕ) → (K → ℕ → Type 0) → K → Told
-told written faults may_fail sink = record { written = written sink; faults = faults sink; may_fail = may_fail sink }
+abbrev pub sink_state : {K : Type 0} → (K → Option (List ℕ)) → (K → ℕ) → (K → ℕ → Type 0) → K → SinkState
+sink_state written faults may_fail sink = record { written = written sink; faults = faults sink; may_fail = may_fail sink }

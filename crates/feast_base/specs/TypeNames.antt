@@ -1,5 +1,5 @@
 -- The form of the names of types.
-use Rattle.std.specs.Prelude.{ℕ, ◌+◌, ◌==◌, Bool, false, ◌||◌, ◌&&◌, List, [], ◌∷◌, length, nat_le}
+use Rattle.std.specs.Prelude.{ℕ, ◌+◌, ◌==◌, Bool, false, ◌||◌, ◌&&◌, List, [], ◌∷◌, length, nat_le, slice_index_or, ◌-◌}
 use Rattle.std.specs.Char.{is_ascii_alphanumeric, is_ascii_uppercase}
 use Rattle.std.specs.List.{list_all}
 
@@ -15,3 +15,7 @@ longest_name = 255
 abbrev pub is_type_name : List ℕ → Bool
 is_type_name [] = false
 is_type_name (b ∷ bs) = is_ascii_uppercase b && list_all is_word_byte bs && nat_le (length bs + 1) longest_name
+
+-- the name of a type number, which counts from 1
+abbrev pub name_of : List (List ℕ) → ℕ → List ℕ
+name_of names kind = slice_index_or names (kind - 1) []

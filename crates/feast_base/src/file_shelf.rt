@@ -1,14 +1,16 @@
 //! The files of the system.
 ghost use Rattle.std.specs.Prelude.{◌≡◌, ℕ, ◌+◌, ◌-◌, ◌^◌, ◌≤◌, ◌<◌, ◌⊎◌, ◌++◌, ◌∷◌, [], List, None, length};
+ghost use Rattle.std.specs.Io.{ReadsAtMost};
+ghost use Rattle.std.specs.Io.KnownBytes.{ReadConsumes};
 ghost use Rattle.feast_base.specs.Loading.{AppendsSome, IsLoad, NotesFailed, ReadsWhole};
 
 use crate::noted::note;
 use crate::{LoadFault, Name, Shelf};
 use std::alloc::Global;
-use std::fs;
-use std::io::Read;
+use std::io::{ErrorKind, Read};
 use std::marker::Model;
 use std::rt::Files;
+use std::{fs, io};
 
 /// The files of the system. Their contents are unknown to contracts; a shelf is seen as the names
 /// whose load failed.
@@ -40,6 +42,24 @@ impl<'a, R: Files> FileShelf<'a, R> {
     }
 }
 
+/// One read, tried again for as long as a signal interrupts it.
+fn read_some<S: Read>(file: &mut S, buffer: &mut [u8]) -> io::Result<usize>
+    ensures bound { ReadsAtMost result buffer.new }
+    ensures bytes { ReadConsumes (S.remaining file.old) (S.remaining file.new) result buffer.new }
+{
+    for _ in 0..u64::MAX {
+        match file.read(buffer) {
+            Ok(count) => return Ok(count),
+            Err(fault) => {
+                if fault.kind() != ErrorKind::Interrupted {
+                    return Err(fault);
+                }
+            }
+        }
+    }
+    Err(ErrorKind::Interrupted.into())
+}
+
 /// Appends what is left of a file, but at most `limit + 1` bytes. A read that fails is `Failed`.
 pub(crate) fn read_whole<S: Read>(
     file: &mut S,
@@ -53,7 +73,7 @@ pub(crate) fn read_whole<S: Read>(
     let mut left = limit + 1;
     while left > 0 {
         let want = left.min(buffer.len());
-        let count = match file.read(&mut buffer[..want]) {
+        let count = match read_some(file, &mut buffer[..want]) {
             Ok(count) => count,
             Err(_) => return Err(LoadFault::Failed),
         };

@@ -3,7 +3,7 @@ ghost use Rattle.std.specs.Prelude.{◌≡◌, ◌≢◌, ℕ, ◌+◌, ◌-◌,
 ghost use Rattle.feast_base.specs.Counting.{next_count};
 ghost use Rattle.feast_base.specs.Held.{kept_at, PutFails, PutMayFail, put_front, stop_at};
 ghost use Rattle.feast_base.specs.Loading.{Puts};
-ghost use Rattle.feast_base.specs.Outside.{told};
+ghost use Rattle.feast_base.specs.Outside.{sink_state};
 
 use crate::{NoMemory, Sink, SinkFailed, Stop};
 use std::alloc::Global;
@@ -119,7 +119,7 @@ impl Sink for MemSink {
     fn put(&mut self, bytes: &[u8]) -> Result<(), SinkFailed>
         requires some { 0 < length bytes.now }
         requires room { self.old.faults < 2 ^ 64 - 1 }
-        ensures puts { Puts (told (λ s. Some s.written) (λ s. s.faults) PutMayFail self.old) (told (λ s. Some s.written) (λ s. s.faults) PutMayFail self.new) bytes.now result }
+        ensures puts { Puts (sink_state (λ s. Some s.written) (λ s. s.faults) PutMayFail self.old) (sink_state (λ s. Some s.written) (λ s. s.faults) PutMayFail self.new) bytes.now result }
         ensures cause { IsErr result → (m : ℕ) → length bytes.now ≤ m → PutMayFail self.old m }
         ensures later { IsOk result → (m : ℕ) → PutMayFail self.new m → PutMayFail self.old (length bytes.now + m) }
         ensures exactly { IsErr result ↔ PutFails self.old (length bytes.now) }

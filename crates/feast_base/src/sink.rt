@@ -1,6 +1,6 @@
 //! Sinks, to which bytes are put.
 ghost use Rattle.std.specs.Prelude.{◌≡◌, ℕ, ◌+◌, ◌^◌, ◌-◌, ◌<◌, ◌≤◌, List, Option, IsErr, IsOk, length};
-ghost use Rattle.feast_base.specs.Outside.{told};
+ghost use Rattle.feast_base.specs.Outside.{sink_state};
 ghost use Rattle.feast_base.specs.Loading.{Puts};
 
 use thiserror::Error;
@@ -28,7 +28,7 @@ pub trait Sink {
     fn put(&mut self, bytes: &[u8]) -> Result<(), SinkFailed>
         requires some { 0 < length bytes.now }
         requires room { faults self.old < 2 ^ 64 - 1 }
-        ensures puts { Puts (told written faults may_fail self.old) (told written faults may_fail self.new) bytes.now result }
+        ensures puts { Puts (sink_state written faults may_fail self.old) (sink_state written faults may_fail self.new) bytes.now result }
         ensures cause { IsErr result → (m : ℕ) → length bytes.now ≤ m → may_fail self.old m }
         ensures later { IsOk result → (m : ℕ) → may_fail self.new m → may_fail self.old (length bytes.now + m) };
 }

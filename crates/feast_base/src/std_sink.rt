@@ -1,11 +1,13 @@
 //! Standard output.
 ghost use Rattle.std.specs.Prelude.{◌≡◌, ℕ, ◌+◌, ◌-◌, ◌^◌, ◌≤◌, ◌<◌, IsErr, IsOk, None, OnErr, length};
+ghost use Rattle.std.specs.Io.{WritesAtMost};
+ghost use Rattle.std.specs.Io.KnownBytes.{WriteAppends};
 ghost use Rattle.feast_base.specs.Loading.{Puts, WritesWhole};
-ghost use Rattle.feast_base.specs.Outside.{told};
+ghost use Rattle.feast_base.specs.Outside.{sink_state};
 
 use crate::{Sink, SinkFailed};
 use std::io;
-use std::io::Write;
+use std::io::{ErrorKind, Write};
 use std::marker::Model;
 
 /// Standard output. Its bytes are unknown to contracts; it is seen as the number of its faults.
@@ -32,13 +34,31 @@ impl<'a, R: Print> StdSink<'a, R> {
     }
 }
 
+/// One write, tried again for as long as a signal interrupts it.
+fn write_some<W: Write>(to: &mut W, bytes: &[u8]) -> io::Result<usize>
+    ensures bound { WritesAtMost result bytes.now }
+    ensures bytes { WriteAppends (W.contents to.old) (W.contents to.new) result bytes.now }
+{
+    for _ in 0..u64::MAX {
+        match to.write(bytes) {
+            Ok(count) => return Ok(count),
+            Err(fault) => {
+                if fault.kind() != ErrorKind::Interrupted {
+                    return Err(fault);
+                }
+            }
+        }
+    }
+    Err(ErrorKind::Interrupted.into())
+}
+
 /// Writes all the bytes, and flushes. A write that takes no byte is a fault.
 pub(crate) fn write_whole<W: Write>(to: &mut W, bytes: &[u8]) -> Result<(), SinkFailed>
     ensures { WritesWhole (W.contents to.old) (W.contents to.new) bytes.now result }
 {
     let mut rest = bytes;
     while !rest.is_empty() {
-        match to.write(rest) {
+        match write_some(to, rest) {
             Ok(0) => return Err(SinkFailed),
             Ok(count) => rest = &rest[count..],
             Err(_) => return Err(SinkFailed),
@@ -63,7 +83,7 @@ impl<R: Print> Sink for StdSink<'_, R> {
     fn put(&mut self, bytes: &[u8]) -> Result<(), SinkFailed>
         requires some { 0 < length bytes.now }
         requires room { self.old < 2 ^ 64 - 1 }
-        ensures puts { Puts (told (λ _. None) (λ s. s) (λ _ _. Unit {0}) self.old) (told (λ _. None) (λ s. s) (λ _ _. Unit {0}) self.new) bytes.now result }
+        ensures puts { Puts (sink_state (λ _. None) (λ s. s) (λ _ _. Unit {0}) self.old) (sink_state (λ _. None) (λ s. s) (λ _ _. Unit {0}) self.new) bytes.now result }
         ensures cause { IsErr result → (m : ℕ) → length bytes.now ≤ m → Unit {0} }
         ensures later { IsOk result → (m : ℕ) → Unit {0} → Unit {0} }
         ensures once { OnErr result (self.new ≡ self.old + 1) }

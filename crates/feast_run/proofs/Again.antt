@@ -17,7 +17,7 @@ use Rattle.feast_run.specs.Stages.{JournalValue, journal_limit, journal_said, re
 use Rattle.grid_print.proofs.ReadAgain.{read_again}
 use Rattle.grid_print.specs.Again.{IsLeft}
 use Rattle.grid_print.specs.Report.{atoms_text, report}
-use Rattle.world_grid.proofs.Valid.{read_draft, world_known}
+use Rattle.world_runs.proofs.Valid.{read_draft, world_known}
 use Rattle.world_text.specs.Named.{WorldValue}
 use Rattle.world_text.specs.Printed.{IsNamed}
 

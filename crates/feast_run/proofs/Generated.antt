@@ -2,15 +2,15 @@
 use Rattle.std.proofs.Common.{ℕ, ◌≡◌, List, Result, Ok, Err, refl, ap, subst, sym, ◌∙◌}
 use Rattle.std.specs.Result.{IfOk}
 use Rattle.event_journal.specs.Logs.{abandoned_in, records_in}
-use Rattle.feast_base.specs.Outside.{Stock}
+use Rattle.feast_base.specs.Outside.{ShelfState}
 use Rattle.feast_run.proofs.Machines.{is_run, machine_grid, machine_logs}
 use Rattle.feast_run.specs.Elements.{ElementsValue}
 use Rattle.feast_run.specs.Generating.{stepped_summary}
 use Rattle.feast_run.specs.Stages.{ready_with}
 use Rattle.feast_run.specs.Stepped.{IsOutcomeOf, IsSteppedRun}
 use Rattle.feast_run.specs.Tellings.{MissesNone, Moves}
-use Rattle.feast_run.specs.declared.stop.Stop.{Stop}
-use Rattle.feast_run.specs.declared.stop.Stop.TheVariants.{Refused, Missing, NoMemory}
+use Rattle.feast_run.specs.declared.halt.Halt.{Halt}
+use Rattle.feast_run.specs.declared.halt.Halt.TheVariants.{Refused, Missing, NoMemory}
 use Rattle.generated_world.specs.Generated.{generated}
 use Rattle.generated_world.specs.Summary.{summary}
 use Rattle.serial_order.specs.declared.outcome.Outcome.{Outcome}
@@ -33,7 +33,7 @@ summary_is number w es o e h =
     of_world ∙ ap (λ (v : WorldValue). stepped_summary number (ready_with v es)) e
 
 -- where no load failed and no shelf was used, the shelf is as it was
-pub unmoved : {X : Type 0} (s : Stock) (r : Result X Stop) → MissesNone r → Moves s s r
+pub unmoved : {X : Type 0} (s : ShelfState) (r : Result X Halt) → MissesNone r → Moves s s r
 unmoved s (Ok x) h = record { failed = refl; later = λ n k. k }
 unmoved s (Err (Refused r)) h = record { failed = refl; later = λ n k. k }
 unmoved s (Err (Missing word)) h = absurd h

@@ -1,35 +1,32 @@
 -- A world and its set, as a judgement knows them.
 use Rattle.std.proofs.Common.{ℕ, ◌≡◌, ◌<◌, List, All, Result, Ok, Err, ap, length, subst, sym}
 use Rattle.std.specs.Prelude.{IfOk}
+use Rattle.draw_stream.proofs.Plans.{no_attempt}
 use Rattle.cell_grid.specs.Grid.{GridValue}
 use Rattle.cell_grid.specs.Records.{replay}
 use Rattle.cell_grid.specs.declared.record.Record.{Record}
-use Rattle.draw_stream.specs.declared.attempt.Attempt.{Attempt}
 use Rattle.element_set.specs.Sets.{Coded}
 use Rattle.feast_run.specs.Answer.{rewinds}
 use Rattle.feast_run.specs.Audited.{Audits, judged_world}
-use Rattle.feast_run.specs.Faults.{IsStop}
-use Rattle.feast_run.specs.Outcomes.{RefusedValue}
+use Rattle.feast_run.specs.Faults.{IsHalt}
+use Rattle.feast_run.specs.Halting.{RefusedValue}
 use Rattle.feast_run.specs.Stages.{JournalValue, ReadyValue, records_refused}
 use Rattle.feast_run.specs.Tellings.{Tells}
-use Rattle.feast_run.specs.declared.stop.Stop.{Stop}
-use Rattle.feast_run.specs.declared.stop.Stop.TheVariants.{Missing, NoMemory, Refused}
+use Rattle.feast_run.specs.declared.halt.Halt.{Halt}
+use Rattle.feast_run.specs.declared.halt.Halt.TheVariants.{Missing, NoMemory, Refused}
 use Rattle.grid_print.specs.Report.{AreNamed}
-use Rattle.journal_check.specs.Telling.{IsPlanOf}
-use Rattle.report_judge.specs.Judging.{Judges, Setting, judgement_text}
+use Rattle.journal_check.specs.Entries.{IsPlanOf}
+use Rattle.report_judge.specs.Judging.{Judges, JudgedWorld, judgement_text}
 use Rattle.report_judge.specs.declared.judgement.Judgement.{Judgement}
 use Rattle.tile_map.specs.Plane.{MapValue}
 use Rattle.window_sites.specs.Window.{WindowValue}
-use Rattle.world_grid.proofs.KnownAtoms.{replay_known, start_known}
-use Rattle.world_grid.proofs.Valid.{world_known}
+use Rattle.world_runs.proofs.KnownAtoms.{replay_known, start_known}
+use Rattle.world_runs.proofs.Valid.{world_known}
 use Rattle.cell_grid.specs.Known.{BringsNone, IsKnown}
-use Rattle.world_grid.specs.Start.{start_grid}
-use Rattle.world_grid.specs.Worlds.{IsWorld}
+use Rattle.world_runs.specs.Start.{start_grid}
+use Rattle.world_runs.specs.Worlds.{IsWorld}
 use Rattle.world_text.specs.Named.{WorldValue}
 use Rattle.world_text.specs.Printed.{IsNamed}
-
-no_attempt : Attempt
-no_attempt = record { centre = 0; seed = 0 }
 
 pub plan_of : (w : WorldValue) → IsWorld w → IsPlanOf w.plane w.plan
 plan_of w h = record { lists = h.lists; on = λ t some. (h.attempts t 0 no_attempt some).on; centres = λ t k d lt. (h.attempts t k d lt).centre }
@@ -47,13 +44,13 @@ pub setting_same : (r : ReadyValue) (m : MapValue) (means : WindowValue → ℕ 
 setting_same r m means names g em ea en eg = λ i. record { map = em i; plan = r.world.plan; meaning = ea i; names = en i; start = eg i }
 
 -- the line of a right judgement
-pub line_audits : {A E : Type 0} (items : A → List ℕ) (r : ReadyValue) (bytes : List ℕ) (j : JournalValue) (s : Setting) (judgement : Judgement) (text : Result A E) → s ≡ judged_world r → Judges s bytes j.records j.abandoned judgement →
+pub line_audits : {A E : Type 0} (items : A → List ℕ) (r : ReadyValue) (bytes : List ℕ) (j : JournalValue) (s : JudgedWorld) (judgement : Judgement) (text : Result A E) → s ≡ judged_world r → Judges s bytes j.records j.abandoned judgement →
     IfOk text (λ v. items v ≡ judgement_text judgement) → IfOk text (λ v. Audits r bytes j (items v))
-line_audits items r bytes j s judgement (Ok v) same right shown = record { judgement = judgement; judges = subst (λ (x : Setting). Judges x bytes j.records j.abandoned judgement) same right; shown = shown }
+line_audits items r bytes j s judgement (Ok v) same right shown = record { judgement = judgement; judges = subst (λ (x : JudgedWorld). Judges x bytes j.records j.abandoned judgement) same right; shown = shown }
 line_audits items r bytes j s judgement (Err e) same right shown = tt
 
 -- a journal has fewer events than are to be left
-pub few_told : {X : Type 0} (value : X → List ℕ) (word : List ℕ) (k : ℕ) (r : ReadyValue) (j : JournalValue) (stop : Stop) → length j.records < k → IsStop (records_refused word (length j.records)) stop → Tells value (rewinds word k r j) (Err stop)
+pub few_told : {X : Type 0} (value : X → List ℕ) (word : List ℕ) (k : ℕ) (r : ReadyValue) (j : JournalValue) (halt : Halt) → length j.records < k → IsHalt (records_refused word (length j.records)) halt → Tells value (rewinds word k r j) (Err halt)
 few_told value word k r j (Refused s) few is = ((few, is.0), subst Coded (sym (ap (λ (v : RefusedValue). v.refusal.code) is.0)) is.1)
 few_told value word k r j (Missing v) few is = absurd is
 few_told value word k r j NoMemory few is = absurd is

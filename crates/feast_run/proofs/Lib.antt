@@ -7,9 +7,9 @@ pub mod Laws
 pub mod Loads
 pub mod Machines
 pub mod Missing
+pub mod NoFailures
 pub mod PlansFit
 pub mod Promised
-pub mod Quiet
 pub mod ReportLength
 pub mod Runs
 pub mod Sound

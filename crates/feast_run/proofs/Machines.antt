@@ -1,6 +1,6 @@
 -- What a stepped run comes to is what the stepped machine of its world leaves, and owes what a run does, as what a run with a
 -- worker for each tile comes to does.
-use Rattle.std.proofs.Common.{ℕ, ◌≡◌, ◌≢◌, ◌≤◌, ◌*◌, List, All, Result, Ok, Err, ap, length, refl, subst, sym, ◌∙◌, arith}
+use Rattle.std.proofs.Common.{ℕ, ◌≡◌, ◌≢◌, List, All, Result, Ok, Err, ap, length, refl, subst, sym, ◌∙◌}
 use Rattle.std.specs.Result.{IfOk}
 use Rattle.cell_grid.specs.Grid.{GridValue}
 use Rattle.cell_grid.specs.Records.{replay}
@@ -13,12 +13,12 @@ use Rattle.feast_run.specs.Stepped.{IsOutcomeOf, IsSteppedRun, machine_of, stepp
 use Rattle.feast_run.specs.Threaded.{IsThreadedOf}
 use Rattle.grid_print.specs.Report.{AreNamed, report}
 use Rattle.serial_order.specs.declared.outcome.Outcome.{Outcome}
-use Rattle.tile_map.specs.Plane.{MapValue, IsMap, tiles_of}
+use Rattle.tile_map.specs.Plane.{tiles_of}
 use Rattle.window_sites.specs.Window.{WindowValue}
-use Rattle.world_grid.proofs.KnownAtoms.{replay_known, start_known}
+use Rattle.world_runs.proofs.KnownAtoms.{replay_known, start_known}
 use Rattle.cell_grid.specs.Known.{BringsNone}
-use Rattle.world_grid.specs.Known.{ArePlacedKnown}
-use Rattle.world_grid.specs.Start.{start_grid}
+use Rattle.world_runs.specs.Known.{ArePlacedKnown}
+use Rattle.world_runs.specs.Start.{start_grid}
 
 pub machine_grid : (r : ReadyValue) (o : Outcome) → IsOutcomeOf r o → o.grid ≡ (machine_of r).grid
 unfolding machine_of
@@ -69,10 +69,3 @@ pub outcome_by : {B E : Type 0} (acts : B → WindowValue → ℕ → WindowValu
     IfOk r (λ (o : Outcome). (means : WindowValue → ℕ → WindowValue) → All (λ b. acts b ≡ means) behaves → P means o) → IfOk r (P meaning)
 outcome_by acts P meaning behaves (Ok o) all h = h meaning all
 outcome_by acts P meaning behaves (Err e) all h = tt
-
--- a world has few tiles
-pub tiles_few : (m : MapValue) → IsMap m → tiles_of m ≤ 64
-tiles_few m k = go m.tx m.ty k.sizes.tx_high k.sizes.ty_high
-  where
-    go : (a b : ℕ) → a ≤ 8 → b ≤ 8 → a * b ≤ 64
-    go a b p q = grind arith

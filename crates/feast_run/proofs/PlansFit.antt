@@ -16,13 +16,14 @@ use Rattle.draw_stream.specs.Plans.{attempts, count_of, seeded, tiles_on}
 use Rattle.draw_stream.specs.Words.{tile_step, tile_word}
 use Rattle.draw_stream.specs.declared.attempt.Attempt.{Attempt}
 use Rattle.draw_stream.proofs.Plans.{length_seeded_attempts, length_seeded_lists, seeded_attempts_at, seeded_lists_at, sum_seeded_lists}
-use Rattle.grid_print.specs.Again.{IsPlanOf}
+use Rattle.grid_print.specs.Again.{IsDrawablePlan}
 use Rattle.grid_print.specs.OneReport.{IsWord}
+use Rattle.serial_order.specs.BlankGrid.{blank_grid, plane_sites}
 use Rattle.tile_map.specs.Plane.{MapValue}
 use Rattle.window_sites.specs.Window.{WindowValue}
-use Rattle.world_grid.proofs.Valid.{world_valid}
-use Rattle.world_grid.specs.Start.{bare_grid, count_of as sites_of, start_grid, with_placed}
-use Rattle.world_grid.specs.Worlds.{IsWorld}
+use Rattle.world_runs.proofs.Valid.{world_valid}
+use Rattle.world_runs.specs.Start.{start_grid, with_placed}
+use Rattle.world_runs.specs.Worlds.{IsWorld}
 use Rattle.world_text.specs.Drafts.{DraftValue, IsDraft}
 use Rattle.world_text.specs.Named.{WorldValue, name_fault, plan_by, unless, world_of}
 use Rattle.world_text.specs.Printed.{IsNamed}
@@ -53,16 +54,16 @@ plan_few : (d : DraftValue) → IsDraft d → (o : Option (ℕ × ℕ)) → IfSo
 plan_few d k None h = let made = k.made in let few = k.few in omega (arith, made, few)
 plan_few d k (Some o) h = omega (arith, sum_seeded_lists o.0 o.1 d.plane.off (d.plane.w * d.plane.h), h.1)
 
-pub plan_fits : (names : List (List ℕ)) (w : WorldValue) → IsNamed names w → IsPlanOf w.plane w.plan
+pub plan_fits : (names : List (List ℕ)) (w : WorldValue) → IsNamed names w → IsDrawablePlan w.plane w.plan
 plan_fits names w h = on (name_fault names (h.0.plane.tx * h.0.plane.w) [] h.0.atoms) h.2
   where
     valid : IsWorld w
     valid = world_valid names w h
 
-    fits : (sum_by length w.plan.lists ≤ 1000000) → ((t : ℕ) → All (λ (a : Attempt). IsWord a.seed) (attempts w.plan t)) → IsPlanOf w.plane w.plan
+    fits : (sum_by length w.plan.lists ≤ 1000000) → ((t : ℕ) → All (λ (a : Attempt). IsWord a.seed) (attempts w.plan t)) → IsDrawablePlan w.plane w.plan
     fits few words = record { map = valid.map; lists = valid.lists; few = few; attempts = λ t i d lt. ((valid.attempts t i d lt).centre, words t i d lt) }
 
-    on : (o : Option (ℕ × ℕ)) → unless (world_of names h.0) o ≡ Ok w → IsPlanOf w.plane w.plan
+    on : (o : Option (ℕ × ℕ)) → unless (world_of names h.0) o ≡ Ok w → IsDrawablePlan w.plane w.plan
     on (Some fault) e = cc
     on None e =
         let same : world_of names h.0 ≡ w = cc in
@@ -86,10 +87,10 @@ placed_size : (m : MapValue) (g : GridValue) (ps : List Placed) → HasSize m g 
 placed_size m g [] h = h
 placed_size m g (p ∷ ps) h = placed_size m (with_placed g p) ps (record { wide = h.wide; sites = length-set g.atoms (p.y * g.width + p.x) p.atom ∙ h.sites })
 
-bare_size : (m : MapValue) → HasSize m (bare_grid m)
-unfolding bare_grid
-bare_size m = record { wide = refl; sites = length-replicate (sites_of m) empty_atom }
+blank_size : (m : MapValue) → HasSize m (blank_grid m)
+unfolding blank_grid
+blank_size m = record { wide = refl; sites = length-replicate (plane_sites m) empty_atom }
 
 -- what events leave of the start of a world
 pub left_size : (m : MapValue) (after : WindowValue → ℕ → WindowValue) (atoms : List Placed) (rs : List Record) → HasSize m (replay after (start_grid m atoms) rs)
-left_size m after atoms rs = replay_size m after (start_grid m atoms) rs (placed_size m (bare_grid m) atoms (bare_size m))
+left_size m after atoms rs = replay_size m after (start_grid m atoms) rs (placed_size m (blank_grid m) atoms (blank_size m))

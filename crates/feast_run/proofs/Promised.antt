@@ -1,13 +1,14 @@
 -- The promises of a call, from how it ends.
-use Rattle.std.proofs.Common.{ℕ, ◌≡◌, List, [], ◌∷◌, ◌++◌, length, Option, Some, None, refl, sym, ap, subst, ◌∙◌, inl, inr, arith}
+use Rattle.std.proofs.Common.{ℕ, ◌≡◌, List, [], ◌∷◌, ◌++◌, length, Option, Some, None, refl, sym, ap, subst, ◌∙◌, inl, inr, arith, Result, Ok, Err}
 use Rattle.std.proofs.lemmas.List.{length-append, append_cancel_left}
 use Rattle.element_set.specs.Sets.{SetValue, check_text, code_text}
-use Rattle.feast_base.specs.Outside.{File, Grows, Stock, Told}
+use Rattle.feast_base.specs.Outside.{File, Grows, ShelfState, SinkState}
 use Rattle.feast_base.specs.Refusals.{refusal_line, unreadable_line}
 use Rattle.event_journal.specs.Logs.{abandoned_in, records_in}
 use Rattle.feast_run.proofs.Again.{replays_to}
 use Rattle.feast_run.proofs.CodeStages.{codes_are}
-use Rattle.feast_run.proofs.Laws.{went}
+use Rattle.feast_base.proofs.Stages.{went}
+use Rattle.feast_run.proofs.Laws.{one_refusal}
 use Rattle.feast_run.proofs.Runs.{ready_told, set_is}
 use Rattle.feast_run.proofs.Sound.{AreSound, codes_sound, set_sound}
 use Rattle.feast_run.proofs.Sure.{form_accepts, form_sure}
@@ -19,26 +20,27 @@ use Rattle.feast_run.specs.Ending.{Ends, Leaves, Whole, status_of, status_of_inp
 use Rattle.feast_run.specs.Packed.{pack_text}
 use Rattle.feast_run.specs.Forms.{FormValue, check, code, pack, run, step, replay, gen, audit, rewind, steppack, runpack}
 use Rattle.feast_run.specs.Generating.{generates}
-use Rattle.feast_run.specs.Outcomes.{Accepts, IsSure, Outcome, RefusedValue, Stage, and_then, passes, refuses, misses}
+use Rattle.feast_base.specs.Stages.{IsSure, Stage, and_then}
+use Rattle.feast_run.specs.Halting.{Accepts, HaltValue, IsRefusal, RefusedValue, misses, refuses}
 use Rattle.feast_run.specs.Promises.{Agrees, Complete, Exactly, GenTold, Headline, IsCodeFile, IsSet, Lines, RanTold, ReplayTold, SetTold, SteppedTold, Shows, UsageExactly, AuditTold, RewindTold}
 use Rattle.feast_run.specs.Owing.{Reports}
 use Rattle.feast_run.specs.Stages.{ReadyValue, ready_by, ready_with, set_of}
 use Rattle.feast_run.specs.Stepped.{IsSteppedRun, machine_of, stepped_logs, stepped_report}
 use Rattle.feast_run.specs.declared.status.Status.{Status}
 use Rattle.feast_run.specs.declared.status.Status.TheVariants as how
-use Rattle.feast_run.specs.declared.stop.Input.{Input}
-use Rattle.feast_run.specs.declared.stop.Input.TheVariants as input
-use Rattle.generated_elements.proofs.Accepted.{two_names}
+use Rattle.feast_run.specs.declared.halt.Input.{Input}
+use Rattle.feast_run.specs.declared.halt.Input.TheVariants as input
+use Rattle.generated_world.proofs.Accepted.{two_names}
 
 -- a form of element files that showed a text, part by part
-set_told : (text : SetValue → List ℕ) (files : List File) (words : List (List ℕ)) (appended : List ℕ) → and_then (set_of (Some files) words) (shows text) (passes appended) → SetTold text files words appended
+set_told : (text : SetValue → List ℕ) (files : List File) (words : List (List ℕ)) (appended : List ℕ) → and_then (set_of (Some files) words) (shows text) (Ok appended) → SetTold text files words appended
 set_told text files words appended h =
     let s = went _ _ appended h in
     record { set = s.value; is_set = set_is files words s.value s.passed; shown = s.rest }
 
 -- elements that are told come of a stage, and what they do is right
-pub record AreTold {X : Type 0} (elements : X → ElementsValue) (S : Stage X) (IsTold : X → Type 0) : Type 0 where
-  pub told : (x : X) → S (passes x) → IsTold x
+pub record AreTold {X : Type 0} (elements : X → ElementsValue) (S : Stage X HaltValue) (IsTold : X → Type 0) : Type 0 where
+  pub told : (x : X) → S (Ok x) → IsTold x
   pub sound : (x : X) → IsTold x → AreSound (elements x)
 
 sources_told : (files : List File) (words : List (List ℕ)) → AreTold source_elements (set_of (Some files) words) (IsSet files words)
@@ -48,7 +50,7 @@ codes_told : (files : List File) (file : List ℕ) → AreTold code_elements (co
 codes_told files file = record { told = codes_are files file; sound = codes_sound files file }
 
 -- a run that showed a text, part by part
-ran_told : {X : Type 0} (elements : X → ElementsValue) (S : Stage X) (IsTold : X → Type 0) (files : List File) (world text : List ℕ) → AreTold elements S IsTold → and_then (ready_by elements S (Some files) world) runs (passes text) → RanTold elements IsTold files world text
+ran_told : {X : Type 0} (elements : X → ElementsValue) (S : Stage X HaltValue) (IsTold : X → Type 0) (files : List File) (world text : List ℕ) → AreTold elements S IsTold → and_then (ready_by elements S (Some files) world) runs (Ok text) → RanTold elements IsTold files world text
 ran_told elements S IsTold files world text are h =
     let r = went _ _ text h in
     let s = ready_told elements S files world r.value r.passed in
@@ -64,7 +66,7 @@ ran_told elements S IsTold files world text are h =
     }
 
 -- a stepped run that showed a text, part by part
-stepped_told : {X : Type 0} (elements : X → ElementsValue) (S : Stage X) (IsTold : X → Type 0) (files : List File) (world text : List ℕ) → AreTold elements S IsTold → and_then (ready_by elements S (Some files) world) steps (passes text) → SteppedTold elements IsTold files world text
+stepped_told : {X : Type 0} (elements : X → ElementsValue) (S : Stage X HaltValue) (IsTold : X → Type 0) (files : List File) (world text : List ℕ) → AreTold elements S IsTold → and_then (ready_by elements S (Some files) world) steps (Ok text) → SteppedTold elements IsTold files world text
 stepped_told elements S IsTold files world text are h =
     let r = went _ _ text h in
     let s = ready_told elements S files world r.value r.passed in
@@ -83,11 +85,11 @@ stepped_told elements S IsTold files world text are h =
     }
 
 -- a replay that showed a text, part by part
-replay_told : (files : List File) (world journal : List ℕ) (words : List (List ℕ)) (text : List ℕ) → form_answer (Some files) (replay world journal words) (passes text) → ReplayTold files world journal words text
+replay_told : (files : List File) (world journal : List ℕ) (words : List (List ℕ)) (text : List ℕ) → form_answer (Some files) (replay world journal words) (Ok text) → ReplayTold files world journal words text
 replay_told files world journal words text h =
     let r = went _ _ text h in
     let s = ready_told source_elements (set_of (Some files) words) files world r.value r.passed in
-    let rest = subst (λ (v : ReadyValue). replay_of (Some files) journal v (passes text)) s.is r.rest in
+    let rest = subst (λ (v : ReadyValue). replay_of (Some files) journal v (Ok text)) s.is r.rest in
     let j = went _ _ text rest in
     let b = went _ _ j.value j.passed in
     record {
@@ -104,17 +106,17 @@ replay_told files world journal words text h =
     }
 
 -- a generated run that showed a text, part by part
-gen_told : (number : ℕ) (text : List ℕ) → generates number (passes text) → GenTold number text
+gen_told : (number : ℕ) (text : List ℕ) → generates number (Ok text) → GenTold number text
 gen_told number text h =
     let s = went _ _ text h in
     record { set = s.value; is_set = s.passed; names = two_names s.value s.passed; run = s.rest.0; shown = s.rest.1 }
 
 -- an audit that showed a text, part by part
-audit_told : (files : List File) (world report : List ℕ) (words : List (List ℕ)) (text : List ℕ) → form_answer (Some files) (audit world report words) (passes text) → AuditTold files world report words text
+audit_told : (files : List File) (world report : List ℕ) (words : List (List ℕ)) (text : List ℕ) → form_answer (Some files) (audit world report words) (Ok text) → AuditTold files world report words text
 audit_told files world report words text h =
     let r = went _ _ text h in
     let s = ready_told source_elements (set_of (Some files) words) files world r.value r.passed in
-    let rest = subst (λ (v : ReadyValue). audit_of (Some files) report v (passes text)) s.is r.rest in
+    let rest = subst (λ (v : ReadyValue). audit_of (Some files) report v (Ok text)) s.is r.rest in
     let b = went _ _ text rest in
     let j = went _ _ text b.rest in
     record {
@@ -129,11 +131,11 @@ audit_told files world report words text h =
     }
 
 -- a rewind that showed a text, part by part
-rewind_told : (files : List File) (world report : List ℕ) (k : ℕ) (words : List (List ℕ)) (text : List ℕ) → form_answer (Some files) (rewind world report k words) (passes text) → RewindTold files world report k words text
+rewind_told : (files : List File) (world report : List ℕ) (k : ℕ) (words : List (List ℕ)) (text : List ℕ) → form_answer (Some files) (rewind world report k words) (Ok text) → RewindTold files world report k words text
 rewind_told files world report k words text h =
     let r = went _ _ text h in
     let s = ready_told source_elements (set_of (Some files) words) files world r.value r.passed in
-    let rest = subst (λ (v : ReadyValue). rewind_of (Some files) report k v (passes text)) s.is r.rest in
+    let rest = subst (λ (v : ReadyValue). rewind_of (Some files) report k v (Ok text)) s.is r.rest in
     let j = went _ _ text rest in
     let b = went _ _ j.value j.passed in
     record {
@@ -148,7 +150,7 @@ rewind_told files world report k words text h =
       shown = j.rest.1;
     }
 
-shows_of : (files : List File) (form : FormValue) (text : List ℕ) → form_answer (Some files) form (passes text) → Shows files form text
+shows_of : (files : List File) (form : FormValue) (text : List ℕ) → form_answer (Some files) form (Ok text) → Shows files form text
 shows_of files (check words) text h = set_told check_text files words text h
 shows_of files (code words) text h = set_told code_text files words text h
 shows_of files (pack words) text h = set_told pack_text files words text h
@@ -177,18 +179,18 @@ not_usage input.Journal e = cc
 not_usage input.Codes e = cc
 
 -- an outcome with the status Done is a text
-done_by : (S : Stage (List ℕ)) (o : Outcome (List ℕ)) (status : Status) (text : List ℕ) → S o → status ≡ status_of o → text ≡ text_of o → status ≡ how.Done → S (passes text)
-done_by S (passes t) status text h s e done = rw e h
-done_by S (refuses r) status text h s e done = absurd (not_done r.input (sym s ∙ done))
-done_by S (misses w) status text h s e done = let x : how.Unreadable ≡ how.Done = sym s ∙ done in cc
+done_by : (S : Stage (List ℕ) HaltValue) (o : Result (List ℕ) HaltValue) (status : Status) (text : List ℕ) → S o → status ≡ status_of o → text ≡ text_of o → status ≡ how.Done → S (Ok text)
+done_by S (Ok t) status text h s e done = rw e h
+done_by S (Err (refuses r)) status text h s e done = absurd (not_done r.input (sym s ∙ done))
+done_by S (Err (misses w)) status text h s e done = let x : how.Unreadable ≡ how.Done = sym s ∙ done in cc
 
 -- no outcome has the status Usage
-no_usage : (o : Outcome (List ℕ)) (status : Status) → status ≡ status_of o → status ≡ how.Usage → ⊥
-no_usage (passes t) status s e = let x : how.Usage ≡ how.Done = sym e ∙ s in cc
-no_usage (refuses r) status s e = not_usage r.input (sym s ∙ e)
-no_usage (misses w) status s e = let x : how.Usage ≡ how.Unreadable = sym e ∙ s in cc
+no_usage : (o : Result (List ℕ) HaltValue) (status : Status) → status ≡ status_of o → status ≡ how.Usage → ⊥
+no_usage (Ok t) status s e = let x : how.Usage ≡ how.Done = sym e ∙ s in cc
+no_usage (Err (refuses r)) status s e = not_usage r.input (sym s ∙ e)
+no_usage (Err (misses w)) status s e = let x : how.Usage ≡ how.Unreadable = sym e ∙ s in cc
 
-headline_by : (form : Option FormValue) (files : List File) (old new : Stock) (sink sink' : Told) (before : List ℕ) (status : Status) → old.files ≡ Some files → sink.written ≡ Some before →
+headline_by : (form : Option FormValue) (files : List File) (old new : ShelfState) (sink sink' : SinkState) (before : List ℕ) (status : Status) → old.files ≡ Some files → sink.written ≡ Some before →
     Whole form old new sink sink' status → status ≡ how.Done → (f : FormValue) × (form ≡ Some f) × (text : List ℕ) × (sink'.written ≡ Some (before ++ text)) × Shows files f text
 headline_by None files old new sink sink' before status told w h done = let x : how.Usage ≡ how.Done = sym h.comes.status_is ∙ done in cc
 headline_by (Some f) files old new sink sink' before status told w h done =
@@ -197,11 +199,11 @@ headline_by (Some f) files old new sink sink' before status told w h done =
       refl,
       h.text,
       subst (λ (v : Option (List ℕ)). Grows v sink'.written h.text) w h.put.grows,
-      shows_of files f h.text (subst (λ (v : Option (List File)). form_answer v f (passes h.text)) told text),
+      shows_of files f h.text (subst (λ (v : Option (List File)). form_answer v f (Ok h.text)) told text),
     )
 
 -- the headline, from how a call ends
-pub headline_of : (form : Option FormValue) (old new : Stock) (sink sink' : Told) (status : Status) → Ends form old new sink sink' status → Headline form old sink sink' status
+pub headline_of : (form : Option FormValue) (old new : ShelfState) (sink sink' : SinkState) (status : Status) → Ends form old new sink sink' status → Headline form old sink sink' status
 headline_of form old new sink sink' status ends = λ files before told w done.
     elim ends [
       | inl whole ↦ headline_by form files old new sink sink' before status told w whole done
@@ -212,7 +214,7 @@ headline_of form old new sink sink' status ends = λ files before told w done.
     ]
 
 -- when Usage comes, from how a call ends
-pub usage_of : (form : Option FormValue) (old new : Stock) (sink sink' : Told) (status : Status) → Ends form old new sink sink' status → UsageExactly form status
+pub usage_of : (form : Option FormValue) (old new : ShelfState) (sink sink' : SinkState) (status : Status) → Ends form old new sink sink' status → UsageExactly form status
 usage_of None old new sink sink' status ends = record {
   only = λ e. refl;
   where_ = λ e. elim ends [ inl whole ↦ inl whole.comes.status_is | inr rest ↦ inr (elim rest [ inl b ↦ inl b.status_is | inr w ↦ inr w.status_is ]) ];
@@ -237,24 +239,24 @@ noted_one : (failed : List (List ℕ)) (v w : List ℕ) → failed ++ v ∷ [] �
 noted_one failed v w e = let same = append_cancel_left failed (v ∷ []) (w ∷ []) e in cc
 
 -- what was put is as any outcome says that agrees with the names noted
-told_by : (S : Stage (List ℕ)) (old new : Stock) (sink sink' : Told) (status : Status) (text : List ℕ) (a o : Outcome (List ℕ)) → IsSure S → S a → S o →
+told_by : (S : Stage (List ℕ) HaltValue) (old new : ShelfState) (sink sink' : SinkState) (status : Status) (text : List ℕ) (a o : Result (List ℕ) HaltValue) → IsSure IsRefusal S → S a → S o →
     Leaves old new a → Agrees old.failed new.failed o → status ≡ status_of a → text ≡ text_of a → Grows sink.written sink'.written text → (status ≡ status_of o) × Lines sink sink' o
-told_by S old new sink sink' status text (passes t) (passes u) sure ha ho k agrees s e g = (s, tt)
-told_by S old new sink sink' status text (passes t) (refuses r) sure ha ho k agrees s e g = absurd (sure.apart t r ha ho)
-told_by S old new sink sink' status text (passes t) (misses w) sure ha ho k agrees s e g = absurd (not_noted old.failed w (sym agrees ∙ k.failed))
-told_by S old new sink sink' status text (refuses q) (passes u) sure ha ho k agrees s e g = absurd (sure.apart u q ho ha)
-told_by S old new sink sink' status text (refuses q) (refuses r) sure ha ho k agrees s e g =
-    let one = sure.one_refusal q r ha ho in
+told_by S old new sink sink' status text (Ok t) (Ok u) sure ha ho k agrees s e g = (s, tt)
+told_by S old new sink sink' status text (Ok t) (Err (refuses r)) sure ha ho k agrees s e g = absurd (sure.apart t (refuses r) tt ha ho)
+told_by S old new sink sink' status text (Ok t) (Err (misses w)) sure ha ho k agrees s e g = absurd (not_noted old.failed w (sym agrees ∙ k.failed))
+told_by S old new sink sink' status text (Err (refuses q)) (Ok u) sure ha ho k agrees s e g = absurd (sure.apart u (refuses q) tt ho ha)
+told_by S old new sink sink' status text (Err (refuses q)) (Err (refuses r)) sure ha ho k agrees s e g =
+    let one = one_refusal S sure q r ha ho in
     (s ∙ ap (λ (v : RefusedValue). status_of_input v.input) one, subst (λ (v : List ℕ). Grows sink.written sink'.written v) (e ∙ ap (λ (v : RefusedValue). refusal_line v.word v.refusal) one) g)
-told_by S old new sink sink' status text (refuses q) (misses w) sure ha ho k agrees s e g = absurd (not_noted old.failed w (sym agrees ∙ k.failed))
-told_by S old new sink sink' status text (misses v) (passes u) sure ha ho k agrees s e g = absurd (not_noted old.failed v (sym k.failed ∙ agrees))
-told_by S old new sink sink' status text (misses v) (refuses r) sure ha ho k agrees s e g = absurd (not_noted old.failed v (sym k.failed ∙ agrees))
-told_by S old new sink sink' status text (misses v) (misses w) sure ha ho k agrees s e g =
+told_by S old new sink sink' status text (Err (refuses q)) (Err (misses w)) sure ha ho k agrees s e g = absurd (not_noted old.failed w (sym agrees ∙ k.failed))
+told_by S old new sink sink' status text (Err (misses v)) (Ok u) sure ha ho k agrees s e g = absurd (not_noted old.failed v (sym k.failed ∙ agrees))
+told_by S old new sink sink' status text (Err (misses v)) (Err (refuses r)) sure ha ho k agrees s e g = absurd (not_noted old.failed v (sym k.failed ∙ agrees))
+told_by S old new sink sink' status text (Err (misses v)) (Err (misses w)) sure ha ho k agrees s e g =
     let one = noted_one old.failed v w (sym k.failed ∙ agrees) in
     (s, subst (λ (z : List ℕ). Grows sink.written sink'.written z) (e ∙ ap unreadable_line one) g)
 
 -- each status exactly where it is due, from how a call ends
-pub exactly_of : (form : Option FormValue) (old new : Stock) (sink sink' : Told) (status : Status) → Ends form old new sink sink' status → Exactly form old new sink sink' status
+pub exactly_of : (form : Option FormValue) (old new : ShelfState) (sink sink' : SinkState) (status : Status) → Ends form old new sink sink' status → Exactly form old new sink sink' status
 exactly_of None old new sink sink' status ends = record {
   usage = λ none same. elim ends [
     | inl whole ↦ inl (whole.comes.status_is, subst (λ (v : List ℕ). Grows sink.written sink'.written v) whole.comes.text_is whole.put.grows)
@@ -274,13 +276,13 @@ exactly_of (Some g) old new sink sink' status ends = record {
   ];
 }
 
-done_of : (S : Stage (List ℕ)) (old new : Stock) (o : Outcome (List ℕ)) (status : Status) → Accepts S → S o → Leaves old new o → status ≡ status_of o → new.failed ≡ old.failed → status ≡ how.Done
-done_of S old new (passes t) status accepts o k s same = s
-done_of S old new (refuses q) status accepts o k s same = absurd (accepts q o)
-done_of S old new (misses w) status accepts o k s same = absurd (not_noted old.failed w (sym k.failed ∙ same))
+done_of : (S : Stage (List ℕ) HaltValue) (old new : ShelfState) (o : Result (List ℕ) HaltValue) (status : Status) → Accepts S → S o → Leaves old new o → status ≡ status_of o → new.failed ≡ old.failed → status ≡ how.Done
+done_of S old new (Ok t) status accepts o k s same = s
+done_of S old new (Err (refuses q)) status accepts o k s same = absurd (accepts q o)
+done_of S old new (Err (misses w)) status accepts o k s same = absurd (not_noted old.failed w (sym k.failed ∙ same))
 
 -- completeness, from how a call ends
-pub complete_of : (form : Option FormValue) (old new : Stock) (sink sink' : Told) (status : Status) → Ends form old new sink sink' status → Complete form old new sink sink' status
+pub complete_of : (form : Option FormValue) (old new : ShelfState) (sink sink' : SinkState) (status : Status) → Ends form old new sink sink' status → Complete form old new sink sink' status
 complete_of None old new sink sink' status ends = λ files f is told good kept same. let x : None ≡ Some f = is in cc
 complete_of (Some g) old new sink sink' status ends = λ files f is told good kept same.
     elim ends [

@@ -1,5 +1,5 @@
 -- The report of a run is no longer than a journal may be.
-use Rattle.std.proofs.Common.{ℕ, zero, suc, ◌≡◌, ◌+◌, ◌-◌, ◌*◌, ◌/◌, ◌%◌, ◌^◌, ◌<◌, ◌≤◌, ◌==◌, ◌&&◌, Bool, true, false, List, [], ◌∷◌, ◌++◌, All, codes, decimal, get_or, length, length-append, map, refl, ap, ◌∙◌, arith, inl, inr}
+use Rattle.std.proofs.Common.{ℕ, ◌≡◌, ◌+◌, ◌-◌, ◌*◌, ◌/◌, ◌%◌, ◌^◌, ◌<◌, ◌≤◌, ◌==◌, ◌&&◌, Bool, true, false, List, [], ◌∷◌, ◌++◌, All, codes, decimal, get_or, length, length-append, map, refl, ap, ◌∙◌, arith, inl, inr}
 use Rattle.std.proofs.Math.ListN.{get_or-eq_default}
 use Rattle.std.specs.Char.{is_ascii_uppercase}
 use Rattle.std.specs.List.{list_all}
@@ -12,6 +12,8 @@ use Rattle.std.proofs.lemmas.List.Concat.{length-flat_map}
 use Rattle.std.proofs.lemmas.List.Elements.{All-cons, All-get_or, All-nil}
 use Rattle.std.proofs.lemmas.List.Folds.{flat_map-map}
 use Rattle.std.proofs.lemmas.List.Sums.{sum_by-le}
+use Rattle.tile_map.proofs.Numbers.{plane_low}
+use Rattle.text_lines.proofs.Printed.{hex_length}
 use Rattle.list_laws.proofs.Tests.{both}
 use Rattle.bit_field.specs.Atom.{AtomValue}
 use Rattle.cell_grid.specs.Grid.{GridValue}
@@ -20,14 +22,13 @@ use Rattle.draw_stream.specs.Plans.{PlanValue}
 use Rattle.event_journal.specs.declared.abandoned.Abandoned.{Abandoned}
 use Rattle.event_journal.specs.Text.{abandoned_fields, abandoned_lines, count_fields, record_fields, record_lines}
 use Rattle.feast_base.specs.Digits.{hex}
-use Rattle.feast_base.specs.TypeNames.{is_type_name, is_word_byte, longest_name}
+use Rattle.feast_base.specs.TypeNames.{is_type_name, is_word_byte, longest_name, name_of}
 use Rattle.feast_run.specs.Stages.{journal_limit}
 use Rattle.text_lines.specs.Lines.{ended_line, more_text, text_of}
-use Rattle.tile_map.specs.Plane.{IsMap, MapValue}
-use Rattle.tile_map.proofs.Sharing.{times_low}
+use Rattle.tile_map.specs.Plane.{MapValue}
 use Rattle.grid_print.proofs.Bounds.{IsSmallAbandoned, IsSmallRecord, abandoned_small, events_few, given_up_few, records_small}
-use Rattle.grid_print.specs.Again.{AreFormed, IsLeft, IsPlanOf}
-use Rattle.grid_print.specs.Report.{Shown, atom_fields, atom_lines, name_of, report, report_lines, shown, shown_at, shown_from}
+use Rattle.grid_print.specs.Again.{AreFormed, IsLeft, IsDrawablePlan}
+use Rattle.grid_print.specs.Report.{Shown, atom_fields, atom_lines, report, report_lines, shown, shown_at, shown_from}
 
 -- names that are no longer than names are
 abbrev pub AreShort : List (List ℕ) → Type 0
@@ -74,11 +75,6 @@ digits_low n low = length-decimal-le 10 n (omega arith) (omega (arith, low)) (om
 digits_most : (n : ℕ) → n < 2 ^ 64 → length (decimal n) ≤ 20
 digits_most n low = length-decimal-le 20 n (omega arith) (omega (arith, low)) low
 
-hex_long : (k n : ℕ) → length (hex k n) ≡ k
-unfolding hex
-hex_long zero n = refl
-hex_long (suc k) n = let e = hex_long k n in omega (arith, e)
-
 count_low : (word : List ℕ) (n : ℕ) → length word ≤ 9 → n < 2 ^ 32 → length (ended_line (count_fields word n)) ≤ 21
 count_low word n short low =
     let line = line_size word (decimal n ∷ []) in
@@ -93,7 +89,7 @@ record_low r p =
     let attempt = digits_most r.attempt p.attempt in
     let x = digits_low r.x p.x in
     let y = digits_low r.y p.y in
-    let seed = hex_long 16 r.seed in
+    let seed = hex_length 16 r.seed in
     omega (arith, line, stamp, tile, attempt, x, y, seed)
 
 abandoned_low : (a : Abandoned) → IsSmallAbandoned a → length (ended_line (abandoned_fields a)) ≤ 97
@@ -123,7 +119,7 @@ atom_low names width i a short wide low =
     let x = let m = rest_low i width in digits_low (i % width) (omega (arith, m, low)) in
     let y = let m = part_low i width wide in digits_low (i / width) (omega (arith, m, low)) in
     let name = name_low names a.kind short in
-    let state = hex_long 18 a.state in
+    let state = hex_length 18 a.state in
     omega (arith, line, x, y, name, state)
   where
     rest_low : (i w : ℕ) → i % w ≤ i
@@ -176,18 +172,8 @@ report_low names ss rs gs atoms records abandoned few_atoms few_records few_aban
     let back = ap length (flat_map-append ended_line (record_lines rs) (abandoned_lines gs)) ∙ length-append (text_of (record_lines rs)) (text_of (abandoned_lines gs)) in
     omega (arith, first, second, third, header, whole, front, back)
 
--- a plane has a column, and few sites
-plane_low : (m : MapValue) → IsMap m → (1 ≤ m.tx * m.w) × (m.tx * m.w * (m.ty * m.h) ≤ 262144)
-plane_low m k =
-    let wide = side m.tx m.w k.sizes.tx_low k.sizes.tx_high k.sizes.w_low k.sizes.w_high in
-    let high = side m.ty m.h k.sizes.ty_low k.sizes.ty_high k.sizes.h_low k.sizes.h_high in
-    (wide.0, times_low (m.tx * m.w) (m.ty * m.h) wide.1 high.1)
-  where
-    side : (n size : ℕ) → 1 ≤ n → n ≤ 8 → 8 ≤ size → size ≤ 64 → (1 ≤ n * size) × (n * size ≤ 512)
-    side n size a b c d = (grind arith, grind arith)
-
 -- the report of what a run of a plan left
-pub report_short : (names : List (List ℕ)) (m : MapValue) (plan : PlanValue) → AreShort names → IsPlanOf m plan → (g : GridValue) (rs : List Record) (gs : List Abandoned) → IsLeft names m plan g rs gs → length (report names g rs gs) ≤ journal_limit
+pub report_short : (names : List (List ℕ)) (m : MapValue) (plan : PlanValue) → AreShort names → IsDrawablePlan m plan → (g : GridValue) (rs : List Record) (gs : List Abandoned) → IsLeft names m plan g rs gs → length (report names g rs gs) ≤ journal_limit
 report_short names m plan short p g rs gs left =
     let plane = plane_low m p.map in
     let wide = left.wide in

@@ -1,8 +1,9 @@
 -- What a world with its elements is, from the stages that made it.
-use Rattle.std.proofs.Common.{ℕ, ◌≡◌, ◌≤◌, ◌<◌, ◌+◌, ◌*◌, ◌/◌, ◌%◌, true, List, [], ◌∷◌, All, Option, Some, None, Result, Ok, Err, get_or, length, refl, sym, ap, subst, ◌∙◌, arith}
+use Rattle.std.proofs.Common.{ℕ, ◌≡◌, ◌≤◌, ◌<◌, ◌+◌, ◌*◌, ◌/◌, ◌%◌, true, List, [], ◌∷◌, All, Option, Some, None, Result, Ok, Err, get_or, length, refl, sym, ap, subst, ◌∙◌, arith, lt-ltb}
 use Rattle.std.specs.Prelude.{nat_lt, slice_index_or}
 use Rattle.std.specs.Result.{IfOk}
 use Rattle.std.proofs.lemmas.Nat.{rows}
+use Rattle.draw_stream.proofs.Plans.{no_attempt}
 use Rattle.list_laws.proofs.Tests.{together}
 use Rattle.cell_grid.specs.Grid.{GridValue}
 use Rattle.cell_grid.specs.declared.record.Record.{Record}
@@ -11,51 +12,51 @@ use Rattle.event_journal.specs.Logs.{LogValue, log_of}
 use Rattle.event_journal.specs.Reading.{IsFault, Said, read_report}
 use Rattle.event_journal.specs.declared.fault.LineFault.{LineFault}
 use Rattle.feast_base.specs.Outside.{File, file_of}
-use Rattle.feast_run.proofs.Laws.{went}
+use Rattle.feast_base.proofs.Stages.{went}
 use Rattle.feast_run.proofs.Loads.{loaded_files}
 use Rattle.feast_run.specs.Answer.{grid_after, run_report}
-use Rattle.feast_run.specs.Faults.{IsJournalStop, IsWorldStop}
+use Rattle.feast_run.specs.Faults.{IsJournalHalt, IsWorldHalt}
 use Rattle.feast_run.specs.Elements.{ElementsValue}
-use Rattle.feast_run.specs.Outcomes.{RefusedValue, Stage, decides, passes}
+use Rattle.feast_base.specs.Stages.{Stage}
+use Rattle.feast_run.specs.Halting.{HaltValue, RefusedValue, decides}
 use Rattle.feast_run.specs.Owing.{Reports}
 use Rattle.feast_run.specs.Promises.{IsSet, WorldTold}
 use Rattle.feast_run.specs.Stages.{JournalValue, ReadyValue, journal_in, journal_of, journal_said, ready_by, ready_with, set_of, with_elements, world_limit, world_refused}
 use Rattle.feast_run.specs.Tellings.{Tells}
 use Rattle.feast_run.specs.Values.{IsReady, elements_value, journal_value}
-use Rattle.feast_run.specs.declared.stop.Stop.{Stop}
+use Rattle.feast_run.specs.declared.halt.Halt.{Halt}
 use Rattle.feast_run.specs.declared.worlds.Ready.{Ready}
-use Rattle.feast_run.specs.declared.stop.Stop.TheVariants.{Refused, Missing, NoMemory}
+use Rattle.feast_run.specs.declared.halt.Halt.TheVariants.{Refused, Missing, NoMemory}
 use Rattle.grid_print.specs.Report.{AreNamed}
-use Rattle.one_tile.proofs.Alone.{each, no_attempt, owes_nothing}
-use Rattle.one_tile.specs.Events.{IsAlone, events_of}
+use Rattle.world_runs.proofs.Alone.{each, owes_nothing}
+use Rattle.world_runs.specs.OneTile.{IsAlone, events_of}
 use Rattle.element_set.specs.Sets.{Coded, SetValue}
 use Rattle.tile_map.specs.Plane.{MapValue, IsMap, in_plane, is_live, is_on, owner_of, site_in, tiles_of}
-use Rattle.tile_map.proofs.Spans.{lt_test}
 use Rattle.window_sites.specs.Window.{WindowValue}
-use Rattle.world_grid.proofs.Journals.{journal_live}
-use Rattle.world_grid.proofs.Valid.{world_known, world_valid}
+use Rattle.world_runs.proofs.Journals.{journal_live}
+use Rattle.world_runs.proofs.Valid.{world_known, world_valid}
 use Rattle.cell_grid.specs.Known.{BringsNone, IsKnown}
-use Rattle.world_grid.specs.Known.{ArePlacedKnown}
-use Rattle.world_grid.specs.Worlds.{IsLiveEvent, IsWorld}
+use Rattle.world_runs.specs.Known.{ArePlacedKnown}
+use Rattle.world_runs.specs.Worlds.{IsLiveEvent, IsWorld}
 use Rattle.world_text.specs.Drafts.{DraftValue}
 use Rattle.world_text.specs.Named.{WorldValue, named}
 use Rattle.world_text.specs.Reading.{read_text, IsFault as IsNameFault}
 use Rattle.world_text.specs.Values.{world_value}
 use Rattle.world_text.specs.declared.world.Placed.{Placed}
 
-pub set_is : (files : List File) (words : List (List ℕ)) (set : SetValue) → set_of (Some files) words (passes set) → IsSet files words set
+pub set_is : (files : List File) (words : List (List ℕ)) (set : SetValue) → set_of (Some files) words (Ok set) → IsSet files words set
 set_is files words set h = let l = went _ _ set h in record { sources = l.value; are_files = loaded_files files words l.value l.passed; accepted = l.rest }
 
 -- a world that is ready is one that is told, with elements that came of a stage
-pub record ReadyTold {X : Type 0} (elements : X → ElementsValue) (S : Stage X) (files : List File) (word : List ℕ) (r : ReadyValue) : Type 0 where
+pub record ReadyTold {X : Type 0} (elements : X → ElementsValue) (S : Stage X HaltValue) (files : List File) (word : List ℕ) (r : ReadyValue) : Type 0 where
   pub world : WorldValue
   pub given : X
-  pub passed : S (passes given)
+  pub passed : S (Ok given)
   pub is : r ≡ ready_with world (elements given)
   pub told : WorldTold files word (elements given).names world
 
-with_told : {X : Type 0} (elements : X → ElementsValue) (S : Stage X) (files : List File) (word : List ℕ) (d : DraftValue) (bytes : List ℕ) (r : ReadyValue) → file_of word files ≡ Some bytes → length bytes ≤ world_limit → read_text bytes ≡ Ok d →
-    with_elements elements S word d (passes r) → ReadyTold elements S files word r
+with_told : {X : Type 0} (elements : X → ElementsValue) (S : Stage X HaltValue) (files : List File) (word : List ℕ) (d : DraftValue) (bytes : List ℕ) (r : ReadyValue) → file_of word files ≡ Some bytes → length bytes ≤ world_limit → read_text bytes ≡ Ok d →
+    with_elements elements S word d (Ok r) → ReadyTold elements S files word r
 with_told elements S files word d bytes r file within reads h =
     let w = went _ _ r h in
     let n = went _ _ r w.rest in
@@ -67,7 +68,7 @@ with_told elements S files word d bytes r file within reads h =
       told = record { bytes = bytes; file = file; within = within; reads = (d, reads, n.passed) };
     }
 
-pub ready_told : {X : Type 0} (elements : X → ElementsValue) (S : Stage X) (files : List File) (word : List ℕ) (r : ReadyValue) → ready_by elements S (Some files) word (passes r) → ReadyTold elements S files word r
+pub ready_told : {X : Type 0} (elements : X → ElementsValue) (S : Stage X HaltValue) (files : List File) (word : List ℕ) (r : ReadyValue) → ready_by elements S (Some files) word (Ok r) → ReadyTold elements S files word r
 ready_told elements S files word r h =
     let a = went _ _ r h in
     let b = went _ _ a.value a.passed in
@@ -121,7 +122,7 @@ site_live m valid one on k lt =
     let parts : owner_of m (site_in m 0 k) ≡ 0 * m.tx + 0 = (λ i. row i * m.tx + column i) in
     let owner : owner_of m (site_in m 0 k) ≡ 0 = parts ∙ omega arith in
     together (in_plane m (site_in m 0 k)) (is_on m (owner_of m (site_in m 0 k)))
-    (together (nat_lt (site_in m 0 k).x (m.tx * m.w)) (nat_lt (site_in m 0 k).y (m.ty * m.h)) (lt_test _ _ x) (lt_test _ _ y)) (ap (is_on m) owner ∙ on)
+    (together (nat_lt (site_in m 0 k).x (m.tx * m.w)) (nat_lt (site_in m 0 k).y (m.ty * m.h)) (lt-ltb _ _ x) (lt-ltb _ _ y)) (ap (is_on m) owner ∙ on)
 
 pub events_live : (w : WorldValue) → IsWorld w → tiles_of w.plane ≡ 1 → (rs : List Record) → rs ≡ events_of w.plane w.plan → All (IsLiveEvent w.plane) rs
 events_live w h one rs is = subst (All (IsLiveEvent w.plane)) (sym is) (each w.plane 0 (attempts w.plan 0) (IsLiveEvent w.plane) (λ k lt.
@@ -146,22 +147,22 @@ said_live w bytes j h e = on (read_report w.plane w.plan.lists bytes) refl e
     on (Ok d) is g = let same : record { records = d.journal; abandoned = d.gone } ≡ j = cc in subst (λ (v : JournalValue). All (IsLiveEvent w.plane) v.records) same (journal_live w.plane w.plan.lists h.attempts bytes d is)
     on (Err fault) is g = cc
 
-pub journal_events : (files : Option (List File)) (word : List ℕ) (w : WorldValue) (j : JournalValue) → IsWorld w → journal_of files word w (passes j) → All (IsLiveEvent w.plane) j.records
+pub journal_events : (files : Option (List File)) (word : List ℕ) (w : WorldValue) (j : JournalValue) → IsWorld w → journal_of files word w (Ok j) → All (IsLiveEvent w.plane) j.records
 journal_events files word w j valid h = let b = went _ _ j h in said_live w b.value j valid b.rest
 
 -- a text that a stage refuses
-pub journal_stops : (word : List ℕ) (w : WorldValue) (bytes : List ℕ) (o : Option (ℕ × LineFault)) (stop : Stop) → IsFault (read_report w.plane w.plan.lists bytes) o → IsJournalStop word o stop → Tells journal_value (journal_in word w bytes) (Err stop)
-journal_stops word w bytes None (Refused s) asked is = absurd is
-journal_stops word w bytes None (Missing v) asked is = absurd is
-journal_stops word w bytes None NoMemory asked is = tt
-journal_stops word w bytes (Some fault) (Refused s) asked is = ((fault, ap journal_said asked, is.0), subst Coded (sym (ap (λ (v : RefusedValue). v.refusal.code) is.0)) is.1)
-journal_stops word w bytes (Some fault) (Missing v) asked is = absurd is
-journal_stops word w bytes (Some fault) NoMemory asked is = absurd is
+pub journal_halts : (word : List ℕ) (w : WorldValue) (bytes : List ℕ) (o : Option (ℕ × LineFault)) (halt : Halt) → IsFault (read_report w.plane w.plan.lists bytes) o → IsJournalHalt word o halt → Tells journal_value (journal_in word w bytes) (Err halt)
+journal_halts word w bytes None (Refused s) asked is = absurd is
+journal_halts word w bytes None (Missing v) asked is = absurd is
+journal_halts word w bytes None NoMemory asked is = tt
+journal_halts word w bytes (Some fault) (Refused s) asked is = ((fault, ap journal_said asked, is.0), subst Coded (sym (ap (λ (v : RefusedValue). v.refusal.code) is.0)) is.1)
+journal_halts word w bytes (Some fault) (Missing v) asked is = absurd is
+journal_halts word w bytes (Some fault) NoMemory asked is = absurd is
 
-pub names_stop : {X : Type 0} (value : X → WorldValue) (word : List ℕ) (draft : DraftValue) (names : List (List ℕ)) (o : Option (ℕ × ℕ)) (stop : Stop) → IsNameFault (named names draft) o → IsWorldStop word o stop → Tells value (decides (world_refused word) (named names draft)) (Err stop)
-names_stop value word draft names None (Refused s) asked is = absurd is
-names_stop value word draft names None (Missing v) asked is = absurd is
-names_stop value word draft names None NoMemory asked is = tt
-names_stop value word draft names (Some fault) (Refused s) asked is = ((fault, asked, is.0), subst Coded (sym (ap (λ (v : RefusedValue). v.refusal.code) is.0)) is.1)
-names_stop value word draft names (Some fault) (Missing v) asked is = absurd is
-names_stop value word draft names (Some fault) NoMemory asked is = absurd is
+pub names_halt : {X : Type 0} (value : X → WorldValue) (word : List ℕ) (draft : DraftValue) (names : List (List ℕ)) (o : Option (ℕ × ℕ)) (halt : Halt) → IsNameFault (named names draft) o → IsWorldHalt word o halt → Tells value (decides (world_refused word) (named names draft)) (Err halt)
+names_halt value word draft names None (Refused s) asked is = absurd is
+names_halt value word draft names None (Missing v) asked is = absurd is
+names_halt value word draft names None NoMemory asked is = tt
+names_halt value word draft names (Some fault) (Refused s) asked is = ((fault, asked, is.0), subst Coded (sym (ap (λ (v : RefusedValue). v.refusal.code) is.0)) is.1)
+names_halt value word draft names (Some fault) (Missing v) asked is = absurd is
+names_halt value word draft names (Some fault) NoMemory asked is = absurd is

@@ -1,12 +1,14 @@
 -- The stages of the forms have one outcome apart from loads that fail, where files are told.
-use Rattle.std.proofs.Common.{ℕ, ◌≡◌, List, [], ◌∷◌, ◌++◌, length, Option, Some, None, slice_index_or, refl, sym, ap, ◌∙◌, inr, arith}
+use Rattle.std.proofs.Common.{ℕ, ◌≡◌, List, [], ◌∷◌, ◌++◌, length, Option, Some, None, slice_index_or, refl, sym, ap, ◌∙◌, inr, arith, Ok, Err}
+use Rattle.list_laws.proofs.Options.{some_once}
 use Rattle.element_set.proofs.OneSet.{set_one as built_one}
 use Rattle.element_set.specs.Sets.{SetValue, check_text, code_text}
 use Rattle.event_journal.specs.Reading.{read_report}
 use Rattle.feast_base.specs.Outside.{File}
 use Rattle.feast_run.proofs.CodeStages.{codes_in_one, codes_pass}
 use Rattle.feast_run.proofs.Loads.{files_load}
-use Rattle.feast_run.proofs.Laws.{then_accepts, then_sure, then_one, any_sure, gives_one, known_one, decides_one, went}
+use Rattle.feast_base.proofs.Stages.{then_sure, then_one, any_sure, gives_one, known_one, went}
+use Rattle.feast_run.proofs.Laws.{decides_one, sure_by, then_accepts}
 use Rattle.feast_run.specs.Answer.{atoms_after, form_answer, rewinds}
 use Rattle.feast_run.specs.Packed.{pack_text}
 use Rattle.feast_run.specs.Forms.{FormValue, check, code, pack, run, step, replay, gen, audit, rewind, steppack, runpack}
@@ -14,85 +16,78 @@ use Rattle.feast_run.specs.Generating.{generated_ready, own_set, stepped_summary
 use Rattle.feast_run.specs.Audited.{Audits}
 use Rattle.feast_run.specs.CodeFiles.{code_limit, codes_from, ready_packed}
 use Rattle.feast_run.specs.Elements.{ElementsValue, code_elements, source_elements}
-use Rattle.feast_run.specs.Outcomes.{Stage, passes, refuses, Accepts, IsSure, IsOne, RefusedValue, refused}
+use Rattle.feast_base.specs.Stages.{Stage, IsSure, IsOne}
+use Rattle.feast_run.specs.Halting.{Accepts, HaltValue, IsRefusal, RefusedValue, refused, refuses}
 use Rattle.feast_run.specs.Owing.{Reports}
 use Rattle.feast_run.specs.Promises.{IsCodeFile, IsGood, IsGoodReady, IsGoodWorld, IsSet}
 use Rattle.feast_run.specs.Stages.{JournalValue, ReadyValue, builds, draft_of, element_limit, journal_in, journal_limit, journal_of, journal_refused, journal_said, load, load_more, coded, named_by, ready, ready_by, ready_with, set_of, sourced, world_limit, world_refused}
 use Rattle.feast_run.specs.Stepped.{IsSteppedRun, stepped_report}
-use Rattle.feast_run.specs.declared.stop.Input.TheVariants as input
-use Rattle.generated_elements.proofs.Accepted.{accepted}
-use Rattle.generated_elements.specs.Elements.{source_files}
+use Rattle.feast_run.specs.declared.halt.Input.TheVariants as input
+use Rattle.generated_world.proofs.Accepted.{accepted}
+use Rattle.generated_world.specs.Elements.{source_files}
 use Rattle.world_text.specs.Drafts.{DraftValue}
 use Rattle.world_text.specs.Named.{WorldValue, named}
 use Rattle.world_text.specs.Reading.{read_text}
 
-some_of : {X : Type 0} (d : X) → Option X → X
-some_of d None = d
-some_of d (Some x) = x
-
-some_one : {X : Type 0} (o : Option X) (x y : X) → o ≡ Some x → o ≡ Some y → x ≡ y
-unfolding some_of
-some_one o x y p q = ap (some_of x) (sym p ∙ q)
-
-load_one : (files : List File) (limit : ℕ) (word : List ℕ) → IsOne (load (Some files) limit word)
+load_one : (files : List File) (limit : ℕ) (word : List ℕ) → IsOne IsRefusal (load (Some files) limit word)
 load_one files limit word = record {
-  sure = record {
-    apart = λ a r p q. let e = ap length (some_one _ a q.0.0 p.0 q.0.1) in absurd (omega (arith, e, p.1, q.0.2));
-    one_refusal = λ r s p q. p.1 ∙ sym q.1;
-  };
-  one_value = λ a b p q. some_one _ a b p.0 q.0;
+  sure = sure_by (load (Some files) limit word) (λ a r p q. let e = ap length (some_once _ a q.0.0 p.0 q.0.1) in absurd (omega (arith, e, p.1, q.0.2))) (λ r s p q. p.1 ∙ sym q.1);
+  one_value = λ a b p q. some_once _ a b p.0 q.0;
 }
 
-loads_one : (files : List File) (done : List File) (words : List (List ℕ)) → IsOne (load_more (Some files) done words)
+loads_one : (files : List File) (done : List File) (words : List (List ℕ)) → IsOne IsRefusal (load_more (Some files) done words)
 loads_one files done [] = gives_one done
 loads_one files done (word ∷ words) = then_one _ _ (load_one files element_limit word) (λ bytes. loads_one files (done ++ (word, bytes) ∷ []) words)
 
-refused_one : (words : List (List ℕ)) (sources : List File) (r s : RefusedValue) → builds words sources (refuses r) → builds words sources (refuses s) → r ≡ s
+refused_one : (words : List (List ℕ)) (sources : List File) (r s : RefusedValue) → builds words sources (Err (refuses r)) → builds words sources (Err (refuses s)) → r ≡ s
 refused_one words sources r s p q =
-    let e = (built_one sources).refusal r.refusal s.refusal p.0 q.0 in
+    let e = (built_one sources).sure.one_halt r.refusal s.refusal tt tt p.0 q.0 in
     p.1 ∙ ap (λ v. refused input.Elements (slice_index_or words v.place.file []) v) e ∙ sym q.1
 
-builds_one : (words : List (List ℕ)) (sources : List File) → IsOne (builds words sources)
+builds_one : (words : List (List ℕ)) (sources : List File) → IsOne IsRefusal (builds words sources)
 builds_one words sources = record {
-  sure = record { apart = λ a r p q. (built_one sources).either a r.refusal p q.0; one_refusal = refused_one words sources };
-  one_value = λ a b p q. (built_one sources).value a b p q;
+  sure = sure_by (builds words sources) (λ a r p q. (built_one sources).sure.apart a r.refusal tt p q.0) (refused_one words sources);
+  one_value = λ a b p q. (built_one sources).one_value a b p q;
 }
 
-set_one : (files : List File) (words : List (List ℕ)) → IsOne (set_of (Some files) words)
+pub set_one : (files : List File) (words : List (List ℕ)) → IsOne IsRefusal (set_of (Some files) words)
 set_one files words = then_one _ _ (loads_one files [] words) (builds_one words)
 
-draft_one : (files : List File) (word : List ℕ) → IsOne (draft_of (Some files) word)
+draft_one : (files : List File) (word : List ℕ) → IsOne IsRefusal (draft_of (Some files) word)
 draft_one files word = then_one _ _ (load_one files world_limit word) (λ bytes. decides_one (world_refused word) (read_text bytes))
 
-named_one : (word : List ℕ) (draft : DraftValue) (e : ElementsValue) → IsOne (named_by word draft e)
+named_one : (word : List ℕ) (draft : DraftValue) (e : ElementsValue) → IsOne IsRefusal (named_by word draft e)
 named_one word draft e = then_one _ _ (decides_one (world_refused word) (named e.names draft)) (λ (world : WorldValue). gives_one (ready_with world e))
 
-ready_one : {X : Type 0} (elements : X → ElementsValue) (S : Stage X) (files : List File) (word : List ℕ) → IsOne S → IsOne (ready_by elements S (Some files) word)
+ready_one : {X : Type 0} (elements : X → ElementsValue) (S : Stage X HaltValue) (files : List File) (word : List ℕ) → IsOne IsRefusal S → IsOne IsRefusal (ready_by elements S (Some files) word)
 ready_one elements S files word one = then_one _ _ (draft_one files word) (λ draft. then_one S (λ x. named_by word draft (elements x)) one (λ x. named_one word draft (elements x)))
 
-sources_one : (files : List File) (word : List ℕ) (words : List (List ℕ)) → IsOne (ready (Some files) word words)
+sources_one : (files : List File) (word : List ℕ) (words : List (List ℕ)) → IsOne IsRefusal (ready (Some files) word words)
 sources_one files word words = ready_one source_elements (set_of (Some files) words) files word (set_one files words)
 
-packed_one : (files : List File) (word file : List ℕ) → IsOne (ready_packed (Some files) word file)
-packed_one files word file = ready_one code_elements (codes_from (Some files) file) files word (then_one _ _ (load_one files code_limit file) (codes_in_one file))
+pub codes_one : (files : List File) (word : List ℕ) → IsOne IsRefusal (codes_from (Some files) word)
+codes_one files word = then_one _ _ (load_one files code_limit word) (codes_in_one word)
 
-journal_one : (files : List File) (word : List ℕ) (world : WorldValue) → IsOne (journal_of (Some files) word world)
+packed_one : (files : List File) (word file : List ℕ) → IsOne IsRefusal (ready_packed (Some files) word file)
+packed_one files word file = ready_one code_elements (codes_from (Some files) file) files word (codes_one files file)
+
+journal_one : (files : List File) (word : List ℕ) (world : WorldValue) → IsOne IsRefusal (journal_of (Some files) word world)
 journal_one files word world = then_one _ _ (load_one files journal_limit word) (λ bytes. decides_one (journal_refused word) (journal_said (read_report world.plane world.plan.lists bytes)))
 
-own_one : IsOne own_set
+own_one : IsOne IsRefusal own_set
 own_one = record {
-  sure = record { apart = λ a r p q. absurd q; one_refusal = λ r s p q. absurd p };
-  one_value = λ a b p q. (built_one source_files).value a b p q;
+  sure = sure_by own_set (λ a r p q. absurd q) (λ r s p q. absurd p);
+  one_value = λ a b p q. (built_one source_files).one_value a b p q;
 }
 
 -- each form
-rewinds_sure : (word : List ℕ) (k : ℕ) (r : ReadyValue) (j : JournalValue) → IsSure (rewinds word k r j)
-rewinds_sure word k r j = record { apart = λ a x p q. absurd (omega (arith, p.0, q.0)); one_refusal = λ x y p q. p.1 ∙ sym q.1 }
+rewinds_sure : (word : List ℕ) (k : ℕ) (r : ReadyValue) (j : JournalValue) → IsSure IsRefusal (rewinds word k r j)
+rewinds_sure word k r j = sure_by (rewinds word k r j) (λ a x p q. absurd (omega (arith, p.0, q.0))) (λ x y p q. p.1 ∙ sym q.1)
 
-in_one : (word : List ℕ) (world : WorldValue) (bytes : List ℕ) → IsOne (journal_in word world bytes)
+in_one : (word : List ℕ) (world : WorldValue) (bytes : List ℕ) → IsOne IsRefusal (journal_in word world bytes)
 in_one word world bytes = decides_one (journal_refused word) (journal_said (read_report world.plane world.plan.lists bytes))
 
-pub form_sure : (files : List File) (form : FormValue) → IsSure (form_answer (Some files) form)
+pub form_sure : (files : List File) (form : FormValue) → IsSure IsRefusal (form_answer (Some files) form)
 form_sure files (check words) = then_sure _ _ (set_one files words) (λ set. (gives_one (check_text set)).sure)
 form_sure files (code words) = then_sure _ _ (set_one files words) (λ set. (gives_one (code_text set)).sure)
 form_sure files (pack words) = then_sure _ _ (set_one files words) (λ set. (gives_one (pack_text set)).sure)
@@ -109,19 +104,19 @@ form_sure files (steppack world file) = then_sure _ _ (packed_one files world fi
 form_sure files (runpack world file) = then_sure _ _ (packed_one files world file) (λ r. any_sure (Reports r))
 
 -- the set of good files
-set_passes : (files : List File) (words : List (List ℕ)) (set : SetValue) → IsSet files words set → set_of (Some files) words (passes set)
+set_passes : (files : List File) (words : List (List ℕ)) (set : SetValue) → IsSet files words set → set_of (Some files) words (Ok set)
 set_passes files words set s = inr (record { value = s.sources; passed = files_load files words s.sources s.are_files; rest = s.accepted })
 
 -- a good world with its elements
-ready_passes : {X : Type 0} (elements : X → ElementsValue) (S : Stage X) (files : List File) (word : List ℕ) (w : WorldValue) (x : X) → S (passes x) → IsGoodWorld files word (elements x).names w → ready_by elements S (Some files) word (passes (ready_with w (elements x)))
+ready_passes : {X : Type 0} (elements : X → ElementsValue) (S : Stage X HaltValue) (files : List File) (word : List ℕ) (w : WorldValue) (x : X) → S (Ok x) → IsGoodWorld files word (elements x).names w → ready_by elements S (Some files) word (Ok (ready_with w (elements x)))
 ready_passes elements S files word w x p g =
     let named = inr (record { value = w; passed = g.has_names; rest = refl }) in
     inr (record { value = g.draft; passed = g.has_draft; rest = inr (record { value = x; passed = p; rest = named }) })
 
-sources_pass : (files : List File) (word : List ℕ) (words : List (List ℕ)) (w : WorldValue) (h : IsGoodReady source_elements (IsSet files words) files word w) → ready (Some files) word words (passes (sourced w h.given))
+sources_pass : (files : List File) (word : List ℕ) (words : List (List ℕ)) (w : WorldValue) (h : IsGoodReady source_elements (IsSet files words) files word w) → ready (Some files) word words (Ok (sourced w h.given))
 sources_pass files word words w h = ready_passes source_elements (set_of (Some files) words) files word w h.given (set_passes files words h.given h.is_told) h.good
 
-packed_pass : (files : List File) (word file : List ℕ) (w : WorldValue) (h : IsGoodReady code_elements (IsCodeFile files file) files word w) → ready_packed (Some files) word file (passes (coded w h.given))
+packed_pass : (files : List File) (word file : List ℕ) (w : WorldValue) (h : IsGoodReady code_elements (IsCodeFile files file) files word w) → ready_packed (Some files) word file (Ok (coded w h.given))
 packed_pass files word file w h = ready_passes code_elements (codes_from (Some files) file) files word w h.given (codes_pass files file h.given h.is_told) h.good
 
 -- good files of a form refuse nothing

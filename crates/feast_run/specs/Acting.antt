@@ -3,11 +3,11 @@ use Rattle.std.specs.Prelude.{ℕ, ◌≡◌}
 use Rattle.bit_field.specs.Atom.{empty_atom}
 use Rattle.code_file.specs.Acting.{after as after_codes, idle-after as idle-codes}
 use Rattle.code_file.specs.ActingSet.{acting_codes}
-use Rattle.element_set.specs.Acting.{acting_set, idle-after}
+use Rattle.element_set.specs.Acting.{acting_set}
 use Rattle.element_set.specs.Sets.{program_of}
 use Rattle.feast_run.specs.declared.elements.ElementActor.{ElementActor}
 use Rattle.feast_run.specs.declared.elements.ElementActor.TheVariants.{Source, Code}
-use Rattle.ulam_meaning.specs.Events.{after}
+use Rattle.ulam_meaning.specs.Events.{after, idle-after}
 use Rattle.window_sites.specs.Window.{WindowValue, atom_at}
 
 -- the window after an event: by the source of element files, or by the codes of a code file

@@ -1,13 +1,12 @@
 -- Reports that replay to their own atoms.
-use Rattle.std.specs.Prelude.{ℕ, ◌≡◌, List, ◌++◌, Some, codes}
+use Rattle.std.specs.Prelude.{ℕ, ◌≡◌, List, ◌++◌, Some, codes, Ok}
 use Rattle.cell_grid.specs.Grid.{GridValue}
 use Rattle.feast_base.specs.Outside.{File, file_of}
 use Rattle.feast_run.specs.Answer.{replay_of}
-use Rattle.feast_run.specs.Outcomes.{passes}
 use Rattle.feast_run.specs.Stages.{ReadyValue}
 use Rattle.grid_print.specs.Report.{atoms_text}
 
 -- in whatever file has this known text, it is a journal of the world, and a replay of it comes to
 -- the header and the atoms of this grid
 abbrev pub ReplaysTo : ReadyValue → List ℕ → GridValue → Type 0
-ReplaysTo r text grid = (files : List File) (word : List ℕ) → file_of word files ≡ Some text → replay_of (Some files) word r (passes (codes "feast 1\n" ++ atoms_text r.names grid))
+ReplaysTo r text grid = (files : List File) (word : List ℕ) → file_of word files ≡ Some text → replay_of (Some files) word r (Ok (codes "feast 1\n" ++ atoms_text r.names grid))

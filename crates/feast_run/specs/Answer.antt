@@ -1,5 +1,5 @@
 -- The answer of a form: its stages, up to the text that it writes.
-use Rattle.std.specs.Prelude.{ℕ, ◌≡◌, ◌≤◌, ◌<◌, List, [], ◌∷◌, ◌++◌, codes, length, take, Option}
+use Rattle.std.specs.Prelude.{ℕ, ◌≡◌, ◌≤◌, ◌<◌, List, [], ◌∷◌, ◌++◌, codes, length, take, Option, Ok, Err}
 use Rattle.cell_grid.specs.declared.record.Record.{Record}
 use Rattle.cell_grid.specs.Grid.{GridValue}
 use Rattle.cell_grid.specs.Records.{replay as replay_from}
@@ -10,14 +10,15 @@ use Rattle.feast_run.specs.CodeFiles.{ready_packed}
 use Rattle.feast_run.specs.Forms.{FormValue, check, code, pack, run, step, replay, gen, audit, rewind, steppack, runpack}
 use Rattle.feast_run.specs.Packed.{pack_text}
 use Rattle.feast_run.specs.Generating.{generates}
-use Rattle.feast_run.specs.Outcomes.{Stage, and_then, gives, gives_any, gives_known, passes, refuses, misses}
+use Rattle.feast_base.specs.Stages.{Stage, and_then, gives, gives_any, gives_known}
+use Rattle.feast_run.specs.Halting.{HaltValue, misses, refuses}
 use Rattle.feast_run.specs.Audited.{audit_of}
 use Rattle.feast_run.specs.Owing.{Reports}
 use Rattle.feast_run.specs.Stages.{JournalValue, ReadyValue, journal_of, ready, records_refused, set_of}
 use Rattle.feast_run.specs.Stepped.{IsSteppedRun, stepped_report}
 use Rattle.grid_print.specs.Report.{atoms_text, report}
-use Rattle.one_tile.specs.Events.{events_of}
-use Rattle.world_grid.specs.Start.{start_grid}
+use Rattle.world_runs.specs.OneTile.{events_of}
+use Rattle.world_runs.specs.Start.{start_grid}
 
 -- the flat grid that some events leave, one after another, from the start of a world, by what its elements mean
 abbrev pub grid_after : ReadyValue → List Record → GridValue
@@ -36,34 +37,34 @@ abbrev pub lone_logs : ReadyValue → List LogValue
 lone_logs r = log_of 0 (events_of r.world.plane r.world.plan) [] ∷ []
 
 -- a text of a set
-abbrev pub shows : (SetValue → List ℕ) → SetValue → Stage (List ℕ)
+abbrev pub shows : (SetValue → List ℕ) → SetValue → Stage (List ℕ) HaltValue
 shows text set = gives (text set)
 
 -- the report of any run
-abbrev pub runs : ReadyValue → Stage (List ℕ)
+abbrev pub runs : ReadyValue → Stage (List ℕ) HaltValue
 runs r = gives_any (Reports r)
 
 -- the report of the stepped machine; what it left is known to be a run's
-abbrev pub steps : ReadyValue → Stage (List ℕ)
+abbrev pub steps : ReadyValue → Stage (List ℕ) HaltValue
 steps r = gives_known (IsSteppedRun r) (stepped_report r)
 
-abbrev pub replays : ReadyValue → JournalValue → Stage (List ℕ)
+abbrev pub replays : ReadyValue → JournalValue → Stage (List ℕ) HaltValue
 replays r journal = gives (atoms_after r journal.records)
 
-abbrev pub replay_of : Option (List File) → List ℕ → ReadyValue → Stage (List ℕ)
+abbrev pub replay_of : Option (List File) → List ℕ → ReadyValue → Stage (List ℕ) HaltValue
 replay_of files journal r = and_then (journal_of files journal r.world) (replays r)
 
 -- the atoms that the first k events of a journal leave, if it has that many
-abbrev pub rewinds : List ℕ → ℕ → ReadyValue → JournalValue → Stage (List ℕ)
-rewinds word k r journal (passes text) = (k ≤ length journal.records) × (text ≡ atoms_after r (take k journal.records))
-rewinds word k r journal (refuses x) = (length journal.records < k) × (x ≡ records_refused word (length journal.records))
-rewinds word k r journal (misses w) = ⊥
+abbrev pub rewinds : List ℕ → ℕ → ReadyValue → JournalValue → Stage (List ℕ) HaltValue
+rewinds word k r journal (Ok text) = (k ≤ length journal.records) × (text ≡ atoms_after r (take k journal.records))
+rewinds word k r journal (Err (refuses x)) = (length journal.records < k) × (x ≡ records_refused word (length journal.records))
+rewinds word k r journal (Err (misses w)) = ⊥
 
-abbrev pub rewind_of : Option (List File) → List ℕ → ℕ → ReadyValue → Stage (List ℕ)
+abbrev pub rewind_of : Option (List File) → List ℕ → ℕ → ReadyValue → Stage (List ℕ) HaltValue
 rewind_of files word k r = and_then (journal_of files word r.world) (rewinds word k r)
 
 -- the stages of a form, in the order of their refusals
-abbrev pub form_answer : Option (List File) → FormValue → Stage (List ℕ)
+abbrev pub form_answer : Option (List File) → FormValue → Stage (List ℕ) HaltValue
 form_answer files (check words) = and_then (set_of files words) (shows check_text)
 form_answer files (code words) = and_then (set_of files words) (shows code_text)
 form_answer files (pack words) = and_then (set_of files words) (shows pack_text)

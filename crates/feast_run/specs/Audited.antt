@@ -1,14 +1,15 @@
 -- The judgement on a report.
 use Rattle.std.specs.Prelude.{ℕ, ◌≡◌, List, Option}
 use Rattle.feast_base.specs.Outside.{File}
-use Rattle.feast_run.specs.Outcomes.{Stage, and_then, gives_any}
+use Rattle.feast_base.specs.Stages.{Stage, and_then, gives_any}
+use Rattle.feast_run.specs.Halting.{HaltValue}
 use Rattle.feast_run.specs.Stages.{JournalValue, ReadyValue, journal_in, journal_limit, load}
-use Rattle.report_judge.specs.Judging.{Judges, Setting, judgement_text}
+use Rattle.report_judge.specs.Judging.{Judges, JudgedWorld, judgement_text}
 use Rattle.report_judge.specs.declared.judgement.Judgement.{Judgement}
-use Rattle.world_grid.specs.Start.{start_grid}
+use Rattle.world_runs.specs.Start.{start_grid}
 
 -- a world with its elements, as a judgement knows it
-abbrev pub judged_world : ReadyValue → Setting
+abbrev pub judged_world : ReadyValue → JudgedWorld
 judged_world r = record { map = r.world.plane; plan = r.world.plan; meaning = r.meaning; names = r.names; start = start_grid r.world.plane r.world.atoms }
 
 -- a text is the line of the judgement on the bytes of a report with this journal
@@ -17,12 +18,12 @@ pub record Audits (r : ReadyValue) (bytes : List ℕ) (journal : JournalValue) (
   pub judges : Judges (judged_world r) bytes journal.records journal.abandoned judgement
   pub shown : text ≡ judgement_text judgement
 
-abbrev pub audits : ReadyValue → List ℕ → JournalValue → Stage (List ℕ)
+abbrev pub audits : ReadyValue → List ℕ → JournalValue → Stage (List ℕ) HaltValue
 audits r bytes journal = gives_any (Audits r bytes journal)
 
 -- the stages of an audit after its world and elements
-abbrev pub audit_with : List ℕ → ReadyValue → List ℕ → Stage (List ℕ)
+abbrev pub audit_with : List ℕ → ReadyValue → List ℕ → Stage (List ℕ) HaltValue
 audit_with word r bytes = and_then (journal_in word r.world bytes) (audits r bytes)
 
-abbrev pub audit_of : Option (List File) → List ℕ → ReadyValue → Stage (List ℕ)
+abbrev pub audit_of : Option (List File) → List ℕ → ReadyValue → Stage (List ℕ) HaltValue
 audit_of files word r = and_then (load files journal_limit word) (audit_with word r)

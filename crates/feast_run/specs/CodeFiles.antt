@@ -7,9 +7,10 @@ use Rattle.code_file.specs.declared.fault.CodeFault.TheVariants.{BadMagic, BadFo
 use Rattle.feast_base.specs.Outside.{File}
 use Rattle.feast_base.specs.declared.place.Refusal.{Refusal}
 use Rattle.feast_run.specs.Elements.{code_elements}
-use Rattle.feast_run.specs.Outcomes.{Stage, passes, refuses, misses, RefusedValue, refused, and_then}
+use Rattle.feast_base.specs.Stages.{Stage, and_then}
+use Rattle.feast_run.specs.Halting.{HaltValue, RefusedValue, misses, refused, refuses}
 use Rattle.feast_run.specs.Stages.{ReadyValue, load, ready_by}
-use Rattle.feast_run.specs.declared.stop.Input.TheVariants as input
+use Rattle.feast_run.specs.declared.halt.Input.TheVariants as input
 
 -- the longest code file, in bytes
 abbrev pub code_limit : ℕ
@@ -32,15 +33,15 @@ IsCodeRefused word (SameName column) r = r ≡ code_refused word 64 column
 IsCodeRefused word NoMemory r = ⊥
 
 -- the elements in the bytes of a code file
-abbrev pub codes_in : List ℕ → List ℕ → Stage CodesValue
-codes_in word bytes (passes es) = Reads bytes (Ok es)
-codes_in word bytes (refuses r) = (fault : CodeFault) × Reads bytes (Err fault) × IsCodeRefused word fault r
-codes_in word bytes (misses w) = ⊥
+abbrev pub codes_in : List ℕ → List ℕ → Stage CodesValue HaltValue
+codes_in word bytes (Ok es) = Reads bytes (Ok es)
+codes_in word bytes (Err (refuses r)) = (fault : CodeFault) × Reads bytes (Err fault) × IsCodeRefused word fault r
+codes_in word bytes (Err (misses w)) = ⊥
 
 -- the elements of a code file
-abbrev pub codes_from : Option (List File) → List ℕ → Stage CodesValue
+abbrev pub codes_from : Option (List File) → List ℕ → Stage CodesValue HaltValue
 codes_from files word = and_then (load files code_limit word) (codes_in word)
 
 -- a world with the elements of a code file
-abbrev pub ready_packed : Option (List File) → List ℕ → List ℕ → Stage ReadyValue
+abbrev pub ready_packed : Option (List File) → List ℕ → List ℕ → Stage ReadyValue HaltValue
 ready_packed files word code = ready_by code_elements (codes_from files code) files word

@@ -9,7 +9,7 @@ pub mod Ending
 pub mod Faults
 pub mod Forms
 pub mod Generating
-pub mod Outcomes
+pub mod Halting
 pub mod Outputs
 pub mod Owing
 pub mod Packed

@@ -9,9 +9,9 @@ use Rattle.feast_run.specs.Values.{elements_value}
 -- the bytes of an output
 abbrev pub output_text : Output → List ℕ
 output_text (Text text) = text.items
-output_text (Report left) = report (elements_value left.ready.elements).names left.grid (records_in left.journal) (abandoned_in left.journal)
+output_text (Report finished) = report (elements_value finished.ready.elements).names finished.grid (records_in finished.journal) (abandoned_in finished.journal)
 
 -- it can be written: each atom is empty or its type has a name
 abbrev pub IsWritable : Output → Type 0
 IsWritable (Text text) = Unit {0}
-IsWritable (Report left) = AreNamed (elements_value left.ready.elements).names left.grid.atoms
+IsWritable (Report finished) = AreNamed (elements_value finished.ready.elements).names finished.grid.atoms

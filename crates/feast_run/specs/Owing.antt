@@ -7,9 +7,9 @@ use Rattle.event_journal.specs.declared.abandoned.Abandoned.{Abandoned}
 use Rattle.event_journal.specs.Accounts.{AreExcused, IsAccounted, IsStamped}
 use Rattle.feast_run.specs.Stages.{ReadyValue}
 use Rattle.grid_print.specs.Report.{report}
-use Rattle.one_tile.specs.Events.{events_of}
+use Rattle.world_runs.specs.OneTile.{events_of}
 use Rattle.tile_map.specs.Plane.{tiles_of}
-use Rattle.world_grid.specs.Start.{start_grid}
+use Rattle.world_runs.specs.Start.{start_grid}
 
 -- What a run left, and what holds of it: its grid is what the events of its journal make, one at a
 -- time in the journal's order, on one uncut grid that begins with the world's atoms, by what the

@@ -1,12 +1,12 @@
 -- What a call promises, in the caller's terms. Each follows from how a call ends.
-use Rattle.std.specs.Prelude.{ℕ, ◌≡◌, ◌≢◌, ◌≤◌, length, take, List, [], ◌∷◌, ◌++◌, codes, Option, Some, None, Ok, ◌⊎◌}
+use Rattle.std.specs.Prelude.{ℕ, ◌≡◌, ◌≢◌, ◌≤◌, length, take, List, [], ◌∷◌, ◌++◌, codes, Option, Some, None, Ok, ◌⊎◌, Result, Err}
 use Rattle.cell_grid.specs.Records.{replay as replay_from}
 use Rattle.code_file.specs.Form.{CodesValue, IsFile}
 use Rattle.code_file.specs.Right.{AreRight}
 use Rattle.element_set.specs.Sets.{SetValue, AcceptsFiles, check_text, code_text, element_names, program_of}
 use Rattle.event_journal.specs.Reading.{read_report}
 use Rattle.feast_base.specs.Held.{LoadMayFail, PutMayFail, ShelfHeld, SinkHeld, room_left}
-use Rattle.feast_base.specs.Outside.{File, Grows, Stock, Told, file_of, stock, told}
+use Rattle.feast_base.specs.Outside.{File, Grows, ShelfState, SinkState, file_of, shelf_state, sink_state}
 use Rattle.feast_base.specs.Refusals.{refusal_line, unreadable_line, usage_line}
 use Rattle.feast_run.specs.Again.{ReplaysTo}
 use Rattle.feast_run.specs.Answer.{form_answer}
@@ -15,7 +15,7 @@ use Rattle.feast_run.specs.Ending.{ComesTo, status_of}
 use Rattle.feast_run.specs.Forms.{FormValue, check, code, pack, run, step, replay, gen, audit, rewind, steppack, runpack}
 use Rattle.feast_run.specs.Packed.{pack_text}
 use Rattle.feast_run.specs.Generating.{generated_ready, stepped_summary}
-use Rattle.feast_run.specs.Outcomes.{Outcome, passes, refuses, misses}
+use Rattle.feast_run.specs.Halting.{HaltValue, misses, refuses}
 use Rattle.feast_run.specs.Owing.{Reports}
 use Rattle.feast_run.specs.Stepped.{IsSteppedRun, machine_of, stepped_report}
 use Rattle.feast_run.specs.CodeFiles.{code_limit}
@@ -23,10 +23,10 @@ use Rattle.feast_run.specs.Elements.{ElementsValue, code_elements, source_elemen
 use Rattle.feast_run.specs.Stages.{JournalValue, ready_with, sourced, draft_of, element_limit, journal_limit, journal_of, journal_said, world_limit}
 use Rattle.feast_run.specs.declared.status.Status.{Status}
 use Rattle.feast_run.specs.declared.status.Status.TheVariants as how
-use Rattle.generated_elements.specs.Elements.{source_files}
+use Rattle.generated_world.specs.Elements.{source_files}
 use Rattle.grid_print.specs.Report.{atoms_text}
 use Rattle.ulam_meaning.specs.Events.{after}
-use Rattle.world_grid.specs.Start.{start_grid}
+use Rattle.world_runs.specs.Start.{start_grid}
 use Rattle.world_text.specs.Drafts.{DraftValue}
 use Rattle.world_text.specs.Named.{ReadsWorld, WorldValue, named}
 
@@ -163,7 +163,7 @@ Shows files (runpack world file) appended = RanTold code_elements (IsCodeFile fi
 
 -- the headline: if the shelf reveals its files and the sink what is written, and the status is
 -- Done, this was appended
-abbrev pub Headline : Option FormValue → Stock → Told → Told → Status → Type 0
+abbrev pub Headline : Option FormValue → ShelfState → SinkState → SinkState → Status → Type 0
 Headline form old sink sink' status =
     (files : List File) (before : List ℕ) → old.files ≡ Some files → sink.written ≡ Some before → status ≡ how.Done →
     (f : FormValue) × (form ≡ Some f) × (appended : List ℕ) × (sink'.written ≡ Some (before ++ appended)) × Shows files f appended
@@ -174,29 +174,29 @@ pub record UsageExactly (form : Option FormValue) (status : Status) : Type 0 whe
   pub where_ : form ≡ None → (status ≡ how.Usage) ⊎ ((status ≡ how.SinkFault) ⊎ (status ≡ how.NoMemory))
 
 -- the names that were noted agree with an outcome
-abbrev pub Agrees : List (List ℕ) → List (List ℕ) → Outcome (List ℕ) → Type 0
-Agrees failed failed' (passes text) = failed' ≡ failed
-Agrees failed failed' (refuses r) = failed' ≡ failed
-Agrees failed failed' (misses word) = failed' ≡ failed ++ word ∷ []
+abbrev pub Agrees : List (List ℕ) → List (List ℕ) → Result (List ℕ) HaltValue → Type 0
+Agrees failed failed' (Ok text) = failed' ≡ failed
+Agrees failed failed' (Err (refuses r)) = failed' ≡ failed
+Agrees failed failed' (Err (misses word)) = failed' ≡ failed ++ word ∷ []
 
 -- the line of an outcome that is not a text was appended
-abbrev pub Lines : Told → Told → Outcome (List ℕ) → Type 0
-Lines sink sink' (passes text) = Unit {0}
-Lines sink sink' (refuses r) = Grows sink.written sink'.written (refusal_line r.word r.refusal)
-Lines sink sink' (misses word) = Grows sink.written sink'.written (unreadable_line word)
+abbrev pub Lines : SinkState → SinkState → Result (List ℕ) HaltValue → Type 0
+Lines sink sink' (Ok text) = Unit {0}
+Lines sink sink' (Err (refuses r)) = Grows sink.written sink'.written (refusal_line r.word r.refusal)
+Lines sink sink' (Err (misses word)) = Grows sink.written sink'.written (unreadable_line word)
 
 -- if the files are known and the sink's count stays: whatever outcome the stages may have that
 -- agrees with the names noted, the call ends with its status and its line, or runs out of memory;
 -- and words of no form are answered with the forms
-pub record Exactly (form : Option FormValue) (old new : Stock) (sink sink' : Told) (status : Status) : Type 0 where
+pub record Exactly (form : Option FormValue) (old new : ShelfState) (sink sink' : SinkState) (status : Status) : Type 0 where
   pub usage : form ≡ None → sink'.faults ≡ sink.faults → ((status ≡ how.Usage) × Grows sink.written sink'.written usage_line) ⊎ (status ≡ how.NoMemory)
-  pub stages : (files : List File) (f : FormValue) (o : Outcome (List ℕ)) → form ≡ Some f → old.files ≡ Some files → form_answer (Some files) f o →
+  pub stages : (files : List File) (f : FormValue) (o : Result (List ℕ) HaltValue) → form ≡ Some f → old.files ≡ Some files → form_answer (Some files) f o →
       Agrees old.failed new.failed o → sink'.faults ≡ sink.faults → ((status ≡ status_of o) × Lines sink sink' o) ⊎ (status ≡ how.NoMemory)
 
 -- a world whose atoms are of elements with these names, and of which nothing is refused
 pub record IsGoodWorld (files : List File) (word : List ℕ) (names : List (List ℕ)) (world : WorldValue) : Type 0 where
   pub draft : DraftValue
-  pub has_draft : draft_of (Some files) word (passes draft)
+  pub has_draft : draft_of (Some files) word (Ok draft)
   pub has_names : named names draft ≡ Ok world
 
 -- a world with its elements of which nothing is refused
@@ -207,7 +207,7 @@ pub record IsGoodReady {X : Type 0} (elements : X → ElementsValue) (IsTold : X
 
 -- and a report of it
 abbrev pub IsGoodReport : List File → List ℕ → List (List ℕ) → List ℕ → WorldValue → JournalValue → Type 0
-IsGoodReport files word words report world journal = IsGoodReady source_elements (IsSet files words) files word world × journal_of (Some files) report world (passes journal)
+IsGoodReport files word words report world journal = IsGoodReady source_elements (IsSet files words) files word world × journal_of (Some files) report world (Ok journal)
 
 -- files of a form of which nothing is refused
 abbrev pub IsGood : List File → FormValue → Type 0
@@ -224,7 +224,7 @@ IsGood files (steppack world file) = (w : WorldValue) × IsGoodReady code_elemen
 IsGood files (runpack world file) = (w : WorldValue) × IsGoodReady code_elements (IsCodeFile files file) files world w
 
 -- completeness: good files of a form, and counts that stay, give Done, or running out of memory
-abbrev pub Complete : Option FormValue → Stock → Stock → Told → Told → Status → Type 0
+abbrev pub Complete : Option FormValue → ShelfState → ShelfState → SinkState → SinkState → Status → Type 0
 Complete form old new sink sink' status =
     (files : List File) (f : FormValue) → form ≡ Some f → old.files ≡ Some files → IsGood files f →
     new.failed ≡ old.failed → sink'.faults ≡ sink.faults → (status ≡ how.Done) ⊎ (status ≡ how.NoMemory)
@@ -249,7 +249,7 @@ IsWordOf [] word = ⊥
 IsWordOf (w ∷ words) word = (word ≡ w) ⊎ IsWordOf words word
 
 -- one name was noted: a file word of the form, whose load might fail, and the status is one of three
-pub record NotedOne (form : Option FormValue) (old new : Stock) (status : Status) : Type 0 where
+pub record NotedOne (form : Option FormValue) (old new : ShelfState) (status : Status) : Type 0 where
   pub f : FormValue
   pub form_is : form ≡ Some f
   pub word : List ℕ
@@ -259,22 +259,22 @@ pub record NotedOne (form : Option FormValue) (old new : Stock) (status : Status
   pub status_is : (status ≡ how.Unreadable) ⊎ ((status ≡ how.SinkFault) ⊎ (status ≡ how.NoMemory))
 
 -- no name was noted, or one
-abbrev pub Noted : Option FormValue → Stock → Stock → Status → Type 0
+abbrev pub Noted : Option FormValue → ShelfState → ShelfState → Status → Type 0
 Noted form old new status = (new.failed ≡ old.failed) ⊎ NotedOne form old new status
 
 -- what contracts see of a shelf and of a sink in memory, as any shelf's and sink's meanings
-abbrev pub stock_held : ShelfHeld → Stock
-stock_held = stock (λ shelf. Some shelf.files) (λ shelf. shelf.failed) LoadMayFail
+abbrev pub mem_shelf_state : ShelfHeld → ShelfState
+mem_shelf_state = shelf_state (λ shelf. Some shelf.files) (λ shelf. shelf.failed) LoadMayFail
 
-abbrev pub told_held : SinkHeld → Told
-told_held = told (λ sink. Some sink.written) (λ sink. sink.faults) PutMayFail
+abbrev pub mem_sink_state : SinkHeld → SinkState
+mem_sink_state = sink_state (λ sink. Some sink.written) (λ sink. sink.faults) PutMayFail
 
 -- over a shelf and a sink in memory: if no call is listed to fail, each file word has a file and
 -- there is room for whatever text the call comes to, no count rises; so neither SinkFault comes,
 -- nor is a name noted
-abbrev pub IsQuiet : Option FormValue → ShelfHeld → ShelfHeld → SinkHeld → SinkHeld → Status → Type 0
-IsQuiet form shelf shelf' sink sink' status =
+abbrev pub NothingFails : Option FormValue → ShelfHeld → ShelfHeld → SinkHeld → SinkHeld → Status → Type 0
+NothingFails form shelf shelf' sink sink' status =
     shelf.fail ≡ [] → sink.stops ≡ [] →
     ((f : FormValue) (word : List ℕ) → form ≡ Some f → IsWordOf (file_words f) word → file_of word shelf.files ≢ None) →
-    ((right : Status) (text : List ℕ) → ComesTo form (stock_held shelf) (stock_held shelf') right text → length text ≤ room_left sink) →
+    ((right : Status) (text : List ℕ) → ComesTo form (mem_shelf_state shelf) (mem_shelf_state shelf') right text → length text ≤ room_left sink) →
     (shelf'.failed ≡ shelf.failed) × (sink'.faults ≡ sink.faults) × (status ≢ how.SinkFault)

@@ -10,8 +10,9 @@ use Rattle.event_journal.specs.Reading.{Said, read_report}
 use Rattle.feast_base.specs.Outside.{File, TellsBytes, TellsLonger}
 use Rattle.feast_base.specs.declared.place.Refusal.{Refusal}
 use Rattle.feast_run.specs.Elements.{ElementsValue, source_elements, code_elements}
-use Rattle.feast_run.specs.Outcomes.{Stage, passes, refuses, misses, RefusedValue, refused, and_then, gives, decides}
-use Rattle.feast_run.specs.declared.stop.Input.TheVariants as input
+use Rattle.feast_base.specs.Stages.{Stage, and_then, gives}
+use Rattle.feast_run.specs.Halting.{HaltValue, RefusedValue, decides, misses, refused, refuses}
+use Rattle.feast_run.specs.declared.halt.Input.TheVariants as input
 use Rattle.window_sites.specs.Window.{WindowValue}
 use Rattle.world_text.specs.Drafts.{DraftValue}
 use Rattle.world_text.specs.Named.{WorldValue, named}
@@ -55,32 +56,32 @@ abbrev pub journal_refused : List ℕ → ℕ × LineFault → RefusedValue
 journal_refused word fault = refused input.Journal word (line_refusal fault.0 fault.1)
 
 -- the load of one file: its bytes, if files are known those of the first file of that name
-abbrev pub load : Option (List File) → ℕ → List ℕ → Stage (List ℕ)
-load files limit word (passes bytes) = TellsBytes files word bytes × (length bytes ≤ limit)
-load files limit word (refuses r) = TellsLonger files word limit × (r ≡ too_long word limit)
-load files limit word (misses w) = w ≡ word
+abbrev pub load : Option (List File) → ℕ → List ℕ → Stage (List ℕ) HaltValue
+load files limit word (Ok bytes) = TellsBytes files word bytes × (length bytes ≤ limit)
+load files limit word (Err (refuses r)) = TellsLonger files word limit × (r ≡ too_long word limit)
+load files limit word (Err (misses w)) = w ≡ word
 
 -- the loads of the words that are left, after the files that are loaded
-abbrev pub load_more : Option (List File) → List File → List (List ℕ) → Stage (List File)
+abbrev pub load_more : Option (List File) → List File → List (List ℕ) → Stage (List File) HaltValue
 load_more files done [] = gives done
 load_more files done (word ∷ words) = and_then (load files element_limit word) (λ bytes. load_more files (done ++ (word, bytes) ∷ []) words)
 
 -- the loads of element files, in order
-abbrev pub load_all : Option (List File) → List (List ℕ) → Stage (List File)
+abbrev pub load_all : Option (List File) → List (List ℕ) → Stage (List File) HaltValue
 load_all files words = load_more files [] words
 
 -- the building of loaded element files; the word of a refusal is that of the file it is in
-abbrev pub builds : List (List ℕ) → List File → Stage SetValue
-builds words sources (passes set) = AcceptsFiles sources set
-builds words sources (refuses r) = RefusesFiles sources r.refusal × (r ≡ refused input.Elements (slice_index_or words r.refusal.place.file []) r.refusal)
-builds words sources (misses w) = ⊥
+abbrev pub builds : List (List ℕ) → List File → Stage SetValue HaltValue
+builds words sources (Ok set) = AcceptsFiles sources set
+builds words sources (Err (refuses r)) = RefusesFiles sources r.refusal × (r ≡ refused input.Elements (slice_index_or words r.refusal.place.file []) r.refusal)
+builds words sources (Err (misses w)) = ⊥
 
 -- the set of some element files: all are loaded before the first is read
-abbrev pub set_of : Option (List File) → List (List ℕ) → Stage SetValue
+abbrev pub set_of : Option (List File) → List (List ℕ) → Stage SetValue HaltValue
 set_of files words = and_then (load_all files words) (builds words)
 
 -- what the text of a world says, before its atoms have types
-abbrev pub draft_of : Option (List File) → List ℕ → Stage DraftValue
+abbrev pub draft_of : Option (List File) → List ℕ → Stage DraftValue HaltValue
 draft_of files word = and_then (load files world_limit word) (λ bytes. decides (world_refused word) (read_text bytes))
 
 -- a world, and what the elements of its atoms are called, by type number from 1, and do
@@ -102,19 +103,19 @@ abbrev pub coded : WorldValue → CodesValue → ReadyValue
 coded world es = ready_with world (code_elements es)
 
 -- the names of a world's atoms, which are of these elements
-abbrev pub named_by : List ℕ → DraftValue → ElementsValue → Stage ReadyValue
+abbrev pub named_by : List ℕ → DraftValue → ElementsValue → Stage ReadyValue HaltValue
 named_by word draft e = and_then (decides (world_refused word) (named e.names draft)) (λ (world : WorldValue). gives (ready_with world e))
 
 -- the elements of a world, which a stage gives
-abbrev pub with_elements : {X : Type 0} → (X → ElementsValue) → Stage X → List ℕ → DraftValue → Stage ReadyValue
+abbrev pub with_elements : {X : Type 0} → (X → ElementsValue) → Stage X HaltValue → List ℕ → DraftValue → Stage ReadyValue HaltValue
 with_elements value S word draft = and_then S (λ x. named_by word draft (value x))
 
 -- a world with the elements that a stage gives
-abbrev pub ready_by : {X : Type 0} → (X → ElementsValue) → Stage X → Option (List File) → List ℕ → Stage ReadyValue
+abbrev pub ready_by : {X : Type 0} → (X → ElementsValue) → Stage X HaltValue → Option (List File) → List ℕ → Stage ReadyValue HaltValue
 ready_by value S files word = and_then (draft_of files word) (with_elements value S word)
 
 -- a world with the elements of files
-abbrev pub ready : Option (List File) → List ℕ → List (List ℕ) → Stage ReadyValue
+abbrev pub ready : Option (List File) → List ℕ → List (List ℕ) → Stage ReadyValue HaltValue
 ready files word words = ready_by source_elements (set_of files words) files word
 
 -- the events and the abandoned attempts of a report
@@ -128,7 +129,7 @@ journal_said (Ok d) = Ok (record { records = d.journal; abandoned = d.gone })
 journal_said (Err fault) = Err fault
 
 -- the journal of a world in the bytes of a report
-abbrev pub journal_in : List ℕ → WorldValue → List ℕ → Stage JournalValue
+abbrev pub journal_in : List ℕ → WorldValue → List ℕ → Stage JournalValue HaltValue
 journal_in word world bytes = decides (journal_refused word) (journal_said (read_report world.plane world.plan.lists bytes))
 
 -- the refusal of a report that has too few events, by how many it has
@@ -136,5 +137,5 @@ abbrev pub records_refused : List ℕ → ℕ → RefusedValue
 records_refused word count = refused input.Journal word (whole_file 84 count)
 
 -- the journal of a world in the text of a report
-abbrev pub journal_of : Option (List File) → List ℕ → WorldValue → Stage JournalValue
+abbrev pub journal_of : Option (List File) → List ℕ → WorldValue → Stage JournalValue HaltValue
 journal_of files word world = and_then (load files journal_limit word) (journal_in word world)

@@ -7,7 +7,7 @@ use Rattle.grid_print.specs.Report.{report}
 use Rattle.serial_order.specs.declared.outcome.Outcome.{Outcome}
 use Rattle.stepped_world.specs.Ends.{IsOutcome, logs_in}
 use Rattle.stepped_world.specs.Machine.{Machine, stepped}
-use Rattle.world_grid.specs.Start.{start_grid}
+use Rattle.world_runs.specs.Start.{start_grid}
 use Rattle.world_runs.specs.Fresh.{setting_of}
 use Rattle.world_runs.specs.Orders.{order_in}
 

@@ -1,6 +1,6 @@
 //! The stages of an audit.
 ghost use Rattle.std.specs.Prelude.{◌≡◌, ◌<◌, ◌≤◌, ◌^◌, IfOk, length, map, string_bytes};
-ghost use Rattle.feast_base.specs.Outside.{stock};
+ghost use Rattle.feast_base.specs.Outside.{shelf_state};
 ghost use Rattle.feast_run.specs.Answer.{form_answer};
 ghost use Rattle.feast_run.specs.Audited.{Audits, audit_of, audit_with};
 ghost use Rattle.feast_run.specs.Forms.{audit, most_files};
@@ -8,16 +8,16 @@ ghost use Rattle.feast_run.specs.Outputs.{IsWritable, output_text};
 ghost use Rattle.feast_run.specs.Tellings.{Moves, Tells};
 ghost use Rattle.feast_run.specs.Values.{IsReady, journal_value, ready_value};
 
+use crate::halt::Halt;
 use crate::journals::read_loaded;
 use crate::loading::{JOURNAL_LIMIT, load_file};
 use crate::output::Output;
-use crate::stop::Stop;
 use crate::worlds::{Ready, make_ready};
 use event_journal::ReadJournal;
 use feast_base::{NoMemory, Shelf};
 use report_judge::{judge, judgement_line};
 use std::alloc::Global;
-use world_grid::{map_of, start};
+use world_runs::start;
 
 /// The line of the judgement on a report of a world, whose bytes and journal these are.
 fn audit_line(
@@ -29,12 +29,12 @@ fn audit_line(
     requires { IsReady ready.now }
     ensures { IfOk result (λ v. Audits (ready_value ready.now) bytes.now (journal_value journal.now) v.items) }
 {
-    let map = map_of(alloc, &ready.world)?;
-    let grid = start(alloc, &ready.world)?;
+    let grid = start(alloc, &ready.map, &ready.world)?;
     let mut actor = ready.elements.actor(alloc)?;
     let names = ready.elements.names();
+    let map = &ready.map;
     let plan = &ready.world.plan;
-    let judgement = judge(alloc, &map, plan, names, &grid, bytes, journal, &mut actor)?;
+    let judgement = judge(alloc, map, plan, names, &grid, bytes, journal, &mut actor)?;
     judgement_line(alloc, judgement)
 }
 
@@ -44,17 +44,15 @@ fn audit_loaded<'a>(
     word: &'a str,
     bytes: &[u8],
     ready: &Ready,
-) -> Result<Output, Stop<'a>>
+) -> Result<Output, Halt<'a>>
     requires ready { IsReady ready.now }
     requires short { length bytes.now < 2 ^ 63 }
     ensures tells { Tells output_text (audit_with word.now (ready_value ready.now) bytes.now) result }
     ensures writable { IfOk result IsWritable }
 {
-    let journal = read_loaded(alloc, word, bytes, &ready.world)?;
-    match audit_line(alloc, ready, bytes, &journal) {
-        Ok(text) => Ok(Output::Text(text)),
-        Err(NoMemory) => Err(Stop::NoMemory),
-    }
+    let journal = read_loaded(alloc, word, bytes, &ready.map, &ready.world)?;
+    let text = audit_line(alloc, ready, bytes, &journal)?;
+    Ok(Output::Text(text))
 }
 
 /// The stages of an audit from its report on.
@@ -63,10 +61,10 @@ fn audit_rest<'a, F: Shelf>(
     shelf: &mut F,
     word: &'a str,
     ready: Ready,
-) -> Result<Output, Stop<'a>>
+) -> Result<Output, Halt<'a>>
     requires { IsReady ready }
     ensures files { F.files shelf.new ≡ F.files shelf.old }
-    ensures moves { Moves (stock F.files F.failed F.may_fail shelf.old) (stock F.files F.failed F.may_fail shelf.new) result }
+    ensures moves { Moves (shelf_state F.files F.failed F.may_fail shelf.old) (shelf_state F.files F.failed F.may_fail shelf.new) result }
     ensures tells { Tells output_text (audit_of (F.files shelf.old) word.now (ready_value ready)) result }
     ensures writable { IfOk result IsWritable }
 {
@@ -81,10 +79,10 @@ pub fn audit_stages<'a, F: Shelf>(
     world: &'a str,
     report: &'a str,
     words: &'a [String],
-) -> Result<Output, Stop<'a>>
+) -> Result<Output, Halt<'a>>
     requires { length words.now ≤ most_files }
     ensures files { F.files shelf.new ≡ F.files shelf.old }
-    ensures moves { Moves (stock F.files F.failed F.may_fail shelf.old) (stock F.files F.failed F.may_fail shelf.new) result }
+    ensures moves { Moves (shelf_state F.files F.failed F.may_fail shelf.old) (shelf_state F.files F.failed F.may_fail shelf.new) result }
     ensures tells { Tells output_text (form_answer (F.files shelf.old) (audit world.now report.now (map string_bytes words.now))) result }
     ensures writable { IfOk result IsWritable }
 {

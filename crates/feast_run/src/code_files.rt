@@ -2,49 +2,49 @@
 ghost use Rattle.std.specs.Prelude.{◌≡◌};
 ghost use Rattle.code_file.specs.declared.fault.CodeFault.{CodeFault};
 ghost use Rattle.element_set.specs.Sets.{Coded};
-ghost use Rattle.feast_base.specs.Outside.{stock};
+ghost use Rattle.feast_base.specs.Outside.{shelf_state};
 ghost use Rattle.feast_run.specs.CodeFiles.{code_refused, codes_from, codes_in};
-ghost use Rattle.feast_run.specs.Faults.{IsCodeStop, IsStop};
+ghost use Rattle.feast_run.specs.Faults.{IsCodeHalt, IsHalt};
 ghost use Rattle.feast_run.specs.Tellings.{Moves, Tells};
 
+use crate::halt::{Halt, Input, Refused};
 use crate::loading::{CODE_LIMIT, at_byte, load_file};
-use crate::stop::{Input, Refused, Stop};
 use code_file::{CodeFault, CodeSet, read};
 use feast_base::Shelf;
 use std::alloc::Global;
 
 /// The refusal of a code file whose file has this word.
-fn refused<'a>(word: &'a str, code: u8, column: u64) -> Stop<'a>
+fn refused<'a>(word: &'a str, code: u8, column: u64) -> Halt<'a>
     requires { Coded code }
-    ensures { IsStop (code_refused word.now code column) result }
+    ensures { IsHalt (code_refused word.now code column) result }
 {
-    Stop::Refused(Refused {
+    Halt::Refused(Refused {
         input: Input::Codes,
         word,
         refusal: at_byte(code, column),
     })
 }
 
-/// The stop at a fault of a code file.
-fn code_stop<'a>(word: &'a str, fault: CodeFault) -> Stop<'a>
-    ensures { IsCodeStop word.now fault result }
+/// The halt at a fault of a code file.
+fn code_halt<'a>(word: &'a str, fault: CodeFault) -> Halt<'a>
+    ensures { IsCodeHalt word.now fault result }
 {
     match fault {
         CodeFault::BadMagic => refused(word, 61, 1),
         CodeFault::BadForm(column) => refused(word, 62, column),
         CodeFault::NotValid(column) => refused(word, 63, column),
         CodeFault::SameName(column) => refused(word, 64, column),
-        CodeFault::NoMemory => Stop::NoMemory,
+        CodeFault::NoMemory => Halt::NoMemory,
     }
 }
 
 /// Reads the elements in the bytes of a code file, which has this word.
-fn read_codes<'a>(alloc: Global, word: &'a str, bytes: &[u8]) -> Result<CodeSet, Stop<'a>>
+fn read_codes<'a>(alloc: Global, word: &'a str, bytes: &[u8]) -> Result<CodeSet, Halt<'a>>
     ensures { Tells (λ es. es) (codes_in word.now bytes.now) result }
 {
     match read(alloc, bytes) {
         Ok(set) => Ok(set),
-        Err(fault) => Err(code_stop(word, fault)),
+        Err(fault) => Err(code_halt(word, fault)),
     }
 }
 
@@ -53,9 +53,9 @@ pub fn load_codes<'a, F: Shelf>(
     alloc: Global,
     shelf: &mut F,
     word: &'a str,
-) -> Result<CodeSet, Stop<'a>>
+) -> Result<CodeSet, Halt<'a>>
     ensures files { F.files shelf.new ≡ F.files shelf.old }
-    ensures moves { Moves (stock F.files F.failed F.may_fail shelf.old) (stock F.files F.failed F.may_fail shelf.new) result }
+    ensures moves { Moves (shelf_state F.files F.failed F.may_fail shelf.old) (shelf_state F.files F.failed F.may_fail shelf.new) result }
     ensures tells { Tells (λ es. es) (codes_from (F.files shelf.old) word.now) result }
 {
     let bytes = load_file(alloc, shelf, word, CODE_LIMIT)?;

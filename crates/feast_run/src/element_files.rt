@@ -1,15 +1,15 @@
 //! Loading and building element files.
 ghost use Rattle.std.specs.Prelude.{◌≡◌, ◌≤◌, ◌<◌, ◌^◌, ◌-◌, [], IfOk, All, length, map, slice_index_or, string_bytes};
 ghost use Rattle.element_set.specs.Sets.{set_value};
-ghost use Rattle.feast_base.specs.Outside.{stock};
+ghost use Rattle.feast_base.specs.Outside.{shelf_state};
 ghost use Rattle.feast_run.specs.Forms.{most_files};
 ghost use Rattle.feast_run.specs.Stages.{builds, element_limit, load_all, set_of};
 ghost use Rattle.feast_run.specs.Tellings.{Moves, Tells};
 
+use crate::halt::{Halt, Input, Refused};
 use crate::loading::{ELEMENT_LIMIT, load_file};
-use crate::stop::{Input, Refused, Stop};
 use element_set::{BuildFault, ElementSet};
-use feast_base::{NoMemory, Shelf, Source};
+use feast_base::{Shelf, Source};
 use std::alloc::Global;
 
 /// Loads element files, in order.
@@ -17,9 +17,9 @@ fn load_files<'a, F: Shelf>(
     alloc: Global,
     shelf: &mut F,
     words: &'a [String],
-) -> Result<Vec<Source>, Stop<'a>>
+) -> Result<Vec<Source>, Halt<'a>>
     ensures files { F.files shelf.new ≡ F.files shelf.old }
-    ensures moves { Moves (stock F.files F.failed F.may_fail shelf.old) (stock F.files F.failed F.may_fail shelf.new) result }
+    ensures moves { Moves (shelf_state F.files F.failed F.may_fail shelf.old) (shelf_state F.files F.failed F.may_fail shelf.new) result }
     ensures tells { Tells (λ v. v.items) (load_all (F.files shelf.old) (map string_bytes words.now)) result }
     ensures many { IfOk result (λ v. length v.items ≡ length words.now) }
     ensures short { IfOk result (λ v. All (λ f. length f.1 ≤ element_limit) v.items) }
@@ -27,14 +27,8 @@ fn load_files<'a, F: Shelf>(
     let mut sources = Vec::new(alloc);
     for word in words {
         let bytes = load_file(alloc, shelf, word.as_str(), ELEMENT_LIMIT)?;
-        let source = match Source::new(alloc, word.as_str(), bytes) {
-            Ok(source) => source,
-            Err(NoMemory) => return Err(Stop::NoMemory),
-        };
-        match sources.push(source) {
-            Ok(()) => {}
-            Err(_) => return Err(Stop::NoMemory),
-        }
+        let source = Source::new(alloc, word.as_str(), bytes)?;
+        sources.push(source)?;
     }
     Ok(sources)
 }
@@ -50,19 +44,19 @@ fn word_of(words: &[String], file: u32) -> &str
 }
 
 /// The set of loaded element files, whose words these are.
-fn built<'a>(alloc: Global, words: &'a [String], sources: &[Source]) -> Result<ElementSet, Stop<'a>>
+fn built<'a>(alloc: Global, words: &'a [String], sources: &[Source]) -> Result<ElementSet, Halt<'a>>
     requires few { length sources.now ≤ most_files }
     requires short { All (λ f. length f.1 ≤ element_limit) sources.now }
     ensures { Tells set_value (builds (map string_bytes words.now) sources.now) result }
 {
     match ElementSet::build(alloc, sources) {
         Ok(set) => Ok(set),
-        Err(BuildFault::Refused(refusal)) => Err(Stop::Refused(Refused {
+        Err(BuildFault::Refused(refusal)) => Err(Halt::Refused(Refused {
             input: Input::Elements,
             word: word_of(words, refusal.place.file),
             refusal,
         })),
-        Err(BuildFault::NoMemory) => Err(Stop::NoMemory),
+        Err(BuildFault::NoMemory) => Err(Halt::NoMemory),
     }
 }
 
@@ -71,10 +65,10 @@ pub fn load_set<'a, F: Shelf>(
     alloc: Global,
     shelf: &mut F,
     words: &'a [String],
-) -> Result<ElementSet, Stop<'a>>
+) -> Result<ElementSet, Halt<'a>>
     requires { length words.now ≤ most_files }
     ensures files { F.files shelf.new ≡ F.files shelf.old }
-    ensures moves { Moves (stock F.files F.failed F.may_fail shelf.old) (stock F.files F.failed F.may_fail shelf.new) result }
+    ensures moves { Moves (shelf_state F.files F.failed F.may_fail shelf.old) (shelf_state F.files F.failed F.may_fail shelf.new) result }
     ensures tells { Tells set_value (set_of (F.files shelf.old) (map string_bytes words.now)) result }
 {
     let sources = load_files(alloc, shelf, words)?;

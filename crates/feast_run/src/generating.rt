@@ -1,27 +1,25 @@
 //! The stages of the run of a generated world.
-ghost use Rattle.std.specs.Prelude.{◌≡◌, IfOk};
+ghost use Rattle.std.specs.Prelude.{◌≡◌, IfOk, Ok};
 ghost use Rattle.feast_run.specs.Generating.{generates, stepped_summary};
-ghost use Rattle.feast_run.specs.Outcomes.{passes};
 ghost use Rattle.feast_run.specs.Outputs.{IsWritable, output_text};
 ghost use Rattle.feast_run.specs.Stages.{ready_with};
 ghost use Rattle.feast_run.specs.Stepped.{IsOutcomeOf, IsSteppedRun};
 ghost use Rattle.feast_run.specs.Tellings.{MissesNone, Tells};
 ghost use Rattle.feast_run.specs.Values.{elements_value};
 ghost use Rattle.generated_world.specs.Generated.{generated};
-ghost use Rattle.world_grid.specs.Worlds.{IsWorld};
+ghost use Rattle.world_runs.specs.Worlds.{IsWorld};
 ghost use Rattle.world_runs.specs.Orders.{IsOrder};
 ghost use Rattle.world_text.specs.Values.{order_value, world_value};
 
 use crate::acting::{actors, tiles_in};
 use crate::elements::Elements;
+use crate::halt::Halt;
 use crate::output::Output;
-use crate::stop::Stop;
 use feast_base::NoMemory;
-use generated_elements::elements;
-use generated_world::{generated, summary};
+use generated_world::{elements, generated, summary};
 use serial_order::Outcome;
 use std::alloc::Global;
-use world_runs::stepped;
+use world_runs::{map_of, stepped};
 use world_text::World;
 
 /// The result of the stepped run of a world, with these elements.
@@ -31,7 +29,8 @@ fn outcome(alloc: Global, world: &World, elements: &Elements) -> Result<Outcome,
     ensures { IfOk result (IsOutcomeOf (ready_with (world_value world.now) (elements_value elements.now))) }
 {
     let actors = actors(alloc, elements, tiles_in(world))?;
-    stepped(alloc, world, actors)
+    let map = map_of(alloc, world)?;
+    stepped(alloc, &map, world, actors)
 }
 
 /// The summary of the stepped run of the world of a number, with these elements.
@@ -46,20 +45,18 @@ fn summary_of(alloc: Global, number: u64, elements: &Elements) -> Result<Vec<u8>
 
 /// The summary of the stepped run of the world of a number, with its elements.
 fn summarized(alloc: Global, number: u64) -> Result<Vec<u8>, NoMemory>
-    ensures { IfOk result (λ v. generates number (passes v.items)) }
+    ensures { IfOk result (λ v. generates number (Ok v.items)) }
 {
     let own = Elements::Sources(elements(alloc)?);
     summary_of(alloc, number, &own)
 }
 
 /// The stages of the run of a generated world, up to its summary. No file is loaded.
-pub fn gen_stages<'a>(alloc: Global, number: u64) -> Result<Output, Stop<'a>>
+pub fn gen_stages<'a>(alloc: Global, number: u64) -> Result<Output, Halt<'a>>
     ensures none { MissesNone result }
     ensures tells { Tells output_text (generates number) result }
     ensures writable { IfOk result IsWritable }
 {
-    match summarized(alloc, number) {
-        Ok(text) => Ok(Output::Text(text)),
-        Err(NoMemory) => Err(Stop::NoMemory),
-    }
+    let text = summarized(alloc, number)?;
+    Ok(Output::Text(text))
 }

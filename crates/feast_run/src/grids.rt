@@ -3,14 +3,14 @@ ghost use Rattle.std.specs.Prelude.{◌≡◌, All, IfOk};
 ghost use Rattle.feast_run.specs.Answer.{grid_after};
 ghost use Rattle.feast_run.specs.Values.{IsReady, elements_value, ready_value};
 ghost use Rattle.grid_print.specs.Report.{AreNamed};
-ghost use Rattle.world_grid.specs.Worlds.{IsLiveEvent};
+ghost use Rattle.world_runs.specs.Worlds.{IsLiveEvent};
 ghost use Rattle.world_text.specs.Values.{world_value};
 
 use crate::worlds::Ready;
 use cell_grid::{Grid, Record};
 use feast_base::NoMemory;
 use std::alloc::Global;
-use world_grid::replayed;
+use world_runs::replayed;
 
 /// The grid that some events leave of a world, by what its elements do.
 pub fn grid_after(alloc: Global, ready: &Ready, records: &[Record]) -> Result<Grid, NoMemory>
@@ -20,5 +20,5 @@ pub fn grid_after(alloc: Global, ready: &Ready, records: &[Record]) -> Result<Gr
     ensures named { IfOk result (λ g. AreNamed (elements_value ready.now.elements).names g.atoms) }
 {
     let mut actor = ready.elements.actor(alloc)?;
-    replayed(alloc, &ready.world, records, &mut actor)
+    replayed(alloc, &ready.map, &ready.world, records, &mut actor)
 }

@@ -1,92 +1,100 @@
 //! The stage of a journal.
 ghost use Rattle.std.specs.Prelude.{◌≡◌, ◌<◌, ◌^◌, length};
 ghost use Rattle.event_journal.specs.Reading.{fault_of};
-ghost use Rattle.event_journal.specs.Seats.{ReadsJournal};
-ghost use Rattle.feast_base.specs.Outside.{stock};
-ghost use Rattle.feast_run.specs.Faults.{IsJournalStop, IsStop};
-ghost use Rattle.feast_run.specs.Outcomes.{refused};
+ghost use Rattle.event_journal.specs.Cursors.{ReadsJournal};
+ghost use Rattle.feast_base.specs.Outside.{shelf_state};
+ghost use Rattle.feast_run.specs.Faults.{IsJournalHalt, IsHalt};
+ghost use Rattle.feast_run.specs.Halting.{refused};
 ghost use Rattle.feast_run.specs.Stages.{journal_in, journal_of};
 ghost use Rattle.feast_run.specs.Tellings.{Moves, Tells};
 ghost use Rattle.feast_run.specs.Values.{journal_value};
-ghost use Rattle.feast_run.specs.declared.stop.Input.TheVariants as input;
+ghost use Rattle.feast_run.specs.declared.halt.Input.TheVariants as input;
 ghost use Rattle.element_set.specs.Sets.{Coded};
-ghost use Rattle.world_grid.specs.Worlds.{IsWorld};
+ghost use Rattle.world_runs.specs.Worlds.{IsWorld};
 ghost use Rattle.world_text.specs.Values.{world_value};
 
+use crate::halt::{Halt, Input, Refused};
 use crate::loading::{JOURNAL_LIMIT, at_line, load_file};
-use crate::stop::{Input, Refused, Stop};
 use event_journal::{JournalFault, ReadJournal, read};
-use feast_base::{NoMemory, Refusal, Shelf};
+use feast_base::{Refusal, Shelf};
 use std::alloc::Global;
-use world_grid::map_of;
+use tile_map::Map;
 use world_text::World;
 
-/// The stop at a refusal of a journal whose file has this word.
-pub fn refused<'a>(word: &'a str, refusal: Refusal) -> Stop<'a>
+/// The halt at a refusal of a journal whose file has this word.
+pub fn refused<'a>(word: &'a str, refusal: Refusal) -> Halt<'a>
     requires { Coded refusal.code }
-    ensures { IsStop (refused input.Journal word.now refusal) result }
+    ensures { IsHalt (refused input.Journal word.now refusal) result }
 {
-    Stop::Refused(Refused {
+    Halt::Refused(Refused {
         input: Input::Journal,
         word,
         refusal,
     })
 }
 
-/// The stop at a fault of a journal.
-fn journal_stop<'a>(word: &'a str, fault: JournalFault) -> Stop<'a>
-    ensures { IsJournalStop word.now (fault_of fault) result }
+/// The halt at a fault of a journal.
+fn journal_halt<'a>(word: &'a str, fault: JournalFault) -> Halt<'a>
+    ensures { IsJournalHalt word.now (fault_of fault) result }
 {
     match fault {
         JournalFault::BadLine(line) => refused(word, at_line(80, line, 0)),
         JournalFault::OutOfOrder(line, previous) => refused(word, at_line(81, line, previous)),
         JournalFault::NotOwned(line) => refused(word, at_line(82, line, 0)),
         JournalFault::NotDrawn(line) => refused(word, at_line(83, line, 0)),
-        JournalFault::NoMemory => Stop::NoMemory,
+        JournalFault::NoMemory => Halt::NoMemory,
     }
 }
 
-/// Reads the journal of a world in the text of a report.
-fn read_journal(alloc: Global, bytes: &[u8], world: &World) -> Result<ReadJournal, JournalFault>
+/// Reads the journal of a world, whose map this is, in the text of a report.
+fn read_journal(
+    alloc: Global,
+    bytes: &[u8],
+    map: &Map,
+    world: &World,
+) -> Result<ReadJournal, JournalFault>
     requires world { IsWorld (world_value world.now) }
+    requires map { map.now ≡ (world_value world.now).plane }
     requires short { length bytes.now < 2 ^ 63 }
     ensures { ReadsJournal (world_value world.now).plane world.now.plan.lists bytes.now result }
 {
-    match map_of(alloc, world) {
-        Ok(map) => read(alloc, bytes, &map, &world.plan),
-        Err(NoMemory) => Err(JournalFault::NoMemory),
-    }
+    read(alloc, bytes, map, &world.plan)
 }
 
-/// Reads the journal of a world in the bytes of a report, whose file has this word.
+/// Reads the journal of a world, whose map this is, in the bytes of a report, whose file has this
+/// word.
 pub fn read_loaded<'a>(
     alloc: Global,
     word: &'a str,
     bytes: &[u8],
+    map: &Map,
     world: &World,
-) -> Result<ReadJournal, Stop<'a>>
+) -> Result<ReadJournal, Halt<'a>>
     requires world { IsWorld (world_value world.now) }
+    requires map { map.now ≡ (world_value world.now).plane }
     requires short { length bytes.now < 2 ^ 63 }
     ensures { Tells journal_value (journal_in word.now (world_value world.now) bytes.now) result }
 {
-    match read_journal(alloc, bytes, world) {
+    match read_journal(alloc, bytes, map, world) {
         Ok(journal) => Ok(journal),
-        Err(fault) => Err(journal_stop(word, fault)),
+        Err(fault) => Err(journal_halt(word, fault)),
     }
 }
 
-/// Loads and reads the journal of a world.
+/// Loads and reads the journal of a world, whose map this is.
 pub fn load_journal<'a, F: Shelf>(
     alloc: Global,
     shelf: &mut F,
     word: &'a str,
+    map: &Map,
     world: &World,
-) -> Result<ReadJournal, Stop<'a>>
-    requires { IsWorld (world_value world.now) }
+) -> Result<ReadJournal, Halt<'a>>
+    requires world { IsWorld (world_value world.now) }
+    requires map { map.now ≡ (world_value world.now).plane }
     ensures files { F.files shelf.new ≡ F.files shelf.old }
-    ensures moves { Moves (stock F.files F.failed F.may_fail shelf.old) (stock F.files F.failed F.may_fail shelf.new) result }
+    ensures moves { Moves (shelf_state F.files F.failed F.may_fail shelf.old) (shelf_state F.files F.failed F.may_fail shelf.new) result }
     ensures tells { Tells journal_value (journal_of (F.files shelf.old) word.now (world_value world.now)) result }
 {
     let bytes = load_file(alloc, shelf, word, JOURNAL_LIMIT)?;
-    read_loaded(alloc, word, bytes.as_slice(), world)
+    read_loaded(alloc, word, bytes.as_slice(), map, world)
 }

@@ -1,11 +1,11 @@
 //! Loading a file.
 ghost use Rattle.std.specs.Prelude.{◌≡◌, ◌≤◌, ◌<◌, ◌^◌, ◌-◌, ℕ, List};
-ghost use Rattle.feast_base.specs.Outside.{stock};
+ghost use Rattle.feast_base.specs.Outside.{shelf_state};
 ghost use Rattle.feast_run.specs.CodeFiles.{at_byte};
 ghost use Rattle.feast_run.specs.Stages.{at_line, load, whole_file};
 ghost use Rattle.feast_run.specs.Tellings.{Moves, Tells};
 
-use crate::stop::{Input, Refused, Stop};
+use crate::halt::{Halt, Input, Refused};
 use feast_base::{LoadFault, Place, Refusal, Shelf};
 use std::alloc::Global;
 
@@ -76,20 +76,20 @@ pub fn load_file<'a, F: Shelf>(
     shelf: &mut F,
     word: &'a str,
     limit: u32,
-) -> Result<Vec<u8>, Stop<'a>>
+) -> Result<Vec<u8>, Halt<'a>>
     ensures files { F.files shelf.new ≡ F.files shelf.old }
-    ensures moves { Moves (stock F.files F.failed F.may_fail shelf.old) (stock F.files F.failed F.may_fail shelf.new) result }
+    ensures moves { Moves (shelf_state F.files F.failed F.may_fail shelf.old) (shelf_state F.files F.failed F.may_fail shelf.new) result }
     ensures tells { Tells (λ v. v.items) (load (F.files shelf.old) limit word.now) result }
 {
     let mut bytes = Vec::new(alloc);
     match shelf.load(word, limit as usize, &mut bytes) {
         Ok(()) => Ok(bytes),
-        Err(LoadFault::Failed) => Err(Stop::Missing(word)),
-        Err(LoadFault::TooLong) => Err(Stop::Refused(Refused {
+        Err(LoadFault::Failed) => Err(Halt::Missing(word)),
+        Err(LoadFault::TooLong) => Err(Halt::Refused(Refused {
             input: Input::File,
             word,
             refusal: whole_file(TOO_LONG, limit as u64),
         })),
-        Err(LoadFault::NoMemory) => Err(Stop::NoMemory),
+        Err(LoadFault::NoMemory) => Err(Halt::NoMemory),
     }
 }

@@ -4,9 +4,10 @@ use crate::worlds::Ready;
 use cell_grid::Grid;
 use event_journal::Journal;
 
-/// What a run leaves: its grid and its journal, and the world that was run with its elements.
+/// A run that is over: the grid and the journal that it left, and the world that was run with its
+/// elements.
 #[derive(Drop)]
-pub struct Left {
+pub struct FinishedRun {
     pub grid: Grid,
     pub journal: Journal,
     pub ready: Ready,
@@ -18,5 +19,5 @@ pub enum Output {
     /// A text, put in one piece.
     Text(Vec<u8>),
     /// The report of a run, put in pieces.
-    Report(Left),
+    Report(FinishedRun),
 }

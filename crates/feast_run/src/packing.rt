@@ -1,7 +1,7 @@
 //! The stages of a code file.
 ghost use Rattle.std.specs.Prelude.{◌≡◌, ◌≤◌, IfOk, length, map, string_bytes};
 ghost use Rattle.element_set.specs.Sets.{set_value};
-ghost use Rattle.feast_base.specs.Outside.{stock};
+ghost use Rattle.feast_base.specs.Outside.{shelf_state};
 ghost use Rattle.feast_run.specs.Answer.{form_answer};
 ghost use Rattle.feast_run.specs.Forms.{most_files, pack};
 ghost use Rattle.feast_run.specs.Outputs.{IsWritable, output_text};
@@ -9,8 +9,8 @@ ghost use Rattle.feast_run.specs.Packed.{pack_text};
 ghost use Rattle.feast_run.specs.Tellings.{Moves, Tells};
 
 use crate::element_files::load_set;
+use crate::halt::Halt;
 use crate::output::Output;
-use crate::stop::Stop;
 use code_file::write;
 use element_set::ElementSet;
 use feast_base::{NoMemory, Shelf};
@@ -30,16 +30,14 @@ pub fn pack_stages<'a, F: Shelf>(
     alloc: Global,
     shelf: &mut F,
     words: &'a [String],
-) -> Result<Output, Stop<'a>>
+) -> Result<Output, Halt<'a>>
     requires { length words.now ≤ most_files }
     ensures files { F.files shelf.new ≡ F.files shelf.old }
-    ensures moves { Moves (stock F.files F.failed F.may_fail shelf.old) (stock F.files F.failed F.may_fail shelf.new) result }
+    ensures moves { Moves (shelf_state F.files F.failed F.may_fail shelf.old) (shelf_state F.files F.failed F.may_fail shelf.new) result }
     ensures tells { Tells output_text (form_answer (F.files shelf.old) (pack (map string_bytes words.now))) result }
     ensures writable { IfOk result IsWritable }
 {
     let set = load_set(alloc, shelf, words)?;
-    match packed(alloc, &set) {
-        Ok(text) => Ok(Output::Text(text)),
-        Err(NoMemory) => Err(Stop::NoMemory),
-    }
+    let text = packed(alloc, &set)?;
+    Ok(Output::Text(text))
 }

@@ -1,36 +1,23 @@
 //! The stages of a replay.
-ghost use Rattle.std.specs.Prelude.{◌≡◌, ◌≤◌, ◌++◌, All, IfOk, codes, length, map, string_bytes};
-ghost use Rattle.feast_base.specs.Outside.{stock};
+ghost use Rattle.std.specs.Prelude.{◌≡◌, ◌≤◌, All, IfOk, length, map, string_bytes};
+ghost use Rattle.feast_base.specs.Outside.{shelf_state};
 ghost use Rattle.feast_run.specs.Answer.{atoms_after, form_answer, replay_of};
 ghost use Rattle.feast_run.specs.Forms.{most_files, replay};
 ghost use Rattle.feast_run.specs.Outputs.{IsWritable, output_text};
 ghost use Rattle.feast_run.specs.Tellings.{Moves, Tells};
 ghost use Rattle.feast_run.specs.Values.{IsReady, ready_value};
-ghost use Rattle.grid_print.specs.Report.{AreNamed, atoms_text};
-ghost use Rattle.world_grid.specs.Worlds.{IsLiveEvent};
+ghost use Rattle.world_runs.specs.Worlds.{IsLiveEvent};
 ghost use Rattle.world_text.specs.Values.{world_value};
 
 use crate::grids::grid_after;
+use crate::halt::Halt;
 use crate::journals::load_journal;
 use crate::output::Output;
-use crate::stop::Stop;
 use crate::worlds::{Ready, make_ready};
-use cell_grid::{Grid, Record};
-use feast_base::{Name, NoMemory, Shelf};
-use grid_print::atoms;
+use cell_grid::Record;
+use feast_base::{NoMemory, Shelf};
+use grid_print::grid_text;
 use std::alloc::Global;
-use text_lines::{Field, push_line};
-
-/// The text of the atoms of a grid, after its header.
-pub fn show(alloc: Global, names: &[Name], grid: &Grid) -> Result<Vec<u8>, NoMemory>
-    requires { AreNamed names.now grid.now.atoms }
-    ensures { IfOk result (λ v. v.items ≡ codes "feast 1\n" ++ atoms_text names.now grid.now) }
-{
-    let mut text = Vec::new(alloc);
-    push_line(&mut text, &[Field::Word(b"feast"), Field::Word(b"1")])?;
-    atoms(grid, names, &mut text)?;
-    Ok(text)
-}
 
 /// The text of the atoms that the events of a journal leave of a world.
 fn replay_text(alloc: Global, ready: &Ready, records: &[Record]) -> Result<Vec<u8>, NoMemory>
@@ -39,7 +26,7 @@ fn replay_text(alloc: Global, ready: &Ready, records: &[Record]) -> Result<Vec<u
     ensures { IfOk result (λ v. v.items ≡ atoms_after (ready_value ready.now) records.now) }
 {
     let grid = grid_after(alloc, ready, records)?;
-    show(alloc, ready.elements.names(), &grid)
+    grid_text(alloc, &grid, ready.elements.names())
 }
 
 /// The stages of a replay from its journal on.
@@ -48,18 +35,16 @@ fn replay_rest<'a, F: Shelf>(
     shelf: &mut F,
     word: &'a str,
     ready: Ready,
-) -> Result<Output, Stop<'a>>
+) -> Result<Output, Halt<'a>>
     requires { IsReady ready }
     ensures files { F.files shelf.new ≡ F.files shelf.old }
-    ensures moves { Moves (stock F.files F.failed F.may_fail shelf.old) (stock F.files F.failed F.may_fail shelf.new) result }
+    ensures moves { Moves (shelf_state F.files F.failed F.may_fail shelf.old) (shelf_state F.files F.failed F.may_fail shelf.new) result }
     ensures tells { Tells output_text (replay_of (F.files shelf.old) word.now (ready_value ready)) result }
     ensures writable { IfOk result IsWritable }
 {
-    let journal = load_journal(alloc, shelf, word, &ready.world)?;
-    match replay_text(alloc, &ready, journal.records.as_slice()) {
-        Ok(text) => Ok(Output::Text(text)),
-        Err(NoMemory) => Err(Stop::NoMemory),
-    }
+    let journal = load_journal(alloc, shelf, word, &ready.map, &ready.world)?;
+    let text = replay_text(alloc, &ready, journal.records.as_slice())?;
+    Ok(Output::Text(text))
 }
 
 /// The stages of a replay, up to its text.
@@ -69,10 +54,10 @@ pub fn replay_stages<'a, F: Shelf>(
     world: &'a str,
     journal: &'a str,
     words: &'a [String],
-) -> Result<Output, Stop<'a>>
+) -> Result<Output, Halt<'a>>
     requires { length words.now ≤ most_files }
     ensures files { F.files shelf.new ≡ F.files shelf.old }
-    ensures moves { Moves (stock F.files F.failed F.may_fail shelf.old) (stock F.files F.failed F.may_fail shelf.new) result }
+    ensures moves { Moves (shelf_state F.files F.failed F.may_fail shelf.old) (shelf_state F.files F.failed F.may_fail shelf.new) result }
     ensures tells { Tells output_text (form_answer (F.files shelf.old) (replay world.now journal.now (map string_bytes words.now))) result }
     ensures writable { IfOk result IsWritable }
 {

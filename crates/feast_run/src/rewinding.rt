@@ -1,28 +1,28 @@
 //! The stages of a rewind.
 ghost use Rattle.std.specs.Prelude.{◌≡◌, ◌<◌, ◌≤◌, All, Err, IfOk, length, map, string_bytes, take};
-ghost use Rattle.feast_base.specs.Outside.{stock};
+ghost use Rattle.feast_base.specs.Outside.{shelf_state};
 ghost use Rattle.feast_run.specs.Answer.{atoms_after, form_answer, rewind_of, rewinds};
-ghost use Rattle.feast_run.specs.Faults.{IsStop};
+ghost use Rattle.feast_run.specs.Faults.{IsHalt};
 ghost use Rattle.feast_run.specs.Forms.{most_files, rewind};
 ghost use Rattle.feast_run.specs.Outputs.{IsWritable, output_text};
 ghost use Rattle.feast_run.specs.Stages.{records_refused};
 ghost use Rattle.feast_run.specs.Tellings.{Moves, Tells};
 ghost use Rattle.feast_run.specs.Values.{IsReady, journal_value, ready_value};
-ghost use Rattle.world_grid.specs.Worlds.{IsLiveEvent};
+ghost use Rattle.world_runs.specs.Worlds.{IsLiveEvent};
 ghost use Rattle.world_text.specs.Values.{world_value};
 
+use crate::halt::Halt;
 use crate::journals::{load_journal, refused};
 use crate::loading::whole_file;
 use crate::output::Output;
-use crate::replaying::show;
-use crate::stop::Stop;
 use crate::worlds::{Ready, make_ready};
 use cell_grid::Record;
 use event_journal::ReadJournal;
 use feast_base::{NoMemory, Shelf};
+use grid_print::grid_text;
 use report_judge::rewound;
 use std::alloc::Global;
-use world_grid::start;
+use world_runs::start;
 
 /// The code of a report that has too few events.
 const TOO_FEW: u8 = 84;
@@ -39,21 +39,21 @@ fn rewind_text(
     requires enough { left ≤ length records.now }
     ensures { IfOk result (λ v. v.items ≡ atoms_after (ready_value ready.now) (take left records.now)) }
 {
-    let first = start(alloc, &ready.world)?;
+    let first = start(alloc, &ready.map, &ready.world)?;
     let mut actor = ready.elements.actor(alloc)?;
     let grid = rewound(alloc, first, records, left, &mut actor)?;
-    show(alloc, ready.elements.names(), &grid)
+    grid_text(alloc, &grid, ready.elements.names())
 }
 
-/// The stop at a journal with too few events.
-fn too_few<'a>(word: &'a str, journal: &ReadJournal) -> Stop<'a>
-    ensures { IsStop (records_refused word.now (length journal.now.records.items)) result }
+/// The halt at a journal with too few events.
+fn too_few<'a>(word: &'a str, journal: &ReadJournal) -> Halt<'a>
+    ensures { IsHalt (records_refused word.now (length journal.now.records.items)) result }
 {
     refused(word, whole_file(TOO_FEW, journal.records.len() as u64))
 }
 
-/// The stop at a journal that has fewer events than are to remain.
-fn few<'a>(word: &'a str, left: u32, ready: &Ready, journal: &ReadJournal) -> Stop<'a>
+/// The halt at a journal that has fewer events than are to remain.
+fn few<'a>(word: &'a str, left: u32, ready: &Ready, journal: &ReadJournal) -> Halt<'a>
     requires { length journal.now.records.items < left }
     ensures { Tells output_text (rewinds word.now left (ready_value ready.now) (journal_value journal.now)) (Err result) }
 {
@@ -67,17 +67,15 @@ fn rewind_kept<'a>(
     left: u32,
     ready: &Ready,
     journal: &ReadJournal,
-) -> Result<Output, Stop<'a>>
+) -> Result<Output, Halt<'a>>
     requires ready { IsReady ready.now }
     requires live { All (IsLiveEvent (world_value ready.now.world).plane) journal.now.records.items }
     requires enough { left ≤ length journal.now.records.items }
     ensures tells { Tells output_text (rewinds word.now left (ready_value ready.now) (journal_value journal.now)) result }
     ensures writable { IfOk result IsWritable }
 {
-    match rewind_text(alloc, ready, journal.records.as_slice(), left as usize) {
-        Ok(text) => Ok(Output::Text(text)),
-        Err(NoMemory) => Err(Stop::NoMemory),
-    }
+    let text = rewind_text(alloc, ready, journal.records.as_slice(), left as usize)?;
+    Ok(Output::Text(text))
 }
 
 /// The stages of a rewind after its journal.
@@ -87,7 +85,7 @@ fn rewind_loaded<'a>(
     left: u32,
     ready: &Ready,
     journal: &ReadJournal,
-) -> Result<Output, Stop<'a>>
+) -> Result<Output, Halt<'a>>
     requires ready { IsReady ready.now }
     requires live { All (IsLiveEvent (world_value ready.now.world).plane) journal.now.records.items }
     ensures tells { Tells output_text (rewinds word.now left (ready_value ready.now) (journal_value journal.now)) result }
@@ -107,14 +105,14 @@ fn rewind_rest<'a, F: Shelf>(
     word: &'a str,
     left: u32,
     ready: Ready,
-) -> Result<Output, Stop<'a>>
+) -> Result<Output, Halt<'a>>
     requires { IsReady ready }
     ensures files { F.files shelf.new ≡ F.files shelf.old }
-    ensures moves { Moves (stock F.files F.failed F.may_fail shelf.old) (stock F.files F.failed F.may_fail shelf.new) result }
+    ensures moves { Moves (shelf_state F.files F.failed F.may_fail shelf.old) (shelf_state F.files F.failed F.may_fail shelf.new) result }
     ensures tells { Tells output_text (rewind_of (F.files shelf.old) word.now left (ready_value ready)) result }
     ensures writable { IfOk result IsWritable }
 {
-    let journal = load_journal(alloc, shelf, word, &ready.world)?;
+    let journal = load_journal(alloc, shelf, word, &ready.map, &ready.world)?;
     rewind_loaded(alloc, word, left, &ready, &journal)
 }
 
@@ -126,10 +124,10 @@ pub fn rewind_stages<'a, F: Shelf>(
     report: &'a str,
     left: u32,
     words: &'a [String],
-) -> Result<Output, Stop<'a>>
+) -> Result<Output, Halt<'a>>
     requires { length words.now ≤ most_files }
     ensures files { F.files shelf.new ≡ F.files shelf.old }
-    ensures moves { Moves (stock F.files F.failed F.may_fail shelf.old) (stock F.files F.failed F.may_fail shelf.new) result }
+    ensures moves { Moves (shelf_state F.files F.failed F.may_fail shelf.old) (shelf_state F.files F.failed F.may_fail shelf.new) result }
     ensures tells { Tells output_text (form_answer (F.files shelf.old) (rewind world.now report.now left (map string_bytes words.now))) result }
     ensures writable { IfOk result IsWritable }
 {

@@ -1,7 +1,7 @@
 //! The stages of a run.
 ghost use Rattle.std.specs.Prelude.{◌≡◌, ◌≢◌, ◌≤◌, [], IfOk, length, map, string_bytes};
 ghost use Rattle.event_journal.specs.Logs.{abandoned_in, records_in};
-ghost use Rattle.feast_base.specs.Outside.{stock};
+ghost use Rattle.feast_base.specs.Outside.{shelf_state};
 ghost use Rattle.feast_run.specs.Answer.{form_answer, lone_logs, run_report, runs};
 ghost use Rattle.feast_run.specs.Forms.{most_files, run, runpack};
 ghost use Rattle.feast_run.specs.Outputs.{IsWritable, output_text};
@@ -9,23 +9,21 @@ ghost use Rattle.feast_run.specs.Owing.{Reports};
 ghost use Rattle.feast_run.specs.Tellings.{Moves, Tells};
 ghost use Rattle.feast_run.specs.Threaded.{IsThreadedOf};
 ghost use Rattle.feast_run.specs.Values.{IsReady, ready_value};
-ghost use Rattle.one_tile.specs.Events.{events_of};
+ghost use Rattle.world_runs.specs.OneTile.{events_of};
 ghost use Rattle.tile_map.specs.Plane.{tiles_of};
 ghost use Rattle.world_text.specs.Values.{world_value};
 
 use crate::acting::{actors, tiles_in};
 use crate::grids::grid_after;
-use crate::output::{Left, Output};
-use crate::stop::Stop;
+use crate::halt::Halt;
+use crate::output::{FinishedRun, Output};
 use crate::worlds::{Ready, make_packed, make_ready};
 use event_journal::Journal;
 use feast_base::{Gate, NoMemory, Shelf};
-use one_tile::journal;
 use serial_order::Outcome;
 use std::alloc::Global;
 use std::thread::Threads;
-use world_grid::map_of;
-use world_runs::threaded;
+use world_runs::{journal, threaded};
 
 /// The journal of a world of one tile.
 fn journal_of<G: Gate>(alloc: Global, ready: &Ready, gate: &G) -> Result<Journal, NoMemory>
@@ -35,8 +33,7 @@ fn journal_of<G: Gate>(alloc: Global, ready: &Ready, gate: &G) -> Result<Journal
     ensures records { IfOk result (λ j. records_in j ≡ events_of (world_value ready.now.world).plane ready.now.world.plan) }
     ensures abandoned { IfOk result (λ j. abandoned_in j ≡ []) }
 {
-    let map = map_of(alloc, &ready.world)?;
-    journal(alloc, &map, &ready.world.plan, gate)
+    journal(alloc, &ready.map, &ready.world.plan, gate)
 }
 
 /// What a run of one tile leaves: no other tile shares a site with it, so its events are made on the
@@ -50,7 +47,7 @@ fn ran_alone<G: Gate>(alloc: Global, ready: Ready, gate: &G) -> Result<Output, N
 {
     let journal = journal_of(alloc, &ready, gate)?;
     let grid = grid_after(alloc, &ready, journal.log(0).records())?;
-    Ok(Output::Report(Left {
+    Ok(Output::Report(FinishedRun {
         grid,
         journal,
         ready,
@@ -68,7 +65,7 @@ fn outcome<R: Threads + Sync, G: Gate>(
     ensures { IfOk result (IsThreadedOf (ready_value ready.now)) }
 {
     let actors = actors(alloc, &ready.elements, tiles_in(&ready.world))?;
-    threaded(rt, alloc, &ready.world, actors, gate)
+    threaded(rt, alloc, &ready.map, &ready.world, actors, gate)
 }
 
 /// What a run of several tiles leaves.
@@ -85,7 +82,7 @@ fn ran_together<R: Threads + Sync, G: Gate>(
 {
     let outcome = outcome(rt, alloc, &ready, gate)?;
     let Outcome { grid, journal } = outcome;
-    Ok(Output::Report(Left {
+    Ok(Output::Report(FinishedRun {
         grid,
         journal,
         ready,
@@ -116,15 +113,12 @@ pub fn run_rest<'a, R: Threads + Sync, G: Gate>(
     alloc: Global,
     ready: Ready,
     gate: &G,
-) -> Result<Output, Stop<'a>>
+) -> Result<Output, Halt<'a>>
     requires { IsReady ready }
     ensures tells { Tells output_text (runs (ready_value ready)) result }
     ensures writable { IfOk result IsWritable }
 {
-    match ran(rt, alloc, ready, gate) {
-        Ok(output) => Ok(output),
-        Err(NoMemory) => Err(Stop::NoMemory),
-    }
+    Ok(ran(rt, alloc, ready, gate)?)
 }
 
 /// The stages of a run, up to its report.
@@ -135,10 +129,10 @@ pub fn run_stages<'a, R: Threads + Sync, F: Shelf, G: Gate>(
     world: &'a str,
     words: &'a [String],
     gate: &G,
-) -> Result<Output, Stop<'a>>
+) -> Result<Output, Halt<'a>>
     requires { length words.now ≤ most_files }
     ensures files { F.files shelf.new ≡ F.files shelf.old }
-    ensures moves { Moves (stock F.files F.failed F.may_fail shelf.old) (stock F.files F.failed F.may_fail shelf.new) result }
+    ensures moves { Moves (shelf_state F.files F.failed F.may_fail shelf.old) (shelf_state F.files F.failed F.may_fail shelf.new) result }
     ensures tells { Tells output_text (form_answer (F.files shelf.old) (run world.now (map string_bytes words.now))) result }
     ensures writable { IfOk result IsWritable }
 {
@@ -154,9 +148,9 @@ pub fn runpack_stages<'a, R: Threads + Sync, F: Shelf, G: Gate>(
     world: &'a str,
     code: &'a str,
     gate: &G,
-) -> Result<Output, Stop<'a>>
+) -> Result<Output, Halt<'a>>
     ensures files { F.files shelf.new ≡ F.files shelf.old }
-    ensures moves { Moves (stock F.files F.failed F.may_fail shelf.old) (stock F.files F.failed F.may_fail shelf.new) result }
+    ensures moves { Moves (shelf_state F.files F.failed F.may_fail shelf.old) (shelf_state F.files F.failed F.may_fail shelf.new) result }
     ensures tells { Tells output_text (form_answer (F.files shelf.old) (runpack world.now code.now)) result }
     ensures writable { IfOk result IsWritable }
 {

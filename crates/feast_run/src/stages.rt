@@ -1,6 +1,6 @@
 //! The stages of the forms, up to what is written.
 ghost use Rattle.std.specs.Prelude.{◌≡◌, ◌≤◌, IfOk, length, map, string_bytes};
-ghost use Rattle.feast_base.specs.Outside.{stock};
+ghost use Rattle.feast_base.specs.Outside.{shelf_state};
 ghost use Rattle.feast_run.specs.Answer.{form_answer};
 ghost use Rattle.feast_run.specs.Forms.{IsFew, check, code, form_value, most_files};
 ghost use Rattle.feast_run.specs.Outputs.{IsWritable, output_text};
@@ -10,14 +10,14 @@ use crate::auditing::audit_stages;
 use crate::element_files::load_set;
 use crate::form::Form;
 use crate::generating::gen_stages;
+use crate::halt::Halt;
 use crate::output::Output;
 use crate::packing::pack_stages;
 use crate::replaying::replay_stages;
 use crate::rewinding::rewind_stages;
 use crate::running::{run_stages, runpack_stages};
 use crate::stepping::{step_stages, steppack_stages};
-use crate::stop::Stop;
-use feast_base::{Gate, NoMemory, Shelf};
+use feast_base::{Gate, Shelf};
 use std::alloc::Global;
 use std::thread::Threads;
 
@@ -26,19 +26,17 @@ fn check_stages<'a, F: Shelf>(
     alloc: Global,
     shelf: &mut F,
     words: &'a [String],
-) -> Result<Output, Stop<'a>>
+) -> Result<Output, Halt<'a>>
     requires { length words.now ≤ most_files }
     ensures files { F.files shelf.new ≡ F.files shelf.old }
-    ensures moves { Moves (stock F.files F.failed F.may_fail shelf.old) (stock F.files F.failed F.may_fail shelf.new) result }
+    ensures moves { Moves (shelf_state F.files F.failed F.may_fail shelf.old) (shelf_state F.files F.failed F.may_fail shelf.new) result }
     ensures tells { Tells output_text (form_answer (F.files shelf.old) (check (map string_bytes words.now))) result }
     ensures writable { IfOk result IsWritable }
 {
     let set = load_set(alloc, shelf, words)?;
     let mut text = Vec::new(alloc);
-    match set.print_check(&mut text) {
-        Ok(()) => Ok(Output::Text(text)),
-        Err(NoMemory) => Err(Stop::NoMemory),
-    }
+    set.print_check(&mut text)?;
+    Ok(Output::Text(text))
 }
 
 /// The stages of the codes of elements, up to their text.
@@ -46,19 +44,17 @@ fn code_stages<'a, F: Shelf>(
     alloc: Global,
     shelf: &mut F,
     words: &'a [String],
-) -> Result<Output, Stop<'a>>
+) -> Result<Output, Halt<'a>>
     requires { length words.now ≤ most_files }
     ensures files { F.files shelf.new ≡ F.files shelf.old }
-    ensures moves { Moves (stock F.files F.failed F.may_fail shelf.old) (stock F.files F.failed F.may_fail shelf.new) result }
+    ensures moves { Moves (shelf_state F.files F.failed F.may_fail shelf.old) (shelf_state F.files F.failed F.may_fail shelf.new) result }
     ensures tells { Tells output_text (form_answer (F.files shelf.old) (code (map string_bytes words.now))) result }
     ensures writable { IfOk result IsWritable }
 {
     let set = load_set(alloc, shelf, words)?;
     let mut text = Vec::new(alloc);
-    match set.print_code(&mut text) {
-        Ok(()) => Ok(Output::Text(text)),
-        Err(NoMemory) => Err(Stop::NoMemory),
-    }
+    set.print_code(&mut text)?;
+    Ok(Output::Text(text))
 }
 
 /// The stages of a form, up to what it writes.
@@ -68,10 +64,10 @@ pub fn form_stages<'a, R: Threads + Sync, F: Shelf, G: Gate>(
     shelf: &mut F,
     form: Form<'a>,
     gate: &G,
-) -> Result<Output, Stop<'a>>
+) -> Result<Output, Halt<'a>>
     requires { IsFew form }
     ensures files { F.files shelf.new ≡ F.files shelf.old }
-    ensures moves { Moves (stock F.files F.failed F.may_fail shelf.old) (stock F.files F.failed F.may_fail shelf.new) result }
+    ensures moves { Moves (shelf_state F.files F.failed F.may_fail shelf.old) (shelf_state F.files F.failed F.may_fail shelf.new) result }
     ensures tells { Tells output_text (form_answer (F.files shelf.old) (form_value form.entry)) result }
     ensures writable { IfOk result IsWritable }
 {

@@ -1,6 +1,6 @@
 //! The stages of a stepped run.
 ghost use Rattle.std.specs.Prelude.{◌≡◌, ◌≤◌, IfOk, length, map, string_bytes};
-ghost use Rattle.feast_base.specs.Outside.{stock};
+ghost use Rattle.feast_base.specs.Outside.{shelf_state};
 ghost use Rattle.feast_run.specs.Answer.{form_answer, steps};
 ghost use Rattle.feast_run.specs.Forms.{most_files, step, steppack};
 ghost use Rattle.feast_run.specs.Outputs.{IsWritable, output_text};
@@ -9,8 +9,8 @@ ghost use Rattle.feast_run.specs.Tellings.{Moves, Tells};
 ghost use Rattle.feast_run.specs.Values.{IsReady, ready_value};
 
 use crate::acting::{actors, tiles_in};
-use crate::output::{Left, Output};
-use crate::stop::Stop;
+use crate::halt::Halt;
+use crate::output::{FinishedRun, Output};
 use crate::worlds::{Ready, make_packed, make_ready};
 use feast_base::{NoMemory, Shelf};
 use serial_order::Outcome;
@@ -24,11 +24,11 @@ fn outcome(alloc: Global, ready: &Ready) -> Result<Outcome, NoMemory>
 {
     listed_order();
     let actors = actors(alloc, &ready.elements, tiles_in(&ready.world))?;
-    stepped(alloc, &ready.world, actors)
+    stepped(alloc, &ready.map, &ready.world, actors)
 }
 
 /// What a stepped run leaves.
-fn stepped_left(alloc: Global, ready: Ready) -> Result<Output, NoMemory>
+fn ran_stepped(alloc: Global, ready: Ready) -> Result<Output, NoMemory>
     requires { IsReady ready }
     ensures run { IfOk result (λ _. IsSteppedRun (ready_value ready)) }
     ensures text { IfOk result (λ o. output_text o ≡ stepped_report (ready_value ready)) }
@@ -36,7 +36,7 @@ fn stepped_left(alloc: Global, ready: Ready) -> Result<Output, NoMemory>
 {
     let outcome = outcome(alloc, &ready)?;
     let Outcome { grid, journal } = outcome;
-    Ok(Output::Report(Left {
+    Ok(Output::Report(FinishedRun {
         grid,
         journal,
         ready,
@@ -44,15 +44,12 @@ fn stepped_left(alloc: Global, ready: Ready) -> Result<Output, NoMemory>
 }
 
 /// The stage of a stepped run itself.
-fn step_rest<'a>(alloc: Global, ready: Ready) -> Result<Output, Stop<'a>>
+fn step_rest<'a>(alloc: Global, ready: Ready) -> Result<Output, Halt<'a>>
     requires { IsReady ready }
     ensures tells { Tells output_text (steps (ready_value ready)) result }
     ensures writable { IfOk result IsWritable }
 {
-    match stepped_left(alloc, ready) {
-        Ok(output) => Ok(output),
-        Err(NoMemory) => Err(Stop::NoMemory),
-    }
+    Ok(ran_stepped(alloc, ready)?)
 }
 
 /// The stages of a stepped run, up to its report.
@@ -61,10 +58,10 @@ pub fn step_stages<'a, F: Shelf>(
     shelf: &mut F,
     world: &'a str,
     words: &'a [String],
-) -> Result<Output, Stop<'a>>
+) -> Result<Output, Halt<'a>>
     requires { length words.now ≤ most_files }
     ensures files { F.files shelf.new ≡ F.files shelf.old }
-    ensures moves { Moves (stock F.files F.failed F.may_fail shelf.old) (stock F.files F.failed F.may_fail shelf.new) result }
+    ensures moves { Moves (shelf_state F.files F.failed F.may_fail shelf.old) (shelf_state F.files F.failed F.may_fail shelf.new) result }
     ensures tells { Tells output_text (form_answer (F.files shelf.old) (step world.now (map string_bytes words.now))) result }
     ensures writable { IfOk result IsWritable }
 {
@@ -78,9 +75,9 @@ pub fn steppack_stages<'a, F: Shelf>(
     shelf: &mut F,
     world: &'a str,
     code: &'a str,
-) -> Result<Output, Stop<'a>>
+) -> Result<Output, Halt<'a>>
     ensures files { F.files shelf.new ≡ F.files shelf.old }
-    ensures moves { Moves (stock F.files F.failed F.may_fail shelf.old) (stock F.files F.failed F.may_fail shelf.new) result }
+    ensures moves { Moves (shelf_state F.files F.failed F.may_fail shelf.old) (shelf_state F.files F.failed F.may_fail shelf.new) result }
     ensures tells { Tells output_text (form_answer (F.files shelf.old) (steppack world.now code.now)) result }
     ensures writable { IfOk result IsWritable }
 {

@@ -1,6 +1,6 @@
 //! The top call.
 ghost use Rattle.std.specs.Prelude.{◌≡◌, ◌<◌, ◌^◌, ◌-◌, List, map, string_bytes};
-ghost use Rattle.feast_base.specs.Outside.{stock, told};
+ghost use Rattle.feast_base.specs.Outside.{shelf_state, sink_state};
 ghost use Rattle.feast_run.specs.Ending.{Ends, PutWith};
 ghost use Rattle.feast_run.specs.Forms.{form_of};
 ghost use Rattle.feast_run.specs.Outputs.{IsWritable, output_text};
@@ -9,7 +9,7 @@ ghost use Rattle.grid_print.specs.Writing.{Writes};
 
 use crate::Status;
 use crate::output::Output;
-use crate::said::{Said, said_words};
+use crate::reply::{Reply, reply_to_words};
 use feast_base::{Gate, NoMemory, Shelf, Sink, SinkFailed};
 use grid_print::{WriteFault, write_report};
 use std::alloc::Global;
@@ -18,7 +18,7 @@ use std::thread::Threads;
 /// Puts a text in one piece, unless it is empty.
 fn put_text<K: Sink>(sink: &mut K, text: &[u8]) -> Result<(), WriteFault>
     requires { K.faults sink.old < 2 ^ 64 - 1 }
-    ensures { Writes (told K.written K.faults K.may_fail sink.old) (told K.written K.faults K.may_fail sink.new) text.now result }
+    ensures { Writes (sink_state K.written K.faults K.may_fail sink.old) (sink_state K.written K.faults K.may_fail sink.new) text.now result }
 {
     if text.is_empty() {
         return Ok(());
@@ -33,30 +33,30 @@ fn put_text<K: Sink>(sink: &mut K, text: &[u8]) -> Result<(), WriteFault>
 fn write<K: Sink>(alloc: Global, sink: &mut K, output: &Output) -> Result<(), WriteFault>
     requires room { K.faults sink.old < 2 ^ 64 - 1 }
     requires writable { IsWritable output.now }
-    ensures { Writes (told K.written K.faults K.may_fail sink.old) (told K.written K.faults K.may_fail sink.new) (output_text output.now) result }
+    ensures { Writes (sink_state K.written K.faults K.may_fail sink.old) (sink_state K.written K.faults K.may_fail sink.new) (output_text output.now) result }
 {
     match output {
         Output::Text(text) => put_text(sink, text.as_slice()),
-        Output::Report(left) => {
+        Output::Report(finished) => {
             write_report(
                 alloc,
-                &left.grid,
-                &left.journal,
-                left.ready.elements.names(),
+                &finished.grid,
+                &finished.journal,
+                finished.ready.elements.names(),
                 sink,
             )
         }
     }
 }
 
-/// Writes what is said, and answers its status if it is put whole.
-fn put<K: Sink>(alloc: Global, sink: &mut K, said: &Said) -> Status
+/// Writes a reply, and answers its status if it is put whole.
+fn put<K: Sink>(alloc: Global, sink: &mut K, reply: &Reply) -> Status
     requires room { K.faults sink.old < 2 ^ 64 - 1 }
-    requires writable { IsWritable said.now.output }
-    ensures { PutWith said.now.status (output_text said.now.output) (told K.written K.faults K.may_fail sink.old) (told K.written K.faults K.may_fail sink.new) result }
+    requires writable { IsWritable reply.now.output }
+    ensures { PutWith reply.now.status (output_text reply.now.output) (sink_state K.written K.faults K.may_fail sink.old) (sink_state K.written K.faults K.may_fail sink.new) result }
 {
-    match write(alloc, sink, &said.output) {
-        Ok(()) => said.status,
+    match write(alloc, sink, &reply.output) {
+        Ok(()) => reply.status,
         Err(WriteFault::Sink) => Status::SinkFault,
         Err(WriteFault::NoMemory) => Status::NoMemory,
     }
@@ -74,11 +74,11 @@ fn call<R: Threads + Sync, F: Shelf, K: Sink, G: Gate>(
     requires { K.faults sink.old < 2 ^ 64 - 1 }
     ensures files { F.files shelf.new ≡ F.files shelf.old }
     ensures ends { Ends (form_of (map string_bytes words.now))
-        (stock F.files F.failed F.may_fail shelf.old) (stock F.files F.failed F.may_fail shelf.new)
-        (told K.written K.faults K.may_fail sink.old) (told K.written K.faults K.may_fail sink.new) result }
+        (shelf_state F.files F.failed F.may_fail shelf.old) (shelf_state F.files F.failed F.may_fail shelf.new)
+        (sink_state K.written K.faults K.may_fail sink.old) (sink_state K.written K.faults K.may_fail sink.new) result }
 {
-    match said_words(rt, alloc, shelf, words, gate) {
-        Ok(said) => put(alloc, sink, &said),
+    match reply_to_words(rt, alloc, shelf, words, gate) {
+        Ok(reply) => put(alloc, sink, &reply),
         Err(NoMemory) => Status::NoMemory,
     }
 }
@@ -145,19 +145,19 @@ pub fn feast<R: Threads + Sync, F: Shelf, K: Sink, G: Gate>(
     requires { K.faults sink.old < 2 ^ 64 - 1 }
     ensures files { F.files shelf.new ≡ F.files shelf.old }
     ensures ends { Ends (form_of (map string_bytes words.now))
-        (stock F.files F.failed F.may_fail shelf.old) (stock F.files F.failed F.may_fail shelf.new)
-        (told K.written K.faults K.may_fail sink.old) (told K.written K.faults K.may_fail sink.new) result }
-    ensures headline { Headline (form_of (map string_bytes words.now)) (stock F.files F.failed F.may_fail shelf.old)
-        (told K.written K.faults K.may_fail sink.old) (told K.written K.faults K.may_fail sink.new) result }
+        (shelf_state F.files F.failed F.may_fail shelf.old) (shelf_state F.files F.failed F.may_fail shelf.new)
+        (sink_state K.written K.faults K.may_fail sink.old) (sink_state K.written K.faults K.may_fail sink.new) result }
+    ensures headline { Headline (form_of (map string_bytes words.now)) (shelf_state F.files F.failed F.may_fail shelf.old)
+        (sink_state K.written K.faults K.may_fail sink.old) (sink_state K.written K.faults K.may_fail sink.new) result }
     ensures usage { UsageExactly (form_of (map string_bytes words.now)) result }
     ensures exactly { Exactly (form_of (map string_bytes words.now))
-        (stock F.files F.failed F.may_fail shelf.old) (stock F.files F.failed F.may_fail shelf.new)
-        (told K.written K.faults K.may_fail sink.old) (told K.written K.faults K.may_fail sink.new) result }
+        (shelf_state F.files F.failed F.may_fail shelf.old) (shelf_state F.files F.failed F.may_fail shelf.new)
+        (sink_state K.written K.faults K.may_fail sink.old) (sink_state K.written K.faults K.may_fail sink.new) result }
     ensures noted { Noted (form_of (map string_bytes words.now))
-        (stock F.files F.failed F.may_fail shelf.old) (stock F.files F.failed F.may_fail shelf.new) result }
+        (shelf_state F.files F.failed F.may_fail shelf.old) (shelf_state F.files F.failed F.may_fail shelf.new) result }
     ensures complete { Complete (form_of (map string_bytes words.now))
-        (stock F.files F.failed F.may_fail shelf.old) (stock F.files F.failed F.may_fail shelf.new)
-        (told K.written K.faults K.may_fail sink.old) (told K.written K.faults K.may_fail sink.new) result }
+        (shelf_state F.files F.failed F.may_fail shelf.old) (shelf_state F.files F.failed F.may_fail shelf.new)
+        (sink_state K.written K.faults K.may_fail sink.old) (sink_state K.written K.faults K.may_fail sink.new) result }
 {
     call(rt, alloc, words, shelf, sink, gate)
 }

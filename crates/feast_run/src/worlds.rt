@@ -1,12 +1,12 @@
-//! The stages of a world: its text, its elements, and the names of its atoms.
+//! The stages of a world: its text, its elements, the names of its atoms, and its map.
 ghost use Rattle.std.specs.Prelude.{◌≡◌, ◌≤◌, IfOk, length, map, string_bytes};
 ghost use Rattle.code_file.specs.Form.{IsSayable};
-ghost use Rattle.feast_base.specs.Outside.{stock};
-ghost use Rattle.feast_run.specs.Faults.{IsStop, IsWorldStop};
+ghost use Rattle.feast_base.specs.Outside.{shelf_state};
+ghost use Rattle.feast_run.specs.Faults.{IsHalt, IsWorldHalt};
 ghost use Rattle.feast_run.specs.Forms.{most_files};
 ghost use Rattle.feast_run.specs.CodeFiles.{codes_from, ready_packed};
 ghost use Rattle.feast_run.specs.Elements.{code_elements, source_elements};
-ghost use Rattle.feast_run.specs.Outcomes.{decides};
+ghost use Rattle.feast_run.specs.Halting.{decides};
 ghost use Rattle.feast_run.specs.Stages.{draft_of, named_by, ready, set_of, with_elements, world_refused};
 ghost use Rattle.feast_run.specs.Tellings.{Moves, Tells};
 ghost use Rattle.feast_run.specs.Values.{IsReady, ready_value};
@@ -19,36 +19,39 @@ ghost use Rattle.world_text.specs.Values.{world_value};
 use crate::code_files::load_codes;
 use crate::element_files::load_set;
 use crate::elements::Elements;
+use crate::halt::{Halt, Input, Refused};
 use crate::loading::{WORLD_LIMIT, at_line, load_file};
-use crate::stop::{Input, Refused, Stop};
 use code_file::CodeSet;
 use element_set::ElementSet;
 use feast_base::{Name, Shelf};
 use std::alloc::Global;
+use tile_map::Map;
+use world_runs::map_of;
 use world_text::{RawWorld, World, WorldFault, name, read};
 
-/// A world, and the elements of its atoms.
+/// A world, its map, and the elements of its atoms.
 #[derive(Drop)]
 pub struct Ready {
     pub world: World,
+    pub map: Map,
     pub elements: Elements,
 }
 
 /// The refusal of a world whose file has this word.
-fn refused<'a>(word: &'a str, code: u8, line: u64) -> Stop<'a>
+fn refused<'a>(word: &'a str, code: u8, line: u64) -> Halt<'a>
     requires { Coded code }
-    ensures { IsStop (world_refused word.now (code, line)) result }
+    ensures { IsHalt (world_refused word.now (code, line)) result }
 {
-    Stop::Refused(Refused {
+    Halt::Refused(Refused {
         input: Input::World,
         word,
         refusal: at_line(code, line, 0),
     })
 }
 
-/// The stop at a fault of a world.
-fn world_stop<'a>(word: &'a str, fault: WorldFault) -> Stop<'a>
-    ensures { IsWorldStop word.now (fault_of fault) result }
+/// The halt at a fault of a world.
+fn world_halt<'a>(word: &'a str, fault: WorldFault) -> Halt<'a>
+    ensures { IsWorldHalt word.now (fault_of fault) result }
 {
     match fault {
         WorldFault::BadHeader(line) => refused(word, 70, line),
@@ -58,7 +61,7 @@ fn world_stop<'a>(word: &'a str, fault: WorldFault) -> Stop<'a>
         WorldFault::SiteTaken(line) => refused(word, 74, line),
         WorldFault::TooManyAttempts(line) => refused(word, 75, line),
         WorldFault::MissingLine(line) => refused(word, 76, line),
-        WorldFault::NoMemory => Stop::NoMemory,
+        WorldFault::NoMemory => Halt::NoMemory,
     }
 }
 
@@ -67,15 +70,15 @@ fn load_draft<'a, F: Shelf>(
     alloc: Global,
     shelf: &mut F,
     word: &'a str,
-) -> Result<RawWorld, Stop<'a>>
+) -> Result<RawWorld, Halt<'a>>
     ensures files { F.files shelf.new ≡ F.files shelf.old }
-    ensures moves { Moves (stock F.files F.failed F.may_fail shelf.old) (stock F.files F.failed F.may_fail shelf.new) result }
+    ensures moves { Moves (shelf_state F.files F.failed F.may_fail shelf.old) (shelf_state F.files F.failed F.may_fail shelf.new) result }
     ensures tells { Tells (λ d. d) (draft_of (F.files shelf.old) word.now) result }
 {
     let bytes = load_file(alloc, shelf, word, WORLD_LIMIT)?;
     match read(alloc, bytes.as_slice()) {
         Ok(draft) => Ok(draft),
-        Err(fault) => Err(world_stop(word, fault)),
+        Err(fault) => Err(world_halt(word, fault)),
     }
 }
 
@@ -85,14 +88,14 @@ fn named<'a>(
     word: &'a str,
     draft: RawWorld,
     names: &[Name],
-) -> Result<World, Stop<'a>>
+) -> Result<World, Halt<'a>>
     requires { length names.now ≤ 65535 }
     ensures tells { Tells world_value (decides (world_refused word.now) (named names.now draft)) result }
     ensures named { IfOk result (λ w. IsNamed names.now (world_value w)) }
 {
     match name(alloc, draft, names) {
         Ok(world) => Ok(world),
-        Err(fault) => Err(world_stop(word, fault)),
+        Err(fault) => Err(world_halt(word, fault)),
     }
 }
 
@@ -102,13 +105,18 @@ fn with_set<'a>(
     word: &'a str,
     draft: RawWorld,
     set: ElementSet,
-) -> Result<Ready, Stop<'a>>
+) -> Result<Ready, Halt<'a>>
     ensures tells { Tells ready_value (named_by word.now draft (source_elements (set_value set))) result }
     ensures ready { IfOk result IsReady }
 {
     let world = named(alloc, word, draft, set.names())?;
+    let map = map_of(alloc, &world)?;
     let elements = Elements::Sources(set);
-    Ok(Ready { world, elements })
+    Ok(Ready {
+        world,
+        map,
+        elements,
+    })
 }
 
 /// A world with the elements of a code file.
@@ -117,14 +125,19 @@ fn with_codes<'a>(
     word: &'a str,
     draft: RawWorld,
     set: CodeSet,
-) -> Result<Ready, Stop<'a>>
+) -> Result<Ready, Halt<'a>>
     requires { IsSayable set }
     ensures tells { Tells ready_value (named_by word.now draft (code_elements set)) result }
     ensures ready { IfOk result IsReady }
 {
     let world = named(alloc, word, draft, set.names())?;
+    let map = map_of(alloc, &world)?;
     let elements = Elements::Codes(set);
-    Ok(Ready { world, elements })
+    Ok(Ready {
+        world,
+        map,
+        elements,
+    })
 }
 
 /// Loads the element files of a world.
@@ -134,10 +147,10 @@ fn with_element_files<'a, F: Shelf>(
     word: &'a str,
     words: &'a [String],
     draft: RawWorld,
-) -> Result<Ready, Stop<'a>>
+) -> Result<Ready, Halt<'a>>
     requires { length words.now ≤ most_files }
     ensures files { F.files shelf.new ≡ F.files shelf.old }
-    ensures moves { Moves (stock F.files F.failed F.may_fail shelf.old) (stock F.files F.failed F.may_fail shelf.new) result }
+    ensures moves { Moves (shelf_state F.files F.failed F.may_fail shelf.old) (shelf_state F.files F.failed F.may_fail shelf.new) result }
     ensures tells { Tells ready_value (with_elements source_elements (set_of (F.files shelf.old) (map string_bytes words.now)) word.now draft) result }
     ensures ready { IfOk result IsReady }
 {
@@ -152,9 +165,9 @@ fn with_code_file<'a, F: Shelf>(
     word: &'a str,
     code: &'a str,
     draft: RawWorld,
-) -> Result<Ready, Stop<'a>>
+) -> Result<Ready, Halt<'a>>
     ensures files { F.files shelf.new ≡ F.files shelf.old }
-    ensures moves { Moves (stock F.files F.failed F.may_fail shelf.old) (stock F.files F.failed F.may_fail shelf.new) result }
+    ensures moves { Moves (shelf_state F.files F.failed F.may_fail shelf.old) (shelf_state F.files F.failed F.may_fail shelf.new) result }
     ensures tells { Tells ready_value (with_elements code_elements (codes_from (F.files shelf.old) code.now) word.now draft) result }
     ensures ready { IfOk result IsReady }
 {
@@ -168,10 +181,10 @@ pub fn make_ready<'a, F: Shelf>(
     shelf: &mut F,
     word: &'a str,
     words: &'a [String],
-) -> Result<Ready, Stop<'a>>
+) -> Result<Ready, Halt<'a>>
     requires { length words.now ≤ most_files }
     ensures files { F.files shelf.new ≡ F.files shelf.old }
-    ensures moves { Moves (stock F.files F.failed F.may_fail shelf.old) (stock F.files F.failed F.may_fail shelf.new) result }
+    ensures moves { Moves (shelf_state F.files F.failed F.may_fail shelf.old) (shelf_state F.files F.failed F.may_fail shelf.new) result }
     ensures tells { Tells ready_value (ready (F.files shelf.old) word.now (map string_bytes words.now)) result }
     ensures ready { IfOk result IsReady }
 {
@@ -185,9 +198,9 @@ pub fn make_packed<'a, F: Shelf>(
     shelf: &mut F,
     word: &'a str,
     code: &'a str,
-) -> Result<Ready, Stop<'a>>
+) -> Result<Ready, Halt<'a>>
     ensures files { F.files shelf.new ≡ F.files shelf.old }
-    ensures moves { Moves (stock F.files F.failed F.may_fail shelf.old) (stock F.files F.failed F.may_fail shelf.new) result }
+    ensures moves { Moves (shelf_state F.files F.failed F.may_fail shelf.old) (shelf_state F.files F.failed F.may_fail shelf.new) result }
     ensures tells { Tells ready_value (ready_packed (F.files shelf.old) word.now code.now) result }
     ensures ready { IfOk result IsReady }
 {

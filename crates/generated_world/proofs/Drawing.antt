@@ -9,7 +9,7 @@ use Rattle.std.proofs.lemmas.List.Elements.{All-append, All-cons, All-nil}
 use Rattle.list_laws.proofs.Ranges.{range_cut}
 use Rattle.draw_stream.specs.Words.{tile_word}
 use Rattle.tile_map.specs.Plane.{is_live, site}
-use Rattle.world_grid.specs.Worlds.{IsPlaced}
+use Rattle.world_runs.specs.Worlds.{IsPlaced}
 use Rattle.generated_world.specs.Generated.{drawn_atoms, plane, placed_at, put_by}
 
 pub drawn_none : (seed : ℕ) → drawn_atoms seed (2 * 0) ≡ []

@@ -10,9 +10,9 @@ use Rattle.draw_stream.specs.Plans.{attempts, count_of, seeded}
 use Rattle.draw_stream.specs.Words.{tile_word}
 use Rattle.draw_stream.proofs.Plans.{length_seeded_lists, seeded_lists_at}
 use Rattle.tile_map.specs.Plane.{IsMap, is_on}
-use Rattle.world_grid.specs.Worlds.{IsAttempt, IsWorld}
+use Rattle.world_runs.specs.Worlds.{IsAttempt, IsWorld}
 use Rattle.world_text.specs.Named.{WorldValue}
-use Rattle.generated_world.specs.Generated.{generated, plane, seed_behind}
+use Rattle.generated_world.specs.Generated.{generated, plane}
 use Rattle.generated_world.proofs.Drawing.{drawn_live}
 
 plane_fits : IsMap plane
@@ -42,7 +42,7 @@ generated_fits number = record {
   map = plane_fits;
   lists = length_seeded_lists number 500 plane.off 256;
   attempts = attempts_fit number;
-  atoms = drawn_live (seed_behind number 2) 4096 (omega arith);
+  atoms = drawn_live (stream_seed number 2) 4096 (omega arith);
 }
 
 pub fits_by : (number : ℕ) (w : WorldValue) → w ≡ generated number → IsWorld w

@@ -1,2 +1,11 @@
+pub mod Accepted
+mod Coding
 mod Drawing
 pub mod Fits
+mod Found
+mod Lexing
+mod Naming
+mod Parsing
+mod Reader
+mod Trees
+mod Typing

@@ -1,6 +1,7 @@
 -- The world that a number gives: 4 by 4 tiles of 16 by 16 sites, all of them on.
-use Rattle.std.specs.Prelude.{ℕ, zero, suc, ◌+◌, ◌*◌, ◌/◌, ◌%◌, ◌^◌, List, [], ◌∷◌, flat_map}
+use Rattle.std.specs.Prelude.{ℕ, zero, suc, ◌*◌, ◌/◌, ◌%◌, List, [], ◌∷◌, flat_map}
 use Rattle.std.specs.List.{range_with_len}
+use Rattle.draw_stream.specs.Attempts.{stream_seed}
 use Rattle.draw_stream.specs.Plans.{seeded}
 use Rattle.draw_stream.specs.Words.{tile_word}
 use Rattle.tile_map.specs.Plane.{MapValue, whole_plane}
@@ -9,10 +10,6 @@ use Rattle.world_text.specs.declared.world.Placed.{Placed}
 
 abbrev pub plane : MapValue
 plane = whole_plane 4 4 16 16
-
--- a seed this far after a number, modulo 2 ^ 64
-abbrev pub seed_behind : ℕ → ℕ → ℕ
-seed_behind number k = (number + k) % 2 ^ 64
 
 -- the atom of this type, with state 0, on the site of a place in row order
 abbrev pub placed_at : ℕ → ℕ → Placed
@@ -36,6 +33,6 @@ abbrev pub generated : ℕ → WorldValue
 generated number = record {
   plane = plane;
   plan = seeded number 500 plane.off (16 * 16);
-  atoms = drawn_atoms (seed_behind number 2) 4096;
-  order = drawn (seed_behind number 1);
+  atoms = drawn_atoms (stream_seed number 2) 4096;
+  order = drawn (stream_seed number 1);
 }

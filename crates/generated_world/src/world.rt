@@ -1,8 +1,9 @@
 //! The world that a number gives.
 ghost use Rattle.std.specs.Prelude.{◌≡◌, ◌+◌, ◌*◌, ◌<◌, ◌++◌, IfOk, OnOk};
+ghost use Rattle.draw_stream.specs.Attempts.{stream_seed};
 ghost use Rattle.draw_stream.specs.Words.{tile_state};
-ghost use Rattle.generated_world.specs.Generated.{drawn_atoms, generated, placed_at, put_by, seed_behind};
-ghost use Rattle.world_grid.specs.Worlds.{IsWorld};
+ghost use Rattle.generated_world.specs.Generated.{drawn_atoms, generated, placed_at, put_by};
+ghost use Rattle.world_runs.specs.Worlds.{IsWorld};
 ghost use Rattle.world_text.specs.Values.{world_value};
 
 use bit_field::Atom;

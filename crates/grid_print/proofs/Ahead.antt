@@ -1,12 +1,13 @@
 -- Events that owe what a run's do come one behind another, as a report must have them.
-use Rattle.std.proofs.Common.{ℕ, zero, suc, ◌≡◌, ◌+◌, ◌*◌, ◌<◌, ◌≤◌, ◌==◌, Bool, true, false, ◌&&◌, not, List, [], ◌∷◌, ◌++◌, All, cond, drop, get_or, length, replicate, sum_by, Option, Some, None, refl, ap, sym, subst, ◌∙◌, arith, inl, inr, ⊎_elim, ◌⊎◌, if◌then◌else◌}
+use Rattle.std.proofs.Common.{ℕ, zero, suc, ◌≡◌, ◌+◌, ◌*◌, ◌<◌, ◌≤◌, ◌==◌, Bool, true, false, ◌&&◌, not, List, [], ◌∷◌, ◌++◌, All, cond, drop, get_or, length, replicate, sum_by, Option, Some, None, refl, ap, sym, subst, ◌∙◌, arith, inl, inr, ⊎_elim, ◌⊎◌, if◌then◌else◌, eq-eqb, lt-ltb}
 use Rattle.std.proofs.Math.ListN.{set}
-use Rattle.std.specs.Prelude.{AllPairs, count_by, nat_le, nat_lt, slice_get}
+use Rattle.std.specs.Prelude.{AllPairs, count_by, nat_le, slice_get}
 use Rattle.std.proofs.lemmas.Bool.{cases_lt}
 use Rattle.std.proofs.lemmas.Bool.Decides.{eqb_tells}
 use Rattle.std.proofs.lemmas.List.{get_or-set_other, get_or-set_same, set_past}
 use Rattle.std.proofs.lemmas.List.Sums.{sum_by-cons}
-use Rattle.list_laws.proofs.Members.{In, InOrder, get_in}
+use Rattle.list_laws.proofs.Counts.{count_some}
+use Rattle.list_laws.proofs.Members.{In, InOrder, get_in, in_contains}
 use Rattle.list_laws.proofs.Tests.{together}
 use Rattle.cell_grid.specs.declared.record.Record.{Record}
 use Rattle.cell_grid.specs.Records.{Precedes}
@@ -14,20 +15,13 @@ use Rattle.draw_stream.specs.declared.attempt.Attempt.{Attempt}
 use Rattle.draw_stream.specs.Plans.{PlanValue, attempts}
 use Rattle.event_journal.specs.Accounts.{IsAccounted, IsEventOf, events_at}
 use Rattle.event_journal.specs.Logs.{is_before}
-use Rattle.event_journal.specs.Reading.{Said, Wants, first_of, is_at_home, is_attempt, is_behind, not_later, place_fault, put_record, record_fault}
+use Rattle.event_journal.specs.Reading.{Said, Wants, first_of, is_at_home, is_attempt, is_behind, not_later, attempt_fault, put_record, record_fault}
 use Rattle.event_journal.specs.declared.abandoned.Abandoned.{Abandoned}
 use Rattle.event_journal.specs.declared.fault.LineFault.{LineFault}
-use Rattle.event_journal.proofs.Journals.{before_of, contains_of}
+use Rattle.event_journal.proofs.Journals.{before_of}
 use Rattle.tile_map.specs.Plane.{MapValue, in_plane, owner_of, site, site_in}
 use Rattle.grid_print.proofs.Bounds.{IsOfPlan, event_of_plan}
-use Rattle.grid_print.proofs.Counting.{some_pass}
-use Rattle.grid_print.specs.Again.{IsPlanOf}
-
-lt_true : (a b : ℕ) → a < b → nat_lt a b ≡ true
-lt_true a b h = grind arith
-
-same_true : (a b : ℕ) → a ≡ b → (a == b) ≡ true
-same_true a b h = grind arith
+use Rattle.grid_print.specs.Again.{IsDrawablePlan}
 
 -- an event that may come behind another: in the order of a journal, and of its tile with a greater attempt
 abbrev pub Comes : Record → Record → Type 0
@@ -62,9 +56,9 @@ first_comes m plan r rs is s i = (before_of r s precedes, later)
     not_same tile attempt =
         let p = λ (u : Record). u.tile == r.tile && u.attempt == r.attempt in
         let e = sum_by-cons (λ (u : Record). cond (p u) 1 0) r rs in
-        let here : p r ≡ true = together _ _ (same_true r.tile r.tile refl) (same_true r.attempt r.attempt refl) in
+        let here : p r ≡ true = together _ _ (eq-eqb r.tile r.tile refl) (eq-eqb r.attempt r.attempt refl) in
         let one : ◌≡◌ {A = ℕ} (cond (p r) 1 0) 1 = ap (λ b. cond b 1 0) here in
-        let there = some_pass p rs s i (together _ _ (same_true s.tile r.tile (sym tile)) (same_true s.attempt r.attempt (sym attempt))) in
+        let there = count_some p rs s i (together _ _ (eq-eqb s.tile r.tile (sym tile)) (eq-eqb s.attempt r.attempt (sym attempt))) in
         let once = is.once r.tile r.attempt (is.there r (inl refl)) in
         omega (arith, e, one, there, once)
 
@@ -86,12 +80,12 @@ tail_comes m plan [] is = tt
 tail_comes m plan (r ∷ rs) is = (first_comes m plan r rs is, tail_comes m plan rs (tail_more m plan r rs is))
 
 -- each two events of a journal that is accounted for
-pub events_come : (m : MapValue) (plan : PlanValue) (records : List Record) (abandoned : List Abandoned) → IsPlanOf m plan → IsAccounted m plan records abandoned → InOrder Comes records
+pub events_come : (m : MapValue) (plan : PlanValue) (records : List Record) (abandoned : List Abandoned) → IsDrawablePlan m plan → IsAccounted m plan records abandoned → InOrder Comes records
 events_come m plan records abandoned p accounted = tail_comes m plan records (record {
   once = λ t i lt. let once = accounted.once t i lt in omega (arith, once);
   there = λ r i. let c = get_in records r r i in let e = event_of_plan m plan p records abandoned accounted (get_or records c.0 r) (accounted.events c.0 r c.1) in subst (λ (z : Record). z.attempt < length (attempts plan z.tile)) c.2 e.attempt;
   order = accounted.order;
-  rising = λ r s i j. accounted.rising r s (contains_of records r i) (contains_of records s j);
+  rising = λ r s i j. accounted.rising r s (in_contains records r i) (in_contains records s j);
 })
 
 -- where the reader of a report stands before some events: each may come behind the one before, and behind its tile's last
@@ -145,9 +139,9 @@ in_place m plan r e is some =
     let y : s.y ≡ r.y = ap (λ z. z.y) (sym e.2) in
     record {
       some = some;
-      home = together _ _ (together _ _ (lt_true _ _ is.column) (lt_true _ _ is.row)) (same_true _ _ is.owner);
+      home = together _ _ (together _ _ (lt-ltb _ _ is.column) (lt-ltb _ _ is.row)) (eq-eqb _ _ is.owner);
       attempt = ap (λ o. is_attempt m o r) (first_at (attempts plan r.tile) r.attempt a e.1)
-          ∙ together _ _ (lt_true _ _ is.centre) (together _ _ (together _ _ (same_true _ _ x) (same_true _ _ y)) (same_true _ _ (sym e.3)));
+          ∙ together _ _ (lt-ltb _ _ is.centre) (together _ _ (together _ _ (eq-eqb _ _ x) (eq-eqb _ _ y)) (eq-eqb _ _ (sym e.3)));
     }
 
 behind_true : (before : Option Record) (lasts : List (Option (ℕ × ℕ))) (r : Record) (rs : List Record) → 1 ≤ r.stamp → IsAhead before lasts (r ∷ rs) → is_behind before r ≡ true
@@ -159,7 +153,7 @@ behind_true (Some p) lasts r rs some is = is.behind p refl r (inl refl)
 
 none_later : (o : Option (ℕ × ℕ)) (attempt : ℕ) → ((q : ℕ × ℕ) → o ≡ Some q → q.1 < attempt) → not_later o attempt ≡ None
 none_later None attempt less = refl
-none_later (Some q) attempt less = rw (lt_true q.1 attempt (less q refl)) refl
+none_later (Some q) attempt less = rw (lt-ltb q.1 attempt (less q refl)) refl
 
 -- the line of such an event has no fault
 pub no_fault : (m : MapValue) (lists : List (List Attempt)) (n : ℕ) (before : Option Record) (lasts : List (Option (ℕ × ℕ))) (r : Record) (rs : List Record) → IsInPlace m lists r → IsAhead before lasts (r ∷ rs) →

@@ -6,6 +6,7 @@ use Rattle.std.proofs.lemmas.Bool.{cases_lt}
 use Rattle.std.proofs.lemmas.List.Sums.{get_or-le-sum_by}
 use Rattle.std.proofs.lemmas.Nat.{mul-add-lt}
 use Rattle.std.proofs.lemmas.Option.{get_or_from_slice_get, slice_get_within}
+use Rattle.tile_map.proofs.Numbers.{size_low, tiles_few}
 use Rattle.list_laws.proofs.Members.{In, filter_in, in_get}
 use Rattle.list_laws.proofs.Tests.{together}
 use Rattle.cell_grid.specs.declared.record.Record.{Record}
@@ -18,17 +19,8 @@ use Rattle.tile_map.proofs.PlaneLaws.{needs, owner-one, positions, site_in_low}
 use Rattle.tile_map.proofs.Pairs.{pairs_bounded}
 use Rattle.grid_print.proofs.Counting.{HasKey, few_keyed, key_low, key_there, keys_count, keys_from}
 use Rattle.grid_print.proofs.Stamps.{stamps_low}
-use Rattle.grid_print.specs.Again.{IsDrawable, IsPlanOf}
+use Rattle.grid_print.specs.Again.{IsDrawable, IsDrawablePlan}
 use Rattle.grid_print.specs.OneReport.{AreAbandonedWords, AreRecordWords, IsWord}
-
-size_low : (n size : ℕ) → n ≤ 8 → size ≤ 64 → n * size ≤ 512
-size_low n size a b = grind arith
-
-pub tiles_low : (m : MapValue) → IsMap m → tiles_of m ≤ 64
-tiles_low m k = low m.tx m.ty k.sizes.tx_high k.sizes.ty_high
-  where
-    low : (a b : ℕ) → a ≤ 8 → b ≤ 8 → a * b ≤ 64
-    low a b p q = grind arith
 
 -- an attempt of the plan's, and where its tile has its centre
 pub record IsOfPlan (m : MapValue) (plan : PlanValue) (t i x y : ℕ) (a : Attempt) : Type 0 where
@@ -42,14 +34,14 @@ pub record IsOfPlan (m : MapValue) (plan : PlanValue) (t i x y : ℕ) (a : Attem
   pub owner : owner_of m (site x y) ≡ t
 
 -- a tile that has an attempt is one of the plane's
-tile_there : (m : MapValue) (plan : PlanValue) (t i : ℕ) → IsPlanOf m plan → i < length (attempts plan t) → t < tiles_of m
+tile_there : (m : MapValue) (plan : PlanValue) (t i : ℕ) → IsDrawablePlan m plan → i < length (attempts plan t) → t < tiles_of m
 tile_there m plan t i p lt = elim (cases_lt t (length plan.lists)) [
   | inl inside ↦ (let e = p.lists in omega (arith, e, inside))
   | inr past ↦ absurd (let e = ap length (get_or-eq_default plan.lists [] {n = t} past) in omega (arith, e, lt))
 ]
 
 -- there are few attempts
-pub attempt_low : (m : MapValue) (plan : PlanValue) (t i : ℕ) → IsPlanOf m plan → i < length (attempts plan t) → i < 1000000
+pub attempt_low : (m : MapValue) (plan : PlanValue) (t i : ℕ) → IsDrawablePlan m plan → i < length (attempts plan t) → i < 1000000
 attempt_low m plan t i p lt =
     let tile = tile_there m plan t i p lt in
     let e = p.lists in
@@ -77,7 +69,7 @@ column_there m t k valid =
     flip : (a b : ℕ) → a * b ≡ b * a
     flip a b = grind arith
 
-pub of_plan : (m : MapValue) (plan : PlanValue) (t i x y : ℕ) (a : Attempt) → IsPlanOf m plan → slice_get (attempts plan t) i ≡ Some a → site x y ≡ site_in m t a.centre → IsOfPlan m plan t i x y a
+pub of_plan : (m : MapValue) (plan : PlanValue) (t i x y : ℕ) (a : Attempt) → IsDrawablePlan m plan → slice_get (attempts plan t) i ≡ Some a → site x y ≡ site_in m t a.centre → IsOfPlan m plan t i x y a
 of_plan m plan t i x y a p is at =
     let inside = slice_get_within (attempts plan t) i a is in
     let tile = tile_there m plan t i p inside in
@@ -129,11 +121,11 @@ abandoned_words a p = (
   p.holder_attempt,
 )
 
-module _ (m : MapValue) (plan : PlanValue) (p : IsPlanOf m plan) where
+module _ (m : MapValue) (plan : PlanValue) (p : IsDrawablePlan m plan) where
   -- the sites of the plane are few
   site_small : (t i x y : ℕ) (a : Attempt) → IsOfPlan m plan t i x y a → (t < 2 ^ 32) × (x < 2 ^ 32) × (y < 2 ^ 32)
   site_small t i x y a is =
-      let tiles = tiles_low m p.map in
+      let tiles = tiles_few m p.map in
       let wide = size_low m.tx m.w p.map.sizes.tx_high p.map.sizes.w_high in
       let high = size_low m.ty m.h p.map.sizes.ty_high p.map.sizes.h_high in
       let tile = is.tile in
@@ -211,7 +203,7 @@ module _ (m : MapValue) (plan : PlanValue) (p : IsPlanOf m plan) where
     number_low t i e n =
         let inside = slice_get_within (attempts plan t) i n.0 n.1 in
         let tile = tile_there m plan t i p inside in
-        let tiles = tiles_low m p.map in
+        let tiles = tiles_few m p.map in
         let few = attempt_low m plan t i p inside in
         (omega (arith, tile, tiles), omega (arith, few))
 

@@ -1,19 +1,13 @@
 -- Entries that have keys, no two of them the same, are no more than there are keys.
-use Rattle.std.proofs.Common.{ℕ, zero, suc, ◌≡◌, ◌+◌, ◌-◌, ◌<◌, ◌≤◌, Bool, true, false, List, [], ◌∷◌, ◌++◌, All, cond, length, length-append, get_or, map, sum_by, refl, ap, sym, subst, ◌∙◌, arith, inl, inr, ⊎_elim}
+use Rattle.std.proofs.Common.{ℕ, zero, suc, ◌≡◌, ◌+◌, ◌-◌, ◌<◌, ◌≤◌, Bool, true, false, List, [], ◌∷◌, ◌++◌, All, cond, length, length-append, get_or, map, sum_by, refl, ap, subst, arith, inl, inr, ⊎_elim}
 use Rattle.std.specs.Prelude.{count_by}
 use Rattle.std.specs.List.{range_with_len}
 use Rattle.std.proofs.lemmas.List.Elements.{All-head, All-nil, All-cons, All-tail}
 use Rattle.std.proofs.lemmas.List.FromFn.{length-map-range_with_len}
 use Rattle.std.proofs.lemmas.List.Sums.{sum_by-cons, sum_by-le}
+use Rattle.list_laws.proofs.Counts.{count_some}
 use Rattle.list_laws.proofs.Members.{In, in_either, in_left, in_map, in_range, in_right, map_in, range_in}
 use Rattle.draw_stream.specs.declared.attempt.Attempt.{Attempt}
-
--- where an element passes a test, some do
-pub some_pass : {A : Type 0} (p : A → Bool) (xs : List A) (x : A) → In x xs → p x ≡ true → 1 ≤ count_by p xs
-some_pass p [] x i h = absurd i
-some_pass p (y ∷ ys) x i h =
-    let first = sum_by-cons (λ z. cond (p z) 1 0) y ys in
-    ⊎_elim (λ e. let one : ◌≡◌ {A = ℕ} (cond (p y) 1 0) 1 = ap (λ b. cond b 1 0) (ap p (sym e) ∙ h) in omega (arith, first, one)) (λ j. omega (arith, first, some_pass p ys x j h)) i
 
 module _ {K A : Type 0} (is : K → A → Bool) where
   -- how many entries the keys have, key by key
@@ -37,7 +31,7 @@ module _ {K A : Type 0} (is : K → A → Bool) where
   tally_all keys [] all = omega arith
   tally_all keys (x ∷ xs) all =
       let k = All-head (HasKey keys) x xs all in
-      let here = some_pass (λ j. is j x) keys k.0 k.1 k.2 in
+      let here = count_some (λ j. is j x) keys k.0 k.1 k.2 in
       omega (arith, here, tally_more keys x xs, tally_all keys xs (All-tail (HasKey keys) x xs all))
 
   pub few_keyed : (keys : List K) (xs : List A) → All (HasKey keys) xs → All (λ k. count_by (is k) xs ≤ 1) keys → length xs ≤ length keys

@@ -11,12 +11,12 @@ use Rattle.cell_grid.specs.declared.record.Record.{Record}
 use Rattle.event_journal.specs.declared.abandoned.Abandoned.{Abandoned}
 use Rattle.event_journal.specs.Text.{abandoned_fields, abandoned_lines, count_fields, record_fields, record_lines}
 use Rattle.feast_base.specs.Digits.{hex}
-use Rattle.feast_base.specs.TypeNames.{is_type_name}
+use Rattle.feast_base.specs.TypeNames.{is_type_name, name_of}
 use Rattle.text_lines.specs.Fields.{hex_of}
 use Rattle.text_lines.specs.Printed.{IsLine, is_field}
 use Rattle.text_lines.proofs.Printed.{decimal_high, hex_hex, hex_high, name_high}
 use Rattle.grid_print.specs.OneReport.{AreAbandonedWords, AreRecordWords, AreTypeNames, IsWord}
-use Rattle.grid_print.specs.Report.{Shown, atom_fields, atom_lines, name_of, report_lines}
+use Rattle.grid_print.specs.Report.{Shown, atom_fields, atom_lines, report_lines}
 use Rattle.grid_print.proofs.Lists.{map_one, parts_one}
 
 -- an atom that is printed: its site, a name for its type, and the digits of its state

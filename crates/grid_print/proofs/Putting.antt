@@ -1,8 +1,8 @@
 -- Parts of a text that were put one after another.
-use Rattle.std.proofs.Common.{ℕ, ◌≡◌, ◌+◌, ◌-◌, List, [], ◌∷◌, ◌++◌, length, refl, sym, ap, subst, arith, ◌∙◌, Option, Some, None, append_assoc, length-append, Result, Ok, Err}
+use Rattle.std.proofs.Common.{ℕ, ◌≡◌, ◌+◌, ◌-◌, List, [], ◌++◌, length, refl, sym, ap, subst, arith, ◌∙◌, Option, Some, None, append_assoc, length-append, Result, Ok, Err}
 use Rattle.std.specs.Result.{IsErr}
 use Rattle.std.proofs.lemmas.List.{append-nil}
-use Rattle.feast_base.specs.Outside.{Grows, Told}
+use Rattle.feast_base.specs.Outside.{Grows, SinkState}
 use Rattle.feast_base.specs.Loading.{IsPut, IsCut}
 use Rattle.feast_base.specs.declared.sink.SinkFailed.{SinkFailed}
 use Rattle.grid_print.specs.Writing.{PutsAll}
@@ -15,17 +15,17 @@ grows_then : (a b c : Option (List ℕ)) (x y : List ℕ) → Grows a b x → Gr
 grows_then None b c x y p q = subst (λ o. Grows o c y) p q
 grows_then (Some w) b c x y p q = subst (λ o. Grows o c y) p q ∙ ap (λ z. Some z) (append_assoc w x y)
 
-pub put_none : (t : Told) → IsPut t t []
+pub put_none : (t : SinkState) → IsPut t t []
 put_none t = record { grows = grows_none t.written; same = refl; later = λ m h. subst t.may_fail (omega arith) h }
 
-pub put_then : (a b c : Told) (x y : List ℕ) → IsPut a b x → IsPut b c y → IsPut a c (x ++ y)
+pub put_then : (a b c : SinkState) (x y : List ℕ) → IsPut a b x → IsPut b c y → IsPut a c (x ++ y)
 put_then a b c x y p q = record {
   grows = grows_then a.written b.written c.written x y p.grows q.grows;
   same = q.same ∙ p.same;
   later = λ m h. subst a.may_fail (let e = length-append x y in omega (arith, e)) (p.later (length y + m) (q.later m h));
 }
 
-cut_then : (a b c : Told) (x t text : List ℕ) → text ≡ x ++ t → IsPut a b x → IsCut b c t → IsCut a c text
+cut_then : (a b c : SinkState) (x t text : List ℕ) → text ≡ x ++ t → IsPut a b x → IsCut b c t → IsCut a c text
 cut_then a b c x t text is p q = record {
   front = x ++ q.front;
   rest = q.rest;
@@ -39,7 +39,7 @@ cut_then a b c x t text is p q = record {
       subst a.may_fail k (p.later (m - length x) h);
 }
 
-cut_more : (a b : Told) (t more : List ℕ) → IsCut a b t → IsCut a b (t ++ more)
+cut_more : (a b : SinkState) (t more : List ℕ) → IsCut a b t → IsCut a b (t ++ more)
 cut_more a b t more q = record {
   front = q.front;
   rest = q.rest ++ more;
@@ -50,29 +50,25 @@ cut_more a b t more q = record {
 }
 
 -- a first part was put, and what is left of the text
-pub record IsUnderway (old new : Told) (text left : List ℕ) : Type 0 where
+pub record IsUnderway (old new : SinkState) (text left : List ℕ) : Type 0 where
   pub front : List ℕ
   pub split : text ≡ front ++ left
   pub put : IsPut old new front
 
-pub underway_none : (t : Told) (text : List ℕ) → IsUnderway t t text text
+pub underway_none : (t : SinkState) (text : List ℕ) → IsUnderway t t text text
 underway_none t text = record { front = []; split = refl; put = put_none t }
 
-pub underway_more : (a b c : Told) (text left piece rest : List ℕ) → IsUnderway a b text left → left ≡ piece ++ rest → IsPut b c piece → IsUnderway a c text rest
+pub underway_more : (a b c : SinkState) (text left piece rest : List ℕ) → IsUnderway a b text left → left ≡ piece ++ rest → IsPut b c piece → IsUnderway a c text rest
 underway_more a b c text left piece rest u is p = record {
   front = u.front ++ piece;
   split = u.split ∙ ap (λ z. u.front ++ z) is ∙ sym (append_assoc u.front piece rest);
   put = put_then a b c u.front piece u.put p;
 }
 
-pub underway_done : (a b : Told) (text left : List ℕ) → IsUnderway a b text left → left ≡ [] → IsPut a b text
+pub underway_done : (a b : SinkState) (text left : List ℕ) → IsUnderway a b text left → left ≡ [] → IsPut a b text
 underway_done a b text left u none = subst (λ z. IsPut a b z) (sym (u.split ∙ ap (λ z. u.front ++ z) none ∙ append-nil u.front)) u.put
 
 -- a piece that the sink cut
-pub underway_cut : {T : Type 0} (a b c : Told) (text left piece rest : List ℕ) (r : Result T SinkFailed) → IsErr r → IsUnderway a b text left → left ≡ piece ++ rest → IsCut b c piece → PutsAll a c text r
+pub underway_cut : {T : Type 0} (a b c : SinkState) (text left piece rest : List ℕ) (r : Result T SinkFailed) → IsErr r → IsUnderway a b text left → left ≡ piece ++ rest → IsCut b c piece → PutsAll a c text r
 underway_cut a b c text left piece rest (Ok x) e u is q = absurd (cc e)
 underway_cut a b c text left piece rest (Err x) e u is q = cut_then a b c u.front (piece ++ rest) text (u.split ∙ ap (λ z. u.front ++ z) is) u.put (cut_more b c piece rest q)
-
-pub nil_of : (xs : List ℕ) → length xs ≡ 0 → xs ≡ []
-nil_of [] e = refl
-nil_of (x ∷ xs) e = absurd (omega (arith, e))

@@ -1,10 +1,10 @@
 -- The report of what a run left is read as its events and its abandoned attempts.
-use Rattle.std.proofs.Common.{ℕ, zero, suc, ◌≡◌, ◌+◌, ◌*◌, ◌/◌, ◌%◌, ◌^◌, ◌<◌, ◌≤◌, ◌==◌, Bool, true, false, ◌&&◌, not, List, [], ◌∷◌, ◌++◌, All, append_assoc, append-nil, codes, decimal, bytes_eq, length, get_or, map, refl, ap, sym, subst, ◌∙◌, arith, ◌-◌, ◌⊎◌, Option, Some, None, is_some, Ok, inl, inr, if◌then◌else◌}
+use Rattle.std.proofs.Common.{ℕ, zero, suc, ◌≡◌, ◌+◌, ◌*◌, ◌/◌, ◌%◌, ◌^◌, ◌<◌, ◌≤◌, ◌==◌, Bool, true, false, ◌&&◌, not, List, [], ◌∷◌, ◌++◌, All, append_assoc, append-nil, codes, decimal, bytes_eq, length, get_or, map, refl, ap, sym, subst, ◌∙◌, arith, ◌-◌, ◌⊎◌, Option, Some, None, is_some, Ok, inl, inr, if◌then◌else◌, lt-ltb}
 use Rattle.std.specs.List.{list_all}
-use Rattle.std.specs.Prelude.{nat_lt}
 use Rattle.std.proofs.Math.Nat.{div-add-mod'}
 use Rattle.std.proofs.lemmas.List.{map-append}
 use Rattle.std.proofs.lemmas.List.Elements.{All-append, All-cons, All-get_or, All-head, All-nil, All-tail}
+use Rattle.tile_map.proofs.Numbers.{plane_low}
 use Rattle.list_laws.proofs.Members.{InOrder}
 use Rattle.bit_field.specs.Atom.{AtomValue, empty_atom}
 use Rattle.cell_grid.specs.Grid.{GridValue}
@@ -17,33 +17,30 @@ use Rattle.event_journal.specs.Text.{abandoned_fields, abandoned_lines, count_fi
 use Rattle.event_journal.specs.declared.abandoned.Abandoned.{Abandoned}
 use Rattle.event_journal.proofs.Reports.{walk_line, walk_start}
 use Rattle.feast_base.specs.Digits.{glyph, hex}
-use Rattle.feast_base.specs.TypeNames.{is_type_name}
+use Rattle.feast_base.specs.TypeNames.{is_type_name, name_of}
 use Rattle.text_lines.specs.Fields.{hex_of, is_nibble, nibble}
 use Rattle.text_lines.specs.Forms.{one_field, take_number}
 use Rattle.text_lines.specs.Lines.{line_text, text_of}
 use Rattle.text_lines.specs.Printed.{IsLine}
 use Rattle.text_lines.proofs.Joined.{ended_again, fields_again}
 use Rattle.text_lines.proofs.Printed.{decimal_high, hex_hex, hex_high, name_high, number_decimal}
-use Rattle.tile_map.specs.Plane.{MapValue, IsMap, tiles_of}
+use Rattle.tile_map.specs.Plane.{MapValue, tiles_of}
 use Rattle.grid_print.proofs.Ahead.{Comes, IsAhead, IsInPlace, ahead_more, events_come, in_place, no_fault, start_ahead}
 use Rattle.grid_print.proofs.Bounds.{IsSmallAbandoned, IsSmallRecord, abandoned_small, abandoned_words, event_of_plan, events_few, given_up_few, record_words, records_small}
 use Rattle.grid_print.proofs.Lines.{abandoned_line, count_line, counted_lines, each_line, record_line}
 use Rattle.grid_print.proofs.Stamps.{stamps_low}
-use Rattle.grid_print.specs.Again.{AreFormed, AreReadAgain, IsLeft, IsPlanOf, SaysThese}
-use Rattle.grid_print.specs.Report.{AreNamed, Shown, atom_fields, atom_lines, name_of, report, report_lines, shown, shown_at, shown_from, shown_one}
-
-lt_true : (a b : ℕ) → a < b → nat_lt a b ≡ true
-lt_true a b h = grind arith
+use Rattle.grid_print.specs.Again.{AreFormed, AreReadAgain, IsLeft, IsDrawablePlan, SaysThese}
+use Rattle.grid_print.specs.Report.{AreNamed, Shown, atom_fields, atom_lines, report, report_lines, shown, shown_at, shown_from, shown_one}
 
 -- Forms: what is printed has the form that is wanted
 
 small_taken : (bound n : ℕ) (fs : List (List ℕ)) → n < bound → bound ≤ 2 ^ 64 → take_below bound (decimal n ∷ fs) ≡ Some (n, fs)
 unfolding take_number
-small_taken bound n fs low most = rw (number_decimal n (omega (arith, low, most)), lt_true n bound low) refl
+small_taken bound n fs low most = rw (number_decimal n (omega (arith, low, most)), lt-ltb n bound low) refl
 
 count_again : (word : List ℕ) (k : ℕ) → bytes_eq word word ≡ true → k < 2 ^ 32 → count_form word (count_fields word k) ≡ Some k
 unfolding count_form one_field
-count_again word k same low = rw (same, number_decimal k (omega (arith, low)), lt_true k (2 ^ 32) low) refl
+count_again word k same low = rw (same, number_decimal k (omega (arith, low)), lt-ltb k (2 ^ 32) low) refl
 
 record_again : (r : Record) → IsSmallRecord r → record_form (record_fields r) ≡ Some r
 unfolding record_form one_field
@@ -64,7 +61,7 @@ abandoned_again a p =
     let y = small_taken (2 ^ 32) a.y (decimal a.edge ∷ decimal a.holder ∷ decimal a.holder_attempt ∷ []) p.y (omega arith) in
     let edge = small_taken (2 ^ 32) a.edge (decimal a.holder ∷ decimal a.holder_attempt ∷ []) p.edge (omega arith) in
     let holder = small_taken (2 ^ 32) a.holder (decimal a.holder_attempt ∷ []) p.holder (omega arith) in
-    rw (tile, attempt, x, y, edge, holder, number_decimal a.holder_attempt p.holder_attempt, lt_true a.holder_attempt (2 ^ 64) p.holder_attempt) refl
+    rw (tile, attempt, x, y, edge, holder, number_decimal a.holder_attempt p.holder_attempt, lt-ltb a.holder_attempt (2 ^ 64) p.holder_attempt) refl
 
 -- the digits of a state are such, however great it is
 state_digits : (k n : ℕ) → (length (hex k n) ≡ k) × (list_all is_nibble (hex k n) ≡ true)
@@ -278,20 +275,8 @@ lines_are names ss rs gs told small ends many_atoms many_records many_abandoned 
     (counted_lines (codes "journal") (length rs) (map record_fields rs) refl (omega (arith, many_records)) (each_line IsSmallRecord record_fields (λ r p. record_line r (record_words r p)) rs small))
     (counted_lines (codes "abandoned") (length gs) (map abandoned_fields gs) refl (omega (arith, many_abandoned)) (each_line IsSmallAbandoned abandoned_fields (λ a p. abandoned_line a (abandoned_words a p)) gs ends))))
 
-plane_low : (m : MapValue) → IsMap m → (1 ≤ m.tx * m.w) × (m.tx * m.w * (m.ty * m.h) ≤ 262144)
-plane_low m k =
-    let wide = side m.tx m.w k.sizes.tx_low k.sizes.tx_high k.sizes.w_low k.sizes.w_high in
-    let high = side m.ty m.h k.sizes.ty_low k.sizes.ty_high k.sizes.h_low k.sizes.h_high in
-    (wide.0, square (m.tx * m.w) (m.ty * m.h) wide.1 high.1)
-  where
-    side : (n size : ℕ) → 1 ≤ n → n ≤ 8 → 8 ≤ size → size ≤ 64 → (1 ≤ n * size) × (n * size ≤ 512)
-    side n size a b c d = (grind arith, grind arith)
-
-    square : (a b : ℕ) → a ≤ 512 → b ≤ 512 → a * b ≤ 262144
-    square a b p q = grind arith
-
 -- the report of what a run left says its events and its abandoned attempts
-pub read_again : (names : List (List ℕ)) (m : MapValue) (plan : PlanValue) → AreFormed names → IsPlanOf m plan → AreReadAgain names m plan
+pub read_again : (names : List (List ℕ)) (m : MapValue) (plan : PlanValue) → AreFormed names → IsDrawablePlan m plan → AreReadAgain names m plan
 read_again names m plan formed p = λ g rs gs left.
     let plane = plane_low m p.map in
     let wide = left.wide in

@@ -12,7 +12,7 @@ use Rattle.tile_map.specs.Plane.{MapValue, IsMap, tiles_of}
 use Rattle.grid_print.specs.OneReport.{IsWord}
 use Rattle.grid_print.specs.Report.{AreNamed, report}
 
--- names of types
+-- each is the name of a type
 abbrev pub AreFormed : List (List ℕ) → Type 0
 AreFormed names = All (λ n. is_type_name n ≡ true) names
 
@@ -22,7 +22,7 @@ IsDrawable m a = (a.centre < m.w * m.h) × IsWord a.seed
 
 -- a plan for the tiles of a plane: each tile has its list of attempts, and there are at most
 -- 1,000,000 in total
-pub record IsPlanOf (m : MapValue) (plan : PlanValue) : Type 0 where
+pub record IsDrawablePlan (m : MapValue) (plan : PlanValue) : Type 0 where
   pub map : IsMap m
   pub lists : length plan.lists ≡ tiles_of m
   pub few : sum_by length plan.lists ≤ 1000000

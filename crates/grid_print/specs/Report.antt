@@ -1,5 +1,6 @@
 -- The text of a grid's atoms, and of a report.
-use Rattle.std.specs.Prelude.{ℕ, ◌≡◌, ◌≤◌, ◌+◌, ◌-◌, ◌/◌, ◌%◌, ◌==◌, ◌⊎◌, List, [], ◌∷◌, ◌++◌, All, codes, decimal, length, map, slice_index_or, if◌then◌else◌}
+use Rattle.std.specs.Prelude.{ℕ, ◌≡◌, ◌≤◌, ◌+◌, ◌/◌, ◌%◌, ◌==◌, ◌⊎◌, List, [], ◌∷◌, ◌++◌, All, codes, decimal, length, map, if◌then◌else◌}
+use Rattle.feast_base.specs.TypeNames.{name_of}
 use Rattle.bit_field.specs.Atom.{AtomValue, empty_atom}
 use Rattle.cell_grid.specs.Grid.{GridValue}
 use Rattle.cell_grid.specs.declared.record.Record.{Record}
@@ -30,15 +31,11 @@ shown_from width i (a ∷ more) = shown_one width i a ++ shown_from width (i + 1
 abbrev pub shown : GridValue → List Shown
 shown g = shown_from g.width 0 g.atoms
 
--- the name of a type; type numbers count the names from 1
-abbrev pub name_of : List (List ℕ) → ℕ → List ℕ
-name_of names kind = slice_index_or names (kind - 1) []
-
 -- an atom's line: its site, its name and its state
 abbrev pub atom_fields : List (List ℕ) → Shown → List (List ℕ)
 atom_fields names s = decimal s.x ∷ decimal s.y ∷ name_of names s.atom.kind ∷ hex 18 s.atom.state ∷ []
 
--- how many atoms there are, and one line for each
+-- the number of atoms, and a line for each
 abbrev pub atom_lines : List (List ℕ) → List Shown → List (List (List ℕ))
 atom_lines names atoms = count_fields (codes "atoms") (length atoms) ∷ map (atom_fields names) atoms
 

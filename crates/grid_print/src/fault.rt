@@ -5,9 +5,9 @@ use feast_base::{NoMemory, SinkFailed};
 /// Why a report was not written.
 #[derive(Clone, Copy, Debug, PartialEq, Eq)]
 pub enum WriteFault {
-    /// The sink failed, and has a first part of the report.
+    /// The sink failed; it has a first part of the report.
     Sink,
-    /// There was no memory. Nothing was put.
+    /// Memory ran out before anything was put.
     NoMemory,
 }
 

@@ -1,20 +1,19 @@
-//! Printing what a run leaves: its atoms, and the report of a run, which is put to a sink in pieces
-//! of one size.
+//! Printing what a run leaves: its atoms, and its report, which is put to a sink in pieces of one
+//! size.
 //!
-//! A report is the line `feast 1`, how many sites are not empty and a line for each of them in row
-//! order, and then the journal: how many events there were and their lines, and how many attempts
-//! were given up and their lines.
+//! A report is the line `feast 1`, the number of sites that are not empty and a line for each of
+//! them in row order, and then the journal: the number of events and a line for each, and the
+//! number of attempts that were given up and a line for each.
 #![tactic(auto)]
 
-mod again;
 mod fault;
+mod fitting;
+mod law;
 mod page;
 mod shown;
-mod texts;
 mod writer;
 
-pub use again::reads_again;
 pub use fault::WriteFault;
+pub use law::{one_report, reads_again};
 pub use shown::atoms;
-pub use texts::one_report;
-pub use writer::write_report;
+pub use writer::{grid_text, report_text, write_report};

@@ -1,7 +1,7 @@
 //! Putting a text piece by piece.
 ghost use Rattle.std.specs.Prelude.{ℕ, ◌≡◌, ◌≢◌, ◌+◌, ◌-◌, ◌^◌, ◌<◌, ◌≤◌, [], IsErr, IsOk, length};
 ghost use Rattle.feast_base.specs.Loading.{Puts};
-ghost use Rattle.feast_base.specs.Outside.{told};
+ghost use Rattle.feast_base.specs.Outside.{sink_state};
 ghost use Rattle.grid_print.specs.Writing.{PutsAll};
 
 use feast_base::{Sink, SinkFailed};
@@ -9,14 +9,14 @@ use feast_base::{Sink, SinkFailed};
 /// How many bytes each piece but the last has.
 const PIECE: usize = 4096;
 
-/// Puts a piece of 4,096 bytes, or of 1 to 4,096 if it is the last one: `rest` is what comes after
-/// it.
+/// Puts a piece of 4,096 bytes, or of 1 to 4,096 if it is the last one. What comes after it is
+/// `rest`.
 fn put_piece<K: Sink>(sink: &mut K, piece: &[u8], rest: &[u8]) -> Result<(), SinkFailed>
     requires room { K.faults sink.old < 2 ^ 64 - 1 }
     requires some { 1 ≤ length piece.now }
     requires most { length piece.now ≤ 4096 }
     requires full { rest.now ≢ [] → length piece.now ≡ 4096 }
-    ensures puts { Puts (told K.written K.faults K.may_fail sink.old) (told K.written K.faults K.may_fail sink.new) piece.now result }
+    ensures puts { Puts (sink_state K.written K.faults K.may_fail sink.old) (sink_state K.written K.faults K.may_fail sink.new) piece.now result }
     ensures cause { IsErr result → (m : ℕ) → length piece.now ≤ m → K.may_fail sink.old m }
     ensures later { IsOk result → (m : ℕ) → K.may_fail sink.new m → K.may_fail sink.old (length piece.now + m) }
 {
@@ -28,7 +28,7 @@ fn put_piece<K: Sink>(sink: &mut K, piece: &[u8], rest: &[u8]) -> Result<(), Sin
 /// sink can say how a text was cut into puts, so `put_piece` requires these sizes.
 pub(crate) fn put_pieces<K: Sink>(sink: &mut K, bytes: &[u8]) -> Result<(), SinkFailed>
     requires { K.faults sink.old < 2 ^ 64 - 1 }
-    ensures { PutsAll (told K.written K.faults K.may_fail sink.old) (told K.written K.faults K.may_fail sink.new) bytes.now result }
+    ensures { PutsAll (sink_state K.written K.faults K.may_fail sink.old) (sink_state K.written K.faults K.may_fail sink.new) bytes.now result }
 {
     let mut left = bytes;
     while !left.is_empty() {

@@ -1,9 +1,10 @@
 //! The atoms of a grid.
 ghost use Rattle.std.specs.Prelude.{◌≡◌, ◌≤◌, ◌⊎◌, length, map};
+ghost use Rattle.feast_base.specs.TypeNames.{name_of};
 ghost use Rattle.bit_field.specs.Atom.{empty_atom};
 ghost use Rattle.feast_base.specs.Appending.{Appends};
 ghost use Rattle.text_lines.specs.Lines.{text_of};
-ghost use Rattle.grid_print.specs.Report.{AreNamed, atom_fields, atoms_text, name_of, shown, shown_from, shown_one};
+ghost use Rattle.grid_print.specs.Report.{AreNamed, atom_fields, atoms_text, shown, shown_from, shown_one};
 
 use bit_field::Atom;
 use cell_grid::Grid;
@@ -73,9 +74,9 @@ fn push_atoms(out: &mut Vec<u8>, names: &[Name], width: u32, atoms: &[Atom]) -> 
     Ok(())
 }
 
-/// Appends how many atoms of a grid are not empty, and a line for each of them in row order. Each
-/// atom is empty or its type has a name: type numbers count the names from 1. `NoMemory` if `out`
-/// can't grow.
+/// Appends the number of atoms of a grid that are not empty, and a line for each of them in row
+/// order. Each atom is empty or its type has a name: type numbers count the names from 1.
+/// `NoMemory` if `out` can't grow.
 pub fn atoms(grid: &Grid, names: &[Name], out: &mut Vec<u8>) -> Result<(), NoMemory>
     requires { AreNamed names.now grid.now.atoms }
     ensures { Appends out.old.items out.new.items result (atoms_text names.now grid.now) }

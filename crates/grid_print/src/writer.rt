@@ -1,27 +1,56 @@
-//! The report of a run.
-ghost use Rattle.std.specs.Prelude.{◌≡◌, ◌-◌, ◌^◌, ◌<◌, [], IfOk};
-ghost use Rattle.feast_base.specs.Outside.{told};
+//! The text of a report, and putting it.
+ghost use Rattle.std.specs.Prelude.{◌≡◌, ◌-◌, ◌^◌, ◌<◌, ◌++◌, [], IfOk, codes};
+ghost use Rattle.feast_base.specs.Outside.{sink_state};
 ghost use Rattle.event_journal.specs.Logs.{abandoned_in, records_in};
-ghost use Rattle.grid_print.specs.Report.{AreNamed, report};
+ghost use Rattle.grid_print.specs.Report.{AreNamed, atoms_text, report};
 ghost use Rattle.grid_print.specs.Writing.{Writes};
 
 use crate::fault::WriteFault;
 use crate::page::put_pieces;
 use crate::shown::atoms;
-use cell_grid::Grid;
-use event_journal::{Journal, print};
+use cell_grid::{Grid, Record};
+use event_journal::{Abandoned, Journal, print, print_entries};
 use feast_base::{Name, NoMemory, Sink};
 use std::alloc::Global;
 use text_lines::{Field, push_line};
 
-/// The text of a report.
-fn text(alloc: Global, grid: &Grid, journal: &Journal, names: &[Name]) -> Result<Vec<u8>, NoMemory>
+/// The text that shows a grid, with which its report begins: the line `feast 1`, and the atoms as
+/// `atoms` prints them. Each atom is empty or its type has a name: type numbers count the names
+/// from 1. `NoMemory` if there is none for the text.
+pub fn grid_text(alloc: Global, grid: &Grid, names: &[Name]) -> Result<Vec<u8>, NoMemory>
     requires { AreNamed names.now grid.now.atoms }
-    ensures { IfOk result (λ v. v.items ≡ report names.now grid.now (records_in journal.now) (abandoned_in journal.now)) }
+    ensures { IfOk result (λ v. v.items ≡ codes "feast 1\n" ++ atoms_text names.now grid.now) }
 {
     let mut out = Vec::new(alloc);
     push_line(&mut out, &[Field::Word(b"feast"), Field::Word(b"1")])?;
     atoms(grid, names, &mut out)?;
+    Ok(out)
+}
+
+/// The text of the report that shows a grid, these events and these abandoned attempts. Each atom
+/// is empty or its type has a name: type numbers count the names from 1. `NoMemory` if there is
+/// none for the text.
+pub fn report_text(
+    alloc: Global,
+    grid: &Grid,
+    names: &[Name],
+    records: &[Record],
+    abandoned: &[Abandoned],
+) -> Result<Vec<u8>, NoMemory>
+    requires { AreNamed names.now grid.now.atoms }
+    ensures { IfOk result (λ v. v.items ≡ report names.now grid.now records.now abandoned.now) }
+{
+    let mut out = grid_text(alloc, grid, names)?;
+    print_entries(records, abandoned, &mut out)?;
+    Ok(out)
+}
+
+/// The text of the report of a run.
+fn text(alloc: Global, grid: &Grid, journal: &Journal, names: &[Name]) -> Result<Vec<u8>, NoMemory>
+    requires { AreNamed names.now grid.now.atoms }
+    ensures { IfOk result (λ v. v.items ≡ report names.now grid.now (records_in journal.now) (abandoned_in journal.now)) }
+{
+    let mut out = grid_text(alloc, grid, names)?;
     print(alloc, journal, &mut out)?;
     Ok(out)
 }
@@ -41,7 +70,7 @@ pub fn write_report<K: Sink>(
 ) -> Result<(), WriteFault>
     requires named { AreNamed names.now grid.now.atoms }
     requires room { K.faults sink.old < 2 ^ 64 - 1 }
-    ensures { Writes (told K.written K.faults K.may_fail sink.old) (told K.written K.faults K.may_fail sink.new) (report names.now grid.now (records_in journal.now) (abandoned_in journal.now)) result }
+    ensures { Writes (sink_state K.written K.faults K.may_fail sink.old) (sink_state K.written K.faults K.may_fail sink.new) (report names.now grid.now (records_in journal.now) (abandoned_in journal.now)) result }
 {
     let text = text(alloc, grid, journal, names)?;
     put_pieces(sink, text.as_slice())?;

@@ -1,10 +1,9 @@
 -- The excuse by the marks of the edge is the excuse by the events.
-use Rattle.std.proofs.Common.{ℕ, ◌≡◌, ◌≤◌, ◌<◌, ◌+◌, ◌==◌, List, refl, sym, ap, subst, arith, ◌⊎◌, inl, inr, ⊎_elim, true, ◌∙◌, length, filter}
+use Rattle.std.proofs.Common.{ℕ, ◌≡◌, ◌≤◌, ◌<◌, ◌+◌, ◌==◌, List, refl, sym, ap, subst, arith, ◌⊎◌, inl, inr, ⊎_elim, true, ◌∙◌, length, filter, eq-eqb, eqb-true}
 use Rattle.std.specs.Prelude.{Contains}
 use Rattle.std.specs.List.{Any, list_any}
-use Rattle.std.proofs.lemmas.Bool.Decides.{nat_tests}
 use Rattle.std.proofs.lemmas.Option.{same_Some}
-use Rattle.list_laws.proofs.Members.{filter_in, in_any, in_filter, in_map, map_in}
+use Rattle.list_laws.proofs.Members.{filter_in, in_any, in_filter, in_map, map_in, contains_in, in_contains}
 use Rattle.list_laws.proofs.Tests.{both, together}
 use Rattle.cell_grid.specs.declared.record.Record.{Record}
 use Rattle.draw_stream.specs.declared.attempt.Attempt.{Attempt}
@@ -15,23 +14,17 @@ use Rattle.tile_map.specs.Laws.{IsPlane, Joins}
 use Rattle.event_journal.specs.Accounts.{IsAccounted, IsEventOf, IsExcusedBy, IsGivenUpOf, Needs, edges_of}
 use Rattle.event_journal.specs.declared.abandoned.Abandoned.{Abandoned}
 use Rattle.journal_check.specs.Clocks.{needs_edge}
-use Rattle.journal_check.specs.Excuses.{IsExcusedOn, IsHeld, gone_needs}
-use Rattle.journal_check.specs.Marks.{AreApart, AreMarks, is_on_edge, lane, mark_of, marks_on}
+use Rattle.journal_check.specs.Excuses.{IsExcusedOn, WasHeld, abandoned_needs}
+use Rattle.journal_check.specs.Marks.{AreApart, AreMarks, is_on_edge, marks_at, mark_of, marks_on}
 use Rattle.journal_check.specs.declared.mark.Mark.{Mark}
 use Rattle.journal_check.proofs.Latest.{any_in, needs_in}
-use Rattle.journal_check.proofs.Lists.{all_in, contains_in, in_contains}
-
-same_test : (a b : ℕ) → a ≡ b → (a == b) ≡ true
-same_test a b e = grind (arith, nat_tests)
-
-test_same : (a b : ℕ) → (a == b) ≡ true → a ≡ b
-test_same a b e = grind (arith, nat_tests)
+use Rattle.journal_check.proofs.Lists.{all_in}
 
 pub any_contains : (es : List ℕ) (e : ℕ) → list_any (λ f. f == e) es ≡ true → Contains es e
 any_contains es e h = in_contains es e (any_in es e h)
 
 pub contains_any : (es : List ℕ) (e : ℕ) → Contains es e → list_any (λ f. f == e) es ≡ true
-contains_any es e c = in_any (λ f. f == e) es e (contains_in es e c) (same_test e e refl)
+contains_any es e c = in_any (λ f. f == e) es e (contains_in es e c) (eq-eqb e e refl)
 
 pub needs_known : (m : MapValue) (t : ℕ) (s : Site) (e : ℕ) → list_any (λ f. f == e) (needs_of m t s) ≡ true → e < length (pairs_of m)
 needs_known m t s e h = needs_in m t s e (any_in (needs_of m t s) e h)
@@ -44,14 +37,14 @@ module _ (m : MapValue) (plan : PlanValue) (records : List Record) (abandoned : 
   mark_in : (e t : ℕ) (r : Record) → Contains records r → r.tile ≡ t → Contains (edges_of m r) e → Contains (marks_on m t e records) (mark_of r)
   mark_in e t r c tile needs =
       in_contains (marks_on m t e records) (mark_of r) (in_map mark_of (filter (is_on_edge m t e) records) r
-      (in_filter (is_on_edge m t e) records r (contains_in records r c) (together (r.tile == t) (needs_edge m e r) (same_test r.tile t tile) (contains_any (edges_of m r) e needs))))
+      (in_filter (is_on_edge m t e) records r (contains_in records r c) (together (r.tile == t) (needs_edge m e r) (eq-eqb r.tile t tile) (contains_any (edges_of m r) e needs))))
 
   in_mark : (e t : ℕ) (a : Mark) → Contains (marks_on m t e records) a → (r : Record) × Contains records r × (r.tile ≡ t) × Contains (edges_of m r) e × (a ≡ mark_of r)
   in_mark e t a c =
       let q = map_in mark_of (filter (is_on_edge m t e) records) a (contains_in (marks_on m t e records) a c) in
       let f = filter_in (is_on_edge m t e) records q.0 q.1 in
       let p = both (q.0.tile == t) (needs_edge m e q.0) f.1 in
-      (q.0, in_contains records q.0 f.0, test_same q.0.tile t p.0, any_contains (edges_of m q.0) e p.1, q.2)
+      (q.0, in_contains records q.0 f.0, eqb-true q.0.tile t p.0, any_contains (edges_of m q.0) e p.1, q.2)
 
   event : (r : Record) → Contains records r → IsEventOf m plan r
   event r c = all_in (IsEventOf m plan) records k.events r (contains_in records r c)
@@ -73,13 +66,13 @@ module _ (m : MapValue) (plan : PlanValue) (records : List Record) (abandoned : 
       let same : own.0 ≡ ev.0 = same_Some own.0 ev.0 (sym own.1 ∙ ev.1) in
       subst (λ (s : Site). Contains (needs_of m r.tile s) e) (sym ev.2) (subst (λ (a : Attempt). Contains (needs_of m r.tile (site_in m r.tile a.centre)) e) same own.2)
 
-  gone_shows : (e t i : ℕ) (g : Abandoned) → Contains abandoned g → g.tile ≡ t → g.attempt ≡ i → gone_needs m e g ≡ true → Needs m plan t i e
+  gone_shows : (e t i : ℕ) (g : Abandoned) → Contains abandoned g → g.tile ≡ t → g.attempt ≡ i → abandoned_needs m e g ≡ true → Needs m plan t i e
   gone_shows e t i g c tile attempt h =
       let ev = given g c in
       let own : Needs m plan g.tile g.attempt e = (ev.0, ev.1, subst (λ (s : Site). Contains (needs_of m g.tile s) e) ev.2 (any_contains (needs_of m g.tile (site g.x g.y)) e h)) in
       subst (λ u. Needs m plan u i e) tile (subst (λ j. Needs m plan g.tile j e) attempt own)
 
-  shows_gone : (e t i : ℕ) (g : Abandoned) → Contains abandoned g → g.tile ≡ t → g.attempt ≡ i → Needs m plan t i e → gone_needs m e g ≡ true
+  shows_gone : (e t i : ℕ) (g : Abandoned) → Contains abandoned g → g.tile ≡ t → g.attempt ≡ i → Needs m plan t i e → abandoned_needs m e g ≡ true
   shows_gone e t i g c tile attempt n =
       let ev = given g c in
       let own : Needs m plan g.tile g.attempt e = subst (λ u. Needs m plan u g.attempt e) (sym tile) (subst (λ j. Needs m plan t j e) (sym attempt) n) in
@@ -102,13 +95,13 @@ module _ (m : MapValue) (plan : PlanValue) (records : List Record) (abandoned : 
       omega (arith, x, ap (λ (z : Mark). z.stamp) p.4, ap (λ (z : Mark). z.stamp) q.4)
 
   module _ (g : Abandoned) (mine : Contains abandoned g) where
-    known : (gone_needs m g.edge g ≡ true) → g.edge < length (pairs_of m)
+    known : (abandoned_needs m g.edge g ≡ true) → g.edge < length (pairs_of m)
     known h = needs_known m g.tile (site g.x g.y) g.edge h
 
-    own_is : gone_needs m g.edge g ≡ true → Joins m g.edge g.tile g.holder → lane m table g.edge g.tile ≡ marks_on m g.tile g.edge records
+    own_is : abandoned_needs m g.edge g ≡ true → Joins m g.edge g.tile g.holder → marks_at m table g.edge g.tile ≡ marks_on m g.tile g.edge records
     own_is h j = marks.each g.edge g.tile (known h) (joined_tiles m plane g.edge g.tile g.holder (known h) j).0
 
-    other_is : gone_needs m g.edge g ≡ true → Joins m g.edge g.tile g.holder → lane m table g.edge g.holder ≡ marks_on m g.holder g.edge records
+    other_is : abandoned_needs m g.edge g ≡ true → Joins m g.edge g.tile g.holder → marks_at m table g.edge g.holder ≡ marks_on m g.holder g.edge records
     other_is h j = marks.each g.edge g.holder (known h) (joined_tiles m plane g.edge g.tile g.holder (known h) j).1
 
     pub excused_by : IsExcusedOn m table abandoned g → IsExcusedBy m plan records abandoned g
@@ -125,11 +118,11 @@ module _ (m : MapValue) (plan : PlanValue) (records : List Record) (abandoned : 
           (λ n. inr (n.1.0.0, n.0, n.1.0.1, n.1.0.2, (n.1.1, n.1.2, n.2))) h.held;
       after = events_apart g.edge g.tile g.attempt g.holder g.holder_attempt
           (subst (λ (l : List Mark). AreApart l g.attempt (marks_on m g.holder g.edge records) g.holder_attempt) (own_is h.needs h.ends)
-          (subst (λ (l : List Mark). AreApart (lane m table g.edge g.tile) g.attempt l g.holder_attempt) (other_is h.needs h.ends) h.after));
+          (subst (λ (l : List Mark). AreApart (marks_at m table g.edge g.tile) g.attempt l g.holder_attempt) (other_is h.needs h.ends) h.after));
       before = λ r s c d tile tile' needs needs' lt le.
           events_apart g.edge g.holder (g.holder_attempt + 1) g.tile (g.attempt + 1)
           (subst (λ (l : List Mark). AreApart l (g.holder_attempt + 1) (marks_on m g.tile g.edge records) (g.attempt + 1)) (other_is h.needs h.ends)
-          (subst (λ (l : List Mark). AreApart (lane m table g.edge g.holder) (g.holder_attempt + 1) l (g.attempt + 1)) (own_is h.needs h.ends) h.before))
+          (subst (λ (l : List Mark). AreApart (marks_at m table g.edge g.holder) (g.holder_attempt + 1) l (g.attempt + 1)) (own_is h.needs h.ends) h.before))
           s r d c tile' tile needs' needs (omega (arith, le)) (omega (arith, lt));
     }
 
@@ -137,19 +130,19 @@ module _ (m : MapValue) (plan : PlanValue) (records : List Record) (abandoned : 
     excused_on h = record {
       needs = needs;
       ends = h.ends;
-      held = ⊎_elim {C = IsHeld m (lane m table g.edge g.holder) abandoned g}
+      held = ⊎_elim {C = WasHeld m (marks_at m table g.edge g.holder) abandoned g}
           (λ q. let c : Contains records q.1 = (q.0, q.2, q.3) in
           inl (mark_of q.1, subst (λ (l : List Mark). Contains l (mark_of q.1)) (sym (other_is needs h.ends)) (mark_in g.edge g.holder q.1 c q.4.0 (needs_event g.edge g.holder g.holder_attempt q.1 c q.4.0 q.4.1 h.held)), q.4.1))
           (λ q. let c : Contains abandoned q.1 = (q.0, q.2, q.3) in
           inr (q.1, (c, q.4.0, q.4.1), q.4.2, shows_gone g.edge g.holder g.holder_attempt q.1 c q.4.0 q.4.1 h.held)) h.owed;
       after =
-          subst (λ (l : List Mark). AreApart l g.attempt (lane m table g.edge g.holder) g.holder_attempt) (sym (own_is needs h.ends))
+          subst (λ (l : List Mark). AreApart l g.attempt (marks_at m table g.edge g.holder) g.holder_attempt) (sym (own_is needs h.ends))
           (subst (λ (l : List Mark). AreApart (marks_on m g.tile g.edge records) g.attempt l g.holder_attempt) (sym (other_is needs h.ends)) (apart_events g.edge g.tile g.attempt g.holder g.holder_attempt h.after));
       before =
-          subst (λ (l : List Mark). AreApart l (g.holder_attempt + 1) (lane m table g.edge g.tile) (g.attempt + 1)) (sym (other_is needs h.ends))
+          subst (λ (l : List Mark). AreApart l (g.holder_attempt + 1) (marks_at m table g.edge g.tile) (g.attempt + 1)) (sym (other_is needs h.ends))
           (subst (λ (l : List Mark). AreApart (marks_on m g.holder g.edge records) (g.holder_attempt + 1) l (g.attempt + 1)) (sym (own_is needs h.ends))
           (apart_events g.edge g.holder (g.holder_attempt + 1) g.tile (g.attempt + 1) (λ s r d c tile' tile needs' needs'' lt le. h.before r s c d tile tile' needs'' needs' (omega (arith, le)) (omega (arith, lt)))));
     }
       where
-        needs : gone_needs m g.edge g ≡ true
+        needs : abandoned_needs m g.edge g ≡ true
         needs = shows_gone g.edge g.tile g.attempt g mine refl refl h.needs

@@ -8,5 +8,5 @@ pub mod Marking
 pub mod Orders
 pub mod Passing
 pub mod Splits
-pub mod Told
+pub mod TileEntries
 pub mod Undoing

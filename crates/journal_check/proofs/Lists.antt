@@ -1,28 +1,12 @@
 -- Lists in order, and how many of their elements pass a test.
 use Rattle.std.proofs.Common.{ℕ, zero, suc, ◌≡◌, ◌≤◌, ◌<◌, ◌+◌, List, [], ◌∷◌, All, AllPairs, refl, sym, ap, subst, arith, ◌⊎◌, inl, inr, ⊎_elim, Bool, true, false, ◌&&◌, ◌∙◌, cond, length, get_or, count_by}
-use Rattle.std.specs.Prelude.{Contains, filter}
+use Rattle.std.specs.Prelude.{filter}
 use Rattle.std.specs.List.{AllAdjacentBelow}
-use Rattle.std.proofs.lemmas.List.Sums.{sum_by-cons}
-use Rattle.list_laws.proofs.Members.{In, InOrder, in_get, get_in}
-
-pub contains_in : {A : Type 0} (xs : List A) (x : A) → Contains xs x → In x xs
-contains_in xs x c = subst (λ y. In y xs) c.2 (in_get xs c.0 x c.1)
-
-pub in_contains : {A : Type 0} (xs : List A) (x : A) → In x xs → Contains xs x
-in_contains xs x i = let r = get_in xs x x i in (r.0, r.1, r.2)
+use Rattle.list_laws.proofs.Counts.{count_some, count_cons, count_yes, count_no}
+use Rattle.list_laws.proofs.Members.{In, InOrder, get_in}
 
 pub all_in : {A : Type 0} (P : A → Type 0) (xs : List A) → All P xs → (x : A) → In x xs → P x
 all_in P xs all x i = let r = get_in xs x x i in subst P r.2 (all r.0 x r.1)
-
-pub in_all : {A : Type 0} (P : A → Type 0) (xs : List A) → ((x : A) → In x xs → P x) → All P xs
-in_all P xs each k d lt = each (get_or xs k d) (in_get xs k d lt)
-
-pub pairs_order : {A : Type 0} (R : A → A → Type 0) (xs : List A) → AllPairs R xs → InOrder R xs
-pairs_order R [] h = tt
-pairs_order R (x ∷ xs) h = (
-  (λ y i. let r = get_in xs y y i in subst (R x) r.2 (h 0 (suc r.0) y (omega arith) (omega (arith, r.1)))),
-  pairs_order R xs (λ i j d lt within. h (suc i) (suc j) d (omega (arith, lt)) (omega (arith, within))),
-)
 
 -- a relation that chains and holds of neighbours holds of all pairs
 pub adjacent_pairs : {A : Type 0} (R : A → A → Type 0) → ((x y z : A) → R x y → R y z → R x z) → (xs : List A) → AllAdjacentBelow R xs (length xs) → AllPairs R xs
@@ -56,25 +40,6 @@ order_both R S [] o p = tt
 order_both R S (x ∷ xs) o p = ((λ y i. (o.0 y i, p.0 y i)), order_both R S xs o.1 p.1)
 
 -- counts
-pub count_cons : {A : Type 0} (p : A → Bool) (x : A) (xs : List A) → count_by p (x ∷ xs) ≡ cond (p x) 1 0 + count_by p xs
-count_cons p x xs = sum_by-cons (λ y. cond (p y) 1 0) x xs
-
-pub count_yes : {A : Type 0} (p : A → Bool) (x : A) (xs : List A) → p x ≡ true → count_by p (x ∷ xs) ≡ 1 + count_by p xs
-count_yes p x xs h = count_cons p x xs ∙ ap (λ b. cond b 1 0 + count_by p xs) h
-
-pub count_no : {A : Type 0} (p : A → Bool) (x : A) (xs : List A) → p x ≡ false → count_by p (x ∷ xs) ≡ count_by p xs
-count_no p x xs h = let e = count_cons p x xs ∙ ap (λ b. cond b 1 0 + count_by p xs) h in omega (arith, e)
-
-pub count_none : {A : Type 0} (p : A → Bool) (xs : List A) → ((x : A) → In x xs → p x ≡ false) → count_by p xs ≡ 0
-count_none p [] h = refl
-count_none p (x ∷ xs) h = count_no p x xs (h x (inl refl)) ∙ count_none p xs (λ y i. h y (inr i))
-
-pub count_some : {A : Type 0} (p : A → Bool) (xs : List A) (x : A) → In x xs → p x ≡ true → 1 ≤ count_by p xs
-count_some p [] x i h = absurd i
-count_some p (y ∷ xs) x i h =
-    ⊎_elim {C = 1 ≤ count_by p (y ∷ xs)} (λ (e : x ≡ y). let k = count_yes p y xs (ap p (sym e) ∙ h) in omega (arith, k))
-    (λ j. let k = count_cons p y xs in omega (arith, k, count_some p xs x j h)) i
-
 pub count_filter : {A : Type 0} (p q : A → Bool) (xs : List A) → count_by (λ x. p x && q x) xs ≡ count_by q (filter p xs)
 count_filter p q [] = refl
 count_filter {A = A} p q (x ∷ xs) = go (p x) refl (count_filter p q xs)

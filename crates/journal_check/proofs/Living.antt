@@ -1,9 +1,9 @@
 -- The entries of attempts stand on the plane, and on live sites.
-use Rattle.std.proofs.Common.{ℕ, ◌≡◌, ◌≤◌, ◌<◌, ◌+◌, ◌*◌, ◌/◌, ◌%◌, true, false, not, List, All, sym, ap, subst, arith, ◌∙◌, get_or, Some}
+use Rattle.std.proofs.Common.{ℕ, ◌≡◌, ◌≤◌, ◌<◌, ◌+◌, ◌*◌, ◌/◌, ◌%◌, true, false, not, List, All, sym, ap, subst, arith, ◌∙◌, get_or, Some, lt-ltb, ltb-true}
 use Rattle.std.specs.Prelude.{nat_lt, slice_get}
-use Rattle.std.proofs.lemmas.Bool.Decides.{nat_tests}
 use Rattle.std.proofs.lemmas.Option.{get_or_from_slice_get, slice_get_within}
 use Rattle.std.proofs.lemmas.Nat.{div-mul-add, mul-add-lt, rows}
+use Rattle.list_laws.proofs.Members.{in_all}
 use Rattle.border_cache.specs.Copies.{IsGridOf}
 use Rattle.cell_grid.specs.Grid.{GridValue, IsLive}
 use Rattle.cell_grid.specs.declared.record.Record.{Record}
@@ -14,15 +14,9 @@ use Rattle.list_laws.proofs.Tests.{both, together}
 use Rattle.event_journal.specs.Accounts.{IsAccounted, IsEventOf, IsGivenUpOf}
 use Rattle.event_journal.specs.declared.abandoned.Abandoned.{Abandoned}
 use Rattle.journal_check.specs.Clocks.{IsInside}
-use Rattle.journal_check.specs.Excuses.{IsGoneInside}
-use Rattle.journal_check.specs.Telling.{IsPlanOf}
-use Rattle.journal_check.proofs.Lists.{all_in, in_all}
-
-less_test : (a b : ℕ) → a < b → nat_lt a b ≡ true
-less_test a b lt = grind (arith, nat_tests)
-
-test_less : (a b : ℕ) → nat_lt a b ≡ true → a < b
-test_less a b h = grind (arith, nat_tests)
+use Rattle.journal_check.specs.Excuses.{IsAbandonedInside}
+use Rattle.journal_check.specs.Entries.{IsPlanOf}
+use Rattle.journal_check.proofs.Lists.{all_in}
 
 rest_in : (k w : ℕ) → 1 ≤ w → k % w < w
 rest_in k w some = grind (arith, rows)
@@ -54,7 +48,7 @@ module _ (m : MapValue) (map : IsMap m) (t k : ℕ) (tile : t < tiles_of m) (cen
   pub live_is : is_on m t ≡ true → is_live m (site_in m t k) ≡ true
   live_is on =
       together (in_plane m (site_in m t k)) (is_on m (owner_of m (site_in m t k)))
-      (together (nat_lt (site_in m t k).x (m.tx * m.w)) (nat_lt (site_in m t k).y (m.ty * m.h)) (less_test _ _ column_in) (less_test _ _ row_in))
+      (together (nat_lt (site_in m t k).x (m.tx * m.w)) (nat_lt (site_in m t k).y (m.ty * m.h)) (lt-ltb _ _ column_in) (lt-ltb _ _ row_in))
       (ap (is_on m) owner_is ∙ on)
 
 module _ (m : MapValue) (map : IsMap m) (plan : PlanValue) (fits : IsPlanOf m plan) where
@@ -62,7 +56,7 @@ module _ (m : MapValue) (map : IsMap m) (plan : PlanValue) (fits : IsPlanOf m pl
   tile_on t i a at = fits.on t (let lt = slice_get_within (attempts plan t) i a at in omega (arith, lt))
 
   tile_in : (t i : ℕ) (a : Attempt) → slice_get (attempts plan t) i ≡ Some a → t < tiles_of m
-  tile_in t i a at = test_less t (tiles_of m) (both (nat_lt t (tiles_of m)) (not (get_or m.off t false)) (tile_on t i a at)).0
+  tile_in t i a at = ltb-true t (tiles_of m) (both (nat_lt t (tiles_of m)) (not (get_or m.off t false)) (tile_on t i a at)).0
 
   centre_in : (t i : ℕ) (a : Attempt) → slice_get (attempts plan t) i ≡ Some a → a.centre < m.w * m.h
   centre_in t i a at = subst (λ (b : Attempt). b.centre < m.w * m.h) (get_or_from_slice_get (attempts plan t) i a a at) (fits.centres t i a (slice_get_within (attempts plan t) i a at))
@@ -77,7 +71,7 @@ module _ (m : MapValue) (map : IsMap m) (plan : PlanValue) (fits : IsPlanOf m pl
         row = subst (λ (s : Site). s.y < m.ty * m.h) (sym e.2) (row_in m map r.tile e.0.centre tile centre);
       }
 
-  gone_inside : (g : Abandoned) → IsGivenUpOf m plan g → IsGoneInside m g
+  gone_inside : (g : Abandoned) → IsGivenUpOf m plan g → IsAbandonedInside m g
   gone_inside g e =
       let tile = tile_in g.tile g.attempt e.0 e.1 in
       let centre = centre_in g.tile g.attempt e.0 e.1 in
@@ -94,8 +88,8 @@ module _ (m : MapValue) (map : IsMap m) (plan : PlanValue) (fits : IsPlanOf m pl
     pub events_inside : All (IsInside m) records
     events_inside = in_all (IsInside m) records (λ r i. event_inside r (all_in (IsEventOf m plan) records k.events r i))
 
-    pub all_gone_inside : All (IsGoneInside m) abandoned
-    all_gone_inside = in_all (IsGoneInside m) abandoned (λ g i. gone_inside g (all_in (IsGivenUpOf m plan) abandoned k.given_up g i))
+    pub all_gone_inside : All (IsAbandonedInside m) abandoned
+    all_gone_inside = in_all (IsAbandonedInside m) abandoned (λ g i. gone_inside g (all_in (IsGivenUpOf m plan) abandoned k.given_up g i))
 
     pub events_live : (g : GridValue) → IsGridOf m g → All (λ (r : Record). IsLive g r.x r.y) records
     events_live g of = in_all (λ (r : Record). IsLive g r.x r.y) records (λ r i.

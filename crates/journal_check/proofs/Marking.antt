@@ -1,5 +1,5 @@
 -- The marks of tiles and edges: how they are appended, and that they rise.
-use Rattle.std.proofs.Common.{ℕ, ◌≡◌, ◌≢◌, ◌<◌, ◌+◌, ◌*◌, ◌/◌, ◌%◌, ◌==◌, List, [], ◌∷◌, ◌++◌, All, refl, sym, ap, subst, arith, Bool, true, false, ◌&&◌, ◌||◌, ◌∙◌, cond, length, filter, map, get_or, set, take, replicate}
+use Rattle.std.proofs.Common.{ℕ, ◌≡◌, ◌≢◌, ◌<◌, ◌+◌, ◌*◌, ◌/◌, ◌%◌, ◌==◌, List, [], ◌∷◌, ◌++◌, All, refl, sym, ap, subst, arith, Bool, true, false, ◌&&◌, ◌||◌, ◌∙◌, cond, length, filter, map, get_or, set, take, replicate, eq-eqb, eqb-true, ne_eqb}
 use Rattle.std.specs.Prelude.{if◌then◌else◌}
 use Rattle.std.specs.List.{list_any}
 use Rattle.std.specs.List.Sorted.{IsStrictlyIncreasing}
@@ -23,15 +23,6 @@ use Rattle.journal_check.specs.declared.mark.Mark.{Mark}
 use Rattle.journal_check.proofs.Accounting.{events_follow}
 use Rattle.journal_check.proofs.Lists.{order_with}
 
-same_test : (a b : ℕ) → a ≡ b → (a == b) ≡ true
-same_test a b e = grind (arith, nat_tests)
-
-apart_test : (a b : ℕ) → a ≢ b → (a == b) ≡ false
-apart_test a b e = grind (arith, nat_tests)
-
-test_same : (a b : ℕ) → (a == b) ≡ true → a ≡ b
-test_same a b e = grind (arith, nat_tests)
-
 test_apart : (a b : ℕ) → (a == b) ≡ false → a ≢ b
 test_apart a b e = grind (arith, nat_tests)
 
@@ -43,10 +34,10 @@ slot_test n f u e t a b = go (u == t) (f == e) refl refl
     places h = same_from_place f u e t n a b h
 
     go : (p q : Bool) → (u == t) ≡ p → (f == e) ≡ q → (f * n + u == e * n + t) ≡ (p && q)
-    go true true is js = same_test (f * n + u) (e * n + t) ((λ i. test_same f e js i * n + test_same u t is i))
-    go true false is js = apart_test (f * n + u) (e * n + t) (λ h. test_apart f e js (places h).0)
-    go false true is js = apart_test (f * n + u) (e * n + t) (λ h. test_apart u t is (places h).1)
-    go false false is js = apart_test (f * n + u) (e * n + t) (λ h. test_apart u t is (places h).1)
+    go true true is js = eq-eqb (f * n + u) (e * n + t) ((λ i. eqb-true f e js i * n + eqb-true u t is i))
+    go true false is js = ne_eqb (f * n + u) (e * n + t) (λ h. test_apart f e js (places h).0)
+    go false true is js = ne_eqb (f * n + u) (e * n + t) (λ h. test_apart u t is (places h).1)
+    go false false is js = ne_eqb (f * n + u) (e * n + t) (λ h. test_apart u t is (places h).1)
 
 any_slot : (n u e t : ℕ) → u < n → t < n → (fs : List ℕ) → list_any (λ f. f * n + u == e * n + t) fs ≡ (u == t && list_any (λ f. f == e) fs)
 any_slot n u e t a b [] = go (u == t)
@@ -74,7 +65,7 @@ not_before n t es i small up lt = list_any_none (λ e. e * n + t == get_or es i 
     let less : get_or es k d < get_or es i d = AllPairs-from_increasing es up k i d low lt in
     let one : get_or (take i es) k d ≡ get_or es k d = get_or-take i es k d low in
     let other : get_or es i d ≡ get_or es i 0 = get_or_default es i d 0 lt in
-    apart_test (get_or (take i es) k d * n + t) (get_or es i 0 * n + t) (λ h.
+    ne_eqb (get_or (take i es) k d * n + t) (get_or es i 0 * n + t) (λ h.
     let same = (same_from_place (get_or (take i es) k d) t (get_or es i 0) t n small small h).0 in
     omega (arith, same, one, other, less)))
   where
@@ -105,7 +96,7 @@ added old now es n t i mark list small up lt within long h is k inside = go (get
 
     go : (b : Bool) → (get_or es i 0 * n + t == k) ≡ b → get_or (set now (get_or es i 0 * n + t) list) k [] ≡ get_or old k [] ++ (if list_any (λ e. e * n + t == k) (take (i + 1) es) then mark ∷ [] else [])
     go true e =
-        let same : get_or es i 0 * n + t ≡ k = test_same (get_or es i 0 * n + t) k e in
+        let same : get_or es i 0 * n + t ≡ k = eqb-true (get_or es i 0 * n + t) k e in
         let none : list_any (λ q. q * n + t == k) (take i es) ≡ false = subst (λ (j : ℕ). list_any (λ q. q * n + t == j) (take i es) ≡ false) same (not_before n t es i small up lt) in
         let was : get_or now k [] ≡ get_or old k [] = h k inside ∙ ap (λ b. get_or old k [] ++ (if b then mark ∷ [] else [])) none ∙ append-nil (get_or old k []) in
         ap (λ j. get_or (set now j list) k []) same ∙ get_or-set_same now k list [] (omega (arith, inside, long))
@@ -154,7 +145,7 @@ marks_rise m plan records abandoned lists k e t =
     (order-filter (λ (r s : Record). r.tile ≡ s.tile → (r.attempt < s.attempt) × (r.stamp < s.stamp)) (is_on_edge m t e) records (events_follow m plan records abandoned lists k))))
   where
     tile_is : (r : Record) → In r (filter (is_on_edge m t e) records) → r.tile ≡ t
-    tile_is r i = test_same r.tile t (both (r.tile == t) (needs_edge m e r) (filter_in (is_on_edge m t e) records r i).1).0
+    tile_is r i = eqb-true r.tile t (both (r.tile == t) (needs_edge m e r) (filter_in (is_on_edge m t e) records r i).1).0
 
 -- each list of the table rises where those of all tiles and edges do
 pub all_rising : (m : MapValue) (records : List Record) (table : List (List Mark)) → 0 < tiles_of m → AreMarks m records table → ((e t : ℕ) → AreRising (marks_on m t e records)) → All AreRising table

@@ -1,23 +1,18 @@
 -- Marks that rise, split at an attempt, and abandoned attempts in order.
-use Rattle.std.proofs.Common.{ℕ, ◌≡◌, ◌≢◌, ◌≤◌, ◌<◌, ◌-◌, ◌==◌, List, AllPairs, refl, sym, ap, subst, arith, ◌⊎◌, inl, inr, ⊎_elim, Bool, true, false, ◌&&◌, ◌||◌, ◌∙◌, length, get_or}
+use Rattle.std.proofs.Common.{ℕ, ◌≡◌, ◌≢◌, ◌≤◌, ◌<◌, ◌-◌, ◌==◌, List, AllPairs, refl, sym, ap, subst, arith, ◌⊎◌, inl, inr, ⊎_elim, Bool, true, false, ◌&&◌, ◌||◌, ◌∙◌, length, get_or, lt-ltb, ltb-true}
 use Rattle.std.specs.Prelude.{nat_eq, nat_lt}
 use Rattle.std.specs.List.{AllWithin}
 use Rattle.std.specs.List.Sorted.{IsNonDecreasingBy, IsPartitionedBy}
 use Rattle.std.proofs.lemmas.Bool.Decides.{nat_tests}
 use Rattle.std.proofs.lemmas.List.{get_or_default}
 use Rattle.std.proofs.lemmas.List.Elements.{Contains-get_or}
+use Rattle.list_laws.proofs.Members.{pairs_order, contains_in}
 use Rattle.event_journal.specs.Logs.{ComesBefore}
 use Rattle.event_journal.specs.declared.abandoned.Abandoned.{Abandoned}
 use Rattle.journal_check.specs.Excuses.{IsFound, IsMissing, is_earlier}
 use Rattle.journal_check.specs.Marks.{AreApart, AreRising, HasMark, IsSplit}
 use Rattle.journal_check.specs.declared.mark.Mark.{Mark}
-use Rattle.journal_check.proofs.Lists.{contains_in, order_two, pairs_order}
-
-pub less_test : (a b : ℕ) → a < b → nat_lt a b ≡ true
-less_test a b lt = grind (arith, nat_tests)
-
-pub test_less : (a b : ℕ) → nat_lt a b ≡ true → a < b
-test_less a b h = grind (arith, nat_tests)
+use Rattle.journal_check.proofs.Lists.{order_two}
 
 pub test_more : (a b : ℕ) → nat_lt a b ≡ false → b ≤ a
 test_more a b h = grind (arith, nat_tests)
@@ -66,7 +61,7 @@ apart_is first second below from p q e up up' s s' some more = (forth, back)
 
     forth : nat_lt (get_or first (p - 1) e).stamp (get_or second q e).stamp ≡ true → AreApart first below second from
     forth h a b c d low high =
-        let lt = test_less (get_or first (p - 1) e).stamp (get_or second q e).stamp h in
+        let lt = ltb-true (get_or first (p - 1) e).stamp (get_or second q e).stamp h in
         let at = least c.0 a c.1 c.2 low in
         let at' = most d.0 b d.1 d.2 high in
         let under = stamps_below first c.0 (p - 1) a up (omega (arith, at)) last in
@@ -83,7 +78,7 @@ apart_is first second below from p q e up up' s s' some more = (forth, back)
         )
 
     back : AreApart first below second from → nat_lt (get_or first (p - 1) e).stamp (get_or second q e).stamp ≡ true
-    back h = less_test (get_or first (p - 1) e).stamp (get_or second q e).stamp
+    back h = lt-ltb (get_or first (p - 1) e).stamp (get_or second q e).stamp
         (h (get_or first (p - 1) e) (get_or second q e) (Contains-get_or first (p - 1) e last) (Contains-get_or second q e next) (s.before (p - 1) e (omega arith) (omega (arith, some))) (s'.from q e (omega arith) next))
 
 -- an attempt among the marks stands where those before it end
@@ -114,8 +109,8 @@ no_mark marks attempt k s all h =
 
 -- abandoned attempts
 earlier_than : (t i : ℕ) (g h : Abandoned) → ComesBefore g h → h.tile ≡ t → h.attempt ≡ i → is_earlier t i g ≡ true
-earlier_than t i g h (inl lt) e f = ap (λ b. b || (g.tile == t && nat_lt g.attempt i)) (less_test g.tile t (omega (arith, lt, e)))
-earlier_than t i g h (inr p) e f = or_true (nat_lt g.tile t) (g.tile == t && nat_lt g.attempt i) (two (g.tile == t) (nat_lt g.attempt i) (same g.tile t (p.0 ∙ e)) (less_test g.attempt i (omega (arith, p.1, f))))
+earlier_than t i g h (inl lt) e f = ap (λ b. b || (g.tile == t && nat_lt g.attempt i)) (lt-ltb g.tile t (omega (arith, lt, e)))
+earlier_than t i g h (inr p) e f = or_true (nat_lt g.tile t) (g.tile == t && nat_lt g.attempt i) (two (g.tile == t) (nat_lt g.attempt i) (same g.tile t (p.0 ∙ e)) (lt-ltb g.attempt i (omega (arith, p.1, f))))
   where
     same : (a b : ℕ) → a ≡ b → (a == b) ≡ true
     same a b h = grind (arith, nat_tests)

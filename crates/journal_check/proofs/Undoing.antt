@@ -4,9 +4,10 @@ use Rattle.std.specs.List.{range_with_len}
 use Rattle.std.proofs.lemmas.Bool.Decides.{nat_tests}
 use Rattle.std.proofs.lemmas.List.FromFn.{get_or-map-range_with_len, length-map-range_with_len}
 use Rattle.std.proofs.lemmas.List.{same_lists, get_or_default}
+use Rattle.cell_grid.proofs.Windows.{seen-at}
 use Rattle.bit_field.specs.Atom.{empty_atom}
 use Rattle.window_sites.specs.Inner.{site_numbers}
-use Rattle.window_sites.specs.Window.{WindowValue, atom_at}
+use Rattle.window_sites.specs.Window.{WindowValue}
 use Rattle.list_laws.proofs.Members.{In, filter_in, range_in}
 use Rattle.cell_grid.specs.Grid.{GridValue, atom_left, event, is_place, place_of, put_window, seen, sites_at, window_of}
 use Rattle.journal_check.specs.Films.{kept_of, restored, UndoesAll}
@@ -15,11 +16,6 @@ use Rattle.journal_check.specs.Films.{kept_of, restored, UndoesAll}
 placed_at : (p : Option ℕ) (i : ℕ) → is_place p i ≡ true → p ≡ Some i
 placed_at None i h = cc
 placed_at (Some j) i h = let same : j ≡ i = grind (arith, nat_tests) in ap Some same
-
--- what the window shows of a site
-shown : (g : GridValue) (x y n : ℕ) → n < 41 → atom_at (window_of g x y) n ≡ seen g (place_of g x y n)
-unfolding window_of
-shown g x y n lt = get_or-map-range_with_len (λ k. seen g (place_of g x y k)) 0 41 n n empty_atom lt (omega arith)
 
 -- the sites at a place are the same once a window is written
 sites_same : (g : GridValue) (x y i : ℕ) (w : WindowValue) (ns : List ℕ) → sites_at (put_window g x y w) x y i ns ≡ sites_at g x y i ns
@@ -50,7 +46,7 @@ back_at g x y w i lt = go (sites_at g x y i site_numbers) refl
     go [] is = untouched is
     go (n ∷ ns) is =
         let mine : In n (sites_at g x y i site_numbers) = subst (In n) (sym is) (inl refl) in
-        shown g x y n (numbers n mine) ∙ ap (seen g) (placed_at (place_of g x y n) i (here n mine))
+        seen-at g x y n (numbers n mine) ∙ ap (seen g) (placed_at (place_of g x y n) i (here n mine))
 
 -- a window that is written, and then the one before it, leave the grid as it was
 pub put_twice : (g : GridValue) (x y : ℕ) (w : WindowValue) → put_window (put_window g x y w) x y (window_of g x y) ≡ g

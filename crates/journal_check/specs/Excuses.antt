@@ -8,11 +8,11 @@ use Rattle.tile_map.specs.Edges.{needs_of}
 use Rattle.tile_map.specs.Laws.{Joins}
 use Rattle.event_journal.specs.Accounts.{IsExcusedBy}
 use Rattle.event_journal.specs.declared.abandoned.Abandoned.{Abandoned}
-use Rattle.journal_check.specs.Marks.{AreApart, HasMark, lane}
+use Rattle.journal_check.specs.Marks.{AreApart, HasMark, marks_at}
 use Rattle.journal_check.specs.declared.mark.Mark.{Mark}
 
 -- an abandoned attempt of a tile of the map at a site of the plane
-pub record IsGoneInside (m : MapValue) (g : Abandoned) : Type 0 where
+pub record IsAbandonedInside (m : MapValue) (g : Abandoned) : Type 0 where
   pub tile : g.tile < tiles_of m
   pub column : g.x < m.tx * m.w
   pub row : g.y < m.ty * m.h
@@ -29,21 +29,21 @@ abbrev pub IsMissing : List Abandoned → ℕ → ℕ → Type 0
 IsMissing abandoned t i = (g : Abandoned) → Contains abandoned g → g.tile ≡ t → g.attempt ≡ i → ⊥
 
 -- whether an abandoned attempt needs the edge
-abbrev pub gone_needs : MapValue → ℕ → Abandoned → Bool
-gone_needs m e g = list_any (λ f. f == e) (needs_of m g.tile (site g.x g.y))
+abbrev pub abandoned_needs : MapValue → ℕ → Abandoned → Bool
+abandoned_needs m e g = list_any (λ f. f == e) (needs_of m g.tile (site g.x g.y))
 
 -- the attempt that held the edge is among the marks of its tile, or was itself given up at a greater edge and needs this one
-abbrev pub IsHeld : MapValue → List Mark → List Abandoned → Abandoned → Type 0
-IsHeld m marks abandoned g =
-    HasMark marks g.holder_attempt ⊎ ((k : Abandoned) × IsFound abandoned g.holder g.holder_attempt k × (g.edge < k.edge) × (gone_needs m g.edge k ≡ true))
+abbrev pub WasHeld : MapValue → List Mark → List Abandoned → Abandoned → Type 0
+WasHeld m marks abandoned g =
+    HasMark marks g.holder_attempt ⊎ ((k : Abandoned) × IsFound abandoned g.holder g.holder_attempt k × (g.edge < k.edge) × (abandoned_needs m g.edge k ≡ true))
 
 -- the excuse by the marks of the edge
 pub record IsExcusedOn (m : MapValue) (table : List (List Mark)) (abandoned : List Abandoned) (g : Abandoned) : Type 0 where
-  pub needs : gone_needs m g.edge g ≡ true
+  pub needs : abandoned_needs m g.edge g ≡ true
   pub ends : Joins m g.edge g.tile g.holder
-  pub held : IsHeld m (lane m table g.edge g.holder) abandoned g
-  pub after : AreApart (lane m table g.edge g.tile) g.attempt (lane m table g.edge g.holder) g.holder_attempt
-  pub before : AreApart (lane m table g.edge g.holder) (g.holder_attempt + 1) (lane m table g.edge g.tile) (g.attempt + 1)
+  pub held : WasHeld m (marks_at m table g.edge g.holder) abandoned g
+  pub after : AreApart (marks_at m table g.edge g.tile) g.attempt (marks_at m table g.edge g.holder) g.holder_attempt
+  pub before : AreApart (marks_at m table g.edge g.holder) (g.holder_attempt + 1) (marks_at m table g.edge g.tile) (g.attempt + 1)
 
 -- abandoned attempt k is the first that is not excused
 pub record IsFirstUnexcused (m : MapValue) (plan : PlanValue) (records : List Record) (abandoned : List Abandoned) (k : ℕ) : Type 0 where

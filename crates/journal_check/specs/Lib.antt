@@ -1,7 +1,7 @@
 pub mod Clocks
+pub mod Entries
 pub mod Excuses
 pub mod Films
 pub mod Marks
 pub mod Passing
-pub mod Telling
 pub mod Verdicts

@@ -19,13 +19,13 @@ abbrev pub marks_on : MapValue → ℕ → ℕ → List Record → List Mark
 marks_on m t e records = map mark_of (filter (is_on_edge m t e) records)
 
 -- the list of a table for an edge and a tile
-abbrev pub lane : MapValue → List (List Mark) → ℕ → ℕ → List Mark
-lane m table e t = slice_index_or table (e * tiles_of m + t) []
+abbrev pub marks_at : MapValue → List (List Mark) → ℕ → ℕ → List Mark
+marks_at m table e t = slice_index_or table (e * tiles_of m + t) []
 
 -- for each edge and each tile its marks
 pub record AreMarks (m : MapValue) (records : List Record) (table : List (List Mark)) : Type 0 where
   pub many : length table ≡ length (pairs_of m) * tiles_of m
-  pub each : (e t : ℕ) → e < length (pairs_of m) → t < tiles_of m → lane m table e t ≡ marks_on m t e records
+  pub each : (e t : ℕ) → e < length (pairs_of m) → t < tiles_of m → marks_at m table e t ≡ marks_on m t e records
 
 -- a mark was appended to the lists of a tile, one of n, at each of some edges
 abbrev pub AddsMark : List (List Mark) → List ℕ → ℕ → ℕ → Mark → List (List Mark) → Type 0

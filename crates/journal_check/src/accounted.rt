@@ -6,9 +6,9 @@ ghost use Rattle.cell_grid.specs.declared.record.Record.{Record};
 ghost use Rattle.event_journal.specs.Accounts.{IsAccounted};
 ghost use Rattle.event_journal.specs.Logs.{ComesBefore};
 ghost use Rattle.event_journal.specs.declared.abandoned.Abandoned.{Abandoned};
-ghost use Rattle.journal_check.specs.Telling.{IsPlanOf};
+ghost use Rattle.journal_check.specs.Entries.{IsPlanOf};
 
-use crate::telling::is_told;
+use crate::entries::are_entries;
 use cell_grid::Record;
 use draw_stream::AttemptPlan;
 use event_journal::Abandoned;
@@ -47,7 +47,7 @@ fn are_sorted(abandoned: &[Abandoned]) -> bool
     true
 }
 
-/// Whether the events are of the first n tiles.
+/// Whether the events are of tiles below this number.
 fn are_of_tiles(records: &[Record], tiles: u32) -> bool
     ensures { Decides result (All (λ (r : Record). r.tile < tiles) records.now) }
 {
@@ -59,8 +59,8 @@ fn are_of_tiles(records: &[Record], tiles: u32) -> bool
     true
 }
 
-/// Whether the abandoned attempts are of the first n tiles.
-fn are_gone_of_tiles(abandoned: &[Abandoned], tiles: u32) -> bool
+/// Whether the abandoned attempts are of tiles below this number.
+fn are_abandoned_by_tiles(abandoned: &[Abandoned], tiles: u32) -> bool
     ensures { Decides result (All (λ (g : Abandoned). g.tile < tiles) abandoned.now) }
 {
     for entry in abandoned {
@@ -94,12 +94,12 @@ pub(crate) fn is_accounted(
     if !are_of_tiles(records, tiles) {
         return Ok(false);
     }
-    if !are_gone_of_tiles(abandoned, tiles) {
+    if !are_abandoned_by_tiles(abandoned, tiles) {
         return Ok(false);
     }
     for tile in 0..tiles {
         let attempts = plan.of_tile(alloc, tile)?;
-        if !is_told(map, tile, attempts, records, abandoned) {
+        if !are_entries(map, tile, attempts, records, abandoned) {
             return Ok(false);
         }
     }

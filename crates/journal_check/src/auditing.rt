@@ -1,7 +1,7 @@
 //! The audit of a report.
 ghost use Rattle.std.specs.Prelude.{◌≡◌, IfOk};
 ghost use Rattle.serial_order.specs.Outcomes.{IsPlaneGrid};
-ghost use Rattle.journal_check.specs.Telling.{IsPlanOf};
+ghost use Rattle.journal_check.specs.Entries.{IsPlanOf};
 ghost use Rattle.journal_check.specs.Verdicts.{IsVerdict};
 
 use crate::accounted::is_accounted;
@@ -16,13 +16,14 @@ use feast_base::NoMemory;
 use std::alloc::Global;
 use tile_map::Map;
 
-/// Judges the events and the abandoned attempts of a report, of whatever origin, by calculation:
+/// Judges the events and the abandoned attempts of a report, whoever wrote it, by calculation:
 /// whether each attempt of the plan is accounted for, whether each event has the stamp that its
-/// links give, and whether each abandoned attempt is excused; then replays the events from the
-/// start, by what acts on windows. The answer is the first of these that does not hold, with the
-/// position of its first event or abandoned attempt. The plan is one of the map, and the start is a
-/// grid of its plane. The time is at most n log n for n entries. `NoMemory` if there is none for
-/// the attempts of a tile, the clocks, the events of each edge or the grid.
+/// links give, and whether each abandoned attempt is excused. If all three hold, the events are
+/// replayed from the start, by what acts on windows. Otherwise the answer is the first that does
+/// not hold, with the position of its first event or abandoned attempt. The plan is one of the map,
+/// and the start is a grid of its plane. For n entries the time is at most of the order n log n.
+/// `NoMemory` if there is none for the attempts of a tile, the clocks, the events of each edge or
+/// the grid.
 pub fn audit<B: Behave>(
     alloc: Global,
     map: &Map,

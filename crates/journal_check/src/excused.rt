@@ -11,18 +11,18 @@ ghost use Rattle.event_journal.specs.Accounts.{AreExcused, IsAccounted};
 ghost use Rattle.event_journal.specs.Logs.{ComesBefore};
 ghost use Rattle.event_journal.specs.declared.abandoned.Abandoned.{Abandoned};
 ghost use Rattle.journal_check.specs.Clocks.{IsInside};
-ghost use Rattle.journal_check.specs.Excuses.{IsExcusedOn, IsFirstUnexcused, IsFound, IsGoneInside, IsHeld, IsMissing, is_earlier};
+ghost use Rattle.journal_check.specs.Excuses.{IsExcusedOn, IsFirstUnexcused, IsFound, IsAbandonedInside, WasHeld, IsMissing, is_earlier};
 ghost use Rattle.journal_check.specs.Marks.{AreApart, AreRising, HasMark, IsSplit, marks_on};
 
 use crate::mark::Mark;
-use crate::marks::{Marks, lane, marks_of};
+use crate::marks::{Marks, marks_at, marks_of};
 use cell_grid::Record;
 use event_journal::Abandoned;
 use feast_base::NoMemory;
 use std::alloc::Global;
 use tile_map::Map;
 
-/// How many marks are of attempts before one.
+/// How many marks are of attempts before this one.
 fn behind(marks: &[Mark], attempt: u128) -> usize
     requires { AreRising marks.now }
     ensures { IsSplit marks.now attempt result }
@@ -30,8 +30,8 @@ fn behind(marks: &[Mark], attempt: u128) -> usize
     marks.partition_point(|mark| u128::from(mark.attempt) < attempt)
 }
 
-/// Whether each of the first marks before an attempt has a smaller stamp than each of the second
-/// from another attempt on.
+/// Whether each of the first marks before the attempt `below` has a smaller stamp than each of the
+/// second from the attempt `from` on.
 fn are_apart(first: &[Mark], below: u128, second: &[Mark], from: u128) -> bool
     requires first { AreRising first.now }
     requires second { AreRising second.now }
@@ -72,7 +72,7 @@ fn earlier(abandoned: &[Abandoned], tile: u32, attempt: u64) -> usize
     })
 }
 
-/// The abandoned attempt that is this one of a tile.
+/// The abandoned attempt of this tile and number, if there is one.
 fn find(abandoned: &[Abandoned], tile: u32, attempt: u64) -> Option<Abandoned>
     requires { AllPairs ComesBefore abandoned.now }
     ensures { MatchOption result (IsMissing abandoned.now tile attempt) (IsFound abandoned.now tile attempt) }
@@ -108,7 +108,7 @@ fn needs_edge(map: &Map, tile: u32, x: u32, y: u32, edge: u32) -> bool
     false
 }
 
-/// Whether an edge is one between two tiles.
+/// Whether an edge joins two tiles.
 fn joins(map: &Map, edge: u32, tile: u32, holder: u32) -> bool
     requires { edge < length (pairs_of map.now) }
     ensures joins { Decides result (Joins map.now edge tile holder) }
@@ -118,13 +118,13 @@ fn joins(map: &Map, edge: u32, tile: u32, holder: u32) -> bool
     (lower == tile && higher == holder) || (lower == holder && higher == tile)
 }
 
-/// Whether the attempt that held the edge is among its tile's marks, or was itself given up at a
-/// greater edge and needs this one.
-fn is_held(map: &Map, marks: &[Mark], abandoned: &[Abandoned], entry: &Abandoned) -> bool
+/// Whether the attempt that held the edge is among the marks of its tile, or was itself given up at
+/// a greater edge and needs this one.
+fn was_held(map: &Map, marks: &[Mark], abandoned: &[Abandoned], entry: &Abandoned) -> bool
     requires rising { AreRising marks.now }
     requires sorted { AllPairs ComesBefore abandoned.now }
-    requires inside { All (IsGoneInside map.now) abandoned.now }
-    ensures { Decides result (IsHeld map.now marks.now abandoned.now entry.now) }
+    requires inside { All (IsAbandonedInside map.now) abandoned.now }
+    ensures { Decides result (WasHeld map.now marks.now abandoned.now entry.now) }
 {
     if has_mark(marks, entry.holder_attempt) {
         return true;
@@ -140,8 +140,8 @@ fn is_held(map: &Map, marks: &[Mark], abandoned: &[Abandoned], entry: &Abandoned
 
 /// Whether an abandoned attempt is excused, by the marks of its edge.
 fn is_excused(map: &Map, table: &[Marks], abandoned: &[Abandoned], entry: &Abandoned) -> bool
-    requires here { IsGoneInside map.now entry.now }
-    requires inside { All (IsGoneInside map.now) abandoned.now }
+    requires here { IsAbandonedInside map.now entry.now }
+    requires inside { All (IsAbandonedInside map.now) abandoned.now }
     requires sorted { AllPairs ComesBefore abandoned.now }
     requires many { length table.now ≡ length (pairs_of map.now) * tiles_of map.now }
     requires rising { All AreRising table.now }
@@ -153,9 +153,9 @@ fn is_excused(map: &Map, table: &[Marks], abandoned: &[Abandoned], entry: &Aband
     if !joins(map, entry.edge, entry.tile, entry.holder) {
         return false;
     }
-    let own = lane(map, table, entry.edge, entry.tile);
-    let other = lane(map, table, entry.edge, entry.holder);
-    if !is_held(map, other, abandoned, entry) {
+    let own = marks_at(map, table, entry.edge, entry.tile);
+    let other = marks_at(map, table, entry.edge, entry.holder);
+    if !was_held(map, other, abandoned, entry) {
         return false;
     }
     let attempt = u128::from(entry.attempt);
@@ -175,7 +175,7 @@ pub(crate) fn unexcused(
     abandoned: &[Abandoned],
 ) -> Result<Option<u64>, NoMemory>
     requires events { All (IsInside map.now) records.now }
-    requires inside { All (IsGoneInside map.now) abandoned.now }
+    requires inside { All (IsAbandonedInside map.now) abandoned.now }
     requires sorted { AllPairs ComesBefore abandoned.now }
     requires rising { (e t : ℕ) → AreRising (marks_on map.now t e records.now) }
     ensures { (plan : PlanValue) → IsAccounted map.now plan records.now abandoned.now →

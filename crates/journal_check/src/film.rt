@@ -30,8 +30,8 @@ impl Model for Film {
 }
 
 impl Film {
-    /// A film that keeps no event yet and has room for `room` of them. All its memory is allocated
-    /// here, 720 bytes an event; `NoMemory` if there is none.
+    /// A film that keeps no event yet and has room for `events` of them. All its memory is
+    /// allocated here, 720 bytes an event; `NoMemory` if there is none.
     pub fn new(alloc: Global, events: usize) -> Result<Film, NoMemory>
         ensures { IfOk result (λ f. f ≡ film_value [] events) }
     {
@@ -60,7 +60,7 @@ impl Film {
         }
     }
 
-    /// Makes the event of a record on a grid, if its centre is a live site, and keeps it. There is
+    /// Makes the event of a record on a grid, and keeps it. Its centre is a live site, and there is
     /// room for it.
     pub fn apply<B: Behave>(&mut self, grid: &mut Grid, entry: &Record, behave: &mut B)
         requires spare { 0 < self.old.spare }
@@ -79,7 +79,7 @@ impl Film {
         grid.event(entry.x, entry.y, entry.seed, behave);
     }
 
-    /// Undoes the last event: each live site of its window has again the atom that it had before,
+    /// Undoes the last event: each live site of its window gets back the atom that it had before,
     /// and all other sites stay. The centre of that event is a live site of the grid. False exactly
     /// when no event is kept, and then nothing changes.
     pub fn undo(&mut self, grid: &mut Grid) -> bool

@@ -1,4 +1,4 @@
-//! What holds of films.
+//! A law on films.
 ghost use Rattle.journal_check.specs.Films.{UndoesAll};
 
 /// Whatever events are made on a grid and then undone, the last of them first, the grid is what it

@@ -10,6 +10,7 @@
 mod accounted;
 mod auditing;
 mod copying;
+mod entries;
 mod excused;
 mod film;
 mod kept;
@@ -17,7 +18,6 @@ mod law;
 mod mark;
 mod marks;
 mod stamped;
-mod telling;
 mod verdict;
 
 pub use auditing::audit;

@@ -4,7 +4,7 @@ ghost use Rattle.std.specs.List.Sorted.{IsStrictlyIncreasing};
 ghost use Rattle.tile_map.specs.Edges.{pairs_of};
 ghost use Rattle.tile_map.specs.Plane.{tiles_of};
 ghost use Rattle.journal_check.specs.Clocks.{IsInside};
-ghost use Rattle.journal_check.specs.Marks.{AddsMark, AreMarks, AreRising, lane};
+ghost use Rattle.journal_check.specs.Marks.{AddsMark, AreMarks, AreRising, marks_at};
 
 use crate::mark::Mark;
 use cell_grid::Record;
@@ -54,7 +54,7 @@ impl Marks {
     }
 }
 
-/// This many lists without a mark.
+/// This many lists, each without a mark.
 fn no_marks(alloc: Global, count: usize) -> Result<Vec<Marks>, NoMemory>
     ensures { IfOk result (λ v. v.items ≡ replicate count []) }
 {
@@ -87,8 +87,8 @@ fn add(
     Ok(())
 }
 
-/// For each edge and each tile the marks of its events. Those of edge e and tile t are at e times
-/// the number of tiles, plus t.
+/// For each edge and each tile the marks of the tile's events that need the edge. Those of edge e
+/// and tile t are at position e times the number of tiles, plus t.
 pub(crate) fn marks_of(alloc: Global, map: &Map, records: &[Record]) -> Result<Vec<Marks>, NoMemory>
     requires { All (IsInside map.now) records.now }
     ensures { IfOk result (λ v. AreMarks map.now records.now v.items) }
@@ -109,12 +109,12 @@ pub(crate) fn marks_of(alloc: Global, map: &Map, records: &[Record]) -> Result<V
 }
 
 /// The marks of a tile's events that need an edge.
-pub(crate) fn lane<'a>(map: &Map, table: &'a [Marks], edge: u32, tile: u32) -> &'a [Mark]
+pub(crate) fn marks_at<'a>(map: &Map, table: &'a [Marks], edge: u32, tile: u32) -> &'a [Mark]
     requires edge { edge < length (pairs_of map.now) }
     requires tile { tile < tiles_of map.now }
     requires many { length table.now ≡ length (pairs_of map.now) * tiles_of map.now }
     requires rising { All AreRising table.now }
-    ensures value { result.now ≡ lane map.now table.entry.now edge tile }
+    ensures value { result.now ≡ marks_at map.now table.entry.now edge tile }
     ensures rising { AreRising result.now }
 {
     let tiles = map.tiles() as usize;

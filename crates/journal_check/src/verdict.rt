@@ -10,7 +10,8 @@ pub enum Verdict {
     Yes(Grid),
     /// Some attempt has no entry, two, or a wrong one, or the entries are not in order.
     NotAccounted,
-    /// The event at this position, from 0, is the first with a stamp other than its links give.
+    /// The event at this position, from 0, is the first whose stamp is not the one that its links
+    /// give.
     NotStamped(u64),
     /// The abandoned attempt at this position, from 0, is the first that is not excused.
     NotExcused(u64),

@@ -1,5 +1,9 @@
+pub mod Counts
 pub mod Entries
 pub mod Filters
 pub mod Members
+pub mod Numbers
+pub mod Options
 pub mod Ranges
+pub mod Slots
 pub mod Tests

@@ -1,8 +1,9 @@
 -- Members of lists, and lists of which each pair of elements is in order.
 use Rattle.std.proofs.Common.{ℕ, ◌≡◌, ◌≤◌, ◌<◌, ◌+◌, List, [], ◌∷◌, ◌++◌, refl, sym, ap, subst, arith, ◌⊎◌, inl, inr, ⊎_elim, Bool, true, false, zero, suc, ◌∙◌, length, map, cond, Some, get_or}
-use Rattle.std.specs.Prelude.{◌||◌, slice_get, AllPairs}
+use Rattle.std.specs.Prelude.{◌||◌, slice_get, All, AllPairs, Contains}
 use Rattle.std.specs.List.{filter, flat_map, range_with_len, list_any}
 use Rattle.std.proofs.lemmas.List.Kept.{AllPairs-cons}
+use Rattle.list_laws.proofs.Numbers.{same_or_more}
 
 -- x is one of the list
 abbrev pub In : {A : Type 0} → A → List A → Type 0
@@ -52,9 +53,6 @@ in_flat f (z ∷ xs) x y i j = ⊎_elim (λ e. in_left (f z) (flat_map f xs) y (
 pub flat_in : {A B : Type 0} (f : A → List B) (xs : List A) (y : B) → In y (flat_map f xs) → (x : A) × In x xs × In y (f x)
 flat_in f [] y i = absurd i
 flat_in f (z ∷ xs) y i = ⊎_elim (λ k. (z, inl refl, k)) (λ k. let r = flat_in f xs y k in (r.0, inr r.1, r.2)) (in_either (f z) (flat_map f xs) y i)
-
-same_or_more : (a k : ℕ) → a ≤ k → (k ≡ a) ⊎ (a + 1 ≤ k)
-same_or_more a k le = grind arith
 
 pub in_range : (a n k : ℕ) → a ≤ k → k < a + n → In k (range_with_len a n)
 in_range a zero k low high = absurd (omega arith)
@@ -119,3 +117,20 @@ order-flat R f a (suc n) each across =
 pub order-pairs : {A : Type 0} (R : A → A → Type 0) (xs : List A) → InOrder R xs → AllPairs R xs
 order-pairs R [] h = λ i j d lt within. absurd (omega arith)
 order-pairs R (x ∷ xs) h = AllPairs-cons R x xs (λ k d lt. h.0 (get_or xs k d) (in_get xs k d lt)) (order-pairs R xs h.1)
+
+pub pairs_order : {A : Type 0} (R : A → A → Type 0) (xs : List A) → AllPairs R xs → InOrder R xs
+pairs_order R [] h = tt
+pairs_order R (x ∷ xs) h = (
+  (λ y i. let r = get_in xs y y i in subst (R x) r.2 (h 0 (suc r.0) y (omega arith) (omega (arith, r.1)))),
+  pairs_order R xs (λ i j d lt within. h (suc i) (suc j) d (omega (arith, lt)) (omega (arith, within))),
+)
+
+pub contains_in : {A : Type 0} (xs : List A) (x : A) → Contains xs x → In x xs
+contains_in xs x c = subst (λ y. In y xs) c.2 (in_get xs c.0 x c.1)
+
+pub in_contains : {A : Type 0} (xs : List A) (x : A) → In x xs → Contains xs x
+in_contains xs x i = let r = get_in xs x x i in (r.0, r.1, r.2)
+
+-- what holds of each element holds at each place
+pub in_all : {A : Type 0} (P : A → Type 0) (xs : List A) → ((x : A) → In x xs → P x) → All P xs
+in_all P xs each k d lt = each (get_or xs k d) (in_get xs k d lt)

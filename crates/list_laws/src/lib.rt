@@ -1,3 +1,3 @@
-//! Lemmas on truth values and lists that the proofs of several crates cite. It knows nothing of the
-//! simulator and has no code: everything is in `proofs/`.
+//! Words and lemmas on truth values, numbers, options and lists that several crates cite. It knows
+//! nothing of the simulator and has no code: everything is in `specs/` and `proofs/`.
 #![tactic(auto)]

@@ -1,6 +1,7 @@
 -- Events that are made one after another and taken back.
 use Rattle.std.proofs.Common.{ℕ, ◌≡◌, ◌≤◌, ◌<◌, ◌+◌, ◌*◌, ◌-◌, List, [], ◌∷◌, ◌++◌, All, Bool, true, false, length, get_or, take, refl, sym, ap, subst, ◌∙◌, arith}
 use Rattle.std.proofs.lemmas.List.{same_from_push, take_all, take_more, length_push}
+use Rattle.event_journal.proofs.Journals.{no_record}
 use Rattle.window_sites.specs.Window.{WindowValue}
 use Rattle.cell_grid.specs.Grid.{ArePlanesAlike, GridValue, IsLive, event, put_window, window_of}
 use Rattle.cell_grid.specs.Records.{replay}
@@ -9,9 +10,6 @@ use Rattle.journal_check.specs.Films.{CanUndo, FilmValue, Undoes, film_of, film_
 use Rattle.journal_check.specs.declared.kept.Kept.{Kept}
 use Rattle.journal_check.proofs.Undoing.{put_twice}
 use Rattle.report_judge.specs.Rewinding.{IsAt}
-
-abbrev pub blank : Record
-blank = record { stamp = 0; tile = 0; attempt = 0; x = 0; y = 0; seed = 0 }
 
 pub live_alike : (g h : GridValue) (x y : ℕ) → ArePlanesAlike g h → IsLive g x y → IsLive h x y
 live_alike g h x y a l = record {
@@ -32,19 +30,19 @@ module _ (after : WindowValue → ℕ → WindowValue) where
   replay_push g [] r = refl
   replay_push g (x ∷ rs) r = replay_push (event after g x.x x.y x.seed) rs r
 
-  film_more : (g : GridValue) (records : List Record) (k : ℕ) → k < length records → film_of after g (take (k + 1) records) ≡ film_of after g (take k records) ++ kept_of (replay after g (take k records)) (get_or records k blank) ∷ []
-  film_more g records k lt = ap (film_of after g) (take_more records k blank lt) ∙ film_push g (take k records) (get_or records k blank)
+  film_more : (g : GridValue) (records : List Record) (k : ℕ) → k < length records → film_of after g (take (k + 1) records) ≡ film_of after g (take k records) ++ kept_of (replay after g (take k records)) (get_or records k no_record) ∷ []
+  film_more g records k lt = ap (film_of after g) (take_more records k no_record lt) ∙ film_push g (take k records) (get_or records k no_record)
 
   replay_more : (g : GridValue) (records : List Record) (k : ℕ) → k < length records →
-      replay after g (take (k + 1) records) ≡ event after (replay after g (take k records)) (get_or records k blank).x (get_or records k blank).y (get_or records k blank).seed
-  replay_more g records k lt = ap (replay after g) (take_more records k blank lt) ∙ replay_push g (take k records) (get_or records k blank)
+      replay after g (take (k + 1) records) ≡ event after (replay after g (take k records)) (get_or records k no_record).x (get_or records k no_record).y (get_or records k no_record).seed
+  replay_more g records k lt = ap (replay after g) (take_more records k no_record lt) ∙ replay_push g (take k records) (get_or records k no_record)
 
   -- one event more
   pub made : (start : GridValue) (records : List Record) (k : ℕ) (film film' : FilmValue) (grid grid' : GridValue) → k < length records → IsAt after start records k film grid →
-      film'.kept ≡ film.kept ++ kept_of grid (get_or records k blank) ∷ [] → film'.spare + 1 ≡ film.spare →
-      grid' ≡ event after grid (get_or records k blank).x (get_or records k blank).y (get_or records k blank).seed → IsAt after start records (k + 1) film' grid'
+      film'.kept ≡ film.kept ++ kept_of grid (get_or records k no_record) ∷ [] → film'.spare + 1 ≡ film.spare →
+      grid' ≡ event after grid (get_or records k no_record).x (get_or records k no_record).y (get_or records k no_record).seed → IsAt after start records (k + 1) film' grid'
   made start records k film film' grid grid' lt at kept spare is =
-      let r = get_or records k blank in
+      let r = get_or records k no_record in
       record {
         kept = kept ∙ (λ i. at.kept i ++ kept_of (at.grid_is i) r ∷ []) ∙ sym (film_more start records k lt);
         spare = omega (arith, spare, at.spare);
@@ -55,16 +53,16 @@ module _ (after : WindowValue → ℕ → WindowValue) where
   pub can_undo : (start : GridValue) (records : List Record) (k : ℕ) (film : FilmValue) (grid : GridValue) → k < length records → All (λ (r : Record). IsLive start r.x r.y) records → ArePlanesAlike start grid →
       IsAt after start records (k + 1) film grid → CanUndo film grid
   can_undo start records k film grid lt live alike at kept last is =
-      let same = same_from_push kept (film_of after start (take k records)) last (kept_of (replay after start (take k records)) (get_or records k blank)) (sym is ∙ at.kept ∙ film_more start records k lt) in
-      subst (λ (e : Kept). IsLive grid e.x e.y) (sym same.1) (live_alike start grid (get_or records k blank).x (get_or records k blank).y alike (live k blank lt))
+      let same = same_from_push kept (film_of after start (take k records)) last (kept_of (replay after start (take k records)) (get_or records k no_record)) (sym is ∙ at.kept ∙ film_more start records k lt) in
+      subst (λ (e : Kept). IsLive grid e.x e.y) (sym same.1) (live_alike start grid (get_or records k no_record).x (get_or records k no_record).y alike (live k no_record lt))
 
   pub taken_back : (start : GridValue) (records : List Record) (k : ℕ) (film film' : FilmValue) (grid grid' : GridValue) (b : Bool) → k < length records → IsAt after start records (k + 1) film grid →
       Undoes film film' grid grid' b → IsAt after start records k film' grid'
   taken_back start records k film film' grid grid' false lt at u =
       let some = ap length (sym u.0 ∙ at.kept ∙ film_more start records k lt) in
-      absurd (omega (arith, some, length_push (film_of after start (take k records)) (kept_of (replay after start (take k records)) (get_or records k blank))))
+      absurd (omega (arith, some, length_push (film_of after start (take k records)) (kept_of (replay after start (take k records)) (get_or records k no_record))))
   taken_back start records k film film' grid grid' true lt at u =
-      let r = get_or records k blank in
+      let r = get_or records k no_record in
       let g = replay after start (take k records) in
       let same = same_from_push film'.kept (film_of after start (take k records)) u.0 (kept_of g r) (sym u.1 ∙ at.kept ∙ film_more start records k lt) in
       record {

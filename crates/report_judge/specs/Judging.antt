@@ -29,7 +29,7 @@ abbrev pub abandoned_line : List ℕ → List Abandoned → ℕ → ℕ
 abandoned_line bytes abandoned k = line_count bytes - length abandoned + (k + 1)
 
 -- a world, as the map of its tiles, its plan, what its elements mean and are called, and the grid with which it starts
-pub record Setting : Type 0 where
+pub record JudgedWorld : Type 0 where
   pub map : MapValue
   pub plan : PlanValue
   pub meaning : WindowValue → ℕ → WindowValue
@@ -37,18 +37,18 @@ pub record Setting : Type 0 where
   pub start : GridValue
 
 -- each attempt is accounted for, each event has its stamp, and each abandoned attempt is excused
-pub record Holds (s : Setting) (records : List Record) (abandoned : List Abandoned) : Type 0 where
+pub record Holds (s : JudgedWorld) (records : List Record) (abandoned : List Abandoned) : Type 0 where
   pub accounted : IsAccounted s.map s.plan records abandoned
   pub stamped : IsStamped s.map records
   pub excused : AreExcused s.map s.plan records abandoned
 
 -- the report of these events and abandoned attempts: its atoms are those that the events make of
 -- the start
-abbrev pub own_report : Setting → List Record → List Abandoned → List ℕ
+abbrev pub own_report : JudgedWorld → List Record → List Abandoned → List ℕ
 own_report s records abandoned = report s.names (replay s.meaning s.start records) records abandoned
 
--- a judgement is right
-abbrev pub Judges : Setting → List ℕ → List Record → List Abandoned → Judgement → Type 0
+-- what a judgement says is right
+abbrev pub Judges : JudgedWorld → List ℕ → List Record → List Abandoned → Judgement → Type 0
 Judges s bytes records abandoned Yes = Holds s records abandoned × (bytes ≡ own_report s records abandoned)
 Judges s bytes records abandoned NoAccounted = ¬ (IsAccounted s.map s.plan records abandoned)
 Judges s bytes records abandoned (NoStamped line) = IsAccounted s.map s.plan records abandoned × ((k : ℕ) × IsFirstMisstamped s.map records k × (line ≡ event_line bytes records abandoned k))

@@ -14,11 +14,11 @@ pub enum Judgement {
     Yes,
     /// Some attempt is not accounted for.
     NoAccounted,
-    /// The event in this line is the first with a stamp other than its links give.
+    /// The event on this line is the first whose stamp is not the one that its links give.
     NoStamped(u64),
-    /// The abandoned attempt in this line is the first that is not excused.
+    /// The abandoned attempt on this line is the first that is not excused.
     NoExcused(u64),
-    /// The three hold, and the report has other atoms than the events make of the start.
+    /// The three hold, but the report has other atoms than the events make of the start.
     NoAtoms,
 }
 

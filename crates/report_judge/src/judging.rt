@@ -1,17 +1,18 @@
 //! The judgement on a report.
 ghost use Rattle.std.specs.Prelude.{◌≡◌, ◌<◌, ◌≤◌, ◌^◌, IfOk, length};
+ghost use Rattle.std.specs.Bool.{Decides};
 ghost use Rattle.cell_grid.specs.Records.{replay};
-ghost use Rattle.grid_print.specs.Report.{AreNamed};
+ghost use Rattle.grid_print.specs.Report.{AreNamed, report};
 ghost use Rattle.serial_order.specs.Outcomes.{IsPlaneGrid};
-ghost use Rattle.journal_check.specs.Telling.{IsPlanOf};
+ghost use Rattle.journal_check.specs.Entries.{IsPlanOf};
 ghost use Rattle.report_judge.specs.Judging.{Judges, abandoned_line, event_line, line_count};
 
 use crate::judgement::Judgement;
-use crate::reprinting::is_report;
-use cell_grid::{Behave, Grid};
+use cell_grid::{Behave, Grid, Record};
 use draw_stream::AttemptPlan;
-use event_journal::ReadJournal;
+use event_journal::{Abandoned, ReadJournal};
 use feast_base::{Name, NoMemory};
+use grid_print::report_text;
 use journal_check::{Verdict, audit};
 use std::alloc::Global;
 use tile_map::Map;
@@ -41,12 +42,35 @@ fn abandoned_line(bytes: &[u8], journal: &ReadJournal, k: u64) -> u64
     line_count(bytes).saturating_sub(journal.abandoned.len() as u64) + (k + 1)
 }
 
+/// Whether two texts are the same.
+fn are_same(first: &[u8], second: &[u8]) -> bool
+    ensures { Decides result (first.now ≡ second.now) }
+{
+    first == second
+}
+
+/// Whether bytes are the report of a grid, events and abandoned attempts.
+fn is_report(
+    alloc: Global,
+    bytes: &[u8],
+    names: &[Name],
+    grid: &Grid,
+    records: &[Record],
+    abandoned: &[Abandoned],
+) -> Result<bool, NoMemory>
+    requires { AreNamed names.now grid.now.atoms }
+    ensures { IfOk result (λ b. Decides b (bytes.now ≡ report names.now grid.now records.now abandoned.now)) }
+{
+    let text = report_text(alloc, grid, names, records, abandoned)?;
+    Ok(are_same(bytes, text.as_slice()))
+}
+
 /// Judges the bytes of a report that has these events and abandoned attempts: whether each attempt
 /// of the plan is accounted for, each event has its stamp and each abandoned attempt is excused,
-/// and whether the bytes are the report of them over the grid that the events make of the start.
-/// The answer is the first of these that does not hold, with the line in the report. The plan is
-/// one of the map, the start is a grid of its plane, and the types of the atoms that the events
-/// leave have names. `NoMemory` if there is none for the audit or for printing the report again.
+/// and whether the bytes are their report over the grid that the events make of the start. The
+/// answer is the first of these that does not hold, with its line in the report. The plan is one of
+/// the map, the start is a grid of its plane, and the types of the atoms that the events leave have
+/// names. `NoMemory` if there is none for the audit or for printing the report again.
 pub fn judge<B: Behave>(
     alloc: Global,
     map: &Map,

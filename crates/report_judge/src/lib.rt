@@ -3,7 +3,6 @@
 
 mod judgement;
 mod judging;
-mod reprinting;
 mod rewinding;
 
 pub use judgement::{Judgement, judgement_line};

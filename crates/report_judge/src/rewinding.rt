@@ -10,7 +10,7 @@ use feast_base::NoMemory;
 use journal_check::Film;
 use std::alloc::Global;
 
-/// Makes all events of a journal on a grid, and keeps them on a film that has room for them.
+/// Makes all events of a journal on a grid and keeps them on a film, which has room for them.
 fn run<B: Behave>(film: &mut Film, grid: &mut Grid, records: &[Record], behave: &mut B)
     requires live { All (λ (r : Record). IsLive grid.old r.x r.y) records.now }
     requires fresh { IsAt (B.after behave.old) grid.old records.now 0 film.old grid.old }
@@ -22,9 +22,9 @@ fn run<B: Behave>(film: &mut Film, grid: &mut Grid, records: &[Record], behave: 
     }
 }
 
-/// The grid that the first `count` of some events make of a start, each at a live site: all are
-/// made, and the others are undone, the last of them first. `NoMemory` if there is none for the
-/// film.
+/// The grid that the first `count` of some events, all at live sites, make of a start: all events
+/// are made, and then all but the first `count` are undone, the last one first. `NoMemory` if there
+/// is none for the film.
 pub fn rewound<B: Behave>(
     alloc: Global,
     start: Grid,

@@ -1,10 +1,12 @@
 -- A grid of a plane without an atom: its size, the rectangles of the tiles, and what is left of the marks.
-use Rattle.std.proofs.Common.{ℕ, zero, suc, ◌≡◌, ◌≤◌, ◌<◌, ◌+◌, ◌-◌, ◌*◌, ◌/◌, ◌%◌, ◌==◌, ◌&&◌, Bool, true, false, not, length, get_or, refl, sym, ap, subst, ◌∙◌, arith}
+use Rattle.std.proofs.Common.{ℕ, ◌≡◌, ◌≤◌, ◌<◌, ◌+◌, ◌-◌, ◌*◌, ◌/◌, ◌%◌, ◌==◌, ◌&&◌, Bool, true, false, not, length, get_or, refl, sym, ap, subst, ◌∙◌, arith}
 use Rattle.std.specs.Prelude.{◌||◌, nat_le, nat_lt}
 use Rattle.std.proofs.lemmas.Bool.Decides.{nat_tests}
 use Rattle.std.proofs.lemmas.List.{length-replicate, get_or-replicate}
 use Rattle.std.proofs.lemmas.List.FromFn.{get_or-map-range_with_len}
-use Rattle.std.proofs.lemmas.Nat.{div-mul-add, mod-mul-add}
+use Rattle.std.proofs.lemmas.Nat.{div-mul-add, mod-mul-add, mul-add-lt}
+use Rattle.std.proofs.Math.Bool.{or-true}
+use Rattle.list_laws.proofs.Numbers.{mul_less_one}
 use Rattle.list_laws.proofs.Tests.{both, together}
 use Rattle.bit_field.specs.Atom.{empty_atom}
 use Rattle.tile_map.specs.Plane.{Site, MapValue, IsMap, site, site_in, tiles_of, is_on, is_live, owner_of, is_owned}
@@ -14,9 +16,8 @@ use Rattle.tile_map.proofs.Spans.{times_more, plane_test}
 use Rattle.cell_grid.specs.Grid.{GridValue, empty_grid}
 use Rattle.cell_grid.specs.Shut.{Rectangle, rectangle, is_inside, IsEmptyIn, cleared, shut}
 use Rattle.cell_grid.proofs.Cleared.{IsGrid-shut}
-use Rattle.cell_grid.proofs.Places.{below}
 use Rattle.event_journal.proofs.Extents.{sites_is}
-use Rattle.serial_order.specs.Outcomes.{IsAreaOf, IsBlank, IsShutTo}
+use Rattle.serial_order.specs.Outcomes.{IsAreaOf, IsPlaneGrid, IsShutTo}
 use Rattle.serial_order.specs.declared.blank.Area.{Area}
 
 -- how many columns and rows a plane has
@@ -38,14 +39,7 @@ some_sites m valid = let s = valid.sizes in let low = times_more 1 m.w m.h (omeg
 pub sites_by : (m : MapValue) → IsMap m → (width height tiles : ℕ) → width ≡ m.tx * m.w → height ≡ m.ty * m.h → tiles ≡ tiles_of m → width * height / tiles ≡ m.w * m.h
 sites_by m valid width height tiles a b c = (λ i. a i * b i / c i) ∙ sites_is m valid
 
--- the first and the last site of a tile
-last_place : (w h : ℕ) → 1 ≤ w → 1 ≤ h → w * h - 1 ≡ (h - 1) * w + (w - 1)
-last_place w zero p q = absurd (omega (arith, q))
-last_place w (suc h) p q =
-    let e : w * suc h ≡ h * w + w = grind arith in
-    let less : suc h - 1 ≡ h = omega arith in
-    let f = ap (λ k. k * w) less in omega (arith, e, f, p)
-
+-- the first site of a tile
 first_column : (w : ℕ) → 1 ≤ w → 0 % w ≡ 0
 first_column w p = let none : 0 ≡ 0 * w + 0 = omega arith in ap (λ n. n % w) none ∙ mod-mul-add 0 w 0 (omega (arith, p))
 
@@ -64,7 +58,7 @@ module _ (m : MapValue) (valid : IsMap m) (t : ℕ) where
   right_bottom right bottom last is e =
       let some : 1 ≤ m.w = omega (arith, valid.sizes.w_low) in
       let some' : 1 ≤ m.h = omega (arith, valid.sizes.h_low) in
-      let at = is ∙ last_place m.w m.h some some' in
+      let at = is ∙ mul_less_one m.w m.h some some' in
       let less : m.w - 1 < m.w = omega (arith, some) in
       let x = ap (λ (s : Site). s.x) e in
       let y = ap (λ (s : Site). s.y) e in
@@ -120,14 +114,6 @@ and_true : (b : Bool) → (b && true) ≡ b
 and_true true = refl
 and_true false = refl
 
-or_true : (b : Bool) → (b || true) ≡ true
-or_true true = refl
-or_true false = refl
-
-or_false : (b : Bool) → (b || false) ≡ b
-or_false true = refl
-or_false false = refl
-
 le_next : (t o : ℕ) → (o == t) ≡ false → nat_le t o ≡ nat_le (t + 1) o
 le_next t o ne = go (nat_le t o) (nat_le (t + 1) o) refl refl
   where
@@ -150,7 +136,7 @@ module _ (m : MapValue) where
       go true q =
           let same : o ≡ t = grind (arith, nat_tests, q) in
           let up : is_on m o ≡ true = ap (is_on m) same ∙ on in
-          (ap (λ b. nat_le t o || b) up ∙ or_true (nat_le t o)) ∙ sym (ap (λ b. nat_le (t + 1) o || b) up ∙ or_true (nat_le (t + 1) o))
+          (ap (λ b. nat_le t o || b) up ∙ or-true (nat_le t o)) ∙ sym (ap (λ b. nat_le (t + 1) o || b) up ∙ or-true (nat_le (t + 1) o))
 
   mark_off : (t o : ℕ) → is_on m t ≡ false → (mark t o && not (o == t)) ≡ mark (t + 1) o
   mark_off t o off = go (o == t) refl
@@ -182,11 +168,11 @@ module _ (m : MapValue) where
         empty = refl;
         live = λ x y lx ly.
             let first : nat_le 0 (owner_of m (site x y)) ≡ true = grind (arith, nat_tests) in
-            get_or-replicate (m.tx * m.w * (m.ty * m.h)) (y * (m.tx * m.w) + x) true false (below x y (m.tx * m.w) (m.ty * m.h) lx ly) ∙ sym (ap (λ b. b || is_on m (owner_of m (site x y))) first);
+            get_or-replicate (m.tx * m.w * (m.ty * m.h)) (y * (m.tx * m.w) + x) true false (mul-add-lt y (m.tx * m.w) x (m.ty * m.h) ly lx) ∙ sym (ap (λ b. b || is_on m (owner_of m (site x y))) first);
       }
 
-  pub shut_all : IsMap m → (n : ℕ) (g : GridValue) → tiles_of m ≤ n → IsShutTo m n g → IsBlank m g
-  shut_all valid n g all h = record { grid = h.grid; fits = record { wide = h.wide; high = h.high; live = live }; empty = h.empty }
+  pub shut_all : IsMap m → (n : ℕ) (g : GridValue) → tiles_of m ≤ n → IsShutTo m n g → IsPlaneGrid m g
+  shut_all valid n g all h = (h.grid, record { wide = h.wide; high = h.high; live = live })
     where
       live : (x y : ℕ) → x < g.width → y < g.height → get_or g.live (y * g.width + x) false ≡ is_live m (site x y)
       live x y lx ly =
@@ -200,13 +186,13 @@ module _ (m : MapValue) where
     shut_on on = record { grid = h.grid; wide = h.wide; high = h.high; empty = h.empty; live = λ x y lx ly. h.live x y lx ly ∙ mark_on t (owner_of m (site x y)) on }
 
     pub empty_in : (r : Rectangle) → IsEmptyIn g r
-    empty_in r u v lu lv inside = ap (λ atoms. get_or atoms (v * g.width + u) empty_atom) h.empty ∙ get_or-replicate (g.width * g.height) (v * g.width + u) empty_atom empty_atom (below u v g.width g.height lu lv)
+    empty_in r u v lu lv inside = ap (λ atoms. get_or atoms (v * g.width + u) empty_atom) h.empty ∙ get_or-replicate (g.width * g.height) (v * g.width + u) empty_atom empty_atom (mul-add-lt v g.width u g.height lv lu)
 
     left_of_mark : (r : Rectangle) (x y : ℕ) → x < g.width → y < g.height → get_or (cleared g.live g.width r) (y * g.width + x) false ≡ (get_or g.live (y * g.width + x) false && not (is_inside r x y))
     unfolding cleared
     left_of_mark r x y lx ly =
         let i = y * g.width + x in
-        let lt = below x y g.width g.height lx ly in
+        let lt = mul-add-lt y g.width x g.height ly lx in
         let c = mod-mul-add y g.width x lx in
         let d = div-mul-add y g.width x lx in
         get_or-map-range_with_len (λ k. get_or g.live k false && not (is_inside r (k % g.width) (k / g.width))) 0 (length g.live) i i false (omega (arith, lt, h.grid.marked)) (omega arith)

@@ -1,8 +1,9 @@
 -- Tiles that have stopped on one plain board are over.
-use Rattle.std.proofs.Common.{ℕ, zero, suc, ◌≡◌, ◌<◌, ◌≤◌, List, [], ◌∷◌, true, length, take, drop, refl, sym, ap, subst, ◌∙◌, arith, inl, ⊎_elim}
-use Rattle.std.specs.Prelude.{min, slice_get, if◌then◌else◌}
+use Rattle.std.proofs.Common.{ℕ, suc, ◌≡◌, ◌<◌, ◌≤◌, List, [], ◌∷◌, true, length, take, drop, refl, sym, ap, subst, ◌∙◌, arith, inl, ⊎_elim}
+use Rattle.std.specs.Prelude.{min, if◌then◌else◌}
 use Rattle.std.proofs.lemmas.List.{append-nil, length-map, length-take, get_or-map, take-append-drop}
 use Rattle.std.proofs.lemmas.Option.{slice_get_within}
+use Rattle.list_laws.proofs.Slots.{get_take, drop_none}
 use Rattle.bit_field.specs.Atom.{AtomValue}
 use Rattle.window_sites.specs.Window.{WindowValue}
 use Rattle.tile_map.specs.Plane.{Site, MapValue, tiles_of}
@@ -18,7 +19,7 @@ use Rattle.edge_lock.proofs.Counts.{sites_back}
 use Rattle.border_cache.specs.Windows.{has, end_at, sites_on}
 use Rattle.tile_core.specs.declared.phase.Phase.TheVariants.{Finished, Worn}
 use Rattle.tile_core.specs.Values.{TileValue, atoms_of, centre, event_site, given_up_site}
-use Rattle.tile_core.specs.Turns.{Turn, Worn as WornTurn, Wins, Loses, Wears, AgreeOnEdges, AreAttempts, IsAttempt, IsAttemptOf, IsWorn, lists_of, with_more, one_if, greatest, stamp_of, clock_in}
+use Rattle.tile_core.specs.Turns.{Turn, Worn as WornTurn, Wins, Loses, Wears, AgreeOnEdges, AreAttempts, IsNthAttempt, IsAttemptOf, IsWorn, lists_of, with_more, one_if, greatest, stamp_of, clock_in}
 use Rattle.tile_core.specs.Underway.{IsUnderway, InPhase, IsDrawn, is_refreshed}
 use Rattle.tile_core.specs.Boards.{IsBoardOf}
 use Rattle.tile_core.proofs.Boards.{end_known, edge_end}
@@ -53,28 +54,14 @@ module _ (m : MapValue) (board : PlainBoardValue) (k : IsBoardOf m board) where
       let which : end_at m t e ≡ end_of (edge_at board e) t = sym (edge_end m e (edge_at board e) (k.each e inside) t) in
       here ∙ (λ i. end_lists_of (which i) (history_is e inside i))
 
--- what is left of a list is nothing
-drop_none : {A : Type 0} (n : ℕ) (xs : List A) → drop n xs ≡ [] → length xs ≤ n
-drop_none zero [] h = omega arith
-drop_none zero (x ∷ xs) h = absurd (cc h)
-drop_none (suc n) [] h = omega arith
-drop_none (suc n) (x ∷ xs) h = let le = drop_none n xs h in omega (arith, le)
-
 attempt_there : (m : MapValue) (t : ℕ) (given : List Attempt) (n : ℕ) (x : Turn) → IsAttemptOf m t given n x → n < length given
 attempt_there m t given n (Wins w) a = slice_get_within given n a.attempt a.is
 attempt_there m t given n (Loses l) a = slice_get_within given n a.1.attempt a.1.is
 attempt_there m t given n (Wears w) a = slice_get_within given n a.1.attempt a.1.is
 
--- the first attempts of a list
-get_first : {A : Type 0} (k n : ℕ) (xs : List A) → k < n → slice_get (take n xs) k ≡ slice_get xs k
-get_first k zero xs lt = absurd (omega (arith, lt))
-get_first k (suc n) [] lt = refl
-get_first zero (suc n) (x ∷ xs) lt = refl
-get_first (suc k) (suc n) (x ∷ xs) lt = get_first k n xs (omega (arith, lt))
-
 module _ (m : MapValue) (t : ℕ) (given : List Attempt) (n : ℕ) where
-  first_attempt : (k : ℕ) (s : Site) (seed : ℕ) → k < n → IsAttempt m t given k s seed → IsAttempt m t (take n given) k s seed
-  first_attempt k s seed lt a = record { attempt = a.attempt; is = get_first k n given lt ∙ a.is; site_is = a.site_is; seed_is = a.seed_is }
+  first_attempt : (k : ℕ) (s : Site) (seed : ℕ) → k < n → IsNthAttempt m t given k s seed → IsNthAttempt m t (take n given) k s seed
+  first_attempt k s seed lt a = record { attempt = a.attempt; is = get_take k n given lt ∙ a.is; site_is = a.site_is; seed_is = a.seed_is }
 
   first_turn : (k : ℕ) (x : Turn) → k < n → IsAttemptOf m t given k x → IsAttemptOf m t (take n given) k x
   first_turn k (Wins w) lt a = first_attempt k (event_site w.note) w.note.seed lt a

@@ -3,6 +3,10 @@ use Rattle.std.proofs.Common.{ℕ, ◌≡◌, ◌≢◌, ◌≤◌, ◌<◌, ◌
 use Rattle.std.specs.Prelude.{slice_get}
 use Rattle.std.specs.Int.{bit_at}
 use Rattle.std.proofs.lemmas.Nat.{pow_pos, div_below}
+use Rattle.std.proofs.lemmas.Option.{slice_get_within}
+use Rattle.std.proofs.lemmas.Bool.{both_ways}
+use Rattle.list_laws.specs.Booleans.{digit}
+use Rattle.list_laws.proofs.Options.{none_from}
 use Rattle.bit_field.specs.Atom.{AtomValue, empty_atom}
 use Rattle.window_sites.specs.Window.{WindowValue}
 use Rattle.feast_base.specs.Edges.{news_words}
@@ -13,13 +17,13 @@ use Rattle.edge_lock.specs.declared.history.Access.{Access}
 use Rattle.edge_lock.specs.History.{found_value}
 use Rattle.border_cache.specs.Cells.{cell_value, cell_of}
 use Rattle.border_cache.specs.News.{Covers, word_of, has_bit, is_news}
-use Rattle.border_cache.specs.Published.{IsWordMarked, digit}
-use Rattle.border_cache.specs.Windows.{place_in, place_of_some, end_at, sites_on}
+use Rattle.border_cache.specs.Published.{IsWordMarked}
+use Rattle.border_cache.specs.Windows.{place_in, edge_place_some, end_at, sites_on}
 use Rattle.border_cache.proofs.Covered.{covered_in, in_covered}
 use Rattle.list_laws.proofs.Members.{In}
 use Rattle.tile_core.specs.Values.{event_site}
 use Rattle.tile_core.specs.Turns.{Won, Turn, IsWon, IsEventHold, accesses_at, cell_left, atom_for}
-use Rattle.serial_order.proofs.Ground.{in_has, end_small, placed, inside, inside_of}
+use Rattle.serial_order.proofs.Ground.{in_has, end_small, placed, inside}
 use Rattle.serial_order.proofs.Histories.{left_in, end_two}
 
 -- whether the shared site k of the edge is a live site of the window at c
@@ -68,19 +72,11 @@ same_word sites b c k j small small' lt lt' e = go (end_two b small) (end_two c 
     go (inl p) (inr q) = absurd (omega (arith, at b k 0 p, at c j 1 q, e, x))
     go (inr p) (inl q) = absurd (omega (arith, at b k 1 p, at c j 0 q, e, y))
 
-none_of : (o : Option ℕ) → ((v : ℕ) → o ≡ Some v → ⊥) → o ≡ None
-none_of None f = refl
-none_of (Some v) f = absurd (f v refl)
-
 place_again : (k : ℕ) → k ≡ 64 * (k / 64) + k % 64
 place_again k = omega arith
 
 below_64 : (k : ℕ) → k % 64 < 64
 below_64 k = omega arith
-
-not_both : (b : Bool) → b ≡ true → b ≡ false → ⊥
-not_both true p q = cc
-not_both false p q = cc
 
 module _ (m : MapValue) (plane : IsPlane m) (meaning : WindowValue → ℕ → WindowValue) (start : Site → AtomValue) (t : ℕ) (past : List Turn) (w : Won) (won : IsWon m meaning start t past w) (e : ℕ) (i : In e (needs_of m t (event_site w.note))) where
   abbrev centre : Site
@@ -108,13 +104,13 @@ module _ (m : MapValue) (plane : IsPlane m) (meaning : WindowValue → ℕ → W
   uncovered k c = let r = covered_in m plane (event_site w.note) e k c in ap (is_near m (event_site w.note)) r.1 ∙ r.2
 
   small : (k : ℕ) → Covers (place_in m (event_site w.note) e) 41 k → k < sites_on m e
-  small k c = let r = covered_in m plane (event_site w.note) e k c in inside_of (shared_of m e) k r.0 r.1
+  small k c = let r = covered_in m plane (event_site w.note) e k c in slice_get_within (shared_of m e) k r.0 r.1
 
   -- the cells that it left
   left_cell : (n k : ℕ) → place_in m (event_site w.note) e n ≡ Some k → cell_left m w n ≡ cell_value w.note.stamp (at_place empty_atom w.after (slice_get (shared_of m e) k))
   left_cell n k h = go (window_site m (event_site w.note) n) h
     where
-      go : (o : Option Site) → place_of_some m e o ≡ Some k → cell_value w.note.stamp (atom_for o w.after) ≡ cell_value w.note.stamp (at_place empty_atom w.after (slice_get (shared_of m e) k))
+      go : (o : Option Site) → edge_place_some m e o ≡ Some k → cell_value w.note.stamp (atom_for o w.after) ≡ cell_value w.note.stamp (at_place empty_atom w.after (slice_get (shared_of m e) k))
       go None q = absurd (cc (q))
       go (Some s) q = ap (λ o. cell_value w.note.stamp (at_place empty_atom w.after o)) (sym (placed m plane e k s q))
 
@@ -134,14 +130,14 @@ module _ (m : MapValue) (plane : IsPlane m) (meaning : WindowValue → ℕ → W
       same j (inr a) = ⊎_elim {C = j ≡ k} (λ b. omega (arith, a, b)) (λ b. omega (arith, a, b)) is
 
       at : (j : ℕ) → Covers places 41 j → (r ≡ 1 + 2 * j) ⊎ (r ≡ 2 + 2 * j) → ⊥
-      at j c a = not_both (covers m e centre k) (subst (λ q. covers m e centre q ≡ true) (same j a) (uncovered j c)) h
+      at j c a = both_ways (covers m e centre k) h (subst (λ q. covers m e centre q ≡ true) (same j a) (uncovered j c))
 
       go : (r ≡ 0) ⊎ ((j : ℕ) × Covers places 41 j × ((r ≡ 1 + 2 * j) ⊎ ((r ≡ 2 + 2 * j) ⊎ ((r ≡ word_of sites end j) ⊎ (r ≡ word_of sites (1 - end) j))))) → ⊥
       go (inl z) = ⊎_elim {C = ⊥} (λ a. omega (arith, a, z)) (λ a. omega (arith, a, z)) is
       go (inr p) = ⊎_elim {C = ⊥} (λ a. at p.0 p.1 (inl a)) (λ q. ⊎_elim {C = ⊥} (λ a. at p.0 p.1 (inr a)) (λ s. ⊎_elim {C = ⊥} (λ a. omega (arith, a, low, lt)) (λ a. omega (arith, a, low, lt)) s) q) p.2
 
   pub spares : (k : ℕ) → k < sites_on m e → covers m e (event_site w.note) k ≡ false → (left_in (accesses_at w e) (1 + 2 * k) ≡ None) × (left_in (accesses_at w e) (2 + 2 * k) ≡ None)
-  spares k lt h = (none_of (left_in done (1 + 2 * k)) (λ v l. unwritten k (1 + 2 * k) v lt h (inl refl) l), none_of (left_in done (2 + 2 * k)) (λ v l. unwritten k (2 + 2 * k) v lt h (inr refl) l))
+  spares k lt h = (none_from (left_in done (1 + 2 * k)) (λ v l. unwritten k (1 + 2 * k) v lt h (inl refl) l), none_from (left_in done (2 + 2 * k)) (λ v l. unwritten k (2 + 2 * k) v lt h (inr refl) l))
 
   -- the news words that it left
   bit_marked : (b : ℕ) (bit : Bool) (k : ℕ) → Covers (place_in m (event_site w.note) e) 41 k → IsWordMarked (sites_on m e) b bit (place_in m (event_site w.note) e) 41 (accesses_at w e) (k / 64)
@@ -174,7 +170,7 @@ module _ (m : MapValue) (plane : IsPlane m) (meaning : WindowValue → ℕ → W
         r.first,
         ap (found_value done) is ∙ r.found,
         ap (left_in done) is ∙ r.written,
-        ap (λ z. z == 1) (r.kept (k % 64) (below_64 k) (λ q. not_both (covers m e centre k) (uncovered k (subst (Covers places 41) again q)) h)),
+        ap (λ z. z == 1) (r.kept (k % 64) (below_64 k) (λ q. both_ways (covers m e centre k) h (uncovered k (subst (Covers places 41) again q)))),
       )
 
   pub spared : (b k : ℕ) → b < 2 → k < sites_on m e → covers m e (event_site w.note) k ≡ false → IsSpared b k

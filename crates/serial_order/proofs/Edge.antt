@@ -1,19 +1,20 @@
 -- One edge: what its holds find, and what is written last.
 use Rattle.std.proofs.Common.{ℕ, ◌≡◌, ◌≤◌, ◌<◌, ◌+◌, ◌*◌, List, [], ◌∷◌, ◌++◌, refl, sym, ap, subst, arith, ◌⊎◌, inl, inr, ⊎_elim, Bool, true, false, Some, None, ◌∙◌}
+use Rattle.list_laws.specs.Options.{value_or}
 use Rattle.edge_lock.specs.declared.history.Hold.{Hold}
 use Rattle.edge_lock.specs.History.{found_value}
 use Rattle.bit_field.specs.Atom.{AtomValue}
 use Rattle.border_cache.specs.Cells.{CellValue, cell_value, cell_of}
 use Rattle.list_laws.proofs.Members.{In, in_right}
 use Rattle.serial_order.proofs.Coherence.{Latest, untouched, touched}
-use Rattle.serial_order.proofs.Histories.{values, cell_at, left_in, or_else, put_is, IsQuiet, MayFollow, IsHistory}
+use Rattle.serial_order.proofs.Histories.{values, cell_at, left_in, put_is, IsQuiet, MayFollow, IsHistory}
 
 -- a register that no write was to, and one that was written
 pub kept : (h : Hold) (hs : List Hold) (k : ℕ) → left_in h.accesses k ≡ None → values (h ∷ hs) k ≡ values hs k
-kept h hs k e = put_is h.accesses k (values hs k) ∙ ap (or_else (values hs k)) e
+kept h hs k e = put_is h.accesses k (values hs k) ∙ ap (value_or (values hs k)) e
 
 pub left : (h : Hold) (hs : List Hold) (k x : ℕ) → left_in h.accesses k ≡ Some x → values (h ∷ hs) k ≡ x
-left h hs k x e = put_is h.accesses k (values hs k) ∙ ap (or_else (values hs k)) e
+left h hs k x e = put_is h.accesses k (values hs k) ∙ ap (value_or (values hs k)) e
 
 -- what an event leaves in its hold: its stamp in the clock, its cells at the sites that it covers
 pub record Deeds (E : Type 0) : Type 0 where

@@ -10,7 +10,7 @@ use Rattle.tile_map.specs.Edges.{pairs_of, has_end, edges_at, shared_of, registe
 use Rattle.edge_lock.specs.History.{trace}
 use Rattle.edge_lock.proofs.SharedHolds.{allowed_value}
 use Rattle.border_cache.specs.Cells.{CellValue, newer, newest}
-use Rattle.border_cache.specs.Windows.{and_cell, place_of, sites_on}
+use Rattle.border_cache.specs.Windows.{and_cell, edge_place, sites_on}
 use Rattle.serial_order.specs.Scene.{EdgeHistory, history_at, registers_at}
 use Rattle.serial_order.specs.Settled.{cell_in_registers, edge_cells}
 use Rattle.serial_order.specs.Words.{AreEdgeWords, newer_on}
@@ -25,7 +25,7 @@ pub newest_more : (m : MapValue) (registers : ℕ → ℕ → ℕ) (t : ℕ) (s 
 newest_more m registers t s e own best lt is =
     let more : length (pairs_of m) - e ≡ suc (length (pairs_of m) - (e + 1)) = omega (arith, lt) in
     let step : edges_from m t e ≡ filter (λ d. has_end m t d) (e ∷ range_with_len (e + 1) (length (pairs_of m) - (e + 1))) = ap (λ n. filter (λ d. has_end m t d) (range_with_len e n)) more in
-    go (has_end m t e) (place_of m e s) ∙ (ap (λ es. newest best (edge_cells m registers es s)) (sym step) ∙ is)
+    go (has_end m t e) (edge_place m e s) ∙ (ap (λ es. newest best (edge_cells m registers es s)) (sym step) ∙ is)
   where
     rest : List ℕ
     rest = filter (λ d. has_end m t d) (range_with_len (e + 1) (length (pairs_of m) - (e + 1)))
@@ -34,9 +34,9 @@ newest_more m registers t s e own best lt is =
     two None = refl
     two (Some c) = refl
 
-    go : (b : Bool) (p : Option ℕ) → newest (if b then newer best (cell_in_registers (registers e) (place_of m e s)) else best) (edge_cells m registers (filter (λ d. has_end m t d) (range_with_len (e + 1) (length (pairs_of m) - (e + 1)))) s)
+    go : (b : Bool) (p : Option ℕ) → newest (if b then newer best (cell_in_registers (registers e) (edge_place m e s)) else best) (edge_cells m registers (filter (λ d. has_end m t d) (range_with_len (e + 1) (length (pairs_of m) - (e + 1)))) s)
         ≡ newest best (edge_cells m registers (if b then e ∷ filter (λ d. has_end m t d) (range_with_len (e + 1) (length (pairs_of m) - (e + 1))) else filter (λ d. has_end m t d) (range_with_len (e + 1) (length (pairs_of m) - (e + 1)))) s)
-    go true p = two (cell_in_registers (registers e) (place_of m e s))
+    go true p = two (cell_in_registers (registers e) (edge_place m e s))
     go false p = refl
 
 -- no edge is left at the end
@@ -52,14 +52,14 @@ gap_at m edges counts e k w lt small =
 -- the first register of a site is that of its place among the shared ones
 pub record IsPlaced (m : MapValue) (e : ℕ) (s : Site) (register : ℕ) : Type 0 where
   pub place : ℕ
-  pub is : place_of m e s ≡ Some place
+  pub is : edge_place m e s ≡ Some place
   pub inside : place < sites_on m e
   pub first : register ≡ 1 + 2 * place
 
 pub register_place : (m : MapValue) (e : ℕ) (s : Site) (register : ℕ) → register_of m e s ≡ Some register → IsPlaced m e s register
-register_place m e s register h = go (place_of m e s) refl h
+register_place m e s register h = go (edge_place m e s) refl h
   where
-    go : (o : Option ℕ) → place_of m e s ≡ o → option_map (λ k. 1 + 2 * k) o ≡ Some register → IsPlaced m e s register
+    go : (o : Option ℕ) → edge_place m e s ≡ o → option_map (λ k. 1 + 2 * k) o ≡ Some register → IsPlaced m e s register
     go None is q = absurd (cc (q))
     go (Some k) is q = record { place = k; is = is; inside = (position-Some (λ p. p.x == s.x && p.y == s.y) (shared_of m e) k s is).0; first = sym (cc (q)) }
 

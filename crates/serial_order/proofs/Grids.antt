@@ -4,6 +4,7 @@ use Rattle.std.specs.Prelude.{nat_lt, slice_index_or, if◌then◌else◌}
 use Rattle.std.specs.Option.{option_map}
 use Rattle.std.proofs.lemmas.Bool.Decides.{nat_tests}
 use Rattle.std.proofs.lemmas.List.FromFn.{fill_by_all, get_or-map-range_with_len}
+use Rattle.std.proofs.lemmas.Nat.{mul-add-lt}
 use Rattle.list_laws.proofs.Members.{In, in_filter, filter_in, in_range, range_in}
 use Rattle.list_laws.proofs.Ranges.{filter_none}
 use Rattle.list_laws.proofs.Tests.{both}
@@ -14,7 +15,7 @@ use Rattle.window_sites.specs.Window.{WindowValue, atom_at}
 use Rattle.tile_map.specs.Plane.{Site, MapValue, site, in_plane, is_on, is_live, owner_of, in_window}
 use Rattle.tile_map.specs.Edges.{window_site, live_site}
 use Rattle.tile_map.specs.Laws.{IsPlane}
-use Rattle.cell_grid.specs.Grid.{GridValue, IsGrid, site_atom, below_end, placed, live_place, place_of, seen, is_place, sites_at, window_of, atom_left, put_window}
+use Rattle.cell_grid.specs.Grid.{GridValue, IsGrid, site_atom, place_by, live_place, place_of, seen, is_place, sites_at, window_of, atom_left, put_window, below}
 use Rattle.cell_grid.proofs.Windows.{put-plane}
 use Rattle.border_cache.specs.Cells.{CellValue}
 use Rattle.border_cache.specs.Copies.{IsGridOf}
@@ -27,9 +28,6 @@ index g s = s.y * g.width + s.x
 not_true : (b : Bool) → b ≡ false → b ≡ true → ⊥
 not_true true p q = cc
 not_true false p q = cc
-
-index_inside : (x y w h : ℕ) → x < w → y < h → y * w + x < w * h
-index_inside x y w h a b = grind (arith)
 
 times_more : (a b w : ℕ) → a < b → a * w + w ≤ b * w
 times_more a b w lt = grind arith
@@ -60,7 +58,7 @@ module _ (m : MapValue) (plane : IsPlane m) where
   place_is g of c n = go (shifted c.x (offset_of n).0) (shifted c.y (offset_of n).1)
     where
       marked : (u v : ℕ) (a b : Bool) → nat_lt u g.width ≡ a → nat_lt v g.height ≡ b
-          → live_place g.live (placed g.width (if a then Some u else None) (if b then Some v else None)) ≡ option_map (index g) (if is_live m (site u v) then Some (site u v) else None)
+          → live_place g.live (place_by g.width (if a then Some u else None) (if b then Some v else None)) ≡ option_map (index g) (if is_live m (site u v) then Some (site u v) else None)
       marked u v true true p q =
           let x : u < g.width = grind (arith, nat_tests, p) in
           let y : v < g.height = grind (arith, nat_tests, q) in
@@ -77,7 +75,7 @@ module _ (m : MapValue) (plane : IsPlane m) where
           dead false is = is
       marked u v false b p q = none b ∙ sym (ap (λ b. option_map (index g) (if b then Some (site u v) else None)) (dead (is_live m (site u v)) refl))
         where
-          none : (b : Bool) → live_place g.live (placed g.width None (if b then Some v else None)) ≡ None
+          none : (b : Bool) → live_place g.live (place_by g.width None (if b then Some v else None)) ≡ None
           none true = refl
           none false = refl
 
@@ -85,18 +83,18 @@ module _ (m : MapValue) (plane : IsPlane m) where
           dead true is = let r = in_columns (site u v) is in absurd (grind (arith, nat_tests, r.0, of.wide, p))
           dead false is = is
 
-      half : (u : ℕ) (a : Bool) → live_place g.live (placed g.width (if a then Some u else None) None) ≡ None
+      half : (u : ℕ) (a : Bool) → live_place g.live (place_by g.width (if a then Some u else None) None) ≡ None
       half u true = refl
       half u false = refl
 
-      go : (o q : Option ℕ) → live_place g.live (placed g.width (below_end g.width o) (below_end g.height q)) ≡ option_map (index g) (live_site m o q)
+      go : (o q : Option ℕ) → live_place g.live (place_by g.width (below g.width o) (below g.height q)) ≡ option_map (index g) (live_site m o q)
       go None q = refl
       go (Some u) None = half u (nat_lt u g.width)
       go (Some u) (Some v) = marked u v (nat_lt u g.width) (nat_lt v g.height) refl refl
 
   -- a live site is one of the grid's
   pub index_live : (g : GridValue) → IsGridOf m g → IsGrid g → (s : Site) → is_live m s ≡ true → index g s < length g.atoms
-  index_live g of good s live = let r = in_columns s live in let a = index_inside s.x s.y g.width g.height (omega (arith, r.0, of.wide)) (omega (arith, r.1, of.high)) in omega (arith, a, good.whole)
+  index_live g of good s live = let r = in_columns s live in let a = mul-add-lt s.y g.width s.x g.height (omega (arith, r.1, of.high)) (omega (arith, r.0, of.wide)) in omega (arith, a, good.whole)
 
   pub one_site : (g : GridValue) → IsGridOf m g → (s q : Site) → is_live m s ≡ true → is_live m q ≡ true → index g q ≡ index g s → q ≡ s
   one_site g of s q a b e =

@@ -1,18 +1,17 @@
 -- What the order of events takes from the plane.
-use Rattle.std.proofs.Common.{ℕ, ◌≡◌, ◌≢◌, ◌≤◌, ◌<◌, ◌+◌, ◌*◌, List, [], ◌∷◌, refl, sym, ap, subst, arith, ◌⊎◌, inl, inr, ⊎_elim, Bool, true, false, Option, Some, None, zero, suc, ◌∙◌, ◌==◌, ◌&&◌, length, get_or}
+use Rattle.std.proofs.Common.{ℕ, ◌≡◌, ◌≢◌, ◌≤◌, ◌<◌, ◌+◌, ◌*◌, List, [], ◌∷◌, refl, sym, ap, subst, arith, ◌⊎◌, inl, inr, ⊎_elim, Bool, true, false, Option, Some, None, ◌∙◌, ◌==◌, ◌&&◌, length, get_or}
 use Rattle.std.specs.Prelude.{slice_get, nat_lt, if◌then◌else◌}
 use Rattle.std.specs.Option.{option_map}
 use Rattle.std.proofs.lemmas.Bool.Decides.{nat_tests}
 use Rattle.std.proofs.lemmas.List.Quantifiers.{position-Some}
 use Rattle.std.proofs.lemmas.Option.{slice_get-get_or}
-use Rattle.list_laws.proofs.Members.{In}
+use Rattle.list_laws.proofs.Members.{In, contains_in, in_contains}
 use Rattle.serial_order.proofs.Lists.{past_end}
 use Rattle.list_laws.proofs.Tests.{both}
-use Rattle.event_journal.proofs.Journals.{contains_of, of_contains}
 use Rattle.tile_map.specs.Plane.{Site, MapValue, tiles_of, is_on, is_live, is_held, owner_of, in_plane, in_window}
 use Rattle.tile_map.specs.Edges.{pairs_of, low_end, high_end, shared_of, needs_of}
 use Rattle.tile_map.specs.Laws.{IsPlane, Joins}
-use Rattle.border_cache.specs.Windows.{has, end_at, place_of}
+use Rattle.border_cache.specs.Windows.{has, end_at, edge_place}
 
 -- the tile is an end of the edge
 abbrev pub IsEnd : MapValue → ℕ → ℕ → Type 0
@@ -64,10 +63,10 @@ module _ (m : MapValue) (plane : IsPlane m) where
       grind (arith, nat_tests, lt)
 
   pub inside : (t : ℕ) (c : Site) (e : ℕ) → In e (needs_of m t c) → e < length (pairs_of m)
-  inside t c e i = (plane.needs.cause t c e (contains_of (needs_of m t c) e i)).2
+  inside t c e i = (plane.needs.cause t c e (in_contains (needs_of m t c) e i)).2
 
   pub ends_of : (t : ℕ) (c : Site) (e : ℕ) → In e (needs_of m t c) → IsEnd m t e
-  ends_of t c e i = ⊎_elim (λ p. inl p.0) (λ p. inr p.1) (plane.needs.cause t c e (contains_of (needs_of m t c) e i)).3
+  ends_of t c e i = ⊎_elim (λ p. inl p.0) (λ p. inr p.1) (plane.needs.cause t c e (in_contains (needs_of m t c) e i)).3
 
   -- an edge that joins a tile of the plane to another is one of the plane's
   joins_inside : (e t u : ℕ) → t < tiles_of m → Joins m e t u → e < length (pairs_of m)
@@ -77,12 +76,12 @@ module _ (m : MapValue) (plane : IsPlane m) where
   pub needed : (c s : Site) (u e : ℕ) → is_live m c ≡ true → in_window m c s ≡ true → owner_of m c ≢ u → is_held m u s ≡ true → Joins m e (owner_of m c) u → In e (needs_of m (owner_of m c) c)
   needed c s u e live win ne held j =
       let r = plane.needs.needed c s u live win ne held in
-      let i = of_contains (needs_of m (owner_of m c) c) r.0 r.1 in
+      let i = contains_in (needs_of m (owner_of m c) c) r.0 r.1 in
       let same : e ≡ r.0 = plane.edges.one e r.0 (owner_of m c) u (joins_inside e (owner_of m c) u (owner_inside c live) j) (inside (owner_of m c) c r.0 i) j r.2 in
       subst (λ d. In d (needs_of m (owner_of m c) c)) (sym same) i
 
   -- the site at a place of the edge's shared ones
-  pub placed : (e k : ℕ) (s : Site) → place_of m e s ≡ Some k → slice_get (shared_of m e) k ≡ Some s
+  pub placed : (e k : ℕ) (s : Site) → edge_place m e s ≡ Some k → slice_get (shared_of m e) k ≡ Some s
   placed e k s h =
       let found = position-Some (λ p. p.x == s.x && p.y == s.y) (shared_of m e) k s h in
       let q = get_or (shared_of m e) k s in
@@ -94,8 +93,8 @@ module _ (m : MapValue) (plane : IsPlane m) where
   register_inside None = 0
   register_inside (Some x) = x
 
-  pub place_is : (e k : ℕ) (s : Site) → e < length (pairs_of m) → slice_get (shared_of m e) k ≡ Some s → place_of m e s ≡ Some k
-  place_is e k s lt at = go (place_of m e s) (plane.registers.found e k s lt at)
+  pub place_is : (e k : ℕ) (s : Site) → e < length (pairs_of m) → slice_get (shared_of m e) k ≡ Some s → edge_place m e s ≡ Some k
+  place_is e k s lt at = go (edge_place m e s) (plane.registers.found e k s lt at)
     where
       go : (o : Option ℕ) → option_map (λ j. 1 + 2 * j) o ≡ Some (1 + 2 * k) → o ≡ Some k
       go None h = absurd (cc h)
@@ -113,15 +112,3 @@ joined m e t u ne (inl a) (inl b) = absurd (ne (sym a ∙ b))
 joined m e t u ne (inl a) (inr b) = inl (a, b)
 joined m e t u ne (inr a) (inl b) = inr (b, a)
 joined m e t u ne (inr a) (inr b) = absurd (ne (sym a ∙ b))
-
-pub inside_of : {A : Type 0} (xs : List A) (k : ℕ) (x : A) → slice_get xs k ≡ Some x → k < length xs
-inside_of [] k x e = absurd (cc (e))
-inside_of (y ∷ xs) zero x e = omega arith
-inside_of (y ∷ xs) (suc k) x e = omega (arith, inside_of xs k x e)
-
-pub same_or_not : (a b : ℕ) → (a ≡ b) ⊎ (a ≢ b)
-same_or_not a b = go (a == b) refl
-  where
-    go : (t : Bool) → (a == b) ≡ t → (a ≡ b) ⊎ (a ≢ b)
-    go true is = inl (grind (arith, nat_tests))
-    go false is = inr (λ e. grind (arith, nat_tests, e, is))

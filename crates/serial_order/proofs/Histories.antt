@@ -5,28 +5,25 @@ use Rattle.std.specs.List.{All}
 use Rattle.std.proofs.lemmas.Bool.Decides.{nat_tests}
 use Rattle.std.proofs.lemmas.List.{append-nil}
 use Rattle.std.proofs.lemmas.List.Elements.{All-contains, filter-append}
+use Rattle.tile_core.proofs.Events.{silent_write}
+use Rattle.list_laws.specs.Options.{value_or}
 use Rattle.edge_lock.specs.declared.history.Access.{Access}
 use Rattle.edge_lock.specs.declared.history.Access.TheVariants.{Read, Write}
 use Rattle.edge_lock.specs.declared.history.Hold.{Hold}
 use Rattle.edge_lock.specs.declared.history.Refusal.{Refusal}
 use Rattle.edge_lock.specs.History as edge
-use Rattle.edge_lock.specs.History.{written, found_value, value, trace, own, key, keys, attempts_of, IsRising, IsEnd, IsEdgeHistory}
+use Rattle.edge_lock.specs.History.{written, found_value, register_value, trace, own, key, keys, attempts_of, IsRising, IsEnd, IsEdgeHistory}
 use Rattle.edge_lock.specs.EndLists.{writes_nothing}
-use Rattle.edge_lock.proofs.HistoryLaws.{finds}
+use Rattle.edge_lock.proofs.HistoryLaws.{finds, trace-append}
 use Rattle.edge_lock.proofs.LastHolds.{written-append}
 use Rattle.border_cache.specs.Accesses.{last_write}
 use Rattle.border_cache.specs.Cells.{CellValue, cell_of}
-use Rattle.list_laws.proofs.Members.{In, in_right}
-use Rattle.event_journal.proofs.Journals.{contains_of}
+use Rattle.list_laws.proofs.Members.{In, in_right, in_contains}
 use Rattle.serial_order.proofs.Lists.{back, back_append, back_snoc, Snoc, empty, snoc, snocs, in_back}
 
 -- what a hold leaves in a register, where it writes to it
 abbrev pub left_in : List Access → ℕ → Option ℕ
 left_in accesses register = last_write accesses register None
-
-abbrev pub or_else : ℕ → Option ℕ → ℕ
-or_else v None = v
-or_else v (Some x) = x
 
 -- the registers after these holds
 abbrev pub values : List Hold → ℕ → ℕ
@@ -61,45 +58,36 @@ pub record IsPlaced (hs : List Hold) (end attempt holder_attempt : ℕ) : Type 0
   pub after : (g : Hold) → In g older → g.end ≡ end → g.attempt < attempt
   pub before : (g : Hold) → In g newer → g.end ≡ end → attempt < g.attempt
 
-put_from : (xs : List Access) (k v : ℕ) (o : Option ℕ) → written xs k (or_else v o) ≡ or_else v (last_write xs k o)
+put_from : (xs : List Access) (k v : ℕ) (o : Option ℕ) → written xs k (value_or v o) ≡ value_or v (last_write xs k o)
 put_from [] k v o = refl
 put_from (Read q x ∷ xs) k v o = put_from xs k v o
 put_from (Write q x ∷ xs) k v o = go (k == q) (put_from xs k v o) (put_from xs k v (Some x))
   where
-    go : (b : Bool) → written xs k (or_else v o) ≡ or_else v (last_write xs k o) → written xs k x ≡ or_else v (last_write xs k (Some x)) → written xs k (if b then x else or_else v o) ≡ or_else v (last_write xs k (if b then Some x else o))
+    go : (b : Bool) → written xs k (value_or v o) ≡ value_or v (last_write xs k o) → written xs k x ≡ value_or v (last_write xs k (Some x)) → written xs k (if b then x else value_or v o) ≡ value_or v (last_write xs k (if b then Some x else o))
     go true e f = f
     go false e f = e
 
 -- a register after a hold: what it left there, or what was there before
-pub put_is : (xs : List Access) (k v : ℕ) → written xs k v ≡ or_else v (left_in xs k)
+pub put_is : (xs : List Access) (k v : ℕ) → written xs k v ≡ value_or v (left_in xs k)
 put_is xs k v = put_from xs k v None
 
-quiet_from : (xs : List Access) (k : ℕ) (o : Option ℕ) → writes_nothing xs ≡ true → last_write xs k o ≡ o
-quiet_from [] k o e = refl
-quiet_from (Read q x ∷ xs) k o e = quiet_from xs k o e
-quiet_from (Write q x ∷ xs) k o e = absurd (cc (e))
-
 pub quiet : (h : Hold) → writes_nothing h.accesses ≡ true → IsQuiet h
-quiet h e k = quiet_from h.accesses k None e
-
-trace_append : (gs hs : List Hold) → trace (gs ++ hs) ≡ trace gs ++ trace hs
-trace_append [] hs = refl
-trace_append (g ∷ gs) hs = ap (λ r. g.accesses ++ r) (trace_append gs hs) ∙ sym (append_assoc g.accesses (trace gs) (trace hs))
+quiet h e k = silent_write h.accesses k None e
 
 -- the registers, either way round
-pub values_back : (hs : List Hold) → Snoc hs → (r : ℕ) → values (back hs) r ≡ value hs r
+pub values_back : (hs : List Hold) → Snoc hs → (r : ℕ) → values (back hs) r ≡ register_value hs r
 values_back hs empty r = refl
 values_back _ (snoc gs h t) r =
     ap (λ q. values q r) (back_snoc gs h)
     ∙ ap (written h.accesses r) (values_back gs t r)
-    ∙ sym (ap (λ q. written q r 0) (trace_append gs (h ∷ []) ∙ ap (λ q. trace gs ++ q) (append-nil h.accesses)) ∙ written-append (trace gs) h.accesses r 0)
+    ∙ sym (ap (λ q. written q r 0) (trace-append gs (h ∷ []) ∙ ap (λ q. trace gs ++ q) (append-nil h.accesses)) ∙ written-append (trace gs) h.accesses r 0)
 
 in_keys : (hs : List Hold) (h : Hold) → In h hs → In (key h) (keys hs)
 in_keys [] h i = absurd i
 in_keys (g ∷ hs) h i = ⊎_elim (λ e. inl (ap key e)) (λ j. inr (in_keys hs h j)) i
 
 all_in : {X : Type 0} (P : X → Type 0) (xs : List X) (x : X) → All P xs → In x xs → P x
-all_in P xs x a i = All-contains P xs x a (contains_of xs x i)
+all_in P xs x a i = All-contains P xs x a (in_contains xs x i)
 
 pub end_two : (n : ℕ) → n < 2 → (n ≡ 0) ⊎ (n ≡ 1)
 end_two zero lt = inl refl
@@ -174,7 +162,7 @@ not_other : (b : ℕ) → (b ≡ 0) ⊎ (b ≡ 1) → 1 - b ≢ b
 not_other b (inl z) e = absurd (omega (arith, z, e))
 not_other b (inr z) e = absurd (omega (arith, z, e))
 
-pub placed_back : (hs : List Hold) (b : ℕ) (r : Refusal) → (b ≡ 0) ⊎ (b ≡ 1) → edge.IsPlaced (keys hs) b r → IsPlaced (back hs) b r.attempt r.holder
+pub placed_back : (hs : List Hold) (b : ℕ) (r : Refusal) → (b ≡ 0) ⊎ (b ≡ 1) → edge.NamesHold (keys hs) b r → IsPlaced (back hs) b r.attempt r.holder
 placed_back hs b r small p =
     let q = keys_split hs p.before (1 - b, r.holder) p.after p.splits in
     record {

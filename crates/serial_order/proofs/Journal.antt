@@ -1,40 +1,40 @@
 -- The journal of tiles that are over: its entries are the tiles' turns, it is accounted, and no tile is worn out.
 use Rattle.std.proofs.Common.{ℕ, zero, suc, ◌≡◌, ◌≢◌, ◌≤◌, ◌<◌, ◌+◌, List, [], ◌∷◌, ◌++◌, refl, sym, ap, subst, arith, inl, inr, Bool, true, false, Option, Some, None, ◌∙◌, ◌==◌, ◌&&◌, length, map, All, cond}
-use Rattle.std.specs.Prelude.{slice_get, slice_index_or, nat_lt, flat_map, count_by, sum_by, AllPairs, IsPermutation, if◌then◌else◌}
+use Rattle.std.specs.Prelude.{slice_get, slice_index_or, nat_lt, flat_map, sum_by, IsPermutation, if◌then◌else◌}
 use Rattle.std.specs.List.{range_with_len}
 use Rattle.std.proofs.lemmas.Bool.Decides.{nat_tests}
 use Rattle.std.proofs.lemmas.List.{length-append}
 use Rattle.std.proofs.lemmas.List.Sums.{sum_by-append, sum_by-cons}
 use Rattle.std.proofs.lemmas.List.Sorted.{Contains-permutation, IsPermutation-sym, sum_by-IsPermutation}
 use Rattle.std.proofs.lemmas.List.Elements.{All-map}
+use Rattle.list_laws.proofs.Counts.{count_none}
 use Rattle.tile_map.specs.Plane.{MapValue, tiles_of}
 use Rattle.cell_grid.specs.declared.record.Record.{Record}
 use Rattle.cell_grid.specs.Records.{Precedes}
 use Rattle.draw_stream.specs.declared.attempt.Attempt.{Attempt}
 use Rattle.draw_stream.specs.Plans.{attempts}
-use Rattle.list_laws.proofs.Members.{In, InOrder, in_map, map_in, in_flat, flat_in, place_in, get_in}
+use Rattle.list_laws.proofs.Members.{In, InOrder, in_map, map_in, in_flat, flat_in, place_in, pairs_order, contains_in, in_contains, in_all}
 use Rattle.event_journal.specs.declared.abandoned.Abandoned.{Abandoned}
 use Rattle.event_journal.specs.Logs as logs
 use Rattle.event_journal.specs.Logs.{LogValue, IsLog, AreLogs, IsJournal, tile_of, log_of, records_in}
 use Rattle.event_journal.specs.Accounts.{IsAccounted, IsEventOf, IsGivenUpOf, events_at, abandoned_at}
-use Rattle.event_journal.proofs.Journals.{contains_of, of_contains, journal_of, length-records_in}
+use Rattle.event_journal.proofs.Journals.{journal_of, length-records_in}
 use Rattle.tile_core.specs.declared.phase.Phase.{Phase}
 use Rattle.tile_core.specs.declared.phase.Phase.TheVariants.{Draw, Lock, Refresh, Behave, Write, Give, Back, Finished, Worn}
 use Rattle.tile_core.specs.Values.{atoms_of, TileValue}
-use Rattle.tile_core.specs.Turns.{Won, Lost, Worn as WornTurn, Turn, Wins, Loses, Wears, records_of, abandoned_of}
+use Rattle.tile_core.specs.Turns.{Won, Lost, Worn as WornTurn, Turn, Wins, Loses, Wears, records_in_turns, abandoned_in_turns}
 use Rattle.serial_order.specs.Scene.{Scene, IsOver, log_of_tile, logs_of, IsStopped, WearsLast, lists_at}
 use Rattle.serial_order.specs.Order.{records, abandoned, NoneIsWorn}
 use Rattle.serial_order.proofs.Lists.{past_end, none_past}
 use Rattle.serial_order.proofs.Tile.{Played, are_played}
 use Rattle.serial_order.proofs.TileLog as log
-use Rattle.serial_order.proofs.TileLog.{all_from}
 use Rattle.serial_order.proofs.Replay.{IsJournal as IsEvents, notes}
 use Rattle.serial_order.proofs.Entries.{AreEntries, journal}
 use Rattle.serial_order.proofs.NoneWorn.{none_worn}
 use Rattle.serial_order.proofs.Whole.{IsTold, turns, tile_told, tile_of as tile_with, each, hist, run}
 
 pub in_permutation : {A : Type 0} (xs ys : List A) (x : A) → IsPermutation xs ys → In x xs → In x ys
-in_permutation xs ys x p i = of_contains ys x (Contains-permutation xs ys x p (contains_of xs x i))
+in_permutation xs ys x p i = contains_in ys x (Contains-permutation xs ys x p (in_contains xs x i))
 
 -- each entry with its number
 numbered : {X : Type 0} (f : X → ℕ) (xs : List X) (a : ℕ) → ((k : ℕ) (x : X) → slice_get xs k ≡ Some x → f x ≡ a + k) → map f xs ≡ range_with_len a (length xs)
@@ -91,14 +91,6 @@ total_few (t ∷ ts) (l ∷ ls) e h =
     let f = sum_by-cons length l ls in
     omega (arith, a, b, c, d, f)
 
--- pairs in order, as members
-pairs_order : {A : Type 0} (R : A → A → Type 0) (xs : List A) → AllPairs R xs → InOrder R xs
-pairs_order R [] h = tt
-pairs_order R (x ∷ xs) h = (
-  λ y i. let p = get_in xs y x i in subst (λ z. R x z) p.2 (h 0 (suc p.0) x (omega arith) (omega (arith, p.1))),
-  pairs_order R xs (λ i j d a b. h (suc i) (suc j) d (omega (arith, a)) (omega (arith, b))),
-)
-
 wears_in : (xs : List Turn) → WearsLast xs → (x : WornTurn) × In (Wears x) xs
 wears_in [] e = absurd e
 wears_in (Wins w ∷ xs) e = absurd e
@@ -111,14 +103,6 @@ not_other t i a b ne = go (a == t) refl
     go : (c : Bool) → (a == t) ≡ c → (c && b == i) ≡ false
     go true is = absurd (ne (grind (arith, nat_tests, is)))
     go false is = refl
-
-count_none : {A : Type 0} (p : A → Bool) (xs : List A) → ((x : A) → In x xs → p x ≡ false) → count_by p xs ≡ 0
-count_none p [] h = refl
-count_none p (x ∷ xs) h =
-    let a = sum_by-cons (λ y. cond (p y) 1 0) x xs in
-    let b : ◌≡◌ {A = ℕ} (cond (p x) 1 0) 0 = ap (λ b. cond b 1 0) (h x (inl refl)) in
-    let c = count_none p xs (λ y i. h y (inr i)) in
-    omega (arith, a, b, c)
 
 module _ (s : Scene) (o : IsOver s) where
   abbrev pub ts : ℕ → List Turn
@@ -156,7 +140,7 @@ module _ (s : Scene) (o : IsOver s) where
       subst IsLog (λ j. log_of (sym (o.numbers p.0 tile p.1) j) (sym r.records j) (sym r.abandoned j)) (log.is_log s.map s.meaning (atoms_of s.start) p.0 (turns s o p.0) (played p.0))
 
   pub all_logs : All IsLog (logs_of s.tiles)
-  all_logs = All-map IsLog log_of_tile s.tiles (all_from (λ tile. IsLog (log_of_tile tile)) s.tiles tile_log)
+  all_logs = All-map IsLog log_of_tile s.tiles (in_all (λ tile. IsLog (log_of_tile tile)) s.tiles tile_log)
 
   pub is_journal : IsJournal (logs_of s.tiles)
   is_journal = journal_of (logs_of s.tiles) are_logs all_logs
@@ -169,7 +153,7 @@ module _ (s : Scene) (o : IsOver s) where
       let t = map_in log_of_tile s.tiles l.0 l.1 in
       let p = place_in s.tiles t.0 t.1 in
       let told = tile_told s o p.0 t.0 p.1 in
-      let k : In n (records_of (turns s o p.0)) = subst (In n) told.records (subst (λ (q : LogValue). In n q.records) t.2 l.2) in
+      let k : In n (records_in_turns (turns s o p.0)) = subst (In n) told.records (subst (λ (q : LogValue). In n q.records) t.2 l.2) in
       let r = log.in_records n (turns s o p.0) k in
       let own = log.own_record s.map s.meaning (atoms_of s.start) p.0 (turns s o p.0) (played p.0) n k in
       (r.0, subst (λ u. In (Wins r.0) (turns s o u)) (sym own) r.1, r.2)
@@ -187,7 +171,7 @@ module _ (s : Scene) (o : IsOver s) where
       let t = map_in log_of_tile s.tiles l.0 l.1 in
       let p = place_in s.tiles t.0 t.1 in
       let told = tile_told s o p.0 t.0 p.1 in
-      let k : In g (abandoned_of (turns s o p.0)) = subst (In g) told.abandoned (subst (λ (q : LogValue). In g q.abandoned) t.2 l.2) in
+      let k : In g (abandoned_in_turns (turns s o p.0)) = subst (In g) told.abandoned (subst (λ (q : LogValue). In g q.abandoned) t.2 l.2) in
       let r = log.in_abandoned g (turns s o p.0) k in
       let own = log.own_gone s.map s.meaning (atoms_of s.start) p.0 (turns s o p.0) (played p.0) g k in
       (r.0, subst (λ u. In (Loses r.0) (turns s o u)) (sym own) r.1, r.2)
@@ -276,14 +260,14 @@ module _ (s : Scene) (o : IsOver s) where
   pub accounted : IsAccounted s.map s.plan (records s) (abandoned s)
   accounted = record {
     once = each_once;
-    events = all_from (IsEventOf s.map s.plan) (records s) (λ n i.
+    events = in_all (IsEventOf s.map s.plan) (records s) (λ n i.
         let r = record_of n i in
         let p = tile_with s o n.tile (Wins r.0) r.1 in
         subst (IsEventOf s.map s.plan) (sym r.2) (
         let a = log.won_attempt s.map s.meaning (atoms_of s.start) n.tile (attempts s.plan n.tile) (turns s o n.tile) (played n.tile) (tile_told s o n.tile p.0 p.1).made r.0 r.1 in
         let t : n.tile ≡ r.0.note.tile = ap (λ (k : Record). k.tile) r.2 in
         (a.attempt, ap (λ u. slice_get (attempts s.plan u) r.0.note.attempt) (sym t) ∙ a.is, a.site_is ∙ ap (λ u. Rattle.tile_map.specs.Plane.site_in s.map u a.attempt.centre) t, a.seed_is)));
-    given_up = all_from (IsGivenUpOf s.map s.plan) (abandoned s) (λ g i.
+    given_up = in_all (IsGivenUpOf s.map s.plan) (abandoned s) (λ g i.
         let r = abandoned_of_turn g i in
         let p = tile_with s o g.tile (Loses r.0) r.1 in
         subst (IsGivenUpOf s.map s.plan) (sym r.2) (
@@ -293,8 +277,8 @@ module _ (s : Scene) (o : IsOver s) where
     order = is_journal.order;
     abandoned_order = is_journal.abandoned;
     rising = λ n k i j e lt.
-        let a = record_of n (of_contains (records s) n i) in
-        let b = record_of k (of_contains (records s) k j) in
+        let a = record_of n (contains_in (records s) n i) in
+        let b = record_of k (contains_in (records s) k j) in
         let r = log.later_greater s.map s.meaning (atoms_of s.start) n.tile (turns s o n.tile) (played n.tile) a.0 b.0 a.1 (subst (λ u. In (Wins b.0) (turns s o u)) (sym e) b.1) (omega (arith, lt, ap (λ (q : Record). q.attempt) a.2, ap (λ (q : Record). q.attempt) b.2)) in
         omega (arith, r, ap (λ (q : Record). q.stamp) a.2, ap (λ (q : Record). q.stamp) b.2);
   }

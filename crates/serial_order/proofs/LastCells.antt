@@ -1,6 +1,8 @@
 -- In the end the newest cells are those of the replayed grid.
 use Rattle.std.proofs.Common.{ℕ, ◌≡◌, ◌≢◌, ◌≤◌, ◌<◌, List, [], ◌∷◌, refl, sym, ap, subst, arith, ◌⊎◌, inl, inr, ⊎_elim, true, Option, Some, None, ◌∙◌, length}
 use Rattle.std.specs.Prelude.{slice_get}
+use Rattle.std.proofs.lemmas.Bool.{cases_eq}
+use Rattle.std.proofs.lemmas.Option.{slice_get_within}
 use Rattle.bit_field.specs.Atom.{empty_atom}
 use Rattle.window_sites.specs.Window.{WindowValue}
 use Rattle.tile_map.specs.Plane.{Site, MapValue, is_live, is_held}
@@ -12,12 +14,12 @@ use Rattle.edge_lock.specs.declared.history.Hold.{Hold}
 use Rattle.list_laws.proofs.Members.{In, InOrder}
 use Rattle.border_cache.specs.Cells.{CellValue, cell_value, cell_of}
 use Rattle.border_cache.specs.Copies.{IsGridOf}
-use Rattle.border_cache.specs.Windows.{and_cell, place_of}
+use Rattle.border_cache.specs.Windows.{and_cell, edge_place}
 use Rattle.tile_core.specs.Turns.{Won, Turn, cells_of}
 use Rattle.tile_core.specs.Values.{event_site, atoms_of}
 use Rattle.serial_order.specs.Settled.{cell_in_registers, edge_cells, settled_cell}
 use Rattle.serial_order.proofs.Coherence.{Latest, untouched, touched, Candidates, coherent}
-use Rattle.serial_order.proofs.Ground.{IsEnd, same_or_not, inside_of, needed, placed, place_is}
+use Rattle.serial_order.proofs.Ground.{IsEnd, needed, placed, place_is}
 use Rattle.serial_order.proofs.Histories.{values, cell_at}
 use Rattle.serial_order.proofs.Edge.{HasHold, latest_is}
 use Rattle.serial_order.proofs.Edge.{cell_by as cell_on}
@@ -31,24 +33,24 @@ use Rattle.serial_order.proofs.Replay.{DoneAt, Split, IsJournal, notes, replayed
 abbrev pub HasEdges : MapValue → ℕ → List ℕ → Site → Type 0
 HasEdges m t es s = (e : ℕ) → e < length (pairs_of m) → IsEnd m t e → Shares m e s → In e es
 
-left_by : (m : MapValue) (registers : ℕ → ℕ → ℕ) (es : List ℕ) (s : Site) (d : CellValue) → In d (edge_cells m registers es s) → (e : ℕ) × (k : ℕ) × In e es × (place_of m e s ≡ Some k) × (d ≡ cell_at (registers e) k)
+left_by : (m : MapValue) (registers : ℕ → ℕ → ℕ) (es : List ℕ) (s : Site) (d : CellValue) → In d (edge_cells m registers es s) → (e : ℕ) × (k : ℕ) × In e es × (edge_place m e s ≡ Some k) × (d ≡ cell_at (registers e) k)
 left_by m registers [] s d i = absurd i
-left_by m registers (e ∷ es) s d i = go (place_of m e s) refl i (λ j. left_by m registers es s d j)
+left_by m registers (e ∷ es) s d i = go (edge_place m e s) refl i (λ j. left_by m registers es s d j)
   where
-    go : (o : Option ℕ) → place_of m e s ≡ o → In d (and_cell (cell_in_registers (registers e) o) (edge_cells m registers es s))
-        → (In d (edge_cells m registers es s) → (c : ℕ) × (k : ℕ) × In c es × (place_of m c s ≡ Some k) × (d ≡ cell_at (registers c) k))
-        → (c : ℕ) × (k : ℕ) × In c (e ∷ es) × (place_of m c s ≡ Some k) × (d ≡ cell_at (registers c) k)
+    go : (o : Option ℕ) → edge_place m e s ≡ o → In d (and_cell (cell_in_registers (registers e) o) (edge_cells m registers es s))
+        → (In d (edge_cells m registers es s) → (c : ℕ) × (k : ℕ) × In c es × (edge_place m c s ≡ Some k) × (d ≡ cell_at (registers c) k))
+        → (c : ℕ) × (k : ℕ) × In c (e ∷ es) × (edge_place m c s ≡ Some k) × (d ≡ cell_at (registers c) k)
     go None p i rec = let r = rec i in (r.0, r.1, inr r.2, r.3, r.4)
     go (Some k) p i rec = ⊎_elim (λ q. (e, k, inl refl, p, q)) (λ j. let r = rec j in (r.0, r.1, inr r.2, r.3, r.4)) i
 
-by_left : (m : MapValue) (registers : ℕ → ℕ → ℕ) (es : List ℕ) (s : Site) (e k : ℕ) → In e es → place_of m e s ≡ Some k → In (cell_at (registers e) k) (edge_cells m registers es s)
+by_left : (m : MapValue) (registers : ℕ → ℕ → ℕ) (es : List ℕ) (s : Site) (e k : ℕ) → In e es → edge_place m e s ≡ Some k → In (cell_at (registers e) k) (edge_cells m registers es s)
 by_left m registers [] s e k i h = absurd i
-by_left m registers (c ∷ es) s e k i h = go (place_of m c s) refl i (λ j. by_left m registers es s e k j h)
+by_left m registers (c ∷ es) s e k i h = go (edge_place m c s) refl i (λ j. by_left m registers es s e k j h)
   where
-    go : (o : Option ℕ) → place_of m c s ≡ o → In e (c ∷ es) → (In e es → In (cell_at (registers e) k) (edge_cells m registers es s)) → In (cell_at (registers e) k) (and_cell (cell_in_registers (registers c) o) (edge_cells m registers es s))
-    go None p i rec = ⊎_elim (λ q. absurd (cc (ap (λ x. place_of m x s) q, p, h))) (λ j. rec j) i
+    go : (o : Option ℕ) → edge_place m c s ≡ o → In e (c ∷ es) → (In e es → In (cell_at (registers e) k) (edge_cells m registers es s)) → In (cell_at (registers e) k) (and_cell (cell_in_registers (registers c) o) (edge_cells m registers es s))
+    go None p i rec = ⊎_elim (λ q. absurd (cc (ap (λ x. edge_place m x s) q, p, h))) (λ j. rec j) i
     go (Some j) p i rec =
-        ⊎_elim (λ (q : e ≡ c). let same : k ≡ j = cc (ap (λ x. place_of m x s) q, p, h) in inl (λ i. cell_at (registers (q i)) (same i))) (λ g. inr (rec g)) i
+        ⊎_elim (λ (q : e ≡ c). let same : k ≡ j = cc (ap (λ x. edge_place m x s) q, p, h) in inl (λ i. cell_at (registers (q i)) (same i))) (λ g. inr (rec g)) i
 
 module _ (m : MapValue) (meaning : WindowValue → ℕ → WindowValue) (first : GridValue) (turns : ℕ → List Turn) (hist : ℕ → List Hold) (run : IsRun m meaning (atoms_of first) turns hist) where
   abbrev pub registers : ℕ → ℕ → ℕ
@@ -69,7 +71,7 @@ module _ (m : MapValue) (meaning : WindowValue → ℕ → WindowValue) (first :
       )
 
   known_left : (s : Site) (e k : ℕ) → slice_get (shared_of m e) k ≡ Some s → ((cell_at (values (hist e)) k).stamp ≡ 0) ⊎ ((v : Won) × Writes m turns s v × (cell_at (values (hist e)) k ≡ cell_by v s))
-  known_left s e k at = go (latest_is (deeds m turns e) (hist e) (run.histories e) (of_events m meaning (atoms_of first) turns hist run e) k (inside_of (shared_of m e) k s at))
+  known_left s e k at = go (latest_is (deeds m turns e) (hist e) (run.histories e) (of_events m meaning (atoms_of first) turns hist run e) k (slice_get_within (shared_of m e) k s at))
     where
       go : Latest (λ y. HasHold (deeds m turns e) (hist e) y × ((deeds m turns e).covers y k ≡ true)) (λ y. cell_on (deeds m turns e) y k) (cell_of 0 0) (cell_at (values (hist e)) k)
           → ((cell_at (values (hist e)) k).stamp ≡ 0) ⊎ ((v : Won) × Writes m turns s v × (cell_at (values (hist e)) k ≡ cell_by v s))
@@ -77,7 +79,7 @@ module _ (m : MapValue) (meaning : WindowValue → ℕ → WindowValue) (first :
       go (touched y j is low) = inr (y.won, (y.did, subst (λ o. is_near m (event_site y.won.note) o ≡ true) at j.1), is ∙ (λ i. record { stamp = y.won.note.stamp; atom = at_place (empty_atom) y.won.after (at i) }))
 
   covers_left : (s : Site) (e k : ℕ) (v : Won) → slice_get (shared_of m e) k ≡ Some s → Writes m turns s v → Needs m v e → v.note.stamp ≤ (cell_at (values (hist e)) k).stamp
-  covers_left s e k v at i n = go (latest_is (deeds m turns e) (hist e) (run.histories e) (of_events m meaning (atoms_of first) turns hist run e) k (inside_of (shared_of m e) k s at))
+  covers_left s e k v at i n = go (latest_is (deeds m turns e) (hist e) (run.histories e) (of_events m meaning (atoms_of first) turns hist run e) k (slice_get_within (shared_of m e) k s at))
     where
       x : EventOn m turns e
       x = record { won = v; did = i.0; needs = n }
@@ -97,7 +99,7 @@ module _ (m : MapValue) (meaning : WindowValue → ℕ → WindowValue) (first :
     found_known = λ d i.
         let r = left_by m registers es s d i in
         ⊎_elim (λ (z : (cell_at (values (hist r.0)) r.1).stamp ≡ 0). inl (ap (λ (c : CellValue). c.stamp) r.4 ∙ z)) (λ (z : (v : Won) × Writes m turns s v × (cell_at (values (hist r.0)) r.1 ≡ cell_by v s)). inr (z.0, z.1, r.4 ∙ z.2)) (known_left s r.0 r.1 (placed m run.plane r.0 r.1 s r.3));
-    covered = λ v i. ⊎_elim (λ e. inl (own_covers v i e (last_is m meaning (atoms_of first) t (turns t) (run.played t) s))) (λ ne. inr (other v i ne)) (same_or_not t v.note.tile);
+    covered = λ v i. ⊎_elim (λ e. inl (own_covers v i e (last_is m meaning (atoms_of first) t (turns t) (run.played t) s))) (λ ne. inr (other v i ne)) (cases_eq t v.note.tile);
     positive = λ v i. let o = past_of m meaning (atoms_of first) turns hist run v i.0 in omega (arith, grows m meaning (atoms_of first) v.note.tile o.before v o.won);
   }
     where

@@ -24,6 +24,7 @@ pub mod Promises
 pub mod SmallRun
 pub mod EdgeCells
 pub mod Blanks
+pub mod BlankGrid
 pub mod Filling
 pub mod Outcomes
 pub mod Boards

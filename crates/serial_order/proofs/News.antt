@@ -1,11 +1,11 @@
 -- News bits: an end's bit at a site is set just where the other end wrote it last.
 use Rattle.std.proofs.Common.{ℕ, ◌≡◌, ◌≢◌, ◌≤◌, ◌<◌, List, [], ◌∷◌, refl, sym, ap, subst, arith, ◌⊎◌, inl, inr, ⊎_elim, Bool, true, false, Some, None, ◌∙◌}
+use Rattle.std.proofs.lemmas.Bool.{cases_eq}
 use Rattle.edge_lock.specs.declared.history.Hold.{Hold}
 use Rattle.edge_lock.specs.History.{found_value}
 use Rattle.border_cache.specs.Cells.{CellValue}
 use Rattle.list_laws.proofs.Members.{In}
 use Rattle.serial_order.proofs.Coherence.{untouched, touched}
-use Rattle.serial_order.proofs.Ground.{same_or_not}
 use Rattle.serial_order.proofs.Histories.{values, cell_at, left_in, IsQuiet, MayFollow, IsHistory}
 use Rattle.serial_order.proofs.Edge.{Deeds, IsHoldOf, IsOfEvents, IsClock, clock_is, rises, kept, left, Wrote, IsLatestAt, of_either, older, stamp_left}
 
@@ -50,7 +50,7 @@ module _ {E : Type 0} (d : Deeds E) (word : ℕ → ℕ → ℕ) (test : ℕ →
       ⊎_elim
       (λ (q : d.end e ≡ b). let x = n.mine k lt is in by_own e ((h, inl refl, o), is) q top (ap (λ r. test r k) (left h hs (word b k) x.0 (subst (λ z. left_in h.accesses (word z k) ≡ Some x.0) q x.1)) ∙ x.2))
       (λ (q : d.end e ≢ b). let x = n.theirs b k small (λ r. q (sym r)) lt is in by_other e ((h, inl refl, o), is) q top (ap (λ r. test r k) (left h hs (word b k) x.0 x.1) ∙ x.2))
-      (same_or_not (d.end e) b)
+      (cases_eq (d.end e) b)
 
   pub news_is : (clear : (k : ℕ) → test 0 k ≡ false) → (hs : List Hold) → IsHistory hs → IsOfEvents d hs → HasNews hs → (b k : ℕ) → b < 2 → k < d.sites → News hs b k
   news_is clear [] good of has b k small lt = quiet (λ e p. absurd p.0.1) (clear k)

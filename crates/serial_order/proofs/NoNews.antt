@@ -1,6 +1,8 @@
 -- Where an end's news bit is clear, the edge has nothing newer than that end's own cell.
 use Rattle.std.proofs.Common.{ℕ, ◌≡◌, ◌≤◌, ◌<◌, List, subst, arith, ⊎_elim, true, false, Some}
 use Rattle.std.specs.Prelude.{slice_get}
+use Rattle.std.proofs.lemmas.Bool.{cases_eq}
+use Rattle.std.proofs.lemmas.Option.{slice_get_within}
 use Rattle.bit_field.specs.Atom.{AtomValue}
 use Rattle.window_sites.specs.Window.{WindowValue}
 use Rattle.tile_map.specs.Plane.{Site, MapValue, in_window}
@@ -12,7 +14,7 @@ use Rattle.border_cache.specs.Windows.{end_at, sites_on}
 use Rattle.tile_core.specs.Values.{event_site}
 use Rattle.tile_core.specs.Turns.{Turn, cells_of}
 use Rattle.serial_order.proofs.Coherence.{Latest, untouched, touched}
-use Rattle.serial_order.proofs.Ground.{IsEnd, same_or_not, apart, other_end_is, joined, end_small, inside_of}
+use Rattle.serial_order.proofs.Ground.{IsEnd, apart, other_end_is, joined, end_small}
 use Rattle.serial_order.proofs.Histories.{values, cell_at}
 use Rattle.serial_order.proofs.Edge.{latest_is, Wrote}
 use Rattle.serial_order.proofs.News.{news_is, clear_bit}
@@ -32,13 +34,13 @@ module _ (m : MapValue) (meaning : WindowValue → ℕ → WindowValue) (start :
       (latest_is (deeds m turns e) (hist e) (run.histories e) (of_events m meaning start turns hist run e) k lt) down)
     where
       lt : k < (deeds m turns e).sites
-      lt = inside_of (shared_of m e) k s at
+      lt = slice_get_within (shared_of m e) k s at
 
       by_own : (x : EventOn m turns e) → end_at m x.won.note.tile e ≡ end_at m t e → in_window m (event_site x.won.note) s ≡ true → x.won.note.stamp ≤ (cells_of m start (turns t) s).stamp
       by_own x same near = go (last_is m meaning start t (turns t) (run.played t) s)
         where
           tile : x.won.note.tile ≡ t
-          tile = ⊎_elim (λ r. r) (λ ne. absurd (other_end_is m e x.won.note.tile t (apart m run.plane e) (joined m e x.won.note.tile t ne (an_end m meaning start turns hist run e x) mine) same)) (same_or_not x.won.note.tile t)
+          tile = ⊎_elim (λ r. r) (λ ne. absurd (other_end_is m e x.won.note.tile t (apart m run.plane e) (joined m e x.won.note.tile t ne (an_end m meaning start turns hist run e x) mine) same)) (cases_eq x.won.note.tile t)
 
           did : Did (turns t) x.won
           did = subst (λ u. Did (turns u) x.won) tile x.did

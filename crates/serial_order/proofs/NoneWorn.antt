@@ -1,5 +1,6 @@
 -- No tile is worn out.
 use Rattle.std.proofs.Common.{ℕ, ◌≡◌, ◌≤◌, ◌<◌, List, [], ◌∷◌, sym, ap, subst, arith, inr, ⊎_elim, Some, length}
+use Rattle.list_laws.specs.Options.{or_zero}
 use Rattle.bit_field.specs.Atom.{AtomValue}
 use Rattle.window_sites.specs.Window.{WindowValue}
 use Rattle.tile_map.specs.Plane.{Site, MapValue}
@@ -8,7 +9,7 @@ use Rattle.cell_grid.specs.Records.{Precedes}
 use Rattle.edge_lock.specs.declared.history.Hold.{Hold}
 use Rattle.edge_lock.specs.History.{found_value}
 use Rattle.list_laws.proofs.Members.{In, InOrder}
-use Rattle.tile_core.specs.Turns.{Won, Worn, Turn, Wins, Loses, Wears, IsWorn, stamp_of, greatest, clock_in, known_or_0}
+use Rattle.tile_core.specs.Turns.{Won, Worn, Turn, Wins, Loses, Wears, IsWorn, stamp_of, greatest, clock_in}
 use Rattle.serial_order.proofs.Ground.{in_has, ends_of}
 use Rattle.serial_order.proofs.Edge.{HasHold, clock_found}
 use Rattle.serial_order.proofs.Tile.{Played, Did, stamp_by, greatest_is}
@@ -54,7 +55,7 @@ module _ (m : MapValue) (meaning : WindowValue → ℕ → WindowValue) (start :
       other r =
           let k = s.worn.holds r.0 (in_has r.0 (needs_of m t x.site) r.1) in
           let c = k.3 in
-          let at : clock_in (x.hold r.0).accesses ≡ c.0 = ap known_or_0 c.1 in
+          let at : clock_in (x.hold r.0).accesses ≡ c.0 = ap or_zero c.1 in
           omega (arith, r.2, at, s.worn.high, lt, clock_small n t x r.0 c.0 low (worn_in t x r.0 i r.1) c.1)
 
   pub none_worn : (ws : List Won) → IsJournal turns ws → InOrder Precedes (notes ws) → length (notes ws) ≤ 1000000 → (t : ℕ) (x : Worn) → In (Wears x) (turns t) → ⊥

@@ -1,6 +1,8 @@
 -- Events that write one site stand in one order, and each finds what was written last before it.
 use Rattle.std.proofs.Common.{ℕ, ◌≡◌, ◌≢◌, ◌≤◌, ◌<◌, ◌+◌, ◌*◌, List, [], ◌∷◌, refl, sym, ap, subst, arith, ◌⊎◌, inl, inr, ⊎_elim, Bool, true, false, Option, Some, None, ◌∙◌, length}
 use Rattle.std.specs.Prelude.{slice_get, if◌then◌else◌}
+use Rattle.std.proofs.lemmas.Bool.{cases_eq}
+use Rattle.std.proofs.lemmas.Option.{slice_get_within}
 use Rattle.bit_field.specs.Atom.{AtomValue, empty_atom}
 use Rattle.window_sites.specs.Window.{WindowValue}
 use Rattle.tile_map.specs.Plane.{Site, MapValue, is_held, in_window}
@@ -10,12 +12,12 @@ use Rattle.edge_lock.specs.declared.history.Hold.{Hold}
 use Rattle.edge_lock.specs.History.{found_value}
 use Rattle.list_laws.proofs.Members.{In}
 use Rattle.border_cache.specs.Cells.{CellValue, cell_value, cell_of, newest}
-use Rattle.border_cache.specs.News.{word_of, is_news, cell_in, seen}
-use Rattle.border_cache.specs.Windows.{and_cell, place_of, end_at, sites_on}
+use Rattle.border_cache.specs.News.{word_of, is_news, cell_in, found_cell}
+use Rattle.border_cache.specs.Windows.{and_cell, edge_place, end_at, sites_on}
 use Rattle.tile_core.specs.Values.{event_site}
 use Rattle.tile_core.specs.Turns.{Won, Turn, cells_of, accesses_at}
 use Rattle.serial_order.proofs.Coherence.{Latest, untouched, touched, Candidates, coherent}
-use Rattle.serial_order.proofs.Ground.{same_or_not, end_small, inside_of, inside, needed, apart, placed, place_is, other_end_is, joined}
+use Rattle.serial_order.proofs.Ground.{end_small, inside, needed, apart, placed, place_is, other_end_is, joined}
 use Rattle.serial_order.proofs.Histories.{values, cell_at, IsHistory}
 use Rattle.serial_order.proofs.Edge.{Deeds, IsHoldOf, HasHold, cell_by, Earlier, earlier, differ, latest_is, Wrote}
 use Rattle.serial_order.proofs.News.{HasNews, IsNewsOf, News, quiet, by_own, by_other, news_is}
@@ -26,7 +28,7 @@ use Rattle.serial_order.proofs.World.{IsRun, IsEvent, Needs, EventOn, deeds, pas
 
 -- the cell that an event found at a site on an edge, where it was news
 abbrev pub seen_of : MapValue → Won → ℕ → Site → Option CellValue
-seen_of m w e s = seen (sites_on m e) (end_at m w.note.tile e) (accesses_at w e) (place_of m e s)
+seen_of m w e s = found_cell (sites_on m e) (end_at m w.note.tile e) (accesses_at w e) (edge_place m e s)
 
 -- the cells that an event found at a site, edge by edge
 abbrev pub found_cells : MapValue → Won → List ℕ → Site → List CellValue
@@ -52,7 +54,7 @@ by_found m w (c ∷ es) s e d i h = go (seen_of m w c s) refl i (λ j. by_found 
 -- the parts of a cell that was found
 pub record IsFound (m : MapValue) (w : Won) (e : ℕ) (s : Site) (c : CellValue) : Type 0 where
   pub place : ℕ
-  pub is_place : place_of m e s ≡ Some place
+  pub is_place : edge_place m e s ≡ Some place
   pub fresh : is_news (sites_on m e) (end_at m w.note.tile e) (accesses_at w e) place ≡ true
   pub low : ℕ
   pub high : ℕ
@@ -61,26 +63,26 @@ pub record IsFound (m : MapValue) (w : Won) (e : ℕ) (s : Site) (c : CellValue)
   pub cell : cell_of low high ≡ c
 
 pub found_parts : (m : MapValue) (w : Won) (e : ℕ) (s : Site) (c : CellValue) → seen_of m w e s ≡ Some c → IsFound m w e s c
-found_parts m w e s c h = go (place_of m e s) refl h
+found_parts m w e s c h = go (edge_place m e s) refl h
   where
-    words : (k : ℕ) → place_of m e s ≡ Some k → is_news (sites_on m e) (end_at m w.note.tile e) (accesses_at w e) k ≡ true → (low high : Option ℕ)
+    words : (k : ℕ) → edge_place m e s ≡ Some k → is_news (sites_on m e) (end_at m w.note.tile e) (accesses_at w e) k ≡ true → (low high : Option ℕ)
         → found_value (accesses_at w e) (1 + 2 * k) ≡ low → found_value (accesses_at w e) (2 + 2 * k) ≡ high → cell_in low high ≡ Some c → IsFound m w e s c
     words k at f None high p q is = absurd (cc (is))
     words k at f (Some low) None p q is = absurd (cc (is))
     words k at f (Some low) (Some high) p q is = record { place = k; is_place = at; fresh = f; low = low; high = high; low_found = p; high_found = q; cell = cc (is) }
 
-    news : (k : ℕ) → place_of m e s ≡ Some k → (b : Bool) → is_news (sites_on m e) (end_at m w.note.tile e) (accesses_at w e) k ≡ b
+    news : (k : ℕ) → edge_place m e s ≡ Some k → (b : Bool) → is_news (sites_on m e) (end_at m w.note.tile e) (accesses_at w e) k ≡ b
         → (if b then cell_in (found_value (accesses_at w e) (1 + 2 * k)) (found_value (accesses_at w e) (2 + 2 * k)) else None) ≡ Some c → IsFound m w e s c
     news k at true f is = words k at f (found_value (accesses_at w e) (1 + 2 * k)) (found_value (accesses_at w e) (2 + 2 * k)) refl refl is
     news k at false f is = absurd (cc (is))
 
-    go : (o : Option ℕ) → place_of m e s ≡ o → seen (sites_on m e) (end_at m w.note.tile e) (accesses_at w e) o ≡ Some c → IsFound m w e s c
+    go : (o : Option ℕ) → edge_place m e s ≡ o → found_cell (sites_on m e) (end_at m w.note.tile e) (accesses_at w e) o ≡ Some c → IsFound m w e s c
     go None at is = absurd (cc (is))
     go (Some k) at is = news k at (is_news (sites_on m e) (end_at m w.note.tile e) (accesses_at w e) k) refl is
 
 pub parts_found : (m : MapValue) (w : Won) (e : ℕ) (s : Site) (c : CellValue) → IsFound m w e s c → seen_of m w e s ≡ Some c
 parts_found m w e s c f =
-    ap (seen (sites_on m e) (end_at m w.note.tile e) (accesses_at w e)) f.is_place
+    ap (found_cell (sites_on m e) (end_at m w.note.tile e) (accesses_at w e)) f.is_place
     ∙ (λ i. if f.fresh i then cell_in (f.low_found i) (f.high_found i) else None) ∙ ap Some f.cell
 
 -- w is an event that wrote the site
@@ -161,7 +163,7 @@ module _ (m : MapValue) (meaning : WindowValue → ℕ → WindowValue) (start :
 
   -- of the events that write one site, a stamp names one
   pub one_writer : (w v : Won) (s : Site) → Writes m turns s w → Writes m turns s v → w.note.stamp ≡ v.note.stamp → v ≡ w
-  one_writer w v s i j same = ⊎_elim (λ t. same_tile w v i.0 j.0 t same) (λ ne. absurd (other_tile w v s ne i j same)) (same_or_not w.note.tile v.note.tile)
+  one_writer w v s i j same = ⊎_elim (λ t. same_tile w v i.0 j.0 t same) (λ ne. absurd (other_tile w v s ne i j same)) (cases_eq w.note.tile v.note.tile)
 
   pub of_tile : (t : ℕ) (v : Won) (xs : List Turn) → Played m meaning start t xs → Did xs v → v.note.tile ≡ t
   of_tile t v xs p i = (past m meaning start t xs p v i).won.tile
@@ -192,7 +194,7 @@ module _ (m : MapValue) (meaning : WindowValue → ℕ → WindowValue) (start :
 
   -- the cell that an event finds at an edge
   seen_known : (w : Won) (s : Site) (e : ℕ) (c : CellValue) → Writes m turns s w → Needs m w e → IsFound m w e s c → IsSeen w s e c
-  seen_known w s e c i n f = go (latest_is d r.older r.history r.of f.place (inside_of (shared_of m e) f.place s at))
+  seen_known w s e c i n f = go (latest_is d r.older r.history r.of f.place (slice_get_within (shared_of m e) f.place s at))
     where
       x : EventOn m turns e
       x = record { won = w; did = i.0; needs = n }
@@ -240,7 +242,7 @@ module _ (m : MapValue) (meaning : WindowValue → ℕ → WindowValue) (start :
   -- where the bit is clear, nothing at the edge is newer than the tile's own cell
   stale : (w v : Won) (s : Site) (e k : ℕ) (p : Past m meaning start w.note.tile (turns w.note.tile) w) → Writes m turns s w → Needs m w e → slice_get (shared_of m e) k ≡ Some s → is_news (sites_on m e) (end_at m w.note.tile e) (accesses_at w e) k ≡ false
       → WroteBelow m turns w.note.stamp s v → Needs m v e → (cell_at_site v s).stamp ≤ (cells_of m start p.before s).stamp
-  stale w v s e k p i n at old q n' = go (news_is d (word_of (sites_on m e)) bit_in bit_clear r.older r.history r.of (λ g j. news e g (r.within g j)) (end_at m w.note.tile e) k (end_small m e w.note.tile) (inside_of (shared_of m e) k s at))
+  stale w v s e k p i n at old q n' = go (news_is d (word_of (sites_on m e)) bit_in bit_clear r.older r.history r.of (λ g j. news e g (r.within g j)) (end_at m w.note.tile e) k (end_small m e w.note.tile) (slice_get_within (shared_of m e) k s at))
     where
       x : EventOn m turns e
       x = record { won = w; did = i.0; needs = n }
@@ -268,7 +270,7 @@ module _ (m : MapValue) (meaning : WindowValue → ℕ → WindowValue) (start :
 
       -- an event at the same end is of the same tile
       same_end : (z : EventOn m turns e) → end_at m z.won.note.tile e ≡ end_at m w.note.tile e → w.note.tile ≡ z.won.note.tile
-      same_end z is = ⊎_elim (λ t. t) (λ ne. absurd (other_end_is m e w.note.tile z.won.note.tile (apart m run.plane e) (joined m e w.note.tile z.won.note.tile ne (an_end m meaning start turns hist run e x) (an_end m meaning start turns hist run e z)) (sym is))) (same_or_not w.note.tile z.won.note.tile)
+      same_end z is = ⊎_elim (λ t. t) (λ ne. absurd (other_end_is m e w.note.tile z.won.note.tile (apart m run.plane e) (joined m e w.note.tile z.won.note.tile ne (an_end m meaning start turns hist run e x) (an_end m meaning start turns hist run e z)) (sym is))) (cases_eq w.note.tile z.won.note.tile)
 
       mine : (z : EventOn m turns e) → HasHold d r.older z → d.covers z k ≡ true → end_at m z.won.note.tile e ≡ end_at m w.note.tile e → z.won.note.stamp ≤ (cells_of m start p.before s).stamp
       mine z hz c is =
@@ -291,7 +293,7 @@ module _ (m : MapValue) (meaning : WindowValue → ℕ → WindowValue) (start :
     found_known = λ d q.
         let r = found_by m w (needs_of m w.note.tile (event_site w.note)) s d q in
         (seen_known w s r.0 d i r.1 (found_parts m w r.0 s d r.2)).known;
-    covered = λ v q. ⊎_elim (same v q) (other v q) (same_or_not w.note.tile v.note.tile);
+    covered = λ v q. ⊎_elim (same v q) (other v q) (cases_eq w.note.tile v.note.tile);
     positive = λ v q. let o = past_of m meaning start turns hist run v q.0.0 in omega (arith, grows m meaning start v.note.tile o.before v o.won);
   }
     where
@@ -310,7 +312,7 @@ module _ (m : MapValue) (meaning : WindowValue → ℕ → WindowValue) (start :
           lt : b.edge < length (pairs_of m)
           lt = inside m run.plane w.note.tile (event_site w.note) b.edge b.first
 
-          place : place_of m b.edge s ≡ Some b.shares.0
+          place : edge_place m b.edge s ≡ Some b.shares.0
           place = place_is m run.plane b.edge b.shares.0 s lt b.shares.1
 
           near : covers m b.edge (event_site w.note) b.shares.0 ≡ true

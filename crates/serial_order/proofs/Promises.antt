@@ -1,10 +1,11 @@
 -- All that holds of tiles that are over, in terms of the plan, the journal and the settled grid.
-use Rattle.std.proofs.Common.{ℕ, zero, suc, ◌≡◌, ◌≤◌, ◌<◌, ◌+◌, ◌*◌, ◌/◌, ◌%◌, List, [], ◌∷◌, refl, sym, ap, subst, arith, ◌⊎◌, inl, inr, ⊎_elim, Bool, true, false, Option, Some, None, ◌∙◌, ◌==◌, length, get_or, All}
+use Rattle.std.proofs.Common.{ℕ, zero, suc, ◌≡◌, ◌≤◌, ◌<◌, ◌+◌, ◌*◌, ◌/◌, ◌%◌, List, [], ◌∷◌, refl, sym, ap, subst, arith, ◌⊎◌, inl, inr, ⊎_elim, Bool, true, false, Option, Some, None, ◌∙◌, ◌==◌, length, get_or, All, mod-lt, div-add-mod'}
 use Rattle.std.specs.Prelude.{slice_get, slice_index_or, if◌then◌else◌}
 use Rattle.std.specs.Int.{bit_at}
 use Rattle.std.specs.List.{Any, range_with_len}
 use Rattle.std.proofs.lemmas.Bool.Decides.{nat_tests}
 use Rattle.std.proofs.lemmas.List.FromFn.{fill_by_all}
+use Rattle.list_laws.proofs.Numbers.{div_lt}
 use Rattle.bit_field.specs.Atom.{empty_atom}
 use Rattle.tile_map.specs.Plane.{Site, MapValue, site, tiles_of, is_live, is_held, owner_of, in_window}
 use Rattle.tile_map.specs.Edges.{pairs_of, pair_at, low_end, is_in_pair, edges_at, needs_of, is_needed}
@@ -14,10 +15,9 @@ use Rattle.cell_grid.specs.Grid.{GridValue, IsGrid, site_atom}
 use Rattle.cell_grid.specs.Records.{Precedes, replay}
 use Rattle.draw_stream.specs.Plans.{attempts}
 use Rattle.edge_lock.proofs.HistoryLaws.{finds_at}
-use Rattle.list_laws.proofs.Members.{In, InOrder, in_filter, in_range, get_in, order-filter, order-range}
+use Rattle.list_laws.proofs.Members.{In, InOrder, in_filter, in_range, get_in, order-filter, order-range, contains_in, in_contains, in_all}
 use Rattle.event_journal.specs.declared.abandoned.Abandoned.{Abandoned}
 use Rattle.event_journal.specs.Accounts.{IsExcusedBy, AreExcused, Needs}
-use Rattle.event_journal.proofs.Journals.{contains_of, of_contains}
 use Rattle.border_cache.specs.Cells.{CellValue, cell_of}
 use Rattle.border_cache.specs.News.{word_of}
 use Rattle.border_cache.specs.Windows.{end_at, sites_on}
@@ -38,7 +38,6 @@ use Rattle.serial_order.proofs.Stamps.{Stamped, stamped, whole_cut, small}
 use Rattle.serial_order.proofs.Excuses.{IsExcused, excused}
 use Rattle.serial_order.proofs.NoNews.{no_news}
 use Rattle.serial_order.proofs.TileLog as log
-use Rattle.serial_order.proofs.TileLog.{all_from}
 use Rattle.serial_order.proofs.Stamping.{is_stamped}
 use Rattle.serial_order.proofs.Whole.{turns, tile_told, tile_of as tile_with, hist, run, refused, laws}
 use Rattle.serial_order.proofs.Journal.{played, record_of, of_record, abandoned_of_turn, turn_abandoned, ordered, events, unworn, none_is_worn, are_logs, all_logs, accounted}
@@ -47,7 +46,7 @@ pub any_from : {X : Type 0} (P : X → Type 0) (xs : List X) (x : X) → In x xs
 any_from P xs x i p = let g = get_in xs x x i in (g.0, x, g.1, g.2, p)
 
 any_of : {X : Type 0} (P : X → Type 0) (xs : List X) → Any P xs → (x : X) × In x xs × P x
-any_of P xs a = (a.1, of_contains xs a.1 (a.0, a.2, a.3), a.4)
+any_of P xs a = (a.1, contains_in xs a.1 (a.0, a.2, a.3), a.4)
 
 -- an edge before another among edges that rise
 before_less : (e d : ℕ) (es : List ℕ) → InOrder (λ x y. x < y) es → In d es → In e (before d es) → e < d
@@ -62,16 +61,6 @@ before_less e d (c ∷ es) o i j = go (c == d) refl j (λ there q. before_less e
 
 needs_rise : (m : MapValue) (t : ℕ) (c : Site) → InOrder (λ x y. x < y) (needs_of m t c)
 needs_rise m t c = order-filter (λ x y. x < y) (is_needed m t c) (range_with_len 0 (length (pairs_of m))) (order-range 0 (length (pairs_of m)))
-
--- the site at a place of a grid
-row_of : (i w : ℕ) → 0 < w → i / w * w + i % w ≡ i
-row_of i w lt = grind (arith)
-
-column_less : (i w : ℕ) → 0 < w → i % w < w
-column_less i w lt = grind (arith)
-
-row_less : (i w h : ℕ) → 0 < w → i < w * h → i / w < h
-row_less i w h lt le = grind (arith)
 
 -- two grids of a plane with the same atoms at its live sites are one grid
 pub one_grid : (m : MapValue) (g h : GridValue) → IsGrid g → IsGrid h → IsGridOf m g → IsGridOf m h → ((s : Site) → is_live m s ≡ true → site_atom g s.x s.y ≡ site_atom h s.x s.y) → g ≡ h
@@ -93,9 +82,9 @@ one_grid m g h good fine of fits same = λ i. record { width = wide i; height = 
     mark i lt =
         let x = i % g.width in
         let y = i / g.width in
-        let lx = column_less i g.width some in
-        let ly = row_less i g.width g.height some (omega (arith, lt, good.marked)) in
-        let at : y * g.width + x ≡ i = row_of i g.width some in
+        let lx = mod-lt i some in
+        let ly = div_lt i g.width g.height some (omega (arith, lt, good.marked)) in
+        let at : y * g.width + x ≡ i = div-add-mod' i g.width in
         let at' : y * h.width + x ≡ i = ap (λ w. y * w + x) (sym wide) ∙ at in
         ap (λ n. get_or g.live n false) (sym at) ∙ (of.live x y lx ly ∙ (sym (fits.live x y (omega (arith, lx, wide)) (omega (arith, ly, high))) ∙ ap (λ n. get_or h.live n false) at'))
 
@@ -113,9 +102,9 @@ one_grid m g h good fine of fits same = λ i. record { width = wide i; height = 
         go true is =
             let x = i % g.width in
             let y = i / g.width in
-            let lx = column_less i g.width some in
-            let ly = row_less i g.width g.height some (omega (arith, inside', good.marked)) in
-            let at : y * g.width + x ≡ i = row_of i g.width some in
+            let lx = mod-lt i some in
+            let ly = div_lt i g.width g.height some (omega (arith, inside', good.marked)) in
+            let at : y * g.width + x ≡ i = div-add-mod' i g.width in
             let at' : y * h.width + x ≡ i = ap (λ w. y * w + x) (sym wide) ∙ at in
             let l : is_live m (site x y) ≡ true = sym (of.live x y lx ly) ∙ (ap (λ n. get_or g.live n false) at ∙ is) in
             ap (λ n. get_or g.atoms n empty_atom) (sym at) ∙ (same (site x y) l ∙ ap (λ n. get_or h.atoms n empty_atom) at')
@@ -128,7 +117,7 @@ module _ (s : Scene) (o : IsOver s) where
   stamps_right = subst (Stamped s.map []) (events s o).1 (stamped s.map s.meaning (atoms_of s.start) (turns s o) (hist s o) (run s o) [] (events s o).0 (whole_cut s.map s.meaning (atoms_of s.start) (turns s o) (hist s o) (run s o) (events s o).0 (events s o).2) (subst (InOrder Precedes) (sym (events s o).1) (ordered s o)))
 
   pub stamps_small : StampsAreSmall (records s)
-  stamps_small = all_from (λ (r : Record). r.stamp ≤ length (records s)) (records s) (λ n i. let r = small s.map [] (records s) (λ k j. absurd j) stamps_right n i in omega (arith, r))
+  stamps_small = in_all (λ (r : Record). r.stamp ≤ length (records s)) (records s) (λ n i. let r = small s.map [] (records s) (λ k j. absurd j) stamps_right n i in omega (arith, r))
 
   in_notes : InOrder Precedes (notes (events s o).0)
   in_notes = subst (InOrder Precedes) (sym (events s o).1) (ordered s o)
@@ -174,8 +163,8 @@ module _ (s : Scene) (o : IsOver s) where
   -- two records of one stamp have no site in common
   pub ties_apart : TiesAreApart s
   ties_apart n k u i j e a b =
-      let p = record_of s o n (of_contains (records s) n i) in
-      let q = record_of s o k (of_contains (records s) k j) in
+      let p = record_of s o n (contains_in (records s) n i) in
+      let q = record_of s o k (contains_in (records s) k j) in
       let did : (n : Record) (w : Won) → In (Wins w) (turns s o n.tile) → n ≡ w.note → In (Wins w) (turns s o w.note.tile) = λ n w d is. subst (λ t. In (Wins w) (turns s o t)) (ap (λ (z : Record). z.tile) is) d in
       let same = one_writer s.map s.meaning (atoms_of s.start) (turns s o) (hist s o) (run s o) p.0 q.0 u (did n p.0 p.1 p.2, subst (λ (z : Record). in_window s.map (event_site z) u ≡ true) p.2 a) (did k q.0 q.1 q.2, subst (λ (z : Record). in_window s.map (event_site z) u ≡ true) q.2 b)
       (omega (arith, e, ap (λ (z : Record). z.stamp) p.2, ap (λ (z : Record). z.stamp) q.2)) in
@@ -186,13 +175,13 @@ module _ (s : Scene) (o : IsOver s) where
   won_needs t e w d i =
       let p = tile_with s o t (Wins w) d in
       let a = log.won_attempt s.map s.meaning (atoms_of s.start) t (attempts s.plan t) (turns s o t) (played s o t) (tile_told s o t p.0 p.1).made w d in
-      (a.attempt, a.is, contains_of _ e (subst (λ c. In e (needs_of s.map t c)) a.site_is i))
+      (a.attempt, a.is, in_contains _ e (subst (λ c. In e (needs_of s.map t c)) a.site_is i))
 
   lost_needs : (t e : ℕ) (l : Lost) → In (Loses l) (turns s o t) → In e (needs_of s.map t (given_up_site l.gone)) → Needs s.map s.plan t l.gone.attempt e
   lost_needs t e l d i =
       let p = tile_with s o t (Loses l) d in
       let a = (log.lost_attempt s.map s.meaning (atoms_of s.start) t (attempts s.plan t) (turns s o t) (played s o t) (tile_told s o t p.0 p.1).made l d).1 in
-      (a.attempt, a.is, contains_of _ e (subst (λ c. In e (needs_of s.map t c)) a.site_is i))
+      (a.attempt, a.is, in_contains _ e (subst (λ c. In e (needs_of s.map t c)) a.site_is i))
 
   excused_turn : (t : ℕ) (l : Lost) → In (Loses l) (turns s o t) → t ≡ l.gone.tile → IsExcusedBy s.map s.plan (records s) (abandoned s) l.gone
   excused_turn t l i at = record {
@@ -210,19 +199,19 @@ module _ (s : Scene) (o : IsOver s) where
           before_less l.gone.edge h.0.gone.edge (needs_of s.map l.gone.holder (given_up_site h.0.gone)) (needs_rise s.map l.gone.holder (given_up_site h.0.gone)) (excuse l.gone.holder h.0 h.1).needs h.3,
         ))) x.held;
     after = λ n k a b e f c d lt le.
-        let p = record_of s o n (of_contains (records s) n a) in
-        let q = record_of s o k (of_contains (records s) k b) in
+        let p = record_of s o n (contains_in (records s) n a) in
+        let q = record_of s o k (contains_in (records s) k b) in
         let z = x.after p.0 q.0 (subst (λ u. In (Wins p.0) (turns s o u)) (e ∙ sym at) p.1) (subst (λ u. In (Wins q.0) (turns s o u)) f q.1)
-        (subst (λ (z : Record). In l.gone.edge (needs_of s.map t (event_site z))) p.2 (subst (λ u. In l.gone.edge (needs_of s.map u (event_site n))) (e ∙ sym at) (of_contains _ l.gone.edge c)))
-        (subst (λ (z : Record). In l.gone.edge (needs_of s.map l.gone.holder (event_site z))) q.2 (subst (λ u. In l.gone.edge (needs_of s.map u (event_site k))) f (of_contains _ l.gone.edge d)))
+        (subst (λ (z : Record). In l.gone.edge (needs_of s.map t (event_site z))) p.2 (subst (λ u. In l.gone.edge (needs_of s.map u (event_site n))) (e ∙ sym at) (contains_in _ l.gone.edge c)))
+        (subst (λ (z : Record). In l.gone.edge (needs_of s.map l.gone.holder (event_site z))) q.2 (subst (λ u. In l.gone.edge (needs_of s.map u (event_site k))) f (contains_in _ l.gone.edge d)))
         (omega (arith, lt, ap (λ (z : Record). z.attempt) p.2)) (omega (arith, le, ap (λ (z : Record). z.attempt) q.2)) in
         omega (arith, z, ap (λ (z : Record). z.stamp) p.2, ap (λ (z : Record). z.stamp) q.2);
     before = λ n k a b e f c d lt le.
-        let p = record_of s o n (of_contains (records s) n a) in
-        let q = record_of s o k (of_contains (records s) k b) in
+        let p = record_of s o n (contains_in (records s) n a) in
+        let q = record_of s o k (contains_in (records s) k b) in
         let z = x.before p.0 q.0 (subst (λ u. In (Wins p.0) (turns s o u)) (e ∙ sym at) p.1) (subst (λ u. In (Wins q.0) (turns s o u)) f q.1)
-        (subst (λ (z : Record). In l.gone.edge (needs_of s.map t (event_site z))) p.2 (subst (λ u. In l.gone.edge (needs_of s.map u (event_site n))) (e ∙ sym at) (of_contains _ l.gone.edge c)))
-        (subst (λ (z : Record). In l.gone.edge (needs_of s.map l.gone.holder (event_site z))) q.2 (subst (λ u. In l.gone.edge (needs_of s.map u (event_site k))) f (of_contains _ l.gone.edge d)))
+        (subst (λ (z : Record). In l.gone.edge (needs_of s.map t (event_site z))) p.2 (subst (λ u. In l.gone.edge (needs_of s.map u (event_site n))) (e ∙ sym at) (contains_in _ l.gone.edge c)))
+        (subst (λ (z : Record). In l.gone.edge (needs_of s.map l.gone.holder (event_site z))) q.2 (subst (λ u. In l.gone.edge (needs_of s.map u (event_site k))) f (contains_in _ l.gone.edge d)))
         (omega (arith, lt, ap (λ (z : Record). z.attempt) p.2)) (omega (arith, le, ap (λ (z : Record). z.attempt) q.2)) in
         omega (arith, z, ap (λ (z : Record). z.stamp) p.2, ap (λ (z : Record). z.stamp) q.2);
   }
@@ -235,7 +224,7 @@ module _ (s : Scene) (o : IsOver s) where
 
   -- each abandoned attempt is excused
   pub all_excused : AreExcused s.map s.plan (records s) (abandoned s)
-  all_excused = all_from (IsExcusedBy s.map s.plan (records s) (abandoned s)) (abandoned s) (λ g i.
+  all_excused = in_all (IsExcusedBy s.map s.plan (records s) (abandoned s)) (abandoned s) (λ g i.
       let r = abandoned_of_turn s o g i in
       subst (IsExcusedBy s.map s.plan (records s) (abandoned s)) (sym r.2) (excused_turn g.tile r.0 r.1 (ap (λ (k : Abandoned). k.tile) r.2)))
 
@@ -243,23 +232,23 @@ module _ (s : Scene) (o : IsOver s) where
   leads_on : (left : ℕ) (g : Abandoned) → In g (abandoned s) → length (pairs_of s.map) ≤ g.edge + left → Leads (records s) (abandoned s) g
   leads_on zero g i le =
       let x = all_excused_at g i in
-      let y = inside s.map (laws s o) g.tile _ g.edge (of_contains _ g.edge x.needs.2) in
+      let y = inside s.map (laws s o) g.tile _ g.edge (contains_in _ g.edge x.needs.2) in
       absurd (omega (arith, le, y))
     where
       all_excused_at : (g : Abandoned) → In g (abandoned s) → IsExcusedBy s.map s.plan (records s) (abandoned s) g
-      all_excused_at g i = Rattle.std.proofs.lemmas.List.Elements.All-contains (IsExcusedBy s.map s.plan (records s) (abandoned s)) (abandoned s) g all_excused (contains_of (abandoned s) g i)
+      all_excused_at g i = Rattle.std.proofs.lemmas.List.Elements.All-contains (IsExcusedBy s.map s.plan (records s) (abandoned s)) (abandoned s) g all_excused (in_contains (abandoned s) g i)
   leads_on (suc left) g i le = go x.owed (λ k j lt. leads_on left k j (omega (arith, le, lt)))
     where
       x : IsExcusedBy s.map s.plan (records s) (abandoned s) g
-      x = Rattle.std.proofs.lemmas.List.Elements.All-contains (IsExcusedBy s.map s.plan (records s) (abandoned s)) (abandoned s) g all_excused (contains_of (abandoned s) g i)
+      x = Rattle.std.proofs.lemmas.List.Elements.All-contains (IsExcusedBy s.map s.plan (records s) (abandoned s)) (abandoned s) g all_excused (in_contains (abandoned s) g i)
 
       go : Any (λ (r : Record). (r.tile ≡ g.holder) × (r.attempt ≡ g.holder_attempt)) (records s) ⊎ Any (λ (k : Abandoned). (k.tile ≡ g.holder) × (k.attempt ≡ g.holder_attempt) × (g.edge < k.edge)) (abandoned s)
           → ((k : Abandoned) → In k (abandoned s) → g.edge < k.edge → Leads (records s) (abandoned s) k) → Leads (records s) (abandoned s) g
-      go (inl h) rec = let r = any_of (λ (r : Record). (r.tile ≡ g.holder) × (r.attempt ≡ g.holder_attempt)) (records s) h in arrives g r.0 (contains_of (records s) r.0 r.1) r.2.0 r.2.1
-      go (inr h) rec = let r = any_of (λ (k : Abandoned). (k.tile ≡ g.holder) × (k.attempt ≡ g.holder_attempt) × (g.edge < k.edge)) (abandoned s) h in goes g r.0 (contains_of (abandoned s) r.0 r.1) r.2.0 r.2.1 r.2.2 (rec r.0 r.1 r.2.2)
+      go (inl h) rec = let r = any_of (λ (r : Record). (r.tile ≡ g.holder) × (r.attempt ≡ g.holder_attempt)) (records s) h in arrives g r.0 (in_contains (records s) r.0 r.1) r.2.0 r.2.1
+      go (inr h) rec = let r = any_of (λ (k : Abandoned). (k.tile ≡ g.holder) × (k.attempt ≡ g.holder_attempt) × (g.edge < k.edge)) (abandoned s) h in goes g r.0 (in_contains (abandoned s) r.0 r.1) r.2.0 r.2.1 r.2.2 (rec r.0 r.1 r.2.2)
 
   pub leads : All (Leads (records s) (abandoned s)) (abandoned s)
-  leads = all_from (Leads (records s) (abandoned s)) (abandoned s) (λ g i. leads_on (length (pairs_of s.map)) g i (omega arith))
+  leads = in_all (Leads (records s) (abandoned s)) (abandoned s) (λ g i. leads_on (length (pairs_of s.map)) g i (omega arith))
 
   pub has_no_news : HasNoNews s
   has_no_news e k t u tile lt end is at clear =

@@ -11,8 +11,8 @@ use Rattle.edge_lock.specs.declared.history.Hold.{Hold}
 use Rattle.list_laws.proofs.Members.{In, InOrder}
 use Rattle.border_cache.specs.Cells.{CellValue, cell_value, newest}
 use Rattle.border_cache.specs.Copies.{IsGridOf}
-use Rattle.border_cache.specs.News.{seen}
-use Rattle.border_cache.specs.Windows.{and_cell, seen_on, place_of_some, end_at, sites_on}
+use Rattle.border_cache.specs.News.{found_cell}
+use Rattle.border_cache.specs.Windows.{and_cell, seen_on, edge_place_some, end_at, sites_on}
 use Rattle.tile_core.specs.Turns.{Won, Turn, Wins, cells_of, accesses_at, own_cell, newest_at}
 use Rattle.tile_core.specs.Values.{event_site, atoms_of}
 use Rattle.serial_order.proofs.Coherence.{Latest, untouched, touched}
@@ -58,7 +58,7 @@ newest_is m own w n s is = λ i. newest (own_cell (is i) own) (seen_is (needs_of
   where
     seen_is : (es : List ℕ) → seen_on m w.note.tile (event_site w.note) (accesses_at w) n es ≡ found_cells m w es s
     seen_is [] = refl
-    seen_is (e ∷ es) = λ i. and_cell (seen (sites_on m e) (end_at m w.note.tile e) (accesses_at w e) (place_of_some m e (is i))) (seen_is es i)
+    seen_is (e ∷ es) = λ i. and_cell (found_cell (sites_on m e) (end_at m w.note.tile e) (accesses_at w e) (edge_place_some m e (is i))) (seen_is es i)
 
 module _ (m : MapValue) (meaning : WindowValue → ℕ → WindowValue) (first : GridValue) (turns : ℕ → List Turn) (hist : ℕ → List Hold) (run : IsRun m meaning (atoms_of first) turns hist) where
   -- the events that are done wrote the site

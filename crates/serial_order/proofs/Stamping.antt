@@ -4,6 +4,7 @@ use Rattle.std.specs.Prelude.{fold, filter, max}
 use Rattle.std.specs.List.{list_any}
 use Rattle.std.proofs.lemmas.Bool.Decides.{nat_tests}
 use Rattle.std.proofs.lemmas.List.{append-nil}
+use Rattle.std.proofs.lemmas.Bool.{or_right}
 use Rattle.tile_map.specs.Plane.{MapValue}
 use Rattle.cell_grid.specs.declared.record.Record.{Record}
 use Rattle.list_laws.proofs.Members.{In, in_filter, filter_in, in_any, in_either, in_left, in_right}
@@ -11,7 +12,7 @@ use Rattle.event_journal.specs.Accounts.{edges_of, are_linked, stamp_after, IsSt
 use Rattle.serial_order.proofs.Tile.{max_cases}
 use Rattle.serial_order.proofs.Stamps.{Linked, IsStamp, Stamped}
 
-abbrev top : ℕ → List Record → ℕ
+abbrev pub top : ℕ → List Record → ℕ
 top a xs = fold (λ greatest (s : Record). max greatest s.stamp) a xs
 
 max_left : (a b : ℕ) → a ≤ max a b
@@ -37,10 +38,6 @@ top_is a (y ∷ xs) =
 or_left : (a b : Bool) → a ≡ true → (a || b) ≡ true
 or_left true b e = refl
 or_left false b e = cc
-
-or_right : (a b : Bool) → b ≡ true → (a || b) ≡ true
-or_right true b e = refl
-or_right false b e = e
 
 any_in : {A : Type 0} (p : A → Bool) (xs : List A) → list_any p xs ≡ true → (x : A) × In x xs × (p x ≡ true)
 any_in p [] h = absurd cc

@@ -1,5 +1,7 @@
 -- Stamps follow the links, and stay small.
 use Rattle.std.proofs.Common.{ℕ, ◌≡◌, ◌≢◌, ◌≤◌, ◌<◌, ◌+◌, List, [], ◌∷◌, refl, sym, ap, subst, arith, ◌⊎◌, inl, inr, ⊎_elim, suc, ◌∙◌, length}
+use Rattle.std.proofs.lemmas.Bool.{cases_eq}
+use Rattle.list_laws.specs.Options.{or_zero}
 use Rattle.bit_field.specs.Atom.{AtomValue}
 use Rattle.window_sites.specs.Window.{WindowValue}
 use Rattle.tile_map.specs.Plane.{Site, MapValue}
@@ -9,8 +11,8 @@ use Rattle.cell_grid.specs.Records.{Precedes}
 use Rattle.edge_lock.specs.declared.history.Hold.{Hold}
 use Rattle.list_laws.proofs.Members.{In, InOrder}
 use Rattle.tile_core.specs.Values.{event_site}
-use Rattle.tile_core.specs.Turns.{Won, Turn, stamp_of, greatest, clock_in, accesses_at, known_or_0}
-use Rattle.serial_order.proofs.Ground.{same_or_not, apart, other_end_is, joined}
+use Rattle.tile_core.specs.Turns.{Won, Turn, stamp_of, greatest, clock_in, accesses_at}
+use Rattle.serial_order.proofs.Ground.{apart, other_end_is, joined}
 use Rattle.serial_order.proofs.Deeds.{event_hold}
 use Rattle.serial_order.proofs.Edge.{HasHold, differ, clock_found}
 use Rattle.serial_order.proofs.Tile.{Did, Past, past, stamp_by, greatest_is}
@@ -35,7 +37,7 @@ Stamped m before (n ∷ ns) = IsStamp m before n × Stamped m (n ∷ before) ns
 module _ (m : MapValue) (meaning : WindowValue → ℕ → WindowValue) (start : Site → AtomValue) (turns : ℕ → List Turn) (hist : ℕ → List Hold) (run : IsRun m meaning start turns hist) where
   -- linked events have different stamps
   pub linked_same : (w v : Won) → IsEvent turns w → IsEvent turns v → Linked m w.note v.note → w.note.stamp ≡ v.note.stamp → v ≡ w
-  linked_same w v i j l same = ⊎_elim (λ t. same_tile m meaning start turns hist run w v i j t same) (λ ne. ⊎_elim (λ t. absurd (ne t)) (λ p. absurd (other ne p)) l) (same_or_not w.note.tile v.note.tile)
+  linked_same w v i j l same = ⊎_elim (λ t. same_tile m meaning start turns hist run w v i j t same) (λ ne. ⊎_elim (λ t. absurd (ne t)) (λ p. absurd (other ne p)) l) (cases_eq w.note.tile v.note.tile)
     where
       other : w.note.tile ≢ v.note.tile → ((e : ℕ) × Needs m w e × Needs m v e) → ⊥
       other ne p =
@@ -68,7 +70,7 @@ module _ (m : MapValue) (meaning : WindowValue → ℕ → WindowValue) (start :
       other : ((e : ℕ) × In e (needs_of m w.note.tile (event_site w.note)) × (top ≡ clock_in (accesses_at w e))) → (w.note.stamp ≡ 1) ⊎ ((v : Won) × IsEvent turns v × Linked m v.note w.note × (w.note.stamp ≡ 1 + v.note.stamp))
       other r =
           let c = (event_hold m run.plane meaning start w.note.tile p.before w p.won r.0 r.1).clock in
-          let at : clock_in (accesses_at w r.0) ≡ c.0 = ap known_or_0 c.1 in
+          let at : clock_in (accesses_at w r.0) ≡ c.0 = ap or_zero c.1 in
           let x : EventOn m turns r.0 = record { won = w; did = i; needs = r.1 } in
           ⊎_elim (λ (z : c.0 ≡ 0). inl (omega (arith, is, r.2, at, z)))
           (λ (q : (y : EventOn m turns r.0) × HasHold (deeds m turns r.0) (hist r.0) y × (c.0 ≡ y.won.note.stamp)).

@@ -1,6 +1,7 @@
 -- One tile: its stamps rise, and its own cells are its last writes.
 use Rattle.std.proofs.Common.{ℕ, ◌≡◌, ◌≤◌, ◌<◌, List, [], ◌∷◌, refl, sym, ap, subst, arith, ◌⊎◌, inl, inr, ⊎_elim, Bool, true, false, ◌∙◌}
 use Rattle.std.specs.Prelude.{if◌then◌else◌, max}
+use Rattle.tile_core.proofs.Played.{greatest_above}
 use Rattle.bit_field.specs.Atom.{AtomValue}
 use Rattle.window_sites.specs.Window.{WindowValue}
 use Rattle.tile_map.specs.Plane.{Site, MapValue, in_window}
@@ -23,13 +24,9 @@ are_played m meaning start t (x ∷ xs) a = (a.0, are_played m meaning start t x
 pub max_cases : (a b : ℕ) → (max a b ≡ a) ⊎ (max a b ≡ b)
 max_cases a b = grind arith
 
-pub greatest_first : (n : ℕ) (f : ℕ → ℕ) (es : List ℕ) → n ≤ greatest n f es
-greatest_first n f [] = omega arith
-greatest_first n f (e ∷ es) = omega (arith, greatest_first (max n (f e)) f es)
-
 pub greatest_each : (n : ℕ) (f : ℕ → ℕ) (es : List ℕ) (e : ℕ) → In e es → f e ≤ greatest n f es
 greatest_each n f [] e i = absurd i
-greatest_each n f (d ∷ es) e i = ⊎_elim {C = f e ≤ greatest n f (d ∷ es)} (λ (same : e ≡ d). omega (arith, ap f same, greatest_first (max n (f d)) f es)) (λ j. greatest_each (max n (f d)) f es e j) i
+greatest_each n f (d ∷ es) e i = ⊎_elim {C = f e ≤ greatest n f (d ∷ es)} (λ (same : e ≡ d). omega (arith, ap f same, greatest_above (max n (f d)) f es)) (λ j. greatest_each (max n (f d)) f es e j) i
 
 pub greatest_is : (n : ℕ) (f : ℕ → ℕ) (es : List ℕ) → (greatest n f es ≡ n) ⊎ ((e : ℕ) × In e es × (greatest n f es ≡ f e))
 greatest_is n f [] = inl refl
@@ -67,7 +64,7 @@ module _ (m : MapValue) (meaning : WindowValue → ℕ → WindowValue) (start :
   of_worn l w xs i = ⊎_elim (λ e. absurd (not_worn w l e)) (λ j. j) i
 
   pub grows : (xs : List Turn) (w : Won) → IsWon m meaning start t xs w → stamp_of xs < w.note.stamp
-  grows xs w k = omega (arith, k.stamp, greatest_first (stamp_of xs) (λ e. clock_in (accesses_at w e)) (needs_of m t (event_site w.note)))
+  grows xs w k = omega (arith, k.stamp, greatest_above (stamp_of xs) (λ e. clock_in (accesses_at w e)) (needs_of m t (event_site w.note)))
 
   pub stamps : (xs : List Turn) → Played m meaning start t xs → (w : Won) → Did xs w → w.note.stamp ≤ stamp_of xs
   stamps [] p w i = absurd i

@@ -15,13 +15,12 @@ use Rattle.edge_lock.specs.declared.history.Refusal.{Refusal}
 use Rattle.edge_lock.specs.History.{own, keys, IsEdgeHistory}
 use Rattle.edge_lock.specs.History as edge
 use Rattle.edge_lock.specs.EndLists.{EndLists, end_lists, refusal_of}
-use Rattle.event_journal.proofs.Journals.{contains_of}
 use Rattle.std.proofs.lemmas.List.Elements.{All-contains}
-use Rattle.list_laws.proofs.Members.{In, in_left, in_right}
+use Rattle.list_laws.proofs.Members.{In, in_left, in_right, in_contains}
 use Rattle.border_cache.specs.Windows.{end_at, sites_on}
 use Rattle.border_cache.specs.Copies.{held_cell}
 use Rattle.tile_core.specs.Values.{atoms_of, TileValue, given_up_site}
-use Rattle.tile_core.specs.Turns.{Lost, Turn, Wins, Loses, Wears, IsLost, AreTurns, AreAttempts, IsAttemptOf, IsAttempt, records_of, abandoned_of, refusals_at, AgreeOnEdges, lists_of, cells_of}
+use Rattle.tile_core.specs.Turns.{Lost, Turn, Wins, Loses, Wears, IsLost, AreTurns, AreAttempts, IsAttemptOf, IsNthAttempt, records_in_turns, abandoned_in_turns, refusals_at, AgreeOnEdges, lists_of, cells_of}
 use Rattle.serial_order.specs.Scene.{Scene, IsOver, HasEnded, EdgeHistory, no_history, history_at, lists_at, end_lists_of, IsStopped}
 use Rattle.serial_order.proofs.Lists.{back, past_end, none_past}
 use Rattle.serial_order.proofs.Histories.{IsHistory, IsPlaced, history_back, ends_back, own_back, placed_back}
@@ -36,8 +35,8 @@ pub record IsTold (m : MapValue) (meaning : WindowValue → ℕ → WindowValue)
   pub count : length given ≡ length turns + length rest
   pub each : AreTurns m meaning start t turns
   pub made : AreAttempts m t given turns
-  pub records : tile.records ≡ records_of turns
-  pub abandoned : tile.abandoned ≡ abandoned_of turns
+  pub records : tile.records ≡ records_in_turns turns
+  pub abandoned : tile.abandoned ≡ abandoned_in_turns turns
   pub lists_are : AgreeOnEdges m t lists (lists_of m t turns)
   pub ends : IsStopped tile.phase rest turns
   pub cells : (s : Site) → is_held m t s ≡ true → held_cell tile.cache s ≡ cells_of m start turns s
@@ -47,7 +46,7 @@ get_first [] ys k a e = absurd (cc (e))
 get_first (x ∷ xs) ys zero a e = e
 get_first (x ∷ xs) ys (suc k) a e = get_first xs ys k a e
 
-more_attempts : (m : MapValue) (t : ℕ) (made rest given : List Attempt) (n : ℕ) (s : Site) (seed : ℕ) → given ≡ made ++ rest → IsAttempt m t made n s seed → IsAttempt m t given n s seed
+more_attempts : (m : MapValue) (t : ℕ) (made rest given : List Attempt) (n : ℕ) (s : Site) (seed : ℕ) → given ≡ made ++ rest → IsNthAttempt m t made n s seed → IsNthAttempt m t given n s seed
 more_attempts m t made rest given n s seed e a = record { attempt = a.attempt; is = ap (λ xs. slice_get xs n) e ∙ get_first made rest n a.attempt a.is; site_is = a.site_is; seed_is = a.seed_is }
 
 made_of : (m : MapValue) (t : ℕ) (made rest given : List Attempt) (xs : List Turn) → given ≡ made ++ rest → AreAttempts m t made xs → AreAttempts m t given xs
@@ -83,16 +82,16 @@ refusal_in m t l (x ∷ xs) i = ⊎_elim (λ e. in_right (lists_of m t xs l.gone
     here : In (refusal_of l.gone.attempt l.gone.holder_attempt) (refusals_at (Loses l) l.gone.edge)
     here = let same : (l.gone.edge == l.gone.edge) ≡ true = grind (arith, nat_tests) in rw same (inl refl)
 
-has_low : (m : MapValue) (e : ℕ) → has_end m (low_end m e) e ≡ true
+pub has_low : (m : MapValue) (e : ℕ) → has_end m (low_end m e) e ≡ true
 has_low m e = grind (arith, nat_tests)
 
-has_high : (m : MapValue) (e : ℕ) → has_end m (high_end m e) e ≡ true
+pub has_high : (m : MapValue) (e : ℕ) → has_end m (high_end m e) e ≡ true
 has_high m e = grind (arith, nat_tests)
 
-low_is : (m : MapValue) (e : ℕ) → end_at m (low_end m e) e ≡ 0
+pub low_is : (m : MapValue) (e : ℕ) → end_at m (low_end m e) e ≡ 0
 low_is m e = grind (arith, nat_tests)
 
-high_is : (m : MapValue) (e : ℕ) → low_end m e < high_end m e → end_at m (high_end m e) e ≡ 1
+pub high_is : (m : MapValue) (e : ℕ) → low_end m e < high_end m e → end_at m (high_end m e) e ≡ 1
 high_is m e lt = grind (arith, nat_tests, lt)
 
 joins_other : (m : MapValue) (t e u : ℕ) → u ≡ other_end m t e → IsEnd m t e → low_end m e < high_end m e → Joins m e t u
@@ -240,9 +239,9 @@ module _ (s : Scene) (o : IsOver s) where
       inside : In r (end_lists_of (end_at s.map t e) (history_at s.edges e)).refusals
       inside = subst (λ (l : EndLists). In r l.refusals) (sym is) i
 
-      by : (b : ℕ) → IsEdgeHistory (sites_on s.map e) (history_at s.edges e).holds (history_at s.edges e).low (history_at s.edges e).high → (b ≡ 0) ⊎ (b ≡ 1) → In r (end_lists_of b (history_at s.edges e)).refusals → edge.IsPlaced (keys (history_at s.edges e).holds) b r
-      by b k (inl z) j = subst (λ n. edge.IsPlaced (keys (history_at s.edges e).holds) n r) (sym z) (All-contains (edge.IsPlaced (keys (history_at s.edges e).holds) 0) (history_at s.edges e).low r k.lower.fits (contains_of (history_at s.edges e).low r (subst (λ n. In r (end_lists_of n (history_at s.edges e)).refusals) z j)))
-      by b k (inr z) j = subst (λ n. edge.IsPlaced (keys (history_at s.edges e).holds) n r) (sym z) (All-contains (edge.IsPlaced (keys (history_at s.edges e).holds) 1) (history_at s.edges e).high r k.higher.fits (contains_of (history_at s.edges e).high r (subst (λ n. In r (end_lists_of n (history_at s.edges e)).refusals) z j)))
+      by : (b : ℕ) → IsEdgeHistory (sites_on s.map e) (history_at s.edges e).holds (history_at s.edges e).low (history_at s.edges e).high → (b ≡ 0) ⊎ (b ≡ 1) → In r (end_lists_of b (history_at s.edges e)).refusals → edge.NamesHold (keys (history_at s.edges e).holds) b r
+      by b k (inl z) j = subst (λ n. edge.NamesHold (keys (history_at s.edges e).holds) n r) (sym z) (All-contains (edge.NamesHold (keys (history_at s.edges e).holds) 0) (history_at s.edges e).low r k.lower.fits (in_contains (history_at s.edges e).low r (subst (λ n. In r (end_lists_of n (history_at s.edges e)).refusals) z j)))
+      by b k (inr z) j = subst (λ n. edge.NamesHold (keys (history_at s.edges e).holds) n r) (sym z) (All-contains (edge.NamesHold (keys (history_at s.edges e).holds) 1) (history_at s.edges e).high r k.higher.fits (in_contains (history_at s.edges e).high r (subst (λ n. In r (end_lists_of n (history_at s.edges e)).refusals) z j)))
 
       none : (b : ℕ) → In r (end_lists_of b no_history).refusals → ⊥
       none b j = pick (b == 0) j

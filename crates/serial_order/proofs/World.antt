@@ -2,6 +2,7 @@
 use Rattle.std.proofs.Common.{ℕ, ◌≡◌, ◌<◌, List, [], ◌∷◌, ◌++◌, refl, sym, ap, subst, arith, ◌⊎◌, inl, inr, ⊎_elim, Bool, true, false, Option, Some, None, ◌∙◌, ◌==◌}
 use Rattle.std.specs.Prelude.{if◌then◌else◌, slice_get}
 use Rattle.std.proofs.lemmas.Bool.Decides.{nat_tests}
+use Rattle.list_laws.specs.Options.{or_zero}
 use Rattle.bit_field.specs.Atom.{AtomValue, empty_atom}
 use Rattle.window_sites.specs.Window.{WindowValue}
 use Rattle.tile_map.specs.Plane.{Site, MapValue, owner_of, is_live}
@@ -12,7 +13,7 @@ use Rattle.edge_lock.specs.History.{own, found_value}
 use Rattle.list_laws.proofs.Members.{In, in_filter, filter_in}
 use Rattle.border_cache.specs.Windows.{has, end_at, sites_on}
 use Rattle.tile_core.specs.Values.{event_site}
-use Rattle.tile_core.specs.Turns.{Won, Turn, Wins, Loses, Wears, IsTurn, IsWon, IsSilent, edges_of, hold_at, one_if, lists_of, before, stamp_of, clock_in, accesses_at, known_or_0}
+use Rattle.tile_core.specs.Turns.{Won, Turn, Wins, Loses, Wears, IsTurn, IsWon, IsSilent, turn_edges, hold_at, one_if, lists_of, before, stamp_of, clock_in, accesses_at}
 use Rattle.serial_order.proofs.Lists.{back, back_append}
 use Rattle.serial_order.proofs.Histories.{IsQuiet, IsHistory, quiet}
 use Rattle.serial_order.proofs.Ground.{IsEnd, has_in, in_has, ends_of}
@@ -26,7 +27,7 @@ hold_if true h = Some h
 hold_if false h = None
 
 abbrev pub hold_on : MapValue → ℕ → ℕ → Turn → Option Hold
-hold_on m t e x = hold_if (has e (edges_of m t x)) (hold_at x e)
+hold_on m t e x = hold_if (has e (turn_edges m t x)) (hold_at x e)
 
 abbrev pub add : {A : Type 0} → Option A → List A → List A
 add None xs = xs
@@ -39,7 +40,7 @@ holds_of m t e (x ∷ xs) = add (hold_on m t e x) (holds_of m t e xs)
 
 pub holds_back : (m : MapValue) (t e : ℕ) (xs : List Turn) → back (lists_of m t xs e).holds ≡ holds_of m t e xs
 holds_back m t e [] = refl
-holds_back m t e (x ∷ xs) = back_append (lists_of m t xs e).holds (one_if (has e (edges_of m t x)) (hold_at x e)) ∙ go (has e (edges_of m t x)) (holds_back m t e xs)
+holds_back m t e (x ∷ xs) = back_append (lists_of m t xs e).holds (one_if (has e (turn_edges m t x)) (hold_at x e)) ∙ go (has e (turn_edges m t x)) (holds_back m t e xs)
   where
     go : (b : Bool) → back (lists_of m t xs e).holds ≡ holds_of m t e xs → back (one_if b (hold_at x e)) ++ back (lists_of m t xs e).holds ≡ add (hold_if b (hold_at x e)) (holds_of m t e xs)
     go true is = ap (λ hs. hold_at x e ∷ hs) is
@@ -77,15 +78,15 @@ holds_in m t e h (y ∷ xs) i = go (hold_on m t e y) refl i (λ j. holds_in m t 
     go (Some g) k i rec = ⊎_elim (λ s. (y, inl refl, k ∙ ap Some (sym s))) (λ j. let r = rec j in (r.0, inr r.1, r.2)) i
 
 -- the hold that a turn has, and that it needs the edge
-pub hold_is : (m : MapValue) (t e : ℕ) (x : Turn) (h : Hold) → hold_on m t e x ≡ Some h → (hold_at x e ≡ h) × (has e (edges_of m t x) ≡ true)
-hold_is m t e x h is = go (has e (edges_of m t x)) refl is
+pub hold_is : (m : MapValue) (t e : ℕ) (x : Turn) (h : Hold) → hold_on m t e x ≡ Some h → (hold_at x e ≡ h) × (has e (turn_edges m t x) ≡ true)
+hold_is m t e x h is = go (has e (turn_edges m t x)) refl is
   where
-    go : (b : Bool) → has e (edges_of m t x) ≡ b → hold_if b (hold_at x e) ≡ Some h → (hold_at x e ≡ h) × (b ≡ true)
+    go : (b : Bool) → has e (turn_edges m t x) ≡ b → hold_if b (hold_at x e) ≡ Some h → (hold_at x e ≡ h) × (b ≡ true)
     go true k q = (cc (q), refl)
     go false k q = absurd (cc (q))
 
-pub has_hold_on : (m : MapValue) (t e : ℕ) (x : Turn) → In e (edges_of m t x) → hold_on m t e x ≡ Some (hold_at x e)
-has_hold_on m t e x i = ap (λ b. hold_if b (hold_at x e)) (in_has e (edges_of m t x) i)
+pub has_hold_on : (m : MapValue) (t e : ℕ) (x : Turn) → In e (turn_edges m t x) → hold_on m t e x ≡ Some (hold_at x e)
+has_hold_on m t e x i = ap (λ b. hold_if b (hold_at x e)) (in_has e (turn_edges m t x) i)
 
 pub before_in : (e d : ℕ) (cs : List ℕ) → In e (before d cs) → In e cs
 before_in e d [] i = i
@@ -124,7 +125,7 @@ module _ (m : MapValue) (meaning : WindowValue → ℕ → WindowValue) (start :
 
   clock_low : (e : ℕ) (w : Won) (before : List Turn) (c : ℕ) → IsWon m meaning start w.note.tile before w → Needs m w e → found_value (accesses_at w e) 0 ≡ Some c → c < w.note.stamp
   clock_low e w before c k i f =
-      let at : clock_in (accesses_at w e) ≡ c = ap known_or_0 f in
+      let at : clock_in (accesses_at w e) ≡ c = ap or_zero f in
       omega (arith, k.stamp, at, greatest_each (stamp_of before) (λ d. clock_in (accesses_at w d)) (needs_of m w.note.tile (event_site w.note)) e i)
 
   -- the hold of an event, as the edge sees it
@@ -180,7 +181,7 @@ module _ (m : MapValue) (meaning : WindowValue → ℕ → WindowValue) (start :
       silent : (g : Hold) → g ≡ h → IsSilent g → IsQuiet h
       silent g same s = subst IsQuiet same (quiet g s)
 
-      one : (x y : Turn) → IsTurn m meaning start t xs x → y ≡ x → (hold_at x e ≡ h) × (has e (edges_of m t x) ≡ true) → IsMade e t h y
+      one : (x y : Turn) → IsTurn m meaning start t xs x → y ≡ x → (hold_at x e ≡ h) × (has e (turn_edges m t x) ≡ true) → IsMade e t h y
       one (Wins w) y k s q = inr (w, s, q.0, has_in e (needs_of m t (event_site w.note)) q.1, k.tile)
       one (Loses l) y k s q = inl (silent (l.hold e) q.0 (k.given e q.1).1)
       one (Wears l) y k s q = inl (silent (l.hold e) q.0 (k.holds e q.1).2)

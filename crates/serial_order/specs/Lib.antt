@@ -6,3 +6,4 @@ pub mod Words
 pub mod Outcomes
 pub mod Boards
 pub mod Fresh
+pub mod BlankGrid

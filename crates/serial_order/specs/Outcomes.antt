@@ -72,13 +72,8 @@ pub record SettlesSite (m : MapValue) (tiles : List TileValue) (registers : ℕ 
   pub here : (tile : TileValue) → is_live m s ≡ true → slice_get tiles (owner_of m s) ≡ Some tile → site_atom new s.x s.y ≡ (settled_cell m registers (held_cell tile.cache) (edges_at m (owner_of m s)) s).atom
   pub others : (u : Site) → is_live m u ≡ true → (u ≡ s → ⊥) → site_atom new u.x u.y ≡ site_atom old u.x u.y
 
--- a grid of the plane, all of whose sites are empty
-pub record IsBlank (m : MapValue) (g : GridValue) : Type 0 where
-  pub grid : IsGrid g
-  pub fits : IsGridOf m g
-  pub empty : g.atoms ≡ replicate (g.width * g.height) empty_atom
-
--- the same, but of the tiles that are off only those below n are shut
+-- a grid of the plane's size, all of whose sites are empty; of the tiles that are off only those
+-- below n are shut
 pub record IsShutTo (m : MapValue) (n : ℕ) (g : GridValue) : Type 0 where
   pub grid : IsGrid g
   pub wide : g.width ≡ m.tx * m.w

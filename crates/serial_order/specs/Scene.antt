@@ -9,7 +9,7 @@ use Rattle.draw_stream.specs.declared.attempt.Attempt.{Attempt}
 use Rattle.draw_stream.specs.Plans.{PlanValue, IsPlan, attempts}
 use Rattle.edge_lock.specs.declared.history.Hold.{Hold}
 use Rattle.edge_lock.specs.declared.history.Refusal.{Refusal}
-use Rattle.edge_lock.specs.History.{own, value, IsEdgeHistory}
+use Rattle.edge_lock.specs.History.{own, register_value, IsEdgeHistory}
 use Rattle.edge_lock.specs.EndLists.{EndLists, end_lists}
 use Rattle.event_journal.specs.Logs.{LogValue, log_of}
 use Rattle.border_cache.specs.Windows.{end_at, sites_on}
@@ -34,7 +34,7 @@ history_at edges e = slice_index_or edges e no_history
 
 -- what a register of an edge has at the end of its history
 abbrev pub registers_at : List EdgeHistory → ℕ → ℕ → ℕ
-registers_at edges e register = value (history_at edges e).holds register
+registers_at edges e register = register_value (history_at edges e).holds register
 
 -- what one end did
 abbrev pub end_lists_of : ℕ → EdgeHistory → EndLists

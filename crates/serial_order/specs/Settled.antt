@@ -5,7 +5,7 @@ use Rattle.tile_map.specs.Edges.{edges_at}
 use Rattle.cell_grid.specs.Grid.{GridValue, IsGrid, site_atom}
 use Rattle.border_cache.specs.Cells.{CellValue, cell_of, newest}
 use Rattle.border_cache.specs.Copies.{IsGridOf, held_cell}
-use Rattle.border_cache.specs.Windows.{and_cell, place_of}
+use Rattle.border_cache.specs.Windows.{and_cell, edge_place}
 use Rattle.tile_core.specs.Values.{TileValue}
 
 -- the cell that an edge's registers represent for the shared site at a place, if there is one
@@ -16,7 +16,7 @@ cell_in_registers registers (Some k) = Some (cell_of (registers (1 + 2 * k)) (re
 -- the cells that these edges have of a site, if they share it
 abbrev pub edge_cells : MapValue → (ℕ → ℕ → ℕ) → List ℕ → Site → List CellValue
 edge_cells m registers [] s = []
-edge_cells m registers (e ∷ es) s = and_cell (cell_in_registers (registers e) (place_of m e s)) (edge_cells m registers es s)
+edge_cells m registers (e ∷ es) s = and_cell (cell_in_registers (registers e) (edge_place m e s)) (edge_cells m registers es s)
 
 -- the newest of a tile's own cell and those of these edges
 abbrev pub settled_cell : MapValue → (ℕ → ℕ → ℕ) → (Site → CellValue) → List ℕ → Site → CellValue

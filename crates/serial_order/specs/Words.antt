@@ -8,7 +8,7 @@ use Rattle.edge_lock.specs.PlainEdges.{PlainEdgeValue}
 use Rattle.edge_lock.specs.PlainBoard.{PlainBoardValue, edge_at}
 use Rattle.edge_lock.specs.Passes.{ClosedValue}
 use Rattle.border_cache.specs.Cells.{CellValue, newer}
-use Rattle.border_cache.specs.Windows.{place_of, sites_on}
+use Rattle.border_cache.specs.Windows.{edge_place, sites_on}
 use Rattle.serial_order.specs.Scene.{EdgeHistory, history_at}
 use Rattle.serial_order.specs.Settled.{cell_in_registers}
 
@@ -45,4 +45,4 @@ pub record AreEdgeWords (m : MapValue) (edges : List EdgeHistory) (counts : ℕ 
 
 -- the newer of a cell and the one that an edge has of a site, if a tile is an end of the edge
 abbrev pub newer_on : MapValue → (ℕ → ℕ → ℕ) → ℕ → Site → CellValue → ℕ → CellValue
-newer_on m registers t s cell e = if has_end m t e then newer cell (cell_in_registers (registers e) (place_of m e s)) else cell
+newer_on m registers t s cell e = if has_end m t e then newer cell (cell_in_registers (registers e) (edge_place m e s)) else cell

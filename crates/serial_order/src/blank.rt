@@ -1,7 +1,8 @@
 //! A grid of a plane without an atom.
 ghost use Rattle.std.specs.Prelude.{◌≡◌, ◌≤◌, ◌<◌, ◌+◌, ◌*◌, IfOk};
 ghost use Rattle.tile_map.specs.Plane.{IsMap, tiles_of};
-ghost use Rattle.serial_order.specs.Outcomes.{IsAreaOf, IsBlank, IsShutTo};
+ghost use Rattle.serial_order.specs.BlankGrid.{blank_grid};
+ghost use Rattle.serial_order.specs.Outcomes.{IsAreaOf, IsPlaneGrid, IsShutTo};
 
 use cell_grid::Grid;
 use feast_base::NoMemory;
@@ -73,7 +74,8 @@ fn shut_off(map: &Map, tile: u32, grid: &mut Grid)
 /// A grid of the map's plane with its live sites, all of them empty. `NoMemory` if there is no
 /// memory for it.
 pub fn blank_grid(alloc: Global, map: &Map) -> Result<Grid, NoMemory>
-    ensures { IfOk result (λ g. IsBlank map.now g) }
+    ensures grid { IfOk result (λ g. g ≡ blank_grid map.now) }
+    ensures fits { IfOk result (λ g. IsPlaneGrid map.now g) }
 {
     let (width, height) = extent(map);
     let mut grid = Grid::new(alloc, width, height)?;

@@ -6,7 +6,7 @@ ghost use Rattle.tile_map.specs.Plane.{site, is_held};
 ghost use Rattle.tile_map.specs.Edges.{pairs_of, edges_at};
 ghost use Rattle.border_cache.specs.Cells.{cell_value, cell_of, newer, newest};
 ghost use Rattle.border_cache.specs.Copies.{held_cell};
-ghost use Rattle.border_cache.specs.Windows.{place_of};
+ghost use Rattle.border_cache.specs.Windows.{edge_place};
 ghost use Rattle.serial_order.specs.Scene.{registers_at};
 ghost use Rattle.serial_order.specs.Settled.{cell_in_registers, edge_cells, settled_cell};
 ghost use Rattle.serial_order.specs.Words.{AreEdgeWords, newer_on};
@@ -41,7 +41,7 @@ fn newer_on_edge<E: EdgeWords>(
 ) -> (u32, Atom)
     requires known { edge < length (pairs_of map.now) }
     requires words { AreEdgeWords map.now (E.histories words.old) (E.counts words.old) }
-    ensures cell { cell_value result.0 result.1 ≡ newer (cell_value own.0 own.1) (cell_in_registers (registers_at (E.histories words.old) edge) (place_of map.now edge (site x y))) }
+    ensures cell { cell_value result.0 result.1 ≡ newer (cell_value own.0 own.1) (cell_in_registers (registers_at (E.histories words.old) edge) (edge_place map.now edge (site x y))) }
     ensures same { (E.histories words.new ≡ E.histories words.old) × (E.counts words.new ≡ E.counts words.old) }
 {
     match map.register(edge, x, y) {

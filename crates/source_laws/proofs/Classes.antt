@@ -1,9 +1,9 @@
 -- Typed classes are named as the compiler wants them.
 use Rattle.std.proofs.Common.{◌≡◌, ℕ, zero, suc, ◌+◌, ◌≤◌, ⊎_elim, true, false, List, [], ◌∷◌, ◌++◌, map, length, codes, Some, refl, sym, ap, ◌∙◌, subst, arith}
 use Rattle.std.specs.Prelude.{slice_get, slice_index_or}
-use Rattle.std.specs.Option.{option_map_or}
 use Rattle.std.specs.Str.{bytes_eq}
 use Rattle.std.proofs.lemmas.List.{append-nil, length-append, length-map}
+use Rattle.code_gen.proofs.LaidOut.{members_at}
 use Rattle.ulam_tree.specs.declared.resolved.Ty.{Ty}
 use Rattle.ulam_tree.specs.declared.resolved.Ty.TheVariants as y
 use Rattle.ulam_tree.specs.Resolved as r
@@ -32,10 +32,6 @@ use Rattle.source_laws.proofs.Entries.{params_cover}
 use Rattle.source_laws.proofs.Locals.{body_fits}
 use Rattle.source_laws.proofs.Paths.{Stands}
 use Rattle.source_laws.proofs.Bodies.{At, body_named}
-
--- the members of a class by its number
-abbrev pub members_at : List t.Class → ℕ → List t.Member
-members_at us j = option_map_or (λ (u : t.Class). u.members) (slice_get us j) []
 
 params_same : (ps : List r.Param) → meaning.param_types ps ≡ param_types ps
 params_same [] = refl

@@ -2,7 +2,7 @@
 --     quark Q { Unsigned(4) v; Void inc(Unsigned(2) k) { v += k; } }
 --     element A { constant Unsigned(3) most = 5; EventWindow ew; Q q; Void behave() { Atom n = ew[1]; if (n as A) q.v = n.q.v; q.inc(most); } }
 use Rattle.std.proofs.Common.{◌≡◌, ℕ, List, [], ◌∷◌, Some, None, codes, refl, subst, Ok, Err, true, false}
-use Rattle.feast_base.specs.declared.place.Place.{Place}
+use Rattle.ulam_meaning.proofs.Shorthand.{here}
 use Rattle.ulam_tree.specs.declared.op.PairOp.TheVariants.{Add}
 use Rattle.ulam_tree.specs.Raw as raw
 use Rattle.ulam_tree.specs.Resolved as r
@@ -24,9 +24,6 @@ use Rattle.ulam_types.specs.ProgramTyping.{IsTypedProgram}
 use Rattle.ulam_types.proofs.Classes.{program_means as typing_means}
 use Rattle.code_gen.specs.Compiling.{IsCompilable}
 use Rattle.source_laws.proofs.Programs.{compilable}
-
-abbrev here : Place
-here = record { file = 0; line = 1; column = 1 }
 
 abbrev word : List ℕ → raw.Word
 word name = record { name = name; place = here }
@@ -68,23 +65,23 @@ abbrev typed_in : types.Found (List t.Class) → List t.Class
 typed_in (Ok us) = us
 typed_in (Err f) = []
 
-abbrev classes : List r.Class
-classes = resolved_in (program items)
+abbrev example_classes : List r.Class
+example_classes = resolved_in (program items)
 
 abbrev tree : List t.Class
-tree = typed_in (typing.program classes)
+tree = typed_in (typing.program example_classes)
 
-found : program items ≡ Ok classes
+found : program items ≡ Ok example_classes
 unfolding items built_in of_window of_random leads
 found = refl
 
-typed_found : typing.program classes ≡ Ok tree
+typed_found : typing.program example_classes ≡ Ok tree
 unfolding items built_in of_window of_random leads expr statement locals
 typed_found = refl
 
-narrow : first_wide classes ≡ None
+narrow : first_wide example_classes ≡ None
 unfolding items built_in of_window of_random leads bits_within
 narrow = refl
 
-example : IsCompilable (record { classes = tree; layout = layout_of classes })
-example = compilable items classes tree (subst (Means (IsResolved items)) found (program_means items)) narrow (subst (Means (IsTypedProgram classes)) typed_found (typing_means classes))
+example : IsCompilable (record { classes = tree; layout = layout_of example_classes })
+example = compilable items example_classes tree (subst (Means (IsResolved items)) found (program_means items)) narrow (subst (Means (IsTypedProgram example_classes)) typed_found (typing_means example_classes))

@@ -6,7 +6,8 @@ use Rattle.std.specs.Str.{bytes_eq}
 use Rattle.std.proofs.lemmas.List.{append-nil, map-append, length-append}
 use Rattle.std.proofs.lemmas.List.Folds.{list_any-append}
 use Rattle.std.proofs.lemmas.Slice.Eq.{bytes_eq-Decides}
-use Rattle.list_laws.proofs.Tests.{both}
+use Rattle.ulam_names.proofs.Members.{new_function}
+use Rattle.list_laws.proofs.Tests.{both, or_second}
 use Rattle.ulam_tree.specs.declared.resolved.Ty.{Ty}
 use Rattle.ulam_tree.specs.declared.resolved.Ty.TheVariants as y
 use Rattle.ulam_tree.specs.Raw as raw
@@ -116,14 +117,6 @@ FirstBehaves [] = ⊥
 FirstBehaves (half_field n w len ∷ hs) = FirstBehaves hs
 FirstBehaves (half_function f ∷ hs) = ((is_named_behave f ≡ true) × (f.of.ty ≡ y.Nothing) × (f.params ≡ [])) ⊎ ((is_named_behave f ≡ false) × FirstBehaves hs)
 
-or_neither : (a b : Bool) → (a || b) ≡ false → (a ≡ false) × (b ≡ false)
-or_neither false b h = (refl, h)
-or_neither true b h = cc
-
--- a name that a class does not declare is none of its functions
-no_function_named : (d : Names) (name : Text) → declares_name d name ≡ false → is_among name d.functions ≡ false
-no_function_named d name h = (or_neither (is_among name (names_of d.typedefs) || is_among name (names_of d.constants) || is_among name (names_of d.fields)) (is_among name d.functions) h).1
-
 abbrev has_behave : Names → Bool
 has_behave d = is_among (codes "behave") d.functions
 
@@ -148,7 +141,7 @@ not_again d w has new = go (bytes_eq w.name (codes "behave")) refl
     go false e = refl
     go true e =
         let same = (bytes_eq-Decides w.name (codes "behave")).0 e in
-        let none = no_function_named d w.name new in
+        let none = new_function d w.name new in
         sym has ∙ ap (λ (name : Text). is_among name d.functions) (sym same) ∙ none
 
 -- behind a function that is named so
@@ -211,10 +204,6 @@ pub record GoodClass (h : HalfClass) : Type 0 where
 abbrev pub AllGoodClasses : List HalfClass → Type 0
 AllGoodClasses [] = Unit {0}
 AllGoodClasses (h ∷ hs) = GoodClass h × AllGoodClasses hs
-
-or_second : (a b : Bool) → (a || b) ≡ true → a ≡ false → b ≡ true
-or_second false b h e = h
-or_second true b h e = cc
 
 class_good : (known : Known) (c : raw.Class) (a : Names × List Half) → AreMembers known no_names c.members a → (c.quark || list_any is_behave a.1) ≡ true → GoodClass (record { quark = c.quark; word = c.word; names = a.0; members = a.1 })
 class_good known c a h b =

@@ -19,7 +19,7 @@ use Rattle.ulam_tree.specs.Raw as raw
 use Rattle.ulam_names.specs.declared.basic.Value.{Value}
 use Rattle.ulam_names.specs.declared.basic.Basic.{Basic}
 use Rattle.ulam_names.specs.declared.basic.Basic.TheVariants.{Sized as sized, Whole as whole}
-use Rattle.ulam_names.specs.Scopes.{Text, allows, widest_of, beside, number_of, built_in, basic_named, number_type, class_type, as_number, in_range}
+use Rattle.ulam_names.specs.Scopes.{Text, allows, widest_of, beside, number_of, built_in, basic_named, number_type, as_number, in_range}
 use Rattle.ulam_names.specs.Relation.{IsSized, IsType}
 use Rattle.ulam_types.specs.Rows.{plain_fits}
 use Rattle.stack_code.specs.Valid.{type_fits, number_fits}
@@ -122,15 +122,15 @@ built_in_wide = (refl, (refl, (refl, (refl, (refl, (tt, (tt, (tt, (tt, (tt, tt))
 basic_wide : (typedefs : List (Text × NumType)) (classes : List Text) (name : Text) (b : Basic) → Each FitsNum typedefs → basic_named typedefs classes name ≡ Some b → IsWideBasic b
 basic_wide typedefs classes name b h e = by_typedef (beside name typedefs) refl e
   where
-    by_class : (o : Option ℕ) → option_map (λ (j : ℕ). whole (class_type j)) o ≡ Some b → IsWideBasic b
+    by_class : (o : Option ℕ) → option_map (λ (j : ℕ). whole (y.Class j)) o ≡ Some b → IsWideBasic b
     by_class None e = cc
-    by_class (Some j) e = let q : whole (class_type j) ≡ b = cc in subst IsWideBasic q tt
+    by_class (Some j) e = let q : whole (y.Class j) ≡ b = cc in subst IsWideBasic q tt
 
-    by_built : (o : Option Basic) → beside name built_in ≡ o → option_or o (option_map (λ (j : ℕ). whole (class_type j)) (number_of name classes)) ≡ Some b → IsWideBasic b
+    by_built : (o : Option Basic) → beside name built_in ≡ o → option_or o (option_map (λ (j : ℕ). whole (y.Class j)) (number_of name classes)) ≡ Some b → IsWideBasic b
     by_built None f e = by_class (number_of name classes) e
     by_built (Some x) f e = let q : x ≡ b = cc in subst IsWideBasic q (beside_each IsWideBasic name built_in x built_in_wide f)
 
-    by_typedef : (o : Option NumType) → beside name typedefs ≡ o → option_or (option_map (λ (num : NumType). whole (number_type num)) o) (option_or (beside name built_in) (option_map (λ (j : ℕ). whole (class_type j)) (number_of name classes))) ≡ Some b → IsWideBasic b
+    by_typedef : (o : Option NumType) → beside name typedefs ≡ o → option_or (option_map (λ (num : NumType). whole (number_type num)) o) (option_or (beside name built_in) (option_map (λ (j : ℕ). whole (y.Class j)) (number_of name classes))) ≡ Some b → IsWideBasic b
     by_typedef None f e = by_built (beside name built_in) refl e
     by_typedef (Some num) f e = let q : whole (number_type num) ≡ b = cc in subst IsWideBasic q (beside_each FitsNum name typedefs num h f)
 

@@ -1,6 +1,8 @@
 -- A pass accepts each code that has shapes. The places' exits are data, so that nothing here looks at instructions.
 use Rattle.std.proofs.Common.{◌≡◌, ℕ, zero, suc, ◌+◌, ◌<◌, ◌≤◌, ◌≢◌, ◌⊎◌, inl, inr, ⊎_elim, List, [], ◌∷◌, length, Option, Some, None, refl, sym, ap, ◌∙◌, subst, arith, Bool, true, false}
 use Rattle.std.specs.Prelude.{slice_get, slice_set, if◌then◌else◌}
+use Rattle.std.proofs.lemmas.Bool.{cases_eq}
+use Rattle.list_laws.proofs.Slots.{get_inside, length_set}
 use Rattle.stack_code.specs.Valid.{Kinds, Notes, same_kind, same_kinds, note_over, arrive, arrive_with, Exits, note_exit, go_exit, at_exit, at_kinds, exits_of, Around, pass}
 use Rattle.stack_code.specs.declared.instr.Operand.{Operand}
 use Rattle.stack_code.specs.declared.instr.Operand.TheVariants.{Number, Atom}
@@ -23,22 +25,6 @@ same_kinds_refl (k ∷ ks) = ap (λ (b : Bool). if b then same_kinds ks ks else 
 
 pub same_from : (a b : Kinds) → a ≡ b → same_kinds a b ≡ true
 same_from a b e = subst (λ b. same_kinds a b ≡ true) e (same_kinds_refl a)
-
-length_set : {A : Type 0} (xs : List A) (p : ℕ) (y : A) → length (slice_set xs p y) ≡ length xs
-length_set [] p y = refl
-length_set (x ∷ xs) zero y = refl
-length_set (x ∷ xs) (suc p) y = ap suc (length_set xs p y)
-
-get_in : {A : Type 0} (xs : List A) (p : ℕ) → p < length xs → (x : A) × (slice_get xs p ≡ Some x)
-get_in [] p h = absurd (omega arith)
-get_in (x ∷ xs) zero h = (x, refl)
-get_in (x ∷ xs) (suc p) h = get_in xs p (omega arith)
-
-same_or : (p q : ℕ) → (p ≡ q) ⊎ (p ≢ q)
-same_or zero zero = inl refl
-same_or zero (suc q) = inr (λ e. omega arith)
-same_or (suc p) zero = inr (λ e. omega arith)
-same_or (suc p) (suc q) = ⊎_elim (λ e. inl (ap suc e)) (λ ne. inr (λ e. ne (omega arith))) (same_or p q)
 
 -- shapes of the places of a function from first to end
 pub record Shapes (ex : ℕ → Kinds → Option Exits) (first end len : ℕ) (shape : ℕ → Kinds) : Type 0 where
@@ -99,8 +85,8 @@ module _ (ex : ℕ → Kinds → Option Exits) (first end len : ℕ) (shape : �
   grown_by : (n m : Notes) (p : ℕ) (ks : Kinds) → length m ≡ len → ((q : ℕ) (k : Kinds) → slice_get n q ≡ Some (Some k) → k ≡ shape q) → ks ≡ shape p → slice_get m p ≡ Some (Some ks) → ((r : ℕ) → r ≢ p → slice_get m r ≡ slice_get n r) → Grown n m
   grown_by n m p ks long agree e here apart = record {
     long = long;
-    agree = λ q k g. ⊎_elim (λ f. let a : slice_get m q ≡ Some (Some ks) = subst (λ q. slice_get m q ≡ Some (Some ks)) (sym f) here in let b : k ≡ ks = cc in b ∙ e ∙ ap shape (sym f)) (λ ne. agree q k (sym (apart q ne) ∙ g)) (same_or q p);
-    keeps = λ q k g. ⊎_elim (λ f. let a : k ≡ ks = agree q k g ∙ ap shape f ∙ sym e in subst (λ q. slice_get m q ≡ Some (Some k)) (sym f) (here ∙ ap (λ k. Some (Some k)) (sym a))) (λ ne. apart q ne ∙ g) (same_or q p);
+    agree = λ q k g. ⊎_elim (λ f. let a : slice_get m q ≡ Some (Some ks) = subst (λ q. slice_get m q ≡ Some (Some ks)) (sym f) here in let b : k ≡ ks = cc in b ∙ e ∙ ap shape (sym f)) (λ ne. agree q k (sym (apart q ne) ∙ g)) (cases_eq q p);
+    keeps = λ q k g. ⊎_elim (λ f. let a : k ≡ ks = agree q k g ∙ ap shape f ∙ sym e in subst (λ q. slice_get m q ≡ Some (Some k)) (sym f) (here ∙ ap (λ k. Some (Some k)) (sym a))) (λ ne. apart q ne ∙ g) (cases_eq q p);
   }
 
   grown_on : (a b c : Notes) → Grown a b → Grown b c → Grown a c
@@ -117,7 +103,7 @@ module _ (ex : ℕ → Kinds → Option Exits) (first end len : ℕ) (shape : �
     noted = λ q lt lo y f j h. ⊎_elim
         (λ z. let w : ex p (shape p) ≡ Some y = subst (λ q. ex q (shape q) ≡ Some y) z f in let v : y ≡ x = cc in jumped j (ap (λ (y : Exits). y.jumps) (sym v) ∙ h))
         (λ ne. g.keeps j.0 (shape j.0) (c.noted q (below_apart q p lt ne) lo y f j h))
-        (same_or q p);
+        (cases_eq q p);
   }
 
   -- notes that agree with the shapes
@@ -129,7 +115,7 @@ module _ (ex : ℕ → Kinds → Option Exits) (first end len : ℕ) (shape : �
   after_exit k p plo plt here n n1 x c g f rec None h = rec x.falls n1 (next_come p plo plt here n n1 x c g f (λ j e. absurd (cc)))
   after_exit k p plo plt here n n1 x c g f rec (Some j) h =
       let s = sh.jumps p plo plt x f j h in
-      let old = get_in n1 j.0 (omega (arith, g.long, s.1)) in
+      let old = get_inside n1 j.0 (omega (arith, g.long, s.1)) in
       let t = note_takes n1 j.0 j.1 g.long s.1 g.agree s.0 old.0 old.1 in
       let m = t.0 in
       let g2 : Grown n1 m = grown_by n1 m j.0 j.1 t.2 g.agree s.0 t.3 t.4 in
@@ -143,7 +129,7 @@ module _ (ex : ℕ → Kinds → Option Exits) (first end len : ℕ) (shape : �
   accepts zero p (Some ks) n e lo c = let i = c.inside ks refl in absurd (omega arith)
   accepts (suc k) p here n e lo c =
       let lt : p < end = omega arith in
-      let old = get_in n p (omega (arith, c.long, sh.within)) in
+      let old = get_inside n p (omega (arith, c.long, sh.within)) in
       let a : arrive here n p ≡ Some (shape p) = ap (arrive_with here) old.1 ∙ arrives p here n c (reached p lo lt) old.0 old.1 in
       let n1 = slice_set n p (Some (shape p)) in
       let g1 : Grown n n1 = grown_by n n1 p (shape p) (length_set n p (Some (shape p)) ∙ c.long) c.agree refl (get_set_here n p (Some (shape p)) old.0 old.1) (λ r ne. get_set_apart n p r (Some (shape p)) (λ f. ne (sym f))) in

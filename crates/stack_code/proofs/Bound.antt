@@ -4,6 +4,7 @@ use Rattle.std.specs.Prelude.{slice_get, nat_lt, nat_le, nat_eq, if◌then◌els
 use Rattle.std.proofs.lemmas.Bool.{leb-true, ltb-true, eqb-true}
 use Rattle.std.proofs.lemmas.List.{length-take}
 use Rattle.std.proofs.Common.{length-drop}
+use Rattle.list_laws.proofs.Slots.{get_drop}
 use Rattle.window_sites.specs.Window.{WindowValue}
 use Rattle.stack_code.specs.Machine.{FunctionValue, CodeValue, Led, Goes, Fails, Ends, Lacks, State, step, and_then, iter, one_more, count, start, start_with}
 use Rattle.stack_code.specs.Laws.{IsOver, RunsWell}
@@ -42,11 +43,6 @@ module _ (c : CodeValue) (shapes : Notes) (cf : CodeFine c shapes) where
   unfolding count
   count_most zero s t = omega arith
   count_most (suc n) s t = count_led n s (step c s) (step_next c shapes cf s t) (λ s' t'. count_most n s' t') (measure_some s t)
-
-get_drop : {A : Type 0} (p k : ℕ) (xs : List A) → slice_get (drop p xs) k ≡ slice_get xs (p + k)
-get_drop zero k xs = let e : k ≡ 0 + k = omega arith in ap (slice_get xs) e
-get_drop (suc p) k [] = refl
-get_drop (suc p) k (x ∷ xs) = let e : suc (p + k) ≡ suc p + k = omega arith in get_drop p k xs ∙ ap (slice_get (x ∷ xs)) e
 
 get_take : {A : Type 0} (n k : ℕ) (xs : List A) → k < n → slice_get (take n xs) k ≡ slice_get xs k
 get_take zero k xs lt = absurd (omega arith)

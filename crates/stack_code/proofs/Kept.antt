@@ -1,16 +1,20 @@
 -- An event keeps the live marks and changes no site that is not live, and its failures have numbers from 1 to 7.
-use Rattle.std.proofs.Common.{◌≡◌, ℕ, zero, suc, ◌+◌, ◌*◌, ◌%◌, ◌≤◌, List, [], ◌∷◌, Option, Some, None, refl, ap, ◌∙◌, arith, Bool, true, false}
+use Rattle.std.proofs.Common.{◌≡◌, ℕ, zero, suc, ◌+◌, ◌*◌, ◌%◌, List, [], ◌∷◌, Option, Some, None, refl, ap, ◌∙◌, arith, Bool, true, false}
 use Rattle.std.specs.Prelude.{slice_get, slice_set, slice_index_or, nat_lt, nat_le, nat_eq, ◌&&◌, if◌then◌else◌, ℤ, pos, negsuc}
+use Rattle.datum.proofs.Failures.{is_failure}
+use Rattle.datum.specs.Failures.{IsFailure}
+use Rattle.datum.specs.Fields.{get_field}
+use Rattle.sat_math.specs.Operations.{of_bool, is_zero}
 use Rattle.bit_field.specs.Atom.{AtomValue, empty_atom}
 use Rattle.bit_field.specs.Words.{with_field}
-use Rattle.window_sites.specs.Window.{WindowValue, atom_at, live_at, put_at, swap_at}
+use Rattle.window_sites.specs.Window.{WindowValue, atom_at, live_at, put_at, swap_at, emptied}
 use Rattle.window_sites.proofs.Marks.{set_apart}
 use Rattle.draw_stream.specs.Words.{event_step}
-use Rattle.stack_code.specs.Sorts.{of_bool, is_zero, Sort, Give, One, Two, Load, Store, Drop, Field, SetField, Part, SetPart, Own, Site, SetSite, Exchange, Ask, Draw, Same, Double, FieldAt, SetFieldAt, PartAt, SetPartAt, Goto, GotoFalse, Take, Enter, GiveBack, Leave, sort}
+use Rattle.stack_code.specs.Sorts.{Sort, Give, One, Two, Load, Store, Drop, Field, SetField, Part, SetPart, Own, Site, SetSite, Exchange, Ask, Draw, Same, Double, FieldAt, SetFieldAt, PartAt, SetPartAt, Goto, GotoFalse, Take, Enter, GiveBack, Leave, sort}
 use Rattle.datum.specs.declared.Datum.{Datum}
 use Rattle.datum.specs.declared.Datum.TheVariants.{Number as ANumber, Atom as AnAtom}
 use Rattle.stack_code.specs.declared.instr.Instr.{Instr}
-use Rattle.stack_code.specs.Machine.{CodeValue, FunctionValue, Frame, State, Held, Led, emptied, Goes, Fails, Ends, Lacks, now, at_self, own_of, on_own, at_site, at_bound, at_index, result_of, with_part, on_slot, atom_in, on_part, on_top, on_number, on_atom, on_numbers, kept, get_field, put_own, put_slot, work, onward, on_turn, on_test, enter, enter_with, into, back, back_one, go_by, step, step_on, and_then, iter}
+use Rattle.stack_code.specs.Machine.{CodeValue, FunctionValue, Frame, State, Held, Led, Goes, Fails, Ends, Lacks, now, at_self, own_of, on_own, at_site, at_bound, at_index, result_of, with_part, on_slot, atom_in, on_part, on_top, on_number, on_atom, on_numbers, kept, put_own, put_slot, work, onward, on_turn, on_test, enter, enter_with, into, back, back_one, go_by, step, step_on, and_then, iter}
 
 -- the live marks stay, and so do the sites that are not live
 pub record Kept (v w : WindowValue) : Type 0 where
@@ -45,14 +49,6 @@ swap_by w p q false d e f = kept_same w
 kept_swap : (w : WindowValue) (p q : ℕ) → Kept w (swap_at w p q)
 kept_swap w p q = swap_by w p q (live_at w p) (live_at w q) refl refl
 
--- the numbers of failures
-pub record IsFailure (n : ℕ) : Type 0 where
-  pub least : 1 ≤ n
-  pub most : n ≤ 7
-
-failure : (n : ℕ) → 1 ≤ n → n ≤ 7 → IsFailure n
-failure n l m = record { least = l; most = m }
-
 abbrev pub KeptHeld : WindowValue → Led Held → Type 0
 KeptHeld w (Goes h) = Kept w h.window
 KeptHeld w (Fails n) = IsFailure n
@@ -82,20 +78,20 @@ module _ (w : WindowValue) where
   on_numbers_kept st go f = on_number_kept st (λ b s1. on_number s1 (λ a s2. go a b s2)) (λ b s1. on_number_kept s1 (λ a s2. go a b s2) (λ a s2. f a b s2))
 
   site_kept : (i : ℤ) (go : ℕ → Led Held) → ((n : ℕ) → KeptHeld w (go n)) → KeptHeld w (at_site i go)
-  site_kept (negsuc n) go f = (failure 4 (omega arith) (omega arith))
-  site_kept (pos n) go f = if_kept (nat_le n 40) (go n) (Fails 4) (f n) (failure 4 (omega arith) (omega arith))
+  site_kept (negsuc n) go f = (is_failure 4 (omega arith) (omega arith))
+  site_kept (pos n) go f = if_kept (nat_le n 40) (go n) (Fails 4) (f n) (is_failure 4 (omega arith) (omega arith))
 
   index_kept : (i : ℤ) (n : ℕ) (go : ℕ → Led Held) → ((j : ℕ) → KeptHeld w (go j)) → KeptHeld w (at_index i n go)
-  index_kept (negsuc i) n go f = (failure 7 (omega arith) (omega arith))
-  index_kept (pos i) n go f = if_kept (nat_lt i n) (go i) (Fails 7) (f i) (failure 7 (omega arith) (omega arith))
+  index_kept (negsuc i) n go f = (is_failure 7 (omega arith) (omega arith))
+  index_kept (pos i) n go f = if_kept (nat_lt i n) (go i) (Fails 7) (f i) (is_failure 7 (omega arith) (omega arith))
 
   bound_kept : (i : ℤ) (go : ℕ → Led Held) → ((n : ℕ) → KeptHeld w (go n)) → KeptHeld w (at_bound i go)
-  bound_kept (negsuc n) go f = (failure 5 (omega arith) (omega arith))
-  bound_kept (pos zero) go f = (failure 5 (omega arith) (omega arith))
+  bound_kept (negsuc n) go f = (is_failure 5 (omega arith) (omega arith))
+  bound_kept (pos zero) go f = (is_failure 5 (omega arith) (omega arith))
   bound_kept (pos (suc n)) go f = f (suc n)
 
   own_kept : (o : Option AtomValue) (go : AtomValue → Led Held) → ((a : AtomValue) → KeptHeld w (go a)) → KeptHeld w (on_own o go)
-  own_kept None go f = (failure 6 (omega arith) (omega arith))
+  own_kept None go f = (is_failure 6 (omega arith) (omega arith))
   own_kept (Some a) go f = f a
 
   part_kept : (o : Option AtomValue) (go : AtomValue → Led Held) → ((a : AtomValue) → KeptHeld w (go a)) → KeptHeld w (on_part o go)
@@ -107,7 +103,7 @@ module _ (w : WindowValue) where
   slot_kept (Some x) go f = f x
 
   result_kept : (o : Option ℤ) (go : ℤ → Led Held) → ((v : ℤ) → KeptHeld w (go v)) → KeptHeld w (result_of o go)
-  result_kept None go f = (failure 3 (omega arith) (omega arith))
+  result_kept None go f = (is_failure 3 (omega arith) (omega arith))
   result_kept (Some v) go f = f v
 
 pub work_kept : (kind : ℕ) (so : Sort) (h : Held) → KeptHeld h.window (work kind so h)
@@ -158,13 +154,13 @@ fork_kept s p (ANumber v ∷ st) = kept_same s.held.window
 fork_kept s p (AnAtom a ∷ st) = tt
 
 turn_kept : (s : State) (t : ℕ) → KeptState s.held.window (on_turn t (λ u. Goes (record s { turns = u; place = s.place + 1 })))
-turn_kept s zero = (failure 1 (omega arith) (omega arith))
+turn_kept s zero = (is_failure 1 (omega arith) (omega arith))
 turn_kept s (suc t) = kept_same s.held.window
 
 call_kept : (s : State) (g : FunctionValue) (b : Bool) (t : ℕ) → KeptState s.held.window (on_turn t (λ u. if b then Goes (into s g u) else Fails 2))
-call_kept s g b zero = (failure 1 (omega arith) (omega arith))
+call_kept s g b zero = (is_failure 1 (omega arith) (omega arith))
 call_kept s g true (suc t) = kept_same s.held.window
-call_kept s g false (suc t) = (failure 2 (omega arith) (omega arith))
+call_kept s g false (suc t) = (is_failure 2 (omega arith) (omega arith))
 
 choice_kept : (w : WindowValue) (b : Bool) (x : Led State) → KeptState w x → KeptState w (if b then x else Lacks)
 choice_kept w true x k = k

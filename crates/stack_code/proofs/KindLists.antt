@@ -1,5 +1,5 @@
 -- Lists that share what lies below.
-use Rattle.std.proofs.Common.{◌≡◌, ℕ, zero, suc, ◌+◌, ◌-◌, ◌<◌, ◌≤◌, ◌≢◌, List, [], ◌∷◌, ◌++◌, length, get_or, refl, sym, ap, ◌∙◌, subst, arith, rules, Bool, true, false}
+use Rattle.std.proofs.Common.{◌≡◌, ℕ, zero, suc, ◌+◌, ◌-◌, ◌<◌, ◌≤◌, ◌≢◌, List, [], ◌∷◌, ◌++◌, length, get_or, refl, sym, ap, ◌∙◌, subst, arith, Bool, true, false, eq-eqb}
 use Rattle.std.specs.Prelude.{nat_eq, reverse, if◌then◌else◌}
 use Rattle.std.proofs.lemmas.List.{reverse-append, length-reverse, reverse-reverse}
 use Rattle.std.proofs.lemmas.Bool.{eqb-true}
@@ -7,9 +7,6 @@ use Rattle.stack_code.specs.declared.instr.Operand.TheVariants.{Number, Atom}
 use Rattle.stack_code.specs.Valid.{Kinds, same_kinds}
 use Rattle.stack_code.specs.declared.kind_lists.Node.{Node}
 use Rattle.stack_code.specs.KindLists.{list_at, IsTree, Grows}
-
-eq_self : (n : ℕ) → nat_eq n n ≡ true
-eq_self n = search rules
 
 eq_apart : (m n : ℕ) → m ≢ n → nat_eq m n ≡ false
 eq_apart m n h = apart_by (nat_eq m n) (eqb-true m n)
@@ -26,7 +23,7 @@ list_zero (n ∷ older) =
 
 -- the newest list
 pub list_new : (n : Node) (older : List Node) (id : ℕ) → id ≡ length older + 1 → list_at (n ∷ older) id ≡ n.top ∷ list_at older n.below
-list_new n older id e = rw (e, eq_self (length older + 1)) refl
+list_new n older id e = rw (e, (eq-eqb (length older + 1) (length older + 1) refl)) refl
 
 -- older lists stay
 pub list_old : (n : Node) (older : List Node) (id : ℕ) → id ≤ length older → list_at (n ∷ older) id ≡ list_at older id
@@ -59,7 +56,7 @@ node_step n older id d t some le rec true e =
       depth = t.1 ∙ sym (ap length l ∙ s);
     }
 node_step n older id d t some le rec false e =
-    let ne : id ≢ length older + 1 = λ h. let p : nat_eq id (length older + 1) ≡ true = subst (λ k. nat_eq id k ≡ true) h (eq_self id) in absurd (cc) in
+    let ne : id ≢ length older + 1 = λ h. let p : nat_eq id (length older + 1) ≡ true = subst (λ k. nat_eq id k ≡ true) h (eq-eqb id id refl) in absurd (cc) in
     let le2 : id ≤ length older = omega (arith, ne) in
     let r = rec le2 in
     let o = list_old n older id le2 in
@@ -85,7 +82,7 @@ get_step n older k d lt rec true e =
     let q : k + 1 ≡ length older + 1 = eqb-true (k + 1) (length older + 1) e in
     get_last (reverse older) n d k (omega (arith, q, length-reverse older))
 get_step n older k d lt rec false e =
-    let ne : k + 1 ≢ length older + 1 = λ h. let p : nat_eq (k + 1) (length older + 1) ≡ true = subst (λ j. nat_eq (k + 1) j ≡ true) h (eq_self (k + 1)) in absurd (cc) in
+    let ne : k + 1 ≢ length older + 1 = λ h. let p : nat_eq (k + 1) (length older + 1) ≡ true = subst (λ j. nat_eq (k + 1) j ≡ true) h (eq-eqb (k + 1) (k + 1) refl) in absurd (cc) in
     let le2 : k < length older = omega (arith, ne) in
     get_older (reverse older) n d k (omega (arith, le2, length-reverse older)) ∙ rec le2
 

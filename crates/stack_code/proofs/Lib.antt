@@ -11,4 +11,4 @@ pub mod Arguments
 pub mod AllFunctions
 pub mod Verdict
 pub mod Lines
-mod Worked
+pub mod Worked

@@ -1,14 +1,17 @@
 -- Plain instructions find what they take, and leave what the table says.
 use Rattle.std.proofs.Common.{◌≡◌, ℕ, zero, suc, ◌+◌, List, [], ◌∷◌, Option, Some, None, refl, sym, ap, ◌∙◌, Bool, true, false}
 use Rattle.std.specs.Prelude.{slice_get, slice_set, nat_lt, nat_le, nat_eq, if◌then◌else◌, map, ℤ, pos, negsuc, ◌+◌, ◌*◌, ◌%◌}
+use Rattle.std.proofs.lemmas.Option.{same_Some}
+use Rattle.datum.specs.Fields.{get_field}
+use Rattle.sat_math.specs.Operations.{of_bool}
 use Rattle.bit_field.specs.Atom.{AtomValue}
 use Rattle.window_sites.specs.Window.{WindowValue, atom_at, put_at, swap_at}
-use Rattle.stack_code.specs.Sorts.{kind_of, Sort, Give, One, Two, Load, Store, Drop, Field, SetField, Part, SetPart, Own, Site, SetSite, Exchange, Ask, Draw, Same, Goto, GotoFalse, Take, Enter, GiveBack, Leave, Double, FieldAt, SetFieldAt, PartAt, SetPartAt, of_bool}
+use Rattle.stack_code.specs.Sorts.{kind_of, Sort, Give, One, Two, Load, Store, Drop, Field, SetField, Part, SetPart, Own, Site, SetSite, Exchange, Ask, Draw, Same, Goto, GotoFalse, Take, Enter, GiveBack, Leave, Double, FieldAt, SetFieldAt, PartAt, SetPartAt}
 use Rattle.datum.specs.declared.Datum.{Datum}
 use Rattle.datum.specs.declared.Datum.TheVariants.{Number as ANumber, Atom as AnAtom}
 use Rattle.bit_field.specs.Words.{with_field}
 use Rattle.draw_stream.specs.Words.{event_step}
-use Rattle.stack_code.specs.Machine.{Held, Led, Goes, Fails, Ends, Lacks, now, at_self, at_site, at_bound, at_index, result_of, with_part, on_slot, own_of, on_own, atom_in, on_part, on_top, on_number, on_atom, on_numbers, kept, get_field, put_own, put_slot, work}
+use Rattle.stack_code.specs.Machine.{Held, Led, Goes, Fails, Ends, Lacks, now, at_self, at_site, at_bound, at_index, result_of, with_part, on_slot, own_of, on_own, atom_in, on_part, on_top, on_number, on_atom, on_numbers, kept, put_own, put_slot, work}
 use Rattle.stack_code.specs.Valid.{Kinds, same_kind, pop, pop_any, and_pop, push, push_slot, pop_slot, if_atom, after}
 use Rattle.stack_code.specs.declared.instr.Operand.{Operand}
 use Rattle.stack_code.specs.declared.instr.Operand.TheVariants.{Number, Atom}
@@ -52,9 +55,6 @@ pop_slot_gives (Some k) ls ks e = (k, refl, pop_gives k ls ks e)
 pop_any_gives : (ks ls : Kinds) → pop_any ks ≡ Some ls → (k : Operand) × (ks ≡ k ∷ ls)
 pop_any_gives [] ls e = cc
 pop_any_gives (k ∷ ks) ls e = (k, cc)
-
-some_eq : {A : Type 0} {x y : A} → Some x ≡ Some y → x ≡ y
-some_eq e = cc
 
 slot_has : (sl : List Datum) (i : ℕ) (k : Operand) → slice_get (map kind_of sl) i ≡ Some k → (x : Datum) × (slice_get sl i ≡ Some x) × (kind_of x ≡ k)
 slot_has [] i k e = cc
@@ -149,7 +149,7 @@ work_good kind (SetField f t) h ks e =
     self_good ks _ kind h.window (λ a. put_own h s (with_field a f t.width (kept t v))) (λ a. (g, refl)))
 work_good kind (Part i f t) h ks e =
     let p = if_atom_gives (slice_get (kinds_of h.slots) i) (Some (Number ∷ kinds_of h.stack)) ks e in
-    part_good ks _ h.slots i (λ a. now h (ANumber (get_field a f t) ∷ h.stack)) p.0 (λ a. (some_eq p.1, refl))
+    part_good ks _ h.slots i (λ a. now h (ANumber (get_field a f t) ∷ h.stack)) p.0 (λ a. (same_Some _ _ p.1, refl))
 work_good kind (SetPart i f t) h ks e =
     let p = if_atom_gives (slice_get (kinds_of h.slots) i) (pop Number (kinds_of h.stack)) ks e in
     on_number_good ks _ h.stack (λ v s. on_part (atom_in (slice_get h.slots i)) (λ a. put_slot h s i (with_part a f t.width (kept t v)))) ks (pop_gives Number (kinds_of h.stack) ks p.1) (λ v s g.

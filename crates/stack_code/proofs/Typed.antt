@@ -3,8 +3,10 @@ use Rattle.std.proofs.Common.{◌≡◌, ℕ, zero, suc, ◌+◌, ◌-◌, ◌*�
 use Rattle.std.specs.Prelude.{slice_get, nat_lt, nat_le, if◌then◌else◌, map, reverse, ℤ, is_none}
 use Rattle.std.proofs.lemmas.Bool.{leb-true, ltb-true, lt-ltb, le-ltb, le-leb}
 use Rattle.std.proofs.lemmas.List.{take-map, drop-map, length-reverse, length-take}
+use Rattle.sat_math.specs.Operations.{is_zero}
+use Rattle.list_laws.proofs.Slots.{get_inside}
 use mathlib.Core.List.{reverse_aux}
-use Rattle.stack_code.specs.Sorts.{kind_of, Sort, Goto, GotoFalse, Take, Enter, GiveBack, Leave, sort, is_zero}
+use Rattle.stack_code.specs.Sorts.{kind_of, Sort, Goto, GotoFalse, Take, Enter, GiveBack, Leave, sort}
 use Rattle.datum.specs.declared.Datum.{Datum}
 use Rattle.datum.specs.declared.Datum.TheVariants.{Number as ANumber, Atom as AnAtom}
 use Rattle.stack_code.specs.Machine.{FunctionValue, CodeValue, Held, Led, Goes, Fails, Ends, Lacks, fill, Frame, State, work, onward, on_turn, on_test, fresh, into, enter, enter_with, back, back_one, go_by, step, step_on}
@@ -81,12 +83,7 @@ NextLed c shapes s (Fails n) = Unit {0}
 NextLed c shapes s (Ends w) = Unit {0}
 NextLed c shapes s Lacks = ⊥
 
-get_within : {A : Type 0} (xs : List A) (p : ℕ) → p < length xs → (x : A) × (slice_get xs p ≡ Some x)
-get_within [] p h = absurd (omega arith)
-get_within (x ∷ xs) zero h = (x, refl)
-get_within (x ∷ xs) (suc p) h = get_within xs p (omega arith)
-
-abbrev is_goto : Sort → Bool
+abbrev pub is_goto : Sort → Bool
 is_goto (Goto p) = true
 is_goto so = false
 
@@ -98,7 +95,7 @@ turn_take : (i : Instr) → is_turn (Some i) ≡ true → is_take (sort i) ≡ t
 turn_take Turn e = refl
 turn_take i e = cc
 
-not_goto : (i : Instr) (p : ℕ) → is_goto (sort i) ≡ false → back_by p (Some i) ≡ None
+pub not_goto : (i : Instr) (p : ℕ) → is_goto (sort i) ≡ false → back_by p (Some i) ≡ None
 not_goto (Jump q) p e = cc
 not_goto i p e = refl
 
@@ -213,7 +210,7 @@ module _ (c : CodeValue) (shapes : Notes) where
   unfolding back_of
   no_back g fine p i at plain low high =
       let w : suc p < length c.instrs = omega (arith, fine.within) in
-      let j = get_within c.instrs (suc p) w in
+      let j = get_inside c.instrs (suc p) w in
       let f = fine.places (suc p) j.0 (omega arith) (omega arith) j.1 in
       let r = no_back_by g fine p i j.0 at plain f (back_by (suc p) (Some j.0)) refl in
       let s : back_by (suc p) (slice_get c.instrs (suc p)) ≡ None = ap (back_by (suc p)) j.1 ∙ r in
@@ -343,7 +340,7 @@ module _ (c : CodeValue) (shapes : Notes) where
   unfolding back_of
   start_free g fine =
       let w : g.first < length c.instrs = omega (arith, fine.within, fine.some) in
-      let j = get_within c.instrs g.first w in
+      let j = get_inside c.instrs g.first w in
       ap (back_by g.first) j.1 ∙ start_free_by g fine j.0 (fine.places g.first j.0 (omega arith) fine.some j.1) (back_by g.first (Some j.0)) refl
 
   back_next : (s : State) (given : List Datum) (r : Answer) → ((st : List Datum) → kinds_of (given ++ st) ≡ answer_on r (kinds_of st)) → 0 < weight c s.place → (frs : List Frame) → s.below ≡ frs → Below c shapes r frs → NextLed c shapes s (back s given frs)
@@ -424,7 +421,7 @@ module _ (c : CodeValue) (shapes : Notes) where
   pub step_next : CodeFine c shapes → (s : State) (t : Typed c shapes s) → NextLed c shapes s (step c s)
   step_next cf s t =
       let w : s.place < length c.instrs = omega (arith, t.fine.within, t.high) in
-      let j = get_within c.instrs s.place w in
+      let j = get_inside c.instrs s.place w in
       let f = t.fine.places s.place j.0 t.low t.high j.1 in
       subst (λ o. NextLed c shapes s (step_on c s o)) (sym j.1) (go_next cf s t j.0 f j.1 (sort j.0) refl f.leads)
 
@@ -432,7 +429,7 @@ module _ (c : CodeValue) (shapes : Notes) where
   pub stack_most : (s : State) (t : Typed c shapes s) → length s.held.stack ≤ 512
   stack_most s t =
       let w : s.place < length c.instrs = omega (arith, t.fine.within, t.high) in
-      let j = get_within c.instrs s.place w in
+      let j = get_inside c.instrs s.place w in
       let f = t.fine.places s.place j.0 t.low t.high j.1 in
       let same : f.kinds ≡ kinds_of s.held.stack = some_some (sym f.at ∙ t.here) in
       omega (arith, f.depth, ap length same, length_kinds s.held.stack)

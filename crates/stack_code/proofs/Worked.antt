@@ -1,9 +1,9 @@
 -- Worked values: small codes, whether they are valid, and what they do.
 use Rattle.std.proofs.Common.{◌≡◌, ℕ, List, [], ◌∷◌, ◌++◌, refl, true, false}
 use Rattle.std.specs.Prelude.{pos, replicate, codes, ◌*◌, length}
+use Rattle.bit_field.specs.Atom.{new_atom}
 use Rattle.window_sites.specs.Window.{WindowValue}
 use Rattle.sat_math.specs.declared.Kind.TheVariants.{Int, Unsigned}
-use Rattle.stack_code.specs.Sorts.{atom_of}
 use Rattle.stack_code.specs.Machine.{CodeValue, FunctionValue, Fails, start, count, iter}
 use Rattle.stack_code.specs.Valid.{valid, pass, pass_all, back_of}
 use Rattle.stack_code.specs.declared.instr.Operand.{Operand}
@@ -19,8 +19,8 @@ one_function : List Instr → CodeValue
 one_function is = record { kind = 1; functions = main_with [] ∷ []; instrs = is }
 
 -- a window of 41 live sites with atoms of type 1
-full : WindowValue
-full = record { atoms = replicate 41 (atom_of 1); live = replicate 41 true }
+unfoldable pub full : WindowValue
+full = record { atoms = replicate 41 (new_atom 1); live = replicate 41 true }
 
 walker : CodeValue
 walker = one_function (PushNum (pos 0) ∷ PushNum (pos 4) ∷ Swap ∷ ReturnVoid ∷ [])

@@ -1,12 +1,14 @@
 -- The stack machine: what each instruction does, and a whole run.
 use Rattle.std.specs.Prelude.{ℕ, zero, suc, ◌+◌, ◌*◌, ◌%◌, nat_lt, nat_le, nat_eq, ℤ, pos, negsuc, Option, Some, None, List, [], ◌∷◌, ◌++◌, length, map, reverse, take, drop, slice_get, slice_set, if◌then◌else◌}
-use Rattle.bit_field.specs.Atom.{AtomValue, empty_atom, field}
+use Rattle.datum.specs.Fields.{get_field}
+use Rattle.sat_math.specs.Operations.{of_bool, is_zero}
+use Rattle.bit_field.specs.Atom.{AtomValue, empty_atom}
 use Rattle.bit_field.specs.Words.{with_field}
-use Rattle.window_sites.specs.Window.{WindowValue, atom_at, put_at, swap_at}
+use Rattle.window_sites.specs.Window.{WindowValue, atom_at, put_at, swap_at, emptied}
 use Rattle.draw_stream.specs.Words.{event_step, event_state}
 use Rattle.sat_math.specs.declared.NumType.{NumType}
-use Rattle.sat_math.specs.Numbers.{bits, value, cast}
-use Rattle.stack_code.specs.Sorts.{is_zero, of_bool, Sort, Give, One, Two, Load, Store, Drop, Field, SetField, Part, SetPart, Own, Site, SetSite, Exchange, Ask, Draw, Same, Double, FieldAt, SetFieldAt, PartAt, SetPartAt, Goto, GotoFalse, Take, Enter, GiveBack, Leave, sort}
+use Rattle.sat_math.specs.Numbers.{bits, cast}
+use Rattle.stack_code.specs.Sorts.{Sort, Give, One, Two, Load, Store, Drop, Field, SetField, Part, SetPart, Own, Site, SetSite, Exchange, Ask, Draw, Same, Double, FieldAt, SetFieldAt, PartAt, SetPartAt, Goto, GotoFalse, Take, Enter, GiveBack, Leave, sort}
 use Rattle.datum.specs.declared.Datum.{Datum}
 use Rattle.datum.specs.declared.Datum.TheVariants.{Number as ANumber, Atom as AnAtom}
 use Rattle.stack_code.specs.declared.instr.Operand.{Operand}
@@ -128,10 +130,6 @@ at_index (pos i) n go = if nat_lt i n then go i else Fails 7
 -- the bits that a number is kept in
 abbrev pub kept : NumType → ℤ → ℕ
 kept t v = bits t (cast t v)
-
--- a field as a number of its type
-abbrev pub get_field : AtomValue → ℕ → NumType → ℤ
-get_field a f t = value t (field a f t.width)
 
 -- another atom at the centre
 abbrev pub put_own : Held → List Datum → AtomValue → Led Held
@@ -290,10 +288,6 @@ start_with w seed (Some g) = record { place = 0; held = record { stack = []; slo
 
 abbrev pub start : CodeValue → WindowValue → ℕ → State
 start c w seed = start_with w seed (slice_get c.functions 0)
-
--- the window with its centre empty
-abbrev pub emptied : WindowValue → WindowValue
-emptied w = record w { atoms = slice_set w.atoms 0 empty_atom }
 
 -- the window and the ending, None or a failure's number, of an event that began with this window
 abbrev pub ending : WindowValue → Led State → Option (WindowValue × Option ℕ)

@@ -1,12 +1,13 @@
 -- The sort of each shape: a shape is a sort whose operators have names.
-use Rattle.std.specs.Prelude.{ℕ, ◌≡◌, ℤ, true, Option, int_div, int_rem, bit_and, bit_or, bit_xor}
-use Rattle.window_sites.specs.Window.{live_at}
+use Rattle.std.specs.Prelude.{ℕ, ◌≡◌, ℤ, pos, true, Option, int_div, int_rem, bit_and, bit_or, bit_xor}
+use Rattle.bit_field.specs.Atom.{new_atom}
+use Rattle.window_sites.specs.Window.{live_at, is_empty_at}
 use Rattle.sat_math.specs.declared.Kind.TheVariants.{Bits}
 use Rattle.sat_math.specs.Numbers.{cast}
-use Rattle.sat_math.specs.Operations.{IsSigned}
+use Rattle.sat_math.specs.Operations.{IsSigned, shifted_up, shifted_down, comparison, one_in}
 use Rattle.datum.specs.declared.Datum.TheVariants.{Number as ANumber, Atom as AnAtom}
-use Rattle.stack_code.specs.Sorts.{Sort, Give, One, Two, Load, Store, Drop, Field, SetField, Part, SetPart, Own, Site, SetSite, Exchange, Ask, Same, Draw, Double, FieldAt, SetFieldAt, PartAt, SetPartAt, Goto, GotoFalse, Take, Enter, GiveBack, Leave, atom_of, num_type, exact, divided, sum, difference, product, negated, on_bits, flip, left, right, tested, not_bool, is_empty_at, as_drawn, one_in}
-use Rattle.stack_code.specs.Valid.{type_fits}
+use Rattle.stack_code.specs.Sorts.{Sort, Give, One, Two, Load, Store, Drop, Field, SetField, Part, SetPart, Own, Site, SetSite, Exchange, Ask, Same, Draw, Double, FieldAt, SetFieldAt, PartAt, SetPartAt, Goto, GotoFalse, Take, Enter, GiveBack, Leave, num_type, exact, divided, sum, difference, product, negated, on_bits, flip, not_bool}
+use Rattle.stack_code.specs.Valid.{type_fits, field_fits, number_fits}
 use Rattle.stack_code.specs.declared.operators.UnaryOp.{UnaryOp}
 use Rattle.stack_code.specs.declared.operators.UnaryOp.TheVariants as unary
 use Rattle.stack_code.specs.declared.operators.BinaryOp.{BinaryOp}
@@ -30,14 +31,14 @@ binary_of (binary.Rem how) = divided how int_rem
 binary_of binary.And = on_bits bit_and
 binary_of binary.Or = on_bits bit_or
 binary_of binary.Xor = on_bits bit_xor
-binary_of (binary.Shl w) = left w
-binary_of binary.Shr = right
-binary_of (binary.Test op) = tested op
+binary_of (binary.Shl w) = shifted_up w
+binary_of binary.Shr = shifted_down
+binary_of (binary.Test op) = comparison op
 
 -- the sort of a shape
 abbrev pub sort_of : Shape → Sort
 sort_of (shape.GiveNumber v) = Give (ANumber v)
-sort_of (shape.GiveAtom k) = Give (AnAtom (atom_of k))
+sort_of (shape.GiveAtom k) = Give (AnAtom (new_atom k))
 sort_of (shape.One op) = One (unary_of op)
 sort_of (shape.Two op) = Two (binary_of op)
 sort_of (shape.Load s) = Load s
@@ -53,7 +54,7 @@ sort_of shape.SetSite = SetSite
 sort_of shape.Exchange = Exchange
 sort_of shape.AskLive = Ask live_at
 sort_of shape.AskEmpty = Ask is_empty_at
-sort_of shape.Draw = Draw as_drawn
+sort_of shape.Draw = Draw pos
 sort_of shape.DrawOneIn = Draw one_in
 sort_of (shape.Same k) = Same k
 sort_of shape.Double = Double
@@ -78,3 +79,18 @@ UnaryFits op = Unit {0}
 abbrev pub BinaryFits : BinaryOp → Type 0
 BinaryFits (binary.Shl w) = type_fits (num_type Bits w) ≡ true
 BinaryFits op = Unit {0}
+
+-- the arguments of a shape are allowed, but for slots, places and functions
+abbrev pub ShapeFits : Shape → Type 0
+ShapeFits (shape.GiveNumber v) = number_fits v ≡ true
+ShapeFits (shape.One op) = UnaryFits op
+ShapeFits (shape.Two op) = BinaryFits op
+ShapeFits (shape.Field f t) = field_fits f t 1 ≡ true
+ShapeFits (shape.SetField f t) = field_fits f t 1 ≡ true
+ShapeFits (shape.Part s f t) = field_fits f t 1 ≡ true
+ShapeFits (shape.SetPart s f t) = field_fits f t 1 ≡ true
+ShapeFits (shape.FieldAt f t n) = field_fits f t n ≡ true
+ShapeFits (shape.SetFieldAt f t n) = field_fits f t n ≡ true
+ShapeFits (shape.PartAt s f t n) = field_fits f t n ≡ true
+ShapeFits (shape.SetPartAt s f t n) = field_fits f t n ≡ true
+ShapeFits s = Unit {0}

@@ -1,25 +1,20 @@
 -- What each instruction is: its sort, with the arguments. The machine and the rule on valid code go by sorts.
-use Rattle.std.specs.Prelude.{ℕ, zero, suc, ◌/◌, ◌^◌, Bool, true, false, nat_eq, ℤ, pos, negsuc, ◌+ℤ◌, ◌-ℤ◌, ◌*ℤ◌, neg_ℤ, int_div, int_rem, bit_and, bit_or, bit_xor, Option, Some, None, if◌then◌else◌}
-use Rattle.bit_field.specs.Atom.{AtomValue}
-use Rattle.window_sites.specs.Window.{WindowValue, atom_at, live_at}
+use Rattle.std.specs.Prelude.{ℕ, Bool, ℤ, pos, ◌+ℤ◌, ◌-ℤ◌, ◌*ℤ◌, neg_ℤ, int_div, int_rem, bit_and, bit_or, bit_xor, Option, Some, None, if◌then◌else◌}
+use Rattle.bit_field.specs.Atom.{new_atom}
+use Rattle.window_sites.specs.Window.{WindowValue, live_at, is_empty_at}
 use Rattle.sat_math.specs.declared.Kind.{Kind}
 use Rattle.sat_math.specs.declared.NumType.{NumType}
 use Rattle.sat_math.specs.declared.Arith.{Arith}
 use Rattle.sat_math.specs.declared.Arith.TheVariants.{Int32, Unsigned32, Int64, Unsigned64}
-use Rattle.sat_math.specs.declared.CompareOp.{CompareOp}
 use Rattle.sat_math.specs.declared.CompareOp.TheVariants.{Eq as EqOp, Ne as NeOp, Lt as LtOp, Le as LeOp, Gt as GtOp, Ge as GeOp}
-use Rattle.sat_math.specs.Numbers.{modulo, cast}
-use Rattle.sat_math.specs.Operations.{saturated, compared, complement, moved_up}
+use Rattle.sat_math.specs.Numbers.{cast}
+use Rattle.sat_math.specs.Operations.{saturated, complement, of_bool, is_zero, low64, shifted_up, shifted_down, comparison, one_in}
 use Rattle.datum.specs.declared.Datum.{Datum}
 use Rattle.datum.specs.declared.Datum.TheVariants.{Number as ANumber, Atom as AnAtom}
 use Rattle.stack_code.specs.declared.instr.Operand.{Operand}
 use Rattle.stack_code.specs.declared.instr.Operand.TheVariants.{Number, Atom}
 use Rattle.stack_code.specs.declared.instr.Instr.{Instr}
 use Rattle.stack_code.specs.declared.instr.Instr.TheVariants.{PushNum, PushAtom, LoadLocal, StoreLocal, Pop, LoadField, StoreField, LoadPart, StorePart, LoadSelf, LoadSite, StoreSite, Swap, IsLive, IsEmpty, RandCreate, RandOneIn, IsKind, AddI, SubI, MulI, DivI, RemI, AddU, SubU, MulU, DivU, RemU, NegI, And, Or, Xor, NotW, Shl, Shr, Fit, NotB, Eq, Ne, Lt, Le, Gt, Ge, Jump, JumpFalse, Turn, Call, Return, ReturnVoid, AddL, SubL, MulL, DivL, RemL, AddV, SubV, MulV, DivV, RemV, NegL, Dup, LoadFieldAt, StoreFieldAt, LoadPartAt, StorePartAt}
-
--- the atom of a type with state 0
-abbrev pub atom_of : ℕ → AtomValue
-atom_of k = record { kind = k; state = 0 }
 
 -- what a datum is
 abbrev pub kind_of : Datum → Operand
@@ -29,15 +24,6 @@ kind_of (AnAtom a) = Atom
 -- a type of numbers
 abbrev pub num_type : Kind → ℕ → NumType
 num_type k w = record { kind = k; width = w }
-
-abbrev pub is_zero : ℤ → Bool
-is_zero (pos zero) = true
-is_zero (pos (suc n)) = false
-is_zero (negsuc n) = false
-
-abbrev pub of_bool : Bool → ℤ
-of_bool true = pos 1
-of_bool false = pos 0
 
 -- the sorts of instructions
 pub data Sort : Type 0 where
@@ -102,44 +88,19 @@ product a b = a *ℤ b
 abbrev pub negated : Arith → ℤ → ℤ
 negated how a = saturated how (neg_ℤ a)
 
--- the number modulo 2^64
-abbrev pub low64 : ℤ → ℕ
-low64 a = modulo a (2 ^ 64)
-
 abbrev pub on_bits : (ℕ → ℕ → ℕ) → ℤ → ℤ → Option ℤ
 on_bits f a b = Some (pos (f (low64 a) (low64 b)))
 
 abbrev pub flip : ℕ → ℤ → ℤ
 flip w a = pos (complement w (low64 a))
 
--- a negative count gives 0
-abbrev pub left : ℕ → ℤ → ℤ → Option ℤ
-left w a (negsuc b) = Some (pos 0)
-left w a (pos b) = Some (pos (moved_up w (low64 a) b))
-
-abbrev pub right : ℤ → ℤ → Option ℤ
-right a (negsuc b) = Some (pos 0)
-right a (pos b) = Some (pos (low64 a / 2 ^ b))
-
-abbrev pub tested : CompareOp → ℤ → ℤ → Option ℤ
-tested op a b = Some (of_bool (compared op a b))
-
 abbrev pub not_bool : ℤ → ℤ
 not_bool v = of_bool (is_zero v)
-
-abbrev pub is_empty_at : WindowValue → ℕ → Bool
-is_empty_at w n = nat_eq (atom_at w n).kind 0
-
-abbrev pub as_drawn : ℕ → ℤ
-as_drawn r = pos r
-
-abbrev pub one_in : ℕ → ℤ
-one_in r = of_bool (nat_eq r 0)
 
 -- the sort of each instruction
 abbrev pub sort : Instr → Sort
 sort (PushNum v) = Give (ANumber v)
-sort (PushAtom k) = Give (AnAtom (atom_of k))
+sort (PushAtom k) = Give (AnAtom (new_atom k))
 sort (LoadLocal s) = Load s
 sort (StoreLocal s) = Store s
 sort Pop = Drop
@@ -153,7 +114,7 @@ sort StoreSite = SetSite
 sort Swap = Exchange
 sort IsLive = Ask live_at
 sort IsEmpty = Ask is_empty_at
-sort RandCreate = Draw as_drawn
+sort RandCreate = Draw pos
 sort RandOneIn = Draw one_in
 sort (IsKind k) = Same k
 sort AddI = Two (exact Int32 sum)
@@ -171,16 +132,16 @@ sort And = Two (on_bits bit_and)
 sort Or = Two (on_bits bit_or)
 sort Xor = Two (on_bits bit_xor)
 sort (NotW w) = One (flip w)
-sort (Shl w) = Two (left w)
-sort Shr = Two right
+sort (Shl w) = Two (shifted_up w)
+sort Shr = Two shifted_down
 sort (Fit k w) = One (cast (num_type k w))
 sort NotB = One not_bool
-sort Eq = Two (tested EqOp)
-sort Ne = Two (tested NeOp)
-sort Lt = Two (tested LtOp)
-sort Le = Two (tested LeOp)
-sort Gt = Two (tested GtOp)
-sort Ge = Two (tested GeOp)
+sort Eq = Two (comparison EqOp)
+sort Ne = Two (comparison NeOp)
+sort Lt = Two (comparison LtOp)
+sort Le = Two (comparison LeOp)
+sort Gt = Two (comparison GtOp)
+sort Ge = Two (comparison GeOp)
 sort (Jump p) = Goto p
 sort (JumpFalse p) = GotoFalse p
 sort Turn = Take

@@ -5,7 +5,7 @@ use mathlib.Core.Logic.{dite}
 use native.Mathlib.Decide.{ℕ_discrete}
 use Rattle.edge_lock.specs.declared.history.Hold.{Hold}
 use Rattle.edge_lock.specs.History.{own}
-use Rattle.edge_lock.specs.EndLists.{is_held, change_last, IsFree, IsHeld}
+use Rattle.edge_lock.specs.EndLists.{is_last_open, change_last, IsFree, IsHeld}
 use Rattle.edge_lock.specs.PlainEdges.{view_of, IsKept}
 use Rattle.edge_lock.specs.PlainBoard.{PlainBoardValue, edge_at, is_end, end_on, lists_on, Moved, stays, goes}
 use Rattle.edge_lock.proofs.LastHolds.{change_last-snoc}
@@ -65,9 +65,9 @@ held_turns b c m e o f is =
 
 -- the end's holds are as they were, and so are the edge's
 pub lists_stay : (b c : PlainBoardValue) → Moved b c → (e : ℕ) → IsKept (view_of (edge_at b e)) → (lists_on c e).holds ≡ (lists_on b e).holds → (edge_at c e).holds ≡ (edge_at b e).holds
-lists_stay b c m e k same = by (is_held (lists_on b e).holds) refl
+lists_stay b c m e k same = by (is_last_open (lists_on b e).holds) refl
   where
-    by : (h : Bool) → is_held (lists_on b e).holds ≡ h → (edge_at c e).holds ≡ (edge_at b e).holds
+    by : (h : Bool) → is_last_open (lists_on b e).holds ≡ h → (edge_at c e).holds ≡ (edge_at b e).holds
     by true held =
         let o = open_at b e k held in
         let s = (goes_on b c m e).from_held o.past o.hold o.holds o.end o.is_open in

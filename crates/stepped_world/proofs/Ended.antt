@@ -4,13 +4,15 @@ use Rattle.std.specs.Prelude.{slice_get, nat_lt}
 use Rattle.std.proofs.lemmas.Bool.Decides.{nat_tests}
 use Rattle.std.proofs.lemmas.List.{get_or_past, length-map}
 use Rattle.std.proofs.lemmas.Option.{slice_get-get_or, slice_get_within}
+use Rattle.serial_order.proofs.Whole.{has_high, has_low, high_is, low_is}
+use Rattle.list_laws.proofs.Slots.{get_inside}
 use Rattle.window_sites.specs.Window.{WindowValue}
 use Rattle.tile_map.specs.Plane.{MapValue, IsMap, tiles_of}
 use Rattle.tile_map.specs.Edges.{pairs_of, low_end, high_end, has_end}
 use Rattle.tile_map.proofs.PlaneLaws.{plane}
 use Rattle.draw_stream.specs.Plans.{attempts}
 use Rattle.edge_lock.specs.History.{own, open_hold}
-use Rattle.edge_lock.specs.EndLists.{is_held, IsFree}
+use Rattle.edge_lock.specs.EndLists.{is_last_open, IsFree}
 use Rattle.edge_lock.specs.PlainBoard.{PlainBoardValue, no_edge, edge_at, lists_of_tile}
 use Rattle.edge_lock.proofs.HistoryLaws.{open_is_none}
 use Rattle.border_cache.specs.Windows.{end_at}
@@ -31,19 +33,7 @@ use Rattle.serial_order.proofs.Promises.{one_order}
 use Rattle.stepped_world.specs.Machine.{Machine}
 use Rattle.stepped_world.specs.Running.{Setting, IsStart, AreUnderway, is_still, stands_still, AnyIsWorn, IsLike, AreLike}
 use Rattle.stepped_world.specs.Ends.{HasRun}
-use Rattle.stepped_world.proofs.Slots.{value_at, some_at}
-
-has_low : (m : MapValue) (e : ℕ) → has_end m (low_end m e) e ≡ true
-has_low m e = grind (arith, nat_tests)
-
-has_high : (m : MapValue) (e : ℕ) → has_end m (high_end m e) e ≡ true
-has_high m e = grind (arith, nat_tests)
-
-low_is : (m : MapValue) (e : ℕ) → end_at m (low_end m e) e ≡ 0
-low_is m e = grind (arith, nat_tests)
-
-high_is : (m : MapValue) (e : ℕ) → low_end m e < high_end m e → end_at m (high_end m e) e ≡ 1
-high_is m e lt = grind (arith, nat_tests, lt)
+use Rattle.stepped_world.proofs.Slots.{value_at}
 
 -- a tile that stands still has stopped
 stopped_in : (tile : TileValue) → (p : Phase) → tile.phase ≡ p → is_still p ≡ true → HasStopped tile
@@ -93,14 +83,14 @@ module _ {B : Type 0} (after : B → WindowValue → ℕ → WindowValue) (m : M
     -- the tile has no edge any more
     free_tile : (t e : ℕ) → t < tiles_of m → has_end m t e ≡ true → IsFree (lists_of_tile board t e)
     free_tile t e lt end =
-        let x = some_at tiles t (let n = u.count in omega (arith, lt, n)) in
+        let x = get_inside tiles t (let n = u.count in omega (arith, lt, n)) in
         let k = u.each t x.0 x.1 in
         let h = subst (InPhase m g.meaning (atoms_of g.start) (attempts g.plan t) k.underway.turns x.0.0 (lists_of_tile board t)) (finished t x.0 x.1) k.underway.hand in
         subst IsFree (sym (h.2 e (ap (λ n. has_end m n e) k.number ∙ end))) (free_of m g.meaning (atoms_of g.start) x.0.0.number k.underway.turns e k.underway.each k.underway.unworn)
 
-    end_free : (t e b : ℕ) → t < tiles_of m → has_end m t e ≡ true → e < length (pairs_of m) → end_at m t e ≡ b → is_held (own b (edge_at board e).holds) ≡ false
+    end_free : (t e b : ℕ) → t < tiles_of m → has_end m t e ≡ true → e < length (pairs_of m) → end_at m t e ≡ b → is_last_open (own b (edge_at board e).holds) ≡ false
     end_free t e b lt end known is =
-        ap (λ n. is_held (own n (edge_at board e).holds)) (sym is ∙ sym (edge_end m e (edge_at board e) (u.board_is.each e known) t)) ∙ free_tile t e lt end
+        ap (λ n. is_last_open (own n (edge_at board e).holds)) (sym is ∙ sym (edge_end m e (edge_at board e) (u.board_is.each e known) t)) ∙ free_tile t e lt end
 
     shut : (e : ℕ) → open_hold (edge_at board e).holds ≡ None
     shut e = go (nat_lt e (length (pairs_of m))) refl

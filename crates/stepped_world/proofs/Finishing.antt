@@ -3,6 +3,7 @@ use Rattle.std.proofs.Common.{ℕ, zero, suc, ◌≡◌, ◌≢◌, ◌≤◌, �
 use Rattle.std.specs.Prelude.{if◌then◌else◌}
 use Rattle.std.specs.List.{range_with_len}
 use Rattle.std.proofs.lemmas.Bool.Decides.{nat_tests}
+use Rattle.std.proofs.lemmas.Bool.{cases_eq}
 use Rattle.window_sites.specs.Window.{WindowValue}
 use Rattle.tile_map.specs.Plane.{MapValue, tiles_of}
 use Rattle.tile_map.specs.Edges.{needs_of}
@@ -10,7 +11,6 @@ use Rattle.cell_grid.specs.Grid.{GridValue}
 use Rattle.draw_stream.specs.declared.attempt.Attempt.{Attempt}
 use Rattle.draw_stream.specs.Plans.{PlanValue}
 use Rattle.list_laws.proofs.Members.{In, in_range}
-use Rattle.serial_order.proofs.Ground.{same_or_not}
 use Rattle.stepped_world.specs.Machine.{Hand, Doing, Drawing, Done, Locking, Refreshing, Behaving, Writing, Giving, Backing, TileState, Machine, at, next_draw, next_lock, next_give, next_back, hand_of, draw, lock, next_stamp, step_in, step, steps, steps_of, steps_for, steps_to_end, most_steps, finish_tile, finish, stepped, first_machine}
 
 pub at_same : {A : Type 0} (f : ℕ → A) (k : ℕ) (a : A) → at f k a k ≡ a
@@ -150,7 +150,7 @@ module _ (m : MapValue) (meaning : WindowValue → ℕ → WindowValue) where
   still_done : (ts : List ℕ) (t : ℕ) (s : Machine) → (s.tile t).doing ≡ Done → ((finish m meaning ts s).tile t).doing ≡ Done
   still_done [] t s i = i
   still_done (u ∷ ts) t s i = still_done ts t (finish_tile m meaning u s)
-      (⊎_elim (λ (e : t ≡ u). ap (λ v. ((finish_tile m meaning u s).tile v).doing) e ∙ done_once m meaning u s) (λ ne. ap (λ (x : TileState). x.doing) (others_tile u t (most_steps m u (s.tile u)) s ne) ∙ i) (same_or_not t u))
+      (⊎_elim (λ (e : t ≡ u). ap (λ v. ((finish_tile m meaning u s).tile v).doing) e ∙ done_once m meaning u s) (λ ne. ap (λ (x : TileState). x.doing) (others_tile u t (most_steps m u (s.tile u)) s ne) ∙ i) (cases_eq t u))
 
   all_done : (ts : List ℕ) (t : ℕ) (s : Machine) → In t ts → ((finish m meaning ts s).tile t).doing ≡ Done
   all_done [] t s i = absurd i

@@ -3,6 +3,8 @@ use Rattle.std.proofs.Common.{◌≡◌, ℕ, zero, suc, ◌+◌, ◌*◌, ◌<�
 use Rattle.std.specs.Prelude.{nat_lt, slice_get, slice_set}
 use Rattle.std.specs.List.{range_with_len}
 use Rattle.std.proofs.lemmas.Option.{slice_get_within, same_Some, none-some}
+use Rattle.std.proofs.lemmas.Bool.{cases_eq}
+use Rattle.list_laws.proofs.Slots.{get_set_same, get_set_other}
 use Rattle.window_sites.specs.Window.{WindowValue}
 use Rattle.tile_map.specs.Plane.{MapValue, site}
 use Rattle.tile_map.specs.Edges.{needs_of}
@@ -16,14 +18,12 @@ use Rattle.tile_core.specs.declared.phase.Phase.{Phase}
 use Rattle.tile_core.specs.declared.phase.Phase.TheVariants.{Draw, Lock, Refresh, Behave, Write, Give, Back, Finished, Worn}
 use Rattle.tile_core.specs.Values.{TileValue, atoms_of}
 use Rattle.tile_core.specs.Underway.{IsUnderway}
-use Rattle.tile_core.specs.Steps.{StepsIn, WearsOut, Renews, begun, got, tried, freed, is_over}
+use Rattle.tile_core.specs.Steps.{StepsIn, WearsOut, Renews, begun, got, tried, freed, is_over, steps_in}
 use Rattle.tile_core.proofs.Falls.{steps_fall}
-use Rattle.serial_order.proofs.Ground.{same_or_not}
 use Rattle.stepped_world.specs.Machine.{Machine, Doing, Done, step, steps, finish_tile, finish}
 use Rattle.stepped_world.specs.Matching.{doing_in, IsEdgeIn, Matches}
-use Rattle.stepped_world.specs.Running.{Setting, AreUnderway, is_still, stands_still, steps_in_hand, steps_ahead, AnyIsWorn, IsLike, AreLike, Follows}
+use Rattle.stepped_world.specs.Running.{Setting, AreUnderway, is_still, stands_still, steps_ahead, AnyIsWorn, IsLike, AreLike, Follows}
 use Rattle.stepped_world.proofs.Finishing.{finishing, finished}
-use Rattle.stepped_world.proofs.Slots.{set_here, set_there}
 use Rattle.stepped_world.proofs.Stepping.{Advances, turned, steps_on}
 use Rattle.stepped_world.proofs.Likeness.{step_like, writes_own}
 use Rattle.stepped_world.proofs.Sound.{step_sound}
@@ -123,17 +123,17 @@ module _ {B : Type 0} (after : B → WindowValue → ℕ → WindowValue) (m : M
         (λ (e : w.0 ≡ t).
         let z : w.1 ≡ x = same_Some w.1 x (sym w.2 ∙ (ap (slice_get tiles) e ∙ is)) in
         let worn : x.0.phase ≡ Worn = ap (λ (v : TileValue × B). v.0.phase) (sym z) ∙ w.3 in
-        (t, y, set_here tiles t y there, ap (λ (v : TileValue). v.phase) (rested (ap is_still worn)) ∙ worn))
-        (λ ne. (w.0, w.1, set_there tiles t w.0 y ne ∙ w.2, w.3))
-        (same_or_not w.0 t)
+        (t, y, get_set_same tiles t y there, ap (λ (v : TileValue). v.phase) (rested (ap is_still worn)) ∙ worn))
+        (λ ne. (w.0, w.1, get_set_other tiles t w.0 y ne ∙ w.2, w.3))
+        (cases_eq w.0 t)
 
     still_stays : (v : ℕ) → stands_still (slice_get tiles v) ≡ true → stands_still (slice_get (slice_set tiles t y) v) ≡ true
     still_stays v h = ⊎_elim {C = stands_still (slice_get (slice_set tiles t y) v) ≡ true}
         (λ (e : v ≡ t).
         let at_rest : is_still x.0.phase ≡ true = ap stands_still (sym (ap (slice_get tiles) e ∙ is)) ∙ h in
-        ap (λ n. stands_still (slice_get (slice_set tiles t y) n)) e ∙ (ap stands_still (set_here tiles t y there) ∙ (ap (λ (z : TileValue). is_still z.phase) (rested at_rest) ∙ at_rest)))
-        (λ ne. ap stands_still (set_there tiles t v y ne) ∙ h)
-        (same_or_not v t)
+        ap (λ n. stands_still (slice_get (slice_set tiles t y) n)) e ∙ (ap stands_still (get_set_same tiles t y there) ∙ (ap (λ (z : TileValue). is_still z.phase) (rested at_rest) ∙ at_rest)))
+        (λ ne. ap stands_still (get_set_other tiles t v y ne) ∙ h)
+        (cases_eq v t)
 
     matches_turned : (s : Machine) → Matches m tiles a s → Matches m tiles b s
     matches_turned s k = record {
@@ -187,29 +187,29 @@ module _ {B : Type 0} (after : B → WindowValue → ℕ → WindowValue) (m : M
     same_left Finished f s = absurd (true≢false f)
     same_left Worn f s = absurd (true≢false f)
 
-    begun_steps : (z : TileValue) (needs : List ℕ) → z.needs ≡ needs → z.phase ≡ begun needs → length needs ≤ 8 → steps_in_hand z z.phase ≤ 48
-    begun_steps z needs same is few = subst (λ p. steps_in_hand z p ≤ 48) (sym is) (go needs same few)
+    begun_steps : (z : TileValue) (needs : List ℕ) → z.needs ≡ needs → z.phase ≡ begun needs → length needs ≤ 8 → steps_in z z.phase ≤ 48
+    begun_steps z needs same is few = subst (λ p. steps_in z p ≤ 48) (sym is) (go needs same few)
       where
-        go : (es : List ℕ) → z.needs ≡ es → length es ≤ 8 → steps_in_hand z (begun es) ≤ 48
+        go : (es : List ℕ) → z.needs ≡ es → length es ≤ 8 → steps_in z (begun es) ≤ 48
         go [] e le = omega arith
         go (d ∷ es) e le = omega (arith, ap length e, le)
 
     -- a step that does something leaves fewer
     pub fewer : (g : Setting) → AreUnderway after m g tiles a → stands_still (slice_get tiles t) ≡ false → steps_ahead (slice_get (slice_set tiles t y) t) < steps_ahead (slice_get tiles t)
-    fewer g u h = subst (λ (p : Option (TileValue × B) × Option (TileValue × B)). steps_ahead p.1 < steps_ahead p.0) (λ i. (sym is i, sym (set_here tiles t y there) i)) (go x.0.phase refl (ap stands_still (sym is) ∙ h) d.step)
+    fewer g u h = subst (λ (p : Option (TileValue × B) × Option (TileValue × B)). steps_ahead p.1 < steps_ahead p.0) (λ i. (sym is i, sym (get_set_same tiles t y there) i)) (go x.0.phase refl (ap stands_still (sym is) ∙ h) d.step)
       where
         before : IsUnderway m (after x.1) (atoms_of g.start) (attempts g.plan t) x.0 (lists_on b)
         before =
             let k = (turned after m g tiles a b same u).each t x is in
             subst (λ (p : (WindowValue → ℕ → WindowValue) × ℕ). IsUnderway m p.0 (atoms_of g.start) (attempts g.plan t) x.0 (lists_of_tile b p.1)) (λ i. (sym k.meaning i, sym d.acting i)) k.underway
 
-        falls : is_over x.0.phase ≡ false → 50 * length y.0.left + steps_in_hand y.0 y.0.phase < 50 * length x.0.left + steps_in_hand x.0 x.0.phase
+        falls : is_over x.0.phase ≡ false → 50 * length y.0.left + steps_in y.0 y.0.phase < 50 * length x.0.left + steps_in x.0 x.0.phase
         falls f =
             let l = same_left x.0.phase f d.step in
-            let less : steps_in_hand y.0 y.0.phase < steps_in_hand x.0 x.0.phase = steps_fall m (after x.1) (atoms_of g.start) (attempts g.plan t) x.0 (lists_on b) before (end_on b) y.0 (lists_on c) f d.step in
+            let less : steps_in y.0 y.0.phase < steps_in x.0 x.0.phase = steps_fall m (after x.1) (atoms_of g.start) (attempts g.plan t) x.0 (lists_on b) before (end_on b) y.0 (lists_on c) f d.step in
             omega (arith, ap length l, less)
 
-        go : (p : Phase) → x.0.phase ≡ p → is_still p ≡ false → StepsIn m (after x.1) (end_on b) x.0 y.0 (lists_on b) (lists_on c) p → 50 * length y.0.left + steps_in_hand y.0 y.0.phase < 50 * length x.0.left + steps_in_hand x.0 x.0.phase
+        go : (p : Phase) → x.0.phase ≡ p → is_still p ≡ false → StepsIn m (after x.1) (end_on b) x.0 y.0 (lists_on b) (lists_on c) p → 50 * length y.0.left + steps_in y.0 y.0.phase < 50 * length x.0.left + steps_in x.0 x.0.phase
         go Draw now e s =
             let n = s.0 in
             let few : length y.0.needs ≤ 8 = (d.on (atoms_of g.start) (attempts g.plan t) before).0.needs.few in

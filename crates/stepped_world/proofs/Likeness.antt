@@ -2,6 +2,9 @@
 use Rattle.std.proofs.Common.{◌≡◌, ◌≢◌, ℕ, suc, ◌+◌, ◌-◌, ◌<◌, ◌≤◌, ◌==◌, ◌⊎◌, eqb, Bool, true, false, List, [], ◌∷◌, ◌++◌, length, take, refl, sym, ap, ◌∙◌, subst, arith, inl, inr, ⊎_elim, Some, None}
 use Rattle.std.specs.Prelude.{◌||◌, drop, nat_lt, slice_get, slice_set, if◌then◌else◌}
 use Rattle.std.proofs.lemmas.Option.{slice_get_within, same_Some, none-some}
+use Rattle.std.proofs.lemmas.Bool.{cases_eq}
+use Rattle.event_journal.specs.Logs.{of_tile, abandoned_by}
+use Rattle.list_laws.proofs.Slots.{get_set_same}
 use Rattle.window_sites.specs.Window.{WindowValue}
 use Rattle.tile_map.specs.Plane.{MapValue, site, tiles_of, site_in}
 use Rattle.tile_map.specs.Edges.{pairs_of, low_end, high_end, has_end, other_end, needs_of}
@@ -13,7 +16,7 @@ use Rattle.edge_lock.specs.declared.history.Access.{Access}
 use Rattle.edge_lock.specs.declared.history.Hold.{Hold}
 use Rattle.edge_lock.specs.declared.board.Take.{Take}
 use Rattle.edge_lock.specs.declared.board.Take.TheVariants.{Got, Busy}
-use Rattle.edge_lock.specs.History.{own, value, written, open_hold, IsHistory}
+use Rattle.edge_lock.specs.History.{own, register_value, written, open_hold, IsHistory}
 use Rattle.edge_lock.specs.EndLists.{EndLists, change_last, closed_hold, new_hold, writes_nothing, last_accesses, after_try, after_give, replace_at, hold_of, IsHeld}
 use Rattle.edge_lock.specs.PlainEdges.{PlainEdgeValue, view_of, IsKept, IsAnswer}
 use Rattle.edge_lock.specs.PlainBoard.{PlainBoardValue, edge_at, end_of, is_end, end_on, lists_on, lists_of_tile}
@@ -33,13 +36,12 @@ use Rattle.tile_core.proofs.Boards.{end_known, edge_end}
 use Rattle.tile_core.proofs.Laws.{lock_lt, lock_free, give_lt, give_held, back_lt, back_held}
 use Rattle.tile_core.proofs.Refreshing.{open_held}
 use Rattle.tile_core.proofs.Clocking.{greatest_same}
-use Rattle.serial_order.proofs.Ground.{same_or_not}
-use Rattle.stepped_world.specs.Machine.{Hand, Doing, Drawing, Locking, Behaving, Writing, Giving, Backing, TileState, EdgeState, Machine, at, next_lock, next_give, next_back, does, is_held_by, record_of, entry_of, drawn, draw, lock, next_stamp, stamped, write, step_in, step, records_by, abandoned_by}
+use Rattle.stepped_world.specs.Machine.{Hand, Doing, Drawing, Locking, Behaving, Writing, Giving, Backing, TileState, EdgeState, Machine, at, next_lock, next_give, next_back, does, is_held_by, record_of, entry_of, drawn, draw, lock, next_stamp, stamped, write, step_in, step}
 use Rattle.stepped_world.specs.Matching.{hand_in, doing_in, IsTileIn, who, IsEdgeIn, Matches}
 use Rattle.stepped_world.specs.Running.{Setting, IsTileOf, AreUnderway, AnyIsWorn}
 use Rattle.stepped_world.proofs.Boards.{Open, open_at, held_turns, free_more, lists_stay, far_stays}
 use Rattle.stepped_world.proofs.Finishing.{at_same, at_other}
-use Rattle.stepped_world.proofs.Slots.{set_here, set_each}
+use Rattle.stepped_world.proofs.Slots.{set_each}
 use Rattle.stepped_world.proofs.Stepping.{Advances}
 use Rattle.stepped_world.proofs.Tiles.{drop_at, get_first, length_first, begun_doing, got_doing, refused_doing, written_doing, given_doing, backed_doing, filter_more, filter_same, same_tile, other_tile, is_writing}
 use Rattle.stepped_world.proofs.Turning.{quiet, value_snoc, all_twice, all_none, turned_edge, got_edge, freed_edge, own_tile, far_tile, found_clock}
@@ -92,21 +94,21 @@ module _ {B : Type 0} (after : B → WindowValue → ℕ → WindowValue) (m : M
   there = slice_get_within tiles t x is
 
   -- the entries of another tile are no new ones
-  no_record : (v : ℕ) (r : Record) → r.tile ≡ t → v ≢ t → records_by v (s.records ++ r ∷ []) ≡ records_by v s.records
+  no_record : (v : ℕ) (r : Record) → r.tile ≡ t → v ≢ t → of_tile v (s.records ++ r ∷ []) ≡ of_tile v s.records
   no_record v r at ne = filter_same (λ (q : Record). q.tile == v) s.records r (other_tile v r.tile (λ e. ne (e ∙ at)))
 
   no_entry : (v : ℕ) (r : Abandoned) → r.tile ≡ t → v ≢ t → abandoned_by v (s.abandoned ++ r ∷ []) ≡ abandoned_by v s.abandoned
   no_entry v r at ne = filter_same (λ (q : Abandoned). q.tile == v) s.abandoned r (other_tile v r.tile (λ e. ne (e ∙ at)))
 
   -- the tile goes on, and the others stay
-  goes_on : (w : TileValue) (s' : Machine) (state : TileState) → s'.tile ≡ at s.tile t state → IsTileIn w state → w.records ≡ records_by t s'.records → w.abandoned ≡ abandoned_by t s'.abandoned
-      → ((v : ℕ) → v ≢ t → records_by v s'.records ≡ records_by v s.records) → ((v : ℕ) → v ≢ t → abandoned_by v s'.abandoned ≡ abandoned_by v s.abandoned)
+  goes_on : (w : TileValue) (s' : Machine) (state : TileState) → s'.tile ≡ at s.tile t state → IsTileIn w state → w.records ≡ of_tile t s'.records → w.abandoned ≡ abandoned_by t s'.abandoned
+      → ((v : ℕ) → v ≢ t → of_tile v s'.records ≡ of_tile v s.records) → ((v : ℕ) → v ≢ t → abandoned_by v s'.abandoned ≡ abandoned_by v s.abandoned)
       → ((e : ℕ) → e < length (pairs_of m) → IsEdgeIn m e (edge_at c e).holds (s'.edge e)) → Aim w s'
   goes_on w s' state tiles_are here records abandoned same_records same_abandoned edges = record {
     tiles_are = set_each (λ v (z : TileValue × B). IsTileIn z.0 (s'.tile v)) tiles t (w, y.1) there
         (subst (IsTileIn w) (sym (ap (λ f. f t) tiles_are ∙ at_same s.tile t state)) here)
         (λ v z ne q. subst (IsTileIn z.0) (sym (ap (λ f. f v) tiles_are ∙ at_other s.tile t v state ne)) (k.tiles_are v z q));
-    records = set_each (λ v (z : TileValue × B). z.0.records ≡ records_by v s'.records) tiles t (w, y.1) there records (λ v z ne q. k.records v z q ∙ sym (same_records v ne));
+    records = set_each (λ v (z : TileValue × B). z.0.records ≡ of_tile v s'.records) tiles t (w, y.1) there records (λ v z ne q. k.records v z q ∙ sym (same_records v ne));
     abandoned = set_each (λ v (z : TileValue × B). z.0.abandoned ≡ abandoned_by v s'.abandoned) tiles t (w, y.1) there abandoned (λ v z ne q. k.abandoned v z q ∙ sym (same_abandoned v ne));
     edges = edges;
   }
@@ -118,8 +120,8 @@ module _ {B : Type 0} (after : B → WindowValue → ℕ → WindowValue) (m : M
   alone w s' doing tiles_are same_records same_abandoned does left taken stamp records abandoned edges =
       goes_on w s' (record (s.tile t) { doing = doing }) tiles_are
       (record { doing = does; left = left ∙ mine.left; taken = taken ∙ mine.taken; clock = stamp ∙ mine.clock })
-      (records ∙ (k.records t x is ∙ ap (records_by t) (sym same_records))) (abandoned ∙ (k.abandoned t x is ∙ ap (abandoned_by t) (sym same_abandoned)))
-      (λ v ne. ap (records_by v) same_records) (λ v ne. ap (abandoned_by v) same_abandoned) edges
+      (records ∙ (k.records t x is ∙ ap (of_tile t) (sym same_records))) (abandoned ∙ (k.abandoned t x is ∙ ap (abandoned_by t) (sym same_abandoned)))
+      (λ v ne. ap (of_tile v) same_records) (λ v ne. ap (abandoned_by v) same_abandoned) edges
 
   -- what the tile is doing
   doing_now : (p : Phase) → x.0.phase ≡ p → doing_in x.0 p ≡ Some (s.tile t).doing
@@ -158,7 +160,7 @@ module _ {B : Type 0} (after : B → WindowValue → ℕ → WindowValue) (m : M
   one_edge l state lists here d lt = ⊎_elim {C = IsEdgeIn m d (edge_at c d).holds (at s.edge e state d)}
       (λ (q : d ≡ e). subst (λ n. IsEdgeIn m n (edge_at c n).holds (at s.edge e state n)) (sym q) (subst (IsEdgeIn m e (edge_at c e).holds) (sym (at_same s.edge e state)) here))
       (λ ne. else_quiet d l state lists ne lt)
-      (same_or_not d e)
+      (cases_eq d e)
 
   -- Lock
   module _ (now : x.0.phase ≡ Lock) where
@@ -219,7 +221,7 @@ module _ {B : Type 0} (after : B → WindowValue → ℕ → WindowValue) (m : M
         stays d = ⊎_elim {C = (lists_on c d).holds ≡ (lists_on b d).holds}
             (λ (q : d ≡ e). subst (λ n. (lists_on c n).holds ≡ (lists_on b n).holds) (sym q) (ap (λ (f : ℕ → EndLists). (f e).holds) lists ∙ ap (λ (z : EndLists). z.holds) (replace_at-here (lists_on b) e (after_try (end_on b e) (x.0.taken - 1) (Busy j) (lists_on b e)))))
             (λ ne. ap (λ (f : ℕ → EndLists). (f d).holds) lists ∙ ap (λ (z : EndLists). z.holds) (replace_at-else (lists_on b) e d (after_try (end_on b e) (x.0.taken - 1) (Busy j) (lists_on b e)) ne))
-            (same_or_not d e)
+            (cases_eq d e)
 
     tried_by : Tries m (end_on b) x.0 y.0 (lists_on b) (lists_on c) → Aim y.0 (step_in m g.meaning t s (Locking (hand_in x.0) had e rest))
     tried_by d = by d.answer d.lists_are d.is
@@ -266,15 +268,15 @@ module _ {B : Type 0} (after : B → WindowValue → ℕ → WindowValue) (m : M
             let two : writes_nothing (w.cells.more d) ≡ true = (w.cells.reads d h).silent in
             let holds = added (r.clocks.more d) (w.cells.more d) d o (twice r.clocks.more w.cells.more r.between d (r.clocks.adds.lists d) (w.cells.adds.lists d)) in
             let i = k.edges d lt in
-            let clock : written ((o.hold.accesses ++ r.clocks.more d) ++ w.cells.more d) 0 (value o.past 0) ≡ (s.edge d).clock =
-            written_more o.hold.accesses (r.clocks.more d) (w.cells.more d) (value o.past 0)
-            ∙ (quiet (w.cells.more d) 0 _ two ∙ (quiet (r.clocks.more d) 0 _ one ∙ (sym (value_snoc o.past o.hold 0) ∙ (ap (λ hs. value hs 0) (sym o.holds) ∙ i.clock)))) in
+            let clock : written ((o.hold.accesses ++ r.clocks.more d) ++ w.cells.more d) 0 (register_value o.past 0) ≡ (s.edge d).clock =
+            written_more o.hold.accesses (r.clocks.more d) (w.cells.more d) (register_value o.past 0)
+            ∙ (quiet (w.cells.more d) 0 _ two ∙ (quiet (r.clocks.more d) 0 _ one ∙ (sym (value_snoc o.past o.hold 0) ∙ (ap (λ hs. register_value hs 0) (sym o.holds) ∙ i.clock)))) in
             turned_edge m d (s.edge d).clock o.past o.hold (with_all (w.cells.more d) (with_all (r.clocks.more d) o.hold)) (edge_at b d).holds (edge_at c d).holds (s.edge d) o.holds holds o.is_open refl refl refl clock i
 
     -- the tile is worn out, or its edges have the clocks that they had
     refreshed_so : Refreshes x.0 y.0 (lists_on b) (lists_on c) → Matches m (slice_set tiles t y) c (step m g.meaning t s) ⊎ AnyIsWorn (slice_set tiles t y)
     refreshed_so r = ⊎_elim {C = Matches m (slice_set tiles t y) c (step m g.meaning t s) ⊎ AnyIsWorn (slice_set tiles t y)}
-        (λ (w : WearsOut x.0 y.0 r.top r.between (lists_on c)). inr (t, y, set_here tiles t y there, ap (λ (z : TileValue). z.phase) w.is))
+        (λ (w : WearsOut x.0 y.0 r.top r.between (lists_on c)). inr (t, y, get_set_same tiles t y there, ap (λ (z : TileValue). z.phase) w.is))
         (λ (w : Renews x.0 y.0 r.top r.between (lists_on c)). inl
         (subst (λ q. Aim y.0 (step_in m g.meaning t s q)) (same_Some _ _ (doing_now Refresh now))
         (subst (λ z. Aim z (does t (Behaving (hand_in x.0)) s)) (sym w.is)
@@ -315,8 +317,8 @@ module _ {B : Type 0} (after : B → WindowValue → ℕ → WindowValue) (m : M
         let o = open_at b d (kept d lt) (held_here d h) in
         let r = writing.1.2 in
         let read = r.is d h in
-        let found : value (o.past ++ o.hold ∷ []) 0 ≡ r.clock d = found_clock o.past o.hold (r.clock d) (r.reads d) (subst (IsHistory _) o.holds (kept d lt).holds) (accesses_are d h o ∙ read) (r.refresh d h).silent in
-        ap clock_in read ∙ (sym found ∙ (ap (λ hs. value hs 0) (sym o.holds) ∙ (k.edges d lt).clock))
+        let found : register_value (o.past ++ o.hold ∷ []) 0 ≡ r.clock d = found_clock o.past o.hold (r.clock d) (r.reads d) (subst (IsHistory _) o.holds (kept d lt).holds) (accesses_are d h o ∙ read) (r.refresh d h).silent in
+        ap clock_in read ∙ (sym found ∙ (ap (λ hs. register_value hs 0) (sym o.holds) ∙ (k.edges d lt).clock))
 
     stamp_is : x.0.event_stamp ≡ next_stamp m t (hand_in x.0) s
     stamp_is = writing.1.3.stamp ∙ ap (λ n. 1 + n)
@@ -330,8 +332,8 @@ module _ {B : Type 0} (after : B → WindowValue → ℕ → WindowValue) (m : M
         go true h =
             let o = open_at b d (kept d lt) (held_here d h) in
             let holds = added (w.publishes.more d) (w.stamps.more d) d o (twice w.publishes.more w.stamps.more w.between d (w.publishes.adds.lists d) (w.stamps.adds.lists d)) in
-            let clock : written ((o.hold.accesses ++ w.publishes.more d) ++ w.stamps.more d) 0 (value o.past 0) ≡ x.0.event_stamp =
-            written_more o.hold.accesses (w.publishes.more d) (w.stamps.more d) (value o.past 0) ∙ ap (λ xs. written xs 0 (written (w.publishes.more d) 0 (written o.hold.accesses 0 (value o.past 0)))) (w.stamps.is d h) in
+            let clock : written ((o.hold.accesses ++ w.publishes.more d) ++ w.stamps.more d) 0 (register_value o.past 0) ≡ x.0.event_stamp =
+            written_more o.hold.accesses (w.publishes.more d) (w.stamps.more d) (register_value o.past 0) ∙ ap (λ xs. written xs 0 (written (w.publishes.more d) 0 (written o.hold.accesses 0 (register_value o.past 0)))) (w.stamps.is d h) in
             turned_edge m d x.0.event_stamp o.past o.hold (with_all (w.stamps.more d) (with_all (w.publishes.more d) o.hold)) (edge_at b d).holds (edge_at c d).holds (s.edge d) o.holds holds o.is_open refl refl refl clock (k.edges d lt)
 
     wrote : Writes m x.0 y.0 (lists_on b) (lists_on c) → Aim y.0 (step m g.meaning t s)

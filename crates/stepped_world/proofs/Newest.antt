@@ -1,10 +1,11 @@
 -- At the end the newest cells are the machine's grid: the events one after another in the order of time leave what they leave in the journal's order.
-use Rattle.std.proofs.Common.{◌≡◌, ℕ, suc, ◌+◌, ◌<◌, map, ◌==◌, List, [], ◌∷◌, length, refl, sym, ap, ◌∙◌, subst, arith, inr, ⊎_elim, true, Some}
-use Rattle.std.specs.Prelude.{slice_get, AllPairs}
+use Rattle.std.proofs.Common.{◌≡◌, ℕ, ◌+◌, ◌<◌, map, ◌==◌, List, [], ◌∷◌, length, refl, sym, ap, ◌∙◌, subst, arith, inr, ⊎_elim, true, Some}
+use Rattle.std.specs.Prelude.{slice_get}
 use Rattle.std.specs.List.{range_with_len}
 use Rattle.std.specs.Option.{option_map}
 use Rattle.std.proofs.lemmas.Bool.Decides.{nat_tests}
 use Rattle.std.proofs.lemmas.Option.{slice_get-map}
+use Rattle.list_laws.proofs.Slots.{get_inside}
 use Rattle.window_sites.specs.Window.{WindowValue}
 use Rattle.tile_map.specs.Plane.{MapValue, tiles_of}
 use Rattle.cell_grid.specs.declared.record.Record.{Record}
@@ -12,12 +13,12 @@ use Rattle.cell_grid.specs.Grid.{GridValue, IsGrid, site_atom}
 use Rattle.cell_grid.specs.Records.{Precedes, replay}
 use Rattle.edge_lock.specs.declared.history.Hold.{Hold}
 use Rattle.edge_lock.specs.PlainBoard.{PlainBoardValue}
-use Rattle.list_laws.proofs.Members.{In, InOrder, in_filter, filter_in, get_in}
+use Rattle.list_laws.proofs.Members.{In, InOrder, in_filter, filter_in, get_in, pairs_order}
 use Rattle.border_cache.specs.Cells.{CellValue, cell_value}
 use Rattle.border_cache.specs.Copies.{IsGridOf, IsCentre}
 use Rattle.tile_core.specs.Values.{TileValue, atoms_of, event_site}
-use Rattle.tile_core.specs.Turns.{Won, Turn, Wins, records_of}
-use Rattle.event_journal.specs.Logs.{log_of, records_in}
+use Rattle.tile_core.specs.Turns.{Won, Turn, Wins, records_in_turns}
+use Rattle.event_journal.specs.Logs.{log_of, records_in, of_tile, abandoned_by}
 use Rattle.serial_order.specs.Scene.{log_of_tile, logs_of, Scene, IsOver, registers_at}
 use Rattle.serial_order.specs.Order.{records}
 use Rattle.serial_order.specs.Settled.{IsSettled}
@@ -34,16 +35,12 @@ use Rattle.serial_order.proofs.Tile.{cell_by}
 use Rattle.serial_order.proofs.TileLog.{in_records, records_in as note_in}
 use Rattle.serial_order.proofs.Whole.{turns, hist, run, laws, tile_told, tile_of}
 use Rattle.serial_order.proofs.World.{IsRun, IsEvent}
-use Rattle.stepped_world.specs.Machine.{Machine, records_by, abandoned_by}
+use Rattle.stepped_world.specs.Machine.{Machine}
 use Rattle.stepped_world.specs.Ends.{logs_in}
-use Rattle.stepped_world.specs.Running.{Setting, ComesBefore, IsLike}
-use Rattle.stepped_world.proofs.Slots.{some_at, value_at, map_places}
+use Rattle.stepped_world.specs.Running.{Setting, StampsRise, IsLike}
+use Rattle.stepped_world.proofs.Slots.{value_at, map_places}
 
-pairs_order : {A : Type 0} (R : A → A → Type 0) (xs : List A) → AllPairs R xs → InOrder R xs
-pairs_order R [] h = tt
-pairs_order R (x ∷ xs) h = (λ y i. let q = get_in xs y y i in let lt = q.1 in subst (R x) q.2 (h 0 (suc q.0) y (omega arith) (omega (arith, lt))), pairs_order R xs (λ i j d lt within. h (suc i) (suc j) d (omega (arith, lt)) (omega (arith, within))))
-
-rises_in_time : (m : MapValue) (ws : List Won) → InOrder (ComesBefore m) (notes ws) → WritesRise m ws
+rises_in_time : (m : MapValue) (ws : List Won) → InOrder (StampsRise m) (notes ws) → WritesRise m ws
 rises_in_time m [] o = tt
 rises_in_time m (w ∷ ws) o = (λ v s i a b. o.0 v.note (in_notes v ws i) s a b, rises_in_time m ws o.1)
 
@@ -83,7 +80,7 @@ module _ {B : Type 0} (m : MapValue) (g : Setting) (tiles : List (TileValue × B
   mine t r e = grind (arith, nat_tests, e)
 
   -- a tile's entries among the machine's are those of its turns
-  same_records : (t : ℕ) (x : TileValue × B) → slice_get tiles t ≡ Some x → records_by t s.records ≡ records_of (turns c o t)
+  same_records : (t : ℕ) (x : TileValue × B) → slice_get tiles t ≡ Some x → of_tile t s.records ≡ records_in_turns (turns c o t)
   same_records t x is = sym (k.matches.records t x is) ∙ (tile_told c o t x.0 (value_there t x is)).records
 
   owner_there : (n : Record) → In n s.records → n.tile < length tiles
@@ -98,7 +95,7 @@ module _ {B : Type 0} (m : MapValue) (g : Setting) (tiles : List (TileValue × B
   entries : AreEntries (turns c o) s.records
   entries = record {
     events = λ n i.
-        let x = some_at tiles n.tile (owner_there n i) in
+        let x = get_inside tiles n.tile (owner_there n i) in
         let r = in_records n (turns c o n.tile) (subst (In n) (same_records n.tile x.0 x.1) (in_filter (λ (r : Record). r.tile == n.tile) s.records n i (mine n.tile n refl))) in
         (r.0, subst (λ t. In (Wins r.0) (turns c o t)) (ap (λ (q : Record). q.tile) r.2) r.1, r.2);
     all = λ w i.
@@ -112,7 +109,7 @@ module _ {B : Type 0} (m : MapValue) (g : Setting) (tiles : List (TileValue × B
   journal_leaves =
       let time = journal m g.meaning (atoms_of g.start) (turns c o) (hist c o) (run c o) s.records entries in
       let first = events c o in
-      let rises = rises_in_time m time.0 (subst (InOrder (ComesBefore m)) (sym time.1) (pairs_order (ComesBefore m) s.records k.sound.rises)) in
+      let rises = rises_in_time m time.0 (subst (InOrder (StampsRise m)) (sym time.1) (pairs_order (StampsRise m) s.records k.sound.rises)) in
       let order = journal_rises m g.meaning g.start (turns c o) (hist c o) (run c o) first.0 first.2.events (subst (InOrder Precedes) (sym first.1) (ordered c o)) in
       ap (replay g.meaning g.start) (sym first.1)
       ∙ (two_orders m g.meaning g.start (turns c o) (hist c o) (run c o) o.grid o.fits first.0 time.0 first.2 time.2 order rises
@@ -125,15 +122,15 @@ module _ {B : Type 0} (m : MapValue) (g : Setting) (tiles : List (TileValue × B
   -- the tiles' logs
   pub logs_are : logs_of (values_of tiles) ≡ logs_in m s
   logs_are =
-      map_places log_of_tile (λ t. log_of t (records_by t s.records) (abandoned_by t s.abandoned)) (values_of tiles) 0 each
-      ∙ ap (λ n. map (λ t. log_of t (records_by t s.records) (abandoned_by t s.abandoned)) (range_with_len 0 n)) o.count
+      map_places log_of_tile (λ t. log_of t (of_tile t s.records) (abandoned_by t s.abandoned)) (values_of tiles) 0 each
+      ∙ ap (λ n. map (λ t. log_of t (of_tile t s.records) (abandoned_by t s.abandoned)) (range_with_len 0 n)) o.count
     where
-      each : (t : ℕ) (tile : TileValue) → slice_get (values_of tiles) t ≡ Some tile → log_of_tile tile ≡ log_of (0 + t) (records_by (0 + t) s.records) (abandoned_by (0 + t) s.abandoned)
+      each : (t : ℕ) (tile : TileValue) → slice_get (values_of tiles) t ≡ Some tile → log_of_tile tile ≡ log_of (0 + t) (of_tile (0 + t) s.records) (abandoned_by (0 + t) s.abandoned)
       each t tile is =
           let x = value_at tiles t tile is in
           let z : 0 + t ≡ t = omega arith in
           (λ i. log_of (o.numbers t tile is i) ((ap (λ (v : TileValue). v.records) (sym x.2) ∙ k.matches.records t x.0 x.1) i) ((ap (λ (v : TileValue). v.abandoned) (sym x.2) ∙ k.matches.abandoned t x.0 x.1) i))
-          ∙ ap (λ n. log_of n (records_by n s.records) (abandoned_by n s.abandoned)) (sym z)
+          ∙ ap (λ n. log_of n (of_tile n s.records) (abandoned_by n s.abandoned)) (sym z)
 
   pub replay_is : replay g.meaning g.start (records_in (logs_in m s)) ≡ s.grid
   replay_is = ap (λ ls. replay g.meaning g.start (records_in ls)) (sym logs_are) ∙ journal_leaves

@@ -3,7 +3,8 @@ use Rattle.std.proofs.Common.{◌≡◌, ◌≢◌, ℕ, ◌+◌, ◌<◌, ◌�
 use Rattle.std.specs.Prelude.{AllPairs, if◌then◌else◌}
 use Rattle.std.proofs.lemmas.List.Elements.{All-push}
 use Rattle.std.proofs.lemmas.List.Quantifiers.{all_pairs_push}
-use Rattle.std.proofs.lemmas.Bool.{eqb-true}
+use Rattle.std.proofs.lemmas.Bool.{eqb-true, cases_eq}
+use Rattle.tile_core.proofs.Played.{greatest_above}
 use Rattle.window_sites.specs.Window.{WindowValue}
 use Rattle.tile_map.specs.Plane.{MapValue, is_held}
 use Rattle.tile_map.specs.Edges.{needs_of}
@@ -15,10 +16,10 @@ use Rattle.draw_stream.specs.declared.attempt.Attempt.{Attempt}
 use Rattle.border_cache.specs.Copies.{IsCentre}
 use Rattle.border_cache.specs.Windows.{has}
 use Rattle.tile_core.specs.Values.{event_site}
-use Rattle.serial_order.proofs.Ground.{needed, has_in, in_has, same_or_not}
-use Rattle.serial_order.proofs.Tile.{greatest_first, greatest_each}
+use Rattle.serial_order.proofs.Ground.{needed, has_in, in_has}
+use Rattle.serial_order.proofs.Tile.{greatest_each}
 use Rattle.stepped_world.specs.Machine.{Hand, Doing, Drawing, Done, Locking, Refreshing, Behaving, Writing, Giving, Backing, TileState, EdgeState, Machine, at, next_lock, next_give, next_back, does, is_held_by, record_of, drawn, draw, lock, next_stamp, write, step_in, step}
-use Rattle.stepped_world.specs.Running.{Setting, ComesBefore, HasClocks, IsSound}
+use Rattle.stepped_world.specs.Running.{Setting, StampsRise, HasClocks, IsSound}
 
 -- a clock that stays
 pub tile_clock : (f : ℕ → TileState) (t : ℕ) (x : TileState) → x.clock ≡ (f t).clock → (u : ℕ) → (at f t x u).clock ≡ (f u).clock
@@ -41,30 +42,30 @@ replay_more meaning g (q ∷ rs) r = replay_more meaning (event meaning g q.x q.
 
 module _ (m : MapValue) (plane : IsPlane m) (g : Setting) (t : ℕ) (s : Machine) (k : IsSound m g s) where
   -- a step without an event
-  calm : (s' : Machine) → s'.records ≡ s.records → s'.grid ≡ s.grid → ((u : ℕ) → (s'.tile u).clock ≡ (s.tile u).clock) → ((e : ℕ) → (s'.edge e).clock ≡ (s.edge e).clock) → IsSound m g s'
-  calm s' records grid tiles edges = record {
+  unmoved : (s' : Machine) → s'.records ≡ s.records → s'.grid ≡ s.grid → ((u : ℕ) → (s'.tile u).clock ≡ (s.tile u).clock) → ((e : ℕ) → (s'.edge e).clock ≡ (s.edge e).clock) → IsSound m g s'
+  unmoved s' records grid tiles edges = record {
     owned = subst (All (λ (r : Record). IsCentre m r.tile (event_site r))) (sym records) k.owned;
     clocks = subst (All (HasClocks m s')) (sym records) (λ i d lt. let c = k.clocks i d lt in record {
       tile = subst (λ n. (get_or s.records i d).stamp ≤ n) (sym (tiles (get_or s.records i d).tile)) c.tile;
       edges = λ e h. subst (λ n. (get_or s.records i d).stamp ≤ n) (sym (edges e)) (c.edges e h);
     });
-    rises = subst (AllPairs (ComesBefore m)) (sym records) k.rises;
+    rises = subst (AllPairs (StampsRise m)) (sym records) k.rises;
     grid = grid ∙ (k.grid ∙ ap (replay g.meaning g.start) (sym records));
   }
 
   only : (doing : Doing) → IsSound m g (does t doing s)
-  only doing = calm (does t doing s) refl refl (tile_clock s.tile t (record (s.tile t) { doing = doing }) refl) (λ e. refl)
+  only doing = unmoved (does t doing s) refl refl (tile_clock s.tile t (record (s.tile t) { doing = doing }) refl) (λ e. refl)
 
   frees : (e : ℕ) (holder : Option (ℕ × ℕ)) (doing : Doing) → IsSound m g (does t doing (is_held_by e holder s))
-  frees e holder doing = calm (does t doing (is_held_by e holder s)) refl refl (tile_clock s.tile t (record (s.tile t) { doing = doing }) refl) (edge_clock s.edge e (record (s.edge e) { holder = holder }) refl)
+  frees e holder doing = unmoved (does t doing (is_held_by e holder s)) refl refl (tile_clock s.tile t (record (s.tile t) { doing = doing }) refl) (edge_clock s.edge e (record (s.edge e) { holder = holder }) refl)
 
   draws : (left : List Attempt) → IsSound m g (draw m t left s)
   draws [] = only Done
-  draws (a ∷ more) = calm (draw m t (a ∷ more) s) refl refl (tile_clock s.tile t (drawn m t a more (s.tile t)) refl) (λ e. refl)
+  draws (a ∷ more) = unmoved (draw m t (a ∷ more) s) refl refl (tile_clock s.tile t (drawn m t a more (s.tile t)) refl) (λ e. refl)
 
   locks : (h : Hand) (had : List ℕ) (e : ℕ) (es : List ℕ) (o : Option (ℕ × ℕ)) → IsSound m g (lock t h had e es o s)
   locks h had e es None = frees e (Some (t, h.attempt)) (next_lock h (had ++ e ∷ []) es)
-  locks h had e es (Some p) = calm (lock t h had e es (Some p) s) refl refl (tile_clock s.tile t (record (s.tile t) { doing = next_back had (s.tile t).left }) refl) (λ d. refl)
+  locks h had e es (Some p) = unmoved (lock t h had e es (Some p) s) refl refl (tile_clock s.tile t (record (s.tile t) { doing = next_back had (s.tile t).left }) refl) (λ d. refl)
 
   -- an event
   module _ (h : Hand) (centre : IsCentre m t h.site) where
@@ -81,7 +82,7 @@ module _ (m : MapValue) (plane : IsPlane m) (g : Setting) (t : ℕ) (s : Machine
     after = write m g.meaning t h (next_stamp m t h s) s
 
     above_tile : (s.tile t).clock < next_stamp m t h s
-    above_tile = let r = greatest_first (s.tile t).clock (λ e. (s.edge e).clock) (needs_of m t h.site) in omega (arith, r)
+    above_tile = let r = greatest_above (s.tile t).clock (λ e. (s.edge e).clock) (needs_of m t h.site) in omega (arith, r)
 
     above_edge : (e : ℕ) → has e (needs_of m t h.site) ≡ true → (s.edge e).clock < next_stamp m t h s
     above_edge e i = let r = greatest_each (s.tile t).clock (λ e. (s.edge e).clock) (needs_of m t h.site) e (has_in e (needs_of m t h.site) i) in omega (arith, r)
@@ -107,11 +108,11 @@ module _ (m : MapValue) (plane : IsPlane m) (g : Setting) (t : ℕ) (s : Machine
     edge_now e i = rw i refl
 
     -- an earlier event with a site in common has a smaller stamp
-    later : (r : Record) → IsCentre m r.tile (event_site r) → HasClocks m s r → ComesBefore m r new
+    later : (r : Record) → IsCentre m r.tile (event_site r) → HasClocks m s r → StampsRise m r new
     later r c clocks u a b = ⊎_elim {C = r.stamp < next_stamp m t h s}
         (λ (e : r.tile ≡ t). let lt = above_tile in let low = clocks.tile in omega (arith, low, lt, ap (λ n. (s.tile n).clock) e))
         (λ ne. far ne)
-        (same_or_not r.tile t)
+        (cases_eq r.tile t)
       where
         far : r.tile ≢ t → r.stamp < next_stamp m t h s
         far ne =
@@ -135,7 +136,7 @@ module _ (m : MapValue) (plane : IsPlane m) (g : Setting) (t : ℕ) (s : Machine
             edges = λ e q. let low = c.edges e q in let up = edge_up e in omega (arith, low, up);
           })
           (record { tile = let e = tile_now in omega (arith, e); edges = λ e q. let n = edge_now e q in omega (arith, n) });
-      rises = all_pairs_push (ComesBefore m) s.records new k.rises (λ i d lt. later (get_or s.records i d) (k.owned i d lt) (k.clocks i d lt));
+      rises = all_pairs_push (StampsRise m) s.records new k.rises (λ i d lt. later (get_or s.records i d) (k.owned i d lt) (k.clocks i d lt));
       grid = ap (λ z. event g.meaning z h.site.x h.site.y h.seed) k.grid ∙ sym (replay_more g.meaning g.start s.records new);
     }
 

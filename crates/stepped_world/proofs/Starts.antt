@@ -7,13 +7,13 @@ use Rattle.tile_map.specs.Plane.{MapValue, tiles_of}
 use Rattle.tile_map.specs.Edges.{sizes_of}
 use Rattle.draw_stream.specs.declared.attempt.Attempt.{Attempt}
 use Rattle.draw_stream.specs.Plans.{attempts}
-use Rattle.edge_lock.specs.History.{value, open_hold}
+use Rattle.edge_lock.specs.History.{register_value, open_hold}
 use Rattle.edge_lock.specs.EndLists.{EndLists}
 use Rattle.edge_lock.specs.PlainBoard.{PlainBoardValue, no_edge, edge_at, lists_of_tile, untouched_edge}
 use Rattle.tile_core.specs.declared.phase.Phase.{Phase}
 use Rattle.tile_core.specs.declared.phase.Phase.TheVariants.{Draw, Lock, Refresh, Behave, Write, Give, Back, Finished, Worn}
 use Rattle.tile_core.specs.Values.{TileValue, atoms_of}
-use Rattle.tile_core.specs.Turns.{Turn, stamp_of, records_of, abandoned_of}
+use Rattle.tile_core.specs.Turns.{Turn, stamp_of, records_in_turns, abandoned_in_turns}
 use Rattle.tile_core.specs.Underway.{IsUnderway, InPhase}
 use Rattle.tile_core.proofs.Boards.{board_new, fresh_there}
 use Rattle.stepped_world.specs.Machine.{Drawing, next_draw, first_machine}
@@ -83,10 +83,10 @@ module _ {B : Type 0} (after : B → WindowValue → ℕ → WindowValue) (m : M
       taken = f.taken;
       clock = (there t x is).stamp ∙ ap stamp_of b.turns;
     };
-    records = λ t x is. (there t x is).records ∙ ap records_of (tile_first t x is).turns;
-    abandoned = λ t x is. (there t x is).abandoned ∙ ap abandoned_of (tile_first t x is).turns;
+    records = λ t x is. (there t x is).records ∙ ap records_in_turns (tile_first t x is).turns;
+    abandoned = λ t x is. (there t x is).abandoned ∙ ap abandoned_in_turns (tile_first t x is).turns;
     edges = λ e lt. let none : (edge_at board e).holds ≡ [] = ap (λ es. (get_or es e no_edge).holds) s.edges ∙ nothing_yet (sizes_of m) e in
-        record { clock = ap (λ hs. value hs 0) none; holder = ap (λ hs. who m e (open_hold hs)) none };
+        record { clock = ap (λ hs. register_value hs 0) none; holder = ap (λ hs. who m e (open_hold hs)) none };
   }
 
   first_sound : IsSound m g (first_machine g.start g.plan)

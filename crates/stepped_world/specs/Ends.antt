@@ -11,13 +11,13 @@ use Rattle.edge_lock.specs.PlainBoard.{PlainBoardValue, edge_at, lists_of_tile}
 use Rattle.tile_core.specs.declared.phase.Phase.TheVariants.{Finished}
 use Rattle.tile_core.specs.Values.{TileValue, atoms_of}
 use Rattle.tile_core.specs.Turns.{HasPlayed}
-use Rattle.event_journal.specs.Logs.{LogValue, log_of, records_in}
+use Rattle.event_journal.specs.Logs.{LogValue, log_of, records_in, of_tile, abandoned_by}
 use Rattle.serial_order.specs.Scene.{EdgeHistory, IsOver, logs_of, registers_at}
 use Rattle.serial_order.specs.Settled.{IsSettled}
 use Rattle.serial_order.specs.Words.{AreEdgeWords, histories_on, counts_on}
 use Rattle.serial_order.specs.Outcomes.{IsMade, IsSettlement, scene_of, values_of}
 use Rattle.serial_order.specs.declared.outcome.Outcome.{Outcome}
-use Rattle.stepped_world.specs.Machine.{Done, Machine, stepped, records_by, abandoned_by}
+use Rattle.stepped_world.specs.Machine.{Done, Machine, stepped}
 use Rattle.stepped_world.specs.Matching.{Matches}
 use Rattle.stepped_world.specs.Running.{Setting}
 
@@ -41,7 +41,7 @@ pub record HasRun {B : Type 0} (after : B → WindowValue → ℕ → WindowValu
 
 -- the logs of all tiles, as the machine has them
 abbrev pub logs_in : MapValue → Machine → List LogValue
-logs_in m s = map (λ t. log_of t (records_by t s.records) (abandoned_by t s.abandoned)) (range_with_len 0 (tiles_of m))
+logs_in m s = map (λ t. log_of t (of_tile t s.records) (abandoned_by t s.abandoned)) (range_with_len 0 (tiles_of m))
 
 -- Tiles, edges and entries are those of the stepped machine, and a grid of the newest cells is its grid. That grid is also what
 -- its events make of the start in the order of the journal.

@@ -1,6 +1,6 @@
 -- The stepped machine: one flat grid, what each tile is doing and its clock, who has each edge and its clock, and the entries in the order of time.
 -- It knows no tile's copy of sites and no register.
-use Rattle.std.specs.Prelude.{ℕ, zero, suc, ◌+◌, ◌*◌, List, [], ◌∷◌, ◌++◌, Option, Some, None, ◌==◌, if◌then◌else◌, length, filter}
+use Rattle.std.specs.Prelude.{ℕ, zero, suc, ◌+◌, ◌*◌, List, [], ◌∷◌, ◌++◌, Option, Some, None, ◌==◌, if◌then◌else◌, length}
 use Rattle.std.specs.List.{range_with_len}
 use Rattle.window_sites.specs.Window.{WindowValue}
 use Rattle.tile_map.specs.Plane.{Site, MapValue, tiles_of, site_in}
@@ -186,10 +186,3 @@ first_machine start plan = record {
 -- the machine after the steps of this list of tiles, and then those of tile 0 until it is done, those of tile 1, and so on
 abbrev pub stepped : MapValue → (WindowValue → ℕ → WindowValue) → GridValue → PlanValue → List ℕ → Machine
 stepped m meaning start plan order = finish m meaning (range_with_len 0 (tiles_of m)) (steps m meaning order (first_machine start plan))
-
--- the entries of one tile
-abbrev pub records_by : ℕ → List Record → List Record
-records_by t rs = filter (λ (r : Record). r.tile == t) rs
-
-abbrev pub abandoned_by : ℕ → List Abandoned → List Abandoned
-abandoned_by t gs = filter (λ (g : Abandoned). g.tile == t) gs

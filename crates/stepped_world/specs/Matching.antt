@@ -1,14 +1,15 @@
 -- When the tiles of a plane and their edges are as the stepped machine has them.
 use Rattle.std.specs.Prelude.{ℕ, ◌≡◌, ◌<◌, ◌-◌, List, Option, Some, None, ◌==◌, if◌then◌else◌, length, take, drop, slice_get}
+use Rattle.event_journal.specs.Logs.{of_tile, abandoned_by}
 use Rattle.tile_map.specs.Plane.{MapValue}
 use Rattle.tile_map.specs.Edges.{pairs_of, low_end, high_end}
 use Rattle.edge_lock.specs.declared.history.Hold.{Hold}
-use Rattle.edge_lock.specs.History.{value, open_hold}
+use Rattle.edge_lock.specs.History.{register_value, open_hold}
 use Rattle.edge_lock.specs.PlainBoard.{PlainBoardValue, edge_at}
 use Rattle.tile_core.specs.declared.phase.Phase.{Phase}
 use Rattle.tile_core.specs.declared.phase.Phase.TheVariants.{Draw, Lock, Refresh, Behave, Write, Give, Back, Finished, Worn}
 use Rattle.tile_core.specs.Values.{TileValue, centre}
-use Rattle.stepped_world.specs.Machine.{Hand, Doing, Drawing, Done, Refreshing, Behaving, Writing, TileState, EdgeState, Machine, next_lock, next_give, next_back, records_by, abandoned_by}
+use Rattle.stepped_world.specs.Machine.{Hand, Doing, Drawing, Done, Refreshing, Behaving, Writing, TileState, EdgeState, Machine, next_lock, next_give, next_back}
 
 -- the attempt that a tile has in hand
 abbrev pub hand_in : TileValue → Hand
@@ -40,12 +41,12 @@ who m e (Some hold) = Some (if hold.end == 0 then low_end m e else high_end m e,
 
 -- an edge with these holds is as the machine has it: its register 0 is the clock, and its open hold is the holder's
 pub record IsEdgeIn (m : MapValue) (e : ℕ) (holds : List Hold) (state : EdgeState) : Type 0 where
-  pub clock : value holds 0 ≡ state.clock
+  pub clock : register_value holds 0 ≡ state.clock
   pub holder : who m e (open_hold holds) ≡ state.holder
 
 -- all tiles and all edges are as the machine has them, and so are the tiles' entries
 pub record Matches {B : Type 0} (m : MapValue) (tiles : List (TileValue × B)) (board : PlainBoardValue) (s : Machine) : Type 0 where
   pub tiles_are : (t : ℕ) (x : TileValue × B) → slice_get tiles t ≡ Some x → IsTileIn x.0 (s.tile t)
-  pub records : (t : ℕ) (x : TileValue × B) → slice_get tiles t ≡ Some x → x.0.records ≡ records_by t s.records
+  pub records : (t : ℕ) (x : TileValue × B) → slice_get tiles t ≡ Some x → x.0.records ≡ of_tile t s.records
   pub abandoned : (t : ℕ) (x : TileValue × B) → slice_get tiles t ≡ Some x → x.0.abandoned ≡ abandoned_by t s.abandoned
   pub edges : (e : ℕ) → e < length (pairs_of m) → IsEdgeIn m e (edge_at board e).holds (s.edge e)

@@ -15,14 +15,14 @@ abbrev pub walker : AtomValue
 walker = record { kind = 1; state = 0 }
 
 -- an attempt at a position of a tile's rectangle
-abbrev pub attempt_at : ℕ → Attempt
-attempt_at centre = record { centre = centre; seed = 0 }
+abbrev pub row_attempt : ℕ → Attempt
+row_attempt centre = record { centre = centre; seed = 0 }
 
-abbrev pub event_of : ℕ → ℕ → ℕ → ℕ → ℕ → Record
-event_of stamp tile attempt x y = record { stamp = stamp; tile = tile; attempt = attempt; x = x; y = y; seed = 0 }
+abbrev pub row_event : ℕ → ℕ → ℕ → ℕ → ℕ → Record
+row_event stamp tile attempt x y = record { stamp = stamp; tile = tile; attempt = attempt; x = x; y = y; seed = 0 }
 
-abbrev pub refusal_of : ℕ → ℕ → ℕ → ℕ → ℕ → ℕ → ℕ → Abandoned
-refusal_of tile attempt x y edge holder holder_attempt = record { tile = tile; attempt = attempt; x = x; y = y; edge = edge; holder = holder; holder_attempt = holder_attempt }
+abbrev pub row_refusal : ℕ → ℕ → ℕ → ℕ → ℕ → ℕ → ℕ → Abandoned
+row_refusal tile attempt x y edge holder holder_attempt = record { tile = tile; attempt = attempt; x = x; y = y; edge = edge; holder = holder; holder_attempt = holder_attempt }
 
 -- the run of two tiles side by side, with an atom at this site of row 4
 abbrev pub run_of_two : ℕ → List Attempt → List Attempt → List ℕ → Machine
@@ -35,38 +35,38 @@ pub record Notes (s : Machine) (records : List Record) (abandoned : List Abandon
 
 -- attempts on both sides of the border, one at the atom
 abbrev pub at_the_border : List ℕ → Machine
-at_the_border order = run_of_two 15 (attempt_at 79 ∷ []) (attempt_at 64 ∷ []) order
+at_the_border order = run_of_two 15 (row_attempt 79 ∷ []) (row_attempt 64 ∷ []) order
 
 -- the first has its event before the second comes, and the second moves the same atom on: its own site was written by the other tile
 pub record CrossesTheBorder (s : Machine) : Type 0 where
-  pub notes : Notes s (event_of 1 0 0 15 4 ∷ event_of 2 1 0 16 4 ∷ []) []
+  pub notes : Notes s (row_event 1 0 0 15 4 ∷ row_event 2 1 0 16 4 ∷ []) []
   pub left : site_atom s.grid 16 4 ≡ empty_atom
   pub there : site_atom s.grid 17 4 ≡ walker
 
 -- the second comes while the first has the edge
 pub record IsRefusedAtTheBorder (s : Machine) : Type 0 where
-  pub notes : Notes s (event_of 1 0 0 15 4 ∷ []) (refusal_of 1 0 16 4 0 0 0 ∷ [])
+  pub notes : Notes s (row_event 1 0 0 15 4 ∷ []) (row_refusal 1 0 16 4 0 0 0 ∷ [])
   pub there : site_atom s.grid 16 4 ≡ walker
 
 -- one attempt far enough from the border needs no edge; the next needs the one that the other tile has
 abbrev pub near_and_far : List ℕ → Machine
-near_and_far order = run_of_two 7 (attempt_at 71 ∷ attempt_at 72 ∷ []) (attempt_at 64 ∷ []) order
+near_and_far order = run_of_two 7 (row_attempt 71 ∷ row_attempt 72 ∷ []) (row_attempt 64 ∷ []) order
 
 pub record NeedsNoEdgeAfar (s : Machine) : Type 0 where
-  pub notes : Notes s (event_of 1 0 0 7 4 ∷ event_of 1 1 0 16 4 ∷ []) (refusal_of 0 1 8 4 0 1 0 ∷ [])
+  pub notes : Notes s (row_event 1 0 0 7 4 ∷ row_event 1 1 0 16 4 ∷ []) (row_refusal 0 1 8 4 0 1 0 ∷ [])
   pub there : site_atom s.grid 8 4 ≡ walker
 
 -- four tiles round one corner, with an attempt of each there
 abbrev pub at_the_corner : List ℕ → Machine
-at_the_corner order = stepped (whole_plane 2 2 8 8) after_turn (with_site (empty_grid 16 16) 7 7 walker) (scripted ((attempt_at 63 ∷ []) ∷ (attempt_at 56 ∷ []) ∷ (attempt_at 7 ∷ []) ∷ (attempt_at 0 ∷ []) ∷ [])) order
+at_the_corner order = stepped (whole_plane 2 2 8 8) after_turn (with_site (empty_grid 16 16) 7 7 walker) (scripted ((row_attempt 63 ∷ []) ∷ (row_attempt 56 ∷ []) ∷ (row_attempt 7 ∷ []) ∷ (row_attempt 0 ∷ []) ∷ [])) order
 
 -- each in turn, round the corner
 abbrev pub GoesRound : Machine → Type 0
-GoesRound s = Notes s (event_of 1 0 0 7 7 ∷ event_of 2 1 0 8 7 ∷ event_of 3 3 0 8 8 ∷ event_of 4 2 0 7 8 ∷ []) []
+GoesRound s = Notes s (row_event 1 0 0 7 7 ∷ row_event 2 1 0 8 7 ∷ row_event 3 3 0 8 8 ∷ row_event 4 2 0 7 8 ∷ []) []
 
 -- one is refused by an attempt that is refused itself
 abbrev pub IsRefusedInARow : Machine → Type 0
-IsRefusedInARow s = Notes s (event_of 1 2 0 7 8 ∷ event_of 2 3 0 8 8 ∷ []) (refusal_of 0 0 7 7 0 1 0 ∷ refusal_of 1 0 8 7 4 3 0 ∷ [])
+IsRefusedInARow s = Notes s (row_event 1 2 0 7 8 ∷ row_event 2 3 0 8 8 ∷ []) (row_refusal 0 0 7 7 0 1 0 ∷ row_refusal 1 0 8 7 4 3 0 ∷ [])
 
 -- the results of these runs
 pub record AreComputed : Type 0 where

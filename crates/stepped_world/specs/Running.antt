@@ -1,5 +1,6 @@
 -- All tiles of a plane on one board: at the start of the stepped run, and underway.
-use Rattle.std.specs.Prelude.{ℕ, ◌≡◌, ◌<◌, ◌≤◌, ◌+◌, ◌-◌, ◌*◌, ◌⊎◌, List, All, AllPairs, length, map, slice_get, Bool, true, false, Option, Some, None}
+use Rattle.std.specs.Prelude.{ℕ, ◌≡◌, ◌<◌, ◌≤◌, ◌+◌, ◌*◌, ◌⊎◌, List, All, AllPairs, length, map, slice_get, Bool, true, false, Option, Some, None}
+use Rattle.tile_core.specs.Steps.{steps_in}
 use Rattle.window_sites.specs.Window.{WindowValue}
 use Rattle.tile_map.specs.Plane.{Site, MapValue, tiles_of, in_window}
 use Rattle.tile_map.specs.Edges.{sizes_of, needs_of}
@@ -58,30 +59,18 @@ abbrev pub stands_still : {B : Type 0} → Option (TileValue × B) → Bool
 stands_still None = true
 stands_still (Some x) = is_still x.0.phase
 
--- how many steps the attempt in hand takes at most
-abbrev pub steps_in_hand : TileValue → Phase → ℕ
-steps_in_hand tile Draw = 0
-steps_in_hand tile Lock = 40 + (length tile.needs - tile.next)
-steps_in_hand tile Refresh = 30
-steps_in_hand tile Behave = 29
-steps_in_hand tile Write = 28
-steps_in_hand tile Give = 1 + (length tile.needs - tile.next)
-steps_in_hand tile Back = 1 + (tile.count - tile.next)
-steps_in_hand tile Finished = 0
-steps_in_hand tile Worn = 0
-
 -- how many steps a tile makes at most
 abbrev pub steps_ahead : {B : Type 0} → Option (TileValue × B) → ℕ
 steps_ahead None = 0
-steps_ahead (Some x) = 50 * length x.0.left + steps_in_hand x.0 x.0.phase
+steps_ahead (Some x) = 50 * length x.0.left + steps_in x.0 x.0.phase
 
 -- one tile is worn out
 abbrev pub AnyIsWorn : {B : Type 0} → List (TileValue × B) → Type 0
 AnyIsWorn {B} tiles = (t : ℕ) × (x : TileValue × B) × (slice_get tiles t ≡ Some x) × (x.0.phase ≡ Worn)
 
 -- if two events have a live site in common, the first has the smaller stamp
-abbrev pub ComesBefore : MapValue → Record → Record → Type 0
-ComesBefore m r q = (s : Site) → in_window m (event_site r) s ≡ true → in_window m (event_site q) s ≡ true → r.stamp < q.stamp
+abbrev pub StampsRise : MapValue → Record → Record → Type 0
+StampsRise m r q = (s : Site) → in_window m (event_site r) s ≡ true → in_window m (event_site q) s ≡ true → r.stamp < q.stamp
 
 -- the clocks of an event's tile and of the edges that it needs are not below its stamp
 pub record HasClocks (m : MapValue) (s : Machine) (r : Record) : Type 0 where
@@ -93,7 +82,7 @@ pub record HasClocks (m : MapValue) (s : Machine) (r : Record) : Type 0 where
 pub record IsSound (m : MapValue) (g : Setting) (s : Machine) : Type 0 where
   pub owned : All (λ (r : Record). IsCentre m r.tile (event_site r)) s.records
   pub clocks : All (HasClocks m s) s.records
-  pub rises : AllPairs (ComesBefore m) s.records
+  pub rises : AllPairs (StampsRise m) s.records
   pub grid : s.grid ≡ replay g.meaning g.start s.records
 
 pub record IsLike {B : Type 0} (m : MapValue) (g : Setting) (tiles : List (TileValue × B)) (board : PlainBoardValue) (s : Machine) : Type 0 where

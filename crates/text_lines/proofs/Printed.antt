@@ -81,7 +81,7 @@ hex_value (suc k) n v =
     regroup : (v d p r : ℕ) → (v * 16 + d) * p + r ≡ v * (16 * p) + (d * p + r)
     regroup v d p r = grind arith
 
-hex_length : (k n : ℕ) → length (hex k n) ≡ k
+pub hex_length : (k n : ℕ) → length (hex k n) ≡ k
 unfolding hex
 hex_length zero n = refl
 hex_length (suc k) n = let e = hex_length k n in omega (arith, e)

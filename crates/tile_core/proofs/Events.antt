@@ -1,7 +1,9 @@
 -- The hold of an event: what the clock, the refresh, the publishing and the stamp make of it.
-use Rattle.std.proofs.Common.{◌≡◌, ◌≢◌, ℕ, zero, suc, ◌+◌, ◌*◌, ◌/◌, ◌-◌, ◌<◌, ◌≤◌, eqb, Bool, true, false, cond, true≢false, List, [], ◌∷◌, ◌++◌, refl, sym, ap, ◌∙◌, subst, arith, ◌⊎◌, inl, inr, ⊎_elim, Option, Some, None}
+use Rattle.std.proofs.Common.{◌≡◌, ◌≢◌, ℕ, zero, suc, ◌+◌, ◌*◌, ◌/◌, ◌-◌, ◌<◌, ◌≤◌, eqb, Bool, true, false, cond, true≢false, List, [], ◌∷◌, ◌++◌, refl, sym, ap, ◌∙◌, subst, arith, ◌⊎◌, inl, inr, ⊎_elim, Option, Some, None, ne_eqb}
 use Rattle.std.proofs.lemmas.Option.{none-some}
 use Rattle.std.specs.Int.{bit_at}
+use Rattle.edge_lock.proofs.HistoryLaws.{found_stays}
+use Rattle.list_laws.proofs.Options.{none_from}
 use Rattle.feast_base.specs.Edges.{news_register, news_words}
 use Rattle.edge_lock.specs.declared.history.Access.{Access}
 use Rattle.edge_lock.specs.declared.history.Access.TheVariants.{Read, Write}
@@ -9,10 +11,10 @@ use Rattle.edge_lock.specs.History.{found_value}
 use Rattle.edge_lock.specs.EndLists.{last_shown, writes_nothing, Shows}
 use Rattle.border_cache.specs.Accesses.{last_write, is_read, with_known, IsHonest}
 use Rattle.border_cache.specs.Cells.{CellValue}
-use Rattle.border_cache.specs.News.{Covers, word_of, has_bit, is_news, cell_in, seen, IsRefresh}
+use Rattle.border_cache.specs.News.{Covers, word_of, has_bit, is_news, cell_in, found_cell, IsRefresh}
 use Rattle.border_cache.specs.Published.{IsWordMarked, IsPublish}
 use Rattle.border_cache.proofs.Runs.{known_after}
-use Rattle.border_cache.proofs.Found.{found_more, found_new, shown_at, steady}
+use Rattle.border_cache.proofs.Found.{found_new, shown_at, steady}
 use Rattle.border_cache.proofs.Marks.{last_write-append, written_in, read_is_found, read_in}
 use Rattle.tile_core.specs.Turns.{IsEventHold}
 
@@ -43,13 +45,6 @@ silent_write [] r s h = refl
 silent_write (Read at x ∷ xs) r s h = silent_write xs r s h
 silent_write (Write at x ∷ xs) r s h = absurd (true≢false (sym h))
 
-eqb_apart : (q r : ℕ) → q ≢ r → eqb q r ≡ false
-eqb_apart q r h = grind (arith, h)
-
-none_or : (o : Option ℕ) → ((v : ℕ) → o ≡ Some v → ⊥) → o ≡ None
-none_or None f = refl
-none_or (Some v) f = absurd (f v refl)
-
 module _ (sites end c stamp : ℕ) (places : ℕ → Option ℕ) (cells : ℕ → CellValue) (reads pub_ : List Access) (small : end < 2) (low : (k : ℕ) → Covers places 41 k → k < sites)
     (r : IsRefresh sites end places 41 reads) (w : IsPublish sites end cells places 41 pub_) where
   abbrev first_part : List Access
@@ -78,10 +73,10 @@ module _ (sites end c stamp : ℕ) (places : ℕ → Option ℕ) (cells : ℕ �
 
   -- past the clock
   past_clock : (q : ℕ) → 0 < q → found_value all q ≡ found_value (reads ++ last_part) q
-  past_clock q big = ap (λ b. cond b (Some c) (found_value (reads ++ last_part) q)) (eqb_apart q 0 (omega (arith, big)))
+  past_clock q big = ap (λ b. cond b (Some c) (found_value (reads ++ last_part) q)) (ne_eqb q 0 (omega (arith, big)))
 
   found_word : (k v : ℕ) → found_value reads (word_of sites end k) ≡ Some v → found_value all (word_of sites end k) ≡ Some v
-  found_word k v is = past_clock (word_of sites end k) (omega arith) ∙ found_more reads last_part (word_of sites end k) v is
+  found_word k v is = past_clock (word_of sites end k) (omega arith) ∙ found_stays reads last_part (word_of sites end k) v is
 
   -- what is written is what the last part writes
   writes_of : (q : ℕ) → last_write all q None ≡ last_write last_part q None
@@ -89,7 +84,7 @@ module _ (sites end c stamp : ℕ) (places : ℕ → Option ℕ) (cells : ℕ �
 
   stays_written : (q v : ℕ) → 0 < q → last_write pub_ q None ≡ Some v → last_write all q None ≡ Some v
   stays_written q v big is =
-      writes_of q ∙ (last_write-append pub_ (Write 0 stamp ∷ []) q None ∙ (ap (λ b. cond b (Some stamp) (last_write pub_ q None)) (eqb_apart q 0 (omega (arith, big))) ∙ is))
+      writes_of q ∙ (last_write-append pub_ (Write 0 stamp ∷ []) q None ∙ (ap (λ b. cond b (Some stamp) (last_write pub_ q None)) (ne_eqb q 0 (omega (arith, big))) ∙ is))
 
   news_same : (k : ℕ) → Covers places 41 k → is_news sites end all k ≡ is_news sites end reads k
   news_same k cov = let v = r.words k cov in ap (λ o. has_bit o k) (found_word k v.0 v.1 ∙ sym v.1)
@@ -112,7 +107,7 @@ module _ (sites end c stamp : ℕ) (places : ℕ → Option ℕ) (cells : ℕ �
 
   -- the refresh does not ask for the other end's words
   unasked : (k : ℕ) → Covers places 41 k → found_value reads (word_of sites (1 - end) k) ≡ None
-  unasked k cov = none_or (found_value reads (word_of sites (1 - end) k)) (λ v is.
+  unasked k cov = none_from (found_value reads (word_of sites (1 - end) k)) (λ v is.
       let a = r.only (word_of sites (1 - end) k) v is in
       let lt = low a.0 a.1 in
       let high = word_high (1 - end) k in
@@ -127,7 +122,7 @@ module _ (sites end c stamp : ℕ) (places : ℕ → Option ℕ) (cells : ℕ �
       record {
         first = o.first;
         last = o.last;
-        found = past_clock q (omega arith) ∙ (found_new reads last_part q r.silent (unasked k cov) ∙ found_more pub_ (Write 0 stamp ∷ []) q o.first o.found);
+        found = past_clock q (omega arith) ∙ (found_new reads last_part q r.silent (unasked k cov) ∙ found_stays pub_ (Write 0 stamp ∷ []) q o.first o.found);
         written = stays_written q o.last (omega arith) o.written;
         marked = o.marked;
         kept = o.kept;
@@ -147,7 +142,7 @@ module _ (sites end c stamp : ℕ) (places : ℕ → Option ℕ) (cells : ℕ �
   no_word q k b j lt on is = let high = word_high b j in ⊎_elim (λ (e : q ≡ 1 + 2 * k). omega (arith, e, is, high, lt)) (λ (e : q ≡ 2 + 2 * k). omega (arith, e, is, high, lt)) on
 
   cell_read : (q k : ℕ) → k < sites → OnCell q k → is_read all q ≡ true → Covers places 41 k × (is_news sites end all k ≡ true)
-  cell_read q k lt on is = ⊎_elim by_reads by_last (read_in reads last_part q (sym (ap (λ b. cond b true (is_read (reads ++ last_part) q)) (eqb_apart q 0 (let p = not_zero q k on in omega (arith, p)))) ∙ is))
+  cell_read q k lt on is = ⊎_elim by_reads by_last (read_in reads last_part q (sym (ap (λ b. cond b true (is_read (reads ++ last_part) q)) (ne_eqb q 0 (let p = not_zero q k on in omega (arith, p)))) ∙ is))
     where
       by_reads : is_read reads q ≡ true → Covers places 41 k × (is_news sites end all k ≡ true)
       by_reads f = let v = read_is_found reads q r.silent f in let a = r.only q v.0 v.1 in
@@ -167,7 +162,7 @@ module _ (sites end c stamp : ℕ) (places : ℕ → Option ℕ) (cells : ℕ �
     mine = my_word known h g;
     theirs = their_word;
     finds = λ k cov news. let f = r.cells k cov (sym (news_same k cov) ∙ news) in
-        (f.0, f.1, past_clock (1 + 2 * k) (omega arith) ∙ found_more reads last_part (1 + 2 * k) f.0 f.2, past_clock (2 + 2 * k) (omega arith) ∙ found_more reads last_part (2 + 2 * k) f.1 f.3);
+        (f.0, f.1, past_clock (1 + 2 * k) (omega arith) ∙ found_stays reads last_part (1 + 2 * k) f.0 f.2, past_clock (2 + 2 * k) (omega arith) ∙ found_stays reads last_part (2 + 2 * k) f.1 f.3);
     reads_only = λ k lt f. ⊎_elim (λ a. cell_read (1 + 2 * k) k lt (inl refl) a) (λ a. cell_read (2 + 2 * k) k lt (inr refl) a) f;
     leaves = λ n k lt at. let d = w.cells_put n k lt at in (d.0, d.1, stays_written (1 + 2 * k) d.0 (omega arith) d.2, stays_written (2 + 2 * k) d.1 (omega arith) d.3, d.4);
     spares = λ q v is. ⊎_elim
@@ -184,14 +179,14 @@ module _ (sites end c stamp : ℕ) (places : ℕ → Option ℕ) (cells : ℕ �
           go false is f = absurd (none-some v f)
 
   -- the window's cells were seen before the event was written
-  pub seen_all : (n : ℕ) → n < 41 → seen sites end all (places n) ≡ seen sites end first_part (places n)
+  pub seen_all : (n : ℕ) → n < 41 → found_cell sites end all (places n) ≡ found_cell sites end first_part (places n)
   seen_all n lt = go (places n) refl
     where
       head_word : (k : ℕ) → found_value first_part (word_of sites end k) ≡ found_value reads (word_of sites end k)
-      head_word k = ap (λ b. cond b (Some c) (found_value reads (word_of sites end k))) (eqb_apart (word_of sites end k) 0 (omega arith))
+      head_word k = ap (λ b. cond b (Some c) (found_value reads (word_of sites end k))) (ne_eqb (word_of sites end k) 0 (omega arith))
 
       head_cell : (q : ℕ) → 0 < q → found_value first_part q ≡ found_value reads q
-      head_cell q big = ap (λ b. cond b (Some c) (found_value reads q)) (eqb_apart q 0 (omega (arith, big)))
+      head_cell q big = ap (λ b. cond b (Some c) (found_value reads q)) (ne_eqb q 0 (omega (arith, big)))
 
       of_news : (k : ℕ) → Covers places 41 k → (b : Bool) → is_news sites end reads k ≡ b
           → cond b (cell_in (found_value all (1 + 2 * k)) (found_value all (2 + 2 * k))) None ≡ cond b (cell_in (found_value first_part (1 + 2 * k)) (found_value first_part (2 + 2 * k))) None
@@ -199,9 +194,9 @@ module _ (sites end c stamp : ℕ) (places : ℕ → Option ℕ) (cells : ℕ �
       of_news k cov true is = let f = r.cells k cov is in (λ i. cell_in (same (1 + 2 * k) f.0 (omega arith) f.2 i) (same (2 + 2 * k) f.1 (omega arith) f.3 i))
         where
           same : (q v : ℕ) → 0 < q → found_value reads q ≡ Some v → found_value all q ≡ found_value first_part q
-          same q v big is = past_clock q big ∙ (found_more reads last_part q v is ∙ (sym is ∙ sym (head_cell q big)))
+          same q v big is = past_clock q big ∙ (found_stays reads last_part q v is ∙ (sym is ∙ sym (head_cell q big)))
 
-      go : (o : Option ℕ) → places n ≡ o → seen sites end all o ≡ seen sites end first_part o
+      go : (o : Option ℕ) → places n ≡ o → found_cell sites end all o ≡ found_cell sites end first_part o
       go None at = refl
       go (Some k) at =
           let cov : Covers places 41 k = (n, lt, at) in

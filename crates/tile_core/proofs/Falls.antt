@@ -12,19 +12,8 @@ use Rattle.tile_core.specs.declared.phase.Phase.{Phase}
 use Rattle.tile_core.specs.declared.phase.Phase.TheVariants.{Draw, Lock, Refresh, Behave, Write, Give, Back, Finished, Worn}
 use Rattle.tile_core.specs.Values.{TileValue}
 use Rattle.tile_core.specs.Underway.{IsUnderway}
-use Rattle.tile_core.specs.Steps.{StepsIn, WearsOut, Renews, over, is_over, next_edge, refused_phase, written_phase, got, tried, refused, freed, noted}
+use Rattle.tile_core.specs.Steps.{StepsIn, WearsOut, Renews, over, is_over, next_edge, refused_phase, written_phase, got, tried, refused, freed, noted, steps_in}
 use Rattle.tile_core.proofs.Laws.{lock_lt, give_lt, back_lt}
-
-abbrev steps_in : TileValue → Phase → ℕ
-steps_in tile Draw = 0
-steps_in tile Lock = 40 + (length tile.needs - tile.next)
-steps_in tile Refresh = 30
-steps_in tile Behave = 29
-steps_in tile Write = 28
-steps_in tile Give = 1 + (length tile.needs - tile.next)
-steps_in tile Back = 1 + (tile.count - tile.next)
-steps_in tile Finished = 0
-steps_in tile Worn = 0
 
 -- how many steps the attempt in hand takes at most
 abbrev pub steps_left : TileValue → ℕ

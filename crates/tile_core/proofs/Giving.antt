@@ -11,8 +11,8 @@ use Rattle.tile_map.specs.Plane.{Site, MapValue}
 use Rattle.tile_map.specs.Edges.{has_end}
 use Rattle.edge_lock.specs.EndLists.{EndLists, IsHeld, HasNoWrite, after_give, replace_at}
 use Rattle.border_cache.proofs.Needs.{has_at}
-use Rattle.tile_core.specs.Turns.{before, Turn, Wins, Loses, Wears, edges_of, AreTurns, Wearless}
-use Rattle.tile_core.specs.Underway.{IsGiving, IsOver, IsBack}
+use Rattle.tile_core.specs.Turns.{before, Turn, Wins, Loses, Wears, turn_edges, AreTurns, Wearless}
+use Rattle.tile_core.specs.Underway.{IsGiving, AreTurnsOver, IsBack}
 use Rattle.tile_core.proofs.Lists.{here_held, here_quiet, gave_left, all_left, given_of}
 
 -- the edges before the one at n are the first n
@@ -55,11 +55,11 @@ module _ (m : MapValue) (t n e : ℕ) (edges : List ℕ) (a b : ℕ → EndLists
   giving_quiet meaning start (Wins w ∷ older) u k g = absurd k
   giving_quiet meaning start (Wears w ∷ older) u k g = absurd k
   giving_quiet meaning start (Loses l ∷ older) u k g =
-      let there : has e (edges_of m t (Loses l)) ≡ true = ap (has e) (sym g.0) ∙ (ap (λ d. has d edges) at ∙ has_at n edges lt) in
+      let there : has e (turn_edges m t (Loses l)) ≡ true = ap (has e) (sym g.0) ∙ (ap (λ d. has d edges) at ∙ has_at n edges lt) in
       here_quiet m t n e (Loses l) older edges a b rise lt at mine g.0 g.1 (u.0.given e there).1
 
 pub gave_all : (m : MapValue) (meaning : WindowValue → ℕ → WindowValue) (start : Site → AtomValue) (t n : ℕ) (edges : List ℕ) (a : ℕ → EndLists) (turns : List Turn) → AreTurns m meaning start t turns → Wearless turns
-    → length edges ≤ n → IsGiving m t turns edges n a → IsOver m t turns a
+    → length edges ≤ n → IsGiving m t turns edges n a → AreTurnsOver m t turns a
 gave_all m meaning start t n edges a [] u w le g = absurd g
 gave_all m meaning start t n edges a (x ∷ older) u w le g = all_left m t x older edges a g.0 (λ d h. (given_of m meaning start t x older u.0 w d h).closed) n le g.1
 

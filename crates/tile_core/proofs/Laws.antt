@@ -21,8 +21,8 @@ use Rattle.border_cache.proofs.Stored.{joined_end}
 use Rattle.tile_core.specs.declared.phase.Phase.{Phase}
 use Rattle.tile_core.specs.declared.phase.Phase.TheVariants.{Draw, Lock, Refresh, Give, Back}
 use Rattle.tile_core.specs.Values.{TileValue, centre}
-use Rattle.tile_core.specs.Turns.{before, Turn, Loses, Lost, edges_of, AgreeOnEdges, lists_of, lists_left, with_more, IsLost, IsAttempt}
-use Rattle.tile_core.specs.Underway.{Onward, IsUnderway, InPhase, IsDrawn, IsGiving, IsOver, HasOpen, no_access, still, is_refreshed, AreNeeds}
+use Rattle.tile_core.specs.Turns.{before, Turn, Loses, Lost, turn_edges, AgreeOnEdges, lists_of, lists_left, with_more, IsLost, IsNthAttempt}
+use Rattle.tile_core.specs.Underway.{Onward, IsUnderway, InPhase, IsDrawn, IsGiving, AreTurnsOver, HasOpen, no_access, still, is_refreshed, AreNeeds}
 use Rattle.tile_core.specs.Steps.{over, begun, refused_phase, Draws, Tries, Frees, next_edge, refused_entry, refused, got, tried, freed}
 use Rattle.tile_core.proofs.Lists.{here_free, free_of, new_of, got_open, busy_left, all_left}
 use Rattle.tile_core.proofs.Giving.{before_take, has_place, rises_take, giving_held, gave_on, gave_all, giving_quiet}
@@ -44,7 +44,7 @@ needs_of_tile m plane t c lt = record {
 
 module _ (m : MapValue) (meaning : WindowValue → ℕ → WindowValue) (start : Site → AtomValue) (attempts : List Attempt) where
   -- the attempt is over
-  pub over_hand : (turns : List Turn) (tile : TileValue) (lists : ℕ → EndLists) → tile.taken ≡ length turns → IsOver m tile.number turns lists → InPhase m meaning start attempts turns tile lists (over tile.left)
+  pub over_hand : (turns : List Turn) (tile : TileValue) (lists : ℕ → EndLists) → tile.taken ≡ length turns → AreTurnsOver m tile.number turns lists → InPhase m meaning start attempts turns tile lists (over tile.left)
   over_hand turns tile lists taken ends = go tile.left refl
     where
       go : (left : List Attempt) → tile.left ≡ left → InPhase m meaning start attempts turns tile lists (over left)
@@ -85,7 +85,7 @@ module _ (m : MapValue) (meaning : WindowValue → ℕ → WindowValue) (start :
       abbrev after : Phase → TileValue
       after p = record tile { left = d.rest; taken = tile.taken + 1; x = new.x; y = new.y; seed = d.attempt.seed; needs = needs_of m t c; next = 0; phase = p }
 
-      made : IsAttempt m t attempts (length u.turns) c d.attempt.seed
+      made : IsNthAttempt m t attempts (length u.turns) c d.attempt.seed
       made = record { attempt = d.attempt; is = ap (slice_get attempts) (sym drawing.0) ∙ taken_here.0; site_is = d.begins.site_is; seed_is = refl }
 
       drawn : (p : Phase) → IsDrawn m attempts u.turns (after p)
@@ -98,9 +98,9 @@ module _ (m : MapValue) (meaning : WindowValue → ℕ → WindowValue) (start :
       begin [] none = (drawn Refresh, subst (λ es. HasOpen m t (length u.turns) u.turns es no_access a) (sym none) open_none)
       begin (f ∷ fs) some = (drawn Lock, subst (λ es. 0 < length es) (sym some) (omega arith), open_none)
 
-      calm : (es : List ℕ) → is_refreshed (begun es) ≡ false
-      calm [] = refl
-      calm (f ∷ fs) = refl
+      begun_unrefreshed : (es : List ℕ) → is_refreshed (begun es) ≡ false
+      begun_unrefreshed [] = refl
+      begun_unrefreshed (f ∷ fs) = refl
 
       draws_on : Next (after (begun (needs_of m t c))) a
       draws_on = (
@@ -209,7 +209,7 @@ module _ (m : MapValue) (meaning : WindowValue → ℕ → WindowValue) (start :
         abbrev lost : ℕ → Lost
         lost j = record { gone = refused_entry m tile e j; hold = λ d. hold_of (end_at m t d) (length u.turns) [] false }
 
-        edges_before : (j : ℕ) → edges_of m t (Loses (lost j)) ≡ take tile.next tile.needs
+        edges_before : (j : ℕ) → turn_edges m t (Loses (lost j)) ≡ take tile.next tile.needs
         edges_before j = ap (before e) (sym locking.0.needs) ∙ before_take tile.next tile.needs locking.1 (rises tile.needs u.needs.rising)
 
         needed : has e (needs_of m t (centre tile)) ≡ true

@@ -1,15 +1,16 @@
 -- The lists of an end while an attempt is in hand.
-use Rattle.std.proofs.Common.{◌≡◌, ◌≢◌, ℕ, ◌+◌, ◌<◌, ◌≤◌, eqb, Bool, true, false, cond, List, [], ◌∷◌, ◌++◌, length, get_or, take, refl, sym, ap, ◌∙◌, subst, arith}
+use Rattle.std.proofs.Common.{◌≡◌, ℕ, ◌+◌, ◌<◌, ◌≤◌, eqb, Bool, true, false, cond, List, [], ◌∷◌, ◌++◌, length, get_or, take, refl, sym, ap, ◌∙◌, subst, arith}
 use Rattle.std.specs.Prelude.{if◌then◌else◌, ◌==◌, ◌&&◌, not, All}
 use Rattle.std.proofs.lemmas.List.{take_all, append-nil}
 use Rattle.std.proofs.lemmas.List.Elements.{All-push}
+use Rattle.std.proofs.lemmas.Bool.{eqb-false}
 use Rattle.bit_field.specs.Atom.{AtomValue}
 use Rattle.window_sites.specs.Window.{WindowValue}
 use Rattle.edge_lock.specs.declared.board.Take.TheVariants.{Got, Busy}
 use Rattle.edge_lock.specs.declared.history.Access.{Access}
 use Rattle.edge_lock.specs.declared.history.Hold.{Hold}
 use Rattle.edge_lock.specs.declared.history.Refusal.{Refusal}
-use Rattle.edge_lock.specs.EndLists.{EndLists, end_lists, hold_of, closed_hold, refusal_of, is_held, writes_nothing, HasNoWrite, IsHeld, IsFree, IsNew, IsHoldBelow, IsRefusalBelow, after_try, after_give, replace_at}
+use Rattle.edge_lock.specs.EndLists.{EndLists, end_lists, hold_of, closed_hold, refusal_of, is_last_open, writes_nothing, HasNoWrite, IsHeld, IsFree, IsNew, IsHoldBelow, IsRefusalBelow, after_try, after_give, replace_at}
 use Rattle.edge_lock.proofs.LastHolds.{is_held-snoc, last_accesses-snoc, change_last-snoc}
 use Rattle.edge_lock.proofs.BoardLaws.{here_after, else_after}
 use Rattle.tile_map.specs.Plane.{Site, MapValue}
@@ -18,7 +19,7 @@ use Rattle.border_cache.specs.Accesses.{after_all, with_all}
 use Rattle.border_cache.specs.Windows.{has, end_at, AddsAll}
 use Rattle.border_cache.proofs.Runs.{after_none as after_nothing}
 use Rattle.border_cache.proofs.Needs.{Rises, has_more, has_at, not_yet}
-use Rattle.tile_core.specs.Turns.{Lost, Turn, Wins, Loses, Wears, edges_of, hold_at, refusals_at, as_open, one_if, with_more, AgreeOnEdges, lists_of, lists_left, IsTurn, AreTurns, Wearless, IsGiven}
+use Rattle.tile_core.specs.Turns.{Lost, Turn, Wins, Loses, Wears, turn_edges, hold_at, refusals_at, as_open, one_if, with_more, AgreeOnEdges, lists_of, lists_left, IsTurn, AreTurns, Wearless, IsGiven}
 use Rattle.tile_core.specs.Underway.{HasOpen, no_access, still}
 
 -- all that was noted is over: no hold is open, and the attempts are below the number of turns
@@ -27,7 +28,7 @@ no_more l = λ i. end_lists (append-nil l.holds i) (append-nil l.refusals i)
 
 free_more : (b : Bool) (h : Hold) (rs : List Refusal) (l : EndLists) → (b ≡ true → h.is_open ≡ false) → IsFree l → IsFree (with_more (one_if b h) rs l)
 free_more true h rs l shut f = is_held-snoc l.holds h ∙ shut refl
-free_more false h rs l shut f = ap is_held (append-nil l.holds) ∙ f
+free_more false h rs l shut f = ap is_last_open (append-nil l.holds) ∙ f
 
 below_more : (n : ℕ) (b : Bool) (h : Hold) (hs : List Hold) → All (IsHoldBelow n) hs → (b ≡ true → h.attempt < n) → All (IsHoldBelow n) (hs ++ one_if b h)
 below_more n true h hs a lt = All-push (IsHoldBelow n) hs h a (lt refl)
@@ -46,7 +47,7 @@ module _ (m : MapValue) (meaning : WindowValue → ℕ → WindowValue) (start :
   abbrev Good : List Turn → Type 0
   Good turns = AreTurns m meaning start t turns × Wearless turns
 
-  pub given_of : (x : Turn) (xs : List Turn) → IsTurn m meaning start t xs x → Wearless (x ∷ xs) → (e : ℕ) → has e (edges_of m t x) ≡ true → IsGiven m t e (length xs) (hold_at x e)
+  pub given_of : (x : Turn) (xs : List Turn) → IsTurn m meaning start t xs x → Wearless (x ∷ xs) → (e : ℕ) → has e (turn_edges m t x) ≡ true → IsGiven m t e (length xs) (hold_at x e)
   given_of (Wins w) xs i u e h = i.given e h
   given_of (Loses l) xs i u e h = (i.given e h).0
   given_of (Wears w) xs i u e h = absurd u
@@ -58,7 +59,7 @@ module _ (m : MapValue) (meaning : WindowValue → ℕ → WindowValue) (start :
 
   pub free_of : (turns : List Turn) (e : ℕ) → AreTurns m meaning start t turns → Wearless turns → IsFree (lists_of m t turns e)
   free_of [] e a u = refl
-  free_of (x ∷ xs) e a u = free_more (has e (edges_of m t x)) (hold_at x e) (refusals_at x e) (lists_of m t xs e) (λ h. (given_of x xs a.0 u e h).closed) (free_of xs e a.2 (rest_unworn x xs u))
+  free_of (x ∷ xs) e a u = free_more (has e (turn_edges m t x)) (hold_at x e) (refusals_at x e) (lists_of m t xs e) (λ h. (given_of x xs a.0 u e h).closed) (free_of xs e a.2 (rest_unworn x xs u))
 
   lost_attempt : (x : Turn) (xs : List Turn) → IsTurn m meaning start t xs x → (l : Lost) → x ≡ Loses l → l.gone.attempt ≡ length xs
   lost_attempt (Wins w) xs i l e = absurd (cc e)
@@ -75,7 +76,7 @@ module _ (m : MapValue) (meaning : WindowValue → ℕ → WindowValue) (start :
   new_of (x ∷ xs) e n le a u =
       let r = new_of xs e n (omega (arith, le)) a.2 (rest_unworn x xs u) in
       record {
-        holds = below_more n (has e (edges_of m t x)) (hold_at x e) (lists_of m t xs e).holds r.holds (λ h. let q = (given_of x xs a.0 u e h).attempt_is in omega (arith, q, le));
+        holds = below_more n (has e (turn_edges m t x)) (hold_at x e) (lists_of m t xs e).holds r.holds (λ h. let q = (given_of x xs a.0 u e h).attempt_is in omega (arith, q, le));
         refusals = refused_more n x e (lists_of m t xs e).refusals r.refusals (λ l is. let q = lost_attempt x xs a.0 l is in omega (arith, q, le));
       }
 
@@ -92,11 +93,8 @@ give_more h rs l = ap (λ hs. end_lists hs (l.refusals ++ rs)) (change_last-snoc
 pub same_closed : (h : Hold) → h.is_open ≡ false → as_open false h ≡ h
 same_closed h is = λ i. hold_of h.end h.attempt h.accesses (sym is i)
 
-eqb_of : (d e : ℕ) → eqb d e ≡ true → e ≡ d
+pub eqb_of : (d e : ℕ) → eqb d e ≡ true → e ≡ d
 eqb_of d e is = grind (arith, is)
-
-eqb_not : (d e : ℕ) → eqb d e ≡ false → d ≢ e
-eqb_not d e is = grind (arith, is)
 
 -- the lock phase
 module _ (m : MapValue) (t i n e : ℕ) (turns : List Turn) (needs : List ℕ) (a b : ℕ → EndLists) (rise : Rises needs) (lt : n < length needs) (at : e ≡ get_or needs n 0)
@@ -122,10 +120,10 @@ module _ (m : MapValue) (t i n e : ℕ) (turns : List Turn) (needs : List ℕ) (
           let here : b e ≡ with_more (hold_of (end_at m t e) i [] true ∷ []) [] (lists_of m t turns e) =
           here_after a b e (after_try k i Got (a e)) is ∙ ((λ j. after_try (end j) i Got (here_free j)) ∙ ap (λ rs. end_lists ((lists_of m t turns e).holds ++ hold_of (end_at m t e) i [] true ∷ []) rs) (sym (append-nil (lists_of m t turns e).refusals))) in
           subst (λ x. b x ≡ with_more (hold_of (end_at m t x) i [] true ∷ []) [] (lists_of m t turns x)) same here ∙ ap aim (sym (more ∙ ap (λ x. if x then true else has d (take n needs)) q))
-      go false q = else_after a b e d (after_try k i Got (a e)) is (eqb_not d e q) ∙ (had d own ∙ ap aim (sym (more ∙ ap (λ x. if x then true else has d (take n needs)) q)))
+      go false q = else_after a b e d (after_try k i Got (a e)) is (eqb-false d e q) ∙ (had d own ∙ ap aim (sym (more ∙ ap (λ x. if x then true else has d (take n needs)) q)))
 
   -- the attempt is abandoned
-  pub busy_left : (k j : ℕ) (l : Lost) → l.gone.edge ≡ e → l.gone.attempt ≡ i → l.gone.holder_attempt ≡ j → edges_of m t (Loses l) ≡ take n needs → ((d : ℕ) → l.hold d ≡ hold_of (end_at m t d) i [] false)
+  pub busy_left : (k j : ℕ) (l : Lost) → l.gone.edge ≡ e → l.gone.attempt ≡ i → l.gone.holder_attempt ≡ j → turn_edges m t (Loses l) ≡ take n needs → ((d : ℕ) → l.hold d ≡ hold_of (end_at m t d) i [] false)
       → b ≡ replace_at a e (after_try k i (Busy j) (a e)) → AgreeOnEdges m t b (lists_left m t (still (take n needs) 0) (Loses l) turns)
   busy_left k j l edge attempt holder edges holds is d own = go (eqb d e) refl
     where
@@ -150,12 +148,12 @@ module _ (m : MapValue) (t i n e : ℕ) (turns : List Turn) (needs : List ℕ) (
           here_after a b e (after_try k i (Busy j) (a e)) is ∙ (ap (after_try k i (Busy j)) here_free ∙ ap (λ hs. end_lists hs (past.refusals ++ refusal_of i j ∷ [])) (sym (append-nil past.holds))) in
           subst (λ x. b x ≡ with_more [] (refusal_of i j ∷ []) (lists_of m t turns x)) same here
           ∙ sym (whole false (ap (λ x. has x (take n needs)) (sym same) ∙ fresh) (refusal_of i j ∷ []) (refused true q))
-      go false q = else_after a b e d (after_try k i (Busy j) (a e)) is (eqb_not d e q) ∙ (had d own ∙ (open_is (has d (take n needs)) ∙ sym (whole (has d (take n needs)) refl [] (refused false q))))
+      go false q = else_after a b e d (after_try k i (Busy j) (a e)) is (eqb-false d e q) ∙ (had d own ∙ (open_is (has d (take n needs)) ∙ sym (whole (has d (take n needs)) refl [] (refused false q))))
 
 -- giving back
 module _ (m : MapValue) (t n e : ℕ) (x : Turn) (older : List Turn) (edges : List ℕ) (a b : ℕ → EndLists) (rise : Rises edges) (lt : n < length edges) (at : e ≡ get_or edges n 0)
-    (mine : has_end m t e ≡ true) (same : edges ≡ edges_of m t x) (left : AgreeOnEdges m t a (lists_left m t (still edges n) x older)) where
-  is_there : has e (edges_of m t x) ≡ true
+    (mine : has_end m t e ≡ true) (same : edges ≡ turn_edges m t x) (left : AgreeOnEdges m t a (lists_left m t (still edges n) x older)) where
+  is_there : has e (turn_edges m t x) ≡ true
   is_there = ap (has e) (sym same) ∙ (ap (λ d. has d edges) at ∙ has_at n edges lt)
 
   is_still : still edges n e ≡ true
@@ -177,7 +175,7 @@ module _ (m : MapValue) (t n e : ℕ) (x : Turn) (older : List Turn) (edges : Li
       more = has_more d n edges lt ∙ ap (λ x. if d == x then true else has d (take n edges)) (sym at)
 
       aim : Bool → EndLists
-      aim y = with_more (one_if (has d (edges_of m t x)) (as_open (has d edges && not y) (hold_at x d))) (refusals_at x d) (lists_of m t older d)
+      aim y = with_more (one_if (has d (turn_edges m t x)) (as_open (has d edges && not y) (hold_at x d))) (refusals_at x d) (lists_of m t older d)
 
       shut : (y : Bool) → (y && not true) ≡ false
       shut true = refl
@@ -188,25 +186,25 @@ module _ (m : MapValue) (t n e : ℕ) (x : Turn) (older : List Turn) (edges : Li
           let e_is_d : e ≡ d = eqb_of d e q in
           let here : b e ≡ with_more (as_open false (hold_at x e) ∷ []) (refusals_at x e) (lists_of m t older e) =
           here_after a b e (after_give (a e)) is ∙ (ap after_give here_open ∙ give_more (hold_at x e) (refusals_at x e) (lists_of m t older e)) in
-          let there : has d (edges_of m t x) ≡ true = subst (λ k. has k (edges_of m t x) ≡ true) e_is_d is_there in
+          let there : has d (turn_edges m t x) ≡ true = subst (λ k. has k (turn_edges m t x) ≡ true) e_is_d is_there in
           subst (λ k. b k ≡ with_more (as_open false (hold_at x k) ∷ []) (refusals_at x k) (lists_of m t older k)) e_is_d here
           ∙ ((λ z. with_more (one_if (sym there z) (as_open (sym (shut (has d edges)) z) (hold_at x d))) (refusals_at x d) (lists_of m t older d))
           ∙ ap aim (sym (more ∙ ap (λ y. if y then true else has d (take n edges)) q)))
-      go false q = else_after a b e d (after_give (a e)) is (eqb_not d e q) ∙ (left d own ∙ ap aim (sym (more ∙ ap (λ y. if y then true else has d (take n edges)) q)))
+      go false q = else_after a b e d (after_give (a e)) is (eqb-false d e q) ∙ (left d own ∙ ap aim (sym (more ∙ ap (λ y. if y then true else has d (take n edges)) q)))
 
 -- all were given back
-pub all_left : (m : MapValue) (t : ℕ) (x : Turn) (older : List Turn) (edges : List ℕ) (a : ℕ → EndLists) → edges ≡ edges_of m t x → ((d : ℕ) → has d (edges_of m t x) ≡ true → (hold_at x d).is_open ≡ false)
+pub all_left : (m : MapValue) (t : ℕ) (x : Turn) (older : List Turn) (edges : List ℕ) (a : ℕ → EndLists) → edges ≡ turn_edges m t x → ((d : ℕ) → has d (turn_edges m t x) ≡ true → (hold_at x d).is_open ≡ false)
     → (n : ℕ) → length edges ≤ n → AgreeOnEdges m t a (lists_left m t (still edges n) x older) → AgreeOnEdges m t a (lists_of m t (x ∷ older))
 all_left m t x older edges a same closed n le left d own =
-    left d own ∙ (ap (λ es. with_more (one_if (has d (edges_of m t x)) (as_open (has d edges && not (has d es)) (hold_at x d))) (refusals_at x d) (lists_of m t older d)) (take_all n edges le)
-    ∙ (ap (λ y. with_more (one_if (has d (edges_of m t x)) (as_open y (hold_at x d))) (refusals_at x d) (lists_of m t older d)) (None (has d edges))
-    ∙ go (has d (edges_of m t x)) refl))
+    left d own ∙ (ap (λ es. with_more (one_if (has d (turn_edges m t x)) (as_open (has d edges && not (has d es)) (hold_at x d))) (refusals_at x d) (lists_of m t older d)) (take_all n edges le)
+    ∙ (ap (λ y. with_more (one_if (has d (turn_edges m t x)) (as_open y (hold_at x d))) (refusals_at x d) (lists_of m t older d)) (None (has d edges))
+    ∙ go (has d (turn_edges m t x)) refl))
   where
     None : (y : Bool) → (y && not y) ≡ false
     None true = refl
     None false = refl
 
-    go : (y : Bool) → has d (edges_of m t x) ≡ y → with_more (one_if y (as_open false (hold_at x d))) (refusals_at x d) (lists_of m t older d) ≡ with_more (one_if y (hold_at x d)) (refusals_at x d) (lists_of m t older d)
+    go : (y : Bool) → has d (turn_edges m t x) ≡ y → with_more (one_if y (as_open false (hold_at x d))) (refusals_at x d) (lists_of m t older d) ≡ with_more (one_if y (hold_at x d)) (refusals_at x d) (lists_of m t older d)
     go true q = ap (λ h. with_more (h ∷ []) (refusals_at x d) (lists_of m t older d)) (same_closed (hold_at x d) (closed d q))
     go false q = refl
 

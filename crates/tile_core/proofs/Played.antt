@@ -1,10 +1,11 @@
 -- What is over is played, and the entries of the turns make a log.
 use Rattle.std.proofs.Common.{◌≡◌, ℕ, zero, suc, ◌<◌, ◌≤◌, Bool, true, List, [], ◌∷◌, length, take, refl, sym, ap, ◌∙◌, subst, arith}
-use Rattle.std.specs.Prelude.{drop, slice_get, max, All, AllPairs}
+use Rattle.std.specs.Prelude.{max, All, AllPairs}
 use Rattle.std.proofs.lemmas.List.{take_all}
 use Rattle.std.proofs.lemmas.List.Elements.{All-push}
 use Rattle.std.proofs.lemmas.List.Quantifiers.{all_pairs_push}
 use Rattle.std.proofs.lemmas.Option.{slice_get_within}
+use Rattle.list_laws.proofs.Slots.{get_take, drop_none}
 use Rattle.bit_field.specs.Atom.{AtomValue}
 use Rattle.window_sites.specs.Window.{WindowValue}
 use Rattle.tile_map.specs.Plane.{Site, MapValue}
@@ -12,35 +13,22 @@ use Rattle.tile_map.specs.Edges.{needs_of}
 use Rattle.cell_grid.specs.declared.record.Record.{Record}
 use Rattle.draw_stream.specs.declared.attempt.Attempt.{Attempt}
 use Rattle.event_journal.specs.declared.abandoned.Abandoned.{Abandoned}
-use Rattle.event_journal.specs.Logs.{Follows, IsLog, log_of}
+use Rattle.event_journal.specs.Logs.{RisesTo, IsLog, log_of}
 use Rattle.edge_lock.specs.History.{found_value}
 use Rattle.edge_lock.specs.EndLists.{EndLists, hold_of, writes_nothing}
 use Rattle.border_cache.specs.Windows.{has, end_at}
 use Rattle.tile_core.specs.declared.phase.Phase.TheVariants.{Draw, Finished, Worn as WornPhase}
 use Rattle.tile_core.specs.Values.{TileValue, centre, event_site, given_up_site}
-use Rattle.tile_core.specs.Turns.{Turn, Wins, Loses, Wears, Worn, AreTurns, IsAttempt, IsAttemptOf, AreAttempts, IsWorn, HasPlayed, accesses_at, AgreeOnEdges, lists_of, with_more, one_if, stamp_of, clock_in, greatest, records_of, abandoned_of}
+use Rattle.tile_core.specs.Turns.{Turn, Wins, Loses, Wears, Worn, AreTurns, IsNthAttempt, IsAttemptOf, AreAttempts, IsWorn, HasPlayed, accesses_at, AgreeOnEdges, lists_of, with_more, one_if, stamp_of, clock_in, greatest, records_in_turns, abandoned_in_turns}
 use Rattle.tile_core.specs.Underway.{IsUnderway, InPhase, IsDrawn}
-
--- the first attempts of a list
-get_take : {A : Type 0} (k n : ℕ) (xs : List A) → k < n → slice_get (take n xs) k ≡ slice_get xs k
-get_take k zero xs lt = absurd (omega (arith, lt))
-get_take k (suc n) [] lt = refl
-get_take zero (suc n) (x ∷ xs) lt = refl
-get_take (suc k) (suc n) (x ∷ xs) lt = get_take k n xs (omega (arith, lt))
 
 length_take : {A : Type 0} (n : ℕ) (xs : List A) → n ≤ length xs → length (take n xs) ≡ n
 length_take zero xs le = refl
 length_take (suc n) [] le = absurd (omega (arith, le))
 length_take (suc n) (x ∷ xs) le = ap (λ k. suc k) (length_take n xs (omega (arith, le)))
 
-drop_empty : {A : Type 0} (n : ℕ) (xs : List A) → drop n xs ≡ [] → length xs ≤ n
-drop_empty zero [] h = omega arith
-drop_empty zero (x ∷ xs) h = absurd (cc h)
-drop_empty (suc n) [] h = omega arith
-drop_empty (suc n) (x ∷ xs) h = let le = drop_empty n xs h in omega (arith, le)
-
 module _ (m : MapValue) (t : ℕ) (attempts : List Attempt) where
-  attempt_within : (n k : ℕ) (s : Site) (seed : ℕ) → k < n → IsAttempt m t attempts k s seed → IsAttempt m t (take n attempts) k s seed
+  attempt_within : (n k : ℕ) (s : Site) (seed : ℕ) → k < n → IsNthAttempt m t attempts k s seed → IsNthAttempt m t (take n attempts) k s seed
   attempt_within n k s seed lt a = record { attempt = a.attempt; is = get_take k n attempts lt ∙ a.is; site_is = a.site_is; seed_is = a.seed_is }
 
   turn_within : (n k : ℕ) (x : Turn) → k < n → IsAttemptOf m t attempts k x → IsAttemptOf m t (take n attempts) k x
@@ -81,7 +69,7 @@ module _ (m : MapValue) (meaning : WindowValue → ℕ → WindowValue) (start :
   pub played_at_end : tile.phase ≡ Finished → HasPlayed m meaning start tile.number attempts tile.records tile.abandoned lists
   played_at_end is =
       let h = subst (InPhase m meaning start attempts u.turns tile lists) is u.hand in
-      let le = drop_empty tile.taken attempts (sym u.left ∙ h.1) in
+      let le = drop_none tile.taken attempts (sym u.left ∙ h.1) in
       subst (λ as_played. HasPlayed m meaning start tile.number as_played tile.records tile.abandoned lists) (take_all tile.taken attempts le) (with_turns tile.taken (sym h.0) h.2)
 
   -- a tile that is worn out has played the attempts that it drew, and the holds of the last are open
@@ -119,7 +107,7 @@ module _ (m : MapValue) (meaning : WindowValue → ℕ → WindowValue) (start :
       go e b q = ap (λ es. with_more (one_if (has e es) (worn.hold e)) [] (lists_of m tile.number u.turns e)) d.needs
 
 -- the greatest of some numbers is not below the first
-greatest_above : (n : ℕ) (f : ℕ → ℕ) (es : List ℕ) → n ≤ greatest n f es
+pub greatest_above : (n : ℕ) (f : ℕ → ℕ) (es : List ℕ) → n ≤ greatest n f es
 greatest_above n f [] = omega arith
 greatest_above n f (e ∷ es) = let le = greatest_above (max n (f e)) f es in grind (arith, le)
 
@@ -134,47 +122,47 @@ module _ (m : MapValue) (meaning : WindowValue → ℕ → WindowValue) (start :
   abbrev IsGivenUp : Abandoned → Type 0
   IsGivenUp a = a.tile ≡ t
 
-  record_tiles : (turns : List Turn) → AreTurns m meaning start t turns → All IsOfTile (records_of turns)
+  record_tiles : (turns : List Turn) → AreTurns m meaning start t turns → All IsOfTile (records_in_turns turns)
   record_tiles [] a = λ k d lt. absurd (omega (arith, lt))
-  record_tiles (Wins w ∷ xs) a = All-push IsOfTile (records_of xs) w.note (record_tiles xs a.2) a.0.tile
+  record_tiles (Wins w ∷ xs) a = All-push IsOfTile (records_in_turns xs) w.note (record_tiles xs a.2) a.0.tile
   record_tiles (Loses l ∷ xs) a = record_tiles xs a.2
   record_tiles (Wears w ∷ xs) a = record_tiles xs a.2
 
-  abandoned_tiles : (turns : List Turn) → AreTurns m meaning start t turns → All IsGivenUp (abandoned_of turns)
+  abandoned_tiles : (turns : List Turn) → AreTurns m meaning start t turns → All IsGivenUp (abandoned_in_turns turns)
   abandoned_tiles [] a = λ k d lt. absurd (omega (arith, lt))
   abandoned_tiles (Wins w ∷ xs) a = abandoned_tiles xs a.2
-  abandoned_tiles (Loses l ∷ xs) a = All-push IsGivenUp (abandoned_of xs) l.gone (abandoned_tiles xs a.2) a.0.tile
+  abandoned_tiles (Loses l ∷ xs) a = All-push IsGivenUp (abandoned_in_turns xs) l.gone (abandoned_tiles xs a.2) a.0.tile
   abandoned_tiles (Wears w ∷ xs) a = abandoned_tiles xs a.2
 
-  earlier : (turns : List Turn) → AreTurns m meaning start t turns → (n stamp : ℕ) → length turns ≤ n → stamp_of turns ≤ stamp → All (IsEarlier n stamp) (records_of turns)
+  earlier : (turns : List Turn) → AreTurns m meaning start t turns → (n stamp : ℕ) → length turns ≤ n → stamp_of turns ≤ stamp → All (IsEarlier n stamp) (records_in_turns turns)
   earlier [] a n stamp le up = λ k d lt. absurd (omega (arith, lt))
   earlier (Wins w ∷ xs) a n stamp le up =
       let above = greatest_above (stamp_of xs) (λ e. clock_in (accesses_at w e)) (needs_of m t (event_site w.note)) in
       let is = a.0.stamp in let number = a.0.attempt in
-      All-push (IsEarlier n stamp) (records_of xs) w.note (earlier xs a.2 n stamp (omega (arith, le)) (omega (arith, above, is, up))) (omega (arith, number, le), up)
+      All-push (IsEarlier n stamp) (records_in_turns xs) w.note (earlier xs a.2 n stamp (omega (arith, le)) (omega (arith, above, is, up))) (omega (arith, number, le), up)
   earlier (Loses l ∷ xs) a n stamp le up = earlier xs a.2 n stamp (omega (arith, le)) up
   earlier (Wears w ∷ xs) a n stamp le up = earlier xs a.2 n stamp (omega (arith, le)) up
 
-  refused_earlier : (turns : List Turn) → AreTurns m meaning start t turns → (n : ℕ) → length turns ≤ n → All (λ (g : Abandoned). g.attempt < n) (abandoned_of turns)
+  refused_earlier : (turns : List Turn) → AreTurns m meaning start t turns → (n : ℕ) → length turns ≤ n → All (λ (g : Abandoned). g.attempt < n) (abandoned_in_turns turns)
   refused_earlier [] a n le = λ k d lt. absurd (omega (arith, lt))
   refused_earlier (Wins w ∷ xs) a n le = refused_earlier xs a.2 n (omega (arith, le))
-  refused_earlier (Loses l ∷ xs) a n le = let number = a.0.attempt in All-push (λ (g : Abandoned). g.attempt < n) (abandoned_of xs) l.gone (refused_earlier xs a.2 n (omega (arith, le))) (omega (arith, number, le))
+  refused_earlier (Loses l ∷ xs) a n le = let number = a.0.attempt in All-push (λ (g : Abandoned). g.attempt < n) (abandoned_in_turns xs) l.gone (refused_earlier xs a.2 n (omega (arith, le))) (omega (arith, number, le))
   refused_earlier (Wears w ∷ xs) a n le = refused_earlier xs a.2 n (omega (arith, le))
 
-  records_rise : (turns : List Turn) → AreTurns m meaning start t turns → AllPairs Follows (records_of turns)
+  records_rise : (turns : List Turn) → AreTurns m meaning start t turns → AllPairs RisesTo (records_in_turns turns)
   records_rise [] a = λ j k d lt less. absurd (omega (arith, less))
   records_rise (Wins w ∷ xs) a =
       let above = greatest_above (stamp_of xs) (λ e. clock_in (accesses_at w e)) (needs_of m t (event_site w.note)) in
       let is = a.0.stamp in let number = a.0.attempt in
-      all_pairs_push Follows (records_of xs) w.note (records_rise xs a.2) (λ k d lt. let p = earlier xs a.2 (length xs) (stamp_of xs) (omega arith) (omega arith) k d lt in (omega (arith, p.0, number), omega (arith, p.1, is, above)))
+      all_pairs_push RisesTo (records_in_turns xs) w.note (records_rise xs a.2) (λ k d lt. let p = earlier xs a.2 (length xs) (stamp_of xs) (omega arith) (omega arith) k d lt in (omega (arith, p.0, number), omega (arith, p.1, is, above)))
   records_rise (Loses l ∷ xs) a = records_rise xs a.2
   records_rise (Wears w ∷ xs) a = records_rise xs a.2
 
-  abandoned_rise : (turns : List Turn) → AreTurns m meaning start t turns → AllPairs (λ (g h : Abandoned). g.attempt < h.attempt) (abandoned_of turns)
+  abandoned_rise : (turns : List Turn) → AreTurns m meaning start t turns → AllPairs (λ (g h : Abandoned). g.attempt < h.attempt) (abandoned_in_turns turns)
   abandoned_rise [] a = λ j k d lt less. absurd (omega (arith, less))
   abandoned_rise (Wins w ∷ xs) a = abandoned_rise xs a.2
   abandoned_rise (Loses l ∷ xs) a = let number = a.0.attempt in
-      all_pairs_push (λ (g h : Abandoned). g.attempt < h.attempt) (abandoned_of xs) l.gone (abandoned_rise xs a.2) (λ k d lt. let p = refused_earlier xs a.2 (length xs) (omega arith) k d lt in omega (arith, p, number))
+      all_pairs_push (λ (g h : Abandoned). g.attempt < h.attempt) (abandoned_in_turns xs) l.gone (abandoned_rise xs a.2) (λ k d lt. let p = refused_earlier xs a.2 (length xs) (omega arith) k d lt in omega (arith, p, number))
   abandoned_rise (Wears w ∷ xs) a = abandoned_rise xs a.2
 
 pub is_log : (m : MapValue) (meaning : WindowValue → ℕ → WindowValue) (start : Site → AtomValue) (attempts : List Attempt) (tile : TileValue) (lists : ℕ → EndLists) → IsUnderway m meaning start attempts tile lists → IsLog (log_of tile.number tile.records tile.abandoned)

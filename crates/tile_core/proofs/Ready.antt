@@ -1,5 +1,5 @@
 -- What the calls of a step ask, from what is underway.
-use Rattle.std.proofs.Common.{◌≡◌, ℕ, ◌-◌, ◌*◌, ◌<◌, true, List, [], ◌∷◌, length, sym, ◌∙◌, subst, arith, Some}
+use Rattle.std.proofs.Common.{◌≡◌, ℕ, ◌-◌, ◌*◌, ◌<◌, true, List, ◌∷◌, length, sym, ◌∙◌, subst, arith}
 use Rattle.std.specs.Prelude.{All, drop}
 use Rattle.std.specs.List.{range_with_len}
 use Rattle.std.proofs.lemmas.Option.{slice_get_within}
@@ -7,7 +7,6 @@ use Rattle.tile_map.specs.Plane.{Site, MapValue}
 use Rattle.tile_map.specs.Edges.{pairs_of, needs_of, is_needed, has_end}
 use Rattle.list_laws.proofs.Members.{In, in_get, filter_in, range_in}
 use Rattle.draw_stream.specs.declared.attempt.Attempt.{Attempt}
-use Rattle.draw_stream.specs.Plans.{TakesNext}
 use Rattle.edge_lock.specs.EndLists.{EndLists}
 use Rattle.edge_lock.specs.declared.history.Access.{Access}
 use Rattle.border_cache.specs.Windows.{has}
@@ -38,11 +37,6 @@ needs_known m t c e h =
 -- the attempt in hand is one of the first 1,000,000
 pub taken_few : (m : MapValue) (attempts : List Attempt) (turns : List Turn) (tile : TileValue) → IsDrawn m attempts turns tile → CanAttempt m tile.number attempts → tile.taken - 1 < 1000000
 taken_few m attempts turns tile d can = let lt = slice_get_within attempts (length turns) d.made.attempt d.made.is in let k = d.taken in let few = can.few in omega (arith, lt, k, few)
-
--- the first of the attempts that are left
-pub takes_first : (left rest : List Attempt) (a : Attempt) → TakesNext left (Some a) rest → left ≡ a ∷ rest
-takes_first [] rest a t = absurd (cc (t.0))
-takes_first (b ∷ others) rest a t = let e : a ≡ b = cc (t.0) in λ i. sym e i ∷ sym t.1 i
 
 pub next_centre : (m : MapValue) (t taken : ℕ) (attempts left rest : List Attempt) (a : Attempt) → CanAttempt m t attempts → left ≡ drop taken attempts → left ≡ a ∷ rest → (a.centre < m.w * m.h) × (taken < 1000000)
 next_centre m t taken attempts left rest a can is first =

@@ -1,7 +1,6 @@
 -- The step Refresh keeps a tile underway.
 use Rattle.std.proofs.Common.{inl, ◌≡◌, ℕ, ◌+◌, ◌*◌, ◌<◌, ◌≤◌, eqb, true, false, true≢false, cond, List, [], ◌∷◌, ◌++◌, length, get_or, refl, sym, ap, ◌∙◌, subst, arith, ⊎_elim, Option, Some, None}
 use Rattle.std.specs.Prelude.{All}
-use Rattle.std.proofs.lemmas.List.{get_or_default}
 use Rattle.bit_field.specs.Atom.{AtomValue}
 use Rattle.window_sites.specs.Window.{WindowValue}
 use Rattle.tile_map.specs.Plane.{Site, MapValue, in_window}
@@ -14,12 +13,11 @@ use Rattle.edge_lock.specs.History.{found_value}
 use Rattle.edge_lock.specs.EndLists.{EndLists, IsHeld, hold_of, known_value}
 use Rattle.border_cache.specs.Cells.{newest}
 use Rattle.border_cache.specs.Accesses.{IsHonest}
-use Rattle.border_cache.specs.News.{seen, has_bit, word_of, cell_in}
+use Rattle.border_cache.specs.News.{found_cell, has_bit, word_of, cell_in}
 use Rattle.border_cache.specs.Windows.{has, place_in, end_at, sites_on, seen_on}
 use Rattle.border_cache.specs.Copies.{CacheValue, held_cell}
 use Rattle.border_cache.proofs.Runs.{known_after, known_all, honest_append}
-use Rattle.border_cache.proofs.Needs.{has_at}
-use Rattle.border_cache.proofs.Stored.{centre_holds}
+use Rattle.border_cache.proofs.Stored.{centre_holds, has_get}
 use Rattle.tile_core.specs.declared.phase.Phase.TheVariants.{Refresh, Worn}
 use Rattle.tile_core.specs.Values.{TileValue, centre}
 use Rattle.tile_core.specs.Turns.{Turn, lists_of, with_more, one_if, own_cell, newest_at, clock_in, greatest, stamp_of, cells_of}
@@ -32,18 +30,15 @@ use Rattle.tile_core.proofs.Writes.{known_open, seen_same_on}
 use Rattle.tile_core.proofs.Copies.{Renewed, renewed}
 
 -- a read of the clock before shows nothing of the cells
-pub seen_clock : (sites end c : ℕ) (xs : List Access) (o : Option ℕ) → seen sites end (Read 0 c ∷ xs) o ≡ seen sites end xs o
+pub seen_clock : (sites end c : ℕ) (xs : List Access) (o : Option ℕ) → found_cell sites end (Read 0 c ∷ xs) o ≡ found_cell sites end xs o
 seen_clock sites end c xs None = refl
 seen_clock sites end c xs (Some k) =
     let skip : (q : ℕ) → 0 < q → found_value (Read 0 c ∷ xs) q ≡ found_value xs q = λ q big. (let e : eqb q 0 ≡ false = grind (arith, big) in ap (λ b. cond b (Some c) (found_value xs q)) e) in
     (λ j. cond (has_bit (skip (word_of sites end k) (omega arith) j) k) (cell_in (skip (1 + 2 * k) (omega arith) j) (skip (2 + 2 * k) (omega arith) j)) None)
 
 -- what holds of each edge holds of those of the list
-has_any : (xs : List ℕ) (k d : ℕ) → k < length xs → has (get_or xs k d) xs ≡ true
-has_any xs k d lt = ap (λ e. has e xs) (get_or_default xs k d 0 lt) ∙ has_at k xs lt
-
 pub all_had : (P : ℕ → Type 0) (xs : List ℕ) → ((e : ℕ) → has e xs ≡ true → P e) → All P xs
-all_had P xs f = λ k d lt. f (get_or xs k d) (has_any xs k d lt)
+all_had P xs f = λ k d lt. f (get_or xs k d) (has_get xs k d lt)
 
 -- the open hold of a needed edge
 pub open_held : (m : MapValue) (t i : ℕ) (turns : List Turn) (needs : List ℕ) (accesses : ℕ → List Access) (a : ℕ → EndLists) → ((e : ℕ) → has e needs ≡ true → has_end m t e ≡ true) → HasOpen m t i turns needs accesses a
@@ -122,7 +117,7 @@ module _ (m : MapValue) (meaning : WindowValue → ℕ → WindowValue) (start :
           let held = centre_holds m plane t c refreshing.0.centre_is n s lt at in
           f.cells n s lt at ∙ (ap (λ x. newest x (seen_on m t c f.more n tile.needs)) (u.cells s held (inl (ap is_refreshed is)))
           ∙ (ap (newest own) (seen_same_on m t c f.more (λ e. r.more e ++ f.more e) n tile.needs
-          (λ e h. sym (ap (λ xs. seen (sites_on m e) (end_at m t e) xs (place_in m c e n)) (reads_is e h) ∙ seen_clock (sites_on m e) (end_at m t e) (r.clock e) (f.more e) (place_in m c e n))))
+          (λ e h. sym (ap (λ xs. found_cell (sites_on m e) (end_at m t e) xs (place_in m c e n)) (reads_is e h) ∙ seen_clock (sites_on m e) (end_at m t e) (r.clock e) (f.more e) (place_in m c e n))))
           ∙ (ap (λ es. newest own (seen_on m t c (λ e. r.more e ++ f.more e) n es)) refreshing.0.needs
           ∙ ap (λ o. newest (own_cell o (cells_of m start u.turns)) (seen_on m t c (λ e. r.more e ++ f.more e) n (needs_of m t c))) (sym at))))
 

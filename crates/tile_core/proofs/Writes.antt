@@ -14,9 +14,9 @@ use Rattle.edge_lock.specs.EndLists.{EndLists, hold_of, known_value, last_shown}
 use Rattle.edge_lock.proofs.LastHolds.{last_accesses-snoc}
 use Rattle.border_cache.specs.Cells.{CellValue, cell_value, newest}
 use Rattle.border_cache.specs.Accesses.{IsHonest}
-use Rattle.border_cache.specs.News.{Covers, seen}
+use Rattle.border_cache.specs.News.{Covers, found_cell}
 use Rattle.border_cache.specs.Published.{IsPublish}
-use Rattle.border_cache.specs.Windows.{has, place_in, place_of_some, end_at, sites_on, and_cell, seen_on, PublishesAll}
+use Rattle.border_cache.specs.Windows.{has, place_in, edge_place_some, end_at, sites_on, and_cell, seen_on, PublishesAll}
 use Rattle.border_cache.specs.Copies.{CacheValue, held_cell, window_cells}
 use Rattle.border_cache.proofs.Runs.{known_after}
 use Rattle.tile_core.specs.declared.phase.Phase.{Phase}
@@ -36,7 +36,7 @@ use Rattle.tile_core.proofs.Laws.{over_hand}
 pub place_low : (m : MapValue) (c : Site) (e k : ℕ) → Covers (place_in m c e) 41 k → k < sites_on m e
 place_low m c e k cov = go (window_site m c cov.0) cov.2
   where
-    go : (o : Option Site) → place_of_some m e o ≡ Some k → k < sites_on m e
+    go : (o : Option Site) → edge_place_some m e o ≡ Some k → k < sites_on m e
     go None h = absurd (cc h)
     go (Some s) h = (position-Some (λ p. p.x == s.x && p.y == s.y) (shared_of m e) k s h).0
 
@@ -51,7 +51,7 @@ end_small m t e = go (eqb (low_end m e) t)
 placed_site : (m : MapValue) (c : Site) (e n k : ℕ) → place_in m c e n ≡ Some k → (s : Site) × (window_site m c n ≡ Some s)
 placed_site m c e n k h = go (window_site m c n) refl h
   where
-    go : (o : Option Site) → window_site m c n ≡ o → place_of_some m e o ≡ Some k → (s : Site) × (window_site m c n ≡ Some s)
+    go : (o : Option Site) → window_site m c n ≡ o → edge_place_some m e o ≡ Some k → (s : Site) × (window_site m c n ≡ Some s)
     go None is h = absurd (cc h)
     go (Some s) is h = (s, is)
 
@@ -65,7 +65,7 @@ publish_cells sites end n p q places xs same w = record {
   only_written = w.only_written;
 }
 
-pub seen_same_on : (m : MapValue) (t : ℕ) (c : Site) (f g : ℕ → List Access) (n : ℕ) (es : List ℕ) → ((e : ℕ) → has e es ≡ true → seen (sites_on m e) (end_at m t e) (f e) (place_in m c e n) ≡ seen (sites_on m e) (end_at m t e) (g e) (place_in m c e n))
+pub seen_same_on : (m : MapValue) (t : ℕ) (c : Site) (f g : ℕ → List Access) (n : ℕ) (es : List ℕ) → ((e : ℕ) → has e es ≡ true → found_cell (sites_on m e) (end_at m t e) (f e) (place_in m c e n) ≡ found_cell (sites_on m e) (end_at m t e) (g e) (place_in m c e n))
     → seen_on m t c f n es ≡ seen_on m t c g n es
 seen_same_on m t c f g n [] s = refl
 seen_same_on m t c f g n (d ∷ ds) s =
@@ -145,7 +145,7 @@ module _ (m : MapValue) (meaning : WindowValue → ℕ → WindowValue) (start :
     seen_is : (n : ℕ) → n < 41 → seen_on m t c whole n tile.needs ≡ seen_on m t c writing.1.0 n tile.needs
     seen_is n lt = seen_same_on m t c whole writing.1.0 n tile.needs (λ e h.
         let o = rd.is e h in
-        subst (λ xs. seen (sites_on m e) (end_at m t e) (xs ++ (p.more e ++ Writing 0 tile.event_stamp ∷ [])) (place_in m c e n) ≡ seen (sites_on m e) (end_at m t e) xs (place_in m c e n)) (sym o)
+        subst (λ xs. found_cell (sites_on m e) (end_at m t e) (xs ++ (p.more e ++ Writing 0 tile.event_stamp ∷ [])) (place_in m c e n) ≡ found_cell (sites_on m e) (end_at m t e) xs (place_in m c e n)) (sym o)
         (seen_all (sites_on m e) (end_at m t e) (rd.clock e) tile.event_stamp (place_in m c e) (window_cells copy c) (rd.reads e) (p.more e) (end_small m t e) (place_low m c e) (rd.refresh e h) (p.writes e h) n lt))
 
     newest_is : (n : ℕ) → n < 41 → newest_at m t (cells_of m start u.turns) c writing.1.0 n ≡ newest_at m t (cells_of m start u.turns) c whole n

@@ -162,3 +162,15 @@ is_over Give = false
 is_over Back = false
 is_over Finished = true
 is_over Worn = true
+
+-- how many steps an attempt takes at most from a phase on
+abbrev pub steps_in : TileValue → Phase → ℕ
+steps_in tile Draw = 0
+steps_in tile Lock = 40 + (length tile.needs - tile.next)
+steps_in tile Refresh = 30
+steps_in tile Behave = 29
+steps_in tile Write = 28
+steps_in tile Give = 1 + (length tile.needs - tile.next)
+steps_in tile Back = 1 + (tile.count - tile.next)
+steps_in tile Finished = 0
+steps_in tile Worn = 0

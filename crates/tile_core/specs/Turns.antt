@@ -1,6 +1,7 @@
 -- What a tile did, attempt by attempt (the newest turn first), and what follows for the lists of
 -- its end of each edge.
 use Rattle.std.specs.Prelude.{ℕ, ◌≡◌, ◌≤◌, ◌<◌, ◌+◌, ◌-◌, ◌*◌, ◌/◌, ◌==◌, ◌⊎◌, max, if◌then◌else◌, List, [], ◌∷◌, ◌++◌, length, slice_get, Bool, true, false, Option, Some, None}
+use Rattle.list_laws.specs.Options.{or_zero}
 use Rattle.bit_field.specs.Atom.{AtomValue, empty_atom}
 use Rattle.window_sites.specs.Window.{WindowValue, atom_at}
 use Rattle.tile_map.specs.Plane.{Site, MapValue, site_in, in_window}
@@ -49,10 +50,10 @@ before d [] = []
 before d (e ∷ es) = if e == d then [] else e ∷ before d es
 
 -- the edges on which a turn has a hold
-abbrev pub edges_of : MapValue → ℕ → Turn → List ℕ
-edges_of m t (Wins w) = needs_of m t (event_site w.note)
-edges_of m t (Loses l) = before l.gone.edge (needs_of m t (given_up_site l.gone))
-edges_of m t (Wears w) = needs_of m t w.site
+abbrev pub turn_edges : MapValue → ℕ → Turn → List ℕ
+turn_edges m t (Wins w) = needs_of m t (event_site w.note)
+turn_edges m t (Loses l) = before l.gone.edge (needs_of m t (given_up_site l.gone))
+turn_edges m t (Wears w) = needs_of m t w.site
 
 -- the hold of a turn on an edge
 abbrev pub hold_at : Turn → ℕ → Hold
@@ -86,12 +87,12 @@ AgreeOnEdges m t lists these = (e : ℕ) → has_end m t e ≡ true → lists e 
 -- the lists of the tile's end of an edge after these turns
 abbrev pub lists_of : MapValue → ℕ → List Turn → ℕ → EndLists
 lists_of m t [] e = end_lists [] []
-lists_of m t (x ∷ xs) e = with_more (one_if (has e (edges_of m t x)) (hold_at x e)) (refusals_at x e) (lists_of m t xs e)
+lists_of m t (x ∷ xs) e = with_more (one_if (has e (turn_edges m t x)) (hold_at x e)) (refusals_at x e) (lists_of m t xs e)
 
 -- the same while the holds of the last turn are given back: `is_left` says whether the one on an
 -- edge is still open
 abbrev pub lists_left : MapValue → ℕ → (ℕ → Bool) → Turn → List Turn → ℕ → EndLists
-lists_left m t is_left x xs e = with_more (one_if (has e (edges_of m t x)) (as_open (is_left e) (hold_at x e))) (refusals_at x e) (lists_of m t xs e)
+lists_left m t is_left x xs e = with_more (one_if (has e (turn_edges m t x)) (as_open (is_left e) (hold_at x e))) (refusals_at x e) (lists_of m t xs e)
 
 -- the tile's own cell of a site after these turns
 abbrev pub cells_of : MapValue → (Site → AtomValue) → List Turn → Site → CellValue
@@ -107,13 +108,9 @@ stamp_of (Wins w ∷ xs) = w.note.stamp
 stamp_of (Loses l ∷ xs) = stamp_of xs
 stamp_of (Wears w ∷ xs) = stamp_of xs
 
-abbrev pub known_or_0 : Option ℕ → ℕ
-known_or_0 None = 0
-known_or_0 (Some c) = c
-
 -- the clock that a hold found
 abbrev pub clock_in : List Access → ℕ
-clock_in accesses = known_or_0 (found_value accesses 0)
+clock_in accesses = or_zero (found_value accesses 0)
 
 -- the greatest of n and the values of f for these edges
 abbrev pub greatest : ℕ → (ℕ → ℕ) → List ℕ → ℕ
@@ -215,21 +212,21 @@ AreTurns m meaning start t [] = Unit {0}
 AreTurns m meaning start t (x ∷ xs) = IsTurn m meaning start t xs x × Wearless xs × AreTurns m meaning start t xs
 
 -- the events of the turns, in order
-abbrev pub records_of : List Turn → List Record
-records_of [] = []
-records_of (Wins w ∷ xs) = records_of xs ++ w.note ∷ []
-records_of (Loses l ∷ xs) = records_of xs
-records_of (Wears w ∷ xs) = records_of xs
+abbrev pub records_in_turns : List Turn → List Record
+records_in_turns [] = []
+records_in_turns (Wins w ∷ xs) = records_in_turns xs ++ w.note ∷ []
+records_in_turns (Loses l ∷ xs) = records_in_turns xs
+records_in_turns (Wears w ∷ xs) = records_in_turns xs
 
 -- the abandoned attempts of the turns, in order
-abbrev pub abandoned_of : List Turn → List Abandoned
-abandoned_of [] = []
-abandoned_of (Wins w ∷ xs) = abandoned_of xs
-abandoned_of (Loses l ∷ xs) = abandoned_of xs ++ l.gone ∷ []
-abandoned_of (Wears w ∷ xs) = abandoned_of xs
+abbrev pub abandoned_in_turns : List Turn → List Abandoned
+abandoned_in_turns [] = []
+abandoned_in_turns (Wins w ∷ xs) = abandoned_in_turns xs
+abandoned_in_turns (Loses l ∷ xs) = abandoned_in_turns xs ++ l.gone ∷ []
+abandoned_in_turns (Wears w ∷ xs) = abandoned_in_turns xs
 
 -- an attempt was made with this site, as number n of the tile's attempts
-pub record IsAttempt (m : MapValue) (t : ℕ) (attempts : List Attempt) (n : ℕ) (s : Site) (seed : ℕ) : Type 0 where
+pub record IsNthAttempt (m : MapValue) (t : ℕ) (attempts : List Attempt) (n : ℕ) (s : Site) (seed : ℕ) : Type 0 where
   pub attempt : Attempt
   pub is : slice_get attempts n ≡ Some attempt
   pub site_is : s ≡ site_in m t attempt.centre
@@ -237,9 +234,9 @@ pub record IsAttempt (m : MapValue) (t : ℕ) (attempts : List Attempt) (n : ℕ
 
 -- the attempt of a turn
 abbrev pub IsAttemptOf : MapValue → ℕ → List Attempt → ℕ → Turn → Type 0
-IsAttemptOf m t attempts n (Wins w) = IsAttempt m t attempts n (event_site w.note) w.note.seed
-IsAttemptOf m t attempts n (Loses l) = (seed : ℕ) × IsAttempt m t attempts n (given_up_site l.gone) seed
-IsAttemptOf m t attempts n (Wears w) = (seed : ℕ) × IsAttempt m t attempts n w.site seed
+IsAttemptOf m t attempts n (Wins w) = IsNthAttempt m t attempts n (event_site w.note) w.note.seed
+IsAttemptOf m t attempts n (Loses l) = (seed : ℕ) × IsNthAttempt m t attempts n (given_up_site l.gone) seed
+IsAttemptOf m t attempts n (Wears w) = (seed : ℕ) × IsNthAttempt m t attempts n w.site seed
 
 -- the turns are the tile's first attempts, in order
 abbrev pub AreAttempts : MapValue → ℕ → List Attempt → List Turn → Type 0
@@ -253,6 +250,6 @@ pub record HasPlayed (m : MapValue) (meaning : WindowValue → ℕ → WindowVal
   pub each : AreTurns m meaning start t turns
   pub all : length attempts ≡ length turns
   pub made : AreAttempts m t attempts turns
-  pub records_are : records ≡ records_of turns
-  pub abandoned_are : abandoned ≡ abandoned_of turns
+  pub records_are : records ≡ records_in_turns turns
+  pub abandoned_are : abandoned ≡ abandoned_in_turns turns
   pub lists_are : AgreeOnEdges m t lists (lists_of m t turns)

@@ -16,7 +16,7 @@ use Rattle.border_cache.specs.Copies.{IsCentre, held_cell}
 use Rattle.tile_core.specs.declared.phase.Phase.{Phase}
 use Rattle.tile_core.specs.declared.phase.Phase.TheVariants.{Draw, Lock, Refresh, Behave, Write, Give, Back, Finished, Worn}
 use Rattle.tile_core.specs.Values.{TileValue, centre}
-use Rattle.tile_core.specs.Turns.{HasPlayed, Turn, Wins, Loses, Wears, AreTurns, AreAttempts, IsAttempt, Wearless, edges_of, AgreeOnEdges, lists_of, lists_left, with_more, one_if, cells_of, stamp_of, clock_in, greatest, records_of, abandoned_of, newest_at}
+use Rattle.tile_core.specs.Turns.{HasPlayed, Turn, Wins, Loses, Wears, AreTurns, AreAttempts, IsNthAttempt, Wearless, turn_edges, AgreeOnEdges, lists_of, lists_left, with_more, one_if, cells_of, stamp_of, clock_in, greatest, records_in_turns, abandoned_in_turns, newest_at}
 
 -- the attempt in hand has these edges, with these accesses so far
 abbrev pub HasOpen : MapValue → ℕ → ℕ → List Turn → List ℕ → (ℕ → List Access) → (ℕ → EndLists) → Type 0
@@ -28,7 +28,7 @@ no_access e = []
 -- an attempt was drawn, whose number is that of the turns before
 pub record IsDrawn (m : MapValue) (attempts : List Attempt) (turns : List Turn) (tile : TileValue) : Type 0 where
   pub taken : tile.taken ≡ length turns + 1
-  pub made : IsAttempt m tile.number attempts (length turns) (centre tile) tile.seed
+  pub made : IsNthAttempt m tile.number attempts (length turns) (centre tile) tile.seed
   pub centre_is : IsCentre m tile.number (centre tile)
   pub needs : tile.needs ≡ needs_of m tile.number (centre tile)
 
@@ -47,7 +47,7 @@ pub record IsSpent (turns : List Turn) (tile : TileValue) (accesses : ℕ → Li
   pub high : 4294967295 ≤ greatest (stamp_of turns) (λ e. clock_in (accesses e)) tile.needs
 
 -- the event's stamp is known, and the cells of the window are up to date
-pub record IsFresh (m : MapValue) (start : Site → AtomValue) (turns : List Turn) (tile : TileValue) (accesses : ℕ → List Access) : Type 0 where
+pub record IsUpToDate (m : MapValue) (start : Site → AtomValue) (turns : List Turn) (tile : TileValue) (accesses : ℕ → List Access) : Type 0 where
   pub stamp : tile.event_stamp ≡ 1 + greatest (stamp_of turns) (λ e. clock_in (accesses e)) tile.needs
   pub small : tile.event_stamp ≤ 4294967295
   pub cells : (n : ℕ) (s : Site) → n < 41 → window_site m (centre tile) n ≡ Some s → held_cell tile.cache s ≡ newest_at m tile.number (cells_of m start turns) (centre tile) accesses n
@@ -68,7 +68,7 @@ still edges next e = has e edges && not (has e (take next edges))
 
 abbrev pub IsGiving : MapValue → ℕ → List Turn → List ℕ → ℕ → (ℕ → EndLists) → Type 0
 IsGiving m t [] edges next lists = ⊥
-IsGiving m t (x ∷ older) edges next lists = (edges ≡ edges_of m t x) × AgreeOnEdges m t lists (lists_left m t (still edges next) x older)
+IsGiving m t (x ∷ older) edges next lists = (edges ≡ turn_edges m t x) × AgreeOnEdges m t lists (lists_left m t (still edges next) x older)
 
 -- the last turn is an abandoned attempt
 abbrev pub IsBack : List Turn → Type 0
@@ -77,15 +77,15 @@ IsBack (Wins w ∷ older) = ⊥
 IsBack (Loses l ∷ older) = Unit {0}
 IsBack (Wears w ∷ older) = ⊥
 
-abbrev pub IsOver : MapValue → ℕ → List Turn → (ℕ → EndLists) → Type 0
-IsOver m t turns lists = AgreeOnEdges m t lists (lists_of m t turns)
+abbrev pub AreTurnsOver : MapValue → ℕ → List Turn → (ℕ → EndLists) → Type 0
+AreTurnsOver m t turns lists = AgreeOnEdges m t lists (lists_of m t turns)
 
 abbrev pub InPhase : MapValue → (WindowValue → ℕ → WindowValue) → (Site → AtomValue) → List Attempt → List Turn → TileValue → (ℕ → EndLists) → Phase → Type 0
-InPhase m meaning start attempts turns tile lists Draw = (tile.taken ≡ length turns) × (0 < length tile.left) × IsOver m tile.number turns lists
-InPhase m meaning start attempts turns tile lists Finished = (tile.taken ≡ length turns) × (tile.left ≡ []) × IsOver m tile.number turns lists
+InPhase m meaning start attempts turns tile lists Draw = (tile.taken ≡ length turns) × (0 < length tile.left) × AreTurnsOver m tile.number turns lists
+InPhase m meaning start attempts turns tile lists Finished = (tile.taken ≡ length turns) × (tile.left ≡ []) × AreTurnsOver m tile.number turns lists
 InPhase m meaning start attempts turns tile lists Lock = IsDrawn m attempts turns tile × (tile.next < length tile.needs) × HasOpen m tile.number (length turns) turns (take tile.next tile.needs) no_access lists
 InPhase m meaning start attempts turns tile lists Refresh = IsDrawn m attempts turns tile × HasOpen m tile.number (length turns) turns tile.needs no_access lists
-InPhase m meaning start attempts turns tile lists Behave = IsDrawn m attempts turns tile × ((accesses : ℕ → List Access) × HasOpen m tile.number (length turns) turns tile.needs accesses lists × IsRead m tile.number (centre tile) tile.needs accesses × IsFresh m start turns tile accesses)
+InPhase m meaning start attempts turns tile lists Behave = IsDrawn m attempts turns tile × ((accesses : ℕ → List Access) × HasOpen m tile.number (length turns) turns tile.needs accesses lists × IsRead m tile.number (centre tile) tile.needs accesses × IsUpToDate m start turns tile accesses)
 InPhase m meaning start attempts turns tile lists Write = IsDrawn m attempts turns tile × ((accesses : ℕ → List Access) × HasOpen m tile.number (length turns) turns tile.needs accesses lists × IsRead m tile.number (centre tile) tile.needs accesses × IsRun m meaning start turns tile accesses)
 InPhase m meaning start attempts turns tile lists Give = (tile.taken ≡ length turns) × (tile.next < length tile.needs) × IsGiving m tile.number turns tile.needs tile.next lists
 InPhase m meaning start attempts turns tile lists Back = (tile.taken ≡ length turns) × (tile.next < tile.count) × (tile.count ≤ length tile.needs) × IsBack turns × IsGiving m tile.number turns (take tile.count tile.needs) tile.next lists
@@ -121,8 +121,8 @@ pub record IsUnderway (m : MapValue) (meaning : WindowValue → ℕ → WindowVa
   pub turns : List Turn
   pub each : AreTurns m meaning start tile.number turns
   pub made : AreAttempts m tile.number attempts turns
-  pub records : tile.records ≡ records_of turns
-  pub abandoned : tile.abandoned ≡ abandoned_of turns
+  pub records : tile.records ≡ records_in_turns turns
+  pub abandoned : tile.abandoned ≡ abandoned_in_turns turns
   pub stamp : tile.stamp ≡ stamp_of turns
   pub unworn : Wearless turns
   pub needs : AreNeeds m tile.number tile.needs

@@ -1,5 +1,5 @@
 -- Where the sites of a window lie, and which tiles hold one of them.
-use Rattle.std.proofs.Common.{ℕ, zero, suc, ◌≡◌, ◌+◌, ◌-◌, ◌*◌, ◌/◌, ◌%◌, ◌<◌, ◌≤◌, Bool, true, false, ◌&&◌, length, get_or, refl, sym, ap, ◌∙◌, arith, ◌⊎◌, inl, inr, Option, Some, None}
+use Rattle.std.proofs.Common.{ℕ, zero, suc, ◌≡◌, ◌+◌, ◌-◌, ◌*◌, ◌/◌, ◌%◌, ◌<◌, ◌≤◌, Bool, true, false, ◌&&◌, length, get_or, refl, sym, ap, ◌∙◌, arith, ◌⊎◌, inl, inr, Option, Some, None, ltb-true}
 use Rattle.std.specs.Prelude.{nat_le, nat_lt, ℤ, pos, negsuc, if◌then◌else◌}
 use Rattle.std.specs.List.{range_with_len, list_any}
 use Rattle.std.specs.Int.RustNames.{unsigned_abs}
@@ -14,7 +14,7 @@ use Rattle.tile_map.specs.Plane.{Site, MapValue, IsMap, site, is_on, in_plane, i
 use Rattle.tile_map.specs.Spans.{low, high, left_of, right_of, top_of, bottom_of, gap}
 use Rattle.tile_map.specs.Edges.{live_site, window_site, is_held_at, reaches}
 use Rattle.list_laws.proofs.Tests.{both, together}
-use Rattle.tile_map.proofs.Spans.{le_test, test_le, test_lt, reached_inside, held_span, held_parts, held_whole, live_plane, plane_test}
+use Rattle.tile_map.proofs.Spans.{le_test, test_le, reached_inside, held_span, held_parts, held_whole, live_plane, plane_test}
 
 -- the offset from one coordinate to another
 abbrev pub offset_to : ℕ → ℕ → ℤ
@@ -180,8 +180,8 @@ reaches-gap m k c u centre wide tall = same (reaches m c u) (is_on m u && nat_le
         let inside = both (nat_lt c.x (m.tx * m.w)) (nat_lt c.y (m.ty * m.h)) (live_plane m c centre) in
         let x = nearest (left_of m u) (right_of m u) c.x wide in
         let y = nearest (top_of m u) (bottom_of m u) c.y tall in
-        let column : x.0 / m.w ≡ c.x / m.w = same_part (m.tx * m.w) m.w (u % m.tx) c.x x.0 k.sizes.w_low (test_lt c.x (m.tx * m.w) inside.0) x.1 x.2 x.3 (omega (arith, near, x.3)) in
-        let row : y.0 / m.h ≡ c.y / m.h = same_part (m.ty * m.h) m.h (u / m.tx) c.y y.0 k.sizes.h_low (test_lt c.y (m.ty * m.h) inside.1) y.1 y.2 y.3 (omega (arith, near, y.3)) in
+        let column : x.0 / m.w ≡ c.x / m.w = same_part (m.tx * m.w) m.w (u % m.tx) c.x x.0 k.sizes.w_low (ltb-true c.x (m.tx * m.w) inside.0) x.1 x.2 x.3 (omega (arith, near, x.3)) in
+        let row : y.0 / m.h ≡ c.y / m.h = same_part (m.ty * m.h) m.h (u / m.tx) c.y y.0 k.sizes.h_low (ltb-true c.y (m.ty * m.h) inside.1) y.1 y.2 y.3 (omega (arith, near, y.3)) in
         let owner : owner_of m (site x.0 y.0) ≡ owner_of m c = λ i. row i * m.tx + column i in
         let plane = plane_test m x.0 y.0 (omega (arith, x.2)) (omega (arith, y.2)) in
         let live : is_live m (site x.0 y.0) ≡ true = together (in_plane m (site x.0 y.0)) (is_on m (owner_of m (site x.0 y.0))) plane (ap (is_on m) owner ∙ (both (in_plane m c) (is_on m (owner_of m c)) centre).1) in

@@ -156,7 +156,7 @@ register_read m valid e x y v number lt is read = ap (option_map (λ k. 1 + 2 * 
 pub count_read : (m : MapValue) → IsMap m → (e : ℕ) (v : SharedValue) → e < length (pairs_of m) → v ≡ shared_both m (pair_at m e) → v.count ≡ length (shared_of m e)
 count_read m valid e v lt is = ap (λ (w : SharedValue). w.count) is ∙ ap length (sym (shared_live m valid (pair_at m e) (edge_joined m e lt)))
 
-size_low : (n size : ℕ) → n ≤ 8 → size ≤ 64 → n * size ≤ 512
+pub size_low : (n size : ℕ) → n ≤ 8 → size ≤ 64 → n * size ≤ 512
 size_low n size a b = grind arith
 
 pub shared_bounded : (m : MapValue) → IsMap m → (e : ℕ) → e < length (pairs_of m) → length (shared_of m e) ≤ 262144
@@ -172,3 +172,23 @@ shared_bounded m k e lt =
 pub number_low : (m : MapValue) → IsMap m → (e x y n : ℕ) (v : SharedValue) → e < length (pairs_of m) → v ≡ shared_both m (pair_at m e) → number_at v x y ≡ Some n → n < 262144
 number_low m k e x y n v lt is found =
     omega (arith, (number_place (shared_of m e) (site x y) n (sym (number_read m k e x y v lt is) ∙ found)).0, shared_bounded m k e lt)
+
+-- a map has few tiles
+pub tiles_few : (m : MapValue) → IsMap m → tiles_of m ≤ 64
+tiles_few m k = go m.tx m.ty k.sizes.tx_high k.sizes.ty_high
+  where
+    go : (a b : ℕ) → a ≤ 8 → b ≤ 8 → a * b ≤ 64
+    go a b p q = grind arith
+
+-- a plane has a column, and few sites
+pub plane_low : (m : MapValue) → IsMap m → (1 ≤ m.tx * m.w) × (m.tx * m.w * (m.ty * m.h) ≤ 262144)
+plane_low m k =
+    let wide = side m.tx m.w k.sizes.tx_low k.sizes.tx_high k.sizes.w_low k.sizes.w_high in
+    let high = side m.ty m.h k.sizes.ty_low k.sizes.ty_high k.sizes.h_low k.sizes.h_high in
+    (wide.0, square (m.tx * m.w) (m.ty * m.h) wide.1 high.1)
+  where
+    side : (n size : ℕ) → 1 ≤ n → n ≤ 8 → 8 ≤ size → size ≤ 64 → (1 ≤ n * size) × (n * size ≤ 512)
+    side n size a b c d = (grind arith, grind arith)
+
+    square : (a b : ℕ) → a ≤ 512 → b ≤ 512 → a * b ≤ 262144
+    square a b p q = grind arith

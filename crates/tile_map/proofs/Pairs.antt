@@ -1,5 +1,5 @@
 -- The list of the edges: whose ends they are, that none is left out, that they rise, and that a tile has at most 8.
-use Rattle.std.proofs.Common.{ℕ, ◌≡◌, ◌+◌, ◌-◌, ◌*◌, ◌/◌, ◌%◌, ◌<◌, ◌≤◌, Bool, true, false, ◌&&◌, List, get_or, length, map, refl, sym, ap, ◌∙◌, subst, arith, ◌⊎◌, inl, inr, ⊎_elim}
+use Rattle.std.proofs.Common.{ℕ, ◌≡◌, ◌+◌, ◌-◌, ◌*◌, ◌/◌, ◌%◌, ◌<◌, ◌≤◌, Bool, true, false, ◌&&◌, List, get_or, length, map, refl, sym, ap, ◌∙◌, subst, arith, ◌⊎◌, inl, inr, ⊎_elim, lt-ltb}
 use Rattle.std.specs.Prelude.{nat_le, nat_lt, filter, flat_map, AllPairs}
 use Rattle.std.specs.List.{list_all, range_with_len}
 use Rattle.std.proofs.lemmas.Bool.Decides.{nat_tests}
@@ -14,7 +14,7 @@ use Rattle.tile_map.proofs.Degree.{degree, are_few, all_few, all_bounded}
 use Rattle.list_laws.proofs.Filters.{count_places, filter_twice, filter_short, filter_fewer}
 use Rattle.list_laws.proofs.Ranges.{filter-map, filter-flat_map}
 use Rattle.list_laws.proofs.Tests.{both, together}
-use Rattle.tile_map.proofs.Spans.{le_test, test_le, lt_test, times_more, held_span, held_parts}
+use Rattle.tile_map.proofs.Spans.{le_test, test_le, times_more, held_span, held_parts}
 use Rattle.list_laws.proofs.Members.{In, in_filter, filter_in, in_map, map_in, in_flat, flat_in, in_range, range_in, in_get, get_in, InOrder, order-filter, order-flat, order-map, order-range, order-pairs}
 
 -- parts of one size meet, once one is widened, if their numbers are at most 1 apart
@@ -188,5 +188,5 @@ holders_near m k t u s lt a b =
     let p = held_span m t s.x s.y a in
     let q = held_span m u s.x s.y b in
     together _ _ (together _ _ (held_parts m t s a).on (held_parts m u s b).on)
-    (together _ _ (lt_test t u lt)
+    (together _ _ (lt-ltb t u lt)
     (together _ _ (part_near (m.tx * m.w) m.w (t % m.tx) (u % m.tx) s.x k.sizes.w_low p.1 p.2 q.1 q.2) (part_near (m.ty * m.h) m.h (t / m.tx) (u / m.tx) s.y k.sizes.h_low p.3 p.4 q.3 q.4)))

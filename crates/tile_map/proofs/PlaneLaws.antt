@@ -1,5 +1,5 @@
 -- The laws of the plane.
-use Rattle.std.proofs.Common.{ℕ, ◌≡◌, ◌≢◌, ◌+◌, ◌-◌, ◌*◌, ◌/◌, ◌%◌, ◌<◌, ◌≤◌, Bool, true, false, ◌&&◌, ◌==◌, List, length, get_or, map, refl, sym, ap, ◌∙◌, subst, arith, ◌⊎◌, inl, inr, ⊎_elim, Some}
+use Rattle.std.proofs.Common.{ℕ, ◌≡◌, ◌≢◌, ◌+◌, ◌-◌, ◌*◌, ◌/◌, ◌%◌, ◌<◌, ◌≤◌, Bool, true, false, ◌&&◌, ◌==◌, List, length, get_or, map, refl, sym, ap, ◌∙◌, subst, arith, ◌⊎◌, inl, inr, ⊎_elim, Some, lt-ltb, ltb-true}
 use Rattle.std.specs.Prelude.{All, ◌||◌, filter, Contains, slice_get, if◌then◌else◌}
 use Rattle.std.specs.List.{range_with_len}
 use Rattle.std.specs.List.Sorted.{IsStrictlyIncreasing}
@@ -10,7 +10,7 @@ use Rattle.tile_map.specs.Edges.{pairs_of, pair_at, low_end, high_end, shared_of
 use Rattle.tile_map.specs.Laws.{Joins, Shares, HasOwners, HasWindows, HasEdges, HasRegisters, HasNeeds, IsPlane}
 use Rattle.list_laws.proofs.Filters.{filter_twice, filter_short}
 use Rattle.list_laws.proofs.Tests.{both, together}
-use Rattle.tile_map.proofs.Spans.{le_test, lt_test, test_lt, times_more, held_span, held_parts, held_whole, live_plane, on_low}
+use Rattle.tile_map.proofs.Spans.{le_test, times_more, held_span, held_parts, held_whole, live_plane, on_low}
 use Rattle.std.proofs.lemmas.List.Kept.{IsStrictlyIncreasing-filter}
 use Rattle.std.proofs.lemmas.List.FromFn.{length-range_with_len, get_or-range_with_len, length-map-range_with_len, get_or-map-range_with_len}
 use Rattle.std.proofs.lemmas.List.{get_or_default}
@@ -53,8 +53,8 @@ record OwnerPlace (m : MapValue) (s : Site) : Type 0 where
 stands : (m : MapValue) → IsMap m → (s : Site) → in_plane m s ≡ true → OwnerPlace m s
 stands m k s h =
     let parts = both _ _ h in
-    let x = quotient_low m.tx m.w s.x (omega (arith, k.sizes.w_low)) (test_lt s.x (m.tx * m.w) parts.0) in
-    let y = quotient_low m.ty m.h s.y (omega (arith, k.sizes.h_low)) (test_lt s.y (m.ty * m.h) parts.1) in
+    let x = quotient_low m.tx m.w s.x (omega (arith, k.sizes.w_low)) (ltb-true s.x (m.tx * m.w) parts.0) in
+    let y = quotient_low m.ty m.h s.y (omega (arith, k.sizes.h_low)) (ltb-true s.y (m.ty * m.h) parts.1) in
     record {
       tile = place_low (s.y / m.h) (s.x / m.w) m.tx m.ty x y;
       column = column_of m.tx (s.y / m.h) (s.x / m.w) x;
@@ -66,7 +66,7 @@ owner_owned m k s h =
     let o = stands m k s h in
     let x = ap (λ a. is_inside m.w a s.x) o.column ∙ inside_part m.w s.x (omega (arith, k.sizes.w_low)) in
     let y = ap (λ a. is_inside m.h a s.y) o.row ∙ inside_part m.h s.y (omega (arith, k.sizes.h_low)) in
-    together _ _ (lt_test _ _ o.tile) (together _ _ x y)
+    together _ _ (lt-ltb _ _ o.tile) (together _ _ x y)
 
 -- the owner of a centre holds the window
 pub window-held : (m : MapValue) → IsMap m → (c s : Site) → is_live m c ≡ true → in_window m c s ≡ true → is_held m (owner_of m c) s ≡ true
@@ -144,8 +144,8 @@ both_hold m e k s h = both _ _ (filter_in (λ s. is_held m (low_end m e) s && is
 
 in_sites : (m : MapValue) (s : Site) → in_plane m s ≡ true → In s (sites_of m)
 in_sites m s h =
-    let x : s.x < m.tx * m.w = test_lt _ _ (both _ _ h).0 in
-    let y : s.y < m.ty * m.h = test_lt _ _ (both _ _ h).1 in
+    let x : s.x < m.tx * m.w = ltb-true _ _ (both _ _ h).0 in
+    let y : s.y < m.ty * m.h = ltb-true _ _ (both _ _ h).1 in
     in_flat (row 0 (m.tx * m.w)) (range_with_len 0 (m.ty * m.h)) s.y s (in_range 0 (m.ty * m.h) s.y (omega arith) (omega (arith, y)))
     (in_map (λ x. site x s.y) (range_with_len 0 (m.tx * m.w)) s.x (in_range 0 (m.tx * m.w) s.x (omega arith) (omega (arith, x))))
 
@@ -175,7 +175,7 @@ meet m k t u s ne a b =
 pub ends_rise : (m : MapValue) (e : ℕ) → e < length (pairs_of m) → (low_end m e < high_end m e) × (high_end m e < tiles_of m)
 ends_rise m e lt =
     let j = edge_joined m e lt in
-    (test_lt _ _ (both _ _ (both _ _ j.near).1).0, j.high)
+    (ltb-true _ _ (both _ _ (both _ _ j.near).1).0, j.high)
 
 same_ends : (m : MapValue) (e f t u : ℕ) → low_end m e < high_end m e → low_end m f < high_end m f → Joins m e t u → Joins m f t u → pair_at m e ≡ pair_at m f
 same_ends m e f t u a b p q = let r = ends p q in λ i. (r.0 i, r.1 i)

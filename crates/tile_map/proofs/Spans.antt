@@ -1,6 +1,6 @@
 -- The columns, or rows, that a tile holds: an interval of the plane's.
-use Rattle.std.proofs.Common.{ℕ, ◌≡◌, ◌+◌, ◌*◌, ◌/◌, ◌%◌, ◌<◌, ◌≤◌, min, max, Bool, true, false, ◌&&◌, refl, arith}
-use Rattle.std.specs.Prelude.{nat_le, nat_lt}
+use Rattle.std.proofs.Common.{ℕ, ◌≡◌, ◌+◌, ◌*◌, ◌/◌, ◌%◌, ◌<◌, ◌≤◌, min, max, Bool, true, false, ◌&&◌, refl, arith, lt-ltb, ltb-true}
+use Rattle.std.specs.Prelude.{nat_le}
 use Rattle.std.proofs.lemmas.Bool.Decides.{nat_tests}
 use Rattle.tile_map.specs.Spans.{low, high, left_of, right_of, top_of, bottom_of}
 use Rattle.tile_map.specs.Plane.{Site, MapValue, site, tiles_of, is_on, in_plane, is_live, is_around, is_reached, is_held}
@@ -11,12 +11,6 @@ le_test a b h = grind (arith, nat_tests)
 
 pub test_le : (a b : ℕ) → nat_le a b ≡ true → a ≤ b
 test_le a b h = grind (arith, nat_tests)
-
-pub lt_test : (a b : ℕ) → a < b → nat_lt a b ≡ true
-lt_test a b h = grind (arith, nat_tests)
-
-pub test_lt : (a b : ℕ) → nat_lt a b ≡ true → a < b
-test_lt a b h = grind (arith, nat_tests)
 
 pub around_inside : (n size a x : ℕ) → low size a ≤ x → x < high n size a → is_around size a x ≡ true
 around_inside n size a x p q = grind (arith, nat_tests)
@@ -54,8 +48,8 @@ pub reached_span : (m : MapValue) (t x y : ℕ) → is_reached m t (site x y) �
 reached_span m t x y h inside =
     let near = both _ _ h in
     let within = both _ _ inside in
-    let p = around_span (m.tx * m.w) m.w (t % m.tx) x near.0 (test_lt _ _ within.0) in
-    let q = around_span (m.ty * m.h) m.h (t / m.tx) y near.1 (test_lt _ _ within.1) in
+    let p = around_span (m.tx * m.w) m.w (t % m.tx) x near.0 (ltb-true _ _ within.0) in
+    let q = around_span (m.ty * m.h) m.h (t / m.tx) y near.1 (ltb-true _ _ within.1) in
     (p.0, p.1, q.0, q.1)
 
 pub not_left : (m : MapValue) (t x y : ℕ) → x < left_of m t → is_reached m t (site x y) ≡ false
@@ -71,7 +65,7 @@ pub not_under : (m : MapValue) (t x y : ℕ) → bottom_of m t ≤ y → y < m.t
 not_under m t x y h lt = false_right _ _ (around_above (m.ty * m.h) m.h (t / m.tx) y h lt)
 
 pub plane_test : (m : MapValue) (x y : ℕ) → x < m.tx * m.w → y < m.ty * m.h → in_plane m (site x y) ≡ true
-plane_test m x y a b = together _ _ (lt_test _ _ a) (lt_test _ _ b)
+plane_test m x y a b = together _ _ (lt-ltb _ _ a) (lt-ltb _ _ b)
 
 -- what is held: its tile is on, it is live, and it is reached
 pub record Held (m : MapValue) (t : ℕ) (s : Site) : Type 0 where
@@ -89,7 +83,7 @@ pub held_whole : (m : MapValue) (t : ℕ) (s : Site) → is_on m t ≡ true → 
 held_whole m t s a b c = together _ _ a (together _ _ b c)
 
 pub on_low : (m : MapValue) (t : ℕ) → is_on m t ≡ true → t < tiles_of m
-on_low m t h = test_lt _ _ (both _ _ h).0
+on_low m t h = ltb-true _ _ (both _ _ h).0
 
 pub live_plane : (m : MapValue) (s : Site) → is_live m s ≡ true → in_plane m s ≡ true
 live_plane m s h = (both _ _ h).0

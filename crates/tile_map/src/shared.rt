@@ -67,7 +67,7 @@ impl SharedSites {
     pub(crate) fn number(&self, x: u32, y: u32) -> Option<u32>
         ensures { result ≡ number_at self.now x y }
     {
-        let place = self.area.place(x, y)?;
+        let place = self.area.place_within(x, y)?;
         self.numbers[place as usize]
     }
 }

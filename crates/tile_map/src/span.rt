@@ -81,7 +81,7 @@ impl Area {
     }
 
     /// The place of a site, row by row, if the area has it.
-    pub(crate) fn place(self, x: u32, y: u32) -> Option<u32>
+    pub(crate) fn place_within(self, x: u32, y: u32) -> Option<u32>
         requires columns { self.columns.end ≤ 512 }
         requires rows { self.rows.end ≤ 512 }
         ensures value { result ≡ place_within self.columns.first self.columns.end self.rows.first self.rows.end x y }

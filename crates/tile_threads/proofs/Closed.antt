@@ -3,6 +3,7 @@ use Rattle.std.proofs.Common.{◌≡◌, ℕ, zero, suc, ◌<◌, eqb, true, con
 use Rattle.std.specs.Prelude.{slice_get, if◌then◌else◌, ◌||◌}
 use Rattle.std.proofs.lemmas.List.{length-map, get_or-map}
 use Rattle.std.proofs.lemmas.Option.{slice_get_within}
+use Rattle.tile_core.proofs.Lists.{eqb_of}
 use mathlib.Core.Logic.{dite}
 use native.Mathlib.Decide.{ℕ_discrete}
 use Rattle.window_sites.specs.Window.{WindowValue}
@@ -15,7 +16,7 @@ use Rattle.edge_lock.specs.History.{site_count, IsEdgeHistory}
 use Rattle.edge_lock.specs.declared.history.Refusal.{Refusal}
 use Rattle.edge_lock.specs.EndLists.{EndLists, end_lists}
 use Rattle.edge_lock.specs.Passes.{ClosedValue}
-use Rattle.edge_lock.specs.SharedEnds.{lists_at as lists_of_passes}
+use Rattle.edge_lock.specs.SharedEnds.{pass_lists}
 use Rattle.edge_lock.proofs.Counts.{sites_back}
 use Rattle.border_cache.specs.Windows.{end_at, sites_on}
 use Rattle.tile_core.specs.Values.{TileValue, atoms_of}
@@ -28,7 +29,6 @@ use Rattle.edge_lock.specs.Passes.{EdgeValue, PassValue}
 use Rattle.tile_threads.specs.Passes.{passes_of, IsClosedEdge, AreClosed}
 use Rattle.serial_order.specs.Fresh.{AreFresh}
 use Rattle.tile_threads.specs.Whole.{HaveReturned, HasRun}
-use Rattle.tile_threads.proofs.LettingGo.{eqb_of}
 
 module _ (m : MapValue) (lists : ℕ → ℕ → EndLists) (closed : List ClosedValue) (k : AreClosed m lists closed) where
   history_is : (e : ℕ) → e < length (pairs_of m) → history_at (closed_histories closed) e ≡ closed_history (closed_at closed e)
@@ -92,7 +92,7 @@ ended_agrees m meaning start given tile a b same h = record {
 }
 
 module _ {B : Type 0} (after : B → WindowValue → ℕ → WindowValue) (m : MapValue) (valid : IsMap m) (meaning : WindowValue → ℕ → WindowValue) (start : GridValue) (plan : PlanValue) (fresh tiles : List (TileValue × B)) (f : AreFresh after m meaning start plan fresh)
-    (edges : List EdgeValue) (passes : List (List PassValue)) (r : HaveReturned m meaning start plan edges tiles passes) (closed : List ClosedValue) (k : AreClosed m (λ t. lists_of_passes (passes_of passes t)) closed)
+    (edges : List EdgeValue) (passes : List (List PassValue)) (r : HaveReturned m meaning start plan edges tiles passes) (closed : List ClosedValue) (k : AreClosed m (λ t. pass_lists (passes_of passes t)) closed)
   where
     tile_at : (t : ℕ) (v : TileValue) → slice_get (values_of tiles) t ≡ Some v → (x : TileValue × B) × (slice_get tiles t ≡ Some x) × (x.0 ≡ v)
     tile_at t v is = go tiles t is
@@ -105,7 +105,7 @@ module _ {B : Type 0} (after : B → WindowValue → ℕ → WindowValue) (m : M
     pub has_run : HasRun m meaning start plan tiles closed
     has_run = record {
       made = r.made;
-      words = words_are m (λ t. lists_of_passes (passes_of passes t)) closed k;
+      words = words_are m (λ t. pass_lists (passes_of passes t)) closed k;
       over = record {
         valid = valid;
         grid = f.grid;
@@ -119,10 +119,10 @@ module _ {B : Type 0} (after : B → WindowValue → ℕ → WindowValue) (m : M
             let lt = slice_get_within tiles t g.0 g.1 in
             let inside : t < tiles_of m = let c = r.count in omega (arith, lt, c) in
             subst (λ (y : TileValue). HasEnded m meaning (atoms_of start) (attempts plan t) (lists_at m (closed_histories closed) t) y) g.2
-            (ended_agrees m meaning start (attempts plan t) g.0.0 (lists_of_passes (passes_of passes t)) (lists_at m (closed_histories closed) t)
-            (subst (λ n. (e : ℕ) → has_end m n e ≡ true → lists_at m (closed_histories closed) t e ≡ lists_of_passes (passes_of passes t) e) (sym (r.numbers t g.0 g.1)) (lists_same m (λ t. lists_of_passes (passes_of passes t)) closed k t inside))
+            (ended_agrees m meaning start (attempts plan t) g.0.0 (pass_lists (passes_of passes t)) (lists_at m (closed_histories closed) t)
+            (subst (λ n. (e : ℕ) → has_end m n e ≡ true → lists_at m (closed_histories closed) t e ≡ pass_lists (passes_of passes t) e) (sym (r.numbers t g.0 g.1)) (lists_same m (λ t. pass_lists (passes_of passes t)) closed k t inside))
             (r.ended t g.0 g.1));
-        known = known m (λ t. lists_of_passes (passes_of passes t)) closed k;
-        histories = (words_are m (λ t. lists_of_passes (passes_of passes t)) closed k).histories;
+        known = known m (λ t. pass_lists (passes_of passes t)) closed k;
+        histories = (words_are m (λ t. pass_lists (passes_of passes t)) closed k).histories;
       };
     }

@@ -10,12 +10,12 @@ use Rattle.cell_grid.specs.declared.record.Record.{Record}
 use Rattle.draw_stream.specs.declared.attempt.Attempt.{Attempt}
 use Rattle.event_journal.specs.declared.abandoned.Abandoned.{Abandoned}
 use Rattle.edge_lock.specs.declared.history.Hold.{Hold}
-use Rattle.edge_lock.specs.EndLists.{EndLists, end_lists, hold_of, closed_hold, is_held as has_hold, after_give}
+use Rattle.edge_lock.specs.EndLists.{EndLists, end_lists, hold_of, closed_hold, is_last_open, after_give}
 use Rattle.edge_lock.proofs.LastHolds.{is_held-snoc, change_last-snoc}
 use Rattle.border_cache.specs.Windows.{has}
 use Rattle.tile_core.specs.declared.phase.Phase.TheVariants.{Finished, Worn as WornPhase}
 use Rattle.tile_core.specs.Values.{TileValue}
-use Rattle.tile_core.specs.Turns.{Turn, Worn, Wins, Loses, Wears, Wearless, AreTurns, AreAttempts, HasPlayed, AgreeOnEdges, lists_of, with_more, one_if, records_of, abandoned_of, cells_of}
+use Rattle.tile_core.specs.Turns.{Turn, Worn, Wins, Loses, Wears, Wearless, AreTurns, AreAttempts, HasPlayed, AgreeOnEdges, lists_of, with_more, one_if, records_in_turns, abandoned_in_turns, cells_of}
 use Rattle.tile_core.proofs.Lists.{free_of}
 use Rattle.serial_order.specs.Scene.{WearsLast, IsStopped, HasEnded}
 use Rattle.serial_order.specs.Boards.{HasStopped}
@@ -32,8 +32,8 @@ one_back h past false is =
     ap (λ x. if x then after_give (with_more (h ∷ []) [] past) else with_more (h ∷ []) [] past) (is_held-snoc past.holds h ∙ is)
     ∙ ap (λ g. with_more (g ∷ []) [] past) same
 
-none_back : (past : EndLists) → has_hold past.holds ≡ false → let_go (with_more [] [] past) ≡ with_more [] [] past
-none_back past free = let_go_none (with_more [] [] past) (ap has_hold (append-nil past.holds) ∙ free)
+none_back : (past : EndLists) → is_last_open past.holds ≡ false → let_go (with_more [] [] past) ≡ with_more [] [] past
+none_back past free = let_go_none (with_more [] [] past) (ap is_last_open (append-nil past.holds) ∙ free)
 
 -- the worn turn with its holds given back
 abbrev shut : Worn → Worn
@@ -66,8 +66,8 @@ module _ (m : MapValue) (meaning : WindowValue → ℕ → WindowValue) (start :
           each = (record { centre = each.0.centre; holds = each.0.holds; high = each.0.high }, each.1, each.2);
           all = p.all ∙ ap (λ l. length l) is;
           made = (attempts.0, attempts.1);
-          records_are = p.records_are ∙ ap records_of is;
-          abandoned_are = p.abandoned_are ∙ ap abandoned_of is;
+          records_are = p.records_are ∙ ap records_in_turns is;
+          abandoned_are = p.abandoned_are ∙ ap abandoned_in_turns is;
           lists_are = worn_lists x older each.2 each.1 (subst (λ l. AgreeOnEdges m t a (lists_of m t l)) is p.lists_are);
         },
         tt,

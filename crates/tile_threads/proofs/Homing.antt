@@ -1,11 +1,11 @@
 -- Workers sent out and taken apart one by one.
-use Rattle.std.proofs.Common.{◌≡◌, ℕ, ◌<◌, ◌≤◌, List, [], ◌∷◌, ◌++◌, take, drop, length, get_or, refl, sym, ap, ◌∙◌, subst, arith, length-append}
+use Rattle.std.proofs.Common.{◌≡◌, ℕ, ◌<◌, ◌≤◌, List, [], ◌∷◌, ◌++◌, length, get_or, refl, sym, ap, ◌∙◌, subst, arith, length-append}
 use Rattle.std.specs.Prelude.{slice_index_or}
-use Rattle.std.proofs.lemmas.List.{append_assoc, get_or_append_left, take-append-le, take_all}
+use Rattle.std.proofs.lemmas.List.{append_assoc, get_or_append_left}
 use mathlib.Core.Logic.{dite}
 use native.Mathlib.Decide.{ℕ_discrete}
 use Rattle.edge_lock.specs.Passes.{PassValue}
-use Rattle.edge_lock.specs.SharedEnds.{SharedEndValue, SamePasses, lists_at}
+use Rattle.edge_lock.specs.SharedEnds.{SharedEndValue, SamePasses, pass_lists}
 use Rattle.tile_core.specs.Turns.{AgreeOnEdges}
 use Rattle.tile_map.specs.Plane.{MapValue}
 use Rattle.tile_core.specs.Values.{TileValue}
@@ -40,11 +40,7 @@ sent_more done new all xs xs' ps ps' x p w isx isp isw is so_far =
     ap (λ l. l ++ workers_of xs' ps') is ∙ (append_assoc done (w ∷ []) (workers_of xs' ps') ∙ ((λ i. done ++ isw i ∷ workers_of xs' ps') ∙ ((λ i. done ++ workers_of (sym isx i) (sym isp i)) ∙ so_far)))
 
 -- an end that has moved and given back what it had
-pub home_of : (m : MapValue) (t n : ℕ) (was old new : SharedEndValue) (passes : List PassValue) → n ≡ t → old ≡ was → SamePasses old new → AgreeOnEdges m n (lists_at new.passes) (λ e. let_go (lists_at old.passes e)) → passes ≡ new.passes → CameHome m t was.passes passes
+pub home_of : (m : MapValue) (t n : ℕ) (was old new : SharedEndValue) (passes : List PassValue) → n ≡ t → old ≡ was → SamePasses old new → AgreeOnEdges m n (pass_lists new.passes) (λ e. let_go (pass_lists old.passes e)) → passes ≡ new.passes → CameHome m t was.passes passes
 home_of m t n was old new passes number is moved lists same =
     subst (CameHome m t was.passes) (sym same)
     (subst (λ (y : ℕ × SharedEndValue). CameHome m y.0 y.1.passes new.passes) (λ i. (number i, is i)) (record { same = moved.passes; lists_are = lists }))
-
--- a list that was lent whole and came back
-pub whole_back : {X : Type 0} (n : ℕ) (new old : List X) → length new ≡ length old → n ≡ length old → take n (new ++ drop (length new) old) ≡ new
-whole_back n new old long is = take-append-le n new (drop (length new) old) (omega (arith, long, is)) ∙ take_all n new (omega (arith, long, is))

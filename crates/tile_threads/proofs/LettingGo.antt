@@ -1,8 +1,9 @@
 -- The edges of a worn tile, given back one by one.
-use Rattle.std.proofs.Common.{◌≡◌, ◌≢◌, ℕ, ◌+◌, ◌*◌, ◌<◌, ◌≤◌, eqb, Bool, true, false, List, [], ◌∷◌, length, get_or, take, refl, sym, ap, ◌∙◌, subst, arith}
+use Rattle.std.proofs.Common.{◌≡◌, ℕ, ◌+◌, ◌*◌, ◌<◌, ◌≤◌, eqb, Bool, true, false, List, [], ◌∷◌, length, get_or, take, refl, sym, ap, ◌∙◌, subst, arith}
 use Rattle.std.specs.Prelude.{if◌then◌else◌, ◌==◌, nat_lt}
 use Rattle.std.proofs.lemmas.List.{take_all, append-nil}
 use Rattle.std.proofs.lemmas.Bool.Decides.{nat_tests}
+use Rattle.std.proofs.lemmas.Bool.{eqb-false}
 use Rattle.list_laws.proofs.Tests.{both}
 use Rattle.bit_field.specs.Atom.{AtomValue}
 use Rattle.window_sites.specs.Window.{WindowValue}
@@ -10,7 +11,7 @@ use Rattle.tile_map.specs.Plane.{Site, MapValue, in_plane, is_live, is_on, owner
 use Rattle.tile_map.specs.Edges.{needs_of, has_end}
 use Rattle.draw_stream.specs.declared.attempt.Attempt.{Attempt}
 use Rattle.edge_lock.specs.declared.history.Hold.{Hold}
-use Rattle.edge_lock.specs.EndLists.{EndLists, hold_of, is_held, writes_nothing, IsHeld, IsFree, HasNoWrite, after_give, replace_at}
+use Rattle.edge_lock.specs.EndLists.{EndLists, hold_of, is_last_open, writes_nothing, IsHeld, IsFree, HasNoWrite, after_give, replace_at}
 use Rattle.edge_lock.proofs.BoardLaws.{here_after, else_after, free_given}
 use Rattle.border_cache.specs.Windows.{has, end_at}
 use Rattle.border_cache.specs.Copies.{IsCentre}
@@ -19,14 +20,8 @@ use Rattle.tile_core.specs.declared.phase.Phase.TheVariants.{Finished, Worn}
 use Rattle.tile_core.specs.Values.{TileValue, centre}
 use Rattle.tile_core.specs.Turns.{AgreeOnEdges, lists_of, with_more, one_if}
 use Rattle.tile_core.specs.Underway.{IsUnderway, InPhase}
-use Rattle.tile_core.proofs.Lists.{free_of, held_more, quiet_more}
+use Rattle.tile_core.proofs.Lists.{free_of, held_more, quiet_more, eqb_of}
 use Rattle.tile_threads.specs.Passes.{let_go}
-
-pub eqb_of : (d e : ℕ) → eqb d e ≡ true → e ≡ d
-eqb_of d e is = grind (arith, is)
-
-eqb_not : (d e : ℕ) → eqb d e ≡ false → d ≢ e
-eqb_not d e is = grind (arith, is)
 
 -- the end has these edges, on which its holds have written nothing, and no other
 pub record HasHolds (m : MapValue) (t : ℕ) (needs : List ℕ) (a : ℕ → EndLists) : Type 0 where
@@ -67,7 +62,7 @@ module _ (m : MapValue) (t : ℕ) (needs : List ℕ) (a b : ℕ → EndLists) (h
           let same : e ≡ d = eqb_of d e q in
           let here : c e ≡ after_give (a e) = here_after b c e (after_give (b e)) is ∙ ap after_give still in
           subst (λ k. c k ≡ after_give (a k)) same here ∙ ap aim (sym (more ∙ ap (λ x. if x then true else has d (take n needs)) q))
-      go false q = else_after b c e d (after_give (b e)) is (eqb_not d e q) ∙ (so_far d own ∙ ap aim (sym (more ∙ ap (λ x. if x then true else has d (take n needs)) q)))
+      go false q = else_after b c e d (after_give (b e)) is (eqb-false d e q) ∙ (so_far d own ∙ ap aim (sym (more ∙ ap (λ x. if x then true else has d (take n needs)) q)))
 
 -- nothing is given back yet
 pub gave_none : (m : MapValue) (t : ℕ) (needs : List ℕ) (a : ℕ → EndLists) → AgreeOnEdges m t a (after_some a needs 0)
@@ -83,9 +78,9 @@ gave_all m t needs a b h n le so_far e own = so_far e own ∙ (ap (λ es. if has
 
 -- an end that has given back what it had has nothing
 pub let_go_free : (l : EndLists) → IsFree (let_go l)
-let_go_free l = go (is_held l.holds) refl
+let_go_free l = go (is_last_open l.holds) refl
   where
-    go : (x : Bool) → is_held l.holds ≡ x → IsFree (if x then after_give l else l)
+    go : (x : Bool) → is_last_open l.holds ≡ x → IsFree (if x then after_give l else l)
     go true q = free_given l
     go false q = q
 
@@ -107,7 +102,7 @@ module _ (m : MapValue) (meaning : WindowValue → ℕ → WindowValue) (start :
     ends = u.needs.ends;
     held = λ e q. subst IsHeld (sym (here e q)) (held_more (hold e) [] (past e) refl);
     quiet = λ e q. subst HasNoWrite (sym (here e q)) (quiet_more (hold e) [] (past e) (ap writes_nothing (h.1.2.is e q)));
-    free = λ e own q. subst IsFree (sym (h.1.1 e own ∙ ap (λ x. with_more (one_if x (hold e)) [] (past e)) q)) (ap is_held (append-nil (past e).holds) ∙ free_of m meaning start tile.number u.turns e u.each u.unworn);
+    free = λ e own q. subst IsFree (sym (h.1.1 e own ∙ ap (λ x. with_more (one_if x (hold e)) [] (past e)) q)) (ap is_last_open (append-nil (past e).holds) ∙ free_of m meaning start tile.number u.turns e u.each u.unworn);
   }
     where
       h : InPhase m meaning start attempts u.turns tile a Worn

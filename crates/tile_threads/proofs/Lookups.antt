@@ -10,15 +10,15 @@ use Rattle.tile_map.specs.Plane.{MapValue}
 use Rattle.tile_map.specs.Edges.{has_end}
 use Rattle.edge_lock.specs.EndLists.{end_lists}
 use Rattle.edge_lock.specs.Passes.{EdgeValue, PassValue}
-use Rattle.edge_lock.specs.SharedEnds.{EdgeAndEnd, edge_and_end, IsPassOf, registers_at, end_at as end_in, lists_at}
+use Rattle.edge_lock.specs.SharedEnds.{EdgeAndEnd, edge_and_end, IsPassOf, pass_registers, pass_end, pass_lists}
 use Rattle.edge_lock.proofs.HistorySteps.{all-cons, all-none, all-head, all-tail}
 use Rattle.border_cache.specs.Windows.{end_at}
 use Rattle.tile_threads.specs.Passes.{no_edge, edge_of, right_to, AreEdges, own_edges, HasPasses, IsUnused}
 
 -- what a list of passes says of an edge of its own
 pub record Found (m : MapValue) (edges : List EdgeValue) (t e : ℕ) (ps : List PassValue) : Type 0 where
-  pub registers : registers_at ps e ≡ (edge_of edges e).registers
-  pub end : end_in ps e ≡ end_at m t e
+  pub registers : pass_registers ps e ≡ (edge_of edges e).registers
+  pub end : pass_end ps e ≡ end_at m t e
 
 module _ (m : MapValue) (edges : List EdgeValue) (a : AreEdges m edges) (t : ℕ) where
   abbrev Known : List ℕ → Type 0
@@ -33,13 +33,13 @@ module _ (m : MapValue) (edges : List EdgeValue) (a : AreEdges m edges) (t : ℕ
       let number : p.of.number ≡ k = ap (λ (w : EdgeAndEnd). w.of.number) here ∙ a.numbers k (known k (inl refl)) in
       dite (ℕ_discrete k e)
       (λ same. let hit = eq-eqb p.of.number e (number ∙ same) in record {
-        registers = ap (λ b. cond b p.of.registers (registers_at ps e)) hit ∙ (ap (λ (w : EdgeAndEnd). w.of.registers) here ∙ ap (λ j. (edge_of edges j).registers) same);
-        end = ap (λ b. cond b p.end (end_in ps e)) hit ∙ (ap (λ (w : EdgeAndEnd). w.end) here ∙ ap (end_at m t) same);
+        registers = ap (λ b. cond b p.of.registers (pass_registers ps e)) hit ∙ (ap (λ (w : EdgeAndEnd). w.of.registers) here ∙ ap (λ j. (edge_of edges j).registers) same);
+        end = ap (λ b. cond b p.end (pass_end ps e)) hit ∙ (ap (λ (w : EdgeAndEnd). w.end) here ∙ ap (end_at m t) same);
       })
       (λ apart. let miss = ne_eqb p.of.number e (λ h. apart (sym number ∙ h)) in
       let f = found ks ps (λ j q. known j (inr q)) rest e (⊎_elim (λ h. absurd (apart (sym h))) (λ q. q) i) in record {
-        registers = ap (λ b. cond b p.of.registers (registers_at ps e)) miss ∙ f.registers;
-        end = ap (λ b. cond b p.end (end_in ps e)) miss ∙ f.end;
+        registers = ap (λ b. cond b p.of.registers (pass_registers ps e)) miss ∙ f.registers;
+        end = ap (λ b. cond b p.end (pass_end ps e)) miss ∙ f.end;
       })
 
   passes_stand : (ks : List ℕ) (ps : List PassValue) → Known ks → map edge_and_end ps ≡ map (right_to m edges t) ks → All (IsPassOf edges) ps
@@ -66,11 +66,11 @@ module _ (m : MapValue) (edges : List EdgeValue) (a : AreEdges m edges) (t : ℕ
     own_stand = passes_stand (own_edges m t 0 n) ps own_known h
 
 -- unused passes have no lists
-pub unused_lists : (ps : List PassValue) → All IsUnused ps → (e : ℕ) → lists_at ps e ≡ end_lists [] []
+pub unused_lists : (ps : List PassValue) → All IsUnused ps → (e : ℕ) → pass_lists ps e ≡ end_lists [] []
 unused_lists [] a e = refl
 unused_lists (p ∷ ps) a e = go (eqb p.of.number e) (unused_lists ps (all-tail IsUnused p ps a) e)
   where
-    go : (b : Bool) → lists_at ps e ≡ end_lists [] [] → cond b p.lists (lists_at ps e) ≡ end_lists [] []
+    go : (b : Bool) → pass_lists ps e ≡ end_lists [] [] → cond b p.lists (pass_lists ps e) ≡ end_lists [] []
     go true r = all-head IsUnused p ps a
     go false r = r
 

@@ -15,7 +15,7 @@ use Rattle.edge_lock.specs.Passes.{EdgeValue, PassValue, IsFresh}
 use Rattle.edge_lock.specs.SharedEnds.{edge_and_end}
 use Rattle.edge_lock.proofs.HistorySteps.{all-none}
 use Rattle.border_cache.specs.Windows.{end_at, sites_on}
-use Rattle.tile_threads.specs.Passes.{no_edge, edge_of, passes_of, right_to, AreEdges, own_edges, HasPasses, IsUnused, AreMade}
+use Rattle.tile_threads.specs.Passes.{no_edge, edge_of, passes_of, right_to, AreEdges, own_edges, HasPasses, IsUnused, AreEdgesMade}
 use Rattle.tile_threads.proofs.Lookups.{map_same}
 
 get_last : (es : List EdgeValue) (x : EdgeValue) (n : ℕ) → length es ≡ n → edge_of (es ++ x ∷ []) n ≡ x
@@ -61,7 +61,7 @@ module _ (m : MapValue) (e : ℕ) where
   pub high_is : low_end m e < high_end m e → end_at m (high_end m e) e ≡ 1
   high_is lt = ap (λ b. cond {A = ℕ} b 0 1) (ne_eqb (low_end m e) (high_end m e) (λ h. omega (arith, h, lt)))
 
-module _ (m : MapValue) (n : ℕ) (es : List EdgeValue) (ps : List (List PassValue)) (k : AreMade m n es ps) (rises : low_end m n < high_end m n) (inside : high_end m n < tiles_of m)
+module _ (m : MapValue) (n : ℕ) (es : List EdgeValue) (ps : List (List PassValue)) (k : AreEdgesMade m n es ps) (rises : low_end m n < high_end m n) (inside : high_end m n < tiles_of m)
     (x : EdgeValue) (number : x.number ≡ n) (registers : x.registers ≡ registers_of (sites_on m n)) (p q : PassValue) (low : IsFresh p x 0) (high : IsFresh q x 1)
   where
     abbrev lo : ℕ
@@ -114,7 +114,7 @@ module _ (m : MapValue) (n : ℕ) (es : List EdgeValue) (ps : List (List PassVal
         older : (e : ℕ) → e < length (es ++ x ∷ []) → e ≢ n → e < length es
         older e lt not_last = let w = k.known in omega (arith, lt, not_last, w, length-append es (x ∷ []))
 
-    pub made_more : AreMade m (n + 1) (es ++ x ∷ []) two
+    pub made_more : AreEdgesMade m (n + 1) (es ++ x ∷ []) two
     made_more = record {
       known = let w = k.known in omega (arith, w, length-append es (x ∷ []));
       edges_are = edges_more;
@@ -130,7 +130,7 @@ module _ (m : MapValue) (n : ℕ) (es : List EdgeValue) (ps : List (List PassVal
     }
 
 -- no edge was made
-pub none_made : (m : MapValue) (es : List EdgeValue) (ps : List (List PassValue)) → es ≡ [] → ps ≡ replicate (tiles_of m) [] → AreMade m 0 es ps
+pub none_made : (m : MapValue) (es : List EdgeValue) (ps : List (List PassValue)) → es ≡ [] → ps ≡ replicate (tiles_of m) [] → AreEdgesMade m 0 es ps
 none_made m es ps is none = record {
   known = ap (λ l. length l) is;
   edges_are = record { numbers = λ e lt. absurd (let w = ap (λ l. length l) is in omega (arith, lt, w)); registers = λ e lt. absurd (let w = ap (λ l. length l) is in omega (arith, lt, w)) };

@@ -12,8 +12,8 @@ use Rattle.draw_stream.specs.declared.attempt.Attempt.{Attempt}
 use Rattle.draw_stream.specs.Plans.{PlanValue, attempts}
 use Rattle.edge_lock.specs.EndLists.{EndLists, end_lists, IsFree}
 use Rattle.edge_lock.specs.Passes.{EdgeValue, PassValue}
-use Rattle.edge_lock.specs.SharedEnds.{SharedEndValue, registers_at, end_at, lists_at, SamePasses, IsPassOf}
-use Rattle.border_cache.specs.Windows.{end_at as end_for}
+use Rattle.edge_lock.specs.SharedEnds.{SharedEndValue, pass_registers, pass_end, pass_lists, SamePasses, IsPassOf}
+use Rattle.border_cache.specs.Windows.{end_at}
 use Rattle.border_cache.specs.Copies.{IsEndOf}
 use Rattle.tile_core.specs.declared.phase.Phase.{Phase}
 use Rattle.tile_core.specs.declared.phase.Phase.TheVariants.{Draw, Lock, Refresh, Behave, Write, Give, Back, Finished, Worn}
@@ -26,7 +26,7 @@ use Rattle.serial_order.specs.Scene.{HasEnded}
 use Rattle.serial_order.specs.Outcomes.{IsMade}
 use Rattle.tile_threads.specs.declared.worker.Worker.{Worker}
 use Rattle.tile_threads.specs.Runs.{IsReady, HasWorked, EachDid}
-use Rattle.tile_threads.specs.Passes.{passes_of, let_go, AreMade}
+use Rattle.tile_threads.specs.Passes.{passes_of, let_go, AreEdgesMade}
 use Rattle.serial_order.specs.Fresh.{AreFresh}
 use Rattle.tile_threads.specs.Whole.{worker_of, workers_of, tiles_in, IsDone, CameHome, HaveComeHome, HaveReturned}
 use Rattle.tile_threads.proofs.Lookups.{Found, found_own, own_stand, unused_lists}
@@ -57,13 +57,13 @@ abbrev tile_of : SharedEndValue → ℕ
 tile_of s = s.tile
 
 abbrev registers_in : SharedEndValue → ℕ → ℕ
-registers_in s = registers_at s.passes
+registers_in s = pass_registers s.passes
 
 abbrev ends_in : SharedEndValue → ℕ → ℕ
-ends_in s = end_at s.passes
+ends_in s = pass_end s.passes
 
 abbrev lists_in : SharedEndValue → ℕ → EndLists
-lists_in s = lists_at s.passes
+lists_in s = pass_lists s.passes
 
 workers_count : {B : Type 0} (xs : List (TileValue × B)) (ps : List (List PassValue)) → length xs ≡ length ps → length (workers_of xs ps) ≡ length xs
 workers_count [] ps is = refl
@@ -77,7 +77,7 @@ worker_at (x ∷ xs) (p ∷ ps) is zero none d lt = refl
 worker_at (x ∷ xs) (p ∷ ps) is (suc t) none d lt = worker_at xs ps (omega (arith, is)) t none d (omega (arith, lt))
 
 -- the passes of all tiles stand
-pub all_stand : (m : MapValue) (es : List EdgeValue) (ps : List (List PassValue)) → AreMade m (length (pairs_of m)) es ps → All (All (IsPassOf es)) ps
+pub all_stand : (m : MapValue) (es : List EdgeValue) (ps : List (List PassValue)) → AreEdgesMade m (length (pairs_of m)) es ps → All (All (IsPassOf es)) ps
 all_stand m es ps k t d lt =
     let known = k.known in
     let tiles = k.tiles in
@@ -89,7 +89,7 @@ all_stand m es ps k t d lt =
     same (x ∷ xs) zero d lt = refl
     same (x ∷ xs) (suc t) d lt = same xs t d (omega (arith, lt))
 
-module _ {B : Type 0} (after : B → WindowValue → ℕ → WindowValue) (m : MapValue) (es : List EdgeValue) (ps : List (List PassValue)) (k : AreMade m (length (pairs_of m)) es ps) (meaning : WindowValue → ℕ → WindowValue) (start : GridValue) (plan : PlanValue) (xs : List (TileValue × B))
+module _ {B : Type 0} (after : B → WindowValue → ℕ → WindowValue) (m : MapValue) (es : List EdgeValue) (ps : List (List PassValue)) (k : AreEdgesMade m (length (pairs_of m)) es ps) (meaning : WindowValue → ℕ → WindowValue) (start : GridValue) (plan : PlanValue) (xs : List (TileValue × B))
     (f : AreFresh after m meaning start plan xs)
   where
     pub same_count : length xs ≡ length ps
@@ -109,10 +109,10 @@ module _ {B : Type 0} (after : B → WindowValue → ℕ → WindowValue) (m : M
           board = record {
             tile_is = refl;
             registers_are = λ e own. (look e own).registers ∙ k.edges_are.registers e (let inside = (there e own).0 in omega (arith, inside, few));
-            end_is = λ e own. (look e own).end ∙ ap (λ n. end_for m n e) (sym fresh.number);
+            end_is = λ e own. (look e own).end ∙ ap (λ n. end_at m n e) (sym fresh.number);
           };
           between = fresh_between m meaning t (atoms_of start) (attempts plan t) x.0 fresh;
-          underway = (atoms_of start, attempts plan t, fresh.underway (after x.1) (lists_at (passes_of ps t)) (λ e own. unused_lists (passes_of ps t) (k.unused t lt) e));
+          underway = (atoms_of start, attempts plan t, fresh.underway (after x.1) (pass_lists (passes_of ps t)) (λ e own. unused_lists (passes_of ps t) (k.unused t lt) e));
         }
 
     given_at : (t : ℕ) (none : Worker B SharedEndValue) → t < length xs → slice_get xs t ≡ Some (get_or xs t none.tile)
@@ -169,15 +169,15 @@ module _ {B : Type 0} (after : B → WindowValue → ℕ → WindowValue) (m : M
             let number = r.worked.number ∙ (f.fresh t (get_or xs t none.tile) r.is).number in
             record { run = r; number = number; came = subst (λ n. CameHome m n (get_or vs t none).end.passes (passes_of qs t)) number (home.each t none lt) }
 
-        ended_one : (t : ℕ) (x : TileValue × B) (v : Worker B SharedEndValue) → IsHome t x v → HasEnded m meaning (atoms_of start) (attempts plan t) (lists_at (passes_of qs t)) v.tile.0
+        ended_one : (t : ℕ) (x : TileValue × B) (v : Worker B SharedEndValue) → IsHome t x v → HasEnded m meaning (atoms_of start) (attempts plan t) (pass_lists (passes_of qs t)) v.tile.0
         ended_one t x v h =
             let w = h.run.worked in
             let ready = ready_one t x h.run.inside h.run.is in
             let fresh = f.fresh t x h.run.is in
-            let u = fresh.underway (after x.1) (lists_at (passes_of ps t)) (λ e own. unused_lists (passes_of ps t) (k.unused t h.run.inside) e) in
+            let u = fresh.underway (after x.1) (pass_lists (passes_of ps t)) (λ e own. unused_lists (passes_of ps t) (k.unused t h.run.inside) e) in
             let e = w.ends (atoms_of start) (attempts plan t) u in
-            let ended = subst (λ mean. HasEnded m mean (atoms_of start) (attempts plan t) (lists_at v.end.passes) v.tile.0) (f.meanings t x h.run.is) e in
-            ended_back m meaning (atoms_of start) (attempts plan t) (lists_at v.end.passes) (lists_at (passes_of qs t)) v.tile.0 (subst (λ n. (d : ℕ) → has_end m n d ≡ true → lists_at (passes_of qs t) d ≡ let_go (lists_at v.end.passes d)) (sym h.number) h.came.lists_are) ended w.stopped
+            let ended = subst (λ mean. HasEnded m mean (atoms_of start) (attempts plan t) (pass_lists v.end.passes) v.tile.0) (f.meanings t x h.run.is) e in
+            ended_back m meaning (atoms_of start) (attempts plan t) (pass_lists v.end.passes) (pass_lists (passes_of qs t)) v.tile.0 (subst (λ n. (d : ℕ) → has_end m n d ≡ true → pass_lists (passes_of qs t) d ≡ let_go (pass_lists v.end.passes d)) (sym h.number) h.came.lists_are) ended w.stopped
 
         count_all : length vs ≡ tiles_of m
         count_all = long ∙ (workers_count xs ps same_count ∙ f.count)
@@ -214,15 +214,15 @@ module _ {B : Type 0} (after : B → WindowValue → ℕ → WindowValue) (m : M
               let ready = ready_one t y h.run.inside h.run.is in
               let v = get_or vs t (blank x) in
               subst (λ (z : TileValue × B). IsMade m z.0) (sym (get_or-map (λ (w : Worker B SharedEndValue). w.tile) vs t (blank x) x inside))
-              (after y.1, lists_at v.end.passes, (ready.underway.0, ready.underway.1, h.run.worked.far ready.underway.0 ready.underway.1 ready.underway.2));
+              (after y.1, pass_lists v.end.passes, (ready.underway.0, ready.underway.1, h.run.worked.far ready.underway.0 ready.underway.1 ready.underway.2));
           ended = λ t x is.
               let g = taken_from t x is in
-              subst (λ (z : TileValue × B). HasEnded m meaning (atoms_of start) (attempts plan t) (lists_at (passes_of qs t)) z.0) (sym g.1) (ended_one t (get_or xs t x) (get_or vs t (blank x)) (is_home t (blank x) g.0));
+              subst (λ (z : TileValue × B). HasEnded m meaning (atoms_of start) (attempts plan t) (pass_lists (passes_of qs t)) z.0) (sym g.1) (ended_one t (get_or xs t x) (get_or vs t (blank x)) (is_home t (blank x) g.0));
           left = record {
             whole = omega arith;
             known = k.known;
             edges_are = k.edges_are;
-            free = λ t e lt own. let h = home_at t lt (blank (some_tile t lt)) in subst IsFree (sym (h.came.lists_are e own)) (let_go_free (lists_at (get_or vs t (blank (some_tile t lt))).end.passes e));
+            free = λ t e lt own. let h = home_at t lt (blank (some_tile t lt)) in subst IsFree (sym (h.came.lists_are e own)) (let_go_free (pass_lists (get_or vs t (blank (some_tile t lt))).end.passes e));
             tiles = home.count ∙ count_all;
             each = λ t lt. let h = home_at t lt (blank (some_tile t lt)) in h.came.same ∙ (h.run.worked.moved_on.passes ∙ k.each t lt);
             lists_are = λ t e lt le own. refl;

@@ -9,7 +9,7 @@ use Rattle.tile_map.specs.Plane.{MapValue, tiles_of}
 use Rattle.tile_map.specs.Edges.{pairs_of, low_end, high_end, has_end}
 use Rattle.edge_lock.specs.EndLists.{EndLists, IsFree}
 use Rattle.edge_lock.specs.Passes.{EdgeValue, PassValue, ClosedValue, IsClosed}
-use Rattle.edge_lock.specs.SharedEnds.{EdgeAndEnd, edge_and_end, lists_at}
+use Rattle.edge_lock.specs.SharedEnds.{EdgeAndEnd, edge_and_end, pass_lists}
 use Rattle.border_cache.specs.Windows.{end_at}
 use Rattle.serial_order.specs.Words.{no_closed, closed_at}
 use Rattle.tile_threads.specs.Passes.{edge_of, passes_of, right_to, own_edges, HasPasses, TakesFirst, AreLeft, IsClosedEdge}
@@ -31,7 +31,7 @@ pub record IsFirst (m : MapValue) (edges : List EdgeValue) (lists : ℕ → ℕ 
   pub end : p.end ≡ end_at m t first
   pub lists_are : p.lists ≡ lists t first
   pub after : HasPasses m edges (first + 1) n t rest
-  pub later : (e : ℕ) → first + 1 ≤ e → has_end m t e ≡ true → lists_at rest e ≡ lists t e
+  pub later : (e : ℕ) → first + 1 ≤ e → has_end m t e ≡ true → pass_lists rest e ≡ lists t e
 
 module _ (m : MapValue) (edges : List EdgeValue) (lists : ℕ → ℕ → EndLists) (first n : ℕ) (ps : List (List PassValue)) (k : AreLeft m edges lists first (n + 1) ps) where
   inside_first : first < length (pairs_of m)
@@ -48,9 +48,9 @@ module _ (m : MapValue) (edges : List EdgeValue) (lists : ℕ → ℕ → EndLis
   first_is t lt own p rest is = record {
     of = of;
     end = ap (λ (w : EdgeAndEnd). w.end) here;
-    lists_are = sym (ap (λ b. cond b p.lists (lists_at rest first)) (eq-eqb p.of.number first number)) ∙ (ap (λ l. lists_at l first) (sym is) ∙ k.lists_are t first lt (omega arith) own);
+    lists_are = sym (ap (λ b. cond b p.lists (pass_lists rest first)) (eq-eqb p.of.number first number)) ∙ (ap (λ l. pass_lists l first) (sym is) ∙ k.lists_are t first lt (omega arith) own);
     after = cc whole;
-    later = λ e le end. sym (ap (λ b. cond b p.lists (lists_at rest e)) (ne_eqb p.of.number e (λ h. omega (arith, h, number, le)))) ∙ (ap (λ l. lists_at l e) (sym is) ∙ k.lists_are t e lt (omega (arith, le)) end);
+    later = λ e le end. sym (ap (λ b. cond b p.lists (pass_lists rest e)) (ne_eqb p.of.number e (λ h. omega (arith, h, number, le)))) ∙ (ap (λ l. pass_lists l e) (sym is) ∙ k.lists_are t e lt (omega (arith, le)) end);
   }
     where
       whole : edge_and_end p ∷ map edge_and_end rest ≡ right_to m edges t first ∷ map (right_to m edges t) (own_edges m t (first + 1) n)
@@ -132,7 +132,7 @@ module _ (m : MapValue) (edges : List EdgeValue) (lists : ℕ → ℕ → EndLis
           tiles = ap (λ l. length l) b.is ∙ (length-set one hi b.rest ∙ tiles_one);
           each = by_tile (λ t l. HasPasses m edges (first + 1) n t l) low_first.after high_first.after
               (λ t x y lt. k.each t lt ∙ ap (map (right_to m edges t)) (own_skips m t first n (none_has m first t x y)));
-          lists_are = λ t e lt le own. by_tile (λ t l. (e : ℕ) → first + 1 ≤ e → has_end m t e ≡ true → lists_at l e ≡ lists t e) low_first.later high_first.later
+          lists_are = λ t e lt le own. by_tile (λ t l. (e : ℕ) → first + 1 ≤ e → has_end m t e ≡ true → pass_lists l e ≡ lists t e) low_first.later high_first.later
               (λ t x y lt e le own. k.lists_are t e lt (omega (arith, le)) own) t lt e le own;
         }
 

@@ -4,9 +4,9 @@ use Rattle.std.specs.List.{range_with_len}
 use Rattle.feast_base.specs.Edges.{registers_of}
 use Rattle.tile_map.specs.Plane.{MapValue, tiles_of}
 use Rattle.tile_map.specs.Edges.{pairs_of, low_end, high_end, has_end}
-use Rattle.edge_lock.specs.EndLists.{EndLists, end_lists, is_held, IsFree, after_give}
+use Rattle.edge_lock.specs.EndLists.{EndLists, end_lists, is_last_open, IsFree, after_give}
 use Rattle.edge_lock.specs.Passes.{EdgeValue, edge_value, PassValue, ClosedValue, IsClosed}
-use Rattle.edge_lock.specs.SharedEnds.{EdgeAndEnd, edge_and_end, lists_at}
+use Rattle.edge_lock.specs.SharedEnds.{EdgeAndEnd, edge_and_end, pass_lists}
 use Rattle.border_cache.specs.Windows.{end_at, sites_on}
 use Rattle.serial_order.specs.Words.{closed_at}
 
@@ -44,7 +44,7 @@ abbrev pub IsUnused : PassValue → Type 0
 IsUnused pass = pass.lists ≡ end_lists [] []
 
 -- the first n edges of the plane were made, and each tile has the passes of its edges among them, unused
-pub record AreMade (m : MapValue) (n : ℕ) (edges : List EdgeValue) (passes : List (List PassValue)) : Type 0 where
+pub record AreEdgesMade (m : MapValue) (n : ℕ) (edges : List EdgeValue) (passes : List (List PassValue)) : Type 0 where
   pub known : length edges ≡ n
   pub edges_are : AreEdges m edges
   pub tiles : length passes ≡ tiles_of m
@@ -59,7 +59,7 @@ pub record TakesFirst (old new : List (List PassValue)) (t : ℕ) (pass : PassVa
 
 -- what an end did on an edge, once it has given the edge back, if it had it
 abbrev pub let_go : EndLists → EndLists
-let_go lists = if is_held lists.holds then after_give lists else lists
+let_go lists = if is_last_open lists.holds then after_give lists else lists
 
 -- The n edges from `first` on are not yet closed: each tile has the passes of its edges among them, with these lists, on which
 -- no tile has an edge.
@@ -70,7 +70,7 @@ pub record AreLeft (m : MapValue) (edges : List EdgeValue) (lists : ℕ → ℕ 
   pub free : (t e : ℕ) → t < tiles_of m → has_end m t e ≡ true → IsFree (lists t e)
   pub tiles : length passes ≡ tiles_of m
   pub each : (t : ℕ) → t < tiles_of m → HasPasses m edges first n t (passes_of passes t)
-  pub lists_are : (t e : ℕ) → t < tiles_of m → first ≤ e → has_end m t e ≡ true → lists_at (passes_of passes t) e ≡ lists t e
+  pub lists_are : (t e : ℕ) → t < tiles_of m → first ≤ e → has_end m t e ≡ true → pass_lists (passes_of passes t) e ≡ lists t e
 
 -- edge e was closed with what the ends of its two tiles did there
 pub record IsClosedEdge (m : MapValue) (lists : ℕ → ℕ → EndLists) (e : ℕ) (closed : ClosedValue) : Type 0 where

@@ -7,7 +7,7 @@ use Rattle.cell_grid.specs.Grid.{GridValue}
 use Rattle.draw_stream.specs.Plans.{PlanValue, attempts}
 use Rattle.edge_lock.specs.EndLists.{EndLists}
 use Rattle.edge_lock.specs.Passes.{EdgeValue, PassValue, ClosedValue}
-use Rattle.edge_lock.specs.SharedEnds.{SharedEndValue, shared_end_value, edge_and_end, lists_at}
+use Rattle.edge_lock.specs.SharedEnds.{SharedEndValue, shared_end_value, edge_and_end, pass_lists}
 use Rattle.border_cache.specs.Copies.{IsEndOf}
 use Rattle.tile_core.specs.Values.{TileValue, atoms_of}
 use Rattle.tile_core.specs.Turns.{AgreeOnEdges}
@@ -42,7 +42,7 @@ pub record IsDone {B D : Type 0} (tile : D → ℕ) (registers end_of : D → �
 -- a tile's passes are those that its end had, and what the end still had was given back
 pub record CameHome (m : MapValue) (t : ℕ) (was passes : List PassValue) : Type 0 where
   pub same : map edge_and_end passes ≡ map edge_and_end was
-  pub lists_are : AgreeOnEdges m t (lists_at passes) (λ e. let_go (lists_at was e))
+  pub lists_are : AgreeOnEdges m t (pass_lists passes) (λ e. let_go (pass_lists was e))
 
 -- all passes of these workers came home
 pub record HaveComeHome {B : Type 0} (m : MapValue) (workers : List (Worker B SharedEndValue)) (passes : List (List PassValue)) : Type 0 where
@@ -54,8 +54,8 @@ pub record HaveReturned {B : Type 0} (m : MapValue) (meaning : WindowValue → �
   pub count : length tiles ≡ tiles_of m
   pub numbers : (t : ℕ) (x : TileValue × B) → slice_get tiles t ≡ Some x → x.0.number ≡ t
   pub made : All (λ (x : TileValue × B). IsMade m x.0) tiles
-  pub ended : (t : ℕ) (x : TileValue × B) → slice_get tiles t ≡ Some x → HasEnded m meaning (atoms_of start) (attempts plan t) (lists_at (passes_of passes t)) x.0
-  pub left : AreLeft m edges (λ t. lists_at (passes_of passes t)) 0 (length (pairs_of m)) passes
+  pub ended : (t : ℕ) (x : TileValue × B) → slice_get tiles t ≡ Some x → HasEnded m meaning (atoms_of start) (attempts plan t) (pass_lists (passes_of passes t)) x.0
+  pub left : AreLeft m edges (λ t. pass_lists (passes_of passes t)) 0 (length (pairs_of m)) passes
 
 -- the run is over: everything holds that the settling of its grid and journal requires
 pub record HasRun {B : Type 0} (m : MapValue) (meaning : WindowValue → ℕ → WindowValue) (start : GridValue) (plan : PlanValue) (tiles : List (TileValue × B)) (closed : List ClosedValue) : Type 0 where

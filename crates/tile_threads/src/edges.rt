@@ -1,7 +1,7 @@
 //! The edges of a plane, with the passes of its tiles.
 ghost use Rattle.std.specs.Prelude.{◌≡◌, ◌<◌, ◌+◌, [], ◌∷◌, ◌++◌, IfOk, OnOk, length, replicate, slice_set, vec_len};
 ghost use Rattle.tile_map.specs.Edges.{pairs_of};
-ghost use Rattle.tile_threads.specs.Passes.{AreMade, passes_of};
+ghost use Rattle.tile_threads.specs.Passes.{AreEdgesMade, passes_of};
 
 use crate::tile_passes::TilePasses;
 use edge_lock::{Edge, Pass};
@@ -37,8 +37,8 @@ fn make_edge(
     passes: &mut Vec<TilePasses>,
 ) -> Result<(), NoMemory>
     requires known { edge < length (pairs_of map.now) }
-    requires made { AreMade map.now edge edges.old.items passes.old.items }
-    ensures { OnOk result (AreMade map.now (edge + 1) edges.new.items passes.new.items) }
+    requires made { AreEdgesMade map.now edge edges.old.items passes.old.items }
+    ensures { OnOk result (AreEdgesMade map.now (edge + 1) edges.new.items passes.new.items) }
 {
     let (lower, higher) = map.ends(edge);
     let (made, low, high) = Edge::new(alloc, edge, map.shared(edge))?;
@@ -50,7 +50,7 @@ fn make_edge(
 
 /// All edges of the map's plane, and for each tile the passes of its edges, in their order.
 pub(crate) fn make_edges(alloc: Global, map: &Map) -> Result<(Vec<Edge>, Vec<TilePasses>), NoMemory>
-    ensures { IfOk result (λ r. AreMade map.now (length (pairs_of map.now)) r.0.items r.1.items) }
+    ensures { IfOk result (λ r. AreEdgesMade map.now (length (pairs_of map.now)) r.0.items r.1.items) }
 {
     let mut edges = Vec::new(alloc);
     let mut passes = no_passes(alloc, map.tiles())?;

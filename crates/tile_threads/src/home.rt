@@ -2,7 +2,7 @@
 ghost use Rattle.std.specs.Prelude.{◌≡◌, ℕ, All, IfOk, length};
 ghost use Rattle.window_sites.specs.Window.{WindowValue};
 ghost use Rattle.border_cache.specs.Copies.{IsEndOf};
-ghost use Rattle.edge_lock.specs.SharedEnds.{IsPassOf, registers_at, end_at, lists_at, edge_and_end};
+ghost use Rattle.edge_lock.specs.SharedEnds.{IsPassOf, pass_registers, pass_end, pass_lists, edge_and_end};
 ghost use Rattle.tile_core.specs.Turns.{AgreeOnEdges};
 ghost use Rattle.tile_core.specs.Underway.{IsSome};
 ghost use Rattle.serial_order.specs.Boards.{HasStopped};
@@ -62,7 +62,7 @@ fn give_rest<B: Behave, D: Board>(map: &Map, tile: &Tile<B>, end: &mut D)
 
 /// The passes of a worker that has stopped, and its tile.
 fn take_apart<'a, B: Behave>(map: &Map, worker: Worker<B, SharedEnd<'a>>) -> (Tile<B>, TilePasses)
-    requires { IsDone (λ s. s.tile) (λ s. registers_at s.passes) (λ s. end_at s.passes) (λ s. lists_at s.passes) map.now worker }
+    requires { IsDone (λ s. s.tile) (λ s. pass_registers s.passes) (λ s. pass_end s.passes) (λ s. pass_lists s.passes) map.now worker }
     ensures tile { result.0 ≡ worker.entry.tile }
     ensures home { CameHome map.now worker.entry.tile.0.number worker.entry.end.passes result.1 }
 {
@@ -78,7 +78,7 @@ pub(crate) fn come_home<'a, B: Behave + Drop>(
     map: &Map,
     workers: Vec<Worker<B, SharedEnd<'a>>>,
 ) -> Result<(Vec<Tile<B>>, Vec<TilePasses>), NoMemory>
-    requires { All (IsDone (λ s. s.tile) (λ s. registers_at s.passes) (λ s. end_at s.passes) (λ s. lists_at s.passes) map.now) workers.items }
+    requires { All (IsDone (λ s. s.tile) (λ s. pass_registers s.passes) (λ s. pass_end s.passes) (λ s. pass_lists s.passes) map.now) workers.items }
     ensures tiles { IfOk result (λ r. r.0.items ≡ tiles_in workers.entry.items) }
     ensures passes { IfOk result (λ r. HaveComeHome map.now workers.entry.items r.1.items) }
 {

@@ -5,7 +5,7 @@ ghost use Rattle.cell_grid.specs.Grid.{GridValue};
 ghost use Rattle.draw_stream.specs.Plans.{PlanValue};
 ghost use Rattle.serial_order.specs.Fresh.{AreFresh};
 ghost use Rattle.tile_map.specs.Edges.{pairs_of};
-ghost use Rattle.tile_threads.specs.Passes.{AreMade};
+ghost use Rattle.tile_threads.specs.Passes.{AreEdgesMade};
 ghost use Rattle.tile_threads.specs.Whole.{HasRun, HaveReturned};
 
 use crate::closing::close_edges;
@@ -32,7 +32,7 @@ fn run_over<R: Threads + Sync, B: Behave + Send + Drop, G: Gate>(
     passes: Vec<TilePasses>,
     gate: &G,
 ) -> Result<(Vec<Tile<B>>, Vec<TilePasses>), NoMemory>
-    requires made { AreMade map.now (length (pairs_of map.now)) edges.now passes.items }
+    requires made { AreEdgesMade map.now (length (pairs_of map.now)) edges.now passes.items }
     requires fresh { (meaning : WindowValue → ℕ → WindowValue) × (start : GridValue) × (plan : PlanValue) × AreFresh B.after map.now meaning start plan tiles.items }
     ensures { IfOk result (λ r. (meaning : WindowValue → ℕ → WindowValue) (start : GridValue) (plan : PlanValue) → AreFresh B.after map.now meaning start plan tiles.items → HaveReturned map.now meaning start plan edges.now r.0.items r.1.items) }
 {

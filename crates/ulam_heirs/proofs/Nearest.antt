@@ -6,6 +6,7 @@ use Rattle.std.specs.Option.{option_or, option_to_list}
 use Rattle.std.proofs.lemmas.Bool.{false≢true, and_parts}
 use Rattle.std.proofs.lemmas.List.Elements.{filter-append}
 use Rattle.std.proofs.lemmas.Slice.Eq.{bytes_eq-Decides}
+use Rattle.std.proofs.Math.Bool.{or-false}
 use Rattle.ulam_tree.specs.Raw.{Member}
 use Rattle.ulam_heirs.specs.Lines.{Heir}
 use Rattle.ulam_heirs.specs.Flat.{member_word, is_function, is_named, has_word, declares, says_virtual, is_virtual_name, is_virtual, is_left_out, own_members, flat_behind, flat, first_named, nearest}
@@ -46,10 +47,6 @@ any_of f p (m ∷ ms) = go (f m) refl (p m) (any_of f p ms)
     go false fa true h = rw fa h
     go false fa false h = rw fa h
 
-or_false : (a : Bool) → (a || false) ≡ a
-or_false true = refl
-or_false false = refl
-
 or_none : (o : Option Member) → option_or o None ≡ o
 or_none None = refl
 or_none (Some m) = refl
@@ -76,7 +73,7 @@ declares_is name bases h (inl none) = any_of is_function (is_named name) h.class
 declares_is name bases h (inr one) =
     any_of is_function (is_named name) h.class.members
     ∙ ap (list_any is_function) one.1
-    ∙ or_false (is_function one.0)
+    ∙ or-false (is_function one.0)
     ∙ virtual_function bases h one.0 one.2
     ∙ sym (ap is_some (first_is name h.class.members ∙ ap first_of one.1))
 

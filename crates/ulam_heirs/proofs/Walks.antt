@@ -1,10 +1,11 @@
 -- Going up from class to class, a step at a time.
-use Rattle.std.proofs.Common.{◌≡◌, ℕ, zero, suc, ◌+◌, ◌-◌, ◌<◌, ◌≤◌, refl, sym, ap, ◌∙◌, List, [], ◌∷◌, ◌++◌, length, map, Bool, true, false, ◌||◌, Option, Some, None, nat_eq, arith, append_assoc}
+use Rattle.std.proofs.Common.{◌≡◌, ℕ, zero, suc, ◌+◌, ◌-◌, ◌<◌, ◌≤◌, refl, sym, ap, ◌∙◌, List, [], ◌∷◌, ◌++◌, length, map, true, false, ◌||◌, Option, Some, None, nat_eq, arith, append_assoc}
 use Rattle.std.specs.Prelude.{reverse, slice_get}
 use Rattle.std.specs.List.{list_any}
 use Rattle.std.specs.Option.{option_map_or, option_and_then, option_to_list}
 use Rattle.std.proofs.lemmas.Bool.{eq-eqb, ne_eqb}
 use Rattle.std.proofs.lemmas.List.{length-map}
+use Rattle.std.proofs.Math.Bool.{or-false}
 use Rattle.ulam_tree.specs.Ways.{leads}
 use Rattle.ulam_heirs.specs.Lines.{Heir, base_number, base_of, base_list, is_own_base, upward, line_numbers, classes_at, line, bases}
 use Rattle.ulam_heirs.specs.declared.heir.Heir.{Heir as CodeHeir}
@@ -59,15 +60,11 @@ pub leads_here : (bs : List (Option ℕ)) (m k j goal : ℕ) → Some j ≡ base
 unfolding leads
 leads_here bs m k j goal e same = ap (λ o. list_any (λ i. nat_eq i goal || leads (above bs) m i goal) (option_to_list o)) (sym e) ∙ rw (eq-eqb j goal same) refl
 
-or_false : (a : Bool) → (a || false) ≡ a
-or_false true = refl
-or_false false = refl
-
 pub leads_on : (bs : List (Option ℕ)) (m k j goal : ℕ) → Some j ≡ base_in bs k → (j ≡ goal → ⊥) → leads (above bs) (suc m) k goal ≡ leads (above bs) m j goal
 unfolding leads
 leads_on bs m k j goal e other =
     ap (λ o. list_any (λ i. nat_eq i goal || leads (above bs) m i goal) (option_to_list o)) (sym e)
-    ∙ or_false (nat_eq j goal || leads (above bs) m j goal)
+    ∙ or-false (nat_eq j goal || leads (above bs) m j goal)
     ∙ ap (λ b. b || leads (above bs) m j goal) (ne_eqb j goal other)
 
 -- gathering

@@ -90,24 +90,14 @@ pub fn copy_expr(alloc: Global, raw: &Expr) -> Result<Expr, NoMemory>
             place,
         } => Ok(build::number(*value, *unsigned, *place)),
         Expr::Truth { value, place } => Ok(build::truth(*value, *place)),
-        Expr::Path { path } => {
-            let path = copy_path(alloc, path)?;
-            Ok(Expr::Path { path })
-        }
-        Expr::Call { call } => {
-            let path = copy_path(alloc, &call.path)?;
-            let args = copy_args(alloc, call.args.as_slice())?;
-            Ok(build::call(path, args))
-        }
-        Expr::Index { path, at } => {
-            let at = copy_boxed(alloc, at)?;
-            let path = copy_path(alloc, path)?;
-            Ok(Expr::Index { path, at })
-        }
-        Expr::Instance { class } => {
-            let class = copy_word(alloc, class)?;
-            Ok(Expr::Instance { class })
-        }
+        Expr::Path { path } => Ok(Expr::Path {
+            path: copy_path(alloc, path)?,
+        }),
+        Expr::Call { call } => copy_call(alloc, &call.path, call.args.as_slice()),
+        Expr::Index { path, at } => copy_index(alloc, path, at),
+        Expr::Instance { class } => Ok(Expr::Instance {
+            class: copy_word(alloc, class)?,
+        }),
         Expr::Group { inner, place } => {
             let inner = copy_boxed(alloc, inner)?;
             Ok(build::group(inner, *place))
@@ -133,6 +123,27 @@ pub fn copy_expr(alloc: Global, raw: &Expr) -> Result<Expr, NoMemory>
             place,
         } => copy_is(alloc, value, class, *place),
     }
+}
+
+/// A copy of a call.
+#[cycle(expr)]
+fn copy_call(alloc: Global, path: &Path, args: &[Expr]) -> Result<Expr, NoMemory>
+    ensures { IfOk result (λ e. expr_of e ≡ tree.calls (path_of path.now) (args_list args.now)) }
+{
+    let args = copy_args(alloc, args)?;
+    let path = copy_path(alloc, path)?;
+    Ok(build::call(path, args))
+}
+
+/// A copy of an element of an array.
+#[cycle(expr)]
+fn copy_index(alloc: Global, path: &Path, at: &Expr) -> Result<Expr, NoMemory>
+    ensures { IfOk result (λ e. expr_of e ≡ tree.index (path_of path.now) (expr_of at.now)) }
+{
+    let at = copy_expr(alloc, at)?;
+    let at = Box::new(alloc, at)?;
+    let path = copy_path(alloc, path)?;
+    Ok(Expr::Index { path, at })
 }
 
 /// A copy of a cast.

@@ -82,6 +82,8 @@ fn copy_simple(alloc: Global, raw: &Statement) -> Result<Statement, NoMemory>
     }
 }
 
+/// A copy of a statement. Its parts are copied into boxes first, since a box is cheap to drop if
+/// memory runs out.
 #[cycle(statement)]
 #[tactic(auto, using(ulam_tree::proofs::RawRows::block_is, ulam_tree::proofs::RawRows::if_is, ulam_tree::proofs::RawRows::for_is))]
 pub fn copy_statement(alloc: Global, raw: &Statement) -> Result<Statement, NoMemory>
@@ -98,11 +100,7 @@ pub fn copy_statement(alloc: Global, raw: &Statement) -> Result<Statement, NoMem
             let cond = copy_cond(alloc, cond)?;
             Ok(build::if_so(cond, yes, no))
         }
-        Statement::While { cond, body } => {
-            let body = copy_boxed(alloc, body)?;
-            let cond = copy_expr(alloc, cond)?;
-            Ok(Statement::While { cond, body })
-        }
+        Statement::While { cond, body } => copy_while(alloc, body, cond),
         Statement::For {
             first,
             cond,
@@ -124,6 +122,17 @@ pub fn copy_statement(alloc: Global, raw: &Statement) -> Result<Statement, NoMem
         | Statement::Count { .. }
         | Statement::Call { .. } => copy_simple(alloc, raw),
     }
+}
+
+/// A copy of a `while`.
+#[cycle(statement)]
+fn copy_while(alloc: Global, body: &Statement, cond: &Expr) -> Result<Statement, NoMemory>
+    ensures { IfOk result (λ x. statement_of x ≡ tree.while_so (expr_of cond.now) (statement_of body.now)) }
+{
+    let body = copy_statement(alloc, body)?;
+    let body = Box::new(alloc, body)?;
+    let cond = copy_expr(alloc, cond)?;
+    Ok(Statement::While { cond, body })
 }
 
 /// A copy of a statement inside another one.

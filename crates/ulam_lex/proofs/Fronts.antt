@@ -8,6 +8,7 @@ use Rattle.std.proofs.lemmas.Bool.Decides.{nat_tests}
 use Rattle.std.proofs.lemmas.Slice.Eq.{bytes_eq-Decides}
 use Rattle.std.proofs.lemmas.List.{get_or_append_left, get_or_past, get_or-drop, get_or-take, length-take-le, length-append}
 use Rattle.std.proofs.lemmas.List.Sums.{prefix_len_passes, prefix_len_stops, prefix_len-le-length, AllPass-from_list_all}
+use Rattle.feast_base.specs.TypeNames.{is_word_byte}
 use Rattle.ulam_lex.specs.declared.token.TokenKind.TheVariants.{Name, TypeName, Keyword, Number, Sign, End}
 use Rattle.ulam_lex.specs.declared.numeral.Base.{Base}
 use Rattle.ulam_lex.specs.declared.numeral.Base.TheVariants.{Binary, Decimal, Hexadecimal}
@@ -15,7 +16,7 @@ use Rattle.ulam_lex.specs.declared.scan.PieceKind.{PieceKind}
 use Rattle.ulam_lex.specs.declared.scan.PieceKind.TheVariants.{Space, Comment, Token}
 use Rattle.ulam_lex.specs.declared.bytes.Class.{Class}
 use Rattle.ulam_lex.specs.declared.bytes.Class.TheVariants.{White, Small, Capital, Digit, Mark}
-use Rattle.ulam_lex.specs.Bytes.{is_white, is_word_byte, class_of, keywords, is_keyword, signs, is_sign}
+use Rattle.ulam_lex.specs.Bytes.{is_white, class_of, keywords, is_keyword, signs, is_sign}
 use Rattle.ulam_lex.specs.Pieces.{IsSpace, IsLineComment, IsBlockComment, AreDigits, IsNumberToken, IsPiece, IsWord, prefix_of}
 use Rattle.ulam_lex.specs.Starts.{LeavesOpen, BeginsTooLarge, IsDigitless}
 

@@ -6,13 +6,14 @@ use Rattle.std.specs.List.{prefix_len}
 use Rattle.std.proofs.lemmas.Bool.{cases_lt, false≢true}
 use Rattle.std.proofs.lemmas.List.{length-take-le}
 use Rattle.std.proofs.lemmas.List.Sums.{prefix_len_stops, prefix_len-le-length}
+use Rattle.feast_base.specs.TypeNames.{is_word_byte}
 use Rattle.ulam_lex.specs.declared.token.TokenKind.TheVariants.{Name, TypeName, Keyword}
 use Rattle.ulam_lex.specs.declared.scan.PieceKind.{PieceKind}
 use Rattle.ulam_lex.specs.declared.scan.PieceKind.TheVariants.{Space, Token}
 use Rattle.ulam_lex.specs.declared.scan.Start.TheVariants.{Piece}
 use Rattle.ulam_lex.specs.declared.bytes.Class.{Class}
 use Rattle.ulam_lex.specs.declared.bytes.Class.TheVariants.{White, Small, Capital, Digit, Mark}
-use Rattle.ulam_lex.specs.Bytes.{is_white, is_word_byte, class_of, is_keyword}
+use Rattle.ulam_lex.specs.Bytes.{is_white, class_of, is_keyword}
 use Rattle.ulam_lex.specs.Pieces.{IsWord, IsPiece}
 use Rattle.ulam_lex.specs.Starts.{Stands, IsStart}
 use Rattle.ulam_lex.proofs.Fronts.{class_by, first_of, front_class, open_class, large_class, bare_class, only_space, only_small, only_capital, run_bounds, run_passes}

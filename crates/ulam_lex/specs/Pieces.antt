@@ -2,6 +2,7 @@
 use Rattle.std.specs.Prelude.{◌≡◌, ◌⊎◌, ℕ, ◌+◌, ◌*◌, ◌<◌, ◌≤◌, ◌^◌, ◌==◌, Bool, true, false, not, List, [], ◌++◌, length, slice_index, fold, codes}
 use Rattle.std.specs.List.{AllPass}
 use Rattle.std.specs.Char.{digit_value, is_digit}
+use Rattle.feast_base.specs.TypeNames.{is_word_byte}
 use Rattle.ulam_lex.specs.declared.bytes.Class.TheVariants.{Small, Capital}
 use Rattle.ulam_lex.specs.declared.token.TokenKind.{TokenKind}
 use Rattle.ulam_lex.specs.declared.token.TokenKind.TheVariants.{Name, TypeName, Keyword, Number, Sign, End}
@@ -9,7 +10,7 @@ use Rattle.ulam_lex.specs.declared.numeral.Base.{Base}
 use Rattle.ulam_lex.specs.declared.numeral.Base.TheVariants.{Binary, Decimal, Hexadecimal}
 use Rattle.ulam_lex.specs.declared.scan.PieceKind.{PieceKind}
 use Rattle.ulam_lex.specs.declared.scan.PieceKind.TheVariants.{Space, Comment, Token}
-use Rattle.ulam_lex.specs.Bytes.{is_white, is_word_byte, class_of, is_keyword, is_sign}
+use Rattle.ulam_lex.specs.Bytes.{is_white, class_of, is_keyword, is_sign}
 
 -- one or more bytes of white space
 abbrev pub IsSpace : List ℕ → Type 0

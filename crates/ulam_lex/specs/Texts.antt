@@ -1,6 +1,7 @@
 -- Which list of tokens a text has, or where and why it has none.
 use Rattle.std.specs.Prelude.{◌≡◌, ◌⊎◌, ℕ, ◌+◌, ◌<◌, ◌≤◌, ◌==◌, Bool, true, false, ◌&&◌, List, [], ◌∷◌, ◌++◌, length, slice_index, slice_range, flat_map, count_by}
 use Rattle.std.specs.List.{suffix_len}
+use Rattle.feast_base.specs.TypeNames.{is_word_byte}
 use Rattle.feast_base.specs.declared.place.Place.{Place}
 use Rattle.ulam_lex.specs.declared.token.TokenKind.{TokenKind}
 use Rattle.ulam_lex.specs.declared.token.TokenKind.TheVariants.{Name, TypeName, Keyword, Number, Sign, End}
@@ -9,7 +10,6 @@ use Rattle.ulam_lex.specs.declared.token.LexFault.{LexFault}
 use Rattle.ulam_lex.specs.declared.token.LexFault.TheVariants.{BadByte, OpenComment, NumberTooLarge, TooManyTokens, NoMemory}
 use Rattle.ulam_lex.specs.declared.scan.PieceKind.{PieceKind}
 use Rattle.ulam_lex.specs.declared.scan.PieceKind.TheVariants as piece
-use Rattle.ulam_lex.specs.Bytes.{is_word_byte}
 use Rattle.ulam_lex.specs.Pieces.{is_in_line, IsToken}
 use Rattle.ulam_lex.specs.Starts.{Stands, BeginsNothing, IsDigitless, LeavesOpen, BeginsTooLarge}
 

@@ -1,7 +1,8 @@
 //! The bytes that pieces of a text are made of.
 ghost use Rattle.std.specs.Prelude.{◌≡◌, bytes_eq};
 ghost use Rattle.std.specs.List.{list_any};
-ghost use Rattle.ulam_lex.specs.Bytes.{is_white, is_word_byte, class_of, is_keyword, is_sign};
+ghost use Rattle.feast_base.specs.TypeNames.{is_word_byte};
+ghost use Rattle.ulam_lex.specs.Bytes.{is_white, class_of, is_keyword, is_sign};
 
 /// What a piece that begins with a byte may be.
 #[derive(Clone, Copy, Debug, PartialEq, Eq)]

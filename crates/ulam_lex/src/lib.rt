@@ -2,12 +2,14 @@
 #![tactic(auto)]
 
 mod bytes;
+mod law;
 mod lexer;
 mod numeral;
 mod scan;
 mod token;
 
 pub use bytes::is_keyword;
-pub use lexer::{lex, one_reading};
+pub use law::one_reading;
+pub use lexer::lex;
 pub use numeral::{Numeral, numeral_of};
 pub use token::{LexFault, Token, TokenKind};

@@ -2,7 +2,8 @@
 ghost use Rattle.std.specs.Prelude.{◌≡◌, ℕ, ◌+◌, ◌*◌, ◌<◌, ◌≤◌, ◌^◌, ◌==◌, ◌++◌, length, slice_index, take, drop, IfSome, IfNone, nat_lt, if◌then◌else◌, min, true, false, codes};
 ghost use Rattle.std.specs.Char.{digit_value, is_digit};
 ghost use Rattle.std.specs.List.{prefix_len};
-ghost use Rattle.ulam_lex.specs.Bytes.{is_white, is_word_byte, class_of, is_sign};
+ghost use Rattle.feast_base.specs.TypeNames.{is_word_byte};
+ghost use Rattle.ulam_lex.specs.Bytes.{is_white, class_of, is_sign};
 ghost use Rattle.ulam_lex.specs.Pieces.{is_in_line, prefix_of, radix_of, worth_after};
 ghost use Rattle.ulam_lex.specs.Starts.{IsStart, IsBaseAt, digit_count, digits_of, rest_of, OpensNone};
 

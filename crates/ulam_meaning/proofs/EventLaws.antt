@@ -3,9 +3,11 @@ use Rattle.std.proofs.Common.{◌≡◌, ◌≢◌, inl, inr, ℕ, zero, suc, �
 use Rattle.std.proofs.lemmas.Nat.{pow_pos}
 use Rattle.std.proofs.lemmas.Int.{ints, clamps}
 use Rattle.std.specs.Prelude.{sum, map, slice_set, slice_index_or, nat_eq, ◌&&◌, if◌then◌else◌, ℤ}
+use Rattle.datum.specs.Failures.{IsFailure}
+use Rattle.list_laws.proofs.Slots.{length_set}
 use Rattle.bit_field.specs.Atom.{AtomValue, empty_atom}
 use Rattle.bit_field.proofs.Fields.{replaced-below}
-use Rattle.window_sites.specs.Window.{WindowValue, IsWindow, atom_at, live_at, put_at, swap_at}
+use Rattle.window_sites.specs.Window.{WindowValue, IsWindow, atom_at, live_at, put_at, swap_at, emptied}
 use Rattle.window_sites.proofs.Marks.{set_apart}
 use Rattle.sat_math.specs.declared.NumType.{NumType}
 use Rattle.sat_math.specs.declared.Kind.{Kind}
@@ -25,8 +27,8 @@ use Rattle.ulam_meaning.specs.Values.{with_number}
 use Rattle.ulam_meaning.specs.Runs.{Event, Store, Outcome, gives, fails, wrong, Way}
 use Rattle.ulam_meaning.specs.Expressions.{eval}
 use Rattle.ulam_meaning.specs.Statements.{if_any, exec, exec_part}
-use Rattle.ulam_meaning.specs.Events.{calls_at, behave_key, behaves, emptied, left_by, failure, event_of, after_by, after}
-use Rattle.ulam_meaning.specs.Laws.{IsKnown, EachAtom, HasState, KeepsMarks, TakesTurns, IsFailure, IsLaidOut, bits_of}
+use Rattle.ulam_meaning.specs.Events.{calls_at, behave_key, behaves, left_by, failure, event_of, after_by, after}
+use Rattle.ulam_meaning.specs.Laws.{IsKnown, EachAtom, HasState, KeepsMarks, TakesTurns, IsLaidOut, bits_of}
 use Rattle.ulam_meaning.proofs.Kept.{Each, IfAny, OnWay, IfNumber, Kept, Ends, calls_fine, eval_fine, exec_fine, body_fine, left_fine}
 
 -- Whole events, by a law of windows that holds of the first one
@@ -125,11 +127,6 @@ conditions_take e z d (Some x) = λ s. expressions_take e z d x s
 
 -- Live marks
 
-set_length : {X : Type 0} (xs : List X) (p : ℕ) (a : X) → length (slice_set xs p a) ≡ length xs
-set_length [] p a = refl
-set_length (x ∷ xs) zero a = refl
-set_length (x ∷ xs) (suc p) a = ap suc (set_length xs p a)
-
 marks_same : (w : WindowValue) → KeepsMarks w w
 marks_same w = record { sites = refl; live = refl; others = λ n h. refl }
 
@@ -142,7 +139,7 @@ marks_on u v w a b = record {
 
 -- another atom at a site that is live
 marks_set : (w : WindowValue) (p : ℕ) (a : AtomValue) → live_at w p ≡ true → KeepsMarks w (record w { atoms = slice_set w.atoms p a })
-marks_set w p a h = record { sites = set_length w.atoms p a; live = refl; others = λ n d. set_apart w w.atoms p n a h d }
+marks_set w p a h = record { sites = length_set w.atoms p a; live = refl; others = λ n d. set_apart w w.atoms p n a h d }
 
 marks_put : (w : WindowValue) (p : ℕ) (a : AtomValue) (b : Bool) → live_at w p ≡ b → KeepsMarks w (if b then record w { atoms = slice_set w.atoms p a } else w)
 marks_put w p a true h = marks_set w p a h
@@ -226,12 +223,12 @@ module _ (P : AtomValue → Type 0) (empty : P empty_atom) where
 
 -- Atoms of elements
 
-one_more : (b : Bool) (m n : ℕ) → m ≤ n → (if b then m else suc m) ≤ (if b then n else suc n)
+pub one_more : (b : Bool) (m n : ℕ) → m ≤ n → (if b then m else suc m) ≤ (if b then n else suc n)
 one_more true m n h = h
 one_more false m n h = omega arith
 
 -- the elements among the first classes are no more than all
-count_first : (n : ℕ) (ks : List t.Class) → count_elements (take n ks) ≤ count_elements ks
+pub count_first : (n : ℕ) (ks : List t.Class) → count_elements (take n ks) ≤ count_elements ks
 count_first zero ks = omega arith
 count_first (suc n) [] = omega arith
 count_first (suc n) (c ∷ ks) = one_more c.quark (count_elements (take n ks)) (count_elements ks) (count_first n ks)
@@ -328,11 +325,6 @@ stays_below g w seed l h = after_keeps g w seed (EachAtom HasState) (OfAtom HasS
 pub no_element : (g : Program) (w : WindowValue) (seed : ℕ) → element_of g (atom_at w 0).kind ≡ None → after g w seed ≡ w
 unfolding after
 no_element g w seed h = ap (after_by g w seed) h
-
--- an empty centre
-pub no_centre : (g : Program) (w : WindowValue) (seed : ℕ) → atom_at w 0 ≡ empty_atom → after g w seed ≡ w
-unfolding element_of
-no_centre g w seed h = no_element g w seed (ap (λ b. element_of g b.kind) h)
 
 -- a failure empties the centre
 pub fails_by : (g : Program) (w : WindowValue) (seed c n : ℕ) → element_of g (atom_at w 0).kind ≡ Some c → failure (behaves (event_of w seed) g c w) ≡ Some n → after g w seed ≡ emptied w

@@ -1,8 +1,12 @@
 -- What every run keeps: a law of windows, one of values, and a bound of the turns that are left. One induction over the meaning serves all laws that each of its changes keeps.
 use Rattle.std.proofs.Common.{◌≡◌, ℕ, zero, suc, ◌≤◌, List, [], ◌∷◌, Option, Some, None, refl, subst, arith, Bool, true, false}
 use Rattle.std.specs.Prelude.{slice_get, slice_set, nat_lt, nat_le, nat_eq, if◌then◌else◌, map, ℤ, pos, negsuc}
-use Rattle.bit_field.specs.Atom.{AtomValue, empty_atom}
-use Rattle.window_sites.specs.Window.{WindowValue, atom_at, live_at, put_at, swap_at}
+use Rattle.datum.proofs.Failures.{is_failure}
+use Rattle.datum.specs.Failures.{IsFailure}
+use Rattle.datum.specs.Fields.{get_field}
+use Rattle.sat_math.specs.Operations.{is_zero, one_in}
+use Rattle.bit_field.specs.Atom.{AtomValue, empty_atom, new_atom}
+use Rattle.window_sites.specs.Window.{WindowValue, atom_at, live_at, put_at, swap_at, is_empty_at, emptied}
 use Rattle.sat_math.specs.declared.NumType.{NumType}
 use Rattle.datum.specs.declared.Datum.{Datum}
 use Rattle.datum.specs.declared.Datum.TheVariants.{Number, Atom}
@@ -17,16 +21,12 @@ use Rattle.ulam_tree.specs.declared.op.PairOp.TheVariants as op
 use Rattle.ulam_tree.specs.Typed as t
 use Rattle.ulam_meaning.specs.Programs.{Program, field_at, type_number, slot_types}
 use Rattle.ulam_meaning.specs.Paths.{Span, Spot, itself, local, member, part, window, constant, nothing, bit_of, field_spot, through, spot, Key, function_of, Callee, called, built_in, no_callee, callee, Scene, spot_type}
-use Rattle.ulam_meaning.specs.Values.{is_zero, number_type, width_of, arith_of, arith_with, operator, number_at, default_of, blank, with_number, with_part}
+use Rattle.ulam_meaning.specs.Values.{number_type, width_of, arith_of, arith_with, operator, default_of, with_number, with_part}
 use Rattle.ulam_meaning.specs.Runs.{Event, Store, Outcome, gives, fails, wrong, Way, goes_on, breaks, continues, returns, Calls, turns_spent, too_deep, divided_by_zero, no_such_site, no_bound, lost_self, no_such_index, and_then, by_way, go_on, by_round, after_round, on_number, on_atom, on_one, on_two, on_slot, cast_to, on_self, on_site, on_index, on_bound, on_turn, on_result, with_local, with_site}
-use Rattle.ulam_meaning.specs.Laws.{IsFailure}
 use Rattle.ulam_meaning.specs.Places.{on_part, bit_at, read, read_at, write, write_at}
-use Rattle.ulam_meaning.specs.Expressions.{is_empty_at, ask, itself_drawn, one_in, draw, exchange, built, casts, built_casts, with_first, call, value_given, both, either, operate, has_kind, eval, eval_form, arguments}
+use Rattle.ulam_meaning.specs.Expressions.{ask, draw, exchange, built, casts, built_casts, with_first, call, value_given, both, either, operate, has_kind, eval, eval_form, arguments}
 use Rattle.ulam_meaning.specs.Statements.{holds, choose, test, loop, updated, assign, if_any, one, count_op, declare, give_back, exec, exec_part, exec_all}
-use Rattle.ulam_meaning.specs.Events.{fill, fresh, answer, answer_by, run_body, returned, calls_at, emptied, left_by}
-
-failure : (i : ℕ) → 1 ≤ i → i ≤ 7 → IsFailure i
-failure i l m = record { least = l; most = m }
+use Rattle.ulam_meaning.specs.Events.{fill, fresh, answer, answer_by, run_body, returned, calls_at, left_by}
 
 abbrev pub Each : (Datum → Type 0) → List Datum → Type 0
 Each q [] = Unit {0}
@@ -48,7 +48,7 @@ IfNumber m ty = Unit {0}
 -- laws of windows, of values, and of the types of numbers in states, that each change keeps
 pub record Kept (g : Program) (e : Event) (w : WindowValue → Type 0) (q : Datum → Type 0) (m : NumType → Type 0) : Type 0 where
   pub number : (v : ℤ) → q (Number v)
-  pub blank : (ty : Ty) → q (Atom (blank (type_number g ty)))
+  pub blank : (ty : Ty) → q (Atom (new_atom (type_number g ty)))
   pub empty : q (Atom empty_atom)
   pub member : (c k : ℕ) → IfNumber m (field_at g c k).ty
   pub site : (x : WindowValue) (n : ℕ) → w x → q (Atom (atom_at x n))
@@ -89,28 +89,28 @@ module _ (g : Program) (e : Event) (w : WindowValue → Type 0) (q : Datum → T
   if_fine R false x y h f = f
 
   site_fine : {Y : Type 0} (R : Y → Type 0) (i : ℤ) (go : ℕ → Outcome Y) → ((j : ℕ) → Ends R (go j)) → Ends R (on_site i go)
-  site_fine R (negsuc i) go f = failure no_such_site (omega arith) (omega arith)
-  site_fine R (pos i) go f = if_fine R (nat_le i 40) (go i) _ (λ b. f i) (failure no_such_site (omega arith) (omega arith))
+  site_fine R (negsuc i) go f = is_failure no_such_site (omega arith) (omega arith)
+  site_fine R (pos i) go f = if_fine R (nat_le i 40) (go i) _ (λ b. f i) (is_failure no_such_site (omega arith) (omega arith))
 
   index_fine : {Y : Type 0} (R : Y → Type 0) (i : ℤ) (len : ℕ) (go : ℕ → Outcome Y) → ((j : ℕ) → Ends R (go j)) → Ends R (on_index i len go)
-  index_fine R (negsuc i) len go f = failure no_such_index (omega arith) (omega arith)
-  index_fine R (pos i) len go f = if_fine R (nat_lt i len) (go i) _ (λ b. f i) (failure no_such_index (omega arith) (omega arith))
+  index_fine R (negsuc i) len go f = is_failure no_such_index (omega arith) (omega arith)
+  index_fine R (pos i) len go f = if_fine R (nat_lt i len) (go i) _ (λ b. f i) (is_failure no_such_index (omega arith) (omega arith))
 
   bound_fine : {Y : Type 0} (R : Y → Type 0) (b : ℤ) (go : ℕ → Outcome Y) → ((j : ℕ) → Ends R (go j)) → Ends R (on_bound b go)
-  bound_fine R (negsuc i) go f = failure no_bound (omega arith) (omega arith)
-  bound_fine R (pos zero) go f = failure no_bound (omega arith) (omega arith)
+  bound_fine R (negsuc i) go f = is_failure no_bound (omega arith) (omega arith)
+  bound_fine R (pos zero) go f = is_failure no_bound (omega arith) (omega arith)
   bound_fine R (pos (suc i)) go f = f (suc i)
 
   turn_fine : {Y : Type 0} (R : Y → Type 0) (i : ℕ) (go : ℕ → Outcome Y) → i ≤ n → ((j : ℕ) → j ≤ n → Ends R (go j)) → Ends R (on_turn i go)
-  turn_fine R zero go h f = failure turns_spent (omega arith) (omega arith)
+  turn_fine R zero go h f = is_failure turns_spent (omega arith) (omega arith)
   turn_fine R (suc i) go h f = f i (omega arith)
 
   result_fine : {Y : Type 0} (R : Y → Type 0) (o : Option ℤ) (go : ℤ → Outcome Y) → ((v : ℤ) → Ends R (go v)) → Ends R (on_result o go)
-  result_fine R None go f = failure divided_by_zero (omega arith) (omega arith)
+  result_fine R None go f = is_failure divided_by_zero (omega arith) (omega arith)
   result_fine R (Some v) go f = f v
 
   self_fine : {Y : Type 0} (R : Y → Type 0) (s : Store) (go : AtomValue → Outcome Y) → Fine s → ((a : AtomValue) → nat_eq a.kind e.acting ≡ true → q (Atom a) → Ends R (go a)) → Ends R (on_self e s.window go)
-  self_fine R s go h f = if_fine R (nat_eq (atom_at s.window 0).kind e.acting) (go (atom_at s.window 0)) _ (λ b. f (atom_at s.window 0) b (k.site s.window 0 h.0)) (failure lost_self (omega arith) (omega arith))
+  self_fine R s go h f = if_fine R (nat_eq (atom_at s.window 0).kind e.acting) (go (atom_at s.window 0)) _ (λ b. f (atom_at s.window 0) b (k.site s.window 0 h.0)) (is_failure lost_self (omega arith) (omega arith))
 
   each_get : (xs : List Datum) (i : ℕ) (x : Datum) → slice_get xs i ≡ Some x → Each q xs → q x
   each_get [] i x h f = cc
@@ -184,8 +184,8 @@ module _ (g : Program) (e : Event) (w : WindowValue → Type 0) (q : Datum → T
   read_fine : (at : Spot) (s : Store) → Fine s → Ends q (read e at s)
   read_fine itself s h = self_fine q s (λ a. gives (Atom a) s) h (λ a z f. (f, h))
   read_fine (local i) s h = slot_fine q s.locals i (slice_get s.locals i) _ refl h.1 (λ x f. (f, h))
-  read_fine (member p) s h = self_fine q s (λ a. gives (Number (number_at a p.first p.num)) s) h (λ a z f. (k.number _, h))
-  read_fine (part i p) s h = part_fine q s i (λ a. gives (Number (number_at a p.first p.num)) s) h (λ a f. (k.number _, h))
+  read_fine (member p) s h = self_fine q s (λ a. gives (Number (get_field a p.first p.num)) s) h (λ a z f. (k.number _, h))
+  read_fine (part i p) s h = part_fine q s i (λ a. gives (Number (get_field a p.first p.num)) s) h (λ a f. (k.number _, h))
   read_fine (constant v) s h = (k.number v, h)
   read_fine window s h = tt
   read_fine nothing s h = tt
@@ -193,10 +193,10 @@ module _ (g : Program) (e : Event) (w : WindowValue → Type 0) (q : Datum → T
   read_at_fine : (at : Spot) (i : Datum) (s : Store) → Fine s → Ends q (read_at e at i s)
   read_at_fine window i s h = number_fine q i _ (λ u. site_fine q u _ (λ j. (k.site s.window j h.0, h)))
   read_at_fine (member p) i s h =
-      let last = λ (a : AtomValue) (j : ℕ). gives (Number (number_at a (bit_at p j) p.num)) s in
+      let last = λ (a : AtomValue) (j : ℕ). gives (Number (get_field a (bit_at p j) p.num)) s in
       number_fine q i _ (λ u. self_fine q s (λ a. on_index u p.length (last a)) h (λ a z f. index_fine q u p.length (last a) (λ j. (k.number _, h))))
   read_at_fine (part l p) i s h =
-      let last = λ (a : AtomValue) (j : ℕ). gives (Number (number_at a (bit_at p j) p.num)) s in
+      let last = λ (a : AtomValue) (j : ℕ). gives (Number (get_field a (bit_at p j) p.num)) s in
       number_fine q i _ (λ u. part_fine q s l (λ a. on_index u p.length (last a)) h (λ a f. index_fine q u p.length (last a) (λ j. (k.number _, h))))
   read_at_fine itself i s h = tt
   read_at_fine (local l) i s h = tt
@@ -255,7 +255,7 @@ module _ (g : Program) (e : Event) (w : WindowValue → Type 0) (q : Datum → T
   built_fine Swap xs s h = two_fine (IfAny q) xs _ (λ x y. exchange_fine x y s h)
   built_fine IsLive xs s h = one_fine (IfAny q) xs _ (λ x. ask_fine live_at x s h)
   built_fine IsEmpty xs s h = one_fine (IfAny q) xs _ (λ x. ask_fine is_empty_at x s h)
-  built_fine Create xs s h = one_fine (IfAny q) xs _ (λ x. draw_fine itself_drawn x s h)
+  built_fine Create xs s h = one_fine (IfAny q) xs _ (λ x. draw_fine pos x s h)
   built_fine OneIn xs s h = one_fine (IfAny q) xs _ (λ x. draw_fine one_in x s h)
 
   call_fine : (h : Calls) (c : Callee) (args : List (Option NumType) → Outcome (List Datum)) → FineCalls h → ((cs : List (Option NumType)) → Ends (Each q) (args cs)) → Ends (IfAny q) (call e g h c args)
@@ -481,7 +481,7 @@ module _ (g : Program) (e : Event) (w : WindowValue → Type 0) (q : Datum → T
 
   pub calls_fine : (d : ℕ) → FineCalls (calls_at e g d)
   unfolding calls_at
-  calls_fine zero f xs s u fs = turn_fine (IfAny q) s.turns _ fs.2 (λ i l. failure too_deep (omega arith) (omega arith))
+  calls_fine zero f xs s u fs = turn_fine (IfAny q) s.turns _ fs.2 (λ i l. is_failure too_deep (omega arith) (omega arith))
   calls_fine (suc d) f xs s u fs = turn_fine (IfAny q) s.turns _ fs.2 (λ i l. returned_fine (function_of g f).result s.locals (run_body e g (calls_at e g d) f xs i s) fs.1 (body_fine (calls_at e g d) (calls_fine d) f xs i s u fs l))
 
   -- an event keeps the law of windows

@@ -16,7 +16,7 @@ use Rattle.ulam_meaning.specs.Programs.{Program, Field, fields, members_of}
 use Rattle.ulam_meaning.specs.Laws.{IsLaidOut, SameFields, bits_of}
 
 -- the bits of data members, by their types and lengths
-abbrev by_field : (ℕ → ℕ) → Field → ℕ
+abbrev pub by_field : (ℕ → ℕ) → Field → ℕ
 by_field q f = member_bits q f.ty f.length
 
 widths_as : (q : ℕ → ℕ) (ms : List r.Member) → widths q ms ≡ map (by_field q) (fields ms)
@@ -35,7 +35,7 @@ fields_at [] k = refl
 fields_at (u ∷ us) zero = refl
 fields_at (u ∷ us) (suc k) = fields_at us k
 
-member_same : (q p : ℕ → ℕ) → ((k : ℕ) → q k ≡ p k) → (ty : Ty) (len : ℕ) → member_bits q ty len ≡ member_bits p ty len
+pub member_same : (q p : ℕ → ℕ) → ((k : ℕ) → q k ≡ p k) → (ty : Ty) (len : ℕ) → member_bits q ty len ≡ member_bits p ty len
 member_same q p h (y.Num num) len = refl
 member_same q p h y.Atom len = refl
 member_same q p h y.Empty len = refl

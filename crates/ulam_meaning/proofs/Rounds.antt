@@ -1,11 +1,11 @@
 -- A loop is told more rounds than there are turns, and it doesn't matter how many more: turns end it first.
 use Rattle.std.proofs.Common.{◌≡◌, ℕ, zero, suc, ◌<◌, ◌≤◌, Option, Some, None, refl, arith, Bool, true, false}
 use Rattle.std.specs.Prelude.{ℤ, if◌then◌else◌}
+use Rattle.sat_math.specs.Operations.{is_zero}
 use Rattle.datum.specs.declared.Datum.{Datum}
 use Rattle.datum.specs.declared.Datum.TheVariants.{Number, Atom}
 use Rattle.ulam_tree.specs.Typed as t
 use Rattle.ulam_meaning.specs.Paths.{Scene}
-use Rattle.ulam_meaning.specs.Values.{is_zero}
 use Rattle.ulam_meaning.specs.Runs.{Event, Store, Outcome, gives, fails, wrong, Way, goes_on, breaks, continues, returns, and_then, by_way, go_on, by_round, after_round, on_number, on_turn}
 use Rattle.ulam_meaning.specs.Statements.{test, loop, if_any, exec, exec_part}
 use Rattle.ulam_meaning.specs.Events.{calls_at}

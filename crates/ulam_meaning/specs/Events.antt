@@ -1,7 +1,7 @@
 -- What a function does, and what an event of an element leaves.
-use Rattle.std.specs.Prelude.{ℕ, zero, suc, pos, List, [], ◌∷◌, map, Option, Some, None, slice_set}
+use Rattle.std.specs.Prelude.{ℕ, zero, suc, pos, List, [], ◌∷◌, map, Option, Some, None, ◌≡◌}
 use Rattle.bit_field.specs.Atom.{empty_atom}
-use Rattle.window_sites.specs.Window.{WindowValue, atom_at}
+use Rattle.window_sites.specs.Window.{WindowValue, atom_at, emptied}
 use Rattle.datum.specs.declared.Datum.{Datum}
 use Rattle.datum.specs.declared.Datum.TheVariants.{Number, Atom}
 use Rattle.ulam_tree.specs.declared.resolved.Ty.{Ty}
@@ -63,10 +63,6 @@ behave_key g c = record { class = c; function = behave_of g c; base = 0 }
 unfoldable pub behaves : Event → Program → ℕ → WindowValue → Outcome Way
 behaves e g c w = run_body e g (calls_at e g 16) (behave_key g c) [] 1000 (record { locals = []; window = w; taken = 0; turns = 1000 })
 
--- the window with Empty at site 0
-abbrev pub emptied : WindowValue → WindowValue
-emptied w = record w { atoms = slice_set w.atoms 0 empty_atom }
-
 -- the window that an event leaves: on a failure the old one with Empty at site 0
 abbrev pub left_by : WindowValue → Outcome Way → WindowValue
 left_by w (gives way s) = s.window
@@ -92,3 +88,8 @@ after_by g w seed (Some c) = left_by w (behaves (event_of w seed) g c w)
 -- otherwise what the element leaves
 unfoldable pub after : Program → WindowValue → ℕ → WindowValue
 after g w seed = after_by g w seed (element_of g (atom_at w 0).kind)
+
+-- an empty centre leaves the window as it is
+pub idle-after : (g : Program) (w : WindowValue) (seed : ℕ) → atom_at w 0 ≡ empty_atom → after g w seed ≡ w
+unfolding after element_of
+idle-after g w seed h = λ i. after_by g w seed (element_of g (h i).kind)

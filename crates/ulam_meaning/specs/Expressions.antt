@@ -1,6 +1,8 @@
 -- What an expression means, form by form.
 use Rattle.std.specs.Prelude.{ℕ, suc, ◌%◌, nat_eq, Bool, ℤ, pos, List, [], ◌∷◌, Option, Some, None, if◌then◌else◌}
-use Rattle.window_sites.specs.Window.{WindowValue, atom_at, live_at}
+use Rattle.sat_math.specs.Operations.{of_bool, is_zero, one_in}
+use Rattle.bit_field.specs.Atom.{new_atom}
+use Rattle.window_sites.specs.Window.{WindowValue, live_at, is_empty_at}
 use Rattle.draw_stream.specs.Words.{event_word}
 use Rattle.sat_math.specs.declared.NumType.{NumType}
 use Rattle.datum.specs.declared.Datum.{Datum}
@@ -12,31 +14,19 @@ use Rattle.ulam_tree.specs.declared.op.PairOp.TheVariants as op
 use Rattle.ulam_tree.specs.Typed as t
 use Rattle.ulam_meaning.specs.Programs.{Program, type_number}
 use Rattle.ulam_meaning.specs.Paths.{spot, function_of, Callee, called, built_in, no_callee, callee, Scene}
-use Rattle.ulam_meaning.specs.Values.{truth_of, is_zero, number_type, width_of, arith_of, operator, prefixed, blank}
+use Rattle.ulam_meaning.specs.Values.{number_type, width_of, arith_of, operator, prefixed}
 use Rattle.ulam_meaning.specs.Runs.{Event, Store, Outcome, gives, wrong, Calls, and_then, on_number, on_atom, on_one, on_two, cast_to, on_site, on_bound, on_result, with_swapped}
 use Rattle.ulam_meaning.specs.Places.{read, read_at}
 
 -- The functions of a window and of a random stream
 
--- whether a site is empty
-abbrev pub is_empty_at : WindowValue → ℕ → Bool
-is_empty_at w n = nat_eq (atom_at w n).kind 0
-
 -- a question on a site
 abbrev pub ask : (WindowValue → ℕ → Bool) → Datum → Store → Outcome (Option Datum)
-ask question x s = on_number x (λ i. on_site i (λ n. gives (Some (Number (truth_of (question s.window n)))) s))
+ask question x s = on_number x (λ i. on_site i (λ n. gives (Some (Number (of_bool (question s.window n)))) s))
 
 -- the next random word modulo a bound, which is tested before a word is taken
 abbrev pub draw : Event → (ℕ → ℤ) → Datum → Store → Outcome (Option Datum)
 draw e use_of x s = on_number x (λ b. on_bound b (λ n. gives (Some (Number (use_of (event_word e.seed s.taken % n)))) (record s { taken = suc s.taken })))
-
--- `create`: the number drawn
-abbrev pub itself_drawn : ℕ → ℤ
-itself_drawn r = pos r
-
--- `oneIn`: whether it is 0
-abbrev pub one_in : ℕ → ℤ
-one_in r = truth_of (nat_eq r 0)
 
 -- two sites exchanged
 abbrev pub exchange : Datum → Datum → Store → Outcome (Option Datum)
@@ -47,7 +37,7 @@ abbrev pub built : Event → Built → List Datum → Store → Outcome (Option 
 built e Swap xs s = on_two xs (λ x y. exchange x y s)
 built e IsLive xs s = on_one xs (λ x. ask live_at x s)
 built e IsEmpty xs s = on_one xs (λ x. ask is_empty_at x s)
-built e Create xs s = on_one xs (λ x. draw e itself_drawn x s)
+built e Create xs s = on_one xs (λ x. draw e pos x s)
 built e OneIn xs s = on_one xs (λ x. draw e one_in x s)
 
 -- Calls
@@ -93,7 +83,7 @@ operate f x y s = on_number x (λ a. on_number y (λ b. on_result (f a b) (λ v.
 
 -- whether an atom has a type number
 abbrev pub has_kind : ℕ → Datum → Store → Outcome Datum
-has_kind n x s = on_atom x (λ a. gives (Number (truth_of (nat_eq a.kind n))) s)
+has_kind n x s = on_atom x (λ a. gives (Number (of_bool (nat_eq a.kind n))) s)
 
 -- Expressions
 
@@ -105,11 +95,11 @@ abbrev mutual
   -- each form, with its type
   pub eval_form : Event → Scene → Calls → t.Form → Ty → Store → Outcome Datum
   eval_form e z h (t.number v u p) ty s = gives (Number (pos v)) s
-  eval_form e z h (t.truth b p) ty s = gives (Number (truth_of b)) s
+  eval_form e z h (t.truth b p) ty s = gives (Number (of_bool b)) s
   eval_form e z h (t.reads x) ty s = read e (spot z.program z.base x.steps) s
   eval_form e z h (t.calls x es) ty s = and_then (call e z.program h (callee z.program z.base x.steps) (λ cs. arguments e z h es cs s)) value_given
   eval_form e z h (t.index x i) ty s = and_then (eval e z h i s) (λ n s1. read_at e (spot z.program z.base x.steps) n s1)
-  eval_form e z h (t.instance c) ty s = gives (Atom (blank (type_number z.program c.ty))) s
+  eval_form e z h (t.instance c) ty s = gives (Atom (new_atom (type_number z.program c.ty))) s
   eval_form e z h (t.group a p) ty s = eval e z h a s
   eval_form e z h (t.cast c a p) ty s = and_then (eval e z h a s) (λ x s1. cast_to (number_type c.ty) x s1)
   eval_form e z h (t.prefix o a p) ty s = and_then (eval e z h a s) (λ x s1. on_number x (λ v. gives (Number (prefixed o ty v)) s1))

@@ -1,5 +1,6 @@
 -- What the laws of meaning speak of.
 use Rattle.std.specs.Prelude.{◌≡◌, ◌⊎◌, ℕ, ◌≤◌, ◌<◌, ◌^◌, Bool, List, length, map, sum}
+use Rattle.datum.specs.Failures.{IsFailure}
 use Rattle.bit_field.specs.Atom.{AtomValue, empty_atom}
 use Rattle.window_sites.specs.Window.{WindowValue, atom_at, live_at}
 use Rattle.ulam_tree.specs.Resolved as r
@@ -25,11 +26,6 @@ pub record KeepsMarks (w after : WindowValue) : Type 0 where
   pub sites : length after.atoms ≡ length w.atoms
   pub live : after.live ≡ w.live
   pub others : (n : ℕ) → live_at w n ≡ Bool.false → atom_at after n ≡ atom_at w n
-
--- the numbers of failures
-pub record IsFailure (n : ℕ) : Type 0 where
-  pub least : 1 ≤ n
-  pub most : n ≤ 7
 
 -- A run from a store: no more turns are left at its end than at its beginning, and if it fails,
 -- then by one of the seven failures.

@@ -1,11 +1,12 @@
 -- Reading and writing what paths name.
 use Rattle.std.specs.Prelude.{ℕ, ◌+◌, ◌*◌, slice_get}
+use Rattle.datum.specs.Fields.{get_field}
 use Rattle.bit_field.specs.Atom.{AtomValue}
 use Rattle.window_sites.specs.Window.{atom_at}
 use Rattle.datum.specs.declared.Datum.{Datum}
 use Rattle.datum.specs.declared.Datum.TheVariants.{Number, Atom}
 use Rattle.ulam_meaning.specs.Paths.{Span, Spot, itself, local, member, part, window, constant, nothing, Scene, spot_type}
-use Rattle.ulam_meaning.specs.Values.{number_type, number_at, with_number, with_part}
+use Rattle.ulam_meaning.specs.Values.{number_type, with_number, with_part}
 use Rattle.ulam_meaning.specs.Runs.{Event, Store, Outcome, gives, wrong, Way, goes_on, and_then, on_number, on_atom, on_slot, cast_to, on_self, on_site, on_index, with_local, with_site}
 
 -- the atom in a local
@@ -20,8 +21,8 @@ bit_at p j = p.first + j * p.num.width
 abbrev pub read : Event → Spot → Store → Outcome Datum
 read e itself s = on_self e s.window (λ a. gives (Atom a) s)
 read e (local i) s = on_slot (slice_get s.locals i) (λ x. gives x s)
-read e (member p) s = on_self e s.window (λ a. gives (Number (number_at a p.first p.num)) s)
-read e (part i p) s = on_part s i (λ a. gives (Number (number_at a p.first p.num)) s)
+read e (member p) s = on_self e s.window (λ a. gives (Number (get_field a p.first p.num)) s)
+read e (part i p) s = on_part s i (λ a. gives (Number (get_field a p.first p.num)) s)
 read e (constant v) s = gives (Number v) s
 read e window s = wrong
 read e nothing s = wrong
@@ -29,8 +30,8 @@ read e nothing s = wrong
 -- The value of a path with an index: an atom of the window, or a number of an array. That of the acting element tests site 0 before the index.
 abbrev pub read_at : Event → Spot → Datum → Store → Outcome Datum
 read_at e window i s = on_number i (λ u. on_site u (λ n. gives (Atom (atom_at s.window n)) s))
-read_at e (member p) i s = on_number i (λ u. on_self e s.window (λ a. on_index u p.length (λ j. gives (Number (number_at a (bit_at p j) p.num)) s)))
-read_at e (part l p) i s = on_number i (λ u. on_part s l (λ a. on_index u p.length (λ j. gives (Number (number_at a (bit_at p j) p.num)) s)))
+read_at e (member p) i s = on_number i (λ u. on_self e s.window (λ a. on_index u p.length (λ j. gives (Number (get_field a (bit_at p j) p.num)) s)))
+read_at e (part l p) i s = on_number i (λ u. on_part s l (λ a. on_index u p.length (λ j. gives (Number (get_field a (bit_at p j) p.num)) s)))
 read_at e spot i s = wrong
 
 -- A value stored at a path, cast to the type there. A member of the acting element first tests that

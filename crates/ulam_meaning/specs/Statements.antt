@@ -1,5 +1,6 @@
 -- What a statement means, form by form.
 use Rattle.std.specs.Prelude.{ℕ, zero, suc, Bool, true, false, pos, Option, Some, None, if◌then◌else◌}
+use Rattle.sat_math.specs.Operations.{is_zero}
 use Rattle.datum.specs.declared.Datum.{Datum}
 use Rattle.datum.specs.declared.Datum.TheVariants.{Number}
 use Rattle.ulam_tree.specs.declared.resolved.Ty.{Ty}
@@ -8,7 +9,7 @@ use Rattle.ulam_tree.specs.declared.op.PairOp.TheVariants as op
 use Rattle.ulam_tree.specs.Typed as t
 use Rattle.ulam_meaning.specs.Programs.{type_number}
 use Rattle.ulam_meaning.specs.Paths.{Spot, spot, callee, Scene, spot_type}
-use Rattle.ulam_meaning.specs.Values.{is_zero, number_type, width_of, arith_with, operator, default_of}
+use Rattle.ulam_meaning.specs.Values.{number_type, width_of, arith_with, operator, default_of}
 use Rattle.ulam_meaning.specs.Runs.{Event, Store, Outcome, gives, wrong, Way, goes_on, breaks, continues, returns, Calls, and_then, go_on, after_round, on_number, cast_to, on_turn, with_local}
 use Rattle.ulam_meaning.specs.Places.{read, read_at, write, write_at}
 use Rattle.ulam_meaning.specs.Expressions.{call, operate, has_kind, eval, arguments}

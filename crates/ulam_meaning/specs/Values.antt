@@ -1,6 +1,6 @@
 -- Values: what operators and casts make of numbers, and numbers in the state of an atom.
-use Rattle.std.specs.Prelude.{ℕ, zero, suc, ◌/◌, ◌^◌, nat_le, nat_eq, Bool, true, false, ◌&&◌, ℤ, pos, negsuc, ◌+ℤ◌, ◌-ℤ◌, ◌*ℤ◌, neg_ℤ, int_div, int_rem, bit_and, bit_or, bit_xor, Option, Some, None, if◌then◌else◌}
-use Rattle.bit_field.specs.Atom.{AtomValue, field}
+use Rattle.std.specs.Prelude.{ℕ, nat_le, nat_eq, Bool, true, false, ◌&&◌, ℤ, pos, ◌+ℤ◌, ◌-ℤ◌, ◌*ℤ◌, neg_ℤ, int_div, int_rem, bit_and, bit_or, bit_xor, Option, Some, None, if◌then◌else◌}
+use Rattle.bit_field.specs.Atom.{AtomValue, new_atom}
 use Rattle.bit_field.specs.Words.{with_field}
 use Rattle.sat_math.specs.declared.Kind.{Kind}
 use Rattle.sat_math.specs.declared.Kind.TheVariants as k
@@ -9,8 +9,8 @@ use Rattle.sat_math.specs.declared.Arith.{Arith}
 use Rattle.sat_math.specs.declared.Arith.TheVariants.{Int32, Unsigned32, Int64, Unsigned64}
 use Rattle.sat_math.specs.declared.CompareOp.{CompareOp}
 use Rattle.sat_math.specs.declared.CompareOp.TheVariants as c
-use Rattle.sat_math.specs.Numbers.{modulo, cast, bits, value}
-use Rattle.sat_math.specs.Operations.{saturated, compared, complement, moved_up}
+use Rattle.sat_math.specs.Numbers.{cast, bits}
+use Rattle.sat_math.specs.Operations.{saturated, complement, of_bool, is_zero, low64, shifted_up, shifted_down, comparison}
 use Rattle.datum.specs.declared.Datum.{Datum}
 use Rattle.datum.specs.declared.Datum.TheVariants.{Number, Atom}
 use Rattle.ulam_tree.specs.declared.resolved.Ty.{Ty}
@@ -20,17 +20,6 @@ use Rattle.ulam_tree.specs.declared.op.PrefixOp.TheVariants as pre
 use Rattle.ulam_tree.specs.declared.op.PairOp.{PairOp}
 use Rattle.ulam_tree.specs.declared.op.PairOp.TheVariants as op
 use Rattle.ulam_meaning.specs.Programs.{Program, type_number}
-
--- truth is 1 and 0
-abbrev pub truth_of : Bool → ℤ
-truth_of true = pos 1
-truth_of false = pos 0
-
--- 0 is false, and any other number true
-abbrev pub is_zero : ℤ → Bool
-is_zero (pos zero) = true
-is_zero (pos (suc n)) = false
-is_zero (negsuc n) = false
 
 -- the type of numbers that a type is, if it is one
 abbrev pub number_type : Ty → Option NumType
@@ -70,24 +59,6 @@ exact how v = Some (saturated how v)
 abbrev pub unless_zero : ℤ → Option ℤ → Option ℤ
 unless_zero b r = if is_zero b then None else r
 
--- Bits are whole numbers modulo 2^64 to the operators.
-abbrev pub as_bits : ℤ → ℕ
-as_bits v = modulo v (2 ^ 64)
-
--- moved up within this many bits; a negative number moves nothing, and 0 is left
-abbrev pub shifted_up : ℕ → ℤ → ℤ → Option ℤ
-shifted_up w a (negsuc b) = Some (pos 0)
-shifted_up w a (pos b) = Some (pos (moved_up w (as_bits a) b))
-
--- moved down; a negative number moves nothing, and 0 is left
-abbrev pub shifted_down : ℤ → ℤ → Option ℤ
-shifted_down a (negsuc b) = Some (pos 0)
-shifted_down a (pos b) = Some (pos (as_bits a / 2 ^ b))
-
--- how two numbers compare, as a truth value
-abbrev pub comparison : CompareOp → ℤ → ℤ → Option ℤ
-comparison o a b = Some (truth_of (compared o a b))
-
 -- What an operator gives, or None if it divides by 0: by its arithmetic and, for a shift, the width
 -- of its left side. The right side of `&&` and `||` may not run, so they are with the expressions.
 abbrev pub operator : PairOp → Arith → ℕ → ℤ → ℤ → Option ℤ
@@ -96,13 +67,13 @@ operator op.Sub how w a b = exact how (a -ℤ b)
 operator op.Mul how w a b = exact how (a *ℤ b)
 operator op.Div how w a b = unless_zero b (exact how (int_div a b))
 operator op.Rem how w a b = unless_zero b (exact how (int_rem a b))
-operator op.And how w a b = Some (pos (bit_and (as_bits a) (as_bits b)))
-operator op.Or how w a b = Some (pos (bit_or (as_bits a) (as_bits b)))
-operator op.Xor how w a b = Some (pos (bit_xor (as_bits a) (as_bits b)))
+operator op.And how w a b = Some (pos (bit_and (low64 a) (low64 b)))
+operator op.Or how w a b = Some (pos (bit_or (low64 a) (low64 b)))
+operator op.Xor how w a b = Some (pos (bit_xor (low64 a) (low64 b)))
 operator op.Shl how w a b = shifted_up w a b
 operator op.Shr how w a b = shifted_down a b
-operator op.Both how w a b = Some (pos (bit_and (as_bits a) (as_bits b)))
-operator op.Either how w a b = Some (pos (bit_or (as_bits a) (as_bits b)))
+operator op.Both how w a b = Some (pos (bit_and (low64 a) (low64 b)))
+operator op.Either how w a b = Some (pos (bit_or (low64 a) (low64 b)))
 operator op.Eq how w a b = comparison c.Eq a b
 operator op.Ne how w a b = comparison c.Ne a b
 operator op.Lt how w a b = comparison c.Lt a b
@@ -113,23 +84,15 @@ operator op.Ge how w a b = comparison c.Ge a b
 -- `-`, `!` and `~`, with the type of the result
 abbrev pub prefixed : PrefixOp → Ty → ℤ → ℤ
 prefixed pre.Minus ty v = saturated (arith_by k.Int (nat_le (width_of ty) 32)) (neg_ℤ v)
-prefixed pre.Not ty v = truth_of (is_zero v)
-prefixed pre.Flip ty v = pos (complement (width_of ty) (as_bits v))
+prefixed pre.Not ty v = of_bool (is_zero v)
+prefixed pre.Flip ty v = pos (complement (width_of ty) (low64 v))
 
 -- Atoms
-
--- the atom of a type number with state 0
-abbrev pub blank : ℕ → AtomValue
-blank n = record { kind = n; state = 0 }
 
 -- what a declaration without a value gives: 0, Empty, or the element's atom with state 0
 abbrev pub default_of : Program → Ty → Datum
 default_of g (y.Num num) = Number (pos 0)
-default_of g ty = Atom (blank (type_number g ty))
-
--- the number of a type in the state of an atom, from a bit on
-abbrev pub number_at : AtomValue → ℕ → NumType → ℤ
-number_at a first num = value num (field a first num.width)
+default_of g ty = Atom (new_atom (type_number g ty))
 
 -- the atom with a number in its state, cast to the type
 abbrev pub with_number : AtomValue → ℕ → NumType → ℤ → AtomValue

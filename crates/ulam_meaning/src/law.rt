@@ -1,7 +1,8 @@
 //! The laws of meaning.
 ghost use Rattle.std.specs.Prelude.{◌≡◌, ◌<◌, ℕ, suc, List, Option, Some, None, true};
+ghost use Rattle.datum.specs.Failures.{IsFailure};
 ghost use Rattle.bit_field.specs.Atom.{empty_atom};
-ghost use Rattle.window_sites.specs.Window.{WindowValue, IsWindow, atom_at, live_at};
+ghost use Rattle.window_sites.specs.Window.{WindowValue, IsWindow, atom_at, live_at, emptied};
 ghost use Rattle.datum.specs.declared.Datum.{Datum};
 ghost use Rattle.ulam_tree.specs.Resolved as resolved;
 ghost use Rattle.ulam_tree.specs.Typed as typed;
@@ -11,8 +12,8 @@ ghost use Rattle.ulam_meaning.specs.Programs.{Program, element_of};
 ghost use Rattle.ulam_meaning.specs.Paths.{Key, Scene};
 ghost use Rattle.ulam_meaning.specs.Runs.{Event, Store};
 ghost use Rattle.ulam_meaning.specs.Statements.{loop, if_any, exec, exec_part};
-ghost use Rattle.ulam_meaning.specs.Events.{calls_at, behaves, emptied, failure, event_of, after};
-ghost use Rattle.ulam_meaning.specs.Laws.{IsKnown, EachAtom, HasState, KeepsMarks, TakesTurns, IsFailure, IsLaidOut, SameFields};
+ghost use Rattle.ulam_meaning.specs.Events.{calls_at, behaves, failure, event_of, after};
+ghost use Rattle.ulam_meaning.specs.Laws.{IsKnown, EachAtom, HasState, KeepsMarks, TakesTurns, IsLaidOut, SameFields};
 
 /// What holds of every program, window and seed.
 ///

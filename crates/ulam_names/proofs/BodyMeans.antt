@@ -1,6 +1,6 @@
 -- What is found is a resolution.
-use Rattle.std.proofs.Common.{◌≡◌, ℕ, ◌+◌, refl, List, [], ◌∷◌, Option, Some, None, Bool, true, false, not, Ok, Err, ℤ, drop, nat_lt}
-use Rattle.std.proofs.lemmas.Bool.{ltb-true}
+use Rattle.std.proofs.Common.{ℕ, ◌+◌, refl, List, [], ◌∷◌, Option, Some, None, Bool, not, Ok, Err, ℤ, drop, nat_lt}
+use Rattle.std.proofs.lemmas.Bool.{ltb-true, not-true}
 use Rattle.std.specs.List.{list_any}
 use Rattle.feast_base.specs.declared.place.Place.{Place}
 use Rattle.ulam_tree.specs.declared.resolved.Ty.{Ty}
@@ -97,16 +97,12 @@ cond_means c es (t.seen g d) =
     means_then _ Q (w.path c es (w.one_word g)) _ (path_means c es (w.one_word g)) (λ q hq. means_then _ Q (w.class_named (w.basic_in c) d) _ (class_means (w.basic_in c) d) (λ n hn. (q, n, hq, hn, refl)))
 cond_means c es (t.test e) = means_then _ (IsCond c es (t.test e)) (w.expr c es e) _ (expr_means c es e) (λ d hd. (d, hd, refl))
 
-pub not_false : (b : Bool) → not b ≡ true → b ≡ false
-not_false true h = cc
-not_false false h = refl
-
 declared_means : (c : Context) (s : Scope) (n : ℕ) (x : t.Word) → Means (λ _. MayDeclare c s n x) (w.declared c s n x)
 declared_means c s n x =
     let Q : Unit {0} → Type 0 = λ _. MayDeclare c s n x in
     means_must Q (nat_lt n (c.params + most_locals)) _ _ (λ few.
     let apart : Bool = not (list_any (is_named x.name) (drop s.from s.entries)) in
-    must_means Q apart _ (λ new. (ltb-true n (c.params + most_locals) few, not_false _ new)))
+    must_means Q apart _ (λ new. (ltb-true n (c.params + most_locals) few, not-true _ new)))
 
 mutual
   pub statement_means : (c : Context) (s : Scope) (n : ℕ) (f : t.Statement) → Means (IsStatement c s n f) (w.statement c s n f)

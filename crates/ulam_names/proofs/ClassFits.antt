@@ -1,6 +1,6 @@
 -- What is a resolution of files is found.
-use Rattle.std.proofs.Common.{◌≡◌, ℕ, ◌+◌, refl, sym, ap, ◌∙◌, List, [], ◌∷◌, length, map, Option, Some, None, Bool, true, false, not, Ok, ℤ, nat_lt}
-use Rattle.std.proofs.lemmas.Bool.{lt-ltb}
+use Rattle.std.proofs.Common.{◌≡◌, ℕ, ◌+◌, refl, sym, ap, ◌∙◌, List, [], ◌∷◌, length, map, Option, Some, None, Bool, true, not, Ok, ℤ, nat_lt}
+use Rattle.std.proofs.lemmas.Bool.{lt-ltb, not_from_false}
 use Rattle.feast_base.specs.declared.place.Place.{Place}
 use Rattle.ulam_tree.specs.Raw as t
 use Rattle.ulam_tree.specs.Resolved as r
@@ -38,12 +38,9 @@ params_fit known d done (p ∷ ps) qs h =
     let few : nat_lt (length done) most_params ≡ true = lt-ltb (length done) most_params h.3 in
     rw (type_fits (w.basics known d) (w.values d) p.of h.0 h.2, few, h.4, params_fit known d _ ps h.1 h.5) (ap Ok (sym h.6))
 
-not_true : (b : Bool) → b ≡ false → not b ≡ true
-not_true b h = rw h refl
-
 member_fits : (known : Known) (d : Names) (m : t.Member) (x : Names × List Half) → IsMember known d m x → w.member known d m ≡ Ok x
 member_fits known d (t.typedef ty x) z h =
-    rw (type_fits (w.basics known d) (w.values d) ty h.0 h.2, h.3, new_fits d (small_names d) (not (w.is_built_in x.name)) x (not_true _ h.5) h.4) (ap Ok (sym h.6))
+    rw (type_fits (w.basics known d) (w.values d) ty h.0 h.2, h.3, new_fits d (small_names d) (not (w.is_built_in x.name)) x (not_from_false _ h.5) h.4) (ap Ok (sym h.6))
 member_fits known d (t.constant ty x k) z h =
     rw (type_fits (w.basics known d) (w.values d) ty h.0 h.3, h.4, new_fits d (small_names d) true x refl h.5, value_fits d k h.2 h.6, h.7) (ap Ok (sym h.8))
 member_fits known d (t.field ty x k) z h =

@@ -1,6 +1,6 @@
 -- What is found for files is a resolution.
 use Rattle.std.proofs.Common.{◌≡◌, ℕ, ◌+◌, ◌<◌, refl, sym, ap, subst, ◌∙◌, List, [], ◌∷◌, ◌++◌, length, map, Option, Some, None, Bool, true, false, not, ◌&&◌, ◌||◌, Ok, Err, pos, nat_lt, int_le, is_some}
-use Rattle.std.proofs.lemmas.Bool.{ltb-true}
+use Rattle.std.proofs.lemmas.Bool.{ltb-true, not-true}
 use Rattle.list_laws.proofs.Tests.{both}
 use Rattle.feast_base.specs.declared.place.Place.{Place}
 use Rattle.ulam_tree.specs.Raw as t
@@ -13,17 +13,13 @@ use Rattle.ulam_names.specs.Walk.{width_value, body}
 use Rattle.ulam_names.specs.Classes.{Known, Half, HalfClass, half_field, half_function, first_fault}
 use Rattle.ulam_names.specs.ClassRelation.{AreKnown, IsNew, IsValue, IsLength, AreParams, IsMember, AreMembers, AreItems, AllBehave, NoneCyclic, IsWhole, AreWhole, AreClasses, IsResolved}
 use Rattle.ulam_names.proofs.ClassFits.{program_fits}
-use Rattle.ulam_tree.proofs.Means.{Means, means_then, means_found, means_must, must_means, found_means}
-use Rattle.ulam_names.proofs.BodyMeans.{not_false, type_means, width_means, body_means}
+use Rattle.ulam_tree.proofs.Means.{Means, means_then, means_found, means_must, must_means, found_means, means_more}
+use Rattle.ulam_names.proofs.BodyMeans.{type_means, width_means, body_means}
 
 neither : (a b : Bool) → not (a || b) ≡ true → (a ≡ false) × (b ≡ false)
 neither true b h = cc
 neither false true h = cc
 neither false false h = (refl, refl)
-
-means_then_last : {A : Type 0} (P : A → Type 0) (Q : A → Type 0) (x : Found A) → Means P x → ((a : A) → P a → Q a) → Means Q x
-means_then_last P Q (Ok a) h k = k a h
-means_then_last P Q (Err e) h k = tt
 
 -- what is known after one more class
 abbrev IsNewClass : Known → t.Class → Known → Type 0
@@ -44,7 +40,7 @@ known_means done (t.uses x ∷ xs) = known_means done xs
 known_means done (t.class c ∷ xs) =
     let Q : Known → Type 0 = AreKnown done (t.class c ∷ xs) in
     means_then (IsNewClass done c) Q (w.new_class done c) _ (new_class_means done c) (λ more hm.
-    means_then_last (AreKnown more xs) Q (w.class_names more xs) (known_means more xs)
+    means_more (AreKnown more xs) Q (w.class_names more xs) (known_means more xs)
     (λ known hk. (hm.0, hm.1, hm.2, subst (λ (d : Known). AreKnown d xs known) hm.3 hk)))
 
 new_means : (d : Names) (n : ℕ) (free : Bool) (x : t.Word) → Means (λ _. (free ≡ true) × IsNew d n x) (w.new_name d n free x)
@@ -53,7 +49,7 @@ new_means d n free x =
     means_must Q (nat_lt n most_members) _ _ (λ few.
     must_means Q (free && not (declares_name d x.name)) _ (λ new.
     let p = both free (not (declares_name d x.name)) new in
-    (p.0, (ltb-true n most_members few, not_false _ p.1))))
+    (p.0, (ltb-true n most_members few, not-true _ p.1))))
 
 value_means : (d : Names) (k : t.Const) → Means (IsValue d k) (w.const_value d k)
 value_means d (t.const_number minus n u) = refl
@@ -75,7 +71,7 @@ params_mean known d done (p ∷ ps) =
     means_must Q (nat_lt (length done) most_params) _ _ (λ few.
     means_must Q (not (is_among p.word.name done)) _ _ (λ new.
     means_then _ Q (w.params_of known d (done ++ p.word.name ∷ []) ps) _ (params_mean known d (done ++ p.word.name ∷ []) ps) (λ more hm.
-    (n, more, hn, ltb-true (length done) most_params few, not_false _ new, hm, refl)))))
+    (n, more, hn, ltb-true (length done) most_params few, not-true _ new, hm, refl)))))
 
 member_means : (known : Known) (d : Names) (m : t.Member) → Means (IsMember known d m) (w.member known d m)
 member_means known d (t.typedef ty x) =
@@ -83,7 +79,7 @@ member_means known d (t.typedef ty x) =
     means_then _ Q (w.member_type known d ty) _ (type_means (w.basics known d) (w.values d) ty) (λ n hn.
     means_found Q (as_number n.ty) _ _ (λ num hu.
     means_then _ Q (w.new_name d (small_names d) (not (w.is_built_in x.name)) x) _ (new_means d (small_names d) (not (w.is_built_in x.name)) x) (λ u hw.
-    (n, num, hn, hu, hw.1, not_false _ hw.0, refl))))
+    (n, num, hn, hu, hw.1, not-true _ hw.0, refl))))
 member_means known d (t.constant ty x k) =
     let Q : Names × List Half → Type 0 = IsMember known d (t.constant ty x k) in
     means_then _ Q (w.member_type known d ty) _ (type_means (w.basics known d) (w.values d) ty) (λ n hn.
@@ -145,13 +141,13 @@ items_mean known (t.class c ∷ xs) =
 behave_means : (hs : List HalfClass) → Means (λ _. AllBehave hs) (w.all_behave hs)
 behave_means [] = tt
 behave_means (x ∷ hs) =
-    means_must (λ _. AllBehave (x ∷ hs)) (w.behaves x) _ _ (λ ok. means_then_last (λ _. AllBehave hs) (λ _. AllBehave (x ∷ hs)) (w.all_behave hs) (behave_means hs) (λ u hh. (ok, hh)))
+    means_must (λ _. AllBehave (x ∷ hs)) (w.behaves x) _ _ (λ ok. means_more (λ _. AllBehave hs) (λ _. AllBehave (x ∷ hs)) (w.all_behave hs) (behave_means hs) (λ u hh. (ok, hh)))
 
 apart_means : (heads : List Head) (k : ℕ) (hs : List HalfClass) → Means (λ _. NoneCyclic heads k hs) (w.none_cyclic heads k hs)
 apart_means heads k [] = tt
 apart_means heads k (x ∷ hs) =
     means_must (λ _. NoneCyclic heads k (x ∷ hs)) (not (w.holds_itself heads k)) _ _ (λ ok.
-    means_then_last (λ _. NoneCyclic heads (k + 1) hs) (λ _. NoneCyclic heads k (x ∷ hs)) (w.none_cyclic heads (k + 1) hs) (apart_means heads (k + 1) hs) (λ u hh. (not_false _ ok, hh)))
+    means_more (λ _. NoneCyclic heads (k + 1) hs) (λ _. NoneCyclic heads k (x ∷ hs)) (w.none_cyclic heads (k + 1) hs) (apart_means heads (k + 1) hs) (λ u hh. (not-true _ ok, hh)))
 
 whole_means : (known : Known) (heads : List Head) (k : ℕ) (d : Names) (m : Half) → Means (IsWhole known heads k d m) (w.whole_member known heads k d m)
 whole_means known heads k d (half_field n z len) = refl
@@ -188,7 +184,7 @@ program_means xs =
     means_then _ Q (w.items known xs) _ (items_mean known xs) (λ hs hd.
     means_then _ Q (w.all_behave hs) _ (behave_means hs) (λ u hb.
     means_then _ Q (w.none_cyclic (map w.head_of hs) 0 hs) _ (apart_means (map w.head_of hs) 0 hs) (λ v ha.
-    means_then_last (AreClasses known (map w.head_of hs) 0 hs) Q (w.whole_classes known (map w.head_of hs) 0 hs) (classes_mean known (map w.head_of hs) 0 hs) (λ cs hc.
+    means_more (AreClasses known (map w.head_of hs) 0 hs) Q (w.whole_classes known (map w.head_of hs) 0 hs) (classes_mean known (map w.head_of hs) 0 hs) (λ cs hc.
     record { known = known; halves = hs; named = hn; declared = hd; behave = hb; apart = ha; whole = hc })))))
 
 -- Where there is a fault there is no resolution, and where there is none there is one.

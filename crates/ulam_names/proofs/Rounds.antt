@@ -1,9 +1,10 @@
 -- Rounds over all classes, and which class leads to which.
-use Rattle.std.proofs.Common.{◌≡◌, ℕ, zero, suc, ◌+◌, ◌<◌, refl, sym, ap, ◌∙◌, List, [], ◌∷◌, length, map, get_or, Bool, true, false, ◌||◌, nat_eq, Some, None, Option, add-one, drop, ◌++◌}
+use Rattle.std.proofs.Common.{◌≡◌, ℕ, zero, suc, ◌+◌, ◌<◌, refl, sym, ap, ◌∙◌, List, [], ◌∷◌, length, map, get_or, Bool, true, false, ◌||◌, nat_eq, Some, None, Option, add-one, drop}
 use Rattle.std.specs.Prelude.{slice_get}
 use Rattle.std.specs.Option.{option_map_or}
 use Rattle.std.specs.List.{list_any}
 use Rattle.std.proofs.lemmas.List.{length-map}
+use Rattle.std.proofs.lemmas.List.Folds.{list_any-append}
 use Rattle.ulam_tree.specs.declared.resolved.Ty.{Ty}
 use Rattle.ulam_tree.specs.Ways.{leads, class_number}
 use Rattle.ulam_names.specs.declared.half.HalfClass.{HalfClass}
@@ -49,19 +50,11 @@ holds_is classes row k e =
     ap (λ (r : List Bool). get_or r k false) (e ∙ ap (λ n. row_after n (map head_of classes) k) (sym (length-map classes head_of)))
     ∙ row_is (length (map head_of classes)) (map head_of classes) k k
 
-any_append : (p : ℕ → Bool) (xs ys : List ℕ) → list_any p (xs ++ ys) ≡ (list_any p xs || list_any p ys)
-any_append p [] ys = refl
-any_append p (x ∷ xs) ys = go (p x) (any_append p xs ys)
-  where
-    go : (b : Bool) → list_any p (xs ++ ys) ≡ (list_any p xs || list_any p ys) → (b || list_any p (xs ++ ys)) ≡ ((b || list_any p xs) || list_any p ys)
-    go true h = refl
-    go false h = h
-
 parts_at : (p : ℕ → Bool) (fields : List (Text × Ty)) (n : ℕ) →
     list_any p (field_parts (drop n fields)) ≡ (list_any p (option_map_or (λ (x : Text × Ty). class_number x.1) (slice_get fields n) []) || list_any p (field_parts (drop (suc n) fields)))
 parts_at p [] zero = refl
 parts_at p [] (suc n) = refl
-parts_at p (x ∷ fields) zero = any_append p (class_number x.1) (field_parts fields)
+parts_at p (x ∷ fields) zero = list_any-append p (class_number x.1) (field_parts fields)
 parts_at p (x ∷ fields) (suc n) = parts_at p fields n
 
 -- a data member that leads to no goal, and one that does

@@ -1,6 +1,7 @@
 -- The walk over a body: what it is resolved to, or the first place at which no rule fits.
 use Rattle.std.specs.Prelude.{ℕ, ◌+◌, List, [], ◌∷◌, drop, Option, Some, None, is_some, option_map, not, if◌then◌else◌, nat_lt, ℤ, pos, unsigned_abs, Ok, Err}
 use Rattle.std.specs.List.{list_any}
+use Rattle.feast_base.specs.Places.{no_place}
 use Rattle.feast_base.specs.declared.place.Place.{Place}
 use Rattle.ulam_tree.specs.declared.resolved.Ty.{Ty}
 use Rattle.ulam_tree.specs.declared.resolved.Ty.TheVariants as y
@@ -12,10 +13,6 @@ use Rattle.ulam_tree.specs.Resolved as r
 use Rattle.ulam_tree.specs.Found.{◌>>=◌, found, must}
 use Rattle.ulam_names.specs.Faults.{declared_twice, unknown_name, too_many, bad_width, Found}
 use Rattle.ulam_names.specs.Scopes.{Text, Basic, sized, whole, basic_named, allows, Head, Value, Context, Entry, Scope, is_named, slot_named, first_name, next_name, is_element, inside_local, opened, added, most_locals, beside}
-
--- the place of a path that has no name, which no text has
-abbrev pub nowhere : Place
-nowhere = record { file = 0; line = 0; column = 0 }
 
 -- Types
 
@@ -73,7 +70,7 @@ path_by p first steps = steps >>= λ (more : List Step). Ok (record { place = p;
 
 abbrev pub path_from : Context → List Entry → Option Place → List t.Word → Found r.Path
 path_from c es (Some p) ws = path_by p s.Own (steps_after c.heads (y.Class c.own) ws)
-path_from c es None [] = Err (unknown_name nowhere)
+path_from c es None [] = Err (unknown_name no_place)
 path_from c es None (w ∷ ws) = found (first_name c es w.name) (unknown_name w.place) >>= λ (x : Step × Ty). path_by w.place x.0 (steps_after c.heads x.1 ws)
 
 abbrev pub path : Context → List Entry → t.Path → Found r.Path

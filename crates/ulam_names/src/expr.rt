@@ -46,13 +46,11 @@ pub fn expr(
             class: class_named(context, class)?,
         }),
         raw::Expr::Group { inner, place } => {
-            let inner = boxed(alloc, context, entries, inner)?;
-            Ok(build::group(inner, *place))
+            Ok(build::group(boxed(alloc, context, entries, inner)?, *place))
         }
         raw::Expr::Cast { to, value, place } => cast(alloc, context, entries, to, value, *place),
         raw::Expr::Prefix { op, value, place } => {
-            let value = boxed(alloc, context, entries, value)?;
-            Ok(build::prefix(*op, value, *place))
+            Ok(build::prefix(*op, boxed(alloc, context, entries, value)?, *place))
         }
         raw::Expr::Pair {
             op,

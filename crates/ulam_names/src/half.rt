@@ -8,7 +8,6 @@ use ulam_tree::resolved::Named;
 use ulam_tree::{Statement, Word};
 
 /// A class.
-#[derive(Drop)]
 pub struct HalfClass<'a> {
     pub quark: bool,
     pub word: &'a Word,
@@ -18,13 +17,34 @@ pub struct HalfClass<'a> {
     pub members: Vec<Half<'a>>,
 }
 
+// By hand, so that callers drop by a call.
+impl Drop for HalfClass<'_> {
+    fn drop(self) {
+        let HalfClass {
+            quark,
+            word,
+            names,
+            members,
+        } = self;
+    }
+}
+
 /// A data member or a function.
-#[derive(Drop)]
 pub enum Half<'a> {
     /// A data member with the length of its array, or 0 if it is not an array.
     Field(Named, &'a Word, u32),
     /// A function.
     Function(Pending<'a>),
+}
+
+// By hand, so that callers drop by a call.
+impl Drop for Half<'_> {
+    fn drop(self) {
+        match self {
+            Half::Field(of, word, length) => {}
+            Half::Function(pending) => {}
+        }
+    }
 }
 
 /// A function whose body is not resolved yet.

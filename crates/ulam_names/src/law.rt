@@ -6,7 +6,7 @@ ghost use Rattle.ulam_tree.specs.Ways.{NoneContainsItself};
 ghost use Rattle.ulam_names.specs.Classes.{first_fault};
 ghost use Rattle.ulam_names.specs.ClassRelation.{IsResolved};
 
-/// Files have a resolution exactly where they have no first fault, and at most one. In a resolution
+/// Files have a resolution exactly if they have no first fault, and at most one. In a resolution
 /// no class contains itself, through however many data members.
 pub fn one_resolution()
     ensures some { (items : List Item) → first_fault items ≡ None → (classes : List Class) × IsResolved items classes }

@@ -15,12 +15,23 @@ use ulam_tree::resolved::Ty;
 use ulam_tree::{Const, Word};
 
 /// What a class has declared so far.
-#[derive(Drop)]
 pub struct Names<'a> {
     pub typedefs: Table<'a, NumType>,
     pub constants: Table<'a, Value>,
     pub fields: Table<'a, Ty>,
     pub functions: Table<'a, ()>,
+}
+
+// By hand, so that callers drop by a call.
+impl Drop for Names<'_> {
+    fn drop(self) {
+        let Names {
+            typedefs,
+            constants,
+            fields,
+            functions,
+        } = self;
+    }
 }
 
 impl<'a> Names<'a> {

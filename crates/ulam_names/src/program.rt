@@ -32,7 +32,7 @@ fn find(alloc: Global, files: &[File]) -> Result<Program, NameFault>
 /// What files are resolved to: all their classes in order, with each name as what it means. Else
 /// the first fault in the order in which files are gone through: all class names; then the `use`
 /// items and the members of each class; then elements without `behave`; then quarks that contain
-/// themselves; then the bodies of functions; each in the order of the text. `NoMemory` where it
+/// themselves; then the bodies of functions; each in the order of the text. `NoMemory` if it
 /// can't be kept.
 ///
 /// The one tree that no text has, a path without a name and without `self`, is an unknown name at

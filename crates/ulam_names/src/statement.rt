@@ -12,7 +12,7 @@ ghost use Rattle.ulam_tree.specs.ResolvedViews.{resolved_cond, resolved_statemen
 
 use crate::expr::expr;
 use crate::fault::NameFault;
-use crate::parts::{cond, declare, maybe_expr, show, simple};
+use crate::parts::{self, declare, maybe_expr, show, simple};
 use crate::scope::{Context, Entry};
 use std::alloc::Global;
 use ulam_tree as raw;
@@ -21,7 +21,7 @@ use ulam_tree::resolved_build as build;
 
 /// A statement, and the next slot.
 #[cycle(statement)]
-#[tactic(auto, using(crate::proofs::Bodies::walk_block, crate::proofs::Opened::opened_is))]
+#[tactic(auto, using(crate::proofs::Opened::opened_is))]
 pub fn statement<'a>(
     alloc: Global,
     context: &Context<'_, 'a>,
@@ -44,13 +44,9 @@ pub fn statement<'a>(
             let (list, next) = inner_body(alloc, context, entries, slot, list.as_slice())?;
             Ok((build::block(list), next))
         }
-        raw::Statement::If {
-            cond: test,
-            yes,
-            no,
-        } => {
-            let found = cond(alloc, context, entries.as_slice(), test)?;
-            let (yes, next) = branch(alloc, context, entries, from, slot, yes, test, &found)?;
+        raw::Statement::If { cond, yes, no } => {
+            let found = parts::cond(alloc, context, entries.as_slice(), cond)?;
+            let (yes, next) = branch(alloc, context, entries, from, slot, yes, cond, &found)?;
             let len = entries.len();
             let (no, next) = part(alloc, context, entries, len, next, no)?;
             Ok((build::if_so(found, yes, no), next))
@@ -78,13 +74,7 @@ pub fn statement<'a>(
             let found = declare(alloc, context, entries, from, slot, of, word, value)?;
             Ok((found, slot + 1))
         }
-        raw::Statement::Nothing
-        | raw::Statement::Return { .. }
-        | raw::Statement::Break { .. }
-        | raw::Statement::Continue { .. }
-        | raw::Statement::Assign { .. }
-        | raw::Statement::Count { .. }
-        | raw::Statement::Call { .. } => {
+        _ => {
             let found = simple(alloc, context, entries.as_slice(), raw)?;
             Ok((found, slot))
         }

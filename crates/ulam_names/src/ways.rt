@@ -83,7 +83,7 @@ fn any_open(row: &[bool]) -> bool
     false
 }
 
-/// Whether a class may contain itself: false only where none does. There are as many rounds as
+/// Whether a class may contain itself: false only if none does. There are as many rounds as
 /// data members lie in one another, and at most as many as there are classes.
 pub fn may_be_cyclic(alloc: Global, classes: &[HalfClass]) -> Result<bool, NameFault>
     ensures none { IfOk result (λ may. may ≡ false → walk.none_cyclic (map head_of classes.now) 0 (map half_class classes.now) ≡ Ok tt) }

@@ -1,5 +1,6 @@
 -- The rule of statements by their first token, and that of bodies.
 use Rattle.std.proofs.Common.{ℕ, zero, suc, ◌+◌, ◌≤◌, ◌<◌, ◌≡◌, inl, inr, List, [], ◌∷◌, length, Option, Some, None, Bool, true, false, Ok, refl, ap, sym, ◌∙◌, subst, arith}
+use Rattle.feast_base.specs.Places.{no_place}
 use Rattle.feast_base.specs.declared.place.Place.{Place}
 use Rattle.ulam_tree.specs.Raw.{Word, Statement, block, empty, if_so, while_so, for_all, returns, breaks, continues, declares, assigns, counts, does, Body, no_more, then_so}
 use Rattle.ulam_parse.specs.declared.symbol.Symbol.{Symbol}
@@ -14,7 +15,7 @@ use Rattle.ulam_parse.specs.Reading.{Read, Reader, ◌>>=◌, same, sees}
 use Rattle.ulam_parse.specs.Statements as r
 use Rattle.ulam_parse.specs.Sentences.{is_end}
 use Rattle.ulam_parse.proofs.Tells.{decide, same_is, first, unseen, one_first, Tells, tells_as, tells_behind, Behind}
-use Rattle.ulam_parse.proofs.Rules.{Free, Rule, Filled, Then, Map, Into, Back, Seen, Unseen, token, further, map, choice, then_law, map_law, some_place, some_word, none_some}
+use Rattle.ulam_parse.proofs.Rules.{Free, Rule, Filled, Then, Map, Into, Back, Seen, Unseen, token, further, map, choice, then_law, map_law, some_word, none_some}
 use Rattle.ulam_parse.proofs.OperandRule.{same_first, behind_first, place_in}
 use Rattle.ulam_parse.proofs.CondRules.{Closed}
 use Rattle.ulam_parse.proofs.SimpleRules.{ended_closes, declare_rule}
@@ -113,7 +114,7 @@ body_other no_more vs end c h w = absurd (unseen s.CloseBrace _ _ vs end h.1 c)
 body_other (then_so x b) vs end c h w = ((x, h.0, h.1, (b, refl, h.2)), tt)
 
 abbrev pub body_filled : Filled IsBody
-body_filled = record { tree = no_more; fill = λ other. tok s.CloseBrace [] some_place ∷ other; fits = λ other. (some_word, refl) }
+body_filled = record { tree = no_more; fill = λ other. tok s.CloseBrace [] no_place ∷ other; fits = λ other. (some_word, refl) }
 
 pub body_turns : (k : ℕ) (S : Reader Statement) → StatementLaw k S → (t : ℕ) → t ≤ k → (us : List Tok) → length us < t → Tells IsBody Free Free us (r.body S t us)
 unfolding r.body
@@ -314,7 +315,7 @@ statement_then : (P : Statement → Span) (T : Statement → List Tok → Type 0
     ((a : Statement) (end : List Tok) → sees s.Semi end ≡ true → T a end) → Tells P T Free us x → Tells (Then P Semi) Shut Shut us (x >>= λ (y : Statement × List Tok). r.ended y.0 y.1)
 statement_then P T shut us x closes h =
     then_law P T Free Semi Shut Shut us x (λ (y : Statement × List Tok). r.ended y.0 y.1) (λ c b vs end q w. closes c vs (seen_word s.Semi vs end q.0 q.2))
-    (λ c. record { tree = c; fill = λ other. tok s.Semi [] some_place ∷ other; fits = λ other. (some_word, refl, refl) }) h
+    (λ c. record { tree = c; fill = λ other. tok s.Semi [] no_place ∷ other; fits = λ other. (some_word, refl, refl) }) h
     (λ a mid here l g. ended_law (length mid + 1) a (shut a us mid here) mid (omega arith))
 
 statement_by_law : (k : ℕ) (S : Reader Statement) → StatementLaw k S → (v : Starting) (j : Symbol) (w : Text) (p : Place) (ts : List Tok) → starting_of j ≡ v → length (tok j w p ∷ ts) < suc k →

@@ -1,5 +1,7 @@
 -- The rule of conditions.
 use Rattle.std.proofs.Common.{ℕ, ◌+◌, ◌≤◌, ◌<◌, ◌≡◌, ◌⊎◌, inl, inr, List, [], ◌∷◌, length, Option, Some, None, Bool, true, false, ◌&&◌, ◌||◌, refl, ap, sym, ◌∙◌, arith}
+use Rattle.std.proofs.lemmas.Bool.{or_cases}
+use Rattle.feast_base.specs.Places.{no_place}
 use Rattle.feast_base.specs.declared.place.Place.{Place}
 use Rattle.ulam_tree.specs.Raw.{Word, Path, Expr, number, truth, reads, calls, index, instance, group, cast, prefix, pair, is, Args, Cond, seen, test}
 use Rattle.ulam_parse.specs.declared.symbol.Symbol.{Symbol}
@@ -13,7 +15,7 @@ use Rattle.ulam_parse.specs.Grammar.{Span, TakesWord, AreDotted, IsPathOf, IsExp
 use Rattle.ulam_parse.specs.Reading.{same, sees, sees_second, expr, all_args, expr_in}
 use Rattle.ulam_parse.specs.Statements as r
 use Rattle.ulam_parse.proofs.Tells.{decide, same_self, same_is, first, tail, sees_first, Tells, tells_as, tells_two}
-use Rattle.ulam_parse.proofs.Rules.{Free, tells_if, Rule, Then, Map, Into, Back, token, then, map, some_place, some_word, none_some}
+use Rattle.ulam_parse.proofs.Rules.{Free, tells_if, Rule, Then, Map, Into, Back, token, then, map, some_word, none_some}
 use Rattle.ulam_parse.proofs.Opened.{reach}
 use Rattle.ulam_parse.proofs.Operands.{expr_filled, args_filled, args_law, reach_none}
 use Rattle.ulam_parse.proofs.Primaries.{both, empty_expr}
@@ -31,12 +33,8 @@ closes us = sees s.Semi us || sees s.CloseParen us
 abbrev pub Closed : {A : Type 0} → A → List Tok → Type 0
 Closed a us = closes us ≡ true
 
-either : (a b : Bool) → (a || b) ≡ true → (a ≡ true) ⊎ (b ≡ true)
-either true b h = inl refl
-either false b h = inr h
-
 closing : (us : List Tok) → closes us ≡ true → (sees s.Semi us ≡ true) ⊎ (sees s.CloseParen us ≡ true)
-closing us h = either (sees s.Semi us) (sees s.CloseParen us) h
+closing us h = or_cases (sees s.Semi us) (sees s.CloseParen us) h
 
 -- the first token, by what is seen
 pub seen_at : (k : Symbol) (us : List Tok) → sees k us ≡ true → (w : Text) × (p : Place) × (rest : List Tok) × (us ≡ tok k w p ∷ rest)
@@ -186,8 +184,8 @@ cond_law n (tok j v q ∷ ts) l = tells_if IsCond Closed Free (tok j v q ∷ ts)
     (λ g.
     let e = same_is j s.Name (name_seen (tok j v q ∷ ts) c) in
     let w : Word = record { name = v; place = q } in
-    g (tok j v q ∷ tok s.As [] some_place ∷ tok s.TypeName [] some_place ∷ []) (seen w some_word) [] refl
-    (w, _, ap (λ y. tok y v q ∷ tok s.As [] some_place ∷ tok s.TypeName [] some_place ∷ []) e, (some_word, _, refl, (some_word, refl, refl))) (omega arith))
+    g (tok j v q ∷ tok s.As [] no_place ∷ tok s.TypeName [] no_place ∷ []) (seen w some_word) [] refl
+    (w, _, ap (λ y. tok y v q ∷ tok s.As [] no_place ∷ tok s.TypeName [] no_place ∷ []) e, (some_word, _, refl, (some_word, refl, refl))) (omega arith))
     sights_into (λ b vs end e g h w. sights_back b vs end (as_two (tok j v q ∷ ts) vs g e ∙ c) h w))
     (λ c. tests_law n j v q ts (same j s.Name) refl l c)
 

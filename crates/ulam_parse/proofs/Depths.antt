@@ -1,7 +1,8 @@
 -- The first token with which tokens nest too deep.
-use Rattle.std.proofs.Common.{ℕ, ◌+◌, ◌≤◌, ◌<◌, ◌≡◌, ◌⊎◌, inl, inr, List, [], ◌∷◌, ◌++◌, length, Option, Some, None, cond, refl, ap, sym, ◌∙◌, subst, arith}
+use Rattle.std.proofs.Common.{ℕ, ◌+◌, ◌≤◌, ◌<◌, ◌≡◌, ◌⊎◌, inl, inr, List, [], ◌∷◌, ◌++◌, length, Some, None, cond, refl, ap, sym, ◌∙◌, subst, arith}
 use Rattle.std.specs.Prelude.{fold}
 use Rattle.std.proofs.lemmas.Bool.{lt-ltb, le-ltb, cases_lt}
+use Rattle.list_laws.specs.Options.{value_or}
 use Rattle.ulam_parse.specs.Tokens.{Tok}
 use Rattle.ulam_parse.specs.Nesting.{Nest, outside, depth, nest_step, symbol_at, IsShallow}
 use Rattle.ulam_parse.specs.Sentences.{deep_from}
@@ -18,12 +19,7 @@ tok_first d (t ∷ ts) = t
 abbrev pub ShallowFrom : Nest → List Tok → Type 0
 ShallowFrom n ts = (front back : List Tok) → ts ≡ front ++ back → depth (after n front) ≤ 64
 
-value_or : ℕ → Option ℕ → ℕ
-value_or d None = d
-value_or d (Some n) = n
-
 some_is : (a b : ℕ) → Some a ≡ Some b → a ≡ b
-unfolding value_or
 some_is a b e = ap (value_or a) e
 
 -- a front of tokens with one in front

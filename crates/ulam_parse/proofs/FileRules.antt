@@ -1,5 +1,6 @@
 -- The rules of members, classes and items, and of a whole file.
 use Rattle.std.proofs.Common.{ℕ, zero, suc, ◌+◌, ◌<◌, ◌≡◌, List, [], ◌∷◌, length, Option, Some, None, Bool, true, false, refl, ap, sym, ◌∙◌, subst, arith}
+use Rattle.feast_base.specs.Places.{no_place}
 use Rattle.ulam_tree.specs.Raw.{Word, Width, TypeRef, Member, typedef, constant, field, function, Class, Item, ulam, uses, class}
 use Rattle.ulam_parse.specs.declared.symbol.Symbol.{Symbol}
 use Rattle.ulam_parse.specs.declared.symbol.Symbol.TheVariants as s
@@ -9,7 +10,7 @@ use Rattle.ulam_parse.specs.Reading.{same, sees}
 use Rattle.ulam_parse.specs.Files as r
 use Rattle.ulam_parse.specs.Sentences.{is_end}
 use Rattle.ulam_parse.proofs.Tells.{is_seen, unseen, Tells}
-use Rattle.ulam_parse.proofs.Rules.{Free, Rule, Filled, Then, Map, Into, Back, Seen, Unseen, Always, token, then, further, map, named, here, choice, some_place, some_word, none_some}
+use Rattle.ulam_parse.proofs.Rules.{Free, Rule, Filled, Then, Map, Into, Back, Seen, Unseen, Always, token, then, further, map, named, here, choice, some_word, none_some}
 use Rattle.ulam_parse.proofs.TypeRules.{Not, type_rule, IsOptional, optional_made}
 use Rattle.ulam_parse.proofs.SimpleRules.{name_open}
 use Rattle.ulam_parse.proofs.BodyRule.{body_rule}
@@ -196,7 +197,7 @@ member_law n us h =
 abbrev pub member_filled : Filled IsMember
 member_filled = record {
   tree = field (record { word = some_word; width = None }) some_word None;
-  fill = λ other. tok s.TypeName [] some_place ∷ tok s.Name [] some_place ∷ tok s.Semi [] some_place ∷ other;
+  fill = λ other. tok s.TypeName [] no_place ∷ tok s.Name [] no_place ∷ tok s.Semi [] no_place ∷ other;
   fits = λ other. (_, (_, refl, refl), (_, refl, (_, refl, (some_word, refl))));
 }
 
@@ -226,7 +227,7 @@ members_other [] vs end c h w = absurd (unseen s.CloseBrace _ _ vs end h.1 c)
 members_other (x ∷ xs) vs end c h w = ((x, h.0, h.1, (xs, refl, h.2)), tt)
 
 abbrev pub members_filled : Filled AreMembers
-members_filled = record { tree = []; fill = λ other. tok s.CloseBrace [] some_place ∷ other; fits = λ other. (some_word, refl) }
+members_filled = record { tree = []; fill = λ other. tok s.CloseBrace [] no_place ∷ other; fits = λ other. (some_word, refl) }
 
 pub members_turns : (t : ℕ) (us : List Tok) → length us < t → Tells AreMembers Free Free us (r.members t us)
 unfolding r.members
@@ -293,7 +294,7 @@ class_item_rule n = record {
   rel = ClassItems;
   filled = record {
     tree = class (record { quark = false; word = some_word; members = [] });
-    fill = λ other. tok s.Element [] some_place ∷ tok s.TypeName [] some_place ∷ tok s.OpenBrace [] some_place ∷ tok s.CloseBrace [] some_place ∷ other;
+    fill = λ other. tok s.Element [] no_place ∷ tok s.TypeName [] no_place ∷ tok s.OpenBrace [] no_place ∷ tok s.CloseBrace [] no_place ∷ other;
     fits = λ other. (_, refl, (_, (some_word, refl), (_, refl, (_, (some_word, refl), (some_word, refl)))));
   };
   read = r.class_item;
@@ -374,7 +375,7 @@ item_law n us h =
 abbrev pub item_rule : (n : ℕ) → Rule n Item Free Free
 item_rule n = record {
   rel = IsItem;
-  filled = record { tree = uses some_word; fill = λ other. tok s.Use [] some_place ∷ tok s.TypeName [] some_place ∷ tok s.Semi [] some_place ∷ other; fits = λ other. (_, (some_word, refl), (_, refl, (some_word, refl))) };
+  filled = record { tree = uses some_word; fill = λ other. tok s.Use [] no_place ∷ tok s.TypeName [] no_place ∷ tok s.Semi [] no_place ∷ other; fits = λ other. (_, (some_word, refl), (_, refl, (some_word, refl))) };
   read = r.item;
   law = item_law n;
 }

@@ -1,5 +1,7 @@
 -- What the reading of tokens up to one says of all.
-use Rattle.std.proofs.Common.{ℕ, zero, suc, ◌+◌, ◌≤◌, ◌≡◌, inl, inr, List, [], ◌∷◌, ◌++◌, length, drop, Bool, true, false, ◌||◌, cond, Ok, Err, refl, ap, sym, ◌∙◌, subst, arith, append_assoc, length-append, append-nil}
+use Rattle.std.proofs.Common.{ℕ, zero, suc, ◌+◌, ◌≤◌, ◌≡◌, inl, inr, List, [], ◌∷◌, ◌++◌, length, drop, Bool, true, false, cond, Ok, Err, refl, ap, sym, ◌∙◌, subst, arith, append_assoc, length-append, append-nil}
+use Rattle.std.proofs.Math.Bool.{or-true}
+use Rattle.feast_base.specs.Places.{no_place}
 use Rattle.feast_base.specs.declared.place.Place.{Place}
 use Rattle.ulam_tree.specs.Raw.{Item}
 use Rattle.ulam_parse.specs.declared.symbol.Symbol.TheVariants as s
@@ -10,7 +12,7 @@ use Rattle.ulam_parse.specs.Reading.{stops, tired, Read, ◌>>=◌, sees}
 use Rattle.ulam_parse.specs.Files.{item, items, whole_file}
 use Rattle.ulam_parse.specs.Sentences.{is_end, has_end, place_at, EndsOnce, IsSyntaxFault, IsDepthFault}
 use Rattle.ulam_parse.proofs.Tells.{same_self, first, tail, Tells}
-use Rattle.ulam_parse.proofs.Rules.{Free, some_place}
+use Rattle.ulam_parse.proofs.Rules.{Free}
 use Rattle.ulam_parse.proofs.CondRules.{seen_at}
 use Rattle.ulam_parse.proofs.FileRules.{AtEnd, file_law}
 use Rattle.ulam_parse.proofs.Depths.{DeepAt}
@@ -54,13 +56,9 @@ tok_first d (t ∷ ts) = t
 
 -- `End` stands once
 
-or_end : (b : Bool) → (b || true) ≡ true
-or_end true = refl
-or_end false = refl
-
 end_among : (front : List Tok) (w : Text) (p : Place) (back : List Tok) → has_end (front ++ (tok s.End w p ∷ back)) ≡ true
 end_among [] w p back = refl
-end_among (tok k v q ∷ ts) w p back = let e = end_among ts w p back in rw e (or_end (is_end k))
+end_among (tok k v q ∷ ts) w p back = let e = end_among ts w p back in rw e (or-true (is_end k))
 
 last_end : (front init : List Tok) (w v : Text) (p q : Place) (back : List Tok) → front ++ (tok s.End w p ∷ back) ≡ init ++ (tok s.End v q ∷ []) → has_end init ≡ false → back ≡ []
 last_end front init w v p q back e n = elim (two_splits front init (tok s.End w p) (tok s.End v q) back [] e) as (λ z. back ≡ []) [
@@ -102,9 +100,9 @@ pub ended_begins : (us : List Tok) → whole_file us ≡ Err (stops 0) → Begin
 ended_begins us r =
     let h = told us (Err (stops 0)) r in
     let a : us ≡ h.front = h.is ∙ ap (λ v. h.front ++ v) (empty_list h.left h.long) ∙ append-nil h.front in
-    let end : List Tok = tok s.End [] some_place ∷ [] in
+    let end : List Tok = tok s.End [] no_place ∷ [] in
     let F : List Tok → Type 0 = λ v. IsFile h.tree (v ++ h.fill end) in
-    (h.tree, h.fill end, subst F (sym a) (end, h.goes end, (record { name = []; place = some_place }, refl)))
+    (h.tree, h.fill end, subst F (sym a) (end, h.goes end, (record { name = []; place = no_place }, refl)))
 
 -- but not all tokens of a text
 pub never_ended : (ts : List Tok) → EndsOnce ts → whole_file ts ≡ Err (stops 0) → ⊥
@@ -164,14 +162,14 @@ syntax_is ts us behind n i t rest e r l d w =
     let a : i ≡ length h.front = omega (arith, l, h.long, ap length h.is, length-append h.front h.left) in
     let b : h.left ≡ t ∷ rest = sym (behind_front h.front h.left i a) ∙ sym (ap (drop i) h.is) ∙ d in
     let c : us ≡ h.front ++ (t ∷ rest) = h.is ∙ ap (λ v. h.front ++ v) b in
-    let end : List Tok = tok s.End [] some_place ∷ [] in
+    let end : List Tok = tok s.End [] no_place ∷ [] in
     record {
       front = h.front;
       at = t;
       back = rest ++ behind;
       split = e ∙ ap (λ v. v ++ behind) c ∙ append_assoc h.front (t ∷ rest) behind;
       placed = refl;
-      begins = (h.tree, h.fill end, (end, h.goes end, (record { name = []; place = some_place }, refl)));
+      begins = (h.tree, h.fill end, (end, h.goes end, (record { name = []; place = no_place }, refl)));
       none = λ k.
           let F : List Tok → Type 0 = λ v. AreItems k.0 v k.2.0 in
           let g = subst F (append_assoc h.front (t ∷ []) k.1) k.2.1 in

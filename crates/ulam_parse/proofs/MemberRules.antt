@@ -1,5 +1,6 @@
 -- The rules of parameters, constants and members.
 use Rattle.std.proofs.Common.{ℕ, zero, suc, ◌+◌, ◌<◌, ◌≡◌, ◌⊎◌, inl, inr, List, [], ◌∷◌, length, Bool, true, false, refl, ap, sym, ◌∙◌, arith}
+use Rattle.feast_base.specs.Places.{no_place}
 use Rattle.ulam_tree.specs.Raw.{Word, Param, Const, const_number, const_truth, const_named}
 use Rattle.ulam_parse.specs.declared.symbol.Symbol.{Symbol}
 use Rattle.ulam_parse.specs.declared.symbol.Symbol.TheVariants as s
@@ -12,7 +13,7 @@ use Rattle.ulam_parse.specs.Reading.{same, sees}
 use Rattle.ulam_parse.specs.Files as r
 use Rattle.ulam_parse.specs.Sentences.{is_end}
 use Rattle.ulam_parse.proofs.Tells.{is_seen, unseen, Tells}
-use Rattle.ulam_parse.proofs.Rules.{Free, Rule, Filled, Then, Map, Into, Back, Seen, Unseen, Always, token, then, after, map, named, choice, some_place, some_word}
+use Rattle.ulam_parse.proofs.Rules.{Free, Rule, Filled, Then, Map, Into, Back, Seen, Unseen, Always, token, then, after, map, named, choice, some_word}
 use Rattle.ulam_parse.proofs.TypeRules.{type_rule}
 use Rattle.ulam_parse.proofs.SimpleRules.{name_open}
 
@@ -45,7 +46,7 @@ more_params_other [] vs end c h w = ((h.0, refl, h.1), tt)
 more_params_other (x ∷ xs) vs end c h w = absurd (unseen s.Comma _ _ vs h.0 h.1.1 c)
 
 abbrev pub more_params_filled : Filled AreMoreParams
-more_params_filled = record { tree = []; fill = λ other. tok s.CloseParen [] some_place ∷ other; fits = λ other. (some_word, refl) }
+more_params_filled = record { tree = []; fill = λ other. tok s.CloseParen [] no_place ∷ other; fits = λ other. (some_word, refl) }
 
 pub more_params_turns : (t : ℕ) (us : List Tok) → length us < t → Tells AreMoreParams Free Free us (r.more_params t us)
 unfolding r.more_params
@@ -76,7 +77,7 @@ params_law n us h =
     (λ b vs end h. rw h.1 (h.0, h.2)) params_from (λ b vs end h. rw h.3.1 (h.1, h.2, h.3.2)) params_other).law us h
 
 abbrev pub params_rule : (n : ℕ) → Rule n (List Param) Free Free
-params_rule n = record { rel = AreParams; filled = record { tree = []; fill = λ other. tok s.CloseParen [] some_place ∷ other; fits = λ other. (some_word, refl) }; read = r.params; law = params_law n }
+params_rule n = record { rel = AreParams; filled = record { tree = []; fill = λ other. tok s.CloseParen [] no_place ∷ other; fits = λ other. (some_word, refl) }; read = r.params; law = params_law n }
 
 -- constants
 
@@ -101,7 +102,7 @@ unfolding r.truth_in
 truth_in_law n k v e us h = (map n (λ a. const_truth v) (token n k e) (λ a end h. tt) (λ a end h. tt)).law us h
 
 abbrev truth_in_rule : (n : ℕ) (k : Symbol) (v : Bool) → is_end k ≡ false → Rule n Const Free Free
-truth_in_rule n k v e = record { rel = Truths k v; filled = record { tree = const_truth v; fill = λ other. tok k [] some_place ∷ other; fits = λ other. (some_word, refl, refl) }; read = r.truth_in k v; law = truth_in_law n k v e }
+truth_in_rule n k v e = record { rel = Truths k v; filled = record { tree = const_truth v; fill = λ other. tok k [] no_place ∷ other; fits = λ other. (some_word, refl, refl) }; read = r.truth_in k v; law = truth_in_law n k v e }
 
 -- what `true` and `false` are not
 truth_unlike : (j k : Symbol) (v : Bool) → (Says v ≡ opening_of j → ⊥) → opening_of k ≡ Says v → k ≡ j → ⊥
@@ -190,7 +191,7 @@ unfolding same
 named_into b vs end h = (((rw h.1 h.2, ap (sees s.Minus) h.2), ap (sees s.Number) h.2), ap (sees s.True) h.2)
 
 abbrev pub const_filled : Filled IsConst
-const_filled = record { tree = const_truth true; fill = λ other. tok s.True [] some_place ∷ other; fits = λ other. (some_place, (s.True, ([], refl), refl)) }
+const_filled = record { tree = const_truth true; fill = λ other. tok s.True [] no_place ∷ other; fits = λ other. (no_place, (s.True, ([], refl), refl)) }
 
 pub const_law : (n : ℕ) (us : List Tok) → length us < n → Tells IsConst Free Free us (r.const_value us)
 unfolding r.const_value

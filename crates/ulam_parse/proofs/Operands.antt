@@ -1,5 +1,6 @@
 -- The rules of arguments and operands, over that of expressions.
 use Rattle.std.proofs.Common.{ℕ, zero, suc, ◌+◌, ◌≤◌, ◌<◌, ◌≡◌, List, [], ◌∷◌, length, true, false, refl, ap, sym, ◌∙◌, arith}
+use Rattle.feast_base.specs.Places.{no_place}
 use Rattle.feast_base.specs.declared.place.Place.{Place}
 use Rattle.ulam_tree.specs.Raw.{Word, Path, Expr, truth, reads, calls, index, Args, no_args, arg}
 use Rattle.ulam_parse.specs.declared.symbol.Symbol.{Symbol}
@@ -10,7 +11,7 @@ use Rattle.ulam_parse.specs.Tables.{infix_of}
 use Rattle.ulam_parse.specs.Grammar.{Span, ◌⟫◌, Takes, TakesWord, IsExpr, AreArgs, AreMoreArgs}
 use Rattle.ulam_parse.specs.Reading.{Reader, same, sees, more_args, args, after_path}
 use Rattle.ulam_parse.proofs.Tells.{is_seen, unseen, Tells}
-use Rattle.ulam_parse.proofs.Rules.{Free, Rule, Filled, Then, Map, Into, Back, Seen, Unseen, token, then, after, map, here, choice, some_place, some_word}
+use Rattle.ulam_parse.proofs.Rules.{Free, Rule, Filled, Then, Map, Into, Back, Seen, Unseen, token, then, after, map, here, choice, some_word}
 use Rattle.ulam_parse.proofs.Opened.{reach_by, reach, reach_at, no_opens, unopened}
 
 -- no operator of this level or a tighter one follows
@@ -22,7 +23,7 @@ abbrev pub ExprLaw : ℕ → (ℕ → Reader Expr) → Type 0
 ExprLaw k E = (n : ℕ) → n ≤ 12 → (us : List Tok) → length us < k → Tells (IsExpr n) (Reach n) Free us (E n us)
 
 abbrev pub expr_filled : (n : ℕ) → Filled (IsExpr n)
-expr_filled n = record { tree = truth true some_place; fill = λ other. tok s.True [] some_place ∷ other; fits = λ other. (s.True, ([], refl), refl) }
+expr_filled n = record { tree = truth true no_place; fill = λ other. tok s.True [] no_place ∷ other; fits = λ other. (s.True, ([], refl), refl) }
 
 abbrev pub expr_part : (k m n : ℕ) (E : ℕ → Reader Expr) → ExprLaw k E → m ≤ k → n ≤ 12 → Rule m Expr (Reach n) Free
 expr_part k m n E f l b = record { rel = IsExpr n; filled = expr_filled n; read = E n; law = λ us h. f n b us (omega (arith, h, l)) }
@@ -46,7 +47,7 @@ more_args_reach no_args us rest h = reach_none s.CloseParen _ _ us rest h.1 refl
 more_args_reach (arg e es) us rest h = reach_none s.Comma _ _ us h.0 h.1.1 refl
 
 abbrev pub more_args_filled : Filled AreMoreArgs
-more_args_filled = record { tree = no_args; fill = λ other. tok s.CloseParen [] some_place ∷ other; fits = λ other. (some_word, refl) }
+more_args_filled = record { tree = no_args; fill = λ other. tok s.CloseParen [] no_place ∷ other; fits = λ other. (some_word, refl) }
 
 pub more_args_turns : (k : ℕ) (E : ℕ → Reader Expr) → ExprLaw k E → (t : ℕ) → t ≤ k → (us : List Tok) → length us < t → Tells AreMoreArgs Free Free us (more_args E t us)
 unfolding more_args
@@ -70,7 +71,7 @@ args_other no_args vs end c h w = absurd (unseen s.CloseParen _ _ vs end h.1 c)
 args_other (arg e es) vs end c h w = ((e, h.0, h.1, (es, refl, h.2)), tt)
 
 abbrev pub args_filled : Filled AreArgs
-args_filled = record { tree = no_args; fill = λ other. tok s.CloseParen [] some_place ∷ other; fits = λ other. (some_word, refl) }
+args_filled = record { tree = no_args; fill = λ other. tok s.CloseParen [] no_place ∷ other; fits = λ other. (some_word, refl) }
 
 pub args_law : (k : ℕ) (E : ℕ → Reader Expr) → ExprLaw k E → (us : List Tok) → length us < k → Tells AreArgs Free Free us (args E us)
 unfolding args

@@ -1,5 +1,7 @@
 -- The rules of what stands before `;`, and of the heads of `if`, `while` and `for`.
-use Rattle.std.proofs.Common.{ℕ, ◌<◌, ◌≡◌, ◌⊎◌, inl, inr, List, [], ◌∷◌, length, Option, Some, None, Bool, true, false, ◌||◌, refl, ap, sym, ◌∙◌, subst, arith}
+use Rattle.std.proofs.Common.{ℕ, ◌<◌, ◌≡◌, ◌⊎◌, inl, inr, List, [], ◌∷◌, length, Option, Some, None, Bool, true, false, refl, ap, sym, ◌∙◌, subst, arith}
+use Rattle.std.proofs.Math.Bool.{or-true}
+use Rattle.feast_base.specs.Places.{no_place}
 use Rattle.feast_base.specs.declared.place.Place.{Place}
 use Rattle.ulam_tree.specs.Raw.{Word, Path, Expr, reads, Cond, Left, Statement, declares, assigns, counts, does, Part, no_part, part}
 use Rattle.ulam_parse.specs.declared.symbol.Symbol.{Symbol}
@@ -15,7 +17,7 @@ use Rattle.ulam_parse.specs.Statements as r
 use Rattle.ulam_parse.specs.Statements.{ForHead}
 use Rattle.ulam_parse.specs.Sentences.{is_end}
 use Rattle.ulam_parse.proofs.Tells.{decide, same_self, same_is, is_seen, unseen, Tells}
-use Rattle.ulam_parse.proofs.Rules.{Free, Rule, Filled, Then, Map, Into, Back, Seen, Unseen, token, then, map, here, choice, some_place, some_word}
+use Rattle.ulam_parse.proofs.Rules.{Free, Rule, Filled, Then, Map, Into, Back, Seen, Unseen, token, then, map, here, choice, some_word}
 use Rattle.ulam_parse.proofs.TypeRules.{path_rule}
 use Rattle.ulam_parse.proofs.Opened.{reach, unopened}
 use Rattle.ulam_parse.proofs.Operands.{paren_reach}
@@ -89,7 +91,7 @@ does_to_into x (counts l up) vs end h =
 does_to_into x _ vs end h = absurd h.3
 
 abbrev pub done_filled : (x : Path) → Filled (IsDone x)
-done_filled x = record { tree = counts (record { path = x; index = None }) true; fill = λ other. tok s.PlusPlus [] some_place ∷ other; fits = λ other. (refl, (_, refl, (s.PlusPlus, (some_word, refl), refl))) }
+done_filled x = record { tree = counts (record { path = x; index = None }) true; fill = λ other. tok s.PlusPlus [] no_place ∷ other; fits = λ other. (refl, (_, refl, (s.PlusPlus, (some_word, refl), refl))) }
 
 pub done_law : (n : ℕ) (x : Path) (us : List Tok) → length us < n → Tells (IsDone x) Closed Free us (r.after_names x us)
 unfolding r.after_names
@@ -201,8 +203,8 @@ simple_law n us h =
 
 abbrev pub simple_filled : Filled IsSimple
 simple_filled = record {
-  tree = counts (record { path = record { own = Some some_place; words = [] }; index = None }) true;
-  fill = λ other. tok s.PlusPlus [] some_place ∷ tok s.Own [] some_place ∷ other;
+  tree = counts (record { path = record { own = Some no_place; words = [] }; index = None }) true;
+  fill = λ other. tok s.PlusPlus [] no_place ∷ tok s.Own [] no_place ∷ other;
   fits = λ other. inr (_, (s.PlusPlus, (some_word, refl), refl), (_, (_, ([], refl), refl), refl));
 }
 
@@ -260,12 +262,8 @@ first_rule n = record { rel = IsFirst; filled = record { tree = no_part; fill = 
 abbrev pub Bracketed : {A : Type 0} → A → List Tok → Type 0
 Bracketed a us = sees s.CloseParen us ≡ true
 
-or_true : (b : Bool) → (b || true) ≡ true
-or_true true = refl
-or_true false = refl
-
 bracketed_closes : (us : List Tok) → sees s.CloseParen us ≡ true → closes us ≡ true
-bracketed_closes us h = rw h (or_true (sees s.Semi us))
+bracketed_closes us h = rw h (or-true (sees s.Semi us))
 
 step_from : Back (Seen s.CloseParen) IsStep (λ b us rest. (b ≡ no_part) × (us ≡ rest)) Bracketed Free
 step_from no_part vs end c h w = ((refl, h), tt)

@@ -1,5 +1,6 @@
 -- The rule of operands, over that of expressions.
 use Rattle.std.proofs.Common.{ℕ, ◌+◌, ◌<◌, ◌≡◌, List, [], ◌∷◌, length, None, Bool, true, false, not, ◌&&◌, refl, ap, sym, ◌∙◌, arith}
+use Rattle.feast_base.specs.Places.{no_place}
 use Rattle.feast_base.specs.declared.place.Place.{Place}
 use Rattle.ulam_tree.specs.Raw.{Word, Expr, truth, instance, group, cast}
 use Rattle.ulam_parse.specs.declared.symbol.Symbol.{Symbol}
@@ -12,7 +13,7 @@ use Rattle.ulam_parse.specs.Grammar.{Span, ◌⟫◌, Takes, TakesWord, IsType, 
 use Rattle.ulam_parse.specs.Reading.{Reader, same, sees, sees_second, begins_cast, new_atom, in_parens}
 use Rattle.ulam_parse.specs.Sentences.{is_end}
 use Rattle.ulam_parse.proofs.Tells.{decide, same_is, first, sees_first, Tells, tells_as, tells_two}
-use Rattle.ulam_parse.proofs.Rules.{Free, tells_if, Rule, Then, Map, Into, Back, token, then, map, some_place, some_word, none_some}
+use Rattle.ulam_parse.proofs.Rules.{Free, tells_if, Rule, Then, Map, Into, Back, token, then, map, some_word, none_some}
 use Rattle.ulam_parse.proofs.TypeRules.{type_rule}
 use Rattle.ulam_parse.proofs.Opened.{opened, no_cast, type_casts, cast_two}
 use Rattle.ulam_parse.proofs.Operands.{Reach, ExprLaw, expr_part, paren_reach}
@@ -76,8 +77,8 @@ groups_law k E f p j v q ts true d l c = tells_two (Groups p) (IsInside p) (Reac
     (λ g.
     let e = same_is j s.TypeName d in
     let w : Word = record { name = v; place = q } in
-    g (tok j v q ∷ tok s.Dot [] some_place ∷ tok s.Instanceof [] some_place ∷ tok s.CloseParen [] some_place ∷ []) (group (instance w) p) [] refl
-    (instance w, _, (_, ap (λ x. tok x v q ∷ tok s.Dot [] some_place ∷ tok s.Instanceof [] some_place ∷ tok s.CloseParen [] some_place ∷ []) e, (_, (some_word, refl), (some_word, refl))), (some_word, refl, refl)) (omega arith))
+    g (tok j v q ∷ tok s.Dot [] no_place ∷ tok s.Instanceof [] no_place ∷ tok s.CloseParen [] no_place ∷ []) (group (instance w) p) [] refl
+    (instance w, _, (_, ap (λ x. tok x v q ∷ tok s.Dot [] no_place ∷ tok s.Instanceof [] no_place ∷ tok s.CloseParen [] no_place ∷ []) e, (_, (some_word, refl), (some_word, refl))), (some_word, refl, refl)) (omega arith))
     (groups_into p) (λ b vs end e g h w. groups_back p b vs end (cast_two (tok j v q ∷ ts) vs g e ∙ c) h w)
 groups_law k E f p j v q ts false d l c = tells_as (Groups p) (IsInside p) (Reach 12) (Reach 12) Free Free (tok j v q ∷ ts) _ ((group_part k E f p).law (tok j v q ∷ ts) l) (groups_into p)
     (λ b vs end e h w. groups_back p b vs end (no_cast_seen vs (sees_first s.TypeName vs (tok j v q ∷ ts) e ∙ d)) h w) (λ a rest g. g)
@@ -91,8 +92,8 @@ in_parens_law k E f p (tok j v q ∷ ts) l = tells_if (IsInside p) (Reach 12) Fr
     (λ a h. none_some [] _ _ refl h.2.1)
     (λ g.
     let e = same_is j s.TypeName (cast_sees (tok j v q ∷ ts) c) in
-    g (tok j v q ∷ tok s.CloseParen [] some_place ∷ tok s.True [] some_place ∷ []) (cast (record { word = record { name = v; place = q }; width = None }) (truth true some_place) p) [] refl
-    (_, _, (_, ap (λ x. tok x v q ∷ tok s.CloseParen [] some_place ∷ tok s.True [] some_place ∷ []) e, refl), (some_word, _, refl, (truth true some_place, refl, (s.True, ([], refl), refl)))) (omega arith))
+    g (tok j v q ∷ tok s.CloseParen [] no_place ∷ tok s.True [] no_place ∷ []) (cast (record { word = record { name = v; place = q }; width = None }) (truth true no_place) p) [] refl
+    (_, _, (_, ap (λ x. tok x v q ∷ tok s.CloseParen [] no_place ∷ tok s.True [] no_place ∷ []) e, refl), (some_word, _, refl, (truth true no_place, refl, (s.True, ([], refl), refl)))) (omega arith))
     (casts_into p) (λ b vs end e g h w. casts_back p b vs end (cast_two (tok j v q ∷ ts) vs g e ∙ c) h w))
     (λ c. groups_law k E f p j v q ts (same j s.TypeName) refl l c)
 

@@ -1,6 +1,6 @@
 -- Rules of a grammar with how they are read, and how they are put together.
 use Rattle.std.proofs.Common.{ℕ, suc, ◌≤◌, ◌<◌, ◌≡◌, List, [], ◌∷◌, ◌++◌, length, Option, Some, None, Bool, true, false, cond, Ok, Err, refl, ap, sym, ◌∙◌, subst, arith, append_assoc, length-append}
-use Rattle.feast_base.specs.declared.place.Place.{Place}
+use Rattle.feast_base.specs.Places.{no_place}
 use Rattle.ulam_tree.specs.Raw.{Word}
 use Rattle.ulam_parse.specs.declared.symbol.Symbol.{Symbol}
 use Rattle.ulam_parse.specs.declared.symbol.Symbol.TheVariants as s
@@ -18,11 +18,8 @@ pub tells_if : {A : Type 0} (P : A → Span) (S G : A → List Tok → Type 0) (
 tells_if P S G us true x y f g = f refl
 tells_if P S G us false x y f g = g refl
 
-abbrev pub some_place : Place
-some_place = record { file = 0; line = 0; column = 0 }
-
 abbrev pub some_word : Word
-some_word = record { name = []; place = some_place }
+some_word = record { name = []; place = no_place }
 
 word_first : List Tok → Word
 word_first [] = some_word
@@ -45,7 +42,7 @@ token_law k n [] = record {
   long = refl;
   no_end = refl;
   tree = some_word;
-  fill = λ other. tok k [] some_place ∷ other;
+  fill = λ other. tok k [] no_place ∷ other;
   goes = λ other. refl;
   none = λ other b end e q w. none_some other end _ e q;
 }
@@ -67,7 +64,7 @@ token_law k n (tok j w p ∷ ts) = tells_if (TakesWord k) Free Free (tok j w p �
       long = refl;
       no_end = refl;
       tree = some_word;
-      fill = λ other. tok k [] some_place ∷ other;
+      fill = λ other. tok k [] no_place ∷ other;
       goes = λ other. refl;
       none = λ other b end e q h.
           let c : k ≡ j = sym (ap (λ x. symbol_first (first x)) q) ∙ ap symbol_first e in
@@ -204,7 +201,7 @@ pub record Rule (n : ℕ) (A : Type 0) (S G : A → List Tok → Type 0) : Type 
 abbrev pub token : (n : ℕ) (k : Symbol) → is_end k ≡ false → Rule n Word Free Free
 token n k e = record {
   rel = TakesWord k;
-  filled = record { tree = some_word; fill = λ other. tok k [] some_place ∷ other; fits = λ other. refl };
+  filled = record { tree = some_word; fill = λ other. tok k [] no_place ∷ other; fits = λ other. refl };
   read = expect k;
   law = λ us h. token_law k e us;
 }
@@ -228,7 +225,7 @@ after n k e q = record {
   rel = Then (TakesWord k) (λ a. (q a).rel);
   filled = record {
     tree = (q some_word).filled.tree;
-    fill = λ other. tok k [] some_place ∷ (q some_word).filled.fill other;
+    fill = λ other. tok k [] no_place ∷ (q some_word).filled.fill other;
     fits = λ other. (some_word, (q some_word).filled.fill other, refl, (q some_word).filled.fits other);
   };
   read = λ us. expect k us >>= λ (x : Word × List Tok). (q x.0).read x.1;

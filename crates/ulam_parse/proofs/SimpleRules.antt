@@ -1,5 +1,6 @@
 -- The rules of declarations, assignments, counts and calls.
 use Rattle.std.proofs.Common.{ℕ, ◌+◌, ◌<◌, ◌≡◌, List, [], ◌∷◌, length, Option, Some, None, Bool, true, false, Ok, refl, ap, sym, ◌∙◌, subst, arith}
+use Rattle.feast_base.specs.Places.{no_place}
 use Rattle.feast_base.specs.declared.place.Place.{Place}
 use Rattle.ulam_tree.specs.declared.op.PairOp.{PairOp}
 use Rattle.ulam_tree.specs.Raw.{Word, Expr, Left, Statement, declares, assigns, counts}
@@ -14,7 +15,7 @@ use Rattle.ulam_parse.specs.Reading.{same, sees, expr}
 use Rattle.ulam_parse.specs.Statements as r
 use Rattle.ulam_parse.specs.Sentences.{is_end}
 use Rattle.ulam_parse.proofs.Tells.{decide, first, unseen, one_first, Tells, tells_as, tells_behind, Behind}
-use Rattle.ulam_parse.proofs.Rules.{Free, Rule, Filled, Then, Map, Back, Seen, Unseen, Always, token, then, map, named, here, choice, map_law, some_place, some_word, none_some}
+use Rattle.ulam_parse.proofs.Rules.{Free, Rule, Filled, Then, Map, Back, Seen, Unseen, Always, token, then, map, named, here, choice, map_law, some_word, none_some}
 use Rattle.ulam_parse.proofs.TypeRules.{Not, type_rule, path_rule}
 use Rattle.ulam_parse.proofs.Opened.{reach, no_opens, unopened}
 use Rattle.ulam_parse.proofs.Operands.{bracket_reach}
@@ -179,7 +180,7 @@ assigns_end : (k : Symbol) (v : Assigning) → assigning_of k ≡ v → (v ≡ N
 assigns_end k v e f = decide (is_end k) (λ t. f (sym e ∙ end_assigns k t))
 
 abbrev pub assign_filled : (l : Left) → Filled (IsAssign l)
-assign_filled l = record { tree = counts l true; fill = λ other. tok s.PlusPlus [] some_place ∷ other; fits = λ other. (refl, (s.PlusPlus, (some_word, refl), refl)) }
+assign_filled l = record { tree = counts l true; fill = λ other. tok s.PlusPlus [] no_place ∷ other; fits = λ other. (refl, (s.PlusPlus, (some_word, refl), refl)) }
 
 assigns_back : (l : Left) (op : Option PairOp) (k : Symbol) (w : Text) (p : Place) (b : Statement) (vs end : List Tok) → Makes (Assigns op) b → first vs ≡ Some (tok k w p) → IsAssign l b vs end →
     Behind (tok k w p) (Map (assigns l op) (IsExpr 1)) b vs end

@@ -1,5 +1,6 @@
 -- The rule of statements.
 use Rattle.std.proofs.Common.{ℕ, ◌≤◌, ◌<◌, ◌≡◌, List, [], ◌∷◌, length, true, false, Ok, refl, ap, sym, ◌∙◌, subst, arith}
+use Rattle.feast_base.specs.Places.{no_place}
 use Rattle.feast_base.specs.declared.place.Place.{Place}
 use Rattle.ulam_tree.specs.Raw.{Word, Cond, Statement, empty, if_so, while_so, for_all, returns, Part, no_part, part}
 use Rattle.ulam_parse.specs.declared.symbol.Symbol.TheVariants as s
@@ -9,7 +10,7 @@ use Rattle.ulam_parse.specs.Reading.{Reader, ◌>>=◌, sees}
 use Rattle.ulam_parse.specs.Statements as r
 use Rattle.ulam_parse.specs.Statements.{ForHead}
 use Rattle.ulam_parse.proofs.Tells.{decide, first, unseen, sees_first, Tells, tells_as}
-use Rattle.ulam_parse.proofs.Rules.{tells_if, Rule, Filled, Then, Map, Back, Seen, token, then, map, then_law, map_law, some_place, some_word}
+use Rattle.ulam_parse.proofs.Rules.{tells_if, Rule, Filled, Then, Map, Back, Seen, token, then, map, then_law, map_law, some_word}
 use Rattle.ulam_parse.proofs.SimpleRules.{maybe_rule}
 use Rattle.ulam_parse.proofs.PartRules.{seen_word, IsForHead, for_head_rule, IsIfHead, if_head_rule, IsWhileHead, while_head_rule}
 
@@ -25,7 +26,7 @@ abbrev pub StatementLaw : ℕ → Reader Statement → Type 0
 StatementLaw k S = (us : List Tok) → length us < k → Tells IsStatement Shut Shut us (S us)
 
 abbrev pub statement_filled : Filled IsStatement
-statement_filled = record { tree = empty; fill = λ other. tok s.Semi [] some_place ∷ other; fits = λ other. (some_word, refl) }
+statement_filled = record { tree = empty; fill = λ other. tok s.Semi [] no_place ∷ other; fits = λ other. (some_word, refl) }
 
 abbrev pub statement_part : (k m : ℕ) (S : Reader Statement) → StatementLaw k S → m ≤ k → Rule m Statement Shut Shut
 statement_part k m S f l = record { rel = IsStatement; filled = statement_filled; read = S; law = λ us h. f us (omega (arith, h, l)) }
@@ -90,7 +91,7 @@ branches_follow c x b vs end q w = branch_follow x q.0 vs end q.2 (let F : State
 abbrev pub branches_part : (k : ℕ) (S : Reader Statement) → StatementLaw k S → (c : Cond) → Rule k Statement Shut Shut
 branches_part k S f c = record {
   rel = Branches c;
-  filled = record { tree = if_so c empty no_part; fill = λ other. tok s.Semi [] some_place ∷ other; fits = λ other. (empty, other, (some_word, refl), (no_part, refl, refl)) };
+  filled = record { tree = if_so c empty no_part; fill = λ other. tok s.Semi [] no_place ∷ other; fits = λ other. (empty, other, (some_word, refl), (no_part, refl, refl)) };
   read = λ us. S us >>= λ (x : Statement × List Tok). (r.else_part S x.1 >>= λ (y : Part × List Tok). Ok (if_so c x.0 y.0, y.1));
   law = λ us h. then_law IsStatement Shut Shut (λ x. Map (if_so c x) (IsElse (ends_open x))) Shut Shut us (S us) (λ (x : Statement × List Tok). (r.else_part S x.1 >>= λ (y : Part × List Tok). Ok (if_so c x.0 y.0, y.1)))
       (branches_follow c) (λ x. record { tree = if_so c x no_part; fill = λ other. other; fits = λ other. (no_part, refl, refl) }) (f us h)

@@ -1,5 +1,6 @@
 -- What the answer of a reader tells of a relation, and how the answers of parts tell it of a whole.
-use Rattle.std.proofs.Common.{ℕ, ◌≡◌, List, [], ◌∷◌, ◌++◌, length, Option, Some, None, Bool, true, false, ◌||◌, Ok, Err, refl, ap, sym, ◌∙◌, subst, rules}
+use Rattle.std.proofs.Common.{ℕ, ◌≡◌, List, [], ◌∷◌, ◌++◌, length, Option, Some, None, Bool, true, false, Ok, Err, refl, ap, sym, ◌∙◌, subst, rules}
+use Rattle.std.proofs.lemmas.Bool.{or_parts}
 use denote.Enum.Bare.{same_true, true_same}
 use Rattle.feast_base.specs.declared.place.Place.{Place}
 use Rattle.ulam_parse.specs.contracts.symbol.Symbol.{the_type}
@@ -26,14 +27,10 @@ abbrev pub first : List Tok → Option Tok
 first [] = None
 first (t ∷ ts) = Some t
 
-neither : (x y : Bool) → (x || y) ≡ false → (x ≡ false) × (y ≡ false)
-neither true y e = absurd cc
-neither false y e = (refl, e)
-
 pub no_end_append : (a b : List Tok) → has_end a ≡ false → has_end b ≡ false → has_end (a ++ b) ≡ false
 no_end_append [] b h g = g
 no_end_append (tok k w p ∷ ts) b h g =
-    let c = neither (is_end k) (has_end ts) h in
+    let c = or_parts (is_end k) (has_end ts) h in
     rw (c.0, no_end_append ts b c.1 g) refl
 
 pub first_append : (front a b : List Tok) → first a ≡ first b → first (front ++ a) ≡ first (front ++ b)

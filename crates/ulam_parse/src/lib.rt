@@ -12,6 +12,7 @@ mod halt;
 mod head;
 mod item;
 mod judge;
+mod law;
 mod mark;
 mod marks;
 mod member;
@@ -27,4 +28,5 @@ mod tape;
 mod types;
 
 pub use fault::ParseFault;
-pub use parser::{one_tree, parse};
+pub use law::one_tree;
+pub use parser::parse;

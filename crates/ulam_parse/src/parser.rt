@@ -3,9 +3,8 @@ ghost use Rattle.std.specs.Prelude.{◌≡◌, ◌⊎◌, List, IfOk, IfErr, IsE
 ghost use Rattle.ulam_tree.specs.Raw.{Item};
 ghost use Rattle.ulam_tree.specs.RawViews.{file_of};
 ghost use Rattle.ulam_lex.specs.Texts.{AreInOrder};
-ghost use Rattle.ulam_parse.specs.Grammar.{IsFile};
 ghost use Rattle.ulam_parse.specs.Sentences.{IsSentence, IsFaultOf};
-ghost use Rattle.ulam_parse.specs.Tokens.{Tok, toks};
+ghost use Rattle.ulam_parse.specs.Tokens.{toks};
 ghost use Rattle.ulam_parse.specs.declared.fault.ParseFault as declared;
 
 use crate::fault::ParseFault;
@@ -37,8 +36,8 @@ fn read(alloc: Global, bytes: &[u8], tokens: &[Token]) -> Result<File, ParseFaul
 ///
 /// # Errors
 /// `Syntax` at the first token such that the tokens up to and with it begin no file, `TooDeep` at
-/// the first such that they nest deeper than 64, whichever comes first, and `Syntax` where both are
-/// one token. `NoMemory` where the tree could not grow.
+/// the first such that they nest deeper than 64, whichever comes first, and `Syntax` if both are
+/// one token. `NoMemory` if the tree could not grow.
 pub fn parse(alloc: Global, bytes: &[u8], tokens: &[Token]) -> Result<File, ParseFault>
     // The tokens stand one behind another, each a text of its kind, and `End` is the last alone.
     requires { AreInOrder bytes.now 0 tokens.now }
@@ -53,11 +52,3 @@ pub fn parse(alloc: Global, bytes: &[u8], tokens: &[Token]) -> Result<File, Pars
 {
     read(alloc, bytes, tokens)
 }
-
-/// No tokens are two trees, or have a tree and a fault within the limit of nesting, or two first
-/// faults.
-pub fn one_tree()
-    ensures tree { (ts : List Tok) (xs ys : List Item) → IsFile xs ts → IsFile ys ts → xs ≡ ys }
-    ensures either { (ts : List Tok) (xs : List Item) (fault : declared.ParseFault) → IsSentence xs ts → IsFaultOf ts fault → ⊥ }
-    ensures fault { (ts : List Tok) (a b : declared.ParseFault) → IsFaultOf ts a → IsFaultOf ts b → a ≡ b }
-{}

@@ -51,3 +51,8 @@ front_none (Err f) = refl
 pub front_twice : {F A : Type 0} (front a : List A) (y : Found F (List A)) → with_front front (y >>= λ (more : List A). Ok (a ++ more)) ≡ with_front (front ++ a) y
 front_twice front a (Ok more) = ap Ok (sym (append_assoc front a more))
 front_twice front a (Err f) = refl
+
+-- what follows from what holds of a value
+pub means_more : {F A : Type 0} (P Q : A → Type 0) (x : Found F A) → Means P x → ((a : A) → P a → Q a) → Means Q x
+means_more P Q (Ok a) h k = k a h
+means_more P Q (Err e) h k = tt

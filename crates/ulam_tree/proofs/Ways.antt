@@ -3,30 +3,27 @@ use Rattle.std.proofs.Common.{◌≡◌, ℕ, zero, suc, ◌+◌, ◌<◌, ◌�
 use Rattle.std.proofs.Math.Bool.{or-true}
 use Rattle.std.proofs.lemmas.Bool.{cases_lt, false≢true, eqb-true, eq-eqb}
 use Rattle.std.specs.List.{list_any}
+use Rattle.list_laws.specs.Booleans.{digit}
 use Rattle.ulam_tree.specs.Ways.{leads}
-
-abbrev one : Bool → ℕ
-one true = 1
-one false = 0
 
 -- how many below k pass a test
 pub count : ℕ → (ℕ → Bool) → ℕ
 count zero f = 0
-count (suc k) f = one (f k) + count k f
+count (suc k) f = digit (f k) + count k f
 
 abbrev pub Within : (ℕ → Bool) → (ℕ → Bool) → Type 0
 Within f g = (k : ℕ) → f k ≡ true → g k ≡ true
 
-one_small : (b : Bool) → one b ≤ 1
+one_small : (b : Bool) → digit b ≤ 1
 one_small true = omega arith
 one_small false = omega arith
 
 pub count_small : (k : ℕ) (f : ℕ → Bool) → count k f ≤ k
 unfolding count
 count_small zero f = omega arith
-count_small (suc k) f = let a : one (f k) ≤ 1 = one_small (f k) in let b : count k f ≤ k = count_small k f in omega arith
+count_small (suc k) f = let a : digit (f k) ≤ 1 = one_small (f k) in let b : count k f ≤ k = count_small k f in omega arith
 
-one_rises : (a b : Bool) → (a ≡ true → b ≡ true) → one a ≤ one b
+one_rises : (a b : Bool) → (a ≡ true → b ≡ true) → digit a ≤ digit b
 one_rises true b h = rw (h refl) (omega arith)
 one_rises false true h = omega arith
 one_rises false false h = omega arith
@@ -34,15 +31,15 @@ one_rises false false h = omega arith
 count_rises : (k : ℕ) (f g : ℕ → Bool) → Within f g → count k f ≤ count k g
 unfolding count
 count_rises zero f g h = omega arith
-count_rises (suc k) f g h = let a : one (f k) ≤ one (g k) = one_rises (f k) (g k) (h k) in let b : count k f ≤ count k g = count_rises k f g h in omega arith
+count_rises (suc k) f g h = let a : digit (f k) ≤ digit (g k) = one_rises (f k) (g k) (h k) in let b : count k f ≤ count k g = count_rises k f g h in omega arith
 
-one_same : (a b : Bool) → (a ≡ true → b ≡ true) → one b ≤ one a → b ≡ true → a ≡ true
+one_same : (a b : Bool) → (a ≡ true → b ≡ true) → digit b ≤ digit a → b ≡ true → a ≡ true
 one_same true b h le e = refl
 one_same false true h le e = absurd (omega arith)
 one_same false false h le e = e
 
 -- where as many pass, the same pass
-same_by : (k : ℕ) (f g : ℕ → Bool) (j : ℕ) → one (f k) ≤ one (g k) → one (g k) ≤ one (f k) → (f k ≡ true → g k ≡ true) → g j ≡ true → j < suc k → (j < k → f j ≡ true) → (j < k) ⊎ (k ≤ j) → f j ≡ true
+same_by : (k : ℕ) (f g : ℕ → Bool) (j : ℕ) → digit (f k) ≤ digit (g k) → digit (g k) ≤ digit (f k) → (f k ≡ true → g k ≡ true) → g j ≡ true → j < suc k → (j < k → f j ≡ true) → (j < k) ⊎ (k ≤ j) → f j ≡ true
 same_by k f g j up down h e lt more (inl below) = more below
 same_by k f g j up down h e lt more (inr above) =
     let at : j ≡ k = omega arith in
@@ -53,7 +50,7 @@ unfolding count
 count_same zero f g h le j lt e = absurd (omega arith)
 count_same (suc k) f g h le j lt e =
     let rest : count k f ≤ count k g = count_rises k f g h in
-    let up : one (f k) ≤ one (g k) = one_rises (f k) (g k) (h k) in
+    let up : digit (f k) ≤ digit (g k) = one_rises (f k) (g k) (h k) in
     same_by k f g j up (omega (arith, rest, le)) (h k) e lt (λ below. count_same k f g h (omega (arith, up, le)) j below e) (cases_lt j k)
 
 -- d more steps

@@ -4,9 +4,9 @@ use Rattle.std.specs.Global.{Box}
 use Rattle.std.specs.Box.{box_value}
 use Rattle.ulam_tree.specs.Raw as t
 use Rattle.ulam_tree.specs.declared.raw.Word.{Word}
-use Rattle.ulam_tree.specs.declared.raw.Width.{Width}
-use Rattle.ulam_tree.specs.declared.raw.Width.TheVariants as w
-use Rattle.ulam_tree.specs.declared.raw.TypeRef.{TypeRef}
+use Rattle.ulam_tree.specs.declared.type_ref.Width.{Width}
+use Rattle.ulam_tree.specs.declared.type_ref.Width.TheVariants as w
+use Rattle.ulam_tree.specs.declared.type_ref.TypeRef.{TypeRef}
 use Rattle.ulam_tree.specs.declared.raw.Path.{Path}
 use Rattle.ulam_tree.specs.declared.raw.Const.{Const}
 use Rattle.ulam_tree.specs.declared.raw.Const.TheVariants as k

@@ -14,11 +14,12 @@ mod raw;
 pub mod raw_build;
 pub mod resolved;
 pub mod resolved_build;
+mod type_ref;
 pub mod typed;
 pub mod typed_build;
 
 pub use op::{PairOp, PrefixOp};
 pub use raw::{
-    Call, Class, Cond, Const, Expr, File, Item, Left, Member, Param, Path, Statement, TypeRef,
-    Width, Word,
+    Call, Class, Cond, Const, Expr, File, Item, Left, Member, Param, Path, Statement, Word,
 };
+pub use type_ref::{TypeRef, Width};

@@ -1,6 +1,7 @@
 //! Trees as the parser gives them.
 
 use crate::op::{PairOp, PrefixOp};
+use crate::type_ref::{TypeRef, Width};
 use feast_base::{Name, Place};
 
 /// A name, or the name of a type, and its place.
@@ -33,9 +34,9 @@ pub enum Item {
 impl Drop for Item {
     fn drop(self) {
         match self {
-            Item::Ulam { number: _number } => {}
-            Item::Uses { word: _word } => {}
-            Item::Class { class: _class } => {}
+            Item::Ulam { number } => {}
+            Item::Uses { word } => {}
+            Item::Class { class } => {}
         }
     }
 }
@@ -83,25 +84,14 @@ pub enum Member {
 impl Drop for Member {
     fn drop(self) {
         match self {
-            Member::Typedef {
-                of: _of,
-                word: _word,
-            } => {}
-            Member::Constant {
-                of: _of,
-                word: _word,
-                value: _value,
-            } => {}
-            Member::Field {
-                of: _of,
-                word: _word,
-                length: _length,
-            } => {}
+            Member::Typedef { of, word } => {}
+            Member::Constant { of, word, value } => {}
+            Member::Field { of, word, length } => {}
             Member::Function {
-                of: _of,
-                word: _word,
-                params: _params,
-                body: _body,
+                of,
+                word,
+                params,
+                body,
             } => {}
         }
     }
@@ -139,48 +129,12 @@ impl Drop for Const {
     fn drop(self) {
         match self {
             Const::Number {
-                minus: _minus,
-                value: _value,
-                unsigned: _unsigned,
+                minus,
+                value,
+                unsigned,
             } => {}
-            Const::Truth { value: _value } => {}
-            Const::Named { word: _word } => {}
-        }
-    }
-}
-
-/// A type by its name.
-pub struct TypeRef {
-    /// The name.
-    pub word: Word,
-    /// The number of bits in brackets after it.
-    pub width: Option<Width>,
-}
-
-// By hand, so that callers drop by a call.
-impl Drop for TypeRef {
-    fn drop(self) {
-        let TypeRef {
-            word: _word,
-            width: _width,
-        } = self;
-    }
-}
-
-/// A number of bits, or the length of an array.
-pub enum Width {
-    /// As a number.
-    Number { value: u32 },
-    /// As a constant.
-    Named { word: Word },
-}
-
-// By hand, so that callers drop by a call.
-impl Drop for Width {
-    fn drop(self) {
-        match self {
-            Width::Number { value: _value } => {}
-            Width::Named { word: _word } => {}
+            Const::Truth { value } => {}
+            Const::Named { word } => {}
         }
     }
 }
@@ -252,44 +206,23 @@ pub enum Statement {
 impl Drop for Statement {
     fn drop(self) {
         match self {
-            Statement::Block { body: _body } => {}
+            Statement::Block { body } => {}
             Statement::Nothing => {}
-            Statement::If {
-                cond: _cond,
-                yes: _yes,
-                no: _no,
-            } => {}
-            Statement::While {
-                cond: _cond,
-                body: _body,
-            } => {}
+            Statement::If { cond, yes, no } => {}
+            Statement::While { cond, body } => {}
             Statement::For {
-                first: _first,
-                cond: _cond,
-                step: _step,
-                body: _body,
+                first,
+                cond,
+                step,
+                body,
             } => {}
-            Statement::Return {
-                place: _place,
-                value: _value,
-            } => {}
-            Statement::Break { place: _place } => {}
-            Statement::Continue { place: _place } => {}
-            Statement::Declare {
-                of: _of,
-                word: _word,
-                value: _value,
-            } => {}
-            Statement::Assign {
-                left: _left,
-                op: _op,
-                value: _value,
-            } => {}
-            Statement::Count {
-                left: _left,
-                up: _up,
-            } => {}
-            Statement::Call { call: _call } => {}
+            Statement::Return { place, value } => {}
+            Statement::Break { place } => {}
+            Statement::Continue { place } => {}
+            Statement::Declare { of, word, value } => {}
+            Statement::Assign { left, op, value } => {}
+            Statement::Count { left, up } => {}
+            Statement::Call { call } => {}
         }
     }
 }
@@ -306,11 +239,8 @@ pub enum Cond {
 impl Drop for Cond {
     fn drop(self) {
         match self {
-            Cond::Seen {
-                word: _word,
-                class: _class,
-            } => {}
-            Cond::Test { value: _value } => {}
+            Cond::Seen { word, class } => {}
+            Cond::Test { value } => {}
         }
     }
 }
@@ -335,10 +265,7 @@ pub struct Left {
 // By hand, so that callers drop by a call.
 impl Drop for Left {
     fn drop(self) {
-        let Left {
-            path: _path,
-            index: _index,
-        } = self;
+        let Left { path, index } = self;
     }
 }
 
@@ -421,45 +348,28 @@ impl Drop for Expr {
     fn drop(self) {
         match self {
             Expr::Number {
-                value: _value,
-                unsigned: _unsigned,
-                place: _place,
+                value,
+                unsigned,
+                place,
             } => {}
-            Expr::Truth {
-                value: _value,
-                place: _place,
-            } => {}
-            Expr::Path { path: _path } => {}
-            Expr::Call { call: _call } => {}
-            Expr::Index {
-                path: _path,
-                at: _at,
-            } => {}
-            Expr::Instance { class: _class } => {}
-            Expr::Group {
-                inner: _inner,
-                place: _place,
-            } => {}
-            Expr::Cast {
-                to: _to,
-                value: _value,
-                place: _place,
-            } => {}
-            Expr::Prefix {
-                op: _op,
-                value: _value,
-                place: _place,
-            } => {}
+            Expr::Truth { value, place } => {}
+            Expr::Path { path } => {}
+            Expr::Call { call } => {}
+            Expr::Index { path, at } => {}
+            Expr::Instance { class } => {}
+            Expr::Group { inner, place } => {}
+            Expr::Cast { to, value, place } => {}
+            Expr::Prefix { op, value, place } => {}
             Expr::Pair {
-                op: _op,
-                left: _left,
-                right: _right,
-                place: _place,
+                op,
+                left,
+                right,
+                place,
             } => {}
             Expr::Is {
-                value: _value,
-                class: _class,
-                place: _place,
+                value,
+                class,
+                place,
             } => {}
         }
     }

@@ -95,7 +95,7 @@ pub fn if_so(cond: Cond, yes: Box<Statement>, no: Option<Box<Statement>>) -> Sta
     Statement::If { cond, yes, no }
 }
 
-/// A `for`, with the statement before it, its condition and its step where it has them.
+/// A `for`, with the statement before it, its condition and its step if it has them.
 #[tactic(auto, using(crate::proofs::RawRows::for_is))]
 pub fn for_all(
     first: Option<Box<Statement>>,

@@ -48,16 +48,12 @@ pub enum Member {
 impl Drop for Member {
     fn drop(self) {
         match self {
-            Member::Field {
-                of: _of,
-                word: _word,
-                length: _length,
-            } => {}
+            Member::Field { of, word, length } => {}
             Member::Function {
-                of: _of,
-                word: _word,
-                params: _params,
-                body: _body,
+                of,
+                word,
+                params,
+                body,
             } => {}
         }
     }
@@ -208,45 +204,28 @@ pub enum Statement {
 impl Drop for Statement {
     fn drop(self) {
         match self {
-            Statement::Block { body: _body } => {}
+            Statement::Block { body } => {}
             Statement::Nothing => {}
-            Statement::If {
-                cond: _cond,
-                yes: _yes,
-                no: _no,
-            } => {}
-            Statement::While {
-                cond: _cond,
-                body: _body,
-            } => {}
+            Statement::If { cond, yes, no } => {}
+            Statement::While { cond, body } => {}
             Statement::For {
-                first: _first,
-                cond: _cond,
-                step: _step,
-                body: _body,
+                first,
+                cond,
+                step,
+                body,
             } => {}
-            Statement::Return {
-                place: _place,
-                value: _value,
-            } => {}
-            Statement::Break { place: _place } => {}
-            Statement::Continue { place: _place } => {}
+            Statement::Return { place, value } => {}
+            Statement::Break { place } => {}
+            Statement::Continue { place } => {}
             Statement::Declare {
-                of: _of,
-                slot: _slot,
-                place: _place,
-                value: _value,
+                of,
+                slot,
+                place,
+                value,
             } => {}
-            Statement::Assign {
-                left: _left,
-                op: _op,
-                value: _value,
-            } => {}
-            Statement::Count {
-                left: _left,
-                up: _up,
-            } => {}
-            Statement::Call { call: _call } => {}
+            Statement::Assign { left, op, value } => {}
+            Statement::Count { left, up } => {}
+            Statement::Call { call } => {}
         }
     }
 }
@@ -264,11 +243,8 @@ pub enum Cond {
 impl Drop for Cond {
     fn drop(self) {
         match self {
-            Cond::Seen {
-                path: _path,
-                class: _class,
-            } => {}
-            Cond::Test { value: _value } => {}
+            Cond::Seen { path, class } => {}
+            Cond::Test { value } => {}
         }
     }
 }
@@ -284,10 +260,7 @@ pub struct Left {
 // By hand, so that callers drop by a call.
 impl Drop for Left {
     fn drop(self) {
-        let Left {
-            path: _path,
-            index: _index,
-        } = self;
+        let Left { path, index } = self;
     }
 }
 
@@ -370,45 +343,28 @@ impl Drop for Expr {
     fn drop(self) {
         match self {
             Expr::Number {
-                value: _value,
-                unsigned: _unsigned,
-                place: _place,
+                value,
+                unsigned,
+                place,
             } => {}
-            Expr::Truth {
-                value: _value,
-                place: _place,
-            } => {}
-            Expr::Path { path: _path } => {}
-            Expr::Call { call: _call } => {}
-            Expr::Index {
-                path: _path,
-                at: _at,
-            } => {}
-            Expr::Instance { class: _class } => {}
-            Expr::Group {
-                inner: _inner,
-                place: _place,
-            } => {}
-            Expr::Cast {
-                to: _to,
-                value: _value,
-                place: _place,
-            } => {}
-            Expr::Prefix {
-                op: _op,
-                value: _value,
-                place: _place,
-            } => {}
+            Expr::Truth { value, place } => {}
+            Expr::Path { path } => {}
+            Expr::Call { call } => {}
+            Expr::Index { path, at } => {}
+            Expr::Instance { class } => {}
+            Expr::Group { inner, place } => {}
+            Expr::Cast { to, value, place } => {}
+            Expr::Prefix { op, value, place } => {}
             Expr::Pair {
-                op: _op,
-                left: _left,
-                right: _right,
-                place: _place,
+                op,
+                left,
+                right,
+                place,
             } => {}
             Expr::Is {
-                value: _value,
-                class: _class,
-                place: _place,
+                value,
+                class,
+                place,
             } => {}
         }
     }

@@ -12,16 +12,12 @@ use Rattle.ulam_types.specs.Programs as p
 use Rattle.ulam_types.specs.Programs.{class_sig, scope_of, first_fault}
 use Rattle.ulam_types.specs.Typing.{IsTypedBody}
 use Rattle.ulam_types.specs.ProgramTyping.{HaveValues, IsTypedMember, AreTypedMembers, AreTypedClasses, IsTypedProgram}
-use Rattle.ulam_tree.proofs.Means.{Means, means_then, means_must, means_at, ok_same}
+use Rattle.ulam_tree.proofs.Means.{Means, means_then, means_must, means_at, ok_same, means_more}
 use Rattle.ulam_types.proofs.Statements.{body_fits, body_means}
 
 params_fit : (g : Scope) (ps : List r.Param) → HaveValues g ps → p.params g ps ≡ Ok tt
 params_fit g [] h = refl
 params_fit g (x ∷ ps) h = rw (h.0, params_fit g ps h.1) refl
-
-means_more : {A : Type 0} (P Q : A → Type 0) (x : Found A) → Means P x → ((a : A) → P a → Q a) → Means Q x
-means_more P Q (Ok a) h f = f a h
-means_more P Q (Err e) h f = tt
 
 params_mean : (g : Scope) (ps : List r.Param) → Means (λ _. HaveValues g ps) (p.params g ps)
 params_mean g [] = tt

@@ -1,5 +1,6 @@
 -- The walk over a statement finds exactly its typed tree.
-use Rattle.std.proofs.Common.{◌≡◌, Bool, true, false, not, List, [], ◌∷◌, Option, Some, None, Ok, Err, refl, ap, sym, ◌∙◌}
+use Rattle.std.proofs.Common.{◌≡◌, true, not, List, [], ◌∷◌, Option, Some, None, Ok, Err, refl, ap, sym, ◌∙◌}
+use Rattle.std.proofs.lemmas.Bool.{not-true}
 use Rattle.feast_base.specs.declared.place.Place.{Place}
 use Rattle.sat_math.specs.declared.Kind.TheVariants as k
 use Rattle.ulam_tree.specs.declared.resolved.Ty.{Ty}
@@ -28,10 +29,10 @@ left_by_means g x (Some e) =
     let Q : t.Left × Ty → Type 0 = λ a. IsLeftBy g x (Some e) a.0 a.1 in
     means_then _ Q (index_by g x (expr g k.Int e)) _ (index_means g x (IsTyped g k.Int e) (expr g k.Int e) (expr_means g k.Int e)) (λ i h. (i.0, h.0, h.1, h.2, refl))
 
-value_fits : (g : Scope) (p : Place) (ty : Ty) (e : r.Expr) (a : t.Expr) → IsValueFor g ty e a → b.value g p ty e ≡ Ok a
+value_fits : (g : Scope) (p : Place) (ty : Ty) (e : r.Expr) (a : t.Expr) → IsValueFor g ty e a → b.value_for g p ty e ≡ Ok a
 value_fits g p ty e a h = rw (expr_fits g (taken ty) e a h.0, h.1) refl
 
-value_means : (g : Scope) (p : Place) (ty : Ty) (e : r.Expr) → Means (IsValueFor g ty e) (b.value g p ty e)
+value_means : (g : Scope) (p : Place) (ty : Ty) (e : r.Expr) → Means (IsValueFor g ty e) (b.value_for g p ty e)
 value_means g p ty e =
     let Q = IsValueFor g ty e in
     means_then _ Q (expr g (taken ty) e) _ (expr_means g (taken ty) e) (λ a ha.
@@ -86,13 +87,6 @@ call_fits g x es xs ty h = called_fits g x (count es) (λ ws bs. AreTyped g ws e
 call_means : (g : Scope) (x : r.Path) (es : r.Args) → Means (λ (c : t.Args × Ty). IsCall g x es c.0 c.1) (call g x es)
 call_means g x es = called_means g x (count es) (λ ws bs. AreTyped g ws es bs) (λ ws. args g ws es) (λ ws. args_mean g ws es)
 
-not_false : (v : Bool) → v ≡ false → not v ≡ true
-not_false v h = rw h refl
-
-false_not : (v : Bool) → not v ≡ true → v ≡ false
-false_not true h = sym h
-false_not false h = refl
-
 result_fits : (g : Scope) (p : Place) (e : Option r.Expr) (a : Option t.Expr) → IsResult g e a → b.result g p e ≡ Ok a
 result_fits g p None a h = rw h.0 (ap Ok (sym h.1))
 result_fits g p (Some e) a h = rw (expr_fits g (taken g.result) e h.0 h.2.0, h.1, h.2.1) (ap Ok (sym h.3))
@@ -103,7 +97,7 @@ result_means g p (Some e) =
     let Q = IsResult g (Some e) in
     means_then _ Q (expr g (taken g.result) e) _ (expr_means g (taken g.result) e) (λ a ha.
     means_must Q (not (is_void g.result)) _ _ (λ hv.
-    means_must Q (assignable g g.result (t.ty_of a)) _ _ (λ hx. (a, false_not _ hv, (ha, hx), refl))))
+    means_must Q (assignable g g.result (t.ty_of a)) _ _ (λ hx. (a, not-true _ hv, (ha, hx), refl))))
 
 mutual
   unfolding IsTypedStatement b.statement
@@ -118,7 +112,7 @@ mutual
   statement_fits g (r.returns p e) u h = rw (result_fits g p e h.0 h.1) (ap Ok (sym h.2))
   statement_fits g (r.breaks p) u h = rw h.0 (ap Ok (sym h.1))
   statement_fits g (r.continues p) u h = rw h.0 (ap Ok (sym h.1))
-  statement_fits g (r.declares of n p e) u h = rw (h.1, maybe_fits (IsValueFor g of.ty) (b.value g p of.ty) (value_fits g p of.ty) e h.0 h.2) (ap Ok (sym h.3))
+  statement_fits g (r.declares of n p e) u h = rw (h.1, maybe_fits (IsValueFor g of.ty) (b.value_for g p of.ty) (value_fits g p of.ty) e h.0 h.2) (ap Ok (sym h.3))
   statement_fits g (r.assigns l op e) u h = rw (left_by_fits g l.path l.index h.0 h.1 h.3, assigned_fits g l.path.place h.1 op e h.2 h.4) (ap Ok (sym h.5))
   statement_fits g (r.counts l up) u h = rw (left_by_fits g l.path l.index h.0 h.1 h.3, h.4, h.5) (ap Ok (sym h.6))
   statement_fits g (r.does x es) u h = rw (call_fits g x es h.0 h.1 h.2) (ap Ok (sym h.3))
@@ -160,7 +154,7 @@ mutual
   statement_means g (r.declares of n p e) =
       let Q = IsTypedStatement g (r.declares of n p e) in
       means_must Q (is_value g of.ty) _ _ (λ hv.
-      means_then _ Q (b.maybe (b.value g p of.ty) e) _ (maybe_means (IsValueFor g of.ty) (b.value g p of.ty) (value_means g p of.ty) e) (λ a ha. (a, hv, ha, refl)))
+      means_then _ Q (b.maybe (b.value_for g p of.ty) e) _ (maybe_means (IsValueFor g of.ty) (b.value_for g p of.ty) (value_means g p of.ty) e) (λ a ha. (a, hv, ha, refl)))
   statement_means g (r.assigns l op e) =
       let Q = IsTypedStatement g (r.assigns l op e) in
       means_then _ Q (b.left g l) _ (left_by_means g l.path l.index) (λ a ha.

@@ -30,15 +30,15 @@ abbrev pub left : Scope → r.Left → Found (t.Left × Ty)
 left g l = left_by g l.path l.index
 
 -- a value for a type; the place is that of what it is given to
-abbrev pub value : Scope → Place → Ty → r.Expr → Found t.Expr
-value g p ty e = do
+abbrev pub value_for : Scope → Place → Ty → r.Expr → Found t.Expr
+value_for g p ty e = do
   a ← expr g (taken ty) e
   _ ← must (assignable g ty (t.ty_of a)) (not_assignable p)
   Ok a
 
 -- a value for a type, by `=`, or else by an operator between what is there and it
 abbrev pub assigned : Scope → Place → Ty → Option PairOp → r.Expr → Found t.Expr
-assigned g p ty None e = value g p ty e
+assigned g p ty None e = value_for g p ty e
 assigned g p ty (Some op) e = do
   a ← expr g (taken ty) e
   sum ← found (pair_type op (plain e) ty (t.ty_of a)) (pair_fault p op ty (t.ty_of a))
@@ -128,7 +128,7 @@ unfoldable mutual
     Ok (t.continues p)
   statement g (r.declares of n p e) = do
     _ ← must (is_value g of.ty) (wrong_type of.place)
-    a ← maybe (value g p of.ty) e
+    a ← maybe (value_for g p of.ty) e
     Ok (t.declares of n p a)
   statement g (r.assigns l op e) = do
     a ← left g l

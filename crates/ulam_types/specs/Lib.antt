@@ -1,4 +1,5 @@
 pub mod Bodies
+pub mod Compound
 pub mod Faults
 pub mod ProgramTyping
 pub mod Programs

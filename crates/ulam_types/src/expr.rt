@@ -1,36 +1,27 @@
 //! Types of expressions.
-ghost use Rattle.std.specs.Prelude.{◌≡◌, length, IfOk};
+ghost use Rattle.std.specs.Prelude.{◌≡◌, length, IfOk, true};
 ghost use Rattle.std.specs.Box.{box_value};
 ghost use Rattle.sat_math.specs.declared.Kind.{Kind};
-ghost use Rattle.ulam_tree.specs.Found.{found};
 ghost use Rattle.ulam_tree.specs.ResolvedViews.{resolved_expr, resolved_args, resolved_path};
 ghost use Rattle.ulam_tree.specs.Resolved as raw_tree;
-ghost use Rattle.ulam_tree.specs.Typed as tree;
-ghost use Rattle.ulam_tree.specs.TypedViews.{typed_form, typed_expr, typed_args};
-ghost use Rattle.ulam_types.specs.Faults.{wrong_type};
-ghost use Rattle.ulam_types.specs.Rows as row;
+ghost use Rattle.ulam_tree.specs.TypedViews.{typed_expr, typed_args};
+ghost use Rattle.ulam_types.specs.Compound.{is_compound};
 ghost use Rattle.ulam_types.specs.Scopes as spec;
 ghost use Rattle.ulam_types.specs.Shown.{scope_view, Gives};
 ghost use Rattle.ulam_types.specs.Walk as walk;
 
 use crate::copy;
 use crate::fault::TypeFault;
-use crate::lookup::{
-    begins_local, function_at, instance_type, is_atom, is_species, is_value, item_type, last_step,
-    value_type,
-};
-use crate::rows::{
-    beside, cast_type, is_index, pair_row, plain_fits, plain_type, prefix_type, taken, truth,
-    unsigned,
-};
+use crate::form::{call_value, instance, known, number, pair, truth_at, value_at};
+use crate::lookup::{begins_local, function_at, is_atom, is_species, item_type, last_step};
+use crate::rows::{beside, cast_type, is_index, prefix_type, taken, truth, unsigned};
 use crate::scope::{Scope, Want};
 use crate::suits::{all_suit, create_width, taken_want};
 use feast_base::Place;
 use sat_math::Kind;
 use std::alloc::Global;
 use ulam_tree::resolved::{Built, Expr, Named, Path, Step, Ty};
-use ulam_tree::typed::Form;
-use ulam_tree::{PairOp, typed, typed_build as build};
+use ulam_tree::{typed, typed_build as build};
 
 /// Whether an expression is a number without `u`, in any number of brackets.
 pub fn plain(raw: &Expr) -> bool
@@ -62,93 +53,6 @@ pub fn place_of(raw: &Expr) -> Place
     }
 }
 
-fn number(want: Kind, value: u32, with_u: bool, place: Place) -> Result<typed::Expr, TypeFault>
-    ensures { Gives typed_expr result (walk.number want value with_u place) }
-{
-    if with_u {
-        Ok(typed::Expr {
-            form: Form::Number {
-                value,
-                unsigned: true,
-                place,
-            },
-            ty: unsigned(32),
-        })
-    } else if plain_fits(want, value) {
-        Ok(typed::Expr {
-            form: Form::Number {
-                value,
-                unsigned: false,
-                place,
-            },
-            ty: plain_type(want),
-        })
-    } else {
-        Err(TypeFault::WrongType(place))
-    }
-}
-
-/// Two operands with an operator between.
-fn pair(
-    op: PairOp,
-    left: Box<typed::Expr>,
-    right: Box<typed::Expr>,
-    plain_right: bool,
-    place: Place,
-) -> Result<typed::Expr, TypeFault>
-    ensures { Gives typed_expr result (walk.pair_by op plain_right place (typed_expr (box_value left), typed_expr (box_value right))) }
-{
-    let ty = pair_row(place, op, plain_right, left.ty, right.ty)?;
-    Ok(build::pair(op, left, right, place, ty))
-}
-
-/// The type, or `WrongType` if there is none.
-fn known(ty: Option<Ty>, place: Place) -> Result<Ty, TypeFault>
-    ensures { Gives (λ x. x) result (found ty (wrong_type place)) }
-{
-    match ty {
-        None => Err(TypeFault::WrongType(place)),
-        Some(ty) => Ok(ty),
-    }
-}
-
-/// `true` or `false`.
-fn truth_at(value: bool, place: Place) -> typed::Expr
-    ensures { typed_expr result ≡ tree.typed (tree.truth value place) row.bool }
-{
-    typed::Expr {
-        form: Form::Truth { value, place },
-        ty: truth(),
-    }
-}
-
-/// A path as an expression.
-#[tactic(auto, unfolding(crate::specs::Walk::expr))]
-fn value_at(alloc: Global, scope: &Scope, path: &Path) -> Result<typed::Expr, TypeFault>
-    ensures { (want : Kind) → Gives typed_expr result (walk.expr (scope_view scope.now) want (raw_tree.reads (resolved_path path.now))) }
-{
-    let ty = known(value_type(scope, path.steps.as_slice()), path.place)?;
-    let path = copy::path(alloc, path)?;
-    Ok(typed::Expr {
-        form: Form::Path { path },
-        ty,
-    })
-}
-
-/// The `instanceof` of a class.
-#[tactic(auto, unfolding(crate::specs::Walk::expr))]
-fn instance(scope: &Scope, class: Named) -> Result<typed::Expr, TypeFault>
-    ensures { (want : Kind) → Gives typed_expr result (walk.expr (scope_view scope.now) want (raw_tree.instance class)) }
-{
-    if !is_species(scope, class.ty) {
-        return Err(TypeFault::BadAs(class.place));
-    }
-    Ok(typed::Expr {
-        form: Form::Instance { class },
-        ty: instance_type(class.ty),
-    })
-}
-
 /// An expression. A plain number takes the kind `want`.
 #[cycle(expr)]
 #[tactic(auto, unfolding(crate::specs::Walk::expr))]
@@ -165,16 +69,29 @@ pub fn expr(alloc: Global, scope: &Scope, want: Kind, raw: &Expr) -> Result<type
         Expr::Path { path } => value_at(alloc, scope, path),
         Expr::Call { call: called } => {
             let (args, ty) = call(alloc, scope, &called.path, called.args.as_slice())?;
-            if !is_value(scope, ty) {
-                return Err(TypeFault::WrongType(called.path.place));
-            }
-            Ok(build::call(copy::path(alloc, &called.path)?, args, ty))
+            call_value(alloc, scope, &called.path, args, ty)
         }
         Expr::Index { path, at } => {
             let (at, ty) = index(alloc, scope, path, at)?;
             Ok(build::index(copy::path(alloc, path)?, at, ty))
         }
         Expr::Instance { class } => instance(scope, *class),
+        Expr::Group { .. }
+        | Expr::Cast { .. }
+        | Expr::Prefix { .. }
+        | Expr::Pair { .. }
+        | Expr::Is { .. } => compound(alloc, scope, want, raw),
+    }
+}
+
+/// An expression in brackets, or an operator with its operands. No other expression comes here.
+#[cycle(expr)]
+#[tactic(auto, unfolding(crate::specs::Walk::expr))]
+fn compound(alloc: Global, scope: &Scope, want: Kind, raw: &Expr) -> Result<typed::Expr, TypeFault>
+    requires { is_compound (resolved_expr raw.now) ≡ true }
+    ensures { Gives typed_expr result (walk.expr (scope_view scope.now) want (resolved_expr raw.now)) }
+{
+    match raw {
         Expr::Group { inner, place } => {
             let inner = boxed(alloc, scope, want, inner)?;
             Ok(build::group(inner, *place))
@@ -212,6 +129,7 @@ pub fn expr(alloc: Global, scope: &Scope, want: Kind, raw: &Expr) -> Result<type
             class,
             place,
         } => is(alloc, scope, value, *class, *place),
+        _ => Err(TypeFault::WrongType(place_of(raw))),
     }
 }
 

@@ -5,7 +5,7 @@ ghost use Rattle.ulam_tree.specs.Typed as typed;
 ghost use Rattle.ulam_types.specs.Programs.{first_fault};
 ghost use Rattle.ulam_types.specs.ProgramTyping.{IsTypedProgram};
 
-/// A program has a typed tree exactly where it has no first fault, and at most one.
+/// A program has a typed tree exactly if it has no first fault, and at most one.
 pub fn one_typing()
     ensures some { (program : List resolved.Class) → first_fault program ≡ None → (tree : List typed.Class) × IsTypedProgram program tree }
     ensures none { (program : List resolved.Class) (tree : List typed.Class) → IsTypedProgram program tree → first_fault program ≡ None }

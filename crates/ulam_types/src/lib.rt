@@ -5,6 +5,7 @@ mod copy;
 mod ends;
 mod expr;
 mod fault;
+mod form;
 mod function;
 mod law;
 mod locals;

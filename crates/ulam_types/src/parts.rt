@@ -1,9 +1,11 @@
 //! Parts of statements.
 ghost use Rattle.std.specs.Prelude.{◌≡◌, slice_set, option_map, IfOk};
+ghost use Rattle.ulam_tree.specs.Found.{must};
 ghost use Rattle.ulam_tree.specs.Resolved as raw_tree;
 ghost use Rattle.ulam_tree.specs.ResolvedViews.{resolved_expr, resolved_left, resolved_path, resolved_args};
 ghost use Rattle.ulam_tree.specs.TypedViews.{typed_expr, typed_left, typed_statement};
 ghost use Rattle.ulam_types.specs.Bodies as walk;
+ghost use Rattle.ulam_types.specs.Faults.{break_outside};
 ghost use Rattle.ulam_types.specs.Shown.{scope_view, Gives};
 
 use crate::copy;
@@ -43,14 +45,14 @@ fn left(alloc: Global, scope: &Scope, raw: &Left) -> Result<(typed::Left, Ty), T
 }
 
 /// A value for a type. `place` is the place of what it is assigned to.
-fn value(
+fn value_for(
     alloc: Global,
     scope: &Scope,
     place: Place,
     ty: Ty,
     raw: &Expr,
 ) -> Result<typed::Expr, TypeFault>
-    ensures { Gives typed_expr result (walk.value (scope_view scope.now) place ty (resolved_expr raw.now)) }
+    ensures { Gives typed_expr result (walk.value_for (scope_view scope.now) place ty (resolved_expr raw.now)) }
 {
     let found = expr(alloc, scope, taken(ty), raw)?;
     if assignable(scope, ty, found.ty) {
@@ -94,11 +96,11 @@ fn maybe_value(
     ty: Ty,
     raw: &Option<Expr>,
 ) -> Result<Option<typed::Expr>, TypeFault>
-    ensures { Gives (option_map typed_expr) result (walk.maybe (walk.value (scope_view scope.now) place ty) (option_map resolved_expr raw.now)) }
+    ensures { Gives (option_map typed_expr) result (walk.maybe (walk.value_for (scope_view scope.now) place ty) (option_map resolved_expr raw.now)) }
 {
     match raw {
         None => Ok(None),
-        Some(raw) => Ok(Some(value(alloc, scope, place, ty, raw)?)),
+        Some(raw) => Ok(Some(value_for(alloc, scope, place, ty, raw)?)),
     }
 }
 
@@ -114,7 +116,7 @@ fn assigned(
     ensures { Gives typed_expr result (walk.assigned (scope_view scope.now) place ty op (resolved_expr raw.now)) }
 {
     match op {
-        None => value(alloc, scope, place, ty, raw),
+        None => value_for(alloc, scope, place, ty, raw),
         Some(op) => {
             let found = expr(alloc, scope, taken(ty), raw)?;
             let sum = pair_row(place, op, plain(raw), ty, found.ty)?;
@@ -169,6 +171,35 @@ pub fn give(
 {
     let value = returned(alloc, scope, place, raw)?;
     Ok(typed::Statement::Return { place, value })
+}
+
+/// Refuses a place outside a loop.
+fn within_loop(scope: &Scope, place: Place) -> Result<(), TypeFault>
+    ensures { Gives (λ x. x) result (must (scope_view scope.now).looped (break_outside place)) }
+{
+    if scope.looped {
+        Ok(())
+    } else {
+        Err(TypeFault::BreakOutside(place))
+    }
+}
+
+/// A `break`.
+#[tactic(auto, unfolding(crate::specs::Bodies::statement))]
+pub fn breaks(scope: &Scope, place: Place) -> Result<typed::Statement, TypeFault>
+    ensures { Gives typed_statement result (walk.statement (scope_view scope.now) (raw_tree.breaks place)) }
+{
+    within_loop(scope, place)?;
+    Ok(typed::Statement::Break { place })
+}
+
+/// A `continue`.
+#[tactic(auto, unfolding(crate::specs::Bodies::statement))]
+pub fn continues(scope: &Scope, place: Place) -> Result<typed::Statement, TypeFault>
+    ensures { Gives typed_statement result (walk.statement (scope_view scope.now) (raw_tree.continues place)) }
+{
+    within_loop(scope, place)?;
+    Ok(typed::Statement::Continue { place })
 }
 
 /// The declaration of a local.

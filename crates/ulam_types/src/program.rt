@@ -73,11 +73,11 @@ fn find(alloc: Global, program: &Program) -> Result<Typed, TypeFault>
     Ok(Typed { classes })
 }
 
-/// The typed tree of a program. Else its first fault, where classes, functions and statements are
-/// gone through in the order of the text, and operands from left to right before their operator;
-/// `NoMemory` where the tree can't be kept.
+/// The typed tree of a program. Else its first fault: classes, functions and statements are gone
+/// through in the order of the text, and operands from left to right before their operator.
+/// `NoMemory` if the tree can't be kept.
 ///
-/// A program has a layout where its quarks and elements are narrow enough, which is found before
+/// A program has a layout if its quarks and elements are narrow enough, which is found before
 /// types are; no rule of types asks for it.
 pub fn check(alloc: Global, program: &Program, _layout: &Layout) -> Result<Typed, TypeFault>
     requires { length program.now.classes.items ≤ 4294967295 }

@@ -1,21 +1,21 @@
 //! Types of statements.
 ghost use Rattle.std.specs.Box.{box_value};
-ghost use Rattle.ulam_tree.specs.Found.{must};
-ghost use Rattle.ulam_tree.specs.ResolvedViews.{resolved_cond, resolved_statement, resolved_body, resolved_part};
+ghost use Rattle.ulam_tree.specs.Resolved as raw_tree;
+ghost use Rattle.ulam_tree.specs.ResolvedViews.{resolved_expr, resolved_path, resolved_cond, resolved_statement, resolved_body, resolved_part};
 ghost use Rattle.ulam_tree.specs.TypedViews.{typed_cond, typed_statement, typed_body, typed_part};
 ghost use Rattle.ulam_types.specs.Bodies as walk;
-ghost use Rattle.ulam_types.specs.Faults.{break_outside};
 ghost use Rattle.ulam_types.specs.Scopes.{in_loop};
 ghost use Rattle.ulam_types.specs.Shown.{scope_view, Gives};
 
 use crate::copy;
 use crate::fault::TypeFault;
 use crate::lookup::{atom_slot, is_element_type};
-use crate::parts::{assign, count, declare, does, give, maybe_test, slots_with, test};
+use crate::parts::{
+    assign, breaks, continues, count, declare, does, give, maybe_test, slots_with, test,
+};
 use crate::scope::Scope;
-use feast_base::Place;
 use std::alloc::Global;
-use ulam_tree::resolved::{Cond, Statement};
+use ulam_tree::resolved::{Cond, Expr, Named, Path, Statement};
 use ulam_tree::{typed, typed_build as build};
 
 /// A statement.
@@ -39,11 +39,7 @@ pub fn statement(
             let no = part(alloc, scope, no)?;
             Ok(build::if_so(cond, yes, no))
         }
-        Statement::While { cond, body } => {
-            let cond = test(alloc, scope, cond)?;
-            let body = turns(alloc, scope, body)?;
-            Ok(typed::Statement::While { cond, body })
-        }
+        Statement::While { cond, body } => while_so(alloc, scope, body, cond),
         Statement::For {
             first,
             cond,
@@ -57,14 +53,8 @@ pub fn statement(
             Ok(build::for_all(first, cond, step, body))
         }
         Statement::Return { place, value } => give(alloc, scope, *place, value),
-        Statement::Break { place } => {
-            within_loop(scope, *place)?;
-            Ok(typed::Statement::Break { place: *place })
-        }
-        Statement::Continue { place } => {
-            within_loop(scope, *place)?;
-            Ok(typed::Statement::Continue { place: *place })
-        }
+        Statement::Break { place } => breaks(scope, *place),
+        Statement::Continue { place } => continues(scope, *place),
         Statement::Declare {
             of,
             slot,
@@ -77,15 +67,20 @@ pub fn statement(
     }
 }
 
-/// Refuses a place outside a loop.
-fn within_loop(scope: &Scope, place: Place) -> Result<(), TypeFault>
-    ensures { Gives (λ x. x) result (must (scope_view scope.now).looped (break_outside place)) }
+/// A `while`.
+#[cycle(statement)]
+#[tactic(auto, unfolding(crate::specs::Bodies::statement))]
+fn while_so(
+    alloc: Global,
+    scope: &Scope,
+    body: &Statement,
+    cond: &Expr,
+) -> Result<typed::Statement, TypeFault>
+    ensures { Gives typed_statement result (walk.statement (scope_view scope.now) (raw_tree.while_so (resolved_expr cond.now) (resolved_statement body.now))) }
 {
-    if scope.looped {
-        Ok(())
-    } else {
-        Err(TypeFault::BreakOutside(place))
-    }
+    let cond = test(alloc, scope, cond)?;
+    let body = turns(alloc, scope, body)?;
+    Ok(typed::Statement::While { cond, body })
 }
 
 /// The body of a loop.
@@ -137,25 +132,36 @@ fn branch(
             let yes = Box::new(alloc, yes)?;
             Ok((typed::Cond::Test { value }, yes))
         }
-        Cond::Seen { path, class } => match atom_slot(scope, path.steps.as_slice()) {
-            None => Err(TypeFault::BadAs(path.place)),
-            Some(slot) => {
-                if !is_element_type(scope, class.ty) {
-                    return Err(TypeFault::BadAs(class.place));
-                }
-                let slots = slots_with(alloc, scope.slots, slot, class.ty)?;
-                let inner = Scope {
-                    slots: slots.as_slice(),
-                    ..*scope
-                };
-                let yes = statement(alloc, &inner, yes)?;
-                let yes = Box::new(alloc, yes)?;
-                let path = copy::path(alloc, path)?;
-                let class = *class;
-                Ok((typed::Cond::Seen { path, class }, yes))
-            }
-        },
+        Cond::Seen { path, class } => seen(alloc, scope, yes, path, *class),
     }
+}
+
+/// What an `if` with `as` asks, and its first branch, in which the name is seen as the element.
+#[cycle(statement)]
+fn seen(
+    alloc: Global,
+    scope: &Scope,
+    yes: &Statement,
+    path: &Path,
+    class: Named,
+) -> Result<(typed::Cond, Box<typed::Statement>), TypeFault>
+    ensures { Gives (λ x. (typed_cond x.0, typed_statement (box_value x.1))) result (walk.branch (scope_view scope.now) (raw_tree.seen (resolved_path path.now) class) (λ g. walk.statement g (resolved_statement yes.now))) }
+{
+    let Some(slot) = atom_slot(scope, path.steps.as_slice()) else {
+        return Err(TypeFault::BadAs(path.place));
+    };
+    if !is_element_type(scope, class.ty) {
+        return Err(TypeFault::BadAs(class.place));
+    }
+    let slots = slots_with(alloc, scope.slots, slot, class.ty)?;
+    let inner = Scope {
+        slots: slots.as_slice(),
+        ..*scope
+    };
+    let yes = statement(alloc, &inner, yes)?;
+    let yes = Box::new(alloc, yes)?;
+    let path = copy::path(alloc, path)?;
+    Ok((typed::Cond::Seen { path, class }, yes))
 }
 
 /// The statements of a block or of a function.

@@ -1,7 +1,8 @@
 -- The states of a window's atoms, one after another.
-use Rattle.std.proofs.Common.{◌≡◌, ℕ, zero, suc, ◌+◌, ◌<◌, ◌≤◌, ◌^◌, ◌⊎◌, ⊎_elim, inl, inr, List, [], ◌∷◌, length, refl, sym, ap, subst, arith}
+use Rattle.std.proofs.Common.{◌≡◌, ℕ, zero, suc, ◌+◌, ◌<◌, ◌≤◌, ◌^◌, ⊎_elim, List, [], ◌∷◌, length, refl, sym, ap, subst, arith}
 use Rattle.std.specs.Prelude.{slice_index_or}
 use Rattle.std.proofs.lemmas.Bool.{cases_lt}
+use Rattle.list_laws.proofs.Numbers.{less_or_same}
 use Rattle.bit_field.specs.Atom.{AtomValue, empty_atom}
 use Rattle.window_sites.specs.Window.{WindowValue, atom_at}
 
@@ -9,11 +10,8 @@ use Rattle.window_sites.specs.Window.{WindowValue, atom_at}
 abbrev pub StatesBelow : WindowValue → ℕ → Type 0
 StatesBelow w n = (k : ℕ) → k < n → (atom_at w k).state < 2 ^ 71
 
-below_or : (k n : ℕ) → k < n + 1 → (k < n) ⊎ (k ≡ n)
-below_or k n lt = ⊎_elim (λ x. inl x) (λ x. inr (omega (arith, x, lt))) (cases_lt k n)
-
 pub states_more : (w : WindowValue) (n : ℕ) → StatesBelow w n → (atom_at w n).state < 2 ^ 71 → StatesBelow w (n + 1)
-states_more w n h a = λ k lt. ⊎_elim (λ x. h k x) (λ x. subst (λ i. (atom_at w i).state < 2 ^ 71) (sym x) a) (below_or k n lt)
+states_more w n h a = λ k lt. ⊎_elim (λ x. h k x) (λ x. subst (λ i. (atom_at w i).state < 2 ^ 71) (sym x) a) (less_or_same k n lt)
 
 past_empty : (xs : List AtomValue) (k : ℕ) → length xs ≤ k → slice_index_or xs k empty_atom ≡ empty_atom
 past_empty [] k le = refl

@@ -1,5 +1,5 @@
 -- Fresh tiles, one after another, and all of them as the beginning of a run.
-use Rattle.std.proofs.Common.{◌≡◌, ◌⊎◌, ℕ, ◌+◌, ◌*◌, ◌<◌, ◌≤◌, ◌++◌, List, [], ◌∷◌, All, Some, true, length, length-append, map, get_or, refl, sym, ap, subst, ◌∙◌, arith, inl, inr}
+use Rattle.std.proofs.Common.{◌≡◌, ◌⊎◌, ℕ, ◌+◌, ◌<◌, ◌≤◌, ◌++◌, List, [], ◌∷◌, All, Some, true, length, length-append, map, get_or, refl, sym, ap, subst, ◌∙◌, arith, inl, inr}
 use Rattle.std.specs.Prelude.{slice_get}
 use Rattle.std.proofs.Math.ListN.{get_or-append}
 use Rattle.std.proofs.Math.Seq.{get_or-append_seam}
@@ -13,11 +13,11 @@ use Rattle.draw_stream.specs.declared.attempt.Attempt.{Attempt}
 use Rattle.draw_stream.specs.Plans.{PlanValue, IsPlan, attempts}
 use Rattle.draw_stream.proofs.Plans.{attempts_few}
 use Rattle.border_cache.specs.Copies.{IsGridOf}
-use Rattle.tile_map.specs.Plane.{MapValue, IsMap, is_on, tiles_of}
+use Rattle.tile_map.specs.Plane.{MapValue, is_on, tiles_of}
 use Rattle.tile_core.specs.Underway.{CanAttempt, IsFreshTile}
 use Rattle.tile_core.specs.Values.{TileValue, atoms_of}
 use Rattle.serial_order.specs.Fresh.{AreFresh}
-use Rattle.world_grid.specs.Worlds.{IsAttempt, IsWorld}
+use Rattle.world_runs.specs.Worlds.{IsAttempt, IsWorld}
 use Rattle.world_text.specs.Named.{WorldValue}
 use Rattle.world_runs.specs.Fresh.{AllCanAttempt, AreMade, setting_of}
 
@@ -63,12 +63,6 @@ none_left (y ∷ ys) e = absurd (omega (arith, e))
 -- all are made where none is left
 pub acts_all : {B : Type 0} (tiles : List (TileValue × B)) (rest behaves : List B) → rest ≡ [] → map (λ (y : TileValue × B). y.1) tiles ++ rest ≡ behaves → map (λ (y : TileValue × B). y.1) tiles ≡ behaves
 acts_all {B} tiles rest behaves none all = sym (append-nil (map (λ (y : TileValue × B). y.1) tiles)) ∙ (ap (λ zs. map (λ (y : TileValue × B). y.1) tiles ++ zs) (sym none) ∙ all)
-
-pub few_tiles : (m : MapValue) → IsMap m → tiles_of m ≤ 64
-few_tiles m k = go m.tx m.ty k.sizes.tx_high k.sizes.ty_high
-  where
-    go : (a b : ℕ) → a ≤ 8 → b ≤ 8 → a * b ≤ 64
-    go a b p q = grind arith
 
 -- the attempts of a tile of a world are ones that it can make
 can_attempt : (w : WorldValue) → IsWorld w → IsPlan w.plan → (t : ℕ) → t < tiles_of w.plane → (list : List Attempt) → attempts w.plan t ≡ list → CanAttempt w.plane t list

@@ -1,14 +1,10 @@
 -- What an iterator over the items of a list gives.
-use Rattle.std.proofs.Common.{◌≡◌, ℕ, ◌+◌, ◌++◌, List, [], ◌∷◌, All, length, length-append, refl, sym, ap, subst, ◌∙◌, arith}
+use Rattle.std.proofs.Common.{◌≡◌, ℕ, ◌+◌, ◌++◌, List, [], ◌∷◌, All, length, length-append, sym, ap, subst, ◌∙◌, arith}
 use Rattle.std.specs.Iterator.{Yields, Drains, HoldsAlong}
 use Rattle.std.specs.Vec.Iter.{into_iter_items, into_iter_len, into_iter_steps}
 use Rattle.std.specs.declared.vec.IntoIter.{IntoIter}
-use Rattle.std.proofs.lemmas.List.{append-nil}
+use Rattle.std.proofs.lemmas.List.{append-nil, nil_from_length}
 use Rattle.std.proofs.Math.ListN.{get_or-append}
-
-none_left : (ys : List ℕ) → length ys ≡ 0 → ys ≡ []
-none_left [] e = refl
-none_left (y ∷ ys) e = absurd (omega (arith, e))
 
 -- what holds of each of two lists together holds of each of the first
 front : (P : ℕ → Type 0) (xs ys : List ℕ) → All P (xs ++ ys) → All P xs
@@ -31,7 +27,7 @@ module _ {Z : Type 0} where
   -- all that is given is the list
   pub given_all : (s : IntoIter ℕ Z) (xs : List ℕ) → into_iter_len s ≡ length (into_iter_items s) → Drains (into_iter_steps {X = ℕ} {Z = Z}) s xs → xs ≡ into_iter_items s
   given_all s xs h d =
-      let none = none_left (into_iter_items d.1.0) (sym (counted s d.1.0 xs d.1.1 h) ∙ d.1.2.0) in
+      let none = nil_from_length (into_iter_items d.1.0) (sym (counted s d.1.0 xs d.1.1 h) ∙ d.1.2.0) in
       sym (given s d.1.0 xs d.1.1 ∙ (ap (λ zs. xs ++ zs) none ∙ append-nil xs))
 
   -- what holds of each item holds of all that is given

@@ -7,7 +7,7 @@ use Rattle.stepped_world.specs.Running.{Setting}
 use Rattle.tile_core.specs.Underway.{CanAttempt, IsFreshTile}
 use Rattle.tile_core.specs.Values.{TileValue, atoms_of}
 use Rattle.tile_map.specs.Plane.{MapValue, tiles_of}
-use Rattle.world_grid.specs.Start.{start_grid}
+use Rattle.world_runs.specs.Start.{start_grid}
 use Rattle.world_text.specs.Named.{WorldValue}
 
 -- the plan's attempts of each tile are ones that it can make

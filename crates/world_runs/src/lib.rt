@@ -1,14 +1,23 @@
-//! The runs of a world, from its tiles and its order to the outcome: stepped, and with a worker for
-//! each tile.
+//! From a world to the outcome of its run: its map, the flat grid that it starts with, its tiles and
+//! its order; the run stepped, with a worker for each tile, or of one tile alone; and the grid that
+//! the replay of records leaves.
 #![tactic(auto)]
 
+mod law;
+mod one_tile;
 mod order;
 mod plans;
+mod replaying;
+mod starting;
 mod stepping;
 mod threading;
 mod tiles;
 
-pub use order::{listed_order, order_of};
+pub use law::{each_attempt_is_an_event, laws, listed_order};
+pub use one_tile::journal;
+pub use order::order_of;
+pub use replaying::replayed;
+pub use starting::{map_of, start};
 pub use stepping::stepped;
 pub use threading::threaded;
 pub use tiles::fresh_tiles;

@@ -1,8 +1,6 @@
 //! The order of a stepped run.
-ghost use Rattle.std.specs.Prelude.{◌≡◌, ◌+◌, ◌*◌, ◌<◌, ◌≤◌, ◌++◌, ◌∷◌, [], ℕ, List, All, IfOk, OnOk, length};
+ghost use Rattle.std.specs.Prelude.{◌≡◌, ◌+◌, ◌*◌, ◌<◌, ◌≤◌, ◌++◌, ◌∷◌, [], All, IfOk, OnOk, length};
 ghost use Rattle.tile_map.specs.Plane.{tiles_of};
-ghost use Rattle.world_text.specs.Named.{WorldValue};
-ghost use Rattle.world_text.specs.Printed.{IsNamed};
 ghost use Rattle.world_text.specs.Values.{world_value, order_value};
 ghost use Rattle.world_runs.specs.Orders.{IsOrder, attempts_in, drawn_order, order_in};
 
@@ -10,12 +8,6 @@ use draw_stream::{AttemptPlan, TileStream};
 use feast_base::NoMemory;
 use std::alloc::Global;
 use world_text::{Order, World};
-
-/// The order that a world's lines give names tiles of its plane. The call does nothing: its
-/// contract is the law.
-pub fn listed_order()
-    ensures { (names : List (List ℕ)) (w : WorldValue) → IsNamed names w → IsOrder w.plane w.order }
-{}
 
 /// How many attempts the tiles of a plan have together, at most 1,000,000.
 fn attempts_of(plan: &AttemptPlan, tiles: u32) -> u32

@@ -3,13 +3,14 @@ ghost use Rattle.std.specs.Prelude.{◌≡◌, ℕ, All, IfOk, length};
 ghost use Rattle.window_sites.specs.Window.{WindowValue};
 ghost use Rattle.stepped_world.specs.Ends.{IsOutcome};
 ghost use Rattle.tile_map.specs.Plane.{tiles_of};
-ghost use Rattle.world_grid.specs.Worlds.{IsWorld};
+ghost use Rattle.world_runs.specs.Worlds.{IsWorld};
 ghost use Rattle.world_text.specs.Values.{world_value, order_value};
 ghost use Rattle.world_runs.specs.Fresh.{setting_of};
 ghost use Rattle.world_runs.specs.Orders.{IsOrder, order_in};
 
 use crate::order::order_of;
 use crate::plans::plan_fits;
+use crate::starting::start;
 use crate::tiles::fresh_tiles;
 use cell_grid::Behave;
 use edge_lock::PlainBoard;
@@ -17,30 +18,31 @@ use feast_base::NoMemory;
 use serial_order::Outcome;
 use std::alloc::Global;
 use stepped_world::run_settled;
-use world_grid::{map_of, start};
+use tile_map::Map;
 use world_text::World;
 
 /// The stepped run of a world on one thread, settled: its grid and its journal are those of the
 /// stepped machine, and all its events stand in one serial order, that of the journal. There is one
-/// value that acts for each tile, and all have one meaning. `NoMemory` if the tiles, the board, the
-/// order or the grid can't be made.
+/// value that acts for each tile, and all have one meaning. The map is the world's. `NoMemory` if the
+/// tiles, the board, the order or the grid can't be made.
 pub fn stepped<B: Behave + Drop>(
     alloc: Global,
+    map: &Map,
     world: &World,
     behaves: Vec<B>,
 ) -> Result<Outcome, NoMemory>
     requires world { IsWorld (world_value world.now) }
+    requires map { map.now ≡ (world_value world.now).plane }
     requires order { IsOrder (world_value world.now).plane (order_value world.now.order) }
     requires one { length behaves.items ≡ tiles_of (world_value world.now).plane }
     requires meaning { (meaning : WindowValue → ℕ → WindowValue) × All (λ b. B.after b ≡ meaning) behaves.items }
     ensures { IfOk result (λ o. (meaning : WindowValue → ℕ → WindowValue) → All (λ b. B.after b ≡ meaning) behaves.items → IsOutcome (world_value world.now).plane (setting_of (world_value world.now) meaning) (order_in (world_value world.now)) o) }
 {
-    let map = map_of(alloc, world)?;
     map.laws();
     plan_fits(&world.plan);
-    let grid = start(alloc, world)?;
-    let tiles = fresh_tiles(alloc, &map, &grid, &world.plan, behaves)?;
+    let grid = start(alloc, map, world)?;
+    let tiles = fresh_tiles(alloc, map, &grid, &world.plan, behaves)?;
     let order = order_of(alloc, world)?;
-    let board = PlainBoard::new(alloc, &map)?;
-    run_settled(alloc, &map, tiles, board, order.into_iter())
+    let board = PlainBoard::new(alloc, map)?;
+    run_settled(alloc, map, tiles, board, order.into_iter())
 }

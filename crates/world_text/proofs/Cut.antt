@@ -3,10 +3,11 @@ use Rattle.std.proofs.Common.{ℕ, zero, suc, ◌≡◌, ◌+◌, ◌*◌, ◌�
 use Rattle.std.specs.List.{list_any}
 use Rattle.std.proofs.lemmas.List.{append-nil}
 use Rattle.std.proofs.lemmas.List.Elements.{All-head, All-tail, All-cons, All-nil}
+use Rattle.std.proofs.lemmas.Bool.{both_ways}
 use Rattle.tile_map.specs.Plane.{MapValue}
 use Rattle.world_text.specs.Line.{Line, IsFormed, header, tiles, size, off, seed, attempts, try, atom, order_seed, order}
 use Rattle.world_text.specs.Drafts.{DraftValue, IsDraft, is_early, step, put, kind_of, may_follow, in_range, too_many, misplaced, missing, nothing_said, only_plane, raw_atom}
-use Rattle.world_text.specs.Named.{ReadsWorld, WorldValue, name_fault, named, place_of, type_of, unless, world_of}
+use Rattle.world_text.specs.Named.{ReadsWorld, WorldValue, name_fault, named, atom_place, type_of, unless, world_of}
 use Rattle.world_text.specs.Printed.{IsNamed, lines_text, world_lines}
 use Rattle.world_text.specs.Reading.{go_on, over, read_text}
 use Rattle.world_text.specs.Saying.{AreCut, AreNamedToo, AreWorldCuts, IsPrinted, IsReadBut, IsWorldBut, last_kind, said}
@@ -38,13 +39,9 @@ record Grows (d e : DraftValue) : Type 0 where
   plane : is_early d.last ≡ false → e.plane ≡ d.plane
   late : is_early d.last ≡ false → is_early e.last ≡ false
 
-clash : (b : Bool) → b ≡ true → b ≡ false → ⊥
-clash true t f = cc
-clash false t f = cc
-
 -- a line of the plane comes early alone
 not_late : (second : Bool) (last next : Kind) → may_follow second last next ≡ true → is_early next ≡ true → is_early last ≡ false → ⊥
-not_late second last next may early late = clash (is_early last) (early_before second last next may early) late
+not_late second last next may early late = both_ways (is_early last) late (early_before second last next may early)
 
 grows_early : (d e : DraftValue) (next : Kind) → may_follow d.second d.last next ≡ true → is_early next ≡ true → e.atoms ≡ d.atoms → Grows d e
 grows_early d e next may early same = record {
@@ -160,11 +157,11 @@ front_fine : (names : List (List ℕ)) (width : ℕ) (before : List ℕ) (front 
 unfolding name_fault
 front_fine names width before [] more h = refl
 front_fine names width before (a ∷ front) more h =
-    on (is_some (type_of names a.name)) (list_any (λ p. p == place_of width a) before) h (λ g. front_fine names width (before ++ place_of width a ∷ []) front more g)
+    on (is_some (type_of names a.name)) (list_any (λ p. p == atom_place width a) before) h (λ g. front_fine names width (before ++ atom_place width a ∷ []) front more g)
   where
-    on : (b t : Bool) → (if b then (if t then Some (74, a.line) else name_fault names width (before ++ place_of width a ∷ []) (front ++ more)) else Some (73, a.line)) ≡ None →
-        (name_fault names width (before ++ place_of width a ∷ []) (front ++ more) ≡ None → name_fault names width (before ++ place_of width a ∷ []) front ≡ None) →
-        (if b then (if t then Some (74, a.line) else name_fault names width (before ++ place_of width a ∷ []) front) else Some (73, a.line)) ≡ None
+    on : (b t : Bool) → (if b then (if t then Some (74, a.line) else name_fault names width (before ++ atom_place width a ∷ []) (front ++ more)) else Some (73, a.line)) ≡ None →
+        (name_fault names width (before ++ atom_place width a ∷ []) (front ++ more) ≡ None → name_fault names width (before ++ atom_place width a ∷ []) front ≡ None) →
+        (if b then (if t then Some (74, a.line) else name_fault names width (before ++ atom_place width a ∷ []) front) else Some (73, a.line)) ≡ None
     on false t h rest = cc
     on true true h rest = cc
     on true false h rest = rest h

@@ -5,18 +5,12 @@ use Rattle.std.proofs.Math.ListN.{set}
 use Rattle.std.proofs.Math.Seq.{drop-cons, drop-nil}
 use Rattle.std.proofs.lemmas.List.{take_more, map-append, get_or-set_same, get_or-set_other, length-set}
 use Rattle.std.proofs.lemmas.Bool.Decides.{eqb_tells}
-use Rattle.world_text.specs.Named.{name_fault, place_of, placed, type_from, type_of, or_zero, AreMarked}
+use Rattle.std.proofs.lemmas.List.Folds.{list_any-append}
+use Rattle.list_laws.specs.Options.{or_zero}
+use Rattle.world_text.specs.Named.{name_fault, atom_place, placed, type_from, type_of, AreMarked}
 use Rattle.bit_field.specs.Atom.{AtomValue}
 use Rattle.world_text.specs.declared.draft.RawAtom.{RawAtom}
 use Rattle.world_text.specs.declared.world.Placed.{Placed}
-
-any_append : (p : ℕ → Bool) (xs ys : List ℕ) → list_any p (xs ++ ys) ≡ (list_any p xs || list_any p ys)
-any_append p [] ys = refl
-any_append p (x ∷ xs) ys = let e = any_append p xs ys in rw e (sym (or_assoc (p x) (list_any p xs) (list_any p ys)))
-  where
-    or_assoc : (a b c : Bool) → ((a || b) || c) ≡ (a || (b || c))
-    or_assoc true b c = refl
-    or_assoc false b c = refl
 
 pub unmarked : (n : ℕ) → AreMarked (replicate n false) []
 unmarked n = λ p lt. none n p
@@ -28,8 +22,8 @@ unmarked n = λ p lt. none n p
 
 pub marked_more : (marks : List Bool) (before : List ℕ) (q : ℕ) → AreMarked marks before → q < length marks → AreMarked (set marks q true) (before ++ q ∷ [])
 marked_more marks before q m lt = λ p less. elim (eqb_tells q p) [
-  | inl same ↦ ap (λ k. get_or (set marks q true) k false) (sym same.1) ∙ get_or-set_same marks q true false lt ∙ sym (any_append (λ r. r == p) before (q ∷ []) ∙ rw same.0 (or_true (list_any (λ r. r == p) before)))
-  | inr other ↦ get_or-set_other marks q p true false (λ e. other.1 (sym e)) ∙ m p (omega (arith, length-set marks q true, less)) ∙ sym (any_append (λ r. r == p) before (q ∷ []) ∙ rw other.0 (or_false (list_any (λ r. r == p) before)))
+  | inl same ↦ ap (λ k. get_or (set marks q true) k false) (sym same.1) ∙ get_or-set_same marks q true false lt ∙ sym (list_any-append (λ r. r == p) before (q ∷ []) ∙ rw same.0 (or_true (list_any (λ r. r == p) before)))
+  | inr other ↦ get_or-set_other marks q p true false (λ e. other.1 (sym e)) ∙ m p (omega (arith, length-set marks q true, less)) ∙ sym (list_any-append (λ r. r == p) before (q ∷ []) ∙ rw other.0 (or_false (list_any (λ r. r == p) before)))
 ]
   where
     or_true : (b : Bool) → (b || true) ≡ true
@@ -60,23 +54,23 @@ kind_more names i v bytes known name old new some most same is number was step =
 -- what an atom after others comes to, before the rest
 abbrev pub one_atom : List (List ℕ) → ℕ → List ℕ → RawAtom → Option (ℕ × ℕ) → Option (ℕ × ℕ)
 one_atom names width before a rest =
-    if is_some (type_of names a.name) then (if list_any (λ p. p == place_of width a) before then Some (74, a.line) else rest) else Some (73, a.line)
+    if is_some (type_of names a.name) then (if list_any (λ p. p == atom_place width a) before then Some (74, a.line) else rest) else Some (73, a.line)
 
 pub places_more : (width : ℕ) (atoms : List RawAtom) (i : ℕ) (a : RawAtom) → i < length atoms → get_or atoms i a ≡ a →
-    map (place_of width) (take (i + 1) atoms) ≡ map (place_of width) (take i atoms) ++ place_of width a ∷ []
+    map (atom_place width) (take (i + 1) atoms) ≡ map (atom_place width) (take i atoms) ++ atom_place width a ∷ []
 places_more width atoms i a lt is =
-    ap (map (place_of width)) (take_more atoms i a lt ∙ ap (λ z. take i atoms ++ z ∷ []) is) ∙ map-append (place_of width) (take i atoms) (a ∷ [])
+    ap (map (atom_place width)) (take_more atoms i a lt ∙ ap (λ z. take i atoms ++ z ∷ []) is) ∙ map-append (atom_place width) (take i atoms) (a ∷ [])
 
 pub next_atom : (names : List (List ℕ)) (width : ℕ) (atoms : List RawAtom) (i : ℕ) (a : RawAtom) → i < length atoms → get_or atoms i a ≡ a →
-    name_fault names width (map (place_of width) (take i atoms)) (drop i atoms)
-    ≡ one_atom names width (map (place_of width) (take i atoms)) a (name_fault names width (map (place_of width) (take (i + 1) atoms)) (drop (i + 1) atoms))
+    name_fault names width (map (atom_place width) (take i atoms)) (drop i atoms)
+    ≡ one_atom names width (map (atom_place width) (take i atoms)) a (name_fault names width (map (atom_place width) (take (i + 1) atoms)) (drop (i + 1) atoms))
 unfolding name_fault
 next_atom names width atoms i a lt is =
-    let before = map (place_of width) (take i atoms) in
+    let before = map (atom_place width) (take i atoms) in
     let next : suc i ≡ i + 1 = omega arith in
     ap (name_fault names width before) (drop-cons atoms i a lt ∙ ap (λ z. z ∷ drop (suc i) atoms) is)
     ∙ ap (λ z. one_atom names width before a (name_fault names width z (drop (suc i) atoms))) (sym (places_more width atoms i a lt is))
-    ∙ ap (λ k. one_atom names width before a (name_fault names width (map (place_of width) (take (i + 1) atoms)) (drop k atoms))) next
+    ∙ ap (λ k. one_atom names width before a (name_fault names width (map (atom_place width) (take (i + 1) atoms)) (drop k atoms))) next
 
 pub no_atoms : (names : List (List ℕ)) (width : ℕ) (before : List ℕ) (atoms : List RawAtom) (i : ℕ) → length atoms ≤ i → name_fault names width before (drop i atoms) ≡ None
 unfolding name_fault
@@ -88,11 +82,11 @@ pub one_unknown : (names : List (List ℕ)) (width : ℕ) (before : List ℕ) (a
 one_unknown names width before a rest e = rw e refl
 
 pub one_taken : (names : List (List ℕ)) (width : ℕ) (before : List ℕ) (a : RawAtom) (rest : Option (ℕ × ℕ)) → is_some (type_of names a.name) ≡ true →
-    list_any (λ p. p == place_of width a) before ≡ true → one_atom names width before a rest ≡ Some (74, a.line)
+    list_any (λ p. p == atom_place width a) before ≡ true → one_atom names width before a rest ≡ Some (74, a.line)
 one_taken names width before a rest e f = rw (e, f) refl
 
 pub one_fine : (names : List (List ℕ)) (width : ℕ) (before : List ℕ) (a : RawAtom) (rest : Option (ℕ × ℕ)) → is_some (type_of names a.name) ≡ true →
-    list_any (λ p. p == place_of width a) before ≡ false → one_atom names width before a rest ≡ rest
+    list_any (λ p. p == atom_place width a) before ≡ false → one_atom names width before a rest ≡ rest
 one_fine names width before a rest e f = rw (e, f) refl
 
 -- the atoms that were found, with one more

@@ -6,12 +6,13 @@ use Rattle.draw_stream.specs.Plans.{TakesNext}
 use Rattle.draw_stream.proofs.Plans.{length_seeded_lists}
 use Rattle.std.specs.List.{list_any}
 use Rattle.world_text.specs.Drafts.{DraftValue, IsDraft}
-use Rattle.world_text.specs.Named.{WorldValue, named, name_fault, or_zero, place_of, placed, plan_by, type_from, type_of, unless, world_of}
+use Rattle.world_text.specs.Named.{WorldValue, named, name_fault, atom_place, placed, plan_by, type_from, type_of, unless, world_of}
 use Rattle.world_text.specs.Printed.{IsNamed, IsPrintable, line_fields, lines_text}
 use Rattle.world_text.specs.Values.{Names, world_value}
 use Rattle.world_text.specs.declared.fault.WorldFault.{WorldFault}
 use Rattle.world_text.specs.declared.world.World.{World}
 use Rattle.std.specs.Result.{IfOk}
+use Rattle.list_laws.specs.Options.{or_zero}
 use Rattle.text_lines.specs.Lines.{ended_line}
 use Rattle.world_text.specs.Line.{Line}
 use Rattle.world_text.specs.declared.draft.RawAtom.{RawAtom}
@@ -20,10 +21,6 @@ use Rattle.world_text.specs.declared.world.Placed.{Placed}
 pub taken_none : (l m : List Attempt) → TakesNext l None m → l ≡ []
 taken_none [] m t = refl
 taken_none (a ∷ rest) m t = let u = t.0 in cc
-
-pub taken_some : (l m : List Attempt) (a : Attempt) → TakesNext l (Some a) m → l ≡ a ∷ m
-taken_some [] m a t = let u = t.0 in cc
-taken_some (x ∷ rest) m a t = let u = t.0 in let v = t.1 in cc
 
 -- a type number is one of those of the names
 type_bound : (names : List (List ℕ)) (k : ℕ) (name : List ℕ) (j : ℕ) → type_from k names name ≡ Some j → (k ≤ j) × (j + 1 ≤ k + length names)
@@ -43,10 +40,10 @@ pub all_known : (names : List (List ℕ)) (width : ℕ) (before : List ℕ) (ato
 unfolding name_fault
 all_known names width before [] e = All-nil _
 all_known names width before (a ∷ more) e =
-    on (is_some (type_of names a.name)) (list_any (λ p. p == place_of width a) before) refl e (λ h. all_known names width (before ++ place_of width a ∷ []) more h)
+    on (is_some (type_of names a.name)) (list_any (λ p. p == atom_place width a) before) refl e (λ h. all_known names width (before ++ atom_place width a ∷ []) more h)
   where
-    on : (b t : Bool) → is_some (type_of names a.name) ≡ b → (if b then (if t then Some (74, a.line) else name_fault names width (before ++ place_of width a ∷ []) more) else Some (73, a.line)) ≡ None →
-        (name_fault names width (before ++ place_of width a ∷ []) more ≡ None → All (IsKnown names) more) → All (IsKnown names) (a ∷ more)
+    on : (b t : Bool) → is_some (type_of names a.name) ≡ b → (if b then (if t then Some (74, a.line) else name_fault names width (before ++ atom_place width a ∷ []) more) else Some (73, a.line)) ≡ None →
+        (name_fault names width (before ++ atom_place width a ∷ []) more ≡ None → All (IsKnown names) more) → All (IsKnown names) (a ∷ more)
     on false t is h rest = cc
     on true true is h rest = cc
     on true false is h rest = All-cons (IsKnown names) a more is (rest h)

@@ -1,18 +1,19 @@
 -- The text of a world says this world again.
-use Rattle.std.proofs.Common.{ℕ, zero, suc, ◌≡◌, ◌+◌, ◌-◌, ◌*◌, ◌^◌, ◌<◌, ◌≤◌, ◌==◌, Bool, true, false, ◌&&◌, List, [], ◌∷◌, ◌++◌, All, append_assoc, length, map, get_or, replicate, sum_by, nat_lt, bytes_eq, refl, ap, sym, ◌∙◌, subst, arith, Option, Some, None, IfSome, Result, Ok, Err, is_some, if◌then◌else◌, inl, inr}
+use Rattle.std.proofs.Common.{ℕ, zero, suc, ◌≡◌, ◌+◌, ◌-◌, ◌*◌, ◌^◌, ◌<◌, ◌≤◌, ◌==◌, Bool, true, false, ◌&&◌, List, [], ◌∷◌, ◌++◌, All, append_assoc, length, map, get_or, replicate, sum_by, bytes_eq, refl, ap, sym, ◌∙◌, subst, arith, Option, Some, None, IfSome, Result, Ok, Err, is_some, if◌then◌else◌, inl, inr, lt-ltb, ltb-true}
 use Rattle.std.specs.List.{list_all, list_any}
 use Rattle.std.proofs.lemmas.List.{append-nil, length-append}
 use Rattle.std.proofs.lemmas.List.Elements.{All-head, All-tail, All-append, All-cons, All-nil}
 use Rattle.std.proofs.lemmas.Slice.Eq.{bytes_eq-Decides}
+use Rattle.list_laws.specs.Options.{or_zero}
 use Rattle.list_laws.proofs.Tests.{both, together}
-use Rattle.feast_base.specs.TypeNames.{is_type_name}
+use Rattle.feast_base.specs.TypeNames.{is_type_name, name_of}
 use Rattle.draw_stream.specs.declared.attempt.Attempt.{Attempt}
 use Rattle.draw_stream.specs.Plans.{PlanValue, tiles_on}
 use Rattle.tile_map.specs.Plane.{MapValue, IsMap, in_plane, is_on, site, tiles_of, whole_plane}
 use Rattle.world_text.specs.Line.{Line, atom, attempts, header, order, order_seed, seed, size, tiles}
 use Rattle.world_text.specs.Drafts.{DraftValue, IsDraft, IsRawAtom, after_atoms, after_size, in_range, missing, nothing_said, only_plane, put, raw_atom, too_many}
-use Rattle.world_text.specs.Named.{OrderValue, ReadsWorld, WorldValue, drawn, listed, name_fault, named, or_zero, order_by, place_of, placed, plan_by, type_from, type_of, unless, world_of}
-use Rattle.world_text.specs.Printed.{IsNamed, atom_line, line_fields, lines_text, name_of, off_lines, order_lines, plan_lines, try_lines, world_lines, world_text}
+use Rattle.world_text.specs.Named.{OrderValue, ReadsWorld, WorldValue, drawn, listed, name_fault, named, order_by, atom_place, placed, plan_by, type_from, type_of, unless, world_of}
+use Rattle.world_text.specs.Printed.{IsNamed, atom_line, line_fields, lines_text, off_lines, order_lines, plan_lines, try_lines, world_lines, world_text}
 use Rattle.world_text.specs.Reading.{over, read_text}
 use Rattle.world_text.specs.Saying.{IsPrinted, said}
 use Rattle.world_text.specs.declared.draft.RawAtom.{RawAtom}
@@ -24,12 +25,6 @@ use Rattle.world_text.proofs.Planes.{marked, off_taken, plane_taken}
 use Rattle.world_text.proofs.Prints.{IsKnown, all_known}
 use Rattle.world_text.proofs.Taken.{Takes, atom_may, order_may, order_seed_may, size_before_try, takes_none, takes_one, takes_then, try_before_atoms}
 use Rattle.world_text.proofs.Tried.{drawn_taken, get_at, lists_taken, small_side, tried}
-
-lt_true : (a b : ℕ) → a < b → nat_lt a b ≡ true
-lt_true a b h = grind arith
-
-lt_of : (a b : ℕ) → nat_lt a b ≡ true → a < b
-lt_of a b h = grind arith
 
 -- the name of a name's type number is this name
 name_from : (names all front : List (List ℕ)) (k : ℕ) (name : List ℕ) (j : ℕ) → all ≡ front ++ names → k ≡ length front + 1 → type_from k names name ≡ Some j → get_or all (j - 1) [] ≡ name
@@ -127,14 +122,14 @@ fine_more : (names : List (List ℕ)) (a b : RawAtom) (more again : List RawAtom
     (width : ℕ) (before : List ℕ) → name_fault names width before (a ∷ more) ≡ None → name_fault names width before (b ∷ again) ≡ None
 unfolding name_fault
 fine_more names a b more again known name x y fine width before h =
-    let place : place_of width b ≡ place_of width a = ap (λ k. k * width + b.x) y ∙ ap (λ k. a.y * width + k) x in
+    let place : atom_place width b ≡ atom_place width a = ap (λ k. k * width + b.x) y ∙ ap (λ k. a.y * width + k) x in
     let type : is_some (type_of names b.name) ≡ true = ap (λ z. is_some (type_of names z)) name ∙ known in
-    rw (type, place) (on (list_any (λ p. p == place_of width a) before) (rw known at h))
+    rw (type, place) (on (list_any (λ p. p == atom_place width a) before) (rw known at h))
   where
-    on : (t : Bool) → (if t then Some (74, a.line) else name_fault names width (before ++ place_of width a ∷ []) more) ≡ None →
-        (if t then Some (74, b.line) else name_fault names width (before ++ place_of width a ∷ []) again) ≡ None
+    on : (t : Bool) → (if t then Some (74, a.line) else name_fault names width (before ++ atom_place width a ∷ []) more) ≡ None →
+        (if t then Some (74, b.line) else name_fault names width (before ++ atom_place width a ∷ []) again) ≡ None
     on true h = cc
-    on false h = fine width (before ++ place_of width a ∷ []) h
+    on false h = fine width (before ++ atom_place width a ∷ []) h
 
 atom_taken : (names : List (List ℕ)) (a : RawAtom) (n : ℕ) (d : DraftValue) → IsMap d.plane → after_atoms d.last ≡ true → IsRawAtom d.plane a → (name : List ℕ) → name ≡ a.name →
     Takes n d (atom a.x a.y name a.state ∷ []) (n + 1) (record d { last = Atom; atoms = d.atoms ++ raw_atom n a.x a.y name a.state ∷ [] })
@@ -143,10 +138,10 @@ atom_taken names a n d shape kind is name same =
     let m = d.plane in
     let z = shape.sizes in
     let plane = both _ _ (both (in_plane m (site a.x a.y)) _ is.live).0 in
-    let x = small_side m.tx m.w a.x z.tx_high z.w_high (lt_of _ _ plane.0) in
-    let y = small_side m.ty m.h a.y z.ty_high z.h_high (lt_of _ _ plane.1) in
+    let x = small_side m.tx m.w a.x z.tx_high z.w_high (ltb-true _ _ plane.0) in
+    let y = small_side m.ty m.h a.y z.ty_high z.h_high (ltb-true _ _ plane.1) in
     let state : a.state < 2 ^ 72 = omega (arith, is.state) in
-    takes_one n d (atom a.x a.y name a.state) (x, y, ap is_type_name same ∙ is.name, state) (atom_may d.second d.last kind) (together _ _ is.live (lt_true a.state (2 ^ 71) is.state)) refl
+    takes_one n d (atom a.x a.y name a.state) (x, y, ap is_type_name same ∙ is.name, state) (atom_may d.second d.last kind) (together _ _ is.live (lt-ltb a.state (2 ^ 71) is.state)) refl
 
 atoms_taken : (names : List (List ℕ)) (more : List RawAtom) (n : ℕ) (d : DraftValue) → IsMap d.plane → after_atoms d.last ≡ true → All (IsRawAtom d.plane) more → All (IsKnown names) more → AtomsTaken names more n d
 atoms_taken names [] n d shape kind are known = record {
@@ -201,7 +196,7 @@ small_tiles m [] shape all = All-nil _
 small_tiles m (t ∷ ts) shape all =
     let on = both _ _ (All-head (λ t. is_on m t ≡ true) t ts all) in
     let z = shape.sizes in
-    All-cons (λ t. t < 2 ^ 64) t ts (small_side m.tx m.ty t z.tx_high (omega (arith, z.ty_high)) (lt_of t (tiles_of m) on.0)) (small_tiles m ts shape (All-tail (λ t. is_on m t ≡ true) t ts all))
+    All-cons (λ t. t < 2 ^ 64) t ts (small_side m.tx m.ty t z.tx_high (omega (arith, z.ty_high)) (ltb-true t (tiles_of m) on.0)) (small_tiles m ts shape (All-tail (λ t. is_on m t ≡ true) t ts all))
 
 order_taken : (turns : List ℕ) (start : Option ℕ) (n : ℕ) (d : DraftValue) → IsMap d.plane → after_atoms d.last ≡ true → d.order ≡ [] → d.order_seed ≡ None → All (λ t. is_on d.plane t ≡ true) turns → IfSome start (λ n. n < 2 ^ 64) → OrderTaken turns start n d
 unfolding put in_range too_many missing
@@ -212,7 +207,7 @@ order_taken turns (Some x) n d shape kind none unseeded on small = record {
   listing = d.order;
   seeding = Some x;
   same = refl;
-  takes = takes_one n d (order_seed x) small (order_seed_may d.second d.last kind) (lt_true x (2 ^ 64) small) refl;
+  takes = takes_one n d (order_seed x) small (order_seed_may d.second d.last kind) (lt-ltb x (2 ^ 64) small) refl;
 }
 order_taken [] None n d shape kind none unseeded on small = record {
   number = n;

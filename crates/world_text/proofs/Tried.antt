@@ -1,5 +1,5 @@
 -- The lines of the attempts are taken.
-use Rattle.std.proofs.Common.{ℕ, zero, suc, ◌≡◌, ◌+◌, ◌*◌, ◌/◌, ◌%◌, ◌^◌, ◌<◌, ◌≤◌, ◌==◌, Bool, true, false, ◌&&◌, List, [], ◌∷◌, ◌++◌, All, append_assoc, length, map, get_or, replicate, sum_by, nat_le, nat_lt, refl, ap, sym, ◌∙◌, subst, arith, Option, Some, None}
+use Rattle.std.proofs.Common.{ℕ, zero, suc, ◌≡◌, ◌+◌, ◌*◌, ◌/◌, ◌%◌, ◌^◌, ◌<◌, ◌≤◌, Bool, true, false, ◌&&◌, List, [], ◌∷◌, ◌++◌, All, append_assoc, length, map, get_or, replicate, sum_by, nat_le, nat_lt, refl, ap, sym, ◌∙◌, subst, arith, Option, Some, None, eq-eqb, lt-ltb, ltb-true}
 use Rattle.std.proofs.Math.ListN.{set}
 use Rattle.std.proofs.Math.Nat.{div-lt_iff_lt-mul, div-add-mod'}
 use Rattle.std.proofs.lemmas.Nat.{div-mul-add, mod-mul-add, mul-add-lt}
@@ -49,22 +49,13 @@ site_back m t c k tile place =
     flip : (a b : ℕ) → a * b ≡ b * a
     flip a b = grind arith
 
-lt_true : (a b : ℕ) → a < b → nat_lt a b ≡ true
-lt_true a b h = grind arith
-
-lt_of : (a b : ℕ) → nat_lt a b ≡ true → a < b
-lt_of a b h = grind arith
-
-same_true : (a b : ℕ) → a ≡ b → (a == b) ≡ true
-same_true a b h = grind arith
-
 try_fits : (m : MapValue) (t : ℕ) (a : Attempt) → IsMap m → IsTry m t a → IsBack m t a.centre → in_range m (try_line m t a) ≡ true
 unfolding in_range
 try_fits m t a k is back =
     let s = site_in m t a.centre in
-    let plane : in_plane m s ≡ true = together _ _ (lt_true _ _ back.x_low) (lt_true _ _ back.y_low) in
+    let plane : in_plane m s ≡ true = together _ _ (lt-ltb _ _ back.x_low) (lt-ltb _ _ back.y_low) in
     let on : is_on m (owner_of m s) ≡ true = ap (is_on m) back.owned ∙ is.on in
-    together _ _ (together _ _ plane on) (together _ _ (same_true _ _ back.owned) (lt_true a.seed (2 ^ 64) is.seed))
+    together _ _ (together _ _ plane on) (together _ _ (eq-eqb _ _ back.owned) (lt-ltb a.seed (2 ^ 64) is.seed))
 
 -- a plane, and attempts of its tiles
 abbrev pub tried : Kind → Bool → MapValue → ℕ → List (List Attempt) → DraftValue
@@ -82,7 +73,7 @@ one_taken : (n : ℕ) (k : Kind) (s : Bool) (m : MapValue) (made t : ℕ) (lists
 unfolding put too_many
 one_taken n k s m made t lists a shape kind is few =
     let z = shape.sizes in
-    let low : t < tiles_of m = lt_of t (tiles_of m) (both _ _ is.on).0 in
+    let low : t < tiles_of m = ltb-true t (tiles_of m) (both _ _ is.on).0 in
     let back = site_back m t a.centre shape low is.centre in
     let x = small_side m.tx m.w _ z.tx_high z.w_high back.x_low in
     let y = small_side m.ty m.h _ z.ty_high z.h_high back.y_low in
@@ -155,7 +146,7 @@ pub drawn_taken : (n : ℕ) (k : Kind) (s : Bool) (m : MapValue) (o : ℕ × ℕ
 unfolding put in_range too_many
 drawn_taken n k s m o kind on small few =
     let count : o.1 < 2 ^ 64 = omega (arith, count_fits o.1 (tiles_on m.off) on few) in
-    let first = takes_one n (only_plane k s m) (seed o.0) small (seed_may s k kind) (lt_true o.0 (2 ^ 64) small) refl in
+    let first = takes_one n (only_plane k s m) (seed o.0) small (seed_may s k kind) (lt-ltb o.0 (2 ^ 64) small) refl in
     let second = takes_one (n + 1) (record (only_plane Seed s m) { origin = Some (o.0, 0) }) (attempts o.1) count refl refl (not_more (o.1 * tiles_on m.off) few) in
     takes_then n (only_plane k s m) (seed o.0 ∷ []) (n + 1) (record (only_plane Seed s m) { origin = Some (o.0, 0) }) (attempts o.1 ∷ []) (n + 1 + 1) (record (only_plane Attempts s m) { origin = Some o }) first second
   where

@@ -8,6 +8,7 @@ use Rattle.draw_stream.specs.declared.attempt.Attempt.{Attempt}
 use Rattle.tile_map.specs.Plane.{MapValue}
 use Rattle.world_text.specs.Drafts.{DraftValue}
 use Rattle.std.specs.Global.{Global}
+use Rattle.list_laws.specs.Options.{or_zero}
 use Rattle.world_text.specs.Reading.{read_text, fault_of}
 use Rattle.world_text.specs.declared.fault.WorldFault.{WorldFault}
 use Rattle.world_text.specs.declared.draft.RawAtom.{RawAtom}
@@ -38,17 +39,13 @@ type_of names name = type_from 1 names name
 abbrev pub AreKinds : {S : Type 0} → List (List ℕ) → HashMap (Bor (List ℕ)) ℕ S → Type 0
 AreKinds names kinds = (name : List ℕ) → get_by (λ k. bytes_eq name k.now) kinds ≡ type_of names name
 
-abbrev pub or_zero : Option ℕ → ℕ
-or_zero None = 0
-or_zero (Some k) = k
-
 -- an atom whose name is one of the names
 abbrev pub placed : List (List ℕ) → RawAtom → Placed
 placed names a = record { x = a.x; y = a.y; atom = record { kind = or_zero (type_of names a.name); state = a.state } }
 
 -- the place of an atom in row order, in a plane of this width
-abbrev pub place_of : ℕ → RawAtom → ℕ
-place_of width a = a.y * width + a.x
+abbrev pub atom_place : ℕ → RawAtom → ℕ
+atom_place width a = a.y * width + a.x
 
 -- the first fault of atoms that come after others at these places: 73 for an unknown name, then 74
 -- for a place that is taken
@@ -56,7 +53,7 @@ unfoldable pub name_fault : List (List ℕ) → ℕ → List ℕ → List RawAto
 name_fault names width before [] = None
 name_fault names width before (a ∷ more) =
     if is_some (type_of names a.name)
-    then (if list_any (λ p. p == place_of width a) before then Some (74, a.line) else name_fault names width (before ++ place_of width a ∷ []) more)
+    then (if list_any (λ p. p == atom_place width a) before then Some (74, a.line) else name_fault names width (before ++ atom_place width a ∷ []) more)
     else Some (73, a.line)
 
 -- the plan of the attempts of tiles of this many sites: drawn from a seed, or those that were
@@ -91,8 +88,8 @@ abbrev pub AreMarked : List Bool → List ℕ → Type 0
 AreMarked marks before = (p : ℕ) → p < length marks → slice_index_or marks p false ≡ list_any (λ q. q == p) before
 
 -- the places of some atoms
-abbrev pub places_of : ℕ → List RawAtom → List ℕ
-places_of width atoms = map (place_of width) atoms
+abbrev pub atom_places : ℕ → List RawAtom → List ℕ
+atom_places width atoms = map (atom_place width) atoms
 
 -- a fault is the expected one; running out of memory says nothing
 abbrev pub IsNameFault : Option (ℕ × ℕ) → Option (ℕ × ℕ) → Type 0

@@ -1,6 +1,7 @@
 -- The text of a world.
-use Rattle.std.specs.Prelude.{ℕ, ◌≡◌, ◌≤◌, ◌+◌, ◌-◌, Bool, List, [], ◌∷◌, ◌++◌, All, codes, decimal, length, map, slice_index_or, Option, Some, None, Ok, if◌then◌else◌}
+use Rattle.std.specs.Prelude.{ℕ, ◌≡◌, ◌≤◌, ◌+◌, Bool, List, [], ◌∷◌, ◌++◌, All, codes, decimal, length, map, Option, Some, None, Ok, if◌then◌else◌}
 use Rattle.std.specs.List.{list_any}
+use Rattle.feast_base.specs.TypeNames.{name_of}
 use Rattle.draw_stream.specs.declared.attempt.Attempt.{Attempt}
 use Rattle.feast_base.specs.Digits.{hex}
 use Rattle.text_lines.specs.Lines.{text_of}
@@ -45,10 +46,6 @@ try_lines m t (list ∷ more) = map (try_line m t) list ++ try_lines m (t + 1) m
 abbrev pub plan_lines : MapValue → List (List Attempt) → Option (ℕ × ℕ) → List Line
 plan_lines m lists None = try_lines m 0 lists
 plan_lines m lists (Some o) = seed o.0 ∷ attempts o.1 ∷ []
-
--- the name of a type; type numbers count the names from 1
-abbrev pub name_of : List (List ℕ) → ℕ → List ℕ
-name_of names kind = slice_index_or names (kind - 1) []
 
 abbrev pub atom_line : List (List ℕ) → Placed → Line
 atom_line names p = atom p.x p.y (name_of names p.atom.kind) p.atom.state

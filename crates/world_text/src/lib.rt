@@ -9,6 +9,7 @@
 mod draft;
 mod fault;
 mod kind;
+mod law;
 mod line;
 mod named;
 mod printed;
@@ -17,13 +18,12 @@ mod raw_world;
 mod reader;
 mod step;
 mod take;
-mod texts;
 mod world;
 
 pub use fault::WorldFault;
+pub use law::{laws, reads_again};
 pub use named::name;
 pub use printed::print;
 pub use raw_world::RawWorld;
 pub use reader::read;
-pub use texts::{laws, reads_again};
 pub use world::{Order, Placed, World};

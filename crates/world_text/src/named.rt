@@ -2,7 +2,7 @@
 ghost use Rattle.std.specs.Prelude.{ℕ, ◌≡◌, ◌*◌, ◌≤◌, ◌<◌, ◌^◌, All, IfOk, IfSome, List, length};
 ghost use Rattle.draw_stream.specs.Plans.{IsPlan, scripted, tiles_on};
 ghost use Rattle.world_text.specs.declared.draft.RawAtom.{RawAtom};
-ghost use Rattle.world_text.specs.Named.{AreKinds, NamesAtoms, order_by, place_of, plan_by, type_of};
+ghost use Rattle.world_text.specs.Named.{AreKinds, NamesAtoms, order_by, atom_place, plan_by, type_of};
 ghost use Rattle.world_text.specs.Printed.{IsNamed, IsPrintable};
 ghost use Rattle.world_text.specs.Values.{Names, order_value, world_value};
 
@@ -37,10 +37,10 @@ fn type_of(kinds: &HashMap<&[u8], u16>, name: &[u8]) -> Option<u16>
 }
 
 /// The place of an atom in row order.
-fn place_of(width: u32, height: u32, atom: &RawAtom) -> usize
+fn atom_place(width: u32, height: u32, atom: &RawAtom) -> usize
     requires small { (width ≤ 512) × (height ≤ 512) }
     requires inside { (atom.now.x < width) × (atom.now.y < height) }
-    ensures value { result ≡ place_of width atom.now }
+    ensures value { result ≡ atom_place width atom.now }
     ensures below { result < width * height }
 {
     (atom.y * width + atom.x) as usize
@@ -66,7 +66,7 @@ fn name_atoms(
         let Some(kind) = type_of(&kinds, raw.name.bytes()) else {
             return Err(WorldFault::UnknownElement(raw.line));
         };
-        let place = place_of(width, height, raw);
+        let place = atom_place(width, height, raw);
         if marks[place] {
             return Err(WorldFault::SiteTaken(raw.line));
         }

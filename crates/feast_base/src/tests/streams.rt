@@ -7,15 +7,21 @@ use std::io;
 use std::io::{ErrorKind, Read, Write};
 use std::test::Fail;
 
-/// Gives one byte a call, and fails once this many bytes are left.
+/// Gives one byte in two calls, the first of which is interrupted, and fails once this many bytes
+/// are left.
 #[derive(Drop)]
 struct Drip {
     bytes: &'static [u8],
     fails_at: Option<usize>,
+    interrupted: bool,
 }
 
 impl Read for Drip {
     fn read(&mut self, buf: &mut [u8]) -> io::Result<usize> {
+        self.interrupted = !self.interrupted;
+        if self.interrupted {
+            return Err(ErrorKind::Interrupted.into());
+        }
         if self.fails_at == Some(self.bytes.len()) {
             return Err(ErrorKind::Other.into());
         }
@@ -42,6 +48,7 @@ fn a_file_is_read_to_its_end_or_its_fault(rt: HostRuntime) -> Result<(), Fail> {
         let mut drip = Drip {
             bytes: b"feast",
             fails_at,
+            interrupted: false,
         };
         let mut into = Vec::new(rt.alloc());
         let told = read_whole(&mut drip, limit, &mut into);
@@ -60,16 +67,22 @@ enum Fault {
     FailsToFlush,
 }
 
-/// Takes at most three bytes a call, and fails in its way once it holds three.
+/// Takes at most three bytes in two calls, the first of which is interrupted, and fails in its way
+/// once it holds three.
 #[derive(Drop)]
 struct Sip {
     got: Vec<u8>,
     fault: Fault,
     flushes: u8,
+    interrupted: bool,
 }
 
 impl Write for Sip {
     fn write(&mut self, buf: &[u8]) -> io::Result<usize> {
+        self.interrupted = !self.interrupted;
+        if self.interrupted {
+            return Err(ErrorKind::Interrupted.into());
+        }
         match self.fault {
             Fault::TakesNothing if self.got.len() >= 3 => return Ok(0),
             Fault::Fails if self.got.len() >= 3 => return Err(ErrorKind::Other.into()),
@@ -102,6 +115,7 @@ fn a_piece_is_written_whole_or_up_to_its_fault(rt: HostRuntime) -> Result<(), Fa
             got: Vec::new(rt.alloc()),
             fault,
             flushes: 0,
+            interrupted: false,
         };
         let told = write_whole(&mut sip, b"report\n");
         assert_eq!(rt; told, answer, "{fault:?}");

@@ -1,5 +1,5 @@
 use Rattle.std.proofs.Common.{◌++◌, length}
-use Rattle.border_cache.specs.News.{place_at}
+use Rattle.border_cache.specs.News.{nth_place}
 use Rattle.border_cache.specs.Published.{cell_at}
 use Rattle.border_cache.proofs.Runs.{adds_then, held_adds}
 use Rattle.border_cache.proofs.Puts.{publish_whole, covered_low}
@@ -30,6 +30,6 @@ returns-clause-published g c =
     let here = held_adds a b e p.0 c.requires.held p.1 in (
       p.0 ++ (q.0 ++ r.0),
       adds_then a b f e p.0 (q.0 ++ r.0) c.requires.held p.1 (adds_then b d f e q.0 r.0 here q.1 r.1),
-      publish_whole c.args.sites c.args.end (length c.args.places.now) (cell_at c.args.cells.now) (place_at c.args.places.now) p.0 q.0 r.0 c.requires.end
-          (covered_low c.args.sites (place_at c.args.places.now) (length c.args.places.now) c.requires.places) p.2 q.2 r.2,
+      publish_whole c.args.sites c.args.end (length c.args.places.now) (cell_at c.args.cells.now) (nth_place c.args.places.now) p.0 q.0 r.0 c.requires.end
+          (covered_low c.args.sites (nth_place c.args.places.now) (length c.args.places.now) c.requires.places) p.2 q.2 r.2,
     )

@@ -1,6 +1,6 @@
 use Rattle.std.proofs.Common.{rules, arith, [], ◌++◌, refl, ◌∙◌, subst}
 use Rattle.std.proofs.lemmas.List.{get_or_read}
-use Rattle.border_cache.specs.News.{place_at, no_cell}
+use Rattle.border_cache.specs.News.{nth_place, no_cell}
 use Rattle.border_cache.specs.Published.{cell_at, IsCellPut}
 use Rattle.border_cache.proofs.Runs.{held_adds, adds_none, adds_then}
 use Rattle.border_cache.proofs.Puts.{puts_begin, puts_more}
@@ -8,7 +8,7 @@ use Rattle.border_cache.proofs.news.put_cells.Goals as goal
 
 pub loop-n-init : goal.loop-n-init
 loop-n-init g c = record {
-  put = ([], adds_none (g.D.Board.lists c.args.board.now) c.args.edge, puts_begin (cell_at c.args.cells.now) (place_at c.args.places.now));
+  put = ([], adds_none (g.D.Board.lists c.args.board.now) c.args.edge, puts_begin (cell_at c.args.cells.now) (nth_place c.args.places.now));
   tile = refl;
   registers = refl;
   ends = refl;
@@ -35,7 +35,7 @@ loop-n-preserved g c =
       put = (
         r.0 ++ q.0,
         adds_then a b d e r.0 q.0 c.requires.held r.1 q.1,
-        puts_more (cell_at c.args.cells.now) (place_at c.args.places.now) c.loop-n.n r.0 q.0 r.2 (λ i j k u v. c.requires.apart i j k (omega (arith, u, lt)) (omega (arith, v, lt))) (subst (λ x. IsCellPut x (place_at c.args.places.now c.loop-n.n) q.0) at q.2),
+        puts_more (cell_at c.args.cells.now) (nth_place c.args.places.now) c.loop-n.n r.0 q.0 r.2 (λ i j k u v. c.requires.apart i j k (omega (arith, u, lt)) (omega (arith, v, lt))) (subst (λ x. IsCellPut x (nth_place c.args.places.now c.loop-n.n) q.0) at q.2),
       );
       tile = c.put_cell.ensures.tile ∙ i.tile;
       registers = c.put_cell.ensures.edges.0 ∙ i.registers;

@@ -1,6 +1,6 @@
 use Rattle.std.proofs.Common.{ℕ, sym, subst}
 use Rattle.tile_map.specs.Plane.{site}
-use Rattle.border_cache.specs.News.{place_at}
+use Rattle.border_cache.specs.News.{nth_place}
 use Rattle.border_cache.specs.Published.{ArePlaces, IsPublish, cell_at}
 use Rattle.border_cache.specs.Windows.{place_in, end_at, sites_on}
 use Rattle.border_cache.proofs.Puts.{publish_by, apart_by}
@@ -11,7 +11,7 @@ pub publish_edge-requires-clause-apart : goal.publish_edge-requires-clause-apart
 publish_edge-requires-clause-apart g c =
     let m = c.args.map.now in
     let e = c.args.edge in
-    let p = place_at c.places-places.result in
+    let p = nth_place c.places-places.result in
     let q = place_in m (site c.args.x c.args.y) e in
     subst (ArePlaces p) (sym c.places-places.ensures.count) (apart_by (sites_on m e) (end_at m c.args.tile e) (cell_at c.args.cells.now) p q 41 c.places-places.ensures.places (places_apart m (site c.args.x c.args.y) e))
 
@@ -19,7 +19,7 @@ pub returns-clause-published : goal.returns-clause-published
 returns-clause-published g c =
     let m = c.args.map.now in
     let e = c.args.edge in
-    let p = place_at c.places-places.result in
+    let p = nth_place c.places-places.result in
     let q = place_in m (site c.args.x c.args.y) e in
     let cells = cell_at c.args.cells.now in
     let r = c.publish_edge.ensures.published in

@@ -26,7 +26,7 @@ statement-returns-in_ok-choice-in-If t c =
     let d = piece_of c.in_ok-yes-in-If.yes in
     let r = piece_of c.in_ok-choice-in-If.choice in
     IfOk-weaker c.seq.result (λ q. piece_of q ≡ seq a r) (λ q. piece_of q ≡ clip (statement_piece z (typed_statement s)))
-    (λ q e. if_done z s b.asked b.yes b.no c.deref.result.now (piece_of q) a r d b.is c.deref.ensures c.in_ok-asked-in-If.ensures c.in_ok-yes-in-If.ensures c.in_ok-choice-in-If.ensures e) c.seq.ensures
+    (λ q e. if_done z s b.cond b.yes b.no c.deref.result.now (piece_of q) a r d b.is c.deref.ensures c.in_ok-asked-in-If.ensures c.in_ok-yes-in-If.ensures c.in_ok-choice-in-If.ensures e) c.seq.ensures
 
 pub statement-returns-in_ok-rounds-in-For : goal.statement-returns-in_ok-rounds-in-For
 statement-returns-in_ok-rounds-in-For t c =

@@ -1,36 +1,36 @@
 use Rattle.std.proofs.Common.{[], ◌≡◌, ◌<◌, ◌≤◌, ◌∙◌, ap, sym, length, arith, get_or, map, None, Some, Option, ℕ}
 use Rattle.std.proofs.Math.ListN.{set}
 use Rattle.std.proofs.lemmas.List.{map-set, length-set, length-map, get_or_past}
-use Rattle.event_journal.proofs.Takings.{seat_serves, seat_last, seats_serve, none_owns, fault_at_none}
+use Rattle.event_journal.proofs.Takings.{cursor_serves, cursor_last, cursors_serve, none_owns, fault_at_none}
 use Rattle.event_journal.specs.Reading.{record_fault}
-use Rattle.event_journal.specs.Seats.{last_of, lasts_of}
+use Rattle.event_journal.specs.Cursors.{last_of, lasts_of}
 use Rattle.event_journal.proofs.placing.record_at.Goals as goal
 
 pub returns : goal.returns
 returns c =
-    let seats = c.args.seats.now.items in
+    let cursors = c.args.cursors.now.items in
     let t = c.args.r.now.tile in
     let s = c.index_mut.result.now in
-    let lt : t < length seats = omega arith in
+    let lt : t < length cursors = omega arith in
     let is = c.index_mut.ensures.value in
     record {
       fault = λ lists all.
-          c.record_fault.ensures.fault (get_or lists t []) (seat_serves seats lists t s all lt is)
-          ∙ ap (λ (o : Option (ℕ × ℕ)). record_fault c.args.map.now c.args.n c.args.before o (get_or lists t []) c.args.r.now) (sym (seat_last seats t s lt is));
-      serve = λ none lists all. seats_serve seats lists t c.record_fault.new.seat all lt (c.record_fault.ensures.serves none (get_or lists t []) (seat_serves seats lists t s all lt is));
-      many = length-set seats t c.record_fault.new.seat;
-      last = λ none. map-set last_of seats t c.record_fault.new.seat ∙ ap (λ z. set (map last_of seats) t z) (c.record_fault.ensures.last none);
+          c.record_fault.ensures.fault (get_or lists t []) (cursor_serves cursors lists t s all lt is)
+          ∙ ap (λ (o : Option (ℕ × ℕ)). record_fault c.args.map.now c.args.n c.args.before o (get_or lists t []) c.args.r.now) (sym (cursor_last cursors t s lt is));
+      serve = λ none lists all. cursors_serve cursors lists t c.record_fault.new.cursor all lt (c.record_fault.ensures.serves none (get_or lists t []) (cursor_serves cursors lists t s all lt is));
+      many = length-set cursors t c.record_fault.new.cursor;
+      last = λ none. map-set last_of cursors t c.record_fault.new.cursor ∙ ap (λ z. set (map last_of cursors) t z) (c.record_fault.ensures.last none);
     }
 
 pub returns-then-at-len-clause-fault : goal.returns-then-at-len-clause-fault
 returns-then-at-len-clause-fault c = λ lists all.
-    let seats = c.args.seats.now.items in
+    let cursors = c.args.cursors.now.items in
     let t = c.args.r.now.tile in
     let m = c.args.map.now in
     let r = c.args.r.now in
     let before = c.args.before in
-    let far : length seats ≤ t = omega (arith, c.if-at-len.true, c.len.ensures) in
-    let last : get_or (lasts_of seats) t None ≡ None = get_or_past (lasts_of seats) t None (omega (arith, far, length-map seats last_of)) in
-    let none = none_owns m r c.requires.extent.map (omega (arith, far, c.requires.seats)) in
+    let far : length cursors ≤ t = omega (arith, c.if-at-len.true, c.len.ensures) in
+    let last : get_or (lasts_of cursors) t None ≡ None = get_or_past (lasts_of cursors) t None (omega (arith, far, length-map cursors last_of)) in
+    let none = none_owns m r c.requires.extent.map (omega (arith, far, c.requires.cursors)) in
     ap (λ f. Some f) c.no_tile.ensures ∙ sym (fault_at_none m c.args.n before (get_or lists t []) r none)
     ∙ ap (λ (o : Option (ℕ × ℕ)). record_fault m c.args.n before o (get_or lists t []) r) (sym last)

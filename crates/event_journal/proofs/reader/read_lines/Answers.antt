@@ -3,18 +3,18 @@ use Rattle.text_lines.specs.Lines.{ended_lines}
 use Rattle.event_journal.proofs.Reports.{walk_start, walk_line, walk_fault, walk_whole, walk_short, read_stops}
 use Rattle.event_journal.proofs.reader.read_lines.Goals.{else-is_empty-via-then-is_empty+else-is_over, else-is_empty-via-else-is_empty}
 use Rattle.event_journal.specs.Reading.{header, nothing_said, read_lines, is_over, IsFault, fault_of}
-use Rattle.event_journal.specs.Seats.{said_value, lasts_of}
+use Rattle.event_journal.specs.Cursors.{said_value, lasts_of}
 use Rattle.event_journal.proofs.reader.read_lines.Goals as goal
 
 pub loop-text-init : goal.loop-text-init
 loop-text-init c =
     let m = c.args.map.now in
-    let start : record { wants = header; before = None; lasts = lasts_of c.args.seats.items; journal = c.new.result.items; gone = c.new-2.result.items } ≡ nothing_said m =
+    let start : record { wants = header; before = None; lasts = lasts_of c.args.cursors.items; journal = c.new.result.items; gone = c.new-2.result.items } ≡ nothing_said m =
     λ i. record { wants = header; before = None; lasts = c.requires.fresh i; journal = c.new.ensures.items i; gone = c.new-2.ensures.items i } in
     record {
       rest = λ lists all. ap (λ d. read_lines m lists 1 d (ended_lines c.args.bytes.now)) start ∙ walk_start m lists c.args.bytes.now;
       serve = λ lists all. all;
-      many = c.requires.seats;
+      many = c.requires.cursors;
       room = omega arith;
       some = omega arith;
     }

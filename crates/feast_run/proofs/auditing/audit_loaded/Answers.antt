@@ -6,10 +6,10 @@ use Rattle.feast_run.proofs.auditing.audit_loaded.Goals as goal
 pub read_loaded-requires-clause-world : goal.read_loaded-requires-clause-world
 read_loaded-requires-clause-world c = ready_valid c.args.ready.now c.requires.ready
 
-pub returns-in-Ok-clause-tells : goal.returns-in-Ok-clause-tells
-returns-in-Ok-clause-tells c =
+pub returns-clause-tells : goal.returns-clause-tells
+returns-clause-tells c =
     inr (record {
       value = journal_value c.in_ok-journal.journal;
       passed = c.in_ok-journal.ensures;
-      rest = c.in-Ok.ensures;
+      rest = c.in_ok-text.ensures;
     })

@@ -20,7 +20,7 @@ loop-word-preserved g c =
     ap (λ ws. map string_bytes ws) (drop_more words i word c.loop-word-test.true) ∙ ap (λ w. string_bytes w ∷ map string_bytes (drop (i + 1) words)) (sym c.word-item.is) ∙ ap (λ w. w ∷ map string_bytes (drop (i + 1) words)) named in
     let again : c.as_str-in-loop-word.result.now ≡ name = c.as_str-in-loop-word.ensures.value ∙ named in
     let grown : c.push.new.self.items ≡ done ++ (name, bytes) ∷ [] =
-    c.in-Ok-push.ensures.items ∙ ap (λ (s : File). done ++ s ∷ []) (c.in-Ok.ensures ∙ ap (λ (n : List ℕ). (n, bytes)) again) in
+    c.in_ok-push.ensures.items ∙ ap (λ (s : File). done ++ s ∷ []) (c.in_ok-source.ensures ∙ ap (λ (n : List ℕ). (n, bytes)) again) in
     let loaded = rw c.loop-word.invariant.files at c.in_ok-bytes.ensures.tells in
     let fits = λ (f : File). length f.1 ≤ element_limit in
     let all = All-append fits done ((name, bytes) ∷ []) c.loop-word.invariant.short (All-cons fits (name, bytes) [] loaded.1 (λ k d lt. absurd (omega arith))) in

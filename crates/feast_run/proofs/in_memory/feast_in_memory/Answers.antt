@@ -1,5 +1,5 @@
-use Rattle.feast_run.proofs.Quiet.{quiet_of}
+use Rattle.feast_run.proofs.NoFailures.{nothing_fails}
 use Rattle.feast_run.proofs.in_memory.feast_in_memory.Goals as goal
 
-pub returns-clause-quiet : goal.returns-clause-quiet
-returns-clause-quiet g c = quiet_of _ c.args.shelf.now c.feast.new.shelf c.args.sink.now c.feast.new.sink c.feast.result c.feast.ensures.ends
+pub returns-clause-nothing_fails : goal.returns-clause-nothing_fails
+returns-clause-nothing_fails g c = nothing_fails _ c.args.shelf.now c.feast.new.shelf c.args.sink.now c.feast.new.sink c.feast.result c.feast.ensures.ends

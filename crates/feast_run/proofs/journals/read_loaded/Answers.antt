@@ -1,7 +1,7 @@
-use Rattle.feast_run.proofs.Runs.{journal_stops}
+use Rattle.feast_run.proofs.Runs.{journal_halts}
 use Rattle.event_journal.specs.Reading.{fault_of}
 use Rattle.world_text.specs.Values.{world_value}
 use Rattle.feast_run.proofs.journals.read_loaded.Goals as goal
 
 pub returns-in-Err : goal.returns-in-Err
-returns-in-Err c = journal_stops c.args.word.now (world_value c.args.world.now) c.args.bytes.now (fault_of c.in-Err.fault) c.journal_stop.result c.in-Err.ensures c.journal_stop.ensures
+returns-in-Err c = journal_halts c.args.word.now (world_value c.args.world.now) c.args.bytes.now (fault_of c.in-Err.fault) c.journal_halt.result c.in-Err.ensures c.journal_halt.ensures

@@ -3,12 +3,12 @@ use Rattle.cell_grid.specs.declared.record.Record.{Record}
 use Rattle.feast_run.proofs.Runs.{journal_events, ready_valid}
 use Rattle.feast_run.specs.Answer.{atoms_after}
 use Rattle.feast_run.specs.Values.{journal_value, ready_value}
-use Rattle.world_grid.specs.Worlds.{IsLiveEvent}
+use Rattle.world_runs.specs.Worlds.{IsLiveEvent}
 use Rattle.world_text.specs.Values.{world_value}
 use Rattle.feast_run.proofs.replaying.replay_rest.Goals as goal
 
-pub load_journal-requires : goal.load_journal-requires
-load_journal-requires g c = ready_valid c.args.ready c.requires
+pub load_journal-requires-clause-world : goal.load_journal-requires-clause-world
+load_journal-requires-clause-world g c = ready_valid c.args.ready c.requires
 
 pub replay_text-requires-clause-live : goal.replay_text-requires-clause-live
 replay_text-requires-clause-live g c =
@@ -16,10 +16,10 @@ replay_text-requires-clause-live g c =
     let valid = ready_valid c.args.ready c.requires in
     subst (λ (rs : List Record). All (IsLiveEvent w.plane) rs) (sym c.as_slice.ensures.value) (journal_events _ _ w (journal_value c.in_ok-journal.journal) valid c.in_ok-journal.ensures.tells)
 
-pub returns-in-Ok-clause-tells : goal.returns-in-Ok-clause-tells
-returns-in-Ok-clause-tells g c =
+pub returns-clause-tells : goal.returns-clause-tells
+returns-clause-tells g c =
     inr (record {
       value = journal_value c.in_ok-journal.journal;
       passed = c.in_ok-journal.ensures.tells;
-      rest = c.in-Ok.ensures ∙ ap (atoms_after (ready_value c.args.ready)) c.as_slice.ensures.value;
+      rest = c.in_ok-text.ensures ∙ ap (atoms_after (ready_value c.args.ready)) c.as_slice.ensures.value;
     })

@@ -3,7 +3,7 @@ use Rattle.std.specs.Prelude.{take}
 use Rattle.cell_grid.specs.declared.record.Record.{Record}
 use Rattle.feast_run.specs.Answer.{atoms_after}
 use Rattle.feast_run.specs.Values.{ready_value}
-use Rattle.world_grid.specs.Worlds.{IsLiveEvent}
+use Rattle.world_runs.specs.Worlds.{IsLiveEvent}
 use Rattle.world_text.specs.Values.{world_value}
 use Rattle.feast_run.proofs.rewinding.rewind_kept.Goals as goal
 
@@ -13,5 +13,5 @@ rewind_text-requires-clause-live c = subst (λ (rs : List Record). All (IsLiveEv
 pub rewind_text-requires-clause-enough : goal.rewind_text-requires-clause-enough
 rewind_text-requires-clause-enough c = subst (λ (rs : List Record). c.args.left ≤ length rs) (sym c.as_slice.ensures.value) c.requires.enough
 
-pub returns-in-Ok-clause-tells : goal.returns-in-Ok-clause-tells
-returns-in-Ok-clause-tells c = (c.requires.enough, c.in-Ok.ensures ∙ ap (λ (rs : List Record). atoms_after (ready_value c.args.ready.now) (take c.args.left rs)) c.as_slice.ensures.value)
+pub returns-clause-tells : goal.returns-clause-tells
+returns-clause-tells c = (c.requires.enough, c.in_ok-text.ensures ∙ ap (λ (rs : List Record). atoms_after (ready_value c.args.ready.now) (take c.args.left rs)) c.as_slice.ensures.value)

@@ -7,19 +7,19 @@ use Rattle.feast_run.specs.Values.{elements_value}
 use Rattle.grid_print.specs.Report.{AreNamed}
 use Rattle.cell_grid.specs.Grid.{GridValue}
 use Rattle.window_sites.specs.Window.{WindowValue}
-use Rattle.world_grid.proofs.Blank.{live_in}
+use Rattle.world_runs.proofs.Placing.{live_in}
 use Rattle.cell_grid.specs.Known.{BringsNone}
 use Rattle.world_text.specs.Values.{world_value}
 use Rattle.feast_run.proofs.rewinding.rewind_text.Goals as goal
 
-pub start-requires : goal.start-requires
-start-requires c = ready_valid c.args.ready.now c.requires.ready
+pub start-requires-clause-world : goal.start-requires-clause-world
+start-requires-clause-world c = ready_valid c.args.ready.now c.requires.ready
 
 pub rewound-requires-clause-live : goal.rewound-requires-clause-live
 rewound-requires-clause-live c = λ k d lt. live_in (world_value c.args.ready.now.world).plane c.in_ok-first.first _ _ c.in_ok-first.ensures.fits (c.requires.live k d lt)
 
-pub show-requires : goal.show-requires
-show-requires c =
+pub grid_text-requires : goal.grid_text-requires
+grid_text-requires c =
     let w = world_value c.args.ready.now.world in
     let names = (elements_value c.args.ready.now.elements).names in
     let means = acts c.in_ok-actor.actor in

@@ -1,12 +1,13 @@
 use denote.Param.Send.{sendable}
 use Rattle.std.proofs.Crossing.{crosses}
+use Rattle.tile_map.proofs.Numbers.{tiles_few}
 use Rattle.code_file.proofs.set.CodeSet.TheSendSync as CodeSet
 use Rattle.event_machine.proofs.machine.Machine.TheSendSync as Machine
 use Rattle.element_set.proofs.Sharing.{set_sync}
 use Rattle.world_runs.specs.Fresh.{setting_of}
 use Rattle.world_runs.specs.OneOrder.{StandsInOneOrder}
 use Rattle.world_text.specs.Values.{world_value}
-use Rattle.feast_run.proofs.Machines.{outcome_by, tiles_few}
+use Rattle.feast_run.proofs.Machines.{outcome_by}
 use Rattle.feast_run.proofs.Runs.{ready_valid}
 use Rattle.feast_run.specs.Acting.{acts}
 use Rattle.feast_run.specs.Values.{elements_value}

@@ -2,10 +2,11 @@ use Rattle.world_text.specs.Values.{world_value}
 use Rattle.stepped_world.specs.Ends.{IsOutcome}
 use Rattle.world_runs.specs.Fresh.{setting_of}
 use Rattle.world_runs.specs.Orders.{order_in}
-use Rattle.feast_run.proofs.Machines.{outcome_by, tiles_few}
+use Rattle.feast_run.proofs.Machines.{outcome_by}
 use Rattle.feast_run.proofs.Runs.{ready_valid}
 use Rattle.feast_run.specs.Acting.{acts}
 use Rattle.feast_run.specs.Values.{elements_value}
+use Rattle.tile_map.proofs.Numbers.{tiles_few}
 use Rattle.feast_run.proofs.stepping.outcome.Goals as goal
 
 pub tiles_in-requires : goal.tiles_in-requires

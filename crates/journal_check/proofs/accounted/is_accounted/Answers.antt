@@ -1,5 +1,6 @@
 use Rattle.std.proofs.Common.{◌≡◌, true, sym, ap, ◌∙◌, arith, refl, below_more}
-use Rattle.journal_check.specs.Telling.{gone_of, of_tile, told}
+use Rattle.event_journal.specs.Logs.{of_tile, abandoned_by}
+use Rattle.journal_check.specs.Entries.{are_entries}
 use Rattle.journal_check.proofs.Accounting.{accounted, tested}
 use Rattle.journal_check.proofs.accounted.is_accounted.Goals as goal
 
@@ -12,27 +13,27 @@ returns-then-not-are_of_tiles c =
           cc),
     )
 
-pub returns-then-not-are_gone_of_tiles : goal.returns-then-not-are_gone_of_tiles
-returns-then-not-are_gone_of_tiles c =
+pub returns-then-not-are_abandoned_by_tiles : goal.returns-then-not-are_abandoned_by_tiles
+returns-then-not-are_abandoned_by_tiles c =
     let t = tested c.args.map.now c.args.plan.now c.args.records.now c.args.abandoned.now c.requires.lists in (
       (λ e. cc),
       (λ k.
-          let yes = c.are_gone_of_tiles.ensures.1 (λ i d lt. omega (arith, (t k).gone_tiles i d lt, c.tiles-tiles.ensures.count)) in
+          let yes = c.are_abandoned_by_tiles.ensures.1 (λ i d lt. omega (arith, (t k).gone_tiles i d lt, c.tiles-tiles.ensures.count)) in
           cc),
     )
 
-pub is_told-requires-clause-tile : goal.is_told-requires-clause-tile
-is_told-requires-clause-tile c = omega arith
+pub are_entries-requires-clause-tile : goal.are_entries-requires-clause-tile
+are_entries-requires-clause-tile c = omega arith
 
-pub returns-then-not-is_told : goal.returns-then-not-is_told
-returns-then-not-is_told c =
+pub returns-then-not-are_entries : goal.returns-then-not-are_entries
+returns-then-not-are_entries c =
     let m = c.args.map.now in
     let t = tested m c.args.plan.now c.args.records.now c.args.abandoned.now c.requires.lists in
     let tile = c.loop-tile.tile in (
       (λ e. cc),
       (λ k.
           let yes = (t k).each tile (omega (arith, c.tiles-tiles.ensures.count)) in
-          let no' : c.is_told.result ≡ true = c.is_told.ensures ∙ ap (λ q. told m tile 0 q (of_tile tile c.args.records.now) (gone_of tile c.args.abandoned.now)) c.in_ok-attempts.ensures.value ∙ yes in
+          let no' : c.are_entries.result ≡ true = c.are_entries.ensures ∙ ap (λ q. are_entries m tile 0 q (of_tile tile c.args.records.now) (abandoned_by tile c.args.abandoned.now)) c.in_ok-attempts.ensures.value ∙ yes in
           cc),
     )
 
@@ -41,7 +42,7 @@ loop-tile-preserved c =
     let m = c.args.map.now in
     let tile = c.loop-tile.tile in
     below_more _ tile c.loop-tile.invariant
-    (sym (ap (λ q. told m tile 0 q (of_tile tile c.args.records.now) (gone_of tile c.args.abandoned.now)) c.in_ok-attempts.ensures.value) ∙ sym c.is_told.ensures ∙ c.if-not-is_told.false)
+    (sym (ap (λ q. are_entries m tile 0 q (of_tile tile c.args.records.now) (abandoned_by tile c.args.abandoned.now)) c.in_ok-attempts.ensures.value) ∙ sym c.are_entries.ensures ∙ c.if-not-are_entries.false)
 
 pub returns : goal.returns
 returns c =
@@ -50,7 +51,7 @@ returns c =
         order = c.are_in_order.ensures.0 c.if-not-are_in_order.false;
         sorted = c.are_sorted.ensures.0 c.if-not-are_sorted.false;
         tiles = λ i d lt. omega (arith, c.are_of_tiles.ensures.0 c.if-not-are_of_tiles.false i d lt, c.tiles-tiles.ensures.count);
-        gone_tiles = λ i d lt. omega (arith, c.are_gone_of_tiles.ensures.0 c.if-not-are_gone_of_tiles.false i d lt, c.tiles-tiles.ensures.count);
+        gone_tiles = λ i d lt. omega (arith, c.are_abandoned_by_tiles.ensures.0 c.if-not-are_abandoned_by_tiles.false i d lt, c.tiles-tiles.ensures.count);
         each = λ t lt. c.loop-tile.invariant t (omega (arith, lt, c.tiles-tiles.ensures.count, c.loop-tile-test.false));
       })),
       (λ _. refl),

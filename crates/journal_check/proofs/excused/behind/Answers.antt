@@ -1,7 +1,7 @@
-use Rattle.std.proofs.Common.{ltb, rules, tests}
+use Rattle.std.proofs.Common.{ltb, rules, tests, ltb-true}
 use Rattle.std.proofs.lemmas.List.Sorted.{IsPartitionPoint-from_clause, IsPartitionedBy-ltb}
 use Rattle.journal_check.specs.declared.mark.Mark.{Mark}
-use Rattle.journal_check.proofs.Splits.{attempts_rise, test_less, test_more}
+use Rattle.journal_check.proofs.Splits.{attempts_rise, test_more}
 use Rattle.journal_check.proofs.excused.behind.Goals as goal
 
 pub returns : goal.returns
@@ -12,6 +12,6 @@ returns c =
     (IsPartitionedBy-ltb (λ (y : Mark). y.attempt) marks t (attempts_rise marks c.requires)) (λ a r f q. search (rules, tests)) in
     record {
       bound = c.partition_point.ensures.bound;
-      before = λ k d low high. test_less _ _ (p.0 k d low high);
+      before = λ k d low high. ltb-true _ _ (p.0 k d low high);
       from = λ k d low high. test_more _ _ (p.1 k d low high);
     }

@@ -1,6 +1,6 @@
 use Rattle.std.proofs.Common.{◌+◌, ap, sym, subst, ◌∙◌, List}
 use Rattle.tile_map.specs.Plane.{site}
-use Rattle.journal_check.specs.Excuses.{IsHeld}
+use Rattle.journal_check.specs.Excuses.{WasHeld}
 use Rattle.journal_check.specs.declared.mark.Mark.{Mark}
 use Rattle.journal_check.proofs.Excusing.{needs_known}
 use Rattle.journal_check.proofs.Splits.{apart_same}
@@ -13,7 +13,7 @@ pub returns-then-not-are_apart : goal.returns-then-not-are_apart
 returns-then-not-are_apart c = (
   (λ q. cc),
   (λ h.
-      let yes = c.are_apart.ensures.1 (apart_same _ _ _ _ _ _ _ _ (sym c.lane-own.ensures.value) (sym c.from-attempt.ensures) (sym c.lane-other.ensures.value) (sym c.from-held.ensures) h.after) in
+      let yes = c.are_apart.ensures.1 (apart_same _ _ _ _ _ _ _ _ (sym c.marks_at-own.ensures.value) (sym c.from-attempt.ensures) (sym c.marks_at-other.ensures.value) (sym c.from-held.ensures) h.after) in
       let no = c.if-not-are_apart.true in cc),
 )
 
@@ -23,9 +23,9 @@ returns c =
       (λ q. record {
         needs = sym c.needs_edge.ensures ∙ c.if-not-needs_edge.false;
         ends = c.joins.ensures.joins.0 c.if-not-joins.false;
-        held = subst (λ (l : List Mark). IsHeld c.args.map.now l c.args.abandoned.now g) c.lane-other.ensures.value (c.is_held.ensures.0 c.if-not-is_held.false);
-        after = apart_same _ _ _ _ _ _ _ _ c.lane-own.ensures.value c.from-attempt.ensures c.lane-other.ensures.value c.from-held.ensures (c.are_apart.ensures.0 c.if-not-are_apart.false);
-        before = apart_same _ _ _ _ _ _ _ _ c.lane-other.ensures.value (ap (λ n. n + 1) c.from-held.ensures) c.lane-own.ensures.value (ap (λ n. n + 1) c.from-attempt.ensures) (c.are_apart-2.ensures.0 q);
+        held = subst (λ (l : List Mark). WasHeld c.args.map.now l c.args.abandoned.now g) c.marks_at-other.ensures.value (c.was_held.ensures.0 c.if-not-was_held.false);
+        after = apart_same _ _ _ _ _ _ _ _ c.marks_at-own.ensures.value c.from-attempt.ensures c.marks_at-other.ensures.value c.from-held.ensures (c.are_apart.ensures.0 c.if-not-are_apart.false);
+        before = apart_same _ _ _ _ _ _ _ _ c.marks_at-other.ensures.value (ap (λ n. n + 1) c.from-held.ensures) c.marks_at-own.ensures.value (ap (λ n. n + 1) c.from-attempt.ensures) (c.are_apart-2.ensures.0 q);
       }),
-      (λ h. c.are_apart-2.ensures.1 (apart_same _ _ _ _ _ _ _ _ (sym c.lane-other.ensures.value) (sym (ap (λ n. n + 1) c.from-held.ensures)) (sym c.lane-own.ensures.value) (sym (ap (λ n. n + 1) c.from-attempt.ensures)) h.before)),
+      (λ h. c.are_apart-2.ensures.1 (apart_same _ _ _ _ _ _ _ _ (sym c.marks_at-other.ensures.value) (sym (ap (λ n. n + 1) c.from-held.ensures)) (sym c.marks_at-own.ensures.value) (sym (ap (λ n. n + 1) c.from-attempt.ensures)) h.before)),
     )

@@ -1,23 +1,21 @@
 use Rattle.std.proofs.Common.{◌≡◌, get_or, take, sym, subst, below_more}
 use Rattle.std.proofs.lemmas.List.{get_or_default, take_more}
+use Rattle.event_journal.proofs.Journals.{no_record}
 use Rattle.cell_grid.specs.declared.record.Record.{Record}
 use Rattle.event_journal.specs.Accounts.{stamp_after}
 use Rattle.journal_check.specs.Clocks.{AreClocks, HasStamp}
 use Rattle.journal_check.proofs.Latest.{ticks_true}
 use Rattle.journal_check.proofs.stamped.misstamped.Goals as goal
 
-abbrev blank : Record
-blank = record { stamp = 0; tile = 0; attempt = 0; x = 0; y = 0; seed = 0 }
-
 pub loop-k-preserved : goal.loop-k-preserved
 loop-k-preserved c =
     let m = c.args.map.now in
     let records = c.args.records.now in
     let k = c.loop-k.k in
-    let r : Record = get_or records k blank in
+    let r : Record = get_or records k no_record in
     let t = ticks_true m (take k records) r c.tick.new.clocks.tiles.items c.tick.new.clocks.edges.items c.tick.result c.if-not-tick.false (c.tick.ensures (take k records) c.loop-k.invariant.clocks) in
     record {
-      clocks = subst (λ q. AreClocks m q c.tick.new.clocks.tiles.items c.tick.new.clocks.edges.items) (sym (take_more records k blank c.loop-k-test.true)) t.1;
+      clocks = subst (λ q. AreClocks m q c.tick.new.clocks.tiles.items c.tick.new.clocks.edges.items) (sym (take_more records k no_record c.loop-k-test.true)) t.1;
       before = below_more (HasStamp m records) k c.loop-k.invariant.before
-          (λ d. subst (λ (q : Record). q.stamp ≡ stamp_after m (take k records) q) (get_or_default records k blank d c.loop-k-test.true) t.0);
+          (λ d. subst (λ (q : Record). q.stamp ≡ stamp_after m (take k records) q) (get_or_default records k no_record d c.loop-k-test.true) t.0);
     }

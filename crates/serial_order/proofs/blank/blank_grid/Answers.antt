@@ -1,6 +1,16 @@
 use Rattle.std.proofs.Common.{arith}
+use Rattle.serial_order.proofs.BlankGrid.{blank_is}
 use Rattle.serial_order.proofs.Blanks.{shut_all}
+use Rattle.serial_order.specs.Outcomes.{IsPlaneGrid, IsShutTo}
 use Rattle.serial_order.proofs.blank.blank_grid.Goals as goal
 
-pub returns : goal.returns
-returns c = shut_all c.args.map.now c.tiles-tile-end.ensures.valid c.loop-tile.tile c.loop-tile.grid (omega (arith, c.loop-tile-test.false, c.tiles-tile-end.ensures.count)) c.loop-tile.invariant
+pub returns-clause-grid : goal.returns-clause-grid
+returns-clause-grid c =
+    let m = c.args.map.now in
+    let g = c.loop-tile.grid in
+    let shut : IsShutTo m c.loop-tile.tile g = c.loop-tile.invariant in
+    let plane : IsPlaneGrid m g = shut_all m c.tiles-tile-end.ensures.valid c.loop-tile.tile g (omega (arith, c.loop-tile-test.false, c.tiles-tile-end.ensures.count)) shut in
+    blank_is m c.tiles-tile-end.ensures.valid g plane.0 plane.1 shut.empty
+
+pub returns-clause-fits : goal.returns-clause-fits
+returns-clause-fits c = shut_all c.args.map.now c.tiles-tile-end.ensures.valid c.loop-tile.tile c.loop-tile.grid (omega (arith, c.loop-tile-test.false, c.tiles-tile-end.ensures.count)) c.loop-tile.invariant

@@ -1,7 +1,7 @@
 use Rattle.std.proofs.Common.{◌≡◌, ◌≢◌, ◌<◌, ◌+◌, ℕ, true, sym, subst, arith, ⊎_elim, slice_get}
 use Rattle.std.specs.List.{range_with_len}
+use Rattle.std.proofs.lemmas.Bool.{cases_eq}
 use Rattle.tile_map.specs.Plane.{tiles_of}
-use Rattle.serial_order.proofs.Ground.{same_or_not}
 use Rattle.stepped_world.specs.Machine.{finish}
 use Rattle.stepped_world.specs.Running.{Follows, stands_still}
 use Rattle.stepped_world.proofs.Following.{more_finished}
@@ -19,7 +19,7 @@ loop-tile-preserved g c =
       still = λ t lt. ⊎_elim {C = stands_still (slice_get c.finish_one.new.tiles t) ≡ true}
           (λ (e : t ≡ c.loop-tile.tile). subst (λ n. stands_still (slice_get c.finish_one.new.tiles n) ≡ true) (sym e) f.still)
           (λ ne. f.follows.still t (i.still t (below t c.loop-tile.tile lt ne)))
-          (same_or_not t c.loop-tile.tile);
+          (cases_eq t c.loop-tile.tile);
     }
   where
     below : (a b : ℕ) → a < b + 1 → a ≢ b → a < b

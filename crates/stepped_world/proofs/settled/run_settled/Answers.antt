@@ -1,13 +1,13 @@
 use Rattle.std.proofs.Common.{◌≡◌, List, All, IfOk, length, sym, ap, ◌∙◌, subst}
 use Rattle.std.specs.Iterator.{Drains}
 use Rattle.std.proofs.lemmas.Result.{IfOk-weaker}
+use Rattle.list_laws.proofs.Slots.{take_over}
 use Rattle.tile_core.specs.Values.{TileValue}
 use Rattle.serial_order.specs.Scene.{IsOver}
 use Rattle.serial_order.specs.Words.{histories_on}
 use Rattle.serial_order.specs.Outcomes.{IsMade, scene_of, values_of, Settles}
 use Rattle.stepped_world.specs.Running.{Setting, IsStart}
 use Rattle.stepped_world.specs.Ends.{IsOutcome}
-use Rattle.stepped_world.proofs.Slots.{written_over}
 use Rattle.stepped_world.proofs.Whole.{outcome_is}
 use Rattle.stepped_world.proofs.settled.run_settled.Goals as goal
 
@@ -17,7 +17,7 @@ settle-requires-clause-made g c =
     let h = c.run_steps.ensures.run r.0 (subst (λ (xs : List (TileValue × g.row.B.Denot)). IsStart g.B.Behave.after c.args.map.now r.0 xs c.args.board) (sym c.as_mut_slice.ensures.value) r.1) in
     let new = c.run_steps.new.tiles in
     let same : length new ≡ length c.args.tiles.items = h.count ∙ sym r.1.tiles_are.count in
-    subst (λ (xs : List (TileValue × g.row.B.Denot)). All (λ (x : TileValue × g.row.B.Denot). IsMade c.args.map.now x.0) xs) (sym (written_over c.args.tiles.len new c.args.tiles.items same c.args.tiles.ok.0)) h.made
+    subst (λ (xs : List (TileValue × g.row.B.Denot)). All (λ (x : TileValue × g.row.B.Denot). IsMade c.args.map.now x.0) xs) (sym (take_over c.args.tiles.len new c.args.tiles.items same c.args.tiles.ok.0)) h.made
 
 pub settle-requires-clause-words : goal.settle-requires-clause-words
 settle-requires-clause-words g c =
@@ -33,7 +33,7 @@ settle-requires-clause-over g c =
       r.0.meaning,
       r.0.start,
       r.0.plan,
-      subst (λ (xs : List (TileValue × g.row.B.Denot)). IsOver (scene_of c.args.map.now (values_of xs) (histories_on c.run_steps.new.board) r.0.meaning r.0.start r.0.plan)) (sym (written_over c.args.tiles.len new c.args.tiles.items same c.args.tiles.ok.0)) h.over,
+      subst (λ (xs : List (TileValue × g.row.B.Denot)). IsOver (scene_of c.args.map.now (values_of xs) (histories_on c.run_steps.new.board) r.0.meaning r.0.start r.0.plan)) (sym (take_over c.args.tiles.len new c.args.tiles.items same c.args.tiles.ok.0)) h.over,
     )
 
 pub returns : goal.returns
@@ -43,7 +43,7 @@ returns g c =
     let h = c.run_steps.ensures.run r.0 (start r.0 r.1) in
     let new = c.run_steps.new.tiles in
     let same : length new ≡ length c.args.tiles.items = h.count ∙ sym r.1.tiles_are.count in
-    let all = written_over c.args.tiles.len new c.args.tiles.items same c.args.tiles.ok.0 in
+    let all = take_over c.args.tiles.len new c.args.tiles.items same c.args.tiles.ok.0 in
     let e = c.run_steps.ensures.stepped in
     record {
       outcome = IfOk-weaker c.settle.result _ _ (λ o settled. (

@@ -3,7 +3,7 @@ use Rattle.feast_base.specs.Edges.{registers_of}
 use Rattle.tile_map.specs.Plane.{tiles_of}
 use Rattle.tile_map.specs.Edges.{high_end}
 use Rattle.edge_lock.specs.Passes.{EdgeValue, PassValue}
-use Rattle.tile_threads.specs.Passes.{AreMade, passes_of}
+use Rattle.tile_threads.specs.Passes.{AreEdgesMade, passes_of}
 use Rattle.tile_threads.proofs.NewEdges.{made_more}
 use Rattle.tile_threads.proofs.edges.make_edge.Goals as goal
 
@@ -23,5 +23,5 @@ returns c =
     let second = subst (λ (z : ℕ × ℕ). two ≡ set one z.1 (passes_of one z.1 ++ q ∷ [])) pair c.in_ok-give_pass-2.ensures in
     let all = second ∙ ap (λ (l : List (List PassValue)). set l (high_end m n) (passes_of l (high_end m n) ++ q ∷ [])) first in
     let items = c.in_ok-push.ensures.items in
-    subst (λ (y : List EdgeValue × List (List PassValue)). AreMade m (n + 1) y.0 y.1) (λ i. (sym items i, sym all i))
+    subst (λ (y : List EdgeValue × List (List PassValue)). AreEdgesMade m (n + 1) y.0 y.1) (λ i. (sym items i, sym all i))
     (made_more m n c.args.edges.now.items ps c.requires.made rises inside c.in_ok-made.made c.in_ok-made.ensures.edge.0 (c.in_ok-made.ensures.edge.1 ∙ ap registers_of c.shared.ensures.count) p q c.in_ok-made.ensures.passes.0 c.in_ok-made.ensures.passes.1)

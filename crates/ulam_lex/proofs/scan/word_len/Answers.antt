@@ -1,6 +1,6 @@
 use Rattle.std.proofs.Common.{arith}
 use Rattle.std.proofs.lemmas.List.Sums.{prefix_len-le-length}
-use Rattle.ulam_lex.specs.Bytes.{is_word_byte}
+use Rattle.feast_base.specs.TypeNames.{is_word_byte}
 use Rattle.ulam_lex.proofs.scan.word_len.Goals as goal
 
 pub returns-clause-within : goal.returns-clause-within

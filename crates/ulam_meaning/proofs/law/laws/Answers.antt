@@ -1,5 +1,6 @@
-use Rattle.ulam_meaning.proofs.EventLaws.{statements_take, calls_take, stays_window, marks_stay, stays_below, stays_known, fails_as, fails_by, no_centre, no_element}
+use Rattle.ulam_meaning.proofs.EventLaws.{statements_take, calls_take, stays_window, marks_stay, stays_below, stays_known, fails_as, fails_by, no_element}
 use Rattle.ulam_meaning.proofs.Rounds.{rounds_enough}
+use Rattle.ulam_meaning.specs.Events.{idle-after}
 use Rattle.ulam_meaning.proofs.law.laws.Goals as goal
 
 pub returns-clause-statements : goal.returns-clause-statements
@@ -30,7 +31,7 @@ pub returns-clause-failed : goal.returns-clause-failed
 returns-clause-failed c = fails_by
 
 pub returns-clause-idle : goal.returns-clause-idle
-returns-clause-idle c = no_centre
+returns-clause-idle c = idle-after
 
 pub returns-clause-stranger : goal.returns-clause-stranger
 returns-clause-stranger c = no_element

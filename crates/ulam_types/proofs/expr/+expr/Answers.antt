@@ -38,13 +38,8 @@ expr-returns-in_err-args-in-Call t c =
     let e = call_at (scope_view c.args.scope.now) c.args.want c.args.raw.now c.in-Call.called c.in-Call.is in
     rw e (first_of (search rules, grind (arith, common_steps)))
 
-pub expr-returns-then-not-is_value : goal.expr-returns-then-not-is_value
-expr-returns-then-not-is_value t c =
-    let e = call_at (scope_view c.args.scope.now) c.args.want c.args.raw.now c.in-Call.called c.in-Call.is in
-    rw e (first_of (search rules, grind (arith, common_steps)))
-
-pub expr-returns-in_ok-path-in-Call : goal.expr-returns-in_ok-path-in-Call
-expr-returns-in_ok-path-in-Call t c =
+pub expr-returns-in_ok-args-in-Call : goal.expr-returns-in_ok-args-in-Call
+expr-returns-in_ok-args-in-Call t c =
     let e = call_at (scope_view c.args.scope.now) c.args.want c.args.raw.now c.in-Call.called c.in-Call.is in
     rw e (first_of (search rules, grind (arith, common_steps)))
 
@@ -69,7 +64,7 @@ expr-returns-in-Path t c = rw c.in-Path.is (c.value_at.ensures c.args.want)
 pub expr-returns-in-Instance : goal.expr-returns-in-Instance
 expr-returns-in-Instance t c = rw c.in-Instance.is (c.instance.ensures c.args.want)
 
-pub expr-returns-in-Is : goal.expr-returns-in-Is
-expr-returns-in-Is t c =
+pub compound-returns-in-Is : goal.compound-returns-in-Is
+compound-returns-in-Is t c =
     let e = c.is.ensures c.args.want in
     rw c.in-Is.is (first_of (search (rules, e), grind (arith, common_steps)))

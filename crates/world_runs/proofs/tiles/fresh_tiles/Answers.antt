@@ -1,9 +1,10 @@
 use Rattle.std.proofs.Common.{◌≡◌, ◌++◌, List, length, map, ap, sym, subst, ◌∙◌, arith}
 use Rattle.std.specs.Prelude.{slice_get}
+use Rattle.tile_map.proofs.Numbers.{tiles_few}
 use Rattle.draw_stream.specs.Plans.{attempts}
 use Rattle.tile_core.specs.Underway.{IsFreshTile}
 use Rattle.tile_core.specs.Values.{TileValue, atoms_of}
-use Rattle.world_runs.proofs.Beginning.{EachFresh, acts_all, acts_more, few_tiles, fresh_more, made_fewer, none_left}
+use Rattle.world_runs.proofs.Beginning.{EachFresh, acts_all, acts_more, fresh_more, made_fewer, none_left}
 use Rattle.world_runs.proofs.tiles.fresh_tiles.Goals as goal
 
 pub loop-behave-init : goal.loop-behave-init
@@ -18,7 +19,7 @@ loop-behave-init g c =
 pub count-requires : goal.count-requires
 count-requires g c =
     let fewer = made_fewer c.loop-behave.tiles.items c.in-Some.behave c.next.new.self.rest.items c.loop-behave.behave-iterator.rest.items c.args.behaves.items c.in-Some.ensures.steps.0 c.loop-behave.invariant.acts in
-    let most = few_tiles c.args.map.now c.laws.ensures.valid in
+    let most = tiles_few c.args.map.now c.laws.ensures.valid in
     let same = c.as_slice.ensures.value in
     let long = ap length same in
     let one = c.requires.one in

@@ -3,7 +3,7 @@ use Rattle.std.specs.List.{list_any}
 use Rattle.std.proofs.lemmas.List.{get_or_default, length-set}
 use Rattle.std.proofs.lemmas.List.{take_all}
 use Rattle.world_text.proofs.Marks.{one_unknown, one_taken, one_fine, places_more, next_atom, no_atoms, marked_more, found_more}
-use Rattle.world_text.specs.Named.{name_fault, place_of, placed, type_of, AreMarked}
+use Rattle.world_text.specs.Named.{name_fault, atom_place, placed, type_of, AreMarked}
 use Rattle.world_text.proofs.named.name_atoms.Goals as goal
 
 pub returns-in_default : goal.returns-in_default
@@ -12,8 +12,8 @@ returns-in_default c =
     let atoms = c.args.atoms.now in
     let i = c.loop-raw.raw-index in
     let a = c.raw-item.result in
-    let before = map (place_of c.args.width) (take i atoms) in
-    let rest = name_fault names c.args.width (map (place_of c.args.width) (take (i + 1) atoms)) (drop (i + 1) atoms) in
+    let before = map (atom_place c.args.width) (take i atoms) in
+    let rest = name_fault names c.args.width (map (atom_place c.args.width) (take (i + 1) atoms)) (drop (i + 1) atoms) in
     let known : is_some (type_of names a.name) ≡ false = ap (λ n. is_some (type_of names n)) (sym c.bytes.ensures) ∙ ap is_some (sym (c.in_default.ensures names c.in_ok-kinds.ensures)) in
     sym c.loop-raw.invariant.rest ∙ next_atom names c.args.width atoms i a (omega arith) (sym c.raw-item.is) ∙ one_unknown names c.args.width before a rest known
 
@@ -23,14 +23,14 @@ returns-then-index c =
     let atoms = c.args.atoms.now in
     let i = c.loop-raw.raw-index in
     let a = c.raw-item.result in
-    let before = map (place_of c.args.width) (take i atoms) in
-    let rest = name_fault names c.args.width (map (place_of c.args.width) (take (i + 1) atoms)) (drop (i + 1) atoms) in
+    let before = map (atom_place c.args.width) (take i atoms) in
+    let rest = name_fault names c.args.width (map (atom_place c.args.width) (take (i + 1) atoms)) (drop (i + 1) atoms) in
     let known : is_some (type_of names a.name) ≡ true = ap (λ n. is_some (type_of names n)) (sym c.bytes.ensures) ∙ ap is_some (sym (c.in-Some.ensures names c.in_ok-kinds.ensures)) in
     let size = c.loop-raw.invariant.size in
-    let inside : c.place_of-place.result < length c.loop-raw.marks.items = omega (arith, size, c.place_of-place.ensures.below) in
-    let mark : list_any (λ p. p == place_of c.args.width a) before ≡ c.index.result.now =
-    ap (λ (k : ℕ). list_any (λ p. p == k) before) (sym c.place_of-place.ensures.value) ∙ sym (c.loop-raw.invariant.marked c.place_of-place.result inside)
-    ∙ get_or_default c.loop-raw.marks.items c.place_of-place.result false c.index.result.now inside ∙ sym c.index.ensures in
+    let inside : c.atom_place-place.result < length c.loop-raw.marks.items = omega (arith, size, c.atom_place-place.ensures.below) in
+    let mark : list_any (λ p. p == atom_place c.args.width a) before ≡ c.index.result.now =
+    ap (λ (k : ℕ). list_any (λ p. p == k) before) (sym c.atom_place-place.ensures.value) ∙ sym (c.loop-raw.invariant.marked c.atom_place-place.result inside)
+    ∙ get_or_default c.loop-raw.marks.items c.atom_place-place.result false c.index.result.now inside ∙ sym c.index.ensures in
     sym c.loop-raw.invariant.rest ∙ next_atom names c.args.width atoms i a (omega arith) (sym c.raw-item.is) ∙ one_taken names c.args.width before a rest known (mark ∙ c.if-index.true)
 
 pub loop-raw-preserved : goal.loop-raw-preserved
@@ -39,22 +39,22 @@ loop-raw-preserved c =
     let atoms = c.args.atoms.now in
     let i = c.loop-raw.raw-index in
     let a = c.raw-item.result in
-    let before = map (place_of c.args.width) (take i atoms) in
-    let rest = name_fault names c.args.width (map (place_of c.args.width) (take (i + 1) atoms)) (drop (i + 1) atoms) in
+    let before = map (atom_place c.args.width) (take i atoms) in
+    let rest = name_fault names c.args.width (map (atom_place c.args.width) (take (i + 1) atoms)) (drop (i + 1) atoms) in
     let type : type_of names a.name ≡ Some c.in-Some.kind = ap (λ n. type_of names n) (sym c.bytes.ensures) ∙ sym (c.in-Some.ensures names c.in_ok-kinds.ensures) in
     let known : is_some (type_of names a.name) ≡ true = ap is_some type in
     let size = c.loop-raw.invariant.size in
-    let inside : c.place_of-place.result < length c.loop-raw.marks.items = omega (arith, size, c.place_of-place.ensures.below) in
-    let mark : list_any (λ p. p == place_of c.args.width a) before ≡ c.index.result.now =
-    ap (λ (k : ℕ). list_any (λ p. p == k) before) (sym c.place_of-place.ensures.value) ∙ sym (c.loop-raw.invariant.marked c.place_of-place.result inside)
-    ∙ get_or_default c.loop-raw.marks.items c.place_of-place.result false c.index.result.now inside ∙ sym c.index.ensures in
+    let inside : c.atom_place-place.result < length c.loop-raw.marks.items = omega (arith, size, c.atom_place-place.ensures.below) in
+    let mark : list_any (λ p. p == atom_place c.args.width a) before ≡ c.index.result.now =
+    ap (λ (k : ℕ). list_any (λ p. p == k) before) (sym c.atom_place-place.ensures.value) ∙ sym (c.loop-raw.invariant.marked c.atom_place-place.result inside)
+    ∙ get_or_default c.loop-raw.marks.items c.atom_place-place.result false c.index.result.now inside ∙ sym c.index.ensures in
     let more = places_more c.args.width atoms i a (omega arith) (sym c.raw-item.is) in
-    let marks = marked_more c.loop-raw.marks.items before c.place_of-place.result c.loop-raw.invariant.marked inside in
+    let marks = marked_more c.loop-raw.marks.items before c.atom_place-place.result c.loop-raw.invariant.marked inside in
     record {
       rest = sym (sym c.loop-raw.invariant.rest ∙ next_atom names c.args.width atoms i a (omega arith) (sym c.raw-item.is) ∙ one_fine names c.args.width before a rest known (mark ∙ c.if-index.false));
       found = found_more names atoms i c.in-Some.kind a c.new.result c.loop-raw.found.items c.push.new.self.items (omega arith) (sym c.raw-item.is) type c.new.ensures c.loop-raw.invariant.found c.in_ok-push.ensures.items;
-      marked = subst (AreMarked _) (ap (λ k. before ++ k ∷ []) c.place_of-place.ensures.value ∙ sym more) marks;
-      size = length-set c.loop-raw.marks.items c.place_of-place.result true ∙ size;
+      marked = subst (AreMarked _) (ap (λ k. before ++ k ∷ []) c.atom_place-place.ensures.value ∙ sym more) marks;
+      size = length-set c.loop-raw.marks.items c.atom_place-place.result true ∙ size;
     }
 
 pub returns : goal.returns
@@ -62,6 +62,6 @@ returns c =
     let names = c.args.names.now in
     let atoms = c.args.atoms.now in
     let i = c.loop-raw.raw-index in (
-      sym c.loop-raw.invariant.rest ∙ no_atoms names c.args.width (map (place_of c.args.width) (take i atoms)) atoms i (omega arith),
+      sym c.loop-raw.invariant.rest ∙ no_atoms names c.args.width (map (atom_place c.args.width) (take i atoms)) atoms i (omega arith),
       c.loop-raw.invariant.found ∙ ap (map (placed names)) (take_all i atoms (omega arith)),
     )

@@ -1,11 +1,12 @@
 use Rattle.std.proofs.Common.{ap, sym, ◌∙◌, subst}
 use Rattle.std.specs.Prelude.{All}
+use Rattle.std.proofs.lemmas.List.{nil_from_length}
 use Rattle.tile_map.specs.Plane.{site}
 use Rattle.tile_map.specs.Laws.{IsPlane}
 use Rattle.border_cache.specs.Published.{cell_at}
 use Rattle.border_cache.specs.Copies.{window_cells}
 use Rattle.border_cache.specs.Windows.{IsEdgeFor, PublishesAll}
-use Rattle.border_cache.proofs.Needs.{no_edges, publishes_all_begin}
+use Rattle.border_cache.proofs.Needs.{publishes_all_begin}
 use Rattle.border_cache.proofs.Stored.{centre_holds, needs_ready, publishes_by}
 use Rattle.border_cache.proofs.cache.Cache.publish.Goals as goal
 
@@ -37,4 +38,4 @@ returns-then-len-eq0-clause-published g c =
     let v = c.args.self.now in
     let s = site c.args.x c.args.y in
     let a = g.D.Board.lists c.args.board.now in
-    subst (λ es. PublishesAll v.map v.tile s es (window_cells v s) a a) (sym (no_edges c.args.needs.now (sym c.len.ensures.count ∙ c.if-len-eq0.true))) (publishes_all_begin v.map v.tile s (window_cells v s) a)
+    subst (λ es. PublishesAll v.map v.tile s es (window_cells v s) a a) (sym (nil_from_length c.args.needs.now (sym c.len.ensures.count ∙ c.if-len-eq0.true))) (publishes_all_begin v.map v.tile s (window_cells v s) a)

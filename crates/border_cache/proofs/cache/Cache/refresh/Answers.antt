@@ -1,10 +1,10 @@
 use Rattle.std.proofs.Common.{ap, sym, ◌∙◌, subst}
 use Rattle.std.specs.Prelude.{All}
+use Rattle.std.proofs.lemmas.List.{nil_from_length}
 use Rattle.tile_map.specs.Plane.{site}
 use Rattle.tile_map.specs.Laws.{IsPlane}
 use Rattle.border_cache.specs.Windows.{IsEdgeFor, RefreshesAll}
 use Rattle.border_cache.specs.Copies.{Refreshed}
-use Rattle.border_cache.proofs.Needs.{no_edges}
 use Rattle.border_cache.proofs.Stored.{centre_holds, needs_ready, refreshed_by, refreshed_none}
 use Rattle.border_cache.proofs.cache.Cache.refresh.Goals as goal
 
@@ -40,4 +40,4 @@ returns-then-len-eq0-clause-refreshed g c =
     let v = c.args.self.now in
     let s = site c.args.x c.args.y in
     let a = g.D.Board.lists c.args.board.now in
-    subst (λ es. Refreshed s es v v a a) (sym (no_edges c.args.needs.now (sym c.len.ensures.count ∙ c.if-len-eq0.true))) (refreshed_none s v a)
+    subst (λ es. Refreshed s es v v a a) (sym (nil_from_length c.args.needs.now (sym c.len.ensures.count ∙ c.if-len-eq0.true))) (refreshed_none s v a)

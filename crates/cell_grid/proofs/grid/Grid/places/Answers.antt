@@ -4,7 +4,7 @@ use Rattle.cell_grid.proofs.grid.Grid.places.Goals as goal
 
 pub loop-n-preserved : goal.loop-n-preserved
 loop-n-preserved c =
-    AreFound-more c.args.self.now c.args.x c.args.y c.loop-n.n c.loop-n.places _ c.loop-n-test.true c.place.ensures.place c.place.ensures.live c.loop-n.invariant
+    AreFound-more c.args.self.now c.args.x c.args.y c.loop-n.n c.loop-n.places _ c.loop-n-test.true c.place_of.ensures.place c.place_of.ensures.live c.loop-n.invariant
 
 pub returns-clause-places : goal.returns-clause-places
 returns-clause-places c =

@@ -17,10 +17,10 @@ load-requires c =
 pub returns-clause-value : goal.returns-clause-value
 returns-clause-value c =
     let q = c.args.register in let back : (q + 3) - 3 ≡ q = omega arith in let me = c.self.inside.seat.me in
-    let is = c.load.ensures.2.1 ∙ ap (Rattle.edge_lock.specs.History.value me.0.holds) back in
+    let is = c.load.ensures.2.1 ∙ ap (Rattle.edge_lock.specs.History.register_value me.0.holds) back in
     let told = keeps.shows_known 0 0 0 c.args.end me c.self.invariant.3 (subst (λ (x : PlainEdgeValue). IsHeld (own_lists c.args.end x)) (sym c.self.view_is) c.requires.held) q c.load.result (own_lists c.args.end (Rattle.edge_lock.specs.PlainEdges.plain_edge_value 0 0 me.0)).refusals c.self.invariant.4 is in
     let seen = c.self.view_is in (
-      is ∙ ap (λ (x : PlainEdgeValue). Rattle.edge_lock.specs.History.value x.holds q) seen,
+      is ∙ ap (λ (x : PlainEdgeValue). Rattle.edge_lock.specs.History.register_value x.holds q) seen,
       subst (λ (x : PlainEdgeValue). IsAllowed (Rattle.edge_lock.specs.History.site_count x.registers) q c.load.result) seen told.1,
       subst (λ (x : PlainEdgeValue). Shows (known_value (own_lists c.args.end x) q) c.load.result) seen told.0,
     )

@@ -1,42 +1,42 @@
 use Rattle.std.proofs.Common.{subst, ◌∙◌}
 use Rattle.edge_lock.specs.EndLists.{IsHeld, after_give}
-use Rattle.edge_lock.proofs.PassPlaces.{acts}
+use Rattle.edge_lock.proofs.PassPositions.{acts}
 use Rattle.edge_lock.proofs.shared_end.SharedEndBoard.give.Goals as goal
 
 pub bounds-self-inside-edge : goal.bounds-self-inside-edge
 bounds-self-inside-edge c =
-    let a = acts c.self.inside.edges.now c.self.inside.passes.items c.as_slice.result.now c.self.inside.tile c.args.self.now c.args.edge c.place_of-i.result c.self.view_is c.self.invariant c.as_slice.ensures.value c.place_of-i.ensures.is c.place_of-i.ensures.inside in
+    let a = acts c.self.inside.edges.now c.self.inside.passes.items c.as_slice.result.now c.self.inside.tile c.args.self.now c.args.edge c.pass_position-i.result c.self.view_is c.self.invariant c.as_slice.ensures.value c.pass_position-i.ensures.is c.pass_position-i.ensures.inside in
     a.bound
 
 pub give-requires-clause-edge : goal.give-requires-clause-edge
 give-requires-clause-edge c =
-    let a = acts c.self.inside.edges.now c.self.inside.passes.items c.as_slice.result.now c.self.inside.tile c.args.self.now c.args.edge c.place_of-i.result c.self.view_is c.self.invariant c.as_slice.ensures.value c.place_of-i.ensures.is c.place_of-i.ensures.inside in
+    let a = acts c.self.inside.edges.now c.self.inside.passes.items c.as_slice.result.now c.self.inside.tile c.args.self.now c.args.edge c.pass_position-i.result c.self.view_is c.self.invariant c.as_slice.ensures.value c.pass_position-i.ensures.is c.pass_position-i.ensures.inside in
     let p = c.index_mut.result.now in let at = c.index_mut.ensures.value in let x = c.index-self-edge.result in let there = c.index-self-edge.is in
     a.of p x at there ∙ there
 
 pub give-requires-clause-held : goal.give-requires-clause-held
 give-requires-clause-held c =
-    let a = acts c.self.inside.edges.now c.self.inside.passes.items c.as_slice.result.now c.self.inside.tile c.args.self.now c.args.edge c.place_of-i.result c.self.view_is c.self.invariant c.as_slice.ensures.value c.place_of-i.ensures.is c.place_of-i.ensures.inside in
+    let a = acts c.self.inside.edges.now c.self.inside.passes.items c.as_slice.result.now c.self.inside.tile c.args.self.now c.args.edge c.pass_position-i.result c.self.view_is c.self.invariant c.as_slice.ensures.value c.pass_position-i.ensures.is c.pass_position-i.ensures.inside in
     let p = c.index_mut.result.now in let at = c.index_mut.ensures.value in
     subst IsHeld (a.lists p at) c.requires.held
 
 pub returns-clause-lists : goal.returns-clause-lists
 returns-clause-lists c =
-    let a = acts c.self.inside.edges.now c.self.inside.passes.items c.as_slice.result.now c.self.inside.tile c.args.self.now c.args.edge c.place_of-i.result c.self.view_is c.self.invariant c.as_slice.ensures.value c.place_of-i.ensures.is c.place_of-i.ensures.inside in
+    let a = acts c.self.inside.edges.now c.self.inside.passes.items c.as_slice.result.now c.self.inside.tile c.args.self.now c.args.edge c.pass_position-i.result c.self.view_is c.self.invariant c.as_slice.ensures.value c.pass_position-i.ensures.is c.pass_position-i.ensures.inside in
     let p = c.index_mut.result.now in let at = c.index_mut.ensures.value in
     let d = a.after p c.give.new.pass (λ k l. after_give l) at c.give.ensures in
     d.lists
 
 pub returns-clause-edges : goal.returns-clause-edges
 returns-clause-edges c =
-    let a = acts c.self.inside.edges.now c.self.inside.passes.items c.as_slice.result.now c.self.inside.tile c.args.self.now c.args.edge c.place_of-i.result c.self.view_is c.self.invariant c.as_slice.ensures.value c.place_of-i.ensures.is c.place_of-i.ensures.inside in
+    let a = acts c.self.inside.edges.now c.self.inside.passes.items c.as_slice.result.now c.self.inside.tile c.args.self.now c.args.edge c.pass_position-i.result c.self.view_is c.self.invariant c.as_slice.ensures.value c.pass_position-i.ensures.is c.pass_position-i.ensures.inside in
     let p = c.index_mut.result.now in let at = c.index_mut.ensures.value in
     let d = a.after p c.give.new.pass (λ k l. after_give l) at c.give.ensures in
     (d.registers, d.ends)
 
 pub returns-clause-moved : goal.returns-clause-moved
 returns-clause-moved c =
-    let a = acts c.self.inside.edges.now c.self.inside.passes.items c.as_slice.result.now c.self.inside.tile c.args.self.now c.args.edge c.place_of-i.result c.self.view_is c.self.invariant c.as_slice.ensures.value c.place_of-i.ensures.is c.place_of-i.ensures.inside in
+    let a = acts c.self.inside.edges.now c.self.inside.passes.items c.as_slice.result.now c.self.inside.tile c.args.self.now c.args.edge c.pass_position-i.result c.self.view_is c.self.invariant c.as_slice.ensures.value c.pass_position-i.ensures.is c.pass_position-i.ensures.inside in
     let p = c.index_mut.result.now in let at = c.index_mut.ensures.value in
     let d = a.after p c.give.new.pass (λ k l. after_give l) at c.give.ensures in
     d.moved

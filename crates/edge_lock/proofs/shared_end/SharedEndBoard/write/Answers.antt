@@ -4,55 +4,55 @@ use Rattle.std.proofs.Common.{◌<◌}
 use Rattle.edge_lock.specs.declared.history.Access.TheVariants.{Write}
 use Rattle.edge_lock.specs.History.{site_count, IsAllowed}
 use Rattle.edge_lock.specs.Passes.{EdgeValue}
-use Rattle.edge_lock.proofs.PassPlaces.{acts}
+use Rattle.edge_lock.proofs.PassPositions.{acts}
 use Rattle.edge_lock.proofs.shared_end.SharedEndBoard.write.Goals as goal
 
 pub bounds-self-inside-edge : goal.bounds-self-inside-edge
 bounds-self-inside-edge c =
-    let a = acts c.self.inside.edges.now c.self.inside.passes.items c.as_slice.result.now c.self.inside.tile c.args.self.now c.args.edge c.place_of-i.result c.self.view_is c.self.invariant c.as_slice.ensures.value c.place_of-i.ensures.is c.place_of-i.ensures.inside in
+    let a = acts c.self.inside.edges.now c.self.inside.passes.items c.as_slice.result.now c.self.inside.tile c.args.self.now c.args.edge c.pass_position-i.result c.self.view_is c.self.invariant c.as_slice.ensures.value c.pass_position-i.ensures.is c.pass_position-i.ensures.inside in
     a.bound
 
 pub write-requires-clause-edge : goal.write-requires-clause-edge
 write-requires-clause-edge c =
-    let a = acts c.self.inside.edges.now c.self.inside.passes.items c.as_slice.result.now c.self.inside.tile c.args.self.now c.args.edge c.place_of-i.result c.self.view_is c.self.invariant c.as_slice.ensures.value c.place_of-i.ensures.is c.place_of-i.ensures.inside in
+    let a = acts c.self.inside.edges.now c.self.inside.passes.items c.as_slice.result.now c.self.inside.tile c.args.self.now c.args.edge c.pass_position-i.result c.self.view_is c.self.invariant c.as_slice.ensures.value c.pass_position-i.ensures.is c.pass_position-i.ensures.inside in
     let p = c.index_mut.result.now in let at = c.index_mut.ensures.value in let x = c.index-self-edge.result in let there = c.index-self-edge.is in
     a.of p x at there ∙ there
 
 pub write-requires-clause-register : goal.write-requires-clause-register
 write-requires-clause-register c =
-    let a = acts c.self.inside.edges.now c.self.inside.passes.items c.as_slice.result.now c.self.inside.tile c.args.self.now c.args.edge c.place_of-i.result c.self.view_is c.self.invariant c.as_slice.ensures.value c.place_of-i.ensures.is c.place_of-i.ensures.inside in
+    let a = acts c.self.inside.edges.now c.self.inside.passes.items c.as_slice.result.now c.self.inside.tile c.args.self.now c.args.edge c.pass_position-i.result c.self.view_is c.self.invariant c.as_slice.ensures.value c.pass_position-i.ensures.is c.pass_position-i.ensures.inside in
     let p = c.index_mut.result.now in let at = c.index_mut.ensures.value in let x = c.index-self-edge.result in let there = c.index-self-edge.is in
     subst (λ n. c.args.register < n) (a.registers p x at there ∙ ap (λ (y : EdgeValue). y.registers) there) c.requires.edge
 
 pub write-requires-clause-held : goal.write-requires-clause-held
 write-requires-clause-held c =
-    let a = acts c.self.inside.edges.now c.self.inside.passes.items c.as_slice.result.now c.self.inside.tile c.args.self.now c.args.edge c.place_of-i.result c.self.view_is c.self.invariant c.as_slice.ensures.value c.place_of-i.ensures.is c.place_of-i.ensures.inside in
+    let a = acts c.self.inside.edges.now c.self.inside.passes.items c.as_slice.result.now c.self.inside.tile c.args.self.now c.args.edge c.pass_position-i.result c.self.view_is c.self.invariant c.as_slice.ensures.value c.pass_position-i.ensures.is c.pass_position-i.ensures.inside in
     let p = c.index_mut.result.now in let at = c.index_mut.ensures.value in
     subst IsHeld (a.lists p at) c.requires.held
 
 pub write-requires-clause-value : goal.write-requires-clause-value
 write-requires-clause-value c =
-    let a = acts c.self.inside.edges.now c.self.inside.passes.items c.as_slice.result.now c.self.inside.tile c.args.self.now c.args.edge c.place_of-i.result c.self.view_is c.self.invariant c.as_slice.ensures.value c.place_of-i.ensures.is c.place_of-i.ensures.inside in
+    let a = acts c.self.inside.edges.now c.self.inside.passes.items c.as_slice.result.now c.self.inside.tile c.args.self.now c.args.edge c.pass_position-i.result c.self.view_is c.self.invariant c.as_slice.ensures.value c.pass_position-i.ensures.is c.pass_position-i.ensures.inside in
     let p = c.index_mut.result.now in let at = c.index_mut.ensures.value in let x = c.index-self-edge.result in let there = c.index-self-edge.is in
     subst (λ n. IsAllowed (site_count n) c.args.register c.args.value) (a.registers p x at there ∙ ap (λ (y : EdgeValue). y.registers) there) c.requires.value
 
 pub returns-clause-lists : goal.returns-clause-lists
 returns-clause-lists c =
-    let a = acts c.self.inside.edges.now c.self.inside.passes.items c.as_slice.result.now c.self.inside.tile c.args.self.now c.args.edge c.place_of-i.result c.self.view_is c.self.invariant c.as_slice.ensures.value c.place_of-i.ensures.is c.place_of-i.ensures.inside in
+    let a = acts c.self.inside.edges.now c.self.inside.passes.items c.as_slice.result.now c.self.inside.tile c.args.self.now c.args.edge c.pass_position-i.result c.self.view_is c.self.invariant c.as_slice.ensures.value c.pass_position-i.ensures.is c.pass_position-i.ensures.inside in
     let p = c.index_mut.result.now in let at = c.index_mut.ensures.value in
     let d = a.after p c.write.new.pass (λ k l. after_access (Write c.args.register c.args.value) l) at c.write.ensures in
     d.lists
 
 pub returns-clause-edges : goal.returns-clause-edges
 returns-clause-edges c =
-    let a = acts c.self.inside.edges.now c.self.inside.passes.items c.as_slice.result.now c.self.inside.tile c.args.self.now c.args.edge c.place_of-i.result c.self.view_is c.self.invariant c.as_slice.ensures.value c.place_of-i.ensures.is c.place_of-i.ensures.inside in
+    let a = acts c.self.inside.edges.now c.self.inside.passes.items c.as_slice.result.now c.self.inside.tile c.args.self.now c.args.edge c.pass_position-i.result c.self.view_is c.self.invariant c.as_slice.ensures.value c.pass_position-i.ensures.is c.pass_position-i.ensures.inside in
     let p = c.index_mut.result.now in let at = c.index_mut.ensures.value in
     let d = a.after p c.write.new.pass (λ k l. after_access (Write c.args.register c.args.value) l) at c.write.ensures in
     (d.registers, d.ends)
 
 pub returns-clause-moved : goal.returns-clause-moved
 returns-clause-moved c =
-    let a = acts c.self.inside.edges.now c.self.inside.passes.items c.as_slice.result.now c.self.inside.tile c.args.self.now c.args.edge c.place_of-i.result c.self.view_is c.self.invariant c.as_slice.ensures.value c.place_of-i.ensures.is c.place_of-i.ensures.inside in
+    let a = acts c.self.inside.edges.now c.self.inside.passes.items c.as_slice.result.now c.self.inside.tile c.args.self.now c.args.edge c.pass_position-i.result c.self.view_is c.self.invariant c.as_slice.ensures.value c.pass_position-i.ensures.is c.pass_position-i.ensures.inside in
     let p = c.index_mut.result.now in let at = c.index_mut.ensures.value in
     let d = a.after p c.write.new.pass (λ k l. after_access (Write c.args.register c.args.value) l) at c.write.ensures in
     d.moved

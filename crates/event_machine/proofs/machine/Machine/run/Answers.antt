@@ -1,4 +1,4 @@
-use Rattle.event_machine.proofs.Running.{running_start, running_more, less_more, ready, ran_failed, ran_done, never_wants}
+use Rattle.event_machine.proofs.Running.{running_start, running_more, less_more, ready, ran_failed, ran_done, never_lacks}
 use Rattle.event_machine.proofs.machine.Machine.run.Goals as goal
 
 pub loop-n-init : goal.loop-n-init
@@ -20,4 +20,4 @@ pub returns-in-Done : goal.returns-in-Done
 returns-in-Done g c = ran_done g.L.Ledger.noted c.args.code.now c.args.self.now c.loop-n.self c.step.new.self c.args.steps.now c.loop-n.steps c.loop-n.invariant c.tick.new.self (record { count = c.tick.ensures.count; noted_once = c.tick.ensures.noted }) c.in-Done.ensures
 
 pub unreachable-requires : goal.unreachable-requires
-unreachable-requires g c = never_wants g.L.Ledger.noted c.args.code.now c.args.self.now c.loop-n.self c.step.new.self c.args.steps.now c.loop-n.steps c.loop-n.invariant c.in-Want.ensures
+unreachable-requires g c = never_lacks g.L.Ledger.noted c.args.code.now c.args.self.now c.loop-n.self c.step.new.self c.args.steps.now c.loop-n.steps c.loop-n.invariant c.in-Lack.ensures

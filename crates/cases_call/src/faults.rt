@@ -1,0 +1,141 @@
+//! Each load and each put of each form fails in turn, also in the middle of a piece.
+
+use crate::calls::{answer, shelf};
+use feast_base::{MemSink, Stop};
+use feast_run::Status;
+use std::alloc::Global;
+use std::process::Abort;
+use std::test::Fail;
+use std::thread::Threads;
+
+/// The files that are there. The report of `w` has more than 4,096 bytes, and less than 8,192.
+const FILES: [(&str, &str); 5] = [
+    (
+        "e",
+        "element Walker { EventWindow ew; Void behave() { ew.swap(0, 4); } }",
+    ),
+    (
+        "c",
+        "FEASTC\x01\0\0\x01\0\0\0\x06Walker\0\0\0\x01\0\0\0\x06behave\0\0\0\0\0\0\0\0\0\0\0\x04\0\0\0\0\0\0\0\0\0\0\0\0\0\0\0\0\0\0\0\x04\x0c0",
+    ),
+    ("w", "feast 1\ntiles 1 1\nsize 8 8\nseed 7\nattempts 200\n"),
+    (
+        "walk",
+        "feast 1\ntiles 1 1\nsize 8 8\ntry 0 3 4 0000000000000000\natom 3 4 Walker\n",
+    ),
+    (
+        "j",
+        "feast 1\natoms 1\n4 4 Walker 000000000000000000\njournal 1\n1 0 0 3 4 0000000000000000\nabandoned 0\n",
+    ),
+];
+
+/// A call of each form but `gen` that ends well, with the files that it loads, in order.
+const CALLS: [(&str, &[&str]); 10] = [
+    ("check e", &["e"]),
+    ("code e", &["e"]),
+    ("pack e", &["e"]),
+    ("run w e", &["w", "e"]),
+    ("step w e", &["w", "e"]),
+    ("runpack w c", &["w", "c"]),
+    ("steppack w c", &["w", "c"]),
+    ("replay walk j e", &["walk", "e", "j"]),
+    ("audit walk j e", &["walk", "e", "j"]),
+    ("rewind walk j 0 e", &["walk", "e", "j"]),
+];
+
+/// Puts that fail, each with how many first bytes of its piece are still appended.
+const STOPS: [(u64, u32); 9] = [
+    (1, 0),
+    (1, 1),
+    (1, 10),
+    (1, 4095),
+    (1, 5000),
+    (2, 0),
+    (2, 10),
+    (2, 1000),
+    (2, 5000),
+];
+
+/// How a call ends if some loads and a put fail: its status, and the bytes that the sink has.
+fn ended<R: Threads + Sync>(
+    rt: &R,
+    alloc: Global,
+    words: &str,
+    load: u64,
+    (call, keep): (u64, u32),
+) -> Result<(Status, Vec<u8>), Fail> {
+    let mut shelf = shelf(alloc, &FILES, vec![in alloc; load]?)?;
+    let mut sink = MemSink::stopping(alloc, vec![in alloc; Stop { call, keep }]?, 10_000)?;
+    let status = answer(rt, alloc, words, &mut shelf, &mut sink)?;
+    Ok((status, Vec::from_slice(alloc, sink.written())?))
+}
+
+/// A form that loads a file twice, in another order, or goes on after a load that failed, fails here.
+#[test]
+fn each_load_fails_in_turn(rt: HostRuntime) -> Result<(), Fail> {
+    let alloc = rt.alloc();
+    for (call, names) in CALLS {
+        for index in 0..names.len() {
+            let (status, written) = ended(&rt, alloc, call, index as u64 + 1, (0, 0))?;
+            let mut line = Vec::from_slice(alloc, names[index].as_bytes())?;
+            line.extend_from_slice(b": E01 unreadable\n")?;
+            assert_eq!(rt; status, Status::Unreadable, "{call}");
+            assert_eq!(rt; written.as_slice(), line.as_slice(), "{call}");
+
+            let (status, written) = ended(&rt, alloc, call, index as u64 + 1, (1, 7))?;
+            assert_eq!(rt; status, Status::SinkFault, "{call}");
+            assert_eq!(rt;
+                written.as_slice(),
+                &line.as_slice()[..line.len().min(7)],
+                "{call}"
+            );
+        }
+        let (status, _) = ended(&rt, alloc, call, names.len() as u64 + 1, (0, 0))?;
+        assert_eq!(rt; status, Status::Done, "{call}");
+    }
+    Ok(())
+}
+
+/// Each of these puts of a call fails in turn, if it comes to it.
+fn puts_fail<R: Threads + Sync + Abort>(
+    rt: &R,
+    alloc: Global,
+    call: &str,
+    stops: &[(u64, u32)],
+) -> Result<(), Fail> {
+    let (_, whole) = ended(rt, alloc, call, 0, (0, 0))?;
+    for (put, keep) in stops {
+        let (status, written) = ended(rt, alloc, call, 0, (*put, *keep))?;
+        let before = if *put == 1 { 0usize } else { 4096 };
+        if before < whole.len() {
+            let len = whole.len().min(before + (*keep as usize).min(4096));
+            assert_eq!(rt; status, Status::SinkFault, "{call}: {put} {keep}");
+            assert_eq!(rt;
+                written.as_slice(),
+                &whole.as_slice()[..len],
+                "{call}: {put} {keep}"
+            );
+        } else {
+            assert_eq!(rt; status, Status::Done, "{call}");
+            assert_eq!(rt; written.as_slice(), whole.as_slice(), "{call}");
+        }
+    }
+    Ok(())
+}
+
+/// A form that puts more after a put that failed, or says that all is done, fails here.
+#[test]
+fn each_put_fails_in_turn(rt: HostRuntime) -> Result<(), Fail> {
+    for (call, _) in CALLS {
+        puts_fail(&rt, rt.alloc(), call, &STOPS)?;
+    }
+    Ok(())
+}
+
+#[test]
+fn a_generated_run_loads_nothing_and_its_put_fails(rt: HostRuntime) -> Result<(), Fail> {
+    let alloc = rt.alloc();
+    let (status, _) = ended(&rt, alloc, "gen 5", 1, (0, 0))?;
+    assert_eq!(rt; status, Status::Done);
+    puts_fail(&rt, alloc, "gen 5", &[(1, 0), (1, 10)])
+}

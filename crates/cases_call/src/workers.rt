@@ -1,0 +1,309 @@
+//! Runs of several tiles whose workers a gate holds back, or nobody.
+
+use crate::calls::words;
+use feast_base::{Gate, MemShelf, MemSink, OpenGate, Source};
+use feast_run::{Status, feast};
+use std::alloc::Global;
+use std::sync::atomic::{AtomicU64, Ordering};
+use std::test::Fail;
+use std::thread::Threads;
+
+const WALKER: &str = "element Walker { EventWindow ew; Void behave() { ew.swap(0, 4); } }";
+
+const COUNTER: &str = "ulam 5;
+use EventWindow;
+use Random;
+quark Tally {
+  Unsigned(5) count;
+  Void bump() { count += 1; }
+}
+element Counter {
+  EventWindow ew;
+  Random random;
+  Tally tally;
+  Bool met;
+  Void behave() {
+    Unsigned i = random.create(4) + 1;
+    Atom other = ew[i];
+    if (other as Counter) {
+      if (other.met) { met = true; }
+      tally.bump();
+    }
+    else if (other is Empty) ew.swap(0, i);
+  }
+}
+";
+
+/// Two tiles, and an attempt of each at their border.
+const BORDER: &str = "feast 1
+tiles 2 1
+size 16 16
+try 0 15 4 0000000000000000
+try 1 16 4 0000000000000000
+atom 15 4 Walker
+";
+
+/// The same with a further attempt of tile 0, away from the border.
+const BORDER_THEN_ZERO: &str = "feast 1
+tiles 2 1
+size 16 16
+try 0 15 4 0000000000000000
+try 1 16 4 0000000000000000
+try 0 3 3 0000000000000000
+atom 15 4 Walker
+";
+
+/// The same with a further attempt of tile 1, away from the border.
+const BORDER_THEN_ONE: &str = "feast 1
+tiles 2 1
+size 16 16
+try 0 15 4 0000000000000000
+try 1 16 4 0000000000000000
+try 1 24 3 0000000000000000
+atom 15 4 Walker
+";
+
+/// Four tiles with an atom each at the corner where they meet.
+const CORNER: &str = "feast 1
+tiles 2 2
+size 16 16
+seed 7
+attempts 200
+atom 15 15 Counter
+atom 16 15 Counter
+atom 15 16 Counter
+atom 16 16 Counter
+";
+
+/// The most turns for which a gate holds an attempt back.
+const MOST_TURNS: u32 = 1_000_000_000;
+
+/// An attempt that is held back until the other of two tiles has come to the gate with an attempt of
+/// its own.
+#[derive(Clone, Copy)]
+struct Keep {
+    tile: u32,
+    attempt: u64,
+    /// The other tile's attempt.
+    until: u64,
+}
+
+/// A gate that holds back some attempts of two tiles. It finally lets an attempt go if nobody
+/// comes.
+#[derive(Drop)]
+struct KeepingGate<'a> {
+    keeps: &'a [Keep],
+    /// How many attempts of tile 0 have come, in order from 0 on.
+    zero: AtomicU64,
+    /// The same of tile 1.
+    one: AtomicU64,
+    /// How many were let go though nobody came.
+    missed: AtomicU64,
+}
+
+impl<'a> KeepingGate<'a> {
+    /// A gate to which nobody has come.
+    fn new(keeps: &'a [Keep]) -> KeepingGate<'a> {
+        KeepingGate {
+            keeps,
+            zero: AtomicU64::new(0),
+            one: AtomicU64::new(0),
+            missed: AtomicU64::new(0),
+        }
+    }
+
+    /// How many attempts of tile 0, or of the other tile, have come.
+    fn come(&self, tile: u32) -> &AtomicU64 {
+        if tile == 0 { &self.zero } else { &self.one }
+    }
+
+    /// Notes an attempt, if it is the next of its tile: only its own tile's worker notes it.
+    fn note(&self, tile: u32, attempt: u64) {
+        let come = self.come(tile);
+        if come.load(Ordering::SeqCst) == attempt {
+            come.fetch_add(1, Ordering::SeqCst);
+        }
+    }
+
+    /// Waits until the other tile has come with this attempt, for at most as many turns as it may.
+    fn wait(&self, tile: u32, until: u64) {
+        for _turn in 0..MOST_TURNS {
+            if self.come(1 - tile.min(1)).load(Ordering::SeqCst) > until {
+                return;
+            }
+        }
+        self.missed.fetch_add(1, Ordering::SeqCst);
+    }
+}
+
+impl Gate for KeepingGate<'_> {
+    fn reach(&self, tile: u32, attempt: u64) {
+        self.note(tile, attempt);
+        for keep in self.keeps {
+            if keep.tile == tile && keep.attempt == attempt {
+                self.wait(tile, keep.until);
+            }
+        }
+    }
+}
+
+/// A file in memory.
+fn source(alloc: Global, name: &str, text: &str) -> Result<Source, Fail> {
+    let bytes = Vec::from_slice(alloc, text.as_bytes())?;
+    Ok(Source::new(alloc, name, bytes)?)
+}
+
+/// What a call over these files appends, if it is Done.
+fn shown<R: Threads + Sync, G: Gate>(
+    rt: &R,
+    alloc: Global,
+    text: &str,
+    files: Vec<Source>,
+    gate: &G,
+) -> Result<Option<String>, Fail> {
+    let words = words(alloc, text)?;
+    let mut shelf = MemShelf::new(alloc, files, Vec::new(alloc));
+    let mut sink = MemSink::new(alloc, Vec::new(alloc), 1_000_000)?;
+    let status = feast(rt, alloc, words.as_slice(), &mut shelf, &mut sink, gate);
+    if status != Status::Done {
+        return Ok(None);
+    }
+    match str::from_utf8(sink.written()) {
+        Ok(text) => Ok(Some(String::from_str(alloc, text)?)),
+        Err(_) => Ok(None),
+    }
+}
+
+/// The report of a run, and the atoms of its replay.
+fn run_and_replay<R: Threads + Sync, G: Gate>(
+    rt: &R,
+    alloc: Global,
+    world: &str,
+    element: &str,
+    gate: &G,
+) -> Result<Option<(String, String)>, Fail> {
+    let files = vec![in alloc; source(alloc, "w", world)?, source(alloc, "e", element)?]?;
+    let Some(report) = shown(rt, alloc, "run w e", files, gate)? else {
+        return Ok(None);
+    };
+    let files = vec![in alloc;
+        source(alloc, "w", world)?,
+        source(alloc, "e", element)?,
+        source(alloc, "j", report.as_str())?,
+    ]?;
+    match shown(rt, alloc, "replay w j e", files, &OpenGate)? {
+        Some(atoms) => Ok(Some((report, atoms))),
+        None => Ok(None),
+    }
+}
+
+/// Whether a report begins with these atoms, and goes on with its journal.
+fn has_atoms(report: &str, atoms: &str) -> bool {
+    match report.strip_prefix(atoms) {
+        Some(rest) => rest.starts_with("journal "),
+        None => false,
+    }
+}
+
+/// How many events and abandoned attempts a report has: the numbers after these two words.
+fn entries(report: &str) -> u64 {
+    let mut sum = 0u64;
+    for line in report.lines() {
+        let digits = match line.split_once(' ') {
+            Some(("journal" | "abandoned", digits)) => digits,
+            _ => continue,
+        };
+        if let Ok(count) = digits.parse::<u64>() {
+            sum = sum.saturating_add(count);
+        }
+    }
+    sum
+}
+
+/// Whether a run with these attempts held back has this many entries and is replayed to its own
+/// atoms, and the gate let nobody go in vain.
+fn meets<R: Threads + Sync>(
+    rt: &R,
+    alloc: Global,
+    world: &str,
+    keeps: &[Keep],
+    count: u64,
+    report: Option<&str>,
+) -> Result<bool, Fail> {
+    let gate = KeepingGate::new(keeps);
+    let Some((shown, atoms)) = run_and_replay(rt, alloc, world, WALKER, &gate)? else {
+        return Ok(false);
+    };
+    let told = match report {
+        Some(report) => shown.as_str() == report,
+        None => true,
+    };
+    Ok(
+        told && has_atoms(shown.as_str(), atoms.as_str())
+            && entries(shown.as_str()) == count
+            && gate.missed.load(Ordering::SeqCst) == 0,
+    )
+}
+
+/// The first attempt of each tile waits for the first of the other, so both are at the gate at once.
+/// A run on one thread fails here, whichever tile acts first.
+#[test]
+fn two_workers_are_at_the_gate_at_once(rt: HostRuntime) -> Result<(), Fail> {
+    let keeps = [
+        Keep {
+            tile: 0,
+            attempt: 0,
+            until: 0,
+        },
+        Keep {
+            tile: 1,
+            attempt: 0,
+            until: 0,
+        },
+    ];
+    assert!(rt; meets(&rt, rt.alloc(), BORDER, &keeps, 2, None)?);
+    Ok(())
+}
+
+/// Tile 1's attempt waits for attempt 1 of tile 0, so nobody has the edge when it comes. A worker that
+/// gives up at an edge that nobody holds fails here, and one that calls its gate with attempt 0 alone.
+#[test]
+fn the_higher_tile_comes_second(rt: HostRuntime) -> Result<(), Fail> {
+    let keeps = [Keep {
+        tile: 1,
+        attempt: 0,
+        until: 1,
+    }];
+    let report =
+        "feast 1\natoms 1\n17 4 Walker 000000000000000000\njournal 3\n1 0 0 15 4 0000000000000000\n2 0 1 3 3 0000000000000000\n2 1 0 16 4 0000000000000000\nabandoned 0\n";
+    assert!(rt; meets(&rt, rt.alloc(), BORDER_THEN_ZERO, &keeps, 3, Some(report))?);
+    Ok(())
+}
+
+/// The same the other way round. A run in an order of its own, whatever its gates let through, fails
+/// one of these two.
+#[test]
+fn the_lower_tile_comes_second(rt: HostRuntime) -> Result<(), Fail> {
+    let keeps = [Keep {
+        tile: 0,
+        attempt: 0,
+        until: 1,
+    }];
+    let report =
+        "feast 1\natoms 1\n16 4 Walker 000000000000000000\njournal 3\n1 1 0 16 4 0000000000000000\n2 0 0 15 4 0000000000000000\n2 1 1 24 3 0000000000000000\nabandoned 0\n";
+    assert!(rt; meets(&rt, rt.alloc(), BORDER_THEN_ONE, &keeps, 3, Some(report))?);
+    Ok(())
+}
+
+#[test]
+fn each_attempt_of_four_tiles_is_an_entry(rt: HostRuntime) -> Result<(), Fail> {
+    let alloc = rt.alloc();
+    for _run in 0..10 {
+        let Some((report, atoms)) = run_and_replay(&rt, alloc, CORNER, COUNTER, &OpenGate)? else {
+            return Err(Fail::from("no report"));
+        };
+        assert_eq!(rt; entries(report.as_str()), 800);
+        assert!(rt; has_atoms(report.as_str(), atoms.as_str()));
+    }
+    Ok(())
+}

@@ -1,0 +1,146 @@
+//! Small programs in stack code, each with what it leaves, and numbers of steps. The values were
+//! worked out independently of the machine.
+
+use crate::acting::{act, centred, code, ends, fails};
+use bit_field::Atom;
+use event_machine::Ended;
+use feast_base::Name;
+use sat_math::Kind;
+use stack_code::Instr::*;
+use stack_code::{Answer, Instr, Operand, RawCode, RawFunction};
+use std::alloc::Global;
+use std::test::Fail;
+use window_sites::Window;
+
+/// The state of the centre and the steps after two ways of which a number chooses one.
+fn chosen(alloc: Global, number: i128) -> Result<(u128, u64), Fail> {
+    let ways = [
+        PushNum(number),
+        JumpFalse(4),
+        PushNum(1),
+        Jump(5),
+        PushNum(2),
+        StoreField(0, 64, Kind::Bits),
+        ReturnVoid,
+    ];
+    Ok(match act(alloc, code(alloc, &ways)?, centred())? {
+        None => (0, 0),
+        Some(o) => (o.window.get(0).state(), o.steps),
+    })
+}
+
+#[test]
+fn zero_jumps_and_another_number_goes_on(rt: HostRuntime) -> Result<(), Fail> {
+    let alloc = rt.alloc();
+    assert_eq!(rt; chosen(alloc, 0)?, (256, 5));
+    assert_eq!(rt; chosen(alloc, -3)?, (128, 6));
+    Ok(())
+}
+
+#[test]
+fn windows_after_swaps_and_stores(rt: HostRuntime) -> Result<(), Fail> {
+    let alloc = rt.alloc();
+    let mut moved = Window::empty();
+    moved.put(4, Atom::new(1, 0));
+    assert!(rt; ends(alloc, &[PushNum(0), PushNum(4), Swap, ReturnVoid], moved)?);
+    let mut stored = centred();
+    stored.put(7, Atom::new(9, 0));
+    assert!(rt;
+        ends(
+            alloc,
+            &[PushNum(7), PushAtom(9), StoreSite, ReturnVoid],
+            stored
+        )?
+    );
+    Ok(())
+}
+
+/// Instructions that fail, with the number of the failure and the steps up to it.
+const FAILURES: [(&[Instr], u8, u64); 11] = [
+    (&[Turn, Jump(0)], 1, 2_001),
+    (
+        &[PushNum(1), JumpFalse(4), Turn, Jump(0), ReturnVoid],
+        1,
+        4_003,
+    ),
+    (&[Call(0), ReturnVoid], 2, 17),
+    (&[PushNum(1), PushNum(0), DivI, Pop, ReturnVoid], 3, 3),
+    (&[PushNum(1), PushNum(0), RemV, Pop, ReturnVoid], 3, 3),
+    (&[PushNum(41), LoadSite, Pop, ReturnVoid], 4, 2),
+    (&[PushNum(0), PushNum(-1), Swap, ReturnVoid], 4, 3),
+    (&[PushNum(0), RandCreate, Pop, ReturnVoid], 5, 2),
+    (
+        &[PushNum(0), PushNum(1), Swap, LoadSelf, Pop, ReturnVoid],
+        6,
+        4,
+    ),
+    (
+        &[
+            PushNum(4),
+            LoadFieldAt(0, 3, Kind::Bits, 4),
+            Pop,
+            ReturnVoid,
+        ],
+        7,
+        2,
+    ),
+    (
+        &[
+            PushNum(4),
+            PushNum(1),
+            StorePartAt(1, 0, 3, Kind::Bits, 4),
+            ReturnVoid,
+        ],
+        7,
+        3,
+    ),
+];
+
+#[test]
+fn failures_have_their_numbers_and_steps(rt: HostRuntime) -> Result<(), Fail> {
+    for (instrs, number, steps) in FAILURES {
+        assert!(rt;
+            fails(rt.alloc(), instrs, number, steps)?,
+            "failure {number} after {steps} steps"
+        );
+    }
+    Ok(())
+}
+
+/// A function without parameters and slots, then one of two parameters that gives their
+/// difference. `end` stands where the first ends.
+fn calling(alloc: Global, end: Instr) -> Result<RawCode, Fail> {
+    let none = Vec::new(alloc);
+    let main = RawFunction::new(Name::new(alloc, b"behave")?, 0, 0, 0, none, Answer::Nothing);
+    let slots = vec![in alloc; Operand::Number, Operand::Number, Operand::Number]?;
+    let sub = RawFunction::new(Name::new(alloc, b"sub")?, 0, 6, 2, slots, Answer::Number);
+    let instrs = [
+        PushNum(100),
+        PushNum(9),
+        PushNum(4),
+        Call(1),
+        StoreField(0, 64, Kind::Bits),
+        end,
+        LoadLocal(0),
+        LoadLocal(1),
+        SubI,
+        Return,
+    ];
+    let instrs = Vec::from_slice(alloc, &instrs)?;
+    Ok(RawCode::new(1, vec![in alloc; main, sub]?, instrs))
+}
+
+#[test]
+fn calls_take_their_arguments_in_order(rt: HostRuntime) -> Result<(), Fail> {
+    let alloc = rt.alloc();
+    let outward = act(alloc, calling(alloc, Jump(9))?, centred())?;
+    assert!(rt; outward.is_none(), "a jump out of the function");
+    match act(alloc, calling(alloc, ReturnVoid)?, centred())? {
+        None => assert!(rt; false, "valid"),
+        Some(o) => {
+            assert_eq!(rt; (o.ended, o.steps), (Ended::Done, 10));
+            assert_eq!(rt; o.window.get(0), Atom::new(1, 5 * 128));
+        }
+    }
+    Ok(())
+}

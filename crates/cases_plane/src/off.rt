@@ -1,0 +1,275 @@
+//! Planes some tiles of which are off.
+
+use crate::planes::{are, register, told};
+use feast_base::NoMemory;
+use tile_map::Map;
+
+#[test]
+fn a_tile_that_is_off_holds_nothing_and_has_no_edge(rt: HostRuntime) -> Result<(), NoMemory> {
+    let map = Map::with_off(rt.alloc(), 3, 1, 8, 8, &[false, true, false])?;
+    assert_eq!(rt; (map.tiles(), map.edges()), (3, 0));
+    assert_eq!(rt;
+        (map.is_on(0), map.is_on(1), map.is_on(2)),
+        (true, false, true)
+    );
+    assert_eq!(rt;
+        (
+            map.is_live(7, 0),
+            map.is_live(8, 0),
+            map.is_live(15, 7),
+            map.is_live(16, 7)
+        ),
+        (true, false, false, true)
+    );
+    assert_eq!(rt;
+        (
+            map.holds(0, 7, 0),
+            map.holds(0, 8, 0),
+            map.holds(1, 8, 0),
+            map.holds(1, 7, 0)
+        ),
+        (true, false, false, false)
+    );
+    assert!(rt; are(&map.needs(0, 7, 4), &[]));
+    Ok(())
+}
+
+/// The pairs of neighbours among 3 by 3 tiles.
+const PAIRS: [(u32, u32); 20] = [
+    (0, 1),
+    (0, 3),
+    (0, 4),
+    (1, 2),
+    (1, 3),
+    (1, 4),
+    (1, 5),
+    (2, 4),
+    (2, 5),
+    (3, 4),
+    (3, 6),
+    (3, 7),
+    (4, 5),
+    (4, 6),
+    (4, 7),
+    (4, 8),
+    (5, 7),
+    (5, 8),
+    (6, 7),
+    (7, 8),
+];
+
+/// A plane of 3 by 3 tiles of 8 by 8 sites.
+struct Corners {
+    /// Which of the tiles 0, 2, 6 and 8 are off.
+    off: [bool; 4],
+    /// How many sites each pair of neighbours shares, or 0 if it has no edge.
+    shared: [u32; 20],
+    /// The edges that events of tile 4 at (8, 8) and at (15, 11), and of tile 1 at (8, 6), need.
+    needs: [&'static [u32]; 3],
+}
+
+/// Each set of corners, computed site by site.
+const CORNERS: [Corners; 16] = [
+    Corners {
+        off: [false, false, false, false],
+        shared: [
+            96, 96, 64, 96, 64, 128, 64, 64, 96, 128, 96, 64, 128, 64, 128, 64, 64, 96, 96, 96,
+        ],
+        needs: [
+            &[2, 5, 7, 9, 12, 13, 14],
+            &[2, 5, 7, 9, 12, 14, 15],
+            &[0, 3, 4, 5, 6],
+        ],
+    },
+    Corners {
+        off: [true, false, false, false],
+        shared: [
+            0, 0, 0, 96, 48, 112, 64, 64, 96, 112, 96, 64, 128, 64, 128, 64, 64, 96, 96, 96,
+        ],
+        needs: [&[2, 4, 6, 9, 10, 11], &[2, 4, 6, 9, 11, 12], &[0, 1, 2, 3]],
+    },
+    Corners {
+        off: [false, true, false, false],
+        shared: [
+            96, 96, 64, 0, 64, 112, 48, 0, 0, 128, 96, 64, 112, 64, 128, 64, 64, 96, 96, 96,
+        ],
+        needs: [&[2, 4, 6, 9, 10, 11], &[2, 4, 6, 9, 11, 12], &[0, 3, 4, 5]],
+    },
+    Corners {
+        off: [true, true, false, false],
+        shared: [
+            0, 0, 0, 0, 48, 96, 48, 0, 0, 112, 96, 64, 112, 64, 128, 64, 64, 96, 96, 96,
+        ],
+        needs: [&[1, 3, 6, 7, 8], &[1, 3, 6, 8, 9], &[0, 1, 2]],
+    },
+    Corners {
+        off: [false, false, true, false],
+        shared: [
+            96, 96, 64, 96, 64, 128, 64, 64, 96, 112, 0, 48, 128, 0, 112, 64, 64, 96, 0, 96,
+        ],
+        needs: [
+            &[2, 5, 7, 9, 11, 12],
+            &[2, 5, 7, 9, 11, 12, 13],
+            &[0, 3, 4, 5, 6],
+        ],
+    },
+    Corners {
+        off: [true, false, true, false],
+        shared: [
+            0, 0, 0, 96, 48, 112, 64, 64, 96, 96, 0, 48, 128, 0, 112, 64, 64, 96, 0, 96,
+        ],
+        needs: [&[2, 4, 6, 8, 9], &[2, 4, 6, 8, 9, 10], &[0, 1, 2, 3]],
+    },
+    Corners {
+        off: [false, true, true, false],
+        shared: [
+            96, 96, 64, 0, 64, 112, 48, 0, 0, 112, 0, 48, 112, 0, 112, 64, 64, 96, 0, 96,
+        ],
+        needs: [&[2, 4, 6, 8, 9], &[2, 4, 6, 8, 9, 10], &[0, 3, 4, 5]],
+    },
+    Corners {
+        off: [true, true, true, false],
+        shared: [
+            0, 0, 0, 0, 48, 96, 48, 0, 0, 96, 0, 48, 112, 0, 112, 64, 64, 96, 0, 96,
+        ],
+        needs: [&[1, 3, 5, 6], &[1, 3, 5, 6, 7], &[0, 1, 2]],
+    },
+    Corners {
+        off: [false, false, false, true],
+        shared: [
+            96, 96, 64, 96, 64, 128, 64, 64, 96, 128, 96, 64, 112, 64, 112, 0, 48, 0, 96, 0,
+        ],
+        needs: [
+            &[2, 5, 7, 9, 12, 13, 14],
+            &[2, 5, 7, 9, 12, 14],
+            &[0, 3, 4, 5, 6],
+        ],
+    },
+    Corners {
+        off: [true, false, false, true],
+        shared: [
+            0, 0, 0, 96, 48, 112, 64, 64, 96, 112, 96, 64, 112, 64, 112, 0, 48, 0, 96, 0,
+        ],
+        needs: [&[2, 4, 6, 9, 10, 11], &[2, 4, 6, 9, 11], &[0, 1, 2, 3]],
+    },
+    Corners {
+        off: [false, true, false, true],
+        shared: [
+            96, 96, 64, 0, 64, 112, 48, 0, 0, 128, 96, 64, 96, 64, 112, 0, 48, 0, 96, 0,
+        ],
+        needs: [&[2, 4, 6, 9, 10, 11], &[2, 4, 6, 9, 11], &[0, 3, 4, 5]],
+    },
+    Corners {
+        off: [true, true, false, true],
+        shared: [
+            0, 0, 0, 0, 48, 96, 48, 0, 0, 112, 96, 64, 96, 64, 112, 0, 48, 0, 96, 0,
+        ],
+        needs: [&[1, 3, 6, 7, 8], &[1, 3, 6, 8], &[0, 1, 2]],
+    },
+    Corners {
+        off: [false, false, true, true],
+        shared: [
+            96, 96, 64, 96, 64, 128, 64, 64, 96, 112, 0, 48, 112, 0, 96, 0, 48, 0, 0, 0,
+        ],
+        needs: [
+            &[2, 5, 7, 9, 11, 12],
+            &[2, 5, 7, 9, 11, 12],
+            &[0, 3, 4, 5, 6],
+        ],
+    },
+    Corners {
+        off: [true, false, true, true],
+        shared: [
+            0, 0, 0, 96, 48, 112, 64, 64, 96, 96, 0, 48, 112, 0, 96, 0, 48, 0, 0, 0,
+        ],
+        needs: [&[2, 4, 6, 8, 9], &[2, 4, 6, 8, 9], &[0, 1, 2, 3]],
+    },
+    Corners {
+        off: [false, true, true, true],
+        shared: [
+            96, 96, 64, 0, 64, 112, 48, 0, 0, 112, 0, 48, 96, 0, 96, 0, 48, 0, 0, 0,
+        ],
+        needs: [&[2, 4, 6, 8, 9], &[2, 4, 6, 8, 9], &[0, 3, 4, 5]],
+    },
+    Corners {
+        off: [true, true, true, true],
+        shared: [
+            0, 0, 0, 0, 48, 96, 48, 0, 0, 96, 0, 48, 96, 0, 96, 0, 48, 0, 0, 0,
+        ],
+        needs: [&[1, 3, 5, 6], &[1, 3, 5, 6], &[0, 1, 2]],
+    },
+];
+
+/// Whether the edges of a plane of 3 by 3 tiles share this many sites each.
+fn share(map: &Map, shared: &[u32; 20]) -> bool {
+    let mut edges = 0..map.edges();
+    for ((lower, higher), sites) in PAIRS.iter().zip(shared) {
+        if *sites > 0 {
+            let Some(edge) = edges.next() else {
+                return false;
+            };
+            match told(map, edge) {
+                Some((low, high, count, _)) if (low, high, count) == (*lower, *higher, *sites) => {}
+                _ => return false,
+            }
+        }
+    }
+    edges.next().is_none()
+}
+
+#[test]
+fn corners_that_are_off_take_their_strips_along(rt: HostRuntime) -> Result<(), NoMemory> {
+    for corners in &CORNERS {
+        let [a, b, c, d] = corners.off;
+        let off = [a, false, b, false, false, false, c, false, d];
+        let map = Map::with_off(rt.alloc(), 3, 3, 8, 8, &off)?;
+        let [middle, east, north] = corners.needs;
+        assert!(rt; share(&map, &corners.shared), "{off:?}");
+        assert!(rt; are(&map.needs(4, 8, 8), middle), "{off:?}");
+        assert!(rt; are(&map.needs(4, 15, 11), east), "{off:?}");
+        assert!(rt; are(&map.needs(1, 8, 6), north), "{off:?}");
+    }
+    Ok(())
+}
+
+#[test]
+fn sites_that_are_off_have_no_register(rt: HostRuntime) -> Result<(), NoMemory> {
+    let off = [true, false, false, false, false, false, false, false, false];
+    let map = Map::with_off(rt.alloc(), 3, 3, 8, 8, &off)?;
+    let sites = [
+        (1, 8, 4, Some(1)),
+        (1, 11, 4, Some(7)),
+        (1, 8, 5, Some(9)),
+        (1, 8, 7, Some(25)),
+        (1, 4, 8, Some(33)),
+        (1, 11, 11, Some(95)),
+        (1, 7, 7, None),
+        (1, 4, 4, None),
+        (1, 3, 8, None),
+        (2, 19, 4, Some(23)),
+        (2, 4, 8, Some(97)),
+        (2, 8, 8, Some(105)),
+        (2, 19, 11, Some(223)),
+        (2, 7, 7, None),
+    ];
+    for (edge, x, y, found) in sites {
+        assert_eq!(rt;
+            register(&map, edge, x, y),
+            found,
+            "edge {edge} at {x}, {y}"
+        );
+    }
+    Ok(())
+}
+
+#[test]
+fn windows_reach_out_of_a_tile_that_is_off(rt: HostRuntime) -> Result<(), NoMemory> {
+    let off = [true, false, false, false, false, false, false, false, false];
+    let map = Map::with_off(rt.alloc(), 3, 3, 8, 8, &off)?;
+    assert!(rt; are(&map.needs(1, 4, 4), &[1, 2]));
+    assert!(rt; are(&map.needs(4, 7, 7), &[2, 6]));
+    assert!(rt; are(&map.needs(4, 5, 7), &[2, 6]));
+    assert!(rt; are(&map.needs(4, 0, 0), &[]));
+    assert!(rt; are(&map.needs(0, 4, 4), &[]));
+    Ok(())
+}

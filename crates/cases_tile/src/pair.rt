@@ -1,0 +1,146 @@
+//! Two tiles of 16 by 16 beside each other, on one board.
+ghost use Rattle.std.specs.Prelude.{◌≡◌, ◌≢◌, ◌<◌, ℕ, List, IfOk};
+ghost use Rattle.bit_field.specs.Atom.{AtomValue};
+ghost use Rattle.tile_map.specs.Plane.{Site, whole_plane};
+ghost use Rattle.border_cache.specs.Copies.{IsGridOf};
+ghost use Rattle.cell_grid.specs.Tried.{after_turn};
+ghost use Rattle.draw_stream.specs.declared.attempt.Attempt.{Attempt};
+ghost use Rattle.tile_core.specs.Values.{TileValue};
+ghost use Rattle.tile_core.specs.Underway.{IsFreshTile};
+ghost use Rattle.tile_core.specs.Boards.{IsBoardOf, IsOnBoard};
+ghost use Rattle.cases_tile.specs.Pairs.{IsPair};
+
+use crate::alone::Turn;
+use crate::counted::CountedBoard;
+use bit_field::Atom;
+use cell_grid::Grid;
+use draw_stream::{Attempt, AttemptPlan, Script};
+use edge_lock::PlainBoard;
+use feast_base::NoMemory;
+use std::alloc::Global;
+use tile_core::{Phase, Tile};
+use tile_map::Map;
+
+/// Two tiles, the board that both act on, and their map.
+#[derive(Drop)]
+pub struct Pair {
+    /// The plane.
+    pub map: Map,
+    /// Tile 0.
+    pub left: Tile<Turn>,
+    /// Tile 1.
+    pub right: Tile<Turn>,
+    /// The board.
+    pub board: CountedBoard,
+}
+
+/// One of the two tiles.
+#[derive(Clone, Copy)]
+pub enum Side {
+    /// Tile 0.
+    Left,
+    /// Tile 1.
+    Right,
+}
+
+/// The grid at the start: one atom at (15, 4), beside the border.
+fn first_grid(alloc: Global, map: &Map) -> Result<Grid, NoMemory>
+    requires { map.now ≡ whole_plane 2 1 16 16 }
+    ensures { IfOk result (λ g. IsGridOf map.now g) }
+{
+    let mut start = Grid::new(alloc, 32, 16)?;
+    start.set(15, 4, Atom::new(1, 0));
+    Ok(start)
+}
+
+/// A tile that has one attempt, at this position.
+fn tile(
+    alloc: Global,
+    map: &Map,
+    number: u32,
+    start: &Grid,
+    centre: u32,
+) -> Result<Tile<Turn>, NoMemory>
+    requires map { map.now ≡ whole_plane 2 1 16 16 }
+    requires start { IsGridOf map.now start.now }
+    requires number { number < 2 }
+    requires centre { centre < 256 }
+    ensures { IfOk result (λ t. (at_first : Site → AtomValue) × (attempts : List Attempt) × IsFreshTile map.now number at_first attempts t.0) }
+{
+    let list = vec![in alloc; Attempt { centre, seed: 0 }]?;
+    let plan = AttemptPlan::scripted(vec![in alloc; Script::new(list)]?);
+    let attempts = plan.of_tile(alloc, 0)?;
+    let tile = Tile::new(alloc, map, number, start, attempts, Turn)?;
+    Ok(tile)
+}
+
+/// One step of a tile on a board where others are underway too.
+fn advance(tile: &mut Tile<Turn>, map: &Map, board: &mut CountedBoard) -> Phase
+    requires board { IsBoardOf map.now board.old.board }
+    requires tile { IsOnBoard map.now after_turn tile.old.0 board.old.board }
+    ensures phase { result ≡ tile.new.0.phase }
+    ensures number { tile.new.0.number ≡ tile.old.0.number }
+    ensures board { IsBoardOf map.now board.new.board }
+    ensures tile { IsOnBoard map.now after_turn tile.new.0 board.new.board }
+    ensures others { (other : TileValue) → other.number ≢ tile.old.0.number → IsOnBoard map.now after_turn other board.old.board → IsOnBoard map.now after_turn other board.new.board }
+{
+    board.board.turn_to(tile.number());
+    tile.advance(map, board)
+}
+
+impl Pair {
+    /// Two tiles with one attempt each, at the two sides of their border: (15, 4), where an atom is,
+    /// and (16, 4).
+    pub fn new(alloc: Global) -> Result<Pair, NoMemory>
+        ensures { IfOk result (λ p. IsPair p) }
+    {
+        let map = Map::new(alloc, 2, 1, 16, 16)?;
+        let start = first_grid(alloc, &map)?;
+        let left = tile(alloc, &map, 0, &start, 79)?;
+        let right = tile(alloc, &map, 1, &start, 64)?;
+        let plain = PlainBoard::new(alloc, &map)?;
+        let board = CountedBoard {
+            board: plain,
+            sites: 128,
+            cells: 0,
+        };
+        Ok(Pair {
+            map,
+            left,
+            right,
+            board,
+        })
+    }
+
+    /// One step of one of the tiles; answers the phase that follows.
+    pub fn step(&mut self, side: Side) -> Phase
+        requires { IsPair self.old }
+        ensures { IsPair self.new }
+    {
+        match side {
+            Side::Left => advance(&mut self.left, &self.map, &mut self.board),
+            Side::Right => advance(&mut self.right, &self.map, &mut self.board),
+        }
+    }
+
+    /// One step of one tile after another; answers the phases that follow.
+    pub fn steps(&mut self, alloc: Global, order: &[Side]) -> Result<Vec<Phase>, NoMemory>
+        requires { IsPair self.old }
+        ensures { IsPair self.new }
+    {
+        let mut phases = Vec::new(alloc);
+        for side in order {
+            phases.push(self.step(*side))?;
+        }
+        Ok(phases)
+    }
+
+    /// How many news bits of an end of the edge between the tiles are 1.
+    pub fn news_bits(&mut self, end: u32) -> u32
+        requires pair { IsPair self.old }
+        requires end { end < 2 }
+        ensures { IsPair self.new }
+    {
+        self.board.news_bits(&self.map, 0, end)
+    }
+}

@@ -1,5 +1,0 @@
-use Rattle.code_gen.proofs.ElementMeans.{element_means}
-use Rattle.code_gen.proofs.element_law.same_meaning.Goals as goal
-
-pub returns : goal.returns
-returns c = element_means

@@ -1,0 +1,5 @@
+use Rattle.code_gen.proofs.ElementMeans.{element_means}
+use Rattle.code_gen.proofs.law.same_meaning.Goals as goal
+
+pub returns : goal.returns
+returns c = element_means

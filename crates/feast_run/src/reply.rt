@@ -1,0 +1,103 @@
+//! The reply to the words of a call.
+ghost use Rattle.std.specs.Prelude.{◌≡◌, IfOk, MatchResult, Some, map, string_bytes};
+ghost use Rattle.element_set.specs.Sets.{Coded};
+ghost use Rattle.feast_base.specs.Outside.{shelf_state};
+ghost use Rattle.feast_base.specs.Refusals.{refusal_line};
+ghost use Rattle.feast_run.specs.Ending.{ComesTo, KeepsOrMisses, status_of_input};
+ghost use Rattle.feast_run.specs.Forms.{IsFew, form_of, form_value};
+ghost use Rattle.feast_run.specs.Outputs.{IsWritable, output_text};
+
+use crate::Status;
+use crate::form::{Form, read_form};
+use crate::halt::{Halt, Input};
+use crate::loading::{UNREADABLE, USAGE, whole_file};
+use crate::output::Output;
+use crate::stages::form_stages;
+use feast_base::{Gate, NoMemory, Refusal, Shelf, print_refusal};
+use std::alloc::Global;
+use std::thread::Threads;
+
+/// The reply to a call: a status, and what is written with it.
+#[derive(Drop)]
+pub struct Reply {
+    pub status: Status,
+    pub output: Output,
+}
+
+/// The status of a refusal, by what it is about.
+fn status_of(input: Input) -> Status
+    ensures { result ≡ status_of_input input }
+{
+    match input {
+        Input::File => Status::Unreadable,
+        Input::Elements => Status::ElementRefused,
+        Input::World => Status::WorldRefused,
+        Input::Journal => Status::JournalRefused,
+        Input::Codes => Status::CodeRefused,
+    }
+}
+
+/// The reply to a refusal: its line.
+fn refuse(alloc: Global, status: Status, word: &str, refusal: &Refusal) -> Result<Reply, NoMemory>
+    requires { Coded refusal.now.code }
+    ensures line { IfOk result (λ reply. (reply.status ≡ status) × (output_text reply.output ≡ refusal_line word.now refusal.now)) }
+    ensures writable { IfOk result (λ reply. IsWritable reply.output) }
+{
+    let mut text = Vec::new(alloc);
+    print_refusal(word, refusal, &mut text)?;
+    Ok(Reply {
+        status,
+        output: Output::Text(text),
+    })
+}
+
+/// The reply to a form.
+#[tactic(auto, unfolding(feast_base::specs::Refusals::refusal_line))]
+fn reply_to_form<R: Threads + Sync, F: Shelf, G: Gate>(
+    rt: &R,
+    alloc: Global,
+    shelf: &mut F,
+    form: Form<'_>,
+    gate: &G,
+) -> Result<Reply, NoMemory>
+    requires { IsFew form }
+    ensures files { F.files shelf.new ≡ F.files shelf.old }
+    ensures says { let old = shelf_state F.files F.failed F.may_fail shelf.old in let new = shelf_state F.files F.failed F.may_fail shelf.new in let form = Some (form_value form.entry) in
+        MatchResult result (λ reply. ComesTo form old new reply.status (output_text reply.output)) (λ _. KeepsOrMisses form old new) }
+    ensures writable { IfOk result (λ reply. IsWritable reply.output) }
+{
+    match form_stages(rt, alloc, shelf, form, gate) {
+        Ok(output) => Ok(Reply {
+            status: Status::Done,
+            output,
+        }),
+        Err(Halt::Refused(r)) => refuse(alloc, status_of(r.input), r.word, &r.refusal),
+        Err(Halt::Missing(word)) => refuse(
+            alloc,
+            Status::Unreadable,
+            word,
+            &whole_file(UNREADABLE, 0),
+        ),
+        Err(Halt::NoMemory) => Err(NoMemory),
+    }
+}
+
+/// The reply to words.
+#[tactic(auto, unfolding(feast_base::specs::Refusals::refusal_line))]
+pub fn reply_to_words<R: Threads + Sync, F: Shelf, G: Gate>(
+    rt: &R,
+    alloc: Global,
+    shelf: &mut F,
+    words: &[String],
+    gate: &G,
+) -> Result<Reply, NoMemory>
+    ensures files { F.files shelf.new ≡ F.files shelf.old }
+    ensures says { let old = shelf_state F.files F.failed F.may_fail shelf.old in let new = shelf_state F.files F.failed F.may_fail shelf.new in let form = form_of (map string_bytes words.now) in
+        MatchResult result (λ reply. ComesTo form old new reply.status (output_text reply.output)) (λ _. KeepsOrMisses form old new) }
+    ensures writable { IfOk result (λ reply. IsWritable reply.output) }
+{
+    match read_form(words) {
+        Some(form) => reply_to_form(rt, alloc, shelf, form, gate),
+        None => refuse(alloc, Status::Usage, "", &whole_file(USAGE, 0)),
+    }
+}

@@ -1,0 +1,27 @@
+-- The types of the source.
+use Rattle.std.proofs.Common.{◌≡◌, true, List, refl, subst}
+use Rattle.std.specs.Prelude.{is_ok}
+use Rattle.ulam_names.specs.Scopes.{built_in, of_window, of_random}
+use Rattle.ulam_tree.specs.Locals.{all_locals}
+use Rattle.ulam_tree.specs.Typed as t
+use Rattle.ulam_tree.specs.Ways.{leads}
+use Rattle.ulam_types.proofs.Classes.{program_means}
+use Rattle.ulam_tree.proofs.Means.{Means}
+use Rattle.ulam_types.specs.Bodies.{body}
+use Rattle.ulam_types.specs.ProgramTyping.{IsTypedProgram}
+use Rattle.ulam_types.specs.Programs.{program}
+use Rattle.ulam_types.specs.Walk.{expr}
+use Rattle.generated_world.proofs.Found.{found, is_found}
+use Rattle.generated_world.proofs.Naming.{classes}
+use Rattle.generated_world.proofs.Trees.{tree}
+
+unfoldable pub typed : List t.Class
+typed = found (program classes)
+
+types_found : is_ok (program classes) ≡ true
+unfolding classes tree built_in of_window of_random leads all_locals body expr
+types_found = refl
+
+pub are_typed : IsTypedProgram classes typed
+unfolding typed
+are_typed = subst (Means (IsTypedProgram classes)) (is_found (program classes) types_found) (program_means classes)

@@ -1,8 +1,0 @@
-use Rattle.std.proofs.Common.{◌≡◌}
-use Rattle.grid_cases.proofs.grids.numbered.Given as goal
-
-abbrev pub invariant-loop-place : goal.invariant-loop-place
-invariant-loop-place g l = record {
-  columns : l.grid.width ≡ 16;
-  rows : l.grid.height ≡ 12;
-}

@@ -1,9 +1,0 @@
-use Rattle.std.proofs.Common.{◌≡◌, length}
-use Rattle.journal_check.specs.Telling.{of_tile}
-use Rattle.journal_check.proofs.telling.from_next.Given as goal
-
-abbrev pub invariant-loop-first : goal.invariant-loop-first
-invariant-loop-first l = of_tile l.tile l.left ≡ of_tile l.tile l.records
-
-abbrev pub decreases-loop-first : goal.decreases-loop-first
-decreases-loop-first l = length l.left

@@ -1,5 +1,0 @@
-use Rattle.order_cases.specs.Driven.{IsDriven}
-use Rattle.order_cases.proofs.driving.rest.Given as goal
-
-abbrev pub invariant-loop-n : goal.invariant-loop-n
-invariant-loop-n g l = IsDriven g.B.Behave.after l.map l.tiles l.board

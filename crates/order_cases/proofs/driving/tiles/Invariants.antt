@@ -1,9 +1,0 @@
-use Rattle.std.proofs.Common.{◌≡◌, length}
-use Rattle.order_cases.specs.Driven.{AreMade}
-use Rattle.order_cases.proofs.driving.tiles.Given as goal
-
-abbrev pub invariant-loop-tile : goal.invariant-loop-tile
-invariant-loop-tile g l = record {
-  count : length l.tiles.items ≡ l.tile;
-  fresh : AreMade g.B.Behave.after l.map (g.B.Behave.after l.behave) l.start l.plan l.tiles.items;
-}

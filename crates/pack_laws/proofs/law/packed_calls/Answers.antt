@@ -1,0 +1,19 @@
+use Rattle.std.proofs.Common.{[], ◌∷◌}
+use Rattle.feast_run.specs.Answer.{runs, steps}
+use Rattle.pack_laws.proofs.Empty.{is_packed}
+use Rattle.pack_laws.proofs.EmptyWorld.{shows, steps as stepped}
+use Rattle.pack_laws.proofs.Packs.{from_pack, one_shown, runs_from, runs_to, steps_from, steps_to, to_pack}
+use Rattle.pack_laws.specs.Example.{empty_word, example_files, packed_word, world_word}
+use Rattle.pack_laws.proofs.law.packed_calls.Goals as goal
+
+pub returns : goal.returns
+returns c = record {
+  written = λ files world file words packs a b. one_shown files words file packs world a b;
+  step = λ files world file words packs o l. (from_pack files words file packs world steps o l, to_pack files words file packs world steps o l);
+  run = λ files world file words packs o l. (from_pack files words file packs world runs o l, to_pack files words file packs world runs o l);
+  stepped = λ files world file words packs text. (steps_from files words file packs world text, steps_to files words file packs world text);
+  ran = λ files world file words packs text. (runs_from files words file packs world text, runs_to files words file packs world text);
+  example = is_packed;
+  example_ran = (shows.0, runs_to example_files (empty_word ∷ []) packed_word is_packed world_word shows.0 shows.1);
+  example_stepped = (stepped.0, steps_to example_files (empty_word ∷ []) packed_word is_packed world_word stepped.0 stepped.1);
+}

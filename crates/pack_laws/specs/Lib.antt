@@ -1,0 +1,3 @@
+pub mod Example
+pub mod Packed
+pub mod PackedFile

@@ -1,5 +1,0 @@
-mod Empty
-mod EmptyWorld
-mod Only
-mod Packs
-mod Shown

@@ -1,2 +1,0 @@
-pub mod PackedFile
-pub mod Example

@@ -1,5 +1,0 @@
-use Rattle.tile_cases.proofs.Pairs.{two_grid}
-use Rattle.tile_cases.proofs.pair.first_grid.Goals as goal
-
-pub returns : goal.returns
-returns c = two_grid c.args.map.now c.in_ok-start.start c.set.new.self _ c.requires c.in_ok-start.ensures c.set.ensures

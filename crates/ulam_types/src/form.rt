@@ -1,0 +1,129 @@
+//! Typed expressions from their parts.
+ghost use Rattle.std.specs.Prelude.{◌≡◌};
+ghost use Rattle.std.specs.Box.{box_value};
+ghost use Rattle.sat_math.specs.declared.Kind.{Kind};
+ghost use Rattle.ulam_tree.specs.Found.{found};
+ghost use Rattle.ulam_tree.specs.ResolvedViews.{resolved_path};
+ghost use Rattle.ulam_tree.specs.Resolved as raw_tree;
+ghost use Rattle.ulam_tree.specs.Typed as tree;
+ghost use Rattle.ulam_tree.specs.TypedViews.{typed_expr, typed_args};
+ghost use Rattle.ulam_types.specs.Faults.{wrong_type};
+ghost use Rattle.ulam_types.specs.Rows as row;
+ghost use Rattle.ulam_types.specs.Shown.{scope_view, Gives};
+ghost use Rattle.ulam_types.specs.Walk as walk;
+
+use crate::copy;
+use crate::fault::TypeFault;
+use crate::lookup::{instance_type, is_species, is_value, value_type};
+use crate::rows::{pair_row, plain_fits, plain_type, truth, unsigned};
+use crate::scope::Scope;
+use feast_base::Place;
+use sat_math::Kind;
+use std::alloc::Global;
+use ulam_tree::resolved::{Named, Path, Ty};
+use ulam_tree::typed::Form;
+use ulam_tree::{PairOp, typed, typed_build as build};
+
+/// A number, with `with_u` if `u` is after it.
+pub fn number(want: Kind, value: u32, with_u: bool, place: Place) -> Result<typed::Expr, TypeFault>
+    ensures { Gives typed_expr result (walk.number want value with_u place) }
+{
+    if with_u {
+        Ok(typed::Expr {
+            form: Form::Number {
+                value,
+                unsigned: true,
+                place,
+            },
+            ty: unsigned(32),
+        })
+    } else if plain_fits(want, value) {
+        Ok(typed::Expr {
+            form: Form::Number {
+                value,
+                unsigned: false,
+                place,
+            },
+            ty: plain_type(want),
+        })
+    } else {
+        Err(TypeFault::WrongType(place))
+    }
+}
+
+/// Two operands with an operator between.
+pub fn pair(
+    op: PairOp,
+    left: Box<typed::Expr>,
+    right: Box<typed::Expr>,
+    plain_right: bool,
+    place: Place,
+) -> Result<typed::Expr, TypeFault>
+    ensures { Gives typed_expr result (walk.pair_by op plain_right place (typed_expr (box_value left), typed_expr (box_value right))) }
+{
+    let ty = pair_row(place, op, plain_right, left.ty, right.ty)?;
+    Ok(build::pair(op, left, right, place, ty))
+}
+
+/// The type, or `WrongType` if there is none.
+pub fn known(ty: Option<Ty>, place: Place) -> Result<Ty, TypeFault>
+    ensures { Gives (λ x. x) result (found ty (wrong_type place)) }
+{
+    match ty {
+        None => Err(TypeFault::WrongType(place)),
+        Some(ty) => Ok(ty),
+    }
+}
+
+/// `true` or `false`.
+pub fn truth_at(value: bool, place: Place) -> typed::Expr
+    ensures { typed_expr result ≡ tree.typed (tree.truth value place) row.bool }
+{
+    typed::Expr {
+        form: Form::Truth { value, place },
+        ty: truth(),
+    }
+}
+
+/// A path as an expression.
+#[tactic(auto, unfolding(crate::specs::Walk::expr))]
+pub fn value_at(alloc: Global, scope: &Scope, path: &Path) -> Result<typed::Expr, TypeFault>
+    ensures { (want : Kind) → Gives typed_expr result (walk.expr (scope_view scope.now) want (raw_tree.reads (resolved_path path.now))) }
+{
+    let ty = known(value_type(scope, path.steps.as_slice()), path.place)?;
+    let path = copy::path(alloc, path)?;
+    Ok(typed::Expr {
+        form: Form::Path { path },
+        ty,
+    })
+}
+
+/// The `instanceof` of a class.
+#[tactic(auto, unfolding(crate::specs::Walk::expr))]
+pub fn instance(scope: &Scope, class: Named) -> Result<typed::Expr, TypeFault>
+    ensures { (want : Kind) → Gives typed_expr result (walk.expr (scope_view scope.now) want (raw_tree.instance class)) }
+{
+    if !is_species(scope, class.ty) {
+        return Err(TypeFault::BadAs(class.place));
+    }
+    Ok(typed::Expr {
+        form: Form::Instance { class },
+        ty: instance_type(class.ty),
+    })
+}
+
+/// A call whose value is used.
+pub fn call_value(
+    alloc: Global,
+    scope: &Scope,
+    path: &Path,
+    args: Vec<typed::Expr>,
+    ty: Ty,
+) -> Result<typed::Expr, TypeFault>
+    ensures { Gives typed_expr result (walk.call_value (scope_view scope.now) (resolved_path path.now) (typed_args args.items, ty)) }
+{
+    if !is_value(scope, ty) {
+        return Err(TypeFault::WrongType(path.place));
+    }
+    Ok(build::call(copy::path(alloc, path)?, args, ty))
+}

@@ -1,4 +1,0 @@
-pub mod Blank
-pub mod Journals
-pub mod KnownAtoms
-pub mod Valid

@@ -1,0 +1,11 @@
+use Rattle.world_runs.proofs.Alone.{events_few, events_log, journal_holds}
+use Rattle.world_runs.proofs.one_tile.journal.Goals as goal
+
+pub journal_of-requires-clause-log : goal.journal_of-requires-clause-log
+journal_of-requires-clause-log g c = events_log c.args.map.now c.in_ok-attempts.attempts c.in_ok-records.records.items c.in_ok-records.ensures
+
+pub journal_of-requires-clause-few : goal.journal_of-requires-clause-few
+journal_of-requires-clause-few g c = events_few c.args.map.now c.in_ok-attempts.attempts c.in_ok-records.records.items c.in_ok-records.ensures c.in_ok-attempts.ensures.bound
+
+pub returns-clause-records : goal.returns-clause-records
+returns-clause-records g c = journal_holds c.args.map.now c.in_ok-attempts.attempts c.args.plan.now c.in_ok-records.records.items c.journal_of.result c.in_ok-attempts.ensures.value c.in_ok-records.ensures c.in_ok-attempts.ensures.bound c.journal_of.ensures

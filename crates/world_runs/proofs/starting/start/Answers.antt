@@ -1,0 +1,34 @@
+use Rattle.std.proofs.Common.{◌≡◌, ◌<◌, ◌∙◌, List, ap, arith, fold, get_or, length, subst, sym}
+use Rattle.border_cache.specs.Copies.{IsGridOf}
+use Rattle.cell_grid.specs.Grid.{GridValue}
+use Rattle.serial_order.specs.BlankGrid.{blank_grid}
+use Rattle.tile_map.specs.Plane.{MapValue, plane_of}
+use Rattle.world_runs.specs.Start.{with_placed}
+use Rattle.world_runs.proofs.Placing.{fits_placed, placed_more}
+use Rattle.world_text.specs.declared.world.Placed.{Placed}
+use Rattle.world_runs.proofs.starting.start.Goals as goal
+
+pub loop-placed-init : goal.loop-placed-init
+loop-placed-init c =
+    let w = c.args.world.now in
+    let m = plane_of w.tx w.ty w.w w.h w.off.items in
+    let blank : c.in_ok-grid.grid ≡ blank_grid m = c.in_ok-grid.ensures.grid ∙ ap blank_grid c.requires.map in
+    record {
+      rest = ap (λ (g : GridValue). fold with_placed g w.atoms.items) blank;
+      fits = subst (λ (n : MapValue). IsGridOf n c.in_ok-grid.grid) c.requires.map c.in_ok-grid.ensures.fits.1;
+    }
+
+pub loop-placed-preserved : goal.loop-placed-preserved
+loop-placed-preserved c =
+    let w = c.args.world.now in
+    let m = plane_of w.tx w.ty w.w w.h w.off.items in
+    let ps = w.atoms.items in
+    let i = c.loop-placed.placed-index in
+    let p = c.placed-item.result in
+    let items = c.as_slice-placed-items.ensures.value in
+    let item : p ≡ get_or ps i p = c.placed-item.is ∙ ap (λ (v : List Placed). get_or v i p) items in
+    let lt : i < length ps = omega (arith, c.loop-placed-test.true, ap length items) in
+    record {
+      rest = placed_more c.loop-placed.grid c.set.new.self ps i p _ lt item c.set.ensures c.loop-placed.invariant.rest;
+      fits = subst (IsGridOf m) (sym c.set.ensures) (fits_placed m c.loop-placed.grid p c.loop-placed.invariant.fits);
+    }
