@@ -1,5 +1,5 @@
 -- Where no class contains itself, as many steps as there are classes see all of its bits.
-use Rattle.std.proofs.Common.{◌≡◌, ℕ, zero, suc, ◌+◌, ◌*◌, ◌<◌, ◌≤◌, ◌⊎◌, inl, inr, refl, sym, ap, ◌∙◌, List, [], ◌∷◌, ◌++◌, length, Bool, true, false, ◌||◌, nat_eq, arith, Some, None, Option}
+use Rattle.std.proofs.Common.{◌≡◌, ℕ, zero, suc, ◌*◌, ◌<◌, ◌≤◌, ◌⊎◌, inl, inr, refl, sym, ap, ◌∙◌, List, [], ◌∷◌, ◌++◌, length, Bool, true, nat_eq, arith, Some, None, Option}
 use Rattle.std.specs.Prelude.{sum, slice_get, flat_map}
 use Rattle.std.specs.Option.{option_map_or}
 use Rattle.std.specs.List.{list_any}
@@ -10,7 +10,7 @@ use Rattle.ulam_tree.specs.declared.resolved.Ty.TheVariants as y
 use Rattle.ulam_tree.specs.Resolved.{Class, Member, field, function}
 use Rattle.ulam_tree.specs.Ways.{class_number, member_parts, class_parts, NoneContainsItself}
 use Rattle.ulam_tree.proofs.Ways.{rank, rank_part, rank_small}
-use Rattle.atom_layout.specs.Layouts.{times, type_bits, field_bits, widths, bits_within, class_bits, total}
+use Rattle.atom_layout.specs.Layouts.{times, type_bits, widths, bits_within, class_bits, total}
 
 in_classes : (cs : List Class) (k : ℕ) (p : ℕ → Bool) → list_any p (class_parts cs k) ≡ true → k < length cs
 in_classes [] k p e = absurd (none k e)

@@ -14,7 +14,7 @@ use Rattle.ulam_tree.specs.ResolvedViews.{resolved_class}
 use Rattle.ulam_tree.specs.Resolved.{Class, Member, field, function}
 use Rattle.atom_layout.specs.declared.fault.LayoutFault.{LayoutFault}
 use Rattle.atom_layout.specs.declared.fault.LayoutFault.TheVariants as f
-use Rattle.atom_layout.specs.Layouts.{told, times, type_bits, member_bits, widths, bits_within, class_bits, total, fault_by, fault_in, first_of}
+use Rattle.atom_layout.specs.Layouts.{told, times, member_bits, widths, bits_within, class_bits, total, fault_by, fault_in, first_of}
 use Rattle.atom_layout.specs.Rows.{in_row, class_row, row_after, narrow, rows_of}
 
 pub sum-cons : (x : ℕ) (xs : List ℕ) → sum (x ∷ xs) ≡ x + sum xs

@@ -1,5 +1,5 @@
 -- How many bits data members take, and where they lie.
-use Rattle.std.specs.Prelude.{ℕ, zero, suc, ◌≡◌, ◌*◌, ◌-◌, ◌^◌, List, [], ◌∷◌, length, map, flat_map, get_or, take, sum, slice_get, min, Option, Some, None, option_map, Bool, true, false, if◌then◌else◌, nat_lt}
+use Rattle.std.specs.Prelude.{ℕ, zero, suc, ◌*◌, ◌-◌, ◌^◌, List, [], ◌∷◌, length, map, flat_map, get_or, take, sum, slice_get, min, Option, Some, None, if◌then◌else◌, nat_lt}
 use Rattle.std.specs.Option.{option_map_or, option_or}
 use Rattle.ulam_tree.specs.declared.resolved.Ty.{Ty}
 use Rattle.ulam_tree.specs.declared.resolved.Ty.TheVariants as y

@@ -4,8 +4,6 @@ use Rattle.std.specs.Prelude.{slice_get, nat_le, if◌then◌else◌}
 use Rattle.std.proofs.lemmas.Bool.{leb-true}
 use Rattle.std.proofs.lemmas.Option.{slice_get_within}
 use Rattle.sat_math.proofs.Laws.{least_one}
-use Rattle.sat_math.specs.declared.Kind.{Kind}
-use Rattle.sat_math.specs.declared.Kind.TheVariants as k
 use Rattle.sat_math.specs.declared.NumType.{NumType}
 use Rattle.sat_math.specs.declared.Arith.{Arith}
 use Rattle.sat_math.specs.declared.Arith.TheVariants.{Int32, Unsigned32, Int64, Unsigned64}

@@ -3,8 +3,6 @@ use Rattle.std.proofs.Common.{◌≡◌, ℕ, zero, suc, ◌≤◌, List, [], �
 use Rattle.std.specs.Prelude.{slice_get, get_or, sum}
 use Rattle.std.specs.Option.{option_map_or, option_or}
 use Rattle.ulam_meaning.proofs.Layouts.{by_field, member_same}
-use Rattle.ulam_tree.specs.declared.resolved.Ty.{Ty}
-use Rattle.ulam_tree.specs.declared.resolved.Ty.TheVariants as y
 use Rattle.ulam_tree.specs.Resolved as r
 use Rattle.ulam_tree.specs.Typed as t
 use Rattle.ulam_tree.specs.Ways.{NoneContainsItself}

@@ -1,7 +1,7 @@
 -- Events that owe what a run's do come one behind another, as a report must have them.
-use Rattle.std.proofs.Common.{ℕ, zero, suc, ◌≡◌, ◌+◌, ◌*◌, ◌<◌, ◌≤◌, ◌==◌, Bool, true, false, ◌&&◌, not, List, [], ◌∷◌, ◌++◌, All, cond, drop, get_or, length, replicate, sum_by, Option, Some, None, refl, ap, sym, subst, ◌∙◌, arith, inl, inr, ⊎_elim, ◌⊎◌, if◌then◌else◌, eq-eqb, lt-ltb}
+use Rattle.std.proofs.Common.{ℕ, zero, suc, ◌≡◌, ◌<◌, ◌≤◌, ◌==◌, true, ◌&&◌, List, [], ◌∷◌, cond, drop, get_or, length, replicate, Option, Some, None, refl, ap, sym, subst, ◌∙◌, arith, inl, inr, ◌⊎◌, eq-eqb, lt-ltb}
 use Rattle.std.proofs.Math.ListN.{set}
-use Rattle.std.specs.Prelude.{AllPairs, count_by, nat_le, slice_get}
+use Rattle.std.specs.Prelude.{AllPairs, nat_le, slice_get}
 use Rattle.std.proofs.lemmas.Bool.{cases_lt}
 use Rattle.std.proofs.lemmas.Bool.Decides.{eqb_tells}
 use Rattle.std.proofs.lemmas.List.{get_or-set_other, get_or-set_same, set_past}
@@ -15,11 +15,10 @@ use Rattle.draw_stream.specs.declared.attempt.Attempt.{Attempt}
 use Rattle.draw_stream.specs.Plans.{PlanValue, attempts}
 use Rattle.event_journal.specs.Accounts.{IsAccounted, IsEventOf, events_at}
 use Rattle.event_journal.specs.Logs.{is_before}
-use Rattle.event_journal.specs.Reading.{Said, Wants, first_of, is_at_home, is_attempt, is_behind, not_later, attempt_fault, put_record, record_fault}
+use Rattle.event_journal.specs.Reading.{first_of, is_at_home, is_attempt, is_behind, not_later, record_fault}
 use Rattle.event_journal.specs.declared.abandoned.Abandoned.{Abandoned}
-use Rattle.event_journal.specs.declared.fault.LineFault.{LineFault}
 use Rattle.event_journal.proofs.Journals.{before_of}
-use Rattle.tile_map.specs.Plane.{MapValue, in_plane, owner_of, site, site_in}
+use Rattle.tile_map.specs.Plane.{MapValue, site_in}
 use Rattle.grid_print.proofs.Bounds.{IsOfPlan, event_of_plan}
 use Rattle.grid_print.specs.Again.{IsDrawablePlan}
 

@@ -1,5 +1,5 @@
 -- Lists that are equal, part by part.
-use Rattle.std.proofs.Common.{ℕ, ◌≡◌, ◌≤◌, List, [], ◌∷◌, ◌++◌, All, length, map, refl, ap, arith}
+use Rattle.std.proofs.Common.{◌≡◌, List, [], ◌∷◌, ◌++◌, All, length, map, refl, arith}
 use Rattle.std.proofs.lemmas.List.Elements.{All-head, All-tail}
 
 -- equal lists whose first parts have one length

@@ -1,5 +1,5 @@
 -- The report of what a run left is read as its events and its abandoned attempts.
-use Rattle.std.proofs.Common.{ℕ, zero, suc, ◌≡◌, ◌+◌, ◌*◌, ◌/◌, ◌%◌, ◌^◌, ◌<◌, ◌≤◌, ◌==◌, Bool, true, false, ◌&&◌, not, List, [], ◌∷◌, ◌++◌, All, append_assoc, append-nil, codes, decimal, bytes_eq, length, get_or, map, refl, ap, sym, subst, ◌∙◌, arith, ◌-◌, ◌⊎◌, Option, Some, None, is_some, Ok, inl, inr, if◌then◌else◌, lt-ltb}
+use Rattle.std.proofs.Common.{ℕ, zero, suc, ◌≡◌, ◌+◌, ◌*◌, ◌/◌, ◌%◌, ◌^◌, ◌<◌, ◌≤◌, ◌==◌, Bool, true, false, List, [], ◌∷◌, ◌++◌, All, append_assoc, append-nil, codes, decimal, bytes_eq, length, get_or, map, refl, ap, sym, ◌∙◌, arith, ◌-◌, ◌⊎◌, Option, Some, is_some, Ok, inl, inr, lt-ltb}
 use Rattle.std.specs.List.{list_all}
 use Rattle.std.proofs.Math.Nat.{div-add-mod'}
 use Rattle.std.proofs.lemmas.List.{map-append}
@@ -7,18 +7,17 @@ use Rattle.std.proofs.lemmas.List.Elements.{All-append, All-cons, All-get_or, Al
 use Rattle.tile_map.proofs.Numbers.{plane_low}
 use Rattle.list_laws.proofs.Members.{InOrder}
 use Rattle.bit_field.specs.Atom.{AtomValue, empty_atom}
-use Rattle.cell_grid.specs.Grid.{GridValue}
 use Rattle.cell_grid.specs.declared.record.Record.{Record}
 use Rattle.draw_stream.specs.declared.attempt.Attempt.{Attempt}
 use Rattle.draw_stream.specs.Plans.{PlanValue}
 use Rattle.event_journal.specs.Forms.{abandoned_form, count_form, is_atom, is_header, is_name_state, record_form, take_below}
-use Rattle.event_journal.specs.Reading.{Said, Wants, abandoned, abandoned_count, atom_count, atoms, fields_step, header, is_over, nothing, nothing_said, put_record, read_lines, read_report, record_count, record_step, records, want_abandoned, want_atoms, want_records}
+use Rattle.event_journal.specs.Reading.{Said, Wants, abandoned, abandoned_count, atom_count, atoms, fields_step, header, nothing, nothing_said, put_record, read_lines, record_count, record_step, records, want_abandoned, want_atoms, want_records}
 use Rattle.event_journal.specs.Text.{abandoned_fields, abandoned_lines, count_fields, record_fields, record_lines}
 use Rattle.event_journal.specs.declared.abandoned.Abandoned.{Abandoned}
 use Rattle.event_journal.proofs.Reports.{walk_line, walk_start}
 use Rattle.feast_base.specs.Digits.{glyph, hex}
 use Rattle.feast_base.specs.TypeNames.{is_type_name, name_of}
-use Rattle.text_lines.specs.Fields.{hex_of, is_nibble, nibble}
+use Rattle.text_lines.specs.Fields.{hex_of, is_nibble}
 use Rattle.text_lines.specs.Forms.{one_field, take_number}
 use Rattle.text_lines.specs.Lines.{line_text, text_of}
 use Rattle.text_lines.specs.Printed.{IsLine}
@@ -29,8 +28,8 @@ use Rattle.grid_print.proofs.Ahead.{Comes, IsAhead, IsInPlace, ahead_more, event
 use Rattle.grid_print.proofs.Bounds.{IsSmallAbandoned, IsSmallRecord, abandoned_small, abandoned_words, event_of_plan, events_few, given_up_few, record_words, records_small}
 use Rattle.grid_print.proofs.Lines.{abandoned_line, count_line, counted_lines, each_line, record_line}
 use Rattle.grid_print.proofs.Stamps.{stamps_low}
-use Rattle.grid_print.specs.Again.{AreFormed, AreReadAgain, IsLeft, IsDrawablePlan, SaysThese}
-use Rattle.grid_print.specs.Report.{AreNamed, Shown, atom_fields, atom_lines, report, report_lines, shown, shown_at, shown_from, shown_one}
+use Rattle.grid_print.specs.Again.{AreFormed, AreReadAgain, IsDrawablePlan}
+use Rattle.grid_print.specs.Report.{AreNamed, Shown, atom_fields, atom_lines, report_lines, shown, shown_at, shown_from}
 
 -- Forms: what is printed has the form that is wanted
 

@@ -1,16 +1,15 @@
 -- The report of a grid says its atoms.
-use Rattle.std.proofs.Common.{ℕ, ◌≡◌, ◌+◌, ◌-◌, ◌*◌, ◌/◌, ◌%◌, ◌^◌, ◌<◌, ◌≤◌, ◌==◌, Bool, true, false, List, [], ◌∷◌, ◌++◌, All, length, refl, ap, sym, ◌∙◌, subst, arith, inl, inr, ◌⊎◌, if◌then◌else◌}
+use Rattle.std.proofs.Common.{ℕ, ◌≡◌, ◌+◌, ◌*◌, ◌/◌, ◌%◌, ◌^◌, ◌<◌, ◌≤◌, ◌==◌, Bool, true, false, List, [], ◌∷◌, ◌++◌, All, length, refl, ap, sym, ◌∙◌, arith, inl, inr, ◌⊎◌}
 use Rattle.std.proofs.Math.Nat.{div-add-mod'}
 use Rattle.std.specs.List.{flat_map}
 use Rattle.std.proofs.lemmas.List.Elements.{All-append, All-cons, All-head, All-nil, All-tail}
-use Rattle.std.proofs.lemmas.Bool.Decides.{eqb_tells}
 use Rattle.bit_field.specs.Atom.{AtomValue, IsAtom, empty_atom}
 use Rattle.cell_grid.specs.Grid.{GridValue}
 use Rattle.cell_grid.specs.declared.record.Record.{Record}
 use Rattle.event_journal.specs.Logs.{LogValue, abandoned_in, records_of}
 use Rattle.event_journal.specs.declared.abandoned.Abandoned.{Abandoned}
 use Rattle.text_lines.proofs.Joined.{text_one}
-use Rattle.grid_print.specs.OneReport.{AreAbandonedWords, AreRecordWords, AreSame, AreTypeNames, AreWords, IsOneReport, IsReported, IsWord}
+use Rattle.grid_print.specs.OneReport.{AreAbandonedWords, AreRecordWords, AreTypeNames, AreWords, IsOneReport, IsReported, IsWord}
 use Rattle.grid_print.specs.Report.{AreNamed, Shown, report_lines, shown, shown_at, shown_from, shown_one}
 use Rattle.grid_print.proofs.Lines.{ArePrinted, IsShown, lines_one, report_is}
 

@@ -1,6 +1,6 @@
 -- Reports with equal bytes.
 use Rattle.std.specs.Prelude.{ℕ, ◌≡◌, ◌≢◌, ◌^◌, ◌<◌, ◌≤◌, List, All, AllPairs, length, true}
-use Rattle.bit_field.specs.Atom.{AtomValue, IsAtom}
+use Rattle.bit_field.specs.Atom.{IsAtom}
 use Rattle.cell_grid.specs.Grid.{GridValue}
 use Rattle.cell_grid.specs.declared.record.Record.{Record}
 use Rattle.event_journal.specs.Logs.{LogValue}

@@ -1,9 +1,9 @@
 -- Events that are made one after another and taken back.
-use Rattle.std.proofs.Common.{ℕ, ◌≡◌, ◌≤◌, ◌<◌, ◌+◌, ◌*◌, ◌-◌, List, [], ◌∷◌, ◌++◌, All, Bool, true, false, length, get_or, take, refl, sym, ap, subst, ◌∙◌, arith}
-use Rattle.std.proofs.lemmas.List.{same_from_push, take_all, take_more, length_push}
+use Rattle.std.proofs.Common.{ℕ, ◌≡◌, ◌<◌, ◌+◌, ◌*◌, List, [], ◌∷◌, ◌++◌, All, Bool, true, false, length, get_or, take, refl, sym, ap, subst, ◌∙◌, arith}
+use Rattle.std.proofs.lemmas.List.{same_from_push, take_more, length_push}
 use Rattle.event_journal.proofs.Journals.{no_record}
 use Rattle.window_sites.specs.Window.{WindowValue}
-use Rattle.cell_grid.specs.Grid.{ArePlanesAlike, GridValue, IsLive, event, put_window, window_of}
+use Rattle.cell_grid.specs.Grid.{ArePlanesAlike, GridValue, IsLive, event, window_of}
 use Rattle.cell_grid.specs.Records.{replay}
 use Rattle.cell_grid.specs.declared.record.Record.{Record}
 use Rattle.journal_check.specs.Films.{CanUndo, FilmValue, Undoes, film_of, film_value, kept_of, restored}

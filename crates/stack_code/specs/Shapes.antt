@@ -1,5 +1,5 @@
 -- The sort of each shape: a shape is a sort whose operators have names.
-use Rattle.std.specs.Prelude.{ℕ, ◌≡◌, ℤ, pos, true, Option, int_div, int_rem, bit_and, bit_or, bit_xor}
+use Rattle.std.specs.Prelude.{◌≡◌, ℤ, pos, true, Option, int_div, int_rem, bit_and, bit_or, bit_xor}
 use Rattle.bit_field.specs.Atom.{new_atom}
 use Rattle.window_sites.specs.Window.{live_at, is_empty_at}
 use Rattle.sat_math.specs.declared.Kind.TheVariants.{Bits}
@@ -7,7 +7,7 @@ use Rattle.sat_math.specs.Numbers.{cast}
 use Rattle.sat_math.specs.Operations.{IsSigned, shifted_up, shifted_down, comparison, one_in}
 use Rattle.datum.specs.declared.Datum.TheVariants.{Number as ANumber, Atom as AnAtom}
 use Rattle.stack_code.specs.Sorts.{Sort, Give, One, Two, Load, Store, Drop, Field, SetField, Part, SetPart, Own, Site, SetSite, Exchange, Ask, Same, Draw, Double, FieldAt, SetFieldAt, PartAt, SetPartAt, Goto, GotoFalse, Take, Enter, GiveBack, Leave, num_type, exact, divided, sum, difference, product, negated, on_bits, flip, not_bool}
-use Rattle.stack_code.specs.Valid.{type_fits, field_fits, number_fits}
+use Rattle.stack_code.specs.Valid.{type_fits}
 use Rattle.stack_code.specs.declared.operators.UnaryOp.{UnaryOp}
 use Rattle.stack_code.specs.declared.operators.UnaryOp.TheVariants as unary
 use Rattle.stack_code.specs.declared.operators.BinaryOp.{BinaryOp}
@@ -79,18 +79,3 @@ UnaryFits op = Unit {0}
 abbrev pub BinaryFits : BinaryOp → Type 0
 BinaryFits (binary.Shl w) = type_fits (num_type Bits w) ≡ true
 BinaryFits op = Unit {0}
-
--- the arguments of a shape are allowed, but for slots, places and functions
-abbrev pub ShapeFits : Shape → Type 0
-ShapeFits (shape.GiveNumber v) = number_fits v ≡ true
-ShapeFits (shape.One op) = UnaryFits op
-ShapeFits (shape.Two op) = BinaryFits op
-ShapeFits (shape.Field f t) = field_fits f t 1 ≡ true
-ShapeFits (shape.SetField f t) = field_fits f t 1 ≡ true
-ShapeFits (shape.Part s f t) = field_fits f t 1 ≡ true
-ShapeFits (shape.SetPart s f t) = field_fits f t 1 ≡ true
-ShapeFits (shape.FieldAt f t n) = field_fits f t n ≡ true
-ShapeFits (shape.SetFieldAt f t n) = field_fits f t n ≡ true
-ShapeFits (shape.PartAt s f t n) = field_fits f t n ≡ true
-ShapeFits (shape.SetPartAt s f t n) = field_fits f t n ≡ true
-ShapeFits s = Unit {0}

@@ -1,9 +1,8 @@
 //! The shapes of instructions, and the table that gives each instruction its shape.
 
-ghost use Rattle.std.specs.Prelude.{◌≡◌, true};
+ghost use Rattle.std.specs.Prelude.{◌≡◌};
 ghost use Rattle.stack_code.specs.Sorts.{num_type, sort};
-ghost use Rattle.stack_code.specs.Valid.{args_fit};
-ghost use Rattle.stack_code.specs.Shapes.{sort_of, ShapeFits};
+ghost use Rattle.stack_code.specs.Shapes.{sort_of};
 
 use crate::instr::Instr;
 use crate::operators::{BinaryOp, UnaryOp};
@@ -91,8 +90,7 @@ impl Instr {
     /// The shape of the instruction.
     #[inline(always)]
     pub fn shape(&self) -> Shape
-        ensures sort { sort_of result ≡ sort self.now }
-        ensures fits { args_fit self.now ≡ true → ShapeFits result }
+        ensures { sort_of result ≡ sort self.now }
     {
         match *self {
             Instr::PushNum(v) => Shape::GiveNumber(v),

@@ -1,8 +1,8 @@
 -- Lines and fields that are cut at a byte.
-use Rattle.std.proofs.Common.{ℕ, ◌≡◌, ◌≢◌, ◌+◌, Bool, true, not, List, [], ◌∷◌, ◌++◌, All, Option, Some, None, refl, ap, sym, ◌∙◌, append_assoc, arith, cond, inl, inr, ne_eqb}
+use Rattle.std.proofs.Common.{ℕ, ◌≡◌, ◌≢◌, List, [], ◌∷◌, ◌++◌, Some, None, refl, ap, sym, ◌∙◌, append_assoc, inl, inr, ne_eqb}
 use Rattle.std.proofs.lemmas.List.{append-nil}
-use Rattle.std.proofs.lemmas.List.Elements.{All-head, All-tail, All-cons}
-use Rattle.std.proofs.lemmas.Bool.Decides.{not_from_Decides, eqb_tells}
+use Rattle.std.proofs.lemmas.List.Elements.{All-head, All-tail}
+use Rattle.std.proofs.lemmas.Bool.Decides.{eqb_tells}
 use Rattle.text_lines.specs.Fields.{Lacks, fields_after, fields}
 use Rattle.text_lines.specs.Lines.{lines_after, lines, without_cr, ended_after, ended_lines}
 

@@ -1,12 +1,12 @@
 -- The lines and fields of a printed text are those that were printed.
-use Rattle.std.proofs.Common.{ℕ, ◌≡◌, ◌≢◌, ◌+◌, ◌-◌, ◌==◌, ◌≤◌, Bool, true, false, ◌&&◌, List, [], ◌∷◌, ◌++◌, All, length, get_or, map, nat_le, refl, ap, sym, ◌∙◌, append_assoc, arith, Option, Some}
-use Rattle.std.specs.List.{flat_map, list_all}
+use Rattle.std.proofs.Common.{ℕ, ◌≡◌, ◌≢◌, ◌-◌, ◌==◌, Bool, true, false, List, [], ◌∷◌, ◌++◌, All, length, get_or, map, nat_le, refl, ap, sym, ◌∙◌, append_assoc, arith, Some}
+use Rattle.std.specs.List.{list_all}
 use Rattle.std.proofs.lemmas.List.{append-nil}
 use Rattle.std.proofs.lemmas.List.Folds.{list_all-append}
 use Rattle.std.proofs.lemmas.List.Elements.{All-head, All-tail, All-cons}
 use Rattle.list_laws.proofs.Tests.{both}
 use Rattle.text_lines.specs.Fields.{Lacks, fields}
-use Rattle.text_lines.specs.Lines.{lines, without_cr, is_skipped, ended_lines, line_text, more_text, ended_line, text_of}
+use Rattle.text_lines.specs.Lines.{lines, without_cr, ended_lines, line_text, more_text, text_of}
 use Rattle.text_lines.specs.Printed.{is_high, is_field, IsLine}
 use Rattle.text_lines.proofs.Cuts.{fields_ended, fields_whole, lines_ended, lines_none, ended_at, ended_none}
 use Rattle.text_lines.proofs.Digits.{passes}

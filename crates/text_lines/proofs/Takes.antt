@@ -1,5 +1,5 @@
 -- Fields behind a space are some.
-use Rattle.std.proofs.Common.{ℕ, ◌≡◌, List, [], ◌∷◌, refl, Some, None}
+use Rattle.std.proofs.Common.{ℕ, ◌≡◌, List, [], ◌∷◌, refl, None}
 use Rattle.text_lines.specs.Fields.{fields}
 use Rattle.text_lines.specs.Forms.{one_field}
 use Rattle.text_lines.proofs.Cuts.{some_field}

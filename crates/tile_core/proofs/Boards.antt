@@ -1,5 +1,5 @@
 -- Tiles whose ends act in turn on the board of one thread.
-use Rattle.std.proofs.Common.{◌≡◌, ◌≢◌, ℕ, zero, suc, ◌+◌, ◌<◌, ◌≤◌, eqb, Bool, true, false, cond, true≢false, List, [], ◌∷◌, length, get_or, set, map, refl, sym, ap, ◌∙◌, subst, arith, length-set}
+use Rattle.std.proofs.Common.{◌≡◌, ◌≢◌, ℕ, zero, suc, ◌+◌, ◌<◌, ◌≤◌, eqb, Bool, true, false, cond, true≢false, List, [], ◌∷◌, length, get_or, map, refl, sym, ap, ◌∙◌, subst, arith, length-set}
 use Rattle.std.specs.Prelude.{◌||◌, nat_lt, All}
 use Rattle.std.proofs.lemmas.Bool.Decides.{nat_tests}
 use Rattle.std.proofs.lemmas.List.{get_or-map, get_or_past, get_or_default, length-map}
@@ -10,7 +10,6 @@ use Rattle.window_sites.specs.Window.{WindowValue}
 use Rattle.feast_base.specs.Edges.{EdgeSize, registers_of}
 use Rattle.tile_map.specs.Plane.{Site, MapValue, tiles_of}
 use Rattle.tile_map.specs.Edges.{pairs_of, pair_at, has_end, is_in_pair, size_of, sizes_of}
-use Rattle.tile_map.specs.Laws.{IsPlane}
 use Rattle.draw_stream.specs.declared.attempt.Attempt.{Attempt}
 use Rattle.edge_lock.specs.EndLists.{EndLists, end_lists}
 use Rattle.edge_lock.specs.PlainEdges.{PlainEdgeValue, own_lists}

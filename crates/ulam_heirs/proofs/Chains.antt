@@ -1,17 +1,16 @@
 -- The line of a class is the line of its base, and then the class.
-use Rattle.std.proofs.Common.{◌≡◌, ℕ, zero, suc, ◌+◌, ◌<◌, ◌≤◌, ◌⊎◌, inl, inr, refl, sym, ap, ◌∙◌, subst, List, [], ◌∷◌, ◌++◌, length, Bool, true, false, ◌||◌, cond, Option, Some, None, nat_eq, arith, append_assoc}
-use Rattle.std.specs.Prelude.{reverse, slice_get, flat_map, bytes_eq}
+use Rattle.std.proofs.Common.{◌≡◌, ℕ, zero, suc, ◌+◌, ◌<◌, ◌≤◌, ◌⊎◌, inl, inr, refl, sym, ap, ◌∙◌, List, [], ◌∷◌, ◌++◌, length, Bool, true, false, ◌||◌, cond, Option, Some, None, nat_eq, arith, append_assoc}
+use Rattle.std.specs.Prelude.{reverse, slice_get, bytes_eq}
 use Rattle.std.specs.List.{list_any}
 use Rattle.std.specs.Option.{option_map_or, option_and_then, option_or, option_to_list}
 use Rattle.std.proofs.lemmas.Bool.{false≢true, false_from_ne_true, cases_lt, eqb-true, eq-eqb}
 use Rattle.std.proofs.lemmas.List.{reverse-append}
-use Rattle.std.proofs.lemmas.Grind.{flat_map-append}
-use Rattle.ulam_tree.specs.Raw.{Word, Member}
+use Rattle.ulam_tree.specs.Raw.{Word}
 use Rattle.ulam_tree.specs.Ways.{leads}
 use Rattle.ulam_tree.proofs.Ways.{leads_all, of_class, rank, rank_part, rank_small}
 use Rattle.ulam_heirs.specs.declared.fault.HeirsFault.{HeirsFault}
 use Rattle.ulam_heirs.specs.declared.fault.HeirsFault.TheVariants.{OwnBase}
-use Rattle.ulam_heirs.specs.Lines.{Heir, class_named, base_number, base_of, base_list, is_own_base, NoneIsOwnBase, upward, line_numbers, classes_at}
+use Rattle.ulam_heirs.specs.Lines.{Heir, class_named, base_number, base_of, base_list, is_own_base, NoneIsOwnBase, upward, line_numbers}
 use Rattle.ulam_heirs.specs.Faults.{not_quark, own_base, bad_override, first_by, first_fault}
 
 -- only a class that there is has a base

@@ -1,9 +1,8 @@
 -- How many classes there are.
-use Rattle.std.proofs.Common.{◌≡◌, ℕ, suc, ◌+◌, refl, sym, ap, ◌∙◌, List, [], ◌∷◌, ◌++◌, length, arith}
+use Rattle.std.proofs.Common.{◌≡◌, suc, ◌+◌, refl, ap, List, [], ◌∷◌, ◌++◌, length, arith}
 use Rattle.std.proofs.lemmas.List.{length-append}
 use Rattle.ulam_tree.specs.Raw.{Item, ulam, uses, class}
 use Rattle.ulam_heirs.specs.Heads.{Heads}
-use Rattle.ulam_heirs.specs.Lines.{Heir}
 use Rattle.ulam_heirs.specs.Files.{heirs_in, all_heirs, class_count, all_count}
 
 pub count_in : (h : Heads) (xs : List Item) → length (heirs_in h xs) ≡ class_count xs

@@ -1,12 +1,11 @@
 -- Flat classes, computed, and premises that can be met.
-use Rattle.std.proofs.Common.{◌≡◌, ℕ, ◌+◌, inl, inr, refl, List, [], ◌∷◌, ◌++◌, Bool, true, false, codes, Option, Some, None}
-use Rattle.std.specs.Prelude.{filter}
+use Rattle.std.proofs.Common.{◌≡◌, ℕ, ◌+◌, inr, refl, List, [], ◌∷◌, true, false, codes, Some, None}
 use Rattle.feast_base.specs.declared.place.Place.{Place}
-use Rattle.ulam_tree.specs.Raw.{Word, Member, field, function, no_more, Class}
+use Rattle.ulam_tree.specs.Raw.{Word, Member, field, function, no_more}
 use Rattle.ulam_tree.specs.Ways.{leads}
 use Rattle.ulam_heirs.specs.declared.fault.HeirsFault.TheVariants.{NotQuark, OwnBase, BadOverride}
 use Rattle.ulam_heirs.specs.Lines.{Heir, upward, line, line_numbers}
-use Rattle.ulam_heirs.specs.Flat.{is_named, is_virtual_name, flat, flat_members, nearest}
+use Rattle.ulam_heirs.specs.Flat.{is_virtual_name, flat_members, nearest}
 use Rattle.ulam_heirs.specs.Faults.{first_fault}
 use Rattle.ulam_heirs.specs.Laws.{AreOnce}
 

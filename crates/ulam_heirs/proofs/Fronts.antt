@@ -7,7 +7,7 @@ use Rattle.std.proofs.lemmas.Grind.{flat_map-append}
 use Rattle.ulam_tree.specs.Raw.{Member, typedef, constant, field, function}
 use Rattle.ulam_tree.specs.Ways.{leads}
 use Rattle.ulam_heirs.specs.Lines.{Heir, base_list, NoneIsOwnBase, line_numbers, classes_at, line}
-use Rattle.ulam_heirs.specs.Flat.{is_function, is_left_out, own_members, flat_behind, flat, flat_members}
+use Rattle.ulam_heirs.specs.Flat.{is_function, is_left_out, own_members, flat_behind, flat_members}
 use Rattle.ulam_heirs.specs.Laws.{declarations, bits_before, first_bit}
 use Rattle.ulam_heirs.proofs.Chains.{line_front}
 

@@ -1,19 +1,19 @@
 -- Files of which nothing was taken out, and tokens of which nothing is.
 use Rattle.std.proofs.Common.{◌≡◌, ℕ, zero, suc, ◌+◌, ◌<◌, refl, sym, ap, ◌∙◌, subst, List, [], ◌∷◌, ◌++◌, length, Bool, true, false, ◌||◌, cond, Option, Some, None, nat_eq, append_assoc, arith}
-use Rattle.std.specs.Prelude.{◌&&◌, not, filter, reverse, slice_get, flat_map, ◌==◌}
+use Rattle.std.specs.Prelude.{◌&&◌, not, filter, reverse, slice_get, ◌==◌}
 use Rattle.std.specs.List.{list_any, list_all}
 use Rattle.std.specs.Option.{option_map_or, option_and_then, option_or, option_to_list}
-use Rattle.std.proofs.lemmas.Bool.{false≢true, and_parts, or_from, and_right}
+use Rattle.std.proofs.lemmas.Bool.{false≢true, and_parts, and_right}
 use Rattle.std.proofs.lemmas.List.{append-nil, length-append}
 use Rattle.ulam_lex.specs.declared.token.Token.{Token}
-use Rattle.ulam_tree.specs.Raw.{Word, Class, Member, Item, ulam, uses, class}
+use Rattle.ulam_tree.specs.Raw.{Word, Member, Item, ulam, uses, class}
 use Rattle.ulam_tree.specs.Ways.{leads}
 use Rattle.ulam_heirs.specs.declared.fault.HeirsFault.{HeirsFault}
 use Rattle.ulam_heirs.specs.declared.fault.HeirsFault.TheVariants.{NotQuark, OwnBase, BadOverride}
-use Rattle.ulam_heirs.specs.Heads.{Base, Heads, is_class_word, is_type_name, is_colon, is_open, is_virtual_word, may_begin, open_braces, role, role_at, is_head_colon, is_base_name, is_virtual_mark, is_taken, at_each, kept_at, base_between, base_at, first_place, virtual_at, tokens_left, heads_of}
-use Rattle.ulam_heirs.specs.Lines.{Heir, same_place, class_named, base_number, base_of, base_list, is_own_base, upward, line_numbers, classes_at, line, bases}
-use Rattle.ulam_heirs.specs.Flat.{member_word, member_type, is_field, has_word, is_virtual, is_left_out, own_members, flat, flat_members}
-use Rattle.ulam_heirs.specs.Faults.{is_quark, not_quark, own_base, is_bad, bad_member, first_bad, bad_override, first_by, first_fault}
+use Rattle.ulam_heirs.specs.Heads.{Heads, is_class_word, is_type_name, is_colon, is_open, is_virtual_word, may_begin, open_braces, role, role_at, is_head_colon, is_base_name, is_virtual_mark, is_taken, at_each, kept_at, base_between, base_at, first_place, virtual_at, tokens_left, heads_of}
+use Rattle.ulam_heirs.specs.Lines.{Heir, same_place, class_named, base_number, base_of, base_list, upward, classes_at, line}
+use Rattle.ulam_heirs.specs.Flat.{member_word, member_type, is_field, has_word, is_virtual, is_left_out, own_members, flat}
+use Rattle.ulam_heirs.specs.Faults.{is_quark, not_quark, own_base, is_bad, first_bad, bad_override, first_by, first_fault}
 use Rattle.ulam_heirs.specs.Files as files
 use Rattle.ulam_heirs.specs.Files.{heirs_in, all_heirs, class_count, flat_class, flat_items, flat_files, flat_files_from, is_plain}
 use Rattle.ulam_heirs.specs.Laws.{NoneTaken, no_heads}

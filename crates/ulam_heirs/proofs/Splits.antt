@@ -1,5 +1,5 @@
 -- One more token is gone through.
-use Rattle.std.proofs.Common.{◌≡◌, ℕ, suc, ◌+◌, ◌-◌, ◌≤◌, refl, sym, ap, ◌∙◌, subst, List, [], ◌∷◌, ◌++◌, length, Bool, true, false, ◌||◌, cond, Option, Some, None, option_map, append_assoc, arith}
+use Rattle.std.proofs.Common.{◌≡◌, ℕ, ◌+◌, ◌≤◌, refl, sym, ap, ◌∙◌, subst, List, [], ◌∷◌, ◌++◌, Bool, true, false, ◌||◌, cond, Some, option_map, append_assoc, arith}
 use Rattle.std.specs.Prelude.{◌&&◌, slice_get, ◌==◌}
 use Rattle.std.proofs.lemmas.Bool.{false≢true}
 use Rattle.std.proofs.lemmas.List.Elements.{All-head, All-tail}
@@ -10,7 +10,7 @@ use Rattle.ulam_heirs.specs.declared.role.Role.TheVariants as r
 use Rattle.ulam_heirs.specs.declared.behind.Behind.{Behind}
 use Rattle.ulam_heirs.specs.declared.behind.Part.{Part}
 use Rattle.ulam_heirs.specs.declared.behind.Part.TheVariants.{Kept, Colon, BaseName, Mark}
-use Rattle.ulam_heirs.specs.Heads.{Base, is_class_word, is_type_name, is_colon, is_open, is_virtual_word, may_begin, is_head, open_after, open_braces, role, role_at, is_head_colon, is_base_name, is_virtual_mark, at_each, kept_at, base_between, base_at, first_place, virtual_at, tokens_left}
+use Rattle.ulam_heirs.specs.Heads.{Base, is_class_word, is_type_name, is_colon, is_open, is_virtual_word, may_begin, is_head, open_after, open_braces, role, role_at, is_head_colon, is_base_name, is_virtual_mark, kept_at, base_between, base_at, first_place, virtual_at}
 use Rattle.ulam_heirs.specs.Behind.{behind_of, part_at, kept_by, base_from, base_by, virtual_by, IsWithin, AllWithin, IsSplit}
 
 abbrev chosen : Bool → Bool → Bool → Part

@@ -1,5 +1,5 @@
 -- Going up from class to class, a step at a time.
-use Rattle.std.proofs.Common.{◌≡◌, ℕ, zero, suc, ◌+◌, ◌-◌, ◌<◌, ◌≤◌, refl, sym, ap, ◌∙◌, List, [], ◌∷◌, ◌++◌, length, map, true, false, ◌||◌, Option, Some, None, nat_eq, arith, append_assoc}
+use Rattle.std.proofs.Common.{◌≡◌, ℕ, zero, suc, ◌+◌, ◌-◌, ◌<◌, ◌≤◌, refl, sym, ap, ◌∙◌, List, [], ◌∷◌, length, map, true, false, ◌||◌, Option, Some, None, nat_eq, arith}
 use Rattle.std.specs.Prelude.{reverse, slice_get}
 use Rattle.std.specs.List.{list_any}
 use Rattle.std.specs.Option.{option_map_or, option_and_then, option_to_list}
@@ -7,9 +7,9 @@ use Rattle.std.proofs.lemmas.Bool.{eq-eqb, ne_eqb}
 use Rattle.std.proofs.lemmas.List.{length-map}
 use Rattle.std.proofs.Math.Bool.{or-false}
 use Rattle.ulam_tree.specs.Ways.{leads}
-use Rattle.ulam_heirs.specs.Lines.{Heir, base_number, base_of, base_list, is_own_base, upward, line_numbers, classes_at, line, bases}
+use Rattle.ulam_heirs.specs.Lines.{Heir, base_number, base_of, base_list, is_own_base, upward, line_numbers, line, bases}
 use Rattle.ulam_heirs.specs.declared.heir.Heir.{Heir as CodeHeir}
-use Rattle.ulam_heirs.specs.Views.{heir_of, heirs_of, base_in, base_numbers, upward_from}
+use Rattle.ulam_heirs.specs.Views.{heirs_of, base_in, base_numbers, upward_from}
 
 -- the numbers of bases are those of the classes
 at_map : (g : Heir → Option ℕ) (xs : List Heir) (k : ℕ) → option_and_then (λ (b : Option ℕ). b) (slice_get (map g xs) k) ≡ option_and_then g (slice_get xs k)

@@ -2,11 +2,11 @@
 use Rattle.std.specs.Prelude.{ℕ, ◌+◌, ◌==◌, List, [], ◌∷◌, ◌++◌, Option, Some, None, Bool, true, false, not, ◌&&◌, ◌||◌, if◌then◌else◌, bytes_eq, slice_get}
 use Rattle.std.specs.List.{list_any}
 use Rattle.std.specs.Option.{option_map_or, option_or, option_and_then}
-use Rattle.ulam_tree.specs.Raw.{Word, Width, wide, wide_as, TypeRef, Param, Member, typedef, constant, field, function}
+use Rattle.ulam_tree.specs.Raw.{Word, Width, wide, wide_as, TypeRef, Param, Member, function}
 use Rattle.ulam_heirs.specs.declared.fault.HeirsFault.{HeirsFault}
 use Rattle.ulam_heirs.specs.declared.fault.HeirsFault.TheVariants as f
 use Rattle.ulam_heirs.specs.Lines.{Heir, class_named, is_own_base, bases}
-use Rattle.ulam_heirs.specs.Flat.{member_word, is_function, is_field, is_named, has_word, is_virtual}
+use Rattle.ulam_heirs.specs.Flat.{member_word, is_field, is_named, has_word, is_virtual}
 
 -- the class of a number is a quark
 abbrev pub is_quark : List Heir → Option ℕ → Bool

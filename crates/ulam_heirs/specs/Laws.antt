@@ -1,8 +1,8 @@
 -- Of what the laws of flat classes speak.
-use Rattle.std.specs.Prelude.{ℕ, zero, suc, ◌+◌, ◌≡◌, ◌⊎◌, List, [], ◌∷◌, ◌++◌, filter, Bool, true, false, not}
+use Rattle.std.specs.Prelude.{ℕ, zero, suc, ◌+◌, ◌≡◌, ◌⊎◌, List, [], ◌∷◌, ◌++◌, filter, true, false, not}
 use Rattle.ulam_lex.specs.declared.token.Token.{Token}
 use Rattle.ulam_tree.specs.Raw.{Member}
-use Rattle.ulam_heirs.specs.Heads.{Base, Heads, role, is_colon, is_virtual_word}
+use Rattle.ulam_heirs.specs.Heads.{Heads, role, is_colon, is_virtual_word}
 use Rattle.ulam_heirs.specs.Lines.{Heir}
 use Rattle.ulam_heirs.specs.Flat.{is_named, is_function, is_virtual}
 

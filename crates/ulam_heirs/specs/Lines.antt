@@ -1,5 +1,5 @@
 -- Classes and their bases.
-use Rattle.std.specs.Prelude.{ℕ, zero, suc, ◌+◌, ◌==◌, ◌≡◌, List, [], ◌∷◌, ◌++◌, length, reverse, flat_map, Option, Some, None, Bool, false, ◌&&◌, if◌then◌else◌, bytes_eq, slice_get}
+use Rattle.std.specs.Prelude.{ℕ, zero, suc, ◌+◌, ◌==◌, ◌≡◌, List, [], ◌∷◌, length, reverse, flat_map, Option, Some, None, Bool, false, ◌&&◌, if◌then◌else◌, bytes_eq, slice_get}
 use Rattle.std.specs.Option.{option_map_or, option_and_then, option_to_list}
 use Rattle.feast_base.specs.declared.place.Place.{Place}
 use Rattle.ulam_tree.specs.Raw.{Word, Class}

@@ -1,6 +1,6 @@
 -- Statements without others within.
 use Rattle.std.specs.Prelude.{Bool, true, false}
-use Rattle.ulam_tree.specs.Raw.{Statement, block, empty, if_so, while_so, for_all, returns, breaks, continues, declares, assigns, counts, does}
+use Rattle.ulam_tree.specs.Raw.{Statement, block, if_so, while_so, for_all}
 
 -- a statement that has no statement within
 abbrev pub is_simple : Statement → Bool

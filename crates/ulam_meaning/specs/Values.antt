@@ -7,7 +7,6 @@ use Rattle.sat_math.specs.declared.Kind.TheVariants as k
 use Rattle.sat_math.specs.declared.NumType.{NumType}
 use Rattle.sat_math.specs.declared.Arith.{Arith}
 use Rattle.sat_math.specs.declared.Arith.TheVariants.{Int32, Unsigned32, Int64, Unsigned64}
-use Rattle.sat_math.specs.declared.CompareOp.{CompareOp}
 use Rattle.sat_math.specs.declared.CompareOp.TheVariants as c
 use Rattle.sat_math.specs.Numbers.{cast, bits}
 use Rattle.sat_math.specs.Operations.{saturated, complement, of_bool, is_zero, low64, shifted_up, shifted_down, comparison}

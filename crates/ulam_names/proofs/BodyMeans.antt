@@ -1,5 +1,5 @@
 -- What is found is a resolution.
-use Rattle.std.proofs.Common.{ℕ, ◌+◌, refl, List, [], ◌∷◌, Option, Some, None, Bool, not, Ok, Err, ℤ, drop, nat_lt}
+use Rattle.std.proofs.Common.{ℕ, ◌+◌, refl, List, [], ◌∷◌, Option, Some, None, Bool, not, ℤ, drop, nat_lt}
 use Rattle.std.proofs.lemmas.Bool.{ltb-true, not-true}
 use Rattle.std.specs.List.{list_any}
 use Rattle.feast_base.specs.declared.place.Place.{Place}

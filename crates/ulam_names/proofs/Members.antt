@@ -1,15 +1,13 @@
 -- Members of a class, one after another.
-use Rattle.std.proofs.Common.{◌≡◌, ℕ, refl, sym, ap, ◌∙◌, List, [], ◌∷◌, ◌++◌, length, map, take, Bool, true, false, ◌||◌, Ok, Err, arith, Option, Some, None, is_some, append_assoc, cond, nat_lt}
-use Rattle.std.specs.List.{list_any}
+use Rattle.std.proofs.Common.{◌≡◌, refl, sym, ap, ◌∙◌, List, [], ◌∷◌, ◌++◌, length, Bool, true, false, ◌||◌, Ok, Err, Some, is_some, append_assoc, cond, nat_lt}
 use Rattle.std.specs.Prelude.{find, option_map}
 use Rattle.std.specs.Str.{bytes_eq}
-use Rattle.std.proofs.lemmas.List.{take_all, map-append}
 use Rattle.ulam_tree.specs.Raw as t
 use Rattle.ulam_tree.specs.Resolved as r
 use Rattle.ulam_tree.specs.declared.resolved.Named.{Named}
 use Rattle.ulam_tree.specs.Found.{◌>>=◌, with_front}
 use Rattle.ulam_names.specs.Faults.{Found, too_many, declared_twice}
-use Rattle.ulam_names.specs.Scopes.{Text, Names, Context, is_among, names_of, beside, declares_name}
+use Rattle.ulam_names.specs.Scopes.{Text, Names, is_among, names_of, beside, declares_name}
 use Rattle.ulam_names.specs.Classes as w
 use Rattle.ulam_names.specs.Shown.{with_halves}
 use Rattle.ulam_names.proofs.BodyFits.{answer_or}

@@ -1,5 +1,5 @@
 -- What is found for all files.
-use Rattle.std.proofs.Common.{◌≡◌, ◌≢◌, ℕ, ◌≤◌, refl, sym, ap, subst, ◌∙◌, List, [], length, map, Ok, Err, Result, arith}
+use Rattle.std.proofs.Common.{◌≡◌, ◌≢◌, ◌≤◌, refl, ap, subst, ◌∙◌, List, [], length, map, Ok, Err, Result, arith}
 use Rattle.std.specs.Prelude.{IfOk, IfErr}
 use Rattle.std.proofs.lemmas.List.{length-map}
 use Rattle.ulam_tree.specs.Raw as t
@@ -10,7 +10,7 @@ use Rattle.ulam_names.specs.declared.fault.NameFault.{NameFault}
 use Rattle.ulam_names.specs.declared.fault.NameFault.TheVariants as n
 use Rattle.ulam_names.specs.declared.half.HalfClass.{HalfClass}
 use Rattle.ulam_tree.specs.Found.{◌>>=◌}
-use Rattle.ulam_names.specs.Faults.{Found, declared_twice, unknown_name, cyclic_quark, no_behave, bad_constant, too_many, bad_width}
+use Rattle.ulam_names.specs.Faults.{declared_twice, unknown_name, cyclic_quark, no_behave, bad_constant, too_many, bad_width}
 use Rattle.ulam_names.specs.Scopes.{Head}
 use Rattle.ulam_names.specs.Classes as w
 use Rattle.ulam_names.specs.ClassRelation.{IsResolved}

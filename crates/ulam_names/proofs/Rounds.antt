@@ -1,5 +1,5 @@
 -- Rounds over all classes, and which class leads to which.
-use Rattle.std.proofs.Common.{◌≡◌, ℕ, zero, suc, ◌+◌, ◌<◌, refl, sym, ap, ◌∙◌, List, [], ◌∷◌, length, map, get_or, Bool, true, false, ◌||◌, nat_eq, Some, None, Option, add-one, drop}
+use Rattle.std.proofs.Common.{◌≡◌, ℕ, zero, suc, ◌+◌, refl, sym, ap, ◌∙◌, List, [], ◌∷◌, length, map, get_or, Bool, true, false, ◌||◌, nat_eq, Some, None, Option, add-one, drop}
 use Rattle.std.specs.Prelude.{slice_get}
 use Rattle.std.specs.Option.{option_map_or}
 use Rattle.std.specs.List.{list_any}

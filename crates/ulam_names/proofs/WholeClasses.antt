@@ -1,19 +1,14 @@
 -- Members and classes with their bodies, one after another.
-use Rattle.std.proofs.Common.{◌≡◌, ℕ, ◌+◌, refl, sym, ap, ◌∙◌, List, [], ◌∷◌, ◌++◌, length, map, take, Ok, append_assoc}
-use Rattle.std.proofs.lemmas.List.{length-map, map-append}
-use Rattle.ulam_tree.specs.RawViews.{word_of, body_list}
+use Rattle.std.proofs.Common.{◌≡◌, ℕ, ◌+◌, sym, ap, ◌∙◌, List, [], ◌∷◌, ◌++◌, map, Ok, append_assoc}
+use Rattle.std.proofs.lemmas.List.{map-append}
 use Rattle.ulam_tree.specs.ResolvedViews.{resolved_param}
 use Rattle.ulam_tree.specs.declared.resolved.Param.{Param}
 use Rattle.ulam_names.specs.declared.half.HalfParam.{HalfParam}
-use Rattle.ulam_names.specs.declared.half.Pending.{Pending}
-use Rattle.ulam_names.specs.declared.scope.Entry.{Entry}
-use Rattle.ulam_names.specs.Walk as walk
 use Rattle.ulam_tree.specs.Resolved as r
-use Rattle.ulam_tree.specs.Found.{◌>>=◌, with_front}
-use Rattle.ulam_names.specs.Faults.{Found}
-use Rattle.ulam_names.specs.Scopes.{Head, Names, names_of}
+use Rattle.ulam_tree.specs.Found.{with_front}
+use Rattle.ulam_names.specs.Scopes.{Head, Names}
 use Rattle.ulam_names.specs.Classes as w
-use Rattle.ulam_names.specs.Shown.{entries_of, scope_of, param_of, pending_of}
+use Rattle.ulam_names.specs.Shown.{param_of}
 use Rattle.ulam_tree.proofs.Means.{front_on}
 
 pub member_on : (known : w.Known) (heads : List Head) (k : ℕ) (d : Names) (front : List r.Member) (m : w.Half) (ms : List w.Half) (x : r.Member) →

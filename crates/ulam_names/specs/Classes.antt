@@ -1,5 +1,5 @@
 -- The walk over files: all class names, the members of each class, two rules of whole classes, and then the bodies.
-use Rattle.std.specs.Prelude.{ℕ, zero, suc, ◌+◌, List, [], ◌∷◌, ◌++◌, length, map, slice_get, Option, Some, None, is_some, option_map, Bool, true, false, not, ◌&&◌, ◌||◌, if◌then◌else◌, nat_eq, nat_lt, int_le, ℤ, pos, neg_ℤ, unsigned_abs, Ok, codes, flat_map, take}
+use Rattle.std.specs.Prelude.{ℕ, ◌+◌, List, [], ◌∷◌, ◌++◌, length, map, slice_get, Option, Some, None, is_some, option_map, Bool, true, false, not, ◌&&◌, ◌||◌, if◌then◌else◌, nat_lt, int_le, ℤ, pos, neg_ℤ, unsigned_abs, Ok, codes, flat_map, take}
 use Rattle.std.specs.Option.{option_map_or}
 use Rattle.std.specs.List.{list_any}
 use Rattle.std.specs.Str.{bytes_eq}

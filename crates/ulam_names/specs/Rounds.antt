@@ -1,5 +1,5 @@
 -- Rows of marks, one for each class, as rounds over all classes make them.
-use Rattle.std.specs.Prelude.{ℕ, zero, suc, List, [], ◌∷◌, map, flat_map, get_or, Bool, true, false, ◌||◌, nat_eq}
+use Rattle.std.specs.Prelude.{ℕ, zero, suc, List, [], map, flat_map, get_or, Bool, true, false, ◌||◌, nat_eq}
 use Rattle.std.specs.List.{list_any}
 use Rattle.ulam_tree.specs.declared.resolved.Ty.{Ty}
 use Rattle.ulam_tree.specs.Ways.{class_number}

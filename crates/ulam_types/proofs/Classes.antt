@@ -1,10 +1,10 @@
 -- The walk over a program finds exactly its typed tree.
-use Rattle.std.proofs.Common.{◌≡◌, ℕ, ◌+◌, Bool, true, not, ◌||◌, map, List, [], ◌∷◌, Some, None, Ok, Err, refl, ap, sym, ◌∙◌}
+use Rattle.std.proofs.Common.{◌≡◌, ℕ, ◌+◌, true, not, ◌||◌, map, List, [], ◌∷◌, None, Ok, Err, refl, ap, sym}
 use Rattle.ulam_tree.specs.Resolved as r
 use Rattle.ulam_tree.specs.Typed as t
 use Rattle.ulam_tree.specs.Completes.{all_complete}
 use Rattle.ulam_tree.specs.Found.{fault_of}
-use Rattle.ulam_types.specs.Faults.{Fault, Found}
+use Rattle.ulam_types.specs.Faults.{Found}
 use Rattle.ulam_types.specs.Scopes.{Scope, ClassSig, is_value}
 use Rattle.ulam_types.specs.Rows.{is_void}
 use Rattle.ulam_types.specs.Bodies.{body}
@@ -12,7 +12,7 @@ use Rattle.ulam_types.specs.Programs as p
 use Rattle.ulam_types.specs.Programs.{class_sig, scope_of, first_fault}
 use Rattle.ulam_types.specs.Typing.{IsTypedBody}
 use Rattle.ulam_types.specs.ProgramTyping.{HaveValues, IsTypedMember, AreTypedMembers, AreTypedClasses, IsTypedProgram}
-use Rattle.ulam_tree.proofs.Means.{Means, means_then, means_must, means_at, ok_same, means_more}
+use Rattle.ulam_tree.proofs.Means.{Means, means_then, means_must, ok_same, means_more}
 use Rattle.ulam_types.proofs.Statements.{body_fits, body_means}
 
 params_fit : (g : Scope) (ps : List r.Param) → HaveValues g ps → p.params g ps ≡ Ok tt

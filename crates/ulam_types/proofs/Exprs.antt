@@ -1,5 +1,5 @@
 -- The walk over an expression finds exactly its typed tree.
-use Rattle.std.proofs.Common.{◌≡◌, ℕ, Bool, true, false, nat_eq, length, List, [], ◌∷◌, Option, Some, None, Ok, Err, refl, ap, sym, ◌∙◌}
+use Rattle.std.proofs.Common.{◌≡◌, ℕ, true, false, nat_eq, length, List, [], ◌∷◌, Some, Ok, refl, ap, sym}
 use Rattle.std.proofs.lemmas.Bool.{eqb-true, eq-eqb}
 use Rattle.sat_math.specs.declared.Kind.{Kind}
 use Rattle.sat_math.specs.declared.Kind.TheVariants as k
@@ -7,13 +7,12 @@ use Rattle.ulam_tree.specs.declared.resolved.Ty.{Ty}
 use Rattle.ulam_tree.specs.Resolved as r
 use Rattle.ulam_tree.specs.Typed as t
 use Rattle.ulam_types.specs.declared.scope.Want.{Want}
-use Rattle.ulam_tree.specs.Found.{found, must}
 use Rattle.ulam_types.specs.Faults.{Found}
-use Rattle.ulam_types.specs.Scopes.{Scope, Callee, is_value, value_type, item_type, callee, wants_of}
-use Rattle.ulam_types.specs.Rows.{beside, plain_fits, pair_type, prefix_type, cast_type, is_atom, is_species, is_index, taken_want, all_suit, is_built, result_of}
-use Rattle.ulam_types.specs.Walk.{plain, count, operands, arguments, called_by, call_value, index_by, expr, args}
+use Rattle.ulam_types.specs.Scopes.{Scope, is_value, value_type, item_type, callee, wants_of}
+use Rattle.ulam_types.specs.Rows.{beside, plain_fits, pair_type, prefix_type, cast_type, is_atom, is_species, is_index, taken_want, all_suit, is_built}
+use Rattle.ulam_types.specs.Walk.{plain, count, operands, arguments, called_by, index_by, expr, args}
 use Rattle.ulam_types.specs.Typing.{IsCalled, IsTyped, AreTyped}
-use Rattle.ulam_tree.proofs.Means.{Means, means_is, means_then, means_found, means_must, means_at}
+use Rattle.ulam_tree.proofs.Means.{Means, means_then, means_found, means_must, means_at}
 use Rattle.ulam_types.proofs.Operands.{operands_fit, operands_mean}
 
 -- only a plain number asks for the kind

@@ -1,5 +1,5 @@
 -- A fault of the code's that is handed on.
-use Rattle.std.proofs.Common.{◌≡◌, refl, Ok, Err}
+use Rattle.std.proofs.Common.{◌≡◌, refl, Err}
 use Rattle.ulam_types.specs.declared.fault.TypeFault.{TypeFault}
 use Rattle.ulam_types.specs.declared.fault.TypeFault.TheVariants as e
 use Rattle.ulam_tree.specs.Found.{◌>>=◌}

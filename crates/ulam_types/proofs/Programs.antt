@@ -1,5 +1,5 @@
 -- What is found for a program.
-use Rattle.std.proofs.Common.{◌≡◌, ◌≢◌, refl, sym, ap, ◌∙◌, subst, List, Option, Some, None, Ok, Err, Result}
+use Rattle.std.proofs.Common.{◌≡◌, ◌≢◌, refl, sym, ◌∙◌, subst, List, Ok, Err, Result}
 use Rattle.std.specs.Prelude.{IfOk, IfErr}
 use Rattle.ulam_tree.specs.Resolved as r
 use Rattle.ulam_tree.specs.Typed as t
@@ -7,7 +7,7 @@ use Rattle.ulam_tree.specs.TypedViews.{typed_program}
 use Rattle.ulam_tree.specs.declared.typed.Typed.{Typed}
 use Rattle.ulam_types.specs.declared.fault.TypeFault.{TypeFault}
 use Rattle.ulam_types.specs.declared.fault.TypeFault.TheVariants as e
-use Rattle.ulam_types.specs.Faults.{Fault, Found}
+use Rattle.ulam_types.specs.Faults.{Fault}
 use Rattle.ulam_types.specs.Programs.{program}
 use Rattle.ulam_types.specs.ProgramTyping.{IsTypedProgram}
 use Rattle.ulam_types.specs.Shown.{Gives, Fails}

@@ -1,5 +1,5 @@
 -- The types of slots, by the parts of a statement.
-use Rattle.std.proofs.Common.{◌≡◌, ℕ, ◌+◌, ◌≤◌, ◌<◌, length, List, [], ◌∷◌, ◌++◌, drop, get_or, Option, Some, None, Result, Ok, Err, IfOk, refl, ap, sym, ◌∙◌, append_assoc, Vec, Global}
+use Rattle.std.proofs.Common.{◌≡◌, ℕ, ◌+◌, ◌≤◌, ◌<◌, length, List, [], ◌∷◌, ◌++◌, drop, get_or, Option, Result, Ok, Err, IfOk, refl, ap, sym, ◌∙◌, append_assoc, Vec, Global}
 use Rattle.std.specs.Global.{Box}
 use Rattle.std.specs.Box.{box_value}
 use Rattle.std.proofs.lemmas.List.{drop_more, drop_all}

@@ -1,5 +1,5 @@
 -- The walk over a statement finds exactly its typed tree.
-use Rattle.std.proofs.Common.{◌≡◌, true, not, List, [], ◌∷◌, Option, Some, None, Ok, Err, refl, ap, sym, ◌∙◌}
+use Rattle.std.proofs.Common.{◌≡◌, true, not, Option, Some, None, Ok, refl, ap, sym}
 use Rattle.std.proofs.lemmas.Bool.{not-true}
 use Rattle.feast_base.specs.declared.place.Place.{Place}
 use Rattle.sat_math.specs.declared.Kind.TheVariants as k
@@ -8,14 +8,13 @@ use Rattle.ulam_tree.specs.declared.op.PairOp.{PairOp}
 use Rattle.ulam_tree.specs.declared.op.PairOp.TheVariants as op
 use Rattle.ulam_tree.specs.Resolved as r
 use Rattle.ulam_tree.specs.Typed as t
-use Rattle.ulam_tree.specs.Found.{found, must}
 use Rattle.ulam_types.specs.Faults.{Found}
 use Rattle.ulam_types.specs.Scopes.{Scope, in_loop, is_value, target_type}
 use Rattle.ulam_types.specs.Rows.{taken, plain_type, pair_type, is_truth, is_void, assignable}
 use Rattle.ulam_types.specs.Walk.{plain, count, index_by, expr, args, call}
 use Rattle.ulam_types.specs.Bodies as b
 use Rattle.ulam_types.specs.Bodies.{atom_slot, is_element_type}
-use Rattle.ulam_types.specs.Typing.{IsTyped, AreTyped, IsCall, IsLeftBy, IsLeft, IsValueFor, IsAssigned, IsTest, IsMaybe, IsCond, IsResult, IsTypedStatement, IsTypedPart, IsTypedBody}
+use Rattle.ulam_types.specs.Typing.{IsTyped, AreTyped, IsCall, IsLeftBy, IsValueFor, IsAssigned, IsTest, IsMaybe, IsCond, IsResult, IsTypedStatement, IsTypedPart, IsTypedBody}
 use Rattle.ulam_tree.proofs.Means.{Means, means_then, means_found, means_must}
 use Rattle.ulam_types.proofs.Exprs.{expr_fits, args_fit, called_fits, expr_means, args_mean, called_means, index_means}
 

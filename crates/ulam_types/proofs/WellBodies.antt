@@ -1,5 +1,5 @@
 -- What a typed tree says by itself, from its typing: statements.
-use Rattle.std.proofs.Common.{◌≡◌, ℕ, Bool, true, false, ◌||◌, ◌&&◌, List, [], ◌∷◌, ◌++◌, Option, Some, None, refl, ap, sym, ◌∙◌, subst}
+use Rattle.std.proofs.Common.{◌≡◌, Option, Some, None, refl, ap, sym, ◌∙◌, subst}
 use Rattle.sat_math.specs.declared.Kind.TheVariants as k
 use Rattle.ulam_tree.specs.declared.resolved.Ty.{Ty}
 use Rattle.ulam_tree.specs.declared.op.PairOp.{PairOp}
@@ -9,7 +9,7 @@ use Rattle.ulam_tree.specs.Locals.{locals, part_locals, all_locals}
 use Rattle.ulam_tree.specs.Completes.{completes, part_completes, all_complete}
 use Rattle.ulam_types.specs.Scopes.{Scope, in_loop}
 use Rattle.ulam_types.specs.Rows.{taken, pair_type}
-use Rattle.ulam_types.specs.Typing.{IsLeftBy, IsLeft, IsValueFor, IsAssigned, IsTest, IsMaybe, IsCond, IsResult, IsTypedStatement, IsTypedPart, IsTypedBody}
+use Rattle.ulam_types.specs.Typing.{IsLeftBy, IsValueFor, IsAssigned, IsTest, IsMaybe, IsCond, IsResult, IsTypedStatement, IsTypedPart, IsTypedBody}
 use Rattle.ulam_types.specs.Well.{IsWellLeft, IsWellValue, IsWellAssigned, IsWellTest, IfSome, IsWellCond, IsWellResult, IsWellStatement, IsWellPart, IsWellBody}
 use Rattle.ulam_types.proofs.Well.{plain_same, well, call_well}
 

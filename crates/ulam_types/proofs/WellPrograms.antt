@@ -1,11 +1,9 @@
 -- What a typed tree says by itself, from its typing: programs.
-use Rattle.std.proofs.Common.{◌≡◌, ℕ, ◌+◌, true, false, not, ◌||◌, ◌++◌, map, List, [], ◌∷◌, refl, ap, sym, ◌∙◌, subst}
-use Rattle.ulam_tree.specs.declared.resolved.Ty.{Ty}
+use Rattle.std.proofs.Common.{◌≡◌, ℕ, ◌+◌, true, false, not, ◌||◌, ◌++◌, map, List, [], ◌∷◌, ap, sym, ◌∙◌, subst}
 use Rattle.ulam_tree.specs.Resolved as r
 use Rattle.ulam_tree.specs.Typed as t
 use Rattle.ulam_tree.specs.Completes.{all_complete}
-use Rattle.ulam_types.specs.declared.scope.FieldSig.{FieldSig}
-use Rattle.ulam_types.specs.Scopes.{Scope, FunctionSig, ClassSig, is_value}
+use Rattle.ulam_types.specs.Scopes.{Scope, ClassSig, is_value}
 use Rattle.ulam_types.specs.Rows.{is_void}
 use Rattle.ulam_types.specs.Programs.{fields_of, functions_of, want_of, class_sig, param_type, scope_of}
 use Rattle.ulam_types.specs.ProgramTyping.{HaveValues, IsTypedMember, AreTypedMembers, AreTypedClasses, IsTypedProgram}

@@ -1,6 +1,5 @@
 -- What the code knows where an expression stands, as the definitions have it.
 use Rattle.std.specs.Prelude.{◌≡◌, List, [], ◌∷◌, map, Result, Ok, Err}
-use Rattle.ulam_tree.specs.Resolved as r
 use Rattle.ulam_tree.specs.Typed as t
 use Rattle.ulam_tree.specs.TypedViews.{typed_expr, typed_statement}
 use Rattle.ulam_tree.specs.declared.typed.Expr.{Expr}

@@ -6,8 +6,8 @@ use Rattle.std.proofs.lemmas.List.Elements.{All-head, All-tail, All-cons, All-ni
 use Rattle.std.proofs.lemmas.Bool.{both_ways}
 use Rattle.tile_map.specs.Plane.{MapValue}
 use Rattle.world_text.specs.Line.{Line, IsFormed, header, tiles, size, off, seed, attempts, try, atom, order_seed, order}
-use Rattle.world_text.specs.Drafts.{DraftValue, IsDraft, is_early, step, put, kind_of, may_follow, in_range, too_many, misplaced, missing, nothing_said, only_plane, raw_atom}
-use Rattle.world_text.specs.Named.{ReadsWorld, WorldValue, name_fault, named, atom_place, type_of, unless, world_of}
+use Rattle.world_text.specs.Drafts.{DraftValue, IsDraft, is_early, step, put, kind_of, may_follow, in_range, too_many, misplaced, missing, nothing_said, raw_atom}
+use Rattle.world_text.specs.Named.{WorldValue, name_fault, named, atom_place, type_of, unless, world_of}
 use Rattle.world_text.specs.Printed.{IsNamed, lines_text, world_lines}
 use Rattle.world_text.specs.Reading.{go_on, over, read_text}
 use Rattle.world_text.specs.Saying.{AreCut, AreNamedToo, AreWorldCuts, IsPrinted, IsReadBut, IsWorldBut, last_kind, said}

@@ -1,16 +1,16 @@
 -- The lines of a plane are taken.
-use Rattle.std.proofs.Common.{ℕ, zero, suc, ◌≡◌, ◌+◌, ◌*◌, ◌^◌, ◌<◌, ◌≤◌, Bool, true, false, not, ◌&&◌, List, [], ◌∷◌, ◌++◌, append_assoc, length, filter, replicate, nat_le, nat_lt, refl, ap, sym, ◌∙◌, subst, arith, drop}
+use Rattle.std.proofs.Common.{ℕ, zero, suc, ◌≡◌, ◌+◌, ◌^◌, ◌<◌, ◌≤◌, Bool, true, false, not, ◌&&◌, List, [], ◌∷◌, ◌++◌, append_assoc, length, filter, replicate, nat_lt, refl, ap, sym, ◌∙◌, subst, arith, drop}
 use Rattle.std.specs.List.{list_any}
 use Rattle.std.proofs.Math.ListN.{set}
-use Rattle.std.proofs.lemmas.List.{length-append, length-replicate, drop_at}
+use Rattle.std.proofs.lemmas.List.{length-append, drop_at}
 use Rattle.std.proofs.lemmas.List.Elements.{filter-append}
 use Rattle.list_laws.proofs.Filters.{filter_short}
 use Rattle.list_laws.proofs.Tests.{together}
 use Rattle.draw_stream.specs.Plans.{tiles_on}
 use Rattle.tile_map.specs.Plane.{MapValue, IsMap, plane_of, tiles_of, whole_plane}
-use Rattle.world_text.specs.Line.{Line, header, tiles, size, off}
-use Rattle.world_text.specs.Drafts.{DraftValue, after_size, between, in_range, may_follow, nothing_said, only_plane, put, too_many}
-use Rattle.world_text.specs.Printed.{off_lines, off_one}
+use Rattle.world_text.specs.Line.{header, tiles, size, off}
+use Rattle.world_text.specs.Drafts.{after_size, between, in_range, may_follow, nothing_said, only_plane, put, too_many}
+use Rattle.world_text.specs.Printed.{off_lines}
 use Rattle.world_text.specs.declared.kind.Kind.{Kind}
 use Rattle.world_text.specs.declared.kind.Kind.TheVariants.{Header, Off, Size, Tiles}
 use Rattle.world_text.proofs.Kept.{all_on}

@@ -1,8 +1,8 @@
 -- The text of a world says this world again.
-use Rattle.std.proofs.Common.{ℕ, zero, suc, ◌≡◌, ◌+◌, ◌-◌, ◌*◌, ◌^◌, ◌<◌, ◌≤◌, ◌==◌, Bool, true, false, ◌&&◌, List, [], ◌∷◌, ◌++◌, All, append_assoc, length, map, get_or, replicate, sum_by, bytes_eq, refl, ap, sym, ◌∙◌, subst, arith, Option, Some, None, IfSome, Result, Ok, Err, is_some, if◌then◌else◌, inl, inr, lt-ltb, ltb-true}
+use Rattle.std.proofs.Common.{ℕ, ◌≡◌, ◌+◌, ◌-◌, ◌*◌, ◌^◌, ◌<◌, ◌≤◌, ◌==◌, Bool, true, false, List, [], ◌∷◌, ◌++◌, All, append_assoc, length, map, get_or, replicate, bytes_eq, refl, ap, sym, ◌∙◌, subst, arith, Option, Some, None, IfSome, Ok, is_some, if◌then◌else◌, lt-ltb, ltb-true}
 use Rattle.std.specs.List.{list_all, list_any}
 use Rattle.std.proofs.lemmas.List.{append-nil, length-append}
-use Rattle.std.proofs.lemmas.List.Elements.{All-head, All-tail, All-append, All-cons, All-nil}
+use Rattle.std.proofs.lemmas.List.Elements.{All-head, All-tail, All-cons, All-nil}
 use Rattle.std.proofs.lemmas.Slice.Eq.{bytes_eq-Decides}
 use Rattle.list_laws.specs.Options.{or_zero}
 use Rattle.list_laws.proofs.Tests.{both, together}
@@ -10,21 +10,20 @@ use Rattle.feast_base.specs.TypeNames.{is_type_name, name_of}
 use Rattle.draw_stream.specs.declared.attempt.Attempt.{Attempt}
 use Rattle.draw_stream.specs.Plans.{PlanValue, tiles_on}
 use Rattle.tile_map.specs.Plane.{MapValue, IsMap, in_plane, is_on, site, tiles_of, whole_plane}
-use Rattle.world_text.specs.Line.{Line, atom, attempts, header, order, order_seed, seed, size, tiles}
+use Rattle.world_text.specs.Line.{atom, order, order_seed}
 use Rattle.world_text.specs.Drafts.{DraftValue, IsDraft, IsRawAtom, after_atoms, after_size, in_range, missing, nothing_said, only_plane, put, raw_atom, too_many}
-use Rattle.world_text.specs.Named.{OrderValue, ReadsWorld, WorldValue, drawn, listed, name_fault, named, order_by, atom_place, placed, plan_by, type_from, type_of, unless, world_of}
-use Rattle.world_text.specs.Printed.{IsNamed, atom_line, line_fields, lines_text, off_lines, order_lines, plan_lines, try_lines, world_lines, world_text}
-use Rattle.world_text.specs.Reading.{over, read_text}
+use Rattle.world_text.specs.Named.{ReadsWorld, WorldValue, name_fault, named, order_by, atom_place, placed, plan_by, type_from, type_of, unless, world_of}
+use Rattle.world_text.specs.Printed.{IsNamed, atom_line, off_lines, order_lines, plan_lines, try_lines, world_lines, world_text}
+use Rattle.world_text.specs.Reading.{over}
 use Rattle.world_text.specs.Saying.{IsPrinted, said}
 use Rattle.world_text.specs.declared.draft.RawAtom.{RawAtom}
 use Rattle.world_text.specs.declared.kind.Kind.{Kind}
 use Rattle.world_text.specs.declared.kind.Kind.TheVariants.{Atom, Attempts, Order, OrderSeed, Size}
-use Rattle.world_text.specs.declared.world.Placed.{Placed}
 use Rattle.world_text.proofs.Again.{text_again}
-use Rattle.world_text.proofs.Planes.{marked, off_taken, plane_taken}
+use Rattle.world_text.proofs.Planes.{off_taken, plane_taken}
 use Rattle.world_text.proofs.Prints.{IsKnown, all_known}
 use Rattle.world_text.proofs.Taken.{Takes, atom_may, order_may, order_seed_may, size_before_try, takes_none, takes_one, takes_then, try_before_atoms}
-use Rattle.world_text.proofs.Tried.{drawn_taken, get_at, lists_taken, small_side, tried}
+use Rattle.world_text.proofs.Tried.{drawn_taken, get_at, lists_taken, small_side}
 
 -- the name of a name's type number is this name
 name_from : (names all front : List (List ℕ)) (k : ℕ) (name : List ℕ) (j : ℕ) → all ≡ front ++ names → k ≡ length front + 1 → type_from k names name ≡ Some j → get_or all (j - 1) [] ≡ name

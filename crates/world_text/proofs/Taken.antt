@@ -1,11 +1,11 @@
 -- Lines that are taken one after another.
-use Rattle.std.proofs.Common.{ℕ, ◌≡◌, ◌+◌, ◌*◌, ◌^◌, ◌<◌, ◌≤◌, Bool, true, false, List, [], ◌∷◌, ◌++◌, All, append_assoc, refl, ap, ◌∙◌, arith, Some, Ok}
+use Rattle.std.proofs.Common.{ℕ, ◌≡◌, ◌+◌, Bool, true, false, List, [], ◌∷◌, ◌++◌, All, append_assoc, refl, ap, ◌∙◌, arith}
 use Rattle.std.proofs.lemmas.List.Elements.{All-append, All-cons, All-nil}
 use Rattle.world_text.specs.Line.{Line}
-use Rattle.world_text.specs.Drafts.{DraftValue, after_atoms, after_size, in_range, kind_of, may_follow, misplaced, put, step, too_many}
+use Rattle.world_text.specs.Drafts.{DraftValue, after_atoms, after_size, in_range, kind_of, may_follow, put, step, too_many}
 use Rattle.world_text.specs.Saying.{IsPrinted, said}
 use Rattle.world_text.specs.declared.kind.Kind.{Kind}
-use Rattle.world_text.specs.declared.kind.Kind.TheVariants.{Start, Header, Tiles, Size, Off, Seed, Attempts, Try, Atom, OrderSeed, Order}
+use Rattle.world_text.specs.declared.kind.Kind.TheVariants.{Off, Seed, Try, Atom, OrderSeed, Order}
 
 -- behind a draft these lines are taken, of which the first has number n: whatever comes behind them comes behind draft e,
 -- from number k on

@@ -1,5 +1,5 @@
 -- The lines of the attempts are taken.
-use Rattle.std.proofs.Common.{ℕ, zero, suc, ◌≡◌, ◌+◌, ◌*◌, ◌/◌, ◌%◌, ◌^◌, ◌<◌, ◌≤◌, Bool, true, false, ◌&&◌, List, [], ◌∷◌, ◌++◌, All, append_assoc, length, map, get_or, replicate, sum_by, nat_le, nat_lt, refl, ap, sym, ◌∙◌, subst, arith, Option, Some, None, eq-eqb, lt-ltb, ltb-true}
+use Rattle.std.proofs.Common.{ℕ, ◌≡◌, ◌+◌, ◌*◌, ◌/◌, ◌%◌, ◌^◌, ◌<◌, ◌≤◌, Bool, true, false, List, [], ◌∷◌, ◌++◌, All, append_assoc, length, map, get_or, replicate, sum_by, nat_le, nat_lt, refl, ap, sym, ◌∙◌, subst, arith, Some, eq-eqb, lt-ltb, ltb-true}
 use Rattle.std.proofs.Math.ListN.{set}
 use Rattle.std.proofs.Math.Nat.{div-lt_iff_lt-mul, div-add-mod'}
 use Rattle.std.proofs.lemmas.Nat.{div-mul-add, mod-mul-add, mul-add-lt}
@@ -9,9 +9,9 @@ use Rattle.std.proofs.lemmas.List.Sums.{sum_by-cons}
 use Rattle.list_laws.proofs.Tests.{both, together}
 use Rattle.draw_stream.specs.declared.attempt.Attempt.{Attempt}
 use Rattle.draw_stream.specs.Plans.{tiles_on}
-use Rattle.tile_map.specs.Plane.{MapValue, IsMap, in_plane, is_live, is_on, owner_of, site, site_in, tiles_of}
-use Rattle.world_text.specs.Line.{Line, attempts, seed, try}
-use Rattle.world_text.specs.Drafts.{DraftValue, IsTry, after_size, attempt_of, in_range, may_follow, only_plane, put, too_many, try_in_range}
+use Rattle.tile_map.specs.Plane.{MapValue, IsMap, in_plane, is_on, owner_of, site_in, tiles_of}
+use Rattle.world_text.specs.Line.{Line, attempts, seed}
+use Rattle.world_text.specs.Drafts.{DraftValue, IsTry, after_size, attempt_of, in_range, only_plane, put, too_many}
 use Rattle.world_text.specs.Printed.{try_line, try_lines}
 use Rattle.world_text.specs.declared.kind.Kind.{Kind}
 use Rattle.world_text.specs.declared.kind.Kind.TheVariants.{Attempts, Seed, Try}

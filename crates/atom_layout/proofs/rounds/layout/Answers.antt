@@ -1,11 +1,10 @@
-use Rattle.std.proofs.Common.{◌≡◌, List, ◌∷◌, ◌++◌, ℕ, map, drop, length, sum, ap, sym, subst, ◌∙◌, Option, Some, None, ◌+◌, ◌≤◌, ◌<◌, get_or, arith}
+use Rattle.std.proofs.Common.{◌≡◌, List, ◌∷◌, ◌++◌, ℕ, map, drop, length, sum, ap, sym, subst, ◌∙◌, Some, None, ◌+◌, ◌≤◌, ◌<◌, get_or, arith}
 use Rattle.std.proofs.lemmas.List.{at_drop_more}
 use Rattle.ulam_tree.specs.declared.resolved.Class.{Class as RawClass}
 use Rattle.ulam_tree.specs.ResolvedViews.{resolved_class}
 use Rattle.ulam_tree.specs.Resolved.{Class}
-use Rattle.atom_layout.specs.declared.fault.LayoutFault.{LayoutFault}
-use Rattle.atom_layout.specs.Layouts.{widths, class_bits, first_of, fault_by, fault_in, total}
-use Rattle.atom_layout.specs.Rows.{class_row, in_row, narrow, row_after, rows_of, AllNarrow}
+use Rattle.atom_layout.specs.Layouts.{widths, class_bits, first_of, fault_in, total}
+use Rattle.atom_layout.specs.Rows.{row_after, rows_of}
 use Rattle.atom_layout.proofs.Narrow.{narrow_on}
 use Rattle.atom_layout.proofs.Told.{row_here, fault_is, widths_here, first_here, first_later, rows_on, narrow_by}
 use Rattle.atom_layout.proofs.rounds.layout.Goals as goal

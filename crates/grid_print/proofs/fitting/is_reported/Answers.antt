@@ -1,4 +1,4 @@
-use Rattle.std.proofs.Common.{All, ap, arith, length, subst, sym}
+use Rattle.std.proofs.Common.{All, ap, arith, length, subst}
 use Rattle.std.proofs.lemmas.List.Sorted.{All-permutation}
 use Rattle.std.specs.List.{flat_map}
 use Rattle.bit_field.specs.Atom.{IsAtom}

@@ -1,6 +1,6 @@
-use Rattle.std.proofs.Common.{ℕ, ◌≡◌, ◌≤◌, ◌<◌, ◌+◌, ◌-◌, ◌∙◌, ap, arith, length, subst, sym}
+use Rattle.std.proofs.Common.{◌≡◌, ◌≤◌, ◌<◌, ◌+◌, ◌-◌, arith, length, subst}
 use Rattle.report_judge.specs.Rewinding.{IsAt}
-use Rattle.report_judge.proofs.BackAgain.{alike_then, at_first, can_undo, taken_back}
+use Rattle.report_judge.proofs.BackAgain.{alike_then, can_undo, taken_back}
 use Rattle.report_judge.proofs.rewinding.rewound.Goals as goal
 
 pub undo-requires : goal.undo-requires

@@ -1,4 +1,4 @@
-use Rattle.std.proofs.Common.{◌≡◌, ◌+◌, ◌-◌, length}
+use Rattle.std.proofs.Common.{◌+◌, ◌-◌, length}
 use Rattle.cell_grid.specs.Grid.{ArePlanesAlike}
 use Rattle.report_judge.specs.Rewinding.{IsAt}
 use Rattle.report_judge.proofs.rewinding.rewound.Given as goal

@@ -1,4 +1,4 @@
-use Rattle.std.proofs.Common.{◌≡◌, ◌∙◌, ap, get_or}
+use Rattle.std.proofs.Common.{◌∙◌, ap, get_or}
 use Rattle.event_journal.proofs.Journals.{no_record}
 use Rattle.cell_grid.specs.Grid.{GridValue, event}
 use Rattle.cell_grid.specs.declared.record.Record.{Record}

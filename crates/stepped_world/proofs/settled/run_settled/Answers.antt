@@ -1,5 +1,4 @@
-use Rattle.std.proofs.Common.{◌≡◌, List, All, IfOk, length, sym, ap, ◌∙◌, subst}
-use Rattle.std.specs.Iterator.{Drains}
+use Rattle.std.proofs.Common.{◌≡◌, List, All, length, sym, ◌∙◌, subst}
 use Rattle.std.proofs.lemmas.Result.{IfOk-weaker}
 use Rattle.list_laws.proofs.Slots.{take_over}
 use Rattle.tile_core.specs.Values.{TileValue}
@@ -7,7 +6,6 @@ use Rattle.serial_order.specs.Scene.{IsOver}
 use Rattle.serial_order.specs.Words.{histories_on}
 use Rattle.serial_order.specs.Outcomes.{IsMade, scene_of, values_of, Settles}
 use Rattle.stepped_world.specs.Running.{Setting, IsStart}
-use Rattle.stepped_world.specs.Ends.{IsOutcome}
 use Rattle.stepped_world.proofs.Whole.{outcome_is}
 use Rattle.stepped_world.proofs.settled.run_settled.Goals as goal
 

@@ -1,4 +1,4 @@
-use Rattle.std.proofs.Common.{◌≡◌, ◌∷◌, ◌++◌, List, ℕ, [], ap, sym, ◌∙◌, length, arith, length-append, length-drop, length-take, ◌==◌, ◌<◌, false, true}
+use Rattle.std.proofs.Common.{◌≡◌, ◌∷◌, List, ℕ, [], ap, sym, ◌∙◌, length, arith, length-append, ◌==◌, ◌<◌}
 use Rattle.text_lines.proofs.Cuts.{lines_ended, lines_whole, lines_none}
 use Rattle.text_lines.specs.Lines.{lines}
 use Rattle.text_lines.proofs.cut.next_line.Goals as goal

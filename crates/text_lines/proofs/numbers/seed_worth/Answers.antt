@@ -1,4 +1,4 @@
-use Rattle.std.proofs.Common.{◌≡◌, ◌<◌, ◌≤◌, ◌^◌, length, get_or, arith}
+use Rattle.std.proofs.Common.{arith}
 use Rattle.text_lines.proofs.Digits.{passes, power_fits}
 use Rattle.text_lines.specs.Fields.{is_nibble}
 use Rattle.text_lines.proofs.numbers.seed_worth.Goals as goal

@@ -1,4 +1,4 @@
-use Rattle.std.proofs.Common.{◌≡◌, ◌<◌, ◌≤◌, ◌^◌, length, get_or, arith}
+use Rattle.std.proofs.Common.{get_or, arith}
 use Rattle.text_lines.proofs.Digits.{passes, digit_in, power_fits}
 use Rattle.text_lines.specs.Fields.{is_digit}
 use Rattle.text_lines.proofs.numbers.small_worth.Goals as goal

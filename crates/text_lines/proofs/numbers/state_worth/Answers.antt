@@ -1,6 +1,5 @@
-use Rattle.std.proofs.Common.{◌≡◌, ◌<◌, ◌≤◌, ◌^◌, length, get_or, arith}
-use Rattle.text_lines.proofs.Digits.{passes, nibble_in, power_fits}
-use Rattle.text_lines.specs.Fields.{is_nibble}
+use Rattle.std.proofs.Common.{arith}
+use Rattle.text_lines.proofs.Digits.{power_fits}
 use Rattle.text_lines.proofs.numbers.state_worth.Goals as goal
 
 pub overflow_mul-value : goal.overflow_mul-value

@@ -1,4 +1,4 @@
-use Rattle.std.proofs.Common.{◌≡◌, ◌+◌, ◌-◌, ◌*◌, ◌^◌, ◌<◌, drop, fold, ℕ}
+use Rattle.std.proofs.Common.{◌≡◌, ◌+◌, ◌*◌, ◌^◌, ◌<◌, drop, fold, ℕ}
 use Rattle.text_lines.specs.Fields.{hex_worth, nibble}
 use Rattle.text_lines.proofs.numbers.state_worth.Given as goal
 

@@ -1,4 +1,4 @@
-use Rattle.std.proofs.Common.{◌≡◌, ◌∙◌, sym, ap, ◌+◌, List, take, drop, arith}
+use Rattle.std.proofs.Common.{◌∙◌, sym, ap, List, take, arith}
 use Rattle.ulam_tree.specs.RawViews.{member_of}
 use Rattle.ulam_heirs.specs.declared.heir.Heir.{Heir as CodeHeir}
 use Rattle.ulam_heirs.proofs.Turns.{clash_here, clash_on}

@@ -1,4 +1,4 @@
-use Rattle.std.proofs.Common.{◌≡◌, ◌∙◌, sym, ap, List, ◌∷◌, ◌++◌, ◌+◌, drop, map}
+use Rattle.std.proofs.Common.{◌∙◌, sym, ap, List, ◌∷◌, ◌++◌, ◌+◌, drop, map}
 use Rattle.std.proofs.lemmas.List.{at_drop_more}
 use Rattle.ulam_tree.specs.RawViews.{param_of}
 use Rattle.ulam_tree.specs.declared.raw.Param.{Param as RawParam}

@@ -1,4 +1,4 @@
-use Rattle.std.proofs.Common.{◌≡◌, ◌∙◌, sym, ap, List, ◌∷◌, ◌+◌, drop}
+use Rattle.std.proofs.Common.{◌∙◌, sym, ap, List, ◌∷◌, ◌+◌, drop}
 use Rattle.std.proofs.lemmas.List.{at_drop_more, at_drop_all}
 use Rattle.ulam_tree.specs.RawViews.{body_list}
 use Rattle.ulam_tree.specs.declared.raw.Statement.{Statement as RawStatement}

@@ -1,11 +1,10 @@
-use Rattle.std.proofs.Common.{◌≡◌, ◌∙◌, sym, ap, ℕ, ◌+◌, List, [], ◌∷◌, ◌++◌, map, drop, arith, append_assoc}
-use Rattle.std.proofs.lemmas.List.{at_drop_more, map-append}
-use Rattle.ulam_tree.specs.Raw as t
+use Rattle.std.proofs.Common.{◌≡◌, ◌∙◌, sym, ap, ◌+◌, List, map, drop, arith}
+use Rattle.std.proofs.lemmas.List.{at_drop_more}
 use Rattle.ulam_tree.specs.RawViews.{item_of, file_of}
 use Rattle.ulam_tree.specs.declared.raw.Item.{Item}
 use Rattle.ulam_tree.specs.declared.raw.File.{File}
 use Rattle.ulam_heirs.specs.Lines.{Heir}
-use Rattle.ulam_heirs.specs.Files.{class_count, all_count, flat_items, flat_files_from}
+use Rattle.ulam_heirs.specs.Files.{class_count, all_count, flat_items}
 use Rattle.ulam_heirs.specs.Views.{heirs_of, files_of}
 use Rattle.ulam_heirs.proofs.NextFile.{file_on, count_on}
 use Rattle.ulam_heirs.proofs.files.flat_files.Goals as goal

@@ -1,10 +1,8 @@
-use Rattle.std.proofs.Common.{◌≡◌, ◌∙◌, sym, List, length, true}
-use Rattle.std.specs.List.{list_all}
+use Rattle.std.proofs.Common.{◌≡◌, ◌∙◌, sym, List, length}
 use Rattle.std.proofs.lemmas.List.{length-map}
 use Rattle.ulam_tree.specs.Raw.{Item}
 use Rattle.ulam_tree.specs.RawViews.{file_of}
 use Rattle.ulam_heirs.specs.Heads.{Heads}
-use Rattle.ulam_heirs.specs.Files.{is_plain}
 use Rattle.ulam_heirs.specs.Views.{files_of}
 use Rattle.ulam_heirs.proofs.Plain.{plain_same}
 use Rattle.ulam_heirs.proofs.files.flatten.Goals as goal

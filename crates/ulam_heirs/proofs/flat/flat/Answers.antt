@@ -1,4 +1,4 @@
-use Rattle.std.proofs.Common.{◌≡◌, ◌∙◌, sym, ap, ◌+◌, List, take, drop, arith}
+use Rattle.std.proofs.Common.{◌∙◌, ap, ◌+◌, List, take, drop, arith}
 use Rattle.ulam_heirs.specs.declared.heir.Heir.{Heir as CodeHeir}
 use Rattle.ulam_heirs.proofs.Turns.{flat_on}
 use Rattle.ulam_heirs.proofs.flat.flat.Goals as goal

@@ -1,4 +1,4 @@
-use Rattle.std.proofs.Common.{◌≡◌, ◌++◌, map, drop}
+use Rattle.std.proofs.Common.{◌≡◌, ◌++◌, drop}
 use Rattle.ulam_heirs.specs.Files.{all_heirs}
 use Rattle.ulam_heirs.specs.Views.{heirs_of, files_of}
 use Rattle.ulam_heirs.proofs.heir.all_heirs.Given as goal

@@ -1,4 +1,4 @@
-use Rattle.std.proofs.Common.{◌≡◌, ◌∙◌, sym, ap, ℕ, suc, ◌+◌, ◌-◌, List, Option, length}
+use Rattle.std.proofs.Common.{◌∙◌, sym, ap, ℕ, ◌+◌, ◌-◌, List, Option, length}
 use Rattle.ulam_tree.specs.Ways.{leads}
 use Rattle.ulam_heirs.proofs.Walks.{above, turn_more, turn_none, leads_zero, leads_none, leads_here, leads_on}
 use Rattle.ulam_heirs.proofs.line.leads_back.Goals as goal

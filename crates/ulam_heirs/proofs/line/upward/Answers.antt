@@ -1,4 +1,4 @@
-use Rattle.std.proofs.Common.{◌≡◌, ◌∙◌, sym, ap, ℕ, suc, ◌+◌, ◌-◌, List, [], ◌∷◌, ◌++◌, Option, length, append_assoc}
+use Rattle.std.proofs.Common.{◌∙◌, sym, ap, ℕ, suc, ◌+◌, ◌-◌, List, [], ◌∷◌, ◌++◌, Option, length, append_assoc}
 use Rattle.std.proofs.lemmas.List.{append-nil}
 use Rattle.ulam_heirs.specs.Views.{base_in, upward_from}
 use Rattle.ulam_heirs.proofs.Walks.{turn_more, turn_none, up_zero, up_next}

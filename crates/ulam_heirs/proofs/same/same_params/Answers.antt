@@ -1,4 +1,4 @@
-use Rattle.std.proofs.Common.{◌≡◌, ◌∙◌, sym, ap, List, [], length, map, drop, nat_eq}
+use Rattle.std.proofs.Common.{◌∙◌, sym, ap, List, [], map, drop}
 use Rattle.std.proofs.lemmas.List.{at_drop_all}
 use Rattle.ulam_tree.specs.RawViews.{param_of}
 use Rattle.ulam_tree.specs.declared.raw.Param.{Param}

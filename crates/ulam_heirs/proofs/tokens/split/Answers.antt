@@ -1,4 +1,4 @@
-use Rattle.std.proofs.Common.{◌≡◌, ◌∙◌, sym, ap, subst, ℕ, List, ◌∷◌, ◌++◌, map, Some}
+use Rattle.std.proofs.Common.{◌∙◌, ap, subst, ℕ, List, ◌++◌, map, Some}
 use Rattle.feast_base.specs.declared.place.Place.{Place}
 use Rattle.ulam_lex.specs.declared.token.Token.{Token}
 use Rattle.ulam_heirs.specs.declared.behind.Part.{Part}

@@ -1,4 +1,4 @@
-use Rattle.std.proofs.Common.{ℕ, ◌≤◌, ◌^◌, arith, rules}
+use Rattle.std.proofs.Common.{◌≤◌, ◌^◌, arith, rules}
 use Rattle.std.proofs.lemmas.Int.{ints}
 use Rattle.std.proofs.Math.Nat.{pow-le-pow_right}
 use Rattle.ulam_names.proofs.class_scope.above_power.Goals as goal

@@ -1,4 +1,4 @@
-use Rattle.std.proofs.Common.{◌≡◌, ◌≤◌, ◌<◌, ◌∙◌, sym, ap, ℕ, List, [], ◌∷◌, ◌++◌, ◌+◌, length, drop, map, arith, rules, Ok, nat_lt, true, false}
+use Rattle.std.proofs.Common.{◌≡◌, ◌∙◌, sym, ap, List, [], ◌∷◌, ◌+◌, length, drop, map, arith, rules, true, false}
 use Rattle.std.proofs.lemmas.Bool.{lt-ltb, le-ltb}
 use Rattle.std.proofs.lemmas.List.{at_drop_more, length-map, map-append}
 use Rattle.std.proofs.lemmas.Grind.{common_steps}
@@ -6,9 +6,8 @@ use Rattle.ulam_tree.specs.Raw as t
 use Rattle.ulam_tree.specs.Resolved as r
 use Rattle.ulam_tree.specs.RawViews as raw_view
 use Rattle.ulam_tree.specs.declared.raw.Param.{Param}
-use Rattle.ulam_tree.specs.declared.resolved.Named.{Named}
 use Rattle.ulam_names.specs.declared.half.HalfParam.{HalfParam}
-use Rattle.ulam_tree.specs.Found.{◌>>=◌, with_front}
+use Rattle.ulam_tree.specs.Found.{with_front}
 use Rattle.ulam_names.specs.Classes as walk
 use Rattle.ulam_names.specs.NamesView.{names_view}
 use Rattle.ulam_names.specs.Scopes.{Names, Text, is_among}

@@ -1,5 +1,5 @@
-use Rattle.std.proofs.Common.{◌≡◌, ◌∙◌, sym, ap}
-use Rattle.ulam_names.specs.Rounds.{open_by, field_parts}
+use Rattle.std.proofs.Common.{◌∙◌, sym}
+use Rattle.ulam_names.specs.Rounds.{open_by}
 use Rattle.ulam_names.proofs.Rounds.{parts_on, parts_found}
 use Rattle.ulam_names.proofs.ways.fields_open.Goals as goal
 

@@ -1,10 +1,10 @@
-use Rattle.std.proofs.Common.{◌≡◌, ◌∙◌, sym, ap, List, ◌∷◌, ◌++◌, ◌+◌, [], drop, map, arith, rules}
+use Rattle.std.proofs.Common.{◌≡◌, ◌∙◌, sym, ap, List, ◌∷◌, ◌+◌, drop, map, arith, rules}
 use Rattle.std.proofs.lemmas.List.{at_drop_more, map-append}
 use Rattle.std.proofs.lemmas.Grind.{common_steps}
 use Rattle.ulam_tree.specs.Resolved as r
 use Rattle.ulam_tree.specs.ResolvedViews.{resolved_class}
 use Rattle.ulam_names.specs.declared.half.HalfClass.{HalfClass}
-use Rattle.ulam_tree.specs.Found.{◌>>=◌, with_front}
+use Rattle.ulam_tree.specs.Found.{with_front}
 use Rattle.ulam_names.specs.Classes as walk
 use Rattle.ulam_names.specs.Scopes.{Head}
 use Rattle.ulam_names.specs.Shown.{head_of, half_class}

@@ -1,4 +1,4 @@
-use Rattle.std.proofs.Common.{rules, arith, ◌≡◌, ◌+◌, sym, ◌∙◌, subst, option_map}
+use Rattle.std.proofs.Common.{rules, arith, ◌≡◌, sym, ◌∙◌, subst, option_map}
 use Rattle.std.specs.Box.{box_value}
 use Rattle.std.proofs.lemmas.Grind.{common_steps}
 use Rattle.ulam_tree.specs.ResolvedViews.{resolved_expr, resolved_statement, resolved_body, resolved_cond, resolved_part}

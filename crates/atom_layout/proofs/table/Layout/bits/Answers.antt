@@ -1,4 +1,4 @@
-use Rattle.std.proofs.Common.{ℕ, ◌+◌, ◌≤◌, List, ◌≡◌, sum, take, get_or, sym, ap, ◌∙◌, arith}
+use Rattle.std.proofs.Common.{ℕ, ◌+◌, ◌≤◌, List, ◌≡◌, sum, take, get_or, ap, arith}
 use Rattle.atom_layout.proofs.Narrow.{row_narrow, sum_on}
 use Rattle.atom_layout.proofs.table.Layout.bits.Goals as goal
 
