@@ -23,9 +23,10 @@ from typing import Iterator
 TOP = pathlib.Path(__file__).resolve().parent.parent
 FOLDERS = "bench|crates|docs|examples|tests"
 MOST_LINES = 200
-# How the commands of a page begin, and the classes. Commands for no file in particular have NAME in place of one.
+# How the commands of a page begin, and the classes. Commands for no file in particular have NAME in place of one. A
+# block that `check` writes begins like a class, but without a brace.
 COMMANDS = ("./feast ", "./lab ", "grep ", "sed ", "for ", "python3 examples/")
-CLASSES = ("element ", "quark ", "/** ")
+CLASSES = re.compile(r"(element|quark) [^\n]*\{|/\*\* ")
 
 
 def pieces(page: str) -> Iterator[tuple[str, str]]:
@@ -84,7 +85,7 @@ def wrong_blocks(program: str, page: str, folder: pathlib.Path) -> Iterator[str]
             if done.returncode:
                 yield f"the commands behind '{before[-60:]}' fail: {done.stdout[-200:]}{done.stderr[-200:]}"
             continue
-        if block.startswith(CLASSES) and "{ .. }" not in block:
+        if CLASSES.match(block) and "{ .. }" not in block:
             refused = refusal(program, block, folder)
             if refused:
                 yield f"the classes behind '{before[-60:]}' are refused: {refused}"
