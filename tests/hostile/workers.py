@@ -13,7 +13,7 @@ import statistics
 import sys
 
 from bench import DONE, MEMORY, Limits, main_of, tool
-from elements import NESTS, deepest, nested
+from element_texts import NESTS, deepest, nested
 from jobs import ZEROS
 
 ELEMENTS = b"""element Wander { EventWindow ew; Random random; Void behave() {
