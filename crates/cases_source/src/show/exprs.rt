@@ -114,20 +114,6 @@ fn prefix(alloc: Global, op: PrefixOp, value: &Expr, place: Place) -> Result<Str
 }
 
 #[cycle(expr)]
-fn pair(
-    alloc: Global,
-    op: PairOp,
-    left: &Expr,
-    right: &Expr,
-    place: Place,
-) -> Result<String, AllocError> {
-    let left = expr(alloc, left)?;
-    let right = expr(alloc, right)?;
-    let Place { column, .. } = place;
-    format!(in alloc; "[{left} {op:?}@{column} {right}]")
-}
-
-#[cycle(expr)]
 fn is(alloc: Global, value: &Expr, class: Named, place: Place) -> Result<String, AllocError> {
     let value = expr(alloc, value)?;
     let class = named(alloc, class)?;
@@ -163,7 +149,12 @@ pub fn expr(alloc: Global, whole: &Expr) -> Result<String, AllocError> {
             left,
             right,
             place,
-        } => pair(alloc, *op, left, right, *place),
+        } => {
+            let left = expr(alloc, left)?;
+            let right = expr(alloc, right)?;
+            let Place { column, .. } = *place;
+            format!(in alloc; "[{left} {op:?}@{column} {right}]")
+        }
         Expr::Is {
             value,
             class,

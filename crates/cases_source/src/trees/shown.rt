@@ -107,21 +107,6 @@ fn prefix(out: &mut String, op: PrefixOp, value: &Expr, place: Place) -> Result<
 }
 
 #[cycle(expr)]
-fn pair(
-    out: &mut String,
-    op: PairOp,
-    left: &Expr,
-    right: &Expr,
-    place: Place,
-) -> Result<(), AllocError> {
-    write!(out, " ({op:?}")?;
-    column(out, place)?;
-    expr(out, left)?;
-    expr(out, right)?;
-    out.push_str(")")
-}
-
-#[cycle(expr)]
 fn is(out: &mut String, value: &Expr, class: &Word, place: Place) -> Result<(), AllocError> {
     node(out, "is", place)?;
     expr(out, value)?;
@@ -150,7 +135,13 @@ fn expr(out: &mut String, of: &Expr) -> Result<(), AllocError> {
             left,
             right,
             place,
-        } => pair(out, *op, left, right, *place),
+        } => {
+            write!(out, " ({op:?}")?;
+            column(out, *place)?;
+            expr(out, left)?;
+            expr(out, right)?;
+            out.push_str(")")
+        }
         Expr::Is {
             value,
             class,
@@ -205,46 +196,6 @@ fn part(out: &mut String, before: &str, of: &Option<Box<Statement>>) -> Result<(
     }
 }
 
-#[cycle(statement)]
-fn choice(
-    out: &mut String,
-    asked: &Cond,
-    yes: &Statement,
-    no: &Option<Box<Statement>>,
-) -> Result<(), AllocError> {
-    out.push_str(" (if")?;
-    cond(out, asked)?;
-    statement(out, yes)?;
-    part(out, " else", no)?;
-    out.push_str(")")
-}
-
-#[cycle(statement)]
-fn while_loop(out: &mut String, cond: &Expr, body: &Statement) -> Result<(), AllocError> {
-    out.push_str(" (while")?;
-    expr(out, cond)?;
-    statement(out, body)?;
-    out.push_str(")")
-}
-
-#[cycle(statement)]
-fn for_loop(
-    out: &mut String,
-    first: &Option<Box<Statement>>,
-    cond: &Option<Expr>,
-    step: &Option<Box<Statement>>,
-    body: &Statement,
-) -> Result<(), AllocError> {
-    out.push_str(" (for")?;
-    part(out, "", first)?;
-    out.push_str(";")?;
-    maybe(out, cond)?;
-    out.push_str(";")?;
-    part(out, "", step)?;
-    statement(out, body)?;
-    out.push_str(")")
-}
-
 fn returned(out: &mut String, place: Place, value: &Option<Expr>) -> Result<(), AllocError> {
     node(out, "return", place)?;
     maybe(out, value)?;
@@ -286,20 +237,10 @@ fn count(out: &mut String, to: &Left, up: bool) -> Result<(), AllocError> {
     out.push_str(")")
 }
 
-#[cycle(statement)]
-fn statement(out: &mut String, of: &Statement) -> Result<(), AllocError> {
+/// A statement in which no other stands.
+fn simple(out: &mut String, of: &Statement) -> Result<(), AllocError> {
     match of {
-        Statement::Block { body } => block(out, body.as_slice()),
-        Statement::Nothing => out.push_str(" nothing"),
         Statement::Call { call: of } => call(out, of),
-        Statement::If { cond, yes, no } => choice(out, cond, yes, no),
-        Statement::While { cond, body } => while_loop(out, cond, body),
-        Statement::For {
-            first,
-            cond,
-            step,
-            body,
-        } => for_loop(out, first, cond, step, body),
         Statement::Return { place, value } => returned(out, *place, value),
         Statement::Break { place } => jump(out, "break", *place),
         Statement::Continue { place } => jump(out, "continue", *place),
@@ -314,6 +255,47 @@ fn statement(out: &mut String, of: &Statement) -> Result<(), AllocError> {
             value,
         } => assign(out, to, *op, value),
         Statement::Count { left: to, up } => count(out, to, *up),
+        _ => out.push_str(" nothing"),
+    }
+}
+
+#[cycle(statement)]
+fn statement(out: &mut String, of: &Statement) -> Result<(), AllocError> {
+    match of {
+        Statement::Block { body } => block(out, body.as_slice()),
+        Statement::If {
+            cond: asked,
+            yes,
+            no,
+        } => {
+            out.push_str(" (if")?;
+            cond(out, asked)?;
+            statement(out, yes)?;
+            part(out, " else", no)?;
+            out.push_str(")")
+        }
+        Statement::While { cond: asked, body } => {
+            out.push_str(" (while")?;
+            expr(out, asked)?;
+            statement(out, body)?;
+            out.push_str(")")
+        }
+        Statement::For {
+            first,
+            cond: asked,
+            step,
+            body,
+        } => {
+            out.push_str(" (for")?;
+            part(out, "", first)?;
+            out.push_str(";")?;
+            maybe(out, asked)?;
+            out.push_str(";")?;
+            part(out, "", step)?;
+            statement(out, body)?;
+            out.push_str(")")
+        }
+        other => simple(out, other),
     }
 }
 
