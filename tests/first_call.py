@@ -167,7 +167,7 @@ class FirstCall(unittest.TestCase):
         told = read_all(ours)
         out = process.communicate(timeout=60)[0]
         self.assertEqual(out, b"proved call of <run>\n")
-        self.assertRegex(told, r"\r\x1b\[K\[#+\.+\] 1/3 crates, \d+ s gone, \d+ s left: proving middle\r")
+        self.assertRegex(told, r"\r\x1b\[K\[#+\.+\] 1/3 crates, \d+ s gone, \d+ (s|min) left: proving middle\r")
         self.assertRegex(told, r"preview of <run>\r\n")
 
     def test_little_memory_proves_one_after_another(self) -> None:
