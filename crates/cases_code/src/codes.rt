@@ -204,7 +204,7 @@ const RULES: [(&str, bool, &[Instr]); 29] = [
         &[PushNum(-9_223_372_036_854_775_809), Pop, ReturnVoid],
     ),
     (
-        "bits of no width",
+        "bits of too great a width",
         false,
         &[PushNum(1), NotW(65), Pop, ReturnVoid],
     ),
