@@ -5,7 +5,7 @@ Of each page (*.md): a link leads to a file; a path in backquotes that begins wi
 repository is there. A block of text after a paragraph that ends with a path in backquotes and a colon is
 that file, or its first lines if the paragraph says so. A block of classes is a file that `check` accepts.
 A block of commands is run by a shell, in a folder that looks like the top of a clone, one block of a page
-after another; a block after a paragraph that ends with `writes` has what the last one wrote, and one
+after another, and writes nothing to standard error but how far it has come; a block after a paragraph that ends with `writes` has what the last one wrote, and one
 after `begins with` the first lines of it. The map of crates has a row for each crate of crates.txt. A page
 has at most 200 lines, and the README names each page of docs.
 """
@@ -27,6 +27,8 @@ MOST_LINES = 200
 # block that `check` writes begins like a class, but without a brace.
 COMMANDS = ("./feast ", "./lab ", "grep ", "sed ", "for ", "python3 examples/")
 CLASSES = re.compile(r"(element|quark) [^\n]*\{|/\*\* ")
+# The lines in which the lab says how far it has come.
+PROGRESS = re.compile(r"^.*: \d+ % done.*\n", re.MULTILINE)
 
 
 def pieces(page: str) -> Iterator[tuple[str, str]]:
@@ -82,8 +84,9 @@ def wrong_blocks(program: str, page: str, folder: pathlib.Path) -> Iterator[str]
         if block.startswith(COMMANDS) and "NAME" not in block:
             done = call(program, block, folder)
             wrote = done.stdout
-            if done.returncode:
-                yield f"the commands behind '{before[-60:]}' fail: {done.stdout[-200:]}{done.stderr[-200:]}"
+            errors = PROGRESS.sub("", done.stderr)
+            if done.returncode or errors:
+                yield f"the commands behind '{before[-60:]}' fail: {done.stdout[-200:]}{errors[-200:]}"
             continue
         if CLASSES.match(block) and "{ .. }" not in block:
             refused = refusal(program, block, folder)

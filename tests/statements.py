@@ -19,7 +19,7 @@ from rust_code import TOP, sources  # noqa: E402
 
 BOUND = re.compile(r"[({]([^():{}]+?) : |λ ((?:[^\s().,{}]+ )*[^\s().,{}]+)\.")
 WORD = re.compile(r"[^\s(){},.;]+")
-RELATION = re.compile(r"[≡≢<≤>≥∈⊎]")
+RELATION = re.compile(r"[≡≢<≤>≥∈⊎]|×")
 CONSTRUCTORS = {"true", "false", "zero", "suc", "refl", "tt", "_", "[]"}
 # What is shorter than this is no statement of its own.
 LEAST = 18
