@@ -110,6 +110,10 @@ named_by word draft e = and_then (decides (world_refused word) (named e.names dr
 abbrev pub with_elements : {X : Type 0} → (X → ElementsValue) → Stage X HaltValue → List ℕ → DraftValue → Stage ReadyValue HaltValue
 with_elements value S word draft = and_then S (λ x. named_by word draft (value x))
 
+-- the elements of a world, which are those of element files
+abbrev pub with_sources : Option (List File) → List (List ℕ) → List ℕ → DraftValue → Stage ReadyValue HaltValue
+with_sources files words word draft = with_elements source_elements (set_of files words) word draft
+
 -- a world with the elements that a stage gives
 abbrev pub ready_by : {X : Type 0} → (X → ElementsValue) → Stage X HaltValue → Option (List File) → List ℕ → Stage ReadyValue HaltValue
 ready_by value S files word = and_then (draft_of files word) (with_elements value S word)
