@@ -20,6 +20,7 @@ fn put_piece<K: Sink>(sink: &mut K, piece: &[u8], rest: &[u8]) -> Result<(), Sin
     ensures cause { IsErr result → (m : ℕ) → length piece.now ≤ m → K.may_fail sink.old m }
     ensures later { IsOk result → (m : ℕ) → K.may_fail sink.new m → K.may_fail sink.old (length piece.now + m) }
 {
+    // Only the contract speaks of the rest.
     let _ = rest;
     sink.put(piece)
 }
