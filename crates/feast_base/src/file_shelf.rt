@@ -61,8 +61,12 @@ fn read_some<S: Read>(file: &mut S, buffer: &mut [u8]) -> io::Result<usize>
     Err(ErrorKind::Interrupted.into())
 }
 
-/// Appends what is left of a file, but at most `limit + 1` bytes. A read that fails is `Failed`.
-pub(crate) fn read_whole<S: Read>(
+/// Appends what is left of a file, but at most `limit + 1` bytes. A read that a signal interrupts is
+/// tried again.
+///
+/// `Failed` if another fault comes. `TooLong` if there are more than `limit` bytes. `NoMemory` if
+/// `into` can't grow.
+pub fn read_whole<S: Read>(
     file: &mut S,
     limit: usize,
     into: &mut Vec<u8>,

@@ -52,8 +52,11 @@ fn write_some<W: Write>(to: &mut W, bytes: &[u8]) -> io::Result<usize>
     Err(ErrorKind::Interrupted.into())
 }
 
-/// Writes all the bytes, and flushes. A write that takes no byte is a fault.
-pub(crate) fn write_whole<W: Write>(to: &mut W, bytes: &[u8]) -> Result<(), SinkFailed>
+/// Writes all the bytes, and flushes. A write that a signal interrupts is tried again, and one that
+/// takes no byte is a fault.
+///
+/// `SinkFailed` if a write or the flush fails; the writer then has a first part of the bytes.
+pub fn write_whole<W: Write>(to: &mut W, bytes: &[u8]) -> Result<(), SinkFailed>
     ensures { WritesWhole (W.contents to.old) (W.contents to.new) bytes.now result }
 {
     let mut rest = bytes;

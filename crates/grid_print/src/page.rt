@@ -19,6 +19,7 @@ fn put_piece<K: Sink>(sink: &mut K, piece: &[u8], rest: &[u8]) -> Result<(), Sin
     ensures cause { IsErr result → MayFailFrom (K.state sink.old) (length piece.now) }
     ensures later { IsOk result → FailsNoSooner (K.state sink.old) (K.state sink.new) (length piece.now) }
 {
+    // Only the contract speaks of the rest.
     let _ = rest;
     sink.put(piece)
 }
