@@ -37,7 +37,7 @@ fn audit_line(
     judgement_line(alloc, judgement)
 }
 
-/// The stages of an audit after the bytes of its report.
+/// The stages of an audit once the bytes of its report are loaded.
 fn audit_loaded<'a>(
     alloc: Global,
     word: &'a str,

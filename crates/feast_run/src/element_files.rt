@@ -1,8 +1,8 @@
 //! Loading and building element files.
-ghost use Rattle.std.specs.Prelude.{◌≡◌, ◌≤◌, ◌<◌, ◌^◌, ◌-◌, [], IfOk, All, length, slice_index_or};
+ghost use Rattle.std.specs.Prelude.{◌≡◌, ◌≤◌, [], IfOk, length, slice_index_or};
 ghost use Rattle.element_set.specs.Sets.{set_value};
 ghost use Rattle.feast_run.specs.Forms.{most_files, texts};
-ghost use Rattle.feast_run.specs.Stages.{builds, element_limit, load_all, set_of};
+ghost use Rattle.feast_run.specs.Stages.{AreWithin, builds, load_all, set_of};
 ghost use Rattle.feast_run.specs.Tellings.{Moves, Tells};
 
 use crate::halt::{Halt, Input, Refused};
@@ -21,7 +21,7 @@ fn load_files<'a, F: Shelf>(
     ensures moves { Moves (F.state shelf.old) (F.state shelf.new) result }
     ensures tells { Tells (λ v. v.items) (load_all (F.state shelf.old).files (texts words.now)) result }
     ensures many { IfOk result (λ v. length v.items ≡ length words.now) }
-    ensures short { IfOk result (λ v. All (λ f. length f.1 ≤ element_limit) v.items) }
+    ensures short { IfOk result (λ v. AreWithin v.items) }
 {
     let mut sources = Vec::new(alloc);
     for word in words {
@@ -45,7 +45,7 @@ fn word_of(words: &[String], file: u32) -> &str
 /// The set of loaded element files, whose words these are.
 fn built<'a>(alloc: Global, words: &'a [String], sources: &[Source]) -> Result<ElementSet, Halt<'a>>
     requires few { length sources.now ≤ most_files }
-    requires short { All (λ f. length f.1 ≤ element_limit) sources.now }
+    requires short { AreWithin sources.now }
     ensures { Tells set_value (builds (texts words.now) sources.now) result }
 {
     match ElementSet::build(alloc, sources) {

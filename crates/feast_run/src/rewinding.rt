@@ -78,7 +78,7 @@ fn rewind_kept<'a>(
     Ok(Output::Text(text))
 }
 
-/// The stages of a rewind after its journal.
+/// The stages of a rewind once its journal is read.
 fn rewind_loaded<'a>(
     alloc: Global,
     word: &'a str,

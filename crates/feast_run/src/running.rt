@@ -36,8 +36,8 @@ fn journal_of<G: Gate>(alloc: Global, ready: &Ready, gate: &G) -> Result<Journal
     journal(alloc, &ready.map, &ready.world.plan, gate)
 }
 
-/// What a run of one tile leaves: no other tile shares a site with it, so its events are made on the
-/// one grid at once.
+/// What a run of one tile leaves. No other tile shares a site with it, so its events are made on one
+/// grid, with no copies of sites.
 fn ran_alone<G: Gate>(alloc: Global, ready: Ready, gate: &G) -> Result<Output, NoMemory>
     requires ready { IsReady ready }
     requires alone { tiles_of (world_value ready.world).plane ≡ 1 }
