@@ -1,5 +1,5 @@
 -- What the code answers to the words of a call, and what is written of it.
-use Rattle.std.specs.Prelude.{◌≡◌, ◌⊎◌, List, Option, Result, Ok, Err, ℕ}
+use Rattle.std.specs.Prelude.{◌≡◌, ◌⊎◌, List, MatchResult, Option, Result, ℕ}
 use Rattle.feast_base.specs.Loading.{IsCut, IsPut}
 use Rattle.feast_base.specs.Outside.{ShelfState, SinkState}
 use Rattle.feast_run.specs.Answer.{form_answer}
@@ -24,8 +24,8 @@ Says status text reply = (reply.status ≡ status) × (output_text reply.output 
 
 -- a reply is what a call comes to say, or memory ran out
 abbrev pub Replies : {E : Type 0} → Option FormValue → Change ShelfState → Result Reply E → Type 0
-Replies form shelf (Ok reply) = ComesTo form shelf reply.status (output_text reply.output)
-Replies form shelf (Err e) = KeepsOrMisses form shelf
+Replies form shelf result =
+    MatchResult result (λ reply. ComesTo form shelf reply.status (output_text reply.output)) (λ e. KeepsOrMisses form shelf)
 
 -- a reply was written: the answer is its status if all of its text was put, otherwise SinkFault or
 -- NoMemory
