@@ -5,7 +5,7 @@ ghost use Rattle.window_sites.specs.Window.{live_at, atom_at};
 ghost use Rattle.stack_code.specs.Machine.{CodeValue, step, go_by, back, enter, onward, work, start, runs};
 ghost use Rattle.stack_code.specs.Sorts.{sort, GotoFalse, Take};
 ghost use Rattle.stack_code.specs.Valid.{args_fit};
-ghost use Rattle.event_machine.specs.Works.{StepsTo, Ready, FunctionsFit, as_list, Started, Ran, window_after};
+ghost use Rattle.event_machine.specs.Works.{StepsTo, Ready, FunctionsFit, as_list, Started, counting, Ran, window_after};
 ghost use Rattle.event_machine.specs.Endings.{number_of, IsEnding};
 ghost use Rattle.event_machine.specs.Ticks.{Ticks};
 
@@ -249,7 +249,7 @@ impl Machine {
     /// Runs valid code from its start.
     fn run<L: Ledger>(&mut self, code: &Code, steps: &mut Steps<L>) -> Ended
         requires { Started code.now self.old }
-        ensures { Ran L.noted code.now self.old self.new result steps.old steps.new }
+        ensures { Ran L.noted code.now (counting self.old steps.old) (counting self.new steps.new) result }
     {
         let instrs = code.instrs();
         loop {

@@ -207,14 +207,17 @@ fresh [] ks = map fill ks
 fresh (x ∷ args) [] = []
 fresh (x ∷ args) (k ∷ ks) = x ∷ fresh args ks
 
--- the body of a function, with its arguments from the topmost operands
+-- what a function begins with, its arguments being the topmost operands of its caller
+abbrev pub callee_held : FunctionValue → Held → Held
+callee_held g h = record h { stack = []; slots = fresh (reverse (take g.params h.stack)) g.slots }
+
+-- how the caller waits: it goes on at this place, without the arguments
+abbrev pub caller_frame : FunctionValue → ℕ → Held → Frame
+caller_frame g place h = record { place = place; stack = drop g.params h.stack; slots = h.slots }
+
+-- the beginning of a function that is called, with so many turns left
 abbrev pub into : State → FunctionValue → ℕ → State
-into s g t = record {
-  place = g.first;
-  held = record s.held { stack = []; slots = fresh (reverse (take g.params s.held.stack)) g.slots };
-  below = record { place = s.place + 1; stack = drop g.params s.held.stack; slots = s.held.slots } ∷ s.below;
-  turns = t;
-}
+into s g t = record { place = g.first; held = callee_held g s.held; below = caller_frame g (s.place + 1) s.held ∷ s.below; turns = t }
 
 -- a call takes a turn, then one of 16 levels
 abbrev pub enter_with : State → FunctionValue → Led State
@@ -281,11 +284,16 @@ unfoldable pub count : CodeValue → ℕ → State → ℕ
 count c zero s = 0
 count c (suc n) s = one_more (count c n) (step c s)
 
--- the first state
-abbrev pub start_with : WindowValue → ℕ → Option FunctionValue → State
-start_with w seed None = record { place = 0; held = record { stack = []; slots = []; window = w; words = event_state seed 0 }; below = []; turns = 1000 }
-start_with w seed (Some g) = record { place = 0; held = record { stack = []; slots = map fill g.slots; window = w; words = event_state seed 0 }; below = []; turns = 1000 }
+-- what the first function of an event begins with, if it has slots of these kinds
+abbrev pub first_held : List Operand → WindowValue → ℕ → Held
+first_held slots w seed = record { stack = []; slots = map fill slots; window = w; words = event_state seed 0 }
 
+-- the first state of an event: at place 0, with 1,000 turns
+abbrev pub start_with : WindowValue → ℕ → Option FunctionValue → State
+start_with w seed None = record { place = 0; held = first_held [] w seed; below = []; turns = 1000 }
+start_with w seed (Some g) = record { place = 0; held = first_held g.slots w seed; below = []; turns = 1000 }
+
+-- the same for a code, whose first function begins
 abbrev pub start : CodeValue → WindowValue → ℕ → State
 start c w seed = start_with w seed (slice_get c.functions 0)
 
