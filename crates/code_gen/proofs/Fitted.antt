@@ -1,6 +1,6 @@
 -- The piece of a tree of the right kinds fits.
 use Rattle.std.proofs.Common.{◌≡◌, ℕ, zero, suc, ◌+◌, ◌*◌, ◌≤◌, List, [], ◌∷◌, ◌++◌, length, Option, Some, None, refl, sym, ap, ◌∙◌, subst, arith, Bool, true, false, take, drop, map, length-append, append_assoc}
-use Rattle.std.specs.Prelude.{if◌then◌else◌, ◌&&◌, reverse, pos, nat_le}
+use Rattle.std.specs.Prelude.{◌&&◌, reverse, pos, nat_le}
 use Rattle.std.proofs.lemmas.Bool.{le-leb}
 use Rattle.std.proofs.lemmas.List.{reverse-reverse, length-reverse}
 use Rattle.std.proofs.lemmas.Grind.{reverse_onto}

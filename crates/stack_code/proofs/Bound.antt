@@ -1,6 +1,6 @@
 -- Valid code ends within 1001 times its length, and lacks nothing.
-use Rattle.std.proofs.Common.{◌≡◌, ℕ, zero, suc, ◌+◌, ◌-◌, ◌*◌, ◌<◌, ◌≤◌, List, [], ◌∷◌, length, Option, Some, None, refl, sym, ap, ◌∙◌, subst, arith, true, false, take, drop}
-use Rattle.std.specs.Prelude.{slice_get, nat_lt, nat_le, nat_eq, ◌==◌, ◌&&◌, if◌then◌else◌, is_some}
+use Rattle.std.proofs.Common.{◌≡◌, ℕ, zero, suc, ◌+◌, ◌-◌, ◌*◌, ◌<◌, ◌≤◌, List, [], ◌∷◌, length, Option, Some, None, refl, sym, ap, ◌∙◌, subst, arith, true, take, drop}
+use Rattle.std.specs.Prelude.{slice_get, nat_lt, nat_le, nat_eq, ◌==◌, ◌&&◌, is_some}
 use Rattle.std.proofs.lemmas.Bool.{leb-true, ltb-true, eqb-true}
 use Rattle.std.proofs.lemmas.List.{length-take}
 use Rattle.std.proofs.Common.{length-drop}

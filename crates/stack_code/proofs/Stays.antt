@@ -1,5 +1,5 @@
 -- No jump of valid code leaves its function.
-use Rattle.std.proofs.Common.{◌≡◌, ℕ, suc, ◌<◌, ◌≤◌, ◌⊎◌, inl, inr, List, length, Some, None, refl, sym, ap, ◌∙◌, subst, arith, add-one, Bool, true, false, drop}
+use Rattle.std.proofs.Common.{◌≡◌, ℕ, suc, ◌<◌, ◌≤◌, ◌⊎◌, inl, inr, List, length, Some, refl, sym, ap, ◌∙◌, subst, arith, add-one, Bool, true, false, drop}
 use Rattle.std.specs.Prelude.{slice_get, nat_lt, ◌&&◌, is_some}
 use Rattle.list_laws.proofs.Tests.{both}
 use Rattle.stack_code.specs.Sorts.{Sort, Goto, GotoFalse, sort}

@@ -1,6 +1,6 @@
 //! The text form of code.
 
-ghost use Rattle.std.specs.Prelude.{◌≡◌, ◌+◌, ◌-◌, ◌≤◌, ◌++◌, [], drop, take, codes, decimal};
+ghost use Rattle.std.specs.Prelude.{◌≡◌, ◌+◌, ◌-◌, ◌++◌, drop, take};
 ghost use Rattle.std.specs.Fmt.{signed_decimal};
 ghost use Rattle.feast_base.specs.Appending.{Appends};
 ghost use Rattle.stack_code.specs.Text.{spaced, number_text, kind_name, field_text, instr_name, args_text, instr_line, instr_lines, function_line, function_text, function_texts, element_line, code_text};
