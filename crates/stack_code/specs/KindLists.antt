@@ -12,7 +12,7 @@ abbrev pub list_at : List Node → ℕ → Kinds
 list_at [] id = []
 list_at (n ∷ older) id = if nat_eq id (length older + 1) then n.top ∷ list_at older n.below else list_at older id
 
--- each node lies on an older list, and knows its depth
+-- below each node there is an older list, and its depth is the length of its own list
 abbrev pub IsTree : List Node → Type 0
 IsTree [] = Unit {0}
 IsTree (n ∷ older) = (n.below ≤ length older) × (n.depth ≡ length (list_at older n.below) + 1) × IsTree older
