@@ -93,7 +93,11 @@ abbrev pub ExitLeaves : List Node → List Node → Option Exits → Result (Opt
 ExitLeaves old new o (Err e) = Unit {0}
 ExitLeaves old new o (Ok r) = (o ≡ maybe_exit new r) × ExitFits new r × Grows old new
 
--- the same, and it added none
+-- the same of the exit to which an instruction leads from the list of a number
+abbrev pub FindsExit : (Kinds → Option Exits) → List Node → List Node → ℕ → Result (Option Exit) NoMemory → Type 0
+FindsExit leads old new id r = ExitLeaves old new (leads (list_at old id)) r
+
+-- the code found this exit, or that there is none, and added no lists
 abbrev pub IsExit : List Node → Option Exits → Option Exit → Type 0
 IsExit lists o r = ExitLeaves lists lists o (Ok r)
 

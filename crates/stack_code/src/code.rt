@@ -201,7 +201,7 @@ impl Code {
         ensures runs { (w : WindowValue) (seed : ℕ) → RunsWell self.now w seed }
         ensures jumps { JumpsStay self.now }
     {
-        // The proof reads the invariant of `self`, which a use of the field opens.
+        // Reading the field makes known what holds of all valid code, from which the laws follow.
         let _raw = &self.raw;
     }
 

@@ -4,7 +4,7 @@ ghost use Rattle.std.specs.Prelude.{◌≡◌, ◌≤◌, List, length, Option, 
 ghost use Rattle.stack_code.specs.Shapes.{sort_of};
 ghost use Rattle.stack_code.specs.Sorts.{Goto, GotoFalse};
 ghost use Rattle.stack_code.specs.Valid.{exits, exits_of, back_of, forward_fits, back_fits, jump_fits, is_turn, instr_before, answer_found, is_nothing, end_exit, after_call, map_answer, falls_exit, Kinds};
-ghost use Rattle.stack_code.specs.KindLists.{list_at, Leaves, Changes, maybe, MaybeFits, around_of, ExitLeaves, IsExit, takes};
+ghost use Rattle.stack_code.specs.KindLists.{list_at, Leaves, Changes, maybe, MaybeFits, around_of, ExitLeaves, FindsExit, IsExit, takes};
 ghost use Rattle.stack_code.specs.declared.kind_lists.Node.{Node};
 
 use crate::code::{RawCode, RawFunction};
@@ -151,7 +151,7 @@ impl Around<'_> {
         id: u32,
     ) -> Result<Option<Exit>, NoMemory>
         requires { id ≤ length lists.old }
-        ensures { ExitLeaves lists.old lists.new (exits (around_of self.now) p (sort_of shape) (list_at lists.old id)) result }
+        ensures { FindsExit (exits (around_of self.now) p (sort_of shape)) lists.old lists.new id result }
     {
         match shape {
             Shape::Goto(q) => Ok(self.jump(lists, p, q, id)),
@@ -192,7 +192,7 @@ impl Around<'_> {
         id: u32,
     ) -> Result<Option<Exit>, NoMemory>
         requires { id ≤ length lists.old }
-        ensures { ExitLeaves lists.old lists.new (exits_of (around_of self.now) i p (list_at lists.old id)) result }
+        ensures { FindsExit (exits_of (around_of self.now) i p) lists.old lists.new id result }
     {
         if !args_fit(i) {
             return Ok(None);

@@ -88,7 +88,7 @@ impl Window {
         ensures window { IsWindow self.now }
         ensures states { (n : ℕ) → (atom_at self.now n).state < 2 ^ 71 }
     {
-        // The proof reads the invariant of `self`, which a use of a field opens.
+        // Reading a field makes known what holds of every window.
         let _atoms = &self.atoms;
         self.read_states();
     }
