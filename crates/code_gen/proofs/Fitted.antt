@@ -1,6 +1,6 @@
 -- The piece of a tree of the right kinds fits.
 use Rattle.std.proofs.Common.{◌≡◌, ℕ, zero, suc, ◌+◌, ◌*◌, ◌≤◌, List, [], ◌∷◌, ◌++◌, length, Option, Some, None, refl, sym, ap, ◌∙◌, subst, arith, Bool, true, false, take, drop, map, length-append, append_assoc}
-use Rattle.std.specs.Prelude.{if◌then◌else◌, reverse, pos, nat_le}
+use Rattle.std.specs.Prelude.{◌&&◌, reverse, pos, nat_le}
 use Rattle.std.proofs.lemmas.Bool.{le-leb}
 use Rattle.std.proofs.lemmas.List.{reverse-reverse, length-reverse}
 use Rattle.std.proofs.lemmas.Grind.{reverse_onto}
@@ -137,7 +137,7 @@ module _ (n : Setting) where
 -- the bits of a span that lies in a state
 field_room : (p : Span) → type_fits p.num ≡ true → SpanIn 71 p → field_fits p.first p.num 1 ≡ true
 field_room p e le =
-    ap (λ (b : Bool). if b then nat_le (p.first + 1 * p.num.width) 71 else false) e
+    ap (λ (b : Bool). b && nat_le 1 1 && nat_le (p.first + 1 * p.num.width) 71) e
     ∙ le-leb (p.first + 1 * p.num.width) 71 (times_most p.length le)
   where
     times_most : (m : ℕ) → p.first + p.num.width * times m ≤ 71 → p.first + 1 * p.num.width ≤ 71
@@ -146,8 +146,8 @@ field_room p e le =
 
 array_room : (p : Span) → type_fits p.num ≡ true → 1 ≤ p.length → SpanIn 71 p → field_fits p.first p.num p.length ≡ true
 array_room p e some le =
-    ap (λ (b : Bool). if b then (if nat_le 1 p.length then nat_le (p.first + p.length * p.num.width) 71 else false) else false) e
-    ∙ ap (λ (b : Bool). if b then nat_le (p.first + p.length * p.num.width) 71 else false) (le-leb 1 p.length some)
+    ap (λ (b : Bool). b && nat_le 1 p.length && nat_le (p.first + p.length * p.num.width) 71) e
+    ∙ ap (λ (b : Bool). b && nat_le (p.first + p.length * p.num.width) 71) (le-leb 1 p.length some)
     ∙ le-leb (p.first + p.length * p.num.width) 71 (all_times p.length some le)
   where
     all_times : (m : ℕ) → 1 ≤ m → p.first + p.num.width * times m ≤ 71 → p.first + m * p.num.width ≤ 71
