@@ -14,7 +14,8 @@ use Rattle.ulam_lex.specs.declared.bytes.Class.TheVariants.{White, Small, Capita
 use Rattle.ulam_lex.specs.Bytes.{is_keyword, signs, is_sign}
 use Rattle.ulam_lex.specs.Pieces.{IsPiece}
 use Rattle.ulam_lex.specs.Starts.{Stands, BeginsNothing, IsDigitless, LeavesOpen, BeginsTooLarge}
-use Rattle.ulam_lex.specs.Texts.{TextPiece, spelled, is_joined, ArePieces, place_after, token_list, tokens_after, end_token, IsTokensOf, most_tokens, token_count, IsBadBehind, IsOneTooMany, IsFaultAt, IsFaultOf}
+use Rattle.ulam_lex.specs.Texts.{TextPiece, spelled, is_joined, ArePieces, place_after, token_list, tokens_after, end_token, IsTokensOf, IsTokenList, most_tokens, token_count, IsBadBehind, IsOneTooMany, IsFaultAt, IsFaultOf}
+use Rattle.ulam_lex.specs.Laws.{IsBroken}
 use Rattle.ulam_lex.proofs.Fronts.{class_by, piece_class, piece_some, open_class, large_class, bare_class}
 use Rattle.ulam_lex.proofs.Marks.{comment_is_no_sign}
 use Rattle.ulam_lex.proofs.Numbers.{bare_is_small, numeral_begins, digit_is_number}
@@ -327,12 +328,12 @@ break_excludes m file before (TooManyTokens p) count rest kind front back h s ap
 break_excludes m file before NoMemory count rest kind front back h s apart few = h
 
 -- a text with such a fault somewhere has no list, of any length
-pub no_list : (file : ℕ) (pieces : List TextPiece) (rest : List ℕ) (fault : LexFault) (tokens : List Token) → ArePieces pieces rest → IsFaultAt file (spelled pieces) 0 rest fault → IsTokensOf file (spelled pieces ++ rest) tokens → ⊥
-no_list file pieces rest fault tokens are k (ps, e, also, listed) =
-    let m = token_count ps + token_count pieces in
-    let whole : spelled ps ++ [] ≡ spelled pieces ++ rest = append-nil (spelled ps) ∙ sym e in
-    let same = same_split m AtEnd (AtBreak file (spelled pieces) fault) (end_excludes m) (break_excludes m file (spelled pieces) fault) ps pieces 0 [] rest whole also are (omega arith) (omega arith) refl k in
-    let some = fault_some file (spelled pieces) 0 rest fault k in
+pub no_list : (file : ℕ) (text : List ℕ) → IsBroken file text → (tokens : List Token) → IsTokensOf file text tokens → ⊥
+no_list file text b tokens (ps, e, also, listed) =
+    let m = token_count ps + token_count b.pieces in
+    let whole : spelled ps ++ [] ≡ spelled b.pieces ++ b.rest = append-nil (spelled ps) ∙ sym e ∙ b.split in
+    let same = same_split m AtEnd (AtBreak file (spelled b.pieces) b.fault) (end_excludes m) (break_excludes m file (spelled b.pieces) b.fault) ps b.pieces 0 [] b.rest whole also b.are_pieces (omega arith) (omega arith) refl b.broken in
+    let some = fault_some file (spelled b.pieces) 0 b.rest b.fault b.broken in
     omega (arith, ap length same.1)
 
 -- a text has one first fault
@@ -346,14 +347,14 @@ one_fault_of file text f g (ps, rest, e, are, few, h) (qs, more, d, also, within
 
 -- what is given is the text's own list or fault, so it is no other
 pub only_tokens : {V : Type 0} (items : V → List Token) (file : ℕ) (text : List ℕ) (given : Result V LexFault) →
-    IfOk given (λ v. IsTokensOf file text (items v) × (length (items v) ≤ most_tokens + 1)) → IfErr given (λ e. (e ≡ NoMemory) ⊎ IsFaultOf file text e) →
-    (tokens : List Token) → IsTokensOf file text tokens → length tokens ≤ most_tokens + 1 → MatchResult given (λ v. items v ≡ tokens) (λ e. e ≡ NoMemory)
-only_tokens items file text (Ok v) own fault tokens h few = one_list file text (items v) tokens own.0 h
-only_tokens items file text (Err e) own (inl memory) tokens h few = memory
-only_tokens items file text (Err e) own (inr other) tokens h few = absurd (list_or_fault file text tokens e h few other)
+    IfOk given (λ v. IsTokenList file text (items v)) → IfErr given (λ e. (e ≡ NoMemory) ⊎ IsFaultOf file text e) →
+    (tokens : List Token) → IsTokenList file text tokens → MatchResult given (λ v. items v ≡ tokens) (λ e. e ≡ NoMemory)
+only_tokens items file text (Ok v) own fault tokens h = one_list file text (items v) tokens own.0 h.0
+only_tokens items file text (Err e) own (inl memory) tokens h = memory
+only_tokens items file text (Err e) own (inr other) tokens h = absurd (list_or_fault file text tokens e h.0 h.1 other)
 
 pub only_fault : {V : Type 0} (items : V → List Token) (file : ℕ) (text : List ℕ) (given : Result V LexFault) →
-    IfOk given (λ v. IsTokensOf file text (items v) × (length (items v) ≤ most_tokens + 1)) → IfErr given (λ e. (e ≡ NoMemory) ⊎ IsFaultOf file text e) →
+    IfOk given (λ v. IsTokenList file text (items v)) → IfErr given (λ e. (e ≡ NoMemory) ⊎ IsFaultOf file text e) →
     (fault : LexFault) → IsFaultOf file text fault → IsErrAnd given (λ e. (e ≡ NoMemory) ⊎ (e ≡ fault))
 only_fault items file text (Ok v) own fault other k = absurd (list_or_fault file text (items v) other own.0 own.1 k)
 only_fault items file text (Err e) own (inl memory) other k = inl memory
