@@ -319,7 +319,7 @@ statement_then P T shut us x closes h =
     (λ a mid here l g. ended_law (length mid + 1) a (shut a us mid here) mid (omega arith))
 
 statement_by_law : (k : ℕ) (S : Reader Statement) → StatementLaw k S → (v : Starting) (j : Symbol) (w : Text) (p : Place) (ts : List Tok) → starting_of j ≡ v → length (tok j w p ∷ ts) < suc k →
-    Tells IsStatement Shut Shut (tok j w p ∷ ts) (r.statement_by S v j w p ts)
+    Tells IsStatement Shut Shut (tok j w p ∷ ts) (r.statement_by S v (tok j w p) ts)
 statement_by_law k S f t.Block j w p ts e l = keyed_law t.Block tt (λ q. cc) j w p ts _ e (block_law k S f ts (omega (arith, l)))
 statement_by_law k S f t.Empty j w p ts e l = keyed_law t.Empty tt (λ q. cc) j w p ts (Ok (empty, ts)) e
     (record { front = []; is = refl; no_end = refl; gives = λ q. absurd (let x : true ≡ false = sym q in cc); again = λ other. (refl, refl); only = λ other b end g q u. (q.0, sym q.1) })

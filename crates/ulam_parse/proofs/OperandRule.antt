@@ -141,7 +141,7 @@ inside_into k w p e (cast ty x q) vs end h = (h.0, (w, h.1 ∙ ap (λ y. tok y w
 inside_into k w p e _ vs end h = absurd h.2
 
 operand_by_law : (k : ℕ) (E : ℕ → Reader Expr) → ExprLaw k E → (o : Opening) (j : Symbol) (w : Text) (p : Place) (ts : List Tok) → opening_of j ≡ o → length (tok j w p ∷ ts) < suc k →
-    Tells (IsExpr 12) (Reach 12) Free (tok j w p ∷ ts) (operand_by E o j w p ts)
+    Tells (IsExpr 12) (Reach 12) Free (tok j w p ∷ ts) (operand_by E o (tok j w p) ts)
 operand_by_law k E f (Signs op) j w p ts e l =
     tells_as (Behind (tok j w p) (Map (λ (x : Expr). prefix op x p) (IsExpr 12))) (IsExpr 12) (Reach 12) (Reach 12) Free Free (tok j w p ∷ ts) _
     (tells_behind (Map (λ (x : Expr). prefix op x p) (IsExpr 12)) (Reach 12) Free j w p ts _ (not_end j (Signs op) e (λ q. cc))
