@@ -29,7 +29,7 @@ pub fn depth(nest: &Nest) -> u32
     nest.inner + nest.around
 }
 
-/// The innermost count, according to the last symbol.
+/// The innermost count at a symbol, according to the one before it.
 fn count_at(inner: u32, last: Symbol, symbol: Symbol) -> u32
     requires { inner ≤ 64 }
     ensures count { result ≡ spec.count_at inner last symbol }
