@@ -29,14 +29,14 @@ More least top e b us rest = (ls : List Link) × (b ≡ build e ls) × IsChain l
 abbrev pub more_filled : (least top : ℕ) (e : Expr) → Filled (More least top e)
 more_filled least top e = record { tree = e; fill = λ other. other; fits = λ other. ([], refl, refl) }
 
--- what follows an operand does not go on with it
+-- an operator that follows an operand is looser than it
 pub chain_reach : (least top : ℕ) (ls : List Link) (us rest : List Tok) → IsChain least top ls us rest → reach rest < least → least ≤ 12 → reach us < 12
 chain_reach least top [] us rest h w b = let q : reach us ≡ reach rest = ap reach h in omega (arith, q, w, b)
 chain_reach least top (joined op r p ∷ ls) us rest h w b =
     let q : reach us ≡ level op = reach_at h.2.1.0 _ _ us h.2.0 h.2.1.1.1 ∙ ap reach_by h.2.1.2 in omega (arith, q, level_most op)
 chain_reach least top (tested c p ∷ ls) us rest h w b = let q : reach us ≡ 8 = reach_at s.Is _ _ us h.2.0 h.2.1.1 in omega (arith, q)
 
--- nor a right operand
+-- and so is one that follows a right operand
 pub chain_top : (least top : ℕ) (ls : List Link) (us rest : List Tok) → IsChain least top ls us rest → reach rest < least → least ≤ top → reach us < top + 1
 chain_top least top [] us rest h w b = let q : reach us ≡ reach rest = ap reach h in omega (arith, q, w, b)
 chain_top least top (joined op r p ∷ ls) us rest h w b =
@@ -78,7 +78,7 @@ stays least top e us b = record {
   only = λ other c end f q w. let x = no_link least top e q.0 other end q.2 (barred_moved least top (first other) (first us) f b) in (q.1 ∙ x.0, x.1);
 }
 
--- what the symbol is not
+-- symbols that are no operators
 infix_end : (k : Symbol) → is_end k ≡ true → infix_of k ≡ Ends
 infix_end s.End e = refl
 infix_end _ e = absurd cc
@@ -154,7 +154,7 @@ tested_back least top e k w p i l b (tested c p2 ∷ ls) vs end f q h u =
     let G : Place → Type 0 = λ y. Tested least e y b h.2.0 end in
     (h.2.0, behind_first vs h.2.0 (tok k w p) _ h.2.1.1 f, subst G x (c, h.2.2.0, h.2.2.1, (ls, q, h.2.2.2)))
 
--- on lists of fewer than t tokens it goes on with every expression
+-- on lists of fewer than t tokens it reads the rest of every expression right
 abbrev Goes : ℕ → ℕ → (Front → Reader Expr) → Type 0
 Goes t least go = (top : ℕ) (e : Expr) → least ≤ top → (us : List Tok) → length us < t → Tells (More least top e) (Reach least) Free us (go (record { tree = e; level = top }) us)
 

@@ -1,4 +1,4 @@
--- What each way in which the parser ends says.
+-- What follows from each way in which the parser ends.
 use Rattle.std.proofs.Common.{ℕ, zero, suc, ◌+◌, ◌<◌, ◌≡◌, ◌⊎◌, inl, inr, List, [], ◌∷◌, ◌++◌, length, map, take, drop, Some, None, Ok, Err, refl, ap, sym, ◌∙◌, subst, arith, append-nil, length-append}
 use Rattle.std.proofs.lemmas.List.{map-append, drop-map, take-append-drop}
 use Rattle.feast_base.specs.declared.place.Place.{Place}

@@ -76,7 +76,7 @@ left_law n us h = (left_made n).law us h
 abbrev pub left_rule : (n : ℕ) → Rule n Left (Under 12) Free
 left_rule n = record { rel = IsLeft; filled = (left_made n).filled; read = r.left; law = left_law n }
 
--- what may stand there
+-- what is optional
 
 -- `;` follows
 abbrev pub Ended : {A : Type 0} → A → List Tok → Type 0
