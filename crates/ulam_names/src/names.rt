@@ -1,10 +1,9 @@
 //! What a class has declared so far.
 ghost use Rattle.std.specs.Prelude.{◌≡◌, ◌<◌, OnOk, false};
-ghost use Rattle.ulam_names.specs.Classes as walk;
+ghost use Rattle.ulam_names.specs.ClassWalk as walk;
 ghost use Rattle.ulam_names.specs.Scopes.{declares_name, is_truth, no_names};
-ghost use Rattle.ulam_names.specs.Shown.{Gives};
+ghost use Rattle.ulam_names.specs.Shown.{Finds};
 ghost use Rattle.ulam_names.specs.NamesView.{names_view};
-ghost use Rattle.ulam_tree.specs.RawViews as raw_view;
 
 use crate::basic::Value;
 use crate::fault::NameFault;
@@ -60,7 +59,7 @@ pub fn declares(names: &Names, name: &[u8]) -> bool
 
 /// Refuses a name that may not be declared.
 pub fn new_name(names: &Names, count: usize, free: bool, word: &Word) -> Result<(), NameFault>
-    ensures gives { Gives (λ x. x) result (walk.new_name (names_view names.now) count free (raw_view.word_of word.now)) }
+    ensures gives { Finds result (walk.new_name names.now count free word.now) }
     ensures room { OnOk result (count < 64) }
     ensures new { OnOk result (declares_name (names_view names.now) word.now.name ≡ false) }
 {
@@ -88,7 +87,7 @@ pub fn is_truth(kind: Kind) -> bool
 
 /// Whether a constant's value is a truth value, and its number.
 pub fn const_value(names: &Names, value: &Const) -> Result<(bool, i128), NameFault>
-    ensures { Gives (λ x. x) result (walk.const_value (names_view names.now) (raw_view.const_of value.now)) }
+    ensures { Finds result (walk.const_value names.now value.now) }
 {
     match value {
         Const::Number { minus, value, .. } => {

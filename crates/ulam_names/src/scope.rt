@@ -1,8 +1,7 @@
 //! What names mean in a body.
-ghost use Rattle.std.specs.Prelude.{◌≡◌, ℕ, List, map, option_map, slice_get};
-ghost use Rattle.std.specs.Option.{option_and_then};
+ghost use Rattle.std.specs.Prelude.{◌≡◌, map, option_map};
 ghost use Rattle.ulam_names.specs.Scopes as spec;
-ghost use Rattle.ulam_names.specs.Shown.{head_of, entry_of, context_of};
+ghost use Rattle.ulam_names.specs.Shown.{head_of, entry_of, entries_of, context_of};
 
 use crate::basic::Value;
 use crate::half::HalfClass;
@@ -33,7 +32,7 @@ pub struct Context<'c, 'a> {
 
 /// The last entry with a name.
 pub fn last_named<'a>(entries: &[Entry<'a>], name: &[u8]) -> Option<Entry<'a>>
-    ensures { option_map entry_of result ≡ spec.last_named name.now (map entry_of entries.now) }
+    ensures { option_map entry_of result ≡ spec.last_named name.now (entries_of entries.now) }
 {
     for i in (0..entries.len()).rev() {
         if name == entries[i].name {
@@ -116,7 +115,7 @@ fn is_local(entry: &Entry, name: &[u8]) -> bool
 
 /// The slot of the last local with a name.
 pub fn slot_named(entries: &[Entry], name: &[u8]) -> Option<u32>
-    ensures { result ≡ spec.slot_named name.now (map entry_of entries.now) }
+    ensures { result ≡ spec.slot_named name.now (entries_of entries.now) }
 {
     for i in (0..entries.len()).rev() {
         if is_local(&entries[i], name) {
@@ -128,7 +127,7 @@ pub fn slot_named(entries: &[Entry], name: &[u8]) -> Option<u32>
 
 /// A data member or function of the class that a body belongs to.
 fn of_own_class(context: &Context, name: &[u8]) -> Option<(Step, Ty)>
-    ensures { result ≡ option_and_then (λ h. spec.in_class context.now.own h name.now) (slice_get (map head_of context.now.heads.now) context.now.own) }
+    ensures { result ≡ spec.member_of_own (context_of context.now) name.now }
 {
     match context.heads.get(context.own as usize) {
         Some(head) => in_class(context.own, head, name),
@@ -157,7 +156,7 @@ pub fn in_own_class(context: &Context, name: &[u8]) -> Option<(Step, Ty)>
 
 /// The first name of a path.
 pub fn first_name(context: &Context, entries: &[Entry], name: &[u8]) -> Option<(Step, Ty)>
-    ensures { result ≡ spec.first_name (context_of context.now) (map entry_of entries.now) name.now }
+    ensures { result ≡ spec.first_name (context_of context.now) (entries_of entries.now) name.now }
 {
     let (step, inside) = match slot_named(entries, name) {
         Some(slot) => (Step::Local { slot }, Ty::Nothing),
