@@ -28,7 +28,7 @@ use Rattle.ulam_names.specs.Scopes.{Text, Basic, opened, inside_local}
 use Rattle.ulam_names.specs.Walk as w
 use Rattle.ulam_names.specs.Shown.{head_of, context_of, entries_of, scope_of}
 
--- Paths, from the classes on
+-- Paths, from a type on
 
 abbrev pub steps_after : List HalfClass → Ty → List Word → Found (List Step)
 steps_after heads inside words = w.steps_after (map head_of heads) inside (map word_of words)
@@ -36,7 +36,7 @@ steps_after heads inside words = w.steps_after (map head_of heads) inside (map w
 abbrev pub path_by : List HalfClass → Place → Step → Ty → List Word → Found r.Path
 path_by heads place first inside words = w.path_by place first (steps_after heads inside words)
 
--- What a name is in a context, whatever the locals are
+-- Names of types and classes, which no local hides
 
 abbrev pub basic_in : Context → Text → Option Basic
 basic_in context name = w.basic_in (context_of context) name
@@ -44,7 +44,7 @@ basic_in context name = w.basic_in (context_of context) name
 abbrev pub class_named : Context → Word → Found Named
 class_named context word = w.class_named (w.basic_in (context_of context)) (word_of word)
 
--- Types, paths and expressions, in a context and behind these entries
+-- Types, paths and expressions, in a context with these entries
 
 module _ (context : Context) (entries : List Entry) where
   abbrev pub constant_in : Text → Option ℤ
@@ -71,7 +71,7 @@ module _ (context : Context) (entries : List Entry) where
   abbrev pub args : List Expr → Found r.Args
   args xs = w.args (context_of context) (entries_of entries) (args_list xs)
 
-  -- expressions whose parts stand alone
+  -- expressions, from their parts
   abbrev pub call : Path → List Expr → Found r.Expr
   call x xs = w.expr (context_of context) (entries_of entries) (t.calls (path_of x) (args_list xs))
 
@@ -93,11 +93,11 @@ module _ (context : Context) (entries : List Entry) where
   abbrev pub cond : Cond → Found r.Cond
   cond x = w.cond (context_of context) (entries_of entries) (cond_of x)
 
-  -- a name that is declared, where the innermost scope begins at a number of entries, and with the next free slot
+  -- a name that a local is declared with: the innermost scope begins at the number `from`, and `slot` is the next free one
   abbrev pub declared : ℕ → ℕ → Word → Found (Unit {0})
   declared from slot word = w.declared (context_of context) (scope_of entries from) slot (word_of word)
 
--- Statements, and how many locals stand in them
+-- Statements, and how many locals they declare
 
 abbrev pub locals : Statement → ℕ
 locals x = w.locals_of (statement_of x)
@@ -116,7 +116,7 @@ abbrev pub local : Context → ℕ → Word → FoundStatement → s.Entry
 local context slot word x = record { name = word.name; slot = Some slot; inside = inside_local (map head_of context.heads.now) (w.type_of (resolved_statement x)) }
 
 module _ (context : Context) (entries : Vec Entry Global) where
-  -- where the innermost scope begins at a number of entries, and with the next free slot
+  -- the innermost scope begins at the number `from`, and `slot` is the next free one
   abbrev pub statement : ℕ → ℕ → Statement → Found r.Statement
   statement from slot x = statement_in context (scope_of entries.items from) slot x
 
@@ -126,14 +126,14 @@ module _ (context : Context) (entries : Vec Entry Global) where
   abbrev pub body : ℕ → ℕ → List Statement → Found r.Body
   body from slot xs = w.body (context_of context) (scope_of entries.items from) slot (body_list xs)
 
-  -- in a scope of their own
+  -- in a scope of its own
   abbrev pub inner : ℕ → Statement → Found r.Statement
   inner slot x = statement_in context (scope_of entries.items (length entries.items)) slot x
 
   abbrev pub inner_body : ℕ → List Statement → Found r.Body
   inner_body slot xs = w.body (context_of context) (scope_of entries.items (length entries.items)) slot (body_list xs)
 
-  -- the scope with the name that a condition shows, and the first branch in it
+  -- the scope with the name that a condition shows, and the first branch in a scope within
   abbrev pub narrowed : ℕ → Cond → FoundCond → s.Scope
   narrowed from test found = w.narrowed (map head_of context.heads.now) (scope_of entries.items from) (cond_of test) (w.shown (resolved_cond found))
 

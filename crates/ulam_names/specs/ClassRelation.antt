@@ -1,4 +1,4 @@
--- Which program is a resolution of files, by cases and in no order.
+-- Which program is a resolution of files: one case for each form of the tree, and no order in which rules are tried.
 use Rattle.std.specs.Prelude.{ℕ, ◌+◌, ◌≡◌, ◌<◌, List, [], ◌∷◌, ◌++◌, length, map, Option, Some, None, is_some, option_map, Bool, true, false, ◌&&◌, if◌then◌else◌, int_le, ℤ, pos, neg_ℤ, unsigned_abs}
 use Rattle.sat_math.specs.declared.NumType.{NumType}
 use Rattle.ulam_tree.specs.declared.resolved.Named.{Named}
@@ -19,7 +19,7 @@ AreKnown done (t.class c ∷ xs) known =
 abbrev pub IsMemberType : Known → Names → t.TypeRef → Named → Type 0
 IsMemberType known d ty n = IsType (basics known d) (values d) ty n
 
--- a name may be declared in a class that has so many of its sort
+-- a name may be declared in a class that has declared n names of its sort
 abbrev pub IsNew : Names → ℕ → t.Word → Type 0
 IsNew d n w = (n < most_members) × (declares_name d w.name ≡ false)
 
@@ -71,7 +71,7 @@ AreItems known (t.class c ∷ xs) hs =
     (a : Names × List Half) × (more : List HalfClass) × AreMembers known no_names c.members a × AreItems known xs more
     × (hs ≡ record { quark = c.quark; word = c.word; names = a.0; members = a.1 } ∷ more)
 
--- each element has its function
+-- each element has its function `Void behave()`
 abbrev pub AllBehave : List HalfClass → Type 0
 AllBehave [] = Unit {0}
 AllBehave (h ∷ hs) = (behaves h ≡ true) × AllBehave hs

@@ -43,7 +43,7 @@ file_names known xs = w.class_names known (map item_of xs)
 abbrev pub class_names : List File → Found Known
 class_names files = w.class_names [] (all_items files)
 
--- Members, where these names of classes are known and these names are declared in the class
+-- Members of a class that has declared these names, where these classes are known
 
 abbrev pub const_value : Names → Const → Found (Bool × ℤ)
 const_value names value = w.const_value (names_view names) (const_of value)
@@ -63,7 +63,7 @@ params_of known names ps = w.params_of known (names_view names) [] (map param_of
 abbrev pub member : Known → Names → Member → Found (s.Names × List w.Half)
 member known names x = w.member known (names_view names) (member_of x)
 
--- a function whose parts stand alone
+-- a function, from its parts
 abbrev pub function : Known → Names → TypeRef → Word → List Param → List Statement → Found (s.Names × List w.Half)
 function known names of word ps body = w.member known (names_view names) (t.function (type_of of) (word_of word) (map param_of ps) (body_list body))
 
@@ -101,7 +101,7 @@ holds_itself classes class = w.holds_itself (map head_of classes) class
 abbrev pub none_cyclic : List HalfClass → Found (Unit {0})
 none_cyclic classes = w.none_cyclic (map head_of classes) 0 (map half_class_of classes)
 
--- Bodies: of all classes, in the order of their numbers
+-- Bodies
 
 abbrev pub param_entries : List HalfClass → List HalfParam → List s.Entry
 param_entries heads params = w.param_entries (map head_of heads) 0 (map half_param_of params)

@@ -133,7 +133,7 @@ found_part x = resolved_part x.0
 abbrev pub found_body : Vec Statement Global × ℕ → r.Body
 found_body x = resolved_body x.0.items
 
--- a statement that has no statement within and declares nothing
+-- a statement that holds no other statement and declares nothing
 abbrev pub is_simple : t.Statement → Bool
 is_simple (t.block b) = false
 is_simple (t.if_so k x z) = false

@@ -41,7 +41,7 @@ pub fn member_type(known: &Table<bool>, names: &Names, of: &TypeRef) -> Result<N
     type_in(&class_context(known, names), &[], of)
 }
 
-/// The number type of a type.
+/// A type as a type of numbers.
 pub fn number_type(named: Named) -> Result<NumType, NameFault>
     ensures { Finds result (found (as_number named.ty) (bad_width named.place)) }
 {

@@ -61,7 +61,7 @@ fn fields_lead(row: &[bool], fields: &Table<Ty>, goal: u32) -> bool
     false
 }
 
-/// Which classes lead to the goal, given those of the previous round.
+/// The row of the next round: which classes lead to the goal by one step more.
 fn next_row(
     alloc: Global,
     classes: &[HalfClass],

@@ -14,7 +14,7 @@ use ulam_tree as raw;
 use ulam_tree::resolved::Expr;
 use ulam_tree::{Word, resolved_build as build};
 
-/// An expression. Each part goes into its box before the next one is looked up.
+/// An expression. Each part is put into its box before the next one is resolved.
 #[cycle(expr)]
 #[tactic(auto, using(ulam_tree::proofs::RawRows::call_is))]
 pub fn expr(
@@ -135,7 +135,7 @@ fn is(
     Ok(build::is(value, class, place))
 }
 
-/// A part of an expression.
+/// A part of an expression, in a box.
 #[cycle(expr)]
 fn boxed(
     alloc: Global,

@@ -21,7 +21,7 @@ pub struct Names<'a> {
     pub functions: Table<'a, ()>,
 }
 
-// By hand, so that callers drop by a call.
+// Written by hand, not derived: so a caller drops it by one call.
 impl Drop for Names<'_> {
     fn drop(self) {
         let Names {
@@ -57,7 +57,8 @@ pub fn declares(names: &Names, name: &[u8]) -> bool
         || names.functions.has(name)
 }
 
-/// Refuses a name that may not be declared.
+/// Refuses a name that may not be declared: there are too many, it is not free, or the class has
+/// declared it.
 pub fn new_name(names: &Names, count: usize, free: bool, word: &Word) -> Result<(), NameFault>
     ensures gives { Finds result (walk.new_name names.now count free word.now) }
     ensures room { OnOk result (count < 64) }
@@ -75,7 +76,7 @@ pub fn new_name(names: &Names, count: usize, free: bool, word: &Word) -> Result<
     Ok(())
 }
 
-/// Whether a kind is that of truth values.
+/// Whether a kind is the kind of truth values.
 pub fn is_truth(kind: Kind) -> bool
     ensures { result ≡ is_truth kind }
 {

@@ -83,7 +83,7 @@ fn is_element(heads: &[HalfClass], ty: Ty) -> bool
     }
 }
 
-/// Where names behind a local of a type are looked up.
+/// The type in which a name after a local and a dot is looked up.
 pub fn inside_local(heads: &[HalfClass], ty: Ty) -> Ty
     ensures { result ≡ inside_local (map head_of heads.now) ty }
 {
@@ -99,7 +99,7 @@ pub fn inside_local(heads: &[HalfClass], ty: Ty) -> Ty
     }
 }
 
-/// Refuses a name that may not be declared.
+/// Refuses a name that may not be declared: no slot is left, or the innermost scope has it.
 fn declared(
     context: &Context,
     entries: &[Entry],
@@ -142,7 +142,7 @@ pub fn cond(
     }
 }
 
-/// Adds the name in a condition `as` an element to the scope.
+/// Adds the name that a condition shows as an element to the scope.
 pub fn show<'a>(
     context: &Context<'_, 'a>,
     entries: &mut Vec<Entry<'a>>,

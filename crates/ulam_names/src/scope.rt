@@ -9,7 +9,7 @@ use crate::table::Table;
 use sat_math::NumType;
 use ulam_tree::resolved::{Built, Step, Ty};
 
-/// A local with its slot, or a name that `as` shows.
+/// A local with its slot, or a name without one that an `as` shows as an element.
 #[derive(Clone, Copy)]
 pub struct Entry<'a> {
     pub name: &'a [u8],
@@ -17,7 +17,7 @@ pub struct Entry<'a> {
     pub inside: Ty,
 }
 
-/// What a body is resolved in.
+/// What the names in a body are looked up in, besides the locals.
 #[derive(Clone, Copy)]
 pub struct Context<'c, 'a> {
     pub heads: &'c [HalfClass<'a>],
@@ -55,7 +55,7 @@ pub fn in_class(class: u32, head: &HalfClass, name: &[u8]) -> Option<(Step, Ty)>
     }
 }
 
-/// A function of a window.
+/// A built-in function of the event window.
 #[tactic(auto, unfolding(crate::specs::Scopes::of_window))]
 pub fn of_window(name: &[u8]) -> Option<Built>
     ensures { result ≡ spec.beside name.now spec.of_window }
@@ -71,7 +71,7 @@ pub fn of_window(name: &[u8]) -> Option<Built>
     }
 }
 
-/// A function of the random words.
+/// A built-in function of `Random`.
 #[tactic(auto, unfolding(crate::specs::Scopes::of_random))]
 pub fn of_random(name: &[u8]) -> Option<Built>
     ensures { result ≡ spec.beside name.now spec.of_random }
@@ -85,7 +85,7 @@ pub fn of_random(name: &[u8]) -> Option<Built>
     }
 }
 
-/// A further name of a path.
+/// A name of a path after the first, where the name before it has a type.
 pub fn next_name(heads: &[HalfClass], inside: Ty, name: &[u8]) -> Option<(Step, Ty)>
     ensures { result ≡ spec.next_name (map head_of heads.now) inside name.now }
 {

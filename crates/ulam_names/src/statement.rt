@@ -15,7 +15,7 @@ use ulam_tree as raw;
 use ulam_tree::resolved::{Cond, Statement};
 use ulam_tree::resolved_build as build;
 
-/// A statement, and the next slot.
+/// A statement, and the next free slot after it.
 #[cycle(statement)]
 #[tactic(auto, using(crate::proofs::Opened::opened_is))]
 pub fn statement<'a>(

@@ -70,7 +70,7 @@ fn copy(alloc: Global, word: &Word) -> Result<Word, NoMemory>
     })
 }
 
-/// Parameters in the scope of a body.
+/// Parameters as the first entries in the scope of a body.
 fn param_entries<'a>(
     alloc: Global,
     heads: &[HalfClass],
@@ -93,7 +93,7 @@ fn param_entries<'a>(
     Ok(entries)
 }
 
-/// Parameters with names of their own.
+/// Parameters with copies of their names.
 fn whole_params(alloc: Global, params: &[HalfParam]) -> Result<Vec<Param>, NameFault>
     ensures params { IfOk result (λ v. each resolved_param v ≡ map param_of params.now) }
     ensures memory { IfErr result (λ e. e ≡ no_memory) }
