@@ -83,6 +83,9 @@ Appends {X = X} old new result found = Gives (λ (_ : X). new) result (with_fron
 abbrev pub each : {A B : Type 0} → (A → B) → Vec A Global → List B
 each view v = map view v.items
 
+abbrev pub halves : Vec HalfClass Global → List w.HalfClass
+halves v = map half_class v.items
+
 -- arguments in front of others
 abbrev pub join_args : List Expr → r.Args → r.Args
 join_args [] more = more
@@ -148,7 +151,7 @@ so_far x = (names_view x.0, each half_of x.1)
 
 -- the same where the last declaration is a typedef or a constant, which is no member of the resolved class
 abbrev pub only : Names → Unit {0} → s.Names × List w.Half
-only names _ = (names_view names, [])
+only names done = (names_view names, [])
 
 -- and where it is a data member or a function
 abbrev pub with_half : Names → Half → s.Names × List w.Half

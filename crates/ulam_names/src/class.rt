@@ -2,7 +2,7 @@
 ghost use Rattle.std.specs.Prelude.{◌≡◌};
 ghost use Rattle.ulam_names.specs.ClassWalk as walk;
 ghost use Rattle.ulam_names.specs.Classes.{may_use};
-ghost use Rattle.ulam_names.specs.Shown.{Gives, Finds, Appends, each, half_class};
+ghost use Rattle.ulam_names.specs.Shown.{Gives, Finds, Appends, halves, half_class};
 
 use crate::class_scope::is_built_in;
 use crate::fault::NameFault;
@@ -81,7 +81,7 @@ fn item<'a>(
     found: &mut Vec<HalfClass<'a>>,
     raw: &'a Item,
 ) -> Result<(), NameFault>
-    ensures { Appends (each half_class found.old) (each half_class found.new) result (walk.item known.now raw.now) }
+    ensures { Appends (halves found.old) (halves found.new) result (walk.item known.now raw.now) }
 {
     match raw {
         Item::Ulam { .. } => Ok(()),
@@ -106,7 +106,7 @@ fn file_items<'a>(
     found: &mut Vec<HalfClass<'a>>,
     raw: &'a [Item],
 ) -> Result<(), NameFault>
-    ensures { Appends (each half_class found.old) (each half_class found.new) result (walk.file_items known.now raw.now) }
+    ensures { Appends (halves found.old) (halves found.new) result (walk.file_items known.now raw.now) }
 {
     for one in raw {
         item(alloc, known, found, one)?;
@@ -120,7 +120,7 @@ pub fn items<'a>(
     known: &Table<bool>,
     files: &'a [File],
 ) -> Result<Vec<HalfClass<'a>>, NameFault>
-    ensures { Gives (each half_class) result (walk.items known.now files.now) }
+    ensures { Gives halves result (walk.items known.now files.now) }
 {
     let mut found = Vec::new(alloc);
     for file in files {
