@@ -71,13 +71,13 @@ abbrev pub Gives : {X A : Type 0} → (X → A) → Result X NameFault → Found
 Gives view (Ok x) found = found ≡ Ok (view x)
 Gives view (Err e) found = Fails e found
 
--- the same where the answer is itself what the walk finds
-abbrev pub Finds : {A : Type 0} → Result A NameFault → Found A → Type 0
-Finds {A = A} result found = Gives (λ (x : A). x) result found
+-- the same where the walk finds the very values that the function gives
+abbrev pub IsAsFound : {A : Type 0} → Result A NameFault → Found A → Type 0
+IsAsFound {A = A} result found = Gives (λ (x : A). x) result found
 
--- A function appends what the walk finds to what was there.
-abbrev pub Appends : {X A : Type 0} → List A → List A → Result X NameFault → Found (List A) → Type 0
-Appends {X = X} old new result found = Gives (λ (_ : X). new) result (with_front old found)
+-- A function adds what the walk finds to what was there: the old list is in front of it in the new one.
+abbrev pub AddsFound : {X A : Type 0} → List A → List A → Result X NameFault → Found (List A) → Type 0
+AddsFound {X = X} old new result found = Gives (λ (_ : X). new) result (with_front old found)
 
 -- what the items of a vector stand for
 abbrev pub each : {A B : Type 0} → (A → B) → Vec A Global → List B
@@ -112,13 +112,13 @@ scope_of es from = record { entries = entries_of es; from = from }
 abbrev pub AreEntries : Vec Entry Global → s.Scope → Type 0
 AreEntries es scope = entries_of es.items ≡ scope.entries
 
--- the entries that were there are still the first
-abbrev pub Keeps : Vec Entry Global → Vec Entry Global → Type 0
-Keeps old new = take (length old.items) new.items ≡ old.items
+-- The old entries are the first of the new ones.
+abbrev pub IsFront : Vec Entry Global → Vec Entry Global → Type 0
+IsFront old new = take (length old.items) new.items ≡ old.items
 
--- one entry more
-abbrev pub Gains : Vec Entry Global → Vec Entry Global → s.Entry → Type 0
-Gains old new e = entries_of new.items ≡ entries_of old.items ++ e ∷ []
+-- The new entries are the old ones and one more.
+abbrev pub AddsEntry : Vec Entry Global → Vec Entry Global → s.Entry → Type 0
+AddsEntry old new e = entries_of new.items ≡ entries_of old.items ++ e ∷ []
 
 -- Statements are answered with the next free slot beside them.
 abbrev pub next_slot : {A : Type 0} → A × ℕ → ℕ

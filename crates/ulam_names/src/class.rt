@@ -2,7 +2,7 @@
 ghost use Rattle.std.specs.Prelude.{◌≡◌};
 ghost use Rattle.ulam_names.specs.ClassWalk as walk;
 ghost use Rattle.ulam_names.specs.Classes.{may_use};
-ghost use Rattle.ulam_names.specs.Shown.{Gives, Finds, Appends, halves, half_class};
+ghost use Rattle.ulam_names.specs.Shown.{Gives, IsAsFound, AddsFound, halves, half_class};
 
 use crate::class_scope::is_built_in;
 use crate::fault::NameFault;
@@ -41,7 +41,7 @@ fn file_names<'a>(known: &mut Table<'a, bool>, items: &'a [Item]) -> Result<(), 
 
 /// The names of all classes, and whether each is a quark.
 pub fn class_names<'a>(alloc: Global, files: &'a [File]) -> Result<Table<'a, bool>, NameFault>
-    ensures { Finds result (walk.class_names files.now) }
+    ensures { IsAsFound result (walk.class_names files.now) }
 {
     let mut known = Table::new(alloc);
     for file in files {
@@ -81,7 +81,7 @@ fn item<'a>(
     found: &mut Vec<HalfClass<'a>>,
     raw: &'a Item,
 ) -> Result<(), NameFault>
-    ensures { Appends (halves found.old) (halves found.new) result (walk.item known.now raw.now) }
+    ensures { AddsFound (halves found.old) (halves found.new) result (walk.item known.now raw.now) }
 {
     match raw {
         Item::Ulam { .. } => Ok(()),
@@ -106,7 +106,7 @@ fn file_items<'a>(
     found: &mut Vec<HalfClass<'a>>,
     raw: &'a [Item],
 ) -> Result<(), NameFault>
-    ensures { Appends (halves found.old) (halves found.new) result (walk.file_items known.now raw.now) }
+    ensures { AddsFound (halves found.old) (halves found.new) result (walk.file_items known.now raw.now) }
 {
     for one in raw {
         item(alloc, known, found, one)?;

@@ -5,7 +5,7 @@ ghost use Rattle.ulam_names.specs.Classes.{is_built_in, is_member_type, may_be_m
 ghost use Rattle.ulam_tree.specs.Found.{found};
 ghost use Rattle.ulam_names.specs.Faults.{bad_width};
 ghost use Rattle.ulam_names.specs.Scopes.{as_number, in_range};
-ghost use Rattle.ulam_names.specs.Shown.{context_of, class_context, Finds};
+ghost use Rattle.ulam_names.specs.Shown.{context_of, class_context, IsAsFound};
 ghost use Rattle.ulam_names.specs.NamesView.{names_view};
 
 use crate::fault::NameFault;
@@ -36,14 +36,14 @@ fn class_context<'c, 'a>(known: &'c Table<'a, bool>, names: &'c Names<'a>) -> Co
 
 /// The type of a member.
 pub fn member_type(known: &Table<bool>, names: &Names, of: &TypeRef) -> Result<Named, NameFault>
-    ensures { Finds result (walk.member_type known.now names.now of.now) }
+    ensures { IsAsFound result (walk.member_type known.now names.now of.now) }
 {
     type_in(&class_context(known, names), &[], of)
 }
 
 /// A type as a type of numbers.
 pub fn number_type(named: Named) -> Result<NumType, NameFault>
-    ensures { Finds result (found (as_number named.ty) (bad_width named.place)) }
+    ensures { IsAsFound result (found (as_number named.ty) (bad_width named.place)) }
 {
     match named.ty {
         Ty::Num { num } => Ok(num),
@@ -65,7 +65,7 @@ pub fn array_length(
     place: Place,
     length: &Option<Width>,
 ) -> Result<u32, NameFault>
-    ensures { Finds result (walk.length_of names.now place length.now) }
+    ensures { IsAsFound result (walk.length_of names.now place length.now) }
 {
     match length {
         None => Ok(0),

@@ -3,7 +3,7 @@ ghost use Rattle.std.specs.Prelude.{◌≡◌, ◌<◌, ◌≤◌, length, map, 
 ghost use Rattle.std.specs.List.{list_any};
 ghost use Rattle.ulam_names.specs.ClassWalk as walk;
 ghost use Rattle.ulam_names.specs.Rounds.{leads_by, field_part, field_parts, leads_row, row_after};
-ghost use Rattle.ulam_names.specs.Shown.{Finds, head_of};
+ghost use Rattle.ulam_names.specs.Shown.{IsAsFound, head_of};
 ghost use Rattle.ulam_names.specs.declared.fault.NameFault.TheVariants.{NoMemory};
 ghost use Rattle.ulam_tree.specs.Ways.{class_number};
 
@@ -103,7 +103,7 @@ fn holds_itself(alloc: Global, classes: &[HalfClass], class: u32) -> Result<bool
 /// Refuses a quark that contains itself, with a search for each class.
 fn each_apart(alloc: Global, classes: &[HalfClass]) -> Result<(), NameFault>
     requires { length classes.now ≤ 256 }
-    ensures { Finds result (walk.none_cyclic classes.now) }
+    ensures { IsAsFound result (walk.none_cyclic classes.now) }
 {
     let mut number = 0;
     for class in classes {
@@ -118,7 +118,7 @@ fn each_apart(alloc: Global, classes: &[HalfClass]) -> Result<(), NameFault>
 /// Refuses a quark that contains itself.
 pub fn none_cyclic(alloc: Global, classes: &[HalfClass]) -> Result<(), NameFault>
     requires { length classes.now ≤ 256 }
-    ensures { Finds result (walk.none_cyclic classes.now) }
+    ensures { IsAsFound result (walk.none_cyclic classes.now) }
 {
     if may_be_cyclic(alloc, classes)? {
         each_apart(alloc, classes)

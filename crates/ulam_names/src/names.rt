@@ -2,7 +2,7 @@
 ghost use Rattle.std.specs.Prelude.{◌≡◌, ◌<◌, OnOk, false};
 ghost use Rattle.ulam_names.specs.ClassWalk as walk;
 ghost use Rattle.ulam_names.specs.Scopes.{declares_name, is_truth, no_names};
-ghost use Rattle.ulam_names.specs.Shown.{Finds};
+ghost use Rattle.ulam_names.specs.Shown.{IsAsFound};
 ghost use Rattle.ulam_names.specs.NamesView.{names_view};
 
 use crate::basic::Value;
@@ -60,7 +60,7 @@ pub fn declares(names: &Names, name: &[u8]) -> bool
 /// Refuses a name that may not be declared: there are too many, it is not free, or the class has
 /// declared it.
 pub fn new_name(names: &Names, count: usize, free: bool, word: &Word) -> Result<(), NameFault>
-    ensures gives { Finds result (walk.new_name names.now count free word.now) }
+    ensures gives { IsAsFound result (walk.new_name names.now count free word.now) }
     ensures room { OnOk result (count < 64) }
     ensures new { OnOk result (declares_name (names_view names.now) word.now.name ≡ false) }
 {
@@ -88,7 +88,7 @@ pub fn is_truth(kind: Kind) -> bool
 
 /// Whether a constant's value is a truth value, and its number.
 pub fn const_value(names: &Names, value: &Const) -> Result<(bool, i128), NameFault>
-    ensures { Finds result (walk.const_value names.now value.now) }
+    ensures { IsAsFound result (walk.const_value names.now value.now) }
 {
     match value {
         Const::Number { minus, value, .. } => {

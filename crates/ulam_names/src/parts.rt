@@ -4,7 +4,7 @@ ghost use Rattle.std.specs.List.{list_any};
 ghost use Rattle.ulam_names.specs.declared.fault.NameFault.TheVariants as NameFault;
 ghost use Rattle.ulam_names.specs.Scopes.{is_named, is_element, inside_local};
 ghost use Rattle.ulam_names.specs.BodyWalk as walk;
-ghost use Rattle.ulam_names.specs.Shown.{head_of, scope_of, entries_of, Gives, Finds, AreEntries, Keeps, Gains, is_simple};
+ghost use Rattle.ulam_names.specs.Shown.{head_of, scope_of, entries_of, Gives, IsAsFound, AreEntries, IsFront, AddsEntry, is_simple};
 ghost use Rattle.ulam_tree.specs.declared.raw.Statement.TheVariants.{Declare};
 ghost use Rattle.ulam_tree.specs.RawViews.{statement_of};
 ghost use Rattle.ulam_tree.specs.ResolvedViews.{resolved_expr, resolved_left, resolved_cond, resolved_statement};
@@ -109,7 +109,7 @@ fn declared(
 ) -> Result<(), NameFault>
     requires from { from ≤ length entries.now }
     requires params { context.now.params ≤ 8 }
-    ensures gives { Finds result (walk.declared context.now entries.now from slot word.now) }
+    ensures gives { IsAsFound result (walk.declared context.now entries.now from slot word.now) }
     ensures room { OnOk result (slot + 1 ≤ context.now.params + 64) }
 {
     if slot >= context.params + 64 {
@@ -150,7 +150,7 @@ pub fn show<'a>(
     found: &Cond,
 ) -> Result<(), NameFault>
     ensures shown { (from : ℕ) → OnOk result (AreEntries entries.new (walk.narrowed context.now entries.old from raw.now found.now)) }
-    ensures kept { OnOk result (Keeps entries.old entries.new) }
+    ensures kept { OnOk result (IsFront entries.old entries.new) }
     ensures memory { OnErr result (result ≡ Err NameFault.NoMemory) }
 {
     if let raw::Cond::Seen { word, .. } = raw {
@@ -182,8 +182,8 @@ pub fn declare<'a>(
     requires from { from ≤ length entries.old.items }
     ensures gives { Gives resolved_statement result (walk.statement context.now entries.old from slot (Declare of.now word.now value.now)) }
     ensures few { OnOk result (slot + 1 ≤ context.now.params + 64) }
-    ensures scope { IfOk result (λ x. Gains entries.old entries.new (walk.local context.now slot word.now x)) }
-    ensures kept { OnOk result (Keeps entries.old entries.new) }
+    ensures scope { IfOk result (λ x. AddsEntry entries.old entries.new (walk.local context.now slot word.now x)) }
+    ensures kept { OnOk result (IsFront entries.old entries.new) }
 {
     let of = type_in(context, entries.as_slice(), of)?;
     declared(context, entries.as_slice(), from, slot, word)?;

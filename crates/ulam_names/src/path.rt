@@ -1,6 +1,6 @@
 //! Paths.
 ghost use Rattle.ulam_names.specs.BodyWalk as walk;
-ghost use Rattle.ulam_names.specs.Shown.{Gives, Appends};
+ghost use Rattle.ulam_names.specs.Shown.{Gives, AddsFound};
 ghost use Rattle.ulam_tree.specs.ResolvedViews.{resolved_path};
 
 use crate::fault::NameFault;
@@ -19,7 +19,7 @@ fn push_steps(
     words: &[Word],
     steps: &mut Vec<Step>,
 ) -> Result<(), NameFault>
-    ensures { Appends steps.old.items steps.new.items result (walk.steps_after heads.now inside words.now) }
+    ensures { AddsFound steps.old.items steps.new.items result (walk.steps_after heads.now inside words.now) }
 {
     let mut inside = inside;
     for word in words {

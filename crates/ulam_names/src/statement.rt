@@ -4,7 +4,7 @@
 //! them, and `slot` the next free slot.
 ghost use Rattle.std.specs.Prelude.{◌≡◌, ◌≤◌, ◌+◌, length, IfOk, OnOk};
 ghost use Rattle.ulam_names.specs.BodyWalk as walk;
-ghost use Rattle.ulam_names.specs.Shown.{Gives, AreEntries, Keeps, next_slot, found_statement, found_boxed, found_part, found_body};
+ghost use Rattle.ulam_names.specs.Shown.{Gives, AreEntries, IsFront, next_slot, found_statement, found_boxed, found_part, found_body};
 
 use crate::expr::expr;
 use crate::fault::NameFault;
@@ -33,7 +33,7 @@ pub fn statement<'a>(
     ensures next { IfOk result (λ x. next_slot x ≡ slot + walk.locals raw.now) }
     ensures few { IfOk result (λ x. next_slot x ≤ context.now.params + 64) }
     ensures scope { IfOk result (λ x. AreEntries entries.new (walk.after context.now entries.old from slot raw.now x.0)) }
-    ensures kept { OnOk result (Keeps entries.old entries.new) }
+    ensures kept { OnOk result (IsFront entries.old entries.new) }
 {
     match raw {
         raw::Statement::Block { body: list } => {
@@ -145,7 +145,7 @@ fn first_part<'a>(
     ensures next { IfOk result (λ x. next_slot x ≡ slot + walk.part_locals raw.now) }
     ensures few { IfOk result (λ x. next_slot x ≤ context.now.params + 64) }
     ensures scope { IfOk result (λ x. AreEntries entries.new (walk.after_part context.now entries.old from slot raw.now x.0)) }
-    ensures kept { OnOk result (Keeps entries.old entries.new) }
+    ensures kept { OnOk result (IsFront entries.old entries.new) }
 {
     match raw {
         None => Ok((None, slot)),
@@ -221,7 +221,7 @@ pub fn body<'a>(
     ensures gives { Gives found_body result (walk.body context.now entries.old from slot raw.now) }
     ensures next { IfOk result (λ x. next_slot x ≡ slot + walk.body_locals raw.now) }
     ensures few { IfOk result (λ x. next_slot x ≤ context.now.params + 64) }
-    ensures kept { OnOk result (Keeps entries.old entries.new) }
+    ensures kept { OnOk result (IsFront entries.old entries.new) }
 {
     let mut found = Vec::new(alloc);
     let mut next = slot;

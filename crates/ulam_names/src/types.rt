@@ -2,7 +2,7 @@
 ghost use Rattle.std.specs.Prelude.{◌≡◌};
 ghost use Rattle.ulam_names.specs.Scopes as spec;
 ghost use Rattle.ulam_names.specs.BodyWalk as walk;
-ghost use Rattle.ulam_names.specs.Shown.{Finds};
+ghost use Rattle.ulam_names.specs.Shown.{IsAsFound};
 
 use crate::basic::Basic;
 use crate::fault::NameFault;
@@ -88,7 +88,7 @@ pub fn allows(kind: Kind, width: i128) -> bool
 
 /// The number of a width.
 pub fn width_value(context: &Context, entries: &[Entry], width: &Width) -> Result<i128, NameFault>
-    ensures { Finds result (walk.width_value context.now entries.now width.now) }
+    ensures { IsAsFound result (walk.width_value context.now entries.now width.now) }
 {
     match width {
         Width::Number { value } => Ok(i128::from(*value)),
@@ -107,7 +107,7 @@ fn sized_by(
     basic: Basic,
     width: &Option<Width>,
 ) -> Result<Ty, NameFault>
-    ensures { Finds result (walk.sized_by context.now entries.now place basic width.now) }
+    ensures { IsAsFound result (walk.sized_by context.now entries.now place basic width.now) }
 {
     match (basic, width) {
         (Basic::Whole(ty), None) => Ok(ty),
@@ -133,7 +133,7 @@ fn sized_by(
 
 /// A type in a body.
 pub fn type_in(context: &Context, entries: &[Entry], of: &TypeRef) -> Result<Named, NameFault>
-    ensures { Finds result (walk.type_in context.now entries.now of.now) }
+    ensures { IsAsFound result (walk.type_in context.now entries.now of.now) }
 {
     let place = of.word.place;
     match basic_in(context, of.word.name.bytes()) {
@@ -147,7 +147,7 @@ pub fn type_in(context: &Context, entries: &[Entry], of: &TypeRef) -> Result<Nam
 
 /// A type named without a width.
 pub fn class_named(context: &Context, word: &Word) -> Result<Named, NameFault>
-    ensures { Finds result (walk.class_named context.now word.now) }
+    ensures { IsAsFound result (walk.class_named context.now word.now) }
 {
     let place = word.place;
     match basic_in(context, word.name.bytes()) {

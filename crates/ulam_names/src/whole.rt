@@ -2,7 +2,7 @@
 ghost use Rattle.std.specs.Prelude.{◌≡◌, ◌≤◌, length, map, IfOk, IfErr};
 ghost use Rattle.ulam_names.specs.ClassWalk as walk;
 ghost use Rattle.ulam_names.specs.Classes.{is_behave, behaves};
-ghost use Rattle.ulam_names.specs.Shown.{Gives, Finds, each, param_of, half_of, half_class, entries_of};
+ghost use Rattle.ulam_names.specs.Shown.{Gives, IsAsFound, each, param_of, half_of, half_class, entries_of};
 ghost use Rattle.ulam_names.specs.declared.fault.NameFault.TheVariants.{NoMemory as no_memory};
 ghost use Rattle.ulam_tree.specs.RawViews.{word_of};
 ghost use Rattle.ulam_tree.specs.ResolvedViews.{resolved_class, resolved_member, resolved_param};
@@ -50,7 +50,7 @@ fn behaves(class: &HalfClass) -> bool
 
 /// Refuses an element without a function `Void behave()`.
 pub fn all_behave(classes: &[HalfClass]) -> Result<(), NameFault>
-    ensures { Finds result (walk.all_behave classes.now) }
+    ensures { IsAsFound result (walk.all_behave classes.now) }
 {
     for class in classes {
         if !behaves(class) {
