@@ -1,5 +1,5 @@
 //! The bits of classes, computed in rounds over all of them.
-ghost use Rattle.std.specs.Prelude.{◌≡◌, ◌≢◌, ℕ, List, map, length, sum, IfOk, IfErr, None, Some};
+ghost use Rattle.std.specs.Prelude.{◌≡◌, ◌≢◌, map, length, IfOk, IfErr, None, Some};
 ghost use Rattle.ulam_tree.specs.ResolvedViews.{resolved_class, resolved_program};
 ghost use Rattle.atom_layout.specs.Layouts.{member_bits, widths, told, layout_of, first_wide};
 ghost use Rattle.atom_layout.specs.declared.fault.LayoutFault.TheVariants.{NoMemory};

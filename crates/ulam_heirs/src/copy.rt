@@ -203,7 +203,7 @@ pub fn copy_maybe(alloc: Global, raw: &Option<Expr>) -> Result<Option<Expr>, NoM
     }
 }
 
-/// A copy of what is assigned to.
+/// A copy of a left side.
 pub fn copy_left(alloc: Global, raw: &Left) -> Result<Left, NoMemory>
     ensures { IfOk result (λ x. left_of x ≡ left_of raw.now) }
 {
@@ -223,7 +223,7 @@ pub fn copy_left(alloc: Global, raw: &Left) -> Result<Left, NoMemory>
     }
 }
 
-/// A copy of what an `if` asks.
+/// A copy of the condition of an `if`.
 pub fn copy_cond(alloc: Global, raw: &Cond) -> Result<Cond, NoMemory>
     ensures { IfOk result (λ x. cond_of x ≡ cond_of raw.now) }
 {

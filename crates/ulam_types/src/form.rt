@@ -24,7 +24,7 @@ use ulam_tree::resolved::{Named, Path, Ty};
 use ulam_tree::typed::Form;
 use ulam_tree::{PairOp, typed, typed_build as build};
 
-/// A number, with `with_u` if `u` is after it.
+/// A number. `with_u` says whether it has a `u` at its end.
 pub fn number(want: Kind, value: u32, with_u: bool, place: Place) -> Result<typed::Expr, TypeFault>
     ensures { Gives typed_expr result (walk.number want value with_u place) }
 {
@@ -51,7 +51,7 @@ pub fn number(want: Kind, value: u32, with_u: bool, place: Place) -> Result<type
     }
 }
 
-/// Two operands with an operator between.
+/// Two operands with an operator between them.
 pub fn pair(
     op: PairOp,
     left: Box<typed::Expr>,

@@ -73,12 +73,12 @@ fn find(alloc: Global, program: &Program) -> Result<Typed, TypeFault>
     Ok(Typed { classes })
 }
 
-/// The typed tree of a program. Else its first fault: classes, functions and statements are gone
-/// through in the order of the text, and operands from left to right before their operator.
+/// The typed tree of a program, or else its first fault: classes, functions and statements are
+/// checked in the order of the text, and operands from left to right before their operator.
 /// `NoMemory` if the tree can't be kept.
 ///
-/// A program has a layout if its quarks and elements are narrow enough, which is found before
-/// types are; no rule of types asks for it.
+/// A program has a layout if its quarks and elements are narrow enough. That is checked before
+/// types are, so a layout is needed here; no rule of types depends on it.
 pub fn check(alloc: Global, program: &Program, _layout: &Layout) -> Result<Typed, TypeFault>
     requires { length program.now.classes.items ≤ 4294967295 }
     ensures found { Gives typed_program result (walk.program (resolved_program program.now)) }

@@ -212,8 +212,8 @@ fn are_mixed(a: NumClass, b: NumClass) -> bool
     }
 }
 
-/// The type of two operands, or what is wrong with them. Whether the right one is plain counts for
-/// shifts alone.
+/// The type of two operands, or what is wrong with them. Whether the right one is plain matters
+/// for shifts alone.
 pub fn pair_row(place: Place, op: PairOp, plain: bool, left: Ty, right: Ty) -> Result<Ty, TypeFault>
     ensures { Gives (λ x. x) result (row.pair_found place op plain left right) }
 {

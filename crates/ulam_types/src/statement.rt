@@ -115,7 +115,7 @@ fn part(
     }
 }
 
-/// What an `if` asks, and its first branch, in which a name may be seen as an element.
+/// The condition of an `if`, and its first branch, in which a name may be seen as an element.
 #[cycle(statement)]
 fn branch(
     alloc: Global,
@@ -136,7 +136,8 @@ fn branch(
     }
 }
 
-/// What an `if` with `as` asks, and its first branch, in which the name is seen as the element.
+/// The condition of an `if` with `as`, and its first branch, in which the name is seen as the
+/// element.
 #[cycle(statement)]
 fn seen(
     alloc: Global,
