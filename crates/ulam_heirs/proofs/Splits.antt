@@ -10,14 +10,14 @@ use Rattle.ulam_heirs.specs.declared.role.Role.TheVariants as r
 use Rattle.ulam_heirs.specs.declared.behind.Behind.{Behind}
 use Rattle.ulam_heirs.specs.declared.behind.Part.{Part}
 use Rattle.ulam_heirs.specs.declared.behind.Part.TheVariants.{Kept, Colon, BaseName, Mark}
-use Rattle.ulam_heirs.specs.Heads.{is_class_word, is_type_name, is_colon, is_open, is_virtual_word, may_begin, is_head, open_after, open_braces, role, role_at, is_head_colon, is_base_name, is_virtual_mark, kept_at, base_between, base_at, first_place, virtual_at}
-use Rattle.ulam_heirs.specs.Behind.{behind_of, passed, part_at, kept_by, base_from, base_by, virtual_by, IsWithin, AllWithin, Split, IsSplit}
+use Rattle.ulam_heirs.specs.Heads.{HeadedValue, is_class_word, is_type_name, is_colon, is_open, is_virtual_word, may_begin, is_head, open_after, open_braces, role, role_at, is_head_colon, is_base_name, is_virtual_mark, kept_at, base_between, base_at, first_place, virtual_at}
+use Rattle.ulam_heirs.specs.Behind.{behind_of, passed, part_at, kept_by, base_from, base_by, virtual_by, IsWithin, AllWithin, IsSplit}
 use Rattle.ulam_heirs.specs.declared.headed.Base.{Base as CodeBase}
-use Rattle.ulam_heirs.specs.Views.{heads_view}
+use Rattle.ulam_heirs.specs.Views.{heads_view, headed_view}
 
 -- what the code made of tokens
-abbrev pub split_of : List Token → List CodeBase → List Place → Split
-split_of left bases virtuals = record { left = left; heads = heads_view bases virtuals }
+abbrev pub split_of : List Token → List CodeBase → List Place → HeadedValue
+split_of left bases virtuals = headed_view left (heads_view bases virtuals)
 
 abbrev chosen : Bool → Bool → Bool → Part
 chosen x y z = cond x Colon (cond y BaseName (cond z Mark Kept))
@@ -113,7 +113,7 @@ open_small r.Other n = omega arith
 on : {A : Type 0} (whole done more given mine rest : List A) → whole ≡ done ++ (given ++ rest) → more ≡ done ++ mine → mine ≡ given → whole ≡ more ++ rest
 on whole done more given mine rest e f g = e ∙ sym (append_assoc done given rest) ∙ ap (λ xs. xs ++ rest) (sym (f ∙ ap (λ xs. done ++ xs) g))
 
-pub split_next : (bytes : List ℕ) (tokens : List Token) (t : Token) (after : List Token) (done more : Split) (b b' : Behind) → IsSplit bytes tokens (t ∷ after) done b →
+pub split_next : (bytes : List ℕ) (tokens : List Token) (t : Token) (after : List Token) (done more : HeadedValue) (b b' : Behind) → IsSplit bytes tokens (t ∷ after) done b →
     more.left ≡ done.left ++ kept_by (part_at bytes b t after) t →
     more.heads.bases ≡ done.heads.bases ++ base_by bytes (part_at bytes b t after) b.place after →
     more.heads.virtuals ≡ done.heads.virtuals ++ virtual_by (part_at bytes b t after) after →
@@ -132,8 +132,8 @@ split_next bytes tokens t after done more b b' s e f g h =
       marked = on _ done.heads.virtuals more.heads.virtuals (virtual_at bytes s.before t after) _ _ s.marked g (ap (λ (z : Behind). virtual_by (part_at bytes z t after) after) s.behind ∙ virtual_here bytes s.before t after);
     }
 
-pub first_within : (bytes : List ℕ) (tokens rest : List Token) (t : Token) (after : List Token) (done : Split) (b : Behind) → IsSplit bytes tokens rest done b → rest ≡ t ∷ after → IsWithin bytes t
+pub first_within : (bytes : List ℕ) (tokens rest : List Token) (t : Token) (after : List Token) (done : HeadedValue) (b : Behind) → IsSplit bytes tokens rest done b → rest ≡ t ∷ after → IsWithin bytes t
 first_within bytes tokens rest t after done b s e = All-head (λ (u : Token). IsWithin bytes u) t after (subst (AllWithin bytes) e s.within)
 
-pub rest_within : (bytes : List ℕ) (tokens rest : List Token) (t : Token) (after : List Token) (done : Split) (b : Behind) → IsSplit bytes tokens rest done b → rest ≡ t ∷ after → AllWithin bytes after
+pub rest_within : (bytes : List ℕ) (tokens rest : List Token) (t : Token) (after : List Token) (done : HeadedValue) (b : Behind) → IsSplit bytes tokens rest done b → rest ≡ t ∷ after → AllWithin bytes after
 rest_within bytes tokens rest t after done b s e = All-tail (λ (u : Token). IsWithin bytes u) t after (subst (AllWithin bytes) e s.within)

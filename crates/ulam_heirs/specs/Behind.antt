@@ -7,7 +7,7 @@ use Rattle.ulam_heirs.specs.declared.role.Role.{Role}
 use Rattle.ulam_heirs.specs.declared.behind.Behind.{Behind}
 use Rattle.ulam_heirs.specs.declared.behind.Part.{Part}
 use Rattle.ulam_heirs.specs.declared.behind.Part.TheVariants.{Kept, Colon, BaseName, Mark}
-use Rattle.ulam_heirs.specs.Heads.{Base, Heads, is_head, may_begin, is_virtual_word, is_type_name, open_after, open_braces, role, role_at, text_of, first_place, at_each, kept_at, base_at, virtual_at, tokens_left}
+use Rattle.ulam_heirs.specs.Heads.{Base, HeadedValue, is_head, may_begin, is_virtual_word, is_type_name, open_after, open_braces, role, role_at, text_of, first_place, at_each, kept_at, base_at, virtual_at, tokens_left}
 
 -- what is known of tokens that were passed; `before` has the last one first
 abbrev pub behind_of : List ℕ → List Token → Behind
@@ -58,13 +58,8 @@ IsWithin bytes t = (t.first ≤ t.end) × (t.end ≤ length bytes)
 abbrev pub AllWithin : List ℕ → List Token → Type 0
 AllWithin bytes ts = All (λ (t : Token). IsWithin bytes t) ts
 
--- the tokens that stay, and what was taken out of them
-pub record Split : Type 0 where
-  pub left : List Token
-  pub heads : Heads
-
 -- The tokens before `rest` were passed: `done` is what was made of them, and b is what is known of them.
-pub record IsSplit (bytes : List ℕ) (tokens rest : List Token) (done : Split) (b : Behind) : Type 0 where
+pub record IsSplit (bytes : List ℕ) (tokens rest : List Token) (done : HeadedValue) (b : Behind) : Type 0 where
   -- the tokens that were passed, the last one first
   pub before : List Token
   pub behind : b ≡ behind_of bytes before

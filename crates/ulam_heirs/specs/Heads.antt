@@ -20,6 +20,11 @@ pub record Heads : Type 0 where
   pub bases : List Base
   pub virtuals : List Place
 
+-- the tokens of a file that stay, and what was taken out of them
+pub record HeadedValue : Type 0 where
+  pub left : List Token
+  pub heads : Heads
+
 -- what a token of a kind, with this text, is to the heads of classes
 unfoldable pub role_of : TokenKind → List ℕ → Role
 role_of k.Name text = if bytes_eq text (codes "virtual") then r.Virtual else r.Other
@@ -132,3 +137,7 @@ tokens_left bytes ts = at_each (kept_at bytes) [] ts
 -- what was taken out
 abbrev pub heads_of : List ℕ → List Token → Heads
 heads_of bytes ts = record { bases = at_each (base_at bytes) [] ts; virtuals = at_each (virtual_at bytes) [] ts }
+
+-- the tokens that stay, and what was taken out
+abbrev pub headed : List ℕ → List Token → HeadedValue
+headed bytes ts = record { left = tokens_left bytes ts; heads = heads_of bytes ts }

@@ -3,6 +3,7 @@ use Rattle.std.specs.Prelude.{ℕ, ◌≡◌, List, [], ◌∷◌, ◌++◌, map
 use Rattle.std.specs.Global.{Vec}
 use Rattle.std.specs.Option.{option_and_then}
 use Rattle.feast_base.specs.declared.place.Place.{Place}
+use Rattle.ulam_lex.specs.declared.token.Token.{Token}
 use Rattle.ulam_tree.specs.Raw as t
 use Rattle.ulam_tree.specs.RawViews.{word_of, class_of, expr_of, statement_of, member_of, item_of, file_of}
 use Rattle.ulam_tree.specs.declared.raw.Expr.{Expr}
@@ -21,6 +22,9 @@ base_view b = record { class = b.class; base = word_of b.base }
 
 abbrev pub heads_view : List Base → List Place → spec.Heads
 heads_view bs ps = record { bases = map base_view bs; virtuals = ps }
+
+abbrev pub headed_view : List Token → spec.Heads → spec.HeadedValue
+headed_view left heads = record { left = left; heads = heads }
 
 abbrev pub heir_of : Heir → lines.Heir
 heir_of h = record { class = class_of h.class.now; base = option_map (λ w. word_of w.now) h.base; virtuals = h.virtuals.now }

@@ -2,7 +2,8 @@ use Rattle.std.proofs.Common.{◌∙◌, ap, subst, ℕ, List, ◌++◌}
 use Rattle.ulam_lex.specs.declared.token.Token.{Token}
 use Rattle.ulam_heirs.specs.declared.behind.Part.{Part}
 use Rattle.ulam_heirs.specs.declared.role.Role.{Role}
-use Rattle.ulam_heirs.specs.Behind.{Split, IsSplit, passed, kept_by, base_by, virtual_by}
+use Rattle.ulam_heirs.specs.Heads.{HeadedValue}
+use Rattle.ulam_heirs.specs.Behind.{IsSplit, passed, kept_by, base_by, virtual_by}
 use Rattle.ulam_heirs.proofs.Splits.{split_of, split_next, first_within, rest_within}
 use Rattle.ulam_heirs.proofs.tokens.split.Goals as goal
 
@@ -24,8 +25,8 @@ loop-token-preserved c =
     let tokens : List Token = c.args.tokens.now in
     let t : Token = c.in-Some.token.now in
     let after : List Token = c.in-Some.after.now in
-    let done : Split = split_of c.loop-token.left.items c.loop-token.bases.items c.loop-token.virtuals.items in
-    let more : Split = split_of c.add.new.left.items c.add.new.bases.items c.add.new.virtuals.items in
+    let done : HeadedValue = split_of c.loop-token.left.items c.loop-token.bases.items c.loop-token.virtuals.items in
+    let more : HeadedValue = split_of c.add.new.left.items c.add.new.bases.items c.add.new.virtuals.items in
     split_next bytes tokens t after done more c.loop-token.before c.passed-before.result
     (subst (λ (ts : List Token). IsSplit bytes tokens ts done c.loop-token.before) c.in-Some.ensures.cases.0 c.loop-token.invariant)
     (c.in_ok-add.ensures.left ∙ ap (λ (p : Part). done.left ++ kept_by p t) c.part_at-part.ensures)
