@@ -16,6 +16,10 @@ pub record ElementValue : Type 0 where
   pub name : List ℕ
   pub code : CodeValue
 
+-- an element by its name and its code
+abbrev pub element : List ℕ → CodeValue → ElementValue
+element n c = record { name = n; code = c }
+
 -- what a code file says: its elements, the first of which has type number 1
 abbrev pub CodesValue : Type 0
 CodesValue = List ElementValue
@@ -30,7 +34,7 @@ codes_of es = map (λ (e : ElementValue). e.code) es
 abbrev pub elements : List (List ℕ) → List CodeValue → CodesValue
 elements [] cs = []
 elements (n ∷ ns) [] = []
-elements (n ∷ ns) (c ∷ cs) = record { name = n; code = c } ∷ elements ns cs
+elements (n ∷ ns) (c ∷ cs) = element n c ∷ elements ns cs
 
 -- Spelling
 

@@ -1,8 +1,10 @@
 -- Which elements of a file that has the form are refused, and what reading answers.
-use Rattle.std.specs.Prelude.{ℕ, ◌≡◌, ◌+◌, ◌-◌, ◌≤◌, List, [], ◌∷◌, ◌++◌, length, take, Result, Ok, Err, bytes_eq, Bool, if◌then◌else◌}
+use Rattle.std.specs.Prelude.{ℕ, ◌≡◌, ◌+◌, ◌-◌, ◌≤◌, List, [], ◌∷◌, ◌++◌, length, take, Result, Ok, Err, Vec, bytes_eq, Bool, if◌then◌else◌}
 use Rattle.std.specs.List.{flat_map, list_any}
+use Rattle.std.specs.declared.alloc.Global.{Global}
+use Rattle.stack_code.specs.Machine.{CodeValue}
 use Rattle.stack_code.specs.Valid.{valid}
-use Rattle.code_file.specs.Form.{CodesValue, ElementValue, IsFile, IsFirstBad, element_bytes, magic, names_of}
+use Rattle.code_file.specs.Form.{CodesValue, ElementValue, IsFile, IsFirstBad, element_bytes, elements, magic, names_of}
 use Rattle.code_file.specs.declared.halt.Halt.{Halt}
 use Rattle.code_file.specs.declared.halt.Halt.TheVariants as halt
 use Rattle.code_file.specs.declared.fault.CodeFault.{CodeFault}
@@ -15,6 +17,10 @@ is_among name names = list_any (λ other. bytes_eq other name) names
 -- the first byte, counted from 1, of the element that stands behind these
 abbrev pub column_behind : CodesValue → ℕ
 column_behind done = 11 + length (flat_map element_bytes done)
+
+-- elements by the vectors of their names and their codes
+abbrev pub listed : Vec (List ℕ) Global → Vec CodeValue Global → CodesValue
+listed names codes = elements names.items codes.items
 
 -- the elements that are left, behind those that are right: the first with the name of an earlier one, or whose code is not
 -- valid, is refused at the first byte of its name's length

@@ -1,10 +1,15 @@
 -- The elements among classes, their names, and what the stage of names says of classes.
-use Rattle.std.specs.Prelude.{ℕ, suc, ◌≡◌, ◌≤◌, false, List, [], ◌∷◌, ◌++◌, length, map, flat_map, get_or, if◌then◌else◌}
+use Rattle.std.specs.Prelude.{ℕ, suc, ◌≡◌, ◌≤◌, false, List, [], ◌∷◌, ◌++◌, Vec, length, map, flat_map, get_or, if◌then◌else◌}
+use Rattle.std.specs.declared.alloc.Global.{Global}
 use Rattle.ulam_tree.specs.Statements.{Class, Member, field, function}
 use Rattle.ulam_tree.specs.Raw.{Item}
 use Rattle.ulam_tree.specs.Resolved as r
 use Rattle.ulam_names.specs.ClassRelation.{IsResolved}
 use Rattle.ulam_names.specs.Scopes.{is_among, most_classes, most_members}
+
+-- the name that a key of a set of names is
+abbrev pub key_name : Vec ℕ Global → List ℕ
+key_name key = key.items
 
 -- the name of a class that is an element
 abbrev pub element_name : {E A : Type 0} → Class E A → List (List ℕ)

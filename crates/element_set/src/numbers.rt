@@ -15,12 +15,12 @@ pub struct Numbers {
 }
 
 impl Model for Numbers {
-    ghost use Rattle.std.specs.Prelude.{List, ℕ, length, ◌≤◌};
-    ghost use Rattle.atom_layout.specs.Rows.{rows_of};
+    ghost use Rattle.std.specs.Prelude.{List, ℕ, length, map, ◌≤◌};
+    ghost use Rattle.element_set.specs.Names.{key_name};
 
     ghost Value = { List (List ℕ) };
 
-    ghost view = { λ n. rows_of n.set.keys };
+    ghost view = { λ n. map key_name n.set.keys };
 
     ghost invariant = { λ n. length n.set.keys ≤ 256 };
 }
