@@ -134,7 +134,7 @@ module _ (scene : Scene) where
   WritesAtKind (part i p) k = HasSlot i Atom × ArrayFits p × (k ≡ Number)
   WritesAtKind spot k = ⊥
 
-  -- an operator followed by `=` has an instruction for a target, with a value of this width
+  -- the instruction of an operator followed by `=`, for a target and a value of this width, is allowed
   abbrev pub HasUpdate : PairOp → Target → ℕ → Type 0
   HasUpdate o target width = args_fit (update_instr o (spot_type scene (target_spot target)) width) ≡ true
 

@@ -27,7 +27,7 @@ number_text Bits n = codes "Bits" ++ in_parens n
 number_text Unary n = codes "Unary" ++ in_parens n
 number_text Truth n = codes "Bool"
 
--- the name of the class of a number
+-- the name of a class, by its number
 abbrev pub class_name : List t.Class → ℕ → List ℕ
 class_name cs k = option_map_or (λ (c : t.Class). c.word.name) (slice_get cs k) []
 
@@ -54,7 +54,7 @@ member_line name ty first width = codes "member " ++ (spaced name ++ (spaced ty 
 abbrev pub member_text : List ℕ → List ℕ → ℕ → ℕ → List ℕ
 member_text name ty first width = if width == 0 then [] else member_line name ty first width
 
--- the data members of the class of a number, from that of a number on
+-- the data members of class k from the one of number i on
 abbrev pub members_text : SetValue → ℕ → ℕ → List t.Member → List ℕ
 members_text s k i [] = []
 members_text s k i (field of w n ∷ ms) = member_text w.name (whole_type s.classes of.ty n) (first_bit s.layout k i) (get_or (class_at s.layout k) i 0) ++ members_text s k (i + 1) ms
@@ -80,7 +80,7 @@ class_after s k before c = class_line c before (sum (class_at s.layout k)) ++ me
 abbrev pub class_text : SetValue → ℕ → t.Class → List ℕ
 class_text s k c = class_after s k (length (names_in (take k s.classes))) c
 
--- the classes from that of a number on
+-- the classes from the one of number k on
 abbrev pub classes_text : SetValue → ℕ → List t.Class → List ℕ
 classes_text s k [] = []
 classes_text s k (c ∷ cs) = class_text s k c ++ classes_text s (k + 1) cs
