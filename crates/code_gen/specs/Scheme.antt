@@ -175,9 +175,9 @@ abbrev pub target_spot : Target → Spot
 target_spot (whole at) = at
 target_spot (item at index) = at
 
--- the operator of `p op= e`, where p has this type and e this width
+-- the instruction of `target op= value`, for a target of this type and a value of this width
 abbrev pub update_instr : PairOp → Ty → ℕ → Instr
-update_instr o ty w = pair_instr o (arith_with ty w) (width_of ty)
+update_instr o ty width = pair_instr o (arith_with ty width) (width_of ty)
 
 -- Statements
 
@@ -223,31 +223,31 @@ module _ (scene : Scene) where
 
     -- each form, with its type
     pub form_piece : t.Form → Ty → Piece
-    form_piece (t.number v u p) ty = plain (PushNum (pos v))
-    form_piece (t.truth b p) ty = plain (PushNum (of_bool b))
-    form_piece (t.reads x) ty = load (spot_at x)
-    form_piece (t.calls x es) ty = value_call (callee_at x) (args_piece es)
-    form_piece (t.index x i) ty = expr_piece i then load_at (spot_at x)
-    form_piece (t.instance c) ty = plain (PushAtom (type_number scene.program c.ty))
-    form_piece (t.group a p) ty = expr_piece a
-    form_piece (t.cast c a p) ty = expr_piece a then fit (number_type c.ty)
-    form_piece (t.prefix o a p) ty = expr_piece a then plain (prefix_instr o ty)
-    form_piece (t.pair op.Both a b p) ty = expr_piece a then pick (expr_piece b) (plain (PushNum (pos 0)))
-    form_piece (t.pair op.Either a b p) ty = expr_piece a then plain NotB then pick (expr_piece b) (plain (PushNum (pos 1)))
-    form_piece (t.pair o a b p) ty = expr_piece a then expr_piece b then plain (pair_instr o (arith_of ty) (width_of ty))
-    form_piece (t.is a c p) ty = expr_piece a then plain (IsKind (type_number scene.program c.ty))
+    form_piece (t.number n u p) ty = plain (PushNum (pos n))
+    form_piece (t.truth value p) ty = plain (PushNum (of_bool value))
+    form_piece (t.reads path) ty = load (spot_at path)
+    form_piece (t.calls path list) ty = value_call (callee_at path) (args_piece list)
+    form_piece (t.index path i) ty = expr_piece i then load_at (spot_at path)
+    form_piece (t.instance class) ty = plain (PushAtom (type_number scene.program class.ty))
+    form_piece (t.group inner p) ty = expr_piece inner
+    form_piece (t.cast to value p) ty = expr_piece value then fit (number_type to.ty)
+    form_piece (t.prefix o value p) ty = expr_piece value then plain (prefix_instr o ty)
+    form_piece (t.pair op.Both left right p) ty = expr_piece left then pick (expr_piece right) (plain (PushNum (pos 0)))
+    form_piece (t.pair op.Either left right p) ty = expr_piece left then plain NotB then pick (expr_piece right) (plain (PushNum (pos 1)))
+    form_piece (t.pair o left right p) ty = expr_piece left then expr_piece right then plain (pair_instr o (arith_of ty) (width_of ty))
+    form_piece (t.is value class p) ty = expr_piece value then plain (IsKind (type_number scene.program class.ty))
 
     -- arguments, each with its cast
     pub args_piece : t.Args → List (Option NumType) → Piece
     args_piece t.no_args [] = none
-    args_piece t.no_args (c ∷ cs) = nowhere
-    args_piece (t.arg a es) [] = nowhere
-    args_piece (t.arg a es) (c ∷ cs) = expr_piece a then fit c then args_piece es cs
+    args_piece t.no_args (cast ∷ more) = nowhere
+    args_piece (t.arg value list) [] = nowhere
+    args_piece (t.arg value list) (cast ∷ more) = expr_piece value then fit cast then args_piece list more
 
   -- an expression that may be missing
   abbrev pub optional_piece : Option t.Expr → Option Piece
   optional_piece None = None
-  optional_piece (Some a) = Some (expr_piece a)
+  optional_piece (Some value) = Some (expr_piece value)
 
   -- Assignments
 
@@ -274,42 +274,42 @@ module _ (scene : Scene) where
 
   -- a condition; `x as T` asks for the type of the atom in x
   abbrev pub cond_piece : t.Cond → Piece
-  cond_piece (t.seen x c) = load (spot_at x) then plain (IsKind (type_number scene.program c.ty))
-  cond_piece (t.test a) = expr_piece a
+  cond_piece (t.seen path class) = load (spot_at path) then plain (IsKind (type_number scene.program class.ty))
+  cond_piece (t.test value) = expr_piece value
 
   abbrev pub declare_piece : Ty → ℕ → Option t.Expr → Piece
-  declare_piece ty i None = plain (blank_instr scene.program ty) then plain (StoreLocal i)
-  declare_piece ty i (Some a) = expr_piece a then fit (number_type ty) then plain (StoreLocal i)
+  declare_piece ty slot None = plain (blank_instr scene.program ty) then plain (StoreLocal slot)
+  declare_piece ty slot (Some value) = expr_piece value then fit (number_type ty) then plain (StoreLocal slot)
 
   abbrev pub return_piece : Option t.Expr → Piece
   return_piece None = end_by (answer_of scene.result) (type_number scene.program scene.result)
-  return_piece (Some a) = expr_piece a then fit (number_type scene.result) then give_piece scene.result
+  return_piece (Some value) = expr_piece value then fit (number_type scene.result) then give_piece scene.result
 
   abbrev mutual
     pub statement_piece : t.Statement → Piece
-    statement_piece (t.block b) = body_piece b
+    statement_piece (t.block body) = body_piece body
     statement_piece t.empty = none
-    statement_piece (t.if_so c x t.no_part) = cond_piece c then only (statement_piece x)
-    statement_piece (t.if_so c x (t.part other)) = cond_piece c then pick (statement_piece x) (statement_piece other)
-    statement_piece (t.while_so c x) = loop (expr_piece c) (statement_piece x) none
-    statement_piece (t.for_all first c step x) = part_piece first then loop_piece (optional_piece c) (statement_piece x) (part_piece step)
-    statement_piece (t.returns p a) = return_piece a
+    statement_piece (t.if_so c so t.no_part) = cond_piece c then only (statement_piece so)
+    statement_piece (t.if_so c so (t.part other)) = cond_piece c then pick (statement_piece so) (statement_piece other)
+    statement_piece (t.while_so c body) = loop (expr_piece c) (statement_piece body) none
+    statement_piece (t.for_all first c step body) = part_piece first then loop_piece (optional_piece c) (statement_piece body) (part_piece step)
+    statement_piece (t.returns p value) = return_piece value
     statement_piece (t.breaks p) = out
     statement_piece (t.continues p) = next
-    statement_piece (t.declares of i p a) = declare_piece of.ty i a
-    statement_piece (t.assigns left o a) = assign_piece (left_target left) o (width_of (t.ty_of a)) (expr_piece a)
+    statement_piece (t.declares of slot p value) = declare_piece of.ty slot value
+    statement_piece (t.assigns left o value) = assign_piece (left_target left) o (width_of (t.ty_of value)) (expr_piece value)
     statement_piece (t.counts left up) = assign_piece (left_target left) (Some (count_op up)) 32 (plain (PushNum (pos 1)))
-    statement_piece (t.does x es) = bare_call (callee_at x) (args_piece es)
+    statement_piece (t.does path list) = bare_call (callee_at path) (args_piece list)
 
     -- the first statement and the step of a `for`
     pub part_piece : t.Part → Piece
     part_piece t.no_part = none
-    part_piece (t.part x) = statement_piece x
+    part_piece (t.part one) = statement_piece one
 
     -- statements one after another
     pub body_piece : t.Body → Piece
     body_piece t.no_more = none
-    body_piece (t.then_so x b) = statement_piece x then body_piece b
+    body_piece (t.then_so one rest) = statement_piece one then body_piece rest
 
 -- Functions
 
