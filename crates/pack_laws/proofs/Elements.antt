@@ -10,7 +10,6 @@ use Rattle.list_laws.proofs.Entries.{all_from_get}
 use Rattle.feast_base.specs.TypeNames.{is_type_name}
 use Rattle.stack_code.specs.Machine.{CodeValue}
 use Rattle.stack_code.specs.Valid.{valid}
-use Rattle.ulam_tree.specs.Typed as t
 use Rattle.ulam_names.specs.Scopes as scopes
 use Rattle.ulam_meaning.specs.Programs.{Program, count_elements, element_classes, number_of}
 use Rattle.ulam_meaning.specs.Laws.{bits_of}
