@@ -1,5 +1,5 @@
 //! Names by their numbers.
-ghost use Rattle.std.specs.Prelude.{◌≡◌, ◌<◌, ◌≤◌, [], ◌∷◌, ◌++◌, suc, false, length, position, bytes_eq, option_map, OnOk, IfOk};
+ghost use Rattle.std.specs.Prelude.{◌≡◌, ◌<◌, ◌≤◌, [], ◌∷◌, ◌++◌, suc, length, position, bytes_eq, option_map, IsFalse, OnOk, IfOk};
 ghost use Rattle.element_set.specs.Names.{AreNew};
 ghost use Rattle.ulam_names.specs.Scopes.{is_among};
 
@@ -49,7 +49,7 @@ impl Numbers {
     /// Adds a new name.
     #[tactic(auto, using(crate::proofs::Numbering::added_is))]
     fn add(&mut self, name: Vec<u8>) -> Result<(), NoMemory>
-        requires new { is_among name.items self.old ≡ false }
+        requires new { IsFalse (is_among name.items self.old) }
         requires room { length self.old < 256 }
         ensures { OnOk result (self.new ≡ self.old ++ name.items ∷ []) }
     {
