@@ -11,6 +11,9 @@ pub record EndValue : Type 0 where
   pub end_of : ℕ → ℕ
   pub lists : ℕ → EndLists
 
+abbrev pub end_value : ℕ → (ℕ → ℕ) → (ℕ → ℕ) → (ℕ → EndLists) → EndValue
+end_value tile registers end_of lists = record { tile = tile; registers = registers; end_of = end_of; lists = lists }
+
 -- the tile and its edges stay
 abbrev pub SameEnd : EndValue → EndValue → Type 0
 SameEnd old new = (new.tile ≡ old.tile) × (new.registers ≡ old.registers) × (new.end_of ≡ old.end_of)

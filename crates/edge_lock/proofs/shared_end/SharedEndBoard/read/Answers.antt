@@ -38,23 +38,16 @@ returns-clause-value c =
       subst (λ n. IsAllowed (site_count n) c.args.register c.read.result) (sym (a.registers p x at there ∙ ap (λ (y : EdgeValue). y.registers) there)) c.read.ensures.value.1,
     )
 
-pub returns-clause-lists : goal.returns-clause-lists
-returns-clause-lists c =
+pub returns-clause-change : goal.returns-clause-change
+returns-clause-change c =
     let a = acts c.self.inside.edges.now c.self.inside.passes.items c.as_slice.result.now c.self.inside.tile c.args.self.now c.args.edge c.pass_position-i.result c.self.view_is c.self.invariant c.as_slice.ensures.value c.pass_position-i.ensures.is c.pass_position-i.ensures.inside in
     let p = c.index_mut.result.now in let at = c.index_mut.ensures.value in
-    let d = a.after p c.read.new.pass (λ k l. after_access (Read c.args.register c.read.result) l) at c.read.ensures.pass in
-    d.lists
-
-pub returns-clause-edges : goal.returns-clause-edges
-returns-clause-edges c =
-    let a = acts c.self.inside.edges.now c.self.inside.passes.items c.as_slice.result.now c.self.inside.tile c.args.self.now c.args.edge c.pass_position-i.result c.self.view_is c.self.invariant c.as_slice.ensures.value c.pass_position-i.ensures.is c.pass_position-i.ensures.inside in
-    let p = c.index_mut.result.now in let at = c.index_mut.ensures.value in
-    let d = a.after p c.read.new.pass (λ k l. after_access (Read c.args.register c.read.result) l) at c.read.ensures.pass in
-    (d.registers, d.ends)
+    let d = a.after p c.read.new.pass (λ k. after_access (Read c.args.register c.read.result)) at c.read.ensures.pass in
+    d.change
 
 pub returns-clause-moved : goal.returns-clause-moved
 returns-clause-moved c =
     let a = acts c.self.inside.edges.now c.self.inside.passes.items c.as_slice.result.now c.self.inside.tile c.args.self.now c.args.edge c.pass_position-i.result c.self.view_is c.self.invariant c.as_slice.ensures.value c.pass_position-i.ensures.is c.pass_position-i.ensures.inside in
     let p = c.index_mut.result.now in let at = c.index_mut.ensures.value in
-    let d = a.after p c.read.new.pass (λ k l. after_access (Read c.args.register c.read.result) l) at c.read.ensures.pass in
+    let d = a.after p c.read.new.pass (λ k. after_access (Read c.args.register c.read.result)) at c.read.ensures.pass in
     d.moved
