@@ -12,14 +12,14 @@ use Rattle.tile_map.specs.Edges.{edges_at}
 use Rattle.tile_map.specs.Laws.{IsPlane}
 use Rattle.cell_grid.specs.Grid.{GridValue, IsGrid, IsLive, ArePlanesAlike, site_atom, with_site}
 use Rattle.border_cache.specs.Copies.{IsGridOf, held_cell}
-use Rattle.tile_core.specs.Values.{TileValue}
+use Rattle.tile_core.specs.Values.{TileWith, TileValue}
 use Rattle.serial_order.specs.Settled.{settled_cell, IsSettledAt, IsSettled}
 use Rattle.serial_order.specs.Outcomes.{values_of, AreTilesOf, IsPlaneGrid, ChangesSite}
 use Rattle.serial_order.proofs.Grids.{index, in_columns, index_live, one_site}
 
 -- the tile at a number
-pub tile_there : {B : Type 0} (m : MapValue) (tiles : List (TileValue × B)) → AreTilesOf m (values_of tiles) → (t : ℕ) → t < tiles_of m → (x : TileValue × B) → x ≡ get_or tiles t x → slice_get (values_of tiles) t ≡ Some x.0
-tile_there m tiles are t lt x is = slice_get-map (λ y. y.0) tiles t ∙ ap (option_map (λ y. y.0)) (slice_get_read tiles (tiles_of m) t x (sym are.count ∙ length-map tiles (λ y. y.0)) lt is)
+pub tile_there : {B : Type 0} (m : MapValue) (tiles : List (TileWith B)) → AreTilesOf m (values_of tiles) → (t : ℕ) → t < tiles_of m → (x : TileWith B) → x ≡ get_or tiles t x → slice_get (values_of tiles) t ≡ Some x.core
+tile_there m tiles are t lt x is = slice_get-map (λ y. y.core) tiles t ∙ ap (option_map (λ y. y.core)) (slice_get_read tiles (tiles_of m) t x (sym are.count ∙ length-map tiles (λ y. y.core)) lt is)
 
 module _ (m : MapValue) (tiles : List TileValue) (registers : ℕ → ℕ → ℕ) where
   abbrev pub HasSettledCell : GridValue → Site → TileValue → Type 0

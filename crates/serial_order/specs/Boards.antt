@@ -9,9 +9,10 @@ use Rattle.tile_core.specs.declared.phase.Phase.TheVariants.{Finished, Worn}
 use Rattle.tile_core.specs.Values.{TileValue, atoms_of}
 use Rattle.tile_core.specs.Underway.{IsUnderway}
 use Rattle.tile_core.specs.Boards.{IsBoardOf}
-use Rattle.serial_order.specs.Scene.{Setting, IsOver}
+use Rattle.serial_order.specs.Scene.{Setting, common_in, IsOver}
 use Rattle.serial_order.specs.Words.{AreEdgeWords, counts_on, histories_on}
 use Rattle.serial_order.specs.Outcomes.{scene_of}
+use Rattle.tile_core.specs.Turns.{common}
 
 -- the tile makes no further step
 abbrev pub HasStopped : TileValue → Type 0
@@ -28,7 +29,7 @@ pub record HaveStopped (m : MapValue) (g : Setting) (tiles : List TileValue) (bo
   pub count : length tiles ≡ tiles_of m
   pub edges : IsBoardOf m board
   pub numbers : (t : ℕ) (tile : TileValue) → slice_get tiles t ≡ Some tile → tile.number ≡ t
-  pub underway : (t : ℕ) (tile : TileValue) → slice_get tiles t ≡ Some tile → IsUnderway m g.meaning (atoms_of g.start) (attempts g.plan t) tile (lists_of_tile board tile.number)
+  pub underway : (t : ℕ) (tile : TileValue) → slice_get tiles t ≡ Some tile → IsUnderway (common_in m g) (attempts g.plan t) tile (lists_of_tile board tile.number)
   pub stopped : (t : ℕ) (tile : TileValue) → slice_get tiles t ≡ Some tile → HasStopped tile
 
 -- tiles that have stopped on one board are over, and the board's words are those of its edges' histories

@@ -9,7 +9,7 @@ use Rattle.edge_lock.specs.EndLists.{EndLists}
 use Rattle.event_journal.specs.Logs.{records_in, abandoned_in}
 use Rattle.event_journal.specs.Accounts.{IsAccounted, IsStamped, AreExcused}
 use Rattle.border_cache.specs.Copies.{IsGridOf}
-use Rattle.tile_core.specs.Values.{TileValue}
+use Rattle.tile_core.specs.Values.{TileWith, TileValue}
 use Rattle.tile_core.specs.Underway.{IsSome}
 use Rattle.serial_order.specs.Scene.{EdgeHistory, Scene, Setting, IsOver, logs_of}
 use Rattle.serial_order.specs.Order.{NoneIsWorn, StampsAreSmall, TiesAreApart, Leads, HasNoNews}
@@ -17,8 +17,8 @@ use Rattle.serial_order.specs.declared.outcome.Outcome.{Outcome}
 use Rattle.serial_order.specs.declared.blank.Area.{Area}
 
 -- tiles without what acts
-abbrev pub values_of : {B : Type 0} → List (TileValue × B) → List TileValue
-values_of tiles = map (λ t. t.0) tiles
+abbrev pub values_of : {B : Type 0} → List (TileWith B) → List TileValue
+values_of tiles = map (λ t. t.core) tiles
 
 -- the tile was made with this map, and in some way it is underway
 abbrev pub IsMade : MapValue → TileValue → Type 0

@@ -76,7 +76,7 @@ fn settle_sites<B: Behave, E: EdgeWords>(
 
 /// The logs of some tiles, in their order.
 fn logs<B: Behave + Drop>(alloc: Global, tiles: Vec<Tile<B>>) -> Result<Vec<TileLog>, NoMemory>
-    requires { All (λ t. IsMade t.0.cache.map t.0) tiles.items }
+    requires { All (λ t. IsMade t.core.cache.map t.core) tiles.items }
     ensures { IfOk result (λ v. v.items ≡ logs_of (values_of tiles.items)) }
 {
     let mut logs = Vec::new(alloc);
@@ -102,7 +102,7 @@ pub fn settle<B: Behave + Drop, E: EdgeWords>(
     tiles: Vec<Tile<B>>,
     words: &mut E,
 ) -> Result<Outcome, NoMemory>
-    requires made { All (λ t. IsMade map.now t.0) tiles.items }
+    requires made { All (λ t. IsMade map.now t.core) tiles.items }
     requires words { AreEdgeWords map.now (E.histories words.old) (E.counts words.old) }
     requires over { AreOver map.now (values_of tiles.items) (E.histories words.old) }
     ensures settled { IfOk result (λ o. Settles map.now (values_of tiles.items) (E.histories words.old) o) }

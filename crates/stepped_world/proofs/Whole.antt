@@ -7,7 +7,7 @@ use Rattle.tile_map.specs.Plane.{MapValue, IsMap, tiles_of}
 use Rattle.edge_lock.specs.PlainBoard.{PlainBoardValue}
 use Rattle.cell_grid.specs.Records.{replay}
 use Rattle.event_journal.specs.Logs.{records_in}
-use Rattle.tile_core.specs.Values.{TileValue}
+use Rattle.tile_core.specs.Values.{TileWith, TileValue}
 use Rattle.serial_order.specs.Scene.{Setting, IsOver}
 use Rattle.serial_order.specs.Words.{histories_on}
 use Rattle.serial_order.specs.Outcomes.{IsSettlement, scene_of, values_of}
@@ -19,7 +19,7 @@ use Rattle.stepped_world.proofs.Starts.{first_underway, first_like}
 use Rattle.stepped_world.proofs.Ended.{is_over, like_it, has_run}
 use Rattle.stepped_world.proofs.Newest.{newest_is, logs_are, replay_is}
 
-module _ {B : Type 0} (after : B → WindowValue → ℕ → WindowValue) (m : MapValue) (valid : IsMap m) (old new : List (TileValue × B)) (a b : PlainBoardValue) (order : List ℕ)
+module _ {B : Type 0} (after : B → WindowValue → ℕ → WindowValue) (m : MapValue) (valid : IsMap m) (old new : List (TileWith B)) (a b : PlainBoardValue) (order : List ℕ)
     (follows : Follows after m old new a b (λ meaning s. finish m meaning (range_with_len 0 (tiles_of m)) (steps m meaning order s))) (still : (t : ℕ) → t < tiles_of m → stands_still (slice_get new t) ≡ true) (g : Setting) (s : IsStart after m g old a) where
   under : AreUnderway after m g new b
   under = follows.underway g (first_underway after m g old a s)
@@ -42,7 +42,7 @@ module _ {B : Type 0} (after : B → WindowValue → ℕ → WindowValue) (m : M
   }
 
 -- a settled run
-pub outcome_is : {B : Type 0} (m : MapValue) (g : Setting) (new : List (TileValue × B)) (b : PlainBoardValue) (order : List ℕ) (o : Outcome) → IsAsStepped m g new b order → IsSettlement (scene_of m (values_of new) (histories_on b) g) o → IsOutcome m g order o
+pub outcome_is : {B : Type 0} (m : MapValue) (g : Setting) (new : List (TileWith B)) (b : PlainBoardValue) (order : List ℕ) (o : Outcome) → IsAsStepped m g new b order → IsSettlement (scene_of m (values_of new) (histories_on b) g) o → IsOutcome m g order o
 outcome_is m g new b order o like settled = record {
   grid = settled.grid ∙ (ap (λ ls. replay g.meaning g.start (records_in ls)) (settled.journal ∙ like.logs) ∙ like.replayed);
   journal = settled.journal ∙ like.logs;

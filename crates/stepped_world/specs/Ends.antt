@@ -9,8 +9,8 @@ use Rattle.draw_stream.specs.Plans.{PlanValue, attempts}
 use Rattle.edge_lock.specs.History.{open_hold}
 use Rattle.edge_lock.specs.PlainBoard.{PlainBoardValue, edge_at, lists_of_tile}
 use Rattle.tile_core.specs.declared.phase.Phase.TheVariants.{Finished}
-use Rattle.tile_core.specs.Values.{TileValue, atoms_of}
-use Rattle.tile_core.specs.Turns.{HasPlayed}
+use Rattle.tile_core.specs.Values.{TileWith, TileValue, atoms_of}
+use Rattle.tile_core.specs.Turns.{common, HasPlayed}
 use Rattle.event_journal.specs.Logs.{LogValue, log_of, records_in, of_tile, abandoned_by}
 use Rattle.serial_order.specs.Scene.{Setting, EdgeHistory, IsOver, logs_of, registers_at}
 use Rattle.serial_order.specs.Settled.{IsSettled}
@@ -19,22 +19,23 @@ use Rattle.serial_order.specs.Outcomes.{IsMade, IsSettlement, scene_of, values_o
 use Rattle.serial_order.specs.declared.outcome.Outcome.{Outcome}
 use Rattle.stepped_world.specs.Machine.{Done, Machine, stepped}
 use Rattle.stepped_world.specs.Matching.{Matches}
+use Rattle.tile_core.specs.Underway.{made_by}
 
 -- a tile has played all its attempts of the plan, and keeps its number, its map and its meaning
-pub record HasFinished {B : Type 0} (after : B → WindowValue → ℕ → WindowValue) (m : MapValue) (g : Setting) (board : PlainBoardValue) (t : ℕ) (x : TileValue × B) : Type 0 where
-  pub number : x.0.number ≡ t
-  pub map : x.0.cache.map ≡ m
-  pub meaning : after x.1 ≡ g.meaning
-  pub phase : x.0.phase ≡ Finished
-  pub played : HasPlayed m g.meaning (atoms_of g.start) t (attempts g.plan t) x.0.records x.0.abandoned (lists_of_tile board t)
+pub record HasFinished {B : Type 0} (after : B → WindowValue → ℕ → WindowValue) (m : MapValue) (g : Setting) (board : PlainBoardValue) (t : ℕ) (x : TileWith B) : Type 0 where
+  pub number : x.core.number ≡ t
+  pub map : x.core.cache.map ≡ m
+  pub meaning : after x.behave ≡ g.meaning
+  pub phase : x.core.phase ≡ Finished
+  pub played : HasPlayed (common m g.meaning (atoms_of g.start)) t (attempts g.plan t) (made_by x.core (lists_of_tile board t))
 
 -- the run is over: each tile has played all its attempts, nobody has an edge, and everything holds
 -- that the settling of the grid requires
-pub record HasRun {B : Type 0} (after : B → WindowValue → ℕ → WindowValue) (m : MapValue) (g : Setting) (tiles : List (TileValue × B)) (board : PlainBoardValue) : Type 0 where
+pub record HasRun {B : Type 0} (after : B → WindowValue → ℕ → WindowValue) (m : MapValue) (g : Setting) (tiles : List (TileWith B)) (board : PlainBoardValue) : Type 0 where
   pub count : length tiles ≡ tiles_of m
-  pub finished : (t : ℕ) (x : TileValue × B) → slice_get tiles t ≡ Some x → HasFinished after m g board t x
+  pub finished : (t : ℕ) (x : TileWith B) → slice_get tiles t ≡ Some x → HasFinished after m g board t x
   pub shut : (e : ℕ) → open_hold (edge_at board e).holds ≡ None
-  pub made : All (λ (x : TileValue × B). IsMade m x.0) tiles
+  pub made : All (λ (x : TileWith B). IsMade m x.core) tiles
   pub words : AreEdgeWords m (histories_on board) (counts_on board)
   pub over : IsOver (scene_of m (values_of tiles) (histories_on board) g)
 
@@ -44,7 +45,7 @@ logs_in m s = map (λ t. log_of t (of_tile t s.records) (abandoned_by t s.abando
 
 -- Tiles, edges and entries are those of the stepped machine, and a grid of the newest cells is its grid. That grid is also what
 -- its events make of the start in the order of the journal.
-pub record IsAsStepped {B : Type 0} (m : MapValue) (g : Setting) (tiles : List (TileValue × B)) (board : PlainBoardValue) (order : List ℕ) : Type 0 where
+pub record IsAsStepped {B : Type 0} (m : MapValue) (g : Setting) (tiles : List (TileWith B)) (board : PlainBoardValue) (order : List ℕ) : Type 0 where
   pub matches : Matches m tiles board (stepped m g.meaning g.start g.plan order)
   pub logs : logs_of (values_of tiles) ≡ logs_in m (stepped m g.meaning g.start g.plan order)
   pub newest : (h : GridValue) → IsSettled m (values_of tiles) (registers_at (histories_on board)) h → h ≡ (stepped m g.meaning g.start g.plan order).grid

@@ -12,29 +12,30 @@ use Rattle.border_cache.specs.Copies.{IsCentre}
 use Rattle.border_cache.specs.Windows.{has}
 use Rattle.tile_core.specs.declared.phase.Phase.{Phase}
 use Rattle.tile_core.specs.declared.phase.Phase.TheVariants.{Draw, Lock, Refresh, Behave, Write, Give, Back, Finished, Worn}
-use Rattle.tile_core.specs.Values.{TileValue, atoms_of, event_site}
+use Rattle.tile_core.specs.Values.{TileWith, TileValue, atoms_of, event_site}
 use Rattle.tile_core.specs.Underway.{IsUnderway}
 use Rattle.tile_core.specs.Boards.{IsBoardOf}
 use Rattle.serial_order.specs.Scene.{Setting}
 use Rattle.serial_order.specs.Fresh.{AreFresh}
 use Rattle.stepped_world.specs.Machine.{Machine}
 use Rattle.stepped_world.specs.Matching.{Matches}
+use Rattle.tile_core.specs.Turns.{common}
 
 -- fresh tiles of the plane and a fresh board of it
-pub record IsStart {B : Type 0} (after : B → WindowValue → ℕ → WindowValue) (m : MapValue) (g : Setting) (tiles : List (TileValue × B)) (board : PlainBoardValue) : Type 0 where
+pub record IsStart {B : Type 0} (after : B → WindowValue → ℕ → WindowValue) (m : MapValue) (g : Setting) (tiles : List (TileWith B)) (board : PlainBoardValue) : Type 0 where
   pub tiles_are : AreFresh after m g tiles
   pub edges : board.edges ≡ map untouched_edge (sizes_of m)
 
 -- a tile is underway on these lists of its ends
-pub record IsTileOf {B : Type 0} (after : B → WindowValue → ℕ → WindowValue) (m : MapValue) (g : Setting) (board : PlainBoardValue) (t : ℕ) (x : TileValue × B) : Type 0 where
-  pub number : x.0.number ≡ t
-  pub meaning : after x.1 ≡ g.meaning
-  pub underway : IsUnderway m g.meaning (atoms_of g.start) (attempts g.plan t) x.0 (lists_of_tile board t)
+pub record IsTileOf {B : Type 0} (after : B → WindowValue → ℕ → WindowValue) (m : MapValue) (g : Setting) (board : PlainBoardValue) (t : ℕ) (x : TileWith B) : Type 0 where
+  pub number : x.core.number ≡ t
+  pub meaning : after x.behave ≡ g.meaning
+  pub underway : IsUnderway (common m g.meaning (atoms_of g.start)) (attempts g.plan t) x.core (lists_of_tile board t)
 
 -- all tiles are underway on one board of the plane
-pub record AreUnderway {B : Type 0} (after : B → WindowValue → ℕ → WindowValue) (m : MapValue) (g : Setting) (tiles : List (TileValue × B)) (board : PlainBoardValue) : Type 0 where
+pub record AreUnderway {B : Type 0} (after : B → WindowValue → ℕ → WindowValue) (m : MapValue) (g : Setting) (tiles : List (TileWith B)) (board : PlainBoardValue) : Type 0 where
   pub count : length tiles ≡ tiles_of m
-  pub each : (t : ℕ) (x : TileValue × B) → slice_get tiles t ≡ Some x → IsTileOf after m g board t x
+  pub each : (t : ℕ) (x : TileWith B) → slice_get tiles t ≡ Some x → IsTileOf after m g board t x
   pub board_is : IsBoardOf m board
 
 -- whether a step of the tile does nothing any more
@@ -49,18 +50,18 @@ is_still Back = false
 is_still Finished = true
 is_still Worn = true
 
-abbrev pub stands_still : {B : Type 0} → Option (TileValue × B) → Bool
+abbrev pub stands_still : {B : Type 0} → Option (TileWith B) → Bool
 stands_still None = true
-stands_still (Some x) = is_still x.0.phase
+stands_still (Some x) = is_still x.core.phase
 
 -- how many steps a tile makes at most
-abbrev pub steps_ahead : {B : Type 0} → Option (TileValue × B) → ℕ
+abbrev pub steps_ahead : {B : Type 0} → Option (TileWith B) → ℕ
 steps_ahead None = 0
-steps_ahead (Some x) = 50 * length x.0.left + steps_in x.0 x.0.phase
+steps_ahead (Some x) = 50 * length x.core.left + steps_in x.core x.core.phase
 
 -- one tile is worn out
-abbrev pub AnyIsWorn : {B : Type 0} → List (TileValue × B) → Type 0
-AnyIsWorn {B} tiles = (t : ℕ) × (x : TileValue × B) × (slice_get tiles t ≡ Some x) × (x.0.phase ≡ Worn)
+abbrev pub AnyIsWorn : {B : Type 0} → List (TileWith B) → Type 0
+AnyIsWorn {B} tiles = (t : ℕ) × (x : TileWith B) × (slice_get tiles t ≡ Some x) × (x.core.phase ≡ Worn)
 
 -- if two events have a live site in common, the first has the smaller stamp
 abbrev pub StampsRise : MapValue → Record → Record → Type 0
@@ -79,18 +80,18 @@ pub record IsSound (m : MapValue) (g : Setting) (s : Machine) : Type 0 where
   pub rises : AllPairs (StampsRise m) s.records
   pub grid : s.grid ≡ replay g.meaning g.start s.records
 
-pub record IsLike {B : Type 0} (m : MapValue) (g : Setting) (tiles : List (TileValue × B)) (board : PlainBoardValue) (s : Machine) : Type 0 where
+pub record IsLike {B : Type 0} (m : MapValue) (g : Setting) (tiles : List (TileWith B)) (board : PlainBoardValue) (s : Machine) : Type 0 where
   pub matches : Matches m tiles board s
   pub sound : IsSound m g s
 
 -- the tiles and the edges are as the machine has them, which knows no worn tile
-abbrev pub AreLike : {B : Type 0} → MapValue → Setting → List (TileValue × B) → PlainBoardValue → Machine → Type 0
+abbrev pub AreLike : {B : Type 0} → MapValue → Setting → List (TileWith B) → PlainBoardValue → Machine → Type 0
 AreLike m g tiles board s = IsLike m g tiles board s ⊎ AnyIsWorn tiles
 
 -- The tiles made some steps, as the machine does: from whatever setting they were underway, they
 -- still are; if they were as a machine has them, they are now as that machine has them after its
 -- steps. A tile that stood still still does.
-pub record Follows {B : Type 0} (after : B → WindowValue → ℕ → WindowValue) (m : MapValue) (tiles tiles' : List (TileValue × B)) (board board' : PlainBoardValue) (acts : (WindowValue → ℕ → WindowValue) → Machine → Machine) : Type 0 where
+pub record Follows {B : Type 0} (after : B → WindowValue → ℕ → WindowValue) (m : MapValue) (tiles tiles' : List (TileWith B)) (board board' : PlainBoardValue) (acts : (WindowValue → ℕ → WindowValue) → Machine → Machine) : Type 0 where
   pub underway : (g : Setting) → AreUnderway after m g tiles board → AreUnderway after m g tiles' board'
   pub like : (g : Setting) (s : Machine) → AreUnderway after m g tiles board → AreLike m g tiles board s → AreLike m g tiles' board' (acts g.meaning s)
   pub still : (t : ℕ) → stands_still (slice_get tiles t) ≡ true → stands_still (slice_get tiles' t) ≡ true

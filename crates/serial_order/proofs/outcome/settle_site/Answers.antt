@@ -14,13 +14,13 @@ pub settled_atom-atom-requires-clause-map : goal.settled_atom-atom-requires-clau
 settled_atom-atom-requires-clause-map g c =
     let x = c.index-tiles-owner.result in
     let at = tile_there c.args.map.now c.args.tiles.now c.requires.tiles c.owner-owner.result c.owner-owner.ensures.tile x c.index-tiles-owner.is in
-    ap (λ (k : CacheValue). k.map) c.cache-cache.ensures ∙ c.requires.tiles.maps c.owner-owner.result x.0 at
+    ap (λ (k : CacheValue). k.map) c.cache-cache.ensures ∙ c.requires.tiles.maps c.owner-owner.result x.core at
 
 pub settled_atom-atom-requires-clause-tile : goal.settled_atom-atom-requires-clause-tile
 settled_atom-atom-requires-clause-tile g c =
     let x = c.index-tiles-owner.result in
     let at = tile_there c.args.map.now c.args.tiles.now c.requires.tiles c.owner-owner.result c.owner-owner.ensures.tile x c.index-tiles-owner.is in
-    ap (λ (k : CacheValue). k.tile) c.cache-cache.ensures ∙ c.requires.tiles.numbers c.owner-owner.result x.0 at
+    ap (λ (k : CacheValue). k.tile) c.cache-cache.ensures ∙ c.requires.tiles.numbers c.owner-owner.result x.core at
 
 pub settled_atom-atom-requires-clause-held : goal.settled_atom-atom-requires-clause-held
 settled_atom-atom-requires-clause-held g c =
@@ -35,9 +35,9 @@ returns-clause-change g c =
     let s = site c.args.x c.args.y in
     let x = c.index-tiles-owner.result in
     let owner = c.owner-owner.ensures.value in
-    let at : slice_get tiles c.owner-owner.result ≡ Some x.0 = tile_there m c.args.tiles.now c.requires.tiles c.owner-owner.result c.owner-owner.ensures.tile x c.index-tiles-owner.is in
+    let at : slice_get tiles c.owner-owner.result ≡ Some x.core = tile_there m c.args.tiles.now c.requires.tiles c.owner-owner.result c.owner-owner.ensures.tile x c.index-tiles-owner.is in
     let both = sets m tiles registers c.laws.ensures.plane c.args.grid.now c.requires.grid c.args.x c.args.y c.requires.x c.requires.y (sym c.is_live.ensures ∙ c.if-not-is_live.false) c.settled_atom-atom.result (λ tile is.
-    let same : x.0 ≡ tile = cc (sym at ∙ (ap (slice_get tiles) owner ∙ is)) in
+    let same : x.core ≡ tile = cc (sym at ∙ (ap (slice_get tiles) owner ∙ is)) in
     let cache = c.cache-cache.ensures ∙ ap (λ (t : TileValue). t.cache) same in
     c.settled_atom-atom.ensures.atom ∙ (λ i. (settled_cell m registers (held_cell (cache i)) (edges_at m (owner i)) s).atom)) in
     subst (ChangesSite m s c.args.grid.now) (sym c.set.ensures) both.0
@@ -50,9 +50,9 @@ returns-clause-settled g c =
     let s = site c.args.x c.args.y in
     let x = c.index-tiles-owner.result in
     let owner = c.owner-owner.ensures.value in
-    let at : slice_get tiles c.owner-owner.result ≡ Some x.0 = tile_there m c.args.tiles.now c.requires.tiles c.owner-owner.result c.owner-owner.ensures.tile x c.index-tiles-owner.is in
+    let at : slice_get tiles c.owner-owner.result ≡ Some x.core = tile_there m c.args.tiles.now c.requires.tiles c.owner-owner.result c.owner-owner.ensures.tile x c.index-tiles-owner.is in
     let both = sets m tiles registers c.laws.ensures.plane c.args.grid.now c.requires.grid c.args.x c.args.y c.requires.x c.requires.y (sym c.is_live.ensures ∙ c.if-not-is_live.false) c.settled_atom-atom.result (λ tile is.
-    let same : x.0 ≡ tile = cc (sym at ∙ (ap (slice_get tiles) owner ∙ is)) in
+    let same : x.core ≡ tile = cc (sym at ∙ (ap (slice_get tiles) owner ∙ is)) in
     let cache = c.cache-cache.ensures ∙ ap (λ (t : TileValue). t.cache) same in
     c.settled_atom-atom.ensures.atom ∙ (λ i. (settled_cell m registers (held_cell (cache i)) (edges_at m (owner i)) s).atom)) in
     subst (IsSettledAt m tiles registers s) (sym c.set.ensures) both.1

@@ -1,6 +1,6 @@
 use Rattle.std.proofs.Common.{List, slice_get}
 use Rattle.edge_lock.specs.PlainBoard.{PlainBoardValue}
-use Rattle.tile_core.specs.Values.{TileValue}
+use Rattle.tile_core.specs.Values.{TileWith, TileValue}
 use Rattle.stepped_world.specs.Machine.{finish_tile}
 use Rattle.serial_order.specs.Scene.{Setting}
 use Rattle.stepped_world.specs.Running.{AreUnderway, Follows, steps_ahead}
@@ -10,7 +10,7 @@ use Rattle.stepped_world.proofs.run.finish_one.Given as goal
 abbrev pub invariant-loop-tiles : goal.invariant-loop-tiles
 invariant-loop-tiles g l = record {
   keeps : (k : Setting) → AreUnderway g.B.Behave.after l.map k l.fn.tiles l.fn.board → AreUnderway g.B.Behave.after l.map k l.tiles l.board;
-  rest : (zs : List (TileValue × g.row.B.Denot)) (c : PlainBoardValue) → Follows g.B.Behave.after l.map l.tiles zs l.board c (λ meaning s. finish_tile l.map meaning l.tile s) → Follows g.B.Behave.after l.map l.fn.tiles zs l.fn.board c (λ meaning s. finish_tile l.map meaning l.tile s);
+  rest : (zs : List (TileWith g.row.B.Denot)) (c : PlainBoardValue) → Follows g.B.Behave.after l.map l.tiles zs l.board c (λ meaning s. finish_tile l.map meaning l.tile s) → Follows g.B.Behave.after l.map l.fn.tiles zs l.fn.board c (λ meaning s. finish_tile l.map meaning l.tile s);
 }
 
 abbrev pub decreases-loop-tiles : goal.decreases-loop-tiles
