@@ -52,16 +52,15 @@ impl<B: Behave> Tile<B> {
     /// what the board's lists have is what this tile's steps have made.
     pub fn advance<D: Board>(&mut self, map: &Map, board: &mut D) -> Phase
         requires map { map.now ≡ self.old.0.cache.map }
-        requires board { IsEndOf self.old.0.cache.map self.old.0.number (D.tile board.old) (D.registers board.old) (D.end_of board.old) }
-        requires underway { IsSome self.old.0.cache.map (B.after self.old.1) self.old.0 (D.lists board.old) }
-        ensures step { StepsIn self.old.0.cache.map (B.after self.old.1) (D.end_of board.old) self.old.0 self.new.0 (D.lists board.old) (D.lists board.new) self.old.0.phase }
-        ensures on { GoesOn self.old.0.cache.map (B.after self.old.1) self.old.0 (D.lists board.old) self.new.0 (D.lists board.new) }
+        requires board { IsEndOf self.old.0.cache.map self.old.0.number (D.end board.old) }
+        requires underway { IsSome self.old.0.cache.map (B.after self.old.1) self.old.0 (D.end board.old).lists }
+        ensures step { StepsIn self.old.0.cache.map (B.after self.old.1) (D.end_of board.old) self.old.0 self.new.0 (D.end board.old).lists (D.end board.new).lists self.old.0.phase }
+        ensures on { GoesOn self.old.0.cache.map (B.after self.old.1) self.old.0 (D.end board.old).lists self.new.0 (D.end board.new).lists }
         ensures phase { result ≡ self.new.0.phase }
         ensures number { self.new.0.number ≡ self.old.0.number }
         ensures map { self.new.0.cache.map ≡ self.old.0.cache.map }
         ensures meaning { B.after self.new.1 ≡ B.after self.old.1 }
-        ensures tile { D.tile board.new ≡ D.tile board.old }
-        ensures edges { (D.registers board.new ≡ D.registers board.old) × (D.end_of board.new ≡ D.end_of board.old) }
+        ensures same { SameEnd (D.end board.old) (D.end board.new) }
         ensures moved { D.moved board.old board.new }
     {
         map.laws();
@@ -74,17 +73,16 @@ impl<B: Behave> Tile<B> {
     pub fn attempt_whole<D: Board>(&mut self, map: &Map, board: &mut D) -> Phase
         requires draw { self.old.0.phase ≡ Draw }
         requires map { map.now ≡ self.old.0.cache.map }
-        requires board { IsEndOf self.old.0.cache.map self.old.0.number (D.tile board.old) (D.registers board.old) (D.end_of board.old) }
-        requires underway { IsSome self.old.0.cache.map (B.after self.old.1) self.old.0 (D.lists board.old) }
-        ensures far { GoesFar self.old.0.cache.map (B.after self.old.1) self.old.0 (D.lists board.old) self.new.0 (D.lists board.new) }
+        requires board { IsEndOf self.old.0.cache.map self.old.0.number (D.end board.old) }
+        requires underway { IsSome self.old.0.cache.map (B.after self.old.1) self.old.0 (D.end board.old).lists }
+        ensures far { GoesFar self.old.0.cache.map (B.after self.old.1) self.old.0 (D.end board.old).lists self.new.0 (D.end board.new).lists }
         ensures taken { self.new.0.taken ≡ self.old.0.taken + 1 }
         ensures over { is_over result ≡ true }
         ensures phase { result ≡ self.new.0.phase }
         ensures number { self.new.0.number ≡ self.old.0.number }
         ensures map { self.new.0.cache.map ≡ self.old.0.cache.map }
         ensures meaning { B.after self.new.1 ≡ B.after self.old.1 }
-        ensures tile { D.tile board.new ≡ D.tile board.old }
-        ensures edges { (D.registers board.new ≡ D.registers board.old) × (D.end_of board.new ≡ D.end_of board.old) }
+        ensures same { SameEnd (D.end board.old) (D.end board.new) }
         ensures moved { D.moved board.old board.new }
     {
         let mut phase = self.advance(map, board);

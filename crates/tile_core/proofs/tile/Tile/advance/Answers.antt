@@ -9,12 +9,12 @@ pub returns-clause-on : goal.returns-clause-on
 returns-clause-on g c =
     let v = c.args.self.now in
     let m = v.0.cache.map in
-    let a = g.D.Board.lists c.args.board.now in
-    let b = g.D.Board.lists c.step.new.board in
-    let end_of = g.D.Board.end_of c.args.board.now in
+    let a = (g.D.Board.end c.args.board.now).lists in
+    let b = (g.D.Board.end c.step.new.board).lists in
+    let end_of = (g.D.Board.end c.args.board.now).end_of in
     let new = value_of c.step.new.self in
     let s = subst (λ k. StepsIn k (g.B.Behave.after c.self.inside.behave) end_of (value_of c.self.inside.state) new a b c.self.inside.state.phase) c.requires.map c.step.ensures.step in
-    steps_on m (subst IsPlane c.requires.map c.laws.ensures.plane) (g.B.Behave.after v.1) (g.D.Board.tile c.args.board.now) (g.D.Board.registers c.args.board.now) end_of v.0 new a b c.requires.board
+    steps_on m (subst IsPlane c.requires.map c.laws.ensures.plane) (g.B.Behave.after v.1) (g.D.Board.end c.args.board.now).tile (g.D.Board.end c.args.board.now).registers end_of v.0 new a b c.requires.board
     (subst (λ x. StepsIn m (g.B.Behave.after x.1) end_of x.0 new a b x.0.phase) c.self.view_is s)
 
 pub returns-clause-number : goal.returns-clause-number
@@ -22,5 +22,5 @@ returns-clause-number g c =
     let v = c.args.self.now in
     let m = c.args.map.now in
     let f = c.self.inside in
-    same_number m (g.B.Behave.after f.behave) (g.D.Board.end_of c.args.board.now) (value_of f.state) (value_of c.step.new.self) (g.D.Board.lists c.args.board.now) (g.D.Board.lists c.step.new.board) f.state.phase c.step.ensures.step
+    same_number m (g.B.Behave.after f.behave) (g.D.Board.end c.args.board.now).end_of (value_of f.state) (value_of c.step.new.self) (g.D.Board.end c.args.board.now).lists (g.D.Board.end c.step.new.board).lists f.state.phase c.step.ensures.step
     ∙ ap (λ x. x.0.number) c.self.view_is
