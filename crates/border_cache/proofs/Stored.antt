@@ -18,11 +18,11 @@ use Rattle.edge_lock.specs.EndLists.{EndLists, IsHeld}
 use Rattle.border_cache.specs.Cells.{CellValue, cell_value, newest}
 use Rattle.border_cache.specs.News.{no_cell, cells_at}
 use Rattle.border_cache.specs.Published.{cell_at}
-use Rattle.border_cache.specs.Windows.{has, IsEdgeFor, RefreshesAll, PublishesAll, seen_on, centre_of}
+use Rattle.border_cache.specs.Windows.{has, end_at, IsEdgeFor, RefreshesAll, PublishesAll, seen_on, centre_of}
 use Rattle.border_cache.specs.Copies.{CacheValue, cache_of, columns_of, rows_of, place_held, held_cell, cell_for, window_cells, Puts, PutsFor, HoldsWindow, IsCentre, IsEndOf, IsFirstCopy, IsFirstRectangle, Stores, Refreshed, copy_at, area}
 use Rattle.border_cache.proofs.Apart.{sites_apart}
 use Rattle.border_cache.proofs.Needs.{adds_all_begins}
-use Rattle.edge_lock.specs.EndValues.{EndValue}
+use Rattle.edge_lock.specs.EndValues.{EndValue, SameEnd}
 
 pub place_inside : (m : MapValue) (t : ℕ) (s : Site) → is_held m t s ≡ true → place_held m t s < columns_of m t * rows_of m t
 place_inside m t s h =
@@ -159,6 +159,14 @@ module _ (m : MapValue) (plane : IsPlane m) (t : ℕ) (c : Site) (end : EndValue
 
   pub needs_rising : IsStrictlyIncreasing needs
   needs_rising = subst IsStrictlyIncreasing (sym is) (plane.needs.rising t c)
+
+-- an end that stays is that of the same tile of the plane
+pub end_stays : (m : MapValue) (t u : ℕ) (a b : EndValue) → u ≡ t → SameEnd a b → IsEndOf m t a → IsEndOf m u b
+end_stays m t u a b number same end = record {
+  tile_is = same.0 ∙ (end.tile_is ∙ sym number);
+  registers_are = λ e h. ap (λ f. f e) same.1 ∙ end.registers_are e (subst (λ n. has_end m n e ≡ true) number h);
+  end_is = λ e h. ap (λ f. f e) same.2 ∙ (end.end_is e (subst (λ n. has_end m n e ≡ true) number h) ∙ ap (λ n. end_at m n e) (sym number));
+}
 
 -- only the cells of the 41 sites matter
 pub stores_by : (c : Site) (p q : ℕ → CellValue) (old new : CacheValue) → ((n : ℕ) → n < 41 → p n ≡ q n) → Stores c p old new → Stores c q old new

@@ -5,10 +5,11 @@ ghost use Rattle.tile_map.specs.Edges.{pairs_of, other_end};
 ghost use Rattle.border_cache.specs.Copies.{IsEndOf, IsGridOf};
 ghost use Rattle.tile_core.specs.declared.phase.Phase.TheVariants.{Draw, Lock, Refresh, Behave, Write, Give, Back};
 ghost use Rattle.edge_lock.specs.EndLists.{EndLists};
+ghost use Rattle.edge_lock.specs.EndValues.{SameEnd};
 ghost use Rattle.tile_core.specs.Underway.{IsSome, CanAttempt, IsFreshTile};
-ghost use Rattle.tile_core.specs.Steps.{StepsIn, over, Begins, Draws, Tries, Refreshes, Behaves, Writes, Frees, got, refused, noted};
+ghost use Rattle.tile_core.specs.Steps.{rules_of, StepsIn, over, Begins, Draws, Tries, Refreshes, Behaves, Writes, Frees, got, refused, noted};
 ghost use Rattle.tile_core.specs.Values.{atoms_of};
-ghost use Rattle.tile_core.specs.Kept.{value_of, owed, IsIn, HasRoom};
+ghost use Rattle.tile_core.specs.Kept.{value_of, at, owed, IsIn, HasRoom};
 
 use crate::clocks::{read_clocks, write_clocks};
 use crate::phase::Phase;
@@ -114,7 +115,7 @@ impl State {
         requires underway { IsSome map.now (B.after behave.old) (value_of self.old) (D.end board.old).lists }
         requires board { IsEndOf map.now self.old.number (D.end board.old) }
         requires room { HasRoom self.old }
-        ensures step { StepsIn map.now (B.after behave.old) (D.end_of board.old) (value_of self.old) (value_of self.new) (D.end board.old).lists (D.end board.new).lists self.old.phase }
+        ensures step { StepsIn (rules_of map.now (B.after behave.old) (D.end board.old).end_of) (at self.old (D.end board.old)) (at self.new (D.end board.new)) self.old.phase }
         ensures room { HasRoom self.new }
         ensures meaning { B.after behave.new ≡ B.after behave.old }
         ensures same { SameEnd (D.end board.old) (D.end board.new) }
@@ -137,7 +138,7 @@ impl State {
         requires phase { IsIn map.now (value_of self.old) (D.end board.old).lists Give }
         requires board { IsEndOf map.now self.old.number (D.end board.old) }
         requires room { HasRoom self.old }
-        ensures frees { Frees (length self.old.needs) (value_of self.old) (value_of self.new) (D.end board.old).lists (D.end board.new).lists }
+        ensures frees { Frees (length self.old.needs) (at self.old (D.end board.old)) (at self.new (D.end board.new)) }
         ensures room { HasRoom self.new }
         ensures same { SameEnd (D.end board.old) (D.end board.new) }
         ensures moved { D.moved board.old board.new }
@@ -155,7 +156,7 @@ impl State {
         requires phase { IsIn map.now (value_of self.old) (D.end board.old).lists Back }
         requires board { IsEndOf map.now self.old.number (D.end board.old) }
         requires room { HasRoom self.old }
-        ensures frees { Frees self.old.count (value_of self.old) (value_of self.new) (D.end board.old).lists (D.end board.new).lists }
+        ensures frees { Frees self.old.count (at self.old (D.end board.old)) (at self.new (D.end board.new)) }
         ensures room { HasRoom self.new }
         ensures same { SameEnd (D.end board.old) (D.end board.new) }
         ensures moved { D.moved board.old board.new }
@@ -173,7 +174,7 @@ impl State {
         requires phase { IsIn map.now (value_of self.old) (D.end board.old).lists Lock }
         requires board { IsEndOf map.now self.old.number (D.end board.old) }
         requires room { HasRoom self.old }
-        ensures tries { Tries map.now (D.end_of board.old) (value_of self.old) (value_of self.new) (D.end board.old).lists (D.end board.new).lists }
+        ensures tries { Tries map.now (D.end board.old).end_of (at self.old (D.end board.old)) (at self.new (D.end board.new)) }
         ensures room { HasRoom self.new }
         ensures same { SameEnd (D.end board.old) (D.end board.new) }
         ensures moved { D.moved board.old board.new }
@@ -271,7 +272,7 @@ impl State {
         requires phase { IsIn map.now (value_of self.old) (D.end board.old).lists Refresh }
         requires board { IsEndOf map.now self.old.number (D.end board.old) }
         requires room { HasRoom self.old }
-        ensures refreshes { Refreshes (value_of self.old) (value_of self.new) (D.end board.old).lists (D.end board.new).lists }
+        ensures refreshes { Refreshes (at self.old (D.end board.old)) (at self.new (D.end board.new)) }
         ensures room { HasRoom self.new }
         ensures same { SameEnd (D.end board.old) (D.end board.new) }
         ensures moved { D.moved board.old board.new }
@@ -305,7 +306,7 @@ impl State {
         requires phase { IsIn map.now (value_of self.old) (D.end board.old).lists Write }
         requires board { IsEndOf map.now self.old.number (D.end board.old) }
         requires room { HasRoom self.old }
-        ensures writes { Writes map.now (value_of self.old) (value_of self.new) (D.end board.old).lists (D.end board.new).lists }
+        ensures writes { Writes map.now (at self.old (D.end board.old)) (at self.new (D.end board.new)) }
         ensures room { HasRoom self.new }
         ensures same { SameEnd (D.end board.old) (D.end board.new) }
         ensures moved { D.moved board.old board.new }

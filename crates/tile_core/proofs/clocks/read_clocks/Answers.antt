@@ -4,6 +4,7 @@ use Rattle.border_cache.proofs.Runs.{held_all, adds_read}
 use Rattle.border_cache.proofs.Needs.{rises}
 use Rattle.tile_core.specs.Clocks.{IsHad, ReadsClocks}
 use Rattle.tile_core.proofs.Clocking.{clocks_begin, clocks_more}
+use Rattle.edge_lock.proofs.BoardLaws.{same_end, same_end_here}
 use Rattle.tile_core.proofs.clocks.read_clocks.Goals as goal
 
 pub loop-i-init : goal.loop-i-init
@@ -17,7 +18,7 @@ pub read-clock-requires-clause-edge : goal.read-clock-requires-clause-edge
 read-clock-requires-clause-edge g c =
     let v = c.loop-i.invariant in
     let had = subst (IsHad (g.D.Board.end c.args.board.now).registers (g.D.Board.end c.args.board.now).lists) (sym c.edge.ensures) (c.requires.had c.loop-i.i 0 (omega (arith, c.loop-i-test.true, c.len-i-end.ensures.count))) in
-    subst (λ f. 0 < f c.edge.result) (sym v.registers) had.some_registers
+    subst (λ f. 0 < f c.edge.result) (sym v.same.1) had.some_registers
 
 pub read-clock-requires-clause-held : goal.read-clock-requires-clause-held
 read-clock-requires-clause-held g c =

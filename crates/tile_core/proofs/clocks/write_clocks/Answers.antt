@@ -4,6 +4,7 @@ use Rattle.border_cache.proofs.Runs.{held_all, adds_write}
 use Rattle.border_cache.proofs.Needs.{rises}
 use Rattle.tile_core.specs.Clocks.{IsHad}
 use Rattle.tile_core.proofs.Clocking.{stamps_begin, stamps_more}
+use Rattle.edge_lock.proofs.BoardLaws.{same_end, same_end_here}
 use Rattle.tile_core.proofs.clocks.write_clocks.Goals as goal
 
 pub loop-i-init : goal.loop-i-init
@@ -17,7 +18,7 @@ pub write-requires-clause-edge : goal.write-requires-clause-edge
 write-requires-clause-edge g c =
     let v = c.loop-i.invariant in
     let had = subst (IsHad (g.D.Board.end c.args.board.now).registers (g.D.Board.end c.args.board.now).lists) (sym c.edge.ensures) (c.requires.had c.loop-i.i 0 (omega (arith, c.loop-i-test.true, c.len-i-end.ensures.count))) in
-    subst (λ f. 0 < f c.edge.result) (sym v.registers) had.some_registers
+    subst (λ f. 0 < f c.edge.result) (sym v.same.1) had.some_registers
 
 pub write-requires-clause-held : goal.write-requires-clause-held
 write-requires-clause-held g c =

@@ -19,4 +19,10 @@ pub give_back-requires-clause-held : goal.give_back-requires-clause-held
 give_back-requires-clause-held g c =
     let q = c.requires.phase in
     let a = (g.D.Board.end c.args.board.now).lists in
-    subst (λ e. IsHeld (a e) × HasNoWrite (a e)) (sym c.edge.ensures) (back_held c.args.map.now q.0 q.1 q.2 (value_of c.args.self.now) a q.4 q.3)
+    subst (λ e. IsHeld (a e)) (sym c.edge.ensures) (back_held c.args.map.now q.0 q.1 q.2 (value_of c.args.self.now) a q.4 q.3).0
+
+pub give_back-requires-clause-unwritten : goal.give_back-requires-clause-unwritten
+give_back-requires-clause-unwritten g c =
+    let q = c.requires.phase in
+    let a = (g.D.Board.end c.args.board.now).lists in
+    subst (λ e. HasNoWrite (a e)) (sym c.edge.ensures) (back_held c.args.map.now q.0 q.1 q.2 (value_of c.args.self.now) a q.4 q.3).1

@@ -27,9 +27,15 @@ try_take-requires-clause-attempt g c =
     let q = c.requires.phase in
     let t = value_of c.args.self.now in
     let m = c.args.map.now in
+    let d = locking m q.0 q.1 q.2 t (g.D.Board.end c.args.board.now).lists q.4 q.3 in
+    taken_few m q.2 q.4.turns t d.0 q.4.can
+
+pub try_take-requires-clause-is_new : goal.try_take-requires-clause-is_new
+try_take-requires-clause-is_new g c =
+    let q = c.requires.phase in
+    let t = value_of c.args.self.now in
     let a = (g.D.Board.end c.args.board.now).lists in
-    let d = locking m q.0 q.1 q.2 t a q.4 q.3 in
-    (taken_few m q.2 q.4.turns t d.0 q.4.can, subst (λ e. IsNew (t.taken - 1) (a e)) (sym c.edge-edge.ensures) (lock_new m q.0 q.1 q.2 t a q.4 q.3))
+    subst (λ e. IsNew (t.taken - 1) (a e)) (sym c.edge-edge.ensures) (lock_new c.args.map.now q.0 q.1 q.2 t a q.4 q.3)
 
 pub refused-requires-clause-edge : goal.refused-requires-clause-edge
 refused-requires-clause-edge g c =
