@@ -141,7 +141,7 @@ module _ {B : Type 0} (after : B → WindowValue → ℕ → WindowValue) (m : M
         go None e = absurd (cc (sym (slice_get-map (λ y. y.0) tiles t) ∙ is, ap (option_map (λ y. y.0)) e))
         go (Some x) e = (x, e, cc (sym (slice_get-map (λ y. y.0) tiles t) ∙ is, ap (option_map (λ y. y.0)) e))
 
-    have_stopped : All IsDone tiles → HaveStopped m d.meaning d.start d.plan (values_of tiles) b
+    have_stopped : All IsDone tiles → HaveStopped m d (values_of tiles) b
     have_stopped stopped = record {
       valid = d.valid;
       grid = d.grid;

@@ -11,7 +11,7 @@ use Rattle.cases_order.specs.Driven.{AreMade}
 
 -- tiles that were made for a grid of the plane and a plan of as many lists are fresh
 pub fresh_made : {B : Type 0} (after : B → WindowValue → ℕ → WindowValue) (m : MapValue) (meaning : WindowValue → ℕ → WindowValue) (start : GridValue) (plan : PlanValue) (tiles : List (TileValue × B)) → IsPlaneGrid m start → IsPlan plan
-    → length plan.lists ≡ tiles_of m → length tiles ≡ tiles_of m → AreMade after m meaning start plan tiles → AreFresh after m meaning start plan tiles
+    → length plan.lists ≡ tiles_of m → length tiles ≡ tiles_of m → AreMade after m meaning start plan tiles → AreFresh after m (setting meaning start plan) tiles
 fresh_made after m meaning start plan tiles grid plan_is lists count made = record {
   grid = grid.0;
   fits = grid.1;

@@ -8,9 +8,8 @@ use Rattle.bit_field.specs.Atom.{AtomValue}
 use Rattle.window_sites.specs.Window.{WindowValue}
 use Rattle.tile_map.specs.Plane.{Site, MapValue, tiles_of}
 use Rattle.tile_map.specs.Edges.{pairs_of}
-use Rattle.cell_grid.specs.Grid.{GridValue}
 use Rattle.draw_stream.specs.declared.attempt.Attempt.{Attempt}
-use Rattle.draw_stream.specs.Plans.{PlanValue, attempts}
+use Rattle.draw_stream.specs.Plans.{attempts}
 use Rattle.edge_lock.specs.History.{site_count, found_value, IsEdgeHistory}
 use Rattle.edge_lock.specs.EndLists.{EndLists, end_lists, hold_of, writes_nothing}
 use Rattle.edge_lock.specs.PlainEdges.{IsKept, view_of}
@@ -23,7 +22,7 @@ use Rattle.tile_core.specs.Turns.{Turn, Worn as WornTurn, Wins, Loses, Wears, Ag
 use Rattle.tile_core.specs.Underway.{IsUnderway, InPhase, IsDrawn, is_refreshed}
 use Rattle.tile_core.specs.Boards.{IsBoardOf}
 use Rattle.tile_core.proofs.Boards.{end_known, edge_end}
-use Rattle.serial_order.specs.Scene.{EdgeHistory, no_history, history_at, end_lists_of, lists_at, HasEnded, IsStopped, IsOver}
+use Rattle.serial_order.specs.Scene.{EdgeHistory, no_history, history_at, end_lists_of, lists_at, HasEnded, IsStopped, Setting, IsOver}
 use Rattle.serial_order.specs.Words.{AreEdgeWords, plain_history, histories_on, counts_on}
 use Rattle.serial_order.specs.Boards.{HasStopped, HaveStopped}
 use Rattle.serial_order.specs.Outcomes.{scene_of}
@@ -153,8 +152,8 @@ pub ended : (m : MapValue) (board : PlainBoardValue) → IsBoardOf m board → (
 ended m board k meaning start given t tile number u stopped =
     has_ended m meaning start given tile (lists_of_tile board tile.number) (lists_at m (histories_on board) t) u (subst (λ n. AgreeOnEdges m tile.number (lists_at m (histories_on board) n) (lists_of_tile board tile.number)) number (lists_same m board k tile.number u.can.inside)) stopped
 
-pub over : (m : MapValue) (meaning : WindowValue → ℕ → WindowValue) (start : GridValue) (plan : PlanValue) (tiles : List TileValue) (board : PlainBoardValue) → HaveStopped m meaning start plan tiles board → IsOver (scene_of m tiles (histories_on board) meaning start plan)
-over m meaning start plan tiles board h = record {
+pub over : (m : MapValue) (g : Setting) (tiles : List TileValue) (board : PlainBoardValue) → HaveStopped m g tiles board → IsOver (scene_of m tiles (histories_on board) g)
+over m g tiles board h = record {
   valid = h.valid;
   grid = h.grid;
   fits = h.fits;
@@ -162,7 +161,7 @@ over m meaning start plan tiles board h = record {
   lists = h.lists;
   count = h.count;
   numbers = h.numbers;
-  ended = λ t tile is. ended m board h.edges meaning (atoms_of start) (attempts plan t) t tile (h.numbers t tile is) (h.underway t tile is) (h.stopped t tile is);
+  ended = λ t tile is. ended m board h.edges g.meaning (atoms_of g.start) (attempts g.plan t) t tile (h.numbers t tile is) (h.underway t tile is) (h.stopped t tile is);
   known = known m board h.edges;
   histories = (words m board h.edges).histories;
 }

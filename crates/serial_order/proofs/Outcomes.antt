@@ -33,9 +33,9 @@ made_own m tile h = subst (λ k. IsMade k tile) (sym h.2.2.map) h
 
 pub tiles_are : {B : Type 0} (m : MapValue) (tiles : List (TileValue × B)) (edges : List EdgeHistory) → All (λ y. IsMade m y.0) tiles → AreOver m (values_of tiles) edges → AreTilesOf m (values_of tiles)
 tiles_are m tiles edges all over = record {
-  count = over.3.count;
+  count = over.1.count;
   maps = λ t tile is. (tile_of m tiles t tile all is).2.2.map;
-  numbers = λ t tile is. (tile_of m tiles t tile all is).2.2.owner ∙ over.3.numbers t tile is;
+  numbers = λ t tile is. (tile_of m tiles t tile all is).2.2.owner ∙ over.1.numbers t tile is;
 }
 
 pub own_made : {B : Type 0} (m : MapValue) (tiles : List (TileValue × B)) → All (λ y. IsMade m y.0) tiles → All (λ y. IsMade y.0.cache.map y.0) tiles
@@ -59,20 +59,20 @@ log_more logs logs' l x xs ys is more log =
     ∙ ap (λ k. logs ++ logs_of (values_of k)) (sym is)))
 
 pub are_logs : (m : MapValue) (tiles : List TileValue) (edges : List EdgeHistory) (logs : List LogValue) → AreOver m tiles edges → logs ≡ logs_of tiles → AreLogs logs
-are_logs m tiles edges logs over is = subst AreLogs (sym is) (one_order (scene_of m tiles edges over.0 over.1 over.2) over.3).journal.0
+are_logs m tiles edges logs over is = subst AreLogs (sym is) (one_order (scene_of m tiles edges over.0) over.1).journal.0
 
 -- the settled grid and the tiles' logs are a settlement
 pub settlement : (m : MapValue) (tiles : List TileValue) (edges : List EdgeHistory) (o : Outcome) → IsSettled m tiles (registers_at edges) o.grid → o.journal ≡ logs_of tiles → Settles m tiles edges o
-settlement m tiles edges o set is meaning start plan over =
-    let s = scene_of m tiles edges meaning start plan in
+settlement m tiles edges o set is g over =
+    let s = scene_of m tiles edges g in
     let h = one_order s over in
     record {
       unworn = h.unworn;
       journal = is;
-      accounted = subst (λ ls. IsAccounted m plan (records_in ls) (abandoned_in ls)) (sym is) h.accounted;
+      accounted = subst (λ ls. IsAccounted m g.plan (records_in ls) (abandoned_in ls)) (sym is) h.accounted;
       stamped = subst (λ ls. IsStamped m (records_in ls)) (sym is) h.stamped;
-      excused = subst (λ ls. AreExcused m plan (records_in ls) (abandoned_in ls)) (sym is) h.excused;
-      grid = h.replayed o.grid set ∙ ap (λ ls. replay meaning start (records_in ls)) (sym is);
+      excused = subst (λ ls. AreExcused m g.plan (records_in ls) (abandoned_in ls)) (sym is) h.excused;
+      grid = h.replayed o.grid set ∙ ap (λ ls. replay g.meaning g.start (records_in ls)) (sym is);
       small = subst (λ ls. StampsAreSmall (records_in ls)) (sym is) h.small;
       apart = h.apart;
       leads = subst (λ ls. All (Leads (records_in ls) (abandoned_in ls)) (abandoned_in ls)) (sym is) h.leads;

@@ -19,6 +19,15 @@ use Rattle.tile_core.specs.declared.phase.Phase.TheVariants.{Draw, Lock, Refresh
 use Rattle.tile_core.specs.Values.{TileValue, atoms_of}
 use Rattle.tile_core.specs.Turns.{Turn, Wins, Loses, Wears, Wearless, HasPlayed, cells_of}
 
+-- what events do, and the grid and the attempts from which the tiles start
+pub record Setting : Type 0 where
+  pub meaning : WindowValue → ℕ → WindowValue
+  pub start : GridValue
+  pub plan : PlanValue
+
+abbrev pub setting : (WindowValue → ℕ → WindowValue) → GridValue → PlanValue → Setting
+setting meaning start plan = record { meaning = meaning; start = start; plan = plan }
+
 -- the history of an edge: the holds of both ends, and the refusals of each end, in order
 pub record EdgeHistory : Type 0 where
   pub holds : List Hold

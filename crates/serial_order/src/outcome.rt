@@ -2,9 +2,9 @@
 ghost use Rattle.std.specs.Prelude.{◌≡◌, ◌<◌, ◌*◌, All, IfOk, length};
 ghost use Rattle.cell_grid.specs.Grid.{ArePlanesAlike};
 ghost use Rattle.tile_map.specs.Plane.{site};
-ghost use Rattle.serial_order.specs.Outcomes.{AreOver, AreTilesOf, IsMade, IsPlaneGrid, Settles, SettlesSite, values_of};
+ghost use Rattle.serial_order.specs.Outcomes.{AreOver, AreTilesOf, ChangesSite, IsMade, IsPlaneGrid, Settles, values_of};
 ghost use Rattle.serial_order.specs.Scene.{logs_of, registers_at};
-ghost use Rattle.serial_order.specs.Settled.{IsSettled};
+ghost use Rattle.serial_order.specs.Settled.{IsSettled, IsSettledAt};
 ghost use Rattle.serial_order.specs.Words.{AreEdgeWords};
 
 use crate::blank::blank_grid;
@@ -40,7 +40,8 @@ fn settle_site<B: Behave, E: EdgeWords>(
     requires grid { IsPlaneGrid map.now grid.old }
     requires tiles { AreTilesOf map.now (values_of tiles.now) }
     requires words { AreEdgeWords map.now (E.histories words.old) (E.counts words.old) }
-    ensures site { SettlesSite map.now (values_of tiles.now) (registers_at (E.histories words.old)) (site x y) grid.old grid.new }
+    ensures change { ChangesSite map.now (site x y) grid.old grid.new }
+    ensures settled { IsSettledAt map.now (values_of tiles.now) (registers_at (E.histories words.old)) (site x y) grid.new }
     ensures same { (E.histories words.new ≡ E.histories words.old) × (E.counts words.new ≡ E.counts words.old) }
 {
     map.laws();

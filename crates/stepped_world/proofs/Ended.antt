@@ -24,14 +24,14 @@ use Rattle.tile_core.specs.Underway.{InPhase}
 use Rattle.tile_core.proofs.Boards.{edge_end}
 use Rattle.tile_core.proofs.Lists.{free_of}
 use Rattle.tile_core.proofs.Played.{played_at_end}
-use Rattle.serial_order.specs.Scene.{IsOver}
+use Rattle.serial_order.specs.Scene.{Setting, IsOver}
 use Rattle.serial_order.specs.Words.{histories_on}
 use Rattle.serial_order.specs.Outcomes.{scene_of, values_of}
 use Rattle.serial_order.specs.Boards.{HasStopped, HaveStopped}
 use Rattle.serial_order.proofs.Boards.{words, over}
 use Rattle.serial_order.proofs.Promises.{one_order}
 use Rattle.stepped_world.specs.Machine.{Machine}
-use Rattle.stepped_world.specs.Running.{Setting, IsStart, AreUnderway, is_still, stands_still, AnyIsWorn, IsLike, AreLike}
+use Rattle.stepped_world.specs.Running.{IsStart, AreUnderway, is_still, stands_still, AnyIsWorn, IsLike, AreLike}
 use Rattle.stepped_world.specs.Ends.{HasRun}
 use Rattle.stepped_world.proofs.Slots.{value_at}
 
@@ -53,7 +53,7 @@ module _ {B : Type 0} (after : B → WindowValue → ℕ → WindowValue) (m : M
   inside t x is = let lt = slice_get_within tiles t x is in let n = u.count in omega (arith, lt, n)
 
   module _ {A : Type 0} (after' : A → WindowValue → ℕ → WindowValue) (first : List (TileValue × A)) (board' : PlainBoardValue) (s : IsStart after' m g first board') where
-    have_stopped : HaveStopped m g.meaning g.start g.plan (values_of tiles) board
+    have_stopped : HaveStopped m g (values_of tiles) board
     have_stopped = record {
       valid = valid;
       grid = s.tiles_are.grid;
@@ -70,11 +70,11 @@ module _ {B : Type 0} (after : B → WindowValue → ℕ → WindowValue) (m : M
           subst HasStopped v.2 (stopped_in v.0.0 v.0.0.phase refl (ap stands_still (sym v.1) ∙ still t (inside t v.0 v.1)));
     }
 
-    pub is_over : IsOver (scene_of m (values_of tiles) (histories_on board) g.meaning g.start g.plan)
+    pub is_over : IsOver (scene_of m (values_of tiles) (histories_on board) g)
     is_over = over m g.meaning g.start g.plan (values_of tiles) board have_stopped
 
     pub finished : (t : ℕ) (x : TileValue × B) → slice_get tiles t ≡ Some x → x.0.phase ≡ Finished
-    finished t x is = (one_order (scene_of m (values_of tiles) (histories_on board) g.meaning g.start g.plan) is_over).unworn t x.0 (Rattle.std.proofs.lemmas.Option.slice_get-map (λ (z : TileValue × B). z.0) tiles t ∙ ap (Rattle.std.specs.Option.option_map (λ (z : TileValue × B). z.0)) is)
+    finished t x is = (one_order (scene_of m (values_of tiles) (histories_on board) g) is_over).unworn t x.0 (Rattle.std.proofs.lemmas.Option.slice_get-map (λ (z : TileValue × B). z.0) tiles t ∙ ap (Rattle.std.specs.Option.option_map (λ (z : TileValue × B). z.0)) is)
 
     -- so none is worn out, and all is as the machine has it
     pub like_it : (k : Machine) → AreLike m g tiles board k → IsLike m g tiles board k

@@ -22,7 +22,8 @@ use Rattle.tile_core.specs.Steps.{StepsIn, WearsOut, Renews, begun, got, tried, 
 use Rattle.tile_core.proofs.Falls.{steps_fall}
 use Rattle.stepped_world.specs.Machine.{Machine, Doing, Done, step, steps, finish_tile, finish}
 use Rattle.stepped_world.specs.Matching.{doing_in, IsEdgeIn, Matches}
-use Rattle.stepped_world.specs.Running.{Setting, AreUnderway, is_still, stands_still, steps_ahead, AnyIsWorn, IsLike, AreLike, Follows}
+use Rattle.serial_order.specs.Scene.{Setting}
+use Rattle.stepped_world.specs.Running.{AreUnderway, is_still, stands_still, steps_ahead, AnyIsWorn, IsLike, AreLike, Follows}
 use Rattle.stepped_world.proofs.Finishing.{finishing, finished}
 use Rattle.stepped_world.proofs.Stepping.{Advances, turned, steps_on}
 use Rattle.stepped_world.proofs.Likeness.{step_like, writes_own}

@@ -38,7 +38,8 @@ use Rattle.tile_core.proofs.Refreshing.{open_held}
 use Rattle.tile_core.proofs.Clocking.{greatest_same}
 use Rattle.stepped_world.specs.Machine.{Hand, Doing, Drawing, Locking, Behaving, Writing, Giving, Backing, TileState, EdgeState, Machine, at, next_lock, next_give, next_back, does, is_held_by, record_of, entry_of, drawn, draw, lock, next_stamp, stamped, write, step_in, step}
 use Rattle.stepped_world.specs.Matching.{hand_in, doing_in, IsTileIn, who, IsEdgeIn, Matches}
-use Rattle.stepped_world.specs.Running.{Setting, IsTileOf, AreUnderway, AnyIsWorn}
+use Rattle.serial_order.specs.Scene.{Setting}
+use Rattle.stepped_world.specs.Running.{IsTileOf, AreUnderway, AnyIsWorn}
 use Rattle.stepped_world.proofs.Boards.{Open, open_at, held_turns, free_more, lists_stay, far_stays}
 use Rattle.stepped_world.proofs.Finishing.{at_same, at_other}
 use Rattle.stepped_world.proofs.Slots.{set_each}

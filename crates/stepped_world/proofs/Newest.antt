@@ -19,7 +19,7 @@ use Rattle.border_cache.specs.Copies.{IsGridOf, IsCentre}
 use Rattle.tile_core.specs.Values.{TileValue, atoms_of, event_site}
 use Rattle.tile_core.specs.Turns.{Won, Turn, Wins, records_in_turns}
 use Rattle.event_journal.specs.Logs.{log_of, records_in, of_tile, abandoned_by}
-use Rattle.serial_order.specs.Scene.{log_of_tile, logs_of, Scene, IsOver, registers_at}
+use Rattle.serial_order.specs.Scene.{Setting, log_of_tile, logs_of, Scene, IsOver, registers_at}
 use Rattle.serial_order.specs.Order.{records}
 use Rattle.serial_order.specs.Settled.{IsSettled}
 use Rattle.serial_order.specs.Words.{histories_on}
@@ -37,7 +37,7 @@ use Rattle.serial_order.proofs.Whole.{turns, hist, run, laws, tile_told, tile_of
 use Rattle.serial_order.proofs.World.{IsRun, IsEvent}
 use Rattle.stepped_world.specs.Machine.{Machine}
 use Rattle.stepped_world.specs.Ends.{logs_in}
-use Rattle.stepped_world.specs.Running.{Setting, StampsRise, IsLike}
+use Rattle.stepped_world.specs.Running.{StampsRise, IsLike}
 use Rattle.stepped_world.proofs.Slots.{value_at, map_places}
 
 rises_in_time : (m : MapValue) (ws : List Won) → InOrder (StampsRise m) (notes ws) → WritesRise m ws
@@ -69,9 +69,9 @@ module _ (m : MapValue) (meaning : WindowValue → ℕ → WindowValue) (first :
   pub two_orders : (vs ws : List Won) → IsJournal turns' vs → IsJournal turns' ws → WritesRise m vs → WritesRise m ws → replay meaning first (notes vs) ≡ replay meaning first (notes ws)
   two_orders vs ws i j p q = one_left (replay meaning first (notes vs)) (replay meaning first (notes ws)) (left_by vs i p) (left_by ws j q)
 
-module _ {B : Type 0} (m : MapValue) (g : Setting) (tiles : List (TileValue × B)) (board : PlainBoardValue) (o : IsOver (scene_of m (values_of tiles) (histories_on board) g.meaning g.start g.plan)) (s : Machine) (k : IsLike m g tiles board s) where
+module _ {B : Type 0} (m : MapValue) (g : Setting) (tiles : List (TileValue × B)) (board : PlainBoardValue) (o : IsOver (scene_of m (values_of tiles) (histories_on board) g)) (s : Machine) (k : IsLike m g tiles board s) where
   abbrev c : Scene
-  c = scene_of m (values_of tiles) (histories_on board) g.meaning g.start g.plan
+  c = scene_of m (values_of tiles) (histories_on board) g
 
   value_there : (t : ℕ) (x : TileValue × B) → slice_get tiles t ≡ Some x → slice_get (values_of tiles) t ≡ Some x.0
   value_there t x is = slice_get-map (λ (z : TileValue × B). z.0) tiles t ∙ ap (option_map (λ (z : TileValue × B). z.0)) is

@@ -11,7 +11,8 @@ use Rattle.tile_core.specs.Values.{TileValue, atoms_of}
 use Rattle.tile_core.specs.Underway.{IsUnderway, IsSome, GoesOn}
 use Rattle.tile_core.specs.Steps.{StepsIn}
 use Rattle.tile_core.proofs.Boards.{board_end}
-use Rattle.stepped_world.specs.Running.{Setting, IsTileOf, AreUnderway}
+use Rattle.serial_order.specs.Scene.{Setting}
+use Rattle.stepped_world.specs.Running.{IsTileOf, AreUnderway}
 use Rattle.stepped_world.proofs.Stepping.{Advances, turned}
 
 module _ {B : Type 0} (after : B → WindowValue → ℕ → WindowValue) (m : MapValue) (g : Setting) (tiles : List (TileValue × B)) (t : ℕ) (x : TileValue × B) (a b : PlainBoardValue) (u : AreUnderway after m g tiles a) (is : slice_get tiles t ≡ Some x) (acting : b.acting ≡ t) (same : b.edges ≡ a.edges) where

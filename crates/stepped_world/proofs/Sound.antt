@@ -19,7 +19,8 @@ use Rattle.tile_core.specs.Values.{event_site}
 use Rattle.serial_order.proofs.Ground.{needed, has_in, in_has}
 use Rattle.serial_order.proofs.Tile.{greatest_each}
 use Rattle.stepped_world.specs.Machine.{Hand, Doing, Drawing, Done, Locking, Refreshing, Behaving, Writing, Giving, Backing, TileState, EdgeState, Machine, at, next_lock, next_give, next_back, does, is_held_by, record_of, drawn, draw, lock, next_stamp, write, step_in, step}
-use Rattle.stepped_world.specs.Running.{Setting, StampsRise, HasClocks, IsSound}
+use Rattle.serial_order.specs.Scene.{Setting}
+use Rattle.stepped_world.specs.Running.{StampsRise, HasClocks, IsSound}
 
 -- a clock that stays
 pub tile_clock : (f : ℕ → TileState) (t : ℕ) (x : TileState) → x.clock ≡ (f t).clock → (u : ℕ) → (at f t x u).clock ≡ (f u).clock

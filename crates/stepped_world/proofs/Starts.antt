@@ -18,7 +18,8 @@ use Rattle.tile_core.specs.Underway.{IsUnderway, InPhase}
 use Rattle.tile_core.proofs.Boards.{board_new, fresh_there}
 use Rattle.stepped_world.specs.Machine.{Drawing, next_draw, first_machine}
 use Rattle.stepped_world.specs.Matching.{doing_in, who, Matches}
-use Rattle.stepped_world.specs.Running.{Setting, IsStart, AreUnderway, IsSound, IsLike}
+use Rattle.serial_order.specs.Scene.{Setting}
+use Rattle.stepped_world.specs.Running.{IsStart, AreUnderway, IsSound, IsLike}
 
 nothing_yet : (zs : List EdgeSize) (e : ℕ) → (get_or (map untouched_edge zs) e no_edge).holds ≡ []
 nothing_yet [] e = refl

@@ -12,7 +12,8 @@ use Rattle.tile_core.specs.Values.{TileValue, atoms_of}
 use Rattle.tile_core.specs.Underway.{IsUnderway, GoesOn}
 use Rattle.tile_core.specs.Steps.{StepsIn}
 use Rattle.tile_core.proofs.Boards.{board_moved, board_turned, lists_turned, others_stay}
-use Rattle.stepped_world.specs.Running.{Setting, IsTileOf, AreUnderway}
+use Rattle.serial_order.specs.Scene.{Setting}
+use Rattle.stepped_world.specs.Running.{IsTileOf, AreUnderway}
 use Rattle.stepped_world.proofs.Slots.{set_each}
 
 module _ {B : Type 0} (after : B → WindowValue → ℕ → WindowValue) (m : MapValue) where

@@ -8,12 +8,12 @@ use Rattle.edge_lock.specs.PlainBoard.{PlainBoardValue}
 use Rattle.cell_grid.specs.Records.{replay}
 use Rattle.event_journal.specs.Logs.{records_in}
 use Rattle.tile_core.specs.Values.{TileValue}
-use Rattle.serial_order.specs.Scene.{IsOver}
+use Rattle.serial_order.specs.Scene.{Setting, IsOver}
 use Rattle.serial_order.specs.Words.{histories_on}
 use Rattle.serial_order.specs.Outcomes.{IsSettlement, scene_of, values_of}
 use Rattle.serial_order.specs.declared.outcome.Outcome.{Outcome}
 use Rattle.stepped_world.specs.Machine.{steps, finish, first_machine, stepped}
-use Rattle.stepped_world.specs.Running.{Setting, IsStart, AreUnderway, stands_still, Follows, IsLike}
+use Rattle.stepped_world.specs.Running.{IsStart, AreUnderway, stands_still, Follows, IsLike}
 use Rattle.stepped_world.specs.Ends.{HasRun, IsAsStepped, IsOutcome}
 use Rattle.stepped_world.proofs.Starts.{first_underway, first_like}
 use Rattle.stepped_world.proofs.Ended.{is_over, like_it, has_run}
@@ -30,7 +30,7 @@ module _ {B : Type 0} (after : B → WindowValue → ℕ → WindowValue) (m : M
   pub all_run : HasRun after m g new b
   all_run = has_run after m valid g new b under still after old a s
 
-  over : IsOver (scene_of m (values_of new) (histories_on b) g.meaning g.start g.plan)
+  over : IsOver (scene_of m (values_of new) (histories_on b) g)
   over = is_over after m valid g new b under still after old a s
 
   pub as_stepped : IsAsStepped m g new b order
@@ -42,7 +42,7 @@ module _ {B : Type 0} (after : B → WindowValue → ℕ → WindowValue) (m : M
   }
 
 -- a settled run
-pub outcome_is : {B : Type 0} (m : MapValue) (g : Setting) (new : List (TileValue × B)) (b : PlainBoardValue) (order : List ℕ) (o : Outcome) → IsAsStepped m g new b order → IsSettlement (scene_of m (values_of new) (histories_on b) g.meaning g.start g.plan) o → IsOutcome m g order o
+pub outcome_is : {B : Type 0} (m : MapValue) (g : Setting) (new : List (TileValue × B)) (b : PlainBoardValue) (order : List ℕ) (o : Outcome) → IsAsStepped m g new b order → IsSettlement (scene_of m (values_of new) (histories_on b) g) o → IsOutcome m g order o
 outcome_is m g new b order o like settled = record {
   grid = settled.grid ∙ (ap (λ ls. replay g.meaning g.start (records_in ls)) (settled.journal ∙ like.logs) ∙ like.replayed);
   journal = settled.journal ∙ like.logs;

@@ -12,14 +12,13 @@ use Rattle.tile_core.specs.declared.phase.Phase.TheVariants.{Finished}
 use Rattle.tile_core.specs.Values.{TileValue, atoms_of}
 use Rattle.tile_core.specs.Turns.{HasPlayed}
 use Rattle.event_journal.specs.Logs.{LogValue, log_of, records_in, of_tile, abandoned_by}
-use Rattle.serial_order.specs.Scene.{EdgeHistory, IsOver, logs_of, registers_at}
+use Rattle.serial_order.specs.Scene.{Setting, EdgeHistory, IsOver, logs_of, registers_at}
 use Rattle.serial_order.specs.Settled.{IsSettled}
 use Rattle.serial_order.specs.Words.{AreEdgeWords, histories_on, counts_on}
 use Rattle.serial_order.specs.Outcomes.{IsMade, IsSettlement, scene_of, values_of}
 use Rattle.serial_order.specs.declared.outcome.Outcome.{Outcome}
 use Rattle.stepped_world.specs.Machine.{Done, Machine, stepped}
 use Rattle.stepped_world.specs.Matching.{Matches}
-use Rattle.stepped_world.specs.Running.{Setting}
 
 -- a tile has played all its attempts of the plan, and keeps its number, its map and its meaning
 pub record HasFinished {B : Type 0} (after : B → WindowValue → ℕ → WindowValue) (m : MapValue) (g : Setting) (board : PlainBoardValue) (t : ℕ) (x : TileValue × B) : Type 0 where
@@ -37,7 +36,7 @@ pub record HasRun {B : Type 0} (after : B → WindowValue → ℕ → WindowValu
   pub shut : (e : ℕ) → open_hold (edge_at board e).holds ≡ None
   pub made : All (λ (x : TileValue × B). IsMade m x.0) tiles
   pub words : AreEdgeWords m (histories_on board) (counts_on board)
-  pub over : IsOver (scene_of m (values_of tiles) (histories_on board) g.meaning g.start g.plan)
+  pub over : IsOver (scene_of m (values_of tiles) (histories_on board) g)
 
 -- the logs of all tiles, as the machine has them
 abbrev pub logs_in : MapValue → Machine → List LogValue
@@ -58,7 +57,7 @@ pub record IsOutcome (m : MapValue) (g : Setting) (order : List ℕ) (o : Outcom
   pub journal : o.journal ≡ logs_in m (stepped m g.meaning g.start g.plan order)
   pub tiles : List TileValue
   pub edges : List EdgeHistory
-  pub settled : IsSettlement (scene_of m tiles edges g.meaning g.start g.plan) o
+  pub settled : IsSettlement (scene_of m tiles edges g) o
 
 -- the machine finishes its tiles, whatever tiles are in the list
 abbrev pub ComesToItsEnd : Type 0

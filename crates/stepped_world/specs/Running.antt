@@ -5,9 +5,8 @@ use Rattle.window_sites.specs.Window.{WindowValue}
 use Rattle.tile_map.specs.Plane.{Site, MapValue, tiles_of, in_window}
 use Rattle.tile_map.specs.Edges.{sizes_of, needs_of}
 use Rattle.cell_grid.specs.declared.record.Record.{Record}
-use Rattle.cell_grid.specs.Grid.{GridValue}
 use Rattle.cell_grid.specs.Records.{replay}
-use Rattle.draw_stream.specs.Plans.{PlanValue, attempts}
+use Rattle.draw_stream.specs.Plans.{attempts}
 use Rattle.edge_lock.specs.PlainBoard.{PlainBoardValue, lists_of_tile, untouched_edge, sizes_of_board}
 use Rattle.border_cache.specs.Copies.{IsCentre}
 use Rattle.border_cache.specs.Windows.{has}
@@ -16,19 +15,14 @@ use Rattle.tile_core.specs.declared.phase.Phase.TheVariants.{Draw, Lock, Refresh
 use Rattle.tile_core.specs.Values.{TileValue, atoms_of, event_site}
 use Rattle.tile_core.specs.Underway.{IsUnderway}
 use Rattle.tile_core.specs.Boards.{IsBoardOf}
+use Rattle.serial_order.specs.Scene.{Setting}
 use Rattle.serial_order.specs.Fresh.{AreFresh}
 use Rattle.stepped_world.specs.Machine.{Machine}
 use Rattle.stepped_world.specs.Matching.{Matches}
 
--- what events do, and the grid and the attempts from which the tiles start
-pub record Setting : Type 0 where
-  pub meaning : WindowValue → ℕ → WindowValue
-  pub start : GridValue
-  pub plan : PlanValue
-
 -- fresh tiles of the plane and a fresh board of it
 pub record IsStart {B : Type 0} (after : B → WindowValue → ℕ → WindowValue) (m : MapValue) (g : Setting) (tiles : List (TileValue × B)) (board : PlainBoardValue) : Type 0 where
-  pub tiles_are : AreFresh after m g.meaning g.start g.plan tiles
+  pub tiles_are : AreFresh after m g tiles
   pub edges : board.edges ≡ map untouched_edge (sizes_of m)
 
 -- a tile is underway on these lists of its ends

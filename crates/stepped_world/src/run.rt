@@ -5,7 +5,8 @@ ghost use Rattle.std.specs.Iterator.{IsFinite, Drains, HoldsAlong};
 ghost use Rattle.tile_map.specs.Plane.{tiles_of};
 ghost use Rattle.edge_lock.specs.PlainBoard.{sizes_of_board};
 ghost use Rattle.stepped_world.specs.Machine.{step, steps, finish_tile, finish};
-ghost use Rattle.stepped_world.specs.Running.{Setting, IsStart, AreUnderway, Follows, stands_still, steps_ahead};
+ghost use Rattle.serial_order.specs.Scene.{Setting};
+ghost use Rattle.stepped_world.specs.Running.{IsStart, AreUnderway, Follows, stands_still, steps_ahead};
 ghost use Rattle.stepped_world.specs.Ends.{HasRun, IsAsStepped};
 
 use cell_grid::Behave;

@@ -2,7 +2,8 @@
 ghost use Rattle.std.specs.Prelude.{◌≡◌, ◌<◌, ℕ, List, All, IfOk};
 ghost use Rattle.std.specs.Iterator.{IsFinite, Drains, HoldsAlong};
 ghost use Rattle.tile_map.specs.Plane.{tiles_of};
-ghost use Rattle.stepped_world.specs.Running.{Setting, IsStart};
+ghost use Rattle.serial_order.specs.Scene.{Setting};
+ghost use Rattle.stepped_world.specs.Running.{IsStart};
 ghost use Rattle.stepped_world.specs.Ends.{IsOutcome};
 
 use crate::run::run_steps;

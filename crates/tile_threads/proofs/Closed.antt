@@ -91,8 +91,8 @@ ended_agrees m meaning start given tile a b same h = record {
   cells = h.cells;
 }
 
-module _ {B : Type 0} (after : B → WindowValue → ℕ → WindowValue) (m : MapValue) (valid : IsMap m) (meaning : WindowValue → ℕ → WindowValue) (start : GridValue) (plan : PlanValue) (fresh tiles : List (TileValue × B)) (f : AreFresh after m meaning start plan fresh)
-    (edges : List EdgeValue) (passes : List (List PassValue)) (r : HaveReturned m meaning start plan edges tiles passes) (closed : List ClosedValue) (k : AreClosed m (λ t. pass_lists (passes_of passes t)) closed)
+module _ {B : Type 0} (after : B → WindowValue → ℕ → WindowValue) (m : MapValue) (valid : IsMap m) (meaning : WindowValue → ℕ → WindowValue) (start : GridValue) (plan : PlanValue) (fresh tiles : List (TileValue × B)) (f : AreFresh after m (setting meaning start plan) fresh)
+    (edges : List EdgeValue) (passes : List (List PassValue)) (r : HaveReturned m (setting meaning start plan) edges tiles passes) (closed : List ClosedValue) (k : AreClosed m (λ t. pass_lists (passes_of passes t)) closed)
   where
     tile_at : (t : ℕ) (v : TileValue) → slice_get (values_of tiles) t ≡ Some v → (x : TileValue × B) × (slice_get tiles t ≡ Some x) × (x.0 ≡ v)
     tile_at t v is = go tiles t is
@@ -102,7 +102,7 @@ module _ {B : Type 0} (after : B → WindowValue → ℕ → WindowValue) (m : M
         go (x ∷ xs) zero is = (x, refl, cc is)
         go (x ∷ xs) (suc t) is = go xs t is
 
-    pub has_run : HasRun m meaning start plan tiles closed
+    pub has_run : HasRun m (setting meaning start plan) tiles closed
     has_run = record {
       made = r.made;
       words = words_are m (λ t. pass_lists (passes_of passes t)) closed k;

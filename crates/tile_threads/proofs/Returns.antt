@@ -90,7 +90,7 @@ all_stand m es ps k t d lt =
     same (x ∷ xs) (suc t) d lt = same xs t d (omega (arith, lt))
 
 module _ {B : Type 0} (after : B → WindowValue → ℕ → WindowValue) (m : MapValue) (es : List EdgeValue) (ps : List (List PassValue)) (k : AreEdgesMade m (length (pairs_of m)) es ps) (meaning : WindowValue → ℕ → WindowValue) (start : GridValue) (plan : PlanValue) (xs : List (TileValue × B))
-    (f : AreFresh after m meaning start plan xs)
+    (f : AreFresh after m (setting meaning start plan) xs)
   where
     pub same_count : length xs ≡ length ps
     same_count = f.count ∙ sym k.tiles
@@ -203,7 +203,7 @@ module _ {B : Type 0} (after : B → WindowValue → ℕ → WindowValue) (m : M
             first [] l = absurd (omega (arith, l))
             first (w ∷ us) l = w.tile
 
-        pub returned : HaveReturned m meaning start plan es (tiles_in vs) qs
+        pub returned : HaveReturned m (setting meaning start plan) es (tiles_in vs) qs
         returned = record {
           count = length-map vs (λ (w : Worker B SharedEndValue). w.tile) ∙ count_all;
           numbers = λ t x is. let g = taken_from t x is in ap (λ (y : TileValue × B). y.0.number) g.1 ∙ (is_home t (blank x) g.0).number;

@@ -61,4 +61,4 @@ pub record HaveReturned {B : Type 0} (m : MapValue) (meaning : WindowValue → �
 pub record HasRun {B : Type 0} (m : MapValue) (meaning : WindowValue → ℕ → WindowValue) (start : GridValue) (plan : PlanValue) (tiles : List (TileValue × B)) (closed : List ClosedValue) : Type 0 where
   pub made : All (λ (x : TileValue × B). IsMade m x.0) tiles
   pub words : AreEdgeWords m (closed_histories closed) (closed_counts closed)
-  pub over : IsOver (scene_of m (values_of tiles) (closed_histories closed) meaning start plan)
+  pub over : IsOver (scene_of m (values_of tiles) (closed_histories closed) (setting meaning start plan))

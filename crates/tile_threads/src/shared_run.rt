@@ -33,8 +33,8 @@ fn run_over<R: Threads + Sync, B: Behave + Send + Drop, G: Gate>(
     gate: &G,
 ) -> Result<(Vec<Tile<B>>, Vec<TilePasses>), NoMemory>
     requires made { AreEdgesMade map.now (length (pairs_of map.now)) edges.now passes.items }
-    requires fresh { (meaning : WindowValue → ℕ → WindowValue) × (start : GridValue) × (plan : PlanValue) × AreFresh B.after map.now meaning start plan tiles.items }
-    ensures { IfOk result (λ r. (meaning : WindowValue → ℕ → WindowValue) (start : GridValue) (plan : PlanValue) → AreFresh B.after map.now meaning start plan tiles.items → HaveReturned map.now meaning start plan edges.now r.0.items r.1.items) }
+    requires fresh { (meaning : WindowValue → ℕ → WindowValue) × (start : GridValue) × (plan : PlanValue) × AreFresh B.after map.now (setting meaning start plan) tiles.items }
+    ensures { IfOk result (λ r. (meaning : WindowValue → ℕ → WindowValue) (start : GridValue) (plan : PlanValue) → AreFresh B.after map.now (setting meaning start plan) tiles.items → HaveReturned map.now (setting meaning start plan) edges.now r.0.items r.1.items) }
 {
     let mut workers = send_out(alloc, edges, tiles, passes)?;
     run_tiles(rt, map, workers.as_mut_slice(), gate);
@@ -59,8 +59,8 @@ pub fn run_shared<R: Threads + Sync, B: Behave + Send + Drop, G: Gate>(
     tiles: Vec<Tile<B>>,
     gate: &G,
 ) -> Result<(Vec<Tile<B>>, ClosedEdges), NoMemory>
-    requires { (meaning : WindowValue → ℕ → WindowValue) × (start : GridValue) × (plan : PlanValue) × AreFresh B.after map.now meaning start plan tiles.items }
-    ensures { IfOk result (λ r. (meaning : WindowValue → ℕ → WindowValue) (start : GridValue) (plan : PlanValue) → AreFresh B.after map.now meaning start plan tiles.items → HasRun map.now meaning start plan r.0.items r.1) }
+    requires { (meaning : WindowValue → ℕ → WindowValue) × (start : GridValue) × (plan : PlanValue) × AreFresh B.after map.now (setting meaning start plan) tiles.items }
+    ensures { IfOk result (λ r. (meaning : WindowValue → ℕ → WindowValue) (start : GridValue) (plan : PlanValue) → AreFresh B.after map.now (setting meaning start plan) tiles.items → HasRun map.now (setting meaning start plan) r.0.items r.1) }
 {
     map.laws();
     let (edges, passes) = make_edges(alloc, map)?;

@@ -85,7 +85,7 @@ all_can w h p t inside = can_attempt w h p t inside (attempts w.plan t) refl
 
 -- tiles that were made, all with one meaning, are fresh ones for the run of a world
 all_fresh : {B : Type 0} (after : B → WindowValue → ℕ → WindowValue) (w : WorldValue) (meaning : WindowValue → ℕ → WindowValue) (behaves : List B) (tiles : List (TileValue × B)) (start : GridValue) → IsWorld w → IsPlan w.plan → IsGrid start → IsGridOf w.plane start → start ≡ (setting_of w meaning).start
-    → AreMade w.plane start w.plan behaves tiles → length behaves ≡ tiles_of w.plane → All (λ b. after b ≡ meaning) behaves → AreFresh after w.plane meaning (setting_of w meaning).start w.plan tiles
+    → AreMade w.plane start w.plan behaves tiles → length behaves ≡ tiles_of w.plane → All (λ b. after b ≡ meaning) behaves → AreFresh after w.plane (setting_of w meaning) tiles
 all_fresh {B} after w meaning behaves tiles start h p grid fits is f count one = record {
   grid = subst IsGrid is grid;
   fits = subst (IsGridOf w.plane) is fits;
@@ -107,7 +107,7 @@ all_fresh {B} after w meaning behaves tiles start h p grid fits is f count one =
 
 -- the same on a map that is the world's
 pub all_ready : {B : Type 0} (after : B → WindowValue → ℕ → WindowValue) (w : WorldValue) (m : MapValue) (meaning : WindowValue → ℕ → WindowValue) (behaves : List B) (tiles : List (TileValue × B)) (start : GridValue) → m ≡ w.plane → IsWorld w → IsPlan w.plan → IsGrid start → IsGridOf w.plane start → start ≡ (setting_of w meaning).start
-    → AreMade m start w.plan behaves tiles → length behaves ≡ tiles_of w.plane → All (λ b. after b ≡ meaning) behaves → AreFresh after m meaning (setting_of w meaning).start w.plan tiles
+    → AreMade m start w.plan behaves tiles → length behaves ≡ tiles_of w.plane → All (λ b. after b ≡ meaning) behaves → AreFresh after m (setting_of w meaning) tiles
 all_ready after w m meaning behaves tiles start same h p grid fits is f count one =
     let made = subst (λ (n : MapValue). AreMade n start w.plan behaves tiles) same f in
-    subst (λ (n : MapValue). AreFresh after n meaning (setting_of w meaning).start w.plan tiles) (sym same) (all_fresh after w meaning behaves tiles start h p grid fits is made count one)
+    subst (λ (n : MapValue). AreFresh after n (setting_of w meaning) tiles) (sym same) (all_fresh after w meaning behaves tiles start h p grid fits is made count one)

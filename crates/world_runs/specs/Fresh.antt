@@ -3,7 +3,7 @@ use Rattle.std.specs.Prelude.{ℕ, ◌≡◌, ◌<◌, List, map, slice_get, Som
 use Rattle.window_sites.specs.Window.{WindowValue}
 use Rattle.cell_grid.specs.Grid.{GridValue}
 use Rattle.draw_stream.specs.Plans.{PlanValue, attempts}
-use Rattle.stepped_world.specs.Running.{Setting}
+use Rattle.serial_order.specs.Scene.{Setting}
 use Rattle.tile_core.specs.Underway.{CanAttempt, IsFreshTile}
 use Rattle.tile_core.specs.Values.{TileValue, atoms_of}
 use Rattle.tile_map.specs.Plane.{MapValue, tiles_of}

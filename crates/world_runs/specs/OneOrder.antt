@@ -1,9 +1,8 @@
 -- The result of the run of a world.
 use Rattle.std.specs.Prelude.{List}
 use Rattle.serial_order.specs.Outcomes.{IsSettlement, scene_of}
-use Rattle.serial_order.specs.Scene.{EdgeHistory}
+use Rattle.serial_order.specs.Scene.{Setting, EdgeHistory}
 use Rattle.serial_order.specs.declared.outcome.Outcome.{Outcome}
-use Rattle.stepped_world.specs.Running.{Setting}
 use Rattle.tile_core.specs.Values.{TileValue}
 use Rattle.tile_map.specs.Plane.{MapValue}
 
@@ -12,4 +11,4 @@ use Rattle.tile_map.specs.Plane.{MapValue}
 pub record StandsInOneOrder (m : MapValue) (g : Setting) (o : Outcome) : Type 0 where
   pub tiles : List TileValue
   pub edges : List EdgeHistory
-  pub settled : IsSettlement (scene_of m tiles edges g.meaning g.start g.plan) o
+  pub settled : IsSettlement (scene_of m tiles edges g) o

@@ -2,7 +2,8 @@ use Rattle.std.proofs.Common.{List, slice_get}
 use Rattle.edge_lock.specs.PlainBoard.{PlainBoardValue}
 use Rattle.tile_core.specs.Values.{TileValue}
 use Rattle.stepped_world.specs.Machine.{finish_tile}
-use Rattle.stepped_world.specs.Running.{Setting, AreUnderway, Follows, steps_ahead}
+use Rattle.serial_order.specs.Scene.{Setting}
+use Rattle.stepped_world.specs.Running.{AreUnderway, Follows, steps_ahead}
 use Rattle.stepped_world.proofs.run.finish_one.Given as goal
 
 -- what is left of finishing the tile makes the whole

@@ -2,10 +2,10 @@ use Rattle.std.proofs.Common.{◌≡◌, List, All, length, sym, ◌∙◌, subs
 use Rattle.std.proofs.lemmas.Result.{IfOk-weaker}
 use Rattle.list_laws.proofs.Slots.{take_over}
 use Rattle.tile_core.specs.Values.{TileValue}
-use Rattle.serial_order.specs.Scene.{IsOver}
+use Rattle.serial_order.specs.Scene.{Setting, IsOver}
 use Rattle.serial_order.specs.Words.{histories_on}
 use Rattle.serial_order.specs.Outcomes.{IsMade, scene_of, values_of, Settles}
-use Rattle.stepped_world.specs.Running.{Setting, IsStart}
+use Rattle.stepped_world.specs.Running.{IsStart}
 use Rattle.stepped_world.proofs.Whole.{outcome_is}
 use Rattle.stepped_world.proofs.settled.run_settled.Goals as goal
 
@@ -31,7 +31,7 @@ settle-requires-clause-over g c =
       r.0.meaning,
       r.0.start,
       r.0.plan,
-      subst (λ (xs : List (TileValue × g.row.B.Denot)). IsOver (scene_of c.args.map.now (values_of xs) (histories_on c.run_steps.new.board) r.0.meaning r.0.start r.0.plan)) (sym (take_over c.args.tiles.len new c.args.tiles.items same c.args.tiles.ok.0)) h.over,
+      subst (λ (xs : List (TileValue × g.row.B.Denot)). IsOver (scene_of c.args.map.now (values_of xs) (histories_on c.run_steps.new.board) r.0)) (sym (take_over c.args.tiles.len new c.args.tiles.items same c.args.tiles.ok.0)) h.over,
     )
 
 pub returns : goal.returns

@@ -39,5 +39,5 @@ returns g c meaning start plan f =
     let did = subst (λ (l : List (Worker g.row.B.Denot SharedEndValue)). EachDid (HasWorked g.B.Behave.after (λ (s : SharedEndValue). s.tile) (λ s. pass_registers s.passes) (λ s. pass_end s.passes) (λ s. pass_lists s.passes) SamePasses c.args.map.now) l new) now c.run_tiles.ensures in
     let home = subst (λ (l : List (Worker g.row.B.Denot SharedEndValue)). HaveComeHome c.args.map.now l c.in_ok-tiles.passes.items) back c.in_ok-tiles.ensures.passes in
     let tiles = c.in_ok-tiles.ensures.tiles ∙ ap (λ (l : List (Worker g.row.B.Denot SharedEndValue)). tiles_in l) back in
-    subst (λ xs. HaveReturned c.args.map.now meaning start plan c.args.edges.now xs c.in_ok-tiles.passes.items) (sym tiles)
+    subst (λ xs. HaveReturned c.args.map.now (setting meaning start plan) c.args.edges.now xs c.in_ok-tiles.passes.items) (sym tiles)
     (returned g.B.Behave.after c.args.map.now c.args.edges.now c.args.passes.items c.requires.made meaning start plan c.args.tiles.items f new (long ∙ ap (λ l. length l) now) did c.in_ok-tiles.passes.items home)
