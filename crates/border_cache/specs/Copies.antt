@@ -1,6 +1,7 @@
 -- A tile's copy of the sites that it holds, and what the calls do to it.
-use Rattle.std.specs.Prelude.{ℕ, ◌≡◌, ◌+◌, ◌-◌, ◌*◌, ◌/◌, ◌%◌, ◌<◌, ◌≤◌, true, false, List, length, slice_index_or, Option, Some, None}
+use Rattle.std.specs.Prelude.{ℕ, ◌≡◌, ◌+◌, ◌-◌, ◌*◌, ◌/◌, ◌%◌, ◌<◌, ◌≤◌, if◌then◌else◌, true, false, List, length, slice_index_or, Option, Some, None}
 use Rattle.feast_base.specs.Edges.{registers_of}
+use Rattle.bit_field.specs.Atom.{AtomValue, empty_atom}
 use Rattle.window_sites.specs.Window.{WindowValue, atom_at}
 use Rattle.tile_map.specs.Plane.{Site, MapValue, IsMap, site, tiles_of, owner_of, is_live, is_held, in_window}
 use Rattle.tile_map.specs.Spans.{left_of, right_of, top_of, bottom_of}
@@ -11,7 +12,7 @@ use Rattle.edge_lock.specs.EndLists.{EndLists}
 use Rattle.edge_lock.specs.EndValues.{EndValue}
 use Rattle.border_cache.specs.Cells.{CellValue, cell_value, newest}
 use Rattle.border_cache.specs.News.{IsRefresh, no_cell}
-use Rattle.border_cache.specs.Windows.{has, end_at, sites_on, border_at, AddsAll, seen_on}
+use Rattle.border_cache.specs.Windows.{has, Centre, centre_of, end_at, sites_on, border_at, AddsAll, seen_on, is_shown}
 
 -- a copy: the plane and the tile that it was made for, and a cell for each site of the rectangle that the tile reaches, row by row
 pub record CacheValue : Type 0 where
@@ -95,6 +96,10 @@ pub record IsEndOf (m : MapValue) (t : ℕ) (end : EndValue) : Type 0 where
   pub registers_are : (e : ℕ) → has_end m t e ≡ true → end.registers e ≡ registers_of (sites_on m e)
   pub end_is : (e : ℕ) → has_end m t e ≡ true → end.end_of e ≡ end_at m t e
 
+-- what site n of the window at c shows: the atom of the tile's cell, or nothing
+abbrev pub shown_atom : MapValue → CacheValue → Site → ℕ → AtomValue
+shown_atom m v c n = if is_shown m c n then (window_cells v c n).atom else empty_atom
+
 -- two copies differ at most at the live sites of the window at c
 pub record DiffersIn (c : Site) (old new : CacheValue) : Type 0 where
   pub map : new.map ≡ old.map
@@ -113,6 +118,13 @@ pub record CopyAt : Type 0 where
 
 abbrev pub copy_at : CacheValue → (ℕ → EndLists) → CopyAt
 copy_at cache lists = record { cache = cache; lists = lists }
+
+abbrev pub at : CacheValue → EndValue → CopyAt
+at cache end = copy_at cache end.lists
+
+-- a site as the centre of a window of the copy's tile
+abbrev pub centre_at : CacheValue → ℕ → ℕ → Centre
+centre_at v x y = centre_of v.map v.tile (site x y)
 
 -- a refresh of the window at c from these edges: each live site has the newest of its own cell and those that were seen
 pub record Refreshed (c : Site) (edges : List ℕ) (old new : CopyAt) : Type 0 where

@@ -6,6 +6,7 @@ use Rattle.edge_lock.specs.declared.history.Access.{Access}
 use Rattle.edge_lock.specs.declared.history.Access.TheVariants.{Read}
 use Rattle.edge_lock.specs.History.{found_value}
 use Rattle.edge_lock.specs.EndLists.{EndLists, writes_nothing}
+use Rattle.edge_lock.specs.EndValues.{EndValue}
 use Rattle.border_cache.specs.Accesses.{Adds}
 use Rattle.border_cache.specs.Cells.{CellValue, cell_of, cell_value, newer}
 use Rattle.bit_field.specs.Atom.{empty_atom}
@@ -114,6 +115,9 @@ pub record CellsAt : Type 0 where
 
 abbrev pub cells_at : List CellValue → (ℕ → EndLists) → CellsAt
 cells_at cells lists = record { cells = cells; lists = lists }
+
+abbrev pub at : List CellValue → EndValue → CellsAt
+at cells end = cells_at cells end.lists
 
 -- a refresh of the cells of a window on one edge
 pub record Refreshes (b : Border) (edge : ℕ) (old new : CellsAt) : Type 0 where

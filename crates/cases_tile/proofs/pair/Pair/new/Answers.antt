@@ -12,8 +12,8 @@ returns c =
     record {
       map = c.in_ok-map.ensures;
       edges = board_new m b made;
-      lower = record { map = x.2.map; underway = (x.0, x.1, fresh_there m b made after_turn 0 x.0 x.1 c.in_ok-left.left.0 x.2) };
-      higher = record { map = y.2.map; underway = (y.0, y.1, fresh_there m b made after_turn 1 y.0 y.1 c.in_ok-right.right.0 y.2) };
+      lower = record { map = x.2.map; underway = (x.0, x.1, fresh_there m b made after_turn 0 x.0 x.1 c.in_ok-left.left.core x.2) };
+      higher = record { map = y.2.map; underway = (y.0, y.1, fresh_there m b made after_turn 1 y.0 y.1 c.in_ok-right.right.core y.2) };
       lower_number = x.2.number;
       higher_number = y.2.number;
     }
