@@ -1,6 +1,6 @@
 //! The settled cell of a site: the newest of its tile's and those of the tile's edges. All edges of
 //! the plane are asked, since a map has no public list of a tile's edges.
-ghost use Rattle.std.specs.Prelude.{◌≡◌, ◌<◌, true, length, Some};
+ghost use Rattle.std.specs.Prelude.{◌≡◌, ◌<◌, IsTrue, length, Some};
 ghost use Rattle.bit_field.specs.Atom.{LeavesGap};
 ghost use Rattle.tile_map.specs.Plane.{site, is_held};
 ghost use Rattle.tile_map.specs.Edges.{pairs_of, edges_at};
@@ -112,7 +112,7 @@ pub fn settled_atom<E: EdgeWords>(
 ) -> Atom
     requires map { cache.now.map ≡ map.now }
     requires tile { cache.now.tile ≡ tile }
-    requires held { is_held map.now tile (site x y) ≡ true }
+    requires held { IsTrue (is_held map.now tile (site x y)) }
     requires words { AreEdgeWords map.now (E.histories words.old) (E.counts words.old) }
     ensures atom { result ≡ (settled_cell map.now (registers_at (E.histories words.old)) (held_cell cache.now) (edges_at map.now tile) (site x y)).atom }
     ensures same { (E.histories words.new ≡ E.histories words.old) × (E.counts words.new ≡ E.counts words.old) }

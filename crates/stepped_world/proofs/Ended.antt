@@ -24,7 +24,7 @@ use Rattle.tile_core.specs.Underway.{tile_at, made_by, InPhase}
 use Rattle.tile_core.proofs.Boards.{edge_end}
 use Rattle.tile_core.proofs.Lists.{free_of}
 use Rattle.tile_core.proofs.Played.{played_at_end}
-use Rattle.serial_order.specs.Scene.{Setting, IsOver}
+use Rattle.serial_order.specs.Scene.{Setting, common_in, IsOver}
 use Rattle.serial_order.specs.Words.{histories_on}
 use Rattle.serial_order.specs.Outcomes.{scene_of, values_of}
 use Rattle.serial_order.specs.Boards.{HasStopped, HaveStopped}
@@ -64,10 +64,10 @@ module _ {B : Type 0} (after : B → WindowValue → ℕ → WindowValue) (m : M
       edges = u.board_is;
       numbers = λ t tile is. let v = value_at tiles t tile is in ap (λ (z : TileValue). z.number) (sym v.2) ∙ (u.each t v.0 v.1).number;
       underway = λ t tile is. let v = value_at tiles t tile is in let k = u.each t v.0 v.1 in
-          subst (λ (z : TileValue). Rattle.tile_core.specs.Underway.IsUnderway m g.meaning (atoms_of g.start) (attempts g.plan t) z (lists_of_tile board z.number)) v.2
-          (subst (λ n. Rattle.tile_core.specs.Underway.IsUnderway m g.meaning (atoms_of g.start) (attempts g.plan t) v.0.0 (lists_of_tile board n)) (sym k.number) k.underway);
+          subst (λ (z : TileValue). Rattle.tile_core.specs.Underway.IsUnderway (common_in m g) (attempts g.plan t) z (lists_of_tile board z.number)) v.2
+          (subst (λ n. Rattle.tile_core.specs.Underway.IsUnderway (common_in m g) (attempts g.plan t) v.0.core (lists_of_tile board n)) (sym k.number) k.underway);
       stopped = λ t tile is. let v = value_at tiles t tile is in
-          subst HasStopped v.2 (stopped_in v.0.0 v.0.0.phase refl (ap stands_still (sym v.1) ∙ still t (inside t v.0 v.1)));
+          subst HasStopped v.2 (stopped_in v.0.core v.0.core.phase refl (ap stands_still (sym v.1) ∙ still t (inside t v.0 v.1)));
     }
 
     pub is_over : IsOver (scene_of m (values_of tiles) (histories_on board) g)
@@ -85,7 +85,7 @@ module _ {B : Type 0} (after : B → WindowValue → ℕ → WindowValue) (m : M
     free_tile t e lt end =
         let x = get_inside tiles t (let n = u.count in omega (arith, lt, n)) in
         let k = u.each t x.core x.behave in
-        let h = subst (InPhase (common m g.meaning (atoms_of g.start)) (attempts g.plan t) k.underway.turns (tile_at x.core.0 (lists_of_tile board t))) (finished t x.core x.behave) k.underway.hand in
+        let h = subst (InPhase (common_in m g) (attempts g.plan t) k.underway.turns (tile_at x.core.0 (lists_of_tile board t))) (finished t x.core x.behave) k.underway.hand in
         subst IsFree (sym (h.2 e (ap (λ n. has_end m n e) k.number ∙ end))) (free_of m g.meaning (atoms_of g.start) x.core.0.number k.underway.turns e k.underway.each k.underway.unworn)
 
     end_free : (t e b : ℕ) → t < tiles_of m → has_end m t e ≡ true → e < length (pairs_of m) → end_at m t e ≡ b → is_last_open (own b (edge_at board e).holds) ≡ false
@@ -112,10 +112,10 @@ module _ {B : Type 0} (after : B → WindowValue → ℕ → WindowValue) (m : M
       finished = λ t x is. let k = u.each t x is in record {
         number = k.number;
         map = k.underway.map;
-        meaning = k.meaning;
         phase = finished t x is;
-        played = subst (λ n. HasPlayed (common m g.meaning (atoms_of g.start)) n (attempts g.plan t) (made_by x.core (lists_of_tile board t))) k.number (played_at_end m g.meaning (atoms_of g.start) (attempts g.plan t) x.core (lists_of_tile board t) k.underway (finished t x is));
+        played = subst (λ n. HasPlayed (common_in m g) n (attempts g.plan t) (made_by x.core (lists_of_tile board t))) k.number (played_at_end m g.meaning (atoms_of g.start) (attempts g.plan t) x.core (lists_of_tile board t) k.underway (finished t x is));
       };
+      meanings = u.meanings;
       shut = shut;
       made = λ i d lt. let k = u.each i (get_or tiles i d) (slice_get-get_or tiles i d lt) in (g.meaning, lists_of_tile board i, (atoms_of g.start, attempts g.plan i, k.underway));
       words = words m board u.board_is;

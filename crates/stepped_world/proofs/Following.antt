@@ -23,7 +23,7 @@ use Rattle.tile_core.proofs.Falls.{steps_fall}
 use Rattle.stepped_world.specs.Machine.{Machine, Doing, Done, step, steps, finish_tile, finish}
 use Rattle.stepped_world.specs.Matching.{doing_in, IsEdgeIn, Matches}
 use Rattle.serial_order.specs.Scene.{Setting}
-use Rattle.stepped_world.specs.Running.{AreUnderway, is_still, stands_still, steps_ahead, AnyIsWorn, IsLike, AreLike, Follows}
+use Rattle.stepped_world.specs.Running.{AreUnderway, is_still, stands_still, steps_ahead, AnyIsWorn, IsLike, AreLike, on_board, Act, step_of, steps_by, rest_of, rest_by, Follows}
 use Rattle.tile_core.specs.Turns.{common}
 use Rattle.stepped_world.proofs.Finishing.{finishing, finished}
 use Rattle.stepped_world.proofs.Stepping.{Advances, turned, steps_on}
@@ -34,10 +34,6 @@ none_inside : {A : Type 0} (xs : List A) (t : ℕ) → t < length xs → slice_g
 none_inside [] t lt e = absurd (omega (arith, lt))
 none_inside (x ∷ xs) zero lt e = absurd (cc e)
 none_inside (x ∷ xs) (suc t) lt e = none_inside xs t (omega (arith, lt)) e
-
--- what the machine does, whatever events do
-abbrev pub Acting : Type 0
-Acting = (WindowValue → ℕ → WindowValue) → Machine → Machine
 
 steps_more : (m : MapValue) (meaning : WindowValue → ℕ → WindowValue) (ts : List ℕ) (t : ℕ) (s : Machine) → steps m meaning (ts ++ t ∷ []) s ≡ step m meaning t (steps m meaning ts s)
 steps_more m meaning [] t s = refl
@@ -53,17 +49,17 @@ range_more a (suc n) = let e : a + 1 + n ≡ a + suc n = omega arith in ap (λ x
 
 module _ {B : Type 0} (after : B → WindowValue → ℕ → WindowValue) (m : MapValue) where
   -- first the one, then the other
-  pub then_on : (xs ys zs : List (TileWith B)) (a b c : PlainBoardValue) (f g h : Acting) → ((meaning : WindowValue → ℕ → WindowValue) (s : Machine) → h meaning s ≡ g meaning (f meaning s))
-      → Follows after m xs ys a b f → Follows after m ys zs b c g → Follows after m xs zs a c h
+  pub then_on : (xs ys zs : List (TileWith B)) (a b c : PlainBoardValue) (f g h : Act) → ((meaning : WindowValue → ℕ → WindowValue) (s : Machine) → h m meaning s ≡ g m meaning (f m meaning s))
+      → Follows after m (on_board xs a) (on_board ys b) f → Follows after m (on_board ys b) (on_board zs c) g → Follows after m (on_board xs a) (on_board zs c) h
   then_on xs ys zs a b c f g h same p q = record {
     underway = λ k u. q.underway k (p.underway k u);
-    like = λ k s u l. subst (AreLike m k zs c) (sym (same k.meaning s)) (q.like k (f k.meaning s) (p.underway k u) (p.like k s u l));
+    like = λ k s u l. subst (AreLike m k zs c) (sym (same k.meaning s)) (q.like k (f m k.meaning s) (p.underway k u) (p.like k s u l));
     still = λ t e. q.still t (p.still t e);
     sizes = q.sizes ∙ p.sizes;
   }
 
   -- nothing was done
-  pub stays : (xs : List (TileWith B)) (a : PlainBoardValue) (f : Acting) → ((meaning : WindowValue → ℕ → WindowValue) (s : Machine) → f meaning s ≡ s) → Follows after m xs xs a a f
+  pub stays : (xs : List (TileWith B)) (a : PlainBoardValue) (f : Act) → ((meaning : WindowValue → ℕ → WindowValue) (s : Machine) → f m meaning s ≡ s) → Follows after m (on_board xs a) (on_board xs a) f
   stays xs a f same = record {
     underway = λ k u. u;
     like = λ k s u l. subst (AreLike m k xs a) (sym (same k.meaning s)) l;
@@ -82,7 +78,7 @@ module _ {B : Type 0} (after : B → WindowValue → ℕ → WindowValue) (m : M
   still_phase tile Finished d e h = sym (same_Some Done d e)
   still_phase tile Worn d e h = absurd (none-some d e)
 
-  rests_there : (xs : List (TileWith B)) (a : PlainBoardValue) (t : ℕ) (x : TileWith B) → slice_get xs t ≡ Some x → is_still x.core.phase ≡ true → Follows after m xs xs a a (λ meaning s. finish_tile m meaning t s)
+  rests_there : (xs : List (TileWith B)) (a : PlainBoardValue) (t : ℕ) (x : TileWith B) → slice_get xs t ≡ Some x → is_still x.core.phase ≡ true → Follows after m (on_board xs a) (on_board xs a) (rest_of t)
   rests_there xs a t x is h = record {
     underway = λ k u. u;
     like = λ k s u l. ⊎_elim
@@ -94,10 +90,10 @@ module _ {B : Type 0} (after : B → WindowValue → ℕ → WindowValue) (m : M
   }
 
   -- a tile that stands still is finished
-  pub rests : (xs : List (TileWith B)) (a : PlainBoardValue) (t : ℕ) → t < length xs → stands_still (slice_get xs t) ≡ true → Follows after m xs xs a a (λ meaning s. finish_tile m meaning t s)
+  pub rests : (xs : List (TileWith B)) (a : PlainBoardValue) (t : ℕ) → t < length xs → stands_still (slice_get xs t) ≡ true → Follows after m (on_board xs a) (on_board xs a) (rest_of t)
   rests xs a t lt h = go (slice_get xs t) refl h
     where
-      go : (o : Option (TileWith B)) → slice_get xs t ≡ o → stands_still o ≡ true → Follows after m xs xs a a (λ meaning s. finish_tile m meaning t s)
+      go : (o : Option (TileWith B)) → slice_get xs t ≡ o → stands_still o ≡ true → Follows after m (on_board xs a) (on_board xs a) (rest_of t)
       go None is q = absurd (none_inside xs t lt is)
       go (Some x) is q = rests_there xs a t x is q
 
@@ -124,7 +120,7 @@ module _ {B : Type 0} (after : B → WindowValue → ℕ → WindowValue) (m : M
     worn_stays w = ⊎_elim {C = AnyIsWorn (slice_set tiles t y)}
         (λ (e : w.0 ≡ t).
         let z : w.1 ≡ x = same_Some w.1 x (sym w.2 ∙ (ap (slice_get tiles) e ∙ is)) in
-        let worn : x.core.phase ≡ Worn = ap (λ (v : TileWith B). v.0.phase) (sym z) ∙ w.3 in
+        let worn : x.core.phase ≡ Worn = ap (λ (v : TileWith B). v.core.phase) (sym z) ∙ w.3 in
         (t, y, get_set_same tiles t y there, ap (λ (v : TileValue). v.phase) (rested (ap is_still worn)) ∙ worn))
         (λ ne. (w.0, w.1, get_set_other tiles t w.0 y ne ∙ w.2, w.3))
         (cases_eq w.0 t)
@@ -146,7 +142,7 @@ module _ {B : Type 0} (after : B → WindowValue → ℕ → WindowValue) (m : M
     }
 
     -- one step of one tile
-    pub one_step : Follows after m tiles (slice_set tiles t y) a c (λ meaning s. step m meaning t s)
+    pub one_step : Follows after m (on_board tiles a) (on_board (slice_set tiles t y) c) (step_of t)
     one_step = record {
       underway = λ g u. steps_on after m g tiles t x y b c (turned after m g tiles a b same u) is d;
       like = λ g s u l. ⊎_elim {C = AreLike m g (slice_set tiles t y) c (step m g.meaning t s)}
@@ -203,7 +199,7 @@ module _ {B : Type 0} (after : B → WindowValue → ℕ → WindowValue) (m : M
         before : IsUnderway (common m (after x.behave) (atoms_of g.start)) (attempts g.plan t) x.core (lists_on b)
         before =
             let k = (turned after m g tiles a b same u).each t x is in
-            subst (λ (p : (WindowValue → ℕ → WindowValue) × ℕ). IsUnderway (common m p.0 (atoms_of g.start)) (attempts g.plan t) x.core (lists_of_tile b p.1)) (λ i. (sym k.meaning i, sym d.acting i)) k.underway
+            subst (λ (p : (WindowValue → ℕ → WindowValue) × ℕ). IsUnderway (common m p.0 (atoms_of g.start)) (attempts g.plan t) x.core (lists_of_tile b p.1)) (λ i. (sym (u.meanings t x is) i, sym d.acting i)) k.underway
 
         falls : is_over x.core.phase ≡ false → 50 * length y.core.left + steps_in y.core y.core.phase < 50 * length x.core.left + steps_in x.core x.core.phase
         falls f =
@@ -230,17 +226,17 @@ module _ {B : Type 0} (after : B → WindowValue → ℕ → WindowValue) (m : M
         go Worn now e s = absurd (true≢false e)
 
   -- one of a list of steps more
-  pub more_steps : (xs ys zs : List (TileWith B)) (a b c : PlainBoardValue) (ts : List ℕ) (t : ℕ) → Follows after m xs ys a b (λ meaning s. steps m meaning ts s) → Follows after m ys zs b c (λ meaning s. step m meaning t s) → Follows after m xs zs a c (λ meaning s. steps m meaning (ts ++ t ∷ []) s)
-  more_steps xs ys zs a b c ts t p q = then_on xs ys zs a b c (λ meaning s. steps m meaning ts s) (λ meaning s. step m meaning t s) (λ meaning s. steps m meaning (ts ++ t ∷ []) s) (λ meaning s. steps_more m meaning ts t s) p q
+  pub more_steps : (xs ys zs : List (TileWith B)) (a b c : PlainBoardValue) (ts : List ℕ) (t : ℕ) → Follows after m (on_board xs a) (on_board ys b) (steps_by ts) → Follows after m (on_board ys b) (on_board zs c) (step_of t) → Follows after m (on_board xs a) (on_board zs c) (steps_by (ts ++ t ∷ []))
+  more_steps xs ys zs a b c ts t p q = then_on xs ys zs a b c (steps_by ts) (step_of t) (steps_by (ts ++ t ∷ [])) (λ meaning s. steps_more m meaning ts t s) p q
 
   -- what is left of finishing a tile, after one step of it
-  pub step_of_finish : (xs ys zs : List (TileWith B)) (a b c : PlainBoardValue) (t : ℕ) → Follows after m xs ys a b (λ meaning s. step m meaning t s) → Follows after m ys zs b c (λ meaning s. finish_tile m meaning t s) → Follows after m xs zs a c (λ meaning s. finish_tile m meaning t s)
-  step_of_finish xs ys zs a b c t p q = then_on xs ys zs a b c (λ meaning s. step m meaning t s) (λ meaning s. finish_tile m meaning t s) (λ meaning s. finish_tile m meaning t s) (λ meaning s. sym (finishing m meaning t s)) p q
+  pub step_of_finish : (xs ys zs : List (TileWith B)) (a b c : PlainBoardValue) (t : ℕ) → Follows after m (on_board xs a) (on_board ys b) (step_of t) → Follows after m (on_board ys b) (on_board zs c) (rest_of t) → Follows after m (on_board xs a) (on_board zs c) (rest_of t)
+  step_of_finish xs ys zs a b c t p q = then_on xs ys zs a b c (step_of t) (rest_of t) (rest_of t) (λ meaning s. sym (finishing m meaning t s)) p q
 
   -- one tile more is finished
-  pub more_finished : (xs ys zs : List (TileWith B)) (a b c : PlainBoardValue) (n : ℕ) → Follows after m xs ys a b (λ meaning s. finish m meaning (range_with_len 0 n) s) → Follows after m ys zs b c (λ meaning s. finish_tile m meaning n s)
-      → Follows after m xs zs a c (λ meaning s. finish m meaning (range_with_len 0 (n + 1)) s)
-  more_finished xs ys zs a b c n p q = then_on xs ys zs a b c (λ meaning s. finish m meaning (range_with_len 0 n) s) (λ meaning s. finish_tile m meaning n s) (λ meaning s. finish m meaning (range_with_len 0 (n + 1)) s) same p q
+  pub more_finished : (xs ys zs : List (TileWith B)) (a b c : PlainBoardValue) (n : ℕ) → Follows after m (on_board xs a) (on_board ys b) (rest_by (range_with_len 0 n)) → Follows after m (on_board ys b) (on_board zs c) (rest_of n)
+      → Follows after m (on_board xs a) (on_board zs c) (rest_by (range_with_len 0 (n + 1)))
+  more_finished xs ys zs a b c n p q = then_on xs ys zs a b c (rest_by (range_with_len 0 n)) (rest_of n) (rest_by (range_with_len 0 (n + 1))) same p q
     where
       same : (meaning : WindowValue → ℕ → WindowValue) (s : Machine) → finish m meaning (range_with_len 0 (n + 1)) s ≡ finish_tile m meaning n (finish m meaning (range_with_len 0 n) s)
       same meaning s = let e : n + 1 ≡ suc n = omega arith in let z : 0 + n ≡ n = omega arith in

@@ -28,7 +28,7 @@ use Rattle.border_cache.specs.Windows.{has, end_at}
 use Rattle.border_cache.proofs.Needs.{has_at}
 use Rattle.tile_core.specs.declared.phase.Phase.{Phase}
 use Rattle.tile_core.specs.declared.phase.Phase.TheVariants.{Draw, Lock, Refresh, Behave, Write, Give, Back, Finished, Worn}
-use Rattle.tile_core.specs.Values.{TileWith, TileValue, centre, atoms_of}
+use Rattle.tile_core.specs.Values.{tile_with, TileWith, TileValue, centre, atoms_of}
 use Rattle.tile_core.specs.Turns.{common, greatest, clock_in, one_if, lists_of}
 use Rattle.tile_core.specs.Underway.{tile_at, IsUnderway, InPhase}
 use Rattle.tile_core.specs.Steps.{rules_of, StepsIn, Begins, Draws, Tries, Refreshes, WearsOut, Renews, Behaves, Writes, Frees, Rests, begun, next_edge, refused, got, freed, noted, refreshed, event_entry, refused_entry}
@@ -38,7 +38,7 @@ use Rattle.tile_core.proofs.Refreshing.{open_held}
 use Rattle.tile_core.proofs.Clocking.{greatest_same}
 use Rattle.stepped_world.specs.Machine.{Hand, Doing, Drawing, Locking, Behaving, Writing, Giving, Backing, TileState, EdgeState, Machine, at, next_lock, next_give, next_back, does, is_held_by, record_of, entry_of, drawn, draw, lock, next_stamp, stamped, write, step_in, step}
 use Rattle.stepped_world.specs.Matching.{hand_in, doing_in, IsTileIn, who, IsEdgeIn, Matches}
-use Rattle.serial_order.specs.Scene.{Setting}
+use Rattle.serial_order.specs.Scene.{common_in, Setting}
 use Rattle.stepped_world.specs.Running.{IsTileOf, AreUnderway, AnyIsWorn}
 use Rattle.stepped_world.proofs.Boards.{Open, open_at, held_turns, free_more, lists_stay, far_stays}
 use Rattle.stepped_world.proofs.Finishing.{at_same, at_other}
@@ -49,7 +49,7 @@ use Rattle.stepped_world.proofs.Turning.{quiet, value_snoc, all_twice, all_none,
 
 module _ {B : Type 0} (after : B → WindowValue → ℕ → WindowValue) (m : MapValue) (g : Setting) (tiles : List (TileWith B)) (t : ℕ) (x y : TileWith B) (b c : PlainBoardValue) (u : AreUnderway after m g tiles b)
     (is : slice_get tiles t ≡ Some x) (a : Advances after m t x y b c) (s : Machine) (k : Matches m tiles b s) where
-  tile : IsTileOf after m g b t x
+  tile : IsTileOf m g b t x.core
   tile = u.each t x is
 
   mine : IsTileIn x.core (s.tile t)
@@ -58,8 +58,8 @@ module _ {B : Type 0} (after : B → WindowValue → ℕ → WindowValue) (m : M
   inside : t < tiles_of m
   inside = let lt = slice_get_within tiles t x is in let n = u.count in omega (arith, lt, n)
 
-  under : IsUnderway (common m g.meaning (atoms_of g.start)) (attempts g.plan t) x.core (lists_on b)
-  under = subst (λ n. IsUnderway (common m g.meaning (atoms_of g.start)) (attempts g.plan t) x.core (lists_of_tile b n)) (sym a.acting) tile.underway
+  under : IsUnderway (common_in m g) (attempts g.plan t) x.core (lists_on b)
+  under = subst (λ n. IsUnderway (common_in m g) (attempts g.plan t) x.core (lists_of_tile b n)) (sym a.acting) tile.underway
 
   kept : (e : ℕ) → e < length (pairs_of m) → IsKept (view_of (edge_at b e))
   kept e lt = (u.board_is.each e lt).kept
@@ -89,7 +89,7 @@ module _ {B : Type 0} (after : B → WindowValue → ℕ → WindowValue) (m : M
 
   -- the tiles with this one in its place are as this machine has them
   abbrev Aim : TileValue → Machine → Type 0
-  Aim w s' = Matches m (slice_set tiles t (w, y.behave)) c s'
+  Aim w s' = Matches m (slice_set tiles t (tile_with w y.behave)) c s'
 
   there : t < length tiles
   there = slice_get_within tiles t x is
@@ -106,11 +106,11 @@ module _ {B : Type 0} (after : B → WindowValue → ℕ → WindowValue) (m : M
       → ((v : ℕ) → v ≢ t → of_tile v s'.records ≡ of_tile v s.records) → ((v : ℕ) → v ≢ t → abandoned_by v s'.abandoned ≡ abandoned_by v s.abandoned)
       → ((e : ℕ) → e < length (pairs_of m) → IsEdgeIn m e (edge_at c e).holds (s'.edge e)) → Aim w s'
   goes_on w s' state tiles_are here records abandoned same_records same_abandoned edges = record {
-    tiles_are = set_each (λ v (z : TileWith B). IsTileIn z.core (s'.tile v)) tiles t (w, y.behave) there
+    tiles_are = set_each (λ v (z : TileWith B). IsTileIn z.core (s'.tile v)) tiles t (tile_with w y.behave) there
         (subst (IsTileIn w) (sym (ap (λ f. f t) tiles_are ∙ at_same s.tile t state)) here)
         (λ v z ne q. subst (IsTileIn z.core) (sym (ap (λ f. f v) tiles_are ∙ at_other s.tile t v state ne)) (k.tiles_are v z q));
-    records = set_each (λ v (z : TileWith B). z.core.records ≡ of_tile v s'.records) tiles t (w, y.behave) there records (λ v z ne q. k.records v z q ∙ sym (same_records v ne));
-    abandoned = set_each (λ v (z : TileWith B). z.core.abandoned ≡ abandoned_by v s'.abandoned) tiles t (w, y.behave) there abandoned (λ v z ne q. k.abandoned v z q ∙ sym (same_abandoned v ne));
+    records = set_each (λ v (z : TileWith B). z.core.records ≡ of_tile v s'.records) tiles t (tile_with w y.behave) there records (λ v z ne q. k.records v z q ∙ sym (same_records v ne));
+    abandoned = set_each (λ v (z : TileWith B). z.core.abandoned ≡ abandoned_by v s'.abandoned) tiles t (tile_with w y.behave) there abandoned (λ v z ne q. k.abandoned v z q ∙ sym (same_abandoned v ne));
     edges = edges;
   }
 
@@ -252,8 +252,8 @@ module _ {B : Type 0} (after : B → WindowValue → ℕ → WindowValue) (m : M
 
   -- Refresh
   module _ (now : x.core.phase ≡ Refresh) where
-    refreshing : InPhase (common m g.meaning (atoms_of g.start)) (attempts g.plan t) under.turns (tile_at x.core (lists_on b)) Refresh
-    refreshing = subst (InPhase (common m g.meaning (atoms_of g.start)) (attempts g.plan t) under.turns (tile_at x.core (lists_on b))) now under.hand
+    refreshing : InPhase (common_in m g) (attempts g.plan t) under.turns (tile_at x.core (lists_on b)) Refresh
+    refreshing = subst (InPhase (common_in m g) (attempts g.plan t) under.turns (tile_at x.core (lists_on b))) now under.hand
 
     held_there : (d : ℕ) → has d x.core.needs ≡ true → IsHeld (lists_on b d)
     held_there d h = open_held m x.core.number (length under.turns) under.turns x.core.needs (λ e. []) (lists_on b) under.needs.ends refreshing.1 d h
@@ -293,8 +293,8 @@ module _ {B : Type 0} (after : B → WindowValue → ℕ → WindowValue) (m : M
 
   -- Write
   module _ (now : x.core.phase ≡ Write) where
-    writing : InPhase (common m g.meaning (atoms_of g.start)) (attempts g.plan t) under.turns (tile_at x.core (lists_on b)) Write
-    writing = subst (InPhase (common m g.meaning (atoms_of g.start)) (attempts g.plan t) under.turns (tile_at x.core (lists_on b))) now under.hand
+    writing : InPhase (common_in m g) (attempts g.plan t) under.turns (tile_at x.core (lists_on b)) Write
+    writing = subst (InPhase (common_in m g) (attempts g.plan t) under.turns (tile_at x.core (lists_on b))) now under.hand
 
     held_here : (d : ℕ) → has d x.core.needs ≡ true → IsHeld (lists_on b d)
     held_here d h = open_held m x.core.number (length under.turns) under.turns x.core.needs writing.1.0 (lists_on b) under.needs.ends writing.1.1 d h
@@ -429,7 +429,7 @@ module _ {B : Type 0} (after : B → WindowValue → ℕ → WindowValue) (m : M
 
   -- a step on the board is the machine's, unless it wears the tile out
   pub step_like : Matches m (slice_set tiles t y) c (step m g.meaning t s) ⊎ AnyIsWorn (slice_set tiles t y)
-  step_like = go x.core.phase refl (subst (λ f. StepsIn (rules_of m f (end_on b)) (tile_at x.core (lists_on b)) (tile_at y.core (lists_on c)) x.core.phase) tile.meaning a.step)
+  step_like = go x.core.phase refl (subst (λ f. StepsIn (rules_of m f (end_on b)) (tile_at x.core (lists_on b)) (tile_at y.core (lists_on c)) x.core.phase) (u.meanings t x is) a.step)
     where
       go : (p : Phase) → x.core.phase ≡ p → StepsIn (rules_of m g.meaning (end_on b)) (tile_at x.core (lists_on b)) (tile_at y.core (lists_on c)) p → Matches m (slice_set tiles t y) c (step m g.meaning t s) ⊎ AnyIsWorn (slice_set tiles t y)
       go Draw now d = inl (subst (λ q. Aim y.core (step_in m g.meaning t s q)) (same_Some _ _ (doing_now Draw now)) (drew d.0 d.1))

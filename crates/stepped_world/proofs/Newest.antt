@@ -73,15 +73,15 @@ module _ {B : Type 0} (m : MapValue) (g : Setting) (tiles : List (TileWith B)) (
   abbrev c : Scene
   c = scene_of m (values_of tiles) (histories_on board) g
 
-  value_there : (t : ℕ) (x : TileWith B) → slice_get tiles t ≡ Some x → slice_get (values_of tiles) t ≡ Some x.0
-  value_there t x is = slice_get-map (λ (z : TileWith B). z.0) tiles t ∙ ap (option_map (λ (z : TileWith B). z.0)) is
+  value_there : (t : ℕ) (x : TileWith B) → slice_get tiles t ≡ Some x → slice_get (values_of tiles) t ≡ Some x.core
+  value_there t x is = slice_get-map (λ (z : TileWith B). z.core) tiles t ∙ ap (option_map (λ (z : TileWith B). z.core)) is
 
   mine : (t : ℕ) (r : Record) → r.tile ≡ t → (r.tile == t) ≡ true
   mine t r e = grind (arith, nat_tests, e)
 
   -- a tile's entries among the machine's are those of its turns
   same_records : (t : ℕ) (x : TileWith B) → slice_get tiles t ≡ Some x → of_tile t s.records ≡ records_in_turns (turns c o t)
-  same_records t x is = sym (k.matches.records t x is) ∙ (tile_told c o t x.0 (value_there t x is)).records
+  same_records t x is = sym (k.matches.records t x is) ∙ (tile_told c o t x.core (value_there t x is)).records
 
   owner_there : (n : Record) → In n s.records → n.tile < length tiles
   owner_there n i =
@@ -89,7 +89,7 @@ module _ {B : Type 0} (m : MapValue) (g : Setting) (tiles : List (TileWith B)) (
       let centre : IsCentre m n.tile (event_site n) = subst (λ (r : Record). IsCentre m r.tile (event_site r)) q.2 (k.sound.owned q.0 n q.1) in
       let lt = owner_inside m (laws c o) (event_site n) centre.live in
       let count : length (values_of tiles) ≡ tiles_of m = o.count in
-      let same : length (values_of tiles) ≡ length tiles = Rattle.std.proofs.lemmas.List.length-map tiles (λ (z : TileWith B). z.0) in
+      let same : length (values_of tiles) ≡ length tiles = Rattle.std.proofs.lemmas.List.length-map tiles (λ (z : TileWith B). z.core) in
       omega (arith, lt, centre.owned, count, same)
 
   entries : AreEntries (turns c o) s.records

@@ -5,7 +5,7 @@ use Rattle.std.proofs.lemmas.Option.{slice_get_within}
 use Rattle.window_sites.specs.Window.{WindowValue}
 use Rattle.tile_map.specs.Plane.{MapValue}
 use Rattle.draw_stream.specs.Plans.{attempts}
-use Rattle.edge_lock.specs.PlainBoard.{PlainBoardValue, registers_on, end_on, lists_on, lists_of_tile, Moved}
+use Rattle.edge_lock.specs.PlainBoard.{PlainBoardValue, acting_end, end_on, lists_on, lists_of_tile, Moved}
 use Rattle.border_cache.specs.Copies.{IsEndOf}
 use Rattle.tile_core.specs.Values.{TileWith, TileValue, atoms_of}
 use Rattle.tile_core.specs.Underway.{tile_at, IsUnderway, IsSome, GoesOn}
@@ -20,22 +20,22 @@ module _ {B : Type 0} (after : B → WindowValue → ℕ → WindowValue) (m : M
   now : AreUnderway after m g tiles b
   now = turned after m g tiles a b same u
 
-  tile : IsTileOf after m g b t x
+  tile : IsTileOf m g b t x.core
   tile = now.each t x is
 
   pub map_is : m ≡ x.core.cache.map
   map_is = sym tile.underway.map
 
-  pub end_is : IsEndOf x.core.cache.map x.core.number b.acting (registers_on b) (end_on b)
+  pub end_is : IsEndOf x.core.cache.map x.core.number (acting_end b)
   end_is =
       let lt = slice_get_within tiles t x is in let n = u.count in
-      subst (λ (p : MapValue × ℕ). IsEndOf p.0 p.1 b.acting (registers_on b) (end_on b)) (λ i. (map_is i, (acting ∙ sym tile.number) i)) (board_end m b now.board_is (omega (arith, lt, n, acting)))
+      subst (λ (p : MapValue × ℕ). IsEndOf p.0 p.1 (acting_end b)) (λ i. (map_is i, (acting ∙ sym tile.number) i)) (board_end m b now.board_is (omega (arith, lt, n, acting)))
 
   pub some_is : IsSome x.core.cache.map (after x.behave) x.core (lists_on b)
   some_is = (
     atoms_of g.start,
     attempts g.plan t,
-    subst (λ (p : MapValue × (WindowValue → ℕ → WindowValue) × ℕ). IsUnderway (common p.0 p.1 (atoms_of g.start)) (attempts g.plan t) x.core (lists_of_tile b p.2)) (λ i. (map_is i, sym tile.meaning i, sym acting i)) tile.underway,
+    subst (λ (p : MapValue × (WindowValue → ℕ → WindowValue) × ℕ). IsUnderway (common p.0 p.1 (atoms_of g.start)) (attempts g.plan t) x.core (lists_of_tile b p.2)) (λ i. (map_is i, sym (u.meanings t x is) i, sym acting i)) tile.underway,
   )
 
   pub advanced : (y : TileWith B) (c : PlainBoardValue) → StepsIn (rules_of x.core.cache.map (after x.behave) (end_on b)) (tile_at x.core (lists_on b)) (tile_at y.core (lists_on c)) x.core.phase → GoesOn x.core.cache.map (after x.behave) (tile_at x.core (lists_on b)) (tile_at y.core (lists_on c))

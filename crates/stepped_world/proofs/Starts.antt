@@ -18,7 +18,7 @@ use Rattle.tile_core.specs.Underway.{tile_at, IsUnderway, InPhase}
 use Rattle.tile_core.proofs.Boards.{board_new, fresh_there}
 use Rattle.stepped_world.specs.Machine.{Drawing, next_draw, first_machine}
 use Rattle.stepped_world.specs.Matching.{doing_in, who, Matches}
-use Rattle.serial_order.specs.Scene.{Setting}
+use Rattle.serial_order.specs.Scene.{common_in, Setting}
 use Rattle.stepped_world.specs.Running.{IsStart, AreUnderway, IsSound, IsLike}
 
 nothing_yet : (zs : List EdgeSize) (e : ℕ) → (get_or (map untouched_edge zs) e no_edge).holds ≡ []
@@ -62,9 +62,9 @@ module _ (m : MapValue) (meaning : WindowValue → ℕ → WindowValue) (start :
       go Back is h = absurd (giving u.turns _ tile.next (no_turns u.turns h.0) h.4)
 
 module _ {B : Type 0} (after : B → WindowValue → ℕ → WindowValue) (m : MapValue) (g : Setting) (tiles : List (TileWith B)) (board : PlainBoardValue) (s : IsStart after m g tiles board) where
-  there : (t : ℕ) (x : TileWith B) → slice_get tiles t ≡ Some x → IsUnderway (common m g.meaning (atoms_of g.start)) (attempts g.plan t) x.core (lists_of_tile board t)
+  there : (t : ℕ) (x : TileWith B) → slice_get tiles t ≡ Some x → IsUnderway (common_in m g) (attempts g.plan t) x.core (lists_of_tile board t)
   there t x is = let f = s.tiles_are.fresh t x is in
-      subst (λ n. IsUnderway (common m g.meaning (atoms_of g.start)) (attempts g.plan t) x.core (lists_of_tile board n)) f.number (fresh_there m board s.edges g.meaning t (atoms_of g.start) (attempts g.plan t) x.core f)
+      subst (λ n. IsUnderway (common_in m g) (attempts g.plan t) x.core (lists_of_tile board n)) f.number (fresh_there m board s.edges g.meaning t (atoms_of g.start) (attempts g.plan t) x.core f)
 
   pub first_underway : AreUnderway after m g tiles board
   first_underway = record {

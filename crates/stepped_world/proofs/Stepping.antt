@@ -12,7 +12,7 @@ use Rattle.tile_core.specs.Values.{TileWith, TileValue, atoms_of}
 use Rattle.tile_core.specs.Underway.{tile_at, IsUnderway, GoesOn}
 use Rattle.tile_core.specs.Steps.{rules_of, StepsIn}
 use Rattle.tile_core.proofs.Boards.{board_moved, board_turned, lists_turned, others_stay}
-use Rattle.serial_order.specs.Scene.{Setting}
+use Rattle.serial_order.specs.Scene.{common_in, Setting}
 use Rattle.stepped_world.specs.Running.{IsTileOf, AreUnderway}
 use Rattle.tile_core.specs.Turns.{common}
 use Rattle.stepped_world.proofs.Slots.{set_each}
@@ -33,37 +33,36 @@ module _ {B : Type 0} (after : B → WindowValue → ℕ → WindowValue) (m : M
     count = u.count;
     each = λ t x is. let k = u.each t x is in record {
       number = k.number;
-      meaning = k.meaning;
-      underway = subst (IsUnderway (common m g.meaning (atoms_of g.start)) (attempts g.plan t) x.core) (sym (lists_turned b c t same)) k.underway;
+      underway = subst (IsUnderway (common_in m g) (attempts g.plan t) x.core) (sym (lists_turned b c t same)) k.underway;
     };
+    meanings = u.meanings;
     board_is = board_turned m b c same u.board_is;
   }
 
   module _ (g : Setting) (tiles : List (TileWith B)) (t : ℕ) (x y : TileWith B) (b c : PlainBoardValue) (u : AreUnderway after m g tiles b) (is : slice_get tiles t ≡ Some x) (a : Advances t x y b c) where
     -- the tile is underway
-    here_on : IsTileOf after m g c t y
+    here_on : IsTileOf m g c t y.core
     here_on = let k = u.each t x is in record {
       number = a.number ∙ k.number;
-      meaning = a.meaning ∙ k.meaning;
       underway =
-          let on : GoesOn m g.meaning (tile_at x.core (lists_of_tile b t)) (tile_at y.core (lists_of_tile c t)) = subst (λ (p : (WindowValue → ℕ → WindowValue) × ℕ × ℕ). GoesOn m p.0 (tile_at x.core (lists_of_tile b p.1)) (tile_at y.core (lists_of_tile c p.2))) (λ i. (k.meaning i, a.acting i, (acting_stays b c a.moved ∙ a.acting) i)) a.on in
+          let on : GoesOn m g.meaning (tile_at x.core (lists_of_tile b t)) (tile_at y.core (lists_of_tile c t)) = subst (λ (p : (WindowValue → ℕ → WindowValue) × ℕ × ℕ). GoesOn m p.0 (tile_at x.core (lists_of_tile b p.1)) (tile_at y.core (lists_of_tile c p.2))) (λ i. (u.meanings t x is i, a.acting i, (acting_stays b c a.moved ∙ a.acting) i)) a.on in
           (on (atoms_of g.start) (attempts g.plan t) k.underway).0;
     }
 
     -- and so are the others
-    there_on : (v : ℕ) (z : TileWith B) → v ≢ t → slice_get tiles v ≡ Some z → IsTileOf after m g c v z
+    there_on : (v : ℕ) (z : TileWith B) → v ≢ t → slice_get tiles v ≡ Some z → IsTileOf m g c v z.core
     there_on v z ne at = let k = u.each v z at in record {
       number = k.number;
-      meaning = k.meaning;
       underway =
-          let before = subst (λ n. IsUnderway (common m g.meaning (atoms_of g.start)) (attempts g.plan v) z.core (lists_of_tile b n)) (sym k.number) k.underway in
+          let before = subst (λ n. IsUnderway (common_in m g) (attempts g.plan v) z.core (lists_of_tile b n)) (sym k.number) k.underway in
           let now = others_stay m g.meaning (atoms_of g.start) (attempts g.plan v) z.core b c u.board_is a.moved (λ q. ne (sym k.number ∙ (q ∙ a.acting))) before in
-          subst (λ n. IsUnderway (common m g.meaning (atoms_of g.start)) (attempts g.plan v) z.core (lists_of_tile c n)) k.number now.0;
+          subst (λ n. IsUnderway (common_in m g) (attempts g.plan v) z.core (lists_of_tile c n)) k.number now.0;
     }
 
     pub steps_on : AreUnderway after m g (slice_set tiles t y) c
     steps_on = record {
       count = length-set tiles t y ∙ u.count;
-      each = set_each (IsTileOf after m g c) tiles t y (slice_get_within tiles t x is) here_on there_on;
+      each = set_each (λ v (z : TileWith B). IsTileOf m g c v z.core) tiles t y (slice_get_within tiles t x is) here_on there_on;
+      meanings = set_each (λ v (z : TileWith B). after z.behave ≡ g.meaning) tiles t y (slice_get_within tiles t x is) (a.meaning ∙ u.meanings t x is) (λ v z ne at. u.meanings v z at);
       board_is = board_moved m b c a.moved u.board_is;
     }

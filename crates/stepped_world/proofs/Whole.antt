@@ -1,7 +1,6 @@
 -- A whole stepped run: the steps of the order, and then those of each tile until it is finished.
 use Rattle.std.proofs.Common.{◌≡◌, ◌<◌, ℕ, List, true, inl, ap, ◌∙◌}
 use Rattle.std.specs.Prelude.{slice_get}
-use Rattle.std.specs.List.{range_with_len}
 use Rattle.window_sites.specs.Window.{WindowValue}
 use Rattle.tile_map.specs.Plane.{MapValue, IsMap, tiles_of}
 use Rattle.edge_lock.specs.PlainBoard.{PlainBoardValue}
@@ -12,15 +11,19 @@ use Rattle.serial_order.specs.Scene.{Setting, IsOver}
 use Rattle.serial_order.specs.Words.{histories_on}
 use Rattle.serial_order.specs.Outcomes.{IsSettlement, scene_of, values_of}
 use Rattle.serial_order.specs.declared.outcome.Outcome.{Outcome}
-use Rattle.stepped_world.specs.Machine.{steps, finish, first_machine, stepped}
-use Rattle.stepped_world.specs.Running.{IsStart, AreUnderway, stands_still, Follows, IsLike}
+use Rattle.stepped_world.specs.Machine.{first_machine, stepped}
+use Rattle.stepped_world.specs.Running.{IsStart, AreUnderway, stands_still, on_board, Act, steps_by, rest_of_all, Follows, IsLike}
 use Rattle.stepped_world.specs.Ends.{HasRun, IsAsStepped, IsOutcome}
 use Rattle.stepped_world.proofs.Starts.{first_underway, first_like}
 use Rattle.stepped_world.proofs.Ended.{is_over, like_it, has_run}
 use Rattle.stepped_world.proofs.Newest.{newest_is, logs_are, replay_is}
 
+-- the steps of the order, and then those of all tiles until they are done
+abbrev pub steps_then_rest : List ℕ → Act
+steps_then_rest order m meaning s = rest_of_all m meaning (steps_by order m meaning s)
+
 module _ {B : Type 0} (after : B → WindowValue → ℕ → WindowValue) (m : MapValue) (valid : IsMap m) (old new : List (TileWith B)) (a b : PlainBoardValue) (order : List ℕ)
-    (follows : Follows after m old new a b (λ meaning s. finish m meaning (range_with_len 0 (tiles_of m)) (steps m meaning order s))) (still : (t : ℕ) → t < tiles_of m → stands_still (slice_get new t) ≡ true) (g : Setting) (s : IsStart after m g old a) where
+    (follows : Follows after m (on_board old a) (on_board new b) (steps_then_rest order)) (still : (t : ℕ) → t < tiles_of m → stands_still (slice_get new t) ≡ true) (g : Setting) (s : IsStart after m g old a) where
   under : AreUnderway after m g new b
   under = follows.underway g (first_underway after m g old a s)
 

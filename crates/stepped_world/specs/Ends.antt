@@ -1,5 +1,6 @@
 -- All tiles of a plane and their board once the stepped run is over.
-use Rattle.std.specs.Prelude.{ℕ, ◌≡◌, ◌<◌, List, length, map, All, slice_get, Some, None}
+use Rattle.std.specs.Prelude.{ℕ, ◌≡◌, ◌<◌, List, length, map, All, slice_get, Option, Some, None}
+use Rattle.std.specs.Iterator.{Drains}
 use Rattle.std.specs.List.{range_with_len}
 use Rattle.window_sites.specs.Window.{WindowValue}
 use Rattle.tile_map.specs.Plane.{MapValue, tiles_of}
@@ -9,31 +10,32 @@ use Rattle.draw_stream.specs.Plans.{PlanValue, attempts}
 use Rattle.edge_lock.specs.History.{open_hold}
 use Rattle.edge_lock.specs.PlainBoard.{PlainBoardValue, edge_at, lists_of_tile}
 use Rattle.tile_core.specs.declared.phase.Phase.TheVariants.{Finished}
-use Rattle.tile_core.specs.Values.{TileWith, TileValue, atoms_of}
-use Rattle.tile_core.specs.Turns.{common, HasPlayed}
+use Rattle.tile_core.specs.Values.{TileWith, TileValue}
+use Rattle.tile_core.specs.Turns.{HasPlayed}
 use Rattle.event_journal.specs.Logs.{LogValue, log_of, records_in, of_tile, abandoned_by}
-use Rattle.serial_order.specs.Scene.{Setting, EdgeHistory, IsOver, logs_of, registers_at}
+use Rattle.serial_order.specs.Scene.{Setting, common_in, EdgeHistory, IsOver, logs_of, registers_at}
 use Rattle.serial_order.specs.Settled.{IsSettled}
 use Rattle.serial_order.specs.Words.{AreEdgeWords, histories_on, counts_on}
 use Rattle.serial_order.specs.Outcomes.{IsMade, IsSettlement, scene_of, values_of}
 use Rattle.serial_order.specs.declared.outcome.Outcome.{Outcome}
 use Rattle.stepped_world.specs.Machine.{Done, Machine, stepped}
 use Rattle.stepped_world.specs.Matching.{Matches}
+use Rattle.stepped_world.specs.Running.{IsStart}
 use Rattle.tile_core.specs.Underway.{made_by}
 
--- a tile has played all its attempts of the plan, and keeps its number, its map and its meaning
-pub record HasFinished {B : Type 0} (after : B → WindowValue → ℕ → WindowValue) (m : MapValue) (g : Setting) (board : PlainBoardValue) (t : ℕ) (x : TileWith B) : Type 0 where
-  pub number : x.core.number ≡ t
-  pub map : x.core.cache.map ≡ m
-  pub meaning : after x.behave ≡ g.meaning
-  pub phase : x.core.phase ≡ Finished
-  pub played : HasPlayed (common m g.meaning (atoms_of g.start)) t (attempts g.plan t) (made_by x.core (lists_of_tile board t))
+-- tile t has played all its attempts of the plan, and keeps its number and its map
+pub record HasFinished (m : MapValue) (g : Setting) (board : PlainBoardValue) (t : ℕ) (tile : TileValue) : Type 0 where
+  pub number : tile.number ≡ t
+  pub map : tile.cache.map ≡ m
+  pub phase : tile.phase ≡ Finished
+  pub played : HasPlayed (common_in m g) t (attempts g.plan t) (made_by tile (lists_of_tile board t))
 
--- the run is over: each tile has played all its attempts, nobody has an edge, and everything holds
--- that the settling of the grid requires
+-- the run is over: each tile has played all its attempts and keeps its meaning, nobody has an edge, and everything holds that
+-- the settling of the grid requires
 pub record HasRun {B : Type 0} (after : B → WindowValue → ℕ → WindowValue) (m : MapValue) (g : Setting) (tiles : List (TileWith B)) (board : PlainBoardValue) : Type 0 where
   pub count : length tiles ≡ tiles_of m
-  pub finished : (t : ℕ) (x : TileWith B) → slice_get tiles t ≡ Some x → HasFinished after m g board t x
+  pub finished : (t : ℕ) (x : TileWith B) → slice_get tiles t ≡ Some x → HasFinished m g board t x.core
+  pub meanings : (t : ℕ) (x : TileWith B) → slice_get tiles t ≡ Some x → after x.behave ≡ g.meaning
   pub shut : (e : ℕ) → open_hold (edge_at board e).holds ≡ None
   pub made : All (λ (x : TileWith B). IsMade m x.core) tiles
   pub words : AreEdgeWords m (histories_on board) (counts_on board)
@@ -62,4 +64,13 @@ pub record IsOutcome (m : MapValue) (g : Setting) (order : List ℕ) (o : Outcom
 
 -- the machine finishes its tiles, whatever tiles are in the list
 abbrev pub ComesToItsEnd : Type 0
-ComesToItsEnd = (m : MapValue) (meaning : WindowValue → ℕ → WindowValue) (start : GridValue) (plan : PlanValue) (order : List ℕ) (t : ℕ) → t < tiles_of m → ((stepped m meaning start plan order).tile t).doing ≡ Done
+ComesToItsEnd = (m : MapValue) (meaning : WindowValue → ℕ → WindowValue) (start : GridValue) (plan : PlanValue) (order : List ℕ) (t : ℕ) → t < tiles_of m
+    → ((stepped m meaning start plan order).tile t).doing ≡ Done
+
+-- this holds of the list of numbers that an iterator gives
+abbrev pub DrainsTo : {S : Type 0} → (S → Option ℕ → S → Type 0) → S → (List ℕ → Type 0) → Type 0
+DrainsTo steps s P = (xs : List ℕ) × Drains steps s xs × P xs
+
+-- this holds in each setting in which these are fresh tiles and a fresh board
+abbrev pub FromStart : {B : Type 0} → (B → WindowValue → ℕ → WindowValue) → MapValue → List (TileWith B) → PlainBoardValue → (Setting → Type 0) → Type 0
+FromStart after m tiles board P = (g : Setting) → IsStart after m g tiles board → P g
