@@ -23,7 +23,7 @@ use Rattle.tile_core.specs.Underway.{tile_at, IsUnderway, InPhase, IsDrawn, is_r
 use Rattle.tile_core.specs.Boards.{IsBoardOf}
 use Rattle.tile_core.proofs.Boards.{end_known, edge_end}
 use Rattle.serial_order.specs.Scene.{EdgeHistory, no_history, history_at, end_lists_of, lists_at, HasEnded, IsStopped, Setting, IsOver}
-use Rattle.serial_order.specs.Words.{AreEdgeWords, plain_history, histories_on, counts_on}
+use Rattle.serial_order.specs.Words.{plain_words, AreEdgeWords, plain_history, histories_on, counts_on}
 use Rattle.serial_order.specs.Boards.{HasStopped, HaveStopped}
 use Rattle.serial_order.specs.Outcomes.{scene_of}
 
@@ -35,7 +35,7 @@ module _ (m : MapValue) (board : PlainBoardValue) (k : IsBoardOf m board) where
   known = length-map board.edges plain_history ∙ k.count
 
   -- the words of the board are those of its edges' histories
-  pub words : AreEdgeWords m (histories_on board) (counts_on board)
+  pub words : AreEdgeWords m (plain_words board)
   words = record {
     known = known;
     registers = λ e lt. (k.each e lt).registers;

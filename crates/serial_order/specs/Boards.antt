@@ -10,7 +10,7 @@ use Rattle.tile_core.specs.Values.{TileValue, atoms_of}
 use Rattle.tile_core.specs.Underway.{IsUnderway}
 use Rattle.tile_core.specs.Boards.{IsBoardOf}
 use Rattle.serial_order.specs.Scene.{Setting, common_in, IsOver}
-use Rattle.serial_order.specs.Words.{AreEdgeWords, counts_on, histories_on}
+use Rattle.serial_order.specs.Words.{plain_words, AreEdgeWords, counts_on, histories_on}
 use Rattle.serial_order.specs.Outcomes.{scene_of}
 use Rattle.tile_core.specs.Turns.{common}
 
@@ -34,4 +34,4 @@ pub record HaveStopped (m : MapValue) (g : Setting) (tiles : List TileValue) (bo
 
 -- tiles that have stopped on one board are over, and the board's words are those of its edges' histories
 abbrev pub StoppedRunsAreOver : Type 0
-StoppedRunsAreOver = (m : MapValue) (g : Setting) (tiles : List TileValue) (board : PlainBoardValue) → HaveStopped m g tiles board → IsOver (scene_of m tiles (histories_on board) g) × AreEdgeWords m (histories_on board) (counts_on board)
+StoppedRunsAreOver = (m : MapValue) (g : Setting) (tiles : List TileValue) (board : PlainBoardValue) → HaveStopped m g tiles board → IsOver (scene_of m tiles (histories_on board) g) × AreEdgeWords m (plain_words board)

@@ -39,10 +39,10 @@ fn settle_site<B: Behave, E: EdgeWords>(
     requires y { y < grid.old.height }
     requires grid { IsPlaneGrid map.now grid.old }
     requires tiles { AreTilesOf map.now (values_of tiles.now) }
-    requires words { AreEdgeWords map.now (E.histories words.old) (E.counts words.old) }
+    requires words { AreEdgeWords map.now (E.words words.old) }
     ensures change { ChangesSite map.now (site x y) grid.old grid.new }
-    ensures settled { IsSettledAt map.now (values_of tiles.now) (registers_at (E.histories words.old)) (site x y) grid.new }
-    ensures same { (E.histories words.new ≡ E.histories words.old) × (E.counts words.new ≡ E.counts words.old) }
+    ensures settled { IsSettledAt map.now (values_of tiles.now) (registers_at (E.words words.old).histories) (site x y) grid.new }
+    ensures same { E.words words.new ≡ E.words words.old }
 {
     map.laws();
     if !map.is_live(x, y) {
@@ -63,9 +63,9 @@ fn settle_sites<B: Behave, E: EdgeWords>(
 )
     requires grid { IsPlaneGrid map.now grid.old }
     requires tiles { AreTilesOf map.now (values_of tiles.now) }
-    requires words { AreEdgeWords map.now (E.histories words.old) (E.counts words.old) }
-    ensures grid { IsSettled map.now (values_of tiles.now) (registers_at (E.histories words.old)) grid.new }
-    ensures same { (E.histories words.new ≡ E.histories words.old) × (E.counts words.new ≡ E.counts words.old) }
+    requires words { AreEdgeWords map.now (E.words words.old) }
+    ensures grid { IsSettled map.now (values_of tiles.now) (registers_at (E.words words.old).histories) grid.new }
+    ensures same { E.words words.new ≡ E.words words.old }
 {
     map.laws();
     let width = grid.width();
@@ -103,10 +103,10 @@ pub fn settle<B: Behave + Drop, E: EdgeWords>(
     words: &mut E,
 ) -> Result<Outcome, NoMemory>
     requires made { All (λ t. IsMade map.now t.core) tiles.items }
-    requires words { AreEdgeWords map.now (E.histories words.old) (E.counts words.old) }
-    requires over { AreOver map.now (values_of tiles.items) (E.histories words.old) }
-    ensures settled { IfOk result (λ o. Settles map.now (values_of tiles.items) (E.histories words.old) o) }
-    ensures same { (E.histories words.new ≡ E.histories words.old) × (E.counts words.new ≡ E.counts words.old) }
+    requires words { AreEdgeWords map.now (E.words words.old) }
+    requires over { AreOver map.now (values_of tiles.items) (E.words words.old).histories }
+    ensures settled { IfOk result (λ o. Settles map.now (values_of tiles.items) (E.words words.old).histories o) }
+    ensures same { E.words words.new ≡ E.words words.old }
 {
     let mut grid = blank_grid(alloc, map)?;
     settle_sites(map, tiles.as_slice(), words, &mut grid);

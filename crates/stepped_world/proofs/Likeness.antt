@@ -36,7 +36,7 @@ use Rattle.tile_core.proofs.Boards.{end_known, edge_end}
 use Rattle.tile_core.proofs.Laws.{lock_lt, lock_free, give_lt, give_held, back_lt, back_held}
 use Rattle.tile_core.proofs.Refreshing.{open_held}
 use Rattle.tile_core.proofs.Clocking.{greatest_same}
-use Rattle.stepped_world.specs.Machine.{Hand, Doing, Drawing, Locking, Behaving, Writing, Giving, Backing, TileState, EdgeState, Machine, at, next_lock, next_give, next_back, does, is_held_by, record_of, entry_of, drawn, draw, lock, next_stamp, stamped, write, step_in, step}
+use Rattle.stepped_world.specs.Machine.{wanted, Hand, Doing, Drawing, Locking, Behaving, Writing, Giving, Backing, TileState, EdgeState, Machine, at, next_lock, next_give, next_back, does, is_held_by, record_of, entry_of, drawn, draw, lock, next_stamp, stamped, write, step_in, step}
 use Rattle.stepped_world.specs.Matching.{hand_in, doing_in, IsTileIn, who, IsEdgeIn, Matches}
 use Rattle.serial_order.specs.Scene.{common_in, Setting}
 use Rattle.stepped_world.specs.Running.{IsTileOf, AreUnderway, AnyIsWorn}
@@ -194,12 +194,12 @@ module _ {B : Type 0} (after : B → WindowValue → ℕ → WindowValue) (m : M
         let holds = free_more b c a.moved e (new_hold (end_on b e) (x.core.taken - 1) ∷ []) (lock_free m g.meaning (atoms_of g.start) (attempts g.plan t) x.core (lists_on b) under now) more in
         let state : EdgeState = record (s.edge e) { holder = Some (t, x.core.taken - 1) } in
         let here = got_edge m e (end_on b e) (x.core.taken - 1) t (edge_at b e).holds (edge_at c e).holds (s.edge e) holds (ap (λ n. if n == 0 then low_end m e else high_end m e) (mine_end e own_edge.1) ∙ own_tile m t e own_edge.0) (k.edges e own_edge.1) in
-        subst (λ o. Aim (got (nat_lt (x.core.next + 1) (length x.core.needs)) x.core) (lock t (hand_in x.core) had e rest o s)) none
+        subst (λ o. Aim (got (nat_lt (x.core.next + 1) (length x.core.needs)) x.core) (lock t (wanted (hand_in x.core) had e rest) o s)) none
         (got_by (nat_lt (x.core.next + 1) (length x.core.needs)) refl (one_edge l state lists here))
       where
-        got_by : (d : Bool) → nat_lt (x.core.next + 1) (length x.core.needs) ≡ d → ((d : ℕ) → d < length (pairs_of m) → IsEdgeIn m d (edge_at c d).holds (at s.edge e (record (s.edge e) { holder = Some (t, x.core.taken - 1) }) d)) → Aim (got d x.core) (lock t (hand_in x.core) had e rest None s)
-        got_by true q edges = alone (got true x.core) (lock t (hand_in x.core) had e rest None s) (next_lock (hand_in x.core) (had ++ e ∷ []) rest) refl refl refl (got_doing x.core now lt true q) refl refl refl refl refl edges
-        got_by false q edges = alone (got false x.core) (lock t (hand_in x.core) had e rest None s) (next_lock (hand_in x.core) (had ++ e ∷ []) rest) refl refl refl (got_doing x.core now lt false q) refl refl refl refl refl edges
+        got_by : (d : Bool) → nat_lt (x.core.next + 1) (length x.core.needs) ≡ d → ((d : ℕ) → d < length (pairs_of m) → IsEdgeIn m d (edge_at c d).holds (at s.edge e (record (s.edge e) { holder = Some (t, x.core.taken - 1) }) d)) → Aim (got d x.core) (lock t (wanted (hand_in x.core) had e rest) None s)
+        got_by true q edges = alone (got true x.core) (lock t (wanted (hand_in x.core) had e rest) None s) (next_lock (hand_in x.core) (had ++ e ∷ []) rest) refl refl refl (got_doing x.core now lt true q) refl refl refl refl refl edges
+        got_by false q edges = alone (got false x.core) (lock t (wanted (hand_in x.core) had e rest) None s) (next_lock (hand_in x.core) (had ++ e ∷ []) rest) refl refl refl (got_doing x.core now lt false q) refl refl refl refl refl edges
 
     busy_it : (j : ℕ) → lists_on c ≡ replace_at (lists_on b) e (after_try (end_on b e) (x.core.taken - 1) (Busy j) (lists_on b e)) → Aim (refused m x.core e j) (step_in m g.meaning t s (Locking (hand_in x.core) had e rest))
     busy_it j lists =
@@ -210,8 +210,8 @@ module _ {B : Type 0} (after : B → WindowValue → ℕ → WindowValue) (m : M
         let entry = entry_of t (hand_in x.core) e (other_end m t e, j) in
         let same : refused_entry m x.core e j ≡ entry = (λ i. record { tile = tile.number i; attempt = x.core.taken - 1; x = x.core.x; y = x.core.y; edge = e; holder = other_end m (tile.number i) e; holder_attempt = j }) in
         let back = next_back had (s.tile t).left in
-        subst (λ h. Aim (refused m x.core e j) (lock t (hand_in x.core) had e rest h s)) some
-        (goes_on (refused m x.core e j) (lock t (hand_in x.core) had e rest (Some (other_end m t e, j)) s) (record (s.tile t) { doing = back }) refl
+        subst (λ h. Aim (refused m x.core e j) (lock t (wanted (hand_in x.core) had e rest) h s)) some
+        (goes_on (refused m x.core e j) (lock t (wanted (hand_in x.core) had e rest) (Some (other_end m t e, j)) s) (record (s.tile t) { doing = back }) refl
         (record { doing = refused_doing (refused m x.core e j) x.core.next ∙ ap (λ z. Some (next_back had z)) mine.left; left = mine.left; taken = mine.taken; clock = mine.clock })
         (k.records t x is)
         ((λ i. k.abandoned t x is i ++ same i ∷ []) ∙ sym (filter_more (λ (q : Abandoned). q.tile == t) s.abandoned entry (same_tile t t refl)))

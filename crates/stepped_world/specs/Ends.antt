@@ -15,7 +15,7 @@ use Rattle.tile_core.specs.Turns.{HasPlayed}
 use Rattle.event_journal.specs.Logs.{LogValue, log_of, records_in, of_tile, abandoned_by}
 use Rattle.serial_order.specs.Scene.{Setting, common_in, EdgeHistory, IsOver, logs_of, registers_at}
 use Rattle.serial_order.specs.Settled.{IsSettled}
-use Rattle.serial_order.specs.Words.{AreEdgeWords, histories_on, counts_on}
+use Rattle.serial_order.specs.Words.{plain_words, AreEdgeWords, histories_on, counts_on}
 use Rattle.serial_order.specs.Outcomes.{IsMade, IsSettlement, scene_of, values_of}
 use Rattle.serial_order.specs.declared.outcome.Outcome.{Outcome}
 use Rattle.stepped_world.specs.Machine.{Done, Machine, stepped}
@@ -38,7 +38,7 @@ pub record HasRun {B : Type 0} (after : B → WindowValue → ℕ → WindowValu
   pub meanings : (t : ℕ) (x : TileWith B) → slice_get tiles t ≡ Some x → after x.behave ≡ g.meaning
   pub shut : (e : ℕ) → open_hold (edge_at board e).holds ≡ None
   pub made : All (λ (x : TileWith B). IsMade m x.core) tiles
-  pub words : AreEdgeWords m (histories_on board) (counts_on board)
+  pub words : AreEdgeWords m (plain_words board)
   pub over : IsOver (scene_of m (values_of tiles) (histories_on board) g)
 
 -- the logs of all tiles, as the machine has them

@@ -23,7 +23,7 @@ use Rattle.tile_core.specs.Values.{TileWith, TileValue, atoms_of}
 use Rattle.tile_core.specs.Turns.{common, AgreeOnEdges}
 use Rattle.tile_core.proofs.Boards.{end_known}
 use Rattle.serial_order.specs.Scene.{Setting, common_in, EdgeHistory, no_history, history_at, end_lists_of, lists_at, HasEnded}
-use Rattle.serial_order.specs.Words.{AreEdgeWords, closed_history, closed_histories, closed_counts, no_closed, closed_at}
+use Rattle.serial_order.specs.Words.{closed_words, AreEdgeWords, closed_history, closed_histories, closed_counts, no_closed, closed_at}
 use Rattle.serial_order.specs.Outcomes.{values_of}
 use Rattle.edge_lock.specs.Passes.{EdgeValue, PassValue}
 use Rattle.tile_threads.specs.Passes.{passes_of, IsClosedEdge, AreClosed}
@@ -40,7 +40,7 @@ module _ (m : MapValue) (lists : ℕ → ℕ → EndLists) (closed : List Closed
   edge_is : (e : ℕ) → e < length (pairs_of m) → IsClosedEdge m lists e (closed_at closed e)
   edge_is e lt = let known = k.known in k.each e (omega (arith, lt, known))
 
-  pub words_are : AreEdgeWords m (closed_histories closed) (closed_counts closed)
+  pub words_are : AreEdgeWords m (closed_words closed)
   words_are = record {
     known = known;
     registers = λ e lt. (edge_is e lt).registers;

@@ -1,5 +1,5 @@
 -- The edges of a plane and the passes of its tiles: as they are made, and as they are closed.
-use Rattle.std.specs.Prelude.{ℕ, ◌≡◌, ◌<◌, ◌≤◌, ◌+◌, true, List, [], ◌∷◌, length, map, filter, slice_index_or, slice_set, All, if◌then◌else◌}
+use Rattle.std.specs.Prelude.{ℕ, ◌≡◌, ◌<◌, ◌≤◌, ◌+◌, true, List, [], ◌∷◌, ◌++◌, length, map, filter, slice_index_or, slice_set, All, if◌then◌else◌}
 use Rattle.std.specs.List.{range_with_len}
 use Rattle.feast_base.specs.Edges.{registers_of}
 use Rattle.tile_map.specs.Plane.{MapValue, tiles_of}
@@ -21,6 +21,10 @@ edge_of edges e = slice_index_or edges e no_edge
 -- the passes of a tile
 abbrev pub passes_of : List (List PassValue) → ℕ → List PassValue
 passes_of all t = slice_index_or all t []
+
+-- tile t got one more pass, after its others
+abbrev pub one_pass_more : List (List PassValue) → ℕ → PassValue → List (List PassValue)
+one_pass_more all t pass = slice_set all t (passes_of all t ++ pass ∷ [])
 
 -- which edge, and which end of it, tile t's pass of edge e is of
 abbrev pub right_to : MapValue → List EdgeValue → ℕ → ℕ → EdgeAndEnd

@@ -12,7 +12,7 @@ use Rattle.tile_core.specs.Values.{TileWith, TileValue, atoms_of}
 use Rattle.tile_core.specs.Turns.{AgreeOnEdges}
 use Rattle.tile_core.specs.Underway.{IsSome}
 use Rattle.serial_order.specs.Scene.{Setting, common_in, IsOver, HasEnded}
-use Rattle.serial_order.specs.Words.{AreEdgeWords, closed_histories, closed_counts}
+use Rattle.serial_order.specs.Words.{closed_words, AreEdgeWords, closed_histories, closed_counts}
 use Rattle.serial_order.specs.Boards.{HasStopped}
 use Rattle.serial_order.specs.Outcomes.{IsMade, scene_of, values_of}
 use Rattle.tile_threads.specs.declared.worker.Worker.{Worker}
@@ -59,5 +59,5 @@ pub record HaveReturned {B : Type 0} (m : MapValue) (g : Setting) (edges : List 
 -- the run is over: everything holds that the settling of its grid and journal requires
 pub record HasRun {B : Type 0} (m : MapValue) (g : Setting) (tiles : List (TileWith B)) (closed : List ClosedValue) : Type 0 where
   pub made : All (λ (x : TileWith B). IsMade m x.core) tiles
-  pub words : AreEdgeWords m (closed_histories closed) (closed_counts closed)
+  pub words : AreEdgeWords m (closed_words closed)
   pub over : IsOver (scene_of m (values_of tiles) (closed_histories closed) g)

@@ -1,5 +1,5 @@
 -- The tiles of a plane before their first step, and what the run of a world starts from.
-use Rattle.std.specs.Prelude.{ℕ, ◌≡◌, ◌<◌, List, map, slice_get, Some}
+use Rattle.std.specs.Prelude.{ℕ, ◌≡◌, ◌<◌, List, All, map, slice_get, Some}
 use Rattle.window_sites.specs.Window.{WindowValue}
 use Rattle.cell_grid.specs.Grid.{GridValue}
 use Rattle.draw_stream.specs.Plans.{PlanValue, attempts}
@@ -7,7 +7,7 @@ use Rattle.serial_order.specs.Scene.{Setting}
 use Rattle.tile_core.specs.Underway.{CanAttempt, IsFreshTile}
 use Rattle.tile_core.specs.Values.{TileWith, TileValue, atoms_of}
 use Rattle.tile_map.specs.Plane.{MapValue, tiles_of}
-use Rattle.world_runs.specs.Start.{start_grid}
+use Rattle.world_runs.specs.Start.{start_of}
 use Rattle.world_text.specs.Named.{WorldValue}
 
 -- the plan's attempts of each tile are ones that it can make
@@ -21,4 +21,8 @@ pub record AreMade {B : Type 0} (m : MapValue) (start : GridValue) (plan : PlanV
 
 -- the start grid and the plan of a world, with what events do
 abbrev pub setting_of : WorldValue → (WindowValue → ℕ → WindowValue) → Setting
-setting_of w meaning = record { meaning = meaning; start = start_grid w.plane w.atoms; plan = w.plan }
+setting_of w meaning = record { meaning = meaning; start = start_of w; plan = w.plan }
+
+-- this holds of the meaning that all of these have
+abbrev pub OfTheMeaning : {B : Type 0} → (B → WindowValue → ℕ → WindowValue) → List B → ((WindowValue → ℕ → WindowValue) → Type 0) → Type 0
+OfTheMeaning after behaves P = (meaning : WindowValue → ℕ → WindowValue) → All (λ b. after b ≡ meaning) behaves → P meaning

@@ -31,7 +31,7 @@ pub returns-clause-change : goal.returns-clause-change
 returns-clause-change g c =
     let m = c.args.map.now in
     let tiles = values_of c.args.tiles.now in
-    let registers = registers_at (g.E.EdgeWords.histories c.args.words.now) in
+    let registers = registers_at (g.E.EdgeWords.words c.args.words.now).histories in
     let s = site c.args.x c.args.y in
     let x = c.index-tiles-owner.result in
     let owner = c.owner-owner.ensures.value in
@@ -46,7 +46,7 @@ pub returns-clause-settled : goal.returns-clause-settled
 returns-clause-settled g c =
     let m = c.args.map.now in
     let tiles = values_of c.args.tiles.now in
-    let registers = registers_at (g.E.EdgeWords.histories c.args.words.now) in
+    let registers = registers_at (g.E.EdgeWords.words c.args.words.now).histories in
     let s = site c.args.x c.args.y in
     let x = c.index-tiles-owner.result in
     let owner = c.owner-owner.ensures.value in
