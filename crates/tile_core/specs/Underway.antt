@@ -178,6 +178,10 @@ GoesOn m meaning old new = (start : Site → AtomValue) (attempts : List Attempt
 abbrev pub IsSome : MapValue → (WindowValue → ℕ → WindowValue) → TileValue → (ℕ → EndLists) → Type 0
 IsSome m meaning tile lists = (start : Site → AtomValue) × (attempts : List Attempt) × IsUnderway (common m meaning start) attempts tile lists
 
+-- in some way the tile is underway, whatever acts on its windows and whatever its ends' lists are
+abbrev pub IsMade : MapValue → TileValue → Type 0
+IsMade m tile = (meaning : WindowValue → ℕ → WindowValue) × (lists : ℕ → EndLists) × IsSome m meaning tile lists
+
 -- a tile that has only been made, for this start and these attempts
 pub record IsFreshTile (m : MapValue) (t : ℕ) (start : Site → AtomValue) (attempts : List Attempt) (tile : TileValue) : Type 0 where
   pub number : tile.number ≡ t
