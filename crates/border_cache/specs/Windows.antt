@@ -1,7 +1,6 @@
 -- The sites of a window among the shared sites of an edge, and what a refresh does over all needed edges.
 use Rattle.std.specs.Prelude.{ℕ, ◌≡◌, ◌<◌, ◌==◌, ◌&&◌, List, [], ◌∷◌, length, Option, Some, None, MatchOption, slice_index_or, position, is_some, Bool, true, false, if◌then◌else◌}
 use Rattle.edge_lock.specs.declared.history.Access.{Access}
-use Rattle.edge_lock.specs.declared.history.Access.TheVariants.{Read}
 use Rattle.border_cache.specs.Published.{IsPublish}
 use Rattle.edge_lock.specs.EndLists.{EndLists, known_value, IsHeld}
 use Rattle.feast_base.specs.Edges.{registers_of}
@@ -85,10 +84,6 @@ pub record PublishesAll (c : Centre) (edges : List ℕ) (cells : ℕ → CellVal
   pub more : ℕ → List Access
   pub adds : AddsAll lists lists' edges more
   pub writes : (e : ℕ) → has e edges ≡ true → IsPublish (border_at c.map c.tile c.site e) cells (more e)
-
--- one word was read, or written, on each of these edges
-abbrev pub Reads : ℕ → List Access → Type 0
-Reads register accesses = (value : ℕ) × (accesses ≡ Read register value ∷ [])
 
 -- whether site n of the window is live
 abbrev pub is_shown : MapValue → Site → ℕ → Bool
