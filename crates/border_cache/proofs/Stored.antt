@@ -19,7 +19,7 @@ use Rattle.border_cache.specs.Cells.{CellValue, cell_value, newest}
 use Rattle.border_cache.specs.News.{no_cell, cells_at}
 use Rattle.border_cache.specs.Published.{cell_at}
 use Rattle.border_cache.specs.Windows.{has, end_at, IsEdgeFor, RefreshesAll, PublishesAll, seen_on, centre_of}
-use Rattle.border_cache.specs.Copies.{CacheValue, cache_of, columns_of, rows_of, place_held, held_cell, cell_for, window_cells, Puts, PutsFor, HoldsWindow, IsCentre, IsEndOf, IsFirstCopy, IsFirstRectangle, Stores, Refreshed, copy_at, area}
+use Rattle.border_cache.specs.Copies.{CacheValue, cache_of, columns_of, rows_of, place_held, held_cell, cell_for, window_cells, Puts, PutsFor, HoldsWindow, IsCentre, IsEndOf, IsFirstCopy, IsFirstRectangle, Stores, Refreshed, copy_at, patch}
 use Rattle.border_cache.proofs.Apart.{sites_apart}
 use Rattle.border_cache.proofs.Needs.{adds_all_begins}
 use Rattle.edge_lock.specs.EndValues.{EndValue, SameEnd}
@@ -117,7 +117,7 @@ pub centre_row : (m : MapValue) (t : ℕ) (c : Site) → IsCentre m t c → c.y 
 centre_row m t c q = ltb-true c.y (m.ty * m.h) (both _ _ (live_plane m c q.live)).1
 
 -- the cells of the rectangle at the start
-pub first_copy : (m : MapValue) (t : ℕ) (g : GridValue) (cells : List CellValue) → IsFirstRectangle g (area (left_of m t) (top_of m t) (columns_of m t) (rows_of m t)) cells → IsFirstCopy m t g (cache_of m t cells)
+pub first_copy : (m : MapValue) (t : ℕ) (g : GridValue) (cells : List CellValue) → IsFirstRectangle g (patch (left_of m t) (top_of m t) (columns_of m t) (rows_of m t)) cells → IsFirstCopy m t g (cache_of m t cells)
 first_copy m t g cells r = record {
   map = refl;
   tile = refl;

@@ -12,7 +12,7 @@ use Rattle.edge_lock.specs.EndLists.{EndLists}
 use Rattle.edge_lock.specs.EndValues.{EndValue}
 use Rattle.border_cache.specs.Cells.{CellValue, cell_value, newest}
 use Rattle.border_cache.specs.News.{IsRefresh, no_cell}
-use Rattle.border_cache.specs.Windows.{has, Centre, centre_of, end_at, sites_on, border_at, AddsAll, seen_on, is_shown}
+use Rattle.border_cache.specs.Windows.{has, centre_of, end_at, sites_on, border_at, AddsAll, PublishesAll, seen_on, is_shown}
 
 -- a copy: the plane and the tile that it was made for, and a cell for each site of the rectangle that the tile reaches, row by row
 pub record CacheValue : Type 0 where
@@ -122,10 +122,6 @@ copy_at cache lists = record { cache = cache; lists = lists }
 abbrev pub at : CacheValue → EndValue → CopyAt
 at cache end = copy_at cache end.lists
 
--- a site as the centre of a window of the copy's tile
-abbrev pub centre_at : CacheValue → ℕ → ℕ → Centre
-centre_at v x y = centre_of v.map v.tile (site x y)
-
 -- a refresh of the window at c from these edges: each live site has the newest of its own cell and those that were seen
 pub record Refreshed (c : Site) (edges : List ℕ) (old new : CopyAt) : Type 0 where
   pub more : ℕ → List Access
@@ -133,25 +129,29 @@ pub record Refreshed (c : Site) (edges : List ℕ) (old new : CopyAt) : Type 0 w
   pub reads : (e : ℕ) → has e edges ≡ true → IsRefresh (border_at old.cache.map old.cache.tile c e) (more e)
   pub stores : Stores c (λ n. newest (window_cells old.cache c n) (seen_on old.cache.map old.cache.tile c more n edges)) old.cache new.cache
 
+-- a publishing of the copy's cells of the window at c on these edges
+abbrev pub Published : CacheValue → Site → List ℕ → EndValue → EndValue → Type 0
+Published v c edges old new = PublishesAll (centre_of v.map v.tile c) edges (window_cells v c) old.lists new.lists
+
 -- the live sites of the window at c have the atoms of an event's window and its stamp
 abbrev pub Marked : Site → WindowValue → ℕ → CacheValue → CacheValue → Type 0
 Marked c window stamp old new = Stores c (λ n. cell_value stamp (atom_at window n)) old new
 
 -- a rectangle of a grid
-pub record Area : Type 0 where
+pub record Patch : Type 0 where
   pub left : ℕ
   pub top : ℕ
   pub width : ℕ
   pub height : ℕ
 
-abbrev pub area : ℕ → ℕ → ℕ → ℕ → Area
-area left top width height = record { left = left; top = top; width = width; height = height }
+abbrev pub patch : ℕ → ℕ → ℕ → ℕ → Patch
+patch left top width height = record { left = left; top = top; width = width; height = height }
 
 -- the cell of place k of a rectangle of a grid
 abbrev pub first_cell : GridValue → ℕ → ℕ → ℕ → ℕ → CellValue
 first_cell g left top width k = cell_value 0 (site_atom g (left + k % width) (top + k / width))
 
 -- the cells of a rectangle of a grid, row by row, each with stamp 0
-pub record IsFirstRectangle (g : GridValue) (a : Area) (cells : List CellValue) : Type 0 where
-  pub count : length cells ≡ a.width * a.height
-  pub each : (k : ℕ) → k < a.width * a.height → slice_index_or cells k no_cell ≡ first_cell g a.left a.top a.width k
+pub record IsFirstRectangle (g : GridValue) (p : Patch) (cells : List CellValue) : Type 0 where
+  pub count : length cells ≡ p.width * p.height
+  pub each : (k : ℕ) → k < p.width * p.height → slice_index_or cells k no_cell ≡ first_cell g p.left p.top p.width k

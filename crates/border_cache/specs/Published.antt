@@ -1,5 +1,5 @@
 -- What a publishing does on one edge: it writes cells, and marks them as no news for the one end and as news for the other.
-use Rattle.std.specs.Prelude.{ℕ, ◌≡◌, ◌+◌, ◌*◌, ◌/◌, ◌%◌, ◌-◌, ◌<◌, ◌⊎◌, slice_index_or, Bool, true, false, List, [], ◌∷◌, Option, Some, None}
+use Rattle.std.specs.Prelude.{ℕ, ◌≡◌, ◌+◌, ◌*◌, ◌/◌, ◌%◌, ◌-◌, ◌<◌, ◌⊎◌, length, slice_index_or, Bool, true, false, List, [], ◌∷◌, Option, Some, None}
 use Rattle.std.specs.Int.{bit_at}
 use Rattle.list_laws.specs.Booleans.{digit}
 use Rattle.feast_base.specs.Edges.{news_register}
@@ -9,7 +9,7 @@ use Rattle.edge_lock.specs.History.{found_value}
 use Rattle.edge_lock.specs.EndLists.{last_shown}
 use Rattle.border_cache.specs.Accesses.{last_write, is_read, reads_nothing}
 use Rattle.border_cache.specs.Cells.{CellValue, cell_of}
-use Rattle.border_cache.specs.News.{Border, border, Covers, word_of, IsOfCell, no_cell}
+use Rattle.border_cache.specs.News.{Border, border, nth_place, Covers, word_of, IsOfCell, no_cell}
 
 -- the same edge, from its other end
 abbrev pub across : Border → Border
@@ -64,6 +64,11 @@ pub record ArePut (cells : ℕ → CellValue) (places : ℕ → Option ℕ) (n :
   pub done : (j k : ℕ) → j < n → places j ≡ Some k → LeavesCell accesses k (cells j)
   pub only : (register value : ℕ) → last_write accesses register None ≡ Some value → (k : ℕ) × Covers places n k × IsOfCell k register
 
+-- the listed cells, written at the listed places
+abbrev pub AreAllPut : List CellValue → List (Option ℕ) → List Access → Type 0
+AreAllPut cells places accesses = ArePut (cell_at cells) (nth_place places) (length places) accesses
+
+-- one cell is written, if there is a place
 abbrev pub IsCellPut : CellValue → Option ℕ → List Access → Type 0
 IsCellPut cell None accesses = accesses ≡ []
 IsCellPut cell (Some k) accesses = (low : ℕ) × (high : ℕ) × (accesses ≡ Write (1 + 2 * k) low ∷ Write (2 + 2 * k) high ∷ []) × (cell_of low high ≡ cell)

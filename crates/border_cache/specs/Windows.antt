@@ -1,12 +1,11 @@
 -- The sites of a window among the shared sites of an edge, and what a refresh does over all needed edges.
-use Rattle.std.specs.Prelude.{ℕ, ◌≡◌, ◌<◌, ◌==◌, ◌&&◌, List, [], ◌∷◌, length, Option, Some, None, slice_index_or, position, is_some, Bool, true, false, if◌then◌else◌}
+use Rattle.std.specs.Prelude.{ℕ, ◌≡◌, ◌<◌, ◌==◌, ◌&&◌, List, [], ◌∷◌, length, Option, Some, None, MatchOption, slice_index_or, position, is_some, Bool, true, false, if◌then◌else◌}
 use Rattle.edge_lock.specs.declared.history.Access.{Access}
-use Rattle.edge_lock.specs.declared.history.Access.TheVariants.{Read}
 use Rattle.border_cache.specs.Published.{IsPublish}
 use Rattle.edge_lock.specs.EndLists.{EndLists, known_value, IsHeld}
 use Rattle.feast_base.specs.Edges.{registers_of}
 use Rattle.window_sites.specs.Window.{WindowValue, IsWindow, atom_at, live_at}
-use Rattle.tile_map.specs.Plane.{Site, MapValue}
+use Rattle.tile_map.specs.Plane.{Site, MapValue, site}
 use Rattle.tile_map.specs.Edges.{shared_of, low_end, pairs_of, window_site}
 use Rattle.border_cache.specs.Cells.{CellValue, newest}
 use Rattle.border_cache.specs.Accesses.{IsHonest, after_all}
@@ -86,10 +85,6 @@ pub record PublishesAll (c : Centre) (edges : List ℕ) (cells : ℕ → CellVal
   pub adds : AddsAll lists lists' edges more
   pub writes : (e : ℕ) → has e edges ≡ true → IsPublish (border_at c.map c.tile c.site e) cells (more e)
 
--- one word was read, or written, on each of these edges
-abbrev pub Reads : ℕ → List Access → Type 0
-Reads register accesses = (value : ℕ) × (accesses ≡ Read register value ∷ [])
-
 -- whether site n of the window is live
 abbrev pub is_shown : MapValue → Site → ℕ → Bool
 is_shown m c n = is_some (window_site m c n)
@@ -97,6 +92,10 @@ is_shown m c n = is_some (window_site m c n)
 -- all sites of the window at c are live
 abbrev pub IsWhole : MapValue → Site → Type 0
 IsWhole m c = (n : ℕ) → n < 41 → is_shown m c n ≡ true
+
+-- the coordinates of the site, if there is one
+abbrev pub GivesSite : Option (ℕ × ℕ) → Option Site → Type 0
+GivesSite result s = MatchOption result (s ≡ None) (λ p. s ≡ Some (site p.0 p.1))
 
 -- a window that shows the atoms of these cells at its live sites
 pub record IsView (m : MapValue) (c : Site) (cells : ℕ → CellValue) (view : WindowValue) : Type 0 where

@@ -6,7 +6,7 @@ ghost use Rattle.edge_lock.specs.EndLists.{IsHeld};
 ghost use Rattle.edge_lock.specs.EndValues.{SameEnd};
 ghost use Rattle.border_cache.specs.Accesses.{AddsSome};
 ghost use Rattle.border_cache.specs.News.{listed, at, word_of, IsSiteRead, Refreshes, IsPlace, nth_place, ReadsSite, IsNewerAt};
-ghost use Rattle.border_cache.specs.Published.{IsWithBit, IsBitPut, IsMarked, ArePut, IsCellPut, IsPublish, ArePlaces, cell_at};
+ghost use Rattle.border_cache.specs.Published.{IsWithBit, IsBitPut, IsMarked, AreAllPut, IsCellPut, IsPublish, ArePlaces, cell_at};
 
 use crate::cell::Cell;
 use edge_lock::Board;
@@ -180,7 +180,7 @@ fn put_cells<D: Board>(board: &mut D, edge: u32, sites: u32, places: &[Option<u3
     requires places { (n : ℕ) → n < length places.now → IsPlace sites (nth_place places.now n) }
     requires apart { ArePlaces (nth_place places.now) (length places.now) }
     requires held { IsHeld ((D.end board.old).lists edge) }
-    ensures put { AddsSome edge (ArePut (cell_at cells.now) (nth_place places.now) (length places.now)) (D.end board.old) (D.end board.new) }
+    ensures put { AddsSome edge (AreAllPut cells.now places.now) (D.end board.old) (D.end board.new) }
     ensures same { SameEnd (D.end board.old) (D.end board.new) }
     ensures moved { D.moved board.old board.new }
 {

@@ -1,6 +1,6 @@
 -- What a tile did, attempt by attempt (the newest turn first), and what follows for the lists of
 -- its end of each edge.
-use Rattle.std.specs.Prelude.{ℕ, ◌≡◌, ◌≤◌, ◌<◌, ◌+◌, ◌-◌, ◌*◌, ◌/◌, ◌==◌, ◌⊎◌, max, if◌then◌else◌, List, [], ◌∷◌, ◌++◌, length, slice_get, Bool, true, false, Option, Some, None}
+use Rattle.std.specs.Prelude.{ℕ, ◌≡◌, ◌≤◌, ◌<◌, ◌+◌, ◌*◌, ◌/◌, ◌==◌, ◌⊎◌, max, if◌then◌else◌, List, [], ◌∷◌, ◌++◌, length, slice_get, Bool, true, false, Option, Some, None}
 use Rattle.list_laws.specs.Options.{or_zero}
 use Rattle.bit_field.specs.Atom.{AtomValue, empty_atom}
 use Rattle.window_sites.specs.Window.{WindowValue, atom_at}
@@ -175,10 +175,10 @@ pub record IsWon (c : Common) (t : ℕ) (past : List Turn) (w : Won) : Type 0 wh
   pub tile : w.note.tile ≡ t
   pub attempt : w.note.attempt ≡ length past
   pub centre : IsCentre c.map t (event_site w.note)
-  pub given : (e : ℕ) → has e (needs_of c.map t (event_site w.note)) ≡ true → IsGiven c.map t e (length past) (w.hold e)
-  pub holds : (e : ℕ) → has e (needs_of c.map t (event_site w.note)) ≡ true
+  pub given : (e : ℕ) → has e (turn_edges c.map t (Wins w)) ≡ true → IsGiven c.map t e (length past) (w.hold e)
+  pub holds : (e : ℕ) → has e (turn_edges c.map t (Wins w)) ≡ true
       → IsEventHold (border_at c.map t (event_site w.note) e) (cell_left c.map w) w.note.stamp (accesses_at w e)
-  pub stamp : w.note.stamp ≡ 1 + greatest (stamp_of past) (λ e. clock_in (accesses_at w e)) (needs_of c.map t (event_site w.note))
+  pub stamp : w.note.stamp ≡ 1 + greatest (stamp_of past) (λ e. clock_in (accesses_at w e)) (turn_edges c.map t (Wins w))
   pub small : w.note.stamp ≤ 4294967295
   pub view : WindowValue
   pub shows : IsView c.map (event_site w.note) (newest_at c.map t (cells_of c.map c.start past) (event_site w.note) (accesses_at w)) view
@@ -195,13 +195,13 @@ pub record IsLost (m : MapValue) (t : ℕ) (past : List Turn) (l : Lost) : Type 
   pub centre : IsCentre m t (given_up_site l.gone)
   pub needed : has l.gone.edge (needs_of m t (given_up_site l.gone)) ≡ true
   pub holder : l.gone.holder ≡ other_end m t l.gone.edge
-  pub given : (e : ℕ) → has e (before l.gone.edge (needs_of m t (given_up_site l.gone))) ≡ true → IsGiven m t e (length past) (l.hold e) × IsSilent (l.hold e)
+  pub given : (e : ℕ) → has e (turn_edges m t (Loses l)) ≡ true → IsGiven m t e (length past) (l.hold e) × IsSilent (l.hold e)
 
 -- an attempt found a clock that is too great, and wrote nothing
 pub record IsWorn (m : MapValue) (t : ℕ) (past : List Turn) (w : Worn) : Type 0 where
   pub centre : IsCentre m t w.site
-  pub holds : (e : ℕ) → has e (needs_of m t w.site) ≡ true → ((w.hold e).end ≡ end_at m t e) × ((w.hold e).attempt ≡ length past) × IsSilent (w.hold e) × Finds (w.hold e).accesses 0
-  pub high : 4294967295 ≤ greatest (stamp_of past) (λ e. clock_in (w.hold e).accesses) (needs_of m t w.site)
+  pub holds : (e : ℕ) → has e (turn_edges m t (Wears w)) ≡ true → ((w.hold e).end ≡ end_at m t e) × ((w.hold e).attempt ≡ length past) × IsSilent (w.hold e) × Finds (w.hold e).accesses 0
+  pub high : 4294967295 ≤ greatest (stamp_of past) (λ e. clock_in (w.hold e).accesses) (turn_edges m t (Wears w))
 
 -- the attempt became this, after those of the past
 abbrev pub IsTurn : Common → ℕ → List Turn → Turn → Type 0

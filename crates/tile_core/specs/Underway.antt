@@ -29,8 +29,8 @@ tile_at tile lists = record { tile = tile; lists = lists }
 
 -- the attempt in hand has these edges, with these accesses so far
 abbrev pub HasOpen : MapValue → List Turn → TileAt → List ℕ → (ℕ → List Access) → Type 0
-HasOpen m turns at edges accesses =
-    AgreeOnEdges m at.tile.number at.lists (λ e. with_more (one_if (has e edges) (hold_of (end_at m at.tile.number e) (length turns) (accesses e) true)) [] (lists_of m at.tile.number turns e))
+HasOpen m turns now edges accesses =
+    AgreeOnEdges m now.tile.number now.lists (λ e. with_more (one_if (has e edges) (hold_of (end_at m now.tile.number e) (length turns) (accesses e) true)) [] (lists_of m now.tile.number turns e))
 
 abbrev pub no_access : ℕ → List Access
 no_access e = []
@@ -73,15 +73,15 @@ pub record IsRun (c : Common) (turns : List Turn) (tile : TileValue) (accesses :
   pub acts : (n : ℕ) (s : Site) → n < 41 → window_site c.map (centre tile) n ≡ Some s → after s ≡ atom_at (c.meaning view tile.seed) n
   pub left : (n : ℕ) (s : Site) → n < 41 → window_site c.map (centre tile) n ≡ Some s → after s ≡ atom_at tile.window n
 
--- the holds of the last turn that are still open
+-- whether the last turn still has its hold on the edge
 abbrev pub still : List ℕ → ℕ → ℕ → Bool
 still edges next e = has e edges && not (has e (take next edges))
 
 -- the holds of the last turn, on these edges, were given back on all that come before the tile's next one
 abbrev pub IsGiving : MapValue → List Turn → TileAt → List ℕ → Type 0
-IsGiving m [] at edges = ⊥
-IsGiving m (x ∷ older) at edges =
-    (edges ≡ turn_edges m at.tile.number x) × AgreeOnEdges m at.tile.number at.lists (lists_left m at.tile.number (still edges at.tile.next) x older)
+IsGiving m [] now edges = ⊥
+IsGiving m (x ∷ older) now edges =
+    (edges ≡ turn_edges m now.tile.number x) × AgreeOnEdges m now.tile.number now.lists (lists_left m now.tile.number (still edges now.tile.next) x older)
 
 -- the last turn is an abandoned attempt
 abbrev pub IsBack : List Turn → Type 0
@@ -95,29 +95,41 @@ abbrev pub AreTurnsOver : MapValue → ℕ → List Turn → (ℕ → EndLists) 
 AreTurnsOver m t turns lists = AgreeOnEdges m t lists (lists_of m t turns)
 
 -- what is known at each phase, of a tile with these attempts, after these turns
-module _ (c : Common) (attempts : List Attempt) (turns : List Turn) (at : TileAt) where
+module _ (c : Common) (attempts : List Attempt) (turns : List Turn) (now : TileAt) where
   -- each attempt that was drawn is one of the turns
   abbrev pub AllAreTurns : Type 0
-  AllAreTurns = at.tile.taken ≡ length turns
+  AllAreTurns = now.tile.taken ≡ length turns
+
+  -- all holds of the turns were given back, and no other hold is there
+  abbrev pub NoneIsOpen : Type 0
+  NoneIsOpen = AreTurnsOver c.map now.tile.number turns now.lists
 
   -- one attempt more was drawn, and it is in hand
   abbrev pub IsInHand : Type 0
-  IsInHand = IsDrawn c.map attempts turns at.tile
+  IsInHand = IsDrawn c.map attempts turns now.tile
+
+  -- the attempt in hand has these edges, and has read and written nothing there
+  abbrev pub HasGot : List ℕ → Type 0
+  HasGot edges = HasOpen c.map turns now edges no_access
 
   -- the attempt in hand has all its edges, and P is true of what it has read and written there
   abbrev pub Holding : ((ℕ → List Access) → Type 0) → Type 0
-  Holding P = (accesses : ℕ → List Access) × HasOpen c.map turns at at.tile.needs accesses × P accesses
+  Holding P = (accesses : ℕ → List Access) × HasOpen c.map turns now now.tile.needs accesses × P accesses
+
+  -- the last turn had these edges, and gives them back one by one
+  abbrev pub GivesBack : List ℕ → Type 0
+  GivesBack edges = IsGiving c.map turns now edges
 
   abbrev pub InPhase : Phase → Type 0
-  InPhase Draw = AllAreTurns × (0 < length at.tile.left) × AreTurnsOver c.map at.tile.number turns at.lists
-  InPhase Finished = AllAreTurns × (at.tile.left ≡ []) × AreTurnsOver c.map at.tile.number turns at.lists
-  InPhase Lock = IsInHand × (at.tile.next < length at.tile.needs) × HasOpen c.map turns at (take at.tile.next at.tile.needs) no_access
-  InPhase Refresh = IsInHand × HasOpen c.map turns at at.tile.needs no_access
-  InPhase Behave = IsInHand × Holding (λ a. IsRead c.map at.tile a × IsUpToDate c turns at.tile a)
-  InPhase Write = IsInHand × Holding (λ a. IsRead c.map at.tile a × IsRun c turns at.tile a)
-  InPhase Give = AllAreTurns × (at.tile.next < length at.tile.needs) × IsGiving c.map turns at at.tile.needs
-  InPhase Back = AllAreTurns × (at.tile.next < at.tile.count) × (at.tile.count ≤ length at.tile.needs) × IsBack turns × IsGiving c.map turns at (take at.tile.count at.tile.needs)
-  InPhase Worn = IsInHand × Holding (λ a. IsSpent turns at.tile a)
+  InPhase Draw = AllAreTurns × (0 < length now.tile.left) × NoneIsOpen
+  InPhase Finished = AllAreTurns × (now.tile.left ≡ []) × NoneIsOpen
+  InPhase Lock = IsInHand × (now.tile.next < length now.tile.needs) × HasGot (take now.tile.next now.tile.needs)
+  InPhase Refresh = IsInHand × HasGot now.tile.needs
+  InPhase Behave = IsInHand × Holding (λ a. IsRead c.map now.tile a × IsUpToDate c turns now.tile a)
+  InPhase Write = IsInHand × Holding (λ a. IsRead c.map now.tile a × IsRun c turns now.tile a)
+  InPhase Give = AllAreTurns × (now.tile.next < length now.tile.needs) × GivesBack now.tile.needs
+  InPhase Back = AllAreTurns × (now.tile.next < now.tile.count) × (now.tile.count ≤ length now.tile.needs) × IsBack turns × GivesBack (take now.tile.count now.tile.needs)
+  InPhase Worn = IsInHand × Holding (λ a. IsSpent turns now.tile a)
 
 -- whether the window of the attempt in hand was refreshed, and its event is not yet written
 abbrev pub is_refreshed : Phase → Bool
@@ -168,7 +180,7 @@ Grows old new = (new ≡ old) ⊎ ((x : Turn) × (new ≡ x ∷ old))
 
 -- the tile is underway, after these turns or one more
 abbrev pub Onward : Common → List Attempt → List Turn → TileAt → Type 0
-Onward c attempts turns at = (v : IsUnderway c attempts at.tile at.lists) × Grows turns v.turns
+Onward c attempts turns now = (v : IsUnderway c attempts now.tile now.lists) × Grows turns v.turns
 
 -- from whatever start and attempts it was underway, it still is, with at most one turn more
 abbrev pub GoesOn : MapValue → (WindowValue → ℕ → WindowValue) → TileAt → TileAt → Type 0
@@ -177,6 +189,10 @@ GoesOn m meaning old new = (start : Site → AtomValue) (attempts : List Attempt
 -- in some way the tile is underway
 abbrev pub IsSome : MapValue → (WindowValue → ℕ → WindowValue) → TileValue → (ℕ → EndLists) → Type 0
 IsSome m meaning tile lists = (start : Site → AtomValue) × (attempts : List Attempt) × IsUnderway (common m meaning start) attempts tile lists
+
+-- in some way the tile is underway, whatever acts on its windows and whatever its ends' lists are
+abbrev pub IsMade : MapValue → TileValue → Type 0
+IsMade m tile = (meaning : WindowValue → ℕ → WindowValue) × (lists : ℕ → EndLists) × IsSome m meaning tile lists
 
 -- a tile that has only been made, for this start and these attempts
 pub record IsFreshTile (m : MapValue) (t : ℕ) (start : Site → AtomValue) (attempts : List Attempt) (tile : TileValue) : Type 0 where

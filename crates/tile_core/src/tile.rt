@@ -1,14 +1,11 @@
 //! One tile of the plane.
-ghost use Rattle.std.specs.Prelude.{◌≡◌, ◌+◌, ℕ, true, IfOk};
-ghost use Rattle.window_sites.specs.Window.{WindowValue};
+ghost use Rattle.std.specs.Prelude.{◌≡◌, ◌+◌, IsTrue, IfOk};
 ghost use Rattle.event_journal.specs.Logs.{log_of};
-ghost use Rattle.tile_map.specs.Plane.{tiles_of};
-ghost use Rattle.edge_lock.specs.EndLists.{EndLists};
 ghost use Rattle.edge_lock.specs.EndValues.{SameEnd};
 ghost use Rattle.border_cache.specs.Copies.{IsGridOf, IsEndOf};
 ghost use Rattle.tile_core.specs.declared.phase.Phase.TheVariants.{Draw, Worn};
 ghost use Rattle.tile_core.specs.Values.{atoms_of, in_hand_at};
-ghost use Rattle.tile_core.specs.Underway.{CanAttempt, IsFreshTile, IsSome, KeepsOn, KeepsFar, IsPlayedAt, IsPlayedAll};
+ghost use Rattle.tile_core.specs.Underway.{CanAttempt, IsFreshTile, IsSome, IsMade, KeepsOn, KeepsFar, IsPlayedAt, IsPlayedAll};
 ghost use Rattle.tile_core.specs.Steps.{Steps, is_over};
 
 use crate::phase::Phase;
@@ -78,7 +75,7 @@ impl<B: Behave> Tile<B> {
         requires underway { IsSome self.old.core.cache.map (B.after self.old.behave) self.old.core (D.end board.old).lists }
         ensures far { KeepsFar (B.after self.old.behave) self.old.core (D.end board.old) self.new.core (D.end board.new) }
         ensures taken { self.new.core.taken ≡ self.old.core.taken + 1 }
-        ensures over { is_over result ≡ true }
+        ensures over { IsTrue (is_over result) }
         ensures phase { result ≡ self.new.core.phase }
         ensures number { self.new.core.number ≡ self.old.core.number }
         ensures map { self.new.core.cache.map ≡ self.old.core.cache.map }
@@ -182,7 +179,7 @@ impl<B: Behave + Drop> Tile<B> {
     /// The tile's events and abandoned attempts. What the lists of its end of each edge have is
     /// what its steps have made; of which board they are does not matter here.
     pub fn into_log(self) -> TileLog
-        requires { (meaning : WindowValue → ℕ → WindowValue) × (lists : ℕ → EndLists) × IsSome self.core.cache.map meaning self.core lists }
+        requires { IsMade self.core.cache.map self.core }
         ensures { result ≡ log_of self.core.number self.core.records self.core.abandoned }
     {
         let Tile { state, behave: _ } = self;

@@ -1,4 +1,4 @@
-use Rattle.std.proofs.Common.{rules, [], ◌++◌, refl, ◌∙◌, subst}
+use Rattle.std.proofs.Common.{rules, [], ◌++◌, subst}
 use Rattle.edge_lock.specs.EndLists.{known_value}
 use Rattle.border_cache.specs.Accesses.{IsHonest}
 use Rattle.border_cache.specs.News.{nth_place}

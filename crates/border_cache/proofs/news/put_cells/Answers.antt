@@ -1,4 +1,4 @@
-use Rattle.std.proofs.Common.{rules, arith, [], ◌++◌, refl, ◌∙◌, subst}
+use Rattle.std.proofs.Common.{rules, arith, [], ◌++◌, subst}
 use Rattle.std.proofs.lemmas.List.{get_or_read}
 use Rattle.border_cache.specs.News.{nth_place, no_cell}
 use Rattle.border_cache.specs.Published.{cell_at, IsCellPut}

@@ -1,4 +1,4 @@
-use Rattle.std.proofs.Common.{◌≡◌, List}
+use Rattle.std.proofs.Common.{List}
 use Rattle.edge_lock.specs.declared.history.Access.{Access}
 use Rattle.border_cache.specs.Accesses.{Adds}
 use Rattle.border_cache.specs.News.{nth_place}

@@ -1,4 +1,4 @@
-use Rattle.std.proofs.Common.{rules, arith, ◌<◌, length, refl, ◌∙◌}
+use Rattle.std.proofs.Common.{rules, arith, ◌<◌, length}
 use Rattle.border_cache.specs.News.{nth_place}
 use Rattle.border_cache.proofs.Runs.{held_adds}
 use Rattle.border_cache.proofs.Refreshes.{refreshes_more, refreshes_begin}

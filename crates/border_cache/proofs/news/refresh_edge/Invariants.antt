@@ -1,4 +1,3 @@
-use Rattle.std.proofs.Common.{◌≡◌}
 use Rattle.border_cache.specs.News.{Refreshes, nth_place, border, cells_at}
 use Rattle.edge_lock.specs.EndValues.{SameEnd}
 use Rattle.border_cache.proofs.news.refresh_edge.Given as goal

@@ -1,4 +1,4 @@
-use Rattle.std.proofs.Common.{rules, arith, refl, sym, ◌∙◌, subst}
+use Rattle.std.proofs.Common.{rules, arith, sym, subst}
 use Rattle.edge_lock.specs.EndLists.{IsHeld}
 use Rattle.tile_map.specs.Plane.{site}
 use Rattle.border_cache.specs.Windows.{IsEdgeFor}

@@ -1,4 +1,4 @@
-use Rattle.std.proofs.Common.{rules, arith, ◌<◌, ◌+◌, take, refl, sym, ◌∙◌, subst}
+use Rattle.std.proofs.Common.{rules, arith, ◌<◌, ◌+◌, take, sym, subst}
 use Rattle.edge_lock.specs.EndLists.{IsHeld}
 use Rattle.border_cache.proofs.Runs.{held_all, adds_read}
 use Rattle.border_cache.proofs.Needs.{rises}

@@ -1,4 +1,4 @@
-use Rattle.std.proofs.Common.{◌≡◌, take}
+use Rattle.std.proofs.Common.{take}
 use Rattle.tile_core.specs.Clocks.{WritesClocks}
 use Rattle.edge_lock.specs.EndValues.{SameEnd}
 use Rattle.tile_core.proofs.clocks.write_clocks.Given as goal

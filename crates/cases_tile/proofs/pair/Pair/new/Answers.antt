@@ -6,7 +6,7 @@ pub returns : goal.returns
 returns c =
     let m = c.in_ok-map.map in
     let b = c.in_ok-plain.plain in
-    let made = c.in_ok-plain.ensures.made.1 in
+    let made = c.in_ok-plain.ensures.edges in
     let x = c.in_ok-left.ensures in
     let y = c.in_ok-right.ensures in
     record {
