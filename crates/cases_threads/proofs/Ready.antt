@@ -3,7 +3,7 @@ use Rattle.std.proofs.Common.{ℕ, ◌≡◌, List, length}
 use Rattle.window_sites.specs.Window.{WindowValue}
 use Rattle.tile_map.specs.Plane.{MapValue, tiles_of}
 use Rattle.draw_stream.specs.Plans.{IsPlan}
-use Rattle.tile_core.specs.Values.{TileWith, TileValue}
+use Rattle.tile_core.specs.Values.{TileWith}
 use Rattle.serial_order.specs.Fresh.{AreFresh}
 use Rattle.serial_order.specs.Outcomes.{IsPlaneGrid}
 use Rattle.cases_order.specs.Driven.{AreMade}

@@ -1,6 +1,6 @@
 -- Tiles that have stopped on one plain board are over.
 use Rattle.std.proofs.Common.{ℕ, suc, ◌≡◌, ◌<◌, ◌≤◌, List, [], ◌∷◌, true, length, take, drop, refl, sym, ap, subst, ◌∙◌, arith, inl, ⊎_elim}
-use Rattle.std.specs.Prelude.{min, if◌then◌else◌}
+use Rattle.std.specs.Prelude.{slice_get, min, if◌then◌else◌}
 use Rattle.std.proofs.lemmas.List.{append-nil, length-map, length-take, get_or-map, take-append-drop}
 use Rattle.std.proofs.lemmas.Option.{slice_get_within}
 use Rattle.list_laws.proofs.Slots.{get_take, drop_none}
@@ -23,7 +23,7 @@ use Rattle.tile_core.specs.Underway.{tile_at, IsUnderway, InPhase, IsDrawn, is_r
 use Rattle.tile_core.specs.Boards.{IsBoardOf}
 use Rattle.tile_core.proofs.Boards.{end_known, edge_end}
 use Rattle.serial_order.specs.Scene.{EdgeHistory, no_history, history_at, end_lists_of, lists_at, HasEnded, IsStopped, Setting, IsOver}
-use Rattle.serial_order.specs.Words.{plain_words, AreEdgeWords, plain_history, histories_on, counts_on}
+use Rattle.serial_order.specs.Words.{plain_words, AreEdgeWords, plain_history, histories_on}
 use Rattle.serial_order.specs.Boards.{HasStopped, HaveStopped}
 use Rattle.serial_order.specs.Outcomes.{scene_of}
 

@@ -11,7 +11,7 @@ use Rattle.edge_lock.specs.History.{trace}
 use Rattle.edge_lock.proofs.SharedHolds.{allowed_value}
 use Rattle.border_cache.specs.Cells.{CellValue, newer, newest}
 use Rattle.border_cache.specs.Windows.{and_cell, edge_place, sites_on}
-use Rattle.serial_order.specs.Scene.{EdgeHistory, history_at, registers_at}
+use Rattle.serial_order.specs.Scene.{history_at, registers_at}
 use Rattle.serial_order.specs.Settled.{cell_in_registers, edge_cells}
 use Rattle.serial_order.specs.Words.{WordsValue, AreEdgeWords, newer_on}
 

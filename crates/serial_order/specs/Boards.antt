@@ -6,13 +6,12 @@ use Rattle.draw_stream.specs.Plans.{IsPlan, attempts}
 use Rattle.edge_lock.specs.PlainBoard.{PlainBoardValue, lists_of_tile}
 use Rattle.border_cache.specs.Copies.{IsGridOf}
 use Rattle.tile_core.specs.declared.phase.Phase.TheVariants.{Finished, Worn}
-use Rattle.tile_core.specs.Values.{TileValue, atoms_of}
+use Rattle.tile_core.specs.Values.{TileValue}
 use Rattle.tile_core.specs.Underway.{IsUnderway}
 use Rattle.tile_core.specs.Boards.{IsBoardOf}
 use Rattle.serial_order.specs.Scene.{Setting, common_in, IsOver}
-use Rattle.serial_order.specs.Words.{plain_words, AreEdgeWords, counts_on, histories_on}
+use Rattle.serial_order.specs.Words.{plain_words, AreEdgeWords, histories_on}
 use Rattle.serial_order.specs.Outcomes.{scene_of}
-use Rattle.tile_core.specs.Turns.{common}
 
 -- the tile makes no further step
 abbrev pub HasStopped : TileValue → Type 0

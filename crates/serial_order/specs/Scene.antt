@@ -1,6 +1,5 @@
 -- All tiles and all edges of a plane when the tiles are over.
 use Rattle.std.specs.Prelude.{ℕ, ◌≡◌, ◌<◌, ◌++◌, ◌==◌, List, [], ◌∷◌, length, map, slice_get, slice_index_or, if◌then◌else◌, true, Some}
-use Rattle.bit_field.specs.Atom.{AtomValue}
 use Rattle.window_sites.specs.Window.{WindowValue}
 use Rattle.tile_map.specs.Plane.{Site, MapValue, IsMap, tiles_of, is_held}
 use Rattle.tile_map.specs.Edges.{pairs_of, has_end}

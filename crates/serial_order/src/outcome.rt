@@ -1,6 +1,5 @@
 //! Settling: what tiles that are over leave, as one grid and one journal.
-ghost use Rattle.std.specs.Prelude.{◌≡◌, ◌<◌, ◌*◌, All, IfOk, length};
-ghost use Rattle.cell_grid.specs.Grid.{ArePlanesAlike};
+ghost use Rattle.std.specs.Prelude.{◌≡◌, ◌<◌, ◌*◌, All, IfOk};
 ghost use Rattle.tile_map.specs.Plane.{site};
 ghost use Rattle.serial_order.specs.Outcomes.{AreOver, AreTilesOf, ChangesSite, IsMade, IsPlaneGrid, Settles, values_of};
 ghost use Rattle.serial_order.specs.Scene.{logs_of, registers_at};

@@ -19,7 +19,7 @@ use Rattle.border_cache.specs.Windows.{end_at}
 use Rattle.tile_core.specs.declared.phase.Phase.{Phase}
 use Rattle.tile_core.specs.declared.phase.Phase.TheVariants.{Draw, Lock, Refresh, Behave, Write, Give, Back, Finished, Worn}
 use Rattle.tile_core.specs.Values.{TileWith, TileValue, atoms_of}
-use Rattle.tile_core.specs.Turns.{common, HasPlayed}
+use Rattle.tile_core.specs.Turns.{HasPlayed}
 use Rattle.tile_core.specs.Underway.{tile_at, made_by, InPhase}
 use Rattle.tile_core.proofs.Boards.{edge_end}
 use Rattle.tile_core.proofs.Lists.{free_of}

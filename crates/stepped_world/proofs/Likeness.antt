@@ -29,9 +29,9 @@ use Rattle.border_cache.proofs.Needs.{has_at}
 use Rattle.tile_core.specs.declared.phase.Phase.{Phase}
 use Rattle.tile_core.specs.declared.phase.Phase.TheVariants.{Draw, Lock, Refresh, Behave, Write, Give, Back, Finished, Worn}
 use Rattle.tile_core.specs.Values.{tile_with, TileWith, TileValue, centre, atoms_of}
-use Rattle.tile_core.specs.Turns.{common, greatest, clock_in, one_if, lists_of}
+use Rattle.tile_core.specs.Turns.{greatest, clock_in, one_if, lists_of}
 use Rattle.tile_core.specs.Underway.{tile_at, IsUnderway, InPhase}
-use Rattle.tile_core.specs.Steps.{rules_of, StepsIn, Begins, Draws, Tries, Refreshes, WearsOut, Renews, Behaves, Writes, Frees, Rests, begun, next_edge, refused, got, freed, noted, refreshed, event_entry, refused_entry}
+use Rattle.tile_core.specs.Steps.{rules_of, StepsIn, Draws, Tries, Refreshes, WearsOut, Renews, Behaves, Writes, Frees, Rests, begun, next_edge, refused, got, freed, noted, refreshed, event_entry, refused_entry}
 use Rattle.tile_core.proofs.Boards.{end_known, edge_end}
 use Rattle.tile_core.proofs.Laws.{lock_lt, lock_free, give_lt, give_held, back_lt, back_held}
 use Rattle.tile_core.proofs.Refreshing.{open_held}

@@ -7,7 +7,7 @@ use Rattle.tile_map.specs.Plane.{MapValue}
 use Rattle.draw_stream.specs.Plans.{attempts}
 use Rattle.edge_lock.specs.PlainBoard.{PlainBoardValue, acting_end, end_on, lists_on, lists_of_tile, Moved}
 use Rattle.border_cache.specs.Copies.{IsEndOf}
-use Rattle.tile_core.specs.Values.{TileWith, TileValue, atoms_of}
+use Rattle.tile_core.specs.Values.{TileWith, atoms_of}
 use Rattle.tile_core.specs.Underway.{tile_at, IsUnderway, IsSome, GoesOn}
 use Rattle.tile_core.specs.Steps.{rules_of, StepsIn}
 use Rattle.tile_core.proofs.Boards.{board_end}

@@ -8,13 +8,12 @@ use Rattle.tile_map.specs.Plane.{MapValue}
 use Rattle.draw_stream.specs.Plans.{attempts}
 use Rattle.edge_lock.specs.PlainBoard.{PlainBoardValue, end_on, lists_on, lists_of_tile, Moved}
 use Rattle.edge_lock.proofs.PlainKept.{acting_stays}
-use Rattle.tile_core.specs.Values.{TileWith, TileValue, atoms_of}
+use Rattle.tile_core.specs.Values.{TileWith, atoms_of}
 use Rattle.tile_core.specs.Underway.{tile_at, IsUnderway, GoesOn}
 use Rattle.tile_core.specs.Steps.{rules_of, StepsIn}
 use Rattle.tile_core.proofs.Boards.{board_moved, board_turned, lists_turned, others_stay}
 use Rattle.serial_order.specs.Scene.{common_in, Setting}
 use Rattle.stepped_world.specs.Running.{IsTileOf, AreUnderway}
-use Rattle.tile_core.specs.Turns.{common}
 use Rattle.stepped_world.proofs.Slots.{set_each}
 
 module _ {B : Type 0} (after : B → WindowValue → ℕ → WindowValue) (m : MapValue) where

@@ -6,7 +6,7 @@ use Rattle.tile_map.specs.Plane.{MapValue, IsMap, tiles_of}
 use Rattle.edge_lock.specs.PlainBoard.{PlainBoardValue}
 use Rattle.cell_grid.specs.Records.{replay}
 use Rattle.event_journal.specs.Logs.{records_in}
-use Rattle.tile_core.specs.Values.{TileWith, TileValue}
+use Rattle.tile_core.specs.Values.{TileWith}
 use Rattle.serial_order.specs.Scene.{Setting, IsOver}
 use Rattle.serial_order.specs.Words.{histories_on}
 use Rattle.serial_order.specs.Outcomes.{IsSettlement, scene_of, values_of}

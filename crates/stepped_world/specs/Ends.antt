@@ -15,7 +15,7 @@ use Rattle.tile_core.specs.Turns.{HasPlayed}
 use Rattle.event_journal.specs.Logs.{LogValue, log_of, records_in, of_tile, abandoned_by}
 use Rattle.serial_order.specs.Scene.{Setting, common_in, EdgeHistory, IsOver, logs_of, registers_at}
 use Rattle.serial_order.specs.Settled.{IsSettled}
-use Rattle.serial_order.specs.Words.{plain_words, AreEdgeWords, histories_on, counts_on}
+use Rattle.serial_order.specs.Words.{plain_words, AreEdgeWords, histories_on}
 use Rattle.serial_order.specs.Outcomes.{IsMade, IsSettlement, scene_of, values_of}
 use Rattle.serial_order.specs.declared.outcome.Outcome.{Outcome}
 use Rattle.stepped_world.specs.Machine.{Done, Machine, stepped}

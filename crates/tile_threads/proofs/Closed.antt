@@ -11,7 +11,7 @@ use Rattle.tile_map.specs.Plane.{MapValue, IsMap, tiles_of}
 use Rattle.tile_map.specs.Edges.{pairs_of, low_end, high_end, has_end}
 use Rattle.cell_grid.specs.Grid.{GridValue}
 use Rattle.draw_stream.specs.declared.attempt.Attempt.{Attempt}
-use Rattle.draw_stream.specs.Plans.{PlanValue, attempts}
+use Rattle.draw_stream.specs.Plans.{attempts}
 use Rattle.edge_lock.specs.History.{site_count, IsEdgeHistory}
 use Rattle.edge_lock.specs.declared.history.Refusal.{Refusal}
 use Rattle.edge_lock.specs.EndLists.{EndLists, end_lists}
@@ -23,7 +23,7 @@ use Rattle.tile_core.specs.Values.{TileWith, TileValue, atoms_of}
 use Rattle.tile_core.specs.Turns.{common, AgreeOnEdges}
 use Rattle.tile_core.proofs.Boards.{end_known}
 use Rattle.serial_order.specs.Scene.{Setting, common_in, EdgeHistory, no_history, history_at, end_lists_of, lists_at, HasEnded}
-use Rattle.serial_order.specs.Words.{closed_words, AreEdgeWords, closed_history, closed_histories, closed_counts, no_closed, closed_at}
+use Rattle.serial_order.specs.Words.{closed_words, AreEdgeWords, closed_history, closed_histories, no_closed, closed_at}
 use Rattle.serial_order.specs.Outcomes.{values_of}
 use Rattle.edge_lock.specs.Passes.{EdgeValue, PassValue}
 use Rattle.tile_threads.specs.Passes.{passes_of, IsClosedEdge, AreClosed}

@@ -8,7 +8,7 @@ use Rattle.edge_lock.specs.Passes.{PassValue}
 use Rattle.edge_lock.specs.SharedEnds.{SharedEndValue, SamePasses, pass_lists}
 use Rattle.tile_core.specs.Turns.{AgreeOnEdges}
 use Rattle.tile_map.specs.Plane.{MapValue}
-use Rattle.tile_core.specs.Values.{TileWith, TileValue}
+use Rattle.tile_core.specs.Values.{TileWith}
 use Rattle.tile_threads.specs.declared.worker.Worker.{Worker}
 use Rattle.tile_threads.specs.Passes.{passes_of, let_go}
 use Rattle.tile_threads.specs.Whole.{CameHome, worker_of, workers_of}

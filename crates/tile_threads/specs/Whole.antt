@@ -8,11 +8,11 @@ use Rattle.edge_lock.specs.EndValues.{EndValue}
 use Rattle.edge_lock.specs.Passes.{EdgeValue, PassValue, ClosedValue}
 use Rattle.edge_lock.specs.SharedEnds.{SharedEndValue, shared_end_value, edge_and_end, pass_lists}
 use Rattle.border_cache.specs.Copies.{IsEndOf}
-use Rattle.tile_core.specs.Values.{TileWith, TileValue, atoms_of}
+use Rattle.tile_core.specs.Values.{TileWith, TileValue}
 use Rattle.tile_core.specs.Turns.{AgreeOnEdges}
 use Rattle.tile_core.specs.Underway.{IsSome}
 use Rattle.serial_order.specs.Scene.{Setting, common_in, IsOver, HasEnded}
-use Rattle.serial_order.specs.Words.{closed_words, AreEdgeWords, closed_histories, closed_counts}
+use Rattle.serial_order.specs.Words.{closed_words, AreEdgeWords, closed_histories}
 use Rattle.serial_order.specs.Boards.{HasStopped}
 use Rattle.serial_order.specs.Outcomes.{IsMade, scene_of, values_of}
 use Rattle.tile_threads.specs.declared.worker.Worker.{Worker}

@@ -15,7 +15,7 @@ use Rattle.draw_stream.proofs.Plans.{attempts_few}
 use Rattle.border_cache.specs.Copies.{IsGridOf}
 use Rattle.tile_map.specs.Plane.{MapValue, is_on, tiles_of}
 use Rattle.tile_core.specs.Underway.{CanAttempt, IsFreshTile}
-use Rattle.tile_core.specs.Values.{TileWith, TileValue, atoms_of}
+use Rattle.tile_core.specs.Values.{TileWith, atoms_of}
 use Rattle.serial_order.specs.Fresh.{AreFresh}
 use Rattle.world_runs.specs.Worlds.{IsAttempt, IsWorld}
 use Rattle.world_text.specs.Named.{WorldValue}

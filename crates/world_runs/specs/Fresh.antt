@@ -5,7 +5,7 @@ use Rattle.cell_grid.specs.Grid.{GridValue}
 use Rattle.draw_stream.specs.Plans.{PlanValue, attempts}
 use Rattle.serial_order.specs.Scene.{Setting}
 use Rattle.tile_core.specs.Underway.{CanAttempt, IsFreshTile}
-use Rattle.tile_core.specs.Values.{TileWith, TileValue, atoms_of}
+use Rattle.tile_core.specs.Values.{TileWith, atoms_of}
 use Rattle.tile_map.specs.Plane.{MapValue, tiles_of}
 use Rattle.world_runs.specs.Start.{start_of}
 use Rattle.world_text.specs.Named.{WorldValue}

@@ -2,7 +2,6 @@ use Rattle.std.proofs.Common.{◌≡◌, ◌≢◌, ◌<◌, ◌+◌, ℕ, true,
 use Rattle.std.specs.List.{range_with_len}
 use Rattle.std.proofs.lemmas.Bool.{cases_eq}
 use Rattle.tile_map.specs.Plane.{tiles_of}
-use Rattle.stepped_world.specs.Machine.{finish}
 use Rattle.stepped_world.specs.Running.{rest_by, on_board, Follows, stands_still}
 use Rattle.stepped_world.proofs.Following.{more_finished}
 use Rattle.stepped_world.proofs.run.finish_all.Goals as goal

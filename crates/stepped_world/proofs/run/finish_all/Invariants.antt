@@ -1,6 +1,5 @@
 use Rattle.std.proofs.Common.{◌≡◌, ◌<◌, ℕ, true, slice_get}
 use Rattle.std.specs.List.{range_with_len}
-use Rattle.stepped_world.specs.Machine.{finish}
 use Rattle.stepped_world.specs.Running.{rest_by, on_board, Follows, stands_still}
 use Rattle.stepped_world.proofs.run.finish_all.Given as goal
 

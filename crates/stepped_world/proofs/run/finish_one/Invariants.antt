@@ -1,7 +1,6 @@
 use Rattle.std.proofs.Common.{List, slice_get}
 use Rattle.edge_lock.specs.PlainBoard.{PlainBoardValue}
-use Rattle.tile_core.specs.Values.{TileWith, TileValue}
-use Rattle.stepped_world.specs.Machine.{finish_tile}
+use Rattle.tile_core.specs.Values.{TileWith}
 use Rattle.serial_order.specs.Scene.{Setting}
 use Rattle.stepped_world.specs.Running.{rest_of, on_board, AreUnderway, Follows, steps_ahead}
 use Rattle.stepped_world.proofs.run.finish_one.Given as goal

@@ -1,4 +1,3 @@
-use Rattle.stepped_world.specs.Machine.{steps}
 use Rattle.stepped_world.specs.Running.{steps_by, on_board, Follows}
 use Rattle.stepped_world.proofs.run.follow.Given as goal
 

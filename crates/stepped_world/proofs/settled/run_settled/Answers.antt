@@ -1,7 +1,7 @@
 use Rattle.std.proofs.Common.{◌≡◌, List, All, length, sym, ◌∙◌, subst}
 use Rattle.std.proofs.lemmas.Result.{IfOk-weaker}
 use Rattle.list_laws.proofs.Slots.{take_over}
-use Rattle.tile_core.specs.Values.{TileWith, TileValue}
+use Rattle.tile_core.specs.Values.{TileWith}
 use Rattle.serial_order.specs.Scene.{Setting, IsOver}
 use Rattle.serial_order.specs.Words.{histories_on}
 use Rattle.serial_order.specs.Outcomes.{IsMade, scene_of, values_of, Settles}

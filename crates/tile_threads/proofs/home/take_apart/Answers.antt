@@ -1,5 +1,5 @@
 use Rattle.std.proofs.Common.{ap, ◌∙◌}
-use Rattle.tile_core.specs.Values.{TileWith, TileValue}
+use Rattle.tile_core.specs.Values.{TileWith}
 use Rattle.tile_threads.proofs.Homing.{home_of}
 use Rattle.tile_threads.proofs.home.take_apart.Goals as goal
 

@@ -3,7 +3,7 @@ use Rattle.std.specs.Prelude.{slice_get}
 use Rattle.tile_map.proofs.Numbers.{tiles_few}
 use Rattle.draw_stream.specs.Plans.{attempts}
 use Rattle.tile_core.specs.Underway.{IsFreshTile}
-use Rattle.tile_core.specs.Values.{TileWith, TileValue, atoms_of}
+use Rattle.tile_core.specs.Values.{TileWith, atoms_of}
 use Rattle.world_runs.proofs.Beginning.{EachFresh, acts_all, acts_more, fresh_more, made_fewer, none_left}
 use Rattle.world_runs.proofs.tiles.fresh_tiles.Goals as goal
 

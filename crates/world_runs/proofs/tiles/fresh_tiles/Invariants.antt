@@ -1,5 +1,5 @@
 use Rattle.std.proofs.Common.{◌≡◌, ◌++◌, length, map}
-use Rattle.tile_core.specs.Values.{TileWith, TileValue}
+use Rattle.tile_core.specs.Values.{TileWith}
 use Rattle.world_runs.proofs.Beginning.{EachFresh}
 use Rattle.world_runs.proofs.tiles.fresh_tiles.Given as goal
 
