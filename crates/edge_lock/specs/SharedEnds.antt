@@ -39,7 +39,7 @@ abbrev pub pass_position : List PassValue → ℕ → ℕ
 pass_position [] edge = 0
 pass_position (pass ∷ passes) edge = if pass.of.number == edge then 0 else suc (pass_position passes edge)
 
--- which edge and which end a pass is of
+-- the edge and the end that a pass belongs to
 pub record EdgeAndEnd : Type 0 where
   pub of : EdgeValue
   pub end : ℕ

@@ -92,8 +92,8 @@ impl PlainEdge {
         }
     }
 
-    /// What a register has, read by the end that has the edge. The contract alone speaks of
-    /// the end.
+    /// What a register has, read by the end that has the edge. The code does not need to know
+    /// which end it is; the contract does.
     pub(crate) fn read(&mut self, end: u32, register: u32) -> u64
         requires end { end < 2 }
         requires register { register < self.old.registers }
@@ -111,8 +111,8 @@ impl PlainEdge {
         table.shared.load::<PlainRead>(&mut self.seat, word)
     }
 
-    /// Changes a register, for the end that has the edge. The contract alone speaks of
-    /// the end.
+    /// Changes a register, for the end that has the edge. The code does not need to know which
+    /// end it is; the contract does.
     pub(crate) fn write(&mut self, end: u32, register: u32, value: u64)
         requires end { end < 2 }
         requires register { register < self.old.registers }
@@ -130,8 +130,8 @@ impl PlainEdge {
             .store::<PlainWrite>(&mut self.seat, word, value);
     }
 
-    /// Gives the edge back, for the end that has it. The contract alone speaks of
-    /// the end.
+    /// Gives the edge back, for the end that has it. The code does not need to know which end
+    /// it is; the contract does.
     pub(crate) fn give(&mut self, end: u32)
         requires end { end < 2 }
         requires held { IsHeld (own_lists end self.old) }

@@ -16,7 +16,7 @@ use Rattle.serial_order.specs.Order.{NoneIsWorn, StampsAreSmall, TiesAreApart, L
 use Rattle.serial_order.specs.declared.outcome.Outcome.{Outcome}
 use Rattle.serial_order.specs.declared.blank.Area.{Area}
 
--- tiles without what acts
+-- the values of tiles, without what acts on them
 abbrev pub values_of : {B : Type 0} → List (TileWith B) → List TileValue
 values_of tiles = map (λ t. t.core) tiles
 

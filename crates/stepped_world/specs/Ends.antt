@@ -62,7 +62,7 @@ pub record IsOutcome (m : MapValue) (g : Setting) (order : List ℕ) (o : Outcom
   pub edges : List EdgeHistory
   pub settled : IsSettlement (scene_of m tiles edges g) o
 
--- the machine finishes its tiles, whatever tiles are in the list
+-- the machine finishes each of its tiles, whatever steps come first
 abbrev pub ComesToItsEnd : Type 0
 ComesToItsEnd = (m : MapValue) (meaning : WindowValue → ℕ → WindowValue) (start : GridValue) (plan : PlanValue) (order : List ℕ) (t : ℕ) → t < tiles_of m
     → ((stepped m meaning start plan order).tile t).doing ≡ Done

@@ -100,7 +100,7 @@ pub record TilesOnBoard (B : Type 0) : Type 0 where
 abbrev pub on_board : {B : Type 0} → List (TileWith B) → PlainBoardValue → TilesOnBoard B
 on_board tiles board = record { tiles = tiles; board = board }
 
--- what the machine does on a plane, by what events do
+-- something that the machine does on a plane, where an event makes this of its window
 abbrev pub Act : Type 0
 Act = MapValue → (WindowValue → ℕ → WindowValue) → Machine → Machine
 

@@ -26,7 +26,7 @@ passes_of all t = slice_index_or all t []
 abbrev pub one_pass_more : List (List PassValue) → ℕ → PassValue → List (List PassValue)
 one_pass_more all t pass = slice_set all t (passes_of all t ++ pass ∷ [])
 
--- which edge, and which end of it, tile t's pass of edge e is of
+-- the edge and the end that tile t's pass of edge e belongs to
 abbrev pub right_to : MapValue → List EdgeValue → ℕ → ℕ → EdgeAndEnd
 right_to m edges t e = record { of = edge_of edges e; end = end_at m t e }
 

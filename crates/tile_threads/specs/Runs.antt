@@ -34,7 +34,7 @@ pub record WorkerValue : Type 0 where
   pub meaning : WindowValue → ℕ → WindowValue
   pub end : EndValue
 
--- the worker, where what acts on its tile and its end are seen like this
+-- a worker as contracts see it: `after` says what its tile's events do, and `end` what its end shows
 abbrev pub worker_value : {B D : Type 0} → (B → WindowValue → ℕ → WindowValue) → (D → EndValue) → Worker B D → WorkerValue
 worker_value after end w = record { tile = w.tile.core; meaning = after w.tile.behave; end = end w.end }
 
