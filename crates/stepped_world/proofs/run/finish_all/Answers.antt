@@ -28,4 +28,5 @@ pub returns-clause-follows : goal.returns-clause-follows
 returns-clause-follows g c =
     let n = c.tiles-tile-end.ensures.count in let past = c.loop-tile-test.false in let end = c.loop-tile.auto.tile-end in
     let e : c.loop-tile.tile ≡ tiles_of c.args.map.now = omega (arith, n, past, end) in
-    subst (λ k. Follows g.B.Behave.after c.args.map.now (on_board c.args.tiles.now c.args.board.now) (on_board c.loop-tile.tiles c.loop-tile.board) (rest_by (range_with_len 0 k))) e c.loop-tile.invariant.done
+    let f = subst (λ k. Follows g.B.Behave.after c.args.map.now (on_board c.args.tiles.now c.args.board.now) (on_board c.loop-tile.tiles c.loop-tile.board) (rest_by (range_with_len 0 k))) e c.loop-tile.invariant.done in
+    record { underway = f.underway; like = f.like; still = f.still; sizes = f.sizes }
