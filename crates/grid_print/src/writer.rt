@@ -1,6 +1,5 @@
 //! The text of a report, and putting it.
 ghost use Rattle.std.specs.Prelude.{◌≡◌, ◌-◌, ◌^◌, ◌<◌, ◌++◌, [], IfOk, codes};
-ghost use Rattle.feast_base.specs.Outside.{sink_state};
 ghost use Rattle.grid_print.specs.Report.{AreNamed, atoms_text, of_logs, report, report_of};
 ghost use Rattle.grid_print.specs.Writing.{Writes};
 
@@ -68,8 +67,8 @@ pub fn write_report<K: Sink>(
     sink: &mut K,
 ) -> Result<(), WriteFault>
     requires named { AreNamed names.now grid.now.atoms }
-    requires room { K.faults sink.old < 2 ^ 64 - 1 }
-    ensures { Writes (sink_state K.written K.faults K.may_fail sink.old) (sink_state K.written K.faults K.may_fail sink.new) (report_of names.now (of_logs grid.now journal.now)) result }
+    requires room { (K.state sink.old).faults < 2 ^ 64 - 1 }
+    ensures { Writes (K.state sink.old) (K.state sink.new) (report_of names.now (of_logs grid.now journal.now)) result }
 {
     let text = text(alloc, grid, journal, names)?;
     put_pieces(sink, text.as_slice())?;
