@@ -66,11 +66,7 @@ fn read_some<S: Read>(file: &mut S, buffer: &mut [u8]) -> io::Result<usize>
 ///
 /// `Failed` if another fault comes. `TooLong` if there are more than `limit` bytes. `NoMemory` if
 /// `into` can't grow.
-pub fn read_whole<S: Read>(
-    file: &mut S,
-    limit: usize,
-    into: &mut Vec<u8>,
-) -> Result<(), LoadFault>
+pub fn read_whole<S: Read>(file: &mut S, limit: usize, into: &mut Vec<u8>) -> Result<(), LoadFault>
     requires { limit < 2 ^ 64 - 1 }
     ensures { AppendsSome into.old.items into.new.items (ReadsWhole (S.remaining file.old) (S.remaining file.new) limit result) }
 {
