@@ -35,7 +35,7 @@ tokens_push file before (q ∷ ps) p =
     ap (λ l. own ++ l) (tokens_push file (before ++ q.bytes) ps p) ∙ ap (λ l. own ++ (tokens_after file (before ++ q.bytes) ps ++ token_list p.kind (length l) (length l + length p.bytes) (place_after file l))) (append_assoc before q.bytes (spelled ps))
     ∙ sym (append_assoc own (tokens_after file (before ++ q.bytes) ps) _)
 
--- how many tokens there are depends on nothing before them
+-- how many tokens there are does not depend on what is before them
 pub list_length : (kind : PieceKind) (first end other more : ℕ) (place elsewhere : Place) → length (token_list kind first end place) ≡ length (token_list kind other more elsewhere)
 list_length piece.Space first end other more place elsewhere = refl
 list_length piece.Comment first end other more place elsewhere = refl
@@ -87,7 +87,7 @@ text_split file text at tokens place r = sym (take-append-drop at text) ∙ ap (
 count_read : (file : ℕ) (text : List ℕ) (at : ℕ) (tokens : List Token) (place : Place) (r : IsRead file text at tokens place) → length tokens ≡ token_count r.pieces
 count_read file text at tokens place r = ap length r.listed ∙ tokens_length file 0 [] [] r.pieces
 
--- a fault stands behind what was read
+-- a fault after what was read
 pub fault_of : (file : ℕ) (text : List ℕ) (at : ℕ) (tokens : List Token) (place : Place) (fault : LexFault) (r : IsRead file text at tokens place) → IsFaultAt file (take at text) (length tokens) (drop at text) fault → IsFaultOf file text fault
 fault_of file text at tokens place fault r h =
     let count = count_read file text at tokens place r in (
@@ -137,7 +137,7 @@ added_fault s p n old new (TooManyTokens at) placed stands h =
     ((h.0, h.2.0, take n s.rest, drop n s.rest, subst (λ k. Stands k s.rest (take n s.rest) (drop n s.rest)) h.2.1 stands), h.1 ∙ placed)
 added_fault s p n old new NoMemory placed stands h = h
 
--- what a letter, a digit or `_` follows was a token
+-- a piece that a letter, a digit or `_` joins is a token
 one_token : (kind : PieceKind) (back : List ℕ) (first end : ℕ) (place : Place) → is_joined kind back ≡ true → length (token_list kind first end place) ≡ 1
 one_token piece.Space back first end place h = absurd (false≢true h)
 one_token piece.Comment back first end place h = absurd (false≢true h)

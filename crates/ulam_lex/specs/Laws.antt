@@ -8,7 +8,7 @@ use Rattle.ulam_lex.specs.Texts.{TextPiece, spelled, ArePieces, IsTokensOf, most
 
 -- no two of which this holds
 abbrev pub AtMostOne : {A : Type 0} → (A → Type 0) → Type 0
-AtMostOne {A = A} Holds = (a b : A) → Holds a → Holds b → a ≡ b
+AtMostOne {A = A} P = (a b : A) → P a → P b → a ≡ b
 
 -- the text has a list of tokens that is no longer than it may be
 abbrev pub HasTokens : ℕ → List ℕ → Type 0

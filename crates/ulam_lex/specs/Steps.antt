@@ -28,7 +28,7 @@ cut_at file text at = record { file = file; before = take at text; rest = drop a
 abbrev pub place_of : Cut → Place
 place_of cut = place_after cut.file cut.before
 
--- a piece where it stands in a text: the index of its first byte, that of the byte after its last, and its place
+-- a piece where it stands in a text: its kind, the index of its first byte, the index after its last, and its place
 pub record StandingPiece : Type 0 where
   pub kind : PieceKind
   pub first : ℕ
