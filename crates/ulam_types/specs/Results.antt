@@ -75,4 +75,4 @@ GivesStatement result scope raw = Gives typed_statement result (statement (here 
 
 -- a function gives what the walk finds here for the condition of an `if` and its first branch
 abbrev pub GivesBranch : Result (Cond × Box Statement) TypeFault → Scope → r.Cond → r.Statement → Type 0
-GivesBranch result scope cond yes = Gives branch_view result (branch (here scope) cond (λ h. statement h yes))
+GivesBranch result scope cond first = Gives branch_view result (branch (here scope) cond (λ h. statement h first))
