@@ -4,8 +4,8 @@
 //! is its most significant one.
 #![tactic(auto)]
 
-ghost use Rattle.std.specs.Prelude.{◌≡◌, ℕ, ◌+◌, ◌*◌, ◌^◌, ◌<◌, ◌≤◌};
-ghost use Rattle.bit_field.specs.Atom.{AtomValue, IsAtom, field, bits_of, AreApart, LeavesGap};
+ghost use Rattle.std.specs.Prelude.{◌≡◌, ◌+◌, ◌*◌, ◌^◌, ◌<◌, ◌≤◌};
+ghost use Rattle.bit_field.specs.Atom.{AtomValue, IsAtom, field, bits_of, SameOutside, LeavesGap};
 ghost use Rattle.bit_field.specs.Words.{AreWordsOf, atom_of, replaced, with_field};
 
 use std::marker::Model;
@@ -87,7 +87,7 @@ impl Atom {
         requires within { first + width ≤ 71 }
         requires small { value < 2 ^ width }
         ensures same { field self.new first width ≡ value }
-        ensures others { (other size : ℕ) → other + size ≤ 71 → AreApart first width other size → field self.new other size ≡ field self.old other size }
+        ensures others { SameOutside self.old self.new first width }
         ensures kind { self.new.kind ≡ self.old.kind }
         ensures whole { self.new ≡ with_field self.old first width value }
     {
@@ -127,50 +127,4 @@ fn replace_bits(state: u128, shift: u32, width: u32, value: u64) -> u128
     let high = state >> shift >> width;
     let low = state % (1u128 << shift);
     (high * (1u128 << width) + u128::from(value)) * (1u128 << shift) + low
-}
-
-#[cfg(test)]
-mod tests {
-    use super::*;
-
-    #[test]
-    fn fields_are_counted_from_the_most_significant_bit(rt: HostRuntime) {
-        let atom = Atom::new(7, 0x55_0123_4567_89ab_cdef);
-        assert_eq!(rt; (atom.kind(), atom.state()), (7, 0x55_0123_4567_89ab_cdef));
-        let fields = [
-            (0, 1, 1),
-            (1, 1, 0),
-            (0, 7, 0x55),
-            (7, 8, 0x01),
-            (67, 4, 0xf),
-            (3, 8, 0x50),
-            (7, 64, 0x0123_4567_89ab_cdef),
-        ];
-        for (first, width, value) in fields {
-            assert_eq!(rt; atom.get(first, width), value, "{width} bits from {first}");
-        }
-    }
-
-    #[test]
-    fn a_field_is_set_in_its_place(rt: HostRuntime) {
-        let ones = (1u128 << 71) - 1;
-        let fields = [
-            (0, 1, 0, (1u128 << 70) - 1),
-            (67, 4, 0, ones - 15),
-            (7, 64, 0, 0x7f << 64),
-            (63, 8, 0x80, ones - 127),
-        ];
-        for (first, width, value, state) in fields {
-            let mut atom = Atom::new(9, ones);
-            atom.set(first, width, value);
-            assert_eq!(rt; atom, Atom::new(9, state), "{width} bits from {first}");
-        }
-    }
-
-    #[test]
-    fn words_have_the_type_on_top(rt: HostRuntime) {
-        let atom = Atom::new(0xabcd, 0x55_0123_4567_89ab_cdef);
-        assert_eq!(rt; atom.to_words(), (0x0123_4567_89ab_cdef, 0xabcd_0055));
-        assert_eq!(rt; Atom::from_words(0x0123_4567_89ab_cdef, 0xabcd_0055), atom);
-    }
 }

@@ -25,13 +25,10 @@ struct Asked {
 }
 
 impl Shelf for Asked {
-    ghost use Rattle.std.specs.Prelude.{[], None};
+    ghost use Rattle.std.specs.Prelude.{[]};
+    ghost use Rattle.feast_base.specs.Outside.{hidden_shelf};
 
-    ghost files = { λ _. None };
-
-    ghost failed = { λ _. [] };
-
-    ghost may_fail = { λ _ _. Unit {0} };
+    ghost state = { λ _. hidden_shelf [] };
 
     fn load(&mut self, _name: &str, limit: usize, _into: &mut Vec<u8>) -> Result<(), LoadFault> {
         self.limit = limit;

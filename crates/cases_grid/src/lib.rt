@@ -1,8 +1,10 @@
-//! Windows, the streams of what tiles and events draw, and grids, computed apart from the code. The
-//! crate has only tests; they are above these crates, so that none of these is proved again because
-//! of a test.
+//! Atoms, windows, the streams of what tiles and events draw, and grids, computed apart from the
+//! code. The crate has only tests; they are above these crates, so that none of these is proved
+//! again because of a test.
 #![tactic(auto)]
 
+#[cfg(test)]
+mod atoms;
 #[cfg(test)]
 mod draws;
 #[cfg(test)]

@@ -59,6 +59,35 @@ IsStamped m records = (k : ℕ) (d : Record) → k < length records → (slice_i
 abbrev pub Needs : MapValue → PlanValue → ℕ → ℕ → ℕ → Type 0
 Needs m plan t i e = (a : Attempt) × (slice_get (attempts plan t) i ≡ Some a) × Contains (needs_of m t (site_in m t a.centre)) e
 
+-- an attempt by its tile and its number there
+pub record AttemptName : Type 0 where
+  pub tile : ℕ
+  pub number : ℕ
+
+abbrev pub attempt_named : ℕ → ℕ → AttemptName
+attempt_named tile number = record { tile = tile; number = number }
+
+-- an event of the attempt
+abbrev pub IsEventBy : AttemptName → Record → Type 0
+IsEventBy a r = (r.tile ≡ a.tile) × (r.attempt ≡ a.number)
+
+-- the attempt was given up at a greater edge than this one
+abbrev pub IsGivenUpBeyond : ℕ → AttemptName → Abandoned → Type 0
+IsGivenUpBeyond e a g = (g.tile ≡ a.tile) × (g.attempt ≡ a.number) × (e < g.edge)
+
+-- an event of the tile that needs the edge
+abbrev pub IsEventOn : MapValue → List Record → ℕ → ℕ → Record → Type 0
+IsEventOn m records e t r = Contains records r × (r.tile ≡ t) × Contains (edges_of m r) e
+
+-- on the edge, all events of the one tile before its attempt have smaller stamps than all events of the other tile from its attempt on
+abbrev pub ComesFirst : MapValue → List Record → ℕ → AttemptName → AttemptName → Type 0
+ComesFirst m records e one other = (r s : Record) → IsEventOn m records e one.tile r → IsEventOn m records e other.tile s →
+    r.attempt < one.number → other.number ≤ s.attempt → r.stamp < s.stamp
+
+-- the attempt that an abandoned one names as the holder of its edge
+abbrev pub holder_of : Abandoned → AttemptName
+holder_of g = attempt_named g.holder g.holder_attempt
+
 -- an abandoned attempt is excused: it needs the edge, whose ends are its tile and the holder; the attempt that held the
 -- edge needs it too, and is an event or was itself given up at a greater edge; and that attempt lies between the tile's
 -- events on the edge before and after the abandoned attempt
@@ -66,12 +95,9 @@ pub record IsExcusedBy (m : MapValue) (plan : PlanValue) (records : List Record)
   pub needs : Needs m plan g.tile g.attempt g.edge
   pub ends : Joins m g.edge g.tile g.holder
   pub held : Needs m plan g.holder g.holder_attempt g.edge
-  pub owed : Any (λ (r : Record). (r.tile ≡ g.holder) × (r.attempt ≡ g.holder_attempt)) records
-      ⊎ Any (λ (k : Abandoned). (k.tile ≡ g.holder) × (k.attempt ≡ g.holder_attempt) × (g.edge < k.edge)) abandoned
-  pub after : (r s : Record) → Contains records r → Contains records s → r.tile ≡ g.tile → s.tile ≡ g.holder → Contains (edges_of m r) g.edge → Contains (edges_of m s) g.edge →
-      r.attempt < g.attempt → g.holder_attempt ≤ s.attempt → r.stamp < s.stamp
-  pub before : (r s : Record) → Contains records r → Contains records s → r.tile ≡ g.tile → s.tile ≡ g.holder → Contains (edges_of m r) g.edge → Contains (edges_of m s) g.edge →
-      g.attempt < r.attempt → s.attempt ≤ g.holder_attempt → s.stamp < r.stamp
+  pub owed : Any (IsEventBy (holder_of g)) records ⊎ Any (IsGivenUpBeyond g.edge (holder_of g)) abandoned
+  pub after : ComesFirst m records g.edge (attempt_named g.tile g.attempt) (holder_of g)
+  pub before : ComesFirst m records g.edge (attempt_named g.holder (g.holder_attempt + 1)) (attempt_named g.tile (g.attempt + 1))
 
 -- each abandoned attempt is excused
 abbrev pub AreExcused : MapValue → PlanValue → List Record → List Abandoned → Type 0

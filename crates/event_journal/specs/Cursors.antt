@@ -1,4 +1,4 @@
--- What the reader of a report keeps for each tile, and of the plane.
+-- What the reader of a report keeps: the size of the plane, and for each tile the attempts that are left.
 use Rattle.std.specs.Prelude.{ℕ, ◌≡◌, ◌+◌, ◌*◌, ◌<◌, ◌==◌, List, [], Option, Some, None, drop, length, map, slice_index_or, Result, Ok, Err, if◌then◌else◌}
 use Rattle.draw_stream.specs.declared.attempt.Attempt.{Attempt}
 use Rattle.tile_map.specs.Plane.{MapValue, IsMap}
@@ -10,7 +10,7 @@ use Rattle.event_journal.specs.declared.reading.Wants.TheVariants.{Header, AtomC
 use Rattle.event_journal.specs.declared.reader.ReadJournal.{ReadJournal}
 use Rattle.event_journal.specs.declared.fault.JournalFault.{JournalFault}
 use Rattle.event_journal.specs.declared.fault.LineFault.{LineFault}
-use Rattle.event_journal.specs.Reading.{Said, Wants, header, atom_count, atoms, record_count, records, abandoned_count, abandoned, nothing, read_report, IsFault, fault_of}
+use Rattle.event_journal.specs.Reading.{Said, Wants, header, atom_count, atoms, record_count, records, abandoned_count, abandoned, nothing, read_report, IsFault, Steps, fault_of}
 
 -- the columns and rows of a plane, and how many sites a tile has
 pub record IsExtent (e : Extent) (m : MapValue) : Type 0 where
@@ -39,6 +39,18 @@ pub record AllServe (cursors : List LogCursor) (lists : List (List Attempt)) : T
   pub as_many : length lists ≡ length cursors
   pub each : (t : ℕ) (d : LogCursor) → t < length cursors → Serves (slice_index_or cursors t d) (slice_index_or lists t [])
 
+-- it holds for any lists of attempts that the cursors serve
+abbrev pub ForServed : List LogCursor → (List (List Attempt) → Type 0) → Type 0
+ForServed cursors says = (lists : List (List Attempt)) → AllServe cursors lists → says lists
+
+-- the lists that the cursors served are served still
+abbrev pub StillServe : List LogCursor → List LogCursor → Type 0
+StillServe old new = ForServed old (AllServe new)
+
+-- the last record of a tile, by the cursors
+abbrev pub last_in : List LogCursor → ℕ → Option (ℕ × ℕ)
+last_in cursors t = slice_index_or (lasts_of cursors) t None
+
 abbrev pub wants_value : CodeWants → Wants
 wants_value Header = header
 wants_value AtomCount = atom_count
@@ -52,6 +64,10 @@ wants_value Nothing = nothing
 -- what the lines so far say
 abbrev pub said_value : Reading → Said
 said_value d = record { wants = wants_value d.wants; before = d.before; lasts = lasts_of d.cursors.items; journal = d.journal.items; gone = d.gone.items }
+
+-- line n was taken by a step from what the lines before it said
+abbrev pub TakesLine : ℕ → (List (List Attempt) → Said → Result Said LineFault) → Reading → Reading → Result (Unit {0}) JournalFault → Type 0
+TakesLine n step old new result = ForServed old.cursors.items (λ lists. Steps n (step lists (said_value old)) (said_value new) result)
 
 -- a report is read as these records and abandoned attempts
 abbrev pub ReadsAs : Result Said (ℕ × LineFault) → ReadJournal → Type 0

@@ -1,7 +1,7 @@
 //! The forms of the lines of a report.
-ghost use Rattle.std.specs.Prelude.{◌≡◌, ◌^◌, is_some, option_copied, option_map};
+ghost use Rattle.std.specs.Prelude.{◌≡◌, ◌^◌, is_some};
 ghost use Rattle.cell_grid.specs.Grid.{below};
-ghost use Rattle.text_lines.specs.Fields.{args_of, fields, hex_of};
+ghost use Rattle.text_lines.specs.Fields.{fields, fields_left, hex_of, taken};
 ghost use Rattle.text_lines.specs.Forms.{one_field, one_number, with};
 ghost use Rattle.event_journal.specs.Forms.{abandoned_form, count_form, is_atom, is_header, is_name_state, is_one, record_form, site_form, take_attempt, take_small};
 
@@ -12,7 +12,7 @@ use text_lines::{first_field, one_field, one_number, one_seed, state, take_numbe
 
 /// The first field as a number below 2^32, and the other fields.
 fn take_small(args: Option<&[u8]>) -> Option<(u32, Option<&[u8]>)>
-    ensures { option_map (λ r. (r.0, args_of (option_copied r.1))) result ≡ take_small (args_of (option_copied args.entry)) }
+    ensures { taken result ≡ take_small (fields_left args.entry) }
 {
     let (n, rest) = take_number(args)?;
     if n < 1u128 << 32 {
@@ -24,7 +24,7 @@ fn take_small(args: Option<&[u8]>) -> Option<(u32, Option<&[u8]>)>
 
 /// The first field as a number below 2^64, and the other fields.
 fn take_attempt(args: Option<&[u8]>) -> Option<(u64, Option<&[u8]>)>
-    ensures { option_map (λ r. (r.0, args_of (option_copied r.1))) result ≡ take_attempt (args_of (option_copied args.entry)) }
+    ensures { taken result ≡ take_attempt (fields_left args.entry) }
 {
     let (n, rest) = take_number(args)?;
     if n < 1u128 << 64 {
@@ -36,7 +36,7 @@ fn take_attempt(args: Option<&[u8]>) -> Option<(u64, Option<&[u8]>)>
 
 /// The fields as a site and a seed.
 fn site_form(args: Option<&[u8]>) -> Option<(u32, u32, u64)>
-    ensures { result ≡ site_form (args_of (option_copied args.entry)) }
+    ensures { result ≡ site_form (fields_left args.entry) }
 {
     let (x, rest) = take_small(args)?;
     let (y, rest) = take_small(rest)?;
@@ -47,7 +47,7 @@ fn site_form(args: Option<&[u8]>) -> Option<(u32, u32, u64)>
 /// The fields as an event.
 #[tactic(auto, unfolding(crate::specs::Forms::record_form))]
 pub(crate) fn record_form(args: Option<&[u8]>) -> Option<Record>
-    ensures { result ≡ record_form (args_of (option_copied args.entry)) }
+    ensures { result ≡ record_form (fields_left args.entry) }
 {
     let (stamp, rest) = take_small(args)?;
     let (tile, rest) = take_small(rest)?;
@@ -65,7 +65,7 @@ pub(crate) fn record_form(args: Option<&[u8]>) -> Option<Record>
 
 /// The last field of a line as the number of an attempt.
 fn last_attempt(args: Option<&[u8]>) -> Option<u64>
-    ensures { result ≡ below (2 ^ 64) (one_number (args_of (option_copied args.entry))) }
+    ensures { result ≡ below (2 ^ 64) (one_number (fields_left args.entry)) }
 {
     let n = one_number(args)?;
     if n < 1u128 << 64 {
@@ -78,7 +78,7 @@ fn last_attempt(args: Option<&[u8]>) -> Option<u64>
 /// The fields as an abandoned attempt.
 #[tactic(auto, unfolding(crate::specs::Forms::abandoned_form))]
 pub(crate) fn abandoned_form(args: Option<&[u8]>) -> Option<Abandoned>
-    ensures { result ≡ abandoned_form (args_of (option_copied args.entry)) }
+    ensures { result ≡ abandoned_form (fields_left args.entry) }
 {
     let (tile, rest) = take_small(args)?;
     let (attempt, rest) = take_attempt(rest)?;
@@ -101,7 +101,7 @@ pub(crate) fn abandoned_form(args: Option<&[u8]>) -> Option<Abandoned>
 /// The fields as a word and a count, if the word is this one.
 #[tactic(auto, unfolding(crate::specs::Forms::count_form))]
 pub(crate) fn count_form(word: &[u8], args: Option<&[u8]>) -> Option<u32>
-    ensures { result ≡ count_form word.now (args_of (option_copied args.entry)) }
+    ensures { result ≡ count_form word.now (fields_left args.entry) }
 {
     let (first, rest) = first_field(args?);
     if first != word {
@@ -117,7 +117,7 @@ pub(crate) fn count_form(word: &[u8], args: Option<&[u8]>) -> Option<u32>
 
 /// Whether there is one field, and it is the digits of a state.
 fn is_state(args: Option<&[u8]>) -> bool
-    ensures { result ≡ is_some (with (one_field (args_of (option_copied args.entry))) (hex_of 18)) }
+    ensures { result ≡ is_some (with (one_field (fields_left args.entry)) (hex_of 18)) }
 {
     match one_field(args) {
         None => false,
@@ -128,7 +128,7 @@ fn is_state(args: Option<&[u8]>) -> bool
 /// Whether the fields are the name of a type and the digits of a state.
 #[tactic(auto, unfolding(crate::specs::Forms::is_name_state))]
 fn is_name_state(args: Option<&[u8]>) -> bool
-    ensures { result ≡ is_name_state (args_of (option_copied args.entry)) }
+    ensures { result ≡ is_name_state (fields_left args.entry) }
 {
     let Some(text) = args else {
         return false;
@@ -140,7 +140,7 @@ fn is_name_state(args: Option<&[u8]>) -> bool
 /// Whether the fields are those of an atom.
 #[tactic(auto, unfolding(crate::specs::Forms::is_atom))]
 pub(crate) fn is_atom(args: Option<&[u8]>) -> bool
-    ensures { result ≡ is_atom (args_of (option_copied args.entry)) }
+    ensures { result ≡ is_atom (fields_left args.entry) }
 {
     let Some((_x, rest)) = take_small(args) else {
         return false;
@@ -153,7 +153,7 @@ pub(crate) fn is_atom(args: Option<&[u8]>) -> bool
 
 /// Whether there is one field, and it is `1`.
 fn is_one(args: Option<&[u8]>) -> bool
-    ensures { result ≡ is_one (one_field (args_of (option_copied args.entry))) }
+    ensures { result ≡ is_one (one_field (fields_left args.entry)) }
 {
     match one_field(args) {
         None => false,

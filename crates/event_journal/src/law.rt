@@ -11,6 +11,7 @@ use tile_map::Map;
 pub fn cuts(map: &Map, plan: &AttemptPlan)
     ensures { AreCutShort map.now plan.now.lists }
 {
+    // Only the contract speaks of the arguments; they are read so that none is unused.
     let _tiles = map.tiles();
     let _origin = plan.origin();
 }

@@ -57,6 +57,7 @@ impl TileLog {
     pub fn laws(&self)
         ensures { IsLog self.now }
     {
+        // The proof takes what holds of the log from this reading of it.
         let _ = &self.tile;
     }
 }

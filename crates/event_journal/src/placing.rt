@@ -4,7 +4,7 @@ ghost use Rattle.cell_grid.specs.declared.record.Record.{Record};
 ghost use Rattle.draw_stream.specs.declared.attempt.Attempt.{Attempt};
 ghost use Rattle.tile_map.specs.Plane.{IsMap, tiles_of};
 ghost use Rattle.event_journal.specs.Reading.{is_at_home, is_attempt, is_behind, line_before, not_later, attempt_fault, record_fault};
-ghost use Rattle.event_journal.specs.Cursors.{AllServe, IsExtent, Serves, last_of, lasts_of, passed_of};
+ghost use Rattle.event_journal.specs.Cursors.{ForServed, IsExtent, Serves, StillServe, last_in, last_of, lasts_of, passed_of};
 ghost use Rattle.event_journal.specs.declared.fault.LineFault.TheVariants.{ElsewhereThanTile, OutOfTurn};
 
 use crate::cursors::{LogCursor, drawn};
@@ -175,11 +175,12 @@ pub(crate) fn record_at(
     requires extent { IsExtent extent.now map.now }
     requires line { 1 ≤ n }
     requires cursors { length cursors.old.items ≡ tiles_of map.now }
-    ensures fault { (lists : List (List Attempt)) → AllServe cursors.old.items lists →
-        result ≡ record_fault map.now n before (slice_index_or (lasts_of cursors.old.items) r.now.tile None) (slice_index_or lists r.now.tile []) r.now }
-    ensures serve { result ≡ None → (lists : List (List Attempt)) → AllServe cursors.old.items lists → AllServe cursors.new.items lists }
+    ensures fault { ForServed cursors.old.items (λ lists.
+        result ≡ record_fault map.now n before (last_in cursors.old.items r.now.tile) (slice_index_or lists r.now.tile []) r.now) }
+    ensures serve { result ≡ None → StillServe cursors.old.items cursors.new.items }
     ensures many { length cursors.new.items ≡ length cursors.old.items }
-    ensures last { result ≡ None → lasts_of cursors.new.items ≡ slice_set (lasts_of cursors.old.items) r.now.tile (Some (n, r.now.attempt)) }
+    ensures last { result ≡ None →
+        lasts_of cursors.new.items ≡ slice_set (lasts_of cursors.old.items) r.now.tile (Some (n, r.now.attempt)) }
 {
     let at = r.tile as usize;
     if at >= cursors.len() {

@@ -4,7 +4,7 @@ ghost use Rattle.feast_base.specs.Appending.{Appends};
 ghost use Rattle.text_lines.specs.Lines.{ended_line, text_of};
 ghost use Rattle.text_lines.specs.Values.{field_text};
 ghost use Rattle.event_journal.specs.Logs.{abandoned_in, abandoned_of, records_in};
-ghost use Rattle.event_journal.specs.Text.{abandoned_fields, abandoned_lines, count_fields, journal_text, record_fields, record_lines};
+ghost use Rattle.event_journal.specs.Text.{abandoned_fields, abandoned_lines, count_fields, journal_text, logs_text, record_fields, record_lines};
 ghost use Rattle.event_journal.specs.Walks.{rest_of};
 
 use crate::abandoned::Abandoned;
@@ -153,7 +153,7 @@ pub fn print_entries(
 /// first, but printed as a walk gives them. `NoMemory` if there is none for the walk or `out` can't
 /// grow.
 pub fn print(alloc: Global, journal: &Journal, out: &mut Vec<u8>) -> Result<(), NoMemory>
-    ensures { Appends out.old.items out.new.items result (journal_text (records_in journal.now) (abandoned_in journal.now)) }
+    ensures { Appends out.old.items out.new.items result (logs_text journal.now) }
 {
     let walk = journal.walk(alloc)?;
     push_walk(out, journal, walk)?;

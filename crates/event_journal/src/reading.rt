@@ -1,10 +1,9 @@
 //! What the lines of a report say, one after another.
-ghost use Rattle.std.specs.Prelude.{◌≡◌, ◌≤◌, IsOk, List, length};
-ghost use Rattle.draw_stream.specs.declared.attempt.Attempt.{Attempt};
+ghost use Rattle.std.specs.Prelude.{◌≡◌, ◌≤◌, IsOk, length};
 ghost use Rattle.text_lines.specs.Fields.{fields};
 ghost use Rattle.tile_map.specs.Plane.{tiles_of};
 ghost use Rattle.event_journal.specs.Reading.{Steps, counted, fields_step, is_over, put_abandoned, record_step, want_abandoned, want_atoms, want_records};
-ghost use Rattle.event_journal.specs.Cursors.{AllServe, IsExtent, said_value, wants_value};
+ghost use Rattle.event_journal.specs.Cursors.{IsExtent, StillServe, TakesLine, said_value, wants_value};
 
 use crate::abandoned::Abandoned;
 use crate::cursors::LogCursor;
@@ -90,10 +89,9 @@ fn take_record(
     requires extent { IsExtent extent.now map.now }
     requires line { 1 ≤ n }
     requires cursors { length reading.old.cursors.items ≡ tiles_of map.now }
-    ensures steps { (lists : List (List Attempt)) → AllServe reading.old.cursors.items lists →
-        Steps n (record_step map.now lists n (said_value reading.old) (want_records left) entry) (said_value reading.new) result }
+    ensures steps { TakesLine n (λ lists said. record_step map.now lists n said (want_records left) entry) reading.old reading.new result }
     ensures many { length reading.new.cursors.items ≡ length reading.old.cursors.items }
-    ensures serve { IsOk result → (lists : List (List Attempt)) → AllServe reading.old.cursors.items lists → AllServe reading.new.cursors.items lists }
+    ensures serve { IsOk result → StillServe reading.old.cursors.items reading.new.cursors.items }
 {
     let Some(r) = entry else {
         return Err(JournalFault::BadLine(n));
@@ -139,10 +137,9 @@ pub(crate) fn take_fields(
     requires extent { IsExtent extent.now map.now }
     requires line { 1 ≤ n }
     requires cursors { length reading.old.cursors.items ≡ tiles_of map.now }
-    ensures steps { (lists : List (List Attempt)) → AllServe reading.old.cursors.items lists →
-        Steps n (fields_step map.now lists n (said_value reading.old) (wants_value reading.old.wants) (fields text.now)) (said_value reading.new) result }
+    ensures steps { TakesLine n (λ lists said. fields_step map.now lists n said said.wants (fields text.now)) reading.old reading.new result }
     ensures many { length reading.new.cursors.items ≡ length reading.old.cursors.items }
-    ensures serve { IsOk result → (lists : List (List Attempt)) → AllServe reading.old.cursors.items lists → AllServe reading.new.cursors.items lists }
+    ensures serve { IsOk result → StillServe reading.old.cursors.items reading.new.cursors.items }
 {
     let next = match reading.wants {
         Wants::Records(left) => {

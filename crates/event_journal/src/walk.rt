@@ -87,7 +87,7 @@ fn pass<'a>(lefts: &mut [&'a [Record]], k: usize)
 
 /// Takes the least of the first records.
 fn take(lefts: &mut [&[Record]]) -> Option<Record>
-    ensures { MatchOption result ((merged is_before (lists_behind lefts.old) ≡ []) × (merged is_before (lists_behind lefts.new) ≡ [])) (λ r. merged is_before (lists_behind lefts.old) ≡ r ∷ merged is_before (lists_behind lefts.new)) }
+    ensures { TakesFirst (merged_behind lefts.old) result (merged_behind lefts.new) }
 {
     match least(lefts) {
         None => None,

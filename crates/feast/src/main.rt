@@ -10,7 +10,8 @@ use std::rt::Files;
 use std::thread::Threads;
 use std::{env, io};
 
-/// The arguments after the program's name. The name itself may be any bytes: nobody reads it.
+/// An environment without its first argument, which is the program's name. So that name is never
+/// read, and need not be UTF-8.
 #[derive(Drop)]
 struct AfterName<'a, R> {
     rt: &'a R,
@@ -35,8 +36,8 @@ impl<R: Env> Env for AfterName<'_, R> {
 
 /// The words after the program's name.
 ///
-/// If one of them is not valid UTF-8 there are none, since no form has such a word. `NoMemory` if
-/// memory runs out.
+/// If one of them is not UTF-8, none are returned: no form has such a word, so the call is answered
+/// with the usage line. `NoMemory` if memory runs out.
 fn words<R: Env>(rt: &R, alloc: Global) -> Result<Vec<String>, Status> {
     let mut words = Vec::new(alloc);
     match env::args(&(AfterName { rt }, alloc)) {

@@ -6,6 +6,12 @@ use Rattle.std.specs.Str.{bytes_eq}
 abbrev pub File : Type 0
 File = List ℕ × List ℕ
 
+abbrev pub file_name : File → List ℕ
+file_name f = f.0
+
+abbrev pub file_bytes : File → List ℕ
+file_bytes f = f.1
+
 -- the bytes of the first file of that name
 abbrev pub file_of : List ℕ → List File → Option (List ℕ)
 file_of name [] = None
@@ -31,22 +37,24 @@ abbrev pub Grows : Option (List ℕ) → Option (List ℕ) → List ℕ → Type
 Grows None new piece = new ≡ None
 Grows (Some old) new piece = new ≡ Some (old ++ piece)
 
--- what is known of a shelf: its files if it reveals them, the names whose load failed, and the
+-- what contracts see of a shelf: its files if it reveals them, the names whose load failed, and the
 -- names whose load may fail
 pub record ShelfState : Type 1 where
   pub files : Option (List File)
   pub failed : List (List ℕ)
   pub may_fail : List ℕ → Type 0
 
-abbrev pub shelf_state : {F : Type 0} → (F → Option (List File)) → (F → List (List ℕ)) → (F → List ℕ → Type 0) → F → ShelfState
-shelf_state files failed may_fail shelf = record { files = files shelf; failed = failed shelf; may_fail = may_fail shelf }
+-- a shelf that reveals no file, and any of whose loads may fail
+abbrev pub hidden_shelf : List (List ℕ) → ShelfState
+hidden_shelf failed = record { files = None; failed = failed; may_fail = λ name. Unit {0} }
 
--- what is known of a sink: what was written if it reveals that, the number of its faults, and the
--- numbers of bytes that it may fail to put
+-- what contracts see of a sink: what was written if it reveals that, the number of its faults, and
+-- the numbers of bytes that it may fail to put
 pub record SinkState : Type 1 where
   pub written : Option (List ℕ)
   pub faults : ℕ
   pub may_fail : ℕ → Type 0
 
-abbrev pub sink_state : {K : Type 0} → (K → Option (List ℕ)) → (K → ℕ) → (K → ℕ → Type 0) → K → SinkState
-sink_state written faults may_fail sink = record { written = written sink; faults = faults sink; may_fail = may_fail sink }
+-- a sink that does not reveal what was written, and any of whose puts may fail
+abbrev pub hidden_sink : ℕ → SinkState
+hidden_sink faults = record { written = None; faults = faults; may_fail = λ size. Unit {0} }

@@ -17,7 +17,8 @@ pub trait EdgeSizes {
     /// The two tiles of an edge, the lower first.
     fn ends(&self, edge: u32) -> (u32, u32)
         requires { edge < length (sizes self.now) }
-        ensures { (result.0 ≡ (size_at (sizes self.now) edge).lower) × (result.1 ≡ (size_at (sizes self.now) edge).higher) };
+        ensures lower { result.0 ≡ (size_at (sizes self.now) edge).lower }
+        ensures higher { result.1 ≡ (size_at (sizes self.now) edge).higher };
 
     /// The number of shared sites of an edge.
     fn sites(&self, edge: u32) -> u32

@@ -1,8 +1,9 @@
 //! The files of the system.
-ghost use Rattle.std.specs.Prelude.{◌≡◌, ℕ, ◌+◌, ◌-◌, ◌^◌, ◌≤◌, ◌<◌, ◌⊎◌, ◌++◌, ◌∷◌, [], List, None, length};
+ghost use Rattle.std.specs.Prelude.{◌≡◌, ℕ, ◌-◌, ◌^◌, ◌<◌, [], List};
 ghost use Rattle.std.specs.Io.{ReadsAtMost};
 ghost use Rattle.std.specs.Io.KnownBytes.{ReadConsumes};
-ghost use Rattle.feast_base.specs.Loading.{AppendsSome, IsLoad, NotesFailed, ReadsWhole};
+ghost use Rattle.feast_base.specs.Loading.{AppendsSome, ReadsWhole};
+ghost use Rattle.feast_base.specs.Outside.{hidden_shelf};
 
 use crate::noted::note;
 use crate::{LoadFault, Name, Shelf};
@@ -60,14 +61,14 @@ fn read_some<S: Read>(file: &mut S, buffer: &mut [u8]) -> io::Result<usize>
     Err(ErrorKind::Interrupted.into())
 }
 
-/// Appends what is left of a file, but at most `limit + 1` bytes. A read that fails is `Failed`.
-pub(crate) fn read_whole<S: Read>(
-    file: &mut S,
-    limit: usize,
-    into: &mut Vec<u8>,
-) -> Result<(), LoadFault>
+/// Appends what is left of a file, but at most `limit + 1` bytes. A read that a signal interrupts is
+/// tried again.
+///
+/// `Failed` if another fault comes. `TooLong` if there are more than `limit` bytes. `NoMemory` if
+/// `into` can't grow.
+pub fn read_whole<S: Read>(file: &mut S, limit: usize, into: &mut Vec<u8>) -> Result<(), LoadFault>
     requires { limit < 2 ^ 64 - 1 }
-    ensures { AppendsSome into.old.items into.new.items (λ taken. ReadsWhole (S.remaining file.old) (S.remaining file.new) limit taken result) }
+    ensures { AppendsSome into.old.items into.new.items (ReadsWhole (S.remaining file.old) (S.remaining file.new) limit result) }
 {
     let mut buffer = [0u8; 4096];
     let mut left = limit + 1;
@@ -87,13 +88,7 @@ pub(crate) fn read_whole<S: Read>(
 }
 
 impl<R: Files> Shelf for FileShelf<'_, R> {
-    ghost use Rattle.std.specs.Prelude.{None};
-
-    ghost files = { λ _. None };
-
-    ghost failed = { λ s. s };
-
-    ghost may_fail = { λ _ _. Unit {0} };
+    ghost state = { hidden_shelf };
 
     /// Appends the whole file at that path to `into`, if it has at most `limit` bytes.
     ///

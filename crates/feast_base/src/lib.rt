@@ -19,13 +19,11 @@ mod source;
 mod std_sink;
 mod steps;
 mod stop;
-#[cfg(test)]
-mod tests;
 pub mod text;
 mod type_name;
 
 pub use edge_sizes::EdgeSizes;
-pub use file_shelf::FileShelf;
+pub use file_shelf::{FileShelf, read_whole};
 pub use gate::{Gate, OpenGate};
 pub use mem_shelf::MemShelf;
 pub use mem_sink::MemSink;
@@ -36,7 +34,7 @@ pub use refusal_line::print_refusal;
 pub use shelf::{LoadFault, Shelf};
 pub use sink::{Sink, SinkFailed};
 pub use source::Source;
-pub use std_sink::StdSink;
+pub use std_sink::{StdSink, write_whole};
 pub use steps::{CountLedger, Ledger, NoLedger, Steps};
 pub use stop::Stop;
 pub use type_name::{LONGEST_NAME, is_type_name, is_word_byte};

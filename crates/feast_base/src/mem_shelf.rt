@@ -1,9 +1,9 @@
 //! The shelf in memory.
-ghost use Rattle.std.specs.Prelude.{◌≡◌, ℕ, ◌+◌, ◌-◌, ◌^◌, ◌≤◌, ◌<◌, ◌⊎◌, [], ◌∷◌, ◌++◌, List, Err, IsErrOf, Some, None, MatchOption};
-ghost use Rattle.feast_base.specs.Outside.{File, file_of};
+ghost use Rattle.std.specs.Prelude.{◌≡◌, ℕ, ◌-◌, ◌^◌, ◌<◌, List, IsErrOf, IfNone, IfSome, None, Some};
+ghost use Rattle.feast_base.specs.Outside.{file_of};
 ghost use Rattle.feast_base.specs.Counting.{next_count};
-ghost use Rattle.feast_base.specs.Held.{LoadFails, LoadMayFail};
-ghost use Rattle.feast_base.specs.Loading.{AppendsSome, Copies, IsLoad, NotesFailed};
+ghost use Rattle.feast_base.specs.Held.{LoadFails, LoadMayFail, mem_shelf_state, new_shelf};
+ghost use Rattle.feast_base.specs.Loading.{AppendsSome, Copies, IsFailedLoad, IsLoad, NotesFailed};
 
 use crate::noted::note;
 use crate::{LoadFault, Name, Shelf, Source};
@@ -30,7 +30,8 @@ impl Model for MemShelf {
 
 /// The bytes of the first file of that name.
 fn found<'a>(files: &'a [Source], name: &str) -> Option<&'a [u8]>
-    ensures { MatchOption result (file_of name.now files.now ≡ None) (λ b. file_of name.now files.now ≡ Some b.now) }
+    ensures some { IfSome result (λ bytes. file_of name.now files.now ≡ Some bytes.now) }
+    ensures none { IfNone result (file_of name.now files.now ≡ None) }
 {
     for file in files {
         if file.name() == name {
@@ -56,7 +57,7 @@ fn append_whole(bytes: &[u8], limit: usize, into: &mut Vec<u8>) -> Result<(), Lo
 impl MemShelf {
     /// A shelf of these files. Its loads of the numbers in `fail`, counted from 1, fail.
     pub fn new(alloc: Global, files: Vec<Source>, fail: Vec<u64>) -> MemShelf
-        ensures { result ≡ record { files = files.items; failed = []; calls = 0; fail = fail.items } }
+        ensures { result ≡ new_shelf files.items fail.items }
     {
         MemShelf {
             alloc,
@@ -69,11 +70,7 @@ impl MemShelf {
 }
 
 impl Shelf for MemShelf {
-    ghost files = { λ s. Some s.files };
-
-    ghost failed = { λ s. s.failed };
-
-    ghost may_fail = { LoadMayFail };
+    ghost state = { mem_shelf_state };
 
     /// Appends the first file of that name to `into`, if it has at most `limit` bytes.
     ///
@@ -82,12 +79,12 @@ impl Shelf for MemShelf {
     fn load(&mut self, name: &str, limit: usize, into: &mut Vec<u8>) -> Result<(), LoadFault>
         requires { limit < 2 ^ 64 - 1 }
         ensures files { self.new.files ≡ self.old.files }
-        ensures appends { AppendsSome into.old.items into.new.items (λ taken. IsLoad (Some self.old.files) name.now limit taken result) }
+        ensures appends { AppendsSome into.old.items into.new.items (IsLoad (Some self.old.files) name.now limit result) }
         ensures noted { NotesFailed self.old.failed self.new.failed name.now result }
         ensures cause { IsErrOf result LoadFault.Failed → LoadMayFail self.old name.now }
         ensures later { (n : List ℕ) → LoadMayFail self.new n → LoadMayFail self.old n }
         ensures only_where { IsErrOf result LoadFault.Failed → LoadFails self.old name.now }
-        ensures wherever { LoadFails self.old name.now → (result ≡ Err LoadFault.Failed) ⊎ (result ≡ Err LoadFault.NoMemory) }
+        ensures wherever { LoadFails self.old name.now → IsFailedLoad result }
         ensures nothing { IsErrOf result LoadFault.Failed → into.new.items ≡ into.old.items }
         ensures counted { self.new ≡ record self.old { calls = next_count self.old.calls; failed = self.new.failed } }
     {

@@ -1,9 +1,7 @@
 //! The sink in memory.
-ghost use Rattle.std.specs.Prelude.{◌≡◌, ◌≢◌, ℕ, ◌+◌, ◌-◌, ◌^◌, ◌≤◌, ◌<◌, ◌⊎◌, ◌↔◌, ◌++◌, [], List, IfOk, OnOk, OnErr, IsErr, IsOk, MatchOption, None, Some, length, map};
-ghost use Rattle.feast_base.specs.Counting.{next_count};
-ghost use Rattle.feast_base.specs.Held.{kept_at, PutFails, PutMayFail, put_front, stop_at};
-ghost use Rattle.feast_base.specs.Loading.{Puts};
-ghost use Rattle.feast_base.specs.Outside.{sink_state};
+ghost use Rattle.std.specs.Prelude.{◌≡◌, ◌-◌, ◌^◌, ◌≤◌, ◌<◌, ◌↔◌, ◌++◌, IfOk, OnOk, OnErr, IsErr, IsOk, MatchOption, None, Some, length, map};
+ghost use Rattle.feast_base.specs.Held.{PutFails, after_failed_put, after_put, kept_at, mem_sink_state, new_sink, stop_at};
+ghost use Rattle.feast_base.specs.Loading.{FailsNoSooner, MayFailFrom, Puts};
 
 use crate::{NoMemory, Sink, SinkFailed, Stop};
 use std::alloc::Global;
@@ -57,7 +55,7 @@ impl MemSink {
     /// A sink with room for `room` bytes. Its puts of the numbers in `fail`, counted from 1, fail
     /// and append nothing. `NoMemory` if the room or the list can't be reserved.
     pub fn new(alloc: Global, fail: Vec<u64>, room: usize) -> Result<MemSink, NoMemory>
-        ensures { IfOk result (λ s. s ≡ record { written = []; faults = 0; calls = 0; stops = map stop_at fail.items; room = room }) }
+        ensures { IfOk result (λ s. s ≡ new_sink (map stop_at fail.items) room) }
     {
         MemSink::stopping(alloc, stops_at(alloc, fail.as_slice())?, room)
     }
@@ -66,7 +64,7 @@ impl MemSink {
     /// the first bytes of its piece as the stop keeps; if two stops name one put, the first counts.
     /// `NoMemory` if the room can't be reserved.
     pub fn stopping(alloc: Global, stops: Vec<Stop>, room: usize) -> Result<MemSink, NoMemory>
-        ensures { IfOk result (λ s. s ≡ record { written = []; faults = 0; calls = 0; stops = stops.items; room = room }) }
+        ensures { IfOk result (λ s. s ≡ new_sink stops.items room) }
     {
         let bytes = Vec::with_capacity(alloc, room)?;
         Ok(MemSink {
@@ -105,11 +103,7 @@ impl MemSink {
 }
 
 impl Sink for MemSink {
-    ghost written = { λ s. Some s.written };
-
-    ghost faults = { λ s. s.faults };
-
-    ghost may_fail = { PutMayFail };
+    ghost state = { mem_sink_state };
 
     /// Appends all the bytes to what is written.
     ///
@@ -119,12 +113,12 @@ impl Sink for MemSink {
     fn put(&mut self, bytes: &[u8]) -> Result<(), SinkFailed>
         requires some { 0 < length bytes.now }
         requires room { self.old.faults < 2 ^ 64 - 1 }
-        ensures puts { Puts (sink_state (λ s. Some s.written) (λ s. s.faults) PutMayFail self.old) (sink_state (λ s. Some s.written) (λ s. s.faults) PutMayFail self.new) bytes.now result }
-        ensures cause { IsErr result → (m : ℕ) → length bytes.now ≤ m → PutMayFail self.old m }
-        ensures later { IsOk result → (m : ℕ) → PutMayFail self.new m → PutMayFail self.old (length bytes.now + m) }
+        ensures puts { Puts (mem_sink_state self.old) (mem_sink_state self.new) bytes.now result }
+        ensures cause { IsErr result → MayFailFrom (mem_sink_state self.old) (length bytes.now) }
+        ensures later { IsOk result → FailsNoSooner (mem_sink_state self.old) (mem_sink_state self.new) (length bytes.now) }
         ensures exactly { IsErr result ↔ PutFails self.old (length bytes.now) }
-        ensures all { OnOk result (self.new ≡ record self.old { written = self.old.written ++ bytes.now; calls = next_count self.old.calls }) }
-        ensures front { OnErr result (self.new ≡ record self.old { written = self.old.written ++ put_front self.old bytes.now; faults = self.old.faults + 1; calls = next_count self.old.calls }) }
+        ensures all { OnOk result (self.new ≡ after_put self.old bytes.now) }
+        ensures front { OnErr result (self.new ≡ after_failed_put self.old bytes.now) }
     {
         self.calls = self.calls.saturating_add(1);
         if bytes.len() > self.room - self.bytes.len() {

@@ -1,5 +1,6 @@
 //! The names whose load failed.
-ghost use Rattle.std.specs.Prelude.{◌≡◌, ℕ, ◌⊎◌, ◌++◌, ◌∷◌, [], OnOk, OnErr};
+ghost use Rattle.std.specs.Prelude.{◌≡◌, ◌++◌, ◌∷◌, [], OnOk, OnErr};
+ghost use Rattle.feast_base.specs.Loading.{IsNoted};
 
 use crate::{LoadFault, Name, NoMemory};
 use std::alloc::Global;
@@ -15,8 +16,7 @@ fn keep(alloc: Global, names: &mut Vec<Name>, name: &str) -> Result<(), NoMemory
 
 /// Notes the name of a load that failed. The answer is `Failed`, or that memory ran out.
 pub(crate) fn note(alloc: Global, failed: &mut Vec<Name>, name: &str) -> LoadFault
-    ensures { ((result ≡ LoadFault.Failed) × (failed.new.items ≡ failed.old.items ++ name.now ∷ []))
-        ⊎ ((result ≡ LoadFault.NoMemory) × (failed.new.items ≡ failed.old.items)) }
+    ensures { IsNoted failed.old.items failed.new.items name.now result }
 {
     match keep(alloc, failed, name) {
         Ok(()) => LoadFault::Failed,

@@ -1,6 +1,6 @@
 //! Shelves, from which files are loaded.
-ghost use Rattle.std.specs.Prelude.{◌≡◌, ℕ, ◌^◌, ◌-◌, ◌<◌, List, Option, IsErrOf};
-ghost use Rattle.feast_base.specs.Outside.{File};
+ghost use Rattle.std.specs.Prelude.{◌≡◌, ℕ, ◌^◌, ◌-◌, ◌<◌, List, IsErrOf};
+ghost use Rattle.feast_base.specs.Outside.{ShelfState};
 ghost use Rattle.feast_base.specs.Loading.{AppendsSome, IsLoad, NotesFailed};
 ghost use Rattle.feast_base.specs.declared.shelf.LoadFault.TheVariants.{NoMemory};
 
@@ -31,15 +31,11 @@ impl From<AllocError> for LoadFault {
 
 /// A place that files are loaded from.
 ///
-/// Contracts see three things. `files` are the files that it holds, if it reveals them; no call
-/// changes them. `failed` are the names whose load failed, in the order of the loads. `may_fail`
-/// says of a name whether loading it may fail from now on.
+/// Contracts see three things, as its `state`. `files` are the files that it holds, if it reveals
+/// them; no call changes them. `failed` are the names whose load failed, in the order of the loads.
+/// `may_fail` says of a name whether loading it may fail from now on.
 pub trait Shelf {
-    ghost files: { Self → Option (List File) };
-
-    ghost failed: { Self → List (List ℕ) };
-
-    ghost may_fail: { Self → List ℕ → Type 0 };
+    ghost state: { Self → ShelfState };
 
     /// Appends the whole file of that name to `into`, if it has at most `limit` bytes.
     ///
@@ -49,9 +45,9 @@ pub trait Shelf {
     /// earlier bytes of `into` are still there, in front of what was appended.
     fn load(&mut self, name: &str, limit: usize, into: &mut Vec<u8>) -> Result<(), LoadFault>
         requires { limit < 2 ^ 64 - 1 }
-        ensures files { files self.new ≡ files self.old }
-        ensures appends { AppendsSome into.old.items into.new.items (λ taken. IsLoad (files self.old) name.now limit taken result) }
-        ensures noted { NotesFailed (failed self.old) (failed self.new) name.now result }
-        ensures cause { IsErrOf result LoadFault.Failed → may_fail self.old name.now }
-        ensures later { (n : List ℕ) → may_fail self.new n → may_fail self.old n };
+        ensures files { (state self.new).files ≡ (state self.old).files }
+        ensures appends { AppendsSome into.old.items into.new.items (IsLoad (state self.old).files name.now limit result) }
+        ensures noted { NotesFailed (state self.old).failed (state self.new).failed name.now result }
+        ensures cause { IsErrOf result LoadFault.Failed → (state self.old).may_fail name.now }
+        ensures later { (n : List ℕ) → (state self.new).may_fail n → (state self.old).may_fail n };
 }

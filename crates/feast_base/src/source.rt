@@ -1,5 +1,6 @@
 //! Files as they were read.
-ghost use Rattle.std.specs.Prelude.{◌≡◌, ℕ, List, IfOk};
+ghost use Rattle.std.specs.Prelude.{◌≡◌, IfOk};
+ghost use Rattle.feast_base.specs.Outside.{file_bytes, file_name};
 
 use crate::NoMemory;
 use std::alloc::Global;
@@ -32,14 +33,14 @@ impl Source {
 
     /// The name of the file.
     pub fn name(&self) -> &str
-        ensures { result.now ≡ self.now.0 }
+        ensures { result.now ≡ file_name self.now }
     {
         self.name.as_str()
     }
 
     /// The bytes of the file.
     pub fn bytes(&self) -> &[u8]
-        ensures { result.now ≡ self.now.1 }
+        ensures { result.now ≡ file_bytes self.now }
     {
         self.bytes.as_slice()
     }

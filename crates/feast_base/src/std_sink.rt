@@ -2,8 +2,8 @@
 ghost use Rattle.std.specs.Prelude.{◌≡◌, ℕ, ◌+◌, ◌-◌, ◌^◌, ◌≤◌, ◌<◌, IsErr, IsOk, None, OnErr, length};
 ghost use Rattle.std.specs.Io.{WritesAtMost};
 ghost use Rattle.std.specs.Io.KnownBytes.{WriteAppends};
-ghost use Rattle.feast_base.specs.Loading.{Puts, WritesWhole};
-ghost use Rattle.feast_base.specs.Outside.{sink_state};
+ghost use Rattle.feast_base.specs.Loading.{FailsNoSooner, MayFailFrom, Puts, WritesWhole};
+ghost use Rattle.feast_base.specs.Outside.{hidden_sink};
 
 use crate::{Sink, SinkFailed};
 use std::io;
@@ -52,8 +52,11 @@ fn write_some<W: Write>(to: &mut W, bytes: &[u8]) -> io::Result<usize>
     Err(ErrorKind::Interrupted.into())
 }
 
-/// Writes all the bytes, and flushes. A write that takes no byte is a fault.
-pub(crate) fn write_whole<W: Write>(to: &mut W, bytes: &[u8]) -> Result<(), SinkFailed>
+/// Writes all the bytes, and flushes. A write that a signal interrupts is tried again, and one that
+/// takes no byte is a fault.
+///
+/// `SinkFailed` if a write or the flush fails; the writer then has a first part of the bytes.
+pub fn write_whole<W: Write>(to: &mut W, bytes: &[u8]) -> Result<(), SinkFailed>
     ensures { WritesWhole (W.contents to.old) (W.contents to.new) bytes.now result }
 {
     let mut rest = bytes;
@@ -71,21 +74,15 @@ pub(crate) fn write_whole<W: Write>(to: &mut W, bytes: &[u8]) -> Result<(), Sink
 }
 
 impl<R: Print> Sink for StdSink<'_, R> {
-    ghost use Rattle.std.specs.Prelude.{None};
-
-    ghost written = { λ _. None };
-
-    ghost faults = { λ s. s };
-
-    ghost may_fail = { λ _ _. Unit {0} };
+    ghost state = { hidden_sink };
 
     /// Writes all the bytes, and flushes. After a fault the count of faults is one more.
     fn put(&mut self, bytes: &[u8]) -> Result<(), SinkFailed>
         requires some { 0 < length bytes.now }
         requires room { self.old < 2 ^ 64 - 1 }
-        ensures puts { Puts (sink_state (λ _. None) (λ s. s) (λ _ _. Unit {0}) self.old) (sink_state (λ _. None) (λ s. s) (λ _ _. Unit {0}) self.new) bytes.now result }
-        ensures cause { IsErr result → (m : ℕ) → length bytes.now ≤ m → Unit {0} }
-        ensures later { IsOk result → (m : ℕ) → Unit {0} → Unit {0} }
+        ensures puts { Puts (hidden_sink self.old) (hidden_sink self.new) bytes.now result }
+        ensures cause { IsErr result → MayFailFrom (hidden_sink self.old) (length bytes.now) }
+        ensures later { IsOk result → FailsNoSooner (hidden_sink self.old) (hidden_sink self.new) (length bytes.now) }
         ensures once { OnErr result (self.new ≡ self.old + 1) }
     {
         match write_whole(&mut io::writer(self.rt), bytes) {

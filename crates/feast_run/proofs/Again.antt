@@ -16,7 +16,7 @@ use Rattle.feast_run.specs.Promises.{WorldTold}
 use Rattle.feast_run.specs.Stages.{JournalValue, journal_limit, journal_said, ready_with}
 use Rattle.grid_print.proofs.ReadAgain.{read_again}
 use Rattle.grid_print.specs.Again.{IsLeft}
-use Rattle.grid_print.specs.Report.{atoms_text, report}
+use Rattle.grid_print.specs.Report.{atoms_text, report, report_value}
 use Rattle.world_runs.proofs.Valid.{read_draft, world_known}
 use Rattle.world_text.specs.Named.{WorldValue}
 use Rattle.world_text.specs.Printed.{IsNamed}
@@ -28,7 +28,7 @@ replays_to files word world e grid records abandoned text sound told run shown =
     let names = e.names in
     let named : IsNamed names world = (told.reads.0, read_draft told.bytes told.reads.0 told.reads.1, told.reads.2) in
     let size = subst (HasSize world.plane) (sym run.replayed) (left_size world.plane e.meaning world.atoms records) in
-    let left : IsLeft names world.plane world.plan grid records abandoned = record {
+    let left : IsLeft names world.plane world.plan (report_value grid records abandoned) = record {
       wide = size.wide;
       sites = size.sites;
       named = left_named (ready_with world e) grid records run.replayed sound.brings (world_known names world named);
@@ -37,7 +37,7 @@ replays_to files word world e grid records abandoned text sound told run shown =
       excused = run.excused;
     } in
     let fits = plan_fits names world named in
-    let says = read_again names world.plane world.plan sound.named fits grid records abandoned left in
+    let says = read_again names world.plane world.plan sound.named fits (report_value grid records abandoned) left in
     let short = report_short names world.plane world.plan (formed_short names sound.named) fits grid records abandoned left in
     let journal : JournalValue = record { records = records; abandoned = abandoned } in
     let reads : journal_said (read_report world.plane world.plan.lists text) ≡ Ok journal =

@@ -1,14 +1,15 @@
 -- Only file words are noted.
-use Rattle.std.proofs.Common.{ℕ, ◌≡◌, List, [], ◌∷◌, Option, Some, None, refl, inl, inr, ◌⊎◌, Result, Ok, Err}
+use Rattle.std.proofs.Common.{ℕ, ◌≡◌, List, [], ◌∷◌, Option, Some, None, refl, inl, inr, ◌⊎◌, Ok, Err}
 use Rattle.feast_base.specs.Outside.{File, ShelfState, SinkState}
 use Rattle.feast_run.proofs.Laws.{then_misses}
 use Rattle.feast_run.specs.Answer.{form_answer}
+use Rattle.feast_run.specs.Changes.{Change}
 use Rattle.feast_run.specs.CodeFiles.{codes_from, ready_packed}
 use Rattle.feast_run.specs.Elements.{ElementsValue, code_elements, source_elements}
 use Rattle.feast_run.specs.Ending.{Ends, Leaves, status_of}
 use Rattle.feast_run.specs.Forms.{FormValue, check, code, pack, run, step, replay, gen, audit, rewind, steppack, runpack}
 use Rattle.feast_base.specs.Stages.{Stage}
-use Rattle.feast_run.specs.Halting.{HaltValue, MissesOf, misses, refuses}
+use Rattle.feast_run.specs.Halting.{FormOutcome, HaltValue, MissesOf, misses, refuses}
 use Rattle.feast_run.specs.Promises.{Noted, IsWordOf, file_words}
 use Rattle.feast_run.specs.Stages.{draft_of, load_more, ready, ready_by, set_of, with_elements}
 use Rattle.feast_run.specs.declared.status.Status.{Status}
@@ -67,28 +68,28 @@ form_misses files (rewind world report k words) =
 form_misses files (steppack world file) = then_misses _ _ _ (packed_miss files world file) (λ r w h. absurd h)
 form_misses files (runpack world file) = then_misses _ _ _ (packed_miss files world file) (λ r w h. absurd h)
 
-noted_by : (f : FormValue) (old new : ShelfState) (o : Result (List ℕ) HaltValue) (status : Status) → form_answer old.files f o → Leaves old new o →
-    ((w : List ℕ) → o ≡ Err (misses w) → (status ≡ how.Unreadable) ⊎ ((status ≡ how.SinkFault) ⊎ (status ≡ how.NoMemory))) → Noted (Some f) old new status
-noted_by f old new (Ok t) status h k s = inl k.failed
-noted_by f old new (Err (refuses r)) status h k s = inl k.failed
-noted_by f old new (Err (misses w)) status h k s =
-    inr (record { f = f; form_is = refl; word = w; is_word = form_misses old.files f w h; noted = k.failed; cause = k.cause; status_is = s w refl })
+noted_by : (f : FormValue) (shelf : Change ShelfState) (o : FormOutcome) (status : Status) → form_answer shelf.old.files f o → Leaves shelf o →
+    ((w : List ℕ) → o ≡ Err (misses w) → (status ≡ how.Unreadable) ⊎ ((status ≡ how.SinkFault) ⊎ (status ≡ how.NoMemory))) → Noted (Some f) shelf status
+noted_by f shelf (Ok t) status h k s = inl k.failed
+noted_by f shelf (Err (refuses r)) status h k s = inl k.failed
+noted_by f shelf (Err (misses w)) status h k s =
+    inr (record { f = f; form_is = refl; word = w; is_word = form_misses shelf.old.files f w h; noted = k.failed; cause = k.cause; status_is = s w refl })
 
-status_at : (o : Result (List ℕ) HaltValue) (status : Status) (w : List ℕ) → status ≡ status_of o → o ≡ Err (misses w) → status ≡ how.Unreadable
+status_at : (o : FormOutcome) (status : Status) (w : List ℕ) → status ≡ status_of o → o ≡ Err (misses w) → status ≡ how.Unreadable
 status_at o status w s e = rw e at s
 
 -- which names are noted, from how a call ends
-pub noted_of : (form : Option FormValue) (old new : ShelfState) (sink sink' : SinkState) (status : Status) → Ends form old new sink sink' status → Noted form old new status
-noted_of None old new sink sink' status ends =
+pub noted_of : (form : Option FormValue) (shelf : Change ShelfState) (sink : Change SinkState) (status : Status) → Ends form shelf sink status → Noted form shelf status
+noted_of None shelf sink status ends =
     elim ends [ inl whole ↦ inl whole.comes.leaves.failed | inr rest ↦ elim rest [ inl b ↦ inl b.comes.leaves.failed | inr w ↦ inl w.leaves.failed ] ]
-noted_of (Some f) old new sink sink' status ends =
+noted_of (Some f) shelf sink status ends =
     elim ends [
-      | inl whole ↦ noted_by f old new whole.comes.outcome status whole.comes.comes whole.comes.leaves (λ w e. inl (status_at whole.comes.outcome status w whole.comes.status_is e))
+      | inl whole ↦ noted_by f shelf whole.comes.outcome status whole.comes.comes whole.comes.leaves (λ w e. inl (status_at whole.comes.outcome status w whole.comes.status_is e))
       | inr rest ↦ elim rest [
-        | inl b ↦ noted_by f old new b.comes.outcome status b.comes.comes b.comes.leaves (λ w e. inr (inl b.status_is))
+        | inl b ↦ noted_by f shelf b.comes.outcome status b.comes.comes b.comes.leaves (λ w e. inr (inl b.status_is))
         | inr w ↦ elim w.leaves [
           | inl same ↦ inl same.failed
-          | inr missed ↦ noted_by f old new (Err (misses missed.word)) status missed.comes missed.notes (λ v e. inr (inr w.status_is))
+          | inr missed ↦ noted_by f shelf (Err (misses missed.word)) status missed.comes missed.notes (λ v e. inr (inr w.status_is))
         ]
       ]
     ]

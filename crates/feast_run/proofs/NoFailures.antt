@@ -1,12 +1,13 @@
 -- Over a shelf and a sink in memory that have no reason to fail, no count rises.
-use Rattle.std.proofs.Common.{ℕ, ◌≡◌, ◌≢◌, ◌≤◌, List, [], length, Option, Some, None, inl, inr, ap, ◌∙◌, sym, arith, Result, Ok, Err}
+use Rattle.std.proofs.Common.{ℕ, ◌≡◌, ◌≢◌, ◌≤◌, List, [], length, Option, Some, None, inl, inr, ap, ◌∙◌, sym, arith, Ok, Err}
 use Rattle.feast_base.specs.Held.{LoadMayFail, PutMayFail, ShelfHeld, SinkHeld, room_left}
 use Rattle.feast_base.specs.Outside.{ShelfState, file_of}
 use Rattle.feast_run.proofs.Missing.{noted_of}
-use Rattle.feast_run.specs.Ending.{ComesTo, Ends, status_of, status_of_input}
+use Rattle.feast_run.specs.Changes.{Change}
+use Rattle.feast_run.specs.Ending.{ComesTo, status_of, status_of_input}
 use Rattle.feast_run.specs.Forms.{FormValue}
-use Rattle.feast_run.specs.Halting.{HaltValue, misses, refuses}
-use Rattle.feast_run.specs.Promises.{NothingFails, IsWordOf, file_words, mem_shelf_state, mem_sink_state}
+use Rattle.feast_run.specs.Halting.{FormOutcome, misses, refuses}
+use Rattle.feast_run.specs.Promises.{BothHeld, EndsInMemory, NothingFails, NothingMayFail, shelf_change, sink_change}
 use Rattle.feast_run.specs.declared.status.Status.{Status}
 use Rattle.feast_run.specs.declared.status.Status.TheVariants as how
 use Rattle.feast_run.specs.declared.halt.Input.{Input}
@@ -20,13 +21,11 @@ put_not : (sink : SinkHeld) (size : ℕ) → sink.stops ≡ [] → size ≤ room
 put_not sink size free room h = elim h [ inl listed ↦ absurd (omega (arith, listed, ap length free)) | inr long ↦ absurd (omega (arith, long, room)) ]
 
 -- where each file word is there, a call notes no name
-kept_by : (form : Option FormValue) (shelf shelf' : ShelfHeld) (sink sink' : SinkHeld) (status : Status) → shelf.fail ≡ [] →
-    ((f : FormValue) (word : List ℕ) → form ≡ Some f → IsWordOf (file_words f) word → file_of word shelf.files ≢ None) →
-    Ends form (mem_shelf_state shelf) (mem_shelf_state shelf') (mem_sink_state sink) (mem_sink_state sink') status → shelf'.failed ≡ shelf.failed
-kept_by form shelf shelf' sink sink' status free there ends =
-    elim (noted_of form (mem_shelf_state shelf) (mem_shelf_state shelf') (mem_sink_state sink) (mem_sink_state sink') status ends) [
+kept_by : (form : Option FormValue) (old new : BothHeld) (status : Status) → NothingMayFail form old new → EndsInMemory form old new status → new.shelf.failed ≡ old.shelf.failed
+kept_by form old new status may_not ends =
+    elim (noted_of form (shelf_change old new) (sink_change old new) status ends) [
       | inl same ↦ same
-      | inr n ↦ absurd (load_not shelf n.word free (there n.f n.word n.form_is n.is_word) n.cause)
+      | inr n ↦ absurd (load_not old.shelf n.word may_not.unlisted (may_not.there n.f n.word n.form_is n.is_word) n.cause)
     ]
 
 -- no outcome has the status SinkFault
@@ -37,31 +36,28 @@ not_fault input.World e = cc
 not_fault input.Journal e = cc
 not_fault input.Codes e = cc
 
-no_fault : (o : Result (List ℕ) HaltValue) (status : Status) → status ≡ status_of o → status ≡ how.SinkFault → ⊥
+no_fault : (o : FormOutcome) (status : Status) → status ≡ status_of o → status ≡ how.SinkFault → ⊥
 no_fault (Ok t) status s e = let x : how.SinkFault ≡ how.Done = sym e ∙ s in cc
 no_fault (Err (refuses r)) status s e = not_fault r.input (sym s ∙ e)
 no_fault (Err (misses w)) status s e = let x : how.SinkFault ≡ how.Unreadable = sym e ∙ s in cc
 
 -- no call comes to say it
-comes_no_fault : (form : Option FormValue) (old new : ShelfState) (status : Status) (text : List ℕ) → ComesTo form old new status text → status ≡ how.SinkFault → ⊥
-comes_no_fault None old new status text h e = let x : how.SinkFault ≡ how.Usage = sym e ∙ h.status_is in cc
-comes_no_fault (Some f) old new status text h e = no_fault h.outcome status h.status_is e
+comes_no_fault : (form : Option FormValue) (shelf : Change ShelfState) (status : Status) (text : List ℕ) → ComesTo form shelf status text → status ≡ how.SinkFault → ⊥
+comes_no_fault None shelf status text h e = let x : how.SinkFault ≡ how.Usage = sym e ∙ h.status_is in cc
+comes_no_fault (Some f) shelf status text h e = no_fault h.outcome status h.status_is e
 
 -- a call whose text has room has no put that fails
-whole_by : (form : Option FormValue) (shelf shelf' : ShelfHeld) (sink sink' : SinkHeld) (status : Status) → sink.stops ≡ [] →
-    ((right : Status) (text : List ℕ) → ComesTo form (mem_shelf_state shelf) (mem_shelf_state shelf') right text → length text ≤ room_left sink) →
-    Ends form (mem_shelf_state shelf) (mem_shelf_state shelf') (mem_sink_state sink) (mem_sink_state sink') status → (sink'.faults ≡ sink.faults) × (status ≢ how.SinkFault)
-whole_by form shelf shelf' sink sink' status free room ends =
+whole_by : (form : Option FormValue) (old new : BothHeld) (status : Status) → NothingMayFail form old new → EndsInMemory form old new status → (new.sink.faults ≡ old.sink.faults) × (status ≢ how.SinkFault)
+whole_by form old new status may_not ends =
     elim ends [
-      | inl whole ↦ (whole.put.same, comes_no_fault form (mem_shelf_state shelf) (mem_shelf_state shelf') status whole.text whole.comes)
+      | inl whole ↦ (whole.put.same, comes_no_fault form (shelf_change old new) status whole.text whole.comes)
       | inr rest ↦ elim rest [
-        | inl b ↦ absurd (put_not sink (length b.text) free (room b.right b.text b.comes) (b.cut.cause (length b.text) (omega arith)))
+        | inl b ↦ absurd (put_not old.sink (length b.text) may_not.unstopped (may_not.room b.right b.text b.comes) (b.cut.cause (length b.text) (omega arith)))
         | inr w ↦ (w.same, λ e. let x : how.NoMemory ≡ how.SinkFault = sym w.status_is ∙ e in cc)
       ]
     ]
 
-pub nothing_fails : (form : Option FormValue) (shelf shelf' : ShelfHeld) (sink sink' : SinkHeld) (status : Status) →
-    Ends form (mem_shelf_state shelf) (mem_shelf_state shelf') (mem_sink_state sink) (mem_sink_state sink') status → NothingFails form shelf shelf' sink sink' status
-nothing_fails form shelf shelf' sink sink' status ends = λ free unlisted there room.
-    let whole = whole_by form shelf shelf' sink sink' status unlisted room ends in
-    (kept_by form shelf shelf' sink sink' status free there ends, whole.0, whole.1)
+pub nothing_fails : (form : Option FormValue) (old new : BothHeld) (status : Status) → EndsInMemory form old new status → NothingFails form old new status
+nothing_fails form old new status ends = λ may_not.
+    let whole = whole_by form old new status may_not ends in
+    record { loads = kept_by form old new status may_not ends; puts = whole.0; status_is_not = whole.1 }

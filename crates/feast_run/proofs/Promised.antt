@@ -1,5 +1,5 @@
 -- The promises of a call, from how it ends.
-use Rattle.std.proofs.Common.{ℕ, ◌≡◌, List, [], ◌∷◌, ◌++◌, length, Option, Some, None, refl, sym, ap, subst, ◌∙◌, inl, inr, arith, Result, Ok, Err}
+use Rattle.std.proofs.Common.{ℕ, ◌≡◌, List, [], ◌∷◌, ◌++◌, length, Option, Some, None, refl, sym, ap, subst, ◌∙◌, inl, inr, arith, Ok, Err}
 use Rattle.std.proofs.lemmas.List.{length-append, append_cancel_left}
 use Rattle.element_set.specs.Sets.{SetValue, check_text, code_text}
 use Rattle.feast_base.specs.Outside.{File, Grows, ShelfState, SinkState}
@@ -9,11 +9,12 @@ use Rattle.feast_run.proofs.Again.{replays_to}
 use Rattle.feast_run.proofs.CodeStages.{codes_are}
 use Rattle.feast_base.proofs.Stages.{went}
 use Rattle.feast_run.proofs.Laws.{one_refusal}
-use Rattle.feast_run.proofs.Runs.{ready_told, set_is}
+use Rattle.feast_run.proofs.Runs.{ReadyTold, ready_told, set_is}
 use Rattle.feast_run.proofs.Sound.{AreSound, codes_sound, set_sound}
 use Rattle.feast_run.proofs.Sure.{form_accepts, form_sure}
 use Rattle.feast_run.specs.Answer.{form_answer, replay_of, rewind_of, runs, shows, steps}
 use Rattle.feast_run.specs.Audited.{audit_of}
+use Rattle.feast_run.specs.Changes.{Change}
 use Rattle.feast_run.specs.CodeFiles.{codes_from}
 use Rattle.feast_run.specs.Elements.{ElementsValue, code_elements, source_elements}
 use Rattle.feast_run.specs.Ending.{Ends, Leaves, Whole, status_of, status_of_input, text_of}
@@ -21,10 +22,10 @@ use Rattle.feast_run.specs.Packed.{pack_text}
 use Rattle.feast_run.specs.Forms.{FormValue, check, code, pack, run, step, replay, gen, audit, rewind, steppack, runpack}
 use Rattle.feast_run.specs.Generating.{generates}
 use Rattle.feast_base.specs.Stages.{IsSure, Stage, and_then}
-use Rattle.feast_run.specs.Halting.{Accepts, HaltValue, IsRefusal, RefusedValue, misses, refuses}
-use Rattle.feast_run.specs.Promises.{Agrees, Complete, Exactly, GenTold, Headline, IsCodeFile, IsSet, Lines, RanTold, ReplayTold, SetTold, SteppedTold, Shows, UsageExactly, AuditTold, RewindTold}
+use Rattle.feast_run.specs.Halting.{Accepts, FormOutcome, HaltValue, IsRefusal, RefusedValue, misses, refuses}
+use Rattle.feast_run.specs.Promises.{Agrees, AuditTold, Complete, Exactly, Gains, GainsLine, GenTold, HasShown, Headline, IsCodeFile, IsDue, IsSet, KnownReport, NoneNoted, RanTold, ReplayTold, ReportWords, RewindTold, SetTold, Shows, SteppedTold, UsageExactly, report_words}
 use Rattle.feast_run.specs.Owing.{Reports}
-use Rattle.feast_run.specs.Stages.{ReadyValue, ready_by, ready_with, set_of}
+use Rattle.feast_run.specs.Stages.{JournalValue, ReadyValue, journal_in, journal_limit, load, ready_by, ready_with, set_of}
 use Rattle.feast_run.specs.Stepped.{IsSteppedRun, machine_of, stepped_logs, stepped_report}
 use Rattle.feast_run.specs.declared.status.Status.{Status}
 use Rattle.feast_run.specs.declared.status.Status.TheVariants as how
@@ -84,26 +85,28 @@ stepped_told elements S IsTold files world text are h =
       replays = replays_to files world s.world (elements s.given) (machine_of ready).grid (records_in (stepped_logs ready)) (abandoned_in (stepped_logs ready)) text (are.sound s.given is_told) s.told run shown;
     }
 
+-- a world with the elements of a set, and the journal that its report says
+abbrev report_known : (files : List File) (words : ReportWords) (r : ReadyValue) (s : ReadyTold source_elements (set_of (Some files) words.elements) files words.world r) (bytes : List ℕ) (journal : JournalValue) →
+    load (Some files) journal_limit words.report (Ok bytes) → journal_in words.report s.world bytes (Ok journal) → KnownReport files words
+report_known files words r s bytes journal loaded read = record {
+  world = s.world;
+  set = s.given;
+  is_set = set_is files words.elements s.given s.passed;
+  told_world = s.told;
+  bytes = bytes;
+  journal = journal;
+  told_report = record { file = loaded.0; within = loaded.1; reads = read };
+}
+
 -- a replay that showed a text, part by part
-replay_told : (files : List File) (world journal : List ℕ) (words : List (List ℕ)) (text : List ℕ) → form_answer (Some files) (replay world journal words) (Ok text) → ReplayTold files world journal words text
+replay_told : (files : List File) (world journal : List ℕ) (words : List (List ℕ)) (text : List ℕ) → form_answer (Some files) (replay world journal words) (Ok text) → ReplayTold files (report_words world journal words) text
 replay_told files world journal words text h =
     let r = went _ _ text h in
     let s = ready_told source_elements (set_of (Some files) words) files world r.value r.passed in
     let rest = subst (λ (v : ReadyValue). replay_of (Some files) journal v (Ok text)) s.is r.rest in
     let j = went _ _ text rest in
     let b = went _ _ j.value j.passed in
-    record {
-      world = s.world;
-      set = s.given;
-      is_set = set_is files words s.given s.passed;
-      told_world = s.told;
-      journal_bytes = b.value;
-      journal_file = b.passed.0;
-      journal_within = b.passed.1;
-      journal = j.value;
-      journal_reads = b.rest;
-      shown = j.rest;
-    }
+    record { known = report_known files (report_words world journal words) r.value s b.value j.value b.passed b.rest; shown = j.rest }
 
 -- a generated run that showed a text, part by part
 gen_told : (number : ℕ) (text : List ℕ) → generates number (Ok text) → GenTold number text
@@ -112,43 +115,24 @@ gen_told number text h =
     record { set = s.value; is_set = s.passed; names = two_names s.value s.passed; run = s.rest.0; shown = s.rest.1 }
 
 -- an audit that showed a text, part by part
-audit_told : (files : List File) (world report : List ℕ) (words : List (List ℕ)) (text : List ℕ) → form_answer (Some files) (audit world report words) (Ok text) → AuditTold files world report words text
+audit_told : (files : List File) (world report : List ℕ) (words : List (List ℕ)) (text : List ℕ) → form_answer (Some files) (audit world report words) (Ok text) → AuditTold files (report_words world report words) text
 audit_told files world report words text h =
     let r = went _ _ text h in
     let s = ready_told source_elements (set_of (Some files) words) files world r.value r.passed in
     let rest = subst (λ (v : ReadyValue). audit_of (Some files) report v (Ok text)) s.is r.rest in
     let b = went _ _ text rest in
     let j = went _ _ text b.rest in
-    record {
-      world = s.world;
-      set = s.given;
-      is_set = set_is files words s.given s.passed;
-      told_world = s.told;
-      bytes = b.value;
-      journal = j.value;
-      told_report = record { file = b.passed.0; within = b.passed.1; reads = j.passed };
-      audits = j.rest;
-    }
+    record { known = report_known files (report_words world report words) r.value s b.value j.value b.passed j.passed; audits = j.rest }
 
 -- a rewind that showed a text, part by part
-rewind_told : (files : List File) (world report : List ℕ) (k : ℕ) (words : List (List ℕ)) (text : List ℕ) → form_answer (Some files) (rewind world report k words) (Ok text) → RewindTold files world report k words text
+rewind_told : (files : List File) (world report : List ℕ) (k : ℕ) (words : List (List ℕ)) (text : List ℕ) → form_answer (Some files) (rewind world report k words) (Ok text) → RewindTold files (report_words world report words) k text
 rewind_told files world report k words text h =
     let r = went _ _ text h in
     let s = ready_told source_elements (set_of (Some files) words) files world r.value r.passed in
     let rest = subst (λ (v : ReadyValue). rewind_of (Some files) report k v (Ok text)) s.is r.rest in
     let j = went _ _ text rest in
     let b = went _ _ j.value j.passed in
-    record {
-      world = s.world;
-      set = s.given;
-      is_set = set_is files words s.given s.passed;
-      told_world = s.told;
-      bytes = b.value;
-      journal = j.value;
-      told_report = record { file = b.passed.0; within = b.passed.1; reads = b.rest };
-      enough = j.rest.0;
-      shown = j.rest.1;
-    }
+    record { known = report_known files (report_words world report words) r.value s b.value j.value b.passed b.rest; enough = j.rest.0; shown = j.rest.1 }
 
 shows_of : (files : List File) (form : FormValue) (text : List ℕ) → form_answer (Some files) form (Ok text) → Shows files form text
 shows_of files (check words) text h = set_told check_text files words text h
@@ -179,34 +163,35 @@ not_usage input.Journal e = cc
 not_usage input.Codes e = cc
 
 -- an outcome with the status Done is a text
-done_by : (S : Stage (List ℕ) HaltValue) (o : Result (List ℕ) HaltValue) (status : Status) (text : List ℕ) → S o → status ≡ status_of o → text ≡ text_of o → status ≡ how.Done → S (Ok text)
+done_by : (S : Stage (List ℕ) HaltValue) (o : FormOutcome) (status : Status) (text : List ℕ) → S o → status ≡ status_of o → text ≡ text_of o → status ≡ how.Done → S (Ok text)
 done_by S (Ok t) status text h s e done = rw e h
 done_by S (Err (refuses r)) status text h s e done = absurd (not_done r.input (sym s ∙ done))
 done_by S (Err (misses w)) status text h s e done = let x : how.Unreadable ≡ how.Done = sym s ∙ done in cc
 
 -- no outcome has the status Usage
-no_usage : (o : Result (List ℕ) HaltValue) (status : Status) → status ≡ status_of o → status ≡ how.Usage → ⊥
+no_usage : (o : FormOutcome) (status : Status) → status ≡ status_of o → status ≡ how.Usage → ⊥
 no_usage (Ok t) status s e = let x : how.Usage ≡ how.Done = sym e ∙ s in cc
 no_usage (Err (refuses r)) status s e = not_usage r.input (sym s ∙ e)
 no_usage (Err (misses w)) status s e = let x : how.Usage ≡ how.Unreadable = sym e ∙ s in cc
 
-headline_by : (form : Option FormValue) (files : List File) (old new : ShelfState) (sink sink' : SinkState) (before : List ℕ) (status : Status) → old.files ≡ Some files → sink.written ≡ Some before →
-    Whole form old new sink sink' status → status ≡ how.Done → (f : FormValue) × (form ≡ Some f) × (text : List ℕ) × (sink'.written ≡ Some (before ++ text)) × Shows files f text
-headline_by None files old new sink sink' before status told w h done = let x : how.Usage ≡ how.Done = sym h.comes.status_is ∙ done in cc
-headline_by (Some f) files old new sink sink' before status told w h done =
-    let text = done_by (form_answer old.files f) h.comes.outcome status h.text h.comes.comes h.comes.status_is h.comes.text_is done in (
-      f,
-      refl,
-      h.text,
-      subst (λ (v : Option (List ℕ)). Grows v sink'.written h.text) w h.put.grows,
-      shows_of files f h.text (subst (λ (v : Option (List File)). form_answer v f (Ok h.text)) told text),
-    )
+headline_by : (form : Option FormValue) (files : List File) (before : List ℕ) (shelf : Change ShelfState) (sink : Change SinkState) (status : Status) → shelf.old.files ≡ Some files → sink.old.written ≡ Some before →
+    Whole form shelf sink status → status ≡ how.Done → HasShown form files before sink.new
+headline_by None files before shelf sink status told w h done = let x : how.Usage ≡ how.Done = sym h.comes.status_is ∙ done in cc
+headline_by (Some f) files before shelf sink status told w h done =
+    let text = done_by (form_answer shelf.old.files f) h.comes.outcome status h.text h.comes.comes h.comes.status_is h.comes.text_is done in
+    record {
+      f = f;
+      form_is = refl;
+      appended = h.text;
+      written = subst (λ (v : Option (List ℕ)). Grows v sink.new.written h.text) w h.put.grows;
+      shows = shows_of files f h.text (subst (λ (v : Option (List File)). form_answer v f (Ok h.text)) told text);
+    }
 
 -- the headline, from how a call ends
-pub headline_of : (form : Option FormValue) (old new : ShelfState) (sink sink' : SinkState) (status : Status) → Ends form old new sink sink' status → Headline form old sink sink' status
-headline_of form old new sink sink' status ends = λ files before told w done.
+pub headline_of : (form : Option FormValue) (shelf : Change ShelfState) (sink : Change SinkState) (status : Status) → Ends form shelf sink status → Headline form shelf.old sink status
+headline_of form shelf sink status ends = λ files before told w done.
     elim ends [
-      | inl whole ↦ headline_by form files old new sink sink' before status told w whole done
+      | inl whole ↦ headline_by form files before shelf sink status told w whole done
       | inr rest ↦ elim rest [
         | inl broken ↦ (let x : how.SinkFault ≡ how.Done = sym broken.status_is ∙ done in cc)
         | inr wanted ↦ (let x : how.NoMemory ≡ how.Done = sym wanted.status_is ∙ done in cc)
@@ -214,20 +199,20 @@ headline_of form old new sink sink' status ends = λ files before told w done.
     ]
 
 -- when Usage comes, from how a call ends
-pub usage_of : (form : Option FormValue) (old new : ShelfState) (sink sink' : SinkState) (status : Status) → Ends form old new sink sink' status → UsageExactly form status
-usage_of None old new sink sink' status ends = record {
-  only = λ e. refl;
-  where_ = λ e. elim ends [ inl whole ↦ inl whole.comes.status_is | inr rest ↦ inr (elim rest [ inl b ↦ inl b.status_is | inr w ↦ inr w.status_is ]) ];
+pub usage_of : (form : Option FormValue) (shelf : Change ShelfState) (sink : Change SinkState) (status : Status) → Ends form shelf sink status → UsageExactly form status
+usage_of None shelf sink status ends = record {
+  only_where = λ e. refl;
+  wherever = λ e. elim ends [ inl whole ↦ inl whole.comes.status_is | inr rest ↦ inr (elim rest [ inl b ↦ inl b.status_is | inr w ↦ inr w.status_is ]) ];
 }
-usage_of (Some f) old new sink sink' status ends = record {
-  only = λ e. elim ends [
+usage_of (Some f) shelf sink status ends = record {
+  only_where = λ e. elim ends [
     | inl whole ↦ absurd (no_usage whole.comes.outcome status whole.comes.status_is e)
     | inr rest ↦ elim rest [
       | inl b ↦ (let x : how.SinkFault ≡ how.Usage = sym b.status_is ∙ e in cc)
       | inr w ↦ (let x : how.NoMemory ≡ how.Usage = sym w.status_is ∙ e in cc)
     ]
   ];
-  where_ = λ e. let x : None ≡ Some f = sym e in cc;
+  wherever = λ e. let x : None ≡ Some f = sym e in cc;
 }
 
 -- a name that was noted was noted
@@ -239,57 +224,59 @@ noted_one : (failed : List (List ℕ)) (v w : List ℕ) → failed ++ v ∷ [] �
 noted_one failed v w e = let same = append_cancel_left failed (v ∷ []) (w ∷ []) e in cc
 
 -- what was put is as any outcome says that agrees with the names noted
-told_by : (S : Stage (List ℕ) HaltValue) (old new : ShelfState) (sink sink' : SinkState) (status : Status) (text : List ℕ) (a o : Result (List ℕ) HaltValue) → IsSure IsRefusal S → S a → S o →
-    Leaves old new a → Agrees old.failed new.failed o → status ≡ status_of a → text ≡ text_of a → Grows sink.written sink'.written text → (status ≡ status_of o) × Lines sink sink' o
-told_by S old new sink sink' status text (Ok t) (Ok u) sure ha ho k agrees s e g = (s, tt)
-told_by S old new sink sink' status text (Ok t) (Err (refuses r)) sure ha ho k agrees s e g = absurd (sure.apart t (refuses r) tt ha ho)
-told_by S old new sink sink' status text (Ok t) (Err (misses w)) sure ha ho k agrees s e g = absurd (not_noted old.failed w (sym agrees ∙ k.failed))
-told_by S old new sink sink' status text (Err (refuses q)) (Ok u) sure ha ho k agrees s e g = absurd (sure.apart u (refuses q) tt ho ha)
-told_by S old new sink sink' status text (Err (refuses q)) (Err (refuses r)) sure ha ho k agrees s e g =
+told_by : (S : Stage (List ℕ) HaltValue) (shelf : Change ShelfState) (sink : Change SinkState) (status : Status) (text : List ℕ) (a o : FormOutcome) → IsSure IsRefusal S → S a → S o →
+    Leaves shelf a → Agrees shelf o → status ≡ status_of a → text ≡ text_of a → Gains sink text → (status ≡ status_of o) × GainsLine sink o
+told_by S shelf sink status text (Ok t) (Ok u) sure ha ho k agrees s e g = (s, tt)
+told_by S shelf sink status text (Ok t) (Err (refuses r)) sure ha ho k agrees s e g = absurd (sure.apart t (refuses r) tt ha ho)
+told_by S shelf sink status text (Ok t) (Err (misses w)) sure ha ho k agrees s e g = absurd (not_noted shelf.old.failed w (sym agrees ∙ k.failed))
+told_by S shelf sink status text (Err (refuses q)) (Ok u) sure ha ho k agrees s e g = absurd (sure.apart u (refuses q) tt ho ha)
+told_by S shelf sink status text (Err (refuses q)) (Err (refuses r)) sure ha ho k agrees s e g =
     let one = one_refusal S sure q r ha ho in
-    (s ∙ ap (λ (v : RefusedValue). status_of_input v.input) one, subst (λ (v : List ℕ). Grows sink.written sink'.written v) (e ∙ ap (λ (v : RefusedValue). refusal_line v.word v.refusal) one) g)
-told_by S old new sink sink' status text (Err (refuses q)) (Err (misses w)) sure ha ho k agrees s e g = absurd (not_noted old.failed w (sym agrees ∙ k.failed))
-told_by S old new sink sink' status text (Err (misses v)) (Ok u) sure ha ho k agrees s e g = absurd (not_noted old.failed v (sym k.failed ∙ agrees))
-told_by S old new sink sink' status text (Err (misses v)) (Err (refuses r)) sure ha ho k agrees s e g = absurd (not_noted old.failed v (sym k.failed ∙ agrees))
-told_by S old new sink sink' status text (Err (misses v)) (Err (misses w)) sure ha ho k agrees s e g =
-    let one = noted_one old.failed v w (sym k.failed ∙ agrees) in
-    (s, subst (λ (z : List ℕ). Grows sink.written sink'.written z) (e ∙ ap unreadable_line one) g)
+    (s ∙ ap (λ (v : RefusedValue). status_of_input v.input) one, subst (λ (v : List ℕ). Gains sink v) (e ∙ ap (λ (v : RefusedValue). refusal_line v.word v.refusal) one) g)
+told_by S shelf sink status text (Err (refuses q)) (Err (misses w)) sure ha ho k agrees s e g = absurd (not_noted shelf.old.failed w (sym agrees ∙ k.failed))
+told_by S shelf sink status text (Err (misses v)) (Ok u) sure ha ho k agrees s e g = absurd (not_noted shelf.old.failed v (sym k.failed ∙ agrees))
+told_by S shelf sink status text (Err (misses v)) (Err (refuses r)) sure ha ho k agrees s e g = absurd (not_noted shelf.old.failed v (sym k.failed ∙ agrees))
+told_by S shelf sink status text (Err (misses v)) (Err (misses w)) sure ha ho k agrees s e g =
+    let one = noted_one shelf.old.failed v w (sym k.failed ∙ agrees) in
+    (s, subst (λ (z : List ℕ). Gains sink z) (e ∙ ap unreadable_line one) g)
 
--- each status exactly where it is due, from how a call ends
-pub exactly_of : (form : Option FormValue) (old new : ShelfState) (sink sink' : SinkState) (status : Status) → Ends form old new sink sink' status → Exactly form old new sink sink' status
-exactly_of None old new sink sink' status ends = record {
-  usage = λ none same. elim ends [
-    | inl whole ↦ inl (whole.comes.status_is, subst (λ (v : List ℕ). Grows sink.written sink'.written v) whole.comes.text_is whole.put.grows)
-    | inr rest ↦ elim rest [ inl b ↦ absurd (omega (arith, b.cut.more, same)) | inr w ↦ inr w.status_is ]
-  ];
-  stages = λ files f o is told h agrees same. let x : None ≡ Some f = is in cc;
+-- a call that put its text whole gave the answer that is due
+due_of : (form : Option FormValue) (shelf : Change ShelfState) (sink : Change SinkState) (status : Status) → Whole form shelf sink status → IsDue form shelf sink status
+due_of None shelf sink status whole = record {
+  usage = λ none. (whole.comes.status_is, subst (λ (v : List ℕ). Gains sink v) whole.comes.text_is whole.put.grows);
+  stages = λ k o h agrees. let x : None ≡ Some k.f = k.form_is in cc;
 }
-exactly_of (Some g) old new sink sink' status ends = record {
-  usage = λ none same. let x : None ≡ Some g = sym none in cc;
-  stages = λ files f o is told h agrees same. elim ends [
-    | inl whole ↦
-        let comes = subst (λ (v : Option (List File)). form_answer v g whole.comes.outcome) told whole.comes.comes in
-        let one : f ≡ g = (let e = sym is in cc) in
-        let there = subst (λ (v : FormValue). form_answer (Some files) v o) one h in
-        inl (told_by (form_answer (Some files) g) old new sink sink' status whole.text whole.comes.outcome o (form_sure files g) comes there whole.comes.leaves agrees whole.comes.status_is whole.comes.text_is whole.put.grows)
-    | inr rest ↦ elim rest [ inl b ↦ absurd (omega (arith, b.cut.more, same)) | inr w ↦ inr w.status_is ]
-  ];
+due_of (Some g) shelf sink status whole = record {
+  usage = λ none. let x : None ≡ Some g = sym none in cc;
+  stages = λ k o h agrees.
+      let comes = subst (λ (v : Option (List File)). form_answer v g whole.comes.outcome) k.files_are whole.comes.comes in
+      let one : k.f ≡ g = (let e = sym k.form_is in cc) in
+      let there = subst (λ (v : FormValue). form_answer (Some k.files) v o) one h in
+      told_by (form_answer (Some k.files) g) shelf sink status whole.text whole.comes.outcome o (form_sure k.files g) comes there whole.comes.leaves agrees whole.comes.status_is whole.comes.text_is whole.put.grows;
 }
 
-done_of : (S : Stage (List ℕ) HaltValue) (old new : ShelfState) (o : Result (List ℕ) HaltValue) (status : Status) → Accepts S → S o → Leaves old new o → status ≡ status_of o → new.failed ≡ old.failed → status ≡ how.Done
-done_of S old new (Ok t) status accepts o k s same = s
-done_of S old new (Err (refuses q)) status accepts o k s same = absurd (accepts q o)
-done_of S old new (Err (misses w)) status accepts o k s same = absurd (not_noted old.failed w (sym k.failed ∙ same))
+-- each answer exactly where it is due, from how a call ends
+pub exactly_of : (form : Option FormValue) (shelf : Change ShelfState) (sink : Change SinkState) (status : Status) → Ends form shelf sink status → Exactly form shelf sink status
+exactly_of form shelf sink status ends = λ same.
+    elim ends [
+      | inl whole ↦ inl (due_of form shelf sink status whole)
+      | inr rest ↦ elim rest [ inl b ↦ absurd (omega (arith, b.cut.more, same)) | inr w ↦ inr w.status_is ]
+    ]
+
+done_of : (S : Stage (List ℕ) HaltValue) (shelf : Change ShelfState) (o : FormOutcome) (status : Status) → Accepts S → S o → Leaves shelf o → status ≡ status_of o → NoneNoted shelf → status ≡ how.Done
+done_of S shelf (Ok t) status accepts o k s same = s
+done_of S shelf (Err (refuses q)) status accepts o k s same = absurd (accepts q o)
+done_of S shelf (Err (misses w)) status accepts o k s same = absurd (not_noted shelf.old.failed w (sym k.failed ∙ same))
 
 -- completeness, from how a call ends
-pub complete_of : (form : Option FormValue) (old new : ShelfState) (sink sink' : SinkState) (status : Status) → Ends form old new sink sink' status → Complete form old new sink sink' status
-complete_of None old new sink sink' status ends = λ files f is told good kept same. let x : None ≡ Some f = is in cc
-complete_of (Some g) old new sink sink' status ends = λ files f is told good kept same.
+pub complete_of : (form : Option FormValue) (shelf : Change ShelfState) (sink : Change SinkState) (status : Status) → Ends form shelf sink status → Complete form shelf sink status
+complete_of None shelf sink status ends = λ k good kept same. let x : None ≡ Some k.f = k.form_is in cc
+complete_of (Some g) shelf sink status ends = λ k good kept same.
     elim ends [
       | inl whole ↦
-          let comes = subst (λ (v : Option (List File)). form_answer v g whole.comes.outcome) told whole.comes.comes in
-          let fine = form_accepts files f good in
-          let one : f ≡ g = (let e = sym is in cc) in
-          inl (done_of (form_answer (Some files) g) old new whole.comes.outcome status (subst (λ (v : FormValue). Accepts (form_answer (Some files) v)) one fine) comes whole.comes.leaves whole.comes.status_is kept)
+          let comes = subst (λ (v : Option (List File)). form_answer v g whole.comes.outcome) k.files_are whole.comes.comes in
+          let fine = form_accepts k.files k.f good in
+          let one : k.f ≡ g = (let e = sym k.form_is in cc) in
+          inl (done_of (form_answer (Some k.files) g) shelf whole.comes.outcome status (subst (λ (v : FormValue). Accepts (form_answer (Some k.files) v)) one fine) comes whole.comes.leaves whole.comes.status_is kept)
       | inr rest ↦ elim rest [ inl b ↦ absurd (omega (arith, b.cut.more, same)) | inr w ↦ inr w.status_is ]
     ]

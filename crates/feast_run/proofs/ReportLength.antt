@@ -28,7 +28,7 @@ use Rattle.text_lines.specs.Lines.{ended_line, more_text, text_of}
 use Rattle.tile_map.specs.Plane.{MapValue}
 use Rattle.grid_print.proofs.Bounds.{IsSmallAbandoned, IsSmallRecord, abandoned_small, events_few, given_up_few, records_small}
 use Rattle.grid_print.specs.Again.{AreFormed, IsLeft, IsDrawablePlan}
-use Rattle.grid_print.specs.Report.{Shown, atom_fields, atom_lines, report, report_lines, shown, shown_at, shown_from}
+use Rattle.grid_print.specs.Report.{Shown, atom_fields, atom_lines, report, report_lines, report_value, shown, shown_at, shown_from}
 
 -- names that are no longer than names are
 abbrev pub AreShort : List (List ℕ) → Type 0
@@ -173,7 +173,7 @@ report_low names ss rs gs atoms records abandoned few_atoms few_records few_aban
     omega (arith, first, second, third, header, whole, front, back)
 
 -- the report of what a run of a plan left
-pub report_short : (names : List (List ℕ)) (m : MapValue) (plan : PlanValue) → AreShort names → IsDrawablePlan m plan → (g : GridValue) (rs : List Record) (gs : List Abandoned) → IsLeft names m plan g rs gs → length (report names g rs gs) ≤ journal_limit
+pub report_short : (names : List (List ℕ)) (m : MapValue) (plan : PlanValue) → AreShort names → IsDrawablePlan m plan → (g : GridValue) (rs : List Record) (gs : List Abandoned) → IsLeft names m plan (report_value g rs gs) → length (report names g rs gs) ≤ journal_limit
 report_short names m plan short p g rs gs left =
     let plane = plane_low m p.map in
     let wide = left.wide in

@@ -127,15 +127,16 @@ form_accepts files (pack words) h = then_accepts _ _ (set_one files words) h.0 (
 form_accepts files (run world words) h = then_accepts _ _ (sources_one files world words) (sourced h.0 h.1.given) (sources_pass files world words h.0 h.1) (λ s p. absurd p)
 form_accepts files (step world words) h = then_accepts _ _ (sources_one files world words) (sourced h.0 h.1.given) (sources_pass files world words h.0 h.1) (λ s p. absurd p)
 form_accepts files (replay world journal words) h =
-    then_accepts _ _ (sources_one files world words) (sourced h.0 h.2.0.given) (sources_pass files world words h.0 h.2.0)
-    (then_accepts _ _ (journal_one files journal h.0) h.1 h.2.1 (λ s p. absurd p))
+    then_accepts _ _ (sources_one files world words) (sourced h.world h.ready.given) (sources_pass files world words h.world h.ready)
+    (then_accepts _ _ (journal_one files journal h.world) h.journal h.has_journal (λ s p. absurd p))
 form_accepts files (gen number) h = then_accepts _ _ own_one accepted.0 accepted.1 (λ s p. absurd p)
 form_accepts files (audit world report words) h =
-    let b = went _ _ h.1 h.2.1 in
-    then_accepts _ _ (sources_one files world words) (sourced h.0 h.2.0.given) (sources_pass files world words h.0 h.2.0)
-    (then_accepts _ _ (load_one files journal_limit report) b.value b.passed (then_accepts _ _ (in_one report h.0 b.value) h.1 b.rest (λ s p. absurd p)))
+    let b = went _ _ h.journal h.has_journal in
+    then_accepts _ _ (sources_one files world words) (sourced h.world h.ready.given) (sources_pass files world words h.world h.ready)
+    (then_accepts _ _ (load_one files journal_limit report) b.value b.passed (then_accepts _ _ (in_one report h.world b.value) h.journal b.rest (λ s p. absurd p)))
 form_accepts files (rewind world report k words) h =
-    then_accepts _ _ (sources_one files world words) (sourced h.0 h.2.0.given) (sources_pass files world words h.0 h.2.0)
-    (then_accepts _ _ (journal_one files report h.0) h.1 h.2.1 (λ s p. absurd (omega (arith, p.0, h.3))))
+    let good = h.0 in
+    then_accepts _ _ (sources_one files world words) (sourced good.world good.ready.given) (sources_pass files world words good.world good.ready)
+    (then_accepts _ _ (journal_one files report good.world) good.journal good.has_journal (λ s p. absurd (omega (arith, p.0, h.1))))
 form_accepts files (steppack world file) h = then_accepts _ _ (packed_one files world file) (coded h.0 h.1.given) (packed_pass files world file h.0 h.1) (λ s p. absurd p)
 form_accepts files (runpack world file) h = then_accepts _ _ (packed_one files world file) (coded h.0 h.1.given) (packed_pass files world file h.0 h.1) (λ s p. absurd p)

@@ -9,8 +9,9 @@ use Rattle.feast_base.specs.declared.place.Refusal.{Refusal}
 use Rattle.feast_run.specs.Elements.{code_elements}
 use Rattle.feast_base.specs.Stages.{Stage, and_then}
 use Rattle.feast_run.specs.Halting.{HaltValue, RefusedValue, misses, refused, refuses}
-use Rattle.feast_run.specs.Stages.{ReadyValue, load, ready_by}
+use Rattle.feast_run.specs.Stages.{ReadyValue, load, ready_by, with_elements}
 use Rattle.feast_run.specs.declared.halt.Input.TheVariants as input
+use Rattle.world_text.specs.Drafts.{DraftValue}
 
 -- the longest code file, in bytes
 abbrev pub code_limit : ℕ
@@ -41,6 +42,10 @@ codes_in word bytes (Err (misses w)) = ⊥
 -- the elements of a code file
 abbrev pub codes_from : Option (List File) → List ℕ → Stage CodesValue HaltValue
 codes_from files word = and_then (load files code_limit word) (codes_in word)
+
+-- the elements of a world, which are those of a code file
+abbrev pub with_codes : Option (List File) → List ℕ → List ℕ → DraftValue → Stage ReadyValue HaltValue
+with_codes files code word draft = with_elements code_elements (codes_from files code) word draft
 
 -- a world with the elements of a code file
 abbrev pub ready_packed : Option (List File) → List ℕ → List ℕ → Stage ReadyValue HaltValue

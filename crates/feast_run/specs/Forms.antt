@@ -1,27 +1,34 @@
 -- The forms that the words of a call may have.
-use Rattle.std.specs.Prelude.{ℕ, ◌≤◌, ◌^◌, List, [], ◌∷◌, Option, Some, None, length, codes, map, option_map, string_bytes, if◌then◌else◌, nat_le, nat_lt, ◌&&◌, option_and_then}
+use Rattle.std.specs.Prelude.{ℕ, ◌≤◌, ◌^◌, List, [], ◌∷◌, Option, Some, None, length, codes, map, option_map, String, string_bytes, if◌then◌else◌, nat_le, nat_lt, ◌&&◌}
 use Rattle.std.specs.Option.{option_and_then}
-use Rattle.text_lines.specs.Fields.{number_of}
 use Rattle.std.specs.Str.{bytes_eq}
+use Rattle.std.specs.Global.{Global}
 use Rattle.feast_run.specs.declared.form.Form.{Form}
 use Rattle.feast_run.specs.declared.form.Form.TheVariants as kind
 use Rattle.text_lines.specs.Fields.{number_of}
 
--- what the words of a call ask for: a check of some element files; the codes of their elements; their code file; a run of
--- the world in one file with the elements in others; the same as a stepped run; the atoms that a journal gives when its
--- events are made once more from the world's start; the judgement on a report; the atoms that the first events of a report
--- give; the summary of the run of a world that a number gives; and the stepped run and the run of the world in one file
--- with the elements of the code file in another
+-- the words of a call as texts
+abbrev pub texts : List (String Global) → List (List ℕ)
+texts words = map string_bytes words
+
+-- what the words of a call ask for
 pub data FormValue : Type 0 where
+  -- the layout of the classes in some element files, the codes of their elements, and their code file
   check : List (List ℕ) → FormValue
   code : List (List ℕ) → FormValue
   pack : List (List ℕ) → FormValue
+  -- a run and a stepped run of the world in one file with the elements in others
   run : List ℕ → List (List ℕ) → FormValue
   step : List ℕ → List (List ℕ) → FormValue
+  -- the atoms that the journal in the second file leaves of the world in the first
   replay : List ℕ → List ℕ → List (List ℕ) → FormValue
+  -- the summary of the run of the world that a number gives
   gen : ℕ → FormValue
+  -- the judgement on the report in the second file, of the world in the first
   audit : List ℕ → List ℕ → List (List ℕ) → FormValue
+  -- the atoms that so many first events of the report in the second file leave of the world in the first
   rewind : List ℕ → List ℕ → ℕ → List (List ℕ) → FormValue
+  -- a stepped run and a run of the world in one file with the elements of the code file in another
   steppack : List ℕ → List ℕ → FormValue
   runpack : List ℕ → List ℕ → FormValue
 
@@ -113,17 +120,21 @@ form_of (verb ∷ words) =
     else if bytes_eq verb (codes "runpack") then of_code runpack (two_words words)
     else None
 
+-- what the words of a call ask for, if they have a form
+abbrev pub asked : List (String Global) → Option FormValue
+asked words = form_of (texts words)
+
 -- the code's form as this
 abbrev pub form_value : Form → FormValue
-form_value (kind.Check files) = check (map string_bytes files.now)
-form_value (kind.Code files) = code (map string_bytes files.now)
-form_value (kind.Pack files) = pack (map string_bytes files.now)
-form_value (kind.Run world files) = run world.now (map string_bytes files.now)
-form_value (kind.Step world files) = step world.now (map string_bytes files.now)
-form_value (kind.Replay world journal files) = replay world.now journal.now (map string_bytes files.now)
+form_value (kind.Check files) = check (texts files.now)
+form_value (kind.Code files) = code (texts files.now)
+form_value (kind.Pack files) = pack (texts files.now)
+form_value (kind.Run world files) = run world.now (texts files.now)
+form_value (kind.Step world files) = step world.now (texts files.now)
+form_value (kind.Replay world journal files) = replay world.now journal.now (texts files.now)
 form_value (kind.Gen number) = gen number
-form_value (kind.Audit world report files) = audit world.now report.now (map string_bytes files.now)
-form_value (kind.Rewind world report left files) = rewind world.now report.now left (map string_bytes files.now)
+form_value (kind.Audit world report files) = audit world.now report.now (texts files.now)
+form_value (kind.Rewind world report left files) = rewind world.now report.now left (texts files.now)
 form_value (kind.StepPack world file) = steppack world.now file.now
 form_value (kind.RunPack world file) = runpack world.now file.now
 

@@ -18,6 +18,10 @@ pub data HaltValue : Type 0 where
   refuses : RefusedValue → HaltValue
   misses : List ℕ → HaltValue
 
+-- an outcome of the stages of a form: the text that it writes, or why they halt
+abbrev pub FormOutcome : Type 0
+FormOutcome = Result (List ℕ) HaltValue
+
 -- no load failed
 abbrev pub IsRefusal : HaltValue → Type 0
 IsRefusal (refuses r) = Unit {0}

@@ -2,6 +2,7 @@ pub mod Acting
 pub mod Again
 pub mod Answer
 pub mod Audited
+pub mod Changes
 pub mod CodeFiles
 pub mod Codes
 pub mod Elements
@@ -14,6 +15,7 @@ pub mod Outputs
 pub mod Owing
 pub mod Packed
 pub mod Promises
+pub mod Replies
 pub mod Stages
 pub mod Stepped
 pub mod Tellings

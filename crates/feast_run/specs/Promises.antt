@@ -1,21 +1,21 @@
 -- What a call promises, in the caller's terms. Each follows from how a call ends.
-use Rattle.std.specs.Prelude.{ℕ, ◌≡◌, ◌≢◌, ◌≤◌, length, take, List, [], ◌∷◌, ◌++◌, codes, Option, Some, None, Ok, ◌⊎◌, Result, Err}
-use Rattle.cell_grid.specs.Records.{replay as replay_from}
+use Rattle.std.specs.Prelude.{ℕ, ◌≡◌, ◌≢◌, ◌≤◌, length, take, List, [], ◌∷◌, ◌++◌, codes, Option, Some, None, Ok, ◌⊎◌, Err}
 use Rattle.code_file.specs.Form.{CodesValue, IsFile}
 use Rattle.code_file.specs.Right.{AreRight}
-use Rattle.element_set.specs.Sets.{SetValue, AcceptsFiles, check_text, code_text, element_names, program_of}
+use Rattle.element_set.specs.Sets.{SetValue, AcceptsFiles, check_text, code_text, element_names}
 use Rattle.event_journal.specs.Reading.{read_report}
-use Rattle.feast_base.specs.Held.{LoadMayFail, PutMayFail, ShelfHeld, SinkHeld, room_left}
-use Rattle.feast_base.specs.Outside.{File, Grows, ShelfState, SinkState, file_of, shelf_state, sink_state}
+use Rattle.feast_base.specs.Held.{ShelfHeld, SinkHeld, mem_shelf_state, mem_sink_state, room_left}
+use Rattle.feast_base.specs.Outside.{File, Grows, ShelfState, SinkState, file_of}
 use Rattle.feast_base.specs.Refusals.{refusal_line, unreadable_line, usage_line}
 use Rattle.feast_run.specs.Again.{ReplaysTo}
-use Rattle.feast_run.specs.Answer.{form_answer}
+use Rattle.feast_run.specs.Answer.{atoms_after, form_answer}
 use Rattle.feast_run.specs.Audited.{Audits}
-use Rattle.feast_run.specs.Ending.{ComesTo, status_of}
+use Rattle.feast_run.specs.Changes.{Change, change}
+use Rattle.feast_run.specs.Ending.{ComesTo, Ends, status_of}
 use Rattle.feast_run.specs.Forms.{FormValue, check, code, pack, run, step, replay, gen, audit, rewind, steppack, runpack}
 use Rattle.feast_run.specs.Packed.{pack_text}
 use Rattle.feast_run.specs.Generating.{generated_ready, stepped_summary}
-use Rattle.feast_run.specs.Halting.{HaltValue, misses, refuses}
+use Rattle.feast_run.specs.Halting.{FormOutcome, misses, refuses}
 use Rattle.feast_run.specs.Owing.{Reports}
 use Rattle.feast_run.specs.Stepped.{IsSteppedRun, machine_of, stepped_report}
 use Rattle.feast_run.specs.CodeFiles.{code_limit}
@@ -24,9 +24,6 @@ use Rattle.feast_run.specs.Stages.{JournalValue, ready_with, sourced, draft_of, 
 use Rattle.feast_run.specs.declared.status.Status.{Status}
 use Rattle.feast_run.specs.declared.status.Status.TheVariants as how
 use Rattle.generated_world.specs.Elements.{source_files}
-use Rattle.grid_print.specs.Report.{atoms_text}
-use Rattle.ulam_meaning.specs.Events.{after}
-use Rattle.world_runs.specs.Start.{start_grid}
 use Rattle.world_text.specs.Drafts.{DraftValue}
 use Rattle.world_text.specs.Named.{ReadsWorld, WorldValue, named}
 
@@ -91,21 +88,6 @@ pub record SteppedTold {X : Type 0} (elements : X → ElementsValue) (IsTold : X
   -- a replay of the report by these elements comes to the report's own atoms
   pub replays : ReplaysTo (ready_with world (elements given)) appended (machine_of (ready_with world (elements given))).grid
 
--- a replay whose files are known: the bytes appended are the atoms that the events of the journal
--- make, one at a time, on one uncut grid that begins with the world's atoms, by what the elements'
--- source means
-pub record ReplayTold (files : List File) (word journal_word : List ℕ) (words : List (List ℕ)) (appended : List ℕ) : Type 0 where
-  pub world : WorldValue
-  pub set : SetValue
-  pub is_set : IsSet files words set
-  pub told_world : WorldTold files word (element_names set) world
-  pub journal_bytes : List ℕ
-  pub journal_file : file_of journal_word files ≡ Some journal_bytes
-  pub journal_within : length journal_bytes ≤ journal_limit
-  pub journal : JournalValue
-  pub journal_reads : journal_said (read_report world.plane world.plan.lists journal_bytes) ≡ Ok journal
-  pub shown : appended ≡ codes "feast 1\n" ++ atoms_text (element_names set) (replay_from (after (program_of set)) (start_grid world.plane world.atoms) journal.records)
-
 -- a generated run: the bytes appended are the summary of the stepped machine of the world that a number gives, with the
 -- elements of its own text, and what that machine left is a run's, by what that text means; type 1 is Wander, type 2 Stone
 pub record GenTold (number : ℕ) (appended : List ℕ) : Type 0 where
@@ -121,31 +103,45 @@ pub record ReportTold (files : List File) (report_word : List ℕ) (world : Worl
   pub within : length bytes ≤ journal_limit
   pub reads : journal_said (read_report world.plane world.plan.lists bytes) ≡ Ok journal
 
+-- the file words of a form that loads a report: those of the world, of the report, and of the
+-- element files
+pub record ReportWords : Type 0 where
+  pub world : List ℕ
+  pub report : List ℕ
+  pub elements : List (List ℕ)
+
+abbrev pub report_words : List ℕ → List ℕ → List (List ℕ) → ReportWords
+report_words world report elements = record { world = world; report = report; elements = elements }
+
+-- what such files say if they are known: a world with the elements of a set, and a report of it
+pub record KnownReport (files : List File) (words : ReportWords) : Type 0 where
+  pub world : WorldValue
+  pub set : SetValue
+  pub is_set : IsSet files words.elements set
+  pub told_world : WorldTold files words.world (element_names set) world
+  pub bytes : List ℕ
+  pub journal : JournalValue
+  pub told_report : ReportTold files words.report world bytes journal
+
+-- a replay whose files are known: the bytes appended are the atoms that the events of the journal
+-- make, one at a time, on one uncut grid that begins with the world's atoms, by what the elements'
+-- source means
+pub record ReplayTold (files : List File) (words : ReportWords) (appended : List ℕ) : Type 0 where
+  pub known : KnownReport files words
+  pub shown : appended ≡ atoms_after (sourced known.world known.set) known.journal.records
+
 -- an audit whose files are known: the bytes appended are the line of the judgement on the report,
 -- by what the elements' source means
-pub record AuditTold (files : List File) (word report_word : List ℕ) (words : List (List ℕ)) (appended : List ℕ) : Type 0 where
-  pub world : WorldValue
-  pub set : SetValue
-  pub is_set : IsSet files words set
-  pub told_world : WorldTold files word (element_names set) world
-  pub bytes : List ℕ
-  pub journal : JournalValue
-  pub told_report : ReportTold files report_word world bytes journal
-  pub audits : Audits (sourced world set) bytes journal appended
+pub record AuditTold (files : List File) (words : ReportWords) (appended : List ℕ) : Type 0 where
+  pub known : KnownReport files words
+  pub audits : Audits (sourced known.world known.set) known.bytes known.journal appended
 
 -- a rewind whose files are known: the report has this many events, and the bytes appended are the
--- atoms that its first k events make, one at a time, on one uncut grid that begins with the world's
--- atoms, by what the elements' source means
-pub record RewindTold (files : List File) (word report_word : List ℕ) (k : ℕ) (words : List (List ℕ)) (appended : List ℕ) : Type 0 where
-  pub world : WorldValue
-  pub set : SetValue
-  pub is_set : IsSet files words set
-  pub told_world : WorldTold files word (element_names set) world
-  pub bytes : List ℕ
-  pub journal : JournalValue
-  pub told_report : ReportTold files report_word world bytes journal
-  pub enough : k ≤ length journal.records
-  pub shown : appended ≡ codes "feast 1\n" ++ atoms_text (element_names set) (replay_from (after (program_of set)) (start_grid world.plane world.atoms) (take k journal.records))
+-- atoms that its first k events make, as for a replay
+pub record RewindTold (files : List File) (words : ReportWords) (k : ℕ) (appended : List ℕ) : Type 0 where
+  pub known : KnownReport files words
+  pub enough : k ≤ length known.journal.records
+  pub shown : appended ≡ atoms_after (sourced known.world known.set) (take k known.journal.records)
 
 -- the text that a form writes, if the files are known
 abbrev pub Shows : List File → FormValue → List ℕ → Type 0
@@ -154,44 +150,75 @@ Shows files (code words) appended = SetTold code_text files words appended
 Shows files (pack words) appended = SetTold pack_text files words appended
 Shows files (run world words) appended = RanTold source_elements (IsSet files words) files world appended
 Shows files (step world words) appended = SteppedTold source_elements (IsSet files words) files world appended
-Shows files (replay world journal words) appended = ReplayTold files world journal words appended
+Shows files (replay world journal words) appended = ReplayTold files (report_words world journal words) appended
 Shows files (gen number) appended = GenTold number appended
-Shows files (audit world report words) appended = AuditTold files world report words appended
-Shows files (rewind world report k words) appended = RewindTold files world report k words appended
+Shows files (audit world report words) appended = AuditTold files (report_words world report words) appended
+Shows files (rewind world report k words) appended = RewindTold files (report_words world report words) k appended
 Shows files (steppack world file) appended = SteppedTold code_elements (IsCodeFile files file) files world appended
 Shows files (runpack world file) appended = RanTold code_elements (IsCodeFile files file) files world appended
 
--- the headline: if the shelf reveals its files and the sink what is written, and the status is
+-- the words have a form, and its text was appended to what was written before
+pub record HasShown (form : Option FormValue) (files : List File) (before : List ℕ) (sink : SinkState) : Type 0 where
+  pub f : FormValue
+  pub form_is : form ≡ Some f
+  pub appended : List ℕ
+  pub written : sink.written ≡ Some (before ++ appended)
+  pub shows : Shows files f appended
+
+-- the headline: if the shelf reveals its files and the sink what was written, and the status is
 -- Done, this was appended
-abbrev pub Headline : Option FormValue → ShelfState → SinkState → SinkState → Status → Type 0
-Headline form old sink sink' status =
-    (files : List File) (before : List ℕ) → old.files ≡ Some files → sink.written ≡ Some before → status ≡ how.Done →
-    (f : FormValue) × (form ≡ Some f) × (appended : List ℕ) × (sink'.written ≡ Some (before ++ appended)) × Shows files f appended
+abbrev pub Headline : Option FormValue → ShelfState → Change SinkState → Status → Type 0
+Headline form shelf sink status =
+    (files : List File) (before : List ℕ) → shelf.files ≡ Some files → sink.old.written ≡ Some before → status ≡ how.Done →
+    HasShown form files before sink.new
 
 -- Usage comes exactly when the words have no form, unless memory runs out or the sink fails
 pub record UsageExactly (form : Option FormValue) (status : Status) : Type 0 where
-  pub only : status ≡ how.Usage → form ≡ None
-  pub where_ : form ≡ None → (status ≡ how.Usage) ⊎ ((status ≡ how.SinkFault) ⊎ (status ≡ how.NoMemory))
+  pub only_where : status ≡ how.Usage → form ≡ None
+  pub wherever : form ≡ None → (status ≡ how.Usage) ⊎ ((status ≡ how.SinkFault) ⊎ (status ≡ how.NoMemory))
+
+-- the words have a form, and the shelf reveals its files
+pub record IsKnown (form : Option FormValue) (shelf : ShelfState) : Type 0 where
+  pub f : FormValue
+  pub form_is : form ≡ Some f
+  pub files : List File
+  pub files_are : shelf.files ≡ Some files
+
+-- no name was noted
+abbrev pub NoneNoted : Change ShelfState → Type 0
+NoneNoted shelf = shelf.new.failed ≡ shelf.old.failed
+
+-- the sink did not fail
+abbrev pub NoFault : Change SinkState → Type 0
+NoFault sink = sink.new.faults ≡ sink.old.faults
 
 -- the names that were noted agree with an outcome
-abbrev pub Agrees : List (List ℕ) → List (List ℕ) → Result (List ℕ) HaltValue → Type 0
-Agrees failed failed' (Ok text) = failed' ≡ failed
-Agrees failed failed' (Err (refuses r)) = failed' ≡ failed
-Agrees failed failed' (Err (misses word)) = failed' ≡ failed ++ word ∷ []
+abbrev pub Agrees : Change ShelfState → FormOutcome → Type 0
+Agrees shelf (Ok text) = NoneNoted shelf
+Agrees shelf (Err (refuses r)) = NoneNoted shelf
+Agrees shelf (Err (misses word)) = shelf.new.failed ≡ shelf.old.failed ++ word ∷ []
 
--- the line of an outcome that is not a text was appended
-abbrev pub Lines : SinkState → SinkState → Result (List ℕ) HaltValue → Type 0
-Lines sink sink' (Ok text) = Unit {0}
-Lines sink sink' (Err (refuses r)) = Grows sink.written sink'.written (refusal_line r.word r.refusal)
-Lines sink sink' (Err (misses word)) = Grows sink.written sink'.written (unreadable_line word)
+-- this was appended, if the sink reveals what was written
+abbrev pub Gains : Change SinkState → List ℕ → Type 0
+Gains sink appended = Grows sink.old.written sink.new.written appended
 
--- if the files are known and the sink's count stays: whatever outcome the stages may have that
--- agrees with the names noted, the call ends with its status and its line, or runs out of memory;
--- and words of no form are answered with the forms
-pub record Exactly (form : Option FormValue) (old new : ShelfState) (sink sink' : SinkState) (status : Status) : Type 0 where
-  pub usage : form ≡ None → sink'.faults ≡ sink.faults → ((status ≡ how.Usage) × Grows sink.written sink'.written usage_line) ⊎ (status ≡ how.NoMemory)
-  pub stages : (files : List File) (f : FormValue) (o : Result (List ℕ) HaltValue) → form ≡ Some f → old.files ≡ Some files → form_answer (Some files) f o →
-      Agrees old.failed new.failed o → sink'.faults ≡ sink.faults → ((status ≡ status_of o) × Lines sink sink' o) ⊎ (status ≡ how.NoMemory)
+-- the line of an outcome was appended, if it has one: a text is no line
+abbrev pub GainsLine : Change SinkState → FormOutcome → Type 0
+GainsLine sink (Ok text) = Unit {0}
+GainsLine sink (Err (refuses r)) = Gains sink (refusal_line r.word r.refusal)
+GainsLine sink (Err (misses word)) = Gains sink (unreadable_line word)
+
+-- the answer is the one that is due. Words of no form get the usage line. If the form and the files
+-- are known, each outcome that the stages may have, and that agrees with the names noted, gives its
+-- status and its line
+pub record IsDue (form : Option FormValue) (shelf : Change ShelfState) (sink : Change SinkState) (status : Status) : Type 0 where
+  pub usage : form ≡ None → (status ≡ how.Usage) × Gains sink usage_line
+  pub stages : (k : IsKnown form shelf.old) (o : FormOutcome) → form_answer (Some k.files) k.f o → Agrees shelf o →
+      (status ≡ status_of o) × GainsLine sink o
+
+-- if the sink did not fail, the answer is the one that is due, or memory ran out
+abbrev pub Exactly : Option FormValue → Change ShelfState → Change SinkState → Status → Type 0
+Exactly form shelf sink status = NoFault sink → IsDue form shelf sink status ⊎ (status ≡ how.NoMemory)
 
 -- a world whose atoms are of elements with these names, and of which nothing is refused
 pub record IsGoodWorld (files : List File) (word : List ℕ) (names : List (List ℕ)) (world : WorldValue) : Type 0 where
@@ -205,9 +232,12 @@ pub record IsGoodReady {X : Type 0} (elements : X → ElementsValue) (IsTold : X
   pub is_told : IsTold given
   pub good : IsGoodWorld files word (elements given).names world
 
--- and a report of it
-abbrev pub IsGoodReport : List File → List ℕ → List (List ℕ) → List ℕ → WorldValue → JournalValue → Type 0
-IsGoodReport files word words report world journal = IsGoodReady source_elements (IsSet files words) files word world × journal_of (Some files) report world (Ok journal)
+-- a world with the elements of a set, and a report of it, of which nothing is refused
+pub record HasGoodReport (files : List File) (words : ReportWords) : Type 0 where
+  pub world : WorldValue
+  pub journal : JournalValue
+  pub ready : IsGoodReady source_elements (IsSet files words.elements) files words.world world
+  pub has_journal : journal_of (Some files) words.report world (Ok journal)
 
 -- files of a form of which nothing is refused
 abbrev pub IsGood : List File → FormValue → Type 0
@@ -216,18 +246,18 @@ IsGood files (code words) = (set : SetValue) × IsSet files words set
 IsGood files (pack words) = (set : SetValue) × IsSet files words set
 IsGood files (run world words) = (w : WorldValue) × IsGoodReady source_elements (IsSet files words) files world w
 IsGood files (step world words) = (w : WorldValue) × IsGoodReady source_elements (IsSet files words) files world w
-IsGood files (replay world journal words) = (w : WorldValue) × (j : JournalValue) × IsGoodReport files world words journal w j
+IsGood files (replay world journal words) = HasGoodReport files (report_words world journal words)
 IsGood files (gen number) = Unit {0}
-IsGood files (audit world report words) = (w : WorldValue) × (j : JournalValue) × IsGoodReport files world words report w j
-IsGood files (rewind world report k words) = (w : WorldValue) × (j : JournalValue) × IsGoodReport files world words report w j × (k ≤ length j.records)
+IsGood files (audit world report words) = HasGoodReport files (report_words world report words)
+IsGood files (rewind world report k words) = (good : HasGoodReport files (report_words world report words)) × (k ≤ length good.journal.records)
 IsGood files (steppack world file) = (w : WorldValue) × IsGoodReady code_elements (IsCodeFile files file) files world w
 IsGood files (runpack world file) = (w : WorldValue) × IsGoodReady code_elements (IsCodeFile files file) files world w
 
 -- completeness: good files of a form, and counts that stay, give Done, or running out of memory
-abbrev pub Complete : Option FormValue → ShelfState → ShelfState → SinkState → SinkState → Status → Type 0
-Complete form old new sink sink' status =
-    (files : List File) (f : FormValue) → form ≡ Some f → old.files ≡ Some files → IsGood files f →
-    new.failed ≡ old.failed → sink'.faults ≡ sink.faults → (status ≡ how.Done) ⊎ (status ≡ how.NoMemory)
+abbrev pub Complete : Option FormValue → Change ShelfState → Change SinkState → Status → Type 0
+Complete form shelf sink status =
+    (k : IsKnown form shelf.old) → IsGood k.files k.f → NoneNoted shelf → NoFault sink →
+    (status ≡ how.Done) ⊎ (status ≡ how.NoMemory)
 
 -- the file words of a form
 abbrev pub file_words : FormValue → List (List ℕ)
@@ -249,32 +279,52 @@ IsWordOf [] word = ⊥
 IsWordOf (w ∷ words) word = (word ≡ w) ⊎ IsWordOf words word
 
 -- one name was noted: a file word of the form, whose load might fail, and the status is one of three
-pub record NotedOne (form : Option FormValue) (old new : ShelfState) (status : Status) : Type 0 where
+pub record NotedOne (form : Option FormValue) (shelf : Change ShelfState) (status : Status) : Type 0 where
   pub f : FormValue
   pub form_is : form ≡ Some f
   pub word : List ℕ
   pub is_word : IsWordOf (file_words f) word
-  pub noted : new.failed ≡ old.failed ++ word ∷ []
-  pub cause : old.may_fail word
+  pub noted : shelf.new.failed ≡ shelf.old.failed ++ word ∷ []
+  pub cause : shelf.old.may_fail word
   pub status_is : (status ≡ how.Unreadable) ⊎ ((status ≡ how.SinkFault) ⊎ (status ≡ how.NoMemory))
 
 -- no name was noted, or one
-abbrev pub Noted : Option FormValue → ShelfState → ShelfState → Status → Type 0
-Noted form old new status = (new.failed ≡ old.failed) ⊎ NotedOne form old new status
+abbrev pub Noted : Option FormValue → Change ShelfState → Status → Type 0
+Noted form shelf status = NoneNoted shelf ⊎ NotedOne form shelf status
 
--- what contracts see of a shelf and of a sink in memory, as any shelf's and sink's meanings
-abbrev pub mem_shelf_state : ShelfHeld → ShelfState
-mem_shelf_state = shelf_state (λ shelf. Some shelf.files) (λ shelf. shelf.failed) LoadMayFail
+-- what a shelf and a sink in memory hold
+pub record BothHeld : Type 0 where
+  pub shelf : ShelfHeld
+  pub sink : SinkHeld
 
-abbrev pub mem_sink_state : SinkHeld → SinkState
-mem_sink_state = sink_state (λ sink. Some sink.written) (λ sink. sink.faults) PutMayFail
+abbrev pub held : ShelfHeld → SinkHeld → BothHeld
+held shelf sink = record { shelf = shelf; sink = sink }
 
--- over a shelf and a sink in memory: if no call is listed to fail, each file word has a file and
--- there is room for whatever text the call comes to, no count rises; so neither SinkFault comes,
--- nor is a name noted
-abbrev pub NothingFails : Option FormValue → ShelfHeld → ShelfHeld → SinkHeld → SinkHeld → Status → Type 0
-NothingFails form shelf shelf' sink sink' status =
-    shelf.fail ≡ [] → sink.stops ≡ [] →
-    ((f : FormValue) (word : List ℕ) → form ≡ Some f → IsWordOf (file_words f) word → file_of word shelf.files ≢ None) →
-    ((right : Status) (text : List ℕ) → ComesTo form (mem_shelf_state shelf) (mem_shelf_state shelf') right text → length text ≤ room_left sink) →
-    (shelf'.failed ≡ shelf.failed) × (sink'.faults ≡ sink.faults) × (status ≢ how.SinkFault)
+-- what a call changes of them, as of any shelf and of any sink
+abbrev pub shelf_change : BothHeld → BothHeld → Change ShelfState
+shelf_change old new = change mem_shelf_state old.shelf new.shelf
+
+abbrev pub sink_change : BothHeld → BothHeld → Change SinkState
+sink_change old new = change mem_sink_state old.sink new.sink
+
+-- how a call over them ends
+abbrev pub EndsInMemory : Option FormValue → BothHeld → BothHeld → Status → Type 0
+EndsInMemory form old new status = Ends form (shelf_change old new) (sink_change old new) status
+
+-- nothing that may fail: no load and no put is listed, each file word has a file, and there is room
+-- for whatever text the call comes to
+pub record NothingMayFail (form : Option FormValue) (old new : BothHeld) : Type 0 where
+  pub unlisted : old.shelf.fail ≡ []
+  pub unstopped : old.sink.stops ≡ []
+  pub there : (f : FormValue) (word : List ℕ) → form ≡ Some f → IsWordOf (file_words f) word → file_of word old.shelf.files ≢ None
+  pub room : (right : Status) (text : List ℕ) → ComesTo form (shelf_change old new) right text → length text ≤ room_left old.sink
+
+-- no load and no put failed
+pub record NoneFailed (old new : BothHeld) (status : Status) : Type 0 where
+  pub loads : new.shelf.failed ≡ old.shelf.failed
+  pub puts : new.sink.faults ≡ old.sink.faults
+  pub status_is_not : status ≢ how.SinkFault
+
+-- over a shelf and a sink in memory of which nothing may fail, nothing fails
+abbrev pub NothingFails : Option FormValue → BothHeld → BothHeld → Status → Type 0
+NothingFails form old new status = NothingMayFail form old new → NoneFailed old new status

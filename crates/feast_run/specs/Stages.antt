@@ -1,5 +1,5 @@
 -- The stages that the forms are made of.
-use Rattle.std.specs.Prelude.{ℕ, ◌≡◌, ◌≤◌, List, [], ◌∷◌, ◌++◌, length, min, Option, Result, Ok, Err, slice_index_or}
+use Rattle.std.specs.Prelude.{ℕ, ◌≡◌, ◌≤◌, List, [], ◌∷◌, ◌++◌, All, length, min, Option, Result, Ok, Err, slice_index_or}
 use Rattle.cell_grid.specs.declared.record.Record.{Record}
 use Rattle.code_file.specs.Form.{CodesValue}
 use Rattle.element_set.specs.Sets.{SetValue, AcceptsFiles, RefusesFiles}
@@ -7,7 +7,7 @@ use Rattle.event_journal.specs.declared.abandoned.Abandoned.{Abandoned}
 use Rattle.event_journal.specs.declared.fault.LineFault.{LineFault}
 use Rattle.event_journal.specs.declared.fault.LineFault.TheVariants.{BadForm, OutOfTurn, ElsewhereThanTile, OtherThanAttempt}
 use Rattle.event_journal.specs.Reading.{Said, read_report}
-use Rattle.feast_base.specs.Outside.{File, TellsBytes, TellsLonger}
+use Rattle.feast_base.specs.Outside.{File, TellsBytes, TellsLonger, file_bytes}
 use Rattle.feast_base.specs.declared.place.Refusal.{Refusal}
 use Rattle.feast_run.specs.Elements.{ElementsValue, source_elements, code_elements}
 use Rattle.feast_base.specs.Stages.{Stage, and_then, gives}
@@ -27,6 +27,10 @@ journal_limit = 268435456
 
 abbrev pub element_limit : ℕ
 element_limit = 1048576
+
+-- each of these files is no longer than an element file may be
+abbrev pub AreWithin : List File → Type 0
+AreWithin files = All (λ (f : File). length (file_bytes f) ≤ element_limit) files
 
 -- a refusal of a whole file, with its place at the file's first byte
 abbrev pub whole_file : ℕ → ℕ → Refusal
@@ -109,6 +113,10 @@ named_by word draft e = and_then (decides (world_refused word) (named e.names dr
 -- the elements of a world, which a stage gives
 abbrev pub with_elements : {X : Type 0} → (X → ElementsValue) → Stage X HaltValue → List ℕ → DraftValue → Stage ReadyValue HaltValue
 with_elements value S word draft = and_then S (λ x. named_by word draft (value x))
+
+-- the elements of a world, which are those of element files
+abbrev pub with_sources : Option (List File) → List (List ℕ) → List ℕ → DraftValue → Stage ReadyValue HaltValue
+with_sources files words word draft = with_elements source_elements (set_of files words) word draft
 
 -- a world with the elements that a stage gives
 abbrev pub ready_by : {X : Type 0} → (X → ElementsValue) → Stage X HaltValue → Option (List File) → List ℕ → Stage ReadyValue HaltValue

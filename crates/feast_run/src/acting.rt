@@ -1,4 +1,4 @@
-//! What acts in the tiles of a world.
+//! What acts on the windows of a world, tile by tile.
 ghost use Rattle.std.specs.Prelude.{◌≡◌, ◌≤◌, All, IfOk, length};
 ghost use Rattle.feast_run.specs.Acting.{acts};
 ghost use Rattle.feast_run.specs.Values.{elements_value};
@@ -18,7 +18,7 @@ pub fn tiles_in(world: &World) -> u32
     world.tx * world.ty
 }
 
-/// What acts as the elements of a world do, once for each tile.
+/// For each tile, something that acts on windows as the elements of a world do.
 pub fn actors(
     alloc: Global,
     elements: &Elements,

@@ -1,10 +1,9 @@
 //! The stages of an audit.
-ghost use Rattle.std.specs.Prelude.{◌≡◌, ◌<◌, ◌≤◌, ◌^◌, IfOk, length, map, string_bytes};
-ghost use Rattle.feast_base.specs.Outside.{shelf_state};
-ghost use Rattle.feast_run.specs.Answer.{form_answer};
+ghost use Rattle.std.specs.Prelude.{◌≡◌, ◌<◌, ◌≤◌, ◌^◌, IfOk, length};
 ghost use Rattle.feast_run.specs.Audited.{Audits, audit_of, audit_with};
-ghost use Rattle.feast_run.specs.Forms.{audit, most_files};
+ghost use Rattle.feast_run.specs.Forms.{audit, most_files, texts};
 ghost use Rattle.feast_run.specs.Outputs.{IsWritable, output_text};
+ghost use Rattle.feast_run.specs.Replies.{TellsForm};
 ghost use Rattle.feast_run.specs.Tellings.{Moves, Tells};
 ghost use Rattle.feast_run.specs.Values.{IsReady, journal_value, ready_value};
 
@@ -38,7 +37,7 @@ fn audit_line(
     judgement_line(alloc, judgement)
 }
 
-/// The stages of an audit after the bytes of its report.
+/// The stages of an audit once the bytes of its report are loaded.
 fn audit_loaded<'a>(
     alloc: Global,
     word: &'a str,
@@ -63,9 +62,9 @@ fn audit_rest<'a, F: Shelf>(
     ready: Ready,
 ) -> Result<Output, Halt<'a>>
     requires { IsReady ready }
-    ensures files { F.files shelf.new ≡ F.files shelf.old }
-    ensures moves { Moves (shelf_state F.files F.failed F.may_fail shelf.old) (shelf_state F.files F.failed F.may_fail shelf.new) result }
-    ensures tells { Tells output_text (audit_of (F.files shelf.old) word.now (ready_value ready)) result }
+    ensures files { (F.state shelf.new).files ≡ (F.state shelf.old).files }
+    ensures moves { Moves (F.state shelf.old) (F.state shelf.new) result }
+    ensures tells { Tells output_text (audit_of (F.state shelf.old).files word.now (ready_value ready)) result }
     ensures writable { IfOk result IsWritable }
 {
     let bytes = load_file(alloc, shelf, word, JOURNAL_LIMIT)?;
@@ -81,9 +80,9 @@ pub fn audit_stages<'a, F: Shelf>(
     words: &'a [String],
 ) -> Result<Output, Halt<'a>>
     requires { length words.now ≤ most_files }
-    ensures files { F.files shelf.new ≡ F.files shelf.old }
-    ensures moves { Moves (shelf_state F.files F.failed F.may_fail shelf.old) (shelf_state F.files F.failed F.may_fail shelf.new) result }
-    ensures tells { Tells output_text (form_answer (F.files shelf.old) (audit world.now report.now (map string_bytes words.now))) result }
+    ensures files { (F.state shelf.new).files ≡ (F.state shelf.old).files }
+    ensures moves { Moves (F.state shelf.old) (F.state shelf.new) result }
+    ensures tells { TellsForm (F.state shelf.old) (audit world.now report.now (texts words.now)) result }
     ensures writable { IfOk result IsWritable }
 {
     let ready = make_ready(alloc, shelf, world, words)?;

@@ -2,7 +2,6 @@
 ghost use Rattle.std.specs.Prelude.{◌≡◌};
 ghost use Rattle.code_file.specs.declared.fault.CodeFault.{CodeFault};
 ghost use Rattle.element_set.specs.Sets.{Coded};
-ghost use Rattle.feast_base.specs.Outside.{shelf_state};
 ghost use Rattle.feast_run.specs.CodeFiles.{code_refused, codes_from, codes_in};
 ghost use Rattle.feast_run.specs.Faults.{IsCodeHalt, IsHalt};
 ghost use Rattle.feast_run.specs.Tellings.{Moves, Tells};
@@ -54,9 +53,9 @@ pub fn load_codes<'a, F: Shelf>(
     shelf: &mut F,
     word: &'a str,
 ) -> Result<CodeSet, Halt<'a>>
-    ensures files { F.files shelf.new ≡ F.files shelf.old }
-    ensures moves { Moves (shelf_state F.files F.failed F.may_fail shelf.old) (shelf_state F.files F.failed F.may_fail shelf.new) result }
-    ensures tells { Tells (λ es. es) (codes_from (F.files shelf.old) word.now) result }
+    ensures files { (F.state shelf.new).files ≡ (F.state shelf.old).files }
+    ensures moves { Moves (F.state shelf.old) (F.state shelf.new) result }
+    ensures tells { Tells (λ es. es) (codes_from (F.state shelf.old).files word.now) result }
 {
     let bytes = load_file(alloc, shelf, word, CODE_LIMIT)?;
     read_codes(alloc, word, bytes.as_slice())

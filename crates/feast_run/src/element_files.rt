@@ -1,9 +1,8 @@
 //! Loading and building element files.
-ghost use Rattle.std.specs.Prelude.{◌≡◌, ◌≤◌, ◌<◌, ◌^◌, ◌-◌, [], IfOk, All, length, map, slice_index_or, string_bytes};
+ghost use Rattle.std.specs.Prelude.{◌≡◌, ◌≤◌, [], IfOk, length, slice_index_or};
 ghost use Rattle.element_set.specs.Sets.{set_value};
-ghost use Rattle.feast_base.specs.Outside.{shelf_state};
-ghost use Rattle.feast_run.specs.Forms.{most_files};
-ghost use Rattle.feast_run.specs.Stages.{builds, element_limit, load_all, set_of};
+ghost use Rattle.feast_run.specs.Forms.{most_files, texts};
+ghost use Rattle.feast_run.specs.Stages.{AreWithin, builds, load_all, set_of};
 ghost use Rattle.feast_run.specs.Tellings.{Moves, Tells};
 
 use crate::halt::{Halt, Input, Refused};
@@ -18,11 +17,11 @@ fn load_files<'a, F: Shelf>(
     shelf: &mut F,
     words: &'a [String],
 ) -> Result<Vec<Source>, Halt<'a>>
-    ensures files { F.files shelf.new ≡ F.files shelf.old }
-    ensures moves { Moves (shelf_state F.files F.failed F.may_fail shelf.old) (shelf_state F.files F.failed F.may_fail shelf.new) result }
-    ensures tells { Tells (λ v. v.items) (load_all (F.files shelf.old) (map string_bytes words.now)) result }
+    ensures files { (F.state shelf.new).files ≡ (F.state shelf.old).files }
+    ensures moves { Moves (F.state shelf.old) (F.state shelf.new) result }
+    ensures tells { Tells (λ v. v.items) (load_all (F.state shelf.old).files (texts words.now)) result }
     ensures many { IfOk result (λ v. length v.items ≡ length words.now) }
-    ensures short { IfOk result (λ v. All (λ f. length f.1 ≤ element_limit) v.items) }
+    ensures short { IfOk result (λ v. AreWithin v.items) }
 {
     let mut sources = Vec::new(alloc);
     for word in words {
@@ -35,7 +34,7 @@ fn load_files<'a, F: Shelf>(
 
 /// The word of the file of a number, or no word if there is none.
 fn word_of(words: &[String], file: u32) -> &str
-    ensures { result.now ≡ slice_index_or (map string_bytes words.now) file [] }
+    ensures { result.now ≡ slice_index_or (texts words.now) file [] }
 {
     match words.get(file as usize) {
         Some(word) => word.as_str(),
@@ -46,8 +45,8 @@ fn word_of(words: &[String], file: u32) -> &str
 /// The set of loaded element files, whose words these are.
 fn built<'a>(alloc: Global, words: &'a [String], sources: &[Source]) -> Result<ElementSet, Halt<'a>>
     requires few { length sources.now ≤ most_files }
-    requires short { All (λ f. length f.1 ≤ element_limit) sources.now }
-    ensures { Tells set_value (builds (map string_bytes words.now) sources.now) result }
+    requires short { AreWithin sources.now }
+    ensures { Tells set_value (builds (texts words.now) sources.now) result }
 {
     match ElementSet::build(alloc, sources) {
         Ok(set) => Ok(set),
@@ -67,9 +66,9 @@ pub fn load_set<'a, F: Shelf>(
     words: &'a [String],
 ) -> Result<ElementSet, Halt<'a>>
     requires { length words.now ≤ most_files }
-    ensures files { F.files shelf.new ≡ F.files shelf.old }
-    ensures moves { Moves (shelf_state F.files F.failed F.may_fail shelf.old) (shelf_state F.files F.failed F.may_fail shelf.new) result }
-    ensures tells { Tells set_value (set_of (F.files shelf.old) (map string_bytes words.now)) result }
+    ensures files { (F.state shelf.new).files ≡ (F.state shelf.old).files }
+    ensures moves { Moves (F.state shelf.old) (F.state shelf.new) result }
+    ensures tells { Tells set_value (set_of (F.state shelf.old).files (texts words.now)) result }
 {
     let sources = load_files(alloc, shelf, words)?;
     built(alloc, words, sources.as_slice())

@@ -1,6 +1,6 @@
 //! The forms that the words of a call may have.
-ghost use Rattle.std.specs.Prelude.{◌≡◌, ◌≤◌, IfSome, MatchOption, None, Some, length, map, string_bytes};
-ghost use Rattle.feast_run.specs.Forms.{IsFew, form_of, form_value, most_files, of_files, of_number, left_of, of_rewind, two_words};
+ghost use Rattle.std.specs.Prelude.{◌≡◌, ◌≤◌, IfSome, MatchOption, None, Some, length, option_map};
+ghost use Rattle.feast_run.specs.Forms.{IsFew, asked, form_value, left_of, most_files, of_files, of_number, of_rewind, texts, two_words};
 
 use text_lines::number;
 
@@ -42,7 +42,7 @@ pub enum Form<'a> {
 
 /// The words, if there are as many as a form may have element files.
 fn of_files(words: &[String]) -> Option<&[String]>
-    ensures value { MatchOption result (of_files (map string_bytes words.now) ≡ None) (λ f. of_files (map string_bytes words.now) ≡ Some (map string_bytes f.now)) }
+    ensures value { of_files (texts words.now) ≡ option_map (λ files. texts files.now) result }
     ensures few { IfSome result (λ f. length f.now ≤ most_files) }
 {
     if 1 <= words.len() && words.len() <= MOST_FILES {
@@ -54,7 +54,7 @@ fn of_files(words: &[String]) -> Option<&[String]>
 
 /// The number that the words are, if they are one word and it is a canonical decimal below 2^64.
 fn of_number(words: &[String]) -> Option<u64>
-    ensures { MatchOption result (of_number (map string_bytes words.now) ≡ None) (λ n. of_number (map string_bytes words.now) ≡ Some n) }
+    ensures { MatchOption result (of_number (texts words.now) ≡ None) (λ n. of_number (texts words.now) ≡ Some n) }
 {
     match words {
         [word] => u64::try_from(number(word.as_bytes())?).ok(),
@@ -72,7 +72,7 @@ fn left_of(word: &str) -> Option<u32>
 
 /// The words, if they are two.
 fn two_words(words: &[String]) -> Option<(&str, &str)>
-    ensures { MatchOption result (two_words (map string_bytes words.now) ≡ None) (λ p. two_words (map string_bytes words.now) ≡ Some (p.0.now, p.1.now)) }
+    ensures { two_words (texts words.now) ≡ option_map (λ pair. (pair.0.now, pair.1.now)) result }
 {
     match words {
         [first, second] => Some((first.as_str(), second.as_str())),
@@ -82,7 +82,7 @@ fn two_words(words: &[String]) -> Option<(&str, &str)>
 
 /// The form of a rewind, from the words after its first.
 fn read_rewind(words: &[String]) -> Option<Form<'_>>
-    ensures value { MatchOption result (of_rewind (map string_bytes words.now) ≡ None) (λ f. of_rewind (map string_bytes words.now) ≡ Some (form_value f)) }
+    ensures value { of_rewind (texts words.now) ≡ option_map form_value result }
     ensures few { IfSome result IsFew }
 {
     let (world, rest) = words.split_first()?;
@@ -94,7 +94,7 @@ fn read_rewind(words: &[String]) -> Option<Form<'_>>
 
 /// The form of the words.
 pub fn read_form(words: &[String]) -> Option<Form<'_>>
-    ensures value { MatchOption result (form_of (map string_bytes words.now) ≡ None) (λ f. form_of (map string_bytes words.now) ≡ Some (form_value f)) }
+    ensures value { asked words.now ≡ option_map form_value result }
     ensures few { IfSome result IsFew }
 {
     let (verb, rest) = words.split_first()?;

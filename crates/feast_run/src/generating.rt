@@ -1,12 +1,11 @@
 //! The stages of the run of a generated world.
-ghost use Rattle.std.specs.Prelude.{◌≡◌, IfOk, Ok};
-ghost use Rattle.feast_run.specs.Generating.{generates, stepped_summary};
+ghost use Rattle.std.specs.Prelude.{◌≡◌, IfOk, Ok, OnOk};
+ghost use Rattle.feast_run.specs.Generating.{generated_with, generates, summary_with};
 ghost use Rattle.feast_run.specs.Outputs.{IsWritable, output_text};
 ghost use Rattle.feast_run.specs.Stages.{ready_with};
 ghost use Rattle.feast_run.specs.Stepped.{IsOutcomeOf, IsSteppedRun};
 ghost use Rattle.feast_run.specs.Tellings.{MissesNone, Tells};
 ghost use Rattle.feast_run.specs.Values.{elements_value};
-ghost use Rattle.generated_world.specs.Generated.{generated};
 ghost use Rattle.world_runs.specs.Worlds.{IsWorld};
 ghost use Rattle.world_runs.specs.Orders.{IsOrder};
 ghost use Rattle.world_text.specs.Values.{order_value, world_value};
@@ -35,8 +34,8 @@ fn outcome(alloc: Global, world: &World, elements: &Elements) -> Result<Outcome,
 
 /// The summary of the stepped run of the world of a number, with these elements.
 fn summary_of(alloc: Global, number: u64, elements: &Elements) -> Result<Vec<u8>, NoMemory>
-    ensures run { IfOk result (λ _. IsSteppedRun (ready_with (generated number) (elements_value elements.now))) }
-    ensures text { IfOk result (λ v. v.items ≡ stepped_summary number (ready_with (generated number) (elements_value elements.now))) }
+    ensures run { OnOk result (IsSteppedRun (generated_with number (elements_value elements.now))) }
+    ensures text { IfOk result (λ v. v.items ≡ summary_with number (elements_value elements.now)) }
 {
     let world = generated(alloc, number)?;
     let outcome = outcome(alloc, &world, elements)?;

@@ -3,10 +3,10 @@
 use feast_base::{NoMemory, Refusal};
 use std::alloc::AllocFailed;
 
-/// What a refusal is about; by it the status is chosen with which the call ends.
+/// What a refusal is about. It decides the status with which the call ends.
 #[derive(Clone, Copy, Debug, PartialEq, Eq)]
 pub enum Input {
-    /// A file, whatever it says: it is too long.
+    /// A file that is too long, whatever it says.
     File,
     /// The element files.
     Elements,

@@ -1,8 +1,7 @@
 //! The top call over a shelf and a sink in memory.
-ghost use Rattle.std.specs.Prelude.{◌<◌, ◌^◌, ◌-◌, map, string_bytes};
-ghost use Rattle.feast_run.specs.Ending.{Ends};
-ghost use Rattle.feast_run.specs.Forms.{form_of};
-ghost use Rattle.feast_run.specs.Promises.{NothingFails, mem_shelf_state, mem_sink_state};
+ghost use Rattle.std.specs.Prelude.{◌<◌, ◌^◌, ◌-◌};
+ghost use Rattle.feast_run.specs.Forms.{asked};
+ghost use Rattle.feast_run.specs.Promises.{EndsInMemory, NothingFails, held};
 
 use crate::{Status, feast};
 use feast_base::{Gate, MemShelf, MemSink};
@@ -22,8 +21,8 @@ pub fn feast_in_memory<R: Threads + Sync, G: Gate>(
     gate: &G,
 ) -> Status
     requires { sink.old.faults < 2 ^ 64 - 1 }
-    ensures ends { Ends (form_of (map string_bytes words.now)) (mem_shelf_state shelf.old) (mem_shelf_state shelf.new) (mem_sink_state sink.old) (mem_sink_state sink.new) result }
-    ensures nothing_fails { NothingFails (form_of (map string_bytes words.now)) shelf.old shelf.new sink.old sink.new result }
+    ensures ends { EndsInMemory (asked words.now) (held shelf.old sink.old) (held shelf.new sink.new) result }
+    ensures nothing_fails { NothingFails (asked words.now) (held shelf.old sink.old) (held shelf.new sink.new) result }
 {
     feast(rt, alloc, words, shelf, sink, gate)
 }

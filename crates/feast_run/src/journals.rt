@@ -2,7 +2,6 @@
 ghost use Rattle.std.specs.Prelude.{◌≡◌, ◌<◌, ◌^◌, length};
 ghost use Rattle.event_journal.specs.Reading.{fault_of};
 ghost use Rattle.event_journal.specs.Cursors.{ReadsJournal};
-ghost use Rattle.feast_base.specs.Outside.{shelf_state};
 ghost use Rattle.feast_run.specs.Faults.{IsJournalHalt, IsHalt};
 ghost use Rattle.feast_run.specs.Halting.{refused};
 ghost use Rattle.feast_run.specs.Stages.{journal_in, journal_of};
@@ -91,9 +90,9 @@ pub fn load_journal<'a, F: Shelf>(
 ) -> Result<ReadJournal, Halt<'a>>
     requires world { IsWorld (world_value world.now) }
     requires map { map.now ≡ (world_value world.now).plane }
-    ensures files { F.files shelf.new ≡ F.files shelf.old }
-    ensures moves { Moves (shelf_state F.files F.failed F.may_fail shelf.old) (shelf_state F.files F.failed F.may_fail shelf.new) result }
-    ensures tells { Tells journal_value (journal_of (F.files shelf.old) word.now (world_value world.now)) result }
+    ensures files { (F.state shelf.new).files ≡ (F.state shelf.old).files }
+    ensures moves { Moves (F.state shelf.old) (F.state shelf.new) result }
+    ensures tells { Tells journal_value (journal_of (F.state shelf.old).files word.now (world_value world.now)) result }
 {
     let bytes = load_file(alloc, shelf, word, JOURNAL_LIMIT)?;
     read_loaded(alloc, word, bytes.as_slice(), map, world)

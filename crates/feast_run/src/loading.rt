@@ -1,6 +1,5 @@
 //! Loading a file.
 ghost use Rattle.std.specs.Prelude.{◌≡◌, ◌≤◌, ◌<◌, ◌^◌, ◌-◌, ℕ, List};
-ghost use Rattle.feast_base.specs.Outside.{shelf_state};
 ghost use Rattle.feast_run.specs.CodeFiles.{at_byte};
 ghost use Rattle.feast_run.specs.Stages.{at_line, load, whole_file};
 ghost use Rattle.feast_run.specs.Tellings.{Moves, Tells};
@@ -77,9 +76,9 @@ pub fn load_file<'a, F: Shelf>(
     word: &'a str,
     limit: u32,
 ) -> Result<Vec<u8>, Halt<'a>>
-    ensures files { F.files shelf.new ≡ F.files shelf.old }
-    ensures moves { Moves (shelf_state F.files F.failed F.may_fail shelf.old) (shelf_state F.files F.failed F.may_fail shelf.new) result }
-    ensures tells { Tells (λ v. v.items) (load (F.files shelf.old) limit word.now) result }
+    ensures files { (F.state shelf.new).files ≡ (F.state shelf.old).files }
+    ensures moves { Moves (F.state shelf.old) (F.state shelf.new) result }
+    ensures tells { Tells (λ v. v.items) (load (F.state shelf.old).files limit word.now) result }
 {
     let mut bytes = Vec::new(alloc);
     match shelf.load(word, limit as usize, &mut bytes) {

@@ -1,12 +1,11 @@
 //! The stages of a code file.
-ghost use Rattle.std.specs.Prelude.{◌≡◌, ◌≤◌, IfOk, length, map, string_bytes};
+ghost use Rattle.std.specs.Prelude.{◌≡◌, ◌≤◌, IfOk, length};
 ghost use Rattle.element_set.specs.Sets.{set_value};
-ghost use Rattle.feast_base.specs.Outside.{shelf_state};
-ghost use Rattle.feast_run.specs.Answer.{form_answer};
-ghost use Rattle.feast_run.specs.Forms.{most_files, pack};
+ghost use Rattle.feast_run.specs.Forms.{most_files, pack, texts};
 ghost use Rattle.feast_run.specs.Outputs.{IsWritable, output_text};
 ghost use Rattle.feast_run.specs.Packed.{pack_text};
-ghost use Rattle.feast_run.specs.Tellings.{Moves, Tells};
+ghost use Rattle.feast_run.specs.Replies.{TellsForm};
+ghost use Rattle.feast_run.specs.Tellings.{Moves};
 
 use crate::element_files::load_set;
 use crate::halt::Halt;
@@ -32,9 +31,9 @@ pub fn pack_stages<'a, F: Shelf>(
     words: &'a [String],
 ) -> Result<Output, Halt<'a>>
     requires { length words.now ≤ most_files }
-    ensures files { F.files shelf.new ≡ F.files shelf.old }
-    ensures moves { Moves (shelf_state F.files F.failed F.may_fail shelf.old) (shelf_state F.files F.failed F.may_fail shelf.new) result }
-    ensures tells { Tells output_text (form_answer (F.files shelf.old) (pack (map string_bytes words.now))) result }
+    ensures files { (F.state shelf.new).files ≡ (F.state shelf.old).files }
+    ensures moves { Moves (F.state shelf.old) (F.state shelf.new) result }
+    ensures tells { TellsForm (F.state shelf.old) (pack (texts words.now)) result }
     ensures writable { IfOk result IsWritable }
 {
     let set = load_set(alloc, shelf, words)?;

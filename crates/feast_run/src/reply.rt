@@ -1,11 +1,12 @@
 //! The reply to the words of a call.
-ghost use Rattle.std.specs.Prelude.{◌≡◌, IfOk, MatchResult, Some, map, string_bytes};
+ghost use Rattle.std.specs.Prelude.{◌≡◌, IfOk, Some};
 ghost use Rattle.element_set.specs.Sets.{Coded};
-ghost use Rattle.feast_base.specs.Outside.{shelf_state};
 ghost use Rattle.feast_base.specs.Refusals.{refusal_line};
-ghost use Rattle.feast_run.specs.Ending.{ComesTo, KeepsOrMisses, status_of_input};
-ghost use Rattle.feast_run.specs.Forms.{IsFew, form_of, form_value};
-ghost use Rattle.feast_run.specs.Outputs.{IsWritable, output_text};
+ghost use Rattle.feast_run.specs.Changes.{change};
+ghost use Rattle.feast_run.specs.Ending.{status_of_input};
+ghost use Rattle.feast_run.specs.Forms.{IsFew, asked, form_value};
+ghost use Rattle.feast_run.specs.Outputs.{IsWritable};
+ghost use Rattle.feast_run.specs.Replies.{Replies, Says};
 
 use crate::Status;
 use crate::form::{Form, read_form};
@@ -40,7 +41,7 @@ fn status_of(input: Input) -> Status
 /// The reply to a refusal: its line.
 fn refuse(alloc: Global, status: Status, word: &str, refusal: &Refusal) -> Result<Reply, NoMemory>
     requires { Coded refusal.now.code }
-    ensures line { IfOk result (λ reply. (reply.status ≡ status) × (output_text reply.output ≡ refusal_line word.now refusal.now)) }
+    ensures line { IfOk result (Says status (refusal_line word.now refusal.now)) }
     ensures writable { IfOk result (λ reply. IsWritable reply.output) }
 {
     let mut text = Vec::new(alloc);
@@ -61,9 +62,8 @@ fn reply_to_form<R: Threads + Sync, F: Shelf, G: Gate>(
     gate: &G,
 ) -> Result<Reply, NoMemory>
     requires { IsFew form }
-    ensures files { F.files shelf.new ≡ F.files shelf.old }
-    ensures says { let old = shelf_state F.files F.failed F.may_fail shelf.old in let new = shelf_state F.files F.failed F.may_fail shelf.new in let form = Some (form_value form.entry) in
-        MatchResult result (λ reply. ComesTo form old new reply.status (output_text reply.output)) (λ _. KeepsOrMisses form old new) }
+    ensures files { (F.state shelf.new).files ≡ (F.state shelf.old).files }
+    ensures says { Replies (Some (form_value form.entry)) (change F.state shelf.old shelf.new) result }
     ensures writable { IfOk result (λ reply. IsWritable reply.output) }
 {
     match form_stages(rt, alloc, shelf, form, gate) {
@@ -91,9 +91,8 @@ pub fn reply_to_words<R: Threads + Sync, F: Shelf, G: Gate>(
     words: &[String],
     gate: &G,
 ) -> Result<Reply, NoMemory>
-    ensures files { F.files shelf.new ≡ F.files shelf.old }
-    ensures says { let old = shelf_state F.files F.failed F.may_fail shelf.old in let new = shelf_state F.files F.failed F.may_fail shelf.new in let form = form_of (map string_bytes words.now) in
-        MatchResult result (λ reply. ComesTo form old new reply.status (output_text reply.output)) (λ _. KeepsOrMisses form old new) }
+    ensures files { (F.state shelf.new).files ≡ (F.state shelf.old).files }
+    ensures says { Replies (asked words.now) (change F.state shelf.old shelf.new) result }
     ensures writable { IfOk result (λ reply. IsWritable reply.output) }
 {
     match read_form(words) {

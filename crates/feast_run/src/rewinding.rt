@@ -1,10 +1,10 @@
 //! The stages of a rewind.
-ghost use Rattle.std.specs.Prelude.{◌≡◌, ◌<◌, ◌≤◌, All, Err, IfOk, length, map, string_bytes, take};
-ghost use Rattle.feast_base.specs.Outside.{shelf_state};
-ghost use Rattle.feast_run.specs.Answer.{atoms_after, form_answer, rewind_of, rewinds};
+ghost use Rattle.std.specs.Prelude.{◌≡◌, ◌<◌, ◌≤◌, All, Err, IfOk, length, take};
+ghost use Rattle.feast_run.specs.Answer.{atoms_after, rewind_of, rewinds};
 ghost use Rattle.feast_run.specs.Faults.{IsHalt};
-ghost use Rattle.feast_run.specs.Forms.{most_files, rewind};
+ghost use Rattle.feast_run.specs.Forms.{most_files, rewind, texts};
 ghost use Rattle.feast_run.specs.Outputs.{IsWritable, output_text};
+ghost use Rattle.feast_run.specs.Replies.{TellsForm};
 ghost use Rattle.feast_run.specs.Stages.{records_refused};
 ghost use Rattle.feast_run.specs.Tellings.{Moves, Tells};
 ghost use Rattle.feast_run.specs.Values.{IsReady, journal_value, ready_value};
@@ -78,7 +78,7 @@ fn rewind_kept<'a>(
     Ok(Output::Text(text))
 }
 
-/// The stages of a rewind after its journal.
+/// The stages of a rewind once its journal is read.
 fn rewind_loaded<'a>(
     alloc: Global,
     word: &'a str,
@@ -107,9 +107,9 @@ fn rewind_rest<'a, F: Shelf>(
     ready: Ready,
 ) -> Result<Output, Halt<'a>>
     requires { IsReady ready }
-    ensures files { F.files shelf.new ≡ F.files shelf.old }
-    ensures moves { Moves (shelf_state F.files F.failed F.may_fail shelf.old) (shelf_state F.files F.failed F.may_fail shelf.new) result }
-    ensures tells { Tells output_text (rewind_of (F.files shelf.old) word.now left (ready_value ready)) result }
+    ensures files { (F.state shelf.new).files ≡ (F.state shelf.old).files }
+    ensures moves { Moves (F.state shelf.old) (F.state shelf.new) result }
+    ensures tells { Tells output_text (rewind_of (F.state shelf.old).files word.now left (ready_value ready)) result }
     ensures writable { IfOk result IsWritable }
 {
     let journal = load_journal(alloc, shelf, word, &ready.map, &ready.world)?;
@@ -126,9 +126,9 @@ pub fn rewind_stages<'a, F: Shelf>(
     words: &'a [String],
 ) -> Result<Output, Halt<'a>>
     requires { length words.now ≤ most_files }
-    ensures files { F.files shelf.new ≡ F.files shelf.old }
-    ensures moves { Moves (shelf_state F.files F.failed F.may_fail shelf.old) (shelf_state F.files F.failed F.may_fail shelf.new) result }
-    ensures tells { Tells output_text (form_answer (F.files shelf.old) (rewind world.now report.now left (map string_bytes words.now))) result }
+    ensures files { (F.state shelf.new).files ≡ (F.state shelf.old).files }
+    ensures moves { Moves (F.state shelf.old) (F.state shelf.new) result }
+    ensures tells { TellsForm (F.state shelf.old) (rewind world.now report.now left (texts words.now)) result }
     ensures writable { IfOk result IsWritable }
 {
     let ready = make_ready(alloc, shelf, world, words)?;

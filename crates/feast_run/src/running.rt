@@ -1,11 +1,11 @@
 //! The stages of a run.
-ghost use Rattle.std.specs.Prelude.{◌≡◌, ◌≢◌, ◌≤◌, [], IfOk, length, map, string_bytes};
+ghost use Rattle.std.specs.Prelude.{◌≡◌, ◌≢◌, ◌≤◌, [], IfOk, length};
 ghost use Rattle.event_journal.specs.Logs.{abandoned_in, records_in};
-ghost use Rattle.feast_base.specs.Outside.{shelf_state};
-ghost use Rattle.feast_run.specs.Answer.{form_answer, lone_logs, run_report, runs};
-ghost use Rattle.feast_run.specs.Forms.{most_files, run, runpack};
+ghost use Rattle.feast_run.specs.Answer.{lone_logs, run_report, runs};
+ghost use Rattle.feast_run.specs.Forms.{most_files, run, runpack, texts};
 ghost use Rattle.feast_run.specs.Outputs.{IsWritable, output_text};
 ghost use Rattle.feast_run.specs.Owing.{Reports};
+ghost use Rattle.feast_run.specs.Replies.{TellsForm};
 ghost use Rattle.feast_run.specs.Tellings.{Moves, Tells};
 ghost use Rattle.feast_run.specs.Threaded.{IsThreadedOf};
 ghost use Rattle.feast_run.specs.Values.{IsReady, ready_value};
@@ -36,8 +36,8 @@ fn journal_of<G: Gate>(alloc: Global, ready: &Ready, gate: &G) -> Result<Journal
     journal(alloc, &ready.map, &ready.world.plan, gate)
 }
 
-/// What a run of one tile leaves: no other tile shares a site with it, so its events are made on the
-/// one grid at once.
+/// What a run of one tile leaves. No other tile shares a site with it, so its events are made on one
+/// grid, with no copies of sites.
 fn ran_alone<G: Gate>(alloc: Global, ready: Ready, gate: &G) -> Result<Output, NoMemory>
     requires ready { IsReady ready }
     requires alone { tiles_of (world_value ready.world).plane ≡ 1 }
@@ -131,9 +131,9 @@ pub fn run_stages<'a, R: Threads + Sync, F: Shelf, G: Gate>(
     gate: &G,
 ) -> Result<Output, Halt<'a>>
     requires { length words.now ≤ most_files }
-    ensures files { F.files shelf.new ≡ F.files shelf.old }
-    ensures moves { Moves (shelf_state F.files F.failed F.may_fail shelf.old) (shelf_state F.files F.failed F.may_fail shelf.new) result }
-    ensures tells { Tells output_text (form_answer (F.files shelf.old) (run world.now (map string_bytes words.now))) result }
+    ensures files { (F.state shelf.new).files ≡ (F.state shelf.old).files }
+    ensures moves { Moves (F.state shelf.old) (F.state shelf.new) result }
+    ensures tells { TellsForm (F.state shelf.old) (run world.now (texts words.now)) result }
     ensures writable { IfOk result IsWritable }
 {
     let ready = make_ready(alloc, shelf, world, words)?;
@@ -149,9 +149,9 @@ pub fn runpack_stages<'a, R: Threads + Sync, F: Shelf, G: Gate>(
     code: &'a str,
     gate: &G,
 ) -> Result<Output, Halt<'a>>
-    ensures files { F.files shelf.new ≡ F.files shelf.old }
-    ensures moves { Moves (shelf_state F.files F.failed F.may_fail shelf.old) (shelf_state F.files F.failed F.may_fail shelf.new) result }
-    ensures tells { Tells output_text (form_answer (F.files shelf.old) (runpack world.now code.now)) result }
+    ensures files { (F.state shelf.new).files ≡ (F.state shelf.old).files }
+    ensures moves { Moves (F.state shelf.old) (F.state shelf.new) result }
+    ensures tells { TellsForm (F.state shelf.old) (runpack world.now code.now) result }
     ensures writable { IfOk result IsWritable }
 {
     let ready = make_packed(alloc, shelf, world, code)?;

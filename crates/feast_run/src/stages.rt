@@ -1,10 +1,9 @@
 //! The stages of the forms, up to what is written.
-ghost use Rattle.std.specs.Prelude.{◌≡◌, ◌≤◌, IfOk, length, map, string_bytes};
-ghost use Rattle.feast_base.specs.Outside.{shelf_state};
-ghost use Rattle.feast_run.specs.Answer.{form_answer};
-ghost use Rattle.feast_run.specs.Forms.{IsFew, check, code, form_value, most_files};
+ghost use Rattle.std.specs.Prelude.{◌≡◌, ◌≤◌, IfOk, length};
+ghost use Rattle.feast_run.specs.Forms.{IsFew, check, code, form_value, most_files, texts};
 ghost use Rattle.feast_run.specs.Outputs.{IsWritable, output_text};
-ghost use Rattle.feast_run.specs.Tellings.{Moves, Tells};
+ghost use Rattle.feast_run.specs.Replies.{TellsForm};
+ghost use Rattle.feast_run.specs.Tellings.{Moves};
 
 use crate::auditing::audit_stages;
 use crate::element_files::load_set;
@@ -28,9 +27,9 @@ fn check_stages<'a, F: Shelf>(
     words: &'a [String],
 ) -> Result<Output, Halt<'a>>
     requires { length words.now ≤ most_files }
-    ensures files { F.files shelf.new ≡ F.files shelf.old }
-    ensures moves { Moves (shelf_state F.files F.failed F.may_fail shelf.old) (shelf_state F.files F.failed F.may_fail shelf.new) result }
-    ensures tells { Tells output_text (form_answer (F.files shelf.old) (check (map string_bytes words.now))) result }
+    ensures files { (F.state shelf.new).files ≡ (F.state shelf.old).files }
+    ensures moves { Moves (F.state shelf.old) (F.state shelf.new) result }
+    ensures tells { TellsForm (F.state shelf.old) (check (texts words.now)) result }
     ensures writable { IfOk result IsWritable }
 {
     let set = load_set(alloc, shelf, words)?;
@@ -46,9 +45,9 @@ fn code_stages<'a, F: Shelf>(
     words: &'a [String],
 ) -> Result<Output, Halt<'a>>
     requires { length words.now ≤ most_files }
-    ensures files { F.files shelf.new ≡ F.files shelf.old }
-    ensures moves { Moves (shelf_state F.files F.failed F.may_fail shelf.old) (shelf_state F.files F.failed F.may_fail shelf.new) result }
-    ensures tells { Tells output_text (form_answer (F.files shelf.old) (code (map string_bytes words.now))) result }
+    ensures files { (F.state shelf.new).files ≡ (F.state shelf.old).files }
+    ensures moves { Moves (F.state shelf.old) (F.state shelf.new) result }
+    ensures tells { TellsForm (F.state shelf.old) (code (texts words.now)) result }
     ensures writable { IfOk result IsWritable }
 {
     let set = load_set(alloc, shelf, words)?;
@@ -66,9 +65,9 @@ pub fn form_stages<'a, R: Threads + Sync, F: Shelf, G: Gate>(
     gate: &G,
 ) -> Result<Output, Halt<'a>>
     requires { IsFew form }
-    ensures files { F.files shelf.new ≡ F.files shelf.old }
-    ensures moves { Moves (shelf_state F.files F.failed F.may_fail shelf.old) (shelf_state F.files F.failed F.may_fail shelf.new) result }
-    ensures tells { Tells output_text (form_answer (F.files shelf.old) (form_value form.entry)) result }
+    ensures files { (F.state shelf.new).files ≡ (F.state shelf.old).files }
+    ensures moves { Moves (F.state shelf.old) (F.state shelf.new) result }
+    ensures tells { TellsForm (F.state shelf.old) (form_value form.entry) result }
     ensures writable { IfOk result IsWritable }
 {
     match form {

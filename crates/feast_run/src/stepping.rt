@@ -1,9 +1,9 @@
 //! The stages of a stepped run.
-ghost use Rattle.std.specs.Prelude.{◌≡◌, ◌≤◌, IfOk, length, map, string_bytes};
-ghost use Rattle.feast_base.specs.Outside.{shelf_state};
-ghost use Rattle.feast_run.specs.Answer.{form_answer, steps};
-ghost use Rattle.feast_run.specs.Forms.{most_files, step, steppack};
+ghost use Rattle.std.specs.Prelude.{◌≡◌, ◌≤◌, IfOk, length};
+ghost use Rattle.feast_run.specs.Answer.{steps};
+ghost use Rattle.feast_run.specs.Forms.{most_files, step, steppack, texts};
 ghost use Rattle.feast_run.specs.Outputs.{IsWritable, output_text};
+ghost use Rattle.feast_run.specs.Replies.{TellsForm};
 ghost use Rattle.feast_run.specs.Stepped.{IsOutcomeOf, IsSteppedRun, stepped_report};
 ghost use Rattle.feast_run.specs.Tellings.{Moves, Tells};
 ghost use Rattle.feast_run.specs.Values.{IsReady, ready_value};
@@ -60,9 +60,9 @@ pub fn step_stages<'a, F: Shelf>(
     words: &'a [String],
 ) -> Result<Output, Halt<'a>>
     requires { length words.now ≤ most_files }
-    ensures files { F.files shelf.new ≡ F.files shelf.old }
-    ensures moves { Moves (shelf_state F.files F.failed F.may_fail shelf.old) (shelf_state F.files F.failed F.may_fail shelf.new) result }
-    ensures tells { Tells output_text (form_answer (F.files shelf.old) (step world.now (map string_bytes words.now))) result }
+    ensures files { (F.state shelf.new).files ≡ (F.state shelf.old).files }
+    ensures moves { Moves (F.state shelf.old) (F.state shelf.new) result }
+    ensures tells { TellsForm (F.state shelf.old) (step world.now (texts words.now)) result }
     ensures writable { IfOk result IsWritable }
 {
     let ready = make_ready(alloc, shelf, world, words)?;
@@ -76,9 +76,9 @@ pub fn steppack_stages<'a, F: Shelf>(
     world: &'a str,
     code: &'a str,
 ) -> Result<Output, Halt<'a>>
-    ensures files { F.files shelf.new ≡ F.files shelf.old }
-    ensures moves { Moves (shelf_state F.files F.failed F.may_fail shelf.old) (shelf_state F.files F.failed F.may_fail shelf.new) result }
-    ensures tells { Tells output_text (form_answer (F.files shelf.old) (steppack world.now code.now)) result }
+    ensures files { (F.state shelf.new).files ≡ (F.state shelf.old).files }
+    ensures moves { Moves (F.state shelf.old) (F.state shelf.new) result }
+    ensures tells { TellsForm (F.state shelf.old) (steppack world.now code.now) result }
     ensures writable { IfOk result IsWritable }
 {
     let ready = make_packed(alloc, shelf, world, code)?;

@@ -1,10 +1,11 @@
 //! The top call.
-ghost use Rattle.std.specs.Prelude.{◌≡◌, ◌<◌, ◌^◌, ◌-◌, List, map, string_bytes};
-ghost use Rattle.feast_base.specs.Outside.{shelf_state, sink_state};
-ghost use Rattle.feast_run.specs.Ending.{Ends, PutWith};
-ghost use Rattle.feast_run.specs.Forms.{form_of};
+ghost use Rattle.std.specs.Prelude.{◌≡◌, ◌<◌, ◌^◌, ◌-◌};
+ghost use Rattle.feast_run.specs.Changes.{change};
+ghost use Rattle.feast_run.specs.Ending.{Ends};
+ghost use Rattle.feast_run.specs.Forms.{asked};
 ghost use Rattle.feast_run.specs.Outputs.{IsWritable, output_text};
 ghost use Rattle.feast_run.specs.Promises.{Complete, Exactly, Headline, Noted, UsageExactly};
+ghost use Rattle.feast_run.specs.Replies.{PutWith};
 ghost use Rattle.grid_print.specs.Writing.{Writes};
 
 use crate::Status;
@@ -17,8 +18,8 @@ use std::thread::Threads;
 
 /// Puts a text in one piece, unless it is empty.
 fn put_text<K: Sink>(sink: &mut K, text: &[u8]) -> Result<(), WriteFault>
-    requires { K.faults sink.old < 2 ^ 64 - 1 }
-    ensures { Writes (sink_state K.written K.faults K.may_fail sink.old) (sink_state K.written K.faults K.may_fail sink.new) text.now result }
+    requires { (K.state sink.old).faults < 2 ^ 64 - 1 }
+    ensures { Writes (K.state sink.old) (K.state sink.new) text.now result }
 {
     if text.is_empty() {
         return Ok(());
@@ -31,9 +32,9 @@ fn put_text<K: Sink>(sink: &mut K, text: &[u8]) -> Result<(), WriteFault>
 
 /// Writes an output: a text in one piece, a report in pieces.
 fn write<K: Sink>(alloc: Global, sink: &mut K, output: &Output) -> Result<(), WriteFault>
-    requires room { K.faults sink.old < 2 ^ 64 - 1 }
+    requires room { (K.state sink.old).faults < 2 ^ 64 - 1 }
     requires writable { IsWritable output.now }
-    ensures { Writes (sink_state K.written K.faults K.may_fail sink.old) (sink_state K.written K.faults K.may_fail sink.new) (output_text output.now) result }
+    ensures { Writes (K.state sink.old) (K.state sink.new) (output_text output.now) result }
 {
     match output {
         Output::Text(text) => put_text(sink, text.as_slice()),
@@ -51,9 +52,9 @@ fn write<K: Sink>(alloc: Global, sink: &mut K, output: &Output) -> Result<(), Wr
 
 /// Writes a reply, and answers its status if it is put whole.
 fn put<K: Sink>(alloc: Global, sink: &mut K, reply: &Reply) -> Status
-    requires room { K.faults sink.old < 2 ^ 64 - 1 }
+    requires room { (K.state sink.old).faults < 2 ^ 64 - 1 }
     requires writable { IsWritable reply.now.output }
-    ensures { PutWith reply.now.status (output_text reply.now.output) (sink_state K.written K.faults K.may_fail sink.old) (sink_state K.written K.faults K.may_fail sink.new) result }
+    ensures { PutWith reply.now (change K.state sink.old sink.new) result }
 {
     match write(alloc, sink, &reply.output) {
         Ok(()) => reply.status,
@@ -71,11 +72,9 @@ fn call<R: Threads + Sync, F: Shelf, K: Sink, G: Gate>(
     sink: &mut K,
     gate: &G,
 ) -> Status
-    requires { K.faults sink.old < 2 ^ 64 - 1 }
-    ensures files { F.files shelf.new ≡ F.files shelf.old }
-    ensures ends { Ends (form_of (map string_bytes words.now))
-        (shelf_state F.files F.failed F.may_fail shelf.old) (shelf_state F.files F.failed F.may_fail shelf.new)
-        (sink_state K.written K.faults K.may_fail sink.old) (sink_state K.written K.faults K.may_fail sink.new) result }
+    requires { (K.state sink.old).faults < 2 ^ 64 - 1 }
+    ensures files { (F.state shelf.new).files ≡ (F.state shelf.old).files }
+    ensures ends { Ends (asked words.now) (change F.state shelf.old shelf.new) (change K.state sink.old sink.new) result }
 {
     match reply_to_words(rt, alloc, shelf, words, gate) {
         Ok(reply) => put(alloc, sink, &reply),
@@ -142,22 +141,14 @@ pub fn feast<R: Threads + Sync, F: Shelf, K: Sink, G: Gate>(
     sink: &mut K,
     gate: &G,
 ) -> Status
-    requires { K.faults sink.old < 2 ^ 64 - 1 }
-    ensures files { F.files shelf.new ≡ F.files shelf.old }
-    ensures ends { Ends (form_of (map string_bytes words.now))
-        (shelf_state F.files F.failed F.may_fail shelf.old) (shelf_state F.files F.failed F.may_fail shelf.new)
-        (sink_state K.written K.faults K.may_fail sink.old) (sink_state K.written K.faults K.may_fail sink.new) result }
-    ensures headline { Headline (form_of (map string_bytes words.now)) (shelf_state F.files F.failed F.may_fail shelf.old)
-        (sink_state K.written K.faults K.may_fail sink.old) (sink_state K.written K.faults K.may_fail sink.new) result }
-    ensures usage { UsageExactly (form_of (map string_bytes words.now)) result }
-    ensures exactly { Exactly (form_of (map string_bytes words.now))
-        (shelf_state F.files F.failed F.may_fail shelf.old) (shelf_state F.files F.failed F.may_fail shelf.new)
-        (sink_state K.written K.faults K.may_fail sink.old) (sink_state K.written K.faults K.may_fail sink.new) result }
-    ensures noted { Noted (form_of (map string_bytes words.now))
-        (shelf_state F.files F.failed F.may_fail shelf.old) (shelf_state F.files F.failed F.may_fail shelf.new) result }
-    ensures complete { Complete (form_of (map string_bytes words.now))
-        (shelf_state F.files F.failed F.may_fail shelf.old) (shelf_state F.files F.failed F.may_fail shelf.new)
-        (sink_state K.written K.faults K.may_fail sink.old) (sink_state K.written K.faults K.may_fail sink.new) result }
+    requires { (K.state sink.old).faults < 2 ^ 64 - 1 }
+    ensures files { (F.state shelf.new).files ≡ (F.state shelf.old).files }
+    ensures ends { Ends (asked words.now) (change F.state shelf.old shelf.new) (change K.state sink.old sink.new) result }
+    ensures headline { Headline (asked words.now) (F.state shelf.old) (change K.state sink.old sink.new) result }
+    ensures usage { UsageExactly (asked words.now) result }
+    ensures exactly { Exactly (asked words.now) (change F.state shelf.old shelf.new) (change K.state sink.old sink.new) result }
+    ensures noted { Noted (asked words.now) (change F.state shelf.old shelf.new) result }
+    ensures complete { Complete (asked words.now) (change F.state shelf.old shelf.new) (change K.state sink.old sink.new) result }
 {
     call(rt, alloc, words, shelf, sink, gate)
 }

@@ -1,13 +1,12 @@
 //! The stages of a world: its text, its elements, the names of its atoms, and its map.
-ghost use Rattle.std.specs.Prelude.{◌≡◌, ◌≤◌, IfOk, length, map, string_bytes};
+ghost use Rattle.std.specs.Prelude.{◌≡◌, ◌≤◌, IfOk, length};
 ghost use Rattle.code_file.specs.Form.{IsSayable};
-ghost use Rattle.feast_base.specs.Outside.{shelf_state};
 ghost use Rattle.feast_run.specs.Faults.{IsHalt, IsWorldHalt};
-ghost use Rattle.feast_run.specs.Forms.{most_files};
-ghost use Rattle.feast_run.specs.CodeFiles.{codes_from, ready_packed};
+ghost use Rattle.feast_run.specs.Forms.{most_files, texts};
+ghost use Rattle.feast_run.specs.CodeFiles.{ready_packed, with_codes};
 ghost use Rattle.feast_run.specs.Elements.{code_elements, source_elements};
 ghost use Rattle.feast_run.specs.Halting.{decides};
-ghost use Rattle.feast_run.specs.Stages.{draft_of, named_by, ready, set_of, with_elements, world_refused};
+ghost use Rattle.feast_run.specs.Stages.{draft_of, named_by, ready, with_sources, world_refused};
 ghost use Rattle.feast_run.specs.Tellings.{Moves, Tells};
 ghost use Rattle.feast_run.specs.Values.{IsReady, ready_value};
 ghost use Rattle.element_set.specs.Sets.{Coded, set_value};
@@ -71,9 +70,9 @@ fn load_draft<'a, F: Shelf>(
     shelf: &mut F,
     word: &'a str,
 ) -> Result<RawWorld, Halt<'a>>
-    ensures files { F.files shelf.new ≡ F.files shelf.old }
-    ensures moves { Moves (shelf_state F.files F.failed F.may_fail shelf.old) (shelf_state F.files F.failed F.may_fail shelf.new) result }
-    ensures tells { Tells (λ d. d) (draft_of (F.files shelf.old) word.now) result }
+    ensures files { (F.state shelf.new).files ≡ (F.state shelf.old).files }
+    ensures moves { Moves (F.state shelf.old) (F.state shelf.new) result }
+    ensures tells { Tells (λ d. d) (draft_of (F.state shelf.old).files word.now) result }
 {
     let bytes = load_file(alloc, shelf, word, WORLD_LIMIT)?;
     match read(alloc, bytes.as_slice()) {
@@ -149,9 +148,9 @@ fn with_element_files<'a, F: Shelf>(
     draft: RawWorld,
 ) -> Result<Ready, Halt<'a>>
     requires { length words.now ≤ most_files }
-    ensures files { F.files shelf.new ≡ F.files shelf.old }
-    ensures moves { Moves (shelf_state F.files F.failed F.may_fail shelf.old) (shelf_state F.files F.failed F.may_fail shelf.new) result }
-    ensures tells { Tells ready_value (with_elements source_elements (set_of (F.files shelf.old) (map string_bytes words.now)) word.now draft) result }
+    ensures files { (F.state shelf.new).files ≡ (F.state shelf.old).files }
+    ensures moves { Moves (F.state shelf.old) (F.state shelf.new) result }
+    ensures tells { Tells ready_value (with_sources (F.state shelf.old).files (texts words.now) word.now draft) result }
     ensures ready { IfOk result IsReady }
 {
     let set = load_set(alloc, shelf, words)?;
@@ -166,9 +165,9 @@ fn with_code_file<'a, F: Shelf>(
     code: &'a str,
     draft: RawWorld,
 ) -> Result<Ready, Halt<'a>>
-    ensures files { F.files shelf.new ≡ F.files shelf.old }
-    ensures moves { Moves (shelf_state F.files F.failed F.may_fail shelf.old) (shelf_state F.files F.failed F.may_fail shelf.new) result }
-    ensures tells { Tells ready_value (with_elements code_elements (codes_from (F.files shelf.old) code.now) word.now draft) result }
+    ensures files { (F.state shelf.new).files ≡ (F.state shelf.old).files }
+    ensures moves { Moves (F.state shelf.old) (F.state shelf.new) result }
+    ensures tells { Tells ready_value (with_codes (F.state shelf.old).files code.now word.now draft) result }
     ensures ready { IfOk result IsReady }
 {
     let set = load_codes(alloc, shelf, code)?;
@@ -183,9 +182,9 @@ pub fn make_ready<'a, F: Shelf>(
     words: &'a [String],
 ) -> Result<Ready, Halt<'a>>
     requires { length words.now ≤ most_files }
-    ensures files { F.files shelf.new ≡ F.files shelf.old }
-    ensures moves { Moves (shelf_state F.files F.failed F.may_fail shelf.old) (shelf_state F.files F.failed F.may_fail shelf.new) result }
-    ensures tells { Tells ready_value (ready (F.files shelf.old) word.now (map string_bytes words.now)) result }
+    ensures files { (F.state shelf.new).files ≡ (F.state shelf.old).files }
+    ensures moves { Moves (F.state shelf.old) (F.state shelf.new) result }
+    ensures tells { Tells ready_value (ready (F.state shelf.old).files word.now (texts words.now)) result }
     ensures ready { IfOk result IsReady }
 {
     let draft = load_draft(alloc, shelf, word)?;
@@ -199,9 +198,9 @@ pub fn make_packed<'a, F: Shelf>(
     word: &'a str,
     code: &'a str,
 ) -> Result<Ready, Halt<'a>>
-    ensures files { F.files shelf.new ≡ F.files shelf.old }
-    ensures moves { Moves (shelf_state F.files F.failed F.may_fail shelf.old) (shelf_state F.files F.failed F.may_fail shelf.new) result }
-    ensures tells { Tells ready_value (ready_packed (F.files shelf.old) word.now code.now) result }
+    ensures files { (F.state shelf.new).files ≡ (F.state shelf.old).files }
+    ensures moves { Moves (F.state shelf.old) (F.state shelf.new) result }
+    ensures tells { Tells ready_value (ready_packed (F.state shelf.old).files word.now code.now) result }
     ensures ready { IfOk result IsReady }
 {
     let draft = load_draft(alloc, shelf, word)?;

@@ -276,7 +276,10 @@ lines_are names ss rs gs told small ends many_atoms many_records many_abandoned 
 
 -- the report of what a run left says its events and its abandoned attempts
 pub read_again : (names : List (List ℕ)) (m : MapValue) (plan : PlanValue) → AreFormed names → IsDrawablePlan m plan → AreReadAgain names m plan
-read_again names m plan formed p = λ g rs gs left.
+read_again names m plan formed p = λ v left.
+    let g = v.grid in
+    let rs = v.records in
+    let gs = v.abandoned in
     let plane = plane_low m p.map in
     let wide = left.wide in
     let sites = left.sites in

@@ -10,7 +10,7 @@ use Rattle.event_journal.specs.Logs.{LogValue, abandoned_in, records_of}
 use Rattle.event_journal.specs.declared.abandoned.Abandoned.{Abandoned}
 use Rattle.text_lines.proofs.Joined.{text_one}
 use Rattle.grid_print.specs.OneReport.{AreAbandonedWords, AreRecordWords, AreTypeNames, AreWords, IsOneReport, IsReported, IsWord}
-use Rattle.grid_print.specs.Report.{AreNamed, Shown, report_lines, shown, shown_at, shown_from, shown_one}
+use Rattle.grid_print.specs.Report.{AreNamed, Shown, report_lines, report_value, shown, shown_at, shown_from, shown_one}
 use Rattle.grid_print.proofs.Lines.{ArePrinted, IsShown, lines_one, report_is}
 
 abbrev IsNamedAtom : List (List ℕ) → AtomValue → Type 0
@@ -123,7 +123,7 @@ atoms_one names width i (x ∷ xs) (y ∷ ys) wide small long p q f g e =
         let same = next rest in
         λ j. (first j).atom ∷ same j
 
-printed_of : (names : List (List ℕ)) (g : GridValue) (r : List Record) (a : List Abandoned) → IsReported names g r a → ArePrinted names (shown g) r a
+printed_of : (names : List (List ℕ)) (g : GridValue) (r : List Record) (a : List Abandoned) → IsReported names (report_value g r a) → ArePrinted names (shown g) r a
 printed_of names g r a is =
     let k = is.sites in
     let s = are_shown names g.width 0 g.atoms is.wide (omega (arith, k)) is.named is.states in
@@ -137,7 +137,13 @@ printed_of names g r a is =
     }
 
 pub one_report : (names : List (List ℕ)) → AreTypeNames names → IsOneReport names
-one_report names are = λ g h r s a b p q e.
+one_report names are = λ one two p q e.
+    let g = one.grid in
+    let h = two.grid in
+    let r = one.records in
+    let s = two.records in
+    let a = one.abandoned in
+    let b = two.abandoned in
     let x = printed_of names g r a p in
     let y = printed_of names h s b q in
     let lines = text_one (report_lines names (shown g) r a) (report_lines names (shown h) s b) (report_is names (shown g) r a are x) (report_is names (shown h) s b are y) e in

@@ -1,6 +1,5 @@
 -- Reports that are read again.
 use Rattle.std.specs.Prelude.{ℕ, ◌≡◌, ◌≤◌, ◌<◌, ◌*◌, List, All, Ok, length, sum_by, true}
-use Rattle.cell_grid.specs.Grid.{GridValue}
 use Rattle.cell_grid.specs.declared.record.Record.{Record}
 use Rattle.draw_stream.specs.declared.attempt.Attempt.{Attempt}
 use Rattle.draw_stream.specs.Plans.{PlanValue, attempts}
@@ -10,7 +9,7 @@ use Rattle.event_journal.specs.declared.abandoned.Abandoned.{Abandoned}
 use Rattle.feast_base.specs.TypeNames.{is_type_name}
 use Rattle.tile_map.specs.Plane.{MapValue, IsMap, tiles_of}
 use Rattle.grid_print.specs.OneReport.{IsWord}
-use Rattle.grid_print.specs.Report.{AreNamed, report}
+use Rattle.grid_print.specs.Report.{AreNamed, ReportValue, report_of}
 
 -- each is the name of a type
 abbrev pub AreFormed : List (List ℕ) → Type 0
@@ -31,13 +30,13 @@ pub record IsDrawablePlan (m : MapValue) (plan : PlanValue) : Type 0 where
 -- what a run of a plan left, and what holds of it: a grid of the plane whose atoms are empty or
 -- have a name, and a journal in which each attempt is accounted for, each stamp is that of the
 -- rule, and each abandoned attempt is excused
-pub record IsLeft (names : List (List ℕ)) (m : MapValue) (plan : PlanValue) (g : GridValue) (records : List Record) (abandoned : List Abandoned) : Type 0 where
-  pub wide : g.width ≡ m.tx * m.w
-  pub sites : length g.atoms ≡ m.tx * m.w * (m.ty * m.h)
-  pub named : AreNamed names g.atoms
-  pub accounted : IsAccounted m plan records abandoned
-  pub stamped : IsStamped m records
-  pub excused : AreExcused m plan records abandoned
+pub record IsLeft (names : List (List ℕ)) (m : MapValue) (plan : PlanValue) (v : ReportValue) : Type 0 where
+  pub wide : v.grid.width ≡ m.tx * m.w
+  pub sites : length v.grid.atoms ≡ m.tx * m.w * (m.ty * m.h)
+  pub named : AreNamed names v.grid.atoms
+  pub accounted : IsAccounted m plan v.records v.abandoned
+  pub stamped : IsStamped m v.records
+  pub excused : AreExcused m plan v.records v.abandoned
 
 -- the text of a report says these events and these abandoned attempts
 abbrev pub SaysThese : MapValue → List (List Attempt) → List ℕ → List Record → List Abandoned → Type 0
@@ -45,5 +44,4 @@ SaysThese m lists bytes records abandoned = (d : Said) × (read_report m lists b
 
 -- the report of whatever a run of the plan left says its events and its abandoned attempts
 abbrev pub AreReadAgain : List (List ℕ) → MapValue → PlanValue → Type 0
-AreReadAgain names m plan =
-    (g : GridValue) (records : List Record) (abandoned : List Abandoned) → IsLeft names m plan g records abandoned → SaysThese m plan.lists (report names g records abandoned) records abandoned
+AreReadAgain names m plan = (v : ReportValue) → IsLeft names m plan v → SaysThese m plan.lists (report_of names v) v.records v.abandoned

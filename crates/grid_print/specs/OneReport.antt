@@ -1,12 +1,11 @@
 -- Reports with equal bytes.
 use Rattle.std.specs.Prelude.{ℕ, ◌≡◌, ◌≢◌, ◌^◌, ◌<◌, ◌≤◌, List, All, AllPairs, length, true}
 use Rattle.bit_field.specs.Atom.{IsAtom}
-use Rattle.cell_grid.specs.Grid.{GridValue}
 use Rattle.cell_grid.specs.declared.record.Record.{Record}
 use Rattle.event_journal.specs.Logs.{LogValue}
 use Rattle.event_journal.specs.declared.abandoned.Abandoned.{Abandoned}
 use Rattle.feast_base.specs.TypeNames.{is_type_name}
-use Rattle.grid_print.specs.Report.{AreNamed, report, shown}
+use Rattle.grid_print.specs.Report.{AreNamed, ReportValue, report_of, shown}
 
 -- names of types, no two of which are the same
 pub record AreTypeNames (names : List (List ℕ)) : Type 0 where
@@ -29,24 +28,24 @@ AreWords l = All AreRecordWords l.records × All AreAbandonedWords l.abandoned
 
 -- what a report is made of: a grid of a width and this many sites, whose atoms are empty or have a
 -- name, and entries of words
-pub record IsReported (names : List (List ℕ)) (g : GridValue) (r : List Record) (a : List Abandoned) : Type 0 where
-  pub wide : 1 ≤ g.width
-  pub sites : IsWord (length g.atoms)
-  pub named : AreNamed names g.atoms
-  pub states : All IsAtom g.atoms
-  pub records : All AreRecordWords r
-  pub abandoned : All AreAbandonedWords a
-  pub many_records : IsWord (length r)
-  pub many_abandoned : IsWord (length a)
+pub record IsReported (names : List (List ℕ)) (v : ReportValue) : Type 0 where
+  pub wide : 1 ≤ v.grid.width
+  pub sites : IsWord (length v.grid.atoms)
+  pub named : AreNamed names v.grid.atoms
+  pub states : All IsAtom v.grid.atoms
+  pub records : All AreRecordWords v.records
+  pub abandoned : All AreAbandonedWords v.abandoned
+  pub many_records : IsWord (length v.records)
+  pub many_abandoned : IsWord (length v.abandoned)
 
 -- what two reports have in common: the atoms that are not empty with their sites, and so all atoms of grids of one size, the
 -- events, and the attempts that were given up
-pub record AreSame (g h : GridValue) (r s : List Record) (a b : List Abandoned) : Type 0 where
-  pub sites : shown g ≡ shown h
-  pub atoms : g.width ≡ h.width → length g.atoms ≡ length h.atoms → g.atoms ≡ h.atoms
-  pub records : r ≡ s
-  pub abandoned : a ≡ b
+pub record AreSame (one two : ReportValue) : Type 0 where
+  pub sites : shown one.grid ≡ shown two.grid
+  pub atoms : one.grid.width ≡ two.grid.width → length one.grid.atoms ≡ length two.grid.atoms → one.grid.atoms ≡ two.grid.atoms
+  pub records : one.records ≡ two.records
+  pub abandoned : one.abandoned ≡ two.abandoned
 
 -- two reports with these names that are equal as texts say the same
 abbrev pub IsOneReport : List (List ℕ) → Type 0
-IsOneReport names = (g h : GridValue) (r s : List Record) (a b : List Abandoned) → IsReported names g r a → IsReported names h s b → report names g r a ≡ report names h s b → AreSame g h r s a b
+IsOneReport names = (one two : ReportValue) → IsReported names one → IsReported names two → report_of names one ≡ report_of names two → AreSame one two

@@ -5,6 +5,7 @@ use Rattle.bit_field.specs.Atom.{AtomValue, empty_atom}
 use Rattle.cell_grid.specs.Grid.{GridValue}
 use Rattle.cell_grid.specs.declared.record.Record.{Record}
 use Rattle.event_journal.specs.declared.abandoned.Abandoned.{Abandoned}
+use Rattle.event_journal.specs.Logs.{LogValue, abandoned_in, records_in}
 use Rattle.event_journal.specs.Text.{count_fields, record_lines, abandoned_lines}
 use Rattle.feast_base.specs.Digits.{hex}
 use Rattle.text_lines.specs.Lines.{text_of}
@@ -55,3 +56,20 @@ report names g records abandoned = text_of (report_lines names (shown g) records
 -- each atom is empty or its type has a name
 abbrev pub AreNamed : List (List ℕ) → List AtomValue → Type 0
 AreNamed names atoms = All (λ (a : AtomValue). (a ≡ empty_atom) ⊎ ((1 ≤ a.kind) × (a.kind ≤ length names))) atoms
+
+-- what a report shows: a grid, the events, and the attempts that were given up
+pub record ReportValue : Type 0 where
+  pub grid : GridValue
+  pub records : List Record
+  pub abandoned : List Abandoned
+
+abbrev pub report_value : GridValue → List Record → List Abandoned → ReportValue
+report_value g records abandoned = record { grid = g; records = records; abandoned = abandoned }
+
+-- a grid, and the entries of the logs of a journal
+abbrev pub of_logs : GridValue → List LogValue → ReportValue
+of_logs g logs = report_value g (records_in logs) (abandoned_in logs)
+
+-- the text of the report that shows these
+abbrev pub report_of : List (List ℕ) → ReportValue → List ℕ
+report_of names v = report names v.grid v.records v.abandoned

@@ -1,9 +1,8 @@
 //! What holds of all that is put into a report: its numbers and atoms are ones that can be stored.
 ghost use Rattle.std.specs.Prelude.{◌≡◌, All, length};
 ghost use Rattle.bit_field.specs.Atom.{IsAtom};
-ghost use Rattle.event_journal.specs.Logs.{abandoned_in, records_in};
 ghost use Rattle.grid_print.specs.OneReport.{AreAbandonedWords, AreRecordWords, AreWords, IsReported};
-ghost use Rattle.grid_print.specs.Report.{AreNamed};
+ghost use Rattle.grid_print.specs.Report.{AreNamed, of_logs};
 
 use bit_field::Atom;
 use cell_grid::{Grid, Record};
@@ -14,6 +13,7 @@ use feast_base::Name;
 fn atom_fits(atom: &Atom)
     ensures { IsAtom atom.now }
 {
+    // The proof takes the bounds from this reading.
     let _kind = atom.kind();
     let _state = atom.state();
 }
@@ -31,6 +31,7 @@ fn atoms_fit(atoms: &[Atom])
 fn event_fits(event: Record)
     ensures { AreRecordWords event }
 {
+    // The proof takes the bounds from this reading.
     let _stamp = event.stamp;
 }
 
@@ -47,6 +48,7 @@ fn records_fit(records: &[Record])
 fn entry_fits(entry: Abandoned)
     ensures { AreAbandonedWords entry }
 {
+    // The proof takes the bounds from this reading.
     let _edge = entry.edge;
 }
 
@@ -86,8 +88,9 @@ fn logs_fit(journal: &Journal)
 /// What holds of a grid and a journal whose report is written.
 pub(crate) fn is_reported(grid: &Grid, journal: &Journal, names: &[Name])
     requires { AreNamed names.now grid.now.atoms }
-    ensures { IsReported names.now grid.now (records_in journal.now) (abandoned_in journal.now) }
+    ensures { IsReported names.now (of_logs grid.now journal.now) }
 {
+    // The proof takes the bounds of each number from the call that reads it.
     let _width = grid.width();
     let atoms = grid.atoms();
     let _sites = sites(atoms);

@@ -1,8 +1,7 @@
 //! Laws on reports as texts, and on reports that are read again.
-ghost use Rattle.event_journal.specs.Logs.{abandoned_in, records_in};
 ghost use Rattle.grid_print.specs.Again.{AreFormed, AreReadAgain, IsDrawablePlan};
 ghost use Rattle.grid_print.specs.OneReport.{AreTypeNames, IsOneReport, IsReported};
-ghost use Rattle.grid_print.specs.Report.{AreNamed};
+ghost use Rattle.grid_print.specs.Report.{AreNamed, of_logs};
 
 use crate::fitting::is_reported;
 use cell_grid::Grid;
@@ -19,6 +18,7 @@ pub fn reads_again(map: &Map, plan: &AttemptPlan, names: &[Name])
     requires plan { IsDrawablePlan map.now plan.now }
     ensures { AreReadAgain names.now map.now plan.now }
 {
+    // Only the contract speaks of the arguments; they are read so that none is unused.
     let _tiles = map.tiles();
     let _origin = plan.origin();
     let _names = names.len();
@@ -32,7 +32,7 @@ pub fn one_report(grid: &Grid, journal: &Journal, names: &[Name])
     requires named { AreNamed names.now grid.now.atoms }
     requires names { AreTypeNames names.now }
     ensures one { IsOneReport names.now }
-    ensures reported { IsReported names.now grid.now (records_in journal.now) (abandoned_in journal.now) }
+    ensures reported { IsReported names.now (of_logs grid.now journal.now) }
 {
     is_reported(grid, journal, names);
 }

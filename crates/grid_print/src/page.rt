@@ -1,7 +1,6 @@
 //! Putting a text piece by piece.
-ghost use Rattle.std.specs.Prelude.{ℕ, ◌≡◌, ◌≢◌, ◌+◌, ◌-◌, ◌^◌, ◌<◌, ◌≤◌, [], IsErr, IsOk, length};
-ghost use Rattle.feast_base.specs.Loading.{Puts};
-ghost use Rattle.feast_base.specs.Outside.{sink_state};
+ghost use Rattle.std.specs.Prelude.{◌≡◌, ◌≢◌, ◌-◌, ◌^◌, ◌<◌, ◌≤◌, [], IsErr, IsOk, length};
+ghost use Rattle.feast_base.specs.Loading.{FailsNoSooner, MayFailFrom, Puts};
 ghost use Rattle.grid_print.specs.Writing.{PutsAll};
 
 use feast_base::{Sink, SinkFailed};
@@ -12,14 +11,15 @@ const PIECE: usize = 4096;
 /// Puts a piece of 4,096 bytes, or of 1 to 4,096 if it is the last one. What comes after it is
 /// `rest`.
 fn put_piece<K: Sink>(sink: &mut K, piece: &[u8], rest: &[u8]) -> Result<(), SinkFailed>
-    requires room { K.faults sink.old < 2 ^ 64 - 1 }
+    requires room { (K.state sink.old).faults < 2 ^ 64 - 1 }
     requires some { 1 ≤ length piece.now }
     requires most { length piece.now ≤ 4096 }
     requires full { rest.now ≢ [] → length piece.now ≡ 4096 }
-    ensures puts { Puts (sink_state K.written K.faults K.may_fail sink.old) (sink_state K.written K.faults K.may_fail sink.new) piece.now result }
-    ensures cause { IsErr result → (m : ℕ) → length piece.now ≤ m → K.may_fail sink.old m }
-    ensures later { IsOk result → (m : ℕ) → K.may_fail sink.new m → K.may_fail sink.old (length piece.now + m) }
+    ensures puts { Puts (K.state sink.old) (K.state sink.new) piece.now result }
+    ensures cause { IsErr result → MayFailFrom (K.state sink.old) (length piece.now) }
+    ensures later { IsOk result → FailsNoSooner (K.state sink.old) (K.state sink.new) (length piece.now) }
 {
+    // Only the contract speaks of the rest.
     let _ = rest;
     sink.put(piece)
 }
@@ -27,8 +27,8 @@ fn put_piece<K: Sink>(sink: &mut K, piece: &[u8], rest: &[u8]) -> Result<(), Sin
 /// Puts bytes in pieces: each has 4,096 bytes except the last, which has 1 to 4,096. No clause of a
 /// sink can say how a text was cut into puts, so `put_piece` requires these sizes.
 pub(crate) fn put_pieces<K: Sink>(sink: &mut K, bytes: &[u8]) -> Result<(), SinkFailed>
-    requires { K.faults sink.old < 2 ^ 64 - 1 }
-    ensures { PutsAll (sink_state K.written K.faults K.may_fail sink.old) (sink_state K.written K.faults K.may_fail sink.new) bytes.now result }
+    requires { (K.state sink.old).faults < 2 ^ 64 - 1 }
+    ensures { PutsAll (K.state sink.old) (K.state sink.new) bytes.now result }
 {
     let mut left = bytes;
     while !left.is_empty() {

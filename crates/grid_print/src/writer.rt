@@ -1,8 +1,6 @@
 //! The text of a report, and putting it.
 ghost use Rattle.std.specs.Prelude.{◌≡◌, ◌-◌, ◌^◌, ◌<◌, ◌++◌, [], IfOk, codes};
-ghost use Rattle.feast_base.specs.Outside.{sink_state};
-ghost use Rattle.event_journal.specs.Logs.{abandoned_in, records_in};
-ghost use Rattle.grid_print.specs.Report.{AreNamed, atoms_text, report};
+ghost use Rattle.grid_print.specs.Report.{AreNamed, atoms_text, of_logs, report, report_of};
 ghost use Rattle.grid_print.specs.Writing.{Writes};
 
 use crate::fault::WriteFault;
@@ -48,7 +46,7 @@ pub fn report_text(
 /// The text of the report of a run.
 fn text(alloc: Global, grid: &Grid, journal: &Journal, names: &[Name]) -> Result<Vec<u8>, NoMemory>
     requires { AreNamed names.now grid.now.atoms }
-    ensures { IfOk result (λ v. v.items ≡ report names.now grid.now (records_in journal.now) (abandoned_in journal.now)) }
+    ensures { IfOk result (λ v. v.items ≡ report_of names.now (of_logs grid.now journal.now)) }
 {
     let mut out = grid_text(alloc, grid, names)?;
     print(alloc, journal, &mut out)?;
@@ -69,8 +67,8 @@ pub fn write_report<K: Sink>(
     sink: &mut K,
 ) -> Result<(), WriteFault>
     requires named { AreNamed names.now grid.now.atoms }
-    requires room { K.faults sink.old < 2 ^ 64 - 1 }
-    ensures { Writes (sink_state K.written K.faults K.may_fail sink.old) (sink_state K.written K.faults K.may_fail sink.new) (report names.now grid.now (records_in journal.now) (abandoned_in journal.now)) result }
+    requires room { (K.state sink.old).faults < 2 ^ 64 - 1 }
+    ensures { Writes (K.state sink.old) (K.state sink.new) (report_of names.now (of_logs grid.now journal.now)) result }
 {
     let text = text(alloc, grid, journal, names)?;
     put_pieces(sink, text.as_slice())?;

@@ -11,7 +11,7 @@ use Rattle.draw_stream.specs.Plans.{PlanValue}
 use Rattle.tile_map.specs.Plane.{MapValue, Site, site, site_in, tiles_of}
 use Rattle.tile_map.specs.Edges.{needs_of, pairs_of}
 use Rattle.tile_map.specs.Laws.{IsPlane, Joins}
-use Rattle.event_journal.specs.Accounts.{IsAccounted, IsEventOf, IsExcusedBy, IsGivenUpOf, Needs, edges_of}
+use Rattle.event_journal.specs.Accounts.{ComesFirst, IsAccounted, IsEventBy, IsEventOf, IsExcusedBy, IsGivenUpBeyond, IsGivenUpOf, Needs, attempt_named, edges_of, holder_of}
 use Rattle.event_journal.specs.declared.abandoned.Abandoned.{Abandoned}
 use Rattle.journal_check.specs.Clocks.{needs_edge}
 use Rattle.journal_check.specs.Excuses.{IsExcusedOn, WasHeld, abandoned_needs}
@@ -81,17 +81,14 @@ module _ (m : MapValue) (plan : PlanValue) (records : List Record) (abandoned : 
       (subst (λ (s : Site). Contains (needs_of m g.tile s) e) (sym ev.2) (subst (λ (a : Attempt). Contains (needs_of m g.tile (site_in m g.tile a.centre)) e) same own.2))
 
   -- the order of events by their marks
-  abbrev EventsApart : ℕ → ℕ → ℕ → ℕ → ℕ → Type 0
-  EventsApart e t i u j = (r s : Record) → Contains records r → Contains records s → r.tile ≡ t → s.tile ≡ u → Contains (edges_of m r) e → Contains (edges_of m s) e → r.attempt < i → j ≤ s.attempt → r.stamp < s.stamp
+  events_apart : (e t i u j : ℕ) → AreApart (marks_on m t e records) i (marks_on m u e records) j → ComesFirst m records e (attempt_named t i) (attempt_named u j)
+  events_apart e t i u j h r s a b lt le = h (mark_of r) (mark_of s) (mark_in e t r a.0 a.1 a.2) (mark_in e u s b.0 b.1 b.2) lt le
 
-  events_apart : (e t i u j : ℕ) → AreApart (marks_on m t e records) i (marks_on m u e records) j → EventsApart e t i u j
-  events_apart e t i u j h r s c d tile tile' needs needs' lt le = h (mark_of r) (mark_of s) (mark_in e t r c tile needs) (mark_in e u s d tile' needs') lt le
-
-  apart_events : (e t i u j : ℕ) → EventsApart e t i u j → AreApart (marks_on m t e records) i (marks_on m u e records) j
+  apart_events : (e t i u j : ℕ) → ComesFirst m records e (attempt_named t i) (attempt_named u j) → AreApart (marks_on m t e records) i (marks_on m u e records) j
   apart_events e t i u j h a b c d lt le =
       let p = in_mark e t a c in
       let q = in_mark e u b d in
-      let x = h p.0 q.0 p.1 q.1 p.2 q.2 p.3 q.3 (omega (arith, lt, ap (λ (z : Mark). z.attempt) p.4)) (omega (arith, le, ap (λ (z : Mark). z.attempt) q.4)) in
+      let x = h p.0 q.0 (p.1, p.2, p.3) (q.1, q.2, q.3) (omega (arith, lt, ap (λ (z : Mark). z.attempt) p.4)) (omega (arith, le, ap (λ (z : Mark). z.attempt) q.4)) in
       omega (arith, x, ap (λ (z : Mark). z.stamp) p.4, ap (λ (z : Mark). z.stamp) q.4)
 
   module _ (g : Abandoned) (mine : Contains abandoned g) where
@@ -112,18 +109,16 @@ module _ (m : MapValue) (plan : PlanValue) (records : List Record) (abandoned : 
           (λ a. let q = in_mark g.edge g.holder a.0 (subst (λ (l : List Mark). Contains l a.0) (other_is h.needs h.ends) a.1) in
           event_needs g.edge g.holder g.holder_attempt q.0 q.1 q.2 (sym (ap (λ (z : Mark). z.attempt) q.4) ∙ a.2) q.3)
           (λ n. gone_shows g.edge g.holder g.holder_attempt n.0 n.1.0 n.1.1 n.1.2 n.3) h.held;
-      owed = ⊎_elim {C = Any (λ (r : Record). (r.tile ≡ g.holder) × (r.attempt ≡ g.holder_attempt)) records ⊎ Any (λ (n : Abandoned). (n.tile ≡ g.holder) × (n.attempt ≡ g.holder_attempt) × (g.edge < n.edge)) abandoned}
+      owed = ⊎_elim {C = Any (IsEventBy (holder_of g)) records ⊎ Any (IsGivenUpBeyond g.edge (holder_of g)) abandoned}
           (λ a. let q = in_mark g.edge g.holder a.0 (subst (λ (l : List Mark). Contains l a.0) (other_is h.needs h.ends) a.1) in
           inl (q.1.0, q.0, q.1.1, q.1.2, (q.2, sym (ap (λ (z : Mark). z.attempt) q.4) ∙ a.2)))
           (λ n. inr (n.1.0.0, n.0, n.1.0.1, n.1.0.2, (n.1.1, n.1.2, n.2))) h.held;
       after = events_apart g.edge g.tile g.attempt g.holder g.holder_attempt
           (subst (λ (l : List Mark). AreApart l g.attempt (marks_on m g.holder g.edge records) g.holder_attempt) (own_is h.needs h.ends)
           (subst (λ (l : List Mark). AreApart (marks_at m table g.edge g.tile) g.attempt l g.holder_attempt) (other_is h.needs h.ends) h.after));
-      before = λ r s c d tile tile' needs needs' lt le.
-          events_apart g.edge g.holder (g.holder_attempt + 1) g.tile (g.attempt + 1)
+      before = events_apart g.edge g.holder (g.holder_attempt + 1) g.tile (g.attempt + 1)
           (subst (λ (l : List Mark). AreApart l (g.holder_attempt + 1) (marks_on m g.tile g.edge records) (g.attempt + 1)) (other_is h.needs h.ends)
-          (subst (λ (l : List Mark). AreApart (marks_at m table g.edge g.holder) (g.holder_attempt + 1) l (g.attempt + 1)) (own_is h.needs h.ends) h.before))
-          s r d c tile' tile needs' needs (omega (arith, le)) (omega (arith, lt));
+          (subst (λ (l : List Mark). AreApart (marks_at m table g.edge g.holder) (g.holder_attempt + 1) l (g.attempt + 1)) (own_is h.needs h.ends) h.before));
     }
 
     pub excused_on : IsExcusedBy m plan records abandoned g → IsExcusedOn m table abandoned g
@@ -141,7 +136,7 @@ module _ (m : MapValue) (plan : PlanValue) (records : List Record) (abandoned : 
       before =
           subst (λ (l : List Mark). AreApart l (g.holder_attempt + 1) (marks_at m table g.edge g.tile) (g.attempt + 1)) (sym (other_is needs h.ends))
           (subst (λ (l : List Mark). AreApart (marks_on m g.holder g.edge records) (g.holder_attempt + 1) l (g.attempt + 1)) (sym (own_is needs h.ends))
-          (apart_events g.edge g.holder (g.holder_attempt + 1) g.tile (g.attempt + 1) (λ s r d c tile' tile needs' needs'' lt le. h.before r s c d tile tile' needs'' needs' (omega (arith, le)) (omega (arith, lt)))));
+          (apart_events g.edge g.holder (g.holder_attempt + 1) g.tile (g.attempt + 1) h.before));
     }
       where
         needs : abandoned_needs m g.edge g ≡ true

@@ -11,7 +11,7 @@ use Rattle.cell_grid.specs.declared.record.Record.{Record}
 use Rattle.tile_map.specs.Plane.{MapValue, Site, tiles_of}
 use Rattle.tile_map.specs.Edges.{is_needed, needs_of, pairs_of}
 use Rattle.event_journal.specs.Accounts.{edges_of, stamp_after}
-use Rattle.journal_check.specs.Clocks.{AreClocks, Ticks, latest, needs_edge, set_at}
+use Rattle.journal_check.specs.Clocks.{AreClocks, Ticks, clocks_of, latest, needs_edge, set_at}
 
 max_more : (a b c : ℕ) → max (max a b) c ≡ max a (max (max 0 b) c)
 max_more a b c = grind arith
@@ -113,7 +113,7 @@ pub needs_small : (m : MapValue) (t : ℕ) (s : Site) (n : ℕ) → n ≡ length
 needs_small m t s n is = in_all (λ e. e < n) (needs_of m t s) (λ e i. let lt = needs_in m t s e i in omega (arith, lt, is))
 
 -- the greatest of the clocks of an event's tile and edges is that of the linked events
-stamp_is : (m : MapValue) (before : List Record) (tiles edges : List ℕ) (r : Record) → r.tile < tiles_of m → AreClocks m before tiles edges →
+stamp_is : (m : MapValue) (before : List Record) (tiles edges : List ℕ) (r : Record) → r.tile < tiles_of m → AreClocks m before (clocks_of tiles edges) →
     stamp_after m before r ≡ 1 + fold (λ a e. max a (slice_index edges e)) (slice_index tiles r.tile) (edges_of m r)
 unfolding stamp_after
 stamp_is m before tiles edges r lt k =
@@ -135,7 +135,7 @@ any_in (x ∷ es) e h = go (x == e) refl h (λ q. any_in es e q)
 
 -- one event more
 pub ticked : (m : MapValue) (before : List Record) (tiles edges edges' : List ℕ) (r : Record) (n : ℕ) → r.tile < tiles_of m → n ≡ fold (λ a e. max a (slice_index edges e)) (slice_index tiles r.tile) (edges_of m r) →
-    r.stamp ≡ 1 + n → length edges' ≡ length edges → set_at edges (edges_of m r) r.stamp edges' → AreClocks m before tiles edges → Ticks m before r (set tiles r.tile r.stamp) edges' true
+    r.stamp ≡ 1 + n → length edges' ≡ length edges → set_at edges (edges_of m r) r.stamp edges' → AreClocks m before (clocks_of tiles edges) → Ticks m before r (clocks_of (set tiles r.tile r.stamp) edges') true
 ticked m before tiles edges edges' r n lt is stamp long new k = (
   stamp ∙ ap (λ q. 1 + q) is ∙ sym (stamp_is m before tiles edges r lt k),
   record {
@@ -180,11 +180,11 @@ ticked m before tiles edges edges' r n lt is stamp long new k = (
         ∙ sym (latest_push (λ (s : Record). t == s.tile) before r ∙ ap (λ b. max (latest (λ (s : Record). t == s.tile) before) (cond b r.stamp 0)) test)
 
 pub not_ticked : (m : MapValue) (before : List Record) (tiles edges : List ℕ) (r : Record) (n : ℕ) → r.tile < tiles_of m → n ≡ fold (λ a e. max a (slice_index edges e)) (slice_index tiles r.tile) (edges_of m r) →
-    (r.stamp ≡ 1 + n → ⊥) → AreClocks m before tiles edges → r.stamp ≢ stamp_after m before r
+    (r.stamp ≡ 1 + n → ⊥) → AreClocks m before (clocks_of tiles edges) → r.stamp ≢ stamp_after m before r
 not_ticked m before tiles edges r n lt is wrong k e = wrong (e ∙ stamp_is m before tiles edges r lt k ∙ ap (λ q. 1 + q) (sym is))
 
 -- before any event
-pub none_before : (m : MapValue) (tiles edges : List ℕ) → tiles ≡ replicate (tiles_of m) 0 → edges ≡ replicate (length (pairs_of m)) 0 → AreClocks m [] tiles edges
+pub none_before : (m : MapValue) (tiles edges : List ℕ) → tiles ≡ replicate (tiles_of m) 0 → edges ≡ replicate (length (pairs_of m)) 0 → AreClocks m [] (clocks_of tiles edges)
 none_before m tiles edges e f = record {
   many_tiles = ap length e ∙ length-replicate (tiles_of m) 0;
   many_edges = ap length f ∙ length-replicate (length (pairs_of m)) 0;
@@ -222,5 +222,5 @@ set_more old now es i stamp lt long small h e within = go (slice_index es i == e
 pub written_back : (n : ℕ) (new old : List ℕ) → length new ≡ n → length old ≡ n → take n (new ++ drop (length new) old) ≡ new
 written_back n new old e f = ap (λ q. take n (new ++ q)) (drop_all (length new) old (omega (arith, e, f))) ∙ ap (take n) (append-nil new) ∙ take_all n new (omega (arith, e))
 
-pub ticks_true : (m : MapValue) (before : List Record) (r : Record) (tiles edges : List ℕ) (b : Bool) → b ≡ true → Ticks m before r tiles edges b → Ticks m before r tiles edges true
-ticks_true m before r tiles edges b e h = subst (Ticks m before r tiles edges) e h
+pub ticks_true : (m : MapValue) (before : List Record) (r : Record) (tiles edges : List ℕ) (b : Bool) → b ≡ true → Ticks m before r (clocks_of tiles edges) b → Ticks m before r (clocks_of tiles edges) true
+ticks_true m before r tiles edges b e h = subst (Ticks m before r (clocks_of tiles edges)) e h

@@ -18,7 +18,7 @@ use Rattle.tile_map.specs.Edges.{pairs_of}
 use Rattle.event_journal.specs.Accounts.{IsAccounted, edges_of}
 use Rattle.event_journal.specs.declared.abandoned.Abandoned.{Abandoned}
 use Rattle.journal_check.specs.Clocks.{needs_edge}
-use Rattle.journal_check.specs.Marks.{AddsMark, AreMarks, AreRising, Rises, is_on_edge, mark_of, marks_on}
+use Rattle.journal_check.specs.Marks.{AddsMark, AreMarks, AreRising, Rises, is_list_of, is_on_edge, mark_of, marks_on}
 use Rattle.journal_check.specs.declared.mark.Mark.{Mark}
 use Rattle.journal_check.proofs.Accounting.{events_follow}
 use Rattle.journal_check.proofs.Lists.{order_with}
@@ -74,7 +74,7 @@ not_before n t es i small up lt = list_any_none (λ e. e * n + t == get_or es i 
 
 -- a mark appended for one edge more
 pub added : (old now : List (List Mark)) (es : List ℕ) (n t i : ℕ) (mark : Mark) (list : List Mark) → t < n → IsStrictlyIncreasing es → i < length es → get_or es i 0 * n + t < length old → length now ≡ length old →
-    AddsMark old (take i es) n t mark now → list ≡ get_or now (get_or es i 0 * n + t) [] ++ mark ∷ [] → AddsMark old (take (i + 1) es) n t mark (set now (get_or es i 0 * n + t) list)
+    AddsMark old (is_list_of (take i es) n t) mark now → list ≡ get_or now (get_or es i 0 * n + t) [] ++ mark ∷ [] → AddsMark old (is_list_of (take (i + 1) es) n t) mark (set now (get_or es i 0 * n + t) list)
 added old now es n t i mark list small up lt within long h is k inside = go (get_or es i 0 * n + t == k) refl
   where
     slot : ℕ
@@ -119,7 +119,7 @@ no_marks m table e = record {
 
 -- one event more
 pub marks_more : (m : MapValue) (before : List Record) (r : Record) (es : List ℕ) (table new : List (List Mark)) → es ≡ edges_of m r → r.tile < tiles_of m → length new ≡ length table →
-    AddsMark table es (tiles_of m) r.tile (mark_of r) new → AreMarks m before table → AreMarks m (before ++ r ∷ []) new
+    AddsMark table (is_list_of es (tiles_of m) r.tile) (mark_of r) new → AreMarks m before table → AreMarks m (before ++ r ∷ []) new
 marks_more m before r es table new needs inside long adds k = record {
   many = long ∙ k.many;
   each = λ e t a b.

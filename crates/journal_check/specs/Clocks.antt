@@ -1,10 +1,11 @@
 -- The clocks of tiles and edges: the greatest stamps so far.
-use Rattle.std.specs.Prelude.{ℕ, ◌≡◌, ◌≢◌, ◌*◌, ◌<◌, ◌==◌, Bool, true, false, List, [], ◌∷◌, ◌++◌, filter, fold, length, max, slice_index, slice_index_or, take, if◌then◌else◌}
+use Rattle.std.specs.Prelude.{ℕ, ◌≡◌, ◌≢◌, ◌*◌, ◌<◌, ◌==◌, Bool, true, false, List, [], ◌∷◌, ◌++◌, MatchOption, Option, filter, fold, length, max, slice_index, slice_index_or, take, if◌then◌else◌}
 use Rattle.std.specs.List.{list_any}
 use Rattle.cell_grid.specs.declared.record.Record.{Record}
 use Rattle.tile_map.specs.Plane.{MapValue, tiles_of}
 use Rattle.tile_map.specs.Edges.{pairs_of}
-use Rattle.event_journal.specs.Accounts.{edges_of, stamp_after}
+use Rattle.journal_check.specs.declared.stamped.Clocks.{Clocks}
+use Rattle.event_journal.specs.Accounts.{IsStamped, edges_of, stamp_after}
 
 -- an event of a tile of the map at a site of the plane
 pub record IsInside (m : MapValue) (r : Record) : Type 0 where
@@ -20,12 +21,23 @@ needs_edge m e r = list_any (λ f. f == e) (edges_of m r)
 abbrev pub latest : (Record → Bool) → List Record → ℕ
 latest p records = fold (λ greatest (s : Record). max greatest s.stamp) 0 (filter p records)
 
+-- the clocks of tiles and those of edges
+pub record ClocksValue : Type 0 where
+  pub tiles : List ℕ
+  pub edges : List ℕ
+
+abbrev pub clocks_of : List ℕ → List ℕ → ClocksValue
+clocks_of tiles edges = record { tiles = tiles; edges = edges }
+
+abbrev pub clocks_value : Clocks → ClocksValue
+clocks_value clocks = clocks_of clocks.tiles.items clocks.edges.items
+
 -- a clock for each tile and for each edge: the greatest stamp of its events
-pub record AreClocks (m : MapValue) (before : List Record) (tiles edges : List ℕ) : Type 0 where
-  pub many_tiles : length tiles ≡ tiles_of m
-  pub many_edges : length edges ≡ length (pairs_of m)
-  pub tile : (t : ℕ) → t < tiles_of m → slice_index tiles t ≡ latest (λ (s : Record). t == s.tile) before
-  pub edge : (e : ℕ) → e < length (pairs_of m) → slice_index edges e ≡ latest (needs_edge m e) before
+pub record AreClocks (m : MapValue) (before : List Record) (clocks : ClocksValue) : Type 0 where
+  pub many_tiles : length clocks.tiles ≡ tiles_of m
+  pub many_edges : length clocks.edges ≡ length (pairs_of m)
+  pub tile : (t : ℕ) → t < tiles_of m → slice_index clocks.tiles t ≡ latest (λ (s : Record). t == s.tile) before
+  pub edge : (e : ℕ) → e < length (pairs_of m) → slice_index clocks.edges e ≡ latest (needs_edge m e) before
 
 -- the clocks with those of some edges set
 abbrev pub set_at : List ℕ → List ℕ → ℕ → List ℕ → Type 0
@@ -33,9 +45,13 @@ set_at old es stamp new = (e : ℕ) → e < length old → slice_index new e ≡
 
 -- true if the event's stamp is the one that follows from those before, and then the clocks are
 -- those after it; false if it is not
-abbrev pub Ticks : MapValue → List Record → Record → List ℕ → List ℕ → Bool → Type 0
-Ticks m before r tiles edges true = (r.stamp ≡ stamp_after m before r) × AreClocks m (before ++ r ∷ []) tiles edges
-Ticks m before r tiles edges false = r.stamp ≢ stamp_after m before r
+abbrev pub Ticks : MapValue → List Record → Record → ClocksValue → Bool → Type 0
+Ticks m before r clocks true = (r.stamp ≡ stamp_after m before r) × AreClocks m (before ++ r ∷ []) clocks
+Ticks m before r clocks false = r.stamp ≢ stamp_after m before r
+
+-- the clocks, whichever events they were of, have one event more if its stamp is the one that follows
+abbrev pub TicksBy : MapValue → Record → ClocksValue → ClocksValue → Bool → Type 0
+TicksBy m r old new ticked = (before : List Record) → AreClocks m before old → Ticks m before r new ticked
 
 -- event k has the stamp that follows from those before it
 abbrev pub HasStamp : MapValue → List Record → ℕ → Type 0
@@ -46,3 +62,7 @@ pub record IsFirstMisstamped (m : MapValue) (records : List Record) (k : ℕ) : 
   pub within : k < length records
   pub before : (i : ℕ) → i < k → HasStamp m records i
   pub here : ¬ (HasStamp m records k)
+
+-- at None each event has its stamp, otherwise this is the first that has another
+abbrev pub FirstMisstamped : MapValue → List Record → Option ℕ → Type 0
+FirstMisstamped m records found = MatchOption found (IsStamped m records) (IsFirstMisstamped m records)

@@ -1,12 +1,12 @@
 -- How an abandoned attempt is excused, by the marks of its edge.
-use Rattle.std.specs.Prelude.{ℕ, ◌≡◌, ◌+◌, ◌*◌, ◌<◌, ◌==◌, ◌&&◌, ◌||◌, ◌⊎◌, Bool, true, List, Contains, length, nat_lt, slice_index_or}
+use Rattle.std.specs.Prelude.{ℕ, ◌≡◌, ◌+◌, ◌*◌, ◌<◌, ◌==◌, ◌&&◌, ◌||◌, ◌⊎◌, Bool, true, List, Contains, MatchOption, Option, length, nat_lt, slice_index_or}
 use Rattle.std.specs.List.{HoldsAt, list_any}
 use Rattle.cell_grid.specs.declared.record.Record.{Record}
 use Rattle.draw_stream.specs.Plans.{PlanValue}
 use Rattle.tile_map.specs.Plane.{MapValue, site, tiles_of}
 use Rattle.tile_map.specs.Edges.{needs_of}
 use Rattle.tile_map.specs.Laws.{Joins}
-use Rattle.event_journal.specs.Accounts.{IsExcusedBy}
+use Rattle.event_journal.specs.Accounts.{AreExcused, IsExcusedBy}
 use Rattle.event_journal.specs.declared.abandoned.Abandoned.{Abandoned}
 use Rattle.journal_check.specs.Marks.{AreApart, HasMark, marks_at}
 use Rattle.journal_check.specs.declared.mark.Mark.{Mark}
@@ -50,3 +50,7 @@ pub record IsFirstUnexcused (m : MapValue) (plan : PlanValue) (records : List Re
   pub within : k < length abandoned
   pub before : (i : ℕ) (d : Abandoned) → i < k → IsExcusedBy m plan records abandoned (slice_index_or abandoned i d)
   pub here : ¬ (HoldsAt (IsExcusedBy m plan records abandoned) abandoned k)
+
+-- at None each abandoned attempt is excused, otherwise this is the first that is not
+abbrev pub FirstUnexcused : MapValue → PlanValue → List Record → List Abandoned → Option ℕ → Type 0
+FirstUnexcused m plan records abandoned found = MatchOption found (AreExcused m plan records abandoned) (IsFirstUnexcused m plan records abandoned)

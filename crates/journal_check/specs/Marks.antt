@@ -27,9 +27,13 @@ pub record AreMarks (m : MapValue) (records : List Record) (table : List (List M
   pub many : length table ≡ length (pairs_of m) * tiles_of m
   pub each : (e t : ℕ) → e < length (pairs_of m) → t < tiles_of m → marks_at m table e t ≡ marks_on m t e records
 
--- a mark was appended to the lists of a tile, one of n, at each of some edges
-abbrev pub AddsMark : List (List Mark) → List ℕ → ℕ → ℕ → Mark → List (List Mark) → Type 0
-AddsMark old es n t mark new = (k : ℕ) → k < length old → slice_index_or new k [] ≡ slice_index_or old k [] ++ (if list_any (λ e. e * n + t == k) es then mark ∷ [] else [])
+-- whether list k of a table is that of tile t, one of n, at one of these edges
+abbrev pub is_list_of : List ℕ → ℕ → ℕ → ℕ → Bool
+is_list_of es n t k = list_any (λ e. e * n + t == k) es
+
+-- a mark was appended to the chosen lists of a table
+abbrev pub AddsMark : List (List Mark) → (ℕ → Bool) → Mark → List (List Mark) → Type 0
+AddsMark old is_chosen mark new = (k : ℕ) → k < length old → slice_index_or new k [] ≡ slice_index_or old k [] ++ (if is_chosen k then mark ∷ [] else [])
 
 -- the attempts and the stamps rise
 abbrev pub Rises : Mark → Mark → Type 0

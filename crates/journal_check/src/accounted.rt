@@ -1,6 +1,5 @@
 //! Whether each attempt has its one entry.
-ghost use Rattle.std.specs.Prelude.{◌≡◌, ◌<◌, All, AllPairs, IfOk, length};
-ghost use Rattle.std.specs.Bool.{Decides};
+ghost use Rattle.std.specs.Prelude.{◌≡◌, ◌<◌, ◌↔◌, All, AllPairs, IfOk, IsTrue, length};
 ghost use Rattle.cell_grid.specs.Records.{Precedes};
 ghost use Rattle.cell_grid.specs.declared.record.Record.{Record};
 ghost use Rattle.event_journal.specs.Accounts.{IsAccounted};
@@ -18,7 +17,7 @@ use tile_map::Map;
 
 /// Whether the events are in the order of a journal.
 fn are_in_order(records: &[Record]) -> bool
-    ensures { Decides result (AllPairs Precedes records.now) }
+    ensures { IsTrue result ↔ (AllPairs Precedes records.now) }
 {
     for i in 1..records.len() {
         if !records[i - 1].precedes(&records[i]) {
@@ -30,14 +29,14 @@ fn are_in_order(records: &[Record]) -> bool
 
 /// Whether an abandoned attempt comes before another: by tile, and then by attempt.
 fn comes_before(first: &Abandoned, second: &Abandoned) -> bool
-    ensures { Decides result (ComesBefore first.now second.now) }
+    ensures { IsTrue result ↔ (ComesBefore first.now second.now) }
 {
     first.tile < second.tile || (first.tile == second.tile && first.attempt < second.attempt)
 }
 
 /// Whether the abandoned attempts are ordered by tile and then attempt.
 fn are_sorted(abandoned: &[Abandoned]) -> bool
-    ensures { Decides result (AllPairs ComesBefore abandoned.now) }
+    ensures { IsTrue result ↔ (AllPairs ComesBefore abandoned.now) }
 {
     for i in 1..abandoned.len() {
         if !comes_before(&abandoned[i - 1], &abandoned[i]) {
@@ -49,7 +48,7 @@ fn are_sorted(abandoned: &[Abandoned]) -> bool
 
 /// Whether the events are of tiles below this number.
 fn are_of_tiles(records: &[Record], tiles: u32) -> bool
-    ensures { Decides result (All (λ (r : Record). r.tile < tiles) records.now) }
+    ensures { IsTrue result ↔ (All (λ (r : Record). r.tile < tiles) records.now) }
 {
     for entry in records {
         if entry.tile >= tiles {
@@ -61,7 +60,7 @@ fn are_of_tiles(records: &[Record], tiles: u32) -> bool
 
 /// Whether the abandoned attempts are of tiles below this number.
 fn are_abandoned_by_tiles(abandoned: &[Abandoned], tiles: u32) -> bool
-    ensures { Decides result (All (λ (g : Abandoned). g.tile < tiles) abandoned.now) }
+    ensures { IsTrue result ↔ (All (λ (g : Abandoned). g.tile < tiles) abandoned.now) }
 {
     for entry in abandoned {
         if entry.tile >= tiles {
@@ -82,7 +81,7 @@ pub(crate) fn is_accounted(
     abandoned: &[Abandoned],
 ) -> Result<bool, NoMemory>
     requires { IsPlanOf map.now plan.now }
-    ensures { IfOk result (λ b. Decides b (IsAccounted map.now plan.now records.now abandoned.now)) }
+    ensures { IfOk result (λ b. IsTrue b ↔ (IsAccounted map.now plan.now records.now abandoned.now)) }
 {
     let tiles = map.tiles();
     if !are_in_order(records) {

@@ -2,7 +2,7 @@
 ghost use Rattle.std.specs.Prelude.{◌≡◌, IfOk};
 ghost use Rattle.serial_order.specs.Outcomes.{IsPlaneGrid};
 ghost use Rattle.journal_check.specs.Entries.{IsPlanOf};
-ghost use Rattle.journal_check.specs.Verdicts.{IsVerdict};
+ghost use Rattle.journal_check.specs.Verdicts.{IsVerdict, audited_world};
 
 use crate::accounted::is_accounted;
 use crate::copying::copied;
@@ -34,7 +34,8 @@ pub fn audit<B: Behave>(
 ) -> Result<Verdict, NoMemory>
     requires plan { IsPlanOf map.now plan.now }
     requires start { IsPlaneGrid map.now start.now }
-    ensures verdict { IfOk result (IsVerdict map.now plan.now (B.after behave.old) start.now journal.now.records.items journal.now.abandoned.items) }
+    ensures verdict { IfOk result (IsVerdict (audited_world map.now plan.now (B.after behave.old) start.now)
+        journal.now.records.items journal.now.abandoned.items) }
     ensures meaning { B.after behave.new ≡ B.after behave.old }
 {
     map.laws();

@@ -1,12 +1,10 @@
 //! The entries of one tile, taken beside its attempts.
-ghost use Rattle.std.specs.Prelude.{◌≡◌, ◌<◌, ◌*◌, ◌^◌, All, Bool, List, length};
+ghost use Rattle.std.specs.Prelude.{◌≡◌, ◌<◌, ◌*◌, ◌^◌, All, length};
 ghost use Rattle.event_journal.specs.Logs.{of_tile, abandoned_by};
-ghost use Rattle.cell_grid.specs.declared.record.Record.{Record};
 ghost use Rattle.draw_stream.specs.declared.attempt.Attempt.{Attempt};
 ghost use Rattle.tile_map.specs.Plane.{tiles_of};
-ghost use Rattle.event_journal.specs.declared.abandoned.Abandoned.{Abandoned};
-ghost use Rattle.journal_check.specs.Entries.{are_none, is_at, is_event, next_entry, next_abandoned, are_entries};
-ghost use Rattle.journal_check.specs.Passing.{IsFirstAbandoned, IsFirstOf, passes};
+ghost use Rattle.journal_check.specs.Entries.{are_entries, are_none, is_at, is_event};
+ghost use Rattle.journal_check.specs.Passing.{IsFirstAbandoned, IsFirstOf, TakesAbandoned, TakesEntry, drawn_attempt};
 
 use cell_grid::Record;
 use draw_stream::{Attempt, Attempts};
@@ -75,7 +73,7 @@ fn passed_abandoned<'a>(
     requires tile { tile < tiles_of map.now }
     requires centre { attempt.now.centre < map.now.w * map.now.h }
     requires first { IsFirstAbandoned tile abandoned.now }
-    ensures { (rest : List Record → List Abandoned → Bool) → next_abandoned map.now tile number attempt.now (abandoned_by tile abandoned.entry.now) (rest (of_tile tile records.entry.now)) ≡ passes tile rest result }
+    ensures { TakesAbandoned map.now (drawn_attempt tile number attempt.now) records.entry.now abandoned.entry.now result }
 {
     let Some((first, others)) = abandoned.split_first() else {
         return None;
@@ -103,7 +101,7 @@ fn passed<'a>(
 ) -> Option<(&'a [Record], &'a [Abandoned])>
     requires tile { tile < tiles_of map.now }
     requires centre { attempt.now.centre < map.now.w * map.now.h }
-    ensures { (rest : List Record → List Abandoned → Bool) → next_entry map.now tile number attempt.now (of_tile tile records.entry.now) (abandoned_by tile abandoned.entry.now) rest ≡ passes tile rest result }
+    ensures { TakesEntry map.now (drawn_attempt tile number attempt.now) records.entry.now abandoned.entry.now result }
 {
     let events = from_next(records, tile);
     let gone = from_next_abandoned(abandoned, tile);

@@ -1,17 +1,15 @@
 //! Whether the abandoned attempts are excused.
-ghost use Rattle.std.specs.Prelude.{◌≡◌, ◌*◌, ◌+◌, ◌<◌, ◌≤◌, ◌==◌, All, AllPairs, IfOk, IsTrue, MatchOption, length, true, false, ℕ};
-ghost use Rattle.std.specs.Bool.{Decides};
+ghost use Rattle.std.specs.Prelude.{◌≡◌, ◌*◌, ◌+◌, ◌<◌, ◌≤◌, ◌==◌, ◌↔◌, All, AllPairs, IfOk, IsFalse, IsTrue, MatchOption, length, ℕ};
 ghost use Rattle.std.specs.List.{AllWithin, list_any};
-ghost use Rattle.cell_grid.specs.declared.record.Record.{Record};
 ghost use Rattle.draw_stream.specs.Plans.{PlanValue};
 ghost use Rattle.tile_map.specs.Edges.{needs_of, pairs_of};
 ghost use Rattle.tile_map.specs.Laws.{Joins};
 ghost use Rattle.tile_map.specs.Plane.{site, tiles_of};
-ghost use Rattle.event_journal.specs.Accounts.{AreExcused, IsAccounted};
+ghost use Rattle.event_journal.specs.Accounts.{IsAccounted};
 ghost use Rattle.event_journal.specs.Logs.{ComesBefore};
 ghost use Rattle.event_journal.specs.declared.abandoned.Abandoned.{Abandoned};
 ghost use Rattle.journal_check.specs.Clocks.{IsInside};
-ghost use Rattle.journal_check.specs.Excuses.{IsExcusedOn, IsFirstUnexcused, IsFound, IsAbandonedInside, WasHeld, IsMissing, is_earlier};
+ghost use Rattle.journal_check.specs.Excuses.{FirstUnexcused, IsExcusedOn, IsFound, IsAbandonedInside, WasHeld, IsMissing, is_earlier};
 ghost use Rattle.journal_check.specs.Marks.{AreApart, AreRising, HasMark, IsSplit, marks_on};
 
 use crate::mark::Mark;
@@ -35,7 +33,7 @@ fn behind(marks: &[Mark], attempt: u128) -> usize
 fn are_apart(first: &[Mark], below: u128, second: &[Mark], from: u128) -> bool
     requires first { AreRising first.now }
     requires second { AreRising second.now }
-    ensures { Decides result (AreApart first.now below second.now from) }
+    ensures { IsTrue result ↔ (AreApart first.now below second.now from) }
 {
     let end = behind(first, below);
     let start = behind(second, from);
@@ -51,7 +49,7 @@ fn are_apart(first: &[Mark], below: u128, second: &[Mark], from: u128) -> bool
 /// Whether one of the marks is of the attempt.
 fn has_mark(marks: &[Mark], attempt: u64) -> bool
     requires { AreRising marks.now }
-    ensures { Decides result (HasMark marks.now attempt) }
+    ensures { IsTrue result ↔ (HasMark marks.now attempt) }
 {
     let place = behind(marks, u128::from(attempt));
     if place == marks.len() {
@@ -64,8 +62,8 @@ fn has_mark(marks: &[Mark], attempt: u64) -> bool
 fn earlier(abandoned: &[Abandoned], tile: u32, attempt: u64) -> usize
     requires { AllPairs ComesBefore abandoned.now }
     ensures bound { result ≤ length abandoned.now }
-    ensures before { AllWithin (λ (g : Abandoned). is_earlier tile attempt g ≡ true) abandoned.now 0 result }
-    ensures from { AllWithin (λ (g : Abandoned). is_earlier tile attempt g ≡ false) abandoned.now result (length abandoned.now) }
+    ensures before { AllWithin (λ (g : Abandoned). IsTrue (is_earlier tile attempt g)) abandoned.now 0 result }
+    ensures from { AllWithin (λ (g : Abandoned). IsFalse (is_earlier tile attempt g)) abandoned.now result (length abandoned.now) }
 {
     abandoned.partition_point(|gone| {
         gone.tile < tile || (gone.tile == tile && gone.attempt < attempt)
@@ -111,7 +109,7 @@ fn needs_edge(map: &Map, tile: u32, x: u32, y: u32, edge: u32) -> bool
 /// Whether an edge joins two tiles.
 fn joins(map: &Map, edge: u32, tile: u32, holder: u32) -> bool
     requires { edge < length (pairs_of map.now) }
-    ensures joins { Decides result (Joins map.now edge tile holder) }
+    ensures joins { IsTrue result ↔ (Joins map.now edge tile holder) }
     ensures holder { IsTrue result → holder < tiles_of map.now }
 {
     let (lower, higher) = map.ends(edge);
@@ -124,7 +122,7 @@ fn was_held(map: &Map, marks: &[Mark], abandoned: &[Abandoned], entry: &Abandone
     requires rising { AreRising marks.now }
     requires sorted { AllPairs ComesBefore abandoned.now }
     requires inside { All (IsAbandonedInside map.now) abandoned.now }
-    ensures { Decides result (WasHeld map.now marks.now abandoned.now entry.now) }
+    ensures { IsTrue result ↔ (WasHeld map.now marks.now abandoned.now entry.now) }
 {
     if has_mark(marks, entry.holder_attempt) {
         return true;
@@ -145,7 +143,7 @@ fn is_excused(map: &Map, table: &[Marks], abandoned: &[Abandoned], entry: &Aband
     requires sorted { AllPairs ComesBefore abandoned.now }
     requires many { length table.now ≡ length (pairs_of map.now) * tiles_of map.now }
     requires rising { All AreRising table.now }
-    ensures { Decides result (IsExcusedOn map.now table.now abandoned.now entry.now) }
+    ensures { IsTrue result ↔ (IsExcusedOn map.now table.now abandoned.now entry.now) }
 {
     if !needs_edge(map, entry.tile, entry.x, entry.y, entry.edge) {
         return false;
@@ -179,7 +177,7 @@ pub(crate) fn unexcused(
     requires sorted { AllPairs ComesBefore abandoned.now }
     requires rising { (e t : ℕ) → AreRising (marks_on map.now t e records.now) }
     ensures { (plan : PlanValue) → IsAccounted map.now plan records.now abandoned.now →
-        IfOk result (λ o. MatchOption o (AreExcused map.now plan records.now abandoned.now) (IsFirstUnexcused map.now plan records.now abandoned.now)) }
+        IfOk result (FirstUnexcused map.now plan records.now abandoned.now) }
 {
     map.laws();
     let table = marks_of(alloc, map, records)?;

@@ -4,7 +4,7 @@ ghost use Rattle.std.specs.List.Sorted.{IsStrictlyIncreasing};
 ghost use Rattle.tile_map.specs.Edges.{pairs_of};
 ghost use Rattle.tile_map.specs.Plane.{tiles_of};
 ghost use Rattle.journal_check.specs.Clocks.{IsInside};
-ghost use Rattle.journal_check.specs.Marks.{AddsMark, AreMarks, AreRising, marks_at};
+ghost use Rattle.journal_check.specs.Marks.{AddsMark, AreMarks, AreRising, is_list_of, marks_at};
 
 use crate::mark::Mark;
 use cell_grid::Record;
@@ -77,7 +77,7 @@ fn add(
     requires within { All (λ e. e * tiles + tile < length table.old.items) needs.now }
     requires rising { IsStrictlyIncreasing needs.now }
     ensures many { length table.new.items ≡ length table.old.items }
-    ensures adds { OnOk result (AddsMark table.old.items needs.now tiles tile mark table.new.items) }
+    ensures adds { OnOk result (AddsMark table.old.items (is_list_of needs.now tiles tile) mark table.new.items) }
 {
     for i in 0..needs.len() {
         let slot = needs.edge(i) as usize * tiles as usize + tile as usize;

@@ -1,10 +1,8 @@
 //! Whether the stamps of a journal are those of its links.
-ghost use Rattle.std.specs.Prelude.{◌≡◌, ◌<◌, ◌==◌, [], All, IfOk, List, MatchOption, fold, length, max, slice_index, slice_set};
-ghost use Rattle.cell_grid.specs.declared.record.Record.{Record};
+ghost use Rattle.std.specs.Prelude.{◌≡◌, ◌<◌, ◌==◌, [], All, IfOk, fold, length, max, slice_index, slice_set};
 ghost use Rattle.tile_map.specs.Edges.{pairs_of};
 ghost use Rattle.tile_map.specs.Plane.{tiles_of};
-ghost use Rattle.event_journal.specs.Accounts.{IsStamped};
-ghost use Rattle.journal_check.specs.Clocks.{AreClocks, IsFirstMisstamped, IsInside, Ticks, set_at};
+ghost use Rattle.journal_check.specs.Clocks.{AreClocks, FirstMisstamped, IsInside, TicksBy, clocks_value, set_at};
 
 use cell_grid::Record;
 use feast_base::NoMemory;
@@ -20,7 +18,7 @@ struct Clocks {
 
 /// The clocks of a map before any event.
 fn no_clocks(alloc: Global, map: &Map) -> Result<Clocks, NoMemory>
-    ensures { IfOk result (λ c. AreClocks map.now [] c.tiles.items c.edges.items) }
+    ensures { IfOk result (λ c. AreClocks map.now [] (clocks_value c)) }
 {
     Ok(Clocks {
         tiles: Vec::from_elem(alloc, 0, map.tiles() as usize)?,
@@ -56,7 +54,7 @@ fn tick(map: &Map, clocks: &mut Clocks, entry: &Record) -> bool
     requires inside { IsInside map.now entry.now }
     requires tiles { length clocks.old.tiles.items ≡ tiles_of map.now }
     requires edges { length clocks.old.edges.items ≡ length (pairs_of map.now) }
-    ensures { (before : List Record) → AreClocks map.now before clocks.old.tiles.items clocks.old.edges.items → Ticks map.now before entry.now clocks.new.tiles.items clocks.new.edges.items result }
+    ensures { TicksBy map.now entry.now (clocks_value clocks.old) (clocks_value clocks.new) result }
 {
     let needs = map.needs(entry.tile, entry.x, entry.y);
     let tile = entry.tile as usize;
@@ -77,7 +75,7 @@ pub(crate) fn misstamped(
     records: &[Record],
 ) -> Result<Option<u64>, NoMemory>
     requires { All (IsInside map.now) records.now }
-    ensures { IfOk result (λ o. MatchOption o (IsStamped map.now records.now) (IsFirstMisstamped map.now records.now)) }
+    ensures { IfOk result (FirstMisstamped map.now records.now) }
 {
     let mut kept = no_clocks(alloc, map)?;
     for k in 0..records.len() {

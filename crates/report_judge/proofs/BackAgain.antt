@@ -9,7 +9,7 @@ use Rattle.cell_grid.specs.declared.record.Record.{Record}
 use Rattle.journal_check.specs.Films.{CanUndo, FilmValue, Undoes, film_of, film_value, kept_of, restored}
 use Rattle.journal_check.specs.declared.kept.Kept.{Kept}
 use Rattle.journal_check.proofs.Undoing.{put_twice}
-use Rattle.report_judge.specs.Rewinding.{IsAt}
+use Rattle.report_judge.specs.Rewinding.{IsAt, reel}
 
 pub live_alike : (g h : GridValue) (x y : ℕ) → ArePlanesAlike g h → IsLive g x y → IsLive h x y
 live_alike g h x y a l = record {
@@ -38,9 +38,9 @@ module _ (after : WindowValue → ℕ → WindowValue) where
   replay_more g records k lt = ap (replay after g) (take_more records k no_record lt) ∙ replay_push g (take k records) (get_or records k no_record)
 
   -- one event more
-  pub made : (start : GridValue) (records : List Record) (k : ℕ) (film film' : FilmValue) (grid grid' : GridValue) → k < length records → IsAt after start records k film grid →
+  pub made : (start : GridValue) (records : List Record) (k : ℕ) (film film' : FilmValue) (grid grid' : GridValue) → k < length records → IsAt after start records k (reel film grid) →
       film'.kept ≡ film.kept ++ kept_of grid (get_or records k no_record) ∷ [] → film'.spare + 1 ≡ film.spare →
-      grid' ≡ event after grid (get_or records k no_record).x (get_or records k no_record).y (get_or records k no_record).seed → IsAt after start records (k + 1) film' grid'
+      grid' ≡ event after grid (get_or records k no_record).x (get_or records k no_record).y (get_or records k no_record).seed → IsAt after start records (k + 1) (reel film' grid')
   made start records k film film' grid grid' lt at kept spare is =
       let r = get_or records k no_record in
       record {
@@ -51,13 +51,13 @@ module _ (after : WindowValue → ℕ → WindowValue) where
 
   -- the last event can be taken back
   pub can_undo : (start : GridValue) (records : List Record) (k : ℕ) (film : FilmValue) (grid : GridValue) → k < length records → All (λ (r : Record). IsLive start r.x r.y) records → ArePlanesAlike start grid →
-      IsAt after start records (k + 1) film grid → CanUndo film grid
+      IsAt after start records (k + 1) (reel film grid) → CanUndo film grid
   can_undo start records k film grid lt live alike at kept last is =
       let same = same_from_push kept (film_of after start (take k records)) last (kept_of (replay after start (take k records)) (get_or records k no_record)) (sym is ∙ at.kept ∙ film_more start records k lt) in
       subst (λ (e : Kept). IsLive grid e.x e.y) (sym same.1) (live_alike start grid (get_or records k no_record).x (get_or records k no_record).y alike (live k no_record lt))
 
-  pub taken_back : (start : GridValue) (records : List Record) (k : ℕ) (film film' : FilmValue) (grid grid' : GridValue) (b : Bool) → k < length records → IsAt after start records (k + 1) film grid →
-      Undoes film film' grid grid' b → IsAt after start records k film' grid'
+  pub taken_back : (start : GridValue) (records : List Record) (k : ℕ) (film film' : FilmValue) (grid grid' : GridValue) (b : Bool) → k < length records → IsAt after start records (k + 1) (reel film grid) →
+      Undoes film film' grid grid' b → IsAt after start records k (reel film' grid')
   taken_back start records k film film' grid grid' false lt at u =
       let some = ap length (sym u.0 ∙ at.kept ∙ film_more start records k lt) in
       absurd (omega (arith, some, length_push (film_of after start (take k records)) (kept_of (replay after start (take k records)) (get_or records k no_record))))
@@ -72,7 +72,7 @@ module _ (after : WindowValue → ℕ → WindowValue) where
             ∙ put_twice g r.x r.y (after (window_of g r.x r.y) r.seed);
       }
 
-  pub at_first : (start : GridValue) (records : List Record) (film : FilmValue) → film ≡ film_value [] (length records) → IsAt after start records 0 film start
+  pub at_first : (start : GridValue) (records : List Record) (film : FilmValue) → film ≡ film_value [] (length records) → IsAt after start records 0 (reel film start)
   at_first start records film is = record {
     kept = ap (λ (f : FilmValue). f.kept) is;
     spare = let s = ap (λ (f : FilmValue). f.spare) is in omega (arith, s);

@@ -36,6 +36,9 @@ pub record JudgedWorld : Type 0 where
   pub names : List (List ℕ)
   pub start : GridValue
 
+abbrev pub judged_world : MapValue → PlanValue → (WindowValue → ℕ → WindowValue) → List (List ℕ) → GridValue → JudgedWorld
+judged_world map plan meaning names start = record { map = map; plan = plan; meaning = meaning; names = names; start = start }
+
 -- each attempt is accounted for, each event has its stamp, and each abandoned attempt is excused
 pub record Holds (s : JudgedWorld) (records : List Record) (abandoned : List Abandoned) : Type 0 where
   pub accounted : IsAccounted s.map s.plan records abandoned

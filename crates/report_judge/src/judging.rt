@@ -1,11 +1,10 @@
 //! The judgement on a report.
-ghost use Rattle.std.specs.Prelude.{◌≡◌, ◌<◌, ◌≤◌, ◌^◌, IfOk, length};
-ghost use Rattle.std.specs.Bool.{Decides};
+ghost use Rattle.std.specs.Prelude.{◌≡◌, ◌<◌, ◌≤◌, ◌^◌, ◌↔◌, IfOk, IsTrue, length};
 ghost use Rattle.cell_grid.specs.Records.{replay};
 ghost use Rattle.grid_print.specs.Report.{AreNamed, report};
 ghost use Rattle.serial_order.specs.Outcomes.{IsPlaneGrid};
 ghost use Rattle.journal_check.specs.Entries.{IsPlanOf};
-ghost use Rattle.report_judge.specs.Judging.{Judges, abandoned_line, event_line, line_count};
+ghost use Rattle.report_judge.specs.Judging.{Judges, abandoned_line, event_line, judged_world, line_count};
 
 use crate::judgement::Judgement;
 use cell_grid::{Behave, Grid, Record};
@@ -44,7 +43,7 @@ fn abandoned_line(bytes: &[u8], journal: &ReadJournal, k: u64) -> u64
 
 /// Whether two texts are the same.
 fn are_same(first: &[u8], second: &[u8]) -> bool
-    ensures { Decides result (first.now ≡ second.now) }
+    ensures { IsTrue result ↔ (first.now ≡ second.now) }
 {
     first == second
 }
@@ -59,7 +58,7 @@ fn is_report(
     abandoned: &[Abandoned],
 ) -> Result<bool, NoMemory>
     requires { AreNamed names.now grid.now.atoms }
-    ensures { IfOk result (λ b. Decides b (bytes.now ≡ report names.now grid.now records.now abandoned.now)) }
+    ensures { IfOk result (λ b. IsTrue b ↔ (bytes.now ≡ report names.now grid.now records.now abandoned.now)) }
 {
     let text = report_text(alloc, grid, names, records, abandoned)?;
     Ok(are_same(bytes, text.as_slice()))
@@ -84,7 +83,8 @@ pub fn judge<B: Behave>(
     requires plan { IsPlanOf map.now plan.now }
     requires start { IsPlaneGrid map.now start.now }
     requires named { AreNamed names.now (replay (B.after behave.old) start.now journal.now.records.items).atoms }
-    ensures { IfOk result (Judges (record { map = map.now; plan = plan.now; meaning = B.after behave.old; names = names.now; start = start.now }) bytes.now journal.now.records.items journal.now.abandoned.items) }
+    ensures { IfOk result (Judges (judged_world map.now plan.now (B.after behave.old) names.now start.now) bytes.now
+        journal.now.records.items journal.now.abandoned.items) }
 {
     match audit(alloc, map, plan, start, journal, behave)? {
         Verdict::NotAccounted => Ok(Judgement::NoAccounted),

@@ -3,7 +3,7 @@ ghost use Rattle.std.specs.Prelude.{◌≡◌, ◌≤◌, All, IfOk, length, tak
 ghost use Rattle.cell_grid.specs.Grid.{ArePlanesAlike, IsLive};
 ghost use Rattle.cell_grid.specs.Records.{replay};
 ghost use Rattle.cell_grid.specs.declared.record.Record.{Record};
-ghost use Rattle.report_judge.specs.Rewinding.{IsAt};
+ghost use Rattle.report_judge.specs.Rewinding.{IsAt, reel};
 
 use cell_grid::{Behave, Grid, Record};
 use feast_base::NoMemory;
@@ -13,8 +13,8 @@ use std::alloc::Global;
 /// Makes all events of a journal on a grid and keeps them on a film, which has room for them.
 fn run<B: Behave>(film: &mut Film, grid: &mut Grid, records: &[Record], behave: &mut B)
     requires live { All (λ (r : Record). IsLive grid.old r.x r.y) records.now }
-    requires fresh { IsAt (B.after behave.old) grid.old records.now 0 film.old grid.old }
-    ensures at { IsAt (B.after behave.old) grid.old records.now (length records.now) film.new grid.new }
+    requires fresh { IsAt (B.after behave.old) grid.old records.now 0 (reel film.old grid.old) }
+    ensures at { IsAt (B.after behave.old) grid.old records.now (length records.now) (reel film.new grid.new) }
     ensures plane { ArePlanesAlike grid.old grid.new }
 {
     for entry in records {

@@ -198,21 +198,21 @@ module _ (s : Scene) (o : IsOver s) where
           h.2,
           before_less l.gone.edge h.0.gone.edge (needs_of s.map l.gone.holder (given_up_site h.0.gone)) (needs_rise s.map l.gone.holder (given_up_site h.0.gone)) (excuse l.gone.holder h.0 h.1).needs h.3,
         ))) x.held;
-    after = λ n k a b e f c d lt le.
-        let p = record_of s o n (contains_in (records s) n a) in
-        let q = record_of s o k (contains_in (records s) k b) in
-        let z = x.after p.0 q.0 (subst (λ u. In (Wins p.0) (turns s o u)) (e ∙ sym at) p.1) (subst (λ u. In (Wins q.0) (turns s o u)) f q.1)
-        (subst (λ (z : Record). In l.gone.edge (needs_of s.map t (event_site z))) p.2 (subst (λ u. In l.gone.edge (needs_of s.map u (event_site n))) (e ∙ sym at) (contains_in _ l.gone.edge c)))
-        (subst (λ (z : Record). In l.gone.edge (needs_of s.map l.gone.holder (event_site z))) q.2 (subst (λ u. In l.gone.edge (needs_of s.map u (event_site k))) f (contains_in _ l.gone.edge d)))
+    after = λ n k a b lt le.
+        let p = record_of s o n (contains_in (records s) n a.0) in
+        let q = record_of s o k (contains_in (records s) k b.0) in
+        let z = x.after p.0 q.0 (subst (λ u. In (Wins p.0) (turns s o u)) (a.1 ∙ sym at) p.1) (subst (λ u. In (Wins q.0) (turns s o u)) b.1 q.1)
+        (subst (λ (z : Record). In l.gone.edge (needs_of s.map t (event_site z))) p.2 (subst (λ u. In l.gone.edge (needs_of s.map u (event_site n))) (a.1 ∙ sym at) (contains_in _ l.gone.edge a.2)))
+        (subst (λ (z : Record). In l.gone.edge (needs_of s.map l.gone.holder (event_site z))) q.2 (subst (λ u. In l.gone.edge (needs_of s.map u (event_site k))) b.1 (contains_in _ l.gone.edge b.2)))
         (omega (arith, lt, ap (λ (z : Record). z.attempt) p.2)) (omega (arith, le, ap (λ (z : Record). z.attempt) q.2)) in
         omega (arith, z, ap (λ (z : Record). z.stamp) p.2, ap (λ (z : Record). z.stamp) q.2);
-    before = λ n k a b e f c d lt le.
-        let p = record_of s o n (contains_in (records s) n a) in
-        let q = record_of s o k (contains_in (records s) k b) in
-        let z = x.before p.0 q.0 (subst (λ u. In (Wins p.0) (turns s o u)) (e ∙ sym at) p.1) (subst (λ u. In (Wins q.0) (turns s o u)) f q.1)
-        (subst (λ (z : Record). In l.gone.edge (needs_of s.map t (event_site z))) p.2 (subst (λ u. In l.gone.edge (needs_of s.map u (event_site n))) (e ∙ sym at) (contains_in _ l.gone.edge c)))
-        (subst (λ (z : Record). In l.gone.edge (needs_of s.map l.gone.holder (event_site z))) q.2 (subst (λ u. In l.gone.edge (needs_of s.map u (event_site k))) f (contains_in _ l.gone.edge d)))
-        (omega (arith, lt, ap (λ (z : Record). z.attempt) p.2)) (omega (arith, le, ap (λ (z : Record). z.attempt) q.2)) in
+    before = λ k n b a lt le.
+        let p = record_of s o n (contains_in (records s) n a.0) in
+        let q = record_of s o k (contains_in (records s) k b.0) in
+        let z = x.before p.0 q.0 (subst (λ u. In (Wins p.0) (turns s o u)) (a.1 ∙ sym at) p.1) (subst (λ u. In (Wins q.0) (turns s o u)) b.1 q.1)
+        (subst (λ (z : Record). In l.gone.edge (needs_of s.map t (event_site z))) p.2 (subst (λ u. In l.gone.edge (needs_of s.map u (event_site n))) (a.1 ∙ sym at) (contains_in _ l.gone.edge a.2)))
+        (subst (λ (z : Record). In l.gone.edge (needs_of s.map l.gone.holder (event_site z))) q.2 (subst (λ u. In l.gone.edge (needs_of s.map u (event_site k))) b.1 (contains_in _ l.gone.edge b.2)))
+        (omega (arith, le, ap (λ (z : Record). z.attempt) p.2)) (omega (arith, lt, ap (λ (z : Record). z.attempt) q.2)) in
         omega (arith, z, ap (λ (z : Record). z.stamp) p.2, ap (λ (z : Record). z.stamp) q.2);
   }
     where

@@ -1,5 +1,6 @@
 -- The fields of a line, and the numbers and digits that they are.
-use Rattle.std.specs.Prelude.{ℕ, ◌+◌, ◌-◌, ◌*◌, ◌==◌, ◌≢◌, Bool, false, not, ◌&&◌, ◌||◌, List, [], ◌∷◌, ◌++◌, All, Option, Some, None, length, fold, nat_le, if◌then◌else◌}
+use Rattle.std.specs.Prelude.{ℕ, ◌+◌, ◌-◌, ◌*◌, ◌==◌, ◌≢◌, Bool, false, not, ◌&&◌, ◌||◌, List, [], ◌∷◌, ◌++◌, All, Option, Some, None, length, fold, nat_le, option_copied, option_map, if◌then◌else◌}
+use denote.Ref.{Bor}
 use Rattle.std.specs.List.{list_all}
 
 -- bytes that do not have this one
@@ -19,6 +20,14 @@ fields line = fields_after [] line
 abbrev pub args_of : Option (List ℕ) → List (List ℕ)
 args_of None = []
 args_of (Some rest) = fields rest
+
+-- the fields of the text behind a reference that a reader has left
+abbrev pub fields_left : Option (Bor (List ℕ)) → List (List ℕ)
+fields_left rest = args_of (option_copied rest)
+
+-- a number that was taken from the front, and the fields that are left
+abbrev pub taken : Option (ℕ × Option (Bor (List ℕ))) → Option (ℕ × List (List ℕ))
+taken found = option_map (λ (p : ℕ × Option (Bor (List ℕ))). (p.0, fields_left p.1)) found
 
 -- how much is left to read
 abbrev pub size_of : Option (List ℕ) → ℕ

@@ -1,5 +1,5 @@
 -- The lines of a text, and lines that are printed of fields.
-use Rattle.std.specs.Prelude.{ℕ, ◌-◌, ◌==◌, Bool, true, List, [], ◌∷◌, ◌++◌, Option, Some, None, flat_map, length, take, slice_index_or, if◌then◌else◌}
+use Rattle.std.specs.Prelude.{ℕ, ◌≡◌, ◌<◌, ◌-◌, ◌==◌, Bool, true, List, [], ◌∷◌, ◌++◌, Option, Some, None, flat_map, length, take, slice_index_or, if◌then◌else◌}
 
 -- a line without one CR at its end
 unfoldable pub without_cr : List ℕ → List ℕ
@@ -48,3 +48,7 @@ ended_line fields = line_text fields ++ 10 ∷ []
 -- a text of lines of fields
 abbrev pub text_of : List (List (List ℕ)) → List ℕ
 text_of ls = flat_map ended_line ls
+
+-- a text begins with this line, by what its lines are, and has these bytes after it
+abbrev pub BeginsWith : {Line : Type 0} → (List ℕ → List Line) → List ℕ → Line → List ℕ → Type 0
+BeginsWith lines_of bytes line rest = (lines_of bytes ≡ line ∷ lines_of rest) × (length rest < length bytes)

@@ -1,7 +1,7 @@
 //! The lines of a text, and the fields of a line.
-ghost use Rattle.std.specs.Prelude.{◌≡◌, ◌∷◌, ◌++◌, ◌+◌, ◌<◌, [], MatchOption, IfSome, option_copied, length};
-ghost use Rattle.text_lines.specs.Fields.{Lacks, args_of, fields};
-ghost use Rattle.text_lines.specs.Lines.{ended_lines, is_skipped, lines, without_cr};
+ghost use Rattle.std.specs.Prelude.{◌≡◌, ◌∷◌, ◌++◌, ◌+◌, ◌<◌, [], MatchOption, IfSome, length};
+ghost use Rattle.text_lines.specs.Fields.{Lacks, fields, fields_left};
+ghost use Rattle.text_lines.specs.Lines.{BeginsWith, ended_lines, is_skipped, lines, without_cr};
 
 /// The bytes before the first `end`, and those after it.
 fn until(bytes: &[u8], end: u8) -> Option<(&[u8], &[u8])>
@@ -13,7 +13,7 @@ fn until(bytes: &[u8], end: u8) -> Option<(&[u8], &[u8])>
 
 /// The first field of a line, and the text of the others if a space follows it.
 pub fn first_field(text: &[u8]) -> (&[u8], Option<&[u8]>)
-    ensures fields { fields text.now ≡ result.0.now ∷ args_of (option_copied result.1) }
+    ensures fields { fields text.now ≡ result.0.now ∷ fields_left result.1 }
     ensures shorter { IfSome result.1 (λ rest. length rest.now < length text.now) }
 {
     match until(text, b' ') {
@@ -38,7 +38,7 @@ fn without_cr(line: &[u8]) -> &[u8]
 /// The first line of a text whose last line may lack its LF, and the bytes after it. A CR before
 /// the LF is dropped. None exactly for the empty text.
 pub fn next_line(bytes: &[u8]) -> Option<(&[u8], &[u8])>
-    ensures { MatchOption result (bytes.now ≡ []) (λ r. (lines bytes.now ≡ r.0.now ∷ lines r.1.now) × (length r.1.now < length bytes.now)) }
+    ensures { MatchOption result (bytes.now ≡ []) (λ r. BeginsWith lines bytes.now r.0.now r.1.now) }
 {
     if bytes.is_empty() {
         return None;
@@ -52,7 +52,7 @@ pub fn next_line(bytes: &[u8]) -> Option<(&[u8], &[u8])>
 /// The first line of a text that is not empty and each of whose lines has its LF, and the bytes
 /// after it. None exactly when no LF is left.
 pub fn next_ended(bytes: &[u8]) -> Option<(&[u8], &[u8])>
-    ensures { MatchOption result (Lacks bytes.now 10) (λ r. (ended_lines bytes.now ≡ Some r.0.now ∷ ended_lines r.1.now) × (length r.1.now < length bytes.now)) }
+    ensures { MatchOption result (Lacks bytes.now 10) (λ r. BeginsWith ended_lines bytes.now (Some r.0.now) r.1.now) }
 {
     match until(bytes, b'\n') {
         Some((line, rest)) => Some((line, rest)),

@@ -1,5 +1,5 @@
 //! The numbers and digits that fields are.
-ghost use Rattle.std.specs.Prelude.{◌≡◌, IfSome, ◌*◌, ◌<◌, ◌≤◌, ◌^◌, length, true};
+ghost use Rattle.std.specs.Prelude.{◌≡◌, IfSome, IsTrue, ◌*◌, ◌<◌, ◌≤◌, ◌^◌, length};
 ghost use Rattle.std.specs.List.{list_all};
 ghost use Rattle.text_lines.specs.Fields.{hex_of, hex_worth, is_canonical, is_digit, is_nibble, nibble, number_of, worth};
 
@@ -31,7 +31,7 @@ fn is_canonical(digits: &[u8]) -> bool
 
 /// What at most 20 decimal digits are worth.
 fn worth(digits: &[u8]) -> u128
-    requires { (list_all is_digit digits.now ≡ true) × (length digits.now ≤ 20) }
+    requires { IsTrue (list_all is_digit digits.now) × (length digits.now ≤ 20) }
     ensures { result ≡ worth digits.now }
 {
     let mut value = 0u128;
@@ -43,7 +43,7 @@ fn worth(digits: &[u8]) -> u128
 
 /// What at most 19 decimal digits are worth.
 fn small_worth(digits: &[u8]) -> u64
-    requires { (list_all is_digit digits.now ≡ true) × (length digits.now ≤ 19) }
+    requires { IsTrue (list_all is_digit digits.now) × (length digits.now ≤ 19) }
     ensures { result ≡ worth digits.now }
 {
     let mut value = 0u64;
@@ -78,7 +78,7 @@ fn is_nibble(byte: u8) -> bool
 fn nibble(byte: u8) -> u8
     requires { 48 ≤ byte }
     ensures value { result ≡ nibble byte }
-    ensures small { is_nibble byte ≡ true → result < 16 }
+    ensures small { IsTrue (is_nibble byte) → result < 16 }
 {
     if byte <= b'9' {
         byte - b'0'
@@ -96,7 +96,7 @@ fn are_nibbles(bytes: &[u8]) -> bool
 
 /// What at most 18 hexadecimal digits are worth.
 fn state_worth(digits: &[u8]) -> u128
-    requires { (list_all is_nibble digits.now ≡ true) × (length digits.now ≤ 18) }
+    requires { IsTrue (list_all is_nibble digits.now) × (length digits.now ≤ 18) }
     ensures value { result ≡ hex_worth digits.now }
     ensures bound { result < 16 ^ length digits.now }
 {
@@ -109,7 +109,7 @@ fn state_worth(digits: &[u8]) -> u128
 
 /// What at most 16 hexadecimal digits are worth.
 fn seed_worth(digits: &[u8]) -> u64
-    requires { (list_all is_nibble digits.now ≡ true) × (length digits.now ≤ 16) }
+    requires { IsTrue (list_all is_nibble digits.now) × (length digits.now ≤ 16) }
     ensures { result ≡ hex_worth digits.now }
 {
     let mut value = 0u64;

@@ -4,7 +4,7 @@ use Rattle.std.specs.List.{list_any}
 use Rattle.feast_base.specs.TypeNames.{name_of}
 use Rattle.draw_stream.specs.declared.attempt.Attempt.{Attempt}
 use Rattle.feast_base.specs.Digits.{hex}
-use Rattle.text_lines.specs.Lines.{text_of}
+use Rattle.text_lines.specs.Lines.{ended_line, text_of}
 use Rattle.tile_map.specs.Plane.{MapValue, IsMap, site_in, tiles_of}
 use Rattle.world_text.specs.Drafts.{DraftValue, IsDraft}
 use Rattle.world_text.specs.Line.{Line, header, tiles, size, off, seed, attempts, try, atom, order_seed, order}
@@ -56,11 +56,19 @@ order_lines (listed []) = []
 order_lines (listed (t ∷ ts)) = order (t ∷ ts) ∷ []
 order_lines (drawn n) = order_seed n ∷ []
 
--- the lines of a world; it is of the second version if a tile is off
+-- the header, how many tiles there are, and their size; the version is the second if a tile is off
+abbrev pub plane_lines : MapValue → List Line
+plane_lines m = header (list_any (λ o. o) m.off) ∷ tiles m.tx m.ty ∷ size m.w m.h ∷ []
+
+-- the lines of a world
 abbrev pub world_lines : List (List ℕ) → WorldValue → List Line
 world_lines names w =
-    header (list_any (λ o. o) w.plane.off) ∷ tiles w.plane.tx w.plane.ty ∷ size w.plane.w w.plane.h
-    ∷ (off_lines 0 w.plane.off ++ (plan_lines w.plane w.plan.lists w.plan.origin ++ (map (atom_line names) w.atoms ++ order_lines w.order)))
+    plane_lines w.plane
+    ++ (off_lines 0 w.plane.off ++ (plan_lines w.plane w.plan.lists w.plan.origin ++ (map (atom_line names) w.atoms ++ order_lines w.order)))
+
+-- the text of a line, with its LF
+abbrev pub text_of_line : Line → List ℕ
+text_of_line l = ended_line (line_fields l)
 
 -- the text of some lines
 abbrev pub lines_text : List Line → List ℕ

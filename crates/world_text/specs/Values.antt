@@ -1,6 +1,6 @@
 -- The code's types as the values that contracts speak of.
 use Rattle.std.specs.Prelude.{ℕ, ◌≡◌, List, Result, Ok, Err}
-use Rattle.tile_map.specs.Plane.{plane_of}
+use Rattle.tile_map.specs.Plane.{MapValue, plane_of}
 use Rattle.world_text.specs.Drafts.{DraftValue}
 use Rattle.world_text.specs.Line.{Line, header, tiles, size, off, seed, attempts, try, atom, order_seed, order}
 use Rattle.world_text.specs.Named.{WorldValue, OrderValue, listed, drawn, named}
@@ -26,12 +26,16 @@ line_value (Atom x y name s) = atom x y name.now s
 line_value (OrderSeed n) = order_seed n
 line_value (Order ts) = order ts.items
 
+-- the plane that the lines so far say
+abbrev pub draft_plane : Draft → MapValue
+draft_plane d = plane_of d.tx d.ty d.w d.h d.off.items
+
 -- what the lines so far say
 abbrev pub draft_value : Draft → DraftValue
 draft_value d = record {
   last = d.last;
   second = d.second;
-  plane = plane_of d.tx d.ty d.w d.h d.off.items;
+  plane = draft_plane d;
   origin = d.origin;
   made = d.made;
   tries = d.tries.items;
@@ -44,9 +48,13 @@ abbrev pub order_value : CodeOrder → OrderValue
 order_value (Listed turns) = listed turns.items
 order_value (Drawn n) = drawn n
 
+-- the plane of a world
+abbrev pub world_plane : World → MapValue
+world_plane w = plane_of w.tx w.ty w.w w.h w.off.items
+
 -- a world, by its numbers and the lists that its vectors hold
 abbrev pub world_value : World → WorldValue
-world_value w = record { plane = plane_of w.tx w.ty w.w w.h w.off.items; plan = w.plan; atoms = w.atoms.items; order = order_value w.order }
+world_value w = record { plane = world_plane w; plan = w.plan; atoms = w.atoms.items; order = order_value w.order }
 
 -- at Ok the world that a draft says with these names, otherwise its first fault
 abbrev pub Names : List (List ℕ) → DraftValue → Result World WorldFault → Type 0

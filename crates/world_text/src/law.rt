@@ -15,6 +15,7 @@ pub fn laws(world: &World)
     ensures says { SaysItsLines }
     ensures cut { AreCut }
 {
+    // Only the contract speaks of the arguments; they are read so that none is unused.
     let _tiles = world.tx;
 }
 
@@ -27,6 +28,7 @@ pub fn reads_again(world: &World, names: &[Name])
     ensures again { ReadsWorld (world_text names.now (world_value world.now)) names.now (world_value world.now) }
     ensures cut { AreWorldCuts names.now (world_value world.now) }
 {
+    // Only the contract speaks of the arguments; they are read so that none is unused.
     let _tiles = world.tx;
     let _names = names.len();
 }

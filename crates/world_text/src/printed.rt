@@ -6,9 +6,9 @@ ghost use Rattle.feast_base.specs.Appending.{Appends};
 ghost use Rattle.text_lines.specs.Lines.{ended_line};
 ghost use Rattle.text_lines.specs.Values.{field_text};
 ghost use Rattle.tile_map.specs.Plane.{IsMap, tiles_of};
-ghost use Rattle.world_text.specs.Line.{header, order, size, tiles};
-ghost use Rattle.world_text.specs.Printed.{IsNamed, IsPrintable, atom_line, line_fields, lines_text, off_lines, off_one, order_lines, plan_lines, try_line, try_lines, world_text};
-ghost use Rattle.world_text.specs.Values.{order_value, world_value};
+ghost use Rattle.world_text.specs.Line.{header, order};
+ghost use Rattle.world_text.specs.Printed.{IsNamed, IsPrintable, atom_line, lines_text, off_lines, off_one, order_lines, plan_lines, plane_lines, text_of_line, try_line, try_lines, world_text};
+ghost use Rattle.world_text.specs.Values.{order_value, world_plane, world_value};
 ghost use Rattle.world_text.specs.Named.{listed};
 ghost use Rattle.world_text.specs.declared.world.Placed.{Placed};
 
@@ -20,7 +20,7 @@ use text_lines::{Field, push_line};
 
 /// Appends a header.
 fn push_header(out: &mut Vec<u8>, second: bool) -> Result<(), NoMemory>
-    ensures { Appends out.old.items out.new.items result (ended_line (line_fields (header second))) }
+    ensures { Appends out.old.items out.new.items result (text_of_line (header second)) }
 {
     if second {
         push_line(out, &[Field::Word(b"feast"), Field::Word(b"2")])
@@ -52,7 +52,7 @@ fn is_one_off(off: &[bool]) -> bool
 
 /// Appends the lines of a plane: the header, how many tiles there are, and their size.
 fn push_plane(out: &mut Vec<u8>, world: &World) -> Result<(), NoMemory>
-    ensures { Appends out.old.items out.new.items result (lines_text (header (list_any (λ o. o) world.now.off.items) ∷ tiles world.now.tx world.now.ty ∷ size world.now.w world.now.h ∷ [])) }
+    ensures { Appends out.old.items out.new.items result (lines_text (plane_lines (world_plane world.now))) }
 {
     push_header(out, is_one_off(world.off.as_slice()))?;
     push_two(out, b"tiles", world.tx, world.ty)?;
@@ -83,9 +83,9 @@ fn push_off(out: &mut Vec<u8>, off: &[bool]) -> Result<(), NoMemory>
 
 /// Appends the line of an attempt of a tile.
 fn push_try(out: &mut Vec<u8>, world: &World, tile: u32, attempt: &Attempt) -> Result<(), NoMemory>
-    requires map { IsMap (world_value world.now).plane }
-    requires tile { tile < tiles_of (world_value world.now).plane }
-    ensures { Appends out.old.items out.new.items result (ended_line (line_fields (try_line (world_value world.now).plane tile attempt.now))) }
+    requires map { IsMap (world_plane world.now) }
+    requires tile { tile < tiles_of (world_plane world.now) }
+    ensures { Appends out.old.items out.new.items result (text_of_line (try_line (world_plane world.now) tile attempt.now)) }
 {
     let x = tile % world.tx * world.w + attempt.centre % world.w;
     let y = tile / world.tx * world.h + attempt.centre / world.w;
@@ -108,9 +108,9 @@ fn push_tries(
     tile: u32,
     mut attempts: Attempts,
 ) -> Result<(), NoMemory>
-    requires map { IsMap (world_value world.now).plane }
-    requires tile { tile < tiles_of (world_value world.now).plane }
-    ensures { Appends out.old.items out.new.items result (lines_text (map (try_line (world_value world.now).plane tile) attempts)) }
+    requires map { IsMap (world_plane world.now) }
+    requires tile { tile < tiles_of (world_plane world.now) }
+    ensures { Appends out.old.items out.new.items result (lines_text (map (try_line (world_plane world.now) tile) attempts)) }
 {
     while let Some(attempt) = attempts.next() {
         push_try(out, world, tile, &attempt)?;
@@ -121,9 +121,9 @@ fn push_tries(
 /// Appends the lines of the attempts of all tiles.
 #[tactic(auto, unfolding(crate::specs::Printed::try_lines))]
 fn push_lists(alloc: Global, out: &mut Vec<u8>, world: &World) -> Result<(), NoMemory>
-    requires map { IsMap (world_value world.now).plane }
-    requires lists { length world.now.plan.lists ≡ tiles_of (world_value world.now).plane }
-    ensures { Appends out.old.items out.new.items result (lines_text (try_lines (world_value world.now).plane 0 world.now.plan.lists)) }
+    requires map { IsMap (world_plane world.now) }
+    requires lists { length world.now.plan.lists ≡ tiles_of (world_plane world.now) }
+    ensures { Appends out.old.items out.new.items result (lines_text (try_lines (world_plane world.now) 0 world.now.plan.lists)) }
 {
     for tile in 0..world.tx * world.ty {
         let attempts = world.plan.of_tile(alloc, tile)?;
@@ -134,9 +134,9 @@ fn push_lists(alloc: Global, out: &mut Vec<u8>, world: &World) -> Result<(), NoM
 
 /// Appends the lines of the attempts.
 fn push_plan(alloc: Global, out: &mut Vec<u8>, world: &World) -> Result<(), NoMemory>
-    requires map { IsMap (world_value world.now).plane }
-    requires lists { length world.now.plan.lists ≡ tiles_of (world_value world.now).plane }
-    ensures { Appends out.old.items out.new.items result (lines_text (plan_lines (world_value world.now).plane world.now.plan.lists world.now.plan.origin)) }
+    requires map { IsMap (world_plane world.now) }
+    requires lists { length world.now.plan.lists ≡ tiles_of (world_plane world.now) }
+    ensures { Appends out.old.items out.new.items result (lines_text (plan_lines (world_plane world.now) world.now.plan.lists world.now.plan.origin)) }
 {
     match world.plan.origin() {
         Some((seed, count)) => {
@@ -150,7 +150,7 @@ fn push_plan(alloc: Global, out: &mut Vec<u8>, world: &World) -> Result<(), NoMe
 /// Appends the line of an atom.
 fn push_atom(out: &mut Vec<u8>, names: &[Name], placed: &Placed) -> Result<(), NoMemory>
     requires { (1 ≤ placed.now.atom.kind) × (placed.now.atom.kind ≤ length names.now) }
-    ensures { Appends out.old.items out.new.items result (ended_line (line_fields (atom_line names.now placed.now))) }
+    ensures { Appends out.old.items out.new.items result (text_of_line (atom_line names.now placed.now)) }
 {
     let name = &names[placed.atom.kind() as usize - 1];
     push_line(

@@ -4,40 +4,40 @@ ghost use Rattle.std.specs.List.{list_all, list_any};
 ghost use Rattle.draw_stream.specs.Plans.{tiles_on};
 ghost use Rattle.tile_map.specs.Plane.{IsMap, in_plane, is_live, is_on, owner_of, site};
 ghost use Rattle.world_text.specs.Drafts.{IsDraft, atom_in_range, between, in_range, off_in_range, too_many, try_in_range};
-ghost use Rattle.world_text.specs.Values.{draft_value, line_value};
+ghost use Rattle.world_text.specs.Values.{draft_plane, draft_value, line_value};
 
 use crate::draft::Draft;
 use crate::line::Line;
 
 /// Whether a number is that of a tile that is on.
 fn is_on(draft: &Draft, tile: u128) -> bool
-    requires { IsMap (draft_value draft.now).plane }
-    ensures { result ≡ is_on (draft_value draft.now).plane tile }
+    requires { IsMap (draft_plane draft.now) }
+    ensures { result ≡ is_on (draft_plane draft.now) tile }
 {
     tile < (draft.tx * draft.ty) as u128 && !draft.off[tile as usize]
 }
 
 /// Whether a site is on the plane.
 fn in_plane(draft: &Draft, x: u128, y: u128) -> bool
-    requires { IsMap (draft_value draft.now).plane }
-    ensures { result ≡ in_plane (draft_value draft.now).plane (site x y) }
+    requires { IsMap (draft_plane draft.now) }
+    ensures { result ≡ in_plane (draft_plane draft.now) (site x y) }
 {
     x < (draft.tx * draft.w) as u128 && y < (draft.ty * draft.h) as u128
 }
 
 /// The tile whose rectangle has a site.
 fn owner(draft: &Draft, x: u32, y: u32) -> u32
-    requires shape { IsMap (draft_value draft.now).plane }
+    requires shape { IsMap (draft_plane draft.now) }
     requires site { (x < 512) × (y < 512) }
-    ensures { result ≡ owner_of (draft_value draft.now).plane (site x y) }
+    ensures { result ≡ owner_of (draft_plane draft.now) (site x y) }
 {
     y / draft.h * draft.tx + x / draft.w
 }
 
 /// The tile whose rectangle has a site, if the site is live.
 fn live_owner(draft: &Draft, x: u128, y: u128) -> Option<u32>
-    requires { IsMap (draft_value draft.now).plane }
-    ensures { result ≡ (if is_live (draft_value draft.now).plane (site x y) then Some (owner_of (draft_value draft.now).plane (site x y)) else None) }
+    requires { IsMap (draft_plane draft.now) }
+    ensures { result ≡ (if is_live (draft_plane draft.now) (site x y) then Some (owner_of (draft_plane draft.now) (site x y)) else None) }
 {
     if !in_plane(draft, x, y) {
         return None;
@@ -52,7 +52,7 @@ fn live_owner(draft: &Draft, x: u128, y: u128) -> Option<u32>
 
 /// How many tiles are on.
 fn on_count(draft: &Draft) -> usize
-    ensures { result ≡ tiles_on (draft_value draft.now).plane.off }
+    ensures { result ≡ tiles_on (draft_plane draft.now).off }
 {
     draft.off.iter().filter(|o| !**o).count()
 }
@@ -72,8 +72,8 @@ fn is_off_from(off: &[bool], from: usize) -> bool
 
 /// Whether a tile may be switched off by the next `off` line.
 fn off_in_range(draft: &Draft, tile: u128) -> bool
-    requires { IsMap (draft_value draft.now).plane }
-    ensures { result ≡ off_in_range (draft_value draft.now).plane tile }
+    requires { IsMap (draft_plane draft.now) }
+    ensures { result ≡ off_in_range (draft_plane draft.now) tile }
 {
     tile < (draft.tx * draft.ty) as u128
         && !is_off_from(draft.off.as_slice(), tile as usize)
@@ -82,8 +82,8 @@ fn off_in_range(draft: &Draft, tile: u128) -> bool
 
 /// Whether an attempt is one of its tile.
 fn try_in_range(draft: &Draft, tile: u128, x: u128, y: u128, seed: u64) -> bool
-    requires { IsMap (draft_value draft.now).plane }
-    ensures { result ≡ try_in_range (draft_value draft.now).plane tile x y seed }
+    requires { IsMap (draft_plane draft.now) }
+    ensures { result ≡ try_in_range (draft_plane draft.now) tile x y seed }
 {
     match live_owner(draft, x, y) {
         Some(owner) => owner as u128 == tile,
@@ -93,16 +93,16 @@ fn try_in_range(draft: &Draft, tile: u128, x: u128, y: u128, seed: u64) -> bool
 
 /// Whether an atom is on a live site and its state fits.
 fn atom_in_range(draft: &Draft, x: u128, y: u128, state: u128) -> bool
-    requires { IsMap (draft_value draft.now).plane }
-    ensures { result ≡ atom_in_range (draft_value draft.now).plane x y state }
+    requires { IsMap (draft_plane draft.now) }
+    ensures { result ≡ atom_in_range (draft_plane draft.now) x y state }
 {
     live_owner(draft, x, y).is_some() && state < 1u128 << 71
 }
 
 /// Whether all are numbers of tiles that are on.
 fn are_on(draft: &Draft, tiles: &[u128]) -> bool
-    requires { IsMap (draft_value draft.now).plane }
-    ensures { result ≡ list_all (is_on (draft_value draft.now).plane) tiles.now }
+    requires { IsMap (draft_plane draft.now) }
+    ensures { result ≡ list_all (is_on (draft_plane draft.now)) tiles.now }
 {
     tiles.iter().all(|t| is_on(draft, *t))
 }
@@ -117,8 +117,8 @@ fn between(low: u128, high: u128, n: u128) -> bool
 /// Whether the numbers of a line are in their ranges.
 #[tactic(auto, unfolding(crate::specs::Drafts::in_range))]
 pub(crate) fn in_range(draft: &Draft, line: &Line) -> bool
-    requires { IsMap (draft_value draft.now).plane }
-    ensures { result ≡ in_range (draft_value draft.now).plane (line_value line.now) }
+    requires { IsMap (draft_plane draft.now) }
+    ensures { result ≡ in_range (draft_plane draft.now) (line_value line.now) }
 {
     match line {
         Line::Header { .. } => true,

@@ -49,6 +49,7 @@ impl RawWorld {
     pub(crate) fn laws(&self)
         ensures { IsDraft self.now }
     {
+        // The proof takes what holds of the draft from this reading of it.
         let _ = &self.draft;
     }
 

@@ -1,5 +1,5 @@
 //! Taking one line after others.
-ghost use Rattle.std.specs.Prelude.{◌≡◌, ◌≤◌, ◌<◌, ◌++◌, All, IfOk, Some, length, option_map, true, false};
+ghost use Rattle.std.specs.Prelude.{◌≡◌, ◌≤◌, ◌<◌, ◌++◌, All, IsTrue, OnOk, Some, length, option_map};
 ghost use Rattle.std.specs.List.{list_all};
 ghost use Rattle.tile_map.specs.Plane.{is_on};
 ghost use Rattle.world_text.specs.Drafts.{IsDraft, in_range, put, step, too_many};
@@ -7,7 +7,7 @@ ghost use Rattle.world_text.specs.Line.{is_number};
 ghost use Rattle.world_text.specs.Forms.{line_of};
 ghost use Rattle.world_text.specs.Line.{atom, order, tiles, try};
 ghost use Rattle.world_text.specs.Reading.{Steps, line_step};
-ghost use Rattle.world_text.specs.Values.{draft_value, line_value};
+ghost use Rattle.world_text.specs.Values.{draft_plane, draft_value, line_value};
 
 use crate::draft::{Draft, RawAtom, empty_lists};
 use crate::fault::WorldFault;
@@ -26,7 +26,7 @@ fn put_try(draft: &mut Draft, tile: u32, x: u32, y: u32, seed: u64) -> Result<()
     requires tile { tile < length draft.old.tries.items }
     requires site { (x < 512) × (y < 512) }
     requires few { draft.old.made < 1000000 }
-    ensures { IfOk result (λ _. draft_value draft.new ≡ put 0 (draft_value draft.old) (try tile x y seed)) }
+    ensures { OnOk result (draft_value draft.new ≡ put 0 (draft_value draft.old) (try tile x y seed)) }
 {
     let centre = y % draft.h * draft.w + x % draft.w;
     draft.tries[tile as usize].push(Attempt { centre, seed })?;
@@ -46,7 +46,7 @@ fn put_atom(
     name: &[u8],
     state: u128,
 ) -> Result<(), NoMemory>
-    ensures { IfOk result (λ _. draft_value draft.new ≡ put line (draft_value draft.old) (atom x y name.now state)) }
+    ensures { OnOk result (draft_value draft.new ≡ put line (draft_value draft.old) (atom x y name.now state)) }
 {
     let name = Name::new(alloc, name)?;
     draft.atoms.push(RawAtom {
@@ -63,7 +63,7 @@ fn put_atom(
 /// Appends numbers of tiles.
 fn push_tiles(order: &mut Vec<u32>, tiles: &[u128]) -> Result<(), NoMemory>
     requires { All (λ t. t < 64) tiles.now }
-    ensures { IfOk result (λ _. order.new.items ≡ order.old.items ++ tiles.now) }
+    ensures { OnOk result (order.new.items ≡ order.old.items ++ tiles.now) }
 {
     for t in tiles {
         order.push(*t as u32)?;
@@ -74,9 +74,9 @@ fn push_tiles(order: &mut Vec<u32>, tiles: &[u128]) -> Result<(), NoMemory>
 /// Adds tiles to the order.
 #[tactic(auto, unfolding(crate::specs::Drafts::put))]
 fn put_order(draft: &mut Draft, tiles: &[u128]) -> Result<(), NoMemory>
-    requires tiles { list_all (is_on (draft_value draft.old).plane) tiles.now ≡ true }
+    requires tiles { IsTrue (list_all (is_on (draft_plane draft.old)) tiles.now) }
     requires shape { IsDraft (draft_value draft.old) }
-    ensures { IfOk result (λ _. draft_value draft.new ≡ put 0 (draft_value draft.old) (order tiles.now)) }
+    ensures { OnOk result (draft_value draft.new ≡ put 0 (draft_value draft.old) (order tiles.now)) }
 {
     push_tiles(&mut draft.order, tiles)?;
     draft.last = Kind::Order;
@@ -87,7 +87,7 @@ fn put_order(draft: &mut Draft, tiles: &[u128]) -> Result<(), NoMemory>
 #[tactic(auto, unfolding(crate::specs::Drafts::put))]
 fn put_tiles(alloc: Global, draft: &mut Draft, tx: u32, ty: u32) -> Result<(), NoMemory>
     requires { (tx ≤ 8) × (ty ≤ 8) }
-    ensures { IfOk result (λ _. draft_value draft.new ≡ put 0 (draft_value draft.old) (tiles tx ty)) }
+    ensures { OnOk result (draft_value draft.new ≡ put 0 (draft_value draft.old) (tiles tx ty)) }
 {
     let count = (tx * ty) as usize;
     draft.off = Vec::from_elem(alloc, false, count)?;
@@ -102,9 +102,9 @@ fn put_tiles(alloc: Global, draft: &mut Draft, tx: u32, ty: u32) -> Result<(), N
 #[tactic(auto, unfolding(crate::specs::Drafts::put, crate::specs::Drafts::in_range, crate::specs::Drafts::too_many))]
 fn put_number(draft: &mut Draft, line: &Line)
     requires shape { IsDraft (draft_value draft.old) }
-    requires range { in_range (draft_value draft.old).plane (line_value line.now) ≡ true }
-    requires few { too_many (draft_value draft.old) (line_value line.now) ≡ false }
-    requires number { is_number (line_value line.now) ≡ true }
+    requires range { IsTrue (in_range (draft_plane draft.old) (line_value line.now)) }
+    requires few { IsFalse (too_many (draft_value draft.old) (line_value line.now)) }
+    requires number { IsTrue (is_number (line_value line.now)) }
     ensures { draft_value draft.new ≡ put 0 (draft_value draft.old) (line_value line.now) }
 {
     match line {
@@ -135,9 +135,9 @@ fn put_count(draft: &mut Draft, count: u64)
 #[tactic(auto, unfolding(crate::specs::Drafts::put, crate::specs::Drafts::in_range, crate::specs::Drafts::too_many))]
 fn put(alloc: Global, draft: &mut Draft, n: u64, line: &Line) -> Result<(), NoMemory>
     requires shape { IsDraft (draft_value draft.old) }
-    requires range { in_range (draft_value draft.old).plane (line_value line.now) ≡ true }
-    requires few { too_many (draft_value draft.old) (line_value line.now) ≡ false }
-    ensures { IfOk result (λ _. draft_value draft.new ≡ put n (draft_value draft.old) (line_value line.now)) }
+    requires range { IsTrue (in_range (draft_plane draft.old) (line_value line.now)) }
+    requires few { IsFalse (too_many (draft_value draft.old) (line_value line.now)) }
+    ensures { OnOk result (draft_value draft.new ≡ put n (draft_value draft.old) (line_value line.now)) }
 {
     match line {
         Line::Try { tile, x, y, seed } => put_try(draft, *tile as u32, *x as u32, *y as u32, *seed),

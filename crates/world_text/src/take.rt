@@ -1,6 +1,6 @@
 //! What the text of a line says.
-ghost use Rattle.std.specs.Prelude.{◌≡◌, option_map, option_copied, IfOk};
-ghost use Rattle.text_lines.specs.Fields.{args_of};
+ghost use Rattle.std.specs.Prelude.{◌≡◌, option_map, IfOk};
+ghost use Rattle.text_lines.specs.Fields.{fields_left};
 ghost use Rattle.world_text.specs.Forms.{atom_form, line_of, name_state, numbers_of, order_form, short_form, state_of, try_form, version_form};
 ghost use Rattle.world_text.specs.Values.{line_value};
 
@@ -13,7 +13,7 @@ use text_lines::{
 
 /// A `try` line.
 fn try_form<'a>(args: Option<&'a [u8]>) -> Option<Line<'a>>
-    ensures { option_map line_value result ≡ try_form (args_of (option_copied args.entry)) }
+    ensures { option_map line_value result ≡ try_form (fields_left args.entry) }
 {
     let (tile, rest) = take_number(args)?;
     let (x, rest) = take_number(rest)?;
@@ -25,7 +25,7 @@ fn try_form<'a>(args: Option<&'a [u8]>) -> Option<Line<'a>>
 /// The state that the fields after a name say: 0 if there are none.
 #[tactic(auto, using(crate::proofs::Takes::state_some), unfolding(crate::specs::Forms::state_of))]
 fn state_of(args: Option<&[u8]>) -> Option<u128>
-    ensures { result ≡ state_of (args_of (option_copied args.entry)) }
+    ensures { result ≡ state_of (fields_left args.entry) }
 {
     match args {
         None => Some(0),
@@ -36,7 +36,7 @@ fn state_of(args: Option<&[u8]>) -> Option<u128>
 /// The name of a type, and perhaps a state.
 #[tactic(auto, unfolding(crate::specs::Forms::name_state))]
 fn name_state(args: Option<&[u8]>) -> Option<(&[u8], u128)>
-    ensures { option_map (λ r. (r.0.now, r.1)) result ≡ name_state (args_of (option_copied args.entry)) }
+    ensures { option_map (λ r. (r.0.now, r.1)) result ≡ name_state (fields_left args.entry) }
 {
     let (name, rest) = first_field(args?);
     if is_type_name(name) {
@@ -49,7 +49,7 @@ fn name_state(args: Option<&[u8]>) -> Option<(&[u8], u128)>
 
 /// An `atom` line.
 fn atom_form<'a>(args: Option<&'a [u8]>) -> Option<Line<'a>>
-    ensures { option_map line_value result ≡ atom_form (args_of (option_copied args.entry)) }
+    ensures { option_map line_value result ≡ atom_form (fields_left args.entry) }
 {
     let (x, rest) = take_number(args)?;
     let (y, rest) = take_number(rest)?;
@@ -59,7 +59,7 @@ fn atom_form<'a>(args: Option<&'a [u8]>) -> Option<Line<'a>>
 
 /// The numbers that the fields are.
 fn numbers(alloc: Global, args: Option<&[u8]>) -> Result<Option<Vec<u128>>, NoMemory>
-    ensures { IfOk result (λ o. option_map (λ v. v.items) o ≡ numbers_of (args_of (option_copied args.entry))) }
+    ensures { IfOk result (λ o. option_map (λ v. v.items) o ≡ numbers_of (fields_left args.entry)) }
 {
     let mut found = Vec::new(alloc);
     let mut left = args;
@@ -77,7 +77,7 @@ fn numbers(alloc: Global, args: Option<&[u8]>) -> Result<Option<Vec<u128>>, NoMe
 /// An `order` line: one or more numbers, or `seed` and a number.
 #[tactic(auto, unfolding(crate::specs::Forms::order_form))]
 fn order_form<'a>(alloc: Global, args: Option<&'a [u8]>) -> Result<Option<Line<'a>>, NoMemory>
-    ensures { IfOk result (λ o. option_map line_value o ≡ order_form (args_of (option_copied args.entry))) }
+    ensures { IfOk result (λ o. option_map line_value o ≡ order_form (fields_left args.entry)) }
 {
     let Some(text) = args else {
         return Ok(None);
@@ -97,7 +97,7 @@ fn order_form<'a>(alloc: Global, args: Option<&'a [u8]>) -> Result<Option<Line<'
 
 /// A header.
 fn version_form<'a>(args: Option<&'a [u8]>) -> Option<Line<'a>>
-    ensures { option_map line_value result ≡ version_form (args_of (option_copied args.entry)) }
+    ensures { option_map line_value result ≡ version_form (fields_left args.entry) }
 {
     let version = one_field(args)?;
     if version == b"1".as_slice() {
@@ -112,7 +112,7 @@ fn version_form<'a>(args: Option<&'a [u8]>) -> Option<Line<'a>>
 /// A line of one number or two.
 #[tactic(auto, unfolding(crate::specs::Forms::short_form))]
 fn short_form<'a>(word: &[u8], args: Option<&'a [u8]>) -> Option<Line<'a>>
-    ensures { option_map line_value result ≡ short_form word.now (args_of (option_copied args.entry)) }
+    ensures { option_map line_value result ≡ short_form word.now (fields_left args.entry) }
 {
     if word == b"off".as_slice() {
         let tile = one_number(args)?;

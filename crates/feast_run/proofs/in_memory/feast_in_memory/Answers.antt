@@ -1,5 +1,6 @@
 use Rattle.feast_run.proofs.NoFailures.{nothing_fails}
+use Rattle.feast_run.specs.Promises.{held}
 use Rattle.feast_run.proofs.in_memory.feast_in_memory.Goals as goal
 
 pub returns-clause-nothing_fails : goal.returns-clause-nothing_fails
-returns-clause-nothing_fails g c = nothing_fails _ c.args.shelf.now c.feast.new.shelf c.args.sink.now c.feast.new.sink c.feast.result c.feast.ensures.ends
+returns-clause-nothing_fails g c = nothing_fails _ (held c.args.shelf.now c.args.sink.now) (held c.feast.new.shelf c.feast.new.sink) c.feast.result c.feast.ensures.ends

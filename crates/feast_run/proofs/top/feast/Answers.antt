@@ -8,9 +8,9 @@ returns g c =
     record {
       files = c.call.ensures.files;
       ends = ends;
-      headline = headline_of _ _ _ _ _ c.call.result ends;
-      usage = usage_of _ _ _ _ _ c.call.result ends;
-      exactly = exactly_of _ _ _ _ _ c.call.result ends;
-      noted = noted_of _ _ _ _ _ c.call.result ends;
-      complete = complete_of _ _ _ _ _ c.call.result ends;
+      headline = headline_of _ _ _ c.call.result ends;
+      usage = usage_of _ _ _ c.call.result ends;
+      exactly = exactly_of _ _ _ c.call.result ends;
+      noted = noted_of _ _ _ c.call.result ends;
+      complete = complete_of _ _ _ c.call.result ends;
     }

@@ -1,6 +1,6 @@
 use Rattle.std.proofs.Common.{refl}
 use Rattle.feast_base.specs.Loading.{IsPut, IsCut}
-use Rattle.feast_base.specs.Outside.{SinkState, sink_state}
+use Rattle.feast_base.specs.Outside.{SinkState}
 use Rattle.grid_print.proofs.Putting.{underway_none, underway_more, underway_cut}
 use Rattle.grid_print.proofs.page.put_pieces.Goals as goal
 
@@ -9,16 +9,16 @@ loop-left-init g c = underway_none _ c.args.bytes.now
 
 pub loop-left-preserved : goal.loop-left-preserved
 loop-left-preserved g c =
-    let b : SinkState = sink_state g.K.Sink.written g.K.Sink.faults g.K.Sink.may_fail c.loop-left.sink in
-    let d : SinkState = sink_state g.K.Sink.written g.K.Sink.faults g.K.Sink.may_fail c.put_piece.new.sink in
+    let b : SinkState = g.K.Sink.state c.loop-left.sink in
+    let d : SinkState = g.K.Sink.state c.put_piece.new.sink in
     let piece = c.split_at.result.0.now in
     let put : IsPut b d piece = record { grows = c.in_ok-put_piece.ensures.puts.0; same = c.in_ok-put_piece.ensures.puts.1; later = c.in_ok-put_piece.ensures.later refl } in
     underway_more _ b d c.args.bytes.now c.loop-left.left.now piece c.split_at.result.1.now c.loop-left.invariant c.split_at.ensures.by_index.0 put
 
 pub returns-in_err-put_piece : goal.returns-in_err-put_piece
 returns-in_err-put_piece g c =
-    let b : SinkState = sink_state g.K.Sink.written g.K.Sink.faults g.K.Sink.may_fail c.loop-left.sink in
-    let d : SinkState = sink_state g.K.Sink.written g.K.Sink.faults g.K.Sink.may_fail c.put_piece.new.sink in
+    let b : SinkState = g.K.Sink.state c.loop-left.sink in
+    let d : SinkState = g.K.Sink.state c.put_piece.new.sink in
     let piece = c.split_at.result.0.now in
     let p = c.in_err-put_piece.ensures.puts in
     let cut : IsCut b d piece = record { front = p.0; rest = p.1; split = p.2; grows = p.3; more = p.4; cause = c.in_err-put_piece.ensures.cause refl } in

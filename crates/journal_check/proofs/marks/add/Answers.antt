@@ -1,7 +1,7 @@
 use Rattle.std.proofs.Common.{◌≡◌, ◌+◌, ◌*◌, ◌∷◌, ◌++◌, List, [], take, get_or, set, ap, sym, subst, ◌∙◌, arith}
 use Rattle.std.proofs.lemmas.List.{get_or_read, length-set}
 use Rattle.std.proofs.lemmas.Result.{IfOk-at_ok}
-use Rattle.journal_check.specs.Marks.{AddsMark}
+use Rattle.journal_check.specs.Marks.{AddsMark, is_list_of}
 use Rattle.journal_check.specs.declared.mark.Mark.{Mark}
 use Rattle.journal_check.proofs.Marking.{added}
 use Rattle.journal_check.proofs.marks.add.Goals as goal
@@ -23,6 +23,6 @@ loop-i-preserved c =
     let is : list ≡ get_or now (get_or es i 0 * n + t) [] ++ c.args.mark ∷ [] = pushed ∙ ap (λ (q : List Mark). q ++ c.args.mark ∷ []) at ∙ ap (λ q. get_or now (q * n + t) [] ++ c.args.mark ∷ []) edge in
     record {
       many = length-set now slot list ∙ c.loop-i.invariant.many;
-      adds = subst (λ q. AddsMark old (take (i + 1) es) n t c.args.mark (set now (q * n + t) list)) (sym edge)
+      adds = subst (λ q. AddsMark old (is_list_of (take (i + 1) es) n t) c.args.mark (set now (q * n + t) list)) (sym edge)
           (added old now es n t i c.args.mark list c.requires.tile c.requires.rising (omega arith) within c.loop-i.invariant.many c.loop-i.invariant.adds is);
     }

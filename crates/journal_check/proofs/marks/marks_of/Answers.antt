@@ -5,7 +5,7 @@ use Rattle.event_journal.proofs.Journals.{no_record}
 use Rattle.cell_grid.specs.declared.record.Record.{Record}
 use Rattle.tile_map.specs.Plane.{site}
 use Rattle.tile_map.specs.Edges.{pairs_of}
-use Rattle.journal_check.specs.Marks.{AddsMark, AreMarks, mark_of}
+use Rattle.journal_check.specs.Marks.{AddsMark, AreMarks, is_list_of, mark_of}
 use Rattle.journal_check.proofs.Latest.{needs_small}
 use Rattle.journal_check.proofs.Marking.{lanes_in, marks_more, no_marks}
 use Rattle.journal_check.proofs.marks.marks_of.Goals as goal
@@ -37,6 +37,6 @@ loop-k-preserved c =
     let k = c.loop-k.k in
     let r : Record = get_or records k no_record in
     let inside = c.requires k no_record c.loop-k-test.true in
-    let adds = subst (λ n. AddsMark c.loop-k.table.items c.needs-needs.result n r.tile (mark_of r) c.add.new.table.items) c.tiles-tiles.ensures.count c.in_ok-add.ensures.adds in
+    let adds = subst (λ n. AddsMark c.loop-k.table.items (is_list_of c.needs-needs.result n r.tile) (mark_of r) c.add.new.table.items) c.tiles-tiles.ensures.count c.in_ok-add.ensures.adds in
     subst (λ (q : List Record). AreMarks m q c.add.new.table.items) (sym (take_more records k no_record c.loop-k-test.true))
     (marks_more m (take k records) r c.needs-needs.result c.loop-k.table.items c.add.new.table.items c.needs-needs.ensures inside.tile c.in_ok-add.ensures.many adds c.loop-k.invariant)

@@ -3,7 +3,7 @@ use Rattle.std.proofs.lemmas.List.{get_or_default, take_more}
 use Rattle.event_journal.proofs.Journals.{no_record}
 use Rattle.cell_grid.specs.declared.record.Record.{Record}
 use Rattle.event_journal.specs.Accounts.{stamp_after}
-use Rattle.journal_check.specs.Clocks.{AreClocks, HasStamp}
+use Rattle.journal_check.specs.Clocks.{AreClocks, HasStamp, clocks_of}
 use Rattle.journal_check.proofs.Latest.{ticks_true}
 use Rattle.journal_check.proofs.stamped.misstamped.Goals as goal
 
@@ -15,7 +15,7 @@ loop-k-preserved c =
     let r : Record = get_or records k no_record in
     let t = ticks_true m (take k records) r c.tick.new.clocks.tiles.items c.tick.new.clocks.edges.items c.tick.result c.if-not-tick.false (c.tick.ensures (take k records) c.loop-k.invariant.clocks) in
     record {
-      clocks = subst (λ q. AreClocks m q c.tick.new.clocks.tiles.items c.tick.new.clocks.edges.items) (sym (take_more records k no_record c.loop-k-test.true)) t.1;
+      clocks = subst (λ q. AreClocks m q (clocks_of c.tick.new.clocks.tiles.items c.tick.new.clocks.edges.items)) (sym (take_more records k no_record c.loop-k-test.true)) t.1;
       before = below_more (HasStamp m records) k c.loop-k.invariant.before
           (λ d. subst (λ (q : Record). q.stamp ≡ stamp_after m (take k records) q) (get_or_default records k no_record d c.loop-k-test.true) t.0);
     }

@@ -3,7 +3,7 @@ use Rattle.std.specs.Prelude.{slice_index}
 use Rattle.std.proofs.lemmas.List.{get_or_read}
 use Rattle.tile_map.specs.Plane.{site}
 use Rattle.event_journal.specs.Accounts.{edges_of}
-use Rattle.journal_check.specs.Clocks.{Ticks, set_at}
+use Rattle.journal_check.specs.Clocks.{Ticks, clocks_of, set_at}
 use Rattle.journal_check.proofs.Latest.{needs_small, not_ticked, ticked, written_back}
 use Rattle.journal_check.proofs.stamped.tick.Goals as goal
 
@@ -56,4 +56,4 @@ returns c = λ before k.
     let stamp : r.stamp ≡ 1 + n = omega arith in
     let t = ticked m before tiles edges c.set.new.clocks r n c.requires.inside.tile is stamp long new k in
     let back = written_back c.args.clocks.now.edges.len c.set.new.clocks edges (omega (arith, c.args.clocks.now.edges.ok.0, long)) (omega (arith, c.args.clocks.now.edges.ok.0)) in
-    subst (λ (q : List ℕ). Ticks m before r (set tiles r.tile r.stamp) q true) (sym back) t
+    subst (λ (q : List ℕ). Ticks m before r (clocks_of (set tiles r.tile r.stamp) q) true) (sym back) t

@@ -1,5 +1,5 @@
 use Rattle.std.proofs.Common.{◌≡◌, ◌≤◌, ◌<◌, ◌+◌, ◌-◌, arith, length, subst}
-use Rattle.report_judge.specs.Rewinding.{IsAt}
+use Rattle.report_judge.specs.Rewinding.{IsAt, reel}
 use Rattle.report_judge.proofs.BackAgain.{alike_then, can_undo, taken_back}
 use Rattle.report_judge.proofs.rewinding.rewound.Goals as goal
 
@@ -13,7 +13,7 @@ undo-requires g c =
     let high : c.loop-taken._taken < n = omega arith in
     let next : n + c.args.count - c.loop-taken._taken ≡ k + 1 = omega (arith, low, high) in
     can_undo after c.args.start records k c.loop-taken.film c.loop-taken.grid (omega (arith, low, high)) c.requires.live c.loop-taken.invariant.plane
-    (subst (λ q. IsAt after c.args.start records q c.loop-taken.film c.loop-taken.grid) next c.loop-taken.invariant.at)
+    (subst (λ q. IsAt after c.args.start records q (reel c.loop-taken.film c.loop-taken.grid)) next c.loop-taken.invariant.at)
 
 pub loop-taken-preserved : goal.loop-taken-preserved
 loop-taken-preserved g c =
@@ -26,6 +26,6 @@ loop-taken-preserved g c =
     let next : n + c.args.count - c.loop-taken._taken ≡ k + 1 = omega (arith, low, high) in
     record {
       at = taken_back after c.args.start records k c.loop-taken.film c.undo.new.self c.loop-taken.grid c.undo.new.grid c.undo.result (omega (arith, low, high))
-          (subst (λ q. IsAt after c.args.start records q c.loop-taken.film c.loop-taken.grid) next c.loop-taken.invariant.at) c.undo.ensures.undoes;
+          (subst (λ q. IsAt after c.args.start records q (reel c.loop-taken.film c.loop-taken.grid)) next c.loop-taken.invariant.at) c.undo.ensures.undoes;
       plane = alike_then c.args.start c.loop-taken.grid c.undo.new.grid c.loop-taken.invariant.plane c.undo.ensures.plane;
     }

@@ -1,8 +1,6 @@
 //! The loops over a real file and a real output, with a reader and a writer that fail.
 
-use crate::file_shelf::read_whole;
-use crate::std_sink::write_whole;
-use crate::{LoadFault, SinkFailed};
+use feast_base::{LoadFault, SinkFailed, read_whole, write_whole};
 use std::io;
 use std::io::{ErrorKind, Read, Write};
 use std::test::Fail;

@@ -1,10 +1,7 @@
 //! Worked values, and each public call once.
 
-mod refusal_lines;
-mod streams;
-
-use crate::text::{push, push_hex, push_number};
-use crate::{
+use feast_base::text::{push, push_hex, push_number};
+use feast_base::{
     CountLedger, FileShelf, Gate, LoadFault, MemShelf, MemSink, Name, NoLedger, OpenGate, Shelf,
     Sink, SinkFailed, Source, StdSink, Steps, Stop, is_type_name,
 };

@@ -2,7 +2,7 @@
 
 ghost use Rattle.feast_base.specs.Refusals.{IsCode};
 
-use crate::{NoMemory, Place, Refusal, print_refusal};
+use feast_base::{NoMemory, Place, Refusal, print_refusal};
 use std::alloc::Global;
 use std::test::Fail;
 

@@ -1,0 +1,44 @@
+//! Atoms, their fields and their words.
+
+use bit_field::Atom;
+
+#[test]
+fn fields_are_counted_from_the_most_significant_bit(rt: HostRuntime) {
+    let atom = Atom::new(7, 0x55_0123_4567_89ab_cdef);
+    assert_eq!(rt; (atom.kind(), atom.state()), (7, 0x55_0123_4567_89ab_cdef));
+    let fields = [
+        (0, 1, 1),
+        (1, 1, 0),
+        (0, 7, 0x55),
+        (7, 8, 0x01),
+        (67, 4, 0xf),
+        (3, 8, 0x50),
+        (7, 64, 0x0123_4567_89ab_cdef),
+    ];
+    for (first, width, value) in fields {
+        assert_eq!(rt; atom.get(first, width), value, "{width} bits from {first}");
+    }
+}
+
+#[test]
+fn a_field_is_set_in_its_place(rt: HostRuntime) {
+    let ones = (1u128 << 71) - 1;
+    let fields = [
+        (0, 1, 0, (1u128 << 70) - 1),
+        (67, 4, 0, ones - 15),
+        (7, 64, 0, 0x7f << 64),
+        (63, 8, 0x80, ones - 127),
+    ];
+    for (first, width, value, state) in fields {
+        let mut atom = Atom::new(9, ones);
+        atom.set(first, width, value);
+        assert_eq!(rt; atom, Atom::new(9, state), "{width} bits from {first}");
+    }
+}
+
+#[test]
+fn words_have_the_type_on_top(rt: HostRuntime) {
+    let atom = Atom::new(0xabcd, 0x55_0123_4567_89ab_cdef);
+    assert_eq!(rt; atom.to_words(), (0x0123_4567_89ab_cdef, 0xabcd_0055));
+    assert_eq!(rt; Atom::from_words(0x0123_4567_89ab_cdef, 0xabcd_0055), atom);
+}
