@@ -1,9 +1,9 @@
 //! The walk through the records of a journal.
-ghost use Rattle.std.specs.Prelude.{◌≡◌, ◌<◌, ◌∷◌, [], None, MatchOption, IfOk, length, map};
+ghost use Rattle.std.specs.Prelude.{◌≡◌, ◌<◌, None, IfOk, length, map};
 ghost use Rattle.std.specs.Iterator.{YieldsFirst, item_count};
 ghost use Rattle.event_journal.specs.Logs.{is_before, records_of};
 ghost use Rattle.event_journal.specs.Merged.{least_from, merged, without};
-ghost use Rattle.event_journal.specs.Walks.{better_first, rest_of, lists_behind};
+ghost use Rattle.event_journal.specs.Walks.{TakesFirst, better_first, lists_behind, merged_behind, rest_of};
 
 use crate::log::TileLog;
 use cell_grid::Record;

@@ -7,7 +7,7 @@ ghost use Rattle.text_lines.specs.Lines.{ended_line};
 ghost use Rattle.text_lines.specs.Values.{field_text};
 ghost use Rattle.tile_map.specs.Plane.{IsMap, tiles_of};
 ghost use Rattle.world_text.specs.Line.{header, order};
-ghost use Rattle.world_text.specs.Printed.{IsNamed, IsPrintable, atom_line, lines_text, off_lines, off_one, order_lines, plan_lines, plane_lines, text_of_line, try_line, try_lines, world_text};
+ghost use Rattle.world_text.specs.Printed.{IsNamed, IsPrintable, atom_line, line_fields, lines_text, off_lines, off_one, order_lines, plan_lines, plane_lines, text_of_line, try_line, try_lines, world_text};
 ghost use Rattle.world_text.specs.Values.{order_value, world_plane, world_value};
 ghost use Rattle.world_text.specs.Named.{listed};
 ghost use Rattle.world_text.specs.declared.world.Placed.{Placed};

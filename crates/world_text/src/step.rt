@@ -1,5 +1,5 @@
 //! Taking one line after others.
-ghost use Rattle.std.specs.Prelude.{◌≡◌, ◌≤◌, ◌<◌, ◌++◌, All, IsTrue, OnOk, Some, length, option_map};
+ghost use Rattle.std.specs.Prelude.{◌≡◌, ◌≤◌, ◌<◌, ◌++◌, All, IsFalse, IsTrue, OnOk, Some, length, option_map};
 ghost use Rattle.std.specs.List.{list_all};
 ghost use Rattle.tile_map.specs.Plane.{is_on};
 ghost use Rattle.world_text.specs.Drafts.{IsDraft, in_range, put, step, too_many};
