@@ -24,7 +24,7 @@ use Rattle.serial_order.specs.Scene.{Setting, common_in, HasEnded}
 use Rattle.serial_order.specs.Outcomes.{IsMade}
 use Rattle.tile_threads.specs.declared.worker.Worker.{Worker}
 use Rattle.tile_threads.specs.Runs.{worker_value, IsReady, HasWorked, AreReady, HaveWorked, EndsMoved}
-use Rattle.tile_threads.proofs.Working.{end_stays}
+use Rattle.border_cache.proofs.Stored.{end_stays}
 use Rattle.tile_threads.specs.Passes.{passes_of, let_go, AreEdgesMade}
 use Rattle.serial_order.specs.Fresh.{AreFresh}
 use Rattle.tile_threads.specs.Whole.{worker_of, workers_of, tiles_in, IsDone, CameHome, HaveComeHome, HaveReturned}

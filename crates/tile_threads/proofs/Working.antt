@@ -5,16 +5,14 @@ use Rattle.window_sites.specs.Window.{WindowValue}
 use Rattle.tile_map.specs.Plane.{Site, MapValue}
 use Rattle.draw_stream.specs.declared.attempt.Attempt.{Attempt}
 use Rattle.edge_lock.specs.EndLists.{EndLists}
-use Rattle.edge_lock.specs.EndValues.{EndValue, SameEnd}
-use Rattle.tile_map.specs.Edges.{has_end}
-use Rattle.border_cache.specs.Windows.{end_at}
-use Rattle.border_cache.specs.Copies.{IsEndOf}
+use Rattle.edge_lock.specs.EndValues.{SameEnd}
 use Rattle.tile_core.specs.declared.phase.Phase.{Phase}
 use Rattle.tile_core.specs.declared.phase.Phase.TheVariants.{Draw, Lock, Refresh, Behave, Write, Give, Back, Finished, Worn}
 use Rattle.tile_core.specs.Values.{TileValue}
 use Rattle.tile_core.specs.Steps.{is_over}
 use Rattle.tile_core.specs.Underway.{tile_at, IsUnderway, GoesFar, InPhase}
 use Rattle.serial_order.specs.Boards.{HasStopped}
+use Rattle.border_cache.proofs.Stored.{end_stays}
 use Rattle.serial_order.proofs.Boards.{has_ended}
 use Rattle.tile_threads.specs.Runs.{is_drawing, WorkerValue, tile_in, IsReady, HasWorked}
 use Rattle.tile_core.specs.Turns.{common}
@@ -50,14 +48,6 @@ attempts_fall m meaning start attempts old new a b u v is taken =
     let was : length old.left ≡ length attempts - old.taken = ap (λ xs. length xs) u.left ∙ length-drop old.taken attempts in
     let now : length new.left ≡ length attempts - new.taken = ap (λ xs. length xs) v.left ∙ length-drop new.taken attempts in
     omega (arith, some_left, was, now, taken)
-
--- a board's end is that of a tile still where both stay
-pub end_stays : (m : MapValue) (t n : ℕ) (old new : EndValue) → n ≡ t → SameEnd old new → IsEndOf m t old → IsEndOf m n new
-end_stays m t n old new number same e = record {
-  tile_is = same.0 ∙ (e.tile_is ∙ sym number);
-  registers_are = λ d own. ap (λ (f : ℕ → ℕ). f d) same.1 ∙ e.registers_are d (ap (λ k. has_end m k d) (sym number) ∙ own);
-  end_is = λ d own. ap (λ (f : ℕ → ℕ). f d) same.2 ∙ (e.end_is d (ap (λ k. has_end m k d) (sym number) ∙ own) ∙ ap (λ k. end_at m k d) (sym number));
-}
 
 -- what a worker has done so far
 pub record SoFar (m : MapValue) (old new : WorkerValue) : Type 0 where

@@ -5,7 +5,7 @@ use Rattle.tile_core.specs.Turns.{AgreeOnEdges}
 use Rattle.tile_threads.proofs.LettingGo.{after_some}
 use Rattle.edge_lock.proofs.BoardLaws.{same_end}
 use Rattle.tile_threads.proofs.Resting.{nothing_left, next_is_held, next_is_quiet, is_edge, given_more, given_all}
-use Rattle.tile_threads.proofs.Working.{end_stays}
+use Rattle.border_cache.proofs.Stored.{end_stays}
 use Rattle.tile_threads.proofs.home.give_rest.Goals as goal
 
 pub returns-in_default-clause-lists : goal.returns-in_default-clause-lists
