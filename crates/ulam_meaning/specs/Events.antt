@@ -61,10 +61,9 @@ module _ (e : Event) (g : Program) where
 abbrev pub behave_key : Program → ℕ → Key
 behave_key g c = record { class = c; function = behave_of g c; base = 0 }
 
-module _ (e : Event) (g : Program) where
-  -- an event of the element that is class c: `behave` has 1,000 turns, no word taken, and calls nest at most 16 deep in it
-  unfoldable pub behaves : ℕ → WindowValue → Outcome Way
-  behaves c w = run_body (calls_at 16) (behave_key g c) [] 1000 (record { locals = []; window = w; taken = 0; turns = 1000 })
+-- an event of the element that is class c: `behave` has 1,000 turns, no word taken, and calls nest at most 16 deep in it
+unfoldable pub behaves : Event → Program → ℕ → WindowValue → Outcome Way
+behaves e g c w = run_body e g (calls_at e g 16) (behave_key g c) [] 1000 (record { locals = []; window = w; taken = 0; turns = 1000 })
 
 -- the window that an event leaves: on a failure the old one with Empty at site 0
 abbrev pub left_by : WindowValue → Outcome Way → WindowValue
