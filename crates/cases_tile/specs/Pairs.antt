@@ -11,8 +11,8 @@ use Rattle.tile_core.specs.Boards.{IsBoardOf, IsOnBoard}
 use Rattle.cases_tile.specs.declared.pair.Pair.{Pair}
 
 -- tile t has only been made, with some atoms and some attempts
-abbrev pub IsNew : MapValue → ℕ → TileValue → Type 0
-IsNew m t tile = (at_first : Site → AtomValue) × (attempts : List Attempt) × IsFreshTile m t at_first attempts tile
+abbrev pub IsJustMade : MapValue → ℕ → TileValue → Type 0
+IsJustMade m t tile = (at_first : Site → AtomValue) × (attempts : List Attempt) × IsFreshTile m t at_first attempts tile
 
 -- each tile with another number that is underway on the old board is underway on the new one
 abbrev pub OthersStayOn : MapValue → ℕ → PlainBoardValue → PlainBoardValue → Type 0

@@ -4,7 +4,7 @@ ghost use Rattle.tile_map.specs.Plane.{whole_plane};
 ghost use Rattle.border_cache.specs.Copies.{IsGridOf};
 ghost use Rattle.cell_grid.specs.Tried.{after_turn};
 ghost use Rattle.tile_core.specs.Boards.{IsBoardOf, IsOnBoard};
-ghost use Rattle.cases_tile.specs.Pairs.{IsNew, OthersStayOn, IsPair};
+ghost use Rattle.cases_tile.specs.Pairs.{IsJustMade, OthersStayOn, IsPair};
 
 use crate::alone::Turn;
 use crate::counted::CountedBoard;
@@ -61,7 +61,7 @@ fn tile(
     requires start { IsGridOf map.now start.now }
     requires number { number < 2 }
     requires centre { centre < 256 }
-    ensures { IfOk result (λ t. IsNew map.now number t.core) }
+    ensures { IfOk result (λ t. IsJustMade map.now number t.core) }
 {
     let list = vec![in alloc; Attempt { centre, seed: 0 }]?;
     let plan = AttemptPlan::scripted(vec![in alloc; Script::new(list)]?);
