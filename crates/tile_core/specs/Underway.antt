@@ -112,9 +112,9 @@ module _ (c : Common) (attempts : List Attempt) (turns : List Turn) (now : TileA
   abbrev pub HasGot : List ℕ → Type 0
   HasGot edges = HasOpen c.map turns now edges no_access
 
-  -- the attempt in hand has all its edges, and P is true of what it has read and written there
-  abbrev pub Holding : ((ℕ → List Access) → Type 0) → Type 0
-  Holding P = (accesses : ℕ → List Access) × HasOpen c.map turns now now.tile.needs accesses × P accesses
+  -- the attempt in hand has all its edges, and has read and written this there
+  abbrev pub HasAll : (ℕ → List Access) → Type 0
+  HasAll accesses = HasOpen c.map turns now now.tile.needs accesses
 
   -- the last turn had these edges, and gives them back one by one
   abbrev pub GivesBack : List ℕ → Type 0
@@ -125,11 +125,11 @@ module _ (c : Common) (attempts : List Attempt) (turns : List Turn) (now : TileA
   InPhase Finished = AllAreTurns × (now.tile.left ≡ []) × NoneIsOpen
   InPhase Lock = IsInHand × (now.tile.next < length now.tile.needs) × HasGot (take now.tile.next now.tile.needs)
   InPhase Refresh = IsInHand × HasGot now.tile.needs
-  InPhase Behave = IsInHand × Holding (λ a. IsRead c.map now.tile a × IsUpToDate c turns now.tile a)
-  InPhase Write = IsInHand × Holding (λ a. IsRead c.map now.tile a × IsRun c turns now.tile a)
+  InPhase Behave = IsInHand × ((a : ℕ → List Access) × HasAll a × IsRead c.map now.tile a × IsUpToDate c turns now.tile a)
+  InPhase Write = IsInHand × ((a : ℕ → List Access) × HasAll a × IsRead c.map now.tile a × IsRun c turns now.tile a)
   InPhase Give = AllAreTurns × (now.tile.next < length now.tile.needs) × GivesBack now.tile.needs
   InPhase Back = AllAreTurns × (now.tile.next < now.tile.count) × (now.tile.count ≤ length now.tile.needs) × IsBack turns × GivesBack (take now.tile.count now.tile.needs)
-  InPhase Worn = IsInHand × Holding (λ a. IsSpent turns now.tile a)
+  InPhase Worn = IsInHand × ((a : ℕ → List Access) × HasAll a × IsSpent turns now.tile a)
 
 -- whether the window of the attempt in hand was refreshed, and its event is not yet written
 abbrev pub is_refreshed : Phase → Bool
