@@ -109,7 +109,7 @@ module _ (c : CodeValue) (g : FunctionValue) (end : ℕ) (ks : List Key) (n : Se
   leads_by p ls i x at fit here e =
       ap (ex p) here.0
       ∙ ap (ex_by (around c g end) p ls) at
-      ∙ ap (λ (b : Bool). if b then (if nat_le (length ls) 512 then exits (around c g end) p (sort i) ls else None) else None) fit
+      ∙ ap (λ (b : Bool). if b && nat_le (length ls) 512 then exits (around c g end) p (sort i) ls else None) fit
       ∙ ap (λ (b : Bool). if b then exits (around c g end) p (sort i) ls else None) (le-leb (length ls) 512 here.1)
       ∙ e
 
