@@ -68,7 +68,7 @@ kind_fits kind w (negsuc m) le low high = grind (arith, ints)
 -- a constant's value
 pub value_fits : (num : NumType) (v : ℤ) → type_fits num ≡ true → in_range num v ≡ true → number_fits v ≡ true
 value_fits num v h range =
-    let w = low_high (nat_le (least_width num.kind) num.width) (nat_le num.width (greatest_width num.kind)) h in
+    let w = both (nat_le (least_width num.kind) num.width) (nat_le num.width (greatest_width num.kind)) h in
     let p = both (int_le (least num.kind num.width) v) (int_le v (greatest num.kind num.width)) range in
     kind_fits num.kind num.width v (most_bits num.kind num.width (leb-true num.width (greatest_width num.kind) w.1)) p.0 p.1
 
