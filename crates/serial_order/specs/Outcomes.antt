@@ -20,10 +20,6 @@ use Rattle.serial_order.specs.declared.blank.Area.{Area}
 abbrev pub values_of : {B : Type 0} → List (TileWith B) → List TileValue
 values_of tiles = map (λ t. t.core) tiles
 
--- the tile was made with this map, and in some way it is underway
-abbrev pub IsMade : MapValue → TileValue → Type 0
-IsMade m tile = (meaning : WindowValue → ℕ → WindowValue) × (lists : ℕ → EndLists) × IsSome m meaning tile lists
-
 -- these tiles and edges at the end, and from what they started
 abbrev pub scene_of : MapValue → List TileValue → List EdgeHistory → Setting → Scene
 scene_of m tiles edges g = record { map = m; meaning = g.meaning; start = g.start; plan = g.plan; tiles = tiles; edges = edges }
