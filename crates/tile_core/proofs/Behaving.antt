@@ -74,7 +74,7 @@ module _ (m : MapValue) (meaning : WindowValue → ℕ → WindowValue) (start :
         (
           p.0,
           p.1,
-          p.2,
+          record { clock = p.2.clock; reads = p.2.reads; is = p.2.is; refresh = p.2.refresh; honest = p.2.honest },
           record {
             after = pick m c w 41;
             view = r.view;
