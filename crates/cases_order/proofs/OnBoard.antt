@@ -14,11 +14,11 @@ use Rattle.draw_stream.specs.Plans.{IsPlan, attempts}
 use Rattle.edge_lock.specs.PlainBoard.{PlainBoardValue, acting_end, lists_on, lists_of_tile, untouched_edge, Moved}
 use Rattle.border_cache.specs.Copies.{IsGridOf, IsEndOf}
 use Rattle.tile_core.specs.Values.{TileWith, TileValue, atoms_of}
-use Rattle.tile_core.specs.Underway.{tile_at, IsUnderway, IsSome, IsFreshTile, GoesOn}
+use Rattle.tile_core.specs.Underway.{tile_at, IsUnderway, IsSome, IsFreshTile, GoesOn, IsMade}
 use Rattle.tile_core.specs.Boards.{IsBoardOf}
 use Rattle.tile_core.proofs.Boards.{board_moved, board_turned, lists_turned, board_end, others_stay, board_new, fresh_there}
 use Rattle.serial_order.specs.Boards.{HasStopped, HaveStopped}
-use Rattle.serial_order.specs.Outcomes.{IsMade, values_of, AreOver}
+use Rattle.serial_order.specs.Outcomes.{values_of, AreOver}
 use Rattle.serial_order.specs.Words.{histories_on}
 use Rattle.serial_order.proofs.Boards.{over}
 use Rattle.cases_order.specs.Driven.{AreMade, IsTileOn, IsDriven}

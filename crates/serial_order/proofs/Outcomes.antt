@@ -12,9 +12,10 @@ use Rattle.tile_core.specs.Values.{TileWith, TileValue}
 use Rattle.serial_order.specs.Scene.{EdgeHistory, registers_at, log_of_tile, logs_of}
 use Rattle.serial_order.specs.Settled.{IsSettled}
 use Rattle.serial_order.specs.Order.{StampsAreSmall, Leads}
-use Rattle.serial_order.specs.Outcomes.{values_of, IsMade, scene_of, AreOver, Settles, AreTilesOf}
+use Rattle.serial_order.specs.Outcomes.{values_of, scene_of, AreOver, Settles, AreTilesOf}
 use Rattle.serial_order.specs.declared.outcome.Outcome.{Outcome}
 use Rattle.serial_order.proofs.Promises.{one_order}
+use Rattle.tile_core.specs.Underway.{IsMade}
 
 tile_of : {B : Type 0} (m : MapValue) (tiles : List (TileWith B)) (t : ℕ) (tile : TileValue) → All (λ y. IsMade m y.core) tiles → slice_get (values_of tiles) t ≡ Some tile → IsMade m tile
 tile_of {B} m tiles t tile all is = go (slice_get tiles t) refl

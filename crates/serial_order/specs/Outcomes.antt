@@ -1,16 +1,13 @@
 -- What a run is settled from, and the result.
 use Rattle.std.specs.Prelude.{ℕ, ◌≡◌, ◌<◌, ◌*◌, ◌+◌, ◌||◌, ◌/◌, ◌%◌, true, false, List, All, length, map, slice_get, slice_index_or, replicate, nat_le, Some}
 use Rattle.bit_field.specs.Atom.{empty_atom}
-use Rattle.window_sites.specs.Window.{WindowValue}
 use Rattle.tile_map.specs.Plane.{Site, MapValue, site, tiles_of, is_on, is_live, owner_of}
 use Rattle.cell_grid.specs.Grid.{GridValue, IsGrid, ArePlanesAlike, site_atom}
 use Rattle.cell_grid.specs.Records.{replay}
-use Rattle.edge_lock.specs.EndLists.{EndLists}
 use Rattle.event_journal.specs.Logs.{records_in, abandoned_in}
 use Rattle.event_journal.specs.Accounts.{IsAccounted, IsStamped, AreExcused}
 use Rattle.border_cache.specs.Copies.{IsGridOf}
 use Rattle.tile_core.specs.Values.{TileWith, TileValue}
-use Rattle.tile_core.specs.Underway.{IsSome}
 use Rattle.serial_order.specs.Scene.{EdgeHistory, Scene, Setting, IsOver, logs_of}
 use Rattle.serial_order.specs.Order.{NoneIsWorn, StampsAreSmall, TiesAreApart, Leads, HasNoNews}
 use Rattle.serial_order.specs.declared.outcome.Outcome.{Outcome}
@@ -19,10 +16,6 @@ use Rattle.serial_order.specs.declared.blank.Area.{Area}
 -- the values of tiles, without what acts on them
 abbrev pub values_of : {B : Type 0} → List (TileWith B) → List TileValue
 values_of tiles = map (λ t. t.core) tiles
-
--- the tile was made with this map, and in some way it is underway
-abbrev pub IsMade : MapValue → TileValue → Type 0
-IsMade m tile = (meaning : WindowValue → ℕ → WindowValue) × (lists : ℕ → EndLists) × IsSome m meaning tile lists
 
 -- these tiles and edges at the end, and from what they started
 abbrev pub scene_of : MapValue → List TileValue → List EdgeHistory → Setting → Scene

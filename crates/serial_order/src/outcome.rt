@@ -1,10 +1,11 @@
 //! Settling: what tiles that are over leave, as one grid and one journal.
 ghost use Rattle.std.specs.Prelude.{◌≡◌, ◌<◌, ◌*◌, All, IfOk};
 ghost use Rattle.tile_map.specs.Plane.{site};
-ghost use Rattle.serial_order.specs.Outcomes.{AreOver, AreTilesOf, ChangesSite, IsMade, IsPlaneGrid, Settles, values_of};
+ghost use Rattle.serial_order.specs.Outcomes.{AreOver, AreTilesOf, ChangesSite, IsPlaneGrid, Settles, values_of};
 ghost use Rattle.serial_order.specs.Scene.{logs_of, registers_at};
 ghost use Rattle.serial_order.specs.Settled.{IsSettled, IsSettledAt};
 ghost use Rattle.serial_order.specs.Words.{AreEdgeWords};
+ghost use Rattle.tile_core.specs.Underway.{IsMade};
 
 use crate::blank::blank_grid;
 use crate::newest::settled_atom;

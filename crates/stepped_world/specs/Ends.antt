@@ -16,12 +16,12 @@ use Rattle.event_journal.specs.Logs.{LogValue, log_of, records_in, of_tile, aban
 use Rattle.serial_order.specs.Scene.{Setting, common_in, EdgeHistory, IsOver, logs_of, registers_at}
 use Rattle.serial_order.specs.Settled.{IsSettled}
 use Rattle.serial_order.specs.Words.{plain_words, AreEdgeWords, histories_on}
-use Rattle.serial_order.specs.Outcomes.{IsMade, IsSettlement, scene_of, values_of}
+use Rattle.serial_order.specs.Outcomes.{IsSettlement, scene_of, values_of}
 use Rattle.serial_order.specs.declared.outcome.Outcome.{Outcome}
 use Rattle.stepped_world.specs.Machine.{Done, Machine, stepped}
 use Rattle.stepped_world.specs.Matching.{Matches}
 use Rattle.stepped_world.specs.Running.{IsStart}
-use Rattle.tile_core.specs.Underway.{made_by}
+use Rattle.tile_core.specs.Underway.{made_by, IsMade}
 
 -- tile t has played all its attempts of the plan, and keeps its number and its map
 pub record HasFinished (m : MapValue) (g : Setting) (board : PlainBoardValue) (t : ℕ) (tile : TileValue) : Type 0 where

@@ -18,10 +18,9 @@ use Rattle.tile_core.specs.declared.phase.Phase.TheVariants.{Draw, Lock, Refresh
 use Rattle.tile_core.specs.Values.{TileWith, TileValue, atoms_of}
 use Rattle.tile_core.specs.Steps.{is_over}
 use Rattle.tile_core.specs.Turns.{common, Turn}
-use Rattle.tile_core.specs.Underway.{tile_at, InPhase, IsGiving, IsFreshTile}
+use Rattle.tile_core.specs.Underway.{tile_at, InPhase, IsGiving, IsFreshTile, IsMade}
 use Rattle.tile_core.proofs.Boards.{end_known}
 use Rattle.serial_order.specs.Scene.{Setting, common_in, HasEnded}
-use Rattle.serial_order.specs.Outcomes.{IsMade}
 use Rattle.tile_threads.specs.declared.worker.Worker.{Worker}
 use Rattle.tile_threads.specs.Runs.{worker_value, IsReady, HasWorked, AreReady, HaveWorked, EndsMoved}
 use Rattle.border_cache.proofs.Stored.{end_stays}

@@ -10,11 +10,11 @@ use Rattle.edge_lock.specs.SharedEnds.{SharedEndValue, shared_end_value, edge_an
 use Rattle.border_cache.specs.Copies.{IsEndOf}
 use Rattle.tile_core.specs.Values.{TileWith, TileValue}
 use Rattle.tile_core.specs.Turns.{AgreeOnEdges}
-use Rattle.tile_core.specs.Underway.{IsSome}
+use Rattle.tile_core.specs.Underway.{IsSome, IsMade}
 use Rattle.serial_order.specs.Scene.{Setting, common_in, IsOver, HasEnded}
 use Rattle.serial_order.specs.Words.{closed_words, AreEdgeWords, closed_histories}
 use Rattle.serial_order.specs.Boards.{HasStopped}
-use Rattle.serial_order.specs.Outcomes.{IsMade, scene_of, values_of}
+use Rattle.serial_order.specs.Outcomes.{scene_of, values_of}
 use Rattle.tile_threads.specs.declared.worker.Worker.{Worker}
 use Rattle.tile_threads.specs.Passes.{passes_of, shared_edges, let_go, AreLeft}
 

@@ -1,7 +1,8 @@
 use Rattle.std.proofs.Common.{◌≡◌, ◌++◌, All}
 use Rattle.serial_order.specs.Scene.{logs_of}
-use Rattle.serial_order.specs.Outcomes.{IsMade, values_of}
+use Rattle.serial_order.specs.Outcomes.{values_of}
 use Rattle.serial_order.proofs.outcome.logs.Given as goal
+use Rattle.tile_core.specs.Underway.{IsMade}
 
 abbrev pub invariant-loop-tile : goal.invariant-loop-tile
 invariant-loop-tile g l = record {

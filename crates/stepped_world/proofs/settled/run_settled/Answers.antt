@@ -4,10 +4,11 @@ use Rattle.list_laws.proofs.Slots.{take_over}
 use Rattle.tile_core.specs.Values.{TileWith}
 use Rattle.serial_order.specs.Scene.{Setting, IsOver}
 use Rattle.serial_order.specs.Words.{histories_on}
-use Rattle.serial_order.specs.Outcomes.{IsMade, scene_of, values_of, Settles}
+use Rattle.serial_order.specs.Outcomes.{scene_of, values_of, Settles}
 use Rattle.stepped_world.specs.Running.{IsStart}
 use Rattle.stepped_world.proofs.Whole.{outcome_is}
 use Rattle.stepped_world.proofs.settled.run_settled.Goals as goal
+use Rattle.tile_core.specs.Underway.{IsMade}
 
 pub settle-requires-clause-made : goal.settle-requires-clause-made
 settle-requires-clause-made g c =
