@@ -46,10 +46,6 @@ allowed_fits kind v h =
     let w = between (least_width kind) (widest_of kind) v p.0 p.1 in
     wide_type kind (unsigned_abs v) w.0 (subst (λ m. unsigned_abs v ≤ m) (same_widest kind) w.1)
 
-low_high : (a b : Bool) → cond a b false ≡ true → (a ≡ true) × (b ≡ true)
-low_high true b h = (refl, h)
-low_high false b h = cc
-
 -- no kind has more than 64 bits
 most_bits : (kind : Kind) (w : ℕ) → w ≤ greatest_width kind → w ≤ 64
 most_bits k.Bool w e = omega (arith, e)
