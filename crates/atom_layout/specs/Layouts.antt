@@ -1,5 +1,5 @@
 -- How many bits data members take, and where they lie.
-use Rattle.std.specs.Prelude.{ℕ, zero, suc, ◌*◌, ◌-◌, ◌^◌, List, [], ◌∷◌, length, map, flat_map, get_or, take, sum, slice_get, min, Option, Some, None, if◌then◌else◌, nat_lt}
+use Rattle.std.specs.Prelude.{ℕ, zero, suc, ◌*◌, ◌-◌, ◌^◌, ◌≡◌, List, [], ◌∷◌, length, map, flat_map, get_or, take, sum, slice_get, min, Option, Some, None, if◌then◌else◌, nat_lt}
 use Rattle.std.specs.Option.{option_map_or, option_or}
 use Rattle.ulam_tree.specs.declared.resolved.Ty.{Ty}
 use Rattle.ulam_tree.specs.declared.resolved.Ty.TheVariants as y
@@ -13,7 +13,7 @@ type_bits quark (y.Num t) = t.width
 type_bits quark (y.Class k) = quark k
 type_bits quark ty = 0
 
--- how often a data member has its type: the length of an array, and once where it is none
+-- how many values of its type a data member has: the length of an array, and otherwise one
 abbrev pub times : ℕ → ℕ
 times zero = 1
 times (suc n) = suc n
@@ -30,20 +30,24 @@ field_bits quark (function n w ps b) = []
 abbrev pub widths : (ℕ → ℕ) → List Member → List ℕ
 widths quark ms = flat_map (field_bits quark) ms
 
--- the bits of a class by its number, where classes are looked into so many deep
+-- the bits of class k, if classes are looked into this many levels deep
 unfoldable pub bits_within : ℕ → List Class → ℕ → ℕ
 bits_within zero cs k = 0
 bits_within (suc m) cs k = option_map_or (λ (c : Class). sum (widths (bits_within m cs) c.members)) (slice_get cs k) 0
 
--- The bits of a class. Where no class contains itself, none lies deeper in another than there are classes.
+-- The bits of a class. If no class contains itself, as many levels as there are classes are enough.
 abbrev pub class_bits : List Class → ℕ → ℕ
 class_bits cs k = bits_within (length cs) cs k
 
--- the bits of a class by its data members
+-- the sum of the bits of the data members of a class
 abbrev pub total : List Class → Class → ℕ
 total cs c = sum (widths (class_bits cs) c.members)
 
--- The bits of the data members of each class. A member begins behind those before it.
+-- the bits of each class are the sum of those of its data members
+abbrev pub BitsAddUp : List Class → Type 0
+BitsAddUp cs = (k : ℕ) (c : Class) → slice_get cs k ≡ Some c → class_bits cs k ≡ total cs c
+
+-- The bits of the data members of each class. A member begins where the one before it ends.
 abbrev pub layout_of : List Class → List (List ℕ)
 layout_of cs = map (λ (c : Class). widths (class_bits cs) c.members) cs
 
@@ -57,7 +61,7 @@ first_bit l k i = sum (take i (class_at l k))
 abbrev pub told : ℕ → ℕ
 told n = min n (2 ^ 64 - 1)
 
--- the fault of a class of so many bits, where they are too many
+-- the fault of a class of n bits, if these are too many
 abbrev pub fault_by : ℕ → Class → Option LayoutFault
 fault_by n c =
     if c.quark

@@ -1,17 +1,18 @@
--- Rows of numbers of bits, one for each class, as rounds over all classes make them.
+-- Rows: the bits of each class, as rounds over all classes compute them.
 use Rattle.std.specs.Prelude.{ℕ, zero, suc, ◌≤◌, List, [], ◌∷◌, Vec, map, get_or, sum, min}
 use Rattle.std.specs.declared.alloc.Global.{Global}
 use Rattle.ulam_tree.specs.Resolved.{Class}
 use Rattle.atom_layout.specs.Layouts.{told, widths}
 
--- the bits of a class by a row
+-- the bits of class k in a row
 abbrev pub in_row : List ℕ → ℕ → ℕ
 in_row row k = get_or row k 0
 
+-- the bits of a class, if those of all classes are in a row
 abbrev pub class_row : List ℕ → Class → ℕ
 class_row row c = told (sum (widths (in_row row) c.members))
 
--- the row of a round: nothing at first, and then what the classes take by the row before
+-- the row after a number of rounds: zeros, and then the bits of the classes, given the row before
 unfoldable pub row_after : ℕ → List Class → List ℕ
 row_after zero cs = map (λ (c : Class). 0) cs
 row_after (suc m) cs = map (class_row (row_after m cs)) cs

@@ -4,7 +4,7 @@ use feast_base::Place;
 use std::alloc::{AllocError, AllocFailed};
 use thiserror::Error;
 
-/// The first class that takes too many bits, by the place of its name, with the number of its bits;
+/// The first class that takes too many bits: the place of its name, and the number of its bits, or
 /// 2^64 - 1 if there are more.
 #[derive(Clone, Copy, Debug, PartialEq, Eq, Error)]
 pub enum LayoutFault {

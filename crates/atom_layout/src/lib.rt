@@ -1,6 +1,6 @@
-//! Where the data members of a class lie among the bits of an atom's state.
+//! Which bits of an atom's state the data members of a class have.
 //!
-//! Members lie one behind another in order of declaration, from bit 0. A number takes the bits of
+//! Members lie one after another in order of declaration, from bit 0. A number takes the bits of
 //! its type, an array its length times as many, a quark the bits of its own members, and an
 //! `EventWindow` or a `Random` none.
 #![tactic(auto)]

@@ -1,5 +1,5 @@
-//! Numbers of bits of classes, in rounds over all of them.
-ghost use Rattle.std.specs.Prelude.{◌≡◌, ◌≢◌, ℕ, List, map, length, sum, IfOk, IfErr, None, Some};
+//! The bits of classes, computed in rounds over all of them.
+ghost use Rattle.std.specs.Prelude.{◌≡◌, ◌≢◌, map, length, IfOk, IfErr, None, Some};
 ghost use Rattle.ulam_tree.specs.ResolvedViews.{resolved_class, resolved_program};
 ghost use Rattle.atom_layout.specs.Layouts.{member_bits, widths, told, layout_of, first_wide};
 ghost use Rattle.atom_layout.specs.declared.fault.LayoutFault.TheVariants.{NoMemory};
@@ -50,7 +50,7 @@ fn class_bits(row: &[u64], class: &Class) -> u64
     sum
 }
 
-/// The bits of all classes, by those of the round before.
+/// The bits of all classes, given those of the round before.
 fn next_row(alloc: Global, classes: &[Class], row: &[u64]) -> Result<Vec<u64>, LayoutFault>
     ensures row { IfOk result (λ r. r.items ≡ map (class_row row.now) (map resolved_class classes.now)) }
     ensures memory { IfErr result (λ e. e ≡ NoMemory) }
@@ -62,7 +62,7 @@ fn next_row(alloc: Global, classes: &[Class], row: &[u64]) -> Result<Vec<u64>, L
     Ok(next)
 }
 
-/// A row of nothing.
+/// A row of zeros.
 fn first_row(alloc: Global, classes: &[Class]) -> Result<Vec<u64>, LayoutFault>
     ensures row { IfOk result (λ r. r.items ≡ map (λ c. 0) (map resolved_class classes.now)) }
     ensures memory { IfErr result (λ e. e ≡ NoMemory) }
@@ -74,7 +74,7 @@ fn first_row(alloc: Global, classes: &[Class]) -> Result<Vec<u64>, LayoutFault>
     Ok(row)
 }
 
-/// The bits of all classes, by as many rounds as there are classes.
+/// The bits of all classes, after as many rounds as there are classes.
 fn whole_row(alloc: Global, classes: &[Class]) -> Result<Vec<u64>, LayoutFault>
     ensures row { IfOk result (λ r. r.items ≡ row_after (length classes.now) (map resolved_class classes.now)) }
     ensures memory { IfErr result (λ e. e ≡ NoMemory) }

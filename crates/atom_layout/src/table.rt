@@ -1,5 +1,5 @@
 //! Layouts.
-ghost use Rattle.std.specs.Prelude.{◌≡◌, ◌<◌, ℕ, List, [], length, get_or, sum};
+ghost use Rattle.std.specs.Prelude.{◌≡◌, ◌<◌, length, get_or, sum};
 ghost use Rattle.atom_layout.specs.Layouts.{class_at, first_bit};
 ghost use Rattle.atom_layout.specs.Rows.{rows_of, AllNarrow};
 
@@ -12,7 +12,7 @@ pub struct Layout {
 }
 
 impl Model for Layout {
-    ghost use Rattle.std.specs.Prelude.{ℕ, List, map};
+    ghost use Rattle.std.specs.Prelude.{ℕ, List};
     ghost use Rattle.atom_layout.specs.Rows.{rows_of, AllNarrow};
 
     ghost Value = { List (List ℕ) };

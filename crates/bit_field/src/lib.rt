@@ -4,8 +4,8 @@
 //! is its most significant one.
 #![tactic(auto)]
 
-ghost use Rattle.std.specs.Prelude.{◌≡◌, ℕ, ◌+◌, ◌*◌, ◌^◌, ◌<◌, ◌≤◌};
-ghost use Rattle.bit_field.specs.Atom.{AtomValue, IsAtom, field, bits_of, AreApart, LeavesGap};
+ghost use Rattle.std.specs.Prelude.{◌≡◌, ◌+◌, ◌*◌, ◌^◌, ◌<◌, ◌≤◌};
+ghost use Rattle.bit_field.specs.Atom.{AtomValue, IsAtom, field, bits_of, SameOutside, LeavesGap};
 ghost use Rattle.bit_field.specs.Words.{AreWordsOf, atom_of, replaced, with_field};
 
 use std::marker::Model;
@@ -87,7 +87,7 @@ impl Atom {
         requires within { first + width ≤ 71 }
         requires small { value < 2 ^ width }
         ensures same { field self.new first width ≡ value }
-        ensures others { (other size : ℕ) → other + size ≤ 71 → AreApart first width other size → field self.new other size ≡ field self.old other size }
+        ensures others { SameOutside self.old self.new first width }
         ensures kind { self.new.kind ≡ self.old.kind }
         ensures whole { self.new ≡ with_field self.old first width value }
     {

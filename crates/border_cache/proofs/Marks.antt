@@ -14,7 +14,7 @@ use Rattle.edge_lock.specs.declared.history.Access.TheVariants.{Read, Write}
 use Rattle.edge_lock.specs.History.{found_value}
 use Rattle.edge_lock.specs.EndLists.{last_shown, writes_nothing, Shows}
 use Rattle.border_cache.specs.Accesses.{last_write, is_read, reads_nothing, IsHonest}
-use Rattle.border_cache.specs.News.{Covers, word_of}
+use Rattle.border_cache.specs.News.{Covers, word_of, border}
 use Rattle.border_cache.specs.Published.{IsWithBit, IsWordMarked, IsMarked, IsBitPut}
 use Rattle.border_cache.proofs.Runs.{known_after}
 use Rattle.border_cache.proofs.Found.{shown_at}
@@ -165,7 +165,7 @@ place_in_word k = grind arith
 in_word : (i j k : ℕ) → i < 64 → 64 * j + i ≡ k → (j ≡ k / 64) × (i ≡ k % 64)
 in_word i j k lt is = (grind (arith, is), grind (arith, is))
 
-pub marked_begins : (sites end : ℕ) (bit : Bool) (places : ℕ → Option ℕ) → IsMarked sites end bit places 0 []
+pub marked_begins : (sites end : ℕ) (bit : Bool) (places : ℕ → Option ℕ) → IsMarked (border sites end places 0) bit []
 marked_begins sites end bit places = record {
   words = λ k c. absurd (omega (arith, c.1));
   shown = λ k c. absurd (omega (arith, c.1));
@@ -183,7 +183,7 @@ module _ (sites end : ℕ) (bit : Bool) (places : ℕ → Option ℕ) (n : ℕ) 
   more : (k : ℕ) → Old k → New k
   more k c = covers_more places n k c
 
-  marked_none : (xs : List Access) → places n ≡ None → IsMarked sites end bit places n xs → IsMarked sites end bit places (n + 1) xs
+  marked_none : (xs : List Access) → places n ≡ None → IsMarked (border sites end places n) bit xs → IsMarked (border sites end places (n + 1)) bit xs
   marked_none xs at m = record {
     words = λ k c. let w = m.words k (old k c) in record {
       first = w.first;
@@ -201,7 +201,7 @@ module _ (sites end : ℕ) (bit : Bool) (places : ℕ → Option ℕ) (n : ℕ) 
       old : (k : ℕ) → New k → Old k
       old k c = ⊎_elim (λ h. h) (λ p. absurd (cc (at, p))) (covers_last places n k c)
 
-  module _ (k : ℕ) (xs : List Access) (v w : ℕ) (at : places n ≡ Some k) (m : IsMarked sites end bit places n xs) (put : IsWithBit v (k % 64) bit w) where
+  module _ (k : ℕ) (xs : List Access) (v w : ℕ) (at : places n ≡ Some k) (m : IsMarked (border sites end places n) bit xs) (put : IsWithBit v (k % 64) bit w) where
     abbrev r : ℕ
     r = word_of sites end k
 
@@ -216,7 +216,7 @@ module _ (sites end : ℕ) (bit : Bool) (places : ℕ → Option ℕ) (n : ℕ) 
     split j c = ⊎_elim (λ h. inl h) (λ p. inr (ap or_zero (sym at ∙ p))) (covers_last places n j c)
 
     -- another word stays
-    word_else : (j : ℕ) → j ≢ k / 64 → IsWordMarked sites end bit places n xs j → IsWordMarked sites end bit places (n + 1) ys j
+    word_else : (j : ℕ) → j ≢ k / 64 → IsWordMarked (border sites end places n) bit xs j → IsWordMarked (border sites end places (n + 1)) bit ys j
     word_else j ne o =
         let apart : news_register sites end j ≢ r = λ h. ne (same_word sites end j (k / 64) h) in
         record {
@@ -229,7 +229,7 @@ module _ (sites end : ℕ) (bit : Bool) (places : ℕ → Option ℕ) (n : ℕ) 
         }
 
     -- the word of the place, which was read before
-    word_again : (o : IsWordMarked sites end bit places n xs (k / 64)) → v ≡ o.last → IsWordMarked sites end bit places (n + 1) ys (k / 64)
+    word_again : (o : IsWordMarked (border sites end places n) bit xs (k / 64)) → v ≡ o.last → IsWordMarked (border sites end places (n + 1)) bit ys (k / 64)
     word_again o same = record {
       first = o.first;
       last = w;
@@ -244,7 +244,7 @@ module _ (sites end : ℕ) (bit : Bool) (places : ℕ → Option ℕ) (n : ℕ) 
     }
 
     -- the word of the place, which is read for the first time
-    word_first : found_value xs r ≡ None → last_write xs r None ≡ None → ((j : ℕ) → Old j → j / 64 ≡ k / 64 → ⊥) → IsWordMarked sites end bit places (n + 1) ys (k / 64)
+    word_first : found_value xs r ≡ None → last_write xs r None ≡ None → ((j : ℕ) → Old j → j / 64 ≡ k / 64 → ⊥) → IsWordMarked (border sites end places (n + 1)) bit ys (k / 64)
     word_first f l free = record {
       first = v;
       last = w;
@@ -259,27 +259,27 @@ module _ (sites end : ℕ) (bit : Bool) (places : ℕ → Option ℕ) (n : ℕ) 
     }
 
     -- the word of a place that was covered before
-    old_word : (j : ℕ) → Old j → j / 64 ≡ k / 64 → IsWordMarked sites end bit places n xs (k / 64)
-    old_word j c e = subst (IsWordMarked sites end bit places n xs) e (m.words j c)
+    old_word : (j : ℕ) → Old j → j / 64 ≡ k / 64 → IsWordMarked (border sites end places n) bit xs (k / 64)
+    old_word j c e = subst (IsWordMarked (border sites end places n) bit xs) e (m.words j c)
 
-    this_word : (known : ℕ → Option ℕ) → Shows (known_after known xs r) v → IsWordMarked sites end bit places (n + 1) ys (k / 64)
+    this_word : (known : ℕ → Option ℕ) → Shows (known_after known xs r) v → IsWordMarked (border sites end places (n + 1)) bit ys (k / 64)
     this_word known shows = go (found_value xs r) refl (last_write xs r None) refl
       where
-        again : (j : ℕ) → Old j → r ≡ word_of sites end j → IsWordMarked sites end bit places (n + 1) ys (k / 64)
+        again : (j : ℕ) → Old j → r ≡ word_of sites end j → IsWordMarked (border sites end places (n + 1)) bit ys (k / 64)
         again j c is =
             let e : j / 64 ≡ k / 64 = same_word sites end (j / 64) (k / 64) (sym is) in
             let o = old_word j c e in
             let shown : last_shown xs r (known r) ≡ Some o.last = subst (λ q. last_shown xs q (known r) ≡ last_write xs q None) (sym is) (m.shown j c (known r)) ∙ o.written in
             word_again o (shown_at (known_after known xs r) o.last v shows shown)
 
-        go : (f : Option ℕ) → found_value xs r ≡ f → (l : Option ℕ) → last_write xs r None ≡ l → IsWordMarked sites end bit places (n + 1) ys (k / 64)
+        go : (f : Option ℕ) → found_value xs r ≡ f → (l : Option ℕ) → last_write xs r None ≡ l → IsWordMarked (border sites end places (n + 1)) bit ys (k / 64)
         go (Some u) f l is = let a = m.only_read r (found_is_read xs r u f) in again a.0 a.1 a.2
         go None f (Some u) is = let a = m.only_written r u is in again a.0 a.1 a.2
         go None f None is = word_first f is (λ j c e. none-some (old_word j c e).first (sym (sym (old_word j c e).found ∙ f)))
 
-    all_words : IsWordMarked sites end bit places (n + 1) ys (k / 64) → (j : ℕ) → New j → IsWordMarked sites end bit places (n + 1) ys (j / 64)
+    all_words : IsWordMarked (border sites end places (n + 1)) bit ys (k / 64) → (j : ℕ) → New j → IsWordMarked (border sites end places (n + 1)) bit ys (j / 64)
     all_words this j c = dite (ℕ_discrete (j / 64) (k / 64))
-        (λ (e : j / 64 ≡ k / 64). subst (IsWordMarked sites end bit places (n + 1) ys) (sym e) this)
+        (λ (e : j / 64 ≡ k / 64). subst (IsWordMarked (border sites end places (n + 1)) bit ys) (sym e) this)
         (λ (ne : j / 64 ≢ k / 64). word_else (j / 64) ne (m.words j (⊎_elim (λ h. h) (λ (h : k ≡ j). absurd (ne (ap (λ x. x / 64) (sym h)))) (split j c))))
 
     all_shown : (j : ℕ) → New j → (s : Option ℕ) → last_shown ys (word_of sites end j) s ≡ last_write ys (word_of sites end j) None
@@ -289,7 +289,7 @@ module _ (sites end : ℕ) (bit : Bool) (places : ℕ → Option ℕ) (n : ℕ) 
         (λ (ne : j / 64 ≢ k / 64). let apart : word_of sites end j ≢ r = λ h. ne (same_word sites end (j / 64) (k / 64) h) in
         shown_else xs (word_of sites end j) r v w s apart ∙ (m.shown j (⊎_elim (λ h. h) (λ (h : k ≡ j). absurd (ne (ap (λ x. x / 64) (sym h)))) (split j c)) s ∙ sym (write_else xs (word_of sites end j) r v w apart)))
 
-    marked_some : (known : ℕ → Option ℕ) → Shows (known_after known xs r) v → IsMarked sites end bit places (n + 1) ys
+    marked_some : (known : ℕ → Option ℕ) → Shows (known_after known xs r) v → IsMarked (border sites end places (n + 1)) bit ys
     marked_some known shows = record {
       words = all_words (this_word known shows);
       shown = all_shown;
@@ -297,11 +297,11 @@ module _ (sites end : ℕ) (bit : Bool) (places : ℕ → Option ℕ) (n : ℕ) 
       only_written = λ q u g. dite (ℕ_discrete q r) (λ (e : q ≡ r). (k, here, e)) (λ (ne : q ≢ r). let a = m.only_written q u (sym (write_else xs q r v w ne) ∙ g) in (a.0, more a.0 a.1, a.2));
     }
 
-  pub marked_more : (known : ℕ → Option ℕ) (xs zs : List Access) → IsMarked sites end bit places n xs → IsHonest (known_after known xs) zs → IsBitPut sites end bit (places n) zs → IsMarked sites end bit places (n + 1) (xs ++ zs)
+  pub marked_more : (known : ℕ → Option ℕ) (xs zs : List Access) → IsMarked (border sites end places n) bit xs → IsHonest (known_after known xs) zs → IsBitPut sites end bit (places n) zs → IsMarked (border sites end places (n + 1)) bit (xs ++ zs)
   marked_more known xs zs m h p = go (places n) refl p
     where
-      go : (o : Option ℕ) → places n ≡ o → IsBitPut sites end bit o zs → IsMarked sites end bit places (n + 1) (xs ++ zs)
-      go None at p = subst (IsMarked sites end bit places (n + 1)) (sym (append-nil xs) ∙ ap (λ ys. xs ++ ys) (sym p)) (marked_none xs at m)
+      go : (o : Option ℕ) → places n ≡ o → IsBitPut sites end bit o zs → IsMarked (border sites end places (n + 1)) bit (xs ++ zs)
+      go None at p = subst (IsMarked (border sites end places (n + 1)) bit) (sym (append-nil xs) ∙ ap (λ ys. xs ++ ys) (sym p)) (marked_none xs at m)
       go (Some k) at p =
           let h' : IsHonest (known_after known xs) (pair (word_of sites end k) p.0 p.1) = subst (IsHonest (known_after known xs)) p.2 h in
-          subst (IsMarked sites end bit places (n + 1)) (ap (λ ys. xs ++ ys) (sym p.2)) (marked_some k xs p.0 p.1 at m p.3 known h'.0)
+          subst (IsMarked (border sites end places (n + 1)) bit) (ap (λ ys. xs ++ ys) (sym p.2)) (marked_some k xs p.0 p.1 at m p.3 known h'.0)

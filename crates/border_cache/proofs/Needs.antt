@@ -10,8 +10,8 @@ use Rattle.edge_lock.proofs.BoardLaws.{here_after, else_after}
 use Rattle.tile_map.specs.Plane.{Site, MapValue}
 use Rattle.border_cache.specs.Cells.{CellValue, newer, newest}
 use Rattle.border_cache.specs.Accesses.{IsHonest, after_all, Adds}
-use Rattle.border_cache.specs.News.{found_cell, IsRefresh, Refreshes, no_cell}
-use Rattle.border_cache.specs.Windows.{has, place_in, end_at, sites_on, AddsAll, and_cell, seen_on, RefreshesAll, PublishesAll}
+use Rattle.border_cache.specs.News.{found_cell, IsRefresh, Refreshes, no_cell, cells_at}
+use Rattle.border_cache.specs.Windows.{has, place_in, end_at, sites_on, AddsAll, and_cell, seen_on, RefreshesAll, PublishesAll, border_at, centre_of}
 use Rattle.border_cache.specs.Published.{IsPublish}
 use Rattle.border_cache.proofs.Runs.{after_none}
 
@@ -121,8 +121,8 @@ newest_push x [] (Some d) = refl
 newest_push x (y ∷ ys) o = newest_push (newer x (Some y)) ys o
 
 module _ (m : MapValue) (t : ℕ) (c : Site) (needs : List ℕ) (i e : ℕ) (lt : i < length needs) (rise : Rises needs) (at : e ≡ get_or needs i 0) where
-  pub refreshes_all_more : (a b d : ℕ → EndLists) (old mid new : List CellValue) → RefreshesAll m t c (take i needs) a b old mid → Refreshes (sites_on m e) (end_at m t e) (place_in m c e) 41 e b d mid new
-      → RefreshesAll m t c (take (i + 1) needs) a d old new
+  pub refreshes_all_more : (a b d : ℕ → EndLists) (old mid new : List CellValue) → RefreshesAll (centre_of m t c) (take i needs) (cells_at old a) (cells_at mid b) → Refreshes (border_at m t c e) e (cells_at mid b) (cells_at new d)
+      → RefreshesAll (centre_of m t c) (take (i + 1) needs) (cells_at old a) (cells_at new d)
   refreshes_all_more a b d old mid new r s = record {
     more = more';
     adds = adds_all_more needs i e lt rise at a b d r.more s.more r.adds s.adds;
@@ -137,8 +137,8 @@ module _ (m : MapValue) (t : ℕ) (c : Site) (needs : List ℕ) (i e : ℕ) (lt 
       mine : more' e ≡ s.more
       mine = let q : eqb e e ≡ true = grind arith in ap (λ x. cond x s.more (r.more e)) q
 
-      go : (f : ℕ) (x : Bool) → eqb f e ≡ x → (if x then true else has f (take i needs)) ≡ true → IsRefresh (sites_on m f) (end_at m t f) (place_in m c f) 41 (cond x s.more (r.more f))
-      go f true is h = let q : e ≡ f = grind (arith, is) in subst (λ k. IsRefresh (sites_on m k) (end_at m t k) (place_in m c k) 41 s.more) q s.reads
+      go : (f : ℕ) (x : Bool) → eqb f e ≡ x → (if x then true else has f (take i needs)) ≡ true → IsRefresh (border_at m t c f) (cond x s.more (r.more f))
+      go f true is h = let q : e ≡ f = grind (arith, is) in subst (λ k. IsRefresh (border_at m t c k) s.more) q s.reads
       go f false is h = r.reads f h
 
       whole : (n : ℕ) → newest (slice_index_or old n no_cell) (seen_on m t c more' n (take (i + 1) needs)) ≡ newer (newest (slice_index_or old n no_cell) (seen_on m t c r.more n (take i needs))) (found_cell (sites_on m e) (end_at m t e) s.more (place_in m c e n))
@@ -150,21 +150,21 @@ module _ (m : MapValue) (t : ℕ) (c : Site) (needs : List ℕ) (i e : ℕ) (lt 
           ∙ (newest_push own (seen_on m t c more' n (take i needs)) (found_cell (sites_on m e) (end_at m t e) (more' e) (place_in m c e n))
           ∙ (λ j. newer (newest own (seen_before needs i e lt rise at m t c n s.more r.more (take i needs) (fresh needs i e lt rise at) j)) (found_cell (sites_on m e) (end_at m t e) (mine j) (place_in m c e n)))))
 
-pub refreshes_all_begin : (m : MapValue) (t : ℕ) (c : Site) (a : ℕ → EndLists) (cells : List CellValue) → RefreshesAll m t c [] a a cells cells
+pub refreshes_all_begin : (m : MapValue) (t : ℕ) (c : Site) (a : ℕ → EndLists) (cells : List CellValue) → RefreshesAll (centre_of m t c) [] (cells_at cells a) (cells_at cells a)
 refreshes_all_begin m t c a cells = record { more = λ e. []; adds = adds_all_begins a; reads = λ e h. absurd (true≢false (sym h)); length = refl; cells = λ n small. refl }
 
 module _ (m : MapValue) (t : ℕ) (c : Site) (needs : List ℕ) (cells : ℕ → CellValue) (i e : ℕ) (lt : i < length needs) (rise : Rises needs) (at : e ≡ get_or needs i 0) where
-  pub publishes_all_more : (a b d : ℕ → EndLists) (xs : List Access) → PublishesAll m t c (take i needs) cells a b → Adds b d e xs → IsPublish (sites_on m e) (end_at m t e) cells (place_in m c e) 41 xs
-      → PublishesAll m t c (take (i + 1) needs) cells a d
+  pub publishes_all_more : (a b d : ℕ → EndLists) (xs : List Access) → PublishesAll (centre_of m t c) (take i needs) cells a b → Adds b d e xs → IsPublish (border_at m t c e) cells xs
+      → PublishesAll (centre_of m t c) (take (i + 1) needs) cells a d
   publishes_all_more a b d xs r s w = record {
     more = put_on e xs r.more;
     adds = adds_all_more needs i e lt rise at a b d r.more xs r.adds s;
     writes = λ f h. go f (eqb f e) refl (sym (split_has needs i e lt rise at f) ∙ h);
   }
     where
-      go : (f : ℕ) (x : Bool) → eqb f e ≡ x → (if x then true else has f (take i needs)) ≡ true → IsPublish (sites_on m f) (end_at m t f) cells (place_in m c f) 41 (cond x xs (r.more f))
-      go f true is h = let q : e ≡ f = grind (arith, is) in subst (λ k. IsPublish (sites_on m k) (end_at m t k) cells (place_in m c k) 41 xs) q w
+      go : (f : ℕ) (x : Bool) → eqb f e ≡ x → (if x then true else has f (take i needs)) ≡ true → IsPublish (border_at m t c f) cells (cond x xs (r.more f))
+      go f true is h = let q : e ≡ f = grind (arith, is) in subst (λ k. IsPublish (border_at m t c k) cells xs) q w
       go f false is h = r.writes f h
 
-pub publishes_all_begin : (m : MapValue) (t : ℕ) (c : Site) (cells : ℕ → CellValue) (a : ℕ → EndLists) → PublishesAll m t c [] cells a a
+pub publishes_all_begin : (m : MapValue) (t : ℕ) (c : Site) (cells : ℕ → CellValue) (a : ℕ → EndLists) → PublishesAll (centre_of m t c) [] cells a a
 publishes_all_begin m t c cells a = record { more = λ e. []; adds = adds_all_begins a; writes = λ e h. absurd (true≢false (sym h)) }

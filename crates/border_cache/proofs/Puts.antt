@@ -13,7 +13,7 @@ use Rattle.edge_lock.specs.declared.history.Access.TheVariants.{Read, Write}
 use Rattle.edge_lock.specs.History.{found_value}
 use Rattle.border_cache.specs.Accesses.{last_write, is_read, reads_nothing}
 use Rattle.border_cache.specs.Cells.{CellValue, cell_of}
-use Rattle.border_cache.specs.News.{Covers, word_of, IsPlace}
+use Rattle.border_cache.specs.News.{Covers, word_of, IsPlace, border}
 use Rattle.border_cache.specs.Published.{IsWordMarked, IsMarked, ArePut, IsCellPut, IsPublish, ArePlaces}
 use Rattle.border_cache.proofs.Marks.{last_write-append, untouched, no_write, some_write, written_in, found_is_read, read_in, unread_writes}
 use Rattle.border_cache.proofs.Refreshes.{covers_more}
@@ -99,7 +99,7 @@ puts_more cells places n xs zs p one c = go (places n) refl c
 
 -- the three parts together, where the places are below the number of sites
 module _ (sites end n : ℕ) (cells : ℕ → CellValue) (places : ℕ → Option ℕ) (xs ys zs : List Access) (small : end < 2) (low : (k : ℕ) → Covers places n k → k < sites)
-    (p : ArePut cells places n xs) (m : IsMarked sites end false places n ys) (t : IsMarked sites (1 - end) true places n zs) where
+    (p : ArePut cells places n xs) (m : IsMarked (border sites end places n) false ys) (t : IsMarked (border sites (1 - end) places n) true zs) where
   abbrev all : List Access
   all = xs ++ (ys ++ zs)
 
@@ -117,7 +117,7 @@ module _ (sites end n : ℕ) (cells : ℕ → CellValue) (places : ℕ → Optio
   cells_low : (r : ℕ) → IsWord r → last_write xs r None ≡ None
   cells_low r high = none_or (last_write xs r None) (λ v is. let a = p.only r v is in let lt = low a.0 a.1 in ⊎_elim (λ (e : r ≡ 1 + 2 * a.0). omega (arith, e, lt, high)) (λ (e : r ≡ 2 + 2 * a.0). omega (arith, e, lt, high)) a.2)
 
-  written_by : (b : ℕ) (bit : Bool) (us : List Access) → IsMarked sites b bit places n us → (r : ℕ) → (IsWord r → ⊥) → last_write us r None ≡ None
+  written_by : (b : ℕ) (bit : Bool) (us : List Access) → IsMarked (border sites b places n) bit us → (r : ℕ) → (IsWord r → ⊥) → last_write us r None ≡ None
   written_by b bit us w r not = none_or (last_write us r None) (λ v is. let a = w.only_written r v is in not (subst IsWord (sym a.2) (word_high b a.0)))
 
   ends_apart : (i j : ℕ) → i < news_words sites → j < news_words sites → news_register sites end i ≢ news_register sites (1 - end) j
@@ -138,7 +138,7 @@ module _ (sites end n : ℕ) (cells : ℕ → CellValue) (places : ℕ → Optio
       let z : last_write zs r None ≡ None = written_by (1 - end) true zs t r not in
       last_write-append xs (ys ++ zs) r None ∙ (last_write-append ys zs r (last_write xs r None) ∙ (no_write zs r (last_write ys r (last_write xs r None)) z ∙ (no_write ys r (last_write xs r None) y ∙ is)))
 
-  other_word : (k : ℕ) → Covers places n k → (us : List Access) (b c : ℕ) (bit : Bool) → ((i j : ℕ) → i < news_words sites → j < news_words sites → news_register sites c i ≢ news_register sites b j) → IsMarked sites c bit places n us
+  other_word : (k : ℕ) → Covers places n k → (us : List Access) (b c : ℕ) (bit : Bool) → ((i j : ℕ) → i < news_words sites → j < news_words sites → news_register sites c i ≢ news_register sites b j) → IsMarked (border sites c places n) bit us
       → (found_value us (word_of sites b k) ≡ None) × (last_write us (word_of sites b k) None ≡ None)
   other_word k cov us b c bit apart w = (
     none_or (found_value us (word_of sites b k)) (λ v is. let a = w.only_read (word_of sites b k) (found_is_read us (word_of sites b k) v is) in apart (a.0 / 64) (k / 64) (word_in a.0 a.1) (word_in k cov) (sym a.2)),
@@ -153,10 +153,10 @@ module _ (sites end n : ℕ) (cells : ℕ → CellValue) (places : ℕ → Optio
   last_of r high = last_write-append xs (ys ++ zs) r None ∙ ap (last_write (ys ++ zs) r) (cells_low r high)
 
   -- the same word in a longer run
-  as_word : (b : ℕ) (bit : Bool) (us : List Access) (j : ℕ) (o : IsWordMarked sites b bit places n us j) → found_value all (news_register sites b j) ≡ Some o.first → last_write all (news_register sites b j) None ≡ Some o.last → IsWordMarked sites b bit places n all j
+  as_word : (b : ℕ) (bit : Bool) (us : List Access) (j : ℕ) (o : IsWordMarked (border sites b places n) bit us j) → found_value all (news_register sites b j) ≡ Some o.first → last_write all (news_register sites b j) None ≡ Some o.last → IsWordMarked (border sites b places n) bit all j
   as_word b bit us j o f l = record { first = o.first; last = o.last; found = f; written = l; marked = o.marked; kept = o.kept }
 
-  my_word : (k : ℕ) → Covers places n k → IsWordMarked sites end false places n all (k / 64)
+  my_word : (k : ℕ) → Covers places n k → IsWordMarked (border sites end places n) false all (k / 64)
   my_word k c =
       let o = m.words k c in
       let r = word_of sites end k in
@@ -164,7 +164,7 @@ module _ (sites end n : ℕ) (cells : ℕ → CellValue) (places : ℕ → Optio
       as_word end false ys (k / 64) o (past_cells end k ∙ found_stays ys zs r o.first o.found)
       (last_of r (word_high end k) ∙ (last_write-append ys zs r None ∙ (no_write zs r (last_write ys r None) z.1 ∙ o.written)))
 
-  their_word : (k : ℕ) → Covers places n k → IsWordMarked sites (1 - end) true places n all (k / 64)
+  their_word : (k : ℕ) → Covers places n k → IsWordMarked (border sites (1 - end) places n) true all (k / 64)
   their_word k c =
       let o = t.words k c in
       let r = word_of sites (1 - end) k in
@@ -172,7 +172,7 @@ module _ (sites end n : ℕ) (cells : ℕ → CellValue) (places : ℕ → Optio
       as_word (1 - end) true zs (k / 64) o (past_cells (1 - end) k ∙ (untouched ys zs r y.0 y.1 ∙ o.found))
       (last_of r (word_high (1 - end) k) ∙ (last_write-append ys zs r None ∙ some_write zs r o.last (last_write ys r None) o.written))
 
-  pub publish_whole : IsPublish sites end cells places n all
+  pub publish_whole : IsPublish (border sites end places n) cells all
   publish_whole = record {
     cells_put = λ j k lt at.
         let d = p.done j k lt at in
@@ -207,10 +207,10 @@ module _ (sites end : ℕ) (cells : ℕ → CellValue) (p q : ℕ → Option ℕ
   from : (k : ℕ) → Covers q n k → Covers p n k
   from k c = (c.0, c.1, same c.0 c.1 ∙ c.2)
 
-  word_by : (b : ℕ) (bit : Bool) (xs : List Access) (j : ℕ) → IsWordMarked sites b bit p n xs j → IsWordMarked sites b bit q n xs j
+  word_by : (b : ℕ) (bit : Bool) (xs : List Access) (j : ℕ) → IsWordMarked (border sites b p n) bit xs j → IsWordMarked (border sites b q n) bit xs j
   word_by b bit xs j w = record { first = w.first; last = w.last; found = w.found; written = w.written; marked = λ i lt c. w.marked i lt (from (64 * j + i) c); kept = λ i lt c. w.kept i lt (λ d. c (to (64 * j + i) d)) }
 
-  pub publish_by : (xs : List Access) → IsPublish sites end cells p n xs → IsPublish sites end cells q n xs
+  pub publish_by : (xs : List Access) → IsPublish (border sites end p n) cells xs → IsPublish (border sites end q n) cells xs
   publish_by xs w = record {
     cells_put = λ j k lt at. w.cells_put j k lt (same j lt ∙ at);
     mine = λ k c. word_by end false xs (k / 64) (w.mine k (from k c));

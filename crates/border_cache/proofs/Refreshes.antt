@@ -13,7 +13,7 @@ use Rattle.edge_lock.specs.History.{found_value}
 use Rattle.edge_lock.specs.EndLists.{writes_nothing, Shows}
 use Rattle.border_cache.specs.Cells.{CellValue, newer}
 use Rattle.border_cache.specs.Accesses.{with_known, IsHonest, Adds}
-use Rattle.border_cache.specs.News.{Covers, word_of, has_bit, is_news, cell_in, found_cell, IsAsked, IsRefresh, IsSiteRead, AreNewer, no_cell, with_newer, IsSiteRefresh, Refreshes}
+use Rattle.border_cache.specs.News.{Covers, word_of, has_bit, is_news, cell_in, found_cell, IsAsked, IsRefresh, IsSiteRead, AreNewer, no_cell, with_newer, Refreshes, border, cells_at, ReadsSite, IsNewerAt}
 use Rattle.border_cache.proofs.Runs.{known_after, honest_append, adds_none, adds_then, known_adds}
 use Rattle.border_cache.proofs.Found.{found_new, found_read, silent_both}
 
@@ -36,12 +36,12 @@ news_more sites end xs ys k h =
 pub news_same : (sites end : ℕ) (xs ys : List Access) (k v : ℕ) → found_value xs (word_of sites end k) ≡ Some v → is_news sites end (xs ++ ys) k ≡ is_news sites end xs k
 news_same sites end xs ys k v is = ap (λ o. has_bit o k) (found_stays xs ys (word_of sites end k) v is ∙ sym is)
 
-pub asked_more : (sites end : ℕ) (places : ℕ → Option ℕ) (n : ℕ) (xs ys : List Access) (r : ℕ) → IsAsked sites end places n xs r → IsAsked sites end places (n + 1) (xs ++ ys) r
+pub asked_more : (sites end : ℕ) (places : ℕ → Option ℕ) (n : ℕ) (xs ys : List Access) (r : ℕ) → IsAsked (border sites end places n) xs r → IsAsked (border sites end places (n + 1)) (xs ++ ys) r
 asked_more sites end places n xs ys r a =
     (a.0, covers_more places n a.0 a.1, ⊎_elim (λ w. inl w) (λ p. inr (news_more sites end xs ys a.0 p.0, p.1)) a.2)
 
 -- a site that the edge does not share
-pub refresh_none : (sites end : ℕ) (places : ℕ → Option ℕ) (n : ℕ) (xs : List Access) → places n ≡ None → IsRefresh sites end places n xs → IsRefresh sites end places (n + 1) xs
+pub refresh_none : (sites end : ℕ) (places : ℕ → Option ℕ) (n : ℕ) (xs : List Access) → places n ≡ None → IsRefresh (border sites end places n) xs → IsRefresh (border sites end places (n + 1)) xs
 refresh_none sites end places n xs is f = record {
   silent = f.silent;
   words = λ k c. f.words k (old k c);
@@ -53,12 +53,12 @@ refresh_none sites end places n xs is f = record {
     old k c = ⊎_elim (λ h. h) (λ p. absurd (cc (is, p))) (covers_last places n k c)
 
 -- a site at a place
-pub refresh_some : (sites end : ℕ) (places : ℕ → Option ℕ) (n k : ℕ) (xs ys : List Access) → places n ≡ Some k → IsRefresh sites end places n xs
+pub refresh_some : (sites end : ℕ) (places : ℕ → Option ℕ) (n k : ℕ) (xs ys : List Access) → places n ≡ Some k → IsRefresh (border sites end places n) xs
     → writes_nothing ys ≡ true
     → ((v : ℕ) × (found_value (xs ++ ys) (word_of sites end k) ≡ Some v))
     → (is_news sites end (xs ++ ys) k ≡ true → (low : ℕ) × (high : ℕ) × (found_value (xs ++ ys) (1 + 2 * k) ≡ Some low) × (found_value (xs ++ ys) (2 + 2 * k) ≡ Some high))
     → ((r v : ℕ) → found_value ys r ≡ Some v → (r ≡ word_of sites end k) ⊎ ((is_news sites end (xs ++ ys) k ≡ true) × ((r ≡ 1 + 2 * k) ⊎ (r ≡ 2 + 2 * k))))
-    → IsRefresh sites end places (n + 1) (xs ++ ys)
+    → IsRefresh (border sites end places (n + 1)) (xs ++ ys)
 refresh_some sites end places n k xs ys at f w word cell only = record {
   silent = silent_both xs ys f.silent w;
   words = λ j c. ⊎_elim (λ old. let v = f.words j old in (v.0, found_stays xs ys (word_of sites end j) v.0 v.1))
@@ -77,12 +77,12 @@ refresh_some sites end places n k xs ys at f w word cell only = record {
     inside None = 0
     inside (Some x) = x
 
-    asked : (r v : ℕ) → found_value (xs ++ ys) r ≡ Some v → (o : Option ℕ) → found_value xs r ≡ o → IsAsked sites end places (n + 1) (xs ++ ys) r
+    asked : (r v : ℕ) → found_value (xs ++ ys) r ≡ Some v → (o : Option ℕ) → found_value xs r ≡ o → IsAsked (border sites end places (n + 1)) (xs ++ ys) r
     asked r v g None is = (k, (n, omega arith, at), only r v (sym (found_new xs ys r f.silent is) ∙ g))
     asked r v g (Some u) is = asked_more sites end places n xs ys r (f.only r u is)
 
 -- what was seen stays seen
-pub seen_same : (sites end : ℕ) (places : ℕ → Option ℕ) (n j : ℕ) (xs ys : List Access) → j < n → IsRefresh sites end places n xs → found_cell sites end (xs ++ ys) (places j) ≡ found_cell sites end xs (places j)
+pub seen_same : (sites end : ℕ) (places : ℕ → Option ℕ) (n j : ℕ) (xs ys : List Access) → j < n → IsRefresh (border sites end places n) xs → found_cell sites end (xs ++ ys) (places j) ≡ found_cell sites end xs (places j)
 seen_same sites end places n j xs ys lt f = go (places j) refl
   where
     of_news : (k : ℕ) → Covers places n k → (b : Bool) → is_news sites end xs k ≡ b
@@ -101,7 +101,7 @@ seen_same sites end places n j xs ys lt f = go (places j) refl
         ap (λ b. cond b (cell_in (found_value (xs ++ ys) (1 + 2 * k)) (found_value (xs ++ ys) (2 + 2 * k))) None) (news_same sites end xs ys k v.0 v.1)
         ∙ of_news k c (is_news sites end xs k) refl
 
-pub refresh_begins : (sites end : ℕ) (places : ℕ → Option ℕ) → IsRefresh sites end places 0 []
+pub refresh_begins : (sites end : ℕ) (places : ℕ → Option ℕ) → IsRefresh (border sites end places 0) []
 refresh_begins sites end places = record {
   silent = refl;
   words = λ k c. absurd (omega (arith, c.1));
@@ -110,8 +110,8 @@ refresh_begins sites end places = record {
 }
 
 -- the reads at a place serve the refresh
-pub site_none : (sites end : ℕ) (places : ℕ → Option ℕ) (n k : ℕ) (known : ℕ → Option ℕ) (xs ys : List Access) → places n ≡ Some k → IsRefresh sites end places n xs → IsHonest known xs → IsHonest (known_after known xs) ys
-    → IsSiteRead sites end k None ys → IsRefresh sites end places (n + 1) (xs ++ ys) × (found_cell sites end (xs ++ ys) (places n) ≡ None)
+pub site_none : (sites end : ℕ) (places : ℕ → Option ℕ) (n k : ℕ) (known : ℕ → Option ℕ) (xs ys : List Access) → places n ≡ Some k → IsRefresh (border sites end places n) xs → IsHonest known xs → IsHonest (known_after known xs) ys
+    → IsSiteRead sites end k None ys → IsRefresh (border sites end places (n + 1)) (xs ++ ys) × (found_cell sites end (xs ++ ys) (places n) ≡ None)
 site_none sites end places n k known xs ys at f h g (v, is, clear) =
     let r = word_of sites end k in
     let shows : Shows (known_after known xs r) v = (subst (IsHonest (known_after known xs)) is g).0 in
@@ -130,8 +130,8 @@ site_none sites end places n k known xs ys at f h g (v, is, clear) =
         go true is same = grind (arith, is)
         go false is same = absurd (none-some u same)
 
-pub site_some : (sites end : ℕ) (places : ℕ → Option ℕ) (n k : ℕ) (cell : CellValue) (known : ℕ → Option ℕ) (xs ys : List Access) → places n ≡ Some k → IsRefresh sites end places n xs → IsHonest known xs → IsHonest (known_after known xs) ys
-    → IsSiteRead sites end k (Some cell) ys → IsRefresh sites end places (n + 1) (xs ++ ys) × (found_cell sites end (xs ++ ys) (places n) ≡ Some cell)
+pub site_some : (sites end : ℕ) (places : ℕ → Option ℕ) (n k : ℕ) (cell : CellValue) (known : ℕ → Option ℕ) (xs ys : List Access) → places n ≡ Some k → IsRefresh (border sites end places n) xs → IsHonest known xs → IsHonest (known_after known xs) ys
+    → IsSiteRead sites end k (Some cell) ys → IsRefresh (border sites end places (n + 1)) (xs ++ ys) × (found_cell sites end (xs ++ ys) (places n) ≡ Some cell)
 site_some sites end places n k cell known xs ys at f h g (v, low, high, is, set, says) =
     let r = word_of sites end k in
     let g' : IsHonest (known_after known xs) (three v low high) = subst (IsHonest (known_after known xs)) is g in
@@ -194,8 +194,8 @@ newer_else mid n j None ne = refl
 newer_else mid n j (Some c) ne = get_or-set_other mid n j (newer (slice_index_or mid n no_cell) (Some c)) no_cell ne
 
 module _ (sites end : ℕ) (places : ℕ → Option ℕ) (n : ℕ) (xs ys : List Access) (old mid new : List CellValue) (lt : n < length mid) where
-  cells_on : (found : Option CellValue) → IsRefresh sites end places n xs → AreNewer sites end places n xs old mid → new ≡ with_newer mid n found → found_cell sites end (xs ++ ys) (places n) ≡ found
-      → AreNewer sites end places (n + 1) (xs ++ ys) old new
+  cells_on : (found : Option CellValue) → IsRefresh (border sites end places n) xs → AreNewer (border sites end places n) xs old mid → new ≡ with_newer mid n found → found_cell sites end (xs ++ ys) (places n) ≡ found
+      → AreNewer (border sites end places (n + 1)) (xs ++ ys) old new
   cells_on found f a is saw = record {
     length = ap length is ∙ (newer_step old mid n found lt ∙ a.length);
     done = λ j less. ⊎_elim
@@ -206,8 +206,8 @@ module _ (sites end : ℕ) (places : ℕ → Option ℕ) (n : ℕ) (xs ys : List
     rest = λ j more. ap (λ zs. slice_index_or zs j no_cell) is ∙ (newer_else mid n j found (omega (arith, more)) ∙ a.rest j (omega (arith, more)));
   }
 
-  pub refreshes_more : (edge : ℕ) (a b d : ℕ → EndLists) → IsHeld (a edge) → Adds a b edge xs → Adds b d edge ys → IsRefresh sites end places n xs → AreNewer sites end places n xs old mid
-      → IsSiteRefresh sites end (places n) ys n mid new → Refreshes sites end places (n + 1) edge a d old new
+  pub refreshes_more : (edge : ℕ) (a b d : ℕ → EndLists) → IsHeld (a edge) → Adds a b edge xs → Adds b d edge ys → IsRefresh (border sites end places n) xs → AreNewer (border sites end places n) xs old mid
+      → ReadsSite sites end (places n) (IsNewerAt n mid new) ys → Refreshes (border sites end places (n + 1)) edge (cells_at old a) (cells_at new d)
   refreshes_more edge a b d held s t f m r = go (places n) refl r
     where
       both : Adds a d edge (xs ++ ys)
@@ -216,7 +216,7 @@ module _ (sites end : ℕ) (places : ℕ → Option ℕ) (n : ℕ) (xs ys : List
       honest : IsHonest (known_after (known_value (a edge)) xs) ys
       honest = subst (λ k. IsHonest k ys) (known_adds a b edge xs held s) t.honest
 
-      of_site : (k : ℕ) → places n ≡ Some k → (found : Option CellValue) → IsSiteRead sites end k found ys → new ≡ with_newer mid n found → Refreshes sites end places (n + 1) edge a d old new
+      of_site : (k : ℕ) → places n ≡ Some k → (found : Option CellValue) → IsSiteRead sites end k found ys → new ≡ with_newer mid n found → Refreshes (border sites end places (n + 1)) edge (cells_at old a) (cells_at new d)
       of_site k at None read is =
           let p = site_none sites end places n k (known_value (a edge)) xs ys at f s.honest honest read in
           record { more = xs ++ ys; adds = both; reads = p.0; cells = cells_on None f m is p.1 }
@@ -224,14 +224,14 @@ module _ (sites end : ℕ) (places : ℕ → Option ℕ) (n : ℕ) (xs ys : List
           let p = site_some sites end places n k c (known_value (a edge)) xs ys at f s.honest honest read in
           record { more = xs ++ ys; adds = both; reads = p.0; cells = cells_on (Some c) f m is p.1 }
 
-      go : (o : Option ℕ) → places n ≡ o → IsSiteRefresh sites end o ys n mid new → Refreshes sites end places (n + 1) edge a d old new
+      go : (o : Option ℕ) → places n ≡ o → ReadsSite sites end o (IsNewerAt n mid new) ys → Refreshes (border sites end places (n + 1)) edge (cells_at old a) (cells_at new d)
       go None at r =
           let none_more : xs ≡ xs ++ ys = sym (append-nil xs) ∙ ap (λ zs. xs ++ zs) (sym r.0) in
           let e : found_cell sites end (xs ++ ys) (places n) ≡ None = ap (found_cell sites end (xs ++ ys)) at in
-          record { more = xs ++ ys; adds = both; reads = subst (IsRefresh sites end places (n + 1)) none_more (refresh_none sites end places n xs at f); cells = cells_on None f m r.1 e }
+          record { more = xs ++ ys; adds = both; reads = subst (IsRefresh (border sites end places (n + 1))) none_more (refresh_none sites end places n xs at f); cells = cells_on None f m r.1 e }
       go (Some k) at r = of_site k at r.0 r.1 r.2
 
-pub refreshes_begin : (sites end : ℕ) (places : ℕ → Option ℕ) (edge : ℕ) (a : ℕ → EndLists) (cells : List CellValue) → Refreshes sites end places 0 edge a a cells cells
+pub refreshes_begin : (sites end : ℕ) (places : ℕ → Option ℕ) (edge : ℕ) (a : ℕ → EndLists) (cells : List CellValue) → Refreshes (border sites end places 0) edge (cells_at cells a) (cells_at cells a)
 refreshes_begin sites end places edge a cells = record {
   more = [];
   adds = adds_none a edge;
@@ -239,7 +239,7 @@ refreshes_begin sites end places edge a cells = record {
   cells = record { length = refl; done = λ j lt. absurd (omega (arith, lt)); rest = λ j le. refl };
 }
 
-pub site_skipped : (sites end n : ℕ) (cells : List CellValue) (o : Option ℕ) → ((k : ℕ) → o ≡ Some k → ⊥) → IsSiteRefresh sites end o [] n cells cells
+pub site_skipped : (sites end n : ℕ) (cells : List CellValue) (o : Option ℕ) → ((k : ℕ) → o ≡ Some k → ⊥) → ReadsSite sites end o (IsNewerAt n cells cells) []
 site_skipped sites end n cells None not = (refl, refl)
 site_skipped sites end n cells (Some k) not = absurd (not k refl)
 
@@ -251,7 +251,7 @@ module _ (sites end : ℕ) (p q : ℕ → Option ℕ) (n : ℕ) (same : (j : ℕ
   pub covers_to : (k : ℕ) → Covers p n k → Covers q n k
   covers_to k c = (c.0, c.1, sym (same c.0 c.1) ∙ c.2)
 
-  refresh_by : (xs : List Access) → IsRefresh sites end p n xs → IsRefresh sites end q n xs
+  refresh_by : (xs : List Access) → IsRefresh (border sites end p n) xs → IsRefresh (border sites end q n) xs
   refresh_by xs r = record {
     silent = r.silent;
     words = λ k c. r.words k (covers_by k c);
@@ -259,7 +259,7 @@ module _ (sites end : ℕ) (p q : ℕ → Option ℕ) (n : ℕ) (same : (j : ℕ
     only = λ r' v g. let a = r.only r' v g in (a.0, covers_to a.0 a.1, a.2);
   }
 
-  pub refreshes_by : (edge : ℕ) (a b : ℕ → EndLists) (old new : List CellValue) → Refreshes sites end p n edge a b old new → Refreshes sites end q n edge a b old new
+  pub refreshes_by : (edge : ℕ) (a b : ℕ → EndLists) (old new : List CellValue) → Refreshes (border sites end p n) edge (cells_at old a) (cells_at new b) → Refreshes (border sites end q n) edge (cells_at old a) (cells_at new b)
   refreshes_by edge a b old new r = record {
     more = r.more;
     adds = r.adds;

@@ -16,12 +16,13 @@ use Rattle.list_laws.proofs.Tests.{both}
 use Rattle.cell_grid.specs.Grid.{GridValue, site_atom}
 use Rattle.edge_lock.specs.EndLists.{EndLists, IsHeld}
 use Rattle.border_cache.specs.Cells.{CellValue, cell_value, newest}
-use Rattle.border_cache.specs.News.{no_cell}
+use Rattle.border_cache.specs.News.{no_cell, cells_at}
 use Rattle.border_cache.specs.Published.{cell_at}
-use Rattle.border_cache.specs.Windows.{has, IsEdgeFor, RefreshesAll, PublishesAll, seen_on}
-use Rattle.border_cache.specs.Copies.{CacheValue, cache_of, columns_of, rows_of, place_held, held_cell, cell_for, window_cells, Puts, PutsFor, HoldsWindow, IsCentre, IsEndOf, IsFirstCopy, IsFirstRectangle, Stores, Refreshed}
+use Rattle.border_cache.specs.Windows.{has, end_at, IsEdgeFor, RefreshesAll, PublishesAll, seen_on, centre_of}
+use Rattle.border_cache.specs.Copies.{CacheValue, cache_of, columns_of, rows_of, place_held, held_cell, cell_for, window_cells, Puts, PutsFor, HoldsWindow, IsCentre, IsEndOf, IsFirstCopy, IsFirstRectangle, Stores, Refreshed, copy_at, patch}
 use Rattle.border_cache.proofs.Apart.{sites_apart}
 use Rattle.border_cache.proofs.Needs.{adds_all_begins}
+use Rattle.edge_lock.specs.EndValues.{EndValue, SameEnd}
 
 pub place_inside : (m : MapValue) (t : ℕ) (s : Site) → is_held m t s ≡ true → place_held m t s < columns_of m t * rows_of m t
 place_inside m t s h =
@@ -116,7 +117,7 @@ pub centre_row : (m : MapValue) (t : ℕ) (c : Site) → IsCentre m t c → c.y 
 centre_row m t c q = ltb-true c.y (m.ty * m.h) (both _ _ (live_plane m c q.live)).1
 
 -- the cells of the rectangle at the start
-pub first_copy : (m : MapValue) (t : ℕ) (g : GridValue) (cells : List CellValue) → IsFirstRectangle g (left_of m t) (top_of m t) (columns_of m t) (rows_of m t) cells → IsFirstCopy m t g (cache_of m t cells)
+pub first_copy : (m : MapValue) (t : ℕ) (g : GridValue) (cells : List CellValue) → IsFirstRectangle g (patch (left_of m t) (top_of m t) (columns_of m t) (rows_of m t)) cells → IsFirstCopy m t g (cache_of m t cells)
 first_copy m t g cells r = record {
   map = refl;
   tile = refl;
@@ -144,9 +145,8 @@ joined_end m e t u j = ⊎_elim
     (λ (p : (low_end m e ≡ u) × (high_end m e ≡ t)). let q = p.1 in grind (arith, nat_tests, q))
     j
 
-module _ (m : MapValue) (plane : IsPlane m) (t tile : ℕ) (c : Site) (registers end_of : ℕ → ℕ) (lists : ℕ → EndLists) (board : IsEndOf m t tile registers end_of) (needs : List ℕ) (is : needs ≡ needs_of m t c)
-    (held : (e : ℕ) → has e needs ≡ true → IsHeld (lists e)) where
-  pub needs_ready : All (IsEdgeFor m registers lists) needs
+module _ (m : MapValue) (plane : IsPlane m) (t : ℕ) (c : Site) (end : EndValue) (board : IsEndOf m t end) (needs : List ℕ) (is : needs ≡ needs_of m t c) (held : (e : ℕ) → has e needs ≡ true → IsHeld (end.lists e)) where
+  pub needs_ready : All (IsEdgeFor m end.registers end.lists) needs
   needs_ready k d lt =
       let e = get_or needs k d in
       let one : slice_index_or needs k e ≡ e = get_or_default needs k e d lt in
@@ -160,12 +160,20 @@ module _ (m : MapValue) (plane : IsPlane m) (t tile : ℕ) (c : Site) (registers
   pub needs_rising : IsStrictlyIncreasing needs
   needs_rising = subst IsStrictlyIncreasing (sym is) (plane.needs.rising t c)
 
+-- an end that stays is that of the same tile of the plane
+pub end_stays : (m : MapValue) (t u : ℕ) (a b : EndValue) → u ≡ t → SameEnd a b → IsEndOf m t a → IsEndOf m u b
+end_stays m t u a b number same end = record {
+  tile_is = same.0 ∙ (end.tile_is ∙ sym number);
+  registers_are = λ e h. ap (λ f. f e) same.1 ∙ end.registers_are e (subst (λ n. has_end m n e ≡ true) number h);
+  end_is = λ e h. ap (λ f. f e) same.2 ∙ (end.end_is e (subst (λ n. has_end m n e ≡ true) number h) ∙ ap (λ n. end_at m n e) (sym number));
+}
+
 -- only the cells of the 41 sites matter
 pub stores_by : (c : Site) (p q : ℕ → CellValue) (old new : CacheValue) → ((n : ℕ) → n < 41 → p n ≡ q n) → Stores c p old new → Stores c q old new
 stores_by c p q old new same s = record { differs = s.differs; done = λ n u lt at. s.done n u lt at ∙ same n lt }
 
 pub refreshed_by : (c : Site) (edges : List ℕ) (old new : CacheValue) (a b : ℕ → EndLists) (before after : List CellValue) → ((n : ℕ) → n < 41 → cell_at before n ≡ window_cells old c n)
-    → RefreshesAll old.map old.tile c edges a b before after → Stores c (cell_at after) old new → Refreshed c edges old new a b
+    → RefreshesAll (centre_of old.map old.tile c) edges (cells_at before a) (cells_at after b) → Stores c (cell_at after) old new → Refreshed c edges (copy_at old a) (copy_at new b)
 refreshed_by c edges old new a b before after same r s = record {
   more = r.more;
   adds = r.adds;
@@ -175,7 +183,7 @@ refreshed_by c edges old new a b before after same r s = record {
 }
 
 -- where no edge is needed, nothing is news
-pub refreshed_none : (c : Site) (v : CacheValue) (a : ℕ → EndLists) → Refreshed c [] v v a a
+pub refreshed_none : (c : Site) (v : CacheValue) (a : ℕ → EndLists) → Refreshed c [] (copy_at v a) (copy_at v a)
 refreshed_none c v a = record {
   more = λ e. [];
   adds = adds_all_begins a;
@@ -183,7 +191,7 @@ refreshed_none c v a = record {
   stores = record { differs = record { map = refl; tile = refl; others = λ s h out. refl }; done = λ n s lt at. sym (ap (cell_for v) at) };
 }
 
-pub publishes_by : (m : MapValue) (t : ℕ) (c : Site) (edges : List ℕ) (p q : ℕ → CellValue) (a b : ℕ → EndLists) → ((n : ℕ) → n < 41 → p n ≡ q n) → PublishesAll m t c edges p a b → PublishesAll m t c edges q a b
+pub publishes_by : (m : MapValue) (t : ℕ) (c : Site) (edges : List ℕ) (p q : ℕ → CellValue) (a b : ℕ → EndLists) → ((n : ℕ) → n < 41 → p n ≡ q n) → PublishesAll (centre_of m t c) edges p a b → PublishesAll (centre_of m t c) edges q a b
 publishes_by m t c edges p q a b same r = record {
   more = r.more;
   adds = r.adds;

@@ -3,6 +3,7 @@ use Rattle.std.specs.Prelude.{ℕ, ◌≡◌, ◌==◌, Bool, true, false, if◌
 use Rattle.edge_lock.specs.declared.history.Access.{Access}
 use Rattle.edge_lock.specs.declared.history.Access.TheVariants.{Read, Write}
 use Rattle.edge_lock.specs.declared.history.Hold.{Hold}
+use Rattle.edge_lock.specs.EndValues.{EndValue}
 use Rattle.edge_lock.specs.EndLists.{EndLists, end_lists, hold_of, change_last, known_value, Shows, replace_at}
 
 -- the value of the last write to the register, if `start` was written before
@@ -45,3 +46,7 @@ after_all more lists = end_lists (change_last (with_all more) lists.holds) lists
 pub record Adds (old new : ℕ → EndLists) (edge : ℕ) (more : List Access) : Type 0 where
   pub lists : new ≡ replace_at old edge (after_all more (old edge))
   pub honest : IsHonest (known_value (old edge)) more
+
+-- the open hold of an edge has some accesses more, of this kind, and nothing else changed
+abbrev pub AddsSome : ℕ → (List Access → Type 0) → EndValue → EndValue → Type 0
+AddsSome edge P old new = (more : List Access) × Adds old.lists new.lists edge more × P more

@@ -1,6 +1,7 @@
 -- A tile's copy of the sites that it holds, and what the calls do to it.
-use Rattle.std.specs.Prelude.{ℕ, ◌≡◌, ◌+◌, ◌-◌, ◌*◌, ◌/◌, ◌%◌, ◌<◌, ◌≤◌, true, false, List, length, slice_index_or, Option, Some, None}
+use Rattle.std.specs.Prelude.{ℕ, ◌≡◌, ◌+◌, ◌-◌, ◌*◌, ◌/◌, ◌%◌, ◌<◌, ◌≤◌, if◌then◌else◌, true, false, List, length, slice_index_or, Option, Some, None}
 use Rattle.feast_base.specs.Edges.{registers_of}
+use Rattle.bit_field.specs.Atom.{AtomValue, empty_atom}
 use Rattle.window_sites.specs.Window.{WindowValue, atom_at}
 use Rattle.tile_map.specs.Plane.{Site, MapValue, IsMap, site, tiles_of, owner_of, is_live, is_held, in_window}
 use Rattle.tile_map.specs.Spans.{left_of, right_of, top_of, bottom_of}
@@ -8,9 +9,10 @@ use Rattle.tile_map.specs.Edges.{window_site, has_end}
 use Rattle.cell_grid.specs.Grid.{GridValue, site_atom}
 use Rattle.edge_lock.specs.declared.history.Access.{Access}
 use Rattle.edge_lock.specs.EndLists.{EndLists}
+use Rattle.edge_lock.specs.EndValues.{EndValue}
 use Rattle.border_cache.specs.Cells.{CellValue, cell_value, newest}
 use Rattle.border_cache.specs.News.{IsRefresh, no_cell}
-use Rattle.border_cache.specs.Windows.{has, place_in, end_at, sites_on, AddsAll, seen_on}
+use Rattle.border_cache.specs.Windows.{has, centre_of, end_at, sites_on, border_at, AddsAll, PublishesAll, seen_on, is_shown}
 
 -- a copy: the plane and the tile that it was made for, and a cell for each site of the rectangle that the tile reaches, row by row
 pub record CacheValue : Type 0 where
@@ -56,16 +58,16 @@ abbrev pub PutsFor : Option Site → CellValue → CacheValue → CacheValue →
 PutsFor None cell old new = new ≡ old
 PutsFor (Some s) cell old new = Puts s cell old new
 
--- how a copy is kept
-pub record IsCopy (m : MapValue) (t left top width : ℕ) (cells : List CellValue) : Type 0 where
-  pub valid : IsMap m
-  pub inside : t < tiles_of m
-  pub left_is : left ≡ left_of m t
-  pub top_is : top ≡ top_of m t
-  pub width_is : width ≡ columns_of m t
-  pub narrow : columns_of m t ≤ 72
-  pub short : rows_of m t ≤ 72
-  pub count : length cells ≡ columns_of m t * rows_of m t
+-- how a copy is kept: with the left column and the top row of the rectangle that the tile reaches, and its width
+pub record IsCopy (v : CacheValue) (left top width : ℕ) : Type 0 where
+  pub valid : IsMap v.map
+  pub inside : v.tile < tiles_of v.map
+  pub left_is : left ≡ left_of v.map v.tile
+  pub top_is : top ≡ top_of v.map v.tile
+  pub width_is : width ≡ columns_of v.map v.tile
+  pub narrow : columns_of v.map v.tile ≤ 72
+  pub short : rows_of v.map v.tile ≤ 72
+  pub count : length v.cells ≡ columns_of v.map v.tile * rows_of v.map v.tile
 
 -- a grid of the plane's size, with its live sites
 pub record IsGridOf (m : MapValue) (g : GridValue) : Type 0 where
@@ -88,11 +90,15 @@ pub record IsCentre (m : MapValue) (t : ℕ) (c : Site) : Type 0 where
 abbrev pub HoldsWindow : MapValue → ℕ → Site → Type 0
 HoldsWindow m t c = (n : ℕ) (s : Site) → n < 41 → window_site m c n ≡ Some s → is_held m t s ≡ true
 
--- a board is the end of tile t of the plane's edges, with the numbers of registers that these have
-pub record IsEndOf (m : MapValue) (t tile : ℕ) (registers end_of : ℕ → ℕ) : Type 0 where
-  pub tile_is : tile ≡ t
-  pub registers_are : (e : ℕ) → has_end m t e ≡ true → registers e ≡ registers_of (sites_on m e)
-  pub end_is : (e : ℕ) → has_end m t e ≡ true → end_of e ≡ end_at m t e
+-- a board's end is that of tile t of the plane's edges, with the numbers of registers that these have
+pub record IsEndOf (m : MapValue) (t : ℕ) (end : EndValue) : Type 0 where
+  pub tile_is : end.tile ≡ t
+  pub registers_are : (e : ℕ) → has_end m t e ≡ true → end.registers e ≡ registers_of (sites_on m e)
+  pub end_is : (e : ℕ) → has_end m t e ≡ true → end.end_of e ≡ end_at m t e
+
+-- what site n of the window at c shows: the atom of the tile's cell, or nothing
+abbrev pub shown_atom : MapValue → CacheValue → Site → ℕ → AtomValue
+shown_atom m v c n = if is_shown m c n then (window_cells v c n).atom else empty_atom
 
 -- two copies differ at most at the live sites of the window at c
 pub record DiffersIn (c : Site) (old new : CacheValue) : Type 0 where
@@ -105,22 +111,47 @@ pub record Stores (c : Site) (cells : ℕ → CellValue) (old new : CacheValue) 
   pub differs : DiffersIn c old new
   pub done : (n : ℕ) (s : Site) → n < 41 → window_site old.map c n ≡ Some s → held_cell new s ≡ cells n
 
+-- what a refresh changes: a tile's copy, and the lists of the tile's end of each edge
+pub record CopyAt : Type 0 where
+  pub cache : CacheValue
+  pub lists : ℕ → EndLists
+
+abbrev pub copy_at : CacheValue → (ℕ → EndLists) → CopyAt
+copy_at cache lists = record { cache = cache; lists = lists }
+
+abbrev pub at : CacheValue → EndValue → CopyAt
+at cache end = copy_at cache end.lists
+
 -- a refresh of the window at c from these edges: each live site has the newest of its own cell and those that were seen
-pub record Refreshed (c : Site) (edges : List ℕ) (old new : CacheValue) (lists lists' : ℕ → EndLists) : Type 0 where
+pub record Refreshed (c : Site) (edges : List ℕ) (old new : CopyAt) : Type 0 where
   pub more : ℕ → List Access
-  pub adds : AddsAll lists lists' edges more
-  pub reads : (e : ℕ) → has e edges ≡ true → IsRefresh (sites_on old.map e) (end_at old.map old.tile e) (place_in old.map c e) 41 (more e)
-  pub stores : Stores c (λ n. newest (window_cells old c n) (seen_on old.map old.tile c more n edges)) old new
+  pub adds : AddsAll old.lists new.lists edges more
+  pub reads : (e : ℕ) → has e edges ≡ true → IsRefresh (border_at old.cache.map old.cache.tile c e) (more e)
+  pub stores : Stores c (λ n. newest (window_cells old.cache c n) (seen_on old.cache.map old.cache.tile c more n edges)) old.cache new.cache
+
+-- a publishing of the copy's cells of the window at c on these edges
+abbrev pub Published : CacheValue → Site → List ℕ → EndValue → EndValue → Type 0
+Published v c edges old new = PublishesAll (centre_of v.map v.tile c) edges (window_cells v c) old.lists new.lists
 
 -- the live sites of the window at c have the atoms of an event's window and its stamp
 abbrev pub Marked : Site → WindowValue → ℕ → CacheValue → CacheValue → Type 0
 Marked c window stamp old new = Stores c (λ n. cell_value stamp (atom_at window n)) old new
+
+-- a rectangle of a grid
+pub record Patch : Type 0 where
+  pub left : ℕ
+  pub top : ℕ
+  pub width : ℕ
+  pub height : ℕ
+
+abbrev pub patch : ℕ → ℕ → ℕ → ℕ → Patch
+patch left top width height = record { left = left; top = top; width = width; height = height }
 
 -- the cell of place k of a rectangle of a grid
 abbrev pub first_cell : GridValue → ℕ → ℕ → ℕ → ℕ → CellValue
 first_cell g left top width k = cell_value 0 (site_atom g (left + k % width) (top + k / width))
 
 -- the cells of a rectangle of a grid, row by row, each with stamp 0
-pub record IsFirstRectangle (g : GridValue) (left top width height : ℕ) (cells : List CellValue) : Type 0 where
-  pub count : length cells ≡ width * height
-  pub each : (k : ℕ) → k < width * height → slice_index_or cells k no_cell ≡ first_cell g left top width k
+pub record IsFirstRectangle (g : GridValue) (p : Patch) (cells : List CellValue) : Type 0 where
+  pub count : length cells ≡ p.width * p.height
+  pub each : (k : ℕ) → k < p.width * p.height → slice_index_or cells k no_cell ≡ first_cell g p.left p.top p.width k

@@ -1,5 +1,4 @@
--- What a refresh reads and a publishing writes on one edge.
--- `places` gives for each site of a window its place among the sites that the edge shares.
+-- What a refresh reads on one edge.
 use Rattle.std.specs.Prelude.{ℕ, ◌≡◌, ◌+◌, ◌*◌, ◌/◌, ◌%◌, ◌<◌, ◌≤◌, length, slice_index_or, slice_set, ◌==◌, ◌⊎◌, Bool, true, false, if◌then◌else◌, List, [], ◌∷◌, Option, Some, None}
 use Rattle.std.specs.Int.{bit_at}
 use Rattle.feast_base.specs.Edges.{news_register}
@@ -7,9 +6,29 @@ use Rattle.edge_lock.specs.declared.history.Access.{Access}
 use Rattle.edge_lock.specs.declared.history.Access.TheVariants.{Read}
 use Rattle.edge_lock.specs.History.{found_value}
 use Rattle.edge_lock.specs.EndLists.{EndLists, writes_nothing}
+use Rattle.edge_lock.specs.EndValues.{EndValue}
 use Rattle.border_cache.specs.Accesses.{Adds}
 use Rattle.border_cache.specs.Cells.{CellValue, cell_of, cell_value, newer}
 use Rattle.bit_field.specs.Atom.{empty_atom}
+
+-- One end of an edge, as a window meets it: how many sites the edge shares, which end it is, the place that each site of
+-- the window has among the shared sites, if it is one of them, and how many sites of the window are looked at.
+pub record Border : Type 0 where
+  pub sites : ℕ
+  pub end : ℕ
+  pub places : ℕ → Option ℕ
+  pub count : ℕ
+
+abbrev pub border : ℕ → ℕ → (ℕ → Option ℕ) → ℕ → Border
+border sites end places count = record { sites = sites; end = end; places = places; count = count }
+
+-- the places of a window's sites, as a list
+abbrev pub nth_place : List (Option ℕ) → ℕ → Option ℕ
+nth_place places n = slice_index_or places n None
+
+-- a border whose places are listed
+abbrev pub listed : ℕ → ℕ → List (Option ℕ) → Border
+listed sites end places = border sites end (nth_place places) (length places)
 
 -- one of the first n sites of the window is at place k
 abbrev pub Covers : (ℕ → Option ℕ) → ℕ → ℕ → Type 0
@@ -18,6 +37,10 @@ Covers places n k = (j : ℕ) × (j < n) × (places j ≡ Some k)
 -- the register of the news word of an end that has the bit of place k
 abbrev pub word_of : ℕ → ℕ → ℕ → ℕ
 word_of sites end k = news_register sites end (k / 64)
+
+-- the register is one of the two that have the cell of place k
+abbrev pub IsOfCell : ℕ → ℕ → Type 0
+IsOfCell k register = (register ≡ 1 + 2 * k) ⊎ (register ≡ 2 + 2 * k)
 
 -- whether a news word that was found has the bit of place k set
 abbrev pub has_bit : Option ℕ → ℕ → Bool
@@ -43,18 +66,26 @@ abbrev pub found_cell : ℕ → ℕ → List Access → Option ℕ → Option Ce
 found_cell sites end accesses None = None
 found_cell sites end accesses (Some k) = found_cell_at sites end accesses k
 
--- the register is the news word of a covered place, or one of the two registers of a covered place that was found to be news
-abbrev pub IsAsked : ℕ → ℕ → (ℕ → Option ℕ) → ℕ → List Access → ℕ → Type 0
-IsAsked sites end places n accesses register =
-    (k : ℕ) × Covers places n k × ((register ≡ word_of sites end k) ⊎ ((is_news sites end accesses k ≡ true) × ((register ≡ 1 + 2 * k) ⊎ (register ≡ 2 + 2 * k))))
+-- a value was found in the register
+abbrev pub Finds : List Access → ℕ → Type 0
+Finds accesses register = (value : ℕ) × (found_value accesses register ≡ Some value)
+
+-- both words of the cell of place k were found
+abbrev pub FindsCell : List Access → ℕ → Type 0
+FindsCell accesses k = (low : ℕ) × (high : ℕ) × (found_value accesses (1 + 2 * k) ≡ Some low) × (found_value accesses (2 + 2 * k) ≡ Some high)
+
+-- a refresh may read the register: it is the news word of a covered place, or one of the two registers of a covered place
+-- that was found to be news
+abbrev pub IsAsked : Border → List Access → ℕ → Type 0
+IsAsked b accesses register =
+    (k : ℕ) × Covers b.places b.count k × ((register ≡ word_of b.sites b.end k) ⊎ ((is_news b.sites b.end accesses k ≡ true) × IsOfCell k register))
 
 -- the reads of a refresh: the end's news words of the covered places, and exactly the cells that are news
-pub record IsRefresh (sites end : ℕ) (places : ℕ → Option ℕ) (n : ℕ) (accesses : List Access) : Type 0 where
+pub record IsRefresh (b : Border) (accesses : List Access) : Type 0 where
   pub silent : writes_nothing accesses ≡ true
-  pub words : (k : ℕ) → Covers places n k → (value : ℕ) × (found_value accesses (word_of sites end k) ≡ Some value)
-  pub cells : (k : ℕ) → Covers places n k → is_news sites end accesses k ≡ true
-      → (low : ℕ) × (high : ℕ) × (found_value accesses (1 + 2 * k) ≡ Some low) × (found_value accesses (2 + 2 * k) ≡ Some high)
-  pub only : (register value : ℕ) → found_value accesses register ≡ Some value → IsAsked sites end places n accesses register
+  pub words : (k : ℕ) → Covers b.places b.count k → Finds accesses (word_of b.sites b.end k)
+  pub cells : (k : ℕ) → Covers b.places b.count k → is_news b.sites b.end accesses k ≡ true → FindsCell accesses k
+  pub only : (register value : ℕ) → found_value accesses register ≡ Some value → IsAsked b accesses register
 
 -- the reads at one place: its news word, and its cell if the bit is set
 abbrev pub IsSiteRead : ℕ → ℕ → ℕ → Option CellValue → List Access → Type 0
@@ -62,38 +93,49 @@ IsSiteRead sites end k None accesses = (word : ℕ) × (accesses ≡ Read (word_
 IsSiteRead sites end k (Some cell) accesses =
     (word : ℕ) × (low : ℕ) × (high : ℕ) × (accesses ≡ Read (word_of sites end k) word ∷ Read (1 + 2 * k) low ∷ Read (2 + 2 * k) high ∷ []) × (bit_at word (k % 64) ≡ 1) × (cell ≡ cell_of low high)
 
--- the places of a window's sites, as a list
-abbrev pub nth_place : List (Option ℕ) → ℕ → Option ℕ
-nth_place places n = slice_index_or places n None
-
 -- no cell
 abbrev pub no_cell : CellValue
 no_cell = cell_value 0 empty_atom
 
 -- the cells of a window after those that were seen on one edge
-pub record AreNewer (sites end : ℕ) (places : ℕ → Option ℕ) (n : ℕ) (accesses : List Access) (old new : List CellValue) : Type 0 where
+pub record AreNewer (b : Border) (accesses : List Access) (old new : List CellValue) : Type 0 where
   pub length : length new ≡ length old
-  pub done : (j : ℕ) → j < n → slice_index_or new j no_cell ≡ newer (slice_index_or old j no_cell) (found_cell sites end accesses (places j))
-  pub rest : (j : ℕ) → n ≤ j → slice_index_or new j no_cell ≡ slice_index_or old j no_cell
+  pub done : (j : ℕ) → j < b.count → slice_index_or new j no_cell ≡ newer (slice_index_or old j no_cell) (found_cell b.sites b.end accesses (b.places j))
+  pub rest : (j : ℕ) → b.count ≤ j → slice_index_or new j no_cell ≡ slice_index_or old j no_cell
 
 -- a place is one of an edge's shared sites
 abbrev pub IsPlace : ℕ → Option ℕ → Type 0
 IsPlace sites None = Unit {0}
 IsPlace sites (Some k) = k < sites
 
+-- what a refresh changes: the cells of a window, and the lists of a tile's end of each edge
+pub record CellsAt : Type 0 where
+  pub cells : List CellValue
+  pub lists : ℕ → EndLists
+
+abbrev pub cells_at : List CellValue → (ℕ → EndLists) → CellsAt
+cells_at cells lists = record { cells = cells; lists = lists }
+
+abbrev pub at : List CellValue → EndValue → CellsAt
+at cells end = cells_at cells end.lists
+
 -- a refresh of the cells of a window on one edge
-pub record Refreshes (sites end : ℕ) (places : ℕ → Option ℕ) (n edge : ℕ) (lists lists' : ℕ → EndLists) (old new : List CellValue) : Type 0 where
+pub record Refreshes (b : Border) (edge : ℕ) (old new : CellsAt) : Type 0 where
   pub more : List Access
-  pub adds : Adds lists lists' edge more
-  pub reads : IsRefresh sites end places n more
-  pub cells : AreNewer sites end places n more old new
+  pub adds : Adds old.lists new.lists edge more
+  pub reads : IsRefresh b more
+  pub cells : AreNewer b more old.cells new.cells
 
 -- the cells with a newer one at n, if one was found
 abbrev pub with_newer : List CellValue → ℕ → Option CellValue → List CellValue
 with_newer cells n None = cells
 with_newer cells n (Some cell) = slice_set cells n (newer (slice_index_or cells n no_cell) (Some cell))
 
--- a refresh of cell n, which may be at a place
-abbrev pub IsSiteRefresh : ℕ → ℕ → Option ℕ → List Access → ℕ → List CellValue → List CellValue → Type 0
-IsSiteRefresh sites end None accesses n old new = (accesses ≡ []) × (new ≡ old)
-IsSiteRefresh sites end (Some k) accesses n old new = (found : Option CellValue) × IsSiteRead sites end k found accesses × (new ≡ with_newer old n found)
+-- cell n is now the newer of what it was and of the one that was found, if there is one
+abbrev pub IsNewerAt : ℕ → List CellValue → List CellValue → Option CellValue → Type 0
+IsNewerAt n old new found = new ≡ with_newer old n found
+
+-- what was read for a site that may be at a place, and what is true of the cell that was found there
+abbrev pub ReadsSite : ℕ → ℕ → Option ℕ → (Option CellValue → Type 0) → List Access → Type 0
+ReadsSite sites end None P accesses = (accesses ≡ []) × P None
+ReadsSite sites end (Some k) P accesses = (found : Option CellValue) × IsSiteRead sites end k found accesses × P found

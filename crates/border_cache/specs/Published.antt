@@ -1,5 +1,5 @@
 -- What a publishing does on one edge: it writes cells, and marks them as no news for the one end and as news for the other.
-use Rattle.std.specs.Prelude.{ℕ, ◌≡◌, ◌+◌, ◌*◌, ◌/◌, ◌%◌, ◌-◌, ◌<◌, ◌⊎◌, slice_index_or, Bool, true, false, List, [], ◌∷◌, Option, Some, None}
+use Rattle.std.specs.Prelude.{ℕ, ◌≡◌, ◌+◌, ◌*◌, ◌/◌, ◌%◌, ◌-◌, ◌<◌, ◌⊎◌, length, slice_index_or, Bool, true, false, List, [], ◌∷◌, Option, Some, None}
 use Rattle.std.specs.Int.{bit_at}
 use Rattle.list_laws.specs.Booleans.{digit}
 use Rattle.feast_base.specs.Edges.{news_register}
@@ -9,28 +9,38 @@ use Rattle.edge_lock.specs.History.{found_value}
 use Rattle.edge_lock.specs.EndLists.{last_shown}
 use Rattle.border_cache.specs.Accesses.{last_write, is_read, reads_nothing}
 use Rattle.border_cache.specs.Cells.{CellValue, cell_of}
-use Rattle.border_cache.specs.News.{Covers, word_of, no_cell}
+use Rattle.border_cache.specs.News.{Border, border, nth_place, Covers, word_of, IsOfCell, no_cell}
+
+-- the same edge, from its other end
+abbrev pub across : Border → Border
+across b = border b.sites (1 - b.end) b.places b.count
 
 -- a word with one bit changed
 pub record IsWithBit (old : ℕ) (i : ℕ) (bit : Bool) (new : ℕ) : Type 0 where
   pub same : bit_at new i ≡ digit bit
   pub others : (j : ℕ) → j < 64 → (j ≡ i → ⊥) → bit_at new j ≡ bit_at old j
 
--- the news word j of an end: first read as one word, written last as another, in which the bits of the covered places are all the same and the other bits are as they were
-pub record IsWordMarked (sites end : ℕ) (bit : Bool) (places : ℕ → Option ℕ) (n : ℕ) (accesses : List Access) (j : ℕ) : Type 0 where
+-- The news word j of an end: it was first read as one word and written last as another, in which the bits of the covered
+-- places are all the same, and the other bits are as they were.
+pub record IsWordMarked (b : Border) (bit : Bool) (accesses : List Access) (j : ℕ) : Type 0 where
   pub first : ℕ
   pub last : ℕ
-  pub found : found_value accesses (news_register sites end j) ≡ Some first
-  pub written : last_write accesses (news_register sites end j) None ≡ Some last
-  pub marked : (i : ℕ) → i < 64 → Covers places n (64 * j + i) → bit_at last i ≡ digit bit
-  pub kept : (i : ℕ) → i < 64 → (Covers places n (64 * j + i) → ⊥) → bit_at last i ≡ bit_at first i
+  pub found : found_value accesses (news_register b.sites b.end j) ≡ Some first
+  pub written : last_write accesses (news_register b.sites b.end j) None ≡ Some last
+  pub marked : (i : ℕ) → i < 64 → Covers b.places b.count (64 * j + i) → bit_at last i ≡ digit bit
+  pub kept : (i : ℕ) → i < 64 → (Covers b.places b.count (64 * j + i) → ⊥) → bit_at last i ≡ bit_at first i
+
+-- the register is the end's news word of a covered place
+abbrev pub IsCoveredWord : Border → ℕ → Type 0
+IsCoveredWord b register = (k : ℕ) × Covers b.places b.count k × (register ≡ word_of b.sites b.end k)
 
 -- the news words of an end after the bits of the covered places were set, or cleared
-pub record IsMarked (sites end : ℕ) (bit : Bool) (places : ℕ → Option ℕ) (n : ℕ) (accesses : List Access) : Type 0 where
-  pub words : (k : ℕ) → Covers places n k → IsWordMarked sites end bit places n accesses (k / 64)
-  pub shown : (k : ℕ) → Covers places n k → (start : Option ℕ) → last_shown accesses (word_of sites end k) start ≡ last_write accesses (word_of sites end k) None
-  pub only_read : (register : ℕ) → is_read accesses register ≡ true → (k : ℕ) × Covers places n k × (register ≡ word_of sites end k)
-  pub only_written : (register value : ℕ) → last_write accesses register None ≡ Some value → (k : ℕ) × Covers places n k × (register ≡ word_of sites end k)
+pub record IsMarked (b : Border) (bit : Bool) (accesses : List Access) : Type 0 where
+  pub words : (k : ℕ) → Covers b.places b.count k → IsWordMarked b bit accesses (k / 64)
+  pub shown : (k : ℕ) → Covers b.places b.count k → (start : Option ℕ)
+      → last_shown accesses (word_of b.sites b.end k) start ≡ last_write accesses (word_of b.sites b.end k) None
+  pub only_read : (register : ℕ) → is_read accesses register ≡ true → IsCoveredWord b register
+  pub only_written : (register value : ℕ) → last_write accesses register None ≡ Some value → IsCoveredWord b register
 
 -- one bit is changed, if there is a place
 abbrev pub IsBitPut : ℕ → ℕ → Bool → Option ℕ → List Access → Type 0
@@ -44,21 +54,38 @@ ArePlaces places n = (i j k : ℕ) → i < n → j < n → places i ≡ Some k �
 abbrev pub cell_at : List CellValue → ℕ → CellValue
 cell_at cells n = slice_index_or cells n no_cell
 
+-- both words of a cell are left at place k
+abbrev pub LeavesCell : List Access → ℕ → CellValue → Type 0
+LeavesCell accesses k cell = (low : ℕ) × (high : ℕ) × (last_write accesses (1 + 2 * k) None ≡ Some low) × (last_write accesses (2 + 2 * k) None ≡ Some high) × (cell_of low high ≡ cell)
+
 -- the cells of the first n sites of a window, written at their places
 pub record ArePut (cells : ℕ → CellValue) (places : ℕ → Option ℕ) (n : ℕ) (accesses : List Access) : Type 0 where
   pub unread : reads_nothing accesses ≡ true
-  pub done : (j k : ℕ) → j < n → places j ≡ Some k → (low : ℕ) × (high : ℕ) × (last_write accesses (1 + 2 * k) None ≡ Some low) × (last_write accesses (2 + 2 * k) None ≡ Some high) × (cell_of low high ≡ cells j)
-  pub only : (register value : ℕ) → last_write accesses register None ≡ Some value → (k : ℕ) × Covers places n k × ((register ≡ 1 + 2 * k) ⊎ (register ≡ 2 + 2 * k))
+  pub done : (j k : ℕ) → j < n → places j ≡ Some k → LeavesCell accesses k (cells j)
+  pub only : (register value : ℕ) → last_write accesses register None ≡ Some value → (k : ℕ) × Covers places n k × IsOfCell k register
 
+-- the listed cells, written at the listed places
+abbrev pub AreAllPut : List CellValue → List (Option ℕ) → List Access → Type 0
+AreAllPut cells places accesses = ArePut (cell_at cells) (nth_place places) (length places) accesses
+
+-- one cell is written, if there is a place
 abbrev pub IsCellPut : CellValue → Option ℕ → List Access → Type 0
 IsCellPut cell None accesses = accesses ≡ []
 IsCellPut cell (Some k) accesses = (low : ℕ) × (high : ℕ) × (accesses ≡ Write (1 + 2 * k) low ∷ Write (2 + 2 * k) high ∷ []) × (cell_of low high ≡ cell)
 
--- all that a publishing of n sites does on an edge
-pub record IsPublish (sites end : ℕ) (cells : ℕ → CellValue) (places : ℕ → Option ℕ) (n : ℕ) (accesses : List Access) : Type 0 where
-  pub cells_put : (j k : ℕ) → j < n → places j ≡ Some k → (low : ℕ) × (high : ℕ) × (last_write accesses (1 + 2 * k) None ≡ Some low) × (last_write accesses (2 + 2 * k) None ≡ Some high) × (cell_of low high ≡ cells j)
-  pub mine : (k : ℕ) → Covers places n k → IsWordMarked sites end false places n accesses (k / 64)
-  pub theirs : (k : ℕ) → Covers places n k → IsWordMarked sites (1 - end) true places n accesses (k / 64)
-  pub only_read : (register : ℕ) → is_read accesses register ≡ true → (k : ℕ) × Covers places n k × ((register ≡ word_of sites end k) ⊎ (register ≡ word_of sites (1 - end) k))
-  pub only_written : (register value : ℕ) → last_write accesses register None ≡ Some value
-      → (k : ℕ) × Covers places n k × ((register ≡ 1 + 2 * k) ⊎ ((register ≡ 2 + 2 * k) ⊎ ((register ≡ word_of sites end k) ⊎ (register ≡ word_of sites (1 - end) k))))
+-- the register is the news word of a covered place, of either end
+abbrev pub IsEitherWord : Border → ℕ → Type 0
+IsEitherWord b register = (k : ℕ) × Covers b.places b.count k × ((register ≡ word_of b.sites b.end k) ⊎ (register ≡ word_of b.sites (1 - b.end) k))
+
+-- the register has a word of the cell of a covered place, or is the news word of one, of either end
+abbrev pub IsPublished : Border → ℕ → Type 0
+IsPublished b register =
+    (k : ℕ) × Covers b.places b.count k × ((register ≡ 1 + 2 * k) ⊎ ((register ≡ 2 + 2 * k) ⊎ ((register ≡ word_of b.sites b.end k) ⊎ (register ≡ word_of b.sites (1 - b.end) k))))
+
+-- all that a publishing does on an edge
+pub record IsPublish (b : Border) (cells : ℕ → CellValue) (accesses : List Access) : Type 0 where
+  pub cells_put : (j k : ℕ) → j < b.count → b.places j ≡ Some k → LeavesCell accesses k (cells j)
+  pub mine : (k : ℕ) → Covers b.places b.count k → IsWordMarked b false accesses (k / 64)
+  pub theirs : (k : ℕ) → Covers b.places b.count k → IsWordMarked (across b) true accesses (k / 64)
+  pub only_read : (register : ℕ) → is_read accesses register ≡ true → IsEitherWord b register
+  pub only_written : (register value : ℕ) → last_write accesses register None ≡ Some value → IsPublished b register

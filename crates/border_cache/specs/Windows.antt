@@ -1,16 +1,15 @@
 -- The sites of a window among the shared sites of an edge, and what a refresh does over all needed edges.
-use Rattle.std.specs.Prelude.{ℕ, ◌≡◌, ◌<◌, ◌==◌, ◌&&◌, List, [], ◌∷◌, length, Option, Some, None, slice_index_or, position, is_some, Bool, true, false, if◌then◌else◌}
+use Rattle.std.specs.Prelude.{ℕ, ◌≡◌, ◌<◌, ◌==◌, ◌&&◌, List, [], ◌∷◌, length, Option, Some, None, MatchOption, slice_index_or, position, is_some, Bool, true, false, if◌then◌else◌}
 use Rattle.edge_lock.specs.declared.history.Access.{Access}
-use Rattle.edge_lock.specs.declared.history.Access.TheVariants.{Read}
 use Rattle.border_cache.specs.Published.{IsPublish}
 use Rattle.edge_lock.specs.EndLists.{EndLists, known_value, IsHeld}
 use Rattle.feast_base.specs.Edges.{registers_of}
 use Rattle.window_sites.specs.Window.{WindowValue, IsWindow, atom_at, live_at}
-use Rattle.tile_map.specs.Plane.{Site, MapValue}
+use Rattle.tile_map.specs.Plane.{Site, MapValue, site}
 use Rattle.tile_map.specs.Edges.{shared_of, low_end, pairs_of, window_site}
 use Rattle.border_cache.specs.Cells.{CellValue, newest}
 use Rattle.border_cache.specs.Accesses.{IsHonest, after_all}
-use Rattle.border_cache.specs.News.{found_cell, IsRefresh, no_cell}
+use Rattle.border_cache.specs.News.{Border, border, CellsAt, found_cell, IsRefresh, no_cell}
 
 -- whether e is one of the edges
 abbrev pub has : ℕ → List ℕ → Bool
@@ -59,23 +58,32 @@ abbrev pub seen_on : MapValue → ℕ → Site → (ℕ → List Access) → ℕ
 seen_on m t c more n [] = []
 seen_on m t c more n (e ∷ es) = and_cell (found_cell (sites_on m e) (end_at m t e) (more e) (place_in m c e n)) (seen_on m t c more n es)
 
+-- a site as the centre of a window: the plane, the tile whose site it is, and the site
+pub record Centre : Type 0 where
+  pub map : MapValue
+  pub tile : ℕ
+  pub site : Site
+
+abbrev pub centre_of : MapValue → ℕ → Site → Centre
+centre_of map tile site = record { map = map; tile = tile; site = site }
+
+-- tile t's end of edge e, as the window at c meets it
+abbrev pub border_at : MapValue → ℕ → Site → ℕ → Border
+border_at m t c e = border (sites_on m e) (end_at m t e) (place_in m c e) 41
+
 -- a refresh of the cells of the window at c from these edges
-pub record RefreshesAll (m : MapValue) (t : ℕ) (c : Site) (edges : List ℕ) (lists lists' : ℕ → EndLists) (old new : List CellValue) : Type 0 where
+pub record RefreshesAll (c : Centre) (edges : List ℕ) (old new : CellsAt) : Type 0 where
   pub more : ℕ → List Access
-  pub adds : AddsAll lists lists' edges more
-  pub reads : (e : ℕ) → has e edges ≡ true → IsRefresh (sites_on m e) (end_at m t e) (place_in m c e) 41 (more e)
-  pub length : length new ≡ length old
-  pub cells : (n : ℕ) → n < 41 → slice_index_or new n no_cell ≡ newest (slice_index_or old n no_cell) (seen_on m t c more n edges)
+  pub adds : AddsAll old.lists new.lists edges more
+  pub reads : (e : ℕ) → has e edges ≡ true → IsRefresh (border_at c.map c.tile c.site e) (more e)
+  pub length : length new.cells ≡ length old.cells
+  pub cells : (n : ℕ) → n < 41 → slice_index_or new.cells n no_cell ≡ newest (slice_index_or old.cells n no_cell) (seen_on c.map c.tile c.site more n edges)
 
 -- a publishing of the cells of the window at c on these edges
-pub record PublishesAll (m : MapValue) (t : ℕ) (c : Site) (edges : List ℕ) (cells : ℕ → CellValue) (lists lists' : ℕ → EndLists) : Type 0 where
+pub record PublishesAll (c : Centre) (edges : List ℕ) (cells : ℕ → CellValue) (lists lists' : ℕ → EndLists) : Type 0 where
   pub more : ℕ → List Access
   pub adds : AddsAll lists lists' edges more
-  pub writes : (e : ℕ) → has e edges ≡ true → IsPublish (sites_on m e) (end_at m t e) cells (place_in m c e) 41 (more e)
-
--- one word was read, or written, on each of these edges
-abbrev pub Reads : ℕ → List Access → Type 0
-Reads register accesses = (value : ℕ) × (accesses ≡ Read register value ∷ [])
+  pub writes : (e : ℕ) → has e edges ≡ true → IsPublish (border_at c.map c.tile c.site e) cells (more e)
 
 -- whether site n of the window is live
 abbrev pub is_shown : MapValue → Site → ℕ → Bool
@@ -84,6 +92,10 @@ is_shown m c n = is_some (window_site m c n)
 -- all sites of the window at c are live
 abbrev pub IsWhole : MapValue → Site → Type 0
 IsWhole m c = (n : ℕ) → n < 41 → is_shown m c n ≡ true
+
+-- the coordinates of the site, if there is one
+abbrev pub GivesSite : Option (ℕ × ℕ) → Option Site → Type 0
+GivesSite result s = MatchOption result (s ≡ None) (λ p. s ≡ Some (site p.0 p.1))
 
 -- a window that shows the atoms of these cells at its live sites
 pub record IsView (m : MapValue) (c : Site) (cells : ℕ → CellValue) (view : WindowValue) : Type 0 where

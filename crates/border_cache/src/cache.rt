@@ -1,15 +1,16 @@
 //! A tile's copy of the sites that it holds.
-ghost use Rattle.std.specs.Prelude.{◌≡◌, ◌+◌, ◌*◌, ◌<◌, ◌≤◌, ℕ, length, true, IfOk};
+ghost use Rattle.std.specs.Prelude.{◌≡◌, ◌+◌, ◌*◌, ◌<◌, ◌≤◌, ℕ, length, IsTrue, IfOk};
 ghost use Rattle.bit_field.specs.Atom.{empty_atom};
 ghost use Rattle.tile_map.specs.Plane.{IsMap, site, tiles_of, is_held};
 ghost use Rattle.tile_map.specs.Edges.{window_site, needs_of};
 ghost use Rattle.cell_grid.specs.Grid.{site_atom};
 ghost use Rattle.window_sites.specs.Window.{atom_at};
 ghost use Rattle.edge_lock.specs.EndLists.{IsHeld};
+ghost use Rattle.edge_lock.specs.EndValues.{SameEnd};
 ghost use Rattle.border_cache.specs.Cells.{cell_value};
 ghost use Rattle.border_cache.specs.Published.{cell_at};
-ghost use Rattle.border_cache.specs.Windows.{has, IsView, IsWhole, PublishesAll};
-ghost use Rattle.border_cache.specs.Copies.{IsGridOf, IsFirstCopy, IsFirstRectangle, IsCentre, HoldsWindow, IsEndOf, Puts, PutsFor, Stores, Refreshed, Marked, place_held, held_cell, window_cells};
+ghost use Rattle.border_cache.specs.Windows.{has, IsView, IsWhole};
+ghost use Rattle.border_cache.specs.Copies.{IsGridOf, IsFirstCopy, patch, IsFirstRectangle, IsCentre, HoldsWindow, IsEndOf, Puts, PutsFor, Stores, at, Refreshed, Published, Marked, place_held, held_cell, window_cells};
 
 use crate::cell::Cell;
 use crate::places::{is_whole, publish_needs, refresh_needs, site_at};
@@ -44,7 +45,7 @@ impl Model for Cache {
 
     ghost view = { λ c. cache_of c.plane c.tile c.cells.items };
 
-    ghost invariant = { λ c. IsCopy c.plane c.tile c.left c.top c.width c.cells.items };
+    ghost invariant = { λ c. IsCopy (cache_of c.plane c.tile c.cells.items) c.left c.top c.width };
 }
 
 impl Cache {
@@ -72,7 +73,7 @@ impl Cache {
 
     /// The stamp and the atom of a site that the tile holds.
     pub fn cell(&self, x: u32, y: u32) -> (u32, Atom)
-        requires { is_held self.now.map self.now.tile (site x y) ≡ true }
+        requires { IsTrue (is_held self.now.map self.now.tile (site x y)) }
         ensures { cell_value result.0 result.1 ≡ held_cell self.now (site x y) }
     {
         let cell = self.cells[self.index(x, y)];
@@ -86,11 +87,10 @@ impl Cache {
         requires map { map.now ≡ self.old.map }
         requires centre { IsCentre self.old.map self.old.tile (site x y) }
         requires needs { needs.now ≡ needs_of self.old.map self.old.tile (site x y) }
-        requires board { IsEndOf self.old.map self.old.tile (D.tile board.old) (D.registers board.old) (D.end_of board.old) }
-        requires held { (e : ℕ) → has e needs.now ≡ true → IsHeld (D.lists board.old e) }
-        ensures refreshed { Refreshed (site x y) needs.now self.old self.new (D.lists board.old) (D.lists board.new) }
-        ensures tile { D.tile board.new ≡ D.tile board.old }
-        ensures edges { (D.registers board.new ≡ D.registers board.old) × (D.end_of board.new ≡ D.end_of board.old) }
+        requires board { IsEndOf self.old.map self.old.tile (D.end board.old) }
+        requires held { (e : ℕ) → IsTrue (has e needs.now) → IsHeld ((D.end board.old).lists e) }
+        ensures refreshed { Refreshed (site x y) needs.now (at self.old (D.end board.old)) (at self.new (D.end board.new)) }
+        ensures same { SameEnd (D.end board.old) (D.end board.new) }
         ensures moved { D.moved board.old board.new }
     {
         map.laws();
@@ -130,11 +130,10 @@ impl Cache {
         requires map { map.now ≡ self.now.map }
         requires centre { IsCentre self.now.map self.now.tile (site x y) }
         requires needs { needs.now ≡ needs_of self.now.map self.now.tile (site x y) }
-        requires board { IsEndOf self.now.map self.now.tile (D.tile board.old) (D.registers board.old) (D.end_of board.old) }
-        requires held { (e : ℕ) → has e needs.now ≡ true → IsHeld (D.lists board.old e) }
-        ensures published { PublishesAll self.now.map self.now.tile (site x y) needs.now (window_cells self.now (site x y)) (D.lists board.old) (D.lists board.new) }
-        ensures tile { D.tile board.new ≡ D.tile board.old }
-        ensures edges { (D.registers board.new ≡ D.registers board.old) × (D.end_of board.new ≡ D.end_of board.old) }
+        requires board { IsEndOf self.now.map self.now.tile (D.end board.old) }
+        requires held { (e : ℕ) → IsTrue (has e needs.now) → IsHeld ((D.end board.old).lists e) }
+        ensures published { Published self.now (site x y) needs.now (D.end board.old) (D.end board.new) }
+        ensures same { SameEnd (D.end board.old) (D.end board.new) }
         ensures moved { D.moved board.old board.new }
     {
         map.laws();
@@ -147,7 +146,7 @@ impl Cache {
 
     /// The place of a site that the tile holds.
     fn index(&self, x: u32, y: u32) -> usize
-        requires { is_held self.now.map self.now.tile (site x y) ≡ true }
+        requires { IsTrue (is_held self.now.map self.now.tile (site x y)) }
         ensures value { result ≡ place_held self.now.map self.now.tile (site x y) }
         ensures inside { result < length self.now.cells }
     {
@@ -180,7 +179,7 @@ impl Cache {
         requires n { n ≤ 40 }
         requires x { x < map.now.tx * map.now.w }
         requires y { y < map.now.ty * map.now.h }
-        requires whole { whole ≡ true → IsWhole map.now (site x y) }
+        requires whole { IsTrue whole → IsWhole map.now (site x y) }
         ensures { result ≡ window_cells self.now (site x y) n }
     {
         match site_at(map, x, y, n, whole) {
@@ -228,7 +227,7 @@ impl Cache {
         requires n { n ≤ 40 }
         requires x { x < map.now.tx * map.now.w }
         requires y { y < map.now.ty * map.now.h }
-        requires whole { whole ≡ true → IsWhole map.now (site x y) }
+        requires whole { IsTrue whole → IsWhole map.now (site x y) }
         ensures { PutsFor (window_site self.old.map (site x y) n) cell self.old self.new }
     {
         if let Some((u, v)) = site_at(map, x, y, n, whole) {
@@ -238,7 +237,7 @@ impl Cache {
 
     /// Gives a site that the tile holds a cell.
     fn put(&mut self, x: u32, y: u32, cell: Cell)
-        requires { is_held self.old.map self.old.tile (site x y) ≡ true }
+        requires { IsTrue (is_held self.old.map self.old.tile (site x y)) }
         ensures { Puts (site x y) cell self.old self.new }
     {
         let index = self.index(x, y);
@@ -261,7 +260,7 @@ fn first_cells(
     requires top { top ≤ 512 }
     requires columns { left + width ≤ start.now.width }
     requires rows { top + height ≤ start.now.height }
-    ensures { IfOk result (λ v. IsFirstRectangle start.now left top width height v.items) }
+    ensures { IfOk result (λ v. IsFirstRectangle start.now (patch left top width height) v.items) }
 {
     let mut cells = Vec::new(alloc);
     for place in 0..width * height {

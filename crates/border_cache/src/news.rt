@@ -1,12 +1,12 @@
 //! The cells and news bits of one edge, through a board. A news word is read, and written, once for
 //! each site of the window that it covers: slower than once a word, but without a table of words.
-ghost use Rattle.std.specs.Prelude.{◌≡◌, ◌+◌, ◌*◌, ◌<◌, ◌^◌, List, ℕ, length};
+ghost use Rattle.std.specs.Prelude.{◌≡◌, ◌+◌, ◌*◌, ◌<◌, ◌^◌, ℕ, length};
 ghost use Rattle.feast_base.specs.Edges.{registers_of};
-ghost use Rattle.edge_lock.specs.declared.history.Access.{Access};
 ghost use Rattle.edge_lock.specs.EndLists.{IsHeld};
-ghost use Rattle.border_cache.specs.Accesses.{Adds};
-ghost use Rattle.border_cache.specs.News.{word_of, IsSiteRead, Refreshes, IsPlace, nth_place, IsSiteRefresh};
-ghost use Rattle.border_cache.specs.Published.{IsWithBit, IsBitPut, IsMarked, ArePut, IsCellPut, IsPublish, ArePlaces, cell_at};
+ghost use Rattle.edge_lock.specs.EndValues.{SameEnd};
+ghost use Rattle.border_cache.specs.Accesses.{AddsSome};
+ghost use Rattle.border_cache.specs.News.{listed, at, word_of, IsSiteRead, Refreshes, IsPlace, nth_place, ReadsSite, IsNewerAt};
+ghost use Rattle.border_cache.specs.Published.{IsWithBit, IsBitPut, IsMarked, AreAllPut, IsCellPut, IsPublish, ArePlaces, cell_at};
 
 use crate::cell::Cell;
 use edge_lock::Board;
@@ -33,13 +33,12 @@ pub(crate) fn read_site<D: Board>(
     place: u32,
 ) -> Option<Cell>
     requires fits { registers_of sites < 2 ^ 32 }
-    requires registers { D.registers board.old edge ≡ registers_of sites }
+    requires registers { (D.end board.old).registers edge ≡ registers_of sites }
     requires end { end < 2 }
     requires place { place < sites }
-    requires held { IsHeld (D.lists board.old edge) }
-    ensures read { (more : List Access) × Adds (D.lists board.old) (D.lists board.new) edge more × IsSiteRead sites end place result more }
-    ensures tile { D.tile board.new ≡ D.tile board.old }
-    ensures edges { (D.registers board.new ≡ D.registers board.old) × (D.end_of board.new ≡ D.end_of board.old) }
+    requires held { IsHeld ((D.end board.old).lists edge) }
+    ensures read { AddsSome edge (IsSiteRead sites end place result) (D.end board.old) (D.end board.new) }
+    ensures same { SameEnd (D.end board.old) (D.end board.new) }
     ensures moved { D.moved board.old board.new }
 {
     let word = board.read(edge, news_word(sites, end, place));
@@ -62,13 +61,12 @@ pub(crate) fn refresh_edge<D: Board>(
 )
     requires together { length cells.old ≡ length places.now }
     requires fits { registers_of sites < 2 ^ 32 }
-    requires registers { D.registers board.old edge ≡ registers_of sites }
+    requires registers { (D.end board.old).registers edge ≡ registers_of sites }
     requires end { end < 2 }
     requires places { (n : ℕ) → n < length places.now → IsPlace sites (nth_place places.now n) }
-    requires held { IsHeld (D.lists board.old edge) }
-    ensures refreshes { Refreshes sites end (nth_place places.now) (length places.now) edge (D.lists board.old) (D.lists board.new) cells.old cells.new }
-    ensures tile { D.tile board.new ≡ D.tile board.old }
-    ensures edges { (D.registers board.new ≡ D.registers board.old) × (D.end_of board.new ≡ D.end_of board.old) }
+    requires held { IsHeld ((D.end board.old).lists edge) }
+    ensures refreshes { Refreshes (listed sites end places.now) edge (at cells.old (D.end board.old)) (at cells.new (D.end board.new)) }
+    ensures same { SameEnd (D.end board.old) (D.end board.new) }
     ensures moved { D.moved board.old board.new }
 {
     for n in 0..places.len() {
@@ -88,13 +86,12 @@ fn refresh_site<D: Board>(
 )
     requires inside { n < length cells.old }
     requires fits { registers_of sites < 2 ^ 32 }
-    requires registers { D.registers board.old edge ≡ registers_of sites }
+    requires registers { (D.end board.old).registers edge ≡ registers_of sites }
     requires end { end < 2 }
     requires place { IsPlace sites place }
-    requires held { IsHeld (D.lists board.old edge) }
-    ensures read { (more : List Access) × Adds (D.lists board.old) (D.lists board.new) edge more × IsSiteRefresh sites end place more n cells.old cells.new }
-    ensures tile { D.tile board.new ≡ D.tile board.old }
-    ensures edges { (D.registers board.new ≡ D.registers board.old) × (D.end_of board.new ≡ D.end_of board.old) }
+    requires held { IsHeld ((D.end board.old).lists edge) }
+    ensures read { AddsSome edge (ReadsSite sites end place (IsNewerAt n cells.old cells.new)) (D.end board.old) (D.end board.new) }
+    ensures same { SameEnd (D.end board.old) (D.end board.new) }
     ensures moved { D.moved board.old board.new }
 {
     if let Some(place) = place {
@@ -120,13 +117,12 @@ fn with_bit(word: u64, i: u32, bit: bool) -> u64
 // Sets or clears the bit of a place in a news word of an end.
 fn put_bit<D: Board>(board: &mut D, edge: u32, sites: u32, end: u32, place: Option<u32>, bit: bool)
     requires fits { registers_of sites < 2 ^ 32 }
-    requires registers { D.registers board.old edge ≡ registers_of sites }
+    requires registers { (D.end board.old).registers edge ≡ registers_of sites }
     requires end { end < 2 }
     requires place { IsPlace sites place }
-    requires held { IsHeld (D.lists board.old edge) }
-    ensures put { (more : List Access) × Adds (D.lists board.old) (D.lists board.new) edge more × IsBitPut sites end bit place more }
-    ensures tile { D.tile board.new ≡ D.tile board.old }
-    ensures edges { (D.registers board.new ≡ D.registers board.old) × (D.end_of board.new ≡ D.end_of board.old) }
+    requires held { IsHeld ((D.end board.old).lists edge) }
+    ensures put { AddsSome edge (IsBitPut sites end bit place) (D.end board.old) (D.end board.new) }
+    ensures same { SameEnd (D.end board.old) (D.end board.new) }
     ensures moved { D.moved board.old board.new }
 {
     if let Some(place) = place {
@@ -146,13 +142,12 @@ fn put_bits<D: Board>(
     bit: bool,
 )
     requires fits { registers_of sites < 2 ^ 32 }
-    requires registers { D.registers board.old edge ≡ registers_of sites }
+    requires registers { (D.end board.old).registers edge ≡ registers_of sites }
     requires end { end < 2 }
     requires places { (n : ℕ) → n < length places.now → IsPlace sites (nth_place places.now n) }
-    requires held { IsHeld (D.lists board.old edge) }
-    ensures put { (more : List Access) × Adds (D.lists board.old) (D.lists board.new) edge more × IsMarked sites end bit (nth_place places.now) (length places.now) more }
-    ensures tile { D.tile board.new ≡ D.tile board.old }
-    ensures edges { (D.registers board.new ≡ D.registers board.old) × (D.end_of board.new ≡ D.end_of board.old) }
+    requires held { IsHeld ((D.end board.old).lists edge) }
+    ensures put { AddsSome edge (IsMarked (listed sites end places.now) bit) (D.end board.old) (D.end board.new) }
+    ensures same { SameEnd (D.end board.old) (D.end board.new) }
     ensures moved { D.moved board.old board.new }
 {
     for n in 0..places.len() {
@@ -163,12 +158,11 @@ fn put_bits<D: Board>(
 // Writes a cell at its place.
 fn put_cell<D: Board>(board: &mut D, edge: u32, sites: u32, place: Option<u32>, cell: Cell)
     requires fits { registers_of sites < 2 ^ 32 }
-    requires registers { D.registers board.old edge ≡ registers_of sites }
+    requires registers { (D.end board.old).registers edge ≡ registers_of sites }
     requires place { IsPlace sites place }
-    requires held { IsHeld (D.lists board.old edge) }
-    ensures put { (more : List Access) × Adds (D.lists board.old) (D.lists board.new) edge more × IsCellPut cell place more }
-    ensures tile { D.tile board.new ≡ D.tile board.old }
-    ensures edges { (D.registers board.new ≡ D.registers board.old) × (D.end_of board.new ≡ D.end_of board.old) }
+    requires held { IsHeld ((D.end board.old).lists edge) }
+    ensures put { AddsSome edge (IsCellPut cell place) (D.end board.old) (D.end board.new) }
+    ensures same { SameEnd (D.end board.old) (D.end board.new) }
     ensures moved { D.moved board.old board.new }
 {
     if let Some(place) = place {
@@ -182,13 +176,12 @@ fn put_cell<D: Board>(board: &mut D, edge: u32, sites: u32, place: Option<u32>, 
 fn put_cells<D: Board>(board: &mut D, edge: u32, sites: u32, places: &[Option<u32>], cells: &[Cell])
     requires together { length cells.now ≡ length places.now }
     requires fits { registers_of sites < 2 ^ 32 }
-    requires registers { D.registers board.old edge ≡ registers_of sites }
+    requires registers { (D.end board.old).registers edge ≡ registers_of sites }
     requires places { (n : ℕ) → n < length places.now → IsPlace sites (nth_place places.now n) }
     requires apart { ArePlaces (nth_place places.now) (length places.now) }
-    requires held { IsHeld (D.lists board.old edge) }
-    ensures put { (more : List Access) × Adds (D.lists board.old) (D.lists board.new) edge more × ArePut (cell_at cells.now) (nth_place places.now) (length places.now) more }
-    ensures tile { D.tile board.new ≡ D.tile board.old }
-    ensures edges { (D.registers board.new ≡ D.registers board.old) × (D.end_of board.new ≡ D.end_of board.old) }
+    requires held { IsHeld ((D.end board.old).lists edge) }
+    ensures put { AddsSome edge (AreAllPut cells.now places.now) (D.end board.old) (D.end board.new) }
+    ensures same { SameEnd (D.end board.old) (D.end board.new) }
     ensures moved { D.moved board.old board.new }
 {
     for n in 0..places.len() {
@@ -207,14 +200,13 @@ pub(crate) fn publish_edge<D: Board>(
 )
     requires together { length cells.now ≡ length places.now }
     requires fits { registers_of sites < 2 ^ 32 }
-    requires registers { D.registers board.old edge ≡ registers_of sites }
+    requires registers { (D.end board.old).registers edge ≡ registers_of sites }
     requires end { end < 2 }
     requires places { (n : ℕ) → n < length places.now → IsPlace sites (nth_place places.now n) }
     requires apart { ArePlaces (nth_place places.now) (length places.now) }
-    requires held { IsHeld (D.lists board.old edge) }
-    ensures published { (more : List Access) × Adds (D.lists board.old) (D.lists board.new) edge more × IsPublish sites end (cell_at cells.now) (nth_place places.now) (length places.now) more }
-    ensures tile { D.tile board.new ≡ D.tile board.old }
-    ensures edges { (D.registers board.new ≡ D.registers board.old) × (D.end_of board.new ≡ D.end_of board.old) }
+    requires held { IsHeld ((D.end board.old).lists edge) }
+    ensures published { AddsSome edge (IsPublish (listed sites end places.now) (cell_at cells.now)) (D.end board.old) (D.end board.new) }
+    ensures same { SameEnd (D.end board.old) (D.end board.new) }
     ensures moved { D.moved board.old board.new }
 {
     put_cells(board, edge, sites, places, cells);

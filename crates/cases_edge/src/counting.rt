@@ -1,6 +1,7 @@
 //! An edge of one shared site whose ends count their holds in its clock, in two threads and in turn.
-ghost use Rattle.std.specs.Prelude.{◌≡◌, ◌≤◌, ◌<◌, ◌+◌, []};
-ghost use Rattle.edge_lock.specs.EndLists.{IsFree, IsNew, end_lists};
+ghost use Rattle.std.specs.Prelude.{◌≡◌, ◌≤◌, ◌<◌, ◌+◌};
+ghost use Rattle.edge_lock.specs.EndLists.{IsFree, IsNew};
+ghost use Rattle.cases_edge.specs.Untouched.{IsUntouchedAt};
 
 use edge_lock::{Board, Edge, SharedEnd, Take};
 use std::alloc::Global;
@@ -18,12 +19,13 @@ const FURTHER: u64 = 20;
 
 /// Tries an edge once, and adds 1 to register 0 if it gets it.
 fn bump<D: Board>(board: &mut D, edge: u32, attempt: u64) -> bool
-    requires edge { 0 < D.registers board.old edge }
-    requires free { IsFree (D.lists board.old edge) }
-    requires attempt { (attempt < 1000000) × IsNew attempt (D.lists board.old edge) }
-    ensures free { IsFree (D.lists board.new edge) }
-    ensures attempt { IsNew (attempt + 1) (D.lists board.new edge) }
-    ensures edge { D.registers board.new ≡ D.registers board.old }
+    requires edge { 0 < (D.end board.old).registers edge }
+    requires free { IsFree ((D.end board.old).lists edge) }
+    requires attempt { attempt < 1000000 }
+    requires is_new { IsNew attempt ((D.end board.old).lists edge) }
+    ensures free { IsFree ((D.end board.new).lists edge) }
+    ensures attempt { IsNew (attempt + 1) ((D.end board.new).lists edge) }
+    ensures edge { (D.end board.new).registers ≡ (D.end board.old).registers }
     ensures moved { D.moved board.old board.new }
 {
     match board.try_take(edge, attempt) {
@@ -39,14 +41,14 @@ fn bump<D: Board>(board: &mut D, edge: u32, attempt: u64) -> bool
 
 /// Tries an edge with each attempt from `first` to before `end`. The answer is the number of holds.
 fn count_up<D: Board>(board: &mut D, edge: u32, first: u64, end: u64) -> u64
-    requires edge { 0 < D.registers board.old edge }
-    requires free { IsFree (D.lists board.old edge) }
-    requires attempt { IsNew first (D.lists board.old edge) }
+    requires edge { 0 < (D.end board.old).registers edge }
+    requires free { IsFree ((D.end board.old).lists edge) }
+    requires attempt { IsNew first ((D.end board.old).lists edge) }
     requires order { first ≤ end }
     requires bound { end ≤ 1000000 }
-    ensures free { IsFree (D.lists board.new edge) }
-    ensures attempt { IsNew end (D.lists board.new edge) }
-    ensures edge { D.registers board.new ≡ D.registers board.old }
+    ensures free { IsFree ((D.end board.new).lists edge) }
+    ensures attempt { IsNew end ((D.end board.new).lists edge) }
+    ensures edge { (D.end board.new).registers ≡ (D.end board.old).registers }
     ensures moved { D.moved board.old board.new }
     ensures few { result + first ≤ end }
 {
@@ -65,20 +67,20 @@ fn count_both<R: Threads, A: Board + Send, B: Board + Send>(
     low: &mut A,
     high: &mut B,
 ) -> (u64, u64)
-    requires low { (0 < A.registers low.old 0) × (A.lists low.old 0 ≡ end_lists [] []) }
-    requires high { (0 < B.registers high.old 0) × (B.lists high.old 0 ≡ end_lists [] []) }
-    ensures low { A.moved low.old low.new × IsFree (A.lists low.new 0) }
-    ensures high { B.moved high.old high.new × IsFree (B.lists high.new 0) }
+    requires low { IsUntouchedAt 0 (A.end low.old) }
+    requires high { IsUntouchedAt 0 (B.end high.old) }
+    ensures low { A.moved low.old low.new × IsFree ((A.end low.new).lists 0) }
+    ensures high { B.moved high.old high.new × IsFree ((B.end high.new).lists 0) }
 {
     join_mut(
         rt,
         &mut || -> u64
-            requires { (0 < A.registers low.now 0) × (A.lists low.now 0 ≡ end_lists [] []) }
-            ensures { A.moved low.entry.now low.exit.now × IsFree (A.lists low.exit.now 0) }
+            requires { IsUntouchedAt 0 (A.end low.now) }
+            ensures { A.moved low.entry.now low.exit.now × IsFree ((A.end low.exit.now).lists 0) }
         { count_up(low, 0, 0, TRIES) },
         &mut || -> u64
-            requires { (0 < B.registers high.now 0) × (B.lists high.now 0 ≡ end_lists [] []) }
-            ensures { B.moved high.entry.now high.exit.now × IsFree (B.lists high.exit.now 0) }
+            requires { IsUntouchedAt 0 (B.end high.now) }
+            ensures { B.moved high.entry.now high.exit.now × IsFree ((B.end high.exit.now).lists 0) }
         { count_up(high, 0, 0, TRIES) },
     )
 }
@@ -129,8 +131,8 @@ fn refused_and_then_free<A: Board, B: Board>(
     high: &mut B,
     refusals: u8,
 ) -> Option<(u64, u64)>
-    requires low { (0 < A.registers low.old 0) × (A.lists low.old 0 ≡ end_lists [] []) }
-    requires high { (0 < B.registers high.old 0) × (B.lists high.old 0 ≡ end_lists [] []) }
+    requires low { IsUntouchedAt 0 (A.end low.old) }
+    requires high { IsUntouchedAt 0 (B.end high.old) }
 {
     let Take::Got = low.try_take(0, 5) else {
         return None;

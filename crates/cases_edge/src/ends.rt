@@ -3,7 +3,9 @@ ghost use Rattle.std.specs.Prelude.{◌≡◌, ◌<◌, [], IfOk, IfSome};
 ghost use Rattle.edge_lock.specs.declared.board.Take.TheVariants.{Busy};
 ghost use Rattle.bit_field.specs.Atom.{LeavesGap};
 ghost use Rattle.edge_lock.specs.History.{site_count};
-ghost use Rattle.edge_lock.specs.EndLists.{IsFree, IsNew, end_lists, after_try};
+ghost use Rattle.edge_lock.specs.EndLists.{IsFree, IsNew, end_lists};
+ghost use Rattle.edge_lock.specs.EndValues.{HasTried};
+ghost use Rattle.cases_edge.specs.Untouched.{IsUntouchedAt};
 ghost use Rattle.edge_lock.specs.PlainEdges.{IsAnswer};
 ghost use Rattle.edge_lock.specs.PlainBoard.{registers_on, lists_on, end_on, edge_at, IsKeptEdge};
 
@@ -15,10 +17,10 @@ use std::test::Fail;
 /// Both ends of a shared edge take turns: what the higher end reads, if each try is answered as it
 /// is on one board.
 fn take_turns<A: Board, B: Board>(low: &mut A, high: &mut B) -> Option<u64>
-    requires low { (0 < A.registers low.old 0) × (A.lists low.old 0 ≡ end_lists [] []) }
-    requires high { (0 < B.registers high.old 0) × (B.lists high.old 0 ≡ end_lists [] []) }
-    ensures low { A.moved low.old low.new × IfSome result (λ _. IsFree (A.lists low.new 0)) }
-    ensures high { B.moved high.old high.new × IfSome result (λ _. IsFree (B.lists high.new 0)) }
+    requires low { IsUntouchedAt 0 (A.end low.old) }
+    requires high { IsUntouchedAt 0 (B.end high.old) }
+    ensures low { A.moved low.old low.new × IfSome result (λ _. IsFree ((A.end low.new).lists 0)) }
+    ensures high { B.moved high.old high.new × IfSome result (λ _. IsFree ((B.end high.new).lists 0)) }
 {
     let Take::Got = low.try_take(0, 5) else {
         return None;
@@ -119,10 +121,11 @@ fn alternate(alloc: Global) -> Result<(Take, u64, u64), NoMemory>
 
 /// One try, by code that knows the board as a `Board` alone.
 fn try_once<D: Board>(board: &mut D, edge: u32, attempt: u64) -> Take
-    requires edge { 0 < D.registers board.old edge }
-    requires free { IsFree (D.lists board.old edge) }
-    requires attempt { (attempt < 1000000) × IsNew attempt (D.lists board.old edge) }
-    ensures lists { D.lists board.new edge ≡ after_try (D.end_of board.old edge) attempt result (D.lists board.old edge) }
+    requires edge { 0 < (D.end board.old).registers edge }
+    requires free { IsFree ((D.end board.old).lists edge) }
+    requires attempt { attempt < 1000000 }
+    requires is_new { IsNew attempt ((D.end board.old).lists edge) }
+    ensures change { HasTried edge attempt result (D.end board.old) (D.end board.new) }
     ensures moved { D.moved board.old board.new }
 {
     board.try_take(edge, attempt)
@@ -133,7 +136,8 @@ fn try_once<D: Board>(board: &mut D, edge: u32, attempt: u64) -> Take
 fn try_on_board(board: &mut PlainBoard, edge: u32, attempt: u64) -> Take
     requires edge { 0 < registers_on board.old edge }
     requires free { IsFree (lists_on board.old edge) }
-    requires attempt { (attempt < 1000000) × IsNew attempt (lists_on board.old edge) }
+    requires attempt { attempt < 1000000 }
+    requires is_new { IsNew attempt (lists_on board.old edge) }
     requires kept { IsKeptEdge (edge_at board.old edge) }
     ensures answer { IsAnswer (end_on board.old edge) (edge_at board.old edge) result }
 {
@@ -157,10 +161,10 @@ fn tell_site_counts()
 /// On an edge of one shared site the clock, the low word and the news words take any value, and what the register of the
 /// high word gives leaves the gap.
 fn fill<D: Board>(board: &mut D) -> Option<(u64, u64)>
-    requires edge { D.registers board.old 0 ≡ 5 }
-    requires fresh { D.lists board.old 0 ≡ end_lists [] [] }
+    requires edge { (D.end board.old).registers 0 ≡ 5 }
+    requires fresh { (D.end board.old).lists 0 ≡ end_lists [] [] }
     ensures gap { IfSome result (λ r. LeavesGap r.1) }
-    ensures free { IsFree (D.lists board.new 0) }
+    ensures free { IsFree ((D.end board.new).lists 0) }
 {
     let Take::Got = board.try_take(0, 0) else {
         return None;

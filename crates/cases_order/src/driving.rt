@@ -1,5 +1,5 @@
 //! Tiles that act in turn on the board of one thread, until all are finished.
-ghost use Rattle.std.specs.Prelude.{◌≡◌, ◌<◌, ℕ, All, IfOk, IfSome, length, true};
+ghost use Rattle.std.specs.Prelude.{◌≡◌, ◌<◌, ℕ, All, IfOk, IfSome, IsTrue, length};
 ghost use Rattle.tile_map.specs.Plane.{tiles_of};
 ghost use Rattle.draw_stream.specs.Plans.{attempts};
 ghost use Rattle.border_cache.specs.Copies.{IsGridOf};
@@ -8,6 +8,7 @@ ghost use Rattle.serial_order.specs.Boards.{HasStopped};
 ghost use Rattle.serial_order.specs.Outcomes.{Settles, values_of};
 ghost use Rattle.serial_order.specs.Words.{histories_on};
 ghost use Rattle.cases_order.specs.Driven.{AreMade, IsDriven};
+ghost use Rattle.serial_order.specs.Scene.{setting};
 
 use cell_grid::{Behave, Grid};
 use draw_stream::AttemptPlan;
@@ -33,7 +34,7 @@ pub fn tiles<B: Behave + Copy + Drop>(
     requires lists { length plan.now.lists ≡ tiles_of map.now }
     requires can { (t : ℕ) → t < tiles_of map.now → CanAttempt map.now t (attempts plan.now t) }
     ensures count { IfOk result (λ v. length v.items ≡ tiles_of map.now) }
-    ensures fresh { IfOk result (λ v. AreMade B.after map.now (B.after behave) start.now plan.now v.items) }
+    ensures fresh { IfOk result (λ v. AreMade B.after map.now (setting (B.after behave) start.now plan.now) v.items) }
 {
     let mut tiles = Vec::new(alloc);
     for tile in 0..map.tiles() {
@@ -96,14 +97,14 @@ pub fn finish<B: Behave>(map: &Map, tiles: &mut [Tile<B>], board: &mut PlainBoar
 
 /// Whether a tile is finished.
 fn is_finished<B: Behave>(tile: &Tile<B>) -> bool
-    ensures { result ≡ true → HasStopped tile.now.0 }
+    ensures { IsTrue result → HasStopped tile.now.core }
 {
     matches!(tile.phase(), Phase::Finished)
 }
 
 /// Whether all tiles are finished.
 fn are_finished<B: Behave>(tiles: &[Tile<B>]) -> bool
-    ensures { result ≡ true → All (λ t. HasStopped t.0) tiles.now }
+    ensures { IsTrue result → All (λ t. HasStopped t.core) tiles.now }
 {
     for tile in tiles {
         if !is_finished(tile) {
@@ -121,7 +122,7 @@ pub fn settled<B: Behave + Drop>(
     board: &mut PlainBoard,
 ) -> Result<Option<Outcome>, NoMemory>
     requires { IsDriven B.after map.now tiles.items board.old }
-    ensures { IfOk result (λ some. IfSome some (λ o. Settles map.now (values_of tiles.items) (histories_on board.old) o)) }
+    ensures { IfOk result (λ o. IfSome o (Settles map.now (values_of tiles.items) (histories_on board.old))) }
 {
     if !are_finished(tiles.as_slice()) {
         return Ok(None);

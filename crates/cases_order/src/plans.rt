@@ -1,5 +1,5 @@
 //! Plans of few attempts.
-ghost use Rattle.std.specs.Prelude.{◌≡◌, ◌≤◌, ◌*◌, IfOk, length};
+ghost use Rattle.std.specs.Prelude.{◌≤◌, ◌*◌, IfOk, length};
 ghost use Rattle.tile_map.specs.Plane.{AreSizes};
 ghost use Rattle.cases_order.specs.Plans.{IsPlanFor, IsScript};
 

@@ -1,5 +1,5 @@
 //! Worked runs.
-ghost use Rattle.std.specs.Prelude.{◌≡◌, ◌≤◌, ◌*◌, IfOk, length};
+ghost use Rattle.std.specs.Prelude.{◌≤◌, IfOk, length};
 ghost use Rattle.tile_map.specs.Plane.{AreSizes};
 ghost use Rattle.serial_order.specs.Outcomes.{IsPlaneGrid};
 

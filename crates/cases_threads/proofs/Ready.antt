@@ -2,17 +2,17 @@
 use Rattle.std.proofs.Common.{ℕ, ◌≡◌, List, length}
 use Rattle.window_sites.specs.Window.{WindowValue}
 use Rattle.tile_map.specs.Plane.{MapValue, tiles_of}
-use Rattle.cell_grid.specs.Grid.{GridValue}
-use Rattle.draw_stream.specs.Plans.{PlanValue, IsPlan}
-use Rattle.tile_core.specs.Values.{TileValue}
+use Rattle.draw_stream.specs.Plans.{IsPlan}
+use Rattle.tile_core.specs.Values.{TileWith}
 use Rattle.serial_order.specs.Fresh.{AreFresh}
 use Rattle.serial_order.specs.Outcomes.{IsPlaneGrid}
 use Rattle.cases_order.specs.Driven.{AreMade}
+use Rattle.serial_order.specs.Scene.{Setting}
 
 -- tiles that were made for a grid of the plane and a plan of as many lists are fresh
-pub fresh_made : {B : Type 0} (after : B → WindowValue → ℕ → WindowValue) (m : MapValue) (meaning : WindowValue → ℕ → WindowValue) (start : GridValue) (plan : PlanValue) (tiles : List (TileValue × B)) → IsPlaneGrid m start → IsPlan plan
-    → length plan.lists ≡ tiles_of m → length tiles ≡ tiles_of m → AreMade after m meaning start plan tiles → AreFresh after m meaning start plan tiles
-fresh_made after m meaning start plan tiles grid plan_is lists count made = record {
+pub fresh_made : {B : Type 0} (after : B → WindowValue → ℕ → WindowValue) (m : MapValue) (g : Setting) (tiles : List (TileWith B)) → IsPlaneGrid m g.start → IsPlan g.plan
+    → length g.plan.lists ≡ tiles_of m → length tiles ≡ tiles_of m → AreMade after m g tiles → AreFresh after m g tiles
+fresh_made after m g tiles grid plan_is lists count made = record {
   grid = grid.0;
   fits = grid.1;
   plan_is = plan_is;

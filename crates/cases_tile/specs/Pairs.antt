@@ -1,11 +1,22 @@
 -- Two tiles beside each other on one board.
-use Rattle.std.specs.Prelude.{◌≡◌}
+use Rattle.std.specs.Prelude.{◌≡◌, ◌≢◌, ℕ, List}
+use Rattle.bit_field.specs.Atom.{AtomValue}
 use Rattle.cell_grid.specs.Tried.{after_turn}
-use Rattle.tile_map.specs.Plane.{MapValue, whole_plane}
+use Rattle.draw_stream.specs.declared.attempt.Attempt.{Attempt}
+use Rattle.tile_map.specs.Plane.{Site, MapValue, whole_plane}
 use Rattle.edge_lock.specs.PlainBoard.{PlainBoardValue}
 use Rattle.tile_core.specs.Values.{TileValue}
+use Rattle.tile_core.specs.Underway.{IsFreshTile}
 use Rattle.tile_core.specs.Boards.{IsBoardOf, IsOnBoard}
 use Rattle.cases_tile.specs.declared.pair.Pair.{Pair}
+
+-- tile t has only been made, with some atoms and some attempts
+abbrev pub IsJustMade : MapValue → ℕ → TileValue → Type 0
+IsJustMade m t tile = (at_first : Site → AtomValue) × (attempts : List Attempt) × IsFreshTile m t at_first attempts tile
+
+-- each tile with another number that is underway on the old board is underway on the new one
+abbrev pub OthersStayOn : MapValue → ℕ → PlainBoardValue → PlainBoardValue → Type 0
+OthersStayOn m t old new = (other : TileValue) → other.number ≢ t → IsOnBoard m after_turn other old → IsOnBoard m after_turn other new
 
 -- tiles 0 and 1 of a plane of two tiles of 16 by 16, both underway on the board of the plane's edges
 pub record AreTwo (m : MapValue) (left right : TileValue) (board : PlainBoardValue) : Type 0 where
@@ -17,4 +28,4 @@ pub record AreTwo (m : MapValue) (left right : TileValue) (board : PlainBoardVal
   pub higher_number : right.number ≡ 1
 
 abbrev pub IsPair : Pair → Type 0
-IsPair p = AreTwo p.map p.left.0 p.right.0 p.board.board
+IsPair p = AreTwo p.map p.left.core p.right.core p.board.board

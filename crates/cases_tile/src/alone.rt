@@ -35,7 +35,7 @@ impl Behave for Turn {
 /// A tile of a plane of one tile, with an atom at (3, 4) and attempts at (3, 4) and (0, 0).
 pub fn lonely(alloc: Global, map: &Map, board: &PlainBoard) -> Result<Tile<Turn>, NoMemory>
     requires { IsEmptyBoard map.now board.now }
-    ensures { IfOk result (λ t. IsAlone map.now t.0 board.now) }
+    ensures { IfOk result (λ t. IsAlone map.now t.core board.now) }
 {
     let mut start = Grid::new(alloc, 8, 8)?;
     start.set(3, 4, Atom::new(1, 5));
@@ -53,17 +53,17 @@ pub fn lonely(alloc: Global, map: &Map, board: &PlainBoard) -> Result<Tile<Turn>
 
 /// One step of a tile that is alone.
 pub fn advance(tile: &mut Tile<Turn>, map: &Map, board: &mut PlainBoard) -> Phase
-    requires { IsAlone map.now tile.old.0 board.old }
-    ensures alone { IsAlone map.now tile.new.0 board.new }
-    ensures phase { result ≡ tile.new.0.phase }
+    requires { IsAlone map.now tile.old.core board.old }
+    ensures alone { IsAlone map.now tile.new.core board.new }
+    ensures phase { result ≡ tile.new.core.phase }
 {
     tile.advance(map, board)
 }
 
 /// The phases that follow nine steps of a tile that is alone.
 pub fn phases(tile: &mut Tile<Turn>, map: &Map, board: &mut PlainBoard) -> [Phase; 9]
-    requires { IsAlone map.now tile.old.0 board.old }
-    ensures { IsAlone map.now tile.new.0 board.new }
+    requires { IsAlone map.now tile.old.core board.old }
+    ensures { IsAlone map.now tile.new.core board.new }
 {
     let mut phases = [Phase::Draw; 9];
     for n in 0..9 {
@@ -84,9 +84,9 @@ pub fn empty_board(alloc: Global, map: &Map) -> Result<PlainBoard, NoMemory>
 /// The next attempt of a tile that is alone, from its start to its end; nothing if none is left.
 /// Answers the phase.
 pub fn attempt(tile: &mut Tile<Turn>, map: &Map, board: &mut PlainBoard) -> Phase
-    requires { IsAlone map.now tile.old.0 board.old }
-    ensures alone { IsAlone map.now tile.new.0 board.new }
-    ensures phase { result ≡ tile.new.0.phase }
+    requires { IsAlone map.now tile.old.core board.old }
+    ensures alone { IsAlone map.now tile.new.core board.new }
+    ensures phase { result ≡ tile.new.core.phase }
 {
     match tile.phase() {
         Phase::Draw => tile.attempt_whole(map, board),
@@ -96,8 +96,8 @@ pub fn attempt(tile: &mut Tile<Turn>, map: &Map, board: &mut PlainBoard) -> Phas
 
 /// The log of a tile that is alone.
 pub fn log(tile: Tile<Turn>, map: &Map, board: &PlainBoard) -> TileLog
-    requires { IsAlone map.now tile.0 board.now }
-    ensures { result ≡ log_of tile.0.number tile.0.records tile.0.abandoned }
+    requires { IsAlone map.now tile.core board.now }
+    ensures { result ≡ log_of tile.core.number tile.core.records tile.core.abandoned }
 {
     tile.into_log()
 }

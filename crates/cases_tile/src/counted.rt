@@ -19,15 +19,9 @@ pub struct CountedBoard {
 }
 
 impl Board for CountedBoard {
-    ghost use Rattle.edge_lock.specs.PlainBoard.{registers_on, end_on, lists_on, Moved, stays, moved_on};
+    ghost use Rattle.edge_lock.specs.PlainBoard.{acting_end, Moved, stays, moved_on};
 
-    ghost tile = { λ b. b.board.acting };
-
-    ghost registers = { λ b. registers_on b.board };
-
-    ghost end_of = { λ b. end_on b.board };
-
-    ghost lists = { λ b. lists_on b.board };
+    ghost end = { λ b. acting_end b.board };
 
     ghost moved = { λ x y. Moved x.board y.board };
 

@@ -1,14 +1,10 @@
 //! Two tiles of 16 by 16 beside each other, on one board.
-ghost use Rattle.std.specs.Prelude.{◌≡◌, ◌≢◌, ◌<◌, ℕ, List, IfOk};
-ghost use Rattle.bit_field.specs.Atom.{AtomValue};
-ghost use Rattle.tile_map.specs.Plane.{Site, whole_plane};
+ghost use Rattle.std.specs.Prelude.{◌≡◌, ◌<◌, IfOk};
+ghost use Rattle.tile_map.specs.Plane.{whole_plane};
 ghost use Rattle.border_cache.specs.Copies.{IsGridOf};
 ghost use Rattle.cell_grid.specs.Tried.{after_turn};
-ghost use Rattle.draw_stream.specs.declared.attempt.Attempt.{Attempt};
-ghost use Rattle.tile_core.specs.Values.{TileValue};
-ghost use Rattle.tile_core.specs.Underway.{IsFreshTile};
 ghost use Rattle.tile_core.specs.Boards.{IsBoardOf, IsOnBoard};
-ghost use Rattle.cases_tile.specs.Pairs.{IsPair};
+ghost use Rattle.cases_tile.specs.Pairs.{IsJustMade, OthersStayOn, IsPair};
 
 use crate::alone::Turn;
 use crate::counted::CountedBoard;
@@ -65,7 +61,7 @@ fn tile(
     requires start { IsGridOf map.now start.now }
     requires number { number < 2 }
     requires centre { centre < 256 }
-    ensures { IfOk result (λ t. (at_first : Site → AtomValue) × (attempts : List Attempt) × IsFreshTile map.now number at_first attempts t.0) }
+    ensures { IfOk result (λ t. IsJustMade map.now number t.core) }
 {
     let list = vec![in alloc; Attempt { centre, seed: 0 }]?;
     let plan = AttemptPlan::scripted(vec![in alloc; Script::new(list)]?);
@@ -77,12 +73,12 @@ fn tile(
 /// One step of a tile on a board where others are underway too.
 fn advance(tile: &mut Tile<Turn>, map: &Map, board: &mut CountedBoard) -> Phase
     requires board { IsBoardOf map.now board.old.board }
-    requires tile { IsOnBoard map.now after_turn tile.old.0 board.old.board }
-    ensures phase { result ≡ tile.new.0.phase }
-    ensures number { tile.new.0.number ≡ tile.old.0.number }
+    requires tile { IsOnBoard map.now after_turn tile.old.core board.old.board }
+    ensures phase { result ≡ tile.new.core.phase }
+    ensures number { tile.new.core.number ≡ tile.old.core.number }
     ensures board { IsBoardOf map.now board.new.board }
-    ensures tile { IsOnBoard map.now after_turn tile.new.0 board.new.board }
-    ensures others { (other : TileValue) → other.number ≢ tile.old.0.number → IsOnBoard map.now after_turn other board.old.board → IsOnBoard map.now after_turn other board.new.board }
+    ensures tile { IsOnBoard map.now after_turn tile.new.core board.new.board }
+    ensures others { OthersStayOn map.now tile.old.core.number board.old.board board.new.board }
 {
     board.board.turn_to(tile.number());
     tile.advance(map, board)

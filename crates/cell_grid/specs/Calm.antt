@@ -1,15 +1,15 @@
--- The sites whose window lies in the plane as a whole and is live as a whole.
+-- The sites whose whole window lies in the plane and is live.
 use Rattle.std.specs.Prelude.{ℕ, ◌≡◌, ◌+◌, ◌*◌, ◌≤◌, ◌<◌, Bool, true, false, List, length, slice_index_or, Some}
 use Rattle.cell_grid.specs.Grid.{GridValue, place_of}
 use Rattle.window_sites.specs.Inner.{inner_place}
 
--- marks that a site has only where each site of the plane within 4 columns and 4 rows is live
+-- Marks of calm sites: a site has one only if every site of the plane within 4 columns and 4 rows of it is live.
 pub record AreCalm (width height : ℕ) (live calm : List Bool) : Type 0 where
   pub size : length calm ≡ length live
   pub near : (x y u v : ℕ) → x < width → y < height → u < width → v < height → u ≤ x + 4 → x ≤ u + 4 → v ≤ y + 4 → y ≤ v + 4 →
       slice_index_or calm (y * width + x) false ≡ true → slice_index_or live (v * width + u) false ≡ true
 
--- the place from which the sites of the window at (x, y) are counted, all of which are in the plane and live
+-- the whole window at (x, y) is in the plane and live, and `low` is the place of the first of its nine rows and nine columns
 pub record IsCorner (g : GridValue) (x y low : ℕ) : Type 0 where
   pub fits : low + 8 * g.width + 8 < length g.atoms
   pub place : (n : ℕ) → n ≤ 40 → place_of g x y n ≡ Some (inner_place low g.width n)

@@ -53,53 +53,53 @@ site_atom g x y = slice_index_or g.atoms (y * g.width + x) empty_atom
 abbrev pub with_site : GridValue → ℕ → ℕ → AtomValue → GridValue
 with_site g x y a = record g { atoms = slice_set g.atoms (y * g.width + x) a }
 
--- a coordinate, where it lies below an end
+-- a coordinate if there is one and it is less than `end`, otherwise nothing
 abbrev pub below : ℕ → Option ℕ → Option ℕ
 below end None = None
 below end (Some u) = if nat_lt u end then Some u else None
 
--- the place of a site in row order, by its column and its row, where it has both
+-- the place in row order of the site with this column and this row, if there are both
 abbrev pub place_by : ℕ → Option ℕ → Option ℕ → Option ℕ
 place_by width None v = None
 place_by width (Some u) None = None
 place_by width (Some u) (Some v) = Some (v * width + u)
 
--- that place, where its site is live
+-- a place, if there is one and its site is live
 abbrev pub live_place : List Bool → Option ℕ → Option ℕ
 live_place live None = None
 live_place live (Some i) = if slice_index_or live i false then Some i else None
 
--- the place of site n of the window at (x, y), where the site is of the plane and live
+-- the place of site n of the window at (x, y), if that site is in the plane and live
 abbrev pub place_of : GridValue → ℕ → ℕ → ℕ → Option ℕ
 place_of g x y n = live_place g.live (place_by g.width (below g.width (shifted x (offset_of n).0)) (below g.height (shifted y (offset_of n).1)))
 
--- what a window shows of a place
+-- the atom that a window shows of a place, or empty if there is no place
 abbrev pub seen : GridValue → Option ℕ → AtomValue
 seen g None = empty_atom
 seen g (Some i) = slice_index_or g.atoms i empty_atom
 
--- the window at (x, y): each live site's atom with a live mark, or empty without one
+-- the window at (x, y): it shows the atom of each site that is in the plane and live, with a live mark; the other sites are empty and have none
 unfoldable pub window_of : GridValue → ℕ → ℕ → WindowValue
 window_of g x y = record {
   atoms = map (λ n. seen g (place_of g x y n)) site_numbers;
   live = map (λ n. is_some (place_of g x y n)) site_numbers;
 }
 
--- whether a site's place is this one
+-- whether there is a place and it is i
 abbrev pub is_place : Option ℕ → ℕ → Bool
 is_place None i = false
 is_place (Some j) i = j == i
 
--- the sites of some numbers that lie at place i
+-- those of the sites of these numbers that lie at place i
 abbrev pub sites_at : GridValue → ℕ → ℕ → ℕ → List ℕ → List ℕ
 sites_at g x y i ns = filter (λ n. is_place (place_of g x y n) i) ns
 
--- the atom of place i once a window is written, by the sites that lie there: the window's, or the old one
+-- the atom of place i after a window is written: that of the first of these sites, which lie at i, or the old one if there is none
 abbrev pub atom_left : GridValue → WindowValue → ℕ → List ℕ → AtomValue
 atom_left g w i [] = slice_index_or g.atoms i empty_atom
 atom_left g w i (n ∷ ns) = atom_at w n
 
--- the grid in which each live site of the window at (x, y) has its atom of w, and all else is as it was
+-- the grid in which each site of the window at (x, y) that is in the plane and live has its atom of w, and all else is as it was
 unfoldable pub put_window : GridValue → ℕ → ℕ → WindowValue → GridValue
 put_window g x y w = record g { atoms = map (λ i. atom_left g w i (sites_at g x y i site_numbers)) (range_with_len 0 (length g.atoms)) }
 

@@ -1,15 +1,9 @@
--- A rectangle of the plane made not live.
+-- Rectangles of the plane whose sites are made not live.
 use Rattle.std.specs.Prelude.{ℕ, ◌≡◌, ◌+◌, ◌/◌, ◌%◌, ◌<◌, Bool, true, false, ◌&&◌, not, List, length, map, slice_index_or, nat_lt, nat_le}
 use Rattle.std.specs.List.{range_with_len}
 use Rattle.bit_field.specs.Atom.{empty_atom}
 use Rattle.cell_grid.specs.Grid.{GridValue, site_atom}
-
--- a rectangle: its columns from `left` to below `right`, its rows from `top` to below `bottom`
-pub record Rectangle : Type 0 where
-  pub left : ℕ
-  pub top : ℕ
-  pub right : ℕ
-  pub bottom : ℕ
+pub use Rattle.cell_grid.specs.declared.marks.Rectangle.{Rectangle}
 
 -- the rectangle of w columns and h rows whose first column and row are x and y
 abbrev pub rectangle : ℕ → ℕ → ℕ → ℕ → Rectangle
@@ -19,14 +13,14 @@ rectangle x y w h = record { left = x; top = y; right = x + w; bottom = y + h }
 abbrev pub is_inside : Rectangle → ℕ → ℕ → Bool
 is_inside r u v = (nat_le r.left u && nat_lt u r.right) && (nat_le r.top v && nat_lt v r.bottom)
 
--- a rectangle in which all sites of the plane are empty
+-- all sites of the plane in a rectangle are empty
 abbrev pub IsEmptyIn : GridValue → Rectangle → Type 0
 IsEmptyIn g r = (u v : ℕ) → u < g.width → v < g.height → is_inside r u v ≡ true → site_atom g u v ≡ empty_atom
 
--- the marks of a plane's sites with those of a rectangle cleared
+-- the marks of a plane's sites after those in a rectangle are cleared
 unfoldable pub cleared : List Bool → ℕ → Rectangle → List Bool
 cleared marks width r = map (λ i. slice_index_or marks i false && not (is_inside r (i % width) (i / width))) (range_with_len 0 (length marks))
 
--- the grid with a rectangle made not live
+-- the grid after the sites of a rectangle are made not live
 abbrev pub shut : GridValue → Rectangle → GridValue
 shut g r = record g { live = cleared g.live g.width r }

@@ -1,5 +1,5 @@
 //! A flat grid of atoms: its sites, windows and events.
-ghost use Rattle.std.specs.Prelude.{◌≡◌, false, true, All, ◌+◌, ◌*◌, ◌≤◌, ◌<◌, ◌^◌, ℕ, IfOk, IfSome, None, is_some, length, slice_index_or};
+ghost use Rattle.std.specs.Prelude.{◌≡◌, false, All, ◌+◌, ◌*◌, ◌≤◌, ◌<◌, ◌^◌, ℕ, IfOk, IfSome, IsSome, None, length, slice_index_or};
 ghost use Rattle.std.specs.Int.RustNames.{unsigned_abs};
 ghost use Rattle.window_sites.specs.Sites.{shifted};
 ghost use Rattle.cell_grid.specs.Calm.{IsCorner};
@@ -10,7 +10,7 @@ ghost use Rattle.cell_grid.specs.Steps.{IsLivePlace, AreLivePlaces, ArePlacesOf,
 
 use crate::behave::Behave;
 use crate::inner::put_inner;
-use crate::marks::{Bounds, clear};
+use crate::marks::{Rectangle, clear};
 use crate::record::Record;
 use bit_field::Atom;
 use feast_base::NoMemory;
@@ -139,13 +139,13 @@ impl Grid {
         ensures { self.new ≡ shut self.old (rectangle x y w h) }
     {
         let width = self.width;
-        let inside = Bounds {
+        let inside = Rectangle {
             left: x,
             top: y,
             right: x + w,
             bottom: y + h,
         };
-        let around = Bounds {
+        let around = Rectangle {
             left: x.saturating_sub(4),
             top: y.saturating_sub(4),
             right: x + w + 4,
@@ -217,7 +217,7 @@ impl Grid {
     /// The window whose sites have these indices, read one by one.
     fn window_by_sites(&self, places: &[Option<usize>; 41]) -> Window
         requires live { AreLivePlaces self.now places.now }
-        requires centre { is_some (slice_index_or places.now 0 None) ≡ true }
+        requires centre { IsSome (slice_index_or places.now 0 None) }
         ensures { (x y : ℕ) → ArePlacesOf self.now x y places.now → result ≡ window_of self.now x y }
     {
         let mut atoms = [Atom::new(0, 0); 41];

@@ -1,23 +1,24 @@
 -- Valid code has its numbers in their ranges.
-use Rattle.std.proofs.Common.{◌≡◌, ℕ, zero, suc, ◌+◌, ◌-◌, ◌*◌, ◌<◌, ◌≤◌, List, [], ◌∷◌, length, Option, Some, None, refl, sym, ap, subst, ◌∙◌, arith, Bool, true, false, inl, inr, take, drop, le-mul_of_pos_right}
-use Rattle.std.specs.Prelude.{slice_get, nat_lt, nat_le, nat_eq, if◌then◌else◌, replicate, is_some}
+use Rattle.std.proofs.Common.{◌≡◌, ℕ, zero, suc, ◌+◌, ◌-◌, ◌*◌, ◌<◌, ◌≤◌, List, [], ◌∷◌, length, Option, Some, None, refl, sym, ap, subst, ◌∙◌, arith, Bool, true, false, inl, inr, le-mul_of_pos_right}
+use Rattle.std.specs.Prelude.{slice_get, nat_lt, nat_le, nat_eq, ◌==◌, ◌&&◌, is_some}
 use Rattle.std.specs.List.{AllByRecursion}
 use Rattle.std.proofs.lemmas.Bool.{cases_lt, eqb-true, leb-true, ltb-true}
 use Rattle.std.proofs.lemmas.Option.{slice_get_within}
 use Rattle.sat_math.proofs.Laws.{least_one}
 use Rattle.list_laws.proofs.Entries.{all_from_get}
+use Rattle.list_laws.proofs.Tests.{both}
 use Rattle.sat_math.specs.Numbers.{greatest_width, least_width}
 use Rattle.sat_math.specs.declared.Kind.{Kind}
 use Rattle.sat_math.specs.declared.Kind.TheVariants as kind
 use Rattle.stack_code.specs.Machine.{CodeValue, FunctionValue}
 use Rattle.stack_code.specs.Sorts.{num_type, sort}
-use Rattle.stack_code.specs.Valid.{Around, Exits, Kinds, Notes, after_call, and_pop, args_fit, around, end_with, exits, falls_exit, field_fits, first_fits, forward_fits, function_fits, if_atom, jump_fits, length_fits, pass, pass_all, pass_function, pop, pop_slot, push, push_slot, type_fits, valid}
+use Rattle.stack_code.specs.Valid.{Around, Exits, Kinds, Notes, after_call, and_pop, args_fit, around, end_with, exits, falls_exit, field_fits, first_fits, forward_fits, function_fits, if_atom, jump_fits, length_fits, no_notes, pass, pass_all, pass_function, pop, pop_slot, push, push_slot, stretch, type_fits, valid}
 use Rattle.stack_code.specs.declared.instr.Instr.{Instr}
 use Rattle.stack_code.specs.declared.instr.Instr.TheVariants.{Call, Fit, IsKind, Jump, JumpFalse, LoadField, LoadFieldAt, LoadLocal, LoadPart, LoadPartAt, NotW, PushAtom, PushNum, Shl, StoreField, StoreFieldAt, StoreLocal, StorePart, StorePartAt}
 use Rattle.stack_code.specs.declared.instr.Operand.{Operand}
 use Rattle.stack_code.specs.declared.instr.Operand.TheVariants.{Number}
-use Rattle.stack_code.proofs.Bound.{all_fine, is_some_gives, then_gives}
-use Rattle.stack_code.proofs.Passes.{FinePlace, fork_gives, if_gives, if_true, jump_gives}
+use Rattle.stack_code.proofs.Bound.{all_fine, is_some_gives}
+use Rattle.stack_code.proofs.Passes.{FinePlace, fork_gives, if_gives, jump_gives, then_gives}
 use Rattle.stack_code.proofs.Typed.{Jumps, forward_gives, jumps_by}
 use Rattle.code_file.specs.Form.{ElementValue, IsElement, IsFunction}
 use Rattle.code_file.specs.Instrs.{IsByte, IsField, IsInstr, IsPlace}
@@ -41,17 +42,17 @@ greatest_most kind.Unary = omega arith
 
 type_in : (k : Kind) (w : ℕ) → type_fits (num_type k w) ≡ true → (1 ≤ w) × (w ≤ 64)
 type_in k w e =
-    let y = if_true (nat_le (least_width k) w) (nat_le w (greatest_width k)) e in
+    let y = both (nat_le (least_width k) w) (nat_le w (greatest_width k)) e in
     let low = leb-true (least_width k) w y.0 in
     let high = leb-true w (greatest_width k) y.1 in
     (omega (arith, least_one k, low), omega (arith, greatest_most k, high))
 
 field_in : (f w n : ℕ) (k : Kind) → field_fits f (num_type k w) n ≡ true → IsField f w × IsByte n
 field_in f w n k e =
-    let y = if_true (type_fits (num_type k w)) (if nat_le 1 n then nat_le (f + n * w) 71 else false) e in
-    let z = if_true (nat_le 1 n) (nat_le (f + n * w) 71) y.1 in
-    let h = leb-true (f + n * w) 71 z.1 in
-    let t = type_in k w y.0 in
+    let y = both (type_fits (num_type k w) && nat_le 1 n) (nat_le (f + n * w) 71) e in
+    let z = both (type_fits (num_type k w)) (nat_le 1 n) y.0 in
+    let h = leb-true (f + n * w) 71 y.1 in
+    let t = type_in k w z.0 in
     let m : n ≤ n * w = le-mul_of_pos_right n t.0 in
     ((omega (arith, h), omega (arith, t.1)), omega (arith, h, m))
 
@@ -106,9 +107,10 @@ module _ (most : ℕ) (a : Around) (p : ℕ) (ks : Kinds) (x : Exits) (h : Bound
 
 fits_parts : (g : FunctionValue) (p end : ℕ) → function_fits g p end ≡ true → (g.first ≡ p) × (p < end)
 fits_parts g p end e =
-    let x = if_true (nat_eq g.first p) (if nat_lt p end then (if nat_le g.params (length g.slots) then nat_le (length g.slots) 72 else false) else false) e in
-    let y = if_true (nat_lt p end) (if nat_le g.params (length g.slots) then nat_le (length g.slots) 72 else false) x.1 in
-    (eqb-true g.first p x.0, ltb-true p end y.0)
+    let x = both (g.first == p && nat_lt p end && nat_le g.params (length g.slots)) (nat_le (length g.slots) 72) e in
+    let y = both (g.first == p && nat_lt p end) (nat_le g.params (length g.slots)) x.0 in
+    let z = both (g.first == p) (nat_lt p end) y.0 in
+    (eqb-true g.first p z.0, ltb-true p end z.1)
 
 some_first : (gs : List FunctionValue) → first_fits gs ≡ true → 1 ≤ length gs
 some_first [] e = absurd cc
@@ -127,7 +129,7 @@ module _ (c : CodeValue) where
   passed g gs p n shapes e =
       let end = end_with (length c.instrs) gs in
       let y = then_gives (pass_function c g p end n) (pass_all c gs end) shapes e in
-      let x = if_gives (function_fits g p end) (pass (around c g end) (take (end - p) (drop p c.instrs)) p (Some []) n) y.0 y.1 in
+      let x = if_gives (function_fits g p end) (pass (around c g end) (stretch c p end) p (Some []) n) y.0 y.1 in
       let f = fits_parts g p end x.0 in
       record { first = f.0; some = f.1; notes = y.0; rest = y.2 }
 
@@ -166,17 +168,17 @@ pub valid_ranged : (most kind : ℕ) (e : ElementValue) → IsNamed most kind e 
 unfolding valid
 valid_ranged most kind e h v =
     let c = e.code in
-    let x = if_true (length_fits (length c.instrs)) (if first_fits c.functions then is_some (pass_all c c.functions 0 (replicate (length c.instrs) None)) else false) v in
-    let y = if_true (first_fits c.functions) (is_some (pass_all c c.functions 0 (replicate (length c.instrs) None))) x.1 in
-    let z = is_some_gives (pass_all c c.functions 0 (replicate (length c.instrs) None)) y.1 in
-    let l = if_true (nat_le 1 (length c.instrs)) (nat_le (length c.instrs) 65536) x.0 in
+    let x = both (length_fits (length c.instrs) && first_fits c.functions) (is_some (pass_all c c.functions 0 (no_notes c))) v in
+    let y = both (length_fits (length c.instrs)) (first_fits c.functions) x.0 in
+    let z = is_some_gives (pass_all c c.functions 0 (no_notes c)) x.1 in
+    let l = both (nat_le 1 (length c.instrs)) (nat_le (length c.instrs) 65536) y.0 in
     let few = leb-true (length c.instrs) 65536 l.1 in
-    let many = counted c c.functions 0 (replicate (length c.instrs) None) z.0 z.1 in
-    let fine = (all_fine c c.functions 0 (replicate (length c.instrs) None) z.0 z.1).3 in
+    let many = counted c c.functions 0 (no_notes c) z.0 z.1 in
+    let fine = (all_fine c c.functions 0 (no_notes c) z.0 z.1).3 in
     record {
       name = h.name;
       kind_is = h.kind_is;
-      some_functions = some_first c.functions y.0;
+      some_functions = some_first c.functions y.1;
       few_functions = omega (arith, many, few);
       functions = all_from_get IsFunction c.functions (λ k f at.
           let g = all_at IsRanged c.functions h.functions k f at in
@@ -185,7 +187,7 @@ valid_ranged most kind e h v =
       some_instrs = leb-true 1 (length c.instrs) l.0;
       few_instrs = few;
       instrs = all_from_get (IsInstr most) c.instrs (λ k i at.
-          let u = placed c c.functions 0 (replicate (length c.instrs) None) z.0 z.1 k i (omega arith) (slice_get_within c.instrs k i at) at in
+          let u = placed c c.functions 0 (no_notes c) z.0 z.1 k i (omega arith) (slice_get_within c.instrs k i at) at in
           let b : Bounds (around c u.function u.end) k = record { slots = u.few; end = omega (arith, u.within, few); high = u.high; functions = omega (arith, many, few) } in
           in_range most (around c u.function u.end) k u.fine.kinds u.fine.exit b i (all_at (OfTypes most) c.instrs h.types k i at) u.fine.args u.fine.leads);
     }

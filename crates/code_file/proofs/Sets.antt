@@ -3,10 +3,7 @@ use Rattle.std.proofs.Common.{ℕ, zero, suc, ◌≡◌, ◌+◌, ◌<◌, List,
 use Rattle.std.specs.List.{flat_map}
 use Rattle.std.proofs.lemmas.List.{flat_map_more}
 use Rattle.stack_code.specs.Machine.{CodeValue}
-use Rattle.code_file.specs.Form.{CodesValue, ElementValue, codes_of, element_bytes, elements, names_of}
-
-abbrev pub element : List ℕ → CodeValue → ElementValue
-element n c = record { name = n; code = c }
+use Rattle.code_file.specs.Form.{CodesValue, ElementValue, codes_of, element, element_bytes, elements, names_of}
 
 pub names_are : (ns : List (List ℕ)) (cs : List CodeValue) → length ns ≡ length cs → names_of (elements ns cs) ≡ ns
 names_are [] cs h = refl

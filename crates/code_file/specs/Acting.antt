@@ -4,7 +4,7 @@ use Rattle.bit_field.specs.Atom.{empty_atom}
 use Rattle.window_sites.specs.Window.{WindowValue, atom_at}
 use Rattle.stack_code.specs.Machine.{CodeValue, runs}
 
--- the code of a type number, where an element has it
+-- the code of the element of a type number, if there is one
 abbrev pub code_of : List CodeValue → ℕ → Option CodeValue
 code_of codes zero = None
 code_of codes (suc k) = slice_get codes k
@@ -14,13 +14,13 @@ abbrev pub left_by : WindowValue → Option (WindowValue × Option ℕ) → Wind
 left_by w None = w
 left_by w (Some over) = over.0
 
--- the window after the event of a code, where there is one
+-- the window after an event of a code; without a code it stays as it is
 abbrev pub after_by : WindowValue → ℕ → Option CodeValue → WindowValue
 after_by w seed None = w
 after_by w seed (Some code) = left_by w (runs code w seed).over
 
--- The window after an event: that of the run of the code whose type number the atom at the centre has, which after a
--- failure is the old one with its centre empty; and the window itself where no code has that type number.
+-- The window after an event of the code whose type number the atom at the centre has. If its run
+-- fails, this is the old window with an empty centre. If no code has the number, it is the old window.
 unfoldable pub after : List CodeValue → WindowValue → ℕ → WindowValue
 after codes w seed = after_by w seed (code_of codes (atom_at w 0).kind)
 

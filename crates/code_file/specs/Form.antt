@@ -16,6 +16,10 @@ pub record ElementValue : Type 0 where
   pub name : List ℕ
   pub code : CodeValue
 
+-- an element by its name and its code
+abbrev pub element : List ℕ → CodeValue → ElementValue
+element n c = record { name = n; code = c }
+
 -- what a code file says: its elements, the first of which has type number 1
 abbrev pub CodesValue : Type 0
 CodesValue = List ElementValue
@@ -26,11 +30,11 @@ names_of es = map (λ (e : ElementValue). e.name) es
 abbrev pub codes_of : CodesValue → List CodeValue
 codes_of es = map (λ (e : ElementValue). e.code) es
 
--- names with the codes beside them, as far as there are both
+-- the elements of names and codes, as many as there are of both
 abbrev pub elements : List (List ℕ) → List CodeValue → CodesValue
 elements [] cs = []
 elements (n ∷ ns) [] = []
-elements (n ∷ ns) (c ∷ cs) = record { name = n; code = c } ∷ elements ns cs
+elements (n ∷ ns) (c ∷ cs) = element n c ∷ elements ns cs
 
 -- Spelling
 
@@ -83,17 +87,17 @@ pub record IsElement (most kind : ℕ) (e : ElementValue) : Type 0 where
   pub few_instrs : length e.code.instrs ≤ 65536
   pub instrs : AllByRecursion (IsInstr most) e.code.instrs
 
--- elements of the type numbers from this one on
+-- elements whose type numbers count up from this one
 abbrev pub AreElements : ℕ → ℕ → CodesValue → Type 0
 AreElements most kind [] = Unit {0}
 AreElements most kind (e ∷ es) = IsElement most kind e × AreElements most (kind + 1) es
 
--- what a code file can say
+-- elements that a code file can have
 pub record IsSayable (es : CodesValue) : Type 0 where
   pub few : length es ≤ 256
   pub each : AreElements (length es) 1 es
 
--- the bytes are a code file, which says this
+-- the bytes are the code file of these elements
 abbrev pub IsFile : List ℕ → CodesValue → Type 0
 IsFile bytes es = IsSayable es × (bytes ≡ file_bytes es)
 
@@ -103,8 +107,8 @@ pub record Begins (bytes : List ℕ) : Type 0 where
   pub more : List ℕ
   pub is_file : IsFile (bytes ++ more) says
 
--- The first byte, counted from 1, with which the bytes up to it begin no file; or, where all bytes begin one but are none,
--- the place behind the last.
+-- The position, counted from 1, of the first byte that no code file has after the bytes before it. If all
+-- bytes are the first ones of a code file but not a whole one, it is the position after the last byte.
 pub record IsFirstBad (bytes : List ℕ) (column : ℕ) : Type 0 where
   pub some : 1 ≤ column
   pub within : column ≤ length bytes + 1

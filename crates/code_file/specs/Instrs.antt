@@ -118,7 +118,7 @@ args_bytes i = []
 abbrev pub instr_bytes : Instr → List ℕ
 instr_bytes i = be 1 (opcode i) ++ args_bytes i
 
--- what one byte and what four bytes can be
+-- the numbers of one byte, and those of four bytes
 abbrev pub IsByte : ℕ → Type 0
 IsByte n = n < 2 ^ 8
 
@@ -128,7 +128,7 @@ IsPlace n = n < 2 ^ 32
 abbrev pub IsField : ℕ → ℕ → Type 0
 IsField f w = IsByte f × IsByte w
 
--- the arguments are in their ranges, in a file of so many elements: no atom of a type without a name is made
+-- the arguments are in range, in a file of this many elements: no atom of a type without a name is made
 abbrev pub IsInstr : ℕ → Instr → Type 0
 IsInstr elements (PushNum v) = number_fits v ≡ true
 IsInstr elements (PushAtom k) = k ≤ elements

@@ -1,8 +1,10 @@
 -- Which elements of a file that has the form are refused, and what reading answers.
-use Rattle.std.specs.Prelude.{ℕ, ◌≡◌, ◌+◌, ◌-◌, ◌≤◌, List, [], ◌∷◌, ◌++◌, length, take, Result, Ok, Err, bytes_eq, Bool, if◌then◌else◌}
+use Rattle.std.specs.Prelude.{ℕ, ◌≡◌, ◌+◌, ◌-◌, ◌≤◌, List, [], ◌∷◌, ◌++◌, length, take, Result, Ok, Err, Vec, bytes_eq, Bool, if◌then◌else◌}
 use Rattle.std.specs.List.{flat_map, list_any}
+use Rattle.std.specs.declared.alloc.Global.{Global}
+use Rattle.stack_code.specs.Machine.{CodeValue}
 use Rattle.stack_code.specs.Valid.{valid}
-use Rattle.code_file.specs.Form.{CodesValue, ElementValue, IsFile, IsFirstBad, element_bytes, magic, names_of}
+use Rattle.code_file.specs.Form.{CodesValue, ElementValue, IsFile, IsFirstBad, element_bytes, elements, magic, names_of}
 use Rattle.code_file.specs.declared.halt.Halt.{Halt}
 use Rattle.code_file.specs.declared.halt.Halt.TheVariants as halt
 use Rattle.code_file.specs.declared.fault.CodeFault.{CodeFault}
@@ -12,51 +14,46 @@ use Rattle.code_file.specs.declared.fault.CodeFault.TheVariants.{BadMagic, BadFo
 unfoldable pub is_among : List ℕ → List (List ℕ) → Bool
 is_among name names = list_any (λ other. bytes_eq other name) names
 
--- the first byte, counted from 1, of the element that stands behind these
+-- the position, counted from 1, of the first byte of the element after these
 abbrev pub column_behind : CodesValue → ℕ
 column_behind done = 11 + length (flat_map element_bytes done)
 
--- the elements that are left, behind those that are right: the first with the name of an earlier one, or whose code is not
--- valid, is refused at the first byte of its name's length
+-- elements by the vectors of their names and their codes
+abbrev pub listed : Vec (List ℕ) Global → Vec CodeValue Global → CodesValue
+listed names codes = elements names.items codes.items
+
+-- The elements after those that are right. The first one that has the name of an earlier one, or whose
+-- code is not valid, is refused at the first byte of its name's length.
 abbrev pub judged : CodesValue → CodesValue → Result CodesValue CodeFault
 judged done [] = Ok done
 judged done (e ∷ es) = if is_among e.name (names_of done) then Err (SameName (column_behind done)) else (if valid e.code then judged (done ++ e ∷ []) es else Err (NotValid (column_behind done)))
 
--- a file that has the form is judged so
+-- the bytes are a code file, and this is the judgement of its elements
 pub record IsJudged (bytes : List ℕ) (r : Result CodesValue CodeFault) : Type 0 where
   pub says : CodesValue
   pub is_file : IsFile bytes says
   pub judged_is : judged [] says ≡ r
 
--- What reading comes to: 61 where the first 8 bytes are not those of a code file, then 62 where no file has the bytes, and
--- then 63 and 64. Want of memory is no such outcome.
+-- The outcome of reading: `BadMagic` if the first 8 bytes are not those of a code file, otherwise
+-- `BadForm` if the bytes are no code file, and otherwise the judgement of its elements. Running out of
+-- memory is not an outcome.
 abbrev pub Reads : List ℕ → Result CodesValue CodeFault → Type 0
-Reads bytes (Ok es) = IsJudged bytes (Ok es)
 Reads bytes (Err BadMagic) = take 8 bytes ≡ magic → ⊥
 Reads bytes (Err (BadForm column)) = (take 8 bytes ≡ magic) × IsFirstBad bytes column
-Reads bytes (Err (SameName column)) = IsJudged bytes (Err (SameName column))
-Reads bytes (Err (NotValid column)) = IsJudged bytes (Err (NotValid column))
 Reads bytes (Err NoMemory) = ⊥
+Reads bytes outcome = IsJudged bytes outcome
 
--- an answer is this outcome, or memory was wanted
+-- an answer is this outcome, or memory ran out
 abbrev pub Answers : Result CodesValue CodeFault → Result CodesValue CodeFault → Type 0
-Answers outcome (Ok es) = outcome ≡ Ok es
-Answers outcome (Err BadMagic) = outcome ≡ Err BadMagic
-Answers outcome (Err (BadForm column)) = outcome ≡ Err (BadForm column)
-Answers outcome (Err (SameName column)) = outcome ≡ Err (SameName column)
-Answers outcome (Err (NotValid column)) = outcome ≡ Err (NotValid column)
 Answers outcome (Err NoMemory) = Unit {0}
+Answers outcome answer = outcome ≡ answer
 
--- what reading answers: an outcome, unless memory was wanted
+-- the answer of reading is an outcome of it, or memory ran out
 abbrev pub Tells : List ℕ → Result CodesValue CodeFault → Type 0
-Tells bytes (Ok es) = Reads bytes (Ok es)
-Tells bytes (Err BadMagic) = Reads bytes (Err BadMagic)
-Tells bytes (Err (BadForm column)) = Reads bytes (Err (BadForm column))
-Tells bytes (Err (SameName column)) = Reads bytes (Err (SameName column))
-Tells bytes (Err (NotValid column)) = Reads bytes (Err (NotValid column))
 Tells bytes (Err NoMemory) = Unit {0}
+Tells bytes answer = Reads bytes answer
 
--- an element was taken in behind others, or it is refused, or memory was wanted
+-- an element was added after others, or it is refused, or memory ran out
 abbrev pub Admits : {T : Type 0} → CodesValue → ElementValue → CodesValue → Result T CodeFault → Type 0
 Admits done e new (Ok x) = judged done (e ∷ []) ≡ Ok new
 Admits done e new (Err BadMagic) = ⊥
@@ -65,12 +62,12 @@ Admits done e new (Err (SameName column)) = judged done (e ∷ []) ≡ Err (Same
 Admits done e new (Err (NotValid column)) = judged done (e ∷ []) ≡ Err (NotValid column)
 Admits done e new (Err NoMemory) = Unit {0}
 
--- no more bytes are left than there are
+-- reading stopped with no more bytes left than there are
 abbrev pub IsWithin : Halt → ℕ → Type 0
 IsWithin halt.NoMemory total = Unit {0}
 IsWithin (halt.Bad left) total = left ≤ total
 
--- the fault of a reading that stopped in so many bytes
+-- the fault of reading this many bytes that stopped
 abbrev pub fault_of : ℕ → Halt → CodeFault
 fault_of total halt.NoMemory = NoMemory
 fault_of total (halt.Bad left) = BadForm (total - left + 1)

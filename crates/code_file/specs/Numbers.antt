@@ -12,10 +12,10 @@ abbrev pub signed : ℤ → List ℕ
 signed (pos n) = 0 ∷ be 8 n
 signed (negsuc n) = 255 ∷ be 8 (2 ^ 64 - 1 - n)
 
--- a list behind its length, which has w bytes
+-- the length of a list, in w bytes, and the list
 abbrev pub counted : {A : Type 0} → ℕ → (A → List ℕ) → List A → List ℕ
 counted w item xs = be w (length xs) ++ flat_map item xs
 
--- a name behind its length
+-- the length of a name, and the name
 abbrev pub name_bytes : List ℕ → List ℕ
 name_bytes name = be 4 (length name) ++ name

@@ -1,4 +1,4 @@
--- What an element has in its range where its code is valid.
+-- What must be in range for an element whose code is valid.
 use Rattle.std.specs.Prelude.{ℕ, ◌≡◌, ◌≤◌, ◌<◌, ◌^◌, true}
 use Rattle.std.specs.List.{AllByRecursion}
 use Rattle.feast_base.specs.TypeNames.{is_type_name}
@@ -14,13 +14,13 @@ pub record IsRanged (f : FunctionValue) : Type 0 where
   pub base : f.base ≤ 71
   pub params : f.params ≤ 8
 
--- an instruction makes atoms of these types alone, and asks for no type past the last
+-- an instruction makes only atoms of the types up to this one, and asks for a type of 16 bits
 abbrev pub OfTypes : ℕ → Instr → Type 0
 OfTypes most (PushAtom k) = k ≤ most
 OfTypes most (IsKind k) = k < 2 ^ 16
 OfTypes most i = Unit {0}
 
--- an element of this type number, in a set of so many elements
+-- an element of this type number, in a set of this many elements
 pub record IsNamed (most kind : ℕ) (e : ElementValue) : Type 0 where
   pub name : is_type_name e.name ≡ true
   pub kind_is : e.code.kind ≡ kind

@@ -1,4 +1,4 @@
--- Reading from left to right: a value and the bytes behind it, or how many bytes are left at the first wrong one.
+-- Reading from left to right: a value and the bytes after it, or how many bytes are left from the first wrong one on.
 use Rattle.std.specs.Prelude.{ℕ, zero, suc, ◌≡◌, ◌+◌, ◌-◌, ◌*◌, ◌/◌, ◌^◌, ◌==◌, nat_le, ℤ, pos, negsuc, Bool, ◌&&◌, ◌||◌, List, [], ◌∷◌, ◌++◌, length, slice_index_or, Result, Ok, Err, if◌then◌else◌}
 use Rattle.sat_math.specs.declared.Kind.{Kind}
 use Rattle.sat_math.specs.declared.Kind.TheVariants as kind
@@ -25,7 +25,7 @@ abbrev pub ◌>>=◌ : {A B : Type 0} → Result A ℕ → (A → Result B ℕ) 
 (Ok x) >>= f = f x
 (Err e) >>= f = Err e
 
--- what a function returned, seen by view, is what reading gives, unless memory was wanted
+-- what a call returned, seen by `view`, is what the reader gives, unless memory ran out
 abbrev pub Fails : {Y : Type 0} → Halt → Result Y ℕ → Type 0
 Fails NoMemory read = Unit {0}
 Fails (Bad left) read = read ≡ Err left
@@ -38,16 +38,16 @@ Gives view (Err e) read = Fails e read
 abbrev pub made : {A B : Type 0} → Reader A → (A → B) → Reader B
 made r f bytes = r bytes >>= λ x. Ok (f x.0, x.1)
 
--- one value behind another
+-- one value and then another
 abbrev pub both : {A B : Type 0} → Reader A → Reader B → Reader (A × B)
 both r s bytes = r bytes >>= λ x. s x.1 >>= λ y. Ok ((x.0, y.0), y.1)
 
--- so many values, by what stands before each and how many follow it
+-- this many values, each read knowing those before it and how many follow
 unfoldable pub gather : {A : Type 0} → (List A → ℕ → Reader A) → ℕ → List A → Reader (List A)
 gather item zero done bytes = Ok (done, bytes)
 gather item (suc n) done bytes = item done n bytes >>= λ x. gather item n (done ++ x.0 ∷ []) x.1
 
--- so many values of one kind
+-- this many values, each read in the same way
 abbrev pub times : {A : Type 0} → Reader A → ℕ → Reader (List A)
 times item n bytes = gather (λ done left. item) n [] bytes
 
@@ -58,20 +58,20 @@ abbrev pub byte_at : (ℕ → Bool) → Reader ℕ
 byte_at ok [] = Err 0
 byte_at ok (b ∷ rest) = if ok b then Ok (b, rest) else Err (suc (length rest))
 
--- whether the first bytes of a number lie between those of two ends, which have w bytes more
+-- whether the first bytes of a number may be v, if w more follow and the number is between two bounds
 abbrev pub may_be : ℕ → ℕ → ℕ → ℕ → Bool
 may_be w least greatest v = nat_le (least / 2 ^ (8 * w)) v && nat_le v (greatest / 2 ^ (8 * w))
 
--- the next byte of a number that begins with v
+-- the next byte of a number whose bytes before it are v
 abbrev pub digit_at : ℕ → ℕ → ℕ → ℕ → Reader ℕ
 digit_at w least greatest v bytes = byte_at (λ b. may_be w least greatest (v * 256 + b)) bytes >>= λ b. Ok (v * 256 + b.0, b.1)
 
--- the last w bytes of a number that begins with v
+-- the last w bytes of a number whose bytes before them are v
 unfoldable pub number_from : ℕ → ℕ → ℕ → ℕ → Reader ℕ
 number_from zero least greatest v bytes = Ok (v, bytes)
 number_from (suc w) least greatest v bytes = digit_at w least greatest v bytes >>= λ x. number_from w least greatest x.0 x.1
 
--- a number of w bytes between two ends
+-- a number of w bytes between two bounds
 abbrev pub number_at : ℕ → ℕ → ℕ → Reader ℕ
 number_at w least greatest bytes = number_from w least greatest 0 bytes
 
@@ -85,7 +85,7 @@ signed_rest s bytes = if s == 0 then made (number_at 8 0 (2 ^ 64 - 1)) pos bytes
 unfoldable pub signed_at : Reader ℤ
 signed_at bytes = byte_at is_sign bytes >>= λ s. signed_rest s.0 s.1
 
--- a list behind its length
+-- the length of a list, and the list
 abbrev pub counted_at : {A : Type 0} → ℕ → ℕ → ℕ → Reader A → Reader (List A)
 counted_at w least greatest item bytes = number_at w least greatest bytes >>= λ n. times item n.0 n.1
 
@@ -168,7 +168,7 @@ fit_at bytes = both kind_at any_byte bytes
 abbrev pub plain : Instr → Reader Instr
 plain i bytes = Ok (i, bytes)
 
--- the arguments of each instruction, in the order of the bytes of their names
+-- the arguments of each instruction, in the order of the opcodes
 abbrev pub args_readers : ℕ → List (Reader Instr)
 args_readers most =
     (made signed_at PushNum) ∷
@@ -238,7 +238,7 @@ args_readers most =
     (made part_array_at (λ x. StorePartAt x.0 x.1.0.first x.1.0.width x.1.0.kind x.1.1)) ∷
     []
 
--- the arguments of the instruction whose name has this byte, in a file of so many elements
+-- the arguments of the instruction of an opcode, in a file of this many elements
 unfoldable pub args_at : ℕ → ℕ → Reader Instr
 args_at most code bytes = slice_index_or (args_readers most) code (plain Pop) bytes
 
@@ -250,7 +250,7 @@ instrs_at most bytes = counted_at 4 1 65536 (instr_at most) bytes
 
 -- Elements
 
--- an element of this type number, in a file of so many
+-- an element of this type number, in a file of this many elements
 unfoldable pub element_at : ℕ → ℕ → Reader ElementValue
 element_at most kind bytes = do
   name ← name_at OfElement bytes
@@ -258,18 +258,18 @@ element_at most kind bytes = do
   instrs ← instrs_at most functions.1
   Ok (record { name = name.0; code = record { kind = kind; functions = functions.0; instrs = instrs.0 } }, instrs.1)
 
--- the last of so many elements in all, behind those that are done
+-- the elements after those that are done, of this many in all
 abbrev pub elements_from : ℕ → ℕ → CodesValue → Reader CodesValue
 elements_from most = gather (λ done left. element_at most (length done + 1))
 
 unfoldable pub elements_at : Reader CodesValue
 elements_at bytes = number_at 2 0 256 bytes >>= λ n. elements_from n.0 n.0 [] n.1
 
--- a value, and nothing behind it
+-- a value with nothing after it
 abbrev pub alone : {A : Type 0} → A → List ℕ → Result A ℕ
 alone x [] = Ok x
 alone x (b ∷ rest) = Err (suc (length rest))
 
--- what stands behind the first 8 bytes of a file
+-- everything after the first 8 bytes of a file
 unfoldable pub body_at : List ℕ → Result CodesValue ℕ
 body_at bytes = elements_at bytes >>= λ es. alone es.0 es.1

@@ -1,5 +1,5 @@
 //! What is true of code files and of the events of their codes.
-ghost use Rattle.std.specs.Prelude.{◌≡◌, ℕ, List, Ok, length, true};
+ghost use Rattle.std.specs.Prelude.{◌≡◌, ℕ, List, Ok, IsTrue, length};
 ghost use Rattle.stack_code.specs.Valid.{valid};
 ghost use Rattle.code_file.specs.Acting.{after};
 ghost use Rattle.code_file.specs.Form.{CodesValue, ElementValue, IsElement, IsFile, IsSayable, codes_of, file_bytes};
@@ -17,6 +17,6 @@ pub fn file_laws()
     ensures one { (bytes : List ℕ) (a b : CodesValue) → IsFile bytes a → IsFile bytes b → a ≡ b }
     ensures right { (bytes : List ℕ) (es : CodesValue) → Reads bytes (Ok es) → IsFile bytes es × AreRight es }
     ensures again { (es : CodesValue) → IsSayable es → AreRight es → Reads (file_bytes es) (Ok es) }
-    ensures ranges { (most kind : ℕ) (e : ElementValue) → IsNamed most kind e → valid e.code ≡ true → IsElement most kind e }
+    ensures ranges { (most kind : ℕ) (e : ElementValue) → IsNamed most kind e → IsTrue (valid e.code) → IsElement most kind e }
     ensures known { (es : CodesValue) → IsSayable es → BringsNone (length es) (after (codes_of es)) }
 {}

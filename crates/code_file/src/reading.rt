@@ -1,7 +1,7 @@
 //! Reading code files.
 ghost use Rattle.std.specs.Prelude.{◌≡◌, ◌↔◌, [], IsTrue, IfOk, length, take, Result};
-ghost use Rattle.code_file.specs.Form.{CodesValue, elements, magic};
-ghost use Rattle.code_file.specs.Judging.{Admits, Answers, IsWithin, Reads, Tells, column_behind, fault_of, is_among, judged};
+ghost use Rattle.code_file.specs.Form.{CodesValue, element, elements, magic};
+ghost use Rattle.code_file.specs.Judging.{Admits, Answers, IsWithin, Reads, Tells, column_behind, fault_of, is_among, judged, listed};
 ghost use Rattle.code_file.specs.declared.fault.CodeFault.{CodeFault};
 
 use crate::elements::{Draft, body};
@@ -48,7 +48,7 @@ fn admit(
     code: RawCode,
 ) -> Result<(), CodeFault>
     requires { length names.old.items ≡ length codes.old.items }
-    ensures admits { Admits (elements names.old.items codes.old.items) (record { name = name; code = code }) (elements names.new.items codes.new.items) result }
+    ensures admits { Admits (listed names.old codes.old) (element name code) (listed names.new codes.new) result }
     ensures same { IfOk result (λ _. length names.new.items ≡ length codes.new.items) }
 {
     if is_among(&name, names.as_slice()) {

@@ -1,9 +1,9 @@
 //! Writing code files.
-ghost use Rattle.std.specs.Prelude.{◌≡◌, ◌++◌, length};
+ghost use Rattle.std.specs.Prelude.{◌≡◌, length};
 ghost use Rattle.std.specs.List.{flat_map};
 ghost use Rattle.feast_base.specs.Appending.{Appends};
-ghost use Rattle.code_file.specs.Form.{answer_code, element_bytes, elements, file_bytes, function_bytes, operand_code, slot_bytes};
-ghost use Rattle.code_file.specs.Numbers.{be, counted};
+ghost use Rattle.code_file.specs.Form.{answer_code, element, element_bytes, elements, file_bytes, function_bytes, operand_code, slot_bytes};
+ghost use Rattle.code_file.specs.Numbers.{counted};
 
 use crate::magic::MAGIC;
 use crate::written_instrs::{push_byte, push_instrs};
@@ -83,7 +83,7 @@ fn push_functions(out: &mut Vec<u8>, functions: &[RawFunction]) -> Result<(), No
 
 /// Appends an element.
 fn push_element(out: &mut Vec<u8>, name: &Name, code: &Code) -> Result<(), NoMemory>
-    ensures { Appends out.old.items out.new.items result (element_bytes (record { name = name.now; code = code.now })) }
+    ensures { Appends out.old.items out.new.items result (element_bytes (element name.now code.now)) }
 {
     push_name(out, name)?;
     push_functions(out, code.functions())?;

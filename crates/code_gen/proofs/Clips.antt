@@ -1,6 +1,6 @@
 -- Pieces whose numbers are cut off: the parts of the scheme, and what fits is left as it is.
 use Rattle.std.proofs.Common.{◌≡◌, ℕ, ◌+◌, ◌*◌, ◌≤◌, min, List, [], ◌∷◌, length, Option, Some, None, refl, sym, ap, ◌∙◌, arith, Bool, true, false, le-mul_of_pos_right}
-use Rattle.std.specs.Prelude.{slice_get, nat_le, if◌then◌else◌}
+use Rattle.std.specs.Prelude.{slice_get, nat_le, ◌&&◌}
 use Rattle.std.proofs.lemmas.Bool.{leb-true}
 use Rattle.std.proofs.lemmas.Option.{slice_get_within}
 use Rattle.sat_math.proofs.Laws.{least_one}
@@ -241,14 +241,14 @@ min_same n m le = omega (arith, le)
 wide_one : (num : NumType) → type_fits num ≡ true → 1 ≤ num.width
 wide_one num = by (nat_le (least_width num.kind) num.width) (nat_le num.width (greatest_width num.kind)) refl
   where
-    by : (a b : Bool) → nat_le (least_width num.kind) num.width ≡ a → (if a then b else false) ≡ true → 1 ≤ num.width
+    by : (a b : Bool) → nat_le (least_width num.kind) num.width ≡ a → (a && b) ≡ true → 1 ≤ num.width
     by true b e h = omega (arith, leb-true (least_width num.kind) num.width e, least_one num.kind)
     by false b e h = cc
 
 field_within : (f n : ℕ) (num : NumType) → field_fits f num n ≡ true → (f ≤ 71) × (n ≤ 71)
 field_within f n num = by (type_fits num) (nat_le 1 n) (nat_le (f + n * num.width) 71) refl refl
   where
-    by : (a b c : Bool) → type_fits num ≡ a → nat_le (f + n * num.width) 71 ≡ c → (if a then (if b then c else false) else false) ≡ true → (f ≤ 71) × (n ≤ 71)
+    by : (a b c : Bool) → type_fits num ≡ a → nat_le (f + n * num.width) 71 ≡ c → (a && b && c) ≡ true → (f ≤ 71) × (n ≤ 71)
     by true true true e h x =
         let le = leb-true (f + n * num.width) 71 h in
         let more : n ≤ n * num.width = le-mul_of_pos_right n (wide_one num e) in

@@ -23,7 +23,7 @@ use Rattle.stack_code.specs.Machine.{Goes, at_index}
 use Rattle.stack_code.specs.declared.instr.Instr.TheVariants.{PushNum, Pop, StoreLocal, Dup, IsKind}
 use Rattle.code_gen.specs.Pieces.{Piece, none, seq, plain, pick, only}
 use Rattle.code_gen.specs.Drafts.{end_by}
-use Rattle.code_gen.specs.Scheme.{answer_of, blank_instr, fit, load, load_at, store, store_at, call_piece, if_nothing, expr_piece, args_piece, cond_piece, index_piece, update_instr, assign_piece, declare_piece, give_piece, return_piece, loop_piece, statement_piece, part_piece, body_piece}
+use Rattle.code_gen.specs.Scheme.{answer_of, blank_instr, fit, load, load_at, store, store_at, call_piece, if_nothing, expr_piece, args_piece, cond_piece, optional_piece, update_instr, target_at, assign_piece, declare_piece, give_piece, return_piece, loop_piece, statement_piece, part_piece, body_piece}
 use Rattle.code_gen.specs.Runs.{Now, Out, goes, leaps, nexts, hands, out_then, out_again, on_zero, by_bool, turn_out, with_turns, rounds, ever_rounds, Asks, run}
 use Rattle.code_gen.proofs.Meant.{at, out_of, value_out, pushed, CalleeAnswers, SameCalls, pair_sort, seq_with, value_same, two_same, site_same, index_same, part_same, self_same, load_same, load_at_same, fit_same, kind_same, call_gives, call_same, callee_drop, expr_same, args_same}
 
@@ -136,7 +136,7 @@ module _ (e : Event) (hh : Asks) (z : Scene) where
   SameIndex (Some q) None = ⊥
   SameIndex (Some q) (Some r) = (st : List Datum) (s : Store) → run e.acting hh q (at e.seed st s) ≡ value_out e.seed st (r s)
 
-  assign_same : (l : Spot) (i : Option Piece) (index : Option (Store → Outcome Datum)) (o : Option PairOp) (w : ℕ) (a : Piece) (value : Store → Outcome Datum) (s : Store) → SameIndex i index → ((st : List Datum) (s : Store) → run e.acting hh a (at e.seed st s) ≡ value_out e.seed st (value s)) → run e.acting hh (assign_piece z l i o w a) (at e.seed [] s) ≡ ends (assign e z l index o w value s)
+  assign_same : (l : Spot) (i : Option Piece) (index : Option (Store → Outcome Datum)) (o : Option PairOp) (w : ℕ) (a : Piece) (value : Store → Outcome Datum) (s : Store) → SameIndex i index → ((st : List Datum) (s : Store) → run e.acting hh a (at e.seed st s) ≡ value_out e.seed st (value s)) → run e.acting hh (assign_piece z (target_at l i) o w a) (at e.seed [] s) ≡ ends (assign e z l index o w value s)
   assign_same l None None None w a value s hi hv = value_same e hh [] way (at e.seed [] s) a (store z l) (value s) (λ x s1. write e z l x s1) (hv [] s) (λ x s1. store_same l x s1)
   assign_same l None None (Some o) w a value s hi hv =
       let last = λ (v : Datum) (s3 : Store). write e z l v s3 in
@@ -242,7 +242,7 @@ module _ (e : Event) (hh : Asks) (z : Scene) where
     cond_same (t.seen x c) st s = value_same e hh st (λ x s. goes (at e.seed (x ∷ st) s)) (at e.seed st s) (load (spot z.program z.base x.steps)) (plain (IsKind (type_number z.program c.ty))) (read e (spot z.program z.base x.steps) s) (λ a s1. has_kind (type_number z.program c.ty) a s1) (load_same e hh (spot z.program z.base x.steps) st s) (λ a s1. kind_same e hh (type_number z.program c.ty) a st s1)
     cond_same (t.test a) st s = expr_same e hh z h sc a st s
 
-    index_is : (i : Option t.Expr) → SameIndex (index_piece z i) (if_any e z h i)
+    index_is : (i : Option t.Expr) → SameIndex (optional_piece z i) (if_any e z h i)
     index_is None = tt
     index_is (Some a) = λ st s. expr_same e hh z h sc a st s
 
@@ -260,7 +260,7 @@ module _ (e : Event) (hh : Asks) (z : Scene) where
         value_same e hh [] way (at e.seed [] s) (expr_piece z a) (seq (fit (number_type z.result)) (give_piece z.result)) (eval e z h a s) (λ x s1. m.and_then (m.cast_to (number_type z.result) x s1) last) (expr_same e hh z h sc a [] s) (λ x s1.
         value_same e hh [] way (at e.seed (x ∷ []) s1) (fit (number_type z.result)) (give_piece z.result) (m.cast_to (number_type z.result) x s1) last (fit_same e hh (number_type z.result) x [] s1) (λ v s2. give_same z.result v s2))
 
-    loop_same : (c : Option t.Expr) (a b : Piece) (ae be : Store → Outcome Way) → ((s : Store) → run e.acting hh a (at e.seed [] s) ≡ ends (ae s)) → ((s : Store) → run e.acting hh b (at e.seed [] s) ≡ ends (be s)) → (s : Store) → run e.acting hh (loop_piece (index_piece z c) a b) (at e.seed [] s) ≡ ends (loop_of (suc s.turns) (if_any e z h c) ae be s)
+    loop_same : (c : Option t.Expr) (a b : Piece) (ae be : Store → Outcome Way) → ((s : Store) → run e.acting hh a (at e.seed [] s) ≡ ends (ae s)) → ((s : Store) → run e.acting hh b (at e.seed [] s) ≡ ends (be s)) → (s : Store) → run e.acting hh (loop_piece (optional_piece z c) a b) (at e.seed [] s) ≡ ends (loop_of (suc s.turns) (if_any e z h c) ae be s)
     loop_same None a b ae be ha hb s = ever_same (suc s.turns) a b ae be ha hb s
     loop_same (Some c) a b ae be ha hb s = rounds_same (suc s.turns) (expr_piece z c) a b (eval e z h c) ae be (λ s1. expr_same e hh z h sc c [] s1) ha hb s
 
@@ -271,13 +271,13 @@ module _ (e : Event) (hh : Asks) (z : Scene) where
       statement_same (t.if_so c x t.no_part) s = value_same e hh [] way (at e.seed [] s) (cond_piece z c) (only (statement_piece z x)) (holds e z h c s) (λ v s1. m.on_number v (λ v. if is_zero v then m.gives m.goes_on s1 else exec e z h x s1)) (cond_same c [] s) (λ v s1. only_same (statement_piece z x) v s1 (exec e z h x) (statement_same x s1))
       statement_same (t.if_so c x (t.part other)) s = value_same e hh [] way (at e.seed [] s) (cond_piece z c) (pick (statement_piece z x) (statement_piece z other)) (holds e z h c s) (λ v s1. m.on_number v (λ v. if is_zero v then exec e z h other s1 else exec e z h x s1)) (cond_same c [] s) (λ v s1. pick_same (statement_piece z x) (statement_piece z other) v s1 (exec e z h x) (exec e z h other) (statement_same x s1) (statement_same other s1))
       statement_same (t.while_so c x) s = rounds_same (suc s.turns) (expr_piece z c) (statement_piece z x) none (eval e z h c) (exec e z h x) (λ s1. m.gives m.goes_on s1) (λ s1. expr_same e hh z h sc c [] s1) (λ s1. statement_same x s1) (λ s1. refl) s
-      statement_same (t.for_all first c step x) s = then_same (at e.seed [] s) (part_piece z first) (loop_piece (index_piece z c) (statement_piece z x) (part_piece z step)) (exec_part e z h first s) (λ s1. loop_of (suc s1.turns) (if_any e z h c) (exec e z h x) (exec_part e z h step) s1) (each_part_same first s) (λ s1. loop_same c (statement_piece z x) (part_piece z step) (exec e z h x) (exec_part e z h step) (λ s2. statement_same x s2) (λ s2. each_part_same step s2) s1)
+      statement_same (t.for_all first c step x) s = then_same (at e.seed [] s) (part_piece z first) (loop_piece (optional_piece z c) (statement_piece z x) (part_piece z step)) (exec_part e z h first s) (λ s1. loop_of (suc s1.turns) (if_any e z h c) (exec e z h x) (exec_part e z h step) s1) (each_part_same first s) (λ s1. loop_same c (statement_piece z x) (part_piece z step) (exec e z h x) (exec_part e z h step) (λ s2. statement_same x s2) (λ s2. each_part_same step s2) s1)
       statement_same (t.returns p a) s = return_same a s
       statement_same (t.breaks p) s = refl
       statement_same (t.continues p) s = refl
       statement_same (t.declares of i p a) s = declare_same of.ty i a s
-      statement_same (t.assigns l o a) s = assign_same (spot z.program z.base l.path.steps) (index_piece z l.index) (if_any e z h l.index) o (width_of (t.ty_of a)) (expr_piece z a) (eval e z h a) s (index_is l.index) (λ st s1. expr_same e hh z h sc a st s1)
-      statement_same (t.counts l up) s = assign_same (spot z.program z.base l.path.steps) (index_piece z l.index) (if_any e z h l.index) (Some (count_op up)) 32 (plain (PushNum (pos 1))) one s (index_is l.index) (λ st s1. refl)
+      statement_same (t.assigns l o a) s = assign_same (spot z.program z.base l.path.steps) (optional_piece z l.index) (if_any e z h l.index) o (width_of (t.ty_of a)) (expr_piece z a) (eval e z h a) s (index_is l.index) (λ st s1. expr_same e hh z h sc a st s1)
+      statement_same (t.counts l up) s = assign_same (spot z.program z.base l.path.steps) (optional_piece z l.index) (if_any e z h l.index) (Some (count_op up)) 32 (plain (PushNum (pos 1))) one s (index_is l.index) (λ st s1. refl)
       statement_same (t.does x es) s =
           let c = callee z.program z.base x.steps in
           seq_with e hh (λ v s. at e.seed (pushed v []) s) way (CalleeAnswers z.program c) (at e.seed [] s) (call_piece z.program c (args_piece z es)) (if_nothing z.program c none (plain Pop)) (call e z.program h c (λ cs. arguments e z h es cs s)) (λ v s1. m.gives m.goes_on s1) (call_gives e hh z h sc c (λ cs. arguments e z h es cs s)) (call_same e hh z h sc c es [] s (λ cs. args_same e hh z h sc es cs [] s)) (λ v s1 k. callee_drop e hh z h sc c v [] s1 k)

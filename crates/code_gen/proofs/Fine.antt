@@ -1,6 +1,6 @@
 -- Each place of a piece that fits has its kinds, leads where the pass wants it, and is reached.
 use Rattle.std.proofs.Common.{◌≡◌, ℕ, suc, ◌+◌, ◌<◌, ◌≤◌, inl, inr, ⊎_elim, List, [], ◌∷◌, length, Option, Some, None, refl, sym, ap, ◌∙◌, subst, arith, add-one, Bool, true, false, take, drop}
-use Rattle.std.specs.Prelude.{slice_get, nat_lt, nat_le, if◌then◌else◌, is_none, reverse}
+use Rattle.std.specs.Prelude.{slice_get, nat_lt, nat_le, ◌&&◌, if◌then◌else◌, is_none, reverse}
 use Rattle.std.proofs.lemmas.Bool.{cases_lt, lt-ltb, le-ltb, le-leb}
 use Rattle.stack_code.proofs.Typed.{is_goto, not_goto}
 use Rattle.stack_code.specs.Sorts.{Sort, Goto, GotoFalse, Take, Enter, GiveBack, Leave, sort}
@@ -37,15 +37,15 @@ forward_free is p q at lt = free_at is p (Jump q) at (ap (λ (b : Bool). if b th
 
 forward_yes : (a : Around) (p q : ℕ) → p < q → q < a.end → back_of a.code.instrs q ≡ None → forward_fits a p q ≡ true
 forward_yes a p q lt high free =
-    ap (λ (b : Bool). if b then (if nat_lt q a.end then is_none (back_of a.code.instrs q) else false) else false) (lt-ltb p q lt)
-    ∙ ap (λ (b : Bool). if b then is_none (back_of a.code.instrs q) else false) (lt-ltb q a.end high)
+    ap (λ (b : Bool). b && nat_lt q a.end && is_none (back_of a.code.instrs q)) (lt-ltb p q lt)
+    ∙ ap (λ (b : Bool). b && is_none (back_of a.code.instrs q)) (lt-ltb q a.end high)
     ∙ ap is_none free
 
 back_yes : (a : Around) (p q : ℕ) → q < suc p → a.function.first ≤ q → At a.code.instrs p Turn → back_of a.code.instrs q ≡ None → back_fits a (suc p) q ≡ true
 back_yes a p q lt low at free =
-    ap (λ (b : Bool). if b then (if nat_le a.function.first q then (if is_turn (slice_get a.code.instrs p) then is_none (back_of a.code.instrs q) else false) else false) else false) (lt-ltb q (suc p) lt)
-    ∙ ap (λ (b : Bool). if b then (if is_turn (slice_get a.code.instrs p) then is_none (back_of a.code.instrs q) else false) else false) (le-leb a.function.first q low)
-    ∙ ap (λ o. if is_turn o then is_none (back_of a.code.instrs q) else false) at
+    ap (λ (b : Bool). b && nat_le a.function.first q && is_turn (slice_get a.code.instrs p) && is_none (back_of a.code.instrs q)) (lt-ltb q (suc p) lt)
+    ∙ ap (λ (b : Bool). b && is_turn (slice_get a.code.instrs p) && is_none (back_of a.code.instrs q)) (le-leb a.function.first q low)
+    ∙ ap (λ o. is_turn o && is_none (back_of a.code.instrs q)) at
     ∙ ap is_none free
 
 jump_yes : (a : Around) (p q : ℕ) → p < q → forward_fits a p q ≡ true → jump_fits a p q ≡ true
@@ -109,7 +109,7 @@ module _ (c : CodeValue) (g : FunctionValue) (end : ℕ) (ks : List Key) (n : Se
   leads_by p ls i x at fit here e =
       ap (ex p) here.0
       ∙ ap (ex_by (around c g end) p ls) at
-      ∙ ap (λ (b : Bool). if b then (if nat_le (length ls) 512 then exits (around c g end) p (sort i) ls else None) else None) fit
+      ∙ ap (λ (b : Bool). if b && nat_le (length ls) 512 then exits (around c g end) p (sort i) ls else None) fit
       ∙ ap (λ (b : Bool). if b then exits (around c g end) p (sort i) ls else None) (le-leb (length ls) 512 here.1)
       ∙ e
 
@@ -183,7 +183,7 @@ module _ (c : CodeValue) (g : FunctionValue) (end : ℕ) (ks : List Key) (n : Se
         let s = n.drafts f in
         let h = ag.asked (key_number ks f) f is_f in
         let e : after_call (Some h.0) ls ≡ Some (after_ask s ls) =
-        ap (λ (b : Bool). if b then (if same_kinds (reverse (take h.0.params ls)) (take h.0.params h.0.slots) then Some (answer_on h.0.answer (drop h.0.params ls)) else None) else None) (le-leb h.0.params (length h.0.slots) h.5)
+        ap (λ (b : Bool). if b && same_kinds (reverse (take h.0.params ls)) (take h.0.params h.0.slots) then Some (answer_on h.0.answer (drop h.0.params ls)) else None) (le-leb h.0.params (length h.0.slots) h.5)
         ∙ ap (λ k. if same_kinds (reverse (take k ls)) (take h.0.params h.0.slots) then Some (answer_on h.0.answer (drop h.0.params ls)) else None) h.2
         ∙ ap (λ l. if same_kinds (reverse (take (length s.takes) ls)) l then Some (answer_on h.0.answer (drop h.0.params ls)) else None) h.3
         ∙ ap (λ (b : Bool). if b then Some (answer_on h.0.answer (drop h.0.params ls)) else None) fit.0

@@ -1,6 +1,6 @@
 -- The piece of a tree of the right kinds fits.
 use Rattle.std.proofs.Common.{◌≡◌, ℕ, zero, suc, ◌+◌, ◌*◌, ◌≤◌, List, [], ◌∷◌, ◌++◌, length, Option, Some, None, refl, sym, ap, ◌∙◌, subst, arith, Bool, true, false, take, drop, map, length-append, append_assoc}
-use Rattle.std.specs.Prelude.{if◌then◌else◌, reverse, pos, nat_le}
+use Rattle.std.specs.Prelude.{◌&&◌, reverse, pos, nat_le}
 use Rattle.std.proofs.lemmas.Bool.{le-leb}
 use Rattle.std.proofs.lemmas.List.{reverse-reverse, length-reverse}
 use Rattle.std.proofs.lemmas.Grind.{reverse_onto}
@@ -38,7 +38,7 @@ use Rattle.stack_code.proofs.Accepts.{same_from}
 use Rattle.code_gen.specs.Pieces.{Piece, none, seq, plain, asks, pick, only, loop, ever}
 use Rattle.code_gen.specs.Drafts.{end_by, has_room}
 use Rattle.code_gen.specs.Kinds.{Setting, kinds_or, ends, Fits}
-use Rattle.code_gen.specs.Scheme.{operand_of, answer_of, by_arith, pair_instr, minus_instr, prefix_instr, built_instr, blank_instr, nowhere, fit, load, load_at, store, store_at, call_piece, if_void, if_nothing, expr_piece, form_piece, args_piece, cond_piece, index_piece, update_instr, assign_piece, declare_piece, give_piece, return_piece, loop_piece, statement_piece, part_piece, body_piece, draft_of}
+use Rattle.code_gen.specs.Scheme.{operand_of, answer_of, by_arith, pair_instr, minus_instr, prefix_instr, built_instr, blank_instr, nowhere, fit, load, load_at, store, store_at, call_piece, if_void, if_nothing, expr_piece, form_piece, args_piece, cond_piece, optional_piece, update_instr, target_at, assign_piece, declare_piece, give_piece, return_piece, loop_piece, statement_piece, part_piece, body_piece, draft_of}
 use Rattle.code_gen.specs.Kinded.{IsNumber, HasSlot, ReadsKind, ReadsAtKind, CastsTo, StoresTo, WritesKind, WritesAtKind, built_takes, built_gives, after_callee, OnCallee, Kinded, KindedForm, KindedArgs, KindedCond, KindedTest, AssignsKind, KindedValue, KindedReturn, KindedStatement, KindedPart, KindedBody}
 use Rattle.code_gen.proofs.CallEnds.{end_fits}
 use Rattle.code_gen.proofs.Spans.{SpanIn, SpotIn, CalleeIn, spot_in, callee_in}
@@ -137,7 +137,7 @@ module _ (n : Setting) where
 -- the bits of a span that lies in a state
 field_room : (p : Span) → type_fits p.num ≡ true → SpanIn 71 p → field_fits p.first p.num 1 ≡ true
 field_room p e le =
-    ap (λ (b : Bool). if b then nat_le (p.first + 1 * p.num.width) 71 else false) e
+    ap (λ (b : Bool). b && nat_le 1 1 && nat_le (p.first + 1 * p.num.width) 71) e
     ∙ le-leb (p.first + 1 * p.num.width) 71 (times_most p.length le)
   where
     times_most : (m : ℕ) → p.first + p.num.width * times m ≤ 71 → p.first + 1 * p.num.width ≤ 71
@@ -146,8 +146,8 @@ field_room p e le =
 
 array_room : (p : Span) → type_fits p.num ≡ true → 1 ≤ p.length → SpanIn 71 p → field_fits p.first p.num p.length ≡ true
 array_room p e some le =
-    ap (λ (b : Bool). if b then (if nat_le 1 p.length then nat_le (p.first + p.length * p.num.width) 71 else false) else false) e
-    ∙ ap (λ (b : Bool). if b then nat_le (p.first + p.length * p.num.width) 71 else false) (le-leb 1 p.length some)
+    ap (λ (b : Bool). b && nat_le 1 p.length && nat_le (p.first + p.length * p.num.width) 71) e
+    ∙ ap (λ (b : Bool). b && nat_le (p.first + p.length * p.num.width) 71) (le-leb 1 p.length some)
     ∙ le-leb (p.first + p.length * p.num.width) 71 (all_times p.length some le)
   where
     all_times : (m : ℕ) → 1 ≤ m → p.first + p.num.width * times m ≤ 71 → p.first + m * p.num.width ≤ 71
@@ -309,7 +309,7 @@ module _ (z : Scene) (c : ℕ) (lo : IsLaidOut z.program) (room : z.base + bits_
   cond_leaves (t.test e) h = number_leaves e [] h.0 h.1
 
   -- an assignment of a value that leaves its kind on what stands
-  assign_leaves : (at : Spot) (i : Option t.Expr) (o : Option PairOp) (w : ℕ) (value : Piece) (k : Operand) → SpotIn 71 at → KindedTest z c i → AssignsKind z at i o w k → ((ks : Kinds) → Leaves n value ks (k ∷ ks)) → Leaves n (assign_piece z at (index_piece z i) o w value) [] []
+  assign_leaves : (at : Spot) (i : Option t.Expr) (o : Option PairOp) (w : ℕ) (value : Piece) (k : Operand) → SpotIn 71 at → KindedTest z c i → AssignsKind z (target_at at (optional_piece z i)) o w k → ((ks : Kinds) → Leaves n value ks (k ∷ ks)) → Leaves n (assign_piece z (target_at at (optional_piece z i)) o w value) [] []
   assign_leaves at None None w value k s ki h v = seq_leaves n value (store z at) [] (k ∷ []) [] (v []) (store_leaves at k s h)
   assign_leaves at None (Some o) w value k s ki h v =
       let i = update_instr o (spot_type z at) w in
@@ -355,7 +355,7 @@ module _ (z : Scene) (c : ℕ) (lo : IsLaidOut z.program) (room : z.base + bits_
   return_leaves None h = end_leaves (answer_of z.result) (type_number z.program z.result) refl
   return_leaves (Some e) h = cast_leaves z.result e (give_piece z.result) h.1 h.2 (give_leaves z.result refl h.0)
 
-  loop_by_leaves : (e : Option t.Expr) (a q : Piece) → KindedTest z c e → Leaves n a [] [] → Leaves n q [] [] → Leaves n (loop_piece (index_piece z e) a q) [] []
+  loop_by_leaves : (e : Option t.Expr) (a q : Piece) → KindedTest z c e → Leaves n a [] [] → Leaves n q [] [] → Leaves n (loop_piece (optional_piece z e) a q) [] []
   loop_by_leaves None a q h x w = ever_leaves n a q x w
   loop_by_leaves (Some e) a q h x w = loop_leaves n (expr_piece z e) a q (number_leaves e [] h.0 h.1) x w
 
@@ -366,7 +366,7 @@ module _ (z : Scene) (c : ℕ) (lo : IsLaidOut z.program) (room : z.base + bits_
     statement_leaves (t.if_so i x t.no_part) h = seq_leaves n (cond_piece z i) (only (statement_piece z x)) [] (Number ∷ []) [] (cond_leaves i h.0) (only_leaves n (statement_piece z x) [] (statement_leaves x h.1))
     statement_leaves (t.if_so i x (t.part other)) h = seq_leaves n (cond_piece z i) (pick (statement_piece z x) (statement_piece z other)) [] (Number ∷ []) [] (cond_leaves i h.0) (pick_leaves n (statement_piece z x) (statement_piece z other) [] [] (statement_leaves x h.1) (statement_leaves other h.2))
     statement_leaves (t.while_so e x) h = loop_leaves n (expr_piece z e) (statement_piece z x) none (number_leaves e [] h.0 h.1) (statement_leaves x h.2) (tt, refl)
-    statement_leaves (t.for_all first e step x) h = seq_leaves n (part_piece z first) (loop_piece (index_piece z e) (statement_piece z x) (part_piece z step)) [] [] [] (part_leaves first h.0) (loop_by_leaves e (statement_piece z x) (part_piece z step) h.1 (statement_leaves x h.3) (part_leaves step h.2))
+    statement_leaves (t.for_all first e step x) h = seq_leaves n (part_piece z first) (loop_piece (optional_piece z e) (statement_piece z x) (part_piece z step)) [] [] [] (part_leaves first h.0) (loop_by_leaves e (statement_piece z x) (part_piece z step) h.1 (statement_leaves x h.3) (part_leaves step h.2))
     statement_leaves (t.returns p e) h = return_leaves e h
     statement_leaves (t.breaks p) h = (tt, refl)
     statement_leaves (t.continues p) h = (tt, refl)

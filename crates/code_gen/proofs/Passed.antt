@@ -1,12 +1,12 @@
 -- Compiled code is valid.
-use Rattle.std.proofs.Common.{◌≡◌, ℕ, zero, suc, ◌+◌, ◌-◌, ◌<◌, ◌≤◌, List, [], ◌∷◌, ◌++◌, length, Some, None, refl, sym, ap, ◌∙◌, subst, arith, length-append, inl, Bool, true, false, take, drop, length-drop}
-use Rattle.std.specs.Prelude.{slice_get, nat_eq, nat_lt, nat_le, if◌then◌else◌, replicate, is_some, pos}
+use Rattle.std.proofs.Common.{◌≡◌, ℕ, zero, suc, ◌+◌, ◌-◌, ◌<◌, ◌≤◌, List, [], ◌∷◌, ◌++◌, length, Option, Some, None, refl, sym, ap, ◌∙◌, subst, arith, length-append, inl, Bool, true, take, drop, length-drop}
+use Rattle.std.specs.Prelude.{slice_get, nat_eq, nat_lt, nat_le, ◌&&◌, if◌then◌else◌, replicate, is_some, pos}
 use Rattle.std.proofs.lemmas.Bool.{lt-ltb, le-leb, eq-eqb}
 use Rattle.std.proofs.lemmas.List.{length-take, length-replicate}
 use Rattle.list_laws.proofs.Slots.{get_drop}
 use Rattle.stack_code.specs.Sorts.{sort}
 use Rattle.stack_code.specs.Machine.{FunctionValue, CodeValue}
-use Rattle.stack_code.specs.Valid.{Kinds, Notes, after, args_fit, answer_found, is_nothing, around, Exits, end_exit, back_of, back_by, pass, pass_function, pass_all, then_pass, function_fits, first_fits, length_fits, end_with, valid}
+use Rattle.stack_code.specs.Valid.{◌>>=◌, Kinds, Notes, after, args_fit, answer_found, is_nothing, around, Exits, end_exit, back_of, back_by, pass, pass_function, pass_all, function_fits, first_fits, length_fits, end_with, valid}
 use Rattle.stack_code.specs.declared.instr.Operand.{Operand}
 use Rattle.stack_code.specs.declared.instr.Operand.TheVariants.{Number, Atom}
 use Rattle.stack_code.specs.declared.instr.Answer.{Answer}
@@ -105,10 +105,10 @@ module _ (c : CodeValue) (h : FunctionValue) (end : ℕ) (ks : List Key) (n : Se
 
 fits_yes : (h : FunctionValue) (p end : ℕ) → h.first ≡ p → p < end → h.params ≤ length h.slots → length h.slots ≤ 72 → function_fits h p end ≡ true
 fits_yes h p end e lt le most =
-    ap (λ q. if nat_eq q p then (if nat_lt p end then (if nat_le h.params (length h.slots) then nat_le (length h.slots) 72 else false) else false) else false) e
-    ∙ ap (λ (b : Bool). if b then (if nat_lt p end then (if nat_le h.params (length h.slots) then nat_le (length h.slots) 72 else false) else false) else false) (eq-eqb p p refl)
-    ∙ ap (λ (b : Bool). if b then (if nat_le h.params (length h.slots) then nat_le (length h.slots) 72 else false) else false) (lt-ltb p end lt)
-    ∙ ap (λ (b : Bool). if b then nat_le (length h.slots) 72 else false) (le-leb h.params (length h.slots) le)
+    ap (λ q. nat_eq q p && nat_lt p end && nat_le h.params (length h.slots) && nat_le (length h.slots) 72) e
+    ∙ ap (λ (b : Bool). b && nat_lt p end && nat_le h.params (length h.slots) && nat_le (length h.slots) 72) (eq-eqb p p refl)
+    ∙ ap (λ (b : Bool). b && nat_le h.params (length h.slots) && nat_le (length h.slots) 72) (lt-ltb p end lt)
+    ∙ ap (λ (b : Bool). b && nat_le (length h.slots) 72) (le-leb h.params (length h.slots) le)
     ∙ le-leb (length h.slots) 72 most
 
 -- notes that say what the shapes say
@@ -196,7 +196,7 @@ module _ (g : Drafts) (c : CodeValue) (ks : List Key) (sh : List Kinds) (fns : c
       let x = pass_one f p notes (stands_front c.instrs p code (codes g ks q fs) at) (stands_front sh p here (all_shapes g fs) st) (shallow_front here (all_shapes g fs) sha) fk.0 (omega (arith, len)) ag in
       let y = pass_each fs q x.0 rest more (shallow_back here (all_shapes g fs) sha) fk.1 lenq x.2 in
       let e = end_is g fs (length c.instrs) q lenq in
-      (y.0, ap (λ o. then_pass (pass_function c (value_at g p f) p o notes) (pass_all c (values g q fs) o)) e ∙ ap (λ r. then_pass r (pass_all c (values g q fs) q)) x.1 ∙ y.1)
+      (y.0, ap (λ o. pass_function c (value_at g p f) p o notes >>= pass_all c (values g q fs) o) e ∙ ap (λ (r : Option Notes). r >>= pass_all c (values g q fs) q) x.1 ∙ y.1)
 
 none_noted : (k q : ℕ) (ls : Kinds) → slice_get (replicate k None) q ≡ Some (Some ls) → ⊥
 none_noted zero q ls e = cc
@@ -208,10 +208,10 @@ total_some g f fs = omega (arith, key_some g f)
 
 fits_first : (g : Drafts) (f : Key) (fs : List Key) → (g f).takes ≡ [] → (g f).answer ≡ Nothing → first_fits (values g 0 (f ∷ fs)) ≡ true
 fits_first g f fs none nothing =
-    ap (λ (ts : Kinds). if nat_eq (length ts) 0 then is_nothing (g f).answer else false) none ∙ ap is_nothing nothing
+    ap (λ (ts : Kinds). nat_eq (length ts) 0 && is_nothing (g f).answer) none ∙ ap is_nothing nothing
 
 length_yes : (n : ℕ) → 1 ≤ n → n ≤ 65536 → length_fits n ≡ true
-length_yes n lo hi = ap (λ (b : Bool). if b then nat_le n 65536 else false) (le-leb 1 n lo) ∙ le-leb n 65536 hi
+length_yes n lo hi = ap (λ (b : Bool). b && nat_le n 65536) (le-leb 1 n lo) ∙ le-leb n 65536 hi
 
 -- no place has too many operands
 all_shallow : (g : Drafts) (ks fs : List Key) → FineKeys g ks fs → all_low g fs ≡ true → Shallow (all_shapes g fs)
@@ -244,6 +244,6 @@ compiled_valid g kind main fc =
     let b = subst (λ l. first_fits (values g 0 l) ≡ true) (sym fc.first) (fits_first g main fc.rest fc.no_params fc.no_answer) in
     let start : Notes = replicate (length code.instrs) None in
     let x = pass_each g code ks (all_shapes g ks) refl ks 0 start (stands_all (codes g ks 0 ks)) (stands_all (all_shapes g ks)) (all_shallow g ks ks fc.each fc.short.low) fc.each (omega (arith, len)) (length-replicate (length code.instrs) None, λ q ls e. absurd (none_noted (length code.instrs) q ls e)) in
-    ap (λ (b : Bool). if b then (if first_fits code.functions then is_some (pass_all code code.functions 0 start) else false) else false) a
-    ∙ ap (λ (b : Bool). if b then is_some (pass_all code code.functions 0 start) else false) b
+    ap (λ (b : Bool). b && first_fits code.functions && is_some (pass_all code code.functions 0 start)) a
+    ∙ ap (λ (b : Bool). b && is_some (pass_all code code.functions 0 start)) b
     ∙ ap is_some x.1

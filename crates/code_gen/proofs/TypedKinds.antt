@@ -22,7 +22,7 @@ use Rattle.ulam_meaning.specs.Statements.{count_op}
 use Rattle.stack_code.specs.Valid.{Kinds, answer_on, args_fit}
 use Rattle.stack_code.specs.declared.instr.Operand.TheVariants.{Number}
 use Rattle.list_laws.proofs.Tests.{both}
-use Rattle.code_gen.specs.Scheme.{operand_of, answer_of, update_instr}
+use Rattle.code_gen.specs.Scheme.{operand_of, answer_of, update_instr, expr_piece, optional_piece, whole, item, target_at}
 use Rattle.code_gen.specs.Kinded.{IsNumber, IsAtom, ReadsKind, ReadsAtKind, built_takes, after_callee, OnCallee, Kinded, KindedForm, KindedArgs, KindedTest, AssignsKind, KindedValue, KindedReturn}
 use Rattle.code_gen.specs.Named.{IsWide, AllWide, IsNamed, IsNamedForm, AreNamed, IfNamed, IsNamedLeft}
 use Rattle.code_gen.proofs.TypeRows.{BitsWide, pair_args, wide_bits, plain_wide, unsigned_wide, bool_wide, pair_gives, prefix_gives, cast_gives, atom_gives, assign_gives, stores, index_number, truth_number, unsigned_number}
@@ -221,30 +221,30 @@ module _ (g : s.Scope) (z : Scene) (c : ℕ) (sees : Sees g z c) (fields_wide : 
   value_kinded ty (Some e) w h n = ((typed_kinded e h.0 n).0, stores ty (operand_of (t.ty_of e)) w (assign_gives g ty (t.ty_of e) h.1))
 
   -- an assignment, by what stands on the left
-  pub store_kinded : (at : Spot) (i : Option t.Expr) (x : t.Path) (o : Option PairOp) (e : t.Expr) (ty : Ty) → at ≡ spot z.program z.base x.steps → IsWellIndex g x i ty → IsNamedLeft z c (record { path = x; index = i }) → IsWellAssigned g ty o e → IsNamed z c e → AssignsKind z at i o (width_of (t.ty_of e)) (operand_of (t.ty_of e))
+  pub store_kinded : (at : Spot) (i : Option t.Expr) (x : t.Path) (o : Option PairOp) (e : t.Expr) (ty : Ty) → at ≡ spot z.program z.base x.steps → IsWellIndex g x i ty → IsNamedLeft z c (record { path = x; index = i }) → IsWellAssigned g ty o e → IsNamed z c e → AssignsKind z (target_at at (optional_piece z i)) o (width_of (t.ty_of e)) (operand_of (t.ty_of e))
   store_kinded at None x None e ty q h n a k =
       let r = path_target g z c sees fields_wide x.steps ty n.0 h in
-      subst (λ at. AssignsKind z at None None (width_of (t.ty_of e)) (operand_of (t.ty_of e))) (sym q) (r.writes (operand_of (t.ty_of e)) (assign_gives g ty (t.ty_of e) a.1))
+      subst (λ at. AssignsKind z (whole at) None (width_of (t.ty_of e)) (operand_of (t.ty_of e))) (sym q) (r.writes (operand_of (t.ty_of e)) (assign_gives g ty (t.ty_of e) a.1))
   store_kinded at None x (Some o) e ty q h n a k =
       let r = path_target g z c sees fields_wide x.steps ty n.0 h in
       let v = typed_kinded e a.1 k in
       let p = pair_gives o (t.plain e) ty (t.ty_of e) a.0 a.2 r.wide v.1 (λ pl. plain_number g e a.1 pl) in
       let w = width_of (t.ty_of e) in
       let own = r.same p.left in
-      subst (λ at. AssignsKind z at None (Some o) w (operand_of (t.ty_of e))) (sym q) (p.right, subst (ReadsKind z (spot z.program z.base x.steps)) p.left r.reads, r.writes Number (sym p.left), subst (λ own. args_fit (update_instr o own w) ≡ true) (sym own) (p.update (arith_with ty w)))
+      subst (λ at. AssignsKind z (whole at) (Some o) w (operand_of (t.ty_of e))) (sym q) (p.right, subst (ReadsKind z (spot z.program z.base x.steps)) p.left r.reads, r.writes Number (sym p.left), subst (λ own. args_fit (update_instr o own w) ≡ true) (sym own) (p.update (arith_with ty w)))
   store_kinded at (Some i) x None e ty q h n a k =
       let r = path_item g z c sees fields_wide x.steps ty n.0 h.0 in
-      subst (λ at. AssignsKind z at (Some i) None (width_of (t.ty_of e)) (operand_of (t.ty_of e))) (sym q) (r.writes (operand_of (t.ty_of e)) (assign_gives g ty (t.ty_of e) a.1))
+      subst (λ at. AssignsKind z (item at (expr_piece z i)) None (width_of (t.ty_of e)) (operand_of (t.ty_of e))) (sym q) (r.writes (operand_of (t.ty_of e)) (assign_gives g ty (t.ty_of e) a.1))
   store_kinded at (Some i) x (Some o) e ty q h n a k =
       let r = path_item g z c sees fields_wide x.steps ty n.0 h.0 in
       let v = typed_kinded e a.1 k in
       let p = pair_gives o (t.plain e) ty (t.ty_of e) a.0 a.2 r.wide v.1 (λ pl. plain_number g e a.1 pl) in
       let w = width_of (t.ty_of e) in
       let own = r.same p.left in
-      subst (λ at. AssignsKind z at (Some i) (Some o) w (operand_of (t.ty_of e))) (sym q) (p.right, subst (ReadsAtKind z (spot z.program z.base x.steps)) p.left r.reads, r.writes Number (sym p.left), subst (λ own. args_fit (update_instr o own w) ≡ true) (sym own) (p.update (arith_with ty w)))
+      subst (λ at. AssignsKind z (item at (expr_piece z i)) (Some o) w (operand_of (t.ty_of e))) (sym q) (p.right, subst (ReadsAtKind z (spot z.program z.base x.steps)) p.left r.reads, r.writes Number (sym p.left), subst (λ own. args_fit (update_instr o own w) ≡ true) (sym own) (p.update (arith_with ty w)))
 
   -- `++` and `--`
-  pub count_kinded : (i : Option t.Expr) (x : t.Path) (up : Bool) (ty sum : Ty) → IsWellIndex g x i ty → IsNamedLeft z c (record { path = x; index = i }) → pair_type op.Add true ty (plain_type (taken ty)) ≡ Some sum → AssignsKind z (spot z.program z.base x.steps) i (Some (count_op up)) 32 Number
+  pub count_kinded : (i : Option t.Expr) (x : t.Path) (up : Bool) (ty sum : Ty) → IsWellIndex g x i ty → IsNamedLeft z c (record { path = x; index = i }) → pair_type op.Add true ty (plain_type (taken ty)) ≡ Some sum → AssignsKind z (target_at (spot z.program z.base x.steps) (optional_piece z i)) (Some (count_op up)) 32 Number
   count_kinded None x up ty sum h n a =
       let r = path_target g z c sees fields_wide x.steps ty n.0 h in
       let p = pair_gives op.Add true ty (plain_type (taken ty)) sum a r.wide (plain_wide (taken ty) (plain_type (taken ty)) refl) (λ e. refl) in

@@ -12,7 +12,7 @@ use Rattle.ulam_tree.specs.declared.typed.Statement.TheVariants as v
 use Rattle.ulam_meaning.specs.Paths.{Scene}
 use Rattle.code_gen.specs.Pieces.{Piece, seq}
 use Rattle.code_gen.specs.Clipped.{clip, choice_of}
-use Rattle.code_gen.specs.Scheme.{cond_piece, index_piece, loop_piece, statement_piece, part_piece, body_piece}
+use Rattle.code_gen.specs.Scheme.{cond_piece, optional_piece, loop_piece, statement_piece, part_piece, body_piece}
 use Rattle.code_gen.proofs.Clips.{if_clipped}
 
 pub block_at : (z : Scene) (s : Statement) (b : Vec Statement Global) → s ≡ v.Block b → statement_piece z (typed_statement s) ≡ body_piece z (typed_body b.items)
@@ -27,11 +27,11 @@ if_at z s c x y w h k =
     ∙ ap (λ s. seq (clip (cond_piece z (typed_cond c))) (choice_of z (clip (statement_piece z (typed_statement s))) (typed_part y))) (sym k)
 
 pub for_at : (z : Scene) (s : Statement) (x : Option (Box Statement)) (e : Option Expr) (y : Option (Box Statement)) (b : Box Statement) (w : Statement) → s ≡ v.For x e y b → w ≡ box_value b →
-    statement_piece z (typed_statement s) ≡ seq (part_piece z (typed_part x)) (loop_piece (index_piece z (option_map typed_expr e)) (statement_piece z (typed_statement w)) (part_piece z (typed_part y)))
+    statement_piece z (typed_statement s) ≡ seq (part_piece z (typed_part x)) (loop_piece (optional_piece z (option_map typed_expr e)) (statement_piece z (typed_statement w)) (part_piece z (typed_part y)))
 for_at z s x e y b w h k =
     ap (λ s. statement_piece z (typed_statement s)) h
     ∙ ap (statement_piece z) (typed_for_is x e y b)
-    ∙ ap (λ s. seq (part_piece z (typed_part x)) (loop_piece (index_piece z (option_map typed_expr e)) (statement_piece z (typed_statement s)) (part_piece z (typed_part y)))) (sym k)
+    ∙ ap (λ s. seq (part_piece z (typed_part x)) (loop_piece (optional_piece z (option_map typed_expr e)) (statement_piece z (typed_statement s)) (part_piece z (typed_part y)))) (sym k)
 
 -- the pieces of an `if` and of a `for`, by those of their parts
 pub if_done : (z : Scene) (s : Statement) (c : Cond) (x : Box Statement) (y : Option (Box Statement)) (w : Statement) (q a b d : Piece) → s ≡ v.If c x y → w ≡ box_value x →
@@ -40,7 +40,7 @@ if_done z s c x y w q a b d h k e f g i =
     i ∙ ap (λ a. seq a b) e ∙ ap (seq (clip (cond_piece z (typed_cond c)))) (g ∙ ap (λ d. choice_of z d (typed_part y)) f) ∙ sym (if_at z s c x y w h k)
 
 pub for_done : (z : Scene) (s : Statement) (x : Option (Box Statement)) (e : Option Expr) (y : Option (Box Statement)) (b : Box Statement) (w : Statement) (q f r : Piece) → s ≡ v.For x e y b → w ≡ box_value b →
-    f ≡ clip (part_piece z (typed_part x)) → r ≡ clip (loop_piece (index_piece z (option_map typed_expr e)) (statement_piece z (typed_statement w)) (part_piece z (typed_part y))) → q ≡ seq f r →
+    f ≡ clip (part_piece z (typed_part x)) → r ≡ clip (loop_piece (optional_piece z (option_map typed_expr e)) (statement_piece z (typed_statement w)) (part_piece z (typed_part y))) → q ≡ seq f r →
     q ≡ clip (statement_piece z (typed_statement s))
 for_done z s x e y b w q f r h k g i j =
     j ∙ ap (λ f. seq f r) g ∙ ap (seq (clip (part_piece z (typed_part x)))) i ∙ ap clip (sym (for_at z s x e y b w h k))

@@ -1,5 +1,5 @@
 -- The codes of a program's elements, and what the compiler answers.
-use Rattle.std.specs.Prelude.{◌≡◌, ◌<◌, ℕ, suc, true, false, List, map, slice_get, Some, Result, Ok, Err, Vec}
+use Rattle.std.specs.Prelude.{◌≡◌, ◌<◌, ℕ, suc, true, false, List, map, slice_get, Some, None, Result, Ok, Err, Vec}
 use Rattle.std.specs.Option.{option_map_or}
 use Rattle.std.specs.declared.alloc.Global.{Global}
 use Rattle.feast_base.specs.Places.{no_place}
@@ -28,6 +28,12 @@ pub record IsCompilable (g : Program) : Type 0 where
   pub laid : IsLaidOut g
   pub acts : (c : ℕ) (e : t.Class) → slice_get g.classes c ≡ Some e → e.quark ≡ false → HasBehave g c
 
+-- class c is an element
+pub record IsElementClass (classes : List t.Class) (c : ℕ) : Type 0 where
+  pub class : t.Class
+  pub stands : slice_get classes c ≡ Some class
+  pub acts : class.quark ≡ false
+
 -- the code of the element that is class c, with the element's type number
 abbrev pub class_code : Program → ℕ → CodeValue
 class_code g c = element_code g (number_of g c) c
@@ -35,6 +41,14 @@ class_code g c = element_code g (number_of g c) c
 -- the codes of the elements, in the order of their classes
 abbrev pub element_codes : Program → List CodeValue
 element_codes g = map (class_code g) (element_classes 0 g.classes)
+
+-- the code of class c is at a number among the codes, with the type number after it
+abbrev pub HasCodeAt : Program → ℕ → ℕ → Type 0
+HasCodeAt g number c = slice_get (element_codes g) number ≡ Some (element_code g (suc number) c)
+
+-- no code is at a number among the codes
+abbrev pub LacksCodeAt : Program → ℕ → Type 0
+LacksCodeAt g number = slice_get (element_codes g) number ≡ None
 
 -- the limits let the code of class c through
 abbrev pub HasShort : Program → ℕ → Type 0
@@ -51,6 +65,10 @@ pub record IsFirstLong (g : Program) (c : ℕ) : Type 0 where
   pub acts : element.quark ≡ false
   pub long : HasShort g c → ⊥
   pub before : (d : ℕ) (e : t.Class) → d < c → slice_get g.classes d ≡ Some e → e.quark ≡ false → HasShort g d
+
+-- there is a first element whose code the limits don't let through
+abbrev pub HasLong : Program → Type 0
+HasLong g = (c : ℕ) × IsFirstLong g c
 
 -- the place of the name of class c
 abbrev pub long_place : List t.Class → ℕ → Place

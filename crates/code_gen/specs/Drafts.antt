@@ -58,7 +58,7 @@ keys g main = reach g 65537 0 (main ∷ [])
 
 -- the instructions of a function at a place: outside of loops, `out` and `next` lead to its end
 abbrev pub function_code : Drafts → List Key → ℕ → Key → List Instr
-function_code g ks p f = lay ks p (p + size (g f).body) (p + size (g f).body) (key_piece g f)
+function_code g ks p f = let end = p + size (g f).body in lay ks p end end (key_piece g f)
 
 -- the instructions of functions, one after another from a place on
 abbrev pub codes : Drafts → List Key → ℕ → List Key → List Instr

@@ -11,7 +11,7 @@ use Rattle.ulam_tree.specs.declared.resolved.Built.TheVariants as b
 use Rattle.ulam_tree.specs.declared.op.PairOp.{PairOp}
 use Rattle.ulam_tree.specs.Typed as t
 use Rattle.ulam_meaning.specs.Programs.{Program, field_at, slot_types}
-use Rattle.ulam_meaning.specs.Paths.{Span, Spot, itself, local, member, part, window, constant, nothing, spot, Key, function_of, Callee, called, built_in, no_callee, callee, Scene, scene_of, spot_type}
+use Rattle.ulam_meaning.specs.Paths.{Span, Spot, itself, local, member, part, window, constant, nothing, Key, function_of, Callee, called, built_in, no_callee, Scene, scene_of, spot_type}
 use Rattle.ulam_meaning.specs.Values.{number_type, width_of, arith_of}
 use Rattle.ulam_meaning.specs.Expressions.{casts, built_casts}
 use Rattle.ulam_meaning.specs.Statements.{count_op}
@@ -20,17 +20,13 @@ use Rattle.ulam_meaning.specs.Laws.{IsLaidOut}
 use Rattle.stack_code.specs.Valid.{Kinds, type_fits, number_fits, args_fit, answer_on}
 use Rattle.stack_code.specs.declared.instr.Operand.{Operand}
 use Rattle.stack_code.specs.declared.instr.Operand.TheVariants.{Number, Atom}
-use Rattle.code_gen.specs.Scheme.{operand_of, answer_of, pair_instr, prefix_instr, update_instr}
+use Rattle.code_gen.specs.Scheme.{operand_of, answer_of, pair_instr, prefix_instr, update_instr, Target, whole, item, target_spot, left_target, spot_at, callee_at}
 
 abbrev pub IsNumber : Ty → Type 0
 IsNumber ty = operand_of ty ≡ Number
 
 abbrev pub IsAtom : Ty → Type 0
 IsAtom ty = operand_of ty ≡ Atom
-
--- a slot holds this kind
-abbrev pub HasSlot : Scene → ℕ → Operand → Type 0
-HasSlot z i k = slice_get (map operand_of z.slots) i ≡ Some k
 
 -- a number's width is one that its kind has; an array has numbers
 abbrev pub SpanFits : Span → Type 0
@@ -67,22 +63,7 @@ HasPath g c (Local i ∷ rest) = (d : ℕ) × PathIn g (Some d) rest
 HasPath g c (Constant num v ∷ rest) = IsLast rest
 HasPath g c steps = PathIn g (Some c) steps
 
--- what is read gives this kind
-abbrev pub ReadsKind : Scene → Spot → Operand → Type 0
-ReadsKind z itself k = k ≡ Atom
-ReadsKind z (local i) k = HasSlot z i k
-ReadsKind z (member p) k = SpanFits p × (k ≡ Number)
-ReadsKind z (part i p) k = HasSlot z i Atom × SpanFits p × (k ≡ Number)
-ReadsKind z (constant v) k = (number_fits v ≡ true) × (k ≡ Number)
-ReadsKind z window k = ⊥
-ReadsKind z nothing k = ⊥
-
--- what is read at an index gives this kind
-abbrev pub ReadsAtKind : Scene → Spot → Operand → Type 0
-ReadsAtKind z window k = k ≡ Atom
-ReadsAtKind z (member p) k = ArrayFits p × (k ≡ Number)
-ReadsAtKind z (part i p) k = HasSlot z i Atom × ArrayFits p × (k ≡ Number)
-ReadsAtKind z spot k = ⊥
+-- Casts
 
 -- a value of this kind can be cast
 abbrev pub CastsTo : Option NumType → Operand → Type 0
@@ -92,19 +73,6 @@ CastsTo (Some num) k = (k ≡ Number) × (type_fits num ≡ true)
 -- and then has the kind of the type
 abbrev pub StoresTo : Ty → Operand → Type 0
 StoresTo ty k = CastsTo (number_type ty) k × (k ≡ operand_of ty)
-
--- what is written takes this kind
-abbrev pub WritesKind : Scene → Spot → Operand → Type 0
-WritesKind z (local i) k = HasSlot z i k × StoresTo (spot_type z (local i)) k
-WritesKind z (member p) k = SpanFits p × (k ≡ Number)
-WritesKind z (part i p) k = HasSlot z i Atom × SpanFits p × (k ≡ Number)
-WritesKind z spot k = ⊥
-
-abbrev pub WritesAtKind : Scene → Spot → Operand → Type 0
-WritesAtKind z window k = k ≡ Atom
-WritesAtKind z (member p) k = ArrayFits p × (k ≡ Number)
-WritesAtKind z (part i p) k = HasSlot z i Atom × ArrayFits p × (k ≡ Number)
-WritesAtKind z spot k = ⊥
 
 -- Calls
 
@@ -128,84 +96,132 @@ OnCallee g (called f) go = go (casts (function_of g f).params) (map operand_of (
 OnCallee g (built_in b) go = go (built_casts b) (built_takes b)
 OnCallee g no_callee go = ⊥
 
--- Expressions, in a function of class c
+-- The trees of a function's body
 
-abbrev mutual
-  pub Kinded : Scene → ℕ → t.Expr → Type 0
-  Kinded z c (t.typed f ty) = KindedForm z c f ty
+module _ (scene : Scene) where
+  -- a slot holds this kind
+  abbrev pub HasSlot : ℕ → Operand → Type 0
+  HasSlot i k = slice_get (map operand_of scene.slots) i ≡ Some k
 
-  pub KindedForm : Scene → ℕ → t.Form → Ty → Type 0
-  KindedForm z c (t.number v u p) ty = IsNumber ty × (number_fits (pos v) ≡ true)
-  KindedForm z c (t.truth b p) ty = IsNumber ty
-  KindedForm z c (t.reads x) ty = HasPath z.program c x.steps × ReadsKind z (spot z.program z.base x.steps) (operand_of ty)
-  KindedForm z c (t.calls x es) ty = HasPath z.program c x.steps × OnCallee z.program (callee z.program z.base x.steps) (KindedArgs z c es) × (after_callee z.program (callee z.program z.base x.steps) [] ≡ operand_of ty ∷ [])
-  KindedForm z c (t.index x i) ty = HasPath z.program c x.steps × Kinded z c i × IsNumber (t.ty_of i) × ReadsAtKind z (spot z.program z.base x.steps) (operand_of ty)
-  KindedForm z c (t.instance of) ty = IsAtom ty
-  KindedForm z c (t.group e p) ty = Kinded z c e × (operand_of (t.ty_of e) ≡ operand_of ty)
-  KindedForm z c (t.cast of e p) ty = Kinded z c e × IsNumber (t.ty_of e) × IsNumber ty × CastsTo (number_type of.ty) Number
-  KindedForm z c (t.prefix o e p) ty = Kinded z c e × IsNumber (t.ty_of e) × IsNumber ty × (args_fit (prefix_instr o ty) ≡ true)
-  KindedForm z c (t.pair o l r p) ty = Kinded z c l × Kinded z c r × IsNumber (t.ty_of l) × IsNumber (t.ty_of r) × IsNumber ty × (args_fit (pair_instr o (arith_of ty) (width_of ty)) ≡ true)
-  KindedForm z c (t.is e of p) ty = Kinded z c e × IsAtom (t.ty_of e) × IsNumber ty
+  -- what is read gives this kind
+  abbrev pub ReadsKind : Spot → Operand → Type 0
+  ReadsKind itself k = k ≡ Atom
+  ReadsKind (local i) k = HasSlot i k
+  ReadsKind (member p) k = SpanFits p × (k ≡ Number)
+  ReadsKind (part i p) k = HasSlot i Atom × SpanFits p × (k ≡ Number)
+  ReadsKind (constant v) k = (number_fits v ≡ true) × (k ≡ Number)
+  ReadsKind window k = ⊥
+  ReadsKind nothing k = ⊥
 
-  -- arguments, by what each is cast to and its kind
-  pub KindedArgs : Scene → ℕ → t.Args → List (Option NumType) → Kinds → Type 0
-  KindedArgs z c t.no_args [] [] = Unit {0}
-  KindedArgs z c (t.arg e es) (o ∷ os) (k ∷ ks) = Kinded z c e × (operand_of (t.ty_of e) ≡ k) × CastsTo o k × KindedArgs z c es os ks
-  KindedArgs z c es os ks = ⊥
+  -- what is read at an index gives this kind
+  abbrev pub ReadsAtKind : Spot → Operand → Type 0
+  ReadsAtKind window k = k ≡ Atom
+  ReadsAtKind (member p) k = ArrayFits p × (k ≡ Number)
+  ReadsAtKind (part i p) k = HasSlot i Atom × ArrayFits p × (k ≡ Number)
+  ReadsAtKind spot k = ⊥
 
--- Statements
+  -- what is written takes this kind
+  abbrev pub WritesKind : Spot → Operand → Type 0
+  WritesKind (local i) k = HasSlot i k × StoresTo (spot_type scene (local i)) k
+  WritesKind (member p) k = SpanFits p × (k ≡ Number)
+  WritesKind (part i p) k = HasSlot i Atom × SpanFits p × (k ≡ Number)
+  WritesKind spot k = ⊥
 
-abbrev pub KindedCond : Scene → ℕ → t.Cond → Type 0
-KindedCond z c (t.seen x of) = HasPath z.program c x.steps × ReadsKind z (spot z.program z.base x.steps) Atom
-KindedCond z c (t.test e) = Kinded z c e × IsNumber (t.ty_of e)
+  -- what is written at an index takes this kind
+  abbrev pub WritesAtKind : Spot → Operand → Type 0
+  WritesAtKind window k = k ≡ Atom
+  WritesAtKind (member p) k = ArrayFits p × (k ≡ Number)
+  WritesAtKind (part i p) k = HasSlot i Atom × ArrayFits p × (k ≡ Number)
+  WritesAtKind spot k = ⊥
 
-abbrev pub KindedTest : Scene → ℕ → Option t.Expr → Type 0
-KindedTest z c None = Unit {0}
-KindedTest z c (Some e) = Kinded z c e × IsNumber (t.ty_of e)
+  -- the instruction of an operator followed by `=`, for a target and a value of this width, is allowed
+  abbrev pub HasUpdate : PairOp → Target → ℕ → Type 0
+  HasUpdate o target width = args_fit (update_instr o (spot_type scene (target_spot target)) width) ≡ true
 
--- a value of this kind, and of this width if its operator has one, can be assigned, with an index
--- or without
-abbrev pub AssignsKind : Scene → Spot → Option t.Expr → Option PairOp → ℕ → Operand → Type 0
-AssignsKind z at None None w k = WritesKind z at k
-AssignsKind z at None (Some o) w k = (k ≡ Number) × ReadsKind z at Number × WritesKind z at Number × (args_fit (update_instr o (spot_type z at) w) ≡ true)
-AssignsKind z at (Some i) None w k = WritesAtKind z at k
-AssignsKind z at (Some i) (Some o) w k = (k ≡ Number) × ReadsAtKind z at Number × WritesAtKind z at Number × (args_fit (update_instr o (spot_type z at) w) ≡ true)
+  -- a value of this kind, and of this width if there is an operator, can be assigned
+  abbrev pub AssignsKind : Target → Option PairOp → ℕ → Operand → Type 0
+  AssignsKind (whole at) None width k = WritesKind at k
+  AssignsKind (whole at) (Some o) width k = (k ≡ Number) × ReadsKind at Number × WritesKind at Number × HasUpdate o (whole at) width
+  AssignsKind (item at index) None width k = WritesAtKind at k
+  AssignsKind (item at index) (Some o) width k = (k ≡ Number) × ReadsAtKind at Number × WritesAtKind at Number × HasUpdate o (item at index) width
 
--- a left side, with its index
-abbrev pub KindedLeft : Scene → ℕ → t.Left → Type 0
-KindedLeft z c l = HasPath z.program c l.path.steps × KindedTest z c l.index
+  -- in a function of this class
+  module _ (class : ℕ) where
+    abbrev pub KindedPath : t.Path → Type 0
+    KindedPath x = HasPath scene.program class x.steps
 
-abbrev pub KindedValue : Scene → ℕ → Ty → Option t.Expr → Type 0
-KindedValue z c ty None = Unit {0}
-KindedValue z c ty (Some e) = Kinded z c e × StoresTo ty (operand_of (t.ty_of e))
+    -- Expressions
 
--- a value that is returned
-abbrev pub KindedReturn : Scene → ℕ → Option t.Expr → Type 0
-KindedReturn z c None = Unit {0}
-KindedReturn z c (Some e) = (answer_on (answer_of z.result) [] ≡ operand_of z.result ∷ []) × Kinded z c e × StoresTo z.result (operand_of (t.ty_of e))
+    abbrev mutual
+      pub Kinded : t.Expr → Type 0
+      Kinded (t.typed f ty) = KindedForm f ty
 
-abbrev mutual
-  pub KindedStatement : Scene → ℕ → t.Statement → Type 0
-  KindedStatement z c (t.block b) = KindedBody z c b
-  KindedStatement z c t.empty = Unit {0}
-  KindedStatement z c (t.if_so i x other) = KindedCond z c i × KindedStatement z c x × KindedPart z c other
-  KindedStatement z c (t.while_so e x) = Kinded z c e × IsNumber (t.ty_of e) × KindedStatement z c x
-  KindedStatement z c (t.for_all first e step x) = KindedPart z c first × KindedTest z c e × KindedPart z c step × KindedStatement z c x
-  KindedStatement z c (t.returns p e) = KindedReturn z c e
-  KindedStatement z c (t.breaks p) = Unit {0}
-  KindedStatement z c (t.continues p) = Unit {0}
-  KindedStatement z c (t.declares of i p e) = HasSlot z i (operand_of of.ty) × KindedValue z c of.ty e
-  KindedStatement z c (t.assigns l o e) = KindedLeft z c l × Kinded z c e × AssignsKind z (spot z.program z.base l.path.steps) l.index o (width_of (t.ty_of e)) (operand_of (t.ty_of e))
-  KindedStatement z c (t.counts l up) = KindedLeft z c l × AssignsKind z (spot z.program z.base l.path.steps) l.index (Some (count_op up)) 32 Number
-  KindedStatement z c (t.does x es) = HasPath z.program c x.steps × OnCallee z.program (callee z.program z.base x.steps) (KindedArgs z c es)
+      pub KindedForm : t.Form → Ty → Type 0
+      KindedForm (t.number v u p) ty = IsNumber ty × (number_fits (pos v) ≡ true)
+      KindedForm (t.truth b p) ty = IsNumber ty
+      KindedForm (t.reads x) ty = KindedPath x × ReadsKind (spot_at scene x) (operand_of ty)
+      KindedForm (t.calls x es) ty = KindedPath x × OnCallee scene.program (callee_at scene x) (KindedArgs es) × (after_callee scene.program (callee_at scene x) [] ≡ operand_of ty ∷ [])
+      KindedForm (t.index x i) ty = KindedPath x × Kinded i × IsNumber (t.ty_of i) × ReadsAtKind (spot_at scene x) (operand_of ty)
+      KindedForm (t.instance of) ty = IsAtom ty
+      KindedForm (t.group e p) ty = Kinded e × (operand_of (t.ty_of e) ≡ operand_of ty)
+      KindedForm (t.cast of e p) ty = Kinded e × IsNumber (t.ty_of e) × IsNumber ty × CastsTo (number_type of.ty) Number
+      KindedForm (t.prefix o e p) ty = Kinded e × IsNumber (t.ty_of e) × IsNumber ty × (args_fit (prefix_instr o ty) ≡ true)
+      KindedForm (t.pair o l r p) ty = Kinded l × Kinded r × IsNumber (t.ty_of l) × IsNumber (t.ty_of r) × IsNumber ty × (args_fit (pair_instr o (arith_of ty) (width_of ty)) ≡ true)
+      KindedForm (t.is e of p) ty = Kinded e × IsAtom (t.ty_of e) × IsNumber ty
 
-  pub KindedPart : Scene → ℕ → t.Part → Type 0
-  KindedPart z c t.no_part = Unit {0}
-  KindedPart z c (t.part x) = KindedStatement z c x
+      -- arguments, by what each is cast to and its kind
+      pub KindedArgs : t.Args → List (Option NumType) → Kinds → Type 0
+      KindedArgs t.no_args [] [] = Unit {0}
+      KindedArgs (t.arg e es) (o ∷ os) (k ∷ ks) = Kinded e × (operand_of (t.ty_of e) ≡ k) × CastsTo o k × KindedArgs es os ks
+      KindedArgs es os ks = ⊥
 
-  pub KindedBody : Scene → ℕ → t.Body → Type 0
-  KindedBody z c t.no_more = Unit {0}
-  KindedBody z c (t.then_so x b) = KindedStatement z c x × KindedBody z c b
+    -- Parts of statements
+
+    abbrev pub KindedCond : t.Cond → Type 0
+    KindedCond (t.seen x of) = KindedPath x × ReadsKind (spot_at scene x) Atom
+    KindedCond (t.test e) = Kinded e × IsNumber (t.ty_of e)
+
+    abbrev pub KindedTest : Option t.Expr → Type 0
+    KindedTest None = Unit {0}
+    KindedTest (Some e) = Kinded e × IsNumber (t.ty_of e)
+
+    -- a left side, with its index
+    abbrev pub KindedLeft : t.Left → Type 0
+    KindedLeft l = KindedPath l.path × KindedTest l.index
+
+    abbrev pub KindedValue : Ty → Option t.Expr → Type 0
+    KindedValue ty None = Unit {0}
+    KindedValue ty (Some e) = Kinded e × StoresTo ty (operand_of (t.ty_of e))
+
+    -- a value that is returned
+    abbrev pub KindedReturn : Option t.Expr → Type 0
+    KindedReturn None = Unit {0}
+    KindedReturn (Some e) = (answer_on (answer_of scene.result) [] ≡ operand_of scene.result ∷ []) × Kinded e × StoresTo scene.result (operand_of (t.ty_of e))
+
+    -- Statements
+
+    abbrev mutual
+      pub KindedStatement : t.Statement → Type 0
+      KindedStatement (t.block b) = KindedBody b
+      KindedStatement t.empty = Unit {0}
+      KindedStatement (t.if_so i x other) = KindedCond i × KindedStatement x × KindedPart other
+      KindedStatement (t.while_so e x) = Kinded e × IsNumber (t.ty_of e) × KindedStatement x
+      KindedStatement (t.for_all first e step x) = KindedPart first × KindedTest e × KindedPart step × KindedStatement x
+      KindedStatement (t.returns p e) = KindedReturn e
+      KindedStatement (t.breaks p) = Unit {0}
+      KindedStatement (t.continues p) = Unit {0}
+      KindedStatement (t.declares of i p e) = HasSlot i (operand_of of.ty) × KindedValue of.ty e
+      KindedStatement (t.assigns l o e) = KindedLeft l × Kinded e × AssignsKind (left_target scene l) o (width_of (t.ty_of e)) (operand_of (t.ty_of e))
+      KindedStatement (t.counts l up) = KindedLeft l × AssignsKind (left_target scene l) (Some (count_op up)) 32 Number
+      KindedStatement (t.does x es) = KindedPath x × OnCallee scene.program (callee_at scene x) (KindedArgs es)
+
+      pub KindedPart : t.Part → Type 0
+      KindedPart t.no_part = Unit {0}
+      KindedPart (t.part x) = KindedStatement x
+
+      pub KindedBody : t.Body → Type 0
+      KindedBody t.no_more = Unit {0}
+      KindedBody (t.then_so x b) = KindedStatement x × KindedBody b
 
 -- Programs
 

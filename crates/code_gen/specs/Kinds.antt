@@ -30,36 +30,6 @@ below (k ∷ ks) = ks
 abbrev pub after_ask : Draft → Kinds → Kinds
 after_ask d ks = answer_on d.answer (drop (length d.takes) ks)
 
--- the kinds after a piece: none if it doesn't go on
-abbrev pub ends : Setting → Piece → Kinds → Kinds
-ends n none ks = ks
-ends n (seq a b) ks = ends n b (ends n a ks)
-ends n (plain i) ks = kinds_or (after n.slots (sort i) ks)
-ends n (asks f) ks = after_ask (n.drafts f) ks
-ends n (pick a b) ks = ends n b (below ks)
-ends n (only a) ks = below ks
-ends n (loop t a b) ks = []
-ends n (ever a b) ks = []
-ends n out ks = []
-ends n next ks = []
-ends n gives ks = []
-ends n leaves ks = []
-
--- the kinds at each place of a piece
-abbrev pub shapes : Setting → Piece → Kinds → List Kinds
-shapes n none ks = []
-shapes n (seq a b) ks = shapes n a ks ++ shapes n b (ends n a ks)
-shapes n (plain i) ks = ks ∷ []
-shapes n (asks f) ks = ks ∷ []
-shapes n (pick a b) ks = ks ∷ (shapes n a (below ks) ++ (ends n a (below ks) ∷ shapes n b (below ks)))
-shapes n (only a) ks = ks ∷ shapes n a (below ks)
-shapes n (loop t a b) ks = shapes n t ks ++ (ends n t ks ∷ (shapes n a [] ++ (shapes n b [] ++ ([] ∷ ([] ∷ [])))))
-shapes n (ever a b) ks = shapes n a ks ++ (shapes n b [] ++ ([] ∷ ([] ∷ [])))
-shapes n out ks = ks ∷ []
-shapes n next ks = ks ∷ []
-shapes n gives ks = ks ∷ []
-shapes n leaves ks = ks ∷ []
-
 -- with the kinds below a number
 abbrev pub OnNumber : Kinds → (Kinds → Type 0) → Type 0
 OnNumber [] f = ⊥
@@ -70,20 +40,51 @@ abbrev pub IsEmpty : Kinds → Type 0
 IsEmpty [] = Unit {0}
 IsEmpty (k ∷ ks) = ⊥
 
--- a piece finds the kinds that it takes, and each function that it calls has room for its bits
-abbrev pub Fits : Setting → Piece → Kinds → Type 0
-Fits n none ks = Unit {0}
-Fits n (seq a b) ks = Fits n a ks × Fits n b (ends n a ks)
-Fits n (plain i) ks = (args_fit i ≡ true) × (after n.slots (sort i) ks ≡ Some (ends n (plain i) ks))
-Fits n (asks f) ks = (same_kinds (reverse (take (length (n.drafts f).takes) ks)) (n.drafts f).takes ≡ true) × (has_room n.drafts f ≡ true)
-Fits n (pick a b) ks = OnNumber ks (λ ls. Fits n a ls × Fits n b ls × (ends n a ls ≡ ends n b ls))
-Fits n (only a) ks = OnNumber ks (λ ls. Fits n a ls × (ends n a ls ≡ ls))
-Fits n (loop t a b) ks = IsEmpty ks × Fits n t [] × (ends n t [] ≡ Number ∷ []) × Fits n a [] × (ends n a [] ≡ []) × Fits n b [] × (ends n b [] ≡ [])
-Fits n (ever a b) ks = IsEmpty ks × Fits n a [] × (ends n a [] ≡ []) × Fits n b [] × (ends n b [] ≡ [])
-Fits n out ks = IsEmpty ks
-Fits n next ks = IsEmpty ks
-Fits n gives ks = answer_found n.answer ks ≡ true
-Fits n leaves ks = is_nothing n.answer ≡ true
+module _ (setting : Setting) where
+  -- the kinds after a piece: none if it doesn't go on
+  abbrev pub ends : Piece → Kinds → Kinds
+  ends none ks = ks
+  ends (seq a b) ks = ends b (ends a ks)
+  ends (plain i) ks = kinds_or (after setting.slots (sort i) ks)
+  ends (asks f) ks = after_ask (setting.drafts f) ks
+  ends (pick a b) ks = ends b (below ks)
+  ends (only a) ks = below ks
+  ends (loop t a b) ks = []
+  ends (ever a b) ks = []
+  ends out ks = []
+  ends next ks = []
+  ends gives ks = []
+  ends leaves ks = []
+
+  -- the kinds at each place of a piece
+  abbrev pub shapes : Piece → Kinds → List Kinds
+  shapes none ks = []
+  shapes (seq a b) ks = shapes a ks ++ shapes b (ends a ks)
+  shapes (plain i) ks = ks ∷ []
+  shapes (asks f) ks = ks ∷ []
+  shapes (pick a b) ks = ks ∷ (shapes a (below ks) ++ (ends a (below ks) ∷ shapes b (below ks)))
+  shapes (only a) ks = ks ∷ shapes a (below ks)
+  shapes (loop t a b) ks = shapes t ks ++ (ends t ks ∷ (shapes a [] ++ (shapes b [] ++ ([] ∷ ([] ∷ [])))))
+  shapes (ever a b) ks = shapes a ks ++ (shapes b [] ++ ([] ∷ ([] ∷ [])))
+  shapes out ks = ks ∷ []
+  shapes next ks = ks ∷ []
+  shapes gives ks = ks ∷ []
+  shapes leaves ks = ks ∷ []
+
+  -- a piece finds the kinds that it takes, and each function that it calls has room for its bits
+  abbrev pub Fits : Piece → Kinds → Type 0
+  Fits none ks = Unit {0}
+  Fits (seq a b) ks = Fits a ks × Fits b (ends a ks)
+  Fits (plain i) ks = (args_fit i ≡ true) × (after setting.slots (sort i) ks ≡ Some (ends (plain i) ks))
+  Fits (asks f) ks = (same_kinds (reverse (take (length (setting.drafts f).takes) ks)) (setting.drafts f).takes ≡ true) × (has_room setting.drafts f ≡ true)
+  Fits (pick a b) ks = OnNumber ks (λ ls. Fits a ls × Fits b ls × (ends a ls ≡ ends b ls))
+  Fits (only a) ks = OnNumber ks (λ ls. Fits a ls × (ends a ls ≡ ls))
+  Fits (loop t a b) ks = IsEmpty ks × Fits t [] × (ends t [] ≡ Number ∷ []) × Fits a [] × (ends a [] ≡ []) × Fits b [] × (ends b [] ≡ [])
+  Fits (ever a b) ks = IsEmpty ks × Fits a [] × (ends a [] ≡ []) × Fits b [] × (ends b [] ≡ [])
+  Fits out ks = IsEmpty ks
+  Fits next ks = IsEmpty ks
+  Fits gives ks = answer_found setting.answer ks ≡ true
+  Fits leaves ks = is_nothing setting.answer ≡ true
 
 -- no more than 512 operands anywhere
 abbrev pub Shallow : List Kinds → Type 0

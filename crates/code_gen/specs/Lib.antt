@@ -16,4 +16,8 @@ pub mod Gathers
 pub mod Sized
 pub mod Clipped
 pub mod Seen
+pub mod Made
+pub mod Laying
+pub mod DepthLaws
+pub mod LaidOut
 pub mod Compiling

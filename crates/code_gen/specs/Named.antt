@@ -22,67 +22,72 @@ abbrev pub AllWide : List Ty → Type 0
 AllWide [] = Unit {0}
 AllWide (ty ∷ tys) = IsWide ty × AllWide tys
 
--- a path in a function of class c; if one goes on after a local, the local holds an atom
-abbrev pub IsNamedPath : Scene → ℕ → List Step → Type 0
-IsNamedPath z c (Local i ∷ s ∷ rest) = HasPath z.program c (Local i ∷ s ∷ rest) × HasSlot z i Atom
-IsNamedPath z c (Constant num v ∷ rest) = IsLast rest × (type_fits num ≡ true) × (number_fits v ≡ true)
-IsNamedPath z c steps = HasPath z.program c steps
+-- The trees of a function's body, which is one of this class
 
-abbrev mutual
-  pub IsNamed : Scene → ℕ → t.Expr → Type 0
-  IsNamed z c (t.typed f ty) = IsNamedForm z c f
+module _ (scene : Scene) (class : ℕ) where
+  -- a path; if it goes on after a local, the local holds an atom
+  abbrev pub IsNamedPath : List Step → Type 0
+  IsNamedPath (Local i ∷ s ∷ rest) = HasPath scene.program class (Local i ∷ s ∷ rest) × HasSlot scene i Atom
+  IsNamedPath (Constant num v ∷ rest) = IsLast rest × (type_fits num ≡ true) × (number_fits v ≡ true)
+  IsNamedPath steps = HasPath scene.program class steps
 
-  pub IsNamedForm : Scene → ℕ → t.Form → Type 0
-  IsNamedForm z c (t.number v u p) = number_fits (pos v) ≡ true
-  IsNamedForm z c (t.truth b p) = Unit {0}
-  IsNamedForm z c (t.reads x) = IsNamedPath z c x.steps
-  IsNamedForm z c (t.calls x es) = IsNamedPath z c x.steps × AreNamed z c es
-  IsNamedForm z c (t.index x i) = IsNamedPath z c x.steps × IsNamed z c i
-  IsNamedForm z c (t.instance of) = Unit {0}
-  IsNamedForm z c (t.group e p) = IsNamed z c e
-  IsNamedForm z c (t.cast of e p) = IsWide of.ty × IsNamed z c e
-  IsNamedForm z c (t.prefix o e p) = IsNamed z c e
-  IsNamedForm z c (t.pair o l r p) = IsNamed z c l × IsNamed z c r
-  IsNamedForm z c (t.is e of p) = IsNamed z c e
+  abbrev mutual
+    pub IsNamed : t.Expr → Type 0
+    IsNamed (t.typed f ty) = IsNamedForm f
 
-  pub AreNamed : Scene → ℕ → t.Args → Type 0
-  AreNamed z c t.no_args = Unit {0}
-  AreNamed z c (t.arg e es) = IsNamed z c e × AreNamed z c es
+    pub IsNamedForm : t.Form → Type 0
+    IsNamedForm (t.number v u p) = number_fits (pos v) ≡ true
+    IsNamedForm (t.truth b p) = Unit {0}
+    IsNamedForm (t.reads x) = IsNamedPath x.steps
+    IsNamedForm (t.calls x es) = IsNamedPath x.steps × AreNamed es
+    IsNamedForm (t.index x i) = IsNamedPath x.steps × IsNamed i
+    IsNamedForm (t.instance of) = Unit {0}
+    IsNamedForm (t.group e p) = IsNamed e
+    IsNamedForm (t.cast of e p) = IsWide of.ty × IsNamed e
+    IsNamedForm (t.prefix o e p) = IsNamed e
+    IsNamedForm (t.pair o l r p) = IsNamed l × IsNamed r
+    IsNamedForm (t.is e of p) = IsNamed e
 
-abbrev pub IfNamed : Scene → ℕ → Option t.Expr → Type 0
-IfNamed z c None = Unit {0}
-IfNamed z c (Some e) = IsNamed z c e
+    pub AreNamed : t.Args → Type 0
+    AreNamed t.no_args = Unit {0}
+    AreNamed (t.arg e es) = IsNamed e × AreNamed es
 
-abbrev pub IsNamedCond : Scene → ℕ → t.Cond → Type 0
-IsNamedCond z c (t.seen x of) = Unit {0}
-IsNamedCond z c (t.test e) = IsNamed z c e
+  abbrev pub IfNamed : Option t.Expr → Type 0
+  IfNamed None = Unit {0}
+  IfNamed (Some e) = IsNamed e
 
--- a left side
-abbrev pub IsNamedLeft : Scene → ℕ → t.Left → Type 0
-IsNamedLeft z c l = IsNamedPath z c l.path.steps × IfNamed z c l.index
+  abbrev pub IsNamedCond : t.Cond → Type 0
+  IsNamedCond (t.seen x of) = Unit {0}
+  IsNamedCond (t.test e) = IsNamed e
 
-abbrev mutual
-  pub IsNamedStatement : Scene → ℕ → t.Statement → Type 0
-  IsNamedStatement z c (t.block b) = IsNamedBody z c b
-  IsNamedStatement z c t.empty = Unit {0}
-  IsNamedStatement z c (t.if_so i x other) = IsNamedCond z c i × IsNamedStatement z c x × IsNamedPart z c other
-  IsNamedStatement z c (t.while_so e x) = IsNamed z c e × IsNamedStatement z c x
-  IsNamedStatement z c (t.for_all first e step x) = IsNamedPart z c first × IfNamed z c e × IsNamedPart z c step × IsNamedStatement z c x
-  IsNamedStatement z c (t.returns p e) = IfNamed z c e
-  IsNamedStatement z c (t.breaks p) = Unit {0}
-  IsNamedStatement z c (t.continues p) = Unit {0}
-  IsNamedStatement z c (t.declares of i p e) = (slice_get z.slots i ≡ Some of.ty) × IfNamed z c e
-  IsNamedStatement z c (t.assigns l o e) = IsNamedLeft z c l × IsNamed z c e
-  IsNamedStatement z c (t.counts l up) = IsNamedLeft z c l
-  IsNamedStatement z c (t.does x es) = IsNamedPath z c x.steps × AreNamed z c es
+  -- a left side
+  abbrev pub IsNamedLeft : t.Left → Type 0
+  IsNamedLeft l = IsNamedPath l.path.steps × IfNamed l.index
 
-  pub IsNamedPart : Scene → ℕ → t.Part → Type 0
-  IsNamedPart z c t.no_part = Unit {0}
-  IsNamedPart z c (t.part x) = IsNamedStatement z c x
+  abbrev mutual
+    pub IsNamedStatement : t.Statement → Type 0
+    IsNamedStatement (t.block b) = IsNamedBody b
+    IsNamedStatement t.empty = Unit {0}
+    IsNamedStatement (t.if_so i x other) = IsNamedCond i × IsNamedStatement x × IsNamedPart other
+    IsNamedStatement (t.while_so e x) = IsNamed e × IsNamedStatement x
+    IsNamedStatement (t.for_all first e step x) = IsNamedPart first × IfNamed e × IsNamedPart step × IsNamedStatement x
+    IsNamedStatement (t.returns p e) = IfNamed e
+    IsNamedStatement (t.breaks p) = Unit {0}
+    IsNamedStatement (t.continues p) = Unit {0}
+    IsNamedStatement (t.declares of i p e) = (slice_get scene.slots i ≡ Some of.ty) × IfNamed e
+    IsNamedStatement (t.assigns l o e) = IsNamedLeft l × IsNamed e
+    IsNamedStatement (t.counts l up) = IsNamedLeft l
+    IsNamedStatement (t.does x es) = IsNamedPath x.steps × AreNamed es
 
-  pub IsNamedBody : Scene → ℕ → t.Body → Type 0
-  IsNamedBody z c t.no_more = Unit {0}
-  IsNamedBody z c (t.then_so x b) = IsNamedStatement z c x × IsNamedBody z c b
+    pub IsNamedPart : t.Part → Type 0
+    IsNamedPart t.no_part = Unit {0}
+    IsNamedPart (t.part x) = IsNamedStatement x
+
+    pub IsNamedBody : t.Body → Type 0
+    IsNamedBody t.no_more = Unit {0}
+    IsNamedBody (t.then_so x b) = IsNamedStatement x × IsNamedBody b
+
+-- Programs
 
 -- a program: its types have allowed widths, its functions have no more than 72 slots, and its bodies are named
 pub record IsNamedProgram (g : Program) : Type 0 where

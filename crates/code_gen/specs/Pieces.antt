@@ -4,20 +4,20 @@ pub use Rattle.ulam_meaning.specs.Paths.{Key}
 use Rattle.stack_code.specs.declared.instr.Instr.{Instr}
 use Rattle.stack_code.specs.declared.instr.Instr.TheVariants.{Jump, JumpFalse, Turn, Call, Return, ReturnVoid}
 
--- E stands for the place after a piece, C for that of a loop's step
+-- In the comments on jumps, END is the place after a piece.
 pub data Piece : Type 0 where
   none : Piece
   seq : (a b : Piece) → Piece
   plain : (i : Instr) → Piece
   -- a call
   asks : (f : Key) → Piece
-  -- JumpFalse F, a, Jump E, F: b, E:
+  -- JumpFalse OTHER, a, Jump END, OTHER: b, END:
   pick : (a b : Piece) → Piece
-  -- JumpFalse E, a, E:
+  -- JumpFalse END, a, END:
   only : (a : Piece) → Piece
-  -- L: t, JumpFalse E, a, C: b, Turn, Jump L, E:
+  -- AGAIN: t, JumpFalse END, a, STEP: b, Turn, Jump AGAIN, END:
   loop : (t a b : Piece) → Piece
-  -- L: a, C: b, Turn, Jump L, E:
+  -- AGAIN: a, STEP: b, Turn, Jump AGAIN, END:
   ever : (a b : Piece) → Piece
   -- out of the loop around it, and to that loop's step
   out : Piece
@@ -53,22 +53,32 @@ abbrev pub has_key : List Key → Key → Bool
 has_key [] f = false
 has_key (k ∷ ks) f = if same_key k f then true else has_key ks f
 
--- the instructions of a piece at place p, with functions numbered as they are in the list; `out`
--- leads to place e, `next` to place c
-abbrev pub lay : List Key → ℕ → ℕ → ℕ → Piece → List Instr
-lay ks p e c none = []
-lay ks p e c (seq a b) = lay ks p e c a ++ lay ks (p + size a) e c b
-lay ks p e c (plain i) = i ∷ []
-lay ks p e c (asks f) = Call (key_number ks f) ∷ []
-lay ks p e c (pick a b) = JumpFalse (p + 1 + size a + 1) ∷ (lay ks (p + 1) e c a ++ (Jump (p + 1 + size a + 1 + size b) ∷ lay ks (p + 1 + size a + 1) e c b))
-lay ks p e c (only a) = JumpFalse (p + 1 + size a) ∷ lay ks (p + 1) e c a
-lay ks p e c (loop t a b) =
-    lay ks p e c t ++ (JumpFalse (p + size t + 1 + size a + size b + 2) ∷ (lay ks (p + size t + 1) (p + size t + 1 + size a + size b + 2) (p + size t + 1 + size a) a ++ (lay ks (p + size t + 1 + size a) e c b ++ (Turn ∷ (Jump p ∷ [])))))
-lay ks p e c (ever a b) = lay ks p (p + size a + size b + 2) (p + size a) a ++ (lay ks (p + size a) e c b ++ (Turn ∷ (Jump p ∷ [])))
-lay ks p e c out = Jump e ∷ []
-lay ks p e c next = Jump c ∷ []
-lay ks p e c gives = Return ∷ []
-lay ks p e c leaves = ReturnVoid ∷ []
+-- the functions of an element, in the order of their numbers
+module _ (keys : List Key) where
+  -- The instructions of a piece from a place on. `out` leads to the place `past`, and `next` to the
+  -- place `step`; inside of a loop they lead to the place after it and to its own step.
+  abbrev pub lay : (place past step : ℕ) → Piece → List Instr
+  lay place past step none = []
+  lay place past step (seq a b) = lay place past step a ++ lay (place + size a) past step b
+  lay place past step (plain i) = i ∷ []
+  lay place past step (asks f) = Call (key_number keys f) ∷ []
+  lay place past step (pick a b) =
+      let other = place + 1 + size a + 1 in
+      JumpFalse other ∷ (lay (place + 1) past step a ++ (Jump (other + size b) ∷ lay other past step b))
+  lay place past step (only a) = JumpFalse (place + 1 + size a) ∷ lay (place + 1) past step a
+  lay place past step (loop t a b) =
+      let body = place + size t + 1 in
+      let own_step = body + size a in
+      let end = own_step + size b + 2 in
+      lay place past step t ++ (JumpFalse end ∷ (lay body end own_step a ++ (lay own_step past step b ++ (Turn ∷ (Jump place ∷ [])))))
+  lay place past step (ever a b) =
+      let own_step = place + size a in
+      let end = own_step + size b + 2 in
+      lay place end own_step a ++ (lay own_step past step b ++ (Turn ∷ (Jump place ∷ [])))
+  lay place past step out = Jump past ∷ []
+  lay place past step next = Jump step ∷ []
+  lay place past step gives = Return ∷ []
+  lay place past step leaves = ReturnVoid ∷ []
 
 -- the list with a function appended, unless it is there
 abbrev pub add_key : List Key → Key → List Key

@@ -74,12 +74,12 @@ turn_out (suc t) go = go t
 abbrev pub by_bool : {A : Type 0} → Bool → A → A → A
 by_bool z x y = if z then x else y
 
--- a loop with a test, a body and a step, at most m rounds of it
+-- a loop, at most m rounds of it: its test, its body, its step, a turn, and then the test again
 abbrev pub rounds : ℕ → (Now → Out) → (Now → Out) → (Now → Out) → Now → Out
 rounds zero t a b s = lacks
 rounds (suc m) t a b s = out_then (t s) (λ s1. on_zero s1 s1.held.stack (λ z s2. by_bool z (goes s2) (out_again (a s2) (λ s3. out_then (b s3) (λ s4. turn_out s4.turns (λ n. rounds m t a b (with_turns s4 n)))))))
 
--- a loop without a test
+-- the same without a test
 abbrev pub ever_rounds : ℕ → (Now → Out) → (Now → Out) → Now → Out
 ever_rounds zero a b s = lacks
 ever_rounds (suc m) a b s = out_again (a s) (λ s3. out_then (b s3) (λ s4. turn_out s4.turns (λ n. ever_rounds m a b (with_turns s4 n))))
@@ -93,22 +93,6 @@ hand_top s (x ∷ st) = hands (x ∷ []) s
 abbrev pub Asks : Type 0
 Asks = Key → Now → Out
 
--- a piece, in an event of this acting type. Each round of a loop takes a turn, so that a loop has
--- at most one round more than there are turns
-abbrev pub run : ℕ → Asks → Piece → Now → Out
-run kind h none s = goes s
-run kind h (seq a b) s = out_then (run kind h a s) (run kind h b)
-run kind h (plain i) s = after_work s.turns (work kind (sort i) s.held)
-run kind h (asks f) s = h f s
-run kind h (pick a b) s = on_zero s s.held.stack (λ z s1. by_bool z (run kind h b s1) (run kind h a s1))
-run kind h (only a) s = on_zero s s.held.stack (λ z s1. by_bool z (goes s1) (run kind h a s1))
-run kind h (loop t a b) s = rounds (suc s.turns) (run kind h t) (run kind h a) (run kind h b) s
-run kind h (ever a b) s = ever_rounds (suc s.turns) (run kind h a) (run kind h b) s
-run kind h out s = leaps s
-run kind h next s = nexts s
-run kind h gives s = hand_top s s.held.stack
-run kind h leaves s = hands [] s
-
 -- a function's body, and its end: `out` and `next` outside of loops lead there
 abbrev pub finish : Out → (Now → Out) → Out
 finish (goes s) go = go s
@@ -118,6 +102,28 @@ finish (hands vs s) go = hands vs s
 finish (fails n) go = fails n
 finish (stops w) go = stops w
 finish lacks go = lacks
+
+-- Pieces in an event of this acting type, with what their calls do
+
+module _ (kind : ℕ) (calls : Asks) where
+  -- Each round of a loop takes a turn, so that a loop has at most one round more than there are turns.
+  abbrev pub run : Piece → Now → Out
+  run none s = goes s
+  run (seq a b) s = out_then (run a s) (run b)
+  run (plain i) s = after_work s.turns (work kind (sort i) s.held)
+  run (asks f) s = calls f s
+  run (pick a b) s = on_zero s s.held.stack (λ z s1. by_bool z (run b s1) (run a s1))
+  run (only a) s = on_zero s s.held.stack (λ z s1. by_bool z (goes s1) (run a s1))
+  run (loop t a b) s = rounds (suc s.turns) (run t) (run a) (run b) s
+  run (ever a b) s = ever_rounds (suc s.turns) (run a) (run b) s
+  run out s = leaps s
+  run next s = nexts s
+  run gives s = hand_top s s.held.stack
+  run leaves s = hands [] s
+
+  -- a function that was entered, to its end
+  abbrev pub run_function : Draft → Now → Out
+  run_function d s = finish (run d.body s) (run (end_piece d))
 
 -- as many operands as needed: none, or one
 abbrev pub as_many : Bool → List Datum → Bool
@@ -152,10 +158,6 @@ entered d s t = record { held = record s.held { stack = []; slots = fresh (rever
 -- a call takes a turn, if its arguments are there
 abbrev pub ask_turn : Draft → Now → (ℕ → Out) → Out
 ask_turn d s go = if nat_le (length d.takes) (length s.held.stack) then turn_out s.turns go else lacks
-
--- a function that was entered, to its end
-abbrev pub run_function : ℕ → Asks → Draft → Now → Out
-run_function kind h d s = finish (run kind h d.body s) (run kind h (end_piece d))
 
 -- the calls of functions, with this many levels of depth left
 unfoldable pub asks_at : Drafts → ℕ → ℕ → Asks

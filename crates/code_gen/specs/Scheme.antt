@@ -29,6 +29,11 @@ use Rattle.stack_code.specs.declared.instr.Instr.TheVariants.{PushNum, PushAtom,
 use Rattle.code_gen.specs.Pieces.{Piece, none, seq, plain, asks, pick, only, loop, ever, out, next, gives, leaves}
 use Rattle.code_gen.specs.Drafts.{Drafts, end_by}
 
+-- one piece, and then another
+infixr 10 ◌then◌
+abbrev pub ◌then◌ : Piece → Piece → Piece
+a then b = seq a b
+
 -- Types
 
 -- the kind that holds a value of a type
@@ -117,21 +122,14 @@ load (constant v) = plain (PushNum v)
 load window = nowhere
 load nothing = nowhere
 
--- the same with the index on top
+-- an item of what a path names, with its index on top
 abbrev pub load_at : Spot → Piece
 load_at window = plain LoadSite
 load_at (member p) = plain (LoadFieldAt p.first p.num.width p.num.kind p.length)
 load_at (part i p) = plain (LoadPartAt i p.first p.num.width p.num.kind p.length)
 load_at spot = nowhere
 
--- the value on top, stored
-abbrev pub store : Scene → Spot → Piece
-store z (local i) = seq (fit (number_type (spot_type z (local i)))) (plain (StoreLocal i))
-store z (member p) = plain (StoreField p.first p.num.width p.num.kind)
-store z (part i p) = plain (StorePart i p.first p.num.width p.num.kind)
-store z spot = nowhere
-
--- the same with the index below it
+-- the value on top, stored in an item of what a path names, with the index below it
 abbrev pub store_at : Spot → Piece
 store_at window = plain StoreSite
 store_at (member p) = plain (StoreFieldAt p.first p.num.width p.num.kind p.length)
@@ -142,8 +140,8 @@ store_at spot = nowhere
 
 -- the arguments, and the call
 abbrev pub call_piece : Program → Callee → (List (Option NumType) → Piece) → Piece
-call_piece g (called f) arguments = seq (arguments (casts (function_of g f).params)) (asks f)
-call_piece g (built_in b) arguments = seq (arguments (built_casts b)) (plain (built_instr b))
+call_piece g (called f) arguments = arguments (casts (function_of g f).params) then asks f
+call_piece g (built_in b) arguments = arguments (built_casts b) then plain (built_instr b)
 call_piece g no_callee arguments = nowhere
 
 abbrev pub if_void : Ty → Piece → Piece → Piece
@@ -160,101 +158,158 @@ if_nothing g (called f) so other = if_void (function_of g f).result so other
 if_nothing g (built_in b) so other = if_swap b so other
 if_nothing g no_callee so other = so
 
--- Expressions
+-- Assignments
 
-abbrev mutual
-  pub expr_piece : Scene → t.Expr → Piece
-  expr_piece z (t.typed f ty) = form_piece z f ty
+-- what an assignment stores in: the whole of what a path names, or its item at an index
+pub data Target : Type 0 where
+  whole : (at : Spot) → Target
+  item : (at : Spot) → (index : Piece) → Target
 
-  -- each form, with its type
-  pub form_piece : Scene → t.Form → Ty → Piece
-  form_piece z (t.number v u p) ty = plain (PushNum (pos v))
-  form_piece z (t.truth b p) ty = plain (PushNum (of_bool b))
-  form_piece z (t.reads x) ty = load (spot z.program z.base x.steps)
-  form_piece z (t.calls x es) ty = seq (call_piece z.program (callee z.program z.base x.steps) (args_piece z es)) (if_nothing z.program (callee z.program z.base x.steps) nowhere none)
-  form_piece z (t.index x i) ty = seq (expr_piece z i) (load_at (spot z.program z.base x.steps))
-  form_piece z (t.instance c) ty = plain (PushAtom (type_number z.program c.ty))
-  form_piece z (t.group a p) ty = expr_piece z a
-  form_piece z (t.cast c a p) ty = seq (expr_piece z a) (fit (number_type c.ty))
-  form_piece z (t.prefix o a p) ty = seq (expr_piece z a) (plain (prefix_instr o ty))
-  form_piece z (t.pair op.Both a b p) ty = seq (expr_piece z a) (pick (expr_piece z b) (plain (PushNum (pos 0))))
-  form_piece z (t.pair op.Either a b p) ty = seq (expr_piece z a) (seq (plain NotB) (pick (expr_piece z b) (plain (PushNum (pos 1)))))
-  form_piece z (t.pair o a b p) ty = seq (expr_piece z a) (seq (expr_piece z b) (plain (pair_instr o (arith_of ty) (width_of ty))))
-  form_piece z (t.is a c p) ty = seq (expr_piece z a) (plain (IsKind (type_number z.program c.ty)))
+-- with an index, if there is one
+abbrev pub target_at : Spot → Option Piece → Target
+target_at at None = whole at
+target_at at (Some index) = item at index
 
-  -- arguments, each with its cast
-  pub args_piece : Scene → t.Args → List (Option NumType) → Piece
-  args_piece z t.no_args [] = none
-  args_piece z t.no_args (c ∷ cs) = nowhere
-  args_piece z (t.arg a es) [] = nowhere
-  args_piece z (t.arg a es) (c ∷ cs) = seq (expr_piece z a) (seq (fit c) (args_piece z es cs))
+-- what the path of a target names
+abbrev pub target_spot : Target → Spot
+target_spot (whole at) = at
+target_spot (item at index) = at
+
+-- the instruction of `target op= value`, for a target of this type and a value of this width
+abbrev pub update_instr : PairOp → Ty → ℕ → Instr
+update_instr o ty width = pair_instr o (arith_with ty width) (width_of ty)
 
 -- Statements
-
--- a condition; `x as T` asks for the type of the atom in x
-abbrev pub cond_piece : Scene → t.Cond → Piece
-cond_piece z (t.seen x c) = seq (load (spot z.program z.base x.steps)) (plain (IsKind (type_number z.program c.ty)))
-cond_piece z (t.test a) = expr_piece z a
-
--- an index, if there is one
-abbrev pub index_piece : Scene → Option t.Expr → Option Piece
-index_piece z None = None
-index_piece z (Some i) = Some (expr_piece z i)
-
--- the operator of `p op= e`, where p has this type and e this width
-abbrev pub update_instr : PairOp → Ty → ℕ → Instr
-update_instr o ty w = pair_instr o (arith_with ty w) (width_of ty)
-
--- what is assigned to a path, with or without an index, by the value's piece and its width
-abbrev pub assign_piece : Scene → Spot → Option Piece → Option PairOp → ℕ → Piece → Piece
-assign_piece z at None None w value = seq value (store z at)
-assign_piece z at None (Some o) w value = seq (load at) (seq value (seq (plain (update_instr o (spot_type z at) w)) (store z at)))
-assign_piece z at (Some index) None w value = seq index (seq value (store_at at))
-assign_piece z at (Some index) (Some o) w value = seq index (seq (plain Dup) (seq (load_at at) (seq value (seq (plain (update_instr o (spot_type z at) w)) (store_at at)))))
-
-abbrev pub declare_piece : Scene → Ty → ℕ → Option t.Expr → Piece
-declare_piece z ty i None = seq (plain (blank_instr z.program ty)) (plain (StoreLocal i))
-declare_piece z ty i (Some a) = seq (expr_piece z a) (seq (fit (number_type ty)) (plain (StoreLocal i)))
-
--- the end of a function with the value on top; a `Void` one drops it
-abbrev pub give_piece : Ty → Piece
-give_piece y.Nothing = seq (plain Pop) leaves
-give_piece ty = gives
-
-abbrev pub return_piece : Scene → Option t.Expr → Piece
-return_piece z None = end_by (answer_of z.result) (type_number z.program z.result)
-return_piece z (Some a) = seq (expr_piece z a) (seq (fit (number_type z.result)) (give_piece z.result))
 
 -- a loop, which may lack a condition
 abbrev pub loop_piece : Option Piece → Piece → Piece → Piece
 loop_piece None body step = ever body step
 loop_piece (Some c) body step = loop c body step
 
-abbrev mutual
-  pub statement_piece : Scene → t.Statement → Piece
-  statement_piece z (t.block b) = body_piece z b
-  statement_piece z t.empty = none
-  statement_piece z (t.if_so c x t.no_part) = seq (cond_piece z c) (only (statement_piece z x))
-  statement_piece z (t.if_so c x (t.part other)) = seq (cond_piece z c) (pick (statement_piece z x) (statement_piece z other))
-  statement_piece z (t.while_so c x) = loop (expr_piece z c) (statement_piece z x) none
-  statement_piece z (t.for_all first c step x) = seq (part_piece z first) (loop_piece (index_piece z c) (statement_piece z x) (part_piece z step))
-  statement_piece z (t.returns p a) = return_piece z a
-  statement_piece z (t.breaks p) = out
-  statement_piece z (t.continues p) = next
-  statement_piece z (t.declares of i p a) = declare_piece z of.ty i a
-  statement_piece z (t.assigns l o a) = assign_piece z (spot z.program z.base l.path.steps) (index_piece z l.index) o (width_of (t.ty_of a)) (expr_piece z a)
-  statement_piece z (t.counts l up) = assign_piece z (spot z.program z.base l.path.steps) (index_piece z l.index) (Some (count_op up)) 32 (plain (PushNum (pos 1)))
-  statement_piece z (t.does x es) = seq (call_piece z.program (callee z.program z.base x.steps) (args_piece z es)) (if_nothing z.program (callee z.program z.base x.steps) none (plain Pop))
+-- the end of a function with the value on top; a `Void` one drops it
+abbrev pub give_piece : Ty → Piece
+give_piece y.Nothing = plain Pop then leaves
+give_piece ty = gives
 
-  -- the first statement and the step of a `for`
-  pub part_piece : Scene → t.Part → Piece
-  part_piece z t.no_part = none
-  part_piece z (t.part x) = statement_piece z x
+-- The pieces of a function's body
 
-  -- statements one after another
-  pub body_piece : Scene → t.Body → Piece
-  body_piece z t.no_more = none
-  body_piece z (t.then_so x b) = seq (statement_piece z x) (body_piece z b)
+module _ (scene : Scene) where
+  -- what a path names, and what it calls
+  abbrev pub spot_at : t.Path → Spot
+  spot_at path = spot scene.program scene.base path.steps
+
+  abbrev pub callee_at : t.Path → Callee
+  callee_at path = callee scene.program scene.base path.steps
+
+  -- the value on top, stored in what a path names
+  abbrev pub store : Spot → Piece
+  store (local i) = fit (number_type (spot_type scene (local i))) then plain (StoreLocal i)
+  store (member p) = plain (StoreField p.first p.num.width p.num.kind)
+  store (part i p) = plain (StorePart i p.first p.num.width p.num.kind)
+  store spot = nowhere
+
+  -- a call whose value is used, and one whose value, if there is one, is dropped
+  abbrev pub value_call : Callee → (List (Option NumType) → Piece) → Piece
+  value_call f arguments = call_piece scene.program f arguments then if_nothing scene.program f nowhere none
+
+  abbrev pub bare_call : Callee → (List (Option NumType) → Piece) → Piece
+  bare_call f arguments = call_piece scene.program f arguments then if_nothing scene.program f none (plain Pop)
+
+  -- Expressions
+
+  abbrev mutual
+    pub expr_piece : t.Expr → Piece
+    expr_piece (t.typed f ty) = form_piece f ty
+
+    -- each form, with its type
+    pub form_piece : t.Form → Ty → Piece
+    form_piece (t.number n u p) ty = plain (PushNum (pos n))
+    form_piece (t.truth value p) ty = plain (PushNum (of_bool value))
+    form_piece (t.reads path) ty = load (spot_at path)
+    form_piece (t.calls path list) ty = value_call (callee_at path) (args_piece list)
+    form_piece (t.index path i) ty = expr_piece i then load_at (spot_at path)
+    form_piece (t.instance class) ty = plain (PushAtom (type_number scene.program class.ty))
+    form_piece (t.group inner p) ty = expr_piece inner
+    form_piece (t.cast to value p) ty = expr_piece value then fit (number_type to.ty)
+    form_piece (t.prefix o value p) ty = expr_piece value then plain (prefix_instr o ty)
+    form_piece (t.pair op.Both left right p) ty = expr_piece left then pick (expr_piece right) (plain (PushNum (pos 0)))
+    form_piece (t.pair op.Either left right p) ty = expr_piece left then plain NotB then pick (expr_piece right) (plain (PushNum (pos 1)))
+    form_piece (t.pair o left right p) ty = expr_piece left then expr_piece right then plain (pair_instr o (arith_of ty) (width_of ty))
+    form_piece (t.is value class p) ty = expr_piece value then plain (IsKind (type_number scene.program class.ty))
+
+    -- arguments, each with its cast
+    pub args_piece : t.Args → List (Option NumType) → Piece
+    args_piece t.no_args [] = none
+    args_piece t.no_args (cast ∷ more) = nowhere
+    args_piece (t.arg value list) [] = nowhere
+    args_piece (t.arg value list) (cast ∷ more) = expr_piece value then fit cast then args_piece list more
+
+  -- an expression that may be missing
+  abbrev pub optional_piece : Option t.Expr → Option Piece
+  optional_piece None = None
+  optional_piece (Some value) = Some (expr_piece value)
+
+  -- Assignments
+
+  -- `target = value`: the index, if there is one, and then the value
+  abbrev pub set_piece : Target → Piece → Piece
+  set_piece (whole at) value = value then store at
+  set_piece (item at index) value = index then value then store_at at
+
+  -- `target op= value`: the index runs once, and what is there is loaded before the value runs
+  abbrev pub update_piece : Target → Instr → Piece → Piece
+  update_piece (whole at) update value = load at then value then plain update then store at
+  update_piece (item at index) update value = index then plain Dup then load_at at then value then plain update then store_at at
+
+  -- one of the two, by whether there is an operator; the width is that of the value
+  abbrev pub assign_piece : Target → Option PairOp → ℕ → Piece → Piece
+  assign_piece target None width value = set_piece target value
+  assign_piece target (Some o) width value = update_piece target (update_instr o (spot_type scene (target_spot target)) width) value
+
+  -- the left side of an assignment
+  abbrev pub left_target : t.Left → Target
+  left_target left = target_at (spot_at left.path) (optional_piece left.index)
+
+  -- Parts of statements
+
+  -- a condition; `x as T` asks for the type of the atom in x
+  abbrev pub cond_piece : t.Cond → Piece
+  cond_piece (t.seen path class) = load (spot_at path) then plain (IsKind (type_number scene.program class.ty))
+  cond_piece (t.test value) = expr_piece value
+
+  abbrev pub declare_piece : Ty → ℕ → Option t.Expr → Piece
+  declare_piece ty slot None = plain (blank_instr scene.program ty) then plain (StoreLocal slot)
+  declare_piece ty slot (Some value) = expr_piece value then fit (number_type ty) then plain (StoreLocal slot)
+
+  abbrev pub return_piece : Option t.Expr → Piece
+  return_piece None = end_by (answer_of scene.result) (type_number scene.program scene.result)
+  return_piece (Some value) = expr_piece value then fit (number_type scene.result) then give_piece scene.result
+
+  abbrev mutual
+    pub statement_piece : t.Statement → Piece
+    statement_piece (t.block body) = body_piece body
+    statement_piece t.empty = none
+    statement_piece (t.if_so c so t.no_part) = cond_piece c then only (statement_piece so)
+    statement_piece (t.if_so c so (t.part other)) = cond_piece c then pick (statement_piece so) (statement_piece other)
+    statement_piece (t.while_so c body) = loop (expr_piece c) (statement_piece body) none
+    statement_piece (t.for_all first c step body) = part_piece first then loop_piece (optional_piece c) (statement_piece body) (part_piece step)
+    statement_piece (t.returns p value) = return_piece value
+    statement_piece (t.breaks p) = out
+    statement_piece (t.continues p) = next
+    statement_piece (t.declares of slot p value) = declare_piece of.ty slot value
+    statement_piece (t.assigns left o value) = assign_piece (left_target left) o (width_of (t.ty_of value)) (expr_piece value)
+    statement_piece (t.counts left up) = assign_piece (left_target left) (Some (count_op up)) 32 (plain (PushNum (pos 1)))
+    statement_piece (t.does path list) = bare_call (callee_at path) (args_piece list)
+
+    -- the first statement and the step of a `for`
+    pub part_piece : t.Part → Piece
+    part_piece t.no_part = none
+    part_piece (t.part one) = statement_piece one
+
+    -- statements one after another
+    pub body_piece : t.Body → Piece
+    body_piece t.no_more = none
+    body_piece (t.then_so one rest) = statement_piece one then body_piece rest
 
 -- Functions
 

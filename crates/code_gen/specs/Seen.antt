@@ -1,9 +1,11 @@
 -- The code's program, and what it finds there, as plain data.
 use Rattle.std.specs.Prelude.{map, Option, Some, None, ℕ}
-use Rattle.ulam_tree.specs.ResolvedViews.{resolved_param}
+use Rattle.ulam_tree.specs.ResolvedViews.{resolved_param, resolved_path}
 use Rattle.ulam_tree.specs.TypedViews.{typed_body}
+use Rattle.ulam_tree.specs.declared.resolved.Path.{Path}
 use Rattle.ulam_meaning.specs.Programs.{Program, Field, Function, param_types}
 use Rattle.ulam_meaning.specs.Paths.{Span, Spot, itself, local, member, part, window, constant, nothing, Callee, called, built_in, no_callee, Scene}
+use Rattle.code_gen.specs.Scheme.{spot_at, callee_at}
 use Rattle.code_gen.specs.Sized.{program_view}
 use Rattle.code_gen.specs.Views.{key_of}
 use Rattle.code_gen.specs.declared.classes.Classes.{Classes}
@@ -49,3 +51,10 @@ callee_of c.Nothing = no_callee
 abbrev pub numbers_of : Option ℕ → Span → Spot
 numbers_of None = member
 numbers_of (Some i) = part i
+
+-- what a path names in a scene, and what it calls
+abbrev pub path_spot : CodeScene → Path → Spot
+path_spot scene path = spot_at (scene_of scene) (resolved_path path)
+
+abbrev pub path_callee : CodeScene → Path → Callee
+path_callee scene path = callee_at (scene_of scene) (resolved_path path)

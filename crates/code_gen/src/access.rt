@@ -1,11 +1,10 @@
 //! Reading and writing what paths name.
-ghost use Rattle.std.specs.Prelude.{◌≡◌, IfOk, Option};
-ghost use Rattle.ulam_tree.specs.ResolvedViews.{resolved_path};
-ghost use Rattle.ulam_meaning.specs.Paths.{spot, spot_type};
-ghost use Rattle.code_gen.specs.Clipped.{byte, clip};
+ghost use Rattle.std.specs.Prelude.{◌≡◌, Option};
+ghost use Rattle.ulam_meaning.specs.Paths.{spot_type};
+ghost use Rattle.code_gen.specs.Clipped.{byte};
+ghost use Rattle.code_gen.specs.Made.{IsPiece, Makes};
 ghost use Rattle.code_gen.specs.Scheme.{nowhere, fit, load, load_at, store, store_at};
-ghost use Rattle.code_gen.specs.Seen.{scene_of, spot_of};
-ghost use Rattle.code_gen.specs.Views.{piece_of};
+ghost use Rattle.code_gen.specs.Seen.{scene_of, spot_of, path_spot};
 
 use crate::classes::{Scene, Spot};
 use crate::kinds::number_type;
@@ -27,14 +26,14 @@ pub fn byte(n: u32) -> u8
 
 /// A stand-in for what no typed tree has.
 pub fn nowhere() -> Piece
-    ensures { piece_of result ≡ clip nowhere }
+    ensures { IsPiece result nowhere }
 {
     Piece::Plain(Instr::Jump(0))
 }
 
 /// A cast to a type of numbers, if there is one.
 pub fn fit(num: Option<NumType>) -> Piece
-    ensures { piece_of result ≡ clip (fit num) }
+    ensures { IsPiece result (fit num) }
 {
     match num {
         None => Piece::Nothing,
@@ -43,7 +42,7 @@ pub fn fit(num: Option<NumType>) -> Piece
 }
 
 fn load_spot(spot: Spot) -> Piece
-    ensures { piece_of result ≡ clip (load (spot_of spot)) }
+    ensures { IsPiece result (load (spot_of spot)) }
 {
     match spot {
         Spot::Own => Piece::Plain(Instr::LoadSelf),
@@ -62,7 +61,7 @@ fn load_spot(spot: Spot) -> Piece
 }
 
 fn load_at_spot(spot: Spot) -> Piece
-    ensures { piece_of result ≡ clip (load_at (spot_of spot)) }
+    ensures { IsPiece result (load_at (spot_of spot)) }
 {
     match spot {
         Spot::Window => Piece::Plain(Instr::LoadSite),
@@ -92,7 +91,7 @@ fn spot_type(scene: &Scene, spot: Spot) -> Ty
 }
 
 fn store_spot(alloc: Global, scene: &Scene, spot: Spot) -> Result<Piece, NoMemory>
-    ensures { IfOk result (λ q. piece_of q ≡ clip (store (scene_of scene.now) (spot_of spot))) }
+    ensures { Makes result (store (scene_of scene.now) (spot_of spot)) }
 {
     match spot {
         Spot::Local { slot } => {
@@ -112,7 +111,7 @@ fn store_spot(alloc: Global, scene: &Scene, spot: Spot) -> Result<Piece, NoMemor
 }
 
 fn store_at_spot(spot: Spot) -> Piece
-    ensures { piece_of result ≡ clip (store_at (spot_of spot)) }
+    ensures { IsPiece result (store_at (spot_of spot)) }
 {
     match spot {
         Spot::Window => Piece::Plain(Instr::StoreSite),
@@ -130,35 +129,35 @@ fn store_at_spot(spot: Spot) -> Piece
 
 /// Gives what a path names.
 pub fn load(scene: &Scene, path: &Path) -> Piece
-    ensures { piece_of result ≡ clip (load (spot (scene_of scene.now).program (scene_of scene.now).base (resolved_path path.now).steps)) }
+    ensures { IsPiece result (load (path_spot scene.now path.now)) }
 {
     load_spot(spot(scene, path))
 }
 
-/// The same with the index on top.
+/// Gives the item at the index on top of what a path names.
 pub fn load_at(scene: &Scene, path: &Path) -> Piece
-    ensures { piece_of result ≡ clip (load_at (spot (scene_of scene.now).program (scene_of scene.now).base (resolved_path path.now).steps)) }
+    ensures { IsPiece result (load_at (path_spot scene.now path.now)) }
 {
     load_at_spot(spot(scene, path))
 }
 
 /// The type of what a path names, if something can be stored there.
 pub fn type_at(scene: &Scene, path: &Path) -> Ty
-    ensures { result ≡ spot_type (scene_of scene.now) (spot (scene_of scene.now).program (scene_of scene.now).base (resolved_path path.now).steps) }
+    ensures { result ≡ spot_type (scene_of scene.now) (path_spot scene.now path.now) }
 {
     spot_type(scene, spot(scene, path))
 }
 
 /// Stores the value on top at a path.
 pub fn store(alloc: Global, scene: &Scene, path: &Path) -> Result<Piece, NoMemory>
-    ensures { IfOk result (λ q. piece_of q ≡ clip (store (scene_of scene.now) (spot (scene_of scene.now).program (scene_of scene.now).base (resolved_path path.now).steps))) }
+    ensures { Makes result (store (scene_of scene.now) (path_spot scene.now path.now)) }
 {
     store_spot(alloc, scene, spot(scene, path))
 }
 
-/// The same with the index below it.
+/// Stores the value on top at a path, with the index below it.
 pub fn store_at(scene: &Scene, path: &Path) -> Piece
-    ensures { piece_of result ≡ clip (store_at (spot (scene_of scene.now).program (scene_of scene.now).base (resolved_path path.now).steps)) }
+    ensures { IsPiece result (store_at (path_spot scene.now path.now)) }
 {
     store_at_spot(spot(scene, path))
 }

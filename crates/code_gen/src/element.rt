@@ -1,10 +1,11 @@
 //! The code of an element from its functions.
 
-ghost use Rattle.std.specs.Prelude.{◌≡◌, ◌≤◌, ◌<◌, ◌+◌, ◌∷◌, ◌++◌, [], OnOk, IfOk, map, length};
-ghost use Rattle.code_gen.specs.Pieces.{seq, size, lay};
-ghost use Rattle.code_gen.specs.Drafts.{end_by, code_of};
+ghost use Rattle.std.specs.Prelude.{◌≡◌, ◌≤◌, ◌<◌, ◌+◌, ◌∷◌, ◌++◌, [], OnOk, IfOk, length};
+ghost use Rattle.code_gen.specs.Pieces.{seq, size};
+ghost use Rattle.code_gen.specs.Drafts.{code_of};
 ghost use Rattle.code_gen.specs.Laws.{IsReady};
 ghost use Rattle.code_gen.specs.Gathers.{IsGathered, Builds};
+ghost use Rattle.code_gen.specs.Laying.{with_function, head_end};
 ghost use Rattle.code_gen.specs.Views.{piece_of, key_of};
 
 use crate::emit::{emit, emit_end};
@@ -25,8 +26,8 @@ fn lay_function(
     body: &Piece,
 ) -> Result<(), NoMemory>
     requires few { length keys.now ≤ 65536 }
-    requires fits { length code.old.items + size (seq (piece_of body.now) (end_by head.answer head.blank)) ≤ 65536 }
-    ensures { OnOk result (code.new.items ≡ code.old.items ++ lay (map key_of keys.now) (length code.old.items) (length code.old.items + size (piece_of body.now)) (length code.old.items + size (piece_of body.now)) (seq (piece_of body.now) (end_by head.answer head.blank))) }
+    requires fits { length code.old.items + size (seq (piece_of body.now) (head_end head)) ≤ 65536 }
+    ensures { OnOk result (code.new.items ≡ with_function code.old.items keys.now head (piece_of body.now)) }
 {
     let end = code.len() as u32 + size_of(body);
     emit(code, keys, end, end, body)?;

@@ -1,11 +1,12 @@
 //! From pieces to instructions.
 
-ghost use Rattle.std.specs.Prelude.{◌≡◌, ◌≤◌, ◌+◌, ◌<◌, [], ◌∷◌, ◌++◌, OnOk, ℕ, map, length};
-ghost use Rattle.code_gen.specs.Pieces.{size, lay, key_number};
+ghost use Rattle.std.specs.Prelude.{◌≡◌, ◌≤◌, ◌+◌, ◌<◌, [], ◌∷◌, ◌++◌, OnOk, map, length};
+ghost use Rattle.code_gen.specs.Pieces.{size, key_number};
 ghost use Rattle.code_gen.specs.Drafts.{end_by};
+ghost use Rattle.code_gen.specs.Laying.{laid, laid_if, LaysAnywhere};
 ghost use Rattle.code_gen.specs.Views.{piece_of, pieces_of, key_of};
 ghost use Rattle.code_gen.specs.declared.piece.Piece.TheVariants.{Block};
-ghost use Rattle.stack_code.specs.declared.instr.Instr.TheVariants.{Turn, Jump, JumpFalse};
+ghost use Rattle.stack_code.specs.declared.instr.Instr.TheVariants.{Turn, Jump};
 
 use crate::piece::{Key, Piece};
 use crate::size::size_of;
@@ -65,7 +66,7 @@ pub fn emit(
     requires few { length keys.now ≤ 65536 }
     requires fits { length code.old.items + size (piece_of piece.now) ≤ 65536 }
     ensures long { OnOk result (length code.new.items ≡ length code.old.items + size (piece_of piece.now)) }
-    ensures ok { OnOk result (code.new.items ≡ code.old.items ++ lay (map key_of keys.now) (length code.old.items) out next (piece_of piece.now)) }
+    ensures ok { OnOk result (code.new.items ≡ laid code.old.items keys.now out next (piece_of piece.now)) }
 {
     let first = code.len() as u32;
     match piece {
@@ -122,7 +123,7 @@ fn emit_if(
     requires few { length keys.now ≤ 65536 }
     requires fits { length code.old.items + (1 + size (piece_of piece.now)) ≤ 65536 }
     ensures long { OnOk result (length code.new.items ≡ length code.old.items + (1 + size (piece_of piece.now))) }
-    ensures ok { OnOk result (code.new.items ≡ code.old.items ++ JumpFalse past ∷ lay (map key_of keys.now) (length code.old.items + 1) out next (piece_of piece.now)) }
+    ensures ok { OnOk result (code.new.items ≡ laid_if code.old.items keys.now out next past (piece_of piece.now)) }
 {
     put(code, Instr::JumpFalse(past))?;
     emit(code, keys, out, next, piece)
@@ -140,7 +141,7 @@ fn emit_all(
     requires few { length keys.now ≤ 65536 }
     requires fits { length code.old.items + size (pieces_of list.now) ≤ 65536 }
     ensures long { OnOk result (length code.new.items ≡ length code.old.items + size (pieces_of list.now)) }
-    ensures ok { OnOk result (code.new.items ≡ code.old.items ++ lay (map key_of keys.now) (length code.old.items) out next (pieces_of list.now)) }
+    ensures ok { OnOk result (code.new.items ≡ laid code.old.items keys.now out next (pieces_of list.now)) }
 {
     for piece in list {
         emit(code, keys, out, next, piece)?;
@@ -150,7 +151,7 @@ fn emit_all(
 
 /// Appends the end of a function.
 pub fn emit_end(code: &mut Vec<Instr>, answer: Answer, blank: u16) -> Result<(), NoMemory>
-    ensures ok { OnOk result ((keys : _) (p e c : ℕ) → code.new.items ≡ code.old.items ++ lay keys p e c (end_by answer blank)) }
+    ensures ok { OnOk result (LaysAnywhere code.old.items code.new.items (end_by answer blank)) }
 {
     match answer {
         Answer::Nothing => put(code, Instr::ReturnVoid),

@@ -1,14 +1,14 @@
 //! The pieces of expressions.
 ghost use Rattle.std.specs.Prelude.{◌≡◌, ◌∷◌, ◌++◌, [], map, IfOk, OnOk, if◌then◌else◌};
 ghost use Rattle.sat_math.specs.Operations.{of_bool};
-ghost use Rattle.ulam_tree.specs.ResolvedViews.{resolved_path, resolved_param};
+ghost use Rattle.ulam_tree.specs.ResolvedViews.{resolved_param};
 ghost use Rattle.ulam_tree.specs.TypedViews.{typed_expr, typed_args};
 ghost use Rattle.ulam_meaning.specs.Programs.{param_types};
-ghost use Rattle.ulam_meaning.specs.Paths as paths;
 ghost use Rattle.ulam_meaning.specs.Expressions as meaning;
-ghost use Rattle.code_gen.specs.Pieces as spec;
-ghost use Rattle.code_gen.specs.Clipped.{clip, pair_of};
-ghost use Rattle.code_gen.specs.Scheme as scheme;
+ghost use Rattle.code_gen.specs.Pieces.{none};
+ghost use Rattle.code_gen.specs.Clipped.{pair_of};
+ghost use Rattle.code_gen.specs.Made.{Makes, call_of, value_call};
+ghost use Rattle.code_gen.specs.Scheme.{nowhere, if_nothing, expr_piece, args_piece};
 ghost use Rattle.code_gen.specs.Seen.{program_of, scene_of, callee_of};
 ghost use Rattle.code_gen.specs.Views.{piece_of};
 
@@ -78,7 +78,7 @@ fn pair(alloc: Global, op: PairOp, ty: Ty, left: Piece, right: Piece) -> Result<
 
 /// The first piece if a call gives nothing, otherwise the second.
 pub fn if_nothing(classes: &Classes, target: Callee, so: Piece, other: Piece) -> Piece
-    ensures { piece_of result ≡ scheme.if_nothing (program_of classes.now) (callee_of target) (piece_of so) (piece_of other) }
+    ensures { piece_of result ≡ if_nothing (program_of classes.now) (callee_of target) (piece_of so) (piece_of other) }
 {
     match target {
         Callee::Called { key } => match function(classes, key.class, key.function).result {
@@ -95,7 +95,7 @@ pub fn if_nothing(classes: &Classes, target: Callee, so: Piece, other: Piece) ->
 
 /// What follows all arguments that have a cast.
 fn args_end(same: bool) -> Piece
-    ensures { piece_of result ≡ (if same then spec.none else scheme.nowhere) }
+    ensures { piece_of result ≡ (if same then none else nowhere) }
 {
     if same { Piece::Nothing } else { nowhere() }
 }
@@ -103,7 +103,7 @@ fn args_end(same: bool) -> Piece
 /// An expression.
 #[cycle(expr)]
 pub fn expr(alloc: Global, scene: &Scene, e: &Expr) -> Result<Piece, NoMemory>
-    ensures { IfOk result (λ q. piece_of q ≡ clip (scheme.expr_piece (scene_of scene.now) (typed_expr e.now))) }
+    ensures { Makes result (expr_piece (scene_of scene.now) (typed_expr e.now)) }
 {
     match &e.form {
         Form::Number { value, .. } => Ok(Piece::Plain(Instr::PushNum(i128::from(*value)))),
@@ -148,7 +148,7 @@ pub fn expr(alloc: Global, scene: &Scene, e: &Expr) -> Result<Piece, NoMemory>
 /// A call that gives a value.
 #[cycle(expr)]
 fn value_call(alloc: Global, scene: &Scene, path: &Path, list: &[Expr]) -> Result<Piece, NoMemory>
-    ensures { IfOk result (λ q. piece_of q ≡ clip (spec.seq (scheme.call_piece (scene_of scene.now).program (paths.callee (scene_of scene.now).program (scene_of scene.now).base (resolved_path path.now).steps) (scheme.args_piece (scene_of scene.now) (typed_args list.now))) (scheme.if_nothing (scene_of scene.now).program (paths.callee (scene_of scene.now).program (scene_of scene.now).base (resolved_path path.now).steps) scheme.nowhere spec.none))) }
+    ensures { Makes result (value_call scene.now path.now list.now) }
 {
     let target = callee(scene, path);
     let made = call(alloc, scene, target, list)?;
@@ -159,7 +159,7 @@ fn value_call(alloc: Global, scene: &Scene, path: &Path, list: &[Expr]) -> Resul
 /// The arguments, and the call.
 #[cycle(expr)]
 pub fn call(alloc: Global, scene: &Scene, target: Callee, list: &[Expr]) -> Result<Piece, NoMemory>
-    ensures { IfOk result (λ q. piece_of q ≡ scheme.call_piece (scene_of scene.now).program (callee_of target) (λ cs. clip (scheme.args_piece (scene_of scene.now) (typed_args list.now) cs))) }
+    ensures { IfOk result (λ made. piece_of made ≡ call_of scene.now target list.now) }
 {
     match target {
         Callee::Called { key } => {
@@ -188,7 +188,7 @@ fn args(
     list: &[Expr],
     casts: &[Option<NumType>],
 ) -> Result<Piece, NoMemory>
-    ensures { IfOk result (λ q. piece_of q ≡ clip (scheme.args_piece (scene_of scene.now) (typed_args list.now) casts.now)) }
+    ensures { Makes result (args_piece (scene_of scene.now) (typed_args list.now) casts.now) }
 {
     let both = list.len().min(casts.len());
     let mut piece = args_end(list.len() == casts.len());

@@ -1,17 +1,10 @@
 //! The pieces of parts of statements.
-ghost use Rattle.std.specs.Prelude.{◌≡◌, IfOk, option_map};
-ghost use Rattle.ulam_tree.specs.ResolvedViews.{resolved_path};
+ghost use Rattle.std.specs.Prelude.{None, option_map};
 ghost use Rattle.ulam_tree.specs.Typed as tree;
-ghost use Rattle.ulam_tree.specs.TypedViews.{typed_expr, typed_args, typed_cond, typed_left};
-ghost use Rattle.ulam_meaning.specs.Paths as paths;
-ghost use Rattle.ulam_meaning.specs.Programs.{type_number};
-ghost use Rattle.code_gen.specs.Pieces as spec;
-ghost use Rattle.code_gen.specs.Clipped.{clip};
-ghost use Rattle.code_gen.specs.Scheme as scheme;
-ghost use Rattle.code_gen.specs.Drafts.{end_by};
+ghost use Rattle.ulam_tree.specs.TypedViews.{typed_expr, typed_cond, typed_left};
+ghost use Rattle.code_gen.specs.Made.{Makes, MakesWith, MakesWithBoth, whole_at, item_at, target_of, assignment, loop_of, bare_call};
+ghost use Rattle.code_gen.specs.Scheme.{cond_piece, declare_piece, give_piece, return_piece, assign_piece, statement_piece};
 ghost use Rattle.code_gen.specs.Seen.{scene_of};
-ghost use Rattle.code_gen.specs.Views.{piece_of};
-ghost use Rattle.stack_code.specs.declared.instr.Instr.TheVariants.{Pop};
 
 use crate::access::{byte, fit, load, load_at, store, store_at, type_at};
 use crate::classes::Scene;
@@ -30,7 +23,7 @@ use ulam_tree::typed::{Cond, Expr, Left};
 
 /// A condition. `as` asks for the type of the atom in a local.
 pub fn cond(alloc: Global, scene: &Scene, cond: &Cond) -> Result<Piece, NoMemory>
-    ensures { IfOk result (λ q. piece_of q ≡ clip (scheme.cond_piece (scene_of scene.now) (typed_cond cond.now))) }
+    ensures { Makes result (cond_piece (scene_of scene.now) (typed_cond cond.now)) }
 {
     match cond {
         Cond::Seen { path, class } => {
@@ -49,7 +42,7 @@ pub fn declare(
     slot: u32,
     value: &Option<Expr>,
 ) -> Result<Piece, NoMemory>
-    ensures { IfOk result (λ q. piece_of q ≡ clip (scheme.declare_piece (scene_of scene.now) ty slot (option_map typed_expr value.now))) }
+    ensures { Makes result (declare_piece (scene_of scene.now) ty slot (option_map typed_expr value.now)) }
 {
     let keep = Instr::StoreLocal(byte(slot));
     match value {
@@ -64,7 +57,7 @@ pub fn declare(
 
 /// The end of a function without a value.
 fn end(alloc: Global, scene: &Scene) -> Result<Piece, NoMemory>
-    ensures { IfOk result (λ q. piece_of q ≡ clip (end_by (scheme.answer_of scene.now.result) (type_number (scene_of scene.now).program scene.now.result))) }
+    ensures { Makes result (return_piece (scene_of scene.now) None) }
 {
     match answer_of(scene.result) {
         Answer::Nothing => Ok(Piece::Leaves),
@@ -78,7 +71,7 @@ fn end(alloc: Global, scene: &Scene) -> Result<Piece, NoMemory>
 
 /// The end of a function with the value on top, which a `Void` one drops.
 fn give(alloc: Global, ty: Ty) -> Result<Piece, NoMemory>
-    ensures { IfOk result (λ q. piece_of q ≡ clip (scheme.give_piece ty)) }
+    ensures { Makes result (give_piece ty) }
 {
     match ty {
         Ty::Nothing => make::seq(alloc, Piece::Plain(Instr::Pop), Piece::Leaves),
@@ -88,7 +81,7 @@ fn give(alloc: Global, ty: Ty) -> Result<Piece, NoMemory>
 
 /// A `return`.
 pub fn give_back(alloc: Global, scene: &Scene, value: &Option<Expr>) -> Result<Piece, NoMemory>
-    ensures { IfOk result (λ q. piece_of q ≡ clip (scheme.return_piece (scene_of scene.now) (option_map typed_expr value.now))) }
+    ensures { Makes result (return_piece (scene_of scene.now) (option_map typed_expr value.now)) }
 {
     match value {
         None => end(alloc, scene),
@@ -110,7 +103,7 @@ fn assign_path(
     width: u8,
     value: Piece,
 ) -> Result<Piece, NoMemory>
-    ensures { (v : spec.Piece) → piece_of value ≡ clip v → IfOk result (λ q. piece_of q ≡ clip (scheme.assign_piece (scene_of scene.now) (paths.spot (scene_of scene.now).program (scene_of scene.now).base (resolved_path path.now).steps) None op width v)) }
+    ensures { MakesWith result value (assign_piece (scene_of scene.now) (whole_at scene.now path.now) op width) }
 {
     let last = store(alloc, scene, path)?;
     match op {
@@ -134,7 +127,7 @@ fn assign_at(
     width: u8,
     value: Piece,
 ) -> Result<Piece, NoMemory>
-    ensures { (v : spec.Piece) → piece_of value ≡ clip v → IfOk result (λ q. piece_of q ≡ clip (scheme.assign_piece (scene_of scene.now) (paths.spot (scene_of scene.now).program (scene_of scene.now).base (resolved_path path.now).steps) (Some (scheme.expr_piece (scene_of scene.now) (typed_expr index.now))) op width v)) }
+    ensures { MakesWith result value (assign_piece (scene_of scene.now) (item_at scene.now path.now index.now) op width) }
 {
     let at = expr(alloc, scene, index)?;
     let last = store_at(scene, path);
@@ -163,7 +156,7 @@ fn assign(
     width: u8,
     value: Piece,
 ) -> Result<Piece, NoMemory>
-    ensures { (v : spec.Piece) → piece_of value ≡ clip v → IfOk result (λ q. piece_of q ≡ clip (scheme.assign_piece (scene_of scene.now) (paths.spot (scene_of scene.now).program (scene_of scene.now).base (typed_left left.now).path.steps) (scheme.index_piece (scene_of scene.now) (typed_left left.now).index) op width v)) }
+    ensures { MakesWith result value (assign_piece (scene_of scene.now) (target_of scene.now left.now) op width) }
 {
     match &left.index {
         None => assign_path(alloc, scene, &left.path, op, width, value),
@@ -179,7 +172,7 @@ pub fn assign_value(
     op: Option<PairOp>,
     value: &Expr,
 ) -> Result<Piece, NoMemory>
-    ensures { IfOk result (λ q. piece_of q ≡ clip (scheme.statement_piece (scene_of scene.now) (tree.assigns (typed_left left.now) op (typed_expr value.now)))) }
+    ensures { Makes result (statement_piece (scene_of scene.now) (assignment left.now op value.now)) }
 {
     let width = width_of(value.ty);
     let value = expr(alloc, scene, value)?;
@@ -188,7 +181,7 @@ pub fn assign_value(
 
 /// A count by 1, up or down.
 pub fn count(alloc: Global, scene: &Scene, left: &Left, up: bool) -> Result<Piece, NoMemory>
-    ensures { IfOk result (λ q. piece_of q ≡ clip (scheme.statement_piece (scene_of scene.now) (tree.counts (typed_left left.now) up))) }
+    ensures { Makes result (statement_piece (scene_of scene.now) (tree.counts (typed_left left.now) up)) }
 {
     let one = Piece::Plain(Instr::PushNum(1));
     assign(alloc, scene, left, Some(count_op(up)), 32, one)
@@ -202,7 +195,7 @@ pub fn around(
     body: Piece,
     step: Piece,
 ) -> Result<Piece, NoMemory>
-    ensures { (a b : spec.Piece) → piece_of body ≡ clip a → piece_of step ≡ clip b → IfOk result (λ q. piece_of q ≡ clip (scheme.loop_piece (scheme.index_piece (scene_of scene.now) (option_map typed_expr cond.now)) a b)) }
+    ensures { MakesWithBoth result body step (loop_of scene.now cond.now) }
 {
     match cond {
         None => make::ever(alloc, body, step),
@@ -215,7 +208,7 @@ pub fn around(
 
 /// A call whose value is dropped.
 pub fn does(alloc: Global, scene: &Scene, path: &Path, list: &[Expr]) -> Result<Piece, NoMemory>
-    ensures { IfOk result (λ q. piece_of q ≡ clip (spec.seq (scheme.call_piece (scene_of scene.now).program (paths.callee (scene_of scene.now).program (scene_of scene.now).base (resolved_path path.now).steps) (scheme.args_piece (scene_of scene.now) (typed_args list.now))) (scheme.if_nothing (scene_of scene.now).program (paths.callee (scene_of scene.now).program (scene_of scene.now).base (resolved_path path.now).steps) spec.none (spec.plain Pop)))) }
+    ensures { Makes result (bare_call scene.now path.now list.now) }
 {
     let target = callee(scene, path);
     let made = call(alloc, scene, target, list)?;

@@ -1,9 +1,9 @@
 //! What paths name, and which functions they call.
 ghost use Rattle.std.specs.Prelude.{◌≡◌};
-ghost use Rattle.ulam_tree.specs.ResolvedViews.{resolved_path};
 ghost use Rattle.ulam_meaning.specs.Paths.{field_spot, bit_of, through, spot, callee};
-ghost use Rattle.code_gen.specs.Clipped.{word, clip_spot, clip_callee};
-ghost use Rattle.code_gen.specs.Seen.{program_of, field_of, scene_of, spot_of, callee_of, numbers_of};
+ghost use Rattle.code_gen.specs.Clipped.{word, clip_callee};
+ghost use Rattle.code_gen.specs.Made.{IsSpot};
+ghost use Rattle.code_gen.specs.Seen.{program_of, field_of, spot_of, callee_of, numbers_of, path_spot, path_callee};
 
 use crate::classes::{Callee, Classes, Field, Scene, Span, Spot};
 use crate::lookup::{field, first_bit};
@@ -40,7 +40,7 @@ fn field_spot(slot: Option<u32>, first: u32, field: Field) -> Spot
 
 /// What data members of data members name, from a class on whose first bit is `base`.
 fn through(classes: &Classes, slot: Option<u32>, base: u32, steps: &[Step]) -> Spot
-    ensures { clip_spot (spot_of result) ≡ clip_spot (through (program_of classes.now) (numbers_of slot) base steps.now) }
+    ensures { IsSpot result (through (program_of classes.now) (numbers_of slot) base steps.now) }
 {
     match steps {
         [Step::Member { class, member }] => {
@@ -57,7 +57,7 @@ fn through(classes: &Classes, slot: Option<u32>, base: u32, steps: &[Step]) -> S
 /// What a path names in a function that works on the bits of its class from `base` on. The atom in
 /// a local begins at bit 0.
 fn spot_from(classes: &Classes, base: u32, steps: &[Step]) -> Spot
-    ensures { clip_spot (spot_of result) ≡ clip_spot (spot (program_of classes.now) base steps.now) }
+    ensures { IsSpot result (spot (program_of classes.now) base steps.now) }
 {
     match steps {
         [Step::Own] => Spot::Own,
@@ -71,7 +71,7 @@ fn spot_from(classes: &Classes, base: u32, steps: &[Step]) -> Spot
 
 /// What a path names.
 pub fn spot(scene: &Scene, path: &Path) -> Spot
-    ensures { clip_spot (spot_of result) ≡ clip_spot (spot (scene_of scene.now).program (scene_of scene.now).base (resolved_path path.now).steps) }
+    ensures { IsSpot result (path_spot scene.now path.now) }
 {
     spot_from(scene.classes, scene.base, path.steps.as_slice())
 }
@@ -99,7 +99,7 @@ fn callee_from(classes: &Classes, base: u32, steps: &[Step]) -> Callee
 
 /// What a path calls.
 pub fn callee(scene: &Scene, path: &Path) -> Callee
-    ensures { callee_of result ≡ clip_callee (callee (scene_of scene.now).program (scene_of scene.now).base (resolved_path path.now).steps) }
+    ensures { callee_of result ≡ clip_callee (path_callee scene.now path.now) }
 {
     callee_from(scene.classes, scene.base, path.steps.as_slice())
 }

@@ -1,8 +1,9 @@
 //! The pieces of statements.
 ghost use Rattle.std.specs.Prelude.{◌≡◌, ◌++◌, ◌∷◌, [], IfOk, OnOk};
 ghost use Rattle.ulam_tree.specs.TypedViews.{typed_statement, typed_body, typed_part};
-ghost use Rattle.code_gen.specs.Clipped.{clip, choice_of};
-ghost use Rattle.code_gen.specs.Scheme as scheme;
+ghost use Rattle.code_gen.specs.Clipped.{choice_of};
+ghost use Rattle.code_gen.specs.Made.{Makes};
+ghost use Rattle.code_gen.specs.Scheme.{statement_piece, part_piece, body_piece};
 ghost use Rattle.code_gen.specs.Seen.{scene_of};
 ghost use Rattle.code_gen.specs.Views.{piece_of};
 
@@ -18,7 +19,7 @@ use ulam_tree::typed::Statement;
 /// A statement.
 #[cycle(statement)]
 fn statement(alloc: Global, scene: &Scene, one: &Statement) -> Result<Piece, NoMemory>
-    ensures { IfOk result (λ q. piece_of q ≡ clip (scheme.statement_piece (scene_of scene.now) (typed_statement one.now))) }
+    ensures { Makes result (statement_piece (scene_of scene.now) (typed_statement one.now)) }
 {
     match one {
         Statement::Block { body: list } => body(alloc, scene, list.as_slice()),
@@ -83,7 +84,7 @@ fn choice(
 /// An optional statement.
 #[cycle(statement)]
 fn part(alloc: Global, scene: &Scene, one: &Option<Box<Statement>>) -> Result<Piece, NoMemory>
-    ensures { IfOk result (λ q. piece_of q ≡ clip (scheme.part_piece (scene_of scene.now) (typed_part one.now))) }
+    ensures { Makes result (part_piece (scene_of scene.now) (typed_part one.now)) }
 {
     match one {
         None => Ok(Piece::Nothing),
@@ -102,7 +103,7 @@ fn keep(pieces: &mut Vec<Piece>, piece: Piece) -> Result<(), NoMemory>
 /// Statements one after another.
 #[cycle(statement)]
 pub fn body(alloc: Global, scene: &Scene, list: &[Statement]) -> Result<Piece, NoMemory>
-    ensures { IfOk result (λ q. piece_of q ≡ clip (scheme.body_piece (scene_of scene.now) (typed_body list.now))) }
+    ensures { Makes result (body_piece (scene_of scene.now) (typed_body list.now)) }
 {
     let mut pieces = Vec::new(alloc);
     for one in list {

@@ -8,7 +8,7 @@ use Rattle.draw_stream.specs.declared.attempts.Rest.TheVariants.{Drawn, Listed}
 use Rattle.draw_stream.specs.Attempts.{next_attempts}
 use Rattle.draw_stream.specs.Plans.{PlanValue, IsPlan, seeded, scripted}
 
--- the number of a tile's sites
+-- a tile may have this many sites
 pub record IsSites (sites : ℕ) : Type 0 where
   pub some : 1 ≤ sites
   pub most : sites ≤ 4096
@@ -17,7 +17,7 @@ abbrev pub plan_of : Plan → PlanValue
 plan_of (Seeded o) = seeded o.seed o.count o.off.items o.sites
 plan_of (Scripted scripts) = scripted scripts.items
 
--- a plan whose attempts can be given
+-- the attempts of a plan can be given
 abbrev pub CanGive : Plan → Type 0
 CanGive (Seeded o) = IsSites o.sites × IsPlan (seeded o.seed o.count o.off.items o.sites)
 CanGive (Scripted scripts) = IsPlan (scripted scripts.items)
@@ -27,7 +27,7 @@ abbrev pub rest_of : Rest → List Attempt
 rest_of (Drawn stream sites left) = next_attempts stream sites left
 rest_of (Listed list next) = drop next list.items
 
--- this many can be given
+-- the attempts that are left can be given
 abbrev pub CanTake : Rest → Type 0
 CanTake (Drawn stream sites left) = IsSites sites
 CanTake (Listed list next) = next ≤ length list.items

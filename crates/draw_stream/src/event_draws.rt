@@ -39,7 +39,8 @@ impl EventDraws {
         requires { 0 < n }
         ensures value { result ≡ (event_step self.old).0 % n }
         ensures moved { self.new ≡ (event_step self.old).1 }
-        ensures place { (seed k : ℕ) → self.old ≡ event_state seed k → (result ≡ event_word seed k % n) × (self.new ≡ event_state seed (k + 1)) }
+        ensures place { (seed k : ℕ) → self.old ≡ event_state seed k → result ≡ event_word seed k % n }
+        ensures after { (seed k : ℕ) → self.old ≡ event_state seed k → self.new ≡ event_state seed (k + 1) }
         ensures bound { result < n }
     {
         self.words.next_word() % n

@@ -52,7 +52,8 @@ impl TileStream {
         requires most { sites ≤ 4096 }
         ensures value { result ≡ next_attempt self.old sites }
         ensures moved { self.new ≡ state_after self.old }
-        ensures place { (stream i : ℕ) → self.old ≡ tile_state stream (2 * i) → (result ≡ attempt_at stream sites i) × (self.new ≡ tile_state stream (2 * (i + 1))) }
+        ensures place { (stream i : ℕ) → self.old ≡ tile_state stream (2 * i) → result ≡ attempt_at stream sites i }
+        ensures after { (stream i : ℕ) → self.old ≡ tile_state stream (2 * i) → self.new ≡ tile_state stream (2 * (i + 1)) }
         ensures bound { result.centre < sites }
     {
         let centre = (self.word() % sites) as u32;

@@ -8,8 +8,16 @@ use Rattle.edge_lock.specs.declared.history.Access.{Access}
 use Rattle.edge_lock.specs.declared.history.Access.TheVariants.{Read, Write}
 use Rattle.edge_lock.specs.declared.history.Hold.{Hold}
 use Rattle.edge_lock.specs.EndLists.{EndLists, change_last, is_last_open, new_hold, refusal_of, with_access, closed_hold, last_accesses, last_shown, writes_nothing, known_value, HasNoWrite, IsHeld, IsFree, IsNew, IsHoldBelow, IsRefusalBelow, after_try, after_access, after_give, replace_at, end_lists, hold_of, with_hold}
+use Rattle.edge_lock.specs.EndValues.{EndValue, SameEnd}
 use Rattle.edge_lock.proofs.LastHolds.{replace_at-here, replace_at-else, is_held-snoc, last_accesses-snoc, change_last-snoc}
 use Rattle.edge_lock.proofs.HistorySteps.{all-cons, all-none, all-head, all-tail}
+
+-- a board's end stays through two stretches if it stays through each
+pub same_end : (a b d : EndValue) → SameEnd a b → SameEnd b d → SameEnd a d
+same_end a b d p q = (q.0 ∙ p.0, q.1 ∙ p.1, q.2 ∙ p.2)
+
+pub same_end_here : (a : EndValue) → SameEnd a a
+same_end_here a = (refl, refl, refl)
 
 -- the lists of an edge after a call on it
 pub here_after : (f g : ℕ → EndLists) (e : ℕ) (x : EndLists) → g ≡ replace_at f e x → g e ≡ x

@@ -5,8 +5,9 @@ use Rattle.std.proofs.lemmas.Option.{slice_get_within, slice_get-get_or}
 use mathlib.Core.Logic.{dite}
 use native.Mathlib.Decide.{ℕ_discrete}
 use Rattle.edge_lock.specs.EndLists.{EndLists, replace_at}
+use Rattle.edge_lock.specs.EndValues.{ChangesAt}
 use Rattle.edge_lock.specs.Passes.{EdgeValue, PassValue, with_lists}
-use Rattle.edge_lock.specs.SharedEnds.{SharedEndValue, shared_end_value, SamePasses, IsPassOf, pass_registers, pass_end, pass_lists, pass_position, edge_and_end}
+use Rattle.edge_lock.specs.SharedEnds.{SharedEndValue, shared_end_value, shared_end, SamePasses, IsPassOf, pass_registers, pass_end, pass_lists, pass_position, edge_and_end}
 
 pub record Looked (ps : List PassValue) (e i : ℕ) : Type 0 where
   pub place : pass_position ps e ≡ i + pass_position (drop i ps) e
@@ -123,10 +124,8 @@ here es ps ns e i all same is inside =
         slice_get_within es e p.of (ap (slice_get es) (sym s.number) ∙ all (pass_position (x ∷ ps) e) x there)
 
 -- what one call changes of a tile's end
-pub record Acted (v : SharedEndValue) (e : ℕ) (l : EndLists) (w : SharedEndValue) : Type 0 where
-  pub lists : pass_lists w.passes ≡ replace_at (pass_lists v.passes) e l
-  pub registers : pass_registers w.passes ≡ pass_registers v.passes
-  pub ends : pass_end w.passes ≡ pass_end v.passes
+pub record Acted (v : SharedEndValue) (e : ℕ) (f : EndLists → EndLists) (w : SharedEndValue) : Type 0 where
+  pub change : ChangesAt e f (shared_end v) (shared_end w)
   pub moved : SamePasses v w
 
 -- a call of a tile's end, seen as v, on the pass at the place i, with the edge of its number
@@ -136,7 +135,7 @@ pub record Acts (es : List EdgeValue) (ps : List PassValue) (tile : ℕ) (v : Sh
   pub registers : (p : PassValue) (x : EdgeValue) → p ≡ get_or ps i p → x ≡ get_or es e x → pass_registers v.passes e ≡ x.registers
   pub end : (p : PassValue) → p ≡ get_or ps i p → pass_end v.passes e ≡ p.end
   pub lists : (p : PassValue) → p ≡ get_or ps i p → pass_lists v.passes e ≡ p.lists
-  pub after : (p q : PassValue) (f : ℕ → EndLists → EndLists) → p ≡ get_or ps i p → q ≡ with_lists p (f p.end p.lists) → Acted v e (f (pass_end v.passes e) (pass_lists v.passes e)) (shared_end_value tile (set ps i q))
+  pub after : (p q : PassValue) (f : ℕ → EndLists → EndLists) → p ≡ get_or ps i p → q ≡ with_lists p (f p.end p.lists) → Acted v e (f (pass_end v.passes e)) (shared_end_value tile (set ps i q))
 
 pub acts : (es : List EdgeValue) (ps ns : List PassValue) (tile : ℕ) (v : SharedEndValue) (e i : ℕ) → shared_end_value tile ps ≡ v → All (IsPassOf es) ps → ns ≡ ps → i ≡ pass_position ns e → i < length ns → Acts es ps tile v e i
 acts es ps ns tile v e i seen all same is inside =
@@ -147,10 +146,11 @@ acts es ps ns tile v e i seen all same is inside =
       end = λ p at. ap (λ l. pass_end l e) (sym at_v) ∙ (h.stood p at).end;
       lists = λ p at. ap (λ l. pass_lists l e) (sym at_v) ∙ (h.stood p at).lists;
       after = λ p q f at now. let s = h.stood p at in let r = h.after p q (f p.end p.lists) at now in record {
-        lists = (λ k x. r.lists x k)
-            ∙ (ap (replace_at (pass_lists ps) e) (λ k. f (sym s.end k) (sym s.lists k)) ∙ ap (λ (y : SharedEndValue). replace_at (pass_lists y.passes) e (f (pass_end y.passes e) (pass_lists y.passes e))) seen);
-        registers = (λ k x. r.registers x k) ∙ ap pass_registers at_v;
-        ends = (λ k x. r.ends x k) ∙ ap pass_end at_v;
+        change = record {
+          lists = (λ k x. r.lists x k)
+              ∙ (ap (replace_at (pass_lists ps) e) (λ k. f (sym s.end k) (sym s.lists k)) ∙ ap (λ (y : SharedEndValue). replace_at (pass_lists y.passes) e (f (pass_end y.passes e) (pass_lists y.passes e))) seen);
+          same = (ap (λ (y : SharedEndValue). y.tile) seen, (λ k x. r.registers x k) ∙ ap pass_registers at_v, (λ k x. r.ends x k) ∙ ap pass_end at_v);
+        };
         moved = record { tile = ap (λ (y : SharedEndValue). y.tile) seen; passes = r.passes ∙ ap (λ l. map edge_and_end l) at_v };
       };
     }

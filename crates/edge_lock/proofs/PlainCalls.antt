@@ -11,8 +11,9 @@ use Rattle.edge_lock.specs.declared.board.Take.TheVariants.{Got, Busy}
 use Rattle.feast_base.specs.Edges.{EdgeSize, registers_of}
 use Rattle.edge_lock.specs.declared.history.Access.{Access}
 use Rattle.edge_lock.specs.EndLists.{EndLists, replace_at}
+use Rattle.edge_lock.specs.EndValues.{ChangesAt}
 use Rattle.edge_lock.specs.PlainEdges.{PlainEdgeValue, own_lists, edge_after_try, edge_after_access, edge_after_give, IsAnswer}
-use Rattle.edge_lock.specs.PlainBoard.{PlainBoardValue, plain_board_value, no_edge, edge_at, end_of, is_end, registers_on, end_on, lists_on, other_lists_on, Call, MayCall, effect_of, tries, tried_at, IsCall, Moved, stays, goes, untouched_edge, IsKeptEdge}
+use Rattle.edge_lock.specs.PlainBoard.{PlainBoardValue, plain_board_value, no_edge, edge_at, end_of, is_end, registers_on, end_on, lists_on, acting_end, other_lists_on, Call, MayCall, effect_of, tries, tried_at, IsCall, Moved, stays, goes, untouched_edge, IsKeptEdge}
 
 pub record SameEnds (x y : PlainEdgeValue) : Type 0 where
   pub lower : y.lower ≡ x.lower
@@ -87,12 +88,9 @@ there acting items v seen e x some_registers at =
     subst (λ w. 0 < registers_on w e → x ≡ edge_at w e) seen (λ s. at ∙ get_or_default items e x no_edge (inside_at (plain_board_value acting items) e s)) some_registers
 
 -- what one call of the acting tile's end changes, and what it leaves
-pub record Done (b : PlainBoardValue) (e : ℕ) (call : Call) (l : EndLists) (c : PlainBoardValue) : Type 0 where
+pub record Done (b : PlainBoardValue) (e : ℕ) (call : Call) (f : EndLists → EndLists) (c : PlainBoardValue) : Type 0 where
   pub is_call : IsCall b e call c
-  pub lists : lists_on c ≡ replace_at (lists_on b) e l
-  pub acting : c.acting ≡ b.acting
-  pub registers : registers_on c ≡ registers_on b
-  pub ends : end_on c ≡ end_on b
+  pub change : ChangesAt e f (acting_end b) (acting_end c)
   pub moved : Moved b c
   pub others : other_lists_on c ≡ other_lists_on b
 
@@ -109,7 +107,7 @@ others_stay b e y inside s same =
 
 done_at : (b : PlainBoardValue) (e end : ℕ) (x y : PlainEdgeValue) (call : Call) (f : ℕ → EndLists → EndLists) → 0 < registers_on b e → MayCall (end_on b e) call (edge_at b e)
     → x ≡ get_or b.edges e x → end ≡ end_of x b.acting → y ≡ effect_of end call x → SameEnds x y → own_lists end y ≡ f end (own_lists end x) → own_lists (1 - end) y ≡ own_lists (1 - end) x
-    → Done b e call (f (end_on b e) (lists_on b e)) (plain_board_value b.acting (set b.edges e y))
+    → Done b e call (f (end_on b e)) (plain_board_value b.acting (set b.edges e y))
 done_at b e end x y call f some_registers can at is_end now same own other =
     let inside = inside_at b e some_registers in
     let there : x ≡ edge_at b e = at ∙ get_or_default b.edges e x no_edge inside in
@@ -123,10 +121,10 @@ done_at b e end x y call f some_registers can at is_end now same own other =
       is = λ k. plain_board_value b.acting (set b.edges e ((now ∙ (λ m. effect_of (end_there m) call (there m))) k));
     } in record {
       is_call = step;
-      lists = c.lists ∙ ap (replace_at (lists_on b) e) (ap (λ k. own_lists k y) (sym end_there) ∙ (own ∙ (λ k. f (end_there k) (own_lists (end_there k) (there k)))));
-      acting = refl;
-      registers = c.registers;
-      ends = c.ends;
+      change = record {
+        lists = c.lists ∙ ap (replace_at (lists_on b) e) (ap (λ k. own_lists k y) (sym end_there) ∙ (own ∙ (λ k. f (end_there k) (own_lists (end_there k) (there k)))));
+        same = (refl, c.registers, c.ends);
+      };
       moved = goes b (plain_board_value b.acting (set b.edges e y)) (plain_board_value b.acting (set b.edges e y)) e call step (stays (plain_board_value b.acting (set b.edges e y)));
       others = others_stay b e y inside same_there (ap (λ k. own_lists (1 - k) y) (sym end_there) ∙ (other ∙ (λ k. own_lists (1 - end_there k) (there k))));
     }
@@ -134,9 +132,9 @@ done_at b e end x y call f some_registers can at is_end now same own other =
 -- the same of a board that is seen as v
 pub done : (acting : ℕ) (items : List PlainEdgeValue) (v : PlainBoardValue) → plain_board_value acting items ≡ v → (e end : ℕ) (x y : PlainEdgeValue) (call : Call) (f : ℕ → EndLists → EndLists)
     → 0 < registers_on v e → MayCall (end_on v e) call (edge_at v e) → x ≡ get_or items e x → end ≡ end_of x acting → y ≡ effect_of end call x → SameEnds x y
-    → own_lists end y ≡ f end (own_lists end x) → own_lists (1 - end) y ≡ own_lists (1 - end) x → Done v e call (f (end_on v e) (lists_on v e)) (plain_board_value acting (set items e y))
+    → own_lists end y ≡ f end (own_lists end x) → own_lists (1 - end) y ≡ own_lists (1 - end) x → Done v e call (f (end_on v e)) (plain_board_value acting (set items e y))
 done acting items v seen e end x y call f some_registers can at is_end now same own other =
-    subst (λ w. 0 < registers_on w e → MayCall (end_on w e) call (edge_at w e) → Done w e call (f (end_on w e) (lists_on w e)) (plain_board_value acting (set items e y))) seen
+    subst (λ w. 0 < registers_on w e → MayCall (end_on w e) call (edge_at w e) → Done w e call (f (end_on w e)) (plain_board_value acting (set items e y))) seen
     (λ s m. done_at (plain_board_value acting items) e end x y call f s m at is_end now same own other) some_registers can
 
 pub same_ends_try : (end a : ℕ) (x y : PlainEdgeValue) (t : Take) → y ≡ edge_after_try end a t x → SameEnds x y

@@ -1,5 +1,6 @@
 pub mod History
 pub mod EndLists
+pub mod EndValues
 pub mod SharedRule
 pub mod Passes
 pub mod SharedEnds

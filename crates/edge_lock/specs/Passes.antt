@@ -67,7 +67,7 @@ KeepsHistory me = me ≡ (Settled (holds_in me.0) (low_in me.0) (high_in me.0), 
 
 -- at close the holds and refusals of both ends are one history, which has each end's own holds in order, and no hold is open
 pub record IsClosed (closed : ClosedValue) (lower higher : EndLists) : Type 0 where
-  pub both : IsBoth (site_count closed.registers) lower.holds lower.refusals higher.holds higher.refusals closed.holds
+  pub both : IsBoth (site_count closed.registers) lower higher closed.holds
   pub low : closed.low ≡ lower.refusals
   pub high : closed.high ≡ higher.refusals
   pub shut : open_hold closed.holds ≡ None

@@ -6,6 +6,7 @@ use Rattle.edge_lock.specs.declared.history.Access.TheVariants.{Read, Write}
 use Rattle.edge_lock.specs.declared.history.Hold.{Hold}
 use Rattle.edge_lock.specs.History.{register_value, open_hold, site_count, IsAllowed}
 use Rattle.edge_lock.specs.EndLists.{EndLists, IsFree, IsHeld, IsNew}
+use Rattle.edge_lock.specs.EndValues.{EndValue, end_value}
 use Rattle.edge_lock.specs.PlainEdges.{PlainEdgeValue, plain_edge_value, plain_view, own_lists, edge_after_try, edge_after_access, edge_after_give, IsKept, view_of}
 
 -- a plain board: the tile whose end acts, and the edges
@@ -46,6 +47,10 @@ lists_of_tile board tile edge = own_lists (end_of (edge_at board edge) tile) (ed
 -- what the acting tile's end did on the edge
 abbrev pub lists_on : PlainBoardValue → ℕ → EndLists
 lists_on board edge = own_lists (end_on board edge) (edge_at board edge)
+
+-- the acting tile's end of the edges
+abbrev pub acting_end : PlainBoardValue → EndValue
+acting_end board = end_value board.acting (registers_on board) (end_on board) (lists_on board)
 
 -- what the other end did on the edge
 abbrev pub other_lists_on : PlainBoardValue → ℕ → EndLists

@@ -1,6 +1,7 @@
 -- What contracts see of one tile's end of its shared edges.
 use Rattle.std.specs.Prelude.{◌≡◌, ℕ, ◌==◌, suc, List, [], ◌∷◌, map, slice_get, Some, if◌then◌else◌}
 use Rattle.edge_lock.specs.EndLists.{EndLists, end_lists}
+use Rattle.edge_lock.specs.EndValues.{EndValue, end_value}
 use Rattle.edge_lock.specs.Passes.{EdgeValue, PassValue}
 
 pub record SharedEndValue : Type 0 where
@@ -29,12 +30,16 @@ abbrev pub pass_lists : List PassValue → ℕ → EndLists
 pass_lists [] edge = end_lists [] []
 pass_lists (pass ∷ passes) edge = if pass.of.number == edge then pass.lists else pass_lists passes edge
 
+-- the tile's end of its edges
+abbrev pub shared_end : SharedEndValue → EndValue
+shared_end end = end_value end.tile (pass_registers end.passes) (pass_end end.passes) (pass_lists end.passes)
+
 -- the position of the pass of an edge
 abbrev pub pass_position : List PassValue → ℕ → ℕ
 pass_position [] edge = 0
 pass_position (pass ∷ passes) edge = if pass.of.number == edge then 0 else suc (pass_position passes edge)
 
--- which edge and which end a pass is of
+-- the edge and the end that a pass belongs to
 pub record EdgeAndEnd : Type 0 where
   pub of : EdgeValue
   pub end : ℕ

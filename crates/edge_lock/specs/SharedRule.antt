@@ -7,7 +7,6 @@ use lib.ListN.{get_elem?}
 use Rattle.atomic_table.specs.Table.{State, Me, Step}
 use Rattle.edge_lock.specs.declared.history.Access.TheVariants.{Read, Write}
 use Rattle.edge_lock.specs.declared.history.Hold.{Hold}
-use Rattle.edge_lock.specs.declared.history.Refusal.{Refusal}
 use Rattle.edge_lock.specs.declared.edge_steps.View.{View}
 use Rattle.edge_lock.specs.declared.edge_steps.View.TheVariants.{First, Alone, Second, Paired, Joined, Settled, Spent}
 use Rattle.edge_lock.specs.History.{own, register_value, open_hold, keys, site_count, IsAllowed, IsHistory, IsSide, IsEdgeHistory}
@@ -130,13 +129,13 @@ both_of (Paired registers end low low_refusals) (Paired same other high high_ref
 both_of view other = view
 
 -- one list of holds that has those of each end in order, and is a history with both ends' refusals
-pub record IsBoth (sites : ℕ) (low : List Hold) (low_refusals : List Refusal) (high : List Hold) (high_refusals : List Refusal) (all : List Hold) : Type 0 where
-  pub history : IsEdgeHistory sites all low_refusals high_refusals
-  pub lower : own 0 all ≡ low
-  pub higher : own 1 all ≡ high
+pub record IsBoth (sites : ℕ) (low high : EndLists) (all : List Hold) : Type 0 where
+  pub history : IsEdgeHistory sites all low.refusals high.refusals
+  pub lower : own 0 all ≡ low.holds
+  pub higher : own 1 all ≡ high.holds
 
 abbrev pub BecomesWhole : View → View → Type 0
-BecomesWhole (Joined registers low low_refusals high high_refusals) view = (all : List Hold) × (view ≡ Settled all low_refusals high_refusals) × IsBoth (site_count registers) low low_refusals high high_refusals all
+BecomesWhole (Joined registers low low_refusals high high_refusals) view = (all : List Hold) × (view ≡ Settled all low_refusals high_refusals) × IsBoth (site_count registers) (end_lists low low_refusals) (end_lists high high_refusals) all
 BecomesWhole other view = Unit {0}
 
 -- the first load after the join: the view gets the one history of both ends

@@ -1,5 +1,5 @@
 //! What a tile sees of its edges, whether it has them alone or with tiles of other threads.
-ghost use Rattle.std.specs.Prelude.{◌≡◌, ◌<◌, ℕ};
+ghost use Rattle.std.specs.Prelude.{◌<◌};
 ghost use Rattle.edge_lock.specs.declared.history.Access.TheVariants.{Read, Write};
 
 /// The answer to a try to take an edge.
@@ -21,19 +21,11 @@ pub enum Take {
 /// edge, and neither the tile nor its edges. Each call needs an edge of the tile.
 pub trait Board {
     ghost use Rattle.edge_lock.specs.History.{IsAllowed, site_count};
-    ghost use Rattle.edge_lock.specs.EndLists.{EndLists, IsHeld, IsFree, IsNew, HasNoWrite, Shows, after_try, after_access, after_give, known_value, replace_at};
+    ghost use Rattle.edge_lock.specs.EndLists.{IsHeld, IsFree, IsNew, HasNoWrite, Shows, after_access, after_give, known_value};
+    ghost use Rattle.edge_lock.specs.EndValues.{EndValue, ChangesAt, HasTried};
 
-    // The tile whose end it is.
-    ghost tile: { Self → ℕ };
-
-    // By an edge's number: how many registers it has, or 0 if it is not an edge of the tile.
-    ghost registers: { Self → ℕ → ℕ };
-
-    // Which end of the edge the tile is, 0 or 1, if it is an edge of the tile.
-    ghost end_of: { Self → ℕ → ℕ };
-
-    // The holds and refusals of this end on the edge.
-    ghost lists: { Self → ℕ → EndLists };
+    // The tile, its edges, and what this end did on each of them.
+    ghost end: { Self → EndValue };
 
     // What calls may do to a board beyond this end's own lists. Each implementation defines it.
     ghost moved: { Self → Self → Type 0 };
@@ -42,53 +34,46 @@ pub trait Board {
     /// with the attempt of the other end that has the edge. The attempt is greater than each that
     /// this end tried on the edge before.
     fn try_take(&mut self, edge: u32, attempt: u64) -> Take
-        requires edge { 0 < registers self.old edge }
-        requires free { IsFree (lists self.old edge) }
-        requires attempt { (attempt < 1000000) × IsNew attempt (lists self.old edge) }
-        ensures end { end_of self.old edge < 2 }
-        ensures lists { lists self.new ≡ replace_at (lists self.old) edge (after_try (end_of self.old edge) attempt result (lists self.old edge)) }
-        ensures tile { tile self.new ≡ tile self.old }
-        ensures edges { (registers self.new ≡ registers self.old) × (end_of self.new ≡ end_of self.old) }
+        requires edge { 0 < (end self.old).registers edge }
+        requires free { IsFree ((end self.old).lists edge) }
+        requires attempt { attempt < 1000000 }
+        requires is_new { IsNew attempt ((end self.old).lists edge) }
+        ensures end { (end self.old).end_of edge < 2 }
+        ensures change { HasTried edge attempt result (end self.old) (end self.new) }
         ensures moved { moved self.old self.new };
 
     /// What a register has, of an edge that this end has: what this hold last read or wrote there,
     /// if it did. The second register of a shared site has bits 7 to 15 equal to 0.
     fn read(&mut self, edge: u32, register: u32) -> u64
-        requires edge { register < registers self.old edge }
-        requires held { IsHeld (lists self.old edge) }
-        ensures value { Shows (known_value (lists self.old edge) register) result × IsAllowed (site_count (registers self.old edge)) register result }
-        ensures lists { lists self.new ≡ replace_at (lists self.old) edge (after_access (Read register result) (lists self.old edge)) }
-        ensures tile { tile self.new ≡ tile self.old }
-        ensures edges { (registers self.new ≡ registers self.old) × (end_of self.new ≡ end_of self.old) }
+        requires edge { register < (end self.old).registers edge }
+        requires held { IsHeld ((end self.old).lists edge) }
+        ensures value { Shows (known_value ((end self.old).lists edge) register) result }
+        ensures allowed { IsAllowed (site_count ((end self.old).registers edge)) register result }
+        ensures change { ChangesAt edge (after_access (Read register result)) (end self.old) (end self.new) }
         ensures moved { moved self.old self.new };
 
     /// Changes a register of an edge that this end has. A word for the second register of a shared
     /// site has bits 7 to 15 equal to 0.
     fn write(&mut self, edge: u32, register: u32, value: u64)
-        requires edge { register < registers self.old edge }
-        requires held { IsHeld (lists self.old edge) }
-        requires value { IsAllowed (site_count (registers self.old edge)) register value }
-        ensures lists { lists self.new ≡ replace_at (lists self.old) edge (after_access (Write register value) (lists self.old edge)) }
-        ensures tile { tile self.new ≡ tile self.old }
-        ensures edges { (registers self.new ≡ registers self.old) × (end_of self.new ≡ end_of self.old) }
+        requires edge { register < (end self.old).registers edge }
+        requires held { IsHeld ((end self.old).lists edge) }
+        requires allowed { IsAllowed (site_count ((end self.old).registers edge)) register value }
+        ensures change { ChangesAt edge (after_access (Write register value)) (end self.old) (end self.new) }
         ensures moved { moved self.old self.new };
 
     /// Gives an edge back that this end has.
     fn give(&mut self, edge: u32)
-        requires edge { 0 < registers self.old edge }
-        requires held { IsHeld (lists self.old edge) }
-        ensures lists { lists self.new ≡ replace_at (lists self.old) edge (after_give (lists self.old edge)) }
-        ensures tile { tile self.new ≡ tile self.old }
-        ensures edges { (registers self.new ≡ registers self.old) × (end_of self.new ≡ end_of self.old) }
+        requires edge { 0 < (end self.old).registers edge }
+        requires held { IsHeld ((end self.old).lists edge) }
+        ensures change { ChangesAt edge after_give (end self.old) (end self.new) }
         ensures moved { moved self.old self.new };
 
     /// Gives an edge back on which this hold has written nothing.
     fn give_back(&mut self, edge: u32)
-        requires edge { 0 < registers self.old edge }
-        requires held { IsHeld (lists self.old edge) × HasNoWrite (lists self.old edge) }
-        ensures lists { lists self.new ≡ replace_at (lists self.old) edge (after_give (lists self.old edge)) }
-        ensures tile { tile self.new ≡ tile self.old }
-        ensures edges { (registers self.new ≡ registers self.old) × (end_of self.new ≡ end_of self.old) }
+        requires edge { 0 < (end self.old).registers edge }
+        requires held { IsHeld ((end self.old).lists edge) }
+        requires unwritten { HasNoWrite ((end self.old).lists edge) }
+        ensures change { ChangesAt edge after_give (end self.old) (end self.new) }
         ensures moved { moved self.old self.new };
 
     ghost moved_same: { (x : Self) → moved x x };

@@ -167,7 +167,8 @@ impl Edge {
     pub(crate) fn try_take(&self, pass: &mut Pass, attempt: u64) -> Take
         requires edge { pass.old.of ≡ self.now }
         requires free { IsFree pass.old.lists }
-        requires attempt { (attempt < 1000000) × IsNew attempt pass.old.lists }
+        requires attempt { attempt < 1000000 }
+        requires is_new { IsNew attempt pass.old.lists }
         ensures pass { pass.new ≡ with_lists pass.old (after_try pass.old.end attempt result pass.old.lists) }
         ensures end { pass.old.end < 2 }
     {
@@ -190,7 +191,8 @@ impl Edge {
         requires edge { pass.old.of ≡ self.now }
         requires register { register < self.now.registers }
         requires held { IsHeld pass.old.lists }
-        ensures value { Shows (known_value pass.old.lists register) result × IsAllowed (site_count self.now.registers) register result }
+        ensures value { Shows (known_value pass.old.lists register) result }
+        ensures allowed { IsAllowed (site_count self.now.registers) register result }
         ensures pass { pass.new ≡ with_lists pass.old (after_access (Read register result) pass.old.lists) }
     {
         let word = register as usize + FIRST_REGISTER;
@@ -202,7 +204,7 @@ impl Edge {
         requires edge { pass.old.of ≡ self.now }
         requires register { register < self.now.registers }
         requires held { IsHeld pass.old.lists }
-        requires value { IsAllowed (site_count self.now.registers) register value }
+        requires allowed { IsAllowed (site_count self.now.registers) register value }
         ensures { pass.new ≡ with_lists pass.old (after_access (Write register value) pass.old.lists) }
     {
         let word = register as usize + FIRST_REGISTER;

@@ -2,9 +2,10 @@
 ghost use Rattle.std.specs.Prelude.{◌≡◌, ◌<◌, length, map, IfOk, All};
 ghost use Rattle.edge_lock.specs.declared.history.Access.TheVariants.{Read, Write};
 ghost use Rattle.edge_lock.specs.History.{register_value, site_count, IsAllowed};
-ghost use Rattle.edge_lock.specs.EndLists.{IsFree, IsHeld, IsNew, HasNoWrite, Shows, known_value, after_try, after_access, after_give, replace_at};
+ghost use Rattle.edge_lock.specs.EndLists.{IsFree, IsHeld, IsNew, HasNoWrite, Shows, known_value, after_access, after_give};
+ghost use Rattle.edge_lock.specs.EndValues.{ChangesAt, HasTried};
 ghost use Rattle.edge_lock.specs.PlainEdges.{IsAnswer};
-ghost use Rattle.edge_lock.specs.PlainBoard.{edge_at, registers_on, end_on, lists_on, other_lists_on, tries, reads, writes, gives, IsCall, Moved, untouched_edge, sizes_of_board, IsKeptEdge};
+ghost use Rattle.edge_lock.specs.PlainBoard.{edge_at, registers_on, end_on, lists_on, acting_end, other_lists_on, tries, reads, writes, gives, IsCall, Moved, untouched_edge, sizes_of_board, IsKeptEdge};
 
 use crate::board::{Board, Take};
 use crate::plain_edge::PlainEdge;
@@ -38,7 +39,8 @@ impl PlainBoard {
     ///
     /// `NoMemory` if there was no memory for the edges.
     pub fn new<S: EdgeSizes>(alloc: Global, sizes: &S) -> Result<PlainBoard, NoMemory>
-        ensures made { IfOk result (λ b. (b.acting ≡ 0) × (b.edges ≡ map untouched_edge (S.sizes sizes.now))) }
+        ensures acting { IfOk result (λ b. b.acting ≡ 0) }
+        ensures edges { IfOk result (λ b. b.edges ≡ map untouched_edge (S.sizes sizes.now)) }
         ensures sizes { IfOk result (λ b. sizes_of_board b ≡ S.sizes sizes.now) }
         ensures histories { IfOk result (λ b. All IsKeptEdge b.edges) }
     {
@@ -72,15 +74,9 @@ impl PlainBoard {
 }
 
 impl Board for PlainBoard {
-    ghost use Rattle.edge_lock.specs.PlainBoard.{registers_on, end_on, lists_on, Moved, stays, moved_on};
+    ghost use Rattle.edge_lock.specs.PlainBoard.{acting_end, Moved, stays, moved_on};
 
-    ghost tile = { λ b. b.acting };
-
-    ghost registers = { registers_on };
-
-    ghost end_of = { end_on };
-
-    ghost lists = { lists_on };
+    ghost end = { acting_end };
 
     ghost moved = { Moved };
 
@@ -88,13 +84,12 @@ impl Board for PlainBoard {
     fn try_take(&mut self, edge: u32, attempt: u64) -> Take
         requires edge { 0 < registers_on self.old edge }
         requires free { IsFree (lists_on self.old edge) }
-        requires attempt { (attempt < 1000000) × IsNew attempt (lists_on self.old edge) }
+        requires attempt { attempt < 1000000 }
+        requires is_new { IsNew attempt (lists_on self.old edge) }
         ensures end { end_on self.old edge < 2 }
         ensures answer { IsAnswer (end_on self.old edge) (edge_at self.old edge) result }
         ensures call { IsCall self.old edge (tries attempt) self.new }
-        ensures lists { lists_on self.new ≡ replace_at (lists_on self.old) edge (after_try (end_on self.old edge) attempt result (lists_on self.old edge)) }
-        ensures tile { self.new.acting ≡ self.old.acting }
-        ensures edges { (registers_on self.new ≡ registers_on self.old) × (end_on self.new ≡ end_on self.old) }
+        ensures change { HasTried edge attempt result (acting_end self.old) (acting_end self.new) }
         ensures moved { Moved self.old self.new }
         ensures others { other_lists_on self.new ≡ other_lists_on self.old }
         ensures histories { All IsKeptEdge self.new.edges }
@@ -108,12 +103,11 @@ impl Board for PlainBoard {
     fn read(&mut self, edge: u32, register: u32) -> u64
         requires edge { register < registers_on self.old edge }
         requires held { IsHeld (lists_on self.old edge) }
-        ensures value { Shows (known_value (lists_on self.old edge) register) result × IsAllowed (site_count (registers_on self.old edge)) register result }
+        ensures value { Shows (known_value (lists_on self.old edge) register) result }
+        ensures allowed { IsAllowed (site_count (registers_on self.old edge)) register result }
         ensures is_register { result ≡ register_value (edge_at self.old edge).holds register }
         ensures call { IsCall self.old edge (reads register) self.new }
-        ensures lists { lists_on self.new ≡ replace_at (lists_on self.old) edge (after_access (Read register result) (lists_on self.old edge)) }
-        ensures tile { self.new.acting ≡ self.old.acting }
-        ensures edges { (registers_on self.new ≡ registers_on self.old) × (end_on self.new ≡ end_on self.old) }
+        ensures change { ChangesAt edge (after_access (Read register result)) (acting_end self.old) (acting_end self.new) }
         ensures moved { Moved self.old self.new }
         ensures others { other_lists_on self.new ≡ other_lists_on self.old }
         ensures histories { All IsKeptEdge self.new.edges }
@@ -127,11 +121,9 @@ impl Board for PlainBoard {
     fn write(&mut self, edge: u32, register: u32, value: u64)
         requires edge { register < registers_on self.old edge }
         requires held { IsHeld (lists_on self.old edge) }
-        requires value { IsAllowed (site_count (registers_on self.old edge)) register value }
+        requires allowed { IsAllowed (site_count (registers_on self.old edge)) register value }
         ensures call { IsCall self.old edge (writes register value) self.new }
-        ensures lists { lists_on self.new ≡ replace_at (lists_on self.old) edge (after_access (Write register value) (lists_on self.old edge)) }
-        ensures tile { self.new.acting ≡ self.old.acting }
-        ensures edges { (registers_on self.new ≡ registers_on self.old) × (end_on self.new ≡ end_on self.old) }
+        ensures change { ChangesAt edge (after_access (Write register value)) (acting_end self.old) (acting_end self.new) }
         ensures moved { Moved self.old self.new }
         ensures others { other_lists_on self.new ≡ other_lists_on self.old }
         ensures histories { All IsKeptEdge self.new.edges }
@@ -146,9 +138,7 @@ impl Board for PlainBoard {
         requires edge { 0 < registers_on self.old edge }
         requires held { IsHeld (lists_on self.old edge) }
         ensures call { IsCall self.old edge gives self.new }
-        ensures lists { lists_on self.new ≡ replace_at (lists_on self.old) edge (after_give (lists_on self.old edge)) }
-        ensures tile { self.new.acting ≡ self.old.acting }
-        ensures edges { (registers_on self.new ≡ registers_on self.old) × (end_on self.new ≡ end_on self.old) }
+        ensures change { ChangesAt edge after_give (acting_end self.old) (acting_end self.new) }
         ensures moved { Moved self.old self.new }
         ensures others { other_lists_on self.new ≡ other_lists_on self.old }
         ensures histories { All IsKeptEdge self.new.edges }
@@ -161,11 +151,10 @@ impl Board for PlainBoard {
     /// Gives an edge back on which the acting end's hold has written nothing.
     fn give_back(&mut self, edge: u32)
         requires edge { 0 < registers_on self.old edge }
-        requires held { IsHeld (lists_on self.old edge) × HasNoWrite (lists_on self.old edge) }
+        requires held { IsHeld (lists_on self.old edge) }
+        requires unwritten { HasNoWrite (lists_on self.old edge) }
         ensures call { IsCall self.old edge gives self.new }
-        ensures lists { lists_on self.new ≡ replace_at (lists_on self.old) edge (after_give (lists_on self.old edge)) }
-        ensures tile { self.new.acting ≡ self.old.acting }
-        ensures edges { (registers_on self.new ≡ registers_on self.old) × (end_on self.new ≡ end_on self.old) }
+        ensures change { ChangesAt edge after_give (acting_end self.old) (acting_end self.new) }
         ensures moved { Moved self.old self.new }
         ensures others { other_lists_on self.new ≡ other_lists_on self.old }
         ensures histories { All IsKeptEdge self.new.edges }

@@ -70,7 +70,8 @@ impl PlainEdge {
     pub(crate) fn try_take(&mut self, end: u32, attempt: u64) -> Take
         requires end { end < 2 }
         requires free { IsFree (own_lists end self.old) }
-        requires attempt { (attempt < 1000000) × IsNew attempt (own_lists end self.old) }
+        requires attempt { attempt < 1000000 }
+        requires is_new { IsNew attempt (own_lists end self.old) }
         ensures answer { IsAnswer end self.old result }
         ensures edge { self.new ≡ edge_after_try end attempt result self.old }
         ensures own { own_lists end self.new ≡ after_try end attempt result (own_lists end self.old) }
@@ -91,13 +92,15 @@ impl PlainEdge {
         }
     }
 
-    /// What a register has, read by the end that has the edge. The contract alone speaks of
-    /// the end.
+    /// What a register has, read by the end that has the edge. The code does not need to know
+    /// which end it is; the contract does.
     pub(crate) fn read(&mut self, end: u32, register: u32) -> u64
         requires end { end < 2 }
         requires register { register < self.old.registers }
         requires held { IsHeld (own_lists end self.old) }
-        ensures value { (result ≡ register_value self.old.holds register) × IsAllowed (site_count self.old.registers) register result × Shows (known_value (own_lists end self.old) register) result }
+        ensures is_register { result ≡ register_value self.old.holds register }
+        ensures allowed { IsAllowed (site_count self.old.registers) register result }
+        ensures value { Shows (known_value (own_lists end self.old) register) result }
         ensures edge { self.new ≡ edge_after_access (Read register result) self.old }
         ensures own { own_lists end self.new ≡ after_access (Read register result) (own_lists end self.old) }
         ensures other { own_lists (1 - end) self.new ≡ own_lists (1 - end) self.old }
@@ -108,13 +111,13 @@ impl PlainEdge {
         table.shared.load::<PlainRead>(&mut self.seat, word)
     }
 
-    /// Changes a register, for the end that has the edge. The contract alone speaks of
-    /// the end.
+    /// Changes a register, for the end that has the edge. The code does not need to know which
+    /// end it is; the contract does.
     pub(crate) fn write(&mut self, end: u32, register: u32, value: u64)
         requires end { end < 2 }
         requires register { register < self.old.registers }
         requires held { IsHeld (own_lists end self.old) }
-        requires value { IsAllowed (site_count self.old.registers) register value }
+        requires allowed { IsAllowed (site_count self.old.registers) register value }
         ensures edge { self.new ≡ edge_after_access (Write register value) self.old }
         ensures own { own_lists end self.new ≡ after_access (Write register value) (own_lists end self.old) }
         ensures other { own_lists (1 - end) self.new ≡ own_lists (1 - end) self.old }
@@ -127,8 +130,8 @@ impl PlainEdge {
             .store::<PlainWrite>(&mut self.seat, word, value);
     }
 
-    /// Gives the edge back, for the end that has it. The contract alone speaks of
-    /// the end.
+    /// Gives the edge back, for the end that has it. The code does not need to know which end
+    /// it is; the contract does.
     pub(crate) fn give(&mut self, end: u32)
         requires end { end < 2 }
         requires held { IsHeld (own_lists end self.old) }

@@ -49,7 +49,8 @@ impl<'a> SharedEnd<'a> {
     /// the edge of its number, and the passes are the tile's, in order of its edges.
     pub fn new(edges: &'a [Edge], passes: Vec<Pass>, tile: u32) -> SharedEnd<'a>
         requires { All (IsPassOf edges.now) passes.items }
-        ensures { (result.tile ≡ tile) × (result.passes ≡ passes.items) }
+        ensures tile { result.tile ≡ tile }
+        ensures passes { result.passes ≡ passes.items }
     {
         SharedEnd {
             edges,
@@ -74,15 +75,9 @@ impl<'a> SharedEnd<'a> {
 impl<'a> Board for SharedEnd<'a> {
     ghost use Rattle.std.specs.Prelude.{refl};
     ghost use Rattle.std.proofs.Common.{◌∙◌};
-    ghost use Rattle.edge_lock.specs.SharedEnds.{pass_registers, pass_end, pass_lists, SamePasses};
+    ghost use Rattle.edge_lock.specs.SharedEnds.{shared_end, SamePasses};
 
-    ghost tile = { λ s. s.tile };
-
-    ghost registers = { λ s. pass_registers s.passes };
-
-    ghost end_of = { λ s. pass_end s.passes };
-
-    ghost lists = { λ s. pass_lists s.passes };
+    ghost end = { shared_end };
 
     ghost moved = { SamePasses };
 

@@ -8,30 +8,24 @@ use Rattle.ulam_meaning.specs.Events.{behaves, failure, event_of, after}
 use Rattle.ulam_meaning.proofs.EventLaws.{no_element}
 use Rattle.stack_code.specs.Machine.{CodeValue, runs}
 use Rattle.code_gen.specs.Compiled.{element_code}
-use Rattle.code_gen.specs.Compiling.{IsCompilable, class_code, element_codes, AreShort}
+use Rattle.code_gen.specs.Compiling.{IsCompilable, IsElementClass, class_code, element_codes, AreShort}
 use Rattle.code_gen.specs.Drafts.{code_of}
 use Rattle.code_gen.specs.Means.{Means}
 use Rattle.code_gen.proofs.ElementCodes.{get_map, code_stands, no_code_stands}
 use Rattle.code_gen.proofs.ElementMeans.{element_means}
 use Rattle.code_gen.proofs.TypedBodies.{program_kinded}
 
--- a class that is an element
-pub record IsElement (ks : List t.Class) (c : ℕ) : Type 0 where
-  pub class : t.Class
-  pub stands : slice_get ks c ≡ Some class
-  pub acts : class.quark ≡ false
-
-element_at : (d : ℕ) (ks : List t.Class) (i c : ℕ) → slice_get (element_classes d ks) i ≡ Some c → (k : ℕ) × (c ≡ d + k) × IsElement ks k
+pub element_at : (d : ℕ) (ks : List t.Class) (i c : ℕ) → slice_get (element_classes d ks) i ≡ Some c → (k : ℕ) × (c ≡ d + k) × IsElementClass ks k
 element_at d [] i c h = absurd cc
 element_at d (x ∷ ks) i c h = by x.quark refl i h (λ j k. element_at (suc d) ks j c k)
   where
-    by : (b : Bool) → x.quark ≡ b → (i : ℕ) → slice_get (if b then element_classes (suc d) ks else d ∷ element_classes (suc d) ks) i ≡ Some c → ((j : ℕ) → slice_get (element_classes (suc d) ks) j ≡ Some c → (k : ℕ) × (c ≡ suc d + k) × IsElement ks k) → (k : ℕ) × (c ≡ d + k) × IsElement (x ∷ ks) k
+    by : (b : Bool) → x.quark ≡ b → (i : ℕ) → slice_get (if b then element_classes (suc d) ks else d ∷ element_classes (suc d) ks) i ≡ Some c → ((j : ℕ) → slice_get (element_classes (suc d) ks) j ≡ Some c → (k : ℕ) × (c ≡ suc d + k) × IsElementClass ks k) → (k : ℕ) × (c ≡ d + k) × IsElementClass (x ∷ ks) k
     by true q i h rest = let r = rest i h in (suc r.0, omega (arith, r.1), record { class = r.2.class; stands = r.2.stands; acts = r.2.acts })
     by false q zero h rest = let same : d ≡ c = cc in (0, omega (arith, same), record { class = x; stands = refl; acts = q })
     by false q (suc i) h rest = let r = rest i h in (suc r.0, omega (arith, r.1), record { class = r.2.class; stands = r.2.stands; acts = r.2.acts })
 
 -- the element of a type number
-is_element : (g : Program) (i c : ℕ) → element_of g (suc i) ≡ Some c → IsElement g.classes c
+is_element : (g : Program) (i c : ℕ) → element_of g (suc i) ≡ Some c → IsElementClass g.classes c
 unfolding element_of
 is_element g i c h =
     let r = element_at 0 g.classes i c h in

@@ -7,7 +7,7 @@ use Rattle.ulam_tree.specs.Resolved as r
 use Rattle.ulam_tree.specs.Typed as t
 use Rattle.ulam_names.specs.Scopes.{Head, Names, no_names, is_among, names_of, most_classes, most_members}
 use Rattle.ulam_names.specs.Classes.{Known, Half, half_field, half_function, HalfClass}
-use Rattle.ulam_names.specs.ClassRelation.{IsMember, AreMembers, AreKnown, AreItems, AreWhole, AreClasses, IsResolved}
+use Rattle.ulam_names.specs.ClassRelation.{IsMember, AreMembers, AreKnown, AreItems, own_class, AreWhole, AreClasses, IsResolved}
 use Rattle.ulam_types.specs.Scopes.{ClassSig}
 use Rattle.ulam_types.specs.Programs.{class_sig}
 use Rattle.ulam_types.specs.ProgramTyping.{AreTypedMembers, AreTypedClasses, IsTypedProgram}
@@ -97,7 +97,7 @@ items_slim known (raw.class c ∷ xs) hs h =
     let a = members_slim known no_names c.members h.0 h.2 (omega arith) in
     subst HalvesSlim (sym h.4) (omega (arith, a.0, a.1), items_slim known xs h.1 h.3)
 
-whole_count : (known : Known) (heads : List Head) (k : ℕ) (d : Names) (ms : List Half) (us : List r.Member) → AreWhole known heads k d ms us → field_count us ≡ half_fields ms
+whole_count : (known : Known) (heads : List Head) (k : ℕ) (d : Names) (ms : List Half) (us : List r.Member) → AreWhole (own_class known heads k d) ms us → field_count us ≡ half_fields ms
 whole_count known heads k d [] us h = ap field_count h
 whole_count known heads k d (half_field n w l ∷ ms) us h =
     ap field_count h.4 ∙ ap (λ (u : r.Member). field_count (u ∷ h.1)) h.2 ∙ ap (λ n. suc n) (whole_count known heads k d ms h.1 h.3)

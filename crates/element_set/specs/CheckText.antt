@@ -27,7 +27,7 @@ number_text Bits n = codes "Bits" ++ in_parens n
 number_text Unary n = codes "Unary" ++ in_parens n
 number_text Truth n = codes "Bool"
 
--- the name of the class of a number
+-- the name of a class, by its number
 abbrev pub class_name : List t.Class → ℕ → List ℕ
 class_name cs k = option_map_or (λ (c : t.Class). c.word.name) (slice_get cs k) []
 
@@ -42,6 +42,10 @@ abbrev pub length_text : ℕ → List ℕ
 length_text zero = []
 length_text (suc n) = codes "[" ++ (decimal (suc n) ++ codes "]")
 
+-- the type of a data member with its length
+abbrev pub whole_type : List t.Class → Ty → ℕ → List ℕ
+whole_type cs ty n = type_text cs ty ++ length_text n
+
 -- member NAME TYPE FIRST WIDTH
 abbrev pub member_line : List ℕ → List ℕ → ℕ → ℕ → List ℕ
 member_line name ty first width = codes "member " ++ (spaced name ++ (spaced ty ++ (spaced (decimal first) ++ (decimal width ++ codes "\n"))))
@@ -50,10 +54,10 @@ member_line name ty first width = codes "member " ++ (spaced name ++ (spaced ty 
 abbrev pub member_text : List ℕ → List ℕ → ℕ → ℕ → List ℕ
 member_text name ty first width = if width == 0 then [] else member_line name ty first width
 
--- the data members of the class of a number, from that of a number on
+-- the data members of class k from the one of number i on
 abbrev pub members_text : SetValue → ℕ → ℕ → List t.Member → List ℕ
 members_text s k i [] = []
-members_text s k i (field of w n ∷ ms) = member_text w.name (type_text s.classes of.ty ++ length_text n) (first_bit s.layout k i) (get_or (class_at s.layout k) i 0) ++ members_text s k (i + 1) ms
+members_text s k i (field of w n ∷ ms) = member_text w.name (whole_type s.classes of.ty n) (first_bit s.layout k i) (get_or (class_at s.layout k) i 0) ++ members_text s k (i + 1) ms
 members_text s k i (function of w ps b ∷ ms) = members_text s k i ms
 
 -- quark NAME BITS
@@ -68,11 +72,15 @@ element_line name number bits = codes "element " ++ (spaced name ++ (spaced (dec
 abbrev pub class_line : t.Class → ℕ → ℕ → List ℕ
 class_line c before bits = if c.quark then quark_line c.word.name bits else element_line c.word.name (before + 1) bits
 
--- a class by its number, with its data members
-abbrev pub class_text : SetValue → ℕ → t.Class → List ℕ
-class_text s k c = class_line c (length (names_in (take k s.classes))) (sum (class_at s.layout k)) ++ members_text s k 0 c.members
+-- a class by its number, with this many elements before it, and its data members
+abbrev pub class_after : SetValue → ℕ → ℕ → t.Class → List ℕ
+class_after s k before c = class_line c before (sum (class_at s.layout k)) ++ members_text s k 0 c.members
 
--- the classes from that of a number on
+-- a class by its number
+abbrev pub class_text : SetValue → ℕ → t.Class → List ℕ
+class_text s k c = class_after s k (length (names_in (take k s.classes))) c
+
+-- the classes from the one of number k on
 abbrev pub classes_text : SetValue → ℕ → List t.Class → List ℕ
 classes_text s k [] = []
 classes_text s k (c ∷ cs) = class_text s k c ++ classes_text s (k + 1) cs

@@ -6,7 +6,7 @@ use Rattle.code_gen.specs.Compiling.{element_codes}
 use Rattle.element_set.specs.Names.{names_in}
 use Rattle.element_set.specs.Value.{SetValue, program_of}
 
--- codes, each under its name, as far as both go
+-- the codes, each under its name, as many as there are of both
 abbrev pub codes_text : List (List ℕ) → List CodeValue → List ℕ
 codes_text [] cs = []
 codes_text (n ∷ ns) [] = []

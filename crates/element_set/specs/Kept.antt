@@ -15,19 +15,19 @@ set_view typed layout = record { classes = typed_program typed; layout = layout 
 abbrev pub set_of_lists : List Class → List (List ℕ) → SetValue
 set_of_lists classes layout = record { classes = map typed_class classes; layout = layout }
 
--- a layout has the bits of each data member of each class, of which there are not too many
+-- a layout has a number of bits for each data member of each class, and no class has too many data members
 pub record Fits (cs : List t.Class) (ls : List (List ℕ)) : Type 0 where
   pub rows : map length ls ≡ counts cs
   pub slim : AreSlim cs
 
--- the names of the elements, twice, and a layout that fits
+-- a set keeps the names of its elements twice, as a list and by number, and its layout fits
 pub record IsKept (s : SetValue) (names numbers : List (List ℕ)) : Type 0 where
   pub names_is : names ≡ names_in s.classes
   pub numbers_is : numbers ≡ names_in s.classes
   pub few : length s.classes ≤ most_classes
   pub fits : Fits s.classes s.layout
 
--- the compiler's rules hold of a set's program, and the limits let each element through
+-- a set's program is what the compiler needs, and the limits let the code of each element through
 pub record IsCompiled (s : SetValue) : Type 0 where
   pub compilable : IsCompilable (program_of s)
   pub short : AreShort (program_of s)

@@ -4,6 +4,7 @@ pub mod CodeText
 pub mod Faults
 pub mod Kept
 pub mod Names
+pub mod Printing
 pub mod Sets
 pub mod Stages
 pub mod Told

@@ -1,10 +1,15 @@
 -- The elements among classes, their names, and what the stage of names says of classes.
-use Rattle.std.specs.Prelude.{ℕ, suc, ◌≡◌, ◌≤◌, false, List, [], ◌∷◌, ◌++◌, length, map, flat_map, get_or, if◌then◌else◌}
+use Rattle.std.specs.Prelude.{ℕ, suc, ◌≡◌, ◌≤◌, false, List, [], ◌∷◌, ◌++◌, Vec, length, map, flat_map, get_or, if◌then◌else◌}
+use Rattle.std.specs.declared.alloc.Global.{Global}
 use Rattle.ulam_tree.specs.Statements.{Class, Member, field, function}
 use Rattle.ulam_tree.specs.Raw.{Item}
 use Rattle.ulam_tree.specs.Resolved as r
 use Rattle.ulam_names.specs.ClassRelation.{IsResolved}
 use Rattle.ulam_names.specs.Scopes.{is_among, most_classes, most_members}
+
+-- the name that a key of a set of names is
+abbrev pub key_name : Vec ℕ Global → List ℕ
+key_name key = key.items
 
 -- the name of a class that is an element
 abbrev pub element_name : {E A : Type 0} → Class E A → List (List ℕ)
@@ -18,7 +23,7 @@ names_in cs = flat_map element_name cs
 abbrev pub class_names : {E A : Type 0} → List (Class E A) → List (List ℕ)
 class_names {E = E} {A = A} cs = map (λ (c : Class E A). c.word.name) cs
 
--- no name is among those before it, or among some others
+-- each of these names is new: it is not among those before it, nor among those that are done
 abbrev pub AreNew : List (List ℕ) → List (List ℕ) → Type 0
 AreNew done [] = Unit {0}
 AreNew done (n ∷ ns) = (is_among n done ≡ false) × AreNew (done ++ n ∷ []) ns
@@ -43,7 +48,7 @@ pub record AreNamed {E A : Type 0} (cs : List (Class E A)) : Type 0 where
   pub new : AreNew [] (class_names cs)
   pub slim : AreSlim cs
 
--- classes to which the names of some files lead
+-- classes to which the items of some files are resolved
 pub record IsResolution (cs : List r.Class) : Type 0 where
   pub items : List Item
   pub is : IsResolved items cs

@@ -21,6 +21,13 @@ AcceptsFiles files s = set_of files (Ok s)
 abbrev pub RefusesFiles : List File → Refusal → Type 0
 RefusesFiles files r = set_of files (Err r)
 
+-- the files have a set, or a refusal
+abbrev pub HaveSet : List File → Type 0
+HaveSet files = (s : SetValue) × AcceptsFiles files s
+
+abbrev pub HaveRefusal : List File → Type 0
+HaveRefusal files = (r : Refusal) × RefusesFiles files r
+
 -- what contracts see of a set
 abbrev pub set_value : ElementSet → SetValue
 set_value s = set_view s.typed s.layout

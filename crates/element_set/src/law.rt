@@ -2,11 +2,11 @@
 ghost use Rattle.std.specs.Prelude.{◌≡◌, ◌⊎◌, List};
 ghost use Rattle.feast_base.specs.Outside.{File};
 ghost use Rattle.feast_base.specs.declared.place.Refusal.{Refusal};
-ghost use Rattle.element_set.specs.Sets.{SetValue, AcceptsFiles, RefusesFiles};
+ghost use Rattle.element_set.specs.Sets.{SetValue, AcceptsFiles, HaveRefusal, HaveSet, RefusesFiles};
 
 /// Files have a set or a refusal, and never two sets, or two refusals, or both.
 pub fn one_building()
-    ensures some { (files : List File) → ((s : SetValue) × AcceptsFiles files s) ⊎ ((r : Refusal) × RefusesFiles files r) }
+    ensures some { (files : List File) → HaveSet files ⊎ HaveRefusal files }
     ensures set { (files : List File) (a b : SetValue) → AcceptsFiles files a → AcceptsFiles files b → a ≡ b }
     ensures refusal { (files : List File) (a b : Refusal) → RefusesFiles files a → RefusesFiles files b → a ≡ b }
     ensures either { (files : List File) (s : SetValue) (r : Refusal) → AcceptsFiles files s → RefusesFiles files r → ⊥ }

@@ -1,5 +1,5 @@
 //! Names by their numbers.
-ghost use Rattle.std.specs.Prelude.{◌≡◌, ◌<◌, ◌≤◌, [], ◌∷◌, ◌++◌, suc, false, length, position, bytes_eq, option_map, OnOk, IfOk};
+ghost use Rattle.std.specs.Prelude.{◌≡◌, ◌<◌, ◌≤◌, [], ◌∷◌, ◌++◌, suc, length, position, bytes_eq, option_map, IsFalse, OnOk, IfOk};
 ghost use Rattle.element_set.specs.Names.{AreNew};
 ghost use Rattle.ulam_names.specs.Scopes.{is_among};
 
@@ -15,12 +15,12 @@ pub struct Numbers {
 }
 
 impl Model for Numbers {
-    ghost use Rattle.std.specs.Prelude.{List, ℕ, length, ◌≤◌};
-    ghost use Rattle.atom_layout.specs.Rows.{rows_of};
+    ghost use Rattle.std.specs.Prelude.{List, ℕ, length, map, ◌≤◌};
+    ghost use Rattle.element_set.specs.Names.{key_name};
 
     ghost Value = { List (List ℕ) };
 
-    ghost view = { λ n. rows_of n.set.keys };
+    ghost view = { λ n. map key_name n.set.keys };
 
     ghost invariant = { λ n. length n.set.keys ≤ 256 };
 }
@@ -49,7 +49,7 @@ impl Numbers {
     /// Adds a new name.
     #[tactic(auto, using(crate::proofs::Numbering::added_is))]
     fn add(&mut self, name: Vec<u8>) -> Result<(), NoMemory>
-        requires new { is_among name.items self.old ≡ false }
+        requires new { IsFalse (is_among name.items self.old) }
         requires room { length self.old < 256 }
         ensures { OnOk result (self.new ≡ self.old ++ name.items ∷ []) }
     {

@@ -1,10 +1,11 @@
 //! The text that shows the classes of a set with their data members.
-ghost use Rattle.std.specs.Prelude.{◌≡◌, ◌<◌, ◌≤◌, ◌+◌, ◌++◌, codes, decimal, length, map, sum, OnOk, OnErr};
+ghost use Rattle.std.specs.Prelude.{◌≡◌, ◌<◌, ◌≤◌, ◌+◌, ◌++◌, codes, decimal, length, map, OnOk, OnErr};
 ghost use Rattle.atom_layout.specs.Layouts.{class_at};
 ghost use Rattle.ulam_tree.specs.TypedViews.{typed_class, typed_member};
 ghost use Rattle.element_set.specs.CheckText as text;
 ghost use Rattle.element_set.specs.Kept.{Fits, set_of_lists};
 ghost use Rattle.element_set.specs.Names.{element_name, field_count};
+ghost use Rattle.element_set.specs.Printing.{Adds, class_with_fields, field_text, fields_text};
 ghost use Rattle.element_set.specs.Sets.{check_text, set_value};
 
 use crate::set::ElementSet;
@@ -16,7 +17,7 @@ use ulam_tree::typed::{Class, Member, Ty};
 
 /// Appends a word and a space.
 fn push_spaced(out: &mut Vec<u8>, word: &[u8]) -> Result<(), NoMemory>
-    ensures { OnOk result (out.new.items ≡ out.old.items ++ text.spaced word.now) }
+    ensures { Adds result out.old out.new (text.spaced word.now) }
 {
     push(out, word)?;
     push(out, b" ")
@@ -24,7 +25,7 @@ fn push_spaced(out: &mut Vec<u8>, word: &[u8]) -> Result<(), NoMemory>
 
 /// Appends a number and a space.
 fn push_number_spaced(out: &mut Vec<u8>, n: u32) -> Result<(), NoMemory>
-    ensures { OnOk result (out.new.items ≡ out.old.items ++ text.spaced (decimal n)) }
+    ensures { Adds result out.old out.new (text.spaced (decimal n)) }
 {
     push_number(out, u64::from(n))?;
     push(out, b" ")
@@ -32,7 +33,7 @@ fn push_number_spaced(out: &mut Vec<u8>, n: u32) -> Result<(), NoMemory>
 
 /// Appends a number and an LF.
 fn push_last(out: &mut Vec<u8>, n: u32) -> Result<(), NoMemory>
-    ensures { OnOk result (out.new.items ≡ out.old.items ++ (decimal n ++ codes "\n")) }
+    ensures { Adds result out.old out.new (decimal n ++ codes "\n") }
 {
     push_number(out, u64::from(n))?;
     push(out, b"\n")
@@ -40,7 +41,7 @@ fn push_last(out: &mut Vec<u8>, n: u32) -> Result<(), NoMemory>
 
 /// Appends the word of a number type and its width in brackets.
 fn push_sized(out: &mut Vec<u8>, word: &[u8], width: u8) -> Result<(), NoMemory>
-    ensures { OnOk result (out.new.items ≡ out.old.items ++ (word.now ++ text.in_parens width)) }
+    ensures { Adds result out.old out.new (word.now ++ text.in_parens width) }
 {
     push(out, word)?;
     push(out, b"(")?;
@@ -50,7 +51,7 @@ fn push_sized(out: &mut Vec<u8>, word: &[u8], width: u8) -> Result<(), NoMemory>
 
 /// Appends a number type.
 fn push_num(out: &mut Vec<u8>, num: NumType) -> Result<(), NoMemory>
-    ensures { OnOk result (out.new.items ≡ out.old.items ++ text.number_text num.kind num.width) }
+    ensures { Adds result out.old out.new (text.number_text num.kind num.width) }
 {
     match num.kind {
         Kind::Int => push_sized(out, b"Int", num.width),
@@ -63,7 +64,7 @@ fn push_num(out: &mut Vec<u8>, num: NumType) -> Result<(), NoMemory>
 
 /// Appends the name of the class of a number.
 fn push_class_name(out: &mut Vec<u8>, classes: &[Class], number: u32) -> Result<(), NoMemory>
-    ensures { OnOk result (out.new.items ≡ out.old.items ++ text.class_name (map typed_class classes.now) number) }
+    ensures { Adds result out.old out.new (text.class_name (map typed_class classes.now) number) }
 {
     match classes.get(number as usize) {
         Some(class) => push(out, class.word.name.bytes()),
@@ -73,7 +74,7 @@ fn push_class_name(out: &mut Vec<u8>, classes: &[Class], number: u32) -> Result<
 
 /// Appends the type of a data member.
 fn push_type(out: &mut Vec<u8>, classes: &[Class], ty: Ty) -> Result<(), NoMemory>
-    ensures { OnOk result (out.new.items ≡ out.old.items ++ text.type_text (map typed_class classes.now) ty) }
+    ensures { Adds result out.old out.new (text.type_text (map typed_class classes.now) ty) }
 {
     match ty {
         Ty::Num { num } => push_num(out, num),
@@ -84,7 +85,7 @@ fn push_type(out: &mut Vec<u8>, classes: &[Class], ty: Ty) -> Result<(), NoMemor
 
 /// Appends the length of an array in square brackets.
 fn push_length(out: &mut Vec<u8>, length: u32) -> Result<(), NoMemory>
-    ensures { OnOk result (out.new.items ≡ out.old.items ++ text.length_text length) }
+    ensures { Adds result out.old out.new (text.length_text length) }
 {
     if length == 0 {
         return Ok(());
@@ -101,7 +102,7 @@ fn push_whole_type(
     ty: Ty,
     length: u32,
 ) -> Result<(), NoMemory>
-    ensures { OnOk result (out.new.items ≡ out.old.items ++ text.spaced (text.type_text (map typed_class classes.now) ty ++ text.length_text length)) }
+    ensures { Adds result out.old out.new (text.spaced (text.whole_type (map typed_class classes.now) ty length)) }
 {
     push_type(out, classes, ty)?;
     push_length(out, length)?;
@@ -124,7 +125,7 @@ fn push_field(
     length: u32,
     span: Span,
 ) -> Result<(), NoMemory>
-    ensures { OnOk result (out.new.items ≡ out.old.items ++ text.member_text name.now (text.type_text (map typed_class classes.now) ty ++ text.length_text length) span.first span.width) }
+    ensures { Adds result out.old out.new (field_text classes.now name.now ty length span) }
 {
     if span.width == 0 {
         return Ok(());
@@ -147,7 +148,7 @@ fn push_members(
     requires class { own < length layout.now }
     requires fits { field_count (map typed_member members.now) ≤ length (class_at layout.now own) }
     requires few { field_count (map typed_member members.now) ≤ 64 }
-    ensures { OnOk result (out.new.items ≡ out.old.items ++ text.members_text (set_of_lists classes.now layout.now) own 0 (map typed_member members.now)) }
+    ensures { Adds result out.old out.new (fields_text classes.now layout.now own members.now) }
 {
     let mut at: u32 = 0;
     for member in members {
@@ -165,7 +166,7 @@ fn push_members(
 
 /// Appends the line of a quark.
 fn push_quark(out: &mut Vec<u8>, name: &[u8], bits: u32) -> Result<(), NoMemory>
-    ensures { OnOk result (out.new.items ≡ out.old.items ++ text.quark_line name.now bits) }
+    ensures { Adds result out.old out.new (text.quark_line name.now bits) }
 {
     push(out, b"quark ")?;
     push_spaced(out, name)?;
@@ -174,7 +175,7 @@ fn push_quark(out: &mut Vec<u8>, name: &[u8], bits: u32) -> Result<(), NoMemory>
 
 /// Appends the line of an element.
 fn push_element(out: &mut Vec<u8>, name: &[u8], number: u32, bits: u32) -> Result<(), NoMemory>
-    ensures { OnOk result (out.new.items ≡ out.old.items ++ text.element_line name.now number bits) }
+    ensures { Adds result out.old out.new (text.element_line name.now number bits) }
 {
     push(out, b"element ")?;
     push_spaced(out, name)?;
@@ -185,7 +186,7 @@ fn push_element(out: &mut Vec<u8>, name: &[u8], number: u32, bits: u32) -> Resul
 /// Appends the line of a class, with this many elements before it.
 fn push_head(out: &mut Vec<u8>, class: &Class, before: u32, bits: u32) -> Result<(), NoMemory>
     requires { before ≤ 256 }
-    ensures { OnOk result (out.new.items ≡ out.old.items ++ text.class_line (typed_class class.now) before bits) }
+    ensures { Adds result out.old out.new (text.class_line (typed_class class.now) before bits) }
 {
     let name = class.word.name.bytes();
     if class.quark {
@@ -208,7 +209,7 @@ fn push_class(
     requires fits { field_count (typed_class class.now).members ≤ length (class_at layout.now own) }
     requires few { field_count (typed_class class.now).members ≤ 64 }
     requires before { before ≤ 256 }
-    ensures { OnOk result (out.new.items ≡ out.old.items ++ (text.class_line (typed_class class.now) before (sum (class_at layout.now own)) ++ text.members_text (set_of_lists classes.now layout.now) own 0 (typed_class class.now).members)) }
+    ensures { Adds result out.old out.new (class_with_fields classes.now layout.now own before class.now) }
 {
     push_head(out, class, before, layout.bits(own))?;
     push_members(out, classes, layout, own, class.members.as_slice())
@@ -226,7 +227,7 @@ fn with_class(class: &Class, before: u32) -> u32
 fn push_classes(out: &mut Vec<u8>, classes: &[Class], layout: &Layout) -> Result<(), NoMemory>
     requires few { length classes.now ≤ 256 }
     requires fits { Fits (map typed_class classes.now) layout.now }
-    ensures { OnOk result (out.new.items ≡ out.old.items ++ check_text (set_of_lists classes.now layout.now)) }
+    ensures { Adds result out.old out.new (check_text (set_of_lists classes.now layout.now)) }
 {
     let mut own: u32 = 0;
     let mut before: u32 = 0;

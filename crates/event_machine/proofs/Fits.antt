@@ -1,6 +1,6 @@
 -- Arguments that fit, and numbers in their range.
-use Rattle.std.proofs.Common.{◌≡◌, ℕ, suc, ◌+◌, ◌-◌, ◌*◌, ◌^◌, ◌<◌, ◌≤◌, true, false, arith, ℤ, pos, negsuc, suc-mul}
-use Rattle.std.specs.Prelude.{nat_le, if◌then◌else◌}
+use Rattle.std.proofs.Common.{◌≡◌, ℕ, suc, ◌+◌, ◌-◌, ◌*◌, ◌^◌, ◌<◌, ◌≤◌, true, false, refl, arith, ℤ, pos, negsuc, suc-mul}
+use Rattle.std.specs.Prelude.{nat_le, Bool, ◌&&◌}
 use Rattle.std.proofs.lemmas.Bool.{leb-true, ltb-true}
 use Rattle.std.proofs.lemmas.Int.{ints}
 use Rattle.std.proofs.Math.Nat.{pow-le-pow_right, mul-le-mul_right}
@@ -12,14 +12,16 @@ use Rattle.sat_math.specs.declared.Arith.TheVariants.{Int32, Unsigned32, Int64, 
 use Rattle.sat_math.specs.Numbers.{IsNumType, IsNumber, IsInRange, least_width, greatest_width}
 use Rattle.sat_math.specs.Operations.{type_of}
 use Rattle.stack_code.specs.Valid.{type_fits, field_fits, number_fits}
-use Rattle.stack_code.proofs.Passes.{if_true}
 use Rattle.event_machine.specs.Works.{FieldFits}
 
 -- a type that fits is a type
 pub type_is : (t : NumType) → type_fits t ≡ true → IsNumType t
-type_is t e =
-    let b = if_true (nat_le (least_width t.kind) t.width) (nat_le t.width (greatest_width t.kind)) e in
-    record { wide_enough = leb-true (least_width t.kind) t.width b.0; narrow_enough = leb-true t.width (greatest_width t.kind) b.1 }
+type_is t = by (nat_le (least_width t.kind) t.width) (nat_le t.width (greatest_width t.kind)) refl refl
+  where
+    by : (a b : Bool) → nat_le (least_width t.kind) t.width ≡ a → nat_le t.width (greatest_width t.kind) ≡ b → (a && b) ≡ true → IsNumType t
+    by true true low high e = record { wide_enough = leb-true (least_width t.kind) t.width low; narrow_enough = leb-true t.width (greatest_width t.kind) high }
+    by true false low high e = absurd cc
+    by false b low high e = absurd cc
 
 pub type_narrow : (t : NumType) → IsNumType t → t.width ≤ 64
 type_narrow t h = narrow_at t.kind t.width h
@@ -42,10 +44,13 @@ type_some t h = some_at t.kind t.width h
     some_at Unary n h = h.wide_enough
 
 pub field_is : (f : ℕ) (t : NumType) (n : ℕ) → field_fits f t n ≡ true → FieldFits f t n
-field_is f t n e =
-    let b = if_true (type_fits t) (if nat_le 1 n then nat_le (f + n * t.width) 71 else false) e in
-    let d = if_true (nat_le 1 n) (nat_le (f + n * t.width) 71) b.1 in
-    record { type = type_is t b.0; some = leb-true 1 n d.0; within = leb-true (f + n * t.width) 71 d.1 }
+field_is f t n = by (type_fits t) (nat_le 1 n) (nat_le (f + n * t.width) 71) refl refl refl
+  where
+    by : (a b c : Bool) → type_fits t ≡ a → nat_le 1 n ≡ b → nat_le (f + n * t.width) 71 ≡ c → (a && b && c) ≡ true → FieldFits f t n
+    by true true true typed some within e = record { type = type_is t typed; some = leb-true 1 n some; within = leb-true (f + n * t.width) 71 within }
+    by true true false typed some within e = absurd cc
+    by true false c typed some within e = absurd cc
+    by false b c typed some within e = absurd cc
 
 range_at : (k : Kind) (n : ℕ) (v : ℤ) → IsNumType (record { kind = k; width = n }) → IsInRange (record { kind = k; width = n }) v → IsNumber v
 range_at Int n v h r =

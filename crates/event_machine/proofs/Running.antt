@@ -6,7 +6,7 @@ use Rattle.stack_code.proofs.Typed.{CodeFine, Typed, Next, NextLed, measure, ste
 use Rattle.stack_code.proofs.Bound.{measure_some, starts}
 use Rattle.feast_base.specs.Counting.{Counted}
 use Rattle.event_machine.specs.Ticks.{IsTick, Ticks}
-use Rattle.event_machine.specs.Works.{StepsTo, Ready, Ran, Started}
+use Rattle.event_machine.specs.Works.{StepsTo, Ready, counting, Ran, Started}
 use Rattle.event_machine.specs.declared.ending.Leads.TheVariants.{On, Fail, Done, Lack}
 use Rattle.event_machine.specs.declared.ending.Ended.TheVariants.{Done as DoneEnd, Failed}
 
@@ -108,14 +108,14 @@ module _ {L : Type 0} (noted : L → L → Type 0) (c : CodeValue) (s now new : 
       let x : Ticks noted (suc r.k) n m1 = (m, r.ticks, t) in
       subst (λ j. Ticks noted j n m1) d x
 
-  pub ran_failed : (m1 : Counted L) → IsTick noted m m1 → (k : ℕ) → StepsTo (step c now) new (Fail k) → Ran noted c s new (Failed k) n m1
+  pub ran_failed : (m1 : Counted L) → IsTick noted m m1 → (k : ℕ) → StepsTo (step c now) new (Fail k) → Ran noted c (counting s n) (counting new m1) (Failed k)
   unfolding iter count
   ran_failed m1 t k h =
       let e = fails_is (step c now) new k h in
       let a : count c (1001 * length c.instrs) s ≡ r.k + 1 = ap (λ i. count c i s) whole ∙ r.counted (suc left) ∙ ap (λ l. r.k + one_more (count c left) l) e in
       (ap (λ i. iter c i s) whole ∙ r.later (suc left) ∙ ap (λ l. and_then l (iter c left)) e, all_ticks m1 t a)
 
-  pub ran_done : (m1 : Counted L) → IsTick noted m m1 → StepsTo (step c now) new Done → Ran noted c s new DoneEnd n m1
+  pub ran_done : (m1 : Counted L) → IsTick noted m m1 → StepsTo (step c now) new Done → Ran noted c (counting s n) (counting new m1) DoneEnd
   unfolding iter count
   ran_done m1 t h =
       let e = ends_is (step c now) new h in

@@ -11,7 +11,7 @@ use Rattle.stack_code.proofs.Bound.{starts, runs_well}
 use Rattle.stack_code.proofs.Kept.{Kept, KeptState, iter_kept, emptied_kept}
 use Rattle.feast_base.specs.Counting.{Counted}
 use Rattle.event_machine.specs.Ticks.{Ticks}
-use Rattle.event_machine.specs.Works.{Ran, FunctionsFit, window_after}
+use Rattle.event_machine.specs.Works.{counting, Ran, FunctionsFit, window_after}
 use Rattle.event_machine.specs.Endings.{number_of, IsEnding}
 use Rattle.event_machine.specs.declared.ending.Ended.{Ended}
 use Rattle.event_machine.specs.declared.ending.Ended.TheVariants.{Done as DoneEnd, Failed}
@@ -51,31 +51,30 @@ start_window w seed None = refl
 start_window w seed (Some g) = refl
 
 module _ {L : Type 0} (noted : L → L → Type 0) (c : CodeValue) (w : WindowValue) (seed : ℕ) (s new : State) (n m : Counted L) where
-  pub over_is : (r : Ended) → s ≡ start c w seed → Ran noted c s new r n m → (runs c w seed).over ≡ Some (window_after w new r, number_of r)
+  pub over_is : (r : Ended) → s ≡ start c w seed → Ran noted c (counting s n) (counting new m) r → (runs c w seed).over ≡ Some (window_after w new r, number_of r)
   unfolding runs
   over_is DoneEnd e h = ap (ending w) (ap (iter c (1001 * length c.instrs)) (sym e) ∙ h.0)
   over_is (Failed k) e h = ap (ending w) (ap (iter c (1001 * length c.instrs)) (sym e) ∙ h.0)
 
-  ticked : (r : Ended) → Ran noted c s new r n m → Ticks noted (count c (1001 * length c.instrs) s) n m
-  ticked DoneEnd h = h.1
-  ticked (Failed k) h = h.1
+  ticked : (r : Ended) → Ran noted c (counting s n) (counting new m) r → Ticks noted (count c (1001 * length c.instrs) s) n m
+  ticked r h = h.1
 
-  pub ticks_are : (r : Ended) → s ≡ start c w seed → Ran noted c s new r n m → Ticks noted (runs c w seed).count n m
+  pub ticks_are : (r : Ended) → s ≡ start c w seed → Ran noted c (counting s n) (counting new m) r → Ticks noted (runs c w seed).count n m
   unfolding runs
   ticks_are r e h = subst (λ t. Ticks noted (count c (1001 * length c.instrs) t) n m) e (ticked r h)
 
-  ran_some : (r : Ended) → Ran noted c s new r n m → 1 ≤ count c (1001 * length c.instrs) s
+  ran_some : (r : Ended) → Ran noted c (counting s n) (counting new m) r → 1 ≤ count c (1001 * length c.instrs) s
   ran_some DoneEnd h = over_some c (1001 * length c.instrs) s (Ends new.held.window) h.0 tt
   ran_some (Failed k) h = over_some c (1001 * length c.instrs) s (Fails k) h.0 tt
 
-  pub count_is : (r : Ended) → s ≡ start c w seed → Ran noted c s new r n m → m.count ≡ min (n.count + (runs c w seed).count) (2 ^ 64 - 1)
+  pub count_is : (r : Ended) → s ≡ start c w seed → Ran noted c (counting s n) (counting new m) r → m.count ≡ min (n.count + (runs c w seed).count) (2 ^ 64 - 1)
   unfolding runs
   count_is r e h =
       let some = subst (λ t. 1 ≤ count c (1001 * length c.instrs) t) e (ran_some r h) in
       counted_some noted (count c (1001 * length c.instrs) (start c w seed)) n m some (ticks_are r e h)
 
   -- what an event keeps of its window
-  pub kept_is : (r : Ended) → live_at w 0 ≡ true → s ≡ start c w seed → Ran noted c s new r n m → Kept w (window_after w new r)
+  pub kept_is : (r : Ended) → live_at w 0 ≡ true → s ≡ start c w seed → Ran noted c (counting s n) (counting new m) r → Kept w (window_after w new r)
   kept_is DoneEnd live e h =
       let i : iter c (1001 * length c.instrs) (start c w seed) ≡ Ends new.held.window = ap (iter c (1001 * length c.instrs)) (sym e) ∙ h.0 in
       let k = iter_kept c (1001 * length c.instrs) (start c w seed) in
@@ -84,7 +83,7 @@ module _ {L : Type 0} (noted : L → L → Type 0) (c : CodeValue) (w : WindowVa
   kept_is (Failed k) live e h = emptied_kept w live
 
   -- failures have numbers from 1 to 7
-  pub ending_is : (r : Ended) → s ≡ start c w seed → Ran noted c s new r n m → IsEnding r
+  pub ending_is : (r : Ended) → s ≡ start c w seed → Ran noted c (counting s n) (counting new m) r → IsEnding r
   ending_is DoneEnd e h = tt
   ending_is (Failed k) e h =
       let i : iter c (1001 * length c.instrs) (start c w seed) ≡ Fails k = ap (iter c (1001 * length c.instrs)) (sym e) ∙ h.0 in

@@ -15,7 +15,7 @@ use Rattle.stack_code.specs.declared.instr.Instr.{Instr}
 use Rattle.event_machine.specs.declared.ending.Ended.{Ended}
 use Rattle.event_machine.specs.declared.ending.Ended.TheVariants.{Done as DoneEnd, Failed}
 
--- the code's answer and the new values are those of the definition
+-- The code's answer and the new values are those of the definition: it goes on, fails with the same number, or lacks an operand.
 abbrev pub Works : Led Held → Held → Leads → Type 0
 Works (Goes h) new On = h ≡ new
 Works (Goes h) new (Fail n) = ⊥
@@ -31,7 +31,7 @@ Works Lacks new (Fail n) = ⊥
 Works Lacks new Done = ⊥
 Works Lacks new Lack = Unit {0}
 
--- the same for a whole machine
+-- the same of a whole machine, which may also come to its end
 abbrev pub StepsTo : Led State → State → Leads → Type 0
 StepsTo (Goes s) new On = s ≡ new
 StepsTo (Goes s) new (Fail n) = ⊥
@@ -50,7 +50,7 @@ StepsTo Lacks new (Fail n) = ⊥
 StepsTo Lacks new Done = ⊥
 StepsTo Lacks new Lack = Unit {0}
 
--- what goes on with operands that were found
+-- what goes on with the operand that the code popped, if it popped one
 abbrev pub with_any : Option Datum → List Datum → (Datum → List Datum → Led Held) → Led Held
 with_any None s go = Lacks
 with_any (Some x) s go = go x s
@@ -71,12 +71,12 @@ abbrev pub with_atom : Option AtomValue → List Datum → (AtomValue → List D
 with_atom None s go = Lacks
 with_atom (Some a) s go = go a s
 
--- what goes on with a site or an index, or fails
+-- what goes on with the site or the index that the code found, or this failure
 abbrev pub with_place : ℕ → Option ℕ → (ℕ → Led Held) → Led Held
 with_place m None go = Fails m
 with_place m (Some n) go = go n
 
--- a field of a type, or so many one after another, that lies in an atom
+-- n fields of a type one after another, from bit f on, which lie in an atom's state
 pub record FieldFits (f : ℕ) (t : NumType) (n : ℕ) : Type 0 where
   pub type : IsNumType t
   pub some : 1 ≤ n
@@ -89,6 +89,7 @@ pub record Ready (c : CodeValue) (s : State) : Type 0 where
   pub functions : (f : ℕ) (g : FunctionValue) → slice_get c.functions f ≡ Some g → (g.params ≤ length g.slots) × (length g.slots ≤ 72)
   pub place : s.place < 65536
 
+-- the datum in a list, if there is one
 abbrev pub as_list : Option Datum → List Datum
 as_list None = []
 as_list (Some x) = x ∷ []
@@ -97,10 +98,22 @@ as_list (Some x) = x ∷ []
 abbrev pub FunctionsFit : CodeValue → Type 0
 FunctionsFit c = (f : ℕ) (g : FunctionValue) → slice_get c.functions f ≡ Some g → (g.params ≤ length g.slots) × (length g.slots ≤ 72)
 
--- a run that began at this machine is over: how, and after which steps
-abbrev pub Ran : {L : Type 0} → (L → L → Type 0) → CodeValue → State → State → Ended → Counted L → Counted L → Type 0
-Ran noted c s new DoneEnd before after = (iter c (1001 * length c.instrs) s ≡ Ends new.held.window) × Ticks noted (count c (1001 * length c.instrs) s) before after
-Ran noted c s new (Failed k) before after = (iter c (1001 * length c.instrs) s ≡ Fails k) × Ticks noted (count c (1001 * length c.instrs) s) before after
+-- a machine, and the steps that were counted so far
+pub record Counting (L : Type 0) : Type 0 where
+  pub machine : State
+  pub steps : Counted L
+
+abbrev pub counting : {L : Type 0} → State → Counted L → Counting L
+counting s n = record { machine = s; steps = n }
+
+-- what a run leads to is this ending: the end, with the window of this machine, or a failure
+abbrev pub EndsSo : Led State → State → Ended → Type 0
+EndsSo l new DoneEnd = l ≡ Ends new.held.window
+EndsSo l new (Failed k) = l ≡ Fails k
+
+-- a run of the code is over: it ended so, and each of its steps was counted, and noted once
+abbrev pub Ran : {L : Type 0} → (L → L → Type 0) → CodeValue → Counting L → Counting L → Ended → Type 0
+Ran noted c old new r = EndsSo (iter c (1001 * length c.instrs) old.machine) new.machine r × Ticks noted (count c (1001 * length c.instrs) old.machine) old.steps new.steps
 
 -- a machine at the start of valid code
 pub record Started (c : CodeValue) (s : State) : Type 0 where

@@ -1,6 +1,6 @@
 //! The table of plain instructions: what the machine does for each, by its shape.
 
-ghost use Rattle.std.specs.Prelude.{◌≡◌, ◌≤◌, length, true};
+ghost use Rattle.std.specs.Prelude.{◌≤◌, length, IsTrue};
 ghost use Rattle.stack_code.specs.Machine.{work};
 ghost use Rattle.stack_code.specs.Sorts.{sort};
 ghost use Rattle.stack_code.specs.Valid.{args_fit};
@@ -20,7 +20,7 @@ use stack_code::{BinaryOp, Instr, UnaryOp};
 #[inline(always)]
 #[tactic(auto, using(crate::proofs::Fits::field_is, crate::proofs::Fits::number_is))]
 pub fn plain(running: &mut Activation, kind: u16, i: &Instr) -> Leads
-    requires fits { args_fit i.now ≡ true }
+    requires fits { IsTrue (args_fit i.now) }
     requires room { length running.old.stack ≤ 512 }
     ensures { Works (work kind (sort i.now) running.old) running.new result }
 {

@@ -1,8 +1,7 @@
 //! The frames of waiting functions, and how a function begins and returns.
 
-ghost use Rattle.std.specs.Prelude.{◌≡◌, ◌≤◌, ◌+◌, ◌++◌, [], length, map, take, drop, reverse, vec_len, vec_capacity};
-ghost use Rattle.stack_code.specs.Machine.{fill, fresh};
-ghost use Rattle.draw_stream.specs.Words.{event_state};
+ghost use Rattle.std.specs.Prelude.{◌≡◌, ◌≤◌, ◌+◌, ◌++◌, [], length, map, vec_len, vec_capacity};
+ghost use Rattle.stack_code.specs.Machine.{callee_held, caller_frame, fill, first_held};
 
 use crate::activation::Activation;
 use crate::operands::{OperandStack, reserve};
@@ -82,8 +81,8 @@ impl Activation {
         requires slots { function.now.params ≤ length function.now.slots }
         requires few { length function.now.slots ≤ 72 }
         requires room { length self.old.stack ≤ 512 }
-        ensures begun { self.new ≡ record self.old { stack = []; slots = fresh (reverse (take function.now.params self.old.stack)) function.now.slots } }
-        ensures waits { frame.new ≡ record { place = place; stack = drop function.now.params self.old.stack; slots = self.old.slots } }
+        ensures begun { self.new ≡ callee_held function.now self.old }
+        ensures waits { frame.new ≡ caller_frame function.now place self.old }
     {
         let params = function.params() as usize;
         frame.operands.clear();
@@ -108,7 +107,7 @@ impl Activation {
     /// Begins an event with slots of these kinds.
     pub fn begin(&mut self, slots: &[Operand], window: &Window, seed: u64)
         requires { length slots.now ≤ 72 }
-        ensures { self.new ≡ record { stack = []; slots = map fill slots.now; window = window.now; words = event_state seed 0 } }
+        ensures { self.new ≡ first_held slots.now window.now seed }
     {
         self.operands.clear();
         self.slots.clear();

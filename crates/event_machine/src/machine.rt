@@ -1,11 +1,11 @@
 //! The machine: the running function and the functions that wait.
 
-ghost use Rattle.std.specs.Prelude.{◌≡◌, ◌<◌, ◌≤◌, ◌+◌, ◌*◌, ◌^◌, ℕ, length, ◌-◌, min, true, false, IfOk, vec_len, vec_capacity, Some};
+ghost use Rattle.std.specs.Prelude.{◌≡◌, ◌<◌, ◌≤◌, ◌+◌, ◌*◌, ◌^◌, ℕ, length, ◌-◌, min, false, IsTrue, IfOk, vec_len, vec_capacity, Some};
 ghost use Rattle.window_sites.specs.Window.{live_at, atom_at};
 ghost use Rattle.stack_code.specs.Machine.{CodeValue, step, go_by, back, enter, onward, work, start, runs};
 ghost use Rattle.stack_code.specs.Sorts.{sort, GotoFalse, Take};
 ghost use Rattle.stack_code.specs.Valid.{args_fit};
-ghost use Rattle.event_machine.specs.Works.{StepsTo, Ready, FunctionsFit, as_list, Started, Ran, window_after};
+ghost use Rattle.event_machine.specs.Works.{StepsTo, Ready, FunctionsFit, as_list, Started, counting, Ran, window_after};
 ghost use Rattle.event_machine.specs.Endings.{number_of, IsEnding};
 ghost use Rattle.event_machine.specs.Ticks.{Ticks};
 
@@ -177,7 +177,7 @@ impl Machine {
     /// Does a plain instruction and continues at the next place.
     #[inline(always)]
     fn onward(&mut self, kind: u16, i: &Instr) -> Leads
-        requires fits { args_fit i.now ≡ true }
+        requires fits { IsTrue (args_fit i.now) }
         requires room { length self.old.held.stack ≤ 512 }
         requires place { self.old.place + 1 < 2 ^ 64 }
         ensures { StepsTo (onward self.old (work kind (sort i.now) self.old.held)) self.new result }
@@ -192,7 +192,7 @@ impl Machine {
     /// Does an instruction.
     #[inline(always)]
     fn perform(&mut self, code: &Code, i: &Instr) -> Leads
-        requires fits { args_fit i.now ≡ true }
+        requires fits { IsTrue (args_fit i.now) }
         requires room { length self.old.held.stack ≤ 512 }
         requires place { self.old.place + 1 < 2 ^ 64 }
         requires functions { FunctionsFit code.now }
@@ -249,7 +249,7 @@ impl Machine {
     /// Runs valid code from its start.
     fn run<L: Ledger>(&mut self, code: &Code, steps: &mut Steps<L>) -> Ended
         requires { Started code.now self.old }
-        ensures { Ran L.noted code.now self.old self.new result steps.old steps.new }
+        ensures { Ran L.noted code.now (counting self.old steps.old) (counting self.new steps.new) result }
     {
         let instrs = code.instrs();
         loop {

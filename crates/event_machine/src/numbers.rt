@@ -1,15 +1,15 @@
 //! What operators give, and numbers as sites, indices, bounds and fields of atoms.
 
-ghost use Rattle.std.specs.Prelude.{◌≡◌, ℕ, ℤ, pos, ◌<◌, ◌^◌, true, Option, IfSome, ◌≤◌, int_div, int_rem};
+ghost use Rattle.std.specs.Prelude.{◌≡◌, ℕ, pos, ◌<◌, IsTrue, IfSome, ◌≤◌, int_div, int_rem};
 ghost use Rattle.datum.specs.Fields.{get_field};
-ghost use Rattle.sat_math.specs.Operations.{of_bool, is_zero, low64, shifted_up, shifted_down};
+ghost use Rattle.sat_math.specs.Operations.{of_bool, low64, shifted_up, shifted_down};
 ghost use Rattle.sat_math.specs.declared.Kind.TheVariants.{Bits};
 ghost use Rattle.sat_math.specs.Numbers.{modulo, IsNumber};
 ghost use Rattle.bit_field.specs.Words.{with_field};
 ghost use Rattle.bit_field.specs.Atom.{AtomValue};
 ghost use Rattle.stack_code.specs.Sorts.{divided, flip, num_type};
 ghost use Rattle.stack_code.specs.Machine.{Led, Held, at_site, at_index, at_bound, kept};
-ghost use Rattle.stack_code.specs.Valid.{field_fits, type_fits};
+ghost use Rattle.stack_code.specs.Valid.{type_fits};
 ghost use Rattle.stack_code.specs.Shapes.{binary_of, BinaryFits, unary_of, UnaryFits};
 ghost use Rattle.event_machine.specs.Works.{FieldFits, with_place};
 
@@ -74,7 +74,7 @@ fn remainder(how: Arith, a: i128, b: i128) -> Option<Number>
 /// The bits shifted left by a count; the low `width` bits are kept. A negative count gives 0.
 #[inline(always)]
 fn shifted_up(width: u8, a: i128, b: i128) -> Number
-    requires fits { type_fits (num_type Bits width) ≡ true }
+    requires fits { IsTrue (type_fits (num_type Bits width)) }
     requires count { IsNumber b }
     ensures { Some result ≡ shifted_up width a b }
 {
@@ -141,7 +141,7 @@ pub fn apply_one(op: UnaryOp, a: Number) -> Number
 #[inline(always)]
 #[tactic(auto, using(crate::proofs::Fits::type_is))]
 fn flipped(width: u8, a: i128) -> Number
-    requires { type_fits (num_type Bits width) ≡ true }
+    requires { IsTrue (type_fits (num_type Bits width)) }
     ensures { result ≡ flip width a }
 {
     of_word(sat_math::not(width, low64(a)))

@@ -1,6 +1,6 @@
 //! The plain instructions on numbers, slots and sites: a function for each shape.
 
-ghost use Rattle.std.specs.Prelude.{◌≡◌, ◌≤◌, ℕ, length, pos, true};
+ghost use Rattle.std.specs.Prelude.{◌≤◌, ℕ, length, pos, IsTrue};
 ghost use Rattle.sat_math.specs.Numbers.{cast};
 ghost use Rattle.sat_math.specs.Operations.{one_in};
 ghost use Rattle.window_sites.specs.Window.{live_at, is_empty_at};
@@ -46,7 +46,7 @@ pub fn one(running: &mut Activation, op: UnaryOp) -> Leads
 /// Converts a number to a type.
 #[inline(always)]
 pub fn fit(running: &mut Activation, of: Kind, width: u8) -> Leads
-    requires fits { type_fits (num_type of width) ≡ true }
+    requires fits { IsTrue (type_fits (num_type of width)) }
     requires room { length running.old.stack ≤ 512 }
     ensures { (kind : ℕ) → Works (work kind (One (cast (num_type of width))) running.old) running.new result }
 {

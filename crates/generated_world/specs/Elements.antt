@@ -10,3 +10,7 @@ source_text = codes "element Wander { EventWindow ew; Random random; Void behave
 -- the one file that holds it
 abbrev pub source_files : List File
 source_files = (codes "generated", source_text) ∷ []
+
+-- the names of the two elements, in their order
+abbrev pub both_names : List (List ℕ)
+both_names = codes "Wander" ∷ codes "Stone" ∷ []

@@ -3,6 +3,7 @@ use Rattle.std.specs.Prelude.{ℕ, ◌==◌, List, [], ◌∷◌, codes, count_b
 use Rattle.bit_field.specs.Atom.{AtomValue}
 use Rattle.cell_grid.specs.Grid.{GridValue}
 use Rattle.cell_grid.specs.declared.record.Record.{Record}
+use Rattle.event_journal.specs.Logs.{LogValue, records_in, abandoned_in}
 use Rattle.event_journal.specs.Text.{count_fields}
 use Rattle.event_journal.specs.declared.abandoned.Abandoned.{Abandoned}
 use Rattle.text_lines.specs.Lines.{text_of}
@@ -20,3 +21,7 @@ summary number g records abandoned = text_of (
     ∷ count_fields (codes "Wander") (count_kind 1 g)
     ∷ count_fields (codes "Stone") (count_kind 2 g)
     ∷ [])
+
+-- the summary of a run that left this grid and these logs
+abbrev pub summary_of_logs : ℕ → GridValue → List LogValue → List ℕ
+summary_of_logs number g logs = summary number g (records_in logs) (abandoned_in logs)

@@ -1,7 +1,6 @@
 //! The summary of the run of a generated world.
 ghost use Rattle.std.specs.Prelude.{◌≡◌, IfOk};
-ghost use Rattle.event_journal.specs.Logs.{abandoned_in, records_in};
-ghost use Rattle.generated_world.specs.Summary.{count_kind, summary};
+ghost use Rattle.generated_world.specs.Summary.{count_kind, summary_of_logs};
 
 use cell_grid::Grid;
 use event_journal::{Journal, count_fields};
@@ -28,7 +27,7 @@ pub fn summary(
     grid: &Grid,
     journal: &Journal,
 ) -> Result<Vec<u8>, NoMemory>
-    ensures { IfOk result (λ v. v.items ≡ summary number grid.now (records_in journal.now) (abandoned_in journal.now)) }
+    ensures { IfOk result (λ v. v.items ≡ summary_of_logs number grid.now journal.now) }
 {
     let mut text = Vec::new(alloc);
     push_line(&mut text, &count_fields(b"gen", number))?;

@@ -1,6 +1,11 @@
 -- Options by what they hold.
 use Rattle.std.proofs.Common.{ℕ, ◌≡◌, Option, Some, None, refl, sym, ◌∙◌}
 
+-- the number, or d if there is none
+abbrev pub value_or : ℕ → Option ℕ → ℕ
+value_or d None = d
+value_or d (Some n) = n
+
 -- an option that holds nothing
 pub none_from : (o : Option ℕ) → ((v : ℕ) → o ≡ Some v → ⊥) → o ≡ None
 none_from None f = refl

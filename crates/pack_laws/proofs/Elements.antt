@@ -1,6 +1,6 @@
 -- Each element of a set, with its code, is one of a code file, and the file says that each has its own name and valid code.
 use Rattle.std.proofs.Common.{ℕ, zero, suc, ◌≡◌, ◌+◌, ◌<◌, ◌≤◌, ◌^◌, Bool, true, false, List, [], ◌∷◌, ◌++◌, All, length, map, take, Some, refl, sym, ap, subst, ◌∙◌, arith, append_assoc, append-nil}
-use Rattle.std.specs.Prelude.{slice_get, bytes_eq, if◌then◌else◌, ◌||◌}
+use Rattle.std.specs.Prelude.{slice_get, bytes_eq, ◌||◌}
 use Rattle.std.specs.List.{AllByRecursion}
 use Rattle.std.proofs.lemmas.Bool.{leb-true}
 use Rattle.std.proofs.lemmas.List.{length-map}
@@ -10,13 +10,12 @@ use Rattle.list_laws.proofs.Entries.{all_from_get}
 use Rattle.feast_base.specs.TypeNames.{is_type_name}
 use Rattle.stack_code.specs.Machine.{CodeValue}
 use Rattle.stack_code.specs.Valid.{valid}
-use Rattle.ulam_tree.specs.Typed as t
 use Rattle.ulam_names.specs.Scopes as scopes
 use Rattle.ulam_meaning.specs.Programs.{Program, count_elements, element_classes, number_of}
 use Rattle.ulam_meaning.specs.Laws.{bits_of}
 use Rattle.ulam_meaning.specs.Paths.{Key, function_of}
 use Rattle.ulam_meaning.specs.Events.{behave_key}
-use Rattle.code_gen.specs.Compiling.{AreShort, IsCompilable, class_code, element_codes}
+use Rattle.code_gen.specs.Compiling.{AreShort, IsCompilable, IsElementClass, class_code, element_codes}
 use Rattle.code_gen.specs.Drafts.{code_of, has_room, keys, value_at}
 use Rattle.code_gen.specs.Scheme.{draft_of, operand_of}
 use Rattle.code_gen.proofs.Drafted.{kinded_ready}
@@ -30,7 +29,7 @@ use Rattle.code_file.specs.Ranged.{IsRanged, OfTypes}
 use Rattle.code_file.specs.Right.{AreRight}
 use Rattle.code_file.proofs.Ranges.{valid_ranged}
 use Rattle.element_set.specs.Names.{AreNew}
-use Rattle.element_set.proofs.Acting.{IsElement as IsElementClass}
+use Rattle.element_set.proofs.Acting.{element_at as class_at}
 use Rattle.pack_laws.proofs.SoundPieces.{codes_typed, keys_good, values_ranged}
 use Rattle.pack_laws.proofs.SoundPrograms.{key_sound}
 use Rattle.pack_laws.proofs.TypedWords.{ClassesFormed, IsFormedKey, behave_formed}
@@ -53,16 +52,6 @@ each_at P (y ∷ xs) zero x all e = let same : y ≡ x = cc in subst P same all.
 each_at P (y ∷ xs) (suc k) x all e = each_at P xs k x all.1 e
 
 -- Elements of a program
-
-class_at : (d : ℕ) (cs : List t.Class) (i c : ℕ) → slice_get (element_classes d cs) i ≡ Some c → (k : ℕ) × (c ≡ d + k) × IsElementClass cs k
-class_at d [] i c h = absurd cc
-class_at d (x ∷ cs) i c h = by x.quark refl i h (λ j e. class_at (suc d) cs j c e)
-  where
-    by : (b : Bool) → x.quark ≡ b → (i : ℕ) → slice_get (if b then element_classes (suc d) cs else d ∷ element_classes (suc d) cs) i ≡ Some c → ((j : ℕ) → slice_get (element_classes (suc d) cs) j ≡ Some c → (k : ℕ) × (c ≡ suc d + k) × IsElementClass cs k) →
-        (k : ℕ) × (c ≡ d + k) × IsElementClass (x ∷ cs) k
-    by true q i h rest = let r = rest i h in (suc r.0, omega (arith, r.1), record { class = r.2.class; stands = r.2.stands; acts = r.2.acts })
-    by false q zero h rest = let same : d ≡ c = cc in (0, omega (arith, same), record { class = x; stands = refl; acts = q })
-    by false q (suc i) h rest = let r = rest i h in (suc r.0, omega (arith, r.1), record { class = r.2.class; stands = r.2.stands; acts = r.2.acts })
 
 -- what is known of a code by its place: whose it is
 pub record IsOf (g : Program) (k : ℕ) (code : CodeValue) : Type 0 where

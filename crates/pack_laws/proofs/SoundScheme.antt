@@ -28,7 +28,7 @@ use Rattle.stack_code.specs.declared.instr.Instr.TheVariants.{AddI, AddL, AddU, 
 use Rattle.code_gen.specs.Pieces.{Piece, none, plain}
 use Rattle.code_gen.specs.Kinded.{PathIn}
 use Rattle.code_gen.specs.Named.{AreNamed, IfNamed, IsNamed, IsNamedBody, IsNamedCond, IsNamedForm, IsNamedPart, IsNamedPath, IsNamedStatement}
-use Rattle.code_gen.specs.Scheme.{answer_of, args_piece, assign_piece, blank_instr, body_piece, built_instr, by_arith, call_piece, cond_piece, declare_piece, expr_piece, fit, form_piece, give_piece, if_nothing, if_swap, if_void, index_piece, load, load_at, loop_piece, minus_instr, nowhere, pair_instr, part_piece, prefix_instr, return_piece, statement_piece, store, store_at}
+use Rattle.code_gen.specs.Scheme.{answer_of, args_piece, assign_piece, blank_instr, body_piece, built_instr, by_arith, call_piece, cond_piece, declare_piece, expr_piece, fit, form_piece, give_piece, if_nothing, if_swap, if_void, optional_piece, load, load_at, loop_piece, minus_instr, nowhere, pair_instr, part_piece, prefix_instr, return_piece, statement_piece, store, store_at, target_at}
 use Rattle.code_gen.proofs.TypedKinds.{assigned_well}
 use Rattle.code_file.specs.Ranged.{OfTypes}
 use Rattle.pack_laws.proofs.SoundPieces.{Sound, end_sound}
@@ -227,7 +227,7 @@ module _ (most : ℕ) where
     IfSound None = Unit {0}
     IfSound (Some q) = IsSound q
 
-    assign_sound : (at : Spot) (index : Option Piece) (o : Option PairOp) (w : ℕ) (value : Piece) → IfSound index → IsSound value → IsSound (assign_piece z at index o w value)
+    assign_sound : (at : Spot) (index : Option Piece) (o : Option PairOp) (w : ℕ) (value : Piece) → IfSound index → IsSound value → IsSound (assign_piece z (target_at at index) o w value)
     unfolding IfSound
     assign_sound at None None w value i v = (v, store_sound at)
     assign_sound at None (Some o) w value i v = (load_sound at, (v, (pair_sound o (arith_with (spot_type z at) w) (width_of (spot_type z at)), store_sound at)))
@@ -243,12 +243,12 @@ module _ (most : ℕ) where
     give_sound y.Nothing = (tt, tt)
     give_sound ty = tt
 
-    index_sound : (g : s.Scope) → Sees g → (i : Option t.Expr) (x : t.Path) (ty : Ty) → IsWellIndex g x i ty → IfNamed z c i → IfSound (index_piece z i)
+    index_sound : (g : s.Scope) → Sees g → (i : Option t.Expr) (x : t.Path) (ty : Ty) → IsWellIndex g x i ty → IfNamed z c i → IfSound (optional_piece z i)
     unfolding IfSound
     index_sound g sees None x ty h n = tt
     index_sound g sees (Some e) x ty h n = expr_sound g sees e h.1 n
 
-    tests_sound : (g : s.Scope) → Sees g → (e : Option t.Expr) → IfSome (IsWellTest g) e → IfNamed z c e → IfSound (index_piece z e)
+    tests_sound : (g : s.Scope) → Sees g → (e : Option t.Expr) → IfSome (IsWellTest g) e → IfNamed z c e → IfSound (optional_piece z e)
     unfolding IfSound
     tests_sound g sees None h n = tt
     tests_sound g sees (Some e) h n = expr_sound g sees e h.0 n
@@ -280,15 +280,15 @@ module _ (most : ℕ) where
           (a.0, (statement_sound h.0 a.1 x h.2 n.1, statement_sound g sees other h.3 n.2))
       statement_sound g sees (t.while_so e x) h n = (expr_sound g sees e h.0.0 n.0, statement_sound (s.in_loop g) sees x h.1 n.1, tt)
       statement_sound g sees (t.for_all first e step x) h n =
-          (part_sound g sees first h.0 n.0, loop_sound (index_piece z e) (statement_piece z x) (part_piece z step) (tests_sound g sees e h.1 n.1) (statement_sound (s.in_loop g) sees x h.3 n.3) (part_sound g sees step h.2 n.2))
+          (part_sound g sees first h.0 n.0, loop_sound (optional_piece z e) (statement_piece z x) (part_piece z step) (tests_sound g sees e h.1 n.1) (statement_sound (s.in_loop g) sees x h.3 n.3) (part_sound g sees step h.2 n.2))
       statement_sound g sees (t.returns p e) h n = return_sound g sees e h n
       statement_sound g sees (t.breaks p) h n = tt
       statement_sound g sees (t.continues p) h n = tt
       statement_sound g sees (t.declares of i p e) h n = declare_sound g sees of.ty i e h.1 n.1
       statement_sound g sees (t.assigns l o e) h n =
-          assign_sound (spot z.program z.base l.path.steps) (index_piece z l.index) o (width_of (t.ty_of e)) (expr_piece z e) (index_sound g sees l.index l.path h.0 h.1 n.0.1) (expr_sound g sees e (assigned_well g h.0 o e h.2) n.1)
+          assign_sound (spot z.program z.base l.path.steps) (optional_piece z l.index) o (width_of (t.ty_of e)) (expr_piece z e) (index_sound g sees l.index l.path h.0 h.1 n.0.1) (expr_sound g sees e (assigned_well g h.0 o e h.2) n.1)
       statement_sound g sees (t.counts l up) h n =
-          assign_sound (spot z.program z.base l.path.steps) (index_piece z l.index) (Some (count_op up)) 32 (plain (PushNum (pos 1))) (index_sound g sees l.index l.path h.0 h.2 n.1) tt
+          assign_sound (spot z.program z.base l.path.steps) (optional_piece z l.index) (Some (count_op up)) 32 (plain (PushNum (pos 1))) (index_sound g sees l.index l.path h.0 h.2 n.1) tt
       statement_sound g sees (t.does x es) h n =
           let m = callee z.program z.base x.steps in
           (call_sound m (args_piece z es) (path_formed g sees x.steps h.1.0 n.0 h.1.1) (λ cs. args_sound g sees es cs h.2 n.1), nothing_sound m none (plain Pop) tt tt)

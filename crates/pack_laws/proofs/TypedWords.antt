@@ -9,7 +9,7 @@ use Rattle.ulam_tree.specs.Resolved as r
 use Rattle.ulam_tree.specs.Typed as t
 use Rattle.ulam_names.specs.Scopes.{Head, Names, Text, no_names, most_params}
 use Rattle.ulam_names.specs.Classes.{HalfClass, Half, half_field, half_function, Known, is_behave, is_nothing, no_params}
-use Rattle.ulam_names.specs.ClassRelation.{AllBehave, AreClasses, AreItems, AreMembers, AreParams, AreWhole, IsMember, IsResolved}
+use Rattle.ulam_names.specs.ClassRelation.{AllBehave, AreClasses, AreItems, AreMembers, AreParams, own_class, AreWhole, IsMember, IsResolved}
 use Rattle.ulam_types.specs.Programs.{class_sig}
 use Rattle.ulam_types.specs.ProgramTyping.{AreTypedClasses, AreTypedMembers, IsTypedMember, IsTypedProgram}
 use Rattle.ulam_types.specs.Scopes.{ClassSig}
@@ -104,7 +104,7 @@ ClassesFormed [] = Unit {0}
 ClassesFormed (c ∷ cs) = IsFormedClass c × ClassesFormed cs
 
 module _ (known : Known) (heads : List Head) (sigs : List ClassSig) where
-  members_kept : (k : ℕ) (d : Names) (hs : List Half) (xs : List r.Member) (us : List t.Member) → AreWhole known heads k d hs xs → AreTypedMembers sigs k xs us → Kept hs (functions us)
+  members_kept : (k : ℕ) (d : Names) (hs : List Half) (xs : List r.Member) (us : List t.Member) → AreWhole (own_class known heads k d) hs xs → AreTypedMembers sigs k xs us → Kept hs (functions us)
   members_kept k d [] xs us h i =
       let j : us ≡ [] = subst (λ (xs : List r.Member). AreTypedMembers sigs k xs us) h i in
       subst (λ (us : List t.Member). Kept [] (functions us)) (sym j) none_kept

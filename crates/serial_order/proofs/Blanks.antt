@@ -14,7 +14,8 @@ use Rattle.tile_map.proofs.PlaneLaws.{owner_owned, owner_low, owners}
 use Rattle.tile_map.proofs.Sharing.{column_low, row_low}
 use Rattle.tile_map.proofs.Spans.{times_more, plane_test}
 use Rattle.cell_grid.specs.Grid.{GridValue, empty_grid}
-use Rattle.cell_grid.specs.Shut.{Rectangle, rectangle, is_inside, IsEmptyIn, cleared, shut}
+use Rattle.cell_grid.specs.Shut.{rectangle, is_inside, IsEmptyIn, cleared, shut}
+use Rattle.cell_grid.specs.declared.marks.Rectangle.{Rectangle}
 use Rattle.cell_grid.proofs.Cleared.{IsGrid-shut}
 use Rattle.event_journal.proofs.Extents.{sites_is}
 use Rattle.serial_order.specs.Outcomes.{IsAreaOf, IsPlaneGrid, IsShutTo}

@@ -1,6 +1,6 @@
 -- Tiles that have stopped on one plain board are over.
 use Rattle.std.proofs.Common.{ℕ, suc, ◌≡◌, ◌<◌, ◌≤◌, List, [], ◌∷◌, true, length, take, drop, refl, sym, ap, subst, ◌∙◌, arith, inl, ⊎_elim}
-use Rattle.std.specs.Prelude.{min, if◌then◌else◌}
+use Rattle.std.specs.Prelude.{slice_get, min, if◌then◌else◌}
 use Rattle.std.proofs.lemmas.List.{append-nil, length-map, length-take, get_or-map, take-append-drop}
 use Rattle.std.proofs.lemmas.Option.{slice_get_within}
 use Rattle.list_laws.proofs.Slots.{get_take, drop_none}
@@ -8,9 +8,8 @@ use Rattle.bit_field.specs.Atom.{AtomValue}
 use Rattle.window_sites.specs.Window.{WindowValue}
 use Rattle.tile_map.specs.Plane.{Site, MapValue, tiles_of}
 use Rattle.tile_map.specs.Edges.{pairs_of}
-use Rattle.cell_grid.specs.Grid.{GridValue}
 use Rattle.draw_stream.specs.declared.attempt.Attempt.{Attempt}
-use Rattle.draw_stream.specs.Plans.{PlanValue, attempts}
+use Rattle.draw_stream.specs.Plans.{attempts}
 use Rattle.edge_lock.specs.History.{site_count, found_value, IsEdgeHistory}
 use Rattle.edge_lock.specs.EndLists.{EndLists, end_lists, hold_of, writes_nothing}
 use Rattle.edge_lock.specs.PlainEdges.{IsKept, view_of}
@@ -19,12 +18,12 @@ use Rattle.edge_lock.proofs.Counts.{sites_back}
 use Rattle.border_cache.specs.Windows.{has, end_at, sites_on}
 use Rattle.tile_core.specs.declared.phase.Phase.TheVariants.{Finished, Worn}
 use Rattle.tile_core.specs.Values.{TileValue, atoms_of, centre, event_site, given_up_site}
-use Rattle.tile_core.specs.Turns.{Turn, Worn as WornTurn, Wins, Loses, Wears, AgreeOnEdges, AreAttempts, IsNthAttempt, IsAttemptOf, IsWorn, lists_of, with_more, one_if, greatest, stamp_of, clock_in}
-use Rattle.tile_core.specs.Underway.{IsUnderway, InPhase, IsDrawn, is_refreshed}
+use Rattle.tile_core.specs.Turns.{common, Turn, Worn as WornTurn, Wins, Loses, Wears, AgreeOnEdges, AreAttempts, IsAttemptAt, IsAttemptOf, IsWorn, lists_of, with_more, one_if, greatest, stamp_of, clock_in}
+use Rattle.tile_core.specs.Underway.{tile_at, IsUnderway, InPhase, IsDrawn, is_refreshed}
 use Rattle.tile_core.specs.Boards.{IsBoardOf}
 use Rattle.tile_core.proofs.Boards.{end_known, edge_end}
-use Rattle.serial_order.specs.Scene.{EdgeHistory, no_history, history_at, end_lists_of, lists_at, HasEnded, IsStopped, IsOver}
-use Rattle.serial_order.specs.Words.{AreEdgeWords, plain_history, histories_on, counts_on}
+use Rattle.serial_order.specs.Scene.{EdgeHistory, no_history, history_at, end_lists_of, lists_at, HasEnded, IsStopped, Setting, IsOver}
+use Rattle.serial_order.specs.Words.{plain_words, AreEdgeWords, plain_history, histories_on}
 use Rattle.serial_order.specs.Boards.{HasStopped, HaveStopped}
 use Rattle.serial_order.specs.Outcomes.{scene_of}
 
@@ -36,7 +35,7 @@ module _ (m : MapValue) (board : PlainBoardValue) (k : IsBoardOf m board) where
   known = length-map board.edges plain_history ∙ k.count
 
   -- the words of the board are those of its edges' histories
-  pub words : AreEdgeWords m (histories_on board) (counts_on board)
+  pub words : AreEdgeWords m (plain_words board)
   words = record {
     known = known;
     registers = λ e lt. (k.each e lt).registers;
@@ -60,7 +59,7 @@ attempt_there m t given n (Loses l) a = slice_get_within given n a.1.attempt a.1
 attempt_there m t given n (Wears w) a = slice_get_within given n a.1.attempt a.1.is
 
 module _ (m : MapValue) (t : ℕ) (given : List Attempt) (n : ℕ) where
-  first_attempt : (k : ℕ) (s : Site) (seed : ℕ) → k < n → IsNthAttempt m t given k s seed → IsNthAttempt m t (take n given) k s seed
+  first_attempt : (k : ℕ) (s : Site) (seed : ℕ) → k < n → IsAttemptAt m t (slice_get given k) s seed → IsAttemptAt m t (slice_get (take n given) k) s seed
   first_attempt k s seed lt a = record { attempt = a.attempt; is = get_take k n given lt ∙ a.is; site_is = a.site_is; seed_is = a.seed_is }
 
   first_turn : (k : ℕ) (x : Turn) → k < n → IsAttemptOf m t given k x → IsAttemptOf m t (take n given) k x
@@ -76,8 +75,8 @@ few_turns : (m : MapValue) (t : ℕ) (given : List Attempt) (turns : List Turn) 
 few_turns m t given [] a = omega arith
 few_turns m t given (x ∷ xs) a = let lt = attempt_there m t given (length xs) x a.0 in omega (arith, lt)
 
-module _ (m : MapValue) (meaning : WindowValue → ℕ → WindowValue) (start : Site → AtomValue) (given : List Attempt) (tile : TileValue) (lists lists' : ℕ → EndLists) (u : IsUnderway m meaning start given tile lists) (same : AgreeOnEdges m tile.number lists' lists) where
-  finished : tile.phase ≡ Finished → HasEnded m meaning start given lists' tile
+module _ (m : MapValue) (meaning : WindowValue → ℕ → WindowValue) (start : Site → AtomValue) (given : List Attempt) (tile : TileValue) (lists lists' : ℕ → EndLists) (u : IsUnderway (common m meaning start) given tile lists) (same : AgreeOnEdges m tile.number lists' lists) where
+  finished : tile.phase ≡ Finished → HasEnded (common m meaning start) given lists' tile
   finished is = record {
     made = given;
     rest = [];
@@ -95,8 +94,8 @@ module _ (m : MapValue) (meaning : WindowValue → ℕ → WindowValue) (start :
     cells = λ s held. u.cells s held (inl (ap is_refreshed is));
   }
     where
-      h : InPhase m meaning start given u.turns tile lists Finished
-      h = subst (InPhase m meaning start given u.turns tile lists) is u.hand
+      h : InPhase (common m meaning start) given u.turns (tile_at tile lists) Finished
+      h = subst (InPhase (common m meaning start) given u.turns (tile_at tile lists)) is u.hand
 
       count : length given ≡ length u.turns
       count =
@@ -104,7 +103,7 @@ module _ (m : MapValue) (meaning : WindowValue → ℕ → WindowValue) (start :
           let high = drop_none tile.taken given (sym u.left ∙ h.1) in
           let taken = h.0 in omega (arith, low, high, taken)
 
-  worn : tile.phase ≡ Worn → HasEnded m meaning start given lists' tile
+  worn : tile.phase ≡ Worn → HasEnded (common m meaning start) given lists' tile
   worn is = record {
     made = take tile.taken given;
     rest = drop tile.taken given;
@@ -122,8 +121,8 @@ module _ (m : MapValue) (meaning : WindowValue → ℕ → WindowValue) (start :
     cells = λ s held. u.cells s held (inl (ap is_refreshed is));
   }
     where
-      h : InPhase m meaning start given u.turns tile lists Worn
-      h = subst (InPhase m meaning start given u.turns tile lists) is u.hand
+      h : InPhase (common m meaning start) given u.turns (tile_at tile lists) Worn
+      h = subst (InPhase (common m meaning start) given u.turns (tile_at tile lists)) is u.hand
 
       d : IsDrawn m given u.turns tile
       d = h.0
@@ -144,17 +143,17 @@ module _ (m : MapValue) (meaning : WindowValue → ℕ → WindowValue) (start :
         high = subst (λ es. 4294967295 ≤ greatest (stamp_of u.turns) (λ e. clock_in (h.1.0 e)) es) d.needs h.1.2.high;
       }
 
-  pub has_ended : HasStopped tile → HasEnded m meaning start given lists' tile
+  pub has_ended : HasStopped tile → HasEnded (common m meaning start) given lists' tile
   has_ended stopped = ⊎_elim finished worn stopped
 
 -- a tile that is underway on a board and has stopped is over
 pub ended : (m : MapValue) (board : PlainBoardValue) → IsBoardOf m board → (meaning : WindowValue → ℕ → WindowValue) (start : Site → AtomValue) (given : List Attempt) (t : ℕ) (tile : TileValue) → tile.number ≡ t
-    → IsUnderway m meaning start given tile (lists_of_tile board tile.number) → HasStopped tile → HasEnded m meaning start given (lists_at m (histories_on board) t) tile
+    → IsUnderway (common m meaning start) given tile (lists_of_tile board tile.number) → HasStopped tile → HasEnded (common m meaning start) given (lists_at m (histories_on board) t) tile
 ended m board k meaning start given t tile number u stopped =
     has_ended m meaning start given tile (lists_of_tile board tile.number) (lists_at m (histories_on board) t) u (subst (λ n. AgreeOnEdges m tile.number (lists_at m (histories_on board) n) (lists_of_tile board tile.number)) number (lists_same m board k tile.number u.can.inside)) stopped
 
-pub over : (m : MapValue) (meaning : WindowValue → ℕ → WindowValue) (start : GridValue) (plan : PlanValue) (tiles : List TileValue) (board : PlainBoardValue) → HaveStopped m meaning start plan tiles board → IsOver (scene_of m tiles (histories_on board) meaning start plan)
-over m meaning start plan tiles board h = record {
+pub over : (m : MapValue) (g : Setting) (tiles : List TileValue) (board : PlainBoardValue) → HaveStopped m g tiles board → IsOver (scene_of m tiles (histories_on board) g)
+over m g tiles board h = record {
   valid = h.valid;
   grid = h.grid;
   fits = h.fits;
@@ -162,7 +161,7 @@ over m meaning start plan tiles board h = record {
   lists = h.lists;
   count = h.count;
   numbers = h.numbers;
-  ended = λ t tile is. ended m board h.edges meaning (atoms_of start) (attempts plan t) t tile (h.numbers t tile is) (h.underway t tile is) (h.stopped t tile is);
+  ended = λ t tile is. ended m board h.edges g.meaning (atoms_of g.start) (attempts g.plan t) t tile (h.numbers t tile is) (h.underway t tile is) (h.stopped t tile is);
   known = known m board h.edges;
   histories = (words m board h.edges).histories;
 }

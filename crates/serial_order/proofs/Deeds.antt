@@ -16,13 +16,13 @@ use Rattle.tile_map.specs.Laws.{IsPlane}
 use Rattle.edge_lock.specs.declared.history.Access.{Access}
 use Rattle.edge_lock.specs.History.{found_value}
 use Rattle.border_cache.specs.Cells.{cell_value, cell_of}
-use Rattle.border_cache.specs.News.{Covers, word_of, has_bit, is_news}
+use Rattle.border_cache.specs.News.{border, Covers, word_of, has_bit, is_news}
 use Rattle.border_cache.specs.Published.{IsWordMarked}
-use Rattle.border_cache.specs.Windows.{place_in, edge_place_some, end_at, sites_on}
+use Rattle.border_cache.specs.Windows.{border_at, place_in, edge_place_some, end_at, sites_on}
 use Rattle.border_cache.proofs.Covered.{covered_in, in_covered}
 use Rattle.list_laws.proofs.Members.{In}
 use Rattle.tile_core.specs.Values.{event_site}
-use Rattle.tile_core.specs.Turns.{Won, Turn, IsWon, IsEventHold, accesses_at, cell_left, atom_for}
+use Rattle.tile_core.specs.Turns.{common, Won, Turn, IsWon, IsEventHold, accesses_at, cell_left, atom_for}
 use Rattle.serial_order.proofs.Ground.{in_has, end_small, placed, inside}
 use Rattle.serial_order.proofs.Histories.{left_in, end_two}
 
@@ -78,7 +78,7 @@ place_again k = omega arith
 below_64 : (k : ℕ) → k % 64 < 64
 below_64 k = omega arith
 
-module _ (m : MapValue) (plane : IsPlane m) (meaning : WindowValue → ℕ → WindowValue) (start : Site → AtomValue) (t : ℕ) (past : List Turn) (w : Won) (won : IsWon m meaning start t past w) (e : ℕ) (i : In e (needs_of m t (event_site w.note))) where
+module _ (m : MapValue) (plane : IsPlane m) (meaning : WindowValue → ℕ → WindowValue) (start : Site → AtomValue) (t : ℕ) (past : List Turn) (w : Won) (won : IsWon (common m meaning start) t past w) (e : ℕ) (i : In e (needs_of m t (event_site w.note))) where
   abbrev centre : Site
   centre = event_site w.note
 
@@ -94,7 +94,7 @@ module _ (m : MapValue) (plane : IsPlane m) (meaning : WindowValue → ℕ → W
   abbrev done : List Access
   done = accesses_at w e
 
-  pub event_hold : IsEventHold (sites_on m e) (end_at m t e) (place_in m (event_site w.note) e) (cell_left m w) w.note.stamp (accesses_at w e)
+  pub event_hold : IsEventHold (border_at m t (event_site w.note) e) (cell_left m w) w.note.stamp (accesses_at w e)
   event_hold = won.holds e (in_has e (needs_of m t (event_site w.note)) i)
 
   pub covered : (k : ℕ) → covers m e (event_site w.note) k ≡ true → Covers (place_in m (event_site w.note) e) 41 k
@@ -140,7 +140,7 @@ module _ (m : MapValue) (plane : IsPlane m) (meaning : WindowValue → ℕ → W
   spares k lt h = (none_from (left_in done (1 + 2 * k)) (λ v l. unwritten k (1 + 2 * k) v lt h (inl refl) l), none_from (left_in done (2 + 2 * k)) (λ v l. unwritten k (2 + 2 * k) v lt h (inr refl) l))
 
   -- the news words that it left
-  bit_marked : (b : ℕ) (bit : Bool) (k : ℕ) → Covers (place_in m (event_site w.note) e) 41 k → IsWordMarked (sites_on m e) b bit (place_in m (event_site w.note) e) 41 (accesses_at w e) (k / 64)
+  bit_marked : (b : ℕ) (bit : Bool) (k : ℕ) → Covers (place_in m (event_site w.note) e) 41 k → IsWordMarked (border (sites_on m e) b (place_in m (event_site w.note) e) 41) bit (accesses_at w e) (k / 64)
       → (x : ℕ) × (left_in (accesses_at w e) (word_of (sites_on m e) b k) ≡ Some x) × (bit_in x k ≡ (digit bit == 1))
   bit_marked b bit k c r = (r.last, r.written, ap (λ z. z == 1) (r.marked (k % 64) (below_64 k) (subst (Covers places 41) (place_again k) c)))
 
@@ -161,7 +161,7 @@ module _ (m : MapValue) (plane : IsPlane m) (meaning : WindowValue → ℕ → W
 
   -- a bit of a word that was marked, of a place that the window does not cover
   bit_kept : (b c k j : ℕ) (bit : Bool) → b < 2 → c < 2 → k < sites_on m e → covers m e (event_site w.note) k ≡ false → Covers (place_in m (event_site w.note) e) 41 j
-      → IsWordMarked (sites_on m e) c bit (place_in m (event_site w.note) e) 41 (accesses_at w e) (j / 64) → word_of (sites_on m e) b k ≡ word_of (sites_on m e) c j → IsSpared b k
+      → IsWordMarked (border (sites_on m e) c (place_in m (event_site w.note) e) 41) bit (accesses_at w e) (j / 64) → word_of (sites_on m e) b k ≡ word_of (sites_on m e) c j → IsSpared b k
   bit_kept b c k j bit lb lc lt h cov r is =
       let s = same_word sites b c k j lb lc lt (small j cov) is in
       let again : 64 * (j / 64) + k % 64 ≡ k = omega (arith, s.1, place_again k) in

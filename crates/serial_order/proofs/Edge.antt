@@ -1,6 +1,6 @@
 -- One edge: what its holds find, and what is written last.
 use Rattle.std.proofs.Common.{ℕ, ◌≡◌, ◌≤◌, ◌<◌, ◌+◌, ◌*◌, List, [], ◌∷◌, ◌++◌, refl, sym, ap, subst, arith, ◌⊎◌, inl, inr, ⊎_elim, Bool, true, false, Some, None, ◌∙◌}
-use Rattle.list_laws.specs.Options.{value_or}
+use Rattle.list_laws.proofs.Options.{value_or}
 use Rattle.edge_lock.specs.declared.history.Hold.{Hold}
 use Rattle.edge_lock.specs.History.{found_value}
 use Rattle.bit_field.specs.Atom.{AtomValue}

@@ -11,9 +11,9 @@ use Rattle.edge_lock.specs.History.{trace}
 use Rattle.edge_lock.proofs.SharedHolds.{allowed_value}
 use Rattle.border_cache.specs.Cells.{CellValue, newer, newest}
 use Rattle.border_cache.specs.Windows.{and_cell, edge_place, sites_on}
-use Rattle.serial_order.specs.Scene.{EdgeHistory, history_at, registers_at}
+use Rattle.serial_order.specs.Scene.{history_at, registers_at}
 use Rattle.serial_order.specs.Settled.{cell_in_registers, edge_cells}
-use Rattle.serial_order.specs.Words.{AreEdgeWords, newer_on}
+use Rattle.serial_order.specs.Words.{WordsValue, AreEdgeWords, newer_on}
 
 -- the tile's edges from number e on
 abbrev pub edges_from : MapValue → ℕ → ℕ → List ℕ
@@ -44,10 +44,10 @@ pub newest_end : (m : MapValue) (registers : ℕ → ℕ → ℕ) (t : ℕ) (s :
 newest_end m registers t s e best le = let none : length (pairs_of m) - e ≡ 0 = omega (arith, le) in ap (λ n. newest best (edge_cells m registers (filter (λ d. has_end m t d) (range_with_len e n)) s)) none
 
 -- the second word of a shared site leaves the gap
-pub gap_at : (m : MapValue) (edges : List EdgeHistory) (counts : ℕ → ℕ) (e k : ℕ) → AreEdgeWords m edges counts → e < length (pairs_of m) → k < sites_on m e → LeavesGap (registers_at edges e (2 + 2 * k))
-gap_at m edges counts e k w lt small =
+pub gap_at : (m : MapValue) (words : WordsValue) (e k : ℕ) → AreEdgeWords m words → e < length (pairs_of m) → k < sites_on m e → LeavesGap (registers_at words.histories e (2 + 2 * k))
+gap_at m words e k w lt small =
     let h = w.histories e (omega (arith, lt, w.known)) in
-    allowed_value (sites_on m e) (2 + 2 * k) (trace (history_at edges e).holds) 0 h.holds.writes (λ j j_lt is. refl) k small refl
+    allowed_value (sites_on m e) (2 + 2 * k) (trace (history_at words.histories e).holds) 0 h.holds.writes (λ j j_lt is. refl) k small refl
 
 -- the first register of a site is that of its place among the shared ones
 pub record IsPlaced (m : MapValue) (e : ℕ) (s : Site) (register : ℕ) : Type 0 where

@@ -11,7 +11,7 @@ use Rattle.event_journal.specs.declared.abandoned.Abandoned.{Abandoned}
 use Rattle.list_laws.proofs.Members.{In, in_right, in_either}
 use Rattle.border_cache.specs.Windows.{end_at}
 use Rattle.tile_core.specs.Values.{event_site, given_up_site}
-use Rattle.tile_core.specs.Turns.{Won, Lost, Worn, Turn, Wins, Loses, Wears, IsTurn, IsLost, before}
+use Rattle.tile_core.specs.Turns.{common, Won, Lost, Worn, Turn, Wins, Loses, Wears, IsTurn, IsLost, before}
 use Rattle.serial_order.proofs.Ground.{apart, has_in}
 use Rattle.serial_order.proofs.Histories.{IsHistory, IsPlaced}
 use Rattle.serial_order.proofs.Edge.{Deeds, apart_parts, IsOfEvents}
@@ -64,7 +64,7 @@ module _ (m : MapValue) (meaning : WindowValue → ℕ → WindowValue) (start :
   made e u j h y [] p part i is at = absurd i
   made e u j h y (x ∷ xs) p part i is at = ⊎_elim (λ s. one x p.0 (part x (inl refl)) (ap (hold_on m u e) (sym s) ∙ is)) (λ k. made e u j h y xs p.1 (λ z q. part z (inr q)) k is at) i
     where
-      one : (x : Turn) → IsTurn m meaning start u xs x → In x (turns u) → hold_on m u e x ≡ Some h
+      one : (x : Turn) → IsTurn (common m meaning start) u xs x → In x (turns u) → hold_on m u e x ≡ Some h
           → ((w : Won) × In (Wins w) (turns u) × (w.note.attempt ≡ j) × In e (needs_of m u (event_site w.note))) ⊎ ((l : Lost) × In (Loses l) (turns u) × (l.gone.attempt ≡ j) × In e (before l.gone.edge (needs_of m u (given_up_site l.gone))))
       one (Wins w) k r is' = let q = hold_is m u e (Wins w) h is' in inl (w, r, k.attempt ∙ (sym (k.given e q.1).attempt_is ∙ (ap (λ (g : Hold). g.attempt) q.0 ∙ at)), has_in e (needs_of m u (event_site w.note)) q.1)
       one (Loses l) k r is' = let q = hold_is m u e (Loses l) h is' in inr (l, r, k.attempt ∙ (sym (k.given e q.1).0.attempt_is ∙ (ap (λ (g : Hold). g.attempt) q.0 ∙ at)), has_in e (before l.gone.edge (needs_of m u (given_up_site l.gone))) q.1)

@@ -25,7 +25,7 @@ use Rattle.border_cache.specs.Copies.{IsGridOf, held_cell}
 use Rattle.tile_core.specs.Values.{atoms_of, TileValue, event_site, given_up_site}
 use Rattle.tile_core.specs.Turns.{Won, Lost, Wins, Loses, before}
 use Rattle.serial_order.specs.Scene.{Scene, IsOver, registers_at, history_at}
-use Rattle.serial_order.specs.Settled.{IsSettled, settled_cell}
+use Rattle.serial_order.specs.Settled.{settled_cell}
 use Rattle.serial_order.specs.Order.{records, abandoned, IsReplayed, StampsAreSmall, TiesAreApart, Leads, arrives, goes, HasNoNews, HasOneOrder, FindsWhatStands}
 use Rattle.serial_order.proofs.Lists.{snocs, none_past}
 use Rattle.serial_order.proofs.Histories.{values, values_back}

@@ -18,7 +18,7 @@ use Rattle.border_cache.specs.Copies.{IsGridOf, held_cell, place_held}
 use Rattle.border_cache.specs.News.{no_cell}
 use Rattle.border_cache.specs.Windows.{has, IsView, is_shown}
 use Rattle.tile_core.specs.Values.{TileValue, atoms_of}
-use Rattle.tile_core.specs.Turns.{Won, Wins, IsWon, HasPlayed, cells_of, newest_at, own_cell, accesses_at}
+use Rattle.tile_core.specs.Turns.{made_of, common, Won, Wins, IsWon, HasPlayed, cells_of, newest_at, own_cell, accesses_at}
 use Rattle.serial_order.specs.Scene.{IsOver, HasEnded, lists_at}
 use Rattle.serial_order.specs.Example.{small_plane, first_attempt, first_record, stays, cell_left_at, small_tile, small_scene}
 
@@ -94,7 +94,7 @@ its_view = record {
 no_need : (e : ℕ) {A : Type 0} → has e (needs_of small_plane 0 (site 0 0)) ≡ true → A
 no_need e h = absurd (cc (h))
 
-won : IsWon small_plane stays (atoms_of (empty_grid 8 8)) 0 [] the_event
+won : IsWon (common small_plane stays (atoms_of (empty_grid 8 8))) 0 [] the_event
 won = record {
   tile = refl;
   attempt = refl;
@@ -108,7 +108,7 @@ won = record {
   acts = λ n s lt is. sym (same_all empty_atom 41 n);
 }
 
-played : HasPlayed small_plane stays (atoms_of (empty_grid 8 8)) 0 (first_attempt ∷ []) (first_record ∷ []) [] (lists_at small_plane [] 0)
+played : HasPlayed (common small_plane stays (atoms_of (empty_grid 8 8))) 0 (first_attempt ∷ []) (made_of (first_record ∷ []) [] (lists_at small_plane [] 0))
 played = record {
   turns = Wins the_event ∷ [];
   each = (won, tt, tt);
@@ -176,6 +176,6 @@ small_run = record {
     number zero tile is = let same : small_tile ≡ tile = cc (is) in ap (λ (u : TileValue). u.number) (sym same)
     number (suc t) tile is = absurd (cc (is))
 
-    end : (t : ℕ) (tile : TileValue) → slice_get (small_tile ∷ []) t ≡ Some tile → HasEnded small_plane stays (atoms_of (empty_grid 8 8)) (slice_index_or ((first_attempt ∷ []) ∷ []) t []) (lists_at small_plane [] t) tile
-    end zero tile is = let same : small_tile ≡ tile = cc (is) in subst (HasEnded small_plane stays (atoms_of (empty_grid 8 8)) (first_attempt ∷ []) (lists_at small_plane [] 0)) same (record { made = first_attempt ∷ []; rest = []; all = refl; played = played; ends = (refl, tt); cells = cells })
+    end : (t : ℕ) (tile : TileValue) → slice_get (small_tile ∷ []) t ≡ Some tile → HasEnded (common small_plane stays (atoms_of (empty_grid 8 8))) (slice_index_or ((first_attempt ∷ []) ∷ []) t []) (lists_at small_plane [] t) tile
+    end zero tile is = let same : small_tile ≡ tile = cc (is) in subst (HasEnded (common small_plane stays (atoms_of (empty_grid 8 8))) (first_attempt ∷ []) (lists_at small_plane [] 0)) same (record { made = first_attempt ∷ []; rest = []; all = refl; played = played; ends = (refl, tt); cells = cells })
     end (suc t) tile is = absurd (cc (is))

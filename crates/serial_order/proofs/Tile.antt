@@ -9,15 +9,15 @@ use Rattle.tile_map.specs.Edges.{needs_of}
 use Rattle.border_cache.specs.Cells.{CellValue, cell_value}
 use Rattle.list_laws.proofs.Members.{In}
 use Rattle.tile_core.specs.Values.{event_site}
-use Rattle.tile_core.specs.Turns.{Won, Lost, Worn, Turn, Wins, Loses, Wears, cells_of, stamp_of, greatest, clock_in, accesses_at, IsWon, IsTurn, AreTurns}
+use Rattle.tile_core.specs.Turns.{common, Won, Lost, Worn, Turn, Wins, Loses, Wears, cells_of, stamp_of, greatest, clock_in, accesses_at, IsWon, IsTurn, AreTurns}
 use Rattle.serial_order.proofs.Coherence.{Latest, untouched, touched}
 
 -- each turn is as what came before it makes it
 abbrev pub Played : MapValue → (WindowValue → ℕ → WindowValue) → (Site → AtomValue) → ℕ → List Turn → Type 0
 Played m meaning start t [] = Unit {0}
-Played m meaning start t (x ∷ xs) = IsTurn m meaning start t xs x × Played m meaning start t xs
+Played m meaning start t (x ∷ xs) = IsTurn (common m meaning start) t xs x × Played m meaning start t xs
 
-pub are_played : (m : MapValue) (meaning : WindowValue → ℕ → WindowValue) (start : Site → AtomValue) (t : ℕ) (xs : List Turn) → AreTurns m meaning start t xs → Played m meaning start t xs
+pub are_played : (m : MapValue) (meaning : WindowValue → ℕ → WindowValue) (start : Site → AtomValue) (t : ℕ) (xs : List Turn) → AreTurns (common m meaning start) t xs → Played m meaning start t xs
 are_played m meaning start t [] a = tt
 are_played m meaning start t (x ∷ xs) a = (a.0, are_played m meaning start t xs a.2)
 
@@ -63,7 +63,7 @@ module _ (m : MapValue) (meaning : WindowValue → ℕ → WindowValue) (start :
   of_worn : (l : Worn) (w : Won) (xs : List Turn) → Did (Wears l ∷ xs) w → Did xs w
   of_worn l w xs i = ⊎_elim (λ e. absurd (not_worn w l e)) (λ j. j) i
 
-  pub grows : (xs : List Turn) (w : Won) → IsWon m meaning start t xs w → stamp_of xs < w.note.stamp
+  pub grows : (xs : List Turn) (w : Won) → IsWon (common m meaning start) t xs w → stamp_of xs < w.note.stamp
   grows xs w k = omega (arith, k.stamp, greatest_above (stamp_of xs) (λ e. clock_in (accesses_at w e)) (needs_of m t (event_site w.note)))
 
   pub stamps : (xs : List Turn) → Played m meaning start t xs → (w : Won) → Did xs w → w.note.stamp ≤ stamp_of xs
@@ -82,7 +82,7 @@ module _ (m : MapValue) (meaning : WindowValue → ℕ → WindowValue) (start :
   -- what was before an event of the tile
   pub record Past (xs : List Turn) (w : Won) : Type 0 where
     pub before : List Turn
-    pub won : IsWon m meaning start t before w
+    pub won : IsWon (common m meaning start) t before w
     pub played : Played m meaning start t before
     pub part : (v : Won) → Did before v → Did xs v
     pub rest : (v : Won) → Did xs v → (v ≡ w) ⊎ (Did before v ⊎ (w.note.stamp < v.note.stamp))
@@ -96,10 +96,10 @@ module _ (m : MapValue) (meaning : WindowValue → ℕ → WindowValue) (start :
     rest = λ v i. ⊎_elim (λ j. k.rest v j) (λ (h : w.note.stamp < v.note.stamp). inr (inr h)) (new v i);
   }
 
-  past_here : (w v : Won) (xs : List Turn) → w ≡ v → IsWon m meaning start t xs v → Played m meaning start t xs → Past (Wins v ∷ xs) w
+  past_here : (w v : Won) (xs : List Turn) → w ≡ v → IsWon (common m meaning start) t xs v → Played m meaning start t xs → Past (Wins v ∷ xs) w
   past_here w v xs e k p = record {
     before = xs;
-    won = subst (IsWon m meaning start t xs) (sym e) k;
+    won = subst (IsWon (common m meaning start) t xs) (sym e) k;
     played = p;
     part = λ u i. inr i;
     rest = λ u i. of_won v u xs (λ is. inl (is ∙ sym e)) (λ j. inr (inl j)) i;
@@ -120,7 +120,7 @@ module _ (m : MapValue) (meaning : WindowValue → ℕ → WindowValue) (start :
   last_more x xs s c new (untouched is none) = untouched is (λ v p. none v (new v p))
   last_more x xs s c new (touched w i is low) = touched w (inr i.0, i.1) is (λ v p. low v (new v p))
 
-  last_won : (v : Won) (xs : List Turn) (s : Site) (b : Bool) → in_window m (event_site v.note) s ≡ b → Played m meaning start t xs → IsWon m meaning start t xs v → IsLast xs s (cells_of m start xs s)
+  last_won : (v : Won) (xs : List Turn) (s : Site) (b : Bool) → in_window m (event_site v.note) s ≡ b → Played m meaning start t xs → IsWon (common m meaning start) t xs v → IsLast xs s (cells_of m start xs s)
       → IsLast (Wins v ∷ xs) s (if b then cell_value v.note.stamp (v.after s) else cells_of m start xs s)
   last_won v xs s true is p k l = touched v (inl refl, is) refl (λ u q. of_won {C = u.note.stamp ≤ v.note.stamp} v u xs (λ e. omega (arith, ap (λ (w : Won). w.note.stamp) e)) (λ j. omega (arith, stamps xs p u j, grows xs v k)) q.0)
   last_won v xs s false is p k l = last_more (Wins v) xs s (cells_of m start xs s) (λ u q. (of_won v u xs (λ e. absurd (cc (ap (λ (w : Won). in_window m (event_site w.note) s) e, q.1, is))) (λ j. j) q.0, q.1)) l

@@ -1,6 +1,6 @@
 -- One tile's log: its entries are its turns.
 use Rattle.std.proofs.Common.{ℕ, suc, ◌≡◌, ◌≤◌, ◌<◌, ◌+◌, List, [], ◌∷◌, refl, sym, ap, subst, arith, inl, inr, ⊎_elim, ◌∙◌, ◌==◌, ◌&&◌, length, cond}
-use Rattle.std.specs.Prelude.{nat_lt, if◌then◌else◌}
+use Rattle.std.specs.Prelude.{slice_get, nat_lt, if◌then◌else◌}
 use Rattle.std.proofs.lemmas.Bool.Decides.{nat_tests}
 use Rattle.std.proofs.lemmas.List.{length-append}
 use Rattle.std.proofs.lemmas.List.Sums.{sum_by_push}
@@ -14,7 +14,7 @@ use Rattle.event_journal.specs.declared.abandoned.Abandoned.{Abandoned}
 use Rattle.event_journal.specs.Logs.{IsLog, RisesTo, log_of}
 use Rattle.event_journal.specs.Accounts.{events_at, abandoned_at}
 use Rattle.tile_core.specs.Values.{event_site, given_up_site}
-use Rattle.tile_core.specs.Turns.{Won, Lost, Worn, Turn, Wins, Loses, Wears, records_in_turns, abandoned_in_turns, AreAttempts, IsNthAttempt}
+use Rattle.tile_core.specs.Turns.{Won, Lost, Worn, Turn, Wins, Loses, Wears, records_in_turns, abandoned_in_turns, AreAttempts, IsAttemptAt}
 use Rattle.serial_order.proofs.Tile.{Played, grows, stamps}
 
 pub in_records : (n : Record) (xs : List Turn) → In n (records_in_turns xs) → (w : Won) × In (Wins w) xs × (n ≡ w.note)
@@ -139,20 +139,20 @@ module _ (m : MapValue) (meaning : WindowValue → ℕ → WindowValue) (start :
   }
 
   -- the attempt of an event, and of an abandoned one
-  pub won_attempt : (attempts : List Attempt) (xs : List Turn) → Played m meaning start t xs → AreAttempts m t attempts xs → (w : Won) → In (Wins w) xs → IsNthAttempt m t attempts w.note.attempt (event_site w.note) w.note.seed
+  pub won_attempt : (attempts : List Attempt) (xs : List Turn) → Played m meaning start t xs → AreAttempts m t attempts xs → (w : Won) → In (Wins w) xs → IsAttemptAt m t (slice_get attempts w.note.attempt) (event_site w.note) w.note.seed
   won_attempt attempts [] p q w i = absurd i
   won_attempt attempts (Wins v ∷ xs) p q w i =
       ⊎_elim (λ e. let s : v ≡ w = cc (e) in
-      subst (λ (u : Won). IsNthAttempt m t attempts u.note.attempt (event_site u.note) u.note.seed) s (subst (λ n. IsNthAttempt m t attempts n (event_site v.note) v.note.seed) (sym p.0.attempt) q.0))
+      subst (λ (u : Won). IsAttemptAt m t (slice_get attempts u.note.attempt) (event_site u.note) u.note.seed) s (subst (λ n. IsAttemptAt m t (slice_get attempts n) (event_site v.note) v.note.seed) (sym p.0.attempt) q.0))
       (λ j. won_attempt attempts xs p.1 q.1 w j) i
   won_attempt attempts (Loses v ∷ xs) p q w i = ⊎_elim (λ e. absurd (cc (e))) (λ j. won_attempt attempts xs p.1 q.1 w j) i
   won_attempt attempts (Wears v ∷ xs) p q w i = ⊎_elim (λ e. absurd (cc (e))) (λ j. won_attempt attempts xs p.1 q.1 w j) i
 
-  pub lost_attempt : (attempts : List Attempt) (xs : List Turn) → Played m meaning start t xs → AreAttempts m t attempts xs → (l : Lost) → In (Loses l) xs → (seed : ℕ) × IsNthAttempt m t attempts l.gone.attempt (given_up_site l.gone) seed
+  pub lost_attempt : (attempts : List Attempt) (xs : List Turn) → Played m meaning start t xs → AreAttempts m t attempts xs → (l : Lost) → In (Loses l) xs → (seed : ℕ) × IsAttemptAt m t (slice_get attempts l.gone.attempt) (given_up_site l.gone) seed
   lost_attempt attempts [] p q l i = absurd i
   lost_attempt attempts (Loses v ∷ xs) p q l i =
       ⊎_elim (λ e. let s : v ≡ l = cc (e) in
-      (q.0.0, subst (λ (u : Lost). IsNthAttempt m t attempts u.gone.attempt (given_up_site u.gone) q.0.0) s (subst (λ n. IsNthAttempt m t attempts n (given_up_site v.gone) q.0.0) (sym p.0.attempt) q.0.1)))
+      (q.0.0, subst (λ (u : Lost). IsAttemptAt m t (slice_get attempts u.gone.attempt) (given_up_site u.gone) q.0.0) s (subst (λ n. IsAttemptAt m t (slice_get attempts n) (given_up_site v.gone) q.0.0) (sym p.0.attempt) q.0.1)))
       (λ j. lost_attempt attempts xs p.1 q.1 l j) i
   lost_attempt attempts (Wins v ∷ xs) p q l i = ⊎_elim (λ e. absurd (cc (e))) (λ j. lost_attempt attempts xs p.1 q.1 l j) i
   lost_attempt attempts (Wears v ∷ xs) p q l i = ⊎_elim (λ e. absurd (cc (e))) (λ j. lost_attempt attempts xs p.1 q.1 l j) i

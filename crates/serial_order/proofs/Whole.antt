@@ -20,7 +20,7 @@ use Rattle.list_laws.proofs.Members.{In, in_left, in_right, in_contains}
 use Rattle.border_cache.specs.Windows.{end_at, sites_on}
 use Rattle.border_cache.specs.Copies.{held_cell}
 use Rattle.tile_core.specs.Values.{atoms_of, TileValue, given_up_site}
-use Rattle.tile_core.specs.Turns.{Lost, Turn, Wins, Loses, Wears, IsLost, AreTurns, AreAttempts, IsAttemptOf, IsNthAttempt, records_in_turns, abandoned_in_turns, refusals_at, AgreeOnEdges, lists_of, cells_of}
+use Rattle.tile_core.specs.Turns.{common, Lost, Turn, Wins, Loses, Wears, IsLost, AreTurns, AreAttempts, IsAttemptOf, IsAttemptAt, records_in_turns, abandoned_in_turns, refusals_at, AgreeOnEdges, lists_of, cells_of}
 use Rattle.serial_order.specs.Scene.{Scene, IsOver, HasEnded, EdgeHistory, no_history, history_at, lists_at, end_lists_of, IsStopped}
 use Rattle.serial_order.proofs.Lists.{back, past_end, none_past}
 use Rattle.serial_order.proofs.Histories.{IsHistory, IsPlaced, history_back, ends_back, own_back, placed_back}
@@ -33,7 +33,7 @@ use Rattle.serial_order.proofs.Excuses.{AreRefused}
 pub record IsTold (m : MapValue) (meaning : WindowValue → ℕ → WindowValue) (start : Site → AtomValue) (given : List Attempt) (lists : ℕ → EndLists) (t : ℕ) (tile : TileValue) (turns : List Turn) : Type 0 where
   pub rest : List Attempt
   pub count : length given ≡ length turns + length rest
-  pub each : AreTurns m meaning start t turns
+  pub each : AreTurns (common m meaning start) t turns
   pub made : AreAttempts m t given turns
   pub records : tile.records ≡ records_in_turns turns
   pub abandoned : tile.abandoned ≡ abandoned_in_turns turns
@@ -46,7 +46,7 @@ get_first [] ys k a e = absurd (cc (e))
 get_first (x ∷ xs) ys zero a e = e
 get_first (x ∷ xs) ys (suc k) a e = get_first xs ys k a e
 
-more_attempts : (m : MapValue) (t : ℕ) (made rest given : List Attempt) (n : ℕ) (s : Site) (seed : ℕ) → given ≡ made ++ rest → IsNthAttempt m t made n s seed → IsNthAttempt m t given n s seed
+more_attempts : (m : MapValue) (t : ℕ) (made rest given : List Attempt) (n : ℕ) (s : Site) (seed : ℕ) → given ≡ made ++ rest → IsAttemptAt m t (slice_get made n) s seed → IsAttemptAt m t (slice_get given n) s seed
 more_attempts m t made rest given n s seed e a = record { attempt = a.attempt; is = ap (λ xs. slice_get xs n) e ∙ get_first made rest n a.attempt a.is; site_is = a.site_is; seed_is = a.seed_is }
 
 made_of : (m : MapValue) (t : ℕ) (made rest given : List Attempt) (xs : List Turn) → given ≡ made ++ rest → AreAttempts m t made xs → AreAttempts m t given xs
@@ -62,11 +62,11 @@ length_append : {A : Type 0} (xs ys : List A) → length (xs ++ ys) ≡ length x
 length_append [] ys = omega arith
 length_append (x ∷ xs) ys = omega (arith, length_append xs ys)
 
-told : (m : MapValue) (meaning : WindowValue → ℕ → WindowValue) (start : Site → AtomValue) (given : List Attempt) (lists : ℕ → EndLists) (t : ℕ) (tile : TileValue) → tile.number ≡ t → (h : HasEnded m meaning start given lists tile) → IsTold m meaning start given lists t tile h.played.turns
+told : (m : MapValue) (meaning : WindowValue → ℕ → WindowValue) (start : Site → AtomValue) (given : List Attempt) (lists : ℕ → EndLists) (t : ℕ) (tile : TileValue) → tile.number ≡ t → (h : HasEnded (common m meaning start) given lists tile) → IsTold m meaning start given lists t tile h.played.turns
 told m meaning start given lists t tile e h = record {
   rest = h.rest;
   count = ap length h.all ∙ (length_append h.made h.rest ∙ ap (λ n. n + length h.rest) h.played.all);
-  each = subst (λ u. AreTurns m meaning start u h.played.turns) e h.played.each;
+  each = subst (λ u. AreTurns (common m meaning start) u h.played.turns) e h.played.each;
   made = subst (λ u. AreAttempts m u given h.played.turns) e (made_of m tile.number h.made h.rest given h.played.turns h.all h.played.made);
   records = h.played.records_are;
   abandoned = h.played.abandoned_are;
@@ -146,11 +146,11 @@ module _ (s : Scene) (o : IsOver s) where
   abbrev pub hist : ℕ → List Hold
   hist e = back (history_at s.edges e).holds
 
-  pub each : (t : ℕ) → AreTurns s.map s.meaning (atoms_of s.start) t (turns t)
+  pub each : (t : ℕ) → AreTurns (common s.map s.meaning (atoms_of s.start)) t (turns t)
   each t = go (slice_get s.tiles t) refl
     where
-      go : (p : Option TileValue) → slice_get s.tiles t ≡ p → AreTurns s.map s.meaning (atoms_of s.start) t (turns t)
-      go None is = subst (AreTurns s.map s.meaning (atoms_of s.start) t) (sym (no_turns t is)) tt
+      go : (p : Option TileValue) → slice_get s.tiles t ≡ p → AreTurns (common s.map s.meaning (atoms_of s.start)) t (turns t)
+      go None is = subst (AreTurns (common s.map s.meaning (atoms_of s.start)) t) (sym (no_turns t is)) tt
       go (Some tile) is = (tile_told t tile is).each
 
   past_edges : (e : ℕ) → length s.edges ≤ e → history_at s.edges e ≡ no_history
@@ -214,7 +214,7 @@ module _ (s : Scene) (o : IsOver s) where
     higher = λ e. ap (λ b. own b (hist e)) (sym (high_is s.map e (apart s.map laws e))) ∙ holds_told (high_end s.map e) e (has_high s.map e);
   }
 
-  lost_was : (t : ℕ) (l : Lost) (xs : List Turn) → AreTurns s.map s.meaning (atoms_of s.start) t xs → In (Loses l) xs → (before : List Turn) × IsLost s.map t before l
+  lost_was : (t : ℕ) (l : Lost) (xs : List Turn) → AreTurns (common s.map s.meaning (atoms_of s.start)) t xs → In (Loses l) xs → (before : List Turn) × IsLost s.map t before l
   lost_was t l [] a i = absurd i
   lost_was t l (Wins w ∷ xs) a i = ⊎_elim (λ e. absurd (cc (e))) (λ j. lost_was t l xs a.2 j) i
   lost_was t l (Loses k ∷ xs) a i = ⊎_elim (λ e. let same : l ≡ k = cc (e) in (xs, subst (IsLost s.map t xs) (sym same) a.0)) (λ j. lost_was t l xs a.2 j) i

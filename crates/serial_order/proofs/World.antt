@@ -13,7 +13,7 @@ use Rattle.edge_lock.specs.History.{own, found_value}
 use Rattle.list_laws.proofs.Members.{In, in_filter, filter_in}
 use Rattle.border_cache.specs.Windows.{has, end_at, sites_on}
 use Rattle.tile_core.specs.Values.{event_site}
-use Rattle.tile_core.specs.Turns.{Won, Turn, Wins, Loses, Wears, IsTurn, IsWon, IsSilent, turn_edges, hold_at, one_if, lists_of, before, stamp_of, clock_in, accesses_at}
+use Rattle.tile_core.specs.Turns.{common, Won, Turn, Wins, Loses, Wears, IsTurn, IsWon, IsSilent, turn_edges, hold_at, one_if, lists_of, before, stamp_of, clock_in, accesses_at}
 use Rattle.serial_order.proofs.Lists.{back, back_append}
 use Rattle.serial_order.proofs.Histories.{IsQuiet, IsHistory, quiet}
 use Rattle.serial_order.proofs.Ground.{IsEnd, has_in, in_has, ends_of}
@@ -123,7 +123,7 @@ module _ (m : MapValue) (meaning : WindowValue → ℕ → WindowValue) (start :
   pub past_of : (w : Won) → IsEvent turns w → Past m meaning start w.note.tile (turns w.note.tile) w
   past_of w i = past m meaning start w.note.tile (turns w.note.tile) (run.played w.note.tile) w i
 
-  clock_low : (e : ℕ) (w : Won) (before : List Turn) (c : ℕ) → IsWon m meaning start w.note.tile before w → Needs m w e → found_value (accesses_at w e) 0 ≡ Some c → c < w.note.stamp
+  clock_low : (e : ℕ) (w : Won) (before : List Turn) (c : ℕ) → IsWon (common m meaning start) w.note.tile before w → Needs m w e → found_value (accesses_at w e) 0 ≡ Some c → c < w.note.stamp
   clock_low e w before c k i f =
       let at : clock_in (accesses_at w e) ≡ c = ap or_zero f in
       omega (arith, k.stamp, at, greatest_each (stamp_of before) (λ d. clock_in (accesses_at w d)) (needs_of m w.note.tile (event_site w.note)) e i)
@@ -181,7 +181,7 @@ module _ (m : MapValue) (meaning : WindowValue → ℕ → WindowValue) (start :
       silent : (g : Hold) → g ≡ h → IsSilent g → IsQuiet h
       silent g same s = subst IsQuiet same (quiet g s)
 
-      one : (x y : Turn) → IsTurn m meaning start t xs x → y ≡ x → (hold_at x e ≡ h) × (has e (turn_edges m t x) ≡ true) → IsMade e t h y
+      one : (x y : Turn) → IsTurn (common m meaning start) t xs x → y ≡ x → (hold_at x e ≡ h) × (has e (turn_edges m t x) ≡ true) → IsMade e t h y
       one (Wins w) y k s q = inr (w, s, q.0, has_in e (needs_of m t (event_site w.note)) q.1, k.tile)
       one (Loses l) y k s q = inl (silent (l.hold e) q.0 (k.given e q.1).1)
       one (Wears l) y k s q = inl (silent (l.hold e) q.0 (k.holds e q.1).2)

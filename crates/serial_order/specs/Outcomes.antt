@@ -1,39 +1,29 @@
 -- What a run is settled from, and the result.
 use Rattle.std.specs.Prelude.{ℕ, ◌≡◌, ◌<◌, ◌*◌, ◌+◌, ◌||◌, ◌/◌, ◌%◌, true, false, List, All, length, map, slice_get, slice_index_or, replicate, nat_le, Some}
 use Rattle.bit_field.specs.Atom.{empty_atom}
-use Rattle.window_sites.specs.Window.{WindowValue}
 use Rattle.tile_map.specs.Plane.{Site, MapValue, site, tiles_of, is_on, is_live, owner_of}
-use Rattle.tile_map.specs.Edges.{edges_at}
 use Rattle.cell_grid.specs.Grid.{GridValue, IsGrid, ArePlanesAlike, site_atom}
 use Rattle.cell_grid.specs.Records.{replay}
-use Rattle.draw_stream.specs.Plans.{PlanValue}
-use Rattle.edge_lock.specs.EndLists.{EndLists}
 use Rattle.event_journal.specs.Logs.{records_in, abandoned_in}
 use Rattle.event_journal.specs.Accounts.{IsAccounted, IsStamped, AreExcused}
-use Rattle.border_cache.specs.Copies.{IsGridOf, held_cell}
-use Rattle.tile_core.specs.Values.{TileValue}
-use Rattle.tile_core.specs.Underway.{IsSome}
-use Rattle.serial_order.specs.Scene.{EdgeHistory, Scene, IsOver, logs_of}
-use Rattle.serial_order.specs.Settled.{settled_cell}
+use Rattle.border_cache.specs.Copies.{IsGridOf}
+use Rattle.tile_core.specs.Values.{TileWith, TileValue}
+use Rattle.serial_order.specs.Scene.{EdgeHistory, Scene, Setting, IsOver, logs_of}
 use Rattle.serial_order.specs.Order.{NoneIsWorn, StampsAreSmall, TiesAreApart, Leads, HasNoNews}
 use Rattle.serial_order.specs.declared.outcome.Outcome.{Outcome}
 use Rattle.serial_order.specs.declared.blank.Area.{Area}
 
--- tiles without what acts
-abbrev pub values_of : {B : Type 0} → List (TileValue × B) → List TileValue
-values_of tiles = map (λ t. t.0) tiles
-
--- the tile was made with this map, and in some way it is underway
-abbrev pub IsMade : MapValue → TileValue → Type 0
-IsMade m tile = (meaning : WindowValue → ℕ → WindowValue) × (lists : ℕ → EndLists) × IsSome m meaning tile lists
+-- the values of tiles, without what acts on them
+abbrev pub values_of : {B : Type 0} → List (TileWith B) → List TileValue
+values_of tiles = map (λ t. t.core) tiles
 
 -- these tiles and edges at the end, and from what they started
-abbrev pub scene_of : MapValue → List TileValue → List EdgeHistory → (WindowValue → ℕ → WindowValue) → GridValue → PlanValue → Scene
-scene_of m tiles edges meaning start plan = record { map = m; meaning = meaning; start = start; plan = plan; tiles = tiles; edges = edges }
+abbrev pub scene_of : MapValue → List TileValue → List EdgeHistory → Setting → Scene
+scene_of m tiles edges g = record { map = m; meaning = g.meaning; start = g.start; plan = g.plan; tiles = tiles; edges = edges }
 
--- from some start and plan the tiles have played, and the edges have what they did
+-- in some setting the tiles have played, and the edges have what they did
 abbrev pub AreOver : MapValue → List TileValue → List EdgeHistory → Type 0
-AreOver m tiles edges = (meaning : WindowValue → ℕ → WindowValue) × (start : GridValue) × (plan : PlanValue) × IsOver (scene_of m tiles edges meaning start plan)
+AreOver m tiles edges = (g : Setting) × IsOver (scene_of m tiles edges g)
 
 -- A settled run: all its events stand in one serial order, that of the journal.
 pub record IsSettlement (s : Scene) (o : Outcome) : Type 0 where
@@ -50,9 +40,9 @@ pub record IsSettlement (s : Scene) (o : Outcome) : Type 0 where
   pub leads : All (Leads (records_in o.journal) (abandoned_in o.journal)) (abandoned_in o.journal)
   pub no_news : HasNoNews s
 
--- the outcome is a settlement, from whatever start and plan these tiles have played
+-- the outcome is a settlement, in whatever setting these tiles have played
 abbrev pub Settles : MapValue → List TileValue → List EdgeHistory → Outcome → Type 0
-Settles m tiles edges o = (meaning : WindowValue → ℕ → WindowValue) (start : GridValue) (plan : PlanValue) → IsOver (scene_of m tiles edges meaning start plan) → IsSettlement (scene_of m tiles edges meaning start plan) o
+Settles m tiles edges o = (g : Setting) → IsOver (scene_of m tiles edges g) → IsSettlement (scene_of m tiles edges g) o
 
 -- one tile for each of the map, each with a copy that is its own
 pub record AreTilesOf (m : MapValue) (tiles : List TileValue) : Type 0 where
@@ -64,12 +54,10 @@ pub record AreTilesOf (m : MapValue) (tiles : List TileValue) : Type 0 where
 abbrev pub IsPlaneGrid : MapValue → GridValue → Type 0
 IsPlaneGrid m g = IsGrid g × IsGridOf m g
 
--- a site of a grid of the plane was given its settled atom, if it is live, and no other live site
--- was changed
-pub record SettlesSite (m : MapValue) (tiles : List TileValue) (registers : ℕ → ℕ → ℕ) (s : Site) (old new : GridValue) : Type 0 where
+-- the new grid is one of the same plane, with the atoms of the old one at all live sites but this
+pub record ChangesSite (m : MapValue) (s : Site) (old new : GridValue) : Type 0 where
   pub grid : IsGrid new
   pub plane : ArePlanesAlike old new
-  pub here : (tile : TileValue) → is_live m s ≡ true → slice_get tiles (owner_of m s) ≡ Some tile → site_atom new s.x s.y ≡ (settled_cell m registers (held_cell tile.cache) (edges_at m (owner_of m s)) s).atom
   pub others : (u : Site) → is_live m u ≡ true → (u ≡ s → ⊥) → site_atom new u.x u.y ≡ site_atom old u.x u.y
 
 -- a grid of the plane's size, all of whose sites are empty; of the tiles that are off only those

@@ -1,6 +1,5 @@
 -- All tiles and all edges of a plane when the tiles are over.
 use Rattle.std.specs.Prelude.{ℕ, ◌≡◌, ◌<◌, ◌++◌, ◌==◌, List, [], ◌∷◌, length, map, slice_get, slice_index_or, if◌then◌else◌, true, Some}
-use Rattle.bit_field.specs.Atom.{AtomValue}
 use Rattle.window_sites.specs.Window.{WindowValue}
 use Rattle.tile_map.specs.Plane.{Site, MapValue, IsMap, tiles_of, is_held}
 use Rattle.tile_map.specs.Edges.{pairs_of, has_end}
@@ -17,7 +16,21 @@ use Rattle.border_cache.specs.Copies.{IsGridOf, held_cell}
 use Rattle.tile_core.specs.declared.phase.Phase.{Phase}
 use Rattle.tile_core.specs.declared.phase.Phase.TheVariants.{Draw, Lock, Refresh, Behave, Write, Give, Back, Finished, Worn}
 use Rattle.tile_core.specs.Values.{TileValue, atoms_of}
-use Rattle.tile_core.specs.Turns.{Turn, Wins, Loses, Wears, Wearless, HasPlayed, cells_of}
+use Rattle.tile_core.specs.Turns.{Common, common, Turn, Wins, Loses, Wears, Wearless, HasPlayed, cells_of}
+use Rattle.tile_core.specs.Underway.{made_by}
+
+-- what events do, and the grid and the attempts from which the tiles start
+pub record Setting : Type 0 where
+  pub meaning : WindowValue → ℕ → WindowValue
+  pub start : GridValue
+  pub plan : PlanValue
+
+abbrev pub setting : (WindowValue → ℕ → WindowValue) → GridValue → PlanValue → Setting
+setting meaning start plan = record { meaning = meaning; start = start; plan = plan }
+
+-- what all tiles of a plane have in common in a setting
+abbrev pub common_in : MapValue → Setting → Common
+common_in m g = common m g.meaning (atoms_of g.start)
 
 -- the history of an edge: the holds of both ends, and the refusals of each end, in order
 pub record EdgeHistory : Type 0 where
@@ -65,13 +78,13 @@ IsStopped Worn rest turns = WearsLast turns
 
 -- a tile is over: it has played the first of these attempts on its edges, all of them if it is
 -- finished, and its cells are those that its turns left
-pub record HasEnded (m : MapValue) (meaning : WindowValue → ℕ → WindowValue) (start : Site → AtomValue) (given : List Attempt) (lists : ℕ → EndLists) (tile : TileValue) : Type 0 where
+pub record HasEnded (c : Common) (given : List Attempt) (lists : ℕ → EndLists) (tile : TileValue) : Type 0 where
   pub made : List Attempt
   pub rest : List Attempt
   pub all : given ≡ made ++ rest
-  pub played : HasPlayed m meaning start tile.number made tile.records tile.abandoned lists
+  pub played : HasPlayed c tile.number made (made_by tile lists)
   pub ends : IsStopped tile.phase rest played.turns
-  pub cells : (s : Site) → is_held m tile.number s ≡ true → held_cell tile.cache s ≡ cells_of m start played.turns s
+  pub cells : (s : Site) → is_held c.map tile.number s ≡ true → held_cell tile.cache s ≡ cells_of c.map c.start played.turns s
 
 -- a plane, what events do, the grid and the attempts from which the tiles started, and the tiles and the edges at the end
 pub record Scene : Type 0 where
@@ -91,7 +104,7 @@ pub record IsOver (s : Scene) : Type 0 where
   pub lists : length s.plan.lists ≡ tiles_of s.map
   pub count : length s.tiles ≡ tiles_of s.map
   pub numbers : (t : ℕ) (tile : TileValue) → slice_get s.tiles t ≡ Some tile → tile.number ≡ t
-  pub ended : (t : ℕ) (tile : TileValue) → slice_get s.tiles t ≡ Some tile → HasEnded s.map s.meaning (atoms_of s.start) (attempts s.plan t) (lists_at s.map s.edges t) tile
+  pub ended : (t : ℕ) (tile : TileValue) → slice_get s.tiles t ≡ Some tile → HasEnded (common s.map s.meaning (atoms_of s.start)) (attempts s.plan t) (lists_at s.map s.edges t) tile
   pub known : length s.edges ≡ length (pairs_of s.map)
   pub histories : (e : ℕ) → e < length s.edges → IsEdgeHistory (sites_on s.map e) (history_at s.edges e).holds (history_at s.edges e).low (history_at s.edges e).high
 

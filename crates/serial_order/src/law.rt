@@ -1,15 +1,6 @@
 //! The laws of serial order, as contracts of calls that do nothing.
-ghost use Rattle.std.specs.Prelude.{ℕ, List};
-ghost use Rattle.window_sites.specs.Window.{WindowValue};
-ghost use Rattle.tile_map.specs.Plane.{MapValue};
-ghost use Rattle.cell_grid.specs.Grid.{GridValue};
-ghost use Rattle.draw_stream.specs.Plans.{PlanValue};
-ghost use Rattle.edge_lock.specs.PlainBoard.{PlainBoardValue};
-ghost use Rattle.tile_core.specs.Values.{TileValue};
-ghost use Rattle.serial_order.specs.Boards.{HaveStopped};
-ghost use Rattle.serial_order.specs.Outcomes.{scene_of};
+ghost use Rattle.serial_order.specs.Boards.{StoppedRunsAreOver};
 ghost use Rattle.serial_order.specs.Scene.{IsOver, Scene};
-ghost use Rattle.serial_order.specs.Words.{AreEdgeWords, counts_on, histories_on};
 ghost use Rattle.serial_order.specs.Order.{FindsWhatStands, HasOneOrder};
 ghost use Rattle.serial_order.specs.Example.{small_scene};
 
@@ -43,6 +34,5 @@ pub fn small_run()
 /// All tiles of a plane that have stopped on one plain board are over, and the board's words are
 /// those of its edges' histories. It does nothing.
 pub fn plain_run()
-    ensures { (m : MapValue) (meaning : WindowValue → ℕ → WindowValue) (start : GridValue) (plan : PlanValue) (tiles : List TileValue) (board : PlainBoardValue) → HaveStopped m meaning start plan tiles board →
-        IsOver (scene_of m tiles (histories_on board) meaning start plan) × AreEdgeWords m (histories_on board) (counts_on board) }
+    ensures { StoppedRunsAreOver }
 {}

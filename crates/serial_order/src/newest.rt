@@ -1,15 +1,13 @@
 //! The settled cell of a site: the newest of its tile's and those of the tile's edges. All edges of
 //! the plane are asked, since a map has no public list of a tile's edges.
-ghost use Rattle.std.specs.Prelude.{◌≡◌, ◌<◌, true, length, Some};
+ghost use Rattle.std.specs.Prelude.{◌≡◌, ◌<◌, IsTrue, length, Some};
 ghost use Rattle.bit_field.specs.Atom.{LeavesGap};
 ghost use Rattle.tile_map.specs.Plane.{site, is_held};
-ghost use Rattle.tile_map.specs.Edges.{pairs_of, edges_at};
-ghost use Rattle.border_cache.specs.Cells.{cell_value, cell_of, newer, newest};
+ghost use Rattle.tile_map.specs.Edges.{pairs_of};
+ghost use Rattle.border_cache.specs.Cells.{cell_of, newer, newest};
 ghost use Rattle.border_cache.specs.Copies.{held_cell};
-ghost use Rattle.border_cache.specs.Windows.{edge_place};
 ghost use Rattle.serial_order.specs.Scene.{registers_at};
-ghost use Rattle.serial_order.specs.Settled.{cell_in_registers, edge_cells, settled_cell};
-ghost use Rattle.serial_order.specs.Words.{AreEdgeWords, newer_on};
+ghost use Rattle.serial_order.specs.Words.{AreEdgeWords, as_cell, cell_on, cells_on, newer_on, settled_on};
 
 use crate::words::EdgeWords;
 use bit_field::Atom;
@@ -20,7 +18,7 @@ use tile_map::Map;
 /// one stamp.
 fn newer_of(own: (u32, Atom), low: u64, high: u64) -> (u32, Atom)
     requires { LeavesGap high }
-    ensures { cell_value result.0 result.1 ≡ newer (cell_value own.0 own.1) (Some (cell_of low high)) }
+    ensures { as_cell result ≡ newer (as_cell own) (Some (cell_of low high)) }
 {
     let stamp = (high >> 32) as u32;
     if own.0 < stamp {
@@ -40,9 +38,9 @@ fn newer_on_edge<E: EdgeWords>(
     words: &mut E,
 ) -> (u32, Atom)
     requires known { edge < length (pairs_of map.now) }
-    requires words { AreEdgeWords map.now (E.histories words.old) (E.counts words.old) }
-    ensures cell { cell_value result.0 result.1 ≡ newer (cell_value own.0 own.1) (cell_in_registers (registers_at (E.histories words.old) edge) (edge_place map.now edge (site x y))) }
-    ensures same { (E.histories words.new ≡ E.histories words.old) × (E.counts words.new ≡ E.counts words.old) }
+    requires words { AreEdgeWords map.now (E.words words.old) }
+    ensures cell { as_cell result ≡ newer (as_cell own) (cell_on map.now (E.words words.old).histories edge (site x y)) }
+    ensures same { E.words words.new ≡ E.words words.old }
 {
     match map.register(edge, x, y) {
         None => own,
@@ -67,9 +65,9 @@ fn newer_at_end<E: EdgeWords>(
     words: &mut E,
 ) -> (u32, Atom)
     requires known { edge < length (pairs_of map.now) }
-    requires words { AreEdgeWords map.now (E.histories words.old) (E.counts words.old) }
-    ensures cell { cell_value result.0 result.1 ≡ newer_on map.now (registers_at (E.histories words.old)) tile (site x y) (cell_value own.0 own.1) edge }
-    ensures same { (E.histories words.new ≡ E.histories words.old) × (E.counts words.new ≡ E.counts words.old) }
+    requires words { AreEdgeWords map.now (E.words words.old) }
+    ensures cell { as_cell result ≡ newer_on map.now (registers_at (E.words words.old).histories) tile (site x y) (as_cell own) edge }
+    ensures same { E.words words.new ≡ E.words words.old }
 {
     let (lower, higher) = map.ends(edge);
     if lower == tile || higher == tile {
@@ -88,9 +86,9 @@ fn newest_of<E: EdgeWords>(
     y: u32,
     words: &mut E,
 ) -> (u32, Atom)
-    requires words { AreEdgeWords map.now (E.histories words.old) (E.counts words.old) }
-    ensures cell { cell_value result.0 result.1 ≡ newest (cell_value own.0 own.1) (edge_cells map.now (registers_at (E.histories words.old)) (edges_at map.now tile) (site x y)) }
-    ensures same { (E.histories words.new ≡ E.histories words.old) × (E.counts words.new ≡ E.counts words.old) }
+    requires words { AreEdgeWords map.now (E.words words.old) }
+    ensures cell { as_cell result ≡ newest (as_cell own) (cells_on map.now (E.words words.old).histories tile (site x y)) }
+    ensures same { E.words words.new ≡ E.words words.old }
 {
     let mut best = own;
     for edge in 0..map.edges() {
@@ -112,10 +110,10 @@ pub fn settled_atom<E: EdgeWords>(
 ) -> Atom
     requires map { cache.now.map ≡ map.now }
     requires tile { cache.now.tile ≡ tile }
-    requires held { is_held map.now tile (site x y) ≡ true }
-    requires words { AreEdgeWords map.now (E.histories words.old) (E.counts words.old) }
-    ensures atom { result ≡ (settled_cell map.now (registers_at (E.histories words.old)) (held_cell cache.now) (edges_at map.now tile) (site x y)).atom }
-    ensures same { (E.histories words.new ≡ E.histories words.old) × (E.counts words.new ≡ E.counts words.old) }
+    requires held { IsTrue (is_held map.now tile (site x y)) }
+    requires words { AreEdgeWords map.now (E.words words.old) }
+    ensures atom { result ≡ (settled_on map.now (E.words words.old).histories tile (held_cell cache.now) (site x y)).atom }
+    ensures same { E.words words.new ≡ E.words words.old }
 {
     let own = cache.cell(x, y);
     newest_of(map, tile, own, x, y, words).1

@@ -1,11 +1,11 @@
 //! Settling: what tiles that are over leave, as one grid and one journal.
-ghost use Rattle.std.specs.Prelude.{◌≡◌, ◌<◌, ◌*◌, All, IfOk, length};
-ghost use Rattle.cell_grid.specs.Grid.{ArePlanesAlike};
+ghost use Rattle.std.specs.Prelude.{◌≡◌, ◌<◌, ◌*◌, All, IfOk};
 ghost use Rattle.tile_map.specs.Plane.{site};
-ghost use Rattle.serial_order.specs.Outcomes.{AreOver, AreTilesOf, IsMade, IsPlaneGrid, Settles, SettlesSite, values_of};
+ghost use Rattle.serial_order.specs.Outcomes.{AreOver, AreTilesOf, ChangesSite, IsPlaneGrid, Settles, values_of};
 ghost use Rattle.serial_order.specs.Scene.{logs_of, registers_at};
-ghost use Rattle.serial_order.specs.Settled.{IsSettled};
+ghost use Rattle.serial_order.specs.Settled.{IsSettled, IsSettledAt};
 ghost use Rattle.serial_order.specs.Words.{AreEdgeWords};
+ghost use Rattle.tile_core.specs.Underway.{IsMade};
 
 use crate::blank::blank_grid;
 use crate::newest::settled_atom;
@@ -39,9 +39,10 @@ fn settle_site<B: Behave, E: EdgeWords>(
     requires y { y < grid.old.height }
     requires grid { IsPlaneGrid map.now grid.old }
     requires tiles { AreTilesOf map.now (values_of tiles.now) }
-    requires words { AreEdgeWords map.now (E.histories words.old) (E.counts words.old) }
-    ensures site { SettlesSite map.now (values_of tiles.now) (registers_at (E.histories words.old)) (site x y) grid.old grid.new }
-    ensures same { (E.histories words.new ≡ E.histories words.old) × (E.counts words.new ≡ E.counts words.old) }
+    requires words { AreEdgeWords map.now (E.words words.old) }
+    ensures change { ChangesSite map.now (site x y) grid.old grid.new }
+    ensures settled { IsSettledAt map.now (values_of tiles.now) (registers_at (E.words words.old).histories) (site x y) grid.new }
+    ensures same { E.words words.new ≡ E.words words.old }
 {
     map.laws();
     if !map.is_live(x, y) {
@@ -62,9 +63,9 @@ fn settle_sites<B: Behave, E: EdgeWords>(
 )
     requires grid { IsPlaneGrid map.now grid.old }
     requires tiles { AreTilesOf map.now (values_of tiles.now) }
-    requires words { AreEdgeWords map.now (E.histories words.old) (E.counts words.old) }
-    ensures grid { IsSettled map.now (values_of tiles.now) (registers_at (E.histories words.old)) grid.new }
-    ensures same { (E.histories words.new ≡ E.histories words.old) × (E.counts words.new ≡ E.counts words.old) }
+    requires words { AreEdgeWords map.now (E.words words.old) }
+    ensures grid { IsSettled map.now (values_of tiles.now) (registers_at (E.words words.old).histories) grid.new }
+    ensures same { E.words words.new ≡ E.words words.old }
 {
     map.laws();
     let width = grid.width();
@@ -75,7 +76,7 @@ fn settle_sites<B: Behave, E: EdgeWords>(
 
 /// The logs of some tiles, in their order.
 fn logs<B: Behave + Drop>(alloc: Global, tiles: Vec<Tile<B>>) -> Result<Vec<TileLog>, NoMemory>
-    requires { All (λ t. IsMade t.0.cache.map t.0) tiles.items }
+    requires { All (λ t. IsMade t.core.cache.map t.core) tiles.items }
     ensures { IfOk result (λ v. v.items ≡ logs_of (values_of tiles.items)) }
 {
     let mut logs = Vec::new(alloc);
@@ -101,11 +102,11 @@ pub fn settle<B: Behave + Drop, E: EdgeWords>(
     tiles: Vec<Tile<B>>,
     words: &mut E,
 ) -> Result<Outcome, NoMemory>
-    requires made { All (λ t. IsMade map.now t.0) tiles.items }
-    requires words { AreEdgeWords map.now (E.histories words.old) (E.counts words.old) }
-    requires over { AreOver map.now (values_of tiles.items) (E.histories words.old) }
-    ensures settled { IfOk result (λ o. Settles map.now (values_of tiles.items) (E.histories words.old) o) }
-    ensures same { (E.histories words.new ≡ E.histories words.old) × (E.counts words.new ≡ E.counts words.old) }
+    requires made { All (λ t. IsMade map.now t.core) tiles.items }
+    requires words { AreEdgeWords map.now (E.words words.old) }
+    requires over { AreOver map.now (values_of tiles.items) (E.words words.old).histories }
+    ensures settled { IfOk result (λ o. Settles map.now (values_of tiles.items) (E.words words.old).histories o) }
+    ensures same { E.words words.new ≡ E.words words.old }
 {
     let mut grid = blank_grid(alloc, map)?;
     settle_sites(map, tiles.as_slice(), words, &mut grid);

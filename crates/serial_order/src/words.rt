@@ -1,5 +1,5 @@
 //! The words of all edges, once the tiles are over.
-ghost use Rattle.std.specs.Prelude.{◌≡◌, ◌<◌, ℕ, length};
+ghost use Rattle.std.specs.Prelude.{◌≡◌, ◌<◌, length};
 
 use edge_lock::{Closed, PlainBoard};
 use std::marker::Model;
@@ -8,29 +8,24 @@ use std::marker::Model;
 ///
 /// Contracts see the history of each edge and how many registers it has. No call changes them.
 pub trait EdgeWords {
-    ghost use Rattle.std.specs.Prelude.{List};
-    ghost use Rattle.serial_order.specs.Scene.{EdgeHistory, registers_at};
+    ghost use Rattle.serial_order.specs.Scene.{registers_at};
+    ghost use Rattle.serial_order.specs.Words.{WordsValue};
 
-    // The history of each edge, by its number.
-    ghost histories: { Self → List EdgeHistory };
-
-    // How many registers an edge has.
-    ghost counts: { Self → ℕ → ℕ };
+    // The history of each edge, by its number, and how many registers it has.
+    ghost words: { Self → WordsValue };
 
     /// What a register of an edge has.
     fn word(&mut self, edge: u32, register: u32) -> u64
-        requires edge { edge < length (histories self.old) }
-        requires register { register < counts self.old edge }
-        ensures value { result ≡ registers_at (histories self.old) edge register }
-        ensures same { (histories self.new ≡ histories self.old) × (counts self.new ≡ counts self.old) };
+        requires edge { edge < length (words self.old).histories }
+        requires register { register < (words self.old).counts edge }
+        ensures value { result ≡ registers_at (words self.old).histories edge register }
+        ensures same { words self.new ≡ words self.old };
 }
 
 impl EdgeWords for PlainBoard {
-    ghost use Rattle.serial_order.specs.Words.{histories_on, counts_on};
+    ghost use Rattle.serial_order.specs.Words.{plain_words};
 
-    ghost histories = { histories_on };
-
-    ghost counts = { counts_on };
+    ghost words = { plain_words };
 
     fn word(&mut self, edge: u32, register: u32) -> u64 {
         PlainBoard::word(self, edge, register)
@@ -62,11 +57,9 @@ impl ClosedEdges {
 }
 
 impl EdgeWords for ClosedEdges {
-    ghost use Rattle.serial_order.specs.Words.{closed_histories, closed_counts};
+    ghost use Rattle.serial_order.specs.Words.{closed_words};
 
-    ghost histories = { closed_histories };
-
-    ghost counts = { closed_counts };
+    ghost words = { closed_words };
 
     fn word(&mut self, edge: u32, register: u32) -> u64 {
         self.edges[edge as usize].word(register)

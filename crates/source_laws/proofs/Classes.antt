@@ -15,7 +15,7 @@ use Rattle.ulam_names.specs.Scopes.{Text, Head, Names}
 use Rattle.ulam_names.specs.Classes.{Known, Half, half_field, half_function, HalfClass, Pending, head_of, param_entries, context_of}
 use Rattle.ulam_names.specs.Classes as half
 use Rattle.ulam_names.specs.Relation.{IsBody}
-use Rattle.ulam_names.specs.ClassRelation.{IsWhole, AreWhole, AreClasses}
+use Rattle.ulam_names.specs.ClassRelation.{own_class, IsWhole, AreWhole, AreClasses}
 use Rattle.ulam_types.specs.Scopes.{ClassSig}
 use Rattle.ulam_types.specs.Programs.{scope_of}
 use Rattle.ulam_types.specs.ProgramTyping.{IsTypedMember, AreTypedMembers, AreTypedClasses}
@@ -82,7 +82,7 @@ record TypedFunction (sigs : List ClassSig) (known : Known) (heads : List Head) 
   has : IsTypedBody (scope_of sigs k f.of.ty f.params resolved) resolved typed
   is : u ≡ t.function f.of f.word f.params typed
 
-typed_function : (sigs : List ClassSig) (known : Known) (heads : List Head) (k : ℕ) (d : Names) (f : Pending) (x : r.Member) (u : t.Member) → IsWhole known heads k d (half_function f) x → IsTypedMember sigs k x u → TypedFunction sigs known heads k d f u
+typed_function : (sigs : List ClassSig) (known : Known) (heads : List Head) (k : ℕ) (d : Names) (f : Pending) (x : r.Member) (u : t.Member) → IsWhole (own_class known heads k d) (half_function f) x → IsTypedMember sigs k x u → TypedFunction sigs known heads k d f u
 typed_function sigs known heads k d f x u h i =
     let j : IsTypedMember sigs k (r.function f.of f.word f.params h.0) u = subst (λ (x : r.Member). IsTypedMember sigs k x u) h.2 i in
     record { resolved = h.0; typed = j.0; means = h.1; has = j.3; is = j.5 }
@@ -103,7 +103,7 @@ name_at (q ∷ ps) zero p e = let same : q ≡ p = cc in ap (λ (p : Text × Ty)
 name_at (q ∷ ps) (suc i) p e = name_at ps i p e
 
 module _ (known : Known) (heads : List Head) (sigs : List ClassSig) where
-  types_same : (k : ℕ) (d : Names) (hs : List Half) (xs : List r.Member) (us : List t.Member) → AreWhole known heads k d hs xs → AreTypedMembers sigs k xs us → types_of (fields us) ≡ half_types hs
+  types_same : (k : ℕ) (d : Names) (hs : List Half) (xs : List r.Member) (us : List t.Member) → AreWhole (own_class known heads k d) hs xs → AreTypedMembers sigs k xs us → types_of (fields us) ≡ half_types hs
   types_same k d [] xs us h i = let j : us ≡ [] = subst (λ (xs : List r.Member). AreTypedMembers sigs k xs us) h i in ap (λ (us : List t.Member). types_of (fields us)) j
   types_same k d (half_field n w len ∷ hs) xs us h i =
       let j : AreTypedMembers sigs k (h.0 ∷ h.1) us = subst (λ (xs : List r.Member). AreTypedMembers sigs k xs us) h.4 i in
@@ -141,7 +141,7 @@ later_is : (fn : Function) (fs : List Function) → bytes_eq fn.name (codes "beh
 later_is fn fs is h = rw is h
 
 module _ (known : Known) (heads : List Head) (sigs : List ClassSig) where
-  members_behave : (k : ℕ) (d : Names) (hs : List Half) (xs : List r.Member) (us : List t.Member) → FirstBehaves hs → AreWhole known heads k d hs xs → AreTypedMembers sigs k xs us → Behaves (functions us)
+  members_behave : (k : ℕ) (d : Names) (hs : List Half) (xs : List r.Member) (us : List t.Member) → FirstBehaves hs → AreWhole (own_class known heads k d) hs xs → AreTypedMembers sigs k xs us → Behaves (functions us)
   members_behave k d [] xs us b h i = absurd b
   members_behave k d (half_field n w len ∷ hs) xs us b h i =
       let j : AreTypedMembers sigs k (h.0 ∷ h.1) us = subst (λ (xs : List r.Member). AreTypedMembers sigs k xs us) h.4 i in
@@ -202,7 +202,7 @@ module _ (known : Known) (heads : List Head) (sigs : List ClassSig) (g : Program
             (params_cover heads z ps (all_locals a) slots) at x.means x.has;
       }
 
-  members_named : (k : ℕ) (d : Names) (hs : List Half) (xs : List r.Member) (us : List t.Member) → GoodNames d → AllGood hs → AreWhole known heads k d hs xs → AreTypedMembers sigs k xs us → NamedClass g k us
+  members_named : (k : ℕ) (d : Names) (hs : List Half) (xs : List r.Member) (us : List t.Member) → GoodNames d → AllGood hs → AreWhole (own_class known heads k d) hs xs → AreTypedMembers sigs k xs us → NamedClass g k us
   members_named k d [] xs us names good h i = let j : us ≡ [] = subst (λ (xs : List r.Member). AreTypedMembers sigs k xs us) h i in subst (NamedClass g k) (sym j) (empty_named g k)
   members_named k d (half_field n w len ∷ hs) xs us names good h i =
       let j : AreTypedMembers sigs k (h.0 ∷ h.1) us = subst (λ (xs : List r.Member). AreTypedMembers sigs k xs us) h.4 i in

@@ -46,10 +46,6 @@ allowed_fits kind v h =
     let w = between (least_width kind) (widest_of kind) v p.0 p.1 in
     wide_type kind (unsigned_abs v) w.0 (subst (λ m. unsigned_abs v ≤ m) (same_widest kind) w.1)
 
-low_high : (a b : Bool) → cond a b false ≡ true → (a ≡ true) × (b ≡ true)
-low_high true b h = (refl, h)
-low_high false b h = cc
-
 -- no kind has more than 64 bits
 most_bits : (kind : Kind) (w : ℕ) → w ≤ greatest_width kind → w ≤ 64
 most_bits k.Bool w e = omega (arith, e)
@@ -68,7 +64,7 @@ kind_fits kind w (negsuc m) le low high = grind (arith, ints)
 -- a constant's value
 pub value_fits : (num : NumType) (v : ℤ) → type_fits num ≡ true → in_range num v ≡ true → number_fits v ≡ true
 value_fits num v h range =
-    let w = low_high (nat_le (least_width num.kind) num.width) (nat_le num.width (greatest_width num.kind)) h in
+    let w = both (nat_le (least_width num.kind) num.width) (nat_le num.width (greatest_width num.kind)) h in
     let p = both (int_le (least num.kind num.width) v) (int_le v (greatest num.kind num.width)) range in
     kind_fits num.kind num.width v (most_bits num.kind num.width (leb-true num.width (greatest_width num.kind) w.1)) p.0 p.1
 

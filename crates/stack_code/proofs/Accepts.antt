@@ -1,9 +1,9 @@
 -- A pass accepts each code that has shapes. The places' exits are data, so that nothing here looks at instructions.
-use Rattle.std.proofs.Common.{◌≡◌, ℕ, zero, suc, ◌+◌, ◌<◌, ◌≤◌, ◌≢◌, ◌⊎◌, inl, inr, ⊎_elim, List, [], ◌∷◌, length, Option, Some, None, refl, sym, ap, ◌∙◌, subst, arith, Bool, true, false}
-use Rattle.std.specs.Prelude.{slice_get, slice_set, if◌then◌else◌}
+use Rattle.std.proofs.Common.{◌≡◌, ℕ, zero, suc, ◌+◌, ◌<◌, ◌≤◌, ◌≢◌, ◌⊎◌, inl, inr, ⊎_elim, List, [], ◌∷◌, length, Option, Some, None, refl, sym, ap, ◌∙◌, subst, arith, Bool, true}
+use Rattle.std.specs.Prelude.{slice_get, slice_set, ◌&&◌, if◌then◌else◌}
 use Rattle.std.proofs.lemmas.Bool.{cases_eq}
 use Rattle.list_laws.proofs.Slots.{get_inside, length_set}
-use Rattle.stack_code.specs.Valid.{Kinds, Notes, same_kind, same_kinds, note_over, arrive, arrive_with, Exits, note_exit, go_exit, at_exit, at_kinds, exits_of, Around, pass}
+use Rattle.stack_code.specs.Valid.{◌>>=◌, Kinds, Notes, same_kind, same_kinds, note_over, arrive, arrive_with, Exits, Passing, passing, note_exit, take_exit, pass_place, exits_of, Around, pass}
 use Rattle.stack_code.specs.declared.instr.Operand.{Operand}
 use Rattle.stack_code.specs.declared.instr.Operand.TheVariants.{Number, Atom}
 use Rattle.stack_code.specs.declared.instr.Instr.{Instr}
@@ -13,7 +13,14 @@ use Rattle.stack_code.proofs.Passes.{get_set_here, get_set_apart}
 unfoldable pub passes : (ℕ → Kinds → Option Exits) → ℕ → ℕ → Option Kinds → Notes → Option Notes
 passes ex zero p None n = Some n
 passes ex zero p (Some ks) n = None
-passes ex (suc k) p here n = at_kinds ex p n (arrive here n p) (passes ex k (suc p))
+passes ex (suc k) p here n = pass_place (ex p) p here n >>= λ (next : Passing). passes ex k (suc p) next.here next.notes
+
+-- the same from what comes to a place, and an exit once its jump is noted
+abbrev pub passes_on : (ℕ → Kinds → Option Exits) → ℕ → ℕ → Passing → Option Notes
+passes_on ex k p next = passes ex k p next.here next.notes
+
+abbrev exit_taken : Exits → Option Notes → Option Passing
+exit_taken x r = r >>= λ (noted : Notes). Some (passing x.falls noted)
 
 same_kind_refl : (k : Operand) → same_kind k k ≡ true
 same_kind_refl Number = refl
@@ -21,7 +28,7 @@ same_kind_refl Atom = refl
 
 same_kinds_refl : (ks : Kinds) → same_kinds ks ks ≡ true
 same_kinds_refl [] = refl
-same_kinds_refl (k ∷ ks) = ap (λ (b : Bool). if b then same_kinds ks ks else false) (same_kind_refl k) ∙ same_kinds_refl ks
+same_kinds_refl (k ∷ ks) = ap (λ (b : Bool). b && same_kinds ks ks) (same_kind_refl k) ∙ same_kinds_refl ks
 
 pub same_from : (a b : Kinds) → a ≡ b → same_kinds a b ≡ true
 same_from a b e = subst (λ b. same_kinds a b ≡ true) e (same_kinds_refl a)
@@ -111,7 +118,7 @@ module _ (ex : ℕ → Kinds → Option Exits) (first end len : ℕ) (shape : �
     pub long : length m ≡ len
     pub agree : (q : ℕ) (ks : Kinds) → slice_get m q ≡ Some (Some ks) → ks ≡ shape q
 
-  after_exit : (k p : ℕ) → first ≤ p → p < end → (here : Option Kinds) (n n1 : Notes) (x : Exits) → Come p here n → Grown n n1 → ex p (shape p) ≡ Some x → ((h : Option Kinds) (m : Notes) → Come (suc p) h m → (r : Notes) × (passes ex k (suc p) h m ≡ Some r) × Kept r) → (o : Option (ℕ × Kinds)) → x.jumps ≡ o → (m : Notes) × (go_exit x (note_exit n1 o) (passes ex k (suc p)) ≡ Some m) × Kept m
+  after_exit : (k p : ℕ) → first ≤ p → p < end → (here : Option Kinds) (n n1 : Notes) (x : Exits) → Come p here n → Grown n n1 → ex p (shape p) ≡ Some x → ((h : Option Kinds) (m : Notes) → Come (suc p) h m → (r : Notes) × (passes ex k (suc p) h m ≡ Some r) × Kept r) → (o : Option (ℕ × Kinds)) → x.jumps ≡ o → (m : Notes) × ((exit_taken x (note_exit n1 o) >>= passes_on ex k (suc p)) ≡ Some m) × Kept m
   after_exit k p plo plt here n n1 x c g f rec None h = rec x.falls n1 (next_come p plo plt here n n1 x c g f (λ j e. absurd (cc)))
   after_exit k p plo plt here n n1 x c g f rec (Some j) h =
       let s = sh.jumps p plo plt x f j h in
@@ -121,7 +128,7 @@ module _ (ex : ℕ → Kinds → Option Exits) (first end len : ℕ) (shape : �
       let g2 : Grown n1 m = grown_by n1 m j.0 j.1 t.2 g.agree s.0 t.3 t.4 in
       let there : slice_get m j.0 ≡ Some (Some (shape j.0)) = t.3 ∙ ap (λ k. Some (Some k)) s.0 in
       let r = rec x.falls m (next_come p plo plt here n m x c (grown_on n n1 m g g2) f (λ i e. let z : j ≡ i = cc in subst (λ (i : ℕ × Kinds). slice_get m i.0 ≡ Some (Some (shape i.0))) z there)) in
-      (r.0, ap (λ o. go_exit x (note_over n1 j.0 j.1 o) (passes ex k (suc p))) old.1 ∙ ap (λ o. go_exit x o (passes ex k (suc p))) t.1 ∙ r.1, r.2)
+      (r.0, ap (λ (o : Option (Option Kinds)). exit_taken x (note_over n1 j.0 j.1 o) >>= passes_on ex k (suc p)) old.1 ∙ ap (λ (o : Option Notes). exit_taken x o >>= passes_on ex k (suc p)) t.1 ∙ r.1, r.2)
 
   pub accepts : (k p : ℕ) (here : Option Kinds) (n : Notes) → p + k ≡ end → first ≤ p → Come p here n → (m : Notes) × (passes ex k p here n ≡ Some m) × Kept m
   unfolding passes
@@ -134,9 +141,9 @@ module _ (ex : ℕ → Kinds → Option Exits) (first end len : ℕ) (shape : �
       let n1 = slice_set n p (Some (shape p)) in
       let g1 : Grown n n1 = grown_by n n1 p (shape p) (length_set n p (Some (shape p)) ∙ c.long) c.agree refl (get_set_here n p (Some (shape p)) old.0 old.1) (λ r ne. get_set_apart n p r (Some (shape p)) (λ f. ne (sym f))) in
       let x = sh.exits p lo lt in
-      let go = passes ex k (suc p) in
+      let go = passes_on ex k (suc p) in
       let r = after_exit k p lo lt here n n1 x.0 c g1 x.1 (λ h m d. accepts k (suc p) h m (omega arith) (omega arith) d) x.0.jumps refl in
-      (r.0, ap (λ o. at_kinds ex p n o go) a ∙ ap (λ o. at_exit o n1 go) x.1 ∙ r.1, r.2)
+      (r.0, ap (λ (o : Option Kinds). (o >>= λ (ks : Kinds). ex p ks >>= take_exit (slice_set n p (Some ks))) >>= go) a ∙ ap (λ (o : Option Exits). (o >>= take_exit n1) >>= go) x.1 ∙ r.1, r.2)
 
 -- the pass of the rule on valid code is this pass
 abbrev pub ex_by : Around → ℕ → Kinds → Option Instr → Option Exits
@@ -146,17 +153,9 @@ ex_by a p ks (Some i) = exits_of a i p ks
 abbrev pub ex_of : Around → ℕ → Kinds → Option Exits
 ex_of a p ks = ex_by a p ks (slice_get a.code.instrs p)
 
-go_same : (x : Exits) (r : Option Notes) (go to : Option Kinds → Notes → Option Notes) → ((h : Option Kinds) (m : Notes) → go h m ≡ to h m) → go_exit x r go ≡ go_exit x r to
-go_same x None go to f = refl
-go_same x (Some n) go to f = f x.falls n
-
-exit_same : (r : Option Exits) (n : Notes) (go to : Option Kinds → Notes → Option Notes) → ((h : Option Kinds) (m : Notes) → go h m ≡ to h m) → at_exit r n go ≡ at_exit r n to
-exit_same None n go to f = refl
-exit_same (Some x) n go to f = go_same x (note_exit n x.jumps) go to f
-
-kinds_same : (ex fx : ℕ → Kinds → Option Exits) (p : ℕ) (n : Notes) (r : Option Kinds) (go to : Option Kinds → Notes → Option Notes) → ((ks : Kinds) → ex p ks ≡ fx p ks) → ((h : Option Kinds) (m : Notes) → go h m ≡ to h m) → at_kinds ex p n r go ≡ at_kinds fx p n r to
-kinds_same ex fx p n None go to e f = refl
-kinds_same ex fx p n (Some ks) go to e f = ap (λ r. at_exit r (slice_set n p (Some ks)) go) (e ks) ∙ exit_same (fx p ks) (slice_set n p (Some ks)) go to f
+next_same : (r : Option Passing) (go to : Passing → Option Notes) → ((next : Passing) → go next ≡ to next) → (r >>= go) ≡ (r >>= to)
+next_same None go to f = refl
+next_same (Some next) go to f = f next
 
 pub pass_is : (a : Around) (is : List Instr) (p : ℕ) (here : Option Kinds) (n : Notes) → ((k : ℕ) (i : Instr) → slice_get is k ≡ Some i → slice_get a.code.instrs (p + k) ≡ Some i) → pass a is p here n ≡ passes (ex_of a) (length is) p here n
 unfolding pass passes
@@ -166,5 +165,7 @@ pass_is a (i ∷ is) p here n at =
     let z : p + 0 ≡ p = omega arith in
     let here_at : slice_get a.code.instrs p ≡ Some i = ap (slice_get a.code.instrs) (sym z) ∙ at 0 i refl in
     let s : p + 1 ≡ suc p = omega arith in
-    kinds_same (exits_of a i) (ex_of a) p n (arrive here n p) (pass a is (p + 1)) (passes (ex_of a) (length is) (suc p)) (λ ks. sym (ap (ex_by a p ks) here_at)) (λ h m.
-    pass_is a is (p + 1) h m (λ k j e. let y : p + 1 + k ≡ p + suc k = omega arith in ap (slice_get a.code.instrs) y ∙ at (suc k) j e) ∙ ap (λ q. passes (ex_of a) (length is) q h m) s)
+    let go = λ (next : Passing). pass a is (p + 1) next.here next.notes in
+    ap (λ (o : Option Instr). pass_place (λ (ks : Kinds). ex_by a p ks o) p here n >>= go) (sym here_at)
+    ∙ next_same (pass_place (ex_of a p) p here n) go (passes_on (ex_of a) (length is) (suc p)) (λ next.
+    pass_is a is (p + 1) next.here next.notes (λ k j e. let y : p + 1 + k ≡ p + suc k = omega arith in ap (slice_get a.code.instrs) y ∙ at (suc k) j e) ∙ ap (λ q. passes (ex_of a) (length is) q next.here next.notes) s)

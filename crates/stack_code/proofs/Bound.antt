@@ -1,16 +1,17 @@
 -- Valid code ends within 1001 times its length, and lacks nothing.
-use Rattle.std.proofs.Common.{◌≡◌, ℕ, zero, suc, ◌+◌, ◌-◌, ◌*◌, ◌<◌, ◌≤◌, List, [], ◌∷◌, length, Option, Some, None, refl, sym, ap, ◌∙◌, subst, arith, true, false, take, drop}
-use Rattle.std.specs.Prelude.{slice_get, nat_lt, nat_le, nat_eq, if◌then◌else◌, replicate, is_some}
+use Rattle.std.proofs.Common.{◌≡◌, ℕ, zero, suc, ◌+◌, ◌-◌, ◌*◌, ◌<◌, ◌≤◌, List, [], ◌∷◌, length, Option, Some, None, refl, sym, ap, ◌∙◌, subst, arith, true, take, drop}
+use Rattle.std.specs.Prelude.{slice_get, nat_lt, nat_le, nat_eq, ◌==◌, ◌&&◌, is_some}
 use Rattle.std.proofs.lemmas.Bool.{leb-true, ltb-true, eqb-true}
 use Rattle.std.proofs.lemmas.List.{length-take}
 use Rattle.std.proofs.Common.{length-drop}
 use Rattle.list_laws.proofs.Slots.{get_drop}
+use Rattle.list_laws.proofs.Tests.{both}
 use Rattle.window_sites.specs.Window.{WindowValue}
 use Rattle.stack_code.specs.Machine.{FunctionValue, CodeValue, Led, Goes, Fails, Ends, Lacks, State, step, and_then, iter, one_more, count, start, start_with}
 use Rattle.stack_code.specs.Laws.{IsOver, RunsWell}
-use Rattle.stack_code.specs.Valid.{Notes, Around, around, pass, pass_all, pass_function, then_pass, function_fits, end_with, valid, back_of, first_fits, length_fits}
+use Rattle.stack_code.specs.Valid.{Notes, Around, around, pass, stretch, pass_all, pass_function, function_fits, end_with, valid, back_of, first_fits, length_fits, no_notes}
 use Rattle.stack_code.specs.declared.instr.Instr.{Instr}
-use Rattle.stack_code.proofs.Passes.{if_gives, if_true, FinePlace, FineAll, Extends, pass_fine, extends_on, extends_same}
+use Rattle.stack_code.proofs.Passes.{if_gives, then_gives, FinePlace, FineAll, Extends, pass_fine, extends_on, extends_same}
 use Rattle.stack_code.proofs.Typed.{FunctionFine, CodeFine, Typed, measure, NextLed, step_next, fill_kinds, start_free, weight_by}
 
 weight_some : (len p : ℕ) (o : Option ℕ) → p < len → 0 < weight_by len p o
@@ -64,14 +65,10 @@ fine_at a shapes (j ∷ is) p (suc k) i f e =
 
 fits_gives : (g : FunctionValue) (p end : ℕ) → function_fits g p end ≡ true → (nat_eq g.first p ≡ true) × (p < end) × (g.params ≤ length g.slots) × (length g.slots ≤ 72)
 fits_gives g p end e =
-    let x = if_true (nat_eq g.first p) (if nat_lt p end then (if nat_le g.params (length g.slots) then nat_le (length g.slots) 72 else false) else false) e in
-    let y = if_true (nat_lt p end) (if nat_le g.params (length g.slots) then nat_le (length g.slots) 72 else false) x.1 in
-    let z = if_true (nat_le g.params (length g.slots)) (nat_le (length g.slots) 72) y.1 in
-    (x.0, ltb-true p end y.0, leb-true g.params (length g.slots) z.0, leb-true (length g.slots) 72 z.1)
-
-pub then_gives : (r : Option Notes) (go : Notes → Option Notes) (m : Notes) → then_pass r go ≡ Some m → (n : Notes) × (r ≡ Some n) × (go n ≡ Some m)
-then_gives None go m e = cc
-then_gives (Some n) go m e = (n, refl, e)
+    let x = both (g.first == p && nat_lt p end && nat_le g.params (length g.slots)) (nat_le (length g.slots) 72) e in
+    let y = both (g.first == p && nat_lt p end) (nat_le g.params (length g.slots)) x.0 in
+    let z = both (g.first == p) (nat_lt p end) y.0 in
+    (z.0, ltb-true p end z.1, leb-true g.params (length g.slots) y.1, leb-true (length g.slots) 72 x.1)
 
 -- a function of valid code, with the place where it ends
 abbrev pub FineUpTo : CodeValue → Notes → FunctionValue → ℕ → Type 0
@@ -90,14 +87,14 @@ unfolding pass_all
 first_zero c g gs shapes n e =
     let end = end_with (length c.instrs) gs in
     let y = then_gives (pass_function c g 0 end n) (pass_all c gs end) shapes e in
-    let x = if_gives (function_fits g 0 end) (pass (around c g end) (take (end - 0) (drop 0 c.instrs)) 0 (Some []) n) y.0 y.1 in
+    let x = if_gives (function_fits g 0 end) (pass (around c g end) (stretch c 0 end) 0 (Some []) n) y.0 y.1 in
     eqb-true g.first 0 (fits_gives g 0 end x.0).0
 
 module _ (c : CodeValue) where
   -- a function that passed
   function_fine : (g : FunctionValue) (p end : ℕ) (n m shapes : Notes) → end ≤ length c.instrs → pass_function c g p end n ≡ Some m → Extends m shapes → FineUpTo c shapes g end × Extends n m × (p < end)
   function_fine g p end n m shapes le e x =
-      let is = take (end - p) (drop p c.instrs) in
+      let is = stretch c p end in
       let a = around c g end in
       let y = if_gives (function_fits g p end) (pass a is p (Some []) n) m e in
       let z = fits_gives g p end y.0 in
@@ -151,13 +148,13 @@ module _ (c : CodeValue) where
     pub bound : measure c (start c w seed) ≤ 1001 * length c.instrs
     pub short : length c.instrs ≤ 65536
 
-  starts_with : (gs : List FunctionValue) (shapes : Notes) → c.functions ≡ gs → first_fits gs ≡ true → pass_all c gs 0 (replicate (length c.instrs) None) ≡ Some shapes → length c.instrs ≤ 65536 → (w : WindowValue) (seed : ℕ) → Starts w seed
+  starts_with : (gs : List FunctionValue) (shapes : Notes) → c.functions ≡ gs → first_fits gs ≡ true → pass_all c gs 0 (no_notes c) ≡ Some shapes → length c.instrs ≤ 65536 → (w : WindowValue) (seed : ℕ) → Starts w seed
   starts_with [] shapes e f p short w seed = cc
   starts_with (g ∷ gs) shapes e f p short w seed =
-      let r = all_fine (g ∷ gs) 0 (replicate (length c.instrs) None) shapes p in
+      let r = all_fine (g ∷ gs) 0 (no_notes c) shapes p in
       let cf : CodeFine c shapes = record { each = λ k h at. (r.3 k h (subst (λ l. slice_get l k ≡ Some h) e at)).0 } in
       let at : slice_get c.functions 0 ≡ Some g = ap (λ l. slice_get l 0) e in
-      let z = first_zero c g gs shapes (replicate (length c.instrs) None) p in
+      let z = first_zero c g gs shapes (no_notes c) p in
       let st = start_first shapes (g ∷ gs) cf e g at z w seed in
       let s : start_with w seed (Some g) ≡ start c w seed = ap (start_with w seed) (sym at) in
       record {
@@ -171,11 +168,11 @@ module _ (c : CodeValue) where
   pub starts : valid c ≡ true → (w : WindowValue) (seed : ℕ) → Starts w seed
   unfolding valid
   starts e w seed =
-      let x = if_true (length_fits (length c.instrs)) (if first_fits c.functions then is_some (pass_all c c.functions 0 (replicate (length c.instrs) None)) else false) e in
-      let y = if_true (first_fits c.functions) (is_some (pass_all c c.functions 0 (replicate (length c.instrs) None))) x.1 in
-      let z = is_some_gives (pass_all c c.functions 0 (replicate (length c.instrs) None)) y.1 in
-      let l = if_true (nat_le 1 (length c.instrs)) (nat_le (length c.instrs) 65536) x.0 in
-      starts_with c.functions z.0 refl y.0 z.1 (leb-true (length c.instrs) 65536 l.1) w seed
+      let x = both (length_fits (length c.instrs) && first_fits c.functions) (is_some (pass_all c c.functions 0 (no_notes c))) e in
+      let y = both (length_fits (length c.instrs)) (first_fits c.functions) x.0 in
+      let z = is_some_gives (pass_all c c.functions 0 (no_notes c)) x.1 in
+      let l = both (nat_le 1 (length c.instrs)) (nat_le (length c.instrs) 65536) y.0 in
+      starts_with c.functions z.0 refl y.1 z.1 (leb-true (length c.instrs) 65536 l.1) w seed
 
   -- valid code ends, and never lacks an operand
   pub runs_well : valid c ≡ true → (w : WindowValue) (seed : ℕ) → RunsWell c w seed

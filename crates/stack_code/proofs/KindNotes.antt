@@ -1,9 +1,9 @@
 -- The notes of places.
 use Rattle.std.proofs.Common.{◌≡◌, ℕ, zero, suc, ◌+◌, ◌-◌, ◌<◌, ◌≤◌, List, [], ◌∷◌, length, get_or, Option, Some, None, refl, sym, ap, ◌∙◌, arith, Bool, ◌⊎◌, inl, inr, ⊎_elim, drop, drop-cons, Ok}
 use Rattle.std.specs.Prelude.{slice_get, slice_set, map, is_none}
-use Rattle.stack_code.specs.Valid.{Kinds, Notes, note, Exits, arrive, at_kinds, at_exit, go_exit, note_exit, Around, exits_of, pass}
+use Rattle.stack_code.specs.Valid.{◌>>=◌, Kinds, Notes, note, Exits, arrive, Passing, passing, note_exit, take_exit, pass_place, Around, exits_of, pass}
 use Rattle.stack_code.specs.declared.kind_lists.Node.{Node}
-use Rattle.stack_code.specs.KindLists.{list_at, Grows, noted, notes_of, NotesFit, maybe, exit_of, jump_of, PassLeaves}
+use Rattle.stack_code.specs.KindLists.{list_at, Grows, noted, notes_of, NotesFit, maybe, exit_of, jump_of, passing_of, PassLeaves}
 use Rattle.stack_code.specs.declared.instr.Instr.{Instr}
 use Rattle.std.proofs.Math.ListN.{drop_of_length-le}
 use Rattle.std.specs.Option.{option_map}
@@ -74,30 +74,42 @@ pub reached_fits : (old new : List Node) (notes : List ℕ) (p id : ℕ) → Gro
 reached_fits old new notes p id g fit le = fits_grow old new (slice_set notes p (id + 1)) g (fits_set old notes p id fit le)
 
 -- a place that is reached, and may not be left so
-pub place_none : (ex : ℕ → Kinds → Option Exits) (p : ℕ) (old : List Node) (notes : List ℕ) (here : Option Kinds) (id : ℕ) → Some (list_at old id) ≡ arrive here (notes_of old notes) p → ex p (list_at old id) ≡ None → (go : Option Kinds → Notes → Option Notes) → at_kinds ex p (notes_of old notes) (arrive here (notes_of old notes) p) go ≡ None
-place_none ex p old notes here id arrived leads go =
-    ap (λ k. at_kinds ex p (notes_of old notes) k go) (sym arrived) ∙ ap (λ x. at_exit x (slice_set (notes_of old notes) p (Some (list_at old id))) go) leads
+pub place_none : (ex : Kinds → Option Exits) (p : ℕ) (old : List Node) (notes : List ℕ) (here : Option Kinds) (id : ℕ) → Some (list_at old id) ≡ arrive here (notes_of old notes) p → ex (list_at old id) ≡ None → pass_place ex p here (notes_of old notes) ≡ None
+place_none ex p old notes here id arrived leads =
+    let n = notes_of old notes in
+    ap (λ (o : Option Kinds). o >>= λ (ks : Kinds). ex ks >>= take_exit (slice_set n p (Some ks))) (sym arrived)
+    ∙ ap (λ (o : Option Exits). o >>= take_exit (slice_set n p (Some (list_at old id)))) leads
 
 -- a place that is reached, and leads somewhere
-pub place_front : (ex : ℕ → Kinds → Option Exits) (p : ℕ) (old new : List Node) (notes notes1 : List ℕ) (here : Option Kinds) (id : ℕ) (e : Exit) → Some (list_at old id) ≡ arrive here (notes_of old notes) p → notes1 ≡ slice_set notes p (id + 1) → ex p (list_at old id) ≡ Some (exit_of new e) → Grows old new → NotesFit old notes → id ≤ length old → (go : Option Kinds → Notes → Option Notes) → at_kinds ex p (notes_of old notes) (arrive here (notes_of old notes) p) go ≡ go_exit (exit_of new e) (note_exit (notes_of new notes1) (jump_of new e.jumps)) go
-place_front ex p old new notes notes1 here id e arrived n1 leads g fit le go =
-    let a : at_kinds ex p (notes_of old notes) (arrive here (notes_of old notes) p) go ≡ at_exit (ex p (list_at old id)) (slice_set (notes_of old notes) p (Some (list_at old id))) go = ap (λ k. at_kinds ex p (notes_of old notes) k go) (sym arrived) in
-    let b : slice_set (notes_of old notes) p (Some (list_at old id)) ≡ notes_of new notes1 = reached old new notes p id g fit le ∙ ap (notes_of new) (sym n1) in
-    a ∙ ap (λ x. at_exit x (slice_set (notes_of old notes) p (Some (list_at old id))) go) leads ∙ ap (λ n. go_exit (exit_of new e) (note_exit n (jump_of new e.jumps)) go) b
+pub place_front : (ex : Kinds → Option Exits) (p : ℕ) (old new : List Node) (notes notes1 : List ℕ) (here : Option Kinds) (id : ℕ) (e : Exit) → Some (list_at old id) ≡ arrive here (notes_of old notes) p → notes1 ≡ slice_set notes p (id + 1) → ex (list_at old id) ≡ Some (exit_of new e) → Grows old new → NotesFit old notes → id ≤ length old → pass_place ex p here (notes_of old notes) ≡ take_exit (notes_of new notes1) (exit_of new e)
+place_front ex p old new notes notes1 here id e arrived n1 leads g fit le =
+    let n = notes_of old notes in
+    let set = slice_set n p (Some (list_at old id)) in
+    let b : set ≡ notes_of new notes1 = reached old new notes p id g fit le ∙ ap (notes_of new) (sym n1) in
+    ap (λ (o : Option Kinds). o >>= λ (ks : Kinds). ex ks >>= take_exit (slice_set n p (Some ks))) (sym arrived)
+    ∙ ap (λ (o : Option Exits). o >>= take_exit set) leads
+    ∙ ap (λ (m : Notes). take_exit m (exit_of new e)) b
 
-pub place_falls : (new : List Node) (notes1 : List ℕ) (e : Exit) → e.jumps ≡ None → (go : Option Kinds → Notes → Option Notes) → go_exit (exit_of new e) (note_exit (notes_of new notes1) (jump_of new e.jumps)) go ≡ go (maybe new e.falls) (notes_of new notes1)
-place_falls new notes1 e j go = ap (λ x. go_exit (exit_of new e) (note_exit (notes_of new notes1) (jump_of new x)) go) j
+-- the exit of a place that has no jump, and that of one that has
+pub place_falls : (new : List Node) (notes1 : List ℕ) (e : Exit) → e.jumps ≡ None → take_exit (notes_of new notes1) (exit_of new e) ≡ passing_of new notes1 (Some e.falls)
+place_falls new notes1 e j = ap (λ (x : Option (ℕ × ℕ)). note_exit (notes_of new notes1) (jump_of new x) >>= λ (noted : Notes). Some (passing (maybe new e.falls) noted)) j
 
-pub place_jumps : (new : List Node) (notes1 : List ℕ) (e : Exit) (q ks : ℕ) (r : Option Notes) → e.jumps ≡ Some (q, ks) → note (notes_of new notes1) q (list_at new ks) ≡ r → (go : Option Kinds → Notes → Option Notes) → go_exit (exit_of new e) (note_exit (notes_of new notes1) (jump_of new e.jumps)) go ≡ go_exit (exit_of new e) r go
-place_jumps new notes1 e q ks r j n go = ap (λ x. go_exit (exit_of new e) (note_exit (notes_of new notes1) (jump_of new x)) go) j ∙ ap (λ r. go_exit (exit_of new e) r go) n
+pub place_jumps : (new : List Node) (notes1 : List ℕ) (e : Exit) (q ks : ℕ) (r : Option Notes) → e.jumps ≡ Some (q, ks) → note (notes_of new notes1) q (list_at new ks) ≡ r → take_exit (notes_of new notes1) (exit_of new e) ≡ (r >>= λ (noted : Notes). Some (passing (maybe new e.falls) noted))
+place_jumps new notes1 e q ks r j n =
+    let next = λ (noted : Notes). Some (passing (maybe new e.falls) noted) in
+    ap (λ (x : Option (ℕ × ℕ)). note_exit (notes_of new notes1) (jump_of new x) >>= next) j ∙ ap (λ (o : Option Notes). o >>= next) n
 
--- the pass goes on behind a place
-pub pass_one : (a : Around) (is : List Instr) (k p : ℕ) (d : Instr) (here : Option Kinds) (notes : Notes) → k < length is → pass a (drop k is) p here notes ≡ at_kinds (exits_of a (get_or is k d)) p notes (arrive here notes p) (pass a (drop (k + 1) is) (p + 1))
+-- the pass from what comes to a place
+abbrev pub pass_on : Around → List Instr → ℕ → Passing → Option Notes
+pass_on a is p next = pass a is p next.here next.notes
+
+-- the pass over a place and the places behind it
+pub pass_one : (a : Around) (is : List Instr) (k p : ℕ) (d : Instr) (here : Option Kinds) (notes : Notes) → k < length is → pass a (drop k is) p here notes ≡ (pass_place (exits_of a (get_or is k d) p) p here notes >>= pass_on a (drop (k + 1) is) (p + 1))
 unfolding pass
 pass_one a is k p d here notes lt =
     let e : drop k is ≡ get_or is k d ∷ drop (suc k) is = drop-cons is k d lt in
     let s : k + 1 ≡ suc k = omega arith in
-    ap (λ l. pass a l p here notes) e ∙ ap (λ j. at_kinds (exits_of a (get_or is k d)) p notes (arrive here notes p) (pass a (drop j is) (p + 1))) (sym s)
+    ap (λ l. pass a l p here notes) e ∙ ap (λ j. pass_place (exits_of a (get_or is k d) p) p here notes >>= pass_on a (drop j is) (p + 1)) (sym s)
 
 pub pass_end : (a : Around) (is : List Instr) (k p : ℕ) (lists : List Node) (here : Option ℕ) (notes : List ℕ) (r : Bool) → length is ≤ k → r ≡ is_none here → NotesFit lists notes → PassLeaves (pass a (drop k is) p (maybe lists here) (notes_of lists notes)) lists notes (Ok r)
 unfolding pass

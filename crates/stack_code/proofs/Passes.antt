@@ -1,9 +1,10 @@
 -- What the pass says of each place.
 use Rattle.std.proofs.Common.{◌≡◌, ℕ, zero, suc, ◌+◌, ◌<◌, ◌≤◌, ◌≢◌, List, [], ◌∷◌, length, Option, Some, None, refl, sym, ap, ◌∙◌, subst, arith, Bool, true, false}
-use Rattle.std.specs.Prelude.{slice_get, slice_set, nat_le, if◌then◌else◌}
+use Rattle.std.specs.Prelude.{slice_get, slice_set, nat_le, ◌&&◌, if◌then◌else◌}
 use Rattle.std.proofs.lemmas.Bool.{leb-true}
+use Rattle.list_laws.proofs.Tests.{both}
 use Rattle.stack_code.specs.Sorts.{sort}
-use Rattle.stack_code.specs.Valid.{Kinds, Notes, same_kind, same_kinds, note, note_over, arrive, arrive_with, Exits, falls_exit, jump_exit, fork_exit, end_exit, exits, exits_of, note_exit, go_exit, at_exit, at_kinds, Around, pass, args_fit}
+use Rattle.stack_code.specs.Valid.{◌>>=◌, Kinds, Notes, same_kind, same_kinds, note, note_over, arrive, arrive_with, Exits, falls_exit, jump_exit, fork_exit, end_exit, exits, exits_of, Passing, passing, note_exit, take_exit, pass_place, Around, pass, args_fit}
 use Rattle.stack_code.specs.declared.instr.Operand.{Operand}
 use Rattle.stack_code.specs.declared.instr.Operand.TheVariants.{Number, Atom}
 use Rattle.stack_code.specs.declared.instr.Instr.{Instr}
@@ -19,17 +20,17 @@ same_kind_eq Number Atom e = cc
 same_kind_eq Atom Number e = cc
 same_kind_eq Atom Atom e = refl
 
--- two tests of which the second is made only if the first holds
-pub if_true : (b c : Bool) → (if b then c else false) ≡ true → (b ≡ true) × (c ≡ true)
-if_true true c e = (refl, e)
-if_true false c e = cc
+-- something that gives, and what comes next gives too
+pub then_gives : {A B : Type 0} (r : Option A) (go : A → Option B) (m : B) → (r >>= go) ≡ Some m → (x : A) × (r ≡ Some x) × (go x ≡ Some m)
+then_gives None go m e = cc
+then_gives (Some x) go m e = (x, refl, e)
 
 pub same_kinds_eq : (a b : Kinds) → same_kinds a b ≡ true → a ≡ b
 same_kinds_eq [] [] e = refl
 same_kinds_eq [] (y ∷ ys) e = cc
 same_kinds_eq (x ∷ xs) [] e = cc
 same_kinds_eq (x ∷ xs) (y ∷ ys) e =
-    let h = if_true (same_kind x y) (same_kinds xs ys) e in
+    let h = both (same_kind x y) (same_kinds xs ys) e in
     let a = same_kind_eq x y h.0 in
     let b = same_kinds_eq xs ys h.1 in cc
 
@@ -145,40 +146,29 @@ note_exit_gives n m (Some i) e =
     let g = note_gives n m i.0 i.1 e in
     (g.1, λ j f. let s : i ≡ j = cc in subst (λ (j : ℕ × Kinds). slice_get m j.0 ≡ Some (Some j.1)) s g.0)
 
-go_gives : (x : Exits) (r : Option Notes) (go : Option Kinds → Notes → Option Notes) (m : Notes) → go_exit x r go ≡ Some m → (n : Notes) × (r ≡ Some n) × (go x.falls n ≡ Some m)
-go_gives x None go m e = cc
-go_gives x (Some n) go m e = (n, refl, e)
-
-exit_gives : (r : Option Exits) (n : Notes) (go : Option Kinds → Notes → Option Notes) (m : Notes) → at_exit r n go ≡ Some m → (x : Exits) × (r ≡ Some x) × (go_exit x (note_exit n x.jumps) go ≡ Some m)
-exit_gives None n go m e = cc
-exit_gives (Some x) n go m e = (x, refl, e)
-
-kinds_gives : (ex : ℕ → Kinds → Option Exits) (p : ℕ) (n : Notes) (r : Option Kinds) (go : Option Kinds → Notes → Option Notes) (m : Notes) → at_kinds ex p n r go ≡ Some m → (ks : Kinds) × (r ≡ Some ks) × (at_exit (ex p ks) (slice_set n p (Some ks)) go ≡ Some m)
-kinds_gives ex p n None go m e = cc
-kinds_gives ex p n (Some ks) go m e = (ks, refl, e)
-
 pub pass_fine : (a : Around) (is : List Instr) (p : ℕ) (here : Option Kinds) (n shapes : Notes) → p + length is ≡ a.end → pass a is p here n ≡ Some shapes → Extends n shapes × ((k : Kinds) → here ≡ Some k → (slice_get shapes p ≡ Some (Some k)) × (p < a.end)) × FineAll a shapes p is
 unfolding pass
 pass_fine a [] p None n shapes len e = (extends_same n shapes (cc), λ k f. cc, tt)
 pass_fine a [] p (Some ks) n shapes len e = cc
 pass_fine a (i ∷ is) p here n shapes len e =
-    let go = pass a is (p + 1) in
-    let g = kinds_gives (exits_of a i) p n (arrive here n p) go shapes e in
+    let next = then_gives (pass_place (exits_of a i p) p here n) (λ (s : Passing). pass a is (p + 1) s.here s.notes) shapes e in
+    let g = then_gives (arrive here n p) (λ (ks : Kinds). exits_of a i p ks >>= take_exit (slice_set n p (Some ks))) next.0 next.1 in
     let ks = g.0 in
     let n1 = slice_set n p (Some ks) in
-    let h = exit_gives (exits_of a i p ks) n1 go shapes g.2 in
+    let h = then_gives (exits_of a i p ks) (take_exit n1) next.0 g.2 in
     let x = h.0 in
-    let m = go_gives x (note_exit n1 x.jumps) go shapes h.2 in
-    let y = if_gives (args_fit i) (if nat_le (length ks) 512 then exits a p (sort i) ks else None) x h.1 in
-    let z = if_gives (nat_le (length ks) 512) (exits a p (sort i) ks) x y.1 in
+    let m = then_gives (note_exit n1 x.jumps) (λ (noted : Notes). Some (passing x.falls noted)) next.0 h.2 in
+    let y = if_gives (args_fit i && nat_le (length ks) 512) (exits a p (sort i) ks) x h.1 in
+    let z = both (args_fit i) (nat_le (length ks) 512) y.0 in
     let v = arrive_gives n p ks here g.1 in
     let w = note_exit_gives n1 m.0 x.jumps m.1 in
     let l : p + 1 + length is ≡ a.end = omega arith in
-    let rest = pass_fine a is (p + 1) x.falls m.0 shapes l m.2 in
+    let same : passing x.falls m.0 ≡ next.0 = let f : Some (passing x.falls m.0) ≡ Some next.0 = m.2 in cc in
+    let rest = pass_fine a is (p + 1) x.falls m.0 shapes l (subst (λ (s : Passing). pass a is (p + 1) s.here s.notes ≡ Some shapes) (sym same) next.2) in
     let ext = extends_on n1 m.0 shapes w.0 rest.0 in
     let at = ext.by p ks v.0 in
     let lt : p < a.end = omega (arith, l) in (
       extends_on n n1 shapes v.1 ext,
       λ k f. (at ∙ ap (λ k. Some (Some k)) (sym (v.2 k f)), lt),
-      (record { kinds = ks; at = at; args = y.0; depth = leb-true (length ks) 512 z.0; exit = x; leads = z.1; jumps = λ j f. rest.0.by j.0 j.1 (w.1 j f); falls = rest.1 }, rest.2),
+      (record { kinds = ks; at = at; args = z.0; depth = leb-true (length ks) 512 z.1; exit = x; leads = y.1; jumps = λ j f. rest.0.by j.0 j.1 (w.1 j f); falls = rest.1 }, rest.2),
     )

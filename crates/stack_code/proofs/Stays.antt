@@ -1,14 +1,15 @@
 -- No jump of valid code leaves its function.
-use Rattle.std.proofs.Common.{◌≡◌, ℕ, suc, ◌<◌, ◌≤◌, ◌⊎◌, inl, inr, List, length, Some, None, refl, sym, ap, ◌∙◌, subst, arith, add-one, Bool, true, false, drop}
-use Rattle.std.specs.Prelude.{slice_get, nat_lt, if◌then◌else◌, replicate, is_some}
+use Rattle.std.proofs.Common.{◌≡◌, ℕ, suc, ◌<◌, ◌≤◌, ◌⊎◌, inl, inr, List, length, Some, refl, sym, ap, ◌∙◌, subst, arith, add-one, Bool, true, false, drop}
+use Rattle.std.specs.Prelude.{slice_get, nat_lt, ◌&&◌, is_some}
+use Rattle.list_laws.proofs.Tests.{both}
 use Rattle.stack_code.specs.Sorts.{Sort, Goto, GotoFalse, sort}
 use Rattle.stack_code.specs.Machine.{FunctionValue, CodeValue}
 use Rattle.stack_code.specs.Laws.{JumpsStay, target_of, end_of}
-use Rattle.stack_code.specs.Valid.{Kinds, Notes, Around, around, Exits, exits, pop, jump_fits, forward_fits, pass_all, end_with, valid, first_fits, length_fits}
+use Rattle.stack_code.specs.Valid.{Kinds, Notes, Around, around, Exits, exits, pop, jump_fits, forward_fits, pass_all, end_with, valid, first_fits, length_fits, no_notes}
 use Rattle.stack_code.specs.declared.instr.Operand.TheVariants.{Number}
 use Rattle.stack_code.specs.declared.instr.Instr.{Instr}
 use Rattle.stack_code.specs.declared.instr.Instr.TheVariants.{Jump, JumpFalse}
-use Rattle.stack_code.proofs.Passes.{if_true, jump_gives, fork_gives}
+use Rattle.stack_code.proofs.Passes.{jump_gives, fork_gives}
 use Rattle.stack_code.proofs.Typed.{Jumps, jumps_by, forward_gives}
 use Rattle.stack_code.proofs.Bound.{FineUpTo, all_fine, is_some_gives}
 
@@ -33,17 +34,16 @@ stays a p q ks x so e low high (inr g) =
 
 module _ (c : CodeValue) where
   -- the notes of valid code
-  passed : valid c ≡ true → (shapes : Notes) × (pass_all c c.functions 0 (replicate (length c.instrs) None) ≡ Some shapes)
+  passed : valid c ≡ true → (shapes : Notes) × (pass_all c c.functions 0 (no_notes c) ≡ Some shapes)
   unfolding valid
   passed e =
-      let x = if_true (length_fits (length c.instrs)) (if first_fits c.functions then is_some (pass_all c c.functions 0 (replicate (length c.instrs) None)) else false) e in
-      let y = if_true (first_fits c.functions) (is_some (pass_all c c.functions 0 (replicate (length c.instrs) None))) x.1 in
-      is_some_gives (pass_all c c.functions 0 (replicate (length c.instrs) None)) y.1
+      let x = both (length_fits (length c.instrs) && first_fits c.functions) (is_some (pass_all c c.functions 0 (no_notes c))) e in
+      is_some_gives (pass_all c c.functions 0 (no_notes c)) x.1
 
   -- each function of valid code is fine, up to where the next one begins
-  fine_upto : (gs : List FunctionValue) (shapes : Notes) → c.functions ≡ gs → pass_all c gs 0 (replicate (length c.instrs) None) ≡ Some shapes → (f : ℕ) (g : FunctionValue) → slice_get c.functions f ≡ Some g → FineUpTo c shapes g (end_of c f)
+  fine_upto : (gs : List FunctionValue) (shapes : Notes) → c.functions ≡ gs → pass_all c gs 0 (no_notes c) ≡ Some shapes → (f : ℕ) (g : FunctionValue) → slice_get c.functions f ≡ Some g → FineUpTo c shapes g (end_of c f)
   fine_upto gs shapes e p f g at =
-      let r = (all_fine c gs 0 (replicate (length c.instrs) None) shapes p).3 f g (subst (λ l. slice_get l f ≡ Some g) e at) in
+      let r = (all_fine c gs 0 (no_notes c) shapes p).3 f g (subst (λ l. slice_get l f ≡ Some g) e at) in
       let d : end_with (length c.instrs) (drop (suc f) gs) ≡ end_of c f = ap (λ (l : List FunctionValue). end_with (length c.instrs) (drop (suc f) l)) (sym e) ∙ ap (λ k. end_with (length c.instrs) (drop k c.functions)) (sym (add-one f)) in
       (r.0, r.1 ∙ d)
 

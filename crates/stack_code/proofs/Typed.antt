@@ -1,23 +1,24 @@
 -- A running machine agrees with the notes, and each step makes its measure smaller.
 use Rattle.std.proofs.Common.{◌≡◌, ℕ, zero, suc, ◌+◌, ◌-◌, ◌*◌, ◌<◌, ◌≤◌, ◌⊎◌, inl, inr, ⊎_elim, List, [], ◌∷◌, ◌++◌, length, Option, Some, None, refl, sym, ap, ◌∙◌, subst, arith, add-one, suc-mul, Bool, true, false, take, drop}
-use Rattle.std.specs.Prelude.{slice_get, nat_lt, nat_le, if◌then◌else◌, map, reverse, ℤ, is_none}
+use Rattle.std.specs.Prelude.{slice_get, nat_lt, nat_le, ◌&&◌, if◌then◌else◌, map, reverse, ℤ, is_none}
 use Rattle.std.proofs.lemmas.Bool.{leb-true, ltb-true, lt-ltb, le-ltb, le-leb}
 use Rattle.std.proofs.lemmas.List.{take-map, drop-map, length-reverse, length-take}
 use Rattle.sat_math.specs.Operations.{is_zero}
 use Rattle.list_laws.proofs.Slots.{get_inside}
+use Rattle.list_laws.proofs.Tests.{both}
 use mathlib.Core.List.{reverse_aux}
 use Rattle.stack_code.specs.Sorts.{kind_of, Sort, Goto, GotoFalse, Take, Enter, GiveBack, Leave, sort}
 use Rattle.datum.specs.declared.Datum.{Datum}
 use Rattle.datum.specs.declared.Datum.TheVariants.{Number as ANumber, Atom as AnAtom}
 use Rattle.stack_code.specs.Machine.{FunctionValue, CodeValue, Held, Led, Goes, Fails, Ends, Lacks, fill, Frame, State, work, onward, on_turn, on_test, fresh, into, enter, enter_with, back, back_one, go_by, step, step_on}
-use Rattle.stack_code.specs.Valid.{Kinds, Notes, same_kinds, pop, after, after_call, answer_on, answer_found, is_nothing, Around, around, exits, falls_exit, jump_exit, fork_exit, jump_fits, forward_fits, back_fits, back_of, back_by, is_turn, instr_before}
+use Rattle.stack_code.specs.Valid.{Kinds, Notes, same_kinds, pop, after, finds_arguments, after_call, answer_on, answer_found, is_nothing, Around, around, exits, falls_exit, jump_exit, fork_exit, jump_fits, forward_fits, back_fits, back_of, back_by, is_turn, instr_before}
 use Rattle.stack_code.specs.declared.instr.Operand.{Operand}
 use Rattle.stack_code.specs.declared.instr.Operand.TheVariants.{Number, Atom}
 use Rattle.stack_code.specs.declared.instr.Answer.{Answer}
 use Rattle.stack_code.specs.declared.instr.Answer.TheVariants.{Nothing, Number as NumberBack, Atom as AtomBack}
 use Rattle.stack_code.specs.declared.instr.Instr.{Instr}
 use Rattle.stack_code.specs.declared.instr.Instr.TheVariants.{Turn, Jump}
-use Rattle.stack_code.proofs.Passes.{if_gives, if_true, same_kinds_eq, falls_gives, jump_gives, end_gives, fork_gives, FinePlace}
+use Rattle.stack_code.proofs.Passes.{if_gives, same_kinds_eq, falls_gives, jump_gives, end_gives, fork_gives, FinePlace}
 use Rattle.stack_code.proofs.Plain.{kinds_of, Good, pop_gives, work_good}
 
 -- what is known of a function of valid code
@@ -113,16 +114,16 @@ none_of (Some x) e = cc
 
 pub forward_gives : (a : Around) (p q : ℕ) → forward_fits a p q ≡ true → (p < q) × (q < a.end) × (back_of a.code.instrs q ≡ None)
 forward_gives a p q e =
-    let x = if_true (nat_lt p q) (if nat_lt q a.end then is_none (back_of a.code.instrs q) else false) e in
-    let y = if_true (nat_lt q a.end) (is_none (back_of a.code.instrs q)) x.1 in
-    (ltb-true p q x.0, ltb-true q a.end y.0, none_of (back_of a.code.instrs q) y.1)
+    let x = both (nat_lt p q && nat_lt q a.end) (is_none (back_of a.code.instrs q)) e in
+    let y = both (nat_lt p q) (nat_lt q a.end) x.0 in
+    (ltb-true p q y.0, ltb-true q a.end y.1, none_of (back_of a.code.instrs q) x.1)
 
 back_gives_all : (a : Around) (p q : ℕ) → back_fits a p q ≡ true → (q < p) × (a.function.first ≤ q) × (is_turn (instr_before a.code.instrs p) ≡ true) × (back_of a.code.instrs q ≡ None)
 back_gives_all a p q e =
-    let x = if_true (nat_lt q p) (if nat_le a.function.first q then (if is_turn (instr_before a.code.instrs p) then is_none (back_of a.code.instrs q) else false) else false) e in
-    let y = if_true (nat_le a.function.first q) (if is_turn (instr_before a.code.instrs p) then is_none (back_of a.code.instrs q) else false) x.1 in
-    let z = if_true (is_turn (instr_before a.code.instrs p)) (is_none (back_of a.code.instrs q)) y.1 in
-    (ltb-true q p x.0, leb-true a.function.first q y.0, z.0, none_of (back_of a.code.instrs q) z.1)
+    let x = both (nat_lt q p && nat_le a.function.first q && is_turn (instr_before a.code.instrs p)) (is_none (back_of a.code.instrs q)) e in
+    let y = both (nat_lt q p && nat_le a.function.first q) (is_turn (instr_before a.code.instrs p)) x.0 in
+    let z = both (nat_lt q p) (nat_le a.function.first q) y.0 in
+    (ltb-true q p z.0, leb-true a.function.first q z.1, y.1, none_of (back_of a.code.instrs q) x.1)
 
 -- a jump goes forward, or back
 abbrev pub Jumps : Around → ℕ → ℕ → Bool → Type 0
@@ -387,9 +388,9 @@ module _ (c : CodeValue) (shapes : Notes) where
   enter_next s t i f at a b cf n (Some g) e l =
       let same : f.kinds ≡ kinds_of s.held.stack = some_some (sym f.at ∙ t.here) in
       let x = falls_gives (after_call (Some g) f.kinds) f.exit l in
-      let y0 = if_gives (nat_le g.params (length g.slots)) (if same_kinds (reverse (take g.params f.kinds)) (take g.params g.slots) then Some (answer_on g.answer (drop g.params f.kinds)) else None) x.0 x.1 in
-      let y = if_gives (same_kinds (reverse (take g.params f.kinds)) (take g.params g.slots)) (Some (answer_on g.answer (drop g.params f.kinds))) x.0 y0.1 in
-      let z = same_kinds_eq (reverse (take g.params f.kinds)) (take g.params g.slots) y.0 in
+      let y = if_gives (finds_arguments g f.kinds) (Some (answer_on g.answer (drop g.params f.kinds))) x.0 x.1 in
+      let found_all = both (nat_le g.params (length g.slots)) (same_kinds (reverse (take g.params f.kinds)) (take g.params g.slots)) y.0 in
+      let z = same_kinds_eq (reverse (take g.params f.kinds)) (take g.params g.slots) found_all.1 in
       let args : reverse (take g.params (kinds_of s.held.stack)) ≡ take g.params g.slots = subst (λ l. reverse (take g.params l) ≡ take g.params g.slots) same z in
       let there = f.falls x.0 x.2 in
       let w : Some x.0 ≡ Some (answer_on g.answer (drop g.params (kinds_of s.held.stack))) = sym y.1 ∙ ap (λ l. Some (answer_on g.answer (drop g.params l))) same in

@@ -1,19 +1,19 @@
 -- The verdict from its three tests.
 use Rattle.std.proofs.Common.{◌≡◌, ℕ, zero, suc, List, [], ◌∷◌, length, Option, Some, None, refl, sym, ap, ◌∙◌, arith, Bool, true, false, Result, Ok, Err}
-use Rattle.std.specs.Prelude.{if◌then◌else◌, is_some, slice_get, replicate, IfOk}
+use Rattle.std.specs.Prelude.{◌&&◌, is_some, slice_get, replicate, IfOk}
 use Rattle.stack_code.specs.Machine.{CodeValue}
-use Rattle.stack_code.specs.Valid.{Notes, valid, first_fits, length_fits, pass_all}
+use Rattle.stack_code.specs.Valid.{Notes, valid, first_fits, length_fits, no_notes, pass_all}
 use Rattle.stack_code.specs.declared.kind_lists.Node.{Node}
 use Rattle.stack_code.specs.KindLists.{notes_of, NotesFit, AllLeaves}
 use Rattle.feast_base.specs.declared.memory.NoMemory.{NoMemory}
 
 pub no_length : (c : CodeValue) → length_fits (length c.instrs) ≡ false → valid c ≡ false
 unfolding valid
-no_length c e = ap (λ (b : Bool). if b then (if first_fits c.functions then is_some (pass_all c c.functions 0 (replicate (length c.instrs) None)) else false) else false) e
+no_length c e = ap (λ (b : Bool). b && first_fits c.functions && is_some (pass_all c c.functions 0 (no_notes c))) e
 
 pub no_first : (c : CodeValue) → length_fits (length c.instrs) ≡ true → first_fits c.functions ≡ false → valid c ≡ false
 unfolding valid
-no_first c e f = ap (λ (b : Bool). if b then (if first_fits c.functions then is_some (pass_all c c.functions 0 (replicate (length c.instrs) None)) else false) else false) e ∙ ap (λ (b : Bool). if b then is_some (pass_all c c.functions 0 (replicate (length c.instrs) None)) else false) f
+no_first c e f = ap (λ (b : Bool). b && first_fits c.functions && is_some (pass_all c c.functions 0 (no_notes c))) e ∙ ap (λ (b : Bool). b && is_some (pass_all c c.functions 0 (no_notes c))) f
 
 blank_notes : (n : ℕ) → notes_of [] (replicate n 0) ≡ replicate n None
 blank_notes zero = refl
@@ -21,7 +21,7 @@ blank_notes (suc n) = ap (λ l. None ∷ l) (blank_notes n)
 
 pub by_pass : (c : CodeValue) (notes : List ℕ) → length_fits (length c.instrs) ≡ true → first_fits c.functions ≡ true → notes ≡ replicate (length c.instrs) 0 → valid c ≡ is_some (pass_all c c.functions 0 (notes_of [] notes))
 unfolding valid
-by_pass c notes e f h = ap (λ (b : Bool). if b then (if first_fits c.functions then is_some (pass_all c c.functions 0 (replicate (length c.instrs) None)) else false) else false) e ∙ ap (λ (b : Bool). if b then is_some (pass_all c c.functions 0 (replicate (length c.instrs) None)) else false) f
+by_pass c notes e f h = ap (λ (b : Bool). b && first_fits c.functions && is_some (pass_all c c.functions 0 (no_notes c))) e ∙ ap (λ (b : Bool). b && is_some (pass_all c c.functions 0 (no_notes c))) f
     ∙ ap (λ n. is_some (pass_all c c.functions 0 n)) (sym (ap (notes_of []) h ∙ blank_notes (length c.instrs)))
 
 zeros : (n p e : ℕ) → slice_get (replicate n 0) p ≡ Some e → e ≡ 0

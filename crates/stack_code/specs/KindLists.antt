@@ -1,8 +1,9 @@
--- Lists of kinds that share what lies below, and the notes of places.
-use Rattle.std.specs.Prelude.{◌≡◌, ℕ, zero, suc, ◌+◌, ◌<◌, ◌≤◌, nat_eq, Bool, true, false, Option, Some, None, Result, Ok, Err, List, [], ◌∷◌, length, map, slice_get, get_or, is_some, ◌⊎◌, if◌then◌else◌}
-use Rattle.stack_code.specs.Valid.{Kinds, Notes, Exits, pop}
+-- The code's lists of kinds: each is an earlier list with one kind on top, and places are noted by the numbers of their lists.
+use Rattle.std.specs.Prelude.{◌≡◌, ℕ, zero, suc, ◌+◌, ◌≤◌, nat_eq, Bool, true, false, Option, Some, None, Result, Ok, Err, List, [], ◌∷◌, length, map, slice_get, get_or, is_some, ◌⊎◌, if◌then◌else◌}
+use Rattle.stack_code.specs.Valid.{Kinds, Notes, Exits, Around, around, Passing, passing, pop}
 use Rattle.stack_code.specs.declared.instr.Operand.TheVariants.{Number}
 use Rattle.stack_code.specs.declared.exits.Exit.{Exit}
+use Rattle.stack_code.specs.declared.exits.Around.{Around as InCode}
 use Rattle.stack_code.specs.declared.kind_lists.Node.{Node}
 use Rattle.feast_base.specs.declared.memory.NoMemory.{NoMemory}
 
@@ -11,12 +12,12 @@ abbrev pub list_at : List Node → ℕ → Kinds
 list_at [] id = []
 list_at (n ∷ older) id = if nat_eq id (length older + 1) then n.top ∷ list_at older n.below else list_at older id
 
--- each node lies on an older list, and knows its depth
+-- below each node there is an older list, and its depth is the length of its own list
 abbrev pub IsTree : List Node → Type 0
 IsTree [] = Unit {0}
 IsTree (n ∷ older) = (n.below ≤ length older) × (n.depth ≡ length (list_at older n.below) + 1) × IsTree older
 
--- no list was changed
+-- there are more lists, and no list was changed
 pub record Grows (old new : List Node) : Type 0 where
   pub more : length old ≤ length new
   pub by : (id : ℕ) → id ≤ length old → list_at new id ≡ list_at old id
@@ -29,15 +30,16 @@ noted lists (suc id) = Some (list_at lists id)
 abbrev pub notes_of : List Node → List ℕ → Notes
 notes_of lists notes = map (noted lists) notes
 
--- all notes are of lists that there are
+-- all lists that are noted exist
 abbrev pub NotesFit : List Node → List ℕ → Type 0
 NotesFit lists notes = (p : ℕ) (e : ℕ) → slice_get notes p ≡ Some e → e ≤ length lists + 1
 
--- the list of a number, if there is one
+-- the list of a number, if there is a number
 abbrev pub maybe : List Node → Option ℕ → Option Kinds
 maybe lists None = None
 maybe lists (Some id) = Some (list_at lists id)
 
+-- if there is a number, it is that of a list
 abbrev pub MaybeFits : List Node → Option ℕ → Type 0
 MaybeFits lists None = Unit {0}
 MaybeFits lists (Some id) = id ≤ length lists
@@ -53,12 +55,20 @@ NotedFits lists None = Unit {0}
 NotedFits lists (Some None) = Unit {0}
 NotedFits lists (Some (Some id)) = id ≤ length lists
 
--- a list on top of others, or none
+-- the code found this list, or that there is none, and may have added lists
 abbrev pub Leaves : List Node → List Node → Option Kinds → Result (Option ℕ) NoMemory → Type 0
 Leaves old new o (Err e) = Unit {0}
 Leaves old new o (Ok r) = (o ≡ maybe new r) × MaybeFits new r × Grows old new
 
--- where a place leads, by lists' numbers
+-- the same of what `change` makes of the list of a number
+abbrev pub Changes : (Kinds → Option Kinds) → List Node → List Node → ℕ → Result (Option ℕ) NoMemory → Type 0
+Changes change old new id r = Leaves old new (change (list_at old id)) r
+
+-- a function in its code, as the pass sees it
+abbrev pub around_of : InCode → Around
+around_of a = around a.code.now a.function.now a.end
+
+-- where a place leads, by the numbers of lists
 abbrev pub jump_of : List Node → Option (ℕ × ℕ) → Option (ℕ × Kinds)
 jump_of lists None = None
 jump_of lists (Some j) = Some (j.0, list_at lists j.1)
@@ -78,26 +88,34 @@ abbrev pub ExitFits : List Node → Option Exit → Type 0
 ExitFits lists None = Unit {0}
 ExitFits lists (Some e) = MaybeFits lists e.falls × JumpFits lists e.jumps
 
--- what an instruction leads to
+-- the code found this exit, or that there is none, and may have added lists
 abbrev pub ExitLeaves : List Node → List Node → Option Exits → Result (Option Exit) NoMemory → Type 0
 ExitLeaves old new o (Err e) = Unit {0}
 ExitLeaves old new o (Ok r) = (o ≡ maybe_exit new r) × ExitFits new r × Grows old new
 
--- what goes on after a place
-abbrev pub then_go : List Node → List ℕ → Option (Option ℕ) → (Option Kinds → Notes → Option Notes) → Option Notes
-then_go lists notes None go = None
-then_go lists notes (Some falls) go = go (maybe lists falls) (notes_of lists notes)
+-- the same of the exit to which an instruction leads from the list of a number
+abbrev pub FindsExit : (Kinds → Option Exits) → List Node → List Node → ℕ → Result (Option Exit) NoMemory → Type 0
+FindsExit leads old new id r = ExitLeaves old new (leads (list_at old id)) r
+
+-- the code found this exit, or that there is none, and added no lists
+abbrev pub IsExit : List Node → Option Exits → Option Exit → Type 0
+IsExit lists o r = ExitLeaves lists lists o (Ok r)
+
+-- how the pass comes to the next place, if the code says what falls through to it
+abbrev pub passing_of : List Node → List ℕ → Option (Option ℕ) → Option Passing
+passing_of lists notes None = None
+passing_of lists notes (Some falls) = Some (passing (maybe lists falls) (notes_of lists notes))
 
 abbrev pub FallsFit : List Node → Option (Option ℕ) → Type 0
 FallsFit lists None = Unit {0}
 FallsFit lists (Some falls) = MaybeFits lists falls
 
--- the place is done: what goes on from here is what goes on from the place
-abbrev pub PlaceLeaves : ((Option Kinds → Notes → Option Notes) → Option Notes) → List Node → List ℕ → Result (Option (Option ℕ)) NoMemory → Type 0
-PlaceLeaves from lists notes (Err e) = Unit {0}
-PlaceLeaves from lists notes (Ok r) = ((go : Option Kinds → Notes → Option Notes) → from go ≡ then_go lists notes r go) × FallsFit lists r × NotesFit lists notes
+-- the code did a place: the pass comes to the next one so, or ends here
+abbrev pub PlaceLeaves : Option Passing → List Node → List ℕ → Result (Option (Option ℕ)) NoMemory → Type 0
+PlaceLeaves o lists notes (Err e) = Unit {0}
+PlaceLeaves o lists notes (Ok r) = (o ≡ passing_of lists notes r) × FallsFit lists r × NotesFit lists notes
 
--- the pass over a function's places is done
+-- the code did the places of a function: these are its notes, if the function is valid
 abbrev pub PassLeaves : Option Notes → List Node → List ℕ → Result Bool NoMemory → Type 0
 PassLeaves o lists notes (Err e) = Unit {0}
 PassLeaves o lists notes (Ok true) = (o ≡ Some (notes_of lists notes)) × NotesFit lists notes
@@ -107,18 +125,18 @@ abbrev pub and_takes : (Kinds → Option Kinds) → Option Kinds → Option Kind
 and_takes go None = None
 and_takes go (Some ks) = go ks
 
--- these kinds without n arguments, which are those of the first n slots, the last one on top
+-- the kinds without n arguments, if these are on top: the kinds of the first n slots, the last one topmost
 abbrev pub takes : ℕ → Kinds → Kinds → Option Kinds
 takes zero slots ks = Some ks
 takes (suc n) slots ks = and_takes (takes n slots) (pop (get_or slots n Number) ks)
 
--- the pass over a function is done, or the function is too long
-abbrev pub OneLeaves : Option Notes → ℕ → ℕ → List Node → List ℕ → Result Bool NoMemory → Type 0
-OneLeaves o len end lists notes (Err e) = Unit {0}
-OneLeaves o len end lists notes (Ok true) = (o ≡ Some (notes_of lists notes)) × NotesFit lists notes
-OneLeaves o len end lists notes (Ok false) = (o ≡ None) ⊎ (len < end)
+-- the same, where the code may also say no because the function ends after the code
+abbrev pub FunctionLeaves : Option Notes → Type 0 → List Node → List ℕ → Result Bool NoMemory → Type 0
+FunctionLeaves o IsTooLong lists notes (Err e) = Unit {0}
+FunctionLeaves o IsTooLong lists notes (Ok true) = (o ≡ Some (notes_of lists notes)) × NotesFit lists notes
+FunctionLeaves o IsTooLong lists notes (Ok false) = (o ≡ None) ⊎ IsTooLong
 
--- the pass over all functions is done
+-- the code did all functions
 abbrev pub AllLeaves : Option Notes → Result Bool NoMemory → Type 0
 AllLeaves o (Err e) = Unit {0}
 AllLeaves o (Ok b) = is_some o ≡ b

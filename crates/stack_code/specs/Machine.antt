@@ -55,31 +55,31 @@ fill Atom = AnAtom empty_atom
 abbrev pub now : Held → List Datum → Led Held
 now h stack = Goes (record h { stack = stack })
 
--- the atom at the centre, where it has the acting type
+-- the atom at the centre, if it has the acting type
 abbrev pub own_of : ℕ → WindowValue → Option AtomValue
 own_of kind w = if nat_eq (atom_at w 0).kind kind then Some (atom_at w 0) else None
 
--- with such an atom
+-- what an instruction does with that atom; failure 6 if there is none
 abbrev pub on_own : {S : Type 0} → Option AtomValue → (AtomValue → Led S) → Led S
 on_own None go = Fails 6
 on_own (Some a) go = go a
 
--- with the atom at the centre, where it has the acting type
+-- what it does with the atom at the centre, if that has the acting type
 abbrev pub at_self : {S : Type 0} → ℕ → WindowValue → (AtomValue → Led S) → Led S
 at_self kind w go = on_own (own_of kind w) go
 
--- with a site of the window
+-- what it does with a site, which is 0 to 40; failure 4 otherwise
 abbrev pub at_site : {S : Type 0} → ℤ → (ℕ → Led S) → Led S
 at_site (negsuc n) go = Fails 4
 at_site (pos n) go = if nat_le n 40 then go n else Fails 4
 
--- with a bound above 0 of a random number
+-- what it does with the bound of a random number, which is above 0; failure 5 otherwise
 abbrev pub at_bound : {S : Type 0} → ℤ → (ℕ → Led S) → Led S
 at_bound (negsuc n) go = Fails 5
 at_bound (pos zero) go = Fails 5
 at_bound (pos (suc n)) go = go (suc n)
 
--- with what an operator gives
+-- what it does with the result of an operator; failure 3 if there is none
 abbrev pub result_of : Option ℤ → (ℤ → Led Held) → Led Held
 result_of None go = Fails 3
 result_of (Some v) go = go v
@@ -88,7 +88,7 @@ result_of (Some v) go = go v
 abbrev pub with_part : AtomValue → ℕ → ℕ → ℕ → AtomValue
 with_part a f w b = if nat_eq a.kind 0 then a else with_field a f w b
 
--- with what a slot holds
+-- what it does with the value of a slot, if there is such a slot
 abbrev pub on_slot : Option Datum → (Datum → Led Held) → Led Held
 on_slot None go = Lacks
 on_slot (Some x) go = go x
@@ -99,12 +99,12 @@ atom_in None = None
 atom_in (Some (ANumber v)) = None
 atom_in (Some (AnAtom a)) = Some a
 
--- with the atom that a slot holds
+-- what it does with the atom in a slot, if the slot holds one
 abbrev pub on_part : Option AtomValue → (AtomValue → Led Held) → Led Held
 on_part None go = Lacks
 on_part (Some a) go = go a
 
--- the operands of an instruction
+-- what it does with the topmost operand, or two, and with those below, if the topmost are of its kinds
 abbrev pub on_top : List Datum → (Datum → List Datum → Led Held) → Led Held
 on_top [] go = Lacks
 on_top (x ∷ s) go = go x s
@@ -122,7 +122,7 @@ on_atom (AnAtom a ∷ s) go = go a s
 abbrev pub on_numbers : List Datum → (ℤ → ℤ → List Datum → Led Held) → Led Held
 on_numbers s go = on_number s (λ b s1. on_number s1 (λ a s2. go a b s2))
 
--- with an index below the length
+-- what it does with an index, which is from 0 on below the length; failure 7 otherwise
 abbrev pub at_index : {S : Type 0} → ℤ → ℕ → (ℕ → Led S) → Led S
 at_index (negsuc i) n go = Fails 7
 at_index (pos i) n go = if nat_lt i n then go i else Fails 7
@@ -183,19 +183,19 @@ pub record State : Type 0 where
   pub below : List Frame
   pub turns : ℕ
 
--- with a turn taken
+-- what goes on once a turn is taken; failure 1 if none is left
 abbrev pub on_turn : ℕ → (ℕ → Led State) → Led State
 on_turn zero go = Fails 1
 on_turn (suc t) go = go t
 
--- plain work done, one place further on
+-- the machine after a plain instruction, at the next place
 abbrev pub onward : State → Led Held → Led State
 onward s (Goes h) = Goes (record s { held = h; place = s.place + 1 })
 onward s (Fails n) = Fails n
 onward s (Ends w) = Ends w
 onward s Lacks = Lacks
 
--- with the number on top, for a jump
+-- what a jump does with the number on top, if there is one
 abbrev pub on_test : List Datum → (ℤ → List Datum → Led State) → Led State
 on_test [] go = Lacks
 on_test (ANumber v ∷ s) go = go v s
@@ -207,14 +207,17 @@ fresh [] ks = map fill ks
 fresh (x ∷ args) [] = []
 fresh (x ∷ args) (k ∷ ks) = x ∷ fresh args ks
 
--- the body of a function, with its arguments from the topmost operands
+-- what a function begins with, its arguments being the topmost operands of its caller
+abbrev pub callee_held : FunctionValue → Held → Held
+callee_held g h = record h { stack = []; slots = fresh (reverse (take g.params h.stack)) g.slots }
+
+-- how the caller waits: it goes on at this place, without the arguments
+abbrev pub caller_frame : FunctionValue → ℕ → Held → Frame
+caller_frame g place h = record { place = place; stack = drop g.params h.stack; slots = h.slots }
+
+-- the beginning of a function that is called, with so many turns left
 abbrev pub into : State → FunctionValue → ℕ → State
-into s g t = record {
-  place = g.first;
-  held = record s.held { stack = []; slots = fresh (reverse (take g.params s.held.stack)) g.slots };
-  below = record { place = s.place + 1; stack = drop g.params s.held.stack; slots = s.held.slots } ∷ s.below;
-  turns = t;
-}
+into s g t = record { place = g.first; held = callee_held g s.held; below = caller_frame g (s.place + 1) s.held ∷ s.below; turns = t }
 
 -- a call takes a turn, then one of 16 levels
 abbrev pub enter_with : State → FunctionValue → Led State
@@ -258,7 +261,7 @@ step_on c s (Some i) = go_by c (sort i) s
 abbrev pub step : CodeValue → State → Led State
 step c s = step_on c s (slice_get c.instrs s.place)
 
--- what comes next, where it goes on
+-- what comes next, if the run goes on
 abbrev pub and_then : Led State → (State → Led State) → Led State
 and_then (Goes s) go = go s
 and_then (Fails n) go = Fails n
@@ -270,7 +273,7 @@ unfoldable pub iter : CodeValue → ℕ → State → Led State
 iter c zero s = Goes s
 iter c (suc n) s = and_then (step c s) (iter c n)
 
--- how many of n were run
+-- how many instructions were run, of at most n
 abbrev pub one_more : (State → ℕ) → Led State → ℕ
 one_more f (Goes s) = suc (f s)
 one_more f (Fails n) = 1
@@ -281,11 +284,16 @@ unfoldable pub count : CodeValue → ℕ → State → ℕ
 count c zero s = 0
 count c (suc n) s = one_more (count c n) (step c s)
 
--- the first state
-abbrev pub start_with : WindowValue → ℕ → Option FunctionValue → State
-start_with w seed None = record { place = 0; held = record { stack = []; slots = []; window = w; words = event_state seed 0 }; below = []; turns = 1000 }
-start_with w seed (Some g) = record { place = 0; held = record { stack = []; slots = map fill g.slots; window = w; words = event_state seed 0 }; below = []; turns = 1000 }
+-- what the first function of an event begins with, if it has slots of these kinds
+abbrev pub first_held : List Operand → WindowValue → ℕ → Held
+first_held slots w seed = record { stack = []; slots = map fill slots; window = w; words = event_state seed 0 }
 
+-- the first state of an event: at place 0, with 1,000 turns
+abbrev pub start_with : WindowValue → ℕ → Option FunctionValue → State
+start_with w seed None = record { place = 0; held = first_held [] w seed; below = []; turns = 1000 }
+start_with w seed (Some g) = record { place = 0; held = first_held g.slots w seed; below = []; turns = 1000 }
+
+-- the same for a code, whose first function begins
 abbrev pub start : CodeValue → WindowValue → ℕ → State
 start c w seed = start_with w seed (slice_get c.functions 0)
 

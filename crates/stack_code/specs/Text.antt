@@ -1,12 +1,12 @@
 -- The text of a code: a line for the element, and for each function a line and its instructions.
-use Rattle.std.specs.Prelude.{ℕ, ◌+◌, ◌-◌, List, [], ◌∷◌, ◌++◌, length, take, drop, codes, decimal}
+use Rattle.std.specs.Prelude.{ℕ, ◌+◌, List, [], ◌∷◌, ◌++◌, length, codes, decimal}
 use Rattle.std.specs.Fmt.{signed_decimal}
 use Rattle.sat_math.specs.declared.Kind.{Kind}
 use Rattle.sat_math.specs.declared.Kind.TheVariants.{Int, Unsigned, Bits, Bool, Unary}
 use Rattle.stack_code.specs.declared.instr.Instr.{Instr}
 use Rattle.stack_code.specs.declared.instr.Instr.TheVariants.{PushNum, PushAtom, LoadLocal, StoreLocal, Pop, LoadField, StoreField, LoadPart, StorePart, LoadSelf, LoadSite, StoreSite, Swap, IsLive, IsEmpty, RandCreate, RandOneIn, IsKind, AddI, SubI, MulI, DivI, RemI, AddU, SubU, MulU, DivU, RemU, NegI, And, Or, Xor, NotW, Shl, Shr, Fit, NotB, Eq, Ne, Lt, Le, Gt, Ge, Jump, JumpFalse, Turn, Call, Return, ReturnVoid, AddL, SubL, MulL, DivL, RemL, AddV, SubV, MulV, DivV, RemV, NegL, Dup, LoadFieldAt, StoreFieldAt, LoadPartAt, StorePartAt}
 use Rattle.stack_code.specs.Machine.{FunctionValue, CodeValue}
-use Rattle.stack_code.specs.Valid.{end_with}
+use Rattle.stack_code.specs.Valid.{stretch, end_with}
 
 -- a space and a word
 abbrev pub spaced : List ℕ → List ℕ
@@ -134,12 +134,16 @@ function_line k f = codes "function" ++ (number_text k ++ (spaced f.name ++ (num
 
 -- the instructions of a function that ends before this place
 abbrev pub body_of : CodeValue → FunctionValue → ℕ → List Instr
-body_of c f end = take (end - f.first) (drop f.first c.instrs)
+body_of c f end = stretch c f.first end
+
+-- the text of function k, which ends before this place: its line, and those of its instructions
+abbrev pub function_text : CodeValue → ℕ → FunctionValue → ℕ → List ℕ
+function_text c k f end = function_line k f ++ instr_lines f.first (body_of c f end)
 
 -- the texts of these functions, the first of which is function k
 abbrev pub function_texts : CodeValue → ℕ → List FunctionValue → List ℕ
 function_texts c k [] = []
-function_texts c k (f ∷ fs) = (function_line k f ++ instr_lines f.first (body_of c f (end_with (length c.instrs) fs))) ++ function_texts c (k + 1) fs
+function_texts c k (f ∷ fs) = function_text c k f (end_with (length c.instrs) fs) ++ function_texts c (k + 1) fs
 
 -- the line of the element
 abbrev pub element_line : List ℕ → CodeValue → List ℕ

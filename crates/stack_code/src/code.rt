@@ -1,6 +1,6 @@
 //! Functions and the code of an element.
 
-ghost use Rattle.std.specs.Prelude.{◌≡◌, ◌≤◌, ℕ, length, true};
+ghost use Rattle.std.specs.Prelude.{◌≡◌, ◌≤◌, ℕ, length, IsTrue};
 ghost use Rattle.window_sites.specs.Window.{WindowValue};
 ghost use Rattle.stack_code.specs.Laws.{RunsWell, JumpsStay};
 ghost use Rattle.stack_code.specs.Machine.{FunctionValue, CodeValue};
@@ -165,7 +165,7 @@ pub struct Code {
 }
 
 impl Model for Code {
-    ghost use Rattle.std.specs.Prelude.{◌≡◌, true};
+    ghost use Rattle.std.specs.Prelude.{IsTrue};
     ghost use Rattle.stack_code.specs.Machine.{CodeValue};
     ghost use Rattle.stack_code.specs.Valid.{valid};
 
@@ -173,13 +173,13 @@ impl Model for Code {
 
     ghost view = { λ c. c.raw };
 
-    ghost invariant = { λ c. valid c.raw ≡ true };
+    ghost invariant = { λ c. IsTrue (valid c.raw) };
 }
 
 impl Code {
     /// Wraps code that is valid.
     pub(crate) fn new(raw: RawCode) -> Code
-        requires { valid raw ≡ true }
+        requires { IsTrue (valid raw) }
         ensures { result ≡ raw }
     {
         Code { raw }
@@ -197,10 +197,11 @@ impl Code {
     /// function, and no jump leaves its function. The call does nothing.
     #[inline(always)]
     pub fn laws(&self)
-        ensures valid { valid self.now ≡ true }
+        ensures valid { IsTrue (valid self.now) }
         ensures runs { (w : WindowValue) (seed : ℕ) → RunsWell self.now w seed }
         ensures jumps { JumpsStay self.now }
     {
+        // Reading the field makes known what holds of all valid code, from which the laws follow.
         let _raw = &self.raw;
     }
 

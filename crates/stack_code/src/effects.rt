@@ -1,9 +1,9 @@
 //! The effect of plain instructions on the kinds of the operands.
 
-ghost use Rattle.std.specs.Prelude.{◌≡◌, ◌≤◌, ◌∷◌, length, slice_get, Option, Some, None, if◌then◌else◌};
+ghost use Rattle.std.specs.Prelude.{◌≡◌, ◌≤◌, length, slice_get, Option, None, if◌then◌else◌};
 ghost use Rattle.stack_code.specs.Shapes.{sort_of};
-ghost use Rattle.stack_code.specs.Valid.{after, and_pop, if_atom, Kinds, pop, pop_any, pop_slot, push, push_slot};
-ghost use Rattle.stack_code.specs.KindLists.{list_at, Leaves};
+ghost use Rattle.stack_code.specs.Valid.{after, if_atom, Kinds, pop, pop_any, pop_element, pop_part, pop_slot, push, push_element, push_part, push_slot, two_for_one};
+ghost use Rattle.stack_code.specs.KindLists.{Changes, Leaves, list_at};
 
 use crate::instr::Operand;
 use crate::kind_lists::KindLists;
@@ -42,7 +42,7 @@ fn push_local(
     id: u32,
 ) -> Result<Option<u32>, NoMemory>
     requires { id ≤ length lists.old }
-    ensures { Leaves lists.old lists.new (push_slot (slice_get slots.now s) (list_at lists.old id)) result }
+    ensures { Changes (push_slot (slice_get slots.now s)) lists.old lists.new id result }
 {
     match slot(slots, s) {
         None => Ok(None),
@@ -59,7 +59,7 @@ fn pop_local(
     id: u32,
 ) -> Result<Option<u32>, NoMemory>
     requires { id ≤ length lists.old }
-    ensures { Leaves lists.old lists.new (pop_slot (slice_get slots.now s) (list_at lists.old id)) result }
+    ensures { Changes (pop_slot (slice_get slots.now s)) lists.old lists.new id result }
 {
     match slot(slots, s) {
         None => Ok(None),
@@ -71,7 +71,7 @@ fn pop_local(
 #[tactic(auto, using(crate::proofs::KindNotes::grows_same, crate::proofs::KindNotes::grows_on))]
 fn pop_one(lists: &mut KindLists, id: u32) -> Result<Option<u32>, NoMemory>
     requires { id ≤ length lists.old }
-    ensures { Leaves lists.old lists.new (pop_any (list_at lists.old id)) result }
+    ensures { Changes pop_any lists.old lists.new id result }
 {
     match lists.top(id) {
         None => Ok(None),
@@ -98,7 +98,7 @@ fn replace_top(
 #[tactic(auto, using(crate::proofs::KindNotes::grows_same, crate::proofs::KindNotes::grows_on))]
 fn push_again(lists: &mut KindLists, id: u32) -> Result<Option<u32>, NoMemory>
     requires { id ≤ length lists.old }
-    ensures { Leaves lists.old lists.new (push Operand.Number (push Operand.Number (pop Operand.Number (list_at lists.old id)))) result }
+    ensures { Changes two_for_one lists.old lists.new id result }
 {
     let below = lists.pop(Operand::Number, id);
     let once = lists.give(below, Operand::Number)?;
@@ -114,7 +114,7 @@ fn load_part(
     id: u32,
 ) -> Result<Option<u32>, NoMemory>
     requires { id ≤ length lists.old }
-    ensures { Leaves lists.old lists.new (if_atom (slice_get slots.now s) (Some (Operand.Number ∷ list_at lists.old id))) result }
+    ensures { Changes (push_part (slice_get slots.now s)) lists.old lists.new id result }
 {
     if holds_atom(slots, s) {
         lists.give(Some(id), Operand::Number)
@@ -132,7 +132,7 @@ fn store_part(
     id: u32,
 ) -> Result<Option<u32>, NoMemory>
     requires { id ≤ length lists.old }
-    ensures { Leaves lists.old lists.new (if_atom (slice_get slots.now s) (pop Operand.Number (list_at lists.old id))) result }
+    ensures { Changes (pop_part (slice_get slots.now s)) lists.old lists.new id result }
 {
     if holds_atom(slots, s) {
         Ok(lists.pop(Operand::Number, id))
@@ -150,7 +150,7 @@ fn load_element(
     id: u32,
 ) -> Result<Option<u32>, NoMemory>
     requires { id ≤ length lists.old }
-    ensures { Leaves lists.old lists.new (if_atom (slice_get slots.now s) (push Operand.Number (pop Operand.Number (list_at lists.old id)))) result }
+    ensures { Changes (push_element (slice_get slots.now s)) lists.old lists.new id result }
 {
     if holds_atom(slots, s) {
         replace_top(lists, Operand::Number, Operand::Number, id)
@@ -168,7 +168,7 @@ fn store_element(
     id: u32,
 ) -> Result<Option<u32>, NoMemory>
     requires { id ≤ length lists.old }
-    ensures { Leaves lists.old lists.new (if_atom (slice_get slots.now s) (and_pop Operand.Number (pop Operand.Number (list_at lists.old id)))) result }
+    ensures { Changes (pop_element (slice_get slots.now s)) lists.old lists.new id result }
 {
     if holds_atom(slots, s) {
         Ok(lists.pop_two(Operand::Number, Operand::Number, id))
@@ -187,7 +187,7 @@ pub fn after(
     id: u32,
 ) -> Result<Option<u32>, NoMemory>
     requires { id ≤ length lists.old }
-    ensures { Leaves lists.old lists.new (after slots.now (sort_of shape) (list_at lists.old id)) result }
+    ensures { Changes (after slots.now (sort_of shape)) lists.old lists.new id result }
 {
     match shape {
         Shape::GiveNumber(_) | Shape::Field(_, _) => lists.give(Some(id), Operand::Number),

@@ -1,9 +1,10 @@
 //! Which places the instructions of a function lead to, and with which operands.
 
-ghost use Rattle.std.specs.Prelude.{◌≡◌, ◌≤◌, List, length, Option, Some, Ok};
+ghost use Rattle.std.specs.Prelude.{◌≡◌, ◌≤◌, List, length, Option, Some};
 ghost use Rattle.stack_code.specs.Shapes.{sort_of};
-ghost use Rattle.stack_code.specs.Valid.{around, exits, exits_of, back_of, forward_fits, back_fits, jump_fits, is_turn, instr_before, answer_found, is_nothing, pop, jump_exit, fork_exit, end_exit, after_call, map_answer, falls_exit, Kinds};
-ghost use Rattle.stack_code.specs.KindLists.{list_at, Leaves, maybe, MaybeFits, ExitLeaves, takes};
+ghost use Rattle.stack_code.specs.Sorts.{Goto, GotoFalse};
+ghost use Rattle.stack_code.specs.Valid.{exits, exits_of, back_of, forward_fits, back_fits, jump_fits, is_turn, instr_before, answer_found, is_nothing, end_exit, after_call, map_answer, falls_exit, Kinds};
+ghost use Rattle.stack_code.specs.KindLists.{list_at, Leaves, Changes, maybe, MaybeFits, around_of, ExitLeaves, FindsExit, IsExit, takes};
 ghost use Rattle.stack_code.specs.declared.kind_lists.Node.{Node};
 
 use crate::code::{RawCode, RawFunction};
@@ -65,7 +66,7 @@ fn after_turn(instrs: &[Instr], p: usize) -> bool
 impl Around<'_> {
     /// Whether a forward jump is allowed: its target is inside the function and is no backward jump.
     fn forward_fits(&self, p: usize, q: u32) -> bool
-        ensures { result ≡ forward_fits (around self.now.code.now self.now.function.now self.now.end) p q }
+        ensures { result ≡ forward_fits (around_of self.now) p q }
     {
         let q = q as usize;
         if p < q {
@@ -79,7 +80,7 @@ impl Around<'_> {
     /// Whether a backward jump is allowed: it comes right after a `Turn`, and its target is inside
     /// the function and is no backward jump.
     fn back_fits(&self, p: usize, q: u32) -> bool
-        ensures { result ≡ back_fits (around self.now.code.now self.now.function.now self.now.end) p q }
+        ensures { result ≡ back_fits (around_of self.now) p q }
     {
         let q = q as usize;
         if q < p {
@@ -94,7 +95,7 @@ impl Around<'_> {
 
     /// Whether a jump is allowed.
     fn jump_fits(&self, p: usize, q: u32) -> bool
-        ensures { result ≡ jump_fits (around self.now.code.now self.now.function.now self.now.end) p q }
+        ensures { result ≡ jump_fits (around_of self.now) p q }
     {
         if p < q as usize {
             self.forward_fits(p, q)
@@ -107,7 +108,7 @@ impl Around<'_> {
     #[tactic(auto, using(crate::proofs::KindNotes::grows_same))]
     fn jump(&self, lists: &KindLists, p: usize, q: u32, id: u32) -> Option<Exit>
         requires { id ≤ length lists.now }
-        ensures { ExitLeaves lists.now lists.now (jump_exit (jump_fits (around self.now.code.now self.now.function.now self.now.end) p q) q (list_at lists.now id)) (Ok result) }
+        ensures { IsExit lists.now (exits (around_of self.now) p (Goto q) (list_at lists.now id)) result }
     {
         if self.jump_fits(p, q) {
             Some(Exit {
@@ -123,7 +124,7 @@ impl Around<'_> {
     #[tactic(auto, using(crate::proofs::KindNotes::grows_same))]
     fn fork(&self, lists: &KindLists, p: usize, q: u32, id: u32) -> Option<Exit>
         requires { id ≤ length lists.now }
-        ensures { ExitLeaves lists.now lists.now (fork_exit (forward_fits (around self.now.code.now self.now.function.now self.now.end) p q) q (pop Operand.Number (list_at lists.now id))) (Ok result) }
+        ensures { IsExit lists.now (exits (around_of self.now) p (GotoFalse q) (list_at lists.now id)) result }
     {
         match lists.pop(Operand::Number, id) {
             None => None,
@@ -150,7 +151,7 @@ impl Around<'_> {
         id: u32,
     ) -> Result<Option<Exit>, NoMemory>
         requires { id ≤ length lists.old }
-        ensures { ExitLeaves lists.old lists.new (exits (around self.now.code.now self.now.function.now self.now.end) p (sort_of shape) (list_at lists.old id)) result }
+        ensures { FindsExit (exits (around_of self.now) p (sort_of shape)) lists.old lists.new id result }
     {
         match shape {
             Shape::Goto(q) => Ok(self.jump(lists, p, q, id)),
@@ -191,7 +192,7 @@ impl Around<'_> {
         id: u32,
     ) -> Result<Option<Exit>, NoMemory>
         requires { id ≤ length lists.old }
-        ensures { ExitLeaves lists.old lists.new (exits_of (around self.now.code.now self.now.function.now self.now.end) i p (list_at lists.old id)) result }
+        ensures { FindsExit (exits_of (around_of self.now) i p) lists.old lists.new id result }
     {
         if !args_fit(i) {
             return Ok(None);
@@ -206,7 +207,7 @@ impl Around<'_> {
 /// The end of a function, if it is allowed.
 #[tactic(auto, using(crate::proofs::KindNotes::grows_same))]
 fn end_if(lists: &KindLists, allowed: bool) -> Option<Exit>
-    ensures { ExitLeaves lists.now lists.now (end_exit allowed) (Ok result) }
+    ensures { IsExit lists.now (end_exit allowed) result }
 {
     if allowed {
         Some(Exit {
@@ -269,7 +270,7 @@ fn takes(lists: &KindLists, slots: &[Operand], params: u32, id: u32) -> Option<u
 /// The list after a call.
 fn call(lists: &mut KindLists, callee: &RawFunction, id: u32) -> Result<Option<u32>, NoMemory>
     requires { id ≤ length lists.old }
-    ensures { Leaves lists.old lists.new (after_call (Some callee.now) (list_at lists.old id)) result }
+    ensures { Changes (after_call (Some callee.now)) lists.old lists.new id result }
 {
     if callee.params() as usize > callee.slots().len() {
         return Ok(None);

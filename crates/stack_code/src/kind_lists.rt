@@ -1,8 +1,8 @@
 //! Lists of operand kinds that share their lower parts, and the notes at places.
 
 ghost use Rattle.std.specs.Prelude.{◌≡◌, ◌<◌, ◌≤◌, ◌+◌, [], ◌∷◌, length, IfOk, IfSome, MatchOption, reverse, slice_set, slice_get, vec_len, Some, None, if◌then◌else◌};
-ghost use Rattle.stack_code.specs.Valid.{same_kinds, same_kind, pop, and_pop, push, note, arrive};
-ghost use Rattle.stack_code.specs.KindLists.{list_at, IsTree, Grows, Leaves, noted, notes_of, NotesFit, maybe, MaybeFits, maybe_noted, NotedFits};
+ghost use Rattle.stack_code.specs.Valid.{same_kinds, same_kind, pop, and_pop, push, number_for_one, number_for_two, note, arrive};
+ghost use Rattle.stack_code.specs.KindLists.{list_at, IsTree, Grows, Leaves, Changes, noted, notes_of, NotesFit, maybe, MaybeFits, maybe_noted, NotedFits};
 
 use crate::instr::Operand;
 use feast_base::NoMemory;
@@ -191,7 +191,7 @@ impl KindLists {
     /// there is no room for the list.
     pub fn replace_one(&mut self, id: u32) -> Result<Option<u32>, NoMemory>
         requires { id ≤ length self.old }
-        ensures { Leaves self.old self.new (push Operand.Number (pop Operand.Number (list_at self.old id))) result }
+        ensures { Changes number_for_one self.old self.new id result }
     {
         let below = self.pop(Operand::Number, id);
         self.give(below, Operand::Number)
@@ -201,7 +201,7 @@ impl KindLists {
     /// `NoMemory` if there is no room for the list.
     pub fn replace_two(&mut self, id: u32) -> Result<Option<u32>, NoMemory>
         requires { id ≤ length self.old }
-        ensures { Leaves self.old self.new (push Operand.Number (and_pop Operand.Number (pop Operand.Number (list_at self.old id)))) result }
+        ensures { Changes number_for_two self.old self.new id result }
     {
         let below = self.pop_two(Operand::Number, Operand::Number, id);
         self.give(below, Operand::Number)

@@ -17,6 +17,5 @@ mod verifier;
 pub use code::{Code, RawCode, RawFunction};
 pub use instr::{Answer, Instr, Operand};
 pub use operators::{BinaryOp, UnaryOp};
-pub use shapes::Shape;
 pub use text::print;
 pub use verifier::verify;

@@ -1,8 +1,8 @@
 //! The pass over the places of a function, and over all functions.
 
-ghost use Rattle.std.specs.Prelude.{◌≡◌, ◌≤◌, ◌<◌, ◌+◌, ◌^◌, length, drop, Some, []};
-ghost use Rattle.stack_code.specs.Valid.{around, arrive, at_kinds, end_with, exits_of, function_fits, pass, pass_all, pass_function};
-ghost use Rattle.stack_code.specs.KindLists.{notes_of, NotesFit, maybe, MaybeFits, PlaceLeaves, PassLeaves, OneLeaves, AllLeaves};
+ghost use Rattle.std.specs.Prelude.{◌≡◌, ◌<◌, ◌+◌, ◌^◌, length, drop, Some, []};
+ghost use Rattle.stack_code.specs.Valid.{end_with, exits_of, function_fits, pass, pass_all, pass_function, pass_place};
+ghost use Rattle.stack_code.specs.KindLists.{notes_of, NotesFit, maybe, MaybeFits, around_of, PlaceLeaves, PassLeaves, FunctionLeaves, AllLeaves};
 
 use crate::code::{RawCode, RawFunction};
 use crate::exits::Around;
@@ -25,8 +25,9 @@ impl Around<'_> {
     ) -> Result<Option<Option<u32>>, NoMemory>
         requires notes { NotesFit lists.old notes.old.items }
         requires here { MaybeFits lists.old here }
-        ensures { PlaceLeaves (at_kinds (exits_of (around self.now.code.now self.now.function.now self.now.end) i) p (notes_of lists.old notes.old.items) (arrive (maybe lists.old here) (notes_of lists.old notes.old.items) p)) lists.new notes.new.items result }
+        ensures { PlaceLeaves (pass_place (exits_of (around_of self.now) i p) p (maybe lists.old here) (notes_of lists.old notes.old.items)) lists.new notes.new.items result }
     {
+        // `len` says that a list's number and 1 fit in 32 bits.
         let _few = lists.len();
         match lists.arrive(notes.as_slice(), here, p) {
             None => Ok(None),
@@ -37,6 +38,7 @@ impl Around<'_> {
                     Some(exit) => match exit.jumps {
                         None => Ok(Some(exit.falls)),
                         Some((q, ks)) => {
+                            // Lists may have been added, so `len` says it again.
                             let _still = lists.len();
                             if lists.note(notes, q as usize, ks) {
                                 Ok(Some(exit.falls))
@@ -60,7 +62,7 @@ impl Around<'_> {
     ) -> Result<bool, NoMemory>
         requires notes { NotesFit lists.old notes.old.items }
         requires small { first + length instrs.now < 2 ^ 64 }
-        ensures { PassLeaves (pass (around self.now.code.now self.now.function.now self.now.end) instrs.now first (Some []) (notes_of lists.old notes.old.items)) lists.new notes.new.items result }
+        ensures { PassLeaves (pass (around_of self.now) instrs.now first (Some []) (notes_of lists.old notes.old.items)) lists.new notes.new.items result }
     {
         let mut here = Some(0u32);
         let mut p = first;
@@ -100,7 +102,7 @@ fn pass_function(
     end: usize,
 ) -> Result<bool, NoMemory>
     requires notes { NotesFit lists.old notes.old.items }
-    ensures { OneLeaves (pass_function code.now function.now p end (notes_of lists.old notes.old.items)) (length code.now.instrs) end lists.new notes.new.items result }
+    ensures { FunctionLeaves (pass_function code.now function.now p end (notes_of lists.old notes.old.items)) (length code.now.instrs < end) lists.new notes.new.items result }
 {
     if !function_fits(function, p, end) {
         return Ok(false);

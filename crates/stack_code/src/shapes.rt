@@ -89,7 +89,7 @@ fn num_type(kind: Kind, width: u8) -> NumType
 impl Instr {
     /// The shape of the instruction.
     #[inline(always)]
-    pub fn shape(&self) -> Shape
+    pub(crate) fn shape(&self) -> Shape
         ensures { sort_of result ≡ sort self.now }
     {
         match *self {

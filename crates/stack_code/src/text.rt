@@ -1,9 +1,9 @@
 //! The text form of code.
 
-ghost use Rattle.std.specs.Prelude.{◌≡◌, ◌+◌, ◌-◌, ◌≤◌, ◌++◌, [], drop, take, codes, decimal};
+ghost use Rattle.std.specs.Prelude.{◌≡◌, ◌+◌, ◌-◌, ◌++◌, drop, take};
 ghost use Rattle.std.specs.Fmt.{signed_decimal};
 ghost use Rattle.feast_base.specs.Appending.{Appends};
-ghost use Rattle.stack_code.specs.Text.{spaced, number_text, kind_name, field_text, instr_name, args_text, instr_line, instr_lines, function_line, function_texts, body_of, element_line, code_text};
+ghost use Rattle.stack_code.specs.Text.{spaced, number_text, kind_name, field_text, instr_name, args_text, instr_line, instr_lines, function_line, function_text, function_texts, element_line, code_text};
 
 use crate::code::{Code, RawCode, RawFunction};
 use crate::instr::Instr;
@@ -234,7 +234,7 @@ fn push_function(
     function: &RawFunction,
     end: usize,
 ) -> Result<(), NoMemory>
-    ensures { Appends out.old.items out.new.items result (function_line number function.now ++ instr_lines function.now.first (body_of code.now function.now end)) }
+    ensures { Appends out.old.items out.new.items result (function_text code.now number function.now end) }
 {
     push_head(out, number, function)?;
     let first = function.first();

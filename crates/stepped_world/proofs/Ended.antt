@@ -18,20 +18,20 @@ use Rattle.edge_lock.proofs.HistoryLaws.{open_is_none}
 use Rattle.border_cache.specs.Windows.{end_at}
 use Rattle.tile_core.specs.declared.phase.Phase.{Phase}
 use Rattle.tile_core.specs.declared.phase.Phase.TheVariants.{Draw, Lock, Refresh, Behave, Write, Give, Back, Finished, Worn}
-use Rattle.tile_core.specs.Values.{TileValue, atoms_of}
+use Rattle.tile_core.specs.Values.{TileWith, TileValue, atoms_of}
 use Rattle.tile_core.specs.Turns.{HasPlayed}
-use Rattle.tile_core.specs.Underway.{InPhase}
+use Rattle.tile_core.specs.Underway.{tile_at, made_by, InPhase}
 use Rattle.tile_core.proofs.Boards.{edge_end}
 use Rattle.tile_core.proofs.Lists.{free_of}
 use Rattle.tile_core.proofs.Played.{played_at_end}
-use Rattle.serial_order.specs.Scene.{IsOver}
+use Rattle.serial_order.specs.Scene.{Setting, common_in, IsOver}
 use Rattle.serial_order.specs.Words.{histories_on}
 use Rattle.serial_order.specs.Outcomes.{scene_of, values_of}
 use Rattle.serial_order.specs.Boards.{HasStopped, HaveStopped}
 use Rattle.serial_order.proofs.Boards.{words, over}
 use Rattle.serial_order.proofs.Promises.{one_order}
 use Rattle.stepped_world.specs.Machine.{Machine}
-use Rattle.stepped_world.specs.Running.{Setting, IsStart, AreUnderway, is_still, stands_still, AnyIsWorn, IsLike, AreLike}
+use Rattle.stepped_world.specs.Running.{IsStart, AreUnderway, is_still, stands_still, AnyIsWorn, IsLike, AreLike}
 use Rattle.stepped_world.specs.Ends.{HasRun}
 use Rattle.stepped_world.proofs.Slots.{value_at}
 
@@ -47,34 +47,34 @@ stopped_in tile Back e h = absurd (true≢false (sym h))
 stopped_in tile Finished e h = inl e
 stopped_in tile Worn e h = inr e
 
-module _ {B : Type 0} (after : B → WindowValue → ℕ → WindowValue) (m : MapValue) (valid : IsMap m) (g : Setting) (tiles : List (TileValue × B)) (board : PlainBoardValue) (u : AreUnderway after m g tiles board)
+module _ {B : Type 0} (after : B → WindowValue → ℕ → WindowValue) (m : MapValue) (valid : IsMap m) (g : Setting) (tiles : List (TileWith B)) (board : PlainBoardValue) (u : AreUnderway after m g tiles board)
     (still : (t : ℕ) → t < tiles_of m → stands_still (slice_get tiles t) ≡ true) where
-  inside : (t : ℕ) (x : TileValue × B) → slice_get tiles t ≡ Some x → t < tiles_of m
+  inside : (t : ℕ) (x : TileWith B) → slice_get tiles t ≡ Some x → t < tiles_of m
   inside t x is = let lt = slice_get_within tiles t x is in let n = u.count in omega (arith, lt, n)
 
-  module _ {A : Type 0} (after' : A → WindowValue → ℕ → WindowValue) (first : List (TileValue × A)) (board' : PlainBoardValue) (s : IsStart after' m g first board') where
-    have_stopped : HaveStopped m g.meaning g.start g.plan (values_of tiles) board
+  module _ {A : Type 0} (after' : A → WindowValue → ℕ → WindowValue) (first : List (TileWith A)) (board' : PlainBoardValue) (s : IsStart after' m g first board') where
+    have_stopped : HaveStopped m g (values_of tiles) board
     have_stopped = record {
       valid = valid;
       grid = s.tiles_are.grid;
       fits = s.tiles_are.fits;
       plan_is = s.tiles_are.plan_is;
       lists = s.tiles_are.lists;
-      count = length-map tiles (λ (x : TileValue × B). x.0) ∙ u.count;
+      count = length-map tiles (λ (x : TileWith B). x.core) ∙ u.count;
       edges = u.board_is;
       numbers = λ t tile is. let v = value_at tiles t tile is in ap (λ (z : TileValue). z.number) (sym v.2) ∙ (u.each t v.0 v.1).number;
       underway = λ t tile is. let v = value_at tiles t tile is in let k = u.each t v.0 v.1 in
-          subst (λ (z : TileValue). Rattle.tile_core.specs.Underway.IsUnderway m g.meaning (atoms_of g.start) (attempts g.plan t) z (lists_of_tile board z.number)) v.2
-          (subst (λ n. Rattle.tile_core.specs.Underway.IsUnderway m g.meaning (atoms_of g.start) (attempts g.plan t) v.0.0 (lists_of_tile board n)) (sym k.number) k.underway);
+          subst (λ (z : TileValue). Rattle.tile_core.specs.Underway.IsUnderway (common_in m g) (attempts g.plan t) z (lists_of_tile board z.number)) v.2
+          (subst (λ n. Rattle.tile_core.specs.Underway.IsUnderway (common_in m g) (attempts g.plan t) v.0.core (lists_of_tile board n)) (sym k.number) k.underway);
       stopped = λ t tile is. let v = value_at tiles t tile is in
-          subst HasStopped v.2 (stopped_in v.0.0 v.0.0.phase refl (ap stands_still (sym v.1) ∙ still t (inside t v.0 v.1)));
+          subst HasStopped v.2 (stopped_in v.0.core v.0.core.phase refl (ap stands_still (sym v.1) ∙ still t (inside t v.0 v.1)));
     }
 
-    pub is_over : IsOver (scene_of m (values_of tiles) (histories_on board) g.meaning g.start g.plan)
-    is_over = over m g.meaning g.start g.plan (values_of tiles) board have_stopped
+    pub is_over : IsOver (scene_of m (values_of tiles) (histories_on board) g)
+    is_over = over m g (values_of tiles) board have_stopped
 
-    pub finished : (t : ℕ) (x : TileValue × B) → slice_get tiles t ≡ Some x → x.0.phase ≡ Finished
-    finished t x is = (one_order (scene_of m (values_of tiles) (histories_on board) g.meaning g.start g.plan) is_over).unworn t x.0 (Rattle.std.proofs.lemmas.Option.slice_get-map (λ (z : TileValue × B). z.0) tiles t ∙ ap (Rattle.std.specs.Option.option_map (λ (z : TileValue × B). z.0)) is)
+    pub finished : (t : ℕ) (x : TileWith B) → slice_get tiles t ≡ Some x → x.core.phase ≡ Finished
+    finished t x is = (one_order (scene_of m (values_of tiles) (histories_on board) g) is_over).unworn t x.core (Rattle.std.proofs.lemmas.Option.slice_get-map (λ (z : TileWith B). z.core) tiles t ∙ ap (Rattle.std.specs.Option.option_map (λ (z : TileWith B). z.core)) is)
 
     -- so none is worn out, and all is as the machine has it
     pub like_it : (k : Machine) → AreLike m g tiles board k → IsLike m g tiles board k
@@ -84,9 +84,9 @@ module _ {B : Type 0} (after : B → WindowValue → ℕ → WindowValue) (m : M
     free_tile : (t e : ℕ) → t < tiles_of m → has_end m t e ≡ true → IsFree (lists_of_tile board t e)
     free_tile t e lt end =
         let x = get_inside tiles t (let n = u.count in omega (arith, lt, n)) in
-        let k = u.each t x.0 x.1 in
-        let h = subst (InPhase m g.meaning (atoms_of g.start) (attempts g.plan t) k.underway.turns x.0.0 (lists_of_tile board t)) (finished t x.0 x.1) k.underway.hand in
-        subst IsFree (sym (h.2 e (ap (λ n. has_end m n e) k.number ∙ end))) (free_of m g.meaning (atoms_of g.start) x.0.0.number k.underway.turns e k.underway.each k.underway.unworn)
+        let k = u.each t x.core x.behave in
+        let h = subst (InPhase (common_in m g) (attempts g.plan t) k.underway.turns (tile_at x.core.0 (lists_of_tile board t))) (finished t x.core x.behave) k.underway.hand in
+        subst IsFree (sym (h.2 e (ap (λ n. has_end m n e) k.number ∙ end))) (free_of m g.meaning (atoms_of g.start) x.core.0.number k.underway.turns e k.underway.each k.underway.unworn)
 
     end_free : (t e b : ℕ) → t < tiles_of m → has_end m t e ≡ true → e < length (pairs_of m) → end_at m t e ≡ b → is_last_open (own b (edge_at board e).holds) ≡ false
     end_free t e b lt end known is =
@@ -112,10 +112,10 @@ module _ {B : Type 0} (after : B → WindowValue → ℕ → WindowValue) (m : M
       finished = λ t x is. let k = u.each t x is in record {
         number = k.number;
         map = k.underway.map;
-        meaning = k.meaning;
         phase = finished t x is;
-        played = subst (λ n. HasPlayed m g.meaning (atoms_of g.start) n (attempts g.plan t) x.0.records x.0.abandoned (lists_of_tile board t)) k.number (played_at_end m g.meaning (atoms_of g.start) (attempts g.plan t) x.0 (lists_of_tile board t) k.underway (finished t x is));
+        played = subst (λ n. HasPlayed (common_in m g) n (attempts g.plan t) (made_by x.core (lists_of_tile board t))) k.number (played_at_end m g.meaning (atoms_of g.start) (attempts g.plan t) x.core (lists_of_tile board t) k.underway (finished t x is));
       };
+      meanings = u.meanings;
       shut = shut;
       made = λ i d lt. let k = u.each i (get_or tiles i d) (slice_get-get_or tiles i d lt) in (g.meaning, lists_of_tile board i, (atoms_of g.start, attempts g.plan i, k.underway));
       words = words m board u.board_is;

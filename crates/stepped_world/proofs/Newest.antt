@@ -16,10 +16,10 @@ use Rattle.edge_lock.specs.PlainBoard.{PlainBoardValue}
 use Rattle.list_laws.proofs.Members.{In, InOrder, in_filter, filter_in, get_in, pairs_order}
 use Rattle.border_cache.specs.Cells.{CellValue, cell_value}
 use Rattle.border_cache.specs.Copies.{IsGridOf, IsCentre}
-use Rattle.tile_core.specs.Values.{TileValue, atoms_of, event_site}
+use Rattle.tile_core.specs.Values.{TileWith, TileValue, atoms_of, event_site}
 use Rattle.tile_core.specs.Turns.{Won, Turn, Wins, records_in_turns}
 use Rattle.event_journal.specs.Logs.{log_of, records_in, of_tile, abandoned_by}
-use Rattle.serial_order.specs.Scene.{log_of_tile, logs_of, Scene, IsOver, registers_at}
+use Rattle.serial_order.specs.Scene.{Setting, log_of_tile, logs_of, Scene, IsOver, registers_at}
 use Rattle.serial_order.specs.Order.{records}
 use Rattle.serial_order.specs.Settled.{IsSettled}
 use Rattle.serial_order.specs.Words.{histories_on}
@@ -37,7 +37,7 @@ use Rattle.serial_order.proofs.Whole.{turns, hist, run, laws, tile_told, tile_of
 use Rattle.serial_order.proofs.World.{IsRun, IsEvent}
 use Rattle.stepped_world.specs.Machine.{Machine}
 use Rattle.stepped_world.specs.Ends.{logs_in}
-use Rattle.stepped_world.specs.Running.{Setting, StampsRise, IsLike}
+use Rattle.stepped_world.specs.Running.{StampsRise, IsLike}
 use Rattle.stepped_world.proofs.Slots.{value_at, map_places}
 
 rises_in_time : (m : MapValue) (ws : List Won) → InOrder (StampsRise m) (notes ws) → WritesRise m ws
@@ -69,19 +69,19 @@ module _ (m : MapValue) (meaning : WindowValue → ℕ → WindowValue) (first :
   pub two_orders : (vs ws : List Won) → IsJournal turns' vs → IsJournal turns' ws → WritesRise m vs → WritesRise m ws → replay meaning first (notes vs) ≡ replay meaning first (notes ws)
   two_orders vs ws i j p q = one_left (replay meaning first (notes vs)) (replay meaning first (notes ws)) (left_by vs i p) (left_by ws j q)
 
-module _ {B : Type 0} (m : MapValue) (g : Setting) (tiles : List (TileValue × B)) (board : PlainBoardValue) (o : IsOver (scene_of m (values_of tiles) (histories_on board) g.meaning g.start g.plan)) (s : Machine) (k : IsLike m g tiles board s) where
+module _ {B : Type 0} (m : MapValue) (g : Setting) (tiles : List (TileWith B)) (board : PlainBoardValue) (o : IsOver (scene_of m (values_of tiles) (histories_on board) g)) (s : Machine) (k : IsLike m g tiles board s) where
   abbrev c : Scene
-  c = scene_of m (values_of tiles) (histories_on board) g.meaning g.start g.plan
+  c = scene_of m (values_of tiles) (histories_on board) g
 
-  value_there : (t : ℕ) (x : TileValue × B) → slice_get tiles t ≡ Some x → slice_get (values_of tiles) t ≡ Some x.0
-  value_there t x is = slice_get-map (λ (z : TileValue × B). z.0) tiles t ∙ ap (option_map (λ (z : TileValue × B). z.0)) is
+  value_there : (t : ℕ) (x : TileWith B) → slice_get tiles t ≡ Some x → slice_get (values_of tiles) t ≡ Some x.core
+  value_there t x is = slice_get-map (λ (z : TileWith B). z.core) tiles t ∙ ap (option_map (λ (z : TileWith B). z.core)) is
 
   mine : (t : ℕ) (r : Record) → r.tile ≡ t → (r.tile == t) ≡ true
   mine t r e = grind (arith, nat_tests, e)
 
   -- a tile's entries among the machine's are those of its turns
-  same_records : (t : ℕ) (x : TileValue × B) → slice_get tiles t ≡ Some x → of_tile t s.records ≡ records_in_turns (turns c o t)
-  same_records t x is = sym (k.matches.records t x is) ∙ (tile_told c o t x.0 (value_there t x is)).records
+  same_records : (t : ℕ) (x : TileWith B) → slice_get tiles t ≡ Some x → of_tile t s.records ≡ records_in_turns (turns c o t)
+  same_records t x is = sym (k.matches.records t x is) ∙ (tile_told c o t x.core (value_there t x is)).records
 
   owner_there : (n : Record) → In n s.records → n.tile < length tiles
   owner_there n i =
@@ -89,7 +89,7 @@ module _ {B : Type 0} (m : MapValue) (g : Setting) (tiles : List (TileValue × B
       let centre : IsCentre m n.tile (event_site n) = subst (λ (r : Record). IsCentre m r.tile (event_site r)) q.2 (k.sound.owned q.0 n q.1) in
       let lt = owner_inside m (laws c o) (event_site n) centre.live in
       let count : length (values_of tiles) ≡ tiles_of m = o.count in
-      let same : length (values_of tiles) ≡ length tiles = Rattle.std.proofs.lemmas.List.length-map tiles (λ (z : TileValue × B). z.0) in
+      let same : length (values_of tiles) ≡ length tiles = Rattle.std.proofs.lemmas.List.length-map tiles (λ (z : TileWith B). z.core) in
       omega (arith, lt, centre.owned, count, same)
 
   entries : AreEntries (turns c o) s.records

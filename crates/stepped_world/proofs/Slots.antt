@@ -2,6 +2,7 @@
 use Rattle.std.proofs.Common.{◌≡◌, ◌≢◌, ℕ, zero, suc, ◌+◌, ◌<◌, List, [], ◌∷◌, length, map, refl, sym, ap, ◌∙◌, subst, arith, ⊎_elim, Some}
 use Rattle.std.specs.Prelude.{slice_get, slice_set}
 use Rattle.std.specs.List.{range_with_len}
+use Rattle.tile_core.specs.Values.{TileValue, TileWith}
 use Rattle.std.proofs.lemmas.Option.{same_Some}
 use Rattle.std.proofs.lemmas.Bool.{cases_eq}
 use Rattle.list_laws.proofs.Slots.{get_set_same, get_set_other}
@@ -13,10 +14,10 @@ set_each P xs k y lt here there j z at = ⊎_elim {C = P j z}
     (λ ne. there j z ne (sym (get_set_other xs k j y ne) ∙ at))
     (cases_eq j k)
 
--- a value of a list of values comes from an element
-pub value_at : {A C : Type 0} (xs : List (A × C)) (k : ℕ) (a : A) → slice_get (map (λ (x : A × C). x.0) xs) k ≡ Some a → (x : A × C) × (slice_get xs k ≡ Some x) × (x.0 ≡ a)
+-- a tile's value in a list of values comes from an element
+pub value_at : {B : Type 0} (xs : List (TileWith B)) (k : ℕ) (a : TileValue) → slice_get (map (λ (x : TileWith B). x.core) xs) k ≡ Some a → (x : TileWith B) × (slice_get xs k ≡ Some x) × (x.core ≡ a)
 value_at [] k a e = absurd (cc e)
-value_at (x ∷ xs) zero a e = (x, refl, same_Some x.0 a e)
+value_at (x ∷ xs) zero a e = (x, refl, same_Some x.core a e)
 value_at (x ∷ xs) (suc k) a e = value_at xs k a e
 
 -- what each element becomes goes by its place

@@ -1,5 +1,5 @@
 -- What holds of the stepped machine by itself after any steps.
-use Rattle.std.proofs.Common.{◌≡◌, ◌≢◌, ℕ, ◌+◌, ◌<◌, ◌≤◌, ◌==◌, Bool, true, false, List, [], ◌∷◌, ◌++◌, length, get_or, refl, sym, ap, ◌∙◌, subst, arith, ◌⊎◌, inl, inr, ⊎_elim, Option, Some, None, All}
+use Rattle.std.proofs.Common.{◌≡◌, ◌≢◌, ℕ, ◌+◌, ◌<◌, ◌≤◌, ◌==◌, Bool, true, false, List, [], ◌∷◌, ◌++◌, get_or, refl, sym, ap, ◌∙◌, subst, arith, ◌⊎◌, inl, inr, ⊎_elim, Option, Some, None, All}
 use Rattle.std.specs.Prelude.{AllPairs, if◌then◌else◌}
 use Rattle.std.proofs.lemmas.List.Elements.{All-push}
 use Rattle.std.proofs.lemmas.List.Quantifiers.{all_pairs_push}
@@ -18,8 +18,9 @@ use Rattle.border_cache.specs.Windows.{has}
 use Rattle.tile_core.specs.Values.{event_site}
 use Rattle.serial_order.proofs.Ground.{needed, has_in, in_has}
 use Rattle.serial_order.proofs.Tile.{greatest_each}
-use Rattle.stepped_world.specs.Machine.{Hand, Doing, Drawing, Done, Locking, Refreshing, Behaving, Writing, Giving, Backing, TileState, EdgeState, Machine, at, next_lock, next_give, next_back, does, is_held_by, record_of, drawn, draw, lock, next_stamp, write, step_in, step}
-use Rattle.stepped_world.specs.Running.{Setting, StampsRise, HasClocks, IsSound}
+use Rattle.stepped_world.specs.Machine.{wanted, Hand, Doing, Drawing, Done, Locking, Refreshing, Behaving, Writing, Giving, Backing, TileState, EdgeState, Machine, at, next_lock, next_give, next_back, does, is_held_by, record_of, drawn, draw, lock, next_stamp, write, step_in, step}
+use Rattle.serial_order.specs.Scene.{Setting}
+use Rattle.stepped_world.specs.Running.{StampsRise, HasClocks, IsSound}
 
 -- a clock that stays
 pub tile_clock : (f : ℕ → TileState) (t : ℕ) (x : TileState) → x.clock ≡ (f t).clock → (u : ℕ) → (at f t x u).clock ≡ (f u).clock
@@ -63,9 +64,9 @@ module _ (m : MapValue) (plane : IsPlane m) (g : Setting) (t : ℕ) (s : Machine
   draws [] = only Done
   draws (a ∷ more) = unmoved (draw m t (a ∷ more) s) refl refl (tile_clock s.tile t (drawn m t a more (s.tile t)) refl) (λ e. refl)
 
-  locks : (h : Hand) (had : List ℕ) (e : ℕ) (es : List ℕ) (o : Option (ℕ × ℕ)) → IsSound m g (lock t h had e es o s)
+  locks : (h : Hand) (had : List ℕ) (e : ℕ) (es : List ℕ) (o : Option (ℕ × ℕ)) → IsSound m g (lock t (wanted h had e es) o s)
   locks h had e es None = frees e (Some (t, h.attempt)) (next_lock h (had ++ e ∷ []) es)
-  locks h had e es (Some p) = unmoved (lock t h had e es (Some p) s) refl refl (tile_clock s.tile t (record (s.tile t) { doing = next_back had (s.tile t).left }) refl) (λ d. refl)
+  locks h had e es (Some p) = unmoved (lock t (wanted h had e es) (Some p) s) refl refl (tile_clock s.tile t (record (s.tile t) { doing = next_back had (s.tile t).left }) refl) (λ d. refl)
 
   -- an event
   module _ (h : Hand) (centre : IsCentre m t h.site) where

@@ -3,7 +3,7 @@ use Rattle.std.proofs.Common.{◌≡◌, ℕ, zero, suc, ◌+◌, ◌<◌, List,
 use Rattle.std.specs.Prelude.{slice_get}
 use Rattle.window_sites.specs.Window.{WindowValue}
 use Rattle.feast_base.specs.Edges.{EdgeSize}
-use Rattle.tile_map.specs.Plane.{MapValue, tiles_of}
+use Rattle.tile_map.specs.Plane.{MapValue}
 use Rattle.tile_map.specs.Edges.{sizes_of}
 use Rattle.draw_stream.specs.declared.attempt.Attempt.{Attempt}
 use Rattle.draw_stream.specs.Plans.{attempts}
@@ -12,13 +12,14 @@ use Rattle.edge_lock.specs.EndLists.{EndLists}
 use Rattle.edge_lock.specs.PlainBoard.{PlainBoardValue, no_edge, edge_at, lists_of_tile, untouched_edge}
 use Rattle.tile_core.specs.declared.phase.Phase.{Phase}
 use Rattle.tile_core.specs.declared.phase.Phase.TheVariants.{Draw, Lock, Refresh, Behave, Write, Give, Back, Finished, Worn}
-use Rattle.tile_core.specs.Values.{TileValue, atoms_of}
-use Rattle.tile_core.specs.Turns.{Turn, stamp_of, records_in_turns, abandoned_in_turns}
-use Rattle.tile_core.specs.Underway.{IsUnderway, InPhase}
+use Rattle.tile_core.specs.Values.{TileWith, TileValue, atoms_of}
+use Rattle.tile_core.specs.Turns.{common, Turn, stamp_of, records_in_turns, abandoned_in_turns}
+use Rattle.tile_core.specs.Underway.{tile_at, IsUnderway, InPhase}
 use Rattle.tile_core.proofs.Boards.{board_new, fresh_there}
 use Rattle.stepped_world.specs.Machine.{Drawing, next_draw, first_machine}
 use Rattle.stepped_world.specs.Matching.{doing_in, who, Matches}
-use Rattle.stepped_world.specs.Running.{Setting, IsStart, AreUnderway, IsSound, IsLike}
+use Rattle.serial_order.specs.Scene.{common_in, Setting}
+use Rattle.stepped_world.specs.Running.{IsStart, AreUnderway, IsSound, IsLike}
 
 nothing_yet : (zs : List EdgeSize) (e : ℕ) → (get_or (map untouched_edge zs) e no_edge).holds ≡ []
 nothing_yet [] e = refl
@@ -26,7 +27,7 @@ nothing_yet (z ∷ zs) zero = refl
 nothing_yet (z ∷ zs) (suc e) = nothing_yet zs e
 
 -- a tile that has drawn nothing has made no turn, and what it does next goes by the attempts that it has
-module _ (m : MapValue) (meaning : WindowValue → ℕ → WindowValue) (start : Rattle.tile_map.specs.Plane.Site → Rattle.bit_field.specs.Atom.AtomValue) (given : List Attempt) (tile : TileValue) (lists : ℕ → EndLists) (u : IsUnderway m meaning start given tile lists) (none : tile.taken ≡ 0) where
+module _ (m : MapValue) (meaning : WindowValue → ℕ → WindowValue) (start : Rattle.tile_map.specs.Plane.Site → Rattle.bit_field.specs.Atom.AtomValue) (given : List Attempt) (tile : TileValue) (lists : ℕ → EndLists) (u : IsUnderway (common m meaning start) given tile lists) (none : tile.taken ≡ 0) where
   pub record Fresh : Type 0 where
     pub turns : u.turns ≡ []
     pub doing : doing_in tile tile.phase ≡ Some (next_draw tile.left)
@@ -49,7 +50,7 @@ module _ (m : MapValue) (meaning : WindowValue → ℕ → WindowValue) (start :
       giving [] edges next e g = g
       giving (x ∷ turns) edges next e g = cc e
 
-      go : (p : Phase) → tile.phase ≡ p → InPhase m meaning start given u.turns tile lists p → Fresh
+      go : (p : Phase) → tile.phase ≡ p → InPhase (common m meaning start) given u.turns (tile_at tile lists) p → Fresh
       go Draw is h = record { turns = no_turns u.turns h.0; doing = ap (doing_in tile) is ∙ some_left tile.left h.1 }
       go Finished is h = record { turns = no_turns u.turns h.0; doing = ap (doing_in tile) is ∙ ap (λ l. Some (next_draw l)) (sym h.1) }
       go Lock is h = absurd (out (length u.turns) h.0.taken)
@@ -60,10 +61,10 @@ module _ (m : MapValue) (meaning : WindowValue → ℕ → WindowValue) (start :
       go Give is h = absurd (giving u.turns tile.needs tile.next (no_turns u.turns h.0) h.2)
       go Back is h = absurd (giving u.turns _ tile.next (no_turns u.turns h.0) h.4)
 
-module _ {B : Type 0} (after : B → WindowValue → ℕ → WindowValue) (m : MapValue) (g : Setting) (tiles : List (TileValue × B)) (board : PlainBoardValue) (s : IsStart after m g tiles board) where
-  there : (t : ℕ) (x : TileValue × B) → slice_get tiles t ≡ Some x → IsUnderway m g.meaning (atoms_of g.start) (attempts g.plan t) x.0 (lists_of_tile board t)
+module _ {B : Type 0} (after : B → WindowValue → ℕ → WindowValue) (m : MapValue) (g : Setting) (tiles : List (TileWith B)) (board : PlainBoardValue) (s : IsStart after m g tiles board) where
+  there : (t : ℕ) (x : TileWith B) → slice_get tiles t ≡ Some x → IsUnderway (common_in m g) (attempts g.plan t) x.core (lists_of_tile board t)
   there t x is = let f = s.tiles_are.fresh t x is in
-      subst (λ n. IsUnderway m g.meaning (atoms_of g.start) (attempts g.plan t) x.0 (lists_of_tile board n)) f.number (fresh_there m board s.edges g.meaning t (atoms_of g.start) (attempts g.plan t) x.0 f)
+      subst (λ n. IsUnderway (common_in m g) (attempts g.plan t) x.core (lists_of_tile board n)) f.number (fresh_there m board s.edges g.meaning t (atoms_of g.start) (attempts g.plan t) x.core f)
 
   pub first_underway : AreUnderway after m g tiles board
   first_underway = record {
@@ -72,8 +73,8 @@ module _ {B : Type 0} (after : B → WindowValue → ℕ → WindowValue) (m : M
     board_is = board_new m board s.edges;
   }
 
-  tile_first : (t : ℕ) (x : TileValue × B) (is : slice_get tiles t ≡ Some x) → Fresh m g.meaning (atoms_of g.start) (attempts g.plan t) x.0 (lists_of_tile board t) (there t x is) (s.tiles_are.fresh t x is).taken
-  tile_first t x is = begins m g.meaning (atoms_of g.start) (attempts g.plan t) x.0 (lists_of_tile board t) (there t x is) (s.tiles_are.fresh t x is).taken
+  tile_first : (t : ℕ) (x : TileWith B) (is : slice_get tiles t ≡ Some x) → Fresh m g.meaning (atoms_of g.start) (attempts g.plan t) x.core (lists_of_tile board t) (there t x is) (s.tiles_are.fresh t x is).taken
+  tile_first t x is = begins m g.meaning (atoms_of g.start) (attempts g.plan t) x.core (lists_of_tile board t) (there t x is) (s.tiles_are.fresh t x is).taken
 
   first_matches : Matches m tiles board (first_machine g.start g.plan)
   first_matches = record {

@@ -1,5 +1,6 @@
 -- All tiles of a plane and their board once the stepped run is over.
-use Rattle.std.specs.Prelude.{ℕ, ◌≡◌, ◌<◌, List, length, map, All, slice_get, Some, None}
+use Rattle.std.specs.Prelude.{ℕ, ◌≡◌, ◌<◌, List, length, map, All, slice_get, Option, Some, None}
+use Rattle.std.specs.Iterator.{Drains}
 use Rattle.std.specs.List.{range_with_len}
 use Rattle.window_sites.specs.Window.{WindowValue}
 use Rattle.tile_map.specs.Plane.{MapValue, tiles_of}
@@ -9,35 +10,36 @@ use Rattle.draw_stream.specs.Plans.{PlanValue, attempts}
 use Rattle.edge_lock.specs.History.{open_hold}
 use Rattle.edge_lock.specs.PlainBoard.{PlainBoardValue, edge_at, lists_of_tile}
 use Rattle.tile_core.specs.declared.phase.Phase.TheVariants.{Finished}
-use Rattle.tile_core.specs.Values.{TileValue, atoms_of}
+use Rattle.tile_core.specs.Values.{TileWith, TileValue}
 use Rattle.tile_core.specs.Turns.{HasPlayed}
 use Rattle.event_journal.specs.Logs.{LogValue, log_of, records_in, of_tile, abandoned_by}
-use Rattle.serial_order.specs.Scene.{EdgeHistory, IsOver, logs_of, registers_at}
+use Rattle.serial_order.specs.Scene.{Setting, common_in, EdgeHistory, IsOver, logs_of, registers_at}
 use Rattle.serial_order.specs.Settled.{IsSettled}
-use Rattle.serial_order.specs.Words.{AreEdgeWords, histories_on, counts_on}
-use Rattle.serial_order.specs.Outcomes.{IsMade, IsSettlement, scene_of, values_of}
+use Rattle.serial_order.specs.Words.{plain_words, AreEdgeWords, histories_on}
+use Rattle.serial_order.specs.Outcomes.{IsSettlement, scene_of, values_of}
 use Rattle.serial_order.specs.declared.outcome.Outcome.{Outcome}
 use Rattle.stepped_world.specs.Machine.{Done, Machine, stepped}
 use Rattle.stepped_world.specs.Matching.{Matches}
-use Rattle.stepped_world.specs.Running.{Setting}
+use Rattle.stepped_world.specs.Running.{IsStart}
+use Rattle.tile_core.specs.Underway.{made_by, IsMade}
 
--- a tile has played all its attempts of the plan, and keeps its number, its map and its meaning
-pub record HasFinished {B : Type 0} (after : B → WindowValue → ℕ → WindowValue) (m : MapValue) (g : Setting) (board : PlainBoardValue) (t : ℕ) (x : TileValue × B) : Type 0 where
-  pub number : x.0.number ≡ t
-  pub map : x.0.cache.map ≡ m
-  pub meaning : after x.1 ≡ g.meaning
-  pub phase : x.0.phase ≡ Finished
-  pub played : HasPlayed m g.meaning (atoms_of g.start) t (attempts g.plan t) x.0.records x.0.abandoned (lists_of_tile board t)
+-- tile t has played all its attempts of the plan, and keeps its number and its map
+pub record HasFinished (m : MapValue) (g : Setting) (board : PlainBoardValue) (t : ℕ) (tile : TileValue) : Type 0 where
+  pub number : tile.number ≡ t
+  pub map : tile.cache.map ≡ m
+  pub phase : tile.phase ≡ Finished
+  pub played : HasPlayed (common_in m g) t (attempts g.plan t) (made_by tile (lists_of_tile board t))
 
--- the run is over: each tile has played all its attempts, nobody has an edge, and everything holds
--- that the settling of the grid requires
-pub record HasRun {B : Type 0} (after : B → WindowValue → ℕ → WindowValue) (m : MapValue) (g : Setting) (tiles : List (TileValue × B)) (board : PlainBoardValue) : Type 0 where
+-- the run is over: each tile has played all its attempts and keeps its meaning, nobody has an edge, and everything holds that
+-- the settling of the grid requires
+pub record HasRun {B : Type 0} (after : B → WindowValue → ℕ → WindowValue) (m : MapValue) (g : Setting) (tiles : List (TileWith B)) (board : PlainBoardValue) : Type 0 where
   pub count : length tiles ≡ tiles_of m
-  pub finished : (t : ℕ) (x : TileValue × B) → slice_get tiles t ≡ Some x → HasFinished after m g board t x
+  pub finished : (t : ℕ) (x : TileWith B) → slice_get tiles t ≡ Some x → HasFinished m g board t x.core
+  pub meanings : (t : ℕ) (x : TileWith B) → slice_get tiles t ≡ Some x → after x.behave ≡ g.meaning
   pub shut : (e : ℕ) → open_hold (edge_at board e).holds ≡ None
-  pub made : All (λ (x : TileValue × B). IsMade m x.0) tiles
-  pub words : AreEdgeWords m (histories_on board) (counts_on board)
-  pub over : IsOver (scene_of m (values_of tiles) (histories_on board) g.meaning g.start g.plan)
+  pub made : All (λ (x : TileWith B). IsMade m x.core) tiles
+  pub words : AreEdgeWords m (plain_words board)
+  pub over : IsOver (scene_of m (values_of tiles) (histories_on board) g)
 
 -- the logs of all tiles, as the machine has them
 abbrev pub logs_in : MapValue → Machine → List LogValue
@@ -45,7 +47,7 @@ logs_in m s = map (λ t. log_of t (of_tile t s.records) (abandoned_by t s.abando
 
 -- Tiles, edges and entries are those of the stepped machine, and a grid of the newest cells is its grid. That grid is also what
 -- its events make of the start in the order of the journal.
-pub record IsAsStepped {B : Type 0} (m : MapValue) (g : Setting) (tiles : List (TileValue × B)) (board : PlainBoardValue) (order : List ℕ) : Type 0 where
+pub record IsAsStepped {B : Type 0} (m : MapValue) (g : Setting) (tiles : List (TileWith B)) (board : PlainBoardValue) (order : List ℕ) : Type 0 where
   pub matches : Matches m tiles board (stepped m g.meaning g.start g.plan order)
   pub logs : logs_of (values_of tiles) ≡ logs_in m (stepped m g.meaning g.start g.plan order)
   pub newest : (h : GridValue) → IsSettled m (values_of tiles) (registers_at (histories_on board)) h → h ≡ (stepped m g.meaning g.start g.plan order).grid
@@ -58,8 +60,17 @@ pub record IsOutcome (m : MapValue) (g : Setting) (order : List ℕ) (o : Outcom
   pub journal : o.journal ≡ logs_in m (stepped m g.meaning g.start g.plan order)
   pub tiles : List TileValue
   pub edges : List EdgeHistory
-  pub settled : IsSettlement (scene_of m tiles edges g.meaning g.start g.plan) o
+  pub settled : IsSettlement (scene_of m tiles edges g) o
 
--- the machine finishes its tiles, whatever tiles are in the list
+-- the machine finishes each of its tiles, whatever steps come first
 abbrev pub ComesToItsEnd : Type 0
-ComesToItsEnd = (m : MapValue) (meaning : WindowValue → ℕ → WindowValue) (start : GridValue) (plan : PlanValue) (order : List ℕ) (t : ℕ) → t < tiles_of m → ((stepped m meaning start plan order).tile t).doing ≡ Done
+ComesToItsEnd = (m : MapValue) (meaning : WindowValue → ℕ → WindowValue) (start : GridValue) (plan : PlanValue) (order : List ℕ) (t : ℕ) → t < tiles_of m
+    → ((stepped m meaning start plan order).tile t).doing ≡ Done
+
+-- this holds of the list of numbers that an iterator gives
+abbrev pub DrainsTo : {S : Type 0} → (S → Option ℕ → S → Type 0) → S → (List ℕ → Type 0) → Type 0
+DrainsTo steps s P = (xs : List ℕ) × Drains steps s xs × P xs
+
+-- this holds in each setting in which these are fresh tiles and a fresh board
+abbrev pub FromStart : {B : Type 0} → (B → WindowValue → ℕ → WindowValue) → MapValue → List (TileWith B) → PlainBoardValue → (Setting → Type 0) → Type 0
+FromStart after m tiles board P = (g : Setting) → IsStart after m g tiles board → P g

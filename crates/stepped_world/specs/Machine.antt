@@ -98,11 +98,21 @@ abbrev pub draw : MapValue → ℕ → List Attempt → Machine → Machine
 draw m t [] s = does t Done s
 draw m t (attempt ∷ others) s = record s { tile = at s.tile t (drawn m t attempt others (s.tile t)) }
 
+-- an attempt that gets its edges one by one: those that it has, the one that is tried next, and those after it
+pub record Wanted : Type 0 where
+  pub hand : Hand
+  pub had : List ℕ
+  pub edge : ℕ
+  pub rest : List ℕ
+
+abbrev pub wanted : Hand → List ℕ → ℕ → List ℕ → Wanted
+wanted hand had edge rest = record { hand = hand; had = had; edge = edge; rest = rest }
+
 -- Lock: the attempt has the edge if nobody had it; otherwise it is abandoned, which notes who has
 -- it
-abbrev pub lock : ℕ → Hand → List ℕ → ℕ → List ℕ → Option (ℕ × ℕ) → Machine → Machine
-lock t hand had e es None s = does t (next_lock hand (had ++ e ∷ []) es) (is_held_by e (Some (t, hand.attempt)) s)
-lock t hand had e es (Some holder) s = does t (next_back had (s.tile t).left) (record s { abandoned = s.abandoned ++ entry_of t hand e holder ∷ [] })
+abbrev pub lock : ℕ → Wanted → Option (ℕ × ℕ) → Machine → Machine
+lock t w None s = does t (next_lock w.hand (w.had ++ w.edge ∷ []) w.rest) (is_held_by w.edge (Some (t, w.hand.attempt)) s)
+lock t w (Some holder) s = does t (next_back w.had (s.tile t).left) (record s { abandoned = s.abandoned ++ entry_of t w.hand w.edge holder ∷ [] })
 
 -- the stamp of an event now: one more than the greatest clock of its tile and the edges that it needs
 abbrev pub next_stamp : MapValue → ℕ → Hand → Machine → ℕ
@@ -125,7 +135,7 @@ write m meaning t hand stamp s = record s {
 abbrev pub step_in : MapValue → (WindowValue → ℕ → WindowValue) → ℕ → Machine → Doing → Machine
 step_in m meaning t s Drawing = draw m t (s.tile t).left s
 step_in m meaning t s Done = s
-step_in m meaning t s (Locking hand had e es) = lock t hand had e es (s.edge e).holder s
+step_in m meaning t s (Locking hand had e es) = lock t (wanted hand had e es) (s.edge e).holder s
 step_in m meaning t s (Refreshing hand) = does t (Behaving hand) s
 step_in m meaning t s (Behaving hand) = does t (Writing hand) s
 step_in m meaning t s (Writing hand) = write m meaning t hand (next_stamp m t hand s) s

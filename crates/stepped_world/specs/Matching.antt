@@ -8,7 +8,7 @@ use Rattle.edge_lock.specs.History.{register_value, open_hold}
 use Rattle.edge_lock.specs.PlainBoard.{PlainBoardValue, edge_at}
 use Rattle.tile_core.specs.declared.phase.Phase.{Phase}
 use Rattle.tile_core.specs.declared.phase.Phase.TheVariants.{Draw, Lock, Refresh, Behave, Write, Give, Back, Finished, Worn}
-use Rattle.tile_core.specs.Values.{TileValue, centre}
+use Rattle.tile_core.specs.Values.{TileWith, TileValue, centre}
 use Rattle.stepped_world.specs.Machine.{Hand, Doing, Drawing, Done, Refreshing, Behaving, Writing, TileState, EdgeState, Machine, next_lock, next_give, next_back}
 
 -- the attempt that a tile has in hand
@@ -45,8 +45,8 @@ pub record IsEdgeIn (m : MapValue) (e : ℕ) (holds : List Hold) (state : EdgeSt
   pub holder : who m e (open_hold holds) ≡ state.holder
 
 -- all tiles and all edges are as the machine has them, and so are the tiles' entries
-pub record Matches {B : Type 0} (m : MapValue) (tiles : List (TileValue × B)) (board : PlainBoardValue) (s : Machine) : Type 0 where
-  pub tiles_are : (t : ℕ) (x : TileValue × B) → slice_get tiles t ≡ Some x → IsTileIn x.0 (s.tile t)
-  pub records : (t : ℕ) (x : TileValue × B) → slice_get tiles t ≡ Some x → x.0.records ≡ of_tile t s.records
-  pub abandoned : (t : ℕ) (x : TileValue × B) → slice_get tiles t ≡ Some x → x.0.abandoned ≡ abandoned_by t s.abandoned
+pub record Matches {B : Type 0} (m : MapValue) (tiles : List (TileWith B)) (board : PlainBoardValue) (s : Machine) : Type 0 where
+  pub tiles_are : (t : ℕ) (x : TileWith B) → slice_get tiles t ≡ Some x → IsTileIn x.core (s.tile t)
+  pub records : (t : ℕ) (x : TileWith B) → slice_get tiles t ≡ Some x → x.core.records ≡ of_tile t s.records
+  pub abandoned : (t : ℕ) (x : TileWith B) → slice_get tiles t ≡ Some x → x.core.abandoned ≡ abandoned_by t s.abandoned
   pub edges : (e : ℕ) → e < length (pairs_of m) → IsEdgeIn m e (edge_at board e).holds (s.edge e)

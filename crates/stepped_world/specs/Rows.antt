@@ -2,7 +2,7 @@
 -- event moves its atom one site to the east.
 use Rattle.std.specs.Prelude.{ℕ, ◌≡◌, List, [], ◌∷◌, ◌++◌, replicate}
 use Rattle.bit_field.specs.Atom.{AtomValue, empty_atom}
-use Rattle.tile_map.specs.Plane.{whole_plane}
+use Rattle.tile_map.specs.Plane.{Site, site, whole_plane}
 use Rattle.cell_grid.specs.declared.record.Record.{Record}
 use Rattle.cell_grid.specs.Grid.{empty_grid, with_site, site_atom}
 use Rattle.cell_grid.specs.Tried.{after_turn}
@@ -18,11 +18,13 @@ walker = record { kind = 1; state = 0 }
 abbrev pub row_attempt : ℕ → Attempt
 row_attempt centre = record { centre = centre; seed = 0 }
 
-abbrev pub row_event : ℕ → ℕ → ℕ → ℕ → ℕ → Record
-row_event stamp tile attempt x y = record { stamp = stamp; tile = tile; attempt = attempt; x = x; y = y; seed = 0 }
+-- an event with this stamp, of this tile and attempt of the tile, at a site
+abbrev pub row_event : ℕ → ℕ × ℕ → Site → Record
+row_event stamp attempt s = record { stamp = stamp; tile = attempt.0; attempt = attempt.1; x = s.x; y = s.y; seed = 0 }
 
-abbrev pub row_refusal : ℕ → ℕ → ℕ → ℕ → ℕ → ℕ → ℕ → Abandoned
-row_refusal tile attempt x y edge holder holder_attempt = record { tile = tile; attempt = attempt; x = x; y = y; edge = edge; holder = holder; holder_attempt = holder_attempt }
+-- this tile and attempt, at a site, was refused edge e by this tile and attempt
+abbrev pub row_refusal : ℕ × ℕ → Site → ℕ → ℕ × ℕ → Abandoned
+row_refusal attempt s e holder = record { tile = attempt.0; attempt = attempt.1; x = s.x; y = s.y; edge = e; holder = holder.0; holder_attempt = holder.1 }
 
 -- the run of two tiles side by side, with an atom at this site of row 4
 abbrev pub run_of_two : ℕ → List Attempt → List Attempt → List ℕ → Machine
@@ -39,13 +41,13 @@ at_the_border order = run_of_two 15 (row_attempt 79 ∷ []) (row_attempt 64 ∷ 
 
 -- the first has its event before the second comes, and the second moves the same atom on: its own site was written by the other tile
 pub record CrossesTheBorder (s : Machine) : Type 0 where
-  pub notes : Notes s (row_event 1 0 0 15 4 ∷ row_event 2 1 0 16 4 ∷ []) []
+  pub notes : Notes s (row_event 1 (0, 0) (site 15 4) ∷ row_event 2 (1, 0) (site 16 4) ∷ []) []
   pub left : site_atom s.grid 16 4 ≡ empty_atom
   pub there : site_atom s.grid 17 4 ≡ walker
 
 -- the second comes while the first has the edge
 pub record IsRefusedAtTheBorder (s : Machine) : Type 0 where
-  pub notes : Notes s (row_event 1 0 0 15 4 ∷ []) (row_refusal 1 0 16 4 0 0 0 ∷ [])
+  pub notes : Notes s (row_event 1 (0, 0) (site 15 4) ∷ []) (row_refusal (1, 0) (site 16 4) 0 (0, 0) ∷ [])
   pub there : site_atom s.grid 16 4 ≡ walker
 
 -- one attempt far enough from the border needs no edge; the next needs the one that the other tile has
@@ -53,7 +55,7 @@ abbrev pub near_and_far : List ℕ → Machine
 near_and_far order = run_of_two 7 (row_attempt 71 ∷ row_attempt 72 ∷ []) (row_attempt 64 ∷ []) order
 
 pub record NeedsNoEdgeAfar (s : Machine) : Type 0 where
-  pub notes : Notes s (row_event 1 0 0 7 4 ∷ row_event 1 1 0 16 4 ∷ []) (row_refusal 0 1 8 4 0 1 0 ∷ [])
+  pub notes : Notes s (row_event 1 (0, 0) (site 7 4) ∷ row_event 1 (1, 0) (site 16 4) ∷ []) (row_refusal (0, 1) (site 8 4) 0 (1, 0) ∷ [])
   pub there : site_atom s.grid 8 4 ≡ walker
 
 -- four tiles round one corner, with an attempt of each there
@@ -62,11 +64,11 @@ at_the_corner order = stepped (whole_plane 2 2 8 8) after_turn (with_site (empty
 
 -- each in turn, round the corner
 abbrev pub GoesRound : Machine → Type 0
-GoesRound s = Notes s (row_event 1 0 0 7 7 ∷ row_event 2 1 0 8 7 ∷ row_event 3 3 0 8 8 ∷ row_event 4 2 0 7 8 ∷ []) []
+GoesRound s = Notes s (row_event 1 (0, 0) (site 7 7) ∷ row_event 2 (1, 0) (site 8 7) ∷ row_event 3 (3, 0) (site 8 8) ∷ row_event 4 (2, 0) (site 7 8) ∷ []) []
 
 -- one is refused by an attempt that is refused itself
 abbrev pub IsRefusedInARow : Machine → Type 0
-IsRefusedInARow s = Notes s (row_event 1 2 0 7 8 ∷ row_event 2 3 0 8 8 ∷ []) (row_refusal 0 0 7 7 0 1 0 ∷ row_refusal 1 0 8 7 4 3 0 ∷ [])
+IsRefusedInARow s = Notes s (row_event 1 (2, 0) (site 7 8) ∷ row_event 2 (3, 0) (site 8 8) ∷ []) (row_refusal (0, 0) (site 7 7) 0 (1, 0) ∷ row_refusal (1, 0) (site 8 7) 4 (3, 0) ∷ [])
 
 -- the results of these runs
 pub record AreComputed : Type 0 where

@@ -1,46 +1,41 @@
 -- All tiles of a plane on one board: at the start of the stepped run, and underway.
 use Rattle.std.specs.Prelude.{ℕ, ◌≡◌, ◌<◌, ◌≤◌, ◌+◌, ◌*◌, ◌⊎◌, List, All, AllPairs, length, map, slice_get, Bool, true, false, Option, Some, None}
+use Rattle.std.specs.List.{range_with_len}
 use Rattle.tile_core.specs.Steps.{steps_in}
 use Rattle.window_sites.specs.Window.{WindowValue}
 use Rattle.tile_map.specs.Plane.{Site, MapValue, tiles_of, in_window}
 use Rattle.tile_map.specs.Edges.{sizes_of, needs_of}
 use Rattle.cell_grid.specs.declared.record.Record.{Record}
-use Rattle.cell_grid.specs.Grid.{GridValue}
 use Rattle.cell_grid.specs.Records.{replay}
-use Rattle.draw_stream.specs.Plans.{PlanValue, attempts}
+use Rattle.draw_stream.specs.Plans.{attempts}
 use Rattle.edge_lock.specs.PlainBoard.{PlainBoardValue, lists_of_tile, untouched_edge, sizes_of_board}
 use Rattle.border_cache.specs.Copies.{IsCentre}
 use Rattle.border_cache.specs.Windows.{has}
 use Rattle.tile_core.specs.declared.phase.Phase.{Phase}
 use Rattle.tile_core.specs.declared.phase.Phase.TheVariants.{Draw, Lock, Refresh, Behave, Write, Give, Back, Finished, Worn}
-use Rattle.tile_core.specs.Values.{TileValue, atoms_of, event_site}
+use Rattle.tile_core.specs.Values.{TileWith, TileValue, event_site}
 use Rattle.tile_core.specs.Underway.{IsUnderway}
 use Rattle.tile_core.specs.Boards.{IsBoardOf}
+use Rattle.serial_order.specs.Scene.{Setting, common_in}
 use Rattle.serial_order.specs.Fresh.{AreFresh}
-use Rattle.stepped_world.specs.Machine.{Machine}
+use Rattle.stepped_world.specs.Machine.{Machine, step, steps, finish_tile, finish}
 use Rattle.stepped_world.specs.Matching.{Matches}
 
--- what events do, and the grid and the attempts from which the tiles start
-pub record Setting : Type 0 where
-  pub meaning : WindowValue → ℕ → WindowValue
-  pub start : GridValue
-  pub plan : PlanValue
-
 -- fresh tiles of the plane and a fresh board of it
-pub record IsStart {B : Type 0} (after : B → WindowValue → ℕ → WindowValue) (m : MapValue) (g : Setting) (tiles : List (TileValue × B)) (board : PlainBoardValue) : Type 0 where
-  pub tiles_are : AreFresh after m g.meaning g.start g.plan tiles
+pub record IsStart {B : Type 0} (after : B → WindowValue → ℕ → WindowValue) (m : MapValue) (g : Setting) (tiles : List (TileWith B)) (board : PlainBoardValue) : Type 0 where
+  pub tiles_are : AreFresh after m g tiles
   pub edges : board.edges ≡ map untouched_edge (sizes_of m)
 
--- a tile is underway on these lists of its ends
-pub record IsTileOf {B : Type 0} (after : B → WindowValue → ℕ → WindowValue) (m : MapValue) (g : Setting) (board : PlainBoardValue) (t : ℕ) (x : TileValue × B) : Type 0 where
-  pub number : x.0.number ≡ t
-  pub meaning : after x.1 ≡ g.meaning
-  pub underway : IsUnderway m g.meaning (atoms_of g.start) (attempts g.plan t) x.0 (lists_of_tile board t)
+-- tile t is underway on the board
+pub record IsTileOf (m : MapValue) (g : Setting) (board : PlainBoardValue) (t : ℕ) (tile : TileValue) : Type 0 where
+  pub number : tile.number ≡ t
+  pub underway : IsUnderway (common_in m g) (attempts g.plan t) tile (lists_of_tile board t)
 
 -- all tiles are underway on one board of the plane
-pub record AreUnderway {B : Type 0} (after : B → WindowValue → ℕ → WindowValue) (m : MapValue) (g : Setting) (tiles : List (TileValue × B)) (board : PlainBoardValue) : Type 0 where
+pub record AreUnderway {B : Type 0} (after : B → WindowValue → ℕ → WindowValue) (m : MapValue) (g : Setting) (tiles : List (TileWith B)) (board : PlainBoardValue) : Type 0 where
   pub count : length tiles ≡ tiles_of m
-  pub each : (t : ℕ) (x : TileValue × B) → slice_get tiles t ≡ Some x → IsTileOf after m g board t x
+  pub each : (t : ℕ) (x : TileWith B) → slice_get tiles t ≡ Some x → IsTileOf m g board t x.core
+  pub meanings : (t : ℕ) (x : TileWith B) → slice_get tiles t ≡ Some x → after x.behave ≡ g.meaning
   pub board_is : IsBoardOf m board
 
 -- whether a step of the tile does nothing any more
@@ -55,18 +50,22 @@ is_still Back = false
 is_still Finished = true
 is_still Worn = true
 
-abbrev pub stands_still : {B : Type 0} → Option (TileValue × B) → Bool
+abbrev pub stands_still : {B : Type 0} → Option (TileWith B) → Bool
 stands_still None = true
-stands_still (Some x) = is_still x.0.phase
+stands_still (Some x) = is_still x.core.phase
 
 -- how many steps a tile makes at most
-abbrev pub steps_ahead : {B : Type 0} → Option (TileValue × B) → ℕ
+abbrev pub steps_ahead : {B : Type 0} → Option (TileWith B) → ℕ
 steps_ahead None = 0
-steps_ahead (Some x) = 50 * length x.0.left + steps_in x.0 x.0.phase
+steps_ahead (Some x) = 50 * length x.core.left + steps_in x.core x.core.phase
+
+-- tile t has fewer steps ahead than before
+abbrev pub HasFewerAhead : {B : Type 0} → List (TileWith B) → List (TileWith B) → ℕ → Type 0
+HasFewerAhead old new t = steps_ahead (slice_get new t) < steps_ahead (slice_get old t)
 
 -- one tile is worn out
-abbrev pub AnyIsWorn : {B : Type 0} → List (TileValue × B) → Type 0
-AnyIsWorn {B} tiles = (t : ℕ) × (x : TileValue × B) × (slice_get tiles t ≡ Some x) × (x.0.phase ≡ Worn)
+abbrev pub AnyIsWorn : {B : Type 0} → List (TileWith B) → Type 0
+AnyIsWorn {B} tiles = (t : ℕ) × (x : TileWith B) × (slice_get tiles t ≡ Some x) × (x.core.phase ≡ Worn)
 
 -- if two events have a live site in common, the first has the smaller stamp
 abbrev pub StampsRise : MapValue → Record → Record → Type 0
@@ -85,19 +84,50 @@ pub record IsSound (m : MapValue) (g : Setting) (s : Machine) : Type 0 where
   pub rises : AllPairs (StampsRise m) s.records
   pub grid : s.grid ≡ replay g.meaning g.start s.records
 
-pub record IsLike {B : Type 0} (m : MapValue) (g : Setting) (tiles : List (TileValue × B)) (board : PlainBoardValue) (s : Machine) : Type 0 where
+pub record IsLike {B : Type 0} (m : MapValue) (g : Setting) (tiles : List (TileWith B)) (board : PlainBoardValue) (s : Machine) : Type 0 where
   pub matches : Matches m tiles board s
   pub sound : IsSound m g s
 
 -- the tiles and the edges are as the machine has them, which knows no worn tile
-abbrev pub AreLike : {B : Type 0} → MapValue → Setting → List (TileValue × B) → PlainBoardValue → Machine → Type 0
+abbrev pub AreLike : {B : Type 0} → MapValue → Setting → List (TileWith B) → PlainBoardValue → Machine → Type 0
 AreLike m g tiles board s = IsLike m g tiles board s ⊎ AnyIsWorn tiles
 
--- The tiles made some steps, as the machine does: from whatever setting they were underway, they
--- still are; if they were as a machine has them, they are now as that machine has them after its
--- steps. A tile that stood still still does.
-pub record Follows {B : Type 0} (after : B → WindowValue → ℕ → WindowValue) (m : MapValue) (tiles tiles' : List (TileValue × B)) (board board' : PlainBoardValue) (acts : (WindowValue → ℕ → WindowValue) → Machine → Machine) : Type 0 where
-  pub underway : (g : Setting) → AreUnderway after m g tiles board → AreUnderway after m g tiles' board'
-  pub like : (g : Setting) (s : Machine) → AreUnderway after m g tiles board → AreLike m g tiles board s → AreLike m g tiles' board' (acts g.meaning s)
-  pub still : (t : ℕ) → stands_still (slice_get tiles t) ≡ true → stands_still (slice_get tiles' t) ≡ true
-  pub sizes : sizes_of_board board' ≡ sizes_of_board board
+-- all tiles of a plane, and the board on which their ends act
+pub record TilesOnBoard (B : Type 0) : Type 0 where
+  pub tiles : List (TileWith B)
+  pub board : PlainBoardValue
+
+abbrev pub on_board : {B : Type 0} → List (TileWith B) → PlainBoardValue → TilesOnBoard B
+on_board tiles board = record { tiles = tiles; board = board }
+
+-- something that the machine does on a plane, where an event makes this of its window
+abbrev pub Act : Type 0
+Act = MapValue → (WindowValue → ℕ → WindowValue) → Machine → Machine
+
+-- a step of this tile
+abbrev pub step_of : ℕ → Act
+step_of t m meaning s = step m meaning t s
+
+-- a step of each of these tiles, one after another
+abbrev pub steps_by : List ℕ → Act
+steps_by ts m meaning s = steps m meaning ts s
+
+-- the steps of this tile until it is done
+abbrev pub rest_of : ℕ → Act
+rest_of t m meaning s = finish_tile m meaning t s
+
+-- the steps of each of these tiles until it is done, one tile after another
+abbrev pub rest_by : List ℕ → Act
+rest_by ts m meaning s = finish m meaning ts s
+
+-- the same for all tiles of the plane
+abbrev pub rest_of_all : Act
+rest_of_all m meaning s = finish m meaning (range_with_len 0 (tiles_of m)) s
+
+-- The tiles made some steps, as the machine does in this act: from whatever setting they were underway, they still are; if they
+-- were as a machine has them, they are now as that machine has them after the act. A tile that stood still still does.
+pub record Follows {B : Type 0} (after : B → WindowValue → ℕ → WindowValue) (m : MapValue) (old new : TilesOnBoard B) (act : Act) : Type 0 where
+  pub underway : (g : Setting) → AreUnderway after m g old.tiles old.board → AreUnderway after m g new.tiles new.board
+  pub like : (g : Setting) (s : Machine) → AreUnderway after m g old.tiles old.board → AreLike m g old.tiles old.board s → AreLike m g new.tiles new.board (act m g.meaning s)
+  pub still : (t : ℕ) → stands_still (slice_get old.tiles t) ≡ true → stands_still (slice_get new.tiles t) ≡ true
+  pub sizes : sizes_of_board new.board ≡ sizes_of_board old.board

@@ -1,12 +1,11 @@
 //! The loops of the stepped run.
-ghost use Rattle.std.specs.Prelude.{◌≡◌, ◌<◌, ℕ, List, All, true, false, slice_get, length};
-ghost use Rattle.std.specs.List.{range_with_len};
-ghost use Rattle.std.specs.Iterator.{IsFinite, Drains, HoldsAlong};
+ghost use Rattle.std.specs.Prelude.{◌≡◌, ◌<◌, ℕ, All, IsTrue, false, slice_get, length};
+ghost use Rattle.std.specs.Iterator.{IsFinite, HoldsAlong};
 ghost use Rattle.tile_map.specs.Plane.{tiles_of};
 ghost use Rattle.edge_lock.specs.PlainBoard.{sizes_of_board};
-ghost use Rattle.stepped_world.specs.Machine.{step, steps, finish_tile, finish};
-ghost use Rattle.stepped_world.specs.Running.{Setting, IsStart, AreUnderway, Follows, stands_still, steps_ahead};
-ghost use Rattle.stepped_world.specs.Ends.{HasRun, IsAsStepped};
+ghost use Rattle.serial_order.specs.Scene.{Setting};
+ghost use Rattle.stepped_world.specs.Running.{IsStart, AreUnderway, Follows, HasFewerAhead, on_board, rest_of, rest_of_all, stands_still, step_of, steps_by};
+ghost use Rattle.stepped_world.specs.Ends.{DrainsTo, FromStart, HasRun, IsAsStepped};
 
 use cell_grid::Behave;
 use edge_lock::PlainBoard;
@@ -25,8 +24,8 @@ fn is_still<B: Behave>(tiles: &[Tile<B>], tile: u32) -> bool
 fn step_one<B: Behave>(map: &Map, tiles: &mut [Tile<B>], board: &mut PlainBoard, tile: u32)
     requires tile { tile < tiles_of map.now }
     requires ready { (g : Setting) × AreUnderway B.after map.now g tiles.old board.old }
-    ensures follows { Follows B.after map.now tiles.old tiles.new board.old board.new (λ meaning s. step map.now meaning tile s) }
-    ensures fewer { stands_still (slice_get tiles.old tile) ≡ false → steps_ahead (slice_get tiles.new tile) < steps_ahead (slice_get tiles.old tile) }
+    ensures follows { Follows B.after map.now (on_board tiles.old board.old) (on_board tiles.new board.new) (step_of tile) }
+    ensures fewer { stands_still (slice_get tiles.old tile) ≡ false → HasFewerAhead tiles.old tiles.new tile }
 {
     map.laws();
     board.turn_to(tile);
@@ -37,8 +36,8 @@ fn step_one<B: Behave>(map: &Map, tiles: &mut [Tile<B>], board: &mut PlainBoard,
 fn finish_one<B: Behave>(map: &Map, tiles: &mut [Tile<B>], board: &mut PlainBoard, tile: u32)
     requires tile { tile < tiles_of map.now }
     requires ready { (g : Setting) × AreUnderway B.after map.now g tiles.old board.old }
-    ensures follows { Follows B.after map.now tiles.old tiles.new board.old board.new (λ meaning s. finish_tile map.now meaning tile s) }
-    ensures still { stands_still (slice_get tiles.new tile) ≡ true }
+    ensures follows { Follows B.after map.now (on_board tiles.old board.old) (on_board tiles.new board.new) (rest_of tile) }
+    ensures still { IsTrue (stands_still (slice_get tiles.new tile)) }
 {
     while !is_still(tiles, tile) {
         step_one(map, tiles, board, tile);
@@ -56,7 +55,7 @@ fn follow<B: Behave, O: Iterator<Item = u32>>(
     requires ends { IsFinite (O.remaining order) }
     requires names { HoldsAlong O.next_gives order (All (λ t. t < tiles_of map.now)) }
     requires ready { (g : Setting) × AreUnderway B.after map.now g tiles.old board.old }
-    ensures follows { (xs : List ℕ) × Drains O.next_gives order xs × Follows B.after map.now tiles.old tiles.new board.old board.new (λ meaning s. steps map.now meaning xs s) }
+    ensures follows { DrainsTo O.next_gives order (λ xs. Follows B.after map.now (on_board tiles.old board.old) (on_board tiles.new board.new) (steps_by xs)) }
 {
     for tile in order {
         step_one(map, tiles, board, tile);
@@ -66,8 +65,8 @@ fn follow<B: Behave, O: Iterator<Item = u32>>(
 /// Lets each tile step until it stands still, one after another.
 fn finish_all<B: Behave>(map: &Map, tiles: &mut [Tile<B>], board: &mut PlainBoard)
     requires ready { (g : Setting) × AreUnderway B.after map.now g tiles.old board.old }
-    ensures follows { Follows B.after map.now tiles.old tiles.new board.old board.new (λ meaning s. finish map.now meaning (range_with_len 0 (tiles_of map.now)) s) }
-    ensures still { (t : ℕ) → t < tiles_of map.now → stands_still (slice_get tiles.new t) ≡ true }
+    ensures follows { Follows B.after map.now (on_board tiles.old board.old) (on_board tiles.new board.new) rest_of_all }
+    ensures still { (t : ℕ) → t < tiles_of map.now → IsTrue (stands_still (slice_get tiles.new t)) }
 {
     for tile in 0..map.tiles() {
         finish_one(map, tiles, board, tile);
@@ -92,8 +91,8 @@ pub fn run_steps<B: Behave, O: Iterator<Item = u32>>(
     requires can { O.can_next order }
     requires ends { IsFinite (O.remaining order) }
     requires names { HoldsAlong O.next_gives order (All (λ t. t < tiles_of map.now)) }
-    ensures run { (g : Setting) → IsStart B.after map.now g tiles.old board.old → HasRun B.after map.now g tiles.new board.new }
-    ensures stepped { (xs : List ℕ) × Drains O.next_gives order xs × ((g : Setting) → IsStart B.after map.now g tiles.old board.old → IsAsStepped map.now g tiles.new board.new xs) }
+    ensures run { FromStart B.after map.now tiles.old board.old (λ g. HasRun B.after map.now g tiles.new board.new) }
+    ensures stepped { DrainsTo O.next_gives order (λ xs. FromStart B.after map.now tiles.old board.old (λ g. IsAsStepped map.now g tiles.new board.new xs)) }
     ensures sizes { sizes_of_board board.new ≡ sizes_of_board board.old }
 {
     map.laws();

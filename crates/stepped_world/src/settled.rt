@@ -1,9 +1,10 @@
 //! A stepped run with its outcome.
-ghost use Rattle.std.specs.Prelude.{◌≡◌, ◌<◌, ℕ, List, All, IfOk};
-ghost use Rattle.std.specs.Iterator.{IsFinite, Drains, HoldsAlong};
+ghost use Rattle.std.specs.Prelude.{◌<◌, All, IfOk};
+ghost use Rattle.std.specs.Iterator.{IsFinite, HoldsAlong};
 ghost use Rattle.tile_map.specs.Plane.{tiles_of};
-ghost use Rattle.stepped_world.specs.Running.{Setting, IsStart};
-ghost use Rattle.stepped_world.specs.Ends.{IsOutcome};
+ghost use Rattle.serial_order.specs.Scene.{Setting};
+ghost use Rattle.stepped_world.specs.Running.{IsStart};
+ghost use Rattle.stepped_world.specs.Ends.{DrainsTo, FromStart, IsOutcome};
 
 use crate::run::run_steps;
 use cell_grid::Behave;
@@ -29,7 +30,7 @@ pub fn run_settled<B: Behave + Drop, O: Iterator<Item = u32>>(
     requires can { O.can_next order }
     requires ends { IsFinite (O.remaining order) }
     requires names { HoldsAlong O.next_gives order (All (λ t. t < tiles_of map.now)) }
-    ensures outcome { IfOk result (λ o. (xs : List ℕ) × Drains O.next_gives order xs × ((g : Setting) → IsStart B.after map.now g tiles.items board → IsOutcome map.now g xs o)) }
+    ensures outcome { IfOk result (λ o. DrainsTo O.next_gives order (λ xs. FromStart B.after map.now tiles.items board (λ g. IsOutcome map.now g xs o))) }
 {
     let mut tiles = tiles;
     let mut board = board;

@@ -15,28 +15,30 @@ use Rattle.border_cache.proofs.Needs.{has_at}
 use Rattle.tile_core.specs.declared.phase.Phase.{Phase}
 use Rattle.tile_core.specs.declared.phase.Phase.TheVariants.{Draw, Lock, Refresh, Behave, Write, Give, Back, Finished, Worn}
 use Rattle.tile_core.specs.Values.{TileValue, centre, atoms_of}
-use Rattle.tile_core.specs.Underway.{Onward, GoesOn, CanAttempt, IsFreshTile, InPhase, AreNeeds}
-use Rattle.tile_core.specs.Steps.{StepsIn, Rests, WearsOut, Renews, is_over, over, next_edge, got, tried, freed}
+use Rattle.tile_core.specs.Underway.{Onward, GoesOn, CanAttempt, IsFreshTile, InPhase, AreNeeds, tile_at}
+use Rattle.tile_core.specs.Steps.{StepsIn, Rests, WearsOut, Renews, is_over, over, next_edge, got, tried, freed, rules_of}
 use Rattle.tile_core.proofs.Laws.{drawn_on, lock_lt, tries_on, gives_on, backs_on, over_hand, needs_of_tile}
 use Rattle.tile_core.proofs.Refreshing.{refreshes_on}
 use Rattle.tile_core.proofs.Behaving.{behaves_on}
 use Rattle.tile_core.proofs.Writes.{writes_on}
+use Rattle.edge_lock.specs.EndValues.{EndValue}
+use Rattle.tile_core.specs.Turns.{common}
 
-module _ (m : MapValue) (plane : IsPlane m) (meaning : WindowValue → ℕ → WindowValue) (k : ℕ) (registers end_of : ℕ → ℕ) (old new : TileValue) (a b : ℕ → EndLists) (board : IsEndOf m old.number k registers end_of) where
-  pub steps_on : StepsIn m meaning end_of old new a b old.phase → GoesOn m meaning old a new b
+module _ (m : MapValue) (plane : IsPlane m) (meaning : WindowValue → ℕ → WindowValue) (end : EndValue) (old new : TileValue) (a b : ℕ → EndLists) (board : IsEndOf m old.number end) where
+  pub steps_on : StepsIn (rules_of m meaning end.end_of) (tile_at old a) (tile_at new b) old.phase → GoesOn m meaning (tile_at old a) (tile_at new b)
   steps_on s start attempts u = go old.phase refl s
     where
-      same_lists : b ≡ a → Onward m meaning start attempts old a u new a → Onward m meaning start attempts old a u new b
-      same_lists e n = subst (λ c. Onward m meaning start attempts old a u new c) (sym e) n
+      same_lists : b ≡ a → Onward (common m meaning start) attempts u.turns (tile_at new a) → Onward (common m meaning start) attempts u.turns (tile_at new b)
+      same_lists e n = subst (λ c. Onward (common m meaning start) attempts u.turns (tile_at new c)) (sym e) n
 
-      rests : Rests old new a b → Onward m meaning start attempts old a u new b
-      rests r = subst (λ (x : TileValue × (ℕ → EndLists)). Onward m meaning start attempts old a u x.0 x.1) (λ i. (sym r.is i, sym r.lists_are i)) (u, inl refl)
+      rests : Rests (tile_at old a) (tile_at new b) → Onward (common m meaning start) attempts u.turns (tile_at new b)
+      rests r = subst (λ (x : TileValue × (ℕ → EndLists)). Onward (common m meaning start) attempts u.turns (tile_at x.0 x.1)) (λ i. (sym r.is i, sym r.lists_are i)) (u, inl refl)
 
-      go : (p : Phase) → old.phase ≡ p → StepsIn m meaning end_of old new a b p → Onward m meaning start attempts old a u new b
+      go : (p : Phase) → old.phase ≡ p → StepsIn (rules_of m meaning end.end_of) (tile_at old a) (tile_at new b) p → Onward (common m meaning start) attempts u.turns (tile_at new b)
       go Draw is s = same_lists s.1 (drawn_on m meaning start attempts old a u is plane new s.0)
       go Lock is s =
           let e = next_edge old in
-          tries_on m meaning start attempts old a u is b end_of new (board.end_is e (u.needs.ends e (has_at old.next old.needs (lock_lt m meaning start attempts old a u is)))) s
+          tries_on m meaning start attempts old a u is b end.end_of new (board.end_is e (u.needs.ends e (has_at old.next old.needs (lock_lt m meaning start attempts old a u is)))) s
       go Refresh is s = refreshes_on m meaning start attempts old a u is plane new b s
       go Behave is s = same_lists s.1 (behaves_on m meaning start attempts old a u is new s.0)
       go Write is s = writes_on m meaning start attempts old a u is plane new b s
@@ -58,7 +60,7 @@ tried_number m tile Got = got_number (nat_lt (tile.next + 1) (length tile.needs)
 tried_number m tile (Busy j) = refl
 
 -- a step leaves the tile its number
-pub same_number : (m : MapValue) (meaning : WindowValue → ℕ → WindowValue) (end_of : ℕ → ℕ) (old new : TileValue) (a b : ℕ → EndLists) (p : Phase) → StepsIn m meaning end_of old new a b p → new.number ≡ old.number
+pub same_number : (m : MapValue) (meaning : WindowValue → ℕ → WindowValue) (end_of : ℕ → ℕ) (old new : TileValue) (a b : ℕ → EndLists) (p : Phase) → StepsIn (rules_of m meaning end_of) (tile_at old a) (tile_at new b) p → new.number ≡ old.number
 same_number m meaning end_of old new a b Draw s = ap (λ t. t.number) s.0.begins.is
 same_number m meaning end_of old new a b Lock s = ap (λ t. t.number) s.is ∙ tried_number m old s.answer
 same_number m meaning end_of old new a b Refresh s = ⊎_elim (λ (w : WearsOut old new s.top s.between b). ap (λ t. t.number) w.is) (λ (w : Renews old new s.top s.between b). ap (λ t. t.number) w.is) s.step
@@ -91,7 +93,7 @@ fresh_tile m plane g attempts tile can copy left taken stamp records abandoned n
     can = can;
     left = left ∙ ap (λ n. drop n attempts) (sym taken);
     cells = λ s h q. copy.cells s h;
-    hand = subst (InPhase m meaning (atoms_of g) attempts [] tile lists) (sym phase) (over_hand m meaning (atoms_of g) attempts [] tile lists taken empty);
+    hand = subst (InPhase (common m meaning (atoms_of g)) attempts [] (tile_at tile lists)) (sym phase) (over_hand m meaning (atoms_of g) attempts [] tile lists taken empty);
   };
 }
 
@@ -108,7 +110,7 @@ tried_taken m tile Got = got_taken (nat_lt (tile.next + 1) (length tile.needs)) 
 tried_taken m tile (Busy j) = refl
 
 -- only Draw takes an attempt
-pub same_taken : (m : MapValue) (meaning : WindowValue → ℕ → WindowValue) (end_of : ℕ → ℕ) (old new : TileValue) (a b : ℕ → EndLists) (p : Phase) → is_over p ≡ false → StepsIn m meaning end_of old new a b p → new.taken ≡ old.taken
+pub same_taken : (m : MapValue) (meaning : WindowValue → ℕ → WindowValue) (end_of : ℕ → ℕ) (old new : TileValue) (a b : ℕ → EndLists) (p : Phase) → is_over p ≡ false → StepsIn (rules_of m meaning end_of) (tile_at old a) (tile_at new b) p → new.taken ≡ old.taken
 same_taken m meaning end_of old new a b Draw f s = absurd (true≢false f)
 same_taken m meaning end_of old new a b Lock f s = ap (λ t. t.taken) s.is ∙ tried_taken m old s.answer
 same_taken m meaning end_of old new a b Refresh f s = ⊎_elim (λ (w : WearsOut old new s.top s.between b). ap (λ t. t.taken) w.is) (λ (w : Renews old new s.top s.between b). ap (λ t. t.taken) w.is) s.step
@@ -119,5 +121,5 @@ same_taken m meaning end_of old new a b Back f s = ap (λ t. t.taken) s.is ∙ f
 same_taken m meaning end_of old new a b Finished f s = absurd (true≢false f)
 same_taken m meaning end_of old new a b Worn f s = absurd (true≢false f)
 
-pub drawn_taken : (m : MapValue) (meaning : WindowValue → ℕ → WindowValue) (end_of : ℕ → ℕ) (old new : TileValue) (a b : ℕ → EndLists) (p : Phase) → p ≡ Draw → StepsIn m meaning end_of old new a b p → new.taken ≡ old.taken + 1
-drawn_taken m meaning end_of old new a b p is s = let d = subst (StepsIn m meaning end_of old new a b) is s in ap (λ t. t.taken) d.0.begins.is
+pub drawn_taken : (m : MapValue) (meaning : WindowValue → ℕ → WindowValue) (end_of : ℕ → ℕ) (old new : TileValue) (a b : ℕ → EndLists) (p : Phase) → p ≡ Draw → StepsIn (rules_of m meaning end_of) (tile_at old a) (tile_at new b) p → new.taken ≡ old.taken + 1
+drawn_taken m meaning end_of old new a b p is s = let d = subst (StepsIn (rules_of m meaning end_of) (tile_at old a) (tile_at new b)) is s in ap (λ t. t.taken) d.0.begins.is

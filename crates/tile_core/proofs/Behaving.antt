@@ -14,9 +14,10 @@ use Rattle.border_cache.specs.Cells.{CellValue}
 use Rattle.border_cache.proofs.Apart.{sites_apart}
 use Rattle.tile_core.specs.declared.phase.Phase.TheVariants.{Behave}
 use Rattle.tile_core.specs.Values.{TileValue, centre}
-use Rattle.tile_core.specs.Underway.{Onward, IsUnderway, InPhase}
+use Rattle.tile_core.specs.Underway.{Onward, IsUnderway, InPhase, tile_at}
 use Rattle.tile_core.specs.Steps.{Behaves}
 use Rattle.tile_core.proofs.Copies.{window_cell, shown_site}
+use Rattle.tile_core.specs.Turns.{common}
 
 abbrev is_at : Option Site → Site → Bool
 is_at None s = false
@@ -48,12 +49,12 @@ picked m c s w (suc k) n lt few at = go (is_at (window_site m c k) s) refl (λ l
         (λ (e : n ≡ k). absurd (cc (is, ap (λ o. is_at o s) (ap (window_site m c) (sym e) ∙ at), is_same s)))
         (λ (ne : n ≢ k). f (omega (arith, ne, lt)))
 
-module _ (m : MapValue) (meaning : WindowValue → ℕ → WindowValue) (start : Site → AtomValue) (attempts : List Attempt) (tile : TileValue) (a : ℕ → EndLists) (u : IsUnderway m meaning start attempts tile a) (is : tile.phase ≡ Behave) where
-  behaving : InPhase m meaning start attempts u.turns tile a Behave
-  behaving = subst (InPhase m meaning start attempts u.turns tile a) is u.hand
+module _ (m : MapValue) (meaning : WindowValue → ℕ → WindowValue) (start : Site → AtomValue) (attempts : List Attempt) (tile : TileValue) (a : ℕ → EndLists) (u : IsUnderway (common m meaning start) attempts tile a) (is : tile.phase ≡ Behave) where
+  behaving : InPhase (common m meaning start) attempts u.turns (tile_at tile a) Behave
+  behaving = subst (InPhase (common m meaning start) attempts u.turns (tile_at tile a)) is u.hand
 
-  pub behaves_on : (new : TileValue) → Behaves m meaning tile new → Onward m meaning start attempts tile a u new a
-  behaves_on new r = subst (λ w. Onward m meaning start attempts tile a u w a) (sym r.is) (
+  pub behaves_on : (new : TileValue) → Behaves m meaning tile new → Onward (common m meaning start) attempts u.turns (tile_at new a)
+  behaves_on new r = subst (λ w. Onward (common m meaning start) attempts u.turns (tile_at w a)) (sym r.is) (
     record {
       turns = u.turns;
       each = u.each;
@@ -73,7 +74,7 @@ module _ (m : MapValue) (meaning : WindowValue → ℕ → WindowValue) (start :
         (
           p.0,
           p.1,
-          p.2,
+          record { clock = p.2.clock; reads = p.2.reads; is = p.2.is; refresh = p.2.refresh; honest = p.2.honest },
           record {
             after = pick m c w 41;
             view = r.view;

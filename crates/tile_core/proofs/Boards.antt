@@ -13,7 +13,7 @@ use Rattle.tile_map.specs.Edges.{pairs_of, pair_at, has_end, is_in_pair, size_of
 use Rattle.draw_stream.specs.declared.attempt.Attempt.{Attempt}
 use Rattle.edge_lock.specs.EndLists.{EndLists, end_lists}
 use Rattle.edge_lock.specs.PlainEdges.{PlainEdgeValue, own_lists}
-use Rattle.edge_lock.specs.PlainBoard.{PlainBoardValue, no_edge, edge_at, is_end, end_of, registers_on, end_on, lists_of_tile, untouched_edge, Call, MayCall, effect_of, IsCall, Moved, stays, goes, IsKeptEdge}
+use Rattle.edge_lock.specs.PlainBoard.{PlainBoardValue, no_edge, edge_at, is_end, end_of, acting_end, end_on, lists_of_tile, untouched_edge, Call, MayCall, effect_of, IsCall, Moved, stays, goes, IsKeptEdge}
 use Rattle.edge_lock.proofs.PlainLaws.{end_small, sees, effect_ends}
 use Rattle.edge_lock.proofs.PlainKept.{kept_effect, other_tiles_keep}
 use Rattle.edge_lock.proofs.PlainRules.{kept_none}
@@ -22,8 +22,8 @@ use Rattle.border_cache.specs.Copies.{IsEndOf}
 use Rattle.tile_core.specs.declared.phase.Phase.{Phase}
 use Rattle.tile_core.specs.declared.phase.Phase.TheVariants.{Draw, Lock, Refresh, Behave, Write, Give, Back, Finished, Worn}
 use Rattle.tile_core.specs.Values.{TileValue}
-use Rattle.tile_core.specs.Turns.{Turn, AgreeOnEdges}
-use Rattle.tile_core.specs.Underway.{IsUnderway, InPhase, IsGiving, IsFreshTile}
+use Rattle.tile_core.specs.Turns.{Turn, AgreeOnEdges, common}
+use Rattle.tile_core.specs.Underway.{IsUnderway, InPhase, IsGiving, IsFreshTile, tile_at}
 use Rattle.tile_core.specs.Boards.{IsEdgeOf, IsBoardOf}
 
 -- an edge of a tile of the plane is one of the plane's edges
@@ -87,7 +87,7 @@ pub lists_turned : (b c : PlainBoardValue) (t : ℕ) → c.edges ≡ b.edges →
 lists_turned b c t same = λ i e. own_lists (end_of (get_or (same i) e no_edge) t) (get_or (same i) e no_edge)
 
 -- the board is the end of the acting tile
-pub board_end : (m : MapValue) (b : PlainBoardValue) → IsBoardOf m b → b.acting < tiles_of m → IsEndOf m b.acting b.acting (registers_on b) (end_on b)
+pub board_end : (m : MapValue) (b : PlainBoardValue) → IsBoardOf m b → b.acting < tiles_of m → IsEndOf m b.acting (acting_end b)
 board_end m b k lt = record {
   tile_is = refl;
   registers_are = λ e h. let x = k.each e (end_known m b.acting e lt h) in ap (λ c. cond c (edge_at b e).registers 0) (edge_is_end m e (edge_at b e) x b.acting h) ∙ x.registers;
@@ -102,22 +102,22 @@ lists_stay m b c k moved t lt apart e own =
 
 -- a tile is underway by the lists of its own edges alone
 module _ (m : MapValue) (meaning : WindowValue → ℕ → WindowValue) (start : Site → AtomValue) (attempts : List Attempt) (tile : TileValue) (a b : ℕ → EndLists) (same : AgreeOnEdges m tile.number b a) where
-  giving_agrees : (turns : List Turn) (edges : List ℕ) (next : ℕ) → IsGiving m tile.number turns edges next a → IsGiving m tile.number turns edges next b
-  giving_agrees [] edges next g = g
-  giving_agrees (x ∷ older) edges next g = (g.0, λ e own. same e own ∙ g.1 e own)
+  giving_agrees : (turns : List Turn) (edges : List ℕ) → IsGiving m turns (tile_at tile a) edges → IsGiving m turns (tile_at tile b) edges
+  giving_agrees [] edges g = g
+  giving_agrees (x ∷ older) edges g = (g.0, λ e own. same e own ∙ g.1 e own)
 
-  hand_agrees : (turns : List Turn) (p : Phase) → InPhase m meaning start attempts turns tile a p → InPhase m meaning start attempts turns tile b p
+  hand_agrees : (turns : List Turn) (p : Phase) → InPhase (common m meaning start) attempts turns (tile_at tile a) p → InPhase (common m meaning start) attempts turns (tile_at tile b) p
   hand_agrees turns Draw h = (h.0, h.1, λ e own. same e own ∙ h.2 e own)
   hand_agrees turns Finished h = (h.0, h.1, λ e own. same e own ∙ h.2 e own)
   hand_agrees turns Lock h = (h.0, h.1, λ e own. same e own ∙ h.2 e own)
   hand_agrees turns Refresh h = (h.0, λ e own. same e own ∙ h.1 e own)
   hand_agrees turns Behave h = (h.0, (h.1.0, (λ e own. same e own ∙ h.1.1 e own), h.1.2, h.1.3))
   hand_agrees turns Write h = (h.0, (h.1.0, (λ e own. same e own ∙ h.1.1 e own), h.1.2, h.1.3))
-  hand_agrees turns Give h = (h.0, h.1, giving_agrees turns _ _ h.2)
-  hand_agrees turns Back h = (h.0, h.1, h.2, h.3, giving_agrees turns _ _ h.4)
+  hand_agrees turns Give h = (h.0, h.1, giving_agrees turns _ h.2)
+  hand_agrees turns Back h = (h.0, h.1, h.2, h.3, giving_agrees turns _ h.4)
   hand_agrees turns Worn h = (h.0, (h.1.0, (λ e own. same e own ∙ h.1.1 e own), h.1.2))
 
-  pub underway_agrees : (u : IsUnderway m meaning start attempts tile a) → (v : IsUnderway m meaning start attempts tile b) × (v.turns ≡ u.turns)
+  pub underway_agrees : (u : IsUnderway (common m meaning start) attempts tile a) → (v : IsUnderway (common m meaning start) attempts tile b) × (v.turns ≡ u.turns)
   underway_agrees u = (
     record {
       turns = u.turns;
@@ -140,7 +140,7 @@ module _ (m : MapValue) (meaning : WindowValue → ℕ → WindowValue) (start :
 
 -- another tile's steps leave a tile underway
 pub others_stay : (m : MapValue) (meaning : WindowValue → ℕ → WindowValue) (start : Site → AtomValue) (attempts : List Attempt) (tile : TileValue) (b c : PlainBoardValue) → IsBoardOf m b → Moved b c → tile.number ≢ b.acting
-    → (u : IsUnderway m meaning start attempts tile (lists_of_tile b tile.number)) → (v : IsUnderway m meaning start attempts tile (lists_of_tile c tile.number)) × (v.turns ≡ u.turns)
+    → (u : IsUnderway (common m meaning start) attempts tile (lists_of_tile b tile.number)) → (v : IsUnderway (common m meaning start) attempts tile (lists_of_tile c tile.number)) × (v.turns ≡ u.turns)
 others_stay m meaning start attempts tile b c k moved apart u =
     underway_agrees m meaning start attempts tile (lists_of_tile b tile.number) (lists_of_tile c tile.number) (lists_stay m b c k moved tile.number u.can.inside apart) u
 
@@ -180,5 +180,5 @@ module _ (m : MapValue) (b : PlainBoardValue) (made : b.edges ≡ map untouched_
   nothing_happened t e = ap (λ xs. own_lists (end_of (get_or xs e no_edge) t) (get_or xs e no_edge)) made ∙ still_lists (end_of (get_or (map untouched_edge (sizes_of m)) e no_edge) t) (get_or (map untouched_edge (sizes_of m)) e no_edge) (still_at (sizes_of m) e)
 
   -- a tile that was only made is underway there
-  pub fresh_there : (meaning : WindowValue → ℕ → WindowValue) (t : ℕ) (start : Site → AtomValue) (attempts : List Attempt) (tile : TileValue) → IsFreshTile m t start attempts tile → IsUnderway m meaning start attempts tile (lists_of_tile b tile.number)
+  pub fresh_there : (meaning : WindowValue → ℕ → WindowValue) (t : ℕ) (start : Site → AtomValue) (attempts : List Attempt) (tile : TileValue) → IsFreshTile m t start attempts tile → IsUnderway (common m meaning start) attempts tile (lists_of_tile b tile.number)
   fresh_there meaning t start attempts tile f = f.underway meaning (lists_of_tile b tile.number) (λ e own. nothing_happened tile.number e)

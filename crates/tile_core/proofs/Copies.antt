@@ -8,8 +8,8 @@ use Rattle.edge_lock.specs.declared.history.Access.{Access}
 use Rattle.edge_lock.specs.EndLists.{EndLists}
 use Rattle.border_cache.specs.Cells.{cell_value, newest}
 use Rattle.border_cache.specs.News.{IsRefresh}
-use Rattle.border_cache.specs.Windows.{has, place_in, end_at, sites_on, AddsAll, seen_on, is_shown}
-use Rattle.border_cache.specs.Copies.{CacheValue, held_cell, cell_for, window_cells, Refreshed, Marked}
+use Rattle.border_cache.specs.Windows.{has, AddsAll, seen_on, is_shown, border_at}
+use Rattle.border_cache.specs.Copies.{CacheValue, held_cell, cell_for, window_cells, Refreshed, Marked, copy_at}
 
 -- the sites of the window have these cells, and all others that the tile holds are as they were
 pub record Keeps (m : MapValue) (t : ℕ) (c : Site) (old new : CacheValue) : Type 0 where
@@ -20,11 +20,11 @@ pub record Keeps (m : MapValue) (t : ℕ) (c : Site) (old new : CacheValue) : Ty
 pub record Renewed (m : MapValue) (t : ℕ) (c : Site) (edges : List ℕ) (old new : CacheValue) (a b : ℕ → EndLists) : Type 0 where
   pub more : ℕ → List Access
   pub adds : AddsAll a b edges more
-  pub reads : (e : ℕ) → has e edges ≡ true → IsRefresh (sites_on m e) (end_at m t e) (place_in m c e) 41 (more e)
+  pub reads : (e : ℕ) → has e edges ≡ true → IsRefresh (border_at m t c e) (more e)
   pub keeps : Keeps m t c old new
   pub cells : (n : ℕ) (s : Site) → n < 41 → window_site m c n ≡ Some s → held_cell new s ≡ newest (held_cell old s) (seen_on m t c more n edges)
 
-pub renewed : (m : MapValue) (t : ℕ) (c : Site) (edges : List ℕ) (old new : CacheValue) (a b : ℕ → EndLists) → old.map ≡ m → old.tile ≡ t → Refreshed c edges old new a b → Renewed m t c edges old new a b
+pub renewed : (m : MapValue) (t : ℕ) (c : Site) (edges : List ℕ) (old new : CacheValue) (a b : ℕ → EndLists) → old.map ≡ m → old.tile ≡ t → Refreshed c edges (copy_at old a) (copy_at new b) → Renewed m t c edges old new a b
 renewed m t c edges old new a b map tile r = subst (λ (x : MapValue × ℕ). Renewed x.0 x.1 c edges old new a b) (λ i. (map i, tile i)) (record {
   more = r.more;
   adds = r.adds;

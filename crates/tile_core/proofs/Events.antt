@@ -11,7 +11,7 @@ use Rattle.edge_lock.specs.History.{found_value}
 use Rattle.edge_lock.specs.EndLists.{last_shown, writes_nothing, Shows}
 use Rattle.border_cache.specs.Accesses.{last_write, is_read, with_known, IsHonest}
 use Rattle.border_cache.specs.Cells.{CellValue}
-use Rattle.border_cache.specs.News.{Covers, word_of, has_bit, is_news, cell_in, found_cell, IsRefresh}
+use Rattle.border_cache.specs.News.{Covers, word_of, has_bit, is_news, cell_in, found_cell, IsRefresh, border}
 use Rattle.border_cache.specs.Published.{IsWordMarked, IsPublish}
 use Rattle.border_cache.proofs.Runs.{known_after}
 use Rattle.border_cache.proofs.Found.{found_new, shown_at, steady}
@@ -46,7 +46,7 @@ silent_write (Read at x ∷ xs) r s h = silent_write xs r s h
 silent_write (Write at x ∷ xs) r s h = absurd (true≢false (sym h))
 
 module _ (sites end c stamp : ℕ) (places : ℕ → Option ℕ) (cells : ℕ → CellValue) (reads pub_ : List Access) (small : end < 2) (low : (k : ℕ) → Covers places 41 k → k < sites)
-    (r : IsRefresh sites end places 41 reads) (w : IsPublish sites end cells places 41 pub_) where
+    (r : IsRefresh (border sites end places 41) reads) (w : IsPublish (border sites end places 41) cells pub_) where
   abbrev first_part : List Access
   first_part = Read 0 c ∷ reads
 
@@ -89,7 +89,7 @@ module _ (sites end c stamp : ℕ) (places : ℕ → Option ℕ) (cells : ℕ �
   news_same : (k : ℕ) → Covers places 41 k → is_news sites end all k ≡ is_news sites end reads k
   news_same k cov = let v = r.words k cov in ap (λ o. has_bit o k) (found_word k v.0 v.1 ∙ sym v.1)
 
-  my_word : (known : ℕ → Option ℕ) → IsHonest known first_part → IsHonest (known_after known first_part) pub_ → (k : ℕ) → Covers places 41 k → IsWordMarked sites end false places 41 all (k / 64)
+  my_word : (known : ℕ → Option ℕ) → IsHonest known first_part → IsHonest (known_after known first_part) pub_ → (k : ℕ) → Covers places 41 k → IsWordMarked (border sites end places 41) false all (k / 64)
   my_word known h g k cov =
       let o = w.mine k cov in
       let v = r.words k cov in
@@ -115,7 +115,7 @@ module _ (sites end c stamp : ℕ) (places : ℕ → Option ℕ) (cells : ℕ �
       (λ p. ⊎_elim (λ (e : word_of sites (1 - end) k ≡ 1 + 2 * a.0). omega (arith, e, lt, high)) (λ (e : word_of sites (1 - end) k ≡ 2 + 2 * a.0). omega (arith, e, lt, high)) p.1)
       a.2)
 
-  their_word : (k : ℕ) → Covers places 41 k → IsWordMarked sites (1 - end) true places 41 all (k / 64)
+  their_word : (k : ℕ) → Covers places 41 k → IsWordMarked (border sites (1 - end) places 41) true all (k / 64)
   their_word k cov =
       let o = w.theirs k cov in
       let q = word_of sites (1 - end) k in
@@ -155,7 +155,7 @@ module _ (sites end c stamp : ℕ) (places : ℕ → Option ℕ) (cells : ℕ �
           (λ (g : false ≡ true). absurd (true≢false (sym g)))
           (read_in pub_ (Write 0 stamp ∷ []) q f)
 
-  pub event_hold : (known : ℕ → Option ℕ) → IsHonest known first_part → IsHonest (known_after known first_part) pub_ → IsEventHold sites end places cells stamp all
+  pub event_hold : (known : ℕ → Option ℕ) → IsHonest known first_part → IsHonest (known_after known first_part) pub_ → IsEventHold (border sites end places 41) cells stamp all
   event_hold known h g = record {
     clock = (c, refl);
     stamped = writes_of 0 ∙ last_write-append pub_ (Write 0 stamp ∷ []) 0 None;

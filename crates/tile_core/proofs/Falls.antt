@@ -11,9 +11,10 @@ use Rattle.edge_lock.specs.EndLists.{EndLists}
 use Rattle.tile_core.specs.declared.phase.Phase.{Phase}
 use Rattle.tile_core.specs.declared.phase.Phase.TheVariants.{Draw, Lock, Refresh, Behave, Write, Give, Back, Finished, Worn}
 use Rattle.tile_core.specs.Values.{TileValue}
-use Rattle.tile_core.specs.Underway.{IsUnderway}
-use Rattle.tile_core.specs.Steps.{StepsIn, WearsOut, Renews, over, is_over, next_edge, refused_phase, written_phase, got, tried, refused, freed, noted, steps_in}
+use Rattle.tile_core.specs.Underway.{IsUnderway, tile_at}
+use Rattle.tile_core.specs.Steps.{StepsIn, WearsOut, Renews, over, is_over, next_edge, refused_phase, written_phase, got, tried, refused, freed, noted, steps_in, rules_of}
 use Rattle.tile_core.proofs.Laws.{lock_lt, give_lt, back_lt}
+use Rattle.tile_core.specs.Turns.{common}
 
 -- how many steps the attempt in hand takes at most
 abbrev pub steps_left : TileValue → ℕ
@@ -23,7 +24,7 @@ none_left : (tile : TileValue) (left : List Attempt) → steps_in tile (over lef
 none_left tile [] = refl
 none_left tile (a ∷ others) = refl
 
-module _ (m : MapValue) (meaning : WindowValue → ℕ → WindowValue) (start : Site → AtomValue) (attempts : List Attempt) (old : TileValue) (a : ℕ → EndLists) (u : IsUnderway m meaning start attempts old a) where
+module _ (m : MapValue) (meaning : WindowValue → ℕ → WindowValue) (start : Site → AtomValue) (attempts : List Attempt) (old : TileValue) (a : ℕ → EndLists) (u : IsUnderway (common m meaning start) attempts old a) where
   got_falls : old.next < length old.needs → old.phase ≡ Lock → (x : Bool) → steps_left (got x old) < 40 + (length old.needs - old.next)
   got_falls lt is true = let q : steps_in (record old { next = old.next + 1 }) old.phase ≡ 40 + (length old.needs - (old.next + 1)) = ap (steps_in (record old { next = old.next + 1 })) is in omega (arith, q, lt)
   got_falls lt is false = omega arith
@@ -48,10 +49,10 @@ module _ (m : MapValue) (meaning : WindowValue → ℕ → WindowValue) (start :
   back_falls lt is true = let q : steps_in (record old { next = old.next + 1 }) old.phase ≡ 1 + (old.count - (old.next + 1)) = ap (steps_in (record old { next = old.next + 1 })) is in omega (arith, q, lt)
   back_falls lt is false = let q = none_left (record old { phase = over old.left }) old.left in omega (arith, q)
 
-  pub steps_fall : (end_of : ℕ → ℕ) (new : TileValue) (b : ℕ → EndLists) → is_over old.phase ≡ false → StepsIn m meaning end_of old new a b old.phase → steps_left new < steps_left old
+  pub steps_fall : (end_of : ℕ → ℕ) (new : TileValue) (b : ℕ → EndLists) → is_over old.phase ≡ false → StepsIn (rules_of m meaning end_of) (tile_at old a) (tile_at new b) old.phase → steps_left new < steps_left old
   steps_fall end_of new b on s = go old.phase refl on s
     where
-      go : (p : Phase) → old.phase ≡ p → is_over p ≡ false → StepsIn m meaning end_of old new a b p → steps_left new < steps_in old p
+      go : (p : Phase) → old.phase ≡ p → is_over p ≡ false → StepsIn (rules_of m meaning end_of) (tile_at old a) (tile_at new b) p → steps_left new < steps_in old p
       go Draw is f s = absurd (true≢false f)
       go Lock is f s = subst (λ w. steps_left w < 40 + (length old.needs - old.next)) (sym s.is) (tried_falls (lock_lt m meaning start attempts old a u is) is s.answer)
       go Refresh is f s = ⊎_elim

@@ -11,8 +11,9 @@ use Rattle.tile_map.specs.Plane.{Site, MapValue}
 use Rattle.tile_map.specs.Edges.{has_end}
 use Rattle.edge_lock.specs.EndLists.{EndLists, IsHeld, HasNoWrite, after_give, replace_at}
 use Rattle.border_cache.proofs.Needs.{has_at}
-use Rattle.tile_core.specs.Turns.{before, Turn, Wins, Loses, Wears, turn_edges, AreTurns, Wearless}
-use Rattle.tile_core.specs.Underway.{IsGiving, AreTurnsOver, IsBack}
+use Rattle.tile_core.specs.Values.{TileValue}
+use Rattle.tile_core.specs.Turns.{before, Turn, Wins, Loses, Wears, turn_edges, AreTurns, Wearless, common}
+use Rattle.tile_core.specs.Underway.{IsGiving, AreTurnsOver, IsBack, tile_at}
 use Rattle.tile_core.proofs.Lists.{here_held, here_quiet, gave_left, all_left, given_of}
 
 -- the edges before the one at n are the first n
@@ -40,17 +41,23 @@ rises_take n xs rise j k lt less =
     omega (arith, get_or-take n xs j 0 (omega (arith, lt, small)), get_or-take n xs k 0 small, rise j k lt in_xs)
 
 -- the holds of the last turn, given back one by one
-module _ (m : MapValue) (t n e : ℕ) (edges : List ℕ) (a b : ℕ → EndLists) (rise : Rises edges) (lt : n < length edges) (at : e ≡ get_or edges n 0) (mine : has_end m t e ≡ true) where
-  pub giving_held : (turns : List Turn) → IsGiving m t turns edges n a → IsHeld (a e)
+module _ (m : MapValue) (tile : TileValue) (e : ℕ) (edges : List ℕ) (a b : ℕ → EndLists) (rise : Rises edges) (lt : tile.next < length edges) (at : e ≡ get_or edges tile.next 0) (mine : has_end m tile.number e ≡ true) where
+  abbrev t : ℕ
+  t = tile.number
+
+  abbrev n : ℕ
+  n = tile.next
+
+  pub giving_held : (turns : List Turn) → IsGiving m turns (tile_at tile a) edges → IsHeld (a e)
   giving_held [] g = absurd g
   giving_held (x ∷ older) g = here_held m t n e x older edges a b rise lt at mine g.0 g.1
 
-  pub gave_on : (turns : List Turn) → IsGiving m t turns edges n a → b ≡ replace_at a e (after_give (a e)) → IsGiving m t turns edges (n + 1) b
+  pub gave_on : (turns : List Turn) → IsGiving m turns (tile_at tile a) edges → b ≡ replace_at a e (after_give (a e)) → IsGiving m turns (tile_at (record tile { next = tile.next + 1 }) b) edges
   gave_on [] g is = g
   gave_on (x ∷ older) g is = (g.0, gave_left m t n e x older edges a b rise lt at mine g.0 g.1 is)
 
   -- an abandoned attempt has written nothing
-  pub giving_quiet : (meaning : WindowValue → ℕ → WindowValue) (start : Site → AtomValue) (turns : List Turn) → AreTurns m meaning start t turns → IsBack turns → IsGiving m t turns edges n a → HasNoWrite (a e)
+  pub giving_quiet : (meaning : WindowValue → ℕ → WindowValue) (start : Site → AtomValue) (turns : List Turn) → AreTurns (common m meaning start) t turns → IsBack turns → IsGiving m turns (tile_at tile a) edges → HasNoWrite (a e)
   giving_quiet meaning start [] u k g = absurd g
   giving_quiet meaning start (Wins w ∷ older) u k g = absurd k
   giving_quiet meaning start (Wears w ∷ older) u k g = absurd k
@@ -58,10 +65,10 @@ module _ (m : MapValue) (t n e : ℕ) (edges : List ℕ) (a b : ℕ → EndLists
       let there : has e (turn_edges m t (Loses l)) ≡ true = ap (has e) (sym g.0) ∙ (ap (λ d. has d edges) at ∙ has_at n edges lt) in
       here_quiet m t n e (Loses l) older edges a b rise lt at mine g.0 g.1 (u.0.given e there).1
 
-pub gave_all : (m : MapValue) (meaning : WindowValue → ℕ → WindowValue) (start : Site → AtomValue) (t n : ℕ) (edges : List ℕ) (a : ℕ → EndLists) (turns : List Turn) → AreTurns m meaning start t turns → Wearless turns
-    → length edges ≤ n → IsGiving m t turns edges n a → AreTurnsOver m t turns a
-gave_all m meaning start t n edges a [] u w le g = absurd g
-gave_all m meaning start t n edges a (x ∷ older) u w le g = all_left m t x older edges a g.0 (λ d h. (given_of m meaning start t x older u.0 w d h).closed) n le g.1
+pub gave_all : (m : MapValue) (meaning : WindowValue → ℕ → WindowValue) (start : Site → AtomValue) (tile : TileValue) (edges : List ℕ) (a : ℕ → EndLists) (turns : List Turn) → AreTurns (common m meaning start) tile.number turns → Wearless turns
+    → length edges ≤ tile.next → IsGiving m turns (tile_at tile a) edges → AreTurnsOver m tile.number turns a
+gave_all m meaning start tile edges a [] u w le g = absurd g
+gave_all m meaning start tile edges a (x ∷ older) u w le g = all_left m tile.number x older edges a g.0 (λ d h. (given_of m meaning start tile.number x older u.0 w d h).closed) tile.next le g.1
 
 -- an edge of a list stands at a place of it
 pub has_place : (e : ℕ) (es : List ℕ) → has e es ≡ true → (k : ℕ) × (k < length es) × (get_or es k e ≡ e)

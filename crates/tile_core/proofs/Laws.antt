@@ -21,8 +21,8 @@ use Rattle.border_cache.proofs.Stored.{joined_end}
 use Rattle.tile_core.specs.declared.phase.Phase.{Phase}
 use Rattle.tile_core.specs.declared.phase.Phase.TheVariants.{Draw, Lock, Refresh, Give, Back}
 use Rattle.tile_core.specs.Values.{TileValue, centre}
-use Rattle.tile_core.specs.Turns.{before, Turn, Loses, Lost, turn_edges, AgreeOnEdges, lists_of, lists_left, with_more, IsLost, IsNthAttempt}
-use Rattle.tile_core.specs.Underway.{Onward, IsUnderway, InPhase, IsDrawn, IsGiving, AreTurnsOver, HasOpen, no_access, still, is_refreshed, AreNeeds}
+use Rattle.tile_core.specs.Turns.{before, Turn, Loses, Lost, turn_edges, AgreeOnEdges, lists_of, lists_left, with_more, IsLost, common, IsAttemptAt}
+use Rattle.tile_core.specs.Underway.{Onward, IsUnderway, InPhase, IsDrawn, IsGiving, AreTurnsOver, HasOpen, no_access, still, is_refreshed, AreNeeds, tile_at}
 use Rattle.tile_core.specs.Steps.{over, begun, refused_phase, Draws, Tries, Frees, next_edge, refused_entry, refused, got, tried, freed}
 use Rattle.tile_core.proofs.Lists.{here_free, free_of, new_of, got_open, busy_left, all_left}
 use Rattle.tile_core.proofs.Giving.{before_take, has_place, rises_take, giving_held, gave_on, gave_all, giving_quiet}
@@ -44,14 +44,14 @@ needs_of_tile m plane t c lt = record {
 
 module _ (m : MapValue) (meaning : WindowValue → ℕ → WindowValue) (start : Site → AtomValue) (attempts : List Attempt) where
   -- the attempt is over
-  pub over_hand : (turns : List Turn) (tile : TileValue) (lists : ℕ → EndLists) → tile.taken ≡ length turns → AreTurnsOver m tile.number turns lists → InPhase m meaning start attempts turns tile lists (over tile.left)
+  pub over_hand : (turns : List Turn) (tile : TileValue) (lists : ℕ → EndLists) → tile.taken ≡ length turns → AreTurnsOver m tile.number turns lists → InPhase (common m meaning start) attempts turns (tile_at tile lists) (over tile.left)
   over_hand turns tile lists taken ends = go tile.left refl
     where
-      go : (left : List Attempt) → tile.left ≡ left → InPhase m meaning start attempts turns tile lists (over left)
+      go : (left : List Attempt) → tile.left ≡ left → InPhase (common m meaning start) attempts turns (tile_at tile lists) (over left)
       go [] e = (taken, e, ends)
       go (a ∷ others) e = (taken, subst (λ xs. 0 < length xs) (sym e) (omega arith), ends)
 
-  module _ (tile : TileValue) (a : ℕ → EndLists) (u : IsUnderway m meaning start attempts tile a) where
+  module _ (tile : TileValue) (a : ℕ → EndLists) (u : IsUnderway (common m meaning start) attempts tile a) where
     abbrev t : ℕ
     t = tile.number
 
@@ -59,12 +59,12 @@ module _ (m : MapValue) (meaning : WindowValue → ℕ → WindowValue) (start :
     e = next_edge tile
 
     abbrev Next : TileValue → (ℕ → EndLists) → Type 0
-    Next new b = Onward m meaning start attempts tile a u new b
+    Next new b = Onward (common m meaning start) attempts u.turns (tile_at new b)
 
     -- drawing
     module _ (is : tile.phase ≡ Draw) (plane : IsPlane m) (new : TileValue) (d : Draws m tile new) where
-      drawing : InPhase m meaning start attempts u.turns tile a Draw
-      drawing = subst (InPhase m meaning start attempts u.turns tile a) is u.hand
+      drawing : InPhase (common m meaning start) attempts u.turns (tile_at tile a) Draw
+      drawing = subst (InPhase (common m meaning start) attempts u.turns (tile_at tile a)) is u.hand
 
       abbrev c : Site
       c = site new.x new.y
@@ -85,7 +85,7 @@ module _ (m : MapValue) (meaning : WindowValue → ℕ → WindowValue) (start :
       abbrev after : Phase → TileValue
       after p = record tile { left = d.rest; taken = tile.taken + 1; x = new.x; y = new.y; seed = d.attempt.seed; needs = needs_of m t c; next = 0; phase = p }
 
-      made : IsNthAttempt m t attempts (length u.turns) c d.attempt.seed
+      made : IsAttemptAt m t (slice_get attempts (length u.turns)) c d.attempt.seed
       made = record { attempt = d.attempt; is = ap (slice_get attempts) (sym drawing.0) ∙ taken_here.0; site_is = d.begins.site_is; seed_is = refl }
 
       drawn : (p : Phase) → IsDrawn m attempts u.turns (after p)
@@ -94,8 +94,8 @@ module _ (m : MapValue) (meaning : WindowValue → ℕ → WindowValue) (start :
       open_none : AgreeOnEdges m t a (λ d. with_more [] [] (lists_of m t u.turns d))
       open_none d own = drawing.2 d own ∙ (λ i. end_lists (sym (append-nil (lists_of m t u.turns d).holds) i) (sym (append-nil (lists_of m t u.turns d).refusals) i))
 
-      begin : (es : List ℕ) → needs_of m t c ≡ es → InPhase m meaning start attempts u.turns (after (begun es)) a (begun es)
-      begin [] none = (drawn Refresh, subst (λ es. HasOpen m t (length u.turns) u.turns es no_access a) (sym none) open_none)
+      begin : (es : List ℕ) → needs_of m t c ≡ es → InPhase (common m meaning start) attempts u.turns (tile_at (after (begun es)) a) (begun es)
+      begin [] none = (drawn Refresh, subst (λ es. HasOpen m u.turns (tile_at tile a) es no_access) (sym none) open_none)
       begin (f ∷ fs) some = (drawn Lock, subst (λ es. 0 < length es) (sym some) (omega arith), open_none)
 
       begun_unrefreshed : (es : List ℕ) → is_refreshed (begun es) ≡ false
@@ -128,8 +128,8 @@ module _ (m : MapValue) (meaning : WindowValue → ℕ → WindowValue) (start :
 
     -- trying an edge
     module _ (is : tile.phase ≡ Lock) where
-      pub locking : InPhase m meaning start attempts u.turns tile a Lock
-      locking = subst (InPhase m meaning start attempts u.turns tile a) is u.hand
+      pub locking : InPhase (common m meaning start) attempts u.turns (tile_at tile a) Lock
+      locking = subst (InPhase (common m meaning start) attempts u.turns (tile_at tile a)) is u.hand
 
       pub lock_lt : tile.next < length tile.needs
       lock_lt = locking.1
@@ -141,7 +141,7 @@ module _ (m : MapValue) (meaning : WindowValue → ℕ → WindowValue) (start :
       lock_mine = u.needs.ends e (has_at tile.next tile.needs lock_lt)
 
       here : a e ≡ lists_of m t u.turns e
-      here = here_free m t (length u.turns) tile.next e u.turns tile.needs a a (rises tile.needs u.needs.rising) locking.1 refl lock_mine locking.2
+      here = here_free m tile tile.next e u.turns tile.needs a a (rises tile.needs u.needs.rising) locking.1 refl lock_mine locking.2
 
       pub lock_free : IsFree (a e)
       lock_free = subst IsFree (sym here) (free_of m meaning start t u.turns e u.each u.unworn)
@@ -154,8 +154,8 @@ module _ (m : MapValue) (meaning : WindowValue → ℕ → WindowValue) (start :
       number = let taken = locking.0.taken in omega (arith, taken)
 
       module _ (b : ℕ → EndLists) (k : ℕ) (end : k ≡ end_at m t e) where
-        opened : b ≡ replace_at a e (after_try k (tile.taken - 1) Got (a e)) → HasOpen m t (length u.turns) u.turns (take (tile.next + 1) tile.needs) no_access b
-        opened won = got_open m t (length u.turns) tile.next e u.turns tile.needs a b (rises tile.needs u.needs.rising) locking.1 refl lock_mine locking.2 k end (won ∙ ap (λ i. replace_at a e (after_try k i Got (a e))) number)
+        opened : b ≡ replace_at a e (after_try k (tile.taken - 1) Got (a e)) → HasOpen m u.turns (tile_at tile b) (take (tile.next + 1) tile.needs) no_access
+        opened won = got_open m tile tile.next e u.turns tile.needs a b (rises tile.needs u.needs.rising) locking.1 refl lock_mine locking.2 k end (won ∙ ap (λ i. replace_at a e (after_try k i Got (a e))) number)
 
         drawn_still : IsDrawn m attempts u.turns (record tile { next = tile.next + 1 })
         drawn_still = let d = locking.0 in record { taken = d.taken; made = d.made; centre_is = d.centre_is; needs = d.needs }
@@ -176,7 +176,7 @@ module _ (m : MapValue) (meaning : WindowValue → ℕ → WindowValue) (start :
             can = u.can;
             left = u.left;
             cells = u.cells;
-            hand = subst (InPhase m meaning start attempts u.turns (record tile { next = tile.next + 1 }) b) (sym is) (drawn_still, less, opened won);
+            hand = subst (InPhase (common m meaning start) attempts u.turns (tile_at (record tile { next = tile.next + 1 }) b)) (sym is) (drawn_still, less, opened won);
           },
           inl refl,
         )
@@ -199,7 +199,7 @@ module _ (m : MapValue) (meaning : WindowValue → ℕ → WindowValue) (start :
             cells = λ s h q. u.cells s h (inl (ap is_refreshed is));
             hand = let d = locking.0 in (
               record { taken = d.taken; made = d.made; centre_is = d.centre_is; needs = d.needs },
-              subst (λ es. HasOpen m t (length u.turns) u.turns es no_access b) (take_all (tile.next + 1) tile.needs le) (opened won),
+              subst (λ es. HasOpen m u.turns (tile_at tile b) es no_access) (take_all (tile.next + 1) tile.needs le) (opened won),
             );
           },
           inl refl,
@@ -246,10 +246,10 @@ module _ (m : MapValue) (meaning : WindowValue → ℕ → WindowValue) (start :
             taken = let d = locking.0.taken in omega (arith, d)
 
             left : AgreeOnEdges m t b (lists_left m t (still (take tile.next tile.needs) 0) (Loses (lost j)) u.turns)
-            left = busy_left m t (length u.turns) tile.next e u.turns tile.needs a b (rises tile.needs u.needs.rising) locking.1 refl lock_mine locking.2 k j (lost j) refl number refl (edges_before j) (λ d. refl)
+            left = busy_left m tile tile.next e u.turns tile.needs a b (rises tile.needs u.needs.rising) locking.1 refl lock_mine locking.2 k j (lost j) refl number refl (edges_before j) (λ d. refl)
                 (busy ∙ ap (λ i. replace_at a e (after_try k i (Busy j) (a e))) number)
 
-            by_next : (n : ℕ) → tile.next ≡ n → InPhase m meaning start attempts (Loses (lost j) ∷ u.turns) (aim j (refused_phase n tile.left)) b (refused_phase n tile.left)
+            by_next : (n : ℕ) → tile.next ≡ n → InPhase (common m meaning start) attempts (Loses (lost j) ∷ u.turns) (tile_at (aim j (refused_phase n tile.left)) b) (refused_phase n tile.left)
             by_next zero none = over_hand (Loses (lost j) ∷ u.turns) (aim j (over tile.left)) b taken
                 (all_left m t (Loses (lost j)) u.turns (take tile.next tile.needs) b (sym (edges_before j)) (λ d h. refl) 0 (let z : length (take tile.next tile.needs) ≡ 0 = ap (λ n. length (take n tile.needs)) none in omega (arith, z)) left)
             by_next (suc n) some = let lt = locking.1 in (taken, omega (arith, some), omega (arith, lt), tt, (sym (edges_before j), left))
@@ -262,13 +262,13 @@ module _ (m : MapValue) (meaning : WindowValue → ℕ → WindowValue) (start :
             go false test = lock_last lists (grind (arith, nat_tests, test))
         tries_with (Busy j) lists = lock_busy j lists
 
-      pub tries_on : (b : ℕ → EndLists) (end_of : ℕ → ℕ) (new : TileValue) → end_of e ≡ end_at m t e → Tries m end_of tile new a b → Next new b
+      pub tries_on : (b : ℕ → EndLists) (end_of : ℕ → ℕ) (new : TileValue) → end_of e ≡ end_at m t e → Tries m end_of (tile_at tile a) (tile_at new b) → Next new b
       tries_on b end_of new end r = subst (λ w. Next w b) (sym r.is) (tries_with b (end_of e) end r.answer r.lists_are)
 
     -- giving back after an event
     module _ (is : tile.phase ≡ Give) where
-      giving : InPhase m meaning start attempts u.turns tile a Give
-      giving = subst (InPhase m meaning start attempts u.turns tile a) is u.hand
+      giving : InPhase (common m meaning start) attempts u.turns (tile_at tile a) Give
+      giving = subst (InPhase (common m meaning start) attempts u.turns (tile_at tile a)) is u.hand
 
       pub give_lt : tile.next < length tile.needs
       give_lt = giving.1
@@ -277,11 +277,11 @@ module _ (m : MapValue) (meaning : WindowValue → ℕ → WindowValue) (start :
       give_mine = u.needs.ends e (has_at tile.next tile.needs give_lt)
 
       pub give_held : IsHeld (a e)
-      give_held = giving_held m t tile.next e tile.needs a a (rises tile.needs u.needs.rising) giving.1 refl give_mine u.turns giving.2
+      give_held = giving_held m tile e tile.needs a a (rises tile.needs u.needs.rising) giving.1 refl give_mine u.turns giving.2
 
       module _ (b : ℕ → EndLists) (given : b ≡ replace_at a e (after_give (a e))) where
-        gave : IsGiving m t u.turns tile.needs (tile.next + 1) b
-        gave = gave_on m t tile.next e tile.needs a b (rises tile.needs u.needs.rising) giving.1 refl give_mine u.turns giving.2 given
+        gave : IsGiving m u.turns (tile_at (record tile { next = tile.next + 1 }) b) tile.needs
+        gave = gave_on m tile e tile.needs a b (rises tile.needs u.needs.rising) giving.1 refl give_mine u.turns giving.2 given
 
         give_with : (x : Bool) → nat_lt (tile.next + 1) (length tile.needs) ≡ x → Next (freed x tile) b
         give_with true test = (
@@ -299,7 +299,7 @@ module _ (m : MapValue) (meaning : WindowValue → ℕ → WindowValue) (start :
             can = u.can;
             left = u.left;
             cells = u.cells;
-            hand = subst (InPhase m meaning start attempts u.turns (record tile { next = tile.next + 1 }) b) (sym is) (giving.0, grind (arith, nat_tests, test), gave);
+            hand = subst (InPhase (common m meaning start) attempts u.turns (tile_at (record tile { next = tile.next + 1 }) b)) (sym is) (giving.0, grind (arith, nat_tests, test), gave);
           },
           inl refl,
         )
@@ -318,18 +318,18 @@ module _ (m : MapValue) (meaning : WindowValue → ℕ → WindowValue) (start :
             can = u.can;
             left = u.left;
             cells = λ s h q. u.cells s h (inl (ap is_refreshed is));
-            hand = over_hand u.turns (record tile { phase = over tile.left }) b giving.0 (gave_all m meaning start t (tile.next + 1) tile.needs b u.turns u.each u.unworn (grind (arith, nat_tests, test)) gave);
+            hand = over_hand u.turns (record tile { phase = over tile.left }) b giving.0 (gave_all m meaning start (record tile { next = tile.next + 1 }) tile.needs b u.turns u.each u.unworn (grind (arith, nat_tests, test)) gave);
           },
           inl refl,
         )
 
-      pub gives_on : (b : ℕ → EndLists) (new : TileValue) → Frees (length tile.needs) tile new a b → Next new b
+      pub gives_on : (b : ℕ → EndLists) (new : TileValue) → Frees (length tile.needs) (tile_at tile a) (tile_at new b) → Next new b
       gives_on b new r = subst (λ w. Next w b) (sym r.is) (give_with b r.lists_are (nat_lt (tile.next + 1) (length tile.needs)) refl)
 
     -- giving back after a refusal
     module _ (is : tile.phase ≡ Back) where
-      backing : InPhase m meaning start attempts u.turns tile a Back
-      backing = subst (InPhase m meaning start attempts u.turns tile a) is u.hand
+      backing : InPhase (common m meaning start) attempts u.turns (tile_at tile a) Back
+      backing = subst (InPhase (common m meaning start) attempts u.turns (tile_at tile a)) is u.hand
 
       abbrev had : List ℕ
       had = take tile.count tile.needs
@@ -353,11 +353,11 @@ module _ (m : MapValue) (meaning : WindowValue → ℕ → WindowValue) (start :
       back_mine = let lt = back_lt in u.needs.ends e (has_at tile.next tile.needs (omega (arith, lt.0, lt.1)))
 
       pub back_held : IsHeld (a e) × HasNoWrite (a e)
-      back_held = (giving_held m t tile.next e had a a up less_had at_had back_mine u.turns backing.4, giving_quiet m t tile.next e had a a up less_had at_had back_mine meaning start u.turns u.each backing.3 backing.4)
+      back_held = (giving_held m tile e had a a up less_had at_had back_mine u.turns backing.4, giving_quiet m tile e had a a up less_had at_had back_mine meaning start u.turns u.each backing.3 backing.4)
 
       module _ (b : ℕ → EndLists) (given : b ≡ replace_at a e (after_give (a e))) where
-        gave_back : IsGiving m t u.turns had (tile.next + 1) b
-        gave_back = gave_on m t tile.next e had a b up less_had at_had back_mine u.turns backing.4 given
+        gave_back : IsGiving m u.turns (tile_at (record tile { next = tile.next + 1 }) b) had
+        gave_back = gave_on m tile e had a b up less_had at_had back_mine u.turns backing.4 given
 
         back_with : (x : Bool) → nat_lt (tile.next + 1) tile.count ≡ x → Next (freed x tile) b
         back_with true test = (
@@ -375,7 +375,7 @@ module _ (m : MapValue) (meaning : WindowValue → ℕ → WindowValue) (start :
             can = u.can;
             left = u.left;
             cells = u.cells;
-            hand = subst (InPhase m meaning start attempts u.turns (record tile { next = tile.next + 1 }) b) (sym is) (backing.0, grind (arith, nat_tests, test), backing.2, backing.3, gave_back);
+            hand = subst (InPhase (common m meaning start) attempts u.turns (tile_at (record tile { next = tile.next + 1 }) b)) (sym is) (backing.0, grind (arith, nat_tests, test), backing.2, backing.3, gave_back);
           },
           inl refl,
         )
@@ -395,10 +395,10 @@ module _ (m : MapValue) (meaning : WindowValue → ℕ → WindowValue) (start :
             left = u.left;
             cells = λ s h q. u.cells s h (inl (ap is_refreshed is));
             hand = let le : tile.count ≤ tile.next + 1 = grind (arith, nat_tests, test) in
-                over_hand u.turns (record tile { phase = over tile.left }) b backing.0 (gave_all m meaning start t (tile.next + 1) had b u.turns u.each u.unworn (omega (arith, long, le)) gave_back);
+                over_hand u.turns (record tile { phase = over tile.left }) b backing.0 (gave_all m meaning start (record tile { next = tile.next + 1 }) had b u.turns u.each u.unworn (omega (arith, long, le)) gave_back);
           },
           inl refl,
         )
 
-      pub backs_on : (b : ℕ → EndLists) (new : TileValue) → Frees tile.count tile new a b → Next new b
+      pub backs_on : (b : ℕ → EndLists) (new : TileValue) → Frees tile.count (tile_at tile a) (tile_at new b) → Next new b
       backs_on b new r = subst (λ w. Next w b) (sym r.is) (back_with b r.lists_are (nat_lt (tile.next + 1) tile.count) refl)

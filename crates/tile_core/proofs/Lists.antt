@@ -19,8 +19,9 @@ use Rattle.border_cache.specs.Accesses.{after_all, with_all}
 use Rattle.border_cache.specs.Windows.{has, end_at, AddsAll}
 use Rattle.border_cache.proofs.Runs.{after_none as after_nothing}
 use Rattle.border_cache.proofs.Needs.{Rises, has_more, has_at, not_yet}
-use Rattle.tile_core.specs.Turns.{Lost, Turn, Wins, Loses, Wears, turn_edges, hold_at, refusals_at, as_open, one_if, with_more, AgreeOnEdges, lists_of, lists_left, IsTurn, AreTurns, Wearless, IsGiven}
-use Rattle.tile_core.specs.Underway.{HasOpen, no_access, still}
+use Rattle.tile_core.specs.Values.{TileValue}
+use Rattle.tile_core.specs.Turns.{Lost, Turn, Wins, Loses, Wears, turn_edges, hold_at, refusals_at, as_open, one_if, with_more, AgreeOnEdges, lists_of, lists_left, IsTurn, AreTurns, Wearless, IsGiven, common}
+use Rattle.tile_core.specs.Underway.{HasOpen, no_access, still, tile_at}
 
 -- all that was noted is over: no hold is open, and the attempts are below the number of turns
 no_more : (l : EndLists) → with_more [] [] l ≡ l
@@ -45,9 +46,9 @@ refused_more n (Loses l) e rs a lt = go (eqb e l.gone.edge)
 
 module _ (m : MapValue) (meaning : WindowValue → ℕ → WindowValue) (start : Site → AtomValue) (t : ℕ) where
   abbrev Good : List Turn → Type 0
-  Good turns = AreTurns m meaning start t turns × Wearless turns
+  Good turns = AreTurns (common m meaning start) t turns × Wearless turns
 
-  pub given_of : (x : Turn) (xs : List Turn) → IsTurn m meaning start t xs x → Wearless (x ∷ xs) → (e : ℕ) → has e (turn_edges m t x) ≡ true → IsGiven m t e (length xs) (hold_at x e)
+  pub given_of : (x : Turn) (xs : List Turn) → IsTurn (common m meaning start) t xs x → Wearless (x ∷ xs) → (e : ℕ) → has e (turn_edges m t x) ≡ true → IsGiven m t e (length xs) (hold_at x e)
   given_of (Wins w) xs i u e h = i.given e h
   given_of (Loses l) xs i u e h = (i.given e h).0
   given_of (Wears w) xs i u e h = absurd u
@@ -57,11 +58,11 @@ module _ (m : MapValue) (meaning : WindowValue → ℕ → WindowValue) (start :
   rest_unworn (Loses l) xs u = u
   rest_unworn (Wears w) xs u = absurd u
 
-  pub free_of : (turns : List Turn) (e : ℕ) → AreTurns m meaning start t turns → Wearless turns → IsFree (lists_of m t turns e)
+  pub free_of : (turns : List Turn) (e : ℕ) → AreTurns (common m meaning start) t turns → Wearless turns → IsFree (lists_of m t turns e)
   free_of [] e a u = refl
   free_of (x ∷ xs) e a u = free_more (has e (turn_edges m t x)) (hold_at x e) (refusals_at x e) (lists_of m t xs e) (λ h. (given_of x xs a.0 u e h).closed) (free_of xs e a.2 (rest_unworn x xs u))
 
-  lost_attempt : (x : Turn) (xs : List Turn) → IsTurn m meaning start t xs x → (l : Lost) → x ≡ Loses l → l.gone.attempt ≡ length xs
+  lost_attempt : (x : Turn) (xs : List Turn) → IsTurn (common m meaning start) t xs x → (l : Lost) → x ≡ Loses l → l.gone.attempt ≡ length xs
   lost_attempt (Wins w) xs i l e = absurd (cc e)
   lost_attempt (Wears w) xs i l e = absurd (cc e)
   lost_attempt (Loses k) xs i l e = ap gone_attempt (sym e) ∙ i.attempt
@@ -71,7 +72,7 @@ module _ (m : MapValue) (meaning : WindowValue → ℕ → WindowValue) (start :
       gone_attempt (Wins w) = 0
       gone_attempt (Wears w) = 0
 
-  pub new_of : (turns : List Turn) (e n : ℕ) → length turns ≤ n → AreTurns m meaning start t turns → Wearless turns → IsNew n (lists_of m t turns e)
+  pub new_of : (turns : List Turn) (e n : ℕ) → length turns ≤ n → AreTurns (common m meaning start) t turns → Wearless turns → IsNew n (lists_of m t turns e)
   new_of [] e n le a u = record { holds = λ k d i. absurd (omega arith); refusals = λ k d i. absurd (omega arith) }
   new_of (x ∷ xs) e n le a u =
       let r = new_of xs e n (omega (arith, le)) a.2 (rest_unworn x xs u) in
@@ -97,15 +98,21 @@ pub eqb_of : (d e : ℕ) → eqb d e ≡ true → e ≡ d
 eqb_of d e is = grind (arith, is)
 
 -- the lock phase
-module _ (m : MapValue) (t i n e : ℕ) (turns : List Turn) (needs : List ℕ) (a b : ℕ → EndLists) (rise : Rises needs) (lt : n < length needs) (at : e ≡ get_or needs n 0)
-    (mine : has_end m t e ≡ true) (had : HasOpen m t i turns (take n needs) no_access a) where
+module _ (m : MapValue) (tile : TileValue) (n e : ℕ) (turns : List Turn) (needs : List ℕ) (a b : ℕ → EndLists) (rise : Rises needs) (lt : n < length needs) (at : e ≡ get_or needs n 0)
+    (mine : has_end m tile.number e ≡ true) (had : HasOpen m turns (tile_at tile a) (take n needs) no_access) where
+  abbrev t : ℕ
+  t = tile.number
+
+  abbrev i : ℕ
+  i = length turns
+
   fresh : has e (take n needs) ≡ false
   fresh = ap (λ x. has x (take n needs)) at ∙ not_yet n needs lt rise
 
   pub here_free : a e ≡ lists_of m t turns e
   here_free = had e mine ∙ (ap (λ x. with_more (one_if x (hold_of (end_at m t e) i [] true)) [] (lists_of m t turns e)) fresh ∙ no_more (lists_of m t turns e))
 
-  pub got_open : (k : ℕ) → k ≡ end_at m t e → b ≡ replace_at a e (after_try k i Got (a e)) → HasOpen m t i turns (take (n + 1) needs) no_access b
+  pub got_open : (k : ℕ) → k ≡ end_at m t e → b ≡ replace_at a e (after_try k i Got (a e)) → HasOpen m turns (tile_at tile b) (take (n + 1) needs) no_access
   got_open k end is d own = go (eqb d e) refl
     where
       more : has d (take (n + 1) needs) ≡ (if eqb d e then true else has d (take n needs))
@@ -209,19 +216,19 @@ all_left m t x older edges a same closed n le left d own =
     go false q = refl
 
 -- the accesses of the open holds grow
-pub open_more : (m : MapValue) (t i : ℕ) (turns : List Turn) (needs : List ℕ) (accesses more : ℕ → List Access) (a b : ℕ → EndLists) → HasOpen m t i turns needs accesses a → AddsAll a b needs more
-    → HasOpen m t i turns needs (λ e. accesses e ++ more e) b
-open_more m t i turns needs accesses more a b had adds d own = go (has d needs) refl
+pub open_more : (m : MapValue) (tile : TileValue) (turns : List Turn) (needs : List ℕ) (accesses more : ℕ → List Access) (a b : ℕ → EndLists) → HasOpen m turns (tile_at tile a) needs accesses → AddsAll a b needs more
+    → HasOpen m turns (tile_at tile b) needs (λ e. accesses e ++ more e)
+open_more m tile turns needs accesses more a b had adds d own = go (has d needs) refl
   where
     past : EndLists
-    past = lists_of m t turns d
+    past = lists_of m tile.number turns d
 
     aim : (x : Bool) → List Access → EndLists
-    aim x xs = with_more (one_if x (hold_of (end_at m t d) i xs true)) [] past
+    aim x xs = with_more (one_if x (hold_of (end_at m tile.number d) (length turns) xs true)) [] past
 
     go : (x : Bool) → has d needs ≡ x → b d ≡ aim (has d needs) (accesses d ++ more d)
     go true q =
         adds.lists d ∙ (ap (after_all (more d)) (had d own ∙ ap (λ x. aim x (accesses d)) q)
-        ∙ (ap (λ hs. end_lists hs (past.refusals ++ [])) (change_last-snoc (with_all (more d)) past.holds (hold_of (end_at m t d) i (accesses d) true)) ∙ ap (λ x. aim x (accesses d ++ more d)) (sym q)))
+        ∙ (ap (λ hs. end_lists hs (past.refusals ++ [])) (change_last-snoc (with_all (more d)) past.holds (hold_of (end_at m tile.number d) (length turns) (accesses d) true)) ∙ ap (λ x. aim x (accesses d ++ more d)) (sym q)))
     go false q =
         adds.lists d ∙ (ap (λ xs. after_all xs (a d)) (adds.only d q) ∙ (sym (after_nothing (a d)) ∙ (had d own ∙ (ap (λ x. aim x (accesses d)) q ∙ ap (λ x. aim x (accesses d ++ more d)) (sym q)))))

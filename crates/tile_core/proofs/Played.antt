@@ -1,6 +1,6 @@
 -- What is over is played, and the entries of the turns make a log.
 use Rattle.std.proofs.Common.{◌≡◌, ℕ, zero, suc, ◌<◌, ◌≤◌, Bool, true, List, [], ◌∷◌, length, take, refl, sym, ap, ◌∙◌, subst, arith}
-use Rattle.std.specs.Prelude.{max, All, AllPairs}
+use Rattle.std.specs.Prelude.{max, All, AllPairs, slice_get}
 use Rattle.std.proofs.lemmas.List.{take_all}
 use Rattle.std.proofs.lemmas.List.Elements.{All-push}
 use Rattle.std.proofs.lemmas.List.Quantifiers.{all_pairs_push}
@@ -19,8 +19,8 @@ use Rattle.edge_lock.specs.EndLists.{EndLists, hold_of, writes_nothing}
 use Rattle.border_cache.specs.Windows.{has, end_at}
 use Rattle.tile_core.specs.declared.phase.Phase.TheVariants.{Draw, Finished, Worn as WornPhase}
 use Rattle.tile_core.specs.Values.{TileValue, centre, event_site, given_up_site}
-use Rattle.tile_core.specs.Turns.{Turn, Wins, Loses, Wears, Worn, AreTurns, IsNthAttempt, IsAttemptOf, AreAttempts, IsWorn, HasPlayed, accesses_at, AgreeOnEdges, lists_of, with_more, one_if, stamp_of, clock_in, greatest, records_in_turns, abandoned_in_turns}
-use Rattle.tile_core.specs.Underway.{IsUnderway, InPhase, IsDrawn}
+use Rattle.tile_core.specs.Turns.{Turn, Wins, Loses, Wears, Worn, AreTurns, IsAttemptOf, AreAttempts, IsWorn, HasPlayed, accesses_at, AgreeOnEdges, lists_of, with_more, one_if, stamp_of, clock_in, greatest, records_in_turns, abandoned_in_turns, common, made_of, IsAttemptAt}
+use Rattle.tile_core.specs.Underway.{IsUnderway, InPhase, IsDrawn, tile_at}
 
 length_take : {A : Type 0} (n : ℕ) (xs : List A) → n ≤ length xs → length (take n xs) ≡ n
 length_take zero xs le = refl
@@ -28,7 +28,7 @@ length_take (suc n) [] le = absurd (omega (arith, le))
 length_take (suc n) (x ∷ xs) le = ap (λ k. suc k) (length_take n xs (omega (arith, le)))
 
 module _ (m : MapValue) (t : ℕ) (attempts : List Attempt) where
-  attempt_within : (n k : ℕ) (s : Site) (seed : ℕ) → k < n → IsNthAttempt m t attempts k s seed → IsNthAttempt m t (take n attempts) k s seed
+  attempt_within : (n k : ℕ) (s : Site) (seed : ℕ) → k < n → IsAttemptAt m t (slice_get attempts k) s seed → IsAttemptAt m t (slice_get (take n attempts) k) s seed
   attempt_within n k s seed lt a = record { attempt = a.attempt; is = get_take k n attempts lt ∙ a.is; site_is = a.site_is; seed_is = a.seed_is }
 
   turn_within : (n k : ℕ) (x : Turn) → k < n → IsAttemptOf m t attempts k x → IsAttemptOf m t (take n attempts) k x
@@ -49,8 +49,8 @@ module _ (m : MapValue) (t : ℕ) (attempts : List Attempt) where
   turns_few [] a = omega arith
   turns_few (x ∷ xs) a = let lt = turn_there (length xs) x a.0 in omega (arith, lt)
 
-module _ (m : MapValue) (meaning : WindowValue → ℕ → WindowValue) (start : Site → AtomValue) (attempts : List Attempt) (tile : TileValue) (lists : ℕ → EndLists) (u : IsUnderway m meaning start attempts tile lists) where
-  with_turns : (n : ℕ) → length u.turns ≡ n → AgreeOnEdges m tile.number lists (lists_of m tile.number u.turns) → HasPlayed m meaning start tile.number (take n attempts) tile.records tile.abandoned lists
+module _ (m : MapValue) (meaning : WindowValue → ℕ → WindowValue) (start : Site → AtomValue) (attempts : List Attempt) (tile : TileValue) (lists : ℕ → EndLists) (u : IsUnderway (common m meaning start) attempts tile lists) where
+  with_turns : (n : ℕ) → length u.turns ≡ n → AgreeOnEdges m tile.number lists (lists_of m tile.number u.turns) → HasPlayed (common m meaning start) tile.number (take n attempts) (made_of tile.records tile.abandoned lists)
   with_turns n count ends = record {
     turns = u.turns;
     each = u.each;
@@ -62,18 +62,18 @@ module _ (m : MapValue) (meaning : WindowValue → ℕ → WindowValue) (start :
   }
 
   -- between attempts a tile has played those that it drew
-  pub played_at_draw : tile.phase ≡ Draw → HasPlayed m meaning start tile.number (take tile.taken attempts) tile.records tile.abandoned lists
-  played_at_draw is = let h = subst (InPhase m meaning start attempts u.turns tile lists) is u.hand in with_turns tile.taken (sym h.0) h.2
+  pub played_at_draw : tile.phase ≡ Draw → HasPlayed (common m meaning start) tile.number (take tile.taken attempts) (made_of tile.records tile.abandoned lists)
+  played_at_draw is = let h = subst (InPhase (common m meaning start) attempts u.turns (tile_at tile lists)) is u.hand in with_turns tile.taken (sym h.0) h.2
 
   -- a finished tile has played all its attempts
-  pub played_at_end : tile.phase ≡ Finished → HasPlayed m meaning start tile.number attempts tile.records tile.abandoned lists
+  pub played_at_end : tile.phase ≡ Finished → HasPlayed (common m meaning start) tile.number attempts (made_of tile.records tile.abandoned lists)
   played_at_end is =
-      let h = subst (InPhase m meaning start attempts u.turns tile lists) is u.hand in
+      let h = subst (InPhase (common m meaning start) attempts u.turns (tile_at tile lists)) is u.hand in
       let le = drop_none tile.taken attempts (sym u.left ∙ h.1) in
-      subst (λ as_played. HasPlayed m meaning start tile.number as_played tile.records tile.abandoned lists) (take_all tile.taken attempts le) (with_turns tile.taken (sym h.0) h.2)
+      subst (λ as_played. HasPlayed (common m meaning start) tile.number as_played (made_of tile.records tile.abandoned lists)) (take_all tile.taken attempts le) (with_turns tile.taken (sym h.0) h.2)
 
   -- a tile that is worn out has played the attempts that it drew, and the holds of the last are open
-  pub played_at_wear : tile.phase ≡ WornPhase → HasPlayed m meaning start tile.number (take tile.taken attempts) tile.records tile.abandoned lists
+  pub played_at_wear : tile.phase ≡ WornPhase → HasPlayed (common m meaning start) tile.number (take tile.taken attempts) (made_of tile.records tile.abandoned lists)
   played_at_wear is = record {
     turns = Wears worn ∷ u.turns;
     each = (is_worn, u.unworn, u.each);
@@ -84,8 +84,8 @@ module _ (m : MapValue) (meaning : WindowValue → ℕ → WindowValue) (start :
     lists_are = λ e own. h.1.1 e own ∙ go e (has e tile.needs) refl;
   }
     where
-      h : InPhase m meaning start attempts u.turns tile lists WornPhase
-      h = subst (InPhase m meaning start attempts u.turns tile lists) is u.hand
+      h : InPhase (common m meaning start) attempts u.turns (tile_at tile lists) WornPhase
+      h = subst (InPhase (common m meaning start) attempts u.turns (tile_at tile lists)) is u.hand
 
       d : IsDrawn m attempts u.turns tile
       d = h.0
@@ -122,19 +122,19 @@ module _ (m : MapValue) (meaning : WindowValue → ℕ → WindowValue) (start :
   abbrev IsGivenUp : Abandoned → Type 0
   IsGivenUp a = a.tile ≡ t
 
-  record_tiles : (turns : List Turn) → AreTurns m meaning start t turns → All IsOfTile (records_in_turns turns)
+  record_tiles : (turns : List Turn) → AreTurns (common m meaning start) t turns → All IsOfTile (records_in_turns turns)
   record_tiles [] a = λ k d lt. absurd (omega (arith, lt))
   record_tiles (Wins w ∷ xs) a = All-push IsOfTile (records_in_turns xs) w.note (record_tiles xs a.2) a.0.tile
   record_tiles (Loses l ∷ xs) a = record_tiles xs a.2
   record_tiles (Wears w ∷ xs) a = record_tiles xs a.2
 
-  abandoned_tiles : (turns : List Turn) → AreTurns m meaning start t turns → All IsGivenUp (abandoned_in_turns turns)
+  abandoned_tiles : (turns : List Turn) → AreTurns (common m meaning start) t turns → All IsGivenUp (abandoned_in_turns turns)
   abandoned_tiles [] a = λ k d lt. absurd (omega (arith, lt))
   abandoned_tiles (Wins w ∷ xs) a = abandoned_tiles xs a.2
   abandoned_tiles (Loses l ∷ xs) a = All-push IsGivenUp (abandoned_in_turns xs) l.gone (abandoned_tiles xs a.2) a.0.tile
   abandoned_tiles (Wears w ∷ xs) a = abandoned_tiles xs a.2
 
-  earlier : (turns : List Turn) → AreTurns m meaning start t turns → (n stamp : ℕ) → length turns ≤ n → stamp_of turns ≤ stamp → All (IsEarlier n stamp) (records_in_turns turns)
+  earlier : (turns : List Turn) → AreTurns (common m meaning start) t turns → (n stamp : ℕ) → length turns ≤ n → stamp_of turns ≤ stamp → All (IsEarlier n stamp) (records_in_turns turns)
   earlier [] a n stamp le up = λ k d lt. absurd (omega (arith, lt))
   earlier (Wins w ∷ xs) a n stamp le up =
       let above = greatest_above (stamp_of xs) (λ e. clock_in (accesses_at w e)) (needs_of m t (event_site w.note)) in
@@ -143,13 +143,13 @@ module _ (m : MapValue) (meaning : WindowValue → ℕ → WindowValue) (start :
   earlier (Loses l ∷ xs) a n stamp le up = earlier xs a.2 n stamp (omega (arith, le)) up
   earlier (Wears w ∷ xs) a n stamp le up = earlier xs a.2 n stamp (omega (arith, le)) up
 
-  refused_earlier : (turns : List Turn) → AreTurns m meaning start t turns → (n : ℕ) → length turns ≤ n → All (λ (g : Abandoned). g.attempt < n) (abandoned_in_turns turns)
+  refused_earlier : (turns : List Turn) → AreTurns (common m meaning start) t turns → (n : ℕ) → length turns ≤ n → All (λ (g : Abandoned). g.attempt < n) (abandoned_in_turns turns)
   refused_earlier [] a n le = λ k d lt. absurd (omega (arith, lt))
   refused_earlier (Wins w ∷ xs) a n le = refused_earlier xs a.2 n (omega (arith, le))
   refused_earlier (Loses l ∷ xs) a n le = let number = a.0.attempt in All-push (λ (g : Abandoned). g.attempt < n) (abandoned_in_turns xs) l.gone (refused_earlier xs a.2 n (omega (arith, le))) (omega (arith, number, le))
   refused_earlier (Wears w ∷ xs) a n le = refused_earlier xs a.2 n (omega (arith, le))
 
-  records_rise : (turns : List Turn) → AreTurns m meaning start t turns → AllPairs RisesTo (records_in_turns turns)
+  records_rise : (turns : List Turn) → AreTurns (common m meaning start) t turns → AllPairs RisesTo (records_in_turns turns)
   records_rise [] a = λ j k d lt less. absurd (omega (arith, less))
   records_rise (Wins w ∷ xs) a =
       let above = greatest_above (stamp_of xs) (λ e. clock_in (accesses_at w e)) (needs_of m t (event_site w.note)) in
@@ -158,14 +158,14 @@ module _ (m : MapValue) (meaning : WindowValue → ℕ → WindowValue) (start :
   records_rise (Loses l ∷ xs) a = records_rise xs a.2
   records_rise (Wears w ∷ xs) a = records_rise xs a.2
 
-  abandoned_rise : (turns : List Turn) → AreTurns m meaning start t turns → AllPairs (λ (g h : Abandoned). g.attempt < h.attempt) (abandoned_in_turns turns)
+  abandoned_rise : (turns : List Turn) → AreTurns (common m meaning start) t turns → AllPairs (λ (g h : Abandoned). g.attempt < h.attempt) (abandoned_in_turns turns)
   abandoned_rise [] a = λ j k d lt less. absurd (omega (arith, less))
   abandoned_rise (Wins w ∷ xs) a = abandoned_rise xs a.2
   abandoned_rise (Loses l ∷ xs) a = let number = a.0.attempt in
       all_pairs_push (λ (g h : Abandoned). g.attempt < h.attempt) (abandoned_in_turns xs) l.gone (abandoned_rise xs a.2) (λ k d lt. let p = refused_earlier xs a.2 (length xs) (omega arith) k d lt in omega (arith, p, number))
   abandoned_rise (Wears w ∷ xs) a = abandoned_rise xs a.2
 
-pub is_log : (m : MapValue) (meaning : WindowValue → ℕ → WindowValue) (start : Site → AtomValue) (attempts : List Attempt) (tile : TileValue) (lists : ℕ → EndLists) → IsUnderway m meaning start attempts tile lists → IsLog (log_of tile.number tile.records tile.abandoned)
+pub is_log : (m : MapValue) (meaning : WindowValue → ℕ → WindowValue) (start : Site → AtomValue) (attempts : List Attempt) (tile : TileValue) (lists : ℕ → EndLists) → IsUnderway (common m meaning start) attempts tile lists → IsLog (log_of tile.number tile.records tile.abandoned)
 is_log m meaning start attempts tile lists u = subst (λ (x : List Record × List Abandoned). IsLog (log_of tile.number x.0 x.1)) (λ i. (sym u.records i, sym u.abandoned i)) (record {
   records = record_tiles m meaning start tile.number u.turns u.each;
   abandoned = abandoned_tiles m meaning start tile.number u.turns u.each;

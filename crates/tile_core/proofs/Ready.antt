@@ -14,17 +14,18 @@ use Rattle.border_cache.specs.Copies.{IsEndOf, IsCentre, CacheValue}
 use Rattle.tile_core.specs.Values.{TileValue}
 use Rattle.tile_core.specs.Turns.{Turn}
 use Rattle.tile_core.specs.Clocks.{IsHad}
-use Rattle.tile_core.specs.Underway.{HasOpen, IsDrawn, CanAttempt}
+use Rattle.tile_core.specs.Underway.{HasOpen, IsDrawn, CanAttempt, tile_at}
 use Rattle.tile_core.proofs.Giving.{has_place}
 use Rattle.tile_core.proofs.Laws.{drop_first}
 use Rattle.tile_core.proofs.Refreshing.{all_had, open_held}
+use Rattle.edge_lock.specs.EndValues.{EndValue}
 
-module _ (m : MapValue) (t tile : ℕ) (registers end_of : ℕ → ℕ) (board : IsEndOf m t tile registers end_of) (needs : List ℕ) (ends : (e : ℕ) → has e needs ≡ true → has_end m t e ≡ true) where
-  pub some_registers : (e : ℕ) → has e needs ≡ true → 0 < registers e
+module _ (m : MapValue) (t : ℕ) (end : EndValue) (board : IsEndOf m t end) (needs : List ℕ) (ends : (e : ℕ) → has e needs ≡ true → has_end m t e ≡ true) where
+  pub some_registers : (e : ℕ) → has e needs ≡ true → 0 < end.registers e
   some_registers e h = let r = board.registers_are e (ends e h) in omega (arith, r)
 
-  pub had_all : (i : ℕ) (turns : List Turn) (accesses : ℕ → List Access) (a : ℕ → EndLists) → HasOpen m t i turns needs accesses a → All (IsHad registers a) needs
-  had_all i turns accesses a had = all_had (IsHad registers a) needs (λ e h. record { some_registers = some_registers e h; held = open_held m t i turns needs accesses a ends had e h })
+  pub had_all : (tile : TileValue) → tile.number ≡ t → (turns : List Turn) (accesses : ℕ → List Access) (a : ℕ → EndLists) → HasOpen m turns (tile_at tile a) needs accesses → All (IsHad end.registers a) needs
+  had_all tile is turns accesses a had = all_had (IsHad end.registers a) needs (λ e h. record { some_registers = some_registers e h; held = open_held m tile turns needs accesses a (λ d k. subst (λ n. has_end m n d ≡ true) (sym is) (ends d k)) had e h })
 
 -- a needed edge is one of the plane's
 pub needs_known : (m : MapValue) (t : ℕ) (c : Site) (e : ℕ) → has e (needs_of m t c) ≡ true → e < length (pairs_of m)
@@ -52,5 +53,5 @@ centre_of_copy m t c v map tile q = subst (λ (x : MapValue × ℕ). IsCentre x.
 pub needs_of_copy : (m : MapValue) (t : ℕ) (c : Site) (v : CacheValue) (needs : List ℕ) → v.map ≡ m → v.tile ≡ t → needs ≡ needs_of m t c → needs ≡ needs_of v.map v.tile c
 needs_of_copy m t c v needs map tile q = q ∙ (λ i. needs_of (sym map i) (sym tile i) c)
 
-pub board_of_copy : (m : MapValue) (t tile : ℕ) (v : CacheValue) (registers end_of : ℕ → ℕ) → v.map ≡ m → v.tile ≡ t → IsEndOf m t tile registers end_of → IsEndOf v.map v.tile tile registers end_of
-board_of_copy m t tile v registers end_of map owner q = subst (λ (x : MapValue × ℕ). IsEndOf x.0 x.1 tile registers end_of) (λ i. (sym map i, sym owner i)) q
+pub board_of_copy : (m : MapValue) (t : ℕ) (v : CacheValue) (end : EndValue) → v.map ≡ m → v.tile ≡ t → IsEndOf m t end → IsEndOf v.map v.tile end
+board_of_copy m t v end map owner q = subst (λ (x : MapValue × ℕ). IsEndOf x.0 x.1 end) (λ i. (sym map i, sym owner i)) q

@@ -20,9 +20,9 @@ use Rattle.border_cache.proofs.Runs.{known_after, known_all, honest_append}
 use Rattle.border_cache.proofs.Stored.{centre_holds, has_get}
 use Rattle.tile_core.specs.declared.phase.Phase.TheVariants.{Refresh, Worn}
 use Rattle.tile_core.specs.Values.{TileValue, centre}
-use Rattle.tile_core.specs.Turns.{Turn, lists_of, with_more, one_if, own_cell, newest_at, clock_in, greatest, stamp_of, cells_of}
+use Rattle.tile_core.specs.Turns.{Turn, lists_of, with_more, one_if, own_cell, newest_at, clock_in, greatest, stamp_of, cells_of, common}
 use Rattle.tile_core.specs.Clocks.{ReadsClocks}
-use Rattle.tile_core.specs.Underway.{Onward, IsUnderway, InPhase, HasOpen, no_access, is_refreshed}
+use Rattle.tile_core.specs.Underway.{Onward, IsUnderway, InPhase, HasOpen, no_access, is_refreshed, tile_at}
 use Rattle.tile_core.specs.Steps.{Refreshes, WearsOut, Renews, refreshed}
 use Rattle.tile_core.proofs.Lists.{open_more, held_more}
 use Rattle.tile_core.proofs.Clocking.{greatest_same}
@@ -41,12 +41,13 @@ pub all_had : (P : ℕ → Type 0) (xs : List ℕ) → ((e : ℕ) → has e xs �
 all_had P xs f = λ k d lt. f (get_or xs k d) (has_get xs k d lt)
 
 -- the open hold of a needed edge
-pub open_held : (m : MapValue) (t i : ℕ) (turns : List Turn) (needs : List ℕ) (accesses : ℕ → List Access) (a : ℕ → EndLists) → ((e : ℕ) → has e needs ≡ true → has_end m t e ≡ true) → HasOpen m t i turns needs accesses a
+pub open_held : (m : MapValue) (tile : TileValue) (turns : List Turn) (needs : List ℕ) (accesses : ℕ → List Access) (a : ℕ → EndLists) → ((e : ℕ) → has e needs ≡ true → has_end m tile.number e ≡ true) → HasOpen m turns (tile_at tile a) needs accesses
     → (e : ℕ) → has e needs ≡ true → IsHeld (a e)
-open_held m t i turns needs accesses a ends had e h =
+open_held m tile turns needs accesses a ends had e h =
+    let t = tile.number in let i = length turns in
     subst IsHeld (sym (had e (ends e h) ∙ ap (λ x. with_more (one_if x (hold_of (end_at m t e) i (accesses e) true)) [] (lists_of m t turns e)) h)) (held_more (hold_of (end_at m t e) i (accesses e) true) [] (lists_of m t turns e) refl)
 
-module _ (m : MapValue) (meaning : WindowValue → ℕ → WindowValue) (start : Site → AtomValue) (attempts : List Attempt) (tile : TileValue) (a : ℕ → EndLists) (u : IsUnderway m meaning start attempts tile a) (is : tile.phase ≡ Refresh) where
+module _ (m : MapValue) (meaning : WindowValue → ℕ → WindowValue) (start : Site → AtomValue) (attempts : List Attempt) (tile : TileValue) (a : ℕ → EndLists) (u : IsUnderway (common m meaning start) attempts tile a) (is : tile.phase ≡ Refresh) where
   abbrev t : ℕ
   t = tile.number
 
@@ -56,17 +57,17 @@ module _ (m : MapValue) (meaning : WindowValue → ℕ → WindowValue) (start :
   abbrev c : Site
   c = centre tile
 
-  pub refreshing : InPhase m meaning start attempts u.turns tile a Refresh
-  refreshing = subst (InPhase m meaning start attempts u.turns tile a) is u.hand
+  pub refreshing : InPhase (common m meaning start) attempts u.turns (tile_at tile a) Refresh
+  refreshing = subst (InPhase (common m meaning start) attempts u.turns (tile_at tile a)) is u.hand
 
   module _ (b : ℕ → EndLists) (top : ℕ) (r : ReadsClocks tile.needs tile.stamp top a b) where
-    pub after_clocks : HasOpen m t i u.turns tile.needs (λ e. no_access e ++ r.more e) b
-    after_clocks = open_more m t i u.turns tile.needs no_access r.more a b refreshing.1 r.adds
+    pub after_clocks : HasOpen m u.turns (tile_at tile b) tile.needs (λ e. no_access e ++ r.more e)
+    after_clocks = open_more m tile u.turns tile.needs no_access r.more a b refreshing.1 r.adds
 
     top_is : (f : ℕ → List Access) → ((e : ℕ) → has e tile.needs ≡ true → clock_in (r.more e) ≡ clock_in (f e)) → top ≡ greatest (stamp_of u.turns) (λ e. clock_in (f e)) tile.needs
     top_is f same = r.top ∙ (ap (λ n. greatest n (λ e. clock_in (r.more e)) tile.needs) u.stamp ∙ greatest_same (stamp_of u.turns) (λ e. clock_in (r.more e)) (λ e. clock_in (f e)) tile.needs same)
 
-    worn_on : 4294967295 ≤ top → Onward m meaning start attempts tile a u (record tile { phase = Worn }) b
+    worn_on : 4294967295 ≤ top → Onward (common m meaning start) attempts u.turns (tile_at (record tile { phase = Worn }) b)
     worn_on high = (
       record {
         turns = u.turns;
@@ -91,8 +92,8 @@ module _ (m : MapValue) (meaning : WindowValue → ℕ → WindowValue) (start :
     )
 
     module _ (plane : IsPlane m) (d : ℕ → EndLists) (copy : CacheValue) (f : Renewed m t c tile.needs tile.cache copy b d) where
-      now_open : HasOpen m t i u.turns tile.needs (λ e. (no_access e ++ r.more e) ++ f.more e) d
-      now_open = open_more m t i u.turns tile.needs (λ e. no_access e ++ r.more e) f.more b d after_clocks f.adds
+      now_open : HasOpen m u.turns (tile_at tile d) tile.needs (λ e. (no_access e ++ r.more e) ++ f.more e)
+      now_open = open_more m tile u.turns tile.needs (λ e. no_access e ++ r.more e) f.more b d after_clocks f.adds
 
       reads_is : (e : ℕ) → has e tile.needs ≡ true → r.more e ++ f.more e ≡ Read 0 (r.clock e) ∷ f.more e
       reads_is e h = ap (λ xs. xs ++ f.more e) (r.is e h)
@@ -105,7 +106,7 @@ module _ (m : MapValue) (meaning : WindowValue → ℕ → WindowValue) (start :
 
       known_b : (e : ℕ) → has e tile.needs ≡ true → known_value (b e) ≡ known_after (λ q. None) (r.more e)
       known_b e h =
-          let held : IsHeld (a e) = open_held m t i u.turns tile.needs no_access a u.needs.ends refreshing.1 e h in
+          let held : IsHeld (a e) = open_held m tile u.turns tile.needs no_access a u.needs.ends refreshing.1 e h in
           ap known_value (r.adds.lists e) ∙ (known_all (r.more e) (a e) held ∙ ap (λ k. known_after k (r.more e)) (known_a e h))
 
       honest : (e : ℕ) → has e tile.needs ≡ true → IsHonest (λ q. None) (r.more e ++ f.more e)
@@ -124,7 +125,7 @@ module _ (m : MapValue) (meaning : WindowValue → ℕ → WindowValue) (start :
       clock_same : (e : ℕ) → has e tile.needs ≡ true → clock_in (r.more e) ≡ clock_in (r.more e ++ f.more e)
       clock_same e h = ap clock_in (r.is e h) ∙ sym (ap clock_in (reads_is e h))
 
-      renewed_on : top < 4294967295 → Onward m meaning start attempts tile a u (refreshed tile top copy) d
+      renewed_on : top < 4294967295 → Onward (common m meaning start) attempts u.turns (tile_at (refreshed tile top copy) d)
       renewed_on low = (
         record {
           turns = u.turns;
@@ -153,9 +154,9 @@ module _ (m : MapValue) (meaning : WindowValue → ℕ → WindowValue) (start :
         inl refl,
       )
 
-  pub refreshes_on : IsPlane m → (new : TileValue) (d : ℕ → EndLists) → Refreshes tile new a d → Onward m meaning start attempts tile a u new d
+  pub refreshes_on : IsPlane m → (new : TileValue) (d : ℕ → EndLists) → Refreshes (tile_at tile a) (tile_at new d) → Onward (common m meaning start) attempts u.turns (tile_at new d)
   refreshes_on plane new d r = ⊎_elim
-      (λ (w : WearsOut tile new r.top r.between d). subst (λ (x : TileValue × (ℕ → EndLists)). Onward m meaning start attempts tile a u x.0 x.1) (λ j. (sym w.is j, sym w.lists_are j)) (worn_on r.between r.top r.clocks w.high))
-      (λ (w : Renews tile new r.top r.between d). subst (λ x. Onward m meaning start attempts tile a u x d) (sym w.is)
+      (λ (w : WearsOut tile new r.top r.between d). subst (λ (x : TileValue × (ℕ → EndLists)). Onward (common m meaning start) attempts u.turns (tile_at x.0 x.1)) (λ j. (sym w.is j, sym w.lists_are j)) (worn_on r.between r.top r.clocks w.high))
+      (λ (w : Renews tile new r.top r.between d). subst (λ x. Onward (common m meaning start) attempts u.turns (tile_at x d)) (sym w.is)
       (renewed_on r.between r.top r.clocks plane d new.cache (renewed m t c tile.needs tile.cache new.cache r.between d u.map u.owner w.cells) w.low))
       r.step

@@ -14,17 +14,17 @@ use Rattle.edge_lock.specs.EndLists.{EndLists, hold_of, known_value, last_shown}
 use Rattle.edge_lock.proofs.LastHolds.{last_accesses-snoc}
 use Rattle.border_cache.specs.Cells.{CellValue, cell_value, newest}
 use Rattle.border_cache.specs.Accesses.{IsHonest}
-use Rattle.border_cache.specs.News.{Covers, found_cell}
+use Rattle.border_cache.specs.News.{Covers, found_cell, border}
 use Rattle.border_cache.specs.Published.{IsPublish}
-use Rattle.border_cache.specs.Windows.{has, place_in, edge_place_some, end_at, sites_on, and_cell, seen_on, PublishesAll}
+use Rattle.border_cache.specs.Windows.{has, place_in, edge_place_some, end_at, sites_on, and_cell, seen_on, PublishesAll, border_at, centre_of}
 use Rattle.border_cache.specs.Copies.{CacheValue, held_cell, window_cells}
 use Rattle.border_cache.proofs.Runs.{known_after}
 use Rattle.tile_core.specs.declared.phase.Phase.{Phase}
 use Rattle.tile_core.specs.declared.phase.Phase.TheVariants.{Write}
 use Rattle.tile_core.specs.Values.{TileValue, centre}
-use Rattle.tile_core.specs.Turns.{Wins, Won, AgreeOnEdges, lists_of, lists_left, with_more, one_if, as_open, IsWon, IsEventHold, cell_left, atom_for, own_cell, newest_at, clock_in, greatest, stamp_of, cells_of}
+use Rattle.tile_core.specs.Turns.{Wins, Won, AgreeOnEdges, lists_of, lists_left, with_more, one_if, as_open, IsWon, IsEventHold, cell_left, atom_for, own_cell, newest_at, clock_in, greatest, stamp_of, cells_of, common}
 use Rattle.tile_core.specs.Clocks.{WritesClocks}
-use Rattle.tile_core.specs.Underway.{Onward, IsUnderway, InPhase, IsRead, IsRun, HasOpen, still}
+use Rattle.tile_core.specs.Underway.{Onward, IsUnderway, InPhase, IsRead, IsRun, HasOpen, still, tile_at}
 use Rattle.tile_core.specs.Steps.{Writes, over, written_phase, event_entry}
 use Rattle.tile_core.proofs.Lists.{open_more, all_left}
 use Rattle.tile_core.proofs.Events.{event_hold, seen_all}
@@ -56,7 +56,7 @@ placed_site m c e n k h = go (window_site m c n) refl h
     go (Some s) is h = (s, is)
 
 -- the same cells at the places
-publish_cells : (sites end n : ℕ) (p q : ℕ → CellValue) (places : ℕ → Option ℕ) (xs : List Access) → ((j k : ℕ) → j < n → places j ≡ Some k → p j ≡ q j) → IsPublish sites end p places n xs → IsPublish sites end q places n xs
+publish_cells : (sites end n : ℕ) (p q : ℕ → CellValue) (places : ℕ → Option ℕ) (xs : List Access) → ((j k : ℕ) → j < n → places j ≡ Some k → p j ≡ q j) → IsPublish (border sites end places n) p xs → IsPublish (border sites end places n) q xs
 publish_cells sites end n p q places xs same w = record {
   cells_put = λ j k lt at. let d = w.cells_put j k lt at in (d.0, d.1, d.2, d.3, d.4 ∙ same j k lt at);
   mine = w.mine;
@@ -80,7 +80,7 @@ seen_same_on m t c f g n (d ∷ ds) s =
 pub known_open : (e a : ℕ) (xs : List Access) (l : EndLists) → known_value (with_more (hold_of e a xs true ∷ []) [] l) ≡ known_after (λ r. None) xs
 known_open e a xs l = λ i r. ap (λ ys. last_shown ys r None) (last_accesses-snoc l.holds (hold_of e a xs true)) i
 
-module _ (m : MapValue) (meaning : WindowValue → ℕ → WindowValue) (start : Site → AtomValue) (attempts : List Attempt) (tile : TileValue) (a : ℕ → EndLists) (u : IsUnderway m meaning start attempts tile a) (is : tile.phase ≡ Write) where
+module _ (m : MapValue) (meaning : WindowValue → ℕ → WindowValue) (start : Site → AtomValue) (attempts : List Attempt) (tile : TileValue) (a : ℕ → EndLists) (u : IsUnderway (common m meaning start) attempts tile a) (is : tile.phase ≡ Write) where
   abbrev t : ℕ
   t = tile.number
 
@@ -90,14 +90,14 @@ module _ (m : MapValue) (meaning : WindowValue → ℕ → WindowValue) (start :
   abbrev c : Site
   c = centre tile
 
-  pub writing : InPhase m meaning start attempts u.turns tile a Write
-  writing = subst (InPhase m meaning start attempts u.turns tile a) is u.hand
+  pub writing : InPhase (common m meaning start) attempts u.turns (tile_at tile a) Write
+  writing = subst (InPhase (common m meaning start) attempts u.turns (tile_at tile a)) is u.hand
 
-  module _ (b d : ℕ → EndLists) (copy : CacheValue) (mark : MarkedBy m t c tile.window tile.event_stamp tile.cache copy) (p : PublishesAll m t c tile.needs (window_cells copy c) a b) (w : WritesClocks tile.needs tile.event_stamp b d) where
-    abbrev rd : IsRead m t c tile.needs writing.1.0
+  module _ (b d : ℕ → EndLists) (copy : CacheValue) (mark : MarkedBy m t c tile.window tile.event_stamp tile.cache copy) (p : PublishesAll (centre_of m t c) tile.needs (window_cells copy c) a b) (w : WritesClocks tile.needs tile.event_stamp b d) where
+    abbrev rd : IsRead m tile writing.1.0
     rd = writing.1.2
 
-    abbrev run : IsRun m meaning start u.turns tile writing.1.0
+    abbrev run : IsRun (common m meaning start) u.turns tile writing.1.0
     run = writing.1.3
 
     -- all accesses of the hold on an edge
@@ -107,8 +107,8 @@ module _ (m : MapValue) (meaning : WindowValue → ℕ → WindowValue) (start :
     abbrev won : Won
     won = record { note = event_entry tile; hold = λ e. hold_of (end_at m t e) i (writing.1.0 e ++ (p.more e ++ Writing 0 tile.event_stamp ∷ [])) false; after = writing.1.3.after }
 
-    open_now : HasOpen m t i u.turns tile.needs (λ e. (writing.1.0 e ++ p.more e) ++ w.more e) d
-    open_now = open_more m t i u.turns tile.needs (λ e. writing.1.0 e ++ p.more e) w.more b d (open_more m t i u.turns tile.needs writing.1.0 p.more a b writing.1.1 p.adds) w.adds
+    open_now : HasOpen m u.turns (tile_at tile d) tile.needs (λ e. (writing.1.0 e ++ p.more e) ++ w.more e)
+    open_now = open_more m tile u.turns tile.needs (λ e. writing.1.0 e ++ p.more e) w.more b d (open_more m tile u.turns tile.needs writing.1.0 p.more a b writing.1.1 p.adds) w.adds
 
     number : tile.taken - 1 ≡ i
     number = let taken = writing.0.taken in omega (arith, taken)
@@ -128,13 +128,13 @@ module _ (m : MapValue) (meaning : WindowValue → ℕ → WindowValue) (start :
     known_here : (e : ℕ) → has e tile.needs ≡ true → known_value (a e) ≡ known_after (λ r. None) (writing.1.0 e)
     known_here e h = ap known_value (here_held e h) ∙ known_open (end_at m t e) i (writing.1.0 e) (lists_of m t u.turns e)
 
-    hold_is : (e : ℕ) → has e tile.needs ≡ true → IsEventHold (sites_on m e) (end_at m t e) (place_in m c e) (cell_left m won) tile.event_stamp (whole e)
+    hold_is : (e : ℕ) → has e tile.needs ≡ true → IsEventHold (border_at m t c e) (cell_left m won) tile.event_stamp (whole e)
     hold_is e h =
         let o = rd.is e h in
         let put = publish_cells (sites_on m e) (end_at m t e) 41 (window_cells copy c) (cell_left m won) (place_in m c e) (p.more e) (λ n k lt at. cells_are e n k lt at) (p.writes e h) in
         let one = subst (IsHonest (λ r. None)) o (rd.honest e h) in
         let two = subst (λ xs. IsHonest (known_after (λ r. None) xs) (p.more e)) o (subst (λ k. IsHonest k (p.more e)) (known_here e h) (p.adds.honest e)) in
-        subst (λ xs. IsEventHold (sites_on m e) (end_at m t e) (place_in m c e) (cell_left m won) tile.event_stamp (xs ++ (p.more e ++ Writing 0 tile.event_stamp ∷ []))) (sym o)
+        subst (λ xs. IsEventHold (border_at m t c e) (cell_left m won) tile.event_stamp (xs ++ (p.more e ++ Writing 0 tile.event_stamp ∷ []))) (sym o)
         (event_hold (sites_on m e) (end_at m t e) (rd.clock e) tile.event_stamp (place_in m c e) (cell_left m won) (rd.reads e) (p.more e) (end_small m t e) (place_low m c e) (rd.refresh e h) put (λ r. None) one two)
 
     clock_same : (e : ℕ) → has e tile.needs ≡ true → clock_in (writing.1.0 e) ≡ clock_in (whole e)
@@ -153,7 +153,7 @@ module _ (m : MapValue) (meaning : WindowValue → ℕ → WindowValue) (start :
         let own = own_cell (window_site m c n) (cells_of m start u.turns) in
         ap (λ es. newest own (seen_on m t c writing.1.0 n es)) (sym writing.0.needs) ∙ (ap (newest own) (sym (seen_is n lt)) ∙ ap (λ es. newest own (seen_on m t c whole n es)) writing.0.needs)
 
-    is_won : IsWon m meaning start t u.turns won
+    is_won : IsWon (common m meaning start) t u.turns won
     is_won = record {
       tile = refl;
       attempt = number;
@@ -184,7 +184,7 @@ module _ (m : MapValue) (meaning : WindowValue → ℕ → WindowValue) (start :
     abbrev aim : Phase → TileValue
     aim q = record tile { cache = copy; stamp = tile.event_stamp; records = tile.records ++ event_entry tile ∷ []; next = 0; phase = q }
 
-    by_length : (es : List ℕ) → tile.needs ≡ es → InPhase m meaning start attempts (Wins won ∷ u.turns) (aim (written_phase es tile.left)) d (written_phase es tile.left)
+    by_length : (es : List ℕ) → tile.needs ≡ es → InPhase (common m meaning start) attempts (Wins won ∷ u.turns) (tile_at (aim (written_phase es tile.left)) d) (written_phase es tile.left)
     by_length [] no_need = over_hand m meaning start attempts (Wins won ∷ u.turns) (aim (over tile.left)) d taken
         (all_left m t (Wins won) u.turns tile.needs d writing.0.needs (λ e h. refl) 0 (let q : length tile.needs ≡ 0 = ap (λ xs. length xs) no_need in omega (arith, q)) left)
     by_length (f ∷ fs) need = (taken, subst (λ xs. 0 < length xs) (sym need) (omega arith), (writing.0.needs, left))
@@ -193,7 +193,7 @@ module _ (m : MapValue) (meaning : WindowValue → ℕ → WindowValue) (start :
     cells_over plane s h true inside = let n = plane.windows.number c s inside in cell_is n.0 s (omega (arith, n.1)) n.2
     cells_over plane s h false outside = mark.keeps.others s h outside ∙ u.cells s h (inr outside)
 
-    wrote : IsPlane m → Onward m meaning start attempts tile a u (aim (written_phase tile.needs tile.left)) d
+    wrote : IsPlane m → Onward (common m meaning start) attempts u.turns (tile_at (aim (written_phase tile.needs tile.left)) d)
     wrote plane = (
       record {
         turns = Wins won ∷ u.turns;
@@ -214,6 +214,6 @@ module _ (m : MapValue) (meaning : WindowValue → ℕ → WindowValue) (start :
       inr (Wins won, refl),
     )
 
-  pub writes_on : IsPlane m → (new : TileValue) (d : ℕ → EndLists) → Writes m tile new a d → Onward m meaning start attempts tile a u new d
-  writes_on plane new d r = subst (λ w. Onward m meaning start attempts tile a u w d) (sym r.is)
+  pub writes_on : IsPlane m → (new : TileValue) (d : ℕ → EndLists) → Writes m (tile_at tile a) (tile_at new d) → Onward (common m meaning start) attempts u.turns (tile_at new d)
+  writes_on plane new d r = subst (λ w. Onward (common m meaning start) attempts u.turns (tile_at w d)) (sym r.is)
       (wrote r.between d new.cache (marked m t c tile.window tile.event_stamp tile.cache new.cache u.map u.owner r.marks) r.publishes r.stamps plane)

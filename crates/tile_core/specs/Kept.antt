@@ -5,11 +5,13 @@ use Rattle.window_sites.specs.Window.{WindowValue}
 use Rattle.tile_map.specs.Plane.{Site, MapValue}
 use Rattle.draw_stream.specs.declared.attempt.Attempt.{Attempt}
 use Rattle.edge_lock.specs.EndLists.{EndLists}
+use Rattle.edge_lock.specs.EndValues.{EndValue}
 use Rattle.tile_core.specs.declared.phase.Phase.{Phase}
 use Rattle.tile_core.specs.declared.phase.Phase.TheVariants.{Draw, Lock, Refresh, Behave, Write, Give, Back, Finished, Worn}
 use Rattle.tile_core.specs.declared.state.State.{State}
 use Rattle.tile_core.specs.Values.{TileValue}
-use Rattle.tile_core.specs.Underway.{IsUnderway}
+use Rattle.tile_core.specs.Turns.{common}
+use Rattle.tile_core.specs.Underway.{TileAt, tile_at, IsUnderway}
 
 abbrev pub value_of : State → TileValue
 value_of s = record {
@@ -31,6 +33,10 @@ value_of s = record {
   phase = s.phase;
 }
 
+-- what a tile keeps, on its end of the edges
+abbrev pub at : State → EndValue → TileAt
+at s end = tile_at (value_of s) end.lists
+
 -- how many entries are still due for the attempt in hand
 abbrev pub owed : Phase → ℕ
 owed Draw = 0
@@ -50,4 +56,4 @@ pub record HasRoom (s : State) : Type 0 where
 
 -- in some way the tile is underway, in this phase
 abbrev pub IsIn : MapValue → TileValue → (ℕ → EndLists) → Phase → Type 0
-IsIn m tile lists phase = (meaning : WindowValue → ℕ → WindowValue) × (start : Site → AtomValue) × (attempts : List Attempt) × (tile.phase ≡ phase) × IsUnderway m meaning start attempts tile lists
+IsIn m tile lists phase = (meaning : WindowValue → ℕ → WindowValue) × (start : Site → AtomValue) × (attempts : List Attempt) × (tile.phase ≡ phase) × IsUnderway (common m meaning start) attempts tile lists

@@ -8,13 +8,15 @@ use Rattle.event_journal.specs.declared.abandoned.Abandoned.{Abandoned}
 use Rattle.draw_stream.specs.declared.attempt.Attempt.{Attempt}
 use Rattle.edge_lock.specs.declared.board.Take.{Take}
 use Rattle.edge_lock.specs.declared.board.Take.TheVariants.{Got, Busy}
+use Rattle.edge_lock.specs.EndValues.{EndValue}
 use Rattle.edge_lock.specs.EndLists.{EndLists, after_try, after_give, replace_at}
-use Rattle.border_cache.specs.Windows.{IsView, PublishesAll}
-use Rattle.border_cache.specs.Copies.{CacheValue, window_cells, Refreshed, Marked}
+use Rattle.border_cache.specs.Windows.{IsView, centre_of, PublishesAll}
+use Rattle.border_cache.specs.Copies.{CacheValue, copy_at, window_cells, Refreshed, Marked}
 use Rattle.tile_core.specs.declared.phase.Phase.{Phase}
 use Rattle.tile_core.specs.declared.phase.Phase.TheVariants.{Draw, Lock, Refresh, Behave, Write, Give, Back, Finished, Worn}
 use Rattle.tile_core.specs.Values.{TileValue, centre}
 use Rattle.tile_core.specs.Clocks.{ReadsClocks, WritesClocks}
+use Rattle.tile_core.specs.Underway.{TileAt, tile_at}
 
 -- the phase once an attempt is over
 abbrev pub over : List Attempt → Phase
@@ -35,6 +37,15 @@ refused_phase (suc n) left = Back
 abbrev pub written_phase : List ℕ → List Attempt → Phase
 written_phase [] left = over left
 written_phase (e ∷ es) left = Give
+
+-- what a tile's steps go by: the plane, what an event makes of a window, and which end of each edge the tile is
+pub record Rules : Type 0 where
+  pub map : MapValue
+  pub meaning : WindowValue → ℕ → WindowValue
+  pub end_of : ℕ → ℕ
+
+abbrev pub rules_of : MapValue → (WindowValue → ℕ → WindowValue) → (ℕ → ℕ) → Rules
+rules_of map meaning end_of = record { map = map; meaning = meaning; end_of = end_of }
 
 -- an attempt is in hand
 pub record Begins (m : MapValue) (attempt : Attempt) (old new : TileValue) : Type 0 where
@@ -73,10 +84,10 @@ tried m tile Got = got (nat_lt (tile.next + 1) (length tile.needs)) tile
 tried m tile (Busy holder) = refused m tile (next_edge tile) holder
 
 -- Lock: one try was made, and the tile is as its answer says
-pub record Tries (m : MapValue) (end_of : ℕ → ℕ) (old new : TileValue) (lists lists' : ℕ → EndLists) : Type 0 where
+pub record Tries (m : MapValue) (end_of : ℕ → ℕ) (old new : TileAt) : Type 0 where
   pub answer : Take
-  pub lists_are : lists' ≡ replace_at lists (next_edge old) (after_try (end_of (next_edge old)) (old.taken - 1) answer (lists (next_edge old)))
-  pub is : new ≡ tried m old answer
+  pub lists_are : new.lists ≡ replace_at old.lists (next_edge old.tile) (after_try (end_of (next_edge old.tile)) (old.tile.taken - 1) answer (old.lists (next_edge old.tile)))
+  pub is : new.tile ≡ tried m old.tile answer
 
 -- the tile after a refresh
 abbrev pub refreshed : TileValue → ℕ → CacheValue → TileValue
@@ -91,16 +102,16 @@ pub record WearsOut (old new : TileValue) (top : ℕ) (between lists' : ℕ → 
 -- the cells of the window are brought up to date
 pub record Renews (old new : TileValue) (top : ℕ) (between lists' : ℕ → EndLists) : Type 0 where
   pub low : top < 4294967295
-  pub cells : Refreshed (centre old) old.needs old.cache new.cache between lists'
+  pub cells : Refreshed (centre old) old.needs (copy_at old.cache between) (copy_at new.cache lists')
   pub is : new ≡ refreshed old top new.cache
 
 -- Refresh: the clocks of all needed edges are read. Then the tile is worn out if one is too great,
 -- or else the cells of the window are brought up to date.
-pub record Refreshes (old new : TileValue) (lists lists' : ℕ → EndLists) : Type 0 where
+pub record Refreshes (old new : TileAt) : Type 0 where
   pub top : ℕ
   pub between : ℕ → EndLists
-  pub clocks : ReadsClocks old.needs old.stamp top lists between
-  pub step : WearsOut old new top between lists' ⊎ Renews old new top between lists'
+  pub clocks : ReadsClocks old.tile.needs old.tile.stamp top old.lists between
+  pub step : WearsOut old.tile new.tile top between new.lists ⊎ Renews old.tile new.tile top between new.lists
 
 -- Behave: the event runs on the window
 pub record Behaves (m : MapValue) (meaning : WindowValue → ℕ → WindowValue) (old new : TileValue) : Type 0 where
@@ -117,39 +128,43 @@ abbrev pub noted : TileValue → TileValue
 noted tile = record tile { stamp = tile.event_stamp; records = tile.records ++ event_entry tile ∷ []; next = 0; phase = written_phase tile.needs tile.left }
 
 -- Write: the window is marked and published, the clocks are set, and the event is noted
-pub record Writes (m : MapValue) (old new : TileValue) (lists lists' : ℕ → EndLists) : Type 0 where
+pub record Writes (m : MapValue) (old new : TileAt) : Type 0 where
   pub between : ℕ → EndLists
-  pub marks : Marked (centre old) old.window old.event_stamp old.cache new.cache
-  pub publishes : PublishesAll m old.number (centre old) old.needs (window_cells new.cache (centre old)) lists between
-  pub stamps : WritesClocks old.needs old.event_stamp between lists'
-  pub is : new ≡ noted (record old { cache = new.cache })
+  pub marks : Marked (centre old.tile) old.tile.window old.tile.event_stamp old.tile.cache new.tile.cache
+  pub publishes : PublishesAll (centre_of m old.tile.number (centre old.tile)) old.tile.needs (window_cells new.tile.cache (centre old.tile)) old.lists between
+  pub stamps : WritesClocks old.tile.needs old.tile.event_stamp between new.lists
+  pub is : new.tile ≡ noted (record old.tile { cache = new.tile.cache })
 
 -- the tile after it freed an edge: there is a next one, or not
 abbrev pub freed : Bool → TileValue → TileValue
 freed true tile = record tile { next = tile.next + 1 }
 freed false tile = record tile { phase = over tile.left }
 
--- Give and Back: one edge is freed, one of the first n that are needed
-pub record Frees (count : ℕ) (old new : TileValue) (lists lists' : ℕ → EndLists) : Type 0 where
-  pub lists_are : lists' ≡ replace_at lists (next_edge old) (after_give (lists (next_edge old)))
-  pub is : new ≡ freed (nat_lt (old.next + 1) count) old
+-- Give and Back: one edge is freed, one of the first `count` that are needed
+pub record Frees (count : ℕ) (old new : TileAt) : Type 0 where
+  pub lists_are : new.lists ≡ replace_at old.lists (next_edge old.tile) (after_give (old.lists (next_edge old.tile)))
+  pub is : new.tile ≡ freed (nat_lt (old.tile.next + 1) count) old.tile
 
 -- nothing happened
-pub record Rests (old new : TileValue) (lists lists' : ℕ → EndLists) : Type 0 where
-  pub is : new ≡ old
-  pub lists_are : lists' ≡ lists
+pub record Rests (old new : TileAt) : Type 0 where
+  pub is : new.tile ≡ old.tile
+  pub lists_are : new.lists ≡ old.lists
 
 -- one step of a tile in this phase
-abbrev pub StepsIn : MapValue → (WindowValue → ℕ → WindowValue) → (ℕ → ℕ) → TileValue → TileValue → (ℕ → EndLists) → (ℕ → EndLists) → Phase → Type 0
-StepsIn m meaning end_of old new lists lists' Draw = Draws m old new × (lists' ≡ lists)
-StepsIn m meaning end_of old new lists lists' Lock = Tries m end_of old new lists lists'
-StepsIn m meaning end_of old new lists lists' Refresh = Refreshes old new lists lists'
-StepsIn m meaning end_of old new lists lists' Behave = Behaves m meaning old new × (lists' ≡ lists)
-StepsIn m meaning end_of old new lists lists' Write = Writes m old new lists lists'
-StepsIn m meaning end_of old new lists lists' Give = Frees (length old.needs) old new lists lists'
-StepsIn m meaning end_of old new lists lists' Back = Frees old.count old new lists lists'
-StepsIn m meaning end_of old new lists lists' Finished = Rests old new lists lists'
-StepsIn m meaning end_of old new lists lists' Worn = Rests old new lists lists'
+abbrev pub StepsIn : Rules → TileAt → TileAt → Phase → Type 0
+StepsIn r old new Draw = Draws r.map old.tile new.tile × (new.lists ≡ old.lists)
+StepsIn r old new Lock = Tries r.map r.end_of old new
+StepsIn r old new Refresh = Refreshes old new
+StepsIn r old new Behave = Behaves r.map r.meaning old.tile new.tile × (new.lists ≡ old.lists)
+StepsIn r old new Write = Writes r.map old new
+StepsIn r old new Give = Frees (length old.tile.needs) old new
+StepsIn r old new Back = Frees old.tile.count old new
+StepsIn r old new Finished = Rests old new
+StepsIn r old new Worn = Rests old new
+
+-- one step of a tile on its end of the edges, by what it was made with
+abbrev pub Steps : (WindowValue → ℕ → WindowValue) → TileValue → EndValue → TileValue → EndValue → Type 0
+Steps meaning old end new end' = StepsIn (rules_of old.cache.map meaning end.end_of) (tile_at old end.lists) (tile_at new end'.lists) old.phase
 
 -- whether no attempt in hand goes on
 abbrev pub is_over : Phase → Bool

@@ -1,6 +1,6 @@
 -- What a tile did, attempt by attempt (the newest turn first), and what follows for the lists of
 -- its end of each edge.
-use Rattle.std.specs.Prelude.{ℕ, ◌≡◌, ◌≤◌, ◌<◌, ◌+◌, ◌-◌, ◌*◌, ◌/◌, ◌==◌, ◌⊎◌, max, if◌then◌else◌, List, [], ◌∷◌, ◌++◌, length, slice_get, Bool, true, false, Option, Some, None}
+use Rattle.std.specs.Prelude.{ℕ, ◌≡◌, ◌≤◌, ◌<◌, ◌+◌, ◌*◌, ◌/◌, ◌==◌, ◌⊎◌, max, if◌then◌else◌, List, [], ◌∷◌, ◌++◌, length, slice_get, Bool, true, false, Option, Some, None}
 use Rattle.list_laws.specs.Options.{or_zero}
 use Rattle.bit_field.specs.Atom.{AtomValue, empty_atom}
 use Rattle.window_sites.specs.Window.{WindowValue, atom_at}
@@ -14,13 +14,22 @@ use Rattle.edge_lock.specs.declared.history.Hold.{Hold}
 use Rattle.edge_lock.specs.declared.history.Refusal.{Refusal}
 use Rattle.edge_lock.specs.History.{found_value}
 use Rattle.edge_lock.specs.EndLists.{EndLists, end_lists, refusal_of, hold_of, writes_nothing}
-use Rattle.border_cache.specs.Cells.{CellValue, cell_value, cell_of, newest}
+use Rattle.border_cache.specs.Cells.{CellValue, cell_value, newest}
 use Rattle.border_cache.specs.Accesses.{last_write, is_read}
-use Rattle.border_cache.specs.News.{Covers, word_of, is_news, no_cell}
-use Rattle.border_cache.specs.Published.{IsWordMarked}
-use Rattle.border_cache.specs.Windows.{has, place_in, end_at, sites_on, seen_on, IsView}
+use Rattle.border_cache.specs.News.{Border, Covers, is_news, Finds, FindsCell, no_cell}
+use Rattle.border_cache.specs.Published.{across, IsWordMarked, LeavesCell, IsPublished}
+use Rattle.border_cache.specs.Windows.{has, end_at, border_at, seen_on, IsView}
 use Rattle.border_cache.specs.Copies.{IsCentre}
 use Rattle.tile_core.specs.Values.{event_site, given_up_site}
+
+-- what all tiles of a run have in common: the plane, what an event makes of a window, and the atoms at the start
+pub record Common : Type 0 where
+  pub map : MapValue
+  pub meaning : WindowValue → ℕ → WindowValue
+  pub start : Site → AtomValue
+
+abbrev pub common : MapValue → (WindowValue → ℕ → WindowValue) → (Site → AtomValue) → Common
+common map meaning start = record { map = map; meaning = meaning; start = start }
 
 -- an attempt that became an event: its record, its hold on each needed edge, and the atoms that it left
 pub record Won : Type 0 where
@@ -117,22 +126,21 @@ abbrev pub greatest : ℕ → (ℕ → ℕ) → List ℕ → ℕ
 greatest n f [] = n
 greatest n f (e ∷ es) = greatest (max n (f e)) f es
 
--- what a hold of an event found and left on an edge with this many shared sites, of which the
--- window covers some places
-pub record IsEventHold (sites end : ℕ) (places : ℕ → Option ℕ) (cells : ℕ → CellValue) (stamp : ℕ) (accesses : List Access) : Type 0 where
-  pub clock : (c : ℕ) × (found_value accesses 0 ≡ Some c)
+-- what a hold of an event found and left on an edge
+pub record IsEventHold (b : Border) (cells : ℕ → CellValue) (stamp : ℕ) (accesses : List Access) : Type 0 where
+  pub clock : Finds accesses 0
   pub stamped : last_write accesses 0 None ≡ Some stamp
   -- the news words of both ends were found, and are left with the bits of the covered places changed
-  pub mine : (k : ℕ) → Covers places 41 k → IsWordMarked sites end false places 41 accesses (k / 64)
-  pub theirs : (k : ℕ) → Covers places 41 k → IsWordMarked sites (1 - end) true places 41 accesses (k / 64)
+  pub mine : (k : ℕ) → Covers b.places b.count k → IsWordMarked b false accesses (k / 64)
+  pub theirs : (k : ℕ) → Covers b.places b.count k → IsWordMarked (across b) true accesses (k / 64)
   -- the cells that are news were found, and no other cell register was read
-  pub finds : (k : ℕ) → Covers places 41 k → is_news sites end accesses k ≡ true → (low : ℕ) × (high : ℕ) × (found_value accesses (1 + 2 * k) ≡ Some low) × (found_value accesses (2 + 2 * k) ≡ Some high)
-  pub reads_only : (k : ℕ) → k < sites → (is_read accesses (1 + 2 * k) ≡ true) ⊎ (is_read accesses (2 + 2 * k) ≡ true) → Covers places 41 k × (is_news sites end accesses k ≡ true)
+  pub finds : (k : ℕ) → Covers b.places b.count k → is_news b.sites b.end accesses k ≡ true → FindsCell accesses k
+  pub reads_only : (k : ℕ) → k < b.sites → (is_read accesses (1 + 2 * k) ≡ true) ⊎ (is_read accesses (2 + 2 * k) ≡ true)
+      → Covers b.places b.count k × (is_news b.sites b.end accesses k ≡ true)
   -- the event's cells are left
-  pub leaves : (n k : ℕ) → n < 41 → places n ≡ Some k → (low : ℕ) × (high : ℕ) × (last_write accesses (1 + 2 * k) None ≡ Some low) × (last_write accesses (2 + 2 * k) None ≡ Some high) × (cell_of low high ≡ cells n)
+  pub leaves : (n k : ℕ) → n < b.count → b.places n ≡ Some k → LeavesCell accesses k (cells n)
   -- and nothing else is written
-  pub spares : (register v : ℕ) → last_write accesses register None ≡ Some v
-      → (register ≡ 0) ⊎ ((k : ℕ) × Covers places 41 k × ((register ≡ 1 + 2 * k) ⊎ ((register ≡ 2 + 2 * k) ⊎ ((register ≡ word_of sites end k) ⊎ (register ≡ word_of sites (1 - end) k)))))
+  pub spares : (register v : ℕ) → last_write accesses register None ≡ Some v → (register ≡ 0) ⊎ IsPublished b register
 
 -- a hold of an end that was given back
 pub record IsGiven (m : MapValue) (t e attempt : ℕ) (hold : Hold) : Type 0 where
@@ -162,18 +170,19 @@ own_cell (Some s) own = own s
 abbrev pub newest_at : MapValue → ℕ → (Site → CellValue) → Site → (ℕ → List Access) → ℕ → CellValue
 newest_at m t own c accesses n = newest (own_cell (window_site m c n) own) (seen_on m t c accesses n (needs_of m t c))
 
--- an attempt became an event, after those of the past
-pub record IsWon (m : MapValue) (meaning : WindowValue → ℕ → WindowValue) (start : Site → AtomValue) (t : ℕ) (past : List Turn) (w : Won) : Type 0 where
+-- an attempt of tile t became an event, after those of the past
+pub record IsWon (c : Common) (t : ℕ) (past : List Turn) (w : Won) : Type 0 where
   pub tile : w.note.tile ≡ t
   pub attempt : w.note.attempt ≡ length past
-  pub centre : IsCentre m t (event_site w.note)
-  pub given : (e : ℕ) → has e (needs_of m t (event_site w.note)) ≡ true → IsGiven m t e (length past) (w.hold e)
-  pub holds : (e : ℕ) → has e (needs_of m t (event_site w.note)) ≡ true → IsEventHold (sites_on m e) (end_at m t e) (place_in m (event_site w.note) e) (cell_left m w) w.note.stamp (accesses_at w e)
-  pub stamp : w.note.stamp ≡ 1 + greatest (stamp_of past) (λ e. clock_in (accesses_at w e)) (needs_of m t (event_site w.note))
+  pub centre : IsCentre c.map t (event_site w.note)
+  pub given : (e : ℕ) → has e (turn_edges c.map t (Wins w)) ≡ true → IsGiven c.map t e (length past) (w.hold e)
+  pub holds : (e : ℕ) → has e (turn_edges c.map t (Wins w)) ≡ true
+      → IsEventHold (border_at c.map t (event_site w.note) e) (cell_left c.map w) w.note.stamp (accesses_at w e)
+  pub stamp : w.note.stamp ≡ 1 + greatest (stamp_of past) (λ e. clock_in (accesses_at w e)) (turn_edges c.map t (Wins w))
   pub small : w.note.stamp ≤ 4294967295
   pub view : WindowValue
-  pub shows : IsView m (event_site w.note) (newest_at m t (cells_of m start past) (event_site w.note) (accesses_at w)) view
-  pub acts : (n : ℕ) (s : Site) → n < 41 → window_site m (event_site w.note) n ≡ Some s → w.after s ≡ atom_at (meaning view w.note.seed) n
+  pub shows : IsView c.map (event_site w.note) (newest_at c.map t (cells_of c.map c.start past) (event_site w.note) (accesses_at w)) view
+  pub acts : (n : ℕ) (s : Site) → n < 41 → window_site c.map (event_site w.note) n ≡ Some s → w.after s ≡ atom_at (c.meaning view w.note.seed) n
 
 -- nothing was written
 abbrev pub IsSilent : Hold → Type 0
@@ -186,18 +195,19 @@ pub record IsLost (m : MapValue) (t : ℕ) (past : List Turn) (l : Lost) : Type 
   pub centre : IsCentre m t (given_up_site l.gone)
   pub needed : has l.gone.edge (needs_of m t (given_up_site l.gone)) ≡ true
   pub holder : l.gone.holder ≡ other_end m t l.gone.edge
-  pub given : (e : ℕ) → has e (before l.gone.edge (needs_of m t (given_up_site l.gone))) ≡ true → IsGiven m t e (length past) (l.hold e) × IsSilent (l.hold e)
+  pub given : (e : ℕ) → has e (turn_edges m t (Loses l)) ≡ true → IsGiven m t e (length past) (l.hold e) × IsSilent (l.hold e)
 
 -- an attempt found a clock that is too great, and wrote nothing
 pub record IsWorn (m : MapValue) (t : ℕ) (past : List Turn) (w : Worn) : Type 0 where
   pub centre : IsCentre m t w.site
-  pub holds : (e : ℕ) → has e (needs_of m t w.site) ≡ true → ((w.hold e).end ≡ end_at m t e) × ((w.hold e).attempt ≡ length past) × IsSilent (w.hold e) × ((c : ℕ) × (found_value (w.hold e).accesses 0 ≡ Some c))
-  pub high : 4294967295 ≤ greatest (stamp_of past) (λ e. clock_in (w.hold e).accesses) (needs_of m t w.site)
+  pub holds : (e : ℕ) → has e (turn_edges m t (Wears w)) ≡ true → ((w.hold e).end ≡ end_at m t e) × ((w.hold e).attempt ≡ length past) × IsSilent (w.hold e) × Finds (w.hold e).accesses 0
+  pub high : 4294967295 ≤ greatest (stamp_of past) (λ e. clock_in (w.hold e).accesses) (turn_edges m t (Wears w))
 
-abbrev pub IsTurn : MapValue → (WindowValue → ℕ → WindowValue) → (Site → AtomValue) → ℕ → List Turn → Turn → Type 0
-IsTurn m meaning start t past (Wins w) = IsWon m meaning start t past w
-IsTurn m meaning start t past (Loses l) = IsLost m t past l
-IsTurn m meaning start t past (Wears w) = IsWorn m t past w
+-- the attempt became this, after those of the past
+abbrev pub IsTurn : Common → ℕ → List Turn → Turn → Type 0
+IsTurn c t past (Wins w) = IsWon c t past w
+IsTurn c t past (Loses l) = IsLost c.map t past l
+IsTurn c t past (Wears w) = IsWorn c.map t past w
 
 -- no turn is a worn one
 abbrev pub Wearless : List Turn → Type 0
@@ -207,9 +217,9 @@ Wearless (Loses l ∷ xs) = Wearless xs
 Wearless (Wears w ∷ xs) = ⊥
 
 -- each turn is as what came before it determines, and only the last may be a worn one
-abbrev pub AreTurns : MapValue → (WindowValue → ℕ → WindowValue) → (Site → AtomValue) → ℕ → List Turn → Type 0
-AreTurns m meaning start t [] = Unit {0}
-AreTurns m meaning start t (x ∷ xs) = IsTurn m meaning start t xs x × Wearless xs × AreTurns m meaning start t xs
+abbrev pub AreTurns : Common → ℕ → List Turn → Type 0
+AreTurns c t [] = Unit {0}
+AreTurns c t (x ∷ xs) = IsTurn c t xs x × Wearless xs × AreTurns c t xs
 
 -- the events of the turns, in order
 abbrev pub records_in_turns : List Turn → List Record
@@ -225,31 +235,40 @@ abandoned_in_turns (Wins w ∷ xs) = abandoned_in_turns xs
 abandoned_in_turns (Loses l ∷ xs) = abandoned_in_turns xs ++ l.gone ∷ []
 abandoned_in_turns (Wears w ∷ xs) = abandoned_in_turns xs
 
--- an attempt was made with this site, as number n of the tile's attempts
-pub record IsNthAttempt (m : MapValue) (t : ℕ) (attempts : List Attempt) (n : ℕ) (s : Site) (seed : ℕ) : Type 0 where
+-- there is such an attempt, and it is one of tile t, with its centre at this site, and with this seed
+pub record IsAttemptAt (m : MapValue) (t : ℕ) (drawn : Option Attempt) (s : Site) (seed : ℕ) : Type 0 where
   pub attempt : Attempt
-  pub is : slice_get attempts n ≡ Some attempt
+  pub is : drawn ≡ Some attempt
   pub site_is : s ≡ site_in m t attempt.centre
   pub seed_is : seed ≡ attempt.seed
 
--- the attempt of a turn
+-- the turn is that of attempt n
 abbrev pub IsAttemptOf : MapValue → ℕ → List Attempt → ℕ → Turn → Type 0
-IsAttemptOf m t attempts n (Wins w) = IsNthAttempt m t attempts n (event_site w.note) w.note.seed
-IsAttemptOf m t attempts n (Loses l) = (seed : ℕ) × IsNthAttempt m t attempts n (given_up_site l.gone) seed
-IsAttemptOf m t attempts n (Wears w) = (seed : ℕ) × IsNthAttempt m t attempts n w.site seed
+IsAttemptOf m t attempts n (Wins w) = IsAttemptAt m t (slice_get attempts n) (event_site w.note) w.note.seed
+IsAttemptOf m t attempts n (Loses l) = (seed : ℕ) × IsAttemptAt m t (slice_get attempts n) (given_up_site l.gone) seed
+IsAttemptOf m t attempts n (Wears w) = (seed : ℕ) × IsAttemptAt m t (slice_get attempts n) w.site seed
 
 -- the turns are the tile's first attempts, in order
 abbrev pub AreAttempts : MapValue → ℕ → List Attempt → List Turn → Type 0
 AreAttempts m t attempts [] = Unit {0}
 AreAttempts m t attempts (x ∷ xs) = IsAttemptOf m t attempts (length xs) x × AreAttempts m t attempts xs
 
--- What a tile did on its edges with these attempts, from this start. Each attempt is an event, is abandoned, or is a last
--- one that wore the tile out; the entries are those of the turns, and so are the holds and refusals of the tile's ends.
-pub record HasPlayed (m : MapValue) (meaning : WindowValue → ℕ → WindowValue) (start : Site → AtomValue) (t : ℕ) (attempts : List Attempt) (records : List Record) (abandoned : List Abandoned) (lists : ℕ → EndLists) : Type 0 where
+-- what a tile has made: its events, its abandoned attempts, and the lists of its end of each edge
+pub record Made : Type 0 where
+  pub records : List Record
+  pub abandoned : List Abandoned
+  pub lists : ℕ → EndLists
+
+abbrev pub made_of : List Record → List Abandoned → (ℕ → EndLists) → Made
+made_of records abandoned lists = record { records = records; abandoned = abandoned; lists = lists }
+
+-- What tile t made of these attempts. Each attempt is an event, is abandoned, or is a last one that wore the tile out; the
+-- entries are those of the turns, and so are the holds and refusals of the tile's ends.
+pub record HasPlayed (c : Common) (t : ℕ) (attempts : List Attempt) (did : Made) : Type 0 where
   pub turns : List Turn
-  pub each : AreTurns m meaning start t turns
+  pub each : AreTurns c t turns
   pub all : length attempts ≡ length turns
-  pub made : AreAttempts m t attempts turns
-  pub records_are : records ≡ records_in_turns turns
-  pub abandoned_are : abandoned ≡ abandoned_in_turns turns
-  pub lists_are : AgreeOnEdges m t lists (lists_of m t turns)
+  pub made : AreAttempts c.map t attempts turns
+  pub records_are : did.records ≡ records_in_turns turns
+  pub abandoned_are : did.abandoned ≡ abandoned_in_turns turns
+  pub lists_are : AgreeOnEdges c.map t did.lists (lists_of c.map t turns)

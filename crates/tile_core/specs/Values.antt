@@ -34,6 +34,14 @@ pub record TileValue : Type 0 where
   pub abandoned : List Abandoned
   pub phase : Phase
 
+-- a tile, with what acts on its windows
+pub record TileWith (B : Type 0) : Type 0 where
+  pub core : TileValue
+  pub behave : B
+
+abbrev pub tile_with : {B : Type 0} → TileValue → B → TileWith B
+tile_with core behave = record { core = core; behave = behave }
+
 -- the centre of the attempt in hand
 abbrev pub centre : TileValue → Site
 centre tile = site tile.x tile.y

@@ -5,10 +5,11 @@ ghost use Rattle.tile_map.specs.Edges.{pairs_of, other_end};
 ghost use Rattle.border_cache.specs.Copies.{IsEndOf, IsGridOf};
 ghost use Rattle.tile_core.specs.declared.phase.Phase.TheVariants.{Draw, Lock, Refresh, Behave, Write, Give, Back};
 ghost use Rattle.edge_lock.specs.EndLists.{EndLists};
+ghost use Rattle.edge_lock.specs.EndValues.{SameEnd};
 ghost use Rattle.tile_core.specs.Underway.{IsSome, CanAttempt, IsFreshTile};
-ghost use Rattle.tile_core.specs.Steps.{StepsIn, over, Begins, Draws, Tries, Refreshes, Behaves, Writes, Frees, got, refused, noted};
+ghost use Rattle.tile_core.specs.Steps.{rules_of, StepsIn, over, Begins, Draws, Tries, Refreshes, Behaves, Writes, Frees, got, refused, noted};
 ghost use Rattle.tile_core.specs.Values.{atoms_of};
-ghost use Rattle.tile_core.specs.Kept.{value_of, owed, IsIn, HasRoom};
+ghost use Rattle.tile_core.specs.Kept.{value_of, at, owed, IsIn, HasRoom};
 
 use crate::clocks::{read_clocks, write_clocks};
 use crate::phase::Phase;
@@ -111,14 +112,13 @@ impl State {
 
     /// One step.
     pub(crate) fn step<D: Board, B: Behave>(&mut self, map: &Map, board: &mut D, behave: &mut B)
-        requires underway { IsSome map.now (B.after behave.old) (value_of self.old) (D.lists board.old) }
-        requires board { IsEndOf map.now self.old.number (D.tile board.old) (D.registers board.old) (D.end_of board.old) }
+        requires underway { IsSome map.now (B.after behave.old) (value_of self.old) (D.end board.old).lists }
+        requires board { IsEndOf map.now self.old.number (D.end board.old) }
         requires room { HasRoom self.old }
-        ensures step { StepsIn map.now (B.after behave.old) (D.end_of board.old) (value_of self.old) (value_of self.new) (D.lists board.old) (D.lists board.new) self.old.phase }
+        ensures step { StepsIn (rules_of map.now (B.after behave.old) (D.end board.old).end_of) (at self.old (D.end board.old)) (at self.new (D.end board.new)) self.old.phase }
         ensures room { HasRoom self.new }
         ensures meaning { B.after behave.new ≡ B.after behave.old }
-        ensures tile { D.tile board.new ≡ D.tile board.old }
-        ensures edges { (D.registers board.new ≡ D.registers board.old) × (D.end_of board.new ≡ D.end_of board.old) }
+        ensures same { SameEnd (D.end board.old) (D.end board.new) }
         ensures moved { D.moved board.old board.new }
     {
         match self.phase {
@@ -135,13 +135,12 @@ impl State {
 
     /// Frees one edge of an event.
     fn give<D: Board>(&mut self, map: &Map, board: &mut D)
-        requires phase { IsIn map.now (value_of self.old) (D.lists board.old) Give }
-        requires board { IsEndOf map.now self.old.number (D.tile board.old) (D.registers board.old) (D.end_of board.old) }
+        requires phase { IsIn map.now (value_of self.old) (D.end board.old).lists Give }
+        requires board { IsEndOf map.now self.old.number (D.end board.old) }
         requires room { HasRoom self.old }
-        ensures frees { Frees (length self.old.needs) (value_of self.old) (value_of self.new) (D.lists board.old) (D.lists board.new) }
+        ensures frees { Frees (length self.old.needs) (at self.old (D.end board.old)) (at self.new (D.end board.new)) }
         ensures room { HasRoom self.new }
-        ensures tile { D.tile board.new ≡ D.tile board.old }
-        ensures edges { (D.registers board.new ≡ D.registers board.old) × (D.end_of board.new ≡ D.end_of board.old) }
+        ensures same { SameEnd (D.end board.old) (D.end board.new) }
         ensures moved { D.moved board.old board.new }
     {
         board.give(self.needs.edge(self.next));
@@ -154,13 +153,12 @@ impl State {
 
     /// Frees one edge of an attempt that was given up.
     fn back<D: Board>(&mut self, map: &Map, board: &mut D)
-        requires phase { IsIn map.now (value_of self.old) (D.lists board.old) Back }
-        requires board { IsEndOf map.now self.old.number (D.tile board.old) (D.registers board.old) (D.end_of board.old) }
+        requires phase { IsIn map.now (value_of self.old) (D.end board.old).lists Back }
+        requires board { IsEndOf map.now self.old.number (D.end board.old) }
         requires room { HasRoom self.old }
-        ensures frees { Frees self.old.count (value_of self.old) (value_of self.new) (D.lists board.old) (D.lists board.new) }
+        ensures frees { Frees self.old.count (at self.old (D.end board.old)) (at self.new (D.end board.new)) }
         ensures room { HasRoom self.new }
-        ensures tile { D.tile board.new ≡ D.tile board.old }
-        ensures edges { (D.registers board.new ≡ D.registers board.old) × (D.end_of board.new ≡ D.end_of board.old) }
+        ensures same { SameEnd (D.end board.old) (D.end board.new) }
         ensures moved { D.moved board.old board.new }
     {
         board.give_back(self.needs.edge(self.next));
@@ -173,13 +171,12 @@ impl State {
 
     /// Tries one needed edge.
     fn lock<D: Board>(&mut self, map: &Map, board: &mut D)
-        requires phase { IsIn map.now (value_of self.old) (D.lists board.old) Lock }
-        requires board { IsEndOf map.now self.old.number (D.tile board.old) (D.registers board.old) (D.end_of board.old) }
+        requires phase { IsIn map.now (value_of self.old) (D.end board.old).lists Lock }
+        requires board { IsEndOf map.now self.old.number (D.end board.old) }
         requires room { HasRoom self.old }
-        ensures tries { Tries map.now (D.end_of board.old) (value_of self.old) (value_of self.new) (D.lists board.old) (D.lists board.new) }
+        ensures tries { Tries map.now (D.end board.old).end_of (at self.old (D.end board.old)) (at self.new (D.end board.new)) }
         ensures room { HasRoom self.new }
-        ensures tile { D.tile board.new ≡ D.tile board.old }
-        ensures edges { (D.registers board.new ≡ D.registers board.old) × (D.end_of board.new ≡ D.end_of board.old) }
+        ensures same { SameEnd (D.end board.old) (D.end board.new) }
         ensures moved { D.moved board.old board.new }
     {
         let edge = self.needs.edge(self.next);
@@ -272,13 +269,12 @@ impl State {
 
     /// Reads the clocks of the needed edges, and brings the window's cells up to date.
     fn refresh<D: Board>(&mut self, map: &Map, board: &mut D)
-        requires phase { IsIn map.now (value_of self.old) (D.lists board.old) Refresh }
-        requires board { IsEndOf map.now self.old.number (D.tile board.old) (D.registers board.old) (D.end_of board.old) }
+        requires phase { IsIn map.now (value_of self.old) (D.end board.old).lists Refresh }
+        requires board { IsEndOf map.now self.old.number (D.end board.old) }
         requires room { HasRoom self.old }
-        ensures refreshes { Refreshes (value_of self.old) (value_of self.new) (D.lists board.old) (D.lists board.new) }
+        ensures refreshes { Refreshes (at self.old (D.end board.old)) (at self.new (D.end board.new)) }
         ensures room { HasRoom self.new }
-        ensures tile { D.tile board.new ≡ D.tile board.old }
-        ensures edges { (D.registers board.new ≡ D.registers board.old) × (D.end_of board.new ≡ D.end_of board.old) }
+        ensures same { SameEnd (D.end board.old) (D.end board.new) }
         ensures moved { D.moved board.old board.new }
     {
         let greatest = read_clocks(&self.needs, u64::from(self.stamp), board);
@@ -307,13 +303,12 @@ impl State {
 
     /// Marks and publishes the window, sets the clocks and notes the event.
     fn write<D: Board>(&mut self, map: &Map, board: &mut D)
-        requires phase { IsIn map.now (value_of self.old) (D.lists board.old) Write }
-        requires board { IsEndOf map.now self.old.number (D.tile board.old) (D.registers board.old) (D.end_of board.old) }
+        requires phase { IsIn map.now (value_of self.old) (D.end board.old).lists Write }
+        requires board { IsEndOf map.now self.old.number (D.end board.old) }
         requires room { HasRoom self.old }
-        ensures writes { Writes map.now (value_of self.old) (value_of self.new) (D.lists board.old) (D.lists board.new) }
+        ensures writes { Writes map.now (at self.old (D.end board.old)) (at self.new (D.end board.new)) }
         ensures room { HasRoom self.new }
-        ensures tile { D.tile board.new ≡ D.tile board.old }
-        ensures edges { (D.registers board.new ≡ D.registers board.old) × (D.end_of board.new ≡ D.end_of board.old) }
+        ensures same { SameEnd (D.end board.old) (D.end board.new) }
         ensures moved { D.moved board.old board.new }
     {
         self.cache

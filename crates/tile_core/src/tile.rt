@@ -1,14 +1,12 @@
 //! One tile of the plane.
-ghost use Rattle.std.specs.Prelude.{◌≡◌, ◌+◌, ℕ, true, IfOk};
-ghost use Rattle.window_sites.specs.Window.{WindowValue};
+ghost use Rattle.std.specs.Prelude.{◌≡◌, ◌+◌, IsTrue, IfOk};
 ghost use Rattle.event_journal.specs.Logs.{log_of};
-ghost use Rattle.tile_map.specs.Plane.{tiles_of};
-ghost use Rattle.edge_lock.specs.EndLists.{EndLists};
+ghost use Rattle.edge_lock.specs.EndValues.{SameEnd};
 ghost use Rattle.border_cache.specs.Copies.{IsGridOf, IsEndOf};
 ghost use Rattle.tile_core.specs.declared.phase.Phase.TheVariants.{Draw, Worn};
 ghost use Rattle.tile_core.specs.Values.{atoms_of, in_hand_at};
-ghost use Rattle.tile_core.specs.Underway.{CanAttempt, IsFreshTile, IsSome, GoesOn, GoesFar, IsPlayedAt, IsPlayedAll};
-ghost use Rattle.tile_core.specs.Steps.{StepsIn, is_over};
+ghost use Rattle.tile_core.specs.Underway.{CanAttempt, IsFreshTile, IsSome, IsMade, KeepsOn, KeepsFar, IsPlayedAt, IsPlayedAll};
+ghost use Rattle.tile_core.specs.Steps.{Steps, is_over};
 
 use crate::phase::Phase;
 use crate::state::State;
@@ -25,7 +23,7 @@ use window_sites::Window;
 
 /// A tile with its copy of the sites that it holds, its attempts, and what acts on its windows.
 ///
-/// Contracts see a pair: the tile (`TileValue`), and what acts.
+/// Contracts see both: the tile (`core`, a `TileValue`), and what acts (`behave`).
 #[derive(Drop)]
 pub struct Tile<B> {
     state: State,
@@ -33,13 +31,13 @@ pub struct Tile<B> {
 }
 
 impl<B> Model for Tile<B> {
-    ghost use Rattle.tile_core.specs.Values.{TileValue};
+    ghost use Rattle.tile_core.specs.Values.{TileWith, tile_with};
 
-    ghost Value = { TileValue × B };
+    ghost Value = { TileWith B };
 
     ghost use Rattle.tile_core.specs.Kept.{value_of, HasRoom};
 
-    ghost view = { λ t. (value_of t.state, t.behave) };
+    ghost view = { λ t. tile_with (value_of t.state) t.behave };
 
     ghost invariant = { λ t. HasRoom t.state };
 }
@@ -51,17 +49,16 @@ impl<B: Behave> Tile<B> {
     /// The map is the one that the tile was made with, the board this tile's end of its edges, and
     /// what the board's lists have is what this tile's steps have made.
     pub fn advance<D: Board>(&mut self, map: &Map, board: &mut D) -> Phase
-        requires map { map.now ≡ self.old.0.cache.map }
-        requires board { IsEndOf self.old.0.cache.map self.old.0.number (D.tile board.old) (D.registers board.old) (D.end_of board.old) }
-        requires underway { IsSome self.old.0.cache.map (B.after self.old.1) self.old.0 (D.lists board.old) }
-        ensures step { StepsIn self.old.0.cache.map (B.after self.old.1) (D.end_of board.old) self.old.0 self.new.0 (D.lists board.old) (D.lists board.new) self.old.0.phase }
-        ensures on { GoesOn self.old.0.cache.map (B.after self.old.1) self.old.0 (D.lists board.old) self.new.0 (D.lists board.new) }
-        ensures phase { result ≡ self.new.0.phase }
-        ensures number { self.new.0.number ≡ self.old.0.number }
-        ensures map { self.new.0.cache.map ≡ self.old.0.cache.map }
-        ensures meaning { B.after self.new.1 ≡ B.after self.old.1 }
-        ensures tile { D.tile board.new ≡ D.tile board.old }
-        ensures edges { (D.registers board.new ≡ D.registers board.old) × (D.end_of board.new ≡ D.end_of board.old) }
+        requires map { map.now ≡ self.old.core.cache.map }
+        requires board { IsEndOf self.old.core.cache.map self.old.core.number (D.end board.old) }
+        requires underway { IsSome self.old.core.cache.map (B.after self.old.behave) self.old.core (D.end board.old).lists }
+        ensures step { Steps (B.after self.old.behave) self.old.core (D.end board.old) self.new.core (D.end board.new) }
+        ensures on { KeepsOn (B.after self.old.behave) self.old.core (D.end board.old) self.new.core (D.end board.new) }
+        ensures phase { result ≡ self.new.core.phase }
+        ensures number { self.new.core.number ≡ self.old.core.number }
+        ensures map { self.new.core.cache.map ≡ self.old.core.cache.map }
+        ensures meaning { B.after self.new.behave ≡ B.after self.old.behave }
+        ensures same { SameEnd (D.end board.old) (D.end board.new) }
         ensures moved { D.moved board.old board.new }
     {
         map.laws();
@@ -72,19 +69,18 @@ impl<B: Behave> Tile<B> {
     /// Steps until the attempt that is drawn now is over, or the tile is worn out; answers the
     /// phase. The conditions are those of `advance`, and the phase is `Draw`.
     pub fn attempt_whole<D: Board>(&mut self, map: &Map, board: &mut D) -> Phase
-        requires draw { self.old.0.phase ≡ Draw }
-        requires map { map.now ≡ self.old.0.cache.map }
-        requires board { IsEndOf self.old.0.cache.map self.old.0.number (D.tile board.old) (D.registers board.old) (D.end_of board.old) }
-        requires underway { IsSome self.old.0.cache.map (B.after self.old.1) self.old.0 (D.lists board.old) }
-        ensures far { GoesFar self.old.0.cache.map (B.after self.old.1) self.old.0 (D.lists board.old) self.new.0 (D.lists board.new) }
-        ensures taken { self.new.0.taken ≡ self.old.0.taken + 1 }
-        ensures over { is_over result ≡ true }
-        ensures phase { result ≡ self.new.0.phase }
-        ensures number { self.new.0.number ≡ self.old.0.number }
-        ensures map { self.new.0.cache.map ≡ self.old.0.cache.map }
-        ensures meaning { B.after self.new.1 ≡ B.after self.old.1 }
-        ensures tile { D.tile board.new ≡ D.tile board.old }
-        ensures edges { (D.registers board.new ≡ D.registers board.old) × (D.end_of board.new ≡ D.end_of board.old) }
+        requires draw { self.old.core.phase ≡ Draw }
+        requires map { map.now ≡ self.old.core.cache.map }
+        requires board { IsEndOf self.old.core.cache.map self.old.core.number (D.end board.old) }
+        requires underway { IsSome self.old.core.cache.map (B.after self.old.behave) self.old.core (D.end board.old).lists }
+        ensures far { KeepsFar (B.after self.old.behave) self.old.core (D.end board.old) self.new.core (D.end board.new) }
+        ensures taken { self.new.core.taken ≡ self.old.core.taken + 1 }
+        ensures over { IsTrue (is_over result) }
+        ensures phase { result ≡ self.new.core.phase }
+        ensures number { self.new.core.number ≡ self.old.core.number }
+        ensures map { self.new.core.cache.map ≡ self.old.core.cache.map }
+        ensures meaning { B.after self.new.behave ≡ B.after self.old.behave }
+        ensures same { SameEnd (D.end board.old) (D.end board.new) }
         ensures moved { D.moved board.old board.new }
     {
         let mut phase = self.advance(map, board);
@@ -96,21 +92,21 @@ impl<B: Behave> Tile<B> {
 
     /// The phase: what the next step does.
     pub fn phase(&self) -> Phase
-        ensures { result ≡ self.now.0.phase }
+        ensures { result ≡ self.now.core.phase }
     {
         self.state.phase
     }
 
     /// The tile's number.
     pub fn number(&self) -> u32
-        ensures { result ≡ self.now.0.number }
+        ensures { result ≡ self.now.core.number }
     {
         self.state.number
     }
 
     /// How many attempts were drawn.
     pub fn taken(&self) -> u64
-        ensures { result ≡ self.now.0.taken }
+        ensures { result ≡ self.now.core.taken }
     {
         self.state.taken
     }
@@ -119,7 +115,7 @@ impl<B: Behave> Tile<B> {
     /// and `Back` the attempt has its entry, and the site is still the tile's until the next one is
     /// drawn.
     pub fn in_hand(&self) -> Option<(u32, u32)>
-        ensures { result ≡ in_hand_at self.now.0.phase self.now.0.x self.now.0.y }
+        ensures { result ≡ in_hand_at self.now.core.phase self.now.core.x self.now.core.y }
     {
         match self.state.phase {
             Phase::Draw | Phase::Finished => None,
@@ -129,14 +125,14 @@ impl<B: Behave> Tile<B> {
 
     /// The events so far, in order.
     pub fn records(&self) -> &[Record]
-        ensures { result.now ≡ self.now.0.records }
+        ensures { result.now ≡ self.now.core.records }
     {
         self.state.records.as_slice()
     }
 
     /// The attempts that were given up so far, in order.
     pub fn abandoned(&self) -> &[Abandoned]
-        ensures { result.now ≡ self.now.0.abandoned }
+        ensures { result.now ≡ self.now.core.abandoned }
     {
         self.state.abandoned.as_slice()
     }
@@ -145,14 +141,14 @@ impl<B: Behave> Tile<B> {
     /// at the end all its attempts, and if it is worn out those that it drew, the last of which
     /// still has its edges. It does nothing.
     pub fn laws(&self)
-        ensures draw { IsPlayedAt Draw self.now.0 }
-        ensures worn { IsPlayedAt Worn self.now.0 }
-        ensures end { IsPlayedAll self.now.0 }
+        ensures draw { IsPlayedAt Draw self.now.core }
+        ensures worn { IsPlayedAt Worn self.now.core }
+        ensures end { IsPlayedAll self.now.core }
     {}
 
     /// The copy of the sites that the tile holds.
     pub fn cache(&self) -> &Cache
-        ensures { result.now ≡ self.now.0.cache }
+        ensures { result.now ≡ self.now.core.cache }
     {
         &self.state.cache
     }
@@ -173,8 +169,8 @@ impl<B: Behave + Drop> Tile<B> {
     ) -> Result<Tile<B>, NoMemory>
         requires start { IsGridOf map.now start.now }
         requires attempts { CanAttempt map.now tile attempts }
-        ensures fresh { IfOk result (λ t. IsFreshTile map.now tile (atoms_of start.now) attempts t.0) }
-        ensures acts { IfOk result (λ t. t.1 ≡ behave) }
+        ensures fresh { IfOk result (λ t. IsFreshTile map.now tile (atoms_of start.now) attempts t.core) }
+        ensures acts { IfOk result (λ t. t.behave ≡ behave) }
     {
         let state = State::new(alloc, map, tile, start, attempts)?;
         Ok(Tile { state, behave })
@@ -183,8 +179,8 @@ impl<B: Behave + Drop> Tile<B> {
     /// The tile's events and abandoned attempts. What the lists of its end of each edge have is
     /// what its steps have made; of which board they are does not matter here.
     pub fn into_log(self) -> TileLog
-        requires { (meaning : WindowValue → ℕ → WindowValue) × (lists : ℕ → EndLists) × IsSome self.0.cache.map meaning self.0 lists }
-        ensures { result ≡ log_of self.0.number self.0.records self.0.abandoned }
+        requires { IsMade self.core.cache.map self.core }
+        ensures { result ≡ log_of self.core.number self.core.records self.core.abandoned }
     {
         let Tile { state, behave: _ } = self;
         TileLog::new(state.number, state.records, state.abandoned)

@@ -1,4 +1,4 @@
--- The lists that a map is made of, one more tile being looked at.
+-- The lists that a map is made of: what each gains from the next tile.
 use Rattle.std.proofs.Common.{ℕ, ◌≡◌, ◌+◌, Bool, true, false, List, [], ◌∷◌, ◌++◌, refl, sym, ap, ◌∙◌, arith, cond}
 use Rattle.std.specs.Prelude.{filter, map, flat_map}
 use Rattle.std.specs.List.{range_with_len}

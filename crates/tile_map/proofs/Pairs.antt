@@ -17,7 +17,7 @@ use Rattle.list_laws.proofs.Tests.{both, together}
 use Rattle.tile_map.proofs.Spans.{le_test, test_le, times_more, held_span, held_parts}
 use Rattle.list_laws.proofs.Members.{In, in_filter, filter_in, in_map, map_in, in_flat, flat_in, in_range, range_in, in_get, get_in, InOrder, order-filter, order-flat, order-map, order-range, order-pairs}
 
--- parts of one size meet, once one is widened, if their numbers are at most 1 apart
+-- parts of equal size are the same or touch if their numbers are at most 1 apart
 pub meeting_near : (size a b : ℕ) → 1 ≤ size → is_meeting size a b ≡ (nat_le a (b + 1) && nat_le b (a + 1))
 meeting_near size a b some = λ i. one size a (b + 1) some i && one size b (a + 1) some i
   where

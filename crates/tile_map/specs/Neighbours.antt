@@ -1,6 +1,7 @@
 -- Neighbours by the columns and rows of the tiles, tx in a row.
 use Rattle.std.specs.Prelude.{ℕ, ◌+◌, ◌/◌, ◌%◌, List, Bool, ◌&&◌, nat_le, nat_lt, map, filter, flat_map}
 use Rattle.std.specs.List.{range_with_len}
+use Rattle.tile_map.specs.Plane.{MapValue, tiles_of, is_on}
 
 -- whether t is the lower of two tiles whose columns and rows differ by at most 1
 abbrev pub are_near : ℕ → ℕ → ℕ → Bool
@@ -16,3 +17,7 @@ near_from on tx n t = map (λ u. (t, u)) (filter (are_joined on tx t) (range_wit
 
 abbrev pub near_pairs : (ℕ → Bool) → ℕ → ℕ → List (ℕ × ℕ)
 near_pairs on tx n = flat_map (near_from on tx n) (range_with_len 0 n)
+
+-- the pairs of a tile of the plane with its neighbours that have greater numbers
+abbrev pub near_above : MapValue → ℕ → List (ℕ × ℕ)
+near_above m t = near_from (is_on m) m.tx (tiles_of m) t

@@ -66,15 +66,15 @@ is_live m s = in_plane m s && is_on m (owner_of m s)
 abbrev pub sites_of : MapValue → List Site
 sites_of m = flat_map (λ y. map (λ x. site x y) (range_with_len 0 (m.tx * m.w))) (range_with_len 0 (m.ty * m.h))
 
--- whether x is in the a-th of parts of one size
+-- a line is cut into parts of equal size: whether x lies in part a
 abbrev pub is_inside : ℕ → ℕ → ℕ → Bool
 is_inside size a x = nat_le (a * size) x && nat_lt x ((a + 1) * size)
 
--- whether x is at most 4 outside the a-th of parts of one size
+-- whether x lies in part a or at most 4 beside it
 abbrev pub is_around : ℕ → ℕ → ℕ → Bool
 is_around size a x = nat_le (a * size) (x + 4) && nat_lt x ((a + 1) * size + 4)
 
--- whether the a-th and the b-th of parts of one size meet, once one is widened by 1 on both sides
+-- whether parts a and b are the same or touch
 abbrev pub is_meeting : ℕ → ℕ → ℕ → Bool
 is_meeting size a b = nat_le (a * size) ((b + 1) * size) && nat_le (b * size) ((a + 1) * size)
 

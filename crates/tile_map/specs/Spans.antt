@@ -2,7 +2,7 @@
 use Rattle.std.specs.Prelude.{ℕ, ◌+◌, ◌-◌, ◌*◌, ◌/◌, ◌%◌, min, max, Bool, ◌&&◌, nat_le, nat_lt, Option, Some, None, if◌then◌else◌}
 use Rattle.tile_map.specs.Plane.{MapValue}
 
--- the first that part a of parts of one size holds, and one more than the last, of n in all
+-- a line is cut into n parts of equal size: the first place that part a holds, and one more than the last
 abbrev pub low : ℕ → ℕ → ℕ
 low size a = a * size - 4
 

@@ -4,7 +4,7 @@ ghost use Rattle.std.specs.Prelude.{◌≡◌, ℕ, ◌^◌, ◌<◌, ◌≤◌,
 ghost use Rattle.std.specs.List.{range_with_len};
 ghost use Rattle.tile_map.specs.Plane.{tiles_of, is_on};
 ghost use Rattle.tile_map.specs.Edges.{is_in_pair, edges_among};
-ghost use Rattle.tile_map.specs.Neighbours.{near_from, near_pairs};
+ghost use Rattle.tile_map.specs.Neighbours.{near_above, near_pairs};
 
 use crate::needs::Needs;
 use crate::plane::Plane;
@@ -26,7 +26,7 @@ pub(crate) fn pairs(alloc: Global, plane: &Plane) -> Result<Vec<(u32, u32)>, NoM
 
 /// Appends the edges of a lower tile.
 fn push_pairs(pairs: &mut Vec<(u32, u32)>, plane: &Plane, lower: u32) -> Result<(), NoMemory>
-    ensures { OnOk result (pairs.new.items ≡ pairs.old.items ++ near_from (is_on plane.now) plane.now.tx (tiles_of plane.now) lower) }
+    ensures { OnOk result (pairs.new.items ≡ pairs.old.items ++ near_above plane.now lower) }
 {
     let tiles = plane.tiles();
     for higher in 0..tiles {

@@ -12,7 +12,8 @@ pub(crate) struct Span {
 }
 
 impl Span {
-    /// What lies in one of `parts` adjacent parts of one size, or at most 4 outside it.
+    /// A line is cut into `parts` parts of equal size: what lies in one of them, or at most 4 beside
+    /// it.
     pub(crate) fn around(part: u32, size: u32, parts: u32) -> Span
         requires one { part < parts }
         requires few { parts ≤ 8 }

@@ -11,7 +11,7 @@ use Rattle.tile_map.specs.Plane.{MapValue, IsMap, tiles_of}
 use Rattle.tile_map.specs.Edges.{pairs_of, low_end, high_end, has_end}
 use Rattle.cell_grid.specs.Grid.{GridValue}
 use Rattle.draw_stream.specs.declared.attempt.Attempt.{Attempt}
-use Rattle.draw_stream.specs.Plans.{PlanValue, attempts}
+use Rattle.draw_stream.specs.Plans.{attempts}
 use Rattle.edge_lock.specs.History.{site_count, IsEdgeHistory}
 use Rattle.edge_lock.specs.declared.history.Refusal.{Refusal}
 use Rattle.edge_lock.specs.EndLists.{EndLists, end_lists}
@@ -19,11 +19,11 @@ use Rattle.edge_lock.specs.Passes.{ClosedValue}
 use Rattle.edge_lock.specs.SharedEnds.{pass_lists}
 use Rattle.edge_lock.proofs.Counts.{sites_back}
 use Rattle.border_cache.specs.Windows.{end_at, sites_on}
-use Rattle.tile_core.specs.Values.{TileValue, atoms_of}
-use Rattle.tile_core.specs.Turns.{AgreeOnEdges}
+use Rattle.tile_core.specs.Values.{TileWith, TileValue, atoms_of}
+use Rattle.tile_core.specs.Turns.{common, AgreeOnEdges}
 use Rattle.tile_core.proofs.Boards.{end_known}
-use Rattle.serial_order.specs.Scene.{EdgeHistory, no_history, history_at, end_lists_of, lists_at, HasEnded}
-use Rattle.serial_order.specs.Words.{AreEdgeWords, closed_history, closed_histories, closed_counts, no_closed, closed_at}
+use Rattle.serial_order.specs.Scene.{Setting, common_in, EdgeHistory, no_history, history_at, end_lists_of, lists_at, HasEnded}
+use Rattle.serial_order.specs.Words.{closed_words, AreEdgeWords, closed_history, closed_histories, no_closed, closed_at}
 use Rattle.serial_order.specs.Outcomes.{values_of}
 use Rattle.edge_lock.specs.Passes.{EdgeValue, PassValue}
 use Rattle.tile_threads.specs.Passes.{passes_of, IsClosedEdge, AreClosed}
@@ -40,7 +40,7 @@ module _ (m : MapValue) (lists : ℕ → ℕ → EndLists) (closed : List Closed
   edge_is : (e : ℕ) → e < length (pairs_of m) → IsClosedEdge m lists e (closed_at closed e)
   edge_is e lt = let known = k.known in k.each e (omega (arith, lt, known))
 
-  pub words_are : AreEdgeWords m (closed_histories closed) (closed_counts closed)
+  pub words_are : AreEdgeWords m (closed_words closed)
   words_are = record {
     known = known;
     registers = λ e lt. (edge_is e lt).registers;
@@ -73,7 +73,7 @@ module _ (m : MapValue) (lists : ℕ → ℕ → EndLists) (closed : List Closed
       ap (λ b. end_lists_of (cond {A = ℕ} b 0 1) (closed_history (closed_at closed e))) miss ∙ (high_lists e lt ∙ ap (λ n. lists n e) other))
 
 -- what a tile has played does not change where the lists of its own edges are the same
-ended_agrees : (m : MapValue) (meaning : WindowValue → ℕ → WindowValue) (start : GridValue) (given : List Attempt) (tile : TileValue) (a b : ℕ → EndLists) → AgreeOnEdges m tile.number b a → HasEnded m meaning (atoms_of start) given a tile → HasEnded m meaning (atoms_of start) given b tile
+ended_agrees : (m : MapValue) (meaning : WindowValue → ℕ → WindowValue) (start : GridValue) (given : List Attempt) (tile : TileValue) (a b : ℕ → EndLists) → AgreeOnEdges m tile.number b a → HasEnded (common m meaning (atoms_of start)) given a tile → HasEnded (common m meaning (atoms_of start)) given b tile
 ended_agrees m meaning start given tile a b same h = record {
   made = h.made;
   rest = h.rest;
@@ -91,18 +91,18 @@ ended_agrees m meaning start given tile a b same h = record {
   cells = h.cells;
 }
 
-module _ {B : Type 0} (after : B → WindowValue → ℕ → WindowValue) (m : MapValue) (valid : IsMap m) (meaning : WindowValue → ℕ → WindowValue) (start : GridValue) (plan : PlanValue) (fresh tiles : List (TileValue × B)) (f : AreFresh after m meaning start plan fresh)
-    (edges : List EdgeValue) (passes : List (List PassValue)) (r : HaveReturned m meaning start plan edges tiles passes) (closed : List ClosedValue) (k : AreClosed m (λ t. pass_lists (passes_of passes t)) closed)
+module _ {B : Type 0} (after : B → WindowValue → ℕ → WindowValue) (m : MapValue) (valid : IsMap m) (g : Setting) (fresh tiles : List (TileWith B)) (f : AreFresh after m g fresh)
+    (edges : List EdgeValue) (passes : List (List PassValue)) (r : HaveReturned m g edges tiles passes) (closed : List ClosedValue) (k : AreClosed m (λ t. pass_lists (passes_of passes t)) closed)
   where
-    tile_at : (t : ℕ) (v : TileValue) → slice_get (values_of tiles) t ≡ Some v → (x : TileValue × B) × (slice_get tiles t ≡ Some x) × (x.0 ≡ v)
+    tile_at : (t : ℕ) (v : TileValue) → slice_get (values_of tiles) t ≡ Some v → (x : TileWith B) × (slice_get tiles t ≡ Some x) × (x.core ≡ v)
     tile_at t v is = go tiles t is
       where
-        go : (xs : List (TileValue × B)) (t : ℕ) → slice_get (values_of xs) t ≡ Some v → (x : TileValue × B) × (slice_get xs t ≡ Some x) × (x.0 ≡ v)
+        go : (xs : List (TileWith B)) (t : ℕ) → slice_get (values_of xs) t ≡ Some v → (x : TileWith B) × (slice_get xs t ≡ Some x) × (x.core ≡ v)
         go [] t is = absurd (cc is)
         go (x ∷ xs) zero is = (x, refl, cc is)
         go (x ∷ xs) (suc t) is = go xs t is
 
-    pub has_run : HasRun m meaning start plan tiles closed
+    pub has_run : HasRun m g tiles closed
     has_run = record {
       made = r.made;
       words = words_are m (λ t. pass_lists (passes_of passes t)) closed k;
@@ -112,16 +112,16 @@ module _ {B : Type 0} (after : B → WindowValue → ℕ → WindowValue) (m : M
         fits = f.fits;
         plan = f.plan_is;
         lists = f.lists;
-        count = length-map tiles (λ (x : TileValue × B). x.0) ∙ r.count;
-        numbers = λ t v is. let g = tile_at t v is in ap (λ (y : TileValue). y.number) (sym g.2) ∙ r.numbers t g.0 g.1;
+        count = length-map tiles (λ (x : TileWith B). x.core) ∙ r.count;
+        numbers = λ t v is. let q = tile_at t v is in ap (λ (y : TileValue). y.number) (sym q.2) ∙ r.numbers t q.0 q.1;
         ended = λ t v is.
-            let g = tile_at t v is in
-            let lt = slice_get_within tiles t g.0 g.1 in
+            let q = tile_at t v is in
+            let lt = slice_get_within tiles t q.0 q.1 in
             let inside : t < tiles_of m = let c = r.count in omega (arith, lt, c) in
-            subst (λ (y : TileValue). HasEnded m meaning (atoms_of start) (attempts plan t) (lists_at m (closed_histories closed) t) y) g.2
-            (ended_agrees m meaning start (attempts plan t) g.0.0 (pass_lists (passes_of passes t)) (lists_at m (closed_histories closed) t)
-            (subst (λ n. (e : ℕ) → has_end m n e ≡ true → lists_at m (closed_histories closed) t e ≡ pass_lists (passes_of passes t) e) (sym (r.numbers t g.0 g.1)) (lists_same m (λ t. pass_lists (passes_of passes t)) closed k t inside))
-            (r.ended t g.0 g.1));
+            subst (λ (y : TileValue). HasEnded (common_in m g) (attempts g.plan t) (lists_at m (closed_histories closed) t) y) q.2
+            (ended_agrees m g.meaning g.start (attempts g.plan t) q.0.core (pass_lists (passes_of passes t)) (lists_at m (closed_histories closed) t)
+            (subst (λ n. (e : ℕ) → has_end m n e ≡ true → lists_at m (closed_histories closed) t e ≡ pass_lists (passes_of passes t) e) (sym (r.numbers t q.0 q.1)) (lists_same m (λ t. pass_lists (passes_of passes t)) closed k t inside))
+            (r.ended t q.0 q.1));
         known = known m (λ t. pass_lists (passes_of passes t)) closed k;
         histories = (words_are m (λ t. pass_lists (passes_of passes t)) closed k).histories;
       };

@@ -15,7 +15,7 @@ use Rattle.edge_lock.proofs.LastHolds.{is_held-snoc, change_last-snoc}
 use Rattle.border_cache.specs.Windows.{has}
 use Rattle.tile_core.specs.declared.phase.Phase.TheVariants.{Finished, Worn as WornPhase}
 use Rattle.tile_core.specs.Values.{TileValue}
-use Rattle.tile_core.specs.Turns.{Turn, Worn, Wins, Loses, Wears, Wearless, AreTurns, AreAttempts, HasPlayed, AgreeOnEdges, lists_of, with_more, one_if, records_in_turns, abandoned_in_turns, cells_of}
+use Rattle.tile_core.specs.Turns.{made_of, common, Turn, Worn, Wins, Loses, Wears, Wearless, AreTurns, AreAttempts, HasPlayed, AgreeOnEdges, lists_of, with_more, one_if, records_in_turns, abandoned_in_turns, cells_of}
 use Rattle.tile_core.proofs.Lists.{free_of}
 use Rattle.serial_order.specs.Scene.{WearsLast, IsStopped, HasEnded}
 use Rattle.serial_order.specs.Boards.{HasStopped}
@@ -40,7 +40,7 @@ abbrev shut : Worn → Worn
 shut w = record { site = w.site; hold = λ e. closed_hold (w.hold e) }
 
 module _ (m : MapValue) (meaning : WindowValue → ℕ → WindowValue) (start : Site → AtomValue) (t : ℕ) (a b : ℕ → EndLists) (back : AgreeOnEdges m t b (λ e. let_go (a e))) where
-  worn_lists : (w : Worn) (older : List Turn) → AreTurns m meaning start t older → Wearless older → AgreeOnEdges m t a (lists_of m t (Wears w ∷ older)) → AgreeOnEdges m t b (lists_of m t (Wears (shut w) ∷ older))
+  worn_lists : (w : Worn) (older : List Turn) → AreTurns (common m meaning start) t older → Wearless older → AgreeOnEdges m t a (lists_of m t (Wears w ∷ older)) → AgreeOnEdges m t b (lists_of m t (Wears (shut w) ∷ older))
   worn_lists w older each unworn was e own = back e own ∙ (ap let_go (was e own) ∙ go (has e (needs_of m t w.site)))
     where
       past : EndLists
@@ -50,16 +50,16 @@ module _ (m : MapValue) (meaning : WindowValue → ℕ → WindowValue) (start :
       go true = one_back (w.hold e) past (w.hold e).is_open refl
       go false = none_back past (free_of m meaning start t older e each unworn)
 
-  unworn_lists : (turns : List Turn) → AreTurns m meaning start t turns → Wearless turns → AgreeOnEdges m t a (lists_of m t turns) → AgreeOnEdges m t b (lists_of m t turns)
+  unworn_lists : (turns : List Turn) → AreTurns (common m meaning start) t turns → Wearless turns → AgreeOnEdges m t a (lists_of m t turns) → AgreeOnEdges m t b (lists_of m t turns)
   unworn_lists turns each unworn was e own = back e own ∙ (ap let_go (was e own) ∙ let_go_none (lists_of m t turns e) (free_of m meaning start t turns e each unworn))
 
-  worn_played : (made : List Attempt) (records : List Record) (abandoned : List Abandoned) (p : HasPlayed m meaning start t made records abandoned a) (turns : List Turn) → p.turns ≡ turns → WearsLast turns
-      → (q : HasPlayed m meaning start t made records abandoned b) × WearsLast q.turns × ((s : Site) → cells_of m start q.turns s ≡ cells_of m start turns s)
+  worn_played : (made : List Attempt) (records : List Record) (abandoned : List Abandoned) (p : HasPlayed (common m meaning start) t made (made_of records abandoned a)) (turns : List Turn) → p.turns ≡ turns → WearsLast turns
+      → (q : HasPlayed (common m meaning start) t made (made_of records abandoned b)) × WearsLast q.turns × ((s : Site) → cells_of m start q.turns s ≡ cells_of m start turns s)
   worn_played made records abandoned p [] is w = absurd w
   worn_played made records abandoned p (Wins x ∷ older) is w = absurd w
   worn_played made records abandoned p (Loses x ∷ older) is w = absurd w
   worn_played made records abandoned p (Wears x ∷ older) is w =
-      let each = subst (AreTurns m meaning start t) is p.each in
+      let each = subst (AreTurns (common m meaning start) t) is p.each in
       let attempts = subst (AreAttempts m t made) is p.made in (
         record {
           turns = Wears (shut x) ∷ older;
@@ -74,8 +74,8 @@ module _ (m : MapValue) (meaning : WindowValue → ℕ → WindowValue) (start :
         λ s. refl,
       )
 
-module _ (m : MapValue) (meaning : WindowValue → ℕ → WindowValue) (start : Site → AtomValue) (given : List Attempt) (a b : ℕ → EndLists) (tile : TileValue) (back : AgreeOnEdges m tile.number b (λ e. let_go (a e))) (h : HasEnded m meaning start given a tile) where
-  finished_back : tile.phase ≡ Finished → HasEnded m meaning start given b tile
+module _ (m : MapValue) (meaning : WindowValue → ℕ → WindowValue) (start : Site → AtomValue) (given : List Attempt) (a b : ℕ → EndLists) (tile : TileValue) (back : AgreeOnEdges m tile.number b (λ e. let_go (a e))) (h : HasEnded (common m meaning start) given a tile) where
+  finished_back : tile.phase ≡ Finished → HasEnded (common m meaning start) given b tile
   finished_back is =
       let s = subst (λ p. IsStopped p h.rest h.played.turns) is h.ends in
       record {
@@ -95,7 +95,7 @@ module _ (m : MapValue) (meaning : WindowValue → ℕ → WindowValue) (start :
         cells = h.cells;
       }
 
-  worn_back : tile.phase ≡ WornPhase → HasEnded m meaning start given b tile
+  worn_back : tile.phase ≡ WornPhase → HasEnded (common m meaning start) given b tile
   worn_back is =
       let s = subst (λ p. IsStopped p h.rest h.played.turns) is h.ends in
       let q = worn_played m meaning start tile.number a b back h.made tile.records tile.abandoned h.played h.played.turns refl s in
@@ -108,5 +108,5 @@ module _ (m : MapValue) (meaning : WindowValue → ℕ → WindowValue) (start :
         cells = λ site held. h.cells site held ∙ sym (q.2 site);
       }
 
-  pub ended_back : HasStopped tile → HasEnded m meaning start given b tile
+  pub ended_back : HasStopped tile → HasEnded (common m meaning start) given b tile
   ended_back stopped = ⊎_elim finished_back worn_back stopped

@@ -8,7 +8,7 @@ use Rattle.edge_lock.specs.Passes.{PassValue}
 use Rattle.edge_lock.specs.SharedEnds.{SharedEndValue, SamePasses, pass_lists}
 use Rattle.tile_core.specs.Turns.{AgreeOnEdges}
 use Rattle.tile_map.specs.Plane.{MapValue}
-use Rattle.tile_core.specs.Values.{TileValue}
+use Rattle.tile_core.specs.Values.{TileWith}
 use Rattle.tile_threads.specs.declared.worker.Worker.{Worker}
 use Rattle.tile_threads.specs.Passes.{passes_of, let_go}
 use Rattle.tile_threads.specs.Whole.{CameHome, worker_of, workers_of}
@@ -16,7 +16,7 @@ use Rattle.tile_threads.specs.Whole.{CameHome, worker_of, workers_of}
 -- these passes are of the first workers
 pub record HaveComeSoFar {B : Type 0} (m : MapValue) (workers : List (Worker B SharedEndValue)) (passes : List (List PassValue)) : Type 0 where
   pub few : length passes ≤ length workers
-  pub each : (t : ℕ) (none : Worker B SharedEndValue) → t < length passes → CameHome m (slice_index_or workers t none).tile.0.number (slice_index_or workers t none).end.passes (passes_of passes t)
+  pub each : (t : ℕ) (none : Worker B SharedEndValue) → t < length passes → CameHome m (slice_index_or workers t none).tile.core.number (slice_index_or workers t none).end.passes (passes_of passes t)
 
 last_passes : (ps : List (List PassValue)) (p : List PassValue) → passes_of (ps ++ p ∷ []) (length ps) ≡ p
 last_passes [] p = refl
@@ -24,17 +24,17 @@ last_passes (q ∷ ps) p = last_passes ps p
 
 -- one more has come home
 pub comes_home : {B : Type 0} (m : MapValue) (ws : List (Worker B SharedEndValue)) (ps : List (List PassValue)) (w : Worker B SharedEndValue) (p : List PassValue) → HaveComeSoFar m ws ps → length ps < length ws → ((none : Worker B SharedEndValue) → get_or ws (length ps) none ≡ w)
-    → CameHome m w.tile.0.number w.end.passes p → HaveComeSoFar m ws (ps ++ p ∷ [])
+    → CameHome m w.tile.core.number w.end.passes p → HaveComeSoFar m ws (ps ++ p ∷ [])
 comes_home {B} m ws ps w p h lt here came = record {
   few = omega (arith, lt, length-append ps (p ∷ []));
   each = λ t none inside. dite (ℕ_discrete t (length ps))
-      (λ is. subst (λ j. CameHome m (get_or ws j none).tile.0.number (get_or ws j none).end.passes (passes_of (ps ++ p ∷ []) j)) (sym is)
-      (subst (λ (y : Worker B SharedEndValue). CameHome m y.tile.0.number y.end.passes (passes_of (ps ++ p ∷ []) (length ps))) (sym (here none)) (subst (CameHome m w.tile.0.number w.end.passes) (sym (last_passes ps p)) came)))
-      (λ older. let old : t < length ps = omega (arith, inside, older, length-append ps (p ∷ [])) in subst (CameHome m (get_or ws t none).tile.0.number (get_or ws t none).end.passes) (sym (get_or_append_left ps (p ∷ []) [] t old)) (h.each t none old));
+      (λ is. subst (λ j. CameHome m (get_or ws j none).tile.core.number (get_or ws j none).end.passes (passes_of (ps ++ p ∷ []) j)) (sym is)
+      (subst (λ (y : Worker B SharedEndValue). CameHome m y.tile.core.number y.end.passes (passes_of (ps ++ p ∷ []) (length ps))) (sym (here none)) (subst (CameHome m w.tile.core.number w.end.passes) (sym (last_passes ps p)) came)))
+      (λ older. let old : t < length ps = omega (arith, inside, older, length-append ps (p ∷ [])) in subst (CameHome m (get_or ws t none).tile.core.number (get_or ws t none).end.passes) (sym (get_or_append_left ps (p ∷ []) [] t old)) (h.each t none old));
 }
 
 -- one more was sent out
-pub sent_more : {B : Type 0} (done new all : List (Worker B SharedEndValue)) (xs xs' : List (TileValue × B)) (ps ps' : List (List PassValue)) (x : TileValue × B) (p : List PassValue) (w : Worker B SharedEndValue) → xs ≡ x ∷ xs' → ps ≡ p ∷ ps' → w ≡ worker_of x p → new ≡ done ++ w ∷ []
+pub sent_more : {B : Type 0} (done new all : List (Worker B SharedEndValue)) (xs xs' : List (TileWith B)) (ps ps' : List (List PassValue)) (x : TileWith B) (p : List PassValue) (w : Worker B SharedEndValue) → xs ≡ x ∷ xs' → ps ≡ p ∷ ps' → w ≡ worker_of x p → new ≡ done ++ w ∷ []
     → done ++ workers_of xs ps ≡ all → new ++ workers_of xs' ps' ≡ all
 sent_more done new all xs xs' ps ps' x p w isx isp isw is so_far =
     ap (λ l. l ++ workers_of xs' ps') is ∙ (append_assoc done (w ∷ []) (workers_of xs' ps') ∙ ((λ i. done ++ isw i ∷ workers_of xs' ps') ∙ ((λ i. done ++ workers_of (sym isx i) (sym isp i)) ∙ so_far)))

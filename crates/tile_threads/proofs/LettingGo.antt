@@ -18,8 +18,8 @@ use Rattle.border_cache.specs.Copies.{IsCentre}
 use Rattle.border_cache.proofs.Needs.{Rises, rises, has_more, has_at, not_yet}
 use Rattle.tile_core.specs.declared.phase.Phase.TheVariants.{Finished, Worn}
 use Rattle.tile_core.specs.Values.{TileValue, centre}
-use Rattle.tile_core.specs.Turns.{AgreeOnEdges, lists_of, with_more, one_if}
-use Rattle.tile_core.specs.Underway.{IsUnderway, InPhase}
+use Rattle.tile_core.specs.Turns.{common, AgreeOnEdges, lists_of, with_more, one_if}
+use Rattle.tile_core.specs.Underway.{tile_at, IsUnderway, InPhase}
 use Rattle.tile_core.proofs.Lists.{free_of, held_more, quiet_more, eqb_of}
 use Rattle.tile_threads.specs.Passes.{let_go}
 
@@ -88,11 +88,11 @@ let_go_free l = go (is_last_open l.holds) refl
 pub let_go_none : (l : EndLists) → IsFree l → let_go l ≡ l
 let_go_none l f = ap (λ y. if y then after_give l else l) f
 
-module _ (m : MapValue) (meaning : WindowValue → ℕ → WindowValue) (start : Site → AtomValue) (attempts : List Attempt) (tile : TileValue) (a : ℕ → EndLists) (u : IsUnderway m meaning start attempts tile a) where
+module _ (m : MapValue) (meaning : WindowValue → ℕ → WindowValue) (start : Site → AtomValue) (attempts : List Attempt) (tile : TileValue) (a : ℕ → EndLists) (u : IsUnderway (common m meaning start) attempts tile a) where
   -- a finished tile has no edge
   pub finished_free : tile.phase ≡ Finished → (e : ℕ) → has_end m tile.number e ≡ true → IsFree (a e)
   finished_free is e own =
-      let h = subst (InPhase m meaning start attempts u.turns tile a) is u.hand in
+      let h = subst (InPhase (common m meaning start) attempts u.turns (tile_at tile a)) is u.hand in
       subst IsFree (sym (h.2 e own)) (free_of m meaning start tile.number u.turns e u.each u.unworn)
 
   -- a worn tile has the edges of its last attempt
@@ -105,8 +105,8 @@ module _ (m : MapValue) (meaning : WindowValue → ℕ → WindowValue) (start :
     free = λ e own q. subst IsFree (sym (h.1.1 e own ∙ ap (λ x. with_more (one_if x (hold e)) [] (past e)) q)) (ap is_last_open (append-nil (past e).holds) ∙ free_of m meaning start tile.number u.turns e u.each u.unworn);
   }
     where
-      h : InPhase m meaning start attempts u.turns tile a Worn
-      h = subst (InPhase m meaning start attempts u.turns tile a) is u.hand
+      h : InPhase (common m meaning start) attempts u.turns (tile_at tile a) Worn
+      h = subst (InPhase (common m meaning start) attempts u.turns (tile_at tile a)) is u.hand
 
       past : ℕ → EndLists
       past e = lists_of m tile.number u.turns e
@@ -118,10 +118,10 @@ module _ (m : MapValue) (meaning : WindowValue → ℕ → WindowValue) (start :
       here e q = h.1.1 e (u.needs.ends e q) ∙ ap (λ x. with_more (one_if x (hold e)) [] (past e)) q
 
   pub worn_needs : tile.phase ≡ Worn → tile.needs ≡ needs_of m tile.number (centre tile)
-  worn_needs is = (subst (InPhase m meaning start attempts u.turns tile a) is u.hand).0.needs
+  worn_needs is = (subst (InPhase (common m meaning start) attempts u.turns (tile_at tile a)) is u.hand).0.needs
 
   pub worn_centre : tile.phase ≡ Worn → IsCentre m tile.number (centre tile)
-  worn_centre is = (subst (InPhase m meaning start attempts u.turns tile a) is u.hand).0.centre_is
+  worn_centre is = (subst (InPhase (common m meaning start) attempts u.turns (tile_at tile a)) is u.hand).0.centre_is
 
 -- a live site lies in the plane
 pub live_inside : (m : MapValue) (s : Site) → is_live m s ≡ true → (s.x < m.tx * m.w) × (s.y < m.ty * m.h)

@@ -55,7 +55,7 @@ module _ (m : MapValue) (edges : List EdgeValue) (a : AreEdges m edges) (t : ℕ
       (passes_stand ks ps (λ j q. known j (inr q)) rest)
 
   -- the tile has the edges that a list of its passes is of
-  module _ (n : ℕ) (few : n ≤ length edges) (ps : List PassValue) (h : HasPasses m edges 0 n t ps) where
+  module _ (n : ℕ) (few : n ≤ length edges) (ps : List PassValue) (h : HasPasses m edges t (own_edges m t 0 n) ps) where
     own_known : Known (own_edges m t 0 n)
     own_known k i = let r = range_in 0 n k (filter_in (has_end m t) (range_with_len 0 n) k i).0 in let lt = r.1 in omega (arith, lt, few)
 

@@ -34,13 +34,13 @@ module _ (m : MapValue) (n : ℕ) (es : List EdgeValue) (x : EdgeValue) (known :
       ap (λ (y : EdgeValue). record { of = y; end = end_at m t k }) (get_or_append_left es (x ∷ []) no_edge k (omega (arith, lt, known))))
 
   -- a tile of the edge has one more pass
-  pub with_pass : (ps : List PassValue) (p : PassValue) → has_end m t n ≡ true → p.of ≡ x → p.end ≡ end_at m t n → HasPasses m es 0 n t ps → HasPasses m more 0 (n + 1) t (ps ++ p ∷ [])
+  pub with_pass : (ps : List PassValue) (p : PassValue) → has_end m t n ≡ true → p.of ≡ x → p.end ≡ end_at m t n → HasPasses m es t (own_edges m t 0 n) ps → HasPasses m more t (own_edges m t 0 (n + 1)) (ps ++ p ∷ [])
   with_pass ps p own of end h =
       map-append edge_and_end ps (p ∷ []) ∙ ((λ i. (h ∙ sym begun) i ++ record { of = (of ∙ sym (get_last es x n known)) i; end = end i } ∷ [])
       ∙ sym (ap (map (right_to m more t)) (filter_more (has_end m t) n ∙ ap (λ b. own_edges m t 0 n ++ cond b (n ∷ []) []) own) ∙ map-append (right_to m more t) (own_edges m t 0 n) (n ∷ [])))
 
   -- another tile has not
-  pub without : (ps : List PassValue) → has_end m t n ≡ false → HasPasses m es 0 n t ps → HasPasses m more 0 (n + 1) t ps
+  pub without : (ps : List PassValue) → has_end m t n ≡ false → HasPasses m es t (own_edges m t 0 n) ps → HasPasses m more t (own_edges m t 0 (n + 1)) ps
   without ps no_end h =
       h ∙ (sym begun ∙ sym (ap (map (right_to m more t)) (filter_more (has_end m t) n ∙ (ap (λ b. own_edges m t 0 n ++ cond b (n ∷ []) []) no_end ∙ append-nil (own_edges m t 0 n)))))
 
@@ -119,7 +119,7 @@ module _ (m : MapValue) (n : ℕ) (es : List EdgeValue) (ps : List (List PassVal
       known = let w = k.known in omega (arith, w, length-append es (x ∷ []));
       edges_are = edges_more;
       tiles = length-set one hi (passes_of one hi ++ q ∷ []) ∙ tiles_one;
-      each = by_tile (λ t l. HasPasses m (es ++ x ∷ []) 0 (n + 1) t l)
+      each = by_tile (λ t l. HasPasses m (es ++ x ∷ []) t (own_edges m t 0 (n + 1)) l)
           (with_pass m n es x k.known lo (passes_of ps lo) p (low_has m n) (ap (λ (w : PassValue). w.of) low) (ap (λ (w : PassValue). w.end) low ∙ sym (low_is m n)) (k.each lo lo_inside))
           (with_pass m n es x k.known hi (passes_of ps hi) q (high_has m n rises) (ap (λ (w : PassValue). w.of) high) (ap (λ (w : PassValue). w.end) high ∙ sym (high_is m n rises)) (k.each hi inside))
           (λ t a b lt. without m n es x k.known t (passes_of ps t) (none_has m n t a b) (k.each t lt));

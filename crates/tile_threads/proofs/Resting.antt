@@ -4,6 +4,7 @@ use Rattle.window_sites.specs.Window.{WindowValue}
 use Rattle.tile_map.specs.Plane.{MapValue, site, tiles_of}
 use Rattle.tile_map.specs.Edges.{needs_of}
 use Rattle.edge_lock.specs.EndLists.{EndLists, IsHeld, HasNoWrite, replace_at, after_give}
+use Rattle.edge_lock.specs.EndValues.{EndValue}
 use Rattle.border_cache.specs.Copies.{IsEndOf}
 use Rattle.tile_core.specs.declared.phase.Phase.TheVariants.{Finished, Worn}
 use Rattle.tile_core.specs.Values.{TileValue, in_hand_at, centre}
@@ -43,11 +44,14 @@ module _ (m : MapValue) (tile : TileValue) (a : ℕ → EndLists) (stopped : Has
       holds = subst (λ es. HasHolds m tile.number es a) (worn_needs m q.0 q.1.0 q.1.1 tile a q.1.2 worn ∙ (ap (λ (z : ℕ × ℕ). needs_of m tile.number (site z.0 z.1)) (sym same_site) ∙ sym is)) (worn_holds m q.0 q.1.0 q.1.1 tile a q.1.2 worn)
 
       module _ (b : ℕ → EndLists) (n e : ℕ) (lt : n < length needs) (at : e ≡ get_or needs n 0) (so_far : AgreeOnEdges m tile.number b (after_some a needs n)) where
-        pub may_give : IsHeld (b e) × HasNoWrite (b e)
-        may_give = (next_held m tile.number needs a b holds n e lt at so_far, next_quiet m tile.number needs a b holds n e lt at so_far)
+        pub next_is_held : IsHeld (b e)
+        next_is_held = next_held m tile.number needs a b holds n e lt at so_far
 
-        pub is_edge : (own : ℕ) (registers end_of : ℕ → ℕ) → IsEndOf m tile.number own registers end_of → 0 < registers e
-        is_edge own registers end_of board = some_registers m tile.number own registers end_of board needs holds.ends e (there m tile.number needs a b holds n e lt at so_far)
+        pub next_is_quiet : HasNoWrite (b e)
+        next_is_quiet = next_quiet m tile.number needs a b holds n e lt at so_far
+
+        pub is_edge : (end : EndValue) → IsEndOf m tile.number end → 0 < end.registers e
+        is_edge end board = some_registers m tile.number end board needs holds.ends e (there m tile.number needs a b holds n e lt at so_far)
 
         pub given_more : (c : ℕ → EndLists) → c ≡ replace_at b e (after_give (b e)) → AgreeOnEdges m tile.number c (after_some a needs (n + 1))
         given_more c is = gave_one m tile.number needs a b holds n e lt at so_far c is

@@ -12,7 +12,7 @@ use Rattle.edge_lock.specs.Passes.{EdgeValue, PassValue, ClosedValue, IsClosed}
 use Rattle.edge_lock.specs.SharedEnds.{EdgeAndEnd, edge_and_end, pass_lists}
 use Rattle.border_cache.specs.Windows.{end_at}
 use Rattle.serial_order.specs.Words.{no_closed, closed_at}
-use Rattle.tile_threads.specs.Passes.{edge_of, passes_of, right_to, own_edges, HasPasses, TakesFirst, AreLeft, IsClosedEdge}
+use Rattle.tile_threads.specs.Passes.{shared_edges, edge_of, passes_of, right_to, own_edges, HasPasses, TakesFirst, AreLeft, IsClosedEdge}
 use Rattle.tile_threads.proofs.NewEdges.{low_has, high_has, none_has}
 
 range_next : (a n : ℕ) → range_with_len a (n + 1) ≡ a ∷ range_with_len (a + 1) n
@@ -30,10 +30,10 @@ pub record IsFirst (m : MapValue) (edges : List EdgeValue) (lists : ℕ → ℕ 
   pub of : p.of ≡ edge_of edges first
   pub end : p.end ≡ end_at m t first
   pub lists_are : p.lists ≡ lists t first
-  pub after : HasPasses m edges (first + 1) n t rest
+  pub after : HasPasses m edges t (own_edges m t (first + 1) n) rest
   pub later : (e : ℕ) → first + 1 ≤ e → has_end m t e ≡ true → pass_lists rest e ≡ lists t e
 
-module _ (m : MapValue) (edges : List EdgeValue) (lists : ℕ → ℕ → EndLists) (first n : ℕ) (ps : List (List PassValue)) (k : AreLeft m edges lists first (n + 1) ps) where
+module _ (m : MapValue) (edges : List EdgeValue) (lists : ℕ → ℕ → EndLists) (first n : ℕ) (ps : List (List PassValue)) (k : AreLeft m (shared_edges edges lists) first (n + 1) ps) where
   inside_first : first < length (pairs_of m)
   inside_first = let w = k.whole in omega (arith, w)
 
@@ -123,14 +123,14 @@ module _ (m : MapValue) (edges : List EdgeValue) (lists : ℕ → ℕ → EndLis
             (λ is. subst (λ j. P j (passes_of two j)) (sym is) (subst (P hi) (sym at_hi) h))
             (λ not_hi. subst (P t) (sym (at_none t not_lo not_hi)) (rest t not_lo not_hi lt)))
 
-        pub left_after : AreLeft m edges lists (first + 1) n two
+        pub left_after : AreLeft m (shared_edges edges lists) (first + 1) n two
         left_after = record {
           whole = let w = k.whole in omega (arith, w);
           known = k.known;
           edges_are = k.edges_are;
           free = k.free;
           tiles = ap (λ l. length l) b.is ∙ (length-set one hi b.rest ∙ tiles_one);
-          each = by_tile (λ t l. HasPasses m edges (first + 1) n t l) low_first.after high_first.after
+          each = by_tile (λ t l. HasPasses m edges t (own_edges m t (first + 1) n) l) low_first.after high_first.after
               (λ t x y lt. k.each t lt ∙ ap (map (right_to m edges t)) (own_skips m t first n (none_has m first t x y)));
           lists_are = λ t e lt le own. by_tile (λ t l. (e : ℕ) → first + 1 ≤ e → has_end m t e ≡ true → pass_lists l e ≡ lists t e) low_first.later high_first.later
               (λ t x y lt e le own. k.lists_are t e lt (omega (arith, le)) own) t lt e le own;

@@ -1,8 +1,7 @@
 //! The edges of a plane, closed.
-ghost use Rattle.std.specs.Prelude.{◌≡◌, ◌<◌, ◌+◌, ℕ, List, IfOk, length, vec_len};
+ghost use Rattle.std.specs.Prelude.{◌≡◌, ◌<◌, ◌+◌, ℕ, IfOk, length, vec_len};
 ghost use Rattle.edge_lock.specs.EndLists.{EndLists};
-ghost use Rattle.edge_lock.specs.Passes.{EdgeValue};
-ghost use Rattle.tile_threads.specs.Passes.{AreClosed, AreLeft, IsClosedEdge, TakesFirst, edge_of, passes_of};
+ghost use Rattle.tile_threads.specs.Passes.{AreClosed, AreLeft, IsClosedEdge, SharedEdges, TakesFirst, WhereAllLeft, WhereNext, edge_of, passes_of, shared_edges};
 
 use crate::tile_passes::TilePasses;
 use edge_lock::{Closed, Edge, Pass};
@@ -22,9 +21,9 @@ fn take_pass(passes: &mut Vec<TilePasses>, tile: u32) -> Pass
 
 /// Closes an edge with the first passes of its two tiles.
 fn close_edge(map: &Map, edge: Edge, number: u32, passes: &mut Vec<TilePasses>) -> Closed
-    requires left { (edges : List EdgeValue) × (lists : ℕ → ℕ → EndLists) × (n : ℕ) × (edge ≡ edge_of edges number) × AreLeft map.now edges lists number (n + 1) passes.old.items }
-    ensures closed { (edges : List EdgeValue) (lists : ℕ → ℕ → EndLists) (n : ℕ) → edge ≡ edge_of edges number → AreLeft map.now edges lists number (n + 1) passes.old.items → IsClosedEdge map.now lists number result }
-    ensures left { (edges : List EdgeValue) (lists : ℕ → ℕ → EndLists) (n : ℕ) → edge ≡ edge_of edges number → AreLeft map.now edges lists number (n + 1) passes.old.items → AreLeft map.now edges lists (number + 1) n passes.new.items }
+    requires left { (s : SharedEdges) × (n : ℕ) × (edge ≡ edge_of s.edges number) × AreLeft map.now s number (n + 1) passes.old.items }
+    ensures closed { WhereNext map.now number edge passes.old.items (λ s n. IsClosedEdge map.now s.lists number result) }
+    ensures left { WhereNext map.now number edge passes.old.items (λ s n. AreLeft map.now s (number + 1) n passes.new.items) }
 {
     let (lower, higher) = map.ends(number);
     let low = take_pass(passes, lower);
@@ -40,8 +39,8 @@ pub(crate) fn close_edges(
     edges: Vec<Edge>,
     mut passes: Vec<TilePasses>,
 ) -> Result<ClosedEdges, NoMemory>
-    requires left { (lists : ℕ → ℕ → EndLists) × AreLeft map.now edges.items lists 0 (vec_len edges) passes.items }
-    ensures { IfOk result (λ c. (lists : ℕ → ℕ → EndLists) → AreLeft map.now edges.items lists 0 (vec_len edges) passes.items → AreClosed map.now lists c) }
+    requires left { (lists : ℕ → ℕ → EndLists) × AreLeft map.now (shared_edges edges.items lists) 0 (vec_len edges) passes.items }
+    ensures { IfOk result (λ c. WhereAllLeft map.now edges.items (vec_len edges) passes.items (λ lists. AreClosed map.now lists c)) }
 {
     map.laws();
     let mut closed = Vec::with_capacity(alloc, edges.len())?;

@@ -1,7 +1,7 @@
 //! The edges of a plane, with the passes of its tiles.
-ghost use Rattle.std.specs.Prelude.{◌≡◌, ◌<◌, ◌+◌, [], ◌∷◌, ◌++◌, IfOk, OnOk, length, replicate, slice_set, vec_len};
+ghost use Rattle.std.specs.Prelude.{◌≡◌, ◌<◌, ◌+◌, [], IfOk, OnOk, length, replicate, vec_len};
 ghost use Rattle.tile_map.specs.Edges.{pairs_of};
-ghost use Rattle.tile_threads.specs.Passes.{AreEdgesMade, passes_of};
+ghost use Rattle.tile_threads.specs.Passes.{AreEdgesMade, one_pass_more};
 
 use crate::tile_passes::TilePasses;
 use edge_lock::{Edge, Pass};
@@ -12,7 +12,7 @@ use tile_map::Map;
 /// One more pass for a tile.
 fn give_pass(passes: &mut Vec<TilePasses>, tile: u32, pass: Pass) -> Result<(), NoMemory>
     requires { tile < vec_len passes.old }
-    ensures { OnOk result (passes.new.items ≡ slice_set passes.old.items tile (passes_of passes.old.items tile ++ pass ∷ [])) }
+    ensures { OnOk result (passes.new.items ≡ one_pass_more passes.old.items tile pass) }
 {
     passes[tile as usize].push(pass)
 }

@@ -1,11 +1,7 @@
 //! Workers sent out with their ends of shared edges, and taken apart when they are home.
-ghost use Rattle.std.specs.Prelude.{◌≡◌, ℕ, All, IfOk, length};
-ghost use Rattle.window_sites.specs.Window.{WindowValue};
-ghost use Rattle.border_cache.specs.Copies.{IsEndOf};
-ghost use Rattle.edge_lock.specs.SharedEnds.{IsPassOf, pass_registers, pass_end, pass_lists, edge_and_end};
+ghost use Rattle.std.specs.Prelude.{◌≡◌, All, IfOk, length};
+ghost use Rattle.edge_lock.specs.SharedEnds.{IsPassOf, shared_end};
 ghost use Rattle.tile_core.specs.Turns.{AgreeOnEdges};
-ghost use Rattle.tile_core.specs.Underway.{IsSome};
-ghost use Rattle.serial_order.specs.Boards.{HasStopped};
 ghost use Rattle.tile_threads.specs.Passes.{let_go};
 ghost use Rattle.tile_threads.specs.Whole.{CameHome, HaveComeHome, IsDone, tiles_in, workers_of};
 
@@ -44,11 +40,8 @@ pub(crate) fn send_out<'a, B: Behave + Drop>(
 /// Gives back the edges that a tile which makes no further step still has: those of the last attempt
 /// of a worn one.
 fn give_rest<B: Behave, D: Board>(map: &Map, tile: &Tile<B>, end: &mut D)
-    requires map { tile.now.0.cache.map ≡ map.now }
-    requires board { IsEndOf map.now tile.now.0.number (D.tile end.old) (D.registers end.old) (D.end_of end.old) }
-    requires stopped { HasStopped tile.now.0 }
-    requires underway { (meaning : WindowValue → ℕ → WindowValue) × IsSome map.now meaning tile.now.0 (D.lists end.old) }
-    ensures lists { AgreeOnEdges map.now tile.now.0.number (D.lists end.new) (λ e. let_go (D.lists end.old e)) }
+    requires done { IsDone map.now tile.now.core (D.end end.old) }
+    ensures lists { AgreeOnEdges map.now tile.now.core.number (D.end end.new).lists (λ e. let_go ((D.end end.old).lists e)) }
     ensures moved { D.moved end.old end.new }
 {
     let Some((x, y)) = tile.in_hand() else {
@@ -62,9 +55,9 @@ fn give_rest<B: Behave, D: Board>(map: &Map, tile: &Tile<B>, end: &mut D)
 
 /// The passes of a worker that has stopped, and its tile.
 fn take_apart<'a, B: Behave>(map: &Map, worker: Worker<B, SharedEnd<'a>>) -> (Tile<B>, TilePasses)
-    requires { IsDone (λ s. s.tile) (λ s. pass_registers s.passes) (λ s. pass_end s.passes) (λ s. pass_lists s.passes) map.now worker }
+    requires { IsDone map.now worker.tile.core (shared_end worker.end) }
     ensures tile { result.0 ≡ worker.entry.tile }
-    ensures home { CameHome map.now worker.entry.tile.0.number worker.entry.end.passes result.1 }
+    ensures home { CameHome map.now worker.entry.tile.core.number worker.entry.end.passes result.1 }
 {
     let (tile, mut end) = worker.into_parts();
     give_rest(map, &tile, &mut end);
@@ -78,7 +71,7 @@ pub(crate) fn come_home<'a, B: Behave + Drop>(
     map: &Map,
     workers: Vec<Worker<B, SharedEnd<'a>>>,
 ) -> Result<(Vec<Tile<B>>, Vec<TilePasses>), NoMemory>
-    requires { All (IsDone (λ s. s.tile) (λ s. pass_registers s.passes) (λ s. pass_end s.passes) (λ s. pass_lists s.passes) map.now) workers.items }
+    requires { All (λ w. IsDone map.now w.tile.core (shared_end w.end)) workers.items }
     ensures tiles { IfOk result (λ r. r.0.items ≡ tiles_in workers.entry.items) }
     ensures passes { IfOk result (λ r. HaveComeHome map.now workers.entry.items r.1.items) }
 {

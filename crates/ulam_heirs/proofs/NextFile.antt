@@ -1,12 +1,12 @@
--- One more file.
-use Rattle.std.proofs.Common.{◌≡◌, ℕ, ◌+◌, ◌<◌, ◌≤◌, sym, ap, ◌∙◌, List, [], ◌∷◌, ◌++◌, length, map, get_or, drop, Global, Vec, append_assoc, arith}
+-- One more file, and one more item of a file.
+use Rattle.std.proofs.Common.{◌≡◌, ℕ, ◌+◌, ◌<◌, ◌≤◌, refl, sym, ap, ◌∙◌, List, [], ◌∷◌, ◌++◌, length, map, get_or, drop, Global, Vec, append_assoc, arith}
 use Rattle.std.proofs.lemmas.List.{at_drop_more, map-append}
 use Rattle.ulam_tree.specs.Raw as t
 use Rattle.ulam_tree.specs.RawViews.{item_of, file_of}
 use Rattle.ulam_tree.specs.declared.raw.Item.{Item}
 use Rattle.ulam_tree.specs.declared.raw.File.{File}
 use Rattle.ulam_heirs.specs.Lines.{Heir}
-use Rattle.ulam_heirs.specs.Files.{class_count, all_count, flat_items, flat_files_from}
+use Rattle.ulam_heirs.specs.Files.{class_count, all_count, flat_item, next_number, flat_items, flat_files_from}
 use Rattle.ulam_heirs.specs.Views.{files_of}
 
 pub file_on : (hs : List Heir) (xs found more : List File) (i n next : ℕ) (x : File) (items : Vec Item Global) → i < length xs → x ≡ get_or xs i x →
@@ -35,3 +35,20 @@ pub count_one : (x : t.Item) (rest : List t.Item) → class_count (x ∷ []) ≤
 count_one (t.ulam n) rest = omega arith
 count_one (t.uses w) rest = omega arith
 count_one (t.class c) rest = omega arith
+
+-- the flat items are the first one and the others
+flat_first : (hs : List Heir) (k : ℕ) (x : t.Item) (rest : List t.Item) → flat_items hs k (x ∷ rest) ≡ flat_item hs k x ∷ flat_items hs (next_number k x) rest
+flat_first hs k (t.ulam n) rest = refl
+flat_first hs k (t.uses w) rest = refl
+flat_first hs k (t.class c) rest = refl
+
+pub item_on : (hs : List Heir) (k next : ℕ) (x y : t.Item) (rest : List t.Item) → y ≡ flat_item hs k x → next ≡ next_number k x → flat_items hs k (x ∷ rest) ≡ y ∷ flat_items hs next rest
+item_on hs k next x y rest e f =
+    flat_first hs k x rest
+    ∙ ap (λ (z : t.Item). z ∷ flat_items hs (next_number k x) rest) (sym e)
+    ∙ ap (λ (n : ℕ). y ∷ flat_items hs n rest) (sym f)
+
+pub number_on : (k next : ℕ) (x : t.Item) (rest : List t.Item) → next ≡ next_number k x → next + class_count rest ≡ k + class_count (x ∷ rest)
+number_on k next (t.ulam n) rest f = ap (λ (i : ℕ). i + class_count rest) f
+number_on k next (t.uses w) rest f = ap (λ (i : ℕ). i + class_count rest) f
+number_on k next (t.class c) rest f = let more : next ≡ k + 1 = f in omega (arith, more)

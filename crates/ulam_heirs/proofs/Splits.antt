@@ -1,5 +1,5 @@
 -- One more token is gone through.
-use Rattle.std.proofs.Common.{◌≡◌, ℕ, ◌+◌, ◌≤◌, refl, sym, ap, ◌∙◌, subst, List, [], ◌∷◌, ◌++◌, Bool, true, false, ◌||◌, cond, Some, option_map, append_assoc, arith}
+use Rattle.std.proofs.Common.{◌≡◌, ℕ, ◌+◌, ◌≤◌, refl, sym, ap, ◌∙◌, subst, List, [], ◌∷◌, ◌++◌, Bool, true, false, ◌||◌, cond, option_map, append_assoc, arith}
 use Rattle.std.specs.Prelude.{◌&&◌, slice_get, ◌==◌}
 use Rattle.std.proofs.lemmas.Bool.{false≢true}
 use Rattle.std.proofs.lemmas.List.Elements.{All-head, All-tail}
@@ -10,8 +10,14 @@ use Rattle.ulam_heirs.specs.declared.role.Role.TheVariants as r
 use Rattle.ulam_heirs.specs.declared.behind.Behind.{Behind}
 use Rattle.ulam_heirs.specs.declared.behind.Part.{Part}
 use Rattle.ulam_heirs.specs.declared.behind.Part.TheVariants.{Kept, Colon, BaseName, Mark}
-use Rattle.ulam_heirs.specs.Heads.{Base, is_class_word, is_type_name, is_colon, is_open, is_virtual_word, may_begin, is_head, open_after, open_braces, role, role_at, is_head_colon, is_base_name, is_virtual_mark, kept_at, base_between, base_at, first_place, virtual_at}
-use Rattle.ulam_heirs.specs.Behind.{behind_of, part_at, kept_by, base_from, base_by, virtual_by, IsWithin, AllWithin, IsSplit}
+use Rattle.ulam_heirs.specs.Heads.{HeadedValue, is_class_word, is_type_name, is_colon, is_open, is_virtual_word, may_begin, is_head, open_after, open_braces, role, role_at, is_head_colon, is_base_name, is_virtual_mark, kept_at, base_between, base_at, first_place, virtual_at}
+use Rattle.ulam_heirs.specs.Behind.{behind_of, passed, part_at, kept_by, base_from, base_by, virtual_by, IsWithin, AllWithin, IsSplit}
+use Rattle.ulam_heirs.specs.declared.headed.Base.{Base as CodeBase}
+use Rattle.ulam_heirs.specs.Views.{heads_view, headed_view}
+
+-- what the code made of tokens
+abbrev pub split_of : List Token → List CodeBase → List Place → HeadedValue
+split_of left bases virtuals = headed_view left (heads_view bases virtuals)
 
 abbrev chosen : Bool → Bool → Bool → Part
 chosen x y z = cond x Colon (cond y BaseName (cond z Mark Kept))
@@ -107,14 +113,13 @@ open_small r.Other n = omega arith
 on : {A : Type 0} (whole done more given mine rest : List A) → whole ≡ done ++ (given ++ rest) → more ≡ done ++ mine → mine ≡ given → whole ≡ more ++ rest
 on whole done more given mine rest e f g = e ∙ sym (append_assoc done given rest) ∙ ap (λ xs. xs ++ rest) (sym (f ∙ ap (λ xs. done ++ xs) g))
 
-pub split_next : (bytes : List ℕ) (tokens : List Token) (t : Token) (after left left' : List Token) (bases bases' : List Base) (virtuals virtuals' : List Place) (b b' : Behind) →
-    IsSplit bytes tokens (t ∷ after) left bases virtuals b →
-    left' ≡ left ++ kept_by (part_at bytes b t after) t → bases' ≡ bases ++ base_by bytes (part_at bytes b t after) b.place after → virtuals' ≡ virtuals ++ virtual_by (part_at bytes b t after) after →
-    b' ≡ record { depth = open_after (role bytes t) b.depth; last = role bytes t; second = b.last; third = b.second; place = Some t.place } →
-    IsSplit bytes tokens after left' bases' virtuals' b'
-split_next bytes tokens t after left left' bases bases' virtuals virtuals' b b' s e f g h =
-    let same : b' ≡ behind_of bytes (t ∷ s.before) =
-    h ∙ ap (λ (z : Behind). record { depth = open_after (role bytes t) z.depth; last = role bytes t; second = z.last; third = z.second; place = Some t.place }) s.behind in
+pub split_next : (bytes : List ℕ) (tokens : List Token) (t : Token) (after : List Token) (done more : HeadedValue) (b b' : Behind) → IsSplit bytes tokens (t ∷ after) done b →
+    more.left ≡ done.left ++ kept_by (part_at bytes b t after) t →
+    more.heads.bases ≡ done.heads.bases ++ base_by bytes (part_at bytes b t after) b.place after →
+    more.heads.virtuals ≡ done.heads.virtuals ++ virtual_by (part_at bytes b t after) after →
+    b' ≡ passed b (role bytes t) t.place → IsSplit bytes tokens after more b'
+split_next bytes tokens t after done more b b' s e f g h =
+    let same : b' ≡ behind_of bytes (t ∷ s.before) = h ∙ ap (λ (z : Behind). passed z (role bytes t) t.place) s.behind in
     let deep : b'.depth ≡ open_after (role bytes t) b.depth = ap (λ (z : Behind). z.depth) h in
     let small : open_after (role bytes t) b.depth ≤ b.depth + 1 = open_small (role bytes t) b.depth in
     record {
@@ -122,13 +127,13 @@ split_next bytes tokens t after left left' bases bases' virtuals virtuals' b b' 
       behind = same;
       within = All-tail (λ (u : Token). IsWithin bytes u) t after s.within;
       shallow = omega (arith, deep, small, s.shallow);
-      stay = on _ left left' (kept_at bytes s.before t after) _ _ s.stay e (ap (λ (z : Behind). kept_by (part_at bytes z t after) t) s.behind ∙ kept_here bytes s.before t after);
-      named = on _ bases bases' (base_at bytes s.before t after) _ _ s.named f (ap (λ (z : Behind). base_by bytes (part_at bytes z t after) z.place after) s.behind ∙ base_here bytes s.before t after);
-      marked = on _ virtuals virtuals' (virtual_at bytes s.before t after) _ _ s.marked g (ap (λ (z : Behind). virtual_by (part_at bytes z t after) after) s.behind ∙ virtual_here bytes s.before t after);
+      stay = on _ done.left more.left (kept_at bytes s.before t after) _ _ s.stay e (ap (λ (z : Behind). kept_by (part_at bytes z t after) t) s.behind ∙ kept_here bytes s.before t after);
+      named = on _ done.heads.bases more.heads.bases (base_at bytes s.before t after) _ _ s.named f (ap (λ (z : Behind). base_by bytes (part_at bytes z t after) z.place after) s.behind ∙ base_here bytes s.before t after);
+      marked = on _ done.heads.virtuals more.heads.virtuals (virtual_at bytes s.before t after) _ _ s.marked g (ap (λ (z : Behind). virtual_by (part_at bytes z t after) after) s.behind ∙ virtual_here bytes s.before t after);
     }
 
-pub first_within : (bytes : List ℕ) (tokens rest : List Token) (t : Token) (after left : List Token) (bases : List Base) (virtuals : List Place) (b : Behind) → IsSplit bytes tokens rest left bases virtuals b → rest ≡ t ∷ after → IsWithin bytes t
-first_within bytes tokens rest t after left bases virtuals b s e = All-head (λ (u : Token). IsWithin bytes u) t after (subst (AllWithin bytes) e s.within)
+pub first_within : (bytes : List ℕ) (tokens rest : List Token) (t : Token) (after : List Token) (done : HeadedValue) (b : Behind) → IsSplit bytes tokens rest done b → rest ≡ t ∷ after → IsWithin bytes t
+first_within bytes tokens rest t after done b s e = All-head (λ (u : Token). IsWithin bytes u) t after (subst (AllWithin bytes) e s.within)
 
-pub rest_within : (bytes : List ℕ) (tokens rest : List Token) (t : Token) (after left : List Token) (bases : List Base) (virtuals : List Place) (b : Behind) → IsSplit bytes tokens rest left bases virtuals b → rest ≡ t ∷ after → AllWithin bytes after
-rest_within bytes tokens rest t after left bases virtuals b s e = All-tail (λ (u : Token). IsWithin bytes u) t after (subst (AllWithin bytes) e s.within)
+pub rest_within : (bytes : List ℕ) (tokens rest : List Token) (t : Token) (after : List Token) (done : HeadedValue) (b : Behind) → IsSplit bytes tokens rest done b → rest ≡ t ∷ after → AllWithin bytes after
+rest_within bytes tokens rest t after done b s e = All-tail (λ (u : Token). IsWithin bytes u) t after (subst (AllWithin bytes) e s.within)

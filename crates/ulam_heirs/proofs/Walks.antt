@@ -89,8 +89,8 @@ pub turn_none : (n at : ℕ) → n ≤ at → n - at ≡ 0
 turn_none n at le = omega arith
 
 -- the class of a number
-pub class_at : (hs : List CodeHeir) (k : ℕ) → option_to_list (slice_get (heirs_of hs) k) ≡ heirs_of (option_to_list (slice_get hs k))
-class_at [] zero = refl
-class_at [] (suc k) = refl
-class_at (h ∷ hs) zero = refl
-class_at (h ∷ hs) (suc k) = class_at hs k
+pub class_at_lem : (hs : List CodeHeir) (k : ℕ) → option_to_list (slice_get (heirs_of hs) k) ≡ heirs_of (option_to_list (slice_get hs k))
+class_at_lem [] zero = refl
+class_at_lem [] (suc k) = refl
+class_at_lem (h ∷ hs) zero = refl
+class_at_lem (h ∷ hs) (suc k) = class_at_lem hs k

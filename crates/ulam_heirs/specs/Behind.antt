@@ -1,4 +1,4 @@
--- The code's view of the tokens before one.
+-- What the code knows of the tokens before the next one, and what it does with tokens.
 use Rattle.std.specs.Prelude.{ℕ, ◌+◌, ◌++◌, ◌≡◌, ◌≤◌, ◌==◌, ◌&&◌, List, [], ◌∷◌, length, Option, Some, option_map, slice_get, if◌then◌else◌}
 use Rattle.std.specs.List.{All}
 use Rattle.feast_base.specs.declared.place.Place.{Place}
@@ -7,9 +7,9 @@ use Rattle.ulam_heirs.specs.declared.role.Role.{Role}
 use Rattle.ulam_heirs.specs.declared.behind.Behind.{Behind}
 use Rattle.ulam_heirs.specs.declared.behind.Part.{Part}
 use Rattle.ulam_heirs.specs.declared.behind.Part.TheVariants.{Kept, Colon, BaseName, Mark}
-use Rattle.ulam_heirs.specs.Heads.{Base, is_head, may_begin, is_virtual_word, is_type_name, open_braces, role, role_at, text_of, first_place, at_each, kept_at, base_at, virtual_at, tokens_left}
+use Rattle.ulam_heirs.specs.Heads.{Base, HeadedValue, is_head, may_begin, is_virtual_word, is_type_name, open_after, open_braces, role, role_at, text_of, first_place, at_each, kept_at, base_at, virtual_at, tokens_left}
 
--- what is known of some tokens, the last of them first
+-- what is known of tokens that were passed; `before` has the last one first
 abbrev pub behind_of : List ℕ → List Token → Behind
 behind_of bytes before = record {
   depth = open_braces bytes before;
@@ -19,7 +19,11 @@ behind_of bytes before = record {
   place = option_map (λ (t : Token). t.place) (slice_get before 0);
 }
 
--- what is done with a token, by those before it and the two behind it
+-- what is known after one more token
+abbrev pub passed : Behind → Role → Place → Behind
+passed b x p = record { depth = open_after x b.depth; last = x; second = b.last; third = b.second; place = Some p }
+
+-- what is done with a token, given those before it and the next two
 abbrev pub part_of : Behind → Role → Role → Role → Part
 part_of b t next over =
     if is_head b.second b.last t next over then Colon
@@ -34,7 +38,7 @@ abbrev pub kept_by : Part → Token → List Token
 kept_by Kept t = t ∷ []
 kept_by _ t = []
 
--- the class whose name stands at a place, with the base whose name is the first of some tokens
+-- the class whose name is at a place, with the base whose name is the first token of `after`
 abbrev pub base_from : List ℕ → Option Place → List Token → List Base
 base_from bytes (Some p) (b ∷ after) = record { class = p; base = record { name = text_of bytes b; place = b.place } } ∷ []
 base_from bytes p after = []
@@ -54,13 +58,13 @@ IsWithin bytes t = (t.first ≤ t.end) × (t.end ≤ length bytes)
 abbrev pub AllWithin : List ℕ → List Token → Type 0
 AllWithin bytes ts = All (λ (t : Token). IsWithin bytes t) ts
 
--- Tokens up to the rest were gone through, and these stay and these were taken out.
-pub record IsSplit (bytes : List ℕ) (tokens rest left : List Token) (bases : List Base) (virtuals : List Place) (b : Behind) : Type 0 where
-  -- those that were gone through, the last of them first
+-- The tokens before `rest` were passed: `done` is what was made of them, and b is what is known of them.
+pub record IsSplit (bytes : List ℕ) (tokens rest : List Token) (done : HeadedValue) (b : Behind) : Type 0 where
+  -- the tokens that were passed, the last one first
   pub before : List Token
   pub behind : b ≡ behind_of bytes before
   pub within : AllWithin bytes rest
   pub shallow : b.depth + length rest ≤ length tokens
-  pub stay : tokens_left bytes tokens ≡ left ++ at_each (kept_at bytes) before rest
-  pub named : at_each (base_at bytes) [] tokens ≡ bases ++ at_each (base_at bytes) before rest
-  pub marked : at_each (virtual_at bytes) [] tokens ≡ virtuals ++ at_each (virtual_at bytes) before rest
+  pub stay : tokens_left bytes tokens ≡ done.left ++ at_each (kept_at bytes) before rest
+  pub named : at_each (base_at bytes) [] tokens ≡ done.heads.bases ++ at_each (base_at bytes) before rest
+  pub marked : at_each (virtual_at bytes) [] tokens ≡ done.heads.virtuals ++ at_each (virtual_at bytes) before rest

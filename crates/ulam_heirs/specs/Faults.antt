@@ -1,26 +1,28 @@
--- Why classes have no flat ones.
+-- Why the classes of files can't be made flat.
 use Rattle.std.specs.Prelude.{ℕ, ◌+◌, ◌==◌, List, [], ◌∷◌, ◌++◌, Option, Some, None, Bool, true, false, not, ◌&&◌, ◌||◌, if◌then◌else◌, bytes_eq, slice_get}
 use Rattle.std.specs.List.{list_any}
 use Rattle.std.specs.Option.{option_map_or, option_or, option_and_then}
-use Rattle.ulam_tree.specs.Raw.{Word, Width, wide, wide_as, TypeRef, Param, Member, function}
+use Rattle.ulam_tree.specs.Raw.{Word, Width, wide, wide_as, TypeRef, Param, Member, function, Item}
 use Rattle.ulam_heirs.specs.declared.fault.HeirsFault.{HeirsFault}
 use Rattle.ulam_heirs.specs.declared.fault.HeirsFault.TheVariants as f
+use Rattle.ulam_heirs.specs.Heads.{Heads}
 use Rattle.ulam_heirs.specs.Lines.{Heir, class_named, is_own_base, bases}
 use Rattle.ulam_heirs.specs.Flat.{member_word, is_field, is_named, has_word, is_virtual}
+use Rattle.ulam_heirs.specs.Files.{all_heirs}
 
 -- the class of a number is a quark
 abbrev pub is_quark : List Heir → Option ℕ → Bool
 is_quark hs k = option_map_or (λ (h : Heir). h.class.quark) (option_and_then (slice_get hs) k) false
 
--- a base whose name is that of no class, or first that of a class that is no quark
+-- the fault of a class with a base, if no class has the name of the base, or the first class that has it is no quark
 abbrev pub not_quark : List Heir → ℕ → Heir → Option HeirsFault
 not_quark hs k h = option_and_then (λ (w : Word). if is_quark hs (class_named 0 w.name hs) then None else Some (f.NotQuark w.place)) h.base
 
--- a class that is its own base
+-- the fault of a class that is its own base
 abbrev pub own_base : List Heir → ℕ → Heir → Option HeirsFault
 own_base hs k h = if is_own_base hs k then Some (f.OwnBase h.class.word.place) else None
 
--- Types are the same where their trees are, but for places.
+-- Types are the same if their trees are, apart from places.
 abbrev pub same_width : Width → Width → Bool
 same_width (wide m) (wide n) = m == n
 same_width (wide_as v) (wide_as w) = bytes_eq v.name w.name
@@ -39,25 +41,25 @@ same_params [] [] = true
 same_params (p ∷ ps) (q ∷ qs) = same_type p.of q.of && same_params ps qs
 same_params _ _ = false
 
--- two functions with other types of results or parameters
+-- two functions whose results or parameters have different types
 abbrev pub differs : Member → Member → Bool
 differs (function ty w ps b) (function uy v qs c) = not (same_type ty uy && same_params ps qs)
 differs _ _ = false
 
--- in a class with these bases n is a virtual function of the name of m that differs from it
+-- in a class with the bases `before`, n is a virtual function that has the name of m and differs from it
 abbrev pub is_clash : List Heir → Heir → Member → Member → Bool
 is_clash before h m n = is_named (member_word m).name n && is_virtual before h n && differs n m
 
--- a class with these bases has a virtual function that differs from a member
+-- the class has a virtual function that has the name of m and differs from it
 abbrev pub clashes_with : List Heir → Heir → Member → Bool
 clashes_with before h m = list_any (is_clash before h m) h.class.members
 
--- one of some classes of a line has, behind those before them
+-- one of these classes has such a function; `before` are the classes before them in the line
 abbrev pub clashes_behind : List Heir → List Heir → Member → Bool
 clashes_behind before [] m = false
 clashes_behind before (h ∷ later) m = clashes_with before h m || clashes_behind (before ++ h ∷ []) later m
 
--- a data member behind `virtual`, or a function that differs from a virtual function of its name in a base
+-- m is a data member after `virtual`, or a function that differs from a virtual function of its name in a base
 abbrev pub is_bad : List Heir → Heir → Member → Bool
 is_bad bases h m = (is_field m && has_word h m) || clashes_behind [] bases m
 
@@ -71,11 +73,15 @@ first_bad bases h (m ∷ ms) = option_or (bad_member bases h m) (first_bad bases
 abbrev pub bad_override : List Heir → ℕ → Heir → Option HeirsFault
 bad_override hs k h = first_bad (bases hs k) h h.class.members
 
--- the fault of the first class that has one, where the first of these has a number
+-- the fault of the first class that has one, if the classes are numbered from k on
 abbrev pub first_by : (ℕ → Heir → Option HeirsFault) → ℕ → List Heir → Option HeirsFault
 first_by fault k [] = None
 first_by fault k (h ∷ hs) = option_or (fault k h) (first_by fault (k + 1) hs)
 
--- The first fault of all classes: of bases that are no quarks, then of classes that are their own bases, then of members.
+-- The first fault of all classes: first come bases that are no quarks, then classes that are their own bases, then members.
 abbrev pub first_fault : List Heir → Option HeirsFault
 first_fault hs = option_or (first_by (not_quark hs) 0 hs) (option_or (first_by (own_base hs) 0 hs) (first_by (bad_override hs) 0 hs))
+
+-- the first fault of the classes of files
+abbrev pub files_fault : List (List Item) → List Heads → Option HeirsFault
+files_fault files heads = first_fault (all_heirs files heads)

@@ -1,4 +1,4 @@
--- Files with what was taken out of their tokens, and flat files.
+-- Files, with what was taken out of their tokens, and flat files.
 use Rattle.std.specs.Prelude.{ℕ, suc, ◌+◌, List, [], ◌∷◌, ◌++◌, Option, Some, None, Bool, true, false, ◌&&◌, if◌then◌else◌}
 use Rattle.feast_base.specs.declared.place.Place.{Place}
 use Rattle.ulam_tree.specs.Raw.{Word, Class, Item, ulam, uses, class}
@@ -6,7 +6,7 @@ use Rattle.ulam_heirs.specs.Heads.{Base, Heads}
 use Rattle.ulam_heirs.specs.Lines.{Heir, same_place}
 use Rattle.ulam_heirs.specs.Flat.{flat_members}
 
--- the base of the class whose name stands at a place
+-- the base of the class whose name is at a place
 abbrev pub base_at : Place → List Base → Option Word
 base_at p [] = None
 base_at p (b ∷ bs) = if same_place b.class p then Some b.base else base_at p bs
@@ -38,7 +38,19 @@ all_count (f ∷ fs) = class_count f + all_count fs
 abbrev pub flat_class : List Heir → ℕ → Class → Item
 flat_class hs k c = class (record { quark = c.quark; word = c.word; members = flat_members hs k })
 
--- a file with flat classes, of which the first has a number
+-- an item with flat classes, which is the class of number k if it is a class
+abbrev pub flat_item : List Heir → ℕ → Item → Item
+flat_item hs k (ulam n) = ulam n
+flat_item hs k (uses w) = uses w
+flat_item hs k (class c) = flat_class hs k c
+
+-- the number of the next class after an item, if that of the next class before it is k
+abbrev pub next_number : ℕ → Item → ℕ
+next_number k (ulam n) = k
+next_number k (uses w) = k
+next_number k (class c) = k + 1
+
+-- a file with flat classes, whose first class has the number k
 abbrev pub flat_items : List Heir → ℕ → List Item → List Item
 flat_items hs k [] = []
 flat_items hs k (ulam n ∷ xs) = ulam n ∷ flat_items hs k xs

@@ -30,7 +30,7 @@ is_field _ = false
 abbrev pub is_named : List ℕ → Member → Bool
 is_named name m = bytes_eq (member_word m).name name
 
--- the word `virtual` stands before it
+-- the word `virtual` comes before it
 abbrev pub has_word : Heir → Member → Bool
 has_word h m = list_any (same_place (member_type m).word.place) h.virtuals
 
@@ -38,15 +38,16 @@ has_word h m = list_any (same_place (member_type m).word.place) h.virtuals
 abbrev pub declares : List ℕ → Heir → Bool
 declares name h = list_any (λ (m : Member). is_function m && is_named name m) h.class.members
 
--- it declares one behind the word `virtual`
+-- it declares one after the word `virtual`
 abbrev pub says_virtual : List ℕ → Heir → Bool
 says_virtual name h = list_any (λ (m : Member). is_function m && is_named name m && has_word h m) h.class.members
 
--- One of these classes has a virtual function of a name. A function that is declared again under such a name is virtual as well, but that adds no name.
+-- One of these classes has a virtual function of a name. It is enough to look for the word `virtual`: the name of a
+-- function that is virtual by a base comes after the word in that base.
 abbrev pub is_virtual_name : List Heir → List ℕ → Bool
 is_virtual_name hs name = list_any (says_virtual name) hs
 
--- In a class with these bases a member is a virtual function: by the word, or by a base.
+-- in a class with these bases a member is a virtual function, by the word `virtual` or by a base
 abbrev pub is_virtual : List Heir → Heir → Member → Bool
 is_virtual bases h m = is_function m && (has_word h m || is_virtual_name bases (member_word m).name)
 
@@ -54,16 +55,16 @@ is_virtual bases h m = is_function m && (has_word h m || is_virtual_name bases (
 abbrev pub is_left_out : List Heir → Heir → List Heir → Member → Bool
 is_left_out bases h later m = is_virtual bases h m && list_any (declares (member_word m).name) later
 
--- the members of a class that stay, between the classes before it in the line and those behind
+-- the members of a class that stay, with the classes before it in the line and those after it
 abbrev pub own_members : List Heir → Heir → List Heir → List Member
 own_members bases h later = filter (λ (m : Member). not (is_left_out bases h later m)) h.class.members
 
--- the members of the classes of a line in order, behind some that stand before them in it
+-- the members of these classes of a line that stay, in order; `before` are the classes before them in the line
 abbrev pub flat_behind : List Heir → List Heir → List Member
 flat_behind before [] = []
 flat_behind before (h ∷ later) = own_members before h later ++ flat_behind (before ++ h ∷ []) later
 
--- the members of a whole line, but for virtual functions that a later class of it declares again
+-- the members of a line, without virtual functions that a later class of it declares again
 abbrev pub flat : List Heir → List Member
 flat hs = flat_behind [] hs
 

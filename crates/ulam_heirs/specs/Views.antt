@@ -1,16 +1,21 @@
--- The code's lists as plain ones.
-use Rattle.std.specs.Prelude.{ℕ, List, [], ◌∷◌, map, Option, Some, None, option_map, slice_get}
+-- The code's trees and lists as plain ones.
+use Rattle.std.specs.Prelude.{ℕ, ◌≡◌, List, [], ◌∷◌, ◌++◌, map, Option, Some, None, option_map, slice_get, Result, IfOk}
+use Rattle.std.specs.Global.{Vec}
 use Rattle.std.specs.Option.{option_and_then}
 use Rattle.feast_base.specs.declared.place.Place.{Place}
+use Rattle.ulam_lex.specs.declared.token.Token.{Token}
 use Rattle.ulam_tree.specs.Raw as t
-use Rattle.ulam_tree.specs.RawViews.{word_of, class_of, expr_of, statement_of, file_of}
+use Rattle.ulam_tree.specs.RawViews.{word_of, class_of, expr_of, statement_of, member_of, item_of, file_of}
 use Rattle.ulam_tree.specs.declared.raw.Expr.{Expr}
 use Rattle.ulam_tree.specs.declared.raw.Statement.{Statement}
+use Rattle.ulam_tree.specs.declared.raw.Member.{Member}
+use Rattle.ulam_tree.specs.declared.raw.Item.{Item}
 use Rattle.ulam_tree.specs.declared.raw.File.{File}
 use Rattle.ulam_heirs.specs.declared.headed.Base.{Base}
 use Rattle.ulam_heirs.specs.declared.heir.Heir.{Heir}
 use Rattle.ulam_heirs.specs.Heads as spec
 use Rattle.ulam_heirs.specs.Lines as lines
+use Rattle.ulam_heirs.specs.Flat.{own_members}
 
 abbrev pub base_view : Base → spec.Base
 base_view b = record { class = b.class; base = word_of b.base }
@@ -18,26 +23,57 @@ base_view b = record { class = b.class; base = word_of b.base }
 abbrev pub heads_view : List Base → List Place → spec.Heads
 heads_view bs ps = record { bases = map base_view bs; virtuals = ps }
 
+abbrev pub headed_view : List Token → spec.Heads → spec.HeadedValue
+headed_view left heads = record { left = left; heads = heads }
+
 abbrev pub heir_of : Heir → lines.Heir
 heir_of h = record { class = class_of h.class.now; base = option_map (λ w. word_of w.now) h.base; virtuals = h.virtuals.now }
 
 abbrev pub heirs_of : List Heir → List lines.Heir
 heirs_of hs = map heir_of hs
 
+-- the members of a class that stay, with the classes before it in its line and those after it
+abbrev pub own_of : List Heir → Heir → List Heir → List t.Member
+own_of before heir later = own_members (heirs_of before) (heir_of heir) (heirs_of later)
+
+abbrev pub items_of : List Item → List t.Item
+items_of xs = map item_of xs
+
 abbrev pub files_of : List File → List (List t.Item)
 files_of fs = map file_of fs
 
--- arguments before more
+-- an expression, if there is one
+abbrev pub maybe_expr : Option Expr → Option t.Expr
+maybe_expr e = option_map expr_of e
+
+-- What functions make, unless memory runs out
+
+abbrev pub MakesExpr : {E : Type 0} → Result Expr E → t.Expr → Type 0
+MakesExpr result e = IfOk result (λ x. expr_of x ≡ e)
+
+abbrev pub MakesStatement : {E : Type 0} → Result Statement E → t.Statement → Type 0
+MakesStatement result s = IfOk result (λ x. statement_of x ≡ s)
+
+abbrev pub MakesMember : {E : Type 0} → Result Member E → t.Member → Type 0
+MakesMember result m = IfOk result (λ x. member_of x ≡ m)
+
+-- the new vector has, seen in this way, `more` at its end
+abbrev pub Adds : {X A : Type 0} → (X → A) → Vec X → Vec X → List A → Type 0
+Adds view old new more = map view new.items ≡ map view old.items ++ more
+
+-- Parts of trees
+
+-- arguments, and then more
 abbrev pub join_args : List Expr → t.Args → t.Args
 join_args [] more = more
 join_args (e ∷ es) more = t.arg (expr_of e) (join_args es more)
 
--- and statements
+-- statements, and then more
 abbrev pub join_body : List Statement → t.Body → t.Body
 join_body [] more = more
 join_body (x ∷ xs) more = t.then_so (statement_of x) (join_body xs more)
 
--- the number of the base of a class, by a list of those of all classes
+-- the number of the base of a class, given the numbers of the bases of all classes
 abbrev pub base_in : List (Option ℕ) → ℕ → Option ℕ
 base_in bases k = option_and_then (λ (b : Option ℕ). b) (slice_get bases k)
 
@@ -45,7 +81,7 @@ base_in bases k = option_and_then (λ (b : Option ℕ). b) (slice_get bases k)
 abbrev pub base_numbers : List lines.Heir → List (Option ℕ)
 base_numbers hs = map (lines.base_number hs) hs
 
--- a class by its number, if there is one, and its bases
+-- the class of a number, if there is one, and its bases: at most m classes
 abbrev pub upward_from : ℕ → (ℕ → Option ℕ) → Option ℕ → List ℕ
 upward_from m base None = []
 upward_from m base (Some k) = lines.upward m base k

@@ -1,8 +1,8 @@
 //! Copies of words, types and expressions, with the same places.
 ghost use Rattle.std.specs.Prelude.{◌≡◌, map, option_map, IfOk};
-ghost use Rattle.std.specs.Box.{box_value};
 ghost use Rattle.ulam_tree.specs.Raw as tree;
-ghost use Rattle.ulam_tree.specs.RawViews.{word_of, width_of, type_of, path_of, expr_of, args_list, left_of, cond_of};
+ghost use Rattle.ulam_tree.specs.RawViews.{word_of, width_of, type_of, path_of, expr_of, boxed_expr, args_list, left_of, cond_of};
+ghost use Rattle.ulam_heirs.specs.Views.{maybe_expr, MakesExpr};
 
 use feast_base::{Name, NoMemory, Place};
 use std::alloc::Global;
@@ -81,7 +81,7 @@ pub fn copy_type(alloc: Global, of: &TypeRef) -> Result<TypeRef, NoMemory>
 #[cycle(expr)]
 #[tactic(auto, using(ulam_tree::proofs::RawRows::call_is))]
 pub fn copy_expr(alloc: Global, raw: &Expr) -> Result<Expr, NoMemory>
-    ensures { IfOk result (λ e. expr_of e ≡ expr_of raw.now) }
+    ensures { MakesExpr result (expr_of raw.now) }
 {
     match raw {
         Expr::Number {
@@ -128,7 +128,7 @@ pub fn copy_expr(alloc: Global, raw: &Expr) -> Result<Expr, NoMemory>
 /// A copy of a call.
 #[cycle(expr)]
 fn copy_call(alloc: Global, path: &Path, args: &[Expr]) -> Result<Expr, NoMemory>
-    ensures { IfOk result (λ e. expr_of e ≡ tree.calls (path_of path.now) (args_list args.now)) }
+    ensures { MakesExpr result (tree.calls (path_of path.now) (args_list args.now)) }
 {
     let args = copy_args(alloc, args)?;
     let path = copy_path(alloc, path)?;
@@ -138,7 +138,7 @@ fn copy_call(alloc: Global, path: &Path, args: &[Expr]) -> Result<Expr, NoMemory
 /// A copy of an element of an array.
 #[cycle(expr)]
 fn copy_index(alloc: Global, path: &Path, at: &Expr) -> Result<Expr, NoMemory>
-    ensures { IfOk result (λ e. expr_of e ≡ tree.index (path_of path.now) (expr_of at.now)) }
+    ensures { MakesExpr result (tree.index (path_of path.now) (expr_of at.now)) }
 {
     let at = copy_expr(alloc, at)?;
     let at = Box::new(alloc, at)?;
@@ -149,7 +149,7 @@ fn copy_index(alloc: Global, path: &Path, at: &Expr) -> Result<Expr, NoMemory>
 /// A copy of a cast.
 #[cycle(expr)]
 fn copy_cast(alloc: Global, to: &TypeRef, value: &Expr, place: Place) -> Result<Expr, NoMemory>
-    ensures { IfOk result (λ e. expr_of e ≡ tree.cast (type_of to.now) (expr_of value.now) place) }
+    ensures { MakesExpr result (tree.cast (type_of to.now) (expr_of value.now) place) }
 {
     let value = copy_expr(alloc, value)?;
     let value = Box::new(alloc, value)?;
@@ -160,7 +160,7 @@ fn copy_cast(alloc: Global, to: &TypeRef, value: &Expr, place: Place) -> Result<
 /// A copy of a test of a class.
 #[cycle(expr)]
 fn copy_is(alloc: Global, value: &Expr, class: &Word, place: Place) -> Result<Expr, NoMemory>
-    ensures { IfOk result (λ e. expr_of e ≡ tree.is (expr_of value.now) (word_of class.now) place) }
+    ensures { MakesExpr result (tree.is (expr_of value.now) (word_of class.now) place) }
 {
     let value = copy_expr(alloc, value)?;
     let value = Box::new(alloc, value)?;
@@ -171,7 +171,7 @@ fn copy_is(alloc: Global, value: &Expr, class: &Word, place: Place) -> Result<Ex
 /// A copy of a part of an expression.
 #[cycle(expr)]
 fn copy_boxed(alloc: Global, raw: &Box<Expr>) -> Result<Box<Expr>, NoMemory>
-    ensures { IfOk result (λ b. expr_of (box_value b) ≡ expr_of (box_value raw.now)) }
+    ensures { IfOk result (λ b. boxed_expr b ≡ boxed_expr raw.now) }
 {
     let copied = copy_expr(alloc, raw)?;
     Ok(Box::new(alloc, copied)?)
@@ -192,7 +192,7 @@ pub fn copy_args(alloc: Global, raw: &[Expr]) -> Result<Vec<Expr>, NoMemory>
 
 /// A copy of an expression, if there is one.
 pub fn copy_maybe(alloc: Global, raw: &Option<Expr>) -> Result<Option<Expr>, NoMemory>
-    ensures { IfOk result (λ x. option_map expr_of x ≡ option_map expr_of raw.now) }
+    ensures { IfOk result (λ x. maybe_expr x ≡ maybe_expr raw.now) }
 {
     match raw {
         None => Ok(None),
@@ -203,7 +203,7 @@ pub fn copy_maybe(alloc: Global, raw: &Option<Expr>) -> Result<Option<Expr>, NoM
     }
 }
 
-/// A copy of what is assigned to.
+/// A copy of a left side.
 pub fn copy_left(alloc: Global, raw: &Left) -> Result<Left, NoMemory>
     ensures { IfOk result (λ x. left_of x ≡ left_of raw.now) }
 {
@@ -223,7 +223,7 @@ pub fn copy_left(alloc: Global, raw: &Left) -> Result<Left, NoMemory>
     }
 }
 
-/// A copy of what an `if` asks.
+/// A copy of the condition of an `if`.
 pub fn copy_cond(alloc: Global, raw: &Cond) -> Result<Cond, NoMemory>
     ensures { IfOk result (λ x. cond_of x ≡ cond_of raw.now) }
 {

@@ -2,6 +2,7 @@
 ghost use Rattle.std.specs.Prelude.{◌≡◌, map, option_map, IfOk};
 ghost use Rattle.ulam_tree.specs.Raw as tree;
 ghost use Rattle.ulam_tree.specs.RawViews.{type_of, word_of, width_of, body_list, param_of, const_of, member_of};
+ghost use Rattle.ulam_heirs.specs.Views.{MakesMember};
 
 use crate::copy::{copy_size, copy_type, copy_word};
 use crate::copy_statement::copy_body;
@@ -54,7 +55,7 @@ fn copy_const(alloc: Global, value: &Const) -> Result<Const, NoMemory>
 
 /// A copy of a typedef.
 fn copy_typedef(alloc: Global, of: &TypeRef, word: &Word) -> Result<Member, NoMemory>
-    ensures { IfOk result (λ x. member_of x ≡ tree.typedef (type_of of.now) (word_of word.now)) }
+    ensures { MakesMember result (tree.typedef (type_of of.now) (word_of word.now)) }
 {
     let word = copy_word(alloc, word)?;
     let of = copy_type(alloc, of)?;
@@ -68,7 +69,7 @@ fn copy_constant(
     word: &Word,
     value: &Const,
 ) -> Result<Member, NoMemory>
-    ensures { IfOk result (λ x. member_of x ≡ tree.constant (type_of of.now) (word_of word.now) (const_of value.now)) }
+    ensures { MakesMember result (tree.constant (type_of of.now) (word_of word.now) (const_of value.now)) }
 {
     let word = copy_word(alloc, word)?;
     let value = copy_const(alloc, value)?;
@@ -83,7 +84,7 @@ fn copy_field(
     word: &Word,
     length: &Option<Width>,
 ) -> Result<Member, NoMemory>
-    ensures { IfOk result (λ x. member_of x ≡ tree.field (type_of of.now) (word_of word.now) (option_map width_of length.now)) }
+    ensures { MakesMember result (tree.field (type_of of.now) (word_of word.now) (option_map width_of length.now)) }
 {
     let word = copy_word(alloc, word)?;
     let length = copy_size(alloc, length)?;
@@ -99,7 +100,7 @@ fn copy_function(
     params: &[Param],
     body: &[Statement],
 ) -> Result<Member, NoMemory>
-    ensures { IfOk result (λ x. member_of x ≡ tree.function (type_of of.now) (word_of word.now) (map param_of params.now) (body_list body.now)) }
+    ensures { MakesMember result (tree.function (type_of of.now) (word_of word.now) (map param_of params.now) (body_list body.now)) }
 {
     let word = copy_word(alloc, word)?;
     let params = copy_params(alloc, params)?;
@@ -115,7 +116,7 @@ fn copy_function(
 
 /// A copy of a member, with the same places.
 pub fn copy_member(alloc: Global, member: &Member) -> Result<Member, NoMemory>
-    ensures { IfOk result (λ x. member_of x ≡ member_of member.now) }
+    ensures { MakesMember result (member_of member.now) }
 {
     match member {
         Member::Typedef { of, word } => copy_typedef(alloc, of, word),

@@ -1,9 +1,9 @@
 //! Copies of statements.
-ghost use Rattle.std.specs.Prelude.{◌≡◌, ◌⊎◌, option_map, IfOk, true};
-ghost use Rattle.std.specs.Box.{box_value};
+ghost use Rattle.std.specs.Prelude.{◌≡◌, IfOk, IsTrue};
 ghost use Rattle.ulam_tree.specs.Raw as tree;
-ghost use Rattle.ulam_tree.specs.RawViews.{word_of, type_of, path_of, expr_of, args_list, left_of, statement_of, part_alone, body_list};
+ghost use Rattle.ulam_tree.specs.RawViews.{word_of, type_of, path_of, expr_of, args_list, left_of, statement_of, boxed_statement, part_alone, body_list};
 ghost use Rattle.ulam_heirs.specs.Simple.{is_simple};
+ghost use Rattle.ulam_heirs.specs.Views.{maybe_expr, MakesStatement};
 
 use crate::copy::{
     copy_args, copy_cond, copy_expr, copy_left, copy_maybe, copy_path, copy_type, copy_word,
@@ -19,7 +19,7 @@ fn copy_declare(
     word: &Word,
     value: &Option<Expr>,
 ) -> Result<Statement, NoMemory>
-    ensures { IfOk result (λ x. statement_of x ≡ tree.declares (type_of of.now) (word_of word.now) (option_map expr_of value.now)) }
+    ensures { MakesStatement result (tree.declares (type_of of.now) (word_of word.now) (maybe_expr value.now)) }
 {
     let word = copy_word(alloc, word)?;
     let of = copy_type(alloc, of)?;
@@ -34,7 +34,7 @@ fn copy_assign(
     op: Option<PairOp>,
     value: &Expr,
 ) -> Result<Statement, NoMemory>
-    ensures { IfOk result (λ x. statement_of x ≡ tree.assigns (left_of left.now) op (expr_of value.now)) }
+    ensures { MakesStatement result (tree.assigns (left_of left.now) op (expr_of value.now)) }
 {
     let left = copy_left(alloc, left)?;
     let value = copy_expr(alloc, value)?;
@@ -43,7 +43,7 @@ fn copy_assign(
 
 /// A copy of a call that is a statement.
 fn copy_does(alloc: Global, path: &Path, args: &[Expr]) -> Result<Statement, NoMemory>
-    ensures { IfOk result (λ x. statement_of x ≡ tree.does (path_of path.now) (args_list args.now)) }
+    ensures { MakesStatement result (tree.does (path_of path.now) (args_list args.now)) }
 {
     let path = copy_path(alloc, path)?;
     let args = copy_args(alloc, args)?;
@@ -54,8 +54,8 @@ fn copy_does(alloc: Global, path: &Path, args: &[Expr]) -> Result<Statement, NoM
 
 /// A copy of a statement that holds no other statement.
 fn copy_simple(alloc: Global, raw: &Statement) -> Result<Statement, NoMemory>
-    requires { is_simple (statement_of raw.now) ≡ true }
-    ensures { IfOk result (λ x. statement_of x ≡ statement_of raw.now) }
+    requires { IsTrue (is_simple (statement_of raw.now)) }
+    ensures { MakesStatement result (statement_of raw.now) }
 {
     match raw {
         Statement::Return { place, value } => {
@@ -87,7 +87,7 @@ fn copy_simple(alloc: Global, raw: &Statement) -> Result<Statement, NoMemory>
 #[cycle(statement)]
 #[tactic(auto, using(ulam_tree::proofs::RawRows::block_is, ulam_tree::proofs::RawRows::if_is, ulam_tree::proofs::RawRows::for_is))]
 pub fn copy_statement(alloc: Global, raw: &Statement) -> Result<Statement, NoMemory>
-    ensures { IfOk result (λ x. statement_of x ≡ statement_of raw.now) }
+    ensures { MakesStatement result (statement_of raw.now) }
 {
     match raw {
         Statement::Block { body } => {
@@ -127,7 +127,7 @@ pub fn copy_statement(alloc: Global, raw: &Statement) -> Result<Statement, NoMem
 /// A copy of a `while`.
 #[cycle(statement)]
 fn copy_while(alloc: Global, body: &Statement, cond: &Expr) -> Result<Statement, NoMemory>
-    ensures { IfOk result (λ x. statement_of x ≡ tree.while_so (expr_of cond.now) (statement_of body.now)) }
+    ensures { MakesStatement result (tree.while_so (expr_of cond.now) (statement_of body.now)) }
 {
     let body = copy_statement(alloc, body)?;
     let body = Box::new(alloc, body)?;
@@ -138,7 +138,7 @@ fn copy_while(alloc: Global, body: &Statement, cond: &Expr) -> Result<Statement,
 /// A copy of a statement inside another one.
 #[cycle(statement)]
 fn copy_boxed(alloc: Global, raw: &Box<Statement>) -> Result<Box<Statement>, NoMemory>
-    ensures { IfOk result (λ b. statement_of (box_value b) ≡ statement_of (box_value raw.now)) }
+    ensures { IfOk result (λ b. boxed_statement b ≡ boxed_statement raw.now) }
 {
     let copied = copy_statement(alloc, raw)?;
     Ok(Box::new(alloc, copied)?)

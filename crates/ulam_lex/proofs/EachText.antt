@@ -17,8 +17,9 @@ use Rattle.ulam_lex.specs.declared.bytes.Class.TheVariants.{White, Small, Capita
 use Rattle.ulam_lex.specs.Bytes.{class_of, is_keyword, is_sign}
 use Rattle.ulam_lex.specs.Pieces.{prefix_of, radix_of, worth_after}
 use Rattle.ulam_lex.specs.Starts.{Stands, IsStart, OpensNone, digit_count, body_of, digits_of}
-use Rattle.ulam_lex.specs.Texts.{is_joined, place_after, token_list, IsTokensOf, most_tokens, IsFaultAt, IsFaultOf}
-use Rattle.ulam_lex.specs.Steps.{TakesPiece, IsRead}
+use Rattle.ulam_lex.specs.Texts.{is_joined, place_after, token_list, IsTokensOf, most_tokens, IsFaultAt}
+use Rattle.ulam_lex.specs.Laws.{HasTokens, HasFault}
+use Rattle.ulam_lex.specs.Steps.{Cut, cut_at, place_of, standing, TakesPiece, IsRead}
 use Rattle.ulam_lex.proofs.Words.{space_start, word_len, keyword_start, name_start, type_name_start}
 use Rattle.ulam_lex.proofs.Numbers.{any_base, number_start, large_start, bare_start}
 use Rattle.ulam_lex.proofs.Marks.{line_start, block_at, not_held, sign_start, nothing_start}
@@ -147,8 +148,8 @@ starts text some = by_class (class_of (get_or text 0 0)) refl
     by_class Mark is = mark_starts text some is
 
 -- a piece more is read, or a fault stands there
-abbrev GoesOn : ℕ → List ℕ → List ℕ → List Token → Type 0
-GoesOn file before rest old = ((new : List Token) × (n : ℕ) × (next : Place) × TakesPiece file before rest old new n next) ⊎ ((f : LexFault) × IsFaultAt file before (length old) rest f)
+abbrev GoesOn : Cut → List Token → Type 0
+GoesOn s old = ((new : List Token) × (n : ℕ) × (next : Place) × TakesPiece s old new n next) ⊎ ((f : LexFault) × IsFaultAt s.file s.before (length old) s.rest f)
 
 -- the token of a piece has room, or is one too many
 room : (kind : PieceKind) (first end : ℕ) (place : Place) (old : List Token) → length old ≤ most_tokens →
@@ -160,28 +161,28 @@ room (piece.Token token) first end place old few = elim (cases_lt (length old) m
   | inr full ↦ inr (omega arith, (token, refl))
 ]
 
-goes_on : (file : ℕ) (before rest : List ℕ) (old : List Token) (start : Start) → length old ≤ most_tokens → IsStart rest start → GoesOn file before rest old
-goes_on file before rest old (BadByte n) few (within, found) = inr (fault.BadByte (place_after file (before ++ take n rest)), (take n rest, drop n rest, start_fault (length old) rest (take n rest) (drop n rest) found, refl))
-goes_on file before rest old OpenComment few found = inr (fault.OpenComment (place_after file before), (found, refl))
-goes_on file before rest old NumberTooLarge few found = inr (fault.NumberTooLarge (place_after file before), (found, refl))
-goes_on file before rest old (Piece kind n) few (some, within, stands) =
-    let first = length before in
-    let place = place_after file before in
+goes_on : (s : Cut) (old : List Token) (start : Start) → length old ≤ most_tokens → IsStart s.rest start → GoesOn s old
+goes_on s old (BadByte n) few (within, found) = inr (fault.BadByte (place_after s.file (s.before ++ take n s.rest)), (take n s.rest, drop n s.rest, start_fault (length old) s.rest (take n s.rest) (drop n s.rest) found, refl))
+goes_on s old OpenComment few found = inr (fault.OpenComment (place_of s), (found, refl))
+goes_on s old NumberTooLarge few found = inr (fault.NumberTooLarge (place_of s), (found, refl))
+goes_on s old (Piece kind n) few (some, within, stands) =
+    let first = length s.before in
+    let place = place_of s in
     let new = old ++ token_list kind first (first + n) place in
     elim (room kind first (first + n) place old few) [
       | inr full ↦ let many = too_many full.1 in inr (fault.TooManyTokens place, ((full.0, many.0, many.1, many.2, many.3), refl))
-      | inl fits ↦ elim (cases_Bool (is_joined kind (drop n rest))) [
-        | inl joined ↦ inr (fault.BadByte (place_after file (before ++ take n rest)), (take n rest, drop n rest, joined_fault before rest kind n first (first + n) place old new stands (refl, fits) joined, refl))
-        | inr apart ↦ inl (new, n, place_after file (before ++ take n rest), piece_taken file before rest kind n first place (place_after file (before ++ take n rest)) old new some within refl refl stands (refl, fits) apart refl)
+      | inl fits ↦ elim (cases_Bool (is_joined kind (drop n s.rest))) [
+        | inl joined ↦ inr (fault.BadByte (place_after s.file (s.before ++ take n s.rest)), (take n s.rest, drop n s.rest, joined_fault s.rest (standing kind first (first + n) place) n old new stands (refl, fits) joined, refl))
+        | inr apart ↦ inl (new, n, place_after s.file (s.before ++ take n s.rest), piece_taken s kind n first place (place_after s.file (s.before ++ take n s.rest)) old new some within refl refl stands (refl, fits) apart refl)
       ]
     ]
   where
-    too_many : (token : TokenKind) × (kind ≡ piece.Token token) → (token : TokenKind) × (front : List ℕ) × (back : List ℕ) × Stands (piece.Token token) rest front back
-    too_many (token, is) = (token, take n rest, drop n rest, subst (λ k. Stands k rest (take n rest) (drop n rest)) is stands)
+    too_many : (token : TokenKind) × (kind ≡ piece.Token token) → (token : TokenKind) × (front : List ℕ) × (back : List ℕ) × Stands (piece.Token token) s.rest front back
+    too_many (token, is) = (token, take n s.rest, drop n s.rest, subst (λ k. Stands k s.rest (take n s.rest) (drop n s.rest)) is stands)
 
 -- a list of tokens within the limit, or a first fault
 abbrev pub IsListOrFault : ℕ → List ℕ → Type 0
-IsListOrFault file text = ((tokens : List Token) × IsTokensOf file text tokens × (length tokens ≤ most_tokens + 1)) ⊎ ((f : LexFault) × IsFaultOf file text f)
+IsListOrFault file text = HasTokens file text ⊎ HasFault file text
 
 at_end : (file : ℕ) (text : List ℕ) (at : ℕ) (tokens : List Token) (place : Place) → IsRead file text at tokens place → length text ≤ at → (all : List Token) × IsTokensOf file text all × (length all ≤ most_tokens + 1)
 at_end file text at tokens place read past =
@@ -196,7 +197,7 @@ from_place file text (suc left) at tokens place read enough = elim (cases_lt at 
   | inl within ↦
       let some : 0 < length (drop at text) = omega (arith, length-drop at text) in
       let start = starts (drop at text) some in
-      elim (goes_on file (take at text) (drop at text) tokens start.0 read.few start.1) [
+      elim (goes_on (cut_at file text at) tokens start.0 read.few start.1) [
         | inr stops ↦ inr (stops.0, fault_of file text at tokens place stops.0 read stops.1)
         | inl more ↦
             let taken = more.3 in

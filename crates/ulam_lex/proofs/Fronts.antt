@@ -232,7 +232,7 @@ run_passes p text n within = λ k d lt.
     let below : k < n = omega (arith, length-take-le n text short) in
     ap p (get_or-take n text k d below) ∙ prefix_len_passes p text k d (omega arith)
 
--- behind the whole run nothing passes
+-- the byte after the whole run does not pass
 pub run_ends : (p : ℕ → Bool) (text : List ℕ) → p 0 ≡ false → p (get_or (drop (prefix_len p text) text) 0 0) ≡ false
 run_ends p text zero_fails = ap p (get_or-drop (prefix_len p text) text 0 0 ∙ ap (λ i. get_or text i 0) (add-zero (prefix_len p text))) ∙
     elim (cases_lt (prefix_len p text) (length text)) [

@@ -240,7 +240,7 @@ number_at base text b =
       long = length-append prefix (digits ++ suffix) ∙ ap (λ k. length prefix + k) (length-append digits suffix) ∙ omega (arith, counted, suffix_counts (is_unsigned base text));
     }
 
--- behind a prefix without digits stands none of the base
+-- after a prefix without digits there is no digit of the base
 none_passes : (p : ℕ → Bool) (bytes : List ℕ) → p (get_or bytes 0 0) ≡ false → prefix_len p bytes ≡ 0
 none_passes p [] h = refl
 none_passes p (b ∷ bytes) h = cond-false (p b) (1 + prefix_len p bytes) 0 h
@@ -380,7 +380,7 @@ binary_at text bare rest h = let whole : text ≡ codes "0b" ++ rest = h.0 ∙ a
 pub hexadecimal_at : (text bare rest : List ℕ) → LacksDigit Hexadecimal text bare rest → IsBaseAt Hexadecimal text
 hexadecimal_at text bare rest h = let whole : text ≡ codes "0x" ++ rest = h.0 ∙ ap (λ l. l ++ rest) h.1 in whole ∙ ap (λ l. codes "0x" ++ l) (sym (ap (drop 2) whole))
 
--- where a digit lacks no numeral is worth anything
+-- no digits have the value 0
 worth_of_none : (base : Base) (text : List ℕ) → digit_count base (body_of base text) ≡ 0 → worth_after (radix_of base) 0 (digits_of base text) ≡ 0
 worth_of_none base text none = ap (λ n. worth_after (radix_of base) 0 (take n (body_of base text))) none
 

@@ -14,7 +14,8 @@ use Rattle.ulam_lex.specs.declared.bytes.Class.TheVariants.{White, Small, Capita
 use Rattle.ulam_lex.specs.Bytes.{is_keyword, signs, is_sign}
 use Rattle.ulam_lex.specs.Pieces.{IsPiece}
 use Rattle.ulam_lex.specs.Starts.{Stands, BeginsNothing, IsDigitless, LeavesOpen, BeginsTooLarge}
-use Rattle.ulam_lex.specs.Texts.{TextPiece, spelled, is_joined, ArePieces, place_after, token_list, tokens_after, end_token, IsTokensOf, most_tokens, token_count, IsBadBehind, IsOneTooMany, IsFaultAt, IsFaultOf}
+use Rattle.ulam_lex.specs.Texts.{TextPiece, spelled, is_joined, ArePieces, place_after, token_list, tokens_after, end_token, IsTokensOf, IsTokenList, most_tokens, token_count, IsBadBehind, IsOneTooMany, IsFaultAt, IsFaultOf}
+use Rattle.ulam_lex.specs.Laws.{IsBroken}
 use Rattle.ulam_lex.proofs.Fronts.{class_by, piece_class, piece_some, open_class, large_class, bare_class}
 use Rattle.ulam_lex.proofs.Marks.{comment_is_no_sign}
 use Rattle.ulam_lex.proofs.Numbers.{bare_is_small, numeral_begins, digit_is_number}
@@ -148,7 +149,7 @@ bare_front text front back (inr b) = b.1 ∙ sym (ap (take 2) (b.0 ∙ ap (λ l.
 bare_open : (text front back : List ℕ) → IsDigitless text front back → LeavesOpen text → ⊥
 bare_open text front back bare h = let digit = bare_class text front back bare in let mark = open_class text h in cc
 
--- a byte that can't stand there, and each other fault
+-- a byte that can't be where it is excludes each other fault
 bad_same : (count : ℕ) (text front back more rest : List ℕ) → IsBadBehind count text front back → IsBadBehind count text more rest → front ≡ more
 bad_same count text front back more rest (inl h) (inl k) = h.1 ∙ sym k.1
 bad_same count text front back more rest (inl h) (inr (inl k)) = absurd (nothing_bare text front back more rest h k)
@@ -178,7 +179,7 @@ bad_many count text front back (inr (inr h)) k = let full = k.0 in let room = h.
 open_large : (text : List ℕ) → LeavesOpen text → BeginsTooLarge text → ⊥
 open_large text h k = let mark = open_class text h in let digit = large_class text k in cc
 
--- at one place stands one fault
+-- the rest of a text has one fault
 one_fault : (file : ℕ) (before : List ℕ) (count : ℕ) (rest : List ℕ) (f g : LexFault) → IsFaultAt file before count rest f → IsFaultAt file before count rest g → f ≡ g
 one_fault file before count rest (BadByte p) (BadByte q) h k = ap BadByte (h.3 ∙ ap (λ l. place_after file (before ++ l)) (bad_same count rest h.0 h.1 k.0 k.1 h.2 k.2) ∙ sym k.3)
 one_fault file before count rest (BadByte p) (OpenComment q) h k = absurd (bad_open count rest h.0 h.1 h.2 k.0)
@@ -211,7 +212,7 @@ count_cons p ps =
     length-append (token_list p.kind 0 (0 + length p.bytes) (place_after 0 [])) (tokens_after 0 p.bytes ps) ∙ (ap (λ n. n + length (tokens_after 0 p.bytes ps)) (list_length p.kind 0 (0 + length p.bytes) 0 0 (place_after 0 []) (place_after 0 []))
     ∙ ap (λ n. kind_count p.kind + n) (tokens_length 0 0 p.bytes [] ps))
 
--- where this is so behind so many tokens, no further piece stands, as long as there are no more than m tokens
+-- where S holds of the rest after a number of tokens, the rest begins with no piece that keeps that number within m
 abbrev Excludes : ℕ → (ℕ → List ℕ → Type 0) → Type 0
 Excludes m S = (count : ℕ) (rest : List ℕ) (kind : PieceKind) (front back : List ℕ) → S count rest → Stands kind rest front back → is_joined kind back ≡ false → count + kind_count kind ≤ m → ⊥
 
@@ -247,7 +248,7 @@ fault_excludes file (TooManyTokens p) count rest kind front back (before, h) s a
     omega arith
 fault_excludes file NoMemory count rest kind front back (before, h) s apart few = h
 
--- from one text the same pieces are taken, up to where no further piece stands
+-- two ways to take pieces from one text, up to where there is no further piece, are the same
 abbrev SameSplit : List TextPiece → List TextPiece → List ℕ → List ℕ → Type 0
 SameSplit ps qs rest more = (ps ≡ qs) × (rest ≡ more)
 
@@ -289,7 +290,7 @@ one_list file text a b (ps, e, are, listed) (qs, f, also, other) =
 few_tokens : (file : ℕ) (text : List ℕ) (tokens : List Token) (h : IsTokensOf file text tokens) → length tokens ≤ most_tokens + 1 → token_count h.0 ≤ most_tokens
 few_tokens file text tokens h few = omega (arith, ap length h.3, length-append (tokens_after file [] h.0) (end_token file text ∷ []), tokens_length file 0 [] [] h.0)
 
--- no fault stands at the end of a text
+-- the end of a text has no fault
 bad_some : (count : ℕ) (text front back : List ℕ) → IsBadBehind count text front back → 0 < length text
 bad_some count text front back (inl h) = h.2
 bad_some count text front back (inr (inl (inl x))) = omega (arith, ap length (x.0 ∙ ap (λ l. l ++ back) x.1))
@@ -327,12 +328,12 @@ break_excludes m file before (TooManyTokens p) count rest kind front back h s ap
 break_excludes m file before NoMemory count rest kind front back h s apart few = h
 
 -- a text with such a fault somewhere has no list, of any length
-pub no_list : (file : ℕ) (pieces : List TextPiece) (rest : List ℕ) (fault : LexFault) (tokens : List Token) → ArePieces pieces rest → IsFaultAt file (spelled pieces) 0 rest fault → IsTokensOf file (spelled pieces ++ rest) tokens → ⊥
-no_list file pieces rest fault tokens are k (ps, e, also, listed) =
-    let m = token_count ps + token_count pieces in
-    let whole : spelled ps ++ [] ≡ spelled pieces ++ rest = append-nil (spelled ps) ∙ sym e in
-    let same = same_split m AtEnd (AtBreak file (spelled pieces) fault) (end_excludes m) (break_excludes m file (spelled pieces) fault) ps pieces 0 [] rest whole also are (omega arith) (omega arith) refl k in
-    let some = fault_some file (spelled pieces) 0 rest fault k in
+pub no_list : (file : ℕ) (text : List ℕ) → IsBroken file text → (tokens : List Token) → IsTokensOf file text tokens → ⊥
+no_list file text b tokens (ps, e, also, listed) =
+    let m = token_count ps + token_count b.pieces in
+    let whole : spelled ps ++ [] ≡ spelled b.pieces ++ b.rest = append-nil (spelled ps) ∙ sym e ∙ b.split in
+    let same = same_split m AtEnd (AtBreak file (spelled b.pieces) b.fault) (end_excludes m) (break_excludes m file (spelled b.pieces) b.fault) ps b.pieces 0 [] b.rest whole also b.are_pieces (omega arith) (omega arith) refl b.broken in
+    let some = fault_some file (spelled b.pieces) 0 b.rest b.fault b.broken in
     omega (arith, ap length same.1)
 
 -- a text has one first fault
@@ -346,14 +347,14 @@ one_fault_of file text f g (ps, rest, e, are, few, h) (qs, more, d, also, within
 
 -- what is given is the text's own list or fault, so it is no other
 pub only_tokens : {V : Type 0} (items : V → List Token) (file : ℕ) (text : List ℕ) (given : Result V LexFault) →
-    IfOk given (λ v. IsTokensOf file text (items v) × (length (items v) ≤ most_tokens + 1)) → IfErr given (λ e. (e ≡ NoMemory) ⊎ IsFaultOf file text e) →
-    (tokens : List Token) → IsTokensOf file text tokens → length tokens ≤ most_tokens + 1 → MatchResult given (λ v. items v ≡ tokens) (λ e. e ≡ NoMemory)
-only_tokens items file text (Ok v) own fault tokens h few = one_list file text (items v) tokens own.0 h
-only_tokens items file text (Err e) own (inl memory) tokens h few = memory
-only_tokens items file text (Err e) own (inr other) tokens h few = absurd (list_or_fault file text tokens e h few other)
+    IfOk given (λ v. IsTokenList file text (items v)) → IfErr given (λ e. (e ≡ NoMemory) ⊎ IsFaultOf file text e) →
+    (tokens : List Token) → IsTokenList file text tokens → MatchResult given (λ v. items v ≡ tokens) (λ e. e ≡ NoMemory)
+only_tokens items file text (Ok v) own fault tokens h = one_list file text (items v) tokens own.0 h.0
+only_tokens items file text (Err e) own (inl memory) tokens h = memory
+only_tokens items file text (Err e) own (inr other) tokens h = absurd (list_or_fault file text tokens e h.0 h.1 other)
 
 pub only_fault : {V : Type 0} (items : V → List Token) (file : ℕ) (text : List ℕ) (given : Result V LexFault) →
-    IfOk given (λ v. IsTokensOf file text (items v) × (length (items v) ≤ most_tokens + 1)) → IfErr given (λ e. (e ≡ NoMemory) ⊎ IsFaultOf file text e) →
+    IfOk given (λ v. IsTokenList file text (items v)) → IfErr given (λ e. (e ≡ NoMemory) ⊎ IsFaultOf file text e) →
     (fault : LexFault) → IsFaultOf file text fault → IsErrAnd given (λ e. (e ≡ NoMemory) ⊎ (e ≡ fault))
 only_fault items file text (Ok v) own fault other k = absurd (list_or_fault file text (items v) other own.0 own.1 k)
 only_fault items file text (Err e) own (inl memory) other k = inl memory

@@ -11,7 +11,7 @@ use Rattle.ulam_lex.specs.declared.scan.PieceKind.{PieceKind}
 use Rattle.ulam_lex.specs.declared.scan.PieceKind.TheVariants as piece
 use Rattle.ulam_lex.specs.Starts.{Stands, BeginsNothing, IsDigitless}
 use Rattle.ulam_lex.specs.Texts.{TextPiece, spelled, is_joined, ArePieces, place_after, token_list, tokens_after, IsTokensOf, most_tokens, token_count, IsBadBehind, IsFaultAt, IsFaultOf}
-use Rattle.ulam_lex.specs.Steps.{IsFaultIn, IsAdded, TakesPiece, IsRead}
+use Rattle.ulam_lex.specs.Steps.{Cut, cut_at, place_of, StandingPiece, standing, IsFaultIn, IsAdded, TakesPiece, IsRead}
 
 spelled_push : (ps : List TextPiece) (p : TextPiece) → spelled (ps ++ p ∷ []) ≡ spelled ps ++ p.bytes
 spelled_push ps p = sym (flat_map_more (λ (q : TextPiece). q.bytes) [] ps p)
@@ -35,7 +35,7 @@ tokens_push file before (q ∷ ps) p =
     ap (λ l. own ++ l) (tokens_push file (before ++ q.bytes) ps p) ∙ ap (λ l. own ++ (tokens_after file (before ++ q.bytes) ps ++ token_list p.kind (length l) (length l + length p.bytes) (place_after file l))) (append_assoc before q.bytes (spelled ps))
     ∙ sym (append_assoc own (tokens_after file (before ++ q.bytes) ps) _)
 
--- how many tokens there are depends on nothing before them
+-- how many tokens there are does not depend on what is before them
 pub list_length : (kind : PieceKind) (first end other more : ℕ) (place elsewhere : Place) → length (token_list kind first end place) ≡ length (token_list kind other more elsewhere)
 list_length piece.Space first end other more place elsewhere = refl
 list_length piece.Comment first end other more place elsewhere = refl
@@ -56,7 +56,7 @@ take_more_of at n text =
 
 -- a piece more was read
 pub read_more : (file : ℕ) (text : List ℕ) (at : ℕ) (tokens : List Token) (place : Place) (new : List Token) (n : ℕ) (next : Place) →
-    IsRead file text at tokens place → TakesPiece file (take at text) (drop at text) tokens new n next → IsRead file text (at + n) new next
+    IsRead file text at tokens place → TakesPiece (cut_at file text at) tokens new n next → IsRead file text (at + n) new next
 read_more file text at tokens place new n next r t =
     let bytes = take n (drop at text) in
     let rest = drop (at + n) text in
@@ -87,7 +87,7 @@ text_split file text at tokens place r = sym (take-append-drop at text) ∙ ap (
 count_read : (file : ℕ) (text : List ℕ) (at : ℕ) (tokens : List Token) (place : Place) (r : IsRead file text at tokens place) → length tokens ≡ token_count r.pieces
 count_read file text at tokens place r = ap length r.listed ∙ tokens_length file 0 [] [] r.pieces
 
--- a fault stands behind what was read
+-- a fault after what was read
 pub fault_of : (file : ℕ) (text : List ℕ) (at : ℕ) (tokens : List Token) (place : Place) (fault : LexFault) (r : IsRead file text at tokens place) → IsFaultAt file (take at text) (length tokens) (drop at text) fault → IsFaultOf file text fault
 fault_of file text at tokens place fault r h =
     let count = count_read file text at tokens place r in (
@@ -99,7 +99,7 @@ fault_of file text at tokens place fault r h =
       subst (λ n. IsFaultAt file (spelled r.pieces) n (drop at text) fault) count (subst (λ l. IsFaultAt file l (length tokens) (drop at text) fault) r.before h),
     )
 
-pub read_fault : (file : ℕ) (text : List ℕ) (at : ℕ) (tokens : List Token) (place : Place) (fault : LexFault) → IsRead file text at tokens place → IsFaultIn file (take at text) (length tokens) (drop at text) fault →
+pub read_fault : (file : ℕ) (text : List ℕ) (at : ℕ) (tokens : List Token) (place : Place) (fault : LexFault) → IsRead file text at tokens place → IsFaultIn (cut_at file text at) (length tokens) fault →
     (fault ≡ NoMemory) ⊎ IsFaultOf file text fault
 read_fault file text at tokens place (BadByte p) r h = inr (fault_of file text at tokens place (BadByte p) r h)
 read_fault file text at tokens place (OpenComment p) r h = inr (fault_of file text at tokens place (OpenComment p) r h)
@@ -128,38 +128,38 @@ read_end file text at tokens new place r past e =
     )
 
 -- the token of a piece was one too many
-pub added_fault : (file : ℕ) (before rest : List ℕ) (kind : PieceKind) (n first end : ℕ) (place : Place) (old new : List Token) (fault : LexFault) → place ≡ place_after file before → Stands kind rest (take n rest) (drop n rest) →
-    IsAdded kind first end place old new (Err fault) → IsFaultIn file before (length old) rest fault
-added_fault file before rest kind n first end place old new (BadByte p) placed stands h = absurd h
-added_fault file before rest kind n first end place old new (OpenComment p) placed stands h = absurd h
-added_fault file before rest kind n first end place old new (NumberTooLarge p) placed stands h = absurd h
-added_fault file before rest kind n first end place old new (TooManyTokens p) placed stands h =
-    ((h.0, h.2.0, take n rest, drop n rest, subst (λ k. Stands k rest (take n rest) (drop n rest)) h.2.1 stands), h.1 ∙ placed)
-added_fault file before rest kind n first end place old new NoMemory placed stands h = h
+pub added_fault : (s : Cut) (p : StandingPiece) (n : ℕ) (old new : List Token) (fault : LexFault) → p.place ≡ place_of s → Stands p.kind s.rest (take n s.rest) (drop n s.rest) →
+    IsAdded p old new (Err fault) → IsFaultIn s (length old) fault
+added_fault s p n old new (BadByte at) placed stands h = absurd h
+added_fault s p n old new (OpenComment at) placed stands h = absurd h
+added_fault s p n old new (NumberTooLarge at) placed stands h = absurd h
+added_fault s p n old new (TooManyTokens at) placed stands h =
+    ((h.0, h.2.0, take n s.rest, drop n s.rest, subst (λ k. Stands k s.rest (take n s.rest) (drop n s.rest)) h.2.1 stands), h.1 ∙ placed)
+added_fault s p n old new NoMemory placed stands h = h
 
--- what a letter, a digit or `_` follows was a token
+-- a piece that a letter, a digit or `_` joins is a token
 one_token : (kind : PieceKind) (back : List ℕ) (first end : ℕ) (place : Place) → is_joined kind back ≡ true → length (token_list kind first end place) ≡ 1
 one_token piece.Space back first end place h = absurd (false≢true h)
 one_token piece.Comment back first end place h = absurd (false≢true h)
 one_token (piece.Token kind) back first end place h = refl
 
-pub joined_fault : (before rest : List ℕ) (kind : PieceKind) (n first end : ℕ) (place : Place) (old new : List Token) → Stands kind rest (take n rest) (drop n rest) → IsAdded kind first end place old new (Ok tt) → is_joined kind (drop n rest) ≡ true →
+pub joined_fault : (rest : List ℕ) (p : StandingPiece) (n : ℕ) (old new : List Token) → Stands p.kind rest (take n rest) (drop n rest) → IsAdded p old new (Ok tt) → is_joined p.kind (drop n rest) ≡ true →
     IsBadBehind (length old) rest (take n rest) (drop n rest)
-joined_fault before rest kind n first end place old new stands added joined =
-    let one = one_token kind (drop n rest) first end place joined in
+joined_fault rest p n old new stands added joined =
+    let one = one_token p.kind (drop n rest) p.first p.end p.place joined in
     let few = added.1 in
-    inr (inr (kind, stands, joined, omega (arith, ap length added.0, length-append old (token_list kind first end place))))
+    inr (inr (p.kind, stands, joined, omega (arith, ap length added.0, length-append old (token_list p.kind p.first p.end p.place))))
 
 -- the piece was taken
-pub piece_taken : (file : ℕ) (before rest : List ℕ) (kind : PieceKind) (n first : ℕ) (place next : Place) (old new : List Token) → 0 < n → n ≤ length rest → first ≡ length before → place ≡ place_after file before → Stands kind rest (take n rest) (drop n rest) →
-    IsAdded kind first (first + n) place old new (Ok tt) → is_joined kind (drop n rest) ≡ false → next ≡ place_after file (before ++ take n rest) → TakesPiece file before rest old new n next
-piece_taken file before rest kind n first place next old new some within counted placed stands added apart passed = record {
+pub piece_taken : (s : Cut) (kind : PieceKind) (n first : ℕ) (place next : Place) (old new : List Token) → 0 < n → n ≤ length s.rest → first ≡ length s.before → place ≡ place_of s → Stands kind s.rest (take n s.rest) (drop n s.rest) →
+    IsAdded (standing kind first (first + n) place) old new (Ok tt) → is_joined kind (drop n s.rest) ≡ false → next ≡ place_after s.file (s.before ++ take n s.rest) → TakesPiece s old new n next
+piece_taken s kind n first place next old new some within counted placed stands added apart passed = record {
   kind = kind;
   some = some;
   within = within;
   stands = stands;
   apart = apart;
-  added = added.0 ∙ (ap (λ k. old ++ token_list kind k (k + n) place) counted ∙ ap (λ p. old ++ token_list kind (length before) (length before + n) p) placed);
+  added = added.0 ∙ (ap (λ k. old ++ token_list kind k (k + n) place) counted ∙ ap (λ p. old ++ token_list kind (length s.before) (length s.before + n) p) placed);
   few = added.1;
   placed = passed;
 }

@@ -1,4 +1,4 @@
--- The tokens of a text stand one behind another.
+-- The tokens of a text come one after another.
 use Rattle.std.proofs.Common.{◌≡◌, ℕ, ◌+◌, ◌-◌, ◌<◌, ◌≤◌, List, [], ◌∷◌, ◌++◌, length, take, drop, refl, sym, ap, ◌∙◌, subst, arith, append_assoc, append-nil, Result, Ok, Err}
 use Rattle.std.specs.Prelude.{slice_range, IfOk}
 use Rattle.ulam_lex.specs.declared.token.LexFault.{LexFault}
@@ -22,7 +22,7 @@ slice_is text before bytes rest e =
     let long : length before + length bytes - length before ≡ length bytes = omega arith in
     ap (λ n. take n (drop (length before) text)) long ∙ ap (take (length bytes)) behind ∙ take_at bytes rest (length bytes) refl
 
--- one piece's token, if it is one, before those of the pieces behind it
+-- the token of a piece, if it is one, before those of the pieces after it
 piece_order : (kind : PieceKind) (file : ℕ) (text before bytes rest : List ℕ) (from : ℕ) (us : List Token) → text ≡ before ++ (bytes ++ rest) → IsPiece kind bytes → from ≤ length before →
     ((more : ℕ) → more ≤ length before + length bytes → AreInOrder text more us) → AreInOrder text from (token_list kind (length before) (length before + length bytes) (place_after file before) ++ us)
 piece_order piece.Space file text before bytes rest from us e p behind order = order from (omega arith)

@@ -3,3 +3,4 @@ pub mod Pieces
 pub mod Starts
 pub mod Texts
 pub mod Steps
+pub mod Laws

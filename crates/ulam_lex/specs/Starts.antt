@@ -1,5 +1,5 @@
 -- What is at the front of a text.
-use Rattle.std.specs.Prelude.{◌≡◌, ◌≢◌, ◌⊎◌, ℕ, ◌<◌, ◌≤◌, ◌^◌, ◌==◌, Bool, false, List, [], ◌++◌, length, slice_index, take, drop, codes, if◌then◌else◌}
+use Rattle.std.specs.Prelude.{◌≡◌, ◌≢◌, ◌⊎◌, ℕ, ◌+◌, ◌<◌, ◌≤◌, ◌^◌, ◌==◌, Bool, false, List, [], ◌++◌, length, slice_index, take, drop, codes, if◌then◌else◌}
 use Rattle.std.specs.List.{prefix_len}
 use Rattle.std.specs.Char.{is_digit}
 use Rattle.ulam_lex.specs.declared.numeral.Base.{Base}
@@ -70,3 +70,11 @@ rest_of base text = drop (digit_count base (body_of base text)) (body_of base te
 -- no comment begins at the front
 abbrev pub OpensNone : List ℕ → Type 0
 OpensNone text = ((rest : List ℕ) → text ≢ codes "//" ++ rest) × ((rest : List ℕ) → text ≢ codes "/*" ++ rest)
+
+-- `*/` is at this index
+abbrev pub ClosesAt : List ℕ → ℕ → Type 0
+ClosesAt text at = (slice_index text at ≡ 42) × (slice_index text (at + 1) ≡ 47)
+
+-- it is not
+abbrev pub StaysOpenAt : List ℕ → ℕ → Type 0
+StaysOpenAt text at = slice_index text at ≡ 42 → slice_index text (at + 1) ≡ 47 → ⊥

@@ -14,38 +14,62 @@ use Rattle.ulam_lex.specs.Texts.{TextPiece, spelled, is_joined, ArePieces, place
 abbrev pub next_place : Place → ℕ → Place
 next_place p b = if (b == 10) then record { file = p.file; line = p.line + 1; column = 1 } else record { file = p.file; line = p.line; column = p.column + 1 }
 
--- the token of a piece was added, if it is one, or is one too many
-abbrev pub IsAdded : PieceKind → ℕ → ℕ → Place → List Token → List Token → Result (Unit {0}) LexFault → Type 0
-IsAdded kind first end place old new (Ok x) = (new ≡ old ++ token_list kind first end place) × (length new ≤ most_tokens)
-IsAdded kind first end place old new (Err (BadByte p)) = ⊥
-IsAdded kind first end place old new (Err (OpenComment p)) = ⊥
-IsAdded kind first end place old new (Err (NumberTooLarge p)) = ⊥
-IsAdded kind first end place old new (Err (TooManyTokens p)) = (length old ≡ most_tokens) × (p ≡ place) × ((token : TokenKind) × (kind ≡ piece.Token token))
-IsAdded kind first end place old new (Err NoMemory) = Unit {0}
+-- a file cut in two where the lexer is: the number of the file, the bytes before the cut, and the rest
+pub record Cut : Type 0 where
+  pub file : ℕ
+  pub before : List ℕ
+  pub rest : List ℕ
 
--- the fault is in the rest, unless memory ran out
-abbrev pub IsFaultIn : ℕ → List ℕ → ℕ → List ℕ → LexFault → Type 0
-IsFaultIn file before count rest (BadByte p) = IsFaultAt file before count rest (BadByte p)
-IsFaultIn file before count rest (OpenComment p) = IsFaultAt file before count rest (OpenComment p)
-IsFaultIn file before count rest (NumberTooLarge p) = IsFaultAt file before count rest (NumberTooLarge p)
-IsFaultIn file before count rest (TooManyTokens p) = IsFaultAt file before count rest (TooManyTokens p)
-IsFaultIn file before count rest NoMemory = Unit {0}
+-- the cut at an index of a text
+abbrev pub cut_at : ℕ → List ℕ → ℕ → Cut
+cut_at file text at = record { file = file; before = take at text; rest = drop at text }
 
--- a piece of n bytes is in front of the rest and was taken
-pub record TakesPiece (file : ℕ) (before rest : List ℕ) (old new : List Token) (n : ℕ) (next : Place) : Type 0 where
+-- the place of the first byte of the rest
+abbrev pub place_of : Cut → Place
+place_of cut = place_after cut.file cut.before
+
+-- a piece where it stands in a text: its kind, the index of its first byte, the index after its last, and its place
+pub record StandingPiece : Type 0 where
+  pub kind : PieceKind
+  pub first : ℕ
+  pub end : ℕ
+  pub place : Place
+
+abbrev pub standing : PieceKind → ℕ → ℕ → Place → StandingPiece
+standing kind first end place = record { kind = kind; first = first; end = end; place = place }
+
+-- if the piece is a token, it was added to the old tokens, or it is one too many; any other piece adds nothing
+abbrev pub IsAdded : StandingPiece → List Token → List Token → Result (Unit {0}) LexFault → Type 0
+IsAdded p old new (Ok x) = (new ≡ old ++ token_list p.kind p.first p.end p.place) × (length new ≤ most_tokens)
+IsAdded p old new (Err (BadByte at)) = ⊥
+IsAdded p old new (Err (OpenComment at)) = ⊥
+IsAdded p old new (Err (NumberTooLarge at)) = ⊥
+IsAdded p old new (Err (TooManyTokens at)) = (length old ≡ most_tokens) × (at ≡ p.place) × ((token : TokenKind) × (p.kind ≡ piece.Token token))
+IsAdded p old new (Err NoMemory) = Unit {0}
+
+-- after this many tokens the fault is in the rest, unless memory ran out
+abbrev pub IsFaultIn : Cut → ℕ → LexFault → Type 0
+IsFaultIn cut count (BadByte at) = IsFaultAt cut.file cut.before count cut.rest (BadByte at)
+IsFaultIn cut count (OpenComment at) = IsFaultAt cut.file cut.before count cut.rest (OpenComment at)
+IsFaultIn cut count (NumberTooLarge at) = IsFaultAt cut.file cut.before count cut.rest (NumberTooLarge at)
+IsFaultIn cut count (TooManyTokens at) = IsFaultAt cut.file cut.before count cut.rest (TooManyTokens at)
+IsFaultIn cut count NoMemory = Unit {0}
+
+-- the first n bytes of the rest are a piece; if it is a token, it was added; and the next place is that after the piece
+pub record TakesPiece (cut : Cut) (old new : List Token) (n : ℕ) (next : Place) : Type 0 where
   pub kind : PieceKind
   pub some : 0 < n
-  pub within : n ≤ length rest
-  pub stands : Stands kind rest (take n rest) (drop n rest)
-  pub apart : is_joined kind (drop n rest) ≡ false
-  pub added : new ≡ old ++ token_list kind (length before) (length before + n) (place_after file before)
+  pub within : n ≤ length cut.rest
+  pub stands : Stands kind cut.rest (take n cut.rest) (drop n cut.rest)
+  pub apart : is_joined kind (drop n cut.rest) ≡ false
+  pub added : new ≡ old ++ token_list kind (length cut.before) (length cut.before + n) (place_of cut)
   pub few : length new ≤ most_tokens
-  pub placed : next ≡ place_after file (before ++ take n rest)
+  pub placed : next ≡ place_after cut.file (cut.before ++ take n cut.rest)
 
--- a piece was taken, or there is a fault
-abbrev pub IsStep : ℕ → List ℕ → List ℕ → List Token → List Token → Result (ℕ × Place) LexFault → Type 0
-IsStep file before rest old new (Ok taken) = TakesPiece file before rest old new taken.0 taken.1
-IsStep file before rest old new (Err fault) = IsFaultIn file before (length old) rest fault
+-- a piece was taken, and its length and the place after it are given, or there is a fault
+abbrev pub IsStep : Cut → List Token → List Token → Result (ℕ × Place) LexFault → Type 0
+IsStep cut old new (Ok taken) = TakesPiece cut old new taken.0 taken.1
+IsStep cut old new (Err fault) = IsFaultIn cut (length old) fault
 
 -- the bytes before a place are pieces, and their tokens are these
 pub record IsRead (file : ℕ) (text : List ℕ) (at : ℕ) (tokens : List Token) (place : Place) : Type 0 where

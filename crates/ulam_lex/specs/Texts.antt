@@ -42,8 +42,7 @@ abbrev pub ArePieces : List TextPiece → List ℕ → Type 0
 ArePieces [] rest = Unit {0}
 ArePieces (p ∷ ps) rest = Stands p.kind (p.bytes ++ (spelled ps ++ rest)) p.bytes (spelled ps ++ rest) × (is_joined p.kind (spelled ps ++ rest) ≡ false) × ArePieces ps rest
 
--- the place after some bytes of a file: 1 line more than LFs, and 1 column more than bytes since
--- the last LF
+-- the place after some bytes of a file: its line is 1 more than the LFs among them, and its column 1 more than the bytes after the last LF
 abbrev pub place_after : ℕ → List ℕ → Place
 place_after file before = record { file = file; line = 1 + count_by (λ b. b == 10) before; column = 1 + suffix_len is_in_line before }
 
@@ -70,8 +69,11 @@ IsTokensOf file text tokens = (pieces : List TextPiece) × (text ≡ spelled pie
 abbrev pub most_tokens : ℕ
 most_tokens = 200000
 
--- a letter, a digit or `_` directly follows the word or number at the front, which is not one token
--- too many
+-- the text has this list of tokens, and it is no longer than it may be
+abbrev pub IsTokenList : ℕ → List ℕ → List Token → Type 0
+IsTokenList file text tokens = IsTokensOf file text tokens × (length tokens ≤ most_tokens + 1)
+
+-- a letter, a digit or `_` directly follows the word or number at the front, and there is room for that token
 abbrev pub JoinsWord : ℕ → List ℕ → List ℕ → List ℕ → Type 0
 JoinsWord count text front back = (kind : PieceKind) × Stands kind text front back × (is_joined kind back ≡ true) × (count < most_tokens)
 
@@ -99,8 +101,7 @@ token_count pieces = length (tokens_after 0 [] pieces)
 abbrev pub IsFaultOf : ℕ → List ℕ → LexFault → Type 0
 IsFaultOf file text fault = (pieces : List TextPiece) × (rest : List ℕ) × (text ≡ spelled pieces ++ rest) × ArePieces pieces rest × (token_count pieces ≤ most_tokens) × IsFaultAt file (spelled pieces) (token_count pieces) rest fault
 
--- each token comes after the one before it and is one of its kind, and the last is at the end of
--- the text and is its only `End`
+-- each token comes after the one before it and is one of its kind; the last is at the end of the text, and no other is `End`
 abbrev pub AreInOrder : List ℕ → ℕ → List Token → Type 0
 AreInOrder text from [] = ⊥
 AreInOrder text from (t ∷ []) = (t.kind ≡ End) × (from ≤ t.first) × (t.first ≡ length text) × (t.end ≡ length text)

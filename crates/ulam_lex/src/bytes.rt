@@ -26,7 +26,7 @@ pub fn is_white(byte: u8) -> bool
     byte == b' ' || byte == b'\t' || byte == b'\r' || byte == b'\n'
 }
 
-/// Whether a byte is one that a name may go on with.
+/// Whether a byte is a letter, a digit or `_`.
 pub fn is_word_byte(byte: u8) -> bool
     ensures { result ≡ is_word_byte byte }
 {

@@ -1,10 +1,11 @@
 //! Reading a text from its start to its end.
-ghost use Rattle.std.specs.Prelude.{◌≡◌, ◌+◌, ◌-◌, ◌<◌, ◌≤◌, ◌^◌, ◌∷◌, [], length, take, drop, fold, IfOk, IfErr, IsErrAnd, MatchResult, ◌⊎◌, List};
-ghost use Rattle.ulam_lex.specs.Texts.{is_word_kind, is_joined, place_after, most_tokens, IsTokensOf, IsFaultOf, AreInOrder};
+ghost use Rattle.std.specs.Prelude.{◌≡◌, ◌+◌, ◌-◌, ◌<◌, ◌≤◌, ◌^◌, ◌∷◌, [], length, take, drop, fold, IfOk, IfErr, ◌⊎◌, List};
+ghost use Rattle.ulam_lex.specs.Texts.{is_word_kind, is_joined, place_after, most_tokens, IsTokenList, IsFaultOf, AreInOrder};
+ghost use Rattle.ulam_lex.specs.Laws.{GivesTokens, GivesFault};
 ghost use Rattle.ulam_lex.specs.Starts.{Stands};
 ghost use Rattle.ulam_lex.specs.declared.token.Token.{Token};
 ghost use Rattle.ulam_lex.specs.declared.token.LexFault.{LexFault};
-ghost use Rattle.ulam_lex.specs.Steps.{next_place, IsAdded, IsStep, IsRead};
+ghost use Rattle.ulam_lex.specs.Steps.{next_place, cut_at, standing, IsAdded, IsStep, IsRead};
 
 use crate::bytes::is_word_byte;
 use crate::scan::{PieceKind, Start, start_of};
@@ -82,7 +83,7 @@ fn add(
     place: Place,
 ) -> Result<(), LexFault>
     requires { length tokens.old.items ≤ most_tokens }
-    ensures { IsAdded kind first end place tokens.old.items tokens.new.items result }
+    ensures { IsAdded (standing kind first end place) tokens.old.items tokens.new.items result }
 {
     let PieceKind::Token(kind) = kind else {
         return Ok(());
@@ -117,7 +118,7 @@ fn take_piece(
     requires placed { place ≡ place_after place.file (take at bytes.now) }
     requires few { length tokens.old.items ≤ most_tokens }
     requires stands { Stands kind (drop at bytes.now) (take len (drop at bytes.now)) (drop len (drop at bytes.now)) }
-    ensures { IsStep place.file (take at bytes.now) (drop at bytes.now) tokens.old.items tokens.new.items result }
+    ensures { IsStep (cut_at place.file bytes.now at) tokens.old.items tokens.new.items result }
 {
     let (_, rest) = bytes.split_at(at);
     let (piece, back) = rest.split_at(len);
@@ -140,7 +141,7 @@ fn step(
     requires within { at < length bytes.now }
     requires placed { place ≡ place_after place.file (take at bytes.now) }
     requires few { length tokens.old.items ≤ most_tokens }
-    ensures { IsStep place.file (take at bytes.now) (drop at bytes.now) tokens.old.items tokens.new.items result }
+    ensures { IsStep (cut_at place.file bytes.now at) tokens.old.items tokens.new.items result }
 {
     let (_, rest) = bytes.split_at(at);
     match start_of(rest) {
@@ -157,7 +158,7 @@ fn step(
 /// Reads a text from its start to its end.
 fn read(alloc: Global, bytes: &[u8], file: u32) -> Result<Vec<Token>, LexFault>
     requires { length bytes.now < 2 ^ 32 - 1 }
-    ensures tokens { IfOk result (λ v. IsTokensOf file bytes.now v.items × (length v.items ≤ most_tokens + 1)) }
+    ensures tokens { IfOk result (λ v. IsTokenList file bytes.now v.items) }
     ensures fault { IfErr result (λ e. (e ≡ LexFault.NoMemory) ⊎ IsFaultOf file bytes.now e) }
 {
     let mut tokens = Vec::new(alloc);
@@ -196,15 +197,15 @@ pub fn lex(alloc: Global, bytes: &[u8], file: u32) -> Result<Vec<Token>, LexFaul
     requires { length bytes.now < 2 ^ 32 - 1 }
 
     // The result is the text's list of tokens, or its first fault.
-    ensures tokens { IfOk result (λ v. IsTokensOf file bytes.now v.items × (length v.items ≤ most_tokens + 1)) }
+    ensures tokens { IfOk result (λ v. IsTokenList file bytes.now v.items) }
     ensures fault { IfErr result (λ e. (e ≡ LexFault.NoMemory) ⊎ IsFaultOf file bytes.now e) }
 
     // The tokens come one after another, and `End` is only the last.
     ensures order { IfOk result (λ v. AreInOrder bytes.now 0 v.items) }
 
     // A text that has a list of tokens gets it, and one that has a first fault gets that, unless memory runs out.
-    ensures only_tokens { (tokens : List Token) → IsTokensOf file bytes.now tokens → length tokens ≤ most_tokens + 1 → MatchResult result (λ v. v.items ≡ tokens) (λ e. e ≡ LexFault.NoMemory) }
-    ensures only_fault { (fault : LexFault) → IsFaultOf file bytes.now fault → IsErrAnd result (λ e. (e ≡ LexFault.NoMemory) ⊎ (e ≡ fault)) }
+    ensures only_tokens { (tokens : List Token) → IsTokenList file bytes.now tokens → GivesTokens result tokens }
+    ensures only_fault { (fault : LexFault) → IsFaultOf file bytes.now fault → GivesFault result fault }
 {
     read(alloc, bytes, file)
 }

@@ -61,7 +61,7 @@ fn digit_run(radix: u32, bytes: &[u8]) -> usize
         .count()
 }
 
-/// How many digits of a base are at the front. In a decimal nothing follows a 0 at its front.
+/// How many digits of a base are at the front. A decimal that begins with 0 has no other digit.
 fn digit_count(base: Base, bytes: &[u8]) -> usize
     ensures { result ≡ digit_count base bytes.now }
 {
@@ -73,7 +73,7 @@ fn digit_count(base: Base, bytes: &[u8]) -> usize
     }
 }
 
-/// Whether this byte is at the front.
+/// Whether the bytes begin with this one.
 fn starts_with(bytes: &[u8], byte: u8) -> bool
     requires { 0 < byte }
     ensures { result ≡ (slice_index bytes.now 0 == byte) }
@@ -105,7 +105,7 @@ fn with_digit(value: u32, radix: u32, digit: u8) -> Option<u32>
     value.checked_mul(radix)?.checked_add(digit_value(digit))
 }
 
-/// What digits are worth, if it is below 2^32.
+/// The value of digits, if it is below 2^32.
 pub fn worth(base: Base, digits: &[u8]) -> Option<u32>
     ensures some { IfSome result (λ v. v ≡ worth_after (radix_of base) 0 digits.now) }
     ensures none { IfNone result (2 ^ 32 ≤ worth_after (radix_of base) 0 digits.now) }
@@ -117,14 +117,14 @@ pub fn worth(base: Base, digits: &[u8]) -> Option<u32>
     Some(value)
 }
 
-/// How long the `u` after the digits of a number is.
+/// The length of the `u` after a number's digits: 1, or 0 if there is none.
 pub fn suffix_len(rest: &[u8]) -> usize
     ensures { result ≡ (if (slice_index rest.now 0 == 117) then 1 else 0) }
 {
     if starts_with(rest, b'u') { 1 } else { 0 }
 }
 
-/// A number with its base: its digits and the bytes after them.
+/// The digits of the number at the front, which has this base, and the bytes after them.
 pub fn digits_at(base: Base, bytes: &[u8]) -> (&[u8], &[u8])
     requires { IsBaseAt base bytes.now }
     ensures digits { result.0.now ≡ digits_of base bytes.now }

@@ -1,11 +1,10 @@
 //! What is at the front of a text.
-ghost use Rattle.std.specs.Prelude.{◌≡◌, ℕ, ◌+◌, ◌*◌, ◌<◌, ◌≤◌, ◌^◌, ◌==◌, ◌++◌, length, slice_index, take, drop, IfSome, IfNone, nat_lt, if◌then◌else◌, min, true, false, codes};
-ghost use Rattle.std.specs.Char.{digit_value, is_digit};
+ghost use Rattle.std.specs.Prelude.{◌≡◌, ℕ, ◌+◌, ◌<◌, ◌≤◌, ◌++◌, length, slice_index, take, drop, IfSome, IfNone, IsTrue, IsFalse, min, codes};
 ghost use Rattle.std.specs.List.{prefix_len};
 ghost use Rattle.feast_base.specs.TypeNames.{is_word_byte};
 ghost use Rattle.ulam_lex.specs.Bytes.{is_white, class_of, is_sign};
-ghost use Rattle.ulam_lex.specs.Pieces.{is_in_line, prefix_of, radix_of, worth_after};
-ghost use Rattle.ulam_lex.specs.Starts.{IsStart, IsBaseAt, digit_count, digits_of, rest_of, OpensNone};
+ghost use Rattle.ulam_lex.specs.Pieces.{is_in_line};
+ghost use Rattle.ulam_lex.specs.Starts.{IsStart, OpensNone, ClosesAt, StaysOpenAt};
 
 use crate::bytes::{Class, class_of, is_keyword, is_sign, is_white, is_word_byte};
 use crate::numeral::{base_at, digits_at, suffix_len, worth};
@@ -27,7 +26,7 @@ pub enum PieceKind {
 pub enum Start {
     /// A piece of that many bytes.
     Piece(PieceKind, usize),
-    /// A byte that can't follow that many bytes.
+    /// A byte that can't be where it is, after that many bytes.
     BadByte(usize),
     /// A comment that is not closed.
     OpenComment,
@@ -54,14 +53,14 @@ fn space(bytes: &[u8]) -> Start
 /// The most bytes that a word may have.
 const LONGEST_WORD: usize = 255;
 
-/// How many bytes at the front continue a word.
+/// How many bytes at the front are letters, digits or `_`.
 fn word_run(bytes: &[u8]) -> usize
     ensures { result ≡ prefix_len is_word_byte bytes.now }
 {
     bytes.iter().take_while(|byte| is_word_byte(**byte)).count()
 }
 
-/// How many bytes at the front are a word.
+/// The length of the word at the front.
 fn word_len(bytes: &[u8]) -> usize
     ensures value { result ≡ min (prefix_len is_word_byte bytes.now) 255 }
     ensures within { result ≤ length bytes.now }
@@ -123,9 +122,9 @@ fn line_len(bytes: &[u8]) -> usize
 /// Where the first `*/` is.
 fn close_at(bytes: &[u8]) -> Option<usize>
     ensures within { IfSome result (λ n. n + 1 < length bytes.now) }
-    ensures found { IfSome result (λ n. (slice_index bytes.now n ≡ 42) × (slice_index bytes.now (n + 1) ≡ 47)) }
-    ensures first { IfSome result (λ n. (k : ℕ) → k < n → slice_index bytes.now k ≡ 42 → slice_index bytes.now (k + 1) ≡ 47 → ⊥) }
-    ensures none { IfNone result ((k : ℕ) → k + 1 < length bytes.now → slice_index bytes.now k ≡ 42 → slice_index bytes.now (k + 1) ≡ 47 → ⊥) }
+    ensures found { IfSome result (λ n. ClosesAt bytes.now n) }
+    ensures first { IfSome result (λ n. (k : ℕ) → k < n → StaysOpenAt bytes.now k) }
+    ensures none { IfNone result ((k : ℕ) → k + 1 < length bytes.now → StaysOpenAt bytes.now k) }
 {
     for i in 1..bytes.len() {
         if bytes[i - 1] == b'*' && bytes[i] == b'/' {
@@ -159,8 +158,8 @@ fn block_comment(bytes: &[u8]) -> Start
 /// How many bytes the longest sign at the front has, or 0 if there is none.
 fn sign_len(bytes: &[u8]) -> usize
     ensures within { result ≤ length bytes.now }
-    ensures sign { 0 < result → is_sign (take result bytes.now) ≡ true }
-    ensures longest { (m : ℕ) → result < m → m ≤ 3 → m ≤ length bytes.now → is_sign (take m bytes.now) ≡ false }
+    ensures sign { 0 < result → IsTrue (is_sign (take result bytes.now)) }
+    ensures longest { (m : ℕ) → result < m → m ≤ 3 → m ≤ length bytes.now → IsFalse (is_sign (take m bytes.now)) }
 {
     let mut n = bytes.len().min(3);
     while n > 0 {

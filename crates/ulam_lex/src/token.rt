@@ -13,7 +13,7 @@ pub enum TokenKind {
     Keyword,
     /// A number below 2^32, with or without a `u` at its end.
     Number,
-    /// An operator, a bracket or a mark between.
+    /// An operator, a bracket or a punctuation mark.
     Sign,
     /// The end of the text.
     End,
@@ -38,10 +38,10 @@ pub enum LexFault {
     /// A byte that can't be where it is.
     #[error("bad byte")]
     BadByte(Place),
-    /// A comment, by its first byte, that is not closed.
+    /// A comment that is not closed. The place is that of its first byte.
     #[error("comment is not closed")]
     OpenComment(Place),
-    /// A number, by its first byte, that is 2^32 or more.
+    /// A number of 2^32 or more. The place is that of its first byte.
     #[error("number too large")]
     NumberTooLarge(Place),
     /// The first token past the limit of 200,000.

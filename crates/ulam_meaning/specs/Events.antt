@@ -25,33 +25,35 @@ fresh [] tys = map fill tys
 fresh (x ∷ xs) [] = []
 fresh (x ∷ xs) (ty ∷ tys) = x ∷ fresh xs tys
 
--- what a function gives: nothing if it is `Void`, otherwise what it returns; no typed function with
--- a result comes to its end without a value
-abbrev pub answer : Program → Ty → Option Datum → Option Datum
-answer g y.Nothing v = None
-answer g ty None = Some (default_of g ty)
-answer g ty (Some x) = Some x
+module _ (g : Program) where
+  -- what a function gives: nothing if it is `Void`, otherwise what it returns; no typed function with
+  -- a result comes to its end without a value
+  abbrev pub answer : Ty → Option Datum → Option Datum
+  answer y.Nothing v = None
+  answer ty None = Some (default_of g ty)
+  answer ty (Some x) = Some x
 
--- the same, by how its body ended
-abbrev pub answer_by : Program → Ty → Way → Option Datum
-answer_by g ty goes_on = answer g ty None
-answer_by g ty breaks = answer g ty None
-answer_by g ty continues = answer g ty None
-answer_by g ty (returns v) = answer g ty v
+  -- the same, by how its body ended
+  abbrev pub answer_by : Ty → Way → Option Datum
+  answer_by ty goes_on = answer ty None
+  answer_by ty breaks = answer ty None
+  answer_by ty continues = answer ty None
+  answer_by ty (returns v) = answer ty v
 
--- the body of a function with these arguments, with this many turns left
-abbrev pub run_body : Event → Program → Calls → Key → List Datum → ℕ → Store → Outcome Way
-run_body e g h f xs n s = exec_all e (scene_of g f) h (function_of g f).body (record s { locals = fresh xs (slot_types (function_of g f)); turns = n })
+  -- a body that has ended: what the function gives, and the caller's locals again
+  abbrev pub returned : Ty → List Datum → Outcome Way → Outcome (Option Datum)
+  returned ty locals r = and_then r (λ way s. gives (answer_by ty way) (record s { locals = locals }))
 
--- a body that has ended: what the function gives, and the caller's locals again
-abbrev pub returned : Program → Ty → List Datum → Outcome Way → Outcome (Option Datum)
-returned g ty locals r = and_then r (λ way s. gives (answer_by g ty way) (record s { locals = locals }))
+module _ (e : Event) (g : Program) where
+  -- the body of a function with these arguments, with this many turns left
+  abbrev pub run_body : Calls → Key → List Datum → ℕ → Store → Outcome Way
+  run_body h f xs n s = exec_all e (scene_of g f) h (function_of g f).body (record s { locals = fresh xs (slot_types (function_of g f)); turns = n })
 
--- Calls that may nest this deep: a call takes a turn, then tests the depth, and then runs the body
--- with fresh locals.
-unfoldable pub calls_at : Event → Program → ℕ → Calls
-calls_at e g zero f xs s = on_turn s.turns (λ n. fails too_deep)
-calls_at e g (suc d) f xs s = on_turn s.turns (λ n. returned g (function_of g f).result s.locals (run_body e g (calls_at e g d) f xs n s))
+  -- Calls that may nest this deep: a call takes a turn, then tests the depth, and then runs the body
+  -- with fresh locals.
+  unfoldable pub calls_at : ℕ → Calls
+  calls_at zero f xs s = on_turn s.turns (λ n. fails too_deep)
+  calls_at (suc d) f xs s = on_turn s.turns (λ n. returned g (function_of g f).result s.locals (run_body (calls_at d) f xs n s))
 
 -- Events
 

@@ -24,21 +24,22 @@ use Rattle.ulam_meaning.specs.Places.{read, read_at}
 abbrev pub ask : (WindowValue → ℕ → Bool) → Datum → Store → Outcome (Option Datum)
 ask question x s = on_number x (λ i. on_site i (λ n. gives (Some (Number (of_bool (question s.window n)))) s))
 
--- the next random word modulo a bound, which is tested before a word is taken
-abbrev pub draw : Event → (ℕ → ℤ) → Datum → Store → Outcome (Option Datum)
-draw e use_of x s = on_number x (λ b. on_bound b (λ n. gives (Some (Number (use_of (event_word e.seed s.taken % n)))) (record s { taken = suc s.taken })))
-
 -- two sites exchanged
 abbrev pub exchange : Datum → Datum → Store → Outcome (Option Datum)
 exchange x y s = on_number x (λ i. on_number y (λ j. on_site i (λ m. on_site j (λ n. gives None (with_swapped s m n)))))
 
--- a function of the window or of the random stream, on the values of its arguments
-abbrev pub built : Event → Built → List Datum → Store → Outcome (Option Datum)
-built e Swap xs s = on_two xs (λ x y. exchange x y s)
-built e IsLive xs s = on_one xs (λ x. ask live_at x s)
-built e IsEmpty xs s = on_one xs (λ x. ask is_empty_at x s)
-built e Create xs s = on_one xs (λ x. draw e pos x s)
-built e OneIn xs s = on_one xs (λ x. draw e one_in x s)
+module _ (e : Event) where
+  -- the next random word modulo a bound, which is tested before a word is taken
+  abbrev pub draw : (ℕ → ℤ) → Datum → Store → Outcome (Option Datum)
+  draw use_of x s = on_number x (λ b. on_bound b (λ n. gives (Some (Number (use_of (event_word e.seed s.taken % n)))) (record s { taken = suc s.taken })))
+
+  -- a function of the window or of the random stream, on the values of its arguments
+  abbrev pub built : Built → List Datum → Store → Outcome (Option Datum)
+  built Swap xs s = on_two xs (λ x y. exchange x y s)
+  built IsLive xs s = on_one xs (λ x. ask live_at x s)
+  built IsEmpty xs s = on_one xs (λ x. ask is_empty_at x s)
+  built Create xs s = on_one xs (λ x. draw pos x s)
+  built OneIn xs s = on_one xs (λ x. draw one_in x s)
 
 -- Calls
 
@@ -56,11 +57,12 @@ built_casts b = None ∷ []
 abbrev pub with_first : Datum → Outcome (List Datum) → Outcome (List Datum)
 with_first x r = and_then r (λ xs s. gives (x ∷ xs) s)
 
--- a call: its arguments, which are cast as said, and then the function
-abbrev pub call : Event → Program → Calls → Callee → (List (Option NumType) → Outcome (List Datum)) → Outcome (Option Datum)
-call e g h (called f) arguments = and_then (arguments (casts (function_of g f).params)) (λ xs s. h f xs s)
-call e g h (built_in b) arguments = and_then (arguments (built_casts b)) (λ xs s. built e b xs s)
-call e g h no_callee arguments = wrong
+module _ (e : Event) (g : Program) (h : Calls) where
+  -- a call: its arguments, which are cast as said, and then the function
+  abbrev pub call : Callee → (List (Option NumType) → Outcome (List Datum)) → Outcome (Option Datum)
+  call (called f) arguments = and_then (arguments (casts (function_of g f).params)) (λ xs s. h f xs s)
+  call (built_in b) arguments = and_then (arguments (built_casts b)) (λ xs s. built e b xs s)
+  call no_callee arguments = wrong
 
 -- a call as a value
 abbrev pub value_given : Option Datum → Store → Outcome Datum
@@ -87,30 +89,31 @@ has_kind n x s = on_atom x (λ a. gives (Number (of_bool (nat_eq a.kind n))) s)
 
 -- Expressions
 
-abbrev mutual
-  -- the value of an expression
-  pub eval : Event → Scene → Calls → t.Expr → Store → Outcome Datum
-  eval e z h (t.typed f ty) s = eval_form e z h f ty s
+module _ (e : Event) (z : Scene) (h : Calls) where
+  abbrev mutual
+    -- the value of an expression
+    pub eval : t.Expr → Store → Outcome Datum
+    eval (t.typed f ty) s = eval_form f ty s
 
-  -- each form, with its type
-  pub eval_form : Event → Scene → Calls → t.Form → Ty → Store → Outcome Datum
-  eval_form e z h (t.number v u p) ty s = gives (Number (pos v)) s
-  eval_form e z h (t.truth b p) ty s = gives (Number (of_bool b)) s
-  eval_form e z h (t.reads x) ty s = read e (spot z.program z.base x.steps) s
-  eval_form e z h (t.calls x es) ty s = and_then (call e z.program h (callee z.program z.base x.steps) (λ cs. arguments e z h es cs s)) value_given
-  eval_form e z h (t.index x i) ty s = and_then (eval e z h i s) (λ n s1. read_at e (spot z.program z.base x.steps) n s1)
-  eval_form e z h (t.instance c) ty s = gives (Atom (new_atom (type_number z.program c.ty))) s
-  eval_form e z h (t.group a p) ty s = eval e z h a s
-  eval_form e z h (t.cast c a p) ty s = and_then (eval e z h a s) (λ x s1. cast_to (number_type c.ty) x s1)
-  eval_form e z h (t.prefix o a p) ty s = and_then (eval e z h a s) (λ x s1. on_number x (λ v. gives (Number (prefixed o ty v)) s1))
-  eval_form e z h (t.pair op.Both a b p) ty s = and_then (eval e z h a s) (λ x s1. both x s1 (eval e z h b))
-  eval_form e z h (t.pair op.Either a b p) ty s = and_then (eval e z h a s) (λ x s1. either x s1 (eval e z h b))
-  eval_form e z h (t.pair o a b p) ty s = and_then (eval e z h a s) (λ x s1. and_then (eval e z h b s1) (λ y s2. operate (operator o (arith_of ty) (width_of ty)) x y s2))
-  eval_form e z h (t.is a c p) ty s = and_then (eval e z h a s) (λ x s1. has_kind (type_number z.program c.ty) x s1)
+    -- each form, with its type
+    pub eval_form : t.Form → Ty → Store → Outcome Datum
+    eval_form (t.number v u p) ty s = gives (Number (pos v)) s
+    eval_form (t.truth b p) ty s = gives (Number (of_bool b)) s
+    eval_form (t.reads x) ty s = read e (spot z.program z.base x.steps) s
+    eval_form (t.calls x es) ty s = and_then (call e z.program h (callee z.program z.base x.steps) (λ cs. arguments es cs s)) value_given
+    eval_form (t.index x i) ty s = and_then (eval i s) (λ n s1. read_at e (spot z.program z.base x.steps) n s1)
+    eval_form (t.instance c) ty s = gives (Atom (new_atom (type_number z.program c.ty))) s
+    eval_form (t.group a p) ty s = eval a s
+    eval_form (t.cast c a p) ty s = and_then (eval a s) (λ x s1. cast_to (number_type c.ty) x s1)
+    eval_form (t.prefix o a p) ty s = and_then (eval a s) (λ x s1. on_number x (λ v. gives (Number (prefixed o ty v)) s1))
+    eval_form (t.pair op.Both a b p) ty s = and_then (eval a s) (λ x s1. both x s1 (eval b))
+    eval_form (t.pair op.Either a b p) ty s = and_then (eval a s) (λ x s1. either x s1 (eval b))
+    eval_form (t.pair o a b p) ty s = and_then (eval a s) (λ x s1. and_then (eval b s1) (λ y s2. operate (operator o (arith_of ty) (width_of ty)) x y s2))
+    eval_form (t.is a c p) ty s = and_then (eval a s) (λ x s1. has_kind (type_number z.program c.ty) x s1)
 
-  -- the values of arguments, from left to right, each cast as required
-  pub arguments : Event → Scene → Calls → t.Args → List (Option NumType) → Store → Outcome (List Datum)
-  arguments e z h t.no_args [] s = gives [] s
-  arguments e z h t.no_args (c ∷ cs) s = wrong
-  arguments e z h (t.arg a es) [] s = wrong
-  arguments e z h (t.arg a es) (c ∷ cs) s = and_then (eval e z h a s) (λ x s1. and_then (cast_to c x s1) (λ y s2. with_first y (arguments e z h es cs s2)))
+    -- the values of arguments, from left to right, each cast as required
+    pub arguments : t.Args → List (Option NumType) → Store → Outcome (List Datum)
+    arguments t.no_args [] s = gives [] s
+    arguments t.no_args (c ∷ cs) s = wrong
+    arguments (t.arg a es) [] s = wrong
+    arguments (t.arg a es) (c ∷ cs) s = and_then (eval a s) (λ x s1. and_then (cast_to c x s1) (λ y s2. with_first y (arguments es cs s2)))

@@ -40,34 +40,11 @@ field_spot numbers first n (y.Num num) = numbers (record { first = first; num = 
 field_spot numbers first n y.Window = window
 field_spot numbers first n ty = nothing
 
--- the first bit of a data member of a class whose own first bit is `base`
-abbrev pub bit_of : Program → ℕ → ℕ → ℕ → ℕ
-bit_of g base c m = base + first_bit g.layout c m
-
--- what data members of data members name, from a class on whose first bit is `base`
-abbrev pub through : Program → (Span → Spot) → ℕ → List Step → Spot
-through g numbers base (Member c m ∷ []) = field_spot numbers (bit_of g base c m) (field_at g c m).length (field_at g c m).ty
-through g numbers base (Member c m ∷ s ∷ steps) = through g numbers (bit_of g base c m) (s ∷ steps)
-through g numbers base steps = nothing
-
--- What a path names in a function that works on the bits of its class from `base` on. The atom in a local begins at bit 0.
-abbrev pub spot : Program → ℕ → List Step → Spot
-spot g base (Own ∷ []) = itself
-spot g base (Own ∷ s ∷ steps) = through g member base (s ∷ steps)
-spot g base (Local i ∷ []) = local i
-spot g base (Local i ∷ s ∷ steps) = through g (part i) 0 (s ∷ steps)
-spot g base (Constant num v ∷ steps) = constant v
-spot g base steps = through g member base steps
-
 -- a function by its class and its number there, on the bits of its class from `base` on
 pub record Key : Type 0 where
   pub class : ℕ
   pub function : ℕ
   pub base : ℕ
-
--- the function of a key
-abbrev pub function_of : Program → Key → Function
-function_of g f = function_at g f.class f.function
 
 -- what a path calls
 pub data Callee : Type 0 where
@@ -75,25 +52,49 @@ pub data Callee : Type 0 where
   built_in : (b : Built) → Callee
   no_callee : Callee
 
--- What a path calls in a function that works on the bits of its class from `base` on. A function of a data member works on that member's bits; one of the same class keeps the base.
-abbrev pub callee : Program → ℕ → List Step → Callee
-callee g base (Own ∷ steps) = callee g base steps
-callee g base (Member c m ∷ steps) = callee g (bit_of g base c m) steps
-callee g base (AFunction c f ∷ steps) = called (record { class = c; function = f; base = base })
-callee g base (ABuilt b ∷ steps) = built_in b
-callee g base steps = no_callee
-
--- the surroundings of a statement: the first bit of the class whose function this is, the types of
--- its locals by their slots, and that of its result
+-- the surroundings of a statement: the program, the first bit of the class whose function this is,
+-- the types of its locals by their slots, and that of its result
 pub record Scene : Type 0 where
   pub program : Program
   pub base : ℕ
   pub slots : List Ty
   pub result : Ty
 
--- the scene of a function's body
-abbrev pub scene_of : Program → Key → Scene
-scene_of g f = record { program = g; base = f.base; slots = slot_types (function_of g f); result = (function_of g f).result }
+module _ (g : Program) where
+  -- the first bit of a data member of a class whose own first bit is `base`
+  abbrev pub bit_of : ℕ → ℕ → ℕ → ℕ
+  bit_of base c m = base + first_bit g.layout c m
+
+  -- what data members of data members name, from a class on whose first bit is `base`
+  abbrev pub through : (Span → Spot) → ℕ → List Step → Spot
+  through numbers base (Member c m ∷ []) = field_spot numbers (bit_of base c m) (field_at g c m).length (field_at g c m).ty
+  through numbers base (Member c m ∷ s ∷ steps) = through numbers (bit_of base c m) (s ∷ steps)
+  through numbers base steps = nothing
+
+  -- What a path names in a function that works on the bits of its class from `base` on. The atom in a local begins at bit 0.
+  abbrev pub spot : ℕ → List Step → Spot
+  spot base (Own ∷ []) = itself
+  spot base (Own ∷ s ∷ steps) = through member base (s ∷ steps)
+  spot base (Local i ∷ []) = local i
+  spot base (Local i ∷ s ∷ steps) = through (part i) 0 (s ∷ steps)
+  spot base (Constant num v ∷ steps) = constant v
+  spot base steps = through member base steps
+
+  -- the function of a key
+  abbrev pub function_of : Key → Function
+  function_of f = function_at g f.class f.function
+
+  -- What a path calls in a function that works on the bits of its class from `base` on. A function of a data member works on that member's bits; one of the same class keeps the base.
+  abbrev pub callee : ℕ → List Step → Callee
+  callee base (Own ∷ steps) = callee base steps
+  callee base (Member c m ∷ steps) = callee (bit_of base c m) steps
+  callee base (AFunction c f ∷ steps) = called (record { class = c; function = f; base = base })
+  callee base (ABuilt b ∷ steps) = built_in b
+  callee base steps = no_callee
+
+  -- the scene of a function's body
+  abbrev pub scene_of : Key → Scene
+  scene_of f = record { program = g; base = f.base; slots = slot_types (function_of f); result = (function_of f).result }
 
 -- the type of what is assigned to
 abbrev pub spot_type : Scene → Spot → Ty

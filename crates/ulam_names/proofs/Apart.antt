@@ -1,25 +1,22 @@
--- In what files are resolved to no class contains itself.
+-- In a resolution of files no class contains itself.
 use Rattle.std.proofs.Common.{◌≡◌, ℕ, zero, suc, ◌+◌, ◌<◌, refl, sym, ap, ◌∙◌, List, [], ◌∷◌, ◌++◌, length, map, Bool, true, false, arith, append_assoc}
 use Rattle.std.specs.Prelude.{flat_map}
 use Rattle.std.specs.List.{list_any}
 use Rattle.std.proofs.lemmas.Bool.{false≢true}
 use Rattle.std.proofs.lemmas.Grind.{flat_map-append}
 use Rattle.std.proofs.lemmas.List.{append-nil, length-map}
-use Rattle.ulam_tree.specs.declared.resolved.Ty.{Ty}
 use Rattle.ulam_tree.specs.Raw as t
 use Rattle.ulam_tree.specs.Resolved as r
 use Rattle.ulam_tree.specs.Ways.{leads, class_number, member_parts, class_parts, NoneContainsItself}
 use Rattle.ulam_tree.proofs.Ways.{leads_all, of_class}
-use Rattle.ulam_names.specs.Scopes.{Text, Names, Head, no_names}
+use Rattle.ulam_names.specs.Scopes.{Names, Head, no_names}
 use Rattle.ulam_names.specs.Classes.{Known, Half, HalfClass, half_field, half_function, head_of, parts_of, holds_itself}
-use Rattle.ulam_names.specs.ClassRelation.{IsMember, AreMembers, AreItems, NoneCyclic, IsWhole, AreWhole, AreClasses, IsResolved}
+use Rattle.ulam_names.specs.Rounds.{field_parts}
+use Rattle.ulam_names.specs.ClassRelation.{IsMember, AreMembers, AreItems, NoneCyclic, own_class, IsWhole, AreWhole, AreClasses, IsResolved}
 
 abbrev half_parts : Half → List ℕ
 half_parts (half_field n w len) = class_number n.ty
 half_parts (half_function f) = []
-
-abbrev field_parts : List (Text × Ty) → List ℕ
-field_parts fields = flat_map (λ (p : Text × Ty). class_number p.1) fields
 
 member_adds : (known : Known) (d : Names) (m : t.Member) (x : Names × List Half) → IsMember known d m x → field_parts x.0.fields ≡ field_parts d.fields ++ flat_map half_parts x.1
 member_adds known d (t.typedef ty w) x h = rw h.6 (sym (append-nil (field_parts d.fields)))
@@ -48,11 +45,11 @@ items_fields known (t.ulam n ∷ xs) hs h = items_fields known xs hs h
 items_fields known (t.uses w ∷ xs) hs h = items_fields known xs hs h.1
 items_fields known (t.class c ∷ xs) hs h = rw h.4 (members_add known no_names c.members h.0 h.2, items_fields known xs h.1 h.3)
 
-whole_parts : (known : Known) (heads : List Head) (k : ℕ) (d : Names) (m : Half) (x : r.Member) → IsWhole known heads k d m x → member_parts x ≡ half_parts m
+whole_parts : (known : Known) (heads : List Head) (k : ℕ) (d : Names) (m : Half) (x : r.Member) → IsWhole (own_class known heads k d) m x → member_parts x ≡ half_parts m
 whole_parts known heads k d (half_field n w len) x h = rw h refl
 whole_parts known heads k d (half_function f) x h = rw h.2 refl
 
-wholes_parts : (known : Known) (heads : List Head) (k : ℕ) (d : Names) (ms : List Half) (xs : List r.Member) → AreWhole known heads k d ms xs → flat_map member_parts xs ≡ flat_map half_parts ms
+wholes_parts : (known : Known) (heads : List Head) (k : ℕ) (d : Names) (ms : List Half) (xs : List r.Member) → AreWhole (own_class known heads k d) ms xs → flat_map member_parts xs ≡ flat_map half_parts ms
 wholes_parts known heads k d [] xs h = rw h refl
 wholes_parts known heads k d (m ∷ ms) xs h =
     rw h.4 (

@@ -58,7 +58,7 @@ module _ {X : Type 0} where
   pub kept_long : (b c : List X) → take (length b) c ≡ b → length b ≤ length c
   kept_long b c h = let e : length b + length (drop (length b) c) ≡ length c = sym (length-append b (drop (length b) c)) ∙ ap length (front_of b c h) in omega arith
 
-  -- and begins with what that begins with
+  -- and begins with what the other begins with
   pub kept_twice : (a b c : List X) → take (length b) c ≡ b → take (length a) b ≡ a → take (length a) c ≡ a
   kept_twice a b c h k =
       ap (take (length a)) (sym (front_of b c h)) ∙ take-append-le (length a) b (drop (length b) c) (kept_long a b k) ∙ k

@@ -7,7 +7,7 @@ use Rattle.ulam_tree.specs.Resolved as r
 use Rattle.ulam_names.specs.Scopes.{Text, Names, no_names, small_names, Head, most_members, most_params, most_classes}
 use Rattle.ulam_names.specs.Classes as w
 use Rattle.ulam_names.specs.Classes.{Known, Half, HalfClass, half_field, half_function}
-use Rattle.ulam_names.specs.ClassRelation.{AreKnown, IsNew, IsValue, IsLength, AreParams, IsMember, AreMembers, AreItems, AllBehave, NoneCyclic, IsWhole, AreWhole, AreClasses, IsResolved}
+use Rattle.ulam_names.specs.ClassRelation.{AreKnown, IsNew, IsValue, IsLength, AreParams, IsMember, AreMembers, AreItems, AllBehave, NoneCyclic, own_class, IsWhole, AreWhole, AreClasses, IsResolved}
 use Rattle.ulam_names.proofs.BodyFits.{type_fits, body_fits, width_fits, answer_or}
 
 known_fits : (done : Known) (xs : List t.Item) (known : Known) → AreKnown done xs known → w.class_names done xs ≡ Ok known
@@ -66,11 +66,11 @@ apart_fits : (heads : List Head) (k : ℕ) (hs : List HalfClass) → NoneCyclic 
 apart_fits heads k [] h = refl
 apart_fits heads k (x ∷ hs) h = rw h.0 (apart_fits heads (k + 1) hs h.1)
 
-whole_fits : (known : Known) (heads : List Head) (k : ℕ) (d : Names) (m : Half) (x : r.Member) → IsWhole known heads k d m x → w.whole_member known heads k d m ≡ Ok x
+whole_fits : (known : Known) (heads : List Head) (k : ℕ) (d : Names) (m : Half) (x : r.Member) → IsWhole (own_class known heads k d) m x → w.whole_member known heads k d m ≡ Ok x
 whole_fits known heads k d (half_field n z len) x h = ap Ok (sym h)
 whole_fits known heads k d (half_function f) x h = rw (body_fits _ _ _ f.body h.0 h.1) (ap Ok (sym h.2))
 
-wholes_fit : (known : Known) (heads : List Head) (k : ℕ) (d : Names) (ms : List Half) (xs : List r.Member) → AreWhole known heads k d ms xs → w.whole_members known heads k d ms ≡ Ok xs
+wholes_fit : (known : Known) (heads : List Head) (k : ℕ) (d : Names) (ms : List Half) (xs : List r.Member) → AreWhole (own_class known heads k d) ms xs → w.whole_members known heads k d ms ≡ Ok xs
 wholes_fit known heads k d [] xs h = ap Ok (sym h)
 wholes_fit known heads k d (m ∷ ms) xs h = rw (whole_fits known heads k d m h.0 h.2, wholes_fit known heads k d ms h.1 h.3) (ap Ok (sym h.4))
 

@@ -11,7 +11,7 @@ use Rattle.ulam_names.specs.Scopes.{Text, Names, no_names, declares_name, small_
 use Rattle.ulam_names.specs.Classes as w
 use Rattle.ulam_names.specs.Walk.{width_value, body}
 use Rattle.ulam_names.specs.Classes.{Known, Half, HalfClass, half_field, half_function, first_fault}
-use Rattle.ulam_names.specs.ClassRelation.{AreKnown, IsNew, IsValue, IsLength, AreParams, IsMember, AreMembers, AreItems, AllBehave, NoneCyclic, IsWhole, AreWhole, AreClasses, IsResolved}
+use Rattle.ulam_names.specs.ClassRelation.{AreKnown, IsNew, IsValue, IsLength, AreParams, IsMember, AreMembers, AreItems, AllBehave, NoneCyclic, own_class, IsWhole, AreWhole, AreClasses, IsResolved}
 use Rattle.ulam_names.proofs.ClassFits.{program_fits}
 use Rattle.ulam_tree.proofs.Means.{Means, means_then, means_found, means_must, must_means, found_means, means_more}
 use Rattle.ulam_names.proofs.BodyMeans.{type_means, width_means, body_means}
@@ -149,21 +149,21 @@ apart_means heads k (x ∷ hs) =
     means_must (λ _. NoneCyclic heads k (x ∷ hs)) (not (w.holds_itself heads k)) _ _ (λ ok.
     means_more (λ _. NoneCyclic heads (k + 1) hs) (λ _. NoneCyclic heads k (x ∷ hs)) (w.none_cyclic heads (k + 1) hs) (apart_means heads (k + 1) hs) (λ u hh. (not-true _ ok, hh)))
 
-whole_means : (known : Known) (heads : List Head) (k : ℕ) (d : Names) (m : Half) → Means (IsWhole known heads k d m) (w.whole_member known heads k d m)
+whole_means : (known : Known) (heads : List Head) (k : ℕ) (d : Names) (m : Half) → Means (IsWhole (own_class known heads k d) m) (w.whole_member known heads k d m)
 whole_means known heads k d (half_field n z len) = refl
 whole_means known heads k d (half_function f) =
     let c = w.context_of known heads k d f in
-    means_then _ (IsWhole known heads k d (half_function f)) (body c (w.scope_of heads f) (length f.params) f.body) _ (body_means c (w.scope_of heads f) (length f.params) f.body) (λ b hb. (b, hb, refl))
+    means_then _ (IsWhole (own_class known heads k d) (half_function f)) (body c (w.scope_of heads f) (length f.params) f.body) _ (body_means c (w.scope_of heads f) (length f.params) f.body) (λ b hb. (b, hb, refl))
 
-wholes_mean : (known : Known) (heads : List Head) (k : ℕ) (d : Names) (ms : List Half) → Means (AreWhole known heads k d ms) (w.whole_members known heads k d ms)
+wholes_mean : (known : Known) (heads : List Head) (k : ℕ) (d : Names) (ms : List Half) → Means (AreWhole (own_class known heads k d) ms) (w.whole_members known heads k d ms)
 wholes_mean known heads k d [] = refl
 wholes_mean known heads k d (m ∷ ms) =
-    let Q : List r.Member → Type 0 = AreWhole known heads k d (m ∷ ms) in
+    let Q : List r.Member → Type 0 = AreWhole (own_class known heads k d) (m ∷ ms) in
     means_then _ Q (w.whole_member known heads k d m) _ (whole_means known heads k d m) (λ x hx.
     means_then _ Q (w.whole_members known heads k d ms) _ (wholes_mean known heads k d ms) (λ xs hs. (x, xs, hx, hs, refl)))
 
 abbrev IsWholeClass : Known → List Head → ℕ → HalfClass → r.Class → Type 0
-IsWholeClass known heads k h c = (xs : List r.Member) × AreWhole known heads k h.names h.members xs × (c ≡ record { quark = h.quark; word = h.word; members = xs })
+IsWholeClass known heads k h c = (xs : List r.Member) × AreWhole (own_class known heads k h.names) h.members xs × (c ≡ record { quark = h.quark; word = h.word; members = xs })
 
 whole_class_means : (known : Known) (heads : List Head) (k : ℕ) (h : HalfClass) → Means (IsWholeClass known heads k h) (w.whole_class known heads k h)
 whole_class_means known heads k h =

@@ -10,7 +10,7 @@ use Rattle.ulam_names.proofs.BodyFits.{answer_or}
 use Rattle.ulam_tree.proofs.Means.{Means, front_twice}
 use Rattle.ulam_names.proofs.ClassMeans.{known_means, items_mean}
 
--- class names of items and of more
+-- the class names of two lists of items, one after the other
 pub names_append : (done : w.Known) (xs ys : List t.Item) → w.class_names done (xs ++ ys) ≡ (w.class_names done xs >>= λ (d : w.Known). w.class_names d ys)
 names_append done [] ys = refl
 names_append done (t.ulam n ∷ xs) ys = names_append done xs ys

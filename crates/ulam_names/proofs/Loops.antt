@@ -18,7 +18,7 @@ use Rattle.ulam_names.specs.Shown.{entries_of, scope_of}
 use Rattle.ulam_names.proofs.Opened.{opened_is}
 use Rattle.ulam_names.proofs.Bodies.{after_from, scope_is}
 
--- what stands behind the first statement of a `for`, which is resolved to a, in the scope of these entries
+-- What the walk finds for the rest of a `for`, after its first statement, which is resolved to a.
 abbrev pub turns : Context → List Entry → ℕ → ℕ → r.Part → Option t.Expr → t.Part → t.Statement → Found r.Statement
 turns c es from n a k g x =
     walk.maybe_expr c (entries_of es) k >>= λ (d : Option r.Expr).
@@ -52,7 +52,7 @@ for_first c es from n l f k g x e =
     ap (walk.statement c (scope_of es from) n) (for_is f k g x)
     ∙ ap (λ (z : Scope). walk.part c z n (part_alone f) >>= λ (a : r.Part). turns_in c (walk.after_part c.heads z n (part_alone f) a) (n + walk.locals_part (part_alone f)) a (option_map expr_of k) (part_alone g) (statement_of (box_value x))) (opened_is es from ∙ ap (λ (j : ℕ). scope_of es j) (sym e))
 
--- and goes on behind it
+-- and goes on with the rest
 pub for_next : (c : Context) (es es1 : List Entry) (from n m l : ℕ) (f : Option (Box RawStatement)) (k : Option RawExpr) (g : Option (Box RawStatement)) (x : Box RawStatement) (a : r.Part) → l ≡ length es →
     walk.part c (scope_of es l) n (part_alone f) ≡ Ok a →
     entries_of es1 ≡ (walk.after_part c.heads (scope_of es l) n (part_alone f) a).entries →
@@ -66,13 +66,13 @@ for_next c es es1 from n m l f k g x a same h e size =
     ∙ ap (λ (j : ℕ). turns_in c (scope_of es1 l) j a (option_map expr_of k) (part_alone g) (statement_of (box_value x))) (sym size)
     ∙ turns_are c es1 l m a (option_map expr_of k) (part_alone g) (statement_of (box_value x))
 
--- behind its condition comes its step
+-- after its condition comes its step
 pub turns_step : (c : Context) (es : List Entry) (from n : ℕ) (a : r.Part) (k : Option t.Expr) (g : t.Part) (x : t.Statement) (d : Option r.Expr) →
     walk.maybe_expr c (entries_of es) k ≡ Ok d →
     turns c es from n a k g x ≡ (walk.part c (scope_of es from) n g >>= λ (b : r.Part). walk.statement c (scope_of es (length es)) (n + walk.locals_part g) x >>= λ (z : r.Statement). Ok (r.for_all a d b z))
 turns_step c es from n a k g x d hd = rw hd refl
 
--- and behind its step its body, where the entries are the same
+-- and after its step its body, with the same entries
 pub turns_body : (c : Context) (es es2 : List Entry) (from n m : ℕ) (a : r.Part) (k : Option t.Expr) (g : t.Part) (x y : t.Statement) (d : Option r.Expr) (b : r.Part) →
     walk.maybe_expr c (entries_of es) k ≡ Ok d → walk.part c (scope_of es from) n g ≡ Ok b → m ≡ n + walk.locals_part g → es2 ≡ es → y ≡ x →
     turns c es from n a k g x ≡ (walk.statement c (scope_of es2 (length es2)) m y >>= λ (z : r.Statement). Ok (r.for_all a d b z))

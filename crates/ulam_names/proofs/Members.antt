@@ -13,7 +13,7 @@ use Rattle.ulam_names.specs.Shown.{with_halves}
 use Rattle.ulam_names.proofs.BodyFits.{answer_or}
 use Rattle.ulam_tree.proofs.Means.{front_on}
 
--- none of four lists has a name that a class has not declared
+-- A name that a class has not declared is in none of its four lists.
 apart4 : (a b c d : Bool) → (a || b || c || d) ≡ false → (a ≡ false) × (b ≡ false) × (c ≡ false) × (d ≡ false)
 apart4 true b c d h = cc
 apart4 false true c d h = cc
@@ -53,7 +53,7 @@ pub halves_none : (x : Found (Names × List w.Half)) → x ≡ with_halves [] x
 halves_none (Ok z) = refl
 halves_none (Err f) = refl
 
--- whether a name is among those that have something beside them
+-- A name has something beside it exactly if it is among the names.
 pub among_is : {A : Type 0} (n : Text) (pairs : List (Text × A)) → is_some (beside n pairs) ≡ is_among n (names_of pairs)
 among_is n [] = refl
 among_is n (p ∷ pairs) = go (bytes_eq n p.0) (among_is n pairs)
@@ -62,7 +62,7 @@ among_is n (p ∷ pairs) = go (bytes_eq n p.0) (among_is n pairs)
     go true h = refl
     go false h = h
 
--- the rest of the members comes behind one that has no fault
+-- the walk over one member, and then over the rest
 pub member_fails : (known : w.Known) (d : Names) (front : List w.Half) (m : t.Member) (ms : List t.Member) →
     with_halves front (w.members known d (m ∷ ms)) ≡ (with_halves front (w.member known d m) >>= λ (x : Names × List w.Half). with_halves x.1 (w.members known x.0 ms))
 member_fails known d front m ms = go (w.member known d m)

@@ -23,7 +23,7 @@ none_at : (k : ℕ) → get_or {A = Bool} [] k false ≡ false
 none_at zero = refl
 none_at (suc k) = refl
 
--- the rows have which classes lead to the goal within as many steps
+-- The row after m rounds marks the classes that lead to the goal in at most m steps.
 row_is : (m : ℕ) (heads : List Head) (goal k : ℕ) → get_or (row_after m heads goal) k false ≡ leads (parts_of heads) m k goal
 unfolding row_after leads
 row_is zero heads goal k = none_at k

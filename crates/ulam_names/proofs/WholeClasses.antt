@@ -19,7 +19,7 @@ pub class_on : (known : w.Known) (heads : List Head) (k j : ℕ) (front : List r
     w.whole_class known heads k c ≡ Ok x → j ≡ k + 1 → with_front front (w.whole_classes known heads k (c ∷ cs)) ≡ with_front (front ++ (x ∷ [])) (w.whole_classes known heads j cs)
 class_on known heads k j front c cs x h e = rw h (front_on front x (w.whole_classes known heads (k + 1) cs)) ∙ ap (λ (i : ℕ). with_front (front ++ (x ∷ [])) (w.whole_classes known heads i cs)) (sym e)
 
--- one more parameter with a name of its own
+-- one more parameter, with a copy of its name
 pub param_on : (whole more : List Param) (p : Param) (q : HalfParam) (rest : List r.Param) → more ≡ whole ++ (p ∷ []) → resolved_param p ≡ param_of q →
     map resolved_param whole ++ (param_of q ∷ rest) ≡ map resolved_param more ++ rest
 param_on whole more p q rest e h =

@@ -1,4 +1,4 @@
--- Which program is a resolution of files, by cases and in no order.
+-- Which program is a resolution of files: one case for each form of the tree, and no order in which rules are tried.
 use Rattle.std.specs.Prelude.{ℕ, ◌+◌, ◌≡◌, ◌<◌, List, [], ◌∷◌, ◌++◌, length, map, Option, Some, None, is_some, option_map, Bool, true, false, ◌&&◌, if◌then◌else◌, int_le, ℤ, pos, neg_ℤ, unsigned_abs}
 use Rattle.sat_math.specs.declared.NumType.{NumType}
 use Rattle.ulam_tree.specs.declared.resolved.Named.{Named}
@@ -19,7 +19,7 @@ AreKnown done (t.class c ∷ xs) known =
 abbrev pub IsMemberType : Known → Names → t.TypeRef → Named → Type 0
 IsMemberType known d ty n = IsType (basics known d) (values d) ty n
 
--- a name may be declared in a class that has so many of its sort
+-- a name may be declared in a class that has declared n names of its sort
 abbrev pub IsNew : Names → ℕ → t.Word → Type 0
 IsNew d n w = (n < most_members) × (declares_name d w.name ≡ false)
 
@@ -71,7 +71,7 @@ AreItems known (t.class c ∷ xs) hs =
     (a : Names × List Half) × (more : List HalfClass) × AreMembers known no_names c.members a × AreItems known xs more
     × (hs ≡ record { quark = c.quark; word = c.word; names = a.0; members = a.1 } ∷ more)
 
--- each element has its function
+-- each element has its function `Void behave()`
 abbrev pub AllBehave : List HalfClass → Type 0
 AllBehave [] = Unit {0}
 AllBehave (h ∷ hs) = (behaves h ≡ true) × AllBehave hs
@@ -81,20 +81,30 @@ abbrev pub NoneCyclic : List Head → ℕ → List HalfClass → Type 0
 NoneCyclic heads k [] = Unit {0}
 NoneCyclic heads k (h ∷ hs) = (holds_itself heads k ≡ false) × NoneCyclic heads (k + 1) hs
 
--- a member with its body resolved
-abbrev pub IsWhole : Known → List Head → ℕ → Names → Half → r.Member → Type 0
-IsWhole known heads k d (half_field n w len) x = x ≡ r.field n w len
-IsWhole known heads k d (half_function f) x =
-    (b : r.Body) × IsBody (context_of known heads k d f) (scope_of heads f) (length f.params) f.body b × (x ≡ r.function f.of f.word f.params b)
+-- A class whose bodies are resolved: the names of all classes, all classes as others see them, the number of this one, and what it has declared.
+pub record OwnClass : Type 0 where
+  pub known : Known
+  pub heads : List Head
+  pub number : ℕ
+  pub names : Names
 
-abbrev pub AreWhole : Known → List Head → ℕ → Names → List Half → List r.Member → Type 0
-AreWhole known heads k d [] xs = xs ≡ []
-AreWhole known heads k d (m ∷ ms) xs = (x : r.Member) × (more : List r.Member) × IsWhole known heads k d m x × AreWhole known heads k d ms more × (xs ≡ x ∷ more)
+abbrev pub own_class : Known → List Head → ℕ → Names → OwnClass
+own_class known heads k d = record { known = known; heads = heads; number = k; names = d }
+
+-- a member with its body resolved
+abbrev pub IsWhole : OwnClass → Half → r.Member → Type 0
+IsWhole own (half_field n w len) x = x ≡ r.field n w len
+IsWhole own (half_function f) x =
+    (b : r.Body) × IsBody (context_of own.known own.heads own.number own.names f) (scope_of own.heads f) (length f.params) f.body b × (x ≡ r.function f.of f.word f.params b)
+
+abbrev pub AreWhole : OwnClass → List Half → List r.Member → Type 0
+AreWhole own [] xs = xs ≡ []
+AreWhole own (m ∷ ms) xs = (x : r.Member) × (more : List r.Member) × IsWhole own m x × AreWhole own ms more × (xs ≡ x ∷ more)
 
 abbrev pub AreClasses : Known → List Head → ℕ → List HalfClass → List r.Class → Type 0
 AreClasses known heads k [] cs = cs ≡ []
 AreClasses known heads k (h ∷ hs) cs =
-    (xs : List r.Member) × (more : List r.Class) × AreWhole known heads k h.names h.members xs × AreClasses known heads (k + 1) hs more
+    (xs : List r.Member) × (more : List r.Class) × AreWhole (own_class known heads k h.names) h.members xs × AreClasses known heads (k + 1) hs more
     × (cs ≡ record { quark = h.quark; word = h.word; members = xs } ∷ more)
 
 -- These classes are a resolution of the items of all files.
@@ -106,3 +116,7 @@ pub record IsResolved (xs : List t.Item) (cs : List r.Class) : Type 0 where
   pub behave : AllBehave halves
   pub apart : NoneCyclic (map head_of halves) 0 halves
   pub whole : AreClasses known (map head_of halves) 0 halves cs
+
+-- No classes are a resolution of these items.
+abbrev pub HaveNoResolution : List t.Item → Type 0
+HaveNoResolution xs = (cs : List r.Class) → IsResolved xs cs → ⊥

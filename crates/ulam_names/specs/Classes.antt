@@ -33,7 +33,7 @@ pub data Half : Type 0 where
   half_field : Named → t.Word → ℕ → Half
   half_function : Pending → Half
 
--- a class whose members are resolved but for bodies
+-- a class whose members are resolved, except for the bodies of its functions
 pub record HalfClass : Type 0 where
   pub quark : Bool
   pub word : t.Word
@@ -68,13 +68,13 @@ values d n = option_map (λ (v : Value). v.value) (beside n d.constants)
 abbrev pub member_type : Known → Names → t.TypeRef → Found Named
 member_type known d ty = type_named (basics known d) (values d) ty
 
--- a name that is new in the class, where fewer than the most are declared of its sort
+-- a name that is new in the class, which has declared fewer names of its sort than the limit
 abbrev pub new_name : Names → ℕ → Bool → t.Word → Found (Unit {0})
 new_name d n free w =
     must (nat_lt n most_members) (too_many w.place) >>= λ (_ : Unit {0}).
     must (free && not (declares_name d w.name)) (declared_twice w.place)
 
--- whether it is a truth value, and its number
+-- a constant's value: whether it is a truth value, and its number
 abbrev pub const_value : Names → t.Const → Found (Bool × ℤ)
 const_value d (t.const_number minus n u) = Ok (false, if minus then neg_ℤ (pos n) else pos n)
 const_value d (t.const_truth b) = Ok (true, if b then pos 1 else pos 0)
@@ -95,7 +95,7 @@ is_member_type known y.Random = true
 is_member_type known (y.Class k) = option_map_or (λ (p : Text × Bool). p.1) (slice_get known k) false
 is_member_type known ty = false
 
--- of arrays, whether it may be one's
+-- whether a data member may have this type, or be an array of it
 abbrev pub may_be_member : Known → Ty → Bool → Bool
 may_be_member known ty array = is_member_type known ty && (not array || is_some (as_number ty))
 
@@ -201,7 +201,7 @@ all_behave (h ∷ hs) = must (behaves h) (no_behave h.word.place) >>= λ (_ : Un
 abbrev pub parts_of : List Head → ℕ → List ℕ
 parts_of heads k = option_map_or (λ (h : Head). flat_map (λ (p : Text × Ty). class_number p.1) h.fields) (slice_get heads k) []
 
--- A class contains itself, through however many data members: as many steps as there are classes are enough. No data member has an element as its type, so it is a quark.
+-- A class contains itself, directly or through other classes. A step goes from a class to the class of one of its data members, and no more steps are needed than there are classes. No data member has an element as its type, so a class that contains itself is a quark.
 abbrev pub holds_itself : List Head → ℕ → Bool
 holds_itself heads k = leads (parts_of heads) (length heads) k k
 
@@ -216,7 +216,7 @@ abbrev pub param_entries : List Head → ℕ → List r.Param → List Entry
 param_entries heads i [] = []
 param_entries heads i (p ∷ ps) = record { name = p.word.name; slot = Some i; inside = inside_local heads p.of.ty } ∷ param_entries heads (i + 1) ps
 
--- what a function's body stands in: it sees the typedefs and constants that are declared before it
+-- What the names in a function's body are looked up in. It sees the typedefs and constants that its class declares before it.
 abbrev pub context_of : Known → List Head → ℕ → Names → Pending → Context
 context_of known heads k d f = record {
   heads = heads;

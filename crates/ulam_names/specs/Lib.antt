@@ -1,4 +1,6 @@
+pub mod BodyWalk
 pub mod ClassRelation
+pub mod ClassWalk
 pub mod Classes
 pub mod Faults
 pub mod Files

@@ -1,5 +1,7 @@
--- The scopes that are lists of the code's.
-use Rattle.std.specs.Prelude.{ℕ, List, [], ◌∷◌, map, take, ◌++◌, ◌≡◌, Result, Ok, Err, Bool, true, false}
+-- What the values of the code stand for, and the words in which a contract compares an answer with the walk.
+use Rattle.std.specs.Prelude.{ℕ, List, [], ◌∷◌, map, take, length, ◌++◌, ◌≡◌, Result, Ok, Err, Bool, true, false, Vec, Option}
+use Rattle.std.specs.Global.{Box, Global}
+use Rattle.std.specs.Box.{box_value}
 use Rattle.ulam_names.specs.declared.fault.NameFault.{NameFault}
 use Rattle.ulam_names.specs.declared.fault.NameFault.TheVariants as n
 use Rattle.ulam_names.specs.declared.half.HalfClass.{HalfClass}
@@ -7,19 +9,19 @@ use Rattle.ulam_names.specs.declared.half.HalfParam.{HalfParam}
 use Rattle.ulam_names.specs.declared.half.Pending.{Pending}
 use Rattle.ulam_names.specs.declared.half.Half.{Half}
 use Rattle.ulam_names.specs.declared.half.Half.TheVariants as h
+use Rattle.ulam_names.specs.declared.names.Names.{Names}
 use Rattle.ulam_names.specs.Classes as w
 use Rattle.ulam_names.specs.NamesView.{names_view}
 use Rattle.ulam_tree.specs.RawViews.{word_of, body_list}
 use Rattle.ulam_names.specs.declared.scope.Entry.{Entry}
 use Rattle.ulam_names.specs.declared.scope.Context.{Context}
-use Rattle.ulam_tree.specs.Found.{◌>>=◌}
+use Rattle.ulam_tree.specs.Found.{◌>>=◌, with_front}
 use Rattle.ulam_names.specs.Faults.{Found, declared_twice, unknown_name, cyclic_quark, no_behave, bad_constant, too_many, bad_width}
-use Rattle.ulam_tree.specs.declared.resolved.Step.{Step}
 use Rattle.ulam_tree.specs.Raw as t
 use Rattle.ulam_tree.specs.Resolved as r
 use Rattle.ulam_tree.specs.declared.resolved.Expr.{Expr}
 use Rattle.ulam_tree.specs.declared.resolved.Statement.{Statement}
-use Rattle.ulam_tree.specs.ResolvedViews.{resolved_expr, resolved_statement}
+use Rattle.ulam_tree.specs.ResolvedViews.{resolved_expr, resolved_statement, resolved_body, resolved_part}
 use Rattle.ulam_names.specs.Scopes as s
 use Rattle.ulam_names.specs.Scopes.{names_of}
 
@@ -53,7 +55,7 @@ context_of c = record {
   params = c.params;
 }
 
--- a fault of the code's, unless memory ran out
+-- The walk ends with the fault that the code reports. Nothing is said where memory ran out.
 abbrev pub Fails : {A : Type 0} → NameFault → Found A → Type 0
 Fails (n.DuplicateName p) x = x ≡ Err (declared_twice p)
 Fails (n.UnknownName p) x = x ≡ Err (unknown_name p)
@@ -64,16 +66,27 @@ Fails (n.TooMany p) x = x ≡ Err (too_many p)
 Fails (n.BadWidth p) x = x ≡ Err (bad_width p)
 Fails n.NoMemory x = Unit {0}
 
--- what a function gives is what the walk finds, unless memory ran out
+-- A function gives what the walk finds: on Ok the value that its answer stands for, on Err the same fault. Nothing is said where memory ran out.
 abbrev pub Gives : {X A : Type 0} → (X → A) → Result X NameFault → Found A → Type 0
 Gives view (Ok x) found = found ≡ Ok (view x)
 Gives view (Err e) found = Fails e found
 
--- steps before more that are found
-abbrev pub with_steps : List Step → Found (List Step) → Found (List Step)
-with_steps front steps = steps >>= λ (more : List Step). Ok (front ++ more)
+-- the same where the walk finds the very values that the function gives
+abbrev pub IsAsFound : {A : Type 0} → Result A NameFault → Found A → Type 0
+IsAsFound {A = A} result found = Gives (λ (x : A). x) result found
 
--- arguments before more that are found
+-- A function adds what the walk finds to what was there: the old list is in front of it in the new one.
+abbrev pub AddsFound : {X A : Type 0} → List A → List A → Result X NameFault → Found (List A) → Type 0
+AddsFound {X = X} old new result found = Gives (λ (_ : X). new) result (with_front old found)
+
+-- what the items of a vector stand for
+abbrev pub each : {A B : Type 0} → (A → B) → Vec A Global → List B
+each view v = map view v.items
+
+abbrev pub halves : Vec HalfClass Global → List w.HalfClass
+halves v = map half_class v.items
+
+-- arguments in front of others
 abbrev pub join_args : List Expr → r.Args → r.Args
 join_args [] more = more
 join_args (e ∷ es) more = r.arg (resolved_expr e) (join_args es more)
@@ -81,7 +94,7 @@ join_args (e ∷ es) more = r.arg (resolved_expr e) (join_args es more)
 abbrev pub with_args : List Expr → Found r.Args → Found r.Args
 with_args front found = found >>= λ (more : r.Args). Ok (join_args front more)
 
--- and statements
+-- statements in front of others
 abbrev pub join_body : List Statement → r.Body → r.Body
 join_body [] more = more
 join_body (x ∷ xs) more = r.then_so (resolved_statement x) (join_body xs more)
@@ -95,7 +108,35 @@ entries_of es = map entry_of es
 abbrev pub scope_of : List Entry → ℕ → s.Scope
 scope_of es from = record { entries = entries_of es; from = from }
 
--- a statement that has no statement within and declares nothing
+-- the entries of a vector are those of a scope
+abbrev pub AreEntries : Vec Entry Global → s.Scope → Type 0
+AreEntries es scope = entries_of es.items ≡ scope.entries
+
+-- The old entries are the first of the new ones.
+abbrev pub IsFront : Vec Entry Global → Vec Entry Global → Type 0
+IsFront old new = take (length old.items) new.items ≡ old.items
+
+-- The new entries are the old ones and one more.
+abbrev pub AddsEntry : Vec Entry Global → Vec Entry Global → s.Entry → Type 0
+AddsEntry old new e = entries_of new.items ≡ entries_of old.items ++ e ∷ []
+
+-- Statements are answered with the next free slot beside them.
+abbrev pub next_slot : {A : Type 0} → A × ℕ → ℕ
+next_slot x = x.1
+
+abbrev pub found_statement : Statement × ℕ → r.Statement
+found_statement x = resolved_statement x.0
+
+abbrev pub found_boxed : Box Statement × ℕ → r.Statement
+found_boxed x = resolved_statement (box_value x.0)
+
+abbrev pub found_part : Option (Box Statement) × ℕ → r.Part
+found_part x = resolved_part x.0
+
+abbrev pub found_body : Vec Statement Global × ℕ → r.Body
+found_body x = resolved_body x.0.items
+
+-- a statement that holds no other statement and declares nothing
 abbrev pub is_simple : t.Statement → Bool
 is_simple (t.block b) = false
 is_simple (t.if_so k x z) = false
@@ -104,7 +145,19 @@ is_simple (t.for_all f k g x) = false
 is_simple (t.declares ty w e) = false
 is_simple x = true
 
--- members before more that are found
+-- What a class has declared so far, and its members so far.
+abbrev pub so_far : Names × Vec Half Global → s.Names × List w.Half
+so_far x = (names_view x.0, each half_of x.1)
+
+-- the same where the last declaration is a typedef or a constant, which is no member of the resolved class
+abbrev pub only : Names → Unit {0} → s.Names × List w.Half
+only names done = (names_view names, [])
+
+-- and where it is a data member or a function
+abbrev pub with_half : Names → Half → s.Names × List w.Half
+with_half names half = (names_view names, half_of half ∷ [])
+
+-- members in front of others
 abbrev pub with_halves : List w.Half → Found (s.Names × List w.Half) → Found (s.Names × List w.Half)
 with_halves front found = found >>= λ (x : s.Names × List w.Half). Ok (x.0, front ++ x.1)
 

@@ -1,4 +1,4 @@
--- The walk over a body: what it is resolved to, or the first place at which no rule fits.
+-- The walk over a body in the order of its text: what it is resolved to, or the first fault.
 use Rattle.std.specs.Prelude.{ℕ, ◌+◌, List, [], ◌∷◌, drop, Option, Some, None, is_some, option_map, not, if◌then◌else◌, nat_lt, ℤ, pos, unsigned_abs, Ok, Err}
 use Rattle.std.specs.List.{list_any}
 use Rattle.feast_base.specs.Places.{no_place}
@@ -117,12 +117,12 @@ abbrev pub shown : r.Cond → Ty
 shown (r.seen p n) = n.ty
 shown (r.test e) = y.Nothing
 
--- the scope of the first branch
+-- the scope of the first branch, with the name that the condition shows
 abbrev pub narrowed : List Head → Scope → t.Cond → Ty → Scope
 narrowed heads s (t.seen w d) ty = if is_element heads ty then added (record { name = w.name; slot = None; inside = ty }) s else s
 narrowed heads s (t.test e) ty = s
 
--- how many locals stand in it
+-- how many locals a statement declares, itself and within
 abbrev mutual
   pub locals_of : t.Statement → ℕ
   locals_of (t.block b) = locals_in b

@@ -1,10 +1,8 @@
 //! Classes of files, without the bodies of functions.
-ghost use Rattle.std.specs.Prelude.{◌≡◌, [], ◌∷◌, ◌++◌, map};
-ghost use Rattle.ulam_names.specs.Classes as walk;
-ghost use Rattle.ulam_names.specs.Files.{all_items};
-ghost use Rattle.ulam_tree.specs.Found.{with_front};
-ghost use Rattle.ulam_names.specs.Shown.{Gives, half_class};
-ghost use Rattle.ulam_tree.specs.RawViews as raw_view;
+ghost use Rattle.std.specs.Prelude.{◌≡◌};
+ghost use Rattle.ulam_names.specs.ClassWalk as walk;
+ghost use Rattle.ulam_names.specs.Classes.{may_use};
+ghost use Rattle.ulam_names.specs.Shown.{Gives, IsAsFound, AddsFound, halves, half_class};
 
 use crate::class_scope::is_built_in;
 use crate::fault::NameFault;
@@ -16,7 +14,7 @@ use ulam_tree::{Class, File, Item};
 
 /// Adds the name of a class.
 fn new_class<'a>(known: &mut Table<'a, bool>, class: &'a Class) -> Result<(), NameFault>
-    ensures { Gives (λ x. known.new) result (walk.new_class known.old (raw_view.class_of class.now)) }
+    ensures { Gives (λ _. known.new) result (walk.new_class known.old class.now) }
 {
     let name = class.word.name.bytes();
     if known.len() >= 256 {
@@ -31,7 +29,7 @@ fn new_class<'a>(known: &mut Table<'a, bool>, class: &'a Class) -> Result<(), Na
 
 /// Adds the names of the classes of a file.
 fn file_names<'a>(known: &mut Table<'a, bool>, items: &'a [Item]) -> Result<(), NameFault>
-    ensures { Gives (λ x. known.new) result (walk.class_names known.old (map raw_view.item_of items.now)) }
+    ensures { Gives (λ _. known.new) result (walk.file_names known.old items.now) }
 {
     for item in items {
         if let Item::Class { class } = item {
@@ -43,7 +41,7 @@ fn file_names<'a>(known: &mut Table<'a, bool>, items: &'a [Item]) -> Result<(), 
 
 /// The names of all classes, and whether each is a quark.
 pub fn class_names<'a>(alloc: Global, files: &'a [File]) -> Result<Table<'a, bool>, NameFault>
-    ensures { Gives (λ x. x) result (walk.class_names [] (all_items files.now)) }
+    ensures { IsAsFound result (walk.class_names files.now) }
 {
     let mut known = Table::new(alloc);
     for file in files {
@@ -54,7 +52,7 @@ pub fn class_names<'a>(alloc: Global, files: &'a [File]) -> Result<Table<'a, boo
 
 /// Whether a `use` may name a class.
 fn may_use(known: &Table<bool>, name: &[u8]) -> bool
-    ensures { result ≡ walk.may_use known.now name.now }
+    ensures { result ≡ may_use known.now name.now }
 {
     name == b"EventWindow".as_slice() || name == b"Random".as_slice() || known.has(name)
 }
@@ -65,7 +63,7 @@ fn half<'a>(
     known: &Table<bool>,
     class: &'a Class,
 ) -> Result<HalfClass<'a>, NameFault>
-    ensures { Gives half_class result (walk.half_class known.now (raw_view.class_of class.now)) }
+    ensures { Gives half_class result (walk.half_class known.now class.now) }
 {
     let (names, members) = members(alloc, known, class.members.as_slice())?;
     Ok(HalfClass {
@@ -83,7 +81,7 @@ fn item<'a>(
     found: &mut Vec<HalfClass<'a>>,
     raw: &'a Item,
 ) -> Result<(), NameFault>
-    ensures { Gives (λ x. map half_class found.new.items) result (with_front (map half_class found.old.items) (walk.item known.now (raw_view.item_of raw.now))) }
+    ensures { AddsFound (halves found.old) (halves found.new) result (walk.item known.now raw.now) }
 {
     match raw {
         Item::Ulam { .. } => Ok(()),
@@ -108,7 +106,7 @@ fn file_items<'a>(
     found: &mut Vec<HalfClass<'a>>,
     raw: &'a [Item],
 ) -> Result<(), NameFault>
-    ensures { Gives (λ x. map half_class found.new.items) result (with_front (map half_class found.old.items) (walk.items known.now (map raw_view.item_of raw.now))) }
+    ensures { AddsFound (halves found.old) (halves found.new) result (walk.file_items known.now raw.now) }
 {
     for one in raw {
         item(alloc, known, found, one)?;
@@ -122,7 +120,7 @@ pub fn items<'a>(
     known: &Table<bool>,
     files: &'a [File],
 ) -> Result<Vec<HalfClass<'a>>, NameFault>
-    ensures { Gives (λ x. map half_class x.items) result (walk.items known.now (all_items files.now)) }
+    ensures { Gives halves result (walk.items known.now files.now) }
 {
     let mut found = Vec::new(alloc);
     for file in files {

@@ -1,12 +1,12 @@
 //! What the members of a class may name.
-ghost use Rattle.std.specs.Prelude.{◌≡◌, ◌-◌, ◌^◌, ◌+◌, is_some, option_map, int_le, pos, neg_ℤ};
-ghost use Rattle.ulam_names.specs.Classes as walk;
+ghost use Rattle.std.specs.Prelude.{◌≡◌, ◌-◌, ◌^◌, ◌+◌, is_some, int_le, pos, neg_ℤ};
+ghost use Rattle.ulam_names.specs.ClassWalk as walk;
+ghost use Rattle.ulam_names.specs.Classes.{is_built_in, is_member_type, may_be_member, takes_value};
 ghost use Rattle.ulam_tree.specs.Found.{found};
 ghost use Rattle.ulam_names.specs.Faults.{bad_width};
 ghost use Rattle.ulam_names.specs.Scopes.{as_number, in_range};
-ghost use Rattle.ulam_names.specs.Shown.{context_of, class_context, Gives};
+ghost use Rattle.ulam_names.specs.Shown.{context_of, class_context, IsAsFound};
 ghost use Rattle.ulam_names.specs.NamesView.{names_view};
-ghost use Rattle.ulam_tree.specs.RawViews as raw_view;
 
 use crate::fault::NameFault;
 use crate::names::{Names, is_truth};
@@ -36,14 +36,14 @@ fn class_context<'c, 'a>(known: &'c Table<'a, bool>, names: &'c Names<'a>) -> Co
 
 /// The type of a member.
 pub fn member_type(known: &Table<bool>, names: &Names, of: &TypeRef) -> Result<Named, NameFault>
-    ensures { Gives (λ x. x) result (walk.member_type known.now (names_view names.now) (raw_view.type_of of.now)) }
+    ensures { IsAsFound result (walk.member_type known.now names.now of.now) }
 {
     type_in(&class_context(known, names), &[], of)
 }
 
-/// The number type of a type.
+/// A type as a type of numbers.
 pub fn number_type(named: Named) -> Result<NumType, NameFault>
-    ensures { Gives (λ x. x) result (found (as_number named.ty) (bad_width named.place)) }
+    ensures { IsAsFound result (found (as_number named.ty) (bad_width named.place)) }
 {
     match named.ty {
         Ty::Num { num } => Ok(num),
@@ -53,7 +53,7 @@ pub fn number_type(named: Named) -> Result<NumType, NameFault>
 
 /// Whether a name is that of a built-in type.
 pub fn is_built_in(name: &[u8]) -> bool
-    ensures { result ≡ walk.is_built_in name.now }
+    ensures { result ≡ is_built_in name.now }
 {
     built_in(name).is_some()
 }
@@ -65,7 +65,7 @@ pub fn array_length(
     place: Place,
     length: &Option<Width>,
 ) -> Result<u32, NameFault>
-    ensures { Gives (λ x. x) result (walk.length_of (names_view names.now) place (option_map raw_view.width_of length.now)) }
+    ensures { IsAsFound result (walk.length_of names.now place length.now) }
 {
     match length {
         None => Ok(0),
@@ -82,7 +82,7 @@ pub fn array_length(
 
 /// Whether a data member may have a type.
 fn is_member_type(known: &Table<bool>, ty: Ty) -> bool
-    ensures { result ≡ walk.is_member_type known.now ty }
+    ensures { result ≡ is_member_type known.now ty }
 {
     match ty {
         Ty::Num { .. } | Ty::Window | Ty::Random => true,
@@ -106,7 +106,7 @@ fn is_number_type(ty: Ty) -> bool
 
 /// Whether a data member may have a type, or an array of it.
 pub fn may_be_member(known: &Table<bool>, ty: Ty, array: bool) -> bool
-    ensures { result ≡ walk.may_be_member known.now ty array }
+    ensures { result ≡ may_be_member known.now ty array }
 {
     is_member_type(known, ty) && (!array || is_number_type(ty))
 }
@@ -155,7 +155,7 @@ fn in_range(num: NumType, value: i128) -> bool
 
 /// Whether a constant of a type may have a value.
 pub fn takes_value(num: NumType, truth: bool, value: i128) -> bool
-    ensures { result ≡ walk.takes_value num (truth, value) }
+    ensures { result ≡ takes_value num (truth, value) }
 {
     is_truth(num.kind) == truth && in_range(num, value)
 }

@@ -1,10 +1,9 @@
 //! Quarks that contain themselves, found in rounds over all classes.
-ghost use Rattle.std.specs.Prelude.{◌≡◌, ◌<◌, ◌≤◌, [], ℕ, length, map, slice_get, get_or, false, IfOk, IfErr};
+ghost use Rattle.std.specs.Prelude.{◌≡◌, ◌<◌, ◌≤◌, length, map, get_or, false, IfOk, IfErr};
 ghost use Rattle.std.specs.List.{list_any};
-ghost use Rattle.std.specs.Option.{option_map_or};
-ghost use Rattle.ulam_names.specs.Classes as walk;
-ghost use Rattle.ulam_names.specs.Rounds.{leads_by, field_parts, leads_row, row_after};
-ghost use Rattle.ulam_names.specs.Shown.{Gives, head_of, half_class};
+ghost use Rattle.ulam_names.specs.ClassWalk as walk;
+ghost use Rattle.ulam_names.specs.Rounds.{leads_by, field_part, field_parts, leads_row, row_after};
+ghost use Rattle.ulam_names.specs.Shown.{IsAsFound, head_of};
 ghost use Rattle.ulam_names.specs.declared.fault.NameFault.TheVariants.{NoMemory};
 ghost use Rattle.ulam_tree.specs.Ways.{class_number};
 
@@ -25,7 +24,7 @@ fn mark(row: &[bool], class: u32) -> bool
     }
 }
 
-/// Whether a type is the goal or leads to it, given the classes that do so by a row.
+/// Whether a type is the goal, or a class that is marked in a row.
 fn type_leads(row: &[bool], ty: Ty, goal: u32) -> bool
     ensures { result ≡ list_any (leads_by row.now goal) (class_number ty) }
 {
@@ -40,9 +39,9 @@ fn type_leads(row: &[bool], ty: Ty, goal: u32) -> bool
     }
 }
 
-/// Whether a data member is the goal or leads to it.
+/// Whether the type of a data member is the goal, or a class that is marked in a row.
 fn field_leads(row: &[bool], fields: &Table<Ty>, number: usize, goal: u32) -> bool
-    ensures { result ≡ list_any (leads_by row.now goal) (option_map_or (λ p. class_number p.1) (slice_get fields.now number) []) }
+    ensures { result ≡ list_any (leads_by row.now goal) (field_part fields.now number) }
 {
     match fields.at(number) {
         Some(ty) => type_leads(row, *ty, goal),
@@ -50,7 +49,7 @@ fn field_leads(row: &[bool], fields: &Table<Ty>, number: usize, goal: u32) -> bo
     }
 }
 
-/// Whether data members lead to the goal.
+/// Whether the type of any data member is the goal, or a class that is marked in a row.
 fn fields_lead(row: &[bool], fields: &Table<Ty>, goal: u32) -> bool
     ensures { result ≡ list_any (leads_by row.now goal) (field_parts fields.now) }
 {
@@ -62,7 +61,7 @@ fn fields_lead(row: &[bool], fields: &Table<Ty>, goal: u32) -> bool
     false
 }
 
-/// Which classes lead to the goal, given those of the previous round.
+/// The row of the next round: which classes lead to the goal by one step more.
 fn next_row(
     alloc: Global,
     classes: &[HalfClass],
@@ -94,7 +93,7 @@ fn whole_row(alloc: Global, classes: &[HalfClass], goal: u32) -> Result<Vec<bool
 /// Whether a class contains itself.
 fn holds_itself(alloc: Global, classes: &[HalfClass], class: u32) -> Result<bool, NameFault>
     requires { class < length classes.now }
-    ensures holds { IfOk result (λ r. r ≡ walk.holds_itself (map head_of classes.now) class) }
+    ensures holds { IfOk result (λ r. r ≡ walk.holds_itself classes.now class) }
     ensures memory { IfErr result (λ e. e ≡ NoMemory) }
 {
     let row = whole_row(alloc, classes, class)?;
@@ -104,7 +103,7 @@ fn holds_itself(alloc: Global, classes: &[HalfClass], class: u32) -> Result<bool
 /// Refuses a quark that contains itself, with a search for each class.
 fn each_apart(alloc: Global, classes: &[HalfClass]) -> Result<(), NameFault>
     requires { length classes.now ≤ 256 }
-    ensures { Gives (λ x. x) result (walk.none_cyclic (map head_of classes.now) 0 (map half_class classes.now)) }
+    ensures { IsAsFound result (walk.none_cyclic classes.now) }
 {
     let mut number = 0;
     for class in classes {
@@ -119,7 +118,7 @@ fn each_apart(alloc: Global, classes: &[HalfClass]) -> Result<(), NameFault>
 /// Refuses a quark that contains itself.
 pub fn none_cyclic(alloc: Global, classes: &[HalfClass]) -> Result<(), NameFault>
     requires { length classes.now ≤ 256 }
-    ensures { Gives (λ x. x) result (walk.none_cyclic (map head_of classes.now) 0 (map half_class classes.now)) }
+    ensures { IsAsFound result (walk.none_cyclic classes.now) }
 {
     if may_be_cyclic(alloc, classes)? {
         each_apart(alloc, classes)

@@ -1,10 +1,7 @@
 //! Expressions.
-ghost use Rattle.std.specs.Prelude.{◌≡◌, ℕ, List, map};
 ghost use Rattle.std.specs.Box.{box_value};
-ghost use Rattle.ulam_names.specs.Walk as walk;
-ghost use Rattle.ulam_names.specs.Shown.{entry_of, context_of, Gives};
-ghost use Rattle.ulam_tree.specs.Raw as raw_tree;
-ghost use Rattle.ulam_tree.specs.RawViews as raw_view;
+ghost use Rattle.ulam_names.specs.BodyWalk as walk;
+ghost use Rattle.ulam_names.specs.Shown.{Gives};
 ghost use Rattle.ulam_tree.specs.ResolvedViews.{resolved_expr, resolved_args};
 
 use crate::fault::NameFault;
@@ -17,7 +14,7 @@ use ulam_tree as raw;
 use ulam_tree::resolved::Expr;
 use ulam_tree::{Word, resolved_build as build};
 
-/// An expression. Each part goes into its box before the next one is looked up.
+/// An expression. Each part is put into its box before the next one is resolved.
 #[cycle(expr)]
 #[tactic(auto, using(ulam_tree::proofs::RawRows::call_is))]
 pub fn expr(
@@ -26,7 +23,7 @@ pub fn expr(
     entries: &[Entry],
     raw: &raw::Expr,
 ) -> Result<Expr, NameFault>
-    ensures { Gives resolved_expr result (walk.expr (context_of context.now) (map entry_of entries.now) (raw_view.expr_of raw.now)) }
+    ensures { Gives resolved_expr result (walk.expr context.now entries.now raw.now) }
 {
     match raw {
         raw::Expr::Number {
@@ -79,7 +76,7 @@ fn called(
     words: &raw::Path,
     values: &[raw::Expr],
 ) -> Result<Expr, NameFault>
-    ensures { Gives resolved_expr result (walk.expr (context_of context.now) (map entry_of entries.now) (raw_tree.calls (raw_view.path_of words.now) (raw_view.args_list values.now))) }
+    ensures { Gives resolved_expr result (walk.call context.now entries.now words.now values.now) }
 {
     let path = path(alloc, context, entries, words)?;
     let args = args(alloc, context, entries, values)?;
@@ -95,7 +92,7 @@ fn index(
     words: &raw::Path,
     at: &raw::Expr,
 ) -> Result<Expr, NameFault>
-    ensures { Gives resolved_expr result (walk.expr (context_of context.now) (map entry_of entries.now) (raw_tree.index (raw_view.path_of words.now) (raw_view.expr_of at.now))) }
+    ensures { Gives resolved_expr result (walk.index context.now entries.now words.now at.now) }
 {
     let path = path(alloc, context, entries, words)?;
     let at = expr(alloc, context, entries, at)?;
@@ -113,7 +110,7 @@ fn cast(
     value: &raw::Expr,
     place: Place,
 ) -> Result<Expr, NameFault>
-    ensures { Gives resolved_expr result (walk.expr (context_of context.now) (map entry_of entries.now) (raw_tree.cast (raw_view.type_of to.now) (raw_view.expr_of value.now) place)) }
+    ensures { Gives resolved_expr result (walk.cast context.now entries.now to.now value.now place) }
 {
     let to = type_in(context, entries, to)?;
     let value = expr(alloc, context, entries, value)?;
@@ -130,7 +127,7 @@ fn is(
     class: &Word,
     place: Place,
 ) -> Result<Expr, NameFault>
-    ensures { Gives resolved_expr result (walk.expr (context_of context.now) (map entry_of entries.now) (raw_tree.is (raw_view.expr_of value.now) (raw_view.word_of class.now) place)) }
+    ensures { Gives resolved_expr result (walk.is_class context.now entries.now value.now class.now place) }
 {
     let value = expr(alloc, context, entries, value)?;
     let value = Box::new(alloc, value)?;
@@ -138,7 +135,7 @@ fn is(
     Ok(build::is(value, class, place))
 }
 
-/// A part of an expression.
+/// A part of an expression, in a box.
 #[cycle(expr)]
 fn boxed(
     alloc: Global,
@@ -146,7 +143,7 @@ fn boxed(
     entries: &[Entry],
     raw: &Box<raw::Expr>,
 ) -> Result<Box<Expr>, NameFault>
-    ensures { Gives (λ b. resolved_expr (box_value b)) result (walk.expr (context_of context.now) (map entry_of entries.now) (raw_view.expr_of (box_value raw.now))) }
+    ensures { Gives (λ b. resolved_expr (box_value b)) result (walk.expr context.now entries.now (box_value raw.now)) }
 {
     let found = expr(alloc, context, entries, raw)?;
     Ok(Box::new(alloc, found)?)
@@ -160,7 +157,7 @@ pub fn args(
     entries: &[Entry],
     raw: &[raw::Expr],
 ) -> Result<Vec<Expr>, NameFault>
-    ensures { Gives (λ v. resolved_args v.items) result (walk.args (context_of context.now) (map entry_of entries.now) (raw_view.args_list raw.now)) }
+    ensures { Gives (λ v. resolved_args v.items) result (walk.args context.now entries.now raw.now) }
 {
     let mut found = Vec::new(alloc);
     for value in raw {

@@ -4,7 +4,7 @@ use feast_base::{NoMemory, Place};
 use std::alloc::{AllocError, AllocFailed};
 use thiserror::Error;
 
-/// The first name of files that breaks a rule, and where it stands.
+/// The first name in the files that breaks a rule, and where it stands.
 #[derive(Clone, Copy, Debug, PartialEq, Eq, Error)]
 pub enum NameFault {
     /// A name declared twice in one scope, or a class or typedef with the name of a built-in type;

@@ -17,7 +17,7 @@ pub struct HalfClass<'a> {
     pub members: Vec<Half<'a>>,
 }
 
-// By hand, so that callers drop by a call.
+// Written by hand, not derived: so a caller drops it by one call.
 impl Drop for HalfClass<'_> {
     fn drop(self) {
         let HalfClass {
@@ -37,7 +37,7 @@ pub enum Half<'a> {
     Function(Pending<'a>),
 }
 
-// By hand, so that callers drop by a call.
+// Written by hand, not derived: so a caller drops it by one call.
 impl Drop for Half<'_> {
     fn drop(self) {
         match self {
@@ -56,7 +56,7 @@ pub struct Pending<'a> {
     pub body: &'a [Statement],
     /// How many typedefs its class declares before it.
     pub typedefs: usize,
-    /// And how many constants.
+    /// How many constants its class declares before it.
     pub constants: usize,
 }
 

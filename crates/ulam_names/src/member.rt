@@ -1,12 +1,9 @@
 //! Members of classes.
-ghost use Rattle.std.specs.Prelude.{◌≡◌, ◌++◌, ◌∷◌, [], ℕ, List, map, option_map, OnOk};
-ghost use Rattle.std.specs.List.{list_any};
-ghost use Rattle.ulam_names.specs.Classes as walk;
-ghost use Rattle.ulam_names.specs.Scopes.{is_among, no_names};
-ghost use Rattle.ulam_names.specs.Shown.{Gives, param_of, param_names, half_of, half_class, with_halves};
-ghost use Rattle.ulam_names.specs.NamesView.{names_view};
-ghost use Rattle.ulam_tree.specs.Raw as raw_tree;
-ghost use Rattle.ulam_tree.specs.RawViews as raw_view;
+ghost use Rattle.std.specs.Prelude.{◌≡◌, map};
+ghost use Rattle.ulam_names.specs.ClassWalk as walk;
+ghost use Rattle.ulam_names.specs.Scopes.{is_among};
+ghost use Rattle.ulam_names.specs.Shown.{Gives, param_of, param_names, so_far, only, with_half};
+ghost use Rattle.ulam_tree.specs.declared.raw.Member.TheVariants.{Typedef, Constant, Field};
 
 use crate::basic::Value;
 use crate::class_scope::{
@@ -38,7 +35,7 @@ fn params<'a>(
     names: &Names,
     raw: &'a [Param],
 ) -> Result<Params<'a>, NameFault>
-    ensures { Gives (λ v. map param_of v) result (walk.params_of known.now (names_view names.now) [] (map raw_view.param_of raw.now)) }
+    ensures { Gives (λ v. map param_of v) result (walk.params_of known.now names.now raw.now) }
 {
     let mut found = Params::new(alloc);
     for param in raw {
@@ -64,7 +61,7 @@ fn typedef<'a>(
     of: &TypeRef,
     word: &'a Word,
 ) -> Result<(), NameFault>
-    ensures { Gives (λ x. (names_view names.new, [])) result (walk.member known.now (names_view names.old) (raw_tree.typedef (raw_view.type_of of.now) (raw_view.word_of word.now))) }
+    ensures { Gives (only names.new) result (walk.member known.now names.old (Typedef of.now word.now)) }
 {
     let num = number_type(member_type(known, names, of)?)?;
     let count = names.typedefs.len() + names.constants.len();
@@ -81,7 +78,7 @@ fn constant<'a>(
     word: &'a Word,
     value: &Const,
 ) -> Result<(), NameFault>
-    ensures { Gives (λ x. (names_view names.new, [])) result (walk.member known.now (names_view names.old) (raw_tree.constant (raw_view.type_of of.now) (raw_view.word_of word.now) (raw_view.const_of value.now))) }
+    ensures { Gives (only names.new) result (walk.member known.now names.old (Constant of.now word.now value.now)) }
 {
     let num = number_type(member_type(known, names, of)?)?;
     let count = names.typedefs.len() + names.constants.len();
@@ -104,7 +101,7 @@ fn field<'a>(
     word: &'a Word,
     length: &Option<Width>,
 ) -> Result<Half<'a>, NameFault>
-    ensures { Gives (λ h. (names_view names.new, half_of h ∷ [])) result (walk.member known.now (names_view names.old) (raw_tree.field (raw_view.type_of of.now) (raw_view.word_of word.now) (option_map raw_view.width_of length.now))) }
+    ensures { Gives (with_half names.new) result (walk.member known.now names.old (Field of.now word.now length.now)) }
 {
     let named = member_type(known, names, of)?;
     if !may_be_member(known, named.ty, length.is_some()) {
@@ -126,7 +123,7 @@ fn function<'a>(
     raw: &'a [Param],
     body: &'a [Statement],
 ) -> Result<Half<'a>, NameFault>
-    ensures { Gives (λ h. (names_view names.new, half_of h ∷ [])) result (walk.member known.now (names_view names.old) (raw_tree.function (raw_view.type_of of.now) (raw_view.word_of word.now) (map raw_view.param_of raw.now) (raw_view.body_list body.now))) }
+    ensures { Gives (with_half names.new) result (walk.function known.now names.old of.now word.now raw.now body.now) }
 {
     let of = member_type(known, names, of)?;
     new_name(names, names.functions.len(), true, word)?;
@@ -150,7 +147,7 @@ fn member<'a>(
     found: &mut Vec<Half<'a>>,
     raw: &'a Member,
 ) -> Result<(), NameFault>
-    ensures { Gives (λ x. (names_view names.new, map half_of found.new.items)) result (with_halves (map half_of found.old.items) (walk.member known.now (names_view names.old) (raw_view.member_of raw.now))) }
+    ensures { Gives (λ _. so_far (names.new, found.new)) result (walk.one_more known.now names.old found.old raw.now) }
 {
     match raw {
         Member::Typedef { of, word } => typedef(known, names, of, word),
@@ -186,7 +183,7 @@ pub fn members<'a>(
     known: &Table<bool>,
     raw: &'a [Member],
 ) -> Result<(Names<'a>, Vec<Half<'a>>), NameFault>
-    ensures { Gives (λ x. (names_view x.0, map half_of x.1.items)) result (walk.members known.now no_names (map raw_view.member_of raw.now)) }
+    ensures { Gives so_far result (walk.members known.now raw.now) }
 {
     let mut names = Names::new(alloc);
     let mut found = Vec::new(alloc);

@@ -1,10 +1,9 @@
 //! What a class has declared so far.
 ghost use Rattle.std.specs.Prelude.{◌≡◌, ◌<◌, OnOk, false};
-ghost use Rattle.ulam_names.specs.Classes as walk;
+ghost use Rattle.ulam_names.specs.ClassWalk as walk;
 ghost use Rattle.ulam_names.specs.Scopes.{declares_name, is_truth, no_names};
-ghost use Rattle.ulam_names.specs.Shown.{Gives};
+ghost use Rattle.ulam_names.specs.Shown.{IsAsFound};
 ghost use Rattle.ulam_names.specs.NamesView.{names_view};
-ghost use Rattle.ulam_tree.specs.RawViews as raw_view;
 
 use crate::basic::Value;
 use crate::fault::NameFault;
@@ -22,7 +21,7 @@ pub struct Names<'a> {
     pub functions: Table<'a, ()>,
 }
 
-// By hand, so that callers drop by a call.
+// Written by hand, not derived: so a caller drops it by one call.
 impl Drop for Names<'_> {
     fn drop(self) {
         let Names {
@@ -58,9 +57,10 @@ pub fn declares(names: &Names, name: &[u8]) -> bool
         || names.functions.has(name)
 }
 
-/// Refuses a name that may not be declared.
+/// Refuses a name that may not be declared: there are too many, it is not free, or the class has
+/// declared it.
 pub fn new_name(names: &Names, count: usize, free: bool, word: &Word) -> Result<(), NameFault>
-    ensures gives { Gives (λ x. x) result (walk.new_name (names_view names.now) count free (raw_view.word_of word.now)) }
+    ensures gives { IsAsFound result (walk.new_name names.now count free word.now) }
     ensures room { OnOk result (count < 64) }
     ensures new { OnOk result (declares_name (names_view names.now) word.now.name ≡ false) }
 {
@@ -76,7 +76,7 @@ pub fn new_name(names: &Names, count: usize, free: bool, word: &Word) -> Result<
     Ok(())
 }
 
-/// Whether a kind is that of truth values.
+/// Whether a kind is the kind of truth values.
 pub fn is_truth(kind: Kind) -> bool
     ensures { result ≡ is_truth kind }
 {
@@ -88,7 +88,7 @@ pub fn is_truth(kind: Kind) -> bool
 
 /// Whether a constant's value is a truth value, and its number.
 pub fn const_value(names: &Names, value: &Const) -> Result<(bool, i128), NameFault>
-    ensures { Gives (λ x. x) result (walk.const_value (names_view names.now) (raw_view.const_of value.now)) }
+    ensures { IsAsFound result (walk.const_value names.now value.now) }
 {
     match value {
         Const::Number { minus, value, .. } => {

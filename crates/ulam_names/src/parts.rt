@@ -1,12 +1,12 @@
 //! Parts of statements.
-ghost use Rattle.std.specs.Prelude.{◌≡◌, ◌≤◌, ◌+◌, ◌++◌, ℕ, List, map, length, take, IfOk, OnOk, OnErr, Err, Option, option_map, true};
-ghost use Rattle.ulam_names.specs.declared.fault.NameFault.TheVariants as NameFault;
+ghost use Rattle.std.specs.Prelude.{◌≡◌, ◌≤◌, ◌+◌, ℕ, map, length, IfOk, OnOk, OnErr, Err, option_map, IsTrue};
 ghost use Rattle.std.specs.List.{list_any};
+ghost use Rattle.ulam_names.specs.declared.fault.NameFault.TheVariants as NameFault;
 ghost use Rattle.ulam_names.specs.Scopes.{is_named, is_element, inside_local};
-ghost use Rattle.ulam_names.specs.Walk as walk;
-ghost use Rattle.ulam_names.specs.Shown.{head_of, context_of, scope_of, entries_of, Gives, is_simple};
-ghost use Rattle.ulam_tree.specs.Raw as raw_tree;
-ghost use Rattle.ulam_tree.specs.RawViews as raw_view;
+ghost use Rattle.ulam_names.specs.BodyWalk as walk;
+ghost use Rattle.ulam_names.specs.Shown.{head_of, scope_of, entries_of, Gives, IsAsFound, AreEntries, IsFront, AddsEntry, is_simple};
+ghost use Rattle.ulam_tree.specs.declared.raw.Statement.TheVariants.{Declare};
+ghost use Rattle.ulam_tree.specs.RawViews.{statement_of};
 ghost use Rattle.ulam_tree.specs.ResolvedViews.{resolved_expr, resolved_left, resolved_cond, resolved_statement};
 
 use crate::expr::{args, expr};
@@ -27,7 +27,7 @@ pub fn maybe_expr(
     entries: &[Entry],
     raw: &Option<raw::Expr>,
 ) -> Result<Option<Expr>, NameFault>
-    ensures { Gives (λ x. option_map resolved_expr x) result (walk.maybe_expr (context_of context.now) (entries_of entries.now) (option_map raw_view.expr_of raw.now)) }
+    ensures { Gives (λ x. option_map resolved_expr x) result (walk.maybe_expr context.now entries.now raw.now) }
 {
     match raw {
         None => Ok(None),
@@ -42,7 +42,7 @@ fn left(
     entries: &[Entry],
     raw: &raw::Left,
 ) -> Result<Left, NameFault>
-    ensures { Gives resolved_left result (walk.left (context_of context.now) (entries_of entries.now) (raw_view.left_of raw.now)) }
+    ensures { Gives resolved_left result (walk.left context.now entries.now raw.now) }
 {
     let place = path(alloc, context, entries, &raw.path)?;
     match &raw.index {
@@ -83,7 +83,7 @@ fn is_element(heads: &[HalfClass], ty: Ty) -> bool
     }
 }
 
-/// Where names behind a local of a type are looked up.
+/// The type in which a name after a local and a dot is looked up.
 pub fn inside_local(heads: &[HalfClass], ty: Ty) -> Ty
     ensures { result ≡ inside_local (map head_of heads.now) ty }
 {
@@ -99,7 +99,7 @@ pub fn inside_local(heads: &[HalfClass], ty: Ty) -> Ty
     }
 }
 
-/// Refuses a name that may not be declared.
+/// Refuses a name that may not be declared: no slot is left, or the innermost scope has it.
 fn declared(
     context: &Context,
     entries: &[Entry],
@@ -109,7 +109,7 @@ fn declared(
 ) -> Result<(), NameFault>
     requires from { from ≤ length entries.now }
     requires params { context.now.params ≤ 8 }
-    ensures gives { Gives (λ x. x) result (walk.declared (context_of context.now) (scope_of entries.now from) slot (raw_view.word_of word.now)) }
+    ensures gives { IsAsFound result (walk.declared context.now entries.now from slot word.now) }
     ensures room { OnOk result (slot + 1 ≤ context.now.params + 64) }
 {
     if slot >= context.params + 64 {
@@ -128,7 +128,7 @@ pub fn cond(
     entries: &[Entry],
     raw: &raw::Cond,
 ) -> Result<Cond, NameFault>
-    ensures { Gives resolved_cond result (walk.cond (context_of context.now) (entries_of entries.now) (raw_view.cond_of raw.now)) }
+    ensures { Gives resolved_cond result (walk.cond context.now entries.now raw.now) }
 {
     match raw {
         raw::Cond::Seen { word, class } => {
@@ -142,15 +142,15 @@ pub fn cond(
     }
 }
 
-/// Adds the name in a condition `as` an element to the scope.
+/// Adds the name that a condition shows as an element to the scope.
 pub fn show<'a>(
     context: &Context<'_, 'a>,
     entries: &mut Vec<Entry<'a>>,
     raw: &'a raw::Cond,
     found: &Cond,
 ) -> Result<(), NameFault>
-    ensures shown { (from : ℕ) → OnOk result (entries_of entries.new.items ≡ (walk.narrowed (map head_of context.now.heads.now) (scope_of entries.old.items from) (raw_view.cond_of raw.now) (walk.shown (resolved_cond found.now))).entries) }
-    ensures kept { OnOk result (take (length entries.old.items) entries.new.items ≡ entries.old.items) }
+    ensures shown { (from : ℕ) → OnOk result (AreEntries entries.new (walk.narrowed context.now entries.old from raw.now found.now)) }
+    ensures kept { OnOk result (IsFront entries.old entries.new) }
     ensures memory { OnErr result (result ≡ Err NameFault.NoMemory) }
 {
     if let raw::Cond::Seen { word, .. } = raw {
@@ -180,10 +180,10 @@ pub fn declare<'a>(
 ) -> Result<Statement, NameFault>
     requires params { context.now.params ≤ 8 }
     requires from { from ≤ length entries.old.items }
-    ensures gives { Gives resolved_statement result (walk.statement (context_of context.now) (scope_of entries.old.items from) slot (raw_tree.declares (raw_view.type_of of.now) (raw_view.word_of word.now) (option_map raw_view.expr_of value.now))) }
+    ensures gives { Gives resolved_statement result (walk.statement context.now entries.old from slot (Declare of.now word.now value.now)) }
     ensures few { OnOk result (slot + 1 ≤ context.now.params + 64) }
-    ensures scope { IfOk result (λ x. entries_of entries.new.items ≡ (walk.after (map head_of context.now.heads.now) (scope_of entries.old.items from) slot (raw_tree.declares (raw_view.type_of of.now) (raw_view.word_of word.now) (option_map raw_view.expr_of value.now)) (resolved_statement x)).entries) }
-    ensures kept { OnOk result (take (length entries.old.items) entries.new.items ≡ entries.old.items) }
+    ensures scope { IfOk result (λ x. AddsEntry entries.old entries.new (walk.local context.now slot word.now x)) }
+    ensures kept { OnOk result (IsFront entries.old entries.new) }
 {
     let of = type_in(context, entries.as_slice(), of)?;
     declared(context, entries.as_slice(), from, slot, word)?;
@@ -208,8 +208,8 @@ pub fn simple(
     entries: &[Entry],
     raw: &raw::Statement,
 ) -> Result<Statement, NameFault>
-    requires { is_simple (raw_view.statement_of raw.now) ≡ true }
-    ensures { (from n : ℕ) → Gives resolved_statement result (walk.statement (context_of context.now) (scope_of entries.now from) n (raw_view.statement_of raw.now)) }
+    requires { IsTrue (is_simple (statement_of raw.now)) }
+    ensures { (from n : ℕ) → Gives resolved_statement result (walk.statement_in context.now (scope_of entries.now from) n raw.now) }
 {
     match raw {
         raw::Statement::Return { place, value } => Ok(Statement::Return {

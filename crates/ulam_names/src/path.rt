@@ -1,8 +1,6 @@
 //! Paths.
-ghost use Rattle.std.specs.Prelude.{◌≡◌, ℕ, List, map};
-ghost use Rattle.ulam_names.specs.Walk as walk;
-ghost use Rattle.ulam_names.specs.Shown.{head_of, entry_of, context_of, Gives, with_steps};
-ghost use Rattle.ulam_tree.specs.RawViews as raw_view;
+ghost use Rattle.ulam_names.specs.BodyWalk as walk;
+ghost use Rattle.ulam_names.specs.Shown.{Gives, AddsFound};
 ghost use Rattle.ulam_tree.specs.ResolvedViews.{resolved_path};
 
 use crate::fault::NameFault;
@@ -21,7 +19,7 @@ fn push_steps(
     words: &[Word],
     steps: &mut Vec<Step>,
 ) -> Result<(), NameFault>
-    ensures { Gives (λ _. steps.new.items) result (with_steps steps.old.items (walk.steps_after (map head_of heads.now) inside (map raw_view.word_of words.now))) }
+    ensures { AddsFound steps.old.items steps.new.items result (walk.steps_after heads.now inside words.now) }
 {
     let mut inside = inside;
     for word in words {
@@ -45,7 +43,7 @@ fn steps_from(
     inside: Ty,
     words: &[Word],
 ) -> Result<Path, NameFault>
-    ensures { Gives resolved_path result (walk.path_by place first (walk.steps_after (map head_of heads.now) inside (map raw_view.word_of words.now))) }
+    ensures { Gives resolved_path result (walk.path_by heads.now place first inside words.now) }
 {
     let mut steps = Vec::new(alloc);
     steps.push(first)?;
@@ -60,7 +58,7 @@ pub fn one_word(
     entries: &[Entry],
     word: &Word,
 ) -> Result<Path, NameFault>
-    ensures { Gives resolved_path result (walk.path (context_of context.now) (map entry_of entries.now) (walk.one_word (raw_view.word_of word.now))) }
+    ensures { Gives resolved_path result (walk.one_word context.now entries.now word.now) }
 {
     match first_name(context, entries, word.name.bytes()) {
         Some((step, inside)) => steps_from(alloc, context.heads, word.place, step, inside, &[]),
@@ -75,7 +73,7 @@ pub fn path(
     entries: &[Entry],
     path: &raw::Path,
 ) -> Result<Path, NameFault>
-    ensures { Gives resolved_path result (walk.path (context_of context.now) (map entry_of entries.now) (raw_view.path_of path.now)) }
+    ensures { Gives resolved_path result (walk.path context.now entries.now path.now) }
 {
     match path.own {
         Some(place) => steps_from(

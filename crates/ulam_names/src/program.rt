@@ -1,11 +1,10 @@
 //! The program that files are resolved to.
-ghost use Rattle.std.specs.Prelude.{◌≢◌, List, IfOk, IfErr};
+ghost use Rattle.std.specs.Prelude.{◌≢◌, IfOk, IfErr};
 ghost use Rattle.ulam_names.specs.Classes.{program};
-ghost use Rattle.ulam_names.specs.ClassRelation.{IsResolved};
+ghost use Rattle.ulam_names.specs.ClassRelation.{IsResolved, HaveNoResolution};
 ghost use Rattle.ulam_names.specs.Files.{all_items};
 ghost use Rattle.ulam_names.specs.Shown.{Gives};
 ghost use Rattle.ulam_names.specs.declared.fault.NameFault.TheVariants.{NoMemory};
-ghost use Rattle.ulam_tree.specs.Resolved.{Class};
 ghost use Rattle.ulam_tree.specs.ResolvedViews.{resolved_program};
 
 use crate::class::{class_names, items};
@@ -40,7 +39,7 @@ fn find(alloc: Global, files: &[File]) -> Result<Program, NameFault>
 pub fn resolve(alloc: Global, files: &[File]) -> Result<Program, NameFault>
     ensures found { Gives resolved_program result (program (all_items files.now)) }
     ensures is { IfOk result (λ p. IsResolved (all_items files.now) (resolved_program p)) }
-    ensures none { IfErr result (λ e. e ≢ NoMemory → (classes : List Class) → IsResolved (all_items files.now) classes → ⊥) }
+    ensures none { IfErr result (λ e. e ≢ NoMemory → HaveNoResolution (all_items files.now)) }
 {
     find(alloc, files)
 }

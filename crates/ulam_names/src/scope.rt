@@ -1,8 +1,7 @@
 //! What names mean in a body.
-ghost use Rattle.std.specs.Prelude.{◌≡◌, ℕ, List, map, option_map, slice_get};
-ghost use Rattle.std.specs.Option.{option_and_then};
+ghost use Rattle.std.specs.Prelude.{◌≡◌, map, option_map};
 ghost use Rattle.ulam_names.specs.Scopes as spec;
-ghost use Rattle.ulam_names.specs.Shown.{head_of, entry_of, context_of};
+ghost use Rattle.ulam_names.specs.Shown.{head_of, entry_of, entries_of, context_of};
 
 use crate::basic::Value;
 use crate::half::HalfClass;
@@ -10,7 +9,7 @@ use crate::table::Table;
 use sat_math::NumType;
 use ulam_tree::resolved::{Built, Step, Ty};
 
-/// A local with its slot, or a name that `as` shows.
+/// A local with its slot, or a name without one that an `as` shows as an element.
 #[derive(Clone, Copy)]
 pub struct Entry<'a> {
     pub name: &'a [u8],
@@ -18,7 +17,7 @@ pub struct Entry<'a> {
     pub inside: Ty,
 }
 
-/// What a body is resolved in.
+/// What the names in a body are looked up in, besides the locals.
 #[derive(Clone, Copy)]
 pub struct Context<'c, 'a> {
     pub heads: &'c [HalfClass<'a>],
@@ -33,7 +32,7 @@ pub struct Context<'c, 'a> {
 
 /// The last entry with a name.
 pub fn last_named<'a>(entries: &[Entry<'a>], name: &[u8]) -> Option<Entry<'a>>
-    ensures { option_map entry_of result ≡ spec.last_named name.now (map entry_of entries.now) }
+    ensures { option_map entry_of result ≡ spec.last_named name.now (entries_of entries.now) }
 {
     for i in (0..entries.len()).rev() {
         if name == entries[i].name {
@@ -56,7 +55,7 @@ pub fn in_class(class: u32, head: &HalfClass, name: &[u8]) -> Option<(Step, Ty)>
     }
 }
 
-/// A function of a window.
+/// A built-in function of the event window.
 #[tactic(auto, unfolding(crate::specs::Scopes::of_window))]
 pub fn of_window(name: &[u8]) -> Option<Built>
     ensures { result ≡ spec.beside name.now spec.of_window }
@@ -72,7 +71,7 @@ pub fn of_window(name: &[u8]) -> Option<Built>
     }
 }
 
-/// A function of the random words.
+/// A built-in function of `Random`.
 #[tactic(auto, unfolding(crate::specs::Scopes::of_random))]
 pub fn of_random(name: &[u8]) -> Option<Built>
     ensures { result ≡ spec.beside name.now spec.of_random }
@@ -86,7 +85,7 @@ pub fn of_random(name: &[u8]) -> Option<Built>
     }
 }
 
-/// A further name of a path.
+/// A name of a path after the first, where the name before it has a type.
 pub fn next_name(heads: &[HalfClass], inside: Ty, name: &[u8]) -> Option<(Step, Ty)>
     ensures { result ≡ spec.next_name (map head_of heads.now) inside name.now }
 {
@@ -116,7 +115,7 @@ fn is_local(entry: &Entry, name: &[u8]) -> bool
 
 /// The slot of the last local with a name.
 pub fn slot_named(entries: &[Entry], name: &[u8]) -> Option<u32>
-    ensures { result ≡ spec.slot_named name.now (map entry_of entries.now) }
+    ensures { result ≡ spec.slot_named name.now (entries_of entries.now) }
 {
     for i in (0..entries.len()).rev() {
         if is_local(&entries[i], name) {
@@ -128,7 +127,7 @@ pub fn slot_named(entries: &[Entry], name: &[u8]) -> Option<u32>
 
 /// A data member or function of the class that a body belongs to.
 fn of_own_class(context: &Context, name: &[u8]) -> Option<(Step, Ty)>
-    ensures { result ≡ option_and_then (λ h. spec.in_class context.now.own h name.now) (slice_get (map head_of context.now.heads.now) context.now.own) }
+    ensures { result ≡ spec.member_of_own (context_of context.now) name.now }
 {
     match context.heads.get(context.own as usize) {
         Some(head) => in_class(context.own, head, name),
@@ -157,7 +156,7 @@ pub fn in_own_class(context: &Context, name: &[u8]) -> Option<(Step, Ty)>
 
 /// The first name of a path.
 pub fn first_name(context: &Context, entries: &[Entry], name: &[u8]) -> Option<(Step, Ty)>
-    ensures { result ≡ spec.first_name (context_of context.now) (map entry_of entries.now) name.now }
+    ensures { result ≡ spec.first_name (context_of context.now) (entries_of entries.now) name.now }
 {
     let (step, inside) = match slot_named(entries, name) {
         Some(slot) => (Step::Local { slot }, Ty::Nothing),

@@ -2,13 +2,9 @@
 //!
 //! The entries are cut back where a scope ends. `from` is where the innermost scope begins among
 //! them, and `slot` the next free slot.
-ghost use Rattle.std.specs.Prelude.{◌≡◌, ◌≤◌, ◌+◌, ℕ, map, length, take, IfOk, OnOk};
-ghost use Rattle.std.specs.Box.{box_value};
-ghost use Rattle.ulam_names.specs.Scopes.{opened};
-ghost use Rattle.ulam_names.specs.Walk as walk;
-ghost use Rattle.ulam_names.specs.Shown.{head_of, context_of, scope_of, entries_of, Gives};
-ghost use Rattle.ulam_tree.specs.RawViews as raw_view;
-ghost use Rattle.ulam_tree.specs.ResolvedViews.{resolved_cond, resolved_statement, resolved_body, resolved_part};
+ghost use Rattle.std.specs.Prelude.{◌≡◌, ◌≤◌, ◌+◌, length, IfOk, OnOk};
+ghost use Rattle.ulam_names.specs.BodyWalk as walk;
+ghost use Rattle.ulam_names.specs.Shown.{Gives, AreEntries, IsFront, next_slot, found_statement, found_boxed, found_part, found_body};
 
 use crate::expr::expr;
 use crate::fault::NameFault;
@@ -19,7 +15,7 @@ use ulam_tree as raw;
 use ulam_tree::resolved::{Cond, Statement};
 use ulam_tree::resolved_build as build;
 
-/// A statement, and the next slot.
+/// A statement, and the next free slot after it.
 #[cycle(statement)]
 #[tactic(auto, using(crate::proofs::Opened::opened_is))]
 pub fn statement<'a>(
@@ -33,11 +29,11 @@ pub fn statement<'a>(
     requires params { context.now.params ≤ 8 }
     requires slot { slot ≤ context.now.params + 64 }
     requires from { from ≤ length entries.old.items }
-    ensures gives { Gives (λ x. resolved_statement x.0) result (walk.statement (context_of context.now) (scope_of entries.old.items from) slot (raw_view.statement_of raw.now)) }
-    ensures next { IfOk result (λ x. x.1 ≡ slot + walk.locals_of (raw_view.statement_of raw.now)) }
-    ensures few { IfOk result (λ x. x.1 ≤ context.now.params + 64) }
-    ensures scope { IfOk result (λ x. entries_of entries.new.items ≡ (walk.after (map head_of context.now.heads.now) (scope_of entries.old.items from) slot (raw_view.statement_of raw.now) (resolved_statement x.0)).entries) }
-    ensures kept { OnOk result (take (length entries.old.items) entries.new.items ≡ entries.old.items) }
+    ensures gives { Gives found_statement result (walk.statement context.now entries.old from slot raw.now) }
+    ensures next { IfOk result (λ x. next_slot x ≡ slot + walk.locals raw.now) }
+    ensures few { IfOk result (λ x. next_slot x ≤ context.now.params + 64) }
+    ensures scope { IfOk result (λ x. AreEntries entries.new (walk.after context.now entries.old from slot raw.now x.0)) }
+    ensures kept { OnOk result (IsFront entries.old entries.new) }
 {
     match raw {
         raw::Statement::Block { body: list } => {
@@ -92,9 +88,9 @@ fn inner<'a>(
 ) -> Result<(Box<Statement>, u32), NameFault>
     requires params { context.now.params ≤ 8 }
     requires slot { slot ≤ context.now.params + 64 }
-    ensures gives { Gives (λ x. resolved_statement (box_value x.0)) result (walk.statement (context_of context.now) (scope_of entries.old.items (length entries.old.items)) slot (raw_view.statement_of raw.now)) }
-    ensures next { IfOk result (λ x. x.1 ≡ slot + walk.locals_of (raw_view.statement_of raw.now)) }
-    ensures few { IfOk result (λ x. x.1 ≤ context.now.params + 64) }
+    ensures gives { Gives found_boxed result (walk.inner context.now entries.old slot raw.now) }
+    ensures next { IfOk result (λ x. next_slot x ≡ slot + walk.locals raw.now) }
+    ensures few { IfOk result (λ x. next_slot x ≤ context.now.params + 64) }
     ensures same { OnOk result (entries.new.items ≡ entries.old.items) }
 {
     let len = entries.len();
@@ -116,9 +112,9 @@ fn part<'a>(
     requires params { context.now.params ≤ 8 }
     requires slot { slot ≤ context.now.params + 64 }
     requires from { from ≤ length entries.old.items }
-    ensures gives { Gives (λ x. resolved_part x.0) result (walk.part (context_of context.now) (scope_of entries.old.items from) slot (raw_view.part_alone raw.now)) }
-    ensures next { IfOk result (λ x. x.1 ≡ slot + walk.locals_part (raw_view.part_alone raw.now)) }
-    ensures few { IfOk result (λ x. x.1 ≤ context.now.params + 64) }
+    ensures gives { Gives found_part result (walk.part context.now entries.old from slot raw.now) }
+    ensures next { IfOk result (λ x. next_slot x ≡ slot + walk.part_locals raw.now) }
+    ensures few { IfOk result (λ x. next_slot x ≤ context.now.params + 64) }
     ensures same { OnOk result (entries.new.items ≡ entries.old.items) }
 {
     match raw {
@@ -145,11 +141,11 @@ fn first_part<'a>(
     requires params { context.now.params ≤ 8 }
     requires slot { slot ≤ context.now.params + 64 }
     requires from { from ≤ length entries.old.items }
-    ensures gives { Gives (λ x. resolved_part x.0) result (walk.part (context_of context.now) (scope_of entries.old.items from) slot (raw_view.part_alone raw.now)) }
-    ensures next { IfOk result (λ x. x.1 ≡ slot + walk.locals_part (raw_view.part_alone raw.now)) }
-    ensures few { IfOk result (λ x. x.1 ≤ context.now.params + 64) }
-    ensures scope { IfOk result (λ x. entries_of entries.new.items ≡ (walk.after_part (map head_of context.now.heads.now) (scope_of entries.old.items from) slot (raw_view.part_alone raw.now) (resolved_part x.0)).entries) }
-    ensures kept { OnOk result (take (length entries.old.items) entries.new.items ≡ entries.old.items) }
+    ensures gives { Gives found_part result (walk.part context.now entries.old from slot raw.now) }
+    ensures next { IfOk result (λ x. next_slot x ≡ slot + walk.part_locals raw.now) }
+    ensures few { IfOk result (λ x. next_slot x ≤ context.now.params + 64) }
+    ensures scope { IfOk result (λ x. AreEntries entries.new (walk.after_part context.now entries.old from slot raw.now x.0)) }
+    ensures kept { OnOk result (IsFront entries.old entries.new) }
 {
     match raw {
         None => Ok((None, slot)),
@@ -175,9 +171,9 @@ fn branch<'a>(
 ) -> Result<(Box<Statement>, u32), NameFault>
     requires params { context.now.params ≤ 8 }
     requires slot { slot ≤ context.now.params + 64 }
-    ensures gives { Gives (λ x. resolved_statement (box_value x.0)) result (walk.statement (context_of context.now) (opened (walk.narrowed (map head_of context.now.heads.now) (scope_of entries.old.items from) (raw_view.cond_of test.now) (walk.shown (resolved_cond found.now)))) slot (raw_view.statement_of raw.now)) }
-    ensures next { IfOk result (λ x. x.1 ≡ slot + walk.locals_of (raw_view.statement_of raw.now)) }
-    ensures few { IfOk result (λ x. x.1 ≤ context.now.params + 64) }
+    ensures gives { Gives found_boxed result (walk.branch context.now entries.old from slot raw.now test.now found.now) }
+    ensures next { IfOk result (λ x. next_slot x ≡ slot + walk.locals raw.now) }
+    ensures few { IfOk result (λ x. next_slot x ≤ context.now.params + 64) }
     ensures same { OnOk result (entries.new.items ≡ entries.old.items) }
 {
     let len = entries.len();
@@ -198,9 +194,9 @@ fn inner_body<'a>(
 ) -> Result<(Vec<Statement>, u32), NameFault>
     requires params { context.now.params ≤ 8 }
     requires slot { slot ≤ context.now.params + 64 }
-    ensures gives { Gives (λ x. resolved_body x.0.items) result (walk.body (context_of context.now) (scope_of entries.old.items (length entries.old.items)) slot (raw_view.body_list raw.now)) }
-    ensures next { IfOk result (λ x. x.1 ≡ slot + walk.locals_in (raw_view.body_list raw.now)) }
-    ensures few { IfOk result (λ x. x.1 ≤ context.now.params + 64) }
+    ensures gives { Gives found_body result (walk.inner_body context.now entries.old slot raw.now) }
+    ensures next { IfOk result (λ x. next_slot x ≡ slot + walk.body_locals raw.now) }
+    ensures few { IfOk result (λ x. next_slot x ≤ context.now.params + 64) }
     ensures same { OnOk result (entries.new.items ≡ entries.old.items) }
 {
     let len = entries.len();
@@ -222,10 +218,10 @@ pub fn body<'a>(
     requires params { context.now.params ≤ 8 }
     requires slot { slot ≤ context.now.params + 64 }
     requires from { from ≤ length entries.old.items }
-    ensures gives { Gives (λ x. resolved_body x.0.items) result (walk.body (context_of context.now) (scope_of entries.old.items from) slot (raw_view.body_list raw.now)) }
-    ensures next { IfOk result (λ x. x.1 ≡ slot + walk.locals_in (raw_view.body_list raw.now)) }
-    ensures few { IfOk result (λ x. x.1 ≤ context.now.params + 64) }
-    ensures kept { OnOk result (take (length entries.old.items) entries.new.items ≡ entries.old.items) }
+    ensures gives { Gives found_body result (walk.body context.now entries.old from slot raw.now) }
+    ensures next { IfOk result (λ x. next_slot x ≡ slot + walk.body_locals raw.now) }
+    ensures few { IfOk result (λ x. next_slot x ≤ context.now.params + 64) }
+    ensures kept { OnOk result (IsFront entries.old entries.new) }
 {
     let mut found = Vec::new(alloc);
     let mut next = slot;

@@ -1,9 +1,8 @@
 //! Types of a body.
-ghost use Rattle.std.specs.Prelude.{◌≡◌, ℕ, List, map, option_map, ℤ};
+ghost use Rattle.std.specs.Prelude.{◌≡◌};
 ghost use Rattle.ulam_names.specs.Scopes as spec;
-ghost use Rattle.ulam_names.specs.Walk as walk;
-ghost use Rattle.ulam_names.specs.Shown.{entry_of, context_of, Gives};
-ghost use Rattle.ulam_tree.specs.RawViews as raw_view;
+ghost use Rattle.ulam_names.specs.BodyWalk as walk;
+ghost use Rattle.ulam_names.specs.Shown.{IsAsFound};
 
 use crate::basic::Basic;
 use crate::fault::NameFault;
@@ -45,7 +44,7 @@ pub fn built_in(name: &[u8]) -> Option<Basic>
 
 /// What a type's name stands for in a body.
 pub fn basic_in(context: &Context, name: &[u8]) -> Option<Basic>
-    ensures { result ≡ walk.basic_in (context_of context.now) name.now }
+    ensures { result ≡ walk.basic_in context.now name.now }
 {
     if let Some(num) = context.typedefs.get_before(name, context.typedefs_before) {
         return Some(Basic::Whole(Ty::Num { num: *num }));
@@ -61,7 +60,7 @@ pub fn basic_in(context: &Context, name: &[u8]) -> Option<Basic>
 
 /// The number of a constant that no local hides.
 pub fn constant_in(context: &Context, entries: &[Entry], name: &[u8]) -> Option<i128>
-    ensures { result ≡ walk.constant_in (context_of context.now) (map entry_of entries.now) name.now }
+    ensures { result ≡ walk.constant_in context.now entries.now name.now }
 {
     if slot_named(entries, name).is_some() {
         return None;
@@ -89,7 +88,7 @@ pub fn allows(kind: Kind, width: i128) -> bool
 
 /// The number of a width.
 pub fn width_value(context: &Context, entries: &[Entry], width: &Width) -> Result<i128, NameFault>
-    ensures { Gives (λ v. v) result (walk.width_value (walk.constant_in (context_of context.now) (map entry_of entries.now)) (raw_view.width_of width.now)) }
+    ensures { IsAsFound result (walk.width_value context.now entries.now width.now) }
 {
     match width {
         Width::Number { value } => Ok(i128::from(*value)),
@@ -108,7 +107,7 @@ fn sized_by(
     basic: Basic,
     width: &Option<Width>,
 ) -> Result<Ty, NameFault>
-    ensures { Gives (λ v. v) result (walk.sized_by (walk.constant_in (context_of context.now) (map entry_of entries.now)) place basic (option_map raw_view.width_of width.now)) }
+    ensures { IsAsFound result (walk.sized_by context.now entries.now place basic width.now) }
 {
     match (basic, width) {
         (Basic::Whole(ty), None) => Ok(ty),
@@ -134,7 +133,7 @@ fn sized_by(
 
 /// A type in a body.
 pub fn type_in(context: &Context, entries: &[Entry], of: &TypeRef) -> Result<Named, NameFault>
-    ensures { Gives (λ v. v) result (walk.type_in (context_of context.now) (map entry_of entries.now) (raw_view.type_of of.now)) }
+    ensures { IsAsFound result (walk.type_in context.now entries.now of.now) }
 {
     let place = of.word.place;
     match basic_in(context, of.word.name.bytes()) {
@@ -148,7 +147,7 @@ pub fn type_in(context: &Context, entries: &[Entry], of: &TypeRef) -> Result<Nam
 
 /// A type named without a width.
 pub fn class_named(context: &Context, word: &Word) -> Result<Named, NameFault>
-    ensures { Gives (λ v. v) result (walk.class_named (walk.basic_in (context_of context.now)) (raw_view.word_of word.now)) }
+    ensures { IsAsFound result (walk.class_named context.now word.now) }
 {
     let place = word.place;
     match basic_in(context, word.name.bytes()) {

@@ -1,13 +1,12 @@
-//! Whether a way through data members may have no end, in rounds over all classes.
+//! Whether a class may contain itself, found in rounds over all classes.
 //!
-//! In a row of marks, one for each class, a class is open where ways of as many data members begin
-//! as rounds were made. Where a round leaves no class open, no class contains itself.
-ghost use Rattle.std.specs.Prelude.{◌≡◌, [], Ok, map, slice_get, get_or, true, false, IfOk, IfErr};
+//! After a number of rounds a class is open if a chain of as many steps begins at it, each from a
+//! class to one of a data member. If no class is open after some round, no class contains itself.
+ghost use Rattle.std.specs.Prelude.{◌≡◌, Ok, map, false, IfOk, IfErr};
 ghost use Rattle.std.specs.List.{list_any};
-ghost use Rattle.std.specs.Option.{option_map_or};
-ghost use Rattle.ulam_names.specs.Classes as walk;
-ghost use Rattle.ulam_names.specs.Rounds.{open_by, field_parts, open_row};
-ghost use Rattle.ulam_names.specs.Shown.{head_of, half_class};
+ghost use Rattle.ulam_names.specs.ClassWalk as walk;
+ghost use Rattle.ulam_names.specs.Rounds.{open_by, field_part, field_parts, open_row};
+ghost use Rattle.ulam_names.specs.Shown.{head_of};
 ghost use Rattle.ulam_names.specs.declared.fault.NameFault.TheVariants.{NoMemory};
 ghost use Rattle.ulam_tree.specs.Ways.{class_number};
 
@@ -17,7 +16,7 @@ use crate::table::Table;
 use std::alloc::Global;
 use ulam_tree::resolved::Ty;
 
-/// Whether a class is open by a row; so are all by a row that has none.
+/// Whether a class is open in a row. A class that the row does not reach is open.
 fn is_open(row: &[bool], class: u32) -> bool
     ensures { result ≡ open_by row.now class }
 {
@@ -37,9 +36,9 @@ fn type_open(row: &[bool], ty: Ty) -> bool
     }
 }
 
-/// Whether a data member is an open class.
+/// Whether the type of a data member is an open class.
 fn field_open(row: &[bool], fields: &Table<Ty>, number: usize) -> bool
-    ensures { result ≡ list_any (open_by row.now) (option_map_or (λ p. class_number p.1) (slice_get fields.now number) []) }
+    ensures { result ≡ list_any (open_by row.now) (field_part fields.now number) }
 {
     match fields.at(number) {
         Some(ty) => type_open(row, *ty),
@@ -47,7 +46,7 @@ fn field_open(row: &[bool], fields: &Table<Ty>, number: usize) -> bool
     }
 }
 
-/// Whether any of the data members is an open class.
+/// Whether the type of any data member is an open class.
 fn fields_open(row: &[bool], fields: &Table<Ty>) -> bool
     ensures { result ≡ list_any (open_by row.now) (field_parts fields.now) }
 {
@@ -83,10 +82,10 @@ fn any_open(row: &[bool]) -> bool
     false
 }
 
-/// Whether a class may contain itself: false only if none does. There are as many rounds as
-/// data members lie in one another, and at most as many as there are classes.
+/// Whether a class may contain itself: false only if none does. The rounds end when no class is
+/// open, and after as many rounds as there are classes.
 pub fn may_be_cyclic(alloc: Global, classes: &[HalfClass]) -> Result<bool, NameFault>
-    ensures none { IfOk result (λ may. may ≡ false → walk.none_cyclic (map head_of classes.now) 0 (map half_class classes.now) ≡ Ok tt) }
+    ensures none { IfOk result (λ may. may ≡ false → walk.none_cyclic classes.now ≡ Ok tt) }
     ensures memory { IfErr result (λ e. e ≡ NoMemory) }
 {
     let mut row = Vec::new(alloc);

@@ -1,8 +1,8 @@
 //! Rules of whole classes, and the bodies of functions.
-ghost use Rattle.std.specs.Prelude.{◌≡◌, ◌≤◌, ◌++◌, ℕ, length, map, IfOk, IfErr};
-ghost use Rattle.ulam_names.specs.Classes as walk;
-ghost use Rattle.ulam_names.specs.NamesView.{names_view};
-ghost use Rattle.ulam_names.specs.Shown.{Gives, head_of, param_of, pending_of, half_of, half_class, entries_of};
+ghost use Rattle.std.specs.Prelude.{◌≡◌, ◌≤◌, length, map, IfOk, IfErr};
+ghost use Rattle.ulam_names.specs.ClassWalk as walk;
+ghost use Rattle.ulam_names.specs.Classes.{is_behave, behaves};
+ghost use Rattle.ulam_names.specs.Shown.{Gives, IsAsFound, each, param_of, half_of, half_class, entries_of};
 ghost use Rattle.ulam_names.specs.declared.fault.NameFault.TheVariants.{NoMemory as no_memory};
 ghost use Rattle.ulam_tree.specs.RawViews.{word_of};
 ghost use Rattle.ulam_tree.specs.ResolvedViews.{resolved_class, resolved_member, resolved_param};
@@ -21,7 +21,7 @@ use ulam_tree::resolved::{Class, Member, Param, Ty};
 
 /// Whether a member is `Void behave()`.
 fn is_behave(member: &Half) -> bool
-    ensures { result ≡ walk.is_behave (half_of member.now) }
+    ensures { result ≡ is_behave (half_of member.now) }
 {
     match member {
         Half::Field(..) => false,
@@ -35,7 +35,7 @@ fn is_behave(member: &Half) -> bool
 
 /// Whether a class is a quark, or has a function `Void behave()`.
 fn behaves(class: &HalfClass) -> bool
-    ensures { result ≡ walk.behaves (half_class class.now) }
+    ensures { result ≡ behaves (half_class class.now) }
 {
     if class.quark {
         return true;
@@ -50,7 +50,7 @@ fn behaves(class: &HalfClass) -> bool
 
 /// Refuses an element without a function `Void behave()`.
 pub fn all_behave(classes: &[HalfClass]) -> Result<(), NameFault>
-    ensures { Gives (λ x. x) result (walk.all_behave (map half_class classes.now)) }
+    ensures { IsAsFound result (walk.all_behave classes.now) }
 {
     for class in classes {
         if !behaves(class) {
@@ -70,14 +70,14 @@ fn copy(alloc: Global, word: &Word) -> Result<Word, NoMemory>
     })
 }
 
-/// Parameters in the scope of a body.
+/// Parameters as the first entries in the scope of a body.
 fn param_entries<'a>(
     alloc: Global,
     heads: &[HalfClass],
     params: &[HalfParam<'a>],
 ) -> Result<Vec<Entry<'a>>, NameFault>
     requires { length params.now ≤ 8 }
-    ensures entries { IfOk result (λ v. entries_of v.items ≡ walk.param_entries (map head_of heads.now) 0 (map param_of params.now)) }
+    ensures entries { IfOk result (λ v. entries_of v.items ≡ walk.param_entries heads.now params.now) }
     ensures memory { IfErr result (λ e. e ≡ no_memory) }
 {
     let mut entries = Vec::new(alloc);
@@ -93,9 +93,9 @@ fn param_entries<'a>(
     Ok(entries)
 }
 
-/// Parameters with names of their own.
+/// Parameters with copies of their names.
 fn whole_params(alloc: Global, params: &[HalfParam]) -> Result<Vec<Param>, NameFault>
-    ensures params { IfOk result (λ v. map resolved_param v.items ≡ map param_of params.now) }
+    ensures params { IfOk result (λ v. each resolved_param v ≡ map param_of params.now) }
     ensures memory { IfErr result (λ e. e ≡ no_memory) }
 {
     let mut whole = Vec::new(alloc);
@@ -117,7 +117,7 @@ fn whole_function<'a>(
     names: &Names<'a>,
     pending: &Pending<'a>,
 ) -> Result<Member, NameFault>
-    ensures { Gives resolved_member result (walk.whole_member known.now (map head_of heads.now) own (names_view names.now) (walk.half_function (pending_of pending.now))) }
+    ensures { Gives resolved_member result (walk.whole_function known.now heads.now own names.now pending.now) }
 {
     let params = pending.params.len() as u32;
     let context = Context {
@@ -149,7 +149,7 @@ fn whole_member<'a>(
     names: &Names<'a>,
     half: &Half<'a>,
 ) -> Result<Member, NameFault>
-    ensures { Gives resolved_member result (walk.whole_member known.now (map head_of heads.now) own (names_view names.now) (half_of half.now)) }
+    ensures { Gives resolved_member result (walk.whole_member known.now heads.now own names.now half.now) }
 {
     match half {
         Half::Field(of, word, length) => Ok(Member::Field {
@@ -169,7 +169,7 @@ fn whole_members<'a>(
     own: u32,
     class: &HalfClass<'a>,
 ) -> Result<Vec<Member>, NameFault>
-    ensures { Gives (λ v. map resolved_member v.items) result (walk.whole_members known.now (map head_of heads.now) own (names_view class.now.names) (map half_of class.now.members.items)) }
+    ensures { Gives (each resolved_member) result (walk.whole_members known.now heads.now own class.now) }
 {
     let mut found = Vec::new(alloc);
     for half in &class.members {
@@ -187,7 +187,7 @@ fn whole_class<'a>(
     own: u32,
     class: &HalfClass<'a>,
 ) -> Result<Class, NameFault>
-    ensures { Gives resolved_class result (walk.whole_class known.now (map head_of heads.now) own (half_class class.now)) }
+    ensures { Gives resolved_class result (walk.whole_class known.now heads.now own class.now) }
 {
     let members = whole_members(alloc, known, heads, own, class)?;
     Ok(Class {
@@ -204,7 +204,7 @@ pub fn whole_classes<'a>(
     classes: &[HalfClass<'a>],
 ) -> Result<Vec<Class>, NameFault>
     requires { length classes.now ≤ 256 }
-    ensures { Gives (λ v. map resolved_class v.items) result (walk.whole_classes known.now (map head_of classes.now) 0 (map half_class classes.now)) }
+    ensures { Gives (each resolved_class) result (walk.whole_classes known.now classes.now) }
 {
     let mut found = Vec::new(alloc);
     let mut own = 0;

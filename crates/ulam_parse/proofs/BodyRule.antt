@@ -22,7 +22,7 @@ use Rattle.ulam_parse.proofs.SimpleRules.{ended_closes, declare_rule}
 use Rattle.ulam_parse.proofs.PartRules.{simple_rule, seen_word}
 use Rattle.ulam_parse.proofs.StatementRule.{Shut, StatementLaw, statement_filled, statement_part, Semi, ended_law, Returned, return_law, Ifs, if_law, Whiles, while_law, Fors, for_law}
 
--- which statements begin so
+-- which statements a symbol may begin
 abbrev pub Form : Starting → Statement → Type 0
 Form t.Block (block b) = Unit {0}
 Form t.Empty empty = Unit {0}
@@ -85,7 +85,7 @@ no_form b f = f
 pub empty_statement : (b : Statement) (us rest : List Tok) → first us ≡ None → IsStatement b us rest → ⊥
 empty_statement b us rest e h = let x = started b us rest h in none_some us x.rest _ e x.is
 
--- no statement begins with `else`, nor do those of a body
+-- no statement begins with `else`, and no body does
 statement_else : (b : Statement) (us rest : List Tok) → IsStatement b us rest → sees s.Else us ≡ false
 statement_else b us rest h =
     let x = started b us rest h in
@@ -174,7 +174,7 @@ continue_only _ e = absurd cc
 abbrev Exactly : Statement → Statement → Span
 Exactly v b us rest = (b ≡ v) × (us ≡ rest)
 
--- what a statement that begins with this token is behind it
+-- what follows the first token of a statement
 abbrev Tail : Starting → Place → Statement → Span
 Tail t.Block p = Map block IsBody
 Tail t.Empty p = Exactly empty
@@ -188,7 +188,7 @@ Tail t.Declare p = λ b us rest. ⊥
 Tail t.Simple p = λ b us rest. ⊥
 Tail t.Nothing p = λ b us rest. ⊥
 
--- these begin with a token of their own
+-- statements that begin with a keyword or a sign of their own
 abbrev Keyed : Starting → Type 0
 Keyed t.Declare = ⊥
 Keyed t.Simple = ⊥
@@ -310,7 +310,7 @@ simples_back (counts l up) vs end f h = (counts l up, h.0, h.1, (h.2.0, refl, h.
 simples_back (does x es) vs end f h = (does x es, h.0, h.1, (h.2.0, refl, h.2.1))
 simples_back _ vs end f h = absurd f
 
--- The fact that a thing ends in no open `if` is known only of one that is read: the law of `;` behind it is by cases on it.
+-- That a statement ends in no open `if` is known only once it is read, so the law of the `;` after it goes by cases on the answer.
 statement_then : (P : Statement → Span) (T : Statement → List Tok → Type 0) → ((b : Statement) (us rest : List Tok) → P b us rest → ends_open b ≡ false) → (us : List Tok) (x : Read Statement) →
     ((a : Statement) (end : List Tok) → sees s.Semi end ≡ true → T a end) → Tells P T Free us x → Tells (Then P Semi) Shut Shut us (x >>= λ (y : Statement × List Tok). r.ended y.0 y.1)
 statement_then P T shut us x closes h =
@@ -319,7 +319,7 @@ statement_then P T shut us x closes h =
     (λ a mid here l g. ended_law (length mid + 1) a (shut a us mid here) mid (omega arith))
 
 statement_by_law : (k : ℕ) (S : Reader Statement) → StatementLaw k S → (v : Starting) (j : Symbol) (w : Text) (p : Place) (ts : List Tok) → starting_of j ≡ v → length (tok j w p ∷ ts) < suc k →
-    Tells IsStatement Shut Shut (tok j w p ∷ ts) (r.statement_by S v j w p ts)
+    Tells IsStatement Shut Shut (tok j w p ∷ ts) (r.statement_by S v (tok j w p) ts)
 statement_by_law k S f t.Block j w p ts e l = keyed_law t.Block tt (λ q. cc) j w p ts _ e (block_law k S f ts (omega (arith, l)))
 statement_by_law k S f t.Empty j w p ts e l = keyed_law t.Empty tt (λ q. cc) j w p ts (Ok (empty, ts)) e
     (record { front = []; is = refl; no_end = refl; gives = λ q. absurd (let x : true ≡ false = sym q in cc); again = λ other. (refl, refl); only = λ other b end g q u. (q.0, sym q.1) })

@@ -20,7 +20,7 @@ build e [] = e
 build e (joined op r p ∷ ls) = build (pair op e r p) ls
 build e (tested w p ∷ ls) = build (is e w p) ls
 
--- Links behind an expression of level `top`, of level `least` at least and from the left.
+-- links after an expression of level `top`, each of level `least` or tighter, which group from the left
 abbrev pub IsChain : ℕ → ℕ → List Link → Span
 IsChain least top [] = λ us rest. us ≡ rest
 IsChain least top (joined op r p ∷ ls) = λ us rest. (least ≤ level op) × (level op ≤ top) × (TakesPair op p ⟫ IsExpr (level op + 1) r ⟫ IsChain least (level op) ls) us rest

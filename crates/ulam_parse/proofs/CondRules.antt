@@ -36,7 +36,7 @@ Closed a us = closes us ≡ true
 closing : (us : List Tok) → closes us ≡ true → (sees s.Semi us ≡ true) ⊎ (sees s.CloseParen us ≡ true)
 closing us h = or_cases (sees s.Semi us) (sees s.CloseParen us) h
 
--- the first token, by what is seen
+-- whether a name and `as` come first, by the tokens
 pub seen_at : (k : Symbol) (us : List Tok) → sees k us ≡ true → (w : Text) × (p : Place) × (rest : List Tok) × (us ≡ tok k w p ∷ rest)
 seen_at k [] h = absurd cc
 seen_at k (tok j w p ∷ ts) h = (w, p, ts, ap (λ x. tok x w p ∷ ts) (same_is j k h))
@@ -101,7 +101,7 @@ second_as (t ∷ ts) = refl
 as_two : (us vs : List Tok) → first vs ≡ first us → first (tail vs) ≡ first (tail us) → sees_as vs ≡ sees_as us
 as_two us vs e f = let a = sees_first s.Name vs us e in let b = second_as vs ∙ sees_first s.As (tail vs) (tail us) f ∙ sym (second_as us) in rw (a, b) refl
 
--- behind a name that is an expression stands no `as`, unless it stands behind the expression
+-- an expression does not begin with a name and `as`, unless `as` follows the whole of it
 
 unnamed : (k : Symbol) (w : Text) (p : Place) (us ts : List Tok) → us ≡ tok k w p ∷ ts → (k ≡ s.Name → ⊥) → sees_as us ≡ false
 unnamed k w p us ts e f = let q : same k s.Name ≡ false = decide (same k s.Name) (λ t. f (same_is k s.Name t)) in rw (e, q) refl
@@ -143,7 +143,7 @@ operand_as (prefix op e p) us rest h w = unnamed h.1.0 _ _ us h.0 h.1.1.1 (opens
 not_as : (e : Expr) (us rest : List Tok) → IsExpr 1 e us rest → sees s.As rest ≡ false → sees_as us ≡ false
 not_as e us rest h w = let c = chained 1 e us rest h in operand_as c.operand us c.mid c.is_operand (chain_as 1 12 c.links c.mid rest c.is_chain w)
 
--- what begins so is a sight, and what does not is a test
+-- a condition that begins with a name and `as` asks for a class, and any other is a test
 sights_back : Back (λ vs. sees_as vs ≡ true) IsCond Sights Closed (Under 1)
 unfolding same
 sights_back (seen w d) vs end c h u = ((w, h.0, h.1, (h.2.1.0, h.2.0, h.2.1.1, (d, refl, h.2.2))), closed_reach end u)

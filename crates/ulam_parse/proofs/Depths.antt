@@ -1,8 +1,8 @@
--- The first token with which tokens nest too deep.
+-- The first token at which tokens nest too deep.
 use Rattle.std.proofs.Common.{ℕ, ◌+◌, ◌≤◌, ◌<◌, ◌≡◌, ◌⊎◌, inl, inr, List, [], ◌∷◌, ◌++◌, length, Some, None, cond, refl, ap, sym, ◌∙◌, subst, arith}
 use Rattle.std.specs.Prelude.{fold}
 use Rattle.std.proofs.lemmas.Bool.{lt-ltb, le-ltb, cases_lt}
-use Rattle.list_laws.specs.Options.{value_or}
+use Rattle.list_laws.proofs.Options.{value_or}
 use Rattle.ulam_parse.specs.Tokens.{Tok}
 use Rattle.ulam_parse.specs.Nesting.{Nest, outside, depth, nest_step, symbol_at, IsShallow}
 use Rattle.ulam_parse.specs.Sentences.{deep_from}
@@ -15,14 +15,14 @@ abbrev tok_first : Tok → List Tok → Tok
 tok_first d [] = d
 tok_first d (t ∷ ts) = t
 
--- no prefix of the tokens nests too deep, behind others
+-- no prefix of the tokens nests too deep after a nest of others
 abbrev pub ShallowFrom : Nest → List Tok → Type 0
 ShallowFrom n ts = (front back : List Tok) → ts ≡ front ++ back → depth (after n front) ≤ 64
 
 some_is : (a b : ℕ) → Some a ≡ Some b → a ≡ b
 some_is a b e = ap (value_or a) e
 
--- a front of tokens with one in front
+-- a prefix of a token and more tokens
 front_cons : (t : Tok) (ts front back : List Tok) → t ∷ ts ≡ front ++ back → (front ≡ []) ⊎ ((more : List Tok) × (front ≡ t ∷ more) × (ts ≡ more ++ back))
 front_cons t ts [] back e = inl refl
 front_cons t ts (u ∷ more) back e = inr (more, ap (λ z. z ∷ more) (sym (ap (tok_first t) e)), ap tail e)
@@ -56,7 +56,7 @@ shallow_none k n (t ∷ ts) h e front back q =
           shallow_cons n t ts h (shallow_none (k + 1) m ts l z) front back q
     ]
 
--- where a first one is found: the tokens before it, and it
+-- where one is found: the tokens before it, and the token itself
 pub record DeepAt (k : ℕ) (n : Nest) (ts : List Tok) (at_place : ℕ) : Type 0 where
   pub front : List Tok
   pub at : Tok

@@ -13,7 +13,7 @@ use Rattle.ulam_parse.specs.declared.symbol.Infix.TheVariants.{Joins, Tests, Ope
 use Rattle.ulam_parse.specs.Tokens.{Text, Tok, tok}
 use Rattle.ulam_parse.specs.Tables.{infix_of, level}
 use Rattle.ulam_parse.specs.Grammar.{Span, TakesWord, IsExpr}
-use Rattle.ulam_parse.specs.Reading.{Reader, operand, more_by, more, climb, expr_in, expr}
+use Rattle.ulam_parse.specs.Reading.{Reader, Front, operand, more_by, more, climb, expr_in, expr}
 use Rattle.ulam_parse.specs.Sentences.{is_end}
 use Rattle.ulam_parse.proofs.Tells.{decide, first, tail, one_first, Found, Tells, tells_as, tells_behind, Behind}
 use Rattle.ulam_parse.proofs.Rules.{Free, tells_if, Rule, Filled, Then, Into, token, then, then_law}
@@ -29,14 +29,14 @@ More least top e b us rest = (ls : List Link) × (b ≡ build e ls) × IsChain l
 abbrev pub more_filled : (least top : ℕ) (e : Expr) → Filled (More least top e)
 more_filled least top e = record { tree = e; fill = λ other. other; fits = λ other. ([], refl, refl) }
 
--- what follows an operand does not go on with it
+-- an operator that follows an operand is looser than it
 pub chain_reach : (least top : ℕ) (ls : List Link) (us rest : List Tok) → IsChain least top ls us rest → reach rest < least → least ≤ 12 → reach us < 12
 chain_reach least top [] us rest h w b = let q : reach us ≡ reach rest = ap reach h in omega (arith, q, w, b)
 chain_reach least top (joined op r p ∷ ls) us rest h w b =
     let q : reach us ≡ level op = reach_at h.2.1.0 _ _ us h.2.0 h.2.1.1.1 ∙ ap reach_by h.2.1.2 in omega (arith, q, level_most op)
 chain_reach least top (tested c p ∷ ls) us rest h w b = let q : reach us ≡ 8 = reach_at s.Is _ _ us h.2.0 h.2.1.1 in omega (arith, q)
 
--- nor a right operand
+-- and so is one that follows a right operand
 pub chain_top : (least top : ℕ) (ls : List Link) (us rest : List Tok) → IsChain least top ls us rest → reach rest < least → least ≤ top → reach us < top + 1
 chain_top least top [] us rest h w b = let q : reach us ≡ reach rest = ap reach h in omega (arith, q, w, b)
 chain_top least top (joined op r p ∷ ls) us rest h w b =
@@ -78,7 +78,7 @@ stays least top e us b = record {
   only = λ other c end f q w. let x = no_link least top e q.0 other end q.2 (barred_moved least top (first other) (first us) f b) in (q.1 ∙ x.0, x.1);
 }
 
--- what the symbol is not
+-- symbols that are no operators
 infix_end : (k : Symbol) → is_end k ≡ true → infix_of k ≡ Ends
 infix_end s.End e = refl
 infix_end _ e = absurd cc
@@ -154,24 +154,24 @@ tested_back least top e k w p i l b (tested c p2 ∷ ls) vs end f q h u =
     let G : Place → Type 0 = λ y. Tested least e y b h.2.0 end in
     (h.2.0, behind_first vs h.2.0 (tok k w p) _ h.2.1.1 f, subst G x (c, h.2.2.0, h.2.2.1, (ls, q, h.2.2.2)))
 
--- on lists of fewer than t tokens it goes on with every expression
-abbrev Goes : ℕ → ℕ → (ℕ → ℕ → Expr → Reader Expr) → Type 0
-Goes t least go = (top : ℕ) (e : Expr) → least ≤ top → (us : List Tok) → length us < t → Tells (More least top e) (Reach least) Free us (go least top e us)
+-- on lists of fewer than t tokens it reads the rest of every expression right
+abbrev Goes : ℕ → ℕ → (Front → Reader Expr) → Type 0
+Goes t least go = (top : ℕ) (e : Expr) → least ≤ top → (us : List Tok) → length us < t → Tells (More least top e) (Reach least) Free us (go (record { tree = e; level = top }) us)
 
 and_not : (a b : Bool) → (a && b) ≡ false → a ≡ true → b ≡ true → ⊥
 and_not true true e f g = absurd (let q : true ≡ false = e in cc)
 and_not true false e f g = absurd (let q : false ≡ true = g in cc)
 and_not false b e f g = absurd (let q : false ≡ true = f in cc)
 
-more_by_law : (k t : ℕ) (E : ℕ → Reader Expr) → ExprLaw k E → t ≤ k → (least top : ℕ) → Goes t least (more E t) → least ≤ top → (e : Expr) (i : Infix) (j : Symbol) (w : Text) (p : Place) (ts : List Tok) → infix_of j ≡ i → length ts < t →
-    Tells (More least top e) (Reach least) Free (tok j w p ∷ ts) (more_by E (more E t least) least top e i j w p ts)
+more_by_law : (k t : ℕ) (E : ℕ → Reader Expr) → ExprLaw k E → t ≤ k → (least top : ℕ) → Goes t least (more E least t) → least ≤ top → (e : Expr) (i : Infix) (j : Symbol) (w : Text) (p : Place) (ts : List Tok) → infix_of j ≡ i → length ts < t →
+    Tells (More least top e) (Reach least) Free (tok j w p ∷ ts) (more_by E least (more E least t) i (record { tree = e; level = top }) (tok j w p) ts)
 more_by_law k t E f l least top g m e (Joins op) j w p ts i n =
     tells_if (More least top e) (Reach least) Free (tok j w p ∷ ts) (nat_le least (level op) && nat_le (level op) top) _ (Ok (e, tok j w p ∷ ts))
     (λ c.
     let d = both (nat_le least (level op)) (nat_le (level op) top) c in
     let a : least ≤ level op = leb-true least (level op) d.0 in
     let b : level op ≤ top = leb-true (level op) top d.1 in
-    let R : Expr → Rule t Expr (Reach least) Free = λ r. record { rel = More least (level op) (pair op e r p); filled = more_filled least (level op) (pair op e r p); read = more E t least (level op) (pair op e r p); law = g (level op) (pair op e r p) a } in
+    let R : Expr → Rule t Expr (Reach least) Free = λ r. record { rel = More least (level op) (pair op e r p); filled = more_filled least (level op) (pair op e r p); read = more E least t (record { tree = pair op e r p; level = level op }); law = g (level op) (pair op e r p) a } in
     tells_as (Behind (tok j w p) (Joined least op e p)) (More least top e) (Reach least) (Reach least) Free Free (tok j w p ∷ ts) _
     (tells_behind (Joined least op e p) (Reach least) Free j w p ts _ (joins_end j (Joins op) i (λ q. cc))
     ((then t (expr_part k t (level op + 1) E f l (level_fits op)) R (λ r y vs end h u. chain_top least (level op) h.0 vs end h.2 u a)).law ts n))
@@ -183,7 +183,7 @@ more_by_law k t E f l least top g m e Tests j w p ts i n =
     let d = both (nat_le least 8) (nat_le 9 top) c in
     let a : least ≤ 8 = leb-true least 8 d.0 in
     let b : 9 ≤ top = leb-true 9 top d.1 in
-    let R : Word → Rule t Expr (Reach least) Free = λ c. record { rel = More least 8 (is e c p); filled = more_filled least 8 (is e c p); read = more E t least 8 (is e c p); law = g 8 (is e c p) a } in
+    let R : Word → Rule t Expr (Reach least) Free = λ c. record { rel = More least 8 (is e c p); filled = more_filled least 8 (is e c p); read = more E least t (record { tree = is e c p; level = 8 }); law = g 8 (is e c p) a } in
     tells_as (Behind (tok j w p) (Tested least e p)) (More least top e) (Reach least) (Reach least) Free Free (tok j w p ∷ ts) _
     (tells_behind (Tested least e p) (Reach least) Free j w p ts _ (joins_end j Tests i (λ q. cc)) ((then t (token t s.TypeName refl) R (λ r y vs end h u. tt)).law ts n))
     (tested_into least top e j w p i a b) (λ y vs end f h u. (tested_back least top e j w p i a y h.0 vs end f h.1 h.2 u, u)) (λ a rest g. g))
@@ -191,7 +191,7 @@ more_by_law k t E f l least top g m e Tests j w p ts i n =
 more_by_law k t E f l least top g m e Opens j w p ts i n = stays least top e (tok j w p ∷ ts) (let F : Infix → Type 0 = λ x. Barred least top x in subst F (sym i) tt)
 more_by_law k t E f l least top g m e Ends j w p ts i n = stays least top e (tok j w p ∷ ts) (let F : Infix → Type 0 = λ x. Barred least top x in subst F (sym i) tt)
 
-more_law : (k : ℕ) (E : ℕ → Reader Expr) → ExprLaw k E → (t : ℕ) → t ≤ suc k → (least : ℕ) → Goes t least (more E t)
+more_law : (k : ℕ) (E : ℕ → Reader Expr) → ExprLaw k E → (t : ℕ) → t ≤ suc k → (least : ℕ) → Goes t least (more E least t)
 unfolding more
 more_law k E f zero l least top e m us h = absurd (omega (arith, h))
 more_law k E f (suc t) l least top e m [] h = stays least top e [] tt
@@ -201,7 +201,7 @@ climb_law : (k : ℕ) (E : ℕ → Reader Expr) → ExprLaw k E → (n : ℕ) �
 unfolding climb
 climb_law k E f n b us h =
     tells_as (Then (IsExpr 12) (λ x. More n 12 x)) (IsExpr n) (Reach n) (Reach n) Free Free us _
-    (then_law (IsExpr 12) (Reach 12) Free (λ x. More n 12 x) (Reach n) Free us (operand E us) (λ (x : Expr × List Tok). more E (length x.1 + 1) n 12 x.0 x.1)
+    (then_law (IsExpr 12) (Reach 12) Free (λ x. More n 12 x) (Reach n) Free us (operand E us) (λ (x : Expr × List Tok). more E n (length x.1 + 1) (record { tree = x.0; level = 12 }) x.1)
     (λ c y vs end q w. chain_reach n 12 q.0 vs end q.2 w b) (λ c. more_filled n 12 c) (operand_law k E f us h)
     (λ x mid here l g. more_law k E f (length mid + 1) (omega (arith, l, h)) n 12 x b mid (omega arith)))
     (λ y vs end q. let F : Expr → Type 0 = λ z. IsExpr n z vs end in subst F (sym q.3.1) (build_is q.3.0 n 12 q.0 vs q.1 end b q.2 q.3.2))

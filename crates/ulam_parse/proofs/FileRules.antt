@@ -51,7 +51,7 @@ constant_law n us h = (constant_made n).law us h
 abbrev pub constant_rule : (n : ℕ) → Rule n Member Free Free
 constant_rule n = record { rel = Constants; filled = (constant_made n).filled; read = r.constant_in; law = constant_law n }
 
--- data members and functions, behind their names
+-- data members and functions, after their names
 
 pub length_into : Into (IsOptional s.OpenBracket s.CloseBracket) IsLength
 length_into None vs end h = h
@@ -98,7 +98,7 @@ function_law n ty w us h = (function_made n ty w).law us h
 abbrev pub function_rule : (n : ℕ) (ty : TypeRef) (w : Word) → Rule n Member Free Free
 function_rule n ty w = record { rel = Functions ty w; filled = (function_made n ty w).filled; read = r.function_rest ty w; law = function_law n ty w }
 
--- what stands behind a name
+-- what comes after a name
 abbrev pub IsNamed : TypeRef → Word → Member → Span
 IsNamed ty w (field ty2 w2 l) = λ us rest. (ty2 ≡ ty) × (w2 ≡ w) × (IsLength l ⟫ Takes s.Semi) us rest
 IsNamed ty w (function ty2 w2 ps b) = λ us rest. (ty2 ≡ ty) × (w2 ≡ w) × (Takes s.OpenParen ⟫ AreParams ps ⟫ Takes s.OpenBrace ⟫ IsBody b) us rest

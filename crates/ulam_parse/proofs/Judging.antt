@@ -1,4 +1,4 @@
--- What the reading of tokens up to one says of all.
+-- What reading the tokens up to one of them says of all.
 use Rattle.std.proofs.Common.{ℕ, zero, suc, ◌+◌, ◌≤◌, ◌≡◌, inl, inr, List, [], ◌∷◌, ◌++◌, length, drop, Bool, true, false, cond, Ok, Err, refl, ap, sym, ◌∙◌, subst, arith, append_assoc, length-append, append-nil}
 use Rattle.std.proofs.Math.Bool.{or-true}
 use Rattle.feast_base.specs.Places.{no_place}
@@ -18,7 +18,7 @@ use Rattle.ulam_parse.proofs.FileRules.{AtEnd, file_law}
 use Rattle.ulam_parse.proofs.Depths.{DeepAt}
 use Rattle.ulam_parse.proofs.Verdicts.{two_splits}
 
--- behind all items stands `End`
+-- `End` comes after all items
 
 abbrev Resting : Read (List Item) → Type 0
 Resting (Ok x) = sees s.End x.1 ≡ true
@@ -54,7 +54,7 @@ abbrev tok_first : Tok → List Tok → Tok
 tok_first d [] = d
 tok_first d (t ∷ ts) = t
 
--- `End` stands once
+-- `End` occurs once
 
 end_among : (front : List Tok) (w : Text) (p : Place) (back : List Tok) → has_end (front ++ (tok s.End w p ∷ back)) ≡ true
 end_among [] w p back = refl
@@ -79,7 +79,7 @@ front_empty : (a b : List Tok) → a ++ b ≡ [] → a ≡ []
 front_empty [] b e = refl
 front_empty (t ∷ ts) b e = absurd cc
 
--- what was read to its end is a file
+-- tokens that were all read are a file
 pub read_is : (ts us behind : List Tok) (xs : List Item) (rest : List Tok) → EndsOnce ts → ts ≡ us ++ behind → whole_file us ≡ Ok (xs, rest) → IsFile xs us
 read_is ts us behind xs rest z e r =
     let h = told us (Ok (xs, rest)) r in
@@ -91,7 +91,7 @@ read_is ts us behind xs rest z e r =
     let F : List Tok → Type 0 = λ v. AreItems xs v rest in
     (rest, subst F (sym h.is) (h.again rest), (record { name = x.0; place = x.1 }, x.3 ∙ ap (λ v. tok s.End x.0 x.1 ∷ v) c))
 
--- where all was read and no token is left, the tokens begin a file
+-- tokens that ended before a file did begin one
 empty_list : (us : List Tok) → 0 ≡ length us → us ≡ []
 empty_list [] e = refl
 empty_list (t ∷ ts) e = absurd (omega (arith, e))
@@ -104,7 +104,7 @@ ended_begins us r =
     let F : List Tok → Type 0 = λ v. IsFile h.tree (v ++ h.fill end) in
     (h.tree, h.fill end, subst F (sym a) (end, h.goes end, (record { name = []; place = no_place }, refl)))
 
--- but not all tokens of a text
+-- the tokens of a text do not end so, since they have `End`
 pub never_ended : (ts : List Tok) → EndsOnce ts → whole_file ts ≡ Err (stops 0) → ⊥
 never_ended ts z r =
     let h = told ts (Err (stops 0)) r in
@@ -151,7 +151,7 @@ dropped : (front left : List Tok) → drop (length front) (front ++ left) ≡ le
 dropped [] left = refl
 dropped (t ∷ front) left = dropped front left
 
--- what stands from the place of a front on
+-- the tokens after a front
 pub behind_front : (front left : List Tok) (i : ℕ) → i ≡ length front → drop i (front ++ left) ≡ left
 behind_front front left i e = rw e (dropped front left)
 

@@ -1,4 +1,4 @@
--- What each way in which the parser ends says.
+-- What follows from each way in which the parser ends.
 use Rattle.std.proofs.Common.{ℕ, zero, suc, ◌+◌, ◌<◌, ◌≡◌, ◌⊎◌, inl, inr, List, [], ◌∷◌, ◌++◌, length, map, take, drop, Some, None, Ok, Err, refl, ap, sym, ◌∙◌, subst, arith, append-nil, length-append}
 use Rattle.std.proofs.lemmas.List.{map-append, drop-map, take-append-drop}
 use Rattle.feast_base.specs.declared.place.Place.{Place}
@@ -8,8 +8,8 @@ use Rattle.ulam_parse.specs.declared.tape.Tape.{Tape}
 use Rattle.ulam_parse.specs.Tokens.{Tok}
 use Rattle.ulam_parse.specs.Grammar.{Begins}
 use Rattle.ulam_parse.specs.Nesting.{outside}
-use Rattle.ulam_parse.specs.Reading.{stops, tired, Read}
-use Rattle.ulam_parse.specs.Files.{whole_file, with_front}
+use Rattle.ulam_parse.specs.Reading.{stops, tired, Read, with_front}
+use Rattle.ulam_parse.specs.Files.{whole_file}
 use Rattle.ulam_parse.specs.Marks.{tok_at}
 use Rattle.ulam_parse.specs.Views.{from, Fails}
 use Rattle.ulam_parse.specs.declared.halt.Halt.{Halt as CodeHalt}

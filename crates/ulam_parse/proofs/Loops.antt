@@ -11,9 +11,9 @@ use Rattle.ulam_tree.specs.declared.raw.Member.{Member}
 use Rattle.ulam_tree.specs.declared.raw.Item.{Item}
 use Rattle.ulam_parse.specs.declared.symbol.Symbol.TheVariants as s
 use Rattle.ulam_parse.specs.Tokens.{Tok}
-use Rattle.ulam_parse.specs.Reading.{Read, Reader, with_words, with_args, join_args, dotted, more_args, sees, expect, ◌>>=◌}
+use Rattle.ulam_parse.specs.Reading.{Read, Reader, with_front, with_args, join_args, dotted, more_args, sees, expect, ◌>>=◌}
 use Rattle.ulam_parse.specs.Statements.{join_body, with_body, body}
-use Rattle.ulam_parse.specs.Files.{with_front, more_params, param, members, member, items, item}
+use Rattle.ulam_parse.specs.Files.{more_params, param, members, member, items, item}
 
 -- a list with one more
 pub pushed : {X Y : Type 0} (f : X → Y) (xs : List X) (x : X) (y : Y) (ys : List Y) → f x ≡ y → map f (xs ++ (x ∷ [])) ++ ys ≡ map f xs ++ (y ∷ ys)
@@ -21,12 +21,12 @@ pushed f [] x y ys e = ap (λ z. z ∷ ys) e
 pushed f (z ∷ xs) x y ys e = ap (λ w. f z ∷ w) (pushed f xs x y ys e)
 
 words_pushed : (ws : List Word) (w : Word) (v : t.Word) (read : Read (List t.Word)) → word_of w ≡ v →
-    with_words (map word_of ws) (read >>= λ (x : List t.Word × List Tok). Ok (v ∷ x.0, x.1)) ≡ with_words (map word_of (ws ++ (w ∷ []))) read
+    with_front (map word_of ws) (read >>= λ (x : List t.Word × List Tok). Ok (v ∷ x.0, x.1)) ≡ with_front (map word_of (ws ++ (w ∷ []))) read
 words_pushed ws w v (Ok x) e = ap (λ z. Ok (z, x.1)) (sym (pushed word_of ws w v x.0 e))
 words_pushed ws w v (Err h) e = refl
 
 pub words_step : (m : ℕ) (ws : List Word) (w : Word) (v x : t.Word) (us a b : List Tok) → word_of w ≡ v → sees s.Dot us ≡ true → expect s.Dot us ≡ Ok (x, a) → expect s.Name a ≡ Ok (v, b) →
-    with_words (map word_of ws) (dotted (suc m) us) ≡ with_words (map word_of (ws ++ (w ∷ []))) (dotted m b)
+    with_front (map word_of ws) (dotted (suc m) us) ≡ with_front (map word_of (ws ++ (w ∷ []))) (dotted m b)
 unfolding dotted
 words_step m ws w v x us a b e f g h = rw (f, g, h) (words_pushed ws w v (dotted m b) e)
 

@@ -104,7 +104,7 @@ truth_in_law n k v e us h = (map n (λ a. const_truth v) (token n k e) (λ a end
 abbrev truth_in_rule : (n : ℕ) (k : Symbol) (v : Bool) → is_end k ≡ false → Rule n Const Free Free
 truth_in_rule n k v e = record { rel = Truths k v; filled = record { tree = const_truth v; fill = λ other. tok k [] no_place ∷ other; fits = λ other. (some_word, refl, refl) }; read = r.truth_in k v; law = truth_in_law n k v e }
 
--- what `true` and `false` are not
+-- symbols that are not `true` or `false`
 truth_unlike : (j k : Symbol) (v : Bool) → (Says v ≡ opening_of j → ⊥) → opening_of k ≡ Says v → k ≡ j → ⊥
 truth_unlike j k v f e q = f (sym e ∙ ap opening_of q)
 

@@ -8,7 +8,7 @@ use Rattle.ulam_parse.specs.Nesting.{weighs, depth, closed}
 pub reverse_push : (xs : List ℕ) (x : ℕ) → reverse (xs ++ (x ∷ [])) ≡ x ∷ reverse xs
 reverse_push xs x = reverse-append xs (x ∷ [])
 
--- closing a bracket takes nothing on
+-- closing a bracket makes the nesting no deeper
 pub closed_small : (outer : List ℕ) (c : ℕ) (k : Symbol) → c + weighs outer ≤ 66 → depth (closed outer c k) ≤ 66
 closed_small [] c k h = h
 closed_small (d ∷ ds) c k h = omega (arith, h)

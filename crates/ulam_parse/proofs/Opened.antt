@@ -14,7 +14,7 @@ use Rattle.ulam_parse.specs.Grammar.{Takes, IsSize, IsType, IsPathOf, IsExpr}
 use Rattle.ulam_parse.specs.Reading.{same, sees, sees_second, begins_cast}
 use Rattle.ulam_parse.proofs.Tells.{decide, same_self, same_is, first, tail, sees_first}
 
--- the level up to which an operator reaches that comes first
+-- the level of an operator that comes first; more than any level for what continues a path, and 0 for what is no operator
 abbrev pub reach_by : Infix → ℕ
 reach_by (i.Joins op) = level op
 reach_by i.Tests = 8
@@ -28,13 +28,13 @@ reach (tok k w p ∷ ts) = reach_by (infix_of k)
 pub reach_at : (k : Symbol) (w : Text) (p : Place) (us rest : List Tok) → us ≡ tok k w p ∷ rest → reach us ≡ reach_by (infix_of k)
 reach_at k w p us rest e = rw e refl
 
--- what goes on with a path does not come first
+-- no symbol that continues a path comes first
 pub no_opens : (j : Symbol) → infix_of j ≡ i.Opens → (us : List Tok) → reach us ≤ 12 → sees j us ≡ false
 no_opens j o [] h = refl
 no_opens j o (tok k w p ∷ ts) h =
     decide (same k j) (λ e. let q : reach_by (infix_of k) ≡ 13 = ap (λ x. reach_by (infix_of x)) (same_is k j e) ∙ ap reach_by o in omega (arith, q, h))
 
--- which expressions begin so
+-- which expressions a symbol may begin
 abbrev pub Form : Opening → Expr → Type 0
 Form o (pair op l r p) = Form o l
 Form o (is e w p) = Form o e
@@ -128,7 +128,7 @@ no_cast n (group e p) us rest h = no_cast_at s.OpenParen _ _ us h.0 h.1.1 (λ e.
 no_cast n (cast ty e p) us rest h = no_cast_at s.OpenParen _ _ us h.0 h.1.1 (λ e. cc)
 no_cast n (prefix op e p) us rest h = no_cast_at h.1.0 _ _ us h.0 h.1.1.1 (classes_only h.1.0 (Signs op) h.1.2 (λ e. cc))
 
--- a type and `)` do
+-- a type and `)` begin as a cast does
 
 other_dot : (k : Symbol) (w : Text) (p : Place) (us rest : List Tok) → us ≡ tok k w p ∷ rest → same k s.Dot ≡ false → sees s.Dot us ≡ false
 other_dot k w p us rest e d = ap (sees s.Dot) e ∙ d
@@ -145,6 +145,6 @@ second_first : (us : List Tok) → sees_second s.Dot us ≡ sees s.Dot (tail us)
 second_first [] = refl
 second_first (t ∷ ts) = refl
 
--- two tokens tell
+-- the first two tokens decide it
 pub cast_two : (us vs : List Tok) → first vs ≡ first us → first (tail vs) ≡ first (tail us) → begins_cast vs ≡ begins_cast us
 cast_two us vs e f = let a = sees_first s.TypeName vs us e in let b = second_first vs ∙ sees_first s.Dot (tail vs) (tail us) f ∙ sym (second_first us) in rw (a, b) refl

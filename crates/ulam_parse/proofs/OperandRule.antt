@@ -128,7 +128,7 @@ pathed_law : (k : ℕ) (E : ℕ → Reader Expr) → ExprLaw k E → (us : List 
 pathed_law k E f us l = then_law IsPath (Not s.Dot) Free IsAfter (Reach 12) Free us (path us) (λ (x : Path × List Tok). after_path E x.0 x.1) (λ c b vs end h w. after_dot c b vs end h w) (λ c. after_filled c) (path_law (length us + 1) us (omega arith))
     (λ x mid here m g. after_path_law k E f x mid (omega (arith, path_less x us mid here, l)))
 
--- what an operand that begins so is, with the token's opening
+-- the form of an operand, by what its first token opens
 form_at : (k : Symbol) (w : Text) (p : Place) (o : Opening) → opening_of k ≡ o → (b : Expr) (vs end : List Tok) → first vs ≡ Some (tok k w p) → IsExpr 12 b vs end → Form o b
 form_at k w p o e b vs end f h =
     let x = opened 12 b vs end h in
@@ -141,7 +141,7 @@ inside_into k w p e (cast ty x q) vs end h = (h.0, (w, h.1 ∙ ap (λ y. tok y w
 inside_into k w p e _ vs end h = absurd h.2
 
 operand_by_law : (k : ℕ) (E : ℕ → Reader Expr) → ExprLaw k E → (o : Opening) (j : Symbol) (w : Text) (p : Place) (ts : List Tok) → opening_of j ≡ o → length (tok j w p ∷ ts) < suc k →
-    Tells (IsExpr 12) (Reach 12) Free (tok j w p ∷ ts) (operand_by E o j w p ts)
+    Tells (IsExpr 12) (Reach 12) Free (tok j w p ∷ ts) (operand_by E o (tok j w p) ts)
 operand_by_law k E f (Signs op) j w p ts e l =
     tells_as (Behind (tok j w p) (Map (λ (x : Expr). prefix op x p) (IsExpr 12))) (IsExpr 12) (Reach 12) (Reach 12) Free Free (tok j w p ∷ ts) _
     (tells_behind (Map (λ (x : Expr). prefix op x p) (IsExpr 12)) (Reach 12) Free j w p ts _ (not_end j (Signs op) e (λ q. cc))

@@ -84,7 +84,7 @@ args_law k E f us h =
 abbrev pub args_part : (k m : ℕ) (E : ℕ → Reader Expr) → ExprLaw k E → m ≤ k → Rule m Args Free Free
 args_part k m E f l = record { rel = AreArgs; filled = args_filled; read = args E; law = λ us h. args_law k E f us (omega (arith, h, l)) }
 
--- what stands behind a path
+-- what comes after a path
 
 abbrev pub IsAfter : Path → Expr → Span
 IsAfter x (reads y) = λ us rest. (y ≡ x) × (us ≡ rest)

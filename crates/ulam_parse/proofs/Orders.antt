@@ -21,7 +21,7 @@ use Rattle.ulam_parse.specs.Tokens.{Text, tok, symbol_in, symbol_of, keywords, s
 use Rattle.ulam_parse.specs.Sentences.{is_end, EndsOnce}
 use Rattle.ulam_parse.specs.Sound.{IsSound}
 
--- a symbol of a table is none that no entry has
+-- no symbol in a table passes this test
 abbrev lacks : (Symbol → Bool) → List (Text × Symbol) → Bool
 lacks test [] = true
 lacks test (e ∷ es) = not (test e.1) && lacks test es
@@ -99,6 +99,6 @@ base_by text false false h k = ((λ rest e. let q : false ≡ true = k.1 (ap (ta
 pub base_is : (text : Text) → IsBaseAt (base_of text) text
 base_is text = base_by text (bytes_eq (take 2 text) (codes "0x")) (bytes_eq (take 2 text) (codes "0b")) (bytes_eq-Decides (take 2 text) (codes "0x")) (bytes_eq-Decides (take 2 text) (codes "0b"))
 
--- what a numeral says is what its text is worth
+-- the value of a numeral is that of its text
 pub numeral_is : (text : Text) (value : ℕ) (unsigned : Bool) → IsNumeral text value unsigned → (value ≡ value_of text) × (unsigned ≡ unsigned_of text)
 numeral_is text value unsigned n = let v = numeral_value (base_of text) text value unsigned (base_is text) n in (v.0, v.1)

@@ -1,4 +1,4 @@
--- The rules of what stands before `;`, and of the heads of `if`, `while` and `for`.
+-- The rules of what comes before `;`, and of the heads of `if`, `while` and `for`.
 use Rattle.std.proofs.Common.{ℕ, ◌<◌, ◌≡◌, ◌⊎◌, inl, inr, List, [], ◌∷◌, length, Option, Some, None, Bool, true, false, refl, ap, sym, ◌∙◌, subst, arith}
 use Rattle.std.proofs.Math.Bool.{or-true}
 use Rattle.feast_base.specs.Places.{no_place}
@@ -24,7 +24,7 @@ use Rattle.ulam_parse.proofs.Operands.{paren_reach}
 use Rattle.ulam_parse.proofs.CondRules.{Under, closes, Closed, closed_reach, paren_closes, expr_rule, args_rule, cond_rule}
 use Rattle.ulam_parse.proofs.SimpleRules.{index_rule, left_rule, Ended, ended_closes, maybe_rule, declare_rule, IsAssign, assign_rule}
 
--- a call, or what is done to a place, behind its names
+-- a call, or what is done to a place, after its names
 
 abbrev pub IsDone : Path → Statement → Span
 IsDone x (does y es) = λ us rest. (y ≡ x) × (Takes s.OpenParen ⟫ AreArgs es) us rest
@@ -149,7 +149,7 @@ path_type (Some p) ws us rest h = ap (sees s.TypeName) h.1.1
 path_type None [] us rest h = absurd h
 path_type None (w ∷ ws) us rest h = ap (sees s.TypeName) h.1
 
--- with what no assignment, count or call begins
+-- symbols that begin no assignment, count or call
 pub simple_no : (j : Symbol) → assigning_of j ≡ Nothing → ((x : Path) (us rest : List Tok) → IsPath x us rest → sees j us ≡ false) → (b : Statement) (us rest : List Tok) → IsSimple b us rest → sees j us ≡ false
 simple_no j e f (assigns l op d) us rest h = f l.path us h.1.0 h.1.1
 simple_no j e f (counts l up) us rest (inl h) = f l.path us h.1.0 h.1.1

@@ -10,7 +10,7 @@ use Rattle.ulam_parse.specs.Reading.{stops, tired, Read, Reader, ◌>>=◌, same
 use Rattle.ulam_parse.specs.Sentences.{is_end}
 use Rattle.ulam_parse.proofs.Tells.{same_self, same_is, first, no_end_append, first_append, sees_first, Found, Stopped, Tells, tells_as, tail}
 
--- nothing is asked or known
+-- nothing is asked of the tokens, or known of them
 abbrev pub Free : {A : Type 0} → A → List Tok → Type 0
 Free a us = Unit {0}
 
@@ -152,7 +152,7 @@ found_some : {A : Type 0} (P : A → Span) (S G : A → List Tok → Type 0) (us
 found_some P S G us a mid h [] e p n = absurd (n p)
 found_some P S G us a mid h (t ∷ front) e p n = omega (arith, ap length e, length-append (t ∷ front) mid)
 
--- something first that takes a token at least: the rest is shorter
+-- something that takes at least one token, so the rest is shorter
 pub further_law : {A B : Type 0} (P : A → Span) (S G : A → List Tok → Type 0) (Q : A → B → Span) (T H : B → List Tok → Type 0) (us : List Tok) (r : Read A) (f : A × List Tok → Read B) →
     ((c : A) (b : B) (vs end : List Tok) → Q c b vs end → T b end → S c vs) → ((c : A) → Filled (Q c)) → Tells P S G us r → ((a : A) → P a [] [] → ⊥) →
     ((a : A) (mid : List Tok) → length mid < length us → G a mid → Tells (Q a) T H mid (f (a, mid))) → Tells (Then P Q) T H us (r >>= f)
@@ -219,7 +219,7 @@ then {A = A} n p q follows = record {
   law = λ us h. then_law p.rel _ _ (λ a. (q a).rel) _ _ us (p.read us) (λ (x : A × List Tok). (q x.0).read x.1) follows (λ c. (q c).filled) (p.law us h) (λ a mid here l g. (q a).law mid (omega (arith, l, h)));
 }
 
--- a token first: the rest is shorter
+-- a token, so the rest is shorter
 abbrev pub after : {B : Type 0} {T H : B → List Tok → Type 0} (n : ℕ) (k : Symbol) → is_end k ≡ false → (q : Word → Rule n B T H) → Rule (suc n) B T H
 after n k e q = record {
   rel = Then (TakesWord k) (λ a. (q a).rel);
@@ -277,7 +277,7 @@ here n v = record {
   law = λ us h. record { front = []; is = refl; no_end = refl; gives = tt; again = λ other. (refl, refl); only = λ other b end e q w. (q.0, sym q.1) };
 }
 
--- one rule where this symbol comes first, and else the other
+-- one rule if this symbol comes first, and otherwise another
 abbrev pub choice : {A : Type 0} {S T U G : A → List Tok → Type 0} (n : ℕ) (k : Symbol) (p : Rule n A S G) (q : Rule n A T G) (R : A → Span) →
     Into p.rel R → Back (Seen k) R p.rel U S → Into q.rel R → Back (Unseen k) R q.rel U T → Rule n A U G
 choice n k p q R to from to_other from_other = record {

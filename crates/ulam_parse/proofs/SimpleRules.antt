@@ -76,7 +76,7 @@ left_law n us h = (left_made n).law us h
 abbrev pub left_rule : (n : ℕ) → Rule n Left (Under 12) Free
 left_rule n = record { rel = IsLeft; filled = (left_made n).filled; read = r.left; law = left_law n }
 
--- what may stand there
+-- what is optional
 
 -- `;` follows
 abbrev pub Ended : {A : Type 0} → A → List Tok → Type 0
@@ -197,7 +197,7 @@ counts_back l up k w p _ vs end m f h = absurd m
 no_makes : (b : Statement) → Makes Nothing b → ⊥
 no_makes b m = m
 
-assign_by_law : (l : Left) (v : Assigning) (j : Symbol) (w : Text) (p : Place) (ts : List Tok) → assigning_of j ≡ v → Tells (IsAssign l) Closed Free (tok j w p ∷ ts) (r.assign_by l v j w p ts)
+assign_by_law : (l : Left) (v : Assigning) (j : Symbol) (w : Text) (p : Place) (ts : List Tok) → assigning_of j ≡ v → Tells (IsAssign l) Closed Free (tok j w p ∷ ts) (r.assign_by l v (tok j w p) ts)
 assign_by_law l (Assigns op) j w p ts e =
     tells_as (Behind (tok j w p) (Map (assigns l op) (IsExpr 1))) (IsAssign l) (Under 1) Closed Free Free (tok j w p ∷ ts) _
     (tells_behind (Map (assigns l op) (IsExpr 1)) (Under 1) Free j w p ts _ (assigns_end j (Assigns op) e (λ q. cc))

@@ -14,7 +14,7 @@ use Rattle.ulam_parse.proofs.Rules.{tells_if, Rule, Filled, Then, Map, Back, See
 use Rattle.ulam_parse.proofs.SimpleRules.{maybe_rule}
 use Rattle.ulam_parse.proofs.PartRules.{seen_word, IsForHead, for_head_rule, IsIfHead, if_head_rule, IsWhileHead, while_head_rule}
 
--- behind a statement that ends in an `if` without `else` stands no `else`
+-- no `else` follows a statement that ends in an `if` without `else`
 abbrev pub Shut : Statement → List Tok → Type 0
 Shut x us = ends_open x ≡ true → sees s.Else us ≡ false
 
@@ -31,7 +31,7 @@ statement_filled = record { tree = empty; fill = λ other. tok s.Semi [] no_plac
 abbrev pub statement_part : (k m : ℕ) (S : Reader Statement) → StatementLaw k S → m ≤ k → Rule m Statement Shut Shut
 statement_part k m S f l = record { rel = IsStatement; filled = statement_filled; read = S; law = λ us h. f us (omega (arith, h, l)) }
 
--- `;` behind a statement
+-- `;` after a statement
 
 abbrev pub Semi : Statement → Statement → Span
 Semi x = Map (λ (a : Word). x) (TakesWord s.Semi)
@@ -76,7 +76,7 @@ else_law k S f x us h g = tells_if (IsElse (ends_open x)) ShutPart ShutPart us (
     (λ b vs end q. rw q.3.1 (o, (q.1, (q.0, q.2), q.3.2))) (λ b vs end e q w. else_back x b vs end (sees_first s.Else vs us e ∙ c) q w) (λ y rest q. q))
     (λ c. else_here x us c)
 
--- what stands behind a condition
+-- what comes after a condition
 
 abbrev pub Branches : Cond → Statement → Span
 Branches c = Then IsStatement (λ x. Map (if_so c x) (IsElse (ends_open x)))

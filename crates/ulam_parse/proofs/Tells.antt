@@ -50,7 +50,7 @@ symbol_first : Option Tok → Symbol
 symbol_first None = s.End
 symbol_first (Some (tok k w p)) = k
 
--- which token comes first
+-- what is known of the first token
 pub is_seen : (j k : Symbol) (w : Text) (p : Place) (us rest : List Tok) → us ≡ tok k w p ∷ rest → sees j us ≡ true → k ≡ j
 is_seen j k w p us rest e h = let q : same k j ≡ true = sym (ap (sees j) e) ∙ h in same_is k j q
 
@@ -64,7 +64,7 @@ one_first j k w v p q us rest e f = ap symbol_first (sym (ap first e) ∙ f)
 pub sees_first : (k : Symbol) (a b : List Tok) → first a ≡ first b → sees k a ≡ sees k b
 sees_first k a b e = sees_at k a ∙ ap (option_sees k) e ∙ sym (sees_at k b)
 
--- A tree was found in front of the rest, and it is the only one there.
+-- A tree was found before the rest, and no other tree is there.
 pub record Found {A : Type 0} (P : A → Span) (S G : A → List Tok → Type 0) (us : List Tok) (a : A) (rest : List Tok) : Type 0 where
   -- the tokens of the tree
   pub front : List Tok
@@ -72,12 +72,12 @@ pub record Found {A : Type 0} (P : A → Span) (S G : A → List Tok → Type 0)
   pub no_end : has_end front ≡ false
   -- what is known of the rest
   pub gives : G a rest
-  -- they are the tree wherever they stand
+  -- they are this tree before any other tokens
   pub again : (other : List Tok) → P a (front ++ other) other
-  -- and no other, and no more of what follows is, where the same token follows
+  -- before tokens that begin as the rest they are no other tree, nor with some of those tokens
   pub only : (other : List Tok) (b : A) (end : List Tok) → first other ≡ first rest → P b (front ++ other) end → S b end → (b ≡ a) × (end ≡ other)
 
--- Before the last n tokens stands what begins a tree, and with the first of them it begins none.
+-- The tokens before the last n begin a tree, and with the next token they begin none.
 pub record Stopped {A : Type 0} (P : A → Span) (S : A → List Tok → Type 0) (us : List Tok) (n : ℕ) : Type 0 where
   pub front : List Tok
   pub left : List Tok
@@ -88,16 +88,16 @@ pub record Stopped {A : Type 0} (P : A → Span) (S : A → List Tok → Type 0)
   pub tree : A
   pub fill : List Tok → List Tok
   pub goes : (other : List Tok) → P tree (front ++ fill other) other
-  -- none do that begin as the rest
+  -- no tokens that begin as the last n do
   pub none : (other : List Tok) (b : A) (end : List Tok) → first other ≡ first left → P b (front ++ other) end → S b end → ⊥
 
--- What an answer tells. Behind a tree stands what S asks; behind one that is found, what G says.
+-- What a reader's answer tells of a relation. S says which tokens may follow a tree, and G what is known of those after a tree that was found.
 abbrev pub Tells : {A : Type 0} → (A → Span) → (A → List Tok → Type 0) → (A → List Tok → Type 0) → List Tok → Read A → Type 0
 Tells P S G us (Ok x) = Found P S G us x.0 x.1
 Tells P S G us (Err (stops n)) = Stopped P S us n
 Tells P S G us (Err tired) = ⊥
 
--- of another relation that is the same on what begins as these tokens do
+-- the same of another relation that agrees on tokens which begin as these do
 pub tells_as : {A : Type 0} (P R : A → Span) (S T G H : A → List Tok → Type 0) (us : List Tok) (r : Read A) → Tells P S G us r →
     ((b : A) (vs end : List Tok) → P b vs end → R b vs end) → ((b : A) (vs end : List Tok) → first vs ≡ first us → R b vs end → T b end → P b vs end × S b end) →
     ((a : A) (rest : List Tok) → G a rest → H a rest) → Tells R T H us r
@@ -192,7 +192,7 @@ stopped_two P R S T G t ts n h (u ∷ front) is goes none clean some to from = r
       none other b end e pq.0 pq.1;
 }
 
--- The same where something is read in any case: then the first two tokens are known.
+-- the same where at least one token is read, so that the relations need agree only on tokens whose first two are these
 pub tells_two : {A : Type 0} (P R : A → Span) (S T G : A → List Tok → Type 0) (t : Tok) (ts : List Tok) (r : Read A) → Tells P S G (t ∷ ts) r →
     ((a : A) → P a [] [] → ⊥) → (((other : List Tok) (b : A) (end : List Tok) → first other ≡ Some t → P b other end → S b end → ⊥) → ⊥) →
     ((b : A) (vs end : List Tok) → P b vs end → R b vs end) → ((b : A) (vs end : List Tok) → first (tail vs) ≡ first ts → first vs ≡ Some t → R b vs end → T b end → P b vs end × S b end) → Tells R T G (t ∷ ts) r

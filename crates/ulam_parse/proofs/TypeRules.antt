@@ -51,7 +51,7 @@ enclosed_law n o c f g us h = (enclosed_made n o c f g).law us h
 abbrev pub enclosed_rule : (n : ℕ) (o c : Symbol) → is_end o ≡ false → is_end c ≡ false → Rule n (Option Width) Free Free
 enclosed_rule n o c f g = record { rel = Between o c; filled = (enclosed_made n o c f g).filled; read = enclosed o c; law = enclosed_law n o c f g }
 
--- there may be one
+-- an optional width
 abbrev pub IsOptional : Symbol → Symbol → Option Width → Span
 IsOptional o c None = λ us rest. us ≡ rest
 IsOptional o c (Some d) = Takes o ⟫ IsWidth d ⟫ Takes c
@@ -96,7 +96,7 @@ type_law n us h = (type_made n).law us h
 abbrev pub type_rule : (n : ℕ) → Rule n TypeRef (Not s.OpenParen) Free
 type_rule n = record { rel = IsType; filled = (type_made n).filled; read = type_ref; law = type_law n }
 
--- names behind dots
+-- names after dots
 
 pub dotted_from : Back (Seen s.Dot) AreDotted (Then (TakesWord s.Dot) (λ a. Then (TakesWord s.Name) (λ w. Map (λ (ws : List Word). w ∷ ws) AreDotted))) (Not s.Dot) (Not s.Dot)
 dotted_from [] vs end c h f = let e : true ≡ false = sym c ∙ ap (sees s.Dot) h ∙ f in absurd cc

@@ -1,4 +1,4 @@
--- What the reading of all tokens says of sentences and faults.
+-- What reading all tokens says of sentences and faults.
 use Rattle.std.proofs.Common.{◌≡◌, ◌⊎◌, inl, inr, List, [], ◌∷◌, ◌++◌, true, Ok, Err, refl, ap, sym, ◌∙◌, subst, arith, append_assoc, append-nil}
 use Rattle.std.specs.Prelude.{IfOk, IfErr, MatchResult, IsErrAnd, Result}
 use Rattle.feast_base.specs.declared.place.Place.{Place}
@@ -41,7 +41,7 @@ begins_front a b h = let F : List Tok → Type 0 = λ v. IsFile h.0 v in (h.0, b
 pub file_begins : (xs : List Item) (us : List Tok) → IsFile xs us → Begins us
 file_begins xs us h = let F : List Tok → Type 0 = λ v. IsFile xs v in (xs, [], subst F (sym (append-nil us)) h)
 
--- the front of one split goes on with the token of another, or they are the same
+-- of two splits of tokens at a token, the front of one goes on with the token of the other, or they are the same split
 abbrev pub Before : List Tok → Tok → List Tok → Type 0
 Before f a g = (m : List Tok) × (g ≡ f ++ (a ∷ m))
 
@@ -68,7 +68,7 @@ two_splits (t ∷ f) (u ∷ g) a b x y e =
       ]
     ]
 
--- what goes on with a token goes on with those up to it
+-- a front and a token after it, as one front
 with_one : (f : List Tok) (a : Tok) (m : List Tok) → f ++ (a ∷ m) ≡ (f ++ (a ∷ [])) ++ m
 with_one f a m = sym (append_assoc f (a ∷ []) m)
 

@@ -1,10 +1,10 @@
 -- Reading from the left: members, classes and files.
-use Rattle.std.specs.Prelude.{ℕ, zero, suc, ◌+◌, List, [], ◌∷◌, ◌++◌, length, Option, None, Bool, true, false, if◌then◌else◌, Ok, Err}
+use Rattle.std.specs.Prelude.{ℕ, zero, suc, ◌+◌, List, [], ◌∷◌, length, Option, None, Bool, true, false, if◌then◌else◌, Ok, Err}
 use Rattle.ulam_tree.specs.Raw.{Word, Width, TypeRef, Param, Const, const_number, const_truth, const_named, Member, typedef, constant, field, function, Class, Item, ulam, uses, class}
 use Rattle.ulam_parse.specs.declared.symbol.Symbol.{Symbol}
 use Rattle.ulam_parse.specs.declared.symbol.Symbol.TheVariants as s
 use Rattle.ulam_parse.specs.Tokens.{Tok, value_of, unsigned_of}
-use Rattle.ulam_parse.specs.Reading.{tired, Read, Reader, ◌>>=◌, sees, expect, enclosed, type_ref}
+use Rattle.ulam_parse.specs.Reading.{tired, Reader, ◌>>=◌, sees, expect, enclosed, type_ref}
 use Rattle.ulam_parse.specs.Statements.{whole_body}
 
 unfoldable pub param : Reader Param
@@ -25,6 +25,10 @@ more_params (suc k) us =
       a ← expect s.CloseParen us
       Ok ([], a.1))
 
+-- further parameters and the closing bracket
+abbrev pub later_params : Reader (List Param)
+later_params us = more_params (length us + 1) us
+
 unfoldable pub params : Reader (List Param)
 params us =
     if sees s.CloseParen us then (do
@@ -32,10 +36,10 @@ params us =
       Ok ([], a.1))
     else (do
       x ← param us
-      xs ← more_params (length x.1 + 1) x.1
+      xs ← later_params x.1
       Ok (x.0 ∷ xs.0, xs.1))
 
--- a number, behind its sign where it has one
+-- a number after its sign, if it has one
 unfoldable pub const_in : Bool → Reader Const
 const_in minus us = do
   n ← expect s.Number us
@@ -77,7 +81,7 @@ constant_in us = do
 unfoldable pub length_in : Reader (Option Width)
 length_in us = if sees s.OpenBracket us then enclosed s.OpenBracket s.CloseBracket us else Ok (None, us)
 
--- a function behind its name
+-- a function, after its name
 unfoldable pub function_rest : TypeRef → Word → Reader Member
 function_rest ty w us = do
   a ← expect s.OpenParen us
@@ -86,7 +90,7 @@ function_rest ty w us = do
   x ← whole_body b.1
   Ok (function ty w ps.0 x.0, x.1)
 
--- a data member behind its name
+-- a data member, after its name
 unfoldable pub field_rest : TypeRef → Word → Reader Member
 field_rest ty w us = do
   l ← length_in us
@@ -114,13 +118,17 @@ members (suc n) us =
       xs ← members n x.1
       Ok (x.0 ∷ xs.0, xs.1))
 
+-- all members of a class and the closing brace
+abbrev pub all_members : Reader (List Member)
+all_members us = members (length us + 1) us
+
 -- a class that begins with a keyword
 unfoldable pub class_in : Symbol → Bool → Reader Class
 class_in k quark us = do
   a ← expect k us
   w ← expect s.TypeName a.1
   b ← expect s.OpenBrace w.1
-  ms ← members (length b.1 + 1) b.1
+  ms ← all_members b.1
   Ok (record { quark = quark; word = w.0; members = ms.0 }, ms.1)
 
 unfoldable pub version_in : Reader Item
@@ -160,7 +168,3 @@ items (suc n) us =
 
 abbrev pub whole_file : Reader (List Item)
 whole_file us = items (length us + 1) us
-
--- what was read before, and then the rest
-abbrev pub with_front : {A : Type 0} → List A → Read (List A) → Read (List A)
-with_front {A = A} front read = read >>= λ (x : List A × List Tok). Ok (front ++ x.0, x.1)

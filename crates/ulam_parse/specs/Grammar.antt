@@ -12,12 +12,12 @@ use Rattle.ulam_parse.specs.declared.symbol.Assigning.TheVariants as a
 use Rattle.ulam_parse.specs.Tokens.{Text, Tok, tok, value_of, unsigned_of}
 use Rattle.ulam_parse.specs.Tables.{infix_of, level, opening_of, assigning_of}
 
--- What stands between two lists of tokens, of which the second is an end of the first.
+-- A form that tokens may have, as a relation of two lists of tokens: the second is what is left of the first after tokens of that form.
 abbrev pub Span : Type 1
 Span = List Tok → List Tok → Type 0
 
 infixr 5 ◌⟫◌
--- the one, and straight behind it the other
+-- the one, and directly after it the other
 abbrev pub ◌⟫◌ : Span → Span → Span
 P ⟫ Q = λ us rest. (mid : List Tok) × P us mid × Q mid rest
 
@@ -25,7 +25,7 @@ P ⟫ Q = λ us rest. (mid : List Tok) × P us mid × Q mid rest
 abbrev pub Here : Span
 Here us rest = us ≡ rest
 
--- it never stands there
+-- no tokens have this form
 abbrev pub Never : Span
 Never us rest = ⊥
 
@@ -70,7 +70,7 @@ abbrev pub IsWidth : Width → Span
 IsWidth (wide n) = λ us rest. (u : Bool) × (p : Place) × TakesNumber n u p us rest
 IsWidth (wide_as w) = TakesWord s.Name w
 
--- a width in round brackets may stand there
+-- a width in round brackets, or nothing
 abbrev pub IsSize : Option Width → Span
 IsSize None = Here
 IsSize (Some d) = Takes s.OpenParen ⟫ IsWidth d ⟫ Takes s.CloseParen
@@ -83,7 +83,7 @@ abbrev pub AreDotted : List Word → Span
 AreDotted [] = Here
 AreDotted (w ∷ ws) = Takes s.Dot ⟫ TakesWord s.Name w ⟫ AreDotted ws
 
--- `self` or a name, and names behind it
+-- `self` or a name, and then names with a dot before each
 abbrev pub IsPathOf : Option Place → List Word → Span
 IsPathOf (Some p) ws = TakesAt s.Own p ⟫ AreDotted ws
 IsPathOf None [] = Never
@@ -92,7 +92,7 @@ IsPathOf None (w ∷ ws) = TakesWord s.Name w ⟫ AreDotted ws
 abbrev pub IsPath : Path → Span
 IsPath x = IsPathOf x.own x.words
 
--- of a level or a tighter one
+-- the form, if its level m is n or tighter
 abbrev pub Within : ℕ → ℕ → Span → Span
 Within n m P us rest = (n ≤ m) × P us rest
 
@@ -124,7 +124,7 @@ abbrev pub IsCond : Cond → Span
 IsCond (seen w c) = TakesWord s.Name w ⟫ Takes s.As ⟫ TakesWord s.TypeName c
 IsCond (test e) = IsExpr 1 e
 
--- an index in square brackets may stand there
+-- an index in square brackets, or nothing
 abbrev pub IsIndex : Option Expr → Span
 IsIndex None = Here
 IsIndex (Some e) = Takes s.OpenBracket ⟫ IsExpr 1 e ⟫ Takes s.CloseBracket
@@ -133,12 +133,12 @@ IsIndex (Some e) = Takes s.OpenBracket ⟫ IsExpr 1 e ⟫ Takes s.CloseBracket
 abbrev pub IsLeft : Left → Span
 IsLeft l = IsPath l.path ⟫ IsIndex l.index
 
--- an expression may stand there
+-- an expression, or nothing
 abbrev pub IsMaybe : Option Expr → Span
 IsMaybe None = Here
 IsMaybe (Some e) = IsExpr 1 e
 
--- `=` and an expression may stand there
+-- `=` and an expression, or nothing
 abbrev pub IsStart : Option Expr → Span
 IsStart None = Here
 IsStart (Some e) = Takes s.Set ⟫ IsExpr 1 e
@@ -173,7 +173,7 @@ abbrev mutual
   ends_open (for_all f e g x) = ends_open x
   ends_open _ = false
 
-  -- so does the end of an `if`
+  -- an `if` ends so if it has no `else`, or if the statement after its `else` ends so
   pub part_open : Part → Bool
   part_open no_part = true
   part_open (part x) = ends_open x
@@ -194,7 +194,7 @@ abbrev mutual
   IsStatement (counts l up) = IsSimple (counts l up) ⟫ Takes s.Semi
   IsStatement (does x es) = IsSimple (does x es) ⟫ Takes s.Semi
 
-  -- `else` and a statement may stand behind one that does not end in an `if` without `else`
+  -- `else` and a statement may follow a statement that does not end in an `if` without `else`
   pub IsElse : Bool → Part → Span
   IsElse o no_part = Here
   IsElse o (part y) = λ us rest. (o ≡ false) × (Takes s.Else ⟫ IsStatement y) us rest
@@ -222,7 +222,7 @@ IsConst (const_number false v u) = λ us rest. (p : Place) × TakesNumber v u p 
 IsConst (const_truth v) = λ us rest. (p : Place) × TakesTruth v p us rest
 IsConst (const_named w) = TakesWord s.Name w
 
--- the length of an array may stand there in square brackets
+-- the length of an array in square brackets, or nothing
 abbrev pub IsLength : Option Width → Span
 IsLength None = Here
 IsLength (Some d) = Takes s.OpenBracket ⟫ IsWidth d ⟫ Takes s.CloseBracket

@@ -12,3 +12,4 @@ pub mod Sentences
 pub mod Sound
 pub mod Nests
 pub mod Told
+pub mod Laws

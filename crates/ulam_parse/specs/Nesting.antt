@@ -6,7 +6,7 @@ use Rattle.ulam_parse.specs.declared.symbol.Weight.{Weight}
 use Rattle.ulam_parse.specs.declared.symbol.Weight.TheVariants as w
 use Rattle.ulam_parse.specs.Tokens.{Tok, tok}
 
--- the count in the innermost bracket, those of the brackets around it from the inside out with the one outside all, and the symbol that came last
+-- how deep tokens nest: the count in the innermost bracket, the counts around it from the inside out, of which the last is outside all brackets, and the last symbol
 pub record Nest : Type 0 where
   pub inner : ℕ
   pub outer : List ℕ
@@ -16,7 +16,7 @@ pub record Nest : Type 0 where
 abbrev pub outside : Nest
 outside = record { inner = 0; outer = []; last = s.End }
 
--- so many brackets as there are counts, and the sum of these
+-- what the counts around weigh: one for each bracket, and their sum
 abbrev pub weighs : List ℕ → ℕ
 weighs [] = 0
 weighs (c ∷ cs) = c + 1 + weighs cs
@@ -61,7 +61,7 @@ weight_of s.Semi = w.Nothing
 weight_of s.Dot = w.Nothing
 weight_of _ = w.Adds
 
--- what stands behind it is a new statement or member, unless it is `else`
+-- a new statement or member begins after it, unless `else` follows
 abbrev pub ends_one : Symbol → Bool
 ends_one s.Semi = true
 ends_one s.CloseBrace = true
@@ -79,12 +79,16 @@ abbrev pub is_close_paren : Symbol → Bool
 is_close_paren s.CloseParen = true
 is_close_paren _ = false
 
--- The innermost count by what came last: straight behind `;` or `}` it is 0, but for `else`; a `(` straight behind `)`, as behind a cast, adds 1.
+-- The innermost count at a symbol k, by the last one. Directly after `;` or `}` it is 0, except at `else`; a `(` directly after `)`, as after a cast, adds 1.
 abbrev pub count_at : ℕ → Symbol → Symbol → ℕ
 count_at c last k =
     if ends_one last && not (is_else k) then 0 else (if is_close_paren last && is_open_paren k then c + 1 else c)
 
--- the last open bracket is closed, if there is one
+-- a bracket opens
+abbrev pub opened : List ℕ → ℕ → Symbol → Nest
+opened ds c k = record { inner = 0; outer = c ∷ ds; last = k }
+
+-- the last open bracket closes, if there is one
 abbrev pub closed : List ℕ → ℕ → Symbol → Nest
 closed [] c k = record { inner = c; outer = []; last = k }
 closed (d ∷ ds) c k = record { inner = d; outer = ds; last = k }
@@ -93,7 +97,7 @@ closed (d ∷ ds) c k = record { inner = d; outer = ds; last = k }
 abbrev pub weighed : Weight → List ℕ → ℕ → Symbol → Nest
 weighed w.Adds ds c k = record { inner = c + 1; outer = ds; last = k }
 weighed w.Clears ds c k = record { inner = 0; outer = ds; last = k }
-weighed w.Opens ds c k = record { inner = 0; outer = c ∷ ds; last = k }
+weighed w.Opens ds c k = opened ds c k
 weighed w.Closes ds c k = closed ds c k
 weighed w.Nothing ds c k = record { inner = c; outer = ds; last = k }
 

@@ -1,4 +1,4 @@
--- The parser's count of nesting as the grammar's.
+-- The parser's count of nesting as the grammar has it.
 use Rattle.std.specs.Prelude.{reverse}
 use Rattle.ulam_parse.specs.declared.nesting.Nest.{Nest}
 use Rattle.ulam_parse.specs.Nesting as n

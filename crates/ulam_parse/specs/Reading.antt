@@ -3,6 +3,7 @@ use Rattle.std.specs.Prelude.{ℕ, zero, suc, ◌+◌, List, [], ◌∷◌, ◌+
 use denote.Enum.Bare.{sameb}
 use Rattle.feast_base.specs.declared.place.Place.{Place}
 use Rattle.ulam_tree.specs.Raw.{Word, Width, wide, wide_as, TypeRef, Path, Expr, number, truth, reads, calls, index, instance, group, cast, prefix, pair, is, Args, no_args, arg}
+use Rattle.ulam_tree.specs.declared.op.PairOp.{PairOp}
 use Rattle.ulam_parse.specs.contracts.symbol.Symbol.{the_type}
 use Rattle.ulam_parse.specs.declared.symbol.Symbol.{Symbol}
 use Rattle.ulam_parse.specs.declared.symbol.Symbol.TheVariants as s
@@ -10,12 +11,12 @@ use Rattle.ulam_parse.specs.declared.symbol.Infix.{Infix}
 use Rattle.ulam_parse.specs.declared.symbol.Infix.TheVariants.{Joins, Tests, Opens, Ends}
 use Rattle.ulam_parse.specs.declared.symbol.Opening.{Opening}
 use Rattle.ulam_parse.specs.declared.symbol.Opening.TheVariants.{Signs, Parens, Counts, Says, Classes, Names, Owns, Nothing}
-use Rattle.ulam_parse.specs.Tokens.{Text, Tok, tok, value_of, unsigned_of}
+use Rattle.ulam_parse.specs.Tokens.{Tok, tok, place_at, text_in, value_of, unsigned_of}
 use Rattle.ulam_parse.specs.Tables.{infix_of, level, opening_of}
 
 -- why nothing was read
 pub data Halt : Type 0 where
-  -- it goes on with no tree from the first of the last n tokens on, or at their end
+  -- no tree goes on with the first of the last n tokens; if n is 0, the tokens end where a tree goes on
   stops : ℕ → Halt
   -- out of steps
   tired : Halt
@@ -30,6 +31,14 @@ infixl 10 ◌>>=◌
 abbrev pub ◌>>=◌ : {A B : Type 0} → Result A Halt → (A → Result B Halt) → Result B Halt
 (Ok x) >>= f = f x
 (Err e) >>= f = Err e
+
+-- what was read before, and then the rest
+abbrev pub with_front : {A : Type 0} → List A → Read (List A) → Read (List A)
+with_front {A = A} front read = read >>= λ (x : List A × List Tok). Ok (front ++ x.0, x.1)
+
+-- what was read before, and then what the reader reads
+abbrev pub behind : {A : Type 0} → List A → Reader (List A) → Reader (List A)
+behind front reader us = with_front front (reader us)
 
 unfoldable pub same : Symbol → Symbol → Bool
 same = sameb the_type
@@ -75,7 +84,7 @@ type_ref us = do
   d ← size w.1
   Ok (record { word = w.0; width = d.0 }, d.1)
 
--- names behind dots; the number bounds the turns
+-- names after dots; the number bounds the turns
 unfoldable pub dotted : ℕ → Reader (List Word)
 dotted zero us = Err tired
 dotted (suc k) us =
@@ -100,7 +109,7 @@ path us =
       ws ← words_after w.1
       Ok (record { own = None; words = w.0 ∷ ws.0 }, ws.1))
 
--- the name of a type with no dot behind it
+-- the name of a type with no dot after it
 abbrev pub begins_cast : List Tok → Bool
 begins_cast us = sees s.TypeName us && not (sees_second s.Dot us)
 
@@ -134,7 +143,7 @@ module _ (expr : ℕ → Reader Expr) where
         es ← more_args (length e.1 + 1) e.1
         Ok (arg e.0 es.0, es.1))
 
-  -- a path, a call or an element of an array, behind the path
+  -- a path, a call or an element of an array, after the path
   unfoldable pub after_path : Path → Reader Expr
   after_path x us =
       if sees s.OpenParen us then (do
@@ -151,7 +160,7 @@ module _ (expr : ℕ → Reader Expr) where
   abbrev pub named : Reader Expr
   named us = path us >>= λ (x : Path × List Tok). after_path x.0 x.1
 
-  -- what stands behind a bracket that opens at a place
+  -- what comes after a bracket that opens at a place
   unfoldable pub in_parens : Place → Reader Expr
   in_parens p us =
       if begins_cast us then (do
@@ -164,41 +173,66 @@ module _ (expr : ℕ → Reader Expr) where
         a ← expect s.CloseParen e.1
         Ok (group e.0 p, a.1))
 
-  abbrev pub operand_by : Opening → Symbol → Text → Place → Reader Expr
-  operand_by (Signs op) k w p ts = expr 12 ts >>= λ (e : Expr × List Tok). Ok (prefix op e.0 p, e.1)
-  operand_by Parens k w p ts = in_parens p ts
-  operand_by Counts k w p ts = Ok (number (value_of w) (unsigned_of w) p, ts)
-  operand_by (Says b) k w p ts = Ok (truth b p, ts)
-  operand_by Classes k w p ts = new_atom (tok k w p ∷ ts)
-  operand_by Names k w p ts = named (tok k w p ∷ ts)
-  operand_by Owns k w p ts = named (tok k w p ∷ ts)
-  operand_by Nothing k w p ts = Err (stops (length (tok k w p ∷ ts)))
+  -- an operand, by what its first token opens
+  abbrev pub operand_by : Opening → Tok → Reader Expr
+  operand_by (Signs op) t us = expr 12 us >>= λ (e : Expr × List Tok). Ok (prefix op e.0 (place_at t), e.1)
+  operand_by Parens t us = in_parens (place_at t) us
+  operand_by Counts t us = Ok (number (value_of (text_in t)) (unsigned_of (text_in t)) (place_at t), us)
+  operand_by (Says b) t us = Ok (truth b (place_at t), us)
+  operand_by Classes t us = new_atom (t ∷ us)
+  operand_by Names t us = named (t ∷ us)
+  operand_by Owns t us = named (t ∷ us)
+  operand_by Nothing t us = Err (stops (length (t ∷ us)))
 
   unfoldable pub operand : Reader Expr
   operand [] = Err (stops 0)
-  operand (tok k w p ∷ ts) = operand_by (opening_of k) k w p ts
+  operand (tok k w p ∷ us) = operand_by (opening_of k) (tok k w p) us
 
-  -- an operator, and then it goes on
-  abbrev pub more_by : (ℕ → Expr → Reader Expr) → ℕ → ℕ → Expr → Infix → Symbol → Text → Place → Reader Expr
-  more_by go least top e (Joins op) k w p ts =
-      if nat_le least (level op) && nat_le (level op) top then (expr (level op + 1) ts >>= λ (r : Expr × List Tok). go (level op) (pair op e r.0 p) r.1)
-      else Ok (e, tok k w p ∷ ts)
-  more_by go least top e Tests k w p ts =
-      if nat_le least 8 && nat_le 9 top then (expect s.TypeName ts >>= λ (c : Word × List Tok). go 8 (is e c.0 p) c.1)
-      else Ok (e, tok k w p ∷ ts)
-  more_by go least top e Opens k w p ts = Ok (e, tok k w p ∷ ts)
-  more_by go least top e Ends k w p ts = Ok (e, tok k w p ∷ ts)
+-- the front of an expression: a tree that operators may follow, and its level, 12 for an operand
+pub record Front : Type 0 where
+  pub tree : Expr
+  pub level : ℕ
 
-  -- the rest of an expression of level `least` whose front has level `top`; the first number bounds the turns
-  unfoldable pub more : ℕ → ℕ → ℕ → Expr → Reader Expr
-  more zero least top e us = Err tired
-  more (suc n) least top e [] = Ok (e, [])
-  more (suc n) least top e (tok k w p ∷ ts) = more_by (more n least) least top e (infix_of k) k w p ts
+-- the expression is its front
+abbrev pub ends : Front → Reader Expr
+ends front us = Ok (front.tree, us)
 
-  unfoldable pub climb : ℕ → Reader Expr
-  climb least us = do
-    e ← operand us
-    more (length e.1 + 1) least 12 e.0 e.1
+-- What follows a front in an expression of level `least`. An operator follows it if its level is `least` or tighter, and the front is of that level or tighter. It makes a new front, after which `go` reads on.
+module _ (expr : ℕ → Reader Expr) (least : ℕ) (go : Front → Reader Expr) where
+  -- an operator at this place: the new front is the old one joined with the right operand
+  abbrev pub joins : PairOp → Place → Front → Reader Expr
+  joins op p front us = do
+    right ← expr (level op + 1) us
+    go (record { tree = pair op front.tree right.0 p; level = level op }) right.1
+
+  -- `is` at this place: the new front is a test of the old one
+  abbrev pub tests : Place → Front → Reader Expr
+  tests p front us = do
+    word ← expect s.TypeName us
+    go (record { tree = is front.tree word.0 p; level = 8 }) word.1
+
+  -- The next token is an operator that follows the front, or else the expression ends before it. `is` takes a front of level 9 or tighter, so that no test follows another.
+  abbrev pub more_by : Infix → Front → Tok → Reader Expr
+  more_by (Joins op) front t us = if nat_le least (level op) && nat_le (level op) front.level then joins op (place_at t) front us else ends front (t ∷ us)
+  more_by Tests front t us = if nat_le least 8 && nat_le 9 front.level then tests (place_at t) front us else ends front (t ∷ us)
+  more_by Opens front t us = ends front (t ∷ us)
+  more_by Ends front t us = ends front (t ∷ us)
+
+module _ (expr : ℕ → Reader Expr) (least : ℕ) where
+  -- the rest of an expression of level `least` after its front; the number bounds the turns
+  unfoldable pub more : ℕ → Front → Reader Expr
+  more zero front us = Err tired
+  more (suc n) front [] = ends front []
+  more (suc n) front (tok k w p ∷ us) = more_by expr least (more n) (infix_of k) front (tok k w p) us
+
+  -- the rest of an expression after its first operand
+  abbrev pub after_operand : Expr → Reader Expr
+  after_operand e us = more (length us + 1) (record { tree = e; level = 12 }) us
+
+  unfoldable pub climb : Reader Expr
+  climb us = do
+    e ← operand expr us
+    after_operand e.0 e.1
 
 -- expressions nested no deeper than the first number
 unfoldable pub expr_in : ℕ → ℕ → Reader Expr
@@ -209,13 +243,13 @@ expr_in (suc k) least us = climb (expr_in k) least us
 abbrev pub expr : ℕ → Reader Expr
 expr least us = expr_in (length us + 1) least us
 
+-- further arguments and the closing bracket, nested no deeper than the number
+abbrev pub later_args : ℕ → Reader Args
+later_args n us = more_args (expr_in n) (length us + 1) us
+
 -- arguments and the closing bracket
 abbrev pub all_args : Reader Args
 all_args us = args (expr_in (length us + 1)) us
-
--- what was read before, and then the rest
-abbrev pub with_words : List Word → Read (List Word) → Read (List Word)
-with_words front read = read >>= λ (x : List Word × List Tok). Ok (front ++ x.0, x.1)
 
 -- arguments and more of them
 abbrev pub join_args : Args → Args → Args
@@ -224,3 +258,7 @@ join_args (arg e ds) es = arg e (join_args ds es)
 
 abbrev pub with_args : Args → Read Args → Read Args
 with_args front read = read >>= λ (x : Args × List Tok). Ok (join_args front x.0, x.1)
+
+-- arguments that were read before, and then those that the reader reads
+abbrev pub behind_args : Args → Reader Args → Reader Args
+behind_args front reader us = with_args front (reader us)

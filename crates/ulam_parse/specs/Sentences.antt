@@ -1,4 +1,4 @@
--- Which tokens are a sentence, and where and why they are none.
+-- Which tokens are a sentence, and where and why others are not.
 use Rattle.std.specs.Prelude.{ℕ, ◌<◌, ◌≡◌, ◌+◌, List, [], ◌∷◌, ◌++◌, Option, Some, None, Bool, true, false, ◌||◌, if◌then◌else◌, nat_lt}
 use Rattle.feast_base.specs.declared.place.Place.{Place}
 use Rattle.ulam_tree.specs.Raw.{Item}
@@ -7,6 +7,7 @@ use Rattle.ulam_parse.specs.declared.fault.ParseFault.TheVariants.{Syntax, TooDe
 use Rattle.ulam_parse.specs.declared.symbol.Symbol.{Symbol}
 use Rattle.ulam_parse.specs.declared.symbol.Symbol.TheVariants as s
 use Rattle.ulam_parse.specs.Tokens.{Text, Tok, tok}
+pub use Rattle.ulam_parse.specs.Tokens.{place_at}
 use Rattle.ulam_parse.specs.Grammar.{IsFile, Begins}
 use Rattle.ulam_parse.specs.Nesting.{Nest, nesting, IsShallow, nest_step, depth, symbol_at}
 
@@ -18,9 +19,6 @@ is_end _ = false
 abbrev pub has_end : List Tok → Bool
 has_end [] = false
 has_end (tok k w p ∷ ts) = is_end k || has_end ts
-
-abbrev pub place_at : Tok → Place
-place_at (tok k w p) = p
 
 -- The last token and no other is `End`.
 pub record EndsOnce (ts : List Tok) : Type 0 where
@@ -34,7 +32,7 @@ pub record EndsOnce (ts : List Tok) : Type 0 where
 abbrev pub IsSentence : List Item → List Tok → Type 0
 IsSentence xs ts = IsFile xs ts × IsShallow ts
 
--- At this place stands the first token such that the tokens up to and with it begin no file, and no prefix before it nests too deep.
+-- No file goes on with the token at this place: the tokens before it begin a file, with it they begin none, and nothing before it nests too deep.
 pub record IsSyntaxFault (ts : List Tok) (place : Place) : Type 0 where
   pub front : List Tok
   pub at : Tok
@@ -45,7 +43,7 @@ pub record IsSyntaxFault (ts : List Tok) (place : Place) : Type 0 where
   pub none : Begins (front ++ (at ∷ [])) → ⊥
   pub shallow : IsShallow front
 
--- At this place stands the first token such that the tokens up to and with it nest too deep, and they begin a file.
+-- The nesting is first too deep at the token at this place, and with it the tokens begin a file.
 pub record IsDepthFault (ts : List Tok) (place : Place) : Type 0 where
   pub front : List Tok
   pub at : Tok
@@ -62,7 +60,7 @@ IsFaultOf ts (Syntax p) = IsSyntaxFault ts p
 IsFaultOf ts (TooDeep p) = IsDepthFault ts p
 IsFaultOf ts NoMemory = ⊥
 
--- the place of the first of these tokens, counted from a number, with which those behind a nest of others nest too deep
+-- The number of the first of these tokens at which the nesting is deeper than 64. They are counted from k, and n is the nesting before them.
 abbrev pub deep_from : ℕ → Nest → List Tok → Option ℕ
 deep_from k n [] = None
 deep_from k n (t ∷ ts) = if nat_lt 64 (depth (nest_step n (symbol_at t))) then Some k else deep_from (k + 1) (nest_step n (symbol_at t)) ts

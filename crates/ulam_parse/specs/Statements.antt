@@ -7,8 +7,8 @@ use Rattle.ulam_parse.specs.declared.symbol.Symbol.TheVariants as s
 use Rattle.ulam_parse.specs.declared.symbol.Assigning.{Assigning}
 use Rattle.ulam_parse.specs.declared.symbol.Assigning.TheVariants.{Assigns, Counts, Nothing}
 use Rattle.ulam_parse.specs.declared.symbol.Starting.{Starting}
-use Rattle.ulam_parse.specs.declared.symbol.Starting.TheVariants as t
-use Rattle.ulam_parse.specs.Tokens.{Text, Tok, tok}
+use Rattle.ulam_parse.specs.declared.symbol.Starting.TheVariants as starts
+use Rattle.ulam_parse.specs.Tokens.{Tok, tok, place_at}
 use Rattle.ulam_parse.specs.Tables.{assigning_of, starting_of}
 use Rattle.ulam_parse.specs.Reading.{stops, tired, Read, Reader, ◌>>=◌, sees, sees_second, expect, type_ref, path, all_args, expr}
 
@@ -60,17 +60,18 @@ declare us = do
   e ← start w.1
   Ok (declares ty.0 w.0 e.0, e.1)
 
-abbrev pub assign_by : Left → Assigning → Symbol → Text → Place → Reader Statement
-assign_by l (Assigns op) k w p ts = expr 1 ts >>= λ (e : Expr × List Tok). Ok (assigns l op e.0, e.1)
-assign_by l (Counts up) k w p ts = Ok (counts l up, ts)
-assign_by l Nothing k w p ts = Err (stops (length (tok k w p ∷ ts)))
+-- what is done to a place, by what the next token does
+abbrev pub assign_by : Left → Assigning → Tok → Reader Statement
+assign_by l (Assigns op) t us = expr 1 us >>= λ (e : Expr × List Tok). Ok (assigns l op e.0, e.1)
+assign_by l (Counts up) t us = Ok (counts l up, us)
+assign_by l Nothing t us = Err (stops (length (t ∷ us)))
 
 -- what is done to a place
 unfoldable pub assign : Left → Reader Statement
 assign l [] = Err (stops 0)
-assign l (tok k w p ∷ ts) = assign_by l (assigning_of k) k w p ts
+assign l (tok k w p ∷ us) = assign_by l (assigning_of k) (tok k w p) us
 
--- a call, or what is done to a place, behind its path
+-- a call, or what is done to a place, after its path
 unfoldable pub after_names : Path → Reader Statement
 after_names x us =
     if sees s.OpenParen us then (do
@@ -81,7 +82,7 @@ after_names x us =
       i ← index_in us
       assign (record { path = x; index = i.0 }) i.1)
 
--- a place behind its `++` or `--`
+-- a place after its `++` or `--`
 unfoldable pub counted : Symbol → Bool → Reader Statement
 counted k up us = do
   a ← expect k us
@@ -146,7 +147,7 @@ while_head us = do
   b ← expect s.CloseParen e.1
   Ok (e.0, b.1)
 
--- `;` behind a statement
+-- `;` after a statement
 unfoldable pub ended : Statement → Reader Statement
 ended x us = do
   a ← expect s.Semi us
@@ -210,31 +211,36 @@ module _ (statement : Reader Statement) where
     b ← body (length us + 1) us
     Ok (block b.0, b.1)
 
-  abbrev pub statement_by : Starting → Symbol → Text → Place → Reader Statement
-  statement_by t.Block k w p ts = block_rest ts
-  statement_by t.Empty k w p ts = Ok (empty, ts)
-  statement_by t.If k w p ts = if_rest ts
-  statement_by t.While k w p ts = while_rest ts
-  statement_by t.For k w p ts = for_rest ts
-  statement_by t.Return k w p ts = return_rest p ts
-  statement_by t.Break k w p ts = ended (breaks p) ts
-  statement_by t.Continue k w p ts = ended (continues p) ts
-  statement_by t.Declare k w p ts = declared (tok k w p ∷ ts)
-  statement_by t.Simple k w p ts = done (tok k w p ∷ ts)
-  statement_by t.Nothing k w p ts = Err (stops (length (tok k w p ∷ ts)))
+  -- a statement, by what its first token starts
+  abbrev pub statement_by : Starting → Tok → Reader Statement
+  statement_by starts.Block t us = block_rest us
+  statement_by starts.Empty t us = Ok (empty, us)
+  statement_by starts.If t us = if_rest us
+  statement_by starts.While t us = while_rest us
+  statement_by starts.For t us = for_rest us
+  statement_by starts.Return t us = return_rest (place_at t) us
+  statement_by starts.Break t us = ended (breaks (place_at t)) us
+  statement_by starts.Continue t us = ended (continues (place_at t)) us
+  statement_by starts.Declare t us = declared (t ∷ us)
+  statement_by starts.Simple t us = done (t ∷ us)
+  statement_by starts.Nothing t us = Err (stops (length (t ∷ us)))
 
   unfoldable pub any_statement : Reader Statement
   any_statement [] = Err (stops 0)
-  any_statement (tok k w p ∷ ts) = statement_by (starting_of k) k w p ts
+  any_statement (tok k w p ∷ us) = statement_by (starting_of k) (tok k w p) us
 
 -- statements nested no deeper than the first number
 unfoldable pub statement_in : ℕ → Reader Statement
 statement_in zero us = Err tired
 statement_in (suc k) us = any_statement (statement_in k) us
 
+-- statements nested no deeper than the number, and the closing brace
+abbrev pub body_within : ℕ → Reader Body
+body_within n us = body (statement_in n) (length us + 1) us
+
 -- the body of a function
 abbrev pub whole_body : Reader Body
-whole_body us = body (statement_in (length us + 1)) (length us + 1) us
+whole_body us = body_within (length us + 1) us
 
 -- statements and more of them
 abbrev pub join_body : Body → Body → Body
@@ -244,3 +250,7 @@ join_body (then_so x a) b = then_so x (join_body a b)
 -- what was read before, and then the rest
 abbrev pub with_body : Body → Read Body → Read Body
 with_body front read = read >>= λ (x : Body × List Tok). Ok (join_body front x.0, x.1)
+
+-- statements that were read before, and then those that the reader reads
+abbrev pub behind_body : Body → Reader Body → Reader Body
+behind_body front reader us = with_body front (reader us)

@@ -19,7 +19,13 @@ Text = List ℕ
 pub data Tok : Type 0 where
   tok : Symbol → Text → Place → Tok
 
--- the symbol of a text, by a table. No rule uses the one of a text that is not there
+abbrev pub place_at : Tok → Place
+place_at (tok k w p) = p
+
+abbrev pub text_in : Tok → Text
+text_in (tok k w p) = w
+
+-- The symbol that a table has for a text. A text that it lacks gets `:`, which no rule of the grammar uses.
 abbrev pub symbol_in : List (Text × Symbol) → Text → Symbol
 symbol_in [] text = s.Colon
 symbol_in (entry ∷ entries) text = if bytes_eq entry.0 text then entry.1 else symbol_in entries text

@@ -6,7 +6,7 @@ use Rattle.ulam_parse.specs.Tokens.{Tok}
 use Rattle.ulam_parse.specs.Files.{whole_file}
 use Rattle.ulam_parse.specs.Sentences.{place_at}
 
--- these items
+-- reading all the tokens gives these items
 abbrev pub ReadsTo : List Tok → List Item → Type 0
 ReadsTo us xs = (rest : List Tok) × (whole_file us ≡ Ok (xs, rest))
 

@@ -1,8 +1,9 @@
 //! Expressions.
-ghost use Rattle.std.specs.Prelude.{◌≡◌, ◌+◌, ◌<◌, ◌≤◌, ◌^◌, length, map, IfOk};
-ghost use Rattle.ulam_tree.specs.RawViews.{word_of, path_of, expr_of, args_list};
+ghost use Rattle.std.specs.Prelude.{◌<◌};
+ghost use Rattle.ulam_tree.specs.RawViews.{path_of, expr_of};
 ghost use Rattle.ulam_parse.specs.Reading as spec;
-ghost use Rattle.ulam_parse.specs.Views.{Gives, from};
+ghost use Rattle.ulam_parse.specs.Reading.{behind_args, later_args};
+ghost use Rattle.ulam_parse.specs.Views.{Reads, Finds, args_in};
 
 use crate::halt::Halt;
 use crate::symbol::{Infix, Opening, Symbol};
@@ -18,7 +19,7 @@ use ulam_tree::{Expr, Path};
 /// A new atom of a class.
 #[tactic(auto, unfolding(crate::specs::Reading::new_atom))]
 fn new_atom(alloc: Global, tape: &Tape, at: usize) -> Result<(Expr, usize), Halt>
-    ensures { Gives (λ x. (expr_of x.0, from tape.now x.1)) result (spec.new_atom (from tape.now at)) }
+    ensures { Reads expr_of spec.new_atom tape.now at result }
 {
     let (mark, next) = expect(Symbol::TypeName, tape, at)?;
     let (_, next) = expect(Symbol::Dot, tape, next)?;
@@ -30,7 +31,7 @@ fn new_atom(alloc: Global, tape: &Tape, at: usize) -> Result<(Expr, usize), Halt
 /// An expression whose operators bind at least as tightly as `least`.
 pub fn expr(alloc: Global, least: u8, tape: &Tape, at: usize) -> Result<(Expr, usize), Halt>
     requires { least < 13 }
-    ensures { Gives (λ x. (expr_of x.0, from tape.now x.1)) result (spec.expr least (from tape.now at)) }
+    ensures { Reads expr_of (spec.expr least) tape.now at result }
 {
     expr_in(alloc, count_from(tape, at) + 1, least, tape, at)
 }
@@ -46,7 +47,7 @@ fn expr_in(
     at: usize,
 ) -> Result<(Expr, usize), Halt>
     requires { least < 13 }
-    ensures { Gives (λ x. (expr_of x.0, from tape.now x.1)) result (spec.expr_in steps least (from tape.now at)) }
+    ensures { Reads expr_of (spec.expr_in steps least) tape.now at result }
 {
     if steps == 0 {
         return Err(Halt::OutOfSteps);
@@ -65,7 +66,7 @@ fn climb(
     at: usize,
 ) -> Result<(Expr, usize), Halt>
     requires { least < 13 }
-    ensures { Gives (λ x. (expr_of x.0, from tape.now x.1)) result (spec.climb (spec.expr_in steps) least (from tape.now at)) }
+    ensures { Reads expr_of (spec.climb (spec.expr_in steps) least) tape.now at result }
 {
     let (first, next) = operand(alloc, steps, tape, at)?;
     more(alloc, steps, least, first, tape, next)
@@ -75,7 +76,7 @@ fn climb(
 #[cycle(expr)]
 #[tactic(auto, unfolding(crate::specs::Reading::operand), using(crate::proofs::Primaries::counts_only))]
 fn operand(alloc: Global, steps: usize, tape: &Tape, at: usize) -> Result<(Expr, usize), Halt>
-    ensures { Gives (λ x. (expr_of x.0, from tape.now x.1)) result (spec.operand (spec.expr_in steps) (from tape.now at)) }
+    ensures { Reads expr_of (spec.operand (spec.expr_in steps)) tape.now at result }
 {
     let Some(first) = mark_at(tape, at) else {
         return Err(Halt::Left(0));
@@ -114,7 +115,7 @@ fn in_parens(
     tape: &Tape,
     at: usize,
 ) -> Result<(Expr, usize), Halt>
-    ensures { Gives (λ x. (expr_of x.0, from tape.now x.1)) result (spec.in_parens (spec.expr_in steps) place (from tape.now at)) }
+    ensures { Reads expr_of (spec.in_parens (spec.expr_in steps) place) tape.now at result }
 {
     if sees(Symbol::TypeName, tape, at) && !sees_second(Symbol::Dot, tape, at) {
         let (to, next) = type_ref(alloc, tape, at)?;
@@ -140,7 +141,7 @@ fn more(
     at: usize,
 ) -> Result<(Expr, usize), Halt>
     requires { least < 13 }
-    ensures { Gives (λ x. (expr_of x.0, from tape.now x.1)) result (spec.more (spec.expr_in steps) (length (from tape.now at) + 1) least 12 (expr_of first) (from tape.now at)) }
+    ensures { Reads expr_of (spec.after_operand (spec.expr_in steps) least (expr_of first)) tape.now at result }
 {
     let mut value = first;
     let mut top: u8 = 12;
@@ -181,7 +182,7 @@ fn more(
 /// A path, a call or an element of an array.
 #[cycle(expr)]
 fn named(alloc: Global, steps: usize, tape: &Tape, at: usize) -> Result<(Expr, usize), Halt>
-    ensures { Gives (λ x. (expr_of x.0, from tape.now x.1)) result (spec.named (spec.expr_in steps) (from tape.now at)) }
+    ensures { Reads expr_of (spec.named (spec.expr_in steps)) tape.now at result }
 {
     let (path, next) = path(alloc, tape, at)?;
     after_path(alloc, steps, path, tape, next)
@@ -197,7 +198,7 @@ fn after_path(
     tape: &Tape,
     at: usize,
 ) -> Result<(Expr, usize), Halt>
-    ensures { Gives (λ x. (expr_of x.0, from tape.now x.1)) result (spec.after_path (spec.expr_in steps) (path_of path) (from tape.now at)) }
+    ensures { Reads expr_of (spec.after_path (spec.expr_in steps) (path_of path)) tape.now at result }
 {
     if sees(Symbol::OpenParen, tape, at) {
         let (_, next) = expect(Symbol::OpenParen, tape, at)?;
@@ -218,7 +219,7 @@ fn after_path(
 #[cycle(expr)]
 #[tactic(auto, unfolding(crate::specs::Reading::args))]
 fn args_in(alloc: Global, steps: usize, tape: &Tape, at: usize) -> Result<(Vec<Expr>, usize), Halt>
-    ensures { Gives (λ x. (args_list x.0.items, from tape.now x.1)) result (spec.args (spec.expr_in steps) (from tape.now at)) }
+    ensures { Reads args_in (spec.args (spec.expr_in steps)) tape.now at result }
 {
     let mut found = Vec::new(alloc);
     if sees(Symbol::CloseParen, tape, at) {
@@ -240,7 +241,7 @@ fn more_args(
     tape: &Tape,
     at: usize,
 ) -> Result<usize, Halt>
-    ensures { Gives (λ x. (args_list found.new.items, from tape.now x)) result (spec.with_args (args_list found.old.items) (spec.more_args (spec.expr_in steps) (length (from tape.now at) + 1) (from tape.now at))) }
+    ensures { Finds (args_in found.new) (behind_args (args_in found.old) (later_args steps)) tape.now at result }
 {
     let mut next = at;
     'turns: for _turn in 0..count_from(tape, at) + 1 {
@@ -258,7 +259,7 @@ fn more_args(
 
 /// Arguments and the closing bracket.
 pub fn args(alloc: Global, tape: &Tape, at: usize) -> Result<(Vec<Expr>, usize), Halt>
-    ensures { Gives (λ x. (args_list x.0.items, from tape.now x.1)) result (spec.all_args (from tape.now at)) }
+    ensures { Reads args_in spec.all_args tape.now at result }
 {
     args_in(alloc, count_from(tape, at) + 1, tape, at)
 }

@@ -5,10 +5,10 @@ use thiserror::Error;
 /// Why tokens have no tree, or nest too deeply.
 #[derive(Clone, Copy, Debug, PartialEq, Eq, Error)]
 pub enum ParseFault {
-    /// The first token at which no sentence of the grammar can continue.
+    /// The place of the first token that no file has after the tokens before it.
     #[error("syntax")]
     Syntax(Place),
-    /// The first token at which the nesting is deeper than 64.
+    /// The place of the first token at which the nesting is deeper than 64.
     #[error("nested too deep")]
     TooDeep(Place),
     /// Memory ran out.

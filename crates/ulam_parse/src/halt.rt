@@ -8,8 +8,8 @@ use std::alloc::{AllocError, AllocFailed};
 pub enum Halt {
     /// Memory ran out.
     NoMemory,
-    /// No tree continues the tokens read so far with the next one. The number counts the tokens
-    /// that were left, from that one to the end.
+    /// No tree has the next token after those read so far, or the tokens ended before a tree did.
+    /// The number is how many tokens were left, from the next one to the last.
     Left(usize),
     /// The limit on steps was reached. It is more than the number of tokens, so this never happens.
     OutOfSteps,

@@ -1,10 +1,10 @@
 //! The heads of `if`, `while` and `for`.
-ghost use Rattle.std.specs.Prelude.{◌≡◌, option_map, Some, IfOk};
+ghost use Rattle.std.specs.Prelude.{◌≡◌, IfOk};
 ghost use Rattle.ulam_tree.specs.Raw as t;
 ghost use Rattle.ulam_tree.specs.RawViews.{expr_of, cond_of, statement_of, part_alone};
 ghost use Rattle.ulam_parse.specs.Heads.{head_of};
 ghost use Rattle.ulam_parse.specs.Statements as spec;
-ghost use Rattle.ulam_parse.specs.Views.{Gives, from};
+ghost use Rattle.ulam_parse.specs.Views.{Reads};
 
 use crate::expr::expr;
 use crate::for_parts::ForParts;
@@ -30,7 +30,7 @@ fn first_part(
     tape: &Tape,
     at: usize,
 ) -> Result<(Option<Box<Statement>>, usize), Halt>
-    ensures { Gives (λ x. (part_alone x.0, from tape.now x.1)) result (spec.first_part (from tape.now at)) }
+    ensures { Reads part_alone spec.first_part tape.now at result }
 {
     if sees(Symbol::Semi, tape, at) {
         Ok((None, at))
@@ -46,7 +46,7 @@ fn first_part(
 /// What a `for` does after each turn.
 #[tactic(auto, unfolding(crate::specs::Statements::step_part))]
 fn step_part(alloc: Global, tape: &Tape, at: usize) -> Result<(Option<Box<Statement>>, usize), Halt>
-    ensures { Gives (λ x. (part_alone x.0, from tape.now x.1)) result (spec.step_part (from tape.now at)) }
+    ensures { Reads part_alone spec.step_part tape.now at result }
 {
     if sees(Symbol::CloseParen, tape, at) {
         return Ok((None, at));
@@ -58,7 +58,7 @@ fn step_part(alloc: Global, tape: &Tape, at: usize) -> Result<(Option<Box<Statem
 /// The parts of a `for` that are in its brackets.
 #[tactic(auto, unfolding(crate::specs::Statements::for_head))]
 pub fn for_head(alloc: Global, tape: &Tape, at: usize) -> Result<(ForParts, usize), Halt>
-    ensures { Gives (λ x. (head_of x.0, from tape.now x.1)) result (spec.for_head (from tape.now at)) }
+    ensures { Reads head_of spec.for_head tape.now at result }
 {
     let (_, next) = expect(Symbol::OpenParen, tape, at)?;
     let (first, next) = first_part(alloc, tape, next)?;
@@ -73,7 +73,7 @@ pub fn for_head(alloc: Global, tape: &Tape, at: usize) -> Result<(ForParts, usiz
 /// A condition in brackets.
 #[tactic(auto, unfolding(crate::specs::Statements::if_head))]
 pub fn if_head(alloc: Global, tape: &Tape, at: usize) -> Result<(Cond, usize), Halt>
-    ensures { Gives (λ x. (cond_of x.0, from tape.now x.1)) result (spec.if_head (from tape.now at)) }
+    ensures { Reads cond_of spec.if_head tape.now at result }
 {
     let (_, next) = expect(Symbol::OpenParen, tape, at)?;
     let (cond, next) = cond(alloc, tape, next)?;
@@ -84,7 +84,7 @@ pub fn if_head(alloc: Global, tape: &Tape, at: usize) -> Result<(Cond, usize), H
 /// An expression in brackets.
 #[tactic(auto, unfolding(crate::specs::Statements::while_head))]
 pub fn while_head(alloc: Global, tape: &Tape, at: usize) -> Result<(Expr, usize), Halt>
-    ensures { Gives (λ x. (expr_of x.0, from tape.now x.1)) result (spec.while_head (from tape.now at)) }
+    ensures { Reads expr_of spec.while_head tape.now at result }
 {
     let (_, next) = expect(Symbol::OpenParen, tape, at)?;
     let (cond, next) = expr(alloc, 1, tape, next)?;

@@ -1,8 +1,8 @@
 //! Members, classes and files.
-ghost use Rattle.std.specs.Prelude.{◌≡◌, ◌+◌, length, map, option_map, IfOk};
-ghost use Rattle.ulam_tree.specs.RawViews.{word_of, width_of, type_of, param_of, const_of, member_of, class_of, item_of, body_list};
+ghost use Rattle.ulam_tree.specs.RawViews.{class_of, item_of};
 ghost use Rattle.ulam_parse.specs.Files as spec;
-ghost use Rattle.ulam_parse.specs.Views.{Gives, from};
+ghost use Rattle.ulam_parse.specs.Reading.{behind};
+ghost use Rattle.ulam_parse.specs.Views.{Reads, Finds, members_in, items_in};
 
 use crate::halt::Halt;
 use crate::member::member;
@@ -14,7 +14,7 @@ use ulam_tree::{Class, Item, Member};
 
 /// Members, appended to those read so far, and the closing brace.
 fn members(alloc: Global, found: &mut Vec<Member>, tape: &Tape, at: usize) -> Result<usize, Halt>
-    ensures { Gives (λ x. (map member_of found.new.items, from tape.now x)) result (spec.with_front (map member_of found.old.items) (spec.members (length (from tape.now at) + 1) (from tape.now at))) }
+    ensures { Finds (members_in found.new) (behind (members_in found.old) spec.all_members) tape.now at result }
 {
     let mut next = at;
     'turns: for _turn in 0..count_from(tape, at) + 1 {
@@ -38,7 +38,7 @@ fn class_in(
     tape: &Tape,
     at: usize,
 ) -> Result<(Class, usize), Halt>
-    ensures { Gives (λ x. (class_of x.0, from tape.now x.1)) result (spec.class_in keyword quark (from tape.now at)) }
+    ensures { Reads class_of (spec.class_in keyword quark) tape.now at result }
 {
     let (_, next) = expect(keyword, tape, at)?;
     let (name, next) = expect(Symbol::TypeName, tape, next)?;
@@ -59,7 +59,7 @@ fn class_in(
 /// The version of the language.
 #[tactic(auto, unfolding(crate::specs::Files::version_in))]
 fn version_in(tape: &Tape, at: usize) -> Result<(Item, usize), Halt>
-    ensures { Gives (λ x. (item_of x.0, from tape.now x.1)) result (spec.version_in (from tape.now at)) }
+    ensures { Reads item_of spec.version_in tape.now at result }
 {
     let (_, next) = expect(Symbol::Ulam, tape, at)?;
     let (mark, next) = expect(Symbol::Number, tape, next)?;
@@ -70,7 +70,7 @@ fn version_in(tape: &Tape, at: usize) -> Result<(Item, usize), Halt>
 /// A `use`.
 #[tactic(auto, unfolding(crate::specs::Files::use_in))]
 fn use_in(alloc: Global, tape: &Tape, at: usize) -> Result<(Item, usize), Halt>
-    ensures { Gives (λ x. (item_of x.0, from tape.now x.1)) result (spec.use_in (from tape.now at)) }
+    ensures { Reads item_of spec.use_in tape.now at result }
 {
     let (_, next) = expect(Symbol::Use, tape, at)?;
     let (name, next) = expect(Symbol::TypeName, tape, next)?;
@@ -81,7 +81,7 @@ fn use_in(alloc: Global, tape: &Tape, at: usize) -> Result<(Item, usize), Halt>
 
 /// An element or a quark.
 fn class(alloc: Global, tape: &Tape, at: usize) -> Result<(Class, usize), Halt>
-    ensures { Gives (λ x. (class_of x.0, from tape.now x.1)) result (spec.any_class (from tape.now at)) }
+    ensures { Reads class_of spec.any_class tape.now at result }
 {
     if sees(Symbol::Quark, tape, at) {
         class_in(alloc, Symbol::Quark, true, tape, at)
@@ -93,7 +93,7 @@ fn class(alloc: Global, tape: &Tape, at: usize) -> Result<(Class, usize), Halt>
 /// An item.
 #[tactic(auto, unfolding(crate::specs::Files::item, crate::specs::Files::class_item))]
 fn item(alloc: Global, tape: &Tape, at: usize) -> Result<(Item, usize), Halt>
-    ensures { Gives (λ x. (item_of x.0, from tape.now x.1)) result (spec.item (from tape.now at)) }
+    ensures { Reads item_of spec.item tape.now at result }
 {
     if sees(Symbol::Ulam, tape, at) {
         return version_in(tape, at);
@@ -107,7 +107,7 @@ fn item(alloc: Global, tape: &Tape, at: usize) -> Result<(Item, usize), Halt>
 
 /// Items, appended to those read so far, up to `End`.
 pub fn items(alloc: Global, found: &mut Vec<Item>, tape: &Tape, at: usize) -> Result<usize, Halt>
-    ensures { Gives (λ x. (map item_of found.new.items, from tape.now x)) result (spec.with_front (map item_of found.old.items) (spec.items (length (from tape.now at) + 1) (from tape.now at))) }
+    ensures { Finds (items_in found.new) (behind (items_in found.old) spec.whole_file) tape.now at result }
 {
     let mut next = at;
     'turns: for _turn in 0..count_from(tape, at) + 1 {

@@ -28,7 +28,7 @@ fn whole(alloc: Global, tape: &Tape) -> Result<Vec<Item>, Halt>
     Ok(found)
 }
 
-/// The place of the token with `left` tokens from it to the end.
+/// The place of the first of the last `left` tokens.
 fn place_of_left(tape: &Tape, left: usize) -> Place
     requires some { 0 < left }
     requires few { left ≤ length (from tape.now 0) }
@@ -41,7 +41,7 @@ fn place_of_left(tape: &Tape, left: usize) -> Place
     }
 }
 
-/// A number of tokens from the start.
+/// The first `len` tokens.
 fn front<'t>(tape: &Tape<'t>, len: usize) -> Tape<'t>
     requires { len ≤ length tape.now.marks.now }
     ensures split { from tape.now 0 ≡ from result 0 ++ from tape.now len }
@@ -68,7 +68,7 @@ fn of_shallow(alloc: Global, tape: &Tape) -> Result<Vec<Item>, ParseFault>
     }
 }
 
-/// The fault of tokens that first nest too deeply at a place.
+/// The fault of tokens that first nest too deeply at an index.
 fn of_deep(alloc: Global, tape: &Tape, at: usize) -> ParseFault
     requires ends { EndsOnce (from tape.now 0) }
     requires deep { deep_from 0 outside (from tape.now 0) ≡ Some at }

@@ -1,7 +1,7 @@
 //! The grammar of element files: tokens as their one tree, or their first fault.
 //!
-//! Which tokens are which tree is a relation with a case for each form (`specs/Grammar.antt`), apart
-//! from how they are read.
+//! Which tokens are which tree is a relation with a case for each form (`specs/Grammar.antt`). How
+//! tokens are read is no part of it.
 #![tactic(auto)]
 
 mod deep;

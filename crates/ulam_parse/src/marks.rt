@@ -1,4 +1,4 @@
-//! The tokens of a text as the grammar's.
+//! The tokens of a text as the grammar sees them.
 ghost use Rattle.std.specs.Prelude.{◌≡◌, ◌≤◌, map, slice_range, length, IfOk};
 ghost use Rattle.std.specs.List.{All};
 ghost use Rattle.ulam_parse.specs.Marks.{tok_at, IsMark};
@@ -125,7 +125,7 @@ fn symbol_of(kind: TokenKind, text: &[u8]) -> Symbol
     }
 }
 
-/// The value of a number. It is not used for other tokens.
+/// What the text of a number says. Other tokens get 0, which nothing uses.
 #[tactic(auto, using(crate::proofs::Orders::numeral_is))]
 fn numeral_in(of: TokenKind, text: &[u8]) -> Numeral
     requires { of ≡ kind.Number → IsNumberToken text.now }
@@ -141,7 +141,7 @@ fn numeral_in(of: TokenKind, text: &[u8]) -> Numeral
     }
 }
 
-/// A token as the grammar's.
+/// A token as the grammar sees it.
 #[tactic(auto, using(crate::proofs::Orders::number_only))]
 fn mark_of(bytes: &[u8], token: &Token) -> Mark
     requires { IsSound bytes.now token.now }
@@ -162,7 +162,7 @@ fn mark_of(bytes: &[u8], token: &Token) -> Mark
     }
 }
 
-/// The tokens of a text as the grammar's.
+/// The tokens of a text as the grammar sees them.
 pub fn marks_of(alloc: Global, bytes: &[u8], tokens: &[Token]) -> Result<Vec<Mark>, Halt>
     requires { All (λ t. IsSound bytes.now t) tokens.now }
     ensures same { IfOk result (λ v. map (λ m. tok_at bytes.now m) v.items ≡ spec.toks bytes.now tokens.now) }

@@ -1,8 +1,9 @@
 //! Members.
-ghost use Rattle.std.specs.Prelude.{◌≡◌, ◌+◌, length, map, option_map, IfOk};
-ghost use Rattle.ulam_tree.specs.RawViews.{word_of, width_of, type_of, param_of, const_of, member_of, body_list};
+ghost use Rattle.std.specs.Prelude.{option_map};
+ghost use Rattle.ulam_tree.specs.RawViews.{word_of, width_of, type_of, param_of, const_of, member_of};
 ghost use Rattle.ulam_parse.specs.Files as spec;
-ghost use Rattle.ulam_parse.specs.Views.{Gives, from};
+ghost use Rattle.ulam_parse.specs.Reading.{behind};
+ghost use Rattle.ulam_parse.specs.Views.{Reads, Finds, params_in};
 
 use crate::halt::Halt;
 use crate::statement::whole_body;
@@ -16,7 +17,7 @@ use ulam_tree::{Const, Member, Param, TypeRef, Width, Word};
 /// A parameter.
 #[tactic(auto, unfolding(crate::specs::Files::param))]
 fn param(alloc: Global, tape: &Tape, at: usize) -> Result<(Param, usize), Halt>
-    ensures { Gives (λ x. (param_of x.0, from tape.now x.1)) result (spec.param (from tape.now at)) }
+    ensures { Reads param_of spec.param tape.now at result }
 {
     let (of, next) = type_ref(alloc, tape, at)?;
     let (name, next) = expect(Symbol::Name, tape, next)?;
@@ -26,7 +27,7 @@ fn param(alloc: Global, tape: &Tape, at: usize) -> Result<(Param, usize), Halt>
 
 /// Further parameters, appended to `found`, and the closing bracket.
 fn more_params(alloc: Global, found: &mut Vec<Param>, tape: &Tape, at: usize) -> Result<usize, Halt>
-    ensures { Gives (λ x. (map param_of found.new.items, from tape.now x)) result (spec.with_front (map param_of found.old.items) (spec.more_params (length (from tape.now at) + 1) (from tape.now at))) }
+    ensures { Finds (params_in found.new) (behind (params_in found.old) spec.later_params) tape.now at result }
 {
     let mut next = at;
     'turns: for _turn in 0..count_from(tape, at) + 1 {
@@ -45,7 +46,7 @@ fn more_params(alloc: Global, found: &mut Vec<Param>, tape: &Tape, at: usize) ->
 /// Parameters and the closing bracket.
 #[tactic(auto, unfolding(crate::specs::Files::params))]
 fn params(alloc: Global, tape: &Tape, at: usize) -> Result<(Vec<Param>, usize), Halt>
-    ensures { Gives (λ x. (map param_of x.0.items, from tape.now x.1)) result (spec.params (from tape.now at)) }
+    ensures { Reads params_in spec.params tape.now at result }
 {
     let mut found = Vec::new(alloc);
     if sees(Symbol::CloseParen, tape, at) {
@@ -61,7 +62,7 @@ fn params(alloc: Global, tape: &Tape, at: usize) -> Result<(Vec<Param>, usize), 
 /// A number after its sign, if it has one.
 #[tactic(auto, unfolding(crate::specs::Files::const_in))]
 fn const_in(minus: bool, tape: &Tape, at: usize) -> Result<(Const, usize), Halt>
-    ensures { Gives (λ x. (const_of x.0, from tape.now x.1)) result (spec.const_in minus (from tape.now at)) }
+    ensures { Reads const_of (spec.const_in minus) tape.now at result }
 {
     let (mark, next) = expect(Symbol::Number, tape, at)?;
     Ok((
@@ -77,7 +78,7 @@ fn const_in(minus: bool, tape: &Tape, at: usize) -> Result<(Const, usize), Halt>
 /// `true` or `false`.
 #[tactic(auto, unfolding(crate::specs::Files::truth_in))]
 fn truth_in(symbol: Symbol, value: bool, tape: &Tape, at: usize) -> Result<(Const, usize), Halt>
-    ensures { Gives (λ x. (const_of x.0, from tape.now x.1)) result (spec.truth_in symbol value (from tape.now at)) }
+    ensures { Reads const_of (spec.truth_in symbol value) tape.now at result }
 {
     let (_, next) = expect(symbol, tape, at)?;
     Ok((Const::Truth { value }, next))
@@ -86,7 +87,7 @@ fn truth_in(symbol: Symbol, value: bool, tape: &Tape, at: usize) -> Result<(Cons
 /// The value that a constant is declared with.
 #[tactic(auto, unfolding(crate::specs::Files::const_value))]
 fn const_value(alloc: Global, tape: &Tape, at: usize) -> Result<(Const, usize), Halt>
-    ensures { Gives (λ x. (const_of x.0, from tape.now x.1)) result (spec.const_value (from tape.now at)) }
+    ensures { Reads const_of spec.const_value tape.now at result }
 {
     if sees(Symbol::Minus, tape, at) {
         let (_, next) = expect(Symbol::Minus, tape, at)?;
@@ -107,7 +108,7 @@ fn const_value(alloc: Global, tape: &Tape, at: usize) -> Result<(Const, usize), 
 /// A typedef.
 #[tactic(auto, unfolding(crate::specs::Files::typedef_in))]
 fn typedef_in(alloc: Global, tape: &Tape, at: usize) -> Result<(Member, usize), Halt>
-    ensures { Gives (λ x. (member_of x.0, from tape.now x.1)) result (spec.typedef_in (from tape.now at)) }
+    ensures { Reads member_of spec.typedef_in tape.now at result }
 {
     let (_, next) = expect(Symbol::Typedef, tape, at)?;
     let (of, next) = type_ref(alloc, tape, next)?;
@@ -120,7 +121,7 @@ fn typedef_in(alloc: Global, tape: &Tape, at: usize) -> Result<(Member, usize), 
 /// A constant.
 #[tactic(auto, unfolding(crate::specs::Files::constant_in))]
 fn constant_in(alloc: Global, tape: &Tape, at: usize) -> Result<(Member, usize), Halt>
-    ensures { Gives (λ x. (member_of x.0, from tape.now x.1)) result (spec.constant_in (from tape.now at)) }
+    ensures { Reads member_of spec.constant_in tape.now at result }
 {
     let (_, next) = expect(Symbol::Constant, tape, at)?;
     let (of, next) = type_ref(alloc, tape, next)?;
@@ -135,7 +136,7 @@ fn constant_in(alloc: Global, tape: &Tape, at: usize) -> Result<(Member, usize),
 /// The length of an array in square brackets, if there is one.
 #[tactic(auto, unfolding(crate::specs::Files::length_in))]
 fn length_in(alloc: Global, tape: &Tape, at: usize) -> Result<(Option<Width>, usize), Halt>
-    ensures { Gives (λ x. (option_map width_of x.0, from tape.now x.1)) result (spec.length_in (from tape.now at)) }
+    ensures { Reads (option_map width_of) spec.length_in tape.now at result }
 {
     if sees(Symbol::OpenBracket, tape, at) {
         enclosed(alloc, Symbol::OpenBracket, Symbol::CloseBracket, tape, at)
@@ -153,7 +154,7 @@ fn function_rest(
     tape: &Tape,
     at: usize,
 ) -> Result<(Member, usize), Halt>
-    ensures { Gives (λ x. (member_of x.0, from tape.now x.1)) result (spec.function_rest (type_of of) (word_of word) (from tape.now at)) }
+    ensures { Reads member_of (spec.function_rest (type_of of) (word_of word)) tape.now at result }
 {
     let (_, next) = expect(Symbol::OpenParen, tape, at)?;
     let (params, next) = params(alloc, tape, next)?;
@@ -179,7 +180,7 @@ fn field_rest(
     tape: &Tape,
     at: usize,
 ) -> Result<(Member, usize), Halt>
-    ensures { Gives (λ x. (member_of x.0, from tape.now x.1)) result (spec.field_rest (type_of of) (word_of word) (from tape.now at)) }
+    ensures { Reads member_of (spec.field_rest (type_of of) (word_of word)) tape.now at result }
 {
     let (length, next) = length_in(alloc, tape, at)?;
     let (_, next) = expect(Symbol::Semi, tape, next)?;
@@ -189,7 +190,7 @@ fn field_rest(
 /// A data member or a function.
 #[tactic(auto, unfolding(crate::specs::Files::named_member))]
 fn named_member(alloc: Global, tape: &Tape, at: usize) -> Result<(Member, usize), Halt>
-    ensures { Gives (λ x. (member_of x.0, from tape.now x.1)) result (spec.named_member (from tape.now at)) }
+    ensures { Reads member_of spec.named_member tape.now at result }
 {
     let (of, next) = type_ref(alloc, tape, at)?;
     let (name, next) = expect(Symbol::Name, tape, next)?;
@@ -204,7 +205,7 @@ fn named_member(alloc: Global, tape: &Tape, at: usize) -> Result<(Member, usize)
 /// A member.
 #[tactic(auto, unfolding(crate::specs::Files::member))]
 pub fn member(alloc: Global, tape: &Tape, at: usize) -> Result<(Member, usize), Halt>
-    ensures { Gives (λ x. (member_of x.0, from tape.now x.1)) result (spec.member (from tape.now at)) }
+    ensures { Reads member_of spec.member tape.now at result }
 {
     if sees(Symbol::Typedef, tape, at) {
         typedef_in(alloc, tape, at)

@@ -1,5 +1,5 @@
 //! How deep tokens nest.
-ghost use Rattle.std.specs.Prelude.{◌≡◌, ◌+◌, ◌≤◌, ◌∷◌, IfOk};
+ghost use Rattle.std.specs.Prelude.{◌≡◌, ◌+◌, ◌≤◌, IfOk};
 ghost use Rattle.ulam_parse.specs.Nests.{nest_of};
 ghost use Rattle.ulam_parse.specs.Nesting as spec;
 
@@ -29,7 +29,7 @@ pub fn depth(nest: &Nest) -> u32
     nest.inner + nest.around
 }
 
-/// The innermost count, according to the last symbol.
+/// The innermost count at a symbol, according to the one before it.
 fn count_at(inner: u32, last: Symbol, symbol: Symbol) -> u32
     requires { inner ≤ 64 }
     ensures count { result ≡ spec.count_at inner last symbol }
@@ -48,7 +48,7 @@ fn count_at(inner: u32, last: Symbol, symbol: Symbol) -> u32
 #[tactic(auto, using(crate::proofs::Nests::reverse_push))]
 fn opened(nest: Nest, count: u32, last: Symbol) -> Result<Nest, NoMemory>
     requires few { nest.around + count ≤ 66 }
-    ensures { IfOk result (λ n. nest_of n ≡ record { inner = 0; outer = count ∷ (nest_of nest).outer; last = last }) }
+    ensures { IfOk result (λ n. nest_of n ≡ spec.opened (nest_of nest).outer count last) }
 {
     let Nest {
         inner: _,

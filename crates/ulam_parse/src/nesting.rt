@@ -4,8 +4,8 @@ ghost use Rattle.ulam_parse.specs.Nesting.{weighs};
 
 use crate::symbol::Symbol;
 
-/// The count in the innermost bracket, those around it with the outermost first, what these weigh,
-/// and the symbol that came last.
+/// The count in the innermost bracket, the counts around it with the outermost first, their sum
+/// with 1 for each, and the last symbol.
 #[derive(Drop)]
 pub struct Nest {
     pub inner: u32,

@@ -1,12 +1,8 @@
 //! Conditions, declarations, assignments, counts and calls, and the heads of statements.
-ghost use Rattle.std.specs.Prelude.{◌≡◌, ◌+◌, length, option_map, Some, IfOk};
-ghost use Rattle.std.specs.Global.{Box};
-ghost use Rattle.std.specs.Box.{box_value};
-ghost use Rattle.ulam_tree.specs.Raw as t;
-ghost use Rattle.ulam_tree.specs.declared.raw.Expr.{Expr};
-ghost use Rattle.ulam_tree.specs.RawViews.{word_of, type_of, path_of, expr_of, args_list, cond_of, left_of, statement_of, part_alone};
+ghost use Rattle.std.specs.Prelude.{option_map};
+ghost use Rattle.ulam_tree.specs.RawViews.{path_of, expr_of, boxed_expr, cond_of, left_of, statement_of};
 ghost use Rattle.ulam_parse.specs.Statements as spec;
-ghost use Rattle.ulam_parse.specs.Views.{Gives, from};
+ghost use Rattle.ulam_parse.specs.Views.{Reads};
 
 use crate::expr::{args, expr};
 use crate::halt::Halt;
@@ -21,7 +17,7 @@ use ulam_tree::{Call, Cond, Expr, Left, Path, Statement};
 /// What an `if` asks.
 #[tactic(auto, unfolding(crate::specs::Statements::cond))]
 pub fn cond(alloc: Global, tape: &Tape, at: usize) -> Result<(Cond, usize), Halt>
-    ensures { Gives (λ x. (cond_of x.0, from tape.now x.1)) result (spec.cond (from tape.now at)) }
+    ensures { Reads cond_of spec.cond tape.now at result }
 {
     if sees(Symbol::Name, tape, at) && sees_second(Symbol::As, tape, at) {
         let (name, next) = expect(Symbol::Name, tape, at)?;
@@ -45,7 +41,7 @@ pub fn cond(alloc: Global, tape: &Tape, at: usize) -> Result<(Cond, usize), Halt
 /// The index in square brackets after a path, if there is one.
 #[tactic(auto, unfolding(crate::specs::Statements::index_in))]
 fn index_in(alloc: Global, tape: &Tape, at: usize) -> Result<(Option<Box<Expr>>, usize), Halt>
-    ensures { Gives (λ x. (option_map (λ (b : Box Expr). expr_of (box_value b)) x.0, from tape.now x.1)) result (spec.index_in (from tape.now at)) }
+    ensures { Reads (option_map boxed_expr) spec.index_in tape.now at result }
 {
     if sees(Symbol::OpenBracket, tape, at) {
         let (_, next) = expect(Symbol::OpenBracket, tape, at)?;
@@ -61,7 +57,7 @@ fn index_in(alloc: Global, tape: &Tape, at: usize) -> Result<(Option<Box<Expr>>,
 /// What is assigned to.
 #[tactic(auto, unfolding(crate::specs::Statements::left))]
 fn left_side(alloc: Global, tape: &Tape, at: usize) -> Result<(Left, usize), Halt>
-    ensures { Gives (λ x. (left_of x.0, from tape.now x.1)) result (spec.left (from tape.now at)) }
+    ensures { Reads left_of spec.left tape.now at result }
 {
     let (path, next) = path(alloc, tape, at)?;
     let (index, next) = index_in(alloc, tape, next)?;
@@ -71,7 +67,7 @@ fn left_side(alloc: Global, tape: &Tape, at: usize) -> Result<(Left, usize), Hal
 /// An expression, unless `;` comes first.
 #[tactic(auto, unfolding(crate::specs::Statements::maybe))]
 pub fn maybe(alloc: Global, tape: &Tape, at: usize) -> Result<(Option<Expr>, usize), Halt>
-    ensures { Gives (λ x. (option_map expr_of x.0, from tape.now x.1)) result (spec.maybe (from tape.now at)) }
+    ensures { Reads (option_map expr_of) spec.maybe tape.now at result }
 {
     if sees(Symbol::Semi, tape, at) {
         return Ok((None, at));
@@ -83,7 +79,7 @@ pub fn maybe(alloc: Global, tape: &Tape, at: usize) -> Result<(Option<Expr>, usi
 /// The initial value of a local, if there is one.
 #[tactic(auto, unfolding(crate::specs::Statements::start))]
 fn start(alloc: Global, tape: &Tape, at: usize) -> Result<(Option<Expr>, usize), Halt>
-    ensures { Gives (λ x. (option_map expr_of x.0, from tape.now x.1)) result (spec.start (from tape.now at)) }
+    ensures { Reads (option_map expr_of) spec.start tape.now at result }
 {
     if sees(Symbol::Set, tape, at) {
         let (_, next) = expect(Symbol::Set, tape, at)?;
@@ -97,7 +93,7 @@ fn start(alloc: Global, tape: &Tape, at: usize) -> Result<(Option<Expr>, usize),
 /// The declaration of a local.
 #[tactic(auto, unfolding(crate::specs::Statements::declare))]
 pub fn declare(alloc: Global, tape: &Tape, at: usize) -> Result<(Statement, usize), Halt>
-    ensures { Gives (λ x. (statement_of x.0, from tape.now x.1)) result (spec.declare (from tape.now at)) }
+    ensures { Reads statement_of spec.declare tape.now at result }
 {
     let (of, next) = type_ref(alloc, tape, at)?;
     let (name, next) = expect(Symbol::Name, tape, next)?;
@@ -109,7 +105,7 @@ pub fn declare(alloc: Global, tape: &Tape, at: usize) -> Result<(Statement, usiz
 /// The rest of an assignment or a count, after its left side.
 #[tactic(auto, unfolding(crate::specs::Statements::assign))]
 fn assign(alloc: Global, left: Left, tape: &Tape, at: usize) -> Result<(Statement, usize), Halt>
-    ensures { Gives (λ x. (statement_of x.0, from tape.now x.1)) result (spec.assign (left_of left) (from tape.now at)) }
+    ensures { Reads statement_of (spec.assign (left_of left)) tape.now at result }
 {
     let Some(sign) = mark_at(tape, at) else {
         return Err(Halt::Left(0));
@@ -132,7 +128,7 @@ fn after_names(
     tape: &Tape,
     at: usize,
 ) -> Result<(Statement, usize), Halt>
-    ensures { Gives (λ x. (statement_of x.0, from tape.now x.1)) result (spec.after_names (path_of path) (from tape.now at)) }
+    ensures { Reads statement_of (spec.after_names (path_of path)) tape.now at result }
 {
     if sees(Symbol::OpenParen, tape, at) {
         let (_, next) = expect(Symbol::OpenParen, tape, at)?;
@@ -154,7 +150,7 @@ fn counted(
     tape: &Tape,
     at: usize,
 ) -> Result<(Statement, usize), Halt>
-    ensures { Gives (λ x. (statement_of x.0, from tape.now x.1)) result (spec.counted sign up (from tape.now at)) }
+    ensures { Reads statement_of (spec.counted sign up) tape.now at result }
 {
     let (_, next) = expect(sign, tape, at)?;
     let (left, next) = left_side(alloc, tape, next)?;
@@ -164,7 +160,7 @@ fn counted(
 /// An assignment, a count or a call.
 #[tactic(auto, unfolding(crate::specs::Statements::simple))]
 pub fn simple(alloc: Global, tape: &Tape, at: usize) -> Result<(Statement, usize), Halt>
-    ensures { Gives (λ x. (statement_of x.0, from tape.now x.1)) result (spec.simple (from tape.now at)) }
+    ensures { Reads statement_of spec.simple tape.now at result }
 {
     if sees(Symbol::PlusPlus, tape, at) {
         counted(alloc, Symbol::PlusPlus, true, tape, at)

@@ -1,8 +1,8 @@
 //! Statements.
-ghost use Rattle.std.specs.Prelude.{◌≡◌, ◌+◌, ◌<◌, length};
-ghost use Rattle.ulam_tree.specs.RawViews.{statement_of, part_alone, body_list};
+ghost use Rattle.ulam_tree.specs.RawViews.{statement_of, part_alone};
 ghost use Rattle.ulam_parse.specs.Statements as spec;
-ghost use Rattle.ulam_parse.specs.Views.{Gives, from};
+ghost use Rattle.ulam_parse.specs.Statements.{behind_body, body_within};
+ghost use Rattle.ulam_parse.specs.Views.{Reads, Finds, body_in};
 
 use crate::for_parts::ForParts;
 use crate::halt::Halt;
@@ -19,7 +19,7 @@ use ulam_tree::{Statement, raw_build as build};
 /// The `;` after a statement.
 #[tactic(auto, unfolding(crate::specs::Statements::ended))]
 fn ended(statement: Statement, tape: &Tape, at: usize) -> Result<(Statement, usize), Halt>
-    ensures { Gives (λ x. (statement_of x.0, from tape.now x.1)) result (spec.ended (statement_of statement) (from tape.now at)) }
+    ensures { Reads statement_of (spec.ended (statement_of statement)) tape.now at result }
 {
     let (_, next) = expect(Symbol::Semi, tape, at)?;
     Ok((statement, next))
@@ -33,7 +33,7 @@ fn return_rest(
     tape: &Tape,
     at: usize,
 ) -> Result<(Statement, usize), Halt>
-    ensures { Gives (λ x. (statement_of x.0, from tape.now x.1)) result (spec.return_rest place (from tape.now at)) }
+    ensures { Reads statement_of (spec.return_rest place) tape.now at result }
 {
     let (value, next) = maybe(alloc, tape, at)?;
     ended(Statement::Return { place, value }, tape, next)
@@ -41,7 +41,7 @@ fn return_rest(
 
 /// A declaration and its `;`.
 fn declared(alloc: Global, tape: &Tape, at: usize) -> Result<(Statement, usize), Halt>
-    ensures { Gives (λ x. (statement_of x.0, from tape.now x.1)) result (spec.declared (from tape.now at)) }
+    ensures { Reads statement_of spec.declared tape.now at result }
 {
     let (statement, next) = declare(alloc, tape, at)?;
     ended(statement, tape, next)
@@ -49,7 +49,7 @@ fn declared(alloc: Global, tape: &Tape, at: usize) -> Result<(Statement, usize),
 
 /// An assignment, a count or a call, and its `;`.
 fn done(alloc: Global, tape: &Tape, at: usize) -> Result<(Statement, usize), Halt>
-    ensures { Gives (λ x. (statement_of x.0, from tape.now x.1)) result (spec.done (from tape.now at)) }
+    ensures { Reads statement_of spec.done tape.now at result }
 {
     let (statement, next) = simple(alloc, tape, at)?;
     ended(statement, tape, next)
@@ -64,7 +64,7 @@ fn statement_in(
     tape: &Tape,
     at: usize,
 ) -> Result<(Statement, usize), Halt>
-    ensures { Gives (λ x. (statement_of x.0, from tape.now x.1)) result (spec.statement_in steps (from tape.now at)) }
+    ensures { Reads statement_of (spec.statement_in steps) tape.now at result }
 {
     if steps == 0 {
         return Err(Halt::OutOfSteps);
@@ -81,7 +81,7 @@ fn any_statement(
     tape: &Tape,
     at: usize,
 ) -> Result<(Statement, usize), Halt>
-    ensures { Gives (λ x. (statement_of x.0, from tape.now x.1)) result (spec.any_statement (spec.statement_in steps) (from tape.now at)) }
+    ensures { Reads statement_of (spec.any_statement (spec.statement_in steps)) tape.now at result }
 {
     let Some(first) = mark_at(tape, at) else {
         return Err(Halt::Left(0));
@@ -111,7 +111,7 @@ fn block_rest(
     tape: &Tape,
     at: usize,
 ) -> Result<(Statement, usize), Halt>
-    ensures { Gives (λ x. (statement_of x.0, from tape.now x.1)) result (spec.block_rest (spec.statement_in steps) (from tape.now at)) }
+    ensures { Reads statement_of (spec.block_rest (spec.statement_in steps)) tape.now at result }
 {
     let mut body = Vec::new(alloc);
     let next = body_in(alloc, steps, &mut body, tape, at)?;
@@ -122,7 +122,7 @@ fn block_rest(
 #[cycle(statement)]
 #[tactic(auto, unfolding(crate::specs::Statements::if_rest))]
 fn if_rest(alloc: Global, steps: usize, tape: &Tape, at: usize) -> Result<(Statement, usize), Halt>
-    ensures { Gives (λ x. (statement_of x.0, from tape.now x.1)) result (spec.if_rest (spec.statement_in steps) (from tape.now at)) }
+    ensures { Reads statement_of (spec.if_rest (spec.statement_in steps)) tape.now at result }
 {
     let (cond, next) = if_head(alloc, tape, at)?;
     let (yes, next) = statement_in(alloc, steps, tape, next)?;
@@ -140,7 +140,7 @@ fn else_part(
     tape: &Tape,
     at: usize,
 ) -> Result<(Option<Box<Statement>>, usize), Halt>
-    ensures { Gives (λ x. (part_alone x.0, from tape.now x.1)) result (spec.else_part (spec.statement_in steps) (from tape.now at)) }
+    ensures { Reads part_alone (spec.else_part (spec.statement_in steps)) tape.now at result }
 {
     if sees(Symbol::Else, tape, at) {
         let (_, next) = expect(Symbol::Else, tape, at)?;
@@ -160,7 +160,7 @@ fn while_rest(
     tape: &Tape,
     at: usize,
 ) -> Result<(Statement, usize), Halt>
-    ensures { Gives (λ x. (statement_of x.0, from tape.now x.1)) result (spec.while_rest (spec.statement_in steps) (from tape.now at)) }
+    ensures { Reads statement_of (spec.while_rest (spec.statement_in steps)) tape.now at result }
 {
     let (cond, next) = while_head(alloc, tape, at)?;
     let (body, next) = statement_in(alloc, steps, tape, next)?;
@@ -172,7 +172,7 @@ fn while_rest(
 #[cycle(statement)]
 #[tactic(auto, unfolding(crate::specs::Statements::for_rest))]
 fn for_rest(alloc: Global, steps: usize, tape: &Tape, at: usize) -> Result<(Statement, usize), Halt>
-    ensures { Gives (λ x. (statement_of x.0, from tape.now x.1)) result (spec.for_rest (spec.statement_in steps) (from tape.now at)) }
+    ensures { Reads statement_of (spec.for_rest (spec.statement_in steps)) tape.now at result }
 {
     let (head, next) = for_head(alloc, tape, at)?;
     let (body, next) = statement_in(alloc, steps, tape, next)?;
@@ -190,7 +190,7 @@ fn body_in(
     tape: &Tape,
     at: usize,
 ) -> Result<usize, Halt>
-    ensures { Gives (λ x. (body_list found.new.items, from tape.now x)) result (spec.with_body (body_list found.old.items) (spec.body (spec.statement_in steps) (length (from tape.now at) + 1) (from tape.now at))) }
+    ensures { Finds (body_in found.new) (behind_body (body_in found.old) (body_within steps)) tape.now at result }
 {
     let mut next = at;
     'turns: for _turn in 0..count_from(tape, at) + 1 {
@@ -207,7 +207,7 @@ fn body_in(
 
 /// The statements of a function and the closing brace.
 pub fn whole_body(alloc: Global, tape: &Tape, at: usize) -> Result<(Vec<Statement>, usize), Halt>
-    ensures { Gives (λ x. (body_list x.0.items, from tape.now x.1)) result (spec.whole_body (from tape.now at)) }
+    ensures { Reads body_in spec.whole_body tape.now at result }
 {
     let mut body = Vec::new(alloc);
     let next = body_in(alloc, count_from(tape, at) + 1, &mut body, tape, at)?;

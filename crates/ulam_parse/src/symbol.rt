@@ -142,13 +142,13 @@ pub enum Symbol {
 /// What a symbol does with the expression before it.
 #[derive(Clone, Copy, Debug, PartialEq, Eq)]
 pub enum Infix {
-    /// It joins it with another.
+    /// It joins it with another expression.
     Joins(PairOp),
-    /// It asks for its class.
+    /// It tests its class, as `is` does.
     Tests,
     /// It continues a path.
     Opens,
-    /// It ends it.
+    /// It ends the expression.
     Ends,
 }
 
@@ -169,16 +169,16 @@ pub enum Opening {
     Names,
     /// A path from `self`.
     Owns,
-    /// None.
+    /// No operand.
     Nothing,
 }
 
 /// What a symbol does with a place on its left.
 #[derive(Clone, Copy, Debug, PartialEq, Eq)]
 pub enum Assigning {
-    /// It assigns to it, by an operator or without.
+    /// It assigns to it, directly or with an operator.
     Assigns(Option<PairOp>),
-    /// It counts it up or down. It may also be on the right.
+    /// It counts it up or down. Such a symbol may also come before the place.
     Counts(bool),
     /// Neither.
     Nothing,
@@ -191,17 +191,17 @@ pub enum Starting {
     Block,
     /// The empty statement, by `;`.
     Empty,
-    /// A choice.
+    /// An `if`.
     If,
-    /// A loop with a test.
+    /// A `while`.
     While,
-    /// A loop with a start, a test and a step.
+    /// A `for`.
     For,
-    /// The end of a function.
+    /// A `return`.
     Return,
-    /// The end of a loop.
+    /// A `break`.
     Break,
-    /// The end of a turn of a loop.
+    /// A `continue`.
     Continue,
     /// A declaration of a local.
     Declare,
@@ -220,7 +220,7 @@ pub enum Weight {
     Clears,
     /// It opens a bracket.
     Opens,
-    /// It closes one.
+    /// It closes a bracket.
     Closes,
     /// Nothing.
     Nothing,

@@ -1,11 +1,9 @@
 //! Taking one token.
-ghost use Rattle.std.specs.Prelude.{◌≡◌, ◌∷◌, [], ◌+◌, ◌<◌, ◌≤◌, ◌^◌, length, IfOk, IfSome, IfNone};
+ghost use Rattle.std.specs.Prelude.{◌≡◌, ◌∷◌, [], ◌+◌, ◌<◌, ◌^◌, length, IfOk, IfSome, IfNone};
 ghost use Rattle.ulam_tree.specs.RawViews.{word_of};
 ghost use Rattle.ulam_parse.specs.Reading as spec;
-ghost use Rattle.ulam_parse.specs.Tokens.{value_of, unsigned_of};
-ghost use Rattle.ulam_parse.specs.Marks.{text_at, tok_at, word_at, IsMark};
-ghost use Rattle.ulam_parse.specs.Views.{Gives, from};
-ghost use Rattle.ulam_parse.specs.declared.symbol.Symbol.TheVariants.{Number};
+ghost use Rattle.ulam_parse.specs.Marks.{tok_at, word_at, IsMark};
+ghost use Rattle.ulam_parse.specs.Views.{Reads, from};
 
 use crate::halt::Halt;
 use crate::mark::Mark;
@@ -67,7 +65,7 @@ pub fn sees_second(symbol: Symbol, tape: &Tape, at: usize) -> bool
 
 /// A token with this symbol.
 pub fn expect(symbol: Symbol, tape: &Tape, at: usize) -> Result<(Mark, usize), Halt>
-    ensures gives { Gives (λ x. (word_at tape.now.bytes.now x.0, from tape.now x.1)) result (spec.expect symbol (from tape.now at)) }
+    ensures gives { Reads (word_at tape.now.bytes.now) (spec.expect symbol) tape.now at result }
     ensures symbol { IfOk result (λ x. x.0.symbol ≡ symbol) }
     ensures sound { IfOk result (λ x. IsMark tape.now.bytes.now x.0) }
 {

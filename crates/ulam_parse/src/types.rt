@@ -1,8 +1,8 @@
 //! Widths, types and paths.
-ghost use Rattle.std.specs.Prelude.{◌≡◌, ◌+◌, length, map, option_map, IfOk};
-ghost use Rattle.ulam_tree.specs.RawViews.{word_of, width_of, type_of, path_of};
+ghost use Rattle.std.specs.Prelude.{option_map};
+ghost use Rattle.ulam_tree.specs.RawViews.{width_of, type_of, path_of};
 ghost use Rattle.ulam_parse.specs.Reading as spec;
-ghost use Rattle.ulam_parse.specs.Views.{Gives, from};
+ghost use Rattle.ulam_parse.specs.Views.{Reads, Finds, words_in};
 
 use crate::halt::Halt;
 use crate::symbol::Symbol;
@@ -14,7 +14,7 @@ use ulam_tree::{Path, TypeRef, Width, Word};
 /// A width.
 #[tactic(auto, unfolding(crate::specs::Reading::width))]
 pub fn width(alloc: Global, tape: &Tape, at: usize) -> Result<(Width, usize), Halt>
-    ensures { Gives (λ x. (width_of x.0, from tape.now x.1)) result (spec.width (from tape.now at)) }
+    ensures { Reads width_of spec.width tape.now at result }
 {
     if sees(Symbol::Number, tape, at) {
         let (mark, next) = expect(Symbol::Number, tape, at)?;
@@ -35,7 +35,7 @@ pub fn enclosed(
     tape: &Tape,
     at: usize,
 ) -> Result<(Option<Width>, usize), Halt>
-    ensures { Gives (λ x. (option_map width_of x.0, from tape.now x.1)) result (spec.enclosed before behind (from tape.now at)) }
+    ensures { Reads (option_map width_of) (spec.enclosed before behind) tape.now at result }
 {
     let (_, next) = expect(before, tape, at)?;
     let (width, next) = width(alloc, tape, next)?;
@@ -46,7 +46,7 @@ pub fn enclosed(
 /// The width in brackets after the name of a type, if there is one.
 #[tactic(auto, unfolding(crate::specs::Reading::size))]
 fn size(alloc: Global, tape: &Tape, at: usize) -> Result<(Option<Width>, usize), Halt>
-    ensures { Gives (λ x. (option_map width_of x.0, from tape.now x.1)) result (spec.size (from tape.now at)) }
+    ensures { Reads (option_map width_of) spec.size tape.now at result }
 {
     if sees(Symbol::OpenParen, tape, at) {
         enclosed(alloc, Symbol::OpenParen, Symbol::CloseParen, tape, at)
@@ -58,7 +58,7 @@ fn size(alloc: Global, tape: &Tape, at: usize) -> Result<(Option<Width>, usize),
 /// A type.
 #[tactic(auto, unfolding(crate::specs::Reading::type_ref))]
 pub fn type_ref(alloc: Global, tape: &Tape, at: usize) -> Result<(TypeRef, usize), Halt>
-    ensures { Gives (λ x. (type_of x.0, from tape.now x.1)) result (spec.type_ref (from tape.now at)) }
+    ensures { Reads type_of spec.type_ref tape.now at result }
 {
     let (mark, next) = expect(Symbol::TypeName, tape, at)?;
     let (width, next) = size(alloc, tape, next)?;
@@ -68,7 +68,7 @@ pub fn type_ref(alloc: Global, tape: &Tape, at: usize) -> Result<(TypeRef, usize
 
 /// The names after dots, appended to those read so far.
 fn words_after(alloc: Global, words: &mut Vec<Word>, tape: &Tape, at: usize) -> Result<usize, Halt>
-    ensures { Gives (λ x. (map word_of words.new.items, from tape.now x)) result (spec.with_words (map word_of words.old.items) (spec.words_after (from tape.now at))) }
+    ensures { Finds (words_in words.new) (spec.behind (words_in words.old) spec.words_after) tape.now at result }
 {
     let mut next = at;
     'turns: for _turn in 0..count_from(tape, at) + 1 {
@@ -86,7 +86,7 @@ fn words_after(alloc: Global, words: &mut Vec<Word>, tape: &Tape, at: usize) -> 
 /// A path.
 #[tactic(auto, unfolding(crate::specs::Reading::path))]
 pub fn path(alloc: Global, tape: &Tape, at: usize) -> Result<(Path, usize), Halt>
-    ensures { Gives (λ x. (path_of x.0, from tape.now x.1)) result (spec.path (from tape.now at)) }
+    ensures { Reads path_of spec.path tape.now at result }
 {
     let mut words = Vec::new(alloc);
     if sees(Symbol::Own, tape, at) {

@@ -38,7 +38,7 @@ means_at Q x a h e = subst (Means Q) e h
 pub ok_same : {F A : Type 0} {x y : A} (r : Found F A) → r ≡ Ok x → r ≡ Ok y → x ≡ y
 ok_same r p q = cc
 
--- Lists that are found behind a front
+-- Lists that are found after a front
 
 pub front_on : {F A : Type 0} (front : List A) (a : A) (y : Found F (List A)) → with_front front (y >>= λ (more : List A). Ok (a ∷ more)) ≡ with_front (front ++ (a ∷ [])) y
 front_on front a (Ok more) = ap Ok (sym (append_assoc front (a ∷ []) more))

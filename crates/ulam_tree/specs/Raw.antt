@@ -14,7 +14,7 @@ pub data Width : Type 0 where
   wide : ℕ → Width
   wide_as : Word → Width
 
--- a type by its name, and the width in brackets behind it
+-- a type by its name, and the width in brackets after it
 pub record TypeRef : Type 0 where
   pub word : Word
   pub width : Option Width

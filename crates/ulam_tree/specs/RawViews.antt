@@ -61,12 +61,16 @@ abbrev pub args_list : List Expr → t.Args
 args_list [] = t.no_args
 args_list (e ∷ es) = t.arg (expr_of e) (args_list es)
 
+-- the expression in a box
+abbrev pub boxed_expr : Box Expr → t.Expr
+boxed_expr = λ b. expr_of (box_value b)
+
 abbrev pub cond_of : Cond → t.Cond
 cond_of (c.Seen w d) = t.seen (word_of w) (word_of d)
 cond_of (c.Test e) = t.test (expr_of e)
 
 abbrev pub left_of : Left → t.Left
-left_of l = record { path = path_of l.path; index = option_map (λ (b : Box Expr). expr_of (box_value b)) l.index }
+left_of l = record { path = path_of l.path; index = option_map boxed_expr l.index }
 
 abbrev mutual
   pub statement_of : Statement → t.Statement
@@ -90,6 +94,10 @@ abbrev mutual
   pub body_of : {m : _} → Row_of-Statement m → t.Body
   body_of end_of-Statement = t.no_more
   body_of (more_of-Statement x rest) = t.then_so (statement_of x) (body_of rest)
+
+-- the statement in a box
+abbrev pub boxed_statement : Box Statement → t.Statement
+boxed_statement = λ b. statement_of (box_value b)
 
 abbrev pub body_list : List Statement → t.Body
 body_list [] = t.no_more
@@ -123,4 +131,4 @@ file_of f = map item_of f.items.items
 -- an optional statement that stands alone
 abbrev pub part_alone : Option (Box Statement) → t.Part
 part_alone None = t.no_part
-part_alone (Some b) = t.part (statement_of (box_value b))
+part_alone (Some b) = t.part (boxed_statement b)

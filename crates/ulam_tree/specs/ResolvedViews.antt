@@ -44,12 +44,16 @@ abbrev pub resolved_args : List Expr → t.Args
 resolved_args [] = t.no_args
 resolved_args (e ∷ es) = t.arg (resolved_expr e) (resolved_args es)
 
+-- the expression in a box
+abbrev pub boxed_expr : Box Expr → t.Expr
+boxed_expr = λ b. resolved_expr (box_value b)
+
 abbrev pub resolved_cond : Cond → t.Cond
 resolved_cond (c.Seen w d) = t.seen (resolved_path w) d
 resolved_cond (c.Test e) = t.test (resolved_expr e)
 
 abbrev pub resolved_left : Left → t.Left
-resolved_left l = record { path = resolved_path l.path; index = option_map (λ (b : Box Expr). resolved_expr (box_value b)) l.index }
+resolved_left l = record { path = resolved_path l.path; index = option_map boxed_expr l.index }
 
 abbrev mutual
   pub resolved_statement : Statement → t.Statement
@@ -74,6 +78,10 @@ abbrev mutual
   body_row end_of-Statement = t.no_more
   body_row (more_of-Statement x rest) = t.then_so (resolved_statement x) (body_row rest)
 
+-- the statement in a box
+abbrev pub boxed_statement : Box Statement → t.Statement
+boxed_statement = λ b. resolved_statement (box_value b)
+
 abbrev pub resolved_body : List Statement → t.Body
 resolved_body [] = t.no_more
 resolved_body (x ∷ xs) = t.then_so (resolved_statement x) (resolved_body xs)
@@ -81,7 +89,7 @@ resolved_body (x ∷ xs) = t.then_so (resolved_statement x) (resolved_body xs)
 -- an optional statement that stands alone
 abbrev pub resolved_part : Option (Box Statement) → t.Part
 resolved_part None = t.no_part
-resolved_part (Some b) = t.part (resolved_statement (box_value b))
+resolved_part (Some b) = t.part (boxed_statement b)
 
 abbrev pub resolved_param : Param → t.Param
 resolved_param p = record { of = p.of; word = word_of p.word }

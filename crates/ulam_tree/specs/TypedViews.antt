@@ -47,12 +47,16 @@ abbrev pub typed_args : List Expr → t.Args
 typed_args [] = t.no_args
 typed_args (e ∷ es) = t.arg (typed_expr e) (typed_args es)
 
+-- the expression in a box
+abbrev pub boxed_expr : Box Expr → t.Expr
+boxed_expr = λ b. typed_expr (box_value b)
+
 abbrev pub typed_cond : Cond → t.Cond
 typed_cond (c.Seen w d) = t.seen (resolved_path w) d
 typed_cond (c.Test e) = t.test (typed_expr e)
 
 abbrev pub typed_left : Left → t.Left
-typed_left l = record { path = resolved_path l.path; index = option_map (λ (b : Box Expr). typed_expr (box_value b)) l.index }
+typed_left l = record { path = resolved_path l.path; index = option_map boxed_expr l.index }
 
 -- a call as a statement
 abbrev pub typed_does : Call → t.Statement
@@ -81,6 +85,10 @@ abbrev mutual
   body_row end_of-Statement = t.no_more
   body_row (more_of-Statement x rest) = t.then_so (typed_statement x) (body_row rest)
 
+-- the statement in a box
+abbrev pub boxed_statement : Box Statement → t.Statement
+boxed_statement = λ b. typed_statement (box_value b)
+
 abbrev pub typed_body : List Statement → t.Body
 typed_body [] = t.no_more
 typed_body (x ∷ xs) = t.then_so (typed_statement x) (typed_body xs)
@@ -88,7 +96,7 @@ typed_body (x ∷ xs) = t.then_so (typed_statement x) (typed_body xs)
 -- an optional statement that stands alone
 abbrev pub typed_part : Option (Box Statement) → t.Part
 typed_part None = t.no_part
-typed_part (Some b) = t.part (typed_statement (box_value b))
+typed_part (Some b) = t.part (boxed_statement b)
 
 abbrev pub typed_member : Member → t.Member
 typed_member (m.Field ty w l) = t.field ty (word_of w) l

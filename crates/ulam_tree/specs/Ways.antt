@@ -11,7 +11,7 @@ abbrev pub class_number : Ty → List ℕ
 class_number (y.Class k) = k ∷ []
 class_number ty = []
 
--- From a class one comes to another through data members, at most so many. `parts` has the classes that the data members of each class have as types.
+-- Whether a class leads to another through at most this many data members. `parts` gives the classes that the data members of a class have as types.
 unfoldable pub leads : (ℕ → List ℕ) → ℕ → ℕ → ℕ → Bool
 leads parts zero k goal = false
 leads parts (suc m) k goal = list_any (λ j. nat_eq j goal || leads parts m j goal) (parts k)
@@ -24,6 +24,6 @@ member_parts (function n w ps b) = []
 abbrev pub class_parts : List Class → ℕ → List ℕ
 class_parts cs k = option_map_or (λ (c : Class). flat_map member_parts c.members) (slice_get cs k) []
 
--- No class contains itself, through however many data members.
+-- No class contains itself through any number of data members.
 abbrev pub NoneContainsItself : List Class → Type 0
 NoneContainsItself cs = (m k : ℕ) → leads (class_parts cs) m k k ≡ false

@@ -24,7 +24,7 @@ pub struct File {
 pub enum Item {
     /// `ulam`, the version of the language that the file is written in.
     Ulam { number: u32 },
-    /// `use`, a class of another file that this one speaks of.
+    /// `use`, which names a class of another file.
     Uses { word: Word },
     /// An element or a quark.
     Class { class: Class },

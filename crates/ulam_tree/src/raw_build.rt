@@ -1,8 +1,7 @@
 //! Trees of the parser from their parts, as the plain trees that contracts see.
 ghost use Rattle.std.specs.Prelude.{◌≡◌, option_map};
-ghost use Rattle.std.specs.Box.{box_value};
 ghost use Rattle.ulam_tree.specs.Raw as tree;
-ghost use Rattle.ulam_tree.specs.RawViews.{type_of, word_of, path_of, expr_of, args_list, cond_of, statement_of, part_alone, body_list};
+ghost use Rattle.ulam_tree.specs.RawViews.{type_of, word_of, path_of, expr_of, args_list, cond_of, statement_of, part_alone, body_list, boxed_expr, boxed_statement};
 
 use crate::{Call, Cond, Expr, PairOp, Path, PrefixOp, Statement, TypeRef, Word};
 use feast_base::Place;
@@ -37,28 +36,28 @@ pub fn call(path: Path, args: Vec<Expr>) -> Expr
 
 /// An expression in brackets. The place is that of the opening bracket.
 pub fn group(inner: Box<Expr>, place: Place) -> Expr
-    ensures { expr_of result ≡ tree.group (expr_of (box_value inner)) place }
+    ensures { expr_of result ≡ tree.group (boxed_expr inner) place }
 {
     Expr::Group { inner, place }
 }
 
 /// A cast of a value to a type. The place is that of the opening bracket.
 pub fn cast(to: TypeRef, value: Box<Expr>, place: Place) -> Expr
-    ensures { expr_of result ≡ tree.cast (type_of to) (expr_of (box_value value)) place }
+    ensures { expr_of result ≡ tree.cast (type_of to) (boxed_expr value) place }
 {
     Expr::Cast { to, value, place }
 }
 
 /// An operator in front of its operand. The place is that of the operator.
 pub fn prefix(op: PrefixOp, value: Box<Expr>, place: Place) -> Expr
-    ensures { expr_of result ≡ tree.prefix op (expr_of (box_value value)) place }
+    ensures { expr_of result ≡ tree.prefix op (boxed_expr value) place }
 {
     Expr::Prefix { op, value, place }
 }
 
 /// An operator between its operands. The place is that of the operator.
 pub fn pair(op: PairOp, left: Box<Expr>, right: Box<Expr>, place: Place) -> Expr
-    ensures { expr_of result ≡ tree.pair op (expr_of (box_value left)) (expr_of (box_value right)) place }
+    ensures { expr_of result ≡ tree.pair op (boxed_expr left) (boxed_expr right) place }
 {
     Expr::Pair {
         op,
@@ -70,7 +69,7 @@ pub fn pair(op: PairOp, left: Box<Expr>, right: Box<Expr>, place: Place) -> Expr
 
 /// A test of the class of a value. The place is that of `is`.
 pub fn is(value: Box<Expr>, class: Word, place: Place) -> Expr
-    ensures { expr_of result ≡ tree.is (expr_of (box_value value)) (word_of class) place }
+    ensures { expr_of result ≡ tree.is (boxed_expr value) (word_of class) place }
 {
     Expr::Is {
         value,
@@ -90,12 +89,12 @@ pub fn block(body: Vec<Statement>) -> Statement
 /// An `if`, maybe with an `else`.
 #[tactic(auto, using(crate::proofs::RawRows::if_is))]
 pub fn if_so(cond: Cond, yes: Box<Statement>, no: Option<Box<Statement>>) -> Statement
-    ensures { statement_of result ≡ tree.if_so (cond_of cond) (statement_of (box_value yes)) (part_alone no) }
+    ensures { statement_of result ≡ tree.if_so (cond_of cond) (boxed_statement yes) (part_alone no) }
 {
     Statement::If { cond, yes, no }
 }
 
-/// A `for`, with the statement before it, its condition and its step if it has them.
+/// A `for`, with its first statement, its condition and its step where it has them.
 #[tactic(auto, using(crate::proofs::RawRows::for_is))]
 pub fn for_all(
     first: Option<Box<Statement>>,
@@ -103,7 +102,7 @@ pub fn for_all(
     step: Option<Box<Statement>>,
     body: Box<Statement>,
 ) -> Statement
-    ensures { statement_of result ≡ tree.for_all (part_alone first) (option_map expr_of cond) (part_alone step) (statement_of (box_value body)) }
+    ensures { statement_of result ≡ tree.for_all (part_alone first) (option_map expr_of cond) (part_alone step) (boxed_statement body) }
 {
     Statement::For {
         first,

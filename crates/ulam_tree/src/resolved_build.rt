@@ -1,8 +1,7 @@
 //! Resolved trees from their parts, as the plain trees that contracts see.
 ghost use Rattle.std.specs.Prelude.{◌≡◌, option_map};
-ghost use Rattle.std.specs.Box.{box_value};
 ghost use Rattle.ulam_tree.specs.Resolved as tree;
-ghost use Rattle.ulam_tree.specs.ResolvedViews.{resolved_path, resolved_expr, resolved_args, resolved_cond, resolved_statement, resolved_part, resolved_body};
+ghost use Rattle.ulam_tree.specs.ResolvedViews.{resolved_path, resolved_expr, resolved_args, resolved_cond, resolved_statement, resolved_part, resolved_body, boxed_expr, boxed_statement};
 
 use crate::resolved::{Call, Cond, Expr, Named, Path, Statement};
 use crate::{PairOp, PrefixOp};
@@ -38,28 +37,28 @@ pub fn call(path: Path, args: Vec<Expr>) -> Expr
 
 /// An expression in brackets. The place is that of the opening bracket.
 pub fn group(inner: Box<Expr>, place: Place) -> Expr
-    ensures { resolved_expr result ≡ tree.group (resolved_expr (box_value inner)) place }
+    ensures { resolved_expr result ≡ tree.group (boxed_expr inner) place }
 {
     Expr::Group { inner, place }
 }
 
 /// A cast of a value to a type. The place is that of the opening bracket.
 pub fn cast(to: Named, value: Box<Expr>, place: Place) -> Expr
-    ensures { resolved_expr result ≡ tree.cast to (resolved_expr (box_value value)) place }
+    ensures { resolved_expr result ≡ tree.cast to (boxed_expr value) place }
 {
     Expr::Cast { to, value, place }
 }
 
 /// An operator in front of its operand. The place is that of the operator.
 pub fn prefix(op: PrefixOp, value: Box<Expr>, place: Place) -> Expr
-    ensures { resolved_expr result ≡ tree.prefix op (resolved_expr (box_value value)) place }
+    ensures { resolved_expr result ≡ tree.prefix op (boxed_expr value) place }
 {
     Expr::Prefix { op, value, place }
 }
 
 /// An operator between its operands. The place is that of the operator.
 pub fn pair(op: PairOp, left: Box<Expr>, right: Box<Expr>, place: Place) -> Expr
-    ensures { resolved_expr result ≡ tree.pair op (resolved_expr (box_value left)) (resolved_expr (box_value right)) place }
+    ensures { resolved_expr result ≡ tree.pair op (boxed_expr left) (boxed_expr right) place }
 {
     Expr::Pair {
         op,
@@ -71,7 +70,7 @@ pub fn pair(op: PairOp, left: Box<Expr>, right: Box<Expr>, place: Place) -> Expr
 
 /// A test of the class of a value. The place is that of `is`.
 pub fn is(value: Box<Expr>, class: Named, place: Place) -> Expr
-    ensures { resolved_expr result ≡ tree.is (resolved_expr (box_value value)) class place }
+    ensures { resolved_expr result ≡ tree.is (boxed_expr value) class place }
 {
     Expr::Is {
         value,
@@ -91,12 +90,12 @@ pub fn block(body: Vec<Statement>) -> Statement
 /// An `if`, maybe with an `else`.
 #[tactic(auto, using(crate::proofs::ResolvedRows::resolved_if_is))]
 pub fn if_so(cond: Cond, yes: Box<Statement>, no: Option<Box<Statement>>) -> Statement
-    ensures { resolved_statement result ≡ tree.if_so (resolved_cond cond) (resolved_statement (box_value yes)) (resolved_part no) }
+    ensures { resolved_statement result ≡ tree.if_so (resolved_cond cond) (boxed_statement yes) (resolved_part no) }
 {
     Statement::If { cond, yes, no }
 }
 
-/// A `for`, with the statement before it, its condition and its step if it has them.
+/// A `for`, with its first statement, its condition and its step where it has them.
 #[tactic(auto, using(crate::proofs::ResolvedRows::resolved_for_is))]
 pub fn for_all(
     first: Option<Box<Statement>>,
@@ -104,7 +103,7 @@ pub fn for_all(
     step: Option<Box<Statement>>,
     body: Box<Statement>,
 ) -> Statement
-    ensures { resolved_statement result ≡ tree.for_all (resolved_part first) (option_map resolved_expr cond) (resolved_part step) (resolved_statement (box_value body)) }
+    ensures { resolved_statement result ≡ tree.for_all (resolved_part first) (option_map resolved_expr cond) (resolved_part step) (boxed_statement body) }
 {
     Statement::For {
         first,

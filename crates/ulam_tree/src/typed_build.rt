@@ -3,7 +3,7 @@ ghost use Rattle.std.specs.Prelude.{◌≡◌, option_map};
 ghost use Rattle.std.specs.Box.{box_value};
 ghost use Rattle.ulam_tree.specs.ResolvedViews.{resolved_path};
 ghost use Rattle.ulam_tree.specs.Typed as tree;
-ghost use Rattle.ulam_tree.specs.TypedViews.{typed_expr, typed_args, typed_cond, typed_statement, typed_body, typed_part};
+ghost use Rattle.ulam_tree.specs.TypedViews.{typed_expr, typed_args, typed_cond, typed_statement, typed_body, typed_part, boxed_expr, boxed_statement};
 
 use crate::typed::{Call, Cond, Expr, Form, Named, Path, Statement, Ty};
 use crate::{PairOp, PrefixOp};
@@ -23,7 +23,7 @@ pub fn call(path: Path, args: Vec<Expr>, ty: Ty) -> Expr
 
 /// An element of an array, of a type.
 pub fn index(path: Path, at: Box<Expr>, ty: Ty) -> Expr
-    ensures { typed_expr result ≡ tree.typed (tree.index (resolved_path path) (typed_expr (box_value at))) ty }
+    ensures { typed_expr result ≡ tree.typed (tree.index (resolved_path path) (boxed_expr at)) ty }
 {
     Expr {
         form: Form::Index { path, at },
@@ -34,7 +34,7 @@ pub fn index(path: Path, at: Box<Expr>, ty: Ty) -> Expr
 /// An expression in brackets, which has the type of what they hold. The place is that of the
 /// opening bracket.
 pub fn group(inner: Box<Expr>, place: Place) -> Expr
-    ensures { typed_expr result ≡ tree.typed (tree.group (typed_expr (box_value inner)) place) (box_value inner).ty }
+    ensures { typed_expr result ≡ tree.typed (tree.group (boxed_expr inner) place) (box_value inner).ty }
 {
     let ty = inner.ty;
     Expr {
@@ -45,7 +45,7 @@ pub fn group(inner: Box<Expr>, place: Place) -> Expr
 
 /// A cast of a value to a type. The place is that of the opening bracket.
 pub fn cast(to: Named, value: Box<Expr>, place: Place, ty: Ty) -> Expr
-    ensures { typed_expr result ≡ tree.typed (tree.cast to (typed_expr (box_value value)) place) ty }
+    ensures { typed_expr result ≡ tree.typed (tree.cast to (boxed_expr value) place) ty }
 {
     Expr {
         form: Form::Cast { to, value, place },
@@ -55,7 +55,7 @@ pub fn cast(to: Named, value: Box<Expr>, place: Place, ty: Ty) -> Expr
 
 /// An operator in front of its operand, of a type. The place is that of the operator.
 pub fn prefix(op: PrefixOp, value: Box<Expr>, place: Place, ty: Ty) -> Expr
-    ensures { typed_expr result ≡ tree.typed (tree.prefix op (typed_expr (box_value value)) place) ty }
+    ensures { typed_expr result ≡ tree.typed (tree.prefix op (boxed_expr value) place) ty }
 {
     Expr {
         form: Form::Prefix { op, value, place },
@@ -65,7 +65,7 @@ pub fn prefix(op: PrefixOp, value: Box<Expr>, place: Place, ty: Ty) -> Expr
 
 /// An operator between its operands, of a type. The place is that of the operator.
 pub fn pair(op: PairOp, left: Box<Expr>, right: Box<Expr>, place: Place, ty: Ty) -> Expr
-    ensures { typed_expr result ≡ tree.typed (tree.pair op (typed_expr (box_value left)) (typed_expr (box_value right)) place) ty }
+    ensures { typed_expr result ≡ tree.typed (tree.pair op (boxed_expr left) (boxed_expr right) place) ty }
 {
     Expr {
         form: Form::Pair {
@@ -80,7 +80,7 @@ pub fn pair(op: PairOp, left: Box<Expr>, right: Box<Expr>, place: Place, ty: Ty)
 
 /// A test of the class of a value, of a type. The place is that of `is`.
 pub fn is(value: Box<Expr>, class: Named, place: Place, ty: Ty) -> Expr
-    ensures { typed_expr result ≡ tree.typed (tree.is (typed_expr (box_value value)) class place) ty }
+    ensures { typed_expr result ≡ tree.typed (tree.is (boxed_expr value) class place) ty }
 {
     Expr {
         form: Form::Is {
@@ -102,12 +102,12 @@ pub fn block(body: Vec<Statement>) -> Statement
 /// An `if`, maybe with an `else`.
 #[tactic(auto, using(crate::proofs::TypedRows::typed_if_is))]
 pub fn if_so(cond: Cond, yes: Box<Statement>, no: Option<Box<Statement>>) -> Statement
-    ensures { typed_statement result ≡ tree.if_so (typed_cond cond) (typed_statement (box_value yes)) (typed_part no) }
+    ensures { typed_statement result ≡ tree.if_so (typed_cond cond) (boxed_statement yes) (typed_part no) }
 {
     Statement::If { cond, yes, no }
 }
 
-/// A `for`, with the statement before it, its condition and its step if it has them.
+/// A `for`, with its first statement, its condition and its step where it has them.
 #[tactic(auto, using(crate::proofs::TypedRows::typed_for_is))]
 pub fn for_all(
     first: Option<Box<Statement>>,
@@ -115,7 +115,7 @@ pub fn for_all(
     step: Option<Box<Statement>>,
     body: Box<Statement>,
 ) -> Statement
-    ensures { typed_statement result ≡ tree.for_all (typed_part first) (option_map typed_expr cond) (typed_part step) (typed_statement (box_value body)) }
+    ensures { typed_statement result ≡ tree.for_all (typed_part first) (option_map typed_expr cond) (typed_part step) (boxed_statement body) }
 {
     Statement::For {
         first,

@@ -10,7 +10,7 @@ use Rattle.ulam_types.specs.declared.scope.Want.{Want}
 use Rattle.ulam_types.specs.Faults.{Found}
 use Rattle.ulam_types.specs.Scopes.{Scope, is_value, value_type, item_type, callee, wants_of}
 use Rattle.ulam_types.specs.Rows.{beside, plain_fits, pair_type, prefix_type, cast_type, is_atom, is_species, is_index, taken_want, all_suit, is_built}
-use Rattle.ulam_types.specs.Walk.{plain, count, operands, arguments, called_by, index_by, expr, args}
+use Rattle.ulam_types.specs.Walk.{plain, count, operands, arguments_by, called_by, index_by, expr, args}
 use Rattle.ulam_types.specs.Typing.{IsCalled, IsTyped, AreTyped}
 use Rattle.ulam_tree.proofs.Means.{Means, means_then, means_found, means_must, means_at}
 use Rattle.ulam_types.proofs.Operands.{operands_fit, operands_mean}
@@ -32,7 +32,7 @@ expr_any g (r.pair op x y p) h v w = refl
 expr_any g (r.is e c p) h v w = refl
 
 pub called_fits : (g : Scope) (x : r.Path) (n : ℕ) (AreRead : List Want → t.Args → Type 0) (read : List Want → Found t.Args) (xs : t.Args) (ty : Ty) →
-    ((ws : List Want) → AreRead ws xs → read ws ≡ Ok xs) → IsCalled g x n AreRead xs ty → called_by g x n read ≡ Ok (xs, ty)
+    ((ws : List Want) → AreRead ws xs → read ws ≡ Ok xs) → IsCalled g x n AreRead (record { args = xs; ty = ty }) → called_by g x n read ≡ Ok (xs, ty)
 called_fits g x n AreRead read xs ty reading h =
     let many : nat_eq (length (wants_of h.0)) n ≡ true = eq-eqb _ _ h.2 in
     let all : read (wants_of h.0) ≡ Ok xs = reading (wants_of h.0) h.3 in
@@ -66,12 +66,12 @@ mutual
   args_fit g (w ∷ ws) (r.arg e es) xs h = rw (expr_fits g (taken_want w) e h.0 h.2, args_fit g ws es h.1 h.3) (ap Ok (sym h.4))
 
 pub called_means : (g : Scope) (x : r.Path) (n : ℕ) (AreRead : List Want → t.Args → Type 0) (read : List Want → Found t.Args) →
-    ((ws : List Want) → Means (AreRead ws) (read ws)) → Means (λ (c : t.Args × Ty). IsCalled g x n AreRead c.0 c.1) (called_by g x n read)
+    ((ws : List Want) → Means (AreRead ws) (read ws)) → Means (λ (c : t.Args × Ty). IsCalled g x n AreRead (record { args = c.0; ty = c.1 })) (called_by g x n read)
 called_means g x n AreRead read reading =
-    let Q : t.Args × Ty → Type 0 = λ c. IsCalled g x n AreRead c.0 c.1 in
+    let Q : t.Args × Ty → Type 0 = λ c. IsCalled g x n AreRead (record { args = c.0; ty = c.1 }) in
     means_found Q (callee g x.steps) _ _ (λ f hf.
     let P : t.Args → Type 0 = λ xs. (length (wants_of f) ≡ n) × AreRead (wants_of f) xs × (all_suit g (wants_of f) xs ≡ true) in
-    means_then P Q (arguments g x.place (is_built f) (wants_of f) n read) _
+    means_then P Q (arguments_by g x.place (is_built f) (wants_of f) n read) _
     (means_must P (nat_eq (length (wants_of f)) n) _ _ (λ hn.
     means_then (AreRead (wants_of f)) P (read (wants_of f)) _ (reading (wants_of f)) (λ xs ha.
     means_must P (all_suit g (wants_of f) xs) _ _ (λ hs. (eqb-true _ _ hn, ha, hs)))))

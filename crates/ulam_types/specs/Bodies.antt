@@ -1,4 +1,4 @@
--- The walk over statements.
+-- The walk over a statement: it finds the typed tree, or the first place at which no rule fits.
 use Rattle.std.specs.Prelude.{ℕ, true, false, not, List, [], ◌∷◌, slice_get, Option, Some, None, Ok}
 use Rattle.feast_base.specs.declared.place.Place.{Place}
 use Rattle.sat_math.specs.declared.Kind.TheVariants as k
@@ -14,8 +14,8 @@ use Rattle.ulam_tree.specs.Typed as t
 use Rattle.ulam_tree.specs.Found.{◌>>=◌, found, must}
 use Rattle.ulam_types.specs.Faults.{wrong_type, not_assignable, bad_as, break_outside, Found}
 use Rattle.ulam_types.specs.Scopes.{Scope, in_loop, narrowed, is_element, is_value, target_type}
-use Rattle.ulam_types.specs.Rows.{taken, plain_type, pair_type, pair_fault, is_truth, is_void, assignable}
-use Rattle.ulam_types.specs.Walk.{plain, place_of, index_by, expr, call}
+use Rattle.ulam_types.specs.Rows.{taken, plain_type, pair_found, is_truth, is_void, assignable}
+use Rattle.ulam_types.specs.Walk.{plain, place_of, expr, call, item}
 
 -- a left side, and its type
 abbrev pub left_by : Scope → r.Path → Option r.Expr → Found (t.Left × Ty)
@@ -23,28 +23,29 @@ left_by g x None = do
   ty ← found (target_type g x.steps) (not_assignable x.place)
   Ok (record { path = x; index = None }, ty)
 left_by g x (Some e) = do
-  i ← index_by g x (expr g k.Int e)
+  i ← item g x e
   Ok (record { path = x; index = Some i.0 }, i.1)
 
 abbrev pub left : Scope → r.Left → Found (t.Left × Ty)
 left g l = left_by g l.path l.index
 
--- a value for a type; the place is that of what it is given to
+-- a value for a type; the place is that of the name or the left side that it is for
 abbrev pub value_for : Scope → Place → Ty → r.Expr → Found t.Expr
 value_for g p ty e = do
   a ← expr g (taken ty) e
   _ ← must (assignable g ty (t.ty_of a)) (not_assignable p)
   Ok a
 
--- a value for a type, by `=`, or else by an operator between what is there and it
+-- the value of an assignment to a left side of this type, by `=`, or by an operator with `=`
 abbrev pub assigned : Scope → Place → Ty → Option PairOp → r.Expr → Found t.Expr
 assigned g p ty None e = value_for g p ty e
 assigned g p ty (Some op) e = do
   a ← expr g (taken ty) e
-  sum ← found (pair_type op (plain e) ty (t.ty_of a)) (pair_fault p op ty (t.ty_of a))
+  sum ← pair_found p op (plain e) ty (t.ty_of a)
   _ ← must (assignable g ty sum) (not_assignable p)
   Ok a
 
+-- a condition
 abbrev pub test : Scope → r.Expr → Found t.Expr
 test g e = do
   a ← expr g k.Int e
@@ -56,6 +57,14 @@ maybe walk None = Ok None
 maybe walk (Some e) = do
   a ← walk e
   Ok (Some a)
+
+-- a condition, if there is one
+abbrev pub maybe_test : Scope → Option r.Expr → Found (Option t.Expr)
+maybe_test g e = maybe (test g) e
+
+-- a value for a type, if there is one
+abbrev pub maybe_value : Scope → Place → Ty → Option r.Expr → Found (Option t.Expr)
+maybe_value g p ty e = maybe (value_for g p ty) e
 
 abbrev pub atom_slot_by : ℕ → Option Ty → Option ℕ
 atom_slot_by n (Some Atom) = Some n
@@ -70,7 +79,7 @@ abbrev pub is_element_type : Scope → Ty → Bool
 is_element_type g (Class c) = is_element g c
 is_element_type g ty = false
 
--- what an `if` asks, and the scope of its first branch
+-- the condition of an `if`, and the scope of its first branch
 abbrev pub cond : Scope → r.Cond → Found (t.Cond × Scope)
 cond g (r.seen x c) = do
   n ← found (atom_slot g x.steps) (bad_as x.place)
@@ -80,13 +89,14 @@ cond g (r.test e) = do
   a ← test g e
   Ok (t.test a, g)
 
--- what an `if` asks, and its first branch
+-- the condition of an `if`, and its first branch, which `first` walks over
 abbrev pub branch : Scope → r.Cond → (Scope → Found t.Statement) → Found (t.Cond × t.Statement)
 branch g c first = do
   b ← cond g c
   x ← first b.1
   Ok (b.0, x)
 
+-- the value of a `return`, which has one exactly if the function has a result
 abbrev pub result : Scope → Place → Option r.Expr → Found (Option t.Expr)
 result g p None = do
   _ ← must (is_void g.result) (wrong_type p)
@@ -113,7 +123,7 @@ unfoldable mutual
     Ok (t.while_so a b)
   statement g (r.for_all x e y z) = do
     a ← part g x
-    d ← maybe (test g) e
+    d ← maybe_test g e
     b ← part g y
     c ← statement (in_loop g) z
     Ok (t.for_all a d b c)
@@ -128,7 +138,7 @@ unfoldable mutual
     Ok (t.continues p)
   statement g (r.declares of n p e) = do
     _ ← must (is_value g of.ty) (wrong_type of.place)
-    a ← maybe (value_for g p of.ty) e
+    a ← maybe_value g p of.ty e
     Ok (t.declares of n p a)
   statement g (r.assigns l op e) = do
     a ← left g l
@@ -136,7 +146,7 @@ unfoldable mutual
     Ok (t.assigns a.0 op b)
   statement g (r.counts l up) = do
     a ← left g l
-    sum ← found (pair_type op.Add true a.1 (plain_type (taken a.1))) (pair_fault l.path.place op.Add a.1 (plain_type (taken a.1)))
+    sum ← pair_found l.path.place op.Add true a.1 (plain_type (taken a.1))
     _ ← must (assignable g a.1 sum) (not_assignable l.path.place)
     Ok (t.counts a.0 up)
   statement g (r.does x es) = do

@@ -1,8 +1,8 @@
--- Why there is no typed tree.
+-- Why a program has no typed tree.
 use Rattle.feast_base.specs.declared.place.Place.{Place}
 use Rattle.ulam_tree.specs.Found as step
 
--- Each has the place at which it stands.
+-- Each fault has its place.
 pub data Fault : Type 0 where
   wrong_type : Place → Fault
   mixed_signs : Place → Fault

@@ -3,6 +3,7 @@ pub mod Compound
 pub mod Faults
 pub mod ProgramTyping
 pub mod Programs
+pub mod Results
 pub mod Rows
 pub mod Scopes
 pub mod Shown

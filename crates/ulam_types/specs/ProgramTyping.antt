@@ -1,4 +1,4 @@
--- Which typed tree a program has, by cases and in no order.
+-- Which typed tree a program has: by cases, and in no order.
 use Rattle.std.specs.Prelude.{◌≡◌, ℕ, ◌+◌, true, ◌||◌, not, List, [], ◌∷◌, map}
 use Rattle.ulam_tree.specs.Resolved as r
 use Rattle.ulam_tree.specs.Typed as t
@@ -29,6 +29,18 @@ AreTypedClasses sigs k (c ∷ cs) us =
     (ms : List t.Member) × (vs : List t.Class) × AreTypedMembers sigs k c.members ms × AreTypedClasses sigs (k + 1) cs vs
     × (us ≡ record { quark = c.quark; word = c.word; members = ms } ∷ vs)
 
--- This is the typed tree of a program.
+-- the program cs has the typed tree us
 abbrev pub IsTypedProgram : List r.Class → List t.Class → Type 0
 IsTypedProgram cs us = AreTypedClasses (map class_sig cs) 0 cs us
+
+-- it has a typed tree
+abbrev pub HasTypedTree : List r.Class → Type 0
+HasTypedTree cs = (us : List t.Class) × IsTypedProgram cs us
+
+-- it has no typed tree
+abbrev pub HasNoTypedTree : List r.Class → Type 0
+HasNoTypedTree cs = (us : List t.Class) → IsTypedProgram cs us → ⊥
+
+-- it has one typed tree at most
+abbrev pub HasOneTreeAtMost : List r.Class → Type 0
+HasOneTreeAtMost cs = (us vs : List t.Class) → IsTypedProgram cs us → IsTypedProgram cs vs → us ≡ vs

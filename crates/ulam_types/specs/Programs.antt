@@ -1,4 +1,4 @@
--- The walk over a program, class by class: its typed tree, or its first fault.
+-- The walk over a program, class by class: it finds the typed tree, or the first fault.
 use Rattle.std.specs.Prelude.{ℕ, ◌+◌, ◌||◌, not, List, [], ◌∷◌, ◌++◌, map, false, Option, Ok}
 use Rattle.feast_base.specs.declared.place.Place.{Place}
 use Rattle.ulam_tree.specs.declared.resolved.Ty.{Ty}
@@ -44,7 +44,7 @@ param_type p = p.of.ty
 abbrev pub slots_of : {E A : Type 0} → List s.Param → s.Body E A → List Ty
 slots_of ps b = map param_type ps ++ all_locals b
 
--- where a function's body stands
+-- the scope of a function's body
 abbrev pub scope_of : {E A : Type 0} → List ClassSig → ℕ → Ty → List s.Param → s.Body E A → Scope
 scope_of sigs k result ps b = record { classes = sigs; class = k; slots = slots_of ps b; result = result; looped = false }
 
@@ -54,7 +54,7 @@ params g (p ∷ ps) = do
   _ ← must (is_value g p.of.ty) (wrong_type p.of.place)
   params g ps
 
--- a function with the place of its name, in the scope of its body
+-- a function: its result, its parameters and its body. The place p is that of its name.
 abbrev pub function : Scope → Named → Place → List r.Param → r.Body → Found t.Body
 function g of p ps x = do
   _ ← must (is_value g of.ty || is_void of.ty) (wrong_type of.place)

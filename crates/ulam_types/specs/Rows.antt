@@ -16,7 +16,8 @@ use Rattle.ulam_types.specs.declared.scope.NumClass.{NumClass}
 use Rattle.ulam_types.specs.declared.scope.NumClass.TheVariants.{Int, Unsigned, Bits, Bool as Truth, Other}
 use Rattle.ulam_types.specs.declared.scope.Want.{Want}
 use Rattle.ulam_types.specs.declared.scope.Want.TheVariants.{Value, Site, Bound}
-use Rattle.ulam_types.specs.Faults.{Fault, wrong_type, mixed_signs, not_assignable}
+use Rattle.ulam_tree.specs.Found.{found}
+use Rattle.ulam_types.specs.Faults.{Fault, wrong_type, mixed_signs, not_assignable, Found}
 use Rattle.ulam_types.specs.Scopes.{Scope, is_element, Callee, function, built}
 
 abbrev pub int : ℕ → Ty
@@ -50,7 +51,7 @@ taken_by (Unsigned w) = k.Unsigned
 taken_by (Bits w) = k.Bits
 taken_by c = k.Int
 
--- the kind that a plain number takes from a type beside it, or from that of a target
+-- the kind that a plain number takes from the type beside it, or from the type that it is for
 abbrev pub taken : Ty → Kind
 taken ty = taken_by (class_of ty)
 
@@ -150,9 +151,13 @@ takes_signs op.Both = false
 takes_signs op.Either = false
 takes_signs op = true
 
--- what is wrong where two operands have no type
+-- what is wrong with two operands that have no type
 abbrev pub pair_fault : Place → PairOp → Ty → Ty → Fault
 pair_fault p op a b = if takes_signs op && are_mixed (class_of a) (class_of b) then mixed_signs p else wrong_type p
+
+-- the type of two operands, or what is wrong with them
+abbrev pub pair_found : Place → PairOp → Bool → Ty → Ty → Found Ty
+pair_found p op plain a b = found (pair_type op plain a b) (pair_fault p op a b)
 
 -- Other forms
 
@@ -259,7 +264,7 @@ abbrev pub is_built : Callee → Bool
 is_built (function f) = false
 is_built (built b) = true
 
--- what is wrong where an argument does not suit
+-- what is wrong with an argument that does not suit
 abbrev pub misfit : Bool → Place → Fault
 misfit true p = wrong_type p
 misfit false p = not_assignable p

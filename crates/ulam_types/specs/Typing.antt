@@ -1,4 +1,4 @@
--- Which typed trees an expression and a statement have, by cases and in no order.
+-- Which typed tree an expression has, and which a statement has: by cases, and in no order.
 use Rattle.std.specs.Prelude.{◌≡◌, ℕ, Bool, true, false, List, [], ◌∷◌, length, Option, Some, None}
 use Rattle.feast_base.specs.declared.place.Place.{Place}
 use Rattle.sat_math.specs.declared.Kind.{Kind}
@@ -16,24 +16,32 @@ use Rattle.ulam_types.specs.Bodies.{atom_slot, is_element_type}
 
 -- Expressions
 
--- A number with `u` is unsigned; without, it has the kind that is handed down. Either way it lies in 32 bits of its kind.
+-- A number with `u` is unsigned; one without has the kind w. Its value is in the range of 32 bits of its kind.
 abbrev pub IsNumber : Kind → ℕ → Bool → Place → t.Expr → Type 0
 IsNumber w v true p a = (plain_fits k.Unsigned v ≡ true) × (a ≡ t.typed (t.number v true p) (unsigned 32))
 IsNumber w v false p a = (plain_fits w v ≡ true) × (a ≡ t.typed (t.number v false p) (plain_type w))
 
--- a call with so many arguments, which `AreRead` says of what is wanted
-abbrev pub IsCalled : Scope → r.Path → ℕ → (List Want → t.Args → Type 0) → t.Args → Ty → Type 0
-IsCalled g x n AreRead xs ty =
-    (f : Callee) × (callee g x.steps ≡ Some f) × (length (wants_of f) ≡ n) × AreRead (wants_of f) xs × (all_suit g (wants_of f) xs ≡ true) × (ty ≡ result_of f xs)
+-- the typed arguments of a call, and the type of the call
+pub record Called : Type 0 where
+  pub args : t.Args
+  pub ty : Ty
 
--- The kind is the one that a plain number takes here. Of two operands a plain one takes its kind from the other; where both are plain, each is Int.
+-- the call of a path with n arguments, whose typed trees `AreRead` gives for what is wanted of them
+abbrev pub IsCalled : Scope → r.Path → ℕ → (List Want → t.Args → Type 0) → Called → Type 0
+IsCalled g x n AreRead c =
+    (f : Callee) × (callee g x.steps ≡ Some f) × (length (wants_of f) ≡ n) × AreRead (wants_of f) c.args
+    × (all_suit g (wants_of f) c.args ≡ true) × (c.ty ≡ result_of f c.args)
+
+-- An expression, where a plain number takes the kind w. If one of two operands is plain, it takes its kind from the
+-- other; if both are plain, each is Int.
 unfoldable mutual
   pub IsTyped : Scope → Kind → r.Expr → t.Expr → Type 0
   IsTyped g w (r.number v u p) a = IsNumber w v u p a
   IsTyped g w (r.truth b p) a = a ≡ t.typed (t.truth b p) bool
   IsTyped g w (r.reads x) a = (ty : Ty) × (value_type g x.steps ≡ Some ty) × (a ≡ t.typed (t.reads x) ty)
   IsTyped g w (r.calls x es) a =
-      (xs : t.Args) × (ty : Ty) × IsCalled g x (count es) (λ ws bs. AreTyped g ws es bs) xs ty × (is_value g ty ≡ true) × (a ≡ t.typed (t.calls x xs) ty)
+      (xs : t.Args) × (ty : Ty) × IsCalled g x (count es) (λ ws bs. AreTyped g ws es bs) (record { args = xs; ty = ty })
+      × (is_value g ty ≡ true) × (a ≡ t.typed (t.calls x xs) ty)
   IsTyped g w (r.index x e) a =
       (i : t.Expr) × (ty : Ty) × (item_type g x.steps ≡ Some ty) × IsTyped g k.Int e i × (is_index (t.ty_of i) ≡ true) × (a ≡ t.typed (t.index x i) ty)
   IsTyped g w (r.instance c) a = (is_species g c.ty ≡ true) × (a ≡ t.typed (t.instance c) (instance_type c.ty))
@@ -46,15 +54,15 @@ unfoldable mutual
       × (pair_type op (plain r) (t.ty_of b) (t.ty_of c) ≡ Some ty) × (a ≡ t.typed (t.pair op b c p) ty)
   IsTyped g w (r.is e c p) a = (b : t.Expr) × IsTyped g k.Int e b × (is_atom g (t.ty_of b) ≡ true) × (is_species g c.ty ≡ true) × (a ≡ t.typed (t.is b c p) bool)
 
-  -- arguments, by what is wanted of each
+  -- arguments, with what is wanted of each
   pub AreTyped : Scope → List Want → r.Args → t.Args → Type 0
   AreTyped g ws r.no_args xs = xs ≡ t.no_args
   AreTyped g [] (r.arg e es) xs = xs ≡ t.no_args
   AreTyped g (w ∷ ws) (r.arg e es) xs = (a : t.Expr) × (bs : t.Args) × IsTyped g (taken_want w) e a × AreTyped g ws es bs × (xs ≡ t.arg a bs)
 
--- the arguments of a call, and its type
+-- the typed arguments of a call, and the type of the call
 abbrev pub IsCall : Scope → r.Path → r.Args → t.Args → Ty → Type 0
-IsCall g x es = IsCalled g x (count es) (λ ws bs. AreTyped g ws es bs)
+IsCall g x es xs ty = IsCalled g x (count es) (λ ws bs. AreTyped g ws es bs) (record { args = xs; ty = ty })
 
 -- Statements
 
@@ -71,11 +79,12 @@ IsLeft g l a ty = IsLeftBy g l.path l.index a ty
 abbrev pub IsValueFor : Scope → Ty → r.Expr → t.Expr → Type 0
 IsValueFor g ty e a = IsTyped g (taken ty) e a × (assignable g ty (t.ty_of a) ≡ true)
 
--- a value for a type, by `=`, or else by an operator between what is there and it
+-- the value of an assignment to a left side of this type, by `=`, or by an operator with `=`
 abbrev pub IsAssigned : Scope → Ty → Option PairOp → r.Expr → t.Expr → Type 0
 IsAssigned g ty None e a = IsValueFor g ty e a
 IsAssigned g ty (Some op) e a = (sum : Ty) × IsTyped g (taken ty) e a × (pair_type op (plain e) ty (t.ty_of a) ≡ Some sum) × (assignable g ty sum ≡ true)
 
+-- a condition
 abbrev pub IsTest : Scope → r.Expr → t.Expr → Type 0
 IsTest g e a = IsTyped g k.Int e a × (is_truth (t.ty_of a) ≡ true)
 
@@ -83,12 +92,12 @@ abbrev pub IsMaybe : (r.Expr → t.Expr → Type 0) → Option r.Expr → Option
 IsMaybe P None a = a ≡ None
 IsMaybe P (Some e) a = (b : t.Expr) × P e b × (a ≡ Some b)
 
--- what an `if` asks, and the scope of its first branch
+-- the condition of an `if`, and the scope of its first branch
 abbrev pub IsCond : Scope → r.Cond → t.Cond → Scope → Type 0
 IsCond g (r.seen x c) a h = (n : ℕ) × (atom_slot g x.steps ≡ Some n) × (is_element_type g c.ty ≡ true) × (a ≡ t.seen x c) × (h ≡ narrowed g n c.ty)
 IsCond g (r.test e) a h = (b : t.Expr) × IsTest g e b × (a ≡ t.test b) × (h ≡ g)
 
--- `return` has a value exactly where the function has a result
+-- the value of a `return`, which has one exactly if the function has a result
 abbrev pub IsResult : Scope → Option r.Expr → Option t.Expr → Type 0
 IsResult g None a = (is_void g.result ≡ true) × (a ≡ None)
 IsResult g (Some e) a = (b : t.Expr) × (is_void g.result ≡ false) × IsValueFor g g.result e b × (a ≡ Some b)

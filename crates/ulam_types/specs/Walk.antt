@@ -1,4 +1,4 @@
--- The walk over an expression: its typed tree, or the first place at which no rule fits.
+-- The walk over an expression: it finds the typed tree, or the first place at which no rule fits.
 use Rattle.std.specs.Prelude.{ℕ, suc, Bool, true, false, not, nat_eq, List, [], ◌∷◌, length, Ok}
 use Rattle.feast_base.specs.declared.place.Place.{Place}
 use Rattle.sat_math.specs.declared.Kind.{Kind}
@@ -11,7 +11,7 @@ use Rattle.ulam_types.specs.declared.scope.Want.{Want}
 use Rattle.ulam_tree.specs.Found.{◌>>=◌, found, must}
 use Rattle.ulam_types.specs.Faults.{wrong_type, wrong_count, bad_as, Found}
 use Rattle.ulam_types.specs.Scopes.{Scope, Callee, is_value, value_type, item_type, callee, wants_of}
-use Rattle.ulam_types.specs.Rows.{unsigned, bool, taken, beside, plain_type, plain_fits, pair_type, pair_fault, prefix_type, cast_type, is_atom, is_species, instance_type, is_index, taken_want, all_suit, is_built, misfit, result_of}
+use Rattle.ulam_types.specs.Rows.{unsigned, bool, taken, beside, plain_type, plain_fits, pair_found, prefix_type, cast_type, is_atom, is_species, instance_type, is_index, taken_want, all_suit, is_built, misfit, result_of}
 
 -- a number without `u`, in any number of brackets
 abbrev pub plain : r.Expr → Bool
@@ -45,20 +45,20 @@ number w v false p = do
   _ ← must (plain_fits w v) (wrong_type p)
   Ok (t.typed (t.number v false p) (plain_type w))
 
--- What a form consists of is walked by a function that is handed in.
+-- In the next definitions `read`, `left` and `right` are the walk over the parts of a form.
 
--- so many arguments, of which this is wanted
-abbrev pub arguments : Scope → Place → Bool → List Want → ℕ → (List Want → Found t.Args) → Found t.Args
-arguments g p built ws n read = do
+-- n arguments, which are as many as are wanted, and each suits what is wanted of it
+abbrev pub arguments_by : Scope → Place → Bool → List Want → ℕ → (List Want → Found t.Args) → Found t.Args
+arguments_by g p built ws n read = do
   _ ← must (nat_eq (length ws) n) (wrong_count p)
   es ← read ws
   _ ← must (all_suit g ws es) (misfit built p)
   Ok es
 
--- the arguments of a call of this, and its type
+-- the arguments of a call of f, and the type of the call
 abbrev pub called : Scope → Place → Callee → ℕ → (List Want → Found t.Args) → Found (t.Args × Ty)
 called g p f n read = do
-  es ← arguments g p (is_built f) (wants_of f) n read
+  es ← arguments_by g p (is_built f) (wants_of f) n read
   Ok (es, result_of f es)
 
 abbrev pub called_by : Scope → r.Path → ℕ → (List Want → Found t.Args) → Found (t.Args × Ty)
@@ -72,7 +72,7 @@ call_value g x c = do
   _ ← must (is_value g c.1) (wrong_type x.place)
   Ok (t.typed (t.calls x c.0) c.1)
 
--- an index, and the type of what it gives
+-- an index in square brackets, and the type of what stands at it
 abbrev pub index_by : Scope → r.Path → Found t.Expr → Found (t.Expr × Ty)
 index_by g x read = do
   ty ← found (item_type g x.steps) (wrong_type x.place)
@@ -80,7 +80,7 @@ index_by g x read = do
   _ ← must (is_index (t.ty_of i)) (wrong_type x.place)
   Ok (i, ty)
 
--- The right operand first, since the left one is plain and takes its kind.
+-- the right operand first: the left one is plain, and takes its kind from the right one
 abbrev pub right_first : (Kind → Found t.Expr) → (Kind → Found t.Expr) → Found (t.Expr × t.Expr)
 right_first left right = do
   b ← right k.Int
@@ -93,7 +93,7 @@ left_first plain left right = do
   b ← right (beside plain (t.ty_of a))
   Ok (a, b)
 
--- both operands, by whether each is plain
+-- both operands, in the order that depends on which of them is plain
 abbrev pub operands : Bool → Bool → (Kind → Found t.Expr) → (Kind → Found t.Expr) → Found (t.Expr × t.Expr)
 operands true false left right = right_first left right
 operands true true left right = left_first true left right
@@ -101,13 +101,13 @@ operands false plain_right left right = left_first false left right
 
 abbrev pub pair_by : PairOp → Bool → Place → t.Expr × t.Expr → Found t.Expr
 pair_by op plain_right p ab = do
-  ty ← found (pair_type op plain_right (t.ty_of ab.0) (t.ty_of ab.1)) (pair_fault p op (t.ty_of ab.0) (t.ty_of ab.1))
+  ty ← pair_found p op plain_right (t.ty_of ab.0) (t.ty_of ab.1)
   Ok (t.typed (t.pair op ab.0 ab.1 p) ty)
 
 abbrev pub pair_of : PairOp → Bool → Bool → Place → (Kind → Found t.Expr) → (Kind → Found t.Expr) → Found t.Expr
 pair_of op plain_left plain_right p left right = operands plain_left plain_right left right >>= pair_by op plain_right p
 
--- The kind is the one that a plain number takes here.
+-- an expression, where a plain number takes the kind w
 unfoldable mutual
   pub expr : Scope → Kind → r.Expr → Found t.Expr
   expr g w (r.number v u p) = number w v u p
@@ -140,7 +140,7 @@ unfoldable mutual
     _ ← must (is_species g c.ty) (bad_as c.place)
     Ok (t.typed (t.is a c p) bool)
 
-  -- arguments, by what is wanted of each
+  -- arguments, with what is wanted of each
   pub args : Scope → List Want → r.Args → Found t.Args
   args g ws r.no_args = Ok t.no_args
   args g [] (r.arg e es) = Ok t.no_args
@@ -149,6 +149,20 @@ unfoldable mutual
     bs ← args g ws es
     Ok (t.arg a bs)
 
--- the arguments of a call, and its type
+-- Parts of expressions, and of statements
+
+-- arguments, which are as many as are wanted, and each suits what is wanted of it
+abbrev pub args_of : Scope → Place → Bool → List Want → r.Args → Found t.Args
+args_of g p built ws es = arguments_by g p built ws (count es) (λ ws. args g ws es)
+
+-- the arguments of a call of f, and the type of the call
+abbrev pub call_of : Scope → Place → Callee → r.Args → Found (t.Args × Ty)
+call_of g p f es = called g p f (count es) (λ ws. args g ws es)
+
+-- the arguments of a call by a path, and the type of the call
 abbrev pub call : Scope → r.Path → r.Args → Found (t.Args × Ty)
 call g x es = called_by g x (count es) (λ ws. args g ws es)
+
+-- an index in square brackets after a path, and the type of what stands at it
+abbrev pub item : Scope → r.Path → r.Expr → Found (t.Expr × Ty)
+item g x e = index_by g x (expr g k.Int e)

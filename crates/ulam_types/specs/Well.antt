@@ -1,4 +1,4 @@
--- What a typed tree says by itself: for all that only sees typed trees.
+-- What is known of a typed tree without the tree that it was made from.
 use Rattle.std.specs.Prelude.{◌≡◌, ℕ, suc, ◌+◌, Bool, true, false, ◌||◌, not, List, [], ◌∷◌, map, length, Option, Some, None}
 use Rattle.sat_math.specs.declared.Kind.{Kind}
 use Rattle.ulam_tree.specs.declared.resolved.Ty.{Ty}
@@ -70,7 +70,7 @@ abbrev pub IfSome : (t.Expr → Type 0) → Option t.Expr → Type 0
 IfSome P None = Unit {0}
 IfSome P (Some e) = P e
 
--- what an `if` asks, and the scope of its first branch
+-- the condition of an `if`, and the scope of its first branch
 abbrev pub IsWellCond : Scope → t.Cond → Scope → Type 0
 IsWellCond g (t.seen x c) h = (n : ℕ) × (atom_slot g x.steps ≡ Some n) × (is_element_type g c.ty ≡ true) × (h ≡ narrowed g n c.ty)
 IsWellCond g (t.test e) h = IsWellTest g e × (h ≡ g)
@@ -118,6 +118,6 @@ abbrev pub AreWellClasses : List ClassSig → ℕ → List t.Class → Type 0
 AreWellClasses sigs k [] = Unit {0}
 AreWellClasses sigs k (c ∷ cs) = AreWellMembers sigs k c.members × AreWellClasses sigs (k + 1) cs
 
--- Each class, by what the classes of the tree itself say.
+-- Each class, in view of all classes of the tree itself.
 abbrev pub IsWellProgram : List t.Class → Type 0
 IsWellProgram us = AreWellClasses (map class_sig us) 0 us

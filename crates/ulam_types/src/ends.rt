@@ -5,7 +5,7 @@ ghost use Rattle.ulam_tree.specs.ResolvedViews.{resolved_statement, resolved_bod
 
 use ulam_tree::resolved::Statement;
 
-/// Whether a statement may go on to the next one.
+/// Whether what follows a statement can be reached through it.
 #[cycle(completes)]
 fn completes(raw: &Statement) -> bool
     ensures { result ≡ spec.completes (resolved_statement raw.now) }
@@ -30,7 +30,7 @@ fn part_completes(raw: &Option<Box<Statement>>) -> bool
     }
 }
 
-/// Whether statements in a row may come to their end.
+/// Whether the end of a list of statements can be reached.
 #[cycle(completes)]
 pub fn all_complete(raw: &[Statement]) -> bool
     ensures { result ≡ spec.all_complete (resolved_body raw.now) }

@@ -1,13 +1,13 @@
 //! Types of expressions.
-ghost use Rattle.std.specs.Prelude.{◌≡◌, length, IfOk, true};
-ghost use Rattle.std.specs.Box.{box_value};
+ghost use Rattle.std.specs.Prelude.{◌≡◌, length, IfOk, IsTrue};
 ghost use Rattle.sat_math.specs.declared.Kind.{Kind};
-ghost use Rattle.ulam_tree.specs.ResolvedViews.{resolved_expr, resolved_args, resolved_path};
-ghost use Rattle.ulam_tree.specs.Resolved as raw_tree;
-ghost use Rattle.ulam_tree.specs.TypedViews.{typed_expr, typed_args};
+ghost use Rattle.ulam_tree.specs.ResolvedViews.{resolved_expr, resolved_args, resolved_path, boxed_expr as resolved_boxed};
+ghost use Rattle.ulam_tree.specs.Resolved as tree;
+ghost use Rattle.ulam_tree.specs.TypedViews.{boxed_expr};
 ghost use Rattle.ulam_types.specs.Compound.{is_compound};
+ghost use Rattle.ulam_types.specs.Results.{args_view, call_view, item_view, GivesExpr};
 ghost use Rattle.ulam_types.specs.Scopes as spec;
-ghost use Rattle.ulam_types.specs.Shown.{scope_view, Gives};
+ghost use Rattle.ulam_types.specs.Shown.{here, Gives};
 ghost use Rattle.ulam_types.specs.Walk as walk;
 
 use crate::copy;
@@ -57,7 +57,7 @@ pub fn place_of(raw: &Expr) -> Place
 #[cycle(expr)]
 #[tactic(auto, unfolding(crate::specs::Walk::expr))]
 pub fn expr(alloc: Global, scope: &Scope, want: Kind, raw: &Expr) -> Result<typed::Expr, TypeFault>
-    ensures { Gives typed_expr result (walk.expr (scope_view scope.now) want (resolved_expr raw.now)) }
+    ensures { GivesExpr result scope.now want (resolved_expr raw.now) }
 {
     match raw {
         Expr::Number {
@@ -84,12 +84,12 @@ pub fn expr(alloc: Global, scope: &Scope, want: Kind, raw: &Expr) -> Result<type
     }
 }
 
-/// An expression in brackets, or an operator with its operands. No other expression comes here.
+/// An expression in brackets, or an operator with its operands.
 #[cycle(expr)]
 #[tactic(auto, unfolding(crate::specs::Walk::expr))]
 fn compound(alloc: Global, scope: &Scope, want: Kind, raw: &Expr) -> Result<typed::Expr, TypeFault>
-    requires { is_compound (resolved_expr raw.now) ≡ true }
-    ensures { Gives typed_expr result (walk.expr (scope_view scope.now) want (resolved_expr raw.now)) }
+    requires { IsTrue (is_compound (resolved_expr raw.now)) }
+    ensures { GivesExpr result scope.now want (resolved_expr raw.now) }
 {
     match raw {
         Expr::Group { inner, place } => {
@@ -143,7 +143,7 @@ fn is(
     class: Named,
     place: Place,
 ) -> Result<typed::Expr, TypeFault>
-    ensures { (want : Kind) → Gives typed_expr result (walk.expr (scope_view scope.now) want (raw_tree.is (resolved_expr value.now) class place)) }
+    ensures { (want : Kind) → GivesExpr result scope.now want (tree.is (resolved_expr value.now) class place) }
 {
     let value = expr(alloc, scope, Kind::Int, value)?;
     let value = Box::new(alloc, value)?;
@@ -164,13 +164,13 @@ fn boxed(
     want: Kind,
     raw: &Box<Expr>,
 ) -> Result<Box<typed::Expr>, TypeFault>
-    ensures { Gives (λ b. typed_expr (box_value b)) result (walk.expr (scope_view scope.now) want (resolved_expr (box_value raw.now))) }
+    ensures { Gives boxed_expr result (walk.expr (here scope.now) want (resolved_boxed raw.now)) }
 {
     let found = expr(alloc, scope, want, raw)?;
     Ok(Box::new(alloc, found)?)
 }
 
-/// A typed index, and the type of the element.
+/// A typed index in square brackets, and the type of what stands at it.
 #[cycle(expr)]
 pub fn index(
     alloc: Global,
@@ -178,7 +178,7 @@ pub fn index(
     path: &Path,
     at: &Expr,
 ) -> Result<(Box<typed::Expr>, Ty), TypeFault>
-    ensures { Gives (λ x. (typed_expr (box_value x.0), x.1)) result (walk.index_by (scope_view scope.now) (resolved_path path.now) (walk.expr (scope_view scope.now) Kind.Int (resolved_expr at.now))) }
+    ensures { Gives item_view result (walk.item (here scope.now) (resolved_path path.now) (resolved_expr at.now)) }
 {
     match item_type(scope, path.steps.as_slice()) {
         None => Err(TypeFault::WrongType(path.place)),
@@ -201,7 +201,7 @@ pub fn call(
     path: &Path,
     raw: &[Expr],
 ) -> Result<(Vec<typed::Expr>, Ty), TypeFault>
-    ensures { Gives (λ x. (typed_args x.0.items, x.1)) result (walk.call (scope_view scope.now) (resolved_path path.now) (resolved_args raw.now)) }
+    ensures { Gives call_view result (walk.call (here scope.now) (resolved_path path.now) (resolved_args raw.now)) }
 {
     let place = path.place;
     if begins_local(path.steps.as_slice()) {
@@ -229,7 +229,7 @@ fn built_call(
     call: Built,
     raw: &[Expr],
 ) -> Result<(Vec<typed::Expr>, Ty), TypeFault>
-    ensures { Gives (λ x. (typed_args x.0.items, x.1)) result (walk.called (scope_view scope.now) place (spec.built call) (walk.count (resolved_args raw.now)) (λ ws. walk.args (scope_view scope.now) ws (resolved_args raw.now))) }
+    ensures { Gives call_view result (walk.call_of (here scope.now) place (spec.built call) (resolved_args raw.now)) }
 {
     match call {
         Built::Swap => {
@@ -262,7 +262,7 @@ fn arguments(
     wants: &[Want],
     raw: &[Expr],
 ) -> Result<Vec<typed::Expr>, TypeFault>
-    ensures { Gives (λ v. typed_args v.items) result (walk.arguments (scope_view scope.now) place built wants.now (walk.count (resolved_args raw.now)) (λ ws. walk.args (scope_view scope.now) ws (resolved_args raw.now))) }
+    ensures { Gives args_view result (walk.args_of (here scope.now) place built wants.now (resolved_args raw.now)) }
 {
     if wants.len() != raw.len() {
         return Err(TypeFault::WrongCount(place));
@@ -286,7 +286,7 @@ fn args(
     raw: &[Expr],
 ) -> Result<Vec<typed::Expr>, TypeFault>
     requires { length wants.now ≡ length raw.now }
-    ensures gives { Gives (λ v. typed_args v.items) result (walk.args (scope_view scope.now) wants.now (resolved_args raw.now)) }
+    ensures gives { Gives args_view result (walk.args (here scope.now) wants.now (resolved_args raw.now)) }
     ensures many { IfOk result (λ v. length v.items ≡ length raw.now) }
 {
     let mut found = Vec::new(alloc);

@@ -1,15 +1,15 @@
 //! Typed expressions from their parts.
 ghost use Rattle.std.specs.Prelude.{◌≡◌};
-ghost use Rattle.std.specs.Box.{box_value};
 ghost use Rattle.sat_math.specs.declared.Kind.{Kind};
 ghost use Rattle.ulam_tree.specs.Found.{found};
 ghost use Rattle.ulam_tree.specs.ResolvedViews.{resolved_path};
-ghost use Rattle.ulam_tree.specs.Resolved as raw_tree;
-ghost use Rattle.ulam_tree.specs.Typed as tree;
-ghost use Rattle.ulam_tree.specs.TypedViews.{typed_expr, typed_args};
+ghost use Rattle.ulam_tree.specs.Resolved as tree;
+ghost use Rattle.ulam_tree.specs.Typed as typed_tree;
+ghost use Rattle.ulam_tree.specs.TypedViews.{typed_expr, boxed_expr};
 ghost use Rattle.ulam_types.specs.Faults.{wrong_type};
+ghost use Rattle.ulam_types.specs.Results.{call_view, GivesExpr};
 ghost use Rattle.ulam_types.specs.Rows as row;
-ghost use Rattle.ulam_types.specs.Shown.{scope_view, Gives};
+ghost use Rattle.ulam_types.specs.Shown.{here, Gives};
 ghost use Rattle.ulam_types.specs.Walk as walk;
 
 use crate::copy;
@@ -24,7 +24,7 @@ use ulam_tree::resolved::{Named, Path, Ty};
 use ulam_tree::typed::Form;
 use ulam_tree::{PairOp, typed, typed_build as build};
 
-/// A number, with `with_u` if `u` is after it.
+/// A number. `with_u` says whether it has a `u` at its end.
 pub fn number(want: Kind, value: u32, with_u: bool, place: Place) -> Result<typed::Expr, TypeFault>
     ensures { Gives typed_expr result (walk.number want value with_u place) }
 {
@@ -51,7 +51,7 @@ pub fn number(want: Kind, value: u32, with_u: bool, place: Place) -> Result<type
     }
 }
 
-/// Two operands with an operator between.
+/// Two operands with an operator between them.
 pub fn pair(
     op: PairOp,
     left: Box<typed::Expr>,
@@ -59,7 +59,7 @@ pub fn pair(
     plain_right: bool,
     place: Place,
 ) -> Result<typed::Expr, TypeFault>
-    ensures { Gives typed_expr result (walk.pair_by op plain_right place (typed_expr (box_value left), typed_expr (box_value right))) }
+    ensures { Gives typed_expr result (walk.pair_by op plain_right place (boxed_expr left, boxed_expr right)) }
 {
     let ty = pair_row(place, op, plain_right, left.ty, right.ty)?;
     Ok(build::pair(op, left, right, place, ty))
@@ -77,7 +77,7 @@ pub fn known(ty: Option<Ty>, place: Place) -> Result<Ty, TypeFault>
 
 /// `true` or `false`.
 pub fn truth_at(value: bool, place: Place) -> typed::Expr
-    ensures { typed_expr result ≡ tree.typed (tree.truth value place) row.bool }
+    ensures { typed_expr result ≡ typed_tree.typed (typed_tree.truth value place) row.bool }
 {
     typed::Expr {
         form: Form::Truth { value, place },
@@ -88,7 +88,7 @@ pub fn truth_at(value: bool, place: Place) -> typed::Expr
 /// A path as an expression.
 #[tactic(auto, unfolding(crate::specs::Walk::expr))]
 pub fn value_at(alloc: Global, scope: &Scope, path: &Path) -> Result<typed::Expr, TypeFault>
-    ensures { (want : Kind) → Gives typed_expr result (walk.expr (scope_view scope.now) want (raw_tree.reads (resolved_path path.now))) }
+    ensures { (want : Kind) → GivesExpr result scope.now want (tree.reads (resolved_path path.now)) }
 {
     let ty = known(value_type(scope, path.steps.as_slice()), path.place)?;
     let path = copy::path(alloc, path)?;
@@ -101,7 +101,7 @@ pub fn value_at(alloc: Global, scope: &Scope, path: &Path) -> Result<typed::Expr
 /// The `instanceof` of a class.
 #[tactic(auto, unfolding(crate::specs::Walk::expr))]
 pub fn instance(scope: &Scope, class: Named) -> Result<typed::Expr, TypeFault>
-    ensures { (want : Kind) → Gives typed_expr result (walk.expr (scope_view scope.now) want (raw_tree.instance class)) }
+    ensures { (want : Kind) → GivesExpr result scope.now want (tree.instance class) }
 {
     if !is_species(scope, class.ty) {
         return Err(TypeFault::BadAs(class.place));
@@ -120,7 +120,7 @@ pub fn call_value(
     args: Vec<typed::Expr>,
     ty: Ty,
 ) -> Result<typed::Expr, TypeFault>
-    ensures { Gives typed_expr result (walk.call_value (scope_view scope.now) (resolved_path path.now) (typed_args args.items, ty)) }
+    ensures { Gives typed_expr result (walk.call_value (here scope.now) (resolved_path path.now) (call_view (args, ty))) }
 {
     if !is_value(scope, ty) {
         return Err(TypeFault::WrongType(path.place));

@@ -1,9 +1,10 @@
 //! Types of functions.
 ghost use Rattle.std.specs.Prelude.{◌≡◌, map, IfOk, IfErr};
 ghost use Rattle.ulam_tree.specs.ResolvedViews.{resolved_param, resolved_body, resolved_member};
-ghost use Rattle.ulam_tree.specs.TypedViews.{typed_body, typed_member};
+ghost use Rattle.ulam_tree.specs.TypedViews.{typed_member};
 ghost use Rattle.ulam_types.specs.Programs as walk;
-ghost use Rattle.ulam_types.specs.Shown.{class_view, scope_view, Gives};
+ghost use Rattle.ulam_types.specs.Results.{body_view};
+ghost use Rattle.ulam_types.specs.Shown.{sigs_view, here, Gives};
 ghost use Rattle.ulam_types.specs.declared.fault.TypeFault.TheVariants.{NoMemory};
 
 use crate::copy;
@@ -21,7 +22,7 @@ use ulam_tree::typed;
 
 /// Refuses a parameter whose type has no values.
 fn header(scope: &Scope, params: &[Param]) -> Result<(), TypeFault>
-    ensures { Gives (λ x. x) result (walk.params (scope_view scope.now) (map resolved_param params.now)) }
+    ensures { Gives (λ x. x) result (walk.params (here scope.now) (map resolved_param params.now)) }
 {
     for param in params {
         if !is_value(scope, param.of.ty) {
@@ -40,7 +41,7 @@ fn function(
     params: &[Param],
     raw: &[Statement],
 ) -> Result<Vec<typed::Statement>, TypeFault>
-    ensures { Gives (λ v. typed_body v.items) result (walk.function (scope_view scope.now) of place (map resolved_param params.now) (resolved_body raw.now)) }
+    ensures { Gives body_view result (walk.function (here scope.now) of place (map resolved_param params.now) (resolved_body raw.now)) }
 {
     if !(is_value(scope, of.ty) || is_void(of.ty)) {
         return Err(TypeFault::WrongType(of.place));
@@ -76,7 +77,7 @@ pub fn member(
     class: u32,
     raw: &Member,
 ) -> Result<typed::Member, TypeFault>
-    ensures { Gives typed_member result (walk.member (map class_view sigs.now) class (resolved_member raw.now)) }
+    ensures { Gives typed_member result (walk.member (sigs_view sigs.now) class (resolved_member raw.now)) }
 {
     match raw {
         Member::Field { of, word, length } => Ok(typed::Member::Field {

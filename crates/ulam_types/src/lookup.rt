@@ -1,22 +1,22 @@
 //! What a path means, and what a value of a type can be assigned to.
-ghost use Rattle.std.specs.Prelude.{◌≡◌, map, slice_get, MatchOption, None, Some};
+ghost use Rattle.std.specs.Prelude.{◌≡◌, slice_get};
 ghost use Rattle.ulam_types.specs.Bodies as walk;
 ghost use Rattle.ulam_types.specs.Rows as row;
 ghost use Rattle.ulam_types.specs.Scopes as spec;
-ghost use Rattle.ulam_types.specs.Shown.{class_view, function_view, scope_view};
+ghost use Rattle.ulam_types.specs.Shown.{class_view, function_view, here, Finds};
 
 use crate::rows::fits_number;
 use crate::scope::{ClassSig, FieldSig, FunctionSig, Scope};
 use ulam_tree::resolved::{Step, Ty};
 
 fn class_at<'a>(scope: &Scope<'a>, class: u32) -> Option<&'a ClassSig>
-    ensures { MatchOption result (slice_get (map class_view scope.now.classes.now) class ≡ None) (λ c. slice_get (map class_view scope.now.classes.now) class ≡ Some (class_view c.now)) }
+    ensures { Finds (λ c. class_view c.now) result (spec.class_at (here scope.now) class) }
 {
     scope.classes.get(class as usize)
 }
 
 fn is_element(scope: &Scope, class: u32) -> bool
-    ensures { result ≡ spec.is_element (scope_view scope.now) class }
+    ensures { result ≡ spec.is_element (here scope.now) class }
 {
     match class_at(scope, class) {
         None => false,
@@ -26,7 +26,7 @@ fn is_element(scope: &Scope, class: u32) -> bool
 
 /// Whether a value may have a type.
 pub fn is_value(scope: &Scope, ty: Ty) -> bool
-    ensures { result ≡ spec.is_value (scope_view scope.now) ty }
+    ensures { result ≡ spec.is_value (here scope.now) ty }
 {
     match ty {
         Ty::Num { .. } => true,
@@ -37,13 +37,13 @@ pub fn is_value(scope: &Scope, ty: Ty) -> bool
 }
 
 fn if_value(scope: &Scope, ty: Ty) -> Option<Ty>
-    ensures { result ≡ spec.if_value (scope_view scope.now) ty }
+    ensures { result ≡ spec.if_value (here scope.now) ty }
 {
     if is_value(scope, ty) { Some(ty) } else { None }
 }
 
 fn slot_type(scope: &Scope, slot: u32) -> Option<Ty>
-    ensures { result ≡ spec.slot_type (scope_view scope.now) (slice_get scope.now.slots.now slot) }
+    ensures { result ≡ spec.slot_type (here scope.now) (slice_get scope.now.slots.now slot) }
 {
     match scope.slots.get(slot as usize) {
         None => None,
@@ -52,7 +52,7 @@ fn slot_type(scope: &Scope, slot: u32) -> Option<Ty>
 }
 
 fn field_at(scope: &Scope, class: u32, member: u32) -> Option<FieldSig>
-    ensures { result ≡ spec.field_at (scope_view scope.now) class member }
+    ensures { result ≡ spec.field_at (here scope.now) class member }
 {
     match class_at(scope, class) {
         None => None,
@@ -115,7 +115,7 @@ pub fn begins_local(steps: &[Step]) -> bool
 
 /// The type of a path as a value.
 pub fn value_type(scope: &Scope, steps: &[Step]) -> Option<Ty>
-    ensures { result ≡ spec.value_type (scope_view scope.now) steps.now }
+    ensures { result ≡ spec.value_type (here scope.now) steps.now }
 {
     match last_step(steps) {
         Some(Step::Own) => if_value(scope, Ty::Class { class: scope.class }),
@@ -128,7 +128,7 @@ pub fn value_type(scope: &Scope, steps: &[Step]) -> Option<Ty>
 
 /// The type of a path as a left side.
 pub fn target_type(scope: &Scope, steps: &[Step]) -> Option<Ty>
-    ensures { result ≡ spec.target_type (scope_view scope.now) steps.now }
+    ensures { result ≡ spec.target_type (here scope.now) steps.now }
 {
     match last_step(steps) {
         Some(Step::Local { slot }) => slot_type(scope, slot),
@@ -139,7 +139,7 @@ pub fn target_type(scope: &Scope, steps: &[Step]) -> Option<Ty>
 
 /// The type of what square brackets give after a path.
 pub fn item_type(scope: &Scope, steps: &[Step]) -> Option<Ty>
-    ensures { result ≡ spec.item_type (scope_view scope.now) steps.now }
+    ensures { result ≡ spec.item_type (here scope.now) steps.now }
 {
     match last_step(steps) {
         Some(Step::Member { class, member }) => item_field(field_at(scope, class, member)),
@@ -148,7 +148,7 @@ pub fn item_type(scope: &Scope, steps: &[Step]) -> Option<Ty>
 }
 
 pub fn function_at<'a>(scope: &Scope<'a>, class: u32, function: u32) -> Option<&'a FunctionSig>
-    ensures { MatchOption result (spec.function_in function (slice_get (map class_view scope.now.classes.now) class) ≡ None) (λ f. spec.function_in function (slice_get (map class_view scope.now.classes.now) class) ≡ Some (function_view f.now)) }
+    ensures { Finds (λ f. function_view f.now) result (spec.function_at (here scope.now) class function) }
 {
     match class_at(scope, class) {
         None => None,
@@ -158,7 +158,7 @@ pub fn function_at<'a>(scope: &Scope<'a>, class: u32, function: u32) -> Option<&
 
 /// Whether a type is `Atom` or an element.
 pub fn is_atom(scope: &Scope, ty: Ty) -> bool
-    ensures { result ≡ row.is_atom (scope_view scope.now) ty }
+    ensures { result ≡ row.is_atom (here scope.now) ty }
 {
     match ty {
         Ty::Atom => true,
@@ -169,7 +169,7 @@ pub fn is_atom(scope: &Scope, ty: Ty) -> bool
 
 /// Whether a type is an element or `Empty`.
 pub fn is_species(scope: &Scope, ty: Ty) -> bool
-    ensures { result ≡ row.is_species (scope_view scope.now) ty }
+    ensures { result ≡ row.is_species (here scope.now) ty }
 {
     match ty {
         Ty::Empty => true,
@@ -199,7 +199,7 @@ fn same_class(ty: Ty, class: u32) -> bool
 
 /// Whether a value of the second type can be assigned to the first.
 pub fn assignable(scope: &Scope, to: Ty, ty: Ty) -> bool
-    ensures { result ≡ row.assignable (scope_view scope.now) to ty }
+    ensures { result ≡ row.assignable (here scope.now) to ty }
 {
     match to {
         Ty::Num { num } => fits_number(num.kind, ty),
@@ -210,7 +210,7 @@ pub fn assignable(scope: &Scope, to: Ty, ty: Ty) -> bool
 }
 
 pub fn is_element_type(scope: &Scope, ty: Ty) -> bool
-    ensures { result ≡ walk.is_element_type (scope_view scope.now) ty }
+    ensures { result ≡ walk.is_element_type (here scope.now) ty }
 {
     match ty {
         Ty::Class { class } => is_element(scope, class),
@@ -220,7 +220,7 @@ pub fn is_element_type(scope: &Scope, ty: Ty) -> bool
 
 /// The slot that a path of one name means, if it is of type `Atom`.
 pub fn atom_slot(scope: &Scope, steps: &[Step]) -> Option<u32>
-    ensures { result ≡ walk.atom_slot (scope_view scope.now) steps.now }
+    ensures { result ≡ walk.atom_slot (here scope.now) steps.now }
 {
     match steps {
         [Step::Local { slot }] => match scope.slots.get(*slot as usize) {

@@ -1,12 +1,13 @@
 //! Parts of statements.
-ghost use Rattle.std.specs.Prelude.{◌≡◌, slice_set, option_map, IfOk};
+ghost use Rattle.std.specs.Prelude.{◌≡◌, slice_set, IfOk};
 ghost use Rattle.ulam_tree.specs.Found.{must};
-ghost use Rattle.ulam_tree.specs.Resolved as raw_tree;
-ghost use Rattle.ulam_tree.specs.ResolvedViews.{resolved_expr, resolved_left, resolved_path, resolved_args};
-ghost use Rattle.ulam_tree.specs.TypedViews.{typed_expr, typed_left, typed_statement};
+ghost use Rattle.ulam_tree.specs.Resolved as tree;
+ghost use Rattle.ulam_tree.specs.ResolvedViews.{resolved_expr, resolved_left};
+ghost use Rattle.ulam_tree.specs.TypedViews.{typed_expr};
 ghost use Rattle.ulam_types.specs.Bodies as walk;
 ghost use Rattle.ulam_types.specs.Faults.{break_outside};
-ghost use Rattle.ulam_types.specs.Shown.{scope_view, Gives};
+ghost use Rattle.ulam_types.specs.Results.{resolved_maybe, resolved_does, maybe_view, left_view, GivesStatement};
+ghost use Rattle.ulam_types.specs.Shown.{here, Gives};
 
 use crate::copy;
 use crate::expr::{call, expr, index, place_of, plain};
@@ -22,7 +23,7 @@ use ulam_tree::{PairOp, typed, typed_build as build};
 
 /// A left side, and its type.
 fn left(alloc: Global, scope: &Scope, raw: &Left) -> Result<(typed::Left, Ty), TypeFault>
-    ensures { Gives (λ x. (typed_left x.0, x.1)) result (walk.left (scope_view scope.now) (resolved_left raw.now)) }
+    ensures { Gives left_view result (walk.left (here scope.now) (resolved_left raw.now)) }
 {
     match &raw.index {
         None => match target_type(scope, raw.path.steps.as_slice()) {
@@ -52,7 +53,7 @@ fn value_for(
     ty: Ty,
     raw: &Expr,
 ) -> Result<typed::Expr, TypeFault>
-    ensures { Gives typed_expr result (walk.value_for (scope_view scope.now) place ty (resolved_expr raw.now)) }
+    ensures { Gives typed_expr result (walk.value_for (here scope.now) place ty (resolved_expr raw.now)) }
 {
     let found = expr(alloc, scope, taken(ty), raw)?;
     if assignable(scope, ty, found.ty) {
@@ -64,7 +65,7 @@ fn value_for(
 
 /// A condition.
 pub fn test(alloc: Global, scope: &Scope, raw: &Expr) -> Result<typed::Expr, TypeFault>
-    ensures { Gives typed_expr result (walk.test (scope_view scope.now) (resolved_expr raw.now)) }
+    ensures { Gives typed_expr result (walk.test (here scope.now) (resolved_expr raw.now)) }
 {
     let found = expr(alloc, scope, Kind::Int, raw)?;
     if is_truth(found.ty) {
@@ -80,7 +81,7 @@ pub fn maybe_test(
     scope: &Scope,
     raw: &Option<Expr>,
 ) -> Result<Option<typed::Expr>, TypeFault>
-    ensures { Gives (option_map typed_expr) result (walk.maybe (walk.test (scope_view scope.now)) (option_map resolved_expr raw.now)) }
+    ensures { Gives maybe_view result (walk.maybe_test (here scope.now) (resolved_maybe raw.now)) }
 {
     match raw {
         None => Ok(None),
@@ -96,7 +97,7 @@ fn maybe_value(
     ty: Ty,
     raw: &Option<Expr>,
 ) -> Result<Option<typed::Expr>, TypeFault>
-    ensures { Gives (option_map typed_expr) result (walk.maybe (walk.value_for (scope_view scope.now) place ty) (option_map resolved_expr raw.now)) }
+    ensures { Gives maybe_view result (walk.maybe_value (here scope.now) place ty (resolved_maybe raw.now)) }
 {
     match raw {
         None => Ok(None),
@@ -113,7 +114,7 @@ fn assigned(
     op: Option<PairOp>,
     raw: &Expr,
 ) -> Result<typed::Expr, TypeFault>
-    ensures { Gives typed_expr result (walk.assigned (scope_view scope.now) place ty op (resolved_expr raw.now)) }
+    ensures { Gives typed_expr result (walk.assigned (here scope.now) place ty op (resolved_expr raw.now)) }
 {
     match op {
         None => value_for(alloc, scope, place, ty, raw),
@@ -136,7 +137,7 @@ fn returned(
     place: Place,
     raw: &Option<Expr>,
 ) -> Result<Option<typed::Expr>, TypeFault>
-    ensures { Gives (option_map typed_expr) result (walk.result (scope_view scope.now) place (option_map resolved_expr raw.now)) }
+    ensures { Gives maybe_view result (walk.result (here scope.now) place (resolved_maybe raw.now)) }
 {
     match raw {
         None => {
@@ -167,7 +168,7 @@ pub fn give(
     place: Place,
     raw: &Option<Expr>,
 ) -> Result<typed::Statement, TypeFault>
-    ensures { Gives typed_statement result (walk.statement (scope_view scope.now) (raw_tree.returns place (option_map resolved_expr raw.now))) }
+    ensures { GivesStatement result scope.now (tree.returns place (resolved_maybe raw.now)) }
 {
     let value = returned(alloc, scope, place, raw)?;
     Ok(typed::Statement::Return { place, value })
@@ -175,7 +176,7 @@ pub fn give(
 
 /// Refuses a place outside a loop.
 fn within_loop(scope: &Scope, place: Place) -> Result<(), TypeFault>
-    ensures { Gives (λ x. x) result (must (scope_view scope.now).looped (break_outside place)) }
+    ensures { Gives (λ x. x) result (must (here scope.now).looped (break_outside place)) }
 {
     if scope.looped {
         Ok(())
@@ -187,7 +188,7 @@ fn within_loop(scope: &Scope, place: Place) -> Result<(), TypeFault>
 /// A `break`.
 #[tactic(auto, unfolding(crate::specs::Bodies::statement))]
 pub fn breaks(scope: &Scope, place: Place) -> Result<typed::Statement, TypeFault>
-    ensures { Gives typed_statement result (walk.statement (scope_view scope.now) (raw_tree.breaks place)) }
+    ensures { GivesStatement result scope.now (tree.breaks place) }
 {
     within_loop(scope, place)?;
     Ok(typed::Statement::Break { place })
@@ -196,7 +197,7 @@ pub fn breaks(scope: &Scope, place: Place) -> Result<typed::Statement, TypeFault
 /// A `continue`.
 #[tactic(auto, unfolding(crate::specs::Bodies::statement))]
 pub fn continues(scope: &Scope, place: Place) -> Result<typed::Statement, TypeFault>
-    ensures { Gives typed_statement result (walk.statement (scope_view scope.now) (raw_tree.continues place)) }
+    ensures { GivesStatement result scope.now (tree.continues place) }
 {
     within_loop(scope, place)?;
     Ok(typed::Statement::Continue { place })
@@ -212,7 +213,7 @@ pub fn declare(
     place: Place,
     raw: &Option<Expr>,
 ) -> Result<typed::Statement, TypeFault>
-    ensures { Gives typed_statement result (walk.statement (scope_view scope.now) (raw_tree.declares of slot place (option_map resolved_expr raw.now))) }
+    ensures { GivesStatement result scope.now (tree.declares of slot place (resolved_maybe raw.now)) }
 {
     if !is_value(scope, of.ty) {
         return Err(TypeFault::WrongType(of.place));
@@ -235,7 +236,7 @@ pub fn assign(
     op: Option<PairOp>,
     raw: &Expr,
 ) -> Result<typed::Statement, TypeFault>
-    ensures { Gives typed_statement result (walk.statement (scope_view scope.now) (raw_tree.assigns (resolved_left to.now) op (resolved_expr raw.now))) }
+    ensures { GivesStatement result scope.now (tree.assigns (resolved_left to.now) op (resolved_expr raw.now)) }
 {
     let (left, ty) = left(alloc, scope, to)?;
     let value = assigned(alloc, scope, to.path.place, ty, op, raw)?;
@@ -250,7 +251,7 @@ pub fn count(
     to: &Left,
     up: bool,
 ) -> Result<typed::Statement, TypeFault>
-    ensures { Gives typed_statement result (walk.statement (scope_view scope.now) (raw_tree.counts (resolved_left to.now) up)) }
+    ensures { GivesStatement result scope.now (tree.counts (resolved_left to.now) up) }
 {
     let (left, ty) = left(alloc, scope, to)?;
     let sum = pair_row(to.path.place, PairOp::Add, true, ty, plain_type(taken(ty)))?;
@@ -264,7 +265,7 @@ pub fn count(
 /// A call as a statement.
 #[tactic(auto, unfolding(crate::specs::Bodies::statement))]
 pub fn does(alloc: Global, scope: &Scope, raw: &Call) -> Result<typed::Statement, TypeFault>
-    ensures { Gives typed_statement result (walk.statement (scope_view scope.now) (raw_tree.does (resolved_path raw.now.path) (resolved_args raw.now.args.items))) }
+    ensures { GivesStatement result scope.now (resolved_does raw.now) }
 {
     let (args, _) = call(alloc, scope, &raw.path, raw.args.as_slice())?;
     Ok(build::does(copy::path(alloc, &raw.path)?, args))

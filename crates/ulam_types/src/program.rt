@@ -1,11 +1,11 @@
 //! The typed tree of a program.
-ghost use Rattle.std.specs.Prelude.{◌≡◌, ◌≢◌, ◌≤◌, length, map, List, IfOk, IfErr};
+ghost use Rattle.std.specs.Prelude.{◌≢◌, ◌≤◌, length, map, IfOk, IfErr};
 ghost use Rattle.ulam_tree.specs.ResolvedViews.{resolved_class, resolved_member, resolved_program};
-ghost use Rattle.ulam_tree.specs.Typed as typed_tree;
-ghost use Rattle.ulam_tree.specs.TypedViews.{typed_class, typed_member, typed_program};
+ghost use Rattle.ulam_tree.specs.TypedViews.{typed_class, typed_program};
 ghost use Rattle.ulam_types.specs.Programs as walk;
-ghost use Rattle.ulam_types.specs.ProgramTyping.{IsTypedProgram};
-ghost use Rattle.ulam_types.specs.Shown.{class_view, Gives};
+ghost use Rattle.ulam_types.specs.ProgramTyping.{IsTypedProgram, HasNoTypedTree};
+ghost use Rattle.ulam_types.specs.Results.{members_view, classes_view};
+ghost use Rattle.ulam_types.specs.Shown.{sigs_view, Gives};
 ghost use Rattle.ulam_types.specs.Well.{IsWellProgram};
 ghost use Rattle.ulam_types.specs.declared.fault.TypeFault.TheVariants.{NoMemory};
 
@@ -27,7 +27,7 @@ fn members(
     own: u32,
     raw: &[Member],
 ) -> Result<Vec<typed::Member>, TypeFault>
-    ensures { Gives (λ v. map typed_member v.items) result (walk.members (map class_view sigs.now) own (map resolved_member raw.now)) }
+    ensures { Gives members_view result (walk.members (sigs_view sigs.now) own (map resolved_member raw.now)) }
 {
     let mut found = Vec::new(alloc);
     for one in raw {
@@ -38,7 +38,7 @@ fn members(
 }
 
 fn class(alloc: Global, sigs: &[ClassSig], own: u32, raw: &Class) -> Result<typed::Class, TypeFault>
-    ensures { Gives typed_class result (walk.class (map class_view sigs.now) own (resolved_class raw.now)) }
+    ensures { Gives typed_class result (walk.class (sigs_view sigs.now) own (resolved_class raw.now)) }
 {
     let members = members(alloc, sigs, own, raw.members.as_slice())?;
     Ok(typed::Class {
@@ -50,7 +50,7 @@ fn class(alloc: Global, sigs: &[ClassSig], own: u32, raw: &Class) -> Result<type
 
 fn classes(alloc: Global, sigs: &[ClassSig], raw: &[Class]) -> Result<Vec<typed::Class>, TypeFault>
     requires { length raw.now ≤ 4294967295 }
-    ensures { Gives (λ v. map typed_class v.items) result (walk.classes (map class_view sigs.now) 0 (map resolved_class raw.now)) }
+    ensures { Gives classes_view result (walk.classes (sigs_view sigs.now) 0 (map resolved_class raw.now)) }
 {
     let mut found = Vec::new(alloc);
     let mut own = 0;
@@ -73,18 +73,18 @@ fn find(alloc: Global, program: &Program) -> Result<Typed, TypeFault>
     Ok(Typed { classes })
 }
 
-/// The typed tree of a program. Else its first fault: classes, functions and statements are gone
-/// through in the order of the text, and operands from left to right before their operator.
+/// The typed tree of a program, or else its first fault: classes, functions and statements are
+/// checked in the order of the text, and operands from left to right before their operator.
 /// `NoMemory` if the tree can't be kept.
 ///
-/// A program has a layout if its quarks and elements are narrow enough, which is found before
-/// types are; no rule of types asks for it.
+/// A program has a layout if its quarks and elements are narrow enough. That is checked before
+/// types are, so a layout is needed here; no rule of types depends on it.
 pub fn check(alloc: Global, program: &Program, _layout: &Layout) -> Result<Typed, TypeFault>
     requires { length program.now.classes.items ≤ 4294967295 }
     ensures found { Gives typed_program result (walk.program (resolved_program program.now)) }
     ensures is { IfOk result (λ t. IsTypedProgram (resolved_program program.now) (typed_program t)) }
     ensures well { IfOk result (λ t. IsWellProgram (typed_program t)) }
-    ensures none { IfErr result (λ e. e ≢ NoMemory → (tree : List typed_tree.Class) → IsTypedProgram (resolved_program program.now) tree → ⊥) }
+    ensures none { IfErr result (λ e. e ≢ NoMemory → HasNoTypedTree (resolved_program program.now)) }
 {
     find(alloc, program)
 }

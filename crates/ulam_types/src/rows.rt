@@ -1,6 +1,5 @@
 //! The table of types.
-ghost use Rattle.std.specs.Prelude.{◌≡◌, ◌^◌};
-ghost use Rattle.ulam_tree.specs.Found.{found};
+ghost use Rattle.std.specs.Prelude.{◌≡◌};
 ghost use Rattle.ulam_types.specs.Rows as row;
 ghost use Rattle.ulam_types.specs.Shown.{Gives};
 
@@ -213,10 +212,10 @@ fn are_mixed(a: NumClass, b: NumClass) -> bool
     }
 }
 
-/// The type of two operands, or what is wrong with them. Whether the right one is plain counts for
-/// shifts alone.
+/// The type of two operands, or what is wrong with them. Whether the right one is plain matters
+/// for shifts alone.
 pub fn pair_row(place: Place, op: PairOp, plain: bool, left: Ty, right: Ty) -> Result<Ty, TypeFault>
-    ensures { Gives (λ x. x) result (found (row.pair_type op plain left right) (row.pair_fault place op left right)) }
+    ensures { Gives (λ x. x) result (row.pair_found place op plain left right) }
 {
     match pair_type(op, plain, left, right) {
         Some(ty) => Ok(ty),

@@ -1,4 +1,4 @@
-//! What is known at an expression.
+//! What is known where an expression or a statement is.
 
 use ulam_tree::resolved::Ty;
 
@@ -35,7 +35,7 @@ pub struct ClassSig {
     pub functions: Vec<FunctionSig>,
 }
 
-/// What a type counts as beside an operator, with its width.
+/// What an operator sees of a type.
 #[derive(Clone, Copy, Debug, PartialEq, Eq)]
 pub enum NumClass {
     /// `Int`.
@@ -50,17 +50,17 @@ pub enum NumClass {
     Other,
 }
 
-/// The place of an expression.
+/// What is known where an expression or a statement is.
 #[derive(Clone, Copy)]
 pub struct Scope<'a> {
     /// All classes.
     pub classes: &'a [ClassSig],
-    /// The class whose function it stands in.
+    /// The class that has the function.
     pub class: u32,
     /// The types of the function's slots.
     pub slots: &'a [Ty],
     /// The function's result.
     pub result: Ty,
-    /// Whether it is inside a loop.
+    /// Whether a loop is around.
     pub looped: bool,
 }

@@ -2,7 +2,7 @@
 ghost use Rattle.std.specs.Prelude.{◌≡◌, map, IfOk};
 ghost use Rattle.ulam_tree.specs.ResolvedViews.{resolved_class, resolved_member, resolved_param};
 ghost use Rattle.ulam_types.specs.Programs as walk;
-ghost use Rattle.ulam_types.specs.Shown.{class_view, function_view};
+ghost use Rattle.ulam_types.specs.Shown.{class_view, function_view, sigs_view};
 
 use crate::scope::{ClassSig, FieldSig, FunctionSig, Want};
 use std::alloc::{AllocError, Global};
@@ -64,7 +64,7 @@ fn class_sig(alloc: Global, class: &Class) -> Result<ClassSig, AllocError>
 
 /// All classes, as expressions see them.
 pub fn class_sigs(alloc: Global, classes: &[Class]) -> Result<Vec<ClassSig>, AllocError>
-    ensures { IfOk result (λ v. map class_view v.items ≡ map walk.class_sig (map resolved_class classes.now)) }
+    ensures { IfOk result (λ v. sigs_view v.items ≡ map walk.class_sig (map resolved_class classes.now)) }
 {
     let mut found = Vec::new(alloc);
     for class in classes {

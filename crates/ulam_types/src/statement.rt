@@ -1,11 +1,11 @@
 //! Types of statements.
-ghost use Rattle.std.specs.Box.{box_value};
-ghost use Rattle.ulam_tree.specs.Resolved as raw_tree;
+ghost use Rattle.ulam_tree.specs.Resolved as tree;
 ghost use Rattle.ulam_tree.specs.ResolvedViews.{resolved_expr, resolved_path, resolved_cond, resolved_statement, resolved_body, resolved_part};
-ghost use Rattle.ulam_tree.specs.TypedViews.{typed_cond, typed_statement, typed_body, typed_part};
+ghost use Rattle.ulam_tree.specs.TypedViews.{typed_part, boxed_statement};
 ghost use Rattle.ulam_types.specs.Bodies as walk;
+ghost use Rattle.ulam_types.specs.Results.{body_view, GivesBranch, GivesStatement};
 ghost use Rattle.ulam_types.specs.Scopes.{in_loop};
-ghost use Rattle.ulam_types.specs.Shown.{scope_view, Gives};
+ghost use Rattle.ulam_types.specs.Shown.{here, Gives};
 
 use crate::copy;
 use crate::fault::TypeFault;
@@ -26,7 +26,7 @@ pub fn statement(
     scope: &Scope,
     raw: &Statement,
 ) -> Result<typed::Statement, TypeFault>
-    ensures { Gives typed_statement result (walk.statement (scope_view scope.now) (resolved_statement raw.now)) }
+    ensures { GivesStatement result scope.now (resolved_statement raw.now) }
 {
     match raw {
         Statement::Block { body: list } => {
@@ -76,7 +76,7 @@ fn while_so(
     body: &Statement,
     cond: &Expr,
 ) -> Result<typed::Statement, TypeFault>
-    ensures { Gives typed_statement result (walk.statement (scope_view scope.now) (raw_tree.while_so (resolved_expr cond.now) (resolved_statement body.now))) }
+    ensures { GivesStatement result scope.now (tree.while_so (resolved_expr cond.now) (resolved_statement body.now)) }
 {
     let cond = test(alloc, scope, cond)?;
     let body = turns(alloc, scope, body)?;
@@ -86,7 +86,7 @@ fn while_so(
 /// The body of a loop.
 #[cycle(statement)]
 fn turns(alloc: Global, scope: &Scope, raw: &Statement) -> Result<Box<typed::Statement>, TypeFault>
-    ensures { Gives (λ b. typed_statement (box_value b)) result (walk.statement (in_loop (scope_view scope.now)) (resolved_statement raw.now)) }
+    ensures { Gives boxed_statement result (walk.statement (in_loop (here scope.now)) (resolved_statement raw.now)) }
 {
     let inner = Scope {
         looped: true,
@@ -104,7 +104,7 @@ fn part(
     scope: &Scope,
     raw: &Option<Box<Statement>>,
 ) -> Result<Option<Box<typed::Statement>>, TypeFault>
-    ensures { Gives typed_part result (walk.part (scope_view scope.now) (resolved_part raw.now)) }
+    ensures { Gives typed_part result (walk.part (here scope.now) (resolved_part raw.now)) }
 {
     match raw {
         None => Ok(None),
@@ -115,7 +115,7 @@ fn part(
     }
 }
 
-/// What an `if` asks, and its first branch, in which a name may be seen as an element.
+/// The condition of an `if`, and its first branch, in which a name may be seen as an element.
 #[cycle(statement)]
 fn branch(
     alloc: Global,
@@ -123,7 +123,7 @@ fn branch(
     yes: &Statement,
     cond: &Cond,
 ) -> Result<(typed::Cond, Box<typed::Statement>), TypeFault>
-    ensures { Gives (λ x. (typed_cond x.0, typed_statement (box_value x.1))) result (walk.branch (scope_view scope.now) (resolved_cond cond.now) (λ g. walk.statement g (resolved_statement yes.now))) }
+    ensures { GivesBranch result scope.now (resolved_cond cond.now) (resolved_statement yes.now) }
 {
     match cond {
         Cond::Test { value } => {
@@ -136,7 +136,8 @@ fn branch(
     }
 }
 
-/// What an `if` with `as` asks, and its first branch, in which the name is seen as the element.
+/// The condition of an `if` with `as`, and its first branch, in which the name is seen as the
+/// element.
 #[cycle(statement)]
 fn seen(
     alloc: Global,
@@ -145,7 +146,7 @@ fn seen(
     path: &Path,
     class: Named,
 ) -> Result<(typed::Cond, Box<typed::Statement>), TypeFault>
-    ensures { Gives (λ x. (typed_cond x.0, typed_statement (box_value x.1))) result (walk.branch (scope_view scope.now) (raw_tree.seen (resolved_path path.now) class) (λ g. walk.statement g (resolved_statement yes.now))) }
+    ensures { GivesBranch result scope.now (tree.seen (resolved_path path.now) class) (resolved_statement yes.now) }
 {
     let Some(slot) = atom_slot(scope, path.steps.as_slice()) else {
         return Err(TypeFault::BadAs(path.place));
@@ -171,7 +172,7 @@ pub fn body(
     scope: &Scope,
     raw: &[Statement],
 ) -> Result<Vec<typed::Statement>, TypeFault>
-    ensures { Gives (λ v. typed_body v.items) result (walk.body (scope_view scope.now) (resolved_body raw.now)) }
+    ensures { Gives body_view result (walk.body (here scope.now) (resolved_body raw.now)) }
 {
     let mut found = Vec::new(alloc);
     for one in raw {

@@ -1,9 +1,9 @@
 //! Whether the arguments of a call suit what is wanted of them.
 ghost use Rattle.std.specs.Prelude.{◌≡◌, length};
-ghost use Rattle.ulam_tree.specs.Typed as tree;
+ghost use Rattle.ulam_tree.specs.Typed as typed_tree;
 ghost use Rattle.ulam_tree.specs.TypedViews.{typed_form, typed_expr, typed_args};
 ghost use Rattle.ulam_types.specs.Rows as row;
-ghost use Rattle.ulam_types.specs.Shown.{scope_view};
+ghost use Rattle.ulam_types.specs.Shown.{here};
 
 use crate::lookup::assignable;
 use crate::rows::{is_index, is_unsigned, taken, wide, width_of};
@@ -26,7 +26,7 @@ pub fn taken_want(want: Want) -> Kind
 /// Whether a typed expression is a number without `u`, in any number of brackets.
 #[tactic(auto, using(crate::proofs::Args::call_not_plain))]
 fn is_plain(form: &Form) -> bool
-    ensures { result ≡ tree.plain_form (typed_form form.now) }
+    ensures { result ≡ typed_tree.plain_form (typed_form form.now) }
 {
     match form {
         Form::Number { unsigned, .. } => !*unsigned,
@@ -37,7 +37,7 @@ fn is_plain(form: &Form) -> bool
 
 /// Whether a typed argument is what is wanted.
 pub fn suits(scope: &Scope, want: Want, value: &typed::Expr) -> bool
-    ensures { result ≡ row.suits (scope_view scope.now) want (typed_expr value.now) }
+    ensures { result ≡ row.suits (here scope.now) want (typed_expr value.now) }
 {
     match want {
         Want::Value { ty } => assignable(scope, ty, value.ty),
@@ -49,7 +49,7 @@ pub fn suits(scope: &Scope, want: Want, value: &typed::Expr) -> bool
 /// Whether each argument suits its parameter.
 pub fn all_suit(scope: &Scope, wants: &[Want], args: &[typed::Expr]) -> bool
     requires { length wants.now ≡ length args.now }
-    ensures { result ≡ row.all_suit (scope_view scope.now) wants.now (typed_args args.now) }
+    ensures { result ≡ row.all_suit (here scope.now) wants.now (typed_args args.now) }
 {
     for i in 0..args.len() {
         if !suits(scope, wants[i], &args[i]) {

@@ -1,4 +1,4 @@
--- A window that lies in the plane as a whole: its sites counted from `low`, the place of the first of its nine rows and nine columns.
+-- A window that lies wholly in the plane: its sites are counted from `low`, the place of the first of its nine rows and nine columns.
 use Rattle.std.specs.Prelude.{ℕ, ◌+◌, ◌-◌, ◌*◌, List, [], ◌∷◌, map, true, replicate, ℤ, pos, negsuc, slice_index_or, slice_set}
 use Rattle.std.specs.List.{range_with_len}
 use Rattle.bit_field.specs.Atom.{AtomValue, empty_atom}
@@ -26,11 +26,11 @@ inner_atoms plane low width = map (λ n. slice_index_or plane (inner_place low w
 abbrev pub inner_window : List AtomValue → ℕ → ℕ → WindowValue
 inner_window plane low width = record { atoms = inner_atoms plane low width; live = replicate 41 true }
 
--- a list of atoms with those of some sites written into it, the last of them first
+-- a list of atoms after those of these sites are written into it, from the last site to the first
 abbrev pub filled : List AtomValue → List AtomValue → ℕ → ℕ → List ℕ → List AtomValue
 filled into plane low width [] = into
 filled into plane low width (n ∷ ns) = slice_set (filled into plane low width ns) n (slice_index_or plane (inner_place low width n) empty_atom)
 
--- a list of atoms with those of `count` sites, from site `first` on, written into it
+-- a list of atoms after those of `count` sites, from site `first` on, are written into it
 unfoldable pub with_sites_read : List AtomValue → List AtomValue → ℕ → ℕ → ℕ → ℕ → List AtomValue
 with_sites_read into plane low width first count = filled into plane low width (range_with_len first count)

@@ -77,6 +77,7 @@ impl Window {
         ensures { (n : ℕ) → (atom_at self.now n).state < 2 ^ 71 }
     {
         for n in 0..SITES {
+            // `state` says that it is below 2^71.
             let _state = self.get(n).state();
         }
     }
@@ -87,6 +88,7 @@ impl Window {
         ensures window { IsWindow self.now }
         ensures states { (n : ℕ) → (atom_at self.now n).state < 2 ^ 71 }
     {
+        // Reading a field makes known what holds of every window.
         let _atoms = &self.atoms;
         self.read_states();
     }

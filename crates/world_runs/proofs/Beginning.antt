@@ -15,44 +15,44 @@ use Rattle.draw_stream.proofs.Plans.{attempts_few}
 use Rattle.border_cache.specs.Copies.{IsGridOf}
 use Rattle.tile_map.specs.Plane.{MapValue, is_on, tiles_of}
 use Rattle.tile_core.specs.Underway.{CanAttempt, IsFreshTile}
-use Rattle.tile_core.specs.Values.{TileValue, atoms_of}
+use Rattle.tile_core.specs.Values.{TileWith, atoms_of}
 use Rattle.serial_order.specs.Fresh.{AreFresh}
 use Rattle.world_runs.specs.Worlds.{IsAttempt, IsWorld}
 use Rattle.world_text.specs.Named.{WorldValue}
 use Rattle.world_runs.specs.Fresh.{AllCanAttempt, AreMade, setting_of}
 
 -- each of some tiles has only been made
-abbrev pub EachFresh : {B : Type 0} → MapValue → GridValue → PlanValue → List (TileValue × B) → Type 0
-EachFresh {B} m start plan tiles = (t : ℕ) (x : TileValue × B) → slice_get tiles t ≡ Some x → IsFreshTile m t (atoms_of start) (attempts plan t) x.0
+abbrev pub EachFresh : {B : Type 0} → MapValue → GridValue → PlanValue → List (TileWith B) → Type 0
+EachFresh {B} m start plan tiles = (t : ℕ) (x : TileWith B) → slice_get tiles t ≡ Some x → IsFreshTile m t (atoms_of start) (attempts plan t) x.core
 
 length_snoc : {A : Type 0} (xs : List A) (x : A) → length (xs ++ x ∷ []) ≡ length xs + 1
 length_snoc [] x = refl
 length_snoc (y ∷ xs) x = let e = length_snoc xs x in omega (arith, e)
 
-pub fresh_more : {B : Type 0} (m : MapValue) (start : GridValue) (plan : PlanValue) (tiles : List (TileValue × B)) (x : TileValue × B) → EachFresh m start plan tiles → IsFreshTile m (length tiles) (atoms_of start) (attempts plan (length tiles)) x.0 → EachFresh m start plan (tiles ++ x ∷ [])
+pub fresh_more : {B : Type 0} (m : MapValue) (start : GridValue) (plan : PlanValue) (tiles : List (TileWith B)) (x : TileWith B) → EachFresh m start plan tiles → IsFreshTile m (length tiles) (atoms_of start) (attempts plan (length tiles)) x.core → EachFresh m start plan (tiles ++ x ∷ [])
 fresh_more {B} m start plan tiles x each new t y at = elim (cases_lt t (length tiles)) [
   | inl inside ↦
       let same : y ≡ get_or tiles t x = sym (get_or_from_slice_get (tiles ++ x ∷ []) t y x at) ∙ get_or-append tiles (x ∷ []) x t inside in
-      subst (λ (z : TileValue × B). IsFreshTile m t (atoms_of start) (attempts plan t) z.0) (sym same) (each t (get_or tiles t x) (slice_get-get_or tiles t x inside))
+      subst (λ (z : TileWith B). IsFreshTile m t (atoms_of start) (attempts plan t) z.core) (sym same) (each t (get_or tiles t x) (slice_get-get_or tiles t x inside))
   | inr past ↦
       let within = slice_get_within (tiles ++ x ∷ []) t y at in
       let here : length tiles ≡ t = omega (arith, within, past, length_snoc tiles x) in
       let same : y ≡ x = sym (get_or_from_slice_get (tiles ++ x ∷ []) t y x at) ∙ (ap (λ n. get_or (tiles ++ x ∷ []) n x) (sym here) ∙ get_or-append_seam tiles x [] x) in
-      subst (λ (z : TileValue × B). IsFreshTile m t (atoms_of start) (attempts plan t) z.0) (sym same) (subst (λ n. IsFreshTile m n (atoms_of start) (attempts plan n) x.0) here new)
+      subst (λ (z : TileWith B). IsFreshTile m t (atoms_of start) (attempts plan t) z.core) (sym same) (subst (λ n. IsFreshTile m n (atoms_of start) (attempts plan n) x.core) here new)
 ]
 
 -- what acts in some tiles, and those that are left
-pub acts_more : {B : Type 0} (tiles : List (TileValue × B)) (x : TileValue × B) (b : B) (rest before behaves : List B) → x.1 ≡ b → before ≡ b ∷ rest → map (λ (y : TileValue × B). y.1) tiles ++ before ≡ behaves → map (λ (y : TileValue × B). y.1) (tiles ++ x ∷ []) ++ rest ≡ behaves
-acts_more {B} tiles x b rest before behaves is first all = moved tiles ∙ (ap (λ zs. map (λ (y : TileValue × B). y.1) tiles ++ zs) (ap (λ z. z ∷ rest) is ∙ sym first) ∙ all)
+pub acts_more : {B : Type 0} (tiles : List (TileWith B)) (x : TileWith B) (b : B) (rest before behaves : List B) → x.behave ≡ b → before ≡ b ∷ rest → map (λ (y : TileWith B). y.behave) tiles ++ before ≡ behaves → map (λ (y : TileWith B). y.behave) (tiles ++ x ∷ []) ++ rest ≡ behaves
+acts_more {B} tiles x b rest before behaves is first all = moved tiles ∙ (ap (λ zs. map (λ (y : TileWith B). y.behave) tiles ++ zs) (ap (λ z. z ∷ rest) is ∙ sym first) ∙ all)
   where
-    moved : (ts : List (TileValue × B)) → map (λ (y : TileValue × B). y.1) (ts ++ x ∷ []) ++ rest ≡ map (λ (y : TileValue × B). y.1) ts ++ x.1 ∷ rest
+    moved : (ts : List (TileWith B)) → map (λ (y : TileWith B). y.behave) (ts ++ x ∷ []) ++ rest ≡ map (λ (y : TileWith B). y.behave) ts ++ x.behave ∷ rest
     moved [] = refl
-    moved (t ∷ ts) = ap (λ zs. t.1 ∷ zs) (moved ts)
+    moved (t ∷ ts) = ap (λ zs. t.behave ∷ zs) (moved ts)
 
 -- fewer tiles are made than there are to act, where one of those is left
-pub made_fewer : {B : Type 0} (tiles : List (TileValue × B)) (b : B) (rest before behaves : List B) → before ≡ b ∷ rest → map (λ (y : TileValue × B). y.1) tiles ++ before ≡ behaves → length tiles < length behaves
+pub made_fewer : {B : Type 0} (tiles : List (TileWith B)) (b : B) (rest before behaves : List B) → before ≡ b ∷ rest → map (λ (y : TileWith B). y.behave) tiles ++ before ≡ behaves → length tiles < length behaves
 made_fewer {B} tiles b rest before behaves first all =
-    let whole : length tiles + length before ≡ length behaves = ap (λ n. n + length before) (sym (length-map tiles (λ (y : TileValue × B). y.1))) ∙ (sym (length-append (map (λ (y : TileValue × B). y.1) tiles) before) ∙ ap length all) in
+    let whole : length tiles + length before ≡ length behaves = ap (λ n. n + length before) (sym (length-map tiles (λ (y : TileWith B). y.behave))) ∙ (sym (length-append (map (λ (y : TileWith B). y.behave) tiles) before) ∙ ap length all) in
     let some : length before ≡ length rest + 1 = ap length first ∙ omega arith in
     omega (arith, whole, some)
 
@@ -61,8 +61,8 @@ none_left [] e = refl
 none_left (y ∷ ys) e = absurd (omega (arith, e))
 
 -- all are made where none is left
-pub acts_all : {B : Type 0} (tiles : List (TileValue × B)) (rest behaves : List B) → rest ≡ [] → map (λ (y : TileValue × B). y.1) tiles ++ rest ≡ behaves → map (λ (y : TileValue × B). y.1) tiles ≡ behaves
-acts_all {B} tiles rest behaves none all = sym (append-nil (map (λ (y : TileValue × B). y.1) tiles)) ∙ (ap (λ zs. map (λ (y : TileValue × B). y.1) tiles ++ zs) (sym none) ∙ all)
+pub acts_all : {B : Type 0} (tiles : List (TileWith B)) (rest behaves : List B) → rest ≡ [] → map (λ (y : TileWith B). y.behave) tiles ++ rest ≡ behaves → map (λ (y : TileWith B). y.behave) tiles ≡ behaves
+acts_all {B} tiles rest behaves none all = sym (append-nil (map (λ (y : TileWith B). y.behave) tiles)) ∙ (ap (λ zs. map (λ (y : TileWith B). y.behave) tiles ++ zs) (sym none) ∙ all)
 
 -- the attempts of a tile of a world are ones that it can make
 can_attempt : (w : WorldValue) → IsWorld w → IsPlan w.plan → (t : ℕ) → t < tiles_of w.plane → (list : List Attempt) → attempts w.plan t ≡ list → CanAttempt w.plane t list
@@ -84,30 +84,30 @@ pub all_can : (w : WorldValue) → IsWorld w → IsPlan w.plan → AllCanAttempt
 all_can w h p t inside = can_attempt w h p t inside (attempts w.plan t) refl
 
 -- tiles that were made, all with one meaning, are fresh ones for the run of a world
-all_fresh : {B : Type 0} (after : B → WindowValue → ℕ → WindowValue) (w : WorldValue) (meaning : WindowValue → ℕ → WindowValue) (behaves : List B) (tiles : List (TileValue × B)) (start : GridValue) → IsWorld w → IsPlan w.plan → IsGrid start → IsGridOf w.plane start → start ≡ (setting_of w meaning).start
-    → AreMade w.plane start w.plan behaves tiles → length behaves ≡ tiles_of w.plane → All (λ b. after b ≡ meaning) behaves → AreFresh after w.plane meaning (setting_of w meaning).start w.plan tiles
+all_fresh : {B : Type 0} (after : B → WindowValue → ℕ → WindowValue) (w : WorldValue) (meaning : WindowValue → ℕ → WindowValue) (behaves : List B) (tiles : List (TileWith B)) (start : GridValue) → IsWorld w → IsPlan w.plan → IsGrid start → IsGridOf w.plane start → start ≡ (setting_of w meaning).start
+    → AreMade w.plane start w.plan behaves tiles → length behaves ≡ tiles_of w.plane → All (λ b. after b ≡ meaning) behaves → AreFresh after w.plane (setting_of w meaning) tiles
 all_fresh {B} after w meaning behaves tiles start h p grid fits is f count one = record {
   grid = subst IsGrid is grid;
   fits = subst (IsGridOf w.plane) is fits;
   plan_is = p;
   lists = h.lists;
   count = many ∙ count;
-  fresh = λ t x at. subst (λ (g : GridValue). IsFreshTile w.plane t (atoms_of g) (attempts w.plan t) x.0) is (f.fresh t x at);
+  fresh = λ t x at. subst (λ (g : GridValue). IsFreshTile w.plane t (atoms_of g) (attempts w.plan t) x.core) is (f.fresh t x at);
   meanings = means;
 }
   where
     many : length tiles ≡ length behaves
-    many = sym (length-map tiles (λ (x : TileValue × B). x.1)) ∙ ap length f.acts
+    many = sym (length-map tiles (λ (x : TileWith B). x.behave)) ∙ ap length f.acts
 
-    means : (t : ℕ) (x : TileValue × B) → slice_get tiles t ≡ Some x → after x.1 ≡ meaning
+    means : (t : ℕ) (x : TileWith B) → slice_get tiles t ≡ Some x → after x.behave ≡ meaning
     means t x at =
         let inside = slice_get_within tiles t x at in
-        let same : get_or behaves t x.1 ≡ x.1 = ap (λ (bs : List B). get_or bs t x.1) (sym f.acts) ∙ (get_or-map (λ (y : TileValue × B). y.1) tiles t x x.1 inside ∙ ap (λ (y : TileValue × B). y.1) (get_or_from_slice_get tiles t x x at)) in
-        subst (λ b. after b ≡ meaning) same (All-get_or (λ b. after b ≡ meaning) behaves t x.1 (omega (arith, inside, many)) one)
+        let same : get_or behaves t x.behave ≡ x.behave = ap (λ (bs : List B). get_or bs t x.behave) (sym f.acts) ∙ (get_or-map (λ (y : TileWith B). y.behave) tiles t x x.behave inside ∙ ap (λ (y : TileWith B). y.behave) (get_or_from_slice_get tiles t x x at)) in
+        subst (λ b. after b ≡ meaning) same (All-get_or (λ b. after b ≡ meaning) behaves t x.behave (omega (arith, inside, many)) one)
 
 -- the same on a map that is the world's
-pub all_ready : {B : Type 0} (after : B → WindowValue → ℕ → WindowValue) (w : WorldValue) (m : MapValue) (meaning : WindowValue → ℕ → WindowValue) (behaves : List B) (tiles : List (TileValue × B)) (start : GridValue) → m ≡ w.plane → IsWorld w → IsPlan w.plan → IsGrid start → IsGridOf w.plane start → start ≡ (setting_of w meaning).start
-    → AreMade m start w.plan behaves tiles → length behaves ≡ tiles_of w.plane → All (λ b. after b ≡ meaning) behaves → AreFresh after m meaning (setting_of w meaning).start w.plan tiles
+pub all_ready : {B : Type 0} (after : B → WindowValue → ℕ → WindowValue) (w : WorldValue) (m : MapValue) (meaning : WindowValue → ℕ → WindowValue) (behaves : List B) (tiles : List (TileWith B)) (start : GridValue) → m ≡ w.plane → IsWorld w → IsPlan w.plan → IsGrid start → IsGridOf w.plane start → start ≡ (setting_of w meaning).start
+    → AreMade m start w.plan behaves tiles → length behaves ≡ tiles_of w.plane → All (λ b. after b ≡ meaning) behaves → AreFresh after m (setting_of w meaning) tiles
 all_ready after w m meaning behaves tiles start same h p grid fits is f count one =
     let made = subst (λ (n : MapValue). AreMade n start w.plan behaves tiles) same f in
-    subst (λ (n : MapValue). AreFresh after n meaning (setting_of w meaning).start w.plan tiles) (sym same) (all_fresh after w meaning behaves tiles start h p grid fits is made count one)
+    subst (λ (n : MapValue). AreFresh after n (setting_of w meaning) tiles) (sym same) (all_fresh after w meaning behaves tiles start h p grid fits is made count one)

@@ -1,10 +1,12 @@
 -- What a run needs of a world.
-use Rattle.std.specs.Prelude.{ℕ, ◌≡◌, ◌*◌, ◌<◌, true, All, length}
+use Rattle.std.specs.Prelude.{ℕ, ◌≡◌, ◌*◌, ◌<◌, true, List, All, Ok, length}
 use Rattle.cell_grid.specs.declared.record.Record.{Record}
 use Rattle.draw_stream.specs.declared.attempt.Attempt.{Attempt}
 use Rattle.draw_stream.specs.Plans.{attempts}
+use Rattle.event_journal.specs.Reading.{Said, read_report}
 use Rattle.tile_map.specs.Plane.{MapValue, IsMap, site, tiles_of, is_on, is_live}
 use Rattle.world_text.specs.Named.{WorldValue}
+use Rattle.world_text.specs.Printed.{IsNamed}
 use Rattle.world_text.specs.declared.world.Placed.{Placed}
 
 -- an attempt of a tile that is on, at a position of the tile's rectangle
@@ -26,3 +28,11 @@ pub record IsWorld (w : WorldValue) : Type 0 where
   pub lists : length w.plan.lists ≡ tiles_of w.plane
   pub attempts : (t : ℕ) → All (IsAttempt w.plane t) (attempts w.plan t)
   pub atoms : All (IsPlaced w.plane) w.atoms
+
+-- a world that has names has what a run needs
+abbrev pub NamedWorldsAreValid : Type 0
+NamedWorldsAreValid = (names : List (List ℕ)) (w : WorldValue) → IsNamed names w → IsWorld w
+
+-- in a report that is read for such a world, each event is at a live site
+abbrev pub ReadEventsAreLive : Type 0
+ReadEventsAreLive = (w : WorldValue) (bytes : List ℕ) (d : Said) → IsWorld w → read_report w.plane w.plan.lists bytes ≡ Ok d → All (IsLiveEvent w.plane) d.journal

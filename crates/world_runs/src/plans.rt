@@ -9,5 +9,6 @@ pub(crate) fn plan_fits(plan: &AttemptPlan)
     requires { 0 < length plan.now.lists }
     ensures { IsPlan plan.now }
 {
+    // The contract of `count` says what holds of a plan.
     let _count = plan.count(0);
 }

@@ -1,10 +1,8 @@
 //! The replay of records in a world.
-ghost use Rattle.std.specs.Prelude.{◌≡◌, ℕ, All, IfOk};
-ghost use Rattle.border_cache.specs.Copies.{IsGridOf};
+ghost use Rattle.std.specs.Prelude.{◌≡◌, All, IfOk};
 ghost use Rattle.cell_grid.specs.Records.{replay};
-ghost use Rattle.cell_grid.specs.Known.{BringsNone, IsKnown};
-ghost use Rattle.world_runs.specs.Known.{ArePlacedKnown};
-ghost use Rattle.world_runs.specs.Start.{start_grid};
+ghost use Rattle.world_runs.specs.Known.{KeepsKnown};
+ghost use Rattle.world_runs.specs.Start.{start_of};
 ghost use Rattle.world_runs.specs.Worlds.{IsLiveEvent, IsWorld};
 ghost use Rattle.world_text.specs.Values.{world_value};
 
@@ -29,8 +27,8 @@ pub fn replayed<B: Behave>(
     requires world { IsWorld (world_value world.now) }
     requires map { map.now ≡ (world_value world.now).plane }
     requires live { All (IsLiveEvent (world_value world.now).plane) records.now }
-    ensures grid { IfOk result (λ g. g ≡ replay (B.after behave.old) (start_grid (world_value world.now).plane world.now.atoms.items) records.now) }
-    ensures known { IfOk result (λ g. (n : ℕ) → ArePlacedKnown n world.now.atoms.items → BringsNone n (B.after behave.old) → All (IsKnown n) g.atoms) }
+    ensures grid { IfOk result (λ g. g ≡ replay (B.after behave.old) (start_of (world_value world.now)) records.now) }
+    ensures known { IfOk result (KeepsKnown world.now.atoms.items (B.after behave.old)) }
     ensures meaning { B.after behave.new ≡ B.after behave.old }
 {
     let mut grid = start(alloc, map, world)?;

@@ -1,12 +1,12 @@
 //! The stepped run of a world.
 ghost use Rattle.std.specs.Prelude.{◌≡◌, ℕ, All, IfOk, length};
 ghost use Rattle.window_sites.specs.Window.{WindowValue};
-ghost use Rattle.stepped_world.specs.Ends.{IsOutcome};
 ghost use Rattle.tile_map.specs.Plane.{tiles_of};
 ghost use Rattle.world_runs.specs.Worlds.{IsWorld};
 ghost use Rattle.world_text.specs.Values.{world_value, order_value};
-ghost use Rattle.world_runs.specs.Fresh.{setting_of};
-ghost use Rattle.world_runs.specs.Orders.{IsOrder, order_in};
+ghost use Rattle.world_runs.specs.Fresh.{OfTheMeaning};
+ghost use Rattle.world_runs.specs.OneOrder.{IsSteppedRun};
+ghost use Rattle.world_runs.specs.Orders.{IsOrder};
 
 use crate::order::order_of;
 use crate::plans::plan_fits;
@@ -36,7 +36,7 @@ pub fn stepped<B: Behave + Drop>(
     requires order { IsOrder (world_value world.now).plane (order_value world.now.order) }
     requires one { length behaves.items ≡ tiles_of (world_value world.now).plane }
     requires meaning { (meaning : WindowValue → ℕ → WindowValue) × All (λ b. B.after b ≡ meaning) behaves.items }
-    ensures { IfOk result (λ o. (meaning : WindowValue → ℕ → WindowValue) → All (λ b. B.after b ≡ meaning) behaves.items → IsOutcome (world_value world.now).plane (setting_of (world_value world.now) meaning) (order_in (world_value world.now)) o) }
+    ensures { IfOk result (λ o. OfTheMeaning B.after behaves.items (IsSteppedRun (world_value world.now) o)) }
 {
     map.laws();
     plan_fits(&world.plan);

@@ -4,8 +4,8 @@ ghost use Rattle.window_sites.specs.Window.{WindowValue};
 ghost use Rattle.tile_map.specs.Plane.{tiles_of};
 ghost use Rattle.world_runs.specs.Worlds.{IsWorld};
 ghost use Rattle.world_text.specs.Values.{world_value};
-ghost use Rattle.world_runs.specs.Fresh.{setting_of};
-ghost use Rattle.world_runs.specs.OneOrder.{StandsInOneOrder};
+ghost use Rattle.world_runs.specs.Fresh.{OfTheMeaning};
+ghost use Rattle.world_runs.specs.OneOrder.{IsThreadedRun};
 
 use crate::plans::plan_fits;
 use crate::starting::start;
@@ -36,7 +36,7 @@ pub fn threaded<R: Threads + Sync, B: Behave + Send + Drop, G: Gate>(
     requires map { map.now ≡ (world_value world.now).plane }
     requires one { length behaves.items ≡ tiles_of (world_value world.now).plane }
     requires meaning { (meaning : WindowValue → ℕ → WindowValue) × All (λ b. B.after b ≡ meaning) behaves.items }
-    ensures { IfOk result (λ o. (meaning : WindowValue → ℕ → WindowValue) → All (λ b. B.after b ≡ meaning) behaves.items → StandsInOneOrder (world_value world.now).plane (setting_of (world_value world.now) meaning) o) }
+    ensures { IfOk result (λ o. OfTheMeaning B.after behaves.items (IsThreadedRun (world_value world.now) o)) }
 {
     map.laws();
     plan_fits(&world.plan);

@@ -1,5 +1,5 @@
 //! The tiles of a plane before their first step.
-ghost use Rattle.std.specs.Prelude.{◌≡◌, ◌<◌, ◌≤◌, ℕ, IfOk, length};
+ghost use Rattle.std.specs.Prelude.{◌≡◌, ◌<◌, ◌≤◌, IfOk, length};
 ghost use Rattle.border_cache.specs.Copies.{IsGridOf};
 ghost use Rattle.draw_stream.specs.Plans.{attempts};
 ghost use Rattle.tile_core.specs.Underway.{CanAttempt, IsFreshTile};
@@ -26,8 +26,8 @@ fn fresh_tile<B: Behave + Drop>(
     requires start { IsGridOf map.now start.now }
     requires tile { tile < length plan.now.lists }
     requires can { CanAttempt map.now tile (attempts plan.now tile) }
-    ensures fresh { IfOk result (λ t. IsFreshTile map.now tile (atoms_of start.now) (attempts plan.now tile) t.0) }
-    ensures acts { IfOk result (λ t. t.1 ≡ behave) }
+    ensures fresh { IfOk result (λ t. IsFreshTile map.now tile (atoms_of start.now) (attempts plan.now tile) t.core) }
+    ensures acts { IfOk result (λ t. t.behave ≡ behave) }
 {
     let attempts = plan.of_tile(alloc, tile)?;
     Tile::new(alloc, map, tile, start, attempts, behave)

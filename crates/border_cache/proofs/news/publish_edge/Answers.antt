@@ -8,24 +8,24 @@ use Rattle.border_cache.proofs.news.publish_edge.Goals as goal
 pub put_bits-requires-clause-held : goal.put_bits-requires-clause-held
 put_bits-requires-clause-held g c =
     let p = c.put_cells.ensures.put in
-    held_adds (g.D.Board.lists c.args.board.now) (g.D.Board.lists c.put_cells.new.board) c.args.edge p.0 c.requires.held p.1
+    held_adds (g.D.Board.end c.args.board.now).lists (g.D.Board.end c.put_cells.new.board).lists c.args.edge p.0 c.requires.held p.1
 
 pub put_bits-requires-2-clause-held : goal.put_bits-requires-2-clause-held
 put_bits-requires-2-clause-held g c =
     let p = c.put_cells.ensures.put in
     let q = c.put_bits.ensures.put in
-    let here = held_adds (g.D.Board.lists c.args.board.now) (g.D.Board.lists c.put_cells.new.board) c.args.edge p.0 c.requires.held p.1 in
-    held_adds (g.D.Board.lists c.put_cells.new.board) (g.D.Board.lists c.put_bits.new.board) c.args.edge q.0 here q.1
+    let here = held_adds (g.D.Board.end c.args.board.now).lists (g.D.Board.end c.put_cells.new.board).lists c.args.edge p.0 c.requires.held p.1 in
+    held_adds (g.D.Board.end c.put_cells.new.board).lists (g.D.Board.end c.put_bits.new.board).lists c.args.edge q.0 here q.1
 
 pub returns-clause-published : goal.returns-clause-published
 returns-clause-published g c =
     let p = c.put_cells.ensures.put in
     let q = c.put_bits.ensures.put in
     let r = c.put_bits-2.ensures.put in
-    let a = g.D.Board.lists c.args.board.now in
-    let b = g.D.Board.lists c.put_cells.new.board in
-    let d = g.D.Board.lists c.put_bits.new.board in
-    let f = g.D.Board.lists c.put_bits-2.new.board in
+    let a = (g.D.Board.end c.args.board.now).lists in
+    let b = (g.D.Board.end c.put_cells.new.board).lists in
+    let d = (g.D.Board.end c.put_bits.new.board).lists in
+    let f = (g.D.Board.end c.put_bits-2.new.board).lists in
     let e = c.args.edge in
     let here = held_adds a b e p.0 c.requires.held p.1 in (
       p.0 ++ (q.0 ++ r.0),

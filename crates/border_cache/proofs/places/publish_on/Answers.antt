@@ -1,6 +1,6 @@
 use Rattle.std.proofs.Common.{ℕ, sym, subst}
 use Rattle.tile_map.specs.Plane.{site}
-use Rattle.border_cache.specs.News.{nth_place}
+use Rattle.border_cache.specs.News.{nth_place, border}
 use Rattle.border_cache.specs.Published.{ArePlaces, IsPublish, cell_at}
 use Rattle.border_cache.specs.Windows.{place_in, end_at, sites_on}
 use Rattle.border_cache.proofs.Puts.{publish_by, apart_by}
@@ -23,6 +23,6 @@ returns-clause-published g c =
     let q = place_in m (site c.args.x c.args.y) e in
     let cells = cell_at c.args.cells.now in
     let r = c.publish_edge.ensures.published in
-    let r1 : IsPublish c.shared-sites.result c.end_of-end.result cells p 41 r.0 = subst (λ n. IsPublish c.shared-sites.result c.end_of-end.result cells p n r.0) c.places-places.ensures.count r.2 in
-    let r2 : IsPublish (sites_on m e) (end_at m c.args.tile e) cells p 41 r.0 = subst (λ (x : ℕ × ℕ). IsPublish x.0 x.1 cells p 41 r.0) (λ i. (c.shared-sites.ensures.count i, c.end_of-end.ensures.end i)) r1 in
+    let r1 : IsPublish (border c.shared-sites.result c.end_of-end.result p 41) cells r.0 = subst (λ n. IsPublish (border c.shared-sites.result c.end_of-end.result p n) cells r.0) c.places-places.ensures.count r.2 in
+    let r2 : IsPublish (border (sites_on m e) (end_at m c.args.tile e) p 41) cells r.0 = subst (λ (x : ℕ × ℕ). IsPublish (border x.0 x.1 p 41) cells r.0) (λ i. (c.shared-sites.ensures.count i, c.end_of-end.ensures.end i)) r1 in
     (r.0, r.1, publish_by (sites_on m e) (end_at m c.args.tile e) cells p q 41 c.places-places.ensures.places r.0 r2)

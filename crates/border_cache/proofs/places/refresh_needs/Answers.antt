@@ -1,17 +1,16 @@
-use Rattle.std.proofs.Common.{rules, arith, refl, sym, ◌∙◌, subst}
+use Rattle.std.proofs.Common.{rules, arith, sym, subst}
 use Rattle.edge_lock.specs.EndLists.{IsHeld}
 use Rattle.tile_map.specs.Plane.{site}
 use Rattle.border_cache.specs.Windows.{IsEdgeFor}
 use Rattle.border_cache.proofs.Runs.{held_all}
 use Rattle.border_cache.proofs.Needs.{rises, refreshes_all_begin, refreshes_all_more}
+use Rattle.edge_lock.proofs.BoardLaws.{same_end, same_end_here}
 use Rattle.border_cache.proofs.places.refresh_needs.Goals as goal
 
 pub loop-i-init : goal.loop-i-init
 loop-i-init g c = record {
-  refreshes = refreshes_all_begin c.args.map.now c.args.tile (site c.args.x c.args.y) (g.D.Board.lists c.args.board.now) c.args.cells.now;
-  tile = refl;
-  registers = refl;
-  ends = refl;
+  refreshes = refreshes_all_begin c.args.map.now c.args.tile (site c.args.x c.args.y) (g.D.Board.end c.args.board.now).lists c.args.cells.now;
+  same = same_end_here (g.D.Board.end c.args.board.now);
   moved = search rules;
 }
 
@@ -19,8 +18,8 @@ pub refresh_on-requires-clause-held : goal.refresh_on-requires-clause-held
 refresh_on-requires-clause-held g c =
     let r = c.loop-i.invariant.refreshes in
     let e = c.edge.result in
-    let for = subst (IsEdgeFor c.args.map.now (g.D.Board.registers c.args.board.now) (g.D.Board.lists c.args.board.now)) (sym c.edge.ensures) (c.requires.needs c.loop-i.i 0 (omega (arith, c.loop-i-test.true, c.len-i-end.ensures.count))) in
-    subst IsHeld (sym (r.adds.lists e)) (held_all (r.more e) (g.D.Board.lists c.args.board.now e) for.held)
+    let for = subst (IsEdgeFor c.args.map.now (g.D.Board.end c.args.board.now).registers (g.D.Board.end c.args.board.now).lists) (sym c.edge.ensures) (c.requires.needs c.loop-i.i 0 (omega (arith, c.loop-i-test.true, c.len-i-end.ensures.count))) in
+    subst IsHeld (sym (r.adds.lists e)) (held_all (r.more e) ((g.D.Board.end c.args.board.now).lists e) for.held)
 
 pub loop-i-preserved : goal.loop-i-preserved
 loop-i-preserved g c =
@@ -29,9 +28,7 @@ loop-i-preserved g c =
     let s = site c.args.x c.args.y in
     record {
       refreshes = refreshes_all_more m c.args.tile s c.args.needs.now c.loop-i.i c.edge.result (omega (arith, c.loop-i-test.true, c.len-i-end.ensures.count)) (rises c.args.needs.now c.requires.rising) c.edge.ensures
-          (g.D.Board.lists c.args.board.now) (g.D.Board.lists c.loop-i.board) (g.D.Board.lists c.refresh_on.new.board) c.args.cells.now c.loop-i.cells c.refresh_on.new.cells v.refreshes c.refresh_on.ensures.refreshes;
-      tile = c.refresh_on.ensures.tile ∙ v.tile;
-      registers = c.refresh_on.ensures.edges.0 ∙ v.registers;
-      ends = c.refresh_on.ensures.edges.1 ∙ v.ends;
+          (g.D.Board.end c.args.board.now).lists (g.D.Board.end c.loop-i.board).lists (g.D.Board.end c.refresh_on.new.board).lists c.args.cells.now c.loop-i.cells c.refresh_on.new.cells v.refreshes c.refresh_on.ensures.refreshes;
+      same = same_end (g.D.Board.end c.args.board.now) (g.D.Board.end c.loop-i.board) (g.D.Board.end c.refresh_on.new.board) v.same c.refresh_on.ensures.same;
       moved = search rules;
     }

@@ -32,4 +32,4 @@ returns g c =
     let e = c.advance.ensures in
     let lt : c.args.tile < length tiles = omega (arith, c.requires.tile, d.count) in
     driven_on g.B.Behave.after c.args.map.now tiles c.args.board.now c.turn_to.new.self d c.args.tile c.requires.tile c.turn_to.ensures.edges c.turn_to.ensures.acting (slice_index_or tiles c.args.tile c.index-tiles-tile.result) c.advance.new.self (slice_get-get_or tiles c.args.tile c.index-tiles-tile.result lt)
-    c.advance.new.board e.on e.number e.meaning e.tile e.moved
+    c.advance.new.board e.on e.number e.meaning e.same.0 e.moved

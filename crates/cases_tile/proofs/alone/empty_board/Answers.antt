@@ -6,6 +6,6 @@ use Rattle.cases_tile.proofs.alone.empty_board.Goals as goal
 pub returns : goal.returns
 returns c = record {
   map = c.requires;
-  acting = c.in_ok-board.ensures.made.0;
-  edges = c.in_ok-board.ensures.made.1 ∙ ap (λ m. map untouched_edge (sizes_of m)) c.requires;
+  acting = c.in_ok-board.ensures.acting;
+  edges = c.in_ok-board.ensures.edges ∙ ap (λ m. map untouched_edge (sizes_of m)) c.requires;
 }

@@ -7,4 +7,4 @@ use Rattle.cases_tile.proofs.alone.log.Goals as goal
 pub into_log-requires : goal.into_log-requires
 into_log-requires c =
     let i = c.requires in
-    (after_turn, lists_on c.args.board.now, subst (λ k. IsSome k after_turn c.args.tile.0 (lists_on c.args.board.now)) (sym i.map) i.underway)
+    (after_turn, lists_on c.args.board.now, subst (λ k. IsSome k after_turn c.args.tile.core (lists_on c.args.board.now)) (sym i.map) i.underway)

@@ -15,7 +15,7 @@ returns c =
     let b = c.args.board.now in
     let r = c.requires in
     let f = c.in_ok-tile.ensures.fresh in
-    let t = c.in_ok-tile.tile.0 in
+    let t = c.in_ok-tile.tile.core in
     let none : (e : ℕ) → has_end m t.number e ≡ true → ⊥ = λ e h. no_end e (subst (λ (x : MapValue × ℕ). has_end x.0 x.1 e ≡ true) (λ j. (r.map j, f.number j)) h) in
     record {
       map = f.map;

@@ -4,6 +4,6 @@ use Rattle.cases_tile.proofs.alone.phases.Given as goal
 
 abbrev pub invariant-loop-n : goal.invariant-loop-n
 invariant-loop-n l = record {
-  alone : IsAlone l.map l.tile.0 l.board;
+  alone : IsAlone l.map l.tile.core l.board;
   long : length l.phases ≡ 9;
 }

@@ -1,9 +1,9 @@
 use Rattle.std.proofs.Common.{◌≡◌, ◌++◌, ◌∷◌, [], true, false, sym, ap, ◌∙◌}
 use Rattle.stack_code.specs.Valid.{valid}
-use Rattle.code_file.specs.Form.{elements, names_of}
+use Rattle.code_file.specs.Form.{element, elements, names_of}
 use Rattle.code_file.specs.Judging.{column_behind, is_among}
 use Rattle.code_file.proofs.Judges.{admitted, not_valid, refused, same_name, verified}
-use Rattle.code_file.proofs.Sets.{element, names_are, one_more}
+use Rattle.code_file.proofs.Sets.{names_are, one_more}
 use Rattle.code_file.proofs.reading.admit.Goals as goal
 
 pub returns-then-is_among-clause-admits : goal.returns-then-is_among-clause-admits

@@ -1,7 +1,7 @@
 use Rattle.std.proofs.Common.{take}
 use Rattle.feast_base.proofs.Appending.{Appends-at_exit}
-use Rattle.code_file.specs.Form.{elements}
-use Rattle.code_file.proofs.Sets.{element, next_element, written_more}
+use Rattle.code_file.specs.Form.{element, elements}
+use Rattle.code_file.proofs.Sets.{next_element, written_more}
 use Rattle.code_file.proofs.writing.push_elements.Goals as goal
 
 pub returns-in_err-push_element : goal.returns-in_err-push_element

@@ -5,4 +5,4 @@ use Rattle.code_gen.proofs.ElementCode.{kinded_compiled}
 use Rattle.code_gen.proofs.law.compiled.Goals as goal
 
 pub returns : goal.returns
-returns c = record { layout = laid_out; kinds = program_kinded; ready = kinded_ready; compiled = kinded_compiled }
+returns c = record { layout = λ cs us s. laid_out cs us s.apart s.narrow s.same_heads; kinds = program_kinded; ready = kinded_ready; compiled = kinded_compiled }

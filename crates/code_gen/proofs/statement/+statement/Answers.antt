@@ -4,7 +4,7 @@ use Rattle.std.proofs.lemmas.Grind.{common_steps}
 use Rattle.ulam_tree.specs.TypedViews.{typed_expr, typed_statement, typed_part}
 use Rattle.code_gen.specs.Pieces.{seq}
 use Rattle.code_gen.specs.Clipped.{clip}
-use Rattle.code_gen.specs.Scheme.{index_piece, loop_piece, statement_piece, part_piece}
+use Rattle.code_gen.specs.Scheme.{optional_piece, loop_piece, statement_piece, part_piece}
 use Rattle.code_gen.specs.Seen.{scene_of}
 use Rattle.code_gen.specs.Views.{piece_of}
 use Rattle.code_gen.proofs.Blocks.{block_is, body_step, body_done}
@@ -36,7 +36,7 @@ statement-returns-in_ok-rounds-in-For t c =
     let w = c.deref-in-For.result.now in
     let f = piece_of c.in_ok-first-in-For.first in
     let r = piece_of c.in_ok-rounds-in-For.rounds in
-    let around : r ≡ clip (loop_piece (index_piece z (option_map typed_expr b.cond)) (statement_piece z (typed_statement w)) (part_piece z (typed_part b.step))) =
+    let around : r ≡ clip (loop_piece (optional_piece z (option_map typed_expr b.cond)) (statement_piece z (typed_statement w)) (part_piece z (typed_part b.step))) =
     c.in_ok-rounds-in-For.ensures (statement_piece z (typed_statement w)) (part_piece z (typed_part b.step)) c.in_ok-body-in-For.ensures c.in_ok-step-in-For.ensures in
     IfOk-weaker c.seq-in-For.result (λ q. piece_of q ≡ seq f r) (λ q. piece_of q ≡ clip (statement_piece z (typed_statement s)))
     (λ q e. for_done z s b.first b.cond b.step b.body w (piece_of q) f r b.is c.deref-in-For.ensures c.in_ok-first-in-For.ensures around e) c.seq-in-For.ensures

@@ -19,7 +19,7 @@ loop-pair-preserved c =
     let pair = c.loop-pair.pair in
     let words = c.attempt-words.result in
     record {
-      stream = p.1;
+      stream = c.attempt-words.ensures.after c.args.seed pair c.loop-pair.invariant.stream;
       atoms = c.in_ok-put_two.ensures ∙ (ap (λ xs. xs ++ (put_by (2 * pair) words.centre ++ put_by (2 * pair + 1) (words.seed % 8))) c.loop-pair.invariant.atoms
-          ∙ sym (drawn_two c.args.seed pair words.centre (words.seed % 8) (ap (λ (a : Attempt). a.centre) p.0) (ap (λ (a : Attempt). a.seed % 8) p.0)));
+          ∙ sym (drawn_two c.args.seed pair words.centre (words.seed % 8) (ap (λ (a : Attempt). a.centre) p) (ap (λ (a : Attempt). a.seed % 8) p)));
     }

@@ -8,11 +8,11 @@ use Rattle.pack_laws.proofs.law.packed_calls.Goals as goal
 
 pub returns : goal.returns
 returns c = record {
-  written = λ files world file words packs a b. one_shown files words file packs world a b;
-  step = λ files world file words packs o l. (from_pack files words file packs world steps o l, to_pack files words file packs world steps o l);
-  run = λ files world file words packs o l. (from_pack files words file packs world runs o l, to_pack files words file packs world runs o l);
-  stepped = λ files world file words packs text. (steps_from files words file packs world text, steps_to files words file packs world text);
-  ran = λ files world file words packs text. (runs_from files words file packs world text, runs_to files words file packs world text);
+  written = λ d. one_shown d.files d.words d.file d.packed d.world;
+  step = λ d o l. (from_pack d.files d.words d.file d.packed d.world steps o l, to_pack d.files d.words d.file d.packed d.world steps o l);
+  run = λ d o l. (from_pack d.files d.words d.file d.packed d.world runs o l, to_pack d.files d.words d.file d.packed d.world runs o l);
+  stepped = λ d text. (steps_from d.files d.words d.file d.packed d.world text, steps_to d.files d.words d.file d.packed d.world text);
+  ran = λ d text. (runs_from d.files d.words d.file d.packed d.world text, runs_to d.files d.words d.file d.packed d.world text);
   example = is_packed;
   example_ran = (shows.0, runs_to example_files (empty_word ∷ []) packed_word is_packed world_word shows.0 shows.1);
   example_stepped = (stepped.0, steps_to example_files (empty_word ∷ []) packed_word is_packed world_word stepped.0 stepped.1);

@@ -9,8 +9,7 @@ use Rattle.serial_order.proofs.newest.newest_of.Given as goal
 
 abbrev pub invariant-loop-edge : goal.invariant-loop-edge
 invariant-loop-edge g l = record {
-  done : newest (cell_value l.best.0 l.best.1) (edge_cells l.map (registers_at (g.E.EdgeWords.histories l.fn.words)) (edges_from l.map l.tile l.edge) (site l.x l.y))
-      ≡ newest (cell_value l.fn.own.0 l.fn.own.1) (edge_cells l.map (registers_at (g.E.EdgeWords.histories l.fn.words)) (edges_at l.map l.tile) (site l.x l.y));
-  histories : g.E.EdgeWords.histories l.words ≡ g.E.EdgeWords.histories l.fn.words;
-  counts : g.E.EdgeWords.counts l.words ≡ g.E.EdgeWords.counts l.fn.words;
+  done : newest (cell_value l.best.0 l.best.1) (edge_cells l.map (registers_at (g.E.EdgeWords.words l.fn.words).histories) (edges_from l.map l.tile l.edge) (site l.x l.y))
+      ≡ newest (cell_value l.fn.own.0 l.fn.own.1) (edge_cells l.map (registers_at (g.E.EdgeWords.words l.fn.words).histories) (edges_at l.map l.tile) (site l.x l.y));
+  same : g.E.EdgeWords.words l.words ≡ g.E.EdgeWords.words l.fn.words;
 }

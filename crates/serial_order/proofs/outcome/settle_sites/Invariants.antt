@@ -7,8 +7,7 @@ use Rattle.serial_order.proofs.outcome.settle_sites.Given as goal
 
 abbrev pub invariant-loop-place : goal.invariant-loop-place
 invariant-loop-place g l = record {
-  done : AreSettled l.map (values_of l.tiles) (registers_at (g.E.EdgeWords.histories l.fn.words)) l.place l.grid;
+  done : AreSettled l.map (values_of l.tiles) (registers_at (g.E.EdgeWords.words l.fn.words).histories) l.place l.grid;
   plane : ArePlanesAlike l.fn.grid l.grid;
-  histories : g.E.EdgeWords.histories l.words ≡ g.E.EdgeWords.histories l.fn.words;
-  counts : g.E.EdgeWords.counts l.words ≡ g.E.EdgeWords.counts l.fn.words;
+  same : g.E.EdgeWords.words l.words ≡ g.E.EdgeWords.words l.fn.words;
 }

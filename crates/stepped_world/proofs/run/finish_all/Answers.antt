@@ -2,8 +2,7 @@ use Rattle.std.proofs.Common.{◌≡◌, ◌≢◌, ◌<◌, ◌+◌, ℕ, true,
 use Rattle.std.specs.List.{range_with_len}
 use Rattle.std.proofs.lemmas.Bool.{cases_eq}
 use Rattle.tile_map.specs.Plane.{tiles_of}
-use Rattle.stepped_world.specs.Machine.{finish}
-use Rattle.stepped_world.specs.Running.{Follows, stands_still}
+use Rattle.stepped_world.specs.Running.{rest_by, on_board, Follows, stands_still}
 use Rattle.stepped_world.proofs.Following.{more_finished}
 use Rattle.stepped_world.proofs.run.finish_all.Goals as goal
 
@@ -29,4 +28,5 @@ pub returns-clause-follows : goal.returns-clause-follows
 returns-clause-follows g c =
     let n = c.tiles-tile-end.ensures.count in let past = c.loop-tile-test.false in let end = c.loop-tile.auto.tile-end in
     let e : c.loop-tile.tile ≡ tiles_of c.args.map.now = omega (arith, n, past, end) in
-    subst (λ k. Follows g.B.Behave.after c.args.map.now c.args.tiles.now c.loop-tile.tiles c.args.board.now c.loop-tile.board (λ meaning s. finish c.args.map.now meaning (range_with_len 0 k) s)) e c.loop-tile.invariant.done
+    let f = subst (λ k. Follows g.B.Behave.after c.args.map.now (on_board c.args.tiles.now c.args.board.now) (on_board c.loop-tile.tiles c.loop-tile.board) (rest_by (range_with_len 0 k))) e c.loop-tile.invariant.done in
+    record { underway = f.underway; like = f.like; still = f.still; sizes = f.sizes }

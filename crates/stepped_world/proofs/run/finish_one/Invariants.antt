@@ -1,15 +1,15 @@
 use Rattle.std.proofs.Common.{List, slice_get}
 use Rattle.edge_lock.specs.PlainBoard.{PlainBoardValue}
-use Rattle.tile_core.specs.Values.{TileValue}
-use Rattle.stepped_world.specs.Machine.{finish_tile}
-use Rattle.stepped_world.specs.Running.{Setting, AreUnderway, Follows, steps_ahead}
+use Rattle.tile_core.specs.Values.{TileWith}
+use Rattle.serial_order.specs.Scene.{Setting}
+use Rattle.stepped_world.specs.Running.{rest_of, on_board, AreUnderway, Follows, steps_ahead}
 use Rattle.stepped_world.proofs.run.finish_one.Given as goal
 
 -- what is left of finishing the tile makes the whole
 abbrev pub invariant-loop-tiles : goal.invariant-loop-tiles
 invariant-loop-tiles g l = record {
   keeps : (k : Setting) → AreUnderway g.B.Behave.after l.map k l.fn.tiles l.fn.board → AreUnderway g.B.Behave.after l.map k l.tiles l.board;
-  rest : (zs : List (TileValue × g.row.B.Denot)) (c : PlainBoardValue) → Follows g.B.Behave.after l.map l.tiles zs l.board c (λ meaning s. finish_tile l.map meaning l.tile s) → Follows g.B.Behave.after l.map l.fn.tiles zs l.fn.board c (λ meaning s. finish_tile l.map meaning l.tile s);
+  rest : (zs : List (TileWith g.row.B.Denot)) (c : PlainBoardValue) → Follows g.B.Behave.after l.map (on_board l.tiles l.board) (on_board zs c) (rest_of l.tile) → Follows g.B.Behave.after l.map (on_board l.fn.tiles l.fn.board) (on_board zs c) (rest_of l.tile);
 }
 
 abbrev pub decreases-loop-tiles : goal.decreases-loop-tiles

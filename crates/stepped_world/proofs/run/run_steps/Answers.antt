@@ -1,10 +1,8 @@
 use Rattle.std.proofs.Common.{refl}
-use Rattle.std.specs.List.{range_with_len}
-use Rattle.tile_map.specs.Plane.{tiles_of}
-use Rattle.stepped_world.specs.Machine.{steps, finish}
 use Rattle.stepped_world.proofs.Following.{then_on}
 use Rattle.stepped_world.proofs.Starts.{first_underway}
-use Rattle.stepped_world.proofs.Whole.{all_run, as_stepped}
+use Rattle.stepped_world.specs.Running.{steps_by, rest_of_all}
+use Rattle.stepped_world.proofs.Whole.{steps_then_rest, all_run, as_stepped}
 use Rattle.stepped_world.proofs.run.run_steps.Goals as goal
 
 pub follow-requires-clause-ready : goal.follow-requires-clause-ready
@@ -18,7 +16,7 @@ returns-clause-run g c = λ k s.
     let m = c.args.map.now in
     let f = c.follow.ensures.follows in
     all_run g.B.Behave.after m c.laws.ensures.valid c.args.tiles.now c.finish_all.new.tiles c.args.board.now c.finish_all.new.board f.0
-    (then_on g.B.Behave.after m c.args.tiles.now c.follow.new.tiles c.finish_all.new.tiles c.args.board.now c.follow.new.board c.finish_all.new.board (λ meaning s. steps m meaning f.0 s) (λ meaning s. finish m meaning (range_with_len 0 (tiles_of m)) s) (λ meaning s. finish m meaning (range_with_len 0 (tiles_of m)) (steps m meaning f.0 s)) (λ meaning s. refl) f.2 c.finish_all.ensures.follows)
+    (then_on g.B.Behave.after m c.args.tiles.now c.follow.new.tiles c.finish_all.new.tiles c.args.board.now c.follow.new.board c.finish_all.new.board (steps_by f.0) rest_of_all (steps_then_rest f.0) (λ meaning s. refl) f.2 c.finish_all.ensures.follows)
     c.finish_all.ensures.still k s
 
 pub returns-clause-stepped : goal.returns-clause-stepped
@@ -29,6 +27,6 @@ returns-clause-stepped g c =
       f.1,
       λ k s.
           as_stepped g.B.Behave.after m c.laws.ensures.valid c.args.tiles.now c.finish_all.new.tiles c.args.board.now c.finish_all.new.board f.0
-          (then_on g.B.Behave.after m c.args.tiles.now c.follow.new.tiles c.finish_all.new.tiles c.args.board.now c.follow.new.board c.finish_all.new.board (λ meaning s. steps m meaning f.0 s) (λ meaning s. finish m meaning (range_with_len 0 (tiles_of m)) s) (λ meaning s. finish m meaning (range_with_len 0 (tiles_of m)) (steps m meaning f.0 s)) (λ meaning s. refl) f.2 c.finish_all.ensures.follows)
+          (then_on g.B.Behave.after m c.args.tiles.now c.follow.new.tiles c.finish_all.new.tiles c.args.board.now c.follow.new.board c.finish_all.new.board (steps_by f.0) rest_of_all (steps_then_rest f.0) (λ meaning s. refl) f.2 c.finish_all.ensures.follows)
           c.finish_all.ensures.still k s,
     )

@@ -19,8 +19,8 @@ close-requires-clause-lower c =
     let a = subst (λ (z : ℕ × ℕ). TakesFirst ps one z.0 p) pair c.take_pass-low.ensures in
     let b = subst (λ (z : ℕ × ℕ). TakesFirst one two z.1 q) pair c.take_pass-high.ensures in
     let r = c.requires.left in
-    let f = low_first m r.0 r.1 c.args.number r.2 ps r.4 rises inside one two p q a in
-    (f.of ∙ sym r.3, f.end ∙ low_is m c.args.number, low_free m r.0 r.1 c.args.number r.2 ps r.4 rises inside one two p q a b)
+    let f = low_first m r.0.edges r.0.lists c.args.number r.1 ps r.3 rises inside one two p q a in
+    (f.of ∙ sym r.2, f.end ∙ low_is m c.args.number, low_free m r.0.edges r.0.lists c.args.number r.1 ps r.3 rises inside one two p q a b)
 
 pub close-requires-clause-higher : goal.close-requires-clause-higher
 close-requires-clause-higher c =
@@ -36,11 +36,11 @@ close-requires-clause-higher c =
     let a = subst (λ (z : ℕ × ℕ). TakesFirst ps one z.0 p) pair c.take_pass-low.ensures in
     let b = subst (λ (z : ℕ × ℕ). TakesFirst one two z.1 q) pair c.take_pass-high.ensures in
     let r = c.requires.left in
-    let f = high_first m r.0 r.1 c.args.number r.2 ps r.4 rises inside one two p q a b in
-    (f.of ∙ sym r.3, f.end ∙ high_is m c.args.number rises, high_free m r.0 r.1 c.args.number r.2 ps r.4 rises inside one two p q a b)
+    let f = high_first m r.0.edges r.0.lists c.args.number r.1 ps r.3 rises inside one two p q a b in
+    (f.of ∙ sym r.2, f.end ∙ high_is m c.args.number rises, high_free m r.0.edges r.0.lists c.args.number r.1 ps r.3 rises inside one two p q a b)
 
 pub returns-clause-closed : goal.returns-clause-closed
-returns-clause-closed c edges lists n is k =
+returns-clause-closed c s n is k =
     let m = c.args.map.now in
     let ps = c.args.passes.now.items in
     let one = c.take_pass-low.new.passes.items in
@@ -52,10 +52,10 @@ returns-clause-closed c edges lists n is k =
     let inside = subst (λ (z : ℕ × ℕ). z.1 < tiles_of m) pair c.ends-lower.ensures.tile in
     let a = subst (λ (z : ℕ × ℕ). TakesFirst ps one z.0 p) pair c.take_pass-low.ensures in
     let b = subst (λ (z : ℕ × ℕ). TakesFirst one two z.1 q) pair c.take_pass-high.ensures in
-    closed_is m edges lists c.args.number n ps k rises inside one two p q a b c.args.edge c.close.result is c.close.ensures.registers c.close.ensures.history
+    closed_is m s.edges s.lists c.args.number n ps k rises inside one two p q a b c.args.edge c.close.result is c.close.ensures.registers c.close.ensures.history
 
 pub returns-clause-left : goal.returns-clause-left
-returns-clause-left c edges lists n is k =
+returns-clause-left c s n is k =
     let m = c.args.map.now in
     let ps = c.args.passes.now.items in
     let one = c.take_pass-low.new.passes.items in
@@ -67,4 +67,4 @@ returns-clause-left c edges lists n is k =
     let inside = subst (λ (z : ℕ × ℕ). z.1 < tiles_of m) pair c.ends-lower.ensures.tile in
     let a = subst (λ (z : ℕ × ℕ). TakesFirst ps one z.0 p) pair c.take_pass-low.ensures in
     let b = subst (λ (z : ℕ × ℕ). TakesFirst one two z.1 q) pair c.take_pass-high.ensures in
-    left_after m edges lists c.args.number n ps k rises inside one two p q a b
+    left_after m s.edges s.lists c.args.number n ps k rises inside one two p q a b

@@ -1,6 +1,6 @@
 use Rattle.std.proofs.Common.{◌≡◌, ℕ, ◌+◌, ◌-◌, drop, length, sym, ap, ◌∙◌, subst, arith, rules, length-drop, vec_len}
 use Rattle.edge_lock.specs.EndLists.{EndLists}
-use Rattle.tile_threads.specs.Passes.{no_edge, edge_of, AreLeft, AreClosed, IsClosedEdge}
+use Rattle.tile_threads.specs.Passes.{no_edge, edge_of, shared_edges, AreLeft, AreClosed, IsClosedEdge}
 use Rattle.tile_threads.proofs.Shutting.{next_of, closed_more, AreClosedSoFar}
 use Rattle.tile_threads.proofs.closing.close_edges.Goals as goal
 
@@ -25,7 +25,7 @@ close_edge-requires c =
     let is = c.len-number.ensures in
     let q = c.requires.left in
     let count : vec_len c.args.edges - n ≡ (vec_len c.args.edges - (n + 1)) + 1 = omega (arith, lt, long) in
-    record { left = (es, q.0, vec_len c.args.edges - (n + 1), sym r.0 ∙ ap (edge_of es) (sym is), subst (λ (y : ℕ × ℕ). AreLeft c.args.map.now es q.0 y.0 y.1 c.loop-edge.passes.items) (λ j. (sym is j, count j)) (i.left q.0 q.1)) }
+    record { left = (shared_edges es q.0, vec_len c.args.edges - (n + 1), sym r.0 ∙ ap (edge_of es) (sym is), subst (λ (y : ℕ × ℕ). AreLeft c.args.map.now (shared_edges es q.0) y.0 y.1 c.loop-edge.passes.items) (λ j. (sym is j, count j)) (i.left q.0 q.1)) }
 
 pub loop-edge-preserved : goal.loop-edge-preserved
 loop-edge-preserved c =
@@ -42,15 +42,15 @@ loop-edge-preserved c =
     let len : vec_len c.push.new.self ≡ n + 1 = c.in_ok-push.ensures.len in
     let count : vec_len c.args.edges - n ≡ (vec_len c.args.edges - (n + 1)) + 1 = omega (arith, lt, long) in
     let edge : c.in-Some.edge ≡ edge_of es number = sym r.0 ∙ ap (edge_of es) (sym is) in
-    let at : (lists : ℕ → ℕ → EndLists) → AreLeft m es lists 0 (vec_len c.args.edges) c.args.passes.items → AreLeft m es lists number ((vec_len c.args.edges - (n + 1)) + 1) c.loop-edge.passes.items =
-    λ lists k. subst (λ (y : ℕ × ℕ). AreLeft m es lists y.0 y.1 c.loop-edge.passes.items) (λ j. (sym is j, count j)) (i.left lists k) in
+    let at : (lists : ℕ → ℕ → EndLists) → AreLeft m (shared_edges es lists) 0 (vec_len c.args.edges) c.args.passes.items → AreLeft m (shared_edges es lists) number ((vec_len c.args.edges - (n + 1)) + 1) c.loop-edge.passes.items =
+    λ lists k. subst (λ (y : ℕ × ℕ). AreLeft m (shared_edges es lists) y.0 y.1 c.loop-edge.passes.items) (λ j. (sym is j, count j)) (i.left lists k) in
     record {
       rest = sym r.1 ∙ ap (λ j. drop j es) (sym len);
       few = omega (arith, len, lt, long);
-      left = λ lists k. subst (λ j. AreLeft m es lists j (vec_len c.args.edges - j) c.close_edge.new.passes.items) (sym len)
-          (subst (λ j. AreLeft m es lists (j + 1) (vec_len c.args.edges - (n + 1)) c.close_edge.new.passes.items) is (c.close_edge.ensures.left es lists (vec_len c.args.edges - (n + 1)) edge (at lists k)));
+      left = λ lists k. subst (λ j. AreLeft m (shared_edges es lists) j (vec_len c.args.edges - j) c.close_edge.new.passes.items) (sym len)
+          (subst (λ j. AreLeft m (shared_edges es lists) (j + 1) (vec_len c.args.edges - (n + 1)) c.close_edge.new.passes.items) is (c.close_edge.ensures.left (shared_edges es lists) (vec_len c.args.edges - (n + 1)) edge (at lists k)));
       closed = λ lists k. subst (AreClosedSoFar m lists) (sym c.in_ok-push.ensures.items)
-          (closed_more m lists c.loop-edge.closed.items c.close_edge.result (i.closed lists k) (subst (λ j. IsClosedEdge m lists j c.close_edge.result) (is ∙ sym longc) (c.close_edge.ensures.closed es lists (vec_len c.args.edges - (n + 1)) edge (at lists k))));
+          (closed_more m lists c.loop-edge.closed.items c.close_edge.result (i.closed lists k) (subst (λ j. IsClosedEdge m lists j c.close_edge.result) (is ∙ sym longc) (c.close_edge.ensures.closed (shared_edges es lists) (vec_len c.args.edges - (n + 1)) edge (at lists k))));
     }
 
 pub returns : goal.returns

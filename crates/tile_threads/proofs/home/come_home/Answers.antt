@@ -1,6 +1,7 @@
 use Rattle.std.proofs.Common.{◌≡◌, ◌+◌, [], ◌∷◌, ◌++◌, drop, length, sym, ap, ◌∙◌, subst, arith, rules, append_assoc, length-drop, vec_len}
 use Rattle.std.specs.Prelude.{All, slice_index_or}
-use Rattle.edge_lock.specs.SharedEnds.{SharedEndValue, pass_registers, pass_end, pass_lists}
+use Rattle.edge_lock.specs.SharedEnds.{SharedEndValue, shared_end}
+use Rattle.tile_threads.specs.declared.worker.Worker.{Worker}
 use Rattle.edge_lock.proofs.HistorySteps.{all-head, all-tail}
 use Rattle.tile_threads.specs.Whole.{IsDone, tiles_in}
 use Rattle.tile_threads.proofs.Shutting.{next_of}
@@ -9,12 +10,12 @@ use Rattle.tile_threads.proofs.home.come_home.Goals as goal
 
 pub take_apart-tile-requires : goal.take_apart-tile-requires
 take_apart-tile-requires g c =
-    let P = IsDone {B = g.row.B.Denot} (λ (s : SharedEndValue). s.tile) (λ s. pass_registers s.passes) (λ s. pass_end s.passes) (λ s. pass_lists s.passes) c.args.map.now in
+    let P = λ (w : Worker g.row.B.Denot SharedEndValue). IsDone c.args.map.now w.tile.core (shared_end w.end) in
     all-head P c.in-Some.worker c.next.new.self.rest.items (subst (All P) c.in-Some.ensures.steps.0 c.loop-worker.invariant.done)
 
 pub loop-worker-preserved : goal.loop-worker-preserved
 loop-worker-preserved g c =
-    let P = IsDone {B = g.row.B.Denot} (λ (s : SharedEndValue). s.tile) (λ s. pass_registers s.passes) (λ s. pass_end s.passes) (λ s. pass_lists s.passes) c.args.map.now in
+    let P = λ (w : Worker g.row.B.Denot SharedEndValue). IsDone c.args.map.now w.tile.core (shared_end w.end) in
     let i = c.loop-worker.invariant in
     let ws = c.args.workers.items in
     let w = c.in-Some.worker in

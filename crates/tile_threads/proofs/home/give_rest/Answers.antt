@@ -1,28 +1,35 @@
-use Rattle.std.proofs.Common.{◌≡◌, ℕ, ◌<◌, length, sym, ap, ◌∙◌, subst, arith}
+use Rattle.std.proofs.Common.{◌≡◌, ◌<◌, length, refl, sym, ap, ◌∙◌, subst, arith}
 use Rattle.tile_map.specs.Plane.{site}
 use Rattle.tile_map.specs.Edges.{needs_of}
-use Rattle.border_cache.specs.Copies.{IsEndOf}
 use Rattle.tile_core.specs.Turns.{AgreeOnEdges}
 use Rattle.tile_threads.proofs.LettingGo.{after_some}
-use Rattle.tile_threads.proofs.Resting.{nothing_left, may_give, is_edge, given_more, given_all}
+use Rattle.edge_lock.proofs.BoardLaws.{same_end}
+use Rattle.tile_threads.proofs.Resting.{nothing_left, next_is_held, next_is_quiet, is_edge, given_more, given_all}
+use Rattle.border_cache.proofs.Stored.{end_stays}
 use Rattle.tile_threads.proofs.home.give_rest.Goals as goal
 
 pub returns-in_default-clause-lists : goal.returns-in_default-clause-lists
-returns-in_default-clause-lists g c = nothing_left c.args.map.now c.args.tile.now.0 (g.D.Board.lists c.args.end.now) c.requires.stopped c.requires.underway (sym c.in_default.is ∙ c.in_hand.ensures)
+returns-in_default-clause-lists g c = nothing_left c.args.map.now c.args.tile.now.core (g.D.Board.end c.args.end.now).lists c.requires.done.stopped c.requires.done.underway (sym c.in_default.is ∙ c.in_hand.ensures)
 
 pub give_back-requires-clause-edge : goal.give_back-requires-clause-edge
 give_back-requires-clause-edge g c =
     let i = c.loop-i.invariant in
     let lt : c.loop-i.i < length c.needs-needs.result = let n = c.len-i-end.ensures.count in let t = c.loop-i-test.true in omega (arith, n, t) in
-    is_edge c.args.map.now c.args.tile.now.0 (g.D.Board.lists c.args.end.now) c.requires.stopped c.requires.underway c.in-Some.x c.in-Some.y (sym c.in-Some.is ∙ c.in_hand.ensures) c.needs-needs.result (c.needs-needs.ensures ∙ ap (λ t. needs_of c.args.map.now t (site c.in-Some.x c.in-Some.y)) c.number.ensures) (g.D.Board.lists c.loop-i.end) c.loop-i.i c.edge.result lt c.edge.ensures i.given
-    (g.D.Board.tile c.loop-i.end) (g.D.Board.registers c.loop-i.end) (g.D.Board.end_of c.loop-i.end)
-    (subst (λ (y : ℕ × (ℕ → ℕ) × (ℕ → ℕ)). IsEndOf c.args.map.now c.args.tile.now.0.number y.0 y.1 y.2) (λ j. (sym i.own j, sym i.registers j, sym i.ends j)) c.requires.board)
+    is_edge c.args.map.now c.args.tile.now.core (g.D.Board.end c.args.end.now).lists c.requires.done.stopped c.requires.done.underway c.in-Some.x c.in-Some.y (sym c.in-Some.is ∙ c.in_hand.ensures) c.needs-needs.result (c.needs-needs.ensures ∙ ap (λ t. needs_of c.args.map.now t (site c.in-Some.x c.in-Some.y)) c.number.ensures) (g.D.Board.end c.loop-i.end).lists c.loop-i.i c.edge.result lt c.edge.ensures i.given
+    (g.D.Board.end c.loop-i.end)
+    (end_stays c.args.map.now c.args.tile.now.core.number c.args.tile.now.core.number (g.D.Board.end c.args.end.now) (g.D.Board.end c.loop-i.end) refl i.same c.requires.done.board)
 
 pub give_back-requires-clause-held : goal.give_back-requires-clause-held
 give_back-requires-clause-held g c =
     let i = c.loop-i.invariant in
     let lt : c.loop-i.i < length c.needs-needs.result = let n = c.len-i-end.ensures.count in let t = c.loop-i-test.true in omega (arith, n, t) in
-    may_give c.args.map.now c.args.tile.now.0 (g.D.Board.lists c.args.end.now) c.requires.stopped c.requires.underway c.in-Some.x c.in-Some.y (sym c.in-Some.is ∙ c.in_hand.ensures) c.needs-needs.result (c.needs-needs.ensures ∙ ap (λ t. needs_of c.args.map.now t (site c.in-Some.x c.in-Some.y)) c.number.ensures) (g.D.Board.lists c.loop-i.end) c.loop-i.i c.edge.result lt c.edge.ensures i.given
+    next_is_held c.args.map.now c.args.tile.now.core (g.D.Board.end c.args.end.now).lists c.requires.done.stopped c.requires.done.underway c.in-Some.x c.in-Some.y (sym c.in-Some.is ∙ c.in_hand.ensures) c.needs-needs.result (c.needs-needs.ensures ∙ ap (λ t. needs_of c.args.map.now t (site c.in-Some.x c.in-Some.y)) c.number.ensures) (g.D.Board.end c.loop-i.end).lists c.loop-i.i c.edge.result lt c.edge.ensures i.given
+
+pub give_back-requires-clause-unwritten : goal.give_back-requires-clause-unwritten
+give_back-requires-clause-unwritten g c =
+    let i = c.loop-i.invariant in
+    let lt : c.loop-i.i < length c.needs-needs.result = let n = c.len-i-end.ensures.count in let t = c.loop-i-test.true in omega (arith, n, t) in
+    next_is_quiet c.args.map.now c.args.tile.now.core (g.D.Board.end c.args.end.now).lists c.requires.done.stopped c.requires.done.underway c.in-Some.x c.in-Some.y (sym c.in-Some.is ∙ c.in_hand.ensures) c.needs-needs.result (c.needs-needs.ensures ∙ ap (λ t. needs_of c.args.map.now t (site c.in-Some.x c.in-Some.y)) c.number.ensures) (g.D.Board.end c.loop-i.end).lists c.loop-i.i c.edge.result lt c.edge.ensures i.given
 
 pub loop-i-preserved : goal.loop-i-preserved
 loop-i-preserved g c =
@@ -30,10 +37,8 @@ loop-i-preserved g c =
     let e = c.give_back.ensures in
     let lt : c.loop-i.i < length c.needs-needs.result = let n = c.len-i-end.ensures.count in let t = c.loop-i-test.true in omega (arith, n, t) in
     record {
-      given = given_more c.args.map.now c.args.tile.now.0 (g.D.Board.lists c.args.end.now) c.requires.stopped c.requires.underway c.in-Some.x c.in-Some.y (sym c.in-Some.is ∙ c.in_hand.ensures) c.needs-needs.result (c.needs-needs.ensures ∙ ap (λ t. needs_of c.args.map.now t (site c.in-Some.x c.in-Some.y)) c.number.ensures) (g.D.Board.lists c.loop-i.end) c.loop-i.i c.edge.result lt c.edge.ensures i.given (g.D.Board.lists c.give_back.new.self) e.lists;
-      own = e.tile ∙ i.own;
-      registers = e.edges.0 ∙ i.registers;
-      ends = e.edges.1 ∙ i.ends;
+      given = given_more c.args.map.now c.args.tile.now.core (g.D.Board.end c.args.end.now).lists c.requires.done.stopped c.requires.done.underway c.in-Some.x c.in-Some.y (sym c.in-Some.is ∙ c.in_hand.ensures) c.needs-needs.result (c.needs-needs.ensures ∙ ap (λ t. needs_of c.args.map.now t (site c.in-Some.x c.in-Some.y)) c.number.ensures) (g.D.Board.end c.loop-i.end).lists c.loop-i.i c.edge.result lt c.edge.ensures i.given (g.D.Board.end c.give_back.new.self).lists e.change.lists;
+      same = same_end (g.D.Board.end c.args.end.now) (g.D.Board.end c.loop-i.end) (g.D.Board.end c.give_back.new.self) i.same e.change.same;
       moved = g.met.D.Board.moved_on c.args.end.now c.loop-i.end c.give_back.new.self i.moved e.moved;
     }
 
@@ -42,5 +47,5 @@ returns-clause-lists g c =
     let i = c.loop-i.invariant in
     let n = c.len-i-end.ensures.count in
     let done : c.loop-i.i ≡ length c.needs-needs.result = let t = c.loop-i-test.false in let b = c.loop-i.auto.i-end in omega (arith, n, t, b) in
-    given_all c.args.map.now c.args.tile.now.0 (g.D.Board.lists c.args.end.now) c.requires.stopped c.requires.underway c.in-Some.x c.in-Some.y (sym c.in-Some.is ∙ c.in_hand.ensures) c.needs-needs.result (c.needs-needs.ensures ∙ ap (λ t. needs_of c.args.map.now t (site c.in-Some.x c.in-Some.y)) c.number.ensures) (g.D.Board.lists c.loop-i.end)
-    (subst (λ k. AgreeOnEdges c.args.map.now c.args.tile.now.0.number (g.D.Board.lists c.loop-i.end) (after_some (g.D.Board.lists c.args.end.now) c.needs-needs.result k)) done i.given)
+    given_all c.args.map.now c.args.tile.now.core (g.D.Board.end c.args.end.now).lists c.requires.done.stopped c.requires.done.underway c.in-Some.x c.in-Some.y (sym c.in-Some.is ∙ c.in_hand.ensures) c.needs-needs.result (c.needs-needs.ensures ∙ ap (λ t. needs_of c.args.map.now t (site c.in-Some.x c.in-Some.y)) c.number.ensures) (g.D.Board.end c.loop-i.end).lists
+    (subst (λ k. AgreeOnEdges c.args.map.now c.args.tile.now.core.number (g.D.Board.end c.loop-i.end).lists (after_some (g.D.Board.end c.args.end.now).lists c.needs-needs.result k)) done i.given)

@@ -2,4 +2,4 @@ use Rattle.ulam_heirs.proofs.Nearest.{nearest_once}
 use Rattle.ulam_heirs.proofs.law.nearest_stands.Goals as goal
 
 pub returns : goal.returns
-returns c = nearest_once
+returns c = λ line name h. nearest_once line name h.once h.virtual

@@ -1,6 +1,5 @@
 use Rattle.std.proofs.Common.{◌≡◌, ◌∙◌, sym, ap, subst, List, ℕ}
-use Rattle.ulam_lex.specs.declared.token.Token.{Token}
-use Rattle.ulam_heirs.specs.Heads.{Heads, tokens_left, heads_of}
+use Rattle.ulam_heirs.specs.Heads.{HeadedValue, tokens_left, heads_of}
 use Rattle.ulam_heirs.specs.Behind.{AllWithin}
 use Rattle.ulam_heirs.proofs.Ordered.{all_within, left_in_order}
 use Rattle.ulam_heirs.proofs.tokens.heads.Goals as goal
@@ -11,9 +10,9 @@ split-requires c = subst (AllWithin c.args.bytes.now) (sym c.as_slice.ensures.va
 pub returns : goal.returns
 returns c =
     let bytes : List ℕ = c.args.bytes.now in
-    let left : c.in_ok-headed.headed.0 ≡ tokens_left bytes c.args.tokens.items = ap (λ (p : List Token × Heads). p.0) c.in_ok-headed.ensures ∙ ap (tokens_left bytes) c.as_slice.ensures.value in
+    let left : c.in_ok-headed.headed.left ≡ tokens_left bytes c.args.tokens.items = ap (λ (h : HeadedValue). h.left) c.in_ok-headed.ensures ∙ ap (tokens_left bytes) c.as_slice.ensures.value in
     record {
       left = left;
-      taken = ap (λ (p : List Token × Heads). p.1) c.in_ok-headed.ensures ∙ ap (heads_of bytes) c.as_slice.ensures.value;
-      order = left_in_order bytes c.args.tokens.items c.in_ok-headed.headed.0 left c.requires;
+      taken = ap (λ (h : HeadedValue). h.heads) c.in_ok-headed.ensures ∙ ap (heads_of bytes) c.as_slice.ensures.value;
+      order = left_in_order bytes c.args.tokens.items c.in_ok-headed.headed.left left c.requires;
     }

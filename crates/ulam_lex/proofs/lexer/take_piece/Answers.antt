@@ -1,19 +1,19 @@
-use Rattle.std.proofs.Common.{◌≡◌, ◌+◌, ℕ, List, length, take, drop, sym, ap, ◌∙◌, arith, true, false}
+use Rattle.std.proofs.Common.{◌≡◌, ◌≤◌, ◌+◌, ℕ, List, length, take, drop, sym, ap, ◌∙◌, arith, true, false}
 use Rattle.std.specs.Prelude.{fold}
 use Rattle.std.proofs.lemmas.List.{length-take-le, length-drop}
 use Rattle.std.proofs.lemmas.Result.{err_from_is_err_and}
 use Rattle.ulam_lex.specs.Texts.{is_joined}
-use Rattle.ulam_lex.specs.Steps.{next_place}
+use Rattle.ulam_lex.specs.Steps.{next_place, cut_at, standing}
 use Rattle.ulam_lex.proofs.Places.{place_column, passed_is}
 use Rattle.ulam_lex.proofs.Progress.{added_fault, joined_fault, piece_taken}
 use Rattle.ulam_lex.proofs.lexer.take_piece.Goals as goal
 
 pub returns-in_err-add : goal.returns-in_err-add
 returns-in_err-add c =
-    let before = take c.args.at c.args.bytes.now in
-    let rest = drop c.args.at c.args.bytes.now in
+    let s = cut_at c.args.place.file c.args.bytes.now c.args.at in
+    let piece = standing c.args.kind c.args.at (c.args.at + c.args.len) c.args.place in
     let p = err_from_is_err_and c.from_residual.result c.from_residual.ensures.1 in
-    rw (p.1, p.2) (added_fault c.args.place.file before rest c.args.kind c.args.len c.args.at (c.args.at + c.args.len) c.args.place c.args.tokens.now.items c.add.new.tokens.items c.in_err-add.field-0.0 c.requires.placed c.requires.stands c.in_err-add.ensures)
+    rw (p.1, p.2) (added_fault s piece c.args.len c.args.tokens.now.items c.add.new.tokens.items c.in_err-add.field-0.0 c.requires.placed c.requires.stands c.in_err-add.ensures)
 
 pub passed-next-requires-clause-column : goal.passed-next-requires-clause-column
 passed-next-requires-clause-column c =
@@ -43,7 +43,7 @@ returns-then-is_joined c =
     let passed = c.passed-next.ensures ∙ ap (fold next_place c.args.place) piece in (
       take c.args.len rest,
       drop c.args.len rest,
-      joined_fault before rest c.args.kind c.args.len c.args.at (c.args.at + c.args.len) c.args.place c.args.tokens.now.items c.add.new.tokens.items c.requires.stands c.in_ok-add.ensures joined,
+      joined_fault rest (standing c.args.kind c.args.at (c.args.at + c.args.len) c.args.place) c.args.len c.args.tokens.now.items c.add.new.tokens.items c.requires.stands c.in_ok-add.ensures joined,
       passed_is c.args.place c.passed-next.result c.args.place.file before (take c.args.len rest) c.requires.placed passed,
     )
 
@@ -57,9 +57,10 @@ returns c =
     let passed = c.passed-next.ensures ∙ ap (fold next_place c.args.place) piece in
     let counted : length before ≡ c.args.at = length-take-le c.args.at c.args.bytes.now (omega arith) in
     let left = length-drop c.args.at c.args.bytes.now in
-    piece_taken c.args.place.file before rest c.args.kind c.args.len c.args.at c.args.place c.passed-next.result c.args.tokens.now.items c.add.new.tokens.items
+    let within : c.args.len ≤ length rest = omega arith in
+    piece_taken (cut_at c.args.place.file c.args.bytes.now c.args.at) c.args.kind c.args.len c.args.at c.args.place c.passed-next.result c.args.tokens.now.items c.add.new.tokens.items
     c.requires.some
-    (omega arith)
+    within
     (sym counted)
     c.requires.placed
     c.requires.stands

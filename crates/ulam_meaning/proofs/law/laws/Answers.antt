@@ -19,7 +19,7 @@ pub returns-clause-marks : goal.returns-clause-marks
 returns-clause-marks c = marks_stay
 
 pub returns-clause-states : goal.returns-clause-states
-returns-clause-states c = stays_below
+returns-clause-states c = λ g l w seed h. stays_below g w seed l h
 
 pub returns-clause-known : goal.returns-clause-known
 returns-clause-known c = stays_known

@@ -10,6 +10,7 @@ use Rattle.ulam_tree.specs.Raw as raw_tree
 use Rattle.ulam_tree.specs.ResolvedViews.{resolved_expr, resolved_part}
 use Rattle.ulam_names.proofs.Loops.{turns, for_next, turns_step, turns_body}
 use Rattle.ulam_tree.specs.declared.raw.Statement.{Statement as RawStatement}
+use Rattle.ulam_tree.specs.declared.resolved.Statement.{Statement}
 use Rattle.ulam_tree.specs.RawViews as raw_view
 use Rattle.ulam_names.proofs.Rows.{body_whole}
 use Rattle.ulam_tree.specs.Resolved as r
@@ -32,7 +33,7 @@ body-loop-one-preserved t c =
           ∙ ap (λ (x : RawStatement). with_body c.loop-one.found.items (walk.body (context_of c.args.context.now) (scope_of c.loop-one.entries.items c.args.from) c.loop-one.next (raw_view.body_list (x ∷ rest)))) (sym c.one-item.is)
           ∙ body_on (context_of c.args.context.now) c.loop-one.found.items c.in_ok-one.one c.loop-one.entries.items c.statement.new.entries.items c.args.from c.loop-one.next c.in_ok-one.after
           (raw_view.statement_of c.one-item.result) (raw_view.body_list rest) c.in_ok-one.ensures.gives c.in_ok-one.ensures.scope c.in_ok-one.ensures.next
-          ∙ ap (λ xs. with_body xs (walk.body (context_of c.args.context.now) (scope_of c.statement.new.entries.items c.args.from) c.in_ok-one.after (raw_view.body_list rest))) (sym c.in_ok-push.ensures.items);
+          ∙ ap (λ (xs : List Statement). with_body xs (walk.body (context_of c.args.context.now) (scope_of c.statement.new.entries.items c.args.from) c.in_ok-one.after (raw_view.body_list rest))) (sym {A = List Statement} c.in_ok-push.ensures.items);
       next = omega (arith, split, c.loop-one.invariant.next, c.in_ok-one.ensures.next);
       few = c.in_ok-one.ensures.few;
       long = omega (arith, longer, c.loop-one.invariant.long);

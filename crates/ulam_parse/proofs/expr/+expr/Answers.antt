@@ -15,49 +15,49 @@ expr_in-returns-then-steps-eq0 t c = first_of (search (rules, expr_tired), grind
 pub more-returns-in_default : goal.more-returns-in_default
 unfolding more
 more-returns-in_default t c =
-    let e = one_more (λ n. more (expr_in c.args.steps) n c.args.least c.turns.top (expr_of c.turns.value) (from c.args.tape.now c.turns.next)) _ c.turns._turn c.turns-test.true c.turns.invariant in
+    let e = one_more (λ n. more (expr_in c.args.steps) c.args.least n (record { tree = expr_of c.turns.value; level = c.turns.top }) (from c.args.tape.now c.turns.next)) _ c.turns._turn c.turns-test.true c.turns.invariant in
     first_of (search rules, grind (arith, common_steps))
 
 pub more-returns-in_err-right-in-Joins : goal.more-returns-in_err-right-in-Joins
 unfolding more
 more-returns-in_err-right-in-Joins t c =
-    let e = one_more (λ n. more (expr_in c.args.steps) n c.args.least c.turns.top (expr_of c.turns.value) (from c.args.tape.now c.turns.next)) _ c.turns._turn c.turns-test.true c.turns.invariant in
+    let e = one_more (λ n. more (expr_in c.args.steps) c.args.least n (record { tree = expr_of c.turns.value; level = c.turns.top }) (from c.args.tape.now c.turns.next)) _ c.turns._turn c.turns-test.true c.turns.invariant in
     first_of (search rules, grind (arith, common_steps))
 
 pub more-returns-else-least-level : goal.more-returns-else-least-level
 unfolding more
 more-returns-else-least-level t c =
-    let e = one_more (λ n. more (expr_in c.args.steps) n c.args.least c.turns.top (expr_of c.turns.value) (from c.args.tape.now c.turns.next)) _ c.turns._turn c.turns-test.true c.turns.invariant in
+    let e = one_more (λ n. more (expr_in c.args.steps) c.args.least n (record { tree = expr_of c.turns.value; level = c.turns.top }) (from c.args.tape.now c.turns.next)) _ c.turns._turn c.turns-test.true c.turns.invariant in
     first_of (search rules, grind (arith, common_steps))
 
 pub more-returns-in_err-mark-in-Tests : goal.more-returns-in_err-mark-in-Tests
 unfolding more
 more-returns-in_err-mark-in-Tests t c =
-    let e = one_more (λ n. more (expr_in c.args.steps) n c.args.least c.turns.top (expr_of c.turns.value) (from c.args.tape.now c.turns.next)) _ c.turns._turn c.turns-test.true c.turns.invariant in
+    let e = one_more (λ n. more (expr_in c.args.steps) c.args.least n (record { tree = expr_of c.turns.value; level = c.turns.top }) (from c.args.tape.now c.turns.next)) _ c.turns._turn c.turns-test.true c.turns.invariant in
     first_of (search rules, grind (arith, common_steps))
 
 pub more-returns-else-least-le8 : goal.more-returns-else-least-le8
 unfolding more
 more-returns-else-least-le8 t c =
-    let e = one_more (λ n. more (expr_in c.args.steps) n c.args.least c.turns.top (expr_of c.turns.value) (from c.args.tape.now c.turns.next)) _ c.turns._turn c.turns-test.true c.turns.invariant in
+    let e = one_more (λ n. more (expr_in c.args.steps) c.args.least n (record { tree = expr_of c.turns.value; level = c.turns.top }) (from c.args.tape.now c.turns.next)) _ c.turns._turn c.turns-test.true c.turns.invariant in
     first_of (search rules, grind (arith, common_steps))
 
 pub more-returns-in-Opens : goal.more-returns-in-Opens
 unfolding more
 more-returns-in-Opens t c =
-    let e = one_more (λ n. more (expr_in c.args.steps) n c.args.least c.turns.top (expr_of c.turns.value) (from c.args.tape.now c.turns.next)) _ c.turns._turn c.turns-test.true c.turns.invariant in
+    let e = one_more (λ n. more (expr_in c.args.steps) c.args.least n (record { tree = expr_of c.turns.value; level = c.turns.top }) (from c.args.tape.now c.turns.next)) _ c.turns._turn c.turns-test.true c.turns.invariant in
     first_of (search rules, grind (arith, common_steps))
 
 pub more-turns-preserved : goal.more-turns-preserved
 unfolding more
 more-turns-preserved t c =
-    let e = one_more (λ n. more (expr_in c.args.steps) n c.args.least c.turns.top (expr_of c.turns.value) (from c.args.tape.now c.turns.next)) _ c.turns._turn c.turns-test.true c.turns.invariant in
+    let e = one_more (λ n. more (expr_in c.args.steps) c.args.least n (record { tree = expr_of c.turns.value; level = c.turns.top }) (from c.args.tape.now c.turns.next)) _ c.turns._turn c.turns-test.true c.turns.invariant in
     first_of (search rules, grind (arith, common_steps))
 
 pub more-returns : goal.more-returns
 unfolding more
 more-returns t c =
-    let e = no_more (λ n. more (expr_in c.args.steps) n c.args.least c.turns.top (expr_of c.turns.value) (from c.args.tape.now c.turns.next)) _ c.turns._turn c.turns-test.false c.turns.invariant in
+    let e = no_more (λ n. more (expr_in c.args.steps) c.args.least n (record { tree = expr_of c.turns.value; level = c.turns.top }) (from c.args.tape.now c.turns.next)) _ c.turns._turn c.turns-test.false c.turns.invariant in
     first_of (search rules, grind (arith, common_steps))
 
 pub more_args-returns-in_err-behind : goal.more_args-returns-in_err-behind

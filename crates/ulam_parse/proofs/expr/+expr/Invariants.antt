@@ -1,4 +1,4 @@
-use Rattle.std.proofs.Common.{◌≡◌, ◌+◌, ◌-◌, ◌*◌, length}
+use Rattle.std.proofs.Common.{◌≡◌, ◌+◌, ◌-◌, ◌*◌}
 use Rattle.ulam_tree.specs.RawViews.{expr_of, args_list}
 use Rattle.ulam_parse.specs.Views.{from}
 use Rattle.ulam_parse.specs.Reading as spec
@@ -33,9 +33,9 @@ decreases-operand l = 8 * l.steps + 6
 
 abbrev pub invariant-more-turns : goal.invariant-more-turns
 invariant-more-turns l =
-    spec.more (spec.expr_in l.steps) (length (from l.tape l.at) + 1) l.least 12 (expr_of l.fn.first) (from l.tape l.at) ≡ spec.more (spec.expr_in l.steps) (l._turn-end - l._turn) l.least l.top (expr_of l.value) (from l.tape l.next)
+    spec.after_operand (spec.expr_in l.steps) l.least (expr_of l.fn.first) (from l.tape l.at) ≡ spec.more (spec.expr_in l.steps) l.least (l._turn-end - l._turn) (record { tree = expr_of l.value; level = l.top }) (from l.tape l.next)
 
 abbrev pub invariant-more_args-turns : goal.invariant-more_args-turns
 invariant-more_args-turns l =
-    spec.with_args (args_list l.initial.found.items) (spec.more_args (spec.expr_in l.steps) (length (from l.tape l.at) + 1) (from l.tape l.at))
+    spec.with_args (args_list l.initial.found.items) (spec.later_args l.steps (from l.tape l.at))
     ≡ spec.with_args (args_list l.found.items) (spec.more_args (spec.expr_in l.steps) (l._turn-end - l._turn) (from l.tape l.next))

@@ -2,7 +2,8 @@ use Rattle.std.proofs.Common.{rules, arith, map, ◌+◌, ◌-◌}
 use Rattle.std.proofs.lemmas.Grind.{common_steps}
 use Rattle.ulam_tree.specs.RawViews.{item_of}
 use Rattle.ulam_parse.specs.Views.{from}
-use Rattle.ulam_parse.specs.Files.{items, with_front}
+use Rattle.ulam_parse.specs.Reading.{with_front}
+use Rattle.ulam_parse.specs.Files.{items}
 use Rattle.ulam_parse.proofs.Loops.{items_step}
 use Rattle.ulam_parse.proofs.Turns.{one_more, no_more}
 use Rattle.ulam_parse.proofs.item.items.Goals as goal

@@ -2,7 +2,8 @@ use Rattle.std.proofs.Common.{rules, arith, map, ◌+◌, ◌-◌}
 use Rattle.std.proofs.lemmas.Grind.{common_steps}
 use Rattle.ulam_tree.specs.RawViews.{member_of}
 use Rattle.ulam_parse.specs.Views.{from}
-use Rattle.ulam_parse.specs.Files.{members, with_front}
+use Rattle.ulam_parse.specs.Reading.{with_front}
+use Rattle.ulam_parse.specs.Files.{members}
 use Rattle.ulam_parse.proofs.Loops.{members_step}
 use Rattle.ulam_parse.proofs.Turns.{one_more, no_more}
 use Rattle.ulam_parse.proofs.item.members.Goals as goal

@@ -3,7 +3,8 @@ use Rattle.std.proofs.lemmas.Grind.{common_steps}
 use Rattle.ulam_tree.specs.RawViews.{param_of}
 use Rattle.ulam_parse.specs.Views.{from}
 use Rattle.ulam_parse.specs.Marks.{word_at}
-use Rattle.ulam_parse.specs.Files.{more_params, with_front}
+use Rattle.ulam_parse.specs.Reading.{with_front}
+use Rattle.ulam_parse.specs.Files.{more_params}
 use Rattle.ulam_parse.proofs.Loops.{params_step}
 use Rattle.ulam_parse.proofs.Turns.{one_more, no_more}
 use Rattle.ulam_parse.proofs.member.more_params.Goals as goal

@@ -1,9 +1,10 @@
-use Rattle.std.proofs.Common.{◌≡◌, ◌-◌, ◌+◌, map, length}
+use Rattle.std.proofs.Common.{◌≡◌, ◌-◌, map}
 use Rattle.ulam_tree.specs.RawViews.{param_of}
 use Rattle.ulam_parse.specs.Views.{from}
+use Rattle.ulam_parse.specs.Reading.{with_front}
 use Rattle.ulam_parse.specs.Files as spec
 use Rattle.ulam_parse.proofs.member.more_params.Given as goal
 
 abbrev pub invariant-turns : goal.invariant-turns
 invariant-turns l =
-    spec.with_front (map param_of l.initial.found.items) (spec.more_params (length (from l.tape l.at) + 1) (from l.tape l.at)) ≡ spec.with_front (map param_of l.found.items) (spec.more_params (l._turn-end - l._turn) (from l.tape l.next))
+    with_front (map param_of l.initial.found.items) (spec.later_params (from l.tape l.at)) ≡ with_front (map param_of l.found.items) (spec.more_params (l._turn-end - l._turn) (from l.tape l.next))

@@ -1,4 +1,4 @@
-use Rattle.std.proofs.Common.{◌≡◌, ◌+◌, ◌-◌, ◌*◌, length}
+use Rattle.std.proofs.Common.{◌≡◌, ◌+◌, ◌-◌, ◌*◌}
 use Rattle.ulam_tree.specs.RawViews.{body_list}
 use Rattle.ulam_parse.specs.Views.{from}
 use Rattle.ulam_parse.specs.Statements as spec
@@ -30,5 +30,5 @@ decreases-while_rest l = 8 * l.steps + 6
 
 abbrev pub invariant-body_in-turns : goal.invariant-body_in-turns
 invariant-body_in-turns l =
-    spec.with_body (body_list l.initial.found.items) (spec.body (spec.statement_in l.steps) (length (from l.tape l.at) + 1) (from l.tape l.at))
+    spec.with_body (body_list l.initial.found.items) (spec.body_within l.steps (from l.tape l.at))
     ≡ spec.with_body (body_list l.found.items) (spec.body (spec.statement_in l.steps) (l._turn-end - l._turn) (from l.tape l.next))

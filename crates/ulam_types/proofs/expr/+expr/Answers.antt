@@ -2,26 +2,26 @@ use Rattle.std.proofs.Common.{rules, arith, sym, ◌∙◌, subst}
 use Rattle.std.proofs.lemmas.Grind.{common_steps}
 use Rattle.ulam_tree.specs.ResolvedViews.{resolved_args}
 use Rattle.ulam_types.specs.Walk as walk
-use Rattle.ulam_types.specs.Shown.{scope_view, Fails}
+use Rattle.ulam_types.specs.Shown.{here, Fails}
 use Rattle.ulam_types.proofs.Args.{args_none, count_is, args_step, args_stop, args_done, call_at}
 use Rattle.ulam_types.proofs.expr.+expr.Goals as goal
 
 pub args-returns-in_err-value : goal.args-returns-in_err-value
 args-returns-in_err-value t c =
-    let f = args_stop (scope_view c.args.scope.now) c.args.wants.now c.args.raw.now c.loop-i.i c.loop-i.found.items _ c.index-raw-i.result c.taken_want-want.result c.in_err-value.field-0.0
+    let f = args_stop (here c.args.scope.now) c.args.wants.now c.args.raw.now c.loop-i.i c.loop-i.found.items _ c.index-raw-i.result c.taken_want-want.result c.in_err-value.field-0.0
     (omega arith) c.loop-i-test.true c.taken_want-want.ensures c.index-raw-i.is c.in_err-value.ensures in
     let k = subst (Fails c.in_err-value.field-0.0) c.loop-i.invariant.rest f in
     first_of (search rules, grind (arith, common_steps))
 
 pub args-loop-i-init : goal.args-loop-i-init
 args-loop-i-init t c = record {
-  rest = rw c.new-found.ensures.items (args_none (walk.args (scope_view c.args.scope.now) c.args.wants.now (resolved_args c.args.raw.now)));
+  rest = rw c.new-found.ensures.items (args_none (walk.args (here c.args.scope.now) c.args.wants.now (resolved_args c.args.raw.now)));
   many = first_of (search rules, grind (arith, common_steps));
 }
 
 pub args-loop-i-preserved : goal.args-loop-i-preserved
 args-loop-i-preserved t c =
-    let e = args_step (scope_view c.args.scope.now) c.args.wants.now c.args.raw.now c.loop-i.i c.loop-i.found.items _ c.index-raw-i.result c.in_ok-value.value c.taken_want-want.result
+    let e = args_step (here c.args.scope.now) c.args.wants.now c.args.raw.now c.loop-i.i c.loop-i.found.items _ c.index-raw-i.result c.in_ok-value.value c.taken_want-want.result
     (omega arith) c.loop-i-test.true c.taken_want-want.ensures c.index-raw-i.is c.in_ok-value.ensures in
     record {
       rest = rw c.in_ok-push.ensures.items (sym e ∙ c.loop-i.invariant.rest);
@@ -30,17 +30,17 @@ args-loop-i-preserved t c =
 
 pub args-returns-clause-gives : goal.args-returns-clause-gives
 args-returns-clause-gives t c =
-    let e = args_done (scope_view c.args.scope.now) c.args.wants.now c.args.raw.now c.loop-i.i c.loop-i.found.items c.loop-i-test.false in
+    let e = args_done (here c.args.scope.now) c.args.wants.now c.args.raw.now c.loop-i.i c.loop-i.found.items c.loop-i-test.false in
     first_of (search (rules, e), grind (arith, common_steps))
 
 pub expr-returns-in_err-args-in-Call : goal.expr-returns-in_err-args-in-Call
 expr-returns-in_err-args-in-Call t c =
-    let e = call_at (scope_view c.args.scope.now) c.args.want c.args.raw.now c.in-Call.called c.in-Call.is in
+    let e = call_at (here c.args.scope.now) c.args.want c.args.raw.now c.in-Call.called c.in-Call.is in
     rw e (first_of (search rules, grind (arith, common_steps)))
 
 pub expr-returns-in_ok-args-in-Call : goal.expr-returns-in_ok-args-in-Call
 expr-returns-in_ok-args-in-Call t c =
-    let e = call_at (scope_view c.args.scope.now) c.args.want c.args.raw.now c.in-Call.called c.in-Call.is in
+    let e = call_at (here c.args.scope.now) c.args.want c.args.raw.now c.in-Call.called c.in-Call.is in
     rw e (first_of (search rules, grind (arith, common_steps)))
 
 pub arguments-returns-then-wants-raw : goal.arguments-returns-then-wants-raw

@@ -1,11 +1,11 @@
 use Rattle.std.proofs.Common.{◌≡◌, length, drop}
 use Rattle.ulam_tree.specs.ResolvedViews.{resolved_args}
 use Rattle.ulam_types.specs.Walk as walk
-use Rattle.ulam_types.specs.Shown.{scope_view, with_args}
+use Rattle.ulam_types.specs.Shown.{here, with_args}
 use Rattle.ulam_types.proofs.expr.+expr.Given as goal
 
 abbrev pub invariant-args-loop-i : goal.invariant-args-loop-i
 invariant-args-loop-i l = record {
-  rest : with_args l.found.items (walk.args (scope_view l.scope) (drop l.i l.wants) (resolved_args (drop l.i l.raw))) ≡ walk.args (scope_view l.scope) l.wants (resolved_args l.raw);
+  rest : with_args l.found.items (walk.args (here l.scope) (drop l.i l.wants) (resolved_args (drop l.i l.raw))) ≡ walk.args (here l.scope) l.wants (resolved_args l.raw);
   many : length l.found.items ≡ l.i;
 }

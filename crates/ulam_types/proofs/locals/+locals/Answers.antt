@@ -19,7 +19,7 @@ push_locals-returns-in_ok-push_part-in-For-2 t c =
     let first = c.push_part-in-For.new.out.items in
     let second = c.push_part-in-For-2.new.out.items in
     let third = c.push_locals-in-For.new.out.items in
-    if_ok_more c.push_locals-in-For.result _ (λ _. third ≡ old ++ locals (resolved_statement c.args.raw.now)) c.push_locals-in-For.ensures (λ _ r.
+    if_ok_more c.push_locals-in-For.result (λ _. third ≡ second ++ locals (resolved_statement c.deref-in-For.result.now)) (λ _. third ≡ old ++ locals (resolved_statement c.args.raw.now)) c.push_locals-in-For.ensures (λ _ r.
     for_locals old first second third c.args.raw.now b.first b.cond b.step b.body c.deref-in-For.result.now b.is d c.in_ok-push_part-in-For.ensures c.in_ok-push_part-in-For-2.ensures r)
 
 pub push_body-loop-one-preserved : goal.push_body-loop-one-preserved

@@ -3,42 +3,42 @@ use Rattle.std.specs.Box.{box_value}
 use Rattle.std.proofs.lemmas.Grind.{common_steps}
 use Rattle.ulam_tree.specs.ResolvedViews.{resolved_expr, resolved_statement, resolved_body, resolved_cond, resolved_part}
 use Rattle.ulam_types.specs.Bodies as walk
-use Rattle.ulam_types.specs.Shown.{scope_view, Fails}
+use Rattle.ulam_types.specs.Shown.{here, Fails}
 use Rattle.ulam_types.proofs.Bodies.{body_none, body_step, body_stop, body_done, block_at, if_at, branch_stop, else_stop, for_at, for_stop}
 use Rattle.ulam_types.proofs.statement.+statement.Goals as goal
 
 pub statement-returns-in_err-list-in-Block : goal.statement-returns-in_err-list-in-Block
 statement-returns-in_err-list-in-Block t c =
-    let e = block_at (scope_view c.args.scope.now) c.args.raw.now c.in-Block.list c.in-Block.is in
+    let e = block_at (here c.args.scope.now) c.args.raw.now c.in-Block.list c.in-Block.is in
     rw e (first_of (search rules, grind (arith, common_steps)))
 
 pub statement-returns-in_ok-list-in-Block : goal.statement-returns-in_ok-list-in-Block
 statement-returns-in_ok-list-in-Block t c =
-    let e = block_at (scope_view c.args.scope.now) c.args.raw.now c.in-Block.list c.in-Block.is in
+    let e = block_at (here c.args.scope.now) c.args.raw.now c.in-Block.list c.in-Block.is in
     rw e (first_of (search rules, grind (arith, common_steps)))
 
 pub body-returns-in_err-one : goal.body-returns-in_err-one
 body-returns-in_err-one t c =
-    let f = body_stop (scope_view c.args.scope.now) c.args.raw.now c.loop-one.one-index c.loop-one.found.items c.one-item.result c.in_err-one.field-0.0 c.loop-one-test.true c.one-item.is c.in_err-one.ensures in
+    let f = body_stop (here c.args.scope.now) c.args.raw.now c.loop-one.one-index c.loop-one.found.items c.one-item.result c.in_err-one.field-0.0 c.loop-one-test.true c.one-item.is c.in_err-one.ensures in
     let k = subst (Fails c.in_err-one.field-0.0) c.loop-one.invariant f in
     first_of (search rules, grind (arith, common_steps))
 
 pub body-returns : goal.body-returns
 body-returns t c =
-    let e = body_done (scope_view c.args.scope.now) c.args.raw.now c.loop-one.one-index c.loop-one.found.items c.loop-one-test.false in
+    let e = body_done (here c.args.scope.now) c.args.raw.now c.loop-one.one-index c.loop-one.found.items c.loop-one-test.false in
     first_of (search (rules, e), grind (arith, common_steps))
 
 pub body-loop-one-preserved : goal.body-loop-one-preserved
 body-loop-one-preserved t c =
-    let e = body_step (scope_view c.args.scope.now) c.args.raw.now c.loop-one.one-index c.loop-one.found.items c.one-item.result c.in_ok-one.one c.loop-one-test.true c.one-item.is c.in_ok-one.ensures in
+    let e = body_step (here c.args.scope.now) c.args.raw.now c.loop-one.one-index c.loop-one.found.items c.one-item.result c.in_ok-one.one c.loop-one-test.true c.one-item.is c.in_ok-one.ensures in
     rw c.in_ok-push.ensures.items (sym e ∙ c.loop-one.invariant)
 
 pub body-loop-one-init : goal.body-loop-one-init
-body-loop-one-init t c = rw c.new-found.ensures.items (body_none (walk.body (scope_view c.args.scope.now) (resolved_body c.args.raw.now)))
+body-loop-one-init t c = rw c.new-found.ensures.items (body_none (walk.body (here c.args.scope.now) (resolved_body c.args.raw.now)))
 
 pub statement-returns-in_err-cond-in-If : goal.statement-returns-in_err-cond-in-If
 statement-returns-in_err-cond-in-If t c =
-    let g = scope_view c.args.scope.now in
+    let g = here c.args.scope.now in
     let b = c.in-If in
     let d : c.deref.result.now ≡ box_value b.yes = search rules in
     let e = if_at g c.args.raw.now b.cond b.yes b.no c.deref.result.now b.is d in
@@ -47,7 +47,7 @@ statement-returns-in_err-cond-in-If t c =
 
 pub statement-returns-in_err-no-in-If : goal.statement-returns-in_err-no-in-If
 statement-returns-in_err-no-in-If t c =
-    let g = scope_view c.args.scope.now in
+    let g = here c.args.scope.now in
     let b = c.in-If in
     let d : c.deref.result.now ≡ box_value b.yes = search rules in
     let e = if_at g c.args.raw.now b.cond b.yes b.no c.deref.result.now b.is d in
@@ -56,7 +56,7 @@ statement-returns-in_err-no-in-If t c =
 
 pub statement-returns-in_err-body-in-For : goal.statement-returns-in_err-body-in-For
 statement-returns-in_err-body-in-For t c =
-    let g = scope_view c.args.scope.now in
+    let g = here c.args.scope.now in
     let b = c.in-For in
     let d : c.deref-in-For.result.now ≡ box_value b.body = search rules in
     let e = for_at g c.args.raw.now b.first b.cond b.step b.body c.deref-in-For.result.now b.is d in

@@ -17,9 +17,9 @@ loop-pair-preserved c =
     let p = c.attempt-words.ensures.place c.args.seed c.loop-pair.pair c.loop-pair.invariant.stream in
     let sites = c.from-sites.ensures in
     record {
-      stream = p.1;
+      stream = c.attempt-words.ensures.after c.args.seed c.loop-pair.pair c.loop-pair.invariant.stream;
       order = c.in_ok-push_two.ensures ∙ (ap (λ xs. xs ++ c.attempt-words.result.centre ∷ c.attempt-words.result.seed % c.from-sites.result ∷ []) c.loop-pair.invariant.order
           ∙ sym (drawn_two c.args.seed c.args.tiles c.loop-pair.pair c.attempt-words.result.centre (c.attempt-words.result.seed % c.from-sites.result)
-          (ap (λ (a : Attempt). a.centre) p.0 ∙ ap (λ n. tile_word c.args.seed (2 * c.loop-pair.pair) % n) sites)
-          (ap (λ n. c.attempt-words.result.seed % n) sites ∙ ap (λ (a : Attempt). a.seed % c.args.tiles) p.0)));
+          (ap (λ (a : Attempt). a.centre) p ∙ ap (λ n. tile_word c.args.seed (2 * c.loop-pair.pair) % n) sites)
+          (ap (λ n. c.attempt-words.result.seed % n) sites ∙ ap (λ (a : Attempt). a.seed % c.args.tiles) p)));
     }

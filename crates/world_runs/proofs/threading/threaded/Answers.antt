@@ -16,21 +16,21 @@ fresh_tiles-requires-clause-can g c =
     subst (λ m. AllCanAttempt m w.plan) (sym c.requires.map) (all_can w c.requires.world c.plan_fits.ensures)
 
 pub run_shared-requires-after_bounds : goal.run_shared-requires-after_bounds
-run_shared-requires-after_bounds g c = λ lives bounds. (c.requires.meaning.0, (setting_of (world_value c.args.world.now) c.requires.meaning.0).start, (world_value c.args.world.now).plan, all_ready g.B.Behave.after (world_value c.args.world.now) c.args.map.now c.requires.meaning.0 c.args.behaves.items c.in_ok-tiles.tiles.items c.in_ok-grid.grid c.requires.map c.requires.world c.plan_fits.ensures (subst IsGrid c.grid.view_is c.grid.invariant.0) c.in_ok-grid.ensures.fits c.in_ok-grid.ensures.grid c.in_ok-tiles.ensures c.requires.one c.requires.meaning.1)
+run_shared-requires-after_bounds g c = λ lives bounds. (setting_of (world_value c.args.world.now) c.requires.meaning.0, all_ready g.B.Behave.after (world_value c.args.world.now) c.args.map.now c.requires.meaning.0 c.args.behaves.items c.in_ok-tiles.tiles.items c.in_ok-grid.grid c.requires.map c.requires.world c.plan_fits.ensures (subst IsGrid c.grid.view_is c.grid.invariant.0) c.in_ok-grid.ensures.fits c.in_ok-grid.ensures.grid c.in_ok-tiles.ensures c.requires.one c.requires.meaning.1)
 
 pub settle-requires-clause-made : goal.settle-requires-clause-made
-settle-requires-clause-made g c = (c.in_ok-tiles-2.ensures c.requires.meaning.0 (setting_of (world_value c.args.world.now) c.requires.meaning.0).start (world_value c.args.world.now).plan (all_ready g.B.Behave.after (world_value c.args.world.now) c.args.map.now c.requires.meaning.0 c.args.behaves.items c.in_ok-tiles.tiles.items c.in_ok-grid.grid c.requires.map c.requires.world c.plan_fits.ensures (subst IsGrid c.grid.view_is c.grid.invariant.0) c.in_ok-grid.ensures.fits c.in_ok-grid.ensures.grid c.in_ok-tiles.ensures c.requires.one c.requires.meaning.1)).made
+settle-requires-clause-made g c = (c.in_ok-tiles-2.ensures (setting_of (world_value c.args.world.now) c.requires.meaning.0) (all_ready g.B.Behave.after (world_value c.args.world.now) c.args.map.now c.requires.meaning.0 c.args.behaves.items c.in_ok-tiles.tiles.items c.in_ok-grid.grid c.requires.map c.requires.world c.plan_fits.ensures (subst IsGrid c.grid.view_is c.grid.invariant.0) c.in_ok-grid.ensures.fits c.in_ok-grid.ensures.grid c.in_ok-tiles.ensures c.requires.one c.requires.meaning.1)).made
 
 pub settle-requires-clause-words : goal.settle-requires-clause-words
-settle-requires-clause-words g c = (c.in_ok-tiles-2.ensures c.requires.meaning.0 (setting_of (world_value c.args.world.now) c.requires.meaning.0).start (world_value c.args.world.now).plan (all_ready g.B.Behave.after (world_value c.args.world.now) c.args.map.now c.requires.meaning.0 c.args.behaves.items c.in_ok-tiles.tiles.items c.in_ok-grid.grid c.requires.map c.requires.world c.plan_fits.ensures (subst IsGrid c.grid.view_is c.grid.invariant.0) c.in_ok-grid.ensures.fits c.in_ok-grid.ensures.grid c.in_ok-tiles.ensures c.requires.one c.requires.meaning.1)).words
+settle-requires-clause-words g c = (c.in_ok-tiles-2.ensures (setting_of (world_value c.args.world.now) c.requires.meaning.0) (all_ready g.B.Behave.after (world_value c.args.world.now) c.args.map.now c.requires.meaning.0 c.args.behaves.items c.in_ok-tiles.tiles.items c.in_ok-grid.grid c.requires.map c.requires.world c.plan_fits.ensures (subst IsGrid c.grid.view_is c.grid.invariant.0) c.in_ok-grid.ensures.fits c.in_ok-grid.ensures.grid c.in_ok-tiles.ensures c.requires.one c.requires.meaning.1)).words
 
 pub settle-requires-clause-over : goal.settle-requires-clause-over
-settle-requires-clause-over g c = (c.requires.meaning.0, (setting_of (world_value c.args.world.now) c.requires.meaning.0).start, (world_value c.args.world.now).plan, (c.in_ok-tiles-2.ensures c.requires.meaning.0 (setting_of (world_value c.args.world.now) c.requires.meaning.0).start (world_value c.args.world.now).plan (all_ready g.B.Behave.after (world_value c.args.world.now) c.args.map.now c.requires.meaning.0 c.args.behaves.items c.in_ok-tiles.tiles.items c.in_ok-grid.grid c.requires.map c.requires.world c.plan_fits.ensures (subst IsGrid c.grid.view_is c.grid.invariant.0) c.in_ok-grid.ensures.fits c.in_ok-grid.ensures.grid c.in_ok-tiles.ensures c.requires.one c.requires.meaning.1)).over)
+settle-requires-clause-over g c = (setting_of (world_value c.args.world.now) c.requires.meaning.0, (c.in_ok-tiles-2.ensures (setting_of (world_value c.args.world.now) c.requires.meaning.0) (all_ready g.B.Behave.after (world_value c.args.world.now) c.args.map.now c.requires.meaning.0 c.args.behaves.items c.in_ok-tiles.tiles.items c.in_ok-grid.grid c.requires.map c.requires.world c.plan_fits.ensures (subst IsGrid c.grid.view_is c.grid.invariant.0) c.in_ok-grid.ensures.fits c.in_ok-grid.ensures.grid c.in_ok-tiles.ensures c.requires.one c.requires.meaning.1)).over)
 
 pub returns : goal.returns
 returns g c =
     let w = world_value c.args.world.now in
     IfOk-weaker c.settle.result _ _ (λ o settled meaning one.
-    let over = (c.in_ok-tiles-2.ensures meaning (setting_of (world_value c.args.world.now) meaning).start (world_value c.args.world.now).plan (all_ready g.B.Behave.after (world_value c.args.world.now) c.args.map.now meaning c.args.behaves.items c.in_ok-tiles.tiles.items c.in_ok-grid.grid c.requires.map c.requires.world c.plan_fits.ensures (subst IsGrid c.grid.view_is c.grid.invariant.0) c.in_ok-grid.ensures.fits c.in_ok-grid.ensures.grid c.in_ok-tiles.ensures c.requires.one one)).over in
-    let whole : StandsInOneOrder c.args.map.now (setting_of w meaning) o = record { tiles = values_of c.in_ok-tiles-2.tiles.items; edges = closed_histories c.in_ok-tiles-2.edges; settled = settled meaning (setting_of (world_value c.args.world.now) meaning).start (world_value c.args.world.now).plan over } in
+    let over = (c.in_ok-tiles-2.ensures (setting_of w meaning) (all_ready g.B.Behave.after (world_value c.args.world.now) c.args.map.now meaning c.args.behaves.items c.in_ok-tiles.tiles.items c.in_ok-grid.grid c.requires.map c.requires.world c.plan_fits.ensures (subst IsGrid c.grid.view_is c.grid.invariant.0) c.in_ok-grid.ensures.fits c.in_ok-grid.ensures.grid c.in_ok-tiles.ensures c.requires.one one)).over in
+    let whole : StandsInOneOrder c.args.map.now (setting_of w meaning) o = record { tiles = values_of c.in_ok-tiles-2.tiles.items; edges = closed_histories c.in_ok-tiles-2.edges; settled = settled (setting_of w meaning) over } in
     subst (λ (m : MapValue). StandsInOneOrder m (setting_of w meaning) o) c.requires.map whole) c.settle.ensures.settled

@@ -3,7 +3,7 @@ use Rattle.std.specs.Prelude.{slice_get}
 use Rattle.tile_map.proofs.Numbers.{tiles_few}
 use Rattle.draw_stream.specs.Plans.{attempts}
 use Rattle.tile_core.specs.Underway.{IsFreshTile}
-use Rattle.tile_core.specs.Values.{TileValue, atoms_of}
+use Rattle.tile_core.specs.Values.{TileWith, atoms_of}
 use Rattle.world_runs.proofs.Beginning.{EachFresh, acts_all, acts_more, fresh_more, made_fewer, none_left}
 use Rattle.world_runs.proofs.tiles.fresh_tiles.Goals as goal
 
@@ -11,8 +11,8 @@ pub loop-behave-init : goal.loop-behave-init
 loop-behave-init g c =
     let none = c.new-tiles.ensures.items in
     record {
-      fresh = λ t x at. absurd (cc (sym (ap (λ (xs : List (TileValue × g.row.B.Denot)). slice_get xs t) none) ∙ at));
-      acts = ap (λ (xs : List (TileValue × g.row.B.Denot)). map (λ (x : TileValue × g.row.B.Denot). x.1) xs ++ c.into_iter-behave-iterator.result.rest.items) none ∙ c.into_iter-behave-iterator.ensures.into_iter_gives.0;
+      fresh = λ t x at. absurd (cc (sym (ap (λ (xs : List (TileWith g.row.B.Denot)). slice_get xs t) none) ∙ at));
+      acts = ap (λ (xs : List (TileWith g.row.B.Denot)). map (λ (x : TileWith g.row.B.Denot). x.behave) xs ++ c.into_iter-behave-iterator.result.rest.items) none ∙ c.into_iter-behave-iterator.ensures.into_iter_gives.0;
       count = c.into_iter-behave-iterator.ensures.into_iter_gives.1 ∙ (c.args.behaves.ok.0 ∙ ap length (sym c.into_iter-behave-iterator.ensures.into_iter_gives.0));
     }
 
@@ -56,8 +56,8 @@ loop-behave-preserved g c =
     let before = ap length steps.0 in
     let count = c.loop-behave.invariant.count in
     record {
-      fresh = subst (EachFresh m start plan) (sym more) (fresh_more m start plan tiles tile c.loop-behave.invariant.fresh (subst (λ n. IsFreshTile m n (atoms_of start) (attempts plan n) tile.0) number c.in_ok-tile.ensures.fresh));
-      acts = ap (λ (xs : List (TileValue × g.row.B.Denot)). map (λ (x : TileValue × g.row.B.Denot). x.1) xs ++ c.next.new.self.rest.items) more
+      fresh = subst (EachFresh m start plan) (sym more) (fresh_more m start plan tiles tile c.loop-behave.invariant.fresh (subst (λ n. IsFreshTile m n (atoms_of start) (attempts plan n) tile.core) number c.in_ok-tile.ensures.fresh));
+      acts = ap (λ (xs : List (TileWith g.row.B.Denot)). map (λ (x : TileWith g.row.B.Denot). x.behave) xs ++ c.next.new.self.rest.items) more
           ∙ acts_more tiles tile c.in-Some.behave c.next.new.self.rest.items c.loop-behave.behave-iterator.rest.items c.args.behaves.items c.in_ok-tile.ensures.acts c.in-Some.ensures.steps.0 c.loop-behave.invariant.acts;
       count = omega (arith, fewer, before, count);
     }

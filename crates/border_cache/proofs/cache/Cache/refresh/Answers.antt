@@ -3,9 +3,10 @@ use Rattle.std.specs.Prelude.{All}
 use Rattle.std.proofs.lemmas.List.{nil_from_length}
 use Rattle.tile_map.specs.Plane.{site}
 use Rattle.tile_map.specs.Laws.{IsPlane}
-use Rattle.border_cache.specs.Windows.{IsEdgeFor, RefreshesAll}
-use Rattle.border_cache.specs.Copies.{Refreshed}
+use Rattle.border_cache.specs.Windows.{IsEdgeFor, RefreshesAll, centre_of}
+use Rattle.border_cache.specs.Copies.{Refreshed, copy_at}
 use Rattle.border_cache.proofs.Stored.{centre_holds, needs_ready, refreshed_by, refreshed_none}
+use Rattle.border_cache.specs.News.{cells_at}
 use Rattle.border_cache.proofs.cache.Cache.refresh.Goals as goal
 
 pub around-cells-requires-clause-holds : goal.around-cells-requires-clause-holds
@@ -18,26 +19,25 @@ pub refresh_needs-requires-clause-needs : goal.refresh_needs-requires-clause-nee
 refresh_needs-requires-clause-needs g c =
     let v = c.args.self.now in
     let s = site c.args.x c.args.y in
-    let registers = g.D.Board.registers c.args.board.now in
-    let lists = g.D.Board.lists c.args.board.now in
-    subst (λ m. All (IsEdgeFor m registers lists) c.args.needs.now) (sym c.requires.map)
-    (needs_ready v.map (subst IsPlane c.requires.map c.laws.ensures.plane) v.tile (g.D.Board.tile c.args.board.now) s registers (g.D.Board.end_of c.args.board.now) lists c.requires.board c.args.needs.now c.requires.needs c.requires.held)
+    let end = g.D.Board.end c.args.board.now in
+    subst (λ m. All (IsEdgeFor m end.registers end.lists) c.args.needs.now) (sym c.requires.map)
+    (needs_ready v.map (subst IsPlane c.requires.map c.laws.ensures.plane) v.tile s end c.requires.board c.args.needs.now c.requires.needs c.requires.held)
 
 pub returns-clause-refreshed : goal.returns-clause-refreshed
 returns-clause-refreshed g c =
     let v = c.args.self.now in
     let s = site c.args.x c.args.y in
-    let a = g.D.Board.lists c.args.board.now in
-    let b = g.D.Board.lists c.refresh_needs.new.board in
+    let a = (g.D.Board.end c.args.board.now).lists in
+    let b = (g.D.Board.end c.refresh_needs.new.board).lists in
     let before = c.around-cells.result in
     let after = c.refresh_needs.new.cells in
-    let p = subst (λ m. RefreshesAll m c.self.inside.tile s c.args.needs.now a b before after) c.requires.map c.refresh_needs.ensures.refreshes in
-    let q = subst (λ t. RefreshesAll v.map t s c.args.needs.now a b before after) (ap (λ w. w.tile) c.self.view_is) p in
+    let p = subst (λ m. RefreshesAll (centre_of m c.self.inside.tile s) c.args.needs.now (cells_at before a) (cells_at after b)) c.requires.map c.refresh_needs.ensures.refreshes in
+    let q = subst (λ t. RefreshesAll (centre_of v.map t s) c.args.needs.now (cells_at before a) (cells_at after b)) (ap (λ w. w.tile) c.self.view_is) p in
     refreshed_by s c.args.needs.now v c.store.new.self a b before after c.around-cells.ensures.cells q c.store.ensures
 
 pub returns-then-len-eq0-clause-refreshed : goal.returns-then-len-eq0-clause-refreshed
 returns-then-len-eq0-clause-refreshed g c =
     let v = c.args.self.now in
     let s = site c.args.x c.args.y in
-    let a = g.D.Board.lists c.args.board.now in
-    subst (λ es. Refreshed s es v v a a) (sym (nil_from_length c.args.needs.now (sym c.len.ensures.count ∙ c.if-len-eq0.true))) (refreshed_none s v a)
+    let a = (g.D.Board.end c.args.board.now).lists in
+    subst (λ es. Refreshed s es (copy_at v a) (copy_at v a)) (sym (nil_from_length c.args.needs.now (sym c.len.ensures.count ∙ c.if-len-eq0.true))) (refreshed_none s v a)

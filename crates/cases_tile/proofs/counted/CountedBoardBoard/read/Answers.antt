@@ -7,4 +7,9 @@ use Rattle.cases_tile.proofs.counted.CountedBoardBoard.read.Goals as goal
 pub returns-clause-value : goal.returns-clause-value
 returns-clause-value c =
     let e = c.args.edge in let r = c.args.register in let v = c.read.result in
-    subst (λ b. Shows (known_value (lists_on b e) r) v × IsAllowed (site_count (registers_on b e)) r v) c.count.ensures.same c.read.ensures.value
+    subst (λ b. Shows (known_value (lists_on b e) r) v) c.count.ensures.same c.read.ensures.value
+
+pub returns-clause-allowed : goal.returns-clause-allowed
+returns-clause-allowed c =
+    let e = c.args.edge in let r = c.args.register in let v = c.read.result in
+    subst (λ b. IsAllowed (site_count (registers_on b e)) r v) c.count.ensures.same c.read.ensures.allowed

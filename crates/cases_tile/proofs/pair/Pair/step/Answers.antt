@@ -11,7 +11,7 @@ returns-in-Left c =
       map = r.map;
       edges = e.board;
       lower = e.tile;
-      higher = e.others p.right.0 (numbers_apart p.left.0.number p.right.0.number r.lower_number r.higher_number).0 r.higher;
+      higher = e.others p.right.core (numbers_apart p.left.core.number p.right.core.number r.lower_number r.higher_number).0 r.higher;
       lower_number = e.number ∙ r.lower_number;
       higher_number = r.higher_number;
     }
@@ -24,7 +24,7 @@ returns-in-Right c =
     record {
       map = r.map;
       edges = e.board;
-      lower = e.others p.left.0 (numbers_apart p.left.0.number p.right.0.number r.lower_number r.higher_number).1 r.lower;
+      lower = e.others p.left.core (numbers_apart p.left.core.number p.right.core.number r.lower_number r.higher_number).1 r.lower;
       higher = e.tile;
       lower_number = r.lower_number;
       higher_number = e.number ∙ r.higher_number;

@@ -19,10 +19,12 @@ load-requires c =
 pub returns-clause-value : goal.returns-clause-value
 returns-clause-value c =
     let q = c.args.register in let n = c.load.result in let back : (q + 3) - 3 ≡ q = omega arith in
-    let told = c.load.ensures.2 in
+    subst (λ (l : EndLists). Shows (known_value l q) n) (ap (λ (p : PassValue). p.lists) c.pass.view_is)
+    (subst (λ (y : ℕ). Shows (known_value (lists_in c.pass.inside.seat.me.0) y) n) back c.load.ensures.2.1)
+
+pub returns-clause-allowed : goal.returns-clause-allowed
+returns-clause-allowed c =
+    let q = c.args.register in let back : (q + 3) - 3 ≡ q = omega arith in
     let of = ap (λ (p : PassValue). p.of) c.pass.view_is ∙ (c.requires.edge ∙ sym c.self.view_is) in
     let size = ap (λ (e : EdgeValue). e.registers) of ∙ ap (λ (e : EdgeValue). e.registers) c.self.view_is in
-    let lists = ap (λ (p : PassValue). p.lists) c.pass.view_is in (
-      subst (λ (l : EndLists). Shows (known_value l q) n) lists (subst (λ (y : ℕ). Shows (known_value (lists_in c.pass.inside.seat.me.0) y) n) back told.1),
-      subst (λ (x : ℕ × ℕ). IsAllowed (site_count x.0) x.1 n) (λ i. (size i, back i)) told.2,
-    )
+    subst (λ (x : ℕ × ℕ). IsAllowed (site_count x.0) x.1 c.load.result) (λ i. (size i, back i)) c.load.ensures.2.2

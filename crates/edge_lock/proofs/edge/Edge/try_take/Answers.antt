@@ -12,7 +12,7 @@ compare_exchange-found-requires c =
       omega (arith, c.self.invariant),
       tries_as _ _ _ c.pass.inside.end c.args.attempt _ c.pass.inside.seat.me (subst (λ (n : ℕ). IsPaired n c.pass.inside.end c.pass.inside.seat.me) (ap (λ (e : EdgeValue). e.registers) of) c.pass.invariant.1) w c.pass.invariant.0
           (subst (λ (p : PassValue). IsFree p.lists) (sym c.pass.view_is) c.requires.free)
-          (subst (λ (p : PassValue). IsNew c.args.attempt p.lists) (sym c.pass.view_is) c.requires.attempt.1),
+          (subst (λ (p : PassValue). IsNew c.args.attempt p.lists) (sym c.pass.view_is) c.requires.is_new),
     )
 
 pub returns-clause-end : goal.returns-clause-end

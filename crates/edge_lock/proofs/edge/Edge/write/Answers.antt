@@ -12,5 +12,5 @@ store-requires c =
       ap (λ (e : EdgeValue). e.table) of,
       omega (arith, c.self.invariant, wide, c.requires.register),
       writes _ _ _ c.pass.inside.end c.args.register _ c.args.value c.pass.inside.seat.me (subst (λ (n : ℕ). IsPaired n c.pass.inside.end c.pass.inside.seat.me) size c.pass.invariant.1, subst (λ (p : PassValue). IsHeld p.lists) (sym c.pass.view_is) c.requires.held)
-          (omega (arith, wide, c.requires.register)) (subst (λ (e : EdgeValue). IsAllowed (site_count e.registers) c.args.register c.args.value) (sym c.self.view_is) c.requires.value) refl,
+          (omega (arith, wide, c.requires.register)) (subst (λ (e : EdgeValue). IsAllowed (site_count e.registers) c.args.register c.args.value) (sym c.self.view_is) c.requires.allowed) refl,
     )

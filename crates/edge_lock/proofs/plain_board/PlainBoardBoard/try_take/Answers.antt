@@ -9,35 +9,28 @@ pub returns-clause-call : goal.returns-clause-call
 returns-clause-call c =
     let x = c.index_mut-it.result.now in let y = c.try_take.new.self in let end = c.end_of-end.result in let b = c.args.self.now in let e = c.args.edge in
     let some_registers : 0 < registers_on b e = omega (arith, c.requires.edge) in
-    let d = done c.self.inside.acting c.self.inside.edges.items b c.self.view_is e end x y (tries c.args.attempt) (λ k l. after_try k c.args.attempt c.try_take.result l) some_registers (c.requires.free, c.requires.attempt.1) c.index_mut-it.ensures.value c.end_of-end.ensures.end (c.try_take.ensures.edge ∙ tried_effect end c.args.attempt x c.try_take.result c.try_take.ensures.answer) (same_ends_try end c.args.attempt x y c.try_take.result c.try_take.ensures.edge) c.try_take.ensures.own c.try_take.ensures.other in
+    let d = done c.self.inside.acting c.self.inside.edges.items b c.self.view_is e end x y (tries c.args.attempt) (λ k. after_try k c.args.attempt c.try_take.result) some_registers (c.requires.free, c.requires.is_new) c.index_mut-it.ensures.value c.end_of-end.ensures.end (c.try_take.ensures.edge ∙ tried_effect end c.args.attempt x c.try_take.result c.try_take.ensures.answer) (same_ends_try end c.args.attempt x y c.try_take.result c.try_take.ensures.edge) c.try_take.ensures.own c.try_take.ensures.other in
     d.is_call
 
-pub returns-clause-lists : goal.returns-clause-lists
-returns-clause-lists c =
+pub returns-clause-change : goal.returns-clause-change
+returns-clause-change c =
     let x = c.index_mut-it.result.now in let y = c.try_take.new.self in let end = c.end_of-end.result in let b = c.args.self.now in let e = c.args.edge in
     let some_registers : 0 < registers_on b e = omega (arith, c.requires.edge) in
-    let d = done c.self.inside.acting c.self.inside.edges.items b c.self.view_is e end x y (tries c.args.attempt) (λ k l. after_try k c.args.attempt c.try_take.result l) some_registers (c.requires.free, c.requires.attempt.1) c.index_mut-it.ensures.value c.end_of-end.ensures.end (c.try_take.ensures.edge ∙ tried_effect end c.args.attempt x c.try_take.result c.try_take.ensures.answer) (same_ends_try end c.args.attempt x y c.try_take.result c.try_take.ensures.edge) c.try_take.ensures.own c.try_take.ensures.other in
-    d.lists
-
-pub returns-clause-edges : goal.returns-clause-edges
-returns-clause-edges c =
-    let x = c.index_mut-it.result.now in let y = c.try_take.new.self in let end = c.end_of-end.result in let b = c.args.self.now in let e = c.args.edge in
-    let some_registers : 0 < registers_on b e = omega (arith, c.requires.edge) in
-    let d = done c.self.inside.acting c.self.inside.edges.items b c.self.view_is e end x y (tries c.args.attempt) (λ k l. after_try k c.args.attempt c.try_take.result l) some_registers (c.requires.free, c.requires.attempt.1) c.index_mut-it.ensures.value c.end_of-end.ensures.end (c.try_take.ensures.edge ∙ tried_effect end c.args.attempt x c.try_take.result c.try_take.ensures.answer) (same_ends_try end c.args.attempt x y c.try_take.result c.try_take.ensures.edge) c.try_take.ensures.own c.try_take.ensures.other in
-    (d.registers, d.ends)
+    let d = done c.self.inside.acting c.self.inside.edges.items b c.self.view_is e end x y (tries c.args.attempt) (λ k. after_try k c.args.attempt c.try_take.result) some_registers (c.requires.free, c.requires.is_new) c.index_mut-it.ensures.value c.end_of-end.ensures.end (c.try_take.ensures.edge ∙ tried_effect end c.args.attempt x c.try_take.result c.try_take.ensures.answer) (same_ends_try end c.args.attempt x y c.try_take.result c.try_take.ensures.edge) c.try_take.ensures.own c.try_take.ensures.other in
+    d.change
 
 pub returns-clause-moved : goal.returns-clause-moved
 returns-clause-moved c =
     let x = c.index_mut-it.result.now in let y = c.try_take.new.self in let end = c.end_of-end.result in let b = c.args.self.now in let e = c.args.edge in
     let some_registers : 0 < registers_on b e = omega (arith, c.requires.edge) in
-    let d = done c.self.inside.acting c.self.inside.edges.items b c.self.view_is e end x y (tries c.args.attempt) (λ k l. after_try k c.args.attempt c.try_take.result l) some_registers (c.requires.free, c.requires.attempt.1) c.index_mut-it.ensures.value c.end_of-end.ensures.end (c.try_take.ensures.edge ∙ tried_effect end c.args.attempt x c.try_take.result c.try_take.ensures.answer) (same_ends_try end c.args.attempt x y c.try_take.result c.try_take.ensures.edge) c.try_take.ensures.own c.try_take.ensures.other in
+    let d = done c.self.inside.acting c.self.inside.edges.items b c.self.view_is e end x y (tries c.args.attempt) (λ k. after_try k c.args.attempt c.try_take.result) some_registers (c.requires.free, c.requires.is_new) c.index_mut-it.ensures.value c.end_of-end.ensures.end (c.try_take.ensures.edge ∙ tried_effect end c.args.attempt x c.try_take.result c.try_take.ensures.answer) (same_ends_try end c.args.attempt x y c.try_take.result c.try_take.ensures.edge) c.try_take.ensures.own c.try_take.ensures.other in
     d.moved
 
 pub returns-clause-others : goal.returns-clause-others
 returns-clause-others c =
     let x = c.index_mut-it.result.now in let y = c.try_take.new.self in let end = c.end_of-end.result in let b = c.args.self.now in let e = c.args.edge in
     let some_registers : 0 < registers_on b e = omega (arith, c.requires.edge) in
-    let d = done c.self.inside.acting c.self.inside.edges.items b c.self.view_is e end x y (tries c.args.attempt) (λ k l. after_try k c.args.attempt c.try_take.result l) some_registers (c.requires.free, c.requires.attempt.1) c.index_mut-it.ensures.value c.end_of-end.ensures.end (c.try_take.ensures.edge ∙ tried_effect end c.args.attempt x c.try_take.result c.try_take.ensures.answer) (same_ends_try end c.args.attempt x y c.try_take.result c.try_take.ensures.edge) c.try_take.ensures.own c.try_take.ensures.other in
+    let d = done c.self.inside.acting c.self.inside.edges.items b c.self.view_is e end x y (tries c.args.attempt) (λ k. after_try k c.args.attempt c.try_take.result) some_registers (c.requires.free, c.requires.is_new) c.index_mut-it.ensures.value c.end_of-end.ensures.end (c.try_take.ensures.edge ∙ tried_effect end c.args.attempt x c.try_take.result c.try_take.ensures.answer) (same_ends_try end c.args.attempt x y c.try_take.result c.try_take.ensures.edge) c.try_take.ensures.own c.try_take.ensures.other in
     d.others
 
 pub returns-clause-histories : goal.returns-clause-histories

@@ -1,7 +1,7 @@
 use Rattle.std.proofs.Common.{arith, refl, sym, ap, ◌∙◌, subst, ◌≡◌, ◌+◌, ◌-◌}
-use Rattle.edge_lock.specs.History.{own, IsAllowed}
+use Rattle.edge_lock.specs.History.{register_value, site_count, IsAllowed}
 use Rattle.edge_lock.specs.EndLists.{IsHeld, Shows, known_value}
-use Rattle.edge_lock.specs.PlainEdges.{PlainEdgeValue, own_lists, view_of, IsKept, IsAnswer}
+use Rattle.edge_lock.specs.PlainEdges.{PlainEdgeValue, own_lists}
 use Rattle.edge_lock.specs.declared.history.Access.TheVariants.{Read}
 use Rattle.edge_lock.specs.PlainEdges.{plain_edge_value, plain_view_after_change}
 use Rattle.edge_lock.specs.EndLists.{with_access, after_access}
@@ -14,16 +14,24 @@ load-requires c =
     let size = c.self.invariant.1 ∙ ap (λ (x : PlainEdgeValue). x.registers) c.self.view_is in
     (c.self.invariant.2, omega (arith, c.self.invariant.0, size, c.self.invariant.1, c.requires.register), keeps.reads _ _ _ c.args.end c.self.inside.seat.me c.self.invariant.3 (subst (λ (x : PlainEdgeValue). IsHeld (own_lists c.args.end x)) (sym c.self.view_is) c.requires.held) c.args.register _ (omega (arith, size, c.requires.register)) refl)
 
+pub returns-clause-is_register : goal.returns-clause-is_register
+returns-clause-is_register c =
+    let q = c.args.register in let back : (q + 3) - 3 ≡ q = omega arith in let me = c.self.inside.seat.me in
+    c.load.ensures.2.1 ∙ ap (register_value me.0.holds) back ∙ ap (λ (x : PlainEdgeValue). register_value x.holds q) c.self.view_is
+
+pub returns-clause-allowed : goal.returns-clause-allowed
+returns-clause-allowed c =
+    let q = c.args.register in let back : (q + 3) - 3 ≡ q = omega arith in let me = c.self.inside.seat.me in
+    let is = c.load.ensures.2.1 ∙ ap (register_value me.0.holds) back in
+    let told = keeps.shows_known 0 0 0 c.args.end me c.self.invariant.3 (subst (λ (x : PlainEdgeValue). IsHeld (own_lists c.args.end x)) (sym c.self.view_is) c.requires.held) q c.load.result (own_lists c.args.end (plain_edge_value 0 0 me.0)).refusals c.self.invariant.4 is in
+    subst (λ (x : PlainEdgeValue). IsAllowed (site_count x.registers) q c.load.result) c.self.view_is told.1
+
 pub returns-clause-value : goal.returns-clause-value
 returns-clause-value c =
     let q = c.args.register in let back : (q + 3) - 3 ≡ q = omega arith in let me = c.self.inside.seat.me in
-    let is = c.load.ensures.2.1 ∙ ap (Rattle.edge_lock.specs.History.register_value me.0.holds) back in
-    let told = keeps.shows_known 0 0 0 c.args.end me c.self.invariant.3 (subst (λ (x : PlainEdgeValue). IsHeld (own_lists c.args.end x)) (sym c.self.view_is) c.requires.held) q c.load.result (own_lists c.args.end (Rattle.edge_lock.specs.PlainEdges.plain_edge_value 0 0 me.0)).refusals c.self.invariant.4 is in
-    let seen = c.self.view_is in (
-      is ∙ ap (λ (x : PlainEdgeValue). Rattle.edge_lock.specs.History.register_value x.holds q) seen,
-      subst (λ (x : PlainEdgeValue). IsAllowed (Rattle.edge_lock.specs.History.site_count x.registers) q c.load.result) seen told.1,
-      subst (λ (x : PlainEdgeValue). Shows (known_value (own_lists c.args.end x) q) c.load.result) seen told.0,
-    )
+    let is = c.load.ensures.2.1 ∙ ap (register_value me.0.holds) back in
+    let told = keeps.shows_known 0 0 0 c.args.end me c.self.invariant.3 (subst (λ (x : PlainEdgeValue). IsHeld (own_lists c.args.end x)) (sym c.self.view_is) c.requires.held) q c.load.result (own_lists c.args.end (plain_edge_value 0 0 me.0)).refusals c.self.invariant.4 is in
+    subst (λ (x : PlainEdgeValue). Shows (known_value (own_lists c.args.end x) q) c.load.result) c.self.view_is told.0
 
 pub returns-clause-own : goal.returns-clause-own
 returns-clause-own c =

@@ -11,7 +11,7 @@ pub compare_exchange-found-requires : goal.compare_exchange-found-requires
 compare_exchange-found-requires c =
     let w : 1 + 2 * c.args.attempt + c.from.result ≡ 1 + 2 * c.args.attempt + c.args.end = omega (arith, c.from.ensures) in
     let free = subst (λ (x : PlainEdgeValue). IsFree (own_lists c.args.end x)) (sym c.self.view_is) c.requires.free in
-    let new = subst (λ (x : PlainEdgeValue). IsNew c.args.attempt (own_lists c.args.end x)) (sym c.self.view_is) c.requires.attempt.1 in
+    let new = subst (λ (x : PlainEdgeValue). IsNew c.args.attempt (own_lists c.args.end x)) (sym c.self.view_is) c.requires.is_new in
     (c.self.invariant.2, omega (arith, c.self.invariant.0), keeps.tries _ _ _ c.args.end c.args.attempt _ c.self.inside.seat.me c.self.invariant.3 c.requires.end w free new.holds new.refusals)
 
 pub returns-clause-answer : goal.returns-clause-answer

@@ -13,7 +13,7 @@ use Rattle.edge_lock.proofs.plain_edge.PlainEdge.write.Goals as goal
 pub store-requires : goal.store-requires
 store-requires c =
     let size = c.self.invariant.1 ∙ ap (λ (x : PlainEdgeValue). x.registers) c.self.view_is in
-    (c.self.invariant.2, omega (arith, c.self.invariant.0, size, c.self.invariant.1, c.requires.register), keeps.writes _ _ _ c.args.end c.self.inside.seat.me c.self.invariant.3 (subst (λ (x : PlainEdgeValue). IsHeld (own_lists c.args.end x)) (sym c.self.view_is) c.requires.held) c.args.register _ c.args.value (omega (arith, size, c.requires.register)) (subst (λ (x : PlainEdgeValue). IsAllowed (site_count x.registers) c.args.register c.args.value) (sym c.self.view_is) c.requires.value) refl)
+    (c.self.invariant.2, omega (arith, c.self.invariant.0, size, c.self.invariant.1, c.requires.register), keeps.writes _ _ _ c.args.end c.self.inside.seat.me c.self.invariant.3 (subst (λ (x : PlainEdgeValue). IsHeld (own_lists c.args.end x)) (sym c.self.view_is) c.requires.held) c.args.register _ c.args.value (omega (arith, size, c.requires.register)) (subst (λ (x : PlainEdgeValue). IsAllowed (site_count x.registers) c.args.register c.args.value) (sym c.self.view_is) c.requires.allowed) refl)
 
 pub returns-clause-own : goal.returns-clause-own
 returns-clause-own c =

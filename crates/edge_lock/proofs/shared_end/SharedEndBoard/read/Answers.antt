@@ -33,28 +33,25 @@ read-requires-clause-held c =
 pub returns-clause-value : goal.returns-clause-value
 returns-clause-value c =
     let a = acts c.self.inside.edges.now c.self.inside.passes.items c.as_slice.result.now c.self.inside.tile c.args.self.now c.args.edge c.pass_position-i.result c.self.view_is c.self.invariant c.as_slice.ensures.value c.pass_position-i.ensures.is c.pass_position-i.ensures.inside in
-    let p = c.index_mut.result.now in let at = c.index_mut.ensures.value in let x = c.index-self-edge.result in let there = c.index-self-edge.is in (
-      subst (λ (l : EndLists). Shows (known_value l c.args.register) c.read.result) (sym (a.lists p at)) c.read.ensures.value.0,
-      subst (λ n. IsAllowed (site_count n) c.args.register c.read.result) (sym (a.registers p x at there ∙ ap (λ (y : EdgeValue). y.registers) there)) c.read.ensures.value.1,
-    )
+    let p = c.index_mut.result.now in let at = c.index_mut.ensures.value in
+    subst (λ (l : EndLists). Shows (known_value l c.args.register) c.read.result) (sym (a.lists p at)) c.read.ensures.value
 
-pub returns-clause-lists : goal.returns-clause-lists
-returns-clause-lists c =
+pub returns-clause-allowed : goal.returns-clause-allowed
+returns-clause-allowed c =
+    let a = acts c.self.inside.edges.now c.self.inside.passes.items c.as_slice.result.now c.self.inside.tile c.args.self.now c.args.edge c.pass_position-i.result c.self.view_is c.self.invariant c.as_slice.ensures.value c.pass_position-i.ensures.is c.pass_position-i.ensures.inside in
+    let p = c.index_mut.result.now in let at = c.index_mut.ensures.value in let x = c.index-self-edge.result in let there = c.index-self-edge.is in
+    subst (λ n. IsAllowed (site_count n) c.args.register c.read.result) (sym (a.registers p x at there ∙ ap (λ (y : EdgeValue). y.registers) there)) c.read.ensures.allowed
+
+pub returns-clause-change : goal.returns-clause-change
+returns-clause-change c =
     let a = acts c.self.inside.edges.now c.self.inside.passes.items c.as_slice.result.now c.self.inside.tile c.args.self.now c.args.edge c.pass_position-i.result c.self.view_is c.self.invariant c.as_slice.ensures.value c.pass_position-i.ensures.is c.pass_position-i.ensures.inside in
     let p = c.index_mut.result.now in let at = c.index_mut.ensures.value in
-    let d = a.after p c.read.new.pass (λ k l. after_access (Read c.args.register c.read.result) l) at c.read.ensures.pass in
-    d.lists
-
-pub returns-clause-edges : goal.returns-clause-edges
-returns-clause-edges c =
-    let a = acts c.self.inside.edges.now c.self.inside.passes.items c.as_slice.result.now c.self.inside.tile c.args.self.now c.args.edge c.pass_position-i.result c.self.view_is c.self.invariant c.as_slice.ensures.value c.pass_position-i.ensures.is c.pass_position-i.ensures.inside in
-    let p = c.index_mut.result.now in let at = c.index_mut.ensures.value in
-    let d = a.after p c.read.new.pass (λ k l. after_access (Read c.args.register c.read.result) l) at c.read.ensures.pass in
-    (d.registers, d.ends)
+    let d = a.after p c.read.new.pass (λ k. after_access (Read c.args.register c.read.result)) at c.read.ensures.pass in
+    d.change
 
 pub returns-clause-moved : goal.returns-clause-moved
 returns-clause-moved c =
     let a = acts c.self.inside.edges.now c.self.inside.passes.items c.as_slice.result.now c.self.inside.tile c.args.self.now c.args.edge c.pass_position-i.result c.self.view_is c.self.invariant c.as_slice.ensures.value c.pass_position-i.ensures.is c.pass_position-i.ensures.inside in
     let p = c.index_mut.result.now in let at = c.index_mut.ensures.value in
-    let d = a.after p c.read.new.pass (λ k l. after_access (Read c.args.register c.read.result) l) at c.read.ensures.pass in
+    let d = a.after p c.read.new.pass (λ k. after_access (Read c.args.register c.read.result)) at c.read.ensures.pass in
     d.moved

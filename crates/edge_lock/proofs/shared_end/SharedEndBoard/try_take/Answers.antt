@@ -20,31 +20,24 @@ try_take-requires-clause-free c =
     let p = c.index_mut.result.now in let at = c.index_mut.ensures.value in
     subst IsFree (a.lists p at) c.requires.free
 
-pub try_take-requires-clause-attempt : goal.try_take-requires-clause-attempt
-try_take-requires-clause-attempt c =
+pub try_take-requires-clause-is_new : goal.try_take-requires-clause-is_new
+try_take-requires-clause-is_new c =
     let a = acts c.self.inside.edges.now c.self.inside.passes.items c.as_slice.result.now c.self.inside.tile c.args.self.now c.args.edge c.pass_position-i.result c.self.view_is c.self.invariant c.as_slice.ensures.value c.pass_position-i.ensures.is c.pass_position-i.ensures.inside in
     let p = c.index_mut.result.now in let at = c.index_mut.ensures.value in
-    (c.requires.attempt.0, subst (IsNew c.args.attempt) (a.lists p at) c.requires.attempt.1)
+    subst (IsNew c.args.attempt) (a.lists p at) c.requires.is_new
 
-pub returns-clause-lists : goal.returns-clause-lists
-returns-clause-lists c =
+pub returns-clause-change : goal.returns-clause-change
+returns-clause-change c =
     let a = acts c.self.inside.edges.now c.self.inside.passes.items c.as_slice.result.now c.self.inside.tile c.args.self.now c.args.edge c.pass_position-i.result c.self.view_is c.self.invariant c.as_slice.ensures.value c.pass_position-i.ensures.is c.pass_position-i.ensures.inside in
     let p = c.index_mut.result.now in let at = c.index_mut.ensures.value in
-    let d = a.after p c.try_take.new.pass (λ k l. after_try k c.args.attempt c.try_take.result l) at c.try_take.ensures.pass in
-    d.lists
-
-pub returns-clause-edges : goal.returns-clause-edges
-returns-clause-edges c =
-    let a = acts c.self.inside.edges.now c.self.inside.passes.items c.as_slice.result.now c.self.inside.tile c.args.self.now c.args.edge c.pass_position-i.result c.self.view_is c.self.invariant c.as_slice.ensures.value c.pass_position-i.ensures.is c.pass_position-i.ensures.inside in
-    let p = c.index_mut.result.now in let at = c.index_mut.ensures.value in
-    let d = a.after p c.try_take.new.pass (λ k l. after_try k c.args.attempt c.try_take.result l) at c.try_take.ensures.pass in
-    (d.registers, d.ends)
+    let d = a.after p c.try_take.new.pass (λ k. after_try k c.args.attempt c.try_take.result) at c.try_take.ensures.pass in
+    d.change
 
 pub returns-clause-moved : goal.returns-clause-moved
 returns-clause-moved c =
     let a = acts c.self.inside.edges.now c.self.inside.passes.items c.as_slice.result.now c.self.inside.tile c.args.self.now c.args.edge c.pass_position-i.result c.self.view_is c.self.invariant c.as_slice.ensures.value c.pass_position-i.ensures.is c.pass_position-i.ensures.inside in
     let p = c.index_mut.result.now in let at = c.index_mut.ensures.value in
-    let d = a.after p c.try_take.new.pass (λ k l. after_try k c.args.attempt c.try_take.result l) at c.try_take.ensures.pass in
+    let d = a.after p c.try_take.new.pass (λ k. after_try k c.args.attempt c.try_take.result) at c.try_take.ensures.pass in
     d.moved
 
 pub returns-clause-end : goal.returns-clause-end

@@ -30,29 +30,22 @@ write-requires-clause-held c =
     let p = c.index_mut.result.now in let at = c.index_mut.ensures.value in
     subst IsHeld (a.lists p at) c.requires.held
 
-pub write-requires-clause-value : goal.write-requires-clause-value
-write-requires-clause-value c =
+pub write-requires-clause-allowed : goal.write-requires-clause-allowed
+write-requires-clause-allowed c =
     let a = acts c.self.inside.edges.now c.self.inside.passes.items c.as_slice.result.now c.self.inside.tile c.args.self.now c.args.edge c.pass_position-i.result c.self.view_is c.self.invariant c.as_slice.ensures.value c.pass_position-i.ensures.is c.pass_position-i.ensures.inside in
     let p = c.index_mut.result.now in let at = c.index_mut.ensures.value in let x = c.index-self-edge.result in let there = c.index-self-edge.is in
-    subst (λ n. IsAllowed (site_count n) c.args.register c.args.value) (a.registers p x at there ∙ ap (λ (y : EdgeValue). y.registers) there) c.requires.value
+    subst (λ n. IsAllowed (site_count n) c.args.register c.args.value) (a.registers p x at there ∙ ap (λ (y : EdgeValue). y.registers) there) c.requires.allowed
 
-pub returns-clause-lists : goal.returns-clause-lists
-returns-clause-lists c =
+pub returns-clause-change : goal.returns-clause-change
+returns-clause-change c =
     let a = acts c.self.inside.edges.now c.self.inside.passes.items c.as_slice.result.now c.self.inside.tile c.args.self.now c.args.edge c.pass_position-i.result c.self.view_is c.self.invariant c.as_slice.ensures.value c.pass_position-i.ensures.is c.pass_position-i.ensures.inside in
     let p = c.index_mut.result.now in let at = c.index_mut.ensures.value in
-    let d = a.after p c.write.new.pass (λ k l. after_access (Write c.args.register c.args.value) l) at c.write.ensures in
-    d.lists
-
-pub returns-clause-edges : goal.returns-clause-edges
-returns-clause-edges c =
-    let a = acts c.self.inside.edges.now c.self.inside.passes.items c.as_slice.result.now c.self.inside.tile c.args.self.now c.args.edge c.pass_position-i.result c.self.view_is c.self.invariant c.as_slice.ensures.value c.pass_position-i.ensures.is c.pass_position-i.ensures.inside in
-    let p = c.index_mut.result.now in let at = c.index_mut.ensures.value in
-    let d = a.after p c.write.new.pass (λ k l. after_access (Write c.args.register c.args.value) l) at c.write.ensures in
-    (d.registers, d.ends)
+    let d = a.after p c.write.new.pass (λ k. after_access (Write c.args.register c.args.value)) at c.write.ensures in
+    d.change
 
 pub returns-clause-moved : goal.returns-clause-moved
 returns-clause-moved c =
     let a = acts c.self.inside.edges.now c.self.inside.passes.items c.as_slice.result.now c.self.inside.tile c.args.self.now c.args.edge c.pass_position-i.result c.self.view_is c.self.invariant c.as_slice.ensures.value c.pass_position-i.ensures.is c.pass_position-i.ensures.inside in
     let p = c.index_mut.result.now in let at = c.index_mut.ensures.value in
-    let d = a.after p c.write.new.pass (λ k l. after_access (Write c.args.register c.args.value) l) at c.write.ensures in
+    let d = a.after p c.write.new.pass (λ k. after_access (Write c.args.register c.args.value)) at c.write.ensures in
     d.moved

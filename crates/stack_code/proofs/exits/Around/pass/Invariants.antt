@@ -1,11 +1,11 @@
 use Rattle.std.specs.Prelude.{◌≡◌, ◌+◌, drop, Some, []}
-use Rattle.stack_code.specs.Valid.{around, pass}
-use Rattle.stack_code.specs.KindLists.{notes_of, NotesFit, maybe, MaybeFits}
+use Rattle.stack_code.specs.Valid.{pass}
+use Rattle.stack_code.specs.KindLists.{notes_of, NotesFit, maybe, MaybeFits, around_of}
 use Rattle.stack_code.proofs.exits.Around.pass.Given as goal
 
 abbrev pub invariant-loop-i : goal.invariant-loop-i
 invariant-loop-i l = record {
-  rest : pass (around l.self.code.now l.self.function.now l.self.end) (drop l.i-index l.instrs) l.p (maybe l.lists l.here) (notes_of l.lists l.notes.items) ≡ pass (around l.self.code.now l.self.function.now l.self.end) l.instrs l.first (Some []) (notes_of l.fn.lists l.fn.notes.items);
+  rest : pass (around_of l.self) (drop l.i-index l.instrs) l.p (maybe l.lists l.here) (notes_of l.lists l.notes.items) ≡ pass (around_of l.self) l.instrs l.first (Some []) (notes_of l.fn.lists l.fn.notes.items);
   place : l.p ≡ l.first + l.i-index;
   notes : NotesFit l.lists l.notes.items;
   here : MaybeFits l.lists l.here;

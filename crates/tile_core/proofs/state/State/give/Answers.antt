@@ -12,11 +12,11 @@ give-requires-clause-edge g c =
     let q = c.requires.phase in
     let t = value_of c.args.self.now in
     let m = c.args.map.now in
-    let lt = give_lt m q.0 q.1 q.2 t (g.D.Board.lists c.args.board.now) q.4 q.3 in
-    some_registers m t.number (g.D.Board.tile c.args.board.now) (g.D.Board.registers c.args.board.now) (g.D.Board.end_of c.args.board.now) c.requires.board t.needs q.4.needs.ends c.edge.result (ap (λ d. has d t.needs) c.edge.ensures ∙ has_at t.next t.needs lt)
+    let lt = give_lt m q.0 q.1 q.2 t (g.D.Board.end c.args.board.now).lists q.4 q.3 in
+    some_registers m t.number (g.D.Board.end c.args.board.now) c.requires.board t.needs q.4.needs.ends c.edge.result (ap (λ d. has d t.needs) c.edge.ensures ∙ has_at t.next t.needs lt)
 
 pub give-requires-clause-held : goal.give-requires-clause-held
 give-requires-clause-held g c =
     let q = c.requires.phase in
-    let a = g.D.Board.lists c.args.board.now in
+    let a = (g.D.Board.end c.args.board.now).lists in
     subst (λ e. IsHeld (a e)) (sym c.edge.ensures) (give_held c.args.map.now q.0 q.1 q.2 (value_of c.args.self.now) a q.4 q.3)

@@ -13,13 +13,13 @@ try_take-requires-clause-edge g c =
     let q = c.requires.phase in
     let t = value_of c.args.self.now in
     let m = c.args.map.now in
-    let lt = lock_lt m q.0 q.1 q.2 t (g.D.Board.lists c.args.board.now) q.4 q.3 in
-    some_registers m t.number (g.D.Board.tile c.args.board.now) (g.D.Board.registers c.args.board.now) (g.D.Board.end_of c.args.board.now) c.requires.board t.needs q.4.needs.ends c.edge-edge.result (ap (λ d. has d t.needs) c.edge-edge.ensures ∙ has_at t.next t.needs lt)
+    let lt = lock_lt m q.0 q.1 q.2 t (g.D.Board.end c.args.board.now).lists q.4 q.3 in
+    some_registers m t.number (g.D.Board.end c.args.board.now) c.requires.board t.needs q.4.needs.ends c.edge-edge.result (ap (λ d. has d t.needs) c.edge-edge.ensures ∙ has_at t.next t.needs lt)
 
 pub try_take-requires-clause-free : goal.try_take-requires-clause-free
 try_take-requires-clause-free g c =
     let q = c.requires.phase in
-    let a = g.D.Board.lists c.args.board.now in
+    let a = (g.D.Board.end c.args.board.now).lists in
     subst (λ e. IsFree (a e)) (sym c.edge-edge.ensures) (lock_free c.args.map.now q.0 q.1 q.2 (value_of c.args.self.now) a q.4 q.3)
 
 pub try_take-requires-clause-attempt : goal.try_take-requires-clause-attempt
@@ -27,15 +27,21 @@ try_take-requires-clause-attempt g c =
     let q = c.requires.phase in
     let t = value_of c.args.self.now in
     let m = c.args.map.now in
-    let a = g.D.Board.lists c.args.board.now in
-    let d = locking m q.0 q.1 q.2 t a q.4 q.3 in
-    (taken_few m q.2 q.4.turns t d.0 q.4.can, subst (λ e. IsNew (t.taken - 1) (a e)) (sym c.edge-edge.ensures) (lock_new m q.0 q.1 q.2 t a q.4 q.3))
+    let d = locking m q.0 q.1 q.2 t (g.D.Board.end c.args.board.now).lists q.4 q.3 in
+    taken_few m q.2 q.4.turns t d.0 q.4.can
+
+pub try_take-requires-clause-is_new : goal.try_take-requires-clause-is_new
+try_take-requires-clause-is_new g c =
+    let q = c.requires.phase in
+    let t = value_of c.args.self.now in
+    let a = (g.D.Board.end c.args.board.now).lists in
+    subst (λ e. IsNew (t.taken - 1) (a e)) (sym c.edge-edge.ensures) (lock_new c.args.map.now q.0 q.1 q.2 t a q.4 q.3)
 
 pub refused-requires-clause-edge : goal.refused-requires-clause-edge
 refused-requires-clause-edge g c =
     let q = c.requires.phase in
     let t = value_of c.args.self.now in
     let m = c.args.map.now in
-    let a = g.D.Board.lists c.args.board.now in
+    let a = (g.D.Board.end c.args.board.now).lists in
     let d = locking m q.0 q.1 q.2 t a q.4 q.3 in
     needs_known m t.number (centre t) c.edge-edge.result (subst (λ es. has c.edge-edge.result es ≡ true) d.0.needs (ap (λ e. has e t.needs) c.edge-edge.ensures ∙ has_at t.next t.needs d.1))

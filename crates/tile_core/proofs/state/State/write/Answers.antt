@@ -1,4 +1,4 @@
-use Rattle.std.proofs.Common.{length, sym, subst}
+use Rattle.std.proofs.Common.{refl, sym, subst}
 use Rattle.tile_core.specs.Kept.{value_of}
 use Rattle.std.proofs.Common.{◌++◌}
 use Rattle.std.specs.Prelude.{All}
@@ -14,19 +14,19 @@ publish-requires-clause-held g c =
     let q = c.requires.phase in
     let t = value_of c.args.self.now in
     let m = c.args.map.now in
-    let a = g.D.Board.lists c.args.board.now in
+    let a = (g.D.Board.end c.args.board.now).lists in
     let p = writing m q.0 q.1 q.2 t a q.4 q.3 in
-    open_held m t.number (length q.4.turns) q.4.turns t.needs p.1.0 a q.4.needs.ends p.1.1
+    open_held m t q.4.turns t.needs p.1.0 a q.4.needs.ends p.1.1
 
 pub write_clocks-requires-clause-had : goal.write_clocks-requires-clause-had
 write_clocks-requires-clause-had g c =
     let q = c.requires.phase in
     let t = value_of c.args.self.now in
     let m = c.args.map.now in
-    let a = g.D.Board.lists c.args.board.now in
-    let b = g.D.Board.lists c.publish.new.board in
+    let a = (g.D.Board.end c.args.board.now).lists in
+    let b = (g.D.Board.end c.publish.new.board).lists in
     let p = writing m q.0 q.1 q.2 t a q.4 q.3 in
     let r = c.publish.ensures.published in
-    subst (λ f. All (IsHad f b) t.needs) (sym c.publish.ensures.edges.0)
-    (had_all m t.number (g.D.Board.tile c.args.board.now) (g.D.Board.registers c.args.board.now) (g.D.Board.end_of c.args.board.now) c.requires.board t.needs q.4.needs.ends (length q.4.turns) q.4.turns (λ e. p.1.0 e ++ r.more e) b
-    (open_more m t.number (length q.4.turns) q.4.turns t.needs p.1.0 r.more a b p.1.1 r.adds))
+    subst (λ f. All (IsHad f b) t.needs) (sym c.publish.ensures.same.1)
+    (had_all m t.number (g.D.Board.end c.args.board.now) c.requires.board t.needs q.4.needs.ends t refl q.4.turns (λ e. p.1.0 e ++ r.more e) b
+    (open_more m t q.4.turns t.needs p.1.0 r.more a b p.1.1 r.adds))

@@ -1,10 +1,11 @@
 use Rattle.std.proofs.Common.{◌≡◌, ℕ, false, sym, ap, ◌∙◌, subst}
 use Rattle.window_sites.specs.Window.{WindowValue}
 use Rattle.tile_map.specs.Plane.{MapValue}
-use Rattle.tile_core.specs.Underway.{GoesOn}
-use Rattle.tile_core.specs.Steps.{StepsIn, is_over}
+use Rattle.tile_core.specs.Underway.{GoesOn, tile_at}
+use Rattle.tile_core.specs.Steps.{StepsIn, is_over, rules_of}
 use Rattle.tile_core.proofs.Advance.{drawn_taken, same_taken}
 use Rattle.tile_core.proofs.Falls.{steps_fall}
+use Rattle.edge_lock.proofs.BoardLaws.{same_end}
 use Rattle.tile_core.proofs.tile.Tile.attempt_whole.Goals as goal
 
 pub loop-phase-init : goal.loop-phase-init
@@ -14,14 +15,12 @@ loop-phase-init g c =
     let e = c.advance-phase.ensures in
     record {
       far = λ start attempts u. (e.on start attempts u).0;
-      taken = drawn_taken v.0.cache.map (g.B.Behave.after v.1) (g.D.Board.end_of c.args.board.now) v.0 w.0 (g.D.Board.lists c.args.board.now) (g.D.Board.lists c.advance-phase.new.board) v.0.phase c.requires.draw e.step;
+      taken = drawn_taken v.core.cache.map (g.B.Behave.after v.behave) (g.D.Board.end c.args.board.now).end_of v.core w.core (g.D.Board.end c.args.board.now).lists (g.D.Board.end c.advance-phase.new.board).lists v.core.phase c.requires.draw e.step;
       phase = e.phase;
       number = e.number;
       map = e.map;
       meaning = e.meaning;
-      tile = e.tile;
-      registers = e.edges.0;
-      ends = e.edges.1;
+      same = e.same;
       moved = e.moved;
     }
 
@@ -31,33 +30,31 @@ loop-phase-smaller g c =
     let x = c.loop-phase.self in
     let y = c.advance-phase-in-loop-phase.new.self in
     let i = c.loop-phase.invariant in
-    let b = g.D.Board.lists c.loop-phase.board in
-    let d = g.D.Board.lists c.advance-phase-in-loop-phase.new.board in
-    let end_of = g.D.Board.end_of c.loop-phase.board in
+    let b = (g.D.Board.end c.loop-phase.board).lists in
+    let d = (g.D.Board.end c.advance-phase-in-loop-phase.new.board).lists in
+    let end_of = (g.D.Board.end c.loop-phase.board).end_of in
     let q = c.requires.underway in
-    let s = subst (λ (p : MapValue × (WindowValue → ℕ → WindowValue)). StepsIn p.0 p.1 end_of x.0 y.0 b d x.0.phase) (λ j. (i.map j, i.meaning j)) c.advance-phase-in-loop-phase.ensures.step in
-    let on : is_over x.0.phase ≡ false = ap is_over (sym i.phase) ∙ (sym c.is_over.ensures ∙ c.loop-phase-test.true) in
-    steps_fall v.0.cache.map (g.B.Behave.after v.1) q.0 q.1 x.0 b (i.far q.0 q.1 q.2) end_of y.0 d on s
+    let s = subst (λ (p : MapValue × (WindowValue → ℕ → WindowValue)). StepsIn (rules_of p.0 p.1 end_of) (tile_at x.core b) (tile_at y.core d) x.core.phase) (λ j. (i.map j, i.meaning j)) c.advance-phase-in-loop-phase.ensures.step in
+    let on : is_over x.core.phase ≡ false = ap is_over (sym i.phase) ∙ (sym c.is_over.ensures ∙ c.loop-phase-test.true) in
+    steps_fall v.core.cache.map (g.B.Behave.after v.behave) q.0 q.1 x.core b (i.far q.0 q.1 q.2) end_of y.core d on s
 
 pub loop-phase-preserved : goal.loop-phase-preserved
 loop-phase-preserved g c =
     let x = c.loop-phase.self in
     let y = c.advance-phase-in-loop-phase.new.self in
     let i = c.loop-phase.invariant in
-    let b = g.D.Board.lists c.loop-phase.board in
-    let d = g.D.Board.lists c.advance-phase-in-loop-phase.new.board in
+    let b = (g.D.Board.end c.loop-phase.board).lists in
+    let d = (g.D.Board.end c.advance-phase-in-loop-phase.new.board).lists in
     let e = c.advance-phase-in-loop-phase.ensures in
-    let goes = subst (λ (p : MapValue × (WindowValue → ℕ → WindowValue)). GoesOn p.0 p.1 x.0 b y.0 d) (λ j. (i.map j, i.meaning j)) e.on in
-    let on : is_over x.0.phase ≡ false = ap is_over (sym i.phase) ∙ (sym c.is_over.ensures ∙ c.loop-phase-test.true) in
+    let goes = subst (λ (p : MapValue × (WindowValue → ℕ → WindowValue)). GoesOn p.0 p.1 (tile_at x.core b) (tile_at y.core d)) (λ j. (i.map j, i.meaning j)) e.on in
+    let on : is_over x.core.phase ≡ false = ap is_over (sym i.phase) ∙ (sym c.is_over.ensures ∙ c.loop-phase-test.true) in
     record {
       far = λ start attempts u. (goes start attempts (i.far start attempts u)).0;
-      taken = same_taken x.0.cache.map (g.B.Behave.after x.1) (g.D.Board.end_of c.loop-phase.board) x.0 y.0 b d x.0.phase on e.step ∙ i.taken;
+      taken = same_taken x.core.cache.map (g.B.Behave.after x.behave) (g.D.Board.end c.loop-phase.board).end_of x.core y.core b d x.core.phase on e.step ∙ i.taken;
       phase = e.phase;
       number = e.number ∙ i.number;
       map = e.map ∙ i.map;
       meaning = e.meaning ∙ i.meaning;
-      tile = e.tile ∙ i.tile;
-      registers = e.edges.0 ∙ i.registers;
-      ends = e.edges.1 ∙ i.ends;
+      same = same_end (g.D.Board.end c.args.board.now) (g.D.Board.end c.loop-phase.board) (g.D.Board.end c.advance-phase-in-loop-phase.new.board) i.same e.same;
       moved = g.met.D.Board.moved_on c.args.board.now c.loop-phase.board c.advance-phase-in-loop-phase.new.board i.moved e.moved;
     }
