@@ -15,7 +15,6 @@ use Rattle.tile_map.proofs.Sharing.{column_low, row_low}
 use Rattle.tile_map.proofs.Spans.{times_more, plane_test}
 use Rattle.cell_grid.specs.Grid.{GridValue, empty_grid}
 use Rattle.cell_grid.specs.Shut.{rectangle, is_inside, IsEmptyIn, cleared, shut}
-use Rattle.cell_grid.specs.declared.marks.Rectangle.{Rectangle}
 use Rattle.cell_grid.proofs.Cleared.{IsGrid-shut}
 use Rattle.event_journal.proofs.Extents.{sites_is}
 use Rattle.serial_order.specs.Outcomes.{IsAreaOf, IsPlaneGrid, IsShutTo}
@@ -67,10 +66,6 @@ module _ (m : MapValue) (valid : IsMap m) (t : ℕ) where
       let r = ap (λ n. n / m.w) at ∙ div-mul-add (m.h - 1) m.w (m.w - 1) less in
       (omega (arith, x, c), omega (arith, y, r))
 
-  -- a rectangle of a tile has the sites that the tile owns
-  abbrev own_area : Rectangle
-  own_area = rectangle (t % m.tx * m.w) (t / m.tx * m.h) m.w m.h
-
   next : (a w : ℕ) → a * w + w ≡ (a + 1) * w
   next a w = grind arith
 
@@ -80,10 +75,11 @@ module _ (m : MapValue) (valid : IsMap m) (t : ℕ) where
   abbrev inside_rows : ℕ → Bool
   inside_rows y = nat_le (t / m.tx * m.h) y && nat_lt y ((t / m.tx + 1) * m.h)
 
-  inside_area : (x y : ℕ) → is_inside own_area x y ≡ (inside_columns x && inside_rows y)
+  inside_area : (x y : ℕ) → is_inside (rectangle (t % m.tx * m.w) (t / m.tx * m.h) m.w m.h) x y ≡ (inside_columns x && inside_rows y)
   inside_area x y = λ i. (nat_le (t % m.tx * m.w) x && nat_lt x (next (t % m.tx) m.w i)) && (nat_le (t / m.tx * m.h) y && nat_lt y (next (t / m.tx) m.h i))
 
-  owned_area : (x y : ℕ) → t < tiles_of m → x < m.tx * m.w → y < m.ty * m.h → is_inside own_area x y ≡ (owner_of m (site x y) == t)
+  -- a rectangle of a tile has the sites that the tile owns
+  owned_area : (x y : ℕ) → t < tiles_of m → x < m.tx * m.w → y < m.ty * m.h → is_inside (rectangle (t % m.tx * m.w) (t / m.tx * m.h) m.w m.h) x y ≡ (owner_of m (site x y) == t)
   owned_area x y lt lx ly = inside_area x y ∙ go (inside_columns x && inside_rows y) (owner_of m (site x y) == t) refl refl
     where
       here : nat_lt t (tiles_of m) ≡ true
@@ -186,10 +182,10 @@ module _ (m : MapValue) where
     pub shut_on : is_on m t ≡ true → IsShutTo m (t + 1) g
     shut_on on = record { grid = h.grid; wide = h.wide; high = h.high; empty = h.empty; live = λ x y lx ly. h.live x y lx ly ∙ mark_on t (owner_of m (site x y)) on }
 
-    pub empty_in : (r : Rectangle) → IsEmptyIn g r
+    pub empty_in : (r : _) → IsEmptyIn g r
     empty_in r u v lu lv inside = ap (λ atoms. get_or atoms (v * g.width + u) empty_atom) h.empty ∙ get_or-replicate (g.width * g.height) (v * g.width + u) empty_atom empty_atom (mul-add-lt v g.width u g.height lv lu)
 
-    left_of_mark : (r : Rectangle) (x y : ℕ) → x < g.width → y < g.height → get_or (cleared g.live g.width r) (y * g.width + x) false ≡ (get_or g.live (y * g.width + x) false && not (is_inside r x y))
+    left_of_mark : (r : _) (x y : ℕ) → x < g.width → y < g.height → get_or (cleared g.live g.width r) (y * g.width + x) false ≡ (get_or g.live (y * g.width + x) false && not (is_inside r x y))
     unfolding cleared
     left_of_mark r x y lx ly =
         let i = y * g.width + x in
@@ -200,14 +196,14 @@ module _ (m : MapValue) where
         ∙ (λ j. get_or g.live (y * g.width + x) false && not (is_inside r (c j) (d j)))
 
     module _ (valid : IsMap m) (lt : t < tiles_of m) where
-      shut_own : is_on m t ≡ false → IsShutTo m (t + 1) (shut g (own_area m valid t))
+      shut_own : is_on m t ≡ false → IsShutTo m (t + 1) (shut g (rectangle (t % m.tx * m.w) (t / m.tx * m.h) m.w m.h))
       shut_own off = record {
-        grid = IsGrid-shut g (own_area m valid t) h.grid (empty_in (own_area m valid t));
+        grid = IsGrid-shut g (rectangle (t % m.tx * m.w) (t / m.tx * m.h) m.w m.h) h.grid (empty_in (rectangle (t % m.tx * m.w) (t / m.tx * m.h) m.w m.h));
         wide = h.wide;
         high = h.high;
         empty = h.empty;
         live = λ x y lx ly.
-            left_of_mark (own_area m valid t) x y lx ly
+            left_of_mark (rectangle (t % m.tx * m.w) (t / m.tx * m.h) m.w m.h) x y lx ly
             ∙ ((λ i. h.live x y lx ly i && not (owned_area m valid t x y lt (let e = h.wide in omega (arith, lx, e)) (let e = h.high in omega (arith, ly, e)) i))
             ∙ mark_off t (owner_of m (site x y)) off);
       }
