@@ -84,9 +84,9 @@ module _ {B : Type 0} (after : B → WindowValue → ℕ → WindowValue) (m : M
     free_tile : (t e : ℕ) → t < tiles_of m → has_end m t e ≡ true → IsFree (lists_of_tile board t e)
     free_tile t e lt end =
         let x = get_inside tiles t (let n = u.count in omega (arith, lt, n)) in
-        let k = u.each t x.core x.behave in
-        let h = subst (InPhase (common_in m g) (attempts g.plan t) k.underway.turns (tile_at x.core.0 (lists_of_tile board t))) (finished t x.core x.behave) k.underway.hand in
-        subst IsFree (sym (h.2 e (ap (λ n. has_end m n e) k.number ∙ end))) (free_of m g.meaning (atoms_of g.start) x.core.0.number k.underway.turns e k.underway.each k.underway.unworn)
+        let k = u.each t x.0 x.1 in
+        let h = subst (InPhase (common_in m g) (attempts g.plan t) k.underway.turns (tile_at x.0.core (lists_of_tile board t))) (finished t x.0 x.1) k.underway.hand in
+        subst IsFree (sym (h.2 e (ap (λ n. has_end m n e) k.number ∙ end))) (free_of m g.meaning (atoms_of g.start) x.0.core.number k.underway.turns e k.underway.each k.underway.unworn)
 
     end_free : (t e b : ℕ) → t < tiles_of m → has_end m t e ≡ true → e < length (pairs_of m) → end_at m t e ≡ b → is_last_open (own b (edge_at board e).holds) ≡ false
     end_free t e b lt end known is =

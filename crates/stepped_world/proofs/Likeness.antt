@@ -256,7 +256,7 @@ module _ {B : Type 0} (after : B → WindowValue → ℕ → WindowValue) (m : M
     refreshing = subst (InPhase (common_in m g) (attempts g.plan t) under.turns (tile_at x.core (lists_on b))) now under.hand
 
     held_there : (d : ℕ) → has d x.core.needs ≡ true → IsHeld (lists_on b d)
-    held_there d h = open_held m x.core.number (length under.turns) under.turns x.core.needs (λ e. []) (lists_on b) under.needs.ends refreshing.1 d h
+    held_there d h = open_held m x.core under.turns x.core.needs (λ e. []) (lists_on b) under.needs.ends refreshing.1 d h
 
     renewed_edges : (r : Refreshes (tile_at x.core (lists_on b)) (tile_at y.core (lists_on c))) → Renews x.core y.core r.top r.between (lists_on c) → (d : ℕ) → d < length (pairs_of m) → IsEdgeIn m d (edge_at c d).holds (s.edge d)
     renewed_edges r w d lt = go (has d x.core.needs) refl
@@ -297,7 +297,7 @@ module _ {B : Type 0} (after : B → WindowValue → ℕ → WindowValue) (m : M
     writing = subst (InPhase (common_in m g) (attempts g.plan t) under.turns (tile_at x.core (lists_on b))) now under.hand
 
     held_here : (d : ℕ) → has d x.core.needs ≡ true → IsHeld (lists_on b d)
-    held_here d h = open_held m x.core.number (length under.turns) under.turns x.core.needs writing.1.0 (lists_on b) under.needs.ends writing.1.1 d h
+    held_here d h = open_held m x.core under.turns x.core.needs writing.1.0 (lists_on b) under.needs.ends writing.1.1 d h
 
     needs_are : x.core.needs ≡ needs_of m t (centre x.core)
     needs_are = writing.0.needs ∙ ap (λ n. needs_of m n (centre x.core)) tile.number

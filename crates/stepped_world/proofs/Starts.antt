@@ -46,9 +46,9 @@ module _ (m : MapValue) (meaning : WindowValue → ℕ → WindowValue) (start :
       out : (n : ℕ) → tile.taken ≡ n + 1 → ⊥
       out n e = omega (arith, e, none)
 
-      giving : (turns : List Turn) (edges : List ℕ) (next : ℕ) → turns ≡ [] → Rattle.tile_core.specs.Underway.IsGiving m tile.number turns edges next lists → ⊥
-      giving [] edges next e g = g
-      giving (x ∷ turns) edges next e g = cc e
+      giving : (turns : List Turn) (edges : List ℕ) → turns ≡ [] → Rattle.tile_core.specs.Underway.IsGiving m turns (tile_at tile lists) edges → ⊥
+      giving [] edges e g = g
+      giving (x ∷ turns) edges e g = cc e
 
       go : (p : Phase) → tile.phase ≡ p → InPhase (common m meaning start) given u.turns (tile_at tile lists) p → Fresh
       go Draw is h = record { turns = no_turns u.turns h.0; doing = ap (doing_in tile) is ∙ some_left tile.left h.1 }
@@ -58,8 +58,8 @@ module _ (m : MapValue) (meaning : WindowValue → ℕ → WindowValue) (start :
       go Behave is h = absurd (out (length u.turns) h.0.taken)
       go Write is h = absurd (out (length u.turns) h.0.taken)
       go Worn is h = absurd (out (length u.turns) h.0.taken)
-      go Give is h = absurd (giving u.turns tile.needs tile.next (no_turns u.turns h.0) h.2)
-      go Back is h = absurd (giving u.turns _ tile.next (no_turns u.turns h.0) h.4)
+      go Give is h = absurd (giving u.turns tile.needs (no_turns u.turns h.0) h.2)
+      go Back is h = absurd (giving u.turns _ (no_turns u.turns h.0) h.4)
 
 module _ {B : Type 0} (after : B → WindowValue → ℕ → WindowValue) (m : MapValue) (g : Setting) (tiles : List (TileWith B)) (board : PlainBoardValue) (s : IsStart after m g tiles board) where
   there : (t : ℕ) (x : TileWith B) → slice_get tiles t ≡ Some x → IsUnderway (common_in m g) (attempts g.plan t) x.core (lists_of_tile board t)
@@ -69,7 +69,8 @@ module _ {B : Type 0} (after : B → WindowValue → ℕ → WindowValue) (m : M
   pub first_underway : AreUnderway after m g tiles board
   first_underway = record {
     count = s.tiles_are.count;
-    each = λ t x is. record { number = (s.tiles_are.fresh t x is).number; meaning = s.tiles_are.meanings t x is; underway = there t x is };
+    each = λ t x is. record { number = (s.tiles_are.fresh t x is).number; underway = there t x is };
+    meanings = s.tiles_are.meanings;
     board_is = board_new m board s.edges;
   }
 
