@@ -9,6 +9,8 @@ from first_call.progress import Status
 
 # The length of the bar, in letters.
 BAR = 10
+# With fewer seconds left than this, no number is shown.
+SOON = 20
 
 
 def spoken(seconds: float) -> str:
@@ -19,9 +21,14 @@ def spoken(seconds: float) -> str:
     return f"{minutes} min" if minutes < 90 else f"{minutes // 60} h {minutes % 60} min"
 
 
+def as_left(seconds: float, about: str = "") -> str:
+    """The time that is left, in words; what is nearly over has no seconds, since these are never right."""
+    return f"{about}{spoken(seconds)} left" if seconds >= SOON else "soon done"
+
+
 def as_line(status: Status) -> str:
     """How far a build is, in one line."""
-    times = f"{spoken(status.gone)} gone, about {spoken(status.left)} left"
+    times = f"{spoken(status.gone)} gone, {as_left(status.left, 'about ')}"
     return f"{status.done} of {status.crates} crates are proved; {times}; {status.now}"
 
 
@@ -29,7 +36,7 @@ def as_bar(status: Status, width: int) -> str:
     """How far a build is, in one line of a terminal."""
     full = int(BAR * status.share)
     bar = "#" * full + "." * (BAR - full)
-    times = f"{spoken(status.gone)} gone, {spoken(status.left)} left"
+    times = f"{spoken(status.gone)} gone, {as_left(status.left)}"
     front = f"[{bar}] {status.done}/{status.crates} crates, {times}: "
     return (front + shortened(status.now, width - 1 - len(front)))[: width - 1]
 

@@ -47,6 +47,6 @@ pub record Adds (old new : ℕ → EndLists) (edge : ℕ) (more : List Access) :
   pub lists : new ≡ replace_at old edge (after_all more (old edge))
   pub honest : IsHonest (known_value (old edge)) more
 
--- the open hold of an edge has some accesses more, of this kind, and nothing else changed
+-- the open hold of an edge has some accesses more, of this kind, and no other list of the end changed
 abbrev pub AddsSome : ℕ → (List Access → Type 0) → EndValue → EndValue → Type 0
 AddsSome edge P old new = (more : List Access) × Adds old.lists new.lists edge more × P more

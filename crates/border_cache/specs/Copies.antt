@@ -96,7 +96,7 @@ pub record IsEndOf (m : MapValue) (t : ℕ) (end : EndValue) : Type 0 where
   pub registers_are : (e : ℕ) → has_end m t e ≡ true → end.registers e ≡ registers_of (sites_on m e)
   pub end_is : (e : ℕ) → has_end m t e ≡ true → end.end_of e ≡ end_at m t e
 
--- what site n of the window at c shows: the atom of the tile's cell, or nothing
+-- what site n of the window at c shows: the atom of the tile's cell, or the empty atom if the site is not shown
 abbrev pub shown_atom : MapValue → CacheValue → Site → ℕ → AtomValue
 shown_atom m v c n = if is_shown m c n then (window_cells v c n).atom else empty_atom
 

@@ -4,7 +4,7 @@ use Rattle.edge_lock.specs.declared.board.Take.{Take}
 use Rattle.edge_lock.specs.EndLists.{EndLists, after_try, replace_at}
 
 -- The tile whose end it is. By an edge's number: how many registers it has, or 0 if it is not an
--- edge of the tile; which end of it the tile is, 0 or 1; and what this end did on it.
+-- edge of the tile; which end of it the tile is, 0 or 1, if it is one of the tile's; and what this end did on it.
 pub record EndValue : Type 0 where
   pub tile : ℕ
   pub registers : ℕ → ℕ

@@ -96,7 +96,9 @@ pub record IsExcusedBy (m : MapValue) (plan : PlanValue) (records : List Record)
   pub ends : Joins m g.edge g.tile g.holder
   pub held : Needs m plan g.holder g.holder_attempt g.edge
   pub owed : Any (IsEventBy (holder_of g)) records ⊎ Any (IsGivenUpBeyond g.edge (holder_of g)) abandoned
+  -- the tile's events before its attempt come before the holder's from the named attempt on
   pub after : ComesFirst m records g.edge (attempt_named g.tile g.attempt) (holder_of g)
+  -- the holder's events up to the named attempt come before the tile's after its own attempt
   pub before : ComesFirst m records g.edge (attempt_named g.holder (g.holder_attempt + 1)) (attempt_named g.tile (g.attempt + 1))
 
 -- each abandoned attempt is excused

@@ -49,7 +49,7 @@ abbrev pub Ticks : MapValue → List Record → Record → ClocksValue → Bool 
 Ticks m before r clocks true = (r.stamp ≡ stamp_after m before r) × AreClocks m (before ++ r ∷ []) clocks
 Ticks m before r clocks false = r.stamp ≢ stamp_after m before r
 
--- the clocks, whichever events they were of, have one event more if its stamp is the one that follows
+-- whether the event's stamp is the one that follows; if it is, the clocks are those after it, whichever events they were of
 abbrev pub TicksBy : MapValue → Record → ClocksValue → ClocksValue → Bool → Type 0
 TicksBy m r old new ticked = (before : List Record) → AreClocks m before old → Ticks m before r new ticked
 

@@ -31,8 +31,8 @@ pub record DrawnAttempt : Type 0 where
 abbrev pub drawn_attempt : ℕ → ℕ → Attempt → DrawnAttempt
 drawn_attempt tile number attempt = record { tile = tile; number = number; attempt = attempt }
 
--- the entry of an attempt was taken from the front of the tile's events or abandoned attempts: whatever test those that
--- are left have to pass, these pass it if the entry is there and is right
+-- the entry of an attempt was taken from the front of the tile's events or abandoned attempts: the next entry is that of
+-- the attempt, and the others pass a test, exactly if something is left and what is left passes the test
 abbrev pub TakesEntry : MapValue → DrawnAttempt → List Record → List Abandoned → Option (Bor (List Record) × Bor (List Abandoned)) → Type 0
 TakesEntry m a records abandoned left = (rest : List Record → List Abandoned → Bool) →
     next_entry m a.tile a.number a.attempt (of_tile a.tile records) (abandoned_by a.tile abandoned) rest ≡ passes a.tile rest left

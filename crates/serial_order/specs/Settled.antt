@@ -22,7 +22,7 @@ edge_cells m registers (e ∷ es) s = and_cell (cell_in_registers (registers e) 
 abbrev pub settled_cell : MapValue → (ℕ → ℕ → ℕ) → (Site → CellValue) → List ℕ → Site → CellValue
 settled_cell m registers own es s = newest (own s) (edge_cells m registers es s)
 
--- the grid has at this site, if it is live, the newest of the owner's cell and those of the owner's edges
+-- the grid has at this site, if it is live, the atom of the newest of the owner's cell and those of the owner's edges
 abbrev pub IsSettledAt : MapValue → List TileValue → (ℕ → ℕ → ℕ) → Site → GridValue → Type 0
 IsSettledAt m tiles registers s g = (tile : TileValue) → is_live m s ≡ true → slice_get tiles (owner_of m s) ≡ Some tile → site_atom g s.x s.y ≡ (settled_cell m registers (held_cell tile.cache) (edges_at m (owner_of m s)) s).atom
 

@@ -18,7 +18,7 @@ walker = record { kind = 1; state = 0 }
 abbrev pub row_attempt : ℕ → Attempt
 row_attempt centre = record { centre = centre; seed = 0 }
 
--- an event with this stamp, of this tile and attempt of the tile, at a site
+-- an event with this stamp, of this attempt by its tile and its number there, at a site
 abbrev pub row_event : ℕ → ℕ × ℕ → Site → Record
 row_event stamp attempt s = record { stamp = stamp; tile = attempt.0; attempt = attempt.1; x = s.x; y = s.y; seed = 0 }
 

@@ -88,7 +88,7 @@ pub record IsLike {B : Type 0} (m : MapValue) (g : Setting) (tiles : List (TileW
   pub matches : Matches m tiles board s
   pub sound : IsSound m g s
 
--- the tiles and the edges are as the machine has them, which knows no worn tile
+-- the tiles and the edges are as the machine has them, or some tile is worn out, which the machine does not know
 abbrev pub AreLike : {B : Type 0} → MapValue → Setting → List (TileWith B) → PlainBoardValue → Machine → Type 0
 AreLike m g tiles board s = IsLike m g tiles board s ⊎ AnyIsWorn tiles
 
@@ -100,7 +100,7 @@ pub record TilesOnBoard (B : Type 0) : Type 0 where
 abbrev pub on_board : {B : Type 0} → List (TileWith B) → PlainBoardValue → TilesOnBoard B
 on_board tiles board = record { tiles = tiles; board = board }
 
--- something that the machine does on a plane, where an event makes this of its window
+-- something that the machine does, by the plane and by what an event makes of a window
 abbrev pub Act : Type 0
 Act = MapValue → (WindowValue → ℕ → WindowValue) → Machine → Machine
 
@@ -125,7 +125,8 @@ abbrev pub rest_of_all : Act
 rest_of_all m meaning s = finish m meaning (range_with_len 0 (tiles_of m)) s
 
 -- The tiles made some steps, as the machine does in this act: from whatever setting they were underway, they still are; if they
--- were as a machine has them, they are now as that machine has them after the act. A tile that stood still still does.
+-- were as a machine has them, they are now as that machine has them after the act, or some tile is worn out. A tile that stood still still does, and the
+-- board keeps its sizes.
 pub record Follows {B : Type 0} (after : B → WindowValue → ℕ → WindowValue) (m : MapValue) (old new : TilesOnBoard B) (act : Act) : Type 0 where
   pub underway : (g : Setting) → AreUnderway after m g old.tiles old.board → AreUnderway after m g new.tiles new.board
   pub like : (g : Setting) (s : Machine) → AreUnderway after m g old.tiles old.board → AreLike m g old.tiles old.board s → AreLike m g new.tiles new.board (act m g.meaning s)

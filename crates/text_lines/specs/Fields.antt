@@ -21,7 +21,7 @@ abbrev pub args_of : Option (List ℕ) → List (List ℕ)
 args_of None = []
 args_of (Some rest) = fields rest
 
--- the fields of the text behind a reference that a reader has left
+-- the fields of the text that a reader has left, behind a reference; none if the line has ended
 abbrev pub fields_left : Option (Bor (List ℕ)) → List (List ℕ)
 fields_left rest = args_of (option_copied rest)
 

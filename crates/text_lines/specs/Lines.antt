@@ -49,6 +49,6 @@ ended_line fields = line_text fields ++ 10 ∷ []
 abbrev pub text_of : List (List (List ℕ)) → List ℕ
 text_of ls = flat_map ended_line ls
 
--- a text begins with this line, by what its lines are, and has these bytes after it
+-- the lines of a text are this one and then those of the rest, which is shorter
 abbrev pub BeginsWith : {Line : Type 0} → (List ℕ → List Line) → List ℕ → Line → List ℕ → Type 0
 BeginsWith lines_of bytes line rest = (lines_of bytes ≡ line ∷ lines_of rest) × (length rest < length bytes)

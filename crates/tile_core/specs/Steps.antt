@@ -162,7 +162,7 @@ StepsIn r old new Back = Frees old.tile.count old new
 StepsIn r old new Finished = Rests old new
 StepsIn r old new Worn = Rests old new
 
--- one step of a tile on its end of the edges, by what it was made with
+-- one step of a tile on its end of the edges, on the plane of its map
 abbrev pub Steps : (WindowValue → ℕ → WindowValue) → TileValue → EndValue → TileValue → EndValue → Type 0
 Steps meaning old end new end' = StepsIn (rules_of old.cache.map meaning end.end_of) (tile_at old end.lists) (tile_at new end'.lists) old.phase
 

@@ -126,11 +126,11 @@ abbrev pub greatest : ℕ → (ℕ → ℕ) → List ℕ → ℕ
 greatest n f [] = n
 greatest n f (e ∷ es) = greatest (max n (f e)) f es
 
--- what a hold of an event found and left on an edge
+-- what a hold of an event found and left on an edge, some of whose places the window covers; register 0 is the clock
 pub record IsEventHold (b : Border) (cells : ℕ → CellValue) (stamp : ℕ) (accesses : List Access) : Type 0 where
   pub clock : Finds accesses 0
   pub stamped : last_write accesses 0 None ≡ Some stamp
-  -- the news words of both ends were found, and are left with the bits of the covered places changed
+  -- the news words of both ends were found; the covered places are left as no news for the own end, and as news for the other
   pub mine : (k : ℕ) → Covers b.places b.count k → IsWordMarked b false accesses (k / 64)
   pub theirs : (k : ℕ) → Covers b.places b.count k → IsWordMarked (across b) true accesses (k / 64)
   -- the cells that are news were found, and no other cell register was read

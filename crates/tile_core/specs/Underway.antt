@@ -90,7 +90,7 @@ IsBack (Wins w ∷ older) = ⊥
 IsBack (Loses l ∷ older) = Unit {0}
 IsBack (Wears w ∷ older) = ⊥
 
--- all holds of the turns were given back
+-- on the tile's edges the lists have the holds and refusals of the turns, and nothing more
 abbrev pub AreTurnsOver : MapValue → ℕ → List Turn → (ℕ → EndLists) → Type 0
 AreTurnsOver m t turns lists = AgreeOnEdges m t lists (lists_of m t turns)
 
@@ -100,7 +100,7 @@ module _ (c : Common) (attempts : List Attempt) (turns : List Turn) (now : TileA
   abbrev pub AllAreTurns : Type 0
   AllAreTurns = now.tile.taken ≡ length turns
 
-  -- all holds of the turns were given back, and no other hold is there
+  -- on the tile's edges the lists have the holds and refusals of the turns, and nothing more: no hold is open
   abbrev pub NoneIsOpen : Type 0
   NoneIsOpen = AreTurnsOver c.map now.tile.number turns now.lists
 
@@ -190,7 +190,7 @@ GoesOn m meaning old new = (start : Site → AtomValue) (attempts : List Attempt
 abbrev pub IsSome : MapValue → (WindowValue → ℕ → WindowValue) → TileValue → (ℕ → EndLists) → Type 0
 IsSome m meaning tile lists = (start : Site → AtomValue) × (attempts : List Attempt) × IsUnderway (common m meaning start) attempts tile lists
 
--- in some way the tile is underway, whatever acts on its windows and whatever its ends' lists are
+-- the tile was made with this map: with some meaning, and on some lists of its end, it is underway
 abbrev pub IsMade : MapValue → TileValue → Type 0
 IsMade m tile = (meaning : WindowValue → ℕ → WindowValue) × (lists : ℕ → EndLists) × IsSome m meaning tile lists
 
@@ -207,7 +207,7 @@ pub record IsFreshTile (m : MapValue) (t : ℕ) (start : Site → AtomValue) (at
 abbrev pub GoesFar : MapValue → (WindowValue → ℕ → WindowValue) → TileAt → TileAt → Type 0
 GoesFar m meaning old new = (start : Site → AtomValue) (attempts : List Attempt) → IsUnderway (common m meaning start) attempts old.tile old.lists → IsUnderway (common m meaning start) attempts new.tile new.lists
 
--- on its end of the edges the tile goes on, by what it was made with
+-- on its end of the edges, and on the plane of its map, the tile goes on
 abbrev pub KeepsOn : (WindowValue → ℕ → WindowValue) → TileValue → EndValue → TileValue → EndValue → Type 0
 KeepsOn meaning old end new end' = GoesOn old.cache.map meaning (tile_at old end.lists) (tile_at new end'.lists)
 
