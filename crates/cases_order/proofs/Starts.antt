@@ -14,4 +14,4 @@ with_atom m plane g p x y live a =
     let wide = p.1.wide in
     let high = p.1.high in
     let s = sets m [] (λ e r. 0) plane g p x y (omega (arith, inside.0, wide)) (omega (arith, inside.1, high)) live a (λ tile is. absurd (cc (is))) in
-    (s.grid, record { wide = p.1.wide; high = p.1.high; live = p.1.live })
+    (s.0.grid, record { wide = p.1.wide; high = p.1.high; live = p.1.live })
