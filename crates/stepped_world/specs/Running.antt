@@ -125,8 +125,8 @@ abbrev pub rest_of_all : Act
 rest_of_all m meaning s = finish m meaning (range_with_len 0 (tiles_of m)) s
 
 -- The tiles made some steps, as the machine does in this act: from whatever setting they were underway, they still are; if they
--- were as a machine has them, they are now as that machine has them after the act, or some tile is worn out. A tile that stood still still does, and the
--- board keeps its sizes.
+-- were as a machine has them, they are now as that machine has them after the act, or some tile is worn out. A tile that stood
+-- still still does, and the board keeps its sizes.
 pub record Follows {B : Type 0} (after : B → WindowValue → ℕ → WindowValue) (m : MapValue) (old new : TilesOnBoard B) (act : Act) : Type 0 where
   pub underway : (g : Setting) → AreUnderway after m g old.tiles old.board → AreUnderway after m g new.tiles new.board
   pub like : (g : Setting) (s : Machine) → AreUnderway after m g old.tiles old.board → AreLike m g old.tiles old.board s → AreLike m g new.tiles new.board (act m g.meaning s)
