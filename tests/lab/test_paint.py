@@ -41,6 +41,16 @@ class Paintings(LabCase):
                                f"atom 15 26 Cell {'0' * 18}\n")
         self.assertIn("journal 42", feast("step", self.file("w", told), self.elements))
 
+    def test_order(self) -> None:
+        """With an order the tiles of a stepped run take turns, so that some attempts are abandoned."""
+        words = self.words("A\n", "--key", "A=Cell", "--tiles", "2", "1", *SIZE, "--seed", "1", "--attempts", "50")
+        alone = self.passes(*words)
+        turns = self.passes(*words[:-1], "--order", "500000", words[-1])
+        self.assertEqual(turns, alone + "order seed 500000\n")
+        self.assertIn("abandoned 0", feast("step", self.file("w", alone), self.elements))
+        self.assertNotIn("abandoned 0", feast("step", self.file("w", turns), self.elements))
+        self.refused("--order -1: a seed is from 0", *words[:-1], "--order", "-1", words[-1])
+
     def test_pattern(self) -> None:
         told = self.passes(*self.words(GLIDER, "--key", "o=Wall", *SIZE, "--place", "2", "1"))
         self.assertEqual([line.split()[1:3] for line in told.splitlines()[3:]],

@@ -48,6 +48,10 @@ class Rates(RatesCase):
         self.assertEqual([(row["x"], row["y"]) for row in self.rows(self.world, self.report)],
                          [(str(x), str(y)) for y in range(16) for x in range(16)])
 
+    def test_element_files(self) -> None:
+        """The element files of the run may be named, and change nothing."""
+        self.assertEqual(self.rows(self.world, self.report, EXAMPLES / "regulator.ulam"), self.rows(self.world, self.report))
+
     def test_off(self) -> None:
         """A tile that is off has no rows."""
         world = self.file("off.world", OFF)

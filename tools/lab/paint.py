@@ -10,7 +10,8 @@ range of the member; members of parts have dotted names (`part.count=3`), and it
 (`list[2]=1`). Each symbol of the map needs a key.
 
 The world goes to standard output. With --seed and --attempts each tile draws so many attempts; without
-them the world has none, and you can add lines for them after `size`.
+them the world has none, and you can add lines for them after `size`. With --order the tiles of a stepped run
+take turns; without it `step` makes all attempts of tile 0, then all of tile 1, and so on.
 """
 import argparse
 import re
@@ -43,6 +44,7 @@ def add_arguments(parser: argparse.ArgumentParser) -> None:
                         help="the site of the map's first symbol")
     parser.add_argument("--seed", metavar="N", type=int, help="the seed from which attempts are drawn")
     parser.add_argument("--attempts", metavar="K", type=int, help="how many attempts each tile draws")
+    parser.add_argument("--order", metavar="N", type=int, help="the seed from which the turns of tiles in `step` are drawn")
     parser.add_argument("files", metavar="FILE", nargs="+", help="the element files")
 
 
@@ -88,6 +90,10 @@ def frame(arguments: argparse.Namespace) -> World:
         if not all(least <= value <= most for value in values):
             raise LabError(f"--{option} {values[0]} {values[1]}: both have to be from {least} to {most}")
     world = World(*arguments.tiles, *arguments.size, seed=arguments.seed, attempts=arguments.attempts)
+    if arguments.order is not None:
+        world.order = arguments.order
+        if not 0 <= arguments.order < MODULUS:
+            raise LabError(f"--order {arguments.order}: a seed is from 0 to {MODULUS - 1}")
     if (world.seed is None) != (world.attempts is None):
         raise LabError("--seed and --attempts belong together")
     if world.seed is not None and not 0 <= world.seed < MODULUS:

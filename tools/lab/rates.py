@@ -63,6 +63,7 @@ def add_arguments(parser: argparse.ArgumentParser) -> None:
     """The words of the verb."""
     parser.add_argument("world", metavar="WORLD", type=Path, help="a world")
     parser.add_argument("report", metavar="REPORT", type=Path, help="the report of its run, packed by gzip or not")
+    parser.add_argument("files", metavar="FILE", nargs="*", help="the element files of the run, which rates don't need")
     parser.add_argument("--by", choices=("site", "tile"), default="site", help="what a row is of (default site)")
     parser.add_argument("--svg", metavar="MAP.svg", type=Path, help="write a heat map too, as SVG")
 
