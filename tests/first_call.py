@@ -141,7 +141,7 @@ class FirstCall(unittest.TestCase):
     def test_progress_is_told_line_by_line(self) -> None:
         told = Call(self, ["run"], FEAST_PREVIEW="no").end()[2]
         self.assertIn("the program is still to be built: its 3 crates are proved first", told)
-        lines = re.findall(r"feast: (\d) of 3 crates are proved; (.*) gone, about (.*) left; (.*)", told)
+        lines = re.findall(r"feast: (\d) of 3 crates are proved; (.*) gone, (about .* left|soon done); (.*)", told)
         self.assertEqual([it[0] for it in lines], sorted(it[0] for it in lines), told)
         doing = [it[3] for it in lines]
         wanted = ["proving low", "proving middle", "proving feast", "building the program"]
