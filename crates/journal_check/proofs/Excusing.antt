@@ -1,5 +1,5 @@
 -- The excuse by the marks of the edge is the excuse by the events.
-use Rattle.std.proofs.Common.{ℕ, ◌≡◌, ◌≤◌, ◌<◌, ◌+◌, ◌==◌, List, refl, sym, ap, subst, arith, ◌⊎◌, inl, inr, ⊎_elim, true, ◌∙◌, length, filter, eq-eqb, eqb-true}
+use Rattle.std.proofs.Common.{ℕ, ◌≡◌, ◌<◌, ◌+◌, ◌==◌, List, refl, sym, ap, subst, arith, ◌⊎◌, inl, inr, ⊎_elim, true, ◌∙◌, length, filter, eq-eqb, eqb-true}
 use Rattle.std.specs.Prelude.{Contains}
 use Rattle.std.specs.List.{Any, list_any}
 use Rattle.std.proofs.lemmas.Option.{same_Some}
