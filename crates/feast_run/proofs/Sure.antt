@@ -1,5 +1,5 @@
 -- The stages of the forms have one outcome apart from loads that fail, where files are told.
-use Rattle.std.proofs.Common.{ℕ, ◌≡◌, List, [], ◌∷◌, ◌++◌, length, Option, Some, None, slice_index_or, refl, sym, ap, ◌∙◌, inr, arith, Ok, Err}
+use Rattle.std.proofs.Common.{ℕ, ◌≡◌, List, [], ◌∷◌, ◌++◌, length, Some, slice_index_or, refl, sym, ap, ◌∙◌, inr, arith, Ok, Err}
 use Rattle.list_laws.proofs.Options.{some_once}
 use Rattle.element_set.proofs.OneSet.{set_one as built_one}
 use Rattle.element_set.specs.Sets.{SetValue, check_text, code_text}
