@@ -42,7 +42,7 @@ class_code g c = element_code g (number_of g c) c
 abbrev pub element_codes : Program → List CodeValue
 element_codes g = map (class_code g) (element_classes 0 g.classes)
 
--- the code of class c is at a number among the codes, with the type number after it
+-- code `number` of the codes is that of class c, whose type number is one more
 abbrev pub HasCodeAt : Program → ℕ → ℕ → Type 0
 HasCodeAt g number c = slice_get (element_codes g) number ≡ Some (element_code g (suc number) c)
 

@@ -8,11 +8,11 @@ use Rattle.code_gen.specs.Views.{key_of}
 use Rattle.code_gen.specs.declared.piece.Key.{Key as CodeKey}
 use Rattle.code_gen.specs.declared.source.Head.{Head}
 
--- with a piece laid down behind them; `out` and `next` lead to these places
+-- the instructions, and behind them those of a piece, in which `out` and `next` lead to these places
 abbrev pub laid : List Instr → List CodeKey → (out next : ℕ) → Piece → List Instr
 laid code keys out next piece = code ++ lay (map key_of keys) (length code) out next piece
 
--- the same behind a jump to the place `past`
+-- the instructions, a jump to the place `past`, and those of a piece
 abbrev pub laid_if : List Instr → List CodeKey → (out next past : ℕ) → Piece → List Instr
 laid_if code keys out next past piece = code ++ JumpFalse past ∷ lay (map key_of keys) (length code + 1) out next piece
 
@@ -20,8 +20,8 @@ laid_if code keys out next past piece = code ++ JumpFalse past ∷ lay (map key_
 abbrev pub head_end : Head → Piece
 head_end head = end_by head.answer head.blank
 
--- with a function laid down behind them: its body, in which `out` and `next` outside of loops lead to
--- its end, and its end
+-- the instructions, and behind them those of a function: its body, in which `out` and `next` outside
+-- of loops lead to its end, and its end
 abbrev pub with_function : List Instr → List CodeKey → Head → Piece → List Instr
 with_function code keys head body = laid code keys (length code + size body) (length code + size body) (seq body (head_end head))
 

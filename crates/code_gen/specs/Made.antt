@@ -32,7 +32,7 @@ IsPiece made piece = piece_of made ≡ clip piece
 abbrev pub Makes : Result CodePiece NoMemory → Piece → Type 0
 Makes result piece = IfOk result (λ made. piece_of made ≡ clip piece)
 
--- the result is a piece around another one, whichever piece of the scheme that is
+-- whatever piece of the scheme `inner` is, the result is `around` of it
 abbrev pub MakesWith : Result CodePiece NoMemory → CodePiece → (Piece → Piece) → Type 0
 MakesWith result inner around = (a : Piece) → IsPiece inner a → Makes result (around a)
 
@@ -58,7 +58,7 @@ assignment left op value = t.assigns (typed_left left) op (typed_expr value)
 abbrev pub loop_of : Scene → Option Expr → Piece → Piece → Piece
 loop_of scene cond = loop_piece (optional_piece (scene_of scene) (option_map typed_expr cond))
 
--- a call of what was found, of which the arguments are cut off already
+-- a call of what was found; the numbers in its arguments are cut off already
 abbrev pub call_of : Scene → Callee → List Expr → Piece
 call_of scene found list = call_piece (scene_of scene).program (callee_of found) (λ casts. clip (args_piece (scene_of scene) (typed_args list) casts))
 

@@ -56,7 +56,7 @@ has_key (k ∷ ks) f = if same_key k f then true else has_key ks f
 -- the functions of an element, in the order of their numbers
 module _ (keys : List Key) where
   -- The instructions of a piece from a place on. `out` leads to the place `past`, and `next` to the
-  -- place `step`; inside of a loop they lead to the place after it and to its own step.
+  -- place `step`; in the body of a loop they lead to the place after the loop and to its own step.
   abbrev pub lay : (place past step : ℕ) → Piece → List Instr
   lay place past step none = []
   lay place past step (seq a b) = lay place past step a ++ lay (place + size a) past step b

@@ -261,7 +261,7 @@ module _ (scene : Scene) where
   update_piece (whole at) update value = load at then value then plain update then store at
   update_piece (item at index) update value = index then plain Dup then load_at at then value then plain update then store_at at
 
-  -- one of the two, by whether there is an operator; the width is that of the value
+  -- `set_piece` without an operator, `update_piece` with one; the width is that of the value, and chooses the operator's instruction
   abbrev pub assign_piece : Target → Option PairOp → ℕ → Piece → Piece
   assign_piece target None width value = set_piece target value
   assign_piece target (Some o) width value = update_piece target (update_instr o (spot_type scene (target_spot target)) width) value

@@ -22,11 +22,11 @@ pub data FormValue : Type 0 where
   step : List ℕ → List (List ℕ) → FormValue
   -- the atoms that the journal in the second file leaves of the world in the first
   replay : List ℕ → List ℕ → List (List ℕ) → FormValue
-  -- the summary of the run of the world that a number gives
+  -- the summary of the stepped run of the world that a number gives
   gen : ℕ → FormValue
   -- the judgement on the report in the second file, of the world in the first
   audit : List ℕ → List ℕ → List (List ℕ) → FormValue
-  -- the atoms that so many first events of the report in the second file leave of the world in the first
+  -- the atoms after the first events of the report in the second file, as many as the number says, on the world in the first
   rewind : List ℕ → List ℕ → ℕ → List (List ℕ) → FormValue
   -- a stepped run and a run of the world in one file with the elements of the code file in another
   steppack : List ℕ → List ℕ → FormValue

@@ -202,7 +202,7 @@ Agrees shelf (Err (misses word)) = shelf.new.failed ≡ shelf.old.failed ++ word
 abbrev pub Gains : Change SinkState → List ℕ → Type 0
 Gains sink appended = Grows sink.old.written sink.new.written appended
 
--- the line of an outcome was appended, if it has one: a text is no line
+-- an outcome that is no text has a line, and it was appended; what is appended for a text is said by the headline
 abbrev pub GainsLine : Change SinkState → FormOutcome → Type 0
 GainsLine sink (Ok text) = Unit {0}
 GainsLine sink (Err (refuses r)) = Gains sink (refusal_line r.word r.refusal)

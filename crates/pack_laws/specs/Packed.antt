@@ -17,7 +17,7 @@ packed set = elements (element_names set) (element_codes (program_of set))
 abbrev pub ReadsBack : CodesValue → Type 0
 ReadsBack es = Reads (file_bytes es) (Ok es)
 
--- and its reading has no other outcome
+-- the code file of some elements is read as nothing else
 abbrev pub ReadsAsOnly : CodesValue → Type 0
 ReadsAsOnly es = (r : Result CodesValue CodeFault) → Reads (file_bytes es) r → r ≡ Ok es
 

@@ -12,7 +12,7 @@ use Rattle.ulam_heirs.specs.Files.{is_plain}
 
 -- Lines
 
--- the bases of a class, through however many classes, lead to another class
+-- the bases of a class, through however many classes, lead to the class `base`, which may be the class itself
 abbrev pub HasBase : List Heir → ℕ → ℕ → Type 0
 HasBase heirs class base = (steps : ℕ) × IsTrue (leads (base_list heirs) steps class base)
 

@@ -23,7 +23,7 @@ class_named k name (h ∷ hs) = if bytes_eq h.class.word.name name then Some k e
 abbrev pub base_number : List Heir → Heir → Option ℕ
 base_number hs h = option_and_then (λ (w : Word). class_named 0 w.name hs) h.base
 
--- the number of the base of the class of a number
+-- the number of the base of class k
 abbrev pub base_of : List Heir → ℕ → Option ℕ
 base_of hs k = option_and_then (base_number hs) (slice_get hs k)
 

@@ -16,7 +16,8 @@ use Rattle.ulam_parse.specs.Tables.{infix_of, level, opening_of}
 
 -- why nothing was read
 pub data Halt : Type 0 where
-  -- no tree goes on with the first of the last n tokens; if n is 0, the tokens end where a tree goes on
+  -- no tree has the next token after those that were read, and n tokens are left from it on; 0 if the tokens ended before a
+  -- tree did
   stops : ℕ → Halt
   -- out of steps
   tired : Halt
@@ -198,6 +199,7 @@ abbrev pub ends : Front → Reader Expr
 ends front us = Ok (front.tree, us)
 
 -- What follows a front in an expression of level `least`. An operator follows it if its level is `least` or tighter, and the front is of that level or tighter. It makes a new front, after which `go` reads on.
+-- levels are those of `level`, the greater the tighter: `is` has 8, and what it tests 9 at least
 module _ (expr : ℕ → Reader Expr) (least : ℕ) (go : Front → Reader Expr) where
   -- an operator at this place: the new front is the old one joined with the right operand
   abbrev pub joins : PairOp → Place → Front → Reader Expr
