@@ -1,4 +1,4 @@
--- The report of a run replays to its own atoms.
+-- The report of a run says its own journal, and replays to its own atoms.
 use Rattle.std.proofs.Common.{ℕ, ◌≡◌, ◌≤◌, List, ◌++◌, Ok, codes, length, ap, sym, subst, ◌∙◌, inr}
 use Rattle.cell_grid.specs.Grid.{GridValue}
 use Rattle.cell_grid.specs.declared.record.Record.{Record}
@@ -9,7 +9,7 @@ use Rattle.feast_run.proofs.Machines.{left_named}
 use Rattle.feast_run.proofs.PlansFit.{HasSize, left_size, plan_fits}
 use Rattle.feast_run.proofs.ReportLength.{formed_short, report_short}
 use Rattle.feast_run.proofs.Sound.{AreSound}
-use Rattle.feast_run.specs.Again.{ReplaysTo}
+use Rattle.feast_run.specs.Again.{ReplaysTo, SaysJournal}
 use Rattle.feast_run.specs.Elements.{ElementsValue}
 use Rattle.feast_run.specs.Owing.{IsRun}
 use Rattle.feast_run.specs.Promises.{WorldTold}
@@ -21,10 +21,15 @@ use Rattle.world_runs.proofs.Valid.{read_draft, world_known}
 use Rattle.world_text.specs.Named.{WorldValue}
 use Rattle.world_text.specs.Printed.{IsNamed}
 
+-- a text says this journal, and is no longer than a journal may be
+pub record IsReadBack (world : WorldValue) (text : List ℕ) (journal : JournalValue) : Type 0 where
+  pub says : SaysJournal world text journal
+  pub within : length text ≤ journal_limit
+
 -- the report of what a run of a told world left
-pub replays_to : (files : List File) (word : List ℕ) (world : WorldValue) (e : ElementsValue) (grid : GridValue) (records : List Record) (abandoned : List Abandoned) (text : List ℕ) → AreSound e →
-    WorldTold files word e.names world → IsRun (ready_with world e) grid records abandoned → text ≡ report e.names grid records abandoned → ReplaysTo (ready_with world e) text grid
-replays_to files word world e grid records abandoned text sound told run shown =
+pub read_back : (files : List File) (word : List ℕ) (world : WorldValue) (e : ElementsValue) (grid : GridValue) (records : List Record) (abandoned : List Abandoned) (text : List ℕ) → AreSound e →
+    WorldTold files word e.names world → IsRun (ready_with world e) grid records abandoned → text ≡ report e.names grid records abandoned → IsReadBack world text (record { records = records; abandoned = abandoned })
+read_back files word world e grid records abandoned text sound told run shown =
     let names = e.names in
     let named : IsNamed names world = (told.reads.0, read_draft told.bytes told.reads.0 told.reads.1, told.reads.2) in
     let size = subst (HasSize world.plane) (sym run.replayed) (left_size world.plane e.meaning world.atoms records) in
@@ -39,13 +44,18 @@ replays_to files word world e grid records abandoned text sound told run shown =
     let fits = plan_fits names world named in
     let says = read_again names world.plane world.plan sound.named fits (report_value grid records abandoned) left in
     let short = report_short names world.plane world.plan (formed_short names sound.named) fits grid records abandoned left in
-    let journal : JournalValue = record { records = records; abandoned = abandoned } in
-    let reads : journal_said (read_report world.plane world.plan.lists text) ≡ Ok journal =
+    let reads : SaysJournal world text (record { records = records; abandoned = abandoned }) =
     ap (λ bytes. journal_said (read_report world.plane world.plan.lists bytes)) shown ∙ ap journal_said says.1 ∙ (λ i. Ok (record { records = says.2 i; abandoned = says.3 i })) in
-    let within : length text ≤ journal_limit = subst (λ bytes. length bytes ≤ journal_limit) (sym shown) short in
+    record { says = reads; within = subst (λ bytes. length bytes ≤ journal_limit) (sym shown) short }
+
+pub replays_to : (files : List File) (word : List ℕ) (world : WorldValue) (e : ElementsValue) (grid : GridValue) (records : List Record) (abandoned : List Abandoned) (text : List ℕ) → AreSound e →
+    WorldTold files word e.names world → IsRun (ready_with world e) grid records abandoned → text ≡ report e.names grid records abandoned → ReplaysTo (ready_with world e) text grid
+replays_to files word world e grid records abandoned text sound told run shown =
+    let back = read_back files word world e grid records abandoned text sound told run shown in
+    let journal : JournalValue = record { records = records; abandoned = abandoned } in
     λ others at file.
     inr (record {
       value = journal;
-      passed = inr (record { value = text; passed = (file, within); rest = reads });
-      rest = ap (λ (g : GridValue). codes "feast 1\n" ++ atoms_text names g) run.replayed;
+      passed = inr (record { value = text; passed = (file, back.within); rest = back.says });
+      rest = ap (λ (g : GridValue). codes "feast 1\n" ++ atoms_text e.names g) run.replayed;
     })

@@ -1,10 +1,16 @@
--- Reports that replay to their own atoms.
+-- Reports that are read again: they say their own journal, and replay to their own atoms.
 use Rattle.std.specs.Prelude.{ℕ, ◌≡◌, List, ◌++◌, Some, codes, Ok}
 use Rattle.cell_grid.specs.Grid.{GridValue}
+use Rattle.event_journal.specs.Reading.{read_report}
 use Rattle.feast_base.specs.Outside.{File, file_of}
 use Rattle.feast_run.specs.Answer.{replay_of}
-use Rattle.feast_run.specs.Stages.{ReadyValue}
+use Rattle.feast_run.specs.Stages.{JournalValue, ReadyValue, journal_said}
 use Rattle.grid_print.specs.Report.{atoms_text}
+use Rattle.world_text.specs.Named.{WorldValue}
+
+-- a text, read as a report of the world, says this journal
+abbrev pub SaysJournal : WorldValue → List ℕ → JournalValue → Type 0
+SaysJournal world text journal = journal_said (read_report world.plane world.plan.lists text) ≡ Ok journal
 
 -- in whatever file has this known text, it is a journal of the world, and a replay of it comes to
 -- the header and the atoms of this grid

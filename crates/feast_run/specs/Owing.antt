@@ -5,7 +5,7 @@ use Rattle.cell_grid.specs.Grid.{GridValue}
 use Rattle.cell_grid.specs.Records.{replay as replay_from}
 use Rattle.event_journal.specs.declared.abandoned.Abandoned.{Abandoned}
 use Rattle.event_journal.specs.Accounts.{AreExcused, IsAccounted, IsStamped}
-use Rattle.feast_run.specs.Stages.{ReadyValue}
+use Rattle.feast_run.specs.Stages.{JournalValue, ReadyValue}
 use Rattle.grid_print.specs.Report.{report}
 use Rattle.world_runs.specs.OneTile.{events_of}
 use Rattle.tile_map.specs.Plane.{tiles_of}
@@ -31,3 +31,7 @@ pub record Reports (r : ReadyValue) (text : List ℕ) : Type 0 where
   -- for one tile each attempt is an event, in its order
   pub alone : tiles_of r.world.plane ≡ 1 → (records ≡ events_of r.world.plane r.world.plan) × (abandoned ≡ [])
   pub shown : text ≡ report r.names grid records abandoned
+
+-- the events and the abandoned attempts of the run that it is the report of
+abbrev pub reported : {r : ReadyValue} {text : List ℕ} → Reports r text → JournalValue
+reported run = record { records = run.records; abandoned = run.abandoned }

@@ -7,7 +7,7 @@ use Rattle.event_journal.specs.Reading.{read_report}
 use Rattle.feast_base.specs.Held.{ShelfHeld, SinkHeld, mem_shelf_state, mem_sink_state, room_left}
 use Rattle.feast_base.specs.Outside.{File, Grows, ShelfState, SinkState, file_of}
 use Rattle.feast_base.specs.Refusals.{refusal_line, unreadable_line, usage_line}
-use Rattle.feast_run.specs.Again.{ReplaysTo}
+use Rattle.feast_run.specs.Again.{ReplaysTo, SaysJournal}
 use Rattle.feast_run.specs.Answer.{atoms_after, form_answer}
 use Rattle.feast_run.specs.Audited.{Audits}
 use Rattle.feast_run.specs.Changes.{Change, change}
@@ -16,8 +16,8 @@ use Rattle.feast_run.specs.Forms.{FormValue, check, code, pack, run, step, repla
 use Rattle.feast_run.specs.Packed.{pack_text}
 use Rattle.feast_run.specs.Generating.{generated_ready, stepped_summary}
 use Rattle.feast_run.specs.Halting.{FormOutcome, misses, refuses}
-use Rattle.feast_run.specs.Owing.{Reports}
-use Rattle.feast_run.specs.Stepped.{IsSteppedRun, machine_of, stepped_report}
+use Rattle.feast_run.specs.Owing.{Reports, reported}
+use Rattle.feast_run.specs.Stepped.{IsSteppedRun, machine_of, stepped_journal, stepped_report}
 use Rattle.feast_run.specs.CodeFiles.{code_limit}
 use Rattle.feast_run.specs.Elements.{ElementsValue, code_elements, source_elements}
 use Rattle.feast_run.specs.Stages.{JournalValue, ready_with, sourced, draft_of, element_limit, journal_limit, journal_of, journal_said, world_limit}
@@ -157,6 +157,21 @@ Shows files (rewind world report k words) appended = RewindTold files (report_wo
 Shows files (steppack world file) appended = SteppedTold code_elements (IsCodeFile files file) files world appended
 Shows files (runpack world file) appended = RanTold code_elements (IsCodeFile files file) files world appended
 
+-- the bytes of a run or a stepped run determine its journal: what they say when they are read as a
+-- report of its world are its own events and abandoned attempts
+abbrev pub SaysOwnJournal : (files : List File) (form : FormValue) (appended : List ℕ) → Shows files form appended → Type 0
+SaysOwnJournal files (check words) appended told = Unit {0}
+SaysOwnJournal files (code words) appended told = Unit {0}
+SaysOwnJournal files (pack words) appended told = Unit {0}
+SaysOwnJournal files (run world words) appended told = SaysJournal told.world appended (reported told.reports)
+SaysOwnJournal files (step world words) appended told = SaysJournal told.world appended (stepped_journal (ready_with told.world (source_elements told.given)))
+SaysOwnJournal files (replay world journal words) appended told = Unit {0}
+SaysOwnJournal files (gen number) appended told = Unit {0}
+SaysOwnJournal files (audit world report words) appended told = Unit {0}
+SaysOwnJournal files (rewind world report k words) appended told = Unit {0}
+SaysOwnJournal files (steppack world file) appended told = SaysJournal told.world appended (stepped_journal (ready_with told.world (code_elements told.given)))
+SaysOwnJournal files (runpack world file) appended told = SaysJournal told.world appended (reported told.reports)
+
 -- the words have a form, and its text was appended to what was written before
 pub record HasShown (form : Option FormValue) (files : List File) (before : List ℕ) (sink : SinkState) : Type 0 where
   pub f : FormValue
@@ -164,6 +179,7 @@ pub record HasShown (form : Option FormValue) (files : List File) (before : List
   pub appended : List ℕ
   pub written : sink.written ≡ Some (before ++ appended)
   pub shows : Shows files f appended
+  pub says : SaysOwnJournal files f appended shows
 
 -- the headline: if the shelf reveals its files and the sink what was written, and the status is
 -- Done, this was appended

@@ -2,7 +2,7 @@
 use Rattle.std.specs.Prelude.{ℕ, List}
 use Rattle.event_journal.specs.Logs.{LogValue, abandoned_in, records_in}
 use Rattle.feast_run.specs.Owing.{IsRun}
-use Rattle.feast_run.specs.Stages.{ReadyValue}
+use Rattle.feast_run.specs.Stages.{JournalValue, ReadyValue}
 use Rattle.grid_print.specs.Report.{report}
 use Rattle.serial_order.specs.declared.outcome.Outcome.{Outcome}
 use Rattle.stepped_world.specs.Ends.{IsOutcome, logs_in}
@@ -18,6 +18,10 @@ machine_of r = stepped r.world.plane r.meaning (start_grid r.world.plane r.world
 -- its entries, tile by tile
 abbrev pub stepped_logs : ReadyValue → List LogValue
 stepped_logs r = logs_in r.world.plane (machine_of r)
+
+-- its events in the order of the journal, and its abandoned attempts
+abbrev pub stepped_journal : ReadyValue → JournalValue
+stepped_journal r = record { records = records_in (stepped_logs r); abandoned = abandoned_in (stepped_logs r) }
 
 -- its report: its grid, its events in the order of the journal, and its abandoned attempts
 abbrev pub stepped_report : ReadyValue → List ℕ
