@@ -1,15 +1,16 @@
--- The report of a run says its own journal, and replays to its own atoms.
+-- The report of a run says its own journal, is audited with `yes`, and replays to its own atoms.
 use Rattle.std.proofs.Common.{ℕ, ◌≡◌, ◌≤◌, List, ◌++◌, Ok, codes, length, ap, sym, subst, ◌∙◌, inr}
 use Rattle.cell_grid.specs.Grid.{GridValue}
 use Rattle.cell_grid.specs.declared.record.Record.{Record}
 use Rattle.event_journal.specs.Reading.{read_report}
 use Rattle.event_journal.specs.declared.abandoned.Abandoned.{Abandoned}
 use Rattle.feast_base.specs.Outside.{File}
+use Rattle.feast_run.proofs.AuditedAgain.{audits_yes}
 use Rattle.feast_run.proofs.Machines.{left_named}
 use Rattle.feast_run.proofs.PlansFit.{HasSize, left_size, plan_fits}
 use Rattle.feast_run.proofs.ReportLength.{formed_short, report_short}
 use Rattle.feast_run.proofs.Sound.{AreSound}
-use Rattle.feast_run.specs.Again.{ReplaysTo, SaysJournal}
+use Rattle.feast_run.specs.Again.{IsOwnReport, ReplaysTo, SaysJournal}
 use Rattle.feast_run.specs.Elements.{ElementsValue}
 use Rattle.feast_run.specs.Owing.{IsRun}
 use Rattle.feast_run.specs.Promises.{WorldTold}
@@ -22,12 +23,12 @@ use Rattle.world_text.specs.Named.{WorldValue}
 use Rattle.world_text.specs.Printed.{IsNamed}
 
 -- a text says this journal, and is no longer than a journal may be
-pub record IsReadBack (world : WorldValue) (text : List ℕ) (journal : JournalValue) : Type 0 where
+record IsReadBack (world : WorldValue) (text : List ℕ) (journal : JournalValue) : Type 0 where
   pub says : SaysJournal world text journal
   pub within : length text ≤ journal_limit
 
 -- the report of what a run of a told world left
-pub read_back : (files : List File) (word : List ℕ) (world : WorldValue) (e : ElementsValue) (grid : GridValue) (records : List Record) (abandoned : List Abandoned) (text : List ℕ) → AreSound e →
+read_back : (files : List File) (word : List ℕ) (world : WorldValue) (e : ElementsValue) (grid : GridValue) (records : List Record) (abandoned : List Abandoned) (text : List ℕ) → AreSound e →
     WorldTold files word e.names world → IsRun (ready_with world e) grid records abandoned → text ≡ report e.names grid records abandoned → IsReadBack world text (record { records = records; abandoned = abandoned })
 read_back files word world e grid records abandoned text sound told run shown =
     let names = e.names in
@@ -47,6 +48,13 @@ read_back files word world e grid records abandoned text sound told run shown =
     let reads : SaysJournal world text (record { records = records; abandoned = abandoned }) =
     ap (λ bytes. journal_said (read_report world.plane world.plan.lists bytes)) shown ∙ ap journal_said says.1 ∙ (λ i. Ok (record { records = says.2 i; abandoned = says.3 i })) in
     record { says = reads; within = subst (λ bytes. length bytes ≤ journal_limit) (sym shown) short }
+
+pub own_report : (files : List File) (word : List ℕ) (world : WorldValue) (e : ElementsValue) (grid : GridValue) (records : List Record) (abandoned : List Abandoned) (text : List ℕ) → AreSound e →
+    WorldTold files word e.names world → IsRun (ready_with world e) grid records abandoned → text ≡ report e.names grid records abandoned → IsOwnReport (ready_with world e) text (record { records = records; abandoned = abandoned })
+own_report files word world e grid records abandoned text sound told run shown =
+    let back = read_back files word world e grid records abandoned text sound told run shown in
+    let journal : JournalValue = record { records = records; abandoned = abandoned } in
+    record { says = back.says; audited = audits_yes (ready_with world e) text grid journal back.says back.within run shown }
 
 pub replays_to : (files : List File) (word : List ℕ) (world : WorldValue) (e : ElementsValue) (grid : GridValue) (records : List Record) (abandoned : List Abandoned) (text : List ℕ) → AreSound e →
     WorldTold files word e.names world → IsRun (ready_with world e) grid records abandoned → text ≡ report e.names grid records abandoned → ReplaysTo (ready_with world e) text grid

@@ -1,4 +1,5 @@
 pub mod Again
+pub mod AuditedAgain
 pub mod CodeStages
 pub mod Ended
 pub mod Generated

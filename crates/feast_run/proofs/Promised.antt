@@ -5,13 +5,14 @@ use Rattle.element_set.specs.Sets.{SetValue, check_text, code_text}
 use Rattle.feast_base.specs.Outside.{File, Grows, ShelfState, SinkState}
 use Rattle.feast_base.specs.Refusals.{refusal_line, unreadable_line}
 use Rattle.event_journal.specs.Logs.{abandoned_in, records_in}
-use Rattle.feast_run.proofs.Again.{read_back, replays_to}
+use Rattle.feast_run.proofs.Again.{own_report, replays_to}
 use Rattle.feast_run.proofs.CodeStages.{codes_are}
 use Rattle.feast_base.proofs.Stages.{went}
 use Rattle.feast_run.proofs.Laws.{one_refusal}
 use Rattle.feast_run.proofs.Runs.{ReadyTold, ready_told, set_is}
 use Rattle.feast_run.proofs.Sound.{AreSound, codes_sound, set_sound}
 use Rattle.feast_run.proofs.Sure.{form_accepts, form_sure}
+use Rattle.feast_run.specs.Again.{IsOwnReport}
 use Rattle.feast_run.specs.Answer.{form_answer, replay_of, rewind_of, runs, shows, steps}
 use Rattle.feast_run.specs.Audited.{audit_of}
 use Rattle.feast_run.specs.Changes.{Change}
@@ -23,8 +24,7 @@ use Rattle.feast_run.specs.Forms.{FormValue, check, code, pack, run, step, repla
 use Rattle.feast_run.specs.Generating.{generates}
 use Rattle.feast_base.specs.Stages.{IsSure, Stage, and_then}
 use Rattle.feast_run.specs.Halting.{Accepts, FormOutcome, HaltValue, IsRefusal, RefusedValue, misses, refuses}
-use Rattle.feast_run.specs.Promises.{Agrees, AuditTold, Complete, Exactly, Gains, GainsLine, GenTold, HasShown, Headline, IsCodeFile, IsDue, IsSet, KnownReport, NoneNoted, RanTold, ReplayTold, ReportWords, RewindTold, SaysOwnJournal, SetTold, Shows, SteppedTold, UsageExactly, report_words}
-use Rattle.feast_run.specs.Again.{SaysJournal}
+use Rattle.feast_run.specs.Promises.{Agrees, AuditTold, Complete, Exactly, Gains, GainsLine, GenTold, HasShown, Headline, IsCodeFile, IsDue, IsReadAgain, IsSet, KnownReport, NoneNoted, RanTold, ReplayTold, ReportWords, RewindTold, SetTold, Shows, SteppedTold, UsageExactly, report_words}
 use Rattle.feast_run.specs.Owing.{Reports, reported}
 use Rattle.feast_run.specs.Stages.{JournalValue, ReadyValue, journal_in, journal_limit, load, ready_by, ready_with, set_of}
 use Rattle.feast_run.specs.Stepped.{IsSteppedRun, machine_of, stepped_journal, stepped_logs, stepped_report}
@@ -148,33 +148,33 @@ shows_of files (rewind world report k words) text h = rewind_told files world re
 shows_of files (steppack world file) text h = stepped_told code_elements (codes_from (Some files) file) (IsCodeFile files file) files world text (codes_told files file) h
 shows_of files (runpack world file) text h = ran_told code_elements (codes_from (Some files) file) (IsCodeFile files file) files world text (codes_told files file) h
 
--- the bytes of a run say its own journal
-ran_says : {X : Type 0} (elements : X → ElementsValue) (IsTold : X → Type 0) (files : List File) (world text : List ℕ) → ((x : X) → IsTold x → AreSound (elements x)) → (told : RanTold elements IsTold files world text) →
-    SaysJournal told.world text (reported told.reports)
-ran_says elements IsTold files world text sound told =
+-- the bytes of a run are its own report
+ran_again : {X : Type 0} (elements : X → ElementsValue) (IsTold : X → Type 0) (files : List File) (world text : List ℕ) → ((x : X) → IsTold x → AreSound (elements x)) → (told : RanTold elements IsTold files world text) →
+    IsOwnReport (ready_with told.world (elements told.given)) text (reported told.reports)
+ran_again elements IsTold files world text sound told =
     let run = told.reports in
-    (read_back files world told.world (elements told.given) run.grid run.records run.abandoned text (sound told.given told.is_told) told.told_world run.run run.shown).says
+    own_report files world told.world (elements told.given) run.grid run.records run.abandoned text (sound told.given told.is_told) told.told_world run.run run.shown
 
--- those of a stepped run too
-stepped_says : {X : Type 0} (elements : X → ElementsValue) (IsTold : X → Type 0) (files : List File) (world text : List ℕ) → ((x : X) → IsTold x → AreSound (elements x)) → (told : SteppedTold elements IsTold files world text) →
-    SaysJournal told.world text (stepped_journal (ready_with told.world (elements told.given)))
-stepped_says elements IsTold files world text sound told =
+-- and so are those of a stepped run
+stepped_again : {X : Type 0} (elements : X → ElementsValue) (IsTold : X → Type 0) (files : List File) (world text : List ℕ) → ((x : X) → IsTold x → AreSound (elements x)) → (told : SteppedTold elements IsTold files world text) →
+    IsOwnReport (ready_with told.world (elements told.given)) text (stepped_journal (ready_with told.world (elements told.given)))
+stepped_again elements IsTold files world text sound told =
     let ready = ready_with told.world (elements told.given) in
     let logs = stepped_logs ready in
-    (read_back files world told.world (elements told.given) (machine_of ready).grid (records_in logs) (abandoned_in logs) text (sound told.given told.is_told) told.told_world told.run told.shown).says
+    own_report files world told.world (elements told.given) (machine_of ready).grid (records_in logs) (abandoned_in logs) text (sound told.given told.is_told) told.told_world told.run told.shown
 
-says_of : (files : List File) (form : FormValue) (text : List ℕ) (told : Shows files form text) → SaysOwnJournal files form text told
-says_of files (check words) text told = tt
-says_of files (code words) text told = tt
-says_of files (pack words) text told = tt
-says_of files (run world words) text told = ran_says source_elements (IsSet files words) files world text (set_sound files words) told
-says_of files (step world words) text told = stepped_says source_elements (IsSet files words) files world text (set_sound files words) told
-says_of files (replay world journal words) text told = tt
-says_of files (gen number) text told = tt
-says_of files (audit world report words) text told = tt
-says_of files (rewind world report k words) text told = tt
-says_of files (steppack world file) text told = stepped_says code_elements (IsCodeFile files file) files world text (codes_sound files file) told
-says_of files (runpack world file) text told = ran_says code_elements (IsCodeFile files file) files world text (codes_sound files file) told
+again_of : (files : List File) (form : FormValue) (text : List ℕ) (told : Shows files form text) → IsReadAgain files form text told
+again_of files (check words) text told = tt
+again_of files (code words) text told = tt
+again_of files (pack words) text told = tt
+again_of files (run world words) text told = ran_again source_elements (IsSet files words) files world text (set_sound files words) told
+again_of files (step world words) text told = stepped_again source_elements (IsSet files words) files world text (set_sound files words) told
+again_of files (replay world journal words) text told = tt
+again_of files (gen number) text told = tt
+again_of files (audit world report words) text told = tt
+again_of files (rewind world report k words) text told = tt
+again_of files (steppack world file) text told = stepped_again code_elements (IsCodeFile files file) files world text (codes_sound files file) told
+again_of files (runpack world file) text told = ran_again code_elements (IsCodeFile files file) files world text (codes_sound files file) told
 
 -- no refusal has one of the statuses of a whole call
 not_done : (i : Input) → status_of_input i ≡ how.Done → ⊥
@@ -215,7 +215,7 @@ headline_by (Some f) files before shelf sink status told w h done =
       appended = h.text;
       written = subst (λ (v : Option (List ℕ)). Grows v sink.new.written h.text) w h.put.grows;
       shows = shown;
-      says = says_of files f h.text shown;
+      again = again_of files f h.text shown;
     }
 
 -- the headline, from how a call ends

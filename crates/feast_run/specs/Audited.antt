@@ -1,11 +1,12 @@
 -- The judgement on a report.
-use Rattle.std.specs.Prelude.{ℕ, ◌≡◌, List, Option}
-use Rattle.feast_base.specs.Outside.{File}
+use Rattle.std.specs.Prelude.{ℕ, ◌≡◌, List, Option, Some, Ok}
+use Rattle.feast_base.specs.Outside.{File, file_of}
 use Rattle.feast_base.specs.Stages.{Stage, and_then, gives_any}
 use Rattle.feast_run.specs.Halting.{HaltValue}
 use Rattle.feast_run.specs.Stages.{JournalValue, ReadyValue, journal_in, journal_limit, load}
 use Rattle.report_judge.specs.Judging.{Judges, JudgedWorld, judgement_text}
 use Rattle.report_judge.specs.declared.judgement.Judgement.{Judgement}
+use Rattle.report_judge.specs.declared.judgement.Judgement.TheVariants.{Yes}
 use Rattle.world_runs.specs.Start.{start_grid}
 
 -- a world with its elements, as a judgement knows it
@@ -27,3 +28,9 @@ audit_with word r bytes = and_then (journal_in word r.world bytes) (audits r byt
 
 abbrev pub audit_of : Option (List File) → List ℕ → ReadyValue → Stage (List ℕ) HaltValue
 audit_of files word r = and_then (load files journal_limit word) (audit_with word r)
+
+-- in whatever file has this known text, an audit of it by these elements comes to the line `yes`,
+-- and to no other line
+pub record AuditsYes (r : ReadyValue) (text : List ℕ) : Type 0 where
+  pub comes : (files : List File) (word : List ℕ) → file_of word files ≡ Some text → audit_of (Some files) word r (Ok (judgement_text Yes))
+  pub only : (files : List File) (word line : List ℕ) → file_of word files ≡ Some text → audit_of (Some files) word r (Ok line) → line ≡ judgement_text Yes

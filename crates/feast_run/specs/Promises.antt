@@ -7,7 +7,7 @@ use Rattle.event_journal.specs.Reading.{read_report}
 use Rattle.feast_base.specs.Held.{ShelfHeld, SinkHeld, mem_shelf_state, mem_sink_state, room_left}
 use Rattle.feast_base.specs.Outside.{File, Grows, ShelfState, SinkState, file_of}
 use Rattle.feast_base.specs.Refusals.{refusal_line, unreadable_line, usage_line}
-use Rattle.feast_run.specs.Again.{ReplaysTo, SaysJournal}
+use Rattle.feast_run.specs.Again.{IsOwnReport, ReplaysTo}
 use Rattle.feast_run.specs.Answer.{atoms_after, form_answer}
 use Rattle.feast_run.specs.Audited.{Audits}
 use Rattle.feast_run.specs.Changes.{Change, change}
@@ -158,19 +158,21 @@ Shows files (steppack world file) appended = SteppedTold code_elements (IsCodeFi
 Shows files (runpack world file) appended = RanTold code_elements (IsCodeFile files file) files world appended
 
 -- the bytes of a run or a stepped run determine its journal: what they say when they are read as a
--- report of its world are its own events and abandoned attempts
-abbrev pub SaysOwnJournal : (files : List File) (form : FormValue) (appended : List ℕ) → Shows files form appended → Type 0
-SaysOwnJournal files (check words) appended told = Unit {0}
-SaysOwnJournal files (code words) appended told = Unit {0}
-SaysOwnJournal files (pack words) appended told = Unit {0}
-SaysOwnJournal files (run world words) appended told = SaysJournal told.world appended (reported told.reports)
-SaysOwnJournal files (step world words) appended told = SaysJournal told.world appended (stepped_journal (ready_with told.world (source_elements told.given)))
-SaysOwnJournal files (replay world journal words) appended told = Unit {0}
-SaysOwnJournal files (gen number) appended told = Unit {0}
-SaysOwnJournal files (audit world report words) appended told = Unit {0}
-SaysOwnJournal files (rewind world report k words) appended told = Unit {0}
-SaysOwnJournal files (steppack world file) appended told = SaysJournal told.world appended (stepped_journal (ready_with told.world (code_elements told.given)))
-SaysOwnJournal files (runpack world file) appended told = SaysJournal told.world appended (reported told.reports)
+-- report of its world are its own events and abandoned attempts. An audit of them comes to `yes`
+abbrev pub IsReadAgain : (files : List File) (form : FormValue) (appended : List ℕ) → Shows files form appended → Type 0
+IsReadAgain files (check words) appended told = Unit {0}
+IsReadAgain files (code words) appended told = Unit {0}
+IsReadAgain files (pack words) appended told = Unit {0}
+IsReadAgain files (run world words) appended told = IsOwnReport (ready_with told.world (source_elements told.given)) appended (reported told.reports)
+IsReadAgain files (step world words) appended told =
+    let r = ready_with told.world (source_elements told.given) in IsOwnReport r appended (stepped_journal r)
+IsReadAgain files (replay world journal words) appended told = Unit {0}
+IsReadAgain files (gen number) appended told = Unit {0}
+IsReadAgain files (audit world report words) appended told = Unit {0}
+IsReadAgain files (rewind world report k words) appended told = Unit {0}
+IsReadAgain files (steppack world file) appended told =
+    let r = ready_with told.world (code_elements told.given) in IsOwnReport r appended (stepped_journal r)
+IsReadAgain files (runpack world file) appended told = IsOwnReport (ready_with told.world (code_elements told.given)) appended (reported told.reports)
 
 -- the words have a form, and its text was appended to what was written before
 pub record HasShown (form : Option FormValue) (files : List File) (before : List ℕ) (sink : SinkState) : Type 0 where
@@ -179,7 +181,7 @@ pub record HasShown (form : Option FormValue) (files : List File) (before : List
   pub appended : List ℕ
   pub written : sink.written ≡ Some (before ++ appended)
   pub shows : Shows files f appended
-  pub says : SaysOwnJournal files f appended shows
+  pub again : IsReadAgain files f appended shows
 
 -- the headline: if the shelf reveals its files and the sink what was written, and the status is
 -- Done, this was appended
