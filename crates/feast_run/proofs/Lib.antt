@@ -1,5 +1,6 @@
 pub mod Again
 pub mod AuditedAgain
+pub mod AuditedLater
 pub mod CodeStages
 pub mod Ended
 pub mod Generated

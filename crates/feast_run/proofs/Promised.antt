@@ -6,6 +6,7 @@ use Rattle.feast_base.specs.Outside.{File, Grows, ShelfState, SinkState}
 use Rattle.feast_base.specs.Refusals.{refusal_line, unreadable_line}
 use Rattle.event_journal.specs.Logs.{abandoned_in, records_in}
 use Rattle.feast_run.proofs.Again.{own_report, replays_to}
+use Rattle.feast_run.proofs.AuditedLater.{audited_later}
 use Rattle.feast_run.proofs.CodeStages.{codes_are}
 use Rattle.feast_base.proofs.Stages.{went}
 use Rattle.feast_run.proofs.Laws.{one_refusal}
@@ -167,8 +168,12 @@ again_of : (files : List File) (form : FormValue) (text : List ℕ) (told : Show
 again_of files (check words) text told = tt
 again_of files (code words) text told = tt
 again_of files (pack words) text told = tt
-again_of files (run world words) text told = ran_again source_elements (IsSet files words) files world text (set_sound files words) told
-again_of files (step world words) text told = stepped_again source_elements (IsSet files words) files world text (set_sound files words) told
+again_of files (run world words) text told =
+    let own = ran_again source_elements (IsSet files words) files world text (set_sound files words) told in
+    (own, audited_later files world words text told.world told.given told.is_told told.told_world own.audited)
+again_of files (step world words) text told =
+    let own = stepped_again source_elements (IsSet files words) files world text (set_sound files words) told in
+    (own, audited_later files world words text told.world told.given told.is_told told.told_world own.audited)
 again_of files (replay world journal words) text told = tt
 again_of files (gen number) text told = tt
 again_of files (audit world report words) text told = tt

@@ -62,7 +62,7 @@ named_one word draft e = then_one _ _ (decides_one (world_refused word) (named e
 ready_one : {X : Type 0} (elements : X → ElementsValue) (S : Stage X HaltValue) (files : List File) (word : List ℕ) → IsOne IsRefusal S → IsOne IsRefusal (ready_by elements S (Some files) word)
 ready_one elements S files word one = then_one _ _ (draft_one files word) (λ draft. then_one S (λ x. named_by word draft (elements x)) one (λ x. named_one word draft (elements x)))
 
-sources_one : (files : List File) (word : List ℕ) (words : List (List ℕ)) → IsOne IsRefusal (ready (Some files) word words)
+pub sources_one : (files : List File) (word : List ℕ) (words : List (List ℕ)) → IsOne IsRefusal (ready (Some files) word words)
 sources_one files word words = ready_one source_elements (set_of (Some files) words) files word (set_one files words)
 
 pub codes_one : (files : List File) (word : List ℕ) → IsOne IsRefusal (codes_from (Some files) word)
@@ -113,7 +113,7 @@ ready_passes elements S files word w x p g =
     let named = inr (record { value = w; passed = g.has_names; rest = refl }) in
     inr (record { value = g.draft; passed = g.has_draft; rest = inr (record { value = x; passed = p; rest = named }) })
 
-sources_pass : (files : List File) (word : List ℕ) (words : List (List ℕ)) (w : WorldValue) (h : IsGoodReady source_elements (IsSet files words) files word w) → ready (Some files) word words (Ok (sourced w h.given))
+pub sources_pass : (files : List File) (word : List ℕ) (words : List (List ℕ)) (w : WorldValue) (h : IsGoodReady source_elements (IsSet files words) files word w) → ready (Some files) word words (Ok (sourced w h.given))
 sources_pass files word words w h = ready_passes source_elements (set_of (Some files) words) files word w h.given (set_passes files words h.given h.is_told) h.good
 
 packed_pass : (files : List File) (word file : List ℕ) (w : WorldValue) (h : IsGoodReady code_elements (IsCodeFile files file) files word w) → ready_packed (Some files) word file (Ok (coded w h.given))

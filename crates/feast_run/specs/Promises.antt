@@ -20,10 +20,12 @@ use Rattle.feast_run.specs.Owing.{Reports, reported}
 use Rattle.feast_run.specs.Stepped.{IsSteppedRun, machine_of, stepped_journal, stepped_report}
 use Rattle.feast_run.specs.CodeFiles.{code_limit}
 use Rattle.feast_run.specs.Elements.{ElementsValue, code_elements, source_elements}
-use Rattle.feast_run.specs.Stages.{JournalValue, ready_with, sourced, draft_of, element_limit, journal_limit, journal_of, journal_said, world_limit}
+use Rattle.feast_run.specs.Stages.{JournalValue, coded, ready_with, sourced, draft_of, element_limit, journal_limit, journal_of, journal_said, world_limit}
 use Rattle.feast_run.specs.declared.status.Status.{Status}
 use Rattle.feast_run.specs.declared.status.Status.TheVariants as how
 use Rattle.generated_world.specs.Elements.{source_files}
+use Rattle.report_judge.specs.Judging.{judgement_text}
+use Rattle.report_judge.specs.declared.judgement.Judgement.TheVariants.{Yes}
 use Rattle.world_text.specs.Drafts.{DraftValue}
 use Rattle.world_text.specs.Named.{ReadsWorld, WorldValue, named}
 
@@ -157,22 +159,43 @@ Shows files (rewind world report k words) appended = RewindTold files (report_wo
 Shows files (steppack world file) appended = SteppedTold code_elements (IsCodeFile files file) files world appended
 Shows files (runpack world file) appended = RanTold code_elements (IsCodeFile files file) files world appended
 
+-- these words have the files that they had
+abbrev pub HaveSame : List File → List File → List (List ℕ) → Type 0
+HaveSame files others [] = Unit {0}
+HaveSame files others (w ∷ ws) = (file_of w others ≡ file_of w files) × HaveSame files others ws
+
+-- the files of a later call: the world and the element files are what they were, and some file has
+-- this text
+pub record IsLater (files : List File) (world : List ℕ) (words : List (List ℕ)) (text : List ℕ) : Type 0 where
+  pub others : List File
+  pub report : List ℕ
+  pub world_same : file_of world others ≡ file_of world files
+  pub elements_same : HaveSame files others words
+  pub report_is : file_of report others ≡ Some text
+
+-- a later audit of this text, with the same world and the same element files: it may come to `yes`,
+-- and any line that it shows is `yes`
+pub record IsAuditedLater (files : List File) (world : List ℕ) (words : List (List ℕ)) (text : List ℕ) : Type 0 where
+  pub comes : (later : IsLater files world words text) → form_answer (Some later.others) (audit world later.report words) (Ok (judgement_text Yes))
+  pub only : (later : IsLater files world words text) (line : List ℕ) → AuditTold later.others (report_words world later.report words) line → line ≡ judgement_text Yes
+
 -- the bytes of a run or a stepped run determine its journal: what they say when they are read as a
 -- report of its world are its own events and abandoned attempts. An audit of them comes to `yes`
 abbrev pub IsReadAgain : (files : List File) (form : FormValue) (appended : List ℕ) → Shows files form appended → Type 0
 IsReadAgain files (check words) appended told = Unit {0}
 IsReadAgain files (code words) appended told = Unit {0}
 IsReadAgain files (pack words) appended told = Unit {0}
-IsReadAgain files (run world words) appended told = IsOwnReport (ready_with told.world (source_elements told.given)) appended (reported told.reports)
+IsReadAgain files (run world words) appended told =
+    IsOwnReport (sourced told.world told.given) appended (reported told.reports) × IsAuditedLater files world words appended
 IsReadAgain files (step world words) appended told =
-    let r = ready_with told.world (source_elements told.given) in IsOwnReport r appended (stepped_journal r)
+    IsOwnReport (sourced told.world told.given) appended (stepped_journal (sourced told.world told.given)) × IsAuditedLater files world words appended
 IsReadAgain files (replay world journal words) appended told = Unit {0}
 IsReadAgain files (gen number) appended told = Unit {0}
 IsReadAgain files (audit world report words) appended told = Unit {0}
 IsReadAgain files (rewind world report k words) appended told = Unit {0}
 IsReadAgain files (steppack world file) appended told =
-    let r = ready_with told.world (code_elements told.given) in IsOwnReport r appended (stepped_journal r)
-IsReadAgain files (runpack world file) appended told = IsOwnReport (ready_with told.world (code_elements told.given)) appended (reported told.reports)
+    IsOwnReport (coded told.world told.given) appended (stepped_journal (coded told.world told.given))
+IsReadAgain files (runpack world file) appended told = IsOwnReport (coded told.world told.given) appended (reported told.reports)
 
 -- the words have a form, and its text was appended to what was written before
 pub record HasShown (form : Option FormValue) (files : List File) (before : List ℕ) (sink : SinkState) : Type 0 where
