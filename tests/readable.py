@@ -17,7 +17,7 @@ from typing import Iterator
 
 sys.dont_write_bytecode = True
 from antt_text import Declaration, declarations  # noqa: E402
-from rust_code import TOP, end_of_braces, line_of, sources  # noqa: E402
+from rust_code import end_of_braces, line_of, shown, sources  # noqa: E402
 
 CLAUSE = re.compile(r"^[ \t]*(?:requires|ensures)\b[^{}\n]*(?=\{)", re.MULTILINE)
 BINDER = re.compile(r"[({]([^(){}:]+) : ")
@@ -81,11 +81,6 @@ def places(declaration: Declaration) -> int:
     if not result.startswith("Type"):
         return 0
     return sum(binders(part) if BINDER.match(part) else 1 for part in taken)
-
-
-def shown(path: pathlib.Path) -> str:
-    """A path as one reads it."""
-    return str(path.relative_to(TOP / "crates"))
 
 
 def wide_relations() -> list[Declaration]:

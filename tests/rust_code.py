@@ -98,6 +98,11 @@ class Function:
     end: int
 
 
+def shown(path: pathlib.Path) -> str:
+    """A path of a crate's file as one reads it."""
+    return str(path.relative_to(TOP / "crates"))
+
+
 def sources(part: str, suffix: str) -> list[pathlib.Path]:
     """The files of a kind in a part of each crate."""
     return sorted(path for path in TOP.glob(f"crates/*/{part}/**/*{suffix}") if path.is_file())

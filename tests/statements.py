@@ -15,7 +15,7 @@ import sys
 
 sys.dont_write_bytecode = True
 from antt_text import Declaration, declarations  # noqa: E402
-from rust_code import TOP, sources  # noqa: E402
+from rust_code import TOP, shown, sources  # noqa: E402
 
 BOUND = re.compile(r"[({]([^():{}]+?) : |λ ((?:[^\s().,{}]+ )*[^\s().,{}]+)\.")
 WORD = re.compile(r"[^\s(){},.;]+")
@@ -94,11 +94,6 @@ def groups() -> list[list[Declaration]]:
     found.pop("", None)
     shared = [group for group in found.values() if len(set(map(crate_of, group))) > 1]
     return sorted(shared, key=lambda group: (-len(group), group[0].name))
-
-
-def shown(path: pathlib.Path) -> str:
-    """A path as one reads it."""
-    return str(path.relative_to(TOP / "crates"))
 
 
 def main() -> int:
