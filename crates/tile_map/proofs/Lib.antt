@@ -1,6 +1,7 @@
 pub mod Blocks
 pub mod Degree
 pub mod Growing
+pub mod Interior
 pub mod Near
 pub mod Numbers
 pub mod Pairs

@@ -1,5 +1,5 @@
 -- The columns and rows that a tile holds, as intervals.
-use Rattle.std.specs.Prelude.{ℕ, ◌+◌, ◌-◌, ◌*◌, ◌/◌, ◌%◌, min, max, Bool, ◌&&◌, nat_le, nat_lt, Option, Some, None, if◌then◌else◌}
+use Rattle.std.specs.Prelude.{ℕ, ◌+◌, ◌-◌, ◌*◌, ◌/◌, ◌%◌, min, max, Bool, ◌==◌, ◌&&◌, nat_le, nat_lt, Option, Some, None, if◌then◌else◌}
 use Rattle.tile_map.specs.Plane.{MapValue}
 
 -- a line is cut into n parts of equal size: the first place that part a holds, and one more than the last
@@ -33,6 +33,14 @@ top_both m p = max (top_of m p.0) (top_of m p.1)
 
 abbrev pub bottom_both : MapValue → ℕ × ℕ → ℕ
 bottom_both m p = min (bottom_of m p.0) (bottom_of m p.1)
+
+-- a line is cut into n parts of equal size: the first place of part a that is 8 or more from the part before it, and one
+-- more than the last place that is 8 or more from the part after it
+abbrev pub inner_low : ℕ → ℕ → ℕ
+inner_low size a = if a == 0 then 0 else a * size + 8
+
+abbrev pub inner_high : ℕ → ℕ → ℕ → ℕ
+inner_high n size a = if a + 1 == n then n * size else (a + 1) * size - 8
 
 -- how far a coordinate is from an interval
 abbrev pub gap : ℕ → ℕ → ℕ → ℕ

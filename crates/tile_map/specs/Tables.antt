@@ -1,10 +1,11 @@
--- What a map keeps: its edges by their ends, the edges of each tile, and for each edge the numbers of its shared sites.
-use Rattle.std.specs.Prelude.{ℕ, ◌≡◌, ◌-◌, ◌==◌, ◌&&◌, List, Option, None, length, map, filter, flat_map, position, slice_index_or}
+-- What a map keeps: its edges by their ends, the edges and the interior of each tile, and for each edge the numbers of its
+-- shared sites.
+use Rattle.std.specs.Prelude.{ℕ, ◌≡◌, ◌-◌, ◌/◌, ◌%◌, ◌==◌, ◌&&◌, List, Option, None, length, map, filter, flat_map, position, slice_index_or}
 use Rattle.std.specs.List.{range_with_len}
 use Rattle.std.specs.Option.{option_and_then}
 use Rattle.tile_map.specs.declared.span.Area.{Area}
 use Rattle.tile_map.specs.Plane.{Site, MapValue, IsMap, site, tiles_of, is_live}
-use Rattle.tile_map.specs.Spans.{left_both, right_both, top_both, bottom_both, place_within}
+use Rattle.tile_map.specs.Spans.{left_both, right_both, top_both, bottom_both, inner_low, inner_high, place_within}
 use Rattle.tile_map.specs.Edges.{pairs_of, edges_at}
 
 -- a row of n sites from x on
@@ -48,8 +49,16 @@ area_both m p = record { columns = record { first = left_both m p; end = right_b
 abbrev pub shared_both : MapValue → ℕ × ℕ → SharedValue
 shared_both m p = shared_value m (area_both m p)
 
-pub record Keeps (m : MapValue) (ends : List (ℕ × ℕ)) (around : List (List ℕ)) (tables : List SharedValue) : Type 0 where
+-- the sites of tile t's rectangle that are 8 or more from each other tile's rectangle beside it: an event there needs no edge
+abbrev pub interior_of : MapValue → ℕ → Area
+interior_of m t = record {
+  columns = record { first = inner_low m.w (t % m.tx); end = inner_high m.tx m.w (t % m.tx) };
+  rows = record { first = inner_low m.h (t / m.tx); end = inner_high m.ty m.h (t / m.tx) };
+}
+
+pub record Keeps (m : MapValue) (ends : List (ℕ × ℕ)) (around : List (List ℕ)) (tables : List SharedValue) (interiors : List Area) : Type 0 where
   pub valid : IsMap m
   pub pairs : ends ≡ pairs_of m
   pub lists : around ≡ map (edges_at m) (range_with_len 0 (tiles_of m))
+  pub interiors_are : interiors ≡ map (interior_of m) (range_with_len 0 (tiles_of m))
   pub shared : tables ≡ map (shared_both m) (pairs_of m)

@@ -5,7 +5,7 @@ ghost use Rattle.tile_map.specs.Plane.{MapValue, IsMap, plane_of, site, tiles_of
 ghost use Rattle.tile_map.specs.Neighbours.{are_joined};
 ghost use Rattle.tile_map.specs.Spans.{left_of, right_of, top_of, bottom_of};
 ghost use Rattle.tile_map.specs.Edges.{is_held_at, window_site, reaches};
-ghost use Rattle.tile_map.specs.Tables.{area_both};
+ghost use Rattle.tile_map.specs.Tables.{area_both, interior_of};
 
 use crate::span::{Area, Span, shift};
 use feast_base::NoMemory;
@@ -175,6 +175,18 @@ impl Plane {
         Area {
             columns: self.columns(lower).common(self.columns(higher)),
             rows: self.rows(lower).common(self.rows(higher)),
+        }
+    }
+
+    /// The sites of a tile's rectangle that are 8 or more from each border of it beyond which the
+    /// plane goes on. An event there needs no edge.
+    pub(crate) fn interior(&self, tile: u32) -> Area
+        requires { tile < tiles_of self.now }
+        ensures { result ≡ interior_of self.now tile }
+    {
+        Area {
+            columns: Span::interior(tile % self.tx, self.w, self.tx),
+            rows: Span::interior(tile / self.tx, self.h, self.ty),
         }
     }
 

@@ -2,7 +2,7 @@
 
 ghost use Rattle.std.specs.Prelude.{◌≡◌, ◌+◌, ◌-◌, ◌*◌, ◌<◌, ◌≤◌, ◌≤ℤ◌, pos, min, max, ◌&&◌, nat_le, nat_lt, IfSome};
 ghost use Rattle.window_sites.specs.Sites.{shifted};
-ghost use Rattle.tile_map.specs.Spans.{place_within};
+ghost use Rattle.tile_map.specs.Spans.{inner_low, inner_high, is_within, place_within};
 
 /// The coordinates from `first` up to `end` and without it.
 #[derive(Clone, Copy)]
@@ -24,6 +24,24 @@ impl Span {
     {
         let first = (part * size).saturating_sub(4);
         let end = ((part + 1) * size + 4).min(parts * size);
+        Span { first, end }
+    }
+
+    /// A line is cut into `parts` parts of equal size: what lies in one of them and is 8 or more
+    /// from each border of it beyond which another part follows.
+    pub(crate) fn interior(part: u32, size: u32, parts: u32) -> Span
+        requires one { part < parts }
+        requires few { parts ≤ 8 }
+        requires small { size ≤ 64 }
+        ensures first { result.first ≡ inner_low size part }
+        ensures end { result.end ≡ inner_high parts size part }
+    {
+        let first = if part == 0 { 0 } else { part * size + 8 };
+        let end = if part + 1 == parts {
+            parts * size
+        } else {
+            ((part + 1) * size).saturating_sub(8)
+        };
         Span { first, end }
     }
 
@@ -79,6 +97,13 @@ impl Area {
         ensures bound { result ≤ 512 * 512 }
     {
         self.columns.len() * self.rows.len()
+    }
+
+    /// Whether a site is one of the area.
+    pub(crate) fn contains(self, x: u32, y: u32) -> bool
+        ensures { result ≡ is_within self.columns.first self.columns.end self.rows.first self.rows.end x y }
+    {
+        self.columns.contains(x) && self.rows.contains(y)
     }
 
     /// The place of a site, row by row, if the area has it.
