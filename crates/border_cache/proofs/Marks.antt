@@ -1,24 +1,21 @@
--- One more place of a publishing: its bit in a news word.
-use Rattle.std.proofs.Common.{◌≡◌, ◌≢◌, ℕ, ◌+◌, ◌*◌, ◌/◌, ◌%◌, ◌<◌, eqb, Bool, true, false, cond, true≢false, List, [], ◌∷◌, ◌++◌, refl, sym, ap, ◌∙◌, subst, arith, ◌⊎◌, inl, inr, ⊎_elim, Option, Some, None, ne_eqb}
+-- One more news word of a publishing.
+use Rattle.std.proofs.Common.{◌≡◌, ◌≢◌, ℕ, ◌+◌, ◌*◌, ◌/◌, ◌%◌, ◌<◌, ◌≤◌, ◌^◌, eqb, Bool, true, false, cond, true≢false, List, [], ◌∷◌, ◌++◌, refl, sym, ap, ◌∙◌, subst, arith, ◌⊎◌, inl, inr, ⊎_elim, Option, Some, None, ne_eqb}
 use Rattle.std.proofs.lemmas.Option.{none-some}
 use mathlib.Core.Logic.{dite}
 use native.Mathlib.Decide.{ℕ_discrete}
 use Rattle.std.proofs.lemmas.List.{append-nil}
-use Rattle.std.specs.Int.{bit_at}
-use Rattle.edge_lock.proofs.BoardLaws.{last_shown-append}
-use Rattle.edge_lock.proofs.HistoryLaws.{found_stays}
-use Rattle.list_laws.specs.Options.{or_zero}
-use Rattle.feast_base.specs.Edges.{news_register}
+use Rattle.std.specs.Prelude.{slice_index_or}
+use Rattle.std.specs.Int.{bit_at, w64, trailing_zeros}
+use Rattle.std.proofs.lemmas.Nat.Bits.{bit_at-lt, bit_at-zero, bit_at-trailing_zeros}
+use Rattle.list_laws.proofs.Numbers.{less_or_same}
+use Rattle.feast_base.specs.Edges.{news_register, news_words}
 use Rattle.edge_lock.specs.declared.history.Access.{Access}
 use Rattle.edge_lock.specs.declared.history.Access.TheVariants.{Read, Write}
 use Rattle.edge_lock.specs.History.{found_value}
-use Rattle.edge_lock.specs.EndLists.{last_shown, writes_nothing, Shows}
-use Rattle.border_cache.specs.Accesses.{last_write, is_read, reads_nothing, IsHonest}
-use Rattle.border_cache.specs.News.{Covers, word_of, border}
-use Rattle.border_cache.specs.Published.{IsWithBit, IsWordMarked, IsMarked, IsBitPut}
-use Rattle.border_cache.proofs.Runs.{known_after}
-use Rattle.border_cache.proofs.Found.{shown_at}
-use Rattle.border_cache.proofs.Refreshes.{covers_more, covers_last}
+use Rattle.edge_lock.specs.EndLists.{writes_nothing}
+use Rattle.border_cache.specs.Accesses.{last_write, is_read, reads_nothing}
+use Rattle.border_cache.specs.News.{Border, Covers, AreMasks, word_of, border}
+use Rattle.border_cache.specs.Published.{IsWithMask, IsWordMarked, IsWordPut, AreBitsPut}
 
 pub last_write-append : (xs ys : List Access) (r : ℕ) (o : Option ℕ) → last_write (xs ++ ys) r o ≡ last_write ys r (last_write xs r o)
 last_write-append [] ys r o = refl
@@ -147,161 +144,131 @@ read_else (Write p x ∷ xs) q r v w ne = read_else xs q r v w ne
 write_else : (xs : List Access) (q r v w : ℕ) → q ≢ r → last_write (xs ++ pair r v w) q None ≡ last_write xs q None
 write_else xs q r v w ne = last_write-append xs (pair r v w) q None ∙ ap (λ b. cond b (Some w) (last_write xs q None)) (ne_eqb q r ne)
 
-shown_else : (xs : List Access) (q r v w : ℕ) (s : Option ℕ) → q ≢ r → last_shown (xs ++ pair r v w) q s ≡ last_shown xs q s
-shown_else xs q r v w s ne = last_shown-append xs (pair r v w) q s ∙ ap (λ b. cond b (Some w) (cond b (Some v) (last_shown xs q s))) (ne_eqb q r ne)
-
 write_here : (xs : List Access) (r v w : ℕ) → last_write (xs ++ pair r v w) r None ≡ Some w
 write_here xs r v w = last_write-append xs (pair r v w) r None ∙ ap (λ b. cond b (Some w) (last_write xs r None)) (eqb_same r)
-
-shown_here : (xs : List Access) (r v w : ℕ) (s : Option ℕ) → last_shown (xs ++ pair r v w) r s ≡ Some w
-shown_here xs r v w s = last_shown-append xs (pair r v w) r s ∙ ap (λ b. cond b (Some w) (cond b (Some v) (last_shown xs r s))) (eqb_same r)
 
 same_word : (sites end i j : ℕ) → news_register sites end i ≡ news_register sites end j → i ≡ j
 same_word sites end i j h = omega (arith, h)
 
-place_in_word : (k : ℕ) → 64 * (k / 64) + k % 64 ≡ k
-place_in_word k = grind arith
-
 in_word : (i j k : ℕ) → i < 64 → 64 * j + i ≡ k → (j ≡ k / 64) × (i ≡ k % 64)
 in_word i j k lt is = (grind (arith, is), grind (arith, is))
 
-pub marked_begins : (sites end : ℕ) (bit : Bool) (places : ℕ → Option ℕ) → IsMarked (border sites end places 0) bit []
-marked_begins sites end bit places = record {
-  words = λ k c. absurd (omega (arith, c.1));
-  shown = λ k c. absurd (omega (arith, c.1));
+zero_or_one : (n : ℕ) → n < 2 → n ≢ 1 → n ≡ 0
+zero_or_one n lt ne = omega (arith, lt, ne)
+
+-- the news words below word j, marked, and no other read or written
+pub record MarksBelow (b : Border) (bit : Bool) (j : ℕ) (xs : List Access) : Type 0 where
+  pub words : (k : ℕ) → Covers b.places b.count k → k / 64 < j → IsWordMarked b bit xs (k / 64)
+  pub only_read : (r : ℕ) → is_read xs r ≡ true → (k : ℕ) × Covers b.places b.count k × (k / 64 < j) × (r ≡ word_of b.sites b.end k)
+  pub only_written : (r v : ℕ) → last_write xs r None ≡ Some v → (k : ℕ) × Covers b.places b.count k × (k / 64 < j) × (r ≡ word_of b.sites b.end k)
+
+-- the same of every border that has these masks
+abbrev pub AreBitsBelow : ℕ → ℕ → Bool → List ℕ → ℕ → List Access → Type 0
+AreBitsBelow sites end bit masks j xs = (places : ℕ → Option ℕ) (n : ℕ) → AreMasks places n masks → MarksBelow (border sites end places n) bit j xs
+
+pub bits_begin : (sites end : ℕ) (bit : Bool) (masks : List ℕ) → AreBitsBelow sites end bit masks 0 []
+bits_begin sites end bit masks places n a = record {
+  words = λ k c lt. absurd (omega (arith, lt));
   only_read = λ r g. absurd (true≢false (sym g));
   only_written = λ r v g. absurd (none-some v g);
 }
 
-module _ (sites end : ℕ) (bit : Bool) (places : ℕ → Option ℕ) (n : ℕ) where
-  abbrev Old : ℕ → Type 0
-  Old k = Covers places n k
+module _ (b : Border) (bit : Bool) (masks : List ℕ) (j : ℕ) (xs : List Access) (is : AreMasks b.places b.count masks) (m : MarksBelow b bit j xs) where
+  abbrev IsIn : ℕ → Type 0
+  IsIn k = Covers b.places b.count k
 
-  abbrev New : ℕ → Type 0
-  New k = Covers places (n + 1) k
+  abbrev mask : ℕ
+  mask = slice_index_or masks j 0
 
-  more : (k : ℕ) → Old k → New k
-  more k c = covers_more places n k c
+  abbrev r : ℕ
+  r = news_register b.sites b.end j
 
-  marked_none : (xs : List Access) → places n ≡ None → IsMarked (border sites end places n) bit xs → IsMarked (border sites end places (n + 1)) bit xs
-  marked_none xs at m = record {
-    words = λ k c. let w = m.words k (old k c) in record {
-      first = w.first;
-      last = w.last;
-      found = w.found;
-      written = w.written;
-      marked = λ i lt d. w.marked i lt (old (64 * (k / 64) + i) d);
-      kept = λ i lt d. w.kept i lt (λ e. d (more (64 * (k / 64) + i) e));
-    };
-    shown = λ k c s. m.shown k (old k c) s;
-    only_read = λ r g. let a = m.only_read r g in (a.0, more a.0 a.1, a.2);
-    only_written = λ r v g. let a = m.only_written r v g in (a.0, more a.0 a.1, a.2);
+  -- a place of this word has its bit in the mask, and no other has
+  bit_here : (k : ℕ) → IsIn k → k / 64 ≡ j → bit_at mask (k % 64) ≡ 1
+  bit_here k c e = ap (λ w. bit_at (slice_index_or masks w 0) (k % 64)) (sym e) ∙ is.set k c
+
+  place_here : (i : ℕ) → i < 64 → bit_at mask i ≡ 1 → IsIn (64 * j + i)
+  place_here i lt h =
+      let q = in_word i j (64 * j + i) lt refl in
+      is.only (64 * j + i) ((λ t. bit_at (slice_index_or masks (sym q.0 t) 0) (sym q.1 t)) ∙ h)
+
+  -- no place has a bit of this word
+  bits_none : mask ≡ 0 → MarksBelow b bit (j + 1) xs
+  bits_none none = record {
+    words = λ k c lt. ⊎_elim (λ old. m.words k c old)
+        (λ same. let one = sym (ap (λ w. bit_at w (k % 64)) none ∙ bit_at-zero (k % 64)) ∙ bit_here k c same in absurd (omega (arith, one)))
+        (less_or_same (k / 64) j lt);
+    only_read = λ q g. let a = m.only_read q g in (a.0, a.1, omega (arith, a.2), a.3);
+    only_written = λ q v g. let a = m.only_written q v g in (a.0, a.1, omega (arith, a.2), a.3);
   }
-    where
-      old : (k : ℕ) → New k → Old k
-      old k c = ⊎_elim (λ h. h) (λ p. absurd (cc (at, p))) (covers_last places n k c)
 
-  module _ (k : ℕ) (xs : List Access) (v w : ℕ) (at : places n ≡ Some k) (m : IsMarked (border sites end places n) bit xs) (put : IsWithBit v (k % 64) bit w) where
-    abbrev r : ℕ
-    r = word_of sites end k
-
+  module _ (v w i : ℕ) (low : i < 64) (one : bit_at mask i ≡ 1) (put : IsWithMask v mask bit w) where
     abbrev ys : List Access
     ys = xs ++ pair r v w
 
-    here : New k
-    here = (n, omega arith, at)
+    -- the word of a place before
+    other : (k : ℕ) → k / 64 < j → word_of b.sites b.end k ≢ r
+    other k lt h = let e = same_word b.sites b.end (k / 64) j h in omega (arith, e, lt)
 
-    -- a place that is covered now was covered before, or is this one
-    split : (j : ℕ) → New j → Old j ⊎ (k ≡ j)
-    split j c = ⊎_elim (λ h. inl h) (λ p. inr (ap or_zero (sym at ∙ p))) (covers_last places n j c)
+    unfound : (o : Option ℕ) → found_value xs r ≡ o → o ≡ None
+    unfound None h = refl
+    unfound (Some u) h = let a = m.only_read r (found_is_read xs r u h) in absurd (other a.0 a.2 (sym a.3))
 
-    -- another word stays
-    word_else : (j : ℕ) → j ≢ k / 64 → IsWordMarked (border sites end places n) bit xs j → IsWordMarked (border sites end places (n + 1)) bit ys j
-    word_else j ne o =
-        let apart : news_register sites end j ≢ r = λ h. ne (same_word sites end j (k / 64) h) in
-        record {
-          first = o.first;
-          last = o.last;
-          found = found_else xs (news_register sites end j) r v w apart ∙ o.found;
-          written = write_else xs (news_register sites end j) r v w apart ∙ o.written;
-          marked = λ i lt c. ⊎_elim (λ h. o.marked i lt h) (λ (h : k ≡ 64 * j + i). absurd (ne (in_word i j k lt (sym h)).0)) (split (64 * j + i) c);
-          kept = λ i lt c. o.kept i lt (λ h. c (more (64 * j + i) h));
-        }
+    unwritten : (o : Option ℕ) → last_write xs r None ≡ o → o ≡ None
+    unwritten None h = refl
+    unwritten (Some u) h = let a = m.only_written r u h in absurd (other a.0 a.2 (sym a.3))
 
-    -- the word of the place, which was read before
-    word_again : (o : IsWordMarked (border sites end places n) bit xs (k / 64)) → v ≡ o.last → IsWordMarked (border sites end places (n + 1)) bit ys (k / 64)
-    word_again o same = record {
-      first = o.first;
-      last = w;
-      found = found_stays xs (pair r v w) r o.first o.found;
-      written = write_here xs r v w;
-      marked = λ i lt c. dite (ℕ_discrete i (k % 64))
-          (λ (e : i ≡ k % 64). ap (bit_at w) e ∙ put.same)
-          (λ (ne : i ≢ k % 64). put.others i lt ne ∙ (ap (λ x. bit_at x i) same ∙ ⊎_elim (λ h. o.marked i lt h) (λ (h : k ≡ 64 * (k / 64) + i). absurd (ne (in_word i (k / 64) k lt (sym h)).1)) (split (64 * (k / 64) + i) c)));
-      kept = λ i lt c. dite (ℕ_discrete i (k % 64))
-          (λ (e : i ≡ k % 64). absurd (c (subst New (sym (ap (λ x. 64 * (k / 64) + x) e ∙ place_in_word k)) here)))
-          (λ (ne : i ≢ k % 64). put.others i lt ne ∙ (ap (λ x. bit_at x i) same ∙ o.kept i lt (λ h. c (more (64 * (k / 64) + i) h))));
-    }
-
-    -- the word of the place, which is read for the first time
-    word_first : found_value xs r ≡ None → last_write xs r None ≡ None → ((j : ℕ) → Old j → j / 64 ≡ k / 64 → ⊥) → IsWordMarked (border sites end places (n + 1)) bit ys (k / 64)
-    word_first f l free = record {
+    this_word : IsWordMarked b bit ys j
+    this_word = record {
       first = v;
       last = w;
-      found = untouched xs (pair r v w) r f l ∙ ap (λ b. cond b (Some v) (cond b None None)) (eqb_same r);
+      found = untouched xs (pair r v w) r (unfound (found_value xs r) refl) (unwritten (last_write xs r None) refl) ∙ ap (λ b. cond b (Some v) (cond b None None)) (eqb_same r);
       written = write_here xs r v w;
-      marked = λ i lt c. dite (ℕ_discrete i (k % 64))
-          (λ (e : i ≡ k % 64). ap (bit_at w) e ∙ put.same)
-          (λ (ne : i ≢ k % 64). ⊎_elim (λ h. absurd (free (64 * (k / 64) + i) h (sym (in_word i (k / 64) (64 * (k / 64) + i) lt refl).0))) (λ (h : k ≡ 64 * (k / 64) + i). absurd (ne (in_word i (k / 64) k lt (sym h)).1)) (split (64 * (k / 64) + i) c));
-      kept = λ i lt c. dite (ℕ_discrete i (k % 64))
-          (λ (e : i ≡ k % 64). absurd (c (subst New (sym (ap (λ x. 64 * (k / 64) + x) e ∙ place_in_word k)) here)))
-          (λ (ne : i ≢ k % 64). put.others i lt ne);
+      marked = λ i lt c. let q = in_word i j (64 * j + i) lt refl in
+          put.same i lt (ap (bit_at mask) q.1 ∙ bit_here (64 * j + i) c (sym q.0));
+      kept = λ i lt not. put.others i lt (zero_or_one (bit_at mask i) (bit_at-lt mask i) (λ h. not (place_here i lt h)));
     }
 
-    -- the word of a place that was covered before
-    old_word : (j : ℕ) → Old j → j / 64 ≡ k / 64 → IsWordMarked (border sites end places n) bit xs (k / 64)
-    old_word j c e = subst (IsWordMarked (border sites end places n) bit xs) e (m.words j c)
-
-    this_word : (known : ℕ → Option ℕ) → Shows (known_after known xs r) v → IsWordMarked (border sites end places (n + 1)) bit ys (k / 64)
-    this_word known shows = go (found_value xs r) refl (last_write xs r None) refl
-      where
-        again : (j : ℕ) → Old j → r ≡ word_of sites end j → IsWordMarked (border sites end places (n + 1)) bit ys (k / 64)
-        again j c is =
-            let e : j / 64 ≡ k / 64 = same_word sites end (j / 64) (k / 64) (sym is) in
-            let o = old_word j c e in
-            let shown : last_shown xs r (known r) ≡ Some o.last = subst (λ q. last_shown xs q (known r) ≡ last_write xs q None) (sym is) (m.shown j c (known r)) ∙ o.written in
-            word_again o (shown_at (known_after known xs r) o.last v shows shown)
-
-        go : (f : Option ℕ) → found_value xs r ≡ f → (l : Option ℕ) → last_write xs r None ≡ l → IsWordMarked (border sites end places (n + 1)) bit ys (k / 64)
-        go (Some u) f l is = let a = m.only_read r (found_is_read xs r u f) in again a.0 a.1 a.2
-        go None f (Some u) is = let a = m.only_written r u is in again a.0 a.1 a.2
-        go None f None is = word_first f is (λ j c e. none-some (old_word j c e).first (sym (sym (old_word j c e).found ∙ f)))
-
-    all_words : IsWordMarked (border sites end places (n + 1)) bit ys (k / 64) → (j : ℕ) → New j → IsWordMarked (border sites end places (n + 1)) bit ys (j / 64)
-    all_words this j c = dite (ℕ_discrete (j / 64) (k / 64))
-        (λ (e : j / 64 ≡ k / 64). subst (IsWordMarked (border sites end places (n + 1)) bit ys) (sym e) this)
-        (λ (ne : j / 64 ≢ k / 64). word_else (j / 64) ne (m.words j (⊎_elim (λ h. h) (λ (h : k ≡ j). absurd (ne (ap (λ x. x / 64) (sym h)))) (split j c))))
-
-    all_shown : (j : ℕ) → New j → (s : Option ℕ) → last_shown ys (word_of sites end j) s ≡ last_write ys (word_of sites end j) None
-    all_shown j c s = dite (ℕ_discrete (j / 64) (k / 64))
-        (λ (e : j / 64 ≡ k / 64). let q : word_of sites end j ≡ r = ap (news_register sites end) e in
-        ap (λ x. last_shown ys x s) q ∙ (shown_here xs r v w s ∙ (sym (write_here xs r v w) ∙ ap (λ x. last_write ys x None) (sym q))))
-        (λ (ne : j / 64 ≢ k / 64). let apart : word_of sites end j ≢ r = λ h. ne (same_word sites end (j / 64) (k / 64) h) in
-        shown_else xs (word_of sites end j) r v w s apart ∙ (m.shown j (⊎_elim (λ h. h) (λ (h : k ≡ j). absurd (ne (ap (λ x. x / 64) (sym h)))) (split j c)) s ∙ sym (write_else xs (word_of sites end j) r v w apart)))
-
-    marked_some : (known : ℕ → Option ℕ) → Shows (known_after known xs r) v → IsMarked (border sites end places (n + 1)) bit ys
-    marked_some known shows = record {
-      words = all_words (this_word known shows);
-      shown = all_shown;
-      only_read = λ q g. dite (ℕ_discrete q r) (λ (e : q ≡ r). (k, here, e)) (λ (ne : q ≢ r). let a = m.only_read q (sym (read_else xs q r v w ne) ∙ g) in (a.0, more a.0 a.1, a.2));
-      only_written = λ q u g. dite (ℕ_discrete q r) (λ (e : q ≡ r). (k, here, e)) (λ (ne : q ≢ r). let a = m.only_written q u (sym (write_else xs q r v w ne) ∙ g) in (a.0, more a.0 a.1, a.2));
+    -- another word stays
+    word_else : (k : ℕ) → k / 64 < j → IsWordMarked b bit xs (k / 64) → IsWordMarked b bit ys (k / 64)
+    word_else k lt o = record {
+      first = o.first;
+      last = o.last;
+      found = found_else xs (word_of b.sites b.end k) r v w (other k lt) ∙ o.found;
+      written = write_else xs (word_of b.sites b.end k) r v w (other k lt) ∙ o.written;
+      marked = o.marked;
+      kept = o.kept;
     }
 
-  pub marked_more : (known : ℕ → Option ℕ) (xs zs : List Access) → IsMarked (border sites end places n) bit xs → IsHonest (known_after known xs) zs → IsBitPut sites end bit (places n) zs → IsMarked (border sites end places (n + 1)) bit (xs ++ zs)
-  marked_more known xs zs m h p = go (places n) refl p
-    where
-      go : (o : Option ℕ) → places n ≡ o → IsBitPut sites end bit o zs → IsMarked (border sites end places (n + 1)) bit (xs ++ zs)
-      go None at p = subst (IsMarked (border sites end places (n + 1)) bit) (sym (append-nil xs) ∙ ap (λ ys. xs ++ ys) (sym p)) (marked_none xs at m)
-      go (Some k) at p =
-          let h' : IsHonest (known_after known xs) (pair (word_of sites end k) p.0 p.1) = subst (IsHonest (known_after known xs)) p.2 h in
-          subst (IsMarked (border sites end places (n + 1)) bit) (ap (λ ys. xs ++ ys) (sym p.2)) (marked_some k xs p.0 p.1 at m p.3 known h'.0)
+    here : (q : ℕ) → q ≡ r → (k : ℕ) × IsIn k × (k / 64 < j + 1) × (q ≡ word_of b.sites b.end k)
+    here q e =
+        let at = (in_word i j (64 * j + i) low refl).0 in
+        (64 * j + i, place_here i low one, omega (arith, at), e ∙ ap (news_register b.sites b.end) at)
+
+    bits_some : MarksBelow b bit (j + 1) ys
+    bits_some = record {
+      words = λ k c lt. ⊎_elim (λ old. word_else k old (m.words k c old)) (λ same. subst (IsWordMarked b bit ys) (sym same) this_word) (less_or_same (k / 64) j lt);
+      only_read = λ q g. dite (ℕ_discrete q r) (λ (e : q ≡ r). here q e)
+          (λ (ne : q ≢ r). let a = m.only_read q (sym (read_else xs q r v w ne) ∙ g) in (a.0, a.1, omega (arith, a.2), a.3));
+      only_written = λ q u g. dite (ℕ_discrete q r) (λ (e : q ≡ r). here q e)
+          (λ (ne : q ≢ r). let a = m.only_written q u (sym (write_else xs q r v w ne) ∙ g) in (a.0, a.1, omega (arith, a.2), a.3));
+    }
+
+-- one more news word
+pub bits_more : (sites end : ℕ) (bit : Bool) (masks : List ℕ) (j : ℕ) (xs zs : List Access) → slice_index_or masks j 0 < 2 ^ 64 → AreBitsBelow sites end bit masks j xs
+    → IsWordPut (news_register sites end j) (slice_index_or masks j 0) bit zs → AreBitsBelow sites end bit masks (j + 1) (xs ++ zs)
+bits_more sites end bit masks j xs zs fits f (inl p) places n a =
+    subst (MarksBelow (border sites end places n) bit (j + 1)) (sym (append-nil xs) ∙ ap (λ ys. xs ++ ys) (sym p.1)) (bits_none (border sites end places n) bit masks j xs a (f places n a) p.0)
+bits_more sites end bit masks j xs zs fits f (inr p) places n a =
+    let some = bit_at-trailing_zeros w64 (slice_index_or masks j 0) (omega (arith, p.0)) fits in
+    subst (MarksBelow (border sites end places n) bit (j + 1)) (ap (λ ys. xs ++ ys) (sym p.3))
+    (bits_some (border sites end places n) bit masks j xs a (f places n a) p.1 p.2 (trailing_zeros w64 (slice_index_or masks j 0)) some.0 some.1 p.4)
+
+-- all news words
+pub bits_all : (sites end : ℕ) (bit : Bool) (masks : List ℕ) (j : ℕ) (xs : List Access) → news_words sites ≤ j → AreBitsBelow sites end bit masks j xs → AreBitsPut sites end bit masks xs
+bits_all sites end bit masks j xs all f places n a low =
+    let m = f places n a in record {
+      words = λ k c. m.words k c (let lt = low k c in grind (arith, lt, all));
+      only_read = λ r g. let o = m.only_read r g in (o.0, o.1, o.3);
+      only_written = λ r v g. let o = m.only_written r v g in (o.0, o.1, o.3);
+    }

@@ -34,6 +34,21 @@ listed sites end places = border sites end (nth_place places) (length places)
 abbrev pub Covers : (ℕ → Option ℕ) → ℕ → ℕ → Type 0
 Covers places n k = (j : ℕ) × (j < n) × (places j ≡ Some k)
 
+-- the bit of place k in the news words of an end
+abbrev pub bit_in : List ℕ → ℕ → ℕ
+bit_in words k = bit_at (slice_index_or words (k / 64) 0) (k % 64)
+
+-- these words have the bits of the places of the first n sites of a window, and no others
+pub record AreMasks (places : ℕ → Option ℕ) (n : ℕ) (masks : List ℕ) : Type 0 where
+  pub set : (k : ℕ) → Covers places n k → bit_in masks k ≡ 1
+  pub only : (k : ℕ) → bit_in masks k ≡ 1 → Covers places n k
+
+-- the bit of one more place is set, if there is a place
+pub record SetsPlace (place : Option ℕ) (old new : List ℕ) : Type 0 where
+  pub count : length new ≡ length old
+  pub set : (k : ℕ) → place ≡ Some k → bit_in new k ≡ 1
+  pub others : (k : ℕ) → (place ≡ Some k → ⊥) → bit_in new k ≡ bit_in old k
+
 -- the register of the news word of an end that has the bit of place k
 abbrev pub word_of : ℕ → ℕ → ℕ → ℕ
 word_of sites end k = news_register sites end (k / 64)

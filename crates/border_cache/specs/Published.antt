@@ -1,24 +1,23 @@
 -- What a publishing does on one edge: it writes cells, and marks them as no news for the one end and as news for the other.
-use Rattle.std.specs.Prelude.{ℕ, ◌≡◌, ◌+◌, ◌*◌, ◌/◌, ◌%◌, ◌-◌, ◌<◌, ◌⊎◌, length, slice_index_or, Bool, true, false, List, [], ◌∷◌, Option, Some, None}
+use Rattle.std.specs.Prelude.{ℕ, ◌≡◌, ◌≢◌, ◌+◌, ◌*◌, ◌/◌, ◌-◌, ◌<◌, ◌⊎◌, length, slice_index_or, Bool, true, false, List, [], ◌∷◌, Option, Some, None}
 use Rattle.std.specs.Int.{bit_at}
 use Rattle.list_laws.specs.Booleans.{digit}
 use Rattle.feast_base.specs.Edges.{news_register}
 use Rattle.edge_lock.specs.declared.history.Access.{Access}
 use Rattle.edge_lock.specs.declared.history.Access.TheVariants.{Read, Write}
 use Rattle.edge_lock.specs.History.{found_value}
-use Rattle.edge_lock.specs.EndLists.{last_shown}
 use Rattle.border_cache.specs.Accesses.{last_write, is_read, reads_nothing}
 use Rattle.border_cache.specs.Cells.{CellValue, cell_of}
-use Rattle.border_cache.specs.News.{Border, border, nth_place, Covers, word_of, IsOfCell, no_cell}
+use Rattle.border_cache.specs.News.{Border, border, nth_place, Covers, AreMasks, word_of, IsOfCell, no_cell}
 
 -- the same edge, from its other end
 abbrev pub across : Border → Border
 across b = border b.sites (1 - b.end) b.places b.count
 
--- a word with one bit changed
-pub record IsWithBit (old : ℕ) (i : ℕ) (bit : Bool) (new : ℕ) : Type 0 where
-  pub same : bit_at new i ≡ digit bit
-  pub others : (j : ℕ) → j < 64 → (j ≡ i → ⊥) → bit_at new j ≡ bit_at old j
+-- a word with the bits of a mask all changed to one
+pub record IsWithMask (old mask : ℕ) (bit : Bool) (new : ℕ) : Type 0 where
+  pub same : (i : ℕ) → i < 64 → bit_at mask i ≡ 1 → bit_at new i ≡ digit bit
+  pub others : (i : ℕ) → i < 64 → bit_at mask i ≡ 0 → bit_at new i ≡ bit_at old i
 
 -- The news word j of an end: it was first read as one word and written last as another, in which the bits of the covered
 -- places are all the same, and the other bits are as they were.
@@ -37,15 +36,18 @@ IsCoveredWord b register = (k : ℕ) × Covers b.places b.count k × (register �
 -- the news words of an end after the bits of the covered places were set, or cleared
 pub record IsMarked (b : Border) (bit : Bool) (accesses : List Access) : Type 0 where
   pub words : (k : ℕ) → Covers b.places b.count k → IsWordMarked b bit accesses (k / 64)
-  pub shown : (k : ℕ) → Covers b.places b.count k → (start : Option ℕ)
-      → last_shown accesses (word_of b.sites b.end k) start ≡ last_write accesses (word_of b.sites b.end k) None
   pub only_read : (register : ℕ) → is_read accesses register ≡ true → IsCoveredWord b register
   pub only_written : (register value : ℕ) → last_write accesses register None ≡ Some value → IsCoveredWord b register
 
--- one bit is changed, if there is a place
-abbrev pub IsBitPut : ℕ → ℕ → Bool → Option ℕ → List Access → Type 0
-IsBitPut sites end bit None accesses = accesses ≡ []
-IsBitPut sites end bit (Some k) accesses = (old : ℕ) × (new : ℕ) × (accesses ≡ Read (word_of sites end k) old ∷ Write (word_of sites end k) new ∷ []) × IsWithBit old (k % 64) bit new
+-- a news word is read, and written with the bits of a mask changed, unless there are none
+abbrev pub IsWordPut : ℕ → ℕ → Bool → List Access → Type 0
+IsWordPut register mask bit accesses =
+    ((mask ≡ 0) × (accesses ≡ [])) ⊎ ((mask ≢ 0) × (old : ℕ) × (new : ℕ) × (accesses ≡ Read register old ∷ Write register new ∷ []) × IsWithMask old mask bit new)
+
+-- the news words of an end after the bits of these masks were set, or cleared: whichever places have these bits
+abbrev pub AreBitsPut : ℕ → ℕ → Bool → List ℕ → List Access → Type 0
+AreBitsPut sites end bit masks accesses =
+    (places : ℕ → Option ℕ) (n : ℕ) → AreMasks places n masks → ((k : ℕ) → Covers places n k → k < sites) → IsMarked (border sites end places n) bit accesses
 
 -- no two of the first n sites of a window are at one place
 abbrev pub ArePlaces : (ℕ → Option ℕ) → ℕ → Type 0

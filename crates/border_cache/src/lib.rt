@@ -8,6 +8,7 @@
 
 mod cache;
 mod cell;
+mod masks;
 mod news;
 mod places;
 mod view;

@@ -1,27 +1,27 @@
-//! The cells and news bits of one edge, through a board. A news word is read, and written, once for
-//! each site of the window that it covers: slower than once a word, but without a table of words.
-ghost use Rattle.std.specs.Prelude.{◌≡◌, ◌+◌, ◌*◌, ◌<◌, ◌^◌, ℕ, length};
-ghost use Rattle.feast_base.specs.Edges.{registers_of};
+//! The cells and news bits of one edge, through a board.
+ghost use Rattle.std.specs.Prelude.{◌≡◌, ◌+◌, ◌*◌, ◌<◌, ◌≤◌, ◌^◌, ℕ, length};
+ghost use Rattle.feast_base.specs.Edges.{registers_of, news_words, news_register};
 ghost use Rattle.edge_lock.specs.EndLists.{IsHeld};
 ghost use Rattle.edge_lock.specs.EndValues.{SameEnd};
 ghost use Rattle.border_cache.specs.Accesses.{AddsSome};
-ghost use Rattle.border_cache.specs.News.{listed, at, word_of, IsSiteRead, Refreshes, IsPlace, nth_place, ReadsSite, IsNewerAt};
-ghost use Rattle.border_cache.specs.Published.{IsWithBit, IsBitPut, IsMarked, AreAllPut, IsCellPut, IsPublish, ArePlaces, cell_at};
+ghost use Rattle.border_cache.specs.News.{listed, at, IsSiteRead, Refreshes, IsPlace, nth_place, ReadsSite, IsNewerAt};
+ghost use Rattle.border_cache.specs.Published.{IsWordPut, AreBitsPut, AreAllPut, IsCellPut, IsPublish, ArePlaces, cell_at};
 
 use crate::cell::Cell;
+use crate::masks::{masks, with_mask};
 use edge_lock::Board;
 
-// The register of the news word of an end that has the bit of a place.
-fn news_word(sites: u32, end: u32, place: u32) -> u32
+// The register of a news word of an end.
+fn news_word(sites: u32, end: u32, word: u32) -> u32
     requires fits { registers_of sites < 2 ^ 32 }
     requires end { end < 2 }
-    requires place { place < sites }
-    ensures value { result ≡ word_of sites end place }
+    requires word { word < news_words sites }
+    ensures value { result ≡ news_register sites end word }
     ensures inside { result < registers_of sites }
 {
     let words = (sites + 63) / 64;
     let first = 1 + 2 * sites + if end == 0 { 0 } else { words };
-    first + place / 64
+    first + word
 }
 
 // Reads the cell of a place, if it is news for the end.
@@ -41,7 +41,7 @@ pub(crate) fn read_site<D: Board>(
     ensures same { SameEnd (D.end board.old) (D.end board.new) }
     ensures moved { D.moved board.old board.new }
 {
-    let word = board.read(edge, news_word(sites, end, place));
+    let word = board.read(edge, news_word(sites, end, place / 64));
     if (word >> (place % 64)) & 1 == 0 {
         return None;
     }
@@ -101,57 +101,48 @@ fn refresh_site<D: Board>(
     }
 }
 
-// The word with bit `i` set or cleared.
-#[tactic(auto, using(crate::proofs::Words::sets, crate::proofs::Words::clears))]
-fn with_bit(word: u64, i: u32, bit: bool) -> u64
-    requires { i < 64 }
-    ensures { IsWithBit word i bit result }
-{
-    if bit {
-        word | (1u64 << i)
-    } else {
-        word & !(1u64 << i)
-    }
-}
-
-// Sets or clears the bit of a place in a news word of an end.
-fn put_bit<D: Board>(board: &mut D, edge: u32, sites: u32, end: u32, place: Option<u32>, bit: bool)
-    requires fits { registers_of sites < 2 ^ 32 }
-    requires registers { (D.end board.old).registers edge ≡ registers_of sites }
-    requires end { end < 2 }
-    requires place { IsPlace sites place }
-    requires held { IsHeld ((D.end board.old).lists edge) }
-    ensures put { AddsSome edge (IsBitPut sites end bit place) (D.end board.old) (D.end board.new) }
-    ensures same { SameEnd (D.end board.old) (D.end board.new) }
-    ensures moved { D.moved board.old board.new }
-{
-    if let Some(place) = place {
-        let register = news_word(sites, end, place);
-        let word = board.read(edge, register);
-        board.write(edge, register, with_bit(word, place % 64, bit));
-    }
-}
-
-// Sets or clears the bits of all these places in the news words of an end.
-fn put_bits<D: Board>(
+// Sets or clears the bits of a mask in a news word of an end.
+fn put_word<D: Board>(
     board: &mut D,
     edge: u32,
     sites: u32,
     end: u32,
-    places: &[Option<u32>],
+    word: u32,
+    mask: u64,
     bit: bool,
 )
     requires fits { registers_of sites < 2 ^ 32 }
     requires registers { (D.end board.old).registers edge ≡ registers_of sites }
     requires end { end < 2 }
-    requires places { (n : ℕ) → n < length places.now → IsPlace sites (nth_place places.now n) }
+    requires word { word < news_words sites }
     requires held { IsHeld ((D.end board.old).lists edge) }
-    ensures put { AddsSome edge (IsMarked (listed sites end places.now) bit) (D.end board.old) (D.end board.new) }
+    ensures put { AddsSome edge (IsWordPut (news_register sites end word) mask bit) (D.end board.old) (D.end board.new) }
     ensures same { SameEnd (D.end board.old) (D.end board.new) }
     ensures moved { D.moved board.old board.new }
 {
-    for n in 0..places.len() {
-        put_bit(board, edge, sites, end, places[n], bit);
+    if mask == 0 {
+        return;
+    }
+    let register = news_word(sites, end, word);
+    let old = board.read(edge, register);
+    board.write(edge, register, with_mask(old, mask, bit));
+}
+
+// Sets or clears the bits of these masks in the news words of an end.
+fn put_bits<D: Board>(board: &mut D, edge: u32, sites: u32, end: u32, masks: &[u64], bit: bool)
+    requires fits { registers_of sites < 2 ^ 32 }
+    requires registers { (D.end board.old).registers edge ≡ registers_of sites }
+    requires end { end < 2 }
+    requires few { sites ≤ 576 }
+    requires count { length masks.now ≡ 9 }
+    requires held { IsHeld ((D.end board.old).lists edge) }
+    ensures put { AddsSome edge (AreBitsPut sites end bit masks.now) (D.end board.old) (D.end board.new) }
+    ensures same { SameEnd (D.end board.old) (D.end board.new) }
+    ensures moved { D.moved board.old board.new }
+{
+    let words = (sites + 63) / 64;
+    for word in 0..words {
+        put_word(board, edge, sites, end, word, masks[word as usize], bit);
     }
 }
 
@@ -204,12 +195,14 @@ pub(crate) fn publish_edge<D: Board>(
     requires end { end < 2 }
     requires places { (n : ℕ) → n < length places.now → IsPlace sites (nth_place places.now n) }
     requires apart { ArePlaces (nth_place places.now) (length places.now) }
+    requires few { sites ≤ 576 }
     requires held { IsHeld ((D.end board.old).lists edge) }
     ensures published { AddsSome edge (IsPublish (listed sites end places.now) (cell_at cells.now)) (D.end board.old) (D.end board.new) }
     ensures same { SameEnd (D.end board.old) (D.end board.new) }
     ensures moved { D.moved board.old board.new }
 {
     put_cells(board, edge, sites, places, cells);
-    put_bits(board, edge, sites, end, places, false);
-    put_bits(board, edge, sites, 1 - end, places, true);
+    let masks = masks(places);
+    put_bits(board, edge, sites, end, &masks, false);
+    put_bits(board, edge, sites, 1 - end, &masks, true);
 }

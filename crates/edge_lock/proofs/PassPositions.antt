@@ -1,13 +1,14 @@
 -- The passes of one tile, by the numbers of their edges.
-use Rattle.std.proofs.Common.{◌≡◌, ◌≢◌, ℕ, suc, ◌+◌, ◌<◌, eqb, Bool, true, cond, List, [], ◌∷◌, map, length, get_or, set, drop, refl, sym, ap, ◌∙◌, subst, arith, drop-cons, eq-eqb, ne_eqb, Some}
+use Rattle.std.proofs.Common.{◌≡◌, ◌≢◌, ℕ, suc, ◌+◌, ◌<◌, ◌≤◌, eqb, Bool, true, false, cond, List, [], ◌∷◌, map, length, get_or, set, drop, refl, sym, ap, ◌∙◌, subst, arith, drop-cons, eq-eqb, ne_eqb, Some}
 use Rattle.std.specs.Prelude.{All, slice_get, Some}
+use Rattle.std.proofs.lemmas.List.{drop_all}
 use Rattle.std.proofs.lemmas.Option.{slice_get_within, slice_get-get_or}
 use mathlib.Core.Logic.{dite}
 use native.Mathlib.Decide.{ℕ_discrete}
 use Rattle.edge_lock.specs.EndLists.{EndLists, replace_at}
 use Rattle.edge_lock.specs.EndValues.{ChangesAt}
 use Rattle.edge_lock.specs.Passes.{EdgeValue, PassValue, with_lists}
-use Rattle.edge_lock.specs.SharedEnds.{SharedEndValue, shared_end_value, shared_end, SamePasses, IsPassOf, pass_registers, pass_end, pass_lists, pass_position, edge_and_end}
+use Rattle.edge_lock.specs.SharedEnds.{SharedEndValue, shared_end_value, shared_end, SamePasses, IsPassOf, pass_registers, pass_end, pass_lists, pass_position, EdgeAndEnd, edge_and_end}
 
 pub record Looked (ps : List PassValue) (e i : ℕ) : Type 0 where
   pub place : pass_position ps e ≡ i + pass_position (drop i ps) e
@@ -27,6 +28,31 @@ looked_more ps e i d inside l apart =
     let front : pass_position (drop i ps) e ≡ suc (pass_position (drop (suc i) ps) e) = ap (λ x. pass_position x e) (drop-cons ps i d inside) ∙ ap (λ b. cond b 0 (suc (pass_position (drop (suc i) ps) e))) no in
     let rest : pass_registers (drop i ps) e ≡ pass_registers (drop (suc i) ps) e = ap (λ x. pass_registers x e) (drop-cons ps i d inside) ∙ ap (λ b. cond b (get_or ps i d).of.registers (pass_registers (drop (suc i) ps) e)) no in
     let at = l.place in record { place = omega arith; registers = sym rest ∙ l.registers }
+
+-- no pass has the edge
+pub looked_all : (ps : List PassValue) (e i : ℕ) → length ps ≤ i → Looked ps e i → pass_position ps e ≡ i
+looked_all ps e i le l = let none : pass_position (drop i ps) e ≡ 0 = ap (λ x. pass_position x e) (drop_all i ps le) in let at = l.place in omega arith
+
+-- an edge with registers has a pass
+pub position_inside : (ps : List PassValue) (e : ℕ) → 0 < pass_registers ps e → pass_position ps e < length ps
+position_inside [] e some = absurd (omega (arith, some))
+position_inside (x ∷ ps) e some = go (eqb x.of.number e) some (position_inside ps e)
+  where
+    go : (b : Bool) → 0 < cond b x.of.registers (pass_registers ps e) → (0 < pass_registers ps e → pass_position ps e < length ps) → cond b 0 (suc (pass_position ps e)) < length (x ∷ ps)
+    go true some f = omega arith
+    go false some f = omega (arith, f some)
+
+-- positions tell of the edges of passes alone
+pub position_kept : (ps qs : List PassValue) (e : ℕ) → map edge_and_end qs ≡ map edge_and_end ps → pass_position qs e ≡ pass_position ps e
+position_kept ps qs e same = by_edges qs ∙ (ap first same ∙ sym (by_edges ps))
+  where
+    first : List EdgeAndEnd → ℕ
+    first [] = 0
+    first (x ∷ xs) = cond (eqb x.of.number e) 0 (suc (first xs))
+
+    by_edges : (ps : List PassValue) → pass_position ps e ≡ first (map edge_and_end ps)
+    by_edges [] = refl
+    by_edges (x ∷ ps) = ap (λ k. cond (eqb x.of.number e) 0 (suc k)) (by_edges ps)
 
 -- what stands at the position of the pass of an edge
 pub record Stood (ps : List PassValue) (e : ℕ) (p : PassValue) : Type 0 where
@@ -154,3 +180,12 @@ acts es ps ns tile v e i seen all same is inside =
         moved = record { tile = ap (λ (y : SharedEndValue). y.tile) seen; passes = r.passes ∙ ap (λ l. map edge_and_end l) at_v };
       };
     }
+
+-- the same where the end is seen as u, which is v
+pub acts_at : (es : List EdgeValue) (ps : List PassValue) (tile : ℕ) (u v : SharedEndValue) (e i : ℕ) → shared_end_value tile ps ≡ u → u ≡ v → All (IsPassOf es) ps → i ≡ pass_position v.passes e → i < length v.passes → Acts es ps tile v e i
+acts_at es ps tile u v e i seen same all is inside = acts es ps v.passes tile v e i (seen ∙ same) all (sym (ap (λ (y : SharedEndValue). y.passes) (seen ∙ same))) is inside
+
+-- the place that is kept stays the place of its edge
+pub place_stays : (ps qs : List PassValue) (tile : ℕ) (u v : SharedEndValue) (e recent place : ℕ) (f : EndLists → EndLists) → shared_end_value tile ps ≡ u → u ≡ v → Acted v e f (shared_end_value tile qs) → place ≡ pass_position ps recent → place ≡ pass_position qs recent
+place_stays ps qs tile u v e recent place f seen same d is =
+    is ∙ (ap (λ (y : SharedEndValue). pass_position y.passes recent) (seen ∙ same) ∙ sym (position_kept v.passes qs recent d.moved.passes))

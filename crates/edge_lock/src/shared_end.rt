@@ -12,36 +12,40 @@ use std::marker::Model;
 /// A try is Busy only if its one exchange found the word of the other end's hold, which names the
 /// attempt. The pass keeps it as a refusal. When the edge is closed, that hold is in the history of
 /// the other end.
+///
+/// The edge that was used last is kept with the position of its pass: an event reads and writes one
+/// edge many times in a row.
 #[derive(Drop)]
 pub struct SharedEnd<'a> {
     edges: &'a [Edge],
     passes: Vec<Pass>,
     tile: u32,
+    recent: u32,
+    place: usize,
 }
 
 impl<'a> Model for SharedEnd<'a> {
-    ghost use Rattle.std.specs.Prelude.{All};
-    ghost use Rattle.edge_lock.specs.SharedEnds.{SharedEndValue, shared_end_value, IsPassOf};
+    ghost use Rattle.std.specs.Prelude.{◌≡◌, All};
+    ghost use Rattle.edge_lock.specs.SharedEnds.{SharedEndValue, shared_end_value, IsPassOf, pass_position};
 
     ghost Value = { SharedEndValue };
 
     ghost view = { λ s. shared_end_value s.tile s.passes.items };
 
-    ghost invariant = { λ s. All (IsPassOf s.edges.now) s.passes.items };
+    ghost invariant = { λ s. All (IsPassOf s.edges.now) s.passes.items × (s.place ≡ pass_position s.passes.items s.recent) };
 }
 
-/// The position of the pass of an edge. A tile has at most eight edges.
+/// The position of the pass of an edge, or the number of passes if none has it. A tile has at most
+/// eight edges.
 fn pass_position(passes: &[Pass], edge: u32) -> usize
-    requires { 0 < pass_registers passes.now edge }
-    ensures is { result ≡ pass_position passes.now edge }
-    ensures inside { result < length passes.now }
+    ensures { result ≡ pass_position passes.now edge }
 {
     for i in 0..passes.len() {
         if passes[i].edge() == edge {
             return i;
         }
     }
-    unreachable!()
+    passes.len()
 }
 
 impl<'a> SharedEnd<'a> {
@@ -52,11 +56,32 @@ impl<'a> SharedEnd<'a> {
         ensures tile { result.tile ≡ tile }
         ensures passes { result.passes ≡ passes.items }
     {
+        let place = pass_position(passes.as_slice(), 0);
         SharedEnd {
             edges,
             passes,
             tile,
+            recent: 0,
+            place,
         }
+    }
+
+    /// The position of the pass of an edge, which is looked for only if another edge was used last.
+    #[inline]
+    #[tactic(auto, using(crate::proofs::PassPositions::position_inside))]
+    fn position(&mut self, edge: u32) -> usize
+        requires { 0 < pass_registers self.old.passes edge }
+        ensures same { self.new ≡ self.old }
+        ensures is { result ≡ pass_position self.old.passes edge }
+        ensures inside { result < length self.old.passes }
+    {
+        if self.recent == edge {
+            return self.place;
+        }
+        let place = pass_position(self.passes.as_slice(), edge);
+        self.recent = edge;
+        self.place = place;
+        place
     }
 
     /// Hands the passes back, in the same order.
@@ -67,6 +92,8 @@ impl<'a> SharedEnd<'a> {
             edges: _,
             passes,
             tile: _,
+            recent: _,
+            place: _,
         } = self;
         passes
     }
@@ -82,22 +109,22 @@ impl<'a> Board for SharedEnd<'a> {
     ghost moved = { SamePasses };
 
     fn try_take(&mut self, edge: u32, attempt: u64) -> Take {
-        let i = pass_position(self.passes.as_slice(), edge);
+        let i = self.position(edge);
         self.edges[edge as usize].try_take(&mut self.passes[i], attempt)
     }
 
     fn read(&mut self, edge: u32, register: u32) -> u64 {
-        let i = pass_position(self.passes.as_slice(), edge);
+        let i = self.position(edge);
         self.edges[edge as usize].read(&mut self.passes[i], register)
     }
 
     fn write(&mut self, edge: u32, register: u32, value: u64) {
-        let i = pass_position(self.passes.as_slice(), edge);
+        let i = self.position(edge);
         self.edges[edge as usize].write(&mut self.passes[i], register, value);
     }
 
     fn give(&mut self, edge: u32) {
-        let i = pass_position(self.passes.as_slice(), edge);
+        let i = self.position(edge);
         self.edges[edge as usize].give(&mut self.passes[i]);
     }
 

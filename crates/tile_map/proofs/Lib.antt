@@ -1,5 +1,6 @@
 pub mod Blocks
 pub mod Degree
+pub mod Few
 pub mod Growing
 pub mod Interior
 pub mod Near

@@ -27,9 +27,12 @@ returns-clause-published g c =
     let d = (g.D.Board.end c.put_bits.new.board).lists in
     let f = (g.D.Board.end c.put_bits-2.new.board).lists in
     let e = c.args.edge in
-    let here = held_adds a b e p.0 c.requires.held p.1 in (
+    let here = held_adds a b e p.0 c.requires.held p.1 in
+    let low = covered_low c.args.sites (nth_place c.args.places.now) (length c.args.places.now) c.requires.places in
+    let mine = q.2 (nth_place c.args.places.now) (length c.args.places.now) c.masks-masks.ensures.masks low in
+    let theirs = r.2 (nth_place c.args.places.now) (length c.args.places.now) c.masks-masks.ensures.masks low in (
       p.0 ++ (q.0 ++ r.0),
       adds_then a b f e p.0 (q.0 ++ r.0) c.requires.held p.1 (adds_then b d f e q.0 r.0 here q.1 r.1),
       publish_whole c.args.sites c.args.end (length c.args.places.now) (cell_at c.args.cells.now) (nth_place c.args.places.now) p.0 q.0 r.0 c.requires.end
-          (covered_low c.args.sites (nth_place c.args.places.now) (length c.args.places.now) c.requires.places) p.2 q.2 r.2,
+          low p.2 mine theirs,
     )

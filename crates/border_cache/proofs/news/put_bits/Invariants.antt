@@ -1,14 +1,11 @@
-use Rattle.std.proofs.Common.{List}
-use Rattle.edge_lock.specs.declared.history.Access.{Access}
-use Rattle.border_cache.specs.Accesses.{Adds}
-use Rattle.border_cache.specs.News.{nth_place, border}
-use Rattle.border_cache.specs.Published.{IsMarked}
+use Rattle.border_cache.specs.Accesses.{AddsSome}
+use Rattle.border_cache.proofs.Marks.{AreBitsBelow}
 use Rattle.edge_lock.specs.EndValues.{SameEnd}
 use Rattle.border_cache.proofs.news.put_bits.Given as goal
 
-abbrev pub invariant-loop-n : goal.invariant-loop-n
-invariant-loop-n g l = record {
-  put : (more : List Access) × Adds (g.D.Board.end l.fn.board).lists (g.D.Board.end l.board).lists l.edge more × IsMarked (border l.sites l.end (nth_place l.places) l.n) l.bit more;
+abbrev pub invariant-loop-word : goal.invariant-loop-word
+invariant-loop-word g l = record {
+  put : AddsSome l.edge (AreBitsBelow l.sites l.end l.bit l.masks l.word) (g.D.Board.end l.fn.board) (g.D.Board.end l.board);
   same : SameEnd (g.D.Board.end l.fn.board) (g.D.Board.end l.board);
   moved : g.D.Board.moved l.fn.board l.board;
 }
