@@ -8,9 +8,11 @@
 
 mod cache;
 mod cell;
+mod cells;
 mod masks;
 mod news;
 mod places;
+mod rows;
 mod view;
 
 pub use cache::Cache;

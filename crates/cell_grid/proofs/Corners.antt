@@ -23,7 +23,7 @@ shift-near : (x w : ℕ) (d : ℤ) → unsigned_abs d ≤ 4 → 4 ≤ x → x + 
 shift-near x w (pos d) h a b = (ap Some (omega (arith, a)), omega (arith, h, a, b), omega (arith, h, a), omega (arith, h, a))
 shift-near x w (negsuc d) h a b = (rw (lt-ltb d x (omega (arith, h, a))) (ap Some (omega (arith, h, a))), omega (arith, h, a, b), omega (arith, h, a), omega (arith, h, a))
 
-from-corner : (a b w p c : ℕ) → (a + b) * w + (p + c) ≡ a * w + p + b * w + c
+pub from-corner : (a b w p c : ℕ) → (a + b) * w + (p + c) ≡ a * w + p + b * w + c
 from-corner a b w p c = let r = add-mul a b w in omega (arith, r)
 
 pub place-inner : (g : GridValue) (calm : List Bool) (x y n : ℕ) → n ≤ 40 → AreCalm g.width g.height g.live calm → 4 ≤ x → x + 4 < g.width → 4 ≤ y → y + 4 < g.height →
@@ -37,7 +37,7 @@ place-inner g calm x y n h k a b c d m =
     let l = k.near x y (x - 4 + from_low dx) (y - 4 + from_low dy) (omega (arith, b)) (omega (arith, d)) sx.1 sy.1 sx.2 sx.3 sy.2 sy.3 m in
     rw (sx.0, sy.0, lt-ltb _ _ sx.1, lt-ltb _ _ sy.1, l) (ap Some (from-corner (y - 4) (from_low dy) g.width (x - 4) (from_low dx)))
 
-corner-below : (a h w p : ℕ) → a + 9 ≤ h → p + 9 ≤ w → a * w + p + 8 * w + 8 < h * w
+pub corner-below : (a h w p : ℕ) → a + 9 ≤ h → p + 9 ≤ w → a * w + p + 8 * w + 8 < h * w
 corner-below a h w p e f = let r = add-mul (a + 9) (h - (a + 9)) w in let s = add-mul a 9 w in let t : a + 9 + (h - (a + 9)) ≡ h = omega (arith, e) in let u = rw t at r in omega (arith, u, s, f)
 
 pub corner-is : (g : GridValue) (calm : List Bool) (x y : ℕ) → IsGrid g → AreCalm g.width g.height g.live calm → 4 ≤ x → x + 4 < g.width → 4 ≤ y → y + 4 < g.height →
@@ -57,7 +57,7 @@ window_of-inner g x y low h =
     (λ k lt. get_or-replicate 41 k true false lt ∙ sym (ap is_some (h.place k (omega (arith, lt))))) in
     rw (a, b) refl
 
-length-with_sites : (atoms : List AtomValue) (low width : ℕ) (from : List AtomValue) (ns : List ℕ) → length (with_sites atoms low width from ns) ≡ length atoms
+pub length-with_sites : (atoms : List AtomValue) (low width : ℕ) (from : List AtomValue) (ns : List ℕ) → length (with_sites atoms low width from ns) ≡ length atoms
 length-with_sites atoms low width from [] = refl
 length-with_sites atoms low width from (n ∷ ns) = length-set (with_sites atoms low width from ns) (inner_place low width n) (get_or from n empty_atom) ∙ length-with_sites atoms low width from ns
 

@@ -95,9 +95,11 @@ fn put_sites_0_to_4(atoms: &mut [Atom], low: usize, width: usize, from: &[Atom; 
     atoms[low + 4 * width + 4] = from[0];
 }
 
-/// Writes the atoms of all 41 sites.
+/// Writes the atoms of all 41 sites of a window that lies wholly inside a plane. The plane holds its
+/// atoms row by row, `width` of them in a row and at most 512. The window's nine rows and nine
+/// columns start at index `low`.
 #[inline]
-pub(crate) fn put_inner(atoms: &mut [Atom], low: usize, width: usize, from: &[Atom; 41])
+pub fn put_inner(atoms: &mut [Atom], low: usize, width: usize, from: &[Atom; 41])
     requires small { width ≤ 512 }
     requires whole { low + 8 * width + 8 < length atoms.old }
     ensures { atoms.new ≡ with_inner atoms.old low width from.now }

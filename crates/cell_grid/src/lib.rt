@@ -14,4 +14,5 @@ mod record;
 
 pub use behave::Behave;
 pub use grid::Grid;
+pub use inner::put_inner;
 pub use record::Record;
