@@ -6,30 +6,18 @@ See README.md beside this file.
 """
 
 import pathlib
-import random
 import subprocess
 import sys
 import tempfile
 import time
 
+sys.path.insert(0, str(pathlib.Path(__file__).resolve().parent))
+sys.dont_write_bytecode = True
+from worlds import lines_of_tries  # noqa: E402
+
 HERE = pathlib.Path(__file__).resolve().parent
 PROGRAM = HERE.parent / "crates/feast/out/feast"
-ATTEMPTS = 1_000_000
-SIDE = 8
 ELEMENT = "element Walker { EventWindow ew; Void behave() { ew.swap(0, 4); } }\n"
-
-
-def write_world(path, tiles):
-    """A world of so many tiles in a square, with its attempts drawn here."""
-    draw = random.Random(1)
-    count = tiles * tiles
-    lines = ["feast 1", f"tiles {tiles} {tiles}", f"size {SIDE} {SIDE}"]
-    for k in range(ATTEMPTS):
-        tile = k * count // ATTEMPTS
-        x = tile % tiles * SIDE + draw.randrange(SIDE)
-        y = tile // tiles * SIDE + draw.randrange(SIDE)
-        lines.append(f"try {tile} {x} {y} {draw.getrandbits(64):016x}")
-    path.write_text("\n".join(lines) + "\n")
 
 
 def timed(words, folder):
@@ -45,7 +33,7 @@ def main():
         folder = pathlib.Path(name)
         (folder / "W").write_text(ELEMENT)
         for tiles in (1, 8):
-            write_world(folder / "world", tiles)
+            (folder / "world").write_text(lines_of_tries(tiles))
             report, _ = timed([program, "step", "world", "W"], folder)
             (folder / "report").write_bytes(report)
             line, seconds = timed([program, "audit", "world", "report", "W"], folder)
@@ -54,4 +42,5 @@ def main():
             print(f"{tiles * tiles} tiles: audit {seconds:.1f} s, rewind {back:.1f} s", flush=True)
 
 
-main()
+if __name__ == "__main__":
+    main()

@@ -18,7 +18,8 @@ import tempfile
 
 sys.path.insert(0, str(pathlib.Path(__file__).resolve().parent))
 sys.dont_write_bytecode = True
-from whole import ELEMENTS, HERE, PROGRAM, build_plain  # noqa: E402
+from whole import HERE, PROGRAM, build_plain  # noqa: E402
+from worlds import SORTERS, WANDERERS, Mix  # noqa: E402
 
 
 @dataclasses.dataclass(frozen=True)
@@ -31,6 +32,7 @@ class Case:
     off: tuple[int, ...] = ()
     scripted: bool = False
     listed: bool = False
+    mix: Mix = dataclasses.field(default=WANDERERS, repr=False)
 
     def text(self, seed: int) -> str:
         """The world, all of it drawn from a seed."""
@@ -70,7 +72,7 @@ class Case:
             for x in range(self.tiles[0] * self.size[0]):
                 if self._tile(x, y) not in self.off and draw.randrange(3) == 0:
                     state = draw.choice(("", f" {draw.getrandbits(71):018x}"))
-                    lines.append(f"atom {x} {y} {draw.choice(('Wander', 'Stone'))}{state}")
+                    lines.append(f"atom {x} {y} {draw.choice(self.mix.shares).name}{state}")
         return lines
 
 
@@ -78,6 +80,7 @@ ALONE = [
     Case((1, 1), (8, 8), 500),
     Case((1, 1), (64, 64), 20_000),
     Case((1, 1), (23, 9), 1_000, scripted=True),
+    Case((1, 1), (20, 20), 20_000, mix=SORTERS),
 ]
 STEPPED = [
     *ALONE,
@@ -89,6 +92,7 @@ STEPPED = [
     Case((3, 3), (20, 17), 1_000, off=(4,), listed=True),
     Case((2, 2), (64, 64), 5_000),
     Case((8, 8), (8, 8), 200),
+    Case((3, 3), (12, 9), 2_000, off=(2,), mix=SORTERS),
 ]
 THREADED = [
     Case((2, 2), (8, 8), 20_000),
@@ -96,6 +100,7 @@ THREADED = [
     Case((3, 3), (10, 8), 5_000, off=(4,)),
     Case((8, 8), (8, 8), 1_000),
     Case((4, 2), (16, 40), 5_000),
+    Case((3, 2), (16, 16), 10_000, mix=SORTERS),
 ]
 
 
@@ -113,7 +118,8 @@ class Bench:
         return self.folder / "elements"
 
     def made(self, case: Case, seed: int) -> pathlib.Path:
-        """The file of a case's world."""
+        """The file of a case's world; that of its elements is made too."""
+        self.elements.write_text(case.mix.text)
         path = self.folder / "world"
         path.write_text(case.text(seed))
         return path
@@ -165,7 +171,6 @@ def main() -> None:
     with tempfile.TemporaryDirectory() as name:
         folder = pathlib.Path(name)
         bench = Bench((given.program or PROGRAM).resolve(), build_plain(folder, given.source), folder)
-        bench.elements.write_text(ELEMENTS)
         for seed in range(given.seeds):
             for form, cases in (("run", ALONE), ("step", STEPPED)):
                 for case in cases:

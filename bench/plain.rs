@@ -1,13 +1,14 @@
 //! The plain program with tiles, as a mark for speed: the machine of docs/machine.md as a Rust programmer would write
 //! it in a day. It has threads, copies of held sites, edges with locks, stamps, news bits, pauses and the report, but
-//! no contracts and no proofs, and its two elements, Wander and Stone, are written out by hand.
+//! no contracts and no proofs, and its four elements are written out by hand: Wander and Stone, and Number and Sorter of
+//! the examples.
 //!
 //!     rustc -O -C target-cpu=x86-64-v2 plain.rs -o plain
 //!     ./plain run WORLD > REPORT     (a thread for each tile)
 //!     ./plain step WORLD > REPORT    (one thread, in the world's order)
 //!
 //! WORLD is a world that `feast` accepts, with atoms of these elements alone; it is not checked. The report of `step`,
-//! and of `run` with one tile, is that of `feast` byte for byte with the elements of whole.py. A report of threads is
+//! and of `run` with one tile, is that of `feast` byte for byte with the elements of worlds.py. A report of threads is
 //! one of many; `feast audit` judges it.
 use std::cell::UnsafeCell;
 use std::io::Write;
@@ -68,8 +69,19 @@ const EMPTY: Atom = 0;
 /// that reads as empty and can't be written.
 const WALL: Atom = Atom::MAX;
 const WANDER: Atom = 1;
-/// The elements in order of their type numbers, from 1.
-const NAMES: [&[u8]; 2] = [b"Wander", b"Stone"];
+const NUMBER: Atom = 3;
+const SORTER: Atom = 4;
+/// The elements in order of their type numbers, from 1. These numbers stay within the program, so elements of several
+/// files can have them side by side.
+const NAMES: [&[u8]; 4] = [b"Wander", b"Stone", b"Number", b"Sorter"];
+
+/// Where the first seven bits of a state lie: the value of a Number, and the last value of a Sorter.
+const VALUE: u32 = 64;
+const VALUE_BITS: Atom = 127 << VALUE;
+
+fn value(atom: Atom) -> Atom {
+    atom & VALUE_BITS
+}
 
 // ---- The shape of tiles
 
@@ -186,18 +198,45 @@ struct Cells {
 }
 
 impl Cells {
-    /// Makes the event of a centre: a Wander goes to one of the four sites beside it if that is empty.
+    /// Makes the event of a centre. A Stone and a Number stay, as do empty sites.
     fn act(&mut self, centre: usize, seed: u64) {
-        if self.atoms[centre] >> TYPE == WANDER {
-            let other = match SplitMix(seed).next() % 4 {
-                0 => centre - 1,
-                1 => centre - self.pitch,
-                2 => centre + self.pitch,
-                _ => centre + 1,
-            };
-            if self.atoms[other] == EMPTY {
-                self.atoms.swap(centre, other);
-            }
+        match self.atoms[centre] >> TYPE {
+            WANDER => self.wander(centre, &mut SplitMix(seed)),
+            SORTER => self.sort(centre, &mut SplitMix(seed)),
+            _ => {}
+        }
+    }
+
+    /// Goes to one of the four sites beside the centre if that is empty.
+    fn wander(&mut self, centre: usize, draws: &mut SplitMix) {
+        let other = match draws.next() % 4 {
+            0 => centre - 1,
+            1 => centre - self.pitch,
+            2 => centre + self.pitch,
+            _ => centre + 1,
+        };
+        if self.atoms[other] == EMPTY {
+            self.atoms.swap(centre, other);
+        }
+    }
+
+    /// Carries a Number from one of three sites to the east two columns to the west of the centre, if that site is
+    /// empty: northwards if it is below the last one, else southwards. Without a Number there the sorter wanders.
+    fn sort(&mut self, centre: usize, draws: &mut SplitMix) {
+        let from = match draws.next() % 3 {
+            0 => centre + 1,
+            1 => centre + 1 - self.pitch,
+            _ => centre + 1 + self.pitch,
+        };
+        let found = self.atoms[from];
+        if found >> TYPE != NUMBER {
+            return self.wander(centre, draws);
+        }
+        let own = self.atoms[centre];
+        let to = if value(found) < value(own) { centre - 2 - self.pitch } else { centre - 2 + self.pitch };
+        if self.atoms[to] == EMPTY {
+            self.atoms[centre] = own & !VALUE_BITS | value(found);
+            self.atoms.swap(from, to);
         }
     }
 
@@ -680,7 +719,7 @@ impl World {
             Some(b"atom") => {
                 let [x, y] = std::array::from_fn(|_| decimal(field()) as usize);
                 let (site, name) = (y * self.width() + x, field());
-                let kind = NAMES.iter().position(|n| *n == name).expect("Wander or Stone") + 1;
+                let kind = NAMES.iter().position(|n| *n == name).expect("Wander, Stone, Number or Sorter") + 1;
                 self.grid[site] = (kind as Atom) << TYPE | fields.next().map_or(0, hexadecimal);
             }
             Some(b"order") if line.starts_with(b"order seed ") => self.order_seed = fields.nth(1).map(decimal),

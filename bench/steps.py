@@ -14,7 +14,8 @@ import tempfile
 
 sys.path.insert(0, str(pathlib.Path(__file__).resolve().parent))
 sys.dont_write_bytecode = True
-from whole import CRATE, ELEMENTS, PROGRAM, world  # noqa: E402
+from whole import CRATE, PROGRAM  # noqa: E402
+from worlds import ELEMENTS, world  # noqa: E402
 
 TILES = 4
 SIDE = 16

@@ -13,7 +13,8 @@ import tempfile
 
 sys.path.insert(0, str(pathlib.Path(__file__).resolve().parent))
 sys.dont_write_bytecode = True
-from whole import ATTEMPTS, CRATE, ELEMENTS, PROGRAM, timed, world  # noqa: E402
+from whole import CRATE, PROGRAM, timed  # noqa: E402
+from worlds import ATTEMPTS, ELEMENTS, world  # noqa: E402
 
 
 def entries(report):

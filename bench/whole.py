@@ -6,37 +6,18 @@ See README.md beside this file.
 """
 
 import pathlib
-import random
 import subprocess
 import sys
 import tempfile
 import time
 
+sys.path.insert(0, str(pathlib.Path(__file__).resolve().parent))
+sys.dont_write_bytecode = True
+from worlds import ATTEMPTS, ELEMENTS, world  # noqa: E402
+
 HERE = pathlib.Path(__file__).resolve().parent
 CRATE = HERE.parent / "crates/feast"
 PROGRAM = CRATE / "out/feast"
-SIDE = 64
-ATTEMPTS = 1_000_000
-ELEMENTS = """element Wander { EventWindow ew; Random random; Void behave() {
-  Unsigned i = random.create(4) + 1; if (ew.isEmpty(i)) ew.swap(0, i); } }
-element Stone { Void behave() { } }
-"""
-
-
-def world(tiles=1, attempts=ATTEMPTS, scripted=False, side=SIDE):
-    """A world of so many tiles each way, with so many attempts together: one site in eight has a Wander, one in eight a Stone."""
-    draw = random.Random(5)
-    lines = ["feast 1", f"tiles {tiles} {tiles}", f"size {side} {side}"]
-    if scripted:
-        lines += [f"try 0 {draw.randrange(side)} {draw.randrange(side)} {draw.getrandbits(64):016x}" for _ in range(attempts)]
-    else:
-        lines += ["seed 7", f"attempts {attempts // tiles**2}"]
-    for y in range(side * tiles):
-        for x in range(side * tiles):
-            kind = draw.randrange(8)
-            if kind < 2:
-                lines.append(f"atom {x} {y} {('Wander', 'Stone')[kind]}")
-    return "\n".join(lines) + "\n"
 
 
 def build_plain(folder, source=HERE / "flat.rs"):

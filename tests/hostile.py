@@ -7,6 +7,7 @@ The tables are the modules of tests/hostile:
   edge      files that can't be loaded, standard output that takes nothing or a part
   memory    each request for memory refused in turn, small address spaces
   elements  element files at their limits and past them, and what never ends
+  bases     element files of a mebibyte with bases of each bad kind, by their time and memory
   texts     worlds, reports and code files of hostile lines and of the greatest length
   fronts    texts cut behind each line and byte, and texts with a change
   workers   runs with a worker for each tile, each report checked
@@ -27,7 +28,7 @@ sys.path.insert(0, str(HERE / "hostile"))
 
 from bench import Bench  # noqa: E402
 
-TABLES = ["words", "edge", "memory", "elements", "texts", "fronts", "workers"]
+TABLES = ["words", "edge", "memory", "elements", "bases", "texts", "fronts", "workers"]
 
 
 def run(program: str, long: bool, table: str) -> bool:

@@ -112,29 +112,6 @@ def repeated(bench: Bench) -> None:
     bench.note(f"{few} heirs of a function of 65,536 instructions: {answer.seconds:.1f} s, {answer.memory >> 20} MiB")
 
 
-def bases(bench: Bench) -> None:
-    """Classes with bases by the thousand, and virtual functions that are declared again and again. What
-    this takes goes with products of their numbers and not with the size (docs/reliability.md)."""
-    rows = [
-        ("virtual functions of one name", 400, lambda n: b"quark A { " + b"virtual Void f(){} " * n + b"} quark B : A { " + b"Void f(){} " * n + b"}",
-         30, lambda text: text.index(b"f(", text.index(b"f(") + 1), b"name declared twice"),
-        ("functions of other types", 400, lambda n: b"quark A { " + b"Void f(){} " * n + b"virtual Void g(){} " * n + b"} quark B : A { " + b"Int f(){} " * n + b"}",
-         30, lambda text: text.index(b"f(", text.index(b"f(") + 1), b"name declared twice"),
-        ("a chain of bases", 8000, lambda n: b"quark A0{}" + b"".join(b"quark A%d:A%d{}" % (k, k - 1) for k in range(1, n)),
-         35, lambda text: text.index(b"A256:"), b"too many"),
-        ("heirs of many members", 1000, lambda n: b"quark A { " + b"Int a;" * n + b"}" + b"".join(b"quark B%d:A{}" % k for k in range(n)),
-         35, lambda text: text.index(b"B255:"), b"too many"),
-    ]
-    for name, most, form, code, at, told in rows:
-        for count in (most // 2, most):
-            text = form(count)
-            bench.write("e", text)
-            answer = bench.call(["check", "e"])
-            line = b"e:1:%d: E%d %s\n" % (at(text) + 1, code, told)
-            bench.expect(f"{count} times: {name}", answer, BAD_ELEMENT, line)
-        bench.note(f"{count} times, {name}: {len(text)} bytes, {answer.seconds:.2f} s, {answer.memory >> 20} MiB")
-
-
 def statements(count: int) -> bytes:
     return b"".join(b"x = x * 3 + %d; if (b) c = c ^ c; while (x < 1) x++; " % i for i in range(count))
 

@@ -7,7 +7,7 @@ import sys
 from bench import Bench, main_of
 from element_ends import without_end
 from element_limits import limits, nesting
-from element_sizes import bases, growing, widest
+from element_sizes import growing, widest
 
 
 def elements(bench: Bench) -> None:
@@ -16,7 +16,6 @@ def elements(bench: Bench) -> None:
     limits(bench)
     without_end(bench)
     widest(bench)
-    bases(bench)
     growing(bench)
 
 

@@ -1,0 +1,74 @@
+"""Calls of programs, measured from outside: their time, and their memory at the peak."""
+
+import dataclasses
+import os
+import pathlib
+import subprocess
+import sys
+
+Words = list[str | pathlib.Path]
+
+# Calls a program from a process that has little memory of its own, since what a process had before it began the
+# program counts at the peak.
+CALL = """import os, sys, time
+begin = time.perf_counter()
+child = os.posix_spawn(sys.argv[1], sys.argv[1:], os.environ)
+_, status, used = os.wait4(child, 0)
+print(time.perf_counter() - begin, used.ru_maxrss, status, file=sys.stderr)
+"""
+
+
+@dataclasses.dataclass(frozen=True)
+class Used:
+    """What a call took: seconds, megabytes at the peak; how it ended, and what it said on standard error."""
+
+    seconds: float
+    megabytes: float
+    status: int
+    told: str
+
+    def shown(self) -> str:
+        """Time and memory."""
+        return f"{self.seconds:.3f} s, {self.megabytes:.0f} MB"
+
+
+class Failed(Exception):
+    """A call that did not end with status 0."""
+
+
+def measured(words: Words, to: str | pathlib.Path = os.devnull) -> Used:
+    """One call, whose output goes to a file."""
+    with open(to, "wb") as out:
+        call = [sys.executable, "-S", "-E", "-c", CALL, *map(str, words)]
+        said = subprocess.run(call, stdout=out, stderr=subprocess.PIPE, stdin=subprocess.DEVNULL, text=True)
+    if said.returncode != 0:
+        raise Failed(f"{words[0]} can't be called: {said.stderr.splitlines()[-1]}")
+    *told, last = said.stderr.splitlines()
+    seconds, kilobytes, status = last.split()
+    return Used(float(seconds), int(kilobytes) / 1024, int(status), "\n".join(told))
+
+
+def made(words: Words, to: str | pathlib.Path = os.devnull) -> Used:
+    """One call that has to end well."""
+    used = measured(words, to)
+    if used.status != 0:
+        raise Failed(f"{' '.join(map(str, words[:3]))} ended with wait status {used.status} {used.told[:200]}")
+    return used
+
+
+def in_turn(calls: dict[str, Words], rounds: int) -> dict[str, Used]:
+    """Several calls in turn, so that their ratios stand on a machine that does other work too.
+
+    For each its least time and its greatest memory of some rounds.
+    """
+    runs: dict[str, list[Used]] = {name: [] for name in calls}
+    for _ in range(rounds):
+        for name, words in calls.items():
+            runs[name].append(made(words))
+    return {name: best(of) for name, of in runs.items()}
+
+
+def best(runs: list[Used]) -> Used:
+    """The run of least time, with the greatest memory of all."""
+    least = min(runs, key=lambda used: used.seconds)
+    return dataclasses.replace(least, megabytes=max(used.megabytes for used in runs))

@@ -1,0 +1,207 @@
+"""The lines of bench/run: each a work of the program, what it takes, and what stands beside it."""
+
+import dataclasses
+import pathlib
+import re
+import shutil
+from typing import Callable, Iterator
+
+from audit import ELEMENT as WALKER
+from calls import Failed, Used, Words, in_turn, made
+from check import source_files
+from worlds import SORTERS, WANDERERS, Mix, lines_of_tries, world
+
+ORDER = "order seed 9\n"
+# What a workers' bench says of its time.
+CLOCK = re.compile(r"^(\d+) nanoseconds from the first attempt to the last$", re.MULTILINE)
+
+
+@dataclasses.dataclass(frozen=True)
+class Aim:
+    """What a figure is to be: at most this, or at least."""
+
+    bound: float
+    at_most: bool = True
+
+    def shown(self, figure: float) -> str:
+        """The aim, and whether the figure reaches it."""
+        reached = figure <= self.bound if self.at_most else figure >= self.bound
+        return f"{'at most' if self.at_most else 'at least'} {self.bound:g}: {'reached' if reached else 'missed'}"
+
+
+def at_least(bound: float) -> Aim:
+    return Aim(bound, at_most=False)
+
+
+@dataclasses.dataclass(frozen=True)
+class Line:
+    """A line of the table: the work and what it takes; what stands beside it; a figure, its unit and its aim."""
+
+    work: str
+    used: str
+    beside: str = ""
+    figure: float | None = None
+    unit: str = ""
+    aim: Aim | None = None
+
+    def shown(self) -> str:
+        """The line as a row of a table."""
+        figure = "" if self.figure is None else f"{self.figure:.2f} {self.unit}"
+        aim = "" if self.aim is None or self.figure is None else self.aim.shown(self.figure)
+        return f"| {self.work} | {self.used} | {self.beside} | {figure} | {aim} |"
+
+
+@dataclasses.dataclass(frozen=True)
+class Bench:
+    """The programs, and the folder of the files; how many attempts a run has, and how many runs a line."""
+
+    program: pathlib.Path
+    workers: pathlib.Path
+    flat: pathlib.Path
+    plain: pathlib.Path
+    folder: pathlib.Path
+    attempts: int
+    rounds: int
+    processors: tuple[int, ...]
+
+    def file(self, name: str, text: str) -> pathlib.Path:
+        """Makes a file."""
+        path = self.folder / name
+        path.write_text(text)
+        return path
+
+    def world(self, tiles: int, mix: Mix = WANDERERS, scripted: bool = False) -> pathlib.Path:
+        """The world of so many tiles each way."""
+        order = "" if scripted or tiles == 1 else ORDER
+        return self.file(f"world-{tiles}", world(tiles, self.attempts, scripted, mix=mix) + order)
+
+    def elements(self, mix: Mix = WANDERERS) -> pathlib.Path:
+        """The elements of worlds."""
+        return self.file("elements", mix.text)
+
+    def same(self, ours: Words, theirs: Words) -> None:
+        """Fails unless both programs write the same report."""
+        for words, name in ((ours, "ours"), (theirs, "theirs")):
+            made(words, self.folder / name)
+        if (self.folder / "ours").read_bytes() != (self.folder / "theirs").read_bytes():
+            raise Failed(f"the reports of {ours[0]} and {theirs[0]} differ")
+
+    def audited(self, where: pathlib.Path, theirs: Words, elements: pathlib.Path) -> None:
+        """Fails unless the report that the plain program's threads make audits to `yes`."""
+        report, verdict = self.folder / "theirs", self.folder / "verdict"
+        made(theirs, report)
+        made([self.program, "audit", where, report, elements], verdict)
+        if verdict.read_text() != "yes\n":
+            raise Failed(f"the audit of the plain program's report says {verdict.read_text().strip()}")
+
+
+def beside(name: str, used: Used) -> str:
+    """Another program, or the same one on other work, and what it takes."""
+    return f"{name} {used.shown()}"
+
+
+def one_tile(bench: Bench) -> Iterator[Line]:
+    """Runs of one tile, drawn and written out, beside the plain program of one tile."""
+    elements = bench.elements()
+    for work, scripted, aim in (("run, one tile", False, Aim(1.4)), ("run, one tile, `try` lines", True, None)):
+        where = bench.world(1, scripted=scripted)
+        calls: dict[str, Words] = {"ours": [bench.program, "run", where, elements], "flat": [bench.flat, where]}
+        bench.same(calls["ours"], calls["flat"])
+        used = in_turn(calls, bench.rounds)
+        ratio = used["ours"].seconds / used["flat"].seconds
+        yield Line(work, used["ours"].shown(), beside("flat.rs", used["flat"]), ratio, "times its time", aim)
+
+
+def compared(bench: Bench, tiles: int, mix: Mix, work: str, price: Aim | None, rate: Aim) -> Iterator[Line]:
+    """A threaded run beside the plain program with tiles, and beside one tile of ours with as many attempts."""
+    elements, alone, many = bench.elements(mix), bench.world(1, mix), bench.world(tiles, mix)
+    calls: dict[str, Words] = {
+        "ours": [bench.program, "run", many, elements],
+        "plain": [bench.plain, "run", many],
+        "alone": [bench.program, "run", alone, elements],
+    }
+    bench.same(calls["alone"], [bench.plain, "run", alone])
+    bench.audited(many, calls["plain"], elements)
+    used = in_turn(calls, bench.rounds)
+    ours = used["ours"]
+    yield Line(work, ours.shown(), beside("plain.rs", used["plain"]), ours.seconds / used["plain"].seconds, "times its time", price)
+    yield Line(work, ours.shown(), beside("one tile of ours", used["alone"]), used["alone"].seconds / ours.seconds, "times its rate", rate)
+
+
+def many_tiles(bench: Bench) -> Iterator[Line]:
+    """Threaded runs with one site in four taken."""
+    for tiles, rate in ((2, 1.0), (8, 0.9)):
+        yield from compared(bench, tiles, WANDERERS, f"run, {tiles} by {tiles} tiles", Aim(1.5), at_least(rate))
+
+
+def sorters(bench: Bench) -> Iterator[Line]:
+    """A threaded run of an element that has more to do."""
+    yield from compared(bench, 8, SORTERS, "run, 8 by 8 tiles, sorters", None, at_least(1.5))
+
+
+def workers(bench: Bench) -> Iterator[Line]:
+    """The workers alone, on all processors and on one, by the clock of their bench."""
+    elements, taskset = bench.elements(), shutil.which("taskset")
+    if not taskset:
+        raise Failed("there is no taskset")
+    for tiles in (2, 8):
+        last = bench.attempts // tiles**2 - 1
+        run: Words = [bench.workers, str(last), "run", bench.world(tiles), elements]
+        rounds = [(workers_seconds(run), workers_seconds([taskset, "-c", str(bench.processors[0]), *run])) for _ in range(bench.rounds)]
+        many, one = (min(seconds) for seconds in zip(*rounds))
+        work, alone = f"workers alone, {tiles} by {tiles} tiles", f"on one processor {one:.3f} s"
+        yield Line(work, f"{many:.3f} s", alone, one / many, "times its rate", at_least(3.5))
+
+
+def workers_seconds(words: Words) -> float:
+    """How long the workers of one run took."""
+    said = CLOCK.search(made(words).told)
+    if not said:
+        raise Failed(f"{words[0]} doesn't say how long its workers took")
+    return int(said[1]) / 1e9
+
+
+def stepped(bench: Bench) -> Iterator[Line]:
+    """Stepped runs, beside those of the plain program with tiles."""
+    elements = bench.elements()
+    for tiles, aim in ((2, None), (8, Aim(1.2))):
+        where = bench.world(tiles)
+        calls: dict[str, Words] = {"ours": [bench.program, "step", where, elements], "plain": [bench.plain, "step", where]}
+        bench.same(calls["ours"], calls["plain"])
+        used = in_turn(calls, bench.rounds)
+        yield Line(f"step, {tiles} by {tiles} tiles", used["ours"].shown(), beside("plain.rs", used["plain"]), used["ours"].seconds, "s", aim)
+
+
+def audits(bench: Bench) -> Iterator[Line]:
+    """An audit of 64 tiles of 8 by 8 sites without atoms, whose tiles made their attempts one after another."""
+    where, elements = bench.file("tries", lines_of_tries(8, attempts=bench.attempts)), bench.file("walker", WALKER)
+    report = bench.folder / "report"
+    made([bench.program, "step", where, elements], report)
+    used = in_turn({"audit": [bench.program, "audit", where, report, elements]}, bench.rounds)["audit"]
+    yield Line("audit, 64 tiles", used.shown(), "", used.seconds, "s", Aim(0.6))
+
+
+def others(bench: Bench) -> Iterator[Line]:
+    """Element files of 1 MB, and a report that is read again, of four tiles stepped."""
+    files = source_files(bench.folder)
+    calls: dict[str, Words] = {f"{form}, 1 MB in {len(files)} files": [bench.program, form, *files] for form in ("check", "code")}
+    where, elements, report = bench.world(2), bench.elements(), bench.folder / "report"
+    made([bench.program, "step", where, elements], report)
+    calls |= {
+        "replay": [bench.program, "replay", where, report, elements],
+        "audit, four tiles": [bench.program, "audit", where, report, elements],
+        "rewind": [bench.program, "rewind", where, report, "1000", elements],
+    }
+    for work, used in in_turn(calls, bench.rounds).items():
+        yield Line(work, used.shown())
+
+
+PARTS: dict[str, Callable[[Bench], Iterator[Line]]] = {
+    "one": one_tile,
+    "many": many_tiles,
+    "sorters": sorters,
+    "workers": workers,
+    "step": stepped,
+    "audit": audits,
+    "others": others,
+}

@@ -1,0 +1,67 @@
+"""Hostile bases: texts of a mebibyte with classes or members by the thousand, and with heirs of heirs, each checked
+within two seconds of processor time and 300 MB; and small files of few names that meet in many ways. What is to be
+said of each comes from a model (base_model.py).
+"""
+from __future__ import annotations
+
+import random
+import sys
+from collections import Counter
+
+from base_draws import drawn
+from base_model import accepted, first_fault
+from base_rows import ROWS, Row
+from base_texts import Class, text_of
+from bench import BAD_ELEMENT, DONE, Answer, Bench, Limits, main_of
+
+MOST_SECONDS = 2.0
+MOST_BYTES = 300_000_000
+# What a call is given at most, so that a program without bounds harms no machine.
+GIVEN = Limits(space=1_500_000_000)
+GIVEN_SECONDS = 20
+
+
+def told(bench: Bench, name: str, classes: list[Class], text: bytes) -> tuple[int, Answer]:
+    """Checks a text, which is to be answered as the model says: its code, or 0, and the answer."""
+    fault = first_fault(classes)
+    bench.write("e", text)
+    answer = bench.call(["check", "e"], GIVEN, seconds=GIVEN_SECONDS)
+    due = fault.line(b"e") if fault else accepted(classes)
+    bench.expect(name, answer, BAD_ELEMENT if fault else DONE, due)
+    return fault.code if fault else 0, answer
+
+
+def tried(bench: Bench, row: Row) -> Answer:
+    """Checks the text of a row: what is said of it, and how long that takes."""
+    classes = row.classes()
+    code, answer = told(bench, row.name, classes, text_of(classes))
+    bench.say(code == row.code, f"{row.name}: the model", f"{code}, not {row.code}")
+    bench.say(answer.seconds <= MOST_SECONDS, f"{row.name}: time", f"{answer.seconds:.2f} s")
+    bench.say(answer.memory <= MOST_BYTES, f"{row.name}: memory", f"{answer.memory >> 20} MiB")
+    return answer
+
+
+def few(bench: Bench) -> None:
+    """Files of few classes and few names."""
+    draw = random.Random(37)
+    codes: Counter[int] = Counter()
+    for number in range(5_000 if bench.long else 300):
+        classes = drawn(draw)
+        code, _ = told(bench, f"file {number} of few classes", classes, text_of(classes).rstrip(b" "))
+        codes[code] += 1
+    bench.note("few classes: " + ", ".join(f"{codes[code]} with {code or 'no fault'}" for code in sorted(codes)))
+
+
+def bases(bench: Bench) -> None:
+    """The table."""
+    few(bench)
+    answers = {row.name: tried(bench, row) for row in ROWS if bench.long or not row.long}
+    slowest = max(answers, key=lambda name: answers[name].seconds)
+    largest = max(answers, key=lambda name: answers[name].memory)
+    bench.note(f"{len(answers)} texts of a mebibyte")
+    bench.note(f"most time: {answers[slowest].seconds:.2f} s, {slowest}")
+    bench.note(f"most memory: {answers[largest].memory >> 20} MiB, {largest}")
+
+
+if __name__ == "__main__":
+    sys.exit(main_of(bases))
