@@ -1,3 +1,4 @@
+pub mod Areas
 pub mod Blocks
 pub mod Degree
 pub mod Few

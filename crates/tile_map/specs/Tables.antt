@@ -1,12 +1,12 @@
 -- What a map keeps: its edges by their ends, the edges and the interior of each tile, and for each edge the numbers of its
 -- shared sites.
-use Rattle.std.specs.Prelude.{ℕ, ◌≡◌, ◌-◌, ◌/◌, ◌%◌, ◌==◌, ◌&&◌, List, Option, None, length, map, filter, flat_map, position, slice_index_or}
+use Rattle.std.specs.Prelude.{ℕ, ◌≡◌, ◌≢◌, ◌-◌, ◌/◌, ◌%◌, ◌<◌, ◌≤◌, ◌==◌, ◌&&◌, List, Option, Some, None, length, map, filter, flat_map, position, slice_index_or}
 use Rattle.std.specs.List.{range_with_len}
 use Rattle.std.specs.Option.{option_and_then}
 use Rattle.tile_map.specs.declared.span.Area.{Area}
 use Rattle.tile_map.specs.Plane.{Site, MapValue, IsMap, site, tiles_of, is_live}
 use Rattle.tile_map.specs.Spans.{left_both, right_both, top_both, bottom_both, inner_low, inner_high, place_within}
-use Rattle.tile_map.specs.Edges.{pairs_of, edges_at}
+use Rattle.tile_map.specs.Edges.{pairs_of, pair_at, shared_of, edges_at}
 
 -- a row of n sites from x on
 abbrev pub row : ℕ → ℕ → ℕ → List Site
@@ -37,6 +37,16 @@ pub record SharedValue : Type 0 where
 abbrev pub shared_value : MapValue → Area → SharedValue
 shared_value m a = record { area = a; numbers = map (number_of (live_in m a)) (sites_in a); count = length (live_in m a) }
 
+-- the columns and rows end within the largest plane
+pub record IsSmall (a : Area) : Type 0 where
+  pub columns : a.columns.end ≤ 512
+  pub rows : a.rows.end ≤ 512
+
+-- the area itself where all its sites are live, and none where fewer are
+abbrev pub IsWholeArea : SharedValue → Option Area → Type 0
+IsWholeArea v None = v.count ≢ length (sites_in v.area)
+IsWholeArea v (Some a) = (a ≡ v.area) × (v.count ≡ length (sites_in v.area)) × IsSmall a
+
 -- the number of the site at (x, y)
 abbrev pub number_at : SharedValue → ℕ → ℕ → Option ℕ
 number_at v x y = option_and_then (λ k. slice_index_or v.numbers k None) (place_within v.area.columns.first v.area.columns.end v.area.rows.first v.area.rows.end x y)
@@ -48,6 +58,11 @@ area_both m p = record { columns = record { first = left_both m p; end = right_b
 -- the sites that two neighbours share
 abbrev pub shared_both : MapValue → ℕ × ℕ → SharedValue
 shared_both m p = shared_value m (area_both m p)
+
+-- the sites that an edge shares are those of an area, row by row; there is no such area where one of its sites is not live
+abbrev pub IsSharedArea : MapValue → ℕ → Option Area → Type 0
+IsSharedArea m e None = length (shared_of m e) < length (sites_in (area_both m (pair_at m e)))
+IsSharedArea m e (Some a) = (shared_of m e ≡ sites_in a) × IsSmall a
 
 -- the sites of tile t's rectangle that are 8 or more from each other tile's rectangle beside it: an event there needs no edge
 abbrev pub interior_of : MapValue → ℕ → Area

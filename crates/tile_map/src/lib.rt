@@ -18,3 +18,4 @@ mod span;
 pub use map::Map;
 pub use needs::Needs;
 pub use plane::Plane;
+pub use span::{Area, Span};

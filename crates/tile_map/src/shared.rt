@@ -1,7 +1,7 @@
 //! The sites that an edge shares.
 
 ghost use Rattle.std.specs.Prelude.{◌≡◌, ◌≤◌, map, IfOk};
-ghost use Rattle.tile_map.specs.Tables.{shared_value, number_at, shared_both};
+ghost use Rattle.tile_map.specs.Tables.{shared_value, number_at, shared_both, IsWholeArea};
 ghost use Rattle.tile_map.specs.Edges.{pairs_of};
 
 use crate::plane::Plane;
@@ -61,6 +61,17 @@ impl SharedSites {
         ensures { result ≡ self.now.count }
     {
         self.count
+    }
+
+    /// The area, if all its sites are live.
+    pub(crate) fn whole_area(&self) -> Option<Area>
+        ensures { IsWholeArea self.now result }
+    {
+        if self.count == self.area.sites() {
+            Some(self.area)
+        } else {
+            None
+        }
     }
 
     /// The number of a site, if it is one of them.

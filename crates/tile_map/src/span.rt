@@ -6,8 +6,10 @@ ghost use Rattle.tile_map.specs.Spans.{inner_low, inner_high, is_within, place_w
 
 /// The coordinates from `first` up to `end` and without it.
 #[derive(Clone, Copy)]
-pub(crate) struct Span {
+pub struct Span {
+    /// The first.
     pub first: u32,
+    /// One more than the last.
     pub end: u32,
 }
 
@@ -83,8 +85,10 @@ impl Span {
 
 /// The sites of some columns and rows.
 #[derive(Clone, Copy)]
-pub(crate) struct Area {
+pub struct Area {
+    /// The columns.
     pub columns: Span,
+    /// The rows.
     pub rows: Span,
 }
 
@@ -107,7 +111,7 @@ impl Area {
     }
 
     /// The place of a site, row by row, if the area has it.
-    pub(crate) fn place_within(self, x: u32, y: u32) -> Option<u32>
+    pub fn place_within(self, x: u32, y: u32) -> Option<u32>
         requires columns { self.columns.end ≤ 512 }
         requires rows { self.rows.end ≤ 512 }
         ensures value { result ≡ place_within self.columns.first self.columns.end self.rows.first self.rows.end x y }
