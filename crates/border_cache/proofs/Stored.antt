@@ -1,9 +1,9 @@
 -- The places of held sites, and cells that are stored at the sites of a window.
-use Rattle.std.proofs.Common.{◌≡◌, ℕ, zero, suc, ◌+◌, ◌-◌, ◌*◌, ◌/◌, ◌%◌, ◌<◌, eqb, Bool, true, false, cond, true≢false, List, [], ◌∷◌, length, get_or, refl, sym, ap, ◌∙◌, subst, arith, ⊎_elim, Option, Some, None, ltb-true}
+use Rattle.std.proofs.Common.{◌≡◌, ℕ, zero, suc, ◌+◌, ◌-◌, ◌*◌, ◌/◌, ◌%◌, ◌<◌, eqb, Bool, true, false, cond, true≢false, List, [], ◌∷◌, length, get_or, replicate, refl, sym, ap, ◌∙◌, subst, arith, ⊎_elim, Option, Some, None, ltb-true}
 use Rattle.std.specs.Prelude.{slice_set, slice_index_or, All}
 use Rattle.std.specs.List.Sorted.{IsStrictlyIncreasing}
 use Rattle.std.proofs.lemmas.Bool.Decides.{nat_tests}
-use Rattle.std.proofs.lemmas.List.{get_or-set_same, get_or-set_other, get_or_default}
+use Rattle.std.proofs.lemmas.List.{get_or-set_same, get_or-set_other, get_or_default, get_or-replicate, length-replicate}
 use Rattle.std.proofs.lemmas.Nat.{mul-add-lt, same_from_place, mod-mul-add, div-mul-add}
 use Rattle.list_laws.proofs.Numbers.{less_or_same}
 use Rattle.tile_map.specs.Plane.{Site, MapValue, site, is_held}
@@ -15,13 +15,15 @@ use Rattle.tile_map.proofs.Near.{window_site-near}
 use Rattle.list_laws.proofs.Tests.{both}
 use Rattle.cell_grid.specs.Grid.{GridValue, site_atom}
 use Rattle.edge_lock.specs.EndLists.{EndLists, IsHeld}
-use Rattle.border_cache.specs.Cells.{CellValue, cell_value, newest}
+use Rattle.bit_field.specs.Atom.{AtomValue}
+use Rattle.border_cache.specs.Cells.{CellValue, cell_value, cells_of, newest}
 use Rattle.border_cache.specs.News.{no_cell, cells_at}
 use Rattle.border_cache.specs.Published.{cell_at}
 use Rattle.border_cache.specs.Windows.{has, end_at, IsEdgeFor, RefreshesAll, PublishesAll, seen_on, centre_of}
-use Rattle.border_cache.specs.Copies.{CacheValue, cache_of, columns_of, rows_of, place_held, held_cell, cell_for, window_cells, Puts, PutsFor, HoldsWindow, IsCentre, IsEndOf, IsFirstCopy, IsFirstRectangle, Stores, Refreshed, copy_at, patch}
+use Rattle.border_cache.specs.Copies.{CacheValue, cache_of, columns_of, rows_of, place_held, held_cell, cell_for, window_cells, Puts, PutsFor, HoldsWindow, IsCentre, IsEndOf, IsFirstCopy, IsFirstRectangle, Stores, Refreshed, copy_at, Patch, patch, AreAtomsIn}
 use Rattle.border_cache.proofs.Apart.{sites_apart}
 use Rattle.border_cache.proofs.Needs.{adds_all_begins}
+use Rattle.border_cache.proofs.Planes.{length-cells, cell_in_both}
 use Rattle.edge_lock.specs.EndValues.{EndValue, SameEnd}
 
 pub place_inside : (m : MapValue) (t : ℕ) (s : Site) → is_held m t s ≡ true → place_held m t s < columns_of m t * rows_of m t
@@ -30,7 +32,7 @@ place_inside m t s h =
     mul-add-lt (s.y - top_of m t) (columns_of m t) (s.x - left_of m t) (rows_of m t) (omega (arith, p.3, p.4)) (omega (arith, p.1, p.2))
 
 -- two held sites of one place are one
-place_one : (m : MapValue) (t : ℕ) (s u : Site) → is_held m t s ≡ true → is_held m t u ≡ true → place_held m t s ≡ place_held m t u → s ≡ u
+pub place_one : (m : MapValue) (t : ℕ) (s u : Site) → is_held m t s ≡ true → is_held m t u ≡ true → place_held m t s ≡ place_held m t u → s ≡ u
 place_one m t s u h k same =
     let p = held_span m t s.x s.y h in
     let q = held_span m t u.x u.y k in
@@ -99,6 +101,14 @@ module _ (c : Site) (k : ℕ) (cells : ℕ → CellValue) (old mid new : CacheVa
       go None at p = past at p
       go (Some u) at p = put u at p
 
+-- a site that was not come to yet has its old cell
+pub waits_still : (c : Site) (k : ℕ) (cells : ℕ → CellValue) (old mid : CacheValue) → k < 41 → HoldsWindow old.map old.tile c → StoresFirst c k cells old mid → window_cells mid c k ≡ window_cells old c k
+waits_still c k cells old mid lt holds v = ap (λ m. cell_for mid (window_site m c k)) v.map ∙ go (window_site old.map c k) refl
+  where
+    go : (o : Option Site) → window_site old.map c k ≡ o → cell_for mid o ≡ cell_for old o
+    go None at = refl
+    go (Some u) at = v.rest u (holds k u lt at) (λ n less is. let e = sites_apart old.map c u n k (omega (arith, less, lt)) lt is at in omega (arith, e, less))
+
 pub stores_all : (c : Site) (cells : ℕ → CellValue) (old new : CacheValue) → StoresFirst c 41 cells old new → Stores c cells old new
 stores_all c cells old new v = record {
   differs = record { map = v.map; tile = v.tile; others = λ s h out. v.rest s h (λ n lt at. true≢false (sym (window_site-near old.map c s n (omega (arith, lt)) at) ∙ out)) };
@@ -108,6 +118,10 @@ stores_all c cells old new v = record {
 -- the owner of a live centre holds the window
 pub centre_holds : (m : MapValue) → IsPlane m → (t : ℕ) (c : Site) → IsCentre m t c → HoldsWindow m t c
 centre_holds m p t c q n s lt at = subst (λ u. is_held m u s ≡ true) q.owned (p.owners.window c s q.live (window_site-near m c s n (omega (arith, lt)) at))
+
+-- the owner of a live centre holds it
+pub centre_held : (m : MapValue) → IsPlane m → (t : ℕ) (c : Site) → IsCentre m t c → is_held m t c ≡ true
+centre_held m p t c q = subst (λ u. is_held m u c ≡ true) q.owned (p.owners.holder c q.live)
 
 -- the columns and rows of a centre
 pub centre_column : (m : MapValue) (t : ℕ) (c : Site) → IsCentre m t c → c.x < m.tx * m.w
@@ -128,6 +142,18 @@ first_copy m t g cells r = record {
       let y : top_of m t + place_held m t s / columns_of m t ≡ s.y = ap (λ n. top_of m t + n) (div-mul-add (s.y - top_of m t) (columns_of m t) (s.x - left_of m t) low) ∙ omega (arith, p.3) in
       r.each (place_held m t s) (place_inside m t s h) ∙ (λ i. cell_value 0 (site_atom g (x i) (y i)));
 }
+
+-- the first cells are the atoms with stamp 0
+first_cells : (g : GridValue) (p : Patch) (atoms : List AtomValue) (n : ℕ) → n ≡ p.width * p.height → AreAtomsIn g p atoms → IsFirstRectangle g p (cells_of (replicate n 0) atoms)
+first_cells g p atoms n is a =
+    let even : length (replicate n 0) ≡ length atoms = length-replicate n 0 ∙ (is ∙ sym a.count) in
+    record {
+      count = length-cells (replicate n 0) atoms even ∙ a.count;
+      each = λ k lt. cell_in_both (replicate n 0) atoms k even ∙ (λ i. cell_value (get_or-replicate n k 0 0 (omega (arith, lt, is)) i) (a.each k lt i));
+    }
+
+pub first_made : (g : GridValue) (p : Patch) (stamps : List ℕ) (atoms : List AtomValue) (cells : List CellValue) → AreAtomsIn g p atoms → stamps ≡ replicate (p.width * p.height) 0 → cells ≡ cells_of stamps atoms → IsFirstRectangle g p cells
+first_made g p stamps atoms cells a zeros is = subst (IsFirstRectangle g p) (sym (is ∙ ap (λ s. cells_of s atoms) zeros)) (first_cells g p atoms (p.width * p.height) refl a)
 
 -- a needed edge is one of the tile's, and the board has it
 pub has_get : (es : List ℕ) (k d : ℕ) → k < length es → has (get_or es k d) es ≡ true

@@ -1,6 +1,6 @@
 -- Cells: an atom with the stamp of the event that left it, the newest of several, and the two words
 -- that represent one.
-use Rattle.std.specs.Prelude.{ℕ, ◌/◌, ◌%◌, ◌^◌, List, [], ◌∷◌, nat_lt, if◌then◌else◌, Option, None, Some}
+use Rattle.std.specs.Prelude.{ℕ, ◌/◌, ◌%◌, ◌^◌, List, [], ◌∷◌, map, nat_lt, if◌then◌else◌, Option, None, Some}
 use Rattle.bit_field.specs.Atom.{AtomValue}
 use Rattle.bit_field.specs.Words.{atom_of}
 
@@ -10,6 +10,16 @@ pub record CellValue : Type 0 where
 
 abbrev pub cell_value : ℕ → AtomValue → CellValue
 cell_value stamp atom = record { stamp = stamp; atom = atom }
+
+-- cells whose stamps and atoms are kept in two lists
+abbrev pub cells_of : List ℕ → List AtomValue → List CellValue
+cells_of [] atoms = []
+cells_of (stamp ∷ stamps) [] = []
+cells_of (stamp ∷ stamps) (atom ∷ atoms) = cell_value stamp atom ∷ cells_of stamps atoms
+
+-- the atoms of cells
+abbrev pub atoms_of : List CellValue → List AtomValue
+atoms_of cells = map (λ cell. cell.atom) cells
 
 -- the cell that two words represent: the low 64 bits of the atom, and the stamp above the high 32
 -- bits of the atom

@@ -2,6 +2,7 @@
 use Rattle.std.specs.Prelude.{ℕ, ◌≡◌, ◌+◌, ◌-◌, ◌*◌, ◌/◌, ◌%◌, ◌<◌, ◌≤◌, if◌then◌else◌, true, false, List, length, slice_index_or, Option, Some, None}
 use Rattle.feast_base.specs.Edges.{registers_of}
 use Rattle.bit_field.specs.Atom.{AtomValue, empty_atom}
+use Rattle.window_sites.specs.Inner.{inner_place}
 use Rattle.window_sites.specs.Window.{WindowValue, atom_at}
 use Rattle.tile_map.specs.Plane.{Site, MapValue, IsMap, site, tiles_of, owner_of, is_live, is_held, in_window}
 use Rattle.tile_map.specs.Spans.{left_of, right_of, top_of, bottom_of}
@@ -58,13 +59,14 @@ abbrev pub PutsFor : Option Site → CellValue → CacheValue → CacheValue →
 PutsFor None cell old new = new ≡ old
 PutsFor (Some s) cell old new = Puts s cell old new
 
--- how a copy is kept: with the left column and the top row of the rectangle that the tile reaches, and its width
-pub record IsCopy (v : CacheValue) (left top width : ℕ) : Type 0 where
+-- how a copy is kept: with the left column and the top row of the rectangle that the tile reaches, and its size
+pub record IsCopy (v : CacheValue) (left top width height : ℕ) : Type 0 where
   pub valid : IsMap v.map
   pub inside : v.tile < tiles_of v.map
   pub left_is : left ≡ left_of v.map v.tile
   pub top_is : top ≡ top_of v.map v.tile
   pub width_is : width ≡ columns_of v.map v.tile
+  pub height_is : height ≡ rows_of v.map v.tile
   pub narrow : columns_of v.map v.tile ≤ 72
   pub short : rows_of v.map v.tile ≤ 72
   pub count : length v.cells ≡ columns_of v.map v.tile * rows_of v.map v.tile
@@ -137,6 +139,20 @@ Published v c edges old new = PublishesAll (centre_of v.map v.tile c) edges (win
 abbrev pub Marked : Site → WindowValue → ℕ → CacheValue → CacheValue → Type 0
 Marked c window stamp old new = Stores c (λ n. cell_value stamp (atom_at window n)) old new
 
+-- the live sites of the window at c have their own atoms and an event's stamp
+abbrev pub Stamped : Site → ℕ → CacheValue → CacheValue → Type 0
+Stamped c stamp old new = Stores c (λ n. cell_value stamp (window_cells old c n).atom) old new
+
+-- site n of the window at c is live, and the tile has its cell at place k
+abbrev pub IsKeptAt : CacheValue → Site → ℕ → ℕ → Type 0
+IsKeptAt v c n k = (s : Site) × (window_site v.map c n ≡ Some s) × (place_held v.map v.tile s ≡ k)
+
+-- all sites of the window at c are live, and `low` is the place of the first of its nine rows and nine columns
+pub record IsCorner (v : CacheValue) (c : Site) (low : ℕ) : Type 0 where
+  pub wide : 9 ≤ columns_of v.map v.tile
+  pub fits : low + 8 * columns_of v.map v.tile + 8 < length v.cells
+  pub kept : (n : ℕ) → n < 41 → IsKeptAt v c n (inner_place low (columns_of v.map v.tile) n)
+
 -- a rectangle of a grid
 pub record Patch : Type 0 where
   pub left : ℕ
@@ -147,11 +163,16 @@ pub record Patch : Type 0 where
 abbrev pub patch : ℕ → ℕ → ℕ → ℕ → Patch
 patch left top width height = record { left = left; top = top; width = width; height = height }
 
--- the cell of place k of a rectangle of a grid
-abbrev pub first_cell : GridValue → ℕ → ℕ → ℕ → ℕ → CellValue
-first_cell g left top width k = cell_value 0 (site_atom g (left + k % width) (top + k / width))
+-- the atom of place k of a rectangle of a grid
+abbrev pub atom_in : GridValue → Patch → ℕ → AtomValue
+atom_in g p k = site_atom g (p.left + k % p.width) (p.top + k / p.width)
+
+-- the atoms of a rectangle of a grid, row by row
+pub record AreAtomsIn (g : GridValue) (p : Patch) (atoms : List AtomValue) : Type 0 where
+  pub count : length atoms ≡ p.width * p.height
+  pub each : (k : ℕ) → k < p.width * p.height → slice_index_or atoms k empty_atom ≡ atom_in g p k
 
 -- the cells of a rectangle of a grid, row by row, each with stamp 0
 pub record IsFirstRectangle (g : GridValue) (p : Patch) (cells : List CellValue) : Type 0 where
   pub count : length cells ≡ p.width * p.height
-  pub each : (k : ℕ) → k < p.width * p.height → slice_index_or cells k no_cell ≡ first_cell g p.left p.top p.width k
+  pub each : (k : ℕ) → k < p.width * p.height → slice_index_or cells k no_cell ≡ cell_value 0 (atom_in g p k)

@@ -1,5 +1,5 @@
 //! A tile's copy of the sites that it holds.
-ghost use Rattle.std.specs.Prelude.{◌≡◌, ◌+◌, ◌*◌, ◌<◌, ◌≤◌, ℕ, length, IsTrue, IfOk};
+ghost use Rattle.std.specs.Prelude.{◌≡◌, ◌+◌, ◌*◌, ◌<◌, ◌≤◌, ℕ, length, IsTrue, IfOk, IfSome};
 ghost use Rattle.bit_field.specs.Atom.{empty_atom};
 ghost use Rattle.tile_map.specs.Plane.{IsMap, site, tiles_of, is_held};
 ghost use Rattle.tile_map.specs.Edges.{window_site, needs_of};
@@ -10,9 +10,10 @@ ghost use Rattle.edge_lock.specs.EndValues.{SameEnd};
 ghost use Rattle.border_cache.specs.Cells.{cell_value};
 ghost use Rattle.border_cache.specs.Published.{cell_at};
 ghost use Rattle.border_cache.specs.Windows.{has, IsView, IsWhole};
-ghost use Rattle.border_cache.specs.Copies.{IsGridOf, IsFirstCopy, patch, IsFirstRectangle, IsCentre, HoldsWindow, IsEndOf, Puts, PutsFor, Stores, at, Refreshed, Published, Marked, place_held, held_cell, window_cells};
+ghost use Rattle.border_cache.specs.Copies.{IsGridOf, IsFirstCopy, patch, AreAtomsIn, IsCentre, HoldsWindow, IsEndOf, Puts, PutsFor, Stores, at, Refreshed, Published, Marked, Stamped, IsCorner, place_held, held_cell, window_cells};
 
 use crate::cell::Cell;
+use crate::cells::Cells;
 use crate::places::{is_whole, publish_needs, refresh_needs, site_at};
 use crate::view::view_of;
 use bit_field::Atom;
@@ -35,7 +36,8 @@ pub struct Cache {
     left: u32,
     top: u32,
     width: u32,
-    cells: Vec<Cell>,
+    height: u32,
+    cells: Cells,
 }
 
 impl Model for Cache {
@@ -43,9 +45,9 @@ impl Model for Cache {
 
     ghost Value = { CacheValue };
 
-    ghost view = { λ c. cache_of c.plane c.tile c.cells.items };
+    ghost view = { λ c. cache_of c.plane c.tile c.cells };
 
-    ghost invariant = { λ c. IsCopy (cache_of c.plane c.tile c.cells.items) c.left c.top c.width };
+    ghost invariant = { λ c. IsCopy (cache_of c.plane c.tile c.cells) c.left c.top c.width c.height };
 }
 
 impl Cache {
@@ -60,14 +62,17 @@ impl Cache {
         let (left, right) = map.columns(tile);
         let (top, bottom) = map.rows(tile);
         let width = right - left;
-        let cells = first_cells(alloc, start, left, top, width, bottom - top)?;
+        let height = bottom - top;
+        let atoms = first_atoms(alloc, start, left, top, width, height)?;
+        let stamps = Vec::from_elem(alloc, 0u32, (width * height) as usize)?;
         Ok(Cache {
             plane,
             tile,
             left,
             top,
             width,
-            cells,
+            height,
+            cells: Cells::new(stamps, atoms),
         })
     }
 
@@ -76,7 +81,7 @@ impl Cache {
         requires { IsTrue (is_held self.now.map self.now.tile (site x y)) }
         ensures { cell_value result.0 result.1 ≡ held_cell self.now (site x y) }
     {
-        let cell = self.cells[self.index(x, y)];
+        let cell = self.cells.get(self.index(x, y));
         (cell.stamp(), cell.atom())
     }
 
@@ -109,7 +114,10 @@ impl Cache {
         ensures { IsView self.now.map (site x y) (window_cells self.now (site x y)) result }
     {
         map.laws();
-        view_of(map, self, x, y)
+        match self.corner(map, x, y) {
+            Some(low) => self.cells.window(low, self.width as usize),
+            None => view_of(map, self, x, y),
+        }
     }
 
     /// Gives each live site of the window at a centre its atom of an event's window and the event's
@@ -120,7 +128,24 @@ impl Cache {
         ensures { Marked (site x y) window.now stamp self.old self.new }
     {
         map.laws();
-        self.mark_sites(map, x, y, window, stamp);
+        match self.corner(map, x, y) {
+            Some(low) => self.cells.mark(low, self.width as usize, window, stamp),
+            None => self.mark_sites(map, x, y, window, stamp),
+        }
+    }
+
+    /// Gives each live site of the window at a centre the event's stamp. Each keeps its atom, and
+    /// all other cells stay.
+    pub fn stamp(&mut self, map: &Map, x: u32, y: u32, stamp: u32)
+        requires map { map.now ≡ self.old.map }
+        requires centre { IsCentre self.old.map self.old.tile (site x y) }
+        ensures { Stamped (site x y) stamp self.old self.new }
+    {
+        map.laws();
+        match self.corner(map, x, y) {
+            Some(low) => self.cells.stamp(low, self.width as usize, stamp),
+            None => self.stamp_sites(map, x, y, stamp),
+        }
     }
 
     /// Writes the cell of each live site of the window at a centre to each needed edge that shares
@@ -153,6 +178,47 @@ impl Cache {
         ((y - self.top) * self.width + (x - self.left)) as usize
     }
 
+    /// Whether a site that the tile holds is so far inside that its window lies in the tile's own
+    /// rectangle. What the tile reaches ends at most 4 outside it.
+    fn is_inner(&self, x: u32, y: u32) -> bool
+        requires { IsTrue (is_held self.now.map self.now.tile (site x y)) }
+        ensures { IsTrue result → IsWhole self.now.map (site x y) }
+    {
+        let column = x - self.left;
+        let row = y - self.top;
+        if column < 8 || row < 8 {
+            return false;
+        }
+        column + 8 < self.width && row + 8 < self.height
+    }
+
+    /// Whether all sites of the window at a centre are live, as the tile's own rectangle tells or
+    /// else the tiles of the corners.
+    fn is_all_live(&self, map: &Map, x: u32, y: u32) -> bool
+        requires map { map.now ≡ self.now.map }
+        requires valid { IsMap map.now }
+        requires centre { IsCentre self.now.map self.now.tile (site x y) }
+        requires held { IsTrue (is_held self.now.map self.now.tile (site x y)) }
+        ensures { IsTrue result → IsWhole self.now.map (site x y) }
+    {
+        self.is_inner(x, y) || is_whole(map, x, y)
+    }
+
+    /// The place at which the nine rows and nine columns around a centre start, if all sites of its
+    /// window are live.
+    fn corner(&self, map: &Map, x: u32, y: u32) -> Option<usize>
+        requires map { map.now ≡ self.now.map }
+        requires centre { IsCentre self.now.map self.now.tile (site x y) }
+        ensures { IfSome result (λ low. IsCorner self.now (site x y) low) }
+    {
+        map.laws();
+        if self.is_all_live(map, x, y) {
+            Some(((y - 4 - self.top) * self.width + (x - 4 - self.left)) as usize)
+        } else {
+            None
+        }
+    }
+
     /// The cells of the window at a centre. Those of sites that are not live mean nothing.
     fn around(&self, map: &Map, x: u32, y: u32) -> [Cell; 41]
         requires map { map.now ≡ self.now.map }
@@ -183,7 +249,7 @@ impl Cache {
         ensures { result ≡ window_cells self.now (site x y) n }
     {
         match site_at(map, x, y, n, whole) {
-            Some((u, v)) => self.cells[self.index(u, v)],
+            Some((u, v)) => self.cells.get(self.index(u, v)),
             None => Cell::new(0, Atom::new(0, 0)),
         }
     }
@@ -213,9 +279,23 @@ impl Cache {
         requires y { y < map.now.ty * map.now.h }
         ensures { Marked (site x y) window.now stamp self.old self.new }
     {
-        let whole = is_whole(map, x, y);
         for n in 0..41u8 {
-            self.put_around(map, x, y, n, whole, Cell::new(stamp, window.get(n)));
+            self.put_around(map, x, y, n, false, Cell::new(stamp, window.get(n)));
+        }
+    }
+
+    /// Gives the live sites of the window at a centre a stamp. Each keeps its atom.
+    fn stamp_sites(&mut self, map: &Map, x: u32, y: u32, stamp: u32)
+        requires map { map.now ≡ self.old.map }
+        requires valid { IsMap map.now }
+        requires holds { HoldsWindow self.old.map self.old.tile (site x y) }
+        requires x { x < map.now.tx * map.now.w }
+        requires y { y < map.now.ty * map.now.h }
+        ensures { Stamped (site x y) stamp self.old self.new }
+    {
+        for n in 0..41u8 {
+            let cell = self.cell_around(map, x, y, n, false);
+            self.put_around(map, x, y, n, false, Cell::new(stamp, cell.atom()));
         }
     }
 
@@ -241,31 +321,30 @@ impl Cache {
         ensures { Puts (site x y) cell self.old self.new }
     {
         let index = self.index(x, y);
-        self.cells[index] = cell;
+        self.cells.set(index, cell);
     }
 }
 
-/// The cells of a rectangle of a grid, each with stamp 0.
-fn first_cells(
+/// The atoms of a rectangle of a grid, row by row.
+fn first_atoms(
     alloc: Global,
     start: &Grid,
     left: u32,
     top: u32,
     width: u32,
     height: u32,
-) -> Result<Vec<Cell>, NoMemory>
+) -> Result<Vec<Atom>, NoMemory>
     requires narrow { width ≤ 72 }
     requires short { height ≤ 72 }
     requires left { left ≤ 512 }
     requires top { top ≤ 512 }
     requires columns { left + width ≤ start.now.width }
     requires rows { top + height ≤ start.now.height }
-    ensures { IfOk result (λ v. IsFirstRectangle start.now (patch left top width height) v.items) }
+    ensures { IfOk result (λ v. AreAtomsIn start.now (patch left top width height) v.items) }
 {
-    let mut cells = Vec::new(alloc);
+    let mut atoms = Vec::new(alloc);
     for place in 0..width * height {
-        let atom = start.get(left + place % width, top + place / width);
-        cells.push(Cell::new(0, atom))?;
+        atoms.push(start.get(left + place % width, top + place / width))?;
     }
-    Ok(cells)
+    Ok(atoms)
 }

@@ -8,8 +8,10 @@
 
 mod cache;
 mod cell;
+mod cells;
 mod news;
 mod places;
+mod rows;
 mod view;
 
 pub use cache::Cache;

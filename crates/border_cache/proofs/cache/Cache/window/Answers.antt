@@ -1,15 +1,28 @@
-use Rattle.std.proofs.Common.{subst}
+use Rattle.std.proofs.Common.{sym, ap, ◌∙◌, subst}
+use Rattle.window_sites.specs.Inner.{inner_window}
 use Rattle.tile_map.specs.Plane.{site}
 use Rattle.tile_map.specs.Laws.{IsPlane}
-use Rattle.border_cache.specs.Copies.{window_cells}
+use Rattle.border_cache.specs.Cells.{atoms_of}
+use Rattle.border_cache.specs.Copies.{cache_of, window_cells, IsCorner}
 use Rattle.border_cache.specs.Windows.{IsView}
 use Rattle.border_cache.proofs.Stored.{centre_holds}
+use Rattle.border_cache.proofs.Given.{view_whole}
 use Rattle.border_cache.proofs.cache.Cache.window.Goals as goal
 
 pub view_of-requires-clause-holds : goal.view_of-requires-clause-holds
 view_of-requires-clause-holds c = centre_holds c.args.self.now.map (subst IsPlane c.requires.map c.laws.ensures.plane) c.args.self.now.tile (site c.args.x c.args.y) c.requires.centre
 
-pub returns : goal.returns
-returns c =
+pub returns-in-Some : goal.returns-in-Some
+returns-in-Some c =
+    let f = c.self.inside in
+    let s = site c.args.x c.args.y in
+    let low = c.in-Some.low in
+    let v = cache_of f.plane f.tile f.cells in
+    let corner = subst (λ w. IsCorner w s low) (sym c.self.view_is) c.in-Some.ensures in
+    let same = ap (inner_window (atoms_of f.cells) low) (sym c.self.invariant.width_is) ∙ sym c.window.ensures in
+    subst (λ w. IsView w.map s (window_cells w s) c.window.result) c.self.view_is (subst (IsView f.plane s (window_cells v s)) same (view_whole v s low corner))
+
+pub returns-in-None : goal.returns-in-None
+returns-in-None c =
     let s = site c.args.x c.args.y in
     subst (λ m. IsView m s (window_cells c.args.self.now s) c.view_of.result) c.requires.map c.view_of.ensures

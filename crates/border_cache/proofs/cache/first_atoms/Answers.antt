@@ -1,6 +1,6 @@
 use Rattle.std.proofs.Common.{arith}
 use Rattle.std.proofs.lemmas.Nat.{rows}
-use Rattle.border_cache.proofs.cache.first_cells.Goals as goal
+use Rattle.border_cache.proofs.cache.first_atoms.Goals as goal
 
 pub overflow_add-left : goal.overflow_add-left
 overflow_add-left c =

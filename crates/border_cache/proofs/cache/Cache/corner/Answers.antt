@@ -1,0 +1,56 @@
+use Rattle.std.proofs.Common.{◌≡◌, ◌+◌, ◌-◌, ◌*◌, length, sym, ap, ◌∙◌, subst, arith}
+use Rattle.tile_map.specs.Plane.{Site, site}
+use Rattle.tile_map.specs.Spans.{left_of, top_of}
+use Rattle.tile_map.specs.Laws.{IsPlane}
+use Rattle.border_cache.specs.Windows.{IsWhole}
+use Rattle.border_cache.specs.Copies.{CacheValue, columns_of, rows_of, IsCentre, IsCorner}
+use Rattle.border_cache.proofs.Stored.{centre_holds, centre_held}
+use Rattle.border_cache.proofs.Corners.{IsInReach, corner_is, whole_in_reach}
+use Rattle.border_cache.proofs.cache.Cache.corner.Goals as goal
+
+-- nine columns and rows around a centre with a whole window are reached
+reach : (v : CacheValue) (c : Site) → IsPlane v.map → IsCentre v.map v.tile c → IsWhole v.map c → IsInReach v.map v.tile c.x c.y
+reach v c plane centre whole = whole_in_reach v.map v.tile c (centre_holds v.map plane v.tile c centre) whole
+
+pub is_all_live-requires-clause-held : goal.is_all_live-requires-clause-held
+is_all_live-requires-clause-held c = centre_held c.args.self.now.map (subst IsPlane c.requires.map c.laws.ensures.plane) c.args.self.now.tile (site c.args.x c.args.y) c.requires.centre
+
+pub overflow_sub-result : goal.overflow_sub-result
+overflow_sub-result c =
+    let h = reach c.args.self.now (site c.args.x c.args.y) (subst IsPlane c.requires.map c.laws.ensures.plane) c.requires.centre (c.is_all_live.ensures c.if-is_all_live.true) in
+    let n = h.north in
+    omega (arith, n)
+
+pub overflow_sub-result-then-is_all_live : goal.overflow_sub-result-then-is_all_live
+overflow_sub-result-then-is_all_live c =
+    let v = c.args.self.now in
+    let h = reach v (site c.args.x c.args.y) (subst IsPlane c.requires.map c.laws.ensures.plane) c.requires.centre (c.is_all_live.ensures c.if-is_all_live.true) in
+    let n = h.north in
+    let t : c.self.inside.top ≡ top_of v.map v.tile = c.self.invariant.top_is ∙ ap (λ w. top_of w.map w.tile) c.self.view_is in
+    omega (arith, n, t)
+
+pub overflow_sub-result-then-is_all_live-2 : goal.overflow_sub-result-then-is_all_live-2
+overflow_sub-result-then-is_all_live-2 c =
+    let h = reach c.args.self.now (site c.args.x c.args.y) (subst IsPlane c.requires.map c.laws.ensures.plane) c.requires.centre (c.is_all_live.ensures c.if-is_all_live.true) in
+    let w = h.west in
+    omega (arith, w)
+
+pub overflow_sub-result-then-is_all_live-3 : goal.overflow_sub-result-then-is_all_live-3
+overflow_sub-result-then-is_all_live-3 c =
+    let v = c.args.self.now in
+    let h = reach v (site c.args.x c.args.y) (subst IsPlane c.requires.map c.laws.ensures.plane) c.requires.centre (c.is_all_live.ensures c.if-is_all_live.true) in
+    let w = h.west in
+    let l : c.self.inside.left ≡ left_of v.map v.tile = c.self.invariant.left_is ∙ ap (λ w. left_of w.map w.tile) c.self.view_is in
+    omega (arith, w, l)
+
+pub returns-then-is_all_live : goal.returns-then-is_all_live
+returns-then-is_all_live c =
+    let v = c.args.self.now in
+    let i = c.self.invariant in
+    let s = site c.args.x c.args.y in
+    let holds = centre_holds v.map (subst IsPlane c.requires.map c.laws.ensures.plane) v.tile s c.requires.centre in
+    let count : length v.cells ≡ columns_of v.map v.tile * rows_of v.map v.tile = subst (λ w. length w.cells ≡ columns_of w.map w.tile * rows_of w.map w.tile) c.self.view_is i.count in
+    let t : c.self.inside.top ≡ top_of v.map v.tile = i.top_is ∙ ap (λ w. top_of w.map w.tile) c.self.view_is in
+    let l : c.self.inside.left ≡ left_of v.map v.tile = i.left_is ∙ ap (λ w. left_of w.map w.tile) c.self.view_is in
+    let w : c.self.inside.width ≡ columns_of v.map v.tile = i.width_is ∙ ap (λ w. columns_of w.map w.tile) c.self.view_is in
+    subst (IsCorner v s) (λ j. (c.args.y - 4 - sym t j) * sym w j + (c.args.x - 4 - sym l j)) (corner_is v s count holds (c.is_all_live.ensures c.if-is_all_live.true))
