@@ -1,13 +1,12 @@
 -- Windows all of whose sites are live, in a tile's copy.
-use Rattle.std.proofs.Common.{◌≡◌, ◌≢◌, ℕ, ◌+◌, ◌-◌, ◌*◌, ◌/◌, ◌%◌, ◌<◌, ◌≤◌, Bool, true, false, true≢false, List, length, get_or, refl, sym, ap, ◌∙◌, subst, arith, Option, Some, None, ltb-true}
-use Rattle.std.specs.Prelude.{ℤ, pos, negsuc, is_some, nat_lt, if◌then◌else◌, slice_index_or}
+use Rattle.std.proofs.Common.{◌≡◌, ℕ, ◌+◌, ◌-◌, ◌*◌, ◌/◌, ◌%◌, ◌<◌, ◌≤◌, Bool, true, false, true≢false, length, refl, sym, ap, ◌∙◌, arith, Option, Some, None}
+use Rattle.std.specs.Prelude.{ℤ, pos, negsuc, is_some, nat_lt, if◌then◌else◌}
 use Rattle.std.specs.Int.RustNames.{unsigned_abs}
-use Rattle.std.proofs.Math.Nat.{add-mul}
 use Rattle.std.proofs.lemmas.Bool.Decides.{nat_tests}
 use Rattle.list_laws.specs.Options.{or_zero}
 use Rattle.list_laws.proofs.Tests.{both, together}
 use Rattle.window_sites.specs.Sites.{sites, offset_of, shifted}
-use Rattle.window_sites.specs.Inner.{from_low, inner_place}
+use Rattle.window_sites.specs.Inner.{from_low}
 use Rattle.window_sites.proofs.Offsets.{offset-near}
 use Rattle.tile_map.specs.Plane.{Site, MapValue, IsMap, site, is_on, is_live}
 use Rattle.tile_map.specs.Spans.{low, high, left_of, right_of, top_of, bottom_of}
@@ -16,8 +15,8 @@ use Rattle.tile_map.proofs.Spans.{held_span, plane_test}
 use Rattle.tile_map.proofs.Near.{div_is}
 use Rattle.cell_grid.proofs.Corners.{from-corner, corner-below}
 use Rattle.border_cache.specs.Windows.{is_shown, IsWhole}
-use Rattle.border_cache.specs.Copies.{CacheValue, columns_of, rows_of, place_held, HoldsWindow, IsCorner, IsKeptAt}
-use Rattle.border_cache.proofs.Whole.{HasCorners, corners_whole}
+use Rattle.border_cache.specs.Copies.{CacheValue, columns_of, rows_of, place_held, HoldsWindow, IsCorner}
+use Rattle.border_cache.proofs.Whole.{corners_whole}
 
 -- a site of a window, and where it lies
 pub record IsSiteAt (m : MapValue) (c : Site) (n : ℕ) (s : Site) : Type 0 where

@@ -1,24 +1,23 @@
 -- Whole windows that are given back to a list of cells, and to a tile's copy.
-use Rattle.std.proofs.Common.{◌≡◌, ◌≢◌, ℕ, zero, suc, ◌+◌, ◌*◌, ◌<◌, ◌≤◌, Bool, true, false, true≢false, List, [], ◌∷◌, length, get_or, replicate, refl, sym, ap, ◌∙◌, subst, arith, ⊎_elim, Option, Some, None}
-use Rattle.std.specs.Prelude.{is_some, slice_index, slice_index_or}
+use Rattle.std.proofs.Common.{◌≡◌, ℕ, zero, suc, ◌+◌, ◌*◌, ◌<◌, ◌≤◌, true, false, true≢false, List, length, get_or, replicate, refl, sym, ap, ◌∙◌, arith, ⊎_elim, Some}
+use Rattle.std.specs.Prelude.{is_some, slice_index_or}
 use Rattle.std.specs.List.{range_with_len}
 use Rattle.std.proofs.lemmas.List.{get_or-set_same, get_or-set_other, get_or-replicate, length-replicate, get_or-map}
 use Rattle.std.proofs.lemmas.List.FromFn.{get_or-map-range_with_len}
 use Rattle.list_laws.proofs.Numbers.{same_or_more}
 use Rattle.bit_field.specs.Atom.{AtomValue, empty_atom}
 use Rattle.window_sites.specs.Inner.{inner_place, inner_atoms, inner_window}
-use Rattle.window_sites.specs.Window.{WindowValue, IsWindow, atom_at}
+use Rattle.window_sites.specs.Window.{WindowValue, atom_at}
 use Rattle.window_sites.proofs.Filled.{length-inner_atoms}
 use Rattle.cell_grid.specs.Inner.{with_sites, with_inner}
 use Rattle.cell_grid.proofs.Corners.{length-with_sites, length-with_inner}
-use Rattle.tile_map.specs.Plane.{Site, MapValue, is_held, in_window}
-use Rattle.tile_map.specs.Edges.{window_site}
+use Rattle.tile_map.specs.Plane.{Site}
 use Rattle.tile_map.proofs.Near.{window_site-near}
 use Rattle.border_cache.specs.Cells.{CellValue, cell_value, cells_of, atoms_of}
 use Rattle.border_cache.specs.News.{no_cell}
-use Rattle.border_cache.specs.Windows.{is_shown, IsView}
+use Rattle.border_cache.specs.Windows.{IsView}
 use Rattle.border_cache.specs.Rows.{IsOutside, GivesWhole, AreStamped, stamped_at}
-use Rattle.border_cache.specs.Copies.{CacheValue, cache_of, columns_of, rows_of, place_held, held_cell, cell_for, window_cells, HoldsWindow, Stores, Stamped, IsCorner}
+use Rattle.border_cache.specs.Copies.{CacheValue, cache_of, columns_of, place_held, cell_for, window_cells, HoldsWindow, Stores, Stamped, IsCorner}
 use Rattle.border_cache.proofs.Planes.{length-cells, cell_in_both}
 use Rattle.border_cache.proofs.InnerPlaces.{inner_inside, inner_apart}
 use Rattle.border_cache.proofs.Stored.{place_one, stores_by}

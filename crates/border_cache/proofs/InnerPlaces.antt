@@ -1,5 +1,5 @@
 -- The places of a window that lies wholly inside a rectangle, and stamps that are given row by row.
-use Rattle.std.proofs.Common.{◌≡◌, ◌≢◌, ℕ, suc, ◌+◌, ◌-◌, ◌*◌, ◌<◌, ◌≤◌, ◌⊎◌, inl, inr, List, refl, sym, ap, ◌∙◌, arith, ⊎_elim}
+use Rattle.std.proofs.Common.{◌≡◌, ◌≢◌, ℕ, ◌+◌, ◌-◌, ◌*◌, ◌<◌, ◌≤◌, ◌⊎◌, inl, inr, List, refl, ap, ◌∙◌, arith, ⊎_elim}
 use Rattle.std.specs.Prelude.{ℤ, pos, negsuc, slice_index}
 use Rattle.std.specs.Int.RustNames.{unsigned_abs}
 use Rattle.std.proofs.lemmas.Bool.{cases_lt}
@@ -9,7 +9,7 @@ use Rattle.tile_map.proofs.Spans.{times_more}
 use Rattle.window_sites.specs.Sites.{offset_of, distance}
 use Rattle.window_sites.specs.Inner.{from_low, inner_place}
 use Rattle.window_sites.proofs.Offsets.{offset-near, offset-one, offset-found}
-use Rattle.border_cache.specs.Rows.{IsRun, AreStamped, IsOutside}
+use Rattle.border_cache.specs.Rows.{IsRun, AreStamped}
 
 -- how many of the nine columns come before the window's run in a row, and after it
 abbrev pub indent : ℕ → ℕ

@@ -1,5 +1,5 @@
 -- Cells whose stamps and atoms are kept in two lists.
-use Rattle.std.proofs.Common.{◌≡◌, ℕ, zero, suc, ◌<◌, List, [], ◌∷◌, length, refl, ap, arith}
+use Rattle.std.proofs.Common.{◌≡◌, ℕ, zero, suc, List, [], ◌∷◌, length, refl, ap, arith}
 use Rattle.std.specs.Prelude.{slice_index, slice_index_or, slice_set}
 use Rattle.bit_field.specs.Atom.{AtomValue, empty_atom}
 use Rattle.border_cache.specs.Cells.{cell_value, cells_of, atoms_of}

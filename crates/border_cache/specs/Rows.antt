@@ -1,6 +1,6 @@
 -- Windows that lie wholly inside a rectangle of cells, which are kept row by row: `width` of them in a row, and the
 -- window's nine rows and nine columns start at place `low`.
-use Rattle.std.specs.Prelude.{ℕ, ◌≡◌, ◌≢◌, ◌+◌, ◌*◌, ◌<◌, ◌≤◌, ◌⊎◌, List, length, slice_index, slice_index_or}
+use Rattle.std.specs.Prelude.{ℕ, ◌≡◌, ◌≢◌, ◌+◌, ◌<◌, ◌≤◌, ◌⊎◌, List, length, slice_index, slice_index_or}
 use Rattle.window_sites.specs.Inner.{inner_place}
 use Rattle.border_cache.specs.Cells.{CellValue, cell_value}
 use Rattle.border_cache.specs.News.{no_cell}

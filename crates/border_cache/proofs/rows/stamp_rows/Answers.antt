@@ -1,5 +1,5 @@
 use Rattle.std.proofs.Common.{arith}
-use Rattle.border_cache.proofs.InnerPlaces.{StampedTo, stamped_none, stamped_more, stamped_all}
+use Rattle.border_cache.proofs.InnerPlaces.{stamped_none, stamped_more, stamped_all}
 use Rattle.border_cache.proofs.rows.stamp_rows.Goals as goal
 
 pub returns-clause-stamped : goal.returns-clause-stamped
