@@ -71,6 +71,30 @@ same_number m meaning end_of old new a b Back s = ap (λ t. t.number) s.is ∙ f
 same_number m meaning end_of old new a b Finished s = ap (λ t. t.number) s.is
 same_number m meaning end_of old new a b Worn s = ap (λ t. t.number) s.is
 
+got_map : (x : Bool) (tile : TileValue) → (got x tile).cache.map ≡ tile.cache.map
+got_map true tile = refl
+got_map false tile = refl
+
+freed_map : (x : Bool) (tile : TileValue) → (freed x tile).cache.map ≡ tile.cache.map
+freed_map true tile = refl
+freed_map false tile = refl
+
+tried_map : (m : MapValue) (tile : TileValue) (r : Take) → (tried m tile r).cache.map ≡ tile.cache.map
+tried_map m tile Got = got_map (nat_lt (tile.next + 1) (length tile.needs)) tile
+tried_map m tile (Busy j) = refl
+
+-- and the map that it was made with
+pub same_map : (m : MapValue) (meaning : WindowValue → ℕ → WindowValue) (end_of : ℕ → ℕ) (old new : TileValue) (a b : ℕ → EndLists) (p : Phase) → StepsIn (rules_of m meaning end_of) (tile_at old a) (tile_at new b) p → new.cache.map ≡ old.cache.map
+same_map m meaning end_of old new a b Draw s = ap (λ t. t.cache.map) s.0.begins.is
+same_map m meaning end_of old new a b Lock s = ap (λ t. t.cache.map) s.is ∙ tried_map m old s.answer
+same_map m meaning end_of old new a b Refresh s = ⊎_elim (λ (w : WearsOut old new s.top s.between b). ap (λ t. t.cache.map) w.is) (λ (w : Renews old new s.top s.between b). w.cells.stores.differs.map) s.step
+same_map m meaning end_of old new a b Behave s = ap (λ t. t.cache.map) s.0.is
+same_map m meaning end_of old new a b Write s = s.marks.differs.map
+same_map m meaning end_of old new a b Give s = ap (λ t. t.cache.map) s.is ∙ freed_map (nat_lt (old.next + 1) (length old.needs)) old
+same_map m meaning end_of old new a b Back s = ap (λ t. t.cache.map) s.is ∙ freed_map (nat_lt (old.next + 1) old.count) old
+same_map m meaning end_of old new a b Finished s = ap (λ t. t.cache.map) s.is
+same_map m meaning end_of old new a b Worn s = ap (λ t. t.cache.map) s.is
+
 -- a tile that was made
 pub fresh_tile : (m : MapValue) → IsPlane m → (g : GridValue) (attempts : List Attempt) (tile : TileValue) → CanAttempt m tile.number attempts → IsFirstCopy m tile.number g tile.cache → tile.left ≡ attempts → tile.taken ≡ 0 → tile.stamp ≡ 0
     → tile.records ≡ [] → tile.abandoned ≡ [] → tile.needs ≡ needs_of m tile.number (centre tile) → tile.phase ≡ over tile.left → IsFreshTile m tile.number (atoms_of g) attempts tile

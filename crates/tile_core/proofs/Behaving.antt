@@ -50,7 +50,7 @@ picked m c s w (suc k) n lt few at = go (is_at (window_site m c k) s) refl (λ l
         (λ (ne : n ≢ k). f (omega (arith, ne, lt)))
 
 module _ (m : MapValue) (meaning : WindowValue → ℕ → WindowValue) (start : Site → AtomValue) (attempts : List Attempt) (tile : TileValue) (a : ℕ → EndLists) (u : IsUnderway (common m meaning start) attempts tile a) (is : tile.phase ≡ Behave) where
-  behaving : InPhase (common m meaning start) attempts u.turns (tile_at tile a) Behave
+  pub behaving : InPhase (common m meaning start) attempts u.turns (tile_at tile a) Behave
   behaving = subst (InPhase (common m meaning start) attempts u.turns (tile_at tile a)) is u.hand
 
   pub behaves_on : (new : TileValue) → Behaves m meaning tile new → Onward (common m meaning start) attempts u.turns (tile_at new a)

@@ -1,5 +1,7 @@
 pub mod Lists
 pub mod Giving
+pub mod Idle
+pub mod Kept
 pub mod Laws
 pub mod Clocking
 pub mod Copies

@@ -21,7 +21,7 @@ use Rattle.border_cache.specs.Copies.{CacheValue, held_cell, window_cells}
 use Rattle.border_cache.proofs.Runs.{known_after}
 use Rattle.tile_core.specs.declared.phase.Phase.{Phase}
 use Rattle.tile_core.specs.declared.phase.Phase.TheVariants.{Write}
-use Rattle.tile_core.specs.Values.{TileValue, centre}
+use Rattle.tile_core.specs.Values.{TileValue, centre, no_window}
 use Rattle.tile_core.specs.Turns.{Wins, Won, AgreeOnEdges, lists_of, lists_left, with_more, one_if, as_open, IsWon, IsEventHold, cell_left, atom_for, own_cell, newest_at, clock_in, greatest, stamp_of, cells_of, common}
 use Rattle.tile_core.specs.Clocks.{WritesClocks}
 use Rattle.tile_core.specs.Underway.{Onward, IsUnderway, InPhase, IsRead, IsRun, HasOpen, still, tile_at}
@@ -182,7 +182,7 @@ module _ (m : MapValue) (meaning : WindowValue → ℕ → WindowValue) (start :
 
     -- the tile after the event, in the phase that follows
     abbrev aim : Phase → TileValue
-    aim q = record tile { cache = copy; stamp = tile.event_stamp; records = tile.records ++ event_entry tile ∷ []; next = 0; phase = q }
+    aim q = record tile { cache = copy; stamp = tile.event_stamp; window = no_window; records = tile.records ++ event_entry tile ∷ []; next = 0; phase = q }
 
     by_length : (es : List ℕ) → tile.needs ≡ es → InPhase (common m meaning start) attempts (Wins won ∷ u.turns) (tile_at (aim (written_phase es tile.left)) d) (written_phase es tile.left)
     by_length [] no_need = over_hand m meaning start attempts (Wins won ∷ u.turns) (aim (over tile.left)) d taken

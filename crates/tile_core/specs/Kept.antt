@@ -1,17 +1,43 @@
 -- What a tile keeps, as contracts see it, and the room in its lists.
-use Rattle.std.specs.Prelude.{ℕ, ◌≡◌, ◌+◌, ◌≤◌, List, length, vec_len, vec_capacity}
+use Rattle.std.specs.Prelude.{ℕ, ◌≡◌, ◌+◌, ◌≤◌, List, length, map, vec_len, vec_capacity, if◌then◌else◌}
 use Rattle.bit_field.specs.Atom.{AtomValue}
 use Rattle.window_sites.specs.Window.{WindowValue}
-use Rattle.tile_map.specs.Plane.{Site, MapValue}
+use Rattle.window_sites.specs.Inner.{site_numbers}
+use Rattle.tile_map.specs.Plane.{Site, MapValue, site}
 use Rattle.draw_stream.specs.declared.attempt.Attempt.{Attempt}
 use Rattle.edge_lock.specs.EndLists.{EndLists}
 use Rattle.edge_lock.specs.EndValues.{EndValue}
+use Rattle.border_cache.specs.Windows.{is_shown}
+use Rattle.border_cache.specs.Copies.{CacheValue, shown_atom}
 use Rattle.tile_core.specs.declared.phase.Phase.{Phase}
 use Rattle.tile_core.specs.declared.phase.Phase.TheVariants.{Draw, Lock, Refresh, Behave, Write, Give, Back, Finished, Worn}
 use Rattle.tile_core.specs.declared.state.State.{State}
-use Rattle.tile_core.specs.Values.{TileValue}
+use Rattle.tile_core.specs.Values.{TileValue, no_window}
 use Rattle.tile_core.specs.Turns.{common}
 use Rattle.tile_core.specs.Underway.{TileAt, tile_at, IsUnderway}
+
+-- the window that the cells at c show
+unfoldable pub window_seen : CacheValue → Site → WindowValue
+window_seen v c = record {
+  atoms = map (shown_atom v.map v c) site_numbers;
+  live = map (is_shown v.map c) site_numbers;
+}
+
+-- an event leaves a window until it is written
+abbrev pub until_written : Phase → WindowValue → WindowValue
+until_written Draw w = no_window
+until_written Lock w = no_window
+until_written Refresh w = no_window
+until_written Behave w = no_window
+until_written Write w = w
+until_written Give w = no_window
+until_written Back w = no_window
+until_written Finished w = no_window
+until_written Worn w = no_window
+
+-- The window that the event left. One at an empty centre leaves it as the cells show it, and a tile keeps no window of it.
+abbrev pub left_window : State → WindowValue
+left_window s = if s.idle then window_seen s.cache (site s.x s.y) else s.window
 
 abbrev pub value_of : State → TileValue
 value_of s = record {
@@ -27,7 +53,7 @@ value_of s = record {
   next = s.next;
   count = s.count;
   event_stamp = s.event_stamp;
-  window = s.window;
+  window = until_written s.phase (left_window s);
   records = s.records.items;
   abandoned = s.abandoned.items;
   phase = s.phase;
@@ -53,6 +79,11 @@ owed Worn = 1
 pub record HasRoom (s : State) : Type 0 where
   pub records : vec_len s.records + owed s.phase + length s.attempts ≤ vec_capacity s.records
   pub abandoned : vec_len s.abandoned + owed s.phase + length s.attempts ≤ vec_capacity s.abandoned
+
+-- each list was made for this many entries, and no more
+pub record Reserves (s : State) (entries : ℕ) : Type 0 where
+  pub records : vec_capacity s.records ≡ entries
+  pub abandoned : vec_capacity s.abandoned ≡ entries
 
 -- in some way the tile is underway, in this phase
 abbrev pub IsIn : MapValue → TileValue → (ℕ → EndLists) → Phase → Type 0

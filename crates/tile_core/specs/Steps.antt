@@ -14,7 +14,7 @@ use Rattle.border_cache.specs.Windows.{IsView, centre_of, PublishesAll}
 use Rattle.border_cache.specs.Copies.{CacheValue, copy_at, window_cells, Refreshed, Marked}
 use Rattle.tile_core.specs.declared.phase.Phase.{Phase}
 use Rattle.tile_core.specs.declared.phase.Phase.TheVariants.{Draw, Lock, Refresh, Behave, Write, Give, Back, Finished, Worn}
-use Rattle.tile_core.specs.Values.{TileValue, centre}
+use Rattle.tile_core.specs.Values.{TileValue, centre, no_window}
 use Rattle.tile_core.specs.Clocks.{ReadsClocks, WritesClocks}
 use Rattle.tile_core.specs.Underway.{TileAt, tile_at}
 
@@ -125,7 +125,7 @@ event_entry tile = record { stamp = tile.event_stamp; tile = tile.number; attemp
 
 -- the tile after it noted its event
 abbrev pub noted : TileValue → TileValue
-noted tile = record tile { stamp = tile.event_stamp; records = tile.records ++ event_entry tile ∷ []; next = 0; phase = written_phase tile.needs tile.left }
+noted tile = record tile { stamp = tile.event_stamp; window = no_window; records = tile.records ++ event_entry tile ∷ []; next = 0; phase = written_phase tile.needs tile.left }
 
 -- Write: the window is marked and published, the clocks are set, and the event is noted
 pub record Writes (m : MapValue) (old new : TileAt) : Type 0 where

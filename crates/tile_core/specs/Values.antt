@@ -1,5 +1,5 @@
 -- What contracts see of a tile.
-use Rattle.std.specs.Prelude.{ℕ, List, Option, Some, None}
+use Rattle.std.specs.Prelude.{ℕ, List, [], Option, Some, None}
 use Rattle.bit_field.specs.Atom.{AtomValue}
 use Rattle.window_sites.specs.Window.{WindowValue}
 use Rattle.tile_map.specs.Plane.{Site, site}
@@ -27,12 +27,16 @@ pub record TileValue : Type 0 where
   -- the place among the needed edges of the one to be tried or freed, and how many of them the tile got before it was refused
   pub next : ℕ
   pub count : ℕ
-  -- the event's stamp, and the window that it left
+  -- the event's stamp, and the window that it left, until that is written
   pub event_stamp : ℕ
   pub window : WindowValue
   pub records : List Record
   pub abandoned : List Abandoned
   pub phase : Phase
+
+-- what a tile has in place of a window while no event is to be written
+abbrev pub no_window : WindowValue
+no_window = record { atoms = []; live = [] }
 
 -- a tile, with what acts on its windows
 pub record TileWith (B : Type 0) : Type 0 where

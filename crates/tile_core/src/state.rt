@@ -1,18 +1,19 @@
 //! What a tile keeps, and its steps.
 ghost use Rattle.std.specs.Prelude.{◌≡◌, ◌<◌, ◌≤◌, ◌+◌, ◌-◌, ◌*◌, ℕ, length, nat_lt, IfOk};
-ghost use Rattle.tile_map.specs.Plane.{tiles_of};
+ghost use Rattle.tile_map.specs.Plane.{site, tiles_of};
 ghost use Rattle.tile_map.specs.Edges.{pairs_of, other_end};
-ghost use Rattle.border_cache.specs.Copies.{IsEndOf, IsGridOf};
+ghost use Rattle.border_cache.specs.Copies.{IsEndOf, IsGridOf, IsCentre, Marked};
 ghost use Rattle.tile_core.specs.declared.phase.Phase.TheVariants.{Draw, Lock, Refresh, Behave, Write, Give, Back};
 ghost use Rattle.edge_lock.specs.EndLists.{EndLists};
 ghost use Rattle.edge_lock.specs.EndValues.{SameEnd};
 ghost use Rattle.tile_core.specs.Underway.{IsSome, CanAttempt, IsFreshTile};
 ghost use Rattle.tile_core.specs.Steps.{rules_of, StepsIn, over, Begins, Draws, Tries, Refreshes, Behaves, Writes, Frees, got, refused, noted};
 ghost use Rattle.tile_core.specs.Values.{atoms_of};
-ghost use Rattle.tile_core.specs.Kept.{value_of, at, owed, IsIn, HasRoom};
+ghost use Rattle.tile_core.specs.Kept.{value_of, at, owed, IsIn, HasRoom, Reserves, left_window};
 
 use crate::clocks::{read_clocks, write_clocks};
 use crate::phase::Phase;
+use bit_field::Atom;
 use border_cache::Cache;
 use cell_grid::{Behave, Grid, Record};
 use draw_stream::{Attempt, Attempts};
@@ -41,6 +42,8 @@ pub(crate) struct State {
     pub next: usize,
     pub count: usize,
     pub event_stamp: u32,
+    /// Whether the event finds an empty centre: it then leaves the window as it is, and none is made.
+    pub idle: bool,
     pub window: Window,
     pub records: Vec<Record>,
     pub abandoned: Vec<Abandoned>,
@@ -81,6 +84,7 @@ impl State {
         requires attempts { CanAttempt map.now tile attempts }
         ensures fresh { IfOk result (λ s. IsFreshTile map.now tile (atoms_of start.now) attempts (value_of s)) }
         ensures room { IfOk result (λ s. HasRoom s) }
+        ensures reserved { IfOk result (λ s. Reserves s (length attempts)) }
     {
         map.laws();
         let cache = Cache::new(alloc, map, tile, start)?;
@@ -103,6 +107,7 @@ impl State {
             next: 0,
             count: 0,
             event_stamp: 0,
+            idle: false,
             window: Window::empty(),
             records,
             abandoned,
@@ -247,6 +252,7 @@ impl State {
     fn begin(&mut self, map: &Map, attempt: Attempt)
         requires tile { self.old.number < tiles_of map.now }
         requires centre { attempt.centre < map.now.w * map.now.h }
+        requires phase { self.old.phase ≡ Draw }
         requires taken { self.old.taken < 1000000 }
         ensures begins { Begins map.now attempt (value_of self.old) (value_of self.new) }
         ensures records { self.new.records ≡ self.old.records }
@@ -287,7 +293,7 @@ impl State {
         self.phase = Phase::Behave;
     }
 
-    /// Runs the event on the window.
+    /// Runs the event on the window. At an empty centre there is nothing to run.
     fn behave<B: Behave>(&mut self, map: &Map, behave: &mut B)
         requires phase { (lists : ℕ → EndLists) × IsIn map.now (value_of self.old) lists Behave }
         requires room { HasRoom self.old }
@@ -295,10 +301,15 @@ impl State {
         ensures room { HasRoom self.new }
         ensures meaning { B.after behave.new ≡ B.after behave.old }
     {
+        map.laws();
+        self.phase = Phase::Write;
+        self.idle = self.cache.cell(self.x, self.y).1 == Atom::new(0, 0);
+        if self.idle {
+            return;
+        }
         let mut window = self.cache.window(map, self.x, self.y);
         behave.act(&mut window, self.seed);
         self.window = window;
-        self.phase = Phase::Write;
     }
 
     /// Marks and publishes the window, sets the clocks and notes the event.
@@ -311,11 +322,25 @@ impl State {
         ensures same { SameEnd (D.end board.old) (D.end board.new) }
         ensures moved { D.moved board.old board.new }
     {
-        self.cache
-            .mark(map, self.x, self.y, &self.window, self.event_stamp);
+        self.mark(map);
         self.cache.publish(map, self.x, self.y, &self.needs, board);
         write_clocks(&self.needs, u64::from(self.event_stamp), board);
         self.noted();
+    }
+
+    /// Gives the sites of the window what the event left, and its stamp.
+    fn mark(&mut self, map: &Map)
+        requires map { map.now ≡ self.old.cache.map }
+        requires centre { IsCentre self.old.cache.map self.old.cache.tile (site self.old.x self.old.y) }
+        ensures marked { Marked (site self.old.x self.old.y) (left_window self.old) self.old.event_stamp self.old.cache self.new.cache }
+        ensures rest { self.new ≡ record self.old { cache = self.new.cache } }
+    {
+        if self.idle {
+            self.cache.stamp(map, self.x, self.y, self.event_stamp);
+        } else {
+            self.cache
+                .mark(map, self.x, self.y, &self.window, self.event_stamp);
+        }
     }
 
     /// Notes the event.

@@ -2,7 +2,7 @@ use Rattle.std.proofs.Common.{ap, ◌∙◌, subst}
 use Rattle.tile_map.specs.Laws.{IsPlane}
 use Rattle.tile_core.specs.Kept.{value_of}
 use Rattle.tile_core.specs.Steps.{StepsIn, rules_of}
-use Rattle.tile_core.proofs.Advance.{steps_on, same_number}
+use Rattle.tile_core.proofs.Advance.{steps_on, same_number, same_map}
 use Rattle.tile_core.specs.Underway.{tile_at}
 use Rattle.tile_core.proofs.tile.Tile.advance.Goals as goal
 
@@ -25,3 +25,10 @@ returns-clause-number g c =
     let f = c.self.inside in
     same_number m (g.B.Behave.after f.behave) (g.D.Board.end c.args.board.now).end_of (value_of f.state) (value_of c.step.new.self) (g.D.Board.end c.args.board.now).lists (g.D.Board.end c.step.new.board).lists f.state.phase c.step.ensures.step
     ∙ ap (λ x. x.core.number) c.self.view_is
+
+pub returns-clause-map : goal.returns-clause-map
+returns-clause-map g c =
+    let m = c.args.map.now in
+    let f = c.self.inside in
+    same_map m (g.B.Behave.after f.behave) (g.D.Board.end c.args.board.now).end_of (value_of f.state) (value_of c.step.new.self) (g.D.Board.end c.args.board.now).lists (g.D.Board.end c.step.new.board).lists f.state.phase c.step.ensures.step
+    ∙ ap (λ x. x.core.cache.map) c.self.view_is
