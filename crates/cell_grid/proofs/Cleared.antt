@@ -1,13 +1,14 @@
 -- Marks of a rectangle cleared one after another.
 use Rattle.std.proofs.Common.{ℕ, ◌≡◌, ◌+◌, ◌-◌, ◌*◌, ◌/◌, ◌%◌, ◌≤◌, ◌<◌, Bool, true, false, ◌&&◌, not, List, length, get_or, refl, sym, subst, ◌∙◌, arith, inl, inr, ◌⊎◌}
+use Rattle.std.specs.Prelude.{nat_lt, if◌then◌else◌}
 use Rattle.std.proofs.lemmas.List.FromFn.{fill_by_all, get_or-map-range_with_len, length-map-range_with_len}
 use Rattle.std.proofs.Math.Nat.{mod-lt, mul_comm, mod-add-div', div-lt_iff_lt-mul}
 use Rattle.std.proofs.lemmas.Nat.{mod-mul-add, div-mul-add, mul-add-lt}
 use Rattle.std.proofs.lemmas.Bool.Decides.{nat_tests}
 use Rattle.bit_field.specs.Atom.{empty_atom}
 use Rattle.cell_grid.specs.Grid.{GridValue, IsGrid}
-use Rattle.cell_grid.specs.Calm.{AreCalm}
-use Rattle.cell_grid.specs.Shut.{Rectangle, is_inside, cleared, shut, IsEmptyIn}
+use Rattle.cell_grid.specs.Calm.{AreCalm, HasDeadNear}
+use Rattle.cell_grid.specs.Shut.{Rectangle, is_inside, cleared, widened, shut, IsEmptyIn}
 
 abbrev kept : List Bool → ℕ → Rectangle → ℕ → Bool
 kept marks width r i = get_or marks i false && not (is_inside r (i % width) (i / width))
@@ -64,26 +65,113 @@ IsGrid-shut g r h empty = record {
       ];
 }
 
--- one rectangle reaches 4 columns and 4 rows further than another
-pub record IsAround (r s : Rectangle) : Type 0 where
-  pub left : s.left ≤ r.left - 4
-  pub top : s.top ≤ r.top - 4
-  pub right : r.right + 4 ≤ s.right
-  pub bottom : r.bottom + 4 ≤ s.bottom
+outside_all : (r : Rectangle) (u v : ℕ) → (nat_lt r.left r.right && nat_lt r.top r.bottom) ≡ false → is_inside r u v ≡ false
+outside_all r u v none = grind (arith, nat_tests, none)
 
-near-inside : (r s : Rectangle) (x y u v : ℕ) → IsAround r s → u ≤ x + 4 → x ≤ u + 4 → v ≤ y + 4 → y ≤ v + 4 → is_inside s x y ≡ false → is_inside r u v ≡ false
-near-inside r s x y u v a b c d e far = let l = a.left in let t = a.top in let ri = a.right in let bo = a.bottom in grind (arith, nat_tests)
+-- what is near no site of the rectangle
+near-inside : (r : Rectangle) (x y u v : ℕ) → u ≤ x + 4 → x ≤ u + 4 → v ≤ y + 4 → y ≤ v + 4 → is_inside (widened r) x y ≡ false → is_inside r u v ≡ false
+near-inside r x y u v b c d e far = go (nat_lt r.left r.right && nat_lt r.top r.bottom) refl far
+  where
+    go : (k : Bool) → (nat_lt r.left r.right && nat_lt r.top r.bottom) ≡ k → is_inside (if k then record { left = r.left - 4; top = r.top - 4; right = r.right + 4; bottom = r.bottom + 4 } else r) x y ≡ false → is_inside r u v ≡ false
+    go true is out = grind (arith, nat_tests, out)
+    go false is out = outside_all r u v is
 
-pub AreCalm-shut : (width height : ℕ) (live calm : List Bool) (r s : Rectangle) → length live ≡ width * height → IsAround r s → AreCalm width height live calm →
-    AreCalm width height (cleared live width r) (cleared calm width s)
-AreCalm-shut width height live calm r s whole around h = record {
-  size = length-cleared calm width s ∙ h.size ∙ sym (length-cleared live width r);
+-- the nearest of some columns, or rows
+clamp : (a b x : ℕ) → a < b → a - 4 ≤ x → x < b + 4 → (u : ℕ) × (a ≤ u) × (u < b) × (u ≤ x + 4) × (x ≤ u + 4)
+clamp a b x some low high = go (order x a) (order x b)
+  where
+    order : (p q : ℕ) → (p < q) ⊎ (q ≤ p)
+    order p q = grind arith
+
+    go : (x < a) ⊎ (a ≤ x) → (x < b) ⊎ (b ≤ x) → (u : ℕ) × (a ≤ u) × (u < b) × (u ≤ x + 4) × (x ≤ u + 4)
+    go (inl h) k = (a, omega arith, some, omega (arith, low), omega (arith, h))
+    go (inr h) (inl k) = (x, h, k, omega arith, omega arith)
+    go (inr h) (inr k) = (b - 1, omega (arith, some), omega (arith, some), omega (arith, k), omega (arith, high, some))
+
+-- a site of the rectangle that is near
+record Reached (r : Rectangle) (x y : ℕ) : Type 0 where
+  pub u : ℕ
+  pub v : ℕ
+  pub inside : is_inside r u v ≡ true
+  pub right : u < r.right
+  pub bottom : v < r.bottom
+  pub columns : (u ≤ x + 4) × (x ≤ u + 4)
+  pub rows : (v ≤ y + 4) × (y ≤ v + 4)
+
+reached : (r : Rectangle) (x y : ℕ) → is_inside (widened r) x y ≡ true → Reached r x y
+reached r x y near = go (nat_lt r.left r.right && nat_lt r.top r.bottom) refl near
+  where
+    go : (k : Bool) → (nat_lt r.left r.right && nat_lt r.top r.bottom) ≡ k → is_inside (if k then record { left = r.left - 4; top = r.top - 4; right = r.right + 4; bottom = r.bottom + 4 } else r) x y ≡ true → Reached r x y
+    go true is within =
+        let p : (r.left < r.right) × (r.top < r.bottom) = grind (arith, nat_tests, is) in
+        let q : (r.left - 4 ≤ x) × (x < r.right + 4) × (r.top - 4 ≤ y) × (y < r.bottom + 4) = grind (arith, nat_tests, within) in
+        let a = clamp r.left r.right x p.0 q.0 q.1 in
+        let b = clamp r.top r.bottom y p.1 q.2 q.3 in
+        record {
+          u = a.0;
+          v = b.0;
+          inside = grind (arith, nat_tests, a.1, a.2, b.1, b.2);
+          right = a.2;
+          bottom = b.2;
+          columns = (a.3, a.4);
+          rows = (b.3, b.4);
+        }
+    go false is within = absurd (cc (outside_all r x y is, within))
+
+false_stays : (a b : Bool) → a ≡ false → (a && b) ≡ false
+false_stays true b h = absurd (cc h)
+false_stays false b h = refl
+
+true_goes : (a b : Bool) → b ≡ true → (a && not b) ≡ false
+true_goes true true h = refl
+true_goes true false h = absurd (cc h)
+true_goes false b h = refl
+
+pub AreCalm-shut : (width height : ℕ) (live calm : List Bool) (r : Rectangle) → length live ≡ width * height → r.right ≤ width → r.bottom ≤ height → AreCalm width height live calm →
+    AreCalm width height (cleared live width r) (cleared calm width (widened r))
+AreCalm-shut width height live calm r whole right bottom h = record {
+  size = length-cleared calm width (widened r) ∙ h.size ∙ sym (length-cleared live width r);
   near = λ x y u v x_in y_in u_in v_in b c d e mark.
-      let i : y * width + x < length live = let q = mul-add-lt y width x height y_in x_in in omega (arith, q, whole) in
-      let j : v * width + u < length live = let q = mul-add-lt v width u height v_in u_in in omega (arith, q, whole) in
-      let m = stays _ _ (sym (get-cleared calm width s (y * width + x) (omega (arith, i, h.size))) ∙ mark) in
-      let far : is_inside s x y ≡ false = rw (mod-mul-add y width x x_in, div-mul-add y width x x_in) at m.1 in
+      let i = place x y x_in y_in in
+      let j = place u v u_in v_in in
+      let m = stays _ _ (sym (get-cleared calm width (widened r) (y * width + x) (omega (arith, i, h.size))) ∙ mark) in
+      let far : is_inside (widened r) x y ≡ false = rw (mod-mul-add y width x x_in, div-mul-add y width x x_in) at m.1 in
       let l = h.near x y u v x_in y_in u_in v_in b c d e m.0 in
-      let out = near-inside r s x y u v around b c d e far in
+      let out = near-inside r x y u v b c d e far in
       get-cleared live width r (v * width + u) j ∙ rw (l, mod-mul-add v width u u_in, div-mul-add v width u u_in, out) refl;
+  unmarked = λ x y x_in y_in mark.
+      let i = place x y x_in y_in in
+      elim (gone _ _ (sym (get-cleared calm width (widened r) (y * width + x) (omega (arith, i, h.size))) ∙ mark)) [
+        | inl was ↦ old x y (h.unmarked x y x_in y_in was)
+        | inr inside ↦ new x y (reached r x y (rw (mod-mul-add y width x x_in, div-mul-add y width x x_in) at inside))
+      ];
 }
+  where
+    place : (u v : ℕ) → u < width → v < height → v * width + u < length live
+    place u v u_in v_in = let q = mul-add-lt v width u height v_in u_in in omega (arith, q, whole)
+
+    old : (x y : ℕ) → HasDeadNear width height live x y → HasDeadNear width height (cleared live width r) x y
+    old x y d = record {
+      u = d.u;
+      v = d.v;
+      column = d.column;
+      row = d.row;
+      columns = d.columns;
+      rows = d.rows;
+      dead = get-cleared live width r (d.v * width + d.u) (place d.u d.v d.column d.row) ∙ false_stays _ _ d.dead;
+    }
+
+    new : (x y : ℕ) → Reached r x y → HasDeadNear width height (cleared live width r) x y
+    new x y d =
+        let column : d.u < width = omega (arith, d.right, right) in
+        let row : d.v < height = omega (arith, d.bottom, bottom) in
+        record {
+          u = d.u;
+          v = d.v;
+          column = column;
+          row = row;
+          columns = d.columns;
+          rows = d.rows;
+          dead = get-cleared live width r (d.v * width + d.u) (place d.u d.v column row)
+              ∙ true_goes _ _ (rw (mod-mul-add d.v width d.u column, div-mul-add d.v width d.u column) d.inside);
+        }

@@ -15,7 +15,7 @@ use Rattle.window_sites.specs.Window.{WindowValue, atom_at}
 use Rattle.window_sites.proofs.Offsets.{offset-near}
 use Rattle.cell_grid.specs.Grid.{GridValue, IsGrid, place_of, seen, window_of, sites_at, atom_left, put_window}
 use Rattle.cell_grid.proofs.Windows.{IsGrid-put}
-use Rattle.cell_grid.specs.Calm.{AreCalm, IsCorner}
+use Rattle.cell_grid.specs.Calm.{AreCalm, IsCalm, IsCorner}
 use Rattle.window_sites.specs.Inner.{inner_place, inner_atoms, inner_window, from_low, site_numbers}
 use Rattle.cell_grid.specs.Inner.{with_inner, with_sites, with_sites_put}
 
@@ -46,6 +46,12 @@ corner-is g calm x y i k a b c d m = record {
   fits = let r = corner-below (y - 4) g.height g.width (x - 4) (omega (arith, c, d)) (omega (arith, a, b)) in let t = mul_comm g.height g.width in omega (arith, r, t, i.whole);
   place = λ n h. place-inner g calm x y n h k a b c d m;
 }
+
+-- a site without a mark has a site near that is not live
+pub not-calm : (g : GridValue) (calm : List Bool) (x y : ℕ) → AreCalm g.width g.height g.live calm → x < g.width → y < g.height → get_or calm (y * g.width + x) false ≡ false → IsCalm g x y → ⊥
+not-calm g calm x y k x_in y_in mark is =
+    let d = k.unmarked x y x_in y_in mark in
+    cc (d.dead, is.live d.u d.v d.columns.0 d.columns.1 d.rows.0 d.rows.1)
 
 -- the window that is read there
 pub window_of-inner : (g : GridValue) (x y low : ℕ) → IsCorner g x y low → inner_window g.atoms low g.width ≡ window_of g x y

@@ -1,5 +1,5 @@
 -- Rectangles of the plane whose sites are made not live.
-use Rattle.std.specs.Prelude.{ℕ, ◌≡◌, ◌+◌, ◌/◌, ◌%◌, ◌<◌, Bool, true, false, ◌&&◌, not, List, length, map, slice_index_or, nat_lt, nat_le}
+use Rattle.std.specs.Prelude.{ℕ, ◌≡◌, ◌+◌, ◌-◌, ◌/◌, ◌%◌, ◌<◌, Bool, true, false, ◌&&◌, not, List, length, map, slice_index_or, nat_lt, nat_le, if◌then◌else◌}
 use Rattle.std.specs.List.{range_with_len}
 use Rattle.bit_field.specs.Atom.{empty_atom}
 use Rattle.cell_grid.specs.Grid.{GridValue, site_atom}
@@ -12,6 +12,10 @@ rectangle x y w h = record { left = x; top = y; right = x + w; bottom = y + h }
 -- whether a site lies in a rectangle
 abbrev pub is_inside : Rectangle → ℕ → ℕ → Bool
 is_inside r u v = (nat_le r.left u && nat_lt u r.right) && (nat_le r.top v && nat_lt v r.bottom)
+
+-- a rectangle with 4 more columns and rows on each side; one with no site stays as it is
+abbrev pub widened : Rectangle → Rectangle
+widened r = if (nat_lt r.left r.right && nat_lt r.top r.bottom) then record { left = r.left - 4; top = r.top - 4; right = r.right + 4; bottom = r.bottom + 4 } else r
 
 -- all sites of the plane in a rectangle are empty
 abbrev pub IsEmptyIn : GridValue → Rectangle → Type 0

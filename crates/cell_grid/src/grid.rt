@@ -1,8 +1,8 @@
 //! A flat grid of atoms: its sites, windows and events.
-ghost use Rattle.std.specs.Prelude.{◌≡◌, false, All, ◌+◌, ◌*◌, ◌≤◌, ◌<◌, ◌^◌, ℕ, IfOk, IfSome, IsSome, None, length, slice_index_or};
+ghost use Rattle.std.specs.Prelude.{◌≡◌, false, All, ◌+◌, ◌*◌, ◌≤◌, ◌<◌, ◌^◌, ℕ, IfOk, IfSome, IsSome, MatchOption, None, length, slice_index_or};
 ghost use Rattle.std.specs.Int.RustNames.{unsigned_abs};
 ghost use Rattle.window_sites.specs.Sites.{shifted};
-ghost use Rattle.cell_grid.specs.Calm.{IsCorner};
+ghost use Rattle.cell_grid.specs.Calm.{IsCalm, IsCorner};
 ghost use Rattle.cell_grid.specs.Grid.{GridValue, IsLive, ArePlanesAlike, empty_grid, site_atom, with_site, place_of, seen, window_of, put_window, event, below};
 ghost use Rattle.cell_grid.specs.Records.{replay};
 ghost use Rattle.cell_grid.specs.Shut.{IsEmptyIn, rectangle, shut};
@@ -25,7 +25,7 @@ pub struct Grid {
     height: u32,
     atoms: Vec<Atom>,
     live: Vec<bool>,
-    /// A site is marked only if every site of the plane within 4 columns and 4 rows is live.
+    /// A site is marked exactly if every site of the plane within 4 columns and 4 rows is live.
     calm: Vec<bool>,
 }
 
@@ -145,14 +145,8 @@ impl Grid {
             right: x + w,
             bottom: y + h,
         };
-        let around = Rectangle {
-            left: x.saturating_sub(4),
-            top: y.saturating_sub(4),
-            right: x + w + 4,
-            bottom: y + h + 4,
-        };
         clear(self.live.as_mut_slice(), width, inside);
-        clear(self.calm.as_mut_slice(), width, around);
+        clear(self.calm.as_mut_slice(), width, inside.widened());
     }
 
     /// The index of site `n` of the window at `(x, y)`, if that site is in the plane and live.
@@ -170,12 +164,12 @@ impl Grid {
         if self.live[i] { Some(i) } else { None }
     }
 
-    /// The index at which the nine rows and nine columns around a site start, if its whole window is
-    /// in the plane and live.
+    /// The index at which the nine rows and nine columns around a site start, if they are all in the
+    /// plane and live.
     fn corner(&self, x: u32, y: u32) -> Option<usize>
         requires column { x < self.now.width }
         requires row { y < self.now.height }
-        ensures { IfSome result (λ low. IsCorner self.now x y low) }
+        ensures { MatchOption result (IsCalm self.now x y → ⊥) (λ low. IsCorner self.now x y low) }
     {
         let width = self.width;
         let height = self.height;

@@ -15,4 +15,5 @@ mod record;
 pub use behave::Behave;
 pub use grid::Grid;
 pub use inner::put_inner;
+pub use marks::Rectangle;
 pub use record::Record;

@@ -1,17 +1,39 @@
 //! The marks of a plane: one for each site, in row order.
 ghost use Rattle.std.specs.Prelude.{◌≡◌, ◌≤◌, ◌*◌, length};
-ghost use Rattle.cell_grid.specs.Shut.{cleared, is_inside};
+ghost use Rattle.cell_grid.specs.Shut.{cleared, is_inside, widened};
 
 /// A rectangle of columns from `left` to below `right` and rows from `top` to below `bottom`.
 #[derive(Clone, Copy, Debug)]
-pub(crate) struct Rectangle {
-    pub(crate) left: u32,
-    pub(crate) top: u32,
-    pub(crate) right: u32,
-    pub(crate) bottom: u32,
+pub struct Rectangle {
+    /// The first column.
+    pub left: u32,
+    /// The first row.
+    pub top: u32,
+    /// One more than the last column.
+    pub right: u32,
+    /// One more than the last row.
+    pub bottom: u32,
 }
 
 impl Rectangle {
+    /// The rectangle with 4 more columns and rows on each side, as far as there are some. One with
+    /// no site stays as it is.
+    pub(crate) fn widened(self) -> Rectangle
+        requires right { self.right ≤ 512 }
+        requires bottom { self.bottom ≤ 512 }
+        ensures { result ≡ widened self }
+    {
+        if self.left >= self.right || self.top >= self.bottom {
+            return self;
+        }
+        Rectangle {
+            left: self.left.saturating_sub(4),
+            top: self.top.saturating_sub(4),
+            right: self.right + 4,
+            bottom: self.bottom + 4,
+        }
+    }
+
     /// Whether a site lies inside the rectangle.
     fn is_inside(&self, u: u32, v: u32) -> bool
         ensures { result ≡ is_inside self.now u v }
