@@ -7,7 +7,7 @@ use Rattle.bit_field.specs.Atom.{AtomValue, empty_atom}
 use Rattle.window_sites.specs.Sites.{sites, offset_of, shifted}
 use Rattle.window_sites.specs.Window.{IsWindow}
 use Rattle.tile_map.specs.Plane.{Site, MapValue, is_live}
-use Rattle.tile_map.specs.Edges.{live_site}
+use Rattle.tile_map.specs.Edges.{live_site, window_site}
 use Rattle.border_cache.specs.Cells.{CellValue}
 use Rattle.border_cache.specs.Windows.{is_shown, IsView}
 
@@ -15,10 +15,13 @@ at_centre : offset_of 0 ≡ (pos 0, pos 0)
 unfolding sites
 at_centre = refl
 
+pub centre_site : (m : MapValue) (c : Site) → is_live m c ≡ true → window_site m c 0 ≡ Some c
+centre_site m c live = ap (λ o. live_site m (shifted c.x o.0) (shifted c.y o.1)) at_centre
+    ∙ (let x : c.x + 0 ≡ c.x = omega arith in let y : c.y + 0 ≡ c.y = omega arith in (λ z. live_site m (Some (x z)) (Some (y z))))
+    ∙ ap (λ b. if b then Some c else None) live
+
 pub centre_shown : (m : MapValue) (c : Site) → is_live m c ≡ true → is_shown m c 0 ≡ true
-centre_shown m c live = ap (λ o. is_some (live_site m (shifted c.x o.0) (shifted c.y o.1))) at_centre
-    ∙ (let x : c.x + 0 ≡ c.x = omega arith in let y : c.y + 0 ≡ c.y = omega arith in (λ z. is_some (live_site m (Some (x z)) (Some (y z))))
-    ∙ ap (λ b. is_some (if b then Some c else None)) live)
+centre_shown m c live = ap is_some (centre_site m c live)
 
 -- one more site of a list
 pub one_more : {A : Type 0} (xs : List A) (d x : A) (f : ℕ → A) (n : ℕ) → n < length xs → x ≡ f n → ((j : ℕ) → j < n → slice_index_or xs j d ≡ f j) → (j : ℕ) → j < n + 1 → slice_index_or (slice_set xs n x) j d ≡ f j
