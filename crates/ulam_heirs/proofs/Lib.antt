@@ -4,10 +4,11 @@ mod Nearest
 mod Chains
 mod Counts
 mod Fronts
-mod Plain
+pub mod Plain
 mod Walks
 mod Copies
 mod Turns
 mod Params
 mod NextFile
+mod MadeFiles
 mod Examples

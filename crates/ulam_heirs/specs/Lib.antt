@@ -3,6 +3,7 @@ pub mod Lines
 pub mod Flat
 pub mod Faults
 pub mod Files
+pub mod Enough
 pub mod Laws
 pub mod Behind
 pub mod Simple
