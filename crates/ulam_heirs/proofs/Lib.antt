@@ -8,6 +8,7 @@ pub mod Plain
 mod Walks
 mod Copies
 mod Turns
+mod Marked
 mod Params
 mod NextFile
 mod MadeFiles
