@@ -1,5 +1,5 @@
 -- Names finds the same in enough of the flat files as in all of them.
-use Rattle.std.proofs.Common.{◌≡◌, ℕ, zero, suc, ◌+◌, ◌<◌, ◌≤◌, ◌⊎◌, inl, inr, refl, sym, ap, subst, ◌∙◌, List, [], ◌∷◌, ◌++◌, length, map, take, drop, Bool, true, false, ◌||◌, cond, Result, Ok, Err, arith, length-append, length-take-le, take-append-drop}
+use Rattle.std.proofs.Common.{◌≡◌, ℕ, ◌+◌, ◌<◌, ◌≤◌, ◌⊎◌, inl, inr, refl, sym, ap, subst, ◌∙◌, List, [], ◌∷◌, ◌++◌, length, map, take, drop, Bool, true, false, ◌||◌, cond, Ok, Err, arith, length-append, length-take-le, take-append-drop}
 use Rattle.std.specs.List.{flat_map, list_all}
 use Rattle.std.proofs.lemmas.Bool.{cases_lt, ltb-true}
 use Rattle.std.proofs.lemmas.List.{map-append, take_all}
@@ -15,7 +15,7 @@ use Rattle.ulam_heirs.specs.Enough.{enough_members, cut_item, cut_items, cut_fil
 use Rattle.ulam_heirs.proofs.Plain.{plain_same}
 use Rattle.ulam_names.specs.Faults.{Fault, Found}
 use Rattle.ulam_names.specs.Scopes.{Names, no_names, small_names}
-use Rattle.ulam_names.specs.Classes.{Known, Half, HalfClass, new_class, class_names, members, half_class, item, items, all_behave, none_cyclic, whole_classes, head_of, member, program}
+use Rattle.ulam_names.specs.Classes.{Known, Half, HalfClass, new_class, class_names, members, item, items, all_behave, none_cyclic, whole_classes, head_of, member, program}
 use Rattle.ulam_names.specs.ClassRelation.{AreKnown, IsMember, AreMembers, AreItems}
 use Rattle.ulam_names.proofs.ClassMeans.{known_means, items_mean}
 
