@@ -1,6 +1,7 @@
 pub mod Acting
 pub mod CodesText
 pub mod Counting
+pub mod EnoughFiles
 pub mod Fitting
 pub mod FormedNames
 pub mod FormedTokens

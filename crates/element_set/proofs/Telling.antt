@@ -1,5 +1,5 @@
 -- From what the stages' calls promise to what a call answers by a stage.
-use Rattle.std.proofs.Common.{ℕ, ◌≡◌, ◌⊎◌, List, [], ◌∷◌, ◌++◌, map, Result, Ok, Err, refl, sym, ap, subst, inl, inr}
+use Rattle.std.proofs.Common.{ℕ, ◌≡◌, ◌⊎◌, List, [], ◌∷◌, ◌++◌, map, Result, Ok, Err, refl, sym, ap, subst, inl, inr, ◌∙◌}
 use Rattle.std.specs.List.{flat_map}
 use Rattle.std.specs.Result.{IsErrAnd}
 use Rattle.feast_base.specs.Stages.{Stage, and_then}
@@ -13,6 +13,10 @@ use Rattle.ulam_tree.specs.RawViews.{file_of}
 use Rattle.ulam_tree.specs.declared.raw.File.{File}
 use Rattle.ulam_tree.specs.Found.{fault_of}
 use Rattle.ulam_names.specs.Classes as names
+use Rattle.ulam_names.specs.ClassRelation.{IsResolved}
+use Rattle.ulam_names.proofs.ClassFits.{program_fits}
+use Rattle.ulam_names.proofs.ClassMeans.{program_means}
+use Rattle.ulam_tree.proofs.Means.{means_at}
 use Rattle.ulam_names.specs.Shown.{Fails as NameFails}
 use Rattle.ulam_names.specs.declared.fault.NameFault.{NameFault}
 use Rattle.ulam_names.specs.declared.fault.NameFault.TheVariants as n
@@ -26,7 +30,7 @@ use Rattle.code_gen.specs.Compiling.{Compiles}
 use Rattle.code_gen.specs.declared.fault.GenFault.{GenFault}
 use Rattle.code_gen.specs.declared.fault.GenFault.TheVariants as g
 use Rattle.element_set.specs.Faults.{refusal, lex_fault, name_fault, type_fault, gen_fault}
-use Rattle.element_set.specs.Stages.{lexed, named, typed, coded}
+use Rattle.element_set.specs.Stages.{lexed, named, named_set, typed, coded}
 use Rattle.element_set.specs.Value.{SetValue, program_of}
 use Rattle.element_set.specs.Told.{Tells}
 
@@ -90,3 +94,23 @@ gen_told X value s g.NoMemory h = tt
 pub joined : (files : List File) → flat_map file_of files ≡ flat_map (λ (f : List Item). f) (map file_of files)
 joined [] = refl
 joined (f ∷ fs) = ap (λ xs. file_of f ++ xs) (joined fs)
+
+-- items of which names finds the same
+
+abbrev SameProgram : List Item → List Item → Type 0
+SameProgram xs ys = names.program xs ≡ names.program ys
+
+named_like : (xs ys : List Item) → SameProgram xs ys → (o : Result (List r.Class) Refusal) → named xs o → named ys o
+named_like xs ys e (Ok cs) h = means_at (IsResolved ys) (names.program ys) cs (program_means ys) (sym e ∙ program_fits xs cs h)
+named_like xs ys e (Err s) h = (h.0, sym (ap fault_of e) ∙ h.1, h.2)
+
+named_set_like : (xs ys : List Item) → SameProgram xs ys → (o : Result SetValue Refusal) → named_set xs o → named_set ys o
+named_set_like xs ys e (Ok u) (inl h) = absurd h
+named_set_like xs ys e (Ok u) (inr h) = inr (record { value = h.value; passed = named_like xs ys e (Ok h.value) h.passed; rest = h.rest })
+named_set_like xs ys e (Err s) (inl h) = inl (named_like xs ys e (Err s) h)
+named_set_like xs ys e (Err s) (inr h) = inr (record { value = h.value; passed = named_like xs ys e (Ok h.value) h.passed; rest = h.rest })
+
+pub tells_like : {X : Type 0} (value : X → SetValue) (xs ys : List Item) → SameProgram xs ys → (o : Result X BuildFault) → Tells value (named_set xs) o → Tells value (named_set ys) o
+tells_like value xs ys e (Ok x) t = named_set_like xs ys e (Ok (value x)) t
+tells_like value xs ys e (Err (Refused s)) t = (named_set_like xs ys e (Err s) t.0, t.1)
+tells_like value xs ys e (Err NoMemory) t = tt

@@ -4,10 +4,12 @@ mod Nearest
 mod Chains
 mod Counts
 mod Fronts
-mod Plain
+pub mod Plain
 mod Walks
 mod Copies
 mod Turns
+mod Marked
 mod Params
 mod NextFile
+mod MadeFiles
 mod Examples

@@ -1,7 +1,7 @@
 -- One more class, file or item of a list that a loop goes over.
-use Rattle.std.proofs.Common.{◌≡◌, ℕ, zero, suc, ◌+◌, ◌<◌, refl, sym, ap, ◌∙◌, List, [], ◌∷◌, ◌++◌, length, map, get_or, take, drop, Bool, true, false, ◌||◌, Some, None, add-one, append_assoc}
+use Rattle.std.proofs.Common.{◌≡◌, ℕ, zero, suc, ◌+◌, ◌<◌, ◌≤◌, refl, sym, ap, ◌∙◌, List, [], ◌∷◌, ◌++◌, length, map, get_or, take, drop, Bool, true, false, ◌||◌, Some, None, add-one, append_assoc, arith}
 use Rattle.std.specs.Prelude.{slice_get}
-use Rattle.std.proofs.lemmas.List.{at_drop_more, take_more, map-append}
+use Rattle.std.proofs.lemmas.List.{at_drop_more, take_more, take_all, drop_all, append-nil, map-append, length-map}
 use Rattle.ulam_tree.specs.Raw.{Member, Item}
 use Rattle.ulam_tree.specs.RawViews.{member_of}
 use Rattle.ulam_tree.specs.declared.raw.Member.{Member as RawMember}
@@ -20,20 +20,42 @@ taken_on xs i x lt is =
     ∙ map-append heir_of (take i xs) (get_or xs i x ∷ [])
     ∙ ap (λ (y : CodeHeir). heirs_of (take i xs) ++ (heir_of y ∷ [])) (sym is)
 
-pub flat_on : (xs : List CodeHeir) (found more : List RawMember) (i : ℕ) (x : CodeHeir) (before later : List CodeHeir) → i < length xs → x ≡ get_or xs i x → before ≡ take i xs → later ≡ drop (i + 1) xs →
-    map member_of more ≡ map member_of found ++ own_members (heirs_of before) (heir_of x) (heirs_of later) →
-    map member_of found ++ flat_behind (heirs_of (take i xs)) (heirs_of (drop i xs)) ≡ map member_of more ++ flat_behind (heirs_of (take (i + 1) xs)) (heirs_of (drop (i + 1) xs))
-flat_on xs found more i x before later lt is b l e =
+take_front : {A : Type 0} (n : ℕ) (a b : List A) → take n (take n a ++ b) ≡ take n (a ++ b)
+take_front zero a b = refl
+take_front (suc n) [] b = refl
+take_front (suc n) (x ∷ a) b = ap (λ z. x ∷ z) (take_front n a b)
+
+-- the first n members, with one more class
+pub flat_on : (n : ℕ) (xs : List CodeHeir) (found more : List RawMember) (i : ℕ) (x : CodeHeir) (before later : List CodeHeir) → i < length xs → x ≡ get_or xs i x → before ≡ take i xs → later ≡ drop (i + 1) xs →
+    take n (map member_of more) ≡ take n (map member_of found ++ own_members (heirs_of before) (heir_of x) (heirs_of later)) →
+    take n (map member_of found ++ flat_behind (heirs_of (take i xs)) (heirs_of (drop i xs))) ≡ take n (map member_of more ++ flat_behind (heirs_of (take (i + 1) xs)) (heirs_of (drop (i + 1) xs)))
+flat_on n xs found more i x before later lt is b l e =
     let front : List Member = map member_of found in
     let taken : List Heir = heirs_of (take i xs) in
     let rest : List Heir = heirs_of (drop (i + 1) xs) in
-    let own : map member_of more ≡ front ++ own_members taken (heir_of x) rest =
-    e ∙ ap (λ (zs : List CodeHeir). front ++ own_members (heirs_of zs) (heir_of x) (heirs_of later)) b ∙ ap (λ (zs : List CodeHeir). front ++ own_members taken (heir_of x) (heirs_of zs)) l in
-    at_drop_more (λ (zs : List CodeHeir). front ++ flat_behind taken (heirs_of zs)) xs i x lt
-    ∙ ap (λ (y : CodeHeir). front ++ flat_behind taken (heir_of y ∷ rest)) (sym is)
-    ∙ sym (append_assoc front (own_members taken (heir_of x) rest) (flat_behind (taken ++ (heir_of x ∷ [])) rest))
-    ∙ ap (λ zs. zs ++ flat_behind (taken ++ (heir_of x ∷ [])) rest) (sym own)
-    ∙ ap (λ zs. map member_of more ++ flat_behind zs rest) (sym (taken_on xs i x lt is))
+    let behind : List Member = flat_behind (taken ++ (heir_of x ∷ [])) rest in
+    let own : take n (map member_of more) ≡ take n (front ++ own_members taken (heir_of x) rest) =
+    e ∙ ap (λ (zs : List CodeHeir). take n (front ++ own_members (heirs_of zs) (heir_of x) (heirs_of later))) b ∙ ap (λ (zs : List CodeHeir). take n (front ++ own_members taken (heir_of x) (heirs_of zs))) l in
+    at_drop_more (λ (zs : List CodeHeir). take n (front ++ flat_behind taken (heirs_of zs))) xs i x lt
+    ∙ ap (λ (y : CodeHeir). take n (front ++ flat_behind taken (heir_of y ∷ rest))) (sym is)
+    ∙ ap (take n) (sym (append_assoc front (own_members taken (heir_of x) rest) behind))
+    ∙ sym (take_front n (front ++ own_members taken (heir_of x) rest) behind)
+    ∙ ap (λ (zs : List Member). take n (zs ++ behind)) (sym own)
+    ∙ take_front n (map member_of more) behind
+    ∙ ap (λ (zs : List Heir). take n (map member_of more ++ flat_behind zs rest)) (sym (taken_on xs i x lt is))
+
+-- after the last class
+pub flat_end : (n : ℕ) (xs : List CodeHeir) (found : List RawMember) (i : ℕ) (whole : List Member) → length xs ≤ i → length found ≤ n →
+    whole ≡ take n (map member_of found ++ flat_behind (heirs_of (take i xs)) (heirs_of (drop i xs))) → map member_of found ≡ whole
+flat_end n xs found i whole past few e =
+    let front : List Member = map member_of found in
+    let short : length front ≤ n = omega (arith, few, length-map found member_of) in
+    sym (
+    e
+    ∙ ap (λ (zs : List CodeHeir). take n (front ++ flat_behind (heirs_of (take i xs)) (heirs_of zs))) (drop_all i xs past)
+    ∙ ap (take n) (append-nil front)
+    ∙ take_all n front short
+    )
 
 clash_split : (xs : List CodeHeir) (i : ℕ) (x : CodeHeir) (m : Member) → i < length xs → x ≡ get_or xs i x →
     clashes_behind (heirs_of (take i xs)) (heirs_of (drop i xs)) m ≡ (clashes_with (heirs_of (take i xs)) (heir_of x) m || clashes_behind (heirs_of (take (i + 1) xs)) (heirs_of (drop (i + 1) xs)) m)

@@ -1,8 +1,10 @@
 pub mod Heads
 pub mod Lines
+pub mod Marks
 pub mod Flat
 pub mod Faults
 pub mod Files
+pub mod Enough
 pub mod Laws
 pub mod Behind
 pub mod Simple

@@ -1,4 +1,4 @@
-use Rattle.std.proofs.Common.{◌≡◌, ◌≤◌, ◌∙◌, sym, ap, List, length, arith, rules}
+use Rattle.std.proofs.Common.{◌≡◌, ◌∙◌, sym, ap, List, length, rules}
 use Rattle.std.proofs.lemmas.List.{length-map}
 use Rattle.ulam_tree.specs.Raw.{Item}
 use Rattle.ulam_tree.specs.RawViews.{file_of}
@@ -10,10 +10,9 @@ use Rattle.ulam_heirs.proofs.Counts.{count_all}
 use Rattle.ulam_heirs.proofs.files.flatten_all.Goals as goal
 
 -- there are as many classes as were gathered
-few : (fs : List (List Item)) (hs : List Heads) (xs ys : List CodeHeir) → length fs ≡ length hs → heirs_of xs ≡ all_heirs fs hs → ys ≡ xs → all_count fs ≤ length ys
-few fs hs xs ys long e same =
-    let count : all_count fs ≡ length ys = count_all fs hs long ∙ ap length (sym e) ∙ length-map xs heir_of ∙ ap length (sym same) in
-    omega (arith, count)
+as_many : (fs : List (List Item)) (hs : List Heads) (xs ys : List CodeHeir) → length fs ≡ length hs → heirs_of xs ≡ all_heirs fs hs → ys ≡ xs → all_count fs ≡ length ys
+as_many fs hs xs ys long e same =
+    count_all fs hs long ∙ ap length (sym e) ∙ length-map xs heir_of ∙ ap length (sym same)
 
-pub flat_files-requires-clause-small : goal.flat_files-requires-clause-small
-flat_files-requires-clause-small c = few (files_of c.args.files.now) c.args.heads.now c.in_ok-heirs.heirs.items _ (length-map c.args.files.now file_of ∙ c.requires) c.in_ok-heirs.ensures (search rules)
+pub made_files-requires-clause-count : goal.made_files-requires-clause-count
+made_files-requires-clause-count c = as_many (files_of c.args.files.now) c.args.heads.now c.in_ok-heirs.heirs.items _ (length-map c.args.files.now file_of ∙ c.requires) c.in_ok-heirs.ensures (search rules)

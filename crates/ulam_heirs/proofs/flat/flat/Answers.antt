@@ -1,6 +1,9 @@
-use Rattle.std.proofs.Common.{◌∙◌, ap, ◌+◌, List, take, drop, arith}
+use Rattle.std.proofs.Common.{rules, ◌≤◌, ◌∙◌, ap, ◌+◌, List, length, take, drop, arith}
 use Rattle.ulam_heirs.specs.declared.heir.Heir.{Heir as CodeHeir}
-use Rattle.ulam_heirs.proofs.Turns.{flat_on}
+use Rattle.ulam_heirs.specs.Flat.{flat}
+use Rattle.ulam_heirs.specs.Views.{heirs_of}
+use Rattle.ulam_heirs.specs.Enough.{enough_members}
+use Rattle.ulam_heirs.proofs.Turns.{flat_on, flat_end}
 use Rattle.ulam_heirs.proofs.flat.flat.Goals as goal
 
 pub loop-heir-preserved : goal.loop-heir-preserved
@@ -9,9 +12,16 @@ loop-heir-preserved c =
     record {
       flat =
           c.loop-heir.invariant.flat
-          ∙ flat_on xs c.loop-heir.found.items c.add_members.new.found.items c.loop-heir.heir-index c.heir-item.result c.split_at.result.0.now c.split_at-in-loop-heir.result.1.now c.loop-heir-test.true c.heir-item.is
+          ∙ flat_on enough_members xs c.loop-heir.found.items c.add_members.new.found.items c.loop-heir.heir-index c.heir-item.result c.split_at.result.0.now c.split_at-in-loop-heir.result.1.now c.loop-heir-test.true c.heir-item.is
           (c.split_at.ensures.front ∙ ap (λ n. take n xs) c.loop-heir.invariant.index)
           (c.split_at-in-loop-heir.ensures.back ∙ ap (λ n. drop (n + 1) xs) c.loop-heir.invariant.index)
-          c.in_ok-add_members.ensures;
+          c.in_ok-add_members.ensures.same;
+      few = c.in_ok-add_members.ensures.few;
       index = omega arith;
     }
+
+pub returns : goal.returns
+returns c =
+    let xs : List CodeHeir = c.args.line.now in
+    let past : length xs ≤ c.loop-heir.heir-index = search rules in
+    flat_end enough_members xs c.loop-heir.found.items c.loop-heir.heir-index (take enough_members (flat (heirs_of xs))) past c.loop-heir.invariant.few c.loop-heir.invariant.flat
