@@ -5,6 +5,7 @@ said of each comes from a model (base_model.py).
 from __future__ import annotations
 
 import random
+import resource
 import sys
 from collections import Counter
 
@@ -16,16 +17,25 @@ from bench import BAD_ELEMENT, DONE, Answer, Bench, Limits, main_of
 
 MOST_SECONDS = 2.0
 MOST_BYTES = 300_000_000
-# What a call is given at most, so that a program without bounds harms no machine.
-GIVEN = Limits(space=1_500_000_000)
-GIVEN_SECONDS = 20
+# What a call is given at most, so that a program without bounds harms no machine: seconds of processor time, and an
+# address space.
+GIVEN_SECONDS = 5
+GIVEN_BYTES = 1_500_000_000
+
+
+def limited() -> None:
+    """Limits the processor time of the process."""
+    resource.setrlimit(resource.RLIMIT_CPU, (GIVEN_SECONDS, GIVEN_SECONDS))
+
+
+GIVEN = Limits(space=GIVEN_BYTES, then=limited)
 
 
 def told(bench: Bench, name: str, classes: list[Class], text: bytes) -> tuple[int, Answer]:
     """Checks a text, which is to be answered as the model says: its code, or 0, and the answer."""
     fault = first_fault(classes)
     bench.write("e", text)
-    answer = bench.call(["check", "e"], GIVEN, seconds=GIVEN_SECONDS)
+    answer = bench.call(["check", "e"], GIVEN)
     due = fault.line(b"e") if fault else accepted(classes)
     bench.expect(name, answer, BAD_ELEMENT if fault else DONE, due)
     return fault.code if fault else 0, answer
