@@ -1,6 +1,6 @@
 -- The journal of some logs.
 use Rattle.std.proofs.Common.{ℕ, suc, ◌≡◌, ◌≤◌, ◌<◌, ◌+◌, List, [], ◌∷◌, ◌++◌, refl, sym, ap, subst, arith, ◌⊎◌, inl, inr, ⊎_elim, Bool, true, false, ◌∙◌, length, map, All, eq-eqb, lt-ltb, ltb-true, eqb-true}
-use Rattle.std.specs.Prelude.{◌↔◌, ◌==◌, ◌&&◌, ◌||◌, IsTrue, nat_lt, AllPairs, flat_map, IsPermutation}
+use Rattle.std.specs.Prelude.{◌==◌, ◌&&◌, ◌||◌, nat_lt, AllPairs, flat_map, IsPermutation}
 use Rattle.std.specs.List.{range_with_len}
 use Rattle.std.proofs.lemmas.Bool.Decides.{nat_tests}
 use Rattle.std.proofs.lemmas.List.Elements.{All-head, All-tail, All-contains}
@@ -27,15 +27,6 @@ of_before r s h = go (nat_lt r.stamp s.stamp) refl h
     go : (b : Bool) → nat_lt r.stamp s.stamp ≡ b → (b || (r.stamp == s.stamp && nat_lt r.tile s.tile)) ≡ true → Precedes r s
     go true is e = inl (ltb-true r.stamp s.stamp is)
     go false is e = let p = both (r.stamp == s.stamp) (nat_lt r.tile s.tile) e in inr (eqb-true r.stamp s.stamp p.0, ltb-true r.tile s.tile p.1)
-
--- an answer that tells whether an event precedes another
-pub tells_before : (b : Bool) (r s : Record) → (IsTrue b ↔ Precedes r s) → b ≡ is_before r s
-tells_before true r s h = sym (before_of r s (h.0 refl))
-tells_before false r s h = go (is_before r s) refl
-  where
-    go : (t : Bool) → is_before r s ≡ t → false ≡ t
-    go false is = refl
-    go true is = h.1 (of_before r s is)
 
 -- pairs that are in order, by a test
 pub rises_by : {A : Type 0} (lt : A → A → Bool) (R : A → A → Type 0) (xs : List A) → ((x y : A) → In x xs → In y xs → R x y → lt x y ≡ true) → AllPairs R xs → RisesBy lt xs

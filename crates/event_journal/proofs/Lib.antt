@@ -1,7 +1,9 @@
 pub mod Extents
+pub mod Heads
 pub mod Journals
 pub mod Merging
 pub mod Reports
 pub mod Shorter
 pub mod Takings
+pub mod Tournaments
 pub mod WalkSteps

@@ -1,5 +1,5 @@
 -- Merging lists gives all their elements, each once and in order.
-use Rattle.std.proofs.Common.{ℕ, ◌≡◌, ◌+◌, List, [], ◌∷◌, ◌++◌, refl, sym, ap, subst, arith, ◌⊎◌, inl, inr, ⊎_elim, Bool, true, false, Option, Some, None, zero, suc, ◌∙◌, length, drop}
+use Rattle.std.proofs.Common.{ℕ, ◌≡◌, ◌+◌, List, [], ◌∷◌, ◌++◌, refl, sym, ap, subst, arith, ◌⊎◌, inl, inr, ⊎_elim, Bool, true, false, Option, Some, None, zero, suc, ◌∙◌, ◌==◌, eqb-true, length, drop}
 use Rattle.std.specs.Prelude.{if◌then◌else◌, slice_get, IsPermutation}
 use Rattle.std.proofs.lemmas.List.Sorted.{IsPermutation-refl, IsPermutation-cons, IsPermutation-append_right, IsPermutation-middle, IsPermutation-trans, length_permutation}
 use Rattle.list_laws.proofs.Members.{In, in_left, in_right, in_either}
@@ -220,10 +220,41 @@ module _ {A : Type 0} (lt : A → A → Bool) (o : IsOrder lt) where
       (λ z j. ⊎_elim (λ (q : z ≡ y). absurd (cc (a.0 z j, ap (λ r. lt x r) (q ∙ sym e), o.irrefl x))) (λ k. k) (f z (inr j)))
       (λ z j. ⊎_elim (λ (q : z ≡ x). absurd (cc (b.0 z j, ap (λ r. lt y r) (q ∙ e), o.irrefl y))) (λ k. k) (g z (inr j))) i
 
-  -- one step of the walk: what is left begins with the least first element
-  pub next_none : (ls : List (List A)) → least_from lt None 0 ls ≡ None → merged lt ls ≡ []
+  -- where nothing is left, nothing is given
+  pub none_left : (ls : List (List A)) → joined ls ≡ [] → merged lt ls ≡ []
   unfolding merged merged_few
-  next_none ls e = let f = subst (Found None 0 ls) e (found None 0 ls) in rw (f.1) refl
+  none_left ls e = rw e refl
+
+  not_before : (x : A) (ls : List (List A)) (k : ℕ) (h : A) (hs : List A) → NoneBefore x ls → slice_get ls k ≡ Some (h ∷ hs) → lt h x ≡ false
+  not_before x [] k h hs n at = absurd (cc (at))
+  not_before x (xs ∷ ls) zero h hs n at = let e : xs ≡ h ∷ hs = cc (at) in (subst (λ q. NoneBefore x (q ∷ ls)) e n).0
+  not_before x ([] ∷ ls) (suc k) h hs n at = not_before x ls k h hs n at
+  not_before x ((y ∷ ys) ∷ ls) (suc k) h hs n at = not_before x ls k h hs n.1 at
+
+  -- a first element that is before all others is the least
+  pub least_is : (ls : List (List A)) (k : ℕ) (x : A) (xs : List A) → slice_get ls k ≡ Some (x ∷ xs)
+      → ((j : ℕ) (y : A) (ys : List A) → slice_get ls j ≡ Some (y ∷ ys) → (j == k) ≡ false → lt x y ≡ true) → least_from lt None 0 ls ≡ Some (k, x)
+  least_is ls k x xs at first = go (least_from lt None 0 ls) (found None 0 ls)
+    where
+      there : (ls : List (List A)) (k : ℕ) → slice_get ls k ≡ Some (x ∷ xs) → In x (joined ls)
+      there [] k q = absurd (cc (q))
+      there (ys ∷ ls) zero q = let e : ys ≡ x ∷ xs = cc (q) in in_left ys (joined ls) x (subst (In x) (sym e) (inl refl))
+      there (ys ∷ ls) (suc k) q = in_right ys (joined ls) x (there ls k q)
+
+      same : (p : ℕ × A) (j : ℕ) (ys : List A) → p.0 ≡ 0 + j → slice_get ls j ≡ Some (p.1 ∷ ys) → NoneBefore p.1 ls → (b : Bool) → (j == k) ≡ b → Some p ≡ Some (k, x)
+      same p j ys is found' none true q =
+          let e : j ≡ k = eqb-true j k q in
+          let y : p.1 ≡ x = cc (sym found' ∙ ap (slice_get ls) e ∙ at) in
+          let n : p.0 ≡ k = omega (arith, is, e) in
+          (λ i. Some (n i, y i))
+      same p j ys is found' none false q = absurd (cc (first j p.1 ys found' q, not_before p.1 ls k x xs none at))
+
+      go : (r : Option (ℕ × A)) → Found None 0 ls r → r ≡ Some (k, x)
+      go None f = absurd (subst (In x) f.1 (there ls k at))
+      go (Some p) f = ⊎_elim (λ (h : None ≡ Some p). absurd (cc (h)))
+          (λ (q : (j : ℕ) × (ys : List A) × (p.0 ≡ 0 + j) × (slice_get ls j ≡ Some (p.1 ∷ ys))). same p q.0 q.1 q.2 q.3 f.1 (q.0 == k) refl) f.0
+
+  -- one step of the walk: what is left begins with the least first element
 
   pub next_some : (ls : List (List A)) (p : ℕ × A) → least_from lt None 0 ls ≡ Some p → merged lt ls ≡ p.1 ∷ merged lt (without ls p.0)
   unfolding merged merged_few
@@ -241,7 +272,3 @@ module _ {A : Type 0} (lt : A → A → Bool) (o : IsOrder lt) where
       go : (n : ℕ) → length (joined ls) ≡ n → merged_few lt n ls ≡ p.1 ∷ merged_few lt (length (joined (without ls p.0))) (without ls p.0)
       go zero is = absurd (omega (arith, is, long))
       go (suc n) is = let k : n ≡ length (joined (without ls p.0)) = omega (arith, is, long) in ap (λ r. found_then r (λ i. merged_few lt n (without ls i))) e ∙ ap (λ j. p.1 ∷ merged_few lt j (without ls p.0)) k
-
-  pub next_inside : (ls : List (List A)) (p : ℕ × A) → least_from lt None 0 ls ≡ Some p → (xs : List A) × (slice_get ls p.0 ≡ Some (p.1 ∷ xs))
-  next_inside ls p e = ⊎_elim (λ (h : None ≡ Some p). absurd (cc (h)))
-      (λ (q : (j : ℕ) × (xs : List A) × (p.0 ≡ 0 + j) × (slice_get ls j ≡ Some (p.1 ∷ xs))). let same : p.0 ≡ q.0 = omega (arith, q.2) in (q.1, ap (slice_get ls) same ∙ q.3)) (subst (Found None 0 ls) e (found None 0 ls)).0

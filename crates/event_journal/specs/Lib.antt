@@ -2,8 +2,10 @@ pub mod Accounts
 pub mod Cursors
 pub mod Cuts
 pub mod Forms
+pub mod Heads
 pub mod Logs
 pub mod Merged
 pub mod Reading
 pub mod Text
+pub mod Tournaments
 pub mod Walks

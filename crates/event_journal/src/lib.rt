@@ -11,10 +11,12 @@ mod forms;
 mod journal;
 mod law;
 mod log;
+mod merge;
 mod placing;
 mod printed;
 mod reader;
 mod reading;
+mod tournament;
 mod walk;
 
 pub use abandoned::Abandoned;

@@ -32,7 +32,7 @@ not_true false p q = cc
 times_more : (a b w : ℕ) → a < b → a * w + w ≤ b * w
 times_more a b w lt = grind arith
 
-same_index : (x y u v w : ℕ) → x < w → u < w → y * w + x ≡ v * w + u → (x ≡ u) × (y ≡ v)
+pub same_index : (x y u v w : ℕ) → x < w → u < w → y * w + x ≡ v * w + u → (x ≡ u) × (y ≡ v)
 same_index x y u v w a b e = go (nat_lt y v) (nat_lt v y) refl refl
   where
     go : (s t : Bool) → nat_lt y v ≡ s → nat_lt v y ≡ t → (x ≡ u) × (y ≡ v)

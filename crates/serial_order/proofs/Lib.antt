@@ -23,6 +23,9 @@ pub mod Journal
 pub mod Promises
 pub mod SmallRun
 pub mod EdgeCells
+pub mod NeededCells
+pub mod Inners
+pub mod Runs
 pub mod Blanks
 pub mod BlankGrid
 pub mod Filling

@@ -1,7 +1,8 @@
 -- What a run is settled from, and the result.
-use Rattle.std.specs.Prelude.{ℕ, ◌≡◌, ◌<◌, ◌*◌, ◌+◌, ◌||◌, ◌/◌, ◌%◌, true, false, List, All, length, map, slice_get, slice_index_or, replicate, nat_le, Some}
+use Rattle.std.specs.Prelude.{ℕ, ◌≡◌, ◌≤◌, ◌<◌, ◌*◌, ◌+◌, ◌||◌, ◌/◌, ◌%◌, true, false, List, All, length, map, slice_get, slice_index_or, replicate, nat_le, Some}
 use Rattle.bit_field.specs.Atom.{empty_atom}
-use Rattle.tile_map.specs.Plane.{Site, MapValue, site, tiles_of, is_on, is_live, owner_of}
+use Rattle.tile_map.specs.Plane.{Site, MapValue, site, tiles_of, is_on, is_live, is_held, owner_of}
+use Rattle.tile_map.specs.Spans.{is_within}
 use Rattle.cell_grid.specs.Grid.{GridValue, IsGrid, ArePlanesAlike, site_atom}
 use Rattle.cell_grid.specs.Records.{replay}
 use Rattle.event_journal.specs.Logs.{records_in, abandoned_in}
@@ -12,6 +13,7 @@ use Rattle.serial_order.specs.Scene.{EdgeHistory, Scene, Setting, IsOver, logs_o
 use Rattle.serial_order.specs.Order.{NoneIsWorn, StampsAreSmall, TiesAreApart, Leads, HasNoNews}
 use Rattle.serial_order.specs.declared.outcome.Outcome.{Outcome}
 use Rattle.serial_order.specs.declared.blank.Area.{Area}
+use Rattle.serial_order.specs.declared.inner.Inner.{Inner}
 
 -- the values of tiles, without what acts on them
 abbrev pub values_of : {B : Type 0} → List (TileWith B) → List TileValue
@@ -75,3 +77,15 @@ pub record IsAreaOf (m : MapValue) (t : ℕ) (a : Area) : Type 0 where
   pub top : a.top ≡ t / m.tx * m.h
   pub columns : a.columns ≡ m.w
   pub rows : a.rows ≡ m.h
+
+-- columns and rows of a tile that no other tile holds
+pub record IsInner (m : MapValue) (i : Inner) : Type 0 where
+  pub tile : i.tile < tiles_of m
+  pub alone : (u x y : ℕ) → is_within i.left i.right i.top i.bottom x y ≡ true → is_held m u (site x y) ≡ true → u ≡ i.tile
+
+-- some sites of a row, from column left on, that one tile owns
+pub record IsRun (m : MapValue) (left size y : ℕ) : Type 0 where
+  pub some : 0 < size
+  pub inside : left + size ≤ m.tx * m.w
+  pub row : y < m.ty * m.h
+  pub owner : (x : ℕ) → left ≤ x → x < left + size → owner_of m (site x y) ≡ owner_of m (site left y)

@@ -1,5 +1,5 @@
 -- The settled grid: at each live site the newest of its owner's cell and those of the owner's edges.
-use Rattle.std.specs.Prelude.{ℕ, ◌≡◌, ◌+◌, ◌*◌, List, [], ◌∷◌, true, Option, Some, None, slice_get}
+use Rattle.std.specs.Prelude.{ℕ, ◌≡◌, ◌<◌, ◌+◌, ◌*◌, List, [], ◌∷◌, true, Option, Some, None, slice_get}
 use Rattle.tile_map.specs.Plane.{Site, MapValue, owner_of, is_live}
 use Rattle.tile_map.specs.Edges.{edges_at}
 use Rattle.cell_grid.specs.Grid.{GridValue, IsGrid, site_atom}
@@ -25,6 +25,12 @@ settled_cell m registers own es s = newest (own s) (edge_cells m registers es s)
 -- the grid has at this site, if it is live, the atom of the newest of the owner's cell and those of the owner's edges
 abbrev pub IsSettledAt : MapValue → List TileValue → (ℕ → ℕ → ℕ) → Site → GridValue → Type 0
 IsSettledAt m tiles registers s g = (tile : TileValue) → is_live m s ≡ true → slice_get tiles (owner_of m s) ≡ Some tile → site_atom g s.x s.y ≡ (settled_cell m registers (held_cell tile.cache) (edges_at m (owner_of m s)) s).atom
+
+-- a grid of the plane whose first n sites, row by row, are settled
+pub record IsSettledTo (m : MapValue) (tiles : List TileValue) (registers : ℕ → ℕ → ℕ) (n : ℕ) (g : GridValue) : Type 0 where
+  pub grid : IsGrid g
+  pub fits : IsGridOf m g
+  pub atoms : (s : Site) → s.y * g.width + s.x < n → IsSettledAt m tiles registers s g
 
 -- a grid of the plane that is settled at each live site, and has nothing elsewhere
 pub record IsSettled (m : MapValue) (tiles : List TileValue) (registers : ℕ → ℕ → ℕ) (g : GridValue) : Type 0 where

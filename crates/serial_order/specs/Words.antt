@@ -1,14 +1,14 @@
 -- The words of all edges: of a plain board, of closed edges, and what they are to the cells of a site.
-use Rattle.std.specs.Prelude.{ℕ, ◌≡◌, ◌<◌, List, [], length, map, slice_index_or, if◌then◌else◌, Option}
+use Rattle.std.specs.Prelude.{ℕ, ◌≡◌, ◌<◌, List, [], length, map, slice_index_or, Option}
 use Rattle.feast_base.specs.Edges.{registers_of}
 use Rattle.bit_field.specs.Atom.{AtomValue}
 use Rattle.tile_map.specs.Plane.{Site, MapValue}
-use Rattle.tile_map.specs.Edges.{pairs_of, has_end, edges_at}
+use Rattle.tile_map.specs.Edges.{pairs_of, edges_at}
 use Rattle.edge_lock.specs.History.{IsEdgeHistory}
 use Rattle.edge_lock.specs.PlainEdges.{PlainEdgeValue}
 use Rattle.edge_lock.specs.PlainBoard.{PlainBoardValue, edge_at}
 use Rattle.edge_lock.specs.Passes.{ClosedValue}
-use Rattle.border_cache.specs.Cells.{CellValue, cell_value, newer}
+use Rattle.border_cache.specs.Cells.{CellValue, cell_value}
 use Rattle.border_cache.specs.Windows.{edge_place, sites_on}
 use Rattle.serial_order.specs.Scene.{EdgeHistory, history_at, registers_at}
 use Rattle.serial_order.specs.Settled.{cell_in_registers, edge_cells, settled_cell}
@@ -54,10 +54,6 @@ pub record AreEdgeWords (m : MapValue) (w : WordsValue) : Type 0 where
   pub known : length w.histories ≡ length (pairs_of m)
   pub registers : (e : ℕ) → e < length (pairs_of m) → w.counts e ≡ registers_of (sites_on m e)
   pub histories : (e : ℕ) → e < length w.histories → IsEdgeHistory (sites_on m e) (history_at w.histories e).holds (history_at w.histories e).low (history_at w.histories e).high
-
--- the newer of a cell and the one that an edge has of a site, if a tile is an end of the edge
-abbrev pub newer_on : MapValue → (ℕ → ℕ → ℕ) → ℕ → Site → CellValue → ℕ → CellValue
-newer_on m registers t s cell e = if has_end m t e then newer cell (cell_in_registers (registers e) (edge_place m e s)) else cell
 
 -- a stamp with an atom, as a cell
 abbrev pub as_cell : ℕ × AtomValue → CellValue

@@ -19,7 +19,7 @@ pub(crate) struct Area {
 }
 
 /// The columns and the rows of a map's plane: what the last tile reaches ends where the plane does.
-fn extent(map: &Map) -> (u32, u32)
+pub(crate) fn extent(map: &Map) -> (u32, u32)
     ensures valid { IsMap map.now }
     ensures width { result.0 ≡ map.now.tx * map.now.w }
     ensures height { result.1 ≡ map.now.ty * map.now.h }
@@ -55,6 +55,15 @@ fn own_area(map: &Map, tile: u32) -> Area
         columns: right - left + 1,
         rows: bottom - top + 1,
     }
+}
+
+/// How many columns a tile has.
+pub(crate) fn tile_width(map: &Map) -> u32
+    ensures value { result ≡ map.now.w }
+    ensures valid { IsMap map.now }
+{
+    let _tiles = map.tiles();
+    own_area(map, 0).columns
 }
 
 /// Makes the rectangle of a tile not live, if the tile is off.

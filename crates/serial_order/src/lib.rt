@@ -3,6 +3,7 @@
 #![tactic(auto)]
 
 mod blank;
+mod inner;
 mod law;
 mod newest;
 mod outcome;

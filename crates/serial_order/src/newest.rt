@@ -1,14 +1,15 @@
-//! The settled cell of a site: the newest of its tile's and those of the tile's edges. All edges of
-//! the plane are asked, since a map has no public list of a tile's edges.
+//! The settled cell of a site: the newest of its tile's and those of the tile's edges. Only edges
+//! that an event at the site would need are asked, and none where no other tile holds the site.
 ghost use Rattle.std.specs.Prelude.{◌≡◌, ◌<◌, IsTrue, length, Some};
 ghost use Rattle.bit_field.specs.Atom.{LeavesGap};
 ghost use Rattle.tile_map.specs.Plane.{site, is_held};
 ghost use Rattle.tile_map.specs.Edges.{pairs_of};
 ghost use Rattle.border_cache.specs.Cells.{cell_of, newer, newest};
 ghost use Rattle.border_cache.specs.Copies.{held_cell};
-ghost use Rattle.serial_order.specs.Scene.{registers_at};
-ghost use Rattle.serial_order.specs.Words.{AreEdgeWords, as_cell, cell_on, cells_on, newer_on, settled_on};
+ghost use Rattle.serial_order.specs.Outcomes.{IsInner};
+ghost use Rattle.serial_order.specs.Words.{AreEdgeWords, as_cell, cell_on, cells_on, settled_on};
 
+use crate::inner::Inner;
 use crate::words::EdgeWords;
 use bit_field::Atom;
 use border_cache::Cache;
@@ -54,30 +55,8 @@ fn newer_on_edge<E: EdgeWords>(
     }
 }
 
-/// The same for an edge that the tile may not be an end of.
-fn newer_at_end<E: EdgeWords>(
-    map: &Map,
-    edge: u32,
-    tile: u32,
-    own: (u32, Atom),
-    x: u32,
-    y: u32,
-    words: &mut E,
-) -> (u32, Atom)
-    requires known { edge < length (pairs_of map.now) }
-    requires words { AreEdgeWords map.now (E.words words.old) }
-    ensures cell { as_cell result ≡ newer_on map.now (registers_at (E.words words.old).histories) tile (site x y) (as_cell own) edge }
-    ensures same { E.words words.new ≡ E.words words.old }
-{
-    let (lower, higher) = map.ends(edge);
-    if lower == tile || higher == tile {
-        newer_on_edge(map, edge, own, x, y, words)
-    } else {
-        own
-    }
-}
-
-/// The newest of a cell and those that a tile's edges have of a site.
+/// The newest of a cell and those that a tile's edges have of a site. An edge that an event there
+/// would not need does not share the site.
 fn newest_of<E: EdgeWords>(
     map: &Map,
     tile: u32,
@@ -86,15 +65,43 @@ fn newest_of<E: EdgeWords>(
     y: u32,
     words: &mut E,
 ) -> (u32, Atom)
+    requires held { IsTrue (is_held map.now tile (site x y)) }
     requires words { AreEdgeWords map.now (E.words words.old) }
     ensures cell { as_cell result ≡ newest (as_cell own) (cells_on map.now (E.words words.old).histories tile (site x y)) }
     ensures same { E.words words.new ≡ E.words words.old }
 {
+    let needs = map.needs(tile, x, y);
     let mut best = own;
-    for edge in 0..map.edges() {
-        best = newer_at_end(map, edge, tile, best, x, y, words);
+    for i in 0..needs.len() {
+        best = newer_on_edge(map, needs.edge(i), best, x, y, words);
     }
     best
+}
+
+/// The settled atom of a site that a tile holds, whose inner sites are known.
+pub(crate) fn settled_in<E: EdgeWords>(
+    map: &Map,
+    inner: &Inner,
+    cache: &Cache,
+    x: u32,
+    y: u32,
+    words: &mut E,
+) -> Atom
+    requires map { cache.now.map ≡ map.now }
+    requires tile { cache.now.tile ≡ inner.now.tile }
+    requires inner { IsInner map.now inner.now }
+    requires held { IsTrue (is_held map.now inner.now.tile (site x y)) }
+    requires words { AreEdgeWords map.now (E.words words.old) }
+    ensures atom { result ≡ (settled_on map.now (E.words words.old).histories inner.now.tile (held_cell cache.now) (site x y)).atom }
+    ensures same { E.words words.new ≡ E.words words.old }
+{
+    map.laws();
+    let own = cache.cell(x, y);
+    if inner.has(x, y) {
+        own.1
+    } else {
+        newest_of(map, inner.tile, own, x, y, words).1
+    }
 }
 
 /// The settled atom of a site that a tile holds, once the tiles are over: that of the newest of the
@@ -115,6 +122,6 @@ pub fn settled_atom<E: EdgeWords>(
     ensures atom { result ≡ (settled_on map.now (E.words words.old).histories tile (held_cell cache.now) (site x y)).atom }
     ensures same { E.words words.new ≡ E.words words.old }
 {
-    let own = cache.cell(x, y);
-    newest_of(map, tile, own, x, y, words).1
+    let inner = Inner::of(map, tile);
+    settled_in(map, &inner, cache, x, y, words)
 }

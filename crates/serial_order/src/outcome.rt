@@ -1,14 +1,16 @@
 //! Settling: what tiles that are over leave, as one grid and one journal.
-ghost use Rattle.std.specs.Prelude.{◌≡◌, ◌<◌, ◌*◌, All, IfOk};
-ghost use Rattle.tile_map.specs.Plane.{site};
-ghost use Rattle.serial_order.specs.Outcomes.{AreOver, AreTilesOf, ChangesSite, IsPlaneGrid, Settles, values_of};
+ghost use Rattle.std.specs.Prelude.{◌≡◌, ◌<◌, ◌+◌, ◌*◌, All, IfOk};
+ghost use Rattle.tile_map.specs.Plane.{owner_of, site};
+ghost use Rattle.cell_grid.specs.Grid.{ArePlanesAlike};
+ghost use Rattle.serial_order.specs.Outcomes.{AreOver, AreTilesOf, ChangesSite, IsInner, IsPlaneGrid, IsRun, Settles, values_of};
 ghost use Rattle.serial_order.specs.Scene.{logs_of, registers_at};
-ghost use Rattle.serial_order.specs.Settled.{IsSettled, IsSettledAt};
+ghost use Rattle.serial_order.specs.Settled.{IsSettled, IsSettledAt, IsSettledTo};
 ghost use Rattle.serial_order.specs.Words.{AreEdgeWords};
 ghost use Rattle.tile_core.specs.Underway.{IsMade};
 
-use crate::blank::blank_grid;
-use crate::newest::settled_atom;
+use crate::blank::{blank_grid, tile_width};
+use crate::inner::Inner;
+use crate::newest::settled_in;
 use crate::words::EdgeWords;
 use cell_grid::{Behave, Grid};
 use event_journal::{Journal, TileLog};
@@ -26,10 +28,12 @@ pub struct Outcome {
     pub journal: Journal,
 }
 
-/// Gives a live site its settled atom: the newest of its owner's and those of the owner's edges.
+/// Gives a site of a tile, if it is live, its settled atom: the newest of its owner's and those of
+/// the owner's edges.
 fn settle_site<B: Behave, E: EdgeWords>(
     map: &Map,
     tiles: &[Tile<B>],
+    inner: &Inner,
     words: &mut E,
     grid: &mut Grid,
     x: u32,
@@ -37,6 +41,8 @@ fn settle_site<B: Behave, E: EdgeWords>(
 )
     requires x { x < grid.old.width }
     requires y { y < grid.old.height }
+    requires inner { IsInner map.now inner.now }
+    requires owner { owner_of map.now (site x y) ≡ inner.now.tile }
     requires grid { IsPlaneGrid map.now grid.old }
     requires tiles { AreTilesOf map.now (values_of tiles.now) }
     requires words { AreEdgeWords map.now (E.words words.old) }
@@ -45,13 +51,60 @@ fn settle_site<B: Behave, E: EdgeWords>(
     ensures same { E.words words.new ≡ E.words words.old }
 {
     map.laws();
-    if !map.is_live(x, y) {
+    if !map.is_on(inner.tile) {
         return;
     }
-    let owner = map.owner(x, y);
-    let cache = tiles[owner as usize].cache();
-    let atom = settled_atom(map, owner, cache, x, y, words);
+    let cache = tiles[inner.tile as usize].cache();
+    let atom = settled_in(map, inner, cache, x, y, words);
     grid.set(x, y, atom);
+}
+
+/// Settles the sites of a row of a tile: `size` of them, from column `left` on.
+fn settle_run<B: Behave, E: EdgeWords>(
+    map: &Map,
+    tiles: &[Tile<B>],
+    words: &mut E,
+    grid: &mut Grid,
+    left: u32,
+    size: u32,
+    y: u32,
+)
+    requires run { IsRun map.now left size y }
+    requires grid { IsSettledTo map.now (values_of tiles.now) (registers_at (E.words words.old).histories) (y * grid.old.width + left) grid.old }
+    requires tiles { AreTilesOf map.now (values_of tiles.now) }
+    requires words { AreEdgeWords map.now (E.words words.old) }
+    ensures grid { IsSettledTo map.now (values_of tiles.now) (registers_at (E.words words.old).histories) (y * grid.old.width + (left + size)) grid.new }
+    ensures plane { ArePlanesAlike grid.old grid.new }
+    ensures same { E.words words.new ≡ E.words words.old }
+{
+    map.laws();
+    let inner = Inner::of(map, map.owner(left, y));
+    for x in left..left + size {
+        settle_site(map, tiles, &inner, words, grid, x, y);
+    }
+}
+
+/// Settles the sites of a row of the plane.
+fn settle_row<B: Behave, E: EdgeWords>(
+    map: &Map,
+    tiles: &[Tile<B>],
+    words: &mut E,
+    grid: &mut Grid,
+    y: u32,
+)
+    requires y { y < grid.old.height }
+    requires grid { IsSettledTo map.now (values_of tiles.now) (registers_at (E.words words.old).histories) (y * grid.old.width) grid.old }
+    requires tiles { AreTilesOf map.now (values_of tiles.now) }
+    requires words { AreEdgeWords map.now (E.words words.old) }
+    ensures grid { IsSettledTo map.now (values_of tiles.now) (registers_at (E.words words.old).histories) (y * grid.old.width + grid.old.width) grid.new }
+    ensures plane { ArePlanesAlike grid.old grid.new }
+    ensures same { E.words words.new ≡ E.words words.old }
+{
+    let size = tile_width(map);
+    let count = grid.width() / size;
+    for part in 0..count {
+        settle_run(map, tiles, words, grid, part * size, size, y);
+    }
 }
 
 /// Gives each live site its settled atom.
@@ -68,9 +121,8 @@ fn settle_sites<B: Behave, E: EdgeWords>(
     ensures same { E.words words.new ≡ E.words words.old }
 {
     map.laws();
-    let width = grid.width();
-    for place in 0..width * grid.height() {
-        settle_site(map, tiles, words, grid, place % width, place / width);
+    for y in 0..grid.height() {
+        settle_row(map, tiles, words, grid, y);
     }
 }
 

@@ -1,6 +1,6 @@
 use Rattle.std.proofs.Common.{◌≡◌, true, Some, sym, ap, subst, ◌∙◌}
 use Rattle.std.specs.Prelude.{slice_get}
-use Rattle.tile_map.specs.Plane.{site, is_held}
+use Rattle.tile_map.specs.Plane.{site, is_held, is_on}
 use Rattle.tile_map.specs.Edges.{edges_at}
 use Rattle.border_cache.specs.Copies.{CacheValue, held_cell}
 use Rattle.tile_core.specs.Values.{TileValue}
@@ -8,24 +8,32 @@ use Rattle.serial_order.specs.Scene.{registers_at}
 use Rattle.serial_order.specs.Settled.{settled_cell, IsSettledAt}
 use Rattle.serial_order.specs.Outcomes.{ChangesSite, values_of}
 use Rattle.serial_order.proofs.Filling.{tile_there, sets}
+use Rattle.serial_order.proofs.Runs.{off_dead, on_live}
 use Rattle.serial_order.proofs.outcome.settle_site.Goals as goal
 
-pub settled_atom-atom-requires-clause-map : goal.settled_atom-atom-requires-clause-map
-settled_atom-atom-requires-clause-map g c =
-    let x = c.index-tiles-owner.result in
-    let at = tile_there c.args.map.now c.args.tiles.now c.requires.tiles c.owner-owner.result c.owner-owner.ensures.tile x c.index-tiles-owner.is in
-    ap (λ (k : CacheValue). k.map) c.cache-cache.ensures ∙ c.requires.tiles.maps c.owner-owner.result x.core at
+pub returns-then-not-is_on-clause-settled : goal.returns-then-not-is_on-clause-settled
+returns-then-not-is_on-clause-settled g c = λ tile live is.
+    absurd (off_dead c.args.map.now (site c.args.x c.args.y) (ap (is_on c.args.map.now) c.requires.owner ∙ (sym c.is_on.ensures ∙ c.if-not-is_on.true)) live)
 
-pub settled_atom-atom-requires-clause-tile : goal.settled_atom-atom-requires-clause-tile
-settled_atom-atom-requires-clause-tile g c =
-    let x = c.index-tiles-owner.result in
-    let at = tile_there c.args.map.now c.args.tiles.now c.requires.tiles c.owner-owner.result c.owner-owner.ensures.tile x c.index-tiles-owner.is in
-    ap (λ (k : CacheValue). k.tile) c.cache-cache.ensures ∙ c.requires.tiles.numbers c.owner-owner.result x.core at
+pub settled_in-atom-requires-clause-map : goal.settled_in-atom-requires-clause-map
+settled_in-atom-requires-clause-map g c =
+    let x = c.index-tiles-inner.result in
+    let at = tile_there c.args.map.now c.args.tiles.now c.requires.tiles c.args.inner.now.tile c.requires.inner.tile x c.index-tiles-inner.is in
+    ap (λ (k : CacheValue). k.map) c.cache-cache.ensures ∙ c.requires.tiles.maps c.args.inner.now.tile x.core at
 
-pub settled_atom-atom-requires-clause-held : goal.settled_atom-atom-requires-clause-held
-settled_atom-atom-requires-clause-held g c =
+pub settled_in-atom-requires-clause-tile : goal.settled_in-atom-requires-clause-tile
+settled_in-atom-requires-clause-tile g c =
+    let x = c.index-tiles-inner.result in
+    let at = tile_there c.args.map.now c.args.tiles.now c.requires.tiles c.args.inner.now.tile c.requires.inner.tile x c.index-tiles-inner.is in
+    ap (λ (k : CacheValue). k.tile) c.cache-cache.ensures ∙ c.requires.tiles.numbers c.args.inner.now.tile x.core at
+
+pub settled_in-atom-requires-clause-held : goal.settled_in-atom-requires-clause-held
+settled_in-atom-requires-clause-held g c =
+    let m = c.args.map.now in
     let s = site c.args.x c.args.y in
-    subst (λ t. is_held c.args.map.now t s ≡ true) (sym c.owner-owner.ensures.value) (c.laws.ensures.plane.owners.holder s (sym c.is_live.ensures ∙ c.if-not-is_live.false))
+    let on = ap (is_on m) c.requires.owner ∙ (sym c.is_on.ensures ∙ c.if-not-is_on.false) in
+    let live = on_live m c.args.grid.now c.requires.grid c.args.x c.args.y c.requires.x c.requires.y on in
+    subst (λ t. is_held m t s ≡ true) c.requires.owner (c.laws.ensures.plane.owners.holder s live)
 
 pub returns-clause-change : goal.returns-clause-change
 returns-clause-change g c =
@@ -33,13 +41,15 @@ returns-clause-change g c =
     let tiles = values_of c.args.tiles.now in
     let registers = registers_at (g.E.EdgeWords.words c.args.words.now).histories in
     let s = site c.args.x c.args.y in
-    let x = c.index-tiles-owner.result in
-    let owner = c.owner-owner.ensures.value in
-    let at : slice_get tiles c.owner-owner.result ≡ Some x.core = tile_there m c.args.tiles.now c.requires.tiles c.owner-owner.result c.owner-owner.ensures.tile x c.index-tiles-owner.is in
-    let both = sets m tiles registers c.laws.ensures.plane c.args.grid.now c.requires.grid c.args.x c.args.y c.requires.x c.requires.y (sym c.is_live.ensures ∙ c.if-not-is_live.false) c.settled_atom-atom.result (λ tile is.
+    let x = c.index-tiles-inner.result in
+    let owner = sym c.requires.owner in
+    let on = ap (is_on m) c.requires.owner ∙ (sym c.is_on.ensures ∙ c.if-not-is_on.false) in
+    let live = on_live m c.args.grid.now c.requires.grid c.args.x c.args.y c.requires.x c.requires.y on in
+    let at : slice_get tiles c.args.inner.now.tile ≡ Some x.core = tile_there m c.args.tiles.now c.requires.tiles c.args.inner.now.tile c.requires.inner.tile x c.index-tiles-inner.is in
+    let both = sets m tiles registers c.laws.ensures.plane c.args.grid.now c.requires.grid c.args.x c.args.y c.requires.x c.requires.y live c.settled_in-atom.result (λ tile is.
     let same : x.core ≡ tile = cc (sym at ∙ (ap (slice_get tiles) owner ∙ is)) in
     let cache = c.cache-cache.ensures ∙ ap (λ (t : TileValue). t.cache) same in
-    c.settled_atom-atom.ensures.atom ∙ (λ i. (settled_cell m registers (held_cell (cache i)) (edges_at m (owner i)) s).atom)) in
+    c.settled_in-atom.ensures.atom ∙ (λ i. (settled_cell m registers (held_cell (cache i)) (edges_at m (owner i)) s).atom)) in
     subst (ChangesSite m s c.args.grid.now) (sym c.set.ensures) both.0
 
 pub returns-clause-settled : goal.returns-clause-settled
@@ -48,11 +58,13 @@ returns-clause-settled g c =
     let tiles = values_of c.args.tiles.now in
     let registers = registers_at (g.E.EdgeWords.words c.args.words.now).histories in
     let s = site c.args.x c.args.y in
-    let x = c.index-tiles-owner.result in
-    let owner = c.owner-owner.ensures.value in
-    let at : slice_get tiles c.owner-owner.result ≡ Some x.core = tile_there m c.args.tiles.now c.requires.tiles c.owner-owner.result c.owner-owner.ensures.tile x c.index-tiles-owner.is in
-    let both = sets m tiles registers c.laws.ensures.plane c.args.grid.now c.requires.grid c.args.x c.args.y c.requires.x c.requires.y (sym c.is_live.ensures ∙ c.if-not-is_live.false) c.settled_atom-atom.result (λ tile is.
+    let x = c.index-tiles-inner.result in
+    let owner = sym c.requires.owner in
+    let on = ap (is_on m) c.requires.owner ∙ (sym c.is_on.ensures ∙ c.if-not-is_on.false) in
+    let live = on_live m c.args.grid.now c.requires.grid c.args.x c.args.y c.requires.x c.requires.y on in
+    let at : slice_get tiles c.args.inner.now.tile ≡ Some x.core = tile_there m c.args.tiles.now c.requires.tiles c.args.inner.now.tile c.requires.inner.tile x c.index-tiles-inner.is in
+    let both = sets m tiles registers c.laws.ensures.plane c.args.grid.now c.requires.grid c.args.x c.args.y c.requires.x c.requires.y live c.settled_in-atom.result (λ tile is.
     let same : x.core ≡ tile = cc (sym at ∙ (ap (slice_get tiles) owner ∙ is)) in
     let cache = c.cache-cache.ensures ∙ ap (λ (t : TileValue). t.cache) same in
-    c.settled_atom-atom.ensures.atom ∙ (λ i. (settled_cell m registers (held_cell (cache i)) (edges_at m (owner i)) s).atom)) in
+    c.settled_in-atom.ensures.atom ∙ (λ i. (settled_cell m registers (held_cell (cache i)) (edges_at m (owner i)) s).atom)) in
     subst (IsSettledAt m tiles registers s) (sym c.set.ensures) both.1

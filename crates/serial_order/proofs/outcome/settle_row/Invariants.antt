@@ -1,0 +1,13 @@
+use Rattle.std.proofs.Common.{◌≡◌, ◌+◌, ◌*◌}
+use Rattle.cell_grid.specs.Grid.{ArePlanesAlike}
+use Rattle.serial_order.specs.Outcomes.{values_of}
+use Rattle.serial_order.specs.Scene.{registers_at}
+use Rattle.serial_order.specs.Settled.{IsSettledTo}
+use Rattle.serial_order.proofs.outcome.settle_row.Given as goal
+
+abbrev pub invariant-loop-part : goal.invariant-loop-part
+invariant-loop-part g l = record {
+  done : IsSettledTo l.map (values_of l.tiles) (registers_at (g.E.EdgeWords.words l.fn.words).histories) (l.y * l.grid.width + l.part * l.map.w) l.grid;
+  plane : ArePlanesAlike l.fn.grid l.grid;
+  same : g.E.EdgeWords.words l.words ≡ g.E.EdgeWords.words l.fn.words;
+}

@@ -1,0 +1,61 @@
+//! The sites of a tile that no other tile holds.
+ghost use Rattle.std.specs.Prelude.{◌≡◌, ◌==◌, ◌+◌, ◌-◌, ◌≤◌, ◌<◌, if◌then◌else◌};
+ghost use Rattle.tile_map.specs.Plane.{tiles_of};
+ghost use Rattle.tile_map.specs.Spans.{is_within};
+ghost use Rattle.serial_order.specs.Outcomes.{IsInner};
+
+use crate::blank::extent;
+use tile_map::Map;
+
+/// A tile, and the columns and rows of its rectangle that no other tile holds: each from the first
+/// up to the last and without it.
+#[derive(Clone, Copy, Debug)]
+pub(crate) struct Inner {
+    pub(crate) tile: u32,
+    pub(crate) left: u32,
+    pub(crate) right: u32,
+    pub(crate) top: u32,
+    pub(crate) bottom: u32,
+}
+
+/// Of the places of a line of some length that a tile reaches, those that no other tile reaches. At
+/// each border with a neighbour both reach 4 places on either side.
+fn unshared(first: u32, end: u32, length: u32) -> (u32, u32)
+    requires small { first ≤ 512 }
+    requires some { 8 ≤ end }
+    ensures from { result.0 ≡ (if first == 0 then 0 else first + 8) }
+    ensures to { result.1 ≡ (if end == length then end else end - 8) }
+{
+    let from = if first == 0 { 0 } else { first + 8 };
+    let to = if end == length { end } else { end - 8 };
+    (from, to)
+}
+
+impl Inner {
+    /// Those of a tile.
+    pub(crate) fn of(map: &Map, tile: u32) -> Inner
+        requires { tile < tiles_of map.now }
+        ensures inner { IsInner map.now result }
+        ensures tile { result.tile ≡ tile }
+    {
+        let (width, height) = extent(map);
+        let (first, end) = map.columns(tile);
+        let (left, right) = unshared(first, end, width);
+        let (first, end) = map.rows(tile);
+        let (top, bottom) = unshared(first, end, height);
+        Inner {
+            tile,
+            left,
+            right,
+            top,
+            bottom,
+        }
+    }
+
+    /// Whether a site is one of them.
+    pub(crate) fn has(&self, x: u32, y: u32) -> bool
+        ensures { result ≡ is_within self.now.left self.now.right self.now.top self.now.bottom x y }
+    {
+        self.left <= x && x < self.right && self.top <= y && y < self.bottom
+    }
+}
