@@ -61,3 +61,10 @@ masks_more places n old new a s = record {
     is_here : {A : Type 0} (o : Option ℕ) → places n ≡ o → (k : ℕ) → (places n ≡ Some k → A) → ((places n ≡ Some k → ⊥) → A) → A
     is_here None at k f g = g (λ h. none-some k (sym at ∙ h))
     is_here (Some j) at k f g = dite (ℕ_discrete j k) (λ (e : j ≡ k). f (at ∙ ap Some e)) (λ (ne : j ≢ k). g (λ h. ne (ap or_zero (sym at ∙ h))))
+
+-- only the first n places matter
+pub masks_by : (p q : ℕ → Option ℕ) (n : ℕ) (masks : List ℕ) → ((j : ℕ) → j < n → p j ≡ q j) → AreMasks p n masks → AreMasks q n masks
+masks_by p q n masks same a = record {
+  set = λ k c. a.set k (c.0, c.1, same c.0 c.1 ∙ c.2);
+  only = λ k h. let c = a.only k h in (c.0, c.1, sym (same c.0 c.1) ∙ c.2);
+}

@@ -1,18 +1,23 @@
 -- The places that a window covers are those of its live sites among the shared sites of the edge.
-use Rattle.std.proofs.Common.{◌≡◌, ℕ, ◌+◌, ◌-◌, ◌*◌, ◌/◌, ◌<◌, true, refl, sym, ap, ◌∙◌, arith, Option, Some, None, get_or, length}
+use Rattle.std.proofs.Common.{◌≡◌, ℕ, ◌+◌, ◌-◌, ◌*◌, ◌/◌, ◌<◌, ◌≤◌, Bool, true, false, true≢false, refl, sym, ap, ◌∙◌, arith, Option, Some, None, get_or, length}
 use Rattle.std.specs.Prelude.{◌==◌, ◌&&◌, slice_get, if◌then◌else◌}
 use Rattle.std.specs.Option.{option_map}
 use Rattle.std.proofs.lemmas.Bool.Decides.{nat_tests}
 use Rattle.std.proofs.lemmas.List.Quantifiers.{position-Some}
-use Rattle.std.proofs.lemmas.Option.{slice_get-get_or}
+use Rattle.std.proofs.lemmas.Option.{slice_get-get_or, slice_get_within}
 use Rattle.list_laws.specs.Options.{or_zero}
 use Rattle.window_sites.specs.Sites.{offset_of, shifted}
-use Rattle.tile_map.specs.Plane.{Site, MapValue, site, in_window}
+use Rattle.tile_map.specs.Plane.{Site, MapValue, site, is_live, in_window}
 use Rattle.tile_map.specs.Edges.{pairs_of, low_end, live_site, window_site, shared_of, register_of}
 use Rattle.tile_map.specs.Laws.{IsPlane}
+use Rattle.tile_map.specs.declared.span.Area.{Area}
+use Rattle.tile_map.specs.Spans.{place_within}
+use Rattle.tile_map.specs.Tables.{sites_in, number_of}
+use Rattle.tile_map.proofs.Areas.{area_number}
+use Rattle.tile_map.proofs.Registers.{number_place}
 use Rattle.tile_map.proofs.Spans.{held_parts}
-use Rattle.border_cache.specs.News.{Covers}
-use Rattle.border_cache.specs.Windows.{place_in, edge_place, edge_place_some}
+use Rattle.border_cache.specs.News.{Covers, IsPlace}
+use Rattle.border_cache.specs.Windows.{sites_on, place_in, place_among, place_at, edge_place, edge_place_some}
 
 -- shared site k is a live site of the window
 abbrev pub IsInWindow : MapValue → Site → ℕ → ℕ → Type 0
@@ -51,3 +56,44 @@ shared_place m p c e n u v r x y h =
     half : (o : Option ℕ) (r : ℕ) → option_map (λ k. 1 + 2 * k) o ≡ Some r → Some ((r - 1) / 2) ≡ o
     half None r h = absurd (cc h)
     half (Some k) r h = let q : 1 + 2 * k ≡ r = ap or_zero h in ap Some (omega (arith, q))
+
+-- where the sites that an edge shares are an area, a place follows from the coordinates
+pub whole_place : (m : MapValue) → IsPlane m → (a : Area) (c : Site) (e n : ℕ) → shared_of m e ≡ sites_in a → place_at a c n ≡ place_in m c e n
+whole_place m p a c e n same = go (shifted c.x (offset_of n).0) (shifted c.y (offset_of n).1)
+  where
+    within : ℕ → ℕ → Option ℕ
+    within u v = place_within a.columns.first a.columns.end a.rows.first a.rows.end u v
+
+    number : (u v : ℕ) → edge_place m e (site u v) ≡ within u v
+    number u v = ap (λ ss. number_of ss (site u v)) same ∙ area_number a u v
+
+    off : (u v : ℕ) → is_live m (site u v) ≡ false → (o : Option ℕ) → within u v ≡ o → o ≡ None
+    off u v dead None is = refl
+    off u v dead (Some k) is =
+        let at = (number_place (shared_of m e) (site u v) k (number u v ∙ is)).1 in
+        absurd (true≢false (sym (held_parts m (low_end m e) (site u v) (p.edges.held e k (site u v) at).0).live ∙ dead))
+
+    here : (u v : ℕ) (b : Bool) → is_live m (site u v) ≡ b → within u v ≡ edge_place_some m e (if b then Some (site u v) else None)
+    here u v true is = sym (number u v)
+    here u v false is = off u v is (within u v) refl
+
+    go : (u v : Option ℕ) → place_among a u v ≡ edge_place_some m e (live_site m u v)
+    go None v = refl
+    go (Some u) None = refl
+    go (Some u) (Some v) = here u v (is_live m (site u v)) refl
+
+-- a place is one of the edge's
+pub covered_few : (m : MapValue) → IsPlane m → (c : Site) (e k : ℕ) → Covers (place_in m c e) 41 k → k < sites_on m e
+covered_few m p c e k cov = let w = covered_in m p c e k cov in slice_get_within (shared_of m e) k w.0 w.1
+
+pub place_few : (m : MapValue) → IsPlane m → (c : Site) (e n : ℕ) → n < 41 → IsPlace (sites_on m e) (place_in m c e n)
+place_few m p c e n lt = go (place_in m c e n) refl
+  where
+    go : (o : Option ℕ) → place_in m c e n ≡ o → IsPlace (sites_on m e) o
+    go None is = tt
+    go (Some k) is = covered_few m p c e k (n, lt, is)
+
+-- so is one of fewer than 576
+pub place_low : (sites : ℕ) (o : Option ℕ) → sites ≤ 576 → IsPlace sites o → IsPlace 576 o
+place_low sites None few h = tt
+place_low sites (Some k) few h = omega (arith, few, h)

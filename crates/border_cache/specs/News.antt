@@ -1,5 +1,5 @@
 -- What a refresh reads on one edge.
-use Rattle.std.specs.Prelude.{ℕ, ◌≡◌, ◌+◌, ◌*◌, ◌/◌, ◌%◌, ◌<◌, ◌≤◌, length, slice_index_or, slice_set, ◌==◌, ◌⊎◌, Bool, true, false, if◌then◌else◌, List, [], ◌∷◌, Option, Some, None}
+use Rattle.std.specs.Prelude.{ℕ, ◌≡◌, ◌≢◌, ◌+◌, ◌*◌, ◌/◌, ◌%◌, ◌<◌, ◌≤◌, length, slice_index_or, slice_set, bit_and, ◌==◌, ◌⊎◌, Bool, true, false, if◌then◌else◌, List, [], ◌∷◌, Option, Some, None}
 use Rattle.std.specs.Int.{bit_at}
 use Rattle.feast_base.specs.Edges.{news_register}
 use Rattle.edge_lock.specs.declared.history.Access.{Access}
@@ -48,6 +48,12 @@ pub record SetsPlace (place : Option ℕ) (old new : List ℕ) : Type 0 where
   pub count : length new ≡ length old
   pub set : (k : ℕ) → place ≡ Some k → bit_in new k ≡ 1
   pub others : (k : ℕ) → (place ≡ Some k → ⊥) → bit_in new k ≡ bit_in old k
+
+-- the bits of the places from `start` up to `end` and without it are set
+pub record SetsRun (start end : ℕ) (old new : List ℕ) : Type 0 where
+  pub count : length new ≡ length old
+  pub inside : (k : ℕ) → start ≤ k → k < end → bit_in new k ≡ 1
+  pub outside : (k : ℕ) → (k < start) ⊎ (end ≤ k) → bit_in new k ≡ bit_in old k
 
 -- the register of the news word of an end that has the bit of place k
 abbrev pub word_of : ℕ → ℕ → ℕ → ℕ
@@ -102,11 +108,32 @@ pub record IsRefresh (b : Border) (accesses : List Access) : Type 0 where
   pub cells : (k : ℕ) → Covers b.places b.count k → is_news b.sites b.end accesses k ≡ true → FindsCell accesses k
   pub only : (register value : ℕ) → found_value accesses register ≡ Some value → IsAsked b accesses register
 
--- the reads at one place: its news word, and its cell if the bit is set
-abbrev pub IsSiteRead : ℕ → ℕ → ℕ → Option CellValue → List Access → Type 0
-IsSiteRead sites end k None accesses = (word : ℕ) × (accesses ≡ Read (word_of sites end k) word ∷ []) × (bit_at word (k % 64) ≡ 0)
-IsSiteRead sites end k (Some cell) accesses =
-    (word : ℕ) × (low : ℕ) × (high : ℕ) × (accesses ≡ Read (word_of sites end k) word ∷ Read (1 + 2 * k) low ∷ Read (2 + 2 * k) high ∷ []) × (bit_at word (k % 64) ≡ 1) × (cell ≡ cell_of low high)
+-- the register is the end's news word of a covered place
+abbrev pub IsCoveredWord : Border → ℕ → Type 0
+IsCoveredWord b register = (k : ℕ) × Covers b.places b.count k × (register ≡ word_of b.sites b.end k)
+
+-- the reads of the end's news words of the covered places: those of the places that are news have their bits in `news`
+pub record IsNewsRead (b : Border) (news : List ℕ) (accesses : List Access) : Type 0 where
+  pub silent : writes_nothing accesses ≡ true
+  pub words : (k : ℕ) → Covers b.places b.count k → Finds accesses (word_of b.sites b.end k)
+  pub bits : (k : ℕ) → Covers b.places b.count k → is_news b.sites b.end accesses k ≡ (bit_in news k == 1)
+  pub only : (register value : ℕ) → found_value accesses register ≡ Some value → IsCoveredWord b register
+
+-- the same of whichever places have the bits of these masks
+abbrev pub AreNewsRead : ℕ → ℕ → List ℕ → List ℕ → List Access → Type 0
+AreNewsRead sites end masks news accesses =
+    (places : ℕ → Option ℕ) (n : ℕ) → AreMasks places n masks → ((k : ℕ) → Covers places n k → k < sites) → IsNewsRead (border sites end places n) news accesses
+
+-- a news word is read, unless a mask has no bits, and gives those of its bits that the mask has
+abbrev pub IsWordRead : ℕ → ℕ → ℕ → List Access → Type 0
+IsWordRead register mask news accesses =
+    ((mask ≡ 0) × (news ≡ 0) × (accesses ≡ [])) ⊎ ((mask ≢ 0) × (word : ℕ) × (accesses ≡ Read register word ∷ []) × (news ≡ bit_and word mask))
+
+-- the reads of the cell of place k, if its bit is set
+abbrev pub IsSiteRead : ℕ → ℕ → Option CellValue → List Access → Type 0
+IsSiteRead k bit None accesses = (accesses ≡ []) × (bit ≡ 0)
+IsSiteRead k bit (Some cell) accesses =
+    (low : ℕ) × (high : ℕ) × (accesses ≡ Read (1 + 2 * k) low ∷ Read (2 + 2 * k) high ∷ []) × (bit ≡ 1) × (cell ≡ cell_of low high)
 
 -- no cell
 abbrev pub no_cell : CellValue
@@ -151,6 +178,6 @@ abbrev pub IsNewerAt : ℕ → List CellValue → List CellValue → Option Cell
 IsNewerAt n old new found = new ≡ with_newer old n found
 
 -- what was read for a site that may be at a place, and what is true of the cell that was found there
-abbrev pub ReadsSite : ℕ → ℕ → Option ℕ → (Option CellValue → Type 0) → List Access → Type 0
-ReadsSite sites end None P accesses = (accesses ≡ []) × P None
-ReadsSite sites end (Some k) P accesses = (found : Option CellValue) × IsSiteRead sites end k found accesses × P found
+abbrev pub ReadsSite : Option ℕ → List ℕ → (Option CellValue → Type 0) → List Access → Type 0
+ReadsSite None news P accesses = (accesses ≡ []) × P None
+ReadsSite (Some k) news P accesses = (found : Option CellValue) × IsSiteRead k (bit_in news k) found accesses × P found

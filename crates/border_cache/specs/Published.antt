@@ -8,7 +8,7 @@ use Rattle.edge_lock.specs.declared.history.Access.TheVariants.{Read, Write}
 use Rattle.edge_lock.specs.History.{found_value}
 use Rattle.border_cache.specs.Accesses.{last_write, is_read, reads_nothing}
 use Rattle.border_cache.specs.Cells.{CellValue, cell_of}
-use Rattle.border_cache.specs.News.{Border, border, nth_place, Covers, AreMasks, word_of, IsOfCell, no_cell}
+use Rattle.border_cache.specs.News.{Border, border, nth_place, Covers, AreMasks, word_of, IsCoveredWord, IsOfCell, no_cell}
 
 -- the same edge, from its other end
 abbrev pub across : Border → Border
@@ -28,10 +28,6 @@ pub record IsWordMarked (b : Border) (bit : Bool) (accesses : List Access) (j : 
   pub written : last_write accesses (news_register b.sites b.end j) None ≡ Some last
   pub marked : (i : ℕ) → i < 64 → Covers b.places b.count (64 * j + i) → bit_at last i ≡ digit bit
   pub kept : (i : ℕ) → i < 64 → (Covers b.places b.count (64 * j + i) → ⊥) → bit_at last i ≡ bit_at first i
-
--- the register is the end's news word of a covered place
-abbrev pub IsCoveredWord : Border → ℕ → Type 0
-IsCoveredWord b register = (k : ℕ) × Covers b.places b.count k × (register ≡ word_of b.sites b.end k)
 
 -- the news words of an end after the bits of the covered places were set, or cleared
 pub record IsMarked (b : Border) (bit : Bool) (accesses : List Access) : Type 0 where

@@ -1,15 +1,18 @@
 -- The sites of a window among the shared sites of an edge, and what a refresh does over all needed edges.
-use Rattle.std.specs.Prelude.{ℕ, ◌≡◌, ◌<◌, ◌==◌, ◌&&◌, List, [], ◌∷◌, length, Option, Some, None, MatchOption, slice_index_or, position, is_some, Bool, true, false, if◌then◌else◌}
+use Rattle.std.specs.Prelude.{ℕ, ◌≡◌, ◌+◌, ◌-◌, ◌*◌, ◌<◌, ◌≤◌, ◌⊎◌, ◌==◌, ◌&&◌, nat_le, List, [], ◌∷◌, length, Option, Some, None, MatchOption, slice_index_or, position, is_some, Bool, true, false, if◌then◌else◌}
 use Rattle.edge_lock.specs.declared.history.Access.{Access}
 use Rattle.border_cache.specs.Published.{IsPublish}
 use Rattle.edge_lock.specs.EndLists.{EndLists, known_value, IsHeld}
 use Rattle.feast_base.specs.Edges.{registers_of}
 use Rattle.window_sites.specs.Window.{WindowValue, IsWindow, atom_at, live_at}
-use Rattle.tile_map.specs.Plane.{Site, MapValue, site}
+use Rattle.window_sites.specs.Sites.{offset_of, shifted}
+use Rattle.tile_map.specs.declared.span.Area.{Area}
+use Rattle.tile_map.specs.Spans.{place_within}
+use Rattle.tile_map.specs.Plane.{Site, MapValue, site, is_live, apart}
 use Rattle.tile_map.specs.Edges.{shared_of, low_end, pairs_of, window_site}
 use Rattle.border_cache.specs.Cells.{CellValue, newest}
 use Rattle.border_cache.specs.Accesses.{IsHonest, after_all}
-use Rattle.border_cache.specs.News.{Border, border, CellsAt, found_cell, IsRefresh, no_cell}
+use Rattle.border_cache.specs.News.{bit_in, Border, border, CellsAt, found_cell, IsRefresh, no_cell}
 
 -- whether e is one of the edges
 abbrev pub has : ℕ → List ℕ → Bool
@@ -27,6 +30,32 @@ edge_place_some m e (Some s) = edge_place m e s
 -- the place of site n of the window at c
 abbrev pub place_in : MapValue → Site → ℕ → ℕ → Option ℕ
 place_in m c e n = edge_place_some m e (window_site m c n)
+
+-- the place of two coordinates in an area, row by row, if it has them
+abbrev pub place_among : Area → Option ℕ → Option ℕ → Option ℕ
+place_among a None v = None
+place_among a (Some u) None = None
+place_among a (Some u) (Some v) = place_within a.columns.first a.columns.end a.rows.first a.rows.end u v
+
+-- the place of site n of the window at c in an area
+abbrev pub place_at : Area → Site → ℕ → Option ℕ
+place_at a c n = place_among a (shifted c.x (offset_of n).0) (shifted c.y (offset_of n).1)
+
+-- place k of an area is that of (u, v), which is at most 4 from c
+pub record IsNear (a : Area) (c : Site) (k u v : ℕ) : Type 0 where
+  pub west : a.columns.first ≤ u
+  pub east : u < a.columns.end
+  pub north : a.rows.first ≤ v
+  pub south : v < a.rows.end
+  pub place : k ≡ (v - a.rows.first) * (a.columns.end - a.columns.first) + (u - a.columns.first)
+  pub close : apart c.x u + apart c.y v ≤ 4
+
+-- the bits of row j of the window at c are set, by their places in an area; the rows are counted from the north
+pub record SetsRow (a : Area) (c : Site) (j : ℕ) (old new : List ℕ) : Type 0 where
+  pub count : length new ≡ length old
+  pub set : (k u v : ℕ) → IsNear a c k u v → v + 4 ≡ c.y + j → bit_in new k ≡ 1
+  pub kept : (k : ℕ) → bit_in old k ≡ 1 → bit_in new k ≡ 1
+  pub only : (k : ℕ) → bit_in new k ≡ 1 → (bit_in old k ≡ 1) ⊎ ((u : ℕ) × (v : ℕ) × IsNear a c k u v)
 
 -- which end of the edge tile t is
 abbrev pub end_at : MapValue → ℕ → ℕ → ℕ
@@ -92,6 +121,11 @@ is_shown m c n = is_some (window_site m c n)
 -- all sites of the window at c are live
 abbrev pub IsWhole : MapValue → Site → Type 0
 IsWhole m c = (n : ℕ) → n < 41 → is_shown m c n ≡ true
+
+-- whether the four corners of the nine columns and rows round c are live sites
+abbrev pub has_corners : MapValue → Site → Bool
+has_corners m c = (nat_le 4 c.x && nat_le 4 c.y)
+    && ((is_live m (site (c.x - 4) (c.y - 4)) && is_live m (site (c.x + 4) (c.y - 4))) && (is_live m (site (c.x - 4) (c.y + 4)) && is_live m (site (c.x + 4) (c.y + 4))))
 
 -- the coordinates of the site, if there is one
 abbrev pub GivesSite : Option (ℕ × ℕ) → Option Site → Type 0

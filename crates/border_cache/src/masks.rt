@@ -1,7 +1,13 @@
 //! The sites of a window in the news words of an edge, where each has a bit.
-ghost use Rattle.std.specs.Prelude.{◌≡◌, ◌<◌, ℕ, length};
-ghost use Rattle.border_cache.specs.News.{nth_place, IsPlace, AreMasks, SetsPlace};
+ghost use Rattle.std.specs.Prelude.{◌≡◌, ◌==◌, ◌<◌, ◌≤◌, ℕ, length};
+ghost use Rattle.std.specs.List.{list_all};
+ghost use Rattle.tile_map.specs.Plane.{site};
+ghost use Rattle.tile_map.specs.Tables.{sites_in, IsSmall};
+ghost use Rattle.border_cache.specs.News.{nth_place, IsPlace, AreMasks, SetsPlace, SetsRun};
+ghost use Rattle.border_cache.specs.Windows.{place_at, SetsRow};
 ghost use Rattle.border_cache.specs.Published.{IsWithMask};
+
+use tile_map::Area;
 
 // Sets the bit of a place.
 fn set_place(masks: &mut [u64], place: Option<u32>)
@@ -28,9 +34,73 @@ pub(crate) fn masks(places: &[Option<u32>]) -> [u64; 9]
     masks
 }
 
+// Sets the bits of the places from `start` up to `end` and without it.
+fn set_run(masks: &mut [u64], start: u32, end: u32)
+    requires count { length masks.old ≡ 9 }
+    requires order { start ≤ end }
+    requires few { end ≤ 576 }
+    ensures { SetsRun start end masks.old masks.new }
+{
+    for place in start..end {
+        set_place(masks, Some(place));
+    }
+}
+
+// Sets the bits of row `j` of the window at a site, by their places in an area. The sites of a row
+// that the area has are one run of places.
+fn set_row(masks: &mut [u64], area: Area, x: u32, y: u32, j: u32)
+    requires count { length masks.old ≡ 9 }
+    requires small { IsSmall area }
+    requires few { length (sites_in area) ≤ 576 }
+    requires x { x < 512 }
+    requires y { y < 512 }
+    requires j { j < 9 }
+    ensures { SetsRow area (site x y) j masks.old masks.new }
+{
+    if y + j < 4 {
+        return;
+    }
+    let v = y + j - 4;
+    if v < area.rows.first || area.rows.end <= v {
+        return;
+    }
+    let reach = j.min(8 - j);
+    let west = area.columns.first.max(x.saturating_sub(reach));
+    let east = area.columns.end.min(x + reach + 1);
+    if east <= west {
+        return;
+    }
+    let width = area.columns.end - area.columns.first;
+    let start = (v - area.rows.first) * width + (west - area.columns.first);
+    set_run(masks, start, start + (east - west));
+}
+
+// The bits of the sites of the window at a site, by their places in an area.
+pub(crate) fn masks_at(area: Area, x: u32, y: u32) -> [u64; 9]
+    requires small { IsSmall area }
+    requires few { length (sites_in area) ≤ 576 }
+    requires x { x < 512 }
+    requires y { y < 512 }
+    ensures masks { AreMasks (place_at area (site x y)) 41 result }
+    ensures count { length result ≡ 9 }
+{
+    let mut masks = [0; 9];
+    for j in 0..9u32 {
+        set_row(&mut masks, area, x, y, j);
+    }
+    masks
+}
+
 // The word with the bits of a mask set or cleared.
 pub(crate) fn with_mask(word: u64, mask: u64, bit: bool) -> u64
     ensures { IsWithMask word mask bit result }
 {
     if bit { word | mask } else { word & !mask }
+}
+
+// Whether no bit of these words is set.
+pub(crate) fn are_clear(words: &[u64]) -> bool
+    ensures { result ≡ list_all (λ w. w == 0) words.now }
+{
+    words.iter().all(|word| *word == 0)
 }

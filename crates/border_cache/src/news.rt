@@ -4,11 +4,11 @@ ghost use Rattle.feast_base.specs.Edges.{registers_of, news_words, news_register
 ghost use Rattle.edge_lock.specs.EndLists.{IsHeld};
 ghost use Rattle.edge_lock.specs.EndValues.{SameEnd};
 ghost use Rattle.border_cache.specs.Accesses.{AddsSome};
-ghost use Rattle.border_cache.specs.News.{listed, at, IsSiteRead, Refreshes, IsPlace, nth_place, ReadsSite, IsNewerAt};
+ghost use Rattle.border_cache.specs.News.{listed, bit_in, AreMasks, IsWordRead, AreNewsRead, IsSiteRead, IsPlace, nth_place, ReadsSite, IsNewerAt};
 ghost use Rattle.border_cache.specs.Published.{IsWordPut, AreBitsPut, AreAllPut, IsCellPut, IsPublish, ArePlaces, cell_at};
 
 use crate::cell::Cell;
-use crate::masks::{masks, with_mask};
+use crate::masks::with_mask;
 use edge_lock::Board;
 
 // The register of a news word of an end.
@@ -24,24 +24,70 @@ fn news_word(sites: u32, end: u32, word: u32) -> u32
     first + word
 }
 
-// Reads the cell of a place, if it is news for the end.
-pub(crate) fn read_site<D: Board>(
+// Reads a news word of an end, unless a mask has no bits: those of its bits that the mask has.
+fn read_word<D: Board>(board: &mut D, edge: u32, sites: u32, end: u32, word: u32, mask: u64) -> u64
+    requires fits { registers_of sites < 2 ^ 32 }
+    requires registers { (D.end board.old).registers edge ≡ registers_of sites }
+    requires end { end < 2 }
+    requires word { word < news_words sites }
+    requires held { IsHeld ((D.end board.old).lists edge) }
+    ensures read { AddsSome edge (IsWordRead (news_register sites end word) mask result) (D.end board.old) (D.end board.new) }
+    ensures same { SameEnd (D.end board.old) (D.end board.new) }
+    ensures moved { D.moved board.old board.new }
+{
+    if mask == 0 {
+        return 0;
+    }
+    board.read(edge, news_word(sites, end, word)) & mask
+}
+
+// Reads which of the places of these masks are news for the end.
+pub(crate) fn read_news<D: Board>(
     board: &mut D,
     edge: u32,
     sites: u32,
     end: u32,
-    place: u32,
-) -> Option<Cell>
+    masks: &[u64],
+) -> [u64; 9]
     requires fits { registers_of sites < 2 ^ 32 }
     requires registers { (D.end board.old).registers edge ≡ registers_of sites }
     requires end { end < 2 }
-    requires place { place < sites }
+    requires few { sites ≤ 576 }
+    requires count { length masks.now ≡ 9 }
     requires held { IsHeld ((D.end board.old).lists edge) }
-    ensures read { AddsSome edge (IsSiteRead sites end place result) (D.end board.old) (D.end board.new) }
+    ensures read { AddsSome edge (AreNewsRead sites end masks.now result) (D.end board.old) (D.end board.new) }
+    ensures long { length result ≡ 9 }
     ensures same { SameEnd (D.end board.old) (D.end board.new) }
     ensures moved { D.moved board.old board.new }
 {
-    let word = board.read(edge, news_word(sites, end, place / 64));
+    let mut news = [0; 9];
+    let words = (sites + 63) / 64;
+    for word in 0..words {
+        let i = word as usize;
+        news[i] = read_word(board, edge, sites, end, word, masks[i]);
+    }
+    news
+}
+
+// Reads the cell of a place, if its bit is set.
+fn read_site<D: Board>(
+    board: &mut D,
+    edge: u32,
+    sites: u32,
+    place: u32,
+    news: &[u64],
+) -> Option<Cell>
+    requires registers { (D.end board.old).registers edge ≡ registers_of sites }
+    requires fits { registers_of sites < 2 ^ 32 }
+    requires place { place < sites }
+    requires few { sites ≤ 576 }
+    requires count { length news.now ≡ 9 }
+    requires held { IsHeld ((D.end board.old).lists edge) }
+    ensures read { AddsSome edge (IsSiteRead place (bit_in news.now place) result) (D.end board.old) (D.end board.new) }
+    ensures same { SameEnd (D.end board.old) (D.end board.new) }
+    ensures moved { D.moved board.old board.new }
+{
+    let word = news[(place / 64) as usize];
     if (word >> (place % 64)) & 1 == 0 {
         return None;
     }
@@ -50,52 +96,29 @@ pub(crate) fn read_site<D: Board>(
     Some(Cell::from_words(low, high))
 }
 
-// Brings the cells of a window up to date with those of an edge that are news for the end.
-pub(crate) fn refresh_edge<D: Board>(
-    cells: &mut [Cell],
-    places: &[Option<u32>],
-    edge: u32,
-    sites: u32,
-    end: u32,
-    board: &mut D,
-)
-    requires together { length cells.old ≡ length places.now }
-    requires fits { registers_of sites < 2 ^ 32 }
-    requires registers { (D.end board.old).registers edge ≡ registers_of sites }
-    requires end { end < 2 }
-    requires places { (n : ℕ) → n < length places.now → IsPlace sites (nth_place places.now n) }
-    requires held { IsHeld ((D.end board.old).lists edge) }
-    ensures refreshes { Refreshes (listed sites end places.now) edge (at cells.old (D.end board.old)) (at cells.new (D.end board.new)) }
-    ensures same { SameEnd (D.end board.old) (D.end board.new) }
-    ensures moved { D.moved board.old board.new }
-{
-    for n in 0..places.len() {
-        refresh_site(cells, n, places[n], edge, sites, end, board);
-    }
-}
-
-// Brings one cell of a window up to date.
-fn refresh_site<D: Board>(
+// Brings one cell of a window up to date, if it is news.
+pub(crate) fn refresh_site<D: Board>(
     cells: &mut [Cell],
     n: usize,
     place: Option<u32>,
     edge: u32,
     sites: u32,
-    end: u32,
+    news: &[u64],
     board: &mut D,
 )
     requires inside { n < length cells.old }
     requires fits { registers_of sites < 2 ^ 32 }
     requires registers { (D.end board.old).registers edge ≡ registers_of sites }
-    requires end { end < 2 }
+    requires few { sites ≤ 576 }
+    requires count { length news.now ≡ 9 }
     requires place { IsPlace sites place }
     requires held { IsHeld ((D.end board.old).lists edge) }
-    ensures read { AddsSome edge (ReadsSite sites end place (IsNewerAt n cells.old cells.new)) (D.end board.old) (D.end board.new) }
+    ensures read { AddsSome edge (ReadsSite place news.now (IsNewerAt n cells.old cells.new)) (D.end board.old) (D.end board.new) }
     ensures same { SameEnd (D.end board.old) (D.end board.new) }
     ensures moved { D.moved board.old board.new }
 {
     if let Some(place) = place {
-        if let Some(found) = read_site(board, edge, sites, end, place) {
+        if let Some(found) = read_site(board, edge, sites, place, news) {
             cells[n] = cells[n].newer_of(found);
         }
     }
@@ -184,11 +207,14 @@ fn put_cells<D: Board>(board: &mut D, edge: u32, sites: u32, places: &[Option<u3
 pub(crate) fn publish_edge<D: Board>(
     cells: &[Cell],
     places: &[Option<u32>],
+    masks: &[u64],
     edge: u32,
     sites: u32,
     end: u32,
     board: &mut D,
 )
+    requires masks { AreMasks (nth_place places.now) (length places.now) masks.now }
+    requires count { length masks.now ≡ 9 }
     requires together { length cells.now ≡ length places.now }
     requires fits { registers_of sites < 2 ^ 32 }
     requires registers { (D.end board.old).registers edge ≡ registers_of sites }
@@ -202,7 +228,6 @@ pub(crate) fn publish_edge<D: Board>(
     ensures moved { D.moved board.old board.new }
 {
     put_cells(board, edge, sites, places, cells);
-    let masks = masks(places);
-    put_bits(board, edge, sites, end, &masks, false);
-    put_bits(board, edge, sites, 1 - end, &masks, true);
+    put_bits(board, edge, sites, end, masks, false);
+    put_bits(board, edge, sites, 1 - end, masks, true);
 }

@@ -29,8 +29,8 @@ returns-clause-published g c =
     let e = c.args.edge in
     let here = held_adds a b e p.0 c.requires.held p.1 in
     let low = covered_low c.args.sites (nth_place c.args.places.now) (length c.args.places.now) c.requires.places in
-    let mine = q.2 (nth_place c.args.places.now) (length c.args.places.now) c.masks-masks.ensures.masks low in
-    let theirs = r.2 (nth_place c.args.places.now) (length c.args.places.now) c.masks-masks.ensures.masks low in (
+    let mine = q.2 (nth_place c.args.places.now) (length c.args.places.now) c.requires.masks low in
+    let theirs = r.2 (nth_place c.args.places.now) (length c.args.places.now) c.requires.masks low in (
       p.0 ++ (q.0 ++ r.0),
       adds_then a b f e p.0 (q.0 ++ r.0) c.requires.held p.1 (adds_then b d f e q.0 r.0 here q.1 r.1),
       publish_whole c.args.sites c.args.end (length c.args.places.now) (cell_at c.args.cells.now) (nth_place c.args.places.now) p.0 q.0 r.0 c.requires.end

@@ -16,9 +16,9 @@ returns-in-Some-read_site-clause-read g c =
     let newer_is : c.newer_of.result ≡ newer (slice_index_or cells n no_cell) (Some c.in-Some-read_site.found) = c.newer_of.ensures ∙ ap (λ x. newer x (Some c.in-Some-read_site.found)) at in (
       r.0,
       r.1,
-      subst (λ o. ReadsSite c.args.sites c.args.end o (IsNewerAt n cells (slice_set cells n c.newer_of.result)) r.0) (sym c.in-Some.is) (Some c.in-Some-read_site.found, r.2, ap (slice_set cells n) newer_is),
+      subst (λ o. ReadsSite o c.args.news.now (IsNewerAt n cells (slice_set cells n c.newer_of.result)) r.0) (sym c.in-Some.is) (Some c.in-Some-read_site.found, r.2, ap (slice_set cells n) newer_is),
     )
 
 pub returns-in_default-clause-read : goal.returns-in_default-clause-read
 returns-in_default-clause-read g c =
-    ([], adds_none (g.D.Board.end c.args.board.now).lists c.args.edge, site_skipped c.args.sites c.args.end c.args.n c.args.cells.now c.args.place c.in_default.not-Some)
+    ([], adds_none (g.D.Board.end c.args.board.now).lists c.args.edge, site_skipped c.args.news.now c.args.n c.args.cells.now c.args.place c.in_default.not-Some)

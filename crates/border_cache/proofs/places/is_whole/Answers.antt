@@ -4,8 +4,8 @@ use Rattle.tile_map.specs.Plane.{site}
 use Rattle.border_cache.proofs.Whole.{corners_whole}
 use Rattle.border_cache.proofs.places.is_whole.Goals as goal
 
-pub returns-then-are_live : goal.returns-then-are_live
-returns-then-are_live c high =
+pub returns-then-are_live-clause-whole : goal.returns-then-are_live-clause-whole
+returns-then-are_live-clause-whole c high =
     let low = both _ _ (sym c.are_live.ensures ∙ c.if-are_live.true) in
     let far = both _ _ (sym c.are_live-then-are_live.ensures ∙ high) in
     corners_whole c.args.map.now c.requires.valid (site c.args.x c.args.y)

@@ -1,0 +1,165 @@
+-- The sites of a window row by row, as runs of places of an area.
+use Rattle.std.proofs.Common.{◌≡◌, ℕ, ◌+◌, ◌-◌, ◌*◌, ◌/◌, ◌%◌, ◌<◌, ◌≤◌, min, max, Bool, true, false, List, length, refl, sym, ap, ◌∙◌, arith, ◌⊎◌, inl, inr, ⊎_elim, Option, Some, None}
+use Rattle.std.specs.Prelude.{ℤ, slice_index_or, if◌then◌else◌}
+use Rattle.std.specs.Int.{bit_at}
+use Rattle.std.proofs.lemmas.Nat.Bits.{bit_at-zero}
+use Rattle.std.proofs.lemmas.Bool.Decides.{nat_tests}
+use Rattle.std.proofs.lemmas.Option.{none-some}
+use Rattle.list_laws.specs.Options.{or_zero}
+use Rattle.list_laws.proofs.Numbers.{less_or_same}
+use Rattle.window_sites.specs.Sites.{distance, offset_of, shifted}
+use Rattle.window_sites.proofs.Offsets.{offset-near, offset-found}
+use Rattle.tile_map.specs.declared.span.Area.{Area}
+use Rattle.tile_map.specs.Plane.{Site, apart}
+use Rattle.tile_map.specs.Spans.{is_within}
+use Rattle.tile_map.proofs.Near.{offset_to, offset_to-abs, shifted-offset_to, shifted-apart}
+use Rattle.tile_map.proofs.Spans.{times_more}
+use Rattle.border_cache.specs.News.{Covers, bit_in, AreMasks, SetsPlace, SetsRun}
+use Rattle.border_cache.specs.Windows.{place_among, place_at, IsNear, SetsRow}
+
+-- one more place of a run
+pub run_begins : (start : ℕ) (masks : List ℕ) → SetsRun start start masks masks
+run_begins start masks = record { count = refl; inside = λ k a b. absurd (omega (arith, a, b)); outside = λ k out. refl }
+
+pub run_more : (start p : ℕ) (old mid new : List ℕ) → start ≤ p → SetsRun start p old mid → SetsPlace (Some p) mid new → SetsRun start (p + 1) old new
+run_more start p old mid new le r s = record {
+  count = s.count ∙ r.count;
+  inside = λ k a b. ⊎_elim
+      (λ (lt : k < p). s.others k (λ h. let e : p ≡ k = ap or_zero h in omega (arith, e, lt)) ∙ r.inside k a lt)
+      (λ (e : k ≡ p). s.set k (ap Some (sym e)))
+      (less_or_same k p b);
+  outside = λ k out. s.others k (λ h. let e : p ≡ k = ap or_zero h in ⊎_elim (λ lt. omega (arith, e, lt, le)) (λ le. omega (arith, e, le)) out)
+      ∙ r.outside k (⊎_elim (λ lt. inl lt) (λ le. inr (omega (arith, le))) out);
+}
+
+-- a row of which the area has no site
+pub row_none : (a : Area) (c : Site) (j : ℕ) (masks : List ℕ) → ((k u v : ℕ) → IsNear a c k u v → v + 4 ≡ c.y + j → ⊥) → SetsRow a c j masks masks
+row_none a c j masks none = record { count = refl; set = λ k u v n e. absurd (none k u v n e); kept = λ k h. h; only = λ k h. inl h }
+
+-- how far a row reaches to either side
+abbrev pub reach : ℕ → ℕ
+reach j = min j (8 - j)
+
+row_close : (x y u v j : ℕ) → v + 4 ≡ y + j → j < 9 → apart x u + apart y v ≤ 4 → (x ≤ u + reach j) × (u ≤ x + reach j)
+row_close x y u v j e lt h = (omega (arith, e, lt, h), omega (arith, e, lt, h))
+
+close_row : (x y u v j : ℕ) → v + 4 ≡ y + j → j < 9 → x ≤ u + reach j → u ≤ x + reach j → apart x u + apart y v ≤ 4
+close_row x y u v j e lt p q = omega (arith, e, lt, p, q)
+
+order : (k a b : ℕ) → ((a ≤ k) × (k < b)) ⊎ ((k < a) ⊎ (b ≤ k))
+order k a b = grind arith
+
+module _ (a : Area) (c : Site) (j v : ℕ) (is : v + 4 ≡ c.y + j) (lt : j < 9) where
+  abbrev west : ℕ
+  west = max a.columns.first (c.x - reach j)
+
+  abbrev east : ℕ
+  east = min a.columns.end (c.x + reach j + 1)
+
+  abbrev row : ℕ
+  row = (v - a.rows.first) * (a.columns.end - a.columns.first)
+
+  abbrev start : ℕ
+  start = row + (west - a.columns.first)
+
+  -- a near site of the row lies in the run
+  in_run : (k u w : ℕ) → IsNear a c k u w → w + 4 ≡ c.y + j → (west ≤ u) × (u < east) × (k ≡ row + (u - a.columns.first))
+  in_run k u w n e =
+      let same : w ≡ v = omega (arith, e, is) in
+      let close = row_close c.x c.y u w j e lt n.close in
+      (omega (arith, n.west, close.0), omega (arith, n.east, close.1), n.place ∙ ap (λ z. (z - a.rows.first) * (a.columns.end - a.columns.first) + (u - a.columns.first)) same)
+
+  pub row_empty : east ≤ west → (k u w : ℕ) → IsNear a c k u w → w + 4 ≡ c.y + j → ⊥
+  row_empty none k u w n e = let r = in_run k u w n e in omega (arith, none, r.0, r.1)
+
+  pub row_some : (old new : List ℕ) → a.rows.first ≤ v → v < a.rows.end → west < east → SetsRun start (start + (east - west)) old new → SetsRow a c j old new
+  row_some old new north south some r = record {
+    count = r.count;
+    set = λ k u w n e. let p = in_run k u w n e in let q = p.2 in r.inside k (omega (arith, q, p.0, p.1)) (omega (arith, q, p.0, p.1));
+    kept = λ k one. ⊎_elim (λ h. r.inside k h.0 h.1) (λ h. r.outside k h ∙ one) (order k start (start + (east - west)));
+    only = λ k one. ⊎_elim (λ h. inr (k - start + west, v, near k h.0 h.1)) (λ h. inl (sym (r.outside k h) ∙ one)) (order k start (start + (east - west)));
+  }
+    where
+      near : (k : ℕ) → start ≤ k → k < start + (east - west) → IsNear a c k (k - start + west) v
+      near k from to =
+          let u : ℕ = k - start + west in
+          let below : k - start + west < east = omega (arith, from, to, some) in
+          record {
+            west = omega arith;
+            east = omega (arith, below);
+            north = north;
+            south = south;
+            place = omega (arith, from);
+            close = close_row c.x c.y (k - start + west) v j is lt (omega arith) (omega (arith, below));
+          }
+
+  -- the run lies within the area
+  pub row_fits : (n : ℕ) → (a.rows.end - a.rows.first) * (a.columns.end - a.columns.first) ≤ n → a.rows.first ≤ v → v < a.rows.end → west < east → start + (east - west) ≤ n
+  row_fits n few north south some =
+      let whole = times_more (v - a.rows.first + 1) (a.rows.end - a.rows.first) (a.columns.end - a.columns.first) (omega (arith, north, south)) in
+      omega (arith, few, whole, some)
+
+-- the rows of a window together
+pub record RowsSet (a : Area) (c : Site) (j : ℕ) (masks : List ℕ) : Type 0 where
+  pub count : length masks ≡ 9
+  pub set : (k u v : ℕ) → IsNear a c k u v → v + 4 < c.y + j → bit_in masks k ≡ 1
+  pub only : (k : ℕ) → bit_in masks k ≡ 1 → (u : ℕ) × (v : ℕ) × IsNear a c k u v
+
+pub rows_begin : (a : Area) (c : Site) (masks : List ℕ) → length masks ≡ 9 → ((k : ℕ) → slice_index_or masks k 0 ≡ 0) → RowsSet a c 0 masks
+rows_begin a c masks count none = record {
+  count = count;
+  set = λ k u v n lt. let close = n.close in absurd (omega (arith, lt, close));
+  only = λ k one. let z = ap (λ w. bit_at w (k % 64)) (none (k / 64)) ∙ bit_at-zero (k % 64) in absurd (omega (arith, one, z));
+}
+
+pub rows_more : (a : Area) (c : Site) (j : ℕ) (old new : List ℕ) → RowsSet a c j old → SetsRow a c j old new → RowsSet a c (j + 1) new
+rows_more a c j old new r s = record {
+  count = s.count ∙ r.count;
+  set = λ k u v n lt. ⊎_elim (λ before. s.kept k (r.set k u v n before)) (λ same. s.set k u v n same) (less_or_same (v + 4) (c.y + j) (omega (arith, lt)));
+  only = λ k one. ⊎_elim (λ before. r.only k before) (λ now. now) (s.only k one);
+}
+
+-- the places of a window are those that are near
+within_parts : (l r t b x y : ℕ) → is_within l r t b x y ≡ true → (l ≤ x) × (x < r) × (t ≤ y) × (y < b)
+within_parts l r t b x y h = grind (arith, nat_tests)
+
+within_whole : (l r t b x y : ℕ) → l ≤ x → x < r → t ≤ y → y < b → is_within l r t b x y ≡ true
+within_whole l r t b x y p q u v = grind (arith, nat_tests)
+
+module _ (a : Area) (c : Site) where
+  place_near : (n k : ℕ) → n < 41 → place_at a c n ≡ Some k → (u : ℕ) × (v : ℕ) × IsNear a c k u v
+  place_near n k lt h = go (shifted c.x (offset_of n).0) refl (shifted c.y (offset_of n).1) refl h
+    where
+      at : (u v : ℕ) → apart c.x u + apart c.y v ≤ 4 → (b : Bool) → is_within a.columns.first a.columns.end a.rows.first a.rows.end u v ≡ b
+          → (if b then Some ((v - a.rows.first) * (a.columns.end - a.columns.first) + (u - a.columns.first)) else None) ≡ Some k → (u : ℕ) × (v : ℕ) × IsNear a c k u v
+      at u v close true is e =
+          let p = within_parts a.columns.first a.columns.end a.rows.first a.rows.end u v is in
+          (u, v, record { west = p.0; east = p.1; north = p.2; south = p.3; place = sym (ap or_zero e); close = close })
+      at u v close false is e = absurd (none-some k e)
+
+      go : (o : Option ℕ) → shifted c.x (offset_of n).0 ≡ o → (q : Option ℕ) → shifted c.y (offset_of n).1 ≡ q → place_among a o q ≡ Some k → (u : ℕ) × (v : ℕ) × IsNear a c k u v
+      go None p q r e = absurd (none-some k e)
+      go (Some u) p None r e = absurd (none-some k e)
+      go (Some u) p (Some v) r e =
+          let x = shifted-apart c.x u (offset_of n).0 p in
+          let y = shifted-apart c.y v (offset_of n).1 r in
+          at u v (omega (arith, x, y, offset-near n (omega (arith, lt)))) (is_within a.columns.first a.columns.end a.rows.first a.rows.end u v) refl e
+
+  near_place : (k u v : ℕ) → IsNear a c k u v → Covers (place_at a c) 41 k
+  near_place k u v n =
+      let o : ℤ × ℤ = (offset_to c.x u, offset_to c.y v) in
+      let close : distance o ≤ 4 = omega (arith, n.close, offset_to-abs c.x u, offset_to-abs c.y v) in
+      let f = offset-found o close in
+      let inside = within_whole a.columns.first a.columns.end a.rows.first a.rows.end u v n.west n.east n.north n.south in (
+        f.0,
+        omega (arith, f.1),
+        ap (λ (p : ℤ × ℤ). place_among a (shifted c.x p.0) (shifted c.y p.1)) f.2
+            ∙ ((λ i. place_among a (shifted-offset_to c.x u i) (shifted-offset_to c.y v i))
+            ∙ (ap (λ b. if b then Some ((v - a.rows.first) * (a.columns.end - a.columns.first) + (u - a.columns.first)) else None) inside ∙ ap Some (sym n.place))),
+      )
+
+  pub rows_all : (j : ℕ) (masks : List ℕ) → 9 ≤ j → RowsSet a c j masks → AreMasks (place_at a c) 41 masks
+  rows_all j masks all r = record {
+    set = λ k cov. let n = place_near cov.0 k cov.1 cov.2 in let close = n.2.close in r.set k n.0 n.1 n.2 (omega (arith, close, all));
+    only = λ k one. let n = r.only k one in near_place k n.0 n.1 n.2;
+  }
