@@ -20,7 +20,7 @@ use Rattle.edge_lock.specs.History.{found_value}
 use Rattle.edge_lock.specs.EndLists.{writes_nothing, Shows}
 use Rattle.border_cache.specs.Cells.{CellValue, cell_of, newer}
 use Rattle.border_cache.specs.Accesses.{with_known, IsHonest, Adds}
-use Rattle.border_cache.specs.News.{Border, Covers, bit_in, AreMasks, Finds, FindsCell, IsNewsRead, AreNewsRead, IsWordRead, word_of, has_bit, is_news, cell_in, found_cell, IsAsked, IsRefresh, IsSiteRead, AreNewer, no_cell, with_newer, Refreshes, border, cells_at, ReadsSite, IsNewerAt}
+use Rattle.border_cache.specs.News.{Border, Covers, bit_in, AreMasks, Finds, FindsCell, IsNewsRead, AreNewsRead, IsWordRead, word_of, has_bit, is_news, cell_in, found_cell, IsAsked, IsSiteRead, AreNewer, no_cell, with_newer, Refreshes, border, cells_at, ReadsSite, IsNewerAt}
 use Rattle.border_cache.proofs.Runs.{known_after, honest_append}
 use Rattle.border_cache.proofs.Found.{found_new, found_read, silent_both}
 

@@ -1,18 +1,17 @@
 -- The sites of a window row by row, as runs of places of an area.
-use Rattle.std.proofs.Common.{◌≡◌, ◌≢◌, ℕ, ◌+◌, ◌-◌, ◌*◌, ◌/◌, ◌%◌, ◌<◌, ◌≤◌, min, max, Bool, true, false, List, length, refl, sym, ap, ◌∙◌, arith, ◌⊎◌, inl, inr, ⊎_elim, Option, Some, None}
+use Rattle.std.proofs.Common.{◌≡◌, ℕ, ◌+◌, ◌-◌, ◌*◌, ◌/◌, ◌%◌, ◌<◌, ◌≤◌, min, max, Bool, true, false, List, length, refl, sym, ap, ◌∙◌, arith, ◌⊎◌, inl, inr, ⊎_elim, Option, Some, None}
 use Rattle.std.specs.Prelude.{ℤ, slice_index_or, if◌then◌else◌}
 use Rattle.std.specs.Int.{bit_at}
 use Rattle.std.proofs.lemmas.Nat.Bits.{bit_at-zero}
-use Rattle.std.specs.Int.RustNames.{unsigned_abs}
 use Rattle.std.proofs.lemmas.Bool.Decides.{nat_tests}
-use Rattle.std.proofs.lemmas.Option.{none-some, same_Some}
+use Rattle.std.proofs.lemmas.Option.{none-some}
 use Rattle.list_laws.specs.Options.{or_zero}
 use Rattle.list_laws.proofs.Numbers.{less_or_same}
 use Rattle.window_sites.specs.Sites.{distance, offset_of, shifted}
 use Rattle.window_sites.proofs.Offsets.{offset-near, offset-found}
 use Rattle.tile_map.specs.declared.span.Area.{Area}
 use Rattle.tile_map.specs.Plane.{Site, apart}
-use Rattle.tile_map.specs.Spans.{is_within, place_within}
+use Rattle.tile_map.specs.Spans.{is_within}
 use Rattle.tile_map.proofs.Near.{offset_to, offset_to-abs, shifted-offset_to, shifted-apart}
 use Rattle.tile_map.proofs.Spans.{times_more}
 use Rattle.border_cache.specs.News.{Covers, bit_in, AreMasks, SetsPlace, SetsRun}

@@ -1,4 +1,4 @@
-use Rattle.std.proofs.Common.{◌≡◌, ◌+◌, ◌-◌, ◌*◌, ◌<◌, ◌≤◌, ℕ, min, max, sym, ap, ◌∙◌, arith, subst}
+use Rattle.std.proofs.Common.{◌≡◌, ◌+◌, ◌-◌, ◌*◌, ◌≤◌, ℕ, min, max, sym, ap, ◌∙◌, arith, subst}
 use Rattle.tile_map.specs.Plane.{site}
 use Rattle.tile_map.proofs.Numbers.{area_places}
 use Rattle.border_cache.specs.News.{SetsRun}

@@ -1,4 +1,4 @@
-use Rattle.std.proofs.Common.{◌≡◌, [], ◌∷◌, inl, inr, refl, ap}
+use Rattle.std.proofs.Common.{[], ◌∷◌, inl, inr, refl, ap}
 use Rattle.edge_lock.specs.declared.history.Access.TheVariants.{Read}
 use Rattle.border_cache.proofs.Runs.{adds_read, adds_none}
 use Rattle.border_cache.proofs.news.read_word.Goals as goal

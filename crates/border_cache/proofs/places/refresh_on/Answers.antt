@@ -1,10 +1,10 @@
-use Rattle.std.proofs.Common.{arith, ℕ, ◌≡◌, ◌<◌, ◌≤◌, ◌++◌, length, sym, ◌∙◌, ap, subst}
+use Rattle.std.proofs.Common.{arith, ℕ, ◌≡◌, ◌<◌, ◌++◌, length, sym, ◌∙◌, subst}
 use Rattle.edge_lock.specs.EndLists.{known_value}
 use Rattle.edge_lock.proofs.BoardLaws.{same_end}
 use Rattle.tile_map.specs.Plane.{site}
 use Rattle.border_cache.specs.Accesses.{IsHonest}
 use Rattle.border_cache.specs.News.{nth_place, Covers, border, IsNewsRead, IsNewerAt, IsPlace, ReadsSite}
-use Rattle.border_cache.specs.Windows.{place_in, border_at, end_at, sites_on}
+use Rattle.border_cache.specs.Windows.{place_in, border_at, sites_on}
 use Rattle.border_cache.proofs.Runs.{held_adds, adds_then, known_adds}
 use Rattle.border_cache.proofs.Covered.{covered_few, place_few}
 use Rattle.border_cache.proofs.Refreshes.{Refreshing, refreshing_begins, refreshing_clear, refreshing_more, refreshing_all, clear_bits}
