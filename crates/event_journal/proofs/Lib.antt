@@ -1,6 +1,8 @@
 pub mod Extents
 pub mod Journals
+pub mod Lines
 pub mod Merging
+pub mod Pairs
 pub mod Reports
 pub mod Shorter
 pub mod Takings
