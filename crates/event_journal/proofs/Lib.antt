@@ -1,5 +1,6 @@
 pub mod Extents
 pub mod Journals
+pub mod LineLengths
 pub mod Lines
 pub mod Merging
 pub mod Pairs

@@ -2,6 +2,7 @@ pub mod Accounts
 pub mod Cursors
 pub mod Cuts
 pub mod Forms
+pub mod Lengths
 pub mod Logs
 pub mod Merged
 pub mod Reading
