@@ -1,7 +1,10 @@
 pub mod Extents
 pub mod Heads
 pub mod Journals
+pub mod LineLengths
+pub mod Lines
 pub mod Merging
+pub mod Pairs
 pub mod Reports
 pub mod Shorter
 pub mod Takings

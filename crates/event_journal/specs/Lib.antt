@@ -3,6 +3,7 @@ pub mod Cursors
 pub mod Cuts
 pub mod Forms
 pub mod Heads
+pub mod Lengths
 pub mod Logs
 pub mod Merged
 pub mod Reading

@@ -9,10 +9,12 @@ ghost use Rattle.event_journal.specs.Walks.{rest_of};
 
 use crate::abandoned::Abandoned;
 use crate::journal::Journal;
+use crate::line::{LONGEST_ABANDONED, LONGEST_RECORD, write_abandoned, write_record};
 use crate::log::TileLog;
 use crate::walk::Walk;
 use cell_grid::Record;
 use feast_base::NoMemory;
+use feast_base::text::push;
 use std::alloc::Global;
 use text_lines::{Field, push_line};
 
@@ -23,41 +25,37 @@ pub fn count_fields(word: &[u8], count: u64) -> [Field<'_>; 2]
     [Field::Word(word), Field::Number(count)]
 }
 
-/// The fields of an event's line.
-pub fn record_fields(entry: &Record) -> [Field<'static>; 6]
-    ensures { map field_text result ≡ record_fields entry.now }
+/// Appends the line of an event, which is written in `line`.
+fn push_record(
+    out: &mut Vec<u8>,
+    entry: &Record,
+    line: &mut [u8; LONGEST_RECORD],
+) -> Result<(), NoMemory>
+    ensures { Appends out.old.items out.new.items result (ended_line (record_fields entry.now)) }
 {
-    [
-        Field::Number(entry.stamp as u64),
-        Field::Number(entry.tile as u64),
-        Field::Number(entry.attempt),
-        Field::Number(entry.x as u64),
-        Field::Number(entry.y as u64),
-        Field::Seed(entry.seed),
-    ]
+    let start = write_record(entry, line);
+    push(out, &line[start..])
 }
 
-/// The fields of the line of an attempt that was given up.
-pub fn abandoned_fields(entry: &Abandoned) -> [Field<'static>; 7]
-    ensures { map field_text result ≡ abandoned_fields entry.now }
+/// Appends the line of an attempt that was given up, which is written in `line`.
+fn push_entry(
+    out: &mut Vec<u8>,
+    entry: &Abandoned,
+    line: &mut [u8; LONGEST_ABANDONED],
+) -> Result<(), NoMemory>
+    ensures { Appends out.old.items out.new.items result (ended_line (abandoned_fields entry.now)) }
 {
-    [
-        Field::Number(entry.tile as u64),
-        Field::Number(entry.attempt),
-        Field::Number(entry.x as u64),
-        Field::Number(entry.y as u64),
-        Field::Number(entry.edge as u64),
-        Field::Number(entry.holder as u64),
-        Field::Number(entry.holder_attempt),
-    ]
+    let start = write_abandoned(entry, line);
+    push(out, &line[start..])
 }
 
 /// Appends the lines of events.
 fn push_record_lines(out: &mut Vec<u8>, records: &[Record]) -> Result<(), NoMemory>
     ensures { Appends out.old.items out.new.items result (text_of (map record_fields records.now)) }
 {
+    let mut line = [0; LONGEST_RECORD];
     for entry in records {
-        push_line(out, record_fields(entry).as_slice())?;
+        push_record(out, entry, &mut line)?;
     }
     Ok(())
 }
@@ -66,8 +64,9 @@ fn push_record_lines(out: &mut Vec<u8>, records: &[Record]) -> Result<(), NoMemo
 fn push_walk_lines(out: &mut Vec<u8>, walk: Walk<'_>) -> Result<(), NoMemory>
     ensures { Appends out.old.items out.new.items result (text_of (map record_fields (rest_of walk.entry))) }
 {
+    let mut line = [0; LONGEST_RECORD];
     for entry in walk {
-        push_line(out, record_fields(&entry).as_slice())?;
+        push_record(out, &entry, &mut line)?;
     }
     Ok(())
 }
@@ -76,8 +75,9 @@ fn push_walk_lines(out: &mut Vec<u8>, walk: Walk<'_>) -> Result<(), NoMemory>
 fn push_abandoned_lines(out: &mut Vec<u8>, abandoned: &[Abandoned]) -> Result<(), NoMemory>
     ensures { Appends out.old.items out.new.items result (text_of (map abandoned_fields abandoned.now)) }
 {
+    let mut line = [0; LONGEST_ABANDONED];
     for entry in abandoned {
-        push_line(out, abandoned_fields(entry).as_slice())?;
+        push_entry(out, entry, &mut line)?;
     }
     Ok(())
 }

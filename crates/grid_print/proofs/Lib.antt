@@ -1,4 +1,5 @@
 pub mod Ahead
+pub mod AtomLengths
 pub mod Bounds
 pub mod Counting
 pub mod Lines

@@ -9,6 +9,7 @@
 mod fault;
 mod fitting;
 mod law;
+mod lengths;
 mod page;
 mod shown;
 mod writer;

@@ -14,7 +14,7 @@ use text_lines::{Field, push_line};
 
 /// How many atoms are not empty.
 #[tactic(auto, unfolding(crate::specs::Report::shown_from))]
-fn count(grid: &Grid) -> u64
+pub(crate) fn count(grid: &Grid) -> u64
     ensures { result ≡ length (shown grid.now) }
 {
     let mut count = 0u64;
@@ -27,7 +27,7 @@ fn count(grid: &Grid) -> u64
 }
 
 /// The name of a type.
-fn name_of(names: &[Name], kind: u16) -> &[u8]
+pub(crate) fn name_of(names: &[Name], kind: u16) -> &[u8]
     requires { (1 ≤ kind) × (kind ≤ length names.now) }
     ensures { result.now ≡ name_of names.now kind }
 {

@@ -1,33 +1,43 @@
 //! The text of a report, and putting it.
 ghost use Rattle.std.specs.Prelude.{◌≡◌, ◌-◌, ◌^◌, ◌<◌, ◌++◌, [], IfOk, codes};
+ghost use Rattle.feast_base.specs.Appending.{Appends};
 ghost use Rattle.grid_print.specs.Report.{AreNamed, atoms_text, of_logs, report, report_of};
 ghost use Rattle.grid_print.specs.Writing.{Writes};
 
 use crate::fault::WriteFault;
+use crate::lengths::grid_len;
 use crate::page::put_pieces;
 use crate::shown::atoms;
 use cell_grid::{Grid, Record};
-use event_journal::{Abandoned, Journal, print, print_entries};
+use event_journal::{Abandoned, Journal, entries_text_len, journal_text_len, print, print_entries};
 use feast_base::{Name, NoMemory, Sink};
 use std::alloc::Global;
 use text_lines::{Field, push_line};
 
+/// Appends the text that shows a grid.
+fn push_grid(out: &mut Vec<u8>, grid: &Grid, names: &[Name]) -> Result<(), NoMemory>
+    requires { AreNamed names.now grid.now.atoms }
+    ensures { Appends out.old.items out.new.items result (codes "feast 1\n" ++ atoms_text names.now grid.now) }
+{
+    push_line(out, &[Field::Word(b"feast"), Field::Word(b"1")])?;
+    atoms(grid, names, out)
+}
+
 /// The text that shows a grid, with which its report begins: the line `feast 1`, and the atoms as
 /// `atoms` prints them. Each atom is empty or its type has a name: type numbers count the names
-/// from 1. `NoMemory` if there is none for the text.
+/// from 1. Memory is taken once, for the counted length of the text; `NoMemory` if there is none.
 pub fn grid_text(alloc: Global, grid: &Grid, names: &[Name]) -> Result<Vec<u8>, NoMemory>
     requires { AreNamed names.now grid.now.atoms }
     ensures { IfOk result (λ v. v.items ≡ codes "feast 1\n" ++ atoms_text names.now grid.now) }
 {
-    let mut out = Vec::new(alloc);
-    push_line(&mut out, &[Field::Word(b"feast"), Field::Word(b"1")])?;
-    atoms(grid, names, &mut out)?;
+    let mut out = Vec::with_capacity(alloc, grid_len(grid, names))?;
+    push_grid(&mut out, grid, names)?;
     Ok(out)
 }
 
 /// The text of the report that shows a grid, these events and these abandoned attempts. Each atom
-/// is empty or its type has a name: type numbers count the names from 1. `NoMemory` if there is
-/// none for the text.
+/// is empty or its type has a name: type numbers count the names from 1. Memory is taken once, for
+/// the counted length of the text; `NoMemory` if there is none.
 pub fn report_text(
     alloc: Global,
     grid: &Grid,
@@ -38,17 +48,21 @@ pub fn report_text(
     requires { AreNamed names.now grid.now.atoms }
     ensures { IfOk result (λ v. v.items ≡ report names.now grid.now records.now abandoned.now) }
 {
-    let mut out = grid_text(alloc, grid, names)?;
+    let len = grid_len(grid, names).saturating_add(entries_text_len(records, abandoned));
+    let mut out = Vec::with_capacity(alloc, len)?;
+    push_grid(&mut out, grid, names)?;
     print_entries(records, abandoned, &mut out)?;
     Ok(out)
 }
 
-/// The text of the report of a run.
+/// The text of the report of a run, whose memory is taken once, for its counted length.
 fn text(alloc: Global, grid: &Grid, journal: &Journal, names: &[Name]) -> Result<Vec<u8>, NoMemory>
     requires { AreNamed names.now grid.now.atoms }
     ensures { IfOk result (λ v. v.items ≡ report_of names.now (of_logs grid.now journal.now)) }
 {
-    let mut out = grid_text(alloc, grid, names)?;
+    let len = grid_len(grid, names).saturating_add(journal_text_len(journal));
+    let mut out = Vec::with_capacity(alloc, len)?;
+    push_grid(&mut out, grid, names)?;
     print(alloc, journal, &mut out)?;
     Ok(out)
 }

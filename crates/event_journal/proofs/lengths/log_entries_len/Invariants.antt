@@ -1,0 +1,12 @@
+use Rattle.std.proofs.Common.{◌≡◌, ◌+◌, ◌^◌, ◌<◌, drop, length, map}
+use Rattle.text_lines.specs.Lines.{text_of}
+use Rattle.event_journal.specs.Lengths.{capped}
+use Rattle.event_journal.specs.Logs.{abandoned_in}
+use Rattle.event_journal.specs.Text.{abandoned_fields}
+use Rattle.event_journal.proofs.lengths.log_entries_len.Given as goal
+
+abbrev pub invariant-loop-log : goal.invariant-loop-log
+invariant-loop-log l = record {
+  left : capped (l.len + length (text_of (map abandoned_fields (abandoned_in (drop l.log-index l.logs))))) ≡ capped (length (text_of (map abandoned_fields (abandoned_in l.logs))));
+  fits : l.len < 2 ^ 64;
+}
