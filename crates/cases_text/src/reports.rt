@@ -2,9 +2,10 @@
 ghost use Rattle.std.specs.Prelude.{◌-◌, ◌^◌, ◌<◌};
 
 use crate::made::{grid, journal, map};
-use event_journal::JournalFault;
+use cell_grid::Record;
+use event_journal::{Abandoned, JournalFault};
 use feast_base::{MemSink, Name, NoMemory, Stop};
-use grid_print::{WriteFault, atoms, write_report};
+use grid_print::{WriteFault, atoms, report_text, write_report};
 use std::alloc::Global;
 use std::test::Fail;
 use world_text::{name, read};
@@ -152,6 +153,74 @@ fn a_sink_that_stops_has_a_front_of_the_report(rt: HostRuntime) -> Result<(), Fa
         let found = written(alloc, text.as_slice(), &mut sink)?;
         assert_eq!(rt; found, Some(Err(WriteFault::Sink)));
         assert_eq!(rt; sink.written().len(), len);
+    }
+    Ok(())
+}
+
+/// Events whose numbers are as short as they can be, and as long.
+const EVENTS: [Record; 2] = [
+    Record {
+        stamp: 1,
+        tile: 0,
+        attempt: 0,
+        x: 4,
+        y: 3,
+        seed: 0,
+    },
+    Record {
+        stamp: u32::MAX,
+        tile: u32::MAX,
+        attempt: u64::MAX,
+        x: u32::MAX,
+        y: u32::MAX,
+        seed: u64::MAX,
+    },
+];
+
+/// Abandoned attempts whose numbers are as short as they can be, and as long.
+const GIVEN_UP: [Abandoned; 2] = [
+    Abandoned {
+        tile: 0,
+        attempt: 0,
+        x: 4,
+        y: 3,
+        edge: 0,
+        holder: 1,
+        holder_attempt: 9,
+    },
+    Abandoned {
+        tile: u32::MAX,
+        attempt: u64::MAX,
+        x: u32::MAX,
+        y: u32::MAX,
+        edge: u32::MAX,
+        holder: u32::MAX,
+        holder_attempt: u64::MAX,
+    },
+];
+
+/// The report of these entries over the start of a world. None if the text is not a world.
+fn reported(alloc: Global, text: &[u8]) -> Result<Option<Vec<u8>>, Fail> {
+    let mut names = Vec::new(alloc);
+    names.push(Name::new(alloc, b"Walker")?)?;
+    let Ok(raw) = read(alloc, text) else {
+        return Ok(None);
+    };
+    let Ok(world) = name(alloc, raw, names.as_slice()) else {
+        return Ok(None);
+    };
+    let grid = grid(alloc, &world, names.as_slice())?;
+    let report = report_text(alloc, &grid, names.as_slice(), &EVENTS, &GIVEN_UP)?;
+    Ok(Some(report))
+}
+
+#[test]
+fn a_report_takes_as_much_memory_as_it_is_long(rt: HostRuntime) -> Result<(), Fail> {
+    for (text, _) in REPORTS {
+        match reported(rt.alloc(), text.as_bytes())? {
+            Some(report) => assert_eq!(rt; report.capacity(), report.len(), "{text}"),
+            None => assert!(rt; false, "{text}"),
+        }
     }
     Ok(())
 }
