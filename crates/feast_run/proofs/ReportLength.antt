@@ -1,12 +1,11 @@
 -- The report of a run is no longer than a journal may be.
-use Rattle.std.proofs.Common.{ℕ, ◌≡◌, ◌+◌, ◌-◌, ◌*◌, ◌/◌, ◌%◌, ◌^◌, ◌<◌, ◌≤◌, ◌==◌, ◌&&◌, Bool, true, false, List, [], ◌∷◌, ◌++◌, All, codes, decimal, get_or, length, length-append, map, refl, ap, ◌∙◌, arith, inl, inr}
+use Rattle.std.proofs.Common.{ℕ, ◌≡◌, ◌+◌, ◌-◌, ◌*◌, ◌/◌, ◌%◌, ◌<◌, ◌≤◌, ◌==◌, ◌&&◌, Bool, true, false, List, [], ◌∷◌, ◌++◌, All, codes, decimal, get_or, length, length-append, map, refl, ap, ◌∙◌, arith, inl, inr}
 use Rattle.std.proofs.Math.ListN.{get_or-eq_default}
 use Rattle.std.specs.Char.{is_ascii_uppercase}
 use Rattle.std.specs.List.{list_all}
 use Rattle.std.specs.Prelude.{nat_le}
 use Rattle.std.proofs.Math.Nat.{div-add-mod'}
 use Rattle.std.proofs.lemmas.Bool.{cases_lt}
-use Rattle.std.proofs.lemmas.Fmt.{length-decimal-le}
 use Rattle.std.proofs.lemmas.Grind.{flat_map-append}
 use Rattle.std.proofs.lemmas.List.Concat.{length-flat_map}
 use Rattle.std.proofs.lemmas.List.Elements.{All-cons, All-get_or, All-nil}
@@ -21,6 +20,7 @@ use Rattle.cell_grid.specs.declared.record.Record.{Record}
 use Rattle.draw_stream.specs.Plans.{PlanValue}
 use Rattle.event_journal.specs.declared.abandoned.Abandoned.{Abandoned}
 use Rattle.event_journal.specs.Text.{abandoned_fields, abandoned_lines, count_fields, record_fields, record_lines}
+use Rattle.event_journal.proofs.Lines.{long_number, short_number}
 use Rattle.feast_base.specs.Digits.{hex}
 use Rattle.feast_base.specs.TypeNames.{is_type_name, is_word_byte, longest_name, name_of}
 use Rattle.feast_run.specs.Stages.{journal_limit}
@@ -69,39 +69,33 @@ lines_low f k xs all =
     let low = sum_by-le (λ x. length (ended_line (f x))) k xs all in
     omega (arith, lines, low)
 
-digits_low : (n : ℕ) → n < 2 ^ 32 → length (decimal n) ≤ 10
-digits_low n low = length-decimal-le 10 n (omega arith) (omega (arith, low)) (omega (arith, low))
-
-digits_most : (n : ℕ) → n < 2 ^ 64 → length (decimal n) ≤ 20
-digits_most n low = length-decimal-le 20 n (omega arith) (omega (arith, low)) low
-
 count_low : (word : List ℕ) (n : ℕ) → length word ≤ 9 → n < 2 ^ 32 → length (ended_line (count_fields word n)) ≤ 21
 count_low word n short low =
     let line = line_size word (decimal n ∷ []) in
-    let count = digits_low n low in
+    let count = short_number n low in
     omega (arith, line, count, short)
 
 record_low : (r : Record) → IsSmallRecord r → length (ended_line (record_fields r)) ≤ 82
 record_low r p =
     let line = line_size (decimal r.stamp) (decimal r.tile ∷ decimal r.attempt ∷ decimal r.x ∷ decimal r.y ∷ hex 16 r.seed ∷ []) in
-    let stamp = digits_low r.stamp p.stamp in
-    let tile = digits_low r.tile p.tile in
-    let attempt = digits_most r.attempt p.attempt in
-    let x = digits_low r.x p.x in
-    let y = digits_low r.y p.y in
+    let stamp = short_number r.stamp p.stamp in
+    let tile = short_number r.tile p.tile in
+    let attempt = long_number r.attempt p.attempt in
+    let x = short_number r.x p.x in
+    let y = short_number r.y p.y in
     let seed = hex_length 16 r.seed in
     omega (arith, line, stamp, tile, attempt, x, y, seed)
 
 abandoned_low : (a : Abandoned) → IsSmallAbandoned a → length (ended_line (abandoned_fields a)) ≤ 97
 abandoned_low a p =
     let line = line_size (decimal a.tile) (decimal a.attempt ∷ decimal a.x ∷ decimal a.y ∷ decimal a.edge ∷ decimal a.holder ∷ decimal a.holder_attempt ∷ []) in
-    let tile = digits_low a.tile p.tile in
-    let attempt = digits_most a.attempt p.attempt in
-    let x = digits_low a.x p.x in
-    let y = digits_low a.y p.y in
-    let edge = digits_low a.edge p.edge in
-    let holder = digits_low a.holder p.holder in
-    let last = digits_most a.holder_attempt p.holder_attempt in
+    let tile = short_number a.tile p.tile in
+    let attempt = long_number a.attempt p.attempt in
+    let x = short_number a.x p.x in
+    let y = short_number a.y p.y in
+    let edge = short_number a.edge p.edge in
+    let holder = short_number a.holder p.holder in
+    let last = long_number a.holder_attempt p.holder_attempt in
     omega (arith, line, tile, attempt, x, y, edge, holder, last)
 
 name_low : (names : List (List ℕ)) (kind : ℕ) → AreShort names → length (name_of names kind) ≤ 255
@@ -116,8 +110,8 @@ IsLowAtom names s = length (ended_line (atom_fields names s)) ≤ 297
 atom_low : (names : List (List ℕ)) (width i : ℕ) (a : AtomValue) → AreShort names → 1 ≤ width → i < 2 ^ 32 → IsLowAtom names (shown_at width i a)
 atom_low names width i a short wide low =
     let line = line_size (decimal (i % width)) (decimal (i / width) ∷ name_of names a.kind ∷ hex 18 a.state ∷ []) in
-    let x = let m = rest_low i width in digits_low (i % width) (omega (arith, m, low)) in
-    let y = let m = part_low i width wide in digits_low (i / width) (omega (arith, m, low)) in
+    let x = let m = rest_low i width in short_number (i % width) (omega (arith, m, low)) in
+    let y = let m = part_low i width wide in short_number (i / width) (omega (arith, m, low)) in
     let name = name_low names a.kind short in
     let state = hex_length 18 a.state in
     omega (arith, line, x, y, name, state)
