@@ -1,6 +1,7 @@
 -- What is appended for the code's classes and data members.
-use Rattle.std.specs.Prelude.{ℕ, ◌≡◌, List, ◌++◌, Vec, map, Result, OnOk}
+use Rattle.std.specs.Prelude.{ℕ, List, Vec, map, Result}
 use Rattle.std.specs.declared.alloc.Global.{Global}
+use Rattle.feast_base.specs.Appending.{Appends}
 use Rattle.ulam_tree.specs.TypedViews.{typed_class, typed_member}
 use Rattle.ulam_tree.specs.declared.resolved.Ty.{Ty}
 use Rattle.ulam_tree.specs.declared.typed.Class.{Class}
@@ -9,9 +10,9 @@ use Rattle.element_set.specs.CheckText.{class_after, member_text, members_text, 
 use Rattle.element_set.specs.Kept.{set_of_lists}
 use Rattle.element_set.specs.declared.print.Span.{Span}
 
--- the text was appended, unless memory ran out
+-- the text was appended, or anything after the old bytes where memory ran out
 abbrev pub Adds : {T E : Type 0} → Result T E → Vec ℕ Global → Vec ℕ Global → List ℕ → Type 0
-Adds result old new text = OnOk result (new.items ≡ old.items ++ text)
+Adds result old new text = Appends old.items new.items result text
 
 -- a data member on these bits, by its name, its type and its length
 abbrev pub field_text : List Class → List ℕ → Ty → ℕ → Span → List ℕ

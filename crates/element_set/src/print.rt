@@ -241,15 +241,17 @@ fn push_classes(out: &mut Vec<u8>, classes: &[Class], layout: &Layout) -> Result
 
 impl ElementSet {
     /// Appends the text that shows the classes: a line for each class with its bits, and for an
-    /// element with its number, and a line for each data member that takes bits. `NoMemory` if the
-    /// text can't be made or `out` can't grow by it; `out` is then as it was.
+    /// element with its number, and a line for each data member that takes bits. `NoMemory` if `out`
+    /// can't grow by the text; `out` then has what it had.
     pub fn print_check(&self, out: &mut Vec<u8>) -> Result<(), NoMemory>
         ensures ok { OnOk result (out.new.items ≡ out.old.items ++ check_text (set_value self.now)) }
         ensures err { OnErr result (out.new.items ≡ out.old.items) }
     {
-        let mut text = Vec::new(*out.allocator());
-        push_classes(&mut text, self.typed.classes.as_slice(), &self.layout)?;
-        out.extend_from_slice(text.as_slice())?;
-        Ok(())
+        let before = out.len();
+        let pushed = push_classes(out, self.typed.classes.as_slice(), &self.layout);
+        if pushed.is_err() {
+            out.truncate(before);
+        }
+        pushed
     }
 }

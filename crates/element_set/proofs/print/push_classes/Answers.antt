@@ -1,6 +1,6 @@
 use Rattle.std.proofs.Common.{suc, ◌≡◌, ◌+◌, ◌<◌, [], ◌∷◌, ◌++◌, length, take, drop, map, get_or, sum, sym, ap, ◌∙◌, arith}
 use Rattle.std.proofs.lemmas.List.{drop_more, get_or-map, length-map}
-use Rattle.feast_base.proofs.Appending.{piece_done}
+use Rattle.feast_base.proofs.Appending.{Appends-at_exit, more_after, piece_done}
 use Rattle.ulam_tree.specs.TypedViews.{typed_class}
 use Rattle.atom_layout.specs.Layouts.{class_at}
 use Rattle.element_set.specs.CheckText.{class_line, members_text, class_text, classes_text}
@@ -69,6 +69,11 @@ loop-class-preserved c =
     let next : k + 1 ≡ suc k = omega arith in
     record {
       done = piece_done c.loop-class.out.items _ (class_text s own (typed_class item)) _ _ pushed whole;
+      kept = more_after _ c.loop-class.out.items _ c.loop-class.invariant.kept (_, c.in_ok-push_class.ensures);
       own = omega (arith, c.loop-class.invariant.own);
       before = omega (arith, c.with_class-before.ensures, c.loop-class.invariant.before, elements_next cs k (typed_class item) lt at, ap (λ n. length (names_in (take n cs))) next);
     }
+
+pub returns-in_err-push_class : goal.returns-in_err-push_class
+returns-in_err-push_class c =
+    Appends-at_exit _ c.args.out.now.items c.loop-class.out.items _ _ c.from_residual.result c.from_residual.ensures.1 c.loop-class.invariant.kept c.in_err-push_class.ensures
