@@ -8,7 +8,7 @@ use Rattle.draw_stream.specs.declared.attempt.Attempt.{Attempt}
 use Rattle.edge_lock.specs.EndLists.{EndLists}
 use Rattle.edge_lock.specs.EndValues.{EndValue}
 use Rattle.border_cache.specs.Windows.{is_shown}
-use Rattle.border_cache.specs.Copies.{CacheValue, shown_atom}
+use Rattle.border_cache.specs.Copies.{CacheValue, shown_atom, Marked}
 use Rattle.tile_core.specs.declared.phase.Phase.{Phase}
 use Rattle.tile_core.specs.declared.phase.Phase.TheVariants.{Draw, Lock, Refresh, Behave, Write, Give, Back, Finished, Worn}
 use Rattle.tile_core.specs.declared.state.State.{State}
@@ -38,6 +38,10 @@ until_written Worn w = no_window
 -- The window that the event left. One at an empty centre leaves it as the cells show it, and a tile keeps no window of it.
 abbrev pub left_window : State → WindowValue
 left_window s = if s.idle then window_seen s.cache (site s.x s.y) else s.window
+
+-- the sites of the window have what the event left there, and its stamp
+abbrev pub LeavesMarks : State → CacheValue → Type 0
+LeavesMarks s cache = Marked (site s.x s.y) (left_window s) s.event_stamp s.cache cache
 
 abbrev pub value_of : State → TileValue
 value_of s = record {

@@ -2,14 +2,14 @@
 ghost use Rattle.std.specs.Prelude.{◌≡◌, ◌<◌, ◌≤◌, ◌+◌, ◌-◌, ◌*◌, ℕ, length, nat_lt, IfOk};
 ghost use Rattle.tile_map.specs.Plane.{site, tiles_of};
 ghost use Rattle.tile_map.specs.Edges.{pairs_of, other_end};
-ghost use Rattle.border_cache.specs.Copies.{IsEndOf, IsGridOf, IsCentre, Marked};
+ghost use Rattle.border_cache.specs.Copies.{IsEndOf, IsGridOf, IsCentre};
 ghost use Rattle.tile_core.specs.declared.phase.Phase.TheVariants.{Draw, Lock, Refresh, Behave, Write, Give, Back};
 ghost use Rattle.edge_lock.specs.EndLists.{EndLists};
 ghost use Rattle.edge_lock.specs.EndValues.{SameEnd};
 ghost use Rattle.tile_core.specs.Underway.{IsSome, CanAttempt, IsFreshTile};
 ghost use Rattle.tile_core.specs.Steps.{rules_of, StepsIn, over, Begins, Draws, Tries, Refreshes, Behaves, Writes, Frees, got, refused, noted};
 ghost use Rattle.tile_core.specs.Values.{atoms_of};
-ghost use Rattle.tile_core.specs.Kept.{value_of, at, owed, IsIn, HasRoom, Reserves, left_window};
+ghost use Rattle.tile_core.specs.Kept.{value_of, at, owed, IsIn, HasRoom, Reserves, LeavesMarks};
 
 use crate::clocks::{read_clocks, write_clocks};
 use crate::phase::Phase;
@@ -332,7 +332,7 @@ impl State {
     fn mark(&mut self, map: &Map)
         requires map { map.now ≡ self.old.cache.map }
         requires centre { IsCentre self.old.cache.map self.old.cache.tile (site self.old.x self.old.y) }
-        ensures marked { Marked (site self.old.x self.old.y) (left_window self.old) self.old.event_stamp self.old.cache self.new.cache }
+        ensures marked { LeavesMarks self.old self.new.cache }
         ensures rest { self.new ≡ record self.old { cache = self.new.cache } }
     {
         if self.idle {
