@@ -7,3 +7,5 @@ pub mod Functions
 pub mod Near
 pub mod Calls
 pub mod Examples
+pub mod Accepted
+pub mod Meanings

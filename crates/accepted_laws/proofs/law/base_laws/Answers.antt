@@ -1,3 +1,4 @@
+use Rattle.accepted_laws.proofs.Accepted.{have_trees}
 use Rattle.accepted_laws.proofs.Calls.{calls_nearest}
 use Rattle.accepted_laws.proofs.Examples.{has_example}
 use Rattle.accepted_laws.proofs.Members.{has_members, heir_is}
@@ -7,6 +8,7 @@ use Rattle.accepted_laws.proofs.law.base_laws.Goals as goal
 
 pub returns : goal.returns
 returns c = record {
+  accepted = have_trees;
   numbers = numbers;
   members = λ x heir base has.
       let own = heir_is (heirs x) has.0 heir base has.1 in
