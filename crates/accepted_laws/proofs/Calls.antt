@@ -1,6 +1,6 @@
 -- Where a virtual name leads.
-use Rattle.std.proofs.Common.{◌≡◌, ◌⊎◌, inl, inr, ℕ, zero, suc, List, [], ◌∷◌, ◌++◌, length, map, Bool, true, false, Option, Some, None, option_map, option_and_then, refl, sym, ap, ◌∙◌, subst}
-use Rattle.std.specs.Prelude.{slice_get, position, reverse, bytes_eq}
+use Rattle.std.proofs.Common.{◌≡◌, ◌⊎◌, inl, inr, ℕ, zero, suc, List, [], ◌∷◌, ◌++◌, length, map, Option, Some, None, option_map, option_and_then, refl, sym, ap, ◌∙◌}
+use Rattle.std.specs.Prelude.{slice_get, reverse}
 use Rattle.std.specs.Option.{option_or, option_map_or, option_to_list}
 use Rattle.std.proofs.lemmas.Bool.{false≢true}
 use Rattle.ulam_tree.specs.declared.resolved.Ty.{Ty}
@@ -14,7 +14,7 @@ use Rattle.ulam_heirs.specs.Lines.{Heir, base_number, base_of, upward, classes_a
 use Rattle.ulam_heirs.specs.Flat.{is_virtual_name, flat_members}
 use Rattle.ulam_names.specs.Scopes.{Text, Head, Context, Entry, number_of, names_of, field_in, function_in, in_class, member_of_own, in_own_class, first_step, first_name, slot_named, last_named, no_names}
 use Rattle.ulam_names.specs.Walk.{one_word}
-use Rattle.ulam_names.specs.Classes.{HalfClass, head_of}
+use Rattle.ulam_names.specs.Classes.{head_of}
 use Rattle.ulam_names.specs.Relation.{IsPath}
 use Rattle.ulam_names.specs.ClassRelation.{own_class}
 use Rattle.ulam_types.specs.Programs.{class_sig}
@@ -23,7 +23,7 @@ use Rattle.accepted_laws.specs.Calls.{IsVirtualIn, CallsNearest, function_words,
 use Rattle.accepted_laws.proofs.Lists.{changed_place, first_none}
 use Rattle.accepted_laws.proofs.Rows.{Row, row}
 use Rattle.accepted_laws.proofs.Once.{at_most_once}
-use Rattle.accepted_laws.proofs.Functions.{texts, raw_words, fields_named, functions_named, function_words_are, HasNumber, has_number}
+use Rattle.accepted_laws.proofs.Functions.{fields_named, functions_named, function_words_are, has_number}
 use Rattle.accepted_laws.proofs.Near.{near_stands}
 
 -- A name in a class

@@ -1,10 +1,8 @@
 -- The example is accepted.
-use Rattle.std.proofs.Common.{◌≡◌, true, List, [], ◌∷◌, None, Result, Ok, Err, refl, subst, codes}
+use Rattle.std.proofs.Common.{◌≡◌, true, List, [], ◌∷◌, None, Result, Ok, Err, refl}
 use Rattle.std.specs.Prelude.{is_ok}
 use Rattle.std.proofs.lemmas.Bool.{false≢true}
 use Rattle.ulam_tree.specs.Raw.{Item}
-use Rattle.ulam_tree.specs.Resolved as r
-use Rattle.ulam_tree.specs.Typed as t
 use Rattle.ulam_tree.specs.Locals.{locals}
 use Rattle.ulam_tree.specs.Ways.{leads}
 use Rattle.ulam_tree.proofs.Means.{Means}

@@ -1,10 +1,9 @@
 -- The functions of a class by their numbers.
-use Rattle.std.proofs.Common.{◌≡◌, ℕ, zero, suc, List, [], ◌∷◌, ◌++◌, map, Bool, true, false, ◌||◌, cond, Option, Some, None, refl, sym, ap, ◌∙◌, subst, append-nil, append_assoc}
+use Rattle.std.proofs.Common.{◌≡◌, ℕ, suc, List, [], ◌∷◌, ◌++◌, map, Bool, true, false, ◌||◌, cond, Some, refl, sym, ap, ◌∙◌, append-nil, append_assoc}
 use Rattle.std.specs.Prelude.{slice_get, position, bytes_eq}
 use Rattle.std.specs.List.{filter, list_any}
 use Rattle.std.proofs.lemmas.Bool.{false≢true, false_from_ne_true}
 use Rattle.std.proofs.lemmas.Slice.Eq.{bytes_eq-Decides}
-use Rattle.ulam_tree.specs.Raw as raw
 use Rattle.ulam_tree.specs.Raw.{Member, Word, typedef, constant, field, function}
 use Rattle.ulam_tree.specs.Resolved as r
 use Rattle.ulam_tree.specs.Typed as t
@@ -15,7 +14,7 @@ use Rattle.ulam_names.specs.ClassRelation.{IsMember, AreMembers, OwnClass, AreWh
 use Rattle.ulam_types.specs.Scopes.{ClassSig}
 use Rattle.ulam_types.specs.ProgramTyping.{AreTypedMembers}
 use Rattle.accepted_laws.specs.Calls.{function_words}
-use Rattle.accepted_laws.proofs.Lists.{first_here, first_later, first_none}
+use Rattle.accepted_laws.proofs.Lists.{first_here, first_later}
 use Rattle.accepted_laws.proofs.Once.{names_more}
 
 -- names of data members and of functions, in order

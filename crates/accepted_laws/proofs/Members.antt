@@ -1,5 +1,5 @@
 -- A data member of a base is one of each heir, with the same bits.
-use Rattle.std.proofs.Common.{◌≡◌, ℕ, zero, suc, ◌<◌, ◌≤◌, List, [], ◌∷◌, ◌++◌, length, map, take, get_or, true, ◌||◌, Option, Some, None, option_and_then, nat_eq, refl, sym, ap, ◌∙◌, subst, arith}
+use Rattle.std.proofs.Common.{◌≡◌, ℕ, zero, suc, ◌<◌, List, [], ◌∷◌, ◌++◌, length, map, take, get_or, true, ◌||◌, Option, Some, None, option_and_then, nat_eq, refl, sym, ap, ◌∙◌, subst, arith}
 use Rattle.std.specs.Prelude.{slice_get, sum}
 use Rattle.std.specs.List.{list_any}
 use Rattle.std.specs.Option.{option_map_or, option_to_list}
@@ -15,9 +15,9 @@ use Rattle.ulam_names.specs.Scopes.{no_names}
 use Rattle.ulam_names.specs.ClassRelation.{own_class}
 use Rattle.ulam_names.specs.Classes.{head_of}
 use Rattle.ulam_types.specs.Programs.{class_sig}
-use Rattle.atom_layout.specs.Layouts.{member_bits, widths, class_bits, layout_of, class_at, first_bit}
+use Rattle.atom_layout.specs.Layouts.{member_bits, widths, class_bits, layout_of, class_at}
 use Rattle.accepted_laws.specs.Accepted.{AcceptedTrees, heirs}
-use Rattle.accepted_laws.specs.Data.{DataMember, data_members, data_of, IsSameMember, HasMembersOf}
+use Rattle.accepted_laws.specs.Data.{DataMember, data_members, data_of, HasMembersOf}
 use Rattle.accepted_laws.proofs.Lists.{changed_at, taken_front, value_front, place_front}
 use Rattle.accepted_laws.proofs.Rows.{Row, row, heir_of_typed}
 use Rattle.accepted_laws.proofs.Declared.{half_data, data_front, whole_data, typed_data}

@@ -1,9 +1,9 @@
 -- A class through the stages: as it is written, flat, with its names looked up, and typed.
-use Rattle.std.proofs.Common.{◌≡◌, ℕ, zero, suc, ◌+◌, ◌<◌, List, [], ◌∷◌, ◌++◌, length, map, Option, Some, None, option_map, refl, sym, ap, ◌∙◌, subst, arith}
+use Rattle.std.proofs.Common.{◌≡◌, ℕ, zero, suc, ◌+◌, ◌<◌, List, [], ◌∷◌, ◌++◌, length, map, Some, option_map, refl, sym, ap, ◌∙◌, subst, arith}
 use Rattle.std.specs.Prelude.{slice_get, flat_map}
 use Rattle.std.proofs.lemmas.List.{map-append, length-map}
 use Rattle.list_laws.proofs.Slots.{get_inside}
-use Rattle.ulam_tree.specs.Raw.{Item, ulam, uses, class, Class, Member, Word}
+use Rattle.ulam_tree.specs.Raw.{Item, ulam, uses, class, Class, Member}
 use Rattle.ulam_tree.specs.Resolved as r
 use Rattle.ulam_tree.specs.Typed as t
 use Rattle.ulam_heirs.specs.Heads.{Heads}

@@ -2,9 +2,9 @@
 --     ulam 5;
 --     quark Base { Bool full; virtual Void go() { } Void turn() { go(); } }
 --     element Heir : Base { Void go() { } Void behave() { turn(); } }
-use Rattle.std.specs.Prelude.{ℕ, ◌≡◌, List, [], ◌∷◌, Some, None, true, false, codes}
+use Rattle.std.specs.Prelude.{ℕ, ◌≡◌, List, [], ◌∷◌, None, true, false, codes}
 use Rattle.feast_base.specs.declared.place.Place.{Place}
-use Rattle.ulam_tree.specs.Raw.{Word, TypeRef, Path, Body, does, no_args, no_more, then_so, Member, field, function, Item, ulam, class}
+use Rattle.ulam_tree.specs.Raw.{Word, TypeRef, Body, does, no_args, no_more, then_so, Member, field, function, Item, ulam, class}
 use Rattle.ulam_heirs.specs.Heads.{Heads}
 use Rattle.ulam_heirs.specs.Laws.{HasBase}
 use Rattle.accepted_laws.specs.Accepted.{AcceptedTrees, heirs}
