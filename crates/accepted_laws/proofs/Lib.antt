@@ -1,0 +1,11 @@
+pub mod Lists
+pub mod Rows
+pub mod Declared
+pub mod Members
+pub mod Once
+pub mod Functions
+pub mod Near
+pub mod Calls
+pub mod Examples
+pub mod Accepted
+pub mod Meanings
