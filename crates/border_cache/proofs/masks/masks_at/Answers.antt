@@ -1,6 +1,6 @@
 use Rattle.std.proofs.Common.{arith}
 use Rattle.tile_map.specs.Plane.{site}
-use Rattle.border_cache.proofs.Rows.{rows_more, rows_all}
+use Rattle.border_cache.proofs.RowPlaces.{rows_more, rows_all}
 use Rattle.border_cache.proofs.masks.masks_at.Goals as goal
 
 pub loop-j-preserved : goal.loop-j-preserved

@@ -1,5 +1,5 @@
 use Rattle.tile_map.specs.Plane.{site}
-use Rattle.border_cache.proofs.Rows.{RowsSet}
+use Rattle.border_cache.proofs.RowPlaces.{RowsSet}
 use Rattle.border_cache.proofs.masks.masks_at.Given as goal
 
 abbrev pub invariant-loop-j : goal.invariant-loop-j

@@ -2,7 +2,7 @@ use Rattle.std.proofs.Common.{◌≡◌, ◌+◌, ◌-◌, ◌*◌, ◌≤◌, �
 use Rattle.tile_map.specs.Plane.{site}
 use Rattle.tile_map.proofs.Numbers.{area_places}
 use Rattle.border_cache.specs.News.{SetsRun}
-use Rattle.border_cache.proofs.Rows.{reach, row_fits, row_some}
+use Rattle.border_cache.proofs.RowPlaces.{reach, row_fits, row_some}
 use Rattle.border_cache.proofs.masks.set_row.Goals as goal
 
 pub set_run-requires-clause-few : goal.set_run-requires-clause-few

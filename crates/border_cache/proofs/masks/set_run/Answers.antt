@@ -1,6 +1,6 @@
 use Rattle.std.proofs.Common.{arith, subst, ◌≡◌}
 use Rattle.border_cache.specs.News.{SetsRun}
-use Rattle.border_cache.proofs.Rows.{run_begins, run_more}
+use Rattle.border_cache.proofs.RowPlaces.{run_begins, run_more}
 use Rattle.border_cache.proofs.masks.set_run.Goals as goal
 
 pub loop-place-init : goal.loop-place-init
