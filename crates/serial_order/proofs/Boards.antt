@@ -67,11 +67,11 @@ module _ (m : MapValue) (t : ℕ) (given : List Attempt) (n : ℕ) where
   first_turn k (Loses l) lt a = (a.0, first_attempt k (given_up_site l.gone) a.0 lt a.1)
   first_turn k (Wears w) lt a = (a.0, first_attempt k w.site a.0 lt a.1)
 
-  first_turns : (turns : List Turn) → length turns ≤ n → AreAttempts m t given turns → AreAttempts m t (take n given) turns
+  pub first_turns : (turns : List Turn) → length turns ≤ n → AreAttempts m t given turns → AreAttempts m t (take n given) turns
   first_turns [] le a = tt
   first_turns (x ∷ xs) le a = (first_turn (length xs) x (omega (arith, le)) a.0, first_turns xs (omega (arith, le)) a.1)
 
-few_turns : (m : MapValue) (t : ℕ) (given : List Attempt) (turns : List Turn) → AreAttempts m t given turns → length turns ≤ length given
+pub few_turns : (m : MapValue) (t : ℕ) (given : List Attempt) (turns : List Turn) → AreAttempts m t given turns → length turns ≤ length given
 few_turns m t given [] a = omega arith
 few_turns m t given (x ∷ xs) a = let lt = attempt_there m t given (length xs) x a.0 in omega (arith, lt)
 

@@ -7,6 +7,7 @@ pub mod Ground
 pub mod Deeds
 pub mod World
 pub mod News
+pub mod OneEdge
 pub mod Order
 pub mod Grids
 pub mod Replay
@@ -19,6 +20,7 @@ pub mod Excuses
 pub mod TileLog
 pub mod Stamping
 pub mod Whole
+pub mod Moment
 pub mod Journal
 pub mod Promises
 pub mod SmallRun
@@ -31,3 +33,4 @@ pub mod BlankGrid
 pub mod Filling
 pub mod Outcomes
 pub mod Boards
+pub mod Resting

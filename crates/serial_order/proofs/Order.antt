@@ -24,7 +24,8 @@ use Rattle.serial_order.proofs.News.{HasNews, IsNewsOf, News, quiet, by_own, by_
 use Rattle.serial_order.proofs.Deeds.{is_near, covers, at_place, bit_in, bit_clear, event_hold, covered, mine, theirs, spared, bits}
 use Rattle.serial_order.proofs.Tile.{Played, Did, DidWrite, Past, past, grows, stamps, last_is}
 use Rattle.serial_order.proofs.Tile.{cell_by as cell_at_site}
-use Rattle.serial_order.proofs.World.{IsRun, IsEvent, Needs, EventOn, deeds, past_of, hold_of, has_hold, in_hist, of_events, owner_is, live_centre, an_end}
+use Rattle.serial_order.proofs.OneEdge.{news_on}
+use Rattle.serial_order.proofs.World.{IsRun, run_on, IsEvent, Needs, EventOn, deeds, past_of, hold_of, has_hold, in_hist, of_events, owner_is, live_centre, an_end}
 
 -- the cell that an event found at a site on an edge, where it was news
 abbrev pub seen_of : MapValue → Won → ℕ → Site → Option CellValue
@@ -93,26 +94,10 @@ Writes m turns s w = IsEvent turns w × (in_window m (event_site w.note) s ≡ t
 abbrev pub WroteBelow : MapValue → (ℕ → List Turn) → ℕ → Site → Won → Type 0
 WroteBelow m turns n s v = Writes m turns s v × (v.note.stamp < n)
 
--- in one history a hold is known by its end and its attempt
-one_hold : (hs : List Hold) → IsHistory hs → (g h : Hold) → In g hs → In h hs → g.end ≡ h.end → g.attempt ≡ h.attempt → g ≡ h
-one_hold [] good g h i j e f = absurd i
-one_hold (k ∷ hs) good g h i j e f = ⊎_elim
-    (λ (p : g ≡ k). ⊎_elim (λ (q : h ≡ k). p ∙ sym q) (λ q. absurd (omega (arith, good.0.rising h q (sym e ∙ ap (λ (x : Hold). x.end) p), f, ap (λ (x : Hold). x.attempt) p))) j)
-    (λ p. ⊎_elim (λ (q : h ≡ k). absurd (omega (arith, good.0.rising g p (e ∙ ap (λ (x : Hold). x.end) q), f, ap (λ (x : Hold). x.attempt) q))) (λ q. one_hold hs good.1 g h p q e f) j) i
-
 module _ (m : MapValue) (meaning : WindowValue → ℕ → WindowValue) (start : Site → AtomValue) (turns : ℕ → List Turn) (hist : ℕ → List Hold) (run : IsRun m meaning start turns hist) where
-  news_of : (e : ℕ) (x : EventOn m turns e) (h : Hold) → In h (hist e) → IsHoldOf (deeds m turns e) x h → x.won.hold e ≡ h
-  news_of e x h i o = one_hold (hist e) (run.histories e) (x.won.hold e) h (in_hist m meaning start turns hist run e x) i ((hold_of m meaning start turns hist run e x).at_end ∙ sym o.at_end) ((hold_of m meaning start turns hist run e x).for_attempt ∙ sym o.for_attempt)
-
   -- what each event did to the news words
   pub news : (e : ℕ) → HasNews (deeds m turns e) (word_of (sites_on m e)) bit_in (hist e)
-  news e h i x o =
-      let w = x.won in
-      let p = past_of m meaning start turns hist run w x.did in
-      let mine' = mine m run.plane meaning start w.note.tile p.before w p.won e x.needs in
-      let theirs' = theirs m run.plane meaning start w.note.tile p.before w p.won e x.needs in
-      let spared' = spared m run.plane meaning start w.note.tile p.before w p.won e x.needs in
-      subst (IsNewsOf (deeds m turns e) (word_of (sites_on m e)) bit_in x) (news_of e x h i o) (record { mine = λ k lt c. mine' k c; theirs = λ b k small ne lt c. theirs' b k small ne c; spared = λ b k small lt c. spared' b k small lt c })
+  news e = news_on m meaning start turns e (hist e) (run_on m meaning start turns hist run e)
 
   -- the edge of two events of different tiles that write one site
   pub record Between (w v : Won) (s : Site) : Type 0 where

@@ -46,6 +46,15 @@ holds_back m t e (x ∷ xs) = back_append (lists_of m t xs e).holds (one_if (has
     go true is = ap (λ hs. hold_at x e ∷ hs) is
     go false is = is
 
+-- what all tiles did, and the history of one edge, the newest hold first
+pub record IsRunOn (m : MapValue) (meaning : WindowValue → ℕ → WindowValue) (start : Site → AtomValue) (turns : ℕ → List Turn) (e : ℕ) (hs : List Hold) : Type 0 where
+  pub plane : IsPlane m
+  pub played : (t : ℕ) → Played m meaning start t (turns t)
+  pub history : IsHistory hs
+  pub ends : (h : Hold) → In h hs → (h.end ≡ 0) ⊎ (h.end ≡ 1)
+  pub lower : own 0 hs ≡ holds_of m (low_end m e) e (turns (low_end m e))
+  pub higher : own 1 hs ≡ holds_of m (high_end m e) e (turns (high_end m e))
+
 -- what all tiles did, and the histories of all edges, the newest first
 pub record IsRun (m : MapValue) (meaning : WindowValue → ℕ → WindowValue) (start : Site → AtomValue) (turns : ℕ → List Turn) (hist : ℕ → List Hold) : Type 0 where
   pub plane : IsPlane m
@@ -119,20 +128,20 @@ deeds m turns e = record {
   after = λ x k. at_place empty_atom x.won.after (slice_get (shared_of m e) k);
 }
 
-module _ (m : MapValue) (meaning : WindowValue → ℕ → WindowValue) (start : Site → AtomValue) (turns : ℕ → List Turn) (hist : ℕ → List Hold) (run : IsRun m meaning start turns hist) where
-  pub past_of : (w : Won) → IsEvent turns w → Past m meaning start w.note.tile (turns w.note.tile) w
-  past_of w i = past m meaning start w.note.tile (turns w.note.tile) (run.played w.note.tile) w i
+module _ (m : MapValue) (meaning : WindowValue → ℕ → WindowValue) (start : Site → AtomValue) (turns : ℕ → List Turn) (e : ℕ) (hs : List Hold) (run : IsRunOn m meaning start turns e hs) where
+  pub past_on : (w : Won) → IsEvent turns w → Past m meaning start w.note.tile (turns w.note.tile) w
+  past_on w i = past m meaning start w.note.tile (turns w.note.tile) (run.played w.note.tile) w i
 
-  clock_low : (e : ℕ) (w : Won) (before : List Turn) (c : ℕ) → IsWon (common m meaning start) w.note.tile before w → Needs m w e → found_value (accesses_at w e) 0 ≡ Some c → c < w.note.stamp
-  clock_low e w before c k i f =
+  clock_low : (w : Won) (before : List Turn) (c : ℕ) → IsWon (common m meaning start) w.note.tile before w → Needs m w e → found_value (accesses_at w e) 0 ≡ Some c → c < w.note.stamp
+  clock_low w before c k i f =
       let at : clock_in (accesses_at w e) ≡ c = ap or_zero f in
       omega (arith, k.stamp, at, greatest_each (stamp_of before) (λ d. clock_in (accesses_at w d)) (needs_of m w.note.tile (event_site w.note)) e i)
 
   -- the hold of an event, as the edge sees it
-  pub hold_of : (e : ℕ) (x : EventOn m turns e) → IsHoldOf (deeds m turns e) x (x.won.hold e)
-  hold_of e x =
+  pub hold_of_on : (x : EventOn m turns e) → IsHoldOf (deeds m turns e) x (x.won.hold e)
+  hold_of_on x =
       let w = x.won in
-      let p = past_of w x.did in
+      let p = past_on w x.did in
       let g = p.won.given e (in_has e (needs_of m w.note.tile (event_site w.note)) x.needs) in
       let a = event_hold m run.plane meaning start w.note.tile p.before w p.won e x.needs in
       record {
@@ -140,11 +149,72 @@ module _ (m : MapValue) (meaning : WindowValue → ℕ → WindowValue) (start :
         for_attempt = g.attempt_is ∙ sym p.won.attempt;
         clock = a.clock.0;
         finds_clock = a.clock.1;
-        above = clock_low e w p.before a.clock.0 p.won x.needs a.clock.1;
+        above = clock_low w p.before a.clock.0 p.won x.needs a.clock.1;
         leaves_clock = a.stamped;
         writes = λ k c. writes m run.plane meaning start w.note.tile p.before w p.won e x.needs k c;
         spares = λ k lt c. spares m run.plane meaning start w.note.tile p.before w p.won e x.needs k lt c;
       }
+
+  pub an_end_on : (x : EventOn m turns e) → IsEnd m x.won.note.tile e
+  an_end_on x = ends_of m run.plane x.won.note.tile (event_site x.won.note) e x.needs
+
+  -- a hold of a tile at an end of the edge is in the edge's history
+  pub in_edge_on : (t : ℕ) (h : Hold) → IsEnd m t e → In h (holds_of m t e (turns t)) → In h hs
+  in_edge_on t h end i =
+      ⊎_elim
+      (λ (l : low_end m e ≡ t). own_in 0 h hs (subst (In h) (sym run.lower) (subst (λ u. In h (holds_of m u e (turns u))) (sym l) i)))
+      (λ (r : high_end m e ≡ t). own_in 1 h hs (subst (In h) (sym run.higher) (subst (λ u. In h (holds_of m u e (turns u))) (sym r) i)))
+      end
+
+  -- the hold of an event is in the history of the edge
+  pub in_hist_on : (x : EventOn m turns e) → In (x.won.hold e) hs
+  in_hist_on x = in_edge_on x.won.note.tile (x.won.hold e) (an_end_on x) (in_holds m x.won.note.tile e (x.won.hold e) (Wins x.won) (turns x.won.note.tile) x.did (has_hold_on m x.won.note.tile e (Wins x.won) x.needs))
+
+  abbrev IsMade : ℕ → Hold → Turn → Type 0
+  IsMade t h y = IsQuiet h ⊎ ((w : Won) × (y ≡ Wins w) × (w.hold e ≡ h) × In e (needs_of m t (event_site w.note)) × (w.note.tile ≡ t))
+
+  -- a hold that a turn of tile t made
+  made_by : (t : ℕ) (h : Hold) (y : Turn) (xs : List Turn) → Played m meaning start t xs → In y xs → hold_on m t e y ≡ Some h → IsMade t h y
+  made_by t h y [] p i is = absurd i
+  made_by t h y (x ∷ xs) p i is = ⊎_elim (λ s. one x y p.0 s (hold_is m t e x h (ap (hold_on m t e) (sym s) ∙ is))) (λ j. made_by t h y xs p.1 j is) i
+    where
+      silent : (g : Hold) → g ≡ h → IsSilent g → IsQuiet h
+      silent g same s = subst IsQuiet same (quiet g s)
+
+      one : (x y : Turn) → IsTurn (common m meaning start) t xs x → y ≡ x → (hold_at x e ≡ h) × (has e (turn_edges m t x) ≡ true) → IsMade t h y
+      one (Wins w) y k s q = inr (w, s, q.0, has_in e (needs_of m t (event_site w.note)) q.1, k.tile)
+      one (Loses l) y k s q = inl (silent (l.hold e) q.0 (k.given e q.1).1)
+      one (Wears l) y k s q = inl (silent (l.hold e) q.0 (k.holds e q.1).2)
+
+  made_at : (t : ℕ) (h : Hold) → In h (holds_of m t e (turns t)) → IsQuiet h ⊎ ((x : EventOn m turns e) × IsHoldOf (deeds m turns e) x h)
+  made_at t h i =
+      let r = holds_in m t e h (turns t) i in
+      ⊎_elim (λ still. inl still)
+      (λ (q : (w : Won) × (r.0 ≡ Wins w) × (w.hold e ≡ h) × In e (needs_of m t (event_site w.note)) × (w.note.tile ≡ t)).
+      let did : IsEvent turns q.0 = subst (λ u. In (Wins q.0) (turns u)) (sym q.4) (subst (λ y. In y (turns t)) q.1 r.1) in
+      let needs : Needs m q.0 e = subst (λ u. In e (needs_of m u (event_site q.0.note))) (sym q.4) q.3 in
+      let x : EventOn m turns e = record { won = q.0; did = did; needs = needs } in
+      inr (x, subst (IsHoldOf (deeds m turns e) x) q.2 (hold_of_on x)))
+      (made_by t h r.0 (turns t) (run.played t) r.1 r.2)
+
+  -- each hold of the edge is of an event, or wrote nothing
+  pub of_events_on : IsOfEvents (deeds m turns e) hs
+  of_events_on h i =
+      ⊎_elim
+      (λ (l : h.end ≡ 0). made_at (low_end m e) h (subst (In h) run.lower (in_own 0 h hs i l)))
+      (λ (r : h.end ≡ 1). made_at (high_end m e) h (subst (In h) run.higher (in_own 1 h hs i r)))
+      (run.ends h i)
+
+-- the same of all edges
+module _ (m : MapValue) (meaning : WindowValue → ℕ → WindowValue) (start : Site → AtomValue) (turns : ℕ → List Turn) (hist : ℕ → List Hold) (run : IsRun m meaning start turns hist) where
+  pub run_on : (e : ℕ) → IsRunOn m meaning start turns e (hist e)
+  run_on e = record { plane = run.plane; played = run.played; history = run.histories e; ends = run.ends e; lower = run.lower e; higher = run.higher e }
+
+  pub past_of : (w : Won) → IsEvent turns w → Past m meaning start w.note.tile (turns w.note.tile) w
+  past_of w i = past m meaning start w.note.tile (turns w.note.tile) (run.played w.note.tile) w i
+
+  pub hold_of : (e : ℕ) (x : EventOn m turns e) → IsHoldOf (deeds m turns e) x (x.won.hold e)
+  hold_of e x = hold_of_on m meaning start turns e (hist e) (run_on e) x
 
   pub owner_is : (w : Won) → IsEvent turns w → owner_of m (event_site w.note) ≡ w.note.tile
   owner_is w i = (past_of w i).won.centre.owned
@@ -153,54 +223,16 @@ module _ (m : MapValue) (meaning : WindowValue → ℕ → WindowValue) (start :
   live_centre w i = (past_of w i).won.centre.live
 
   pub an_end : (e : ℕ) (x : EventOn m turns e) → IsEnd m x.won.note.tile e
-  an_end e x = ends_of m run.plane x.won.note.tile (event_site x.won.note) e x.needs
+  an_end e x = an_end_on m meaning start turns e (hist e) (run_on e) x
 
-  -- a hold of a tile at an end of the edge is in the edge's history
   pub in_edge : (e t : ℕ) (h : Hold) → IsEnd m t e → In h (holds_of m t e (turns t)) → In h (hist e)
-  in_edge e t h end i =
-      ⊎_elim
-      (λ (l : low_end m e ≡ t). own_in 0 h (hist e) (subst (In h) (sym (run.lower e)) (subst (λ u. In h (holds_of m u e (turns u))) (sym l) i)))
-      (λ (r : high_end m e ≡ t). own_in 1 h (hist e) (subst (In h) (sym (run.higher e)) (subst (λ u. In h (holds_of m u e (turns u))) (sym r) i)))
-      end
+  in_edge e t h end i = in_edge_on m meaning start turns e (hist e) (run_on e) t h end i
 
-  -- the hold of an event is in the history of the edge
   pub in_hist : (e : ℕ) (x : EventOn m turns e) → In (x.won.hold e) (hist e)
-  in_hist e x = in_edge e x.won.note.tile (x.won.hold e) (an_end e x) (in_holds m x.won.note.tile e (x.won.hold e) (Wins x.won) (turns x.won.note.tile) x.did (has_hold_on m x.won.note.tile e (Wins x.won) x.needs))
+  in_hist e x = in_hist_on m meaning start turns e (hist e) (run_on e) x
 
   pub has_hold : (e : ℕ) (x : EventOn m turns e) → HasHold (deeds m turns e) (hist e) x
   has_hold e x = (x.won.hold e, in_hist e x, hold_of e x)
 
-  abbrev IsMade : ℕ → ℕ → Hold → Turn → Type 0
-  IsMade e t h y = IsQuiet h ⊎ ((w : Won) × (y ≡ Wins w) × (w.hold e ≡ h) × In e (needs_of m t (event_site w.note)) × (w.note.tile ≡ t))
-
-  -- a hold that a turn of tile t made
-  made_by : (e t : ℕ) (h : Hold) (y : Turn) (xs : List Turn) → Played m meaning start t xs → In y xs → hold_on m t e y ≡ Some h → IsMade e t h y
-  made_by e t h y [] p i is = absurd i
-  made_by e t h y (x ∷ xs) p i is = ⊎_elim (λ s. one x y p.0 s (hold_is m t e x h (ap (hold_on m t e) (sym s) ∙ is))) (λ j. made_by e t h y xs p.1 j is) i
-    where
-      silent : (g : Hold) → g ≡ h → IsSilent g → IsQuiet h
-      silent g same s = subst IsQuiet same (quiet g s)
-
-      one : (x y : Turn) → IsTurn (common m meaning start) t xs x → y ≡ x → (hold_at x e ≡ h) × (has e (turn_edges m t x) ≡ true) → IsMade e t h y
-      one (Wins w) y k s q = inr (w, s, q.0, has_in e (needs_of m t (event_site w.note)) q.1, k.tile)
-      one (Loses l) y k s q = inl (silent (l.hold e) q.0 (k.given e q.1).1)
-      one (Wears l) y k s q = inl (silent (l.hold e) q.0 (k.holds e q.1).2)
-
-  made_at : (e t : ℕ) (h : Hold) → In h (holds_of m t e (turns t)) → IsQuiet h ⊎ ((x : EventOn m turns e) × IsHoldOf (deeds m turns e) x h)
-  made_at e t h i =
-      let r = holds_in m t e h (turns t) i in
-      ⊎_elim (λ still. inl still)
-      (λ (q : (w : Won) × (r.0 ≡ Wins w) × (w.hold e ≡ h) × In e (needs_of m t (event_site w.note)) × (w.note.tile ≡ t)).
-      let did : IsEvent turns q.0 = subst (λ u. In (Wins q.0) (turns u)) (sym q.4) (subst (λ y. In y (turns t)) q.1 r.1) in
-      let needs : Needs m q.0 e = subst (λ u. In e (needs_of m u (event_site q.0.note))) (sym q.4) q.3 in
-      let x : EventOn m turns e = record { won = q.0; did = did; needs = needs } in
-      inr (x, subst (IsHoldOf (deeds m turns e) x) q.2 (hold_of e x)))
-      (made_by e t h r.0 (turns t) (run.played t) r.1 r.2)
-
-  -- each hold of an edge is of an event, or wrote nothing
   pub of_events : (e : ℕ) → IsOfEvents (deeds m turns e) (hist e)
-  of_events e h i =
-      ⊎_elim
-      (λ (l : h.end ≡ 0). made_at e (low_end m e) h (subst (In h) (run.lower e) (in_own 0 h (hist e) i l)))
-      (λ (r : h.end ≡ 1). made_at e (high_end m e) h (subst (In h) (run.higher e) (in_own 1 h (hist e) i r)))
-      (run.ends e h i)
+  of_events e = of_events_on m meaning start turns e (hist e) (run_on e)

@@ -1,16 +1,20 @@
--- Tiles that have stopped on one plain board.
-use Rattle.std.specs.Prelude.{ℕ, ◌≡◌, ◌⊎◌, List, length, slice_get, Some}
+-- Tiles on one plain board: all of a plane that have stopped, and two at the ends of an edge that have no attempt in hand.
+use Rattle.std.specs.Prelude.{ℕ, ◌≡◌, ◌<◌, ◌⊎◌, List, length, slice_get, Some}
 use Rattle.tile_map.specs.Plane.{MapValue, IsMap, tiles_of}
+use Rattle.tile_map.specs.Edges.{pairs_of, low_end, high_end}
 use Rattle.cell_grid.specs.Grid.{IsGrid}
+use Rattle.draw_stream.specs.declared.attempt.Attempt.{Attempt}
 use Rattle.draw_stream.specs.Plans.{IsPlan, attempts}
-use Rattle.edge_lock.specs.PlainBoard.{PlainBoardValue, lists_of_tile}
+use Rattle.edge_lock.specs.PlainBoard.{PlainBoardValue, edge_at, lists_of_tile}
 use Rattle.border_cache.specs.Copies.{IsGridOf}
-use Rattle.tile_core.specs.declared.phase.Phase.TheVariants.{Finished, Worn}
+use Rattle.tile_core.specs.declared.phase.Phase.TheVariants.{Draw, Finished, Worn}
 use Rattle.tile_core.specs.Values.{TileValue}
+use Rattle.tile_core.specs.Turns.{Common}
 use Rattle.tile_core.specs.Underway.{IsUnderway}
 use Rattle.tile_core.specs.Boards.{IsBoardOf}
 use Rattle.serial_order.specs.Scene.{Setting, common_in, IsOver}
-use Rattle.serial_order.specs.Words.{plain_words, AreEdgeWords, histories_on}
+use Rattle.serial_order.specs.OneEdge.{EndsHavePlayed}
+use Rattle.serial_order.specs.Words.{plain_words, AreEdgeWords, plain_history, histories_on}
 use Rattle.serial_order.specs.Outcomes.{scene_of}
 
 -- the tile makes no further step
@@ -34,3 +38,27 @@ pub record HaveStopped (m : MapValue) (g : Setting) (tiles : List TileValue) (bo
 -- tiles that have stopped on one board are over, and the board's words are those of its edges' histories
 abbrev pub StoppedRunsAreOver : Type 0
 StoppedRunsAreOver = (m : MapValue) (g : Setting) (tiles : List TileValue) (board : PlainBoardValue) → HaveStopped m g tiles board → IsOver (scene_of m tiles (histories_on board) g) × AreEdgeWords m (plain_words board)
+
+-- the tile is between two attempts, or makes no further step
+abbrev pub IsAtRest : TileValue → Type 0
+IsAtRest tile = (tile.phase ≡ Draw) ⊎ HasStopped tile
+
+-- what the board's edges have of the tile's end is what its steps have made, and it is at rest
+pub record RestsOn (c : Common) (board : PlainBoardValue) (tile : TileValue) : Type 0 where
+  pub attempts : List Attempt
+  pub underway : IsUnderway c attempts tile (lists_of_tile board tile.number)
+  pub rests : IsAtRest tile
+
+-- the two tiles at the ends of an edge of a plane's board are at rest, whatever all other tiles do
+pub record EndsRestOn (c : Common) (board : PlainBoardValue) (e : ℕ) (lower higher : TileValue) : Type 0 where
+  pub valid : IsMap c.map
+  pub known : e < length (pairs_of c.map)
+  pub edges : IsBoardOf c.map board
+  pub low_tile : lower.number ≡ low_end c.map e
+  pub high_tile : higher.number ≡ high_end c.map e
+  pub low_rests : RestsOn c board lower
+  pub high_rests : RestsOn c board higher
+
+-- two tiles that are at rest at the ends of an edge of a board have played there
+abbrev pub RestingEndsHavePlayed : Type 0
+RestingEndsHavePlayed = (c : Common) (board : PlainBoardValue) (e : ℕ) (lower higher : TileValue) → EndsRestOn c board e lower higher → EndsHavePlayed c e (plain_history (edge_at board e)) lower higher

@@ -1,6 +1,7 @@
 pub mod Scene
 pub mod Settled
 pub mod Order
+pub mod OneEdge
 pub mod Example
 pub mod Words
 pub mod Outcomes

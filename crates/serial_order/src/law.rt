@@ -1,6 +1,7 @@
 //! The laws of serial order, as contracts of calls that do nothing.
-ghost use Rattle.serial_order.specs.Boards.{StoppedRunsAreOver};
+ghost use Rattle.serial_order.specs.Boards.{RestingEndsHavePlayed, StoppedRunsAreOver};
 ghost use Rattle.serial_order.specs.Scene.{IsOver, Scene};
+ghost use Rattle.serial_order.specs.OneEdge.{NewsHoldsAtAnyMoment};
 ghost use Rattle.serial_order.specs.Order.{FindsWhatStands, HasOneOrder};
 ghost use Rattle.serial_order.specs.Example.{small_scene};
 
@@ -19,6 +20,13 @@ pub fn one_order()
     ensures { (s : Scene) → IsOver s → HasOneOrder s }
 {}
 
+/// What holds of one edge and its two ends at any moment at which both have played what they drew,
+/// whatever all other tiles do: if the news bit of an end is 0 for a site, the edge's cell there is
+/// not newer than that end's own. It does nothing.
+pub fn news_at_any_moment()
+    ensures { NewsHoldsAtAnyMoment }
+{}
+
 /// What a hold finds in a register of its edge is that register as the hold begins. It does
 /// nothing.
 pub fn finds_what_stands()
@@ -35,4 +43,11 @@ pub fn small_run()
 /// those of its edges' histories. It does nothing.
 pub fn plain_run()
     ensures { StoppedRunsAreOver }
+{}
+
+/// Two tiles at the ends of an edge of one plain board meet the requirements of
+/// `news_at_any_moment` whenever both are at rest, that is between two attempts, finished or worn
+/// out. It does nothing.
+pub fn plain_moment()
+    ensures { RestingEndsHavePlayed }
 {}

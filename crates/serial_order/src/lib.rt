@@ -10,7 +10,9 @@ mod outcome;
 mod words;
 
 pub use blank::blank_grid;
-pub use law::{finds_what_stands, one_order, plain_run, small_run};
+pub use law::{
+    finds_what_stands, news_at_any_moment, one_order, plain_moment, plain_run, small_run,
+};
 pub use newest::settled_atom;
 pub use outcome::{Outcome, settle};
 pub use words::{ClosedEdges, EdgeWords};

@@ -1,8 +1,15 @@
-use Rattle.std.proofs.Common.{arith}
+use Rattle.std.proofs.Common.{sym, ◌∙◌, subst, arith}
+use Rattle.cell_grid.specs.Grid.{empty_grid}
 use Rattle.serial_order.proofs.BlankGrid.{blank_is}
-use Rattle.serial_order.proofs.Blanks.{shut_all}
+use Rattle.serial_order.proofs.Blanks.{shut_all, shut_none}
 use Rattle.serial_order.specs.Outcomes.{IsPlaneGrid, IsShutTo}
 use Rattle.serial_order.proofs.blank.blank_grid.Goals as goal
+
+pub loop-tile-init : goal.loop-tile-init
+loop-tile-init c =
+    let m = c.args.map.now in
+    let new = c.in_ok-grid.ensures ∙ (λ i. empty_grid (c.extent-width.ensures.width i) (c.extent-width.ensures.height i)) in
+    subst (IsShutTo m 0) (sym new) (shut_none m c.extent-width.ensures.valid)
 
 pub returns-clause-grid : goal.returns-clause-grid
 returns-clause-grid c =
