@@ -4,6 +4,7 @@ use Rattle.std.specs.Prelude.{nat_lt, if◌then◌else◌}
 use Rattle.std.proofs.lemmas.List.FromFn.{fill_by_all, get_or-map-range_with_len, length-map-range_with_len}
 use Rattle.std.proofs.Math.Nat.{mod-lt, mul_comm, mod-add-div', div-lt_iff_lt-mul}
 use Rattle.std.proofs.lemmas.Nat.{mod-mul-add, div-mul-add, mul-add-lt}
+use Rattle.std.proofs.lemmas.Bool.{and_left}
 use Rattle.std.proofs.lemmas.Bool.Decides.{nat_tests}
 use Rattle.bit_field.specs.Atom.{empty_atom}
 use Rattle.cell_grid.specs.Grid.{GridValue, IsGrid}
@@ -118,10 +119,6 @@ reached r x y near = go (nat_lt r.left r.right && nat_lt r.top r.bottom) refl ne
         }
     go false is within = absurd (cc (outside_all r x y is, within))
 
-false_stays : (a b : Bool) → a ≡ false → (a && b) ≡ false
-false_stays true b h = absurd (cc h)
-false_stays false b h = refl
-
 true_goes : (a b : Bool) → b ≡ true → (a && not b) ≡ false
 true_goes true true h = refl
 true_goes true false h = absurd (cc h)
@@ -158,7 +155,7 @@ AreCalm-shut width height live calm r whole right bottom h = record {
       row = d.row;
       columns = d.columns;
       rows = d.rows;
-      dead = get-cleared live width r (d.v * width + d.u) (place d.u d.v d.column d.row) ∙ false_stays _ _ d.dead;
+      dead = get-cleared live width r (d.v * width + d.u) (place d.u d.v d.column d.row) ∙ and_left _ _ d.dead;
     }
 
     new : (x y : ℕ) → Reached r x y → HasDeadNear width height (cleared live width r) x y

@@ -3,6 +3,7 @@ ghost use Rattle.std.specs.Prelude.{◌≡◌, ◌≤◌, ◌*◌, length};
 ghost use Rattle.cell_grid.specs.Shut.{cleared, is_inside, widened};
 
 /// A rectangle of columns from `left` to below `right` and rows from `top` to below `bottom`.
+/// Contracts of `Grid::shut` speak of it.
 #[derive(Clone, Copy, Debug)]
 pub struct Rectangle {
     /// The first column.

@@ -18,7 +18,7 @@ use Rattle.cell_grid.specs.Shut.{rectangle, is_inside, IsEmptyIn, cleared, shut}
 use Rattle.cell_grid.proofs.Cleared.{IsGrid-shut}
 use Rattle.event_journal.proofs.Extents.{sites_is}
 use Rattle.serial_order.specs.Outcomes.{IsAreaOf, IsPlaneGrid, IsShutTo}
-use Rattle.serial_order.specs.declared.blank.Area.{Area}
+use Rattle.serial_order.specs.declared.blank.TileRectangle.{TileRectangle}
 
 -- how many columns and rows a plane has
 bounds : (a b : ℕ) → 1 ≤ a → a ≤ 8 → 8 ≤ b → b ≤ 64 → (8 ≤ a * b) × (a * b ≤ 512)
@@ -208,10 +208,10 @@ module _ (m : MapValue) where
             ∙ mark_off t (owner_of m (site x y)) off);
       }
 
-      pub shut_area : (a : Area) → IsAreaOf m t a → is_on m t ≡ false → IsShutTo m (t + 1) (shut g (rectangle a.left a.top a.columns a.rows))
+      pub shut_area : (a : TileRectangle) → IsAreaOf m t a → is_on m t ≡ false → IsShutTo m (t + 1) (shut g (rectangle a.left a.top a.columns a.rows))
       shut_area a is off = subst (λ r. IsShutTo m (t + 1) (shut g r)) (λ i. rectangle (sym is.left i) (sym is.top i) (sym is.columns i) (sym is.rows i)) (shut_own off)
 
-      pub area_fits : (a : Area) → IsAreaOf m t a → (a.left + a.columns ≤ g.width) × (a.top + a.rows ≤ g.height)
+      pub area_fits : (a : TileRectangle) → IsAreaOf m t a → (a.left + a.columns ≤ g.width) × (a.top + a.rows ≤ g.height)
       area_fits a is =
           let f = fits_area m valid t lt in
           let p = is.left in let q = is.top in let r = is.columns in let s = is.rows in let u = h.wide in let v = h.high in

@@ -26,7 +26,7 @@ pub mod Promises
 pub mod SmallRun
 pub mod EdgeCells
 pub mod NeededCells
-pub mod Inners
+pub mod UnsharedSites
 pub mod Runs
 pub mod Blanks
 pub mod BlankGrid

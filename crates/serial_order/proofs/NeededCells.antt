@@ -2,6 +2,7 @@
 use Rattle.std.proofs.Common.{ℕ, zero, suc, ◌≡◌, ◌<◌, ◌≤◌, ◌+◌, ◌-◌, ◌*◌, List, [], ◌∷◌, refl, sym, ap, arith, Bool, true, false, Option, Some, None, ◌∙◌, ◌==◌, ◌&&◌, length, drop, get_or, eqb-true, inl, inr, le-leb, ltb-true}
 use Rattle.std.specs.Prelude.{filter, if◌then◌else◌}
 use Rattle.std.specs.List.{range_with_len}
+use Rattle.std.proofs.lemmas.Bool.{and_left, and_right, false_from_ne_true}
 use Rattle.std.proofs.lemmas.Bool.Decides.{nat_tests}
 use Rattle.list_laws.proofs.Members.{In, filter_in, in_get, range_in}
 use Rattle.list_laws.proofs.Tests.{both, together}
@@ -10,7 +11,7 @@ use Rattle.tile_map.specs.Edges.{pairs_of, low_end, high_end, other_end, has_end
 use Rattle.tile_map.specs.Laws.{IsPlane}
 use Rattle.tile_map.proofs.Near.{reaches-held}
 use Rattle.tile_map.proofs.Registers.{number_none}
-use Rattle.tile_map.proofs.Spans.{false_left, false_right, held_parts, live_plane, on_low}
+use Rattle.tile_map.proofs.Spans.{held_parts, live_plane, on_low}
 use Rattle.border_cache.specs.Cells.{CellValue, newer, newest}
 use Rattle.border_cache.specs.Windows.{and_cell, edge_place}
 use Rattle.serial_order.specs.Settled.{cell_in_registers, edge_cells}
@@ -20,12 +21,8 @@ not_shared : (m : MapValue) (t e : ℕ) (s : Site) → is_held m (other_end m t 
 not_shared m t e s out = number_none (λ q. is_held m (low_end m e) q && is_held m (high_end m e) q) (sites_of m) s (go (low_end m e == t) out)
   where
     go : (b : Bool) → is_held m (if b then high_end m e else low_end m e) s ≡ false → (is_held m (low_end m e) s && is_held m (high_end m e) s) ≡ false
-    go true q = false_right (is_held m (low_end m e) s) (is_held m (high_end m e) s) q
-    go false q = false_left (is_held m (low_end m e) s) (is_held m (high_end m e) s) q
-
-not_true : (b : Bool) → (b ≡ true → ⊥) → b ≡ false
-not_true true f = absurd (f refl)
-not_true false f = refl
+    go true q = and_right (is_held m (low_end m e) s) (is_held m (high_end m e) s) q
+    go false q = and_left (is_held m (low_end m e) s) (is_held m (high_end m e) s) q
 
 module _ (m : MapValue) (registers : ℕ → ℕ → ℕ) (t : ℕ) (s : Site) where
   -- the needed edges have all cells of a live site
@@ -37,7 +34,7 @@ module _ (m : MapValue) (registers : ℕ → ℕ → ℕ) (t : ℕ) (s : Site) w
 
       among : (es : List ℕ) → edge_cells m registers (filter (is_needed m t s) es) s ≡ edge_cells m registers (filter (has_end m t) es) s
       among [] = refl
-      among (e ∷ es) = go (has_end m t e) (reaches m s (other_end m t e)) (λ q. not_shared m t e s (not_true _ (λ h. cc (reaches-held m s s (other_end m t e) centre h, q)))) (among es)
+      among (e ∷ es) = go (has_end m t e) (reaches m s (other_end m t e)) (λ q. not_shared m t e s (false_from_ne_true _ (λ h. cc (reaches-held m s s (other_end m t e) centre h, q)))) (among es)
         where
           go : (a b : Bool) → (b ≡ false → edge_place m e s ≡ None) → edge_cells m registers (filter (is_needed m t s) es) s ≡ edge_cells m registers (filter (has_end m t) es) s
               → edge_cells m registers (if a && b then e ∷ filter (is_needed m t s) es else filter (is_needed m t s) es) s ≡ edge_cells m registers (if a then e ∷ filter (has_end m t) es else filter (has_end m t) es) s
@@ -58,7 +55,7 @@ module _ (m : MapValue) (registers : ℕ → ℕ → ℕ) (t : ℕ) (s : Site) w
 
       among : (es : List ℕ) → ((e : ℕ) → In e es → e < length (pairs_of m)) → edge_cells m registers (filter (has_end m t) es) s ≡ []
       among [] low = refl
-      among (e ∷ es) low = go (has_end m t e) (not_shared m t e s (not_true _ (λ h. other e (low e (inl refl)) (alone (other_end m t e) h)))) (among es (λ d i. low d (inr i)))
+      among (e ∷ es) low = go (has_end m t e) (not_shared m t e s (false_from_ne_true _ (λ h. other e (low e (inl refl)) (alone (other_end m t e) h)))) (among es (λ d i. low d (inr i)))
         where
           go : (a : Bool) → edge_place m e s ≡ None → edge_cells m registers (filter (has_end m t) es) s ≡ [] → edge_cells m registers (if a then e ∷ filter (has_end m t) es else filter (has_end m t) es) s ≡ []
           go false none rest = rest

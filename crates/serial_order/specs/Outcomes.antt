@@ -9,11 +9,13 @@ use Rattle.event_journal.specs.Logs.{records_in, abandoned_in}
 use Rattle.event_journal.specs.Accounts.{IsAccounted, IsStamped, AreExcused}
 use Rattle.border_cache.specs.Copies.{IsGridOf}
 use Rattle.tile_core.specs.Values.{TileWith, TileValue}
-use Rattle.serial_order.specs.Scene.{EdgeHistory, Scene, Setting, IsOver, logs_of}
+use Rattle.serial_order.specs.Scene.{EdgeHistory, Scene, Setting, IsOver, logs_of, registers_at}
+use Rattle.serial_order.specs.Settled.{IsSettledTo}
+use Rattle.serial_order.specs.Words.{WordsValue}
 use Rattle.serial_order.specs.Order.{NoneIsWorn, StampsAreSmall, TiesAreApart, Leads, HasNoNews}
 use Rattle.serial_order.specs.declared.outcome.Outcome.{Outcome}
-use Rattle.serial_order.specs.declared.blank.Area.{Area}
-use Rattle.serial_order.specs.declared.inner.Inner.{Inner}
+use Rattle.serial_order.specs.declared.blank.TileRectangle.{TileRectangle}
+use Rattle.serial_order.specs.declared.unshared.Unshared.{Unshared}
 
 -- the values of tiles, without what acts on them
 abbrev pub values_of : {B : Type 0} → List (TileWith B) → List TileValue
@@ -52,6 +54,10 @@ pub record AreTilesOf (m : MapValue) (tiles : List TileValue) : Type 0 where
   pub maps : (t : ℕ) (tile : TileValue) → slice_get tiles t ≡ Some tile → tile.cache.map ≡ m
   pub numbers : (t : ℕ) (tile : TileValue) → slice_get tiles t ≡ Some tile → tile.cache.tile ≡ t
 
+-- a grid of the plane whose first n sites, row by row, have the newest of what these tiles and words of their edges have
+abbrev pub IsSettledBy : {B : Type 0} → MapValue → List (TileWith B) → WordsValue → ℕ → GridValue → Type 0
+IsSettledBy m tiles words n g = IsSettledTo m (values_of tiles) (registers_at words.histories) n g
+
 -- a grid of a plane
 abbrev pub IsPlaneGrid : MapValue → GridValue → Type 0
 IsPlaneGrid m g = IsGrid g × IsGridOf m g
@@ -72,19 +78,19 @@ pub record IsShutTo (m : MapValue) (n : ℕ) (g : GridValue) : Type 0 where
   pub live : (x y : ℕ) → x < g.width → y < g.height → slice_index_or g.live (y * g.width + x) false ≡ (nat_le n (owner_of m (site x y)) || is_on m (owner_of m (site x y)))
 
 -- the rectangle of a tile
-pub record IsAreaOf (m : MapValue) (t : ℕ) (a : Area) : Type 0 where
+pub record IsAreaOf (m : MapValue) (t : ℕ) (a : TileRectangle) : Type 0 where
   pub left : a.left ≡ t % m.tx * m.w
   pub top : a.top ≡ t / m.tx * m.h
   pub columns : a.columns ≡ m.w
   pub rows : a.rows ≡ m.h
 
 -- columns and rows of a tile that no other tile holds
-pub record IsInner (m : MapValue) (i : Inner) : Type 0 where
+pub record IsUnshared (m : MapValue) (i : Unshared) : Type 0 where
   pub tile : i.tile < tiles_of m
   pub alone : (u x y : ℕ) → is_within i.left i.right i.top i.bottom x y ≡ true → is_held m u (site x y) ≡ true → u ≡ i.tile
 
--- some sites of a row, from column left on, that one tile owns
-pub record IsRun (m : MapValue) (left size y : ℕ) : Type 0 where
+-- a stretch of row y that lies in one tile: `size` sites from column left on
+pub record IsStretch (m : MapValue) (left size y : ℕ) : Type 0 where
   pub some : 0 < size
   pub inside : left + size ≤ m.tx * m.w
   pub row : y < m.ty * m.h

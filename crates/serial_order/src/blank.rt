@@ -11,7 +11,7 @@ use tile_map::Map;
 
 /// A rectangle of sites: its first site, and how many columns and rows it has.
 #[derive(Clone, Copy, Debug)]
-pub(crate) struct Area {
+pub(crate) struct TileRectangle {
     pub(crate) left: u32,
     pub(crate) top: u32,
     pub(crate) columns: u32,
@@ -42,14 +42,14 @@ fn sites(map: &Map) -> u32
 }
 
 /// The rectangle of a tile, from its first site to its last.
-fn own_area(map: &Map, tile: u32) -> Area
+fn own_area(map: &Map, tile: u32) -> TileRectangle
     requires { tile < tiles_of map.now }
     ensures { IsAreaOf map.now tile result }
 {
     let last = sites(map) - 1;
     let (left, top) = map.site_of(tile, 0);
     let (right, bottom) = map.site_of(tile, last);
-    Area {
+    TileRectangle {
         left,
         top,
         columns: right - left + 1,
@@ -62,6 +62,7 @@ pub(crate) fn tile_width(map: &Map) -> u32
     ensures value { result ≡ map.now.w }
     ensures valid { IsMap map.now }
 {
+    // Reading how many tiles there are makes known what holds of every map: it has a first tile.
     let _tiles = map.tiles();
     own_area(map, 0).columns
 }

@@ -3,16 +3,15 @@
 #![tactic(auto)]
 
 mod blank;
-mod inner;
 mod law;
 mod newest;
 mod outcome;
+mod unshared;
 mod words;
 
 pub use blank::blank_grid;
 pub use law::{
     finds_what_stands, news_at_any_moment, one_order, plain_moment, plain_run, small_run,
 };
-pub use newest::settled_atom;
 pub use outcome::{Outcome, settle};
 pub use words::{ClosedEdges, EdgeWords};

@@ -6,10 +6,10 @@ ghost use Rattle.tile_map.specs.Plane.{site, is_held};
 ghost use Rattle.tile_map.specs.Edges.{pairs_of};
 ghost use Rattle.border_cache.specs.Cells.{cell_of, newer, newest};
 ghost use Rattle.border_cache.specs.Copies.{held_cell};
-ghost use Rattle.serial_order.specs.Outcomes.{IsInner};
+ghost use Rattle.serial_order.specs.Outcomes.{IsUnshared};
 ghost use Rattle.serial_order.specs.Words.{AreEdgeWords, as_cell, cell_on, cells_on, settled_on};
 
-use crate::inner::Inner;
+use crate::unshared::Unshared;
 use crate::words::EdgeWords;
 use bit_field::Atom;
 use border_cache::Cache;
@@ -78,50 +78,31 @@ fn newest_of<E: EdgeWords>(
     best
 }
 
-/// The settled atom of a site that a tile holds, whose inner sites are known.
+/// The settled atom of a site that a tile holds, once the tiles are over: that of the newest of the
+/// tile's own cell and those that its edges have of the site. At equal stamps its own cell stays;
+/// among edges the one with the smaller number counts. A site that no other tile holds has no cell
+/// on an edge.
 pub(crate) fn settled_in<E: EdgeWords>(
     map: &Map,
-    inner: &Inner,
+    unshared: &Unshared,
     cache: &Cache,
     x: u32,
     y: u32,
     words: &mut E,
 ) -> Atom
     requires map { cache.now.map ≡ map.now }
-    requires tile { cache.now.tile ≡ inner.now.tile }
-    requires inner { IsInner map.now inner.now }
-    requires held { IsTrue (is_held map.now inner.now.tile (site x y)) }
+    requires tile { cache.now.tile ≡ unshared.now.tile }
+    requires unshared { IsUnshared map.now unshared.now }
+    requires held { IsTrue (is_held map.now unshared.now.tile (site x y)) }
     requires words { AreEdgeWords map.now (E.words words.old) }
-    ensures atom { result ≡ (settled_on map.now (E.words words.old).histories inner.now.tile (held_cell cache.now) (site x y)).atom }
+    ensures atom { result ≡ (settled_on map.now (E.words words.old).histories unshared.now.tile (held_cell cache.now) (site x y)).atom }
     ensures same { E.words words.new ≡ E.words words.old }
 {
     map.laws();
     let own = cache.cell(x, y);
-    if inner.has(x, y) {
+    if unshared.has(x, y) {
         own.1
     } else {
-        newest_of(map, inner.tile, own, x, y, words).1
+        newest_of(map, unshared.tile, own, x, y, words).1
     }
-}
-
-/// The settled atom of a site that a tile holds, once the tiles are over: that of the newest of the
-/// tile's own cell and those that its edges have of the site. At equal stamps its own cell stays;
-/// among edges the one with the smaller number counts.
-pub fn settled_atom<E: EdgeWords>(
-    map: &Map,
-    tile: u32,
-    cache: &Cache,
-    x: u32,
-    y: u32,
-    words: &mut E,
-) -> Atom
-    requires map { cache.now.map ≡ map.now }
-    requires tile { cache.now.tile ≡ tile }
-    requires held { IsTrue (is_held map.now tile (site x y)) }
-    requires words { AreEdgeWords map.now (E.words words.old) }
-    ensures atom { result ≡ (settled_on map.now (E.words words.old).histories tile (held_cell cache.now) (site x y)).atom }
-    ensures same { E.words words.new ≡ E.words words.old }
-{
-    let inner = Inner::of(map, tile);
-    settled_in(map, &inner, cache, x, y, words)
 }

@@ -2,15 +2,15 @@
 ghost use Rattle.std.specs.Prelude.{◌≡◌, ◌<◌, ◌+◌, ◌*◌, All, IfOk};
 ghost use Rattle.tile_map.specs.Plane.{owner_of, site};
 ghost use Rattle.cell_grid.specs.Grid.{ArePlanesAlike};
-ghost use Rattle.serial_order.specs.Outcomes.{AreOver, AreTilesOf, ChangesSite, IsInner, IsPlaneGrid, IsRun, Settles, values_of};
+ghost use Rattle.serial_order.specs.Outcomes.{AreOver, AreTilesOf, ChangesSite, IsPlaneGrid, IsSettledBy, IsStretch, IsUnshared, Settles, values_of};
 ghost use Rattle.serial_order.specs.Scene.{logs_of, registers_at};
-ghost use Rattle.serial_order.specs.Settled.{IsSettled, IsSettledAt, IsSettledTo};
+ghost use Rattle.serial_order.specs.Settled.{IsSettled, IsSettledAt};
 ghost use Rattle.serial_order.specs.Words.{AreEdgeWords};
 ghost use Rattle.tile_core.specs.Underway.{IsMade};
 
 use crate::blank::{blank_grid, tile_width};
-use crate::inner::Inner;
 use crate::newest::settled_in;
+use crate::unshared::Unshared;
 use crate::words::EdgeWords;
 use cell_grid::{Behave, Grid};
 use event_journal::{Journal, TileLog};
@@ -33,7 +33,7 @@ pub struct Outcome {
 fn settle_site<B: Behave, E: EdgeWords>(
     map: &Map,
     tiles: &[Tile<B>],
-    inner: &Inner,
+    unshared: &Unshared,
     words: &mut E,
     grid: &mut Grid,
     x: u32,
@@ -41,8 +41,8 @@ fn settle_site<B: Behave, E: EdgeWords>(
 )
     requires x { x < grid.old.width }
     requires y { y < grid.old.height }
-    requires inner { IsInner map.now inner.now }
-    requires owner { owner_of map.now (site x y) ≡ inner.now.tile }
+    requires unshared { IsUnshared map.now unshared.now }
+    requires owner { owner_of map.now (site x y) ≡ unshared.now.tile }
     requires grid { IsPlaneGrid map.now grid.old }
     requires tiles { AreTilesOf map.now (values_of tiles.now) }
     requires words { AreEdgeWords map.now (E.words words.old) }
@@ -51,16 +51,16 @@ fn settle_site<B: Behave, E: EdgeWords>(
     ensures same { E.words words.new ≡ E.words words.old }
 {
     map.laws();
-    if !map.is_on(inner.tile) {
+    if !map.is_on(unshared.tile) {
         return;
     }
-    let cache = tiles[inner.tile as usize].cache();
-    let atom = settled_in(map, inner, cache, x, y, words);
+    let cache = tiles[unshared.tile as usize].cache();
+    let atom = settled_in(map, unshared, cache, x, y, words);
     grid.set(x, y, atom);
 }
 
-/// Settles the sites of a row of a tile: `size` of them, from column `left` on.
-fn settle_run<B: Behave, E: EdgeWords>(
+/// Settles a stretch of a row that lies in one tile: `size` sites from column `left` on.
+fn settle_stretch<B: Behave, E: EdgeWords>(
     map: &Map,
     tiles: &[Tile<B>],
     words: &mut E,
@@ -69,18 +69,18 @@ fn settle_run<B: Behave, E: EdgeWords>(
     size: u32,
     y: u32,
 )
-    requires run { IsRun map.now left size y }
-    requires grid { IsSettledTo map.now (values_of tiles.now) (registers_at (E.words words.old).histories) (y * grid.old.width + left) grid.old }
+    requires stretch { IsStretch map.now left size y }
+    requires grid { IsSettledBy map.now tiles.now (E.words words.old) (y * grid.old.width + left) grid.old }
     requires tiles { AreTilesOf map.now (values_of tiles.now) }
     requires words { AreEdgeWords map.now (E.words words.old) }
-    ensures grid { IsSettledTo map.now (values_of tiles.now) (registers_at (E.words words.old).histories) (y * grid.old.width + (left + size)) grid.new }
+    ensures grid { IsSettledBy map.now tiles.now (E.words words.old) (y * grid.old.width + (left + size)) grid.new }
     ensures plane { ArePlanesAlike grid.old grid.new }
     ensures same { E.words words.new ≡ E.words words.old }
 {
     map.laws();
-    let inner = Inner::of(map, map.owner(left, y));
+    let unshared = Unshared::of(map, map.owner(left, y));
     for x in left..left + size {
-        settle_site(map, tiles, &inner, words, grid, x, y);
+        settle_site(map, tiles, &unshared, words, grid, x, y);
     }
 }
 
@@ -93,17 +93,17 @@ fn settle_row<B: Behave, E: EdgeWords>(
     y: u32,
 )
     requires y { y < grid.old.height }
-    requires grid { IsSettledTo map.now (values_of tiles.now) (registers_at (E.words words.old).histories) (y * grid.old.width) grid.old }
+    requires grid { IsSettledBy map.now tiles.now (E.words words.old) (y * grid.old.width) grid.old }
     requires tiles { AreTilesOf map.now (values_of tiles.now) }
     requires words { AreEdgeWords map.now (E.words words.old) }
-    ensures grid { IsSettledTo map.now (values_of tiles.now) (registers_at (E.words words.old).histories) (y * grid.old.width + grid.old.width) grid.new }
+    ensures grid { IsSettledBy map.now tiles.now (E.words words.old) (y * grid.old.width + grid.old.width) grid.new }
     ensures plane { ArePlanesAlike grid.old grid.new }
     ensures same { E.words words.new ≡ E.words words.old }
 {
     let size = tile_width(map);
     let count = grid.width() / size;
     for part in 0..count {
-        settle_run(map, tiles, words, grid, part * size, size, y);
+        settle_stretch(map, tiles, words, grid, part * size, size, y);
     }
 }
 

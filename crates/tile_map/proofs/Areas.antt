@@ -1,16 +1,15 @@
 -- The sites of an area all of which are live, and their places.
-use Rattle.std.proofs.Common.{ℕ, ◌≡◌, ◌≢◌, ◌+◌, ◌-◌, ◌*◌, ◌/◌, ◌%◌, ◌<◌, ◌≤◌, Bool, true, false, List, [], ◌∷◌, length, get_or, cond, refl, sym, ap, ◌∙◌, arith, Option, Some, None}
+use Rattle.std.proofs.Common.{ℕ, ◌≡◌, ◌≢◌, ◌+◌, ◌-◌, ◌*◌, ◌/◌, ◌%◌, ◌<◌, Bool, true, false, List, [], ◌∷◌, length, cond, refl, sym, ap, ◌∙◌, arith, Option, Some, None}
 use Rattle.std.specs.Prelude.{filter, if◌then◌else◌}
-use Rattle.std.proofs.lemmas.Bool.Decides.{nat_tests}
 use Rattle.std.proofs.lemmas.Option.{none-some, get_or_from_slice_get}
 use Rattle.list_laws.proofs.Filters.{filter_short}
 use Rattle.tile_map.specs.declared.span.Area.{Area}
 use Rattle.tile_map.specs.Plane.{Site, MapValue, IsMap, site, is_live}
-use Rattle.tile_map.specs.Spans.{is_within, place_within}
+use Rattle.tile_map.specs.Spans.{place_within}
 use Rattle.tile_map.specs.Edges.{pairs_of, pair_at, shared_of}
 use Rattle.tile_map.specs.Tables.{sites_in, live_in, number_of, SharedValue, area_both, shared_both, IsWholeArea, IsSharedArea}
-use Rattle.tile_map.proofs.Blocks.{block_length, block_order, row_column}
-use Rattle.tile_map.proofs.Numbers.{area_site, area_place, area_places}
+use Rattle.tile_map.proofs.Blocks.{block_order, row_column}
+use Rattle.tile_map.proofs.Numbers.{area_site, area_place, area_places, within_test}
 use Rattle.tile_map.proofs.Pairs.{edge_joined}
 use Rattle.tile_map.proofs.Registers.{number_at_place, number_place}
 use Rattle.tile_map.proofs.Sharing.{shared_live}
@@ -46,9 +45,6 @@ shared_area m k e v o lt is w = go o w
       w.2,
     )
 
-within_is : (l r t b x y : ℕ) → l ≤ x → x < r → t ≤ y → y < b → is_within l r t b x y ≡ true
-within_is l r t b x y p q u v = grind (arith, nat_tests)
-
 -- the number of a site among those of an area is its place
 pub area_number : (a : Area) (x y : ℕ) → number_of (sites_in a) (site x y) ≡ place_within a.columns.first a.columns.end a.rows.first a.rows.end x y
 area_number a x y = go (place_within a.columns.first a.columns.end a.rows.first a.rows.end x y) refl
@@ -65,7 +61,7 @@ area_number a x y = go (place_within a.columns.first a.columns.end a.rows.first 
         let r = row_column k n (a.rows.end - a.rows.first) low in
         let u : x ≡ a.columns.first + k % n = ap (λ (s : Site). s.x) at in
         let v : y ≡ a.rows.first + k / n = ap (λ (s : Site). s.y) at in
-        let inside = within_is a.columns.first a.columns.end a.rows.first a.rows.end x y (omega (arith, u)) (omega (arith, u, r.2)) (omega (arith, v)) (omega (arith, v, r.1)) in
+        let inside = within_test a.columns.first a.columns.end a.rows.first a.rows.end x y (omega (arith, u)) (omega (arith, u, r.2)) (omega (arith, v)) (omega (arith, v, r.1)) in
         absurd (none-some _ (sym h ∙ ap (λ b. if b then Some ((y - a.rows.first) * n + (x - a.columns.first)) else None) inside))
 
     go : (o : Option ℕ) → place_within a.columns.first a.columns.end a.rows.first a.rows.end x y ≡ o → number_of (sites_in a) (site x y) ≡ o

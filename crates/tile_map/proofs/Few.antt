@@ -33,7 +33,7 @@ apart_few n size a b ne = ⊎_elim (λ lt. after_few n size a b lt) (λ lt. befo
     order a b ne = grind (arith, ne)
 
 -- two numbers with one row and one column are one
-one_place : (t u n : ℕ) → t % n ≡ u % n → t / n ≡ u / n → t ≡ u
+pub one_place : (t u n : ℕ) → t % n ≡ u % n → t / n ≡ u / n → t ≡ u
 one_place t u n x y = grind (arith, rows, x, y)
 
 differs : (t u n : ℕ) → t < u → (t % n ≢ u % n) ⊎ (t / n ≢ u / n)

@@ -5,21 +5,21 @@ use mathlib.Core.Logic.{dite}
 use native.Mathlib.Decide.{ℕ_discrete}
 use Rattle.std.specs.List.{range_with_len}
 use Rattle.std.proofs.lemmas.Bool.Decides.{nat_tests}
-use Rattle.std.proofs.lemmas.Nat.{rows}
 use Rattle.std.proofs.lemmas.List.FromFn.{length-map-range_with_len, get_or-map-range_with_len}
 use Rattle.list_laws.proofs.Tests.{both}
 use Rattle.tile_map.specs.declared.span.Area.{Area}
 use Rattle.tile_map.specs.Plane.{Site, MapValue, IsMap, tiles_of, is_held, apart, in_window}
-use Rattle.tile_map.specs.Spans.{low, high, inner_low, inner_high, is_within}
+use Rattle.tile_map.specs.Spans.{low, high, interior_low, interior_high, is_within}
 use Rattle.tile_map.specs.Tables.{interior_of}
 use Rattle.tile_map.specs.Edges.{needs_of}
 use Rattle.tile_map.proofs.Spans.{test_le, times_more, held_span}
+use Rattle.tile_map.proofs.Few.{one_place}
 use Rattle.tile_map.proofs.Near.{window_apart}
 use Rattle.tile_map.proofs.Sharing.{column_low, row_low}
 use Rattle.tile_map.proofs.PlaneLaws.{needs}
 
 -- what another part reaches is more than 4 away
-part_far : (n size a b x u : ℕ) → a < n → b < n → a ≢ b → inner_low size a ≤ x → x < inner_high n size a → low size b ≤ u → u < high (n * size) size b → 4 < apart x u
+part_far : (n size a b x u : ℕ) → a < n → b < n → a ≢ b → interior_low size a ≤ x → x < interior_high n size a → low size b ≤ u → u < high (n * size) size b → 4 < apart x u
 part_far n size a b x u an bn ne p q r s = ⊎_elim before after order
   where
     order : (b < a) ⊎ (a < b)
@@ -37,24 +37,17 @@ part_far n size a b x u an bn ne p q r s = ⊎_elim before after order
         let last : x < (a + 1) * size - 8 = grind (arith, nat_tests, q, lt, bn) in
         omega (arith, more, last, r)
 
--- two tiles differ in their column or their row
-tiles_differ : (tx t u : ℕ) → t ≢ u → t % tx ≡ u % tx → t / tx ≡ u / tx → ⊥
-tiles_differ tx t u ne x y = ne (whole t ∙ (λ i. y i * tx + x i) ∙ sym (whole u))
-  where
-    whole : (t : ℕ) → t ≡ t / tx * tx + t % tx
-    whole t = grind (arith, rows)
-
 -- where a site of the interior lies
 record Inside (m : MapValue) (t : ℕ) (c : Site) : Type 0 where
-  pub left : inner_low m.w (t % m.tx) ≤ c.x
-  pub right : c.x < inner_high m.tx m.w (t % m.tx)
-  pub top : inner_low m.h (t / m.tx) ≤ c.y
-  pub bottom : c.y < inner_high m.ty m.h (t / m.tx)
+  pub left : interior_low m.w (t % m.tx) ≤ c.x
+  pub right : c.x < interior_high m.tx m.w (t % m.tx)
+  pub top : interior_low m.h (t / m.tx) ≤ c.y
+  pub bottom : c.y < interior_high m.ty m.h (t / m.tx)
 
 inside_of : (m : MapValue) (t : ℕ) (c : Site) (a : Area) → a ≡ interior_of m t → is_within a.columns.first a.columns.end a.rows.first a.rows.end c.x c.y ≡ true → Inside m t c
 inside_of m t c a is h = parts (subst (λ (a : Area). is_within a.columns.first a.columns.end a.rows.first a.rows.end c.x c.y ≡ true) is h)
   where
-    parts : is_within (inner_low m.w (t % m.tx)) (inner_high m.tx m.w (t % m.tx)) (inner_low m.h (t / m.tx)) (inner_high m.ty m.h (t / m.tx)) c.x c.y ≡ true → Inside m t c
+    parts : is_within (interior_low m.w (t % m.tx)) (interior_high m.tx m.w (t % m.tx)) (interior_low m.h (t / m.tx)) (interior_high m.ty m.h (t / m.tx)) c.x c.y ≡ true → Inside m t c
     parts h =
         let p = both _ _ h in
         let x = both _ _ p.0 in
@@ -70,7 +63,7 @@ far_held m k t u c s lt ne i near held =
     let row = row_low m k t lt in
     dite (ℕ_discrete (t % m.tx) (u % m.tx))
     (λ (x : t % m.tx ≡ u % m.tx).
-    let other : t / m.tx ≢ u / m.tx = λ y. tiles_differ m.tx t u ne x y in
+    let other : t / m.tx ≢ u / m.tx = λ y. ne (one_place t u m.tx x y) in
     let far = part_far m.ty m.h (t / m.tx) (u / m.tx) c.y s.y row (row_low m k u span.0) other i.top i.bottom span.3 span.4 in
     omega (arith, far, close))
     (λ (x : t % m.tx ≢ u % m.tx).

@@ -80,10 +80,11 @@ counted_all m a numbers count k c whole =
     let all : take k (sites_in a) ≡ sites_in a = take_all k (sites_in a) (omega (arith, whole)) in
     (c.numbers ∙ ap (map (number_of (live_in m a))) all, c.count ∙ ap (λ l. length (filter (is_live m) l)) all)
 
-within_facts : (l r t b x y : ℕ) → is_within l r t b x y ≡ true → (l ≤ x) × (x < r) × (t ≤ y) × (y < b)
+-- what it means to be in a rectangle
+pub within_facts : (l r t b x y : ℕ) → is_within l r t b x y ≡ true → (l ≤ x) × (x < r) × (t ≤ y) × (y < b)
 within_facts l r t b x y h = grind (arith, nat_tests)
 
-within_test : (l r t b x y : ℕ) → l ≤ x → x < r → t ≤ y → y < b → is_within l r t b x y ≡ true
+pub within_test : (l r t b x y : ℕ) → l ≤ x → x < r → t ≤ y → y < b → is_within l r t b x y ≡ true
 within_test l r t b x y p q u v = grind (arith, nat_tests)
 
 times_row : (i k n j : ℕ) → i < k → j < n → i * n + j < k * n

@@ -1,6 +1,7 @@
 -- What two neighbours share: of the columns and rows that both reach, the live sites.
 use Rattle.std.proofs.Common.{ℕ, ◌≡◌, ◌+◌, ◌*◌, ◌/◌, ◌%◌, ◌<◌, ◌≤◌, min, max, Bool, true, false, ◌&&◌, refl, sym, ap, ◌∙◌, arith, ◌⊎◌, inl, inr}
 use Rattle.std.specs.Prelude.{filter}
+use Rattle.std.proofs.lemmas.Bool.{and_left, and_right}
 use Rattle.std.proofs.lemmas.Nat.{rows}
 use Rattle.list_laws.proofs.Tests.{both, together}
 use Rattle.list_laws.proofs.Filters.{filter_twice}
@@ -9,7 +10,7 @@ use Rattle.tile_map.specs.Spans.{left_both, right_both, top_both, bottom_both}
 use Rattle.tile_map.specs.Edges.{are_neighbours, shared_by}
 use Rattle.tile_map.specs.Tables.{live_in, area_both}
 use Rattle.tile_map.proofs.Blocks.{IsBlock, filter_block}
-use Rattle.tile_map.proofs.Spans.{test_le, spans_meet, false_left, false_right, reached_inside, not_left, not_right, not_above, not_under}
+use Rattle.tile_map.proofs.Spans.{test_le, spans_meet, reached_inside, not_left, not_right, not_above, not_under}
 use Rattle.tile_map.proofs.Pairs.{Joined, joined_on, neighbours_near}
 
 record Near (m : MapValue) (t u : ℕ) : Type 0 where
@@ -63,8 +64,8 @@ reached_is_block m k p j =
     }
   where
     fails : {P : ℕ → Type 0} (u v : ℕ) → ((t : ℕ) → P t → is_reached m t (site u v) ≡ false) → (P p.0) ⊎ (P p.1) → both_reach m p (site u v) ≡ false
-    fails u v h (inl a) = false_left _ _ (h p.0 a)
-    fails u v h (inr b) = false_right _ _ (h p.1 b)
+    fails u v h (inl a) = and_left _ _ (h p.0 a)
+    fails u v h (inr b) = and_right _ _ (h p.1 b)
 
 -- what two neighbours share: the live sites of the columns and rows that both reach
 pub shared_live : (m : MapValue) → IsMap m → (p : ℕ × ℕ) → Joined m p → shared_by m p ≡ live_in m (area_both m p)

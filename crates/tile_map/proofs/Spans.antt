@@ -1,6 +1,7 @@
 -- The columns, or rows, that a tile holds: an interval of the plane's.
-use Rattle.std.proofs.Common.{ℕ, ◌≡◌, ◌+◌, ◌*◌, ◌/◌, ◌%◌, ◌<◌, ◌≤◌, min, max, Bool, true, false, ◌&&◌, refl, arith, lt-ltb, ltb-true}
+use Rattle.std.proofs.Common.{ℕ, ◌≡◌, ◌+◌, ◌*◌, ◌/◌, ◌%◌, ◌<◌, ◌≤◌, min, max, true, false, arith, lt-ltb, ltb-true}
 use Rattle.std.specs.Prelude.{nat_le}
+use Rattle.std.proofs.lemmas.Bool.{and_left, and_right}
 use Rattle.std.proofs.lemmas.Bool.Decides.{nat_tests}
 use Rattle.tile_map.specs.Spans.{low, high, left_of, right_of, top_of, bottom_of}
 use Rattle.tile_map.specs.Plane.{Site, MapValue, site, tiles_of, is_on, in_plane, is_live, is_around, is_reached, is_held}
@@ -24,14 +25,6 @@ around_above n size a x p q = grind (arith, nat_tests)
 pub around_span : (n size a x : ℕ) → is_around size a x ≡ true → x < n → (low size a ≤ x) × (x < high n size a)
 around_span n size a x p q = grind (arith, nat_tests)
 
-pub false_left : (a b : Bool) → a ≡ false → (a && b) ≡ false
-false_left true b h = absurd (cc (h))
-false_left false b h = refl
-
-pub false_right : (a b : Bool) → b ≡ false → (a && b) ≡ false
-false_right true b h = h
-false_right false b h = refl
-
 pub times_more : (a b w : ℕ) → a ≤ b → a * w ≤ b * w
 times_more a b w le = grind arith
 
@@ -53,16 +46,16 @@ reached_span m t x y h inside =
     (p.0, p.1, q.0, q.1)
 
 pub not_left : (m : MapValue) (t x y : ℕ) → x < left_of m t → is_reached m t (site x y) ≡ false
-not_left m t x y h = false_left _ _ (around_below m.w (t % m.tx) x h)
+not_left m t x y h = and_left _ _ (around_below m.w (t % m.tx) x h)
 
 pub not_right : (m : MapValue) (t x y : ℕ) → right_of m t ≤ x → x < m.tx * m.w → is_reached m t (site x y) ≡ false
-not_right m t x y h lt = false_left _ _ (around_above (m.tx * m.w) m.w (t % m.tx) x h lt)
+not_right m t x y h lt = and_left _ _ (around_above (m.tx * m.w) m.w (t % m.tx) x h lt)
 
 pub not_above : (m : MapValue) (t x y : ℕ) → y < top_of m t → is_reached m t (site x y) ≡ false
-not_above m t x y h = false_right _ _ (around_below m.h (t / m.tx) y h)
+not_above m t x y h = and_right _ _ (around_below m.h (t / m.tx) y h)
 
 pub not_under : (m : MapValue) (t x y : ℕ) → bottom_of m t ≤ y → y < m.ty * m.h → is_reached m t (site x y) ≡ false
-not_under m t x y h lt = false_right _ _ (around_above (m.ty * m.h) m.h (t / m.tx) y h lt)
+not_under m t x y h lt = and_right _ _ (around_above (m.ty * m.h) m.h (t / m.tx) y h lt)
 
 pub plane_test : (m : MapValue) (x y : ℕ) → x < m.tx * m.w → y < m.ty * m.h → in_plane m (site x y) ≡ true
 plane_test m x y a b = together _ _ (lt-ltb _ _ a) (lt-ltb _ _ b)

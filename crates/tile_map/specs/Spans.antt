@@ -34,13 +34,13 @@ top_both m p = max (top_of m p.0) (top_of m p.1)
 abbrev pub bottom_both : MapValue → ℕ × ℕ → ℕ
 bottom_both m p = min (bottom_of m p.0) (bottom_of m p.1)
 
--- a line is cut into n parts of equal size: the first place of part a that is 8 or more from the part before it, and one
--- more than the last place that is 8 or more from the part after it
-abbrev pub inner_low : ℕ → ℕ → ℕ
-inner_low size a = if a == 0 then 0 else a * size + 8
+-- a line is cut into n parts of equal size: the first place of part a that has 8 places of the part in front of it, and one
+-- more than the last that has 8 after it; at an end of the line all places count
+abbrev pub interior_low : ℕ → ℕ → ℕ
+interior_low size a = if a == 0 then 0 else a * size + 8
 
-abbrev pub inner_high : ℕ → ℕ → ℕ → ℕ
-inner_high n size a = if a + 1 == n then n * size else (a + 1) * size - 8
+abbrev pub interior_high : ℕ → ℕ → ℕ → ℕ
+interior_high n size a = if a + 1 == n then n * size else (a + 1) * size - 8
 
 -- how far a coordinate is from an interval
 abbrev pub gap : ℕ → ℕ → ℕ → ℕ

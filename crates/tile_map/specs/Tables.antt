@@ -5,7 +5,7 @@ use Rattle.std.specs.List.{range_with_len}
 use Rattle.std.specs.Option.{option_and_then}
 use Rattle.tile_map.specs.declared.span.Area.{Area}
 use Rattle.tile_map.specs.Plane.{Site, MapValue, IsMap, site, tiles_of, is_live}
-use Rattle.tile_map.specs.Spans.{left_both, right_both, top_both, bottom_both, inner_low, inner_high, place_within}
+use Rattle.tile_map.specs.Spans.{left_both, right_both, top_both, bottom_both, interior_low, interior_high, place_within}
 use Rattle.tile_map.specs.Edges.{pairs_of, pair_at, shared_of, edges_at}
 
 -- a row of n sites from x on
@@ -64,11 +64,12 @@ abbrev pub IsSharedArea : MapValue → ℕ → Option Area → Type 0
 IsSharedArea m e None = length (shared_of m e) < length (sites_in (area_both m (pair_at m e)))
 IsSharedArea m e (Some a) = (shared_of m e ≡ sites_in a) × IsSmall a
 
--- the sites of tile t's rectangle that are 8 or more from each other tile's rectangle beside it: an event there needs no edge
+-- the sites of tile t's rectangle with 8 or more columns and rows of it between them and each border beyond which the
+-- plane goes on: an event there needs no edge
 abbrev pub interior_of : MapValue → ℕ → Area
 interior_of m t = record {
-  columns = record { first = inner_low m.w (t % m.tx); end = inner_high m.tx m.w (t % m.tx) };
-  rows = record { first = inner_low m.h (t / m.tx); end = inner_high m.ty m.h (t / m.tx) };
+  columns = record { first = interior_low m.w (t % m.tx); end = interior_high m.tx m.w (t % m.tx) };
+  rows = record { first = interior_low m.h (t / m.tx); end = interior_high m.ty m.h (t / m.tx) };
 }
 
 pub record Keeps (m : MapValue) (ends : List (ℕ × ℕ)) (around : List (List ℕ)) (tables : List SharedValue) (interiors : List Area) : Type 0 where

@@ -178,8 +178,8 @@ impl Plane {
         }
     }
 
-    /// The sites of a tile's rectangle that are 8 or more from each border of it beyond which the
-    /// plane goes on. An event there needs no edge.
+    /// The sites of a tile's rectangle with 8 or more columns and rows of it between them and each
+    /// border beyond which the plane goes on. An event there needs no edge.
     pub(crate) fn interior(&self, tile: u32) -> Area
         requires { tile < tiles_of self.now }
         ensures { result ≡ interior_of self.now tile }

@@ -2,7 +2,7 @@
 
 ghost use Rattle.std.specs.Prelude.{◌≡◌, ◌+◌, ◌-◌, ◌*◌, ◌<◌, ◌≤◌, ◌≤ℤ◌, pos, min, max, ◌&&◌, nat_le, nat_lt, IfSome};
 ghost use Rattle.window_sites.specs.Sites.{shifted};
-ghost use Rattle.tile_map.specs.Spans.{inner_low, inner_high, is_within, place_within};
+ghost use Rattle.tile_map.specs.Spans.{interior_low, interior_high, is_within, place_within};
 
 /// The coordinates from `first` up to `end` and without it.
 #[derive(Clone, Copy)]
@@ -29,14 +29,14 @@ impl Span {
         Span { first, end }
     }
 
-    /// A line is cut into `parts` parts of equal size: what lies in one of them and is 8 or more
-    /// from each border of it beyond which another part follows.
+    /// A line is cut into `parts` parts of equal size: what lies in one of them, with 8 or more
+    /// places of it between it and each border beyond which another part follows.
     pub(crate) fn interior(part: u32, size: u32, parts: u32) -> Span
         requires one { part < parts }
         requires few { parts ≤ 8 }
         requires small { size ≤ 64 }
-        ensures first { result.first ≡ inner_low size part }
-        ensures end { result.end ≡ inner_high parts size part }
+        ensures first { result.first ≡ interior_low size part }
+        ensures end { result.end ≡ interior_high parts size part }
     {
         let first = if part == 0 { 0 } else { part * size + 8 };
         let end = if part + 1 == parts {

@@ -11,5 +11,5 @@ returns-then-has-clause-atom g c =
     let s = site c.args.x c.args.y in
     let within = sym c.has.ensures ∙ c.if-has.true in
     let registers = registers_at (g.E.EdgeWords.words c.args.words.now).histories in
-    let none = no_cells c.args.map.now registers c.args.inner.now.tile s c.laws.ensures.plane (λ u held. c.requires.inner.alone u c.args.x c.args.y within held) in
+    let none = no_cells c.args.map.now registers c.args.unshared.now.tile s c.laws.ensures.plane (λ u held. c.requires.unshared.alone u c.args.x c.args.y within held) in
     ap (λ (cell : CellValue). cell.atom) c.cell-own.ensures ∙ ap (λ cells. (newest (held_cell c.args.cache.now s) cells).atom) (sym none)

@@ -17,15 +17,15 @@ returns-then-not-is_on-clause-settled g c = λ tile live is.
 
 pub settled_in-atom-requires-clause-map : goal.settled_in-atom-requires-clause-map
 settled_in-atom-requires-clause-map g c =
-    let x = c.index-tiles-inner.result in
-    let at = tile_there c.args.map.now c.args.tiles.now c.requires.tiles c.args.inner.now.tile c.requires.inner.tile x c.index-tiles-inner.is in
-    ap (λ (k : CacheValue). k.map) c.cache-cache.ensures ∙ c.requires.tiles.maps c.args.inner.now.tile x.core at
+    let x = c.index-tiles-unshared.result in
+    let at = tile_there c.args.map.now c.args.tiles.now c.requires.tiles c.args.unshared.now.tile c.requires.unshared.tile x c.index-tiles-unshared.is in
+    ap (λ (k : CacheValue). k.map) c.cache-cache.ensures ∙ c.requires.tiles.maps c.args.unshared.now.tile x.core at
 
 pub settled_in-atom-requires-clause-tile : goal.settled_in-atom-requires-clause-tile
 settled_in-atom-requires-clause-tile g c =
-    let x = c.index-tiles-inner.result in
-    let at = tile_there c.args.map.now c.args.tiles.now c.requires.tiles c.args.inner.now.tile c.requires.inner.tile x c.index-tiles-inner.is in
-    ap (λ (k : CacheValue). k.tile) c.cache-cache.ensures ∙ c.requires.tiles.numbers c.args.inner.now.tile x.core at
+    let x = c.index-tiles-unshared.result in
+    let at = tile_there c.args.map.now c.args.tiles.now c.requires.tiles c.args.unshared.now.tile c.requires.unshared.tile x c.index-tiles-unshared.is in
+    ap (λ (k : CacheValue). k.tile) c.cache-cache.ensures ∙ c.requires.tiles.numbers c.args.unshared.now.tile x.core at
 
 pub settled_in-atom-requires-clause-held : goal.settled_in-atom-requires-clause-held
 settled_in-atom-requires-clause-held g c =
@@ -41,11 +41,11 @@ returns-clause-change g c =
     let tiles = values_of c.args.tiles.now in
     let registers = registers_at (g.E.EdgeWords.words c.args.words.now).histories in
     let s = site c.args.x c.args.y in
-    let x = c.index-tiles-inner.result in
+    let x = c.index-tiles-unshared.result in
     let owner = sym c.requires.owner in
     let on = ap (is_on m) c.requires.owner ∙ (sym c.is_on.ensures ∙ c.if-not-is_on.false) in
     let live = on_live m c.args.grid.now c.requires.grid c.args.x c.args.y c.requires.x c.requires.y on in
-    let at : slice_get tiles c.args.inner.now.tile ≡ Some x.core = tile_there m c.args.tiles.now c.requires.tiles c.args.inner.now.tile c.requires.inner.tile x c.index-tiles-inner.is in
+    let at : slice_get tiles c.args.unshared.now.tile ≡ Some x.core = tile_there m c.args.tiles.now c.requires.tiles c.args.unshared.now.tile c.requires.unshared.tile x c.index-tiles-unshared.is in
     let both = sets m tiles registers c.laws.ensures.plane c.args.grid.now c.requires.grid c.args.x c.args.y c.requires.x c.requires.y live c.settled_in-atom.result (λ tile is.
     let same : x.core ≡ tile = cc (sym at ∙ (ap (slice_get tiles) owner ∙ is)) in
     let cache = c.cache-cache.ensures ∙ ap (λ (t : TileValue). t.cache) same in
@@ -58,11 +58,11 @@ returns-clause-settled g c =
     let tiles = values_of c.args.tiles.now in
     let registers = registers_at (g.E.EdgeWords.words c.args.words.now).histories in
     let s = site c.args.x c.args.y in
-    let x = c.index-tiles-inner.result in
+    let x = c.index-tiles-unshared.result in
     let owner = sym c.requires.owner in
     let on = ap (is_on m) c.requires.owner ∙ (sym c.is_on.ensures ∙ c.if-not-is_on.false) in
     let live = on_live m c.args.grid.now c.requires.grid c.args.x c.args.y c.requires.x c.requires.y on in
-    let at : slice_get tiles c.args.inner.now.tile ≡ Some x.core = tile_there m c.args.tiles.now c.requires.tiles c.args.inner.now.tile c.requires.inner.tile x c.index-tiles-inner.is in
+    let at : slice_get tiles c.args.unshared.now.tile ≡ Some x.core = tile_there m c.args.tiles.now c.requires.tiles c.args.unshared.now.tile c.requires.unshared.tile x c.index-tiles-unshared.is in
     let both = sets m tiles registers c.laws.ensures.plane c.args.grid.now c.requires.grid c.args.x c.args.y c.requires.x c.requires.y live c.settled_in-atom.result (λ tile is.
     let same : x.core ≡ tile = cc (sym at ∙ (ap (slice_get tiles) owner ∙ is)) in
     let cache = c.cache-cache.ensures ∙ ap (λ (t : TileValue). t.cache) same in

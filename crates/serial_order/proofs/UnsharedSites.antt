@@ -8,8 +8,8 @@ use Rattle.tile_map.specs.Spans.{low, high, left_of, right_of, top_of, bottom_of
 use Rattle.tile_map.proofs.Near.{div_is}
 use Rattle.tile_map.proofs.Sharing.{column_low, row_low}
 use Rattle.tile_map.proofs.Spans.{held_parts, on_low, times_more}
-use Rattle.serial_order.specs.Outcomes.{IsInner, IsRun}
-use Rattle.serial_order.specs.declared.inner.Inner.{Inner}
+use Rattle.serial_order.specs.Outcomes.{IsUnshared, IsStretch}
+use Rattle.serial_order.specs.declared.unshared.Unshared.{Unshared}
 
 -- the part below reaches no place that is 4 or more above the border
 not_below : (p q from x : ℕ) → 8 ≤ p → q ≤ p → from ≡ (if p - 4 == 0 then 0 else p - 4 + 8) → from ≤ x → x < q + 4 → ⊥
@@ -31,10 +31,10 @@ not_above p q n end to x big room le is to_is lt near = go (end == n) refl to_is
     go false t to' = absurd (omega (arith, to', end_is, big, le, lt, near))
 
 -- a line is cut into k parts of one size: of what part a reaches, only a reaches this
-pub unshared : (k size a b from to x : ℕ) → 8 ≤ size → a < k → b < k
+pub unshared_place : (k size a b from to x : ℕ) → 8 ≤ size → a < k → b < k
     → from ≡ (if low size a == 0 then 0 else low size a + 8) → to ≡ (if high (k * size) size a == k * size then high (k * size) size a else high (k * size) size a - 8)
     → from ≤ x → x < to → is_around size b x ≡ true → b ≡ a
-unshared k size a b from to x big a_lt b_lt from_is to_is low_x lt_x around = go (nat_lt b a) (nat_lt a b) refl refl
+unshared_place k size a b from to x big a_lt b_lt from_is to_is low_x lt_x around = go (nat_lt b a) (nat_lt a b) refl refl
   where
     parts : (b * size ≤ x + 4) × (x < (b + 1) * size + 4)
     parts = let p = both _ _ around in (leb-true _ _ p.0, ltb-true _ _ p.1)
@@ -51,13 +51,13 @@ unshared k size a b from to x big a_lt b_lt from_is to_is low_x lt_x around = go
         absurd (not_above ((a + 1) * size) (b * size) (k * size) (high (k * size) size a) to x (omega (arith, one, big)) (omega (arith, most, big)) (times_more (a + 1) b size lt) refl to_is lt_x parts.0)
     go false false p q = grind (arith, nat_tests, p, q)
 
-pub inner_is : (m : MapValue) → IsMap m → (i : Inner) → i.tile < tiles_of m
+pub unshared_is : (m : MapValue) → IsMap m → (i : Unshared) → i.tile < tiles_of m
     → i.left ≡ (if left_of m i.tile == 0 then 0 else left_of m i.tile + 8)
     → i.right ≡ (if right_of m i.tile == m.tx * m.w then right_of m i.tile else right_of m i.tile - 8)
     → i.top ≡ (if top_of m i.tile == 0 then 0 else top_of m i.tile + 8)
     → i.bottom ≡ (if bottom_of m i.tile == m.ty * m.h then bottom_of m i.tile else bottom_of m i.tile - 8)
-    → IsInner m i
-inner_is m valid i tile left right top bottom = record {
+    → IsUnshared m i
+unshared_is m valid i tile left right top bottom = record {
   tile = tile;
   alone = λ u x y within held.
       let p = held_parts m u (site x y) held in
@@ -66,14 +66,14 @@ inner_is m valid i tile left right top bottom = record {
       let within' = both _ _ within in
       let columns = both _ _ within'.0 in
       let rows = both _ _ within'.1 in
-      let column = unshared m.tx m.w (i.tile % m.tx) (u % m.tx) i.left i.right x valid.sizes.w_low (column_low m valid i.tile tile) (column_low m valid u inside) left right (leb-true _ _ columns.0) (ltb-true _ _ columns.1) near.0 in
-      let row = unshared m.ty m.h (i.tile / m.tx) (u / m.tx) i.top i.bottom y valid.sizes.h_low (row_low m valid i.tile tile) (row_low m valid u inside) top bottom (leb-true _ _ rows.0) (ltb-true _ _ rows.1) near.1 in
+      let column = unshared_place m.tx m.w (i.tile % m.tx) (u % m.tx) i.left i.right x valid.sizes.w_low (column_low m valid i.tile tile) (column_low m valid u inside) left right (leb-true _ _ columns.0) (ltb-true _ _ columns.1) near.0 in
+      let row = unshared_place m.ty m.h (i.tile / m.tx) (u / m.tx) i.top i.bottom y valid.sizes.h_low (row_low m valid i.tile tile) (row_low m valid u inside) top bottom (leb-true _ _ rows.0) (ltb-true _ _ rows.1) near.1 in
       sym (div-add-mod' u m.tx) ∙ (λ j. row j * m.tx + column j) ∙ div-add-mod' i.tile m.tx;
 }
 
 -- a row of a tile
-pub run_is : (m : MapValue) → IsMap m → (part y : ℕ) → part < m.tx → y < m.ty * m.h → IsRun m (part * m.w) m.w y
-run_is m valid part y lt row = record {
+pub stretch_is : (m : MapValue) → IsMap m → (part y : ℕ) → part < m.tx → y < m.ty * m.h → IsStretch m (part * m.w) m.w y
+stretch_is m valid part y lt row = record {
   some = omega (arith, valid.sizes.w_low);
   inside = let most = times_more (part + 1) m.tx m.w (omega (arith, lt)) in omega (arith, most);
   row = row;

@@ -6,20 +6,20 @@ use Rattle.serial_order.specs.Outcomes.{values_of}
 use Rattle.serial_order.specs.Words.{AreEdgeWords, WordsValue}
 use Rattle.serial_order.proofs.Blanks.{wide}
 use Rattle.serial_order.proofs.Filling.{one_settled}
-use Rattle.serial_order.proofs.outcome.settle_run.Goals as goal
+use Rattle.serial_order.proofs.outcome.settle_stretch.Goals as goal
 
 pub overflow_add-x-end : goal.overflow_add-x-end
-overflow_add-x-end g c = let most = wide c.args.map.now c.laws.ensures.valid in omega (arith, most.1, c.requires.run.inside)
+overflow_add-x-end g c = let most = wide c.args.map.now c.laws.ensures.valid in omega (arith, most.1, c.requires.stretch.inside)
 
 pub settle_site-requires-clause-x : goal.settle_site-requires-clause-x
-settle_site-requires-clause-x g c = omega (arith, c.loop-x-test.true, c.requires.run.inside, c.loop-x.invariant.done.fits.wide)
+settle_site-requires-clause-x g c = omega (arith, c.loop-x-test.true, c.requires.stretch.inside, c.loop-x.invariant.done.fits.wide)
 
 pub settle_site-requires-clause-y : goal.settle_site-requires-clause-y
-settle_site-requires-clause-y g c = omega (arith, c.requires.run.row, c.loop-x.invariant.done.fits.high)
+settle_site-requires-clause-y g c = omega (arith, c.requires.stretch.row, c.loop-x.invariant.done.fits.high)
 
 pub settle_site-requires-clause-owner : goal.settle_site-requires-clause-owner
 settle_site-requires-clause-owner g c =
-    c.requires.run.owner c.loop-x.x c.loop-x.invariant.from (omega (arith, c.loop-x-test.true)) ∙ (sym c.owner.ensures.value ∙ sym c.of-inner.ensures.tile)
+    c.requires.stretch.owner c.loop-x.x c.loop-x.invariant.from (omega (arith, c.loop-x-test.true)) ∙ (sym c.owner.ensures.value ∙ sym c.of-unshared.ensures.tile)
 
 pub settle_site-requires-clause-words : goal.settle_site-requires-clause-words
 settle_site-requires-clause-words g c = subst (AreEdgeWords c.args.map.now) (sym c.loop-x.invariant.same) c.requires.words
@@ -34,7 +34,7 @@ loop-x-preserved g c =
     let new = c.settle_site.new.grid in
     let s = c.settle_site.ensures.change in
     let here = subst (λ (w : WordsValue). IsSettledAt m tiles (registers_at w.histories) (site c.loop-x.x c.args.y) new) i.same c.settle_site.ensures.settled in
-    let done = one_settled m tiles registers c.laws.ensures.plane c.loop-x.x c.args.y old new (omega (arith, c.loop-x-test.true, c.requires.run.inside, i.done.fits.wide)) i.done s here in
+    let done = one_settled m tiles registers c.laws.ensures.plane c.loop-x.x c.args.y old new (omega (arith, c.loop-x-test.true, c.requires.stretch.inside, i.done.fits.wide)) i.done s here in
     record {
       from = let from = i.from in omega (arith, from);
       done = subst (λ n. IsSettledTo m tiles registers (c.args.y * n + (c.loop-x.x + 1)) new) (sym s.plane.0) done;

@@ -2,15 +2,15 @@
 ghost use Rattle.std.specs.Prelude.{◌≡◌, ◌==◌, ◌+◌, ◌-◌, ◌≤◌, ◌<◌, if◌then◌else◌};
 ghost use Rattle.tile_map.specs.Plane.{tiles_of};
 ghost use Rattle.tile_map.specs.Spans.{is_within};
-ghost use Rattle.serial_order.specs.Outcomes.{IsInner};
+ghost use Rattle.serial_order.specs.Outcomes.{IsUnshared};
 
 use crate::blank::extent;
 use tile_map::Map;
 
-/// A tile, and the columns and rows of its rectangle that no other tile holds: each from the first
-/// up to the last and without it.
+/// A tile, and the columns and rows of its rectangle that no other tile holds: `left` and `top` are
+/// the first, `right` and `bottom` one more than the last.
 #[derive(Clone, Copy, Debug)]
-pub(crate) struct Inner {
+pub(crate) struct Unshared {
     pub(crate) tile: u32,
     pub(crate) left: u32,
     pub(crate) right: u32,
@@ -20,7 +20,7 @@ pub(crate) struct Inner {
 
 /// Of the places of a line of some length that a tile reaches, those that no other tile reaches. At
 /// each border with a neighbour both reach 4 places on either side.
-fn unshared(first: u32, end: u32, length: u32) -> (u32, u32)
+fn unshared_places(first: u32, end: u32, length: u32) -> (u32, u32)
     requires small { first ≤ 512 }
     requires some { 8 ≤ end }
     ensures from { result.0 ≡ (if first == 0 then 0 else first + 8) }
@@ -31,19 +31,19 @@ fn unshared(first: u32, end: u32, length: u32) -> (u32, u32)
     (from, to)
 }
 
-impl Inner {
-    /// Those of a tile.
-    pub(crate) fn of(map: &Map, tile: u32) -> Inner
+impl Unshared {
+    /// The sites of a tile that no other tile holds.
+    pub(crate) fn of(map: &Map, tile: u32) -> Unshared
         requires { tile < tiles_of map.now }
-        ensures inner { IsInner map.now result }
+        ensures unshared { IsUnshared map.now result }
         ensures tile { result.tile ≡ tile }
     {
         let (width, height) = extent(map);
         let (first, end) = map.columns(tile);
-        let (left, right) = unshared(first, end, width);
+        let (left, right) = unshared_places(first, end, width);
         let (first, end) = map.rows(tile);
-        let (top, bottom) = unshared(first, end, height);
-        Inner {
+        let (top, bottom) = unshared_places(first, end, height);
+        Unshared {
             tile,
             left,
             right,
@@ -52,7 +52,7 @@ impl Inner {
         }
     }
 
-    /// Whether a site is one of them.
+    /// Whether a site lies in these columns and rows.
     pub(crate) fn has(&self, x: u32, y: u32) -> bool
         ensures { result ≡ is_within self.now.left self.now.right self.now.top self.now.bottom x y }
     {

@@ -3,7 +3,7 @@ use Rattle.cell_grid.specs.Grid.{ArePlanesAlike}
 use Rattle.serial_order.specs.Outcomes.{values_of}
 use Rattle.serial_order.specs.Scene.{registers_at}
 use Rattle.serial_order.specs.Settled.{IsSettledTo}
-use Rattle.serial_order.proofs.outcome.settle_run.Given as goal
+use Rattle.serial_order.proofs.outcome.settle_stretch.Given as goal
 
 abbrev pub invariant-loop-x : goal.invariant-loop-x
 invariant-loop-x g l = record {
