@@ -2,7 +2,6 @@
 
 import dataclasses
 import pathlib
-import re
 import shutil
 from typing import Callable, Iterator
 
@@ -12,8 +11,6 @@ from check import source_files
 from worlds import SORTERS, WANDERERS, Mix, lines_of_tries, world
 
 ORDER = "order seed 9\n"
-# What a workers' bench says of its time.
-CLOCK = re.compile(r"^(\d+) nanoseconds from the first attempt to the last$", re.MULTILINE)
 
 
 @dataclasses.dataclass(frozen=True)
@@ -56,7 +53,6 @@ class Bench:
     """The programs, and the folder of the files; how many attempts a run has, and how many runs a line."""
 
     program: pathlib.Path
-    workers: pathlib.Path
     flat: pathlib.Path
     plain: pathlib.Path
     folder: pathlib.Path
@@ -74,6 +70,10 @@ class Bench:
         """The world of so many tiles each way."""
         order = "" if scripted or tiles == 1 else ORDER
         return self.file(f"world-{tiles}", world(tiles, self.attempts, scripted, mix=mix) + order)
+
+    def idle_world(self, tiles: int) -> pathlib.Path:
+        """The same plane and atoms with one attempt a tile."""
+        return self.file(f"idle-world-{tiles}", world(tiles, tiles**2) + ORDER)
 
     def elements(self, mix: Mix = WANDERERS) -> pathlib.Path:
         """The elements of worlds."""
@@ -140,25 +140,25 @@ def sorters(bench: Bench) -> Iterator[Line]:
 
 
 def workers(bench: Bench) -> Iterator[Line]:
-    """The workers alone, on all processors and on one, by the clock of their bench."""
+    """What a threaded run takes more than one of the same plane with one attempt a tile, on all processors and on one."""
     elements, taskset = bench.elements(), shutil.which("taskset")
     if not taskset:
         raise Failed("there is no taskset")
     for tiles in (2, 8):
-        last = bench.attempts // tiles**2 - 1
-        run: Words = [bench.workers, str(last), "run", bench.world(tiles), elements]
-        rounds = [(workers_seconds(run), workers_seconds([taskset, "-c", str(bench.processors[0]), *run])) for _ in range(bench.rounds)]
-        many, one = (min(seconds) for seconds in zip(*rounds))
-        work, alone = f"workers alone, {tiles} by {tiles} tiles", f"on one processor {one:.3f} s"
-        yield Line(work, f"{many:.3f} s", alone, one / many, "times its rate", at_least(3.5))
+        busy: Words = [bench.program, "run", bench.world(tiles), elements]
+        idle: Words = [bench.program, "run", bench.idle_world(tiles), elements]
+        on_one: Words = [taskset, "-c", str(bench.processors[0])]
+        calls = {"busy": busy, "idle": idle, "busy on one": [*on_one, *busy], "idle on one": [*on_one, *idle]}
+        used = in_turn(calls, bench.rounds)
+        yield added(f"workers alone, {tiles} by {tiles} tiles", used)
 
 
-def workers_seconds(words: Words) -> float:
-    """How long the workers of one run took."""
-    said = CLOCK.search(made(words).told)
-    if not said:
-        raise Failed(f"{words[0]} doesn't say how long its workers took")
-    return int(said[1]) / 1e9
+def added(work: str, used: dict[str, Used]) -> Line:
+    """The line of what attempts add; without a figure if runs are so short that this is lost in other differences."""
+    many = used["busy"].seconds - used["idle"].seconds
+    one = used["busy on one"].seconds - used["idle on one"].seconds
+    figure = one / many if min(one, many) > 0 else None
+    return Line(work, f"{many:.3f} s", f"on one processor {one:.3f} s", figure, "times its rate", at_least(3.5))
 
 
 def stepped(bench: Bench) -> Iterator[Line]:

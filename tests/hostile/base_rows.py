@@ -1,6 +1,7 @@
 """The rows of the table `bases`: classes whose texts are of each bad kind, with the code of their refusal."""
 from __future__ import annotations
 
+import re
 from dataclasses import dataclass
 from typing import Callable
 
@@ -11,12 +12,18 @@ from base_texts import (
 
 @dataclass(frozen=True)
 class Row:
-    """A text: its name, its classes, the code of its refusal (0: accepted), and whether only `--long` tries it."""
+    """A kind of text: what it is, with N for its size; the greatest size of which a mebibyte has room; the classes of a
+    size; the code of its refusal (0: accepted); and whether only `--long` tries it."""
 
-    name: str
-    classes: Callable[[], list[Class]]
+    kind: str
+    size: int
+    classes: Callable[[int], list[Class]]
     code: int
     long: bool = False
+
+    def name(self, size: int) -> str:
+        """The kind at a size."""
+        return re.sub(r"\bN\b", f"{size:,}", self.kind)
 
 
 # Chains
@@ -50,19 +57,19 @@ def overridden(count: int) -> list[Class]:
 
 
 CHAINS = [
-    Row("a chain of 20,000", lambda: chain(20_000, WIDTH), 35),
-    Row("a chain of 20,000, heirs first", lambda: chain(20_000, WIDTH)[::-1], 35),
-    Row("a chain of 33,000", lambda: chain(33_000, 9), 35, long=True),
-    Row("a chain of 256", lambda: chain(256, 200), 0),
-    Row("a chain of 256, heirs first", lambda: chain(256, 200)[::-1], 0, long=True),
-    Row("a chain of 257, heirs first", lambda: chain(257, 200)[::-1], 35, long=True),
-    Row("a chain of 20,000, the first without its base", lambda: without_base(20_000, 0), 37, long=True),
-    Row("a chain of 20,000, the last without its base", lambda: without_base(20_000, 19_999), 37),
-    Row("a chain of 20,000, heirs first, the root without its base", lambda: without_base(20_000, 0)[::-1], 37, long=True),
-    Row("a ring of 20,000", lambda: ring(20_000), 38),
-    Row("a chain of 20,000 that leads into a ring", lambda: into_a_ring(20_000), 38),
-    Row("a chain of 20,000, the last a bad override", lambda: overridden(19_998), 39),
-    Row("a chain of 20,000, heirs first, the first a bad override", lambda: overridden(19_998)[::-1], 39, long=True),
+    Row("a chain of N", 20_000, lambda n: chain(n, WIDTH), 35),
+    Row("a chain of N, heirs first", 20_000, lambda n: chain(n, WIDTH)[::-1], 35),
+    Row("a chain of N with shorter names", 33_000, lambda n: chain(n, 9), 35, long=True),
+    Row("a chain of 256", 256, lambda _: chain(256, 200), 0),
+    Row("a chain of 256, heirs first", 256, lambda _: chain(256, 200)[::-1], 0, long=True),
+    Row("a chain of 257, heirs first", 257, lambda _: chain(257, 200)[::-1], 35, long=True),
+    Row("a chain of N, the first without its base", 20_000, lambda n: without_base(n, 0), 37, long=True),
+    Row("a chain of N, the last without its base", 20_000, lambda n: without_base(n, n - 1), 37),
+    Row("a chain of N, heirs first, the root without its base", 20_000, lambda n: without_base(n, 0)[::-1], 37, long=True),
+    Row("a ring of N", 20_000, ring, 38),
+    Row("a chain of N that leads into a ring", 20_000, into_a_ring, 38),
+    Row("a chain of N, the last a bad override", 19_998, overridden, 39),
+    Row("a chain of N, heirs first, the first a bad override", 19_998, lambda n: overridden(n)[::-1], 39, long=True),
 ]
 
 
@@ -85,12 +92,12 @@ def full_star(count: int, last: Class) -> list[Class]:
 
 
 STARS = [
-    Row("a star of 15,000", lambda: bare_star(15_000), 35),
-    Row("a star of 15,000, heirs first", lambda: bare_star(15_000)[::-1], 35, long=True),
-    Row("a star of 14,000, the last without its base", lambda: full_star(14_000, Class(True, b"C", b"Nowhere")), 37, long=True),
-    Row("a star of 14,000, the last its own base", lambda: full_star(14_000, Class(True, b"C", b"C")), 38, long=True),
-    Row("a star of 14,000, the last an heir of an element", lambda: full_star(14_000, Class(False, b"C", b"C")), 37, long=True),
-    Row("a star of 14,000, the last a bad override", lambda: full_star(14_000, Class(True, b"C", b"A", (STOPPED,))), 39),
+    Row("a star of N", 15_000, bare_star, 35),
+    Row("a star of N, heirs first", 15_000, lambda n: bare_star(n)[::-1], 35, long=True),
+    Row("a star of N, the last without its base", 14_000, lambda n: full_star(n, Class(True, b"C", b"Nowhere")), 37, long=True),
+    Row("a star of N, the last its own base", 14_000, lambda n: full_star(n, Class(True, b"C", b"C")), 38, long=True),
+    Row("a star of N, the last an heir of an element", 14_000, lambda n: full_star(n, Class(False, b"C", b"C")), 37, long=True),
+    Row("a star of N, the last a bad override", 14_000, lambda n: full_star(n, Class(True, b"C", b"A", (STOPPED,))), 39),
 ]
 
 
@@ -110,16 +117,16 @@ def elements_of(members: tuple[Member, ...], count: int) -> list[Class]:
 
 FULL = (*data(64, b"d", 250), *functions(63, b"f", False, 250), *constants(64, 250))
 ALL_IN_ONE = [
-    Row("255 classes, 35,000 data members in the first", lambda: heirs(data(35_000, b"d", 19)), 35),
-    Row("255 classes, 35,000 data members in the last", lambda: heirs(data(35_000, b"d", 19))[::-1], 35),
-    Row("255 classes, 25,000 functions in the first", lambda: heirs(functions(25_000, b"f", False, 28)), 35, long=True),
-    Row("255 classes, 25,000 virtual functions in the last", lambda: heirs(functions(25_000, b"f", True, 20))[::-1], 35),
-    Row("255 classes, 25,000 constants in the last", lambda: heirs(constants(25_000, 24))[::-1], 35, long=True),
-    Row("255 classes, 64 of everything in the first", lambda: heirs(FULL), 0),
-    Row("255 classes, 64 of everything in the last", lambda: heirs(FULL)[::-1], 0, long=True),
-    Row("255 classes, 64 of everything in the first, one more in the last", lambda: heirs(FULL, data(1, b"e")), 35, long=True),
-    Row("255 elements, 64 of everything in their base", lambda: elements_of(FULL, 255), 0),
-    Row("256 elements, 64 of everything in their base", lambda: elements_of(FULL, 256), 35, long=True),
+    Row("255 classes, N data members in the first", 35_000, lambda n: heirs(data(n, b"d", 19)), 35),
+    Row("255 classes, N data members in the last", 35_000, lambda n: heirs(data(n, b"d", 19))[::-1], 35),
+    Row("255 classes, N functions in the first", 25_000, lambda n: heirs(functions(n, b"f", False, 28)), 35, long=True),
+    Row("255 classes, N virtual functions in the last", 25_000, lambda n: heirs(functions(n, b"f", True, 20))[::-1], 35),
+    Row("255 classes, N constants in the last", 25_000, lambda n: heirs(constants(n, 24))[::-1], 35, long=True),
+    Row("255 classes, 64 of everything in the first", 255, lambda _: heirs(FULL), 0),
+    Row("255 classes, 64 of everything in the last", 255, lambda _: heirs(FULL)[::-1], 0, long=True),
+    Row("255 classes, 64 of everything in the first, one more in the last", 255, lambda _: heirs(FULL, data(1, b"e")), 35, long=True),
+    Row("255 elements, 64 of everything in their base", 255, lambda _: elements_of(FULL, 255), 0),
+    Row("256 elements, 64 of everything in their base", 256, lambda _: elements_of(FULL, 256), 35, long=True),
 ]
 
 
@@ -136,21 +143,27 @@ def heirs_of_one_name(count: int) -> list[Class]:
     return star(root(*one_name(count, True)), 200, one_name(1, False))[::-1]
 
 
-def all_in_reverse() -> list[Class]:
+def all_in_reverse(count: int) -> list[Class]:
     """Virtual functions, which an heir has again in reverse."""
-    return again(functions(12_000, b"f", True, 26), functions(12_000, b"f", False, 26)[::-1])
+    return again(functions(count, b"f", True, 26), functions(count, b"f", False, 26)[::-1])
 
 
+def one_name_again(count: int, virtual: bool, last: tuple[Member, ...] = ()) -> list[Class]:
+    """A function of one name, so many times in a class and in its heir, `virtual` in the first or in the second."""
+    return again(one_name(count, virtual), (*one_name(count, not virtual), *last))
+
+
+FIELD = Member("data", b"Bool", b"m" * 11, True)
 VIRTUAL = [
-    Row("40,000 virtual data members of one name", lambda: [root(*(Member("data", b"Bool", b"m" * 11, True),) * 40_000)], 39),
-    Row("27,000 virtual functions of one name", lambda: [root(*one_name(27_000, True))], 30),
-    Row("13,000 virtual functions of one name, 13,000 again", lambda: again(one_name(13_000, True), one_name(13_000, False)), 30, long=True),
-    Row("13,000 again, heir first", lambda: again(one_name(13_000, True), one_name(13_000, False))[::-1], 30),
-    Row("13,000 again, the last a bad override", lambda: again(one_name(13_000, True), (*one_name(13_000, False), STOPPED)), 39),
-    Row("13,000 plain functions, virtual when again", lambda: again(one_name(13_000, False), one_name(13_000, True)), 30, long=True),
-    Row("20,000 virtual functions of one name, again in each of 200 heirs", lambda: heirs_of_one_name(20_000), 30),
-    Row("12,000 virtual functions, all again in reverse", all_in_reverse, 35, long=True),
-    Row("12,000 virtual functions, all again in reverse, heir first", lambda: all_in_reverse()[::-1], 35),
+    Row("N virtual data members of one name", 40_000, lambda n: [root(*(FIELD,) * n)], 39),
+    Row("N virtual functions of one name", 27_000, lambda n: [root(*one_name(n, True))], 30),
+    Row("N virtual functions of one name, N again", 13_000, lambda n: one_name_again(n, True), 30, long=True),
+    Row("N virtual functions of one name, N again, heir first", 13_000, lambda n: one_name_again(n, True)[::-1], 30),
+    Row("N virtual functions of one name, N again, the last a bad override", 13_000, lambda n: one_name_again(n, True, (STOPPED,)), 39),
+    Row("N functions of one name, virtual when N again", 13_000, lambda n: one_name_again(n, False), 30, long=True),
+    Row("N virtual functions of one name, again in each of 200 heirs", 20_000, heirs_of_one_name, 30),
+    Row("N virtual functions, all again in reverse", 12_000, all_in_reverse, 35, long=True),
+    Row("N virtual functions, all again in reverse, heir first", 12_000, lambda n: all_in_reverse(n)[::-1], 35),
 ]
 
 
@@ -185,14 +198,14 @@ def other_names(number: int) -> tuple[Member, ...]:
 
 
 GENERATIONS = [
-    Row("255 heirs of heirs, each with all 64 functions again", lambda: generations(255, all_again), 0),
-    Row("255 heirs of heirs, each with all again, heirs first", lambda: generations(255, all_again)[::-1], 0, long=True),
-    Row("255 heirs of heirs, the last with one more", lambda: generations(255, one_more(254)), 35),
-    Row("255 heirs of heirs, the first with one more", lambda: generations(255, one_more(1)), 35, long=True),
-    Row("255 heirs of heirs, the last a bad override", lambda: generations(255, one_bad(254)), 39),
-    Row("255 heirs of heirs, the first a bad override", lambda: generations(255, one_bad(1)), 39, long=True),
-    Row("255 heirs of heirs, each with 128 more", lambda: generations(255, other_names), 35),
-    Row("255 heirs of heirs, each with 128 more, heirs first", lambda: generations(255, other_names)[::-1], 35, long=True),
+    Row("N heirs of heirs, each with all 64 functions again", 255, lambda n: generations(n, all_again), 0),
+    Row("N heirs of heirs, each with all again, heirs first", 255, lambda n: generations(n, all_again)[::-1], 0, long=True),
+    Row("N heirs of heirs, the last with one more", 255, lambda n: generations(n, one_more(n - 1)), 35),
+    Row("N heirs of heirs, the first with one more", 255, lambda n: generations(n, one_more(1)), 35, long=True),
+    Row("N heirs of heirs, the last a bad override", 255, lambda n: generations(n, one_bad(n - 1)), 39),
+    Row("N heirs of heirs, the first a bad override", 255, lambda n: generations(n, one_bad(1)), 39, long=True),
+    Row("N heirs of heirs, each with 128 more", 255, lambda n: generations(n, other_names), 35),
+    Row("N heirs of heirs, each with 128 more, heirs first", 255, lambda n: generations(n, other_names)[::-1], 35, long=True),
 ]
 
 ROWS = [*CHAINS, *STARS, *ALL_IN_ONE, *VIRTUAL, *GENERATIONS]
