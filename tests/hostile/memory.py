@@ -126,7 +126,8 @@ def large(bench):
 def amplified(bench):
     """Texts whose classes would take far more memory than the text, in a space that they pass."""
     for name, text in (
-        ("many heirs of many members", b"quark A { " + b"Int a;" * 4000 + b"}" + b"".join(b"quark B%d:A{}" % k for k in range(4000))),
+        ("a long function in many heirs", b"quark A { EventWindow ew; Void f() { " + b"ew.swap(0,4);" * 20_000 + b" } }" + b"".join(
+            b"quark B%d:A{}" % k for k in range(255))),
         ("long codes of many elements", b"quark Q { EventWindow ew; Void f() { " + b"ew.swap(0,4);" * 20_000 + b" } }" + b"".join(
             b"element E%d { Q q; Void behave() { q.f(); } }" % k for k in range(255))),
     ):
