@@ -5,7 +5,7 @@ use crate::made::{grid, journal, map};
 use cell_grid::Record;
 use event_journal::{Abandoned, JournalFault};
 use feast_base::{MemSink, Name, NoMemory, Stop};
-use grid_print::{WriteFault, atoms, report_text, write_report};
+use grid_print::{WriteFault, atoms, grid_text, report_text, write_report};
 use std::alloc::Global;
 use std::test::Fail;
 use world_text::{name, read};
@@ -178,7 +178,7 @@ const EVENTS: [Record; 2] = [
 ];
 
 /// Abandoned attempts whose numbers are as short as they can be, and as long.
-const GIVEN_UP: [Abandoned; 2] = [
+const ABANDONED: [Abandoned; 2] = [
     Abandoned {
         tile: 0,
         attempt: 0,
@@ -210,8 +210,34 @@ fn reported(alloc: Global, text: &[u8]) -> Result<Option<Vec<u8>>, Fail> {
         return Ok(None);
     };
     let grid = grid(alloc, &world, names.as_slice())?;
-    let report = report_text(alloc, &grid, names.as_slice(), &EVENTS, &GIVEN_UP)?;
+    let report = report_text(alloc, &grid, names.as_slice(), &EVENTS, &ABANDONED)?;
     Ok(Some(report))
+}
+
+/// The text of the grid of a world at its start. None if the text is not a world.
+fn shown(alloc: Global, text: &[u8]) -> Result<Option<Vec<u8>>, Fail> {
+    let mut names = Vec::new(alloc);
+    names.push(Name::new(alloc, b"Walker")?)?;
+    let Ok(raw) = read(alloc, text) else {
+        return Ok(None);
+    };
+    let Ok(world) = name(alloc, raw, names.as_slice()) else {
+        return Ok(None);
+    };
+    let grid = grid(alloc, &world, names.as_slice())?;
+    let shown = grid_text(alloc, &grid, names.as_slice())?;
+    Ok(Some(shown))
+}
+
+#[test]
+fn a_text_of_a_grid_takes_as_much_memory_as_it_is_long(rt: HostRuntime) -> Result<(), Fail> {
+    for (text, _) in REPORTS {
+        match shown(rt.alloc(), text.as_bytes())? {
+            Some(shown) => assert_eq!(rt; shown.capacity(), shown.len(), "{text}"),
+            None => assert!(rt; false, "{text}"),
+        }
+    }
+    Ok(())
 }
 
 #[test]

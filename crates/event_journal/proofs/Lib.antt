@@ -1,5 +1,5 @@
 pub mod Extents
-pub mod Heads
+pub mod Keys
 pub mod Journals
 pub mod LineLengths
 pub mod Lines

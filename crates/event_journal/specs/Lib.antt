@@ -2,7 +2,7 @@ pub mod Accounts
 pub mod Cursors
 pub mod Cuts
 pub mod Forms
-pub mod Heads
+pub mod Keys
 pub mod Lengths
 pub mod Logs
 pub mod Merged

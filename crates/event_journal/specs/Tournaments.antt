@@ -1,13 +1,13 @@
 -- Numbers in a binary tree whose root has the least of them.
 use Rattle.std.specs.Prelude.{ℕ, ◌≡◌, ◌≤◌, ◌<◌, ◌+◌, ◌*◌, List, length, min, slice_index_or}
 
--- the number of a node
-abbrev pub node : List ℕ → ℕ → ℕ
-node nodes i = slice_index_or nodes i 0
+-- the number that a node has
+abbrev pub number_at : List ℕ → ℕ → ℕ
+number_at nodes i = slice_index_or nodes i 0
 
 -- a node has the lesser number of the two below it
 abbrev pub HasLesser : List ℕ → ℕ → Type 0
-HasLesser nodes i = node nodes i ≡ min (node nodes (2 * i)) (node nodes (2 * i + 1))
+HasLesser nodes i = number_at nodes i ≡ min (number_at nodes (2 * i)) (number_at nodes (2 * i + 1))
 
 -- a tree of n leaves, which are the nodes from number n on
 pub record IsTournament (n : ℕ) (nodes : List ℕ) : Type 0 where

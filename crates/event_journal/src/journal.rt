@@ -77,7 +77,7 @@ impl Journal {
     }
 
     /// A walk through the records, which gives them in the order of the journal. `NoMemory` if
-    /// there is none for the walk, which keeps one slice and two numbers for each log.
+    /// there is none for what the walk keeps.
     #[tactic(auto, unfolding(crate::specs::Logs::records_in))]
     pub fn walk(&self, alloc: Global) -> Result<Walk<'_>, NoMemory>
         ensures { IfOk result (λ w. rest_of w ≡ records_in self.now) }

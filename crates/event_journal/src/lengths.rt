@@ -61,6 +61,7 @@ fn record_len(entry: &Record) -> usize
     ensures { result ≡ length (ended_line (record_fields entry.now)) }
 {
     let site = number_len(entry.x as u64) + number_len(entry.y as u64);
+    // the seed's 16 digits, five spaces and an LF
     number_len(entry.stamp as u64)
         + number_len(entry.tile as u64)
         + number_len(entry.attempt)
@@ -70,12 +71,13 @@ fn record_len(entry: &Record) -> usize
 
 /// The length of the line of an abandoned attempt.
 #[tactic(auto, using(crate::proofs::LineLengths::abandoned_length))]
-fn entry_len(entry: &Abandoned) -> usize
+fn abandoned_line_len(entry: &Abandoned) -> usize
     ensures { result ≡ length (ended_line (abandoned_fields entry.now)) }
 {
     let own = number_len(entry.tile as u64) + number_len(entry.attempt);
     let site = number_len(entry.x as u64) + number_len(entry.y as u64);
     let holder = number_len(entry.holder as u64) + number_len(entry.holder_attempt);
+    // six spaces and an LF
     own + site + number_len(entry.edge as u64) + holder + 7
 }
 
@@ -91,12 +93,12 @@ fn records_len(records: &[Record]) -> usize
 }
 
 /// The length of the lines of abandoned attempts.
-fn entries_len(abandoned: &[Abandoned]) -> usize
+fn abandoned_lines_len(abandoned: &[Abandoned]) -> usize
     ensures { result ≡ capped (length (text_of (map abandoned_fields abandoned.now))) }
 {
     let mut len = 0usize;
     for entry in abandoned {
-        len = len.saturating_add(entry_len(entry));
+        len = len.saturating_add(abandoned_line_len(entry));
     }
     len
 }
@@ -113,12 +115,12 @@ fn log_records_len(logs: &[TileLog]) -> usize
 }
 
 /// The length of the lines of the abandoned attempts of logs.
-fn log_entries_len(logs: &[TileLog]) -> usize
+fn log_abandoned_len(logs: &[TileLog]) -> usize
     ensures { result ≡ capped (length (text_of (map abandoned_fields (abandoned_in logs.now)))) }
 {
     let mut len = 0usize;
     for log in logs {
-        len = len.saturating_add(entries_len(log.abandoned()));
+        len = len.saturating_add(abandoned_lines_len(log.abandoned()));
     }
     len
 }
@@ -130,7 +132,7 @@ pub fn entries_text_len(records: &[Record], abandoned: &[Abandoned]) -> usize
     let counts = count_len(b"journal", records.len() as u64)
         + count_len(b"abandoned", abandoned.len() as u64);
     records_len(records)
-        .saturating_add(entries_len(abandoned))
+        .saturating_add(abandoned_lines_len(abandoned))
         .saturating_add(counts)
 }
 
@@ -141,6 +143,6 @@ pub fn journal_text_len(journal: &Journal) -> usize
     let counts = count_len(b"journal", journal.len())
         + count_len(b"abandoned", journal.abandoned_len());
     log_records_len(journal.logs())
-        .saturating_add(log_entries_len(journal.logs()))
+        .saturating_add(log_abandoned_len(journal.logs()))
         .saturating_add(counts)
 }

@@ -1,6 +1,6 @@
 //! What is left of the logs of a journal, and which first record comes first.
 ghost use Rattle.std.specs.Prelude.{◌≡◌, ◌≤◌, ◌<◌, ◌+◌, ◌*◌, IfOk, length, map};
-ghost use Rattle.event_journal.specs.Heads.{AreKeys, AreOwn, IsKey, closed, lists_behind, merged_behind};
+ghost use Rattle.event_journal.specs.Keys.{AreKeys, AreOwn, IsKey, closed, lists_behind, merged_behind};
 ghost use Rattle.event_journal.specs.Logs.{is_before, records_of};
 ghost use Rattle.event_journal.specs.Merged.{merged};
 ghost use Rattle.event_journal.specs.Tournaments.{IsLeast};
@@ -27,7 +27,7 @@ pub(crate) struct Merge<'a> {
 impl<'a> Model for Merge<'a> {
     ghost use Rattle.std.specs.Prelude.{List};
     ghost use Rattle.cell_grid.specs.declared.record.Record.{Record};
-    ghost use Rattle.event_journal.specs.Heads.{AreKeys, AreOwn, lists_behind};
+    ghost use Rattle.event_journal.specs.Keys.{AreKeys, AreOwn, lists_behind};
 
     ghost Value = { List (List Record) };
 
@@ -37,7 +37,7 @@ impl<'a> Model for Merge<'a> {
 }
 
 impl<'a> Merge<'a> {
-    /// All records of these logs. `NoMemory` if there is none for a slice and two numbers a log.
+    /// All records of these logs. `NoMemory` if there is none for what it keeps.
     pub(crate) fn new(alloc: Global, logs: &'a [TileLog]) -> Result<Merge<'a>, NoMemory>
         requires { AreOwn (map records_of logs.now) }
         ensures { IfOk result (λ m. m ≡ map records_of logs.now) }

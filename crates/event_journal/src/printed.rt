@@ -37,8 +37,8 @@ fn push_record(
     push(out, &line[start..])
 }
 
-/// Appends the line of an attempt that was given up, which is written in `line`.
-fn push_entry(
+/// Appends the line of an abandoned attempt, which is written in `line`.
+fn push_abandoned_line(
     out: &mut Vec<u8>,
     entry: &Abandoned,
     line: &mut [u8; LONGEST_ABANDONED],
@@ -77,7 +77,7 @@ fn push_abandoned_lines(out: &mut Vec<u8>, abandoned: &[Abandoned]) -> Result<()
 {
     let mut line = [0; LONGEST_ABANDONED];
     for entry in abandoned {
-        push_entry(out, entry, &mut line)?;
+        push_abandoned_line(out, entry, &mut line)?;
     }
     Ok(())
 }

@@ -27,7 +27,7 @@ impl Model for Tournament {
 }
 
 impl Tournament {
-    /// A tournament of these numbers. `NoMemory` if there is none for twice as many.
+    /// A tournament of these numbers. `NoMemory` if there is none for it.
     pub(crate) fn new(alloc: Global, numbers: &[u64]) -> Result<Tournament, NoMemory>
         ensures { IfOk result (λ t. t ≡ numbers.now) }
     {

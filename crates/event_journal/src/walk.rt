@@ -1,7 +1,7 @@
 //! The walk through the records of a journal.
 ghost use Rattle.std.specs.Prelude.{◌≡◌, IfOk, map};
 ghost use Rattle.std.specs.Iterator.{YieldsFirst, item_count};
-ghost use Rattle.event_journal.specs.Heads.{AreOwn};
+ghost use Rattle.event_journal.specs.Keys.{AreOwn};
 ghost use Rattle.event_journal.specs.Logs.{is_before, records_of};
 ghost use Rattle.event_journal.specs.Merged.{merged};
 ghost use Rattle.event_journal.specs.Walks.{rest_of};
@@ -20,7 +20,7 @@ pub struct Walk<'a> {
 
 impl<'a> Walk<'a> {
     /// The walk through the records of these logs, log t of tile t. `NoMemory` if there is none for
-    /// a slice and two numbers a log.
+    /// what it keeps.
     pub(crate) fn new(alloc: Global, logs: &'a [TileLog]) -> Result<Walk<'a>, NoMemory>
         requires { AreOwn (map records_of logs.now) }
         ensures { IfOk result (λ w. rest_of w ≡ merged is_before (map records_of logs.now)) }

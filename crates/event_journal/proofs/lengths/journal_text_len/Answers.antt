@@ -17,6 +17,6 @@ returns c =
     c.count_len-2.ensures.value ∙ ap (λ n. length (ended_line (count_fields (codes "abandoned") n))) c.abandoned_len.ensures.value in
     let records : c.log_records_len.result ≡ capped (length (text_of (map record_fields (records_in logs)))) =
     c.log_records_len.ensures ∙ ap (λ ls. capped (length (text_of (map record_fields (flat_map records_of ls))))) c.logs.ensures ∙ ap capped (sym (logs_length logs)) in
-    let entries : c.log_entries_len.result ≡ capped (length (text_of (map abandoned_fields (abandoned_in logs)))) =
-    c.log_entries_len.ensures ∙ ap (λ ls. capped (length (text_of (map abandoned_fields (abandoned_in ls))))) c.logs-2.ensures in
+    let entries : c.log_abandoned_len.result ≡ capped (length (text_of (map abandoned_fields (abandoned_in logs)))) =
+    c.log_abandoned_len.ensures ∙ ap (λ ls. capped (length (text_of (map abandoned_fields (abandoned_in ls))))) c.logs-2.ensures in
     rw parts (omega (arith, first, second, records, entries, c.saturating_add.ensures, c.saturating_add-2.ensures))

@@ -1,6 +1,6 @@
 use Rattle.std.proofs.Common.{◌≡◌, ◌++◌, drop, map}
 use Rattle.event_journal.specs.Logs.{records_of}
-use Rattle.event_journal.specs.Heads.{lists_behind}
+use Rattle.event_journal.specs.Keys.{lists_behind}
 use Rattle.event_journal.proofs.merge.records_of_all.Given as goal
 
 abbrev pub invariant-loop-log : goal.invariant-loop-log

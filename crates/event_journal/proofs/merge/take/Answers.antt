@@ -1,5 +1,5 @@
-use Rattle.event_journal.specs.Heads.{lists_behind}
-use Rattle.event_journal.proofs.Heads.{no_lists}
+use Rattle.event_journal.specs.Keys.{lists_behind}
+use Rattle.event_journal.proofs.Keys.{no_lists}
 use Rattle.event_journal.proofs.merge.take.Goals as goal
 
 pub returns-in-None-clause-first : goal.returns-in-None-clause-first

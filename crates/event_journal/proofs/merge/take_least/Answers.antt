@@ -1,7 +1,7 @@
 use Rattle.std.proofs.Common.{◌≡◌, ◌≢◌, ◌%◌, set, sym, subst, arith}
-use Rattle.event_journal.specs.Heads.{AreKeys, closed, lists_behind}
+use Rattle.event_journal.specs.Keys.{AreKeys, closed, lists_behind}
 use Rattle.event_journal.specs.Tournaments.{IsLeast}
-use Rattle.event_journal.proofs.Heads.{front, front_some, nothing_left, taken_first, taken_keys, taken_own}
+use Rattle.event_journal.proofs.Keys.{front, front_some, nothing_left, taken_first, taken_keys, taken_own}
 use Rattle.event_journal.proofs.merge.take_least.Goals as goal
 
 pub returns-then-least-eq-CLOSED-clause-first : goal.returns-then-least-eq-CLOSED-clause-first

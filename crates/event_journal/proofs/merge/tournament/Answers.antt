@@ -1,7 +1,7 @@
 use Rattle.std.proofs.Common.{◌≡◌, List, ℕ, ◌∙◌, arith}
 use Rattle.std.specs.Prelude.{IfOk, Result, Ok, Err}
-use Rattle.event_journal.specs.Heads.{AreKeys, lists_behind}
-use Rattle.event_journal.proofs.Heads.{keys_of_all}
+use Rattle.event_journal.specs.Keys.{AreKeys, lists_behind}
+use Rattle.event_journal.proofs.Keys.{keys_of_all}
 use Rattle.event_journal.proofs.merge.tournament.Goals as goal
 
 pub returns : goal.returns

@@ -1,5 +1,5 @@
 use Rattle.std.proofs.Common.{◌≡◌, ◌<◌, ℕ, [], length, get_or}
-use Rattle.event_journal.specs.Heads.{IsKey, lists_behind}
+use Rattle.event_journal.specs.Keys.{IsKey, lists_behind}
 use Rattle.event_journal.proofs.merge.tournament.Given as goal
 
 abbrev pub invariant-loop-k : goal.invariant-loop-k

@@ -1,6 +1,6 @@
 use Rattle.feast_base.proofs.Appending.{Appends-at_exit}
 use Rattle.event_journal.proofs.printed.push_abandoned_lines.Goals as goal
 
-pub returns-in_err-push_entry : goal.returns-in_err-push_entry
-returns-in_err-push_entry c =
-    Appends-at_exit _ c.args.out.now.items c.loop-entry.out.items _ _ c.from_residual.result c.from_residual.ensures.1 c.loop-entry.invariant.kept c.in_err-push_entry.ensures
+pub returns-in_err-push_abandoned_line : goal.returns-in_err-push_abandoned_line
+returns-in_err-push_abandoned_line c =
+    Appends-at_exit _ c.args.out.now.items c.loop-entry.out.items _ _ c.from_residual.result c.from_residual.ensures.1 c.loop-entry.invariant.kept c.in_err-push_abandoned_line.ensures

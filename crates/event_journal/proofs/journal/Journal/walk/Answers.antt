@@ -1,7 +1,7 @@
 use Rattle.std.proofs.Common.{All, map, subst, sym}
-use Rattle.event_journal.specs.Heads.{AreOwn}
+use Rattle.event_journal.specs.Keys.{AreOwn}
 use Rattle.event_journal.specs.Logs.{IsLog, records_of}
-use Rattle.event_journal.proofs.Heads.{logs_own}
+use Rattle.event_journal.proofs.Keys.{logs_own}
 use Rattle.event_journal.proofs.journal.Journal.walk.Goals as goal
 
 pub new-requires : goal.new-requires

@@ -8,7 +8,7 @@ use Rattle.std.proofs.lemmas.Nat.{mod-mul-add}
 use Rattle.std.proofs.lemmas.List.{length-set, get_or-set_same, get_or-set_other}
 use Rattle.std.proofs.lemmas.List.Elements.{All-head, All-tail}
 use Rattle.cell_grid.specs.declared.record.Record.{Record}
-use Rattle.event_journal.specs.Heads.{AreKeys, AreOwn, IsKey, closed, lists_behind}
+use Rattle.event_journal.specs.Keys.{AreKeys, AreOwn, IsKey, closed, lists_behind}
 use Rattle.event_journal.specs.Logs.{LogValue, IsLog, AreLogs, is_before, records_of, tile_of}
 use Rattle.event_journal.specs.Merged.{joined, least_from, merged, without}
 use Rattle.event_journal.specs.Tournaments.{IsLeast}

@@ -3,7 +3,7 @@ use Rattle.text_lines.specs.Lines.{text_of}
 use Rattle.event_journal.specs.Lengths.{capped}
 use Rattle.event_journal.specs.Logs.{abandoned_in}
 use Rattle.event_journal.specs.Text.{abandoned_fields}
-use Rattle.event_journal.proofs.lengths.log_entries_len.Given as goal
+use Rattle.event_journal.proofs.lengths.log_abandoned_len.Given as goal
 
 abbrev pub invariant-loop-log : goal.invariant-loop-log
 invariant-loop-log l = record {

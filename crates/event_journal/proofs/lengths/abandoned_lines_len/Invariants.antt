@@ -2,7 +2,7 @@ use Rattle.std.proofs.Common.{◌≡◌, ◌+◌, ◌^◌, ◌<◌, drop, length
 use Rattle.text_lines.specs.Lines.{text_of}
 use Rattle.event_journal.specs.Lengths.{capped}
 use Rattle.event_journal.specs.Text.{abandoned_fields}
-use Rattle.event_journal.proofs.lengths.entries_len.Given as goal
+use Rattle.event_journal.proofs.lengths.abandoned_lines_len.Given as goal
 
 abbrev pub invariant-loop-entry : goal.invariant-loop-entry
 invariant-loop-entry l = record {
