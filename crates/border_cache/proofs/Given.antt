@@ -13,7 +13,7 @@ use Rattle.cell_grid.specs.Inner.{with_sites, with_inner}
 use Rattle.cell_grid.proofs.Corners.{length-with_sites, length-with_inner}
 use Rattle.tile_map.specs.Plane.{Site}
 use Rattle.tile_map.proofs.Near.{window_site-near}
-use Rattle.border_cache.specs.Cells.{CellValue, cell_value, cells_of, atoms_of}
+use Rattle.border_cache.specs.Cells.{CellValue, cell_value, paired_cells, cell_atoms}
 use Rattle.border_cache.specs.News.{no_cell}
 use Rattle.border_cache.specs.Windows.{IsView}
 use Rattle.border_cache.specs.Rows.{IsOutside, GivesWhole, AreStamped, stamped_at}
@@ -54,7 +54,7 @@ module _ (atoms : List AtomValue) (low width : ℕ) (from : List AtomValue) (wid
 
 -- the cells after both planes of a whole window were written
 pub marked_whole : (low width stamp : ℕ) (w : WindowValue) (stamps now : List ℕ) (atoms : List AtomValue) → 9 ≤ width → low + 8 * width + 8 < length atoms → length stamps ≡ length atoms → length now ≡ length stamps
-    → AreStamped low width stamp stamps now → GivesWhole low width (λ n. cell_value stamp (atom_at w n)) (cells_of stamps atoms) (cells_of now (with_inner atoms low width w.atoms))
+    → AreStamped low width stamp stamps now → GivesWhole low width (λ n. cell_value stamp (atom_at w n)) (paired_cells stamps atoms) (paired_cells now (with_inner atoms low width w.atoms))
 marked_whole low width stamp w stamps now atoms wide fits even size s =
     let long = length-with_inner atoms low width w.atoms in
     let same : length now ≡ length (with_inner atoms low width w.atoms) = omega (arith, long, even, size) in
@@ -66,7 +66,7 @@ marked_whole low width stamp w stamps now atoms wide fits even size s =
 
 -- the cells after the stamps alone were written
 pub stamped_whole : (low width stamp : ℕ) (stamps now : List ℕ) (atoms : List AtomValue) → length stamps ≡ length atoms → length now ≡ length stamps → AreStamped low width stamp stamps now
-    → GivesWhole low width (stamped_at (cells_of stamps atoms) low width stamp) (cells_of stamps atoms) (cells_of now atoms)
+    → GivesWhole low width (stamped_at (paired_cells stamps atoms) low width stamp) (paired_cells stamps atoms) (paired_cells now atoms)
 stamped_whole low width stamp stamps now atoms even size s =
     let same : length now ≡ length atoms = omega (arith, even, size) in
     record {
@@ -105,10 +105,10 @@ module _ (v : CacheValue) (c : Site) (low : ℕ) (h : IsCorner v c low) where
       stores_by c (stamped_at v.cells low width stamp) (λ n. cell_value stamp (window_cells v c n).atom) v (cache_of v.map v.tile new)
       (λ n lt. ap (λ cell. cell_value stamp cell.atom) (sym (cell_kept n lt))) (gives_stores (stamped_at v.cells low width stamp) new holds g)
 
-  atom_kept : (n : ℕ) → n < 41 → get_or (inner_atoms (atoms_of v.cells) low width) n empty_atom ≡ (window_cells v c n).atom
+  atom_kept : (n : ℕ) → n < 41 → get_or (inner_atoms (cell_atoms v.cells) low width) n empty_atom ≡ (window_cells v c n).atom
   unfolding inner_atoms
   atom_kept n lt =
-      get_or-map-range_with_len (λ n. slice_index_or (atoms_of v.cells) (inner_place low width n) empty_atom) 0 41 n n empty_atom lt (omega arith)
+      get_or-map-range_with_len (λ n. slice_index_or (cell_atoms v.cells) (inner_place low width n) empty_atom) 0 41 n n empty_atom lt (omega arith)
       ∙ (get_or-map (λ cell. cell.atom) v.cells (inner_place low width n) no_cell empty_atom (inner_inside low width n (length v.cells) lt h.fits)
       ∙ sym (ap (λ cell. cell.atom) (cell_kept n lt)))
 
@@ -116,10 +116,10 @@ module _ (v : CacheValue) (c : Site) (low : ℕ) (h : IsCorner v c low) where
   live_kept n lt = get_or-replicate 41 n true false lt
 
   -- the window that is read there
-  pub view_whole : IsView v.map c (window_cells v c) (inner_window (atoms_of v.cells) low width)
+  pub view_whole : IsView v.map c (window_cells v c) (inner_window (cell_atoms v.cells) low width)
   view_whole = record {
     valid = record {
-      atoms = length-inner_atoms (atoms_of v.cells) low width;
+      atoms = length-inner_atoms (cell_atoms v.cells) low width;
       live = length-replicate 41 true;
       hidden = λ n lt off. absurd (true≢false (sym (live_kept n lt) ∙ off));
       centre = live_kept 0 (omega arith);

@@ -9,7 +9,7 @@ use Rattle.tile_map.proofs.Spans.{times_more}
 use Rattle.window_sites.specs.Sites.{offset_of, distance}
 use Rattle.window_sites.specs.Inner.{from_low, inner_place}
 use Rattle.window_sites.proofs.Offsets.{offset-near, offset-one, offset-found}
-use Rattle.border_cache.specs.Rows.{IsRun, AreStamped}
+use Rattle.border_cache.specs.Rows.{StampsRun, AreStamped}
 
 -- how many of the nine columns come before the window's run in a row, and after it
 abbrev pub indent : ℕ → ℕ
@@ -96,7 +96,7 @@ in_or_out first count k = elim (cases_lt k first) [
 ]
 
 -- one row more
-pub stamped_more : (low width stamp r : ℕ) (old mid new : List ℕ) → r < 9 → IsRun (low + r * width + indent r) (9 - 2 * indent r) stamp mid new → StampedTo low width stamp r old mid → StampedTo low width stamp (r + 1) old new
+pub stamped_more : (low width stamp r : ℕ) (old mid new : List ℕ) → r < 9 → StampsRun (low + r * width + indent r) (9 - 2 * indent r) stamp mid new → StampedTo low width stamp r old mid → StampedTo low width stamp (r + 1) old new
 stamped_more low width stamp r old mid new small run s = record {
   done = λ q c lt h. ⊎_elim
       (λ p. run.done (low + q * width + c) p.0 p.1)

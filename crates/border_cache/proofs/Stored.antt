@@ -16,7 +16,7 @@ use Rattle.list_laws.proofs.Tests.{both}
 use Rattle.cell_grid.specs.Grid.{GridValue, site_atom}
 use Rattle.edge_lock.specs.EndLists.{EndLists, IsHeld}
 use Rattle.bit_field.specs.Atom.{AtomValue}
-use Rattle.border_cache.specs.Cells.{CellValue, cell_value, cells_of, newest}
+use Rattle.border_cache.specs.Cells.{CellValue, cell_value, paired_cells, newest}
 use Rattle.border_cache.specs.News.{no_cell, cells_at}
 use Rattle.border_cache.specs.Published.{cell_at}
 use Rattle.border_cache.specs.Windows.{has, end_at, IsEdgeFor, RefreshesAll, PublishesAll, seen_on, centre_of}
@@ -144,7 +144,7 @@ first_copy m t g cells r = record {
 }
 
 -- the first cells are the atoms with stamp 0
-first_cells : (g : GridValue) (p : Patch) (atoms : List AtomValue) (n : ℕ) → n ≡ p.width * p.height → AreAtomsIn g p atoms → IsFirstRectangle g p (cells_of (replicate n 0) atoms)
+first_cells : (g : GridValue) (p : Patch) (atoms : List AtomValue) (n : ℕ) → n ≡ p.width * p.height → AreAtomsIn g p atoms → IsFirstRectangle g p (paired_cells (replicate n 0) atoms)
 first_cells g p atoms n is a =
     let even : length (replicate n 0) ≡ length atoms = length-replicate n 0 ∙ (is ∙ sym a.count) in
     record {
@@ -152,8 +152,8 @@ first_cells g p atoms n is a =
       each = λ k lt. cell_in_both (replicate n 0) atoms k even ∙ (λ i. cell_value (get_or-replicate n k 0 0 (omega (arith, lt, is)) i) (a.each k lt i));
     }
 
-pub first_made : (g : GridValue) (p : Patch) (stamps : List ℕ) (atoms : List AtomValue) (cells : List CellValue) → AreAtomsIn g p atoms → stamps ≡ replicate (p.width * p.height) 0 → cells ≡ cells_of stamps atoms → IsFirstRectangle g p cells
-first_made g p stamps atoms cells a zeros is = subst (IsFirstRectangle g p) (sym (is ∙ ap (λ s. cells_of s atoms) zeros)) (first_cells g p atoms (p.width * p.height) refl a)
+pub first_made : (g : GridValue) (p : Patch) (stamps : List ℕ) (atoms : List AtomValue) (cells : List CellValue) → AreAtomsIn g p atoms → stamps ≡ replicate (p.width * p.height) 0 → cells ≡ paired_cells stamps atoms → IsFirstRectangle g p cells
+first_made g p stamps atoms cells a zeros is = subst (IsFirstRectangle g p) (sym (is ∙ ap (λ s. paired_cells s atoms) zeros)) (first_cells g p atoms (p.width * p.height) refl a)
 
 -- a needed edge is one of the tile's, and the board has it
 pub has_get : (es : List ℕ) (k d : ℕ) → k < length es → has (get_or es k d) es ≡ true

@@ -12,14 +12,14 @@ abbrev pub cell_value : ℕ → AtomValue → CellValue
 cell_value stamp atom = record { stamp = stamp; atom = atom }
 
 -- cells whose stamps and atoms are kept in two lists
-abbrev pub cells_of : List ℕ → List AtomValue → List CellValue
-cells_of [] atoms = []
-cells_of (stamp ∷ stamps) [] = []
-cells_of (stamp ∷ stamps) (atom ∷ atoms) = cell_value stamp atom ∷ cells_of stamps atoms
+abbrev pub paired_cells : List ℕ → List AtomValue → List CellValue
+paired_cells [] atoms = []
+paired_cells (stamp ∷ stamps) [] = []
+paired_cells (stamp ∷ stamps) (atom ∷ atoms) = cell_value stamp atom ∷ paired_cells stamps atoms
 
 -- the atoms of cells
-abbrev pub atoms_of : List CellValue → List AtomValue
-atoms_of cells = map (λ cell. cell.atom) cells
+abbrev pub cell_atoms : List CellValue → List AtomValue
+cell_atoms cells = map (λ cell. cell.atom) cells
 
 -- the cell that two words represent: the low 64 bits of the atom, and the stamp above the high 32
 -- bits of the atom

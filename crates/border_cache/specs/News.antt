@@ -34,7 +34,7 @@ listed sites end places = border sites end (nth_place places) (length places)
 abbrev pub Covers : (ℕ → Option ℕ) → ℕ → ℕ → Type 0
 Covers places n k = (j : ℕ) × (j < n) × (places j ≡ Some k)
 
--- the bit of place k in the news words of an end
+-- bit k of words of 64 bits
 abbrev pub bit_in : List ℕ → ℕ → ℕ
 bit_in words k = bit_at (slice_index_or words (k / 64) 0) (k % 64)
 
@@ -119,7 +119,7 @@ pub record IsNewsRead (b : Border) (news : List ℕ) (accesses : List Access) : 
   pub bits : (k : ℕ) → Covers b.places b.count k → is_news b.sites b.end accesses k ≡ (bit_in news k == 1)
   pub only : (register value : ℕ) → found_value accesses register ≡ Some value → IsCoveredWord b register
 
--- the same of whichever places have the bits of these masks
+-- the news words of an end are read so, of whichever places have the bits of these masks
 abbrev pub AreNewsRead : ℕ → ℕ → List ℕ → List ℕ → List Access → Type 0
 AreNewsRead sites end masks news accesses =
     (places : ℕ → Option ℕ) (n : ℕ) → AreMasks places n masks → ((k : ℕ) → Covers places n k → k < sites) → IsNewsRead (border sites end places n) news accesses

@@ -19,12 +19,12 @@ pub record GivesWhole (low width : ℕ) (cells : ℕ → CellValue) (old new : L
 abbrev pub stamped_at : List CellValue → ℕ → ℕ → ℕ → ℕ → CellValue
 stamped_at cells low width stamp n = cell_value stamp (slice_index_or cells (inner_place low width n) no_cell).atom
 
--- `count` stamps from place `first` on are now this one, and all others stay
-pub record IsRun (first count stamp : ℕ) (old new : List ℕ) : Type 0 where
+-- `count` stamps from place `first` on are this one afterwards, and all others stay
+pub record StampsRun (first count stamp : ℕ) (old new : List ℕ) : Type 0 where
   pub done : (k : ℕ) → first ≤ k → k < first + count → slice_index new k ≡ stamp
   pub others : (k : ℕ) → (k < first) ⊎ (first + count ≤ k) → slice_index new k ≡ slice_index old k
 
--- the stamps of the window are now this one, and all others stay
+-- the stamps of the window are this one afterwards, and all others stay
 pub record AreStamped (low width stamp : ℕ) (old new : List ℕ) : Type 0 where
   pub done : (n : ℕ) → n < 41 → slice_index new (inner_place low width n) ≡ stamp
   pub others : (k : ℕ) → IsOutside low width k → slice_index new k ≡ slice_index old k

@@ -50,7 +50,8 @@ pub record IsNear (a : Area) (c : Site) (k u v : ℕ) : Type 0 where
   pub place : k ≡ (v - a.rows.first) * (a.columns.end - a.columns.first) + (u - a.columns.first)
   pub close : apart c.x u + apart c.y v ≤ 4
 
--- the bits of row j of the window at c are set, by their places in an area; the rows are counted from the north
+-- the bits of row j of the window at c are set, by their places in an area, and no bit of a place that isn't near the
+-- centre; the rows are counted from the north
 pub record SetsRow (a : Area) (c : Site) (j : ℕ) (old new : List ℕ) : Type 0 where
   pub count : length new ≡ length old
   pub set : (k u v : ℕ) → IsNear a c k u v → v + 4 ≡ c.y + j → bit_in new k ≡ 1
@@ -122,7 +123,8 @@ is_shown m c n = is_some (window_site m c n)
 abbrev pub IsWhole : MapValue → Site → Type 0
 IsWhole m c = (n : ℕ) → n < 41 → is_shown m c n ≡ true
 
--- whether the four corners of the nine columns and rows round c are live sites
+-- The test of the corners: (x ± 4, y ± 4) are live sites. Where it holds all sites of the window are live, but not the
+-- reverse.
 abbrev pub has_corners : MapValue → Site → Bool
 has_corners m c = (nat_le 4 c.x && nat_le 4 c.y)
     && ((is_live m (site (c.x - 4) (c.y - 4)) && is_live m (site (c.x + 4) (c.y - 4))) && (is_live m (site (c.x - 4) (c.y + 4)) && is_live m (site (c.x + 4) (c.y + 4))))

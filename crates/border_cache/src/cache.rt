@@ -178,9 +178,9 @@ impl Cache {
         ((y - self.top) * self.width + (x - self.left)) as usize
     }
 
-    /// Whether a site that the tile holds is so far inside that its window lies in the tile's own
-    /// rectangle. What the tile reaches ends at most 4 outside it.
-    fn is_inner(&self, x: u32, y: u32) -> bool
+    /// Whether a site is 8 or more inside what the tile reaches. That ends at most 4 outside the
+    /// tile's own rectangle, so the site's window lies in the rectangle then.
+    fn has_own_window(&self, x: u32, y: u32) -> bool
         requires { IsTrue (is_held self.now.map self.now.tile (site x y)) }
         ensures { IsTrue result → IsWhole self.now.map (site x y) }
     {
@@ -192,8 +192,8 @@ impl Cache {
         column + 8 < self.width && row + 8 < self.height
     }
 
-    /// Whether all sites of the window at a centre are live, as the tile's own rectangle tells or
-    /// else the tiles of the corners.
+    /// Whether the tile's own rectangle, or else the four corners around a centre, tell that all
+    /// sites of the window there are live.
     fn is_all_live(&self, map: &Map, x: u32, y: u32) -> bool
         requires map { map.now ≡ self.now.map }
         requires valid { IsMap map.now }
@@ -201,11 +201,11 @@ impl Cache {
         requires held { IsTrue (is_held self.now.map self.now.tile (site x y)) }
         ensures { IsTrue result → IsWhole self.now.map (site x y) }
     {
-        self.is_inner(x, y) || is_whole(map, x, y)
+        self.has_own_window(x, y) || is_whole(map, x, y)
     }
 
-    /// The place at which the nine rows and nine columns around a centre start, if all sites of its
-    /// window are live.
+    /// The place at which the nine rows and nine columns around a centre start, if `is_all_live`
+    /// tells that all sites of its window are live.
     fn corner(&self, map: &Map, x: u32, y: u32) -> Option<usize>
         requires map { map.now ≡ self.now.map }
         requires centre { IsCentre self.now.map self.now.tile (site x y) }

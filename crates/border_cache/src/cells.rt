@@ -2,7 +2,7 @@
 ghost use Rattle.std.specs.Prelude.{◌≡◌, ◌+◌, ◌*◌, ◌<◌, ◌≤◌, length, slice_index_or, slice_set};
 ghost use Rattle.window_sites.specs.Inner.{inner_window};
 ghost use Rattle.window_sites.specs.Window.{atom_at};
-ghost use Rattle.border_cache.specs.Cells.{cell_value, cells_of, atoms_of};
+ghost use Rattle.border_cache.specs.Cells.{cell_value, paired_cells, cell_atoms};
 ghost use Rattle.border_cache.specs.News.{no_cell};
 ghost use Rattle.border_cache.specs.Rows.{GivesWhole, stamped_at};
 
@@ -22,11 +22,11 @@ pub(crate) struct Cells {
 
 impl Model for Cells {
     ghost use Rattle.std.specs.Prelude.{◌≡◌, List, length};
-    ghost use Rattle.border_cache.specs.Cells.{CellValue, cells_of};
+    ghost use Rattle.border_cache.specs.Cells.{CellValue, paired_cells};
 
     ghost Value = { List CellValue };
 
-    ghost view = { λ c. cells_of c.stamps.items c.atoms.items };
+    ghost view = { λ c. paired_cells c.stamps.items c.atoms.items };
 
     ghost invariant = { λ c. length c.stamps.items ≡ length c.atoms.items };
 }
@@ -35,7 +35,7 @@ impl Cells {
     /// The cells with these stamps and these atoms.
     pub(crate) fn new(stamps: Vec<u32>, atoms: Vec<Atom>) -> Cells
         requires { length stamps.items ≡ length atoms.items }
-        ensures { result ≡ cells_of stamps.items atoms.items }
+        ensures { result ≡ paired_cells stamps.items atoms.items }
     {
         Cells { stamps, atoms }
     }
@@ -62,7 +62,7 @@ impl Cells {
     pub(crate) fn window(&self, low: usize, width: usize) -> Window
         requires small { width ≤ 512 }
         requires whole { low + 8 * width + 8 < length self.now }
-        ensures { result ≡ inner_window (atoms_of self.now) low width }
+        ensures { result ≡ inner_window (cell_atoms self.now) low width }
     {
         let mut window = Window::empty();
         window.refill(self.atoms.as_slice(), low, width);

@@ -4,13 +4,13 @@
 //! nine columns start at index `low`, and its sites in a row are one run. Each row has a line of its
 //! own, so that its run has a fixed length.
 ghost use Rattle.std.specs.Prelude.{◌≡◌, ◌+◌, ◌*◌, ◌<◌, ◌≤◌, length};
-ghost use Rattle.border_cache.specs.Rows.{AreStamped, IsRun};
+ghost use Rattle.border_cache.specs.Rows.{AreStamped, StampsRun};
 
 // Gives `count` places from `first` on a stamp.
 #[inline]
 fn stamp_run(stamps: &mut [u32], first: usize, count: usize, stamp: u32)
     requires inside { first + count ≤ length stamps.old }
-    ensures run { IsRun first count stamp stamps.old stamps.new }
+    ensures run { StampsRun first count stamp stamps.old stamps.new }
     ensures size { length stamps.new ≡ length stamps.old }
 {
     stamps[first..first + count].fill(stamp);

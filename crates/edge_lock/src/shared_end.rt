@@ -21,7 +21,7 @@ pub struct SharedEnd<'a> {
     passes: Vec<Pass>,
     tile: u32,
     recent: u32,
-    place: usize,
+    recent_position: usize,
 }
 
 impl<'a> Model for SharedEnd<'a> {
@@ -32,7 +32,7 @@ impl<'a> Model for SharedEnd<'a> {
 
     ghost view = { λ s. shared_end_value s.tile s.passes.items };
 
-    ghost invariant = { λ s. All (IsPassOf s.edges.now) s.passes.items × (s.place ≡ pass_position s.passes.items s.recent) };
+    ghost invariant = { λ s. All (IsPassOf s.edges.now) s.passes.items × (s.recent_position ≡ pass_position s.passes.items s.recent) };
 }
 
 /// The position of the pass of an edge, or the number of passes if none has it. A tile has at most
@@ -56,13 +56,14 @@ impl<'a> SharedEnd<'a> {
         ensures tile { result.tile ≡ tile }
         ensures passes { result.passes ≡ passes.items }
     {
-        let place = pass_position(passes.as_slice(), 0);
+        // No edge was used yet: edge 0 stands for it, wherever its pass is.
+        let recent_position = pass_position(passes.as_slice(), 0);
         SharedEnd {
             edges,
             passes,
             tile,
             recent: 0,
-            place,
+            recent_position,
         }
     }
 
@@ -76,12 +77,12 @@ impl<'a> SharedEnd<'a> {
         ensures inside { result < length self.old.passes }
     {
         if self.recent == edge {
-            return self.place;
+            return self.recent_position;
         }
-        let place = pass_position(self.passes.as_slice(), edge);
+        let position = pass_position(self.passes.as_slice(), edge);
         self.recent = edge;
-        self.place = place;
-        place
+        self.recent_position = position;
+        position
     }
 
     /// Hands the passes back, in the same order.
@@ -93,7 +94,7 @@ impl<'a> SharedEnd<'a> {
             passes,
             tile: _,
             recent: _,
-            place: _,
+            recent_position: _,
         } = self;
         passes
     }

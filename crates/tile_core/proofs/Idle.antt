@@ -1,22 +1,17 @@
 -- An event at an empty centre: the window as the tile's cells show it is what it sees, and what it leaves.
-use Rattle.std.proofs.Common.{◌≡◌, ℕ, ◌+◌, ◌<◌, Bool, true, false, length, refl, sym, ap, ◌∙◌, subst, arith, Option, Some, None}
+use Rattle.std.proofs.Common.{◌≡◌, ℕ, ◌+◌, ◌<◌, Bool, true, false, length, refl, sym, ap, ◌∙◌, arith, Option, Some, None}
 use Rattle.std.specs.Prelude.{is_some, map, slice_index_or, if◌then◌else◌}
 use Rattle.std.proofs.lemmas.List.FromFn.{length-map-range_with_len, get_or-map-range_with_len}
 use Rattle.bit_field.specs.Atom.{AtomValue, empty_atom}
 use Rattle.window_sites.specs.Inner.{site_numbers}
 use Rattle.window_sites.specs.Window.{WindowValue, atom_at, live_at}
-use Rattle.tile_map.specs.Plane.{Site, MapValue, is_live, is_held}
+use Rattle.tile_map.specs.Plane.{Site, MapValue, is_live}
 use Rattle.tile_map.specs.Edges.{window_site}
-use Rattle.tile_map.specs.Laws.{IsPlane}
 use Rattle.border_cache.specs.Cells.{cell_value}
 use Rattle.border_cache.specs.Windows.{is_shown, IsView}
-use Rattle.border_cache.specs.Copies.{CacheValue, IsCentre, held_cell, cell_for, window_cells, shown_atom, Marked, Stamped}
+use Rattle.border_cache.specs.Copies.{CacheValue, held_cell, cell_for, window_cells, shown_atom, Marked, Stamped}
 use Rattle.border_cache.proofs.Views.{centre_site, view_is}
 use Rattle.tile_core.specs.Kept.{window_seen}
-
--- the tile holds a centre of its own
-pub centre_held : (m : MapValue) → IsPlane m → (t : ℕ) (c : Site) → IsCentre m t c → is_held m t c ≡ true
-centre_held m plane t c q = subst (λ u. is_held m u c ≡ true) q.owned (plane.owners.holder c q.live)
 
 seen_atom : (v : CacheValue) (c : Site) (n : ℕ) → n < 41 → atom_at (window_seen v c) n ≡ shown_atom v.map v c n
 unfolding window_seen

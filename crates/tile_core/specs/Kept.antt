@@ -23,7 +23,7 @@ window_seen v c = record {
   live = map (is_shown v.map c) site_numbers;
 }
 
--- an event leaves a window until it is written
+-- what an event left in the window, in the one phase in which it is yet to be written
 abbrev pub until_written : Phase → WindowValue → WindowValue
 until_written Draw w = no_window
 until_written Lock w = no_window
@@ -35,7 +35,8 @@ until_written Back w = no_window
 until_written Finished w = no_window
 until_written Worn w = no_window
 
--- The window that the event left. One at an empty centre leaves it as the cells show it, and a tile keeps no window of it.
+-- The window that the event left. An event at an empty centre leaves it as the cells show it, and the tile keeps none
+-- then.
 abbrev pub left_window : State → WindowValue
 left_window s = if s.idle then window_seen s.cache (site s.x s.y) else s.window
 

@@ -2,7 +2,7 @@ use Rattle.std.proofs.Common.{sym, ap, ◌∙◌, subst}
 use Rattle.window_sites.specs.Inner.{inner_window}
 use Rattle.tile_map.specs.Plane.{site}
 use Rattle.tile_map.specs.Laws.{IsPlane}
-use Rattle.border_cache.specs.Cells.{atoms_of}
+use Rattle.border_cache.specs.Cells.{cell_atoms}
 use Rattle.border_cache.specs.Copies.{cache_of, window_cells, IsCorner}
 use Rattle.border_cache.specs.Windows.{IsView}
 use Rattle.border_cache.proofs.Stored.{centre_holds}
@@ -19,7 +19,7 @@ returns-in-Some c =
     let low = c.in-Some.low in
     let v = cache_of f.plane f.tile f.cells in
     let corner = subst (λ w. IsCorner w s low) (sym c.self.view_is) c.in-Some.ensures in
-    let same = ap (inner_window (atoms_of f.cells) low) (sym c.self.invariant.width_is) ∙ sym c.window.ensures in
+    let same = ap (inner_window (cell_atoms f.cells) low) (sym c.self.invariant.width_is) ∙ sym c.window.ensures in
     subst (λ w. IsView w.map s (window_cells w s) c.window.result) c.self.view_is (subst (IsView f.plane s (window_cells v s)) same (view_whole v s low corner))
 
 pub returns-in-None : goal.returns-in-None

@@ -52,4 +52,4 @@ invariant_of-self c =
     let a = acts_at c.self.inside.edges.now c.self.inside.passes.items c.self.inside.tile c.position-i.new.self c.args.self.now c.args.edge c.position-i.result c.self.view_is c.position-i.ensures.same c.self.invariant.0 c.position-i.ensures.is c.position-i.ensures.inside in
     let p = c.index_mut.result.now in let at = c.index_mut.ensures.value in
     let d = a.after p c.try_take.new.pass (λ k. after_try k c.args.attempt c.try_take.result) at c.try_take.ensures.pass in
-    (search rules, place_stays c.self.inside.passes.items (set c.self.inside.passes.items c.position-i.result c.try_take.new.pass) c.self.inside.tile c.position-i.new.self c.args.self.now c.args.edge c.self.inside.recent c.self.inside.place (after_try (pass_end c.args.self.now.passes c.args.edge) c.args.attempt c.try_take.result) c.self.view_is c.position-i.ensures.same d c.self.invariant.1)
+    (search rules, place_stays c.self.inside.passes.items (set c.self.inside.passes.items c.position-i.result c.try_take.new.pass) c.self.inside.tile c.position-i.new.self c.args.self.now c.args.edge c.self.inside.recent c.self.inside.recent_position (after_try (pass_end c.args.self.now.passes c.args.edge) c.args.attempt c.try_take.result) c.self.view_is c.position-i.ensures.same d c.self.invariant.1)

@@ -7,7 +7,8 @@ use Rattle.border_cache.specs.Copies.{window_cells}
 use Rattle.tile_core.specs.Values.{centre}
 use Rattle.tile_core.specs.Kept.{value_of, window_seen}
 use Rattle.tile_core.proofs.Behaving.{behaving}
-use Rattle.tile_core.proofs.Idle.{centre_held, seen_centre}
+use Rattle.border_cache.proofs.Stored.{centre_held}
+use Rattle.tile_core.proofs.Idle.{seen_centre}
 use Rattle.tile_core.proofs.Kept.{idled, acted}
 use Rattle.tile_core.proofs.state.State.behave.Goals as goal
 

@@ -3,7 +3,7 @@ use Rattle.tile_map.specs.Plane.{site, is_held}
 use Rattle.tile_map.proofs.Near.{held_live}
 use Rattle.border_cache.specs.Windows.{IsWhole}
 use Rattle.border_cache.proofs.Corners.{inside_whole}
-use Rattle.border_cache.proofs.cache.Cache.is_inner.Goals as goal
+use Rattle.border_cache.proofs.cache.Cache.has_own_window.Goals as goal
 
 pub returns-then-column-self : goal.returns-then-column-self
 returns-then-column-self c high =
