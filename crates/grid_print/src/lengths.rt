@@ -24,6 +24,7 @@ fn atom_len(names: &[Name], width: u32, place: usize, atom: Atom) -> usize
     }
     let width = width as usize;
     let site = number_len((place % width) as u64) + number_len((place / width) as u64);
+    // the state's 18 digits, three spaces and an LF
     name_of(names, atom.kind()).len().saturating_add(site + 22)
 }
 

@@ -8,7 +8,7 @@ pub mod Plain
 mod Walks
 mod Copies
 mod Turns
-mod Marked
+mod PlaceSets
 mod Params
 mod NextFile
 mod MadeFiles

@@ -1,6 +1,6 @@
 pub mod Heads
 pub mod Lines
-pub mod Marks
+pub mod PlaceSets
 pub mod Flat
 pub mod Faults
 pub mod Files

@@ -1,5 +1,5 @@
 -- The code's trees and lists as plain ones.
-use Rattle.std.specs.Prelude.{ℕ, ◌≡◌, List, [], ◌∷◌, ◌++◌, map, Option, Some, None, option_map, slice_get, Result, IfOk}
+use Rattle.std.specs.Prelude.{ℕ, ◌≡◌, List, [], ◌∷◌, ◌++◌, map, take, Option, Some, None, option_map, slice_get, Result, IfOk}
 use Rattle.std.specs.Global.{Vec}
 use Rattle.std.specs.Option.{option_and_then}
 use Rattle.feast_base.specs.declared.place.Place.{Place}
@@ -16,6 +16,7 @@ use Rattle.ulam_heirs.specs.declared.heir.Heir.{Heir}
 use Rattle.ulam_heirs.specs.Heads as spec
 use Rattle.ulam_heirs.specs.Lines as lines
 use Rattle.ulam_heirs.specs.Flat.{own_members}
+use Rattle.ulam_heirs.specs.Enough.{enough_members}
 
 abbrev pub base_view : Base → spec.Base
 base_view b = record { class = b.class; base = word_of b.base }
@@ -57,9 +58,19 @@ MakesStatement result s = IfOk result (λ x. statement_of x ≡ s)
 abbrev pub MakesMember : {E : Type 0} → Result Member E → t.Member → Type 0
 MakesMember result m = IfOk result (λ x. member_of x ≡ m)
 
+abbrev pub MakesItem : {E : Type 0} → Result Item E → t.Item → Type 0
+MakesItem result i = IfOk result (λ x. item_of x ≡ i)
+
+abbrev pub MakesFiles : {E : Type 0} → Result (Vec File) E → List (List t.Item) → Type 0
+MakesFiles result fs = IfOk result (λ v. files_of v.items ≡ fs)
+
 -- the new vector has, seen in this way, `more` at its end
 abbrev pub Adds : {X A : Type 0} → (X → A) → Vec X → Vec X → List A → Type 0
 Adds view old new more = map view new.items ≡ map view old.items ++ more
+
+-- the same, as far as the first members that are enough go
+abbrev pub AddsEnough : {X A : Type 0} → (X → A) → Vec X → Vec X → List A → Type 0
+AddsEnough view old new more = take enough_members (map view new.items) ≡ take enough_members (map view old.items ++ more)
 
 -- Parts of trees
 

@@ -17,3 +17,10 @@ returns-then-all_plain-clause-sound c =
     let hs : List Heads = c.args.heads.now in
     let long : length fs ≡ length hs = length-map c.args.files.items file_of ∙ c.requires in
     (plain_same fs hs long (sym c.all_plain.ensures ∙ c.if-all_plain.true)).0
+
+pub returns-then-all_plain-clause-whole : goal.returns-then-all_plain-clause-whole
+returns-then-all_plain-clause-whole c =
+    let fs : List (List Item) = files_of c.args.files.items in
+    let hs : List Heads = c.args.heads.now in
+    let long : length fs ≡ length hs = length-map c.args.files.items file_of ∙ c.requires in
+    λ small. sym (plain_same fs hs long (sym c.all_plain.ensures ∙ c.if-all_plain.true)).1

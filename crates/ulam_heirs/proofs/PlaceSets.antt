@@ -7,17 +7,17 @@ use Rattle.std.proofs.lemmas.List.{take_more}
 use Rattle.feast_base.specs.declared.place.Place.{Place}
 use Rattle.indexmap.specs.IndexSet.{insert_key}
 use Rattle.ulam_heirs.specs.Lines.{same_place}
-use Rattle.ulam_heirs.specs.Marks.{Key, key_of, same_key, AreIndexed}
+use Rattle.ulam_heirs.specs.PlaceSets.{PlaceKey, place_key, same_place_key, AreIndexed}
 
 and_turned : (a b c : Bool) → ((a && b) && c) ≡ (a && b && c)
 and_turned true b c = refl
 and_turned false b c = refl
 
 -- one test and the other
-key_same : (p q : Place) → same_key (key_of p) (key_of q) ≡ same_place p q
+key_same : (p q : Place) → same_place_key (place_key p) (place_key q) ≡ same_place p q
 key_same p q = and_turned (nat_eq p.file q.file) (nat_eq p.line q.line) (nat_eq p.column q.column)
 
-key_is : (a b : Key) → same_key a b ≡ true → a ≡ b
+key_is : (a b : PlaceKey) → same_place_key a b ≡ true → a ≡ b
 key_is a b e =
     let front = and_parts (nat_eq a.0 b.0 && nat_eq a.1 b.1) (nat_eq a.2 b.2) e in
     let two = and_parts (nat_eq a.0 b.0) (nat_eq a.1 b.1) front.0 in
@@ -44,17 +44,17 @@ or_there true c h = refl
 or_there false true h = h refl
 or_there false false h = refl
 
-inserted : (keys : List Key) (k j : Key) (there : Bool) → list_any (same_key k) keys ≡ there → list_any (same_key j) (cond there keys (keys ++ k ∷ [])) ≡ (list_any (same_key j) keys || same_key j k)
-inserted keys k j true e = or_there (list_any (same_key j) keys) (same_key j k) (λ s. ap (λ (i : Key). list_any (same_key i) keys) (key_is j k s) ∙ e)
-inserted keys k j false e = any_end (same_key j) keys k
+inserted : (keys : List PlaceKey) (k j : PlaceKey) (there : Bool) → list_any (same_place_key k) keys ≡ there → list_any (same_place_key j) (cond there keys (keys ++ k ∷ [])) ≡ (list_any (same_place_key j) keys || same_place_key j k)
+inserted keys k j true e = or_there (list_any (same_place_key j) keys) (same_place_key j k) (λ s. ap (λ (i : PlaceKey). list_any (same_place_key i) keys) (key_is j k s) ∙ e)
+inserted keys k j false e = any_end (same_place_key j) keys k
 
-pub indexed_on : (keys more : List Key) (places : List Place) (i : ℕ) (d : Place) → i < length places → more ≡ insert_key same_key keys (key_of (get_or places i d)) →
+pub indexed_on : (keys more : List PlaceKey) (places : List Place) (i : ℕ) (d : Place) → i < length places → more ≡ insert_key same_place_key keys (place_key (get_or places i d)) →
     AreIndexed keys (take i places) → AreIndexed more (take (i + 1) places)
 indexed_on keys more places i d lt e h p =
     let x : Place = get_or places i d in
-    ap (list_any (same_key (key_of p))) e
-    ∙ inserted keys (key_of x) (key_of p) (list_any (same_key (key_of x)) keys) refl
-    ∙ ap (λ b. b || same_key (key_of p) (key_of x)) (h p)
+    ap (list_any (same_place_key (place_key p))) e
+    ∙ inserted keys (place_key x) (place_key p) (list_any (same_place_key (place_key x)) keys) refl
+    ∙ ap (λ b. b || same_place_key (place_key p) (place_key x)) (h p)
     ∙ ap (λ b. list_any (same_place p) (take i places) || b) (key_same p x)
     ∙ sym (any_end (same_place p) (take i places) x)
     ∙ ap (list_any (same_place p)) (sym (take_more places i d lt))

@@ -1,26 +1,26 @@
-//! Places that were marked.
+//! Sets of places.
 ghost use Rattle.std.specs.Prelude.{◌≡◌, IfOk};
 ghost use Rattle.std.specs.List.{list_any};
 ghost use Rattle.ulam_heirs.specs.Files.{is_empty};
 ghost use Rattle.ulam_heirs.specs.Lines.{same_place};
-ghost use Rattle.ulam_heirs.specs.Marks.{AreIndexed};
+ghost use Rattle.ulam_heirs.specs.PlaceSets.{AreIndexed};
 
 use feast_base::{NoMemory, Place};
 use indexmap::IndexSet;
 use std::alloc::Global;
 use std::marker::Model;
 
-/// Places in order, of which one is found at once.
+/// Places in order, each of which is found at once.
 #[derive(Drop)]
-pub struct Marks {
+pub struct PlaceSet {
     places: Vec<Place>,
     keys: IndexSet<(u32, u32, u32)>,
 }
 
-impl Model for Marks {
+impl Model for PlaceSet {
     ghost use Rattle.std.specs.Prelude.{List};
     ghost use Rattle.feast_base.specs.declared.place.Place.{Place};
-    ghost use Rattle.ulam_heirs.specs.Marks.{AreIndexed};
+    ghost use Rattle.ulam_heirs.specs.PlaceSets.{AreIndexed};
 
     ghost Value = { List Place };
 
@@ -40,13 +40,13 @@ fn keys_of(alloc: Global, places: &[Place]) -> Result<IndexSet<(u32, u32, u32)>,
     Ok(keys)
 }
 
-impl Marks {
+impl PlaceSet {
     /// These places.
-    pub fn of(alloc: Global, places: Vec<Place>) -> Result<Marks, NoMemory>
+    pub fn of(alloc: Global, places: Vec<Place>) -> Result<PlaceSet, NoMemory>
         ensures { IfOk result (λ m. m ≡ places.items) }
     {
         let keys = keys_of(alloc, places.as_slice())?;
-        Ok(Marks { places, keys })
+        Ok(PlaceSet { places, keys })
     }
 
     /// Whether there is none.
