@@ -8,8 +8,8 @@ use Rattle.border_cache.proofs.Apart.{places_apart}
 use Rattle.border_cache.proofs.Covered.{place_few, place_low}
 use Rattle.border_cache.proofs.places.publish_on.Goals as goal
 
-pub masks-masks-requires-clause-places : goal.masks-masks-requires-clause-places
-masks-masks-requires-clause-places g c n lt =
+pub masks-masks-requires : goal.masks-masks-requires
+masks-masks-requires g c n lt =
     let m = c.args.map.now in
     let e = c.args.edge in
     let s = site c.args.x c.args.y in
