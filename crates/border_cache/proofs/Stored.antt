@@ -198,6 +198,13 @@ end_stays m t u a b number same end = record {
 pub stores_by : (c : Site) (p q : ℕ → CellValue) (old new : CacheValue) → ((n : ℕ) → n < 41 → p n ≡ q n) → Stores c p old new → Stores c q old new
 stores_by c p q old new same s = record { differs = s.differs; done = λ n u lt at. s.done n u lt at ∙ same n lt }
 
+-- a copy that stays has its own cells
+pub stores_same : (c : Site) (v : CacheValue) (cells : ℕ → CellValue) → ((n : ℕ) → n < 41 → cells n ≡ window_cells v c n) → Stores c cells v v
+stores_same c v cells own = record {
+  differs = record { map = refl; tile = refl; others = λ s h out. refl };
+  done = λ n s lt at. sym (own n lt ∙ ap (cell_for v) at);
+}
+
 pub refreshed_by : (c : Site) (edges : List ℕ) (old new : CacheValue) (a b : ℕ → EndLists) (before after : List CellValue) → ((n : ℕ) → n < 41 → cell_at before n ≡ window_cells old c n)
     → RefreshesAll (centre_of old.map old.tile c) edges (cells_at before a) (cells_at after b) → Stores c (cell_at after) old new → Refreshed c edges (copy_at old a) (copy_at new b)
 refreshed_by c edges old new a b before after same r s = record {
@@ -214,7 +221,7 @@ refreshed_none c v a = record {
   more = λ e. [];
   adds = adds_all_begins a;
   reads = λ e h. absurd (true≢false (sym h));
-  stores = record { differs = record { map = refl; tile = refl; others = λ s h out. refl }; done = λ n s lt at. sym (ap (cell_for v) at) };
+  stores = stores_same c v (λ n. newest (window_cells v c n) []) (λ n lt. refl);
 }
 
 pub publishes_by : (m : MapValue) (t : ℕ) (c : Site) (edges : List ℕ) (p q : ℕ → CellValue) (a b : ℕ → EndLists) → ((n : ℕ) → n < 41 → p n ≡ q n) → PublishesAll (centre_of m t c) edges p a b → PublishesAll (centre_of m t c) edges q a b

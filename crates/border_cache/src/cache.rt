@@ -1,5 +1,5 @@
 //! A tile's copy of the sites that it holds.
-ghost use Rattle.std.specs.Prelude.{◌≡◌, ◌+◌, ◌*◌, ◌<◌, ◌≤◌, ℕ, length, IsTrue, IfOk, IfSome};
+ghost use Rattle.std.specs.Prelude.{◌≡◌, ◌+◌, ◌*◌, ◌<◌, ◌≤◌, ℕ, length, IsTrue, IsSome, IfOk, IfSome};
 ghost use Rattle.bit_field.specs.Atom.{empty_atom};
 ghost use Rattle.tile_map.specs.Plane.{IsMap, site, tiles_of, is_held};
 ghost use Rattle.tile_map.specs.Edges.{window_site, needs_of};
@@ -9,7 +9,7 @@ ghost use Rattle.edge_lock.specs.EndLists.{IsHeld};
 ghost use Rattle.edge_lock.specs.EndValues.{SameEnd};
 ghost use Rattle.border_cache.specs.Cells.{cell_value};
 ghost use Rattle.border_cache.specs.Published.{cell_at};
-ghost use Rattle.border_cache.specs.Windows.{has, IsView, IsWhole};
+ghost use Rattle.border_cache.specs.Windows.{has, has_corners, IsView, IsWhole};
 ghost use Rattle.border_cache.specs.Copies.{IsGridOf, IsFirstCopy, patch, AreAtomsIn, IsCentre, HoldsWindow, IsEndOf, Puts, PutsFor, Stores, at, Refreshed, Published, Marked, Stamped, IsCorner, place_held, held_cell, window_cells};
 
 use crate::cell::Cell;
@@ -103,8 +103,9 @@ impl Cache {
             return;
         }
         let mut cells = self.around(map, x, y);
-        refresh_needs(&mut cells, map, self.tile, x, y, needs, board);
-        self.store(map, x, y, &cells);
+        if refresh_needs(&mut cells, map, self.tile, x, y, needs, board) {
+            self.store(map, x, y, &cells);
+        }
     }
 
     /// The window at a centre, as the cells of its live sites show it.
@@ -113,10 +114,21 @@ impl Cache {
         requires centre { IsCentre self.now.map self.now.tile (site x y) }
         ensures { IsView self.now.map (site x y) (window_cells self.now (site x y)) result }
     {
+        let mut window = Window::empty();
+        self.read_window(map, x, y, &mut window);
+        window
+    }
+
+    /// Reads the window at a centre into a window that is there: keep one to read many.
+    pub fn read_window(&self, map: &Map, x: u32, y: u32, window: &mut Window)
+        requires map { map.now ≡ self.now.map }
+        requires centre { IsCentre self.now.map self.now.tile (site x y) }
+        ensures { IsView self.now.map (site x y) (window_cells self.now (site x y)) window.new }
+    {
         map.laws();
         match self.corner(map, x, y) {
-            Some(low) => self.cells.window(low, self.width as usize),
-            None => view_of(map, self, x, y),
+            Some(low) => self.cells.read_window(low, self.width as usize, window),
+            None => *window = view_of(map, self, x, y),
         }
     }
 
@@ -199,7 +211,8 @@ impl Cache {
         requires valid { IsMap map.now }
         requires centre { IsCentre self.now.map self.now.tile (site x y) }
         requires held { IsTrue (is_held self.now.map self.now.tile (site x y)) }
-        ensures { IsTrue result → IsWhole self.now.map (site x y) }
+        ensures whole { IsTrue result → IsWhole self.now.map (site x y) }
+        ensures found { IsTrue (has_corners self.now.map (site x y)) → IsTrue result }
     {
         self.has_own_window(x, y) || is_whole(map, x, y)
     }
@@ -209,7 +222,8 @@ impl Cache {
     fn corner(&self, map: &Map, x: u32, y: u32) -> Option<usize>
         requires map { map.now ≡ self.now.map }
         requires centre { IsCentre self.now.map self.now.tile (site x y) }
-        ensures { IfSome result (λ low. IsCorner self.now (site x y) low) }
+        ensures low { IfSome result (λ low. IsCorner self.now (site x y) low) }
+        ensures found { IsTrue (has_corners self.now.map (site x y)) → IsSome result }
     {
         map.laws();
         if self.is_all_live(map, x, y) {
@@ -342,9 +356,9 @@ fn first_atoms(
     requires rows { top + height ≤ start.now.height }
     ensures { IfOk result (λ v. AreAtomsIn start.now (patch left top width height) v.items) }
 {
-    let mut atoms = Vec::new(alloc);
+    let mut atoms = Vec::with_capacity(alloc, (width * height) as usize)?;
     for place in 0..width * height {
-        atoms.push(start.get(left + place % width, top + place / width))?;
+        atoms.push_reserved(start.get(left + place % width, top + place / width));
     }
     Ok(atoms)
 }

@@ -57,16 +57,14 @@ impl Cells {
         self.atoms[place] = cell.atom();
     }
 
-    /// The window of 41 live sites whose nine rows and nine columns start at place `low`. The
+    /// Reads the window of 41 live sites whose nine rows and nine columns start at place `low`. The
     /// rectangle has `width` columns.
-    pub(crate) fn window(&self, low: usize, width: usize) -> Window
+    pub(crate) fn read_window(&self, low: usize, width: usize, window: &mut Window)
         requires small { width ≤ 512 }
         requires whole { low + 8 * width + 8 < length self.now }
-        ensures { result ≡ inner_window (cell_atoms self.now) low width }
+        ensures { window.new ≡ inner_window (cell_atoms self.now) low width }
     {
-        let mut window = Window::empty();
         window.refill(self.atoms.as_slice(), low, width);
-        window
     }
 
     /// Gives each site of such a window its atom of an event's window and a stamp.

@@ -307,9 +307,9 @@ impl State {
         if self.idle {
             return;
         }
-        let mut window = self.cache.window(map, self.x, self.y);
-        behave.act(&mut window, self.seed);
-        self.window = window;
+        self.cache
+            .read_window(map, self.x, self.y, &mut self.window);
+        behave.act(&mut self.window, self.seed);
     }
 
     /// Marks and publishes the window, sets the clocks and notes the event.

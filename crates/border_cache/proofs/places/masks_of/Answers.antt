@@ -1,10 +1,13 @@
-use Rattle.std.proofs.Common.{subst}
+use Rattle.std.proofs.Common.{◌≤◌, length, subst}
 use Rattle.tile_map.specs.Plane.{site}
 use Rattle.border_cache.specs.News.{nth_place, AreMasks}
 use Rattle.border_cache.specs.Windows.{place_in, place_at}
 use Rattle.border_cache.proofs.Bits.{masks_by}
 use Rattle.border_cache.proofs.Covered.{whole_place}
 use Rattle.border_cache.proofs.places.masks_of.Goals as goal
+
+pub masks_at-requires-clause-few : goal.masks_at-requires-clause-few
+masks_at-requires-clause-few c = subst (λ ss. length ss ≤ 576) c.in-Some.ensures.0 c.requires.few
 
 pub returns-in-Some-clause-masks : goal.returns-in-Some-clause-masks
 returns-in-Some-clause-masks c =

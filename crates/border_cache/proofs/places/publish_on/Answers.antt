@@ -1,12 +1,21 @@
-use Rattle.std.proofs.Common.{ℕ, sym, subst}
+use Rattle.std.proofs.Common.{ℕ, ◌<◌, ◌≤◌, arith, sym, subst}
 use Rattle.tile_map.specs.Plane.{site}
-use Rattle.border_cache.specs.News.{nth_place, AreMasks, border}
+use Rattle.border_cache.specs.News.{nth_place, IsPlace, border}
 use Rattle.border_cache.specs.Published.{ArePlaces, IsPublish, cell_at}
 use Rattle.border_cache.specs.Windows.{place_in, end_at, sites_on}
 use Rattle.border_cache.proofs.Puts.{publish_by, apart_by}
-use Rattle.border_cache.proofs.Bits.{masks_by}
 use Rattle.border_cache.proofs.Apart.{places_apart}
+use Rattle.border_cache.proofs.Covered.{place_few, place_low}
 use Rattle.border_cache.proofs.places.publish_on.Goals as goal
+
+pub masks-masks-requires : goal.masks-masks-requires
+masks-masks-requires g c n lt =
+    let m = c.args.map.now in
+    let e = c.args.edge in
+    let s = site c.args.x c.args.y in
+    let low : n < 41 = omega (arith, lt, c.places-places.ensures.count) in
+    let few : sites_on m e ≤ 576 = omega (arith, c.shared-sites.ensures.count, c.shared-sites.ensures.few) in
+    subst (IsPlace 576) (sym (c.places-places.ensures.places n low)) (place_low (sites_on m e) (place_in m s e n) few (place_few m c.laws.ensures.plane s e n low))
 
 pub publish_edge-requires-clause-apart : goal.publish_edge-requires-clause-apart
 publish_edge-requires-clause-apart g c =
@@ -17,10 +26,7 @@ publish_edge-requires-clause-apart g c =
     subst (ArePlaces p) (sym c.places-places.ensures.count) (apart_by (sites_on m e) (end_at m c.args.tile e) (cell_at c.args.cells.now) p q 41 c.places-places.ensures.places (places_apart m (site c.args.x c.args.y) e))
 
 pub publish_edge-requires-clause-masks : goal.publish_edge-requires-clause-masks
-publish_edge-requires-clause-masks g c =
-    let q = place_in c.args.map.now (site c.args.x c.args.y) c.args.edge in
-    let p = nth_place c.places-places.result in
-    subst (λ n. AreMasks p n c.masks_of-masks.result) (sym c.places-places.ensures.count) (masks_by q p 41 c.masks_of-masks.result (λ j lt. sym (c.places-places.ensures.places j lt)) c.masks_of-masks.ensures.masks)
+publish_edge-requires-clause-masks g c = c.masks-masks.ensures.masks
 
 pub returns-clause-published : goal.returns-clause-published
 returns-clause-published g c =

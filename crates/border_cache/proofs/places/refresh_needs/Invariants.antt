@@ -1,4 +1,5 @@
-use Rattle.std.proofs.Common.{take}
+use Rattle.std.proofs.Common.{◌≡◌, take}
+use Rattle.std.specs.Prelude.{IsFalse}
 use Rattle.tile_map.specs.Plane.{site}
 use Rattle.border_cache.specs.Windows.{RefreshesAll, centre_of}
 use Rattle.border_cache.specs.News.{cells_at}
@@ -10,4 +11,5 @@ invariant-loop-i g l = record {
   refreshes : RefreshesAll (centre_of l.map l.tile (site l.x l.y)) (take l.i l.needs) (cells_at l.fn.cells (g.D.Board.end l.fn.board).lists) (cells_at l.cells (g.D.Board.end l.board).lists);
   same : SameEnd (g.D.Board.end l.fn.board) (g.D.Board.end l.board);
   moved : g.D.Board.moved l.fn.board l.board;
+  none : IsFalse l.found → l.cells ≡ l.fn.cells;
 }

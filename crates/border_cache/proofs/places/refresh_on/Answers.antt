@@ -10,6 +10,9 @@ use Rattle.border_cache.proofs.Covered.{covered_few, place_few}
 use Rattle.border_cache.proofs.Refreshes.{Refreshing, refreshing_begins, refreshing_clear, refreshing_more, refreshing_all, clear_bits}
 use Rattle.border_cache.proofs.places.refresh_on.Goals as goal
 
+pub masks_of-masks-requires-clause-few : goal.masks_of-masks-requires-clause-few
+masks_of-masks-requires-clause-few g c = omega (arith, c.shared-sites.ensures.count, c.shared-sites.ensures.few)
+
 pub returns-then-are_clear-clause-refreshes : goal.returns-then-are_clear-clause-refreshes
 returns-then-are_clear-clause-refreshes g c =
     let m = c.args.map.now in

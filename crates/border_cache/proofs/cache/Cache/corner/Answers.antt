@@ -1,4 +1,4 @@
-use Rattle.std.proofs.Common.{◌≡◌, ◌+◌, ◌-◌, ◌*◌, length, sym, ap, ◌∙◌, subst, arith}
+use Rattle.std.proofs.Common.{◌≡◌, ◌+◌, ◌-◌, ◌*◌, length, true≢false, sym, ap, ◌∙◌, subst, arith}
 use Rattle.tile_map.specs.Plane.{Site, site}
 use Rattle.tile_map.specs.Spans.{left_of, top_of}
 use Rattle.tile_map.specs.Laws.{IsPlane}
@@ -17,34 +17,34 @@ is_all_live-requires-clause-held c = centre_held c.args.self.now.map (subst IsPl
 
 pub overflow_sub-result : goal.overflow_sub-result
 overflow_sub-result c =
-    let h = reach c.args.self.now (site c.args.x c.args.y) (subst IsPlane c.requires.map c.laws.ensures.plane) c.requires.centre (c.is_all_live.ensures c.if-is_all_live.true) in
+    let h = reach c.args.self.now (site c.args.x c.args.y) (subst IsPlane c.requires.map c.laws.ensures.plane) c.requires.centre (c.is_all_live.ensures.whole c.if-is_all_live.true) in
     let n = h.north in
     omega (arith, n)
 
 pub overflow_sub-result-then-is_all_live : goal.overflow_sub-result-then-is_all_live
 overflow_sub-result-then-is_all_live c =
     let v = c.args.self.now in
-    let h = reach v (site c.args.x c.args.y) (subst IsPlane c.requires.map c.laws.ensures.plane) c.requires.centre (c.is_all_live.ensures c.if-is_all_live.true) in
+    let h = reach v (site c.args.x c.args.y) (subst IsPlane c.requires.map c.laws.ensures.plane) c.requires.centre (c.is_all_live.ensures.whole c.if-is_all_live.true) in
     let n = h.north in
     let t : c.self.inside.top ≡ top_of v.map v.tile = c.self.invariant.top_is ∙ ap (λ w. top_of w.map w.tile) c.self.view_is in
     omega (arith, n, t)
 
 pub overflow_sub-result-then-is_all_live-2 : goal.overflow_sub-result-then-is_all_live-2
 overflow_sub-result-then-is_all_live-2 c =
-    let h = reach c.args.self.now (site c.args.x c.args.y) (subst IsPlane c.requires.map c.laws.ensures.plane) c.requires.centre (c.is_all_live.ensures c.if-is_all_live.true) in
+    let h = reach c.args.self.now (site c.args.x c.args.y) (subst IsPlane c.requires.map c.laws.ensures.plane) c.requires.centre (c.is_all_live.ensures.whole c.if-is_all_live.true) in
     let w = h.west in
     omega (arith, w)
 
 pub overflow_sub-result-then-is_all_live-3 : goal.overflow_sub-result-then-is_all_live-3
 overflow_sub-result-then-is_all_live-3 c =
     let v = c.args.self.now in
-    let h = reach v (site c.args.x c.args.y) (subst IsPlane c.requires.map c.laws.ensures.plane) c.requires.centre (c.is_all_live.ensures c.if-is_all_live.true) in
+    let h = reach v (site c.args.x c.args.y) (subst IsPlane c.requires.map c.laws.ensures.plane) c.requires.centre (c.is_all_live.ensures.whole c.if-is_all_live.true) in
     let w = h.west in
     let l : c.self.inside.left ≡ left_of v.map v.tile = c.self.invariant.left_is ∙ ap (λ w. left_of w.map w.tile) c.self.view_is in
     omega (arith, w, l)
 
-pub returns-then-is_all_live : goal.returns-then-is_all_live
-returns-then-is_all_live c =
+pub returns-then-is_all_live-clause-low : goal.returns-then-is_all_live-clause-low
+returns-then-is_all_live-clause-low c =
     let v = c.args.self.now in
     let i = c.self.invariant in
     let s = site c.args.x c.args.y in
@@ -53,4 +53,7 @@ returns-then-is_all_live c =
     let t : c.self.inside.top ≡ top_of v.map v.tile = i.top_is ∙ ap (λ w. top_of w.map w.tile) c.self.view_is in
     let l : c.self.inside.left ≡ left_of v.map v.tile = i.left_is ∙ ap (λ w. left_of w.map w.tile) c.self.view_is in
     let w : c.self.inside.width ≡ columns_of v.map v.tile = i.width_is ∙ ap (λ w. columns_of w.map w.tile) c.self.view_is in
-    subst (IsCorner v s) (λ j. (c.args.y - 4 - sym t j) * sym w j + (c.args.x - 4 - sym l j)) (corner_is v s count holds (c.is_all_live.ensures c.if-is_all_live.true))
+    subst (IsCorner v s) (λ j. (c.args.y - 4 - sym t j) * sym w j + (c.args.x - 4 - sym l j)) (corner_is v s count holds (c.is_all_live.ensures.whole c.if-is_all_live.true))
+
+pub returns-else-is_all_live-clause-found : goal.returns-else-is_all_live-clause-found
+returns-else-is_all_live-clause-found c corners = absurd (true≢false (sym (c.is_all_live.ensures.found corners) ∙ c.if-is_all_live.false))

@@ -21,6 +21,6 @@ returns-in-Some c =
     let new = c.mark.new.self in
     let cells : ℕ → CellValue = λ n. cell_value c.args.stamp (atom_at c.args.window.now n) in
     let holds = centre_holds c.args.self.now.map (subst IsPlane c.requires.map c.laws.ensures.plane) c.args.self.now.tile s c.requires.centre in
-    let corner = subst (λ w. IsCorner w s low) (sym c.self.view_is) c.in-Some.ensures in
+    let corner = subst (λ w. IsCorner w s low) (sym c.self.view_is) c.in-Some.ensures.low in
     let given = subst (λ n. GivesWhole low n cells f.cells new) c.self.invariant.width_is c.mark.ensures in
     subst (λ w. Stores s cells w (cache_of f.plane f.tile new)) c.self.view_is (gives_stores v s low corner cells new (subst (λ w. HoldsWindow w.map w.tile s) (sym c.self.view_is) holds) given)

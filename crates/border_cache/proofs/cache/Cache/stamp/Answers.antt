@@ -19,6 +19,6 @@ returns-in-Some c =
     let v = cache_of f.plane f.tile f.cells in
     let new = c.stamp.new.self in
     let holds = centre_holds c.args.self.now.map (subst IsPlane c.requires.map c.laws.ensures.plane) c.args.self.now.tile s c.requires.centre in
-    let corner = subst (λ w. IsCorner w s low) (sym c.self.view_is) c.in-Some.ensures in
+    let corner = subst (λ w. IsCorner w s low) (sym c.self.view_is) c.in-Some.ensures.low in
     let given = subst (λ n. GivesWhole low n (stamped_at f.cells low n stamp) f.cells new) c.self.invariant.width_is c.stamp.ensures in
     subst (λ w. Stamped s stamp w (cache_of f.plane f.tile new)) c.self.view_is (gives_stamped v s low corner stamp new (subst (λ w. HoldsWindow w.map w.tile s) (sym c.self.view_is) holds) given)

@@ -37,6 +37,6 @@ pub returns-clause-behaves : goal.returns-clause-behaves
 returns-clause-behaves g c =
     let s = c.args.self.now in
     let p = site s.x s.y in
-    let view = c.window-window.result in
-    let shows = subst (λ k. IsView k p (window_cells s.cache p) view) c.requires.phase.1.4.map c.window-window.ensures in
+    let view = c.read_window.new.window in
+    let shows = subst (λ k. IsView k p (window_cells s.cache p) view) c.requires.phase.1.4.map c.read_window.ensures in
     acted c.args.map.now (g.B.Behave.after c.args.behave.now) s c.eq-self.result view c.act.new.window c.if-self.false shows c.act.ensures.window

@@ -7,7 +7,7 @@ use Rattle.border_cache.specs.Copies.{cache_of, window_cells, IsCorner}
 use Rattle.border_cache.specs.Windows.{IsView}
 use Rattle.border_cache.proofs.Stored.{centre_holds}
 use Rattle.border_cache.proofs.Given.{view_whole}
-use Rattle.border_cache.proofs.cache.Cache.window.Goals as goal
+use Rattle.border_cache.proofs.cache.Cache.read_window.Goals as goal
 
 pub view_of-requires-clause-holds : goal.view_of-requires-clause-holds
 view_of-requires-clause-holds c = centre_holds c.args.self.now.map (subst IsPlane c.requires.map c.laws.ensures.plane) c.args.self.now.tile (site c.args.x c.args.y) c.requires.centre
@@ -18,9 +18,9 @@ returns-in-Some c =
     let s = site c.args.x c.args.y in
     let low = c.in-Some.low in
     let v = cache_of f.plane f.tile f.cells in
-    let corner = subst (λ w. IsCorner w s low) (sym c.self.view_is) c.in-Some.ensures in
-    let same = ap (inner_window (cell_atoms f.cells) low) (sym c.self.invariant.width_is) ∙ sym c.window.ensures in
-    subst (λ w. IsView w.map s (window_cells w s) c.window.result) c.self.view_is (subst (IsView f.plane s (window_cells v s)) same (view_whole v s low corner))
+    let corner = subst (λ w. IsCorner w s low) (sym c.self.view_is) c.in-Some.ensures.low in
+    let same = ap (inner_window (cell_atoms f.cells) low) (sym c.self.invariant.width_is) ∙ sym c.read_window.ensures in
+    subst (λ w. IsView w.map s (window_cells w s) c.read_window.new.window) c.self.view_is (subst (IsView f.plane s (window_cells v s)) same (view_whole v s low corner))
 
 pub returns-in-None : goal.returns-in-None
 returns-in-None c =

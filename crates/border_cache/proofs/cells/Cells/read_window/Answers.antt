@@ -2,7 +2,7 @@ use Rattle.std.proofs.Common.{rules, ◌≡◌, length, sym, ap, ◌∙◌, arit
 use Rattle.window_sites.specs.Inner.{inner_window}
 use Rattle.border_cache.specs.Cells.{paired_cells, cell_atoms}
 use Rattle.border_cache.proofs.Planes.{length-cells, atoms-cells}
-use Rattle.border_cache.proofs.cells.Cells.window.Goals as goal
+use Rattle.border_cache.proofs.cells.Cells.read_window.Goals as goal
 
 pub refill-requires-clause-whole : goal.refill-requires-clause-whole
 refill-requires-clause-whole c =
