@@ -1,6 +1,6 @@
 -- A class through the stages: as it is written, flat, with its names looked up, and typed.
 use Rattle.std.proofs.Common.{◌≡◌, ℕ, zero, suc, ◌+◌, ◌<◌, List, [], ◌∷◌, ◌++◌, length, map, Some, option_map, refl, sym, ap, ◌∙◌, subst, arith}
-use Rattle.std.specs.Prelude.{slice_get, flat_map}
+use Rattle.std.specs.Prelude.{slice_get}
 use Rattle.std.proofs.lemmas.List.{map-append, length-map}
 use Rattle.list_laws.proofs.Slots.{get_inside}
 use Rattle.ulam_tree.specs.Raw.{Item, ulam, uses, class, Class, Member}
@@ -16,6 +16,7 @@ use Rattle.ulam_names.specs.ClassRelation.{AreMembers, AreItems, own_class, AreW
 use Rattle.ulam_types.specs.Scopes.{ClassSig}
 use Rattle.ulam_types.specs.Programs.{class_sig}
 use Rattle.ulam_types.specs.ProgramTyping.{AreTypedMembers, AreTypedClasses}
+use Rattle.element_set.proofs.EnoughFiles.{in_row}
 use Rattle.accepted_laws.specs.Accepted.{AcceptedTrees, heirs}
 use Rattle.accepted_laws.proofs.Lists.{changed_place}
 
@@ -34,10 +35,6 @@ classes_append (ulam n ∷ xs) ys = classes_append xs ys
 classes_append (uses w ∷ xs) ys = classes_append xs ys
 classes_append (class c ∷ xs) ys = ap (λ cs. c ∷ cs) (classes_append xs ys)
 
--- the items of all files
-abbrev joined : List (List Item) → List Item
-joined fs = flat_map (λ (f : List Item). f) fs
-
 abbrev written : List Heir → List Class
 written hs = map (λ (h : Heir). h.class) hs
 
@@ -47,14 +44,14 @@ file_classes h (ulam n ∷ xs) = file_classes h xs
 file_classes h (uses w ∷ xs) = file_classes h xs
 file_classes h (class c ∷ xs) = ap (λ cs. c ∷ cs) (file_classes h xs)
 
-all_classes : (fs : List (List Item)) (hs : List Heads) → length fs ≡ length hs → written (all_heirs fs hs) ≡ classes_in (joined fs)
+all_classes : (fs : List (List Item)) (hs : List Heads) → length fs ≡ length hs → written (all_heirs fs hs) ≡ classes_in (in_row fs)
 all_classes [] hs e = refl
 all_classes (f ∷ fs) [] e = absurd (omega (arith, e))
 all_classes (f ∷ fs) (h ∷ hs) e =
     map-append (λ (x : Heir). x.class) (heirs_in h f) (all_heirs fs hs)
     ∙ ap (λ cs. cs ++ written (all_heirs fs hs)) (file_classes h f)
     ∙ ap (λ cs. classes_in f ++ cs) (all_classes fs hs (omega (arith, e)))
-    ∙ sym (classes_append f (joined fs))
+    ∙ sym (classes_append f (in_row fs))
 
 -- Flat
 
@@ -66,9 +63,9 @@ flat_append hs k (class c ∷ xs) ys =
     let e : k + 1 + class_count xs ≡ k + suc (class_count xs) = omega arith in
     ap (λ zs. flat_class hs k c ∷ zs) (flat_append hs (k + 1) xs ys ∙ ap (λ n. flat_items hs (k + 1) xs ++ flat_items hs n ys) e)
 
-flat_joined : (hs : List Heir) (k : ℕ) (fs : List (List Item)) → joined (flat_files_from hs k fs) ≡ flat_items hs k (joined fs)
+flat_joined : (hs : List Heir) (k : ℕ) (fs : List (List Item)) → in_row (flat_files_from hs k fs) ≡ flat_items hs k (in_row fs)
 flat_joined hs k [] = refl
-flat_joined hs k (f ∷ fs) = ap (λ xs. flat_items hs k f ++ xs) (flat_joined hs (k + class_count f) fs) ∙ sym (flat_append hs k f (joined fs))
+flat_joined hs k (f ∷ fs) = ap (λ xs. flat_items hs k f ++ xs) (flat_joined hs (k + class_count f) fs) ∙ sym (flat_append hs k f (in_row fs))
 
 abbrev with_members : Class → List Member → Class
 with_members c ms = record { quark = c.quark; word = c.word; members = ms }
@@ -154,19 +151,19 @@ pub record Row (x : AcceptedTrees) (k : ℕ) : Type 0 where
   pub index : ℕ
   pub has : AreTypedMembers (map class_sig x.classes) index plain.members typed.members
 
-flat_class_at : (x : AcceptedTrees) (k : ℕ) (h : Heir) → slice_get (heirs x) k ≡ Some h → slice_get (classes_in (joined (flat_files x.files x.heads))) k ≡ Some (with_members h.class (flat_members (heirs x) k))
+flat_class_at : (x : AcceptedTrees) (k : ℕ) (h : Heir) → slice_get (heirs x) k ≡ Some h → slice_get (classes_in (in_row (flat_files x.files x.heads))) k ≡ Some (with_members h.class (flat_members (heirs x) k))
 flat_class_at x k h e =
     let hs = heirs x in
     let n : 0 + k ≡ k = omega arith in
-    let own : slice_get (classes_in (joined x.files)) k ≡ Some h.class = ap (λ cs. slice_get cs k) (sym (all_classes x.files x.heads x.each)) ∙ changed_place (λ (g : Heir). g.class) hs k ∙ ap (option_map (λ (g : Heir). g.class)) e in
+    let own : slice_get (classes_in (in_row x.files)) k ≡ Some h.class = ap (λ cs. slice_get cs k) (sym (all_classes x.files x.heads x.each)) ∙ changed_place (λ (g : Heir). g.class) hs k ∙ ap (option_map (λ (g : Heir). g.class)) e in
     ap (λ xs. slice_get (classes_in xs) k) (flat_joined hs 0 x.files)
-    ∙ flat_at hs 0 (joined x.files) k h.class own
+    ∙ flat_at hs 0 (in_row x.files) k h.class own
     ∙ ap (λ j. Some (with_members h.class (flat_members hs j))) n
 
 pub row : (x : AcceptedTrees) (k : ℕ) (h : Heir) → slice_get (heirs x) k ≡ Some h → Row x k
 row x k h e =
     let known = x.resolved.known in
-    let half = half_at known (joined (flat_files x.files x.heads)) x.resolved.halves k (with_members h.class (flat_members (heirs x) k)) x.resolved.declared (flat_class_at x k h e) in
+    let half = half_at known (in_row (flat_files x.files x.heads)) x.resolved.halves k (with_members h.class (flat_members (heirs x) k)) x.resolved.declared (flat_class_at x k h e) in
     let whole = whole_at known (map head_of x.resolved.halves) 0 x.resolved.halves x.classes k half.half x.resolved.whole half.at in
     let typed = typed_at (map class_sig x.classes) 0 x.classes x.tree k whole.plain x.typed whole.at in
     record {
@@ -213,9 +210,9 @@ pub numbers : (x : AcceptedTrees) → map (λ (u : t.Class). u.word) x.tree ≡ 
 numbers x =
     typed_words (map class_sig x.classes) 0 x.classes x.tree x.typed
     ∙ whole_words x.resolved.known (map head_of x.resolved.halves) 0 x.resolved.halves x.classes x.resolved.whole
-    ∙ half_words x.resolved.known (joined (flat_files x.files x.heads)) x.resolved.halves x.resolved.declared
+    ∙ half_words x.resolved.known (in_row (flat_files x.files x.heads)) x.resolved.halves x.resolved.declared
     ∙ ap (λ xs. map (λ (c : Class). c.word) (classes_in xs)) (flat_joined (heirs x) 0 x.files)
-    ∙ flat_words (heirs x) 0 (joined x.files)
+    ∙ flat_words (heirs x) 0 (in_row x.files)
     ∙ ap (map (λ (c : Class). c.word)) (sym (all_classes x.files x.heads x.each))
     ∙ heir_words (heirs x)
 

@@ -10,6 +10,7 @@ use Rattle.list_laws.proofs.Numbers.{less_or_same}
 use Rattle.window_sites.specs.Sites.{distance, offset_of, shifted}
 use Rattle.window_sites.proofs.Offsets.{offset-near, offset-found}
 use Rattle.tile_map.specs.declared.span.Area.{Area}
+use Rattle.tile_map.proofs.Numbers.{within_facts, within_test}
 use Rattle.tile_map.specs.Plane.{Site, apart}
 use Rattle.tile_map.specs.Spans.{is_within}
 use Rattle.tile_map.proofs.Near.{offset_to, offset_to-abs, shifted-offset_to, shifted-apart}
@@ -120,12 +121,6 @@ rows_more a c j old new r s = record {
 }
 
 -- the places of a window are those that are near
-within_parts : (l r t b x y : ℕ) → is_within l r t b x y ≡ true → (l ≤ x) × (x < r) × (t ≤ y) × (y < b)
-within_parts l r t b x y h = grind (arith, nat_tests)
-
-within_whole : (l r t b x y : ℕ) → l ≤ x → x < r → t ≤ y → y < b → is_within l r t b x y ≡ true
-within_whole l r t b x y p q u v = grind (arith, nat_tests)
-
 module _ (a : Area) (c : Site) where
   place_near : (n k : ℕ) → n < 41 → place_at a c n ≡ Some k → (u : ℕ) × (v : ℕ) × IsNear a c k u v
   place_near n k lt h = go (shifted c.x (offset_of n).0) refl (shifted c.y (offset_of n).1) refl h
@@ -133,7 +128,7 @@ module _ (a : Area) (c : Site) where
       at : (u v : ℕ) → apart c.x u + apart c.y v ≤ 4 → (b : Bool) → is_within a.columns.first a.columns.end a.rows.first a.rows.end u v ≡ b
           → (if b then Some ((v - a.rows.first) * (a.columns.end - a.columns.first) + (u - a.columns.first)) else None) ≡ Some k → (u : ℕ) × (v : ℕ) × IsNear a c k u v
       at u v close true is e =
-          let p = within_parts a.columns.first a.columns.end a.rows.first a.rows.end u v is in
+          let p = within_facts a.columns.first a.columns.end a.rows.first a.rows.end u v is in
           (u, v, record { west = p.0; east = p.1; north = p.2; south = p.3; place = sym (ap or_zero e); close = close })
       at u v close false is e = absurd (none-some k e)
 
@@ -150,7 +145,7 @@ module _ (a : Area) (c : Site) where
       let o : ℤ × ℤ = (offset_to c.x u, offset_to c.y v) in
       let close : distance o ≤ 4 = omega (arith, n.close, offset_to-abs c.x u, offset_to-abs c.y v) in
       let f = offset-found o close in
-      let inside = within_whole a.columns.first a.columns.end a.rows.first a.rows.end u v n.west n.east n.north n.south in (
+      let inside = within_test a.columns.first a.columns.end a.rows.first a.rows.end u v n.west n.east n.north n.south in (
         f.0,
         omega (arith, f.1),
         ap (λ (p : ℤ × ℤ). place_among a (shifted c.x p.0) (shifted c.y p.1)) f.2

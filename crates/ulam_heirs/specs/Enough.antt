@@ -7,10 +7,6 @@ use Rattle.ulam_heirs.specs.Heads.{Heads}
 use Rattle.ulam_heirs.specs.Lines.{Heir}
 use Rattle.ulam_heirs.specs.Files.{all_heirs, all_count, flat_files_from, flat_files, is_plain}
 
--- the most classes that names lets there be
-abbrev pub most_classes : ℕ
-most_classes = 256
-
 -- the most members that names lets a class have, 64 of each sort, and one more
 abbrev pub enough_members : ℕ
 enough_members = 193
@@ -27,9 +23,9 @@ cut_items xs = map cut_item xs
 abbrev pub cut_files : List (List Item) → List (List Item)
 cut_files fs = map cut_items fs
 
--- there are more classes than there may be
+-- there are more classes than names lets there be
 abbrev pub are_many : List (List Item) → Bool
-are_many fs = nat_lt most_classes (all_count fs)
+are_many fs = nat_lt 256 (all_count fs)
 
 -- Enough of the flat files. Where nothing was taken out they are flat; where there are too many classes, no class needs the
 -- members of its bases.
