@@ -1,6 +1,7 @@
-use Rattle.std.proofs.Common.{◌≡◌, ◌+◌, ◌-◌, ◌*◌, length, true≢false, sym, ap, ◌∙◌, subst, arith}
+use Rattle.std.proofs.Common.{◌≡◌, ℕ, ◌+◌, ◌-◌, ◌*◌, ◌<◌, ◌≤◌, length, true≢false, sym, ap, ◌∙◌, subst, arith}
+use Rattle.std.proofs.lemmas.Nat.{rows}
 use Rattle.tile_map.specs.Plane.{Site, site}
-use Rattle.tile_map.specs.Spans.{left_of, top_of}
+use Rattle.tile_map.specs.Spans.{left_of, right_of, top_of, bottom_of}
 use Rattle.tile_map.specs.Laws.{IsPlane}
 use Rattle.border_cache.specs.Windows.{IsWhole}
 use Rattle.border_cache.specs.Copies.{CacheValue, columns_of, rows_of, IsCentre, IsCorner}
@@ -42,6 +43,27 @@ overflow_sub-result-then-is_all_live-3 c =
     let w = h.west in
     let l : c.self.inside.left ≡ left_of v.map v.tile = c.self.invariant.left_is ∙ ap (λ w. left_of w.map w.tile) c.self.view_is in
     omega (arith, w, l)
+
+-- a place in the first of some rows of 72 at most
+row_sum : (row width column : ℕ) → row < 72 → column < width → row * width + column < 72 * width
+row_sum row width column a b = grind (arith, rows)
+
+pub overflow_add-result : goal.overflow_add-result
+overflow_add-result c =
+    let v = c.args.self.now in
+    let i = c.self.invariant in
+    let h = reach v (site c.args.x c.args.y) (subst IsPlane c.requires.map c.laws.ensures.plane) c.requires.centre (c.is_all_live.ensures.whole c.if-is_all_live.true) in
+    let t : c.self.inside.top ≡ top_of v.map v.tile = i.top_is ∙ ap (λ w. top_of w.map w.tile) c.self.view_is in
+    let l : c.self.inside.left ≡ left_of v.map v.tile = i.left_is ∙ ap (λ w. left_of w.map w.tile) c.self.view_is in
+    let w : c.self.inside.width ≡ right_of v.map v.tile - left_of v.map v.tile = i.width_is ∙ ap (λ w. columns_of w.map w.tile) c.self.view_is in
+    let narrow : right_of v.map v.tile - left_of v.map v.tile ≤ 72 = subst (λ w. columns_of w.map w.tile ≤ 72) c.self.view_is i.narrow in
+    let short : bottom_of v.map v.tile - top_of v.map v.tile ≤ 72 = subst (λ w. rows_of w.map w.tile ≤ 72) c.self.view_is i.short in
+    let south = h.south in
+    let east = h.east in
+    let row : c.args.y - 4 - c.self.inside.top < 72 = omega (arith, south, short, t) in
+    let column : c.args.x - 4 - c.self.inside.left < c.self.inside.width = omega (arith, east, w, l) in
+    let sum = row_sum (c.args.y - 4 - c.self.inside.top) c.self.inside.width (c.args.x - 4 - c.self.inside.left) row column in
+    omega (arith, sum, narrow, w)
 
 pub returns-then-is_all_live-clause-low : goal.returns-then-is_all_live-clause-low
 returns-then-is_all_live-clause-low c =
