@@ -9,13 +9,15 @@ use Rattle.border_cache.proofs.Covered.{place_few, place_low}
 use Rattle.border_cache.proofs.places.publish_on.Goals as goal
 
 pub masks-masks-requires : goal.masks-masks-requires
-masks-masks-requires g c = record { places = λ n lt.
-    let m = c.args.map.now in
-    let e = c.args.edge in
-    let s = site c.args.x c.args.y in
-    let low : n < 41 = omega (arith, lt, c.places-places.ensures.count) in
-    let few : sites_on m e ≤ 576 = omega (arith, c.shared-sites.ensures.count, c.shared-sites.ensures.few) in
-    subst (IsPlace 576) (sym (c.places-places.ensures.places n low)) (place_low (sites_on m e) (place_in m s e n) few (place_few m c.laws.ensures.plane s e n low)) }
+masks-masks-requires g c = record {
+  places = λ n lt.
+      let m = c.args.map.now in
+      let e = c.args.edge in
+      let s = site c.args.x c.args.y in
+      let low : n < 41 = omega (arith, lt, c.places-places.ensures.count) in
+      let few : sites_on m e ≤ 576 = omega (arith, c.shared-sites.ensures.count, c.shared-sites.ensures.few) in
+      subst (IsPlace 576) (sym (c.places-places.ensures.places n low)) (place_low (sites_on m e) (place_in m s e n) few (place_few m c.laws.ensures.plane s e n low));
+}
 
 pub publish_edge-requires-clause-apart : goal.publish_edge-requires-clause-apart
 publish_edge-requires-clause-apart g c =
