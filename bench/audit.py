@@ -13,11 +13,10 @@ import time
 
 sys.path.insert(0, str(pathlib.Path(__file__).resolve().parent))
 sys.dont_write_bytecode = True
-from worlds import lines_of_tries  # noqa: E402
+from worlds import WALKER, lines_of_tries  # noqa: E402
 
 HERE = pathlib.Path(__file__).resolve().parent
 PROGRAM = HERE.parent / "crates/feast/out/feast"
-ELEMENT = "element Walker { EventWindow ew; Void behave() { ew.swap(0, 4); } }\n"
 
 
 def timed(words, folder):
@@ -31,7 +30,7 @@ def main():
     program = pathlib.Path(sys.argv[1] if len(sys.argv) > 1 else PROGRAM).resolve()
     with tempfile.TemporaryDirectory() as name:
         folder = pathlib.Path(name)
-        (folder / "W").write_text(ELEMENT)
+        (folder / "W").write_text(WALKER)
         for tiles in (1, 8):
             (folder / "world").write_text(lines_of_tries(tiles))
             report, _ = timed([program, "step", "world", "W"], folder)

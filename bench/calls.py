@@ -14,7 +14,7 @@ CALL = """import os, sys, time
 begin = time.perf_counter()
 child = os.posix_spawn(sys.argv[1], sys.argv[1:], os.environ)
 _, status, used = os.wait4(child, 0)
-print(time.perf_counter() - begin, used.ru_maxrss, status, file=sys.stderr)
+print(time.perf_counter() - begin, used.ru_maxrss, os.waitstatus_to_exitcode(status), file=sys.stderr)
 """
 
 
@@ -40,9 +40,12 @@ def measured(words: Words, to: str | pathlib.Path = os.devnull) -> Used:
     """One call, whose output goes to a file."""
     with open(to, "wb") as out:
         call = [sys.executable, "-S", "-E", "-c", CALL, *map(str, words)]
-        said = subprocess.run(call, stdout=out, stderr=subprocess.PIPE, stdin=subprocess.DEVNULL, text=True)
+        said = subprocess.run(
+            call, stdout=out, stderr=subprocess.PIPE, stdin=subprocess.DEVNULL, text=True, errors="replace"
+        )
     if said.returncode != 0:
-        raise Failed(f"{words[0]} can't be called: {said.stderr.splitlines()[-1]}")
+        *_, why = said.stderr.splitlines() or ["it was killed"]
+        raise Failed(f"{words[0]} can't be called: {why}")
     *told, last = said.stderr.splitlines()
     seconds, kilobytes, status = last.split()
     return Used(float(seconds), int(kilobytes) / 1024, int(status), "\n".join(told))
@@ -52,7 +55,7 @@ def made(words: Words, to: str | pathlib.Path = os.devnull) -> Used:
     """One call that has to end well."""
     used = measured(words, to)
     if used.status != 0:
-        raise Failed(f"{' '.join(map(str, words[:3]))} ended with wait status {used.status} {used.told[:200]}")
+        raise Failed(f"{' '.join(map(str, words[:3]))} ended with {used.status}: {used.told[:200]}")
     return used
 
 

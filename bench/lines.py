@@ -5,10 +5,9 @@ import pathlib
 import shutil
 from typing import Callable, Iterator
 
-from audit import ELEMENT as WALKER
 from calls import Failed, Used, Words, in_turn, made
 from check import source_files
-from worlds import SORTERS, WANDERERS, Mix, lines_of_tries, world
+from worlds import SORTERS, WALKER, WANDERERS, Mix, lines_of_tries, world
 
 ORDER = "order seed 9\n"
 

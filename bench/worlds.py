@@ -43,6 +43,8 @@ ELEMENTS = """element Wander { EventWindow ew; Random random; Void behave() {
   Unsigned i = random.create(4) + 1; if (ew.isEmpty(i)) ew.swap(0, i); } }
 element Stone { Void behave() { } }
 """
+# an element that goes east
+WALKER = "element Walker { EventWindow ew; Void behave() { ew.swap(0, 4); } }\n"
 # one site in eight with an element that wanders to an empty neighbour, and one with one that stays
 WANDERERS = Mix(ELEMENTS, (Share("Wander", 1), Share("Stone", 1)), 8)
 # the elements of the example on nine sites in ten
