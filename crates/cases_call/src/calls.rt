@@ -2,7 +2,7 @@
 
 ghost use Rattle.std.specs.Prelude.{◌≡◌, ◌^◌, ◌-◌, ◌<◌};
 
-use feast_base::{Gate, MemShelf, MemSink, OpenGate, Shelf, Source};
+use feast_base::{Gate, MemShelf, MemSink, Shelf, Source};
 use feast_run::{Status, feast};
 use std::alloc::Global;
 use std::test::Fail;
@@ -39,17 +39,4 @@ pub fn gated<R: Threads + Sync, F: Shelf, G: Gate>(
 {
     let words = words(alloc, text)?;
     Ok(feast(rt, alloc, words.as_slice(), shelf, sink, gate))
-}
-
-/// The answer of a call.
-pub fn answer<R: Threads + Sync, F: Shelf>(
-    rt: &R,
-    alloc: Global,
-    text: &str,
-    shelf: &mut F,
-    sink: &mut MemSink,
-) -> Result<Status, Fail>
-    requires { sink.old.faults < 2 ^ 64 - 1 }
-{
-    gated(rt, alloc, text, shelf, sink, &OpenGate)
 }

@@ -1,8 +1,8 @@
 //! Each load and each put of each form fails in turn, also in the middle of a piece.
 
-use crate::calls::{answer, shelf};
-use feast_base::{MemSink, Stop};
-use feast_run::Status;
+use crate::calls::{shelf, words};
+use feast_base::{MemSink, OpenGate, Stop};
+use feast_run::{Status, feast_in_memory};
 use std::alloc::Global;
 use std::process::Abort;
 use std::test::Fail;
@@ -56,18 +56,25 @@ const STOPS: [(u64, u32); 9] = [
     (2, 5000),
 ];
 
-/// How a call ends if some loads and a put fail: its status, and the bytes that the sink has.
+/// How a call ends if some loads and a put fail: its status, the bytes that the sink has, and how many
+/// puts it was asked for.
 fn ended<R: Threads + Sync>(
     rt: &R,
     alloc: Global,
-    words: &str,
+    text: &str,
     load: u64,
     (call, keep): (u64, u32),
-) -> Result<(Status, Vec<u8>), Fail> {
+) -> Result<(Status, Vec<u8>, u64), Fail> {
+    let words = words(alloc, text)?;
     let mut shelf = shelf(alloc, &FILES, vec![in alloc; load]?)?;
     let mut sink = MemSink::stopping(alloc, vec![in alloc; Stop { call, keep }]?, 10_000)?;
-    let status = answer(rt, alloc, words, &mut shelf, &mut sink)?;
-    Ok((status, Vec::from_slice(alloc, sink.written())?))
+    let words = words.as_slice();
+    let status = feast_in_memory(rt, alloc, words, &mut shelf, &mut sink, &OpenGate);
+    Ok((
+        status,
+        Vec::from_slice(alloc, sink.written())?,
+        sink.calls(),
+    ))
 }
 
 /// A form that loads a file twice, in another order, or goes on after a load that failed, fails here.
@@ -76,13 +83,13 @@ fn each_load_fails_in_turn(rt: HostRuntime) -> Result<(), Fail> {
     let alloc = rt.alloc();
     for (call, names) in CALLS {
         for index in 0..names.len() {
-            let (status, written) = ended(&rt, alloc, call, index as u64 + 1, (0, 0))?;
+            let (status, written, _) = ended(&rt, alloc, call, index as u64 + 1, (0, 0))?;
             let mut line = Vec::from_slice(alloc, names[index].as_bytes())?;
             line.extend_from_slice(b": E01 unreadable\n")?;
             assert_eq!(rt; status, Status::Unreadable, "{call}");
             assert_eq!(rt; written.as_slice(), line.as_slice(), "{call}");
 
-            let (status, written) = ended(&rt, alloc, call, index as u64 + 1, (1, 7))?;
+            let (status, written, _) = ended(&rt, alloc, call, index as u64 + 1, (1, 7))?;
             assert_eq!(rt; status, Status::SinkFault, "{call}");
             assert_eq!(rt;
                 written.as_slice(),
@@ -90,7 +97,7 @@ fn each_load_fails_in_turn(rt: HostRuntime) -> Result<(), Fail> {
                 "{call}"
             );
         }
-        let (status, _) = ended(&rt, alloc, call, names.len() as u64 + 1, (0, 0))?;
+        let (status, _, _) = ended(&rt, alloc, call, names.len() as u64 + 1, (0, 0))?;
         assert_eq!(rt; status, Status::Done, "{call}");
     }
     Ok(())
@@ -103,9 +110,10 @@ fn puts_fail<R: Threads + Sync + Abort>(
     call: &str,
     stops: &[(u64, u32)],
 ) -> Result<(), Fail> {
-    let (_, whole) = ended(rt, alloc, call, 0, (0, 0))?;
+    let (_, whole, puts) = ended(rt, alloc, call, 0, (0, 0))?;
+    assert_eq!(rt; puts, if whole.len() > 4096 { 2 } else { 1 }, "{call}");
     for (put, keep) in stops {
-        let (status, written) = ended(rt, alloc, call, 0, (*put, *keep))?;
+        let (status, written, _) = ended(rt, alloc, call, 0, (*put, *keep))?;
         let before = if *put == 1 { 0usize } else { 4096 };
         if before < whole.len() {
             let len = whole.len().min(before + (*keep as usize).min(4096));
@@ -135,7 +143,7 @@ fn each_put_fails_in_turn(rt: HostRuntime) -> Result<(), Fail> {
 #[test]
 fn a_generated_run_loads_nothing_and_its_put_fails(rt: HostRuntime) -> Result<(), Fail> {
     let alloc = rt.alloc();
-    let (status, _) = ended(&rt, alloc, "gen 5", 1, (0, 0))?;
+    let (status, _, _) = ended(&rt, alloc, "gen 5", 1, (0, 0))?;
     assert_eq!(rt; status, Status::Done);
     puts_fail(&rt, alloc, "gen 5", &[(1, 0), (1, 10)])
 }

@@ -3,8 +3,6 @@
 use bit_field::Atom;
 use event_machine::{Ended, Machine};
 use feast_base::{CountLedger, Name, Steps};
-use sat_math::Kind;
-use stack_code::Instr::*;
 use stack_code::{Answer, Instr, Operand, RawCode, RawFunction, verify};
 use std::alloc::Global;
 use std::test::Fail;
@@ -63,17 +61,6 @@ pub fn ends(alloc: Global, instrs: &[Instr], expected: Window) -> Result<bool, F
             o.ended == Ended::Done && o.window == expected && o.steps == instrs.len() as u64
         }
     })
-}
-
-/// Whether these instructions leave a number: it is stored in the centre's first 64 bits.
-pub fn leaves(alloc: Global, instrs: &[Instr], number: i128) -> Result<bool, Fail> {
-    let mut all = Vec::from_slice(alloc, instrs)?;
-    all.push(StoreField(0, 64, Kind::Bits))?;
-    all.push(ReturnVoid)?;
-    let mut expected = centred();
-    let bits = number.rem_euclid(1i128 << 64) as u128;
-    expected.put(0, Atom::new(1, bits * 128));
-    ends(alloc, all.as_slice(), expected)
 }
 
 /// Whether these instructions fail so, after so many steps, and leave the centre empty and site 1

@@ -1,6 +1,6 @@
-//! Small pieces of code: which are valid, their texts, and what their events leave. This crate has
-//! only tests. They are kept apart from the stack code and its machine so that those are proved only
-//! once.
+//! Small codes: what is read of them, those that no file can have, and how many steps their events take.
+//! The crate has only tests. They are kept apart from the stack code and its machine so that those are
+//! proved only once.
 #![tactic(auto)]
 
 #[cfg(test)]
@@ -9,5 +9,3 @@ mod acting;
 mod codes;
 #[cfg(test)]
 mod events;
-#[cfg(test)]
-mod values;

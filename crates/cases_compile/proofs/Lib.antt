@@ -1,2 +1,1 @@
-pub mod Compilable
 pub mod Ready

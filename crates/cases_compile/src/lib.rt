@@ -1,11 +1,6 @@
-//! Small files, and functions as pieces, with the code that they become. The crate has tests alone;
-//! they stand above the compiler, so that it is proved once.
+//! Two functions as pieces, with the code that they become. The crate has one test; it stands above the
+//! compiler, so that this is proved once.
 #![tactic(auto)]
 
-mod codes;
-#[cfg(test)]
-mod files;
 #[cfg(test)]
 mod two;
-
-pub use codes::codes_of;

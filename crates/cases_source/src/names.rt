@@ -1,17 +1,33 @@
-//! Texts with their resolved trees, and texts with their first fault.
-use crate::stages::{fault, shown};
-use std::alloc::Global;
-use std::process::Abort;
-use std::test::Fail;
-use ulam_names::one_resolution;
+//! Texts with their resolved trees.
+ghost use Rattle.std.specs.Prelude.{◌<◌, ◌^◌};
 
-/// Each text of a table shows what stands beside it. Files of one text are parted by `$`.
-fn check(rt: &impl Abort, alloc: Global, table: &[(&str, &str)]) -> Result<(), Fail> {
-    for (text, wanted) in table {
-        let found = shown(alloc, text)?;
-        assert_eq!(rt; found.as_str(), *wanted, "{text}");
+use crate::show;
+use std::alloc::Global;
+use std::test::Fail;
+use ulam_lex::lex;
+use ulam_names::{one_resolution, resolve};
+use ulam_parse::parse;
+use ulam_tree::File;
+
+/// The tree of a text, which is in the grammar and shorter than the longest by far.
+fn tree(alloc: Global, text: &[u8], file: u32) -> Result<File, Fail> {
+    if text.len() >= 1_000_000 {
+        return Err(Fail::from("too long"));
     }
-    Ok(())
+    let tokens = lex(alloc, text, file)?;
+    Ok(parse(alloc, text, tokens.as_slice())?)
+}
+
+/// What texts that are parted by `$` are resolved to.
+fn shown(alloc: Global, texts: &str) -> Result<String, Fail> {
+    let mut files = Vec::new(alloc);
+    let mut number: u32 = 0;
+    for text in texts.split('$') {
+        files.push(tree(alloc, text.as_bytes(), number)?)?;
+        number = number.saturating_add(1);
+    }
+    let program = resolve(alloc, files.as_slice())?;
+    Ok(show::program(alloc, &program)?)
 }
 
 /// Texts, with their trees once names are resolved.
@@ -49,343 +65,9 @@ const TREES: [(&str, &str); 7] = [
 #[test]
 fn texts_with_their_trees(rt: HostRuntime) -> Result<(), Fail> {
     one_resolution();
-    check(&rt, rt.alloc(), &TREES)
-}
-
-/// Texts that break a rule on names, with their first fault.
-const FAULTS: [(&str, &str); 63] = [
-    (
-        "element A { Void behave() { } }$ulam 5;\nquark A { }",
-        "name declared twice 1:2:7",
-    ),
-    (
-        "element Atom { Void behave() { } }",
-        "name declared twice 0:1:9",
-    ),
-    (
-        "element A { Int(3) n; Bool n; Void behave() { } }",
-        "name declared twice 0:1:28",
-    ),
-    (
-        "element A { Void f() { } Void f(Int a) { } Void behave() { } }",
-        "name declared twice 0:1:31",
-    ),
-    (
-        "element A { constant Int n = 3; Int(3) n; Void behave() { } }",
-        "name declared twice 0:1:40",
-    ),
-    (
-        "element A { typedef Int(3) Bits; Void behave() { } }",
-        "name declared twice 0:1:28",
-    ),
-    (
-        "element A { Void behave() { for (Int i = 0; i < 3; i++) { } Int i; Int i; } }",
-        "name declared twice 0:1:72",
-    ),
-    (
-        "element A { Void f(Int a) { Int a; } Void behave() { } }",
-        "name declared twice 0:1:33",
-    ),
-    (
-        "element A { Void f(Int a, Bool a) { } Void behave() { } }",
-        "name declared twice 0:1:32",
-    ),
-    (
-        "element A { Void behave() { Int a; { Int a; Int a; } } }",
-        "name declared twice 0:1:49",
-    ),
-    (
-        "element A { Int(3) behave; Void behave() { } }",
-        "name declared twice 0:1:33",
-    ),
-    (
-        "element A { constant Int c = d; constant Int d = 3; Void behave() { } }",
-        "unknown name 0:1:30",
-    ),
-    (
-        "element A { Int(w) n; constant Unsigned w = 3; Void behave() { } }",
-        "unknown name 0:1:17",
-    ),
-    (
-        "element A { T n; typedef Int(3) T; Void behave() { } }",
-        "unknown name 0:1:13",
-    ),
-    (
-        "quark Q { constant Int c = 3; }\nelement A { Int(c) n; Void behave() { } }",
-        "unknown name 0:2:17",
-    ),
-    (
-        "use Foo; element A { Void behave() { } }",
-        "unknown name 0:1:5",
-    ),
-    (
-        "use Int; element A { Void behave() { } }",
-        "unknown name 0:1:5",
-    ),
-    (
-        "element A { Void behave() { Int a = a; } }",
-        "unknown name 0:1:37",
-    ),
-    (
-        "element A { Void behave() { for (Int i = 0; i < 3; i++) ; i = 1; } }",
-        "unknown name 0:1:59",
-    ),
-    (
-        "element A { Int(3) n; Void behave() { Int m; self.m = 1; } }",
-        "unknown name 0:1:51",
-    ),
-    (
-        "quark Q { Int(3) n; }\nelement A { Q q; Void behave() { q.m = 1; } }",
-        "unknown name 0:2:36",
-    ),
-    (
-        "element A { Void behave() { Int n; n.m = 1; } }",
-        "unknown name 0:1:38",
-    ),
-    (
-        "element A { EventWindow ew; Void behave() { ew.create(1); } }",
-        "unknown name 0:1:48",
-    ),
-    (
-        "element A { Int(3) n; Void behave() { Atom a; if (a as A) a.m = 1; } }",
-        "unknown name 0:1:61",
-    ),
-    (
-        "element A { Int(3) n; Void behave() { Atom a; if (a as A) ; a.n = 1; } }",
-        "unknown name 0:1:63",
-    ),
-    (
-        "element A { Int(3) n; Void behave() { Atom a; if (a as A) ; else a.n = 1; } }",
-        "unknown name 0:1:68",
-    ),
-    (
-        "element A { Void behave() { Atom a; if (a as Foo) ; } }",
-        "unknown name 0:1:46",
-    ),
-    (
-        "quark Q { Int(3) n; }\nelement A { Void behave() { n = 1; } }",
-        "unknown name 0:2:29",
-    ),
-    ("quark Q { Q q; }", "quark contains itself 0:1:7"),
-    (
-        "quark O { Int(3) n; } quark N { O o; } quark P { Q q; } quark Q { P p; N n; }",
-        "quark contains itself 0:1:46",
-    ),
-    (
-        "quark X { Q q; } quark Q { Q q; }",
-        "quark contains itself 0:1:24",
-    ),
-    ("element A { }", "no behave 0:1:9"),
-    ("element A { Void behave(Int a) { } }", "no behave 0:1:9"),
-    (
-        "element A { Int behave() { return 1; } }",
-        "no behave 0:1:9",
-    ),
-    (
-        "element A { constant Int(4) c = 8; Void behave() { } }",
-        "bad constant 0:1:29",
-    ),
-    (
-        "element A { constant Int(4) c = -9; Void behave() { } }",
-        "bad constant 0:1:29",
-    ),
-    (
-        "element A { constant Int c = 2147483648; Void behave() { } }",
-        "bad constant 0:1:26",
-    ),
-    (
-        "element A { constant Bits c = true; Void behave() { } }",
-        "bad constant 0:1:27",
-    ),
-    (
-        "element A { constant Bits(4) c = -1; Void behave() { } }",
-        "bad constant 0:1:30",
-    ),
-    (
-        "element A { constant Bool a = true; constant Int(4) b = a; Void behave() { } }",
-        "bad constant 0:1:53",
-    ),
-    (
-        "element A { Void f(Int p0, Int p1, Int p2, Int p3, Int p4, Int p5, Int p6, Int p7, Int p7) { } Void behave() { } }",
-        "too many 0:1:88",
-    ),
-    (
-        "element A { Int(1) n; Void behave() { } }",
-        "bad width 0:1:13",
-    ),
-    (
-        "element A { Int(65) n; Void behave() { } }",
-        "bad width 0:1:13",
-    ),
-    (
-        "element A { Int(4294967295) n; Void behave() { } }",
-        "bad width 0:1:13",
-    ),
-    (
-        "element A { EventWindow(3) n; Void behave() { } }",
-        "bad width 0:1:13",
-    ),
-    (
-        "element A { Atom(3) n; Void behave() { } }",
-        "bad width 0:1:13",
-    ),
-    (
-        "element A { Bool(2) n; Void behave() { } }",
-        "bad width 0:1:13",
-    ),
-    (
-        "element A { constant Unsigned w = 70; Int(w) q; Void behave() { } }",
-        "bad width 0:1:39",
-    ),
-    (
-        "element A { Void behave() { } } element B { A a; Void behave() { } }",
-        "bad width 0:1:45",
-    ),
-    (
-        "element A { typedef Int(4) T; T(4) q; Void behave() { } }",
-        "bad width 0:1:31",
-    ),
-    (
-        "quark Q { } element A { typedef Q T; Void behave() { } }",
-        "bad width 0:1:33",
-    ),
-    (
-        "element A { Bool a[0]; Void behave() { } }",
-        "bad width 0:1:18",
-    ),
-    (
-        "element A { Bool a[72]; Void behave() { } }",
-        "bad width 0:1:18",
-    ),
-    (
-        "quark Q { Bool p; } element A { Q a[2]; Void behave() { } }",
-        "bad width 0:1:33",
-    ),
-    (
-        "element A { Bool a[len]; Void behave() { } }",
-        "unknown name 0:1:20",
-    ),
-    (
-        "element A { constant Int c = 3; Void behave() { Int n = self.c; } }",
-        "unknown name 0:1:62",
-    ),
-    (
-        "element A { Void behave() { n = 1; } } use Foo;",
-        "unknown name 0:1:44",
-    ),
-    ("quark Q { Q q; } element A { }", "no behave 0:1:26"),
-    (
-        "element A { Bool n; Bool n[0]; Void behave() { } }",
-        "name declared twice 0:1:26",
-    ),
-    (
-        "element A { Foo n; } quark A { }",
-        "name declared twice 0:1:28",
-    ),
-    (
-        "element A { Void behave() { n = 1; } } quark Q { Q q; }",
-        "quark contains itself 0:1:46",
-    ),
-    (
-        "quark Q { Int n; } element A { Q q; Void behave() { Q p; p.n = 1; } }",
-        "unknown name 0:1:60",
-    ),
-    (
-        "quark Q { R r; } quark R { Q q; }",
-        "quark contains itself 0:1:7",
-    ),
-];
-
-#[test]
-fn texts_with_their_first_fault(rt: HostRuntime) -> Result<(), Fail> {
-    check(&rt, rt.alloc(), &FAULTS)
-}
-
-/// A text of many declarations: what stands before them, each of them but its number, which
-/// stands between two parts, and what stands behind all.
-struct Many {
-    front: &'static str,
-    each: [&'static str; 2],
-    back: &'static str,
-    /// The greatest number of them that is accepted.
-    most: u32,
-    /// The fault where there is one more.
-    fault: &'static str,
-}
-
-const LIMITS: [Many; 7] = [
-    Many {
-        front: "element A { Void behave() { }",
-        each: ["Bool m", ";"],
-        back: "}",
-        most: 64,
-        fault: "too many 0:66:6",
-    },
-    Many {
-        front: "element A { Void behave() { }",
-        each: ["Void f", "() { }"],
-        back: "}",
-        most: 63,
-        fault: "too many 0:65:6",
-    },
-    Many {
-        front: "element A { typedef Int T; Void behave() { }",
-        each: ["constant Int c", " = 0;"],
-        back: "}",
-        most: 63,
-        fault: "too many 0:65:14",
-    },
-    Many {
-        front: "element A { Void behave() { Int n;",
-        each: ["{ Int v", "; }"],
-        back: "} }",
-        most: 63,
-        fault: "too many 0:65:7",
-    },
-    Many {
-        front: "element A { Void behave() { } Void f(Int a, Int b, Int c, Int d, Int e, Int g, Int h, Int i) {",
-        each: ["Int v", ";"],
-        back: "} }",
-        most: 64,
-        fault: "too many 0:66:5",
-    },
-    Many {
-        front: "element A { Void behave() { } Void f(Int p",
-        each: [", Int p", ""],
-        back: ") { } }",
-        most: 7,
-        fault: "too many 0:9:7",
-    },
-    Many {
-        front: "element A { Void behave() { } }",
-        each: ["quark Q", " { }"],
-        back: "",
-        most: 255,
-        fault: "too many 0:257:7",
-    },
-];
-
-/// So many declarations, each on a line of its own behind the first.
-fn text(alloc: Global, many: &Many, count: u32) -> Result<String, Fail> {
-    let mut text = String::new(alloc);
-    text.push_str(many.front)?;
-    for number in 0..count {
-        let [before, behind] = many.each;
-        let one = format!(in alloc; "\n{before}{number}{behind}")?;
-        text.push_str(one.as_str())?;
-    }
-    text.push_str(many.back)?;
-    Ok(text)
-}
-
-#[test]
-fn each_limit_is_the_most_that_is_accepted(rt: HostRuntime) -> Result<(), Fail> {
-    let alloc = rt.alloc();
-    for many in &LIMITS {
-        let most = text(alloc, many, many.most)?;
-        assert_eq!(rt; fault(alloc, most.as_str())?.as_str(), "", "{}", many.fault);
-        let more = text(alloc, many, many.most.saturating_add(1))?;
-        assert_eq!(rt; fault(alloc, more.as_str())?.as_str(), many.fault);
+    for (text, wanted) in TREES {
+        let found = shown(rt.alloc(), text)?;
+        assert_eq!(rt; found.as_str(), wanted, "{text}");
     }
     Ok(())
 }

@@ -1,9 +1,9 @@
-//! Texts with their tokens, and texts with their faults.
+//! Texts with their tokens.
 use feast_base::Place;
 use std::alloc::{AllocError, Global};
 use std::process::Abort;
 use std::test::Fail;
-use ulam_lex::{LexFault, Numeral, Token, TokenKind, lex, numeral_of};
+use ulam_lex::{Token, TokenKind, lex};
 
 /// A token as `Kind first..end line:column`.
 fn token_text(alloc: Global, token: &Token) -> Result<String, AllocError> {
@@ -17,52 +17,24 @@ fn token_text(alloc: Global, token: &Token) -> Result<String, AllocError> {
     format!(in alloc; "{kind:?} {first}..{end} {line}:{column}")
 }
 
-/// A fault as its message and its place.
-fn fault_text(alloc: Global, fault: LexFault) -> Result<String, AllocError> {
-    match fault {
-        LexFault::BadByte(p)
-        | LexFault::OpenComment(p)
-        | LexFault::NumberTooLarge(p)
-        | LexFault::TooManyTokens(p) => {
-            let Place { file, line, column } = p;
-            format!(in alloc; "{fault} {file}:{line}:{column}")
-        }
-        LexFault::NoMemory => format!(in alloc; "{fault}"),
-    }
-}
-
 /// The tokens of a text, which is shorter than the longest one by far.
-fn tokens_of(alloc: Global, text: &[u8]) -> Result<Vec<Token>, LexFault> {
+fn tokens_of(alloc: Global, text: &[u8]) -> Result<Vec<Token>, Fail> {
     if text.len() >= 1_000_000 {
-        return Err(LexFault::NoMemory);
+        return Err(Fail::from("too long"));
     }
-    lex(alloc, text, 3)
+    Ok(lex(alloc, text, 3)?)
 }
 
-/// The tokens of a text, or its fault.
-fn shown(alloc: Global, text: &[u8]) -> Result<String, AllocError> {
-    let tokens = match tokens_of(alloc, text) {
-        Ok(tokens) => tokens,
-        Err(fault) => return fault_text(alloc, fault),
-    };
+/// The tokens of a text, as text.
+fn shown(alloc: Global, text: &[u8]) -> Result<String, Fail> {
     let mut out = String::new(alloc);
-    for token in &tokens {
+    for token in &tokens_of(alloc, text)? {
         if !out.is_empty() {
             out.push_str(", ")?;
         }
-        let one = token_text(alloc, token)?;
-        out.push_str(one.as_str())?;
+        out.push_str(token_text(alloc, token)?.as_str())?;
     }
     Ok(out)
-}
-
-/// Each text of a table shows what stands beside it.
-fn check(rt: &impl Abort, alloc: Global, table: &[(&str, &str)]) -> Result<(), Fail> {
-    for (text, wanted) in table {
-        let found = shown(alloc, text.as_bytes())?;
-        assert_eq!(rt; found.as_str(), *wanted, "{text}");
-    }
-    Ok(())
 }
 
 /// Texts, with their tokens.
@@ -119,7 +91,11 @@ const TOKENS: [(&str, &str); 18] = [
 
 #[test]
 fn texts_with_their_tokens(rt: HostRuntime) -> Result<(), Fail> {
-    check(&rt, rt.alloc(), &TOKENS)
+    for (text, wanted) in TOKENS {
+        let found = shown(rt.alloc(), text.as_bytes())?;
+        assert_eq!(rt; found.as_str(), wanted, "{text}");
+    }
+    Ok(())
 }
 
 /// Each word that is no name, with spaces between.
@@ -156,42 +132,6 @@ fn each_keyword_and_each_sign_is_one_token(rt: HostRuntime) -> Result<(), Fail> 
     each_is(&rt, alloc, SIGNS, TokenKind::Sign, 44)
 }
 
-/// Texts that have no tokens, with their first fault.
-const FAULTS: [(&str, &str); 24] = [
-    ("@", "bad byte 3:1:1"),
-    ("a\n # ", "bad byte 3:2:2"),
-    ("\x0b", "bad byte 3:1:1"),
-    ("né", "bad byte 3:1:2"),
-    ("1a", "bad byte 3:1:2"),
-    ("00", "bad byte 3:1:2"),
-    ("0_", "bad byte 3:1:2"),
-    ("1uu", "bad byte 3:1:3"),
-    ("0b12", "bad byte 3:1:4"),
-    ("0X1", "bad byte 3:1:2"),
-    ("0x", "bad byte 3:1:3"),
-    ("0xg", "bad byte 3:1:3"),
-    ("0b\n", "bad byte 3:1:3"),
-    ("0bu", "bad byte 3:1:3"),
-    ("a /* b", "comment is not closed 3:1:3"),
-    ("/*/", "comment is not closed 3:1:1"),
-    ("\n  /* * /", "comment is not closed 3:2:3"),
-    ("4294967296", "number too large 3:1:1"),
-    ("x 0x100000000u", "number too large 3:1:3"),
-    ("4294967296x", "number too large 3:1:1"),
-    (
-        "0b111111111111111111111111111111111",
-        "number too large 3:1:1",
-    ),
-    ("99999999999999999999999999 @", "number too large 3:1:1"),
-    ("@ /*", "bad byte 3:1:1"),
-    ("/* @", "comment is not closed 3:1:1"),
-];
-
-#[test]
-fn texts_with_their_faults(rt: HostRuntime) -> Result<(), Fail> {
-    check(&rt, rt.alloc(), &FAULTS)
-}
-
 /// A file as people write them.
 const COUNTER: &str = "/** Counts its meetings.
     \\symbol Ct */
@@ -225,75 +165,5 @@ fn an_ordinary_file_has_tokens(rt: HostRuntime) -> Result<(), Fail> {
     assert_eq!(rt; tokens.len(), 114);
     let found = token_text(rt.alloc(), &tokens[113])?;
     assert_eq!(rt; found.as_str(), "End 449..449 25:1");
-    Ok(())
-}
-
-/// A text of so many signs, and then a back.
-fn signs(alloc: Global, count: usize, back: &[u8]) -> Result<Vec<u8>, Fail> {
-    let mut text = vec![in alloc; b';'; count]?;
-    text.extend_from_slice(back)?;
-    Ok(text)
-}
-
-#[test]
-fn a_text_has_at_most_200000_tokens(rt: HostRuntime) -> Result<(), Fail> {
-    let alloc = rt.alloc();
-    let most = signs(alloc, 200_000, b" // more")?;
-    assert_eq!(rt; tokens_of(alloc, most.as_slice())?.len(), 200_001);
-    let faults = [
-        (" ;", "too many tokens 3:1:200002"),
-        ("1a", "too many tokens 3:1:200001"),
-        ("0x", "bad byte 3:1:200003"),
-    ];
-    for (back, wanted) in &faults {
-        let text = signs(alloc, 200_000, back.as_bytes())?;
-        let found = shown(alloc, text.as_slice())?;
-        assert_eq!(rt; found.as_str(), *wanted);
-    }
-    Ok(())
-}
-
-#[test]
-fn a_name_has_at_most_255_bytes(rt: HostRuntime) -> Result<(), Fail> {
-    let alloc = rt.alloc();
-    let longest = vec![in alloc; b'a'; 255]?;
-    let found = shown(alloc, longest.as_slice())?;
-    assert_eq!(rt; found.as_str(), "Name 0..255 1:1, End 255..255 1:256");
-    let longer = vec![in alloc; b'A'; 256]?;
-    let found = shown(alloc, longer.as_slice())?;
-    assert_eq!(rt; found.as_str(), "bad byte 3:1:256");
-    Ok(())
-}
-
-#[test]
-fn numbers_have_values(rt: HostRuntime) -> Result<(), Fail> {
-    assert_eq!(rt;
-        numeral_of(b"0"),
-        Numeral {
-            value: 0,
-            unsigned: false
-        }
-    );
-    assert_eq!(rt;
-        numeral_of(b"120u"),
-        Numeral {
-            value: 120,
-            unsigned: true
-        }
-    );
-    assert_eq!(rt;
-        numeral_of(b"0xFfu"),
-        Numeral {
-            value: 255,
-            unsigned: true
-        }
-    );
-    assert_eq!(rt;
-        numeral_of(b"0b101"),
-        Numeral {
-            value: 5,
-            unsigned: false
-        }
-    );
     Ok(())
 }

@@ -1,47 +1,24 @@
 //! Texts with their trees.
 mod shown;
 
-use feast_base::Place;
-use std::alloc::{AllocError, Global};
+use std::alloc::Global;
 use std::process::Abort;
 use std::test::Fail;
-use ulam_lex::{LexFault, lex};
-use ulam_parse::{ParseFault, parse};
+use ulam_lex::lex;
+use ulam_parse::parse;
 
-/// The front and the back of a file around statements.
-pub const BODY: (&str, &str) = ("element A { Void behave() { ", " } }");
-
-/// A fault with its line and column.
-fn fault(out: &mut String, name: &str, place: Place) -> Result<(), AllocError> {
-    let Place { line, column, .. } = place;
-    write!(out, "{name} {line}:{column}")
-}
-
-/// The tree of a text, or its fault.
-pub fn outcome(alloc: Global, text: &[u8]) -> Result<String, Fail> {
+/// The tree of a text, which is in the grammar and shorter than the longest by far.
+fn tree(alloc: Global, text: &[u8]) -> Result<String, Fail> {
     let mut out = String::new(alloc);
-    if text.len() >= 1_000_000 {
-        return Ok(out);
-    }
-    let tokens = match lex(alloc, text, 0) {
-        Ok(tokens) => tokens,
-        Err(LexFault::OpenComment(place)) => {
-            fault(&mut out, "open comment", place)?;
-            return Ok(out);
-        }
-        Err(other) => return Err(other.into()),
-    };
-    match parse(alloc, text, tokens.as_slice()) {
-        Ok(tree) => shown::file(&mut out, &tree)?,
-        Err(ParseFault::Syntax(place)) => fault(&mut out, "syntax", place)?,
-        Err(ParseFault::TooDeep(place)) => fault(&mut out, "nested too deep", place)?,
-        Err(other) => return Err(other.into()),
+    if text.len() < 1_000_000 {
+        let tokens = lex(alloc, text, 0)?;
+        shown::file(&mut out, &parse(alloc, text, tokens.as_slice())?)?;
     }
     Ok(out)
 }
 
 /// Each text of a table, between a front and a back, shows what stands beside it, between others.
-pub fn check(
+fn check(
     rt: &impl Abort,
     alloc: Global,
     around: (&str, &str),
@@ -53,7 +30,7 @@ pub fn check(
     for (text, wanted) in table {
         let whole = format!(in alloc; "{front}{text}{back}")?;
         let wanted = format!(in alloc; "{before}{wanted}{behind}")?;
-        let found = outcome(alloc, whole.as_bytes())?;
+        let found = tree(alloc, whole.as_bytes())?;
         assert_eq!(rt; found.as_str(), wanted.as_str(), "{text}");
     }
     Ok(())

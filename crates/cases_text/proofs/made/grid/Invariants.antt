@@ -1,5 +1,0 @@
-use Rattle.grid_print.specs.Report.{AreNamed}
-use Rattle.cases_text.proofs.made.grid.Given as goal
-
-abbrev pub invariant-loop-placed : goal.invariant-loop-placed
-invariant-loop-placed l = AreNamed l.names l.grid.atoms

@@ -1,0 +1,5 @@
+use Rattle.grid_print.specs.Report.{AreNamed}
+use Rattle.cases_text.proofs.reports.grid.Given as goal
+
+abbrev pub invariant-loop-placed : goal.invariant-loop-placed
+invariant-loop-placed l = AreNamed l.names l.grid.atoms
