@@ -15,23 +15,8 @@ use Rattle.tile_map.specs.Plane.{Site, apart}
 use Rattle.tile_map.specs.Spans.{is_within}
 use Rattle.tile_map.proofs.Near.{offset_to, offset_to-abs, shifted-offset_to, shifted-apart}
 use Rattle.tile_map.proofs.Spans.{times_more}
-use Rattle.border_cache.specs.News.{Covers, bit_in, AreMasks, SetsPlace, SetsRun}
+use Rattle.border_cache.specs.News.{Covers, bit_in, AreMasks, SetsRun}
 use Rattle.border_cache.specs.Windows.{place_among, place_at, IsNear, SetsRow}
-
--- one more place of a run
-pub run_begins : (start : ℕ) (masks : List ℕ) → SetsRun start start masks masks
-run_begins start masks = record { count = refl; inside = λ k a b. absurd (omega (arith, a, b)); outside = λ k out. refl }
-
-pub run_more : (start p : ℕ) (old mid new : List ℕ) → start ≤ p → SetsRun start p old mid → SetsPlace (Some p) mid new → SetsRun start (p + 1) old new
-run_more start p old mid new le r s = record {
-  count = s.count ∙ r.count;
-  inside = λ k a b. ⊎_elim
-      (λ (lt : k < p). s.others k (λ h. let e : p ≡ k = ap or_zero h in omega (arith, e, lt)) ∙ r.inside k a lt)
-      (λ (e : k ≡ p). s.set k (ap Some (sym e)))
-      (less_or_same k p b);
-  outside = λ k out. s.others k (λ h. let e : p ≡ k = ap or_zero h in ⊎_elim (λ lt. omega (arith, e, lt, le)) (λ le. omega (arith, e, le)) out)
-      ∙ r.outside k (⊎_elim (λ lt. inl lt) (λ le. inr (omega (arith, le))) out);
-}
 
 -- a row of which the area has no site
 pub row_none : (a : Area) (c : Site) (j : ℕ) (masks : List ℕ) → ((k u v : ℕ) → IsNear a c k u v → v + 4 ≡ c.y + j → ⊥) → SetsRow a c j masks masks

@@ -1,5 +1,5 @@
 //! The sites of a window in the news words of an edge, where each has a bit.
-ghost use Rattle.std.specs.Prelude.{◌≡◌, ◌==◌, ◌<◌, ◌≤◌, ℕ, length};
+ghost use Rattle.std.specs.Prelude.{◌≡◌, ◌+◌, ◌-◌, ◌^◌, ◌==◌, ◌<◌, ◌≤◌, ℕ, length};
 ghost use Rattle.std.specs.List.{list_all};
 ghost use Rattle.tile_map.specs.Plane.{site};
 ghost use Rattle.tile_map.specs.Tables.{sites_in, IsSmall};
@@ -34,15 +34,30 @@ pub(crate) fn masks(places: &[Option<u32>]) -> [u64; 9]
     masks
 }
 
-// Sets the bits of the places from `start` up to `end` and without it.
+// The lowest bits of a word, `count` of them.
+fn ones(count: u32) -> u64
+    requires { count < 64 }
+    ensures { result ≡ 2 ^ count - 1 }
+{
+    (1u64 << count) - 1
+}
+
+// Sets the bits of the places from `start` up to `end` and without it. So few lie in one word, or
+// in one and the next.
 fn set_run(masks: &mut [u64], start: u32, end: u32)
     requires count { length masks.old ≡ 9 }
-    requires order { start ≤ end }
+    requires some { start < end }
+    requires short { end ≤ start + 9 }
     requires few { end ≤ 576 }
     ensures { SetsRun start end masks.old masks.new }
 {
-    for place in start..end {
-        set_place(masks, Some(place));
+    let bits = ones(end - start);
+    let word = (start / 64) as usize;
+    let low = start % 64;
+    masks[word] |= bits << low;
+    let over = low + (end - start) > 64;
+    if over {
+        masks[word + 1] |= bits >> (64 - low);
     }
 }
 

@@ -7,7 +7,7 @@ use Rattle.std.proofs.lemmas.Grind.{flat_map-append}
 use Rattle.tile_map.specs.Edges.{edges_among}
 use Rattle.tile_map.specs.Plane.{MapValue}
 use Rattle.tile_map.specs.Neighbours.{are_joined, near_from}
-use Rattle.tile_map.specs.Tables.{interior_of}
+use Rattle.tile_map.specs.Tables.{areas_of}
 use Rattle.list_laws.proofs.Ranges.{range_cut}
 use Rattle.list_laws.proofs.Filters.{filter_more}
 
@@ -33,10 +33,10 @@ lists_more ps n t =
     let one : t ≡ 0 + t = omega arith in
     ap (map (edges_among ps n)) (range_cut 0 t (t + 1) t 1 refl one) ∙ map-append (edges_among ps n) (range_with_len 0 t) (t ∷ [])
 
-pub interiors_more : (m : MapValue) (t : ℕ) → map (interior_of m) (range_with_len 0 (t + 1)) ≡ map (interior_of m) (range_with_len 0 t) ++ interior_of m t ∷ []
-interiors_more m t =
+pub areas_more : (m : MapValue) (t : ℕ) → map (areas_of m) (range_with_len 0 (t + 1)) ≡ map (areas_of m) (range_with_len 0 t) ++ areas_of m t ∷ []
+areas_more m t =
     let one : t ≡ 0 + t = omega arith in
-    ap (map (interior_of m)) (range_cut 0 t (t + 1) t 1 refl one) ∙ map-append (interior_of m) (range_with_len 0 t) (t ∷ [])
+    ap (map (areas_of m)) (range_cut 0 t (t + 1) t 1 refl one) ∙ map-append (areas_of m) (range_with_len 0 t) (t ∷ [])
 
 -- the pairs of a lower tile, one more higher tile being looked at
 pub near_next : (on : ℕ → Bool) (tx t n : ℕ) (b : Bool) (base old new : List (ℕ × ℕ)) → b ≡ are_joined on tx t n → old ≡ base ++ map {B = ℕ × ℕ} (λ u. (t, u)) (filter (are_joined on tx t) (range_with_len 0 n)) → new ≡ old ++ cond b ((t, n) ∷ []) [] →

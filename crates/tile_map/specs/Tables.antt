@@ -1,11 +1,12 @@
--- What a map keeps: its edges by their ends, the edges and the interior of each tile, and for each edge the numbers of its
+-- What a map keeps: its edges by their ends, the edges and the areas of each tile, and for each edge the numbers of its
 -- shared sites.
-use Rattle.std.specs.Prelude.{ℕ, ◌≡◌, ◌≢◌, ◌-◌, ◌/◌, ◌%◌, ◌<◌, ◌≤◌, ◌==◌, ◌&&◌, List, Option, Some, None, length, map, filter, flat_map, position, slice_index_or}
+use Rattle.std.specs.Prelude.{ℕ, ◌≡◌, ◌≢◌, ◌+◌, ◌-◌, ◌*◌, ◌/◌, ◌%◌, ◌<◌, ◌≤◌, ◌==◌, ◌&&◌, List, Option, Some, None, length, map, filter, flat_map, position, slice_index_or}
 use Rattle.std.specs.List.{range_with_len}
 use Rattle.std.specs.Option.{option_and_then}
 use Rattle.tile_map.specs.declared.span.Area.{Area}
+use Rattle.tile_map.specs.declared.span.TileAreas.{TileAreas}
 use Rattle.tile_map.specs.Plane.{Site, MapValue, IsMap, site, tiles_of, is_live}
-use Rattle.tile_map.specs.Spans.{left_both, right_both, top_both, bottom_both, interior_low, interior_high, place_within}
+use Rattle.tile_map.specs.Spans.{left_of, right_of, top_of, bottom_of, left_both, right_both, top_both, bottom_both, interior_low, interior_high, place_within}
 use Rattle.tile_map.specs.Edges.{pairs_of, pair_at, shared_of, edges_at}
 
 -- a row of n sites from x on
@@ -72,9 +73,23 @@ interior_of m t = record {
   rows = record { first = interior_low m.h (t / m.tx); end = interior_high m.ty m.h (t / m.tx) };
 }
 
-pub record Keeps (m : MapValue) (ends : List (ℕ × ℕ)) (around : List (List ℕ)) (tables : List SharedValue) (interiors : List Area) : Type 0 where
+-- the sites of tile t's rectangle
+abbrev pub own_of : MapValue → ℕ → Area
+own_of m t = record {
+  columns = record { first = t % m.tx * m.w; end = (t % m.tx + 1) * m.w };
+  rows = record { first = t / m.tx * m.h; end = (t / m.tx + 1) * m.h };
+}
+
+-- the columns and rows that tile t reaches
+abbrev pub reach_of : MapValue → ℕ → Area
+reach_of m t = record { columns = record { first = left_of m t; end = right_of m t }; rows = record { first = top_of m t; end = bottom_of m t } }
+
+abbrev pub areas_of : MapValue → ℕ → TileAreas
+areas_of m t = record { own = own_of m t; interior = interior_of m t; reach = reach_of m t }
+
+pub record Keeps (m : MapValue) (ends : List (ℕ × ℕ)) (around : List (List ℕ)) (tables : List SharedValue) (areas : List TileAreas) : Type 0 where
   pub valid : IsMap m
   pub pairs : ends ≡ pairs_of m
   pub lists : around ≡ map (edges_at m) (range_with_len 0 (tiles_of m))
-  pub interiors_are : interiors ≡ map (interior_of m) (range_with_len 0 (tiles_of m))
+  pub areas_are : areas ≡ map (areas_of m) (range_with_len 0 (tiles_of m))
   pub shared : tables ≡ map (shared_both m) (pairs_of m)

@@ -5,11 +5,11 @@ ghost use Rattle.std.specs.List.{range_with_len};
 ghost use Rattle.tile_map.specs.Plane.{tiles_of, is_on};
 ghost use Rattle.tile_map.specs.Edges.{is_in_pair, edges_among};
 ghost use Rattle.tile_map.specs.Neighbours.{near_above, near_pairs};
-ghost use Rattle.tile_map.specs.Tables.{interior_of};
+ghost use Rattle.tile_map.specs.Tables.{areas_of};
 
 use crate::needs::Needs;
 use crate::plane::Plane;
-use crate::span::Area;
+use crate::span::TileAreas;
 use feast_base::NoMemory;
 use std::alloc::Global;
 
@@ -72,15 +72,15 @@ fn edges_of(ends: &[(u32, u32)], tiles: u32, tile: u32) -> Needs
     edges
 }
 
-/// For each tile its interior.
-#[tactic(auto, using(crate::proofs::Growing::interiors_more))]
-pub(crate) fn interiors(alloc: Global, plane: &Plane) -> Result<Vec<Area>, NoMemory>
-    ensures { IfOk result (λ v. v.items ≡ map (interior_of plane.now) (range_with_len 0 (tiles_of plane.now))) }
+/// For each tile its areas.
+#[tactic(auto, using(crate::proofs::Growing::areas_more))]
+pub(crate) fn tile_areas(alloc: Global, plane: &Plane) -> Result<Vec<TileAreas>, NoMemory>
+    ensures { IfOk result (λ v. v.items ≡ map (areas_of plane.now) (range_with_len 0 (tiles_of plane.now))) }
 {
     let tiles = plane.tiles();
     let mut areas = Vec::new(alloc);
     for tile in 0..tiles {
-        areas.push(plane.interior(tile))?;
+        areas.push(plane.areas(tile))?;
     }
     Ok(areas)
 }

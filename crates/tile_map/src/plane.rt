@@ -5,9 +5,9 @@ ghost use Rattle.tile_map.specs.Plane.{MapValue, IsMap, plane_of, site, tiles_of
 ghost use Rattle.tile_map.specs.Neighbours.{are_joined};
 ghost use Rattle.tile_map.specs.Spans.{left_of, right_of, top_of, bottom_of};
 ghost use Rattle.tile_map.specs.Edges.{is_held_at, window_site, reaches};
-ghost use Rattle.tile_map.specs.Tables.{area_both, interior_of};
+ghost use Rattle.tile_map.specs.Tables.{area_both, own_of, interior_of, reach_of, areas_of};
 
-use crate::span::{Area, Span, shift};
+use crate::span::{Area, Span, TileAreas, shift};
 use feast_base::NoMemory;
 use std::alloc::Global;
 use std::marker::Model;
@@ -187,6 +187,40 @@ impl Plane {
         Area {
             columns: Span::interior(tile % self.tx, self.w, self.tx),
             rows: Span::interior(tile / self.tx, self.h, self.ty),
+        }
+    }
+
+    /// The sites of a tile's rectangle.
+    pub(crate) fn own(&self, tile: u32) -> Area
+        requires { tile < tiles_of self.now }
+        ensures { result ≡ own_of self.now tile }
+    {
+        Area {
+            columns: Span::part(tile % self.tx, self.w),
+            rows: Span::part(tile / self.tx, self.h),
+        }
+    }
+
+    /// The sites of the columns and rows that a tile reaches.
+    pub(crate) fn reach(&self, tile: u32) -> Area
+        requires { tile < tiles_of self.now }
+        ensures { result ≡ reach_of self.now tile }
+    {
+        Area {
+            columns: self.columns(tile),
+            rows: self.rows(tile),
+        }
+    }
+
+    /// The areas that are kept of a tile.
+    pub(crate) fn areas(&self, tile: u32) -> TileAreas
+        requires { tile < tiles_of self.now }
+        ensures { result ≡ areas_of self.now tile }
+    {
+        TileAreas {
+            own: self.own(tile),
+            interior: self.interior(tile),
+            reach: self.reach(tile),
         }
     }
 

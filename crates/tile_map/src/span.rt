@@ -2,7 +2,7 @@
 
 ghost use Rattle.std.specs.Prelude.{◌≡◌, ◌+◌, ◌-◌, ◌*◌, ◌<◌, ◌≤◌, ◌≤ℤ◌, pos, min, max, ◌&&◌, nat_le, nat_lt, IfSome};
 ghost use Rattle.window_sites.specs.Sites.{shifted};
-ghost use Rattle.tile_map.specs.Spans.{interior_low, interior_high, is_within, place_within};
+ghost use Rattle.tile_map.specs.Spans.{interior_low, interior_high, gap, is_within, place_within};
 
 /// The coordinates from `first` up to `end` and without it.
 #[derive(Clone, Copy)]
@@ -45,6 +45,19 @@ impl Span {
             ((part + 1) * size).saturating_sub(8)
         };
         Span { first, end }
+    }
+
+    /// A line is cut into parts of equal size: one of them.
+    pub(crate) fn part(part: u32, size: u32) -> Span
+        requires few { part < 8 }
+        requires small { size ≤ 64 }
+        ensures first { result.first ≡ part * size }
+        ensures end { result.end ≡ (part + 1) * size }
+    {
+        Span {
+            first: part * size,
+            end: (part + 1) * size,
+        }
     }
 
     /// What lies in both.
@@ -92,6 +105,14 @@ pub struct Area {
     pub rows: Span,
 }
 
+/// The areas that are kept of a tile: its rectangle, the interior of that, and what it reaches.
+#[derive(Clone, Copy)]
+pub(crate) struct TileAreas {
+    pub own: Area,
+    pub interior: Area,
+    pub reach: Area,
+}
+
 impl Area {
     /// How many sites there are.
     pub(crate) fn sites(self) -> u32
@@ -108,6 +129,17 @@ impl Area {
         ensures { result ≡ is_within self.columns.first self.columns.end self.rows.first self.rows.end x y }
     {
         self.columns.contains(x) && self.rows.contains(y)
+    }
+
+    /// How far a site is from the nearest of the area.
+    pub(crate) fn distance(self, x: u32, y: u32) -> u32
+        requires x { x < 512 }
+        requires y { y < 512 }
+        requires columns { self.columns.first < 512 }
+        requires rows { self.rows.first < 512 }
+        ensures { result ≡ gap self.columns.first self.columns.end x + gap self.rows.first self.rows.end y }
+    {
+        self.columns.gap(x) + self.rows.gap(y)
     }
 
     /// The place of a site, row by row, if the area has it.

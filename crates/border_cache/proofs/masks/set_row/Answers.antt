@@ -14,6 +14,14 @@ set_run-requires-clause-few c =
     (omega (arith, c.if-v-area.false)) (omega (arith, c.if-area-v.false)) (omega (arith, c.if-east-west.false, west, east)) in
     subst (λ (p : ℕ × ℕ). (c.args.y + c.args.j - 4 - a.rows.first) * (a.columns.end - a.columns.first) + (p.0 - a.columns.first) + (p.1 - p.0) ≤ 576) (λ i. (sym west i, sym east i)) fits
 
+pub set_run-requires-clause-some : goal.set_run-requires-clause-some
+set_run-requires-clause-some c =
+    let a = c.args.area in
+    omega (arith, c.if-east-west.false)
+
+pub set_run-requires-clause-short : goal.set_run-requires-clause-short
+set_run-requires-clause-short c = omega (arith, c.max-west.ensures, c.min-east.ensures, c.saturating_sub.ensures, c.min-reach.ensures, c.requires.j)
+
 pub returns : goal.returns
 returns c =
     let a = c.args.area in

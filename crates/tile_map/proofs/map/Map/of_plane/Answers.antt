@@ -33,6 +33,6 @@ invariant_of-result c =
       valid = valid;
       pairs = ends;
       lists = c.in_ok-around.ensures ∙ (λ i. map (edges_among (same i) (count i)) (range_with_len 0 (count i)));
-      interiors_are = c.in_ok-interiors.ensures;
+      areas_are = c.in_ok-areas.ensures;
       shared = c.in_ok-shared.ensures;
     }

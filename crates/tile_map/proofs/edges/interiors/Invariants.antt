@@ -1,7 +1,0 @@
-use Rattle.std.proofs.Common.{◌≡◌, map}
-use Rattle.std.specs.List.{range_with_len}
-use Rattle.tile_map.specs.Tables.{interior_of}
-use Rattle.tile_map.proofs.edges.interiors.Given as goal
-
-abbrev pub invariant-loop-tile : goal.invariant-loop-tile
-invariant-loop-tile l = l.areas.items ≡ map (interior_of l.plane) (range_with_len 0 l.tile)
