@@ -23,7 +23,6 @@ from rust_code import TOP, Code, Function, line_of, sources  # noqa: E402
 REASONS = {
     ("ulam_parse", "judge"): (1, "`first_deep` fails only as its list of brackets grows"),
     ("ulam_parse", "read"): (1, "`marks_of` fails only as its list of marks grows"),
-    ("stack_code", "push"): (1, "a limit of its own on lists, which no code of a valid length reaches"),
 }
 MADE = re.compile(r"\b(?:\w+::)*(?:NoMemory|AllocError)\b")
 # An import of it under another name.

@@ -299,14 +299,17 @@ def long_codes(bench, total):
     long_text(bench, "a code file and more", form, "c", [PACKED, *[b"\0" * MILLION] * (total // MILLION)], BAD_CODE, behind)
     long_text(bench, f"{every} codes of the greatest length", form, "c", packed(every, 1, 32_767), DONE, due)
     long_text(bench, f"{every} codes of most functions", form, "c", packed(every, 65_536, 0), DONE, due)
-    long_text(bench, "a code whose places have most lists of operands", form, "c", [stacking(32_766)], DONE, due)
+    long_text(bench, "a code whose places have most lists of operands", form, "c", [stacking(32_767, b"\x30")], DONE, due)
+    behind = b"c:1:41: E62 bad code file\n"
+    long_text(bench, "one instruction more", form, "c", [stacking(32_767, b"\4\x30")], BAD_CODE, behind)
 
 
-def stacking(rounds):
-    """The code file of an element A that pushes a number, and as often as said doubles it and adds both."""
-    instructions = b"\0" + bytes(8) + b"\1" + b"\x3c\x12" * rounds + b"\4\x30"
+def stacking(rounds, last):
+    """The code file of an element A that pushes a number, and as often as said doubles it and adds both, and of the
+    last instructions. A round makes three lists of operands, two of them for the double."""
+    instructions = b"\0" + bytes(8) + b"\1" + b"\x3c\x12" * rounds + last
     own = b"\0\0\0\1A\0\0\0\1\0\0\0\6behave" + bytes(8)
-    return b"FEASTC\1\0\0\1" + own + (2 * rounds + 3).to_bytes(4, "big") + instructions
+    return b"FEASTC\1\0\0\1" + own + (1 + 2 * rounds + len(last)).to_bytes(4, "big") + instructions
 
 
 def too_long(bench):

@@ -1,5 +1,5 @@
 -- The pass over a function, in the words of the code.
-use Rattle.std.proofs.Common.{◌≡◌, ℕ, ◌-◌, ◌<◌, ◌≤◌, List, length, Option, Some, None, Result, Ok, Err, refl, sym, ap, ◌∙◌, subst, arith, suc, ◌+◌, ◌∷◌, get_or, drop-cons, Bool, true, false, take, drop, ◌⊎◌, inl, inr, []}
+use Rattle.std.proofs.Common.{◌≡◌, ℕ, ◌-◌, ◌<◌, ◌≤◌, List, length, Option, Some, None, refl, sym, ap, ◌∙◌, subst, arith, suc, ◌+◌, ◌∷◌, get_or, drop-cons, Bool, true, false, take, drop, ◌⊎◌, inl, inr, []}
 use Rattle.std.proofs.Math.ListN.{drop_of_length-le}
 use Rattle.std.proofs.lemmas.Bool.{ltb-true, eqb-true}
 use Rattle.std.specs.Prelude.{if◌then◌else◌, nat_eq, nat_lt, nat_le, ◌==◌, ◌&&◌, is_some}
@@ -7,26 +7,24 @@ use Rattle.list_laws.proofs.Tests.{both}
 use Rattle.stack_code.specs.Machine.{FunctionValue, CodeValue}
 use Rattle.stack_code.specs.declared.instr.Instr.{Instr}
 use Rattle.stack_code.specs.Valid.{◌>>=◌, Notes, around, pass, stretch, pass_function, pass_all, end_with, function_fits}
-use Rattle.feast_base.specs.declared.memory.NoMemory.{NoMemory}
 use Rattle.stack_code.specs.declared.kind_lists.Node.{Node}
 use Rattle.stack_code.specs.KindLists.{PassLeaves, FunctionLeaves}
 
 pub one_false : (c : CodeValue) (g : FunctionValue) (p end : ℕ) (n : Notes) → function_fits g p end ≡ false → pass_function c g p end n ≡ None
 one_false c g p end n e = ap (λ (b : Bool). if b then pass (around c g end) (stretch c p end) p (Some []) n else None) e
 
-leaves_one : (o : Option Notes) (len end : ℕ) (lists : List Node) (notes : List ℕ) (r : Result Bool NoMemory) → PassLeaves o lists notes r → FunctionLeaves o (len < end) lists notes r
-leaves_one o len end lists notes (Err e) h = tt
-leaves_one o len end lists notes (Ok true) h = h
-leaves_one o len end lists notes (Ok false) h = inl h
+leaves_one : (o : Option Notes) (len end : ℕ) (lists : List Node) (notes : List ℕ) (r : Bool) → PassLeaves o lists notes r → FunctionLeaves o (len < end) lists notes r
+leaves_one o len end lists notes true h = h
+leaves_one o len end lists notes false h = inl h
 
-pub one_true : (c : CodeValue) (g : FunctionValue) (p end : ℕ) (n : Notes) (is : List Instr) (lists : List Node) (notes : List ℕ) (r : Result Bool NoMemory) → function_fits g p end ≡ true → is ≡ take (end - p) (drop p c.instrs) → PassLeaves (pass (around c g end) is p (Some []) n) lists notes r → FunctionLeaves (pass_function c g p end n) (length c.instrs < end) lists notes r
+pub one_true : (c : CodeValue) (g : FunctionValue) (p end : ℕ) (n : Notes) (is : List Instr) (lists : List Node) (notes : List ℕ) (r : Bool) → function_fits g p end ≡ true → is ≡ take (end - p) (drop p c.instrs) → PassLeaves (pass (around c g end) is p (Some []) n) lists notes r → FunctionLeaves (pass_function c g p end n) (length c.instrs < end) lists notes r
 one_true c g p end n is lists notes r fits e h =
     let a = around c g end in
     let q : pass a is p (Some []) n ≡ pass_function c g p end n =
     ap (λ l. pass a l p (Some []) n) e ∙ sym (ap (λ (b : Bool). if b then pass a (stretch c p end) p (Some []) n else None) fits) in
     leaves_one (pass_function c g p end n) (length c.instrs) end lists notes r (subst (λ o. PassLeaves o lists notes r) q h)
 
-pub one_short : (o : Option Notes) (len end : ℕ) (lists : List Node) (notes : List ℕ) → len < end → FunctionLeaves o (len < end) lists notes (Ok false)
+pub one_short : (o : Option Notes) (len end : ℕ) (lists : List Node) (notes : List ℕ) → len < end → FunctionLeaves o (len < end) lists notes false
 one_short o len end lists notes h = inr h
 
 fits_before : (g : FunctionValue) (p end : ℕ) → function_fits g p end ≡ true → p < end

@@ -31,6 +31,15 @@ list_old n older id le =
     let e : nat_eq id (length older + 1) ≡ false = eq_apart id (length older + 1) (λ h. omega (arith, h)) in
     rw e refl
 
+-- a list is no longer than there are lists
+pub list_short : (ns : List Node) (id : ℕ) → length (list_at ns id) ≤ length ns
+list_short [] id = omega arith
+list_short (n ∷ older) id = by_choice (nat_eq id (length older + 1)) (list_short older n.below) (list_short older id)
+  where
+    by_choice : (b : Bool) → length (list_at older n.below) ≤ length older → length (list_at older id) ≤ length older → length (if b then n.top ∷ list_at older n.below else list_at older id) ≤ length (n ∷ older)
+    by_choice true here there = omega (arith, here)
+    by_choice false here there = omega (arith, there)
+
 pub grows_by : (n : Node) (older : List Node) → Grows older (n ∷ older)
 grows_by n older = record { more = omega arith; by = λ id le. list_old n older id le }
 

@@ -1,5 +1,5 @@
 -- The notes of places.
-use Rattle.std.proofs.Common.{◌≡◌, ℕ, zero, suc, ◌+◌, ◌-◌, ◌<◌, ◌≤◌, List, [], ◌∷◌, length, get_or, Option, Some, None, refl, sym, ap, ◌∙◌, arith, Bool, ◌⊎◌, inl, inr, ⊎_elim, drop, drop-cons, Ok}
+use Rattle.std.proofs.Common.{◌≡◌, ℕ, zero, suc, ◌+◌, ◌-◌, ◌<◌, ◌≤◌, List, [], ◌∷◌, length, get_or, Option, Some, None, refl, sym, ap, ◌∙◌, arith, Bool, ◌⊎◌, inl, inr, ⊎_elim, drop, drop-cons}
 use Rattle.std.specs.Prelude.{slice_get, slice_set, map, is_none}
 use Rattle.stack_code.specs.Valid.{◌>>=◌, Kinds, Notes, note, Exits, arrive, Passing, passing, note_exit, take_exit, pass_place, Around, exits_of, pass}
 use Rattle.stack_code.specs.declared.kind_lists.Node.{Node}
@@ -111,7 +111,7 @@ pass_one a is k p d here notes lt =
     let s : k + 1 ≡ suc k = omega arith in
     ap (λ l. pass a l p here notes) e ∙ ap (λ j. pass_place (exits_of a (get_or is k d) p) p here notes >>= pass_on a (drop j is) (p + 1)) (sym s)
 
-pub pass_end : (a : Around) (is : List Instr) (k p : ℕ) (lists : List Node) (here : Option ℕ) (notes : List ℕ) (r : Bool) → length is ≤ k → r ≡ is_none here → NotesFit lists notes → PassLeaves (pass a (drop k is) p (maybe lists here) (notes_of lists notes)) lists notes (Ok r)
+pub pass_end : (a : Around) (is : List Instr) (k p : ℕ) (lists : List Node) (here : Option ℕ) (notes : List ℕ) (r : Bool) → length is ≤ k → r ≡ is_none here → NotesFit lists notes → PassLeaves (pass a (drop k is) p (maybe lists here) (notes_of lists notes)) lists notes r
 unfolding pass
 pass_end a is k p lists None notes r le e fit = rw (e, drop_of_length-le is le) (refl, fit)
 pass_end a is k p lists (Some id) notes r le e fit = rw (e, drop_of_length-le is le) refl

@@ -1,11 +1,12 @@
 -- The verdict from its three tests.
-use Rattle.std.proofs.Common.{◌≡◌, ℕ, zero, suc, List, [], ◌∷◌, length, Option, Some, None, refl, sym, ap, ◌∙◌, arith, Bool, true, false, Result, Ok, Err}
-use Rattle.std.specs.Prelude.{◌&&◌, is_some, slice_get, replicate, IfOk}
+use Rattle.std.proofs.Common.{◌≡◌, ℕ, zero, suc, List, [], ◌∷◌, length, Option, Some, None, refl, sym, ap, ◌∙◌, arith, Bool, true, false, ◌≤◌}
+use Rattle.std.specs.Prelude.{◌&&◌, is_some, slice_get, replicate, nat_le}
+use Rattle.std.proofs.lemmas.Bool.{leb-true}
+use Rattle.list_laws.proofs.Tests.{both}
 use Rattle.stack_code.specs.Machine.{CodeValue}
 use Rattle.stack_code.specs.Valid.{Notes, valid, first_fits, length_fits, no_notes, pass_all}
 use Rattle.stack_code.specs.declared.kind_lists.Node.{Node}
-use Rattle.stack_code.specs.KindLists.{notes_of, NotesFit, AllLeaves}
-use Rattle.feast_base.specs.declared.memory.NoMemory.{NoMemory}
+use Rattle.stack_code.specs.KindLists.{notes_of, NotesFit}
 
 pub no_length : (c : CodeValue) → length_fits (length c.instrs) ≡ false → valid c ≡ false
 unfolding valid
@@ -32,10 +33,10 @@ zeros (suc n) (suc p) e h = zeros n p e h
 pub blank_fits : (lists : List Node) (notes : List ℕ) (n : ℕ) → notes ≡ replicate n 0 → NotesFit lists notes
 blank_fits lists notes n h = λ p e k. let z = zeros n p e (ap (λ l. slice_get l p) (sym h) ∙ k) in omega (arith, z)
 
-pub verdict : (r : Result Bool NoMemory) (o : Option Notes) (v : Bool) → v ≡ is_some o → AllLeaves o r → IfOk r (λ b. b ≡ v)
-verdict (Ok b) o v e h = sym (e ∙ h)
-verdict (Err x) o v e h = tt
-
 -- the same with the lists and the notes of a pass that begins
-pub begun : (c : CodeValue) (lists : List Node) (notes : List ℕ) (r : Result Bool NoMemory) → length_fits (length c.instrs) ≡ true → first_fits c.functions ≡ true → lists ≡ [] → notes ≡ replicate (length c.instrs) 0 → AllLeaves (pass_all c c.functions 0 (notes_of lists notes)) r → IfOk r (λ b. b ≡ valid c)
-begun c lists notes r e f l n h = verdict r (pass_all c c.functions 0 (notes_of lists notes)) (valid c) (by_pass c notes e f n ∙ ap (λ z. is_some (pass_all c c.functions 0 (notes_of z notes))) (sym l)) h
+pub begun : (c : CodeValue) (lists : List Node) (notes : List ℕ) (r : Bool) → length_fits (length c.instrs) ≡ true → first_fits c.functions ≡ true → lists ≡ [] → notes ≡ replicate (length c.instrs) 0 → r ≡ is_some (pass_all c c.functions 0 (notes_of lists notes)) → r ≡ valid c
+begun c lists notes r e f l n h = h ∙ ap (λ z. is_some (pass_all c c.functions 0 (notes_of z notes))) l ∙ sym (by_pass c notes e f n)
+
+-- code of an allowed length has few instructions
+pub few_instrs : (n : ℕ) → length_fits n ≡ true → n ≤ 65536
+few_instrs n e = leb-true n 65536 (both (nat_le 1 n) (nat_le n 65536) e).1

@@ -1,11 +1,15 @@
 -- The code's lists of kinds: each is an earlier list with one kind on top, and places are noted by the numbers of their lists.
-use Rattle.std.specs.Prelude.{◌≡◌, ℕ, zero, suc, ◌+◌, ◌≤◌, nat_eq, Bool, true, false, Option, Some, None, Result, Ok, Err, List, [], ◌∷◌, length, map, slice_get, get_or, is_some, ◌⊎◌, if◌then◌else◌}
+use Rattle.std.specs.Prelude.{◌≡◌, ℕ, zero, suc, ◌+◌, ◌≤◌, nat_eq, Bool, true, false, Option, Some, None, List, [], ◌∷◌, length, map, slice_get, get_or, ◌⊎◌, if◌then◌else◌}
 use Rattle.stack_code.specs.Valid.{Kinds, Notes, Exits, Around, around, Passing, passing, pop}
 use Rattle.stack_code.specs.declared.instr.Operand.TheVariants.{Number}
 use Rattle.stack_code.specs.declared.exits.Exit.{Exit}
 use Rattle.stack_code.specs.declared.exits.Around.{Around as InCode}
 use Rattle.stack_code.specs.declared.kind_lists.Node.{Node}
-use Rattle.feast_base.specs.declared.memory.NoMemory.{NoMemory}
+
+-- all lists but the empty one, the newest first, and how many more there is room for
+pub record Lists : Type 0 where
+  pub nodes : List Node
+  pub room : ℕ
 
 -- the list of a number, from the nodes, the newest first: 0 is the empty list
 abbrev pub list_at : List Node → ℕ → Kinds
@@ -56,12 +60,11 @@ NotedFits lists (Some None) = Unit {0}
 NotedFits lists (Some (Some id)) = id ≤ length lists
 
 -- the code found this list, or that there is none, and may have added lists
-abbrev pub Leaves : List Node → List Node → Option Kinds → Result (Option ℕ) NoMemory → Type 0
-Leaves old new o (Err e) = Unit {0}
-Leaves old new o (Ok r) = (o ≡ maybe new r) × MaybeFits new r × Grows old new
+abbrev pub Leaves : List Node → List Node → Option Kinds → Option ℕ → Type 0
+Leaves old new o r = (o ≡ maybe new r) × MaybeFits new r × Grows old new
 
 -- the same of what `change` makes of the list of a number
-abbrev pub Changes : (Kinds → Option Kinds) → List Node → List Node → ℕ → Result (Option ℕ) NoMemory → Type 0
+abbrev pub Changes : (Kinds → Option Kinds) → List Node → List Node → ℕ → Option ℕ → Type 0
 Changes change old new id r = Leaves old new (change (list_at old id)) r
 
 -- a function in its code, as the pass sees it
@@ -89,17 +92,16 @@ ExitFits lists None = Unit {0}
 ExitFits lists (Some e) = MaybeFits lists e.falls × JumpFits lists e.jumps
 
 -- the code found this exit, or that there is none, and may have added lists
-abbrev pub ExitLeaves : List Node → List Node → Option Exits → Result (Option Exit) NoMemory → Type 0
-ExitLeaves old new o (Err e) = Unit {0}
-ExitLeaves old new o (Ok r) = (o ≡ maybe_exit new r) × ExitFits new r × Grows old new
+abbrev pub ExitLeaves : List Node → List Node → Option Exits → Option Exit → Type 0
+ExitLeaves old new o r = (o ≡ maybe_exit new r) × ExitFits new r × Grows old new
 
 -- the same of the exit to which an instruction leads from the list of a number
-abbrev pub FindsExit : (Kinds → Option Exits) → List Node → List Node → ℕ → Result (Option Exit) NoMemory → Type 0
+abbrev pub FindsExit : (Kinds → Option Exits) → List Node → List Node → ℕ → Option Exit → Type 0
 FindsExit leads old new id r = ExitLeaves old new (leads (list_at old id)) r
 
 -- the code found this exit, or that there is none, and added no lists
 abbrev pub IsExit : List Node → Option Exits → Option Exit → Type 0
-IsExit lists o r = ExitLeaves lists lists o (Ok r)
+IsExit lists o r = ExitLeaves lists lists o r
 
 -- how the pass comes to the next place, if the code says what falls through to it
 abbrev pub passing_of : List Node → List ℕ → Option (Option ℕ) → Option Passing
@@ -110,16 +112,14 @@ abbrev pub FallsFit : List Node → Option (Option ℕ) → Type 0
 FallsFit lists None = Unit {0}
 FallsFit lists (Some falls) = MaybeFits lists falls
 
--- the code did a place: the pass comes to the next one so, or ends here
-abbrev pub PlaceLeaves : Option Passing → List Node → List ℕ → Result (Option (Option ℕ)) NoMemory → Type 0
-PlaceLeaves o lists notes (Err e) = Unit {0}
-PlaceLeaves o lists notes (Ok r) = (o ≡ passing_of lists notes r) × FallsFit lists r × NotesFit lists notes
+-- The code has passed one place, and says how the pass comes to the next one, or that it ends there because the code is not valid.
+abbrev pub PlaceLeaves : Option Passing → List Node → List ℕ → Option (Option ℕ) → Type 0
+PlaceLeaves o lists notes r = (o ≡ passing_of lists notes r) × FallsFit lists r × NotesFit lists notes
 
--- the code did the places of a function: these are its notes, if the function is valid
-abbrev pub PassLeaves : Option Notes → List Node → List ℕ → Result Bool NoMemory → Type 0
-PassLeaves o lists notes (Err e) = Unit {0}
-PassLeaves o lists notes (Ok true) = (o ≡ Some (notes_of lists notes)) × NotesFit lists notes
-PassLeaves o lists notes (Ok false) = o ≡ None
+-- The code has passed all places of a function, and these are the notes; or the function is not valid.
+abbrev pub PassLeaves : Option Notes → List Node → List ℕ → Bool → Type 0
+PassLeaves o lists notes true = (o ≡ Some (notes_of lists notes)) × NotesFit lists notes
+PassLeaves o lists notes false = o ≡ None
 
 abbrev pub and_takes : (Kinds → Option Kinds) → Option Kinds → Option Kinds
 and_takes go None = None
@@ -131,12 +131,6 @@ takes zero slots ks = Some ks
 takes (suc n) slots ks = and_takes (takes n slots) (pop (get_or slots n Number) ks)
 
 -- the same, where the code may also say no because the function ends after the code
-abbrev pub FunctionLeaves : Option Notes → Type 0 → List Node → List ℕ → Result Bool NoMemory → Type 0
-FunctionLeaves o IsTooLong lists notes (Err e) = Unit {0}
-FunctionLeaves o IsTooLong lists notes (Ok true) = (o ≡ Some (notes_of lists notes)) × NotesFit lists notes
-FunctionLeaves o IsTooLong lists notes (Ok false) = (o ≡ None) ⊎ IsTooLong
-
--- the code did all functions
-abbrev pub AllLeaves : Option Notes → Result Bool NoMemory → Type 0
-AllLeaves o (Err e) = Unit {0}
-AllLeaves o (Ok b) = is_some o ≡ b
+abbrev pub FunctionLeaves : Option Notes → Type 0 → List Node → List ℕ → Bool → Type 0
+FunctionLeaves o IsTooLong lists notes true = (o ≡ Some (notes_of lists notes)) × NotesFit lists notes
+FunctionLeaves o IsTooLong lists notes false = (o ≡ None) ⊎ IsTooLong

@@ -215,7 +215,7 @@ callee_held g h = record h { stack = []; slots = fresh (reverse (take g.params h
 abbrev pub caller_frame : FunctionValue → ℕ → Held → Frame
 caller_frame g place h = record { place = place; stack = drop g.params h.stack; slots = h.slots }
 
--- the beginning of a function that is called, with so many turns left
+-- the state in which a called function begins, with t turns left
 abbrev pub into : State → FunctionValue → ℕ → State
 into s g t = record { place = g.first; held = callee_held g s.held; below = caller_frame g (s.place + 1) s.held ∷ s.below; turns = t }
 

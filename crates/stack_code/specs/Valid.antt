@@ -130,7 +130,7 @@ after slots Leave ks = None
 
 -- Arguments of instructions
 
--- there is at least one field, and all n of them from bit f on lie in an atom's state
+-- n fields of an allowed type, at least one, lie one after another in an atom's state, from bit f on
 abbrev pub field_fits : ℕ → NumType → ℕ → Bool
 field_fits f t n = type_fits t && nat_le 1 n && nat_le (f + n * t.width) 71
 

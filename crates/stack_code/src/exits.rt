@@ -1,6 +1,6 @@
 //! Which places the instructions of a function lead to, and with which operands.
 
-ghost use Rattle.std.specs.Prelude.{◌≡◌, ◌≤◌, List, length, Option, Some};
+ghost use Rattle.std.specs.Prelude.{◌≡◌, ◌≤◌, ◌+◌, List, length, Option, Some};
 ghost use Rattle.stack_code.specs.Shapes.{sort_of};
 ghost use Rattle.stack_code.specs.Sorts.{Goto, GotoFalse};
 ghost use Rattle.stack_code.specs.Valid.{exits, exits_of, back_of, forward_fits, back_fits, jump_fits, is_turn, instr_before, answer_found, is_nothing, end_exit, after_call, map_answer, falls_exit, Kinds};
@@ -13,7 +13,6 @@ use crate::fits::args_fit;
 use crate::instr::{Answer, Instr, Operand};
 use crate::kind_lists::KindLists;
 use crate::shapes::Shape;
-use feast_base::NoMemory;
 
 /// The most operands that there may be at a place.
 const MOST_OPERANDS: u32 = 512;
@@ -107,8 +106,8 @@ impl Around<'_> {
     /// Where a jump leads, if it is allowed.
     #[tactic(auto, using(crate::proofs::KindNotes::grows_same))]
     fn jump(&self, lists: &KindLists, p: usize, q: u32, id: u32) -> Option<Exit>
-        requires { id ≤ length lists.now }
-        ensures { IsExit lists.now (exits (around_of self.now) p (Goto q) (list_at lists.now id)) result }
+        requires { id ≤ length lists.now.nodes }
+        ensures { IsExit lists.now.nodes (exits (around_of self.now) p (Goto q) (list_at lists.now.nodes id)) result }
     {
         if self.jump_fits(p, q) {
             Some(Exit {
@@ -123,8 +122,8 @@ impl Around<'_> {
     /// Where a jump on 0 leads, if it is allowed and a number is on top.
     #[tactic(auto, using(crate::proofs::KindNotes::grows_same))]
     fn fork(&self, lists: &KindLists, p: usize, q: u32, id: u32) -> Option<Exit>
-        requires { id ≤ length lists.now }
-        ensures { IsExit lists.now (exits (around_of self.now) p (GotoFalse q) (list_at lists.now id)) result }
+        requires { id ≤ length lists.now.nodes }
+        ensures { IsExit lists.now.nodes (exits (around_of self.now) p (GotoFalse q) (list_at lists.now.nodes id)) result }
     {
         match lists.pop(Operand::Number, id) {
             None => None,
@@ -143,62 +142,54 @@ impl Around<'_> {
 
     /// Where an instruction of this shape leads from a list.
     #[tactic(auto, using(crate::proofs::KindNotes::grows_same))]
-    fn lead(
-        &self,
-        lists: &mut KindLists,
-        shape: Shape,
-        p: usize,
-        id: u32,
-    ) -> Result<Option<Exit>, NoMemory>
-        requires { id ≤ length lists.old }
-        ensures { FindsExit (exits (around_of self.now) p (sort_of shape)) lists.old lists.new id result }
+    fn lead(&self, lists: &mut KindLists, shape: Shape, p: usize, id: u32) -> Option<Exit>
+        requires id { id ≤ length lists.old.nodes }
+        requires room { 2 ≤ lists.old.room }
+        ensures exit { FindsExit (exits (around_of self.now) p (sort_of shape)) lists.old.nodes lists.new.nodes id result }
+        ensures room { lists.old.room ≤ lists.new.room + 2 }
     {
         match shape {
-            Shape::Goto(q) => Ok(self.jump(lists, p, q, id)),
-            Shape::GotoFalse(q) => Ok(self.fork(lists, p, q, id)),
-            Shape::Take => Ok(Some(Exit {
+            Shape::Goto(q) => self.jump(lists, p, q, id),
+            Shape::GotoFalse(q) => self.fork(lists, p, q, id),
+            Shape::Take => Some(Exit {
                 falls: Some(id),
                 jumps: None,
-            })),
+            }),
             Shape::GiveBack => {
                 let allowed = answers(lists, self.function.answer(), id);
-                Ok(end_if(lists, allowed))
+                end_if(lists, allowed)
             }
             Shape::Leave => {
                 let allowed = gives_nothing(self.function.answer());
-                Ok(end_if(lists, allowed))
+                end_if(lists, allowed)
             }
             Shape::Enter(f) => match self.code.functions().get(f as usize) {
-                None => Ok(None),
+                None => None,
                 Some(callee) => falls(call(lists, callee, id)),
             },
-            other => match after(lists, self.function.slots(), other, id)? {
-                None => Ok(None),
-                Some(falls) => Ok(Some(Exit {
+            other => match after(lists, self.function.slots(), other, id) {
+                None => None,
+                Some(falls) => Some(Exit {
                     falls: Some(falls),
                     jumps: None,
-                })),
+                }),
             },
         }
     }
 
     /// Where an instruction leads from a list, or None if it is not allowed there.
     #[tactic(auto, using(crate::proofs::KindNotes::grows_same))]
-    pub fn exits(
-        &self,
-        lists: &mut KindLists,
-        i: Instr,
-        p: usize,
-        id: u32,
-    ) -> Result<Option<Exit>, NoMemory>
-        requires { id ≤ length lists.old }
-        ensures { FindsExit (exits_of (around_of self.now) i p) lists.old lists.new id result }
+    pub fn exits(&self, lists: &mut KindLists, i: Instr, p: usize, id: u32) -> Option<Exit>
+        requires id { id ≤ length lists.old.nodes }
+        requires room { 2 ≤ lists.old.room }
+        ensures exit { FindsExit (exits_of (around_of self.now) i p) lists.old.nodes lists.new.nodes id result }
+        ensures room { lists.old.room ≤ lists.new.room + 2 }
     {
         if !args_fit(i) {
-            return Ok(None);
+            return None;
         }
         if lists.depth(id) > MOST_OPERANDS {
-            return Ok(None);
+            return None;
         }
         self.lead(lists, i.shape(), p, id)
     }
@@ -207,7 +198,7 @@ impl Around<'_> {
 /// The end of a function, if it is allowed.
 #[tactic(auto, using(crate::proofs::KindNotes::grows_same))]
 fn end_if(lists: &KindLists, allowed: bool) -> Option<Exit>
-    ensures { IsExit lists.now (end_exit allowed) result }
+    ensures { IsExit lists.now.nodes (end_exit allowed) result }
 {
     if allowed {
         Some(Exit {
@@ -231,8 +222,8 @@ pub fn gives_nothing(answer: Answer) -> bool
 
 /// Whether the top of a list is what a function returns.
 fn answers(lists: &KindLists, answer: Answer, id: u32) -> bool
-    requires { id ≤ length lists.now }
-    ensures { result ≡ answer_found answer (list_at lists.now id) }
+    requires { id ≤ length lists.now.nodes }
+    ensures { result ≡ answer_found answer (list_at lists.now.nodes id) }
 {
     match lists.top(id) {
         None => false,
@@ -252,10 +243,10 @@ fn answers(lists: &KindLists, answer: Answer, id: u32) -> bool
 
 /// The list below the arguments of a call. The last argument is on top.
 fn takes(lists: &KindLists, slots: &[Operand], params: u32, id: u32) -> Option<u32>
-    requires list { id ≤ length lists.now }
+    requires list { id ≤ length lists.now.nodes }
     requires params { params ≤ length slots.now }
-    ensures list { maybe lists.now result ≡ takes params slots.now (list_at lists.now id) }
-    ensures fits { MaybeFits lists.now result }
+    ensures list { maybe lists.now.nodes result ≡ takes params slots.now (list_at lists.now.nodes id) }
+    ensures fits { MaybeFits lists.now.nodes result }
 {
     let mut id = id;
     for k in (0..params).rev() {
@@ -268,12 +259,14 @@ fn takes(lists: &KindLists, slots: &[Operand], params: u32, id: u32) -> Option<u
 }
 
 /// The list after a call.
-fn call(lists: &mut KindLists, callee: &RawFunction, id: u32) -> Result<Option<u32>, NoMemory>
-    requires { id ≤ length lists.old }
-    ensures { Changes (after_call (Some callee.now)) lists.old lists.new id result }
+fn call(lists: &mut KindLists, callee: &RawFunction, id: u32) -> Option<u32>
+    requires id { id ≤ length lists.old.nodes }
+    requires room { 1 ≤ lists.old.room }
+    ensures list { Changes (after_call (Some callee.now)) lists.old.nodes lists.new.nodes id result }
+    ensures room { lists.old.room ≤ lists.new.room + 1 }
 {
     if callee.params() as usize > callee.slots().len() {
-        return Ok(None);
+        return None;
     }
     let below = takes(lists, callee.slots(), callee.params(), id);
     answered(lists, callee.answer(), below)
@@ -281,18 +274,16 @@ fn call(lists: &mut KindLists, callee: &RawFunction, id: u32) -> Result<Option<u
 
 /// A list, if there is one, with what a function returns on top.
 #[tactic(auto, using(crate::proofs::KindNotes::grows_same))]
-fn answered(
-    lists: &mut KindLists,
-    answer: Answer,
-    below: Option<u32>,
-) -> Result<Option<u32>, NoMemory>
-    requires { MaybeFits lists.old below }
-    ensures { Leaves lists.old lists.new (map_answer answer (maybe lists.old below)) result }
+fn answered(lists: &mut KindLists, answer: Answer, below: Option<u32>) -> Option<u32>
+    requires id { MaybeFits lists.old.nodes below }
+    requires room { 1 ≤ lists.old.room }
+    ensures list { Leaves lists.old.nodes lists.new.nodes (map_answer answer (maybe lists.old.nodes below)) result }
+    ensures room { lists.old.room ≤ lists.new.room + 1 }
 {
     match below {
-        None => Ok(None),
+        None => None,
         Some(id) => match answer {
-            Answer::Nothing => Ok(Some(id)),
+            Answer::Nothing => Some(id),
             Answer::Number => lists.give(Some(id), Operand::Number),
             Answer::Atom => lists.give(Some(id), Operand::Atom),
         },
@@ -300,14 +291,14 @@ fn answered(
 }
 
 /// The exit by which a list, if there is one, falls through.
-fn falls(list: Result<Option<u32>, NoMemory>) -> Result<Option<Exit>, NoMemory>
+fn falls(list: Option<u32>) -> Option<Exit>
     ensures { (old new : List Node) (o : Option Kinds) → Leaves old new o list → ExitLeaves old new (falls_exit o) result }
 {
-    match list? {
-        None => Ok(None),
-        Some(falls) => Ok(Some(Exit {
+    match list {
+        None => None,
+        Some(falls) => Some(Exit {
             falls: Some(falls),
             jumps: None,
-        })),
+        }),
     }
 }

@@ -1,6 +1,6 @@
 //! Lists of operand kinds that share their lower parts, and the notes at places.
 
-ghost use Rattle.std.specs.Prelude.{◌≡◌, ◌<◌, ◌≤◌, ◌+◌, [], ◌∷◌, length, IfOk, IfSome, MatchOption, reverse, slice_set, slice_get, vec_len, Some, None, if◌then◌else◌};
+ghost use Rattle.std.specs.Prelude.{◌≡◌, ◌<◌, ◌≤◌, ◌+◌, ◌*◌, [], ◌∷◌, length, IfOk, IfSome, MatchOption, reverse, slice_set, slice_get, vec_len, Some, None, if◌then◌else◌};
 ghost use Rattle.stack_code.specs.Valid.{same_kinds, same_kind, pop, and_pop, push, number_for_one, number_for_two, note, arrive};
 ghost use Rattle.stack_code.specs.KindLists.{list_at, IsTree, Grows, Leaves, Changes, noted, notes_of, NotesFit, maybe, MaybeFits, maybe_noted, NotedFits};
 
@@ -9,8 +9,8 @@ use feast_base::NoMemory;
 use std::alloc::Global;
 use std::marker::Model;
 
-/// The most lists that there may be, so that their numbers fit in 32 bits.
-const MOST_LISTS: usize = 4_000_000_000;
+/// How many lists an instruction adds at most.
+const LISTS_OF_ONE: usize = 2;
 
 /// A list: an earlier list with one kind on top.
 #[derive(Clone, Copy, Debug, PartialEq, Eq)]
@@ -30,31 +30,32 @@ pub struct KindLists {
 }
 
 impl Model for KindLists {
-    ghost use Rattle.std.specs.Prelude.{List, reverse, ◌≤◌, vec_len};
-    ghost use Rattle.stack_code.specs.declared.kind_lists.Node.{Node};
-    ghost use Rattle.stack_code.specs.KindLists.{IsTree};
+    ghost use Rattle.std.specs.Prelude.{reverse, ◌-◌, ◌≤◌, vec_len, vec_capacity};
+    ghost use Rattle.stack_code.specs.KindLists.{Lists, IsTree};
 
-    ghost Value = { List Node };
+    ghost Value = { Lists };
 
-    ghost view = { λ l. reverse l.nodes.items };
+    ghost view = { λ l. record { nodes = reverse l.nodes.items; room = vec_capacity l.nodes - vec_len l.nodes } };
 
-    ghost invariant = { λ l. IsTree (reverse l.nodes.items) × (vec_len l.nodes ≤ 4000000000) };
+    ghost invariant = { λ l. IsTree (reverse l.nodes.items) × (vec_len l.nodes ≤ vec_capacity l.nodes) × (vec_capacity l.nodes ≤ 131072) };
 }
 
 impl KindLists {
-    /// Only the empty list.
-    pub fn new(alloc: Global) -> KindLists
-        ensures { result ≡ [] }
+    /// Only the empty list, with room for two more for each of so many instructions. `NoMemory` if
+    /// there is no memory for them.
+    pub fn new(alloc: Global, instrs: usize) -> Result<KindLists, NoMemory>
+        requires { instrs ≤ 65536 }
+        ensures empty { IfOk result (λ l. l.nodes ≡ []) }
+        ensures room { IfOk result (λ l. l.room ≡ 2 * instrs) }
     {
-        KindLists {
-            nodes: Vec::new(alloc),
-        }
+        let nodes = Vec::with_capacity(alloc, LISTS_OF_ONE * instrs)?;
+        Ok(KindLists { nodes })
     }
 
     /// The number of lists, not counting the empty one.
     pub fn len(&self) -> usize
-        ensures value { result ≡ length self.now }
-        ensures most { result ≤ 4000000000 }
+        ensures value { result ≡ length self.now.nodes }
+        ensures most { result ≤ 131072 }
     {
         self.nodes.len()
     }
@@ -63,10 +64,10 @@ impl KindLists {
     #[tactic(auto, using(crate::proofs::KindLists::node_is))]
     fn node(&self, id: u32) -> Node
         requires some { 1 ≤ id }
-        requires fits { id ≤ length self.now }
-        ensures list { list_at self.now id ≡ result.top ∷ list_at self.now result.below }
+        requires fits { id ≤ length self.now.nodes }
+        ensures list { list_at self.now.nodes id ≡ result.top ∷ list_at self.now.nodes result.below }
         ensures below { result.below < id }
-        ensures depth { result.depth ≡ length (list_at self.now id) }
+        ensures depth { result.depth ≡ length (list_at self.now.nodes id) }
     {
         self.nodes[(id - 1) as usize]
     }
@@ -74,8 +75,8 @@ impl KindLists {
     /// The length of a list.
     #[tactic(auto, using(crate::proofs::KindLists::list_zero))]
     pub fn depth(&self, id: u32) -> u32
-        requires { id ≤ length self.now }
-        ensures { result ≡ length (list_at self.now id) }
+        requires { id ≤ length self.now.nodes }
+        ensures { result ≡ length (list_at self.now.nodes id) }
     {
         if id == 0 { 0 } else { self.node(id).depth }
     }
@@ -83,8 +84,8 @@ impl KindLists {
     /// The kind on top, and the list below it. None for the empty list.
     #[tactic(auto, using(crate::proofs::KindLists::list_zero))]
     pub fn top(&self, id: u32) -> Option<(Operand, u32)>
-        requires { id ≤ length self.now }
-        ensures list { MatchOption result (list_at self.now id ≡ []) (λ r. list_at self.now id ≡ r.0 ∷ list_at self.now r.1) }
+        requires { id ≤ length self.now.nodes }
+        ensures list { MatchOption result (list_at self.now.nodes id ≡ []) (λ r. list_at self.now.nodes id ≡ r.0 ∷ list_at self.now.nodes r.1) }
         ensures below { IfSome result (λ r. r.1 < id) }
     {
         if id == 0 {
@@ -94,33 +95,30 @@ impl KindLists {
         Some((node.top, node.below))
     }
 
-    /// The list with a kind on top. `NoMemory` if there is no room for it.
-    pub fn push(&mut self, id: u32, top: Operand) -> Result<u32, NoMemory>
-        requires { id ≤ length self.old }
-        ensures list { IfOk result (λ r. list_at self.new r ≡ top ∷ list_at self.old id) }
-        ensures fits { IfOk result (λ r. r ≤ length self.new) }
-        ensures grows { IfOk result (λ r. Grows self.old self.new) }
+    /// The list with a kind on top.
+    pub fn push(&mut self, id: u32, top: Operand) -> u32
+        requires id { id ≤ length self.old.nodes }
+        requires room { 1 ≤ self.old.room }
+        ensures list { list_at self.new.nodes result ≡ top ∷ list_at self.old.nodes id }
+        ensures fits { result ≤ length self.new.nodes }
+        ensures grows { Grows self.old.nodes self.new.nodes }
+        ensures room { self.old.room ≡ self.new.room + 1 }
     {
-        let depth = self.depth(id);
-        if self.nodes.len() >= MOST_LISTS || depth >= 4_000_000_000 {
-            return Err(NoMemory);
-        }
-        match self.nodes.push(Node {
+        let depth = self.depth(id) + 1;
+        self.nodes.push_reserved(Node {
             below: id,
             top,
-            depth: depth + 1,
-        }) {
-            Ok(()) => Ok(self.nodes.len() as u32),
-            Err(_) => Err(NoMemory),
-        }
+            depth,
+        });
+        self.nodes.len() as u32
     }
 
     /// Whether two lists are the same.
     #[tactic(auto, using(crate::proofs::KindLists::same_self))]
     pub fn same(&self, a: u32, b: u32) -> bool
-        requires left { a ≤ length self.now }
-        requires right { b ≤ length self.now }
-        ensures { result ≡ same_kinds (list_at self.now a) (list_at self.now b) }
+        requires left { a ≤ length self.now.nodes }
+        requires right { b ≤ length self.now.nodes }
+        ensures { result ≡ same_kinds (list_at self.now.nodes a) (list_at self.now.nodes b) }
     {
         let mut a = a;
         let mut b = b;
@@ -144,9 +142,9 @@ impl KindLists {
 
     /// The list below, if this kind is on top.
     pub fn pop(&self, top: Operand, id: u32) -> Option<u32>
-        requires { id ≤ length self.now }
-        ensures list { maybe self.now result ≡ pop top (list_at self.now id) }
-        ensures fits { MaybeFits self.now result }
+        requires { id ≤ length self.now.nodes }
+        ensures list { maybe self.now.nodes result ≡ pop top (list_at self.now.nodes id) }
+        ensures fits { MaybeFits self.now.nodes result }
     {
         match self.top(id) {
             None => None,
@@ -162,9 +160,9 @@ impl KindLists {
 
     /// The list below two kinds, if the first is on top and the second below it.
     pub fn pop_two(&self, top: Operand, next: Operand, id: u32) -> Option<u32>
-        requires { id ≤ length self.now }
-        ensures list { maybe self.now result ≡ and_pop next (pop top (list_at self.now id)) }
-        ensures fits { MaybeFits self.now result }
+        requires { id ≤ length self.now.nodes }
+        ensures list { maybe self.now.nodes result ≡ and_pop next (pop top (list_at self.now.nodes id)) }
+        ensures fits { MaybeFits self.now.nodes result }
     {
         match self.pop(top, id) {
             None => None,
@@ -172,36 +170,37 @@ impl KindLists {
         }
     }
 
-    /// The list with a kind on top, if there is a list. `NoMemory` if there is no room for it.
+    /// The list with a kind on top, if there is a list.
     #[tactic(auto, using(crate::proofs::KindNotes::grows_same))]
-    pub fn give(&mut self, id: Option<u32>, top: Operand) -> Result<Option<u32>, NoMemory>
-        requires { MaybeFits self.old id }
-        ensures { Leaves self.old self.new (push top (maybe self.old id)) result }
+    pub fn give(&mut self, id: Option<u32>, top: Operand) -> Option<u32>
+        requires id { MaybeFits self.old.nodes id }
+        requires room { 1 ≤ self.old.room }
+        ensures list { Leaves self.old.nodes self.new.nodes (push top (maybe self.old.nodes id)) result }
+        ensures room { self.old.room ≤ self.new.room + 1 }
     {
         match id {
-            None => Ok(None),
-            Some(id) => match self.push(id, top) {
-                Ok(r) => Ok(Some(r)),
-                Err(e) => Err(e),
-            },
+            None => None,
+            Some(id) => Some(self.push(id, top)),
         }
     }
 
-    /// The list after a number replaces the number on top, or None if there is none. `NoMemory` if
-    /// there is no room for the list.
-    pub fn replace_one(&mut self, id: u32) -> Result<Option<u32>, NoMemory>
-        requires { id ≤ length self.old }
-        ensures { Changes number_for_one self.old self.new id result }
+    /// The list after a number replaces the number on top, or None if there is none.
+    pub fn replace_one(&mut self, id: u32) -> Option<u32>
+        requires id { id ≤ length self.old.nodes }
+        requires room { 1 ≤ self.old.room }
+        ensures list { Changes number_for_one self.old.nodes self.new.nodes id result }
+        ensures room { self.old.room ≤ self.new.room + 1 }
     {
         let below = self.pop(Operand::Number, id);
         self.give(below, Operand::Number)
     }
 
     /// The list after a number replaces the two numbers on top, or None if they are not there.
-    /// `NoMemory` if there is no room for the list.
-    pub fn replace_two(&mut self, id: u32) -> Result<Option<u32>, NoMemory>
-        requires { id ≤ length self.old }
-        ensures { Changes number_for_two self.old self.new id result }
+    pub fn replace_two(&mut self, id: u32) -> Option<u32>
+        requires id { id ≤ length self.old.nodes }
+        requires room { 1 ≤ self.old.room }
+        ensures list { Changes number_for_two self.old.nodes self.new.nodes id result }
+        ensures room { self.old.room ≤ self.new.room + 1 }
     {
         let below = self.pop_two(Operand::Number, Operand::Number, id);
         self.give(below, Operand::Number)
@@ -211,9 +210,9 @@ impl KindLists {
     /// of a list.
     #[tactic(auto, using(crate::proofs::KindNotes::noted_past, crate::proofs::KindNotes::noted_none, crate::proofs::KindNotes::noted_old, crate::proofs::KindNotes::noted_below))]
     fn noted(&self, notes: &[u32], p: usize) -> Option<Option<u32>>
-        requires { NotesFit self.now notes.now }
-        ensures noted { slice_get (notes_of self.now notes.now) p ≡ maybe_noted self.now result }
-        ensures fits { NotedFits self.now result }
+        requires { NotesFit self.now.nodes notes.now }
+        ensures noted { slice_get (notes_of self.now.nodes notes.now) p ≡ maybe_noted self.now.nodes result }
+        ensures fits { NotedFits self.now.nodes result }
     {
         if p >= notes.len() {
             return None;
@@ -229,10 +228,10 @@ impl KindLists {
     /// The list at a place, if what falls through to it and what is noted there agree.
     #[tactic(auto, using(crate::proofs::KindLists::list_zero))]
     pub fn arrive(&self, notes: &[u32], here: Option<u32>, p: usize) -> Option<u32>
-        requires notes { NotesFit self.now notes.now }
-        requires here { MaybeFits self.now here }
-        ensures list { maybe self.now result ≡ arrive (maybe self.now here) (notes_of self.now notes.now) p }
-        ensures fits { MaybeFits self.now result }
+        requires notes { NotesFit self.now.nodes notes.now }
+        requires here { MaybeFits self.now.nodes here }
+        ensures list { maybe self.now.nodes result ≡ arrive (maybe self.now.nodes here) (notes_of self.now.nodes notes.now) p }
+        ensures fits { MaybeFits self.now.nodes result }
     {
         match self.noted(notes, p) {
             None => None,
@@ -251,11 +250,11 @@ impl KindLists {
     /// there.
     #[tactic(auto, using(crate::proofs::KindNotes::notes_set, crate::proofs::KindNotes::fits_set))]
     pub fn note(&self, notes: &mut Vec<u32>, p: usize, id: u32) -> bool
-        requires notes { NotesFit self.now notes.old.items }
-        requires id { id ≤ length self.now }
+        requires notes { NotesFit self.now.nodes notes.old.items }
+        requires id { id ≤ length self.now.nodes }
         requires small { id < 4294967295 }
-        ensures noted { note (notes_of self.now notes.old.items) p (list_at self.now id) ≡ (if result then Some (notes_of self.now notes.new.items) else None) }
-        ensures fits { NotesFit self.now notes.new.items }
+        ensures noted { note (notes_of self.now.nodes notes.old.items) p (list_at self.now.nodes id) ≡ (if result then Some (notes_of self.now.nodes notes.new.items) else None) }
+        ensures fits { NotesFit self.now.nodes notes.new.items }
         ensures len { vec_len notes.new ≡ vec_len notes.old }
     {
         match self.noted(notes.as_slice(), p) {

@@ -1,14 +1,13 @@
 //! The pass over the places of a function, and over all functions.
 
-ghost use Rattle.std.specs.Prelude.{◌≡◌, ◌<◌, ◌+◌, ◌^◌, length, drop, Some, []};
+ghost use Rattle.std.specs.Prelude.{◌≡◌, ◌<◌, ◌≤◌, ◌+◌, ◌-◌, ◌*◌, ◌^◌, length, drop, is_some, IsTrue, Some, []};
 ghost use Rattle.stack_code.specs.Valid.{end_with, exits_of, function_fits, pass, pass_all, pass_function, pass_place};
-ghost use Rattle.stack_code.specs.KindLists.{notes_of, NotesFit, maybe, MaybeFits, around_of, PlaceLeaves, PassLeaves, FunctionLeaves, AllLeaves};
+ghost use Rattle.stack_code.specs.KindLists.{notes_of, NotesFit, maybe, MaybeFits, around_of, PlaceLeaves, PassLeaves, FunctionLeaves};
 
 use crate::code::{RawCode, RawFunction};
 use crate::exits::Around;
 use crate::instr::Instr;
 use crate::kind_lists::{KindLists, put_note};
-use feast_base::NoMemory;
 
 /// The most slots of a function.
 const MOST_SLOTS: usize = 72;
@@ -22,28 +21,30 @@ impl Around<'_> {
         i: Instr,
         p: usize,
         here: Option<u32>,
-    ) -> Result<Option<Option<u32>>, NoMemory>
-        requires notes { NotesFit lists.old notes.old.items }
-        requires here { MaybeFits lists.old here }
-        ensures { PlaceLeaves (pass_place (exits_of (around_of self.now) i p) p (maybe lists.old here) (notes_of lists.old notes.old.items)) lists.new notes.new.items result }
+    ) -> Option<Option<u32>>
+        requires notes { NotesFit lists.old.nodes notes.old.items }
+        requires here { MaybeFits lists.old.nodes here }
+        requires room { 2 ≤ lists.old.room }
+        ensures place { PlaceLeaves (pass_place (exits_of (around_of self.now) i p) p (maybe lists.old.nodes here) (notes_of lists.old.nodes notes.old.items)) lists.new.nodes notes.new.items result }
+        ensures room { lists.old.room ≤ lists.new.room + 2 }
     {
         // `len` says that a list's number and 1 fit in 32 bits.
         let _few = lists.len();
         match lists.arrive(notes.as_slice(), here, p) {
-            None => Ok(None),
+            None => None,
             Some(id) => {
                 put_note(notes, p, id + 1);
-                match self.exits(lists, i, p, id)? {
-                    None => Ok(None),
+                match self.exits(lists, i, p, id) {
+                    None => None,
                     Some(exit) => match exit.jumps {
-                        None => Ok(Some(exit.falls)),
+                        None => Some(exit.falls),
                         Some((q, ks)) => {
                             // Lists may have been added, so `len` says it again.
                             let _still = lists.len();
                             if lists.note(notes, q as usize, ks) {
-                                Ok(Some(exit.falls))
+                                Some(exit.falls)
                             } else {
-                                Ok(None)
+                                None
                             }
                         }
                     },
@@ -59,21 +60,23 @@ impl Around<'_> {
         notes: &mut Vec<u32>,
         instrs: &[Instr],
         first: usize,
-    ) -> Result<bool, NoMemory>
-        requires notes { NotesFit lists.old notes.old.items }
+    ) -> bool
+        requires notes { NotesFit lists.old.nodes notes.old.items }
         requires small { first + length instrs.now < 2 ^ 64 }
-        ensures { PassLeaves (pass (around_of self.now) instrs.now first (Some []) (notes_of lists.old notes.old.items)) lists.new notes.new.items result }
+        requires room { 2 * length instrs.now ≤ lists.old.room }
+        ensures pass { PassLeaves (pass (around_of self.now) instrs.now first (Some []) (notes_of lists.old.nodes notes.old.items)) lists.new.nodes notes.new.items result }
+        ensures room { lists.old.room ≤ lists.new.room + 2 * length instrs.now }
     {
         let mut here = Some(0u32);
         let mut p = first;
         for i in instrs {
-            match self.place(lists, notes, *i, p, here)? {
-                None => return Ok(false),
+            match self.place(lists, notes, *i, p, here) {
+                None => return false,
                 Some(falls) => here = falls,
             }
             p += 1;
         }
-        Ok(here.is_none())
+        here.is_none()
     }
 }
 
@@ -100,15 +103,17 @@ fn pass_function(
     notes: &mut Vec<u32>,
     p: usize,
     end: usize,
-) -> Result<bool, NoMemory>
-    requires notes { NotesFit lists.old notes.old.items }
-    ensures { FunctionLeaves (pass_function code.now function.now p end (notes_of lists.old notes.old.items)) (length code.now.instrs < end) lists.new notes.new.items result }
+) -> bool
+    requires notes { NotesFit lists.old.nodes notes.old.items }
+    requires room { 2 * (length code.now.instrs - p) ≤ lists.old.room }
+    ensures function { FunctionLeaves (pass_function code.now function.now p end (notes_of lists.old.nodes notes.old.items)) (length code.now.instrs < end) lists.new.nodes notes.new.items result }
+    ensures room { IsTrue result → 2 * (length code.now.instrs - end) ≤ lists.new.room }
 {
     if !function_fits(function, p, end) {
-        return Ok(false);
+        return false;
     }
     if end > code.instrs().len() {
-        return Ok(false);
+        return false;
     }
     let around = Around {
         code,
@@ -129,23 +134,20 @@ pub fn end_of(code: &RawCode, k: usize) -> usize
 }
 
 /// The pass over all functions.
-pub fn pass_all(
-    code: &RawCode,
-    lists: &mut KindLists,
-    notes: &mut Vec<u32>,
-) -> Result<bool, NoMemory>
-    requires { NotesFit lists.old notes.old.items }
-    ensures { AllLeaves (pass_all code.now code.now.functions 0 (notes_of lists.old notes.old.items)) result }
+pub fn pass_all(code: &RawCode, lists: &mut KindLists, notes: &mut Vec<u32>) -> bool
+    requires notes { NotesFit lists.old.nodes notes.old.items }
+    requires room { 2 * length code.now.instrs ≤ lists.old.room }
+    ensures { result ≡ is_some (pass_all code.now code.now.functions 0 (notes_of lists.old.nodes notes.old.items)) }
 {
     let functions = code.functions();
     let mut p = 0usize;
     for k in 0..functions.len() {
         let end = end_of(code, k + 1);
         let function = &functions[k];
-        if !pass_function(code, function, lists, notes, p, end)? {
-            return Ok(false);
+        if !pass_function(code, function, lists, notes, p, end) {
+            return false;
         }
         p = end;
     }
-    Ok(p == code.instrs().len())
+    p == code.instrs().len()
 }

@@ -57,13 +57,13 @@ fn is_valid(alloc: Global, raw: &RawCode) -> Result<bool, NoMemory>
     if !first_fits(raw) {
         return Ok(false);
     }
-    let mut lists = KindLists::new(alloc);
+    let mut lists = KindLists::new(alloc, raw.instrs().len())?;
     let mut notes = blank(alloc, raw.instrs().len())?;
-    pass_all(raw, &mut lists, &mut notes)
+    Ok(pass_all(raw, &mut lists, &mut notes))
 }
 
-/// The code if it is valid, otherwise None. `NoMemory` if there is no room for the notes of the
-/// pass: 4 bytes for each instruction, and 12 for each operand that one of them pushes.
+/// The code if it is valid, otherwise None. `NoMemory` if there is no memory for the notes of the
+/// pass: 28 bytes for each instruction.
 pub fn verify(alloc: Global, raw: RawCode) -> Result<Option<Code>, NoMemory>
     ensures { IfOk result (λ o. o ≡ (if valid raw then Some raw else None)) }
 {

@@ -64,7 +64,7 @@ module _ (e : Event) (z : Scene) where
   abbrev pub rounds : ℕ → ℕ → Option t.Expr → t.Statement → t.Part → Store → Outcome Way
   rounds depth n c x step s = loop n (if_any e z (calls_at e z.program depth) c) (exec e z (calls_at e z.program depth) x) (exec_part e z (calls_at e z.program depth) step) s
 
-  -- A loop that is allowed more rounds than there are turns does the same with any such number of rounds: turns end it.
+  -- A loop that may go round more often than there are turns left does the same however often it may: the turns end it.
   abbrev pub TurnsEndLoops : Type 0
   TurnsEndLoops = (depth : ℕ) (c : Option t.Expr) (x : t.Statement) (step : t.Part) (s : Store) (n : ℕ) → s.turns < n → rounds depth n c x step s ≡ rounds depth (suc s.turns) c x step s
 
@@ -103,6 +103,6 @@ module _ (g : Program) where
   abbrev pub StrangerStays : Type 0
   StrangerStays = (w : WindowValue) (seed : ℕ) → element_of g (atom_at w 0).kind ≡ None → after g w seed ≡ w
 
--- If none of these classes contains itself or is too wide, their layout is one of the same classes with their types.
+-- If no class of these contains itself and none is too wide, their layout is also a layout of the same classes once their types are known.
 abbrev pub HasLayout : List r.Class → Type 0
 HasLayout cs = (us : List t.Class) → NoneContainsItself cs → first_wide cs ≡ None → SameFields cs us → IsLaidOut (record { classes = us; layout = layout_of cs })

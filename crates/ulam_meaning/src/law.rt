@@ -29,8 +29,8 @@ pub fn laws()
     ensures stranger { (program : Program) → StrangerStays program }
 {}
 
-/// If none of some classes contains itself or is too wide, their layout is also one of the same
-/// classes with their types.
+/// If no class of these contains itself and none is too wide, their layout is also a layout of the
+/// same classes once their types are known.
 pub fn laid_out()
     ensures { (classes : List resolved.Class) → HasLayout classes }
 {}

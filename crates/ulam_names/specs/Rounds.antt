@@ -1,5 +1,5 @@
 -- Rows of marks, one mark for each class. A round goes over all classes and makes the next row from the last one.
-use Rattle.std.specs.Prelude.{ℕ, zero, suc, List, [], map, flat_map, get_or, slice_get, Bool, true, false, ◌||◌, nat_eq}
+use Rattle.std.specs.Prelude.{ℕ, zero, suc, List, [], length, map, flat_map, get_or, slice_get, Bool, true, false, ◌||◌, nat_eq}
 use Rattle.std.specs.List.{list_any}
 use Rattle.std.specs.Option.{option_map_or}
 use Rattle.ulam_tree.specs.declared.resolved.Ty.{Ty}
@@ -14,7 +14,7 @@ leads_by row goal k = nat_eq k goal || get_or row k false
 abbrev pub field_parts : List (Text × Ty) → List ℕ
 field_parts fields = flat_map (λ (p : Text × Ty). class_number p.1) fields
 
--- the class that the data member of a number has as its type, if it is one
+-- the class that is the type of the data member with this number, if it is one
 abbrev pub field_part : List (Text × Ty) → ℕ → List ℕ
 field_part fields number = option_map_or (λ (p : Text × Ty). class_number p.1) (slice_get fields number) []
 
@@ -39,3 +39,7 @@ open_row row heads = map (λ (h : Head). list_any (open_by row) (field_parts h.f
 unfoldable pub open_after : ℕ → List Head → List Bool
 open_after zero heads = []
 open_after (suc m) heads = open_row (open_after m heads) heads
+
+-- some class is open after as many rounds as there are classes
+abbrev pub some_open : List Head → Bool
+some_open heads = list_any (λ b. b) (open_after (length heads) heads)

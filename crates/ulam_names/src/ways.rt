@@ -5,7 +5,7 @@
 ghost use Rattle.std.specs.Prelude.{◌≡◌, Ok, map, false, IfOk, IfErr};
 ghost use Rattle.std.specs.List.{list_any};
 ghost use Rattle.ulam_names.specs.ClassWalk as walk;
-ghost use Rattle.ulam_names.specs.Rounds.{open_by, field_part, field_parts, open_row};
+ghost use Rattle.ulam_names.specs.Rounds.{open_by, field_part, field_parts, open_row, some_open};
 ghost use Rattle.ulam_names.specs.Shown.{head_of};
 ghost use Rattle.ulam_names.specs.declared.fault.NameFault.TheVariants.{NoMemory};
 ghost use Rattle.ulam_tree.specs.Ways.{class_number};
@@ -82,9 +82,10 @@ fn any_open(row: &[bool]) -> bool
     false
 }
 
-/// Whether a class may contain itself: false only if none does. The rounds end when no class is
-/// open, and after as many rounds as there are classes.
+/// Whether a class may contain itself: whether some class is open after as many rounds as there are
+/// classes. If not, none contains itself. The rounds end earlier when no class is open any more.
 pub fn may_be_cyclic(alloc: Global, classes: &[HalfClass]) -> Result<bool, NameFault>
+    ensures open { IfOk result (λ may. may ≡ some_open (map head_of classes.now)) }
     ensures none { IfOk result (λ may. may ≡ false → walk.none_cyclic classes.now ≡ Ok tt) }
     ensures memory { IfErr result (λ e. e ≡ NoMemory) }
 {
@@ -95,5 +96,5 @@ pub fn may_be_cyclic(alloc: Global, classes: &[HalfClass]) -> Result<bool, NameF
             return Ok(false);
         }
     }
-    Ok(true)
+    Ok(any_open(row.as_slice()))
 }

@@ -7,4 +7,4 @@ pub returns : goal.returns
 returns c =
     let e : length_fits (length c.args.raw.now.instrs) ≡ true = search rules in
     let f : first_fits c.args.raw.now.functions ≡ true = search rules in
-    begun c.args.raw.now c.new-lists.result c.in_ok-notes.notes.items c.pass_all.result e f c.new-lists.ensures (search rules) c.pass_all.ensures
+    begun c.args.raw.now c.in_ok-lists.lists.nodes c.in_ok-notes.notes.items c.pass_all.result e f c.in_ok-lists.ensures.empty (search rules) c.pass_all.ensures

@@ -2,7 +2,7 @@ use Rattle.std.proofs.Common.{◌≡◌, ◌-◌, ◌≤◌, ℕ, List, length, 
 use Rattle.std.specs.Prelude.{reverse}
 use Rattle.std.proofs.lemmas.List.{length-reverse}
 use Rattle.stack_code.specs.declared.kind_lists.Node.{Node}
-use Rattle.stack_code.specs.KindLists.{IsTree}
+use Rattle.stack_code.specs.KindLists.{Lists, IsTree}
 use Rattle.stack_code.proofs.KindLists.{NodeIs, node_is}
 use Rattle.stack_code.proofs.kind_lists.KindLists.node.Goals as goal
 
@@ -12,10 +12,10 @@ fact xs now id r v t some fits a =
     subst (λ l. NodeIs l id r) v (subst (NodeIs (reverse xs) id) (sym a) n)
 
 pub returns-clause-list : goal.returns-clause-list
-returns-clause-list c = (fact c.self.inside.nodes.items c.args.self.now c.args.id c.index.result.now c.self.view_is c.self.invariant.0 c.requires.some c.requires.fits c.index.ensures).list
+returns-clause-list c = (fact c.self.inside.nodes.items c.args.self.now.nodes c.args.id c.index.result.now (ap (λ (l : Lists). l.nodes) c.self.view_is) c.self.invariant.0 c.requires.some c.requires.fits c.index.ensures).list
 
 pub returns-clause-below : goal.returns-clause-below
-returns-clause-below c = (fact c.self.inside.nodes.items c.args.self.now c.args.id c.index.result.now c.self.view_is c.self.invariant.0 c.requires.some c.requires.fits c.index.ensures).below
+returns-clause-below c = (fact c.self.inside.nodes.items c.args.self.now.nodes c.args.id c.index.result.now (ap (λ (l : Lists). l.nodes) c.self.view_is) c.self.invariant.0 c.requires.some c.requires.fits c.index.ensures).below
 
 pub returns-clause-depth : goal.returns-clause-depth
-returns-clause-depth c = (fact c.self.inside.nodes.items c.args.self.now c.args.id c.index.result.now c.self.view_is c.self.invariant.0 c.requires.some c.requires.fits c.index.ensures).depth
+returns-clause-depth c = (fact c.self.inside.nodes.items c.args.self.now.nodes c.args.id c.index.result.now (ap (λ (l : Lists). l.nodes) c.self.view_is) c.self.invariant.0 c.requires.some c.requires.fits c.index.ensures).depth

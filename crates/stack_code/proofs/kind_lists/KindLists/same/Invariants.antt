@@ -5,9 +5,9 @@ use Rattle.stack_code.proofs.kind_lists.KindLists.same.Given as goal
 
 abbrev pub invariant-loop-a : goal.invariant-loop-a
 invariant-loop-a l = record {
-  same : same_kinds (list_at l.self l.a) (list_at l.self l.b) ≡ same_kinds (list_at l.self l.fn.a) (list_at l.self l.fn.b);
-  left : l.a ≤ length l.self;
-  right : l.b ≤ length l.self;
+  same : same_kinds (list_at l.self.nodes l.a) (list_at l.self.nodes l.b) ≡ same_kinds (list_at l.self.nodes l.fn.a) (list_at l.self.nodes l.fn.b);
+  left : l.a ≤ length l.self.nodes;
+  right : l.b ≤ length l.self.nodes;
 }
 
 abbrev pub decreases-loop-a : goal.decreases-loop-a
