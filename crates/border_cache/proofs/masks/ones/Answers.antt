@@ -1,4 +1,4 @@
-use Rattle.std.proofs.Common.{ap, ◌-◌, arith}
+use Rattle.std.proofs.Common.{ap, ◌-◌}
 use Rattle.std.proofs.lemmas.Nat.{one_shl}
 use Rattle.border_cache.proofs.masks.ones.Goals as goal
 
