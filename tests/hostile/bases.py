@@ -22,35 +22,17 @@ MOST_SECONDS = 2.0
 MOST_BYTES = 300_000_000
 
 # Why the time of a kind of text is not bounded yet.
-CLASSES = "the class of a base's name is found by going through all classes"
-OVERRIDES = "a bad override is found by going through all members of all bases, for each member"
+LEFT_OUT = "a function that an heir declares again is found by going through all members of the line"
 # The kinds of which that is known.
 NOT_YET = {
-    "a chain of N": CLASSES,
-    "a chain of N, heirs first": CLASSES,
-    "a chain of N with shorter names": CLASSES,
-    "a chain of N, the first without its base": CLASSES,
-    "a chain of N, the last without its base": CLASSES,
-    "a chain of N, heirs first, the root without its base": CLASSES,
-    "a ring of N": CLASSES,
-    "a chain of N that leads into a ring": CLASSES,
-    "a chain of N, the last a bad override": CLASSES,
-    "a chain of N, heirs first, the first a bad override": CLASSES,
-    "a star of N, heirs first": CLASSES,
-    "N virtual functions of one name, N again": OVERRIDES,
-    "N virtual functions of one name, N again, heir first": OVERRIDES,
-    "N virtual functions of one name, N again, the last a bad override": OVERRIDES,
-    "N functions of one name, virtual when N again": OVERRIDES,
-    "N virtual functions, all again in reverse": OVERRIDES,
-    "N virtual functions, all again in reverse, heir first": OVERRIDES,
-    "N heirs of heirs, each with all 64 functions again": OVERRIDES,
-    "N heirs of heirs, each with all again, heirs first": OVERRIDES,
-    "N heirs of heirs, the last with one more": OVERRIDES,
-    "N heirs of heirs, the first with one more": OVERRIDES,
-    "N heirs of heirs, the last a bad override": OVERRIDES,
-    "N heirs of heirs, the first a bad override": OVERRIDES,
-    "N heirs of heirs, each with 128 more": OVERRIDES,
-    "N heirs of heirs, each with 128 more, heirs first": OVERRIDES,
+    "N virtual functions, all again in reverse": LEFT_OUT,
+    "N virtual functions, all again in reverse, heir first": LEFT_OUT,
+    "N heirs of heirs, each with all 64 functions again": LEFT_OUT,
+    "N heirs of heirs, each with all again, heirs first": LEFT_OUT,
+    "N heirs of heirs, the last with one more": LEFT_OUT,
+    "N heirs of heirs, the first with one more": LEFT_OUT,
+    "N heirs of heirs, each with 128 more": LEFT_OUT,
+    "N heirs of heirs, each with 128 more, heirs first": LEFT_OUT,
 }
 # The part of their size at which these are tried.
 PART = 10

@@ -134,12 +134,13 @@ own_none hs n (x ∷ xs) (suc i) e lt =
     let same : n + suc i ≡ n + 1 + i = omega arith in
     ap (is_own_base hs) same ∙ own_none hs (n + 1) xs i (none_or (own_base hs n x) (first_by (own_base hs) (n + 1) xs) e).1 (omega (arith, lt))
 
-pub none_own : (hs : List Heir) → first_fault hs ≡ None → NoneIsOwnBase hs
-none_own hs e k = go (cases_lt k (length hs))
+pub apart_from : (hs : List Heir) → first_by (own_base hs) 0 hs ≡ None → NoneIsOwnBase hs
+apart_from hs rest k = go (cases_lt k (length hs))
   where
-    rest : first_by (own_base hs) 0 hs ≡ None
-    rest = (none_or (first_by (own_base hs) 0 hs) (first_by (bad_override hs) 0 hs) (none_or (first_by (not_quark hs) 0 hs) (option_or (first_by (own_base hs) 0 hs) (first_by (bad_override hs) 0 hs)) e).1).0
-
     go : (k < length hs) ⊎ (length hs ≤ k) → is_own_base hs k ≡ false
     go (inl lt) = let same : k ≡ 0 + k = omega arith in ap (is_own_base hs) same ∙ own_none hs 0 hs k rest lt
     go (inr le) = false_from_ne_true _ (λ h. let lt : k < length hs = of_class (length hs) (base_list hs) (few hs) k (length hs) k h in absurd (omega (arith, lt, le)))
+
+pub none_own : (hs : List Heir) → first_fault hs ≡ None → NoneIsOwnBase hs
+none_own hs e =
+    apart_from hs (none_or (first_by (own_base hs) 0 hs) (first_by (bad_override hs) 0 hs) (none_or (first_by (not_quark hs) 0 hs) (option_or (first_by (own_base hs) 0 hs) (first_by (bad_override hs) 0 hs)) e).1).0

@@ -6,6 +6,11 @@ mod Counts
 mod Fronts
 pub mod Plain
 mod Walks
+mod Firsts
+mod Ranking
+mod OpenTables
+mod Tables
+mod Walking
 mod Copies
 mod Turns
 mod PlaceSets

@@ -1,7 +1,7 @@
 -- One more class, file or item of a list that a loop goes over.
 use Rattle.std.proofs.Common.{◌≡◌, ℕ, zero, suc, ◌+◌, ◌<◌, ◌≤◌, refl, sym, ap, ◌∙◌, List, [], ◌∷◌, ◌++◌, length, map, get_or, take, drop, Bool, true, false, ◌||◌, Some, None, add-one, append_assoc, arith}
 use Rattle.std.specs.Prelude.{slice_get}
-use Rattle.std.proofs.lemmas.List.{at_drop_more, take_more, take_all, drop_all, append-nil, map-append, length-map}
+use Rattle.std.proofs.lemmas.List.{at_drop_more, take_more, take_all, drop_all, append-nil, map-append, length-map, length-take-le}
 use Rattle.ulam_tree.specs.Raw.{Member, Item}
 use Rattle.ulam_tree.specs.RawViews.{member_of}
 use Rattle.ulam_tree.specs.declared.raw.Member.{Member as RawMember}
@@ -14,7 +14,7 @@ use Rattle.ulam_heirs.specs.Files.{heirs_in, all_heirs}
 use Rattle.ulam_heirs.specs.Views.{heir_of, heirs_of}
 
 -- the classes up to the next
-taken_on : (xs : List CodeHeir) (i : ℕ) (x : CodeHeir) → i < length xs → x ≡ get_or xs i x → heirs_of (take (i + 1) xs) ≡ heirs_of (take i xs) ++ (heir_of x ∷ [])
+pub taken_on : (xs : List CodeHeir) (i : ℕ) (x : CodeHeir) → i < length xs → x ≡ get_or xs i x → heirs_of (take (i + 1) xs) ≡ heirs_of (take i xs) ++ (heir_of x ∷ [])
 taken_on xs i x lt is =
     ap heirs_of (take_more xs i x lt)
     ∙ map-append heir_of (take i xs) (get_or xs i x ∷ [])
@@ -96,3 +96,6 @@ heads_on f fs hs k h e = ap (all_heirs (f ∷ fs)) (drop_some hs k h e) ∙ ap (
 
 pub heads_none : (f : List Item) (fs : List (List Item)) (hs : List Heads) (k : ℕ) → slice_get hs k ≡ None → all_heirs (f ∷ fs) (drop k hs) ≡ []
 heads_none f fs hs k e = ap (all_heirs (f ∷ fs)) (drop_none hs k e)
+
+pub taken_long : (xs : List CodeHeir) (i : ℕ) → i < length xs → length (heirs_of (take i xs)) ≡ i
+taken_long xs i lt = length-map (take i xs) heir_of ∙ length-take-le i xs (omega (arith, lt))

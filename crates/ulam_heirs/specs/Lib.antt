@@ -1,5 +1,6 @@
 pub mod Heads
 pub mod Lines
+pub mod Firsts
 pub mod PlaceSets
 pub mod Flat
 pub mod Faults
@@ -9,3 +10,6 @@ pub mod Laws
 pub mod Behind
 pub mod Simple
 pub mod Views
+pub mod Ranks
+pub mod Opened
+pub mod OpenedViews

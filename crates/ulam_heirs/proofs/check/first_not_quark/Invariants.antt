@@ -4,4 +4,7 @@ use Rattle.ulam_heirs.specs.Views.{heirs_of}
 use Rattle.ulam_heirs.proofs.check.first_not_quark.Given as goal
 
 abbrev pub invariant-loop-heir : goal.invariant-loop-heir
-invariant-loop-heir l = first_by (not_quark (heirs_of l.heirs)) 0 (heirs_of l.heirs) ≡ first_by (not_quark (heirs_of l.heirs)) l.heir-index (heirs_of (drop l.heir-index l.heirs))
+invariant-loop-heir l = record {
+  first : first_by (not_quark (heirs_of l.heirs)) 0 (heirs_of l.heirs) ≡ first_by (not_quark (heirs_of l.heirs)) l.number (heirs_of (drop l.heir-index l.heirs));
+  number : l.number ≡ l.heir-index;
+}

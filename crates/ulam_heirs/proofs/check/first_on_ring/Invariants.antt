@@ -1,7 +1,7 @@
 use Rattle.std.proofs.Common.{◌≡◌, drop}
 use Rattle.ulam_heirs.specs.Faults.{first_by, own_base}
 use Rattle.ulam_heirs.specs.Views.{heirs_of}
-use Rattle.ulam_heirs.proofs.check.first_own_base.Given as goal
+use Rattle.ulam_heirs.proofs.check.first_on_ring.Given as goal
 
 abbrev pub invariant-loop-heir : goal.invariant-loop-heir
 invariant-loop-heir l = record {

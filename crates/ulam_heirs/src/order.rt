@@ -1,0 +1,80 @@
+//! An order in which to go through the classes.
+
+use crate::line::base_in;
+use feast_base::NoMemory;
+use std::alloc::Global;
+
+/// The heirs of each class as a chain: the first of them, and the next heir of its own base. The
+/// classes without a base are a chain too, whose first stands last.
+#[derive(Drop)]
+struct Chains {
+    first: Vec<Option<usize>>,
+    next: Vec<Option<usize>>,
+}
+
+/// The number at an index.
+fn at(numbers: &[Option<usize>], index: usize) -> Option<usize> {
+    match numbers.get(index) {
+        Some(number) => *number,
+        None => None,
+    }
+}
+
+/// Puts a number at an index: what was there.
+fn put(numbers: &mut Vec<Option<usize>>, index: usize, number: Option<usize>) -> Option<usize> {
+    match numbers.get_mut(index) {
+        Some(slot) => {
+            let was = *slot;
+            *slot = number;
+            was
+        }
+        None => None,
+    }
+}
+
+/// The heirs of all classes.
+fn heir_chains(alloc: Global, bases: &[Option<usize>]) -> Result<Chains, NoMemory> {
+    let mut first = Vec::new(alloc);
+    let mut next = Vec::new(alloc);
+    for _base in bases {
+        first.push(None)?;
+        next.push(None)?;
+    }
+    first.push(None)?;
+    let mut class = bases.len();
+    'turns: for _turn in 0..bases.len() {
+        class = class.saturating_sub(1);
+        let over = match at(bases, class) {
+            Some(base) => base,
+            None => bases.len(),
+        };
+        let was = put(&mut first, over, Some(class));
+        put(&mut next, class, was);
+    }
+    Ok(Chains { first, next })
+}
+
+/// Adds a number, if there is one.
+fn add(todo: &mut Vec<usize>, number: Option<usize>) -> Result<(), NoMemory> {
+    if let Some(number) = number {
+        todo.push(number)?;
+    }
+    Ok(())
+}
+
+/// The classes in an order in which right after each come its heirs, each with its own.
+pub fn tree_order(alloc: Global, bases: &[Option<usize>]) -> Result<Vec<usize>, NoMemory> {
+    let chains = heir_chains(alloc, bases)?;
+    let mut found = Vec::new(alloc);
+    let mut todo = Vec::new(alloc);
+    add(&mut todo, at(chains.first.as_slice(), bases.len()))?;
+    'turns: for _turn in 0..bases.len() {
+        let Some(class) = todo.pop() else {
+            return Ok(found);
+        };
+        found.push(class)?;
+        add(&mut todo, at(chains.next.as_slice(), class))?;
+        add(&mut todo, at(chains.first.as_slice(), class))?;
+    }
+    Ok(found)
+}
