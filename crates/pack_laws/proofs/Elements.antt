@@ -5,11 +5,11 @@ use Rattle.std.specs.List.{AllByRecursion}
 use Rattle.std.proofs.lemmas.Bool.{leb-true}
 use Rattle.std.proofs.lemmas.List.{length-map}
 use Rattle.std.proofs.lemmas.List.Elements.{All-head, All-tail}
-use Rattle.std.proofs.lemmas.Slice.Eq.{bytes_eq-Decides}
 use Rattle.list_laws.proofs.Entries.{all_from_get}
 use Rattle.feast_base.specs.TypeNames.{is_type_name}
 use Rattle.stack_code.specs.Machine.{CodeValue}
 use Rattle.stack_code.specs.Valid.{valid}
+use Rattle.ulam_heirs.proofs.Firsts.{same_turned}
 use Rattle.ulam_names.specs.Scopes as scopes
 use Rattle.ulam_meaning.specs.Programs.{Program, count_elements, element_classes, number_of}
 use Rattle.ulam_meaning.specs.Laws.{bits_of}
@@ -140,20 +140,11 @@ names_before [] cs (suc k) h = refl
 names_before (n ∷ ns) [] (suc k) h = absurd (omega (arith, h))
 names_before (n ∷ ns) (c ∷ cs) (suc k) h = ap (λ l. n ∷ l) (names_before ns cs k (omega (arith, h)))
 
--- whether two names are the same, asked from either side
-same_name : (a b : List ℕ) → bytes_eq a b ≡ bytes_eq b a
-same_name a b = by (bytes_eq a b) (bytes_eq b a) refl refl
-  where
-    by : (p q : Bool) → bytes_eq a b ≡ p → bytes_eq b a ≡ q → p ≡ q
-    by true true e f = refl
-    by false false e f = refl
-    by true false e f = let same = (bytes_eq-Decides a b).0 e in let g = (bytes_eq-Decides b a).1 (sym same) in sym g ∙ f
-    by false true e f = let same = (bytes_eq-Decides b a).0 f in let g = (bytes_eq-Decides a b).1 (sym same) in sym e ∙ g
-
+-- whether a name is among others, asked from either side
 among_same : (n : List ℕ) (ns : List (List ℕ)) → is_among n ns ≡ scopes.is_among n ns
 unfolding is_among
 among_same n [] = refl
-among_same n (x ∷ ns) = ap (λ b. b || is_among n ns) (same_name x n) ∙ ap (λ b. bytes_eq n x || b) (among_same n ns)
+among_same n (x ∷ ns) = ap (λ b. b || is_among n ns) (same_turned x n) ∙ ap (λ b. bytes_eq n x || b) (among_same n ns)
 
 new_at : (done ns : List (List ℕ)) (k : ℕ) (n : List ℕ) → AreNew done ns → slice_get ns k ≡ Some n → scopes.is_among n (done ++ take k ns) ≡ false
 new_at done [] k n h e = absurd cc

@@ -6,7 +6,7 @@ mod Counts
 mod Fronts
 pub mod Plain
 mod Walks
-mod Firsts
+pub mod Firsts
 mod Ranking
 mod OpenTables
 mod Tables
