@@ -13,3 +13,4 @@ pub mod Views
 pub mod Ranks
 pub mod Opened
 pub mod OpenedViews
+pub mod Spans

@@ -1,4 +1,4 @@
-use Rattle.std.proofs.Common.{◌≡◌, ◌≤◌, ◌++◌, length, map, drop}
+use Rattle.std.proofs.Common.{◌≡◌, ◌≤◌, ◌+◌, ◌++◌, length, map, take, drop}
 use Rattle.std.specs.Prelude.{filter, not}
 use Rattle.ulam_tree.specs.Raw.{Member}
 use Rattle.ulam_tree.specs.RawViews.{member_of}
@@ -10,7 +10,7 @@ use Rattle.ulam_heirs.proofs.flat.add_members.Given as goal
 abbrev pub invariant-loop-member : goal.invariant-loop-member
 invariant-loop-member l = record {
   flat :
-      map member_of l.initial.found.items ++ filter (λ (m : Member). not (is_left_out (heirs_of l.before) (heir_of l.heir) (heirs_of l.later) m)) (map member_of l.heir.class.now.members.items)
-      ≡ map member_of l.found.items ++ filter (λ (m : Member). not (is_left_out (heirs_of l.before) (heir_of l.heir) (heirs_of l.later) m)) (map member_of (drop l.member-index l.heir.class.now.members.items));
+      map member_of l.initial.found.items ++ filter (λ (m : Member). not (is_left_out (heirs_of (take l.index l.line)) (heir_of l.heir) (heirs_of (drop (l.index + 1) l.line)) m)) (map member_of l.heir.class.now.members.items)
+      ≡ map member_of l.found.items ++ filter (λ (m : Member). not (is_left_out (heirs_of (take l.index l.line)) (heir_of l.heir) (heirs_of (drop (l.index + 1) l.line)) m)) (map member_of (drop l.member-index l.heir.class.now.members.items));
   few : length l.found.items ≤ enough_members;
 }

@@ -1,4 +1,4 @@
-use Rattle.std.proofs.Common.{rules, ◌≤◌, ◌∙◌, ap, ◌+◌, List, length, take, drop, arith}
+use Rattle.std.proofs.Common.{rules, ◌≤◌, refl, ◌∙◌, ap, ◌+◌, List, length, take, drop, arith}
 use Rattle.ulam_heirs.specs.declared.heir.Heir.{Heir as CodeHeir}
 use Rattle.ulam_heirs.specs.Flat.{flat}
 use Rattle.ulam_heirs.specs.Views.{heirs_of}
@@ -12,9 +12,9 @@ loop-heir-preserved c =
     record {
       flat =
           c.loop-heir.invariant.flat
-          ∙ flat_on enough_members xs c.loop-heir.found.items c.add_members.new.found.items c.loop-heir.heir-index c.heir-item.result c.split_at.result.0.now c.split_at-in-loop-heir.result.1.now c.loop-heir-test.true c.heir-item.is
-          (c.split_at.ensures.front ∙ ap (λ n. take n xs) c.loop-heir.invariant.index)
-          (c.split_at-in-loop-heir.ensures.back ∙ ap (λ n. drop (n + 1) xs) c.loop-heir.invariant.index)
+          ∙ flat_on enough_members xs c.loop-heir.found.items c.add_members.new.found.items c.loop-heir.heir-index c.heir-item.result (take c.loop-heir.index xs) (drop (c.loop-heir.index + 1) xs) c.loop-heir-test.true c.heir-item.is
+          (ap (λ n. take n xs) c.loop-heir.invariant.index)
+          (ap (λ n. drop (n + 1) xs) c.loop-heir.invariant.index)
           c.in_ok-add_members.ensures.same;
       few = c.in_ok-add_members.ensures.few;
       index = omega arith;
