@@ -61,7 +61,7 @@ calls_grown next ks = grown_same ks
 calls_grown gives ks = grown_same ks
 calls_grown leaves ks = grown_same ks
 
-key_fields : (f : Key) → same_key f f ≡ true
+pub key_fields : (f : Key) → same_key f f ≡ true
 key_fields f = together (nat_eq f.class f.class) (nat_eq f.function f.function && nat_eq f.base f.base) (eq-eqb f.class f.class refl) (together (nat_eq f.function f.function) (nat_eq f.base f.base) (eq-eqb f.function f.function refl) (eq-eqb f.base f.base refl))
 
 last_by : (b : Bool) (x : Bool) → x ≡ true → (if b then true else x) ≡ true

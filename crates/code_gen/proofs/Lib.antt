@@ -18,6 +18,8 @@ mod QuarkExample
 pub mod Room
 pub mod Events
 pub mod Worklist
+pub mod FirstCalls
+mod WrongOrders
 pub mod Rounds
 pub mod Spans
 pub mod Fitted

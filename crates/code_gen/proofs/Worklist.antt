@@ -22,7 +22,7 @@ take_one [] k x e = cc
 take_one (y ∷ xs) zero x e = let s : y ≡ x = cc in ap (λ y. y ∷ []) s
 take_one (y ∷ xs) (suc k) x e = ap (λ l. y ∷ l) (take_one xs k x e)
 
-take_more : (xs ys : List Key) (k : ℕ) → k ≤ length xs → take k (xs ++ ys) ≡ take k xs
+pub take_more : (xs ys : List Key) (k : ℕ) → k ≤ length xs → take k (xs ++ ys) ≡ take k xs
 take_more xs ys zero le = refl
 take_more [] ys (suc k) le = absurd (omega arith)
 take_more (x ∷ xs) ys (suc k) le = ap (λ l. x ∷ l) (take_more xs ys k (omega arith))

@@ -1,5 +1,6 @@
 pub mod Pieces
 pub mod Drafts
+pub mod FirstCalls
 pub mod Endings
 pub mod Kinds
 pub mod Limits

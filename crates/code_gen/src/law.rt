@@ -8,7 +8,8 @@ ghost use Rattle.ulam_meaning.specs.Programs.{Program, element_of};
 ghost use Rattle.ulam_meaning.specs.Laws.{IsLaidOut};
 ghost use Rattle.ulam_meaning.specs.Events.{behave_key};
 ghost use Rattle.code_gen.specs.Pieces.{Key, Piece};
-ghost use Rattle.code_gen.specs.Drafts.{Drafts};
+ghost use Rattle.code_gen.specs.Drafts.{Drafts, keys};
+ghost use Rattle.code_gen.specs.FirstCalls.{AreByFirstCall};
 ghost use Rattle.code_gen.specs.Kinds.{Setting, shapes, Fits, Shallow};
 ghost use Rattle.code_gen.specs.DepthLaws.{DepthIsCount, DepthIsLow, HasDepth};
 ghost use Rattle.code_gen.specs.LaidOut.{laid_program, ShareLayout};
@@ -24,7 +25,13 @@ ghost use Rattle.code_gen.specs.Means.{Means};
 /// If the functions of a program are ready and the limits let the code of an element through, this
 /// code is valid, and on each window and seed it has the window and the ending of its functions.
 pub fn right()
-    ensures { (g : Drafts) (kind : ℕ) (main : Key) → IsReady g main → IsShort g main → IsRight g kind main }
+    ensures { (drafts : Drafts) (kind : ℕ) (main : Key) → IsReady drafts main → IsShort drafts main → IsRight drafts kind main }
+{}
+
+/// If the limits let the code of an element through, its functions are the first one and all that
+/// are called, none twice, in the order of their first calls.
+pub fn by_first_call()
+    ensures { (drafts : Drafts) (main : Key) → IsShort drafts main → AreByFirstCall drafts main (keys drafts main) }
 {}
 
 /// For a piece that fits, the depth is the length of the list of kinds after it, and there is one
@@ -41,17 +48,17 @@ pub fn depths()
 /// of an element through, its functions are ready; and this code is valid, and on each window and
 /// seed it has the window and the ending that the element's event means.
 pub fn compiled()
-    ensures layout { (cs : List resolved.Class) (us : List typed.Class) → ShareLayout cs us → IsLaidOut (laid_program cs us) }
-    ensures kinds { (g : Program) (c : ℕ) → IsWellProgram g.classes → IsNamedProgram g → IsLaidOut g → HasBehave g c → IsKinded g c }
-    ensures ready { (g : Program) (c : ℕ) → IsKinded g c → IsReady (draft_of g) (behave_key g c) }
-    ensures compiled { (g : Program) (kind c : ℕ) → IsKinded g c → HasShort g c → IsCompiled g kind c }
+    ensures layout { (classes : List resolved.Class) (tree : List typed.Class) → ShareLayout classes tree → IsLaidOut (laid_program classes tree) }
+    ensures kinds { (program : Program) (class : ℕ) → IsWellProgram program.classes → IsNamedProgram program → IsLaidOut program → HasBehave program class → IsKinded program class }
+    ensures ready { (program : Program) (class : ℕ) → IsKinded program class → IsReady (draft_of program) (behave_key program class) }
+    ensures compiled { (program : Program) (kind class : ℕ) → IsKinded program class → HasShort program class → IsCompiled program kind class }
 {}
 
 /// If the trees of a program have the right kinds and the limits let the code of an element
 /// through, this code leaves on each window whose centre has the element's type, and each seed, the
 /// window that the element leaves, and fails if the element fails, with its number.
 pub fn same_meaning()
-    ensures { (g : Program) (c : ℕ) → IsElementClass g.classes c → IsKinded g c → HasShort g c → Means g c (class_code g c) }
+    ensures { (program : Program) (class : ℕ) → IsElementClass program.classes class → IsKinded program class → HasShort program class → Means program class (class_code program class) }
 {}
 
 /// The limits let the code of each element of a program through, or there is a first element whose

@@ -30,6 +30,8 @@ mod trees;
 pub use element::build;
 pub use elements::compile;
 pub use fault::GenFault;
-pub use law::{codes_in_order, compiled, depths, one_compiling, right, same_meaning};
+pub use law::{
+    by_first_call, codes_in_order, compiled, depths, one_compiling, right, same_meaning,
+};
 pub use piece::{Key, Piece};
 pub use source::{Head, Source};
