@@ -8,7 +8,8 @@ use Rattle.std.proofs.lemmas.Slice.Eq.{bytes_eq-Decides}
 use Rattle.list_laws.proofs.Members.{In, in_filter, in_left, in_right}
 use Rattle.ulam_tree.specs.Raw.{Member}
 use Rattle.ulam_heirs.specs.Lines.{Heir}
-use Rattle.ulam_heirs.specs.Flat.{member_word, is_function, is_named, has_word, declares, says_virtual, is_virtual_name, is_virtual, is_left_out, own_members, flat_behind, flat, first_named, nearest}
+use Rattle.ulam_heirs.specs.Flat.{member_word, is_function, is_named, declares, says_virtual, is_virtual_name, is_virtual, is_left_out, own_members, flat_behind, flat, first_named, nearest}
+use Rattle.ulam_heirs.proofs.Spanning.{says_declares}
 use Rattle.accepted_laws.proofs.Once.{AtMostOnce}
 
 any_in : (p : Member → Bool) (ms : List Member) → list_any p ms ≡ true → (m : Member) × In m ms × (p m ≡ true)
@@ -90,23 +91,13 @@ nearest_in name before (h ∷ later) m e = go (nearest later name) refl e (neare
 
 -- Virtual names
 
-declared_virtual : (name : List ℕ) (h : Heir) (ms : List Member) → list_any (λ (m : Member). is_function m && is_named name m && has_word h m) ms ≡ true → list_any (λ (m : Member). is_function m && is_named name m) ms ≡ true
-declared_virtual name h [] e = e
-declared_virtual name h (m ∷ ms) e = go (is_function m) (is_named name m) (has_word h m) e (declared_virtual name h ms)
-  where
-    go : (a b c : Bool) → (((a && b) && c) || list_any (λ (m : Member). is_function m && is_named name m && has_word h m) ms) ≡ true →
-        (list_any (λ (m : Member). is_function m && is_named name m && has_word h m) ms ≡ true → list_any (λ (m : Member). is_function m && is_named name m) ms ≡ true) → ((a && b) || list_any (λ (m : Member). is_function m && is_named name m) ms) ≡ true
-    go true true c h rest = refl
-    go true false c h rest = rest h
-    go false b c h rest = rest h
-
 not_virtual : (name : List ℕ) (hs : List Heir) → list_any (declares name) hs ≡ false → is_virtual_name hs name ≡ false
 not_virtual name [] e = e
 not_virtual name (h ∷ hs) e = go (says_virtual name h) refl (declares name h) refl e (not_virtual name hs)
   where
     go : (v : Bool) → says_virtual name h ≡ v → (d : Bool) → declares name h ≡ d → (d || list_any (declares name) hs) ≡ false → (list_any (declares name) hs ≡ false → is_virtual_name hs name ≡ false) → (v || is_virtual_name hs name) ≡ false
     go v is true own f rest = absurd (false≢true (sym f))
-    go true is false own f rest = absurd (false≢true (sym own ∙ declared_virtual name h h.class.members is))
+    go true is false own f rest = absurd (false≢true (sym own ∙ says_declares name h h.class.members is))
     go false is false own f rest = rest f
 
 -- Together
