@@ -1,10 +1,10 @@
 -- The verdict from its three tests.
-use Rattle.std.proofs.Common.{◌≡◌, ℕ, zero, suc, List, [], ◌∷◌, length, Option, Some, None, refl, sym, ap, ◌∙◌, arith, Bool, true, false, ◌≤◌}
+use Rattle.std.proofs.Common.{◌≡◌, ℕ, zero, suc, List, [], ◌∷◌, length, Some, None, refl, sym, ap, ◌∙◌, arith, Bool, true, false, ◌≤◌}
 use Rattle.std.specs.Prelude.{◌&&◌, is_some, slice_get, replicate, nat_le}
 use Rattle.std.proofs.lemmas.Bool.{leb-true}
 use Rattle.list_laws.proofs.Tests.{both}
 use Rattle.stack_code.specs.Machine.{CodeValue}
-use Rattle.stack_code.specs.Valid.{Notes, valid, first_fits, length_fits, no_notes, pass_all}
+use Rattle.stack_code.specs.Valid.{valid, first_fits, length_fits, no_notes, pass_all}
 use Rattle.stack_code.specs.declared.kind_lists.Node.{Node}
 use Rattle.stack_code.specs.KindLists.{notes_of, NotesFit}
 
