@@ -1,5 +1,5 @@
 -- Files that have to be made, and files that stay.
-use Rattle.std.proofs.Common.{◌≡◌, List, Option, Some, None, Bool, true, false, ◌||◌, cond, refl, sym, ap}
+use Rattle.std.proofs.Common.{◌≡◌, List, Some, None, Bool, true, false, ◌||◌, cond, refl, sym, ap}
 use Rattle.std.specs.List.{list_all}
 use Rattle.ulam_tree.specs.Raw.{Item}
 use Rattle.ulam_heirs.specs.Heads.{Heads}

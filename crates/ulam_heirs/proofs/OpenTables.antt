@@ -1,17 +1,17 @@
 -- The table of a line with one more class.
 use Rattle.std.proofs.Common.{◌≡◌, ℕ, refl, sym, ap, ◌∙◌, List, [], ◌∷◌, ◌++◌, Bool, true, false, cond, ◌||◌, Option, Some, None, is_some, append_assoc, append-nil}
 use Rattle.std.specs.Prelude.{◌&&◌, not, filter, bytes_eq, nat_eq}
-use Rattle.std.specs.List.{list_any, All}
+use Rattle.std.specs.List.{list_any}
 use Rattle.std.specs.Option.{option_or}
 use Rattle.std.proofs.lemmas.Bool.{false≢true, true≢false, and_parts, eqb-true}
 use Rattle.std.proofs.lemmas.List.Folds.{list_any-append}
 use Rattle.std.proofs.Math.Bool.{or-false}
-use Rattle.ulam_tree.specs.Raw.{Word, Width, wide, wide_as, TypeRef, Param, Member, typedef, constant, field, function}
+use Rattle.ulam_tree.specs.Raw.{Width, wide, wide_as, TypeRef, Param, Member, typedef, constant, field, function}
 use Rattle.ulam_heirs.specs.declared.fault.HeirsFault.TheVariants.{BadOverride}
 use Rattle.ulam_heirs.specs.Lines.{Heir}
 use Rattle.ulam_heirs.specs.Flat.{member_word, is_function, is_field, is_named, has_word, says_virtual, is_virtual_name, is_virtual}
 use Rattle.ulam_heirs.specs.Faults.{same_width, same_size, same_type, same_params, differs, is_clash, clashes_with, clashes_behind, bad_member, first_bad}
-use Rattle.ulam_heirs.specs.Opened.{name_of, Latest, Table, clash, Covers, put, next, with_member, with_members, virtual_in, with_class, bad_in, first_bad_in}
+use Rattle.ulam_heirs.specs.Opened.{name_of, Latest, Table, clash, Covers, next, with_member, with_members, virtual_in, with_class, first_bad_in}
 use Rattle.ulam_heirs.proofs.Firsts.{same_text}
 
 -- What is the same as one of two that are the same is the same as the other.

@@ -2,8 +2,7 @@
 use Rattle.std.proofs.Common.{◌≡◌, ℕ, zero, suc, ◌+◌, ◌<◌, ◌≤◌, ◌⊎◌, inl, inr, refl, sym, ap, ◌∙◌, subst, List, [], ◌∷◌, ◌++◌, length, take, drop, Bool, true, false, cond, ◌||◌, Option, Some, None, Bor, nat_lt, arith}
 use Rattle.std.specs.Prelude.{◌&&◌, bytes_eq}
 use Rattle.std.specs.List.{list_any}
-use Rattle.std.specs.Map.{lookup}
-use Rattle.std.proofs.lemmas.Bool.{true≢false, false≢true, lt-ltb, le-ltb, cases_lt, or_parts}
+use Rattle.std.proofs.lemmas.Bool.{lt-ltb, le-ltb, cases_lt, or_parts}
 use Rattle.std.proofs.lemmas.List.{take_all, drop_all, take-append-le, drop-append-le, length-append, take-map, drop-map}
 use Rattle.std.proofs.lemmas.List.Folds.{list_any-append}
 use Rattle.std.proofs.Math.Bool.{or-false}
@@ -13,7 +12,7 @@ use Rattle.ulam_heirs.specs.declared.heir.Heir.{Heir as CodeHeir}
 use Rattle.ulam_heirs.specs.Views.{heir_of, heirs_of}
 use Rattle.ulam_heirs.specs.declared.spans.Span.{Span}
 use Rattle.ulam_heirs.specs.Lines.{Heir}
-use Rattle.ulam_heirs.specs.Flat.{member_word, is_function, is_named, has_word, declares, says_virtual, is_virtual_name, is_virtual, is_left_out}
+use Rattle.ulam_heirs.specs.Flat.{member_word, is_function, is_named, has_word, declares, says_virtual, is_virtual_name, is_left_out}
 use Rattle.ulam_heirs.specs.Spans.{span_by, grown, member_span, members_span, IsSpan, AreSpans, AreKnown}
 use Rattle.ulam_heirs.proofs.Firsts.{same_text}
 use Rattle.ulam_heirs.proofs.Tables.{same_key, found_put}

@@ -1,13 +1,13 @@
 -- A walk through the classes, from one to the next.
-use Rattle.std.proofs.Common.{◌≡◌, ℕ, zero, suc, ◌+◌, ◌<◌, ◌≤◌, ◌⊎◌, inl, inr, refl, sym, ap, ◌∙◌, subst, List, [], ◌∷◌, ◌++◌, length, take, drop, map, get_or, set, Option, Some, None, append_assoc, arith}
+use Rattle.std.proofs.Common.{◌≡◌, ℕ, zero, suc, ◌+◌, ◌<◌, ◌≤◌, ◌⊎◌, inl, inr, refl, sym, ap, ◌∙◌, subst, List, [], ◌∷◌, ◌++◌, length, take, drop, get_or, set, Option, Some, None, append_assoc, arith}
 use Rattle.std.specs.Prelude.{reverse, slice_get}
 use Rattle.std.specs.Option.{option_map_or, option_and_then, option_to_list}
-use Rattle.std.proofs.lemmas.List.{reverse-append, take-append-le, drop-append-le, length-append, length-map}
+use Rattle.std.proofs.lemmas.List.{reverse-append, take-append-le, drop-append-le, length-append}
 use Rattle.ulam_heirs.specs.declared.fault.HeirsFault.{HeirsFault}
 use Rattle.ulam_heirs.specs.declared.heir.Heir.{Heir as CodeHeir}
 use Rattle.ulam_heirs.specs.declared.walk.Step.{Step}
 use Rattle.ulam_heirs.specs.Lines.{Heir, base_of, class_at, classes_at, line_numbers, line, bases, NoneIsOwnBase}
-use Rattle.ulam_heirs.specs.Faults.{bad_override, first_bad}
+use Rattle.ulam_heirs.specs.Faults.{bad_override}
 use Rattle.ulam_heirs.specs.Opened.{Table, State, Change, Covers, undone, back, LeadsTo, with_class, first_bad_in}
 use Rattle.ulam_heirs.specs.OpenedViews.{AreOpen, AreFaults}
 use Rattle.ulam_heirs.specs.Views.{heir_of, heirs_of}

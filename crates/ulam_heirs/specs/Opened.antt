@@ -1,12 +1,12 @@
 -- The virtual functions of a line of classes by their names, and how changes of them are taken back.
-use Rattle.std.specs.Prelude.{ℕ, ◌≡◌, ◌≤◌, List, [], ◌∷◌, ◌++◌, length, take, drop, filter, Option, Some, None, is_some, Bool, false, ◌&&◌, ◌||◌, if◌then◌else◌, bytes_eq, slice_get}
+use Rattle.std.specs.Prelude.{ℕ, ◌≡◌, List, [], ◌∷◌, ◌++◌, take, drop, filter, Option, Some, None, is_some, Bool, false, ◌&&◌, ◌||◌, if◌then◌else◌, bytes_eq}
 use Rattle.std.specs.Option.{option_or}
 use Rattle.ulam_tree.specs.Raw.{Member}
 use Rattle.ulam_heirs.specs.declared.fault.HeirsFault.{HeirsFault}
 use Rattle.ulam_heirs.specs.declared.fault.HeirsFault.TheVariants as f
-use Rattle.ulam_heirs.specs.Lines.{Heir, line}
+use Rattle.ulam_heirs.specs.Lines.{Heir}
 use Rattle.ulam_heirs.specs.Flat.{member_word, is_function, is_field, has_word, is_virtual_name}
-use Rattle.ulam_heirs.specs.Faults.{differs, clashes_behind, bad_override}
+use Rattle.ulam_heirs.specs.Faults.{differs, clashes_behind}
 
 abbrev pub name_of : Member → List ℕ
 name_of m = (member_word m).name

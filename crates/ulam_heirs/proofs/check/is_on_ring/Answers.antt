@@ -1,4 +1,4 @@
-use Rattle.std.proofs.Common.{◌≡◌, ◌<◌, ◌∙◌, sym, length, arith}
+use Rattle.std.proofs.Common.{◌<◌, ◌∙◌, sym, length, arith}
 use Rattle.ulam_heirs.specs.Ranks.{rank}
 use Rattle.ulam_heirs.specs.Views.{heirs_of}
 use Rattle.ulam_heirs.proofs.Ranking.{not_own}

@@ -1,4 +1,4 @@
-use Rattle.std.proofs.Common.{rules, ◌≤◌, refl, ◌∙◌, ap, ◌+◌, List, length, take, drop, arith}
+use Rattle.std.proofs.Common.{rules, ◌≤◌, ◌∙◌, ap, ◌+◌, List, length, take, drop, arith}
 use Rattle.ulam_heirs.specs.declared.heir.Heir.{Heir as CodeHeir}
 use Rattle.ulam_heirs.specs.Flat.{flat}
 use Rattle.ulam_heirs.specs.Views.{heirs_of}

@@ -1,4 +1,4 @@
-use Rattle.std.proofs.Common.{◌≡◌, ◌∙◌, ap, ℕ, List, Some, None, cond, arith}
+use Rattle.std.proofs.Common.{◌∙◌, ap, ℕ, List, Some, None, cond, arith}
 use Rattle.std.specs.Prelude.{bytes_eq}
 use Rattle.std.specs.Option.{option_or}
 use Rattle.ulam_heirs.specs.declared.heir.Heir.{Heir as CodeHeir}

@@ -3,7 +3,7 @@ use Rattle.std.proofs.lemmas.List.{map-append}
 use Rattle.ulam_tree.specs.Raw.{Word}
 use Rattle.ulam_tree.specs.RawViews.{member_of}
 use Rattle.ulam_heirs.specs.declared.opened.Change.{Change as CodeChange}
-use Rattle.ulam_heirs.specs.Opened.{Change, Latest, name_of}
+use Rattle.ulam_heirs.specs.Opened.{name_of}
 use Rattle.ulam_heirs.specs.OpenedViews.{change_of, latest_of, state_of}
 use Rattle.ulam_heirs.proofs.Tables.{put_is, add_is, leads_one}
 use Rattle.ulam_heirs.proofs.opened.add.Goals as goal

@@ -1,4 +1,4 @@
-use Rattle.std.proofs.Common.{◌≡◌, ◌-◌, ◌+◌, ◌∙◌, ap, refl, ℕ, List, [], ◌∷◌, length, map, arith}
+use Rattle.std.proofs.Common.{◌≡◌, ◌-◌, ◌+◌, ◌∙◌, ap, refl, List, [], ◌∷◌, length, map, arith}
 use Rattle.std.proofs.lemmas.List.{map-append, length-map, length-append}
 use Rattle.ulam_heirs.specs.declared.opened.Change.{Change as CodeChange}
 use Rattle.ulam_heirs.specs.OpenedViews.{change_of, state_of}

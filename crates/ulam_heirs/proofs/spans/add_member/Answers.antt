@@ -1,4 +1,4 @@
-use Rattle.std.proofs.Common.{◌≡◌, ◌∙◌, sym, ap, Bool, true, Option, rules}
+use Rattle.std.proofs.Common.{◌≡◌, ◌∙◌, sym, ap, Bool, true, Option}
 use Rattle.ulam_tree.specs.Raw.{Word, Member}
 use Rattle.ulam_tree.specs.RawViews.{member_of}
 use Rattle.ulam_heirs.specs.declared.spans.Span.{Span}

@@ -1,12 +1,11 @@
-use Rattle.std.proofs.Common.{◌≡◌, ◌∙◌, sym, ap, subst, ℕ, ◌+◌, List, [], ◌∷◌, ◌++◌, length, take, Option, arith}
-use Rattle.std.proofs.lemmas.List.{length-map, length-take-le, take_all}
+use Rattle.std.proofs.Common.{◌≡◌, ◌∙◌, sym, subst, ℕ, ◌+◌, List, [], ◌∷◌, ◌++◌, length, take, Option, arith}
 use Rattle.ulam_heirs.specs.declared.heir.Heir.{Heir as CodeHeir}
 use Rattle.ulam_heirs.specs.declared.spans.Span.{Span}
 use Rattle.ulam_heirs.specs.Lines.{Heir}
 use Rattle.ulam_heirs.specs.Spans.{span_by, members_span, IsSpan}
 use Rattle.ulam_heirs.specs.Views.{heir_of, heirs_of}
 use Rattle.ulam_heirs.proofs.Turns.{taken_on, taken_long}
-use Rattle.ulam_heirs.proofs.Spanning.{span_on, no_spans}
+use Rattle.ulam_heirs.proofs.Spanning.{span_on}
 use Rattle.ulam_heirs.proofs.spans.all_spans.Goals as goal
 
 pub loop-heir-preserved : goal.loop-heir-preserved

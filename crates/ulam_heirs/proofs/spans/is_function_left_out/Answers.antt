@@ -1,4 +1,4 @@
-use Rattle.std.proofs.Common.{◌≡◌, ◌∙◌, sym, ap, ℕ, ◌+◌, List, take, drop, Bool, ◌||◌, Some, nat_lt}
+use Rattle.std.proofs.Common.{◌≡◌, ◌∙◌, sym, ap, ◌+◌, List, take, drop, Bool, ◌||◌, Some, nat_lt}
 use Rattle.std.specs.Prelude.{◌&&◌}
 use Rattle.ulam_tree.specs.Raw.{Word, Member}
 use Rattle.ulam_tree.specs.RawViews.{member_of}

@@ -1,4 +1,3 @@
-use Rattle.std.proofs.Common.{◌∙◌, sym}
 use Rattle.ulam_heirs.specs.Views.{heir_of}
 use Rattle.ulam_heirs.proofs.Walking.{joined}
 use Rattle.ulam_heirs.proofs.walk.fault_of.Goals as goal

@@ -1,4 +1,4 @@
-use Rattle.std.proofs.Common.{◌≡◌, sym, subst, ◌+◌, ℕ, List, [], ◌∷◌, ◌++◌, take}
+use Rattle.std.proofs.Common.{sym, subst, ℕ, List, [], ◌∷◌, ◌++◌, take}
 use Rattle.ulam_heirs.specs.declared.heir.Heir.{Heir as CodeHeir}
 use Rattle.ulam_heirs.specs.Lines.{Heir}
 use Rattle.ulam_heirs.specs.Opened.{Table, Covers}
