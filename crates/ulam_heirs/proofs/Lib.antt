@@ -11,7 +11,7 @@ mod Ranking
 mod OpenTables
 mod Tables
 mod Walking
-mod Spanning
+pub mod Spanning
 mod Copies
 mod Turns
 mod PlaceSets

@@ -48,7 +48,7 @@ none_span h i name (m ∷ ms) = go (is_function m) (is_named name m) (has_word h
     go false n w more = more
 
 -- a class that says that a function is virtual declares it
-says_declares : (name : List ℕ) (h : Heir) (ms : List Member) → list_any (λ (m : Member). is_function m && is_named name m && has_word h m) ms ≡ true → list_any (λ (m : Member). is_function m && is_named name m) ms ≡ true
+pub says_declares : (name : List ℕ) (h : Heir) (ms : List Member) → list_any (λ (m : Member). is_function m && is_named name m && has_word h m) ms ≡ true → list_any (λ (m : Member). is_function m && is_named name m) ms ≡ true
 says_declares name h [] e = e
 says_declares name h (m ∷ ms) e = go (is_function m) (is_named name m) (has_word h m) e (says_declares name h ms)
   where
@@ -66,9 +66,6 @@ any_take p zero xs e = refl
 any_take p (suc i) [] e = refl
 any_take p (suc i) (x ∷ xs) e = let two = or_parts (p x) (list_any p xs) e in ap (λ b. b || list_any p (take i xs)) two.0 ∙ any_take p i xs two.1
 
-length_more : {A : Type 0} (xs : List A) (x : A) → length (xs ++ x ∷ []) ≡ length xs + 1
-length_more xs x = length-append xs (x ∷ [])
-
 module _ (line : List Heir) (h : Heir) (name : List ℕ) where
   abbrev whole : List Heir
   whole = line ++ h ∷ []
@@ -80,7 +77,7 @@ module _ (line : List Heir) (h : Heir) (name : List ℕ) where
   virtual_low i le = ap (λ xs. is_virtual_name xs name) (take-append-le i line (h ∷ []) le)
 
   virtual_high : (i : ℕ) → length line < i → is_virtual_name (take i whole) name ≡ (is_virtual_name line name || says_virtual name h)
-  virtual_high i lt = ap (λ xs. is_virtual_name xs name) (take_all i whole (let l : length whole ≡ length line + 1 = length_more line h in omega (arith, l, lt))) ∙ virtual_end
+  virtual_high i lt = ap (λ xs. is_virtual_name xs name) (take_all i whole (let l : length whole ≡ length line + 1 = length-append line (h ∷ []) in omega (arith, l, lt))) ∙ virtual_end
 
   again_low : (i : ℕ) → i < length line → list_any (declares name) (drop (i + 1) whole) ≡ (list_any (declares name) (drop (i + 1) line) || declares name h)
   again_low i lt =
@@ -89,7 +86,7 @@ module _ (line : List Heir) (h : Heir) (name : List ℕ) where
       ∙ ap (λ b. list_any (declares name) (drop (i + 1) line) || b) (or-false (declares name h))
 
   again_high : (i : ℕ) → length line ≤ i → list_any (declares name) (drop (i + 1) whole) ≡ false
-  again_high i le = ap (list_any (declares name)) (drop_all (i + 1) whole (let l : length whole ≡ length line + 1 = length_more line h in omega (arith, l, le)))
+  again_high i le = ap (list_any (declares name)) (drop_all (i + 1) whole (let l : length whole ≡ length line + 1 = length-append line (h ∷ []) in omega (arith, l, le)))
 
   -- a span whose last class is the new one
   last_is : declares name h ≡ true → (i : ℕ) → list_any (declares name) (drop (i + 1) whole) ≡ nat_lt i (length line)
@@ -128,14 +125,14 @@ module _ (line : List Heir) (h : Heir) (name : List ℕ) where
       by (inr le) = again_high i le ∙ sym (ap (list_any (declares name)) (drop_all (i + 1) line (omega (arith, le)))) ∙ was i
 
   longer : (n : ℕ) → n < length line → n < length whole
-  longer n lt = let l : length whole ≡ length line + 1 = length_more line h in omega (arith, l, lt)
+  longer n lt = let l : length whole ≡ length line + 1 = length-append line (h ∷ []) in omega (arith, l, lt)
 
   some_on : (s : Span) → IsSpan line name (Some s) → (b : Bool) → declares name h ≡ b → IsSpan whole name (cond b (Some (record { first = s.first; last = length line })) (Some s))
   some_on s is true d = (first_old s.first is.0 is.2, last_is d, longer s.first is.2)
   some_on s is false d = (first_old s.first is.0 is.2, last_old s.last is.1 d, longer s.first is.2)
 
   none_on : is_virtual_name line name ≡ false → (b : Bool) → says_virtual name h ≡ b → IsSpan whole name (cond b (Some (record { first = length line; last = length line })) None)
-  none_on none true says = (first_new none says, last_is (says_declares name h h.class.members says), (let l : length whole ≡ length line + 1 = length_more line h in omega (arith, l)))
+  none_on none true says = (first_new none says, last_is (says_declares name h h.class.members says), (let l : length whole ≡ length line + 1 = length-append line (h ∷ []) in omega (arith, l)))
   none_on none false says = virtual_end ∙ ap (λ b. b || says_virtual name h) none ∙ says
 
   pub span_on : (o : Option Span) → IsSpan line name o → IsSpan whole name (members_span h (length line) name h.class.members o)
