@@ -77,7 +77,7 @@ def written(words: str, files: Mapping[str, File], output: File) -> Row:
 
 def refused(words: str, files: Mapping[str, File], place: str, code: str, number: int = 0) -> Row:
     """A call that ends with a refusal line; the place is `NAME:LINE:COLUMN`, or a name alone."""
-    text = TEXTS[code].replace("N", str(number), 1) if "N" in TEXTS[code] else TEXTS[code]
+    text = TEXTS[code].replace("N", str(number))
     return Row(words, files, STATUSES[code[1]], f"{place}: {code} {text}\n")
 
 
