@@ -6,6 +6,7 @@ pub mod Lists
 pub mod Living
 pub mod Marking
 pub mod Orders
+pub mod OwnEntries
 pub mod Passing
 pub mod Splits
 pub mod TileEntries

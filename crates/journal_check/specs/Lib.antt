@@ -1,3 +1,4 @@
+pub mod ByTile
 pub mod Clocks
 pub mod Entries
 pub mod Excuses

@@ -7,6 +7,7 @@ ghost use Rattle.event_journal.specs.Logs.{ComesBefore};
 ghost use Rattle.event_journal.specs.declared.abandoned.Abandoned.{Abandoned};
 ghost use Rattle.journal_check.specs.Entries.{IsPlanOf};
 
+use crate::by_tile::{abandoned_of, events_by_tile};
 use crate::entries::are_entries;
 use cell_grid::Record;
 use draw_stream::AttemptPlan;
@@ -72,7 +73,8 @@ fn are_abandoned_by_tiles(abandoned: &[Abandoned], tiles: u32) -> bool
 
 /// Whether each attempt of each tile has one entry, an event or an abandoned attempt, at its site
 /// and with its seed, and there are no others; both lists are in order, and of two events of a tile
-/// the later attempt has the greater stamp. `NoMemory` if there is none for the attempts of a tile.
+/// the later attempt has the greater stamp. For n entries and abandoned attempts the time is of the
+/// order n. `NoMemory` if there is none for the events of the tiles or the attempts of one.
 pub(crate) fn is_accounted(
     alloc: Global,
     map: &Map,
@@ -96,9 +98,12 @@ pub(crate) fn is_accounted(
     if !are_abandoned_by_tiles(abandoned, tiles) {
         return Ok(false);
     }
+    let table = events_by_tile(alloc, plan, tiles, records)?;
     for tile in 0..tiles {
         let attempts = plan.of_tile(alloc, tile)?;
-        if !are_entries(map, tile, attempts, records, abandoned) {
+        let events = &table[tile as usize];
+        let gone = abandoned_of(abandoned, tile);
+        if !are_entries(map, tile, attempts, events.as_slice(), gone) {
             return Ok(false);
         }
     }

@@ -180,6 +180,9 @@ pub(crate) fn unexcused(
         IfOk result (FirstUnexcused map.now plan records.now abandoned.now) }
 {
     map.laws();
+    if abandoned.is_empty() {
+        return Ok(None);
+    }
     let table = marks_of(alloc, map, records)?;
     for k in 0..abandoned.len() {
         if !is_excused(map, table.as_slice(), abandoned, &abandoned[k]) {

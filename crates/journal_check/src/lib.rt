@@ -9,6 +9,7 @@
 
 mod accounted;
 mod auditing;
+mod by_tile;
 mod copying;
 mod entries;
 mod excused;
