@@ -11,6 +11,7 @@ pub mod Numbering
 pub mod OneSet
 pub mod Sharing
 pub mod SomeSet
+pub mod Standing
 pub mod Telling
 pub mod TokensKept
 pub mod TreesHold

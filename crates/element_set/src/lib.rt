@@ -20,5 +20,5 @@ mod trees;
 
 pub use actor::Actor;
 pub use fault::BuildFault;
-pub use law::one_building;
+pub use law::{one_building, refusals_stand_in_files};
 pub use set::ElementSet;

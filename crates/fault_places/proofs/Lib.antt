@@ -1,0 +1,14 @@
+pub mod Ends
+pub mod Lists
+pub mod Lexing
+pub mod Parsing
+pub mod Heads
+pub mod Flat
+pub mod Bases
+pub mod Bodies
+pub mod Halves
+pub mod Classes
+pub mod Layouts
+pub mod Typing
+pub mod Typed
+pub mod Standing
