@@ -1,0 +1,3 @@
+mod BasesLines
+mod BasesFaults
+mod BasesExamples
