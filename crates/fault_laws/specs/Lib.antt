@@ -1,0 +1,3 @@
+pub mod NamesBodies
+pub mod NamesFaults
+pub mod NamesText
