@@ -1,3 +1,4 @@
+pub mod Fails
 mod BasesLines
 mod BasesFaults
 mod BasesExamples
