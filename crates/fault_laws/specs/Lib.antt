@@ -4,5 +4,6 @@ pub mod NamesText
 pub mod Bases
 pub mod BasesExample
 pub mod Types
+pub mod TypesExample
 pub mod TypesParts
 pub mod TypesRows
