@@ -1,10 +1,11 @@
 -- What the first fault of bases says of its place.
-use Rattle.std.proofs.Common.{◌≡◌, ◌≢◌, ℕ, zero, suc, ◌+◌, ◌<◌, ◌⊎◌, inl, inr, refl, sym, ap, ◌∙◌, subst, List, [], ◌∷◌, ◌++◌, append_assoc, append-nil, reverse, flat_map, Bool, true, false, not, ◌&&◌, ◌||◌, cond, Option, Some, None, ◌==◌, arith, Contains, slice_get, bytes_eq}
+use Rattle.std.proofs.Common.{◌≡◌, ◌≢◌, ℕ, zero, suc, ◌+◌, ◌<◌, ◌⊎◌, inl, inr, refl, sym, ap, ◌∙◌, subst, List, [], ◌∷◌, ◌++◌, append_assoc, append-nil, length, reverse, flat_map, Bool, true, false, not, ◌&&◌, ◌||◌, cond, Option, Some, None, ◌==◌, arith, Contains, slice_get, bytes_eq}
 use Rattle.std.specs.List.{list_any}
 use Rattle.std.specs.Option.{option_map_or, option_or, option_and_then, option_to_list}
 use Rattle.std.proofs.lemmas.Bool.{false≢true, true≢false, eqb-true, eq-eqb, and_parts, or_cases}
 use Rattle.std.proofs.lemmas.Option.{same_Some, none-some}
 use Rattle.std.proofs.lemmas.List.{reverse-append, reverse-reverse}
+use Rattle.std.proofs.lemmas.List.Elements.{Contains-append_right}
 use Rattle.std.proofs.lemmas.List.Concat.{flat_map-append}
 use Rattle.std.proofs.lemmas.List.Sorted.{Contains-permutation, IsPermutation-reverse}
 use Rattle.std.proofs.lemmas.Slice.Eq.{bytes_eq-Decides}
@@ -82,14 +83,17 @@ its_own hs k h f stands e = go (is_own_base hs k) refl e
 
 -- Override does not match
 
+abbrev spot : ℕ → ℕ → ℕ → Place
+spot file line column = record { file = file; line = line; column = column }
+
 same_places : (p q : Place) → same_place p q ≡ true → p ≡ q
 same_places p q e =
-    let a = and_parts _ _ e in
-    let b = and_parts _ _ a.1 in
-    let file : p.file ≡ q.file = eqb-true _ _ a.0 in
-    let line : p.line ≡ q.line = eqb-true _ _ b.0 in
-    let column : p.column ≡ q.column = eqb-true _ _ b.1 in
-    cc
+    let front = and_parts (p.file == q.file) (p.line == q.line && p.column == q.column) e in
+    let rest = and_parts (p.line == q.line) (p.column == q.column) front.1 in
+    let file : p.file ≡ q.file = eqb-true _ _ front.0 in
+    let line : p.line ≡ q.line = eqb-true _ _ rest.0 in
+    let column : p.column ≡ q.column = eqb-true _ _ rest.1 in
+    ap (λ x. spot x p.line p.column) file ∙ ap (λ x. spot q.file x p.column) line ∙ ap (λ x. spot q.file q.line x) column
 
 word_before : (h : Heir) (m : Member) → has_word h m ≡ true → HasWord h m
 word_before h m e =
@@ -109,7 +113,7 @@ sizes_alike (Some a) None h = absurd h
 sizes_alike (Some a) (Some b) h = widths_alike a b h
 
 both : (a b : Bool) → a ≡ true → b ≡ true → (a && b) ≡ true
-both a b e f = rw (e, f) refl
+both a b e f = ap (λ x. x && b) e ∙ f
 
 types_alike : (a b : TypeRef) → SameType a b → same_type a b ≡ true
 types_alike a b h = both _ _ ((bytes_eq-Decides a.word.name b.word.name).1 h.0) (sizes_alike a.width b.width h.1)
@@ -159,9 +163,12 @@ record ClashAt (hs : List Heir) (done ks : List ℕ) (m : Member) : Type 0 where
   is : slice_get hs number ≡ Some heir
   clashes : clashes_with (classes_at hs (done ++ front)) heir m ≡ true
 
+abbrev ClashesThen : List Heir → List ℕ → List ℕ → Member → Type 0
+ClashesThen hs done ks m = clashes_behind (classes_at hs done) (classes_at hs ks) m ≡ true → ClashAt hs done ks m
+
 clash_at : (hs : List Heir) (done ks : List ℕ) (m : Member) → clashes_behind (classes_at hs done) (classes_at hs ks) m ≡ true → ClashAt hs done ks m
 clash_at hs done [] m e = absurd (false≢true e)
-clash_at hs done (k ∷ ks) m e = by (slice_get hs k) refl e
+clash_at hs done (k ∷ ks) m e = by (slice_get hs k) refl e (clash_at hs (done ++ (k ∷ [])) ks m)
   where
     one : (o : Option Heir) → slice_get hs k ≡ o → classes_at hs (done ++ (k ∷ [])) ≡ classes_at hs done ++ option_to_list o
     one o at = flat_map-append (class_at hs) done (k ∷ []) ∙ ap (λ xs. classes_at hs done ++ xs) (append-nil (class_at hs k) ∙ ap option_to_list at)
@@ -177,8 +184,8 @@ clash_at hs done (k ∷ ks) m e = by (slice_get hs k) refl e
       clashes = ap (λ xs. clashes_with (classes_at hs xs) c.heir m) (sym (append_assoc done (k ∷ []) c.front)) ∙ c.clashes;
     }
 
-    on : (h : Heir) → slice_get hs k ≡ Some h → (b : Bool) → clashes_with (classes_at hs done) h m ≡ b → (b || clashes_behind (classes_at hs done ++ (h ∷ [])) (classes_at hs ks) m) ≡ true → ClashAt hs done (k ∷ ks) m
-    on h at true is e = record {
+    on : (h : Heir) → slice_get hs k ≡ Some h → (b : Bool) → clashes_with (classes_at hs done) h m ≡ b → (b || clashes_behind (classes_at hs done ++ (h ∷ [])) (classes_at hs ks) m) ≡ true → ClashesThen hs (done ++ (k ∷ [])) ks m → ClashAt hs done (k ∷ ks) m
+    on h at true is e later = record {
       front = [];
       number = k;
       back = ks;
@@ -187,19 +194,19 @@ clash_at hs done (k ∷ ks) m e = by (slice_get hs k) refl e
       is = at;
       clashes = ap (λ xs. clashes_with (classes_at hs xs) h m) (append-nil done) ∙ is;
     }
-    on h at false is e = next (clash_at hs (done ++ (k ∷ [])) ks m (ap (λ xs. clashes_behind xs (classes_at hs ks) m) (one (Some h) at) ∙ e))
+    on h at false is e later = next (later (ap (λ xs. clashes_behind xs (classes_at hs ks) m) (one (Some h) at) ∙ e))
 
-    by : (o : Option Heir) → slice_get hs k ≡ o → clashes_behind (classes_at hs done) (option_to_list o ++ classes_at hs ks) m ≡ true → ClashAt hs done (k ∷ ks) m
-    by None at e = next (clash_at hs (done ++ (k ∷ [])) ks m (ap (λ xs. clashes_behind xs (classes_at hs ks) m) (one None at ∙ append-nil (classes_at hs done)) ∙ e))
-    by (Some h) at e = on h at (clashes_with (classes_at hs done) h m) refl e
+    by : (o : Option Heir) → slice_get hs k ≡ o → clashes_behind (classes_at hs done) (option_to_list o ++ classes_at hs ks) m ≡ true → ClashesThen hs (done ++ (k ∷ [])) ks m → ClashAt hs done (k ∷ ks) m
+    by None at e later = next (later (ap (λ xs. clashes_behind xs (classes_at hs ks) m) (one None at ∙ append-nil (classes_at hs done)) ∙ e))
+    by (Some h) at e later = on h at (clashes_with (classes_at hs done) h m) refl e later
 
 -- a class that says that a name is virtual
 says : (hs : List Heir) (k : ℕ) (h : Heir) (name : List ℕ) → slice_get hs k ≡ Some h → says_virtual name h ≡ true → SaysVirtual hs k name
 says hs k h name at e =
     let found = any_in (λ (m : Member). is_function m && is_named name m && has_word h m) h.class.members e in
     let m = found.0 in
-    let a = and_parts (is_function m) _ found.2 in
-    let b = and_parts (is_named name m) _ a.1 in
+    let a = and_parts (is_function m) (is_named name m && has_word h m) found.2 in
+    let b = and_parts (is_named name m) (has_word h m) a.1 in
     record {
       heir = h;
       own = m;
@@ -212,7 +219,7 @@ says hs k h name at e =
 
 -- a virtual function of a class, where the numbers before it in the line are of its bases
 virtual_is : (hs : List Heir) (k : ℕ) (h : Heir) (ks : List ℕ) (m : Member) → ((j : ℕ) → Contains ks j → LeadsTo hs k j) → is_virtual (classes_at hs ks) h m ≡ true → IsVirtual hs k h m
-virtual_is hs k h ks m above e = go (or_cases (has_word h m) (is_virtual_name (classes_at hs ks) (member_word m).name) (and_parts (is_function m) _ e).1)
+virtual_is hs k h ks m above e = go (or_cases (has_word h m) (is_virtual_name (classes_at hs ks) (member_word m).name) (and_parts (is_function m) (has_word h m || is_virtual_name (classes_at hs ks) (member_word m).name) e).1)
   where
     go : (has_word h m ≡ true) ⊎ (is_virtual_name (classes_at hs ks) (member_word m).name ≡ true) → IsVirtual hs k h m
     go (inl word) = inl (word_before h m word)
@@ -225,8 +232,8 @@ overrides : (hs : List Heir) (k b : ℕ) (m : Member) → IsBase hs k b → Clas
 overrides hs k b m is c =
     let found = any_in (is_clash (classes_at hs c.front) c.heir m) c.heir.class.members c.clashes in
     let n = found.0 in
-    let named = and_parts (is_named (member_word m).name n) _ found.2 in
-    let rest = and_parts (is_virtual (classes_at hs c.front) c.heir n) _ named.1 in
+    let named = and_parts (is_named (member_word m).name n) (is_virtual (classes_at hs c.front) c.heir n && differs n m) found.2 in
+    let rest = and_parts (is_virtual (classes_at hs c.front) c.heir n) (differs n m) named.1 in
     record {
       base = c.number;
       heir = c.heir;
@@ -239,21 +246,18 @@ overrides hs k b m is c =
       differ = they_differ n m rest.1;
     }
   where
-    ways : List ℕ
-    ways = upward _ (base_of hs) b
-
-    turned : upward _ (base_of hs) b ≡ reverse c.back ++ (c.number ∷ reverse c.front)
+    turned : upward (length hs) (base_of hs) b ≡ reverse c.back ++ (c.number ∷ reverse c.front)
     turned =
-        sym (reverse-reverse (upward _ (base_of hs) b))
+        sym (reverse-reverse (upward (length hs) (base_of hs) b))
         ∙ ap reverse c.split
         ∙ reverse-append c.front (c.number ∷ c.back)
         ∙ ap (λ xs. xs ++ reverse c.front) (reverse-append (c.number ∷ []) c.back)
         ∙ append_assoc (reverse c.back) (c.number ∷ []) (reverse c.front)
 
     above : (j : ℕ) → Contains c.front j → LeadsTo hs c.number j
-    above j h = upward_behind hs _ b (reverse c.back) c.number (reverse c.front) j turned (Contains-permutation c.front (reverse c.front) j (IsPermutation-reverse c.front) h)
+    above j h = upward_behind hs (length hs) b (reverse c.back) c.number (reverse c.front) j turned (Contains-permutation c.front (reverse c.front) j (IsPermutation-reverse c.front) h)
 
-    inside : Contains (upward _ (base_of hs) b) c.number
+    inside : Contains (upward (length hs) (base_of hs) b) c.number
     inside = subst (λ xs. Contains xs c.number) (sym turned) (Contains-append_right (reverse c.back) (c.number ∷ reverse c.front) c.number (in_first c.number (reverse c.front)))
 
     go : (b ≡ c.number) ⊎ LeadsTo hs b c.number → LeadsTo hs k c.number
@@ -261,7 +265,7 @@ overrides hs k b m is c =
     go (inr more) = through k b c.number is more
 
     leads : LeadsTo hs k c.number
-    leads = go (upward_to hs _ b c.number inside)
+    leads = go (upward_to hs (length hs) b c.number inside)
 
 clash_is : (hs : List Heir) (k : ℕ) (m : Member) → clashes_behind [] (bases hs k) m ≡ true → OverridesOther hs k m
 clash_is hs k m e = by (base_of hs k) refl e
@@ -270,23 +274,21 @@ clash_is hs k m e = by (base_of hs k) refl e
     by None is e = absurd (false≢true e)
     by (Some b) is e = overrides hs k b m (base_is hs k b is) (clash_at hs [] (line_numbers hs b) m e)
 
-no_match : (hs : List Heir) (k : ℕ) (h : Heir) (f : HeirsFault) → slice_get hs k ≡ Some h → bad_override hs k h ≡ Some f → HoldsAt hs f
-no_match hs k h f stands e = go (is_bad (bases hs k) h m) refl found.2
+no_match_of : (hs : List Heir) (k : ℕ) (h : Heir) (m : Member) (f : HeirsFault) → slice_get hs k ≡ Some h → Contains h.class.members m → bad_member (bases hs k) h m ≡ Some f → HoldsAt hs f
+no_match_of hs k h m f stands declares e = go (is_bad (bases hs k) h m) refl e
   where
-    found : (m : Member) × Contains h.class.members m × (bad_member (bases hs k) h m ≡ Some f)
-    found = at_member (bases hs k) h h.class.members f e
-
-    m : Member
-    m = found.0
-
     wrong : ((is_field m && has_word h m) ≡ true) ⊎ (clashes_behind [] (bases hs k) m ≡ true) → ((is_field m ≡ true) × HasWord h m) ⊎ OverridesOther hs k m
     wrong (inl data_member) = let parts = and_parts (is_field m) (has_word h m) data_member in inl (parts.0, word_before h m parts.1)
     wrong (inr clash) = inr (clash_is hs k m clash)
 
     go : (b : Bool) → is_bad (bases hs k) h m ≡ b → cond b (Some (BadOverride (member_word m).place)) None ≡ Some f → HoldsAt hs f
-    go true is e = subst (HoldsAt hs) (same_Some (BadOverride (member_word m).place) f e)
-      (record { number = k; heir = h; member = m; is = stands; declares = found.1; at = refl; wrong = wrong (or_cases (is_field m && has_word h m) (clashes_behind [] (bases hs k) m) is) })
+    go true is e =
+        subst (HoldsAt hs) (same_Some (BadOverride (member_word m).place) f e)
+        (record { number = k; heir = h; member = m; is = stands; declares = declares; at = refl; wrong = wrong (or_cases (is_field m && has_word h m) (clashes_behind [] (bases hs k) m) is) })
     go false is e = absurd (none-some f e)
+
+no_match : (hs : List Heir) (k : ℕ) (h : Heir) (f : HeirsFault) → slice_get hs k ≡ Some h → bad_override hs k h ≡ Some f → HoldsAt hs f
+no_match hs k h f stands e = let found = at_member (bases hs k) h h.class.members f e in no_match_of hs k h found.0 f stands found.1 found.2
 
 -- Which rule the first fault is of
 

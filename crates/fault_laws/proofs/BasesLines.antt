@@ -29,7 +29,7 @@ in_cons y xs x (suc k, lt, is) = inr (k, omega arith, is)
 -- one that passes a test, where some do
 pub any_in : {A : Type 0} (p : A → Bool) (xs : List A) → list_any p xs ≡ true → (x : A) × Contains xs x × (p x ≡ true)
 any_in p [] e = absurd (false≢true e)
-any_in p (x ∷ xs) e = go (p x) refl e (any_in p xs)
+any_in {A = A} p (x ∷ xs) e = go (p x) refl e (any_in p xs)
   where
     go : (b : Bool) → p x ≡ b → (b || list_any p xs) ≡ true → (list_any p xs ≡ true → (y : A) × Contains xs y × (p y ≡ true)) → (y : A) × Contains (x ∷ xs) y × (p y ≡ true)
     go true is h rest = (x, in_first x xs, is)
@@ -128,7 +128,7 @@ leads_to hs (suc m) k j e = by (base_of hs k) refl e (λ i. leads_to hs m i j)
 pub upward_to : (hs : List Heir) (n k j : ℕ) → Contains (upward n (base_of hs) k) j → (k ≡ j) ⊎ LeadsTo hs k j
 unfolding upward
 upward_to hs zero k j h = absurd (in_none j h)
-upward_to hs (suc n) k j h = go (in_cons k (option_map_or (upward n (base_of hs)) (base_of hs k) []) j h)
+upward_to hs (suc n) k j h = go (in_cons k (option_map_or (upward n (base_of hs)) (base_of hs k) []) j h) (λ i. upward_to hs n i j)
   where
     on : (i : ℕ) → IsBase hs k i → (i ≡ j) ⊎ LeadsTo hs i j → LeadsTo hs k j
     on i is (inl same) = subst (LeadsTo hs k) same (straight k i is)
@@ -138,9 +138,9 @@ upward_to hs (suc n) k j h = go (in_cons k (option_map_or (upward n (base_of hs)
     by None is h up = absurd (in_none j h)
     by (Some i) is h up = on i (base_is hs k i is) (up i h)
 
-    go : (k ≡ j) ⊎ Contains (option_map_or (upward n (base_of hs)) (base_of hs k) []) j → (k ≡ j) ⊎ LeadsTo hs k j
-    go (inl same) = inl same
-    go (inr more) = inr (by (base_of hs k) refl more (λ i. upward_to hs n i j))
+    go : (k ≡ j) ⊎ Contains (option_map_or (upward n (base_of hs)) (base_of hs k) []) j → ((i : ℕ) → Contains (upward n (base_of hs) i) j → (i ≡ j) ⊎ LeadsTo hs i j) → (k ≡ j) ⊎ LeadsTo hs k j
+    go (inl same) up = inl same
+    go (inr more) up = inr (by (base_of hs k) refl more up)
 
 -- those behind a class on the way up are its bases
 pub upward_behind : (hs : List Heir) (n k : ℕ) (front : List ℕ) (i : ℕ) (back : List ℕ) (j : ℕ) → upward n (base_of hs) k ≡ front ++ (i ∷ back) → Contains back j → LeadsTo hs i j
@@ -165,7 +165,7 @@ upward_behind hs (suc n) k [] i back j e h = go (by (base_of hs k) refl (subst (
     by : (o : Option ℕ) → base_of hs k ≡ o → Contains (option_map_or (upward n (base_of hs)) o []) j → LeadsTo hs k j
     by None is h = absurd (in_none j h)
     by (Some b) is h = on b (base_is hs k b is) (upward_to hs n b j h)
-upward_behind hs (suc n) k (x ∷ front) i back j e h = by (base_of hs k) tail
+upward_behind hs (suc n) k (x ∷ front) i back j e h = by (base_of hs k) tail (λ b is. upward_behind hs n b front i back j is h)
   where
     tail : option_map_or (upward n (base_of hs)) (base_of hs k) [] ≡ front ++ (i ∷ back)
     tail = cc
@@ -174,6 +174,6 @@ upward_behind hs (suc n) k (x ∷ front) i back j e h = by (base_of hs k) tail
     none [] e = cc
     none (x ∷ xs) e = cc
 
-    by : (o : Option ℕ) → option_map_or (upward n (base_of hs)) o [] ≡ front ++ (i ∷ back) → LeadsTo hs i j
-    by None e = absurd (none front e)
-    by (Some b) e = upward_behind hs n b front i back j e h
+    by : (o : Option ℕ) → option_map_or (upward n (base_of hs)) o [] ≡ front ++ (i ∷ back) → ((b : ℕ) → upward n (base_of hs) b ≡ front ++ (i ∷ back) → LeadsTo hs i j) → LeadsTo hs i j
+    by None e up = absurd (none front e)
+    by (Some b) e up = up b e

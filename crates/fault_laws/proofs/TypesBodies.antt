@@ -36,8 +36,15 @@ left_by_typed g x (Some e) a h =
     let Q : t.Left × Ty → Type 0 = λ d. IsLeftBy g x (Some e) d.0 d.1 in
     means_at Q (b.left_by g x (Some e)) a (means_then _ Q (index_by g x (expr g k.Int e)) _ (index_means g x (IsTyped g k.Int e) (expr g k.Int e) (expr_means g k.Int e)) (λ i j. (i.0, j.0, j.1, j.2, refl))) h
 
-left_typed : (g : Scope) (l : r.Left) (a : t.Left × Ty) → b.left g l ≡ Ok a → TypedLeft g l
+abbrev left_typed : (g : Scope) (l : r.Left) (a : t.Left × Ty) → b.left g l ≡ Ok a → TypedLeft g l
 left_typed g l a h = record { left = a.0; ty = a.1; is = left_by_typed g l.path l.index a h }
+
+-- what `++` or `--` makes of a typed left side
+abbrev counted_by : Scope → Place → t.Left → Ty → Bool → Found t.Statement
+counted_by g p a ty up = do
+  sum ← pair_found p op.Add true ty (plain_type (taken ty))
+  _ ← must (assignable g ty sum) (not_assignable p)
+  Ok (t.counts a up)
 
 module _ (cs : List r.Class) where
   left_fails : (g : Scope) (l : r.Left) → Stands cs g (a_left l) → Fails (FaultHolds cs) (b.left g l)
@@ -59,7 +66,7 @@ module _ (cs : List r.Class) where
   value_fails g p ty e st =
       fails_then (FaultHolds cs) (expr g (taken ty) e) _ (expr_fails cs g (taken ty) e (of_value st)) (λ a ha.
       fails_must_then (FaultHolds cs) (assignable g ty (t.ty_of a)) (not_assignable p) _
-      (λ no. record { scope = g; part = a_value p ty e; stands = st; is = (refl, a, typed g (taken ty) e a ha, refuted (assignable g ty (t.ty_of a)) no (assignable_true g ty (t.ty_of a))) })
+      (λ off. record { scope = g; part = a_value p ty e; stands = st; is = (refl, a, typed g (taken ty) e a ha, refuted (assignable g ty (t.ty_of a)) off (assignable_true g ty (t.ty_of a))) })
       (λ _. tt))
 
   assigned_fails : (g : Scope) (l : r.Left) (op : Option PairOp) (e : r.Expr) (to : TypedLeft g l) → Stands cs g (a_statement (r.assigns l op e)) → Fails (FaultHolds cs) (b.assigned g l.path.place to.ty op e)
@@ -75,11 +82,11 @@ module _ (cs : List r.Class) where
       (λ refused. record { scope = g; part = part; stands = st; is = (refl, u, refused) })
       (λ mixed. record { scope = g; part = part; stands = st; is = (refl, mixed.0, u, mixed.1) }))
       (λ sum is. fails_must_then Q (assignable g to.ty sum) (not_assignable p) _
-      (λ no. record { scope = g; part = part; stands = st; is = (refl, u, sum, is, refuted (assignable g to.ty sum) no (assignable_true g to.ty sum)) })
+      (λ off. record { scope = g; part = part; stands = st; is = (refl, u, sum, is, refuted (assignable g to.ty sum) off (assignable_true g to.ty sum)) })
       (λ _. tt)))
 
   counted_fails : (g : Scope) (l : r.Left) (up : Bool) (to : TypedLeft g l) → Stands cs g (a_statement (r.counts l up)) →
-      Fails (FaultHolds cs) (pair_found l.path.place op.Add true to.ty (plain_type (taken to.ty)) >>= λ (sum : Ty). must (assignable g to.ty sum) (not_assignable l.path.place) >>= λ _. Ok (t.counts to.left up))
+      Fails (FaultHolds cs) (counted_by g l.path.place to.left to.ty up)
   counted_fails g l up to st =
       let Q = FaultHolds cs in
       let p = l.path.place in
@@ -89,7 +96,7 @@ module _ (cs : List r.Class) where
       (λ refused. record { scope = g; part = a_statement (r.counts l up); stands = st; is = (refl, to, λ h. refused.0 (counted_numbers to.ty h)) })
       (λ mixed. absurd (never mixed.1)))
       (λ sum is. fails_must_then Q (assignable g to.ty sum) (not_assignable p) _
-      (λ no. absurd (both_ways (assignable g to.ty sum) no (counted_assignable g to.ty sum is)))
+      (λ off. absurd (both_ways (assignable g to.ty sum) off (counted_assignable g to.ty sum is)))
       (λ _. tt))
     where
       never : AreMixed to.ty (plain_type (taken to.ty)) → ⊥
@@ -101,7 +108,7 @@ module _ (cs : List r.Class) where
   test_fails g e st =
       fails_then (FaultHolds cs) (expr g k.Int e) _ (expr_fails cs g k.Int e (of_condition st)) (λ a ha.
       fails_must_then (FaultHolds cs) (is_truth (t.ty_of a)) (wrong_type (place_of e)) _
-      (λ no. record { scope = g; part = a_condition e; stands = st; is = (refl, alone g e a ha, refuted (is_truth (t.ty_of a)) no (bool_true (t.ty_of a))) })
+      (λ off. record { scope = g; part = a_condition e; stands = st; is = (refl, alone g e a ha, refuted (is_truth (t.ty_of a)) off (bool_true (t.ty_of a))) })
       (λ _. tt))
 
   maybe_fails : (walk : r.Expr → Found t.Expr) (o : Option r.Expr) → ((e : r.Expr) → o ≡ Some e → Fails (FaultHolds cs) (walk e)) → Fails (FaultHolds cs) (b.maybe walk o)
@@ -116,7 +123,7 @@ module _ (cs : List r.Class) where
       fails_found_then Q (atom_slot g z.steps) (bad_as z.place) _
       (λ none. record { scope = g; part = part; stands = st; is = inl (refl, λ slot local. refuted_none (atom_slot g z.steps) none (λ h. ap is_some (atom_local g z slot h)) local) })
       (λ slot is. fails_must_then Q (is_element_type g c.ty) (bad_as c.place) _
-      (λ no. record { scope = g; part = part; stands = st; is = inr (refl, refuted (is_element_type g c.ty) no (element_type_true g c.ty)) })
+      (λ off. record { scope = g; part = part; stands = st; is = inr (refl, refuted (is_element_type g c.ty) off (element_type_true g c.ty)) })
       (λ _. tt))
   cond_fails g (r.test e) x y st = fails_then (FaultHolds cs) (b.test g e) _ (test_fails g e (if_asks st)) (λ _ _. tt)
 
@@ -124,7 +131,7 @@ module _ (cs : List r.Class) where
   cond_sees g (r.seen z c) =
       let P : t.Cond × Scope → Type 0 = λ d. Sees g (r.seen z c) d.1 in
       means_found P (atom_slot g z.steps) _ _ (λ slot is.
-      means_must P (is_element_type g c.ty) _ _ (λ yes. (slot, atom_local_is g z.steps slot is, element_type_is g c.ty yes, refl)))
+      means_must P (is_element_type g c.ty) _ _ (λ on. (slot, atom_local_is g z.steps slot is, element_type_is g c.ty on, refl)))
   cond_sees g (r.test e) =
       let P : t.Cond × Scope → Type 0 = λ d. Sees g (r.test e) d.1 in
       means_then (λ _. Unit {0}) P (b.test g e) _ (anything (b.test g e)) (λ _ _. refl)
@@ -138,7 +145,7 @@ module _ (cs : List r.Class) where
   result_fails : (g : Scope) (p : Place) (e : Option r.Expr) → Stands cs g (a_statement (r.returns p e)) → Fails (FaultHolds cs) (b.result g p e)
   result_fails g p None st =
       fails_must_then (FaultHolds cs) (is_void g.result) (wrong_type p) _
-      (λ no. record { scope = g; part = a_statement (r.returns p None); stands = st; is = (refl, not_void g.result no) })
+      (λ off. record { scope = g; part = a_statement (r.returns p None); stands = st; is = (refl, not_void g.result off) })
       (λ _. tt)
   result_fails g p (Some e) st =
       let Q = FaultHolds cs in
@@ -146,11 +153,11 @@ module _ (cs : List r.Class) where
       fails_must_then Q (not (is_void g.result)) (wrong_type p) _
       (λ void. record { scope = g; part = a_statement (r.returns p (Some e)); stands = st; is = (refl, void_is g.result (not-false (is_void g.result) void)) })
       (λ some. fails_must_then Q (assignable g g.result (t.ty_of a)) (not_assignable p) _
-      (λ no. record {
+      (λ off. record {
         scope = g;
         part = a_value p g.result e;
         stands = returned_value st (not_void g.result (not-true (is_void g.result) some));
-        is = (refl, a, typed g (taken g.result) e a ha, refuted (assignable g g.result (t.ty_of a)) no (assignable_true g g.result (t.ty_of a)));
+        is = (refl, a, typed g (taken g.result) e a ha, refuted (assignable g g.result (t.ty_of a)) off (assignable_true g g.result (t.ty_of a)));
       })
       (λ _. tt)))
 
@@ -177,12 +184,12 @@ module _ (cs : List r.Class) where
         fails_then (FaultHolds cs) (b.statement (in_loop g) z) _ (statement_fails (in_loop g) z (in_for st)) (λ _ _. tt))))
     statement_fails g (r.returns p e) st = fails_then (FaultHolds cs) (b.result g p e) _ (result_fails g p e st) (λ _ _. tt)
     statement_fails g (r.breaks p) st =
-        fails_must_then (FaultHolds cs) g.looped (break_outside p) _ (λ no. record { scope = g; part = a_statement (r.breaks p); stands = st; is = (refl, no) }) (λ _. tt)
+        fails_must_then (FaultHolds cs) g.looped (break_outside p) _ (λ off. record { scope = g; part = a_statement (r.breaks p); stands = st; is = (refl, off) }) (λ _. tt)
     statement_fails g (r.continues p) st =
-        fails_must_then (FaultHolds cs) g.looped (break_outside p) _ (λ no. record { scope = g; part = a_statement (r.continues p); stands = st; is = (refl, no) }) (λ _. tt)
+        fails_must_then (FaultHolds cs) g.looped (break_outside p) _ (λ off. record { scope = g; part = a_statement (r.continues p); stands = st; is = (refl, off) }) (λ _. tt)
     statement_fails g (r.declares of n p e) st =
         fails_must_then (FaultHolds cs) (is_value g of.ty) (wrong_type of.place) _
-        (λ no. record { scope = g; part = a_statement (r.declares of n p e); stands = st; is = (refl, refuted (is_value g of.ty) no (value_true g of.ty)) })
+        (λ off. record { scope = g; part = a_statement (r.declares of n p e); stands = st; is = (refl, refuted (is_value g of.ty) off (value_true g of.ty)) })
         (λ _. fails_then (FaultHolds cs) (b.maybe (b.value_for g p of.ty) e) _
         (maybe_fails (b.value_for g p of.ty) e (λ d same. value_fails g p of.ty d (declared_value (subst (λ v. Stands cs g (a_statement (r.declares of n p v))) same st))))
         (λ _ _. tt))

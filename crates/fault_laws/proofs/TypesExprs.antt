@@ -29,7 +29,7 @@ use Rattle.fault_laws.proofs.TypesPaths.{has_value, has_items, callee_is, calls_
 pub typed : (g : Scope) (w : Kind) (e : r.Expr) (a : t.Expr) → expr g w e ≡ Ok a → IsTyped g w e a
 typed g w e a h = means_at (IsTyped g w e) (expr g w e) a (expr_means g w e) h
 
-pub alone : (g : Scope) (e : r.Expr) (a : t.Expr) → expr g k.Int e ≡ Ok a → TypedAlone g e
+abbrev pub alone : (g : Scope) (e : r.Expr) (a : t.Expr) → expr g k.Int e ≡ Ok a → TypedAlone g e
 alone g e a h = record { expr = a; is = typed g k.Int e a h }
 
 -- the faults of two operands, by a rule for what is refused and one for what is mixed
@@ -45,11 +45,11 @@ module _ (cs : List r.Class) where
   number_fails : (g : Scope) (w : Kind) (v : ℕ) (u : Bool) (p : Place) → Stands cs g (an_expr w (r.number v u p)) → Fails (FaultHolds cs) (number w v u p)
   number_fails g w v true p st =
       fails_must_then (FaultHolds cs) (plain_fits k.Unsigned v) (wrong_type p) _
-      (λ no. record { scope = g; part = an_expr w (r.number v true p); stands = st; is = (refl, too_large_unsigned w v no) })
+      (λ off. record { scope = g; part = an_expr w (r.number v true p); stands = st; is = (refl, too_large_unsigned w v off) })
       (λ _. tt)
   number_fails g w v false p st =
       fails_must_then (FaultHolds cs) (plain_fits w v) (wrong_type p) _
-      (λ no. record { scope = g; part = an_expr w (r.number v false p); stands = st; is = (refl, too_large w v no) })
+      (λ off. record { scope = g; part = an_expr w (r.number v false p); stands = st; is = (refl, too_large w v off) })
       (λ _. tt)
 
   -- square brackets
@@ -61,7 +61,7 @@ module _ (cs : List r.Class) where
       (λ none. record { scope = g; part = part; stands = st; is = (refl, inl (refuted_none (item_type g x.steps) none (has_items g x.steps))) })
       (λ ty has. fails_then Q (expr g k.Int e) _ inner (λ i hi.
       fails_must_then Q (is_index (t.ty_of i)) (wrong_type x.place) _
-      (λ no. record { scope = g; part = part; stands = st; is = (refl, inr (alone g e i hi, refuted (is_index (t.ty_of i)) no (index_true (t.ty_of i)))) })
+      (λ off. record { scope = g; part = part; stands = st; is = (refl, inr (alone g e i hi, refuted (is_index (t.ty_of i)) off (index_true (t.ty_of i)))) })
       (λ _. tt)))
 
   -- calls
@@ -74,10 +74,10 @@ module _ (cs : List r.Class) where
   arguments_fail g x es f st calls inner =
       let Q = FaultHolds cs in
       fails_must_then Q (nat_eq (length (wants_of f)) (count es)) (wrong_count x.place) _
-      (λ no. record { scope = g; part = a_call x es; stands = st; is = (refl, f, calls, eqb-false _ _ no) })
+      (λ off. record { scope = g; part = a_call x es; stands = st; is = (refl, f, calls, eqb-false _ _ off) })
       (λ same. fails_then Q (args g (wants_of f) es) _ (inner (eqb-true _ _ same)) (λ xs hx.
       fails_must_then Q (all_suit g (wants_of f) xs) (misfit (is_built f) x.place) _
-      (λ no. misfit_holds g x es f st calls (misfit_is g (wants_of f) es xs (means_at (AreTyped g (wants_of f) es) (args g (wants_of f) es) xs (args_mean g (wants_of f) es) hx) no))
+      (λ off. misfit_holds g x es f st calls (misfit_is g (wants_of f) es xs (means_at (AreTyped g (wants_of f) es) (args g (wants_of f) es) xs (args_mean g (wants_of f) es) hx) off))
       (λ _. tt)))
 
   pub call_fails : (g : Scope) (x : r.Path) (es : r.Args) → Stands cs g (a_call x es) →
@@ -101,14 +101,11 @@ module _ (cs : List r.Class) where
       Fails (FaultHolds cs) (operands (plain x) (plain y) (λ w. expr g w x) (λ w. expr g w y))
   operands_fail g v op x y p st left right = go (plain x) refl (plain y) refl
     where
-      Q : Fault → Type 0
-      Q = FaultHolds cs
-
       no_left : (w : Kind) → plain x ≡ false → Stands cs g (an_expr w x)
-      no_left w no = of_left w st (λ yes. absurd (both_ways (plain x) no yes))
+      no_left w off = of_left w st (λ on. absurd (both_ways (plain x) off on))
 
       no_right : (w : Kind) → plain y ≡ false → Stands cs g (an_expr w y)
-      no_right w no = of_right w st (λ yes. absurd (both_ways (plain y) no yes))
+      no_right w off = of_right w st (λ on. absurd (both_ways (plain y) off on))
 
       go : (a : Bool) → plain x ≡ a → (b : Bool) → plain y ≡ b → Fails (FaultHolds cs) (operands a b (λ w. expr g w x) (λ w. expr g w y))
       go true px false py =
@@ -121,7 +118,7 @@ module _ (cs : List r.Class) where
           fails_then (FaultHolds cs) (expr g k.Int x) _ (left k.Int (no_left k.Int px)) (λ a ha.
           fails_then (FaultHolds cs) (expr g (taken (t.ty_of a)) y) _ (right (taken (t.ty_of a)) (of_right (taken (t.ty_of a)) st (λ _. inr (px, a, typed g k.Int x a ha, refl)))) (λ _ _. tt))
 
-  operands_typed : (g : Scope) (x y : r.Expr) (ab : t.Expr × t.Expr) → operands (plain x) (plain y) (λ w. expr g w x) (λ w. expr g w y) ≡ Ok ab → TypedPair g x y
+  abbrev operands_typed : (g : Scope) (x y : r.Expr) (ab : t.Expr × t.Expr) → operands (plain x) (plain y) (λ w. expr g w x) (λ w. expr g w y) ≡ Ok ab → TypedPair g x y
   operands_typed g x y ab h =
       let both = means_at _ (operands (plain x) (plain y) (λ w. expr g w x) (λ w. expr g w y)) ab (operands_mean (plain x) (plain y) (λ w. expr g w x) (λ w. expr g w y) (expr_any g x)) h in
       record {
@@ -158,13 +155,13 @@ module _ (cs : List r.Class) where
         fails_then (FaultHolds cs) (called_by g x (count es) (λ ws. args g ws es)) _
         (call_fails g x es (value_call st) (λ f calls same. args_fail g (wants_of f) es (λ v d i. of_call f v d (value_call st) calls same i)))
         (λ c hc. fails_must_then (FaultHolds cs) (is_value g c.1) (wrong_type x.place) _
-        (λ no. record { scope = g; part = an_expr w (r.calls x es); stands = st; is = (refl, c.0, c.1, call_typed g x es c hc, refuted (is_value g c.1) no (value_true g c.1)) })
+        (λ off. record { scope = g; part = an_expr w (r.calls x es); stands = st; is = (refl, c.0, c.1, call_typed g x es c hc, refuted (is_value g c.1) off (value_true g c.1)) })
         (λ _. tt))
     expr_fails g w (r.index x e) st =
         fails_then (FaultHolds cs) (index_by g x (expr g k.Int e)) _ (item_fails g x e (read_item st) (expr_fails g k.Int e (of_item (read_item st)))) (λ _ _. tt)
     expr_fails g w (r.instance c) st =
         fails_must_then (FaultHolds cs) (is_species g c.ty) (bad_as c.place) _
-        (λ no. record { scope = g; part = an_expr w (r.instance c); stands = st; is = (refl, refuted (is_species g c.ty) no (species_true g c.ty)) })
+        (λ off. record { scope = g; part = an_expr w (r.instance c); stands = st; is = (refl, refuted (is_species g c.ty) off (species_true g c.ty)) })
         (λ _. tt)
     expr_fails g w (r.group e p) st = fails_then (FaultHolds cs) (expr g w e) _ (expr_fails g w e (of_group st)) (λ _ _. tt)
     expr_fails g w (r.cast c e p) st =
@@ -184,9 +181,9 @@ module _ (cs : List r.Class) where
     expr_fails g w (r.is e c p) st =
         fails_then (FaultHolds cs) (expr g k.Int e) _ (expr_fails g k.Int e (of_is st)) (λ a ha.
         fails_must_then (FaultHolds cs) (is_atom g (t.ty_of a)) (wrong_type p) _
-        (λ no. record { scope = g; part = an_expr w (r.is e c p); stands = st; is = (refl, alone g e a ha, refuted (is_atom g (t.ty_of a)) no (atom_true g (t.ty_of a))) })
+        (λ off. record { scope = g; part = an_expr w (r.is e c p); stands = st; is = (refl, alone g e a ha, refuted (is_atom g (t.ty_of a)) off (atom_true g (t.ty_of a))) })
         (λ _. fails_must_then (FaultHolds cs) (is_species g c.ty) (bad_as c.place) _
-        (λ no. record { scope = g; part = an_expr w (r.is e c p); stands = st; is = (refl, refuted (is_species g c.ty) no (species_true g c.ty)) })
+        (λ off. record { scope = g; part = an_expr w (r.is e c p); stands = st; is = (refl, refuted (is_species g c.ty) off (species_true g c.ty)) })
         (λ _. tt)))
 
     pub args_fail : (g : Scope) (ws : List Want) (es : r.Args) → ((w : Want) (e : r.Expr) → IsArg w e ws es → Stands cs g (an_expr (taken_want w) e)) → Fails (FaultHolds cs) (args g ws es)

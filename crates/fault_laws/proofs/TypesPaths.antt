@@ -32,7 +32,7 @@ number_has : (f : FieldSig) → IsNumberField f → is_some (number_field (Some 
 number_has f h = go f.ty h.0
   where
     go : (ty : Ty) → IsNumber ty → is_some (number_by f.length ty) ≡ true
-    go (Num t) n = rw (eq-eqb f.length 0 h.1) refl
+    go (Num t) n = ap (λ b. is_some (cond b (Some (Num t)) None)) (eq-eqb f.length 0 h.1)
     go Atom n = absurd n
     go Empty n = absurd n
     go Nothing n = absurd n
@@ -41,7 +41,7 @@ number_has f h = go f.ty h.0
     go (Class c) n = absurd n
 
 local_has : (g : Scope) (s : ℕ) (ty : Ty) → IsLocal g s ty → IsValue g ty → is_some (slot_type g (slice_get g.slots s)) ≡ true
-local_has g s ty at h = rw (at, value_true g ty h) refl
+local_has g s ty at h = ap (λ o. is_some (slot_type g o)) at ∙ ap (λ b. is_some (cond b (Some ty) None)) (value_true g ty h)
 
 member_has : (g : Scope) (c m : ℕ) (f : FieldSig) → IsField g c m f → IsNumberField f → is_some (number_field (field_at g c m)) ≡ true
 member_has g c m f at h = ap (λ o. is_some (number_field o)) (field_is g c m f at) ∙ number_has f h
@@ -59,7 +59,7 @@ pub may_be_left : (g : Scope) (steps : List Step) → MayBeLeft g (last_step ste
 may_be_left g steps h = left_some g (last_step steps) h
 
 own_has : (g : Scope) (c : ℕ) → IsElement g (Class c) → is_some (if_value g (Class c)) ≡ true
-own_has g c h = rw (element_true g c h) refl
+own_has g c h = ap (λ b. is_some (cond b (Some (Class c)) None)) (element_true g c h)
 
 value_some : (g : Scope) (o : Option Step) → HasValue g o → is_some (value_by g o) ≡ true
 value_some g None h = absurd h
@@ -75,7 +75,7 @@ has_value g steps h = value_some g (last_step steps) h
 
 items_of : (n : ℕ) (ty : Ty) → (ty ≡ Window) ⊎ (IsNumber ty × (0 < n)) → is_some (item_of n ty) ≡ true
 items_of n ty (inl e) = ap (λ x. is_some (item_of n x)) e
-items_of n (Num t) (inr h) = rw (lt-ltb 0 n h.1) refl
+items_of n (Num t) (inr h) = ap (λ b. is_some (cond b (Some (Num t)) None)) (lt-ltb 0 n h.1)
 items_of n Atom (inr h) = absurd h.0
 items_of n Empty (inr h) = absurd h.0
 items_of n Nothing (inr h) = absurd h.0
@@ -107,7 +107,7 @@ calls_by_is g (Some (Constant num v)) f h = absurd h
 calls_by_is g (Some (Builtin b)) f h = ap Some (sym h)
 
 pub callee_is : (g : Scope) (steps : List Step) (f : Callee) → Calls g steps f → callee g steps ≡ Some f
-callee_is g steps f h = rw h.0 (calls_by_is g (last_step steps) f h.1)
+callee_is g steps f h = ap (λ b. cond b None (callee_by g (last_step steps))) h.0 ∙ calls_by_is g (last_step steps) f h.1
 
 function_found : (g : Scope) (c n : ℕ) (f : Callee) → callee_function (function_at g c n) ≡ Some f → CallsBy g (Some (Function c n)) f
 function_found g c n f e = go (slice_get g.classes c) refl e
@@ -141,7 +141,7 @@ calls_is g steps f e = go (begins_local steps) refl e
 pub suits_true : (g : Scope) (w : Want) (a : t.Expr) → Suits g w a → suits g w a ≡ true
 suits_true g (Value ty) a h = assignable_true g ty (t.ty_of a) h
 suits_true g Site a h = index_true (t.ty_of a) h
-suits_true g Bound a (inl e) = rw e refl
+suits_true g Bound a (inl e) = ap (λ b. b || is_unsigned (t.ty_of a)) e
 suits_true g Bound a (inr h) = go (t.plain a) (ap is_unsigned_class (unsigned_class (t.ty_of a) h).1)
   where
     go : (b : Bool) → is_unsigned (t.ty_of a) ≡ true → (b || is_unsigned (t.ty_of a)) ≡ true
@@ -151,9 +151,9 @@ suits_true g Bound a (inr h) = go (t.plain a) (ap is_unsigned_class (unsigned_cl
 -- an argument that does not suit, where not all do
 pub misfit_is : (g : Scope) (ws : List Want) (es : r.Args) (xs : t.Args) → AreTyped g ws es xs → all_suit g ws xs ≡ false → Misfit g ws es
 unfolding AreTyped
-misfit_is g [] es xs h no = absurd (false≢true (sym no))
-misfit_is g (w ∷ ws) r.no_args xs h no = absurd (false≢true (sym no ∙ ap (all_suit g (w ∷ ws)) h))
-misfit_is g (w ∷ ws) (r.arg e es) xs h no = go (and_cases (suits g w h.0) (all_suit g ws h.1) (sym (ap (all_suit g (w ∷ ws)) h.4) ∙ no)) (misfit_is g ws es h.1 h.3)
+misfit_is g [] es xs h off = absurd (false≢true (sym off))
+misfit_is g (w ∷ ws) r.no_args xs h off = absurd (false≢true (sym off ∙ ap (all_suit g (w ∷ ws)) h))
+misfit_is g (w ∷ ws) (r.arg e es) xs h off = go (and_cases (suits g w h.0) (all_suit g ws h.1) (sym (ap (all_suit g (w ∷ ws)) h.4) ∙ off)) (misfit_is g ws es h.1 h.3)
   where
     on : Misfit g ws es → Misfit g (w ∷ ws) (r.arg e es)
     on m = record { want = m.want; arg = m.arg; expr = m.expr; stands = inr m.stands; is = m.is; unfit = m.unfit }

@@ -28,25 +28,25 @@ module _ (cs : List r.Class) where
   params_fail : (g : Scope) (ps : List r.Param) → ((q : r.Param) → Contains ps q → is_value g q.of.ty ≡ false → FaultHolds cs (wrong_type q.of.place)) → Fails (FaultHolds cs) (p.params g ps)
   params_fail g [] each = tt
   params_fail g (x ∷ ps) each =
-      fails_must_then (FaultHolds cs) (is_value g x.of.ty) (wrong_type x.of.place) _ (each x (in_first x ps)) (λ _. params_fail g ps (λ q i no. each q (in_more x ps q i) no))
+      fails_must_then (FaultHolds cs) (is_value g x.of.ty) (wrong_type x.of.place) _ (each x (in_first x ps)) (λ _. params_fail g ps (λ q i off. each q (in_more x ps q i) off))
 
   function_fails : (g : Scope) (of : Named) (w : Word) (ps : List r.Param) (x : r.Body) → Stands cs g (a_function of w ps x) → Fails (FaultHolds cs) (p.function g of w.place ps x)
   function_fails g of w ps x st =
       let Q = FaultHolds cs in
       let part = a_function of w ps x in
       fails_must_then Q (is_value g of.ty || is_void of.ty) (wrong_type of.place) _
-      (λ no. record { scope = g; part = part; stands = st; is = inl (refl, no_result no) })
+      (λ off. record { scope = g; part = part; stands = st; is = inl (refl, no_result off) })
       (λ _. fails_then Q (p.params g ps) _
-      (params_fail g ps (λ q i no. record { scope = g; part = part; stands = st; is = inr (q, i, refl, refuted (is_value g q.of.ty) no (value_true g q.of.ty)) }))
+      (params_fail g ps (λ q i off. record { scope = g; part = part; stands = st; is = inr (q, i, refl, refuted (is_value g q.of.ty) off (value_true g q.of.ty)) }))
       (λ _ _. fails_then Q (b.body g x) _ (body_fails cs g x (λ y i. in_body y st i))
       (λ _ _. fails_must_then Q (is_void of.ty || not (all_complete x)) (missing_return w.place) _
-      (λ no. let parts = or_parts (is_void of.ty) (not (all_complete x)) no in
+      (λ off. let parts = or_parts (is_void of.ty) (not (all_complete x)) off in
       record { scope = g; part = part; stands = st; is = (refl, not_void of.ty parts.0, not-false (all_complete x) parts.1) })
       (λ _. tt))))
     where
       no_result : (is_value g of.ty || is_void of.ty) ≡ false → IsValue g of.ty ⊎ (of.ty ≡ Nothing) → ⊥
-      no_result no (inl h) = both_ways (is_value g of.ty) (or_parts (is_value g of.ty) (is_void of.ty) no).0 (value_true g of.ty h)
-      no_result no (inr e) = not_void of.ty (or_parts (is_value g of.ty) (is_void of.ty) no).1 e
+      no_result off (inl h) = both_ways (is_value g of.ty) (or_parts (is_value g of.ty) (is_void of.ty) off).0 (value_true g of.ty h)
+      no_result off (inr e) = not_void of.ty (or_parts (is_value g of.ty) (is_void of.ty) off).1 e
 
   member_fails : (n : ℕ) (c : r.Class) (m : r.Member) → slice_get cs n ≡ Some c → Contains c.members m → Fails (FaultHolds cs) (p.member (map class_sig cs) n m)
   member_fails n c (r.field of w len) at i = tt

@@ -13,16 +13,16 @@ use Rattle.ulam_tree.specs.declared.op.PairOp.TheVariants as op
 use Rattle.ulam_types.specs.declared.scope.NumClass.{NumClass}
 use Rattle.ulam_types.specs.declared.scope.NumClass.TheVariants.{Int, Unsigned, Bits, Bool as Truth, Other}
 use Rattle.ulam_types.specs.Scopes.{Scope, ClassSig, is_element_class, is_element, is_value}
-use Rattle.ulam_types.specs.Rows.{class_by, class_of, taken_by, taken, plain_type, plain_fits, arith_type, order_type, equal_type, bits_type, shift_type, truth_type, pair_type, are_mixed, takes_signs, prefix_by, prefix_type, cast_type, is_atom, is_species, is_index, is_index_class, is_truth, is_truth_class, is_void, fits_number, assignable}
+use Rattle.ulam_types.specs.Rows.{class_by, class_of, taken_by, taken, plain_type, plain_fits, arith_type, order_type, equal_type, bits_type, shift_type, truth_type, pair_type, are_mixed, takes_signs, prefix_by, prefix_type, cast_type, is_atom, is_species, is_index, is_index_class, is_truth, is_truth_class, is_void, fits_number, same_class, assignable}
 use Rattle.ulam_types.specs.Bodies.{is_element_type}
 use Rattle.fault_laws.specs.TypesRows.{IsNumber, IsOf, IsInt, IsUnsigned, IsBits, IsBool, IsElement, IsAtom, IsSpecies, IsValue, IsIndex, AreNumbers, AreMixed, AreAlike, Takes, IsForNumbers, IsRefused, TakesOne, IsTooLarge, TakesNumber, IsAssignable}
 
 -- a rule that a test of the table refuses
 pub refuted : {P : Type 0} (b : Bool) → b ≡ false → (P → b ≡ true) → P → ⊥
-refuted b no yes h = both_ways b no (yes h)
+refuted b off on h = both_ways b off (on h)
 
 pub refuted_none : {P A : Type 0} (o : Option A) → o ≡ None → (P → is_some o ≡ true) → P → ⊥
-refuted_none o no yes h = both_ways (is_some o) (ap is_some no) (yes h)
+refuted_none o off on h = both_ways (is_some o) (ap is_some off) (on h)
 
 -- Elements, atoms and values
 
@@ -162,7 +162,7 @@ bool_true ty h = ap is_truth_class (bool_class ty h)
 
 -- two operands by their classes
 by_classes : (f : NumClass → NumClass → Option Ty) (a b : Ty) (c d : NumClass) → class_of a ≡ c → class_of b ≡ d → is_some (f c d) ≡ true → is_some (f (class_of a) (class_of b)) ≡ true
-by_classes f a b c d at here e = rw (at, here) e
+by_classes f a b c d at here e = ap (λ x. is_some (f x (class_of b))) at ∙ ap (λ x. is_some (f c x)) here ∙ e
 
 numbers_taken : (f : NumClass → NumClass → Option Ty) (a b : Ty) → ((m n : ℕ) → is_some (f (Int m) (Int n)) ≡ true) → ((m n : ℕ) → is_some (f (Unsigned m) (Unsigned n)) ≡ true) → AreNumbers a b → is_some (f (class_of a) (class_of b)) ≡ true
 numbers_taken f a b signed unsigned (inl h) = let x = int_class a h.0 in let y = int_class b h.1 in by_classes f a b (Int x.0) (Int y.0) x.1 y.1 (signed x.0 y.0)
@@ -198,7 +198,7 @@ shift_plain m Other = refl
 
 shift_taken : (plain : Bool) (a b : Ty) → IsBits a × (IsUnsigned b ⊎ (plain ≡ true)) → is_some (shift_type plain (class_of a) (class_of b)) ≡ true
 shift_taken plain a b (h, inl i) = let x = bits_class a h in let y = unsigned_class b i in by_classes (shift_type plain) a b (Bits x.0) (Unsigned y.0) x.1 y.1 (shift_unsigned plain x.0 y.0)
-shift_taken plain a b (h, inr e) = let x = bits_class a h in rw e (by_classes (shift_type true) a b (Bits x.0) (class_of b) x.1 refl (shift_plain x.0 (class_of b)))
+shift_taken plain a b (h, inr e) = let x = bits_class a h in ap (λ q. is_some (shift_type q (class_of a) (class_of b))) e ∙ by_classes (shift_type true) a b (Bits x.0) (class_of b) x.1 refl (shift_plain x.0 (class_of b))
 
 pub takes_some : (op : PairOp) (plain : Bool) (a b : Ty) → Takes op plain a b → is_some (pair_type op plain a b) ≡ true
 takes_some op.Add plain a b h = arith_taken a b h
@@ -241,8 +241,8 @@ for_numbers op.Either e = absurd (false≢true e)
 for_numbers op e = tt
 
 pub mixed_true : (a b : Ty) → AreMixed a b → are_mixed (class_of a) (class_of b) ≡ true
-mixed_true a b (inl h) = let x = int_class a h.0 in let y = unsigned_class b h.1 in rw (x.1, y.1) refl
-mixed_true a b (inr h) = let x = unsigned_class a h.0 in let y = int_class b h.1 in rw (x.1, y.1) refl
+mixed_true a b (inl h) = let x = int_class a h.0 in let y = unsigned_class b h.1 in ap (λ c. are_mixed c (class_of b)) x.1 ∙ ap (are_mixed (Int x.0)) y.1
+mixed_true a b (inr h) = let x = unsigned_class a h.0 in let y = int_class b h.1 in ap (λ c. are_mixed c (class_of b)) x.1 ∙ ap (are_mixed (Unsigned x.0)) y.1
 
 mixed_classes : (c d : NumClass) → are_mixed c d ≡ true → ((m : ℕ) × (n : ℕ) × (c ≡ Int m) × (d ≡ Unsigned n)) ⊎ ((m : ℕ) × (n : ℕ) × (c ≡ Unsigned m) × (d ≡ Int n))
 mixed_classes (Int m) (Unsigned n) e = inl (m, n, refl, refl)
@@ -261,15 +261,15 @@ pub mixed_pair : (op : PairOp) (a b : Ty) → (takes_signs op && are_mixed (clas
 mixed_pair op a b e = let h = and_parts (takes_signs op) (are_mixed (class_of a) (class_of b)) e in (for_numbers op h.0, mixed_is a b h.1)
 
 pub refused_pair : (op : PairOp) (plain : Bool) (a b : Ty) → pair_type op plain a b ≡ None → (takes_signs op && are_mixed (class_of a) (class_of b)) ≡ false → IsRefused op plain a b
-refused_pair op plain a b none no = (
+refused_pair op plain a b none off = (
   refuted_none (pair_type op plain a b) none (takes_some op plain a b),
-  λ numbers mixed. both_ways _ no (rw (signs_taken op numbers, mixed_true a b mixed) refl),
+  λ numbers mixed. both_ways (takes_signs op && are_mixed (class_of a) (class_of b)) off (ap (λ x. x && are_mixed (class_of a) (class_of b)) (signs_taken op numbers) ∙ mixed_true a b mixed),
 )
 
 pub one_taken : (op : PrefixOp) (a : Ty) → TakesOne op a → is_some (prefix_type op a) ≡ true
-one_taken pre.Minus a h = rw (int_class a h).1 refl
-one_taken pre.Not a h = rw (bool_class a h) refl
-one_taken pre.Flip a h = rw (bits_class a h).1 refl
+one_taken pre.Minus a h = ap (λ c. is_some (prefix_by pre.Minus c)) (int_class a h).1
+one_taken pre.Not a h = ap (λ c. is_some (prefix_by pre.Not c)) (bool_class a h)
+one_taken pre.Flip a h = ap (λ c. is_some (prefix_by pre.Flip c)) (bits_class a h).1
 
 pub cast_taken : (to from : Ty) → IsNumber to × IsNumber from → is_some (cast_type to from) ≡ true
 cast_taken (Num t) (Num s) h = refl
@@ -301,11 +301,11 @@ too_large_unsigned kind v e = inl (ltb-false v (2 ^ 32) e)
 -- Assigning
 
 number_taken : (kind : Kind) (from : Ty) → TakesNumber kind from → fits_number kind (class_of from) ≡ true
-number_taken k.Int from h = rw (int_class from h).1 refl
-number_taken k.Unsigned from h = rw (unsigned_class from h).1 refl
-number_taken k.Unary from h = rw (unsigned_class from h).1 refl
-number_taken k.Bits from h = rw (bits_class from h).1 refl
-number_taken k.Bool from h = rw (bool_class from h) refl
+number_taken k.Int from h = ap (fits_number k.Int) (int_class from h).1
+number_taken k.Unsigned from h = ap (fits_number k.Unsigned) (unsigned_class from h).1
+number_taken k.Unary from h = ap (fits_number k.Unary) (unsigned_class from h).1
+number_taken k.Bits from h = ap (fits_number k.Bits) (bits_class from h).1
+number_taken k.Bool from h = ap (fits_number k.Bool) (bool_class from h)
 
 pub assignable_true : (g : Scope) (to from : Ty) → IsAssignable g to from → assignable g to from ≡ true
 assignable_true g (Num t) from h = number_taken t.kind from h
@@ -314,7 +314,7 @@ assignable_true g Empty from h = absurd h
 assignable_true g Nothing from h = absurd h
 assignable_true g Window from h = absurd h
 assignable_true g Random from h = absurd h
-assignable_true g (Class c) from h = rw (element_true g c h.0, h.1) (eq-eqb c c refl)
+assignable_true g (Class c) from h = ap (λ x. x && same_class from c) (element_true g c h.0) ∙ ap (λ ty. same_class ty c) h.1 ∙ eq-eqb c c refl
 
 -- `++` and `--`
 

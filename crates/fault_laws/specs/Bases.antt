@@ -5,6 +5,7 @@ use Rattle.ulam_tree.specs.Raw.{Word, Width, wide, wide_as, TypeRef, Param, Memb
 use Rattle.ulam_heirs.specs.declared.fault.HeirsFault.{HeirsFault}
 use Rattle.ulam_heirs.specs.declared.fault.HeirsFault.TheVariants as f
 use Rattle.ulam_heirs.specs.Lines.{Heir}
+use Rattle.ulam_heirs.specs.Faults.{first_fault}
 use Rattle.ulam_heirs.specs.Flat.{member_word, member_type, is_field, is_function}
 
 -- Bases
@@ -119,3 +120,7 @@ HoldsAt heirs (f.NotQuark place) = IsNoQuark heirs place
 HoldsAt heirs (f.OwnBase place) = IsOwnBase heirs place
 HoldsAt heirs (f.BadOverride place) = DoesNotMatch heirs place
 HoldsAt heirs f.NoMemory = ⊥
+
+-- wherever classes are refused for a fault, this holds at the place
+abbrev pub HoldsWhere : (Place → HeirsFault) → (List Heir → Place → Type 0) → Type 0
+HoldsWhere fault Holds = (heirs : List Heir) (place : Place) → first_fault heirs ≡ Some (fault place) → Holds heirs place

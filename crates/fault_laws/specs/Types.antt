@@ -14,6 +14,7 @@ use Rattle.ulam_types.specs.Faults.{Fault, wrong_type, mixed_signs, not_assignab
 use Rattle.ulam_types.specs.Scopes.{Scope, FunctionSig, Callee, function, built, last_step, built_wants, wants_of}
 use Rattle.ulam_types.specs.Rows.{taken, beside, pair_type, taken_want}
 use Rattle.ulam_types.specs.Walk.{plain, place_of, count}
+use Rattle.ulam_types.specs.Programs.{first_fault}
 use Rattle.ulam_types.specs.Typing.{IsTyped, IsCall}
 use Rattle.fault_laws.specs.TypesRows.{IsNumber, IsInt, IsUnsigned, IsBool, IsElement, IsAtom, IsSpecies, IsValue, IsIndex, AreMixed, IsForNumbers, IsRefused, TakesOne, IsTooLarge, IsAssignable, MayBeLeft, HasValue, HasItems, Calls, Suits}
 use Rattle.fault_laws.specs.TypesParts.{Part, a_function, a_statement, a_condition, a_left, a_value, an_item, a_call, an_expr, IsArg, IsAtomLocal, TypedLeft, Stands}
@@ -125,3 +126,7 @@ FaultHolds cs (wrong_count p) = Breaks cs IsMiscounted p
 FaultHolds cs (bad_as p) = Breaks cs IsNoElement p
 FaultHolds cs (break_outside p) = Breaks cs IsOutside p
 FaultHolds cs (missing_return p) = Breaks cs LacksReturn p
+
+-- wherever a program is refused for a fault, a part of it breaks this rule at the place
+abbrev pub BreaksWhere : (Place → Fault) → (Scope → Part → Place → Type 0) → Type 0
+BreaksWhere fault Rule = (program : List r.Class) (place : Place) → first_fault program ≡ Some (fault place) → Breaks program Rule place

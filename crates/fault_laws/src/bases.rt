@@ -1,10 +1,9 @@
 //! The faults of bases.
 ghost use Rattle.std.specs.Prelude.{◌≡◌, List, Some};
-ghost use Rattle.feast_base.specs.declared.place.Place.{Place};
 ghost use Rattle.ulam_heirs.specs.declared.fault.HeirsFault.TheVariants as fault;
 ghost use Rattle.ulam_heirs.specs.Lines.{Heir};
 ghost use Rattle.ulam_heirs.specs.Faults.{first_fault};
-ghost use Rattle.fault_laws.specs.Bases.{IsNoQuark, IsOwnBase, DoesNotMatch};
+ghost use Rattle.fault_laws.specs.Bases.{HoldsWhere, IsNoQuark, IsOwnBase, DoesNotMatch};
 ghost use Rattle.fault_laws.specs.BasesExample.{HasBaseExamples};
 
 /// What holds at the place of the first fault of bases. If a base is refused there, a class names
@@ -14,9 +13,9 @@ ghost use Rattle.fault_laws.specs.BasesExample.{HasBaseExamples};
 /// function of a base and another result or other parameters. There is no other fault. An example
 /// of each meets its condition. The call does nothing: its contract is the laws.
 pub fn base_faults()
-    ensures not_quark { (heirs : List Heir) (place : Place) → first_fault heirs ≡ Some (fault.NotQuark place) → IsNoQuark heirs place }
-    ensures own_base { (heirs : List Heir) (place : Place) → first_fault heirs ≡ Some (fault.OwnBase place) → IsOwnBase heirs place }
-    ensures bad_override { (heirs : List Heir) (place : Place) → first_fault heirs ≡ Some (fault.BadOverride place) → DoesNotMatch heirs place }
+    ensures not_quark { HoldsWhere fault.NotQuark IsNoQuark }
+    ensures own_base { HoldsWhere fault.OwnBase IsOwnBase }
+    ensures bad_override { HoldsWhere fault.BadOverride DoesNotMatch }
     ensures no_other { (heirs : List Heir) → first_fault heirs ≡ Some fault.NoMemory → ⊥ }
     ensures example { HasBaseExamples }
 {}
