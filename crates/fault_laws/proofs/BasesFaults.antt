@@ -88,11 +88,11 @@ spot file line column = record { file = file; line = line; column = column }
 
 same_places : (p q : Place) → same_place p q ≡ true → p ≡ q
 same_places p q e =
-    let front = and_parts (p.file == q.file) (p.line == q.line && p.column == q.column) e in
-    let rest = and_parts (p.line == q.line) (p.column == q.column) front.1 in
-    let file : p.file ≡ q.file = eqb-true _ _ front.0 in
-    let line : p.line ≡ q.line = eqb-true _ _ rest.0 in
-    let column : p.column ≡ q.column = eqb-true _ _ rest.1 in
+    let all = and_parts (p.file == q.file && p.line == q.line) (p.column == q.column) e in
+    let front = and_parts (p.file == q.file) (p.line == q.line) all.0 in
+    let file : p.file ≡ q.file = eqb-true p.file q.file front.0 in
+    let line : p.line ≡ q.line = eqb-true p.line q.line front.1 in
+    let column : p.column ≡ q.column = eqb-true p.column q.column all.1 in
     ap (λ x. spot x p.line p.column) file ∙ ap (λ x. spot q.file x p.column) line ∙ ap (λ x. spot q.file q.line x) column
 
 word_before : (h : Heir) (m : Member) → has_word h m ≡ true → HasWord h m
@@ -205,16 +205,16 @@ says : (hs : List Heir) (k : ℕ) (h : Heir) (name : List ℕ) → slice_get hs 
 says hs k h name at e =
     let found = any_in (λ (m : Member). is_function m && is_named name m && has_word h m) h.class.members e in
     let m = found.0 in
-    let a = and_parts (is_function m) (is_named name m && has_word h m) found.2 in
-    let b = and_parts (is_named name m) (has_word h m) a.1 in
+    let all = and_parts (is_function m && is_named name m) (has_word h m) found.2 in
+    let front = and_parts (is_function m) (is_named name m) all.0 in
     record {
       heir = h;
       own = m;
       is = at;
       declares = found.1;
-      callable = a.0;
-      named = (bytes_eq-Decides (member_word m).name name).0 b.0;
-      word = word_before h m b.1;
+      callable = front.0;
+      named = (bytes_eq-Decides (member_word m).name name).0 front.1;
+      word = word_before h m all.1;
     }
 
 -- a virtual function of a class, where the numbers before it in the line are of its bases
@@ -232,8 +232,8 @@ overrides : (hs : List Heir) (k b : ℕ) (m : Member) → IsBase hs k b → Clas
 overrides hs k b m is c =
     let found = any_in (is_clash (classes_at hs c.front) c.heir m) c.heir.class.members c.clashes in
     let n = found.0 in
-    let named = and_parts (is_named (member_word m).name n) (is_virtual (classes_at hs c.front) c.heir n && differs n m) found.2 in
-    let rest = and_parts (is_virtual (classes_at hs c.front) c.heir n) (differs n m) named.1 in
+    let all = and_parts (is_named (member_word m).name n && is_virtual (classes_at hs c.front) c.heir n) (differs n m) found.2 in
+    let front = and_parts (is_named (member_word m).name n) (is_virtual (classes_at hs c.front) c.heir n) all.0 in
     record {
       base = c.number;
       heir = c.heir;
@@ -241,9 +241,9 @@ overrides hs k b m is c =
       leads = leads;
       is = c.is;
       declares = found.1;
-      named = (bytes_eq-Decides (member_word n).name (member_word m).name).0 named.0;
-      virtual = virtual_is hs c.number c.heir c.front n above rest.0;
-      differ = they_differ n m rest.1;
+      named = (bytes_eq-Decides (member_word n).name (member_word m).name).0 front.0;
+      virtual = virtual_is hs c.number c.heir c.front n above front.1;
+      differ = they_differ n m all.1;
     }
   where
     turned : upward (length hs) (base_of hs) b ≡ reverse c.back ++ (c.number ∷ reverse c.front)
