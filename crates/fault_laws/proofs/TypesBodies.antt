@@ -1,5 +1,5 @@
 -- The first fault of a statement says what holds at its place.
-use Rattle.std.proofs.Common.{◌≡◌, ◌≢◌, ℕ, ◌⊎◌, inl, inr, refl, sym, ap, ◌∙◌, subst, List, [], ◌∷◌, Bool, true, false, not, ◌&&◌, Option, Some, None, Ok, Err, is_some}
+use Rattle.std.proofs.Common.{◌≡◌, ◌≢◌, ℕ, ◌⊎◌, inl, inr, refl, sym, ap, ◌∙◌, subst, List, [], ◌∷◌, Bool, true, false, not, ◌&&◌, ◌||◌, Option, Some, None, Ok, Err, is_some}
 use Rattle.std.proofs.lemmas.Bool.{false≢true, both_ways, not-true, not-false}
 use Rattle.feast_base.specs.declared.place.Place.{Place}
 use Rattle.sat_math.specs.declared.Kind.TheVariants as k
@@ -11,6 +11,7 @@ use Rattle.ulam_tree.specs.declared.op.PairOp.TheVariants as op
 use Rattle.ulam_tree.specs.Resolved as r
 use Rattle.ulam_tree.specs.Typed as t
 use Rattle.ulam_tree.specs.Found.{◌>>=◌, found, must}
+use Rattle.ulam_tree.specs.Completes.{completes, all_complete}
 use Rattle.ulam_tree.proofs.Means.{Means, means_at, means_then, means_found, means_must}
 use Rattle.ulam_types.specs.Faults.{Fault, Found, wrong_type, mixed_signs, not_assignable, bad_as, break_outside}
 use Rattle.ulam_types.specs.Scopes.{Scope, in_loop, narrowed, is_value, target_type}
@@ -21,7 +22,7 @@ use Rattle.ulam_types.specs.Bodies.{atom_slot, is_element_type}
 use Rattle.ulam_types.specs.Typing.{IsTyped, IsLeftBy, IsLeft}
 use Rattle.ulam_types.proofs.Exprs.{expr_means, index_means}
 use Rattle.fault_laws.specs.TypesRows.{AreMixed, IsRefused}
-use Rattle.fault_laws.specs.TypesParts.{Part, a_statement, a_condition, a_left, a_value, an_expr, IsIn, Sees, TypedLeft, Stands, in_block, in_first, in_else, in_while, in_for, for_first, for_step, if_asks, while_asks, for_asks, assigned, counted, assigned_value, declared_value, returned_value, left_item, done_call, of_condition, of_item, of_value, of_return, of_update, of_call}
+use Rattle.fault_laws.specs.TypesParts.{Part, a_statement, a_condition, a_left, a_value, an_expr, IsIn, Stops, returning, breaking, continuing, inside, in_both, Sees, TypedLeft, Stands, in_block, in_first, in_else, in_while, in_for, for_first, for_step, if_asks, while_asks, for_asks, assigned, counted, assigned_value, declared_value, returned_value, left_item, done_call, of_condition, of_item, of_value, of_return, of_update, of_call}
 use Rattle.fault_laws.specs.Types.{TypedUpdate, Breaks, IsWrongType, IsMixed, IsUnassignable, IsNoElement, IsOutside, FaultHolds}
 use Rattle.fault_laws.proofs.Fails.{Fails, fails_then, fails_must_then, fails_found_then}
 use Rattle.fault_laws.proofs.TypesTable.{refuted, refuted_none, takes_some, value_true, bool_true, element_type_true, element_type_is, void_is, not_void, assignable_true, mixed_true, counted_apart, counted_numbers, counted_assignable}
@@ -45,6 +46,31 @@ counted_by g p a ty up = do
   sum ← pair_found p op.Add true ty (plain_type (taken ty))
   _ ← must (assignable g ty sum) (not_assignable p)
   Ok (t.counts a up)
+
+-- Statements that stop
+
+either_way : (a b : Bool) → a ≡ false → b ≡ false → (a || b) ≡ false
+either_way a b e f = ap (λ x. x || b) e ∙ f
+
+stops_all : (x : r.Statement) (b : r.Body) → IsIn x b → completes x ≡ false → all_complete b ≡ false
+stops_all x r.no_more i e = absurd i
+stops_all x (r.then_so y b) (inl same) e = ap (λ z. completes z && all_complete b) same ∙ ap (λ c. c && all_complete b) e
+stops_all x (r.then_so y b) (inr i) e = last (completes y) (all_complete b) (stops_all x b i e)
+  where
+    last : (a c : Bool) → c ≡ false → (a && c) ≡ false
+    last true c e = e
+    last false c e = refl
+
+stops_is : (x : r.Statement) → Stops x → completes x ≡ false
+stops_is _ (returning p e) = refl
+stops_is _ (breaking p) = refl
+stops_is _ (continuing p) = refl
+stops_is _ (inside b x i s) = stops_all x b i (stops_is x s)
+stops_is _ (in_both c x y s t) = either_way (completes x) (completes y) (stops_is x s) (stops_is y t)
+
+-- none of the statements of a body whose end is reached
+pub none_stops : (b : r.Body) → all_complete b ≡ true → (x : r.Statement) → IsIn x b → Stops x → ⊥
+none_stops b e x i s = false≢true (sym (stops_all x b i (stops_is x s)) ∙ e)
 
 module _ (cs : List r.Class) where
   left_fails : (g : Scope) (l : r.Left) → Stands cs g (a_left l) → Fails (FaultHolds cs) (b.left g l)

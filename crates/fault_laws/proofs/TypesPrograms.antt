@@ -22,7 +22,7 @@ use Rattle.fault_laws.specs.Types.{Breaks, IsWrongType, LacksReturn, FaultHolds}
 use Rattle.fault_laws.proofs.Fails.{Fails, fails_then, fails_must_then, fails_at}
 use Rattle.fault_laws.proofs.BasesLines.{in_first, in_more}
 use Rattle.fault_laws.proofs.TypesTable.{refuted, value_true, not_void}
-use Rattle.fault_laws.proofs.TypesBodies.{body_fails}
+use Rattle.fault_laws.proofs.TypesBodies.{none_stops, body_fails}
 
 module _ (cs : List r.Class) where
   params_fail : (g : Scope) (ps : List r.Param) → ((q : r.Param) → Contains ps q → is_value g q.of.ty ≡ false → FaultHolds cs (wrong_type q.of.place)) → Fails (FaultHolds cs) (p.params g ps)
@@ -41,7 +41,7 @@ module _ (cs : List r.Class) where
       (λ _ _. fails_then Q (b.body g x) _ (body_fails cs g x (λ y i. in_body y st i))
       (λ _ _. fails_must_then Q (is_void of.ty || not (all_complete x)) (missing_return w.place) _
       (λ off. let parts = or_parts (is_void of.ty) (not (all_complete x)) off in
-      record { scope = g; part = part; stands = st; is = (refl, not_void of.ty parts.0, not-false (all_complete x) parts.1) })
+      record { scope = g; part = part; stands = st; is = (refl, not_void of.ty parts.0, none_stops x (not-false (all_complete x) parts.1)) })
       (λ _. tt))))
     where
       no_result : (is_value g of.ty || is_void of.ty) ≡ false → IsValue g of.ty ⊎ (of.ty ≡ Nothing) → ⊥

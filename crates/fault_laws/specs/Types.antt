@@ -8,7 +8,6 @@ use Rattle.ulam_tree.specs.declared.resolved.Built.{Built}
 use Rattle.ulam_tree.specs.declared.op.PairOp.{PairOp}
 use Rattle.ulam_tree.specs.Resolved as r
 use Rattle.ulam_tree.specs.Typed as t
-use Rattle.ulam_tree.specs.Completes.{all_complete}
 use Rattle.ulam_types.specs.declared.scope.Want.{Want}
 use Rattle.ulam_types.specs.Faults.{Fault, wrong_type, mixed_signs, not_assignable, wrong_count, bad_as, break_outside, missing_return}
 use Rattle.ulam_types.specs.Scopes.{Scope, FunctionSig, Callee, function, built, last_step, built_wants, wants_of}
@@ -17,7 +16,7 @@ use Rattle.ulam_types.specs.Walk.{plain, place_of, count}
 use Rattle.ulam_types.specs.Programs.{first_fault}
 use Rattle.ulam_types.specs.Typing.{IsTyped, IsCall}
 use Rattle.fault_laws.specs.TypesRows.{IsNumber, IsInt, IsUnsigned, IsBool, IsElement, IsAtom, IsSpecies, IsValue, IsIndex, AreMixed, IsForNumbers, IsRefused, TakesOne, IsTooLarge, IsAssignable, MayBeLeft, HasValue, HasItems, Calls, Suits}
-use Rattle.fault_laws.specs.TypesParts.{Part, a_function, a_statement, a_condition, a_left, a_value, an_item, a_call, an_expr, IsArg, IsAtomLocal, TypedLeft, Stands}
+use Rattle.fault_laws.specs.TypesParts.{Part, a_function, a_statement, a_condition, a_left, a_value, an_item, a_call, an_expr, IsIn, Stops, IsArg, IsAtomLocal, TypedLeft, Stands}
 
 -- an expression with its type, where it takes the kind Int if it is a plain number
 pub record TypedAlone (g : Scope) (e : r.Expr) : Type 0 where
@@ -105,9 +104,9 @@ IsOutside g (a_statement (r.breaks q)) p = (p ≡ q) × (g.looped ≡ false)
 IsOutside g (a_statement (r.continues q)) p = (p ≡ q) × (g.looped ≡ false)
 IsOutside g x p = ⊥
 
--- Missing return: the end of a function that has a result can be reached.
+-- Missing return: a function has a result, and none of its statements stops before its end.
 abbrev pub LacksReturn : Scope → Part → Place → Type 0
-LacksReturn g (a_function of w ps b) p = (p ≡ w.place) × (of.ty ≢ Nothing) × (all_complete b ≡ true)
+LacksReturn g (a_function of w ps b) p = (p ≡ w.place) × (of.ty ≢ Nothing) × ((x : r.Statement) → IsIn x b → Stops x → ⊥)
 LacksReturn g x p = ⊥
 
 -- a part of the program breaks a rule, at the place

@@ -38,6 +38,14 @@ abbrev pub IsIn : r.Statement → r.Body → Type 0
 IsIn x r.no_more = ⊥
 IsIn x (r.then_so y b) = (y ≡ x) ⊎ IsIn x b
 
+-- a statement behind which no other is reached
+pub data Stops : r.Statement → Type 0 where
+  returning : (p : Place) (e : Option r.Expr) → Stops (r.returns p e)
+  breaking : (p : Place) → Stops (r.breaks p)
+  continuing : (p : Place) → Stops (r.continues p)
+  inside : (b : r.Body) (x : r.Statement) → IsIn x b → Stops x → Stops (r.block b)
+  in_both : (c : r.Cond) (x y : r.Statement) → Stops x → Stops y → Stops (r.if_so c x (r.part y))
+
 -- e is one of the arguments, and w is what is wanted of it
 abbrev pub IsArg : Want → r.Expr → List Want → r.Args → Type 0
 IsArg w e (v ∷ ws) (r.arg d es) = ((v ≡ w) × (d ≡ e)) ⊎ IsArg w e ws es
