@@ -21,11 +21,11 @@ use Rattle.ulam_types.specs.Bodies as b
 use Rattle.ulam_types.specs.Bodies.{atom_slot, is_element_type}
 use Rattle.ulam_types.specs.Typing.{IsTyped, IsLeftBy, IsLeft}
 use Rattle.ulam_types.proofs.Exprs.{expr_means, index_means}
-use Rattle.fault_laws.specs.TypesRows.{AreMixed, IsRefused}
+use Rattle.fault_laws.specs.TypesRows.{IsBool, Takes, AreMixed, Compares, IsRefused}
 use Rattle.fault_laws.specs.TypesParts.{Part, a_statement, a_condition, a_left, a_value, an_expr, IsIn, Stops, returning, breaking, continuing, inside, in_both, Sees, TypedLeft, Stands, in_block, in_first, in_else, in_while, in_for, for_first, for_step, if_asks, while_asks, for_asks, assigned, counted, assigned_value, declared_value, returned_value, left_item, done_call, of_condition, of_item, of_value, of_return, of_update, of_call}
 use Rattle.fault_laws.specs.Types.{TypedUpdate, Breaks, IsWrongType, IsMixed, IsUnassignable, IsNoElement, IsOutside, FaultHolds}
 use Rattle.fault_laws.proofs.Fails.{Fails, fails_then, fails_must_then, fails_found_then}
-use Rattle.fault_laws.proofs.TypesTable.{refuted, refuted_none, takes_some, value_true, bool_true, element_type_true, element_type_is, void_is, not_void, assignable_true, mixed_true, counted_apart, counted_numbers, counted_assignable}
+use Rattle.fault_laws.proofs.TypesTable.{refuted, refuted_none, lost_update, value_true, bool_true, element_type_true, element_type_is, void_is, not_void, assignable_true, mixed_true, counted_apart, counted_numbers, counted_assignable}
 use Rattle.fault_laws.proofs.TypesPaths.{may_be_left, atom_local, atom_local_is}
 use Rattle.fault_laws.proofs.TypesExprs.{typed, alone, pair_holds, item_fails, call_fails, expr_fails, args_fail}
 
@@ -39,6 +39,10 @@ left_by_typed g x (Some e) a h =
 
 abbrev left_typed : (g : Scope) (l : r.Left) (a : t.Left × Ty) → b.left g l ≡ Ok a → TypedLeft g l
 left_typed g l a h = record { left = a.0; ty = a.1; is = left_by_typed g l.path l.index a h }
+
+lost : (g : Scope) (l : r.Left) (op : PairOp) (e : r.Expr) (u : TypedUpdate g l e) → Compares op × Takes op (plain e) u.to.ty (t.ty_of u.value) × (IsBool u.to.ty → ⊥) →
+    IsUnassignable g (a_statement (r.assigns l (Some op) e)) l.path.place
+lost g l op e u h = (refl, h.0, u, h.1, h.2)
 
 -- what `++` or `--` makes of a typed left side
 abbrev counted_by : Scope → Place → t.Left → Ty → Bool → Found t.Statement
@@ -108,7 +112,7 @@ module _ (cs : List r.Class) where
       (λ refused. record { scope = g; part = part; stands = st; is = (refl, u, refused) })
       (λ mixed. record { scope = g; part = part; stands = st; is = (refl, mixed.0, u, mixed.1) }))
       (λ sum is. fails_must_then Q (assignable g to.ty sum) (not_assignable p) _
-      (λ off. record { scope = g; part = part; stands = st; is = (refl, u, sum, is, refuted (assignable g to.ty sum) off (assignable_true g to.ty sum)) })
+      (λ off. record { scope = g; part = part; stands = st; is = lost g l op e u (lost_update g op (plain e) to.ty (t.ty_of a) sum is off) })
       (λ _. tt)))
 
   counted_fails : (g : Scope) (l : r.Left) (up : Bool) (to : TypedLeft g l) → Stands cs g (a_statement (r.counts l up)) →

@@ -13,9 +13,9 @@ use Rattle.ulam_tree.specs.declared.op.PairOp.TheVariants as op
 use Rattle.ulam_types.specs.declared.scope.NumClass.{NumClass}
 use Rattle.ulam_types.specs.declared.scope.NumClass.TheVariants.{Int, Unsigned, Bits, Bool as Truth, Other}
 use Rattle.ulam_types.specs.Scopes.{Scope, ClassSig, is_element_class, is_element, is_value}
-use Rattle.ulam_types.specs.Rows.{class_by, class_of, taken_by, taken, plain_type, plain_fits, arith_type, order_type, equal_type, bits_type, shift_type, truth_type, pair_type, are_mixed, takes_signs, prefix_by, prefix_type, cast_type, is_atom, is_species, is_index, is_index_class, is_truth, is_truth_class, is_void, fits_number, same_class, assignable}
+use Rattle.ulam_types.specs.Rows.{bool, class_by, class_of, taken_by, taken, plain_type, plain_fits, arith_type, order_type, equal_type, bits_type, shift_type, truth_type, pair_type, are_mixed, takes_signs, prefix_by, prefix_type, cast_type, is_atom, is_species, is_index, is_index_class, is_truth, is_truth_class, is_void, fits_number, same_class, assignable}
 use Rattle.ulam_types.specs.Bodies.{is_element_type}
-use Rattle.fault_laws.specs.TypesRows.{IsNumber, IsOf, IsInt, IsUnsigned, IsBits, IsBool, IsElement, IsAtom, IsSpecies, IsValue, IsIndex, AreNumbers, AreMixed, AreAlike, Takes, IsForNumbers, IsRefused, TakesOne, IsTooLarge, TakesNumber, IsAssignable}
+use Rattle.fault_laws.specs.TypesRows.{IsNumber, IsOf, IsInt, IsUnsigned, IsBits, IsBool, IsElement, IsAtom, IsSpecies, IsValue, IsIndex, AreNumbers, AreMixed, AreAlike, Takes, IsForNumbers, Compares, IsRefused, TakesOne, IsTooLarge, TakesNumber, IsAssignable}
 
 -- a rule that a test of the table refuses
 pub refuted : {P : Type 0} (b : Bool) → b ≡ false → (P → b ≡ true) → P → ⊥
@@ -133,6 +133,20 @@ unsigned_kind k.Unary v w e = inr refl
 unsigned_kind k.Bits v w e = absurd cc
 unsigned_kind k.Bool v w e = absurd cc
 
+bits_kind : (kind : Kind) (v w : ℕ) → class_by kind v ≡ Bits w → kind ≡ k.Bits
+bits_kind k.Int v w e = absurd cc
+bits_kind k.Unsigned v w e = absurd cc
+bits_kind k.Unary v w e = absurd cc
+bits_kind k.Bits v w e = refl
+bits_kind k.Bool v w e = absurd cc
+
+bool_kind : (kind : Kind) (v : ℕ) → class_by kind v ≡ Truth → kind ≡ k.Bool
+bool_kind k.Int v e = absurd cc
+bool_kind k.Unsigned v e = absurd cc
+bool_kind k.Unary v e = absurd cc
+bool_kind k.Bits v e = absurd cc
+bool_kind k.Bool v e = refl
+
 pub int_is : (ty : Ty) (w : ℕ) → class_of ty ≡ Int w → IsInt ty
 int_is (Num t) w e = int_kind t.kind t.width w e
 int_is Atom w e = absurd cc
@@ -150,6 +164,24 @@ unsigned_is Nothing w e = absurd cc
 unsigned_is Window w e = absurd cc
 unsigned_is Random w e = absurd cc
 unsigned_is (Class c) w e = absurd cc
+
+bits_is : (ty : Ty) (w : ℕ) → class_of ty ≡ Bits w → IsBits ty
+bits_is (Num t) w e = bits_kind t.kind t.width w e
+bits_is Atom w e = absurd cc
+bits_is Empty w e = absurd cc
+bits_is Nothing w e = absurd cc
+bits_is Window w e = absurd cc
+bits_is Random w e = absurd cc
+bits_is (Class c) w e = absurd cc
+
+bool_is : (ty : Ty) → class_of ty ≡ Truth → IsBool ty
+bool_is (Num t) e = bool_kind t.kind t.width e
+bool_is Atom e = absurd cc
+bool_is Empty e = absurd cc
+bool_is Nothing e = absurd cc
+bool_is Window e = absurd cc
+bool_is Random e = absurd cc
+bool_is (Class c) e = absurd cc
 
 pub index_true : (ty : Ty) → IsIndex ty → is_index ty ≡ true
 index_true ty (inl h) = ap is_index_class (int_class ty h).1
@@ -316,6 +348,114 @@ assignable_true g Window from h = absurd h
 assignable_true g Random from h = absurd h
 assignable_true g (Class c) from h = ap (λ x. x && same_class from c) (element_true g c h.0) ∙ ap (λ ty. same_class ty c) h.1 ∙ eq-eqb c c refl
 
+-- Operators with `=`
+
+-- what a left side computes by a column of the table can be assigned to it
+column_fits : (g : Scope) (f : NumClass → Option Ty) → f Other ≡ None → ((kind : Kind) (w : ℕ) (sum : Ty) → f (class_by kind w) ≡ Some sum → fits_number kind (class_of sum) ≡ true) →
+    (to sum : Ty) → f (class_of to) ≡ Some sum → assignable g to sum ≡ true
+column_fits g f none each (Num t) sum e = each t.kind t.width sum e
+column_fits g f none each Atom sum e = absurd (none-some sum (sym none ∙ e))
+column_fits g f none each Empty sum e = absurd (none-some sum (sym none ∙ e))
+column_fits g f none each Nothing sum e = absurd (none-some sum (sym none ∙ e))
+column_fits g f none each Window sum e = absurd (none-some sum (sym none ∙ e))
+column_fits g f none each Random sum e = absurd (none-some sum (sym none ∙ e))
+column_fits g f none each (Class c) sum e = absurd (none-some sum (sym none ∙ e))
+
+arith_fits : (kind : Kind) (c : NumClass) (w : ℕ) (sum : Ty) → arith_type (class_by kind w) c ≡ Some sum → fits_number kind (class_of sum) ≡ true
+arith_fits k.Int (Int n) w sum e = sym (ap (λ ty. fits_number k.Int (class_of ty)) (same_Some _ sum e))
+arith_fits k.Unsigned (Unsigned n) w sum e = sym (ap (λ ty. fits_number k.Unsigned (class_of ty)) (same_Some _ sum e))
+arith_fits k.Unary (Unsigned n) w sum e = sym (ap (λ ty. fits_number k.Unary (class_of ty)) (same_Some _ sum e))
+arith_fits kind c w sum e = absurd (none-some sum e)
+
+bits_fit : (kind : Kind) (c : NumClass) (w : ℕ) (sum : Ty) → bits_type (class_by kind w) c ≡ Some sum → fits_number kind (class_of sum) ≡ true
+bits_fit k.Bits (Bits n) w sum e = sym (ap (λ ty. fits_number k.Bits (class_of ty)) (same_Some _ sum e))
+bits_fit kind c w sum e = absurd (none-some sum e)
+
+truth_fits : (kind : Kind) (c : NumClass) (w : ℕ) (sum : Ty) → truth_type (class_by kind w) c ≡ Some sum → fits_number kind (class_of sum) ≡ true
+truth_fits k.Bool Truth w sum e = sym (ap (λ ty. fits_number k.Bool (class_of ty)) (same_Some _ sum e))
+truth_fits kind c w sum e = absurd (none-some sum e)
+
+shift_bits : (plain : Bool) (m : ℕ) (c : NumClass) (sum : Ty) → shift_type plain (Bits m) c ≡ Some sum → fits_number k.Bits (class_of sum) ≡ true
+shift_bits true m (Unsigned n) sum e = sym (ap (λ ty. fits_number k.Bits (class_of ty)) (same_Some _ sum e))
+shift_bits false m (Unsigned n) sum e = sym (ap (λ ty. fits_number k.Bits (class_of ty)) (same_Some _ sum e))
+shift_bits true m c sum e = sym (ap (λ ty. fits_number k.Bits (class_of ty)) (same_Some _ sum e))
+shift_bits false m c sum e = absurd (none-some sum e)
+
+shift_none : (plain : Bool) (c d : NumClass) (sum : Ty) → ((m : ℕ) → c ≡ Bits m → ⊥) → shift_type plain c d ≡ Some sum → ⊥
+shift_none plain (Int m) d sum other e = none-some sum e
+shift_none plain (Unsigned m) d sum other e = none-some sum e
+shift_none plain (Bits m) d sum other e = other m refl
+shift_none plain Truth d sum other e = none-some sum e
+shift_none plain Other d sum other e = none-some sum e
+
+shift_fits : (plain : Bool) (c : NumClass) (kind : Kind) (w : ℕ) (sum : Ty) → shift_type plain (class_by kind w) c ≡ Some sum → fits_number kind (class_of sum) ≡ true
+shift_fits plain c k.Bits w sum e = shift_bits plain w c sum e
+shift_fits plain c k.Int w sum e = absurd (shift_none plain (Int w) c sum (λ m x. cc) e)
+shift_fits plain c k.Unsigned w sum e = absurd (shift_none plain (Unsigned w) c sum (λ m x. cc) e)
+shift_fits plain c k.Unary w sum e = absurd (shift_none plain (Unsigned w) c sum (λ m x. cc) e)
+shift_fits plain c k.Bool w sum e = absurd (shift_none plain Truth c sum (λ m x. cc) e)
+
+truth_assigned : (g : Scope) (to : Ty) → IsBool to → assignable g to bool ≡ true
+truth_assigned g (Num t) h = ap (λ kind. fits_number kind Truth) h
+truth_assigned g Atom h = absurd h
+truth_assigned g Empty h = absurd h
+truth_assigned g Nothing h = absurd h
+truth_assigned g Window h = absurd h
+truth_assigned g Random h = absurd h
+truth_assigned g (Class c) h = absurd h
+
+order_is : (c d : NumClass) (sum : Ty) → order_type c d ≡ Some sum → sum ≡ bool
+order_is (Int m) (Int n) sum e = sym (same_Some bool sum e)
+order_is (Unsigned m) (Unsigned n) sum e = sym (same_Some bool sum e)
+order_is c d sum e = absurd (none-some sum e)
+
+equal_is : (c d : NumClass) (sum : Ty) → equal_type c d ≡ Some sum → sum ≡ bool
+equal_is (Int m) (Int n) sum e = sym (same_Some bool sum e)
+equal_is (Unsigned m) (Unsigned n) sum e = sym (same_Some bool sum e)
+equal_is (Bits m) (Bits n) sum e = sym (same_Some bool sum e)
+equal_is Truth Truth sum e = sym (same_Some bool sum e)
+equal_is c d sum e = absurd (none-some sum e)
+
+order_numbers : (a b : Ty) (c d : NumClass) → class_of a ≡ c → class_of b ≡ d → (sum : Ty) → order_type c d ≡ Some sum → AreNumbers a b
+order_numbers a b (Int m) (Int n) at here sum e = inl (int_is a m at, int_is b n here)
+order_numbers a b (Unsigned m) (Unsigned n) at here sum e = inr (unsigned_is a m at, unsigned_is b n here)
+order_numbers a b c d at here sum e = absurd (none-some sum e)
+
+equal_alike : (a b : Ty) (c d : NumClass) → class_of a ≡ c → class_of b ≡ d → (sum : Ty) → equal_type c d ≡ Some sum → AreAlike a b
+equal_alike a b (Int m) (Int n) at here sum e = inl (inl (int_is a m at, int_is b n here))
+equal_alike a b (Unsigned m) (Unsigned n) at here sum e = inl (inr (unsigned_is a m at, unsigned_is b n here))
+equal_alike a b (Bits m) (Bits n) at here sum e = inr (inl (bits_is a m at, bits_is b n here))
+equal_alike a b Truth Truth at here sum e = inr (inr (bool_is a at, bool_is b here))
+equal_alike a b c d at here sum e = absurd (none-some sum e)
+
+-- a truth value that is not assigned
+lost_truth : (g : Scope) (to sum : Ty) → sum ≡ bool → assignable g to sum ≡ false → IsBool to → ⊥
+lost_truth g to sum is off h = both_ways (assignable g to sum) off (ap (assignable g to) is ∙ truth_assigned g to h)
+
+never_lost : {P : Type 0} (g : Scope) (to sum : Ty) → assignable g to sum ≡ false → assignable g to sum ≡ true → P
+never_lost g to sum off fits = absurd (both_ways (assignable g to sum) off fits)
+
+-- by an operator with `=` only the result of a comparison can't be assigned
+pub lost_update : (g : Scope) (op : PairOp) (plain : Bool) (to from sum : Ty) → pair_type op plain to from ≡ Some sum → assignable g to sum ≡ false → Compares op × Takes op plain to from × (IsBool to → ⊥)
+lost_update g op.Add plain to from sum e off = never_lost g to sum off (column_fits g (λ c. arith_type c (class_of from)) refl (λ kind. arith_fits kind (class_of from)) to sum e)
+lost_update g op.Sub plain to from sum e off = never_lost g to sum off (column_fits g (λ c. arith_type c (class_of from)) refl (λ kind. arith_fits kind (class_of from)) to sum e)
+lost_update g op.Mul plain to from sum e off = never_lost g to sum off (column_fits g (λ c. arith_type c (class_of from)) refl (λ kind. arith_fits kind (class_of from)) to sum e)
+lost_update g op.Div plain to from sum e off = never_lost g to sum off (column_fits g (λ c. arith_type c (class_of from)) refl (λ kind. arith_fits kind (class_of from)) to sum e)
+lost_update g op.Rem plain to from sum e off = never_lost g to sum off (column_fits g (λ c. arith_type c (class_of from)) refl (λ kind. arith_fits kind (class_of from)) to sum e)
+lost_update g op.And plain to from sum e off = never_lost g to sum off (column_fits g (λ c. bits_type c (class_of from)) refl (λ kind. bits_fit kind (class_of from)) to sum e)
+lost_update g op.Or plain to from sum e off = never_lost g to sum off (column_fits g (λ c. bits_type c (class_of from)) refl (λ kind. bits_fit kind (class_of from)) to sum e)
+lost_update g op.Xor plain to from sum e off = never_lost g to sum off (column_fits g (λ c. bits_type c (class_of from)) refl (λ kind. bits_fit kind (class_of from)) to sum e)
+lost_update g op.Shl plain to from sum e off = never_lost g to sum off (column_fits g (λ c. shift_type plain c (class_of from)) refl (shift_fits plain (class_of from)) to sum e)
+lost_update g op.Shr plain to from sum e off = never_lost g to sum off (column_fits g (λ c. shift_type plain c (class_of from)) refl (shift_fits plain (class_of from)) to sum e)
+lost_update g op.Both plain to from sum e off = never_lost g to sum off (column_fits g (λ c. truth_type c (class_of from)) refl (λ kind. truth_fits kind (class_of from)) to sum e)
+lost_update g op.Either plain to from sum e off = never_lost g to sum off (column_fits g (λ c. truth_type c (class_of from)) refl (λ kind. truth_fits kind (class_of from)) to sum e)
+lost_update g op.Eq plain to from sum e off = (tt, equal_alike to from (class_of to) (class_of from) refl refl sum e, lost_truth g to sum (equal_is (class_of to) (class_of from) sum e) off)
+lost_update g op.Ne plain to from sum e off = (tt, equal_alike to from (class_of to) (class_of from) refl refl sum e, lost_truth g to sum (equal_is (class_of to) (class_of from) sum e) off)
+lost_update g op.Lt plain to from sum e off = (tt, order_numbers to from (class_of to) (class_of from) refl refl sum e, lost_truth g to sum (order_is (class_of to) (class_of from) sum e) off)
+lost_update g op.Le plain to from sum e off = (tt, order_numbers to from (class_of to) (class_of from) refl refl sum e, lost_truth g to sum (order_is (class_of to) (class_of from) sum e) off)
+lost_update g op.Gt plain to from sum e off = (tt, order_numbers to from (class_of to) (class_of from) refl refl sum e, lost_truth g to sum (order_is (class_of to) (class_of from) sum e) off)
+lost_update g op.Ge plain to from sum e off = (tt, order_numbers to from (class_of to) (class_of from) refl refl sum e, lost_truth g to sum (order_is (class_of to) (class_of from) sum e) off)
+
 -- `++` and `--`
 
 counted_kind : (c : NumClass) → are_mixed c (class_by (taken_by c) 32) ≡ false
@@ -333,19 +473,6 @@ pub counted_numbers : (ty : Ty) → IsInt ty ⊎ IsUnsigned ty → AreNumbers ty
 counted_numbers ty (inl h) = inl (h, ap taken_by (int_class ty h).1)
 counted_numbers ty (inr h) = inr (h, inl (ap taken_by (unsigned_class ty h).1))
 
-sum_fits : (kind : Kind) (w : ℕ) (sum : Ty) → arith_type (class_by kind w) (class_by (taken_by (class_by kind w)) 32) ≡ Some sum → fits_number kind (class_of sum) ≡ true
-sum_fits k.Int w sum e = sym (ap (λ ty. fits_number k.Int (class_of ty)) (same_Some _ sum e))
-sum_fits k.Unsigned w sum e = sym (ap (λ ty. fits_number k.Unsigned (class_of ty)) (same_Some _ sum e))
-sum_fits k.Unary w sum e = sym (ap (λ ty. fits_number k.Unary (class_of ty)) (same_Some _ sum e))
-sum_fits k.Bits w sum e = absurd (none-some sum e)
-sum_fits k.Bool w sum e = absurd (none-some sum e)
-
 -- and the sum can be assigned to it
 pub counted_assignable : (g : Scope) (ty sum : Ty) → pair_type op.Add true ty (plain_type (taken ty)) ≡ Some sum → assignable g ty sum ≡ true
-counted_assignable g (Num t) sum e = sum_fits t.kind t.width sum e
-counted_assignable g Atom sum e = absurd (none-some sum e)
-counted_assignable g Empty sum e = absurd (none-some sum e)
-counted_assignable g Nothing sum e = absurd (none-some sum e)
-counted_assignable g Window sum e = absurd (none-some sum e)
-counted_assignable g Random sum e = absurd (none-some sum e)
-counted_assignable g (Class c) sum e = absurd (none-some sum e)
+counted_assignable g ty sum e = column_fits g (λ c. arith_type c (class_of (plain_type (taken ty)))) refl (λ kind. arith_fits kind (class_of (plain_type (taken ty)))) ty sum e

@@ -11,11 +11,11 @@ use Rattle.ulam_tree.specs.Typed as t
 use Rattle.ulam_types.specs.declared.scope.Want.{Want}
 use Rattle.ulam_types.specs.Faults.{Fault, wrong_type, mixed_signs, not_assignable, wrong_count, bad_as, break_outside, missing_return}
 use Rattle.ulam_types.specs.Scopes.{Scope, FunctionSig, Callee, function, built, last_step, built_wants, wants_of}
-use Rattle.ulam_types.specs.Rows.{taken, beside, pair_type, taken_want}
+use Rattle.ulam_types.specs.Rows.{taken, beside, taken_want}
 use Rattle.ulam_types.specs.Walk.{plain, place_of, count}
 use Rattle.ulam_types.specs.Programs.{first_fault}
 use Rattle.ulam_types.specs.Typing.{IsTyped, IsCall}
-use Rattle.fault_laws.specs.TypesRows.{IsNumber, IsInt, IsUnsigned, IsBool, IsElement, IsAtom, IsSpecies, IsValue, IsIndex, AreMixed, IsForNumbers, IsRefused, TakesOne, IsTooLarge, IsAssignable, MayBeLeft, HasValue, HasItems, Calls, Suits}
+use Rattle.fault_laws.specs.TypesRows.{IsNumber, IsInt, IsUnsigned, IsBool, IsElement, IsAtom, IsSpecies, IsValue, IsIndex, Takes, Compares, AreMixed, IsForNumbers, IsRefused, TakesOne, IsTooLarge, IsAssignable, MayBeLeft, HasValue, HasItems, Calls, Suits}
 use Rattle.fault_laws.specs.TypesParts.{Part, a_function, a_statement, a_condition, a_left, a_value, an_item, a_call, an_expr, IsIn, Stops, IsArg, IsAtomLocal, TypedLeft, Stands}
 
 -- an expression with its type, where it takes the kind Int if it is a plain number
@@ -76,13 +76,13 @@ IsMixed g (a_statement (r.assigns l (Some op) e)) p = (p ≡ l.path.place) × Is
 IsMixed g (an_expr kind (r.pair op x y q)) p = (p ≡ q) × IsForNumbers op × (o : TypedPair g x y) × AreMixed (t.ty_of o.left) (t.ty_of o.right)
 IsMixed g x p = ⊥
 
--- Not assignable: a left side that may be none; a value for another type, by `=`, by an operator with `=`, in a declaration
--- or a `return`; an argument for a parameter of another type.
+-- Not assignable: what may not stand on a left side; a value for another type, by `=`, in a declaration or a `return`; by an
+-- operator with `=` only a truth value, of a comparison, which no text has there; an argument for a parameter of another type.
 abbrev pub IsUnassignable : Scope → Part → Place → Type 0
 IsUnassignable g (a_left l) p = (p ≡ l.path.place) × (l.index ≡ None) × (MayBeLeft g (last_step l.path.steps) → ⊥)
 IsUnassignable g (a_value q ty e) p = (p ≡ q) × (a : t.Expr) × IsTyped g (taken ty) e a × (IsAssignable g ty (t.ty_of a) → ⊥)
 IsUnassignable g (a_statement (r.assigns l (Some op) e)) p =
-    (p ≡ l.path.place) × (u : TypedUpdate g l e) × (sum : Ty) × (pair_type op (plain e) u.to.ty (t.ty_of u.value) ≡ Some sum) × (IsAssignable g u.to.ty sum → ⊥)
+    (p ≡ l.path.place) × Compares op × (u : TypedUpdate g l e) × Takes op (plain e) u.to.ty (t.ty_of u.value) × (IsBool u.to.ty → ⊥)
 IsUnassignable g (a_call x es) p = (p ≡ x.place) × (f : FunctionSig) × Calls g x.steps (function f) × Misfit g f.wants es
 IsUnassignable g x p = ⊥
 

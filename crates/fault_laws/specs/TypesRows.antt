@@ -105,6 +105,16 @@ IsForNumbers op.Both = ⊥
 IsForNumbers op.Either = ⊥
 IsForNumbers op = Unit {0}
 
+-- the operator compares, so that its result is a truth value
+abbrev pub Compares : PairOp → Type 0
+Compares op.Eq = Unit {0}
+Compares op.Ne = Unit {0}
+Compares op.Lt = Unit {0}
+Compares op.Le = Unit {0}
+Compares op.Gt = Unit {0}
+Compares op.Ge = Unit {0}
+Compares op = ⊥
+
 -- the operator does not take these types, and they are not just mixed
 abbrev pub IsRefused : PairOp → Bool → Ty → Ty → Type 0
 IsRefused op plain a b = (Takes op plain a b → ⊥) × (IsForNumbers op → AreMixed a b → ⊥)
