@@ -23,9 +23,9 @@ use Rattle.ulam_types.specs.Typing.{IsTyped, IsLeftBy, IsLeft}
 use Rattle.ulam_types.proofs.Exprs.{expr_means, index_means}
 use Rattle.fault_laws.specs.TypesRows.{IsBool, Takes, AreMixed, Compares, IsRefused}
 use Rattle.fault_laws.specs.TypesParts.{Part, a_statement, a_condition, a_left, a_value, an_expr, IsIn, Stops, returning, breaking, continuing, inside, in_both, Sees, TypedLeft, Stands, in_block, in_first, in_else, in_while, in_for, for_first, for_step, if_asks, while_asks, for_asks, assigned, counted, assigned_value, declared_value, returned_value, left_item, done_call, of_condition, of_item, of_value, of_return, of_update, of_call}
-use Rattle.fault_laws.specs.Types.{TypedUpdate, Breaks, IsWrongType, IsMixed, IsUnassignable, IsNoElement, IsOutside, FaultHolds}
+use Rattle.fault_laws.specs.Types.{TypedFor, TypedUpdate, Breaks, IsWrongType, IsMixed, IsUnassignable, IsNoElement, IsOutside, FaultHolds}
 use Rattle.fault_laws.proofs.Fails.{Fails, fails_then, fails_must_then, fails_found_then}
-use Rattle.fault_laws.proofs.TypesTable.{refuted, refuted_none, lost_update, value_true, bool_true, element_type_true, element_type_is, void_is, not_void, assignable_true, mixed_true, counted_apart, counted_numbers, counted_assignable}
+use Rattle.fault_laws.proofs.TypesTable.{refuted, refuted_none, lost_update, value_true, bool_true, element_type_true, element_type_is, taken_from, wanted, void_is, not_void, assignable_true, mixed_true, counted_apart, counted_numbers, counted_assignable}
 use Rattle.fault_laws.proofs.TypesPaths.{may_be_left, atom_local, atom_local_is}
 use Rattle.fault_laws.proofs.TypesExprs.{typed, alone, pair_holds, item_fails, call_fails, expr_fails, args_fail}
 
@@ -40,7 +40,7 @@ left_by_typed g x (Some e) a h =
 abbrev left_typed : (g : Scope) (l : r.Left) (a : t.Left × Ty) → b.left g l ≡ Ok a → TypedLeft g l
 left_typed g l a h = record { left = a.0; ty = a.1; is = left_by_typed g l.path l.index a h }
 
-lost : (g : Scope) (l : r.Left) (op : PairOp) (e : r.Expr) (u : TypedUpdate g l e) → Compares op × Takes op (plain e) u.to.ty (t.ty_of u.value) × (IsBool u.to.ty → ⊥) →
+lost : (g : Scope) (l : r.Left) (op : PairOp) (e : r.Expr) (u : TypedUpdate g l e) → Compares op × Takes op (plain e) u.to.ty (t.ty_of u.value.expr) × (IsBool u.to.ty → ⊥) →
     IsUnassignable g (a_statement (r.assigns l (Some op) e)) l.path.place
 lost g l op e u h = (refl, h.0, u, h.1, h.2)
 
@@ -50,6 +50,10 @@ counted_by g p a ty up = do
   sum ← pair_found p op.Add true ty (plain_type (taken ty))
   _ ← must (assignable g ty sum) (not_assignable p)
   Ok (t.counts a up)
+
+-- a value for a type, with what the walk found
+abbrev typed_for : (g : Scope) (ty : Ty) (e : r.Expr) (a : t.Expr) → expr g (taken ty) e ≡ Ok a → TypedFor g ty e
+typed_for g ty e a h = record { expr = a; kind = taken ty; takes = taken_from ty; is = typed g (taken ty) e a h }
 
 -- Statements that stop
 
@@ -94,9 +98,9 @@ module _ (cs : List r.Class) where
 
   value_fails : (g : Scope) (p : Place) (ty : Ty) (e : r.Expr) → Stands cs g (a_value p ty e) → Fails (FaultHolds cs) (b.value_for g p ty e)
   value_fails g p ty e st =
-      fails_then (FaultHolds cs) (expr g (taken ty) e) _ (expr_fails cs g (taken ty) e (of_value st)) (λ a ha.
+      fails_then (FaultHolds cs) (expr g (taken ty) e) _ (expr_fails cs g (taken ty) e (of_value st (taken_from ty))) (λ a ha.
       fails_must_then (FaultHolds cs) (assignable g ty (t.ty_of a)) (not_assignable p) _
-      (λ off. record { scope = g; part = a_value p ty e; stands = st; is = (refl, a, typed g (taken ty) e a ha, refuted (assignable g ty (t.ty_of a)) off (assignable_true g ty (t.ty_of a))) })
+      (λ off. record { scope = g; part = a_value p ty e; stands = st; is = (refl, typed_for g ty e a ha, refuted (assignable g ty (t.ty_of a)) off (assignable_true g ty (t.ty_of a))) })
       (λ _. tt))
 
   assigned_fails : (g : Scope) (l : r.Left) (op : Option PairOp) (e : r.Expr) (to : TypedLeft g l) → Stands cs g (a_statement (r.assigns l op e)) → Fails (FaultHolds cs) (b.assigned g l.path.place to.ty op e)
@@ -105,8 +109,8 @@ module _ (cs : List r.Class) where
       let Q = FaultHolds cs in
       let p = l.path.place in
       let part = a_statement (r.assigns l (Some op) e) in
-      fails_then Q (expr g (taken to.ty) e) _ (expr_fails cs g (taken to.ty) e (of_update st to)) (λ a ha.
-      let u : TypedUpdate g l e = record { to = to; value = a; is = typed g (taken to.ty) e a ha } in
+      fails_then Q (expr g (taken to.ty) e) _ (expr_fails cs g (taken to.ty) e (of_update st to (taken_from to.ty))) (λ a ha.
+      let u : TypedUpdate g l e = record { to = to; value = typed_for g to.ty e a ha } in
       fails_found_then Q (pair_type op (plain e) to.ty (t.ty_of a)) (pair_fault p op to.ty (t.ty_of a)) _
       (λ none. pair_holds Q p op (plain e) to.ty (t.ty_of a) none
       (λ refused. record { scope = g; part = part; stands = st; is = (refl, u, refused) })
@@ -179,7 +183,7 @@ module _ (cs : List r.Class) where
       (λ _. tt)
   result_fails g p (Some e) st =
       let Q = FaultHolds cs in
-      fails_then Q (expr g (taken g.result) e) _ (expr_fails cs g (taken g.result) e (of_return st)) (λ a ha.
+      fails_then Q (expr g (taken g.result) e) _ (expr_fails cs g (taken g.result) e (of_return st (taken_from g.result))) (λ a ha.
       fails_must_then Q (not (is_void g.result)) (wrong_type p) _
       (λ void. record { scope = g; part = a_statement (r.returns p (Some e)); stands = st; is = (refl, void_is g.result (not-false (is_void g.result) void)) })
       (λ some. fails_must_then Q (assignable g g.result (t.ty_of a)) (not_assignable p) _
@@ -187,7 +191,7 @@ module _ (cs : List r.Class) where
         scope = g;
         part = a_value p g.result e;
         stands = returned_value st (not_void g.result (not-true (is_void g.result) some));
-        is = (refl, a, typed g (taken g.result) e a ha, refuted (assignable g g.result (t.ty_of a)) off (assignable_true g g.result (t.ty_of a)));
+        is = (refl, typed_for g g.result e a ha, refuted (assignable g g.result (t.ty_of a)) off (assignable_true g g.result (t.ty_of a)));
       })
       (λ _. tt)))
 
@@ -230,7 +234,7 @@ module _ (cs : List r.Class) where
         fails_then (FaultHolds cs) (b.left g l) _ (left_fails g l (counted st)) (λ a ha. counted_fails g l up (left_typed g l a ha) st)
     statement_fails g (r.does x es) st =
         fails_then (FaultHolds cs) (call g x es) _
-        (call_fails cs g x es (done_call st) (λ f calls same. args_fail cs g _ es (λ v d i. of_call f v d (done_call st) calls same i)))
+        (call_fails cs g x es (done_call st) (λ f calls same. args_fail cs g _ es (λ v d i. of_call f v d (done_call st) calls same i (wanted v))))
         (λ _ _. tt)
 
     pub part_fails : (g : Scope) (x : r.Part) → ((y : r.Statement) → x ≡ r.part y → Stands cs g (a_statement y)) → Fails (FaultHolds cs) (b.part g x)

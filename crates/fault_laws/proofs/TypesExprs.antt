@@ -22,7 +22,7 @@ use Rattle.fault_laws.specs.TypesRows.{AreMixed, IsForNumbers, IsRefused, Calls}
 use Rattle.fault_laws.specs.TypesParts.{Part, a_call, an_item, an_expr, IsArg, IsBeside, Stands, read_item, value_call, of_item, of_call, of_group, of_cast, of_prefix, of_is, of_left, of_right}
 use Rattle.fault_laws.specs.Types.{TypedAlone, TypedPair, Misfit, Breaks, IsWrongType, IsMixed, IsUnassignable, IsMiscounted, IsNoElement, FaultHolds}
 use Rattle.fault_laws.proofs.Fails.{Fails, fails_then, fails_last, fails_must, fails_must_then, fails_found, fails_found_then}
-use Rattle.fault_laws.proofs.TypesTable.{refuted, refuted_none, atom_true, species_true, value_true, index_true, mixed_pair, refused_pair, one_taken, cast_taken, too_large, too_large_unsigned}
+use Rattle.fault_laws.proofs.TypesTable.{refuted, refuted_none, atom_true, species_true, value_true, index_true, mixed_pair, refused_pair, one_taken, cast_taken, too_large, too_large_unsigned, taken_from, wanted}
 use Rattle.fault_laws.proofs.TypesPaths.{has_value, has_items, callee_is, calls_is, misfit_is}
 
 -- the typed tree that the walk found
@@ -31,6 +31,14 @@ typed g w e a h = means_at (IsTyped g w e) (expr g w e) a (expr_means g w e) h
 
 abbrev pub alone : (g : Scope) (e : r.Expr) (a : t.Expr) → expr g k.Int e ≡ Ok a → TypedAlone g e
 alone g e a h = record { expr = a; is = typed g k.Int e a h }
+
+-- the kind that the walk takes beside an operand
+beside_is : (g : Scope) (e : r.Expr) (w : Kind) (a : t.Expr) → expr g w e ≡ Ok a → IsBeside g e (beside (plain e) (t.ty_of a))
+beside_is g e w a h = go (plain e) refl
+  where
+    go : (b : Bool) → plain e ≡ b → IsBeside g e (beside b (t.ty_of a))
+    go true is = inl (is, refl)
+    go false is = inr (is, a, typed g k.Int e a (expr_any g e is k.Int w ∙ h), taken_from (t.ty_of a))
 
 -- the faults of two operands, by a rule for what is refused and one for what is mixed
 pub pair_holds : (Q : Fault → Type 0) (p : Place) (op : PairOp) (plain : Bool) (a b : Ty) → pair_type op plain a b ≡ None →
@@ -110,13 +118,13 @@ module _ (cs : List r.Class) where
       go : (a : Bool) → plain x ≡ a → (b : Bool) → plain y ≡ b → Fails (FaultHolds cs) (operands a b (λ w. expr g w x) (λ w. expr g w y))
       go true px false py =
           fails_then (FaultHolds cs) (expr g k.Int y) _ (right k.Int (no_right k.Int py)) (λ b hb.
-          fails_then (FaultHolds cs) (expr g (taken (t.ty_of b)) x) _ (left (taken (t.ty_of b)) (of_left (taken (t.ty_of b)) st (λ _. inr (py, b, typed g k.Int y b hb, refl)))) (λ _ _. tt))
+          fails_then (FaultHolds cs) (expr g (taken (t.ty_of b)) x) _ (left (taken (t.ty_of b)) (of_left (taken (t.ty_of b)) st (λ _. inr (py, b, typed g k.Int y b hb, taken_from (t.ty_of b))))) (λ _ _. tt))
       go true px true py =
           fails_then (FaultHolds cs) (expr g k.Int x) _ (left k.Int (of_left k.Int st (λ _. inl (py, refl)))) (λ a ha.
           fails_then (FaultHolds cs) (expr g k.Int y) _ (right k.Int (of_right k.Int st (λ _. inl (px, refl)))) (λ _ _. tt))
       go false px b py =
           fails_then (FaultHolds cs) (expr g k.Int x) _ (left k.Int (no_left k.Int px)) (λ a ha.
-          fails_then (FaultHolds cs) (expr g (taken (t.ty_of a)) y) _ (right (taken (t.ty_of a)) (of_right (taken (t.ty_of a)) st (λ _. inr (px, a, typed g k.Int x a ha, refl)))) (λ _ _. tt))
+          fails_then (FaultHolds cs) (expr g (taken (t.ty_of a)) y) _ (right (taken (t.ty_of a)) (of_right (taken (t.ty_of a)) st (λ _. inr (px, a, typed g k.Int x a ha, taken_from (t.ty_of a))))) (λ _ _. tt))
 
   abbrev operands_typed : (g : Scope) (x y : r.Expr) (ab : t.Expr × t.Expr) → operands (plain x) (plain y) (λ w. expr g w x) (λ w. expr g w y) ≡ Ok ab → TypedPair g x y
   operands_typed g x y ab h =
@@ -124,6 +132,10 @@ module _ (cs : List r.Class) where
       record {
         left = ab.0;
         right = ab.1;
+        left_kind = beside (plain y) (t.ty_of ab.1);
+        right_kind = beside (plain x) (t.ty_of ab.0);
+        left_takes = λ _. beside_is g y (beside (plain x) (t.ty_of ab.0)) ab.1 both.1;
+        right_takes = λ _. beside_is g x (beside (plain y) (t.ty_of ab.1)) ab.0 both.0;
         left_is = typed g (beside (plain y) (t.ty_of ab.1)) x ab.0 both.0;
         right_is = typed g (beside (plain x) (t.ty_of ab.0)) y ab.1 both.1;
       }
@@ -153,7 +165,7 @@ module _ (cs : List r.Class) where
         (λ _ _. tt)
     expr_fails g w (r.calls x es) st =
         fails_then (FaultHolds cs) (called_by g x (count es) (λ ws. args g ws es)) _
-        (call_fails g x es (value_call st) (λ f calls same. args_fail g (wants_of f) es (λ v d i. of_call f v d (value_call st) calls same i)))
+        (call_fails g x es (value_call st) (λ f calls same. args_fail g (wants_of f) es (λ v d i. of_call f v d (value_call st) calls same i (wanted v))))
         (λ c hc. fails_must_then (FaultHolds cs) (is_value g c.1) (wrong_type x.place) _
         (λ off. record { scope = g; part = an_expr w (r.calls x es); stands = st; is = (refl, c.0, c.1, call_typed g x es c hc, refuted (is_value g c.1) off (value_true g c.1)) })
         (λ _. tt))

@@ -18,7 +18,7 @@ use Rattle.ulam_types.specs.Typing.{IsTyped, AreTyped}
 use Rattle.fault_laws.specs.TypesRows.{IsNumber, IsUnsigned, IsElement, IsValue, IsLocal, IsField, IsFunction, IsNumberField, MayBeLeft, HasValue, HasItems, CallsBy, Calls, Suits}
 use Rattle.fault_laws.specs.TypesParts.{IsArg, IsAtomLocal}
 use Rattle.fault_laws.specs.Types.{Misfit}
-use Rattle.fault_laws.proofs.TypesTable.{refuted, element_true, value_true, unsigned_class, index_true, assignable_true}
+use Rattle.fault_laws.proofs.TypesTable.{refuted, element_true, value_true, unsigned_class, index_true, wanted, assignable_true}
 
 -- Data members and locals
 
@@ -156,10 +156,10 @@ misfit_is g (w ∷ ws) r.no_args xs h off = absurd (false≢true (sym off ∙ ap
 misfit_is g (w ∷ ws) (r.arg e es) xs h off = go (and_cases (suits g w h.0) (all_suit g ws h.1) (sym (ap (all_suit g (w ∷ ws)) h.4) ∙ off)) (misfit_is g ws es h.1 h.3)
   where
     on : Misfit g ws es → Misfit g (w ∷ ws) (r.arg e es)
-    on m = record { want = m.want; arg = m.arg; expr = m.expr; stands = inr m.stands; is = m.is; unfit = m.unfit }
+    on m = record { want = m.want; arg = m.arg; expr = m.expr; kind = m.kind; stands = inr m.stands; takes = m.takes; is = m.is; unfit = m.unfit }
 
     go : (suits g w h.0 ≡ false) ⊎ (all_suit g ws h.1 ≡ false) → (all_suit g ws h.1 ≡ false → Misfit g ws es) → Misfit g (w ∷ ws) (r.arg e es)
-    go (inl one) rest = record { want = w; arg = e; expr = h.0; stands = inl (refl, refl); is = h.2; unfit = refuted (suits g w h.0) one (suits_true g w h.0) }
+    go (inl one) rest = record { want = w; arg = e; expr = h.0; kind = taken_want w; stands = inl (refl, refl); takes = wanted w; is = h.2; unfit = refuted (suits g w h.0) one (suits_true g w h.0) }
     go (inr more) rest = on (rest more)
 
 -- `as`

@@ -10,12 +10,15 @@ use Rattle.ulam_tree.specs.declared.op.PrefixOp.{PrefixOp}
 use Rattle.ulam_tree.specs.declared.op.PrefixOp.TheVariants as pre
 use Rattle.ulam_tree.specs.declared.op.PairOp.{PairOp}
 use Rattle.ulam_tree.specs.declared.op.PairOp.TheVariants as op
+use Rattle.ulam_types.specs.declared.scope.Want.{Want}
+use Rattle.ulam_types.specs.declared.scope.Want.TheVariants.{Value, Site, Bound}
 use Rattle.ulam_types.specs.declared.scope.NumClass.{NumClass}
 use Rattle.ulam_types.specs.declared.scope.NumClass.TheVariants.{Int, Unsigned, Bits, Bool as Truth, Other}
 use Rattle.ulam_types.specs.Scopes.{Scope, ClassSig, is_element_class, is_element, is_value}
-use Rattle.ulam_types.specs.Rows.{bool, class_by, class_of, taken_by, taken, plain_type, plain_fits, arith_type, order_type, equal_type, bits_type, shift_type, truth_type, pair_type, are_mixed, takes_signs, prefix_by, prefix_type, cast_type, is_atom, is_species, is_index, is_index_class, is_truth, is_truth_class, is_void, fits_number, same_class, assignable}
+use Rattle.ulam_types.specs.Rows.{bool, class_by, class_of, taken_by, taken, taken_want, plain_type, plain_fits, arith_type, order_type, equal_type, bits_type, shift_type, truth_type, pair_type, are_mixed, takes_signs, prefix_by, prefix_type, cast_type, is_atom, is_species, is_index, is_index_class, is_truth, is_truth_class, is_void, fits_number, same_class, assignable}
 use Rattle.ulam_types.specs.Bodies.{is_element_type}
-use Rattle.fault_laws.specs.TypesRows.{IsNumber, IsOf, IsInt, IsUnsigned, IsBits, IsBool, IsElement, IsAtom, IsSpecies, IsValue, IsIndex, AreNumbers, AreMixed, AreAlike, Takes, IsForNumbers, Compares, IsRefused, TakesOne, IsTooLarge, TakesNumber, IsAssignable}
+use Rattle.fault_laws.specs.TypesRows.{IsNumber, IsOf, IsInt, IsUnsigned, IsBits, IsBool, IsElement, IsAtom, IsSpecies, IsValue, IsIndex, AreNumbers, AreMixed, AreAlike, Takes, IsForNumbers, Compares, IsRefused, TakesOne, IsTooLarge, IsTakenFrom, TakesNumber, IsAssignable}
+use Rattle.fault_laws.specs.TypesParts.{IsWanted}
 
 -- a rule that a test of the table refuses
 pub refuted : {P : Type 0} (b : Bool) → b ≡ false → (P → b ≡ true) → P → ⊥
@@ -329,6 +332,40 @@ too_large k.Bool v e = inl (ltb-false v (2 ^ 32) e)
 
 pub too_large_unsigned : (kind : Kind) (v : ℕ) → plain_fits k.Unsigned v ≡ false → IsTooLarge kind v true
 too_large_unsigned kind v e = inl (ltb-false v (2 ^ 32) e)
+
+taken_class : (ty : Ty) (c : NumClass) → class_of ty ≡ c → IsTakenFrom ty (taken_by c)
+taken_class ty (Int w) e = inr (inr (λ h. apart_unsigned (unsigned_class ty h), λ h. apart_bits (bits_class ty h), refl))
+  where
+    apart_unsigned : (v : ℕ) × (class_of ty ≡ Unsigned v) → ⊥
+    apart_unsigned h = let f = h.1 in cc
+
+    apart_bits : (v : ℕ) × (class_of ty ≡ Bits v) → ⊥
+    apart_bits h = let f = h.1 in cc
+taken_class ty (Unsigned w) e = inl (unsigned_is ty w e, refl)
+taken_class ty (Bits w) e = inr (inl (bits_is ty w e, refl))
+taken_class ty Truth e = inr (inr (λ h. apart_unsigned (unsigned_class ty h), λ h. apart_bits (bits_class ty h), refl))
+  where
+    apart_unsigned : (v : ℕ) × (class_of ty ≡ Unsigned v) → ⊥
+    apart_unsigned h = let f = h.1 in cc
+
+    apart_bits : (v : ℕ) × (class_of ty ≡ Bits v) → ⊥
+    apart_bits h = let f = h.1 in cc
+taken_class ty Other e = inr (inr (λ h. apart_unsigned (unsigned_class ty h), λ h. apart_bits (bits_class ty h), refl))
+  where
+    apart_unsigned : (v : ℕ) × (class_of ty ≡ Unsigned v) → ⊥
+    apart_unsigned h = let f = h.1 in cc
+
+    apart_bits : (v : ℕ) × (class_of ty ≡ Bits v) → ⊥
+    apart_bits h = let f = h.1 in cc
+
+-- the kind that the table takes from a type
+pub taken_from : (ty : Ty) → IsTakenFrom ty (taken ty)
+taken_from ty = taken_class ty (class_of ty) refl
+
+pub wanted : (w : Want) → IsWanted w (taken_want w)
+wanted (Value ty) = taken_from ty
+wanted Site = refl
+wanted Bound = refl
 
 -- Assigning
 

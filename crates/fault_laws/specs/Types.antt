@@ -1,6 +1,7 @@
 -- What holds at the place of the first fault of types: for each fault, in the words of its rule.
 use Rattle.std.specs.Prelude.{ℕ, ◌≡◌, ◌≢◌, ◌⊎◌, true, false, List, length, Contains, Option, Some, None}
 use Rattle.feast_base.specs.declared.place.Place.{Place}
+use Rattle.sat_math.specs.declared.Kind.{Kind}
 use Rattle.sat_math.specs.declared.Kind.TheVariants as k
 use Rattle.ulam_tree.specs.declared.resolved.Ty.{Ty}
 use Rattle.ulam_tree.specs.declared.resolved.Ty.TheVariants.{Nothing}
@@ -11,12 +12,11 @@ use Rattle.ulam_tree.specs.Typed as t
 use Rattle.ulam_types.specs.declared.scope.Want.{Want}
 use Rattle.ulam_types.specs.Faults.{Fault, wrong_type, mixed_signs, not_assignable, wrong_count, bad_as, break_outside, missing_return}
 use Rattle.ulam_types.specs.Scopes.{Scope, FunctionSig, Callee, function, built, last_step, built_wants, wants_of}
-use Rattle.ulam_types.specs.Rows.{taken, beside, taken_want}
 use Rattle.ulam_types.specs.Walk.{plain, place_of, count}
 use Rattle.ulam_types.specs.Programs.{first_fault}
 use Rattle.ulam_types.specs.Typing.{IsTyped, IsCall}
-use Rattle.fault_laws.specs.TypesRows.{IsNumber, IsInt, IsUnsigned, IsBool, IsElement, IsAtom, IsSpecies, IsValue, IsIndex, Takes, Compares, AreMixed, IsForNumbers, IsRefused, TakesOne, IsTooLarge, IsAssignable, MayBeLeft, HasValue, HasItems, Calls, Suits}
-use Rattle.fault_laws.specs.TypesParts.{Part, a_function, a_statement, a_condition, a_left, a_value, an_item, a_call, an_expr, IsIn, Stops, IsArg, IsAtomLocal, TypedLeft, Stands}
+use Rattle.fault_laws.specs.TypesRows.{IsNumber, IsInt, IsUnsigned, IsBool, IsElement, IsAtom, IsSpecies, IsValue, IsIndex, Takes, Compares, AreMixed, IsForNumbers, IsRefused, TakesOne, IsTooLarge, IsTakenFrom, IsAssignable, MayBeLeft, HasValue, HasItems, Calls, Suits}
+use Rattle.fault_laws.specs.TypesParts.{Part, a_function, a_statement, a_condition, a_left, a_value, an_item, a_call, an_expr, IsIn, Stops, IsArg, IsAtomLocal, TypedLeft, IsBeside, IsWanted, Stands}
 
 -- an expression with its type, where it takes the kind Int if it is a plain number
 pub record TypedAlone (g : Scope) (e : r.Expr) : Type 0 where
@@ -27,22 +27,34 @@ pub record TypedAlone (g : Scope) (e : r.Expr) : Type 0 where
 pub record TypedPair (g : Scope) (x y : r.Expr) : Type 0 where
   pub left : t.Expr
   pub right : t.Expr
-  pub left_is : IsTyped g (beside (plain y) (t.ty_of right)) x left
-  pub right_is : IsTyped g (beside (plain x) (t.ty_of left)) y right
+  pub left_kind : Kind
+  pub right_kind : Kind
+  pub left_takes : plain x ≡ true → IsBeside g y left_kind
+  pub right_takes : plain y ≡ true → IsBeside g x right_kind
+  pub left_is : IsTyped g left_kind x left
+  pub right_is : IsTyped g right_kind y right
+
+-- a value with its type, where a plain number takes its kind from the type that it is for
+pub record TypedFor (g : Scope) (ty : Ty) (e : r.Expr) : Type 0 where
+  pub expr : t.Expr
+  pub kind : Kind
+  pub takes : IsTakenFrom ty kind
+  pub is : IsTyped g kind e expr
 
 -- a left side and what an operator with `=` computes with it, with their types
 pub record TypedUpdate (g : Scope) (l : r.Left) (e : r.Expr) : Type 0 where
   pub to : TypedLeft g l
-  pub value : t.Expr
-  pub is : IsTyped g (taken to.ty) e value
+  pub value : TypedFor g to.ty e
 
 -- one of the arguments is not what is wanted of it
 pub record Misfit (g : Scope) (ws : List Want) (es : r.Args) : Type 0 where
   pub want : Want
   pub arg : r.Expr
   pub expr : t.Expr
+  pub kind : Kind
   pub stands : IsArg want arg ws es
-  pub is : IsTyped g (taken_want want) arg expr
+  pub takes : IsWanted want kind
+  pub is : IsTyped g kind arg expr
   pub unfit : Suits g want expr → ⊥
 
 -- Wrong type: a result, a parameter or a local that has no type of values; a `return` with a value where there is no result,
@@ -56,7 +68,7 @@ IsWrongType g (a_function of w ps b) p =
 IsWrongType g (a_statement (r.declares of n q e)) p = (p ≡ of.place) × (IsValue g of.ty → ⊥)
 IsWrongType g (a_statement (r.returns q None)) p = (p ≡ q) × (g.result ≢ Nothing)
 IsWrongType g (a_statement (r.returns q (Some e))) p = (p ≡ q) × (g.result ≡ Nothing)
-IsWrongType g (a_statement (r.assigns l (Some op) e)) p = (p ≡ l.path.place) × (u : TypedUpdate g l e) × IsRefused op (plain e) u.to.ty (t.ty_of u.value)
+IsWrongType g (a_statement (r.assigns l (Some op) e)) p = (p ≡ l.path.place) × (u : TypedUpdate g l e) × IsRefused op (plain e) u.to.ty (t.ty_of u.value.expr)
 IsWrongType g (a_statement (r.counts l up)) p = (p ≡ l.path.place) × (to : TypedLeft g l) × (IsInt to.ty ⊎ IsUnsigned to.ty → ⊥)
 IsWrongType g (a_condition e) p = (p ≡ place_of e) × (a : TypedAlone g e) × (IsBool (t.ty_of a.expr) → ⊥)
 IsWrongType g (an_item x e) p = (p ≡ x.place) × ((HasItems g (last_step x.steps) → ⊥) ⊎ ((a : TypedAlone g e) × (IsIndex (t.ty_of a.expr) → ⊥)))
@@ -72,7 +84,7 @@ IsWrongType g x p = ⊥
 
 -- Signed with unsigned: an operator for numbers between one with a sign and one without.
 abbrev pub IsMixed : Scope → Part → Place → Type 0
-IsMixed g (a_statement (r.assigns l (Some op) e)) p = (p ≡ l.path.place) × IsForNumbers op × (u : TypedUpdate g l e) × AreMixed u.to.ty (t.ty_of u.value)
+IsMixed g (a_statement (r.assigns l (Some op) e)) p = (p ≡ l.path.place) × IsForNumbers op × (u : TypedUpdate g l e) × AreMixed u.to.ty (t.ty_of u.value.expr)
 IsMixed g (an_expr kind (r.pair op x y q)) p = (p ≡ q) × IsForNumbers op × (o : TypedPair g x y) × AreMixed (t.ty_of o.left) (t.ty_of o.right)
 IsMixed g x p = ⊥
 
@@ -80,9 +92,9 @@ IsMixed g x p = ⊥
 -- operator with `=` only a truth value, of a comparison, which no text has there; an argument for a parameter of another type.
 abbrev pub IsUnassignable : Scope → Part → Place → Type 0
 IsUnassignable g (a_left l) p = (p ≡ l.path.place) × (l.index ≡ None) × (MayBeLeft g (last_step l.path.steps) → ⊥)
-IsUnassignable g (a_value q ty e) p = (p ≡ q) × (a : t.Expr) × IsTyped g (taken ty) e a × (IsAssignable g ty (t.ty_of a) → ⊥)
+IsUnassignable g (a_value q ty e) p = (p ≡ q) × (a : TypedFor g ty e) × (IsAssignable g ty (t.ty_of a.expr) → ⊥)
 IsUnassignable g (a_statement (r.assigns l (Some op) e)) p =
-    (p ≡ l.path.place) × Compares op × (u : TypedUpdate g l e) × Takes op (plain e) u.to.ty (t.ty_of u.value) × (IsBool u.to.ty → ⊥)
+    (p ≡ l.path.place) × Compares op × (u : TypedUpdate g l e) × Takes op (plain e) u.to.ty (t.ty_of u.value.expr) × (IsBool u.to.ty → ⊥)
 IsUnassignable g (a_call x es) p = (p ≡ x.place) × (f : FunctionSig) × Calls g x.steps (function f) × Misfit g f.wants es
 IsUnassignable g x p = ⊥
 

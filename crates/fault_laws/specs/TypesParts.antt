@@ -13,12 +13,12 @@ use Rattle.ulam_tree.specs.Raw.{Word}
 use Rattle.ulam_tree.specs.Resolved as r
 use Rattle.ulam_tree.specs.Typed as t
 use Rattle.ulam_types.specs.declared.scope.Want.{Want}
+use Rattle.ulam_types.specs.declared.scope.Want.TheVariants.{Value}
 use Rattle.ulam_types.specs.Scopes.{Scope, Callee, wants_of}
-use Rattle.ulam_types.specs.Rows.{taken, taken_want}
 use Rattle.ulam_types.specs.Walk.{plain, count}
 use Rattle.ulam_types.specs.Programs.{class_sig, scope_of}
 use Rattle.ulam_types.specs.Typing.{IsTyped, IsLeft}
-use Rattle.fault_laws.specs.TypesRows.{IsElement, IsLocal, Calls}
+use Rattle.fault_laws.specs.TypesRows.{IsElement, IsTakenFrom, IsLocal, Calls}
 
 -- What a rule is about: a function with its result, its name, its parameters and its body; a statement; a condition; a left
 -- side; a value for a type, with the place of what it is for; a path with an index in square brackets; a call; or an
@@ -72,7 +72,12 @@ pub record TypedLeft (g : Scope) (l : r.Left) : Type 0 where
 
 -- the kind that a plain number takes beside e: Int beside a plain number, else that of the type of e
 abbrev pub IsBeside : Scope → r.Expr → Kind → Type 0
-IsBeside g e v = ((plain e ≡ true) × (v ≡ k.Int)) ⊎ ((plain e ≡ false) × (a : t.Expr) × IsTyped g k.Int e a × (v ≡ taken (t.ty_of a)))
+IsBeside g e v = ((plain e ≡ true) × (v ≡ k.Int)) ⊎ ((plain e ≡ false) × (a : t.Expr) × IsTyped g k.Int e a × IsTakenFrom (t.ty_of a) v)
+
+-- the kind that a plain argument takes: that of its parameter's type, and Int where a site or a bound is wanted
+abbrev pub IsWanted : Want → Kind → Type 0
+IsWanted (Value ty) v = IsTakenFrom ty v
+IsWanted want v = v ≡ k.Int
 
 -- Each part stands in the program, with what is known there.
 pub data Stands (cs : List r.Class) : Scope → Part → Type 0 where
@@ -102,10 +107,10 @@ pub data Stands (cs : List r.Class) : Scope → Part → Type 0 where
   -- expressions
   of_condition : {g : Scope} {e : r.Expr} → Stands cs g (a_condition e) → Stands cs g (an_expr k.Int e)
   of_item : {g : Scope} {x : r.Path} {e : r.Expr} → Stands cs g (an_item x e) → Stands cs g (an_expr k.Int e)
-  of_value : {g : Scope} {p : Place} {ty : Ty} {e : r.Expr} → Stands cs g (a_value p ty e) → Stands cs g (an_expr (taken ty) e)
-  of_return : {g : Scope} {p : Place} {e : r.Expr} → Stands cs g (a_statement (r.returns p (Some e))) → Stands cs g (an_expr (taken g.result) e)
-  of_update : {g : Scope} {l : r.Left} {op : PairOp} {e : r.Expr} → Stands cs g (a_statement (r.assigns l (Some op) e)) → (to : TypedLeft g l) → Stands cs g (an_expr (taken to.ty) e)
-  of_call : {g : Scope} {x : r.Path} {es : r.Args} (f : Callee) (w : Want) (e : r.Expr) → Stands cs g (a_call x es) → Calls g x.steps f → length (wants_of f) ≡ count es → IsArg w e (wants_of f) es → Stands cs g (an_expr (taken_want w) e)
+  of_value : {g : Scope} {p : Place} {ty : Ty} {e : r.Expr} {v : Kind} → Stands cs g (a_value p ty e) → IsTakenFrom ty v → Stands cs g (an_expr v e)
+  of_return : {g : Scope} {p : Place} {e : r.Expr} {v : Kind} → Stands cs g (a_statement (r.returns p (Some e))) → IsTakenFrom g.result v → Stands cs g (an_expr v e)
+  of_update : {g : Scope} {l : r.Left} {op : PairOp} {e : r.Expr} {v : Kind} → Stands cs g (a_statement (r.assigns l (Some op) e)) → (to : TypedLeft g l) → IsTakenFrom to.ty v → Stands cs g (an_expr v e)
+  of_call : {g : Scope} {x : r.Path} {es : r.Args} {v : Kind} (f : Callee) (w : Want) (e : r.Expr) → Stands cs g (a_call x es) → Calls g x.steps f → length (wants_of f) ≡ count es → IsArg w e (wants_of f) es → IsWanted w v → Stands cs g (an_expr v e)
   of_group : {g : Scope} {v : Kind} {e : r.Expr} {p : Place} → Stands cs g (an_expr v (r.group e p)) → Stands cs g (an_expr v e)
   of_cast : {g : Scope} {v : Kind} {c : Named} {e : r.Expr} {p : Place} → Stands cs g (an_expr v (r.cast c e p)) → Stands cs g (an_expr k.Int e)
   of_prefix : {g : Scope} {v : Kind} {op : PrefixOp} {e : r.Expr} {p : Place} → Stands cs g (an_expr v (r.prefix op e p)) → Stands cs g (an_expr k.Int e)

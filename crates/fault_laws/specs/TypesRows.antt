@@ -128,6 +128,10 @@ TakesOne pre.Flip a = IsBits a
 abbrev pub IsTooLarge : Kind → ℕ → Bool → Type 0
 IsTooLarge kind v unsigned = (2 ^ 32 ≤ v) ⊎ ((unsigned ≡ false) × (kind ≡ k.Int) × (2 ^ 31 ≤ v))
 
+-- the kind that a plain number takes from a type: the class of that type, and Int where that is no class of numbers
+abbrev pub IsTakenFrom : Ty → Kind → Type 0
+IsTakenFrom ty kind = (IsUnsigned ty × (kind ≡ k.Unsigned)) ⊎ (IsBits ty × (kind ≡ k.Bits)) ⊎ ((IsUnsigned ty → ⊥) × (IsBits ty → ⊥) × (kind ≡ k.Int))
+
 -- Assigning
 
 -- the types whose values a number type of a kind takes
