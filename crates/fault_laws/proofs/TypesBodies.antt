@@ -25,7 +25,9 @@ use Rattle.fault_laws.specs.TypesRows.{IsBool, Takes, AreMixed, Compares, IsRefu
 use Rattle.fault_laws.specs.TypesParts.{Part, a_statement, a_condition, a_left, a_value, an_expr, IsIn, Stops, returning, breaking, continuing, inside, in_both, Sees, TypedLeft, Stands, in_block, in_first, in_else, in_while, in_for, for_first, for_step, if_asks, while_asks, for_asks, assigned, counted, assigned_value, declared_value, returned_value, left_item, done_call, of_condition, of_item, of_value, of_return, of_update, of_call}
 use Rattle.fault_laws.specs.Types.{TypedFor, TypedUpdate, Breaks, IsWrongType, IsMixed, IsUnassignable, IsNoElement, IsOutside, FaultHolds}
 use Rattle.fault_laws.proofs.Fails.{Fails, fails_then, fails_must_then, fails_found_then}
-use Rattle.fault_laws.proofs.TypesTable.{refuted, refuted_none, lost_update, value_true, bool_true, element_type_true, element_type_is, taken_from, wanted, void_is, not_void, assignable_true, mixed_true, counted_apart, counted_numbers, counted_assignable}
+use Rattle.fault_laws.proofs.TypesClasses.{refuted, refuted_none, value_true, bool_true, element_type_true, element_type_is, void_is, not_void}
+use Rattle.fault_laws.proofs.TypesTable.{taken_from, wanted, assignable_true, mixed_true}
+use Rattle.fault_laws.proofs.TypesUpdates.{lost_update, counted_apart, counted_numbers, counted_assignable}
 use Rattle.fault_laws.proofs.TypesPaths.{may_be_left, atom_local, atom_local_is}
 use Rattle.fault_laws.proofs.TypesExprs.{typed, alone, pair_holds, item_fails, call_fails, expr_fails, args_fail}
 

@@ -22,7 +22,8 @@ use Rattle.fault_laws.specs.TypesRows.{AreMixed, IsForNumbers, IsRefused, Calls}
 use Rattle.fault_laws.specs.TypesParts.{Part, a_call, an_item, an_expr, IsArg, IsBeside, Stands, read_item, value_call, of_item, of_call, of_group, of_cast, of_prefix, of_is, of_left, of_right}
 use Rattle.fault_laws.specs.Types.{TypedAlone, TypedPair, Misfit, Breaks, IsWrongType, IsMixed, IsUnassignable, IsMiscounted, IsNoElement, FaultHolds}
 use Rattle.fault_laws.proofs.Fails.{Fails, fails_then, fails_last, fails_must, fails_must_then, fails_found, fails_found_then}
-use Rattle.fault_laws.proofs.TypesTable.{refuted, refuted_none, atom_true, species_true, value_true, index_true, mixed_pair, refused_pair, one_taken, cast_taken, too_large, too_large_unsigned, taken_from, wanted}
+use Rattle.fault_laws.proofs.TypesClasses.{refuted, refuted_none, atom_true, species_true, value_true, index_true}
+use Rattle.fault_laws.proofs.TypesTable.{mixed_pair, refused_pair, one_taken, cast_taken, too_large, too_large_unsigned, taken_from, wanted}
 use Rattle.fault_laws.proofs.TypesPaths.{has_value, has_items, callee_is, calls_is, misfit_is}
 
 -- the typed tree that the walk found

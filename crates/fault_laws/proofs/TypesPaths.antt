@@ -18,7 +18,8 @@ use Rattle.ulam_types.specs.Typing.{IsTyped, AreTyped}
 use Rattle.fault_laws.specs.TypesRows.{IsNumber, IsUnsigned, IsElement, IsValue, IsLocal, IsField, IsFunction, IsNumberField, MayBeLeft, HasValue, HasItems, CallsBy, Calls, Suits}
 use Rattle.fault_laws.specs.TypesParts.{IsArg, IsAtomLocal}
 use Rattle.fault_laws.specs.Types.{Misfit}
-use Rattle.fault_laws.proofs.TypesTable.{refuted, element_true, value_true, unsigned_class, index_true, wanted, assignable_true}
+use Rattle.fault_laws.proofs.TypesClasses.{refuted, element_true, value_true, unsigned_class, index_true}
+use Rattle.fault_laws.proofs.TypesTable.{wanted, assignable_true}
 
 -- Data members and locals
 

@@ -21,7 +21,7 @@ use Rattle.fault_laws.specs.TypesParts.{a_function, Stands, in_class, in_body}
 use Rattle.fault_laws.specs.Types.{Breaks, IsWrongType, LacksReturn, FaultHolds}
 use Rattle.fault_laws.proofs.Fails.{Fails, fails_then, fails_must_then, fails_at}
 use Rattle.fault_laws.proofs.BasesLines.{in_first, in_more}
-use Rattle.fault_laws.proofs.TypesTable.{refuted, value_true, not_void}
+use Rattle.fault_laws.proofs.TypesClasses.{refuted, value_true, not_void}
 use Rattle.fault_laws.proofs.TypesBodies.{none_stops, body_fails}
 
 module _ (cs : List r.Class) where
