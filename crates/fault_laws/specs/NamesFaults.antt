@@ -99,7 +99,7 @@ pub data IsUnknown (items : List Item) (p : Place) : Type 0 where
 
 -- 32: a quark contains itself
 
--- class a has a data member of class b
+-- class a has a data member whose type is the quark b
 pub record HasPart (items : List Item) (a b : ℕ) : Type 0 where
   pub m : MemberOf items
   pub of : TypeRef
@@ -109,6 +109,7 @@ pub record HasPart (items : List Item) (a b : ℕ) : Type 0 where
   pub of_a : m.number ≡ a
   pub is : m.at.here ≡ field of word length
   pub of_b : slice_get (classes_of items) b ≡ Some part
+  pub quark : IsTrue part.quark
   pub same : of.word.name ≡ part.word.name
   pub no_typedef : Lacks (names_by is_typedef m.at.before) of.word.name
 
@@ -177,12 +178,12 @@ abbrev pub HasWidthOut : {items : List Item} {before : List Member} → Meaning 
 HasWidthOut m x = HasWrongWidth (basics m.known m.names) (values m.names) x
 
 -- A type that no data member has: an atom's, none, that of the empty atom, an element; or for an array one that is no number type.
-pub data IsNoDataType (known : Known) (array : Bool) (ty : Ty) : Type 0 where
-  atom : ty ≡ y.Atom → IsNoDataType known array ty
-  nothing : ty ≡ y.Nothing → IsNoDataType known array ty
-  empty : ty ≡ y.Empty → IsNoDataType known array ty
-  element : (k : ℕ) (n : Text) → ty ≡ y.Class k → slice_get known k ≡ Some (n, false) → IsNoDataType known array ty
-  of_array : IsTrue array → as_number ty ≡ None → IsNoDataType known array ty
+pub data IsNoDataType (items : List Item) (array : Bool) (ty : Ty) : Type 0 where
+  atom : ty ≡ y.Atom → IsNoDataType items array ty
+  nothing : ty ≡ y.Nothing → IsNoDataType items array ty
+  empty : ty ≡ y.Empty → IsNoDataType items array ty
+  element : (k : ℕ) (c : Class) → ty ≡ y.Class k → slice_get (classes_of items) k ≡ Some c → c.quark ≡ false → IsNoDataType items array ty
+  of_array : IsTrue array → as_number ty ≡ None → IsNoDataType items array ty
 
 pub data IsBadWidth (items : List Item) (p : Place) : Type 0 where
   width : (m : MemberOf items) (x : TypeRef) (means : Meaning items m.at.before) → Contains (types_in m.at.here) x → x.word.place ≡ p → HasWidthOut means x → IsBadWidth items p
@@ -192,7 +193,7 @@ pub data IsBadWidth (items : List Item) (p : Place) : Type 0 where
   no_number : (m : MemberOf items) (means : Meaning items m.at.before) (n : Named) → IsTrue (is_small m.at.here) → (member_type m.at.here).word.place ≡ p →
       IsMemberType means.known means.names (member_type m.at.here) n → as_number n.ty ≡ None → IsBadWidth items p
   no_data : (m : MemberOf items) (means : Meaning items m.at.before) (of : TypeRef) (w : Word) (len : Option Width) (n : Named) → m.at.here ≡ field of w len → of.word.place ≡ p →
-      IsMemberType means.known means.names of n → IsNoDataType means.known (is_some len) n.ty → IsBadWidth items p
+      IsMemberType means.known means.names of n → IsNoDataType items (is_some len) n.ty → IsBadWidth items p
   length_out : (m : MemberOf items) (means : Meaning items m.at.before) (of : TypeRef) (w : Word) (d : Width) (v : ℤ) → m.at.here ≡ field of w (Some d) → w.place ≡ p →
       IsWidth (values means.names) d v → (int_le (pos 1) v && int_le v (pos 71)) ≡ false → IsBadWidth items p
 
