@@ -1,7 +1,15 @@
 pub mod Fails
 pub mod NamesAdded
+pub mod NamesBehave
 pub mod NamesClasses
+pub mod NamesCycles
+pub mod NamesFunctions
+pub mod NamesLaw
 pub mod NamesLists
 pub mod NamesMembers
+pub mod NamesScopes
+pub mod NamesShown
+pub mod NamesStatements
 pub mod NamesTypes
+pub mod NamesUses
 pub mod NamesWalked

@@ -69,7 +69,7 @@ module _ (types hidden constants : List Text) (basics : Text → Option Basic) (
 
 -- Options that hold nothing
 
-or_none : {A : Type 0} (a b : Option A) → option_or a b ≡ None → (a ≡ None) × (b ≡ None)
+pub or_none : {A : Type 0} (a b : Option A) → option_or a b ≡ None → (a ≡ None) × (b ≡ None)
 or_none None b e = (refl, e)
 or_none (Some x) b e = absurd cc
 
@@ -89,7 +89,7 @@ none_any p (x ∷ xs) le = go (p x) le (none_any p xs)
     go true le rest = absurd (omega (arith, le))
     go false le rest = rest (omega (arith, le))
 
-no_number : (n : Text) (names : List Text) → number_of n names ≡ None → is_among n names ≡ false
+pub no_number : (n : Text) (names : List Text) → number_of n names ≡ None → is_among n names ≡ false
 no_number n names e = none_any (bytes_eq n) names (not_below _ _ (none_by (nat_lt (position_or_len (bytes_eq n) names) (length names)) _ e))
 
 -- a name that means no type is in none of the three lists

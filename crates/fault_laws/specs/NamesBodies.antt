@@ -83,23 +83,10 @@ shown_by c (test e) = []
 abbrev pub branch : Context → Sight → Cond → Sight
 branch c s k = record { around = (s.around ++ s.own) ++ shown_by c k; own = [] }
 
--- what a statement declares in its scope
-abbrev pub declared_by : Context → Statement → List Local
-declared_by c (declares ty w e) = local c w.name ty.word.name ∷ []
-declared_by c (block b) = []
-declared_by c empty = []
-declared_by c (if_so k x z) = []
-declared_by c (while_so k x) = []
-declared_by c (for_all f k g x) = []
-declared_by c (returns p e) = []
-declared_by c (breaks p) = []
-declared_by c (continues p) = []
-declared_by c (assigns l op e) = []
-declared_by c (counts l up) = []
-declared_by c (does p xs) = []
-
+-- behind a statement of the scope
 abbrev pub behind : Context → Sight → Statement → Sight
-behind c s x = record { around = s.around; own = s.own ++ declared_by c x }
+behind c s (declares ty w e) = record { around = s.around; own = s.own ++ local c w.name ty.word.name ∷ [] }
+behind c s _ = s
 
 abbrev pub behind_part : Context → Sight → Part → Sight
 behind_part c s no_part = s
