@@ -3,6 +3,7 @@ pub mod NamesAdded
 pub mod NamesBehave
 pub mod NamesClasses
 pub mod NamesCycles
+pub mod NamesExamples
 pub mod NamesFunctions
 pub mod NamesLaw
 pub mod NamesLists

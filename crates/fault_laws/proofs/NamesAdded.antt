@@ -6,7 +6,7 @@ use Rattle.std.proofs.lemmas.List.{map-append, length-append, length-map}
 use Rattle.list_laws.proofs.Members.{In, in_map, filter_in, map_in, contains_in, in_contains}
 use Rattle.ulam_tree.specs.Raw.{Member, typedef, constant, field, function, Class, Item, ulam, uses, class}
 use Rattle.ulam_heirs.specs.Flat.{member_word, is_function, is_field}
-use Rattle.ulam_names.specs.Scopes.{Text, Names, no_names, names_of, small_names, declares_name, is_among}
+use Rattle.ulam_names.specs.Scopes.{Text, Names, no_names, names_of, small_names, declares_name, is_among, Value}
 use Rattle.ulam_names.specs.Classes.{Known, Half}
 use Rattle.ulam_names.specs.ClassRelation.{AreKnown, IsMember, AreMembers}
 use Rattle.fault_laws.specs.NamesText.{classes_of, class_names, member_names, is_typedef, is_constant, is_small, names_by}
@@ -43,7 +43,7 @@ adds_one known d (typedef ty w) x h =
       small = omega (arith, long);
     })
 adds_one known d (constant ty w k) x h =
-    let value = record { num = h.1; value = h.2.1 } in
+    let value : Value = record { num = h.1; value = h.2.1 } in
     let long = length-append d.constants ((w.name, value) ∷ []) in
     subst (λ (z : Names × List Half). Adds d (constant ty w k ∷ []) z.0) (sym h.8) (record {
       typedefs = sym (append-nil _);

@@ -107,8 +107,8 @@ module _ (items : List Item) (known : Known) where
   Q = HoldsAt items
 
   lacks_behave : (gone : List Item) (c : Class) (xs : List Item) (a : Names × List Half) → items ≡ gone ++ class c ∷ xs → AreMembers known no_names c.members a → (c.quark || list_any is_behave a.1) ≡ false → LacksBehave items c.word.place
-  lacks_behave gone c xs a is h no =
-      let parts = neither c.quark (list_any is_behave a.1) no in
+  lacks_behave gone c xs a is h off =
+      let parts = neither c.quark (list_any is_behave a.1) off in
       let there : In c (classes_of items) = subst (In c) (sym (ap classes_of is ∙ classes_append gone (class c ∷ xs))) (in_middle (classes_of gone) c (classes_of xs)) in
       record {
         class = c;

@@ -1,6 +1,6 @@
 -- What holds of a fault of the names of classes, of `use`, and of members.
 use Rattle.std.proofs.Common.{◌≡◌, ◌⊎◌, inl, inr, ◌≤◌, ℕ, refl, sym, ap, ◌∙◌, subst, List, [], ◌∷◌, ◌++◌, length, map, Some, Ok, Bool, true, false, not, ◌||◌, nat_lt, codes, arith, append-nil}
-use Rattle.std.specs.Prelude.{Contains, slice_get}
+use Rattle.std.specs.Prelude.{Contains, slice_get, bytes_eq}
 use Rattle.std.proofs.lemmas.Bool.{false≢true}
 use Rattle.std.proofs.lemmas.List.{length-map, map-append}
 use Rattle.list_laws.proofs.Members.{In, in_contains}
@@ -95,7 +95,7 @@ module _ (items : List Item) where
     lacks_use : (n : Text) → w.may_use known n ≡ false → Lacks (codes "EventWindow" ∷ codes "Random" ∷ class_names (classes_of items)) n
     lacks_use n e =
         subst (λ (ns : List Text). Lacks (codes "EventWindow" ∷ codes "Random" ∷ ns) n) (known_names items known named)
-        (not_among n (codes "EventWindow" ∷ codes "Random" ∷ names_of known) (three _ _ _ e))
+        (not_among n (codes "EventWindow" ∷ codes "Random" ∷ names_of known) (three (bytes_eq n (codes "EventWindow")) (bytes_eq n (codes "Random")) (is_among n (names_of known)) e))
 
     pub items_fail : (gone xs : List Item) → items ≡ gone ++ xs → Fails Q (w.items known xs)
     items_fail gone [] is = tt
@@ -103,7 +103,7 @@ module _ (items : List Item) where
     items_fail gone (uses v ∷ xs) is =
         let there : Contains items (uses v) = in_contains items (uses v) (subst (In (uses v)) (sym is) (in_middle gone (uses v) xs)) in
         fails_then Q (w.item known (uses v)) _
-        (fails_last Q (must (w.may_use known v.name) (unknown_name v.place)) _ (fails_must Q (w.may_use known v.name) (unknown_name v.place) (λ no. f.no_class v there refl (lacks_use v.name no)))) (λ hs _.
+        (fails_last Q (must (w.may_use known v.name) (unknown_name v.place)) _ (fails_must Q (w.may_use known v.name) (unknown_name v.place) (λ off. f.no_class v there refl (lacks_use v.name off)))) (λ hs _.
         fails_last Q (w.items known xs) _ (items_fail (gone ++ uses v ∷ []) xs (is ∙ one_more gone (uses v) xs)))
     items_fail gone (class c ∷ xs) is =
         fails_then Q (w.item known (class c)) _

@@ -20,7 +20,7 @@ use Rattle.ulam_names.specs.Classes.{Known, Half, HalfClass, Pending, half_field
 use Rattle.ulam_names.specs.Walk.{body, basic_in}
 use Rattle.ulam_names.specs.ClassRelation.{AreKnown, AreParams, IsMember, AreMembers, AreItems}
 use Rattle.fault_laws.specs.NamesText.{EntryOf, Lacks, MemberOf, classes_of, names_by, types_known, constants_known}
-use Rattle.fault_laws.specs.NamesBodies.{Use, of_type, of_class, of_path, Mention, used, declared, local, first_sight}
+use Rattle.fault_laws.specs.NamesBodies.{Use, of_type, of_class, of_path, Local, Mention, used, declared, local, first_sight}
 use Rattle.fault_laws.specs.NamesFaults as f
 use Rattle.fault_laws.specs.NamesFaults.{Meaning, FunctionOf, context_in, names_in, names_of_class, HoldsAt, IsUnknownUse}
 use Rattle.fault_laws.proofs.Fails.{Fails, fails_then, fails_last, fails_more}
@@ -39,11 +39,11 @@ use Rattle.fault_laws.proofs.NamesCycles.{ClassAt, class_at}
 no_numbered : {A : Type 0} (n : Text) (ps : List (Text × A)) → numbered n ps ≡ None → Lacks (names_of ps) n
 no_numbered {A = A} n ps e = not_among n (names_of ps) (no_number n (names_of ps) (go (number_of n (names_of ps)) refl e))
   where
-    there : (i : ℕ) (o : Option (Text × A)) → option_map (λ (p : Text × A). p.0) o ≡ Some n → option_map (λ (p : Text × A). (i, p.1)) o ≡ None → ⊥
+    there : (i : ℕ) (o : Option (Text × A)) → option_map (λ (p : Text × A). p.0) o ≡ Some n → option_map {U = ℕ × A} (λ (p : Text × A). (i, p.1)) o ≡ None → ⊥
     there i None a e = absurd cc
     there i (Some p) a e = absurd cc
 
-    go : (o : Option ℕ) → number_of n (names_of ps) ≡ o → option_and_then (λ (i : ℕ). option_map (λ (p : Text × A). (i, p.1)) (slice_get ps i)) o ≡ None → number_of n (names_of ps) ≡ None
+    go : (o : Option ℕ) → number_of n (names_of ps) ≡ o → option_and_then (λ (i : ℕ). option_map {U = ℕ × A} (λ (p : Text × A). (i, p.1)) (slice_get ps i)) o ≡ None → number_of n (names_of ps) ≡ None
     go None is e = is
     go (Some i) is e = absurd (there i (slice_get ps i) (sym (slice_get-map (λ (p : Text × A). p.0) ps i) ∙ number_at n (names_of ps) i is) e)
 
@@ -134,7 +134,7 @@ module _ (items : List Item) (known : Known) (classes : AreKnown [] items known)
       InBody m e = FaultIn c (types_known items gone) (constants_known gone) (names_of_class fn) of_types of_constants of_own m (names_in fn) e
 
       -- a fault among the names of the body
-      use_holds : (at : EntryOf Mention (names_in fn)) (around own : List _) (u : Use) → at.here ≡ used (record { around = around; own = own }) u → (e : Fault) →
+      use_holds : (at : EntryOf Mention (names_in fn)) (around own : List Local) (u : Use) → at.here ≡ used (record { around = around; own = own }) u → (e : Fault) →
           UseFault c (types_known items gone) (constants_known gone) (names_of_class fn) of_types of_constants of_own (around ++ own) u e → Q e
       use_holds at around own (of_type x) is (unknown_name p) g = f.in_body fn at around own (of_type x) is g
       use_holds at around own (of_type x) is (bad_width p) g = f.width_in_body fn at around own x is g.0 g.1

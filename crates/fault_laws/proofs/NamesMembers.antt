@@ -116,7 +116,7 @@ module _ (items : List Item) (m : MemberOf items) (means : Meaning items m.at.be
     new_fails : (count : ℕ) (free : Bool) → (64 ≤ count → IsTooMany items v.place) → (free ≡ false → IsDoubled items v.place) → Fails Q (w.new_name d count free v)
     new_fails count free many taken =
         fails_must_then Q (nat_lt count most_members) (too_many v.place) _ (λ over. many (not_below count 64 over)) (λ few.
-        fails_must Q (free && not (declares_name d v.name)) (declared_twice v.place) (λ no. twice free refl no))
+        fails_must Q (free && not (declares_name d v.name)) (declared_twice v.place) (λ off. twice free refl off))
       where
         twice : (b : Bool) → free ≡ b → (b && not (declares_name d v.name)) ≡ false → IsDoubled items v.place
         twice false is e = taken is
@@ -167,7 +167,8 @@ module _ (items : List Item) (m : MemberOf items) (means : Meaning items m.at.be
   value_fails ty v (const_number minus n s) is = tt
   value_fails ty v (const_truth b) is = tt
   value_fails ty v (const_named x) is =
-      number_fails x (subst (λ (z : Member). Contains (constant_in z) x) (sym is) (in_contains (x ∷ []) x (inl refl))) _
+      number_fails x (subst (λ (z : Member). Contains (constant_in z) x) (sym is) (in_contains (x ∷ []) x (inl refl)))
+      (option_map {U = Bool × ℤ} (λ (z : Value). (is_truth z.num.kind, z.value)) (beside x.name d.constants))
       (λ e. ap (option_map (λ (z : Value). z.value)) (map_none _ (beside x.name d.constants) e))
 
   value_is : (k : Const) → Means (IsValue d k) (w.const_value d k)
@@ -214,7 +215,7 @@ module _ (items : List Item) (m : MemberOf items) (means : Meaning items m.at.be
       fails_then Q (w.member_type means.known d ty) _ (typed ty (own_type (field ty v len) is)) (λ n hn.
       let h = type_means_at ty n hn in
       fails_must_then Q (w.may_be_member means.known n.ty (is_some len)) (bad_width n.place) _
-      (λ no. f.no_data m means ty v len n is (sym (ap (λ (z : Named). z.place) h.4)) h (no_data_type items m.at.before means ty n h (is_some len) no)) (λ _.
+      (λ off. f.no_data m means ty v len n is (sym (ap (λ (z : Named). z.place) h.4)) h (no_data_type items m.at.before means ty n h (is_some len) off)) (λ _.
       fails_then Q (w.new_name d (length d.fields) true v) _ (new_fails v (ap member_word is) (length d.fields) true many free_always) (λ _ _.
       fails_last Q (w.length_of d v.place len) _ (length_fails ty v len is))))
     where

@@ -44,9 +44,9 @@ module _ (c : Context) where
     statement_count v t.empty = refl
     statement_count v (t.if_so k x z) =
         let cond = all_used v (cond_uses k) in
-        let yes = statement_names c (branch c v k) x in
-        let e = count_both (cond ++ yes) (part_names c (inner v) z) in
-        let f = count_both cond yes in
+        let first = statement_names c (branch c v k) x in
+        let e = count_both (cond ++ first) (part_names c (inner v) z) in
+        let f = count_both cond first in
         let none = count_used v (cond_uses k) in
         let one = statement_count (branch c v k) x in
         let two = part_count (inner v) z in
@@ -72,7 +72,7 @@ module _ (c : Context) where
     statement_count v (t.returns p e) = count_used v (maybe_uses e)
     statement_count v (t.breaks p) = refl
     statement_count v (t.continues p) = refl
-    statement_count v (t.declares ty x e) = ap (λ (n : ℕ). 1 + n) (count_used v (maybe_uses e))
+    statement_count v (t.declares ty x e) = let none = count_used v (maybe_uses e) in omega (arith, none)
     statement_count v (t.assigns l op e) = count_used v (left_uses l ++ expr_uses e)
     statement_count v (t.counts l up) = count_used v (left_uses l)
     statement_count v (t.does x xs) = count_used v (of_path x ∷ args_uses xs)
@@ -99,7 +99,7 @@ module _ (c : Context) where
 
   -- the type that a name means
   basic_type : (n : Text) (b : Basic) → basic_in c n ≡ Some b → type_of_name c n ≡ bare b
-  basic_type n b e = ap (λ (o : Option Basic). option_map_or (λ (z : Basic). bare z) y.Nothing o) e
+  basic_type n b e = ap (λ (o : Option Basic). option_map_or (λ (z : Basic). bare z) o y.Nothing) e
 
   -- a local of a type, as an entry
   pub typed_same : (values : Text → Option ℤ) (x : TypeRef) (m : Named) (name : Text) (k : ℕ) → IsType (basic_in c) values x m →

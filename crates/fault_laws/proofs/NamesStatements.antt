@@ -140,21 +140,21 @@ module _ (c : Context) (types constants own : List Text)
     statement_fails s v n t.empty h = tt
     statement_fails s v n (t.if_so k x z) h =
         let cond : List Mention = all_used v (cond_uses k) in
-        let yes : List Mention = statement_names c (branch c v k) x in
-        let no : List Mention = part_names c (inner v) z in
-        let Q : Fault → Type 0 = FaultIn n (cond ++ yes ++ no) in
-        let both = count_both cond yes in
+        let first : List Mention = statement_names c (branch c v k) x in
+        let otherwise : List Mention = part_names c (inner v) z in
+        let Q : Fault → Type 0 = FaultIn n (cond ++ first ++ otherwise) in
+        let both = count_both cond first in
         let none = count_used v (cond_uses k) in
         let one = statement_count c (branch c v k) x in
         fails_then Q (w.cond c s.entries k) _ (fails_more (Used v (cond_uses k)) Q (w.cond c s.entries k) (cond_at s v h k)
-        (λ e g. fault_front n (cond ++ yes) no e (fault_front n cond yes e (used_fault n v (cond_uses k) e g)))) (λ d hd.
+        (λ e g. fault_front n (cond ++ first) otherwise e (fault_front n cond first e (used_fault n v (cond_uses k) e g)))) (λ d hd.
         fails_then Q (w.statement c (opened (w.narrowed c.heads s k (w.shown d))) n x) _
-        (fails_more (FaultIn n yes) Q (w.statement c (opened (w.narrowed c.heads s k (w.shown d))) n x)
+        (fails_more (FaultIn n first) Q (w.statement c (opened (w.narrowed c.heads s k (w.shown d))) n x)
         (statement_fails (opened (w.narrowed c.heads s k (w.shown d))) (branch c v k) n x (branch_shows c s v h k d hd))
-        (λ e g. fault_front n (cond ++ yes) no e (behind_used n v (cond_uses k) yes e g))) (λ a ha.
+        (λ e g. fault_front n (cond ++ first) otherwise e (behind_used n v (cond_uses k) first e g))) (λ a ha.
         fails_last Q (w.part c (opened s) (n + w.locals_of x) z) _
-        (fails_more (FaultIn (n + w.locals_of x) no) Q (w.part c (opened s) (n + w.locals_of x) z) (part_fails (opened s) (inner v) (n + w.locals_of x) z (shows_inner c s v h))
-        (λ e g. fault_back n (n + w.locals_of x) (cond ++ yes) no e (omega (arith, both, none, one)) g))))
+        (fails_more (FaultIn (n + w.locals_of x) otherwise) Q (w.part c (opened s) (n + w.locals_of x) z) (part_fails (opened s) (inner v) (n + w.locals_of x) z (shows_inner c s v h))
+        (λ e g. fault_back n (n + w.locals_of x) (cond ++ first) otherwise e (omega (arith, both, none, one)) g))))
     statement_fails s v n (t.while_so k x) h =
         let test : List Mention = all_used v (expr_uses k) in
         let body : List Mention = statement_names c (inner v) x in

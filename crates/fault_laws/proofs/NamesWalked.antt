@@ -14,8 +14,9 @@ use Rattle.ulam_names.proofs.ClassMeans.{items_mean}
 module _ (known : Known) (e : Names) (m : Member) (x : Names × List Half) (one : w.member known e m ≡ Ok x) where
   pub walked_end : (d : Names) (ms : List Member) (hs : List Half) → w.members known d ms ≡ Ok (e, hs) → w.members known d (ms ++ m ∷ []) ≡ Ok (x.0, hs ++ x.1)
   walked_end d [] hs h =
-      let start : d ≡ e = cc in
-      let none : [] ≡ hs = cc in
+      let same : (d, []) ≡ (e, hs) = cc in
+      let start : d ≡ e = ap (λ (z : Names × List Half). z.0) same in
+      let none : [] ≡ hs = ap (λ (z : Names × List Half). z.1) same in
       let first : w.member known d m ≡ Ok x = ap (λ (z : Names). w.member known z m) start ∙ one in
       rw first (λ i. Ok (x.0, (append-nil x.1 ∙ ap (λ (zs : List Half). zs ++ x.1) none) i))
   walked_end d (u ∷ ms) hs h = go (w.member known d u) refl h (λ a. walked_end a ms)
@@ -24,8 +25,9 @@ module _ (known : Known) (e : Names) (m : Member) (x : Names × List Half) (one 
           ((gs : List Half) → w.members known a.0 ms ≡ Ok (e, gs) → w.members known a.0 (ms ++ m ∷ []) ≡ Ok (x.0, gs ++ x.1)) → w.members known d (u ∷ (ms ++ m ∷ [])) ≡ Ok (x.0, hs ++ x.1)
       last a is (Err f) at h rest = absurd cc
       last a is (Ok z) at h rest =
-          let names : z.0 ≡ e = cc in
-          let list : a.1 ++ z.1 ≡ hs = cc in
+          let same : (z.0, a.1 ++ z.1) ≡ (e, hs) = cc in
+          let names : z.0 ≡ e = ap (λ (y : Names × List Half). y.0) same in
+          let list : a.1 ++ z.1 ≡ hs = ap (λ (y : Names × List Half). y.1) same in
           let more = rest z.1 (at ∙ (λ i. Ok (names i, z.1))) in
           rw (is, more) (λ i. Ok (x.0, (sym (append_assoc a.1 z.1 x.1) ∙ ap (λ (zs : List Half). zs ++ x.1) list) i))
 

@@ -1,3 +1,4 @@
 pub mod NamesBodies
+pub mod NamesExamples
 pub mod NamesFaults
 pub mod NamesText

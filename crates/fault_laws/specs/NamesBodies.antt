@@ -69,7 +69,7 @@ inner s = record { around = s.around ++ s.own; own = [] }
 
 -- the type that a name means, without its width
 abbrev pub type_of_name : Context → Text → Ty
-type_of_name c n = option_map_or (λ (b : Basic). bare b) y.Nothing (basic_named c.typedefs c.classes n)
+type_of_name c n = option_map_or (λ (b : Basic). bare b) (basic_named c.typedefs c.classes n) y.Nothing
 
 -- a local of a type
 abbrev pub local : Context → Text → Text → Local
