@@ -10,6 +10,10 @@ use Rattle.ulam_names.specs.Classes.{Known, Half, HalfClass}
 use Rattle.ulam_names.specs.ClassRelation.{AreMembers, AreItems}
 use Rattle.ulam_names.proofs.ClassMeans.{items_mean}
 
+-- the members that a step found, behind others
+abbrev behind : List Half → Names × List Half → Found (Names × List Half)
+behind front z = Ok (z.0, front ++ z.1)
+
 -- one more member
 module _ (known : Known) (e : Names) (m : Member) (x : Names × List Half) (one : w.member known e m ≡ Ok x) where
   pub walked_end : (d : Names) (ms : List Member) (hs : List Half) → w.members known d ms ≡ Ok (e, hs) → w.members known d (ms ++ m ∷ []) ≡ Ok (x.0, hs ++ x.1)
@@ -21,7 +25,7 @@ module _ (known : Known) (e : Names) (m : Member) (x : Names × List Half) (one 
       rw first (λ i. Ok (x.0, (append-nil x.1 ∙ ap (λ (zs : List Half). zs ++ x.1) none) i))
   walked_end d (u ∷ ms) hs h = go (w.member known d u) refl h (λ a. walked_end a ms)
     where
-      last : (a : Names × List Half) → w.member known d u ≡ Ok a → (y : Found (Names × List Half)) → w.members known a.0 ms ≡ y → (y >>= λ (z : Names × List Half). Ok (z.0, a.1 ++ z.1)) ≡ Ok (e, hs) →
+      last : (a : Names × List Half) → w.member known d u ≡ Ok a → (y : Found (Names × List Half)) → w.members known a.0 ms ≡ y → (y >>= behind a.1) ≡ Ok (e, hs) →
           ((gs : List Half) → w.members known a.0 ms ≡ Ok (e, gs) → w.members known a.0 (ms ++ m ∷ []) ≡ Ok (x.0, gs ++ x.1)) → w.members known d (u ∷ (ms ++ m ∷ [])) ≡ Ok (x.0, hs ++ x.1)
       last a is (Err f) at h rest = absurd cc
       last a is (Ok z) at h rest =
@@ -31,7 +35,7 @@ module _ (known : Known) (e : Names) (m : Member) (x : Names × List Half) (one 
           let more = rest z.1 (at ∙ (λ i. Ok (names i, z.1))) in
           rw (is, more) (λ i. Ok (x.0, (sym (append_assoc a.1 z.1 x.1) ∙ ap (λ (zs : List Half). zs ++ x.1) list) i))
 
-      go : (y : Found (Names × List Half)) → w.member known d u ≡ y → (y >>= λ (a : Names × List Half). w.members known a.0 ms >>= λ (z : Names × List Half). Ok (z.0, a.1 ++ z.1)) ≡ Ok (e, hs) →
+      go : (y : Found (Names × List Half)) → w.member known d u ≡ y → (y >>= λ (a : Names × List Half). w.members known a.0 ms >>= behind a.1) ≡ Ok (e, hs) →
           ((a : Names) (gs : List Half) → w.members known a ms ≡ Ok (e, gs) → w.members known a (ms ++ m ∷ []) ≡ Ok (x.0, gs ++ x.1)) → w.members known d (u ∷ (ms ++ m ∷ [])) ≡ Ok (x.0, hs ++ x.1)
       go (Err f) is h rest = absurd cc
       go (Ok a) is h rest = last a is (w.members known a.0 ms) refl h (rest a.0)
