@@ -1,8 +1,8 @@
 -- What members of a class declare, by the rules and by their text.
-use Rattle.std.proofs.Common.{◌≡◌, ℕ, ◌+◌, ◌≤◌, refl, sym, ap, ◌∙◌, subst, List, [], ◌∷◌, ◌++◌, length, map, Bool, true, false, ◌||◌, cond, arith, append_assoc, append-nil}
-use Rattle.std.specs.Prelude.{Contains, filter, flat_map}
+use Rattle.std.proofs.Common.{◌≡◌, ◌+◌, refl, sym, ap, ◌∙◌, subst, List, [], ◌∷◌, ◌++◌, length, map, Bool, true, false, ◌||◌, cond, arith, append_assoc, append-nil}
+use Rattle.std.specs.Prelude.{Contains, filter}
 use Rattle.std.proofs.lemmas.Bool.{false≢true}
-use Rattle.std.proofs.lemmas.List.{map-append, length-append, length-map}
+use Rattle.std.proofs.lemmas.List.{map-append, length-append}
 use Rattle.list_laws.proofs.Members.{In, in_map, filter_in, map_in, contains_in, in_contains}
 use Rattle.ulam_tree.specs.Raw.{Member, typedef, constant, field, function, Class, Item, ulam, uses, class}
 use Rattle.ulam_heirs.specs.Flat.{member_word, is_function, is_field}

@@ -1,5 +1,5 @@
 -- What holds of an element that has no `behave`.
-use Rattle.std.proofs.Common.{◌≡◌, ⊎_elim, refl, sym, ap, ◌∙◌, subst, List, [], ◌∷◌, ◌++◌, Option, Some, None, Bool, true, false, ◌&&◌, ◌||◌, codes, ℤ, ℕ, cond}
+use Rattle.std.proofs.Common.{◌≡◌, ⊎_elim, refl, sym, ap, ◌∙◌, subst, List, [], ◌∷◌, ◌++◌, Option, Some, None, Bool, true, false, ◌||◌, codes, ℤ, ℕ, cond}
 use Rattle.std.specs.Prelude.{option_map, bytes_eq, find}
 use Rattle.std.specs.Option.{option_or}
 use Rattle.std.specs.List.{list_any}
@@ -14,9 +14,9 @@ use Rattle.ulam_tree.specs.declared.resolved.Ty.TheVariants as y
 use Rattle.ulam_tree.specs.declared.resolved.Named.{Named}
 use Rattle.ulam_tree.specs.Raw.{Word, TypeRef, Width, Member, Body, typedef, constant, field, function, Item, ulam, uses, class, Class}
 use Rattle.ulam_names.specs.Faults.{Fault, no_behave}
-use Rattle.ulam_names.specs.Scopes.{Text, Basic, whole, sized, Names, no_names, names_of, is_among, basic_named, beside, built_in, number_of, number_type}
+use Rattle.ulam_names.specs.Scopes.{Text, Basic, whole, Names, no_names, names_of, is_among, basic_named, beside, built_in, number_of, number_type}
 use Rattle.ulam_names.specs.Classes as w
-use Rattle.ulam_names.specs.Classes.{Known, Half, HalfClass, half_function, is_behave, is_built_in, is_nothing, no_params, values}
+use Rattle.ulam_names.specs.Classes.{Known, Half, HalfClass, is_behave, is_built_in, is_nothing, no_params, values}
 use Rattle.ulam_names.specs.Relation.{IsSized, IsType}
 use Rattle.ulam_names.specs.ClassRelation.{IsMember, AreMembers, AreItems}
 use Rattle.fault_laws.specs.NamesText.{classes_of}

@@ -1,11 +1,10 @@
 -- What holds of a fault of the names of classes, of `use`, and of members.
-use Rattle.std.proofs.Common.{◌≡◌, ◌⊎◌, inl, inr, ◌≤◌, ℕ, refl, sym, ap, ◌∙◌, subst, List, [], ◌∷◌, ◌++◌, length, map, Some, Ok, Bool, true, false, not, ◌||◌, nat_lt, codes, arith, append-nil}
+use Rattle.std.proofs.Common.{◌≡◌, ◌≤◌, ℕ, refl, sym, ap, ◌∙◌, subst, List, [], ◌∷◌, ◌++◌, length, Some, Ok, Bool, true, false, not, ◌||◌, nat_lt, codes, arith, append-nil}
 use Rattle.std.specs.Prelude.{Contains, slice_get, bytes_eq}
-use Rattle.std.proofs.lemmas.Bool.{false≢true}
 use Rattle.std.proofs.lemmas.List.{length-map, map-append}
 use Rattle.list_laws.proofs.Members.{In, in_contains}
 use Rattle.ulam_tree.specs.Found.{Found, ◌>>=◌, must}
-use Rattle.ulam_tree.specs.Raw.{Member, Class, Item, ulam, uses, class, Word}
+use Rattle.ulam_tree.specs.Raw.{Member, Class, Item, ulam, uses, class}
 use Rattle.ulam_names.specs.Faults.{Fault, unknown_name, declared_twice, too_many}
 use Rattle.ulam_names.specs.Scopes.{Text, Names, no_names, names_of, is_among, built_in, most_classes}
 use Rattle.ulam_names.specs.Classes as w
@@ -13,7 +12,7 @@ use Rattle.ulam_names.specs.Classes.{Known, Half}
 use Rattle.ulam_names.specs.ClassRelation.{AreKnown}
 use Rattle.fault_laws.specs.NamesText.{EntryOf, Lacks, MemberOf, classes_of, class_names}
 use Rattle.fault_laws.specs.NamesFaults as f
-use Rattle.fault_laws.specs.NamesFaults.{Meaning, HoldsAt, IsDoubled}
+use Rattle.fault_laws.specs.NamesFaults.{Meaning, HoldsAt}
 use Rattle.fault_laws.proofs.Fails.{Fails, fails_then, fails_last, fails_must, fails_must_then}
 use Rattle.fault_laws.proofs.NamesLists.{among_in, not_among, not_below, not_not, in_middle, one_more, slice_behind, contains_left, contains_right}
 use Rattle.fault_laws.proofs.NamesAdded.{as_known, known_names, classes_append}

@@ -1,31 +1,30 @@
 -- What holds of a fault in the bodies of all classes.
-use Rattle.std.proofs.Common.{◌≡◌, ◌⊎◌, inl, inr, ℕ, suc, zero, ◌+◌, ◌≤◌, refl, sym, ap, ◌∙◌, subst, List, [], ◌∷◌, ◌++◌, length, map, take, Option, Some, None, arith, append_assoc, append-nil}
-use Rattle.std.specs.Prelude.{Contains, option_map, slice_get}
-use Rattle.std.specs.Option.{option_and_then, option_or}
+use Rattle.std.proofs.Common.{◌≡◌, ℕ, suc, ◌+◌, refl, sym, ap, ◌∙◌, subst, List, [], ◌∷◌, ◌++◌, length, map, take, Option, Some, None, arith, append_assoc, append-nil}
+use Rattle.std.specs.Prelude.{option_map, slice_get}
+use Rattle.std.specs.Option.{option_and_then}
 use Rattle.std.proofs.lemmas.List.{length-append}
 use Rattle.std.proofs.lemmas.Option.{slice_get-map}
 use Rattle.sat_math.specs.declared.NumType.{NumType}
 use Rattle.ulam_tree.specs.declared.resolved.Ty.{Ty}
 use Rattle.ulam_tree.specs.declared.resolved.Ty.TheVariants as y
-use Rattle.ulam_tree.specs.declared.resolved.Step.{Step}
 use Rattle.ulam_tree.specs.declared.resolved.Step.TheVariants as s
 use Rattle.ulam_tree.specs.declared.resolved.Named.{Named}
-use Rattle.ulam_tree.specs.Raw.{Word, TypeRef, Param, Body, Member, typedef, constant, field, function, Item, Class}
+use Rattle.ulam_tree.specs.Raw.{Word, TypeRef, Param, Body, Member, typedef, constant, field, function, Item}
 use Rattle.ulam_tree.specs.Resolved as r
 use Rattle.ulam_heirs.specs.Flat.{is_function, is_field}
 use Rattle.ulam_names.specs.Faults.{Fault, unknown_name, bad_width, declared_twice, cyclic_quark, no_behave, bad_constant, too_many}
-use Rattle.ulam_names.specs.Scopes.{Text, Names, no_names, Head, Context, Value, names_of, beside, number_of, numbered, in_class, in_own_class, inside_local}
+use Rattle.ulam_names.specs.Scopes.{Text, Names, no_names, Head, Context, Value, names_of, beside, number_of, numbered, in_class, in_own_class}
 use Rattle.ulam_names.specs.Classes as w
-use Rattle.ulam_names.specs.Classes.{Known, Half, HalfClass, Pending, half_field, half_function, head_of, context_of, scope_of, values}
+use Rattle.ulam_names.specs.Classes.{Known, Half, HalfClass, Pending, half_function, head_of, context_of, scope_of, values}
 use Rattle.ulam_names.specs.Walk.{body, basic_in}
 use Rattle.ulam_names.specs.ClassRelation.{AreKnown, AreParams, IsMember, AreMembers, AreItems}
-use Rattle.fault_laws.specs.NamesText.{EntryOf, Lacks, MemberOf, classes_of, names_by, types_known, constants_known}
+use Rattle.fault_laws.specs.NamesText.{EntryOf, Lacks, MemberOf, names_by, types_known, constants_known}
 use Rattle.fault_laws.specs.NamesBodies.{Use, of_type, of_class, of_path, Local, Mention, used, declared, local, first_sight}
 use Rattle.fault_laws.specs.NamesFaults as f
-use Rattle.fault_laws.specs.NamesFaults.{Meaning, FunctionOf, context_in, names_in, names_of_class, HoldsAt, IsUnknownUse}
+use Rattle.fault_laws.specs.NamesFaults.{Meaning, FunctionOf, context_in, names_in, names_of_class, HoldsAt}
 use Rattle.fault_laws.proofs.Fails.{Fails, fails_then, fails_last, fails_more}
-use Rattle.fault_laws.proofs.NamesLists.{not_among, lacks_both, nothing_beside, one_more, slice_behind}
-use Rattle.fault_laws.proofs.NamesAdded.{Adds, adds, members_end}
+use Rattle.fault_laws.proofs.NamesLists.{not_among, lacks_both, one_more, slice_behind}
+use Rattle.fault_laws.proofs.NamesAdded.{adds, members_end}
 use Rattle.fault_laws.proofs.NamesTypes.{map_none, or_none, no_number, number_at}
 use Rattle.fault_laws.proofs.NamesMembers.{lacks_type, lacks_constant}
 use Rattle.fault_laws.proofs.NamesShown.{AreSame, Shows}

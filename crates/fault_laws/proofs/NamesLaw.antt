@@ -1,5 +1,5 @@
 -- What holds of the first fault of names.
-use Rattle.std.proofs.Common.{◌≡◌, refl, List, [], Some, map, Ok}
+use Rattle.std.proofs.Common.{◌≡◌, refl, List, [], Some, map}
 use Rattle.ulam_tree.specs.Raw.{Item}
 use Rattle.ulam_tree.proofs.Means.{means_at}
 use Rattle.ulam_names.specs.Faults.{Fault}

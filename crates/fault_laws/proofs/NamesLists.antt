@@ -1,11 +1,11 @@
 -- Names in lists, and entries of lists.
-use Rattle.std.proofs.Common.{◌≡◌, ℕ, zero, suc, ◌+◌, ◌<◌, ◌≤◌, ◌⊎◌, inl, inr, ⊎_elim, refl, sym, ap, ◌∙◌, subst, List, [], ◌∷◌, ◌++◌, length, map, reverse, Bool, true, false, not, ◌&&◌, ◌||◌, cond, Option, Some, None, arith, append_assoc, append-nil, nat_lt}
-use Rattle.std.specs.Prelude.{Contains, slice_get, find, option_map, bytes_eq, filter}
+use Rattle.std.proofs.Common.{◌≡◌, ℕ, zero, suc, ◌<◌, ◌≤◌, ◌⊎◌, inl, inr, ⊎_elim, refl, sym, ap, ◌∙◌, subst, List, [], ◌∷◌, ◌++◌, length, reverse, Bool, true, false, not, ◌||◌, cond, Some, None, append_assoc, nat_lt}
+use Rattle.std.specs.Prelude.{Contains, slice_get, find, option_map, bytes_eq}
 use Rattle.std.specs.List.{list_any}
-use Rattle.std.proofs.lemmas.Bool.{false≢true, false_from_ne_true, lt-ltb, ltb-true, cases_lt}
+use Rattle.std.proofs.lemmas.Bool.{false≢true, lt-ltb, cases_lt}
 use Rattle.std.proofs.lemmas.List.{reverse-append}
 use Rattle.std.proofs.lemmas.Slice.Eq.{bytes_eq-Decides}
-use Rattle.list_laws.proofs.Members.{In, in_left, in_right, in_either, in_map, map_in, in_filter, filter_in, contains_in, in_contains, in_any}
+use Rattle.list_laws.proofs.Members.{In, in_left, in_right, in_either, contains_in, in_contains, in_any}
 use Rattle.ulam_names.specs.Scopes.{Text, is_among, names_of, beside}
 use Rattle.fault_laws.specs.NamesText.{EntryOf, Lacks}
 

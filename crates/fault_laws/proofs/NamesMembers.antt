@@ -1,5 +1,5 @@
 -- What holds of a fault of a member of a class.
-use Rattle.std.proofs.Common.{◌≡◌, ◌≢◌, ◌⊎◌, inl, inr, ◌+◌, ◌≤◌, ℕ, refl, sym, ap, ◌∙◌, subst, List, [], ◌∷◌, ◌++◌, length, map, Option, Some, None, Ok, is_some, Bool, true, false, not, ◌&&◌, ◌||◌, cond, ℤ, pos, nat_lt, int_le, arith, append_assoc, append-nil}
+use Rattle.std.proofs.Common.{◌≡◌, ◌≢◌, ◌⊎◌, inl, inr, ◌≤◌, ℕ, refl, sym, ap, ◌∙◌, subst, List, [], ◌∷◌, ◌++◌, length, Option, Some, None, Ok, is_some, Bool, true, false, not, ◌&&◌, ◌||◌, ℤ, pos, nat_lt, int_le, arith}
 use Rattle.std.specs.Prelude.{Contains, option_map, slice_get, filter}
 use Rattle.std.specs.Option.{option_map_or}
 use Rattle.std.proofs.lemmas.Bool.{false≢true}

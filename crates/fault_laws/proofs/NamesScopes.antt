@@ -1,13 +1,8 @@
 -- What holds of a fault in the body of a function.
-use Rattle.std.proofs.Common.{◌≡◌, ◌⊎◌, inl, inr, ℕ, ◌+◌, ◌≤◌, refl, sym, ap, ◌∙◌, subst, List, [], ◌∷◌, ◌++◌, length, map, drop, Option, Some, None, Ok, Bool, true, false, not, if◌then◌else◌, nat_lt, arith, append_assoc, append-nil, ℤ}
-use Rattle.std.specs.Prelude.{Contains, option_map, flat_map}
+use Rattle.std.proofs.Common.{◌≡◌, ℕ, ◌+◌, refl, sym, ap, ◌∙◌, subst, List, [], ◌∷◌, ◌++◌, length, Option, Some, None, Ok, Bool, true, false, if◌then◌else◌, arith, append-nil, ℤ}
 use Rattle.std.specs.Option.{option_map_or}
-use Rattle.std.specs.List.{list_any}
 use Rattle.std.proofs.lemmas.List.{length-append}
 use Rattle.std.proofs.lemmas.Grind.{flat_map-append}
-use Rattle.list_laws.proofs.Members.{In, in_left, in_right, in_map}
-use Rattle.feast_base.specs.declared.place.Place.{Place}
-use Rattle.ulam_tree.specs.Found.{◌>>=◌}
 use Rattle.ulam_tree.proofs.Means.{means_at}
 use Rattle.ulam_tree.specs.declared.resolved.Ty.{Ty}
 use Rattle.ulam_tree.specs.declared.resolved.Ty.TheVariants as y
@@ -15,13 +10,12 @@ use Rattle.ulam_tree.specs.declared.resolved.Named.{Named}
 use Rattle.ulam_tree.specs.Raw as t
 use Rattle.ulam_tree.specs.Raw.{Word, TypeRef, Width}
 use Rattle.ulam_tree.specs.Resolved as r
-use Rattle.ulam_names.specs.Faults.{Fault, unknown_name, bad_width, declared_twice, cyclic_quark, no_behave, bad_constant, too_many}
-use Rattle.ulam_names.specs.Scopes.{Text, Basic, sized, whole, Head, Context, Entry, Scope, Value, beside, in_own_class, inside_local, is_element, is_named, most_locals, next_name, opened, added}
+use Rattle.ulam_names.specs.Scopes.{Text, Basic, sized, whole, Context, Scope, inside_local, is_element, next_name, opened, added}
 use Rattle.ulam_names.specs.Walk as w
 use Rattle.ulam_names.specs.Walk.{basic_in, bare}
 use Rattle.ulam_names.specs.Relation.{IsSized, IsType, IsClass}
 use Rattle.ulam_names.proofs.BodyMeans.{type_means, class_means}
-use Rattle.fault_laws.specs.NamesBodies.{Use, of_type, of_path, Local, Sight, in_sight, inner, local, type_of_name, shown_by, branch, behind, behind_part, Mention, used, declared, all_used, statement_names, part_names, body_names, local_word, locals_in, expr_uses, args_uses, maybe_uses, left_uses, cond_uses}
+use Rattle.fault_laws.specs.NamesBodies.{Use, of_path, Local, Sight, in_sight, inner, local, type_of_name, shown_by, branch, behind, behind_part, Mention, declared, all_used, statement_names, part_names, body_names, local_word, locals_in, expr_uses, args_uses, maybe_uses, left_uses, cond_uses}
 use Rattle.fault_laws.proofs.Fails.{ok_then}
 use Rattle.fault_laws.proofs.NamesShown.{AreSame, SameInside, Shows, IsSame, same_both, shows_all, shows_added}
 

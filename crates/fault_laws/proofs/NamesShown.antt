@@ -1,6 +1,6 @@
 -- What is in sight, by the walk's entries and by the text.
-use Rattle.std.proofs.Common.{◌≡◌, ◌⊎◌, inl, inr, ⊎_elim, ℕ, refl, sym, ap, ◌∙◌, subst, List, [], ◌∷◌, ◌++◌, length, map, reverse, drop, Option, Some, None, is_some, Bool, true, false, not, ◌&&◌, cond, if◌then◌else◌, append_assoc, append-nil, zero, suc}
-use Rattle.std.specs.Prelude.{Contains, find, option_map, bytes_eq, filter, slice_get}
+use Rattle.std.proofs.Common.{◌≡◌, inl, inr, ⊎_elim, ℕ, refl, sym, ap, ◌∙◌, subst, List, [], ◌∷◌, ◌++◌, length, map, reverse, drop, Option, Some, None, is_some, Bool, true, false, not, ◌&&◌, cond, append_assoc, append-nil}
+use Rattle.std.specs.Prelude.{Contains, find, option_map, bytes_eq, filter}
 use Rattle.std.specs.List.{list_any}
 use Rattle.std.specs.Option.{option_and_then, option_map_or, option_or}
 use Rattle.std.proofs.lemmas.Bool.{false≢true}

@@ -1,5 +1,5 @@
 -- What holds of a fault of a statement, with the names of its text.
-use Rattle.std.proofs.Common.{◌≡◌, inl, inr, Bool, ℕ, ◌+◌, ◌≤◌, refl, sym, ap, ◌∙◌, subst, List, [], ◌∷◌, ◌++◌, length, map, drop, Option, Some, None, not, nat_lt, arith, append_assoc}
+use Rattle.std.proofs.Common.{◌≡◌, inl, inr, Bool, ℕ, ◌+◌, ◌≤◌, refl, sym, ap, ◌∙◌, subst, List, [], ◌∷◌, ◌++◌, map, drop, Option, None, not, nat_lt, arith, append_assoc}
 use Rattle.std.specs.Prelude.{Contains, option_map}
 use Rattle.std.specs.List.{list_any}
 use Rattle.list_laws.proofs.Members.{In, in_map, in_left, in_right}
@@ -8,7 +8,7 @@ use Rattle.ulam_tree.specs.declared.op.PairOp.{PairOp}
 use Rattle.ulam_tree.specs.Raw as t
 use Rattle.ulam_tree.specs.Raw.{Word}
 use Rattle.ulam_names.specs.Faults.{Fault, unknown_name, bad_width, declared_twice, cyclic_quark, no_behave, bad_constant, too_many}
-use Rattle.ulam_names.specs.Scopes.{Text, Context, Entry, Scope, Value, beside, in_own_class, is_named, most_locals, opened}
+use Rattle.ulam_names.specs.Scopes.{Text, Context, Scope, Value, beside, in_own_class, is_named, most_locals, opened}
 use Rattle.ulam_names.specs.Walk as w
 use Rattle.ulam_names.specs.Walk.{basic_in}
 use Rattle.fault_laws.specs.NamesText.{EntryOf, Lacks}

@@ -1,5 +1,5 @@
 -- Types by their names and widths.
-use Rattle.std.proofs.Common.{◌≡◌, ◌⊎◌, ◌+◌, ◌≤◌, inl, inr, ⊎_elim, zero, suc, refl, sym, ap, ◌∙◌, subst, List, [], ◌∷◌, ◌++◌, length, get_or, Option, Some, None, Bool, true, false, not, ◌||◌, cond, ℤ, ℕ, nat_lt, arith}
+use Rattle.std.proofs.Common.{◌≡◌, ◌⊎◌, ◌+◌, ◌≤◌, inl, inr, ⊎_elim, suc, refl, sym, ap, ◌∙◌, subst, List, [], ◌∷◌, ◌++◌, length, Option, Some, None, Bool, true, false, not, ◌||◌, cond, ℤ, ℕ, nat_lt, arith}
 use Rattle.std.specs.Prelude.{Contains, option_map, slice_get, bytes_eq, find}
 use Rattle.std.specs.List.{list_any, list_all, position_or_len}
 use Rattle.std.specs.Option.{option_or}
@@ -9,8 +9,6 @@ use Rattle.list_laws.proofs.Slots.{get_inside}
 use Rattle.list_laws.proofs.Members.{In}
 use Rattle.list_laws.proofs.Tests.{both}
 use Rattle.std.proofs.lemmas.Bool.{false≢true}
-use Rattle.feast_base.specs.declared.place.Place.{Place}
-use Rattle.sat_math.specs.declared.Kind.{Kind}
 use Rattle.sat_math.specs.declared.NumType.{NumType}
 use Rattle.ulam_tree.specs.declared.resolved.Ty.{Ty}
 use Rattle.ulam_tree.specs.declared.resolved.Ty.TheVariants as y
@@ -24,7 +22,7 @@ use Rattle.ulam_names.specs.Relation.{IsWidth, IsSized, IsType}
 use Rattle.ulam_tree.proofs.Means.{means_at}
 use Rattle.fault_laws.specs.NamesText.{Lacks}
 use Rattle.fault_laws.specs.NamesFaults.{IsUnknownType, no_type, no_constant, hidden_constant, HasWrongWidth, takes_none, out_of_range}
-use Rattle.fault_laws.proofs.Fails.{Fails, fails_then, fails_last, fails_must_then, fails_found_then, fails_found, fails_more}
+use Rattle.fault_laws.proofs.Fails.{Fails, fails_then, fails_last, fails_must_then, fails_found_then, fails_found}
 use Rattle.fault_laws.proofs.NamesLists.{not_among, lacks_both, nothing_beside, not_below, same_text, found_in}
 
 -- what holds of a fault of a type

@@ -1,5 +1,5 @@
 -- What holds of a fault of a name that is used in a body.
-use Rattle.std.proofs.Common.{◌≡◌, ◌⊎◌, inl, inr, refl, sym, ap, ◌∙◌, subst, List, [], ◌∷◌, ◌++◌, Option, Some, None, is_some, Bool, true, false, if◌then◌else◌, ℤ}
+use Rattle.std.proofs.Common.{◌≡◌, ◌⊎◌, inl, inr, refl, sym, ap, ◌∙◌, List, [], ◌∷◌, ◌++◌, Option, Some, None, is_some, Bool, true, false, if◌then◌else◌, ℤ}
 use Rattle.std.specs.Prelude.{Contains, option_map}
 use Rattle.std.specs.Option.{option_and_then}
 use Rattle.list_laws.proofs.Members.{In, in_left, in_right}
@@ -7,18 +7,17 @@ use Rattle.feast_base.specs.declared.place.Place.{Place}
 use Rattle.ulam_tree.specs.declared.resolved.Ty.{Ty}
 use Rattle.ulam_tree.specs.declared.resolved.Ty.TheVariants as y
 use Rattle.ulam_tree.specs.declared.resolved.Step.{Step}
-use Rattle.ulam_tree.specs.declared.resolved.Step.TheVariants as s
 use Rattle.ulam_tree.specs.Raw as t
 use Rattle.ulam_tree.specs.Raw.{Word, TypeRef, Width, wide, wide_as}
 use Rattle.ulam_names.specs.Faults.{Fault, unknown_name, bad_width, declared_twice, cyclic_quark, no_behave, bad_constant, too_many}
-use Rattle.ulam_names.specs.Scopes.{Text, Basic, Head, Context, Entry, Value, beside, slot_named, first_name, next_name, in_own_class}
+use Rattle.ulam_names.specs.Scopes.{Text, Head, Context, Entry, Value, beside, slot_named, first_name, next_name, in_own_class}
 use Rattle.ulam_names.specs.Walk as w
 use Rattle.ulam_names.specs.Walk.{basic_in, constant_in}
 use Rattle.ulam_names.specs.Relation.{IsWidth}
 use Rattle.fault_laws.specs.NamesText.{EntryOf, Lacks}
-use Rattle.fault_laws.specs.NamesBodies.{Use, of_type, of_class, of_path, Local, local_names, expr_uses, args_uses, maybe_uses, left_uses, cond_uses, start_type, type_after, leads_to}
+use Rattle.fault_laws.specs.NamesBodies.{Use, of_type, of_class, of_path, Local, local_names, expr_uses, args_uses, maybe_uses, left_uses, cond_uses, type_after}
 use Rattle.fault_laws.specs.NamesFaults.{IsUnknownPath, no_name, no_start, no_part, HasWrongWidth, takes_none, out_of_range}
-use Rattle.fault_laws.proofs.Fails.{Fails, fails_then, fails_last, fails_found, fails_found_then, fails_more}
+use Rattle.fault_laws.proofs.Fails.{Fails, fails_then, fails_last, fails_found_then, fails_more}
 use Rattle.fault_laws.proofs.NamesTypes.{TypeFault, type_fails}
 use Rattle.fault_laws.proofs.NamesShown.{AreSame, SameInside, no_local, some_local, start_none, start_some}
 

@@ -1,7 +1,7 @@
 -- What members mean that are walked over without a fault.
-use Rattle.std.proofs.Common.{◌≡◌, refl, sym, ap, ◌∙◌, subst, List, [], ◌∷◌, ◌++◌, Ok, Err, Bool, false, append_assoc, append-nil}
+use Rattle.std.proofs.Common.{◌≡◌, refl, sym, ap, ◌∙◌, subst, List, [], ◌∷◌, ◌++◌, Ok, Err, false, append_assoc, append-nil}
 use Rattle.ulam_tree.specs.Found.{◌>>=◌}
-use Rattle.ulam_tree.specs.Raw.{Member, Item, class, Word, Class}
+use Rattle.ulam_tree.specs.Raw.{Member, class, Word}
 use Rattle.ulam_tree.proofs.Means.{means_at}
 use Rattle.ulam_names.specs.Faults.{Found}
 use Rattle.ulam_names.specs.Scopes.{Names, no_names}

@@ -1,5 +1,5 @@
 -- The names in the body of a function, in the order of the text, each with what is in sight there.
-use Rattle.std.specs.Prelude.{ℕ, ◌≡◌, List, [], ◌∷◌, ◌++◌, map, flat_map, filter, find, reverse, Option, Some, None, option_map, Bool, true, false, not, if◌then◌else◌}
+use Rattle.std.specs.Prelude.{List, [], ◌∷◌, ◌++◌, map, flat_map, filter, find, reverse, Option, Some, None, option_map, Bool, true, false, not, if◌then◌else◌}
 use Rattle.std.specs.Option.{option_and_then, option_map_or, option_or}
 use Rattle.std.specs.Str.{bytes_eq}
 use Rattle.feast_base.specs.declared.place.Place.{Place}

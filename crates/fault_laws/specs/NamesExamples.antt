@@ -1,8 +1,8 @@
 -- For each fault of names, items that have it first.
-use Rattle.std.specs.Prelude.{ℕ, ◌≡◌, List, [], ◌∷◌, ◌++◌, Option, Some, None, Bool, true, false, codes, map}
+use Rattle.std.specs.Prelude.{ℕ, ◌≡◌, List, [], ◌∷◌, ◌++◌, Some, None, Bool, true, false, codes, map}
 use Rattle.std.specs.List.{range_with_len}
 use Rattle.feast_base.specs.declared.place.Place.{Place}
-use Rattle.ulam_tree.specs.Raw.{Word, TypeRef, Width, wide, Const, const_number, Body, no_more, then_so, does, no_args, Member, constant, field, function, Item, class}
+use Rattle.ulam_tree.specs.Raw.{Word, TypeRef, wide, const_number, Body, no_more, then_so, does, no_args, Member, constant, field, function, Item, class}
 use Rattle.ulam_names.specs.Faults as fault
 use Rattle.ulam_names.specs.Classes.{first_fault}
 

@@ -1,5 +1,5 @@
 -- What holds at the place of a fault of names, for each code in the words of its rule.
-use Rattle.std.specs.Prelude.{ℕ, ◌≡◌, ◌≢◌, ◌≤◌, ◌⊎◌, List, [], ◌∷◌, ◌++◌, map, length, filter, slice_get, Option, Some, None, is_some, Bool, true, false, ◌&&◌, IsTrue, Contains, codes, ℤ, pos, int_le}
+use Rattle.std.specs.Prelude.{ℕ, ◌≡◌, ◌≢◌, ◌≤◌, ◌⊎◌, List, [], ◌∷◌, ◌++◌, map, length, filter, slice_get, Option, Some, None, is_some, Bool, false, ◌&&◌, IsTrue, Contains, codes, ℤ, pos, int_le}
 use Rattle.feast_base.specs.declared.place.Place.{Place}
 use Rattle.feast_base.specs.Places.{no_place}
 use Rattle.sat_math.specs.declared.NumType.{NumType}
@@ -7,15 +7,15 @@ use Rattle.sat_math.specs.declared.Kind.{Kind}
 use Rattle.ulam_tree.specs.declared.resolved.Ty.{Ty}
 use Rattle.ulam_tree.specs.declared.resolved.Ty.TheVariants as y
 use Rattle.ulam_tree.specs.declared.resolved.Named.{Named}
-use Rattle.ulam_tree.specs.Raw.{Word, TypeRef, Width, wide_as, Path, Param, Body, Const, Member, typedef, constant, field, function, Class, Item, uses}
+use Rattle.ulam_tree.specs.Raw.{Word, TypeRef, Width, wide_as, Path, Param, Body, Const, Member, constant, field, function, Class, Item, uses}
 use Rattle.ulam_heirs.specs.Flat.{member_word, member_type, is_function, is_field}
 use Rattle.ulam_names.specs.Faults as fault
 use Rattle.ulam_names.specs.Scopes.{Text, Basic, sized, whole, Names, no_names, Context, names_of, built_in, allows, as_number, is_truth, in_range, next_name}
 use Rattle.ulam_names.specs.Classes.{Known, Half, HalfClass, head_of, basics, values}
 use Rattle.ulam_names.specs.Relation.{IsWidth}
 use Rattle.ulam_names.specs.ClassRelation.{AreKnown, AreMembers, AreItems, IsMemberType, IsValue}
-use Rattle.fault_laws.specs.NamesText.{EntryOf, Lacks, MemberOf, classes_of, class_names, member_names, param_names, is_typedef, is_constant, is_small, names_by, params_in, types_in, constant_in, types_known, constants_known}
-use Rattle.fault_laws.specs.NamesBodies.{Use, of_type, of_class, of_path, Local, Mention, used, declared, in_sight, local_names, body_names, locals_in, first_sight, leads_to}
+use Rattle.fault_laws.specs.NamesText.{EntryOf, Lacks, MemberOf, classes_of, class_names, member_names, param_names, is_typedef, is_small, names_by, params_in, types_in, constant_in, types_known, constants_known}
+use Rattle.fault_laws.specs.NamesBodies.{Use, of_type, of_class, of_path, Local, Mention, used, declared, local_names, body_names, locals_in, first_sight, leads_to}
 
 -- what members of a class mean that no rule refuses
 pub record Meaning (items : List Item) (before : List Member) : Type 0 where
