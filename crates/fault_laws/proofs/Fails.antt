@@ -41,3 +41,8 @@ fails_more P Q (Err e) h k = k e h
 pub fails_at : {F A : Type 0} (Q : F → Type 0) (x : Found F A) (e : F) → Fails Q x → fault_of x ≡ Some e → Q e
 fails_at Q (Ok a) e h is = absurd cc
 fails_at Q (Err f) e h is = let same : f ≡ e = cc in rw same at h
+
+-- what a step found, where both steps found something
+pub ok_then : {F A B : Type 0} (x : Found F A) (f : A → Found F B) (b : B) → (x >>= f) ≡ Ok b → (a : A) × (x ≡ Ok a) × (f a ≡ Ok b)
+ok_then (Ok a) f b h = (a, refl, h)
+ok_then (Err e) f b h = absurd cc

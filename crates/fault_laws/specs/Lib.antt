@@ -1,4 +1,5 @@
 pub mod NamesBodies
+pub mod NamesExamples
 pub mod NamesFaults
 pub mod NamesText
 pub mod Bases

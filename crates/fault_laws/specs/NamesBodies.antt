@@ -1,5 +1,5 @@
 -- The names in the body of a function, in the order of the text, each with what is in sight there.
-use Rattle.std.specs.Prelude.{ℕ, ◌≡◌, List, [], ◌∷◌, ◌++◌, map, flat_map, filter, find, reverse, Option, Some, None, option_map, Bool, true, false, not, if◌then◌else◌}
+use Rattle.std.specs.Prelude.{List, [], ◌∷◌, ◌++◌, map, flat_map, filter, find, reverse, Option, Some, None, option_map, Bool, true, false, not, if◌then◌else◌}
 use Rattle.std.specs.Option.{option_and_then, option_map_or, option_or}
 use Rattle.std.specs.Str.{bytes_eq}
 use Rattle.feast_base.specs.declared.place.Place.{Place}
@@ -69,7 +69,7 @@ inner s = record { around = s.around ++ s.own; own = [] }
 
 -- the type that a name means, without its width
 abbrev pub type_of_name : Context → Text → Ty
-type_of_name c n = option_map_or (λ (b : Basic). bare b) y.Nothing (basic_named c.typedefs c.classes n)
+type_of_name c n = option_map_or (λ (b : Basic). bare b) (basic_named c.typedefs c.classes n) y.Nothing
 
 -- a local of a type
 abbrev pub local : Context → Text → Text → Local
@@ -83,23 +83,10 @@ shown_by c (test e) = []
 abbrev pub branch : Context → Sight → Cond → Sight
 branch c s k = record { around = (s.around ++ s.own) ++ shown_by c k; own = [] }
 
--- what a statement declares in its scope
-abbrev pub declared_by : Context → Statement → List Local
-declared_by c (declares ty w e) = local c w.name ty.word.name ∷ []
-declared_by c (block b) = []
-declared_by c empty = []
-declared_by c (if_so k x z) = []
-declared_by c (while_so k x) = []
-declared_by c (for_all f k g x) = []
-declared_by c (returns p e) = []
-declared_by c (breaks p) = []
-declared_by c (continues p) = []
-declared_by c (assigns l op e) = []
-declared_by c (counts l up) = []
-declared_by c (does p xs) = []
-
+-- behind a statement of the scope
 abbrev pub behind : Context → Sight → Statement → Sight
-behind c s x = record { around = s.around; own = s.own ++ declared_by c x }
+behind c s (declares ty w e) = record { around = s.around; own = s.own ++ local c w.name ty.word.name ∷ [] }
+behind c s _ = s
 
 abbrev pub behind_part : Context → Sight → Part → Sight
 behind_part c s no_part = s

@@ -1,5 +1,5 @@
 -- What holds at the place of a fault of names, for each code in the words of its rule.
-use Rattle.std.specs.Prelude.{ℕ, ◌≡◌, ◌≢◌, ◌≤◌, ◌⊎◌, List, [], ◌∷◌, ◌++◌, map, length, filter, slice_get, Option, Some, None, is_some, Bool, true, false, ◌&&◌, IsTrue, Contains, codes, ℤ, pos, int_le}
+use Rattle.std.specs.Prelude.{ℕ, ◌≡◌, ◌≢◌, ◌≤◌, ◌⊎◌, List, [], ◌∷◌, ◌++◌, map, length, filter, slice_get, Option, Some, None, is_some, Bool, false, ◌&&◌, IsTrue, Contains, codes, ℤ, pos, int_le}
 use Rattle.feast_base.specs.declared.place.Place.{Place}
 use Rattle.feast_base.specs.Places.{no_place}
 use Rattle.sat_math.specs.declared.NumType.{NumType}
@@ -7,15 +7,15 @@ use Rattle.sat_math.specs.declared.Kind.{Kind}
 use Rattle.ulam_tree.specs.declared.resolved.Ty.{Ty}
 use Rattle.ulam_tree.specs.declared.resolved.Ty.TheVariants as y
 use Rattle.ulam_tree.specs.declared.resolved.Named.{Named}
-use Rattle.ulam_tree.specs.Raw.{Word, TypeRef, Width, wide_as, Path, Param, Body, Const, Member, typedef, constant, field, function, Class, Item, uses}
+use Rattle.ulam_tree.specs.Raw.{Word, TypeRef, Width, wide_as, Path, Param, Body, Const, Member, constant, field, function, Class, Item, uses}
 use Rattle.ulam_heirs.specs.Flat.{member_word, member_type, is_function, is_field}
 use Rattle.ulam_names.specs.Faults as fault
 use Rattle.ulam_names.specs.Scopes.{Text, Basic, sized, whole, Names, no_names, Context, names_of, built_in, allows, as_number, is_truth, in_range, next_name}
 use Rattle.ulam_names.specs.Classes.{Known, Half, HalfClass, head_of, basics, values}
 use Rattle.ulam_names.specs.Relation.{IsWidth}
 use Rattle.ulam_names.specs.ClassRelation.{AreKnown, AreMembers, AreItems, IsMemberType, IsValue}
-use Rattle.fault_laws.specs.NamesText.{EntryOf, Lacks, MemberOf, classes_of, class_names, member_names, param_names, is_typedef, is_constant, is_small, names_by, params_in, types_in, constant_in, types_known, constants_known}
-use Rattle.fault_laws.specs.NamesBodies.{Use, of_type, of_class, of_path, Local, Mention, used, declared, in_sight, local_names, body_names, locals_in, first_sight, leads_to}
+use Rattle.fault_laws.specs.NamesText.{EntryOf, Lacks, MemberOf, classes_of, class_names, member_names, param_names, is_typedef, is_small, names_by, params_in, types_in, constant_in, types_known, constants_known}
+use Rattle.fault_laws.specs.NamesBodies.{Use, of_type, of_class, of_path, Local, Mention, used, declared, local_names, body_names, locals_in, first_sight, leads_to}
 
 -- what members of a class mean that no rule refuses
 pub record Meaning (items : List Item) (before : List Member) : Type 0 where
@@ -99,7 +99,7 @@ pub data IsUnknown (items : List Item) (p : Place) : Type 0 where
 
 -- 32: a quark contains itself
 
--- class a has a data member of class b
+-- class a has a data member whose type is the quark b
 pub record HasPart (items : List Item) (a b : ℕ) : Type 0 where
   pub m : MemberOf items
   pub of : TypeRef
@@ -109,6 +109,7 @@ pub record HasPart (items : List Item) (a b : ℕ) : Type 0 where
   pub of_a : m.number ≡ a
   pub is : m.at.here ≡ field of word length
   pub of_b : slice_get (classes_of items) b ≡ Some part
+  pub quark : IsTrue part.quark
   pub same : of.word.name ≡ part.word.name
   pub no_typedef : Lacks (names_by is_typedef m.at.before) of.word.name
 
@@ -177,12 +178,12 @@ abbrev pub HasWidthOut : {items : List Item} {before : List Member} → Meaning 
 HasWidthOut m x = HasWrongWidth (basics m.known m.names) (values m.names) x
 
 -- A type that no data member has: an atom's, none, that of the empty atom, an element; or for an array one that is no number type.
-pub data IsNoDataType (known : Known) (array : Bool) (ty : Ty) : Type 0 where
-  atom : ty ≡ y.Atom → IsNoDataType known array ty
-  nothing : ty ≡ y.Nothing → IsNoDataType known array ty
-  empty : ty ≡ y.Empty → IsNoDataType known array ty
-  element : (k : ℕ) (n : Text) → ty ≡ y.Class k → slice_get known k ≡ Some (n, false) → IsNoDataType known array ty
-  of_array : IsTrue array → as_number ty ≡ None → IsNoDataType known array ty
+pub data IsNoDataType (items : List Item) (array : Bool) (ty : Ty) : Type 0 where
+  atom : ty ≡ y.Atom → IsNoDataType items array ty
+  nothing : ty ≡ y.Nothing → IsNoDataType items array ty
+  empty : ty ≡ y.Empty → IsNoDataType items array ty
+  element : (k : ℕ) (c : Class) → ty ≡ y.Class k → slice_get (classes_of items) k ≡ Some c → c.quark ≡ false → IsNoDataType items array ty
+  of_array : IsTrue array → as_number ty ≡ None → IsNoDataType items array ty
 
 pub data IsBadWidth (items : List Item) (p : Place) : Type 0 where
   width : (m : MemberOf items) (x : TypeRef) (means : Meaning items m.at.before) → Contains (types_in m.at.here) x → x.word.place ≡ p → HasWidthOut means x → IsBadWidth items p
@@ -192,7 +193,7 @@ pub data IsBadWidth (items : List Item) (p : Place) : Type 0 where
   no_number : (m : MemberOf items) (means : Meaning items m.at.before) (n : Named) → IsTrue (is_small m.at.here) → (member_type m.at.here).word.place ≡ p →
       IsMemberType means.known means.names (member_type m.at.here) n → as_number n.ty ≡ None → IsBadWidth items p
   no_data : (m : MemberOf items) (means : Meaning items m.at.before) (of : TypeRef) (w : Word) (len : Option Width) (n : Named) → m.at.here ≡ field of w len → of.word.place ≡ p →
-      IsMemberType means.known means.names of n → IsNoDataType means.known (is_some len) n.ty → IsBadWidth items p
+      IsMemberType means.known means.names of n → IsNoDataType items (is_some len) n.ty → IsBadWidth items p
   length_out : (m : MemberOf items) (means : Meaning items m.at.before) (of : TypeRef) (w : Word) (d : Width) (v : ℤ) → m.at.here ≡ field of w (Some d) → w.place ≡ p →
       IsWidth (values means.names) d v → (int_le (pos 1) v && int_le v (pos 71)) ≡ false → IsBadWidth items p
 

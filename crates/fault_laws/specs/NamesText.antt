@@ -1,5 +1,5 @@
 -- What files declare, by their text alone, and in the order of the text.
-use Rattle.std.specs.Prelude.{ℕ, ◌≡◌, List, [], ◌∷◌, ◌++◌, map, flat_map, filter, slice_get, Option, Some, None, Bool, true, false, ◌||◌, Contains}
+use Rattle.std.specs.Prelude.{ℕ, ◌≡◌, List, [], ◌∷◌, ◌++◌, map, filter, slice_get, Option, Some, None, Bool, true, false, ◌||◌, Contains}
 use Rattle.ulam_tree.specs.Raw.{Word, TypeRef, Width, wide, wide_as, Param, Const, const_number, const_truth, const_named, Member, typedef, constant, field, function, Class, Item, ulam, uses, class}
 use Rattle.ulam_heirs.specs.Flat.{member_word, member_type}
 use Rattle.ulam_names.specs.Scopes.{Text, names_of, built_in}
