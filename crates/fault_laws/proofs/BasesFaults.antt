@@ -9,6 +9,7 @@ use Rattle.std.proofs.lemmas.List.Elements.{Contains-append_right}
 use Rattle.std.proofs.lemmas.List.Concat.{flat_map-append}
 use Rattle.std.proofs.lemmas.List.Sorted.{Contains-permutation, IsPermutation-reverse}
 use Rattle.std.proofs.lemmas.Slice.Eq.{bytes_eq-Decides}
+use Rattle.list_laws.proofs.Tests.{together}
 use Rattle.feast_base.specs.declared.place.Place.{Place}
 use Rattle.ulam_tree.specs.Raw.{Word, Width, wide, wide_as, TypeRef, Param, Member, typedef, constant, field, function}
 use Rattle.ulam_tree.specs.Ways.{leads}
@@ -112,17 +113,14 @@ sizes_alike None (Some b) h = absurd h
 sizes_alike (Some a) None h = absurd h
 sizes_alike (Some a) (Some b) h = widths_alike a b h
 
-both : (a b : Bool) → a ≡ true → b ≡ true → (a && b) ≡ true
-both a b e f = ap (λ x. x && b) e ∙ f
-
 types_alike : (a b : TypeRef) → SameType a b → same_type a b ≡ true
-types_alike a b h = both _ _ ((bytes_eq-Decides a.word.name b.word.name).1 h.0) (sizes_alike a.width b.width h.1)
+types_alike a b h = together (bytes_eq a.word.name b.word.name) (same_size a.width b.width) ((bytes_eq-Decides a.word.name b.word.name).1 h.0) (sizes_alike a.width b.width h.1)
 
 params_alike : (ps qs : List Param) → SameParams ps qs → same_params ps qs ≡ true
 params_alike [] [] h = refl
 params_alike [] (q ∷ qs) h = absurd h
 params_alike (p ∷ ps) [] h = absurd h
-params_alike (p ∷ ps) (q ∷ qs) h = both _ _ (types_alike p.of q.of h.0) (params_alike ps qs h.1)
+params_alike (p ∷ ps) (q ∷ qs) h = together (same_type p.of q.of) (same_params ps qs) (types_alike p.of q.of h.0) (params_alike ps qs h.1)
 
 not_both : (a b : Bool) → not (a && b) ≡ true → a ≡ true → b ≡ true → ⊥
 not_both true true e f g = false≢true e

@@ -59,9 +59,6 @@ typed_for g ty e a h = record { expr = a; kind = taken ty; takes = taken_from ty
 
 -- Statements that stop
 
-either_way : (a b : Bool) → a ≡ false → b ≡ false → (a || b) ≡ false
-either_way a b e f = ap (λ x. x || b) e ∙ f
-
 stops_all : (x : r.Statement) (b : r.Body) → IsIn x b → completes x ≡ false → all_complete b ≡ false
 stops_all x r.no_more i e = absurd i
 stops_all x (r.then_so y b) (inl same) e = ap (λ z. completes z && all_complete b) same ∙ ap (λ c. c && all_complete b) e
@@ -76,7 +73,7 @@ stops_is _ (returning p e) = refl
 stops_is _ (breaking p) = refl
 stops_is _ (continuing p) = refl
 stops_is _ (inside b x i s) = stops_all x b i (stops_is x s)
-stops_is _ (in_both c x y s t) = either_way (completes x) (completes y) (stops_is x s) (stops_is y t)
+stops_is _ (in_both c x y s t) = ap (λ b. b || completes y) (stops_is x s) ∙ stops_is y t
 
 -- none of the statements of a body whose end is reached
 pub none_stops : (b : r.Body) → all_complete b ≡ true → (x : r.Statement) → IsIn x b → Stops x → ⊥

@@ -7,10 +7,10 @@ use Rattle.ulam_heirs.specs.Lines.{Heir}
 use Rattle.ulam_heirs.specs.Faults.{first_fault}
 
 -- a place in the one line of a file
-abbrev pub at : ℕ → Place
+abbrev pub at : (column : ℕ) → Place
 at column = record { file = 0; line = 1; column = column }
 
-abbrev pub word : List ℕ → ℕ → Word
+abbrev pub word : (name : List ℕ) (column : ℕ) → Word
 word name column = record { name = name; place = at column }
 
 -- a function `f` without parameters, whose type stands at a column
