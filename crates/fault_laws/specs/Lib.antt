@@ -1,0 +1,10 @@
+pub mod NamesBodies
+pub mod NamesExamples
+pub mod NamesFaults
+pub mod NamesText
+pub mod Bases
+pub mod BasesExample
+pub mod Types
+pub mod TypesExample
+pub mod TypesParts
+pub mod TypesRows
