@@ -30,14 +30,14 @@ adds_none d = record {
   small = omega arith;
 }
 
-names_end : {A : Type 0} (ps : List (Text × A)) (p : Text × A) → names_of (ps ++ p ∷ []) ≡ names_of ps ++ p.0 ∷ []
-names_end {A = A} ps p = map-append (λ (q : Text × A). q.0) ps (p ∷ [])
+names_both : {A : Type 0} (ps qs : List (Text × A)) → names_of (ps ++ qs) ≡ names_of ps ++ names_of qs
+names_both {A = A} ps qs = map-append (λ (q : Text × A). q.0) ps qs
 
 adds_one : (known : Known) (d : Names) (m : Member) (x : Names × List Half) → IsMember known d m x → Adds d (m ∷ []) x.0
 adds_one known d (typedef ty w) x h =
     let long = length-append d.typedefs ((w.name, h.1) ∷ []) in
     subst (λ (z : Names × List Half). Adds d (typedef ty w ∷ []) z.0) (sym h.6) (record {
-      typedefs = names_end d.typedefs (w.name, h.1);
+      typedefs = names_both d.typedefs ((w.name, h.1) ∷ []);
       constants = sym (append-nil _);
       fields = sym (append-nil _);
       functions = sym (append-nil _);
@@ -48,7 +48,7 @@ adds_one known d (constant ty w k) x h =
     let long = length-append d.constants ((w.name, value) ∷ []) in
     subst (λ (z : Names × List Half). Adds d (constant ty w k ∷ []) z.0) (sym h.8) (record {
       typedefs = sym (append-nil _);
-      constants = names_end d.constants (w.name, value);
+      constants = names_both d.constants ((w.name, value) ∷ []);
       fields = sym (append-nil _);
       functions = sym (append-nil _);
       small = omega (arith, long);
@@ -57,7 +57,7 @@ adds_one known d (field ty w len) x h =
     subst (λ (z : Names × List Half). Adds d (field ty w len ∷ []) z.0) (sym h.6) (record {
       typedefs = sym (append-nil _);
       constants = sym (append-nil _);
-      fields = names_end d.fields (w.name, h.0.ty);
+      fields = names_both d.fields ((w.name, h.0.ty) ∷ []);
       functions = sym (append-nil _);
       small = omega arith;
     })

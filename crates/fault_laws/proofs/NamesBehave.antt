@@ -4,7 +4,7 @@ use Rattle.std.specs.Prelude.{option_map, bytes_eq, find}
 use Rattle.std.specs.Option.{option_or}
 use Rattle.std.specs.List.{list_any}
 use Rattle.std.proofs.Math.Bool.{or-true}
-use Rattle.std.proofs.lemmas.Bool.{false≢true}
+use Rattle.std.proofs.lemmas.Bool.{false≢true, or_parts}
 use Rattle.std.proofs.lemmas.List.{map-append}
 use Rattle.std.proofs.lemmas.List.Folds.{list_any-append}
 use Rattle.list_laws.proofs.Members.{In, contains_in, in_contains}
@@ -100,17 +100,13 @@ module _ (of : TypeRef) (v : Word) (body : Body) (named : v.name ≡ codes "beha
       (λ (same : function of v [] body ≡ m). rw (one_behaves known d h.0 clean (subst (λ (z : Member). IsMember known d z h.0) (sym same) h.2)) refl)
       (λ j. rw (rest j) (or-true (list_any is_behave h.0.1))) i)
 
-neither : (a b : Bool) → (a || b) ≡ false → (a ≡ false) × (b ≡ false)
-neither true b e = absurd (false≢true (sym e))
-neither false b e = (refl, e)
-
 module _ (items : List Item) (known : Known) where
   abbrev Q : Fault → Type 0
   Q = HoldsAt items
 
   lacks_behave : (gone : List Item) (c : Class) (xs : List Item) (a : Names × List Half) → items ≡ gone ++ class c ∷ xs → AreMembers known no_names c.members a → (c.quark || list_any is_behave a.1) ≡ false → LacksBehave items c.word.place
   lacks_behave gone c xs a is h off =
-      let parts = neither c.quark (list_any is_behave a.1) off in
+      let parts = or_parts c.quark (list_any is_behave a.1) off in
       let there : In c (classes_of items) = subst (In c) (sym (ap classes_of is ∙ classes_append gone (class c ∷ xs))) (in_middle (classes_of gone) c (classes_of xs)) in
       record {
         class = c;

@@ -1,4 +1,5 @@
 -- What holds of a fault of the names of classes, of `use`, and of members.
+use Rattle.std.proofs.lemmas.Bool.{ltb-false, not-false}
 use Rattle.std.proofs.Common.{◌≡◌, ◌≤◌, ℕ, refl, sym, ap, ◌∙◌, subst, List, [], ◌∷◌, ◌++◌, length, Some, Ok, Bool, true, false, not, ◌||◌, nat_lt, codes, arith, append-nil}
 use Rattle.std.specs.Prelude.{Contains, slice_get, bytes_eq}
 use Rattle.std.proofs.lemmas.List.{length-map, map-append}
@@ -14,7 +15,7 @@ use Rattle.fault_laws.specs.NamesText.{EntryOf, Lacks, MemberOf, classes_of, cla
 use Rattle.fault_laws.specs.NamesFaults as f
 use Rattle.fault_laws.specs.NamesFaults.{Meaning, HoldsAt}
 use Rattle.fault_laws.proofs.Fails.{Fails, fails_then, fails_last, fails_must, fails_must_then}
-use Rattle.fault_laws.proofs.NamesLists.{among_in, not_among, not_below, not_not, in_middle, one_more, slice_behind, contains_left, contains_right}
+use Rattle.fault_laws.proofs.NamesLists.{among_in, not_among, in_middle, one_more, slice_behind, contains_left, contains_right}
 use Rattle.fault_laws.proofs.NamesAdded.{as_known, known_names, classes_append}
 use Rattle.fault_laws.proofs.NamesMembers.{member_fails}
 use Rattle.fault_laws.proofs.NamesWalked.{walked_end, walked_means}
@@ -47,9 +48,9 @@ module _ (items : List Item) where
 
     new_class_fails : (done : Known) → names_of done ≡ class_names (classes_of gone) → Fails Q (w.new_class done c)
     new_class_fails done same =
-        fails_must_then Q (nat_lt (length done) most_classes) (too_many c.word.place) _ (λ over. f.classes at refl (many (not_below (length done) 256 over))) (λ _.
+        fails_must_then Q (nat_lt (length done) most_classes) (too_many c.word.place) _ (λ over. f.classes at refl (many (ltb-false (length done) 256 over))) (λ _.
         fails_must_then Q (not (is_among c.word.name (names_of done) || w.is_built_in c.word.name)) (declared_twice c.word.place) _
-        (λ old. f.class_again at refl (go (is_among c.word.name (names_of done)) refl (not_not _ old))) (λ _. tt))
+        (λ old. f.class_again at refl (go (is_among c.word.name (names_of done)) refl (not-false _ old))) (λ _. tt))
       where
         many : 256 ≤ length done → 256 ≤ length (classes_of gone)
         many le =

@@ -2,12 +2,12 @@
 use Rattle.std.proofs.Common.{◌≡◌, ◌⊎◌, inl, inr, ⊎_elim, ℕ, zero, suc, ◌+◌, refl, sym, ap, ◌∙◌, subst, List, [], ◌∷◌, ◌++◌, length, map, Option, Some, None, is_some, Bool, true, false, not, ◌||◌, nat_eq, arith}
 use Rattle.std.specs.Prelude.{option_map, slice_get, flat_map}
 use Rattle.std.specs.Option.{option_map_or}
-use Rattle.std.proofs.lemmas.Bool.{false≢true, eqb-true}
+use Rattle.std.proofs.lemmas.Bool.{false≢true, eqb-true, not-false}
 use Rattle.std.proofs.lemmas.Option.{slice_get-map}
 use Rattle.std.proofs.lemmas.List.{length-append}
 use Rattle.list_laws.proofs.Tests.{both}
 use Rattle.list_laws.proofs.Options.{some_once}
-use Rattle.list_laws.proofs.Members.{In, in_either, flat_in}
+use Rattle.list_laws.proofs.Members.{In, in_either, flat_in, contains_in}
 use Rattle.ulam_tree.specs.declared.resolved.Ty.{Ty}
 use Rattle.ulam_tree.specs.declared.resolved.Ty.TheVariants as y
 use Rattle.ulam_tree.specs.declared.resolved.Named.{Named}
@@ -21,7 +21,8 @@ use Rattle.ulam_names.specs.ClassRelation.{AreKnown, IsMember, AreMembers, AreIt
 use Rattle.fault_laws.specs.NamesText.{EntryOf, MemberOf, classes_of}
 use Rattle.fault_laws.specs.NamesFaults.{Meaning, HoldsAt, HasPart, HasWithin, directly, through, IsCyclic}
 use Rattle.fault_laws.proofs.Fails.{Fails, fails_must_then}
-use Rattle.fault_laws.proofs.NamesLists.{any_in, not_not, one_more, slice_behind}
+use Rattle.fault_laws.proofs.BasesLines.{any_in}
+use Rattle.fault_laws.proofs.NamesLists.{one_more, slice_behind}
 use Rattle.fault_laws.proofs.NamesAdded.{members_end, as_known}
 use Rattle.fault_laws.proofs.NamesMembers.{class_named}
 
@@ -159,7 +160,7 @@ module _ (items : List Item) (known : Known) (named : AreKnown [] items known) (
   within goal zero a e = absurd (false≢true e)
   within goal (suc m) a e =
       let b = any_in (λ j. nat_eq j goal || leads (parts_of heads) m j goal) (parts_of heads a) e in
-      go b.0 (part a b.0 b.1) (nat_eq b.0 goal) refl b.2 (within goal m b.0)
+      go b.0 (part a b.0 (contains_in (parts_of heads a) b.0 b.1)) (nat_eq b.0 goal) refl b.2 (within goal m b.0)
     where
       go : (b : ℕ) → HasPart items a b → (z : Bool) → nat_eq b goal ≡ z → (z || leads (parts_of heads) m b goal) ≡ true → (leads (parts_of heads) m b goal ≡ true → HasWithin items goal b) → HasWithin items goal a
       go b p true is e rest = directly a (subst (λ (j : ℕ). HasPart items a j) (eqb-true b goal is) p)
@@ -185,5 +186,5 @@ module _ (items : List Item) (known : Known) (named : AreKnown [] items known) (
       let word : h.word ≡ c.class.word = ap (λ (z : HalfClass). z.word) c.is in
       let long = length-append front (h ∷ []) in
       fails_must_then Q (not (holds_itself heads k)) (cyclic_quark h.word.place) _
-      (λ e. subst (λ (v : Word). IsCyclic items v.place) (sym word) (cyclic k c.class c.stands (not_not (holds_itself heads k) e))) (λ _.
+      (λ e. subst (λ (v : Word). IsCyclic items v.place) (sym word) (cyclic k c.class c.stands (not-false (holds_itself heads k) e))) (λ _.
       cycles_fail (front ++ h ∷ []) hs (is ∙ one_more front h hs) (k + 1) (omega (arith, at, long)))

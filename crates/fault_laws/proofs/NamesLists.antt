@@ -8,6 +8,7 @@ use Rattle.std.proofs.lemmas.Slice.Eq.{bytes_eq-Decides}
 use Rattle.list_laws.proofs.Members.{In, in_left, in_right, in_either, contains_in, in_contains, in_any}
 use Rattle.ulam_names.specs.Scopes.{Text, is_among, names_of, beside}
 use Rattle.fault_laws.specs.NamesText.{EntryOf, Lacks}
+use Rattle.fault_laws.proofs.BasesLines.{any_in}
 
 -- Tests
 
@@ -17,26 +18,7 @@ same_text a b e = (bytes_eq-Decides a b).0 e
 pub own_text : (a : Text) → bytes_eq a a ≡ true
 own_text a = (bytes_eq-Decides a a).1 refl
 
-pub not_below : (a b : ℕ) → nat_lt a b ≡ false → b ≤ a
-not_below a b e = go (cases_lt a b)
-  where
-    go : (a < b) ⊎ (b ≤ a) → b ≤ a
-    go (inl lt) = absurd (false≢true (sym e ∙ lt-ltb a b lt))
-    go (inr le) = le
-
-pub not_not : (b : Bool) → not b ≡ false → b ≡ true
-not_not true e = refl
-not_not false e = absurd (false≢true (sym e))
-
 -- Elements that pass a test
-
-pub any_in : {A : Type 0} (p : A → Bool) (xs : List A) → list_any p xs ≡ true → (x : A) × In x xs × (p x ≡ true)
-any_in p [] e = absurd (false≢true e)
-any_in {A = A} p (y ∷ xs) e = go (p y) refl e (any_in p xs)
-  where
-    go : (b : Bool) → p y ≡ b → (b || list_any p xs) ≡ true → (list_any p xs ≡ true → (x : A) × In x xs × (p x ≡ true)) → (x : A) × In x (y ∷ xs) × (p x ≡ true)
-    go true is e rest = (y, inl refl, is)
-    go false is e rest = let r = rest e in (r.0, inr r.1, r.2)
 
 pub found_in : {A : Type 0} (p : A → Bool) (xs : List A) (x : A) → find p xs ≡ Some x → In x xs × (p x ≡ true)
 found_in p [] x e = absurd cc
@@ -71,7 +53,7 @@ reverse_in (y ∷ xs) x i =
 pub among_in : (n : Text) (ns : List Text) → is_among n ns ≡ true → Contains ns n
 among_in n ns e =
     let r = any_in (bytes_eq n) ns e in
-    in_contains ns n (subst (λ m. In m ns) (sym (same_text n r.0 r.2)) r.1)
+    subst (λ m. Contains ns m) (sym (same_text n r.0 r.2)) r.1
 
 pub in_among : (n : Text) (ns : List Text) → Contains ns n → is_among n ns ≡ true
 in_among n ns c = in_any (bytes_eq n) ns n (contains_in ns n c) (own_text n)
@@ -113,8 +95,3 @@ one_more xs x ys = sym (append_assoc xs (x ∷ []) ys)
 
 pub in_middle : {A : Type 0} (xs : List A) (x : A) (ys : List A) → In x (xs ++ x ∷ ys)
 in_middle xs x ys = in_right xs (x ∷ ys) x (inl refl)
-
-pub get_in_list : {A : Type 0} (xs : List A) (k : ℕ) (x : A) → slice_get xs k ≡ Some x → In x xs
-get_in_list [] k x e = absurd cc
-get_in_list (y ∷ xs) zero x e = let same : y ≡ x = cc in inl (sym same)
-get_in_list (y ∷ xs) (suc k) x e = inr (get_in_list xs k x e)

@@ -2,7 +2,7 @@
 use Rattle.std.proofs.Common.{◌≡◌, ◌≢◌, ◌⊎◌, inl, inr, ◌≤◌, ℕ, refl, sym, ap, ◌∙◌, subst, List, [], ◌∷◌, ◌++◌, length, Option, Some, None, Ok, is_some, Bool, true, false, not, ◌&&◌, ◌||◌, ℤ, pos, nat_lt, int_le, arith}
 use Rattle.std.specs.Prelude.{Contains, option_map, slice_get, filter}
 use Rattle.std.specs.Option.{option_map_or}
-use Rattle.std.proofs.lemmas.Bool.{false≢true}
+use Rattle.std.proofs.lemmas.Bool.{false≢true, ltb-false, not-false}
 use Rattle.std.proofs.lemmas.List.{length-map, map-append}
 use Rattle.std.proofs.lemmas.Option.{slice_get-map}
 use Rattle.list_laws.proofs.Members.{In, in_contains, in_map}
@@ -27,7 +27,7 @@ use Rattle.fault_laws.specs.NamesText.{EntryOf, Lacks, MemberOf, classes_of, cla
 use Rattle.fault_laws.specs.NamesFaults as f
 use Rattle.fault_laws.specs.NamesFaults.{Meaning, HoldsAt, IsNoDataType, IsDoubled, IsTooMany, IsBadWidth}
 use Rattle.fault_laws.proofs.Fails.{Fails, fails_then, fails_last, fails_must, fails_must_then, fails_found, fails_found_then, fails_more}
-use Rattle.fault_laws.proofs.NamesLists.{among_in, not_below, not_not, in_middle, one_more}
+use Rattle.fault_laws.proofs.NamesLists.{among_in, in_middle, one_more}
 use Rattle.fault_laws.proofs.NamesAdded.{Adds, adds, as_known, known_are, known_names, declared_before}
 use Rattle.fault_laws.proofs.NamesTypes.{TypeFault, type_fails, map_none, no_type_known, no_value_known, class_type}
 
@@ -116,12 +116,12 @@ module _ (items : List Item) (m : MemberOf items) (means : Meaning items m.at.be
 
     new_fails : (count : ℕ) (free : Bool) → (64 ≤ count → IsTooMany items v.place) → (free ≡ false → IsDoubled items v.place) → Fails Q (w.new_name d count free v)
     new_fails count free many taken =
-        fails_must_then Q (nat_lt count most_members) (too_many v.place) _ (λ over. many (not_below count 64 over)) (λ few.
+        fails_must_then Q (nat_lt count most_members) (too_many v.place) _ (λ over. many (ltb-false count 64 over)) (λ few.
         fails_must Q (free && not (declares_name d v.name)) (declared_twice v.place) (λ off. twice free refl off))
       where
         twice : (b : Bool) → free ≡ b → (b && not (declares_name d v.name)) ≡ false → IsDoubled items v.place
         twice false is e = taken is
-        twice true is e = again (declared_before means.known m.at.before d means.halves v.name means.declared (not_not _ e))
+        twice true is e = again (declared_before means.known m.at.before d means.halves v.name means.declared (not-false _ e))
 
   -- a name that is used as a number
   number_fails : (v : Word) → Contains (own_constant m.at.here) v → {A : Type 0} (o : Option A) → (o ≡ None → values d v.name ≡ None) → Fails Q (found o (unknown_name v.place))
@@ -156,7 +156,7 @@ module _ (items : List Item) (m : MemberOf items) (means : Meaning items m.at.be
       built : not (w.is_built_in v.name) ≡ false → IsDoubled items v.place
       built e =
           f.typedef_built_in m (ap (λ (z : Member). (member_word z).place) is) (ap is_typedef is)
-          (subst (λ (z : Member). Contains (names_of built_in) (member_word z).name) (sym is) (among_in v.name (names_of built_in) (not_not (w.is_built_in v.name) e)))
+          (subst (λ (z : Member). Contains (names_of built_in) (member_word z).name) (sym is) (among_in v.name (names_of built_in) (not-false (w.is_built_in v.name) e)))
 
   wrong_value : (a b r : Bool) → (w.same_bool a b && r) ≡ false → (b ≢ a) ⊎ (r ≡ false)
   wrong_value true true r e = inr e
@@ -235,9 +235,9 @@ module _ (items : List Item) (m : MemberOf items) (means : Meaning items m.at.be
       let long = ap length same in
       let count = length-map gone (λ (q : Param). q.word.name) in
       fails_then Q (w.member_type means.known d p.of) _ (typed p.of (in_contains (types_in m.at.here) p.of (inr (in_map (λ (q : Param). q.of) (params_in m.at.here) p here)))) (λ n hn.
-      fails_must_then Q (nat_lt (length done) most_params) (too_many p.word.place) _ (λ over. f.params m at refl (let le = not_below (length done) 8 over in omega (arith, le, long, count))) (λ _.
+      fails_must_then Q (nat_lt (length done) most_params) (too_many p.word.place) _ (λ over. f.params m at refl (let le = ltb-false (length done) 8 over in omega (arith, le, long, count))) (λ _.
       fails_must_then Q (not (is_among p.word.name done)) (declared_twice p.word.place) _
-      (λ old. f.param_again m at refl (subst (λ (ns : List Text). Contains ns p.word.name) same (among_in p.word.name done (not_not _ old)))) (λ _.
+      (λ old. f.param_again m at refl (subst (λ (ns : List Text). Contains ns p.word.name) same (among_in p.word.name done (not-false _ old)))) (λ _.
       fails_last Q (w.params_of means.known d (done ++ p.word.name ∷ []) ps) _
       (params_fail (gone ++ p ∷ []) (done ++ p.word.name ∷ []) ps (ap (λ (ns : List Text). ns ++ p.word.name ∷ []) same ∙ sym (map-append (λ (q : Param). q.word.name) gone (p ∷ []))) (is ∙ one_more gone p ps)))))
 

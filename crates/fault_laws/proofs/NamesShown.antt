@@ -14,7 +14,8 @@ use Rattle.ulam_tree.specs.declared.resolved.Step.TheVariants as s
 use Rattle.ulam_names.specs.Scopes.{Text, Head, Context, Entry, Scope, is_named, is_local, last_named, slot_named, first_step, first_name, in_own_class, next_name, opened, added}
 use Rattle.fault_laws.specs.NamesText.{Lacks}
 use Rattle.fault_laws.specs.NamesBodies.{Local, Sight, in_sight, local_names, inner, start_type}
-use Rattle.fault_laws.proofs.NamesLists.{any_in, found_in, none_found, in_reverse, reverse_in, same_text, own_text}
+use Rattle.fault_laws.proofs.BasesLines.{any_in}
+use Rattle.fault_laws.proofs.NamesLists.{found_in, none_found, in_reverse, reverse_in, same_text, own_text}
 
 -- the same names behind a dot
 abbrev pub SameInside : List Head → Ty → Ty → Type 0
@@ -120,7 +121,7 @@ module _ (c : Context) where
   pub some_own : (n : Text) (es : List Entry) (ls : List Local) → AreSame es ls → list_any (is_named n) es ≡ true → Contains (map (λ (l : Local). l.name) ls) n
   some_own n es ls h e =
       let r = any_in (is_named n) es e in
-      let l = of_entry es ls r.0 h r.1 in
+      let l = of_entry es ls r.0 h (contains_in es r.0 r.1) in
       in_contains (map (λ (l : Local). l.name) ls) n (subst (λ (m : Text). In m (map (λ (l : Local). l.name) ls)) (sym (same_text n r.0.name r.2 ∙ l.2.0)) (in_map (λ (l : Local). l.name) ls l.0 l.1))
 
   -- The first name of a path

@@ -1,4 +1,5 @@
 -- What holds of a fault of a statement, with the names of its text.
+use Rattle.std.proofs.lemmas.Bool.{ltb-false, not-false}
 use Rattle.std.proofs.Common.{◌≡◌, inl, inr, Bool, ℕ, ◌+◌, ◌≤◌, refl, sym, ap, ◌∙◌, subst, List, [], ◌∷◌, ◌++◌, map, drop, Option, None, not, nat_lt, arith, append_assoc}
 use Rattle.std.specs.Prelude.{Contains, option_map}
 use Rattle.std.specs.List.{list_any}
@@ -15,7 +16,7 @@ use Rattle.ulam_names.specs.Walk.{basic_in}
 use Rattle.fault_laws.specs.NamesText.{EntryOf, Lacks}
 use Rattle.fault_laws.specs.NamesBodies.{Use, of_type, of_path, Local, Sight, in_sight, inner, branch, behind, behind_part, Mention, used, declared, all_used, statement_names, part_names, body_names, expr_uses, args_uses, maybe_uses, left_uses, cond_uses}
 use Rattle.fault_laws.proofs.Fails.{Fails, fails_then, fails_last, fails_must, fails_must_then, fails_more}
-use Rattle.fault_laws.proofs.NamesLists.{entry_of, not_below, not_not}
+use Rattle.fault_laws.proofs.NamesLists.{entry_of}
 use Rattle.fault_laws.proofs.NamesShown.{Shows, shows_all, shows_own, shows_inner, some_own}
 use Rattle.fault_laws.proofs.NamesUses.{UseFault, type_in_fails, path_fails, args_fail, expr_fails, maybe_fails, left_fails, cond_fails}
 use Rattle.fault_laws.proofs.NamesScopes.{count, count_both, count_used, statement_count, part_count, after_shows, after_part_shows, branch_shows}
@@ -73,8 +74,8 @@ module _ (c : Context) (types constants own : List Text)
     declared_fails : (n : ℕ) (x : Word) → Fails (MentionFault n (declared v x)) (w.declared c s n x)
     declared_fails n x =
         let Q : Fault → Type 0 = MentionFault n (declared v x) in
-        fails_must_then Q (nat_lt n (c.params + most_locals)) (too_many x.place) _ (λ over. (refl, not_below n (c.params + 64) over)) (λ few.
-        fails_must Q (not (list_any (is_named x.name) (drop s.from s.entries))) (declared_twice x.place) (λ old. (refl, some_own c x.name (drop s.from s.entries) v.own (shows_own c s v h) (not_not _ old))))
+        fails_must_then Q (nat_lt n (c.params + most_locals)) (too_many x.place) _ (λ over. (refl, ltb-false n (c.params + 64) over)) (λ few.
+        fails_must Q (not (list_any (is_named x.name) (drop s.from s.entries))) (declared_twice x.place) (λ old. (refl, some_own c x.name (drop s.from s.entries) v.own (shows_own c s v h) (not-false _ old))))
 
     type_at : (x : t.TypeRef) → Fails (UseFault c types constants own of_types of_constants of_own (in_sight v) (of_type x)) (w.type_in c s.entries x)
     type_at x = type_in_fails c types constants own of_types of_constants of_own s.entries (in_sight v) (shows_all c s v h) x

@@ -8,7 +8,7 @@ use Rattle.std.proofs.lemmas.Option.{get_or_from_slice_get}
 use Rattle.list_laws.proofs.Slots.{get_inside}
 use Rattle.list_laws.proofs.Members.{In}
 use Rattle.list_laws.proofs.Tests.{both}
-use Rattle.std.proofs.lemmas.Bool.{false≢true}
+use Rattle.std.proofs.lemmas.Bool.{false≢true, ltb-false}
 use Rattle.sat_math.specs.declared.NumType.{NumType}
 use Rattle.ulam_tree.specs.declared.resolved.Ty.{Ty}
 use Rattle.ulam_tree.specs.declared.resolved.Ty.TheVariants as y
@@ -26,7 +26,7 @@ use Rattle.ulam_tree.proofs.Means.{means_at}
 use Rattle.fault_laws.specs.NamesText.{Lacks}
 use Rattle.fault_laws.specs.NamesFaults.{IsUnknownType, no_type, no_constant, hidden_constant, HasWrongWidth, takes_none, out_of_range}
 use Rattle.fault_laws.proofs.Fails.{Fails, fails_then, fails_last, fails_must_then, fails_found_then, fails_found}
-use Rattle.fault_laws.proofs.NamesLists.{not_among, lacks_both, nothing_beside, not_below, same_text, found_in}
+use Rattle.fault_laws.proofs.NamesLists.{not_among, lacks_both, nothing_beside, same_text, found_in}
 
 -- what holds of a fault of a type
 abbrev pub TypeFault : (types hidden constants : List Text) → (Text → Option Basic) → (Text → Option ℤ) → TypeRef → Fault → Type 0
@@ -91,7 +91,7 @@ none_any p (x ∷ xs) le = go (p x) le (none_any p xs)
     go false le rest = rest (omega (arith, le))
 
 pub no_number : (n : Text) (names : List Text) → number_of n names ≡ None → is_among n names ≡ false
-no_number n names e = none_any (bytes_eq n) names (not_below _ _ (none_by (nat_lt (position_or_len (bytes_eq n) names) (length names)) _ e))
+no_number n names e = none_any (bytes_eq n) names (ltb-false _ _ (none_by (nat_lt (position_or_len (bytes_eq n) names) (length names)) _ e))
 
 -- a name that means no type is in none of the three lists
 pub no_type_known : (typedefs : List (Text × NumType)) (classes : List Text) (n : Text) → basic_named typedefs classes n ≡ None → Lacks (names_of built_in ++ names_of typedefs ++ classes) n

@@ -10,8 +10,8 @@ use Rattle.ulam_names.specs.Classes.{first_fault}
 abbrev pub at : ℕ → Place
 at n = record { file = 0; line = n; column = 1 }
 
-abbrev pub word : List ℕ → ℕ → Word
-word name n = record { name = name; place = at n }
+abbrev pub word : (name : List ℕ) (line : ℕ) → Word
+word name line = record { name = name; place = at line }
 
 abbrev pub plain : List ℕ → ℕ → TypeRef
 plain name n = record { word = word name n; width = None }

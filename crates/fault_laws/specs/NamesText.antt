@@ -16,7 +16,7 @@ abbrev pub Lacks : List Text → Text → Type 0
 Lacks names n = Contains names n → ⊥
 
 -- the classes of all files, in order
-abbrev pub classes_of : List Item → List Class
+abbrev pub classes_of : (items : List Item) → List Class
 classes_of [] = []
 classes_of (ulam n ∷ xs) = classes_of xs
 classes_of (uses w ∷ xs) = classes_of xs
