@@ -6,7 +6,8 @@ use Rattle.std.proofs.lemmas.List.{map-append, length-append}
 use Rattle.list_laws.proofs.Members.{In, in_map, filter_in, map_in, contains_in, in_contains}
 use Rattle.ulam_tree.specs.Raw.{Member, typedef, constant, field, function, Class, Item, ulam, uses, class}
 use Rattle.ulam_heirs.specs.Flat.{member_word, is_function, is_field}
-use Rattle.ulam_names.specs.Scopes.{Text, Names, no_names, names_of, small_names, declares_name, is_among, Value}
+use Rattle.ulam_names.specs.declared.basic.Value.{Value}
+use Rattle.ulam_names.specs.Scopes.{Text, Names, no_names, names_of, small_names, declares_name, is_among}
 use Rattle.ulam_names.specs.Classes.{Known, Half}
 use Rattle.ulam_names.specs.ClassRelation.{AreKnown, IsMember, AreMembers}
 use Rattle.fault_laws.specs.NamesText.{classes_of, class_names, member_names, is_typedef, is_constant, is_small, names_by}

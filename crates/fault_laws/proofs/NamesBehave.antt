@@ -14,7 +14,9 @@ use Rattle.ulam_tree.specs.declared.resolved.Ty.TheVariants as y
 use Rattle.ulam_tree.specs.declared.resolved.Named.{Named}
 use Rattle.ulam_tree.specs.Raw.{Word, TypeRef, Width, Member, Body, typedef, constant, field, function, Item, ulam, uses, class, Class}
 use Rattle.ulam_names.specs.Faults.{Fault, no_behave}
-use Rattle.ulam_names.specs.Scopes.{Text, Basic, whole, Names, no_names, names_of, is_among, basic_named, beside, built_in, number_of, number_type}
+use Rattle.ulam_names.specs.declared.basic.Basic.{Basic}
+use Rattle.ulam_names.specs.declared.basic.Basic.TheVariants.{Whole as whole}
+use Rattle.ulam_names.specs.Scopes.{Text, Names, no_names, names_of, is_among, basic_named, beside, built_in, number_of, number_type}
 use Rattle.ulam_names.specs.Classes as w
 use Rattle.ulam_names.specs.Classes.{Known, Half, HalfClass, is_behave, is_built_in, is_nothing, no_params, values}
 use Rattle.ulam_names.specs.Relation.{IsSized, IsType}

@@ -6,14 +6,14 @@ use Rattle.std.proofs.lemmas.List.{length-append}
 use Rattle.std.proofs.lemmas.Option.{slice_get-map}
 use Rattle.sat_math.specs.declared.NumType.{NumType}
 use Rattle.ulam_tree.specs.declared.resolved.Ty.{Ty}
-use Rattle.ulam_tree.specs.declared.resolved.Ty.TheVariants as y
 use Rattle.ulam_tree.specs.declared.resolved.Step.TheVariants as s
 use Rattle.ulam_tree.specs.declared.resolved.Named.{Named}
 use Rattle.ulam_tree.specs.Raw.{Word, TypeRef, Param, Body, Member, typedef, constant, field, function, Item}
 use Rattle.ulam_tree.specs.Resolved as r
 use Rattle.ulam_heirs.specs.Flat.{is_function, is_field}
 use Rattle.ulam_names.specs.Faults.{Fault, unknown_name, bad_width, declared_twice, cyclic_quark, no_behave, bad_constant, too_many}
-use Rattle.ulam_names.specs.Scopes.{Text, Names, no_names, Head, Context, Value, names_of, beside, number_of, numbered, in_class, in_own_class}
+use Rattle.ulam_names.specs.declared.basic.Value.{Value}
+use Rattle.ulam_names.specs.Scopes.{Text, Names, no_names, Head, Context, names_of, beside, number_of, numbered, in_class, in_own_class}
 use Rattle.ulam_names.specs.Classes as w
 use Rattle.ulam_names.specs.Classes.{Known, Half, HalfClass, Pending, half_function, head_of, context_of, scope_of, values}
 use Rattle.ulam_names.specs.Walk.{body, basic_in}

@@ -15,14 +15,15 @@ use Rattle.ulam_tree.specs.Found.{found}
 use Rattle.ulam_tree.proofs.Means.{Means, means_at, found_means}
 use Rattle.ulam_heirs.specs.Flat.{member_word, member_type, is_function, is_field}
 use Rattle.ulam_names.specs.Faults.{Fault, unknown_name, bad_width, declared_twice, cyclic_quark, no_behave, bad_constant, too_many}
-use Rattle.ulam_names.specs.Scopes.{Text, Names, no_names, names_of, small_names, declares_name, is_among, as_number, is_truth, in_range, beside, built_in, Value, most_members, most_params}
+use Rattle.ulam_names.specs.declared.basic.Value.{Value}
+use Rattle.ulam_names.specs.Scopes.{Text, Names, no_names, names_of, small_names, declares_name, is_among, as_number, is_truth, in_range, beside, built_in, most_members, most_params}
 use Rattle.ulam_names.specs.Classes as w
 use Rattle.ulam_names.specs.Classes.{Known, basics, values}
 use Rattle.ulam_names.specs.Walk.{width_value}
 use Rattle.ulam_names.specs.Relation.{IsWidth}
 use Rattle.ulam_names.specs.ClassRelation.{IsMemberType, IsValue}
 use Rattle.ulam_names.proofs.BodyMeans.{type_means, width_means}
-use Rattle.fault_laws.specs.NamesText.{EntryOf, Lacks, MemberOf, classes_of, class_names, member_names, param_names, is_typedef, is_small, names_by, params_in, types_in, constant_in, types_known, constants_known}
+use Rattle.fault_laws.specs.NamesText.{EntryOf, Lacks, MemberOf, classes_of, class_names, member_names, param_names, is_typedef, is_small, names_by, params_in, types_in, own_constant, types_known, constants_known}
 use Rattle.fault_laws.specs.NamesFaults as f
 use Rattle.fault_laws.specs.NamesFaults.{Meaning, HoldsAt, IsNoDataType, IsDoubled, IsTooMany, IsBadWidth}
 use Rattle.fault_laws.proofs.Fails.{Fails, fails_then, fails_last, fails_must, fails_must_then, fails_found, fails_found_then, fails_more}
@@ -123,7 +124,7 @@ module _ (items : List Item) (m : MemberOf items) (means : Meaning items m.at.be
         twice true is e = again (declared_before means.known m.at.before d means.halves v.name means.declared (not_not _ e))
 
   -- a name that is used as a number
-  number_fails : (v : Word) → Contains (constant_in m.at.here) v → {A : Type 0} (o : Option A) → (o ≡ None → values d v.name ≡ None) → Fails Q (found o (unknown_name v.place))
+  number_fails : (v : Word) → Contains (own_constant m.at.here) v → {A : Type 0} (o : Option A) → (o ≡ None → values d v.name ≡ None) → Fails Q (found o (unknown_name v.place))
   number_fails v c o none = fails_found Q o (unknown_name v.place) (λ e. f.in_length_or_value m v c refl (lacks_constant items m.at.before means v.name (none e)))
 
   -- What stands in the member's declaration
@@ -167,7 +168,7 @@ module _ (items : List Item) (m : MemberOf items) (means : Meaning items m.at.be
   value_fails ty v (const_number minus n s) is = tt
   value_fails ty v (const_truth b) is = tt
   value_fails ty v (const_named x) is =
-      number_fails x (subst (λ (z : Member). Contains (constant_in z) x) (sym is) (in_contains (x ∷ []) x (inl refl)))
+      number_fails x (subst (λ (z : Member). Contains (own_constant z) x) (sym is) (in_contains (x ∷ []) x (inl refl)))
       (option_map {U = Bool × ℤ} (λ (z : Value). (is_truth z.num.kind, z.value)) (beside x.name d.constants))
       (λ e. ap (option_map (λ (z : Value). z.value)) (map_none _ (beside x.name d.constants) e))
 
@@ -208,7 +209,7 @@ module _ (items : List Item) (m : MemberOf items) (means : Meaning items m.at.be
     where
       known_width : (x : Width) → m.at.here ≡ field ty v (Some x) → Fails Q (width_value (values d) x)
       known_width (wide n) is = tt
-      known_width (wide_as u) is = number_fails u (subst (λ (z : Member). Contains (constant_in z) u) (sym is) (in_contains (u ∷ []) u (inl refl))) (values d u.name) (λ e. e)
+      known_width (wide_as u) is = number_fails u (subst (λ (z : Member). Contains (own_constant z) u) (sym is) (in_contains (u ∷ []) u (inl refl))) (values d u.name) (λ e. e)
 
   field_fails : (ty : TypeRef) (v : Word) (len : Option Width) → m.at.here ≡ field ty v len → Fails Q (w.member means.known d (field ty v len))
   field_fails ty v len is =

@@ -10,12 +10,14 @@ use Rattle.ulam_tree.specs.declared.resolved.Named.{Named}
 use Rattle.ulam_tree.specs.Raw as t
 use Rattle.ulam_tree.specs.Raw.{Word, TypeRef, Width}
 use Rattle.ulam_tree.specs.Resolved as r
-use Rattle.ulam_names.specs.Scopes.{Text, Basic, sized, whole, Context, Scope, inside_local, is_element, next_name, opened, added}
+use Rattle.ulam_names.specs.declared.basic.Basic.{Basic}
+use Rattle.ulam_names.specs.declared.basic.Basic.TheVariants.{Sized as sized, Whole as whole}
+use Rattle.ulam_names.specs.Scopes.{Text, Context, Scope, inside_local, is_element, next_name, opened, added}
 use Rattle.ulam_names.specs.Walk as w
 use Rattle.ulam_names.specs.Walk.{basic_in, bare}
 use Rattle.ulam_names.specs.Relation.{IsSized, IsType, IsClass}
 use Rattle.ulam_names.proofs.BodyMeans.{type_means, class_means}
-use Rattle.fault_laws.specs.NamesBodies.{Use, of_path, Local, Sight, in_sight, inner, local, type_of_name, shown_by, branch, behind, behind_part, Mention, declared, all_used, statement_names, part_names, body_names, local_word, locals_in, expr_uses, args_uses, maybe_uses, left_uses, cond_uses}
+use Rattle.fault_laws.specs.NamesBodies.{Use, of_path, Local, Sight, in_sight, inner, local, type_of_name, shown_by, branch, behind, behind_part, Mention, all_used, statement_names, part_names, body_names, local_word, locals_in, expr_uses, args_uses, maybe_uses, left_uses, cond_uses}
 use Rattle.fault_laws.proofs.Fails.{ok_then}
 use Rattle.fault_laws.proofs.NamesShown.{AreSame, SameInside, Shows, IsSame, same_both, shows_all, shows_added}
 

@@ -8,7 +8,8 @@ use Rattle.ulam_tree.specs.declared.op.PairOp.{PairOp}
 use Rattle.ulam_tree.specs.Raw as t
 use Rattle.ulam_tree.specs.Raw.{Word}
 use Rattle.ulam_names.specs.Faults.{Fault, unknown_name, bad_width, declared_twice, cyclic_quark, no_behave, bad_constant, too_many}
-use Rattle.ulam_names.specs.Scopes.{Text, Context, Scope, Value, beside, in_own_class, is_named, most_locals, opened}
+use Rattle.ulam_names.specs.declared.basic.Value.{Value}
+use Rattle.ulam_names.specs.Scopes.{Text, Context, Scope, beside, in_own_class, is_named, most_locals, opened}
 use Rattle.ulam_names.specs.Walk as w
 use Rattle.ulam_names.specs.Walk.{basic_in}
 use Rattle.fault_laws.specs.NamesText.{EntryOf, Lacks}

@@ -15,7 +15,10 @@ use Rattle.ulam_tree.specs.declared.resolved.Ty.TheVariants as y
 use Rattle.ulam_tree.specs.declared.resolved.Named.{Named}
 use Rattle.ulam_tree.specs.Raw.{TypeRef, Width, wide, wide_as}
 use Rattle.ulam_names.specs.Faults.{Fault, unknown_name, bad_width, declared_twice, cyclic_quark, no_behave, bad_constant, too_many}
-use Rattle.ulam_names.specs.Scopes.{Text, Basic, sized, whole, allows, basic_named, built_in, beside, number_of, names_of, is_among, number_type, Value}
+use Rattle.ulam_names.specs.declared.basic.Value.{Value}
+use Rattle.ulam_names.specs.declared.basic.Basic.{Basic}
+use Rattle.ulam_names.specs.declared.basic.Basic.TheVariants.{Sized as sized, Whole as whole}
+use Rattle.ulam_names.specs.Scopes.{Text, allows, basic_named, built_in, beside, number_of, names_of, is_among, number_type}
 use Rattle.ulam_names.specs.Walk as w
 use Rattle.ulam_names.proofs.BodyMeans.{width_means}
 use Rattle.ulam_names.specs.Relation.{IsWidth, IsSized, IsType}

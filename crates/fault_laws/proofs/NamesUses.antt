@@ -10,7 +10,8 @@ use Rattle.ulam_tree.specs.declared.resolved.Step.{Step}
 use Rattle.ulam_tree.specs.Raw as t
 use Rattle.ulam_tree.specs.Raw.{Word, TypeRef, Width, wide, wide_as}
 use Rattle.ulam_names.specs.Faults.{Fault, unknown_name, bad_width, declared_twice, cyclic_quark, no_behave, bad_constant, too_many}
-use Rattle.ulam_names.specs.Scopes.{Text, Head, Context, Entry, Value, beside, slot_named, first_name, next_name, in_own_class}
+use Rattle.ulam_names.specs.declared.basic.Value.{Value}
+use Rattle.ulam_names.specs.Scopes.{Text, Head, Context, Entry, beside, slot_named, first_name, next_name, in_own_class}
 use Rattle.ulam_names.specs.Walk as w
 use Rattle.ulam_names.specs.Walk.{basic_in, constant_in}
 use Rattle.ulam_names.specs.Relation.{IsWidth}

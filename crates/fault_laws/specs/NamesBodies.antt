@@ -7,7 +7,8 @@ use Rattle.ulam_tree.specs.declared.resolved.Ty.{Ty}
 use Rattle.ulam_tree.specs.declared.resolved.Ty.TheVariants as y
 use Rattle.ulam_tree.specs.declared.resolved.Step.{Step}
 use Rattle.ulam_tree.specs.Raw.{Word, TypeRef, Param, Path, Expr, Args, Cond, Left, Statement, Part, Body, number, truth, reads, calls, index, instance, group, cast, prefix, pair, is, no_args, arg, seen, test, block, empty, if_so, while_so, for_all, returns, breaks, continues, declares, assigns, counts, does, no_part, part, no_more, then_so}
-use Rattle.ulam_names.specs.Scopes.{Text, Basic, basic_named, Head, Context, is_element, inside_local, in_own_class, next_name}
+use Rattle.ulam_names.specs.declared.basic.Basic.{Basic}
+use Rattle.ulam_names.specs.Scopes.{Text, basic_named, Head, Context, is_element, inside_local, in_own_class, next_name}
 use Rattle.ulam_names.specs.Walk.{bare}
 
 -- Names that are used: of a type with its width, of a class, or of a path.

@@ -1,5 +1,5 @@
 -- For each fault of names, items that have it first.
-use Rattle.std.specs.Prelude.{ℕ, ◌≡◌, List, [], ◌∷◌, ◌++◌, Some, None, Bool, true, false, codes, map}
+use Rattle.std.specs.Prelude.{ℕ, ◌≡◌, List, [], ◌∷◌, ◌++◌, Some, None, true, false, codes, map}
 use Rattle.std.specs.List.{range_with_len}
 use Rattle.feast_base.specs.declared.place.Place.{Place}
 use Rattle.ulam_tree.specs.Raw.{Word, TypeRef, wide, const_number, Body, no_more, then_so, does, no_args, Member, constant, field, function, Item, class}

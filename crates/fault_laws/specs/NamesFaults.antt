@@ -10,11 +10,13 @@ use Rattle.ulam_tree.specs.declared.resolved.Named.{Named}
 use Rattle.ulam_tree.specs.Raw.{Word, TypeRef, Width, wide_as, Path, Param, Body, Const, Member, constant, field, function, Class, Item, uses}
 use Rattle.ulam_heirs.specs.Flat.{member_word, member_type, is_function, is_field}
 use Rattle.ulam_names.specs.Faults as fault
-use Rattle.ulam_names.specs.Scopes.{Text, Basic, sized, whole, Names, no_names, Context, names_of, built_in, allows, as_number, is_truth, in_range, next_name}
+use Rattle.ulam_names.specs.declared.basic.Basic.{Basic}
+use Rattle.ulam_names.specs.declared.basic.Basic.TheVariants.{Sized as sized, Whole as whole}
+use Rattle.ulam_names.specs.Scopes.{Text, Names, no_names, Context, names_of, built_in, allows, as_number, is_truth, in_range, next_name}
 use Rattle.ulam_names.specs.Classes.{Known, Half, HalfClass, head_of, basics, values}
 use Rattle.ulam_names.specs.Relation.{IsWidth}
 use Rattle.ulam_names.specs.ClassRelation.{AreKnown, AreMembers, AreItems, IsMemberType, IsValue}
-use Rattle.fault_laws.specs.NamesText.{EntryOf, Lacks, MemberOf, classes_of, class_names, member_names, param_names, is_typedef, is_small, names_by, params_in, types_in, constant_in, types_known, constants_known}
+use Rattle.fault_laws.specs.NamesText.{EntryOf, Lacks, MemberOf, classes_of, class_names, member_names, param_names, is_typedef, is_small, names_by, params_in, types_in, own_constant, types_known, constants_known}
 use Rattle.fault_laws.specs.NamesBodies.{Use, of_type, of_class, of_path, Local, Mention, used, declared, local_names, body_names, locals_in, first_sight, leads_to}
 
 -- what members of a class mean that no rule refuses
@@ -94,7 +96,7 @@ pub data IsUnknown (items : List Item) (p : Place) : Type 0 where
   -- `use` names no class, and neither of the two built-in ones
   no_class : (w : Word) → Contains items (uses w) → w.place ≡ p → Lacks (codes "EventWindow" ∷ codes "Random" ∷ class_names (classes_of items)) w.name → IsUnknown items p
   in_type : (m : MemberOf items) (x : TypeRef) → Contains (types_in m.at.here) x → IsUnknownType (types_known items m.at.before) [] (constants_known m.at.before) x p → IsUnknown items p
-  in_length_or_value : (m : MemberOf items) (w : Word) → Contains (constant_in m.at.here) w → w.place ≡ p → Lacks (constants_known m.at.before) w.name → IsUnknown items p
+  in_length_or_value : (m : MemberOf items) (w : Word) → Contains (own_constant m.at.here) w → w.place ≡ p → Lacks (constants_known m.at.before) w.name → IsUnknown items p
   in_body : (f : FunctionOf items) (at : EntryOf Mention (names_in f)) (around own : List Local) (u : Use) → at.here ≡ used (record { around = around; own = own }) u → IsUnknownUse f (around ++ own) u p → IsUnknown items p
 
 -- 32: a quark contains itself

@@ -77,11 +77,11 @@ value_word (const_truth b) = []
 value_word (const_named w) = w ∷ []
 
 -- the constant that is its length or its value, if there is one; not those in its types
-abbrev pub constant_in : Member → List Word
-constant_in (typedef ty w) = []
-constant_in (constant ty w k) = value_word k
-constant_in (field ty w len) = length_word len
-constant_in (function ty w ps b) = []
+abbrev pub own_constant : Member → List Word
+own_constant (typedef ty w) = []
+own_constant (constant ty w k) = value_word k
+own_constant (field ty w len) = length_word len
+own_constant (function ty w ps b) = []
 
 -- Where a member stands: in the class of a number, with the members before and behind it
 pub record MemberOf (items : List Item) : Type 0 where
