@@ -43,10 +43,10 @@ const PRINTED: [(&str, &str); 3] = [
 #[test]
 fn a_world_is_printed_as_it_was_read(rt: HostRuntime) -> Result<(), Fail> {
     for (text, wanted) in PRINTED {
-        for text in [text, wanted] {
-            let out = printed(rt.alloc(), text)?;
-            assert_eq!(rt; out.as_deref(), Some(wanted.as_bytes()), "{text}");
-        }
+        let out = printed(rt.alloc(), text)?;
+        assert_eq!(rt; out.as_deref(), Some(wanted.as_bytes()), "{text}");
+        let again = printed(rt.alloc(), wanted)?;
+        assert_eq!(rt; again.as_deref(), Some(wanted.as_bytes()), "{wanted}");
     }
     Ok(())
 }
