@@ -43,10 +43,14 @@ const PRINTED: [(&str, &str); 3] = [
 #[test]
 fn a_world_is_printed_as_it_was_read(rt: HostRuntime) -> Result<(), Fail> {
     for (text, wanted) in PRINTED {
-        let out = printed(rt.alloc(), text)?;
-        assert_eq!(rt; out.as_deref(), Some(wanted.as_bytes()), "{text}");
-        let again = printed(rt.alloc(), wanted)?;
-        assert_eq!(rt; again.as_deref(), Some(wanted.as_bytes()), "{wanted}");
+        match printed(rt.alloc(), text)? {
+            Some(out) => assert_eq!(rt; out.as_slice(), wanted.as_bytes(), "{text}"),
+            None => assert!(rt; false, "{text}"),
+        }
+        match printed(rt.alloc(), wanted)? {
+            Some(out) => assert_eq!(rt; out.as_slice(), wanted.as_bytes(), "{text}"),
+            None => assert!(rt; false, "{text}"),
+        }
     }
     Ok(())
 }
