@@ -1,24 +1,18 @@
 #!/usr/bin/env python3
-"""Tries the further edits, tests/edits/CRATE/*.edit, each of which the check must refuse: edits.py [--list] [CRATE..].
+"""Tests that each edit that the check must refuse can be applied: edits.py --list [CRATE..].
 
-They stand apart from those in crates/CRATE/must-fail/, which the gate tries, since they take an hour or more
-together. They are tried in a copy of the repository, where they stand in place of those.
-
-`--list` tries nothing: it tests that each edit, of both places, can be applied. Its file is there, and each text
-that it replaces stands in that file once.
+The edits are crates/CRATE/must-fail/*.edit. An edit can be applied if its files are there, each text that it
+replaces stands in its file once, and it changes something. Nothing is proved here: the gate tries the edits, and
+`rt must-fail CRATE` those of one crate.
 """
 from __future__ import annotations
 
 import argparse
 import pathlib
-import shutil
-import subprocess
 import sys
-import tempfile
 from typing import Iterator
 
 TOP = pathlib.Path(__file__).resolve().parent.parent
-FURTHER = TOP / "tests" / "edits"
 PARTS = ("src", "specs", "proofs")
 
 
@@ -59,15 +53,9 @@ def apply(edit: pathlib.Path, crate: pathlib.Path) -> None:
 
 
 def edits_of(crates: list[str]) -> list[pathlib.Path]:
-    """The edits of some crates, those of the gate and the further ones."""
-    folders = [folder for name in crates for folder in (TOP / "crates" / name / "must-fail", FURTHER / name)]
+    """The edits of some crates."""
+    folders = [TOP / "crates" / name / "must-fail" for name in crates]
     return [edit for folder in folders for edit in sorted(folder.glob("*.edit"))]
-
-
-def crate_of(edit: pathlib.Path) -> pathlib.Path:
-    """The folder of the crate that an edit is of."""
-    name = edit.parent.name if edit.is_relative_to(FURTHER) else edit.parent.parent.name
-    return TOP / "crates" / name
 
 
 def list_edits(crates: list[str]) -> int:
@@ -75,7 +63,7 @@ def list_edits(crates: list[str]) -> int:
     edits, faults = edits_of(crates), 0
     for edit in edits:
         try:
-            apply(edit, crate_of(edit))
+            apply(edit, edit.parent.parent)
         except Fault as fault:
             faults += 1
             print(f"{edit.relative_to(TOP)}: {fault}")
@@ -83,34 +71,18 @@ def list_edits(crates: list[str]) -> int:
     return 1 if faults or not edits else 0
 
 
-def copy_to(folder: pathlib.Path, crates: list[str]) -> None:
-    """Copies what is proved, with the further edits of some crates in place of those of the gate."""
-    for name in ("crates.txt", "HANDLES"):
-        shutil.copy(TOP / name, folder)
-    shutil.copytree(TOP / "crates", folder / "crates", ignore=shutil.ignore_patterns("out", "must-fail"))
-    for name in crates:
-        shutil.copytree(FURTHER / name, folder / "crates" / name / "must-fail")
-
-
-def try_edits(crates: list[str]) -> int:
-    """Has the toolchain try the further edits."""
-    with tempfile.TemporaryDirectory(prefix="edits-") as folder:
-        copy_to(pathlib.Path(folder), crates)
-        return subprocess.run(["rt", "must-fail", *crates], cwd=folder, check=False).returncode
-
-
 def main() -> int:
     """The command."""
-    parser = argparse.ArgumentParser(description="Tries the edits of tests/edits that the check must refuse.")
-    parser.add_argument("--list", action="store_true", help="only test that each edit can be applied")
+    parser = argparse.ArgumentParser(description="Tests that the edits that the check must refuse can be applied.")
+    parser.add_argument("--list", action="store_true", required=True, help="test that each edit can be applied")
     parser.add_argument("crates", metavar="CRATE", nargs="*", help="of these crates alone")
     given = parser.parse_args()
-    known = sorted(it.name for it in (TOP / "crates" if given.list else FURTHER).iterdir())
+    known = sorted(it.name for it in (TOP / "crates").iterdir())
     lost = sorted(set(given.crates) - set(known))
     if lost:
-        print(f"edits.py: there are no edits of {', '.join(lost)}", file=sys.stderr)
+        print(f"edits.py: there is no crate {', '.join(lost)}", file=sys.stderr)
         return 2
-    return (list_edits if given.list else try_edits)(given.crates or known)
+    return list_edits(given.crates or known)
 
 
 if __name__ == "__main__":
