@@ -1,10 +1,12 @@
 #!/usr/bin/env python3
 """Tries the tables of tests/tables against a program: tables.py PROGRAM [SUBJECT..].
 
-Each row is a call over small files, with its status and what it writes, byte for byte. The subjects:
+Each row is a call over small files, with its status and what it writes, byte for byte, or two calls that write
+the same. The subjects:
 
   tokens        texts that have no tokens, and numbers
   grammar       texts that are not in the grammar, and how deep texts may nest
+  readings      texts that are read as others, whose groups are written out
   names         texts that break a rule on names, and how many names there may be
   classes       the bits of classes and of their data members
   stages        which of two faults is told
@@ -29,17 +31,15 @@ HERE = pathlib.Path(__file__).resolve().parent
 sys.dont_write_bytecode = True
 sys.path.insert(0, str(HERE / "tables"))
 
-from rows import fault  # noqa: E402
-
 SUBJECTS = (
-    "tokens grammar names classes stages typing_rules codes code_files stack_codes number_ends arithmetic worlds "
-    "reports calls"
+    "tokens grammar readings names classes stages typing_rules codes code_files stack_codes number_ends arithmetic "
+    "worlds reports calls"
 ).split()
 
 
 def run(program: str, subject: str) -> int:
     """Tries the rows of a subject, and says how many failed."""
-    faults = [fault(program, row) for row in importlib.import_module(subject).rows()]
+    faults = [row.fault(program) for row in importlib.import_module(subject).rows()]
     found = [it for it in faults if it is not None]
     print(*found, f"{subject}: {len(faults) - len(found)} passed, {len(found)} failed", sep="\n")
     return len(found)

@@ -1,4 +1,4 @@
-"""A row of a table: a call of the program over files, with its status and what it writes."""
+"""Rows of tables: a call of the program over files with its status and what it writes, or two calls that are compared."""
 from __future__ import annotations
 
 import dataclasses
@@ -69,6 +69,32 @@ class Row:
     status: int
     output: File
 
+    def fault(self, program: str) -> Optional[str]:
+        """What is wrong with the row, or None."""
+        wanted = self.status, bytes_of(self.output)
+        found = called(program, self.words, self.files)
+        if found == wanted:
+            return None
+        last = bytes_of(self.files.get(self.words.split(" ")[-1], b""))
+        return f"{self.words}: {last[-100:]!r}: {shown(found)}, not {shown(wanted)}"
+
+
+@dataclasses.dataclass(frozen=True)
+class Pair:
+    """A call over two texts in turn, which ends well both times, and whether it then writes the same."""
+
+    verb: str
+    texts: tuple[str, str]
+    alike: bool
+
+    def fault(self, program: str) -> Optional[str]:
+        """What is wrong with the pair, or None."""
+        one, other = [called(program, f"{self.verb} a", {"a": text}) for text in self.texts]
+        if one[0] == other[0] == 0 and (one == other) == self.alike:
+            return None
+        wanted = "the same" if self.alike else "not the same"
+        return f"{self.verb}: {self.texts[0]!r}: {shown(one)}; {self.texts[1]!r}: {shown(other)}; {wanted} is wanted"
+
 
 def written(words: str, files: Mapping[str, File], output: File) -> Row:
     """A call that ends well."""
@@ -86,21 +112,23 @@ def bytes_of(file: File) -> bytes:
     return file if isinstance(file, bytes) else file.encode()
 
 
-def fault(program: str, row: Row) -> Optional[str]:
-    """What is wrong with a row, or None."""
+def called(program: str, words: str, files: Mapping[str, File]) -> tuple[int, bytes]:
+    """The status of a call over these files, and what it writes."""
     with tempfile.TemporaryDirectory() as folder:
-        for name, content in row.files.items():
+        for name, content in files.items():
             (pathlib.Path(folder) / name).write_bytes(bytes_of(content))
         done = subprocess.run(
-            [program, *row.words.split(" ")],
+            [program, *words.split(" ")],
             cwd=folder,
             stdin=subprocess.DEVNULL,
             capture_output=True,
             timeout=60,
             check=False,
         )
-    if (done.returncode, done.stdout) == (row.status, bytes_of(row.output)):
-        return None
-    last = bytes_of(row.files.get(row.words.split(" ")[-1], b""))
-    found = f"status {done.returncode}, {done.stdout[:100]!r}"
-    return f"{row.words}: {last[-100:]!r}: {found}, not {row.status}, {bytes_of(row.output)[:100]!r}"
+    return done.returncode, done.stdout
+
+
+def shown(ending: tuple[int, bytes]) -> str:
+    """A status with the front of an output, to be read."""
+    status, output = ending
+    return f"status {status}, {output[:100]!r}"
