@@ -1,5 +1,5 @@
 -- The sites of a window row by row, as runs of places of an area.
-use Rattle.std.proofs.Common.{◌≡◌, ℕ, ◌+◌, ◌-◌, ◌*◌, ◌/◌, ◌%◌, ◌<◌, ◌≤◌, Bool, true, false, List, length, refl, sym, ap, ◌∙◌, subst, arith, ◌⊎◌, inl, inr, ⊎_elim, Option, Some, None}
+use Rattle.std.proofs.Common.{◌≡◌, ℕ, ◌+◌, ◌-◌, ◌*◌, ◌/◌, ◌%◌, ◌<◌, ◌≤◌, Bool, true, false, List, length, refl, sym, ap, ◌∙◌, subst, arith, ◌⊎◌, inl, inr, ⊎_elim, Option, Some, None, zero, suc, replicate}
 use Rattle.std.specs.Prelude.{ℤ, slice_get, slice_index_or, if◌then◌else◌}
 use Rattle.std.specs.Int.{bit_at}
 use Rattle.std.proofs.lemmas.Nat.Bits.{bit_at-zero}
@@ -60,6 +60,11 @@ pub record RowsSet (a : Area) (c : Site) (j : ℕ) (masks : List ℕ) : Type 0 w
   pub count : length masks ≡ 9
   pub set : (k u v : ℕ) → IsNear a c k u v → v + 4 < c.y + j → bit_in masks k ≡ 1
   pub only : (k : ℕ) → bit_in masks k ≡ 1 → (u : ℕ) × (v : ℕ) × IsNear a c k u v
+
+pub no_bits : (n k z : ℕ) → z ≡ 0 → slice_index_or (replicate n z) k 0 ≡ 0
+no_bits zero k z is = refl
+no_bits (suc n) zero z is = is
+no_bits (suc n) (suc k) z is = no_bits n k z is
 
 pub rows_begin : (a : Area) (c : Site) (masks : List ℕ) → length masks ≡ 9 → ((k : ℕ) → slice_index_or masks k 0 ≡ 0) → RowsSet a c 0 masks
 rows_begin a c masks count none = record {

@@ -256,17 +256,16 @@ impl Cache {
     }
 
     /// The cell of site `n` of the window at a centre.
-    fn cell_around(&self, map: &Map, x: u32, y: u32, n: u8, whole: bool) -> Cell
+    fn cell_around(&self, map: &Map, x: u32, y: u32, n: u8) -> Cell
         requires map { map.now ≡ self.now.map }
         requires valid { IsMap map.now }
         requires holds { HoldsWindow self.now.map self.now.tile (site x y) }
         requires n { n ≤ 40 }
         requires x { x < map.now.tx * map.now.w }
         requires y { y < map.now.ty * map.now.h }
-        requires whole { IsTrue whole → IsWhole map.now (site x y) }
         ensures { result ≡ window_cells self.now (site x y) n }
     {
-        match site_at(map, x, y, n, whole) {
+        match site_at(map, x, y, n) {
             Some((u, v)) => self.cells.get(self.index(u, v)),
             None => Cell::new(0, Atom::new(0, 0)),
         }
@@ -282,7 +281,7 @@ impl Cache {
         ensures { Marked (site x y) window.now stamp self.old self.new }
     {
         for n in 0..41u8 {
-            self.put_around(map, x, y, n, false, Cell::new(stamp, window.get(n)));
+            self.put_around(map, x, y, n, Cell::new(stamp, window.get(n)));
         }
     }
 
@@ -296,23 +295,22 @@ impl Cache {
         ensures { Stamped (site x y) stamp self.old self.new }
     {
         for n in 0..41u8 {
-            let cell = self.cell_around(map, x, y, n, false);
-            self.put_around(map, x, y, n, false, Cell::new(stamp, cell.atom()));
+            let cell = self.cell_around(map, x, y, n);
+            self.put_around(map, x, y, n, Cell::new(stamp, cell.atom()));
         }
     }
 
     /// Gives site `n` of the window at a centre a cell, if the site is live.
-    fn put_around(&mut self, map: &Map, x: u32, y: u32, n: u8, whole: bool, cell: Cell)
+    fn put_around(&mut self, map: &Map, x: u32, y: u32, n: u8, cell: Cell)
         requires map { map.now ≡ self.old.map }
         requires valid { IsMap map.now }
         requires holds { HoldsWindow self.old.map self.old.tile (site x y) }
         requires n { n ≤ 40 }
         requires x { x < map.now.tx * map.now.w }
         requires y { y < map.now.ty * map.now.h }
-        requires whole { IsTrue whole → IsWhole map.now (site x y) }
         ensures { PutsFor (window_site self.old.map (site x y) n) cell self.old self.new }
     {
-        if let Some((u, v)) = site_at(map, x, y, n, whole) {
+        if let Some((u, v)) = site_at(map, x, y, n) {
             self.put(u, v, cell);
         }
     }

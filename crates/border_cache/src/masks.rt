@@ -45,7 +45,7 @@ fn ones(count: u32) -> u64
 
 // Sets the bits of the places from `start` up to `end` and without it. So few lie in one word, or
 // in one and the next.
-fn set_run(masks: &mut [u64], start: u32, end: u32)
+pub(crate) fn set_run(masks: &mut [u64], start: u32, end: u32)
     requires count { length masks.old ≡ 9 }
     requires some { start < end }
     requires short { end ≤ start + 9 }

@@ -9,14 +9,16 @@ ghost use Rattle.tile_map.specs.Tables.{IsSharedArea};
 ghost use Rattle.edge_lock.specs.EndLists.{IsHeld};
 ghost use Rattle.edge_lock.specs.EndValues.{SameEnd};
 ghost use Rattle.border_cache.specs.Accesses.{AddsSome};
+ghost use Rattle.border_cache.specs.News.{AreMasks};
 ghost use Rattle.border_cache.specs.Published.{IsPublish};
-ghost use Rattle.border_cache.specs.Windows.{border_at, sites_on, IsEdgeFor};
+ghost use Rattle.border_cache.specs.Windows.{border_at, place_in, sites_on, IsEdgeFor, SetsRow};
 ghost use Rattle.border_cache.specs.Copies.{HoldsWindow, Published, window_cells};
 ghost use Rattle.border_cache.specs.Shared.{IsSharedRun, PutsRow, PutsRun, PutsSite, PutsWindow};
 
 use crate::cache::Cache;
+use crate::masks::set_run;
 use crate::news::{put_bits, put_cell};
-use crate::places::{end_of, masks_of, place_in, site_at};
+use crate::places::{end_of, masks_by_site, place_in, site_at};
 use crate::row_runs::{Run, run_of};
 use edge_lock::Board;
 use tile_map::{Area, Map, Needs};
@@ -38,7 +40,8 @@ fn put_run<D: Board>(cache: &Cache, run: Run, edge: u32, sites: u32, board: &mut
     }
 }
 
-// Writes the cells of row `j` of a window to an edge whose shared sites are an area.
+// Writes the cells of row `j` of a window to an edge whose shared sites are an area, and sets the
+// bits of their places.
 fn put_row<D: Board>(
     cache: &Cache,
     area: Area,
@@ -47,6 +50,7 @@ fn put_row<D: Board>(
     j: u32,
     edge: u32,
     sites: u32,
+    masks: &mut [u64],
     board: &mut D,
 )
     requires valid { IsMap cache.now.map }
@@ -55,20 +59,24 @@ fn put_row<D: Board>(
     requires x { x < 512 }
     requires y { y < 512 }
     requires j { j < 9 }
+    requires count { length masks.old ≡ 9 }
     requires sites { sites ≡ sites_on cache.now.map edge }
     requires few { sites ≤ 576 }
     requires registers { (D.end board.old).registers edge ≡ registers_of sites }
     requires held { IsHeld ((D.end board.old).lists edge) }
+    ensures marks { SetsRow area (site x y) j masks.old masks.new }
     ensures put { AddsSome edge (PutsRow cache.now (site x y) area j edge) (D.end board.old) (D.end board.new) }
     ensures same { SameEnd (D.end board.old) (D.end board.new) }
     ensures moved { D.moved board.old board.new }
 {
     if let Some(run) = run_of(area, x, y, j) {
         put_run(cache, run, edge, sites, board);
+        set_run(masks, run.start, run.start + (run.east - run.west));
     }
 }
 
-// Writes the cells of a window to an edge whose shared sites are an area, row by row.
+// Writes the cells of a window to an edge whose shared sites are an area, row by row, and gives the
+// bits of their places.
 fn put_rows<D: Board>(
     cache: &Cache,
     area: Area,
@@ -77,7 +85,7 @@ fn put_rows<D: Board>(
     edge: u32,
     sites: u32,
     board: &mut D,
-)
+) -> [u64; 9]
     requires valid { IsMap cache.now.map }
     requires holds { HoldsWindow cache.now.map cache.now.tile (site x y) }
     requires area { IsSharedArea cache.now.map edge (Some area) }
@@ -87,13 +95,17 @@ fn put_rows<D: Board>(
     requires few { sites ≤ 576 }
     requires registers { (D.end board.old).registers edge ≡ registers_of sites }
     requires held { IsHeld ((D.end board.old).lists edge) }
+    ensures masks { AreMasks (place_in cache.now.map (site x y) edge) 41 result }
+    ensures count { length result ≡ 9 }
     ensures put { AddsSome edge (PutsWindow cache.now (site x y) edge) (D.end board.old) (D.end board.new) }
     ensures same { SameEnd (D.end board.old) (D.end board.new) }
     ensures moved { D.moved board.old board.new }
 {
+    let mut masks = [0; 9];
     for j in 0..9u32 {
-        put_row(cache, area, x, y, j, edge, sites, board);
+        put_row(cache, area, x, y, j, edge, sites, &mut masks, board);
     }
+    masks
 }
 
 // Writes the cell of site `n` of a window to an edge, if the edge shares the site.
@@ -123,7 +135,7 @@ fn put_site<D: Board>(
     ensures moved { D.moved board.old board.new }
 {
     if let Some(place) = place_in(map, edge, x, y, n) {
-        if let Some((u, v)) = site_at(map, x, y, n, false) {
+        if let Some((u, v)) = site_at(map, x, y, n) {
             put_cell(board, edge, sites, place, cache.at(u, v));
         }
     }
@@ -158,7 +170,7 @@ fn put_sites<D: Board>(
     }
 }
 
-// Writes the cells of a window to an edge.
+// Writes the cells of a window to an edge, and gives the bits of their places.
 fn put_window<D: Board>(
     cache: &Cache,
     map: &Map,
@@ -167,7 +179,7 @@ fn put_window<D: Board>(
     edge: u32,
     sites: u32,
     board: &mut D,
-)
+) -> [u64; 9]
     requires map { map.now ≡ cache.now.map }
     requires valid { IsMap map.now }
     requires holds { HoldsWindow cache.now.map cache.now.tile (site x y) }
@@ -178,6 +190,8 @@ fn put_window<D: Board>(
     requires few { sites ≤ 576 }
     requires registers { (D.end board.old).registers edge ≡ registers_of sites }
     requires held { IsHeld ((D.end board.old).lists edge) }
+    ensures masks { AreMasks (place_in map.now (site x y) edge) 41 result }
+    ensures count { length result ≡ 9 }
     ensures put { AddsSome edge (PutsWindow cache.now (site x y) edge) (D.end board.old) (D.end board.new) }
     ensures same { SameEnd (D.end board.old) (D.end board.new) }
     ensures moved { D.moved board.old board.new }
@@ -185,7 +199,10 @@ fn put_window<D: Board>(
     map.laws();
     match map.whole_area(edge) {
         Some(area) => put_rows(cache, area, x, y, edge, sites, board),
-        None => put_sites(cache, map, x, y, edge, sites, board),
+        None => {
+            put_sites(cache, map, x, y, edge, sites, board);
+            masks_by_site(map, edge, x, y)
+        }
     }
 }
 
@@ -206,8 +223,7 @@ fn publish_on<D: Board>(cache: &Cache, map: &Map, x: u32, y: u32, edge: u32, boa
     map.laws();
     let sites = map.shared(edge);
     let end = end_of(map, cache.tile(), edge);
-    let masks = masks_of(map, edge, x, y);
-    put_window(cache, map, x, y, edge, sites, board);
+    let masks = put_window(cache, map, x, y, edge, sites, board);
     put_bits(board, edge, sites, end, &masks, false);
     put_bits(board, edge, sites, 1 - end, &masks, true);
 }

@@ -169,7 +169,7 @@ fn refresh_site<D: Board>(
     ensures moved { D.moved board.old board.new }
 {
     if let Some(place) = place_in(map, edge, x, y, n) {
-        if let Some((u, v)) = site_at(map, x, y, n, false) {
+        if let Some((u, v)) = site_at(map, x, y, n) {
             refresh_place(cache, u, v, place, edge, sites, news, board);
         }
     }

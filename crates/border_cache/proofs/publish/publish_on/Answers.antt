@@ -14,23 +14,23 @@ use Rattle.border_cache.proofs.publish.publish_on.Goals as goal
 
 pub put_bits-requires-clause-held : goal.put_bits-requires-clause-held
 put_bits-requires-clause-held g c =
-    let p = c.put_window.ensures.put in
-    held_adds (g.D.Board.end c.args.board.now).lists (g.D.Board.end c.put_window.new.board).lists c.args.edge p.0 c.requires.held p.1
+    let p = c.put_window-masks.ensures.put in
+    held_adds (g.D.Board.end c.args.board.now).lists (g.D.Board.end c.put_window-masks.new.board).lists c.args.edge p.0 c.requires.held p.1
 
 pub put_bits-requires-2-clause-held : goal.put_bits-requires-2-clause-held
 put_bits-requires-2-clause-held g c =
-    let p = c.put_window.ensures.put in
+    let p = c.put_window-masks.ensures.put in
     let q = c.put_bits.ensures.put in
-    let here = held_adds (g.D.Board.end c.args.board.now).lists (g.D.Board.end c.put_window.new.board).lists c.args.edge p.0 c.requires.held p.1 in
-    held_adds (g.D.Board.end c.put_window.new.board).lists (g.D.Board.end c.put_bits.new.board).lists c.args.edge q.0 here q.1
+    let here = held_adds (g.D.Board.end c.args.board.now).lists (g.D.Board.end c.put_window-masks.new.board).lists c.args.edge p.0 c.requires.held p.1 in
+    held_adds (g.D.Board.end c.put_window-masks.new.board).lists (g.D.Board.end c.put_bits.new.board).lists c.args.edge q.0 here q.1
 
 pub returns-clause-published : goal.returns-clause-published
 returns-clause-published g c =
-    let p = c.put_window.ensures.put in
+    let p = c.put_window-masks.ensures.put in
     let q = c.put_bits.ensures.put in
     let r = c.put_bits-2.ensures.put in
     let a = (g.D.Board.end c.args.board.now).lists in
-    let b = (g.D.Board.end c.put_window.new.board).lists in
+    let b = (g.D.Board.end c.put_window-masks.new.board).lists in
     let d = (g.D.Board.end c.put_bits.new.board).lists in
     let f = (g.D.Board.end c.put_bits-2.new.board).lists in
     let e = c.args.edge in
@@ -38,7 +38,7 @@ returns-clause-published g c =
     let s = site c.args.x c.args.y in
     let plane = subst IsPlane c.requires.map c.laws.ensures.plane in
     let places = place_in v.map s e in
-    let masks : AreMasks places 41 c.masks_of-masks.result = subst (λ m. AreMasks (place_in m s e) 41 c.masks_of-masks.result) c.requires.map c.masks_of-masks.ensures.masks in
+    let masks : AreMasks places 41 c.put_window-masks.result = subst (λ m. AreMasks (place_in m s e) 41 c.put_window-masks.result) c.requires.map c.put_window-masks.ensures.masks in
     let count : c.shared-sites.result ≡ sites_on v.map e = subst (λ m. c.shared-sites.result ≡ sites_on m e) c.requires.map c.shared-sites.ensures.count in
     let low : (k : ℕ) → Covers places 41 k → k < c.shared-sites.result = λ k cov. subst (λ n. k < n) (sym count) (covered_few v.map plane s e k cov) in
     let end : c.end_of-end.result ≡ end_at v.map v.tile e = subst (λ m. c.end_of-end.result ≡ end_at m v.tile e) c.requires.map (subst (λ t. c.end_of-end.result ≡ end_at c.args.map.now t e) c.tile.ensures c.end_of-end.ensures.end) in
