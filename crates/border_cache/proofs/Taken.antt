@@ -16,10 +16,10 @@ use Rattle.tile_map.specs.Laws.{IsPlane}
 use Rattle.tile_map.proofs.Registers.{number_place}
 use Rattle.border_cache.specs.Accesses.{Adds}
 use Rattle.border_cache.specs.Cells.{CellValue, cell_of, newer}
-use Rattle.border_cache.specs.News.{Border, Covers, FindsCell, IsAsked, IsNewsRead, IsOfCell, IsRefresh, NewsIn, bit_in, cell_in, found_cell, is_news, read_cell, word_of}
+use Rattle.border_cache.specs.News.{Border, Covers, FindsCell, IsAsked, IsNewsRead, IsOfCell, IsRefresh, NewsIn, bit_in, cell_in, found_cell, is_news, read_cell, word_of, IsSiteRead}
 use Rattle.border_cache.specs.Windows.{border_at, edge_place, edge_place_some, place_in}
 use Rattle.border_cache.specs.Copies.{CacheValue, HoldsWindow, Refreshes, Stores, cell_for, copy_at, held_cell, window_cells}
-use Rattle.border_cache.specs.Shared.{IsInWindowOf, ReadsPlace, Renews, TakesAt, TakesWindow}
+use Rattle.border_cache.specs.Shared.{IsInWindowOf, Renews, TakesAt}
 use Rattle.border_cache.proofs.Found.{found_new, silent_both}
 use Rattle.border_cache.proofs.Covered.{covered_in, covered_few}
 use Rattle.border_cache.proofs.Refreshes.{news_same}
@@ -107,12 +107,18 @@ module _ (e k : ℕ) (s : Site) (old new : CacheValue) (low high : ℕ) (own : e
     cells = λ u held. at_site u held (edge_place old.map e u) refl;
   }
 
+-- the site was given the newer of its own cell and another, if there is one
+abbrev pub RenewsSome : Site → Option CellValue → CacheValue → CacheValue → Type 0
+RenewsSome s None old new = new ≡ old
+RenewsSome s (Some cell) old new = Renews s cell old new
+
 -- the same, if its bit is set
-pub takes_place : (e k : ℕ) (s : Site) (news : List ℕ) (old new : CacheValue) (xs : List Access) → edge_place old.map e s ≡ Some k → ReadsPlace k s news old new xs → TakesAt e (NewsIn news (λ j. j ≡ k)) old new xs
-takes_place e k s news old new xs own (None, read, same) =
+pub takes_place : (e k : ℕ) (s : Site) (news : List ℕ) (old new : CacheValue) (xs : List Access) → (found : Option CellValue) → edge_place old.map e s ≡ Some k → IsSiteRead k (bit_in news k) found xs → RenewsSome s found old new
+    → TakesAt e (NewsIn news (λ j. j ≡ k)) old new xs
+takes_place e k s news old new xs None own read same =
     let p : ℕ → Type 0 = NewsIn news (λ j. j ≡ k) in
     subst (TakesAt e p old new) (sym read.0) (subst (λ v. TakesAt e p old v []) (sym same) (takes_none e p old (λ j h. let one = ap (bit_in news) (sym h.0) ∙ h.1 in omega (arith, one, read.1))))
-takes_place e k s news old new xs own (Some cell, (low, high, is, set, says), renews) =
+takes_place e k s news old new xs (Some cell) own (low, high, is, set, says) renews =
     let p : ℕ → Type 0 = NewsIn news (λ j. j ≡ k) in
     subst (TakesAt e p old new) (sym is)
     (takes_same e (λ j. j ≡ k) p old new (Read (1 + 2 * k) low ∷ Read (2 + 2 * k) high ∷ []) (λ j h. (h, ap (bit_in news) h ∙ set)) (λ j h. h.0)
@@ -181,7 +187,7 @@ takes_news e news p q both a b c xs ys s t apart to from =
 
 -- all that a refresh does on an edge: the news words are read, then the cells that are news
 module _ (c : Site) (e : ℕ) (news : List ℕ) (old new : CacheValue) (xs ys : List Access) (plane : IsPlane old.map) (holds : HoldsWindow old.map old.tile c)
-    (r : IsNewsRead (border_at old.map old.tile c e) news xs) (t : TakesWindow e c news old new ys) where
+    (r : IsNewsRead (border_at old.map old.tile c e) news xs) (t : TakesAt e (NewsIn news (IsInWindowOf old.map c e)) old new ys) where
   abbrev b : Border
   b = border_at old.map old.tile c e
 
@@ -242,7 +248,7 @@ module _ (c : Site) (e : ℕ) (news : List ℕ) (old new : CacheValue) (xs ys : 
   untaken s out (Some k) is =
       let none : found_value ys (1 + 2 * k) ≡ None = none_or (found_value ys (1 + 2 * k)) (λ v at.
       let o = t.only (1 + 2 * k) v at in
-      let cov = subst (IsInWindowOf old c e) (of_one o.0 k (1 + 2 * k) o.2 (inl refl)) o.1.0 in
+      let cov = subst (IsInWindowOf old.map c e) (of_one o.0 k (1 + 2 * k) o.2 (inl refl)) o.1.0 in
       let w = covered_in old.map plane c e k cov in
       let one : Some w.0 ≡ Some s = sym w.1 ∙ (number_place (shared_of old.map e) s k is).1 in
       true≢false (sym w.2 ∙ (ap (λ u. in_window old.map c (or_own s u)) one ∙ out))) in

@@ -10,10 +10,10 @@ ghost use Rattle.edge_lock.specs.EndLists.{IsHeld};
 ghost use Rattle.edge_lock.specs.EndValues.{SameEnd};
 ghost use Rattle.border_cache.specs.Accesses.{AddsSome};
 ghost use Rattle.border_cache.specs.News.{AreMasks};
-ghost use Rattle.border_cache.specs.Published.{IsPublish};
+ghost use Rattle.border_cache.specs.Published.{IsPublish, PutsAt};
 ghost use Rattle.border_cache.specs.Windows.{border_at, place_in, sites_on, IsEdgeFor, SetsRow};
 ghost use Rattle.border_cache.specs.Copies.{HoldsWindow, Published, window_cells};
-ghost use Rattle.border_cache.specs.Shared.{IsSharedRun, PutsRow, PutsRun, PutsSite, PutsWindow};
+ghost use Rattle.border_cache.specs.Shared.{IsInRow, IsInRun, IsInWindowOf, IsPlaceOf, IsSharedRun, shared_cell};
 
 use crate::cache::Cache;
 use crate::masks::set_run;
@@ -30,7 +30,7 @@ fn put_run<D: Board>(cache: &Cache, run: Run, edge: u32, sites: u32, board: &mut
     requires few { sites ≤ 576 }
     requires registers { (D.end board.old).registers edge ≡ registers_of sites }
     requires held { IsHeld ((D.end board.old).lists edge) }
-    ensures put { AddsSome edge (PutsRun cache.now edge run) (D.end board.old) (D.end board.new) }
+    ensures put { AddsSome edge (PutsAt (IsInRun run run.east) (shared_cell cache.now edge)) (D.end board.old) (D.end board.new) }
     ensures same { SameEnd (D.end board.old) (D.end board.new) }
     ensures moved { D.moved board.old board.new }
 {
@@ -65,7 +65,7 @@ fn put_row<D: Board>(
     requires registers { (D.end board.old).registers edge ≡ registers_of sites }
     requires held { IsHeld ((D.end board.old).lists edge) }
     ensures marks { SetsRow area (site x y) j masks.old masks.new }
-    ensures put { AddsSome edge (PutsRow cache.now (site x y) area j edge) (D.end board.old) (D.end board.new) }
+    ensures put { AddsSome edge (PutsAt (IsInRow area (site x y) j) (shared_cell cache.now edge)) (D.end board.old) (D.end board.new) }
     ensures same { SameEnd (D.end board.old) (D.end board.new) }
     ensures moved { D.moved board.old board.new }
 {
@@ -97,7 +97,7 @@ fn put_rows<D: Board>(
     requires held { IsHeld ((D.end board.old).lists edge) }
     ensures masks { AreMasks (place_in cache.now.map (site x y) edge) 41 result }
     ensures count { length result ≡ 9 }
-    ensures put { AddsSome edge (PutsWindow cache.now (site x y) edge) (D.end board.old) (D.end board.new) }
+    ensures put { AddsSome edge (PutsAt (IsInWindowOf cache.now.map (site x y) edge) (shared_cell cache.now edge)) (D.end board.old) (D.end board.new) }
     ensures same { SameEnd (D.end board.old) (D.end board.new) }
     ensures moved { D.moved board.old board.new }
 {
@@ -130,7 +130,7 @@ fn put_site<D: Board>(
     requires few { sites ≤ 576 }
     requires registers { (D.end board.old).registers edge ≡ registers_of sites }
     requires held { IsHeld ((D.end board.old).lists edge) }
-    ensures put { AddsSome edge (PutsSite cache.now (site x y) edge n) (D.end board.old) (D.end board.new) }
+    ensures put { AddsSome edge (PutsAt (IsPlaceOf cache.now.map (site x y) edge n) (shared_cell cache.now edge)) (D.end board.old) (D.end board.new) }
     ensures same { SameEnd (D.end board.old) (D.end board.new) }
     ensures moved { D.moved board.old board.new }
 {
@@ -161,7 +161,7 @@ fn put_sites<D: Board>(
     requires few { sites ≤ 576 }
     requires registers { (D.end board.old).registers edge ≡ registers_of sites }
     requires held { IsHeld ((D.end board.old).lists edge) }
-    ensures put { AddsSome edge (PutsWindow cache.now (site x y) edge) (D.end board.old) (D.end board.new) }
+    ensures put { AddsSome edge (PutsAt (IsInWindowOf cache.now.map (site x y) edge) (shared_cell cache.now edge)) (D.end board.old) (D.end board.new) }
     ensures same { SameEnd (D.end board.old) (D.end board.new) }
     ensures moved { D.moved board.old board.new }
 {
@@ -192,7 +192,7 @@ fn put_window<D: Board>(
     requires held { IsHeld ((D.end board.old).lists edge) }
     ensures masks { AreMasks (place_in map.now (site x y) edge) 41 result }
     ensures count { length result ≡ 9 }
-    ensures put { AddsSome edge (PutsWindow cache.now (site x y) edge) (D.end board.old) (D.end board.new) }
+    ensures put { AddsSome edge (PutsAt (IsInWindowOf cache.now.map (site x y) edge) (shared_cell cache.now edge)) (D.end board.old) (D.end board.new) }
     ensures same { SameEnd (D.end board.old) (D.end board.new) }
     ensures moved { D.moved board.old board.new }
 {

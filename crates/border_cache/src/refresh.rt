@@ -10,9 +10,10 @@ ghost use Rattle.tile_map.specs.Tables.{IsSharedArea};
 ghost use Rattle.edge_lock.specs.EndLists.{IsHeld};
 ghost use Rattle.edge_lock.specs.EndValues.{SameEnd};
 ghost use Rattle.border_cache.specs.Accesses.{AddsSome};
-ghost use Rattle.border_cache.specs.Windows.{sites_on, IsEdgeFor};
+ghost use Rattle.border_cache.specs.Windows.{edge_place, sites_on, IsEdgeFor};
 ghost use Rattle.border_cache.specs.Copies.{HoldsWindow, Refreshed, Refreshes, at};
-ghost use Rattle.border_cache.specs.Shared.{IsSharedRun, ReadsPlace, TakesRow, TakesRun, TakesSite, TakesWindow};
+ghost use Rattle.border_cache.specs.News.{NewsIn};
+ghost use Rattle.border_cache.specs.Shared.{IsInRow, IsInRun, IsInWindowOf, IsPlaceOf, IsSharedRun, TakesAt};
 
 use crate::cache::Cache;
 use crate::masks::are_clear;
@@ -34,12 +35,13 @@ fn refresh_place<D: Board>(
     board: &mut D,
 )
     requires owned { IsTrue (is_held cache.old.map cache.old.tile (site x y)) }
+    requires shared { edge_place cache.old.map edge (site x y) ≡ Some place }
     requires place { place < sites }
     requires few { sites ≤ 576 }
     requires count { length news.now ≡ 9 }
     requires registers { (D.end board.old).registers edge ≡ registers_of sites }
     requires held { IsHeld ((D.end board.old).lists edge) }
-    ensures read { AddsSome edge (ReadsPlace place (site x y) news.now cache.old cache.new) (D.end board.old) (D.end board.new) }
+    ensures read { AddsSome edge (TakesAt edge (NewsIn news.now (λ k. k ≡ place)) cache.old cache.new) (D.end board.old) (D.end board.new) }
     ensures same { SameEnd (D.end board.old) (D.end board.new) }
     ensures moved { D.moved board.old board.new }
 {
@@ -65,7 +67,7 @@ fn refresh_run<D: Board>(
     requires count { length news.now ≡ 9 }
     requires registers { (D.end board.old).registers edge ≡ registers_of sites }
     requires held { IsHeld ((D.end board.old).lists edge) }
-    ensures read { AddsSome edge (TakesRun edge run news.now cache.old cache.new) (D.end board.old) (D.end board.new) }
+    ensures read { AddsSome edge (TakesAt edge (NewsIn news.now (IsInRun run run.east)) cache.old cache.new) (D.end board.old) (D.end board.new) }
     ensures same { SameEnd (D.end board.old) (D.end board.new) }
     ensures moved { D.moved board.old board.new }
 {
@@ -100,7 +102,7 @@ fn refresh_row<D: Board>(
     requires count { length news.now ≡ 9 }
     requires registers { (D.end board.old).registers edge ≡ registers_of sites }
     requires held { IsHeld ((D.end board.old).lists edge) }
-    ensures read { AddsSome edge (TakesRow edge (site x y) area j news.now cache.old cache.new) (D.end board.old) (D.end board.new) }
+    ensures read { AddsSome edge (TakesAt edge (NewsIn news.now (IsInRow area (site x y) j)) cache.old cache.new) (D.end board.old) (D.end board.new) }
     ensures same { SameEnd (D.end board.old) (D.end board.new) }
     ensures moved { D.moved board.old board.new }
 {
@@ -131,7 +133,7 @@ fn refresh_rows<D: Board>(
     requires count { length news.now ≡ 9 }
     requires registers { (D.end board.old).registers edge ≡ registers_of sites }
     requires held { IsHeld ((D.end board.old).lists edge) }
-    ensures read { AddsSome edge (TakesWindow edge (site x y) news.now cache.old cache.new) (D.end board.old) (D.end board.new) }
+    ensures read { AddsSome edge (TakesAt edge (NewsIn news.now (IsInWindowOf cache.old.map (site x y) edge)) cache.old cache.new) (D.end board.old) (D.end board.new) }
     ensures same { SameEnd (D.end board.old) (D.end board.new) }
     ensures moved { D.moved board.old board.new }
 {
@@ -164,7 +166,7 @@ fn refresh_site<D: Board>(
     requires count { length news.now ≡ 9 }
     requires registers { (D.end board.old).registers edge ≡ registers_of sites }
     requires held { IsHeld ((D.end board.old).lists edge) }
-    ensures read { AddsSome edge (TakesSite edge (site x y) n news.now cache.old cache.new) (D.end board.old) (D.end board.new) }
+    ensures read { AddsSome edge (TakesAt edge (NewsIn news.now (IsPlaceOf cache.old.map (site x y) edge n)) cache.old cache.new) (D.end board.old) (D.end board.new) }
     ensures same { SameEnd (D.end board.old) (D.end board.new) }
     ensures moved { D.moved board.old board.new }
 {
@@ -198,7 +200,7 @@ fn refresh_sites<D: Board>(
     requires count { length news.now ≡ 9 }
     requires registers { (D.end board.old).registers edge ≡ registers_of sites }
     requires held { IsHeld ((D.end board.old).lists edge) }
-    ensures read { AddsSome edge (TakesWindow edge (site x y) news.now cache.old cache.new) (D.end board.old) (D.end board.new) }
+    ensures read { AddsSome edge (TakesAt edge (NewsIn news.now (IsInWindowOf cache.old.map (site x y) edge)) cache.old cache.new) (D.end board.old) (D.end board.new) }
     ensures same { SameEnd (D.end board.old) (D.end board.new) }
     ensures moved { D.moved board.old board.new }
 {
@@ -229,7 +231,7 @@ fn take_news<D: Board>(
     requires count { length news.now ≡ 9 }
     requires registers { (D.end board.old).registers edge ≡ registers_of sites }
     requires held { IsHeld ((D.end board.old).lists edge) }
-    ensures read { AddsSome edge (TakesWindow edge (site x y) news.now cache.old cache.new) (D.end board.old) (D.end board.new) }
+    ensures read { AddsSome edge (TakesAt edge (NewsIn news.now (IsInWindowOf cache.old.map (site x y) edge)) cache.old cache.new) (D.end board.old) (D.end board.new) }
     ensures same { SameEnd (D.end board.old) (D.end board.new) }
     ensures moved { D.moved board.old board.new }
 {

@@ -59,7 +59,7 @@ returns-clause-put g c =
     let j = c.loop-j.j in
     let all : 9 ≤ j = omega (arith, c.loop-j-test.false) in
     let laws = plane v.map c.requires.valid in
-    (p.0, p.1, puts_same (IsAbove a s j) (IsInWindowOf v s c.args.edge) (shared_cell v c.args.edge) p.0 (all_above v laws a s c.args.edge c.requires.area.0 c.requires.holds j) (λ k. above_all v laws a s c.args.edge c.requires.area.0 c.requires.holds j k all) p.2)
+    (p.0, p.1, puts_same (IsAbove a s j) (IsInWindowOf v.map s c.args.edge) (shared_cell v c.args.edge) p.0 (all_above v laws a s c.args.edge c.requires.area.0 c.requires.holds j) (λ k. above_all v laws a s c.args.edge c.requires.area.0 c.requires.holds j k all) p.2)
 
 pub returns-clause-masks : goal.returns-clause-masks
 returns-clause-masks g c =

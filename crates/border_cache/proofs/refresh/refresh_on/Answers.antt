@@ -57,5 +57,5 @@ returns-then-are_clear-clause-refreshes g c =
     let end = subst (λ m. c.end_of-end.result ≡ end_at m v.tile e) c.requires.map (subst (λ t. c.end_of-end.result ≡ end_at c.args.map.now t e) c.tile.ensures c.end_of-end.ensures.end) in
     let read = news_read v s e c.shared-sites.result c.end_of-end.result c.masks_of-masks.result news p.0 plane count end masks p.2 in
     let clear = clear_bits news (sym c.are_clear.ensures ∙ c.if-are_clear.true) in
-    let none = takes_none e (NewsIn news (IsInWindowOf v s e)) v (λ k h. let zero = clear k in omega (arith, zero, h.1)) in
+    let none = takes_none e (NewsIn news (IsInWindowOf v.map s e)) v (λ k h. let zero = clear k in omega (arith, zero, h.1)) in
     refreshes_edge s e news v v p.0 [] plane c.requires.holds read none a b (subst (Adds a b e) (sym (append-nil p.0)) p.1)

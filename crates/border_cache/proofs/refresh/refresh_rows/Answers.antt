@@ -76,4 +76,4 @@ returns-clause-read g c =
     let news = c.args.news.now in
     let all : 9 ≤ j = omega (arith, c.loop-j-test.false) in
     let laws = plane v.map c.requires.valid in
-    (p.0, p.1, takes_same e (NewsIn news (IsAbove a s j)) (NewsIn news (IsInWindowOf v s e)) v c.loop-j.cache p.0 (λ k h. (all_above v laws a s e c.requires.area.0 c.requires.holds j k h.0, h.1)) (λ k h. (above_all v laws a s e c.requires.area.0 c.requires.holds j k all h.0, h.1)) p.2)
+    (p.0, p.1, takes_same e (NewsIn news (IsAbove a s j)) (NewsIn news (IsInWindowOf v.map s e)) v c.loop-j.cache p.0 (λ k h. (all_above v laws a s e c.requires.area.0 c.requires.holds j k h.0, h.1)) (λ k h. (above_all v laws a s e c.requires.area.0 c.requires.holds j k all h.0, h.1)) p.2)

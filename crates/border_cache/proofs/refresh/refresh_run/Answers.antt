@@ -1,4 +1,4 @@
-use Rattle.std.proofs.Common.{rules, arith, ◌≡◌, ◌+◌, ◌-◌, ℕ, Some, [], ◌++◌, ap, subst, ◌∙◌}
+use Rattle.std.proofs.Common.{rules, arith, ◌≡◌, ◌+◌, ◌-◌, ℕ, [], ◌++◌, ap, subst, ◌∙◌}
 use Rattle.tile_map.specs.Plane.{site, is_held}
 use Rattle.tile_map.proofs.PlaneLaws.{plane}
 use Rattle.border_cache.specs.News.{NewsIn}
@@ -6,7 +6,7 @@ use Rattle.border_cache.specs.Shared.{IsInRun, TakesAt}
 use Rattle.border_cache.specs.Windows.{edge_place}
 use Rattle.border_cache.proofs.Runs.{held_adds, adds_none, adds_then}
 use Rattle.border_cache.proofs.Covered.{shared_number}
-use Rattle.border_cache.proofs.Taken.{takes_none, takes_news, takes_place}
+use Rattle.border_cache.proofs.Taken.{takes_none, takes_news}
 use Rattle.border_cache.proofs.SharedRuns.{run_begins, run_or, or_run, run_apart, run_place}
 use Rattle.edge_lock.proofs.BoardLaws.{same_end, same_end_here}
 use Rattle.border_cache.proofs.refresh.refresh_run.Goals as goal
@@ -35,6 +35,15 @@ refresh_place-requires-clause-owned g c =
     let t = c.loop-x.invariant.read.2 in
     (λ i. is_held (t.map i) (t.tile i) (site c.loop-x.x c.args.run.row)) ∙ c.requires.run.held c.loop-x.x c.loop-x.auto.x c.loop-x-test.true
 
+pub refresh_place-requires-clause-shared : goal.refresh_place-requires-clause-shared
+refresh_place-requires-clause-shared g c =
+    let v = c.args.cache.now in
+    let e = c.args.edge in
+    let r = c.args.run in
+    let x = c.loop-x.x in
+    let s = site x r.row in
+    ap (λ m. edge_place m e s) c.loop-x.invariant.read.2.map ∙ shared_number v.map (plane v.map c.requires.valid) e (r.start + (x - r.west)) s c.requires.edge (c.requires.run.shared x c.loop-x.auto.x c.loop-x-test.true)
+
 pub refresh_place-requires-clause-held : goal.refresh_place-requires-clause-held
 refresh_place-requires-clause-held g c =
     let r = c.loop-x.invariant.read in
@@ -53,15 +62,13 @@ loop-x-preserved g c =
     let r = c.args.run in
     let x = c.loop-x.x in
     let k : ℕ = r.start + (x - r.west) in
-    let s = site x r.row in
     let low = c.loop-x.auto.x in
     let news = c.args.news.now in
-    let own : edge_place mid.map e s ≡ Some k = ap (λ m. edge_place m e s) p.2.map ∙ shared_number v.map (plane v.map c.requires.valid) e k s c.requires.edge (c.requires.run.shared x low c.loop-x-test.true) in
     record {
       read = (
         p.0 ++ q.0,
         adds_then (g.D.Board.end c.args.board.now).lists b d e p.0 q.0 c.requires.held p.1 q.1,
-        takes_news e news (IsInRun r x) (λ j. j ≡ k) (IsInRun r (x + 1)) v mid c.refresh_place.new.cache p.0 q.0 p.2 (takes_place e k s news mid c.refresh_place.new.cache q.0 own q.2) (run_apart r x low) (or_run r x low) (run_or r x low),
+        takes_news e news (IsInRun r x) (λ j. j ≡ k) (IsInRun r (x + 1)) v mid c.refresh_place.new.cache p.0 q.0 p.2 q.2 (run_apart r x low) (or_run r x low) (run_or r x low),
       );
       same = same_end (g.D.Board.end c.args.board.now) (g.D.Board.end c.loop-x.board) (g.D.Board.end c.refresh_place.new.board) i.same c.refresh_place.ensures.same;
       moved = search rules;
