@@ -35,15 +35,18 @@ covered_in m p c e k cov = go (window_site m c cov.0) refl cov.2
         let y : q.y ≡ s.y = grind (arith, nat_tests, found.1) in
         (s, slice_get-get_or (shared_of m e) k c found.0 ∙ (λ z. Some (record { x = x z; y = y z })), p.windows.site c s cov.0 (omega (arith, cov.1)) is)
 
-pub in_covered : (m : MapValue) → IsPlane m → (c : Site) (e k : ℕ) → e < length (pairs_of m) → IsInWindow m c e k → Covers (place_in m c e) 41 k
-in_covered m p c e k lt w =
-    let n = p.windows.number c w.0 w.2 in
-    let r : register_of m e w.0 ≡ Some (1 + 2 * k) = p.registers.found e k w.0 lt w.1 in
-    (n.0, omega (arith, n.1), ap (edge_place_some m e) n.2 ∙ go (edge_place m e w.0) r)
+-- the number of a shared site is its place
+pub shared_number : (m : MapValue) → IsPlane m → (e k : ℕ) (s : Site) → e < length (pairs_of m) → slice_get (shared_of m e) k ≡ Some s → edge_place m e s ≡ Some k
+shared_number m p e k s lt at = go (edge_place m e s) (p.registers.found e k s lt at)
   where
     go : (o : Option ℕ) → option_map (λ k. 1 + 2 * k) o ≡ Some (1 + 2 * k) → o ≡ Some k
     go None h = absurd (cc h)
     go (Some j) h = let q : 1 + 2 * j ≡ 1 + 2 * k = ap or_zero h in ap Some (omega (arith, q))
+
+pub in_covered : (m : MapValue) → IsPlane m → (c : Site) (e k : ℕ) → e < length (pairs_of m) → IsInWindow m c e k → Covers (place_in m c e) 41 k
+in_covered m p c e k lt w =
+    let n = p.windows.number c w.0 w.2 in
+    (n.0, omega (arith, n.1), ap (edge_place_some m e) n.2 ∙ shared_number m p e k w.0 lt w.1)
 
 -- a site that an edge shares is live, so that its place needs no other test
 pub shared_place : (m : MapValue) → IsPlane m → (c : Site) (e n u v r : ℕ) → shifted c.x (offset_of n).0 ≡ Some u → shifted c.y (offset_of n).1 ≡ Some v → register_of m e (site u v) ≡ Some r → Some ((r - 1) / 2) ≡ place_in m c e n

@@ -1,14 +1,12 @@
 -- What is found by a run of reads.
 use Rattle.std.proofs.Common.{◌≡◌, ℕ, eqb, Bool, true, false, cond, true≢false, List, [], ◌∷◌, ◌++◌, refl, sym, ap, ◌∙◌, arith, Option, None, Some}
 use Rattle.std.proofs.lemmas.Option.{none-some}
-use Rattle.edge_lock.proofs.HistoryLaws.{found_stays}
 use Rattle.list_laws.specs.Options.{or_zero}
 use Rattle.edge_lock.specs.declared.history.Access.{Access}
 use Rattle.edge_lock.specs.declared.history.Access.TheVariants.{Read, Write}
 use Rattle.edge_lock.specs.History.{found_value}
 use Rattle.edge_lock.specs.EndLists.{last_shown, writes_nothing, Shows}
 use Rattle.border_cache.specs.Accesses.{with_known, IsHonest}
-use Rattle.border_cache.proofs.Runs.{known_after}
 
 -- where reads found nothing, the next ones tell
 new_if : (b : Bool) (x : ℕ) (o p q : Option ℕ) → (o ≡ None → p ≡ q) → cond b (Some x) o ≡ None → cond b (Some x) p ≡ q
@@ -51,11 +49,3 @@ steady (Read at x ∷ xs) known r v w h is s = go (eqb r at) refl is (λ same. s
     go true at_it same f = known_stays xs (with_known known at x) r x w h.1 (ap (λ b. cond b (Some x) (known r)) at_it) ∙ same
     go false at_it same f = f same
 steady (Write at x ∷ xs) known r v w h is s = absurd (true≢false (sym w))
-
--- a read after reads finds what they found, or is the first of its register
-pub found_read : (xs zs : List Access) (known : ℕ → Option ℕ) (r v : ℕ) → writes_nothing xs ≡ true → IsHonest known xs → Shows (known_after known xs r) v → found_value (xs ++ Read r v ∷ zs) r ≡ Some v
-found_read xs zs known r v w h shows = go (found_value xs r) refl
-  where
-    go : (o : Option ℕ) → found_value xs r ≡ o → found_value (xs ++ Read r v ∷ zs) r ≡ Some v
-    go None is = found_new xs (Read r v ∷ zs) r w is ∙ (let e : eqb r r ≡ true = grind arith in ap (λ b. cond b (Some v) (found_value zs r)) e)
-    go (Some u) is = found_stays xs (Read r v ∷ zs) r u is ∙ ap Some (sym (shown_at (known_after known xs r) u v shows (steady xs known r u w h is (known r))))

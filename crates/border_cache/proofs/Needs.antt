@@ -1,17 +1,19 @@
 -- A refresh edge by edge.
 use Rattle.std.proofs.Common.{◌≡◌, ℕ, zero, suc, ◌+◌, ◌-◌, ◌<◌, eqb, Bool, true, false, cond, true≢false, List, [], ◌∷◌, ◌++◌, length, get_or, take, refl, sym, ap, ◌∙◌, subst, arith, Option, Some, None}
-use Rattle.std.specs.Prelude.{if◌then◌else◌, slice_index_or, ◌==◌}
+use Rattle.std.specs.Prelude.{if◌then◌else◌, ◌==◌}
 use Rattle.std.specs.List.Sorted.{IsStrictlyIncreasing}
 use Rattle.std.proofs.lemmas.Bool.Decides.{nat_tests}
 use Rattle.std.proofs.lemmas.List.{take_more, length-take, get_or-take}
 use Rattle.edge_lock.specs.declared.history.Access.{Access}
 use Rattle.edge_lock.specs.EndLists.{EndLists, known_value}
 use Rattle.edge_lock.proofs.BoardLaws.{here_after, else_after}
-use Rattle.tile_map.specs.Plane.{Site, MapValue}
+use Rattle.tile_map.specs.Plane.{Site, MapValue, is_held, in_window}
+use Rattle.tile_map.specs.Edges.{window_site}
 use Rattle.border_cache.specs.Cells.{CellValue, newer, newest}
 use Rattle.border_cache.specs.Accesses.{IsHonest, after_all, Adds}
-use Rattle.border_cache.specs.News.{found_cell, IsRefresh, Refreshes, no_cell, cells_at}
-use Rattle.border_cache.specs.Windows.{has, place_in, end_at, sites_on, AddsAll, and_cell, seen_on, RefreshesAll, PublishesAll, border_at, centre_of}
+use Rattle.border_cache.specs.News.{found_cell, IsRefresh}
+use Rattle.border_cache.specs.Windows.{has, place_in, end_at, sites_on, AddsAll, and_cell, seen_on, PublishesAll, border_at, centre_of}
+use Rattle.border_cache.specs.Copies.{CacheValue, Refreshed, Refreshes, cell_for, copy_at, held_cell, window_cells}
 use Rattle.border_cache.specs.Published.{IsPublish}
 use Rattle.border_cache.proofs.Runs.{after_none}
 
@@ -120,38 +122,64 @@ newest_push x [] None = refl
 newest_push x [] (Some d) = refl
 newest_push x (y ∷ ys) o = newest_push (newer x (Some y)) ys o
 
-module _ (m : MapValue) (t : ℕ) (c : Site) (needs : List ℕ) (i e : ℕ) (lt : i < length needs) (rise : Rises needs) (at : e ≡ get_or needs i 0) where
-  pub refreshes_all_more : (a b d : ℕ → EndLists) (old mid new : List CellValue) → RefreshesAll (centre_of m t c) (take i needs) (cells_at old a) (cells_at mid b) → Refreshes (border_at m t c e) e (cells_at mid b) (cells_at new d)
-      → RefreshesAll (centre_of m t c) (take (i + 1) needs) (cells_at old a) (cells_at new d)
-  refreshes_all_more a b d old mid new r s = record {
+-- one more edge of a refresh
+module _ (c : Site) (needs : List ℕ) (i e : ℕ) (lt : i < length needs) (rise : Rises needs) (at : e ≡ get_or needs i 0) (a b d : ℕ → EndLists) (old mid new : CacheValue)
+    (r : Refreshed c (take i needs) (copy_at old a) (copy_at mid b)) (s : Refreshes c e (copy_at mid b) (copy_at new d)) where
+  abbrev m : MapValue
+  m = old.map
+
+  abbrev t : ℕ
+  t = old.tile
+
+  same_map : mid.map ≡ m
+  same_map = r.stores.differs.map
+
+  same_tile : mid.tile ≡ t
+  same_tile = r.stores.differs.tile
+
+  abbrev more' : ℕ → List Access
+  more' = put_on e s.more r.more
+
+  mine : more' e ≡ s.more
+  mine = let q : eqb e e ≡ true = grind arith in ap (λ x. cond x s.more (r.more e)) q
+
+  reads_here : IsRefresh (border_at m t c e) s.more
+  reads_here = subst (λ (p : MapValue × ℕ). IsRefresh (border_at p.0 p.1 c e) s.more) (λ j. (same_map j, same_tile j)) s.reads
+
+  reads_on : (f : ℕ) (x : Bool) → eqb f e ≡ x → (if x then true else has f (take i needs)) ≡ true → IsRefresh (border_at m t c f) (cond x s.more (r.more f))
+  reads_on f true is h = let q : e ≡ f = grind (arith, is) in subst (λ k. IsRefresh (border_at m t c k) s.more) q reads_here
+  reads_on f false is h = r.reads f h
+
+  whole : (n : ℕ) → newest (window_cells old c n) (seen_on m t c more' n (take (i + 1) needs)) ≡ newer (newest (window_cells old c n) (seen_on m t c r.more n (take i needs))) (found_cell (sites_on m e) (end_at m t e) s.more (place_in m c e n))
+  whole n =
+      let own = window_cells old c n in
+      let same : take (i + 1) needs ≡ take i needs ++ e ∷ [] = take_more needs i 0 lt ∙ ap (λ x. take i needs ++ x ∷ []) (sym at) in
+      ap (λ es. newest own (seen_on m t c more' n es)) same
+      ∙ (ap (newest own) (push_seen m t c n e more' (take i needs))
+      ∙ (newest_push own (seen_on m t c more' n (take i needs)) (found_cell (sites_on m e) (end_at m t e) (more' e) (place_in m c e n))
+      ∙ (λ j. newer (newest own (seen_before needs i e lt rise at m t c n s.more r.more (take i needs) (fresh needs i e lt rise at) j)) (found_cell (sites_on m e) (end_at m t e) (mine j) (place_in m c e n)))))
+
+  done_at : (n : ℕ) (u : Site) → n < 41 → window_site m c n ≡ Some u → held_cell new u ≡ newest (window_cells old c n) (seen_on m t c more' n (take (i + 1) needs))
+  done_at n u small is =
+      let there : window_site mid.map c n ≡ Some u = ap (λ k. window_site k c n) same_map ∙ is in
+      s.stores.done n u small there
+      ∙ (ap (λ x. newer x (found_cell (sites_on mid.map e) (end_at mid.map mid.tile e) s.more (place_in mid.map c e n))) (ap (cell_for mid) there ∙ r.stores.done n u small is)
+      ∙ ((λ j. newer (newest (window_cells old c n) (seen_on m t c r.more n (take i needs))) (found_cell (sites_on (same_map j) e) (end_at (same_map j) (same_tile j) e) s.more (place_in (same_map j) c e n)))
+      ∙ sym (whole n)))
+
+  others_stay : (u : Site) → is_held m t u ≡ true → in_window m c u ≡ false → held_cell new u ≡ held_cell old u
+  others_stay u held out = s.stores.differs.others u ((λ j. is_held (same_map j) (same_tile j) u) ∙ held) (ap (λ k. in_window k c u) same_map ∙ out) ∙ r.stores.differs.others u held out
+
+  pub refreshed_more : Refreshed c (take (i + 1) needs) (copy_at old a) (copy_at new d)
+  refreshed_more = record {
     more = more';
     adds = adds_all_more needs i e lt rise at a b d r.more s.more r.adds s.adds;
-    reads = λ f h. go f (eqb f e) refl (sym (split_has needs i e lt rise at f) ∙ h);
-    length = s.cells.length ∙ r.length;
-    cells = λ n small. s.cells.done n small ∙ ((λ j. newer (r.cells n small j) (found_cell (sites_on m e) (end_at m t e) s.more (place_in m c e n))) ∙ sym (whole n));
+    reads = λ f h. reads_on f (eqb f e) refl (sym (split_has needs i e lt rise at f) ∙ h);
+    stores = record {
+      differs = record { map = s.stores.differs.map ∙ same_map; tile = s.stores.differs.tile ∙ same_tile; others = others_stay };
+      done = done_at;
+    };
   }
-    where
-      more' : ℕ → List Access
-      more' = put_on e s.more r.more
-
-      mine : more' e ≡ s.more
-      mine = let q : eqb e e ≡ true = grind arith in ap (λ x. cond x s.more (r.more e)) q
-
-      go : (f : ℕ) (x : Bool) → eqb f e ≡ x → (if x then true else has f (take i needs)) ≡ true → IsRefresh (border_at m t c f) (cond x s.more (r.more f))
-      go f true is h = let q : e ≡ f = grind (arith, is) in subst (λ k. IsRefresh (border_at m t c k) s.more) q s.reads
-      go f false is h = r.reads f h
-
-      whole : (n : ℕ) → newest (slice_index_or old n no_cell) (seen_on m t c more' n (take (i + 1) needs)) ≡ newer (newest (slice_index_or old n no_cell) (seen_on m t c r.more n (take i needs))) (found_cell (sites_on m e) (end_at m t e) s.more (place_in m c e n))
-      whole n =
-          let own = slice_index_or old n no_cell in
-          let same : take (i + 1) needs ≡ take i needs ++ e ∷ [] = take_more needs i 0 lt ∙ ap (λ x. take i needs ++ x ∷ []) (sym at) in
-          ap (λ es. newest own (seen_on m t c more' n es)) same
-          ∙ (ap (newest own) (push_seen m t c n e more' (take i needs))
-          ∙ (newest_push own (seen_on m t c more' n (take i needs)) (found_cell (sites_on m e) (end_at m t e) (more' e) (place_in m c e n))
-          ∙ (λ j. newer (newest own (seen_before needs i e lt rise at m t c n s.more r.more (take i needs) (fresh needs i e lt rise at) j)) (found_cell (sites_on m e) (end_at m t e) (mine j) (place_in m c e n)))))
-
-pub refreshes_all_begin : (m : MapValue) (t : ℕ) (c : Site) (a : ℕ → EndLists) (cells : List CellValue) → RefreshesAll (centre_of m t c) [] (cells_at cells a) (cells_at cells a)
-refreshes_all_begin m t c a cells = record { more = λ e. []; adds = adds_all_begins a; reads = λ e h. absurd (true≢false (sym h)); length = refl; cells = λ n small. refl }
 
 module _ (m : MapValue) (t : ℕ) (c : Site) (needs : List ℕ) (cells : ℕ → CellValue) (i e : ℕ) (lt : i < length needs) (rise : Rises needs) (at : e ≡ get_or needs i 0) where
   pub publishes_all_more : (a b d : ℕ → EndLists) (xs : List Access) → PublishesAll (centre_of m t c) (take i needs) cells a b → Adds b d e xs → IsPublish (border_at m t c e) cells xs

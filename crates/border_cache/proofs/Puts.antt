@@ -1,105 +1,19 @@
--- One more cell of a publishing, and the three parts of it together.
-use Rattle.std.proofs.Common.{◌≡◌, ◌≢◌, ℕ, zero, suc, ◌+◌, ◌*◌, ◌/◌, ◌-◌, ◌<◌, ◌≤◌, eqb, Bool, true, false, cond, true≢false, List, [], ◌∷◌, ◌++◌, refl, sym, ap, ◌∙◌, subst, arith, inl, inr, ⊎_elim, Option, Some, None, ne_eqb}
-use Rattle.std.proofs.lemmas.Option.{none-some}
-use mathlib.Core.Logic.{dite}
-use native.Mathlib.Decide.{ℕ_discrete}
-use Rattle.std.proofs.lemmas.List.{append-nil}
+-- The three parts of a publishing together: the cells, and the news words of both ends.
+use Rattle.std.proofs.Common.{◌≡◌, ◌≢◌, ℕ, zero, suc, ◌+◌, ◌*◌, ◌/◌, ◌-◌, ◌<◌, ◌≤◌, Bool, true, false, true≢false, List, ◌++◌, refl, sym, ap, ◌∙◌, subst, arith, inl, inr, ⊎_elim, Option, Some, None}
 use Rattle.edge_lock.proofs.HistoryLaws.{found_stays}
-use Rattle.list_laws.specs.Options.{or_zero}
-use Rattle.list_laws.proofs.Numbers.{less_or_same}
 use Rattle.feast_base.specs.Edges.{news_register, news_words}
 use Rattle.edge_lock.specs.declared.history.Access.{Access}
-use Rattle.edge_lock.specs.declared.history.Access.TheVariants.{Read, Write}
 use Rattle.edge_lock.specs.History.{found_value}
-use Rattle.border_cache.specs.Accesses.{last_write, is_read, reads_nothing}
-use Rattle.border_cache.specs.Cells.{CellValue, cell_of}
-use Rattle.border_cache.specs.News.{Covers, word_of, IsPlace, border}
-use Rattle.border_cache.specs.Published.{IsWordMarked, IsMarked, ArePut, IsCellPut, IsPublish, ArePlaces}
+use Rattle.border_cache.specs.Accesses.{last_write, is_read}
+use Rattle.border_cache.specs.Cells.{CellValue}
+use Rattle.border_cache.specs.News.{Covers, word_of, border}
+use Rattle.border_cache.specs.Published.{IsWordMarked, IsMarked, PutsAt, IsPublish}
 use Rattle.border_cache.proofs.Marks.{last_write-append, untouched, no_write, some_write, written_in, found_is_read, read_in, unread_writes}
-use Rattle.border_cache.proofs.Refreshes.{covers_more}
-
-pub puts_begin : (cells : ℕ → CellValue) (places : ℕ → Option ℕ) → ArePut cells places 0 []
-puts_begin cells places = record {
-  unread = refl;
-  done = λ j k lt at. absurd (omega (arith, lt));
-  only = λ r v g. absurd (none-some v g);
-}
-
-abbrev words : ℕ → ℕ → ℕ → List Access
-words k low high = Write (1 + 2 * k) low ∷ Write (2 + 2 * k) high ∷ []
-
-eqb_same : (r : ℕ) → eqb r r ≡ true
-eqb_same r = grind arith
-
-only_writes : (xs ys : List Access) → reads_nothing xs ≡ true → reads_nothing ys ≡ true → reads_nothing (xs ++ ys) ≡ true
-only_writes [] ys h k = k
-only_writes (Read p x ∷ xs) ys h k = absurd (true≢false (sym h))
-only_writes (Write p x ∷ xs) ys h k = only_writes xs ys h k
-
-pub unread : (xs : List Access) (q : ℕ) → reads_nothing xs ≡ true → found_value xs q ≡ None
-unread [] q h = refl
-unread (Read p x ∷ xs) q h = absurd (true≢false (sym h))
-unread (Write p x ∷ xs) q h = go (eqb q p) (found_value xs q) (unread xs q h)
-  where
-    go : (b : Bool) (o : Option ℕ) → o ≡ None → cond b None o ≡ None
-    go true o h = refl
-    go false o h = h
-
-pub puts_none : (cells : ℕ → CellValue) (places : ℕ → Option ℕ) (n : ℕ) (xs : List Access) → places n ≡ None → ArePut cells places n xs → ArePut cells places (n + 1) xs
-puts_none cells places n xs at p = record {
-  unread = p.unread;
-  done = λ j k lt h. ⊎_elim (λ old. p.done j k old h) (λ e. absurd (cc (sym at ∙ (ap places (sym e) ∙ h)))) (less_or_same j n lt);
-  only = λ r v g. let a = p.only r v g in (a.0, covers_more places n a.0 a.1, a.2);
-}
-
-module _ (cells : ℕ → CellValue) (places : ℕ → Option ℕ) (n k : ℕ) (xs : List Access) (low high : ℕ) (at : places n ≡ Some k) (p : ArePut cells places n xs) (says : cell_of low high ≡ cells n)
-    (one : ArePlaces places (n + 1)) where
-  abbrev ys : List Access
-  ys = xs ++ words k low high
-
-  at_low : last_write ys (1 + 2 * k) None ≡ Some low
-  at_low = last_write-append xs (words k low high) (1 + 2 * k) None
-      ∙ ((λ i. cond (ne_eqb (1 + 2 * k) (2 + 2 * k) (omega arith) i) (Some high) (cond (eqb_same (1 + 2 * k) i) (Some low) (last_write xs (1 + 2 * k) None))))
-
-  at_high : last_write ys (2 + 2 * k) None ≡ Some high
-  at_high = last_write-append xs (words k low high) (2 + 2 * k) None
-      ∙ ap (λ b. cond b (Some high) (cond (eqb (2 + 2 * k) (1 + 2 * k)) (Some low) (last_write xs (2 + 2 * k) None))) (eqb_same (2 + 2 * k))
-
-  elsewhere : (q : ℕ) → q ≢ 1 + 2 * k → q ≢ 2 + 2 * k → last_write ys q None ≡ last_write xs q None
-  elsewhere q a b = last_write-append xs (words k low high) q None
-      ∙ (λ i. cond (ne_eqb q (2 + 2 * k) b i) (Some high) (cond (ne_eqb q (1 + 2 * k) a i) (Some low) (last_write xs q None)))
-
-  pub puts_some : ArePut cells places (n + 1) ys
-  puts_some = record {
-    unread = only_writes xs (words k low high) p.unread refl;
-    done = λ j h lt is. ⊎_elim
-        (λ (old : j < n).
-        let ne : h ≢ k = λ same. let e : j ≡ n = one j n h lt (omega arith) is (at ∙ ap Some (sym same)) in omega (arith, e, old) in
-        let d = p.done j h old is in
-        (d.0, d.1, elsewhere (1 + 2 * h) (omega (arith, ne)) (omega (arith, ne)) ∙ d.2, elsewhere (2 + 2 * h) (omega (arith, ne)) (omega (arith, ne)) ∙ d.3, d.4))
-        (λ (e : j ≡ n).
-        let same : k ≡ h = ap or_zero (sym at ∙ (ap places (sym e) ∙ is)) in
-        subst (λ x. (l : ℕ) × (u : ℕ) × (last_write ys (1 + 2 * x) None ≡ Some l) × (last_write ys (2 + 2 * x) None ≡ Some u) × (cell_of l u ≡ cells j)) same (low, high, at_low, at_high, says ∙ ap cells (sym e)))
-        (less_or_same j n lt);
-    only = λ q v g. dite (ℕ_discrete q (1 + 2 * k))
-        (λ (e : q ≡ 1 + 2 * k). (k, (n, omega arith, at), inl e))
-        (λ (a : q ≢ 1 + 2 * k). dite (ℕ_discrete q (2 + 2 * k))
-        (λ (e : q ≡ 2 + 2 * k). (k, (n, omega arith, at), inr e))
-        (λ (b : q ≢ 2 + 2 * k). let o = p.only q v (sym (elsewhere q a b) ∙ g) in (o.0, covers_more places n o.0 o.1, o.2)));
-  }
-
-pub puts_more : (cells : ℕ → CellValue) (places : ℕ → Option ℕ) (n : ℕ) (xs zs : List Access) → ArePut cells places n xs
-    → ArePlaces places (n + 1)
-    → IsCellPut (cells n) (places n) zs → ArePut cells places (n + 1) (xs ++ zs)
-puts_more cells places n xs zs p one c = go (places n) refl c
-  where
-    go : (o : Option ℕ) → places n ≡ o → IsCellPut (cells n) o zs → ArePut cells places (n + 1) (xs ++ zs)
-    go None at c = subst (ArePut cells places (n + 1)) (sym (append-nil xs) ∙ ap (λ ys. xs ++ ys) (sym c)) (puts_none cells places n xs at p)
-    go (Some k) at c = subst (ArePut cells places (n + 1)) (ap (λ ys. xs ++ ys) (sym c.2)) (puts_some cells places n k xs c.0 c.1 at p c.3 one)
+use Rattle.border_cache.proofs.Written.{unread}
 
 -- the three parts together, where the places are below the number of sites
-module _ (sites end n : ℕ) (cells : ℕ → CellValue) (places : ℕ → Option ℕ) (xs ys zs : List Access) (small : end < 2) (low : (k : ℕ) → Covers places n k → k < sites)
-    (p : ArePut cells places n xs) (m : IsMarked (border sites end places n) false ys) (t : IsMarked (border sites (1 - end) places n) true zs) where
+module _ (sites end n : ℕ) (cell cells : ℕ → CellValue) (places : ℕ → Option ℕ) (xs ys zs : List Access) (small : end < 2) (low : (k : ℕ) → Covers places n k → k < sites)
+    (own : (j k : ℕ) → j < n → places j ≡ Some k → cell k ≡ cells j) (p : PutsAt (Covers places n) cell xs) (m : IsMarked (border sites end places n) false ys) (t : IsMarked (border sites (1 - end) places n) true zs) where
   abbrev all : List Access
   all = xs ++ (ys ++ zs)
 
@@ -175,9 +89,9 @@ module _ (sites end n : ℕ) (cells : ℕ → CellValue) (places : ℕ → Optio
   pub publish_whole : IsPublish (border sites end places n) cells all
   publish_whole = record {
     cells_put = λ j k lt at.
-        let d = p.done j k lt at in
+        let d = p.done k (j, lt, at) in
         let less : k < sites = low k (j, lt, at) in
-        (d.0, d.1, low_all (1 + 2 * k) d.0 (λ h. omega (arith, h, less)) d.2, low_all (2 + 2 * k) d.1 (λ h. omega (arith, h, less)) d.3, d.4);
+        (d.0, d.1, low_all (1 + 2 * k) d.0 (λ h. omega (arith, h, less)) d.2, low_all (2 + 2 * k) d.1 (λ h. omega (arith, h, less)) d.3, d.4 ∙ own j k lt at);
     mine = my_word;
     theirs = their_word;
     only_read = λ r g. ⊎_elim
@@ -195,29 +109,3 @@ module _ (sites end n : ℕ) (cells : ℕ → CellValue) (places : ℕ → Optio
         (λ (h : last_write xs r None ≡ Some v). let a = p.only r v h in (a.0, a.1, ⊎_elim (λ e. inl e) (λ e. inr (inl e)) a.2))
         (written_in xs (ys ++ zs) r v g);
   }
-
-pub covered_low : (sites : ℕ) (places : ℕ → Option ℕ) (n : ℕ) → ((j : ℕ) → j < n → IsPlace sites (places j)) → (k : ℕ) → Covers places n k → k < sites
-covered_low sites places n low k c = subst (IsPlace sites) c.2 (low c.0 c.1)
-
--- only the first n places matter
-module _ (sites end : ℕ) (cells : ℕ → CellValue) (p q : ℕ → Option ℕ) (n : ℕ) (same : (j : ℕ) → j < n → p j ≡ q j) where
-  to : (k : ℕ) → Covers p n k → Covers q n k
-  to k c = (c.0, c.1, sym (same c.0 c.1) ∙ c.2)
-
-  from : (k : ℕ) → Covers q n k → Covers p n k
-  from k c = (c.0, c.1, same c.0 c.1 ∙ c.2)
-
-  word_by : (b : ℕ) (bit : Bool) (xs : List Access) (j : ℕ) → IsWordMarked (border sites b p n) bit xs j → IsWordMarked (border sites b q n) bit xs j
-  word_by b bit xs j w = record { first = w.first; last = w.last; found = w.found; written = w.written; marked = λ i lt c. w.marked i lt (from (64 * j + i) c); kept = λ i lt c. w.kept i lt (λ d. c (to (64 * j + i) d)) }
-
-  pub publish_by : (xs : List Access) → IsPublish (border sites end p n) cells xs → IsPublish (border sites end q n) cells xs
-  publish_by xs w = record {
-    cells_put = λ j k lt at. w.cells_put j k lt (same j lt ∙ at);
-    mine = λ k c. word_by end false xs (k / 64) (w.mine k (from k c));
-    theirs = λ k c. word_by (1 - end) true xs (k / 64) (w.theirs k (from k c));
-    only_read = λ r g. let a = w.only_read r g in (a.0, to a.0 a.1, a.2);
-    only_written = λ r v g. let a = w.only_written r v g in (a.0, to a.0 a.1, a.2);
-  }
-
-  pub apart_by : ArePlaces q n → ArePlaces p n
-  apart_by a i j k x y at bt = a i j k x y (sym (same i x) ∙ at) (sym (same j y) ∙ bt)

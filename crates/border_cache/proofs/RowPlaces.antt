@@ -1,94 +1,70 @@
 -- The sites of a window row by row, as runs of places of an area.
-use Rattle.std.proofs.Common.{◌≡◌, ℕ, ◌+◌, ◌-◌, ◌*◌, ◌/◌, ◌%◌, ◌<◌, ◌≤◌, min, max, Bool, true, false, List, length, refl, sym, ap, ◌∙◌, arith, ◌⊎◌, inl, inr, ⊎_elim, Option, Some, None}
-use Rattle.std.specs.Prelude.{ℤ, slice_index_or, if◌then◌else◌}
+use Rattle.std.proofs.Common.{◌≡◌, ℕ, ◌+◌, ◌-◌, ◌*◌, ◌/◌, ◌%◌, ◌<◌, ◌≤◌, Bool, true, false, List, length, refl, sym, ap, ◌∙◌, subst, arith, ◌⊎◌, inl, inr, ⊎_elim, Option, Some, None, zero, suc, replicate}
+use Rattle.std.specs.Prelude.{ℤ, slice_get, slice_index_or, if◌then◌else◌}
 use Rattle.std.specs.Int.{bit_at}
 use Rattle.std.proofs.lemmas.Nat.Bits.{bit_at-zero}
-use Rattle.std.proofs.lemmas.Option.{none-some}
+use Rattle.std.proofs.lemmas.Option.{none-some, slice_get_within}
 use Rattle.list_laws.specs.Options.{or_zero}
 use Rattle.list_laws.proofs.Numbers.{less_or_same}
 use Rattle.window_sites.specs.Sites.{distance, offset_of, shifted}
 use Rattle.window_sites.proofs.Offsets.{offset-near, offset-found}
 use Rattle.tile_map.specs.declared.span.Area.{Area}
 use Rattle.tile_map.proofs.Numbers.{within_facts, within_test}
-use Rattle.tile_map.specs.Plane.{Site, apart}
+use Rattle.tile_map.specs.Plane.{Site, site, apart}
+use Rattle.tile_map.specs.Tables.{sites_in}
+use Rattle.tile_map.proofs.Areas.{area_number}
+use Rattle.tile_map.proofs.Registers.{number_place}
 use Rattle.tile_map.specs.Spans.{is_within}
 use Rattle.tile_map.proofs.Near.{offset_to, offset_to-abs, shifted-offset_to, shifted-apart}
-use Rattle.tile_map.proofs.Spans.{times_more}
 use Rattle.border_cache.specs.News.{Covers, bit_in, AreMasks, SetsRun}
-use Rattle.border_cache.specs.Windows.{place_among, place_at, IsNear, SetsRow}
+use Rattle.border_cache.specs.Windows.{place_among, place_at, IsNear, IsRunOf, SetsRow}
+use Rattle.border_cache.specs.declared.row_runs.Run.{Run}
 
 -- a row of which the area has no site
 pub row_none : (a : Area) (c : Site) (j : ℕ) (masks : List ℕ) → ((k u v : ℕ) → IsNear a c k u v → v + 4 ≡ c.y + j → ⊥) → SetsRow a c j masks masks
 row_none a c j masks none = record { count = refl; set = λ k u v n e. absurd (none k u v n e); kept = λ k h. h; only = λ k h. inl h }
 
--- how far a row reaches to either side
-abbrev pub reach : ℕ → ℕ
-reach j = min j (8 - j)
-
-row_close : (x y u v j : ℕ) → v + 4 ≡ y + j → j < 9 → apart x u + apart y v ≤ 4 → (x ≤ u + reach j) × (u ≤ x + reach j)
-row_close x y u v j e lt h = (omega (arith, e, lt, h), omega (arith, e, lt, h))
-
-close_row : (x y u v j : ℕ) → v + 4 ≡ y + j → j < 9 → x ≤ u + reach j → u ≤ x + reach j → apart x u + apart y v ≤ 4
-close_row x y u v j e lt p q = omega (arith, e, lt, p, q)
-
 order : (k a b : ℕ) → ((a ≤ k) × (k < b)) ⊎ ((k < a) ⊎ (b ≤ k))
 order k a b = grind arith
 
-module _ (a : Area) (c : Site) (j v : ℕ) (is : v + 4 ≡ c.y + j) (lt : j < 9) where
-  abbrev west : ℕ
-  west = max a.columns.first (c.x - reach j)
+-- the site of a place
+pub near_site : (a : Area) (c : Site) (k u v : ℕ) → IsNear a c k u v → slice_get (sites_in a) k ≡ Some (site u v)
+near_site a c k u v n =
+    let inside = within_test a.columns.first a.columns.end a.rows.first a.rows.end u v n.west n.east n.north n.south in
+    (number_place (sites_in a) (site u v) k (area_number a u v ∙ (ap (λ b. if b then Some ((v - a.rows.first) * (a.columns.end - a.columns.first) + (u - a.columns.first)) else None) inside ∙ ap Some (sym n.place)))).1
 
-  abbrev east : ℕ
-  east = min a.columns.end (c.x + reach j + 1)
-
-  abbrev row : ℕ
-  row = (v - a.rows.first) * (a.columns.end - a.columns.first)
-
-  abbrev start : ℕ
-  start = row + (west - a.columns.first)
-
-  -- a near site of the row lies in the run
-  in_run : (k u w : ℕ) → IsNear a c k u w → w + 4 ≡ c.y + j → (west ≤ u) × (u < east) × (k ≡ row + (u - a.columns.first))
-  in_run k u w n e =
-      let same : w ≡ v = omega (arith, e, is) in
-      let close = row_close c.x c.y u w j e lt n.close in
-      (omega (arith, n.west, close.0), omega (arith, n.east, close.1), n.place ∙ ap (λ z. (z - a.rows.first) * (a.columns.end - a.columns.first) + (u - a.columns.first)) same)
-
-  pub row_empty : east ≤ west → (k u w : ℕ) → IsNear a c k u w → w + 4 ≡ c.y + j → ⊥
-  row_empty none k u w n e = let r = in_run k u w n e in omega (arith, none, r.0, r.1)
-
-  pub row_some : (old new : List ℕ) → a.rows.first ≤ v → v < a.rows.end → west < east → SetsRun start (start + (east - west)) old new → SetsRow a c j old new
-  row_some old new north south some r = record {
-    count = r.count;
-    set = λ k u w n e. let p = in_run k u w n e in let q = p.2 in r.inside k (omega (arith, q, p.0, p.1)) (omega (arith, q, p.0, p.1));
-    kept = λ k one. ⊎_elim (λ h. r.inside k h.0 h.1) (λ h. r.outside k h ∙ one) (order k start (start + (east - west)));
-    only = λ k one. ⊎_elim (λ h. inr (k - start + west, v, near k h.0 h.1)) (λ h. inl (sym (r.outside k h) ∙ one)) (order k start (start + (east - west)));
-  }
-    where
-      near : (k : ℕ) → start ≤ k → k < start + (east - west) → IsNear a c k (k - start + west) v
-      near k from to =
-          let u : ℕ = k - start + west in
-          let below : k - start + west < east = omega (arith, from, to, some) in
-          record {
-            west = omega arith;
-            east = omega (arith, below);
-            north = north;
-            south = south;
-            place = omega (arith, from);
-            close = close_row c.x c.y (k - start + west) v j is lt (omega arith) (omega (arith, below));
-          }
-
+module _ (a : Area) (c : Site) (j : ℕ) (r : Run) (is : IsRunOf a c j r) where
   -- the run lies within the area
-  pub row_fits : (n : ℕ) → (a.rows.end - a.rows.first) * (a.columns.end - a.columns.first) ≤ n → a.rows.first ≤ v → v < a.rows.end → west < east → start + (east - west) ≤ n
-  row_fits n few north south some =
-      let whole = times_more (v - a.rows.first + 1) (a.rows.end - a.rows.first) (a.columns.end - a.columns.first) (omega (arith, north, south)) in
-      omega (arith, few, whole, some)
+  pub run_fits : r.start + (r.east - r.west) ≤ length (sites_in a)
+  run_fits =
+      let some = is.some in
+      let low = slice_get_within (sites_in a) (r.start + (r.east - 1 - r.west)) (site (r.east - 1) r.row) (near_site a c (r.start + (r.east - 1 - r.west)) (r.east - 1) r.row (is.near (r.east - 1) (omega (arith, some)) (omega (arith, some)))) in
+      omega (arith, some, low)
+
+  -- a place of the run is near
+  pub run_near : (k : ℕ) → r.start ≤ k → k < r.start + (r.east - r.west) → IsNear a c k (k - r.start + r.west) r.row
+  run_near k from to =
+      let e : r.start + (k - r.start + r.west - r.west) ≡ k = omega (arith, from) in
+      subst (λ i. IsNear a c i (k - r.start + r.west) r.row) e (is.near (k - r.start + r.west) (omega arith) (omega (arith, from, to)))
+
+  pub run_row : (old new : List ℕ) → SetsRun r.start (r.start + (r.east - r.west)) old new → SetsRow a c j old new
+  run_row old new s = record {
+    count = s.count;
+    set = λ k u w n e. let p = is.all k u w n e in let q = p.2 in s.inside k (omega (arith, q)) (omega (arith, q, p.0, p.1));
+    kept = λ k one. ⊎_elim (λ h. s.inside k h.0 h.1) (λ h. s.outside k h ∙ one) (order k r.start (r.start + (r.east - r.west)));
+    only = λ k one. ⊎_elim (λ h. inr (k - r.start + r.west, r.row, run_near k h.0 h.1)) (λ h. inl (sym (s.outside k h) ∙ one)) (order k r.start (r.start + (r.east - r.west)));
+  }
 
 -- the rows of a window together
 pub record RowsSet (a : Area) (c : Site) (j : ℕ) (masks : List ℕ) : Type 0 where
   pub count : length masks ≡ 9
   pub set : (k u v : ℕ) → IsNear a c k u v → v + 4 < c.y + j → bit_in masks k ≡ 1
   pub only : (k : ℕ) → bit_in masks k ≡ 1 → (u : ℕ) × (v : ℕ) × IsNear a c k u v
+
+pub no_bits : (n k z : ℕ) → z ≡ 0 → slice_index_or (replicate n z) k 0 ≡ 0
+no_bits zero k z is = refl
+no_bits (suc n) zero z is = is
+no_bits (suc n) (suc k) z is = no_bits n k z is
 
 pub rows_begin : (a : Area) (c : Site) (masks : List ℕ) → length masks ≡ 9 → ((k : ℕ) → slice_index_or masks k 0 ≡ 0) → RowsSet a c 0 masks
 rows_begin a c masks count none = record {
@@ -106,7 +82,7 @@ rows_more a c j old new r s = record {
 
 -- the places of a window are those that are near
 module _ (a : Area) (c : Site) where
-  place_near : (n k : ℕ) → n < 41 → place_at a c n ≡ Some k → (u : ℕ) × (v : ℕ) × IsNear a c k u v
+  pub place_near : (n k : ℕ) → n < 41 → place_at a c n ≡ Some k → (u : ℕ) × (v : ℕ) × IsNear a c k u v
   place_near n k lt h = go (shifted c.x (offset_of n).0) refl (shifted c.y (offset_of n).1) refl h
     where
       at : (u v : ℕ) → apart c.x u + apart c.y v ≤ 4 → (b : Bool) → is_within a.columns.first a.columns.end a.rows.first a.rows.end u v ≡ b
@@ -124,7 +100,7 @@ module _ (a : Area) (c : Site) where
           let y = shifted-apart c.y v (offset_of n).1 r in
           at u v (omega (arith, x, y, offset-near n (omega (arith, lt)))) (is_within a.columns.first a.columns.end a.rows.first a.rows.end u v) refl e
 
-  near_place : (k u v : ℕ) → IsNear a c k u v → Covers (place_at a c) 41 k
+  pub near_place : (k u v : ℕ) → IsNear a c k u v → Covers (place_at a c) 41 k
   near_place k u v n =
       let o : ℤ × ℤ = (offset_to c.x u, offset_to c.y v) in
       let close : distance o ≤ 4 = omega (arith, n.close, offset_to-abs c.x u, offset_to-abs c.y v) in

@@ -17,9 +17,8 @@ use Rattle.cell_grid.specs.Grid.{GridValue, site_atom}
 use Rattle.edge_lock.specs.EndLists.{EndLists, IsHeld}
 use Rattle.bit_field.specs.Atom.{AtomValue}
 use Rattle.border_cache.specs.Cells.{CellValue, cell_value, paired_cells, newest}
-use Rattle.border_cache.specs.News.{no_cell, cells_at}
-use Rattle.border_cache.specs.Published.{cell_at}
-use Rattle.border_cache.specs.Windows.{has, end_at, IsEdgeFor, RefreshesAll, PublishesAll, seen_on, centre_of}
+use Rattle.border_cache.specs.News.{no_cell}
+use Rattle.border_cache.specs.Windows.{has, end_at, IsEdgeFor}
 use Rattle.border_cache.specs.Copies.{CacheValue, cache_of, columns_of, rows_of, place_held, held_cell, cell_for, window_cells, Puts, PutsFor, HoldsWindow, IsCentre, IsEndOf, IsFirstCopy, IsFirstRectangle, Stores, Refreshed, copy_at, Patch, patch, AreAtomsIn}
 use Rattle.border_cache.proofs.Apart.{sites_apart}
 use Rattle.border_cache.proofs.Needs.{adds_all_begins}
@@ -205,16 +204,6 @@ stores_same c v cells own = record {
   done = λ n s lt at. sym (own n lt ∙ ap (cell_for v) at);
 }
 
-pub refreshed_by : (c : Site) (edges : List ℕ) (old new : CacheValue) (a b : ℕ → EndLists) (before after : List CellValue) → ((n : ℕ) → n < 41 → cell_at before n ≡ window_cells old c n)
-    → RefreshesAll (centre_of old.map old.tile c) edges (cells_at before a) (cells_at after b) → Stores c (cell_at after) old new → Refreshed c edges (copy_at old a) (copy_at new b)
-refreshed_by c edges old new a b before after same r s = record {
-  more = r.more;
-  adds = r.adds;
-  reads = r.reads;
-  stores = stores_by c (cell_at after) (λ n. newest (window_cells old c n) (seen_on old.map old.tile c r.more n edges)) old new
-      (λ n lt. r.cells n lt ∙ ap (λ x. newest x (seen_on old.map old.tile c r.more n edges)) (same n lt)) s;
-}
-
 -- where no edge is needed, nothing is news
 pub refreshed_none : (c : Site) (v : CacheValue) (a : ℕ → EndLists) → Refreshed c [] (copy_at v a) (copy_at v a)
 refreshed_none c v a = record {
@@ -222,17 +211,4 @@ refreshed_none c v a = record {
   adds = adds_all_begins a;
   reads = λ e h. absurd (true≢false (sym h));
   stores = stores_same c v (λ n. newest (window_cells v c n) []) (λ n lt. refl);
-}
-
-pub publishes_by : (m : MapValue) (t : ℕ) (c : Site) (edges : List ℕ) (p q : ℕ → CellValue) (a b : ℕ → EndLists) → ((n : ℕ) → n < 41 → p n ≡ q n) → PublishesAll (centre_of m t c) edges p a b → PublishesAll (centre_of m t c) edges q a b
-publishes_by m t c edges p q a b same r = record {
-  more = r.more;
-  adds = r.adds;
-  writes = λ e h. let w = r.writes e h in record {
-    cells_put = λ j k lt at. let x = w.cells_put j k lt at in (x.0, x.1, x.2, x.3, x.4 ∙ same j lt);
-    mine = w.mine;
-    theirs = w.theirs;
-    only_read = w.only_read;
-    only_written = w.only_written;
-  };
 }

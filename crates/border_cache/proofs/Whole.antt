@@ -1,5 +1,5 @@
 -- Windows all of whose sites are live: the sites between four live corners are live, since tiles have at least eight columns and rows.
-use Rattle.std.proofs.Common.{◌≡◌, ℕ, ◌+◌, ◌-◌, ◌*◌, ◌/◌, ◌<◌, ◌≤◌, true, refl, ap, ◌∙◌, arith, ⊎_elim, ◌⊎◌, inl, inr, Option, Some, None, ltb-true}
+use Rattle.std.proofs.Common.{◌≡◌, ℕ, ◌+◌, ◌-◌, ◌*◌, ◌/◌, ◌<◌, ◌≤◌, true, refl, ap, ◌∙◌, arith, ⊎_elim, ◌⊎◌, inl, inr, Some, None, ltb-true}
 use Rattle.std.specs.Prelude.{ℤ, pos, negsuc, is_some, if◌then◌else◌}
 use Rattle.std.specs.Int.RustNames.{unsigned_abs}
 use Rattle.std.proofs.lemmas.Bool.Decides.{nat_tests}
@@ -82,16 +82,3 @@ corners_whole m valid c corners n lt =
     let q = near c.y (offset_of n).1 corners.north (omega (arith, close)) in
     let live = live_between m valid c.x c.y corners p.at q.at p.low p.high q.low q.high in
     (λ i. is_some (live_site m (p.is i) (q.is i))) ∙ ap (λ b. is_some (if b then Some (site p.at q.at) else None)) live
-
--- a coordinate that is not below 0
-abbrev pub IsThere : Option ℕ → Type 0
-IsThere o = (u : ℕ) × (o ≡ Some u)
-
--- both coordinates of a site of a whole window
-pub whole_there : (m : MapValue) (c : Site) (n : ℕ) → IsWhole m c → n < 41 → IsThere (shifted c.x (offset_of n).0) × IsThere (shifted c.y (offset_of n).1)
-whole_there m c n whole lt = go (shifted c.x (offset_of n).0) (shifted c.y (offset_of n).1) (whole n lt)
-  where
-    go : (a b : Option ℕ) → is_some (live_site m a b) ≡ true → IsThere a × IsThere b
-    go None b h = absurd (cc h)
-    go (Some u) None h = absurd (cc h)
-    go (Some u) (Some v) h = ((u, refl), (v, refl))

@@ -2,13 +2,12 @@
 use Rattle.std.proofs.Common.{◌≡◌, ℕ, ◌%◌, ◌^◌, ◌<◌, arith}
 use Rattle.std.proofs.Common.{◌≢◌}
 use Rattle.std.specs.Int.{bit_at}
-use Rattle.std.proofs.Common.{true, false, [], Option, Some, None, refl}
+use Rattle.std.proofs.Common.{true, false}
 use Rattle.edge_lock.specs.History.{IsAllowed}
 use Rattle.feast_base.specs.Edges.{news_register}
 use Rattle.std.specs.Prelude.{bit_and, bit_or}
 use Rattle.std.specs.Int.{bit_not, w64}
-use Rattle.border_cache.specs.Published.{IsWithMask, IsCellPut}
-use Rattle.border_cache.specs.Cells.{CellValue}
+use Rattle.border_cache.specs.Published.{IsWithMask}
 use Rattle.std.proofs.lemmas.Nat.Bits.{bit_at-lt, bit_at_and, bit_at_or, bit_at_not}
 use Rattle.bit_field.specs.Atom.{LeavesGap}
 
@@ -32,7 +31,3 @@ clears n mask fits = record {
 
 pub word_allowed : (n end j v : ℕ) → IsAllowed n (news_register n end j) v
 word_allowed n end j v site lt is = absurd (omega (arith, lt, is))
-
-pub cell_skipped : (cell : CellValue) (o : Option ℕ) → ((k : ℕ) → o ≡ Some k → ⊥) → IsCellPut cell o []
-cell_skipped cell None not = refl
-cell_skipped cell (Some k) not = absurd (not k refl)

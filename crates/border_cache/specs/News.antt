@@ -1,14 +1,12 @@
 -- What a refresh reads on one edge.
-use Rattle.std.specs.Prelude.{ℕ, ◌≡◌, ◌≢◌, ◌+◌, ◌*◌, ◌/◌, ◌%◌, ◌<◌, ◌≤◌, length, slice_index_or, slice_set, bit_and, ◌==◌, ◌⊎◌, Bool, true, false, if◌then◌else◌, List, [], ◌∷◌, Option, Some, None}
+use Rattle.std.specs.Prelude.{ℕ, ◌≡◌, ◌≢◌, ◌+◌, ◌*◌, ◌/◌, ◌%◌, ◌<◌, ◌≤◌, length, slice_index_or, bit_and, ◌==◌, ◌⊎◌, Bool, true, false, if◌then◌else◌, List, [], ◌∷◌, Option, Some, None}
 use Rattle.std.specs.Int.{bit_at}
 use Rattle.feast_base.specs.Edges.{news_register}
 use Rattle.edge_lock.specs.declared.history.Access.{Access}
 use Rattle.edge_lock.specs.declared.history.Access.TheVariants.{Read}
 use Rattle.edge_lock.specs.History.{found_value}
-use Rattle.edge_lock.specs.EndLists.{EndLists, writes_nothing}
-use Rattle.edge_lock.specs.EndValues.{EndValue}
-use Rattle.border_cache.specs.Accesses.{Adds}
-use Rattle.border_cache.specs.Cells.{CellValue, cell_of, cell_value, newer}
+use Rattle.edge_lock.specs.EndLists.{writes_nothing}
+use Rattle.border_cache.specs.Cells.{CellValue, cell_of, cell_value}
 use Rattle.bit_field.specs.Atom.{empty_atom}
 
 -- One end of an edge, as a window meets it: how many sites the edge shares, which end it is, the place that each site of
@@ -25,10 +23,6 @@ border sites end places count = record { sites = sites; end = end; places = plac
 -- the places of a window's sites, as a list
 abbrev pub nth_place : List (Option ℕ) → ℕ → Option ℕ
 nth_place places n = slice_index_or places n None
-
--- a border whose places are listed
-abbrev pub listed : ℕ → ℕ → List (Option ℕ) → Border
-listed sites end places = border sites end (nth_place places) (length places)
 
 -- one of the first n sites of the window is at place k
 abbrev pub Covers : (ℕ → Option ℕ) → ℕ → ℕ → Type 0
@@ -139,45 +133,16 @@ IsSiteRead k bit (Some cell) accesses =
 abbrev pub no_cell : CellValue
 no_cell = cell_value 0 empty_atom
 
--- the cells of a window after those that were seen on one edge
-pub record AreNewer (b : Border) (accesses : List Access) (old new : List CellValue) : Type 0 where
-  pub length : length new ≡ length old
-  pub done : (j : ℕ) → j < b.count → slice_index_or new j no_cell ≡ newer (slice_index_or old j no_cell) (found_cell b.sites b.end accesses (b.places j))
-  pub rest : (j : ℕ) → b.count ≤ j → slice_index_or new j no_cell ≡ slice_index_or old j no_cell
-
 -- a place is one of an edge's shared sites
 abbrev pub IsPlace : ℕ → Option ℕ → Type 0
 IsPlace sites None = Unit {0}
 IsPlace sites (Some k) = k < sites
 
--- what a refresh changes: the cells of a window, and the lists of a tile's end of each edge
-pub record CellsAt : Type 0 where
-  pub cells : List CellValue
-  pub lists : ℕ → EndLists
+-- the cell of a place, if both of its words were found
+abbrev pub read_cell : List Access → Option ℕ → Option CellValue
+read_cell accesses None = None
+read_cell accesses (Some k) = cell_in (found_value accesses (1 + 2 * k)) (found_value accesses (2 + 2 * k))
 
-abbrev pub cells_at : List CellValue → (ℕ → EndLists) → CellsAt
-cells_at cells lists = record { cells = cells; lists = lists }
-
-abbrev pub at : List CellValue → EndValue → CellsAt
-at cells end = cells_at cells end.lists
-
--- a refresh of the cells of a window on one edge
-pub record Refreshes (b : Border) (edge : ℕ) (old new : CellsAt) : Type 0 where
-  pub more : List Access
-  pub adds : Adds old.lists new.lists edge more
-  pub reads : IsRefresh b more
-  pub cells : AreNewer b more old.cells new.cells
-
--- the cells with a newer one at n, if one was found
-abbrev pub with_newer : List CellValue → ℕ → Option CellValue → List CellValue
-with_newer cells n None = cells
-with_newer cells n (Some cell) = slice_set cells n (newer (slice_index_or cells n no_cell) (Some cell))
-
--- cell n is now the newer of what it was and of the one that was found, if there is one
-abbrev pub IsNewerAt : ℕ → List CellValue → List CellValue → Option CellValue → Type 0
-IsNewerAt n old new found = new ≡ with_newer old n found
-
--- what was read for a site that may be at a place, and what is true of the cell that was found there
-abbrev pub ReadsSite : Option ℕ → List ℕ → (Option CellValue → Type 0) → List Access → Type 0
-ReadsSite None news P accesses = (accesses ≡ []) × P None
-ReadsSite (Some k) news P accesses = (found : Option CellValue) × IsSiteRead k (bit_in news k) found accesses × P found
+-- a place is one of these, and its bit is set
+abbrev pub NewsIn : List ℕ → (ℕ → Type 0) → ℕ → Type 0
+NewsIn news at k = at k × (bit_in news k ≡ 1)

@@ -1,5 +1,5 @@
 -- What a publishing does on one edge: it writes cells, and marks them as no news for the one end and as news for the other.
-use Rattle.std.specs.Prelude.{ℕ, ◌≡◌, ◌≢◌, ◌+◌, ◌*◌, ◌/◌, ◌-◌, ◌<◌, ◌⊎◌, length, slice_index_or, Bool, true, false, List, [], ◌∷◌, Option, Some, None}
+use Rattle.std.specs.Prelude.{ℕ, ◌≡◌, ◌≢◌, ◌+◌, ◌*◌, ◌/◌, ◌-◌, ◌<◌, ◌⊎◌, Bool, true, false, List, [], ◌∷◌, Option, Some, None}
 use Rattle.std.specs.Int.{bit_at}
 use Rattle.list_laws.specs.Booleans.{digit}
 use Rattle.feast_base.specs.Edges.{news_register}
@@ -8,7 +8,7 @@ use Rattle.edge_lock.specs.declared.history.Access.TheVariants.{Read, Write}
 use Rattle.edge_lock.specs.History.{found_value}
 use Rattle.border_cache.specs.Accesses.{last_write, is_read, reads_nothing}
 use Rattle.border_cache.specs.Cells.{CellValue, cell_of}
-use Rattle.border_cache.specs.News.{Border, border, nth_place, Covers, AreMasks, word_of, IsCoveredWord, IsOfCell, no_cell}
+use Rattle.border_cache.specs.News.{Border, border, Covers, AreMasks, word_of, IsCoveredWord, IsOfCell}
 
 -- the same edge, from its other end
 abbrev pub across : Border → Border
@@ -49,27 +49,19 @@ AreBitsPut sites end bit masks accesses =
 abbrev pub ArePlaces : (ℕ → Option ℕ) → ℕ → Type 0
 ArePlaces places n = (i j k : ℕ) → i < n → j < n → places i ≡ Some k → places j ≡ Some k → i ≡ j
 
-abbrev pub cell_at : List CellValue → ℕ → CellValue
-cell_at cells n = slice_index_or cells n no_cell
-
 -- both words of a cell are left at place k
 abbrev pub LeavesCell : List Access → ℕ → CellValue → Type 0
 LeavesCell accesses k cell = (low : ℕ) × (high : ℕ) × (last_write accesses (1 + 2 * k) None ≡ Some low) × (last_write accesses (2 + 2 * k) None ≡ Some high) × (cell_of low high ≡ cell)
 
--- the cells of the first n sites of a window, written at their places
-pub record ArePut (cells : ℕ → CellValue) (places : ℕ → Option ℕ) (n : ℕ) (accesses : List Access) : Type 0 where
+-- the cells of these places are written, and nothing else
+pub record PutsAt (at : ℕ → Type 0) (cell : ℕ → CellValue) (accesses : List Access) : Type 0 where
   pub unread : reads_nothing accesses ≡ true
-  pub done : (j k : ℕ) → j < n → places j ≡ Some k → LeavesCell accesses k (cells j)
-  pub only : (register value : ℕ) → last_write accesses register None ≡ Some value → (k : ℕ) × Covers places n k × IsOfCell k register
+  pub done : (k : ℕ) → at k → LeavesCell accesses k (cell k)
+  pub only : (register value : ℕ) → last_write accesses register None ≡ Some value → (k : ℕ) × at k × IsOfCell k register
 
--- the listed cells, written at the listed places
-abbrev pub AreAllPut : List CellValue → List (Option ℕ) → List Access → Type 0
-AreAllPut cells places accesses = ArePut (cell_at cells) (nth_place places) (length places) accesses
-
--- one cell is written, if there is a place
-abbrev pub IsCellPut : CellValue → Option ℕ → List Access → Type 0
-IsCellPut cell None accesses = accesses ≡ []
-IsCellPut cell (Some k) accesses = (low : ℕ) × (high : ℕ) × (accesses ≡ Write (1 + 2 * k) low ∷ Write (2 + 2 * k) high ∷ []) × (cell_of low high ≡ cell)
+-- one cell is written
+abbrev pub IsCellPut : CellValue → ℕ → List Access → Type 0
+IsCellPut cell k accesses = (low : ℕ) × (high : ℕ) × (accesses ≡ Write (1 + 2 * k) low ∷ Write (2 + 2 * k) high ∷ []) × (cell_of low high ≡ cell)
 
 -- the register is the news word of a covered place, of either end
 abbrev pub IsEitherWord : Border → ℕ → Type 0

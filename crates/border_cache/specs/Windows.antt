@@ -1,5 +1,5 @@
 -- The sites of a window among the shared sites of an edge, and what a refresh does over all needed edges.
-use Rattle.std.specs.Prelude.{ℕ, ◌≡◌, ◌+◌, ◌-◌, ◌*◌, ◌<◌, ◌≤◌, ◌⊎◌, ◌==◌, ◌&&◌, nat_le, List, [], ◌∷◌, length, Option, Some, None, MatchOption, slice_index_or, position, is_some, Bool, true, false, if◌then◌else◌}
+use Rattle.std.specs.Prelude.{ℕ, ◌≡◌, ◌+◌, ◌-◌, ◌*◌, ◌<◌, ◌≤◌, ◌⊎◌, ◌==◌, ◌&&◌, nat_le, List, [], ◌∷◌, length, Option, Some, None, MatchOption, position, is_some, Bool, true, false, if◌then◌else◌}
 use Rattle.edge_lock.specs.declared.history.Access.{Access}
 use Rattle.border_cache.specs.Published.{IsPublish}
 use Rattle.edge_lock.specs.EndLists.{EndLists, known_value, IsHeld}
@@ -7,12 +7,13 @@ use Rattle.feast_base.specs.Edges.{registers_of}
 use Rattle.window_sites.specs.Window.{WindowValue, IsWindow, atom_at, live_at}
 use Rattle.window_sites.specs.Sites.{offset_of, shifted}
 use Rattle.tile_map.specs.declared.span.Area.{Area}
+use Rattle.border_cache.specs.declared.row_runs.Run.{Run}
 use Rattle.tile_map.specs.Spans.{place_within}
 use Rattle.tile_map.specs.Plane.{Site, MapValue, site, is_live, apart}
 use Rattle.tile_map.specs.Edges.{shared_of, low_end, pairs_of, window_site}
-use Rattle.border_cache.specs.Cells.{CellValue, newest}
+use Rattle.border_cache.specs.Cells.{CellValue}
 use Rattle.border_cache.specs.Accesses.{IsHonest, after_all}
-use Rattle.border_cache.specs.News.{bit_in, Border, border, CellsAt, found_cell, IsRefresh, no_cell}
+use Rattle.border_cache.specs.News.{bit_in, Border, border, found_cell}
 
 -- whether e is one of the edges
 abbrev pub has : ℕ → List ℕ → Bool
@@ -49,6 +50,19 @@ pub record IsNear (a : Area) (c : Site) (k u v : ℕ) : Type 0 where
   pub south : v < a.rows.end
   pub place : k ≡ (v - a.rows.first) * (a.columns.end - a.columns.first) + (u - a.columns.first)
   pub close : apart c.x u + apart c.y v ≤ 4
+
+-- the sites of row j of the window at c that an area has are those of this run; the rows are counted from the north
+pub record IsRunOf (a : Area) (c : Site) (j : ℕ) (r : Run) : Type 0 where
+  pub row : r.row + 4 ≡ c.y + j
+  pub some : r.west < r.east
+  pub few : r.east ≤ r.west + 9
+  pub near : (u : ℕ) → r.west ≤ u → u < r.east → IsNear a c (r.start + (u - r.west)) u r.row
+  pub all : (k u v : ℕ) → IsNear a c k u v → v + 4 ≡ c.y + j → (r.west ≤ u) × (u < r.east) × (k ≡ r.start + (u - r.west))
+
+-- the same, where the area may have none of them
+abbrev pub IsRowRun : Area → Site → ℕ → Option Run → Type 0
+IsRowRun a c j None = (k u v : ℕ) → IsNear a c k u v → v + 4 ≡ c.y + j → ⊥
+IsRowRun a c j (Some r) = IsRunOf a c j r
 
 -- the bits of row j of the window at c are set, by their places in an area, and no bit of a place that isn't near the
 -- centre; the rows are counted from the north
@@ -100,14 +114,6 @@ centre_of map tile site = record { map = map; tile = tile; site = site }
 -- tile t's end of edge e, as the window at c meets it
 abbrev pub border_at : MapValue → ℕ → Site → ℕ → Border
 border_at m t c e = border (sites_on m e) (end_at m t e) (place_in m c e) 41
-
--- a refresh of the cells of the window at c from these edges
-pub record RefreshesAll (c : Centre) (edges : List ℕ) (old new : CellsAt) : Type 0 where
-  pub more : ℕ → List Access
-  pub adds : AddsAll old.lists new.lists edges more
-  pub reads : (e : ℕ) → has e edges ≡ true → IsRefresh (border_at c.map c.tile c.site e) (more e)
-  pub length : length new.cells ≡ length old.cells
-  pub cells : (n : ℕ) → n < 41 → slice_index_or new.cells n no_cell ≡ newest (slice_index_or old.cells n no_cell) (seen_on c.map c.tile c.site more n edges)
 
 -- a publishing of the cells of the window at c on these edges
 pub record PublishesAll (c : Centre) (edges : List ℕ) (cells : ℕ → CellValue) (lists lists' : ℕ → EndLists) : Type 0 where

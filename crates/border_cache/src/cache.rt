@@ -8,13 +8,15 @@ ghost use Rattle.window_sites.specs.Window.{atom_at};
 ghost use Rattle.edge_lock.specs.EndLists.{IsHeld};
 ghost use Rattle.edge_lock.specs.EndValues.{SameEnd};
 ghost use Rattle.border_cache.specs.Cells.{cell_value};
-ghost use Rattle.border_cache.specs.Published.{cell_at};
 ghost use Rattle.border_cache.specs.Windows.{has, has_corners, IsView, IsWhole};
-ghost use Rattle.border_cache.specs.Copies.{IsGridOf, IsFirstCopy, patch, AreAtomsIn, IsCentre, HoldsWindow, IsEndOf, Puts, PutsFor, Stores, at, Refreshed, Published, Marked, Stamped, IsCorner, place_held, held_cell, window_cells};
+ghost use Rattle.border_cache.specs.Shared.{Renews};
+ghost use Rattle.border_cache.specs.Copies.{IsGridOf, IsFirstCopy, patch, AreAtomsIn, IsCentre, HoldsWindow, IsEndOf, Puts, PutsFor, at, Refreshed, Published, Marked, Stamped, IsCorner, place_held, held_cell, window_cells};
 
 use crate::cell::Cell;
 use crate::cells::Cells;
-use crate::places::{is_whole, publish_needs, refresh_needs, site_at};
+use crate::places::{is_whole, site_at};
+use crate::publish::publish_needs;
+use crate::refresh::refresh_needs;
 use crate::view::view_of;
 use bit_field::Atom;
 use cell_grid::Grid;
@@ -81,7 +83,7 @@ impl Cache {
         requires { IsTrue (is_held self.now.map self.now.tile (site x y)) }
         ensures { cell_value result.0 result.1 ≡ held_cell self.now (site x y) }
     {
-        let cell = self.cells.get(self.index(x, y));
+        let cell = self.at(x, y);
         (cell.stamp(), cell.atom())
     }
 
@@ -102,10 +104,7 @@ impl Cache {
         if needs.len() == 0 {
             return;
         }
-        let mut cells = self.around(map, x, y);
-        if refresh_needs(&mut cells, map, self.tile, x, y, needs, board) {
-            self.store(map, x, y, &cells);
-        }
+        refresh_needs(self, map, x, y, needs, board);
     }
 
     /// The window at a centre, as the cells of its live sites show it.
@@ -177,8 +176,31 @@ impl Cache {
         if needs.len() == 0 {
             return;
         }
-        let cells = self.around(map, x, y);
-        publish_needs(&cells, map, self.tile, x, y, needs, board);
+        publish_needs(self, map, x, y, needs, board);
+    }
+
+    /// The tile.
+    pub(crate) fn tile(&self) -> u32
+        ensures { result ≡ self.now.tile }
+    {
+        self.tile
+    }
+
+    /// The cell of a site that the tile holds.
+    pub(crate) fn at(&self, x: u32, y: u32) -> Cell
+        requires { IsTrue (is_held self.now.map self.now.tile (site x y)) }
+        ensures { result ≡ held_cell self.now (site x y) }
+    {
+        self.cells.get(self.index(x, y))
+    }
+
+    /// Gives a site that the tile holds the newer of its own cell and another; its own if both have
+    /// one stamp.
+    pub(crate) fn renew(&mut self, x: u32, y: u32, found: Cell)
+        requires { IsTrue (is_held self.old.map self.old.tile (site x y)) }
+        ensures { Renews (site x y) found self.old self.new }
+    {
+        self.put(x, y, self.at(x, y).newer_of(found));
     }
 
     /// The place of a site that the tile holds.
@@ -233,54 +255,19 @@ impl Cache {
         }
     }
 
-    /// The cells of the window at a centre. Those of sites that are not live mean nothing.
-    fn around(&self, map: &Map, x: u32, y: u32) -> [Cell; 41]
-        requires map { map.now ≡ self.now.map }
-        requires valid { IsMap map.now }
-        requires holds { HoldsWindow self.now.map self.now.tile (site x y) }
-        requires x { x < map.now.tx * map.now.w }
-        requires y { y < map.now.ty * map.now.h }
-        ensures cells { (n : ℕ) → n < 41 → cell_at result n ≡ window_cells self.now (site x y) n }
-        ensures count { length result ≡ 41 }
-    {
-        let whole = is_whole(map, x, y);
-        let mut cells = [Cell::new(0, Atom::new(0, 0)); 41];
-        for n in 0..41u8 {
-            cells[n as usize] = self.cell_around(map, x, y, n, whole);
-        }
-        cells
-    }
-
     /// The cell of site `n` of the window at a centre.
-    fn cell_around(&self, map: &Map, x: u32, y: u32, n: u8, whole: bool) -> Cell
+    fn cell_around(&self, map: &Map, x: u32, y: u32, n: u8) -> Cell
         requires map { map.now ≡ self.now.map }
         requires valid { IsMap map.now }
         requires holds { HoldsWindow self.now.map self.now.tile (site x y) }
         requires n { n ≤ 40 }
         requires x { x < map.now.tx * map.now.w }
         requires y { y < map.now.ty * map.now.h }
-        requires whole { IsTrue whole → IsWhole map.now (site x y) }
         ensures { result ≡ window_cells self.now (site x y) n }
     {
-        match site_at(map, x, y, n, whole) {
+        match site_at(map, x, y, n) {
             Some((u, v)) => self.cells.get(self.index(u, v)),
             None => Cell::new(0, Atom::new(0, 0)),
-        }
-    }
-
-    /// Gives the live sites of the window at a centre these cells.
-    fn store(&mut self, map: &Map, x: u32, y: u32, cells: &[Cell])
-        requires map { map.now ≡ self.old.map }
-        requires valid { IsMap map.now }
-        requires holds { HoldsWindow self.old.map self.old.tile (site x y) }
-        requires count { length cells.now ≡ 41 }
-        requires x { x < map.now.tx * map.now.w }
-        requires y { y < map.now.ty * map.now.h }
-        ensures { Stores (site x y) (cell_at cells.now) self.old self.new }
-    {
-        let whole = is_whole(map, x, y);
-        for n in 0..41u8 {
-            self.put_around(map, x, y, n, whole, cells[n as usize]);
         }
     }
 
@@ -294,7 +281,7 @@ impl Cache {
         ensures { Marked (site x y) window.now stamp self.old self.new }
     {
         for n in 0..41u8 {
-            self.put_around(map, x, y, n, false, Cell::new(stamp, window.get(n)));
+            self.put_around(map, x, y, n, Cell::new(stamp, window.get(n)));
         }
     }
 
@@ -308,23 +295,22 @@ impl Cache {
         ensures { Stamped (site x y) stamp self.old self.new }
     {
         for n in 0..41u8 {
-            let cell = self.cell_around(map, x, y, n, false);
-            self.put_around(map, x, y, n, false, Cell::new(stamp, cell.atom()));
+            let cell = self.cell_around(map, x, y, n);
+            self.put_around(map, x, y, n, Cell::new(stamp, cell.atom()));
         }
     }
 
     /// Gives site `n` of the window at a centre a cell, if the site is live.
-    fn put_around(&mut self, map: &Map, x: u32, y: u32, n: u8, whole: bool, cell: Cell)
+    fn put_around(&mut self, map: &Map, x: u32, y: u32, n: u8, cell: Cell)
         requires map { map.now ≡ self.old.map }
         requires valid { IsMap map.now }
         requires holds { HoldsWindow self.old.map self.old.tile (site x y) }
         requires n { n ≤ 40 }
         requires x { x < map.now.tx * map.now.w }
         requires y { y < map.now.ty * map.now.h }
-        requires whole { IsTrue whole → IsWhole map.now (site x y) }
         ensures { PutsFor (window_site self.old.map (site x y) n) cell self.old self.new }
     {
-        if let Some((u, v)) = site_at(map, x, y, n, whole) {
+        if let Some((u, v)) = site_at(map, x, y, n) {
             self.put(u, v, cell);
         }
     }

@@ -12,6 +12,9 @@ mod cells;
 mod masks;
 mod news;
 mod places;
+mod publish;
+mod refresh;
+mod row_runs;
 mod rows;
 mod view;
 

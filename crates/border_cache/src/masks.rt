@@ -7,6 +7,7 @@ ghost use Rattle.border_cache.specs.News.{nth_place, IsPlace, AreMasks, SetsPlac
 ghost use Rattle.border_cache.specs.Windows.{place_at, SetsRow};
 ghost use Rattle.border_cache.specs.Published.{IsWithMask};
 
+use crate::row_runs::run_of;
 use tile_map::Area;
 
 // Sets the bit of a place.
@@ -44,7 +45,7 @@ fn ones(count: u32) -> u64
 
 // Sets the bits of the places from `start` up to `end` and without it. So few lie in one word, or
 // in one and the next.
-fn set_run(masks: &mut [u64], start: u32, end: u32)
+pub(crate) fn set_run(masks: &mut [u64], start: u32, end: u32)
     requires count { length masks.old ≡ 9 }
     requires some { start < end }
     requires short { end ≤ start + 9 }
@@ -72,22 +73,9 @@ fn set_row(masks: &mut [u64], area: Area, x: u32, y: u32, j: u32)
     requires j { j < 9 }
     ensures { SetsRow area (site x y) j masks.old masks.new }
 {
-    if y + j < 4 {
-        return;
+    if let Some(run) = run_of(area, x, y, j) {
+        set_run(masks, run.start, run.start + (run.east - run.west));
     }
-    let v = y + j - 4;
-    if v < area.rows.first || area.rows.end <= v {
-        return;
-    }
-    let reach = j.min(8 - j);
-    let west = area.columns.first.max(x.saturating_sub(reach));
-    let east = area.columns.end.min(x + reach + 1);
-    if east <= west {
-        return;
-    }
-    let width = area.columns.end - area.columns.first;
-    let start = (v - area.rows.first) * width + (west - area.columns.first);
-    set_run(masks, start, start + (east - west));
 }
 
 // The bits of the sites of the window at a site, by their places in an area.

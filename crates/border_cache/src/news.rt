@@ -1,11 +1,11 @@
 //! The cells and news bits of one edge, through a board.
-ghost use Rattle.std.specs.Prelude.{◌≡◌, ◌+◌, ◌*◌, ◌<◌, ◌≤◌, ◌^◌, ℕ, length};
+ghost use Rattle.std.specs.Prelude.{◌≡◌, ◌+◌, ◌*◌, ◌<◌, ◌≤◌, ◌^◌, length};
 ghost use Rattle.feast_base.specs.Edges.{registers_of, news_words, news_register};
 ghost use Rattle.edge_lock.specs.EndLists.{IsHeld};
 ghost use Rattle.edge_lock.specs.EndValues.{SameEnd};
 ghost use Rattle.border_cache.specs.Accesses.{AddsSome};
-ghost use Rattle.border_cache.specs.News.{listed, bit_in, AreMasks, IsWordRead, AreNewsRead, IsSiteRead, IsPlace, nth_place, ReadsSite, IsNewerAt};
-ghost use Rattle.border_cache.specs.Published.{IsWordPut, AreBitsPut, AreAllPut, IsCellPut, IsPublish, ArePlaces, cell_at};
+ghost use Rattle.border_cache.specs.News.{bit_in, AreNewsRead, IsSiteRead, IsWordRead};
+ghost use Rattle.border_cache.specs.Published.{AreBitsPut, IsCellPut, IsWordPut};
 
 use crate::cell::Cell;
 use crate::masks::with_mask;
@@ -70,7 +70,7 @@ pub(crate) fn read_news<D: Board>(
 }
 
 // Reads the cell of a place, if its bit is set.
-fn read_site<D: Board>(
+pub(crate) fn read_site<D: Board>(
     board: &mut D,
     edge: u32,
     sites: u32,
@@ -94,34 +94,6 @@ fn read_site<D: Board>(
     let low = board.read(edge, 1 + 2 * place);
     let high = board.read(edge, 2 + 2 * place);
     Some(Cell::from_words(low, high))
-}
-
-// Brings one cell of a window up to date, if it is news.
-pub(crate) fn refresh_site<D: Board>(
-    cells: &mut [Cell],
-    n: usize,
-    place: Option<u32>,
-    edge: u32,
-    sites: u32,
-    news: &[u64],
-    board: &mut D,
-)
-    requires inside { n < length cells.old }
-    requires fits { registers_of sites < 2 ^ 32 }
-    requires registers { (D.end board.old).registers edge ≡ registers_of sites }
-    requires few { sites ≤ 576 }
-    requires count { length news.now ≡ 9 }
-    requires place { IsPlace sites place }
-    requires held { IsHeld ((D.end board.old).lists edge) }
-    ensures read { AddsSome edge (ReadsSite place news.now (IsNewerAt n cells.old cells.new)) (D.end board.old) (D.end board.new) }
-    ensures same { SameEnd (D.end board.old) (D.end board.new) }
-    ensures moved { D.moved board.old board.new }
-{
-    if let Some(place) = place {
-        if let Some(found) = read_site(board, edge, sites, place, news) {
-            cells[n] = cells[n].newer_of(found);
-        }
-    }
 }
 
 // Sets or clears the bits of a mask in a news word of an end.
@@ -152,7 +124,14 @@ fn put_word<D: Board>(
 }
 
 // Sets or clears the bits of these masks in the news words of an end.
-fn put_bits<D: Board>(board: &mut D, edge: u32, sites: u32, end: u32, masks: &[u64], bit: bool)
+pub(crate) fn put_bits<D: Board>(
+    board: &mut D,
+    edge: u32,
+    sites: u32,
+    end: u32,
+    masks: &[u64],
+    bit: bool,
+)
     requires fits { registers_of sites < 2 ^ 32 }
     requires registers { (D.end board.old).registers edge ≡ registers_of sites }
     requires end { end < 2 }
@@ -170,64 +149,16 @@ fn put_bits<D: Board>(board: &mut D, edge: u32, sites: u32, end: u32, masks: &[u
 }
 
 // Writes a cell at its place.
-fn put_cell<D: Board>(board: &mut D, edge: u32, sites: u32, place: Option<u32>, cell: Cell)
+pub(crate) fn put_cell<D: Board>(board: &mut D, edge: u32, sites: u32, place: u32, cell: Cell)
     requires fits { registers_of sites < 2 ^ 32 }
     requires registers { (D.end board.old).registers edge ≡ registers_of sites }
-    requires place { IsPlace sites place }
+    requires place { place < sites }
     requires held { IsHeld ((D.end board.old).lists edge) }
     ensures put { AddsSome edge (IsCellPut cell place) (D.end board.old) (D.end board.new) }
     ensures same { SameEnd (D.end board.old) (D.end board.new) }
     ensures moved { D.moved board.old board.new }
 {
-    if let Some(place) = place {
-        let (low, high) = cell.words();
-        board.write(edge, 1 + 2 * place, low);
-        board.write(edge, 2 + 2 * place, high);
-    }
-}
-
-// Writes the cells of a window at their places.
-fn put_cells<D: Board>(board: &mut D, edge: u32, sites: u32, places: &[Option<u32>], cells: &[Cell])
-    requires together { length cells.now ≡ length places.now }
-    requires fits { registers_of sites < 2 ^ 32 }
-    requires registers { (D.end board.old).registers edge ≡ registers_of sites }
-    requires places { (n : ℕ) → n < length places.now → IsPlace sites (nth_place places.now n) }
-    requires apart { ArePlaces (nth_place places.now) (length places.now) }
-    requires held { IsHeld ((D.end board.old).lists edge) }
-    ensures put { AddsSome edge (AreAllPut cells.now places.now) (D.end board.old) (D.end board.new) }
-    ensures same { SameEnd (D.end board.old) (D.end board.new) }
-    ensures moved { D.moved board.old board.new }
-{
-    for n in 0..places.len() {
-        put_cell(board, edge, sites, places[n], cells[n]);
-    }
-}
-
-// Writes the cells of a window to an edge, and marks them as news for the other end alone.
-pub(crate) fn publish_edge<D: Board>(
-    cells: &[Cell],
-    places: &[Option<u32>],
-    masks: &[u64],
-    edge: u32,
-    sites: u32,
-    end: u32,
-    board: &mut D,
-)
-    requires masks { AreMasks (nth_place places.now) (length places.now) masks.now }
-    requires count { length masks.now ≡ 9 }
-    requires together { length cells.now ≡ length places.now }
-    requires fits { registers_of sites < 2 ^ 32 }
-    requires registers { (D.end board.old).registers edge ≡ registers_of sites }
-    requires end { end < 2 }
-    requires places { (n : ℕ) → n < length places.now → IsPlace sites (nth_place places.now n) }
-    requires apart { ArePlaces (nth_place places.now) (length places.now) }
-    requires few { sites ≤ 576 }
-    requires held { IsHeld ((D.end board.old).lists edge) }
-    ensures published { AddsSome edge (IsPublish (listed sites end places.now) (cell_at cells.now)) (D.end board.old) (D.end board.new) }
-    ensures same { SameEnd (D.end board.old) (D.end board.new) }
-    ensures moved { D.moved board.old board.new }
-{
-    put_cells(board, edge, sites, places, cells);
-    put_bits(board, edge, sites, end, masks, false);
-    put_bits(board, edge, sites, 1 - end, masks, true);
+    let (low, high) = cell.words();
+    board.write(edge, 1 + 2 * place, low);
+    board.write(edge, 2 + 2 * place, high);
 }

@@ -1,6 +1,5 @@
 use Rattle.std.proofs.Common.{◌≤◌, length, subst}
 use Rattle.tile_map.specs.Plane.{site}
-use Rattle.border_cache.specs.News.{nth_place, AreMasks}
 use Rattle.border_cache.specs.Windows.{place_in, place_at}
 use Rattle.border_cache.proofs.Bits.{masks_by}
 use Rattle.border_cache.proofs.Covered.{whole_place}
@@ -14,8 +13,3 @@ returns-in-Some-clause-masks c =
     let m = c.args.map.now in
     let s = site c.args.x c.args.y in
     masks_by (place_at c.in-Some.area s) (place_in m s c.args.edge) 41 c.masks_at.result (λ n lt. whole_place m c.laws.ensures.plane c.in-Some.area s c.args.edge n c.in-Some.ensures.0) c.masks_at.ensures.masks
-
-pub returns-in-None-clause-masks : goal.returns-in-None-clause-masks
-returns-in-None-clause-masks c =
-    let p = nth_place c.places_by_site.result in
-    masks_by p (place_in c.args.map.now (site c.args.x c.args.y) c.args.edge) 41 c.masks.result c.places_by_site.ensures.places (subst (λ n. AreMasks p n c.masks.result) c.places_by_site.ensures.count c.masks.ensures.masks)

@@ -1,4 +1,4 @@
-use Rattle.std.proofs.Common.{◌≡◌, true, ap, sym, ◌∙◌}
+use Rattle.std.proofs.Common.{ap, ◌∙◌}
 use Rattle.tile_map.specs.Plane.{site}
 use Rattle.border_cache.specs.Windows.{has_corners}
 use Rattle.border_cache.proofs.cache.Cache.is_all_live.Goals as goal

@@ -1,17 +1,16 @@
-use Rattle.std.proofs.Common.{ap, sym, ◌∙◌, subst}
+use Rattle.std.proofs.Common.{sym, ◌∙◌, subst}
 use Rattle.std.specs.Prelude.{All}
 use Rattle.std.proofs.lemmas.List.{nil_from_length}
 use Rattle.tile_map.specs.Plane.{site}
 use Rattle.tile_map.specs.Laws.{IsPlane}
-use Rattle.border_cache.specs.Published.{cell_at}
 use Rattle.border_cache.specs.Copies.{window_cells}
 use Rattle.border_cache.specs.Windows.{IsEdgeFor, PublishesAll, centre_of}
 use Rattle.border_cache.proofs.Needs.{publishes_all_begin}
-use Rattle.border_cache.proofs.Stored.{centre_holds, needs_ready, publishes_by}
+use Rattle.border_cache.proofs.Stored.{centre_holds, needs_ready}
 use Rattle.border_cache.proofs.cache.Cache.publish.Goals as goal
 
-pub around-cells-requires-clause-holds : goal.around-cells-requires-clause-holds
-around-cells-requires-clause-holds g c = centre_holds c.args.self.now.map (subst IsPlane c.requires.map c.laws.ensures.plane) c.args.self.now.tile (site c.args.x c.args.y) c.requires.centre
+pub publish_needs-requires-clause-holds : goal.publish_needs-requires-clause-holds
+publish_needs-requires-clause-holds g c = centre_holds c.args.self.now.map (subst IsPlane c.requires.map c.laws.ensures.plane) c.args.self.now.tile (site c.args.x c.args.y) c.requires.centre
 
 pub publish_needs-requires-clause-needs : goal.publish_needs-requires-clause-needs
 publish_needs-requires-clause-needs g c =
@@ -20,17 +19,6 @@ publish_needs-requires-clause-needs g c =
     let end = g.D.Board.end c.args.board.now in
     subst (λ m. All (IsEdgeFor m end.registers end.lists) c.args.needs.now) (sym c.requires.map)
     (needs_ready v.map (subst IsPlane c.requires.map c.laws.ensures.plane) v.tile s end c.requires.board c.args.needs.now c.requires.needs c.requires.held)
-
-pub returns-clause-published : goal.returns-clause-published
-returns-clause-published g c =
-    let v = c.args.self.now in
-    let s = site c.args.x c.args.y in
-    let a = (g.D.Board.end c.args.board.now).lists in
-    let b = (g.D.Board.end c.publish_needs.new.board).lists in
-    let cells = cell_at c.around-cells.result in
-    let p = subst (λ m. PublishesAll (centre_of m c.self.inside.tile s) c.args.needs.now cells a b) c.requires.map c.publish_needs.ensures.published in
-    let q = subst (λ t. PublishesAll (centre_of v.map t s) c.args.needs.now cells a b) (ap (λ w. w.tile) c.self.view_is) p in
-    publishes_by v.map v.tile s c.args.needs.now cells (window_cells v s) a b c.around-cells.ensures.cells q
 
 pub returns-then-len-eq0-clause-published : goal.returns-then-len-eq0-clause-published
 returns-then-len-eq0-clause-published g c =

@@ -1,0 +1,71 @@
+use Rattle.std.proofs.Common.{rules, arith, ◌≡◌, ◌<◌, ◌+◌, ℕ, Option, Some, [], ◌++◌, sym, ◌∙◌, subst}
+use Rattle.tile_map.specs.Plane.{MapValue, site}
+use Rattle.border_cache.specs.Copies.{HoldsWindow}
+use Rattle.border_cache.specs.News.{Covers, NewsIn}
+use Rattle.border_cache.specs.Shared.{TakesAt}
+use Rattle.border_cache.specs.Windows.{place_in}
+use Rattle.border_cache.proofs.Apart.{places_apart}
+use Rattle.border_cache.proofs.Runs.{held_adds, adds_none, adds_then}
+use Rattle.border_cache.proofs.Taken.{takes_none, takes_news}
+use Rattle.border_cache.proofs.SharedRuns.{no_site, or_site}
+use Rattle.border_cache.proofs.Refreshes.{covers_last}
+use Rattle.edge_lock.proofs.BoardLaws.{same_end, same_end_here}
+use Rattle.border_cache.proofs.refresh.refresh_sites.Goals as goal
+
+pub loop-n-init : goal.loop-n-init
+loop-n-init g c =
+    let v = c.args.cache.now in
+    let p = place_in v.map (site c.args.x c.args.y) c.args.edge in
+    record {
+      read = ([], adds_none (g.D.Board.end c.args.board.now).lists c.args.edge, takes_none c.args.edge (NewsIn c.args.news.now (Covers p 0)) v (λ k h. no_site p k h.0));
+      same = same_end_here (g.D.Board.end c.args.board.now);
+      moved = search rules;
+    }
+
+pub refresh_site-requires-clause-map : goal.refresh_site-requires-clause-map
+refresh_site-requires-clause-map g c = c.requires.map ∙ sym c.loop-n.invariant.read.2.map
+
+pub refresh_site-requires-clause-holds : goal.refresh_site-requires-clause-holds
+refresh_site-requires-clause-holds g c =
+    let t = c.loop-n.invariant.read.2 in
+    subst (λ (p : MapValue × ℕ). HoldsWindow p.0 p.1 (site c.args.x c.args.y)) (λ i. (sym t.map i, sym t.tile i)) c.requires.holds
+
+pub refresh_site-requires-clause-held : goal.refresh_site-requires-clause-held
+refresh_site-requires-clause-held g c =
+    let r = c.loop-n.invariant.read in
+    held_adds (g.D.Board.end c.args.board.now).lists (g.D.Board.end c.loop-n.board).lists c.args.edge r.0 c.requires.held r.1
+
+pub loop-n-preserved : goal.loop-n-preserved
+loop-n-preserved g c =
+    let i = c.loop-n.invariant in
+    let p = i.read in
+    let q = c.refresh_site.ensures.read in
+    let b = (g.D.Board.end c.loop-n.board).lists in
+    let d = (g.D.Board.end c.refresh_site.new.board).lists in
+    let v = c.args.cache.now in
+    let mid = c.loop-n.cache in
+    let new = c.refresh_site.new.cache in
+    let s = site c.args.x c.args.y in
+    let e = c.args.edge in
+    let news = c.args.news.now in
+    let places : ℕ → Option ℕ = place_in v.map s e in
+    let n = c.loop-n.n in
+    let lt : n < 41 = omega (arith, c.loop-n-test.true) in
+    let one : TakesAt e (NewsIn news (λ k. places n ≡ Some k)) mid new q.0 = subst (λ m. TakesAt e (NewsIn news (λ k. place_in m s e n ≡ Some k)) mid new q.0) p.2.map q.2 in
+    record {
+      read = (
+        p.0 ++ q.0,
+        adds_then (g.D.Board.end c.args.board.now).lists b d e p.0 q.0 c.requires.held p.1 q.1,
+        takes_news e news (Covers places n) (λ k. places n ≡ Some k) (Covers places (n + 1)) v mid new p.0 q.0 p.2 one
+            (λ k cov at. let same = places_apart v.map s e cov.0 n k (omega (arith, cov.1, lt)) lt cov.2 at in omega (arith, same, cov.1)) (or_site places n) (covers_last places n),
+      );
+      same = same_end (g.D.Board.end c.args.board.now) (g.D.Board.end c.loop-n.board) (g.D.Board.end c.refresh_site.new.board) i.same c.refresh_site.ensures.same;
+      moved = search rules;
+    }
+
+pub returns-clause-read : goal.returns-clause-read
+returns-clause-read g c =
+    let p = c.loop-n.invariant.read in
+    let v = c.args.cache.now in
+    let all : c.loop-n.n ≡ 41 = omega (arith, c.loop-n-test.false, c.loop-n.auto.n-end) in
+    (p.0, p.1, subst (λ n. TakesAt c.args.edge (NewsIn c.args.news.now (Covers (place_in v.map (site c.args.x c.args.y) c.args.edge) n)) v c.loop-n.cache p.0) all p.2)

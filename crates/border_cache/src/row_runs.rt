@@ -1,0 +1,51 @@
+//! The rows of a window in an area, as runs of places.
+ghost use Rattle.std.specs.Prelude.{◌<◌};
+ghost use Rattle.tile_map.specs.Plane.{site};
+ghost use Rattle.tile_map.specs.Tables.{IsSmall};
+ghost use Rattle.border_cache.specs.Windows.{IsRowRun};
+
+use tile_map::Area;
+
+/// The sites of one row of a window that an area has. They are one run of columns, and one of
+/// places.
+#[derive(Clone, Copy)]
+pub(crate) struct Run {
+    /// The row.
+    pub row: u32,
+    /// The first column.
+    pub west: u32,
+    /// One more than the last column.
+    pub east: u32,
+    /// The place of the site in the first column.
+    pub start: u32,
+}
+
+/// The run of row `j` of the window at a site, counted from the north, or `None` if the area has no
+/// site of it.
+#[inline]
+pub(crate) fn run_of(area: Area, x: u32, y: u32, j: u32) -> Option<Run>
+    requires small { IsSmall area }
+    requires x { x < 512 }
+    requires y { y < 512 }
+    requires j { j < 9 }
+    ensures { IsRowRun area (site x y) j result }
+{
+    let row = (y + j).checked_sub(4)?;
+    if row < area.rows.first || area.rows.end <= row {
+        return None;
+    }
+    let reach = j.min(8 - j);
+    let west = area.columns.first.max(x.saturating_sub(reach));
+    let east = area.columns.end.min(x + reach + 1);
+    if east <= west {
+        return None;
+    }
+    let width = area.columns.end - area.columns.first;
+    let start = (row - area.rows.first) * width + (west - area.columns.first);
+    Some(Run {
+        row,
+        west,
+        east,
+        start,
+    })
+}
