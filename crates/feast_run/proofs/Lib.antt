@@ -9,9 +9,14 @@ pub mod Laws
 pub mod Loads
 pub mod Machines
 pub mod Missing
+pub mod Naming
 pub mod NoFailures
+pub mod Placed
 pub mod PlansFit
 pub mod Promised
+pub mod RefusedElements
+pub mod RefusedTexts
+pub mod RefusedWorlds
 pub mod ReportLength
 pub mod Runs
 pub mod Sound
