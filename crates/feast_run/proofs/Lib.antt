@@ -18,6 +18,7 @@ pub mod RefusedElements
 pub mod RefusedTexts
 pub mod RefusedWorlds
 pub mod ReportLength
+pub mod Rewound
 pub mod Runs
 pub mod Sound
 pub mod Sure
