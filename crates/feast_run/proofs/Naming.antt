@@ -1,8 +1,7 @@
 -- The line of a refusal names a file word of the form.
-use Rattle.std.proofs.Common.{ℕ, zero, suc, ◌≡◌, ◌≤◌, ◌<◌, ◌+◌, List, [], ◌∷◌, ◌++◌, length, Option, Some, None, Ok, Err, refl, sym, ap, subst, ◌∙◌, inl, inr, arith}
+use Rattle.std.proofs.Common.{ℕ, zero, suc, ◌≡◌, ◌≤◌, ◌<◌, ◌+◌, List, [], ◌∷◌, ◌++◌, length, Option, Some, None, Ok, Err, refl, sym, ap, subst, inl, inr, arith}
 use Rattle.std.specs.Prelude.{slice_index_or}
 use Rattle.std.proofs.lemmas.List.{length-append}
-use Rattle.event_journal.specs.Reading.{read_report}
 use Rattle.feast_base.proofs.Stages.{went}
 use Rattle.feast_base.specs.Outside.{File, ShelfState, SinkState}
 use Rattle.feast_base.specs.Refusals.{refusal_line, unreadable_line}
@@ -28,7 +27,6 @@ use Rattle.feast_run.specs.Stages.{ReadyValue, at_line, builds, draft_of, elemen
 use Rattle.feast_run.specs.declared.halt.Input.{Input}
 use Rattle.feast_run.specs.declared.halt.Input.TheVariants as input
 use Rattle.feast_run.specs.declared.status.Status.{Status}
-use Rattle.feast_run.specs.declared.status.Status.TheVariants as how
 use Rattle.world_text.specs.Drafts.{DraftValue}
 use Rattle.world_text.specs.Named.{WorldValue}
 

@@ -1,7 +1,6 @@
 -- The fault of a journal has a line, and that of a code file a byte.
-use Rattle.std.proofs.Common.{ℕ, ◌≡◌, ◌≤◌, ◌+◌, ◌++◌, Bool, true, false, List, [], ◌∷◌, length, Option, Result, Ok, Err, refl, sym, ap, subst, arith, if◌then◌else◌}
-use Rattle.std.specs.List.{flat_map}
-use Rattle.code_file.specs.Form.{CodesValue, element_bytes, names_of}
+use Rattle.std.proofs.Common.{ℕ, ◌≡◌, ◌≤◌, ◌+◌, ◌++◌, Bool, true, false, List, [], ◌∷◌, Option, Result, Ok, Err, refl, subst, arith, if◌then◌else◌}
+use Rattle.code_file.specs.Form.{CodesValue, names_of}
 use Rattle.code_file.specs.Judging.{Reads, column_behind, is_among, judged}
 use Rattle.code_file.specs.declared.fault.CodeFault.{CodeFault}
 use Rattle.code_file.specs.declared.fault.CodeFault.TheVariants.{BadMagic, BadForm, NotValid, SameName, NoMemory}

@@ -9,7 +9,7 @@ use Rattle.feast_run.proofs.AuditedLater.{passes, passes_later}
 use Rattle.feast_run.proofs.Sure.{sources_one}
 use Rattle.feast_run.specs.Again.{RewindsTo, SaysJournal}
 use Rattle.feast_run.specs.Answer.{AreFirstAtoms, rewind_of}
-use Rattle.feast_run.specs.Promises.{IsLater, IsRewoundLater, IsSet, RewindTold, WorldTold, report_words}
+use Rattle.feast_run.specs.Promises.{IsRewoundLater, IsSet, RewindTold, WorldTold, report_words}
 use Rattle.feast_run.specs.Stages.{JournalValue, ReadyValue, journal_limit, journal_said, ready, sourced}
 use Rattle.world_text.specs.Named.{WorldValue}
 
