@@ -1,4 +1,5 @@
--- The report of a run says its own journal, is audited with `yes`, and replays to its own atoms.
+-- The report of a run says its own journal, is audited with `yes`, rewinds to the atoms after its first
+-- events, and replays to its own atoms.
 use Rattle.std.proofs.Common.{ℕ, ◌≡◌, ◌≤◌, List, ◌++◌, Ok, codes, length, ap, sym, subst, ◌∙◌, inr}
 use Rattle.cell_grid.specs.Grid.{GridValue}
 use Rattle.cell_grid.specs.declared.record.Record.{Record}
@@ -9,6 +10,7 @@ use Rattle.feast_run.proofs.AuditedAgain.{audits_yes}
 use Rattle.feast_run.proofs.Machines.{left_named}
 use Rattle.feast_run.proofs.PlansFit.{HasSize, left_size, plan_fits}
 use Rattle.feast_run.proofs.ReportLength.{formed_short, report_short}
+use Rattle.feast_run.proofs.Rewound.{rewinds_to}
 use Rattle.feast_run.proofs.Sound.{AreSound}
 use Rattle.feast_run.specs.Again.{IsOwnReport, ReplaysTo, SaysJournal}
 use Rattle.feast_run.specs.Elements.{ElementsValue}
@@ -54,7 +56,11 @@ pub own_report : (files : List File) (word : List ℕ) (world : WorldValue) (e :
 own_report files word world e grid records abandoned text sound told run shown =
     let back = read_back files word world e grid records abandoned text sound told run shown in
     let journal : JournalValue = record { records = records; abandoned = abandoned } in
-    record { says = back.says; audited = audits_yes (ready_with world e) text grid journal back.says back.within run shown }
+    record {
+      says = back.says;
+      audited = audits_yes (ready_with world e) text grid journal back.says back.within run shown;
+      rewound = rewinds_to (ready_with world e) text journal back.says back.within;
+    }
 
 pub replays_to : (files : List File) (word : List ℕ) (world : WorldValue) (e : ElementsValue) (grid : GridValue) (records : List Record) (abandoned : List Abandoned) (text : List ℕ) → AreSound e →
     WorldTold files word e.names world → IsRun (ready_with world e) grid records abandoned → text ≡ report e.names grid records abandoned → ReplaysTo (ready_with world e) text grid

@@ -18,7 +18,7 @@ good_world files word names w h = record {
 }
 
 -- a told world with a set passes
-passes : (files : List File) (world : List ℕ) (words : List (List ℕ)) (w : WorldValue) (set : SetValue) → WorldTold files world (element_names set) w → IsSet files words set → ready (Some files) world words (Ok (sourced w set))
+pub passes : (files : List File) (world : List ℕ) (words : List (List ℕ)) (w : WorldValue) (set : SetValue) → WorldTold files world (element_names set) w → IsSet files words set → ready (Some files) world words (Ok (sourced w set))
 passes files world words w set told is_set = sources_pass files world words w (record { given = set; is_told = is_set; good = good_world files world (element_names set) w told })
 
 same_files : (files others : List File) (words : List (List ℕ)) (sources : List File) → HaveSame files others words → AreFiles files words sources → AreFiles others words sources
@@ -28,7 +28,7 @@ same_files files others (w ∷ ws) [] same h = absurd h
 same_files files others (w ∷ ws) (s ∷ ss) same h = (h.0, same.0 ∙ h.1, h.2, same_files files others ws ss same.1 h.3)
 
 -- and so does the same world with the same set later
-passes_later : (files : List File) (world : List ℕ) (words : List (List ℕ)) (text : List ℕ) (w : WorldValue) (set : SetValue) → IsSet files words set → WorldTold files world (element_names set) w → (later : IsLater files world words text) →
+pub passes_later : (files : List File) (world : List ℕ) (words : List (List ℕ)) (text : List ℕ) (w : WorldValue) (set : SetValue) → IsSet files words set → WorldTold files world (element_names set) w → (later : IsLater files world words text) →
     ready (Some later.others) world words (Ok (sourced w set))
 passes_later files world words text w set is_set told later =
     let others = later.others in

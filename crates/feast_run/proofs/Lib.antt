@@ -9,10 +9,16 @@ pub mod Laws
 pub mod Loads
 pub mod Machines
 pub mod Missing
+pub mod Naming
 pub mod NoFailures
+pub mod Placed
 pub mod PlansFit
 pub mod Promised
+pub mod RefusedElements
+pub mod RefusedTexts
+pub mod RefusedWorlds
 pub mod ReportLength
+pub mod Rewound
 pub mod Runs
 pub mod Sound
 pub mod Sure

@@ -10,6 +10,7 @@ use Rattle.feast_run.proofs.AuditedLater.{audited_later}
 use Rattle.feast_run.proofs.CodeStages.{codes_are}
 use Rattle.feast_base.proofs.Stages.{went}
 use Rattle.feast_run.proofs.Laws.{one_refusal}
+use Rattle.feast_run.proofs.Rewound.{rewound_later}
 use Rattle.feast_run.proofs.Runs.{ReadyTold, ready_told, set_is}
 use Rattle.feast_run.proofs.Sound.{AreSound, codes_sound, set_sound}
 use Rattle.feast_run.proofs.Sure.{form_accepts, form_sure}
@@ -27,7 +28,7 @@ use Rattle.feast_base.specs.Stages.{IsSure, Stage, and_then}
 use Rattle.feast_run.specs.Halting.{Accepts, FormOutcome, HaltValue, IsRefusal, RefusedValue, misses, refuses}
 use Rattle.feast_run.specs.Promises.{Agrees, AuditTold, Complete, Exactly, Gains, GainsLine, GenTold, HasShown, Headline, IsCodeFile, IsDue, IsReadAgain, IsSet, KnownReport, NoneNoted, RanTold, ReplayTold, ReportWords, RewindTold, SetTold, Shows, SteppedTold, UsageExactly, report_words}
 use Rattle.feast_run.specs.Owing.{Reports, reported}
-use Rattle.feast_run.specs.Stages.{JournalValue, ReadyValue, journal_in, journal_limit, load, ready_by, ready_with, set_of}
+use Rattle.feast_run.specs.Stages.{JournalValue, ReadyValue, journal_in, journal_limit, load, ready_by, ready_with, set_of, sourced}
 use Rattle.feast_run.specs.Stepped.{IsSteppedRun, machine_of, stepped_journal, stepped_logs, stepped_report}
 use Rattle.feast_run.specs.declared.status.Status.{Status}
 use Rattle.feast_run.specs.declared.status.Status.TheVariants as how
@@ -170,10 +171,13 @@ again_of files (code words) text told = tt
 again_of files (pack words) text told = tt
 again_of files (run world words) text told =
     let own = ran_again source_elements (IsSet files words) files world text (set_sound files words) told in
-    (own, audited_later files world words text told.world told.given told.is_told told.told_world own.audited)
+    let audited = audited_later files world words text told.world told.given told.is_told told.told_world own.audited in
+    (own, audited, rewound_later files world words text told.world told.given (reported told.reports) told.is_told told.told_world own.rewound)
 again_of files (step world words) text told =
     let own = stepped_again source_elements (IsSet files words) files world text (set_sound files words) told in
-    (own, audited_later files world words text told.world told.given told.is_told told.told_world own.audited)
+    let journal = stepped_journal (sourced told.world told.given) in
+    let audited = audited_later files world words text told.world told.given told.is_told told.told_world own.audited in
+    (own, audited, rewound_later files world words text told.world told.given journal told.is_told told.told_world own.rewound)
 again_of files (replay world journal words) text told = tt
 again_of files (gen number) text told = tt
 again_of files (audit world report words) text told = tt

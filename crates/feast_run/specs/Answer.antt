@@ -54,9 +54,13 @@ replays r journal = gives (atoms_after r journal.records)
 abbrev pub replay_of : Option (List File) → List ℕ → ReadyValue → Stage (List ℕ) HaltValue
 replay_of files journal r = and_then (journal_of files journal r.world) (replays r)
 
+-- a text is that of the atoms that the first k events of a journal leave, which has that many
+abbrev pub AreFirstAtoms : ReadyValue → JournalValue → ℕ → List ℕ → Type 0
+AreFirstAtoms r journal k text = (k ≤ length journal.records) × (text ≡ atoms_after r (take k journal.records))
+
 -- the atoms that the first k events of a journal leave, if it has that many
 abbrev pub rewinds : List ℕ → ℕ → ReadyValue → JournalValue → Stage (List ℕ) HaltValue
-rewinds word k r journal (Ok text) = (k ≤ length journal.records) × (text ≡ atoms_after r (take k journal.records))
+rewinds word k r journal (Ok text) = AreFirstAtoms r journal k text
 rewinds word k r journal (Err (refuses x)) = (length journal.records < k) × (x ≡ records_refused word (length journal.records))
 rewinds word k r journal (Err (misses w)) = ⊥
 

@@ -11,6 +11,7 @@ pub mod Faults
 pub mod Forms
 pub mod Generating
 pub mod Halting
+pub mod Naming
 pub mod Outputs
 pub mod Owing
 pub mod Packed

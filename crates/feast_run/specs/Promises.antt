@@ -8,7 +8,7 @@ use Rattle.feast_base.specs.Held.{ShelfHeld, SinkHeld, mem_shelf_state, mem_sink
 use Rattle.feast_base.specs.Outside.{File, Grows, ShelfState, SinkState, file_of}
 use Rattle.feast_base.specs.Refusals.{refusal_line, unreadable_line, usage_line}
 use Rattle.feast_run.specs.Again.{IsOwnReport, ReplaysTo}
-use Rattle.feast_run.specs.Answer.{atoms_after, form_answer}
+use Rattle.feast_run.specs.Answer.{AreFirstAtoms, atoms_after, form_answer}
 use Rattle.feast_run.specs.Audited.{Audits}
 use Rattle.feast_run.specs.Changes.{Change, change}
 use Rattle.feast_run.specs.Ending.{ComesTo, Ends, status_of}
@@ -179,16 +179,25 @@ pub record IsAuditedLater (files : List File) (world : List ℕ) (words : List (
   pub comes : (later : IsLater files world words text) → form_answer (Some later.others) (audit world later.report words) (Ok (judgement_text Yes))
   pub only : (later : IsLater files world words text) (line : List ℕ) → AuditTold later.others (report_words world later.report words) line → line ≡ judgement_text Yes
 
+-- a later rewind of this text, with the same world and the same element files: it may come to each
+-- text that is right for the number of events that remain, and any text that it shows is right
+pub record IsRewoundLater (files : List File) (world : List ℕ) (words : List (List ℕ)) (text : List ℕ) (IsRight : ℕ → List ℕ → Type 0) : Type 0 where
+  pub comes : (later : IsLater files world words text) (k : ℕ) (atoms : List ℕ) → IsRight k atoms → form_answer (Some later.others) (rewind world later.report k words) (Ok atoms)
+  pub only : (later : IsLater files world words text) (k : ℕ) (atoms : List ℕ) → RewindTold later.others (report_words world later.report words) k atoms → IsRight k atoms
+
 -- the bytes of a run or a stepped run determine its journal: what they say when they are read as a
--- report of its world are its own events and abandoned attempts. An audit of them comes to `yes`
+-- report of its world are its own events and abandoned attempts. An audit of them comes to `yes`, and
+-- a rewind of them to the atoms after the journal's first events
 abbrev pub IsReadAgain : (files : List File) (form : FormValue) (appended : List ℕ) → Shows files form appended → Type 0
 IsReadAgain files (check words) appended told = Unit {0}
 IsReadAgain files (code words) appended told = Unit {0}
 IsReadAgain files (pack words) appended told = Unit {0}
 IsReadAgain files (run world words) appended told =
-    IsOwnReport (sourced told.world told.given) appended (reported told.reports) × IsAuditedLater files world words appended
+    IsOwnReport (sourced told.world told.given) appended (reported told.reports) × IsAuditedLater files world words appended ×
+    IsRewoundLater files world words appended (AreFirstAtoms (sourced told.world told.given) (reported told.reports))
 IsReadAgain files (step world words) appended told =
-    IsOwnReport (sourced told.world told.given) appended (stepped_journal (sourced told.world told.given)) × IsAuditedLater files world words appended
+    IsOwnReport (sourced told.world told.given) appended (stepped_journal (sourced told.world told.given)) × IsAuditedLater files world words appended ×
+    IsRewoundLater files world words appended (AreFirstAtoms (sourced told.world told.given) (stepped_journal (sourced told.world told.given)))
 IsReadAgain files (replay world journal words) appended told = Unit {0}
 IsReadAgain files (gen number) appended told = Unit {0}
 IsReadAgain files (audit world report words) appended told = Unit {0}

@@ -3,6 +3,7 @@ ghost use Rattle.std.specs.Prelude.{◌≡◌, ◌<◌, ◌^◌, ◌-◌};
 ghost use Rattle.feast_run.specs.Changes.{change};
 ghost use Rattle.feast_run.specs.Ending.{Ends};
 ghost use Rattle.feast_run.specs.Forms.{asked};
+ghost use Rattle.feast_run.specs.Naming.{Names};
 ghost use Rattle.feast_run.specs.Outputs.{IsWritable, output_text};
 ghost use Rattle.feast_run.specs.Promises.{Complete, Exactly, Headline, Noted, UsageExactly};
 ghost use Rattle.feast_run.specs.Replies.{PutWith};
@@ -112,7 +113,7 @@ fn call<R: Threads + Sync, F: Shelf, K: Sink, G: Gate>(
 ///   1,000,000.
 ///
 /// Any other text is put in one piece, or not at all if it is empty. Any refusal is reported in one
-/// line, put in place of the text:
+/// line, put in place of the text. If it is about a file, the line names a word of such a file:
 ///
 /// - `Usage` if the words have no form.
 /// - `Unreadable` if a file can't be loaded, or is longer than its limit (268,435,456 bytes for
@@ -147,6 +148,7 @@ pub fn feast<R: Threads + Sync, F: Shelf, K: Sink, G: Gate>(
     ensures headline { Headline (asked words.now) (F.state shelf.old) (change K.state sink.old sink.new) result }
     ensures usage { UsageExactly (asked words.now) result }
     ensures exactly { Exactly (asked words.now) (change F.state shelf.old shelf.new) (change K.state sink.old sink.new) result }
+    ensures names { Names (asked words.now) (change K.state sink.old sink.new) result }
     ensures noted { Noted (asked words.now) (change F.state shelf.old shelf.new) result }
     ensures complete { Complete (asked words.now) (change F.state shelf.old shelf.new) (change K.state sink.old sink.new) result }
 {
