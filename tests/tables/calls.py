@@ -3,14 +3,12 @@ from __future__ import annotations
 
 from typing import Iterator
 
+from packing import Function, code_file, element
 from rows import File, Row, refused, written
+from texts import atoms, lines, report, world
 
 # The code file of the walker.
-CODED = (
-    b"FEASTC\x01\x00\x00\x01\x00\x00\x00\x06Walker\x00\x00\x00\x01\x00\x00\x00\x06behave"
-    b"\x00\x00\x00\x00\x00\x00\x00\x00\x00\x00\x00\x04"
-    b"\x00\x00\x00\x00\x00\x00\x00\x00\x00\x00\x00\x00\x00\x00\x00\x00\x00\x00\x00\x04\x0c0"
-)
+CODED = code_file(element("Walker", [Function()], ["PushNum 0", "PushNum 4", "Swap", "ReturnVoid"]))
 
 # The files that are there, by their names.
 FILES: dict[str, File] = {
@@ -24,33 +22,17 @@ FILES: dict[str, File] = {
     "stone": "element Stone { Void behave() { } }",
     "coded": CODED,
     "cut": CODED[:-1],
-    "walk": "feast 1\ntiles 1 1\nsize 8 8\ntry 0 3 4 0000000000000000\natom 3 4 Walker\n",
-    "rest": "feast 1\ntiles 1 1\nsize 8 8\natom 3 4 Walker\n",
-    "elsewhere": "feast 1\ntiles 1 1\nsize 8 8\ntry 0 0 0 0000000000000000\natom 3 4 Walker\n",
-    "border": "feast 1\ntiles 1 1\nsize 8 8\ntry 0 7 4 0000000000000000\natom 7 4 Walker\n",
-    "garden": "feast 1\ntiles 1 1\nsize 8 8\ntry 0 3 4 0000000000000000\natom 3 4 Walker\natom 7 7 Stone\n",
-    "two": (
-        "feast 1\n"
-        "tiles 2 1\n"
-        "size 16 16\n"
-        "try 0 3 4 0000000000000000\n"
-        "try 1 28 4 0000000000000000\n"
-        "atom 3 4 Walker\n"
-        "atom 28 4 Walker\n"
-    ),
-    "narrow": "feast 1\ntiles 1 1\nsize 7 8\n",
-    "taken": "feast 1\ntiles 1 1\nsize 8 8\natom 3 4 Walker\natom 3 4 Walker\n",
-    "strange": "feast 1\ntiles 1 1\nsize 8 8\natom 3 4 Stone\n",
-    "report": (
-        "feast 1\n"
-        "atoms 2\n"
-        "4 4 Walker 000000000000000000\n"
-        "7 7 Stone 000000000000000000\n"
-        "journal 1\n"
-        "1 0 0 3 4 0000000000000000\n"
-        "abandoned 0\n"
-    ),
-    "other": "feast 1\natoms 0\njournal 1\n1 0 0 3 4 0000000000000001\nabandoned 0\n",
+    "walk": world("try 0 3 4", "atom 3 4 Walker"),
+    "rest": world("atom 3 4 Walker"),
+    "elsewhere": world("try 0 0 0", "atom 3 4 Walker"),
+    "border": world("try 0 7 4", "atom 7 4 Walker"),
+    "garden": world("try 0 3 4", "atom 3 4 Walker", "atom 7 7 Stone"),
+    "two": world("try 0 3 4", "try 1 28 4", "atom 3 4 Walker", "atom 28 4 Walker", tiles="2 1", size="16 16"),
+    "narrow": world(size="7 8"),
+    "taken": world("atom 3 4 Walker", "atom 3 4 Walker"),
+    "strange": world("atom 3 4 Stone"),
+    "report": report(["4 4 Walker", "7 7 Stone"], ["1 0 0 3 4"]),
+    "other": report([], [f"1 0 0 3 4 {1:016x}"]),
 }
 
 USAGE = (
@@ -58,110 +40,32 @@ USAGE = (
     "JOURNAL FILE.. | audit WORLD REPORT FILE.. | rewind WORLD REPORT K FILE.. | gen N\n"
 )
 
+# The lines of the counter and of the part, and the code of the walker and of the stone.
+COUNTER = ["element Counter 1 3", "member n Int(3) 0 3"]
+PART = ["quark Part 1", "member b Bool 0 1"]
+WALKER = ["element Walker 1 4", "function 0 behave 0 0", "0 PushNum 0", "1 PushNum 4", "2 Swap", "3 ReturnVoid"]
+STONE = ["element Stone 2 1", "function 0 behave 0 0", "0 ReturnVoid"]
+
+# What a step to the east leaves, of one walker and of two.
+MOVED = report(["4 4 Walker"], ["1 0 0 3 4"])
+BOTH = report(["4 4 Walker", "29 4 Walker"], ["1 0 0 3 4", "1 1 0 28 4"])
+
 # Calls that end well, with what they write.
 DONE: list[tuple[str, str]] = [
-    ("check counter", "element Counter 1 3\nmember n Int(3) 0 3\n"),
-    ("check part empty counter", "quark Part 1\nmember b Bool 0 1\nelement Counter 1 3\nmember n Int(3) 0 3\n"),
+    ("check counter", lines(*COUNTER)),
+    ("check part empty counter", lines(*PART, *COUNTER)),
     ("check empty", ""),
-    (
-        "code walker stone",
-        "element Walker 1 4\n"
-        "function 0 behave 0 0\n"
-        "0 PushNum 0\n"
-        "1 PushNum 4\n"
-        "2 Swap\n"
-        "3 ReturnVoid\n"
-        "element Stone 2 1\n"
-        "function 0 behave 0 0\n"
-        "0 ReturnVoid\n",
-    ),
-    (
-        "run walk walker",
-        "feast 1\n"
-        "atoms 1\n"
-        "4 4 Walker 000000000000000000\n"
-        "journal 1\n"
-        "1 0 0 3 4 0000000000000000\n"
-        "abandoned 0\n",
-    ),
-    ("run rest walker", "feast 1\natoms 1\n3 4 Walker 000000000000000000\njournal 0\nabandoned 0\n"),
-    (
-        "run elsewhere walker",
-        "feast 1\n"
-        "atoms 1\n"
-        "3 4 Walker 000000000000000000\n"
-        "journal 1\n"
-        "1 0 0 0 0 0000000000000000\n"
-        "abandoned 0\n",
-    ),
-    (
-        "run border walker",
-        "feast 1\n"
-        "atoms 1\n"
-        "7 4 Walker 000000000000000000\n"
-        "journal 1\n"
-        "1 0 0 7 4 0000000000000000\n"
-        "abandoned 0\n",
-    ),
-    (
-        "run garden walker stone",
-        "feast 1\n"
-        "atoms 2\n"
-        "4 4 Walker 000000000000000000\n"
-        "7 7 Stone 000000000000000000\n"
-        "journal 1\n"
-        "1 0 0 3 4 0000000000000000\n"
-        "abandoned 0\n",
-    ),
-    (
-        "run two walker",
-        "feast 1\n"
-        "atoms 2\n"
-        "4 4 Walker 000000000000000000\n"
-        "29 4 Walker 000000000000000000\n"
-        "journal 2\n"
-        "1 0 0 3 4 0000000000000000\n"
-        "1 1 0 28 4 0000000000000000\n"
-        "abandoned 0\n",
-    ),
-    (
-        "replay garden report walker stone",
-        "feast 1\n"
-        "atoms 2\n"
-        "4 4 Walker 000000000000000000\n"
-        "7 7 Stone 000000000000000000\n",
-    ),
-    (
-        "steppack two coded",
-        "feast 1\n"
-        "atoms 2\n"
-        "4 4 Walker 000000000000000000\n"
-        "29 4 Walker 000000000000000000\n"
-        "journal 2\n"
-        "1 0 0 3 4 0000000000000000\n"
-        "1 1 0 28 4 0000000000000000\n"
-        "abandoned 0\n",
-    ),
-    (
-        "runpack two coded",
-        "feast 1\n"
-        "atoms 2\n"
-        "4 4 Walker 000000000000000000\n"
-        "29 4 Walker 000000000000000000\n"
-        "journal 2\n"
-        "1 0 0 3 4 0000000000000000\n"
-        "1 1 0 28 4 0000000000000000\n"
-        "abandoned 0\n",
-    ),
-    (
-        "runpack walk coded",
-        "feast 1\n"
-        "atoms 1\n"
-        "4 4 Walker 000000000000000000\n"
-        "journal 1\n"
-        "1 0 0 3 4 0000000000000000\n"
-        "abandoned 0\n",
-    ),
+    ("code walker stone", lines(*WALKER, *STONE)),
+    ("run walk walker", MOVED),
+    ("run rest walker", report(["3 4 Walker"], [])),
+    ("run elsewhere walker", report(["3 4 Walker"], ["1 0 0 0 0"])),
+    ("run border walker", report(["7 4 Walker"], ["1 0 0 7 4"])),
+    ("run garden walker stone", report(["4 4 Walker", "7 7 Stone"], ["1 0 0 3 4"])),
+    ("run two walker", BOTH),
+    ("replay garden report walker stone", atoms("4 4 Walker", "7 7 Stone")),
+    ("steppack two coded", BOTH),
+    ("runpack two coded", BOTH),
+    ("runpack walk coded", MOVED),
 ]
 
 # Calls whose words have no form.

@@ -5,8 +5,9 @@ from typing import Iterator
 
 from packing import Function, code_file, element
 from rows import Row, refused, written
+from texts import report, world
 
-WORLD = "feast 1\ntiles 1 1\nsize 8 8\ntry 0 3 4 0000000000000000\natom 3 4 Walker\n"
+WORLD = world("try 0 3 4", "atom 3 4 Walker")
 
 # The element that swaps itself with its eastern neighbour, and its code file.
 SOURCE = "element Walker { EventWindow ew; Void behave() { ew.swap(0, 4); } }"
@@ -14,7 +15,7 @@ WALKER = element("Walker", [Function()], ["PushNum 0", "PushNum 4", "Swap", "Ret
 GOOD = code_file(WALKER)
 
 # What an event of it leaves.
-MOVED = "feast 1\natoms 1\n4 4 Walker 000000000000000000\njournal 1\n1 0 0 3 4 0000000000000000\nabandoned 0\n"
+MOVED = report(["4 4 Walker"], ["1 0 0 3 4"])
 
 # A place, counted from 1, with another byte there, and the place and the code of the fault: of the first bytes; of the
 # elements, too many, one that is missing, and bytes behind none; of the element's name; of its function, its name,

@@ -5,10 +5,11 @@ from typing import Sequence
 
 from packing import ATOM, NUMBER, Function, code_file, element
 from rows import Row, refused, written
+from texts import report, world
 
 # An event at the centre of its window, with another atom west of it.
-WORLD = "feast 1\ntiles 1 1\nsize 16 16\ntry 0 8 8 0000000000000000\natom 8 8 A\natom 7 8 B 000000000000000005\n"
-WEST = "7 8 B 000000000000000005"
+WEST = f"7 8 B {5:018x}"
+WORLD = world("try 0 8 8", "atom 8 8 A", f"atom {WEST}", size="16 16")
 
 # A function with two slots, a number and an atom.
 MAIN = Function(slots=(NUMBER, ATOM))
@@ -23,8 +24,7 @@ def files(code: str, functions: Sequence[Function] = (MAIN,)) -> dict[str, str |
 
 def leaves(code: str, atoms: Sequence[str], functions: Sequence[Function] = (MAIN,)) -> Row:
     """An event of this code leaves these atoms."""
-    lines = ["feast 1", f"atoms {len(atoms)}", *atoms, "journal 1", "1 0 0 8 8 0000000000000000", "abandoned 0"]
-    return written("steppack w c", files(code, functions), "".join(f"{line}\n" for line in lines))
+    return written("steppack w c", files(code, functions), report(atoms, ["1 0 0 8 8"]))
 
 
 def leaves_state(code: str, state: int, functions: Sequence[Function] = (MAIN,)) -> Row:

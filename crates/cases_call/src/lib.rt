@@ -12,4 +12,6 @@ mod faults;
 #[cfg(test)]
 mod gates;
 #[cfg(test)]
+mod texts;
+#[cfg(test)]
 mod workers;

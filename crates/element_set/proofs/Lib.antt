@@ -1,4 +1,5 @@
 pub mod Acting
+pub mod ClassWalk
 pub mod CodesText
 pub mod Counting
 pub mod EnoughFiles

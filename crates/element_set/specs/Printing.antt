@@ -1,5 +1,5 @@
--- What is appended for the code's classes and data members.
-use Rattle.std.specs.Prelude.{ℕ, List, Vec, map, Result}
+-- What is appended for the code's classes and data members, and how long it is.
+use Rattle.std.specs.Prelude.{ℕ, ◌≡◌, ◌-◌, ◌^◌, List, Vec, length, map, min, IfOk, Result}
 use Rattle.std.specs.declared.alloc.Global.{Global}
 use Rattle.feast_base.specs.Appending.{Appends}
 use Rattle.ulam_tree.specs.TypedViews.{typed_class, typed_member}
@@ -13,6 +13,10 @@ use Rattle.element_set.specs.declared.print.Span.{Span}
 -- the text was appended, or anything after the old bytes where memory ran out
 abbrev pub Adds : {T E : Type 0} → Result T E → Vec ℕ Global → Vec ℕ Global → List ℕ → Type 0
 Adds result old new text = Appends old.items new.items result text
+
+-- at Ok the length of the text, or the greatest number of 64 bits if the text is longer
+abbrev pub HasLength : {E : Type 0} → Result ℕ E → List ℕ → Type 0
+HasLength result text = IfOk result (λ n. n ≡ min (length text) (2 ^ 64 - 1))
 
 -- a data member on these bits, by its name, its type and its length
 abbrev pub field_text : List Class → List ℕ → Ty → ℕ → Span → List ℕ

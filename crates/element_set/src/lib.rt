@@ -11,6 +11,7 @@ mod crossing;
 mod elements;
 mod fault;
 mod law;
+mod lengths;
 mod names;
 mod numbers;
 mod print;

@@ -8,6 +8,7 @@ ghost use Rattle.element_set.specs.Names.{element_name, field_count};
 ghost use Rattle.element_set.specs.Printing.{Adds, class_with_fields, field_text, fields_text};
 ghost use Rattle.element_set.specs.Sets.{check_text, set_value};
 
+use crate::lengths::classes_len;
 use crate::set::ElementSet;
 use atom_layout::Layout;
 use feast_base::NoMemory;
@@ -197,7 +198,7 @@ fn push_head(out: &mut Vec<u8>, class: &Class, before: u32, bits: u32) -> Result
 }
 
 /// Appends the class of a number, with this many elements before it.
-fn push_class(
+pub(crate) fn push_class(
     out: &mut Vec<u8>,
     classes: &[Class],
     layout: &Layout,
@@ -216,7 +217,7 @@ fn push_class(
 }
 
 /// How many elements there are with one more class.
-fn with_class(class: &Class, before: u32) -> u32
+pub(crate) fn with_class(class: &Class, before: u32) -> u32
     requires { before ≤ 256 }
     ensures { result ≡ before + length (element_name (typed_class class.now)) }
 {
@@ -241,14 +242,18 @@ fn push_classes(out: &mut Vec<u8>, classes: &[Class], layout: &Layout) -> Result
 
 impl ElementSet {
     /// Appends the text that shows the classes: a line for each class with its bits, and for an
-    /// element with its number, and a line for each data member that takes bits. `NoMemory` if `out`
-    /// can't grow by the text; `out` then has what it had.
+    /// element with its number, and a line for each data member that takes bits. Memory is taken
+    /// once, for the counted length of the text; `NoMemory` if there is none for it, or for counting.
+    /// `out` then has what it had.
     pub fn print_check(&self, out: &mut Vec<u8>) -> Result<(), NoMemory>
         ensures ok { OnOk result (out.new.items ≡ out.old.items ++ check_text (set_value self.now)) }
         ensures err { OnErr result (out.new.items ≡ out.old.items) }
     {
         let before = out.len();
-        let pushed = push_classes(out, self.typed.classes.as_slice(), &self.layout);
+        let classes = self.typed.classes.as_slice();
+        let len = classes_len(*out.allocator(), classes, &self.layout)?;
+        out.reserve_exact(len)?;
+        let pushed = push_classes(out, classes, &self.layout);
         if pushed.is_err() {
             out.truncate(before);
         }

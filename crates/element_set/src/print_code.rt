@@ -4,6 +4,7 @@ ghost use Rattle.feast_base.specs.Appending.{Appends};
 ghost use Rattle.element_set.specs.CodeText.{codes_text};
 ghost use Rattle.element_set.specs.Sets.{code_text, set_value};
 
+use crate::lengths::codes_len;
 use crate::set::ElementSet;
 use feast_base::{Name, NoMemory};
 use stack_code::{Code, print};
@@ -20,14 +21,19 @@ fn push_codes(out: &mut Vec<u8>, names: &[Name], codes: &[Code]) -> Result<(), N
 
 impl ElementSet {
     /// Appends the text that shows the codes: for each element in order a line with its number and
-    /// the length of its code, and for each function a line and its instructions. `NoMemory` if `out`
-    /// can't grow by the text; `out` then has what it had.
+    /// the length of its code, and for each function a line and its instructions. Memory is taken
+    /// once, for the counted length of the text; `NoMemory` if there is none for it, or for counting.
+    /// `out` then has what it had.
     pub fn print_code(&self, out: &mut Vec<u8>) -> Result<(), NoMemory>
         ensures ok { OnOk result (out.new.items ≡ out.old.items ++ code_text (set_value self.now)) }
         ensures err { OnErr result (out.new.items ≡ out.old.items) }
     {
         let before = out.len();
-        let pushed = push_codes(out, self.names.as_slice(), self.codes.as_slice());
+        let names = self.names.as_slice();
+        let codes = self.codes.as_slice();
+        let len = codes_len(*out.allocator(), names, codes)?;
+        out.reserve_exact(len)?;
+        let pushed = push_codes(out, names, codes);
         if pushed.is_err() {
             out.truncate(before);
         }
