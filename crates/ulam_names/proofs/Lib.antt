@@ -5,6 +5,7 @@ pub mod BodyMeans
 pub mod ClassFits
 pub mod ClassMeans
 pub mod Examples
+pub mod Faults
 pub mod Items
 pub mod Lasts
 pub mod Loops

@@ -17,6 +17,7 @@ use Rattle.ulam_tree.specs.Resolved as r
 use Rattle.ulam_tree.proofs.RawRows.{block_is as raw_block_is}
 use Rattle.ulam_tree.specs.Found.{◌>>=◌}
 use Rattle.ulam_names.proofs.Bodies.{body_on, kept_long, kept_twice, walk_block}
+use Rattle.ulam_names.proofs.Faults.{passed_on, no_room}
 use Rattle.ulam_names.proofs.statement.+statement.Goals as goal
 
 pub body-loop-one-preserved : goal.body-loop-one-preserved
@@ -133,3 +134,84 @@ statement-returns-in_ok-body-in-For-clause-gives t c =
     let body : walk.statement ctx (scope_of es c.args.from) c.args.slot (raw_view.statement_of c.args.raw.now) ≡ (walk.statement ctx (scope_of two (length two)) c.in_ok-step-in-For.next (raw_view.statement_of c.deref-in-For.result.now) >>= λ (z : r.Statement). Ok (r.for_all a d b z)) =
     begin ∙ turns_body ctx one two len next c.in_ok-step-in-For.next a k g x (raw_view.statement_of c.deref-in-For.result.now) d b hd c.in_ok-step-in-For.ensures.gives c.in_ok-step-in-For.ensures.next c.in_ok-step-in-For.ensures.same (ap raw_view.statement_of c.deref-in-For.ensures) in
     body ∙ rw c.in_ok-body-in-For.ensures.gives (ap Ok (sym c.for_all.ensures))
+
+pub body-returns-in_err-one-clause-gives : goal.body-returns-in_err-one-clause-gives
+body-returns-in_err-one-clause-gives t c =
+    passed_on _ _ _ _ _ c.from_residual.ensures c.in_err-one.ensures.gives (λ f h. first_of (search rules, grind (arith, common_steps)))
+
+pub body-returns-in_err-push-clause-gives : goal.body-returns-in_err-push-clause-gives
+body-returns-in_err-push-clause-gives t c =
+    no_room _ _ _ c.from_residual-in_err-push.ensures
+
+pub branch-returns-in_err-found-clause-gives : goal.branch-returns-in_err-found-clause-gives
+branch-returns-in_err-found-clause-gives t c =
+    passed_on _ _ _ _ _ c.from_residual-in_err-found.ensures c.in_err-found.ensures.gives (λ f h. first_of (search rules, grind (arith, common_steps)))
+
+pub first_part-returns-in_err-one-in-Some-clause-gives : goal.first_part-returns-in_err-one-in-Some-clause-gives
+first_part-returns-in_err-one-in-Some-clause-gives t c =
+    passed_on _ _ _ _ _ c.from_residual.ensures c.in_err-one-in-Some.ensures.gives (λ f h. first_of (search rules, grind (arith, common_steps)))
+
+pub first_part-returns-in_err-new-in-Some-clause-gives : goal.first_part-returns-in_err-new-in-Some-clause-gives
+first_part-returns-in_err-new-in-Some-clause-gives t c =
+    no_room _ _ _ c.from_residual-in_err-new-in-Some.ensures
+
+pub inner-returns-in_err-found-clause-gives : goal.inner-returns-in_err-found-clause-gives
+inner-returns-in_err-found-clause-gives t c =
+    passed_on _ _ _ _ _ c.from_residual.ensures c.in_err-found.ensures.gives (λ f h. first_of (search rules, grind (arith, common_steps)))
+
+pub inner-returns-in_err-new-clause-gives : goal.inner-returns-in_err-new-clause-gives
+inner-returns-in_err-new-clause-gives t c =
+    no_room _ _ _ c.from_residual-in_err-new.ensures
+
+pub inner_body-returns-in_err-found-clause-gives : goal.inner_body-returns-in_err-found-clause-gives
+inner_body-returns-in_err-found-clause-gives t c =
+    passed_on _ _ _ _ _ c.from_residual.ensures c.in_err-found.ensures.gives (λ f h. first_of (search rules, grind (arith, common_steps)))
+
+pub part-returns-in_err-one-in-Some-clause-gives : goal.part-returns-in_err-one-in-Some-clause-gives
+part-returns-in_err-one-in-Some-clause-gives t c =
+    passed_on _ _ _ _ _ c.from_residual.ensures c.in_err-one-in-Some.ensures.gives (λ f h. first_of (search rules, grind (arith, common_steps)))
+
+pub part-returns-in_err-new-in-Some-clause-gives : goal.part-returns-in_err-new-in-Some-clause-gives
+part-returns-in_err-new-in-Some-clause-gives t c =
+    no_room _ _ _ c.from_residual-in_err-new-in-Some.ensures
+
+pub statement-returns-in_err-found-in-If-clause-gives : goal.statement-returns-in_err-found-in-If-clause-gives
+statement-returns-in_err-found-in-If-clause-gives t c =
+    passed_on _ _ _ _ _ c.from_residual-in_err-found-in-If.ensures c.in_err-found-in-If.ensures (λ f h. first_of (search rules, grind (arith, common_steps)))
+
+pub statement-returns-in_err-yes-in-If-clause-gives : goal.statement-returns-in_err-yes-in-If-clause-gives
+statement-returns-in_err-yes-in-If-clause-gives t c =
+    passed_on _ _ _ _ _ c.from_residual-in_err-yes-in-If.ensures c.in_err-yes-in-If.ensures.gives (λ f h. first_of (search rules, grind (arith, common_steps)))
+
+pub statement-returns-in_err-no-in-If-clause-gives : goal.statement-returns-in_err-no-in-If-clause-gives
+statement-returns-in_err-no-in-If-clause-gives t c =
+    passed_on _ _ _ _ _ c.from_residual-in_err-no-in-If.ensures c.in_err-no-in-If.ensures.gives (λ f h. first_of (search rules, grind (arith, common_steps)))
+
+pub statement-returns-in_err-test-in-While-clause-gives : goal.statement-returns-in_err-test-in-While-clause-gives
+statement-returns-in_err-test-in-While-clause-gives t c =
+    passed_on _ _ _ _ _ c.from_residual-in_err-test-in-While.ensures c.in_err-test-in-While.ensures (λ f h. first_of (search rules, grind (arith, common_steps)))
+
+pub statement-returns-in_err-body-in-While-clause-gives : goal.statement-returns-in_err-body-in-While-clause-gives
+statement-returns-in_err-body-in-While-clause-gives t c =
+    passed_on _ _ _ _ _ c.from_residual-in_err-body-in-While.ensures c.in_err-body-in-While.ensures.gives (λ f h. first_of (search rules, grind (arith, common_steps)))
+
+pub statement-returns-in_err-first-in-For-clause-gives : goal.statement-returns-in_err-first-in-For-clause-gives
+statement-returns-in_err-first-in-For-clause-gives t c =
+    passed_on _ _ _ _ _ c.from_residual-in_err-first-in-For.ensures c.in_err-first-in-For.ensures.gives (λ f h. first_of (search rules, grind (arith, common_steps)))
+
+pub statement-returns-in_err-test-in-For-clause-gives : goal.statement-returns-in_err-test-in-For-clause-gives
+statement-returns-in_err-test-in-For-clause-gives t c =
+    passed_on _ _ _ _ _ c.from_residual-in_err-test-in-For.ensures c.in_err-test-in-For.ensures (λ f h. first_of (search rules, grind (arith, common_steps)))
+
+pub statement-returns-in_err-found-in-Declare-clause-gives : goal.statement-returns-in_err-found-in-Declare-clause-gives
+statement-returns-in_err-found-in-Declare-clause-gives t c =
+    passed_on _ _ _ _ _ c.from_residual-in_err-found-in-Declare.ensures c.in_err-found-in-Declare.ensures.gives (λ f h. first_of (search rules, grind (arith, common_steps)))
+
+pub statement-returns-in_err-found-in_default : goal.statement-returns-in_err-found-in_default
+statement-returns-in_err-found-in_default t c = record {
+  gives = passed_on _ _ _ _ _ c.from_residual-in_err-found-in_default.ensures (c.in_err-found-in_default.ensures c.args.from c.args.slot) (λ f h. first_of (search rules, grind (arith, common_steps)));
+  next = search rules;
+  few = search rules;
+  scope = search rules;
+  kept = search rules;
+}
