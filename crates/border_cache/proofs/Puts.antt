@@ -1,5 +1,6 @@
 -- The three parts of a publishing together: the cells, and the news words of both ends.
 use Rattle.std.proofs.Common.{◌≡◌, ◌≢◌, ℕ, zero, suc, ◌+◌, ◌*◌, ◌/◌, ◌-◌, ◌<◌, ◌≤◌, Bool, true, false, true≢false, List, ◌++◌, refl, sym, ap, ◌∙◌, subst, arith, inl, inr, ⊎_elim, Option, Some, None}
+use Rattle.list_laws.proofs.Options.{none_from}
 use Rattle.edge_lock.proofs.HistoryLaws.{found_stays}
 use Rattle.feast_base.specs.Edges.{news_register, news_words}
 use Rattle.edge_lock.specs.declared.history.Access.{Access}
@@ -23,16 +24,12 @@ module _ (sites end n : ℕ) (cell cells : ℕ → CellValue) (places : ℕ → 
   word_high : (b k : ℕ) → IsWord (word_of sites b k)
   word_high b k = omega arith
 
-  none_or : (o : Option ℕ) → ((v : ℕ) → o ≡ Some v → ⊥) → o ≡ None
-  none_or None f = refl
-  none_or (Some v) f = absurd (f v refl)
-
   -- the cells are no words
   cells_low : (r : ℕ) → IsWord r → last_write xs r None ≡ None
-  cells_low r high = none_or (last_write xs r None) (λ v is. let a = p.only r v is in let lt = low a.0 a.1 in ⊎_elim (λ (e : r ≡ 1 + 2 * a.0). omega (arith, e, lt, high)) (λ (e : r ≡ 2 + 2 * a.0). omega (arith, e, lt, high)) a.2)
+  cells_low r high = none_from (last_write xs r None) (λ v is. let a = p.only r v is in let lt = low a.0 a.1 in ⊎_elim (λ (e : r ≡ 1 + 2 * a.0). omega (arith, e, lt, high)) (λ (e : r ≡ 2 + 2 * a.0). omega (arith, e, lt, high)) a.2)
 
   written_by : (b : ℕ) (bit : Bool) (us : List Access) → IsMarked (border sites b places n) bit us → (r : ℕ) → (IsWord r → ⊥) → last_write us r None ≡ None
-  written_by b bit us w r not = none_or (last_write us r None) (λ v is. let a = w.only_written r v is in not (subst IsWord (sym a.2) (word_high b a.0)))
+  written_by b bit us w r not = none_from (last_write us r None) (λ v is. let a = w.only_written r v is in not (subst IsWord (sym a.2) (word_high b a.0)))
 
   ends_apart : (i j : ℕ) → i < news_words sites → j < news_words sites → news_register sites end i ≢ news_register sites (1 - end) j
   ends_apart i j a b = go end small
@@ -55,8 +52,8 @@ module _ (sites end n : ℕ) (cell cells : ℕ → CellValue) (places : ℕ → 
   other_word : (k : ℕ) → Covers places n k → (us : List Access) (b c : ℕ) (bit : Bool) → ((i j : ℕ) → i < news_words sites → j < news_words sites → news_register sites c i ≢ news_register sites b j) → IsMarked (border sites c places n) bit us
       → (found_value us (word_of sites b k) ≡ None) × (last_write us (word_of sites b k) None ≡ None)
   other_word k cov us b c bit apart w = (
-    none_or (found_value us (word_of sites b k)) (λ v is. let a = w.only_read (word_of sites b k) (found_is_read us (word_of sites b k) v is) in apart (a.0 / 64) (k / 64) (word_in a.0 a.1) (word_in k cov) (sym a.2)),
-    none_or (last_write us (word_of sites b k) None) (λ v is. let a = w.only_written (word_of sites b k) v is in apart (a.0 / 64) (k / 64) (word_in a.0 a.1) (word_in k cov) (sym a.2)),
+    none_from (found_value us (word_of sites b k)) (λ v is. let a = w.only_read (word_of sites b k) (found_is_read us (word_of sites b k) v is) in apart (a.0 / 64) (k / 64) (word_in a.0 a.1) (word_in k cov) (sym a.2)),
+    none_from (last_write us (word_of sites b k) None) (λ v is. let a = w.only_written (word_of sites b k) v is in apart (a.0 / 64) (k / 64) (word_in a.0 a.1) (word_in k cov) (sym a.2)),
   )
 
   -- the cells say nothing of a word

@@ -36,9 +36,6 @@ site_cell v c e n k s h is = sym (own_cell v c e n k h ∙ ap (cell_for v) is)
 pub place_inside : (m : MapValue) (c : Site) (e n k : ℕ) → place_in m c e n ≡ Some k → k < length (shared_of m e)
 place_inside m c e n k h = let p = placed_site m c e n k h in slice_get_within (shared_of m e) k p.0 p.2
 
-pub site_place : (j k : ℕ) → Some j ≡ Some k → j ≡ k
-site_place j k h = ap or_zero h
-
 -- a place of the rows in front of row j
 abbrev pub IsAbove : Area → Site → ℕ → ℕ → Type 0
 IsAbove a c j k = (u : ℕ) × (w : ℕ) × IsNear a c k u w × (w + 4 < c.y + j)

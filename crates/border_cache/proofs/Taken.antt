@@ -5,6 +5,7 @@ use Rattle.std.proofs.lemmas.Option.{none-some}
 use Rattle.std.proofs.lemmas.Bool.Decides.{nat_tests}
 use mathlib.Core.Logic.{dite}
 use native.Mathlib.Decide.{ℕ_discrete}
+use Rattle.list_laws.proofs.Options.{none_from}
 use Rattle.edge_lock.specs.declared.history.Access.{Access}
 use Rattle.edge_lock.specs.declared.history.Access.TheVariants.{Read}
 use Rattle.edge_lock.specs.History.{found_value}
@@ -48,10 +49,6 @@ takes_none e p v none = record {
   tile = refl;
   cells = λ s h. ap (newer (held_cell v s)) (sym (unread_cell (edge_place v.map e s)));
 }
-
-none_or : (o : Option ℕ) → ((v : ℕ) → o ≡ Some v → ⊥) → o ≡ None
-none_or None f = refl
-none_or (Some v) f = absurd (f v refl)
 
 -- the cell of one place
 module _ (e k : ℕ) (s : Site) (old new : CacheValue) (low high : ℕ) (own : edge_place old.map e s ≡ Some k) (r : Renews s (cell_of low high) old new) where
@@ -133,7 +130,7 @@ module _ (e : ℕ) (p q : ℕ → Type 0) (a b c : CacheValue) (xs ys : List Acc
   second_of k r v of is = let o = t.only r v is in subst q (of_one o.0 k r o.2 of) o.1
 
   not_first : (k r : ℕ) → (p k → ⊥) → IsOfCell k r → found_value xs r ≡ None
-  not_first k r not of = none_or (found_value xs r) (λ v is. not (first_of k r v of is))
+  not_first k r not of = none_from (found_value xs r) (λ v is. not (first_of k r v of is))
 
   new_found : (k r : ℕ) → (p k → ⊥) → IsOfCell k r → found_value (xs ++ ys) r ≡ found_value ys r
   new_found k r not of = found_new xs ys r s.silent (not_first k r not of)
@@ -148,7 +145,7 @@ module _ (e : ℕ) (p q : ℕ → Type 0) (a b c : CacheValue) (xs ys : List Acc
           let f = s.found k h in
           let old : read_cell xs (Some k) ≡ Some (cell_of f.0 f.1) = λ i. cell_in (f.2 i) (f.3 i) in
           let all : read_cell (xs ++ ys) (Some k) ≡ Some (cell_of f.0 f.1) = λ i. cell_in (found_stays xs ys (1 + 2 * k) f.0 f.2 i) (found_stays xs ys (2 + 2 * k) f.1 f.3 i) in
-          let none : found_value ys (1 + 2 * k) ≡ None = none_or (found_value ys (1 + 2 * k)) (λ w at. apart k h (second_of k (1 + 2 * k) w (inl refl) at)) in
+          let none : found_value ys (1 + 2 * k) ≡ None = none_from (found_value ys (1 + 2 * k)) (λ w at. apart k h (second_of k (1 + 2 * k) w (inl refl) at)) in
           let rest : read_cell ys (Some k) ≡ None = λ i. cell_in (none i) (found_value ys (2 + 2 * k)) in
           ap (newer (newer x (read_cell xs (Some k)))) rest ∙ (ap (newer x) old ∙ ap (newer x) (sym all))
       go None is =
@@ -196,7 +193,7 @@ module _ (c : Site) (e : ℕ) (news : List ℕ) (old new : CacheValue) (xs ys : 
 
   -- no news word is one of a cell
   no_word : (k q : ℕ) → Covers b.places b.count k → IsOfCell k q → found_value xs q ≡ None
-  no_word k q cov of = none_or (found_value xs q) (λ v is.
+  no_word k q cov of = none_from (found_value xs q) (λ v is.
       let a = r.only q v is in
       let few = covered_few old.map plane c e k cov in
       ⊎_elim (λ (h : q ≡ 1 + 2 * k). omega (arith, h, few, a.2)) (λ (h : q ≡ 2 + 2 * k). omega (arith, h, few, a.2)) of)
@@ -228,7 +225,7 @@ module _ (c : Site) (e : ℕ) (news : List ℕ) (old new : CacheValue) (xs ys : 
   taken_at : (k : ℕ) → Covers b.places b.count k → (x : Bool) → is_news b.sites b.end all k ≡ x → read_cell ys (Some k) ≡ cond x (cell_in (found_value all (1 + 2 * k)) (found_value all (2 + 2 * k))) None
   taken_at k cov true h = λ i. cell_in (sym (here k (1 + 2 * k) cov (inl refl)) i) (sym (here k (2 + 2 * k) cov (inr refl)) i)
   taken_at k cov false h =
-      let none : found_value ys (1 + 2 * k) ≡ None = none_or (found_value ys (1 + 2 * k)) (λ v is.
+      let none : found_value ys (1 + 2 * k) ≡ None = none_from (found_value ys (1 + 2 * k)) (λ v is.
       let o = t.only (1 + 2 * k) v is in
       let one : bit_in news k ≡ 1 = ap (bit_in news) (sym (of_one o.0 k (1 + 2 * k) o.2 (inl refl))) ∙ o.1.1 in
       true≢false (sym (same k cov ∙ ap (λ y. y == 1) one) ∙ h)) in
@@ -246,7 +243,7 @@ module _ (c : Site) (e : ℕ) (news : List ℕ) (old new : CacheValue) (xs ys : 
   untaken : (s : Site) → in_window old.map c s ≡ false → (o : Option ℕ) → edge_place old.map e s ≡ o → read_cell ys o ≡ None
   untaken s out None is = refl
   untaken s out (Some k) is =
-      let none : found_value ys (1 + 2 * k) ≡ None = none_or (found_value ys (1 + 2 * k)) (λ v at.
+      let none : found_value ys (1 + 2 * k) ≡ None = none_from (found_value ys (1 + 2 * k)) (λ v at.
       let o = t.only (1 + 2 * k) v at in
       let cov = subst (IsInWindowOf old.map c e) (of_one o.0 k (1 + 2 * k) o.2 (inl refl)) o.1.0 in
       let w = covered_in old.map plane c e k cov in

@@ -6,7 +6,8 @@ use Rattle.border_cache.specs.Shared.{shared_cell}
 use Rattle.border_cache.specs.Published.{IsCellPut}
 use Rattle.border_cache.proofs.Runs.{adds_none}
 use Rattle.border_cache.proofs.Written.{puts_none, puts_one, puts_same}
-use Rattle.border_cache.proofs.SharedRuns.{site_place, place_inside, site_cell}
+use Rattle.list_laws.proofs.Options.{some_once}
+use Rattle.border_cache.proofs.SharedRuns.{place_inside, site_cell}
 use Rattle.border_cache.proofs.publish.put_site.Goals as goal
 
 pub put_cell-requires-clause-place : goal.put_cell-requires-clause-place
@@ -29,7 +30,7 @@ returns-in-Some-site_at-clause-put g c =
     let at : place_in v.map s e n ≡ Some k = ap (λ m. place_in m s e n) (sym c.requires.map) ∙ (sym c.place_in.ensures ∙ c.in-Some.is) in
     let there = ap (λ m. window_site m s n) (sym c.requires.map) ∙ c.in-Some-site_at.ensures in
     let own = subst (λ y. IsCellPut y k q.0) (c.at.ensures ∙ site_cell v s e n k (site c.in-Some-site_at.u c.in-Some-site_at.v) at there) q.2 in
-    (q.0, q.1, puts_same (λ j. j ≡ k) (λ j. place_in v.map s e n ≡ Some j) (shared_cell v e) q.0 (λ j is. at ∙ ap Some (sym is)) (λ j is. site_place j k (sym is ∙ at)) (puts_one (shared_cell v e) k q.0 own))
+    (q.0, q.1, puts_same (λ j. j ≡ k) (λ j. place_in v.map s e n ≡ Some j) (shared_cell v e) q.0 (λ j is. at ∙ ap Some (sym is)) (λ j is. some_once (place_in v.map s e n) j k is at) (puts_one (shared_cell v e) k q.0 own))
 
 pub returns-in_default-clause-put : goal.returns-in_default-clause-put
 returns-in_default-clause-put g c =

@@ -5,7 +5,8 @@ use Rattle.border_cache.specs.News.{NewsIn}
 use Rattle.border_cache.specs.Windows.{edge_place_some, place_in}
 use Rattle.border_cache.proofs.Runs.{adds_none}
 use Rattle.border_cache.proofs.Taken.{takes_none, takes_same}
-use Rattle.border_cache.proofs.SharedRuns.{site_place, place_inside}
+use Rattle.list_laws.proofs.Options.{some_once}
+use Rattle.border_cache.proofs.SharedRuns.{place_inside}
 use Rattle.border_cache.proofs.refresh.refresh_site.Goals as goal
 
 pub refresh_place-requires-clause-place : goal.refresh_place-requires-clause-place
@@ -35,7 +36,7 @@ returns-in-Some-site_at-clause-read g c =
     let news = c.args.news.now in
     let q = c.refresh_place.ensures.read in
     let at : place_in v.map s e n ≡ Some k = ap (λ m. place_in m s e n) (sym c.requires.map) ∙ (sym c.place_in.ensures ∙ c.in-Some.is) in
-    (q.0, q.1, takes_same e (NewsIn news (λ j. j ≡ k)) (NewsIn news (λ j. place_in v.map s e n ≡ Some j)) v c.refresh_place.new.cache q.0 (λ j h. (at ∙ ap Some (sym h.0), h.1)) (λ j h. (site_place j k (sym h.0 ∙ at), h.1)) q.2)
+    (q.0, q.1, takes_same e (NewsIn news (λ j. j ≡ k)) (NewsIn news (λ j. place_in v.map s e n ≡ Some j)) v c.refresh_place.new.cache q.0 (λ j h. (at ∙ ap Some (sym h.0), h.1)) (λ j h. (some_once (place_in v.map s e n) j k h.0 at, h.1)) q.2)
 
 pub returns-in_default-clause-read : goal.returns-in_default-clause-read
 returns-in_default-clause-read g c =
