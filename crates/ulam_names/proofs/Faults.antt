@@ -26,3 +26,8 @@ passed_on view e x y (Err d) told h k = rw told.1 (fails_as e x y k h)
 pub no_room : {X B : Type 0} (view : X → B) (y : Found B) (r : Result X NameFault) → IsErr r × IsErrAnd r (λ d. d ≡ n.NoMemory) → Gives view r y
 no_room view y (Ok z) told = absurd told.1
 no_room view y (Err d) told = rw told.1 tt
+
+-- the same by a step that says so
+pub no_room_by : {X B : Type 0} (view : X → B) (e : NameFault) (y : Found B) (r : Result X NameFault) → IsErr r × IsErrAnd r (λ d. d ≡ e) → e ≡ n.NoMemory → Gives view r y
+no_room_by view e y (Ok z) told none = absurd told.1
+no_room_by view e y (Err d) told none = rw (told.1, none) tt
