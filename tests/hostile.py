@@ -17,6 +17,7 @@ has the figures.
 """
 from __future__ import annotations
 
+import argparse
 import importlib
 import pathlib
 import sys
@@ -48,12 +49,15 @@ def run(program: str, long: bool, table: str) -> bool:
 
 def main() -> int:
     """The command."""
-    words = [word for word in sys.argv[1:] if word != "--long"]
-    if not words or not set(words[1:]) <= set(TABLES):
-        print(__doc__, file=sys.stderr)
-        return 2
-    long = "--long" in sys.argv
-    held = [run(words[0], long, table) for table in words[1:] or TABLES]
+    parser = argparse.ArgumentParser(description="Drives a program as a hostile user would.")
+    parser.add_argument("--long", action="store_true", help="try the whole of each table")
+    parser.add_argument("program", help="the program")
+    parser.add_argument("tables", metavar="TABLE", nargs="*", help=f"these tables alone, of {', '.join(TABLES)}")
+    given = parser.parse_args()
+    lost = sorted(set(given.tables) - set(TABLES))
+    if lost:
+        parser.error(f"there is no table {', '.join(lost)}")
+    held = [run(given.program, given.long, table) for table in given.tables or TABLES]
     return 0 if all(held) else 1
 
 
