@@ -8,6 +8,7 @@ pub mod Operands
 pub mod Programs
 pub mod Slots
 pub mod Statements
+pub mod Suited
 pub mod Well
 pub mod WellBodies
 pub mod WellPrograms

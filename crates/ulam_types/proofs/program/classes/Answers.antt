@@ -11,6 +11,7 @@ use Rattle.ulam_types.specs.Programs as walk
 use Rattle.ulam_tree.specs.Found.{with_front}
 use Rattle.ulam_types.specs.Shown.{class_view}
 use Rattle.ulam_types.proofs.Lists.{class_on}
+use Rattle.ulam_types.proofs.Fails.{passed_on, no_room}
 use Rattle.ulam_types.proofs.program.classes.Goals as goal
 
 pub returns-in_err-class : goal.returns-in_err-class
@@ -23,7 +24,7 @@ returns-in_err-class c =
     c.loop-one.invariant.found
     ∙ at_drop_more (λ (zs : List Class). with_front front (walk.classes sigs c.loop-one.own (map resolved_class zs))) xs c.loop-one.one-index c.one-item.result c.loop-one-test.true
     ∙ ap (λ (x : Class). with_front front (walk.classes sigs c.loop-one.own (resolved_class x ∷ rest))) (sym c.one-item.is) in
-    rw e (first_of (search rules, grind (arith, common_steps)))
+    rw e (passed_on _ _ _ _ _ c.from_residual.ensures c.in_err-class.ensures (λ f h. first_of (search rules, grind (arith, common_steps))))
 
 pub loop-one-preserved : goal.loop-one-preserved
 loop-one-preserved c =
@@ -40,3 +41,6 @@ loop-one-preserved c =
           ∙ ap (λ (zs : List t.Class). with_front zs (walk.classes sigs (c.loop-one.own + 1) rest)) (sym (ap (map typed_class) c.in_ok-push.ensures.items ∙ map-append typed_class c.loop-one.found.items _));
       own = omega (arith, c.loop-one.invariant.own);
     }
+
+pub returns-in_err-push : goal.returns-in_err-push
+returns-in_err-push c = no_room _ _ _ c.from_residual-in_err-push.ensures

@@ -5,12 +5,13 @@ use Rattle.ulam_tree.specs.ResolvedViews.{resolved_expr, resolved_statement, res
 use Rattle.ulam_types.specs.Bodies as walk
 use Rattle.ulam_types.specs.Shown.{here, Fails}
 use Rattle.ulam_types.proofs.Bodies.{body_none, body_step, body_stop, body_done, block_at, if_at, branch_stop, else_stop, for_at, for_stop}
+use Rattle.ulam_types.proofs.Fails.{passed_on, no_room}
 use Rattle.ulam_types.proofs.statement.+statement.Goals as goal
 
 pub statement-returns-in_err-list-in-Block : goal.statement-returns-in_err-list-in-Block
 statement-returns-in_err-list-in-Block t c =
     let e = block_at (here c.args.scope.now) c.args.raw.now c.in-Block.list c.in-Block.is in
-    rw e (first_of (search rules, grind (arith, common_steps)))
+    rw e (passed_on _ _ _ _ _ c.from_residual.ensures c.in_err-list-in-Block.ensures (λ f h. first_of (search rules, grind (arith, common_steps))))
 
 pub statement-returns-in_ok-list-in-Block : goal.statement-returns-in_ok-list-in-Block
 statement-returns-in_ok-list-in-Block t c =
@@ -21,7 +22,7 @@ pub body-returns-in_err-one : goal.body-returns-in_err-one
 body-returns-in_err-one t c =
     let f = body_stop (here c.args.scope.now) c.args.raw.now c.loop-one.one-index c.loop-one.found.items c.one-item.result c.in_err-one.field-0.0 c.loop-one-test.true c.one-item.is c.in_err-one.ensures in
     let k = subst (Fails c.in_err-one.field-0.0) c.loop-one.invariant f in
-    first_of (search rules, grind (arith, common_steps))
+    passed_on _ _ _ _ _ c.from_residual.ensures k (λ f h. h)
 
 pub body-returns : goal.body-returns
 body-returns t c =
@@ -43,7 +44,7 @@ statement-returns-in_err-cond-in-If t c =
     let d : c.deref.result.now ≡ box_value b.yes = search rules in
     let e = if_at g c.args.raw.now b.cond b.yes b.no c.deref.result.now b.is d in
     let k = branch_stop g (resolved_cond b.cond) (resolved_statement c.deref.result.now) (resolved_part b.no) c.in_err-cond-in-If.field-0.0 c.in_err-cond-in-If.ensures in
-    rw e (first_of (search rules, grind (arith, common_steps)))
+    rw e (passed_on _ _ _ _ _ c.from_residual-in_err-cond-in-If.ensures k (λ f h. h))
 
 pub statement-returns-in_err-no-in-If : goal.statement-returns-in_err-no-in-If
 statement-returns-in_err-no-in-If t c =
@@ -52,7 +53,7 @@ statement-returns-in_err-no-in-If t c =
     let d : c.deref.result.now ≡ box_value b.yes = search rules in
     let e = if_at g c.args.raw.now b.cond b.yes b.no c.deref.result.now b.is d in
     let k = else_stop g (resolved_cond b.cond) (resolved_statement c.deref.result.now) (resolved_part b.no) c.in_err-no-in-If.field-0.0 _ c.in_ok-cond-in-If.ensures c.in_err-no-in-If.ensures in
-    rw e (first_of (search rules, grind (arith, common_steps)))
+    rw e (passed_on _ _ _ _ _ c.from_residual-in_err-no-in-If.ensures k (λ f h. h))
 
 pub statement-returns-in_err-body-in-For : goal.statement-returns-in_err-body-in-For
 statement-returns-in_err-body-in-For t c =
@@ -62,4 +63,61 @@ statement-returns-in_err-body-in-For t c =
     let e = for_at g c.args.raw.now b.first b.cond b.step b.body c.deref-in-For.result.now b.is d in
     let k = for_stop g (resolved_part b.first) (option_map resolved_expr b.cond) (resolved_part b.step) (resolved_statement c.deref-in-For.result.now) c.in_err-body-in-For.field-0.0 _ _ _
     c.in_ok-first-in-For.ensures c.in_ok-cond-in-For.ensures c.in_ok-step-in-For.ensures c.in_err-body-in-For.ensures in
-    rw e (first_of (search rules, grind (arith, common_steps)))
+    rw e (passed_on _ _ _ _ _ c.from_residual-in_err-body-in-For.ensures k (λ f h. h))
+
+pub body-returns-in_err-push : goal.body-returns-in_err-push
+body-returns-in_err-push t c = no_room _ _ _ c.from_residual-in_err-push.ensures
+
+pub branch-returns-in_err-value-in-Test : goal.branch-returns-in_err-value-in-Test
+branch-returns-in_err-value-in-Test t c = passed_on _ _ _ _ _ c.from_residual.ensures c.in_err-value-in-Test.ensures (λ f h. first_of (search rules, grind (arith, common_steps)))
+
+pub branch-returns-in_err-yes-in-Test : goal.branch-returns-in_err-yes-in-Test
+branch-returns-in_err-yes-in-Test t c = passed_on _ _ _ _ _ c.from_residual-in_err-yes-in-Test.ensures c.in_err-yes-in-Test.ensures (λ f h. first_of (search rules, grind (arith, common_steps)))
+
+pub branch-returns-in_err-yes-in-Test-2 : goal.branch-returns-in_err-yes-in-Test-2
+branch-returns-in_err-yes-in-Test-2 t c = no_room _ _ _ c.from_residual-in_err-yes-in-Test-2.ensures
+
+pub part-returns-in_err-one-in-Some : goal.part-returns-in_err-one-in-Some
+unfolding walk.statement
+part-returns-in_err-one-in-Some t c = passed_on _ _ _ _ _ c.from_residual.ensures c.in_err-one-in-Some.ensures (λ f h. first_of (search rules, grind (arith, common_steps)))
+
+pub part-returns-in_err-new-in-Some : goal.part-returns-in_err-new-in-Some
+part-returns-in_err-new-in-Some t c = no_room _ _ _ c.from_residual-in_err-new-in-Some.ensures
+
+pub seen-returns-in_err-slots : goal.seen-returns-in_err-slots
+seen-returns-in_err-slots t c = no_room _ _ _ c.from_residual.ensures
+
+pub seen-returns-in_err-yes : goal.seen-returns-in_err-yes
+seen-returns-in_err-yes t c = passed_on _ _ _ _ _ c.from_residual-in_err-yes.ensures c.in_err-yes.ensures (λ f h. first_of (search rules, grind (arith, common_steps)))
+
+pub seen-returns-in_err-yes-2 : goal.seen-returns-in_err-yes-2
+seen-returns-in_err-yes-2 t c = no_room _ _ _ c.from_residual-in_err-yes-2.ensures
+
+pub seen-returns-in_err-path : goal.seen-returns-in_err-path
+seen-returns-in_err-path t c = no_room _ _ _ c.from_residual-in_err-path.ensures
+
+pub statement-returns-in_err-first-in-For : goal.statement-returns-in_err-first-in-For
+unfolding walk.statement
+statement-returns-in_err-first-in-For t c = passed_on _ _ _ _ _ c.from_residual-in_err-first-in-For.ensures c.in_err-first-in-For.ensures (λ f h. first_of (search rules, grind (arith, common_steps)))
+
+pub statement-returns-in_err-cond-in-For : goal.statement-returns-in_err-cond-in-For
+unfolding walk.statement
+statement-returns-in_err-cond-in-For t c = passed_on _ _ _ _ _ c.from_residual-in_err-cond-in-For.ensures c.in_err-cond-in-For.ensures (λ f h. first_of (search rules, grind (arith, common_steps)))
+
+pub statement-returns-in_err-step-in-For : goal.statement-returns-in_err-step-in-For
+unfolding walk.statement
+statement-returns-in_err-step-in-For t c = passed_on _ _ _ _ _ c.from_residual-in_err-step-in-For.ensures c.in_err-step-in-For.ensures (λ f h. first_of (search rules, grind (arith, common_steps)))
+
+pub turns-returns-in_err-found : goal.turns-returns-in_err-found
+turns-returns-in_err-found t c = passed_on _ _ _ _ _ c.from_residual.ensures c.in_err-found.ensures (λ f h. first_of (search rules, grind (arith, common_steps)))
+
+pub turns-returns-in_err-new : goal.turns-returns-in_err-new
+turns-returns-in_err-new t c = no_room _ _ _ c.from_residual-in_err-new.ensures
+
+pub while_so-returns-in_err-cond : goal.while_so-returns-in_err-cond
+unfolding walk.statement
+while_so-returns-in_err-cond t c = passed_on _ _ _ _ _ c.from_residual.ensures c.in_err-cond.ensures (λ f h. first_of (search rules, grind (arith, common_steps)))
+
+pub while_so-returns-in_err-body : goal.while_so-returns-in_err-body
+unfolding walk.statement
+while_so-returns-in_err-body t c = passed_on _ _ _ _ _ c.from_residual-in_err-body.ensures c.in_err-body.ensures (λ f h. first_of (search rules, grind (arith, common_steps)))

@@ -1,0 +1,12 @@
+use Rattle.std.proofs.Common.{arith, rules}
+use Rattle.std.proofs.lemmas.Grind.{common_steps}
+use Rattle.ulam_types.specs.Bodies as walk
+use Rattle.ulam_types.proofs.Fails.{passed_on, no_room}
+use Rattle.ulam_types.proofs.parts.does.Goals as goal
+
+pub returns-in_err-args : goal.returns-in_err-args
+unfolding walk.statement
+returns-in_err-args c = passed_on _ _ _ _ _ c.from_residual.ensures c.in_err-args.ensures (λ f h. first_of (search rules, grind (arith, common_steps)))
+
+pub returns-in_err-path : goal.returns-in_err-path
+returns-in_err-path c = no_room _ _ _ c.from_residual-in_err-path.ensures
