@@ -5,7 +5,7 @@ from typing import Iterator
 
 from rows import Pair, Row, refused
 
-# Statements, the same with each group in brackets, and with the groups as they are not read.
+# Statements, the same with each group in brackets, and with other groups, which are other code.
 GROUPS: list[tuple[str, str, str]] = [
     ("a = a - b - c;", "a = (a - b) - c;", "a = a - (b - c);"),
     ("a = a - b + c;", "a = (a - b) + c;", "a = a - (b + c);"),
@@ -16,10 +16,7 @@ GROUPS: list[tuple[str, str, str]] = [
     ("a = -a * b;", "a = (-a) * b;", "a = -(a * b);"),
     ("a = -a - b;", "a = (-a) - b;", "a = -(a - b);"),
     ("a = (Int(4)) -a + b;", "a = ((Int(4)) (-a)) + b;", "a = (Int(4)) (-a + b);"),
-    ("p = p << n >> n;", "p = (p << n) >> n;", "p = p;"),
-    ("p = p << n + n;", "p = p << (n + n);", "p = p << n;"),
     ("p = p & q << n;", "p = p & (q << n);", "p = (p & q) << n;"),
-    ("p = p << n & q;", "p = (p << n) & q;", "p = p << n;"),
     ("p = p | q ^ r;", "p = p | (q ^ r);", "p = (p | q) ^ r;"),
     ("p = p ^ q | r;", "p = (p ^ q) | r;", "p = p ^ (q | r);"),
     ("p = p ^ q & r;", "p = p ^ (q & r);", "p = (p ^ q) & r;"),
@@ -33,13 +30,20 @@ GROUPS: list[tuple[str, str, str]] = [
     ("u = u && v == w;", "u = u && (v == w);", "u = (u && v) == w;"),
     ("u = u == v && w;", "u = (u == v) && w;", "u = u == (v && w);"),
     ("u = u == v != w;", "u = (u == v) != w;", "u = u == (v != w);"),
-    ("u = u == a < b;", "u = u == (a < b);", "u = u == (b < a);"),
-    ("u = a <= b != v;", "u = (a <= b) != v;", "u = (b <= a) != v;"),
-    ("u = a - b > c;", "u = (a - b) > c;", "u = a > b - c;"),
-    ("u = x is A == v;", "u = (x is A) == v;", "u = y is A == v;"),
-    ("u = v == x is A;", "u = v == (x is A);", "u = v == (y is A);"),
     ("a = l[a + 1] - b;", "a = (l[(a + 1)]) - b;", "a = l[a + 1 - b];"),
     ("a = f(b - c) * d;", "a = (f((b - c))) * d;", "a = f((b - c) * d);"),
+]
+
+# The same where any other groups have no type.
+ONLY_GROUPS: list[tuple[str, str]] = [
+    ("p = p << n >> n;", "p = (p << n) >> n;"),
+    ("p = p << n + n;", "p = p << (n + n);"),
+    ("p = p << n & q;", "p = (p << n) & q;"),
+    ("u = u == a < b;", "u = u == (a < b);"),
+    ("u = a <= b != v;", "u = (a <= b) != v;"),
+    ("u = a - b > c;", "u = (a - b) > c;"),
+    ("u = x is A == v;", "u = (x is A) == v;"),
+    ("u = v == x is A;", "u = v == (x is A);"),
 ]
 
 # Statements with a fault at an operator that would be none if the groups were others.
@@ -142,7 +146,7 @@ def rows() -> Iterator[Row | Pair]:
         yield Pair("code", (element(text), element(other)), alike=False)
     for text, operator in MISREAD:
         yield refused("check a", {"a": element(text)}, f"a:2:{text.index(operator) + 1}", "E50")
-    for text, other in STATEMENTS + BLANKS:
+    for text, other in ONLY_GROUPS + STATEMENTS + BLANKS:
         yield Pair("code", (element(text), element(other)), alike=True)
     for text, other in MEMBERS:
         yield Pair("check", (members(text), members(other)), alike=True)
