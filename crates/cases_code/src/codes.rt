@@ -17,7 +17,7 @@ fn verify_gives_the_same_code_where_it_is_valid(rt: HostRuntime) -> Result<(), F
     match verify(alloc, raw)? {
         None => assert!(rt; false, "valid code was refused"),
         Some(code) => {
-            assert_eq!(rt; code.instrs(), instrs.as_slice());
+            assert!(rt; matches!(code.instrs(), [PushNum(0), PushNum(4), Swap, ReturnVoid]));
             assert_eq!(rt;
                 (code.kind(), code.len(), code.functions().len()),
                 (1, 4, 1)
@@ -25,8 +25,8 @@ fn verify_gives_the_same_code_where_it_is_valid(rt: HostRuntime) -> Result<(), F
             let main = &code.functions()[0];
             assert_eq!(rt; main.name().bytes(), b"behave".as_slice());
             assert_eq!(rt; (main.base(), main.first(), main.params()), (0, 0, 0));
-            assert_eq!(rt; main.slots(), [Operand::Number, Operand::Atom].as_slice());
-            assert_eq!(rt; main.answer(), Answer::Nothing);
+            assert!(rt; matches!(main.slots(), [Operand::Number, Operand::Atom]));
+            assert!(rt; matches!(main.answer(), Answer::Nothing));
         }
     }
     Ok(())

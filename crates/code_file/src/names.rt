@@ -10,7 +10,7 @@ use std::alloc::Global;
 use ulam_lex::is_keyword;
 
 /// The form of a name.
-#[derive(Clone, Copy, Debug, PartialEq, Eq)]
+#[derive(Clone, Copy)]
 pub enum NameForm {
     /// The name of an element: A to Z, then letters, digits and `_`.
     OfElement,

@@ -3,7 +3,7 @@
 use stack_code::Instr;
 
 /// A function of a class by its number there, on the state bits from `base` on.
-#[derive(Clone, Copy, Debug, PartialEq, Eq)]
+#[derive(Clone, Copy)]
 pub struct Key {
     /// The number of the class.
     pub class: u32,

@@ -6,7 +6,7 @@ use stack_code::{Answer, RawFunction};
 use std::alloc::Global;
 
 /// What is known of a function without its body.
-#[derive(Clone, Copy, Debug, PartialEq, Eq)]
+#[derive(Clone, Copy)]
 pub struct Head {
     /// How many parameters it has.
     pub params: u32,

@@ -8,7 +8,7 @@ use bit_field::Atom;
 use std::marker::Model;
 
 /// A whole number from -2^63 to 2^64 - 1.
-#[derive(Clone, Copy, Debug, PartialEq, Eq)]
+#[derive(Clone, Copy)]
 pub struct Number {
     value: i128,
 }
@@ -47,7 +47,7 @@ impl Number {
 }
 
 /// A number or an atom: what an operand, a slot or a local holds.
-#[derive(Clone, Copy, Debug, PartialEq, Eq)]
+#[derive(Clone, Copy)]
 pub enum Datum {
     /// A number.
     Number(Number),

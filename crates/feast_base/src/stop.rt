@@ -1,7 +1,7 @@
 //! Stops of the sink in memory.
 
 /// A put that is to fail in mid-piece.
-#[derive(Clone, Copy, Debug, PartialEq, Eq)]
+#[derive(Clone, Copy)]
 pub struct Stop {
     /// The number of the put, counted from 1.
     pub call: u64,

@@ -3,7 +3,7 @@
 use feast_base::{NoMemory, SinkFailed};
 
 /// Why a report was not written.
-#[derive(Clone, Copy, Debug, PartialEq, Eq)]
+#[derive(Clone, Copy)]
 pub enum WriteFault {
     /// The sink failed; it has a first part of the report.
     Sink,

@@ -4,7 +4,7 @@ use std::mem::size_of;
 use window_sites::Window;
 
 /// An event that was made: its centre, and the window there before it.
-#[derive(Clone, Copy, Debug)]
+#[derive(Clone, Copy)]
 pub struct Kept {
     /// The column of the centre.
     pub x: u32,

@@ -7,7 +7,7 @@ use std::alloc::Global;
 use text_lines::{Field, push_line};
 
 /// The verdict on a report.
-#[derive(Clone, Copy, Debug, PartialEq, Eq)]
+#[derive(Clone, Copy)]
 pub enum Judgement {
     /// Each attempt is accounted for, each event has its stamp, each abandoned attempt is excused,
     /// and the bytes are those of the report of its own events and abandoned attempts.

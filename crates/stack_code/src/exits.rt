@@ -18,7 +18,7 @@ use crate::shapes::Shape;
 const MOST_OPERANDS: u32 = 512;
 
 /// Where a place leads: the list that falls through to the next place, and a jump with its list.
-#[derive(Clone, Copy, Debug, PartialEq, Eq)]
+#[derive(Clone, Copy)]
 pub struct Exit {
     /// The list that falls through to the next place.
     pub falls: Option<u32>,

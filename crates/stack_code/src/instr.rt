@@ -3,7 +3,7 @@
 use sat_math::Kind;
 
 /// The kind of an operand or a slot.
-#[derive(Clone, Copy, Debug, PartialEq, Eq)]
+#[derive(Clone, Copy)]
 pub enum Operand {
     /// A number from -2^63 to 2^64 - 1.
     Number,
@@ -12,7 +12,7 @@ pub enum Operand {
 }
 
 /// What a function returns.
-#[derive(Clone, Copy, Debug, PartialEq, Eq)]
+#[derive(Clone, Copy)]
 pub enum Answer {
     /// Nothing.
     Nothing,
@@ -26,7 +26,7 @@ pub enum Answer {
 /// arguments are, in this order: a first bit, a width, a kind of number and, for an array, its
 /// length; a slot comes before them. A place is the index of an instruction in the whole code, from
 /// 0 on. A function is named by its number.
-#[derive(Clone, Copy, Debug, PartialEq, Eq)]
+#[derive(Clone, Copy)]
 pub enum Instr {
     /// Pushes the number, from -2^63 to 2^64 - 1.
     PushNum(i128),

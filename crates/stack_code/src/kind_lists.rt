@@ -13,7 +13,7 @@ use std::marker::Model;
 const LISTS_OF_ONE: usize = 2;
 
 /// A list: an earlier list with one kind on top.
-#[derive(Clone, Copy, Debug, PartialEq, Eq)]
+#[derive(Clone, Copy)]
 pub struct Node {
     /// The number of the earlier list.
     pub below: u32,

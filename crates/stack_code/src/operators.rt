@@ -3,7 +3,7 @@
 use sat_math::{Arith, CompareOp, NumType};
 
 /// An operator on one number.
-#[derive(Clone, Copy, Debug, PartialEq, Eq)]
+#[derive(Clone, Copy)]
 pub enum UnaryOp {
     /// The negation, as an `Int`.
     Neg(Arith),
@@ -16,7 +16,7 @@ pub enum UnaryOp {
 }
 
 /// An operator on two numbers.
-#[derive(Clone, Copy, Debug, PartialEq, Eq)]
+#[derive(Clone, Copy)]
 pub enum BinaryOp {
     /// The sum.
     Add(Arith),

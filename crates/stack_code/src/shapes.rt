@@ -12,7 +12,7 @@ use sat_math::{Arith, CompareOp, Kind, NumType};
 /// operator. A field is given by its first bit and its type, an array also by its length; a slot
 /// comes before them. In contracts a shape stands for its sort, which has a function in place of
 /// each operator.
-#[derive(Clone, Copy, Debug, PartialEq, Eq)]
+#[derive(Clone, Copy)]
 pub enum Shape {
     /// Pushes the number, from -2^63 to 2^64 - 1.
     GiveNumber(i128),

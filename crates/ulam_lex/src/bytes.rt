@@ -5,7 +5,7 @@ ghost use Rattle.feast_base.specs.TypeNames.{is_word_byte};
 ghost use Rattle.ulam_lex.specs.Bytes.{is_white, class_of, is_keyword, is_sign};
 
 /// What a piece that begins with a byte may be.
-#[derive(Clone, Copy, Debug, PartialEq, Eq)]
+#[derive(Clone, Copy)]
 pub enum Class {
     /// White space.
     White,

@@ -6,7 +6,7 @@ ghost use Rattle.ulam_lex.specs.Pieces.{prefix_of, radix_of, worth_after, IsNume
 ghost use Rattle.ulam_lex.specs.Starts.{IsBaseAt, digit_count, digits_of, rest_of};
 
 /// The base that a number is written in.
-#[derive(Clone, Copy, Debug, PartialEq, Eq)]
+#[derive(Clone, Copy)]
 pub enum Base {
     Binary,
     Decimal,
@@ -135,7 +135,7 @@ pub fn digits_at(base: Base, bytes: &[u8]) -> (&[u8], &[u8])
 }
 
 /// What the text of a number says.
-#[derive(Clone, Copy, Debug, PartialEq, Eq)]
+#[derive(Clone, Copy)]
 pub struct Numeral {
     /// The number.
     pub value: u32,

@@ -11,7 +11,7 @@ use crate::numeral::{base_at, digits_at, suffix_len, worth};
 use crate::token::TokenKind;
 
 /// What a piece of a text is.
-#[derive(Clone, Copy, Debug, PartialEq, Eq)]
+#[derive(Clone, Copy)]
 pub enum PieceKind {
     /// White space.
     Space,
@@ -22,7 +22,7 @@ pub enum PieceKind {
 }
 
 /// What is at the front of a text.
-#[derive(Clone, Copy, Debug, PartialEq, Eq)]
+#[derive(Clone, Copy)]
 pub enum Start {
     /// A piece of that many bytes.
     Piece(PieceKind, usize),

@@ -3,7 +3,7 @@ use feast_base::Place;
 use thiserror::Error;
 
 /// What a token is.
-#[derive(Clone, Copy, Debug, PartialEq, Eq)]
+#[derive(Clone, Copy)]
 pub enum TokenKind {
     /// A word that begins with a lower-case letter or `_` and is not a keyword.
     Name,
@@ -20,7 +20,7 @@ pub enum TokenKind {
 }
 
 /// A token of a text. Its bytes are those from `first` to before `end`.
-#[derive(Clone, Copy, Debug, PartialEq, Eq)]
+#[derive(Clone, Copy)]
 pub struct Token {
     /// What it is.
     pub kind: TokenKind,

@@ -3,7 +3,7 @@
 use ulam_tree::{PairOp, PrefixOp};
 
 /// What a token is to the grammar: its kind, and for keywords and signs which one.
-#[derive(Clone, Copy, Debug, PartialEq, Eq)]
+#[derive(Clone, Copy)]
 pub enum Symbol {
     /// A name.
     Name,
@@ -140,7 +140,7 @@ pub enum Symbol {
 }
 
 /// What a symbol does with the expression before it.
-#[derive(Clone, Copy, Debug, PartialEq, Eq)]
+#[derive(Clone, Copy)]
 pub enum Infix {
     /// It joins it with another expression.
     Joins(PairOp),
@@ -153,7 +153,7 @@ pub enum Infix {
 }
 
 /// What a symbol begins where an operand is wanted.
-#[derive(Clone, Copy, Debug, PartialEq, Eq)]
+#[derive(Clone, Copy)]
 pub enum Opening {
     /// An operator and its operand.
     Signs(PrefixOp),
@@ -174,7 +174,7 @@ pub enum Opening {
 }
 
 /// What a symbol does with a place on its left.
-#[derive(Clone, Copy, Debug, PartialEq, Eq)]
+#[derive(Clone, Copy)]
 pub enum Assigning {
     /// It assigns to it, directly or with an operator.
     Assigns(Option<PairOp>),
@@ -185,7 +185,7 @@ pub enum Assigning {
 }
 
 /// What a symbol begins where a statement is wanted.
-#[derive(Clone, Copy, Debug, PartialEq, Eq)]
+#[derive(Clone, Copy)]
 pub enum Starting {
     /// A block, by `{`.
     Block,
@@ -212,7 +212,7 @@ pub enum Starting {
 }
 
 /// What a symbol does to the count of nesting.
-#[derive(Clone, Copy, Debug, PartialEq, Eq)]
+#[derive(Clone, Copy)]
 pub enum Weight {
     /// It adds 1.
     Adds,

@@ -1,7 +1,7 @@
 //! Operators.
 
 /// An operator in front of its operand.
-#[derive(Clone, Copy, Debug, PartialEq, Eq)]
+#[derive(Clone, Copy)]
 pub enum PrefixOp {
     /// `-`
     Minus,
@@ -12,7 +12,7 @@ pub enum PrefixOp {
 }
 
 /// An operator between its operands.
-#[derive(Clone, Copy, Debug, PartialEq, Eq)]
+#[derive(Clone, Copy)]
 pub enum PairOp {
     /// `+`
     Add,

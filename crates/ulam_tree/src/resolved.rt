@@ -69,7 +69,7 @@ pub struct Param {
 }
 
 /// A type.
-#[derive(Clone, Copy, Debug, PartialEq, Eq)]
+#[derive(Clone, Copy, PartialEq, Eq)]
 pub enum Ty {
     /// A type of numbers.
     Num { num: NumType },
@@ -88,7 +88,7 @@ pub enum Ty {
 }
 
 /// A type, by the place of its name.
-#[derive(Clone, Copy, Debug, PartialEq, Eq)]
+#[derive(Clone, Copy)]
 pub struct Named {
     /// The type.
     pub ty: Ty,
@@ -106,7 +106,7 @@ pub struct Path {
 }
 
 /// What one name of a path means.
-#[derive(Clone, Copy, Debug, PartialEq, Eq)]
+#[derive(Clone, Copy)]
 pub enum Step {
     /// `self`.
     Own,
@@ -123,7 +123,7 @@ pub enum Step {
 }
 
 /// A built-in function.
-#[derive(Clone, Copy, Debug, PartialEq, Eq)]
+#[derive(Clone, Copy)]
 pub enum Built {
     /// `swap` of an `EventWindow`.
     Swap,
