@@ -1,7 +1,7 @@
 #!/usr/bin/env python3
 """Tries the first call of `./feast` on a small repository with a toolchain that only pretends: first_call.py [TEST..].
 
-The repository is made in a temporary folder, with a copy of `feast` and of tools/first_call and three crates.
+The repository is made in a temporary folder, with a copy of `feast` and of tools/first_call and five crates.
 The toolchain is tests/fakes/rt: it takes tenths of a second for a crate, and notes its calls.
 """
 from __future__ import annotations
@@ -24,11 +24,11 @@ sys.dont_write_bytecode = True
 sys.path.insert(0, str(TOP / "tools"))
 
 from first_call import seconds  # noqa: E402
-from first_call.crates import Crate, crates_of_program  # noqa: E402
+from first_call.crates import Crate, crates_of_program, lone_at_the_end  # noqa: E402
 from first_call.progress import Progress, Status, wall_time  # noqa: E402
 from first_call.teller import as_bar  # noqa: E402
 
-CRATES = "low:\nmiddle: low # stands on low\nfeast: middle low\nother: low\n"
+CRATES = "low:\nmiddle: low # stands on low\nbeside: low\nhigh: middle beside\nfeast: high low\nother: low\n"
 # What the program of the pretended toolchain writes, and its status.
 PROVED, STATUS = "proved call of", 3
 
@@ -70,7 +70,7 @@ class FirstCall(unittest.TestCase):
         self.change("children.py", "TICK = 0.5", "TICK = 0.1")
         self.change("machine.py", "int(found[1]) // 1_000_000 if found else 0", "16")
         (self.top / "crates.txt").write_text(CRATES)
-        for name in ("low", "middle", "feast", "other"):
+        for name in ("low", "middle", "beside", "high", "feast", "other"):
             (self.top / "crates" / name / "src").mkdir(parents=True)
             (self.top / "crates" / name / "src" / "lib.rt").write_text("// a source\n")
         self.program = self.top / "crates" / "feast" / "out" / "feast"
@@ -136,23 +136,30 @@ class FirstCall(unittest.TestCase):
         (self.top / "crates" / "middle" / "src" / "lib.rt").write_text("// changed\n")
         status, _, told = Call(self, ["run"]).end()
         self.assertEqual((status, self.count("run")), (STATUS, before + 1))
-        self.assertIn("1 of its 3 crates is proved, and the others", told)
+        self.assertIn("2 of its 5 crates are proved, and the others", told)
 
     def test_progress_is_told_line_by_line(self) -> None:
         told = Call(self, ["run"], FEAST_PREVIEW="no").end()[2]
-        self.assertIn("the program is still to be built: its 3 crates are proved first", told)
-        lines = re.findall(r"feast: (\d) of 3 crates are proved; (.*) gone, (about .* left|soon done); (.*)", told)
+        self.assertIn("the program is still to be built: its 5 crates are proved first", told)
+        lines = re.findall(r"feast: (\d) of 5 crates are proved; (.*) gone, (about .* left|soon done); (.*)", told)
         self.assertEqual([it[0] for it in lines], sorted(it[0] for it in lines), told)
         doing = [it[3] for it in lines]
-        wanted = ["proving low", "proving middle", "proving feast", "building the program"]
+        wanted = [f"proving {name}" for name in ("low", "middle", "beside", "high", "feast")] + ["building the program"]
         self.assertEqual([it for it in doing if it in wanted], wanted, told)
-        self.assertEqual(lines[-1][0], "3")
+        self.assertEqual(lines[-1][0], "5")
         self.assertRegex(told, r"proved and built in \d+ s; the program by itself is /.*/crates/feast/out/feast\n\Z")
 
     def test_sources_are_looked_through_first(self) -> None:
         told = Call(self, ["run"], FEAST_PREVIEW="no").end()[2]
         if "side by side" in self.calls()[0]:
-            self.assertRegex(told, "0 of 3 .* reading all sources\n(.*\n)*.*proving low")
+            self.assertRegex(told, "0 of 5 .* reading all sources\n(.*\n)*.*proving low")
+
+    def test_last_crates_are_proved_alone(self) -> None:
+        self.change("machine.py", "return max(min(len(os.sched_getaffinity(0)), memory // EACH), 1)", "return 4")
+        Call(self, ["run"], FEAST_PREVIEW="no").end()
+        beside = ["all check side by side 4", "low is proved", "middle is proved", "beside is proved"]
+        alone = ["lib high --jobs 4", "high is proved", "check feast --jobs 4", "feast is proved"]
+        self.assertEqual(self.calls()[:-2], [*beside, *alone])
 
     def test_progress_is_a_bar_on_a_terminal(self) -> None:
         ours, theirs = pty.openpty()
@@ -167,15 +174,15 @@ class FirstCall(unittest.TestCase):
         told = read_all(ours)
         out = process.communicate(timeout=60)[0]
         self.assertEqual(out, b"proved call of <run>\n")
-        self.assertRegex(told, r"\r\x1b\[K\[#+\.+\] 1/3 crates, \d+ s gone, \d+ (s|min) left: proving middle\r")
+        self.assertRegex(told, r"\r\x1b\[K\[#+\.+\] 1/5 crates, \d+ s gone, \d+ (s|min) left: proving middle\r")
         self.assertRegex(told, r"preview of <run>\r\n")
 
     def test_little_memory_proves_one_after_another(self) -> None:
         self.change("machine.py", "return 16", "return 2")
         ended = Call(self, ["run"]).end()
         self.assert_ran(ended, "<run>")
-        self.assertEqual([it for it in self.calls() if it.startswith(("all", "lib", "run"))], ["lib low", "lib middle", "run"])
-        self.assertRegex(ended[2], "1 of 3 crates are proved; .* proving middle\n")
+        self.assertEqual([it for it in self.calls() if it.startswith(("all", "lib", "run"))], [*(f"lib {name}" for name in ("low", "middle", "beside", "high")), "run"])
+        self.assertRegex(ended[2], "1 of 5 crates are proved; .* proving middle\n")
         self.assertNotIn("reading all sources", ended[2])
         self.assertIn("no preview: it wants 4 gigabytes", ended[2])
 
@@ -238,7 +245,7 @@ class FirstCall(unittest.TestCase):
                     self.assertEqual((status, out), (130, ""))
                     self.assertIn("feast: interrupted: what is proved is kept", told)
                     self.assertEqual(left_over(self.top), [])
-        self.assertIn("1 of its 3 crates is proved", Call(self, ["run"]).end()[2])
+        self.assertIn("1 of its 5 crates is proved", Call(self, ["run"]).end()[2])
 
     def test_what_cannot_be_proved_is_shown(self) -> None:
         (self.top / "fails").write_text("middle")
@@ -247,7 +254,7 @@ class FirstCall(unittest.TestCase):
         self.assertIn("error: the sum of middle is not proved\n", told)
         self.assertNotIn("fn good: proved", told)
         self.assertNotIn("a word of low", told)
-        self.assertNotIn("2 of 3 crates are proved", told)
+        self.assertNotIn("2 of 5 crates are proved", told)
         self.assertTrue(told.endswith("feast: the program could not be built: the toolchain's reasons are above\n"))
 
     def test_without_the_toolchain(self) -> None:
@@ -255,6 +262,17 @@ class FirstCall(unittest.TestCase):
         status, out, told = call.end()
         self.assertEqual((status, out), (1, ""))
         self.assertIn("install the Rattle kit", told)
+
+
+class Chains(unittest.TestCase):
+    """Which crates come last, one after another."""
+
+    def test_only_crates_on_all_others_are_alone(self) -> None:
+        low, beside = Crate("low", TOP, ()), Crate("beside", TOP, ())
+        high, top = Crate("high", TOP, ("low", "beside")), Crate("top", TOP, ("low", "beside", "high"))
+        self.assertEqual(lone_at_the_end([low, beside, high, top]), [high, top])
+        self.assertEqual(lone_at_the_end([low, beside]), [])
+        self.assertEqual(lone_at_the_end([low]), [low])
 
 
 class Estimates(unittest.TestCase):

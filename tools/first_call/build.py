@@ -79,10 +79,18 @@ class Build:
             self.progress.at_work(step.work or at_work(self.run.process.pid))
             self.take_in(log.new_lines())
             self.teller.status(self.progress.status())
+            if status is None and self.is_through(step):
+                self.run.end()
+                status = 0
         if status != 0:
             raise Refused(said_of_faults(self.log.read_text(errors="replace")))
         for name in step.ends:
             self.progress.finish(name)
+
+    def is_through(self, step: Step) -> bool:
+        """Whether a run that leaves crates to later ones has done all others."""
+        names = {crate.name for crate in self.crates}
+        return bool(step.leaves) and names - step.leaves <= self.progress.done
 
     def take_in(self, lines: list[str]) -> None:
         """Takes in what the toolchain says."""

@@ -52,3 +52,11 @@ def crates_of_program(top: Path) -> list[Crate]:
     names = [*below(PROGRAM), PROGRAM]
     crates = [Crate(name, top / "crates" / name, tuple(below(name))) for name in names]
     return sorted(crates, key=lambda crate: len(crate.below))
+
+
+def lone_at_the_end(crates: list[Crate]) -> list[Crate]:
+    """The last crates that stand on all before them, so that nothing can be proved beside them."""
+    begin = len(crates)
+    while begin and len(crates[begin - 1].below) == begin - 1:
+        begin -= 1
+    return crates[begin:]

@@ -1,3 +1,4 @@
 pub mod Scripts
 pub mod OnBoard
+pub mod Ready
 pub mod Starts

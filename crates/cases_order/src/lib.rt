@@ -1,15 +1,19 @@
-//! Tests of settling: worked runs on the board of one thread, with their atoms and their journals.
-//! They are above the order of events, so that it is proved once.
+//! Worked runs, with their atoms and their journals: tiles that act in turn on the board of one
+//! thread, and a worker for each tile over edges that the workers share. The crate has only tests;
+//! they are above settling and the workers, so that these are proved once.
 #![tactic(auto)]
 
+#[cfg(test)]
 mod acts;
+#[cfg(test)]
+mod alone;
+#[cfg(test)]
 mod driving;
+#[cfg(test)]
 mod plans;
 #[cfg(test)]
 mod rows;
+#[cfg(test)]
+mod running;
+#[cfg(test)]
 mod runs;
-
-pub use acts::{Turner, Walker};
-pub use driving::{drive, finish, settled, tiles};
-pub use plans::{Shape, Try, plan};
-pub use runs::{run, start};

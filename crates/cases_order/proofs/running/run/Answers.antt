@@ -2,8 +2,8 @@ use Rattle.std.proofs.Common.{sym, ap, ◌∙◌}
 use Rattle.tile_map.specs.Plane.{tiles_of}
 use Rattle.serial_order.specs.Scene.{setting}
 use Rattle.cases_order.proofs.Scripts.{can_all}
-use Rattle.cases_threads.proofs.Ready.{fresh_made}
-use Rattle.cases_threads.proofs.running.run.Goals as goal
+use Rattle.cases_order.proofs.Ready.{fresh_made}
+use Rattle.cases_order.proofs.running.run.Goals as goal
 
 pub tiles-requires-clause-can : goal.tiles-requires-clause-can
 tiles-requires-clause-can g c = can_all c.in_ok-map.map c.args.shape.tx c.args.shape.ty c.args.shape.w c.args.shape.h c.in_ok-plan.plan c.in_ok-map.ensures c.in_ok-plan.ensures

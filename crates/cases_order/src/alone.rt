@@ -1,9 +1,9 @@
 //! A plane of one tile, run by a worker, in phases, over the empty list of its edges.
 ghost use Rattle.cell_grid.specs.Tried.{after_turn, idle-turn};
 
+use crate::plans::{Shape, Try};
 use crate::running::run;
 use bit_field::Atom;
-use cases_order::{Shape, Try};
 use cell_grid::Behave;
 use event_journal::print;
 use feast_base::Gate;

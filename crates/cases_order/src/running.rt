@@ -2,7 +2,9 @@
 ghost use Rattle.std.specs.Prelude.{◌≤◌, length};
 ghost use Rattle.tile_map.specs.Plane.{AreSizes};
 
-use cases_order::{Shape, Try, plan, start, tiles};
+use crate::driving::tiles;
+use crate::plans::{Shape, Try, plan};
+use crate::runs::start;
 use cell_grid::Behave;
 use feast_base::{Gate, NoMemory};
 use serial_order::{Outcome, settle};
