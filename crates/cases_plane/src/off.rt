@@ -1,36 +1,45 @@
 //! Planes some tiles of which are off.
 
-use crate::planes::{are, register, told};
+use crate::planes::{assert_needs, assert_registers, told};
 use feast_base::NoMemory;
+use std::alloc::Global;
 use tile_map::Map;
 
+/// Three tiles in a row, the middle one off.
+fn row(alloc: Global) -> Result<Map, NoMemory> {
+    Map::with_off(alloc, 3, 1, 8, 8, &[false, true, false])
+}
+
 #[test]
-fn a_tile_that_is_off_holds_nothing_and_has_no_edge(rt: HostRuntime) -> Result<(), NoMemory> {
-    let map = Map::with_off(rt.alloc(), 3, 1, 8, 8, &[false, true, false])?;
+fn a_tile_that_is_off_has_no_edge(rt: HostRuntime) -> Result<(), NoMemory> {
+    let map = row(rt.alloc())?;
     assert_eq!(rt; (map.tiles(), map.edges()), (3, 0));
-    assert_eq!(rt;
-        (map.is_on(0), map.is_on(1), map.is_on(2)),
-        (true, false, true)
-    );
-    assert_eq!(rt;
-        (
-            map.is_live(7, 0),
-            map.is_live(8, 0),
-            map.is_live(15, 7),
-            map.is_live(16, 7)
-        ),
-        (true, false, false, true)
-    );
-    assert_eq!(rt;
-        (
-            map.holds(0, 7, 0),
-            map.holds(0, 8, 0),
-            map.holds(1, 8, 0),
-            map.holds(1, 7, 0)
-        ),
-        (true, false, false, false)
-    );
-    assert!(rt; are(&map.needs(0, 7, 4), &[]));
+    assert!(rt; map.is_on(0) && !map.is_on(1) && map.is_on(2));
+    assert_needs(&rt, &map, &[(0, 7, 4, &[])]);
+    Ok(())
+}
+
+#[test]
+fn sites_of_a_tile_that_is_off_are_not_live(rt: HostRuntime) -> Result<(), NoMemory> {
+    let map = row(rt.alloc())?;
+    for (x, y, live) in [(7, 0, true), (8, 0, false), (15, 7, false), (16, 7, true)] {
+        assert!(rt; map.is_live(x, y) == live, "{x}, {y}");
+    }
+    Ok(())
+}
+
+#[test]
+fn a_tile_that_is_off_holds_nothing(rt: HostRuntime) -> Result<(), NoMemory> {
+    let map = row(rt.alloc())?;
+    let held = [
+        (0, 7, 0, true),
+        (0, 8, 0, false),
+        (1, 8, 0, false),
+        (1, 7, 0, false),
+    ];
+    for (tile, x, y, holds) in held {
+        assert!(rt; map.holds(tile, x, y) == holds, "tile {tile} at {x}, {y}");
+    }
     Ok(())
 }
 
@@ -225,17 +234,23 @@ fn corners_that_are_off_take_their_strips_along(rt: HostRuntime) -> Result<(), N
         let map = Map::with_off(rt.alloc(), 3, 3, 8, 8, &off)?;
         let [middle, east, north] = corners.needs;
         assert!(rt; share(&map, &corners.shared), "{off:?}");
-        assert!(rt; are(&map.needs(4, 8, 8), middle), "{off:?}");
-        assert!(rt; are(&map.needs(4, 15, 11), east), "{off:?}");
-        assert!(rt; are(&map.needs(1, 8, 6), north), "{off:?}");
+        assert_needs(
+            &rt,
+            &map,
+            &[(4, 8, 8, middle), (4, 15, 11, east), (1, 8, 6, north)],
+        );
     }
     Ok(())
 }
 
+/// Nine tiles, the first of which is off.
+fn nine(alloc: Global) -> Result<Map, NoMemory> {
+    let off = [true, false, false, false, false, false, false, false, false];
+    Map::with_off(alloc, 3, 3, 8, 8, &off)
+}
+
 #[test]
 fn sites_that_are_off_have_no_register(rt: HostRuntime) -> Result<(), NoMemory> {
-    let off = [true, false, false, false, false, false, false, false, false];
-    let map = Map::with_off(rt.alloc(), 3, 3, 8, 8, &off)?;
     let sites = [
         (1, 8, 4, Some(1)),
         (1, 11, 4, Some(7)),
@@ -252,24 +267,19 @@ fn sites_that_are_off_have_no_register(rt: HostRuntime) -> Result<(), NoMemory> 
         (2, 19, 11, Some(223)),
         (2, 7, 7, None),
     ];
-    for (edge, x, y, found) in sites {
-        assert_eq!(rt;
-            register(&map, edge, x, y),
-            found,
-            "edge {edge} at {x}, {y}"
-        );
-    }
+    assert_registers(&rt, &nine(rt.alloc())?, &sites);
     Ok(())
 }
 
 #[test]
 fn windows_reach_out_of_a_tile_that_is_off(rt: HostRuntime) -> Result<(), NoMemory> {
-    let off = [true, false, false, false, false, false, false, false, false];
-    let map = Map::with_off(rt.alloc(), 3, 3, 8, 8, &off)?;
-    assert!(rt; are(&map.needs(1, 4, 4), &[1, 2]));
-    assert!(rt; are(&map.needs(4, 7, 7), &[2, 6]));
-    assert!(rt; are(&map.needs(4, 5, 7), &[2, 6]));
-    assert!(rt; are(&map.needs(4, 0, 0), &[]));
-    assert!(rt; are(&map.needs(0, 4, 4), &[]));
+    let wanted: [(u32, u32, u32, &[u32]); 5] = [
+        (1, 4, 4, &[1, 2]),
+        (4, 7, 7, &[2, 6]),
+        (4, 5, 7, &[2, 6]),
+        (4, 0, 0, &[]),
+        (0, 4, 4, &[]),
+    ];
+    assert_needs(&rt, &nine(rt.alloc())?, &wanted);
     Ok(())
 }
