@@ -1,8 +1,9 @@
-"""Calls of programs, measured from outside: their time, and their memory at the peak."""
+"""Calls of programs, measured from outside: their time, their memory at the peak, and their instructions."""
 
 import dataclasses
 import os
 import pathlib
+import re
 import subprocess
 import sys
 
@@ -75,3 +76,14 @@ def best(runs: list[Used]) -> Used:
     """The run of least time, with the greatest memory of all."""
     least = min(runs, key=lambda used: used.seconds)
     return dataclasses.replace(least, megabytes=max(used.megabytes for used in runs))
+
+
+def instructions(words: Words, folder: pathlib.Path) -> int:
+    """All instructions of a call that ends well, counted by valgrind, which writes to the folder."""
+    log = folder / "count"
+    call = ["valgrind", "--tool=callgrind", f"--callgrind-out-file={log}", *words]
+    subprocess.run(call, capture_output=True, check=True)
+    found = re.search(r"^(?:summary|totals): (\d+)", log.read_text(), re.M)
+    if found is None:
+        raise Failed(f"valgrind has not counted the instructions of {words[0]}")
+    return int(found[1])

@@ -5,19 +5,23 @@
 See README.md beside this file.
 """
 
-import pathlib
-import subprocess
-import tempfile
-import time
+from __future__ import annotations
 
-CRATE = pathlib.Path(__file__).resolve().parent.parent / "crates/feast"
-PROGRAM = CRATE / "out/feast"
+import argparse
+import pathlib
+import sys
+import tempfile
+
+sys.path.insert(0, str(pathlib.Path(__file__).resolve().parent))
+sys.dont_write_bytecode = True
+from whole import CRATE, PROGRAM, build, timed  # noqa: E402
+
 FILES = 4
 CLASSES = 64
 BYTES = 1_000_000
 
 
-def function(number):
+def function(number: int) -> str:
     """A function of one class: a loop, conditions, arithmetic and a call."""
     begin = f"turn{number - 1}(start, limit)" if number else "start"
     return f"""
@@ -37,7 +41,7 @@ def function(number):
 """
 
 
-def element(name, size):
+def element(name: str, size: int) -> str:
     """An element of about so many bytes."""
     text = [f"element {name} {{\n  EventWindow window;\n  Random random;\n  Unsigned(8) counts[4];\n"]
     number = 0
@@ -48,32 +52,25 @@ def element(name, size):
     return "".join(text)
 
 
-def least(words):
-    """The least time of five runs, in seconds."""
-    times = []
-    for _ in range(5):
-        begin = time.perf_counter()
-        subprocess.run(words, stdout=subprocess.DEVNULL, check=True)
-        times.append(time.perf_counter() - begin)
-    return min(times)
-
-
-def source_files(folder):
+def source_files(folder: pathlib.Path) -> list[pathlib.Path]:
     """Makes the files, and returns their paths."""
     paths = []
     for file in range(FILES):
-        path = pathlib.Path(folder) / f"{file}.ulam"
+        path = folder / f"{file}.ulam"
         path.write_text("".join(element(f"E{file}x{i}", BYTES // FILES // CLASSES - 300) for i in range(CLASSES)))
         paths.append(path)
     return paths
 
 
-def main():
-    subprocess.run(["rt", "run"], cwd=CRATE, stdin=subprocess.DEVNULL, capture_output=True)
+def main() -> None:
+    """The command."""
+    argparse.ArgumentParser(description=__doc__, formatter_class=argparse.RawDescriptionHelpFormatter).parse_args()
+    build(CRATE)
     with tempfile.TemporaryDirectory() as name:
-        paths = source_files(name)
+        paths = source_files(pathlib.Path(name))
         size = sum(path.stat().st_size for path in paths)
-        print(f"{size} bytes, {FILES * CLASSES} elements: {least([PROGRAM, 'check', *paths]):.2f} s")
+        least = min(timed([PROGRAM, "check", *paths]) for _ in range(5))
+        print(f"{size} bytes, {FILES * CLASSES} elements: {least:.2f} s")
 
 
 if __name__ == "__main__":

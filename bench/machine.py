@@ -6,6 +6,9 @@
 See README.md beside this file.
 """
 
+from __future__ import annotations
+
+import argparse
 import pathlib
 import re
 import subprocess
@@ -13,38 +16,50 @@ import sys
 import tempfile
 
 HERE = pathlib.Path(__file__).resolve().parent
+sys.path.insert(0, str(HERE))
+sys.dont_write_bytecode = True
+from calls import instructions  # noqa: E402
+from whole import build  # noqa: E402
+
 CRATE = HERE.parent / "crates/bench_machine"
 BENCH = CRATE / "out/bench_machine"
 
 
-def lines(*words):
+def lines(*words: str) -> dict[str, int]:
     """What the bench prints for these words: a name and the first number behind it for each line."""
     text = subprocess.run([BENCH, *words], capture_output=True, check=True, text=True).stdout
     return {name: int(n) for name, n in re.findall(r"^(\w+): (\d+)", text, re.M)}
 
 
-def instructions(word):
-    """All instructions of a run for a word."""
-    with tempfile.TemporaryDirectory() as folder:
-        log = pathlib.Path(folder) / "count"
-        words = ["valgrind", "--tool=callgrind", f"--callgrind-out-file={log}", BENCH, word]
-        subprocess.run(words, capture_output=True, check=True)
-        return int(re.search(r"^(?:summary|totals): (\d+)", log.read_text(), re.M).group(1))
+def show_counts(steps: dict[str, int]) -> None:
+    """Prints the instructions of an event and of a step of each code."""
+    with tempfile.TemporaryDirectory() as name:
+        folder = pathlib.Path(name)
+        idle = instructions([BENCH, "none"], folder)
+        for code, count in steps.items():
+            event = (instructions([BENCH, code], folder) - idle) / lines(code)[code]
+            print(f"{code}: {event:.0f} an event, {event / count:.1f} a step", flush=True)
 
 
-def main():
-    subprocess.run(["rt", "run"], cwd=CRATE, stdin=subprocess.DEVNULL, capture_output=True)
-    steps = lines()
-    if sys.argv[1:] == ["--count"]:
-        idle = instructions("none")
-        for name in steps:
-            event = (instructions(name) - idle) / lines(name)[name]
-            print(f"{name}: {event:.0f} an event, {event / steps[name]:.1f} a step", flush=True)
+def show_times(steps: dict[str, int]) -> None:
+    """Prints the time of an event and of a step of each code, the least of three runs."""
+    rounds = [lines("time") for _ in range(3)]
+    for code, count in steps.items():
+        event = min(times[code] for times in rounds) / 1000
+        print(f"{code}: {event:.1f} ns an event, {event / count:.2f} ns a step", flush=True)
+
+
+def main() -> None:
+    """The command."""
+    parser = argparse.ArgumentParser(description=__doc__, formatter_class=argparse.RawDescriptionHelpFormatter)
+    parser.add_argument("--count", action="store_true", help="count instructions in place of times")
+    given = parser.parse_args()
+    build(CRATE)
+    if given.count:
+        show_counts(lines())
     else:
-        rounds = [lines("time") for _ in range(3)]
-        for name in steps:
-            event = min(r[name] for r in rounds) / 1000
-            print(f"{name}: {event:.1f} ns an event, {event / steps[name]:.2f} ns a step", flush=True)
+        show_times(lines())
 
 
-main()
+if __name__ == "__main__":
+    main()

@@ -5,16 +5,19 @@
 See README.md beside this file.
 """
 
+from __future__ import annotations
+
+import argparse
 import pathlib
-import re
 import resource
 import subprocess
 import sys
 import tempfile
+from typing import NamedTuple
 
 sys.path.insert(0, str(pathlib.Path(__file__).resolve().parent))
 sys.dont_write_bytecode = True
-from whole import CRATE, PROGRAM  # noqa: E402
+from whole import CRATE, PROGRAM, build, entries  # noqa: E402
 from worlds import ELEMENTS, world  # noqa: E402
 
 TILES = 4
@@ -22,19 +25,26 @@ SIDE = 16
 ATTEMPTS = 20_000
 
 
-def ordered(attempts):
+def ordered(attempts: int) -> str:
     """The world with so many attempts a tile; its order is drawn."""
     return world(TILES, attempts * TILES**2, side=SIDE) + "order seed 8\n"
 
 
-def used():
+def used() -> float:
     """Seconds of processor time that the programs took which are done."""
     usage = resource.getrusage(resource.RUSAGE_CHILDREN)
     return usage.ru_utime + usage.ru_stime
 
 
-def timed(program, folder, attempts):
-    """The processor time of the least of five runs in seconds, and the report."""
+class Took(NamedTuple):
+    """The processor time of the least of five runs in seconds, and their report."""
+
+    seconds: float
+    report: bytes
+
+
+def timed(program: pathlib.Path, folder: pathlib.Path, attempts: int) -> Took:
+    """Five stepped runs with so many attempts a tile."""
     (folder / "w").write_text(ordered(attempts))
     (folder / "e").write_text(ELEMENTS)
     seconds = []
@@ -42,21 +52,24 @@ def timed(program, folder, attempts):
         begin = used()
         report = subprocess.run([program, "step", "w", "e"], cwd=folder, capture_output=True, check=True).stdout
         seconds.append(used() - begin)
-    return min(seconds), report
+    return Took(min(seconds), report)
 
 
-def main():
-    program = pathlib.Path(sys.argv[1]).resolve() if len(sys.argv) > 1 else PROGRAM
+def main() -> None:
+    """The command."""
+    parser = argparse.ArgumentParser(description=__doc__, formatter_class=argparse.RawDescriptionHelpFormatter)
+    parser.add_argument("program", metavar="PROGRAM", nargs="?", type=pathlib.Path, help="another build")
+    program = (parser.parse_args().program or PROGRAM).resolve()
     if not program.exists():
-        subprocess.run(["rt", "run"], cwd=CRATE, stdin=subprocess.DEVNULL, capture_output=True)
+        build(CRATE)
     with tempfile.TemporaryDirectory() as name:
         folder = pathlib.Path(name)
-        bare, _ = timed(program, folder, 0)
+        bare = timed(program, folder, 0).seconds
         whole, report = timed(program, folder, ATTEMPTS)
-    events = int(re.search(rb"^journal (\d+)$", report, re.M).group(1))
-    abandoned = int(re.search(rb"^abandoned (\d+)$", report, re.M).group(1))
+    events, abandoned = entries(report)
+    took = whole - bare
     print(f"{events} events and {abandoned} abandoned attempts in {whole:.2f} s, of which {bare:.2f} s without attempts")
-    print(f"{events / (whole - bare):,.0f} events a second, {(events + abandoned) / (whole - bare):,.0f} attempts a second")
+    print(f"{events / took:,.0f} events a second, {(events + abandoned) / took:,.0f} attempts a second")
 
 
 if __name__ == "__main__":

@@ -5,32 +5,29 @@
 See README.md beside this file.
 """
 
+from __future__ import annotations
+
+import argparse
 import pathlib
 import random
 import subprocess
 import sys
 import tempfile
 import time
+from typing import NamedTuple
 
-HERE = pathlib.Path(__file__).resolve().parent
-CRATE = HERE.parent / "crates/feast"
-PROGRAM = CRATE / "out/feast"
+sys.path.insert(0, str(pathlib.Path(__file__).resolve().parent))
+sys.dont_write_bytecode = True
+from calls import Words  # noqa: E402
+from whole import CRATE, PROGRAM, build, build_plain, written  # noqa: E402
+
 ATTEMPTS = 1_000_000
 SIDE = 64
 PLANE = f"feast 1\ntiles 1 1\nsize {SIDE} {SIDE}\n"
 ELEMENT = "element Stone { Void behave() { } }\n"
 
 
-def build(folder):
-    """Builds the proved program where it isn't built yet, and the plain one."""
-    if not PROGRAM.exists():
-        subprocess.run(["rt", "run"], cwd=CRATE, stdin=subprocess.DEVNULL, capture_output=True)
-    plain = folder / "flat"
-    subprocess.run(["rustc", "-O", "-C", "target-cpu=x86-64-v2", HERE / "flat.rs", "-o", plain], check=True)
-    return plain
-
-
-def tries():
+def tries() -> str:
     """A world of one tile without atoms that lists its attempts."""
     draw = random.Random(1)
     lines = []
@@ -40,37 +37,49 @@ def tries():
     return PLANE + "".join(lines)
 
 
-def milliseconds(words, status=0):
-    """How long one run takes, which ends with this status."""
-    begin = time.perf_counter()
-    ended = subprocess.run(words, stdout=subprocess.DEVNULL).returncode
-    if ended != status:
-        sys.exit(f"status {ended}, not {status}: {words}")
-    return (time.perf_counter() - begin) * 1000
+class Call(NamedTuple):
+    """The words of a call, and the status with which it ends."""
+
+    words: Words
+    status: int = 0
+
+    def milliseconds(self) -> float:
+        """How long one run takes."""
+        begin = time.perf_counter()
+        ended = subprocess.run(self.words, stdout=subprocess.DEVNULL).returncode
+        if ended != self.status:
+            sys.exit(f"status {ended}, not {self.status}: {self.words}")
+        return (time.perf_counter() - begin) * 1000
 
 
-def compare(what, ours, theirs):
-    """Prints the least times of two programs that run in turn, each given as words and a status."""
-    rounds = [(milliseconds(*ours), milliseconds(*theirs)) for _ in range(5)]
+def compare(what: str, ours: Call, theirs: Call) -> None:
+    """Prints the least times of two programs that run in turn."""
+    rounds = [(ours.milliseconds(), theirs.milliseconds()) for _ in range(5)]
     proved, plain = (min(times) for times in zip(*rounds))
     print(f"{what}: {proved:.0f} ms, plain program {plain:.0f}, ratio {proved / plain:.1f}", flush=True)
 
 
-def main():
+def main() -> None:
+    """The command."""
+    argparse.ArgumentParser(description=__doc__, formatter_class=argparse.RawDescriptionHelpFormatter).parse_args()
+    if not PROGRAM.exists():
+        build(CRATE)
     with tempfile.TemporaryDirectory() as name:
         folder = pathlib.Path(name)
-        plain = build(folder)
-        world, seeded, element, wrong, report = (folder / it for it in ("world", "seeded", "element", "wrong", "report"))
+        plain = build_plain(folder)
+        names = ("world", "seeded", "element", "wrong", "report")
+        world, seeded, element, wrong, report = (folder / it for it in names)
         world.write_text(tries())
         seeded.write_text(f"{PLANE}seed 1\nattempts {ATTEMPTS}\n")
         element.write_text(ELEMENT)
         wrong.write_text("@")
         # the element file is refused once the world is read, and without atoms no event acts
-        compare("a world read", ([PROGRAM, "run", world, wrong], 4), ([plain, world, "read"],))
-        compare("a report written", ([PROGRAM, "run", seeded, element],), ([plain, seeded],))
-        report.write_bytes(subprocess.run([PROGRAM, "run", seeded, element], capture_output=True, check=True).stdout)
-        least = min(milliseconds([PROGRAM, "replay", seeded, report, element]) for _ in range(5))
-        print(f"a report read: {least:.0f} ms")
+        compare("a world read", Call([PROGRAM, "run", world, wrong], 4), Call([plain, world, "read"]))
+        compare("a report written", Call([PROGRAM, "run", seeded, element]), Call([plain, seeded]))
+        report.write_bytes(written([PROGRAM, "run", seeded, element]))
+        replay = Call([PROGRAM, "replay", seeded, report, element])
+        print(f"a report read: {min(replay.milliseconds() for _ in range(5)):.0f} ms")
 
 
-main()
+if __name__ == "__main__":
+    main()

@@ -1,45 +1,28 @@
 """The real edge: files that can't be loaded, standard output that takes nothing or a part.
 
 What can't be had by plain means (a read that fails in the middle of a file, a write of no byte) is put
-into the system's answers by `strace`, where the system has it.
+into the system's answers by `strace` (edge_faults.py), where the system has it.
 """
+from __future__ import annotations
+
 import os
+import pathlib
 import signal
 import socket
-import subprocess
 import sys
 import threading
 import time
+from typing import Callable, NamedTuple, Optional, Sequence
 
-from bench import BAD_ELEMENT, BAD_WORLD, DONE, MEMORY, SINK, UNREADABLE, USAGE, Limits, is_root, main_of, tool
-from jobs import ONE_TILE, WALKER, ZEROS, jobs_of, lay
-
-# A report of two pieces, of 4,096 and of 1,926 bytes.
-LONG_WORLD = b"feast 1\ntiles 1 1\nsize 8 8\n" + (b"try 0 0 0 " + ZEROS + b"\n") * 200
-LONG_REPORT = (
-    b"feast 1\natoms 0\njournal 200\n"
-    + b"".join(b"%d 0 %d 0 0 %s\n" % (i + 1, i, ZEROS) for i in range(200))
-    + b"abandoned 0\n"
+from bench import (
+    BAD_ELEMENT, BAD_WORLD, DONE, NO_FORM, SINK, UNREADABLE, USAGE, Bench, Limits, is_root, main_of,
 )
+from edge_faults import growing, may_trace, read_faults, write_faults
+from edge_texts import LONG_REPORT, LONG_WORLD, too_long, unreadable
+from jobs import ONE_TILE, WALKER, File, Job, clear, jobs_of, lay
 
 
-def unreadable(name):
-    return name.encode() + b": E01 unreadable\n"
-
-
-def too_long(file):
-    return file.name.encode() + b": E02 longer than %d bytes\n" % file.most
-
-
-def clear(path):
-    """Takes away what lies at a path."""
-    if path.is_dir() and not path.is_symlink():
-        path.rmdir()
-    elif path.is_symlink() or path.exists():
-        path.unlink()
-
-
-def feed(path, pieces, pause, done):
+def feed(path: pathlib.Path, pieces: Sequence[bytes], pause: float, done: threading.Event) -> None:
     """Writes pieces into a pipe with a name, one after another, once it is opened for reading."""
     while not done.is_set():
         try:
@@ -63,26 +46,44 @@ def feed(path, pieces, pause, done):
 class Pipe:
     """A pipe that stands in place of an input, fed by a thread."""
 
-    def __init__(self, path, pieces, pause):
+    def __init__(self, path: pathlib.Path, pieces: Sequence[bytes], pause: float) -> None:
         clear(path)
         os.mkfifo(path)
         self.done = threading.Event()
         self.thread = threading.Thread(target=feed, args=(path, pieces, pause, self.done))
 
-    def __enter__(self):
+    def __enter__(self) -> None:
         self.thread.start()
 
-    def __exit__(self, *_):
+    def __exit__(self, *_: object) -> None:
         self.done.set()
         self.thread.join()
 
 
-def replaced(bench, job, file):
+def make_socket(path: pathlib.Path) -> None:
+    """A socket with a name, which can't be opened as a file."""
+    with socket.socket(socket.AF_UNIX) as end:
+        end.bind(str(path))
+
+
+def make_closed(path: pathlib.Path, text: bytes) -> None:
+    """A file that nobody may read."""
+    path.write_bytes(text)
+    path.chmod(0)
+
+
+def make_link(bench: Bench, path: pathlib.Path, text: bytes) -> None:
+    """A link to a file elsewhere."""
+    bench.at("elsewhere").write_bytes(text)
+    path.symlink_to("elsewhere")
+
+
+def replaced(bench: Bench, job: Job, file: File) -> None:
     """Each thing that can't be loaded in place of an input, and what is answered."""
     path = bench.at(file.name)
     refusal = unreadable(file.name)
 
-    def row(what, make, status=UNREADABLE, out=refusal):
+    def row(what: str, make: Callable[[], object], status: int = UNREADABLE, out: bytes = refusal) -> None:
         clear(path)
         make()
         bench.expect(f"{job.name}: {file.name} is {what}", bench.call(job.words), status, out)
@@ -101,29 +102,13 @@ def replaced(bench, job, file):
     lay(bench, job)
 
 
-def make_socket(path):
-    """A socket with a name, which can't be opened as a file."""
-    with socket.socket(socket.AF_UNIX) as end:
-        end.bind(str(path))
-
-
-def make_closed(path, text):
-    path.write_bytes(text)
-    path.chmod(0)
-
-
-def make_link(bench, path, text):
-    bench.at("elsewhere").write_bytes(text)
-    path.symlink_to("elsewhere")
-
-
-def pipes(bench, job):
+def pipes(bench: Bench, job: Job) -> None:
     """Each input as a pipe, by single bytes and in two pieces."""
     for file in job.files:
         half = len(file.text) // 2
         for what, pieces, pause in (
             ("in two pieces", [file.text[:half], file.text[half:]], 0.02),
-            ("by single bytes", [bytes([byte]) for byte in file.text], 0),
+            ("by single bytes", [bytes([byte]) for byte in file.text], 0.0),
         ):
             with Pipe(bench.at(file.name), pieces, pause):
                 answer = bench.call(job.words, seconds=20)
@@ -131,7 +116,7 @@ def pipes(bench, job):
         lay(bench, job)
 
 
-def first_missing(bench, job):
+def first_missing(bench: Bench, job: Job) -> None:
     """Where several inputs are missing, the first that is loaded is told."""
     for file in job.files:
         clear(bench.at(file.name))
@@ -139,8 +124,8 @@ def first_missing(bench, job):
     lay(bench, job)
 
 
-def outputs(bench, job):
-    """Standard output that takes nothing."""
+def outputs(bench: Bench, job: Job) -> None:
+    """Standard output that takes nothing, or a part."""
     with open("/dev/full", "wb") as device:
         bench.expect(f"{job.name}: full device", bench.call(job.words, out=device), SINK, None)
     with open("/dev/null", "rb") as device:
@@ -160,15 +145,26 @@ def outputs(bench, job):
     bench.expect(f"{job.name}: closed input and errors", bench.call(job.words, ends), DONE, job.out)
 
 
-def refusal_outputs(bench):
+class Refusal(NamedTuple):
+    """The words of a call that is refused, its status, and its line (None: the usage)."""
+
+    words: list[str]
+    status: int
+    line: Optional[bytes]
+
+
+REFUSALS = [
+    Refusal([], NO_FORM, None),
+    Refusal(["check", "missing"], UNREADABLE, unreadable("missing")),
+    Refusal(["check", "bad"], BAD_ELEMENT, b"bad:1:1: E10 bad byte\n"),
+    Refusal(["run", "bad", "bad"], BAD_WORLD, b"bad:1:1: E70 bad header\n"),
+]
+
+
+def refusal_outputs(bench: Bench) -> None:
     """A refusal is written like any text."""
     bench.write("bad", b"@")
-    for words, status, line in (
-        ([], 2, None),
-        (["check", "missing"], UNREADABLE, unreadable("missing")),
-        (["check", "bad"], BAD_ELEMENT, b"bad:1:1: E10 bad byte\n"),
-        (["run", "bad", "bad"], BAD_WORLD, b"bad:1:1: E70 bad header\n"),
-    ):
+    for words, status, line in REFUSALS:
         answer = bench.call(words)
         bench.expect(f"refusal of {words}", answer, status, line)
         for count in (0, 1, len(answer.out) - 1):
@@ -178,7 +174,7 @@ def refusal_outputs(bench):
             bench.expect(f"refusal of {words}: full device", bench.call(words, out=device), SINK, None)
 
 
-def pieces(bench):
+def pieces(bench: Bench) -> None:
     """A report of two pieces whose second is not taken whole."""
     bench.write("w", LONG_WORLD)
     bench.write("e", WALKER)
@@ -198,7 +194,7 @@ def pieces(bench):
     bench.say(held, "a pipe that is full behind the first piece", f"{answer.shown()}, {len(taken)} bytes taken")
 
 
-def names(bench):
+def names(bench: Bench) -> None:
     """Names of files are words as they are given."""
     bench.write("a b", WALKER)
     bench.write("-", WALKER)
@@ -209,110 +205,19 @@ def names(bench):
         bench.expect(f"no file {name[:12]!r}", answer, UNREADABLE, name + b": E01 unreadable\n")
 
 
-def many_files(bench):
+def many_files(bench: Bench) -> None:
     """Files are closed as soon as they are loaded, and there are 64 at most."""
     for count in range(64):
         bench.write(f"e{count}", b"element E%d { Void behave() { } }" % count)
     words = ["check", *(f"e{count}" for count in range(64))]
     layout = b"".join(b"element E%d %d 0\n" % (count, count + 1) for count in range(64))
     bench.expect("64 files, one open at a time", bench.call(words, Limits(files=4)), DONE, layout)
-    bench.expect("65 files", bench.call([*words, "e0"]), 2, USAGE)
-    bench.expect("100,000 words", bench.call(["check"] + ["e0"] * 100_000), 2, USAGE)
-    bench.expect("a word of 100,000 bytes", bench.call(["w" * 100_000]), 2, USAGE)
+    bench.expect("65 files", bench.call([*words, "e0"]), NO_FORM, USAGE)
+    bench.expect("100,000 words", bench.call(["check"] + ["e0"] * 100_000), NO_FORM, USAGE)
+    bench.expect("a word of 100,000 bytes", bench.call(["w" * 100_000]), NO_FORM, USAGE)
 
 
-class Fault:
-    """What `strace` puts into the answers of the system at calls on one path."""
-
-    def __init__(self, path, call, answer):
-        self.before = (
-            b"strace", b"-f", b"-o", b"/dev/null", b"-P", os.fsencode(path),
-            b"-e", b"trace=" + call, b"-e", b"inject=" + call + b":" + answer,
-        )
-
-
-def may_trace():
-    """Whether `strace` is there and may trace."""
-    if tool("strace") is None:
-        return False
-    asked = ["strace", "-o", "/dev/null", "-e", "inject=getppid:error=EPERM", "true"]
-    return subprocess.run(asked, stderr=subprocess.DEVNULL, check=False).returncode == 0
-
-
-def read_faults(bench, job):
-    """Each read of each input fails or is interrupted in turn, the others take what is there."""
-    for file in job.files:
-        text = file.text
-        if file.name == "e":
-            text = text + b" " * 9000
-        elif file.name == "w":
-            text = text + b"#" + b" " * 9000 + b"\n"
-        bench.write(file.name, text)
-        path = bench.at(file.name)
-        reads = -(-len(text) // 4096) + 1
-        for number in range(1, reads + 1):
-            for code, status, out in ((b"EIO", UNREADABLE, unreadable(file.name)), (b"EINTR", DONE, job.out)):
-                fault = Fault(path, b"read", b"error=%s:when=%d" % (code, number))
-                answer = bench.call(job.words, before=fault.before)
-                bench.expect(f"{job.name}: read {number} of {file.name} ends by {code.decode()}", answer, status, out)
-        fault = Fault(path, b"read", b"error=EIO:when=%d" % (reads + 1))
-        bench.expect(f"{job.name}: {file.name} takes {reads} reads", bench.call(job.words, before=fault.before), DONE, job.out)
-        for code in (b"EACCES", b"EMFILE", b"EIO"):
-            fault = Fault(file.name, b"openat,open", b"error=" + code)
-            answer = bench.call(job.words, before=fault.before)
-            bench.expect(f"{job.name}: {file.name} can't be opened by {code}", answer, UNREADABLE, unreadable(file.name))
-        fault = Fault(file.name, b"openat,open", b"error=ENOMEM")
-        answer = bench.call(job.words, before=fault.before)
-        held = (answer.status, answer.out) in ((UNREADABLE, unreadable(file.name)), (MEMORY, b""))
-        bench.say(held, f"{job.name}: {file.name} can't be opened for want of memory", answer.shown())
-        fault = Fault(file.name, b"openat,open", b"error=EINTR:when=1")
-        bench.expect(f"{job.name}: opening {file.name} is interrupted", bench.call(job.words, before=fault.before), DONE, job.out)
-        lay(bench, job)
-
-
-def write_faults(bench):
-    """Each write of a report of two pieces fails in turn, is interrupted, or takes nothing."""
-    bench.write("w", LONG_WORLD)
-    bench.write("e", WALKER)
-    words = ["run", "w", "e"]
-    path = bench.at("standard.output")
-    for number in (1, 2):
-        for answer in (b"error=ENOSPC", b"error=EIO", b"error=EPIPE", b"retval=0"):
-            fault = Fault(path, b"write,writev", answer + b":when=%d" % number)
-            got = bench.call(words, before=fault.before)
-            bench.expect(f"write {number} ends by {answer.decode()}", got, SINK, LONG_REPORT[: 4096 * (number - 1)])
-        fault = Fault(path, b"write,writev", b"error=EINTR:when=%d" % number)
-        bench.expect(f"write {number} is interrupted", bench.call(words, before=fault.before), DONE, LONG_REPORT)
-
-
-def growing(bench):
-    """A file that grows while it is read is what the reads took of it, or too long."""
-    path = bench.at("e")
-    bench.write("e", WALKER + b" " * 20_000)
-    stop = threading.Event()
-
-    def grow():
-        with open(path, "ab", buffering=0) as file:
-            while not stop.is_set():
-                file.write(b" " * 8192)
-                time.sleep(0.001)
-
-    slow = Fault(path, b"read", b"delay_exit=2000")
-    for _ in range(3):
-        thread = threading.Thread(target=grow)
-        thread.start()
-        answer = bench.call(["check", "e"], before=slow.before if may_trace() else (), seconds=60)
-        stop.set()
-        thread.join()
-        stop.clear()
-        held = (answer.status, answer.out) in (
-            (DONE, b"element Walker 1 0\n"),
-            (UNREADABLE, b"e: E02 longer than 1048576 bytes\n"),
-        )
-        bench.say(held, "a file grows while it is read", answer.shown())
-
-
-def signals(bench):
+def signals(bench: Bench) -> None:
     """Output that can't be taken, where its signals are not ignored beforehand: a pipe without a reader
     ends a call by its status, since the program ignores SIGPIPE; a limit on files ends it by its signal,
     as it ends any program."""
@@ -327,7 +232,7 @@ def signals(bench):
     bench.say(answer.status in (SINK, -signal.SIGXFSZ), "a limit on files, by its signal", answer.shown())
 
 
-def edge(bench):
+def edge(bench: Bench) -> None:
     """The table."""
     for job in jobs_of(bench):
         for file in job.files:

@@ -1,15 +1,19 @@
 """Cut texts and changed ones: every front of worlds, reports and code files, and texts with a change.
 
-What is expected comes from the laws on cuts, and from the readers of `reading.py`, which share nothing
-with the program.
+What is expected comes from the laws on cuts, and from the readers of `reading.py` and `reading_reports.py`,
+which share nothing with the program.
 """
+from __future__ import annotations
+
 import random
 import re
 import sys
+from typing import Optional
 
-import reading
-from bench import BAD_CODE, BAD_ELEMENT, BAD_JOURNAL, BAD_WORLD, DONE, main_of
+from bench import BAD_CODE, BAD_ELEMENT, BAD_JOURNAL, BAD_WORLD, DONE, Bench, main_of
 from jobs import PACKED, TWO_TILES, WALKER, ZEROS
+from reading import Fault, read_world, refusal, world_fault
+from reading_reports import report_fault
 
 NAMES = [b"Walker"]
 STATE = b"7" + b"f" * 17
@@ -27,48 +31,49 @@ WORLDS = {
 }
 
 
-def of_line(text, count):
+def first_lines(text: bytes, count: int) -> bytes:
     """The first lines of a text."""
     return b"".join(line + b"\n" for line in text.split(b"\n")[:count])
 
 
-def cut_law(text, count):
+def cut_law(text: bytes, count: int) -> Optional[Fault]:
     """What is due to the first lines of a printed world: a fault, or None."""
     last = text.split(b"\n")[count - 1] if count > 0 else b""
     if count == 0:
-        return 70, 1, 0
+        return Fault(70, 1)
     if count in (1, 2) or last.startswith(b"seed "):
-        return 76, count + 1, 0
+        return Fault(76, count + 1)
     return None
 
 
-def world_answer(bench, name, text, fault):
+def world_answer(bench: Bench, name: str, text: bytes, fault: Optional[Fault]) -> None:
     """A world with this fault, or none."""
     bench.write("w", text)
     answer = bench.call(["step", "w", "e"])
     if fault is None:
-        return bench.expect(name, answer, DONE, None)
-    return bench.expect(name, answer, BAD_WORLD, reading.refusal("w", fault))
+        bench.expect(name, answer, DONE, None)
+    else:
+        bench.expect(name, answer, BAD_WORLD, refusal("w", fault))
 
 
-def world_fronts(bench):
+def world_fronts(bench: Bench) -> int:
     """Each world cut behind each line, by the law; and behind each byte, by the reader."""
     tried = 0
     for kind, text in WORLDS.items():
         for count in range(text.count(b"\n") + 1):
-            front = of_line(text, count)
+            front = first_lines(text, count)
             fault = cut_law(text, count)
-            bench.say(reading.world_fault(front, NAMES) == fault, f"{kind}: the law at line {count}", f"{fault}")
+            bench.say(world_fault(front, NAMES) == fault, f"{kind}: the law at line {count}", f"{fault}")
             world_answer(bench, f"{kind}: its first {count} lines", front, fault)
             tried += 1
         for count in range(len(text)):
             front = text[:count]
-            world_answer(bench, f"{kind}: its first {count} bytes", front, reading.world_fault(front, NAMES))
+            world_answer(bench, f"{kind}: its first {count} bytes", front, world_fault(front, NAMES))
             tried += 1
     return tried
 
 
-def report_of(bench, text):
+def report_of(bench: Bench, text: bytes) -> bytes:
     """The report of the stepped run of a world."""
     bench.write("w", text)
     answer = bench.call(["step", "w", "e"])
@@ -80,54 +85,63 @@ def report_of(bench, text):
 REPORT_FORMS = [["replay", "w", "j", "e"], ["audit", "w", "j", "e"], ["rewind", "w", "j", "0", "e"]]
 
 
-def report_answer(bench, name, words, text, fault):
+def report_answer(bench: Bench, name: str, words: list[str], text: bytes, fault: Optional[Fault]) -> None:
+    """A report with this fault, or none."""
     bench.write("j", text)
     answer = bench.call(words)
     if fault is None:
-        return bench.expect(name, answer, DONE, None)
-    return bench.expect(name, answer, BAD_JOURNAL, reading.refusal("j", fault))
+        bench.expect(name, answer, DONE, None)
+    else:
+        bench.expect(name, answer, BAD_JOURNAL, refusal("j", fault))
 
 
-def report_fronts(bench):
+def report_fronts(bench: Bench) -> int:
     """Each report of those worlds cut behind each line, by the law; and behind each byte."""
     tried = 0
     for kind, text in WORLDS.items():
         report = report_of(bench, text)
-        world = reading.read_world(text, NAMES)
+        world = read_world(text, NAMES)
         for words in REPORT_FORMS:
             for count in range(report.count(b"\n")):
-                fault = 80, count + 1, 0
-                front = of_line(report, count)
-                bench.say(reading.report_fault(front, world) == fault, f"{kind}: the law at line {count}", f"{fault}")
+                fault = Fault(80, count + 1)
+                front = first_lines(report, count)
+                bench.say(report_fault(front, world) == fault, f"{kind}: the law at line {count}", f"{fault}")
                 report_answer(bench, f"{words[0]}, {kind}: its first {count} lines", words, front, fault)
                 tried += 1
             report_answer(bench, f"{words[0]}, {kind}: whole", words, report, None)
         for count in range(len(report)):
             front = report[:count]
-            fault = reading.report_fault(front, world)
-            report_answer(bench, f"{kind}: its first {count} bytes", REPORT_FORMS[0], front, fault)
+            name = f"{kind}: its first {count} bytes"
+            report_answer(bench, name, REPORT_FORMS[0], front, report_fault(front, world))
             tried += 1
     return tried
 
 
-def code_fronts(bench):
-    """A code file cut behind each byte, and with each byte changed."""
+CODE_REFUSAL = re.compile(rb"c:1:\d+: E6[1-4] (not a code file|bad code file|code is not valid|name used twice)\n\Z")
+
+
+def code_fronts(bench: Bench) -> int:
+    """A code file cut behind each byte, and with one byte more."""
     bench.write("w", TWO_TILES)
-    tried = 0
     for count in range(len(PACKED)):
         bench.write("c", PACKED[:count])
         line = b"c:1:1: E61 not a code file\n" if count < 8 else b"c:1:%d: E62 bad code file\n" % (count + 1)
         bench.expect(f"a code file's first {count} bytes", bench.call(["steppack", "w", "c"]), BAD_CODE, line)
-        tried += 1
     bench.write("c", PACKED + b"\0")
     bench.expect("a further byte", bench.call(["steppack", "w", "c"]), BAD_CODE, b"c:1:69: E62 bad code file\n")
-    form = re.compile(rb"c:1:\d+: E6[1-4] (not a code file|bad code file|code is not valid|name used twice)\n\Z")
+    return len(PACKED)
+
+
+def changed_codes(bench: Bench) -> int:
+    """A code file with each byte changed."""
+    bench.write("w", TWO_TILES)
+    tried = 0
     for at in range(len(PACKED)):
         for byte in range(0, 256, 1 if bench.long else 37):
             bench.write("c", PACKED[:at] + bytes([byte]) + PACKED[at + 1:])
             answer = bench.call(["steppack", "w", "c"])
-            told = form.match(answer.out) if answer.status == BAD_CODE else answer.status in (DONE, BAD_WORLD)
-            bench.say(told, f"byte {at + 1} is {byte}", answer.shown())
+            is_refused = answer.status == BAD_CODE and CODE_REFUSAL.match(answer.out) is not None
+            bench.say(is_refused or answer.status in (DONE, BAD_WORLD), f"byte {at + 1} is {byte}", answer.shown())
             tried += 1
     return tried
 
@@ -141,7 +155,7 @@ HARD = [
 ]
 
 
-def changed(text, draw):
+def changed(text: bytes, draw: random.Random) -> bytes:
     """A text with a change: a field, a line or a byte."""
     kind = draw.randrange(9)
     lines = text.split(b"\n")
@@ -165,38 +179,38 @@ def changed(text, draw):
     return b"\n".join(lines)
 
 
-def often(text, draw):
+def often(text: bytes, draw: random.Random) -> bytes:
     """A text with one to three changes."""
     for _ in range(draw.choice([1, 1, 1, 2, 3])):
         text = changed(text, draw) or b"\n"
     return text
 
 
-def changed_worlds(bench, draw):
+def changed_worlds(bench: Bench, draw: random.Random) -> int:
     """Worlds with changes, by the reader."""
     tried = 10_000 if bench.long else 600
     refused = 0
     for _ in range(tried):
         text = often(draw.choice(list(WORLDS.values())), draw)
-        fault = reading.world_fault(text, NAMES)
+        fault = world_fault(text, NAMES)
         refused += fault is not None
         world_answer(bench, f"a changed world {text!r}", text, fault)
     bench.note(f"{tried} changed worlds, {refused} of them refused")
     return tried
 
 
-def changed_reports(bench, draw):
+def changed_reports(bench: Bench, draw: random.Random) -> int:
     """Reports with changes, by the reader."""
     texts = list(WORLDS.values())
     reports = [report_of(bench, text) for text in texts]
-    worlds = [reading.read_world(text, NAMES) for text in texts]
+    worlds = [read_world(text, NAMES) for text in texts]
     tried = 10_000 if bench.long else 600
     refused = 0
     for _ in range(tried):
         at = draw.randrange(len(texts))
         bench.write("w", texts[at])
         text = often(reports[at], draw)
-        fault = reading.report_fault(text, worlds[at])
+        fault = report_fault(text, worlds[at])
         refused += fault is not None
         report_answer(bench, f"a changed report {text!r}", ["replay", "w", "j", "e"], text, fault)
     bench.note(f"{tried} changed reports, {refused} of them refused")
@@ -219,7 +233,7 @@ ELEMENT = (
 )
 
 
-def changed_element(draw):
+def changed_element(draw: random.Random) -> bytes:
     """An element file with changes of its tokens."""
     tokens = re.findall(rb"\w+|[^\w\s]|\s+", ELEMENT)
     for _ in range(draw.choice([1, 1, 2, 4])):
@@ -239,7 +253,7 @@ def changed_element(draw):
     return b"".join(tokens)
 
 
-def soup(draw):
+def soup(draw: random.Random) -> bytes:
     """Tokens in no order."""
     return " ".join(draw.choice(SOUP) for _ in range(draw.randrange(1, 60))).encode()
 
@@ -247,7 +261,7 @@ def soup(draw):
 REFUSAL = re.compile(rb"e:[1-9]\d*:[1-9]\d*: E(1[0-3]|2[01]|3\d|4[01]|5[0-6]|60) [^\n]+\n\Z")
 
 
-def changed_elements(bench, draw):
+def changed_elements(bench: Bench, draw: random.Random) -> int:
     """Element files with changes: accepted, or refused by one line."""
     tried = 8_000 if bench.long else 500
     refused = 0
@@ -258,18 +272,18 @@ def changed_elements(bench, draw):
         bench.write("e", text)
         answer = bench.call(["code", "e"], seconds=20)
         refused += answer.status == BAD_ELEMENT
-        held = answer.status == DONE or (answer.status == BAD_ELEMENT and REFUSAL.match(answer.out))
-        bench.say(held, f"a changed element {text!r}", answer.shown())
+        is_refused = answer.status == BAD_ELEMENT and REFUSAL.match(answer.out) is not None
+        bench.say(is_refused or answer.status == DONE, f"a changed element {text!r}", answer.shown())
     bench.note(f"{tried} changed element files, {refused} of them refused")
     bench.write("e", WALKER)
     return tried
 
 
-def fronts(bench):
+def fronts(bench: Bench) -> None:
     """The table."""
     bench.write("e", WALKER)
     draw = random.Random(30)
-    tried = world_fronts(bench) + report_fronts(bench) + code_fronts(bench)
+    tried = world_fronts(bench) + report_fronts(bench) + code_fronts(bench) + changed_codes(bench)
     tried += changed_worlds(bench, draw) + changed_reports(bench, draw) + changed_elements(bench, draw)
     bench.note(f"{tried} texts in all")
 

@@ -1,4 +1,14 @@
 """A small job of each form of words: its inputs, and what it is to write."""
+from __future__ import annotations
+
+import pathlib
+from dataclasses import dataclass
+from typing import Iterator, Optional
+
+from bench import DONE, Bench
+
+# How many bytes an element file may have, and any other input.
+MOST_OF_ELEMENTS, MOST = 1_048_576, 268_435_456
 
 WALKER = b"element Walker { EventWindow ew; Void behave() { ew.swap(0, 4); } }"
 ZEROS = b"0" * 16
@@ -19,82 +29,97 @@ PACKED = bytes.fromhex(
 )
 
 
+@dataclass(frozen=True)
 class File:
     """An input: its name, its bytes, and the most bytes that it may have."""
 
-    def __init__(self, name, text, most):
-        self.name = name
-        self.text = text
-        self.most = most
+    name: str
+    text: bytes
+    most: int
 
 
-def world(text):
-    return File("w", text, 268_435_456)
+def world(text: bytes) -> File:
+    """The world of a job."""
+    return File("w", text, MOST)
 
 
-def report(text):
-    return File("j", text, 268_435_456)
+def report(text: bytes) -> File:
+    """The report of a job."""
+    return File("j", text, MOST)
 
 
-def code(text):
-    return File("c", text, 268_435_456)
+def code(text: bytes) -> File:
+    """The code file of a job."""
+    return File("c", text, MOST)
 
 
-def element(text):
-    return File("e", text, 1_048_576)
+def element(text: bytes) -> File:
+    """The element file of a job."""
+    return File("e", text, MOST_OF_ELEMENTS)
 
 
+@dataclass
 class Job:
-    """A form's name, its words, its inputs in the order in which they are loaded, and what it writes
-    (None: whatever it writes without a fault, which is the same each time)."""
+    """A form's name, its words, its inputs in the order in which they are loaded, and what it is to write
+    (None until its first call: whatever that writes without a fault, which is the same each time)."""
 
-    def __init__(self, name, words, files, out):
-        self.name = name
-        self.words = words.split()
-        self.files = files
-        self.out = out
+    name: str
+    words: list[str]
+    files: list[File]
+    due: Optional[bytes]
+
+    @property
+    def out(self) -> bytes:
+        """What it writes, once that is known."""
+        if self.due is None:
+            raise ValueError(f"{self.name}: what it writes is known from its first call on")
+        return self.due
 
 
 JOBS = [
-    Job("check", "check e", [element(WALKER)], LAYOUT),
-    Job("code", "code e", [element(WALKER)], CODE),
-    Job("pack", "pack e", [element(WALKER)], PACKED),
-    Job("run", "run w e", [world(ONE_TILE), element(WALKER)], ONE_REPORT),
-    Job("run of two tiles", "run w e", [world(TWO_TILES), element(WALKER)], TWO_REPORT),
-    Job("step", "step w e", [world(TWO_TILES), element(WALKER)], TWO_REPORT),
-    Job("runpack", "runpack w c", [world(TWO_TILES), code(PACKED)], TWO_REPORT),
-    Job("steppack", "steppack w c", [world(TWO_TILES), code(PACKED)], TWO_REPORT),
+    Job("check", ["check", "e"], [element(WALKER)], LAYOUT),
+    Job("code", ["code", "e"], [element(WALKER)], CODE),
+    Job("pack", ["pack", "e"], [element(WALKER)], PACKED),
+    Job("run", ["run", "w", "e"], [world(ONE_TILE), element(WALKER)], ONE_REPORT),
+    Job("run of two tiles", ["run", "w", "e"], [world(TWO_TILES), element(WALKER)], TWO_REPORT),
+    Job("step", ["step", "w", "e"], [world(TWO_TILES), element(WALKER)], TWO_REPORT),
+    Job("runpack", ["runpack", "w", "c"], [world(TWO_TILES), code(PACKED)], TWO_REPORT),
+    Job("steppack", ["steppack", "w", "c"], [world(TWO_TILES), code(PACKED)], TWO_REPORT),
     Job(
-        "replay", "replay w j e", [world(TWO_TILES), element(WALKER), report(TWO_REPORT)],
+        "replay", ["replay", "w", "j", "e"], [world(TWO_TILES), element(WALKER), report(TWO_REPORT)],
         b"feast 1\natoms 1\n16 4 Walker " + STATE + b"\n",
     ),
-    Job("audit", "audit w j e", [world(TWO_TILES), element(WALKER), report(TWO_REPORT)], b"yes\n"),
+    Job("audit", ["audit", "w", "j", "e"], [world(TWO_TILES), element(WALKER), report(TWO_REPORT)], b"yes\n"),
     Job(
-        "rewind", "rewind w j 0 e", [world(TWO_TILES), element(WALKER), report(TWO_REPORT)],
+        "rewind", ["rewind", "w", "j", "0", "e"], [world(TWO_TILES), element(WALKER), report(TWO_REPORT)],
         b"feast 1\natoms 1\n15 4 Walker " + STATE + b"\n",
     ),
-    Job("gen", "gen 5", [], None),
+    Job("gen", ["gen", "5"], [], None),
 ]
 
 
-def jobs_of(bench):
+def jobs_of(bench: Bench) -> Iterator[Job]:
     """The jobs, their inputs made, and each with what it writes."""
     for job in JOBS:
         lay(bench, job)
         answer = bench.call(job.words)
-        if job.out is None:
-            job.out = answer.out
-        if bench.expect(f"{job.name}: as it is", answer, 0, job.out):
+        if job.due is None:
+            job.due = answer.out
+        if bench.expect(f"{job.name}: as it is", answer, DONE, job.due):
             yield job
 
 
-def lay(bench, job):
+def clear(path: pathlib.Path) -> None:
+    """Takes away what lies at a path."""
+    if path.is_dir() and not path.is_symlink():
+        path.rmdir()
+    elif path.is_symlink() or path.exists():
+        path.unlink()
+
+
+def lay(bench: Bench, job: Job) -> None:
     """Makes the inputs of a job."""
     for file in job.files:
         path = bench.at(file.name)
-        if path.is_symlink() or path.is_fifo() or path.exists():
-            if path.is_dir() and not path.is_symlink():
-                path.rmdir()
-            else:
-                path.unlink()
+        clear(path)
         path.write_bytes(file.text)

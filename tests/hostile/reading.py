@@ -1,9 +1,14 @@
-"""What worlds and reports say, read once more by their rules in docs/formats.md, apart from the program.
+"""What worlds say, read once more by their rules in docs/formats.md, apart from the program, and how worlds and
+reports are refused.
 
-`world_fault` and `report_fault` give the refusal of a text as (code, line, previous line), or None. They
+`world_fault` gives the refusal of a text, or None; `report_fault` of reading_reports.py is the same for reports. They
 go line by line, as the program does, and share nothing else with it.
 """
+from __future__ import annotations
+
 import re
+from dataclasses import dataclass, field
+from typing import Collection, Iterator, NamedTuple, NoReturn, Optional
 
 NUMBER = re.compile(rb"(0|[1-9][0-9]{0,19})\Z")
 TYPE_NAME = re.compile(rb"[A-Z][A-Za-z0-9_]{0,254}\Z")
@@ -19,21 +24,33 @@ TEXTS = {
 }
 
 
-def refusal(name, fault):
+class Fault(NamedTuple):
+    """The refusal of a text: its code, its line, and the previous line where it tells that too."""
+
+    code: int
+    line: int
+    previous: int = 0
+
+
+def refusal(name: str, fault: Fault) -> bytes:
     """The line that tells a fault of a file."""
-    code, line, previous = fault
-    return f"{name}:{line}:1: E{code} {TEXTS[code].format(previous)}\n".encode()
+    return f"{name}:{fault.line}:1: E{fault.code} {TEXTS[fault.code].format(fault.previous)}\n".encode()
 
 
 class Stop(Exception):
     """A text is refused."""
 
+    def __init__(self, fault: Fault) -> None:
+        super().__init__(fault)
+        self.fault = fault
 
-def stop(code, line, previous=0):
-    raise Stop((code, line, previous))
+
+def stop(code: int, line: int, previous: int = 0) -> NoReturn:
+    """Refuses a text."""
+    raise Stop(Fault(code, line, previous))
 
 
-def lines_of(text):
+def lines_of(text: bytes) -> list[bytes]:
     """The lines of a text whose last may lack its LF, each without one CR before its LF."""
     parts = text.split(b"\n")
     last = parts.pop()
@@ -43,36 +60,52 @@ def lines_of(text):
     return found
 
 
-def numbers(fields):
+def numbers(fields: list[bytes]) -> Optional[list[int]]:
     """The numbers that fields are, or None."""
     if all(NUMBER.match(field) for field in fields):
         return [int(field) for field in fields]
     return None
 
 
-def form_of(line):
-    """A line's kind and what it says, or None where it has no form."""
-    word, *fields = line.split(b" ")
+@dataclass(frozen=True)
+class Line:
+    """A line of a world: its kind, its numbers (a seed or a state is the last of them), and its name."""
+
+    kind: str
+    numbers: tuple[int, ...]
+    name: bytes = b""
+
+
+def line_of(kind: str, fields: list[bytes], *last: int, name: bytes = b"") -> Optional[Line]:
+    """The line of a kind with the numbers that fields are and a last one, or None."""
+    found = numbers(fields)
+    return None if found is None else Line(kind, (*found, *last), name)
+
+
+def read_line(text: bytes) -> Optional[Line]:
+    """What a line says, or None where it has no form."""
+    word, *fields = text.split(b" ")
     if word == b"feast" and fields in ([b"1"], [b"2"]):
-        return "feast", fields[0]
-    if word in (b"tiles", b"size") and len(fields) == 2 and numbers(fields) is not None:
-        return word.decode(), numbers(fields)
-    if word in (b"off", b"seed", b"attempts") and len(fields) == 1 and numbers(fields) is not None:
-        return word.decode(), numbers(fields)[0]
-    if word == b"try" and len(fields) == 4 and numbers(fields[:3]) is not None and SEED.match(fields[3]):
-        return "try", (*numbers(fields[:3]), int(fields[3], 16))
-    if word == b"atom" and len(fields) in (3, 4) and numbers(fields[:2]) is not None and TYPE_NAME.match(fields[2]):
-        if len(fields) == 3 or STATE.match(fields[3]):
-            return "atom", (*numbers(fields[:2]), fields[2], int(fields[3], 16) if len(fields) == 4 else 0)
-    if word == b"order" and len(fields) == 2 and fields[0] == b"seed" and numbers(fields[1:]) is not None:
-        return "order seed", numbers(fields[1:])[0]
-    if word == b"order" and fields and numbers(fields) is not None:
-        return "order", numbers(fields)
+        return line_of("feast", fields)
+    if word in (b"tiles", b"size") and len(fields) == 2:
+        return line_of(word.decode(), fields)
+    if word in (b"off", b"seed", b"attempts") and len(fields) == 1:
+        return line_of(word.decode(), fields)
+    if word == b"try" and len(fields) == 4 and SEED.match(fields[3]):
+        return line_of("try", fields[:3], int(fields[3], 16))
+    if word == b"atom" and len(fields) == 3 and TYPE_NAME.match(fields[2]):
+        return line_of("atom", fields[:2], 0, name=fields[2])
+    if word == b"atom" and len(fields) == 4 and TYPE_NAME.match(fields[2]) and STATE.match(fields[3]):
+        return line_of("atom", fields[:2], int(fields[3], 16), name=fields[2])
+    if word == b"order" and len(fields) == 2 and fields[0] == b"seed":
+        return line_of("order seed", fields[1:])
+    if word == b"order" and fields:
+        return line_of("order", fields)
     return None
 
 
 # Which kinds of lines may stand behind one.
-BEHIND = {
+BEHIND: dict[str, set[str]] = {
     "feast": {"tiles"},
     "tiles": {"size"},
     "size": {"off", "seed", "try", "atom", "order", "order seed"},
@@ -86,109 +119,144 @@ BEHIND = {
 }
 
 
+class Attempt(NamedTuple):
+    """An attempt of a tile: its site and its seed."""
+
+    x: int
+    y: int
+    seed: int
+
+
+class Atom(NamedTuple):
+    """An atom of a world: its line, its site and the name of its element."""
+
+    line: int
+    x: int
+    y: int
+    name: bytes
+
+
+@dataclass
 class World:
-    """What the lines of a world say so far."""
+    """What the lines of a world say so far; the kind is that of the last one, and attempts stand beside their tiles."""
 
-    def __init__(self):
-        self.kind = None
-        self.second = False
-        self.tiles = (1, 1)
-        self.size = (8, 8)
-        self.off = []
-        self.tries = []
-        self.seed = None
-        self.attempts = 0
-        self.atoms = []
+    kind: Optional[str] = None
+    second: bool = False
+    tiles: tuple[int, int] = (1, 1)
+    size: tuple[int, int] = (8, 8)
+    off: list[int] = field(default_factory=list)
+    tries: list[tuple[int, Attempt]] = field(default_factory=list)
+    seed: Optional[int] = None
+    attempts: int = 0
+    atoms: list[Atom] = field(default_factory=list)
 
-    def count(self):
+    def count(self) -> int:
+        """How many tiles there are."""
         return self.tiles[0] * self.tiles[1]
 
-    def is_on(self, tile):
+    def is_on(self, tile: int) -> bool:
+        """Whether a number is that of a tile that is on."""
         return tile < self.count() and tile not in self.off
 
-    def owner(self, x, y):
+    def owner(self, x: int, y: int) -> Optional[int]:
         """The tile that owns a site, or None off the plane."""
         (tx, ty), (w, h) = self.tiles, self.size
         return y // h * tx + x // w if x < tx * w and y < ty * h else None
 
-    def in_range(self, kind, said):
-        if kind == "tiles":
-            return all(1 <= n <= 8 for n in said)
-        if kind == "size":
-            return all(8 <= n <= 64 for n in said)
-        if kind in ("seed", "order seed"):
-            return said <= MASK
-        if kind == "off":
-            rising = not self.off or said > self.off[-1]
-            return said < self.count() and rising and len(self.off) + 1 < self.count()
-        if kind == "try":
-            tile, x, y, _ = said
-            return self.is_on(tile) and self.owner(x, y) == tile
-        if kind == "atom":
-            x, y, _, state = said
-            owner = self.owner(x, y)
-            return owner is not None and self.is_on(owner) and state < 1 << 71
-        if kind == "order":
-            return all(self.is_on(tile) for tile in said)
+    def may_be_off(self, tile: int) -> bool:
+        """Whether a tile may be off behind those that are."""
+        rising = not self.off or tile > self.off[-1]
+        return tile < self.count() and rising and len(self.off) + 1 < self.count()
+
+    def is_in_range(self, line: Line) -> bool:
+        """Whether the numbers of a line are in their ranges."""
+        match line.kind, line.numbers:
+            case "tiles", tiles:
+                return all(1 <= n <= 8 for n in tiles)
+            case "size", size:
+                return all(8 <= n <= 64 for n in size)
+            case ("seed" | "order seed"), (seed,):
+                return seed <= MASK
+            case "off", (tile,):
+                return self.may_be_off(tile)
+            case "try", (tile, x, y, _):
+                return self.is_on(tile) and self.owner(x, y) == tile
+            case "atom", (x, y, state):
+                owner = self.owner(x, y)
+                return owner is not None and self.is_on(owner) and state < 1 << 71
+            case "order", tiles:
+                return all(self.is_on(tile) for tile in tiles)
         return True
 
-    def too_many(self, kind, said):
-        if kind == "attempts":
-            return said * (self.count() - len(self.off)) > MOST_ATTEMPTS
-        return kind == "try" and len(self.tries) >= MOST_ATTEMPTS
+    def is_too_many(self, line: Line) -> bool:
+        """Whether a line gives more attempts than there may be."""
+        if line.kind == "attempts":
+            return line.numbers[0] * (self.count() - len(self.off)) > MOST_ATTEMPTS
+        return line.kind == "try" and len(self.tries) >= MOST_ATTEMPTS
 
-    def take(self, n, line):
+    def take(self, n: int, text: bytes) -> None:
         """Takes line n."""
-        form = form_of(line)
+        line = read_line(text)
         if self.kind is None:
-            if form is None or form[0] != "feast":
+            if line is None or line.kind != "feast":
                 stop(70, n)
-        elif form is None or form[0] not in BEHIND[self.kind] or (form[0] == "off" and not self.second):
+        elif line is None or line.kind not in BEHIND[self.kind] or (line.kind == "off" and not self.second):
             stop(71, n)
-        kind, said = form
-        if not self.in_range(kind, said):
+        if not self.is_in_range(line):
             stop(72, n)
-        if self.too_many(kind, said):
+        if self.is_too_many(line):
             stop(75, n)
-        self.put(n, kind, said)
+        self.put(n, line)
 
-    def put(self, n, kind, said):
-        self.kind = kind
-        if kind == "feast":
-            self.second = said == b"2"
-        elif kind == "tiles":
-            self.tiles = tuple(said)
-        elif kind == "size":
-            self.size = tuple(said)
-        elif kind == "off":
-            self.off.append(said)
-        elif kind == "seed":
-            self.seed = said
-        elif kind == "attempts":
-            self.attempts = said
-        elif kind == "try":
-            self.tries.append(said)
-        elif kind == "atom":
-            self.atoms.append((n, *said))
+    def put(self, n: int, line: Line) -> None:
+        """Adds what line n says."""
+        self.kind = line.kind
+        match line.kind, line.numbers:
+            case "feast", (version,):
+                self.second = version == 2
+            case "tiles", (across, down):
+                self.tiles = (across, down)
+            case "size", (columns, rows):
+                self.size = (columns, rows)
+            case "off", (tile,):
+                self.off.append(tile)
+            case "seed", (seed,):
+                self.seed = seed
+            case "attempts", (attempts,):
+                self.attempts = attempts
+            case "try", (tile, x, y, seed):
+                self.tries.append((tile, Attempt(x, y, seed)))
+            case "atom", (x, y, _):
+                self.atoms.append(Atom(n, x, y, line.name))
 
-    def name(self, names):
+    def name(self, names: Collection[bytes]) -> None:
         """Gives the atoms their elements."""
-        taken = set()
-        for n, x, y, name, _ in self.atoms:
-            if name not in names:
-                stop(73, n)
-            if (x, y) in taken:
-                stop(74, n)
-            taken.add((x, y))
+        taken: set[tuple[int, int]] = set()
+        for atom in self.atoms:
+            if atom.name not in names:
+                stop(73, atom.line)
+            if (atom.x, atom.y) in taken:
+                stop(74, atom.line)
+            taken.add((atom.x, atom.y))
 
-    def attempts_of(self, tile):
-        """The attempts of a tile: site and seed of each."""
+    def attempts_of(self, tile: int) -> list[Attempt]:
+        """The attempts of a tile."""
         if self.seed is None:
-            return [(x, y, seed) for t, x, y, seed in self.tries if t == tile]
-        return drawn(self, tile) if self.is_on(tile) else []
+            return [attempt for at, attempt in self.tries if at == tile]
+        return self.drawn(tile, self.seed) if self.is_on(tile) else []
+
+    def drawn(self, tile: int, seed: int) -> list[Attempt]:
+        """The attempts that a tile of a seeded world draws."""
+        (tx, _), (w, h) = self.tiles, self.size
+        stream = words((seed + tile) & MASK)
+        found = []
+        for _ in range(self.attempts):
+            y, x = divmod(next(stream) % (w * h), w)
+            found.append(Attempt(tile % tx * w + x, tile // tx * h + y, next(stream)))
+        return found
 
 
-def read_world(text, names):
+def read_world(text: bytes, names: Collection[bytes]) -> World:
     """The world of a text; `Stop` where it is refused."""
     world = World()
     lines = lines_of(text)
@@ -203,20 +271,21 @@ def read_world(text, names):
     return world
 
 
-def world_fault(text, names):
+def world_fault(text: bytes, names: Collection[bytes]) -> Optional[Fault]:
     """The refusal of a world whose elements have these names, or None."""
     try:
         read_world(text, names)
     except Stop as found:
-        return found.args[0]
+        return found.fault
     return None
 
 
-def turn(value, by):
+def turn(value: int, by: int) -> int:
+    """A word of 64 bits, turned to the left."""
     return (value << by | value >> 64 - by) & MASK
 
 
-def words(seed):
+def words(seed: int) -> Iterator[int]:
     """The words of Xoshiro256++, whose state is filled by SplitMix64 from a seed."""
     state = []
     for step in range(1, 5):
@@ -229,105 +298,3 @@ def words(seed):
         yield (turn((a + d) & MASK, 23) + a) & MASK
         c, d, shifted = c ^ a, d ^ b, b << 17 & MASK
         a, b, c, d = a ^ d, b ^ c, c ^ shifted, turn(d, 45)
-
-
-def drawn(world, tile):
-    """The attempts that a tile of a seeded world draws."""
-    (tx, _), (w, h) = world.tiles, world.size
-    stream = words((world.seed + tile) & MASK)
-    found = []
-    for _ in range(world.attempts):
-        y, x = divmod(next(stream) % (w * h), w)
-        found.append((tile % tx * w + x, tile // tx * h + y, next(stream)))
-    return found
-
-
-class Report:
-    """The lines of a report, taken one after another."""
-
-    def __init__(self, text):
-        self.lines = text.split(b"\n")
-        self.rest = self.lines.pop()
-        self.at = 0
-
-    def next(self):
-        """The fields of the next line, which has to end with LF."""
-        if self.at == len(self.lines):
-            stop(80, self.at + 1)
-        self.at += 1
-        return self.lines[self.at - 1].split(b" ")
-
-    def bad(self):
-        stop(80, self.at)
-
-    def numbers(self, fields, wide):
-        """Numbers below 2^32, or below 2^64 at the places `wide`."""
-        found = numbers(fields)
-        if found is None or any(n > (MASK if i in wide else 0xFFFFFFFF) for i, n in enumerate(found)):
-            self.bad()
-        return found
-
-    def count(self, title):
-        fields = self.next()
-        if len(fields) != 2 or fields[0] != title:
-            self.bad()
-        return self.numbers(fields[1:], ())[0]
-
-    def atom(self):
-        fields = self.next()
-        if len(fields) != 4 or not TYPE_NAME.match(fields[2]) or not STATE.match(fields[3]):
-            self.bad()
-        self.numbers(fields[:2], ())
-
-    def record(self):
-        fields = self.next()
-        if len(fields) != 6 or not SEED.match(fields[5]):
-            self.bad()
-        return (*self.numbers(fields[:5], (2,)), int(fields[5], 16))
-
-    def abandonment(self):
-        fields = self.next()
-        if len(fields) != 7:
-            self.bad()
-        self.numbers(fields, (1, 6))
-
-
-def read_records(report, world, count):
-    """Takes the records of a report."""
-    before = (0, -1)
-    before_line = 0
-    last = {}
-    plans = {}
-    for _ in range(count):
-        stamp, tile, attempt, x, y, seed = report.record()
-        line = report.at
-        if (stamp, tile) <= before or stamp == 0:
-            stop(81, line, before_line)
-        if tile in last and attempt <= last[tile][0]:
-            stop(81, line, last[tile][1])
-        if tile >= world.count() or world.owner(x, y) != tile:
-            stop(82, line)
-        if tile not in plans:
-            plans[tile] = world.attempts_of(tile)
-        if attempt >= len(plans[tile]) or plans[tile][attempt] != (x, y, seed):
-            stop(83, line)
-        before, before_line = (stamp, tile), line
-        last[tile] = (attempt, line)
-
-
-def report_fault(text, world):
-    """The refusal of a report of a world, or None."""
-    report = Report(text)
-    try:
-        if report.next() != [b"feast", b"1"]:
-            report.bad()
-        for _ in range(report.count(b"atoms")):
-            report.atom()
-        read_records(report, world, report.count(b"journal"))
-        for _ in range(report.count(b"abandoned")):
-            report.abandonment()
-        if report.at < len(report.lines) or report.rest:
-            stop(80, report.at + 1)
-    except Stop as found:
-        return found.args[0]
-    return None
