@@ -4,7 +4,7 @@ use sat_math::{Kind, NumType};
 use ulam_tree::resolved::Ty;
 
 /// What the name of a type stands for.
-#[derive(Clone, Copy, Debug, PartialEq, Eq)]
+#[derive(Clone, Copy)]
 pub enum Basic {
     /// A kind that takes a width, with the width that it has if none is written.
     Sized(Kind, u8),
@@ -13,7 +13,7 @@ pub enum Basic {
 }
 
 /// A constant's type and number.
-#[derive(Clone, Copy, Debug, PartialEq, Eq)]
+#[derive(Clone, Copy)]
 pub struct Value {
     /// The type.
     pub num: NumType,
