@@ -152,24 +152,24 @@ module _ (context : Context) (entries : Vec Entry Global) where
   abbrev outcome : {A : Type 0} → Found A → ℕ → ℕ → Outcome A
   outcome x slot count = record { found = x; next = slot + count; most = context.params + s.most_locals }
 
-  abbrev pub statement_outcome : ℕ → ℕ → Statement → Outcome r.Statement
-  statement_outcome from slot x = outcome (statement from slot x) slot (locals x)
+  abbrev pub statement_end : ℕ → ℕ → Statement → Outcome r.Statement
+  statement_end from slot x = outcome (statement from slot x) slot (locals x)
 
-  abbrev pub part_outcome : ℕ → ℕ → Option (Box Statement) → Outcome r.Part
-  part_outcome from slot x = outcome (part from slot x) slot (part_locals x)
+  abbrev pub part_end : ℕ → ℕ → Option (Box Statement) → Outcome r.Part
+  part_end from slot x = outcome (part from slot x) slot (part_locals x)
 
-  abbrev pub body_outcome : ℕ → ℕ → List Statement → Outcome r.Body
-  body_outcome from slot xs = outcome (body from slot xs) slot (body_locals xs)
+  abbrev pub body_end : ℕ → ℕ → List Statement → Outcome r.Body
+  body_end from slot xs = outcome (body from slot xs) slot (body_locals xs)
 
-  abbrev pub inner_outcome : ℕ → Statement → Outcome r.Statement
-  inner_outcome slot x = outcome (inner slot x) slot (locals x)
+  abbrev pub inner_end : ℕ → Statement → Outcome r.Statement
+  inner_end slot x = outcome (inner slot x) slot (locals x)
 
-  abbrev pub branch_outcome : ℕ → Statement → Cond → FoundCond → Outcome r.Statement
-  branch_outcome slot x test found = outcome (branch 0 slot x test found) slot (locals x)
+  abbrev pub branch_end : ℕ → Statement → Cond → FoundCond → Outcome r.Statement
+  branch_end slot x test found = outcome (branch 0 slot x test found) slot (locals x)
 
   -- statements in a scope of their own, from their parts
-  abbrev pub block_outcome : ℕ → List Statement → Outcome r.Statement
-  block_outcome slot xs = outcome (w.statement (context_of context) (scope_of entries.items 0) slot (t.block (body_list xs))) slot (body_locals xs)
+  abbrev pub block_end : ℕ → List Statement → Outcome r.Statement
+  block_end slot xs = outcome (w.statement (context_of context) (scope_of entries.items 0) slot (t.block (body_list xs))) slot (body_locals xs)
 
-  abbrev pub while_outcome : ℕ → Statement → Expr → Outcome r.Statement
-  while_outcome slot x test = outcome (w.statement (context_of context) (scope_of entries.items 0) slot (t.while_so (expr_of test) (statement_of x))) slot (locals x)
+  abbrev pub while_end : ℕ → Statement → Expr → Outcome r.Statement
+  while_end slot x test = outcome (w.statement (context_of context) (scope_of entries.items 0) slot (t.while_so (expr_of test) (statement_of x))) slot (locals x)

@@ -20,12 +20,12 @@ pub record IsOutcome {X A : Type 0} (view : X → A) (step : Outcome A) (x : X �
   pub few : x.1 ≤ step.most
 
 -- A function gives what the walk finds: on Ok the answer that stands for it, of which more is said, on Err the same fault. Nothing is said where memory ran out.
-abbrev pub GivesOutcome : {X A : Type 0} → (X → A) → Result (X × ℕ) NameFault → Outcome A → (X → Type 0) → Type 0
-GivesOutcome view (Ok x) step more = IsOutcome view step x × more x.0
-GivesOutcome view (Err e) step more = Fails e step.found
+abbrev pub Resolves : {X A : Type 0} → (X → A) → Result (X × ℕ) NameFault → Outcome A → (X → Type 0) → Type 0
+Resolves view (Ok x) step more = IsOutcome view step x × more x.0
+Resolves view (Err e) step more = Fails e step.found
 
 -- The new entries are those of a scope, with the old ones in front.
-pub record AreAfter (old new : Vec Entry Global) (now : Scope) : Type 0 where
+pub record After (old new : Vec Entry Global) (now : Scope) : Type 0 where
   pub entries : entries_of new.items ≡ now.entries
   pub kept : take (length old.items) new.items ≡ old.items
 

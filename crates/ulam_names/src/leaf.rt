@@ -3,7 +3,7 @@ ghost use Rattle.std.specs.Prelude.{◌≡◌, ◌≤◌, ◌+◌, length, IfOk,
 ghost use Rattle.std.specs.Box.{box_value};
 ghost use Rattle.ulam_names.specs.BodyWalk as walk;
 ghost use Rattle.ulam_names.specs.Shown.{is_leaf};
-ghost use Rattle.ulam_names.specs.Outcomes.{GivesOutcome, AreAfter};
+ghost use Rattle.ulam_names.specs.Outcomes.{Resolves, After};
 ghost use Rattle.ulam_names.specs.declared.fault.NameFault.TheVariants.{NoMemory};
 ghost use Rattle.ulam_tree.specs.RawViews.{statement_of};
 ghost use Rattle.ulam_tree.specs.ResolvedViews.{resolved_statement};
@@ -36,7 +36,7 @@ pub fn leaf<'a>(
     requires slot { slot ≤ context.now.params + 64 }
     requires from { from ≤ length entries.old.items }
     requires leaf { IsTrue (is_leaf (statement_of raw.now)) }
-    ensures { GivesOutcome resolved_statement result (walk.statement_outcome context.now entries.old from slot raw.now) (λ x. AreAfter entries.old entries.new (walk.after context.now entries.old from slot raw.now x)) }
+    ensures { Resolves resolved_statement result (walk.statement_end context.now entries.old from slot raw.now) (λ x. After entries.old entries.new (walk.after context.now entries.old from slot raw.now x)) }
 {
     match raw {
         raw::Statement::Declare { of, word, value } => {

@@ -6,7 +6,7 @@ ghost use Rattle.std.specs.Prelude.{◌≡◌, ◌≤◌, ◌+◌, length, IsTru
 ghost use Rattle.std.specs.Box.{box_value};
 ghost use Rattle.ulam_names.specs.BodyWalk as walk;
 ghost use Rattle.ulam_names.specs.Shown.{boxed_statement, each_statement, has_no_branch, IsFront};
-ghost use Rattle.ulam_names.specs.Outcomes.{GivesOutcome, AreAfter, AreSame};
+ghost use Rattle.ulam_names.specs.Outcomes.{Resolves, After, AreSame};
 ghost use Rattle.ulam_tree.specs.RawViews.{statement_of};
 ghost use Rattle.ulam_tree.specs.ResolvedViews.{resolved_statement, resolved_part};
 
@@ -33,7 +33,7 @@ pub fn statement<'a>(
     requires params { context.now.params ≤ 8 }
     requires slot { slot ≤ context.now.params + 64 }
     requires from { from ≤ length entries.old.items }
-    ensures { GivesOutcome resolved_statement result (walk.statement_outcome context.now entries.old from slot raw.now) (λ x. AreAfter entries.old entries.new (walk.after context.now entries.old from slot raw.now x)) }
+    ensures { Resolves resolved_statement result (walk.statement_end context.now entries.old from slot raw.now) (λ x. After entries.old entries.new (walk.after context.now entries.old from slot raw.now x)) }
 {
     match raw {
         raw::Statement::Block { body: list } => {
@@ -64,7 +64,7 @@ fn looped<'a>(
     requires slot { slot ≤ context.now.params + 64 }
     requires from { from ≤ length entries.old.items }
     requires plain { IsTrue (has_no_branch (statement_of raw.now)) }
-    ensures { GivesOutcome resolved_statement result (walk.statement_outcome context.now entries.old from slot raw.now) (λ x. AreAfter entries.old entries.new (walk.after context.now entries.old from slot raw.now x)) }
+    ensures { Resolves resolved_statement result (walk.statement_end context.now entries.old from slot raw.now) (λ x. After entries.old entries.new (walk.after context.now entries.old from slot raw.now x)) }
 {
     match raw {
         raw::Statement::While { cond: test, body } => {
@@ -99,7 +99,7 @@ fn block<'a>(
 ) -> Result<(Statement, u32), NameFault>
     requires params { context.now.params ≤ 8 }
     requires slot { slot ≤ context.now.params + 64 }
-    ensures { GivesOutcome resolved_statement result (walk.block_outcome context.now entries.old slot raw.now) (λ _. AreSame entries.old entries.new) }
+    ensures { Resolves resolved_statement result (walk.block_end context.now entries.old slot raw.now) (λ _. AreSame entries.old entries.new) }
 {
     let len = entries.len();
     let (list, next) = body(alloc, context, entries, len, slot, raw)?;
@@ -119,7 +119,7 @@ fn while_so<'a>(
 ) -> Result<(Statement, u32), NameFault>
     requires params { context.now.params ≤ 8 }
     requires slot { slot ≤ context.now.params + 64 }
-    ensures { GivesOutcome resolved_statement result (walk.while_outcome context.now entries.old slot raw.now test.now) (λ _. AreSame entries.old entries.new) }
+    ensures { Resolves resolved_statement result (walk.while_end context.now entries.old slot raw.now test.now) (λ _. AreSame entries.old entries.new) }
 {
     let test = expr(alloc, context, entries.as_slice(), test)?;
     let (body, next) = inner(alloc, context, entries, slot, raw)?;
@@ -139,7 +139,7 @@ fn boxed<'a>(
     requires params { context.now.params ≤ 8 }
     requires slot { slot ≤ context.now.params + 64 }
     requires from { from ≤ length entries.old.items }
-    ensures { GivesOutcome boxed_statement result (walk.statement_outcome context.now entries.old from slot raw.now) (λ x. AreAfter entries.old entries.new (walk.after context.now entries.old from slot raw.now (box_value x))) }
+    ensures { Resolves boxed_statement result (walk.statement_end context.now entries.old from slot raw.now) (λ x. After entries.old entries.new (walk.after context.now entries.old from slot raw.now (box_value x))) }
 {
     let (found, next) = statement(alloc, context, entries, from, slot, raw)?;
     Ok((in_box(alloc, found)?, next))
@@ -156,7 +156,7 @@ fn inner<'a>(
 ) -> Result<(Box<Statement>, u32), NameFault>
     requires params { context.now.params ≤ 8 }
     requires slot { slot ≤ context.now.params + 64 }
-    ensures { GivesOutcome boxed_statement result (walk.inner_outcome context.now entries.old slot raw.now) (λ _. AreSame entries.old entries.new) }
+    ensures { Resolves boxed_statement result (walk.inner_end context.now entries.old slot raw.now) (λ _. AreSame entries.old entries.new) }
 {
     let len = entries.len();
     let found = boxed(alloc, context, entries, len, slot, raw)?;
@@ -177,7 +177,7 @@ fn first_part<'a>(
     requires params { context.now.params ≤ 8 }
     requires slot { slot ≤ context.now.params + 64 }
     requires from { from ≤ length entries.old.items }
-    ensures { GivesOutcome resolved_part result (walk.part_outcome context.now entries.old from slot raw.now) (λ x. AreAfter entries.old entries.new (walk.after_part context.now entries.old from slot raw.now x)) }
+    ensures { Resolves resolved_part result (walk.part_end context.now entries.old from slot raw.now) (λ x. After entries.old entries.new (walk.after_part context.now entries.old from slot raw.now x)) }
 {
     match raw {
         None => Ok((None, slot)),
@@ -201,7 +201,7 @@ fn part<'a>(
     requires params { context.now.params ≤ 8 }
     requires slot { slot ≤ context.now.params + 64 }
     requires from { from ≤ length entries.old.items }
-    ensures { GivesOutcome resolved_part result (walk.part_outcome context.now entries.old from slot raw.now) (λ _. AreSame entries.old entries.new) }
+    ensures { Resolves resolved_part result (walk.part_end context.now entries.old from slot raw.now) (λ _. AreSame entries.old entries.new) }
 {
     let len = entries.len();
     let found = first_part(alloc, context, entries, from, slot, raw)?;
@@ -222,7 +222,7 @@ fn branch<'a>(
 ) -> Result<(Box<Statement>, u32), NameFault>
     requires params { context.now.params ≤ 8 }
     requires slot { slot ≤ context.now.params + 64 }
-    ensures { GivesOutcome boxed_statement result (walk.branch_outcome context.now entries.old slot raw.now test.now found.now) (λ _. AreSame entries.old entries.new) }
+    ensures { Resolves boxed_statement result (walk.branch_end context.now entries.old slot raw.now test.now found.now) (λ _. AreSame entries.old entries.new) }
 {
     let len = entries.len();
     show(context, entries, test, found)?;
@@ -244,7 +244,7 @@ pub fn body<'a>(
     requires params { context.now.params ≤ 8 }
     requires slot { slot ≤ context.now.params + 64 }
     requires from { from ≤ length entries.old.items }
-    ensures { GivesOutcome each_statement result (walk.body_outcome context.now entries.old from slot raw.now) (λ _. IsFront entries.old entries.new) }
+    ensures { Resolves each_statement result (walk.body_end context.now entries.old from slot raw.now) (λ _. IsFront entries.old entries.new) }
 {
     let mut found = Vec::new(alloc);
     let mut next = slot;
