@@ -7,7 +7,7 @@ use Rattle.ulam_names.specs.Faults.{Fault, Found}
 use Rattle.ulam_names.specs.Shown.{Fails, Gives}
 
 -- what fails where another step fails, whatever the fault
-fails_as : {A B : Type 0} (e : NameFault) (x : Found A) (y : Found B) → ((f : Fault) → x ≡ Err f → y ≡ Err f) → Fails e x → Fails e y
+pub fails_as : {A B : Type 0} (e : NameFault) (x : Found A) (y : Found B) → ((f : Fault) → x ≡ Err f → y ≡ Err f) → Fails e x → Fails e y
 fails_as (n.DuplicateName p) x y k h = k _ h
 fails_as (n.UnknownName p) x y k h = k _ h
 fails_as (n.CyclicQuark p) x y k h = k _ h

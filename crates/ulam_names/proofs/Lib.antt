@@ -12,6 +12,7 @@ pub mod Loops
 pub mod Members
 pub mod Open
 pub mod Opened
+pub mod Outcomes
 pub mod Programs
 pub mod Rounds
 pub mod Rows

@@ -44,7 +44,7 @@ after_part_from heads z n (t.part x) r.no_part = refl
 after_part_from heads z n t.no_part a = refl
 
 -- a `for` begins with its first statement
-for_first : (c : Context) (es : List Entry) (from n l : ℕ) (f : Option (Box RawStatement)) (k : Option RawExpr) (g : Option (Box RawStatement)) (x : Box RawStatement) → l ≡ length es →
+pub for_first : (c : Context) (es : List Entry) (from n l : ℕ) (f : Option (Box RawStatement)) (k : Option RawExpr) (g : Option (Box RawStatement)) (x : Box RawStatement) → l ≡ length es →
     walk.statement c (scope_of es from) n (statement_of (s.For f k g x))
     ≡ (walk.part c (scope_of es l) n (part_alone f) >>= λ (a : r.Part).
     turns_in c (walk.after_part c.heads (scope_of es l) n (part_alone f) a) (n + walk.locals_part (part_alone f)) a (option_map expr_of k) (part_alone g) (statement_of (box_value x)))

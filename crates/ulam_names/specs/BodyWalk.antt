@@ -1,5 +1,5 @@
 -- What the walk finds in a body, from the values of the code.
-use Rattle.std.specs.Prelude.{ℕ, List, length, map, Option, Some, option_map, Vec, ℤ}
+use Rattle.std.specs.Prelude.{ℕ, ◌+◌, List, length, map, Option, Some, option_map, Vec, ℤ}
 use Rattle.std.specs.Global.{Box, Global}
 use Rattle.feast_base.specs.declared.place.Place.{Place}
 use Rattle.ulam_tree.specs.declared.type_ref.Width.{Width}
@@ -27,6 +27,7 @@ use Rattle.ulam_names.specs.Scopes as s
 use Rattle.ulam_names.specs.Scopes.{Text, Basic, opened, inside_local}
 use Rattle.ulam_names.specs.Walk as w
 use Rattle.ulam_names.specs.Shown.{head_of, context_of, entries_of, scope_of}
+use Rattle.ulam_names.specs.Outcomes.{Outcome}
 
 -- Paths, from a type on
 
@@ -146,3 +147,29 @@ module _ (context : Context) (entries : Vec Entry Global) where
 
   abbrev pub after_part : ℕ → ℕ → Option (Box Statement) → Option (Box FoundStatement) → s.Scope
   after_part from slot x found = w.after_part (map head_of context.heads.now) (scope_of entries.items from) slot (part_alone x) (resolved_part found)
+
+  -- outcomes from a slot on, over so many locals
+  abbrev outcome : {A : Type 0} → Found A → ℕ → ℕ → Outcome A
+  outcome x slot count = record { found = x; next = slot + count; most = context.params + s.most_locals }
+
+  abbrev pub statement_end : ℕ → ℕ → Statement → Outcome r.Statement
+  statement_end from slot x = outcome (statement from slot x) slot (locals x)
+
+  abbrev pub part_end : ℕ → ℕ → Option (Box Statement) → Outcome r.Part
+  part_end from slot x = outcome (part from slot x) slot (part_locals x)
+
+  abbrev pub body_end : ℕ → ℕ → List Statement → Outcome r.Body
+  body_end from slot xs = outcome (body from slot xs) slot (body_locals xs)
+
+  abbrev pub inner_end : ℕ → Statement → Outcome r.Statement
+  inner_end slot x = outcome (inner slot x) slot (locals x)
+
+  abbrev pub branch_end : ℕ → Statement → Cond → FoundCond → Outcome r.Statement
+  branch_end slot x test found = outcome (branch 0 slot x test found) slot (locals x)
+
+  -- statements in a scope of their own, from their parts
+  abbrev pub block_end : ℕ → List Statement → Outcome r.Statement
+  block_end slot xs = outcome (w.statement (context_of context) (scope_of entries.items 0) slot (t.block (body_list xs))) slot (body_locals xs)
+
+  abbrev pub while_end : ℕ → Statement → Expr → Outcome r.Statement
+  while_end slot x test = outcome (w.statement (context_of context) (scope_of entries.items 0) slot (t.while_so (expr_of test) (statement_of x))) slot (locals x)

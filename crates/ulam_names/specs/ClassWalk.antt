@@ -1,4 +1,5 @@
 -- What the walk finds for files and their classes, from the values of the code.
+use Rattle.ulam_tree.specs.Found.{◌>>=◌}
 use Rattle.std.specs.Prelude.{ℕ, ℤ, List, [], map, option_map, Option, Bool, Vec}
 use Rattle.std.specs.Global.{Global}
 use Rattle.feast_base.specs.declared.place.Place.{Place}
@@ -121,3 +122,10 @@ module _ (known : Known) (heads : List HalfClass) where
 
   abbrev pub whole_classes : Found (List r.Class)
   whole_classes = w.whole_classes known (map head_of heads) 0 (map half_class_of heads)
+
+-- classes whose members are known, by the rules of whole classes and with their bodies
+abbrev pub whole_program : Known → List HalfClass → Found (List r.Class)
+whole_program known classes =
+    all_behave classes >>= λ (_ : Unit {0}).
+    none_cyclic classes >>= λ (_ : Unit {0}).
+    whole_classes known classes

@@ -5,6 +5,7 @@ pub mod Classes
 pub mod Faults
 pub mod Files
 pub mod NamesView
+pub mod Outcomes
 pub mod Relation
 pub mod Rounds
 pub mod Scopes

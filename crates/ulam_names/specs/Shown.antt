@@ -120,21 +120,26 @@ IsFront old new = take (length old.items) new.items ≡ old.items
 abbrev pub AddsEntry : Vec Entry Global → Vec Entry Global → s.Entry → Type 0
 AddsEntry old new e = entries_of new.items ≡ entries_of old.items ++ e ∷ []
 
--- Statements are answered with the next free slot beside them.
-abbrev pub next_slot : {A : Type 0} → A × ℕ → ℕ
-next_slot x = x.1
+-- statements as the code keeps them
+abbrev pub boxed_statement : Box Statement → r.Statement
+boxed_statement x = resolved_statement (box_value x)
 
-abbrev pub found_statement : Statement × ℕ → r.Statement
-found_statement x = resolved_statement x.0
+abbrev pub each_statement : Vec Statement Global → r.Body
+each_statement v = resolved_body v.items
 
-abbrev pub found_boxed : Box Statement × ℕ → r.Statement
-found_boxed x = resolved_statement (box_value x.0)
+-- a statement that is neither a block nor an `if`
+abbrev pub has_no_branch : t.Statement → Bool
+has_no_branch (t.block b) = false
+has_no_branch (t.if_so k x z) = false
+has_no_branch x = true
 
-abbrev pub found_part : Option (Box Statement) × ℕ → r.Part
-found_part x = resolved_part x.0
-
-abbrev pub found_body : Vec Statement Global × ℕ → r.Body
-found_body x = resolved_body x.0.items
+-- a statement that holds no other statement
+abbrev pub is_leaf : t.Statement → Bool
+is_leaf (t.block b) = false
+is_leaf (t.if_so k x z) = false
+is_leaf (t.while_so k x) = false
+is_leaf (t.for_all f k g x) = false
+is_leaf x = true
 
 -- a statement that holds no other statement and declares nothing
 abbrev pub is_simple : t.Statement → Bool

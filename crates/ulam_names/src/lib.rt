@@ -9,6 +9,7 @@ mod expr;
 mod fault;
 mod half;
 mod law;
+mod leaf;
 mod member;
 mod names;
 mod parts;

@@ -1,5 +1,6 @@
 //! The program that files are resolved to.
-ghost use Rattle.std.specs.Prelude.{◌≢◌, IfOk, IfErr};
+ghost use Rattle.std.specs.Prelude.{◌≢◌, ◌≤◌, length, IfOk, IfErr};
+ghost use Rattle.ulam_names.specs.ClassWalk as walk;
 ghost use Rattle.ulam_names.specs.Classes.{program};
 ghost use Rattle.ulam_names.specs.ClassRelation.{IsResolved, HaveNoResolution};
 ghost use Rattle.ulam_names.specs.Files.{all_items};
@@ -10,10 +11,28 @@ ghost use Rattle.ulam_tree.specs.ResolvedViews.{resolved_program};
 use crate::class::{class_names, items};
 use crate::cycle::none_cyclic;
 use crate::fault::NameFault;
+use crate::half::HalfClass;
+use crate::table::Table;
 use crate::whole::{all_behave, whole_classes};
 use std::alloc::Global;
 use ulam_tree::File;
 use ulam_tree::resolved::Program;
+
+/// What classes are resolved to whose bodies are not resolved yet, or the first fault.
+fn whole<'a>(
+    alloc: Global,
+    known: &Table<'a, bool>,
+    halves: &[HalfClass<'a>],
+) -> Result<Program, NameFault>
+    requires { length halves.now ≤ 256 }
+    ensures { Gives resolved_program result (walk.whole_program known.now halves.now) }
+{
+    all_behave(halves)?;
+    none_cyclic(alloc, halves)?;
+    Ok(Program {
+        classes: whole_classes(alloc, known, halves)?,
+    })
+}
 
 /// What files are resolved to, or the first fault.
 fn find(alloc: Global, files: &[File]) -> Result<Program, NameFault>
@@ -21,11 +40,7 @@ fn find(alloc: Global, files: &[File]) -> Result<Program, NameFault>
 {
     let known = class_names(alloc, files)?;
     let halves = items(alloc, &known, files)?;
-    let halves = halves.as_slice();
-    all_behave(halves)?;
-    none_cyclic(alloc, halves)?;
-    let classes = whole_classes(alloc, &known, halves)?;
-    Ok(Program { classes })
+    whole(alloc, &known, halves.as_slice())
 }
 
 /// What files are resolved to: all their classes in order, with each name as what it means. Else

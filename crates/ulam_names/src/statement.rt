@@ -2,13 +2,18 @@
 //!
 //! The entries are cut back where a scope ends. `from` is where the innermost scope begins among
 //! them, and `slot` the next free slot.
-ghost use Rattle.std.specs.Prelude.{◌≡◌, ◌≤◌, ◌+◌, length, IfOk, OnOk};
+ghost use Rattle.std.specs.Prelude.{◌≡◌, ◌≤◌, ◌+◌, length, IsTrue};
+ghost use Rattle.std.specs.Box.{box_value};
 ghost use Rattle.ulam_names.specs.BodyWalk as walk;
-ghost use Rattle.ulam_names.specs.Shown.{Gives, AreEntries, IsFront, next_slot, found_statement, found_boxed, found_part, found_body};
+ghost use Rattle.ulam_names.specs.Shown.{boxed_statement, each_statement, has_no_branch, IsFront};
+ghost use Rattle.ulam_names.specs.Outcomes.{Resolves, After, AreSame};
+ghost use Rattle.ulam_tree.specs.RawViews.{statement_of};
+ghost use Rattle.ulam_tree.specs.ResolvedViews.{resolved_statement, resolved_part};
 
 use crate::expr::expr;
 use crate::fault::NameFault;
-use crate::parts::{self, declare, maybe_expr, show, simple};
+use crate::leaf::{in_box, leaf};
+use crate::parts::{self, maybe_expr, show};
 use crate::scope::{Context, Entry};
 use std::alloc::Global;
 use ulam_tree as raw;
@@ -17,7 +22,6 @@ use ulam_tree::resolved_build as build;
 
 /// A statement, and the next free slot after it.
 #[cycle(statement)]
-#[tactic(auto, using(crate::proofs::Opened::opened_is))]
 pub fn statement<'a>(
     alloc: Global,
     context: &Context<'_, 'a>,
@@ -29,28 +33,42 @@ pub fn statement<'a>(
     requires params { context.now.params ≤ 8 }
     requires slot { slot ≤ context.now.params + 64 }
     requires from { from ≤ length entries.old.items }
-    ensures gives { Gives found_statement result (walk.statement context.now entries.old from slot raw.now) }
-    ensures next { IfOk result (λ x. next_slot x ≡ slot + walk.locals raw.now) }
-    ensures few { IfOk result (λ x. next_slot x ≤ context.now.params + 64) }
-    ensures scope { IfOk result (λ x. AreEntries entries.new (walk.after context.now entries.old from slot raw.now x.0)) }
-    ensures kept { OnOk result (IsFront entries.old entries.new) }
+    ensures { Resolves resolved_statement result (walk.statement_end context.now entries.old from slot raw.now) (λ x. After entries.old entries.new (walk.after context.now entries.old from slot raw.now x)) }
 {
     match raw {
         raw::Statement::Block { body: list } => {
-            let (list, next) = inner_body(alloc, context, entries, slot, list.as_slice())?;
-            Ok((build::block(list), next))
+            block(alloc, context, entries, slot, list.as_slice())
         }
         raw::Statement::If { cond, yes, no } => {
             let found = parts::cond(alloc, context, entries.as_slice(), cond)?;
-            let (yes, next) = branch(alloc, context, entries, from, slot, yes, cond, &found)?;
+            let (yes, next) = branch(alloc, context, entries, slot, yes, cond, &found)?;
             let len = entries.len();
             let (no, next) = part(alloc, context, entries, len, next, no)?;
             Ok((build::if_so(found, yes, no), next))
         }
+        _ => looped(alloc, context, entries, from, slot, raw),
+    }
+}
+
+/// A statement other than a block or an `if`.
+#[cycle(statement)]
+fn looped<'a>(
+    alloc: Global,
+    context: &Context<'_, 'a>,
+    entries: &mut Vec<Entry<'a>>,
+    from: usize,
+    slot: u32,
+    raw: &'a raw::Statement,
+) -> Result<(Statement, u32), NameFault>
+    requires params { context.now.params ≤ 8 }
+    requires slot { slot ≤ context.now.params + 64 }
+    requires from { from ≤ length entries.old.items }
+    requires plain { IsTrue (has_no_branch (statement_of raw.now)) }
+    ensures { Resolves resolved_statement result (walk.statement_end context.now entries.old from slot raw.now) (λ x. After entries.old entries.new (walk.after context.now entries.old from slot raw.now x)) }
+{
+    match raw {
         raw::Statement::While { cond: test, body } => {
-            let test = expr(alloc, context, entries.as_slice(), test)?;
-            let (body, next) = inner(alloc, context, entries, slot, body)?;
-            Ok((Statement::While { cond: test, body }, next))
+            while_so(alloc, context, entries, slot, body, test)
         }
         raw::Statement::For {
             first,
@@ -66,15 +84,65 @@ pub fn statement<'a>(
             entries.truncate(len);
             Ok((build::for_all(first, test, step, body), next))
         }
-        raw::Statement::Declare { of, word, value } => {
-            let found = declare(alloc, context, entries, from, slot, of, word, value)?;
-            Ok((found, slot + 1))
-        }
-        _ => {
-            let found = simple(alloc, context, entries.as_slice(), raw)?;
-            Ok((found, slot))
-        }
+        _ => leaf(alloc, context, entries, from, slot, raw),
     }
+}
+
+/// A block.
+#[cycle(statement)]
+fn block<'a>(
+    alloc: Global,
+    context: &Context<'_, 'a>,
+    entries: &mut Vec<Entry<'a>>,
+    slot: u32,
+    raw: &'a [raw::Statement],
+) -> Result<(Statement, u32), NameFault>
+    requires params { context.now.params ≤ 8 }
+    requires slot { slot ≤ context.now.params + 64 }
+    ensures { Resolves resolved_statement result (walk.block_end context.now entries.old slot raw.now) (λ _. AreSame entries.old entries.new) }
+{
+    let len = entries.len();
+    let (list, next) = body(alloc, context, entries, len, slot, raw)?;
+    entries.truncate(len);
+    Ok((build::block(list), next))
+}
+
+/// A `while`.
+#[cycle(statement)]
+fn while_so<'a>(
+    alloc: Global,
+    context: &Context<'_, 'a>,
+    entries: &mut Vec<Entry<'a>>,
+    slot: u32,
+    raw: &'a raw::Statement,
+    test: &raw::Expr,
+) -> Result<(Statement, u32), NameFault>
+    requires params { context.now.params ≤ 8 }
+    requires slot { slot ≤ context.now.params + 64 }
+    ensures { Resolves resolved_statement result (walk.while_end context.now entries.old slot raw.now test.now) (λ _. AreSame entries.old entries.new) }
+{
+    let test = expr(alloc, context, entries.as_slice(), test)?;
+    let (body, next) = inner(alloc, context, entries, slot, raw)?;
+    Ok((Statement::While { cond: test, body }, next))
+}
+
+/// A statement in a box.
+#[cycle(statement)]
+fn boxed<'a>(
+    alloc: Global,
+    context: &Context<'_, 'a>,
+    entries: &mut Vec<Entry<'a>>,
+    from: usize,
+    slot: u32,
+    raw: &'a raw::Statement,
+) -> Result<(Box<Statement>, u32), NameFault>
+    requires params { context.now.params ≤ 8 }
+    requires slot { slot ≤ context.now.params + 64 }
+    requires from { from ≤ length entries.old.items }
+    ensures { Resolves boxed_statement result (walk.statement_end context.now entries.old from slot raw.now) (λ x. After entries.old entries.new (walk.after context.now entries.old from slot raw.now (box_value x))) }
+{
+    let (found, next) = statement(alloc, context, entries, from, slot, raw)?;
+    Ok((in_box(alloc, found)?, next))
 }
 
 /// A statement inside another one, in a scope of its own.
@@ -88,44 +156,12 @@ fn inner<'a>(
 ) -> Result<(Box<Statement>, u32), NameFault>
     requires params { context.now.params ≤ 8 }
     requires slot { slot ≤ context.now.params + 64 }
-    ensures gives { Gives found_boxed result (walk.inner context.now entries.old slot raw.now) }
-    ensures next { IfOk result (λ x. next_slot x ≡ slot + walk.locals raw.now) }
-    ensures few { IfOk result (λ x. next_slot x ≤ context.now.params + 64) }
-    ensures same { OnOk result (entries.new.items ≡ entries.old.items) }
+    ensures { Resolves boxed_statement result (walk.inner_end context.now entries.old slot raw.now) (λ _. AreSame entries.old entries.new) }
 {
     let len = entries.len();
-    let (found, next) = statement(alloc, context, entries, len, slot, raw)?;
+    let found = boxed(alloc, context, entries, len, slot, raw)?;
     entries.truncate(len);
-    Ok((Box::new(alloc, found)?, next))
-}
-
-/// A statement that may be absent. What it declares is out of scope after it.
-#[cycle(statement)]
-fn part<'a>(
-    alloc: Global,
-    context: &Context<'_, 'a>,
-    entries: &mut Vec<Entry<'a>>,
-    from: usize,
-    slot: u32,
-    raw: &'a Option<Box<raw::Statement>>,
-) -> Result<(Option<Box<Statement>>, u32), NameFault>
-    requires params { context.now.params ≤ 8 }
-    requires slot { slot ≤ context.now.params + 64 }
-    requires from { from ≤ length entries.old.items }
-    ensures gives { Gives found_part result (walk.part context.now entries.old from slot raw.now) }
-    ensures next { IfOk result (λ x. next_slot x ≡ slot + walk.part_locals raw.now) }
-    ensures few { IfOk result (λ x. next_slot x ≤ context.now.params + 64) }
-    ensures same { OnOk result (entries.new.items ≡ entries.old.items) }
-{
-    match raw {
-        None => Ok((None, slot)),
-        Some(one) => {
-            let len = entries.len();
-            let (one, next) = statement(alloc, context, entries, from, slot, one)?;
-            entries.truncate(len);
-            Ok((Some(Box::new(alloc, one)?), next))
-        }
-    }
+    Ok(found)
 }
 
 /// The first statement of a `for`. What it declares stays in scope.
@@ -141,29 +177,44 @@ fn first_part<'a>(
     requires params { context.now.params ≤ 8 }
     requires slot { slot ≤ context.now.params + 64 }
     requires from { from ≤ length entries.old.items }
-    ensures gives { Gives found_part result (walk.part context.now entries.old from slot raw.now) }
-    ensures next { IfOk result (λ x. next_slot x ≡ slot + walk.part_locals raw.now) }
-    ensures few { IfOk result (λ x. next_slot x ≤ context.now.params + 64) }
-    ensures scope { IfOk result (λ x. AreEntries entries.new (walk.after_part context.now entries.old from slot raw.now x.0)) }
-    ensures kept { OnOk result (IsFront entries.old entries.new) }
+    ensures { Resolves resolved_part result (walk.part_end context.now entries.old from slot raw.now) (λ x. After entries.old entries.new (walk.after_part context.now entries.old from slot raw.now x)) }
 {
     match raw {
         None => Ok((None, slot)),
         Some(one) => {
-            let (one, next) = statement(alloc, context, entries, from, slot, one)?;
-            Ok((Some(Box::new(alloc, one)?), next))
+            let (one, next) = boxed(alloc, context, entries, from, slot, one)?;
+            Ok((Some(one), next))
         }
     }
 }
 
-/// The first branch of an `if`, in a scope of its own with the name that the condition shows.
+/// A statement that may be absent. What it declares is out of scope after it.
 #[cycle(statement)]
-#[tactic(auto, using(crate::proofs::Opened::opened_shown))]
-fn branch<'a>(
+fn part<'a>(
     alloc: Global,
     context: &Context<'_, 'a>,
     entries: &mut Vec<Entry<'a>>,
     from: usize,
+    slot: u32,
+    raw: &'a Option<Box<raw::Statement>>,
+) -> Result<(Option<Box<Statement>>, u32), NameFault>
+    requires params { context.now.params ≤ 8 }
+    requires slot { slot ≤ context.now.params + 64 }
+    requires from { from ≤ length entries.old.items }
+    ensures { Resolves resolved_part result (walk.part_end context.now entries.old from slot raw.now) (λ _. AreSame entries.old entries.new) }
+{
+    let len = entries.len();
+    let found = first_part(alloc, context, entries, from, slot, raw)?;
+    entries.truncate(len);
+    Ok(found)
+}
+
+/// The first branch of an `if`, in a scope of its own with the name that the condition shows.
+#[cycle(statement)]
+fn branch<'a>(
+    alloc: Global,
+    context: &Context<'_, 'a>,
+    entries: &mut Vec<Entry<'a>>,
     slot: u32,
     raw: &'a raw::Statement,
     test: &'a raw::Cond,
@@ -171,36 +222,11 @@ fn branch<'a>(
 ) -> Result<(Box<Statement>, u32), NameFault>
     requires params { context.now.params ≤ 8 }
     requires slot { slot ≤ context.now.params + 64 }
-    ensures gives { Gives found_boxed result (walk.branch context.now entries.old from slot raw.now test.now found.now) }
-    ensures next { IfOk result (λ x. next_slot x ≡ slot + walk.locals raw.now) }
-    ensures few { IfOk result (λ x. next_slot x ≤ context.now.params + 64) }
-    ensures same { OnOk result (entries.new.items ≡ entries.old.items) }
+    ensures { Resolves boxed_statement result (walk.branch_end context.now entries.old slot raw.now test.now found.now) (λ _. AreSame entries.old entries.new) }
 {
     let len = entries.len();
     show(context, entries, test, found)?;
     let found = inner(alloc, context, entries, slot, raw)?;
-    entries.truncate(len);
-    Ok(found)
-}
-
-/// A block in a scope of its own.
-#[cycle(statement)]
-fn inner_body<'a>(
-    alloc: Global,
-    context: &Context<'_, 'a>,
-    entries: &mut Vec<Entry<'a>>,
-    slot: u32,
-    raw: &'a [raw::Statement],
-) -> Result<(Vec<Statement>, u32), NameFault>
-    requires params { context.now.params ≤ 8 }
-    requires slot { slot ≤ context.now.params + 64 }
-    ensures gives { Gives found_body result (walk.inner_body context.now entries.old slot raw.now) }
-    ensures next { IfOk result (λ x. next_slot x ≡ slot + walk.body_locals raw.now) }
-    ensures few { IfOk result (λ x. next_slot x ≤ context.now.params + 64) }
-    ensures same { OnOk result (entries.new.items ≡ entries.old.items) }
-{
-    let len = entries.len();
-    let found = body(alloc, context, entries, len, slot, raw)?;
     entries.truncate(len);
     Ok(found)
 }
@@ -218,10 +244,7 @@ pub fn body<'a>(
     requires params { context.now.params ≤ 8 }
     requires slot { slot ≤ context.now.params + 64 }
     requires from { from ≤ length entries.old.items }
-    ensures gives { Gives found_body result (walk.body context.now entries.old from slot raw.now) }
-    ensures next { IfOk result (λ x. next_slot x ≡ slot + walk.body_locals raw.now) }
-    ensures few { IfOk result (λ x. next_slot x ≤ context.now.params + 64) }
-    ensures kept { OnOk result (IsFront entries.old entries.new) }
+    ensures { Resolves each_statement result (walk.body_end context.now entries.old from slot raw.now) (λ _. IsFront entries.old entries.new) }
 {
     let mut found = Vec::new(alloc);
     let mut next = slot;
