@@ -3,7 +3,7 @@
 use ulam_tree::resolved::Ty;
 
 /// What is wanted of an argument.
-#[derive(Clone, Copy, Debug, PartialEq, Eq)]
+#[derive(Clone, Copy)]
 pub enum Want {
     /// A value for a parameter of this type.
     Value { ty: Ty },
@@ -14,7 +14,7 @@ pub enum Want {
 }
 
 /// A data member. `length` is that of an array, and 0 for what is no array.
-#[derive(Clone, Copy, Debug, PartialEq, Eq)]
+#[derive(Clone, Copy)]
 pub struct FieldSig {
     pub ty: Ty,
     pub length: u32,
@@ -36,7 +36,7 @@ pub struct ClassSig {
 }
 
 /// What an operator sees of a type.
-#[derive(Clone, Copy, Debug, PartialEq, Eq)]
+#[derive(Clone, Copy)]
 pub enum NumClass {
     /// `Int`.
     Int { width: u8 },
