@@ -52,6 +52,26 @@ open_again hs s x xs opens =
 pub last_first : (xs ys : List Step) (x : Step) → xs ≡ ys ++ x ∷ [] → reverse xs ≡ x ∷ reverse ys
 last_first xs ys x e = ap reverse e ∙ reverse-append ys (x ∷ [])
 
+-- the last class leaves the line
+pub open_less : (hs : List Heir) (s t : State) (xs ys : List Step) (x : Step) → xs ≡ ys ++ x ∷ [] → t ≡ back s x.end → AreOpen hs s (reverse xs) → AreOpen hs t (reverse ys)
+open_less hs s t xs ys x e same opens =
+    let now : AreOpen hs s (x ∷ reverse ys) = subst (λ (zs : List Step). AreOpen hs s zs) (last_first xs ys x e) opens in
+    subst (λ (u : State). AreOpen hs u (reverse ys)) (sym same) now.2
+
+-- it stays
+pub open_kept : (hs : List Heir) (s t : State) (xs ys more : List Step) (x : Step) → xs ≡ ys ++ x ∷ [] → more ≡ ys ++ x ∷ [] → t ≡ back s x.end → AreOpen hs s (reverse xs) → AreOpen hs t (reverse more)
+open_kept hs s t xs ys more x e m same opens =
+    let now : AreOpen hs s (x ∷ reverse ys) = subst (λ (zs : List Step). AreOpen hs s zs) (last_first xs ys x e) opens in
+    let left : AreOpen hs (back s x.end) (reverse more) = subst (λ (zs : List Step). AreOpen hs (back s x.end) zs) (sym (last_first more ys x m)) (open_again hs s x (reverse ys) now) in
+    subst (λ (u : State). AreOpen hs u (reverse more)) (sym same) left
+
+-- the table is then that of its line
+pub comes_to : (hs : List Heir) (s t : State) (xs ys : List Step) (x : Step) (base : Option ℕ) → xs ≡ ys ++ x ∷ [] → base ≡ Some x.class → t ≡ back s x.end → AreOpen hs s (reverse xs) → Covers (option_map_or (line hs) base []) t.table
+comes_to hs s t xs ys x base e is same opens =
+    let now : AreOpen hs s (x ∷ reverse ys) = subst (λ (zs : List Step). AreOpen hs s zs) (last_first xs ys x e) opens in
+    let covers : Covers (line hs x.class) t.table = subst (λ (u : State). Covers (line hs x.class) u.table) (sym same) now.1 in
+    subst (λ (b : Option ℕ). Covers (option_map_or (line hs) b []) t.table) (sym is) covers
+
 -- The line of a class
 
 flat_two : (hs : List Heir) (js : List ℕ) (k : ℕ) (h : Heir) → slice_get hs k ≡ Some h → classes_at hs (js ++ k ∷ []) ≡ classes_at hs js ++ h ∷ []

@@ -1,10 +1,9 @@
 //! Copies of words, types and expressions, with the same places.
 ghost use Rattle.std.specs.Prelude.{◌≡◌, map, option_map, IfOk};
-ghost use Rattle.ulam_tree.specs.Raw as tree;
 ghost use Rattle.ulam_tree.specs.RawViews.{word_of, width_of, type_of, path_of, expr_of, boxed_expr, args_list, left_of, cond_of};
 ghost use Rattle.ulam_heirs.specs.Views.{maybe_expr, MakesExpr};
 
-use feast_base::{Name, NoMemory, Place};
+use feast_base::{Name, NoMemory};
 use std::alloc::Global;
 use ulam_tree::{Cond, Expr, Left, Path, TypeRef, Width, Word, raw_build as build};
 
@@ -41,28 +40,16 @@ pub fn copy_path(alloc: Global, path: &Path) -> Result<Path, NoMemory>
     })
 }
 
-/// A copy of a width.
-fn copy_width(alloc: Global, width: &Width) -> Result<Width, NoMemory>
-    ensures { IfOk result (λ w. width_of w ≡ width_of width.now) }
-{
-    match width {
-        Width::Number { value } => Ok(Width::Number { value: *value }),
-        Width::Named { word } => {
-            let word = copy_word(alloc, word)?;
-            Ok(Width::Named { word })
-        }
-    }
-}
-
 /// A copy of a width or of a length, if there is one.
 pub fn copy_size(alloc: Global, size: &Option<Width>) -> Result<Option<Width>, NoMemory>
     ensures { IfOk result (λ x. option_map width_of x ≡ option_map width_of size.now) }
 {
     match size {
         None => Ok(None),
-        Some(width) => {
-            let width = copy_width(alloc, width)?;
-            Ok(Some(width))
+        Some(Width::Number { value }) => Ok(Some(Width::Number { value: *value })),
+        Some(Width::Named { word }) => {
+            let word = copy_word(alloc, word)?;
+            Ok(Some(Width::Named { word }))
         }
     }
 }
@@ -93,8 +80,16 @@ pub fn copy_expr(alloc: Global, raw: &Expr) -> Result<Expr, NoMemory>
         Expr::Path { path } => Ok(Expr::Path {
             path: copy_path(alloc, path)?,
         }),
-        Expr::Call { call } => copy_call(alloc, &call.path, call.args.as_slice()),
-        Expr::Index { path, at } => copy_index(alloc, path, at),
+        Expr::Call { call } => {
+            let args = copy_args(alloc, call.args.as_slice())?;
+            let path = copy_path(alloc, &call.path)?;
+            Ok(build::call(path, args))
+        }
+        Expr::Index { path, at } => {
+            let at = copy_boxed(alloc, at)?;
+            let path = copy_path(alloc, path)?;
+            Ok(Expr::Index { path, at })
+        }
         Expr::Instance { class } => Ok(Expr::Instance {
             class: copy_word(alloc, class)?,
         }),
@@ -102,7 +97,11 @@ pub fn copy_expr(alloc: Global, raw: &Expr) -> Result<Expr, NoMemory>
             let inner = copy_boxed(alloc, inner)?;
             Ok(build::group(inner, *place))
         }
-        Expr::Cast { to, value, place } => copy_cast(alloc, to, value, *place),
+        Expr::Cast { to, value, place } => {
+            let value = copy_boxed(alloc, value)?;
+            let to = copy_type(alloc, to)?;
+            Ok(build::cast(to, value, *place))
+        }
         Expr::Prefix { op, value, place } => {
             let value = copy_boxed(alloc, value)?;
             Ok(build::prefix(*op, value, *place))
@@ -121,51 +120,12 @@ pub fn copy_expr(alloc: Global, raw: &Expr) -> Result<Expr, NoMemory>
             value,
             class,
             place,
-        } => copy_is(alloc, value, class, *place),
+        } => {
+            let value = copy_boxed(alloc, value)?;
+            let class = copy_word(alloc, class)?;
+            Ok(build::is(value, class, *place))
+        }
     }
-}
-
-/// A copy of a call.
-#[cycle(expr)]
-fn copy_call(alloc: Global, path: &Path, args: &[Expr]) -> Result<Expr, NoMemory>
-    ensures { MakesExpr result (tree.calls (path_of path.now) (args_list args.now)) }
-{
-    let args = copy_args(alloc, args)?;
-    let path = copy_path(alloc, path)?;
-    Ok(build::call(path, args))
-}
-
-/// A copy of an element of an array.
-#[cycle(expr)]
-fn copy_index(alloc: Global, path: &Path, at: &Expr) -> Result<Expr, NoMemory>
-    ensures { MakesExpr result (tree.index (path_of path.now) (expr_of at.now)) }
-{
-    let at = copy_expr(alloc, at)?;
-    let at = Box::new(alloc, at)?;
-    let path = copy_path(alloc, path)?;
-    Ok(Expr::Index { path, at })
-}
-
-/// A copy of a cast.
-#[cycle(expr)]
-fn copy_cast(alloc: Global, to: &TypeRef, value: &Expr, place: Place) -> Result<Expr, NoMemory>
-    ensures { MakesExpr result (tree.cast (type_of to.now) (expr_of value.now) place) }
-{
-    let value = copy_expr(alloc, value)?;
-    let value = Box::new(alloc, value)?;
-    let to = copy_type(alloc, to)?;
-    Ok(build::cast(to, value, place))
-}
-
-/// A copy of a test of a class.
-#[cycle(expr)]
-fn copy_is(alloc: Global, value: &Expr, class: &Word, place: Place) -> Result<Expr, NoMemory>
-    ensures { MakesExpr result (tree.is (expr_of value.now) (word_of class.now) place) }
-{
-    let value = copy_expr(alloc, value)?;
-    let value = Box::new(alloc, value)?;
-    let class = copy_word(alloc, class)?;
-    Ok(build::is(value, class, place))
 }
 
 /// A copy of a part of an expression.

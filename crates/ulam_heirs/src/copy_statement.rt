@@ -100,7 +100,11 @@ pub fn copy_statement(alloc: Global, raw: &Statement) -> Result<Statement, NoMem
             let cond = copy_cond(alloc, cond)?;
             Ok(build::if_so(cond, yes, no))
         }
-        Statement::While { cond, body } => copy_while(alloc, body, cond),
+        Statement::While { cond, body } => {
+            let body = copy_boxed(alloc, body)?;
+            let cond = copy_expr(alloc, cond)?;
+            Ok(Statement::While { cond, body })
+        }
         Statement::For {
             first,
             cond,
@@ -122,17 +126,6 @@ pub fn copy_statement(alloc: Global, raw: &Statement) -> Result<Statement, NoMem
         | Statement::Count { .. }
         | Statement::Call { .. } => copy_simple(alloc, raw),
     }
-}
-
-/// A copy of a `while`.
-#[cycle(statement)]
-fn copy_while(alloc: Global, body: &Statement, cond: &Expr) -> Result<Statement, NoMemory>
-    ensures { MakesStatement result (tree.while_so (expr_of cond.now) (statement_of body.now)) }
-{
-    let body = copy_statement(alloc, body)?;
-    let body = Box::new(alloc, body)?;
-    let cond = copy_expr(alloc, cond)?;
-    Ok(Statement::While { cond, body })
 }
 
 /// A copy of a statement inside another one.

@@ -30,10 +30,18 @@ pub struct Change<'a> {
 }
 
 /// The virtual functions of a line by their names, and all changes on the way there.
-#[derive(Drop)]
 pub struct Opened<'a> {
     pub latest: IndexMap<&'a [u8], Option<Latest<'a>>>,
     pub changes: Vec<Change<'a>>,
+}
+
+// By hand, so that callers drop by a call.
+impl<'a> Drop for Opened<'a> {
+    fn drop(self) {
+        match self {
+            Opened { latest, changes } => {}
+        }
+    }
 }
 
 /// The virtual functions of no class.

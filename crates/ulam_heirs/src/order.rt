@@ -12,14 +12,6 @@ struct Chains {
     next: Vec<Option<usize>>,
 }
 
-/// The number at an index.
-fn at(numbers: &[Option<usize>], index: usize) -> Option<usize> {
-    match numbers.get(index) {
-        Some(number) => *number,
-        None => None,
-    }
-}
-
 /// Puts a number at an index: what was there.
 fn put(numbers: &mut Vec<Option<usize>>, index: usize, number: Option<usize>) -> Option<usize> {
     match numbers.get_mut(index) {
@@ -34,17 +26,13 @@ fn put(numbers: &mut Vec<Option<usize>>, index: usize, number: Option<usize>) ->
 
 /// The heirs of all classes.
 fn heir_chains(alloc: Global, bases: &[Option<usize>]) -> Result<Chains, NoMemory> {
-    let mut first = Vec::new(alloc);
-    let mut next = Vec::new(alloc);
-    for _base in bases {
-        first.push(None)?;
-        next.push(None)?;
-    }
+    let mut next = Vec::from_elem(alloc, None, bases.len())?;
+    let mut first = Vec::from_elem(alloc, None, bases.len())?;
     first.push(None)?;
     let mut class = bases.len();
     'turns: for _turn in 0..bases.len() {
         class = class.saturating_sub(1);
-        let over = match at(bases, class) {
+        let over = match base_in(bases, class) {
             Some(base) => base,
             None => bases.len(),
         };
@@ -67,14 +55,14 @@ pub fn tree_order(alloc: Global, bases: &[Option<usize>]) -> Result<Vec<usize>, 
     let chains = heir_chains(alloc, bases)?;
     let mut found = Vec::new(alloc);
     let mut todo = Vec::new(alloc);
-    add(&mut todo, at(chains.first.as_slice(), bases.len()))?;
+    add(&mut todo, base_in(chains.first.as_slice(), bases.len()))?;
     'turns: for _turn in 0..bases.len() {
         let Some(class) = todo.pop() else {
             return Ok(found);
         };
         found.push(class)?;
-        add(&mut todo, at(chains.next.as_slice(), class))?;
-        add(&mut todo, at(chains.first.as_slice(), class))?;
+        add(&mut todo, base_in(chains.next.as_slice(), class))?;
+        add(&mut todo, base_in(chains.first.as_slice(), class))?;
     }
     Ok(found)
 }

@@ -1,5 +1,5 @@
 //! Where in a line of classes the functions of a virtual name stand.
-ghost use Rattle.std.specs.Prelude.{◌≡◌, ◌+◌, ◌<◌, ◌&&◌, ◌||◌, [], ℕ, List, length, take, drop, nat_lt, true, IfOk, OnOk};
+ghost use Rattle.std.specs.Prelude.{◌≡◌, ◌+◌, ◌<◌, ◌&&◌, ◌||◌, ℕ, List, length, take, drop, nat_lt, true, IfOk, OnOk};
 ghost use Rattle.ulam_tree.specs.RawViews.{member_of};
 ghost use Rattle.ulam_heirs.specs.Flat as flat;
 ghost use Rattle.ulam_heirs.specs.Spans as spec;
@@ -115,13 +115,6 @@ fn later_members(line: &[Heir]) -> usize {
     count
 }
 
-/// No spans.
-fn no_spans<'a>(alloc: Global) -> IndexMap<&'a [u8], Span>
-    ensures { result.entries ≡ [] }
-{
-    IndexMap::new(alloc)
-}
-
 /// The spans of the virtual names of a line; of none of them if there are few members after its
 /// first class, among which a name is found as soon.
 #[tactic(auto, using(crate::proofs::Spanning::known_none, crate::proofs::Spanning::known_all))]
@@ -129,7 +122,7 @@ pub fn spans_of<'a>(alloc: Global, line: &[Heir<'a>]) -> Result<IndexMap<&'a [u8
     ensures { IfOk result (λ m. AreKnown m.entries (heirs_of line.now)) }
 {
     if later_members(line) <= FEW_MEMBERS {
-        return Ok(no_spans(alloc));
+        return Ok(IndexMap::new(alloc));
     }
     let spans = all_spans(alloc, line)?;
     Ok(spans)

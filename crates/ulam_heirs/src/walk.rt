@@ -24,11 +24,23 @@ pub struct Step {
 
 /// A walk through the classes: the line that is open, from its root on, and what was found of the
 /// members of each class.
-#[derive(Drop)]
 pub struct Walk<'a> {
     pub opened: Opened<'a>,
     pub line: Vec<Step>,
     pub found: Vec<Option<Option<HeirsFault>>>,
+}
+
+// By hand, so that callers drop by a call.
+impl<'a> Drop for Walk<'a> {
+    fn drop(self) {
+        match self {
+            Walk {
+                opened,
+                line,
+                found,
+            } => {}
+        }
+    }
 }
 
 /// No class is open, and nothing was found.
@@ -107,7 +119,7 @@ fn visit<'a>(
         return Ok(());
     };
     if up_to(&mut walk.opened, &mut walk.line, base_in(bases, class))? {
-        go_on(alloc, walk, class, heir)?;
+        return go_on(alloc, walk, class, heir);
     }
     Ok(())
 }

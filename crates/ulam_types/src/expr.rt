@@ -1,5 +1,5 @@
 //! Types of expressions.
-ghost use Rattle.std.specs.Prelude.{◌≡◌, length, IfOk, IsTrue};
+ghost use Rattle.std.specs.Prelude.{◌≡◌, length, true, IfOk, IsTrue};
 ghost use Rattle.sat_math.specs.declared.Kind.{Kind};
 ghost use Rattle.ulam_tree.specs.ResolvedViews.{resolved_expr, resolved_args, resolved_path, boxed_expr as resolved_boxed};
 ghost use Rattle.ulam_tree.specs.Resolved as tree;
@@ -14,9 +14,9 @@ use crate::copy;
 use crate::fault::TypeFault;
 use crate::form::{call_value, instance, known, number, pair, truth_at, value_at};
 use crate::lookup::{begins_local, function_at, is_atom, is_species, item_type, last_step};
-use crate::rows::{beside, cast_type, is_index, prefix_type, taken, truth, unsigned};
+use crate::rows::{beside, cast_type, is_index, prefix_type, taken, truth};
 use crate::scope::{Scope, Want};
-use crate::suits::{all_suit, create_width, taken_want};
+use crate::suits::{all_suit, built_type, taken_want};
 use feast_base::Place;
 use sat_math::Kind;
 use std::alloc::Global;
@@ -231,24 +231,26 @@ fn built_call(
 ) -> Result<(Vec<typed::Expr>, Ty), TypeFault>
     ensures { Gives call_view result (walk.call_of (here scope.now) place (spec.built call) (resolved_args raw.now)) }
 {
+    let args = built_arguments(alloc, scope, place, call, raw)?;
+    let ty = built_type(call, args.as_slice());
+    Ok((args, ty))
+}
+
+/// The arguments of a call of a built-in function.
+#[cycle(expr)]
+fn built_arguments(
+    alloc: Global,
+    scope: &Scope,
+    place: Place,
+    call: Built,
+    raw: &[Expr],
+) -> Result<Vec<typed::Expr>, TypeFault>
+    ensures { Gives args_view result (walk.args_of (here scope.now) place true (spec.built_wants call) (resolved_args raw.now)) }
+{
     match call {
-        Built::Swap => {
-            let args = arguments(alloc, scope, place, true, &[Want::Site, Want::Site], raw)?;
-            Ok((args, Ty::Nothing))
-        }
-        Built::IsLive | Built::IsEmpty => {
-            let args = arguments(alloc, scope, place, true, &[Want::Site], raw)?;
-            Ok((args, truth()))
-        }
-        Built::OneIn => {
-            let args = arguments(alloc, scope, place, true, &[Want::Bound], raw)?;
-            Ok((args, truth()))
-        }
-        Built::Create => {
-            let args = arguments(alloc, scope, place, true, &[Want::Bound], raw)?;
-            let ty = unsigned(create_width(args.as_slice()));
-            Ok((args, ty))
-        }
+        Built::Swap => arguments(alloc, scope, place, true, &[Want::Site, Want::Site], raw),
+        Built::IsLive | Built::IsEmpty => arguments(alloc, scope, place, true, &[Want::Site], raw),
+        Built::OneIn | Built::Create => arguments(alloc, scope, place, true, &[Want::Bound], raw),
     }
 }
 

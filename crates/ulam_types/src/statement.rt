@@ -92,7 +92,15 @@ fn turns(alloc: Global, scope: &Scope, raw: &Statement) -> Result<Box<typed::Sta
         looped: true,
         ..*scope
     };
-    let found = statement(alloc, &inner, raw)?;
+    inside(alloc, &inner, raw)
+}
+
+/// A statement inside another one.
+#[cycle(statement)]
+fn inside(alloc: Global, scope: &Scope, raw: &Statement) -> Result<Box<typed::Statement>, TypeFault>
+    ensures { Gives boxed_statement result (walk.statement (here scope.now) (resolved_statement raw.now)) }
+{
+    let found = statement(alloc, scope, raw)?;
     Ok(Box::new(alloc, found)?)
 }
 
@@ -109,8 +117,8 @@ fn part(
     match raw {
         None => Ok(None),
         Some(one) => {
-            let one = statement(alloc, scope, one)?;
-            Ok(Some(Box::new(alloc, one)?))
+            let one = inside(alloc, scope, one)?;
+            Ok(Some(one))
         }
     }
 }
@@ -128,8 +136,7 @@ fn branch(
     match cond {
         Cond::Test { value } => {
             let value = test(alloc, scope, value)?;
-            let yes = statement(alloc, scope, yes)?;
-            let yes = Box::new(alloc, yes)?;
+            let yes = inside(alloc, scope, yes)?;
             Ok((typed::Cond::Test { value }, yes))
         }
         Cond::Seen { path, class } => seen(alloc, scope, yes, path, *class),
@@ -159,8 +166,7 @@ fn seen(
         slots: slots.as_slice(),
         ..*scope
     };
-    let yes = statement(alloc, &inner, yes)?;
-    let yes = Box::new(alloc, yes)?;
+    let yes = inside(alloc, &inner, yes)?;
     let path = copy::path(alloc, path)?;
     Ok((typed::Cond::Seen { path, class }, yes))
 }

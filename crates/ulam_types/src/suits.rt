@@ -6,10 +6,10 @@ ghost use Rattle.ulam_types.specs.Rows as row;
 ghost use Rattle.ulam_types.specs.Shown.{here};
 
 use crate::lookup::assignable;
-use crate::rows::{is_index, is_unsigned, taken, wide, width_of};
+use crate::rows::{is_index, is_unsigned, taken, truth, unsigned, wide, width_of};
 use crate::scope::{Scope, Want};
 use sat_math::Kind;
-use ulam_tree::resolved::Built;
+use ulam_tree::resolved::{Built, Ty};
 use ulam_tree::typed;
 use ulam_tree::typed::Form;
 
@@ -60,11 +60,22 @@ pub fn all_suit(scope: &Scope, wants: &[Want], args: &[typed::Expr]) -> bool
 }
 
 /// The width of the result of `create`.
-pub fn create_width(args: &[typed::Expr]) -> u8
+fn create_width(args: &[typed::Expr]) -> u8
     ensures { row.unsigned result ≡ row.built_result Built.Create (typed_args args.now) }
 {
     match args {
         [] => 32,
         [first, ..] => wide(width_of(first.ty), 0),
+    }
+}
+
+/// The type of a call of a built-in function.
+pub fn built_type(call: Built, args: &[typed::Expr]) -> Ty
+    ensures { result ≡ row.built_result call (typed_args args.now) }
+{
+    match call {
+        Built::Swap => Ty::Nothing,
+        Built::IsLive | Built::IsEmpty | Built::OneIn => truth(),
+        Built::Create => unsigned(create_width(args)),
     }
 }

@@ -79,17 +79,8 @@ boxed-returns-in_err-found t c = passed_on _ _ _ _ _ c.from_residual.ensures c.i
 pub boxed-returns-in_err-new : goal.boxed-returns-in_err-new
 boxed-returns-in_err-new t c = no_room _ _ _ c.from_residual-in_err-new.ensures
 
-pub built_call-returns-in_err-args-in-Swap : goal.built_call-returns-in_err-args-in-Swap
-built_call-returns-in_err-args-in-Swap t c = passed_on _ _ _ _ _ c.from_residual.ensures c.in_err-args-in-Swap.ensures (λ f h. first_of (search rules, grind (arith, common_steps)))
-
-pub built_call-returns-in_err-args-in-IsLive : goal.built_call-returns-in_err-args-in-IsLive
-built_call-returns-in_err-args-in-IsLive t c = passed_on _ _ _ _ _ c.from_residual-in_err-args-in-IsLive.ensures c.in_err-args-in-IsLive.ensures (λ f h. first_of (search rules, grind (arith, common_steps)))
-
-pub built_call-returns-in_err-args-in-OneIn : goal.built_call-returns-in_err-args-in-OneIn
-built_call-returns-in_err-args-in-OneIn t c = passed_on _ _ _ _ _ c.from_residual-in_err-args-in-OneIn.ensures c.in_err-args-in-OneIn.ensures (λ f h. first_of (search rules, grind (arith, common_steps)))
-
-pub built_call-returns-in_err-args-in-Create : goal.built_call-returns-in_err-args-in-Create
-built_call-returns-in_err-args-in-Create t c = passed_on _ _ _ _ _ c.from_residual-in_err-args-in-Create.ensures c.in_err-args-in-Create.ensures (λ f h. first_of (search rules, grind (arith, common_steps)))
+pub built_call-returns-in_err-args : goal.built_call-returns-in_err-args
+built_call-returns-in_err-args t c = passed_on _ _ _ _ _ c.from_residual.ensures c.in_err-args.ensures (λ f h. first_of (search rules, grind (arith, common_steps)))
 
 pub call-returns-in_err-args-in-Some : goal.call-returns-in_err-args-in-Some
 call-returns-in_err-args-in-Some t c = passed_on _ _ _ _ _ c.from_residual.ensures c.in_err-args-in-Some.ensures (λ f h. first_of (search rules, grind (arith, common_steps)))

@@ -74,24 +74,15 @@ branch-returns-in_err-value-in-Test t c = passed_on _ _ _ _ _ c.from_residual.en
 pub branch-returns-in_err-yes-in-Test : goal.branch-returns-in_err-yes-in-Test
 branch-returns-in_err-yes-in-Test t c = passed_on _ _ _ _ _ c.from_residual-in_err-yes-in-Test.ensures c.in_err-yes-in-Test.ensures (λ f h. first_of (search rules, grind (arith, common_steps)))
 
-pub branch-returns-in_err-yes-in-Test-2 : goal.branch-returns-in_err-yes-in-Test-2
-branch-returns-in_err-yes-in-Test-2 t c = no_room _ _ _ c.from_residual-in_err-yes-in-Test-2.ensures
-
 pub part-returns-in_err-one-in-Some : goal.part-returns-in_err-one-in-Some
 unfolding walk.statement
 part-returns-in_err-one-in-Some t c = passed_on _ _ _ _ _ c.from_residual.ensures c.in_err-one-in-Some.ensures (λ f h. first_of (search rules, grind (arith, common_steps)))
-
-pub part-returns-in_err-new-in-Some : goal.part-returns-in_err-new-in-Some
-part-returns-in_err-new-in-Some t c = no_room _ _ _ c.from_residual-in_err-new-in-Some.ensures
 
 pub seen-returns-in_err-slots : goal.seen-returns-in_err-slots
 seen-returns-in_err-slots t c = no_room _ _ _ c.from_residual.ensures
 
 pub seen-returns-in_err-yes : goal.seen-returns-in_err-yes
 seen-returns-in_err-yes t c = passed_on _ _ _ _ _ c.from_residual-in_err-yes.ensures c.in_err-yes.ensures (λ f h. first_of (search rules, grind (arith, common_steps)))
-
-pub seen-returns-in_err-yes-2 : goal.seen-returns-in_err-yes-2
-seen-returns-in_err-yes-2 t c = no_room _ _ _ c.from_residual-in_err-yes-2.ensures
 
 pub seen-returns-in_err-path : goal.seen-returns-in_err-path
 seen-returns-in_err-path t c = no_room _ _ _ c.from_residual-in_err-path.ensures
@@ -108,11 +99,11 @@ pub statement-returns-in_err-step-in-For : goal.statement-returns-in_err-step-in
 unfolding walk.statement
 statement-returns-in_err-step-in-For t c = passed_on _ _ _ _ _ c.from_residual-in_err-step-in-For.ensures c.in_err-step-in-For.ensures (λ f h. first_of (search rules, grind (arith, common_steps)))
 
-pub turns-returns-in_err-found : goal.turns-returns-in_err-found
-turns-returns-in_err-found t c = passed_on _ _ _ _ _ c.from_residual.ensures c.in_err-found.ensures (λ f h. first_of (search rules, grind (arith, common_steps)))
+pub inside-returns-in_err-found : goal.inside-returns-in_err-found
+inside-returns-in_err-found t c = passed_on _ _ _ _ _ c.from_residual.ensures c.in_err-found.ensures (λ f h. first_of (search rules, grind (arith, common_steps)))
 
-pub turns-returns-in_err-new : goal.turns-returns-in_err-new
-turns-returns-in_err-new t c = no_room _ _ _ c.from_residual-in_err-new.ensures
+pub inside-returns-in_err-new : goal.inside-returns-in_err-new
+inside-returns-in_err-new t c = no_room _ _ _ c.from_residual-in_err-new.ensures
 
 pub while_so-returns-in_err-cond : goal.while_so-returns-in_err-cond
 unfolding walk.statement
