@@ -3,7 +3,7 @@
 use ulam_tree::{PairOp, PrefixOp};
 
 /// What a token is to the grammar: its kind, and for keywords and signs which one.
-#[derive(Clone, Copy, Debug, PartialEq, Eq)]
+#[derive(Clone, Copy, PartialEq, Eq)]
 pub enum Symbol {
     /// A name.
     Name,
@@ -153,7 +153,7 @@ pub enum Infix {
 }
 
 /// What a symbol begins where an operand is wanted.
-#[derive(Clone, Copy, Debug, PartialEq, Eq)]
+#[derive(Clone, Copy)]
 pub enum Opening {
     /// An operator and its operand.
     Signs(PrefixOp),
@@ -185,7 +185,7 @@ pub enum Assigning {
 }
 
 /// What a symbol begins where a statement is wanted.
-#[derive(Clone, Copy, Debug, PartialEq, Eq)]
+#[derive(Clone, Copy)]
 pub enum Starting {
     /// A block, by `{`.
     Block,
