@@ -1,13 +1,14 @@
 //! How many operands there are at the places of a piece.
 
-ghost use Rattle.std.specs.Prelude.{◌≡◌, ◌≤◌, ◌+◌, ◌-◌, ℕ, Option, Some, None};
+ghost use Rattle.std.specs.Prelude.{◌≡◌, ◌≤◌, ◌+◌, ◌-◌, ℕ, Option, Some, None, IfSome, IfNone, nat_le, true};
 ghost use Rattle.stack_code.specs.Sorts.{sort};
 ghost use Rattle.stack_code.specs.Valid.{is_nothing};
 ghost use Rattle.code_gen.specs.Drafts.{Drafts, end_by};
-ghost use Rattle.code_gen.specs.Depths.{takes, makes, depth, answer_count, at_most};
-ghost use Rattle.code_gen.specs.Views.{piece_of, pieces_of, IsBelow};
+ghost use Rattle.code_gen.specs.Depths.{takes, makes, depth, answer_count, at_most, and_depth};
+ghost use Rattle.code_gen.specs.Pieces.{asks, only};
+ghost use Rattle.code_gen.specs.Views.{piece_of, pieces_of, key_of, IsBelow};
 
-use crate::piece::Piece;
+use crate::piece::{Key, Piece};
 use crate::source::{Head, Source};
 use stack_code::{Answer, Instr};
 
@@ -76,6 +77,42 @@ fn after_call(head: Head, d: u32) -> u32
     }
 }
 
+/// The number of operands without the one on top, if a place may have this many.
+fn taken(d: u32) -> Option<u32>
+    ensures value { result ≡ at_most d (Some (d - 1)) }
+    ensures bound { IsBelow 512 result }
+{
+    let below = few(d)?;
+    Some(below.saturating_sub(1))
+}
+
+/// How many operands there are after a plain instruction.
+fn plain_depth(instr: Instr, d: u32) -> Option<u32>
+    ensures value { result ≡ at_most d (Some (d + makes (sort instr) - takes (sort instr))) }
+    ensures bound { IsBelow 513 result }
+{
+    let d = few(d)?;
+    Some(after_instr(instr, d))
+}
+
+/// The same for a call.
+fn call_depth<S: Source>(source: &S, key: Key, d: u32) -> Option<u32>
+    ensures value { result ≡ depth (S.drafts source.now) (asks (key_of key)) d }
+    ensures bound { IsBelow 513 result }
+{
+    let d = few(d)?;
+    Some(after_call(source.head(key), d))
+}
+
+/// The same for what doesn't go on.
+fn last_depth(d: u32) -> Option<u32>
+    ensures value { result ≡ at_most d (Some 0) }
+    ensures bound { IsBelow 513 result }
+{
+    few(d)?;
+    Some(0)
+}
+
 /// How many operands there are after a piece that begins with d of them, or 0 if it doesn't go on.
 /// None if some place of it has more than 512.
 #[cycle(depth)]
@@ -91,20 +128,16 @@ pub fn depth<S: Source>(source: &S, piece: &Piece, d: u32) -> Option<u32>
             depth(source, b, m)
         }
         Piece::Block(list) => depth_of_all(source, list.as_slice(), d),
-        Piece::Plain(instr) => Some(after_instr(*instr, few(d)?)),
-        Piece::Asks(key) => Some(after_call(source.head(*key), few(d)?)),
+        Piece::Plain(instr) => plain_depth(*instr, d),
+        Piece::Asks(key) => call_depth(source, *key, d),
         Piece::Pick(a, b) => {
-            let below = few(d)?.saturating_sub(1);
-            few(depth(source, a, below)?)?;
+            let below = taken(d)?;
+            low_depth(source, a, below)?;
             depth(source, b, below)
         }
-        Piece::Only(a) => {
-            let below = few(d)?.saturating_sub(1);
-            depth(source, a, below)?;
-            Some(below)
-        }
+        Piece::Only(a) => only_depth(source, a, d),
         Piece::Loop(t, a, b) => {
-            few(depth(source, t, d)?)?;
+            low_depth(source, t, d)?;
             depth(source, a, 0)?;
             depth(source, b, 0)?;
             Some(0)
@@ -114,11 +147,32 @@ pub fn depth<S: Source>(source: &S, piece: &Piece, d: u32) -> Option<u32>
             depth(source, b, 0)?;
             Some(0)
         }
-        Piece::Out | Piece::Next | Piece::Gives | Piece::Leaves => {
-            few(d)?;
-            Some(0)
-        }
+        Piece::Out | Piece::Next | Piece::Gives | Piece::Leaves => last_depth(d),
     }
+}
+
+/// The same for a piece after which a place may have as many.
+#[cycle(depth)]
+fn low_depth<S: Source>(source: &S, a: &Piece, d: u32) -> Option<u32>
+    requires { d ≤ 513 }
+    ensures some { IfSome result (λ m. depth (S.drafts source.now) (piece_of a.now) d ≡ Some m) }
+    ensures low { IfSome result (λ m. nat_le m 512 ≡ true) }
+    ensures none { (rest : Option ℕ) → IfNone result (and_depth (depth (S.drafts source.now) (piece_of a.now) d) (λ m. at_most m rest) ≡ None) }
+{
+    let left = depth(source, a, d)?;
+    few(left)
+}
+
+/// The same for a piece that may be left out.
+#[cycle(depth)]
+fn only_depth<S: Source>(source: &S, a: &Piece, d: u32) -> Option<u32>
+    requires { d ≤ 513 }
+    ensures value { result ≡ depth (S.drafts source.now) (only (piece_of a.now)) d }
+    ensures bound { IsBelow 513 result }
+{
+    let below = taken(d)?;
+    depth(source, a, below)?;
+    Some(below)
 }
 
 /// The same for pieces one after another.

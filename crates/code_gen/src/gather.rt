@@ -1,8 +1,8 @@
 //! The functions of an element, by first call, and the limits of its code.
 
-ghost use Rattle.std.specs.Prelude.{◌≡◌, ◌≤◌, ◌∷◌, ◌++◌, [], OnOk};
-ghost use Rattle.code_gen.specs.Gathers.{Gathers, body_at, longer};
-ghost use Rattle.code_gen.specs.Laws.{IsReady};
+ghost use Rattle.std.specs.Prelude.{◌≡◌, ◌≤◌, ◌∷◌, ◌++◌, [], IfOk, OnOk};
+ghost use Rattle.code_gen.specs.Gathers.{Adds, Gathers, body_at, longer};
+ghost use Rattle.code_gen.specs.Laws.{IsGood, IsReady};
 ghost use Rattle.code_gen.specs.Views.{piece_of, key_of};
 
 use crate::calls::add_calls;
@@ -38,20 +38,45 @@ fn longer<S: Source>(source: &S, key: Key, body: &Piece, sum: u32) -> Option<u32
     }
 }
 
-/// Appends a function, unless memory runs out.
-fn keep_key(keys: &mut Vec<Key>, key: Key) -> Result<(), NoMemory>
-    ensures { OnOk result (keys.new.items ≡ keys.old.items ++ key ∷ []) }
-{
-    keys.push(key)?;
-    Ok(())
-}
-
 /// Appends a body, unless memory runs out.
 fn keep_body(bodies: &mut Vec<Piece>, body: Piece) -> Result<(), NoMemory>
     ensures { OnOk result (bodies.new.items ≡ bodies.old.items ++ body ∷ []) }
 {
     bodies.push(body)?;
     Ok(())
+}
+
+/// One more body and the functions that it calls, unless memory runs out. How many instructions
+/// there are with it, if the limits let it through.
+fn add_body<S: Source>(
+    alloc: Global,
+    source: &S,
+    key: Key,
+    found: &mut Gathered,
+    sum: u32,
+) -> Result<Option<u32>, NoMemory>
+    requires sum { sum ≤ 65536 }
+    requires good { IsGood (S.drafts source.now) (key_of key) }
+    ensures { Adds (S.drafts source.now) (key_of key) sum found.old found.new result }
+{
+    let body = source.body(alloc, key)?;
+    let Some(more) = longer(source, key, &body, sum) else {
+        return Ok(None);
+    };
+    add_calls(&mut found.keys, &body)?;
+    keep_body(&mut found.bodies, body)?;
+    Ok(Some(more))
+}
+
+/// The first function of an element, and no bodies yet.
+fn begin(alloc: Global, main: Key) -> Result<Gathered, NoMemory>
+    ensures keys { IfOk result (λ x. x.keys.items ≡ main ∷ []) }
+    ensures bodies { IfOk result (λ x. x.bodies.items ≡ []) }
+{
+    let mut keys = Vec::new(alloc);
+    keys.push(main)?;
+    let bodies = Vec::new(alloc);
+    Ok(Gathered { keys, bodies })
 }
 
 /// All functions of an element that begins with this one, and their bodies. None if the limits of
@@ -61,22 +86,18 @@ pub fn gather<S: Source>(alloc: Global, source: &S, main: Key) -> Result<Option<
     requires { IsReady (S.drafts source.now) (key_of main) }
     ensures { Gathers (S.drafts source.now) (key_of main) result }
 {
-    let mut keys = Vec::new(alloc);
-    let mut bodies = Vec::new(alloc);
+    let mut found = begin(alloc, main)?;
     let mut sum: u32 = 0;
-    keep_key(&mut keys, main)?;
     for k in 0..65_537usize {
-        if k >= keys.len() {
-            return Ok(Some(Gathered { keys, bodies }));
+        if k >= found.keys.len() {
+            return Ok(Some(found));
         }
-        let key = keys[k];
-        let body = source.body(alloc, key)?;
-        match longer(source, key, &body, sum) {
+        let key = found.keys[k];
+        let step = add_body(alloc, source, key, &mut found, sum)?;
+        match step {
             None => return Ok(None),
             Some(more) => sum = more,
         }
-        add_calls(&mut keys, &body)?;
-        keep_body(&mut bodies, body)?;
     }
     Ok(None)
 }

@@ -1,6 +1,7 @@
 //! Pieces from pieces.
 
 ghost use Rattle.std.specs.Prelude.{◌≡◌, IfOk};
+ghost use Rattle.std.specs.Box.{box_value};
 ghost use Rattle.code_gen.specs.Pieces.{seq, plain, pick, only, loop, ever};
 ghost use Rattle.code_gen.specs.Views.{piece_of};
 
@@ -9,11 +10,18 @@ use feast_base::NoMemory;
 use stack_code::Instr;
 use std::alloc::Global;
 
+/// A piece in a box.
+fn boxed(alloc: Global, a: Piece) -> Result<Box<Piece>, NoMemory>
+    ensures { IfOk result (λ b. box_value b ≡ a) }
+{
+    Ok(Box::new(alloc, a)?)
+}
+
 /// One piece and then another. `NoMemory` if they can't be kept, here and in the calls that follow.
 pub fn seq(alloc: Global, a: Piece, b: Piece) -> Result<Piece, NoMemory>
     ensures { IfOk result (λ q. piece_of q ≡ seq (piece_of a) (piece_of b)) }
 {
-    Ok(Piece::Seq(Box::new(alloc, a)?, Box::new(alloc, b)?))
+    Ok(Piece::Seq(boxed(alloc, a)?, boxed(alloc, b)?))
 }
 
 /// A piece and then an instruction.
@@ -27,30 +35,26 @@ pub fn then_instr(alloc: Global, a: Piece, instr: Instr) -> Result<Piece, NoMemo
 pub fn pick(alloc: Global, a: Piece, b: Piece) -> Result<Piece, NoMemory>
     ensures { IfOk result (λ q. piece_of q ≡ pick (piece_of a) (piece_of b)) }
 {
-    Ok(Piece::Pick(Box::new(alloc, a)?, Box::new(alloc, b)?))
+    Ok(Piece::Pick(boxed(alloc, a)?, boxed(alloc, b)?))
 }
 
 /// The piece if the number on top isn't 0.
 pub fn only(alloc: Global, a: Piece) -> Result<Piece, NoMemory>
     ensures { IfOk result (λ q. piece_of q ≡ only (piece_of a)) }
 {
-    Ok(Piece::Only(Box::new(alloc, a)?))
+    Ok(Piece::Only(boxed(alloc, a)?))
 }
 
 /// A loop with a test, a body and a step.
 pub fn test_loop(alloc: Global, t: Piece, a: Piece, b: Piece) -> Result<Piece, NoMemory>
     ensures { IfOk result (λ q. piece_of q ≡ loop (piece_of t) (piece_of a) (piece_of b)) }
 {
-    Ok(Piece::Loop(
-        Box::new(alloc, t)?,
-        Box::new(alloc, a)?,
-        Box::new(alloc, b)?,
-    ))
+    Ok(Piece::Loop(boxed(alloc, t)?, boxed(alloc, a)?, boxed(alloc, b)?))
 }
 
 /// A loop with a body and a step, without a test.
 pub fn ever(alloc: Global, a: Piece, b: Piece) -> Result<Piece, NoMemory>
     ensures { IfOk result (λ q. piece_of q ≡ ever (piece_of a) (piece_of b)) }
 {
-    Ok(Piece::Ever(Box::new(alloc, a)?, Box::new(alloc, b)?))
+    Ok(Piece::Ever(boxed(alloc, a)?, boxed(alloc, b)?))
 }

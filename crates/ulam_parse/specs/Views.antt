@@ -1,6 +1,7 @@
 -- The parser's answers as those of reading on lists.
-use Rattle.std.specs.Prelude.{ℕ, ◌≡◌, List, map, drop, Vec, Result, Ok, Err}
+use Rattle.std.specs.Prelude.{ℕ, ◌≡◌, List, [], ◌∷◌, map, drop, Vec, Result, Ok, Err}
 use Rattle.std.specs.Global.{Global}
+use Rattle.feast_base.specs.Places.{no_place}
 use Rattle.ulam_tree.specs.Raw as t
 use Rattle.ulam_tree.specs.RawViews.{word_of, args_list, body_list, param_of, member_of, item_of}
 use Rattle.ulam_tree.specs.declared.raw.Word.{Word}
@@ -12,13 +13,18 @@ use Rattle.ulam_tree.specs.declared.raw.Item.{Item}
 use Rattle.ulam_parse.specs.declared.tape.Tape.{Tape}
 use Rattle.ulam_parse.specs.declared.halt.Halt.{Halt as CodeHalt}
 use Rattle.ulam_parse.specs.declared.halt.Halt.TheVariants.{NoMemory, Left, OutOfSteps}
-use Rattle.ulam_parse.specs.Tokens.{Tok}
+use Rattle.ulam_parse.specs.Tokens.{Tok, tok}
 use Rattle.ulam_parse.specs.Marks.{tok_at}
 use Rattle.ulam_parse.specs.Reading.{Halt, Reader, stops, tired}
 
 -- the tokens from an index on
 abbrev pub from : Tape → ℕ → List Tok
 from tape at = map (tok_at tape.bytes.now) (drop at tape.marks.now)
+
+-- the first token as a word
+unfoldable pub first_word : List Tok → t.Word
+first_word [] = record { name = []; place = no_place }
+first_word (tok k w p ∷ ts) = record { name = w; place = p }
 
 -- why nothing was read, unless memory ran out
 abbrev pub Fails : {A : Type 0} → CodeHalt → Result A Halt → Type 0

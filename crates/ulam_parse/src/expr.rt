@@ -1,6 +1,7 @@
 //! Expressions.
-ghost use Rattle.std.specs.Prelude.{◌<◌};
-ghost use Rattle.ulam_tree.specs.RawViews.{path_of, expr_of};
+ghost use Rattle.std.specs.Prelude.{◌≡◌, ◌<◌, ◌∷◌, ◌++◌, [], IfOk, OnOk};
+ghost use Rattle.std.specs.Box.{box_value};
+ghost use Rattle.ulam_tree.specs.RawViews.{path_of, expr_of, boxed_expr};
 ghost use Rattle.ulam_parse.specs.Reading as spec;
 ghost use Rattle.ulam_parse.specs.Reading.{behind_args, later_args};
 ghost use Rattle.ulam_parse.specs.Views.{Reads, Finds, args_in};
@@ -8,13 +9,28 @@ ghost use Rattle.ulam_parse.specs.Views.{Reads, Finds, args_in};
 use crate::halt::Halt;
 use crate::symbol::{Infix, Opening, Symbol};
 use crate::tables::{infix_of, level, opening_of};
-use crate::take::{count_from, expect, mark_at, sees, sees_second, word};
+use crate::take::{count_from, expect, mark_at, past, sees, sees_second, skip, word};
 use crate::tape::Tape;
 use crate::types::{path, type_ref};
-use feast_base::Place;
+use feast_base::{NoMemory, Place};
 use std::alloc::Global;
 use ulam_tree::raw_build::{call, cast, group, is, pair, prefix};
 use ulam_tree::{Expr, Path};
+
+/// An expression in a box.
+pub fn boxed(alloc: Global, value: Expr) -> Result<Box<Expr>, NoMemory>
+    ensures { IfOk result (λ b. box_value b ≡ value) }
+{
+    Ok(Box::new(alloc, value)?)
+}
+
+/// One more argument.
+fn keep(found: &mut Vec<Expr>, value: Expr) -> Result<(), NoMemory>
+    ensures { OnOk result (found.new.items ≡ found.old.items ++ value ∷ []) }
+{
+    found.push(value)?;
+    Ok(())
+}
 
 /// A new atom of a class.
 #[tactic(auto, unfolding(crate::specs::Reading::new_atom))]
@@ -22,8 +38,8 @@ fn new_atom(alloc: Global, tape: &Tape, at: usize) -> Result<(Expr, usize), Halt
     ensures { Reads expr_of spec.new_atom tape.now at result }
 {
     let (mark, next) = expect(Symbol::TypeName, tape, at)?;
-    let (_, next) = expect(Symbol::Dot, tape, next)?;
-    let (_, next) = expect(Symbol::Instanceof, tape, next)?;
+    let next = skip(Symbol::Dot, tape, next)?;
+    let next = skip(Symbol::Instanceof, tape, next)?;
     let class = word(alloc, tape, mark)?;
     Ok((Expr::Instance { class }, next))
 }
@@ -55,6 +71,22 @@ fn expr_in(
     climb(alloc, steps - 1, least, tape, at)
 }
 
+/// An expression in a box, read in fewer than `steps` steps.
+#[cycle(expr)]
+fn boxed_in(
+    alloc: Global,
+    steps: usize,
+    least: u8,
+    tape: &Tape,
+    at: usize,
+) -> Result<(Box<Expr>, usize), Halt>
+    requires { least < 13 }
+    ensures { Reads boxed_expr (spec.expr_in steps least) tape.now at result }
+{
+    let (value, next) = expr_in(alloc, steps, least, tape, at)?;
+    Ok((boxed(alloc, value)?, next))
+}
+
 /// An operand and the operators and operands that follow it.
 #[cycle(expr)]
 #[tactic(auto, unfolding(crate::specs::Reading::climb))]
@@ -83,8 +115,8 @@ fn operand(alloc: Global, steps: usize, tape: &Tape, at: usize) -> Result<(Expr,
     };
     match opening_of(first.symbol) {
         Opening::Signs(op) => {
-            let (value, next) = expr_in(alloc, steps, 12, tape, at + 1)?;
-            Ok((prefix(op, Box::new(alloc, value)?, first.place), next))
+            let (value, next) = boxed_in(alloc, steps, 12, tape, at + 1)?;
+            Ok((prefix(op, value, first.place), next))
         }
         Opening::Parens => in_parens(alloc, steps, first.place, tape, at + 1),
         Opening::Counts => {
@@ -119,13 +151,12 @@ fn in_parens(
 {
     if sees(Symbol::TypeName, tape, at) && !sees_second(Symbol::Dot, tape, at) {
         let (to, next) = type_ref(alloc, tape, at)?;
-        let (_, next) = expect(Symbol::CloseParen, tape, next)?;
-        let (value, next) = expr_in(alloc, steps, 12, tape, next)?;
-        Ok((cast(to, Box::new(alloc, value)?, place), next))
+        let next = skip(Symbol::CloseParen, tape, next)?;
+        let (value, next) = boxed_in(alloc, steps, 12, tape, next)?;
+        Ok((cast(to, value, place), next))
     } else {
-        let (inner, next) = expr_in(alloc, steps, 1, tape, at)?;
-        let inner = Box::new(alloc, inner)?;
-        let (_, next) = expect(Symbol::CloseParen, tape, next)?;
+        let (inner, next) = boxed_in(alloc, steps, 1, tape, at)?;
+        let next = skip(Symbol::CloseParen, tape, next)?;
         Ok((group(inner, place), next))
     }
 }
@@ -153,9 +184,9 @@ fn more(
         match infix_of(sign.symbol) {
             Infix::Joins(op) => {
                 if least <= level(op) && level(op) <= top {
-                    let left = Box::new(alloc, value)?;
-                    let (right, behind) = expr_in(alloc, steps, level(op) + 1, tape, next + 1)?;
-                    value = pair(op, left, Box::new(alloc, right)?, sign.place);
+                    let left = boxed(alloc, value)?;
+                    let (right, behind) = boxed_in(alloc, steps, level(op) + 1, tape, next + 1)?;
+                    value = pair(op, left, right, sign.place);
                     top = level(op);
                     next = behind;
                 } else {
@@ -165,7 +196,7 @@ fn more(
             Infix::Tests => {
                 if least <= 8 && 9 <= top {
                     let (mark, behind) = expect(Symbol::TypeName, tape, next + 1)?;
-                    let tested = Box::new(alloc, value)?;
+                    let tested = boxed(alloc, value)?;
                     value = is(tested, word(alloc, tape, mark)?, sign.place);
                     top = 8;
                     next = behind;
@@ -200,15 +231,12 @@ fn after_path(
 ) -> Result<(Expr, usize), Halt>
     ensures { Reads expr_of (spec.after_path (spec.expr_in steps) (path_of path)) tape.now at result }
 {
-    if sees(Symbol::OpenParen, tape, at) {
-        let (_, next) = expect(Symbol::OpenParen, tape, at)?;
+    if let Some(next) = past(Symbol::OpenParen, tape, at) {
         let (args, next) = args_in(alloc, steps, tape, next)?;
         Ok((call(path, args), next))
-    } else if sees(Symbol::OpenBracket, tape, at) {
-        let (_, next) = expect(Symbol::OpenBracket, tape, at)?;
-        let (at, next) = expr_in(alloc, steps, 1, tape, next)?;
-        let at = Box::new(alloc, at)?;
-        let (_, next) = expect(Symbol::CloseBracket, tape, next)?;
+    } else if let Some(next) = past(Symbol::OpenBracket, tape, at) {
+        let (at, next) = boxed_in(alloc, steps, 1, tape, next)?;
+        let next = skip(Symbol::CloseBracket, tape, next)?;
         Ok((Expr::Index { path, at }, next))
     } else {
         Ok((Expr::Path { path }, at))
@@ -222,12 +250,11 @@ fn args_in(alloc: Global, steps: usize, tape: &Tape, at: usize) -> Result<(Vec<E
     ensures { Reads args_in (spec.args (spec.expr_in steps)) tape.now at result }
 {
     let mut found = Vec::new(alloc);
-    if sees(Symbol::CloseParen, tape, at) {
-        let (_, next) = expect(Symbol::CloseParen, tape, at)?;
+    if let Some(next) = past(Symbol::CloseParen, tape, at) {
         return Ok((found, next));
     }
     let (first, next) = expr_in(alloc, steps, 1, tape, at)?;
-    found.push(first)?;
+    keep(&mut found, first)?;
     let next = more_args(alloc, steps, &mut found, tape, next)?;
     Ok((found, next))
 }
@@ -245,13 +272,11 @@ fn more_args(
 {
     let mut next = at;
     'turns: for _turn in 0..count_from(tape, at) + 1 {
-        if !sees(Symbol::Comma, tape, next) {
-            let (_, behind) = expect(Symbol::CloseParen, tape, next)?;
-            return Ok(behind);
-        }
-        let (_, behind) = expect(Symbol::Comma, tape, next)?;
+        let Some(behind) = past(Symbol::Comma, tape, next) else {
+            return skip(Symbol::CloseParen, tape, next);
+        };
         let (value, behind) = expr_in(alloc, steps, 1, tape, behind)?;
-        found.push(value)?;
+        keep(found, value)?;
         next = behind;
     }
     Err(Halt::OutOfSteps)

@@ -11,7 +11,7 @@ use crate::for_parts::ForParts;
 use crate::halt::Halt;
 use crate::simple::{cond, declare, maybe, simple};
 use crate::symbol::Symbol;
-use crate::take::{expect, sees};
+use crate::take::{sees, skip};
 use crate::tape::Tape;
 use std::alloc::{AllocError, Global};
 use ulam_tree::{Cond, Expr, Statement};
@@ -60,13 +60,13 @@ fn step_part(alloc: Global, tape: &Tape, at: usize) -> Result<(Option<Box<Statem
 pub fn for_head(alloc: Global, tape: &Tape, at: usize) -> Result<(ForParts, usize), Halt>
     ensures { Reads head_of spec.for_head tape.now at result }
 {
-    let (_, next) = expect(Symbol::OpenParen, tape, at)?;
+    let next = skip(Symbol::OpenParen, tape, at)?;
     let (first, next) = first_part(alloc, tape, next)?;
-    let (_, next) = expect(Symbol::Semi, tape, next)?;
+    let next = skip(Symbol::Semi, tape, next)?;
     let (cond, next) = maybe(alloc, tape, next)?;
-    let (_, next) = expect(Symbol::Semi, tape, next)?;
+    let next = skip(Symbol::Semi, tape, next)?;
     let (step, next) = step_part(alloc, tape, next)?;
-    let (_, next) = expect(Symbol::CloseParen, tape, next)?;
+    let next = skip(Symbol::CloseParen, tape, next)?;
     Ok((ForParts { first, cond, step }, next))
 }
 
@@ -75,9 +75,9 @@ pub fn for_head(alloc: Global, tape: &Tape, at: usize) -> Result<(ForParts, usiz
 pub fn if_head(alloc: Global, tape: &Tape, at: usize) -> Result<(Cond, usize), Halt>
     ensures { Reads cond_of spec.if_head tape.now at result }
 {
-    let (_, next) = expect(Symbol::OpenParen, tape, at)?;
+    let next = skip(Symbol::OpenParen, tape, at)?;
     let (cond, next) = cond(alloc, tape, next)?;
-    let (_, next) = expect(Symbol::CloseParen, tape, next)?;
+    let next = skip(Symbol::CloseParen, tape, next)?;
     Ok((cond, next))
 }
 
@@ -86,8 +86,8 @@ pub fn if_head(alloc: Global, tape: &Tape, at: usize) -> Result<(Cond, usize), H
 pub fn while_head(alloc: Global, tape: &Tape, at: usize) -> Result<(Expr, usize), Halt>
     ensures { Reads expr_of spec.while_head tape.now at result }
 {
-    let (_, next) = expect(Symbol::OpenParen, tape, at)?;
+    let next = skip(Symbol::OpenParen, tape, at)?;
     let (cond, next) = expr(alloc, 1, tape, next)?;
-    let (_, next) = expect(Symbol::CloseParen, tape, next)?;
+    let next = skip(Symbol::CloseParen, tape, next)?;
     Ok((cond, next))
 }

@@ -7,7 +7,7 @@ ghost use Rattle.ulam_parse.specs.Views.{Reads, Finds, members_in, items_in};
 use crate::halt::Halt;
 use crate::member::member;
 use crate::symbol::Symbol;
-use crate::take::{count_from, expect, sees, word};
+use crate::take::{count_from, expect, past, sees, skip, word};
 use crate::tape::Tape;
 use std::alloc::Global;
 use ulam_tree::{Class, Item, Member};
@@ -18,8 +18,7 @@ fn members(alloc: Global, found: &mut Vec<Member>, tape: &Tape, at: usize) -> Re
 {
     let mut next = at;
     'turns: for _turn in 0..count_from(tape, at) + 1 {
-        if sees(Symbol::CloseBrace, tape, next) {
-            let (_, behind) = expect(Symbol::CloseBrace, tape, next)?;
+        if let Some(behind) = past(Symbol::CloseBrace, tape, next) {
             return Ok(behind);
         }
         let (value, behind) = member(alloc, tape, next)?;
@@ -40,9 +39,9 @@ fn class_in(
 ) -> Result<(Class, usize), Halt>
     ensures { Reads class_of (spec.class_in keyword quark) tape.now at result }
 {
-    let (_, next) = expect(keyword, tape, at)?;
+    let next = skip(keyword, tape, at)?;
     let (name, next) = expect(Symbol::TypeName, tape, next)?;
-    let (_, next) = expect(Symbol::OpenBrace, tape, next)?;
+    let next = skip(Symbol::OpenBrace, tape, next)?;
     let mut found = Vec::new(alloc);
     let next = members(alloc, &mut found, tape, next)?;
     let word = word(alloc, tape, name)?;
@@ -61,9 +60,9 @@ fn class_in(
 fn version_in(tape: &Tape, at: usize) -> Result<(Item, usize), Halt>
     ensures { Reads item_of spec.version_in tape.now at result }
 {
-    let (_, next) = expect(Symbol::Ulam, tape, at)?;
+    let next = skip(Symbol::Ulam, tape, at)?;
     let (mark, next) = expect(Symbol::Number, tape, next)?;
-    let (_, next) = expect(Symbol::Semi, tape, next)?;
+    let next = skip(Symbol::Semi, tape, next)?;
     Ok((Item::Ulam { number: mark.value }, next))
 }
 
@@ -72,9 +71,9 @@ fn version_in(tape: &Tape, at: usize) -> Result<(Item, usize), Halt>
 fn use_in(alloc: Global, tape: &Tape, at: usize) -> Result<(Item, usize), Halt>
     ensures { Reads item_of spec.use_in tape.now at result }
 {
-    let (_, next) = expect(Symbol::Use, tape, at)?;
+    let next = skip(Symbol::Use, tape, at)?;
     let (name, next) = expect(Symbol::TypeName, tape, next)?;
-    let (_, next) = expect(Symbol::Semi, tape, next)?;
+    let next = skip(Symbol::Semi, tape, next)?;
     let word = word(alloc, tape, name)?;
     Ok((Item::Uses { word }, next))
 }

@@ -8,7 +8,7 @@ ghost use Rattle.ulam_parse.specs.Views.{Reads, Finds, params_in};
 use crate::halt::Halt;
 use crate::statement::whole_body;
 use crate::symbol::Symbol;
-use crate::take::{count_from, expect, sees, word};
+use crate::take::{count_from, expect, past, sees, skip, word};
 use crate::tape::Tape;
 use crate::types::{enclosed, type_ref};
 use std::alloc::Global;
@@ -31,11 +31,9 @@ fn more_params(alloc: Global, found: &mut Vec<Param>, tape: &Tape, at: usize) ->
 {
     let mut next = at;
     'turns: for _turn in 0..count_from(tape, at) + 1 {
-        if !sees(Symbol::Comma, tape, next) {
-            let (_, behind) = expect(Symbol::CloseParen, tape, next)?;
-            return Ok(behind);
-        }
-        let (_, behind) = expect(Symbol::Comma, tape, next)?;
+        let Some(behind) = past(Symbol::Comma, tape, next) else {
+            return skip(Symbol::CloseParen, tape, next);
+        };
         let (value, behind) = param(alloc, tape, behind)?;
         found.push(value)?;
         next = behind;
@@ -49,8 +47,7 @@ fn params(alloc: Global, tape: &Tape, at: usize) -> Result<(Vec<Param>, usize), 
     ensures { Reads params_in spec.params tape.now at result }
 {
     let mut found = Vec::new(alloc);
-    if sees(Symbol::CloseParen, tape, at) {
-        let (_, next) = expect(Symbol::CloseParen, tape, at)?;
+    if let Some(next) = past(Symbol::CloseParen, tape, at) {
         return Ok((found, next));
     }
     let (first, next) = param(alloc, tape, at)?;
@@ -80,7 +77,7 @@ fn const_in(minus: bool, tape: &Tape, at: usize) -> Result<(Const, usize), Halt>
 fn truth_in(symbol: Symbol, value: bool, tape: &Tape, at: usize) -> Result<(Const, usize), Halt>
     ensures { Reads const_of (spec.truth_in symbol value) tape.now at result }
 {
-    let (_, next) = expect(symbol, tape, at)?;
+    let next = skip(symbol, tape, at)?;
     Ok((Const::Truth { value }, next))
 }
 
@@ -89,8 +86,7 @@ fn truth_in(symbol: Symbol, value: bool, tape: &Tape, at: usize) -> Result<(Cons
 fn const_value(alloc: Global, tape: &Tape, at: usize) -> Result<(Const, usize), Halt>
     ensures { Reads const_of spec.const_value tape.now at result }
 {
-    if sees(Symbol::Minus, tape, at) {
-        let (_, next) = expect(Symbol::Minus, tape, at)?;
+    if let Some(next) = past(Symbol::Minus, tape, at) {
         const_in(true, tape, next)
     } else if sees(Symbol::Number, tape, at) {
         const_in(false, tape, at)
@@ -110,10 +106,10 @@ fn const_value(alloc: Global, tape: &Tape, at: usize) -> Result<(Const, usize), 
 fn typedef_in(alloc: Global, tape: &Tape, at: usize) -> Result<(Member, usize), Halt>
     ensures { Reads member_of spec.typedef_in tape.now at result }
 {
-    let (_, next) = expect(Symbol::Typedef, tape, at)?;
+    let next = skip(Symbol::Typedef, tape, at)?;
     let (of, next) = type_ref(alloc, tape, next)?;
     let (name, next) = expect(Symbol::TypeName, tape, next)?;
-    let (_, next) = expect(Symbol::Semi, tape, next)?;
+    let next = skip(Symbol::Semi, tape, next)?;
     let word = word(alloc, tape, name)?;
     Ok((Member::Typedef { of, word }, next))
 }
@@ -123,12 +119,12 @@ fn typedef_in(alloc: Global, tape: &Tape, at: usize) -> Result<(Member, usize), 
 fn constant_in(alloc: Global, tape: &Tape, at: usize) -> Result<(Member, usize), Halt>
     ensures { Reads member_of spec.constant_in tape.now at result }
 {
-    let (_, next) = expect(Symbol::Constant, tape, at)?;
+    let next = skip(Symbol::Constant, tape, at)?;
     let (of, next) = type_ref(alloc, tape, next)?;
     let (name, next) = expect(Symbol::Name, tape, next)?;
-    let (_, next) = expect(Symbol::Set, tape, next)?;
+    let next = skip(Symbol::Set, tape, next)?;
     let (value, next) = const_value(alloc, tape, next)?;
-    let (_, next) = expect(Symbol::Semi, tape, next)?;
+    let next = skip(Symbol::Semi, tape, next)?;
     let word = word(alloc, tape, name)?;
     Ok((Member::Constant { of, word, value }, next))
 }
@@ -156,9 +152,9 @@ fn function_rest(
 ) -> Result<(Member, usize), Halt>
     ensures { Reads member_of (spec.function_rest (type_of of) (word_of word)) tape.now at result }
 {
-    let (_, next) = expect(Symbol::OpenParen, tape, at)?;
+    let next = skip(Symbol::OpenParen, tape, at)?;
     let (params, next) = params(alloc, tape, next)?;
-    let (_, next) = expect(Symbol::OpenBrace, tape, next)?;
+    let next = skip(Symbol::OpenBrace, tape, next)?;
     let (body, next) = whole_body(alloc, tape, next)?;
     Ok((
         Member::Function {
@@ -183,7 +179,7 @@ fn field_rest(
     ensures { Reads member_of (spec.field_rest (type_of of) (word_of word)) tape.now at result }
 {
     let (length, next) = length_in(alloc, tape, at)?;
-    let (_, next) = expect(Symbol::Semi, tape, next)?;
+    let next = skip(Symbol::Semi, tape, next)?;
     Ok((Member::Field { of, word, length }, next))
 }
 

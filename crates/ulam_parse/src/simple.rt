@@ -4,11 +4,11 @@ ghost use Rattle.ulam_tree.specs.RawViews.{path_of, expr_of, boxed_expr, cond_of
 ghost use Rattle.ulam_parse.specs.Statements as spec;
 ghost use Rattle.ulam_parse.specs.Views.{Reads};
 
-use crate::expr::{args, expr};
+use crate::expr::{args, boxed, expr};
 use crate::halt::Halt;
 use crate::symbol::{Assigning, Symbol};
 use crate::tables::assigning_of;
-use crate::take::{count_from, expect, mark_at, sees, sees_second, word};
+use crate::take::{count_from, expect, mark_at, past, sees, sees_second, skip, word};
 use crate::tape::Tape;
 use crate::types::{path, type_ref};
 use std::alloc::Global;
@@ -21,7 +21,7 @@ pub fn cond(alloc: Global, tape: &Tape, at: usize) -> Result<(Cond, usize), Halt
 {
     if sees(Symbol::Name, tape, at) && sees_second(Symbol::As, tape, at) {
         let (name, next) = expect(Symbol::Name, tape, at)?;
-        let (_, next) = expect(Symbol::As, tape, next)?;
+        let next = skip(Symbol::As, tape, next)?;
         let (class, next) = expect(Symbol::TypeName, tape, next)?;
         let word_seen = word(alloc, tape, name)?;
         let class = word(alloc, tape, class)?;
@@ -43,11 +43,10 @@ pub fn cond(alloc: Global, tape: &Tape, at: usize) -> Result<(Cond, usize), Halt
 fn index_in(alloc: Global, tape: &Tape, at: usize) -> Result<(Option<Box<Expr>>, usize), Halt>
     ensures { Reads (option_map boxed_expr) spec.index_in tape.now at result }
 {
-    if sees(Symbol::OpenBracket, tape, at) {
-        let (_, next) = expect(Symbol::OpenBracket, tape, at)?;
+    if let Some(next) = past(Symbol::OpenBracket, tape, at) {
         let (value, next) = expr(alloc, 1, tape, next)?;
-        let value = Box::new(alloc, value)?;
-        let (_, next) = expect(Symbol::CloseBracket, tape, next)?;
+        let value = boxed(alloc, value)?;
+        let next = skip(Symbol::CloseBracket, tape, next)?;
         Ok((Some(value), next))
     } else {
         Ok((None, at))
@@ -81,8 +80,7 @@ pub fn maybe(alloc: Global, tape: &Tape, at: usize) -> Result<(Option<Expr>, usi
 fn start(alloc: Global, tape: &Tape, at: usize) -> Result<(Option<Expr>, usize), Halt>
     ensures { Reads (option_map expr_of) spec.start tape.now at result }
 {
-    if sees(Symbol::Set, tape, at) {
-        let (_, next) = expect(Symbol::Set, tape, at)?;
+    if let Some(next) = past(Symbol::Set, tape, at) {
         let (value, next) = expr(alloc, 1, tape, next)?;
         Ok((Some(value), next))
     } else {
@@ -130,8 +128,7 @@ fn after_names(
 ) -> Result<(Statement, usize), Halt>
     ensures { Reads statement_of (spec.after_names (path_of path)) tape.now at result }
 {
-    if sees(Symbol::OpenParen, tape, at) {
-        let (_, next) = expect(Symbol::OpenParen, tape, at)?;
+    if let Some(next) = past(Symbol::OpenParen, tape, at) {
         let (args, next) = args(alloc, tape, next)?;
         let call = Call { path, args };
         Ok((Statement::Call { call }, next))
@@ -152,7 +149,7 @@ fn counted(
 ) -> Result<(Statement, usize), Halt>
     ensures { Reads statement_of (spec.counted sign up) tape.now at result }
 {
-    let (_, next) = expect(sign, tape, at)?;
+    let next = skip(sign, tape, at)?;
     let (left, next) = left_side(alloc, tape, next)?;
     Ok((Statement::Count { left, up }, next))
 }

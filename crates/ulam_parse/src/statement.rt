@@ -1,5 +1,7 @@
 //! Statements.
-ghost use Rattle.ulam_tree.specs.RawViews.{statement_of, part_alone};
+ghost use Rattle.std.specs.Prelude.{◌≡◌, ◌∷◌, ◌++◌, [], IfOk, OnOk};
+ghost use Rattle.std.specs.Box.{box_value};
+ghost use Rattle.ulam_tree.specs.RawViews.{statement_of, boxed_statement, part_alone};
 ghost use Rattle.ulam_parse.specs.Statements as spec;
 ghost use Rattle.ulam_parse.specs.Statements.{behind_body, body_within};
 ghost use Rattle.ulam_parse.specs.Views.{Reads, Finds, body_in};
@@ -10,18 +12,33 @@ use crate::head::{for_head, if_head, while_head};
 use crate::simple::{declare, maybe, simple};
 use crate::symbol::{Starting, Symbol};
 use crate::tables::starting_of;
-use crate::take::{count_from, expect, mark_at, sees};
+use crate::take::{count_from, mark_at, past, sees, skip};
 use crate::tape::Tape;
-use feast_base::Place;
+use feast_base::{NoMemory, Place};
 use std::alloc::Global;
 use ulam_tree::{Statement, raw_build as build};
+
+/// A statement in a box.
+fn boxed(alloc: Global, statement: Statement) -> Result<Box<Statement>, NoMemory>
+    ensures { IfOk result (λ b. box_value b ≡ statement) }
+{
+    Ok(Box::new(alloc, statement)?)
+}
+
+/// One more statement.
+fn keep(found: &mut Vec<Statement>, statement: Statement) -> Result<(), NoMemory>
+    ensures { OnOk result (found.new.items ≡ found.old.items ++ statement ∷ []) }
+{
+    found.push(statement)?;
+    Ok(())
+}
 
 /// The `;` after a statement.
 #[tactic(auto, unfolding(crate::specs::Statements::ended))]
 fn ended(statement: Statement, tape: &Tape, at: usize) -> Result<(Statement, usize), Halt>
     ensures { Reads statement_of (spec.ended (statement_of statement)) tape.now at result }
 {
-    let (_, next) = expect(Symbol::Semi, tape, at)?;
+    let next = skip(Symbol::Semi, tape, at)?;
     Ok((statement, next))
 }
 
@@ -70,6 +87,20 @@ fn statement_in(
         return Err(Halt::OutOfSteps);
     }
     any_statement(alloc, steps - 1, tape, at)
+}
+
+/// A statement in a box, read in fewer than `steps` steps.
+#[cycle(statement)]
+fn boxed_in(
+    alloc: Global,
+    steps: usize,
+    tape: &Tape,
+    at: usize,
+) -> Result<(Box<Statement>, usize), Halt>
+    ensures { Reads boxed_statement (spec.statement_in steps) tape.now at result }
+{
+    let (statement, next) = statement_in(alloc, steps, tape, at)?;
+    Ok((boxed(alloc, statement)?, next))
 }
 
 /// A statement, by its first token.
@@ -125,8 +156,7 @@ fn if_rest(alloc: Global, steps: usize, tape: &Tape, at: usize) -> Result<(State
     ensures { Reads statement_of (spec.if_rest (spec.statement_in steps)) tape.now at result }
 {
     let (cond, next) = if_head(alloc, tape, at)?;
-    let (yes, next) = statement_in(alloc, steps, tape, next)?;
-    let yes = Box::new(alloc, yes)?;
+    let (yes, next) = boxed_in(alloc, steps, tape, next)?;
     let (no, next) = else_part(alloc, steps, tape, next)?;
     Ok((build::if_so(cond, yes, no), next))
 }
@@ -143,9 +173,9 @@ fn else_part(
     ensures { Reads part_alone (spec.else_part (spec.statement_in steps)) tape.now at result }
 {
     if sees(Symbol::Else, tape, at) {
-        let (_, next) = expect(Symbol::Else, tape, at)?;
-        let (no, next) = statement_in(alloc, steps, tape, next)?;
-        Ok((Some(Box::new(alloc, no)?), next))
+        let next = skip(Symbol::Else, tape, at)?;
+        let (no, next) = boxed_in(alloc, steps, tape, next)?;
+        Ok((Some(no), next))
     } else {
         Ok((None, at))
     }
@@ -163,8 +193,7 @@ fn while_rest(
     ensures { Reads statement_of (spec.while_rest (spec.statement_in steps)) tape.now at result }
 {
     let (cond, next) = while_head(alloc, tape, at)?;
-    let (body, next) = statement_in(alloc, steps, tape, next)?;
-    let body = Box::new(alloc, body)?;
+    let (body, next) = boxed_in(alloc, steps, tape, next)?;
     Ok((Statement::While { cond, body }, next))
 }
 
@@ -175,8 +204,7 @@ fn for_rest(alloc: Global, steps: usize, tape: &Tape, at: usize) -> Result<(Stat
     ensures { Reads statement_of (spec.for_rest (spec.statement_in steps)) tape.now at result }
 {
     let (head, next) = for_head(alloc, tape, at)?;
-    let (body, next) = statement_in(alloc, steps, tape, next)?;
-    let body = Box::new(alloc, body)?;
+    let (body, next) = boxed_in(alloc, steps, tape, next)?;
     let ForParts { first, cond, step } = head;
     Ok((build::for_all(first, cond, step, body), next))
 }
@@ -194,12 +222,11 @@ fn body_in(
 {
     let mut next = at;
     'turns: for _turn in 0..count_from(tape, at) + 1 {
-        if sees(Symbol::CloseBrace, tape, next) {
-            let (_, behind) = expect(Symbol::CloseBrace, tape, next)?;
+        if let Some(behind) = past(Symbol::CloseBrace, tape, next) {
             return Ok(behind);
         }
         let (statement, behind) = statement_in(alloc, steps, tape, next)?;
-        found.push(statement)?;
+        keep(found, statement)?;
         next = behind;
     }
     Err(Halt::OutOfSteps)

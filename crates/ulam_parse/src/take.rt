@@ -1,9 +1,9 @@
 //! Taking one token.
-ghost use Rattle.std.specs.Prelude.{◌≡◌, ◌∷◌, [], ◌+◌, ◌<◌, ◌^◌, length, IfOk, IfSome, IfNone};
+ghost use Rattle.std.specs.Prelude.{◌≡◌, ◌∷◌, [], ◌+◌, ◌<◌, ◌^◌, length, is_some, Ok, IfOk, IfSome, IfNone};
 ghost use Rattle.ulam_tree.specs.RawViews.{word_of};
 ghost use Rattle.ulam_parse.specs.Reading as spec;
 ghost use Rattle.ulam_parse.specs.Marks.{tok_at, word_at, IsMark};
-ghost use Rattle.ulam_parse.specs.Views.{Reads, from};
+ghost use Rattle.ulam_parse.specs.Views.{Reads, Finds, from, first_word};
 
 use crate::halt::Halt;
 use crate::mark::Mark;
@@ -78,6 +78,41 @@ pub fn expect(symbol: Symbol, tape: &Tape, at: usize) -> Result<(Mark, usize), H
             }
         }
         None => Err(Halt::Left(0)),
+    }
+}
+
+/// The index of the token after one with this symbol.
+#[tactic(auto, unfolding(crate::specs::Views::first_word))]
+pub fn skip(symbol: Symbol, tape: &Tape, at: usize) -> Result<usize, Halt>
+    ensures { Finds (first_word (from tape.now at)) (spec.expect symbol) tape.now at result }
+{
+    match mark_at(tape, at) {
+        Some(first) => {
+            if same(first.symbol, symbol) {
+                Ok(at + 1)
+            } else {
+                Err(Halt::Left(count_from(tape, at)))
+            }
+        }
+        None => Err(Halt::Left(0)),
+    }
+}
+
+/// The index of the token after one with this symbol, if it comes next.
+#[tactic(auto, unfolding(crate::specs::Views::first_word))]
+pub fn past(symbol: Symbol, tape: &Tape, at: usize) -> Option<usize>
+    ensures seen { spec.sees symbol (from tape.now at) ≡ is_some result }
+    ensures some { IfSome result (λ n. spec.expect symbol (from tape.now at) ≡ Ok (first_word (from tape.now at), from tape.now n)) }
+{
+    match mark_at(tape, at) {
+        Some(first) => {
+            if same(first.symbol, symbol) {
+                Some(at + 1)
+            } else {
+                None
+            }
+        }
+        None => None,
     }
 }
 

@@ -6,7 +6,7 @@ ghost use Rattle.ulam_parse.specs.Views.{Reads, Finds, words_in};
 
 use crate::halt::Halt;
 use crate::symbol::Symbol;
-use crate::take::{count_from, expect, sees, word};
+use crate::take::{count_from, expect, past, sees, skip, word};
 use crate::tape::Tape;
 use std::alloc::Global;
 use ulam_tree::{Path, TypeRef, Width, Word};
@@ -37,9 +37,9 @@ pub fn enclosed(
 ) -> Result<(Option<Width>, usize), Halt>
     ensures { Reads (option_map width_of) (spec.enclosed before behind) tape.now at result }
 {
-    let (_, next) = expect(before, tape, at)?;
+    let next = skip(before, tape, at)?;
     let (width, next) = width(alloc, tape, next)?;
-    let (_, next) = expect(behind, tape, next)?;
+    let next = skip(behind, tape, next)?;
     Ok((Some(width), next))
 }
 
@@ -72,10 +72,9 @@ fn words_after(alloc: Global, words: &mut Vec<Word>, tape: &Tape, at: usize) -> 
 {
     let mut next = at;
     'turns: for _turn in 0..count_from(tape, at) + 1 {
-        if !sees(Symbol::Dot, tape, next) {
+        let Some(behind) = past(Symbol::Dot, tape, next) else {
             return Ok(next);
-        }
-        let (_, behind) = expect(Symbol::Dot, tape, next)?;
+        };
         let (mark, behind) = expect(Symbol::Name, tape, behind)?;
         words.push(word(alloc, tape, mark)?)?;
         next = behind;

@@ -5,5 +5,5 @@ use Rattle.code_gen.proofs.gather.gather.Given as goal
 
 abbrev pub invariant-loop-k : goal.invariant-loop-k
 invariant-loop-k g l = record {
-  round : Round (g.S.Source.drafts l.source) (key_of l.fn.main) l.k l.sum (map key_of l.keys.items) (map piece_of l.bodies.items);
+  round : Round (g.S.Source.drafts l.source) (key_of l.fn.main) l.k l.sum (map key_of l.found.keys.items) (map piece_of l.found.bodies.items);
 }

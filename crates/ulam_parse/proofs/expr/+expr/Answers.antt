@@ -1,8 +1,7 @@
 use Rattle.std.proofs.Common.{rules, arith, ◌+◌, ◌-◌}
 use Rattle.std.proofs.lemmas.Grind.{common_steps}
 use Rattle.ulam_tree.specs.RawViews.{expr_of, args_list}
-use Rattle.ulam_parse.specs.Views.{from}
-use Rattle.ulam_parse.specs.Marks.{word_at}
+use Rattle.ulam_parse.specs.Views.{from, first_word}
 use Rattle.ulam_parse.specs.Reading.{more, more_args, expr_in, with_args}
 use Rattle.ulam_parse.proofs.Steps.{expr_tired}
 use Rattle.ulam_parse.proofs.Loops.{joined_none, args_step}
@@ -60,15 +59,9 @@ more-returns t c =
     let e = no_more (λ n. more (expr_in c.args.steps) c.args.least n (record { tree = expr_of c.turns.value; level = c.turns.top }) (from c.args.tape.now c.turns.next)) _ c.turns._turn c.turns-test.false c.turns.invariant in
     first_of (search rules, grind (arith, common_steps))
 
-pub more_args-returns-in_err-behind : goal.more_args-returns-in_err-behind
+pub more_args-returns-in_default : goal.more_args-returns-in_default
 unfolding more_args
-more_args-returns-in_err-behind t c =
-    let e = one_more (λ n. with_args (args_list c.turns.found.items) (more_args (expr_in c.args.steps) n (from c.args.tape.now c.turns.next))) _ c.turns._turn c.turns-test.true c.turns.invariant in
-    first_of (search rules, grind (arith, common_steps))
-
-pub more_args-returns-then-not-sees : goal.more_args-returns-then-not-sees
-unfolding more_args
-more_args-returns-then-not-sees t c =
+more_args-returns-in_default t c =
     let e = one_more (λ n. with_args (args_list c.turns.found.items) (more_args (expr_in c.args.steps) n (from c.args.tape.now c.turns.next))) _ c.turns._turn c.turns-test.true c.turns.invariant in
     first_of (search (rules, joined_none), grind (arith, common_steps, joined_none))
 
@@ -81,8 +74,8 @@ more_args-returns-in_err-value t c =
 pub more_args-turns-preserved : goal.more_args-turns-preserved
 more_args-turns-preserved t c =
     let e = one_more (λ n. with_args (args_list c.turns.found.items) (more_args (expr_in c.args.steps) n (from c.args.tape.now c.turns.next))) _ c.turns._turn c.turns-test.true c.turns.invariant in
-    let st = args_step (expr_in c.args.steps) (c.count_from-turn-end.result + 1 - (c.turns._turn + 1)) c.turns.found.items c.in_ok-value.value (word_at c.args.tape.now.bytes.now c.in_ok-behind-2.field-0-0) (from c.args.tape.now c.turns.next)
-    (from c.args.tape.now c.in_ok-behind-2.behind) (from c.args.tape.now c.in_ok-value.behind) (search rules) (search rules) (search rules) in
+    let st = args_step (expr_in c.args.steps) (c.count_from-turn-end.result + 1 - (c.turns._turn + 1)) c.turns.found.items c.in_ok-value.value (first_word (from c.args.tape.now c.turns.next)) (from c.args.tape.now c.turns.next)
+    (from c.args.tape.now c.in-Some.behind) (from c.args.tape.now c.in_ok-value.behind) (search rules) (search rules) (search rules) in
     first_of (search rules, grind (arith, common_steps))
 
 pub more_args-returns : goal.more_args-returns

@@ -10,6 +10,9 @@ decreases-after_path l = 8 * l.steps + 4
 abbrev pub decreases-args_in : goal.decreases-args_in
 decreases-args_in l = 8 * l.steps + 3
 
+abbrev pub decreases-boxed_in : goal.decreases-boxed_in
+decreases-boxed_in l = 8 * l.steps + 1
+
 abbrev pub decreases-climb : goal.decreases-climb
 decreases-climb l = 8 * l.steps + 7
 

@@ -8,9 +8,9 @@ use Rattle.ulam_parse.proofs.Loops.{members_step}
 use Rattle.ulam_parse.proofs.Turns.{one_more, no_more}
 use Rattle.ulam_parse.proofs.item.members.Goals as goal
 
-pub returns-then-sees : goal.returns-then-sees
+pub returns-in-Some : goal.returns-in-Some
 unfolding members
-returns-then-sees c =
+returns-in-Some c =
     let e = one_more (λ n. with_front (map member_of c.turns.found.items) (members n (from c.args.tape.now c.turns.next))) _ c.turns._turn c.turns-test.true c.turns.invariant in
     first_of (search (rules), grind (arith, common_steps))
 

@@ -11,9 +11,9 @@ use Rattle.ulam_parse.proofs.statement.+statement.Goals as goal
 pub statement_in-returns-then-steps-eq0 : goal.statement_in-returns-then-steps-eq0
 statement_in-returns-then-steps-eq0 t c = first_of (search (rules, statement_tired), grind (arith, common_steps, statement_tired))
 
-pub body_in-returns-then-sees : goal.body_in-returns-then-sees
+pub body_in-returns-in-Some : goal.body_in-returns-in-Some
 unfolding body
-body_in-returns-then-sees t c =
+body_in-returns-in-Some t c =
     let e = one_more (λ n. with_body (body_list c.turns.found.items) (body (statement_in c.args.steps) n (from c.args.tape.now c.turns.next))) _ c.turns._turn c.turns-test.true c.turns.invariant in
     first_of (search (rules, body_none), grind (arith, common_steps, body_none))
 

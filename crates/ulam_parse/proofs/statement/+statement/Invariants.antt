@@ -13,6 +13,9 @@ decreases-block_rest l = 8 * l.steps + 6
 abbrev pub decreases-body_in : goal.decreases-body_in
 decreases-body_in l = 8 * l.steps + 5
 
+abbrev pub decreases-boxed_in : goal.decreases-boxed_in
+decreases-boxed_in l = 8 * l.steps + 1
+
 abbrev pub decreases-else_part : goal.decreases-else_part
 decreases-else_part l = 8 * l.steps + 5
 
