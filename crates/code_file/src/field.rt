@@ -3,7 +3,7 @@
 use sat_math::Kind;
 
 /// A field of an atom: its first bit, its width, and the kind of its number.
-#[derive(Clone, Copy, Debug, PartialEq, Eq)]
+#[derive(Clone, Copy)]
 pub struct Field {
     pub first: u8,
     pub width: u8,
