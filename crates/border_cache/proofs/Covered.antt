@@ -16,7 +16,7 @@ use Rattle.tile_map.specs.Tables.{sites_in, number_of}
 use Rattle.tile_map.proofs.Areas.{area_number}
 use Rattle.tile_map.proofs.Registers.{number_place}
 use Rattle.tile_map.proofs.Spans.{held_parts}
-use Rattle.border_cache.specs.News.{Covers, IsPlace}
+use Rattle.border_cache.specs.News.{Covers}
 use Rattle.border_cache.specs.Windows.{sites_on, place_in, place_among, place_at, edge_place, edge_place_some}
 
 -- shared site k is a live site of the window
@@ -88,15 +88,3 @@ whole_place m p a c e n same = go (shifted c.x (offset_of n).0) (shifted c.y (of
 -- a place is one of the edge's
 pub covered_few : (m : MapValue) → IsPlane m → (c : Site) (e k : ℕ) → Covers (place_in m c e) 41 k → k < sites_on m e
 covered_few m p c e k cov = let w = covered_in m p c e k cov in slice_get_within (shared_of m e) k w.0 w.1
-
-pub place_few : (m : MapValue) → IsPlane m → (c : Site) (e n : ℕ) → n < 41 → IsPlace (sites_on m e) (place_in m c e n)
-place_few m p c e n lt = go (place_in m c e n) refl
-  where
-    go : (o : Option ℕ) → place_in m c e n ≡ o → IsPlace (sites_on m e) o
-    go None is = tt
-    go (Some k) is = covered_few m p c e k (n, lt, is)
-
--- so is one of fewer than 576
-pub place_low : (sites : ℕ) (o : Option ℕ) → sites ≤ 576 → IsPlace sites o → IsPlace 576 o
-place_low sites None few h = tt
-place_low sites (Some k) few h = omega (arith, few, h)

@@ -7,7 +7,7 @@ use bit_field::Atom;
 use std::marker::Model;
 
 /// An atom and the stamp of the event that left it.
-#[derive(Clone, Copy, Debug, PartialEq, Eq)]
+#[derive(Clone, Copy)]
 pub(crate) struct Cell {
     stamp: u32,
     atom: Atom,

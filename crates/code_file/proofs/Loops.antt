@@ -1,7 +1,9 @@
 -- Loops that read a number byte by byte, or a list value by value.
 use Rattle.std.proofs.Common.{◌≡◌, ℕ, zero, suc, ◌+◌, ◌-◌, ◌<◌, ◌≤◌, true, false, cond, length, take, drop, get_or, length-drop, List, [], ◌∷◌, ◌++◌, Result, Ok, Err, sym, ap, ◌∙◌, subst, arith}
 use Rattle.std.specs.Result.{IsErrAnd}
-use Rattle.std.proofs.lemmas.List.{drop_all, drop_more, take_more}
+use Rattle.std.specs.List.{flat_map}
+use Rattle.std.proofs.lemmas.List.{append-nil, append_assoc, drop_all, drop_more, take_more}
+use Rattle.std.proofs.lemmas.Grind.{flat_map-append}
 use Rattle.code_file.specs.Reading.{Reader, ◌>>=◌, Fails, Gives, byte_at, digit_at, gather, number_from}
 use Rattle.code_file.specs.Words.{stands}
 use Rattle.code_file.specs.declared.names.NameForm.{NameForm}
@@ -90,3 +92,12 @@ letters_done form count i bytes front back total low high f b so_far =
     let k : i ≡ count = omega arith in
     values_done (λ (before : List ℕ) (left : ℕ). byte_at (stands form before left)) count i (take i bytes) (drop i bytes) total low so_far
     ∙ (λ j. Ok ((ap (λ n. take n bytes) k ∙ sym f) j, (ap (λ n. drop n bytes) k ∙ sym b) j))
+
+-- one more value of a list is written
+pub bytes_more : {X : Type 0} (spell : X → List ℕ) (i : ℕ) (xs : List X) (old out new : List ℕ) (d : X) → i < length xs → new ≡ out ++ spell (get_or xs i d) → out ≡ old ++ flat_map spell (take i xs)
+    → new ≡ old ++ flat_map spell (take (i + 1) xs)
+bytes_more spell i xs old out new d lt e so_far =
+    let one : flat_map spell (get_or xs i d ∷ []) ≡ spell (get_or xs i d) = append-nil (spell (get_or xs i d)) in
+    let next : flat_map spell (take (i + 1) xs) ≡ flat_map spell (take i xs) ++ spell (get_or xs i d) =
+    ap (flat_map spell) (take_more xs i d lt) ∙ flat_map-append spell (take i xs) (get_or xs i d ∷ []) ∙ ap (λ z. flat_map spell (take i xs) ++ z) one in
+    e ∙ ap (λ z. z ++ spell (get_or xs i d)) so_far ∙ append_assoc old (flat_map spell (take i xs)) (spell (get_or xs i d)) ∙ ap (λ z. old ++ z) (sym next)

@@ -32,7 +32,8 @@ impl Model for Draft {
 fn element(alloc: Global, most: u16, kind: u16, bytes: &[u8]) -> Result<(Draft, &[u8]), Halt>
     ensures { Gives (λ x. (x.0, x.1.now)) result (element_at most kind bytes.now) }
 {
-    let (name, rest) = name(alloc, NameForm::OfElement, bytes)?;
+    let (name, rest) = name(NameForm::OfElement, bytes)?;
+    let name = Name::new(alloc, name)?;
     let (functions, rest) = functions(alloc, rest)?;
     let (instrs, rest) = instrs(alloc, most, rest)?;
     let code = RawCode::new(kind, functions, instrs);

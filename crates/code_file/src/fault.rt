@@ -4,7 +4,7 @@ use feast_base::NoMemory;
 use std::alloc::{AllocError, AllocFailed};
 
 /// Why bytes are not a code file. The number is the position of a byte, counted from 1.
-#[derive(Clone, Copy, Debug, PartialEq, Eq)]
+#[derive(Clone, Copy)]
 pub enum CodeFault {
     /// The first 8 bytes are wrong or missing (61).
     BadMagic,

@@ -5,6 +5,7 @@ ghost use Rattle.code_file.specs.Reading.{Gives, answer_at, answer_of, function_
 use crate::halt::Halt;
 use crate::names::{NameForm, name};
 use crate::numbers::number;
+use feast_base::Name;
 use stack_code::{Answer, Operand, RawFunction};
 use std::alloc::Global;
 
@@ -78,12 +79,13 @@ fn slots(alloc: Global, bytes: &[u8]) -> Result<(Vec<Operand>, &[u8]), Halt>
 fn function(alloc: Global, bytes: &[u8]) -> Result<(RawFunction, &[u8]), Halt>
     ensures { Gives (λ x. (x.0, x.1.now)) result (function_at bytes.now) }
 {
-    let (name, rest) = name(alloc, NameForm::OfFunction, bytes)?;
+    let (name, rest) = name(NameForm::OfFunction, bytes)?;
     let (base, rest) = number(rest, 1, 0, 71)?;
     let (first, rest) = number(rest, 4, 0, 4_294_967_295)?;
     let (params, rest) = number(rest, 1, 0, 8)?;
     let (answer, rest) = answer(rest)?;
     let (slots, rest) = slots(alloc, rest)?;
+    let name = Name::new(alloc, name)?;
     let function = RawFunction::new(
         name,
         base as u32,

@@ -4,7 +4,7 @@ use feast_base::NoMemory;
 use std::alloc::{AllocError, AllocFailed};
 
 /// Why reading stops.
-#[derive(Clone, Copy, Debug, PartialEq, Eq)]
+#[derive(Clone, Copy)]
 pub enum Halt {
     /// Memory ran out.
     NoMemory,

@@ -5,8 +5,7 @@ ghost use Rattle.code_file.specs.Words.{follows, may_end, stands, starts};
 
 use crate::halt::Halt;
 use crate::numbers::number;
-use feast_base::{LONGEST_NAME, Name, is_word_byte};
-use std::alloc::Global;
+use feast_base::{LONGEST_NAME, is_word_byte};
 use ulam_lex::is_keyword;
 
 /// The form of a name.
@@ -77,12 +76,11 @@ fn letters(form: NameForm, bytes: &[u8], count: usize) -> Result<(&[u8], &[u8]),
     Ok(bytes.split_at(count))
 }
 
-/// A name after its length, and the remaining bytes.
+/// The bytes of a name after their count, and the remaining bytes.
 #[tactic(auto, unfolding(crate::specs::Reading::name_at))]
-pub fn name(alloc: Global, form: NameForm, bytes: &[u8]) -> Result<(Name, &[u8]), Halt>
-    ensures { Gives (λ x. (x.0, x.1.now)) result (name_at form bytes.now) }
+pub fn name(form: NameForm, bytes: &[u8]) -> Result<(&[u8], &[u8]), Halt>
+    ensures { Gives (λ x. (x.0.now, x.1.now)) result (name_at form bytes.now) }
 {
     let (count, rest) = number(bytes, 4, 1, LONGEST_NAME as u64)?;
-    let (text, rest) = letters(form, rest, count as usize)?;
-    Ok((Name::new(alloc, text)?, rest))
+    letters(form, rest, count as usize)
 }

@@ -1,9 +1,9 @@
 //! Writing code files.
-ghost use Rattle.std.specs.Prelude.{◌≡◌, length};
+ghost use Rattle.std.specs.Prelude.{◌≡◌, ◌++◌, length};
 ghost use Rattle.std.specs.List.{flat_map};
 ghost use Rattle.feast_base.specs.Appending.{Appends};
 ghost use Rattle.code_file.specs.Form.{answer_code, element, element_bytes, elements, file_bytes, function_bytes, operand_code, slot_bytes};
-ghost use Rattle.code_file.specs.Numbers.{counted};
+ghost use Rattle.code_file.specs.Numbers.{be, counted, name_bytes};
 
 use crate::magic::MAGIC;
 use crate::written_instrs::{push_byte, push_instrs};
@@ -51,13 +51,20 @@ fn push_slots(out: &mut Vec<u8>, slots: &[Operand]) -> Result<(), NoMemory>
     push_each_slot(out, slots)
 }
 
+/// Appends a function's name, its base and its first place.
+fn push_head(out: &mut Vec<u8>, function: &RawFunction) -> Result<(), NoMemory>
+    ensures { Appends out.old.items out.new.items result (name_bytes function.now.name ++ (be 1 function.now.base ++ be 4 function.now.first)) }
+{
+    push_name(out, function.name())?;
+    push_number(out, u128::from(function.base()), 1)?;
+    push_number(out, u128::from(function.first()), 4)
+}
+
 /// Appends a function.
 fn push_function(out: &mut Vec<u8>, function: &RawFunction) -> Result<(), NoMemory>
     ensures { Appends out.old.items out.new.items result (function_bytes function.now) }
 {
-    push_name(out, function.name())?;
-    push_number(out, u128::from(function.base()), 1)?;
-    push_number(out, u128::from(function.first()), 4)?;
+    push_head(out, function)?;
     push_number(out, u128::from(function.params()), 1)?;
     push_byte(out, answer_code(function.answer()))?;
     push_slots(out, function.slots())

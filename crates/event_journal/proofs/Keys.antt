@@ -1,11 +1,11 @@
 -- The first records of the logs, by their keys.
-use Rattle.std.proofs.Common.{ℕ, zero, suc, ◌≡◌, ◌≢◌, ◌≤◌, ◌<◌, ◌+◌, ◌*◌, ◌%◌, ◌==◌, Bool, true, false, List, [], ◌∷◌, length, map, drop, Some, None, All, refl, sym, ap, subst, arith, ◌∙◌, get_or, set, inl, inr, eqb-true, ltb-true}
+use Rattle.std.proofs.Common.{ℕ, zero, suc, ◌≡◌, ◌≢◌, ◌≤◌, ◌<◌, ◌+◌, ◌*◌, ◌%◌, ◌==◌, Bool, true, false, List, [], ◌∷◌, ◌++◌, length, map, drop, Some, None, All, refl, sym, ap, subst, arith, ◌∙◌, get_or, set, inl, inr, eqb-true, ltb-true}
 use Rattle.std.specs.Prelude.{nat_lt, slice_get}
 use denote.Ref.{Bor}
 use Rattle.std.specs.List.{range_with_len}
 use Rattle.std.proofs.lemmas.Bool.Decides.{nat_tests}
 use Rattle.std.proofs.lemmas.Nat.{mod-mul-add}
-use Rattle.std.proofs.lemmas.List.{length-set, get_or-set_same, get_or-set_other}
+use Rattle.std.proofs.lemmas.List.{append_assoc, drop_more, map-append, length-set, get_or-set_same, get_or-set_other}
 use Rattle.std.proofs.lemmas.List.Elements.{All-head, All-tail}
 use Rattle.cell_grid.specs.declared.record.Record.{Record}
 use Rattle.event_journal.specs.Keys.{AreKeys, AreOwn, IsKey, closed, lists_behind}
@@ -218,3 +218,12 @@ keys_of_all refs keys items k is count le ge each = record {
   count = let long = behind_long refs in omega (arith, ap length is, count, le, ge, long);
   each = λ j lt. subst (λ ks. IsKey j (get_or (lists_behind refs) j []) (get_or ks j 0)) (sym is) (each j (let long = behind_long refs in omega (arith, lt, long, ge, le)));
 }
+
+-- one more log is among those that are left
+pub lefts_more : (done new : List (Bor (List Record))) (left : Bor (List Record)) (i : ℕ) (logs : List LogValue) (log : LogValue) (whole : List (List Record)) → i < length logs → log ≡ get_or logs i log → left.now ≡ records_of log
+    → new ≡ done ++ left ∷ [] → lists_behind done ++ map records_of (drop i logs) ≡ whole → lists_behind new ++ map records_of (drop (i + 1) logs) ≡ whole
+lefts_more done new left i logs log whole lt is own e so_far =
+    let rest = map records_of (drop (i + 1) logs) in
+    let next : map records_of (drop i logs) ≡ left.now ∷ rest = ap (map records_of) (drop_more logs i log lt) ∙ ap (λ l. records_of l ∷ rest) (sym is) ∙ ap (λ r. r ∷ rest) (sym own) in
+    ap (λ l. lists_behind l ++ rest) e ∙ ap (λ l. l ++ rest) (map-append (λ (b : Bor (List Record)). b.now) done (left ∷ []))
+    ∙ append_assoc (lists_behind done) (left.now ∷ []) rest ∙ ap (λ l. lists_behind done ++ l) (sym next) ∙ so_far

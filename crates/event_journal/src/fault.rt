@@ -6,7 +6,7 @@ use feast_base::NoMemory;
 use std::alloc::{AllocError, AllocFailed};
 
 /// Why a text is not a journal, with the number of the line, from 1.
-#[derive(Clone, Copy, Debug, PartialEq, Eq)]
+#[derive(Clone, Copy)]
 pub enum JournalFault {
     /// A line does not have the form that is due, a count does not agree, a line is missing, or
     /// there is one too many (80). If a line is missing, the number is that of the line after the
@@ -25,7 +25,7 @@ pub enum JournalFault {
 }
 
 /// What is wrong with a line.
-#[derive(Clone, Copy, Debug, PartialEq, Eq)]
+#[derive(Clone, Copy)]
 pub enum LineFault {
     /// It does not have the form that is due.
     BadForm,

@@ -14,7 +14,7 @@ use draw_stream::Attempt;
 use tile_map::Map;
 
 /// The columns and rows of a plane, and how many sites a tile has.
-#[derive(Clone, Copy, Debug)]
+#[derive(Clone, Copy)]
 pub(crate) struct Extent {
     pub(crate) width: u32,
     pub(crate) height: u32,

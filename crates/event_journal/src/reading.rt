@@ -14,7 +14,7 @@ use cell_grid::Record;
 use tile_map::Map;
 
 /// What the next line has to be, and how many more lines of its kind come after it.
-#[derive(Clone, Copy, Debug, PartialEq, Eq)]
+#[derive(Clone, Copy)]
 pub(crate) enum Wants {
     Header,
     AtomCount,

@@ -13,7 +13,7 @@ pub enum Ended {
 }
 
 /// What follows an instruction.
-#[derive(Clone, Copy, Debug, PartialEq, Eq)]
+#[derive(Clone, Copy)]
 pub enum Leads {
     /// Another instruction.
     On,

@@ -182,11 +182,13 @@ impl Machine {
         requires place { self.old.place + 1 < 2 ^ 64 }
         ensures { StepsTo (onward self.old (work kind (sort i.now) self.old.held)) self.new result }
     {
-        let leads = plain(&mut self.running, kind, i);
-        if leads == Leads::On {
-            self.place += 1;
+        match plain(&mut self.running, kind, i) {
+            Leads::On => {
+                self.place += 1;
+                Leads::On
+            }
+            stopped => stopped,
         }
-        leads
     }
 
     /// Does an instruction.

@@ -1,6 +1,7 @@
 -- Workers sent out and taken apart one by one.
-use Rattle.std.proofs.Common.{◌≡◌, ℕ, ◌<◌, ◌≤◌, List, [], ◌∷◌, ◌++◌, length, get_or, refl, sym, ap, ◌∙◌, subst, arith, length-append}
+use Rattle.std.proofs.Common.{◌≡◌, ℕ, ◌<◌, ◌≤◌, List, [], ◌∷◌, ◌++◌, Result, Ok, Err, length, get_or, refl, sym, ap, ◌∙◌, subst, arith, length-append}
 use Rattle.std.specs.Prelude.{slice_index_or}
+use Rattle.std.specs.Result.{IfOk, IsErr}
 use Rattle.std.proofs.lemmas.List.{append_assoc, get_or_append_left}
 use mathlib.Core.Logic.{dite}
 use native.Mathlib.Decide.{ℕ_discrete}
@@ -21,6 +22,11 @@ pub record HaveComeSoFar {B : Type 0} (m : MapValue) (workers : List (Worker B S
 last_passes : (ps : List (List PassValue)) (p : List PassValue) → passes_of (ps ++ p ∷ []) (length ps) ≡ p
 last_passes [] p = refl
 last_passes (q ∷ ps) p = last_passes ps p
+
+-- nothing is said of what failed
+pub nothing_said : {A E : Type 0} (P : A → Type 0) (r : Result A E) → IsErr r → IfOk r P
+nothing_said P (Ok x) failed = cc
+nothing_said P (Err e) failed = tt {0}
 
 -- one more has come home
 pub comes_home : {B : Type 0} (m : MapValue) (ws : List (Worker B SharedEndValue)) (ps : List (List PassValue)) (w : Worker B SharedEndValue) (p : List PassValue) → HaveComeSoFar m ws ps → length ps < length ws → ((none : Worker B SharedEndValue) → get_or ws (length ps) none ≡ w)

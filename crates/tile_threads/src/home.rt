@@ -25,7 +25,7 @@ pub(crate) fn send_out<'a, B: Behave + Drop>(
     requires passes { All (All (IsPassOf edges.now)) passes.items }
     ensures { IfOk result (λ v. v.items ≡ workers_of tiles.items passes.items) }
 {
-    let mut workers = Vec::with_capacity(alloc, tiles.len())?;
+    let mut workers = Vec::new(alloc);
     let mut passes = passes.into_iter();
     for tile in tiles {
         let Some(own) = passes.next() else {
@@ -75,8 +75,8 @@ pub(crate) fn come_home<'a, B: Behave + Drop>(
     ensures tiles { IfOk result (λ r. r.0.items ≡ tiles_in workers.entry.items) }
     ensures passes { IfOk result (λ r. HaveComeHome map.now workers.entry.items r.1.items) }
 {
-    let mut tiles = Vec::with_capacity(alloc, workers.len())?;
-    let mut passes = Vec::with_capacity(alloc, workers.len())?;
+    let mut tiles = Vec::new(alloc);
+    let mut passes = Vec::new(alloc);
     for worker in workers {
         let (tile, own) = take_apart(map, worker);
         tiles.push(tile)?;

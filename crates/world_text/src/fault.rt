@@ -4,7 +4,7 @@ use feast_base::NoMemory;
 use std::alloc::{AllocError, AllocFailed};
 
 /// Why a text is not a world, with the number of the line, from 1.
-#[derive(Clone, Copy, Debug, PartialEq, Eq)]
+#[derive(Clone, Copy)]
 pub enum WorldFault {
     /// The first line is not one of the headers, or there is no line (70).
     BadHeader(u64),

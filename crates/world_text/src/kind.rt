@@ -8,7 +8,7 @@ use crate::fault::WorldFault;
 use crate::line::Line;
 
 /// The kind of a line of a world, or `Start` if there is no line before.
-#[derive(Clone, Copy, Debug, PartialEq, Eq)]
+#[derive(Clone, Copy)]
 pub(crate) enum Kind {
     Start,
     Header,

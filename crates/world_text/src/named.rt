@@ -154,7 +154,6 @@ fn world(alloc: Global, raw: RawWorld, names: &[Name]) -> Result<World, WorldFau
 /// their type numbers. `UnknownElement` at the first `atom` line whose name no element has, and
 /// `SiteTaken` at the first whose site an earlier one has, whichever comes first. `NoMemory` if
 /// there is none for the world.
-#[tactic(auto, using(crate::proofs::Prints::named_of, crate::proofs::Prints::valid_of))]
 pub fn name(alloc: Global, raw: RawWorld, names: &[Name]) -> Result<World, WorldFault>
     requires { length names.now ≤ 65535 }
     ensures world { Names names.now raw result }

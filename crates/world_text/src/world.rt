@@ -4,7 +4,7 @@ use bit_field::Atom;
 use draw_stream::AttemptPlan;
 
 /// An atom and its site.
-#[derive(Clone, Copy, Debug, PartialEq, Eq)]
+#[derive(Clone, Copy)]
 pub struct Placed {
     /// The column.
     pub x: u32,

@@ -1,7 +1,10 @@
-use Rattle.std.proofs.Common.{arith}
+use Rattle.std.proofs.Common.{◌∙◌, arith, cond, false}
+use Rattle.std.proofs.lemmas.List.{length-set}
+use Rattle.bit_field.specs.Atom.{empty_atom}
 use Rattle.tile_map.specs.Plane.{site}
 use Rattle.border_cache.specs.Copies.{window_cells}
-use Rattle.border_cache.proofs.Views.{window_valid}
+use Rattle.border_cache.specs.Windows.{is_shown}
+use Rattle.border_cache.proofs.Views.{one_more, window_valid}
 use Rattle.border_cache.proofs.view.view_of.Goals as goal
 
 pub new-requires : goal.new-requires
@@ -9,3 +12,16 @@ new-requires c =
     let v = c.loop-n.invariant in
     window_valid c.args.map.now (site c.args.x c.args.y) c.loop-n.atoms c.loop-n.live (window_cells c.args.cache.now (site c.args.x c.args.y)) c.requires.live v.long v.wide
     (λ j lt. v.marks j (omega (arith, lt, c.loop-n-test.false))) (λ j lt. v.shows j (omega (arith, lt, c.loop-n-test.false)))
+
+pub loop-n-preserved : goal.loop-n-preserved
+loop-n-preserved c =
+    let v = c.loop-n.invariant in
+    let n = c.loop-n.n in
+    let here = site c.args.x c.args.y in
+    let shown = is_shown c.args.map.now here in
+    record {
+      long = length-set c.loop-n.atoms n c.shown-atom.result.0 ∙ v.long;
+      wide = length-set c.loop-n.live n c.shown-atom.result.1 ∙ v.wide;
+      marks = one_more c.loop-n.live false c.shown-atom.result.1 shown n (let w = v.wide in omega (arith, w, c.loop-n-test.true)) c.shown-atom.ensures.live v.marks;
+      shows = one_more c.loop-n.atoms empty_atom c.shown-atom.result.0 (λ j. cond (shown j) (window_cells c.args.cache.now here j).atom empty_atom) n (let l = v.long in omega (arith, l, c.loop-n-test.true)) c.shown-atom.ensures.atom v.shows;
+    }

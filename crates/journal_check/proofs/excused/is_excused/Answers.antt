@@ -9,6 +9,31 @@ use Rattle.journal_check.proofs.excused.is_excused.Goals as goal
 pub joins-requires : goal.joins-requires
 joins-requires c = let g = c.args.entry.now in needs_known c.args.map.now g.tile (site g.x g.y) g.edge (sym c.needs_edge.ensures ∙ c.if-not-needs_edge.false)
 
+pub returns-then-not-needs_edge : goal.returns-then-not-needs_edge
+returns-then-not-needs_edge c = (
+  (λ q. cc),
+  (λ h.
+      let yes = c.needs_edge.ensures ∙ h.needs in
+      let no = c.if-not-needs_edge.true in cc),
+)
+
+pub returns-then-not-joins : goal.returns-then-not-joins
+returns-then-not-joins c = (
+  (λ q. cc),
+  (λ h.
+      let yes = c.joins.ensures.joins.1 h.ends in
+      let no = c.if-not-joins.true in cc),
+)
+
+pub returns-then-not-was_held : goal.returns-then-not-was_held
+returns-then-not-was_held c =
+    let g = c.args.entry.now in (
+      (λ q. cc),
+      (λ h.
+          let yes = c.was_held.ensures.1 (subst (λ (l : List Mark). WasHeld c.args.map.now l c.args.abandoned.now g) (sym c.marks_at-other.ensures.value) h.held) in
+          let no = c.if-not-was_held.true in cc),
+    )
+
 pub returns-then-not-are_apart : goal.returns-then-not-are_apart
 returns-then-not-are_apart c = (
   (λ q. cc),

@@ -5,13 +5,25 @@ use Rattle.tile_threads.specs.declared.worker.Worker.{Worker}
 use Rattle.edge_lock.proofs.HistorySteps.{all-head, all-tail}
 use Rattle.tile_threads.specs.Whole.{IsDone, tiles_in}
 use Rattle.tile_threads.proofs.Shutting.{next_of}
-use Rattle.tile_threads.proofs.Homing.{HaveComeSoFar, comes_home}
+use Rattle.tile_threads.proofs.Homing.{HaveComeSoFar, comes_home, nothing_said}
 use Rattle.tile_threads.proofs.home.come_home.Goals as goal
 
 pub take_apart-tile-requires : goal.take_apart-tile-requires
 take_apart-tile-requires g c =
     let P = λ (w : Worker g.row.B.Denot SharedEndValue). IsDone c.args.map.now w.tile.core (shared_end w.end) in
     all-head P c.in-Some.worker c.next.new.self.rest.items (subst (All P) c.in-Some.ensures.steps.0 c.loop-worker.invariant.done)
+
+pub returns-in_err-push-clause-tiles : goal.returns-in_err-push-clause-tiles
+returns-in_err-push-clause-tiles g c = nothing_said _ c.from_residual.result c.from_residual.ensures.0
+
+pub returns-in_err-push-clause-passes : goal.returns-in_err-push-clause-passes
+returns-in_err-push-clause-passes g c = nothing_said _ c.from_residual.result c.from_residual.ensures.0
+
+pub returns-in_err-push-2-clause-tiles : goal.returns-in_err-push-2-clause-tiles
+returns-in_err-push-2-clause-tiles g c = nothing_said _ c.from_residual-in_err-push-2.result c.from_residual-in_err-push-2.ensures.0
+
+pub returns-in_err-push-2-clause-passes : goal.returns-in_err-push-2-clause-passes
+returns-in_err-push-2-clause-passes g c = nothing_said _ c.from_residual-in_err-push-2.result c.from_residual-in_err-push-2.ensures.0
 
 pub loop-worker-preserved : goal.loop-worker-preserved
 loop-worker-preserved g c =

@@ -3,13 +3,16 @@ use Rattle.std.specs.Prelude.{All}
 use Rattle.edge_lock.specs.SharedEnds.{IsPassOf, shared_end_value}
 use Rattle.edge_lock.proofs.HistorySteps.{all-head, all-tail}
 use Rattle.tile_threads.specs.Whole.{workers_of}
-use Rattle.tile_threads.proofs.Homing.{sent_more}
+use Rattle.tile_threads.proofs.Homing.{nothing_said, sent_more}
 use Rattle.tile_threads.proofs.home.send_out.Goals as goal
 
 pub new-requires : goal.new-requires
 new-requires g c =
     let P = IsPassOf c.args.edges.now in
     subst (All P) (sym c.into_vec.ensures) (all-head (All P) c.in-Some-next.own c.next-in-loop-tile.new.self.rest.items (subst (All (All P)) c.in-Some-next.ensures.items c.loop-tile.invariant.stand))
+
+pub returns-in_err-push : goal.returns-in_err-push
+returns-in_err-push g c = nothing_said _ c.from_residual.result c.from_residual.ensures.0
 
 pub loop-tile-preserved : goal.loop-tile-preserved
 loop-tile-preserved g c =

@@ -2,7 +2,7 @@ use Rattle.std.proofs.Common.{List, [], ◌∷◌, ◌++◌, ◌≤◌, ◌∙�
 use Rattle.world_text.specs.declared.world.Placed.{Placed}
 use Rattle.std.specs.List.{list_any}
 use Rattle.feast_base.specs.Appending.{Appends}
-use Rattle.feast_base.proofs.Appending.{Appends-then}
+use Rattle.feast_base.proofs.Appending.{Appends-at_exit, Appends-then, more_after}
 use Rattle.world_text.proofs.Prints.{named_prints, parts_joined}
 use Rattle.world_text.specs.Line.{Line, header, tiles, size}
 use Rattle.world_text.specs.Printed.{atom_line, lines_text, off_lines, order_lines, plan_lines}
@@ -15,6 +15,20 @@ push_plan-requires c = let p = named_prints c.args.names.now c.requires.0 (world
 pub push_atoms-requires : goal.push_atoms-requires
 push_atoms-requires c = let p = named_prints c.args.names.now c.requires.0 (world_value c.args.world.now) c.requires.1 c.requires.2 in
     subst (All (λ (p : Placed). (1 ≤ p.atom.kind) × (p.atom.kind ≤ length c.args.names.now))) (sym c.as_slice-2.ensures.value) p.atoms
+
+pub returns-in_err-push_off : goal.returns-in_err-push_off
+returns-in_err-push_off c =
+    Appends-at_exit _ c.args.out.now.items _ _ _ c.from_residual-in_err-push_off.result c.from_residual-in_err-push_off.ensures.1 (_, c.in_ok-push_plane.ensures) c.in_err-push_off.ensures
+
+pub returns-in_err-push_plan : goal.returns-in_err-push_plan
+returns-in_err-push_plan c =
+    Appends-at_exit _ c.args.out.now.items _ _ _ c.from_residual-in_err-push_plan.result c.from_residual-in_err-push_plan.ensures.1
+    (more_after _ _ _ (_, c.in_ok-push_plane.ensures) (_, c.in_ok-push_off.ensures)) c.in_err-push_plan.ensures
+
+pub returns-in_err-push_atoms : goal.returns-in_err-push_atoms
+returns-in_err-push_atoms c =
+    Appends-at_exit _ c.args.out.now.items _ _ _ c.from_residual-in_err-push_atoms.result c.from_residual-in_err-push_atoms.ensures.1
+    (more_after _ _ _ (more_after _ _ _ (_, c.in_ok-push_plane.ensures) (_, c.in_ok-push_off.ensures)) (_, c.in_ok-push_plan.ensures)) c.in_err-push_atoms.ensures
 
 pub returns : goal.returns
 returns c =
