@@ -3,7 +3,7 @@
 use ulam_tree::{PairOp, PrefixOp};
 
 /// What a token is to the grammar: its kind, and for keywords and signs which one.
-#[derive(Clone, Copy, PartialEq, Eq)]
+#[derive(Clone, Copy)]
 pub enum Symbol {
     /// A name.
     Name,
