@@ -1,4 +1,5 @@
 //! Planes some tiles of which are off.
+ghost use Rattle.std.specs.Prelude.{◌≡◌, ◌*◌, IfOk};
 
 use crate::planes::{assert_needs, assert_registers, told};
 use feast_base::NoMemory;
@@ -6,7 +7,9 @@ use std::alloc::Global;
 use tile_map::Map;
 
 /// Three tiles in a row, the middle one off.
-fn row(alloc: Global) -> Result<Map, NoMemory> {
+fn row(alloc: Global) -> Result<Map, NoMemory>
+    ensures { IfOk result (λ m. (m.tx * m.w ≡ 24) × (m.ty * m.h ≡ 8)) }
+{
     Map::with_off(alloc, 3, 1, 8, 8, &[false, true, false])
 }
 
@@ -15,7 +18,7 @@ fn a_tile_that_is_off_has_no_edge(rt: HostRuntime) -> Result<(), NoMemory> {
     let map = row(rt.alloc())?;
     assert_eq!(rt; (map.tiles(), map.edges()), (3, 0));
     assert!(rt; map.is_on(0) && !map.is_on(1) && map.is_on(2));
-    assert_needs(&rt, &map, &[(0, 7, 4, &[])]);
+    assert_needs(&rt, &map, (24, 8), &[(0, 7, 4, &[])]);
     Ok(())
 }
 
@@ -234,17 +237,16 @@ fn corners_that_are_off_take_their_strips_along(rt: HostRuntime) -> Result<(), N
         let map = Map::with_off(rt.alloc(), 3, 3, 8, 8, &off)?;
         let [middle, east, north] = corners.needs;
         assert!(rt; share(&map, &corners.shared), "{off:?}");
-        assert_needs(
-            &rt,
-            &map,
-            &[(4, 8, 8, middle), (4, 15, 11, east), (1, 8, 6, north)],
-        );
+        let wanted = [(4, 8, 8, middle), (4, 15, 11, east), (1, 8, 6, north)];
+        assert_needs(&rt, &map, (24, 24), &wanted);
     }
     Ok(())
 }
 
 /// Nine tiles, the first of which is off.
-fn nine(alloc: Global) -> Result<Map, NoMemory> {
+fn nine(alloc: Global) -> Result<Map, NoMemory>
+    ensures { IfOk result (λ m. (m.tx * m.w ≡ 24) × (m.ty * m.h ≡ 24)) }
+{
     let off = [true, false, false, false, false, false, false, false, false];
     Map::with_off(alloc, 3, 3, 8, 8, &off)
 }
@@ -280,6 +282,7 @@ fn windows_reach_out_of_a_tile_that_is_off(rt: HostRuntime) -> Result<(), NoMemo
         (4, 0, 0, &[]),
         (0, 4, 4, &[]),
     ];
-    assert_needs(&rt, &nine(rt.alloc())?, &wanted);
+    let map = nine(rt.alloc())?;
+    assert_needs(&rt, &map, (24, 24), &wanted);
     Ok(())
 }
