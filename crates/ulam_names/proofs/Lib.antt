@@ -13,6 +13,7 @@ pub mod Members
 pub mod Open
 pub mod Opened
 pub mod Outcomes
+pub mod Paths
 pub mod Programs
 pub mod Rounds
 pub mod Rows

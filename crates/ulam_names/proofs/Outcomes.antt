@@ -1,5 +1,5 @@
 -- Answers with the next free slot beside them.
-use Rattle.std.proofs.Common.{◌≡◌, ℕ, ◌≤◌, sym, ap, subst, ◌∙◌, List, length, take, Result, Ok, Err, Vec, Global, arith}
+use Rattle.std.proofs.Common.{◌≡◌, ℕ, sym, ap, subst, ◌∙◌, length, take, Result, Ok, Err, Vec, Global, arith}
 use Rattle.std.specs.Prelude.{IsErr, IsErrAnd}
 use Rattle.std.proofs.lemmas.List.{take_all}
 use Rattle.ulam_names.specs.declared.fault.NameFault.{NameFault}

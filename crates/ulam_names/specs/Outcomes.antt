@@ -1,5 +1,5 @@
 -- What the functions over statements answer: what the walk finds, with the next free slot, and the entries after it.
-use Rattle.std.specs.Prelude.{ℕ, ◌≡◌, ◌≤◌, List, length, take, Result, Ok, Err, Vec}
+use Rattle.std.specs.Prelude.{ℕ, ◌≡◌, ◌≤◌, length, take, Result, Ok, Err, Vec}
 use Rattle.std.specs.Global.{Global}
 use Rattle.ulam_names.specs.declared.fault.NameFault.{NameFault}
 use Rattle.ulam_names.specs.declared.scope.Entry.{Entry}

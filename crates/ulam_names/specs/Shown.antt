@@ -1,5 +1,5 @@
 -- What the values of the code stand for, and the words in which a contract compares an answer with the walk.
-use Rattle.std.specs.Prelude.{ℕ, List, [], ◌∷◌, map, take, length, ◌++◌, ◌≡◌, Result, Ok, Err, Bool, true, false, Vec, Option}
+use Rattle.std.specs.Prelude.{ℕ, List, [], ◌∷◌, map, take, length, ◌++◌, ◌≡◌, Result, Ok, Err, Bool, true, false, Vec}
 use Rattle.std.specs.Global.{Box, Global}
 use Rattle.std.specs.Box.{box_value}
 use Rattle.ulam_names.specs.declared.fault.NameFault.{NameFault}
@@ -21,7 +21,7 @@ use Rattle.ulam_tree.specs.Raw as t
 use Rattle.ulam_tree.specs.Resolved as r
 use Rattle.ulam_tree.specs.declared.resolved.Expr.{Expr}
 use Rattle.ulam_tree.specs.declared.resolved.Statement.{Statement}
-use Rattle.ulam_tree.specs.ResolvedViews.{resolved_expr, resolved_statement, resolved_body, resolved_part}
+use Rattle.ulam_tree.specs.ResolvedViews.{resolved_expr, resolved_statement, resolved_body}
 use Rattle.ulam_names.specs.Scopes as s
 use Rattle.ulam_names.specs.Scopes.{names_of}
 
