@@ -50,19 +50,29 @@ fn add(todo: &mut Vec<usize>, number: Option<usize>) -> Result<(), NoMemory> {
     Ok(())
 }
 
+/// Finds the classes of these chains, from those that are to do on.
+fn go_through(
+    chains: &Chains,
+    found: &mut Vec<usize>,
+    todo: &mut Vec<usize>,
+) -> Result<(), NoMemory> {
+    'turns: for _turn in 0..chains.next.len() {
+        let Some(class) = todo.pop() else {
+            return Ok(());
+        };
+        found.push(class)?;
+        add(todo, base_in(chains.next.as_slice(), class))?;
+        add(todo, base_in(chains.first.as_slice(), class))?;
+    }
+    Ok(())
+}
+
 /// The classes in an order in which right after each come its heirs, each with its own.
 pub fn tree_order(alloc: Global, bases: &[Option<usize>]) -> Result<Vec<usize>, NoMemory> {
     let chains = heir_chains(alloc, bases)?;
     let mut found = Vec::new(alloc);
     let mut todo = Vec::new(alloc);
     add(&mut todo, base_in(chains.first.as_slice(), bases.len()))?;
-    'turns: for _turn in 0..bases.len() {
-        let Some(class) = todo.pop() else {
-            return Ok(found);
-        };
-        found.push(class)?;
-        add(&mut todo, base_in(chains.next.as_slice(), class))?;
-        add(&mut todo, base_in(chains.first.as_slice(), class))?;
-    }
+    go_through(&chains, &mut found, &mut todo)?;
     Ok(found)
 }

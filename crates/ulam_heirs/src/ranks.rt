@@ -44,26 +44,37 @@ fn lose_heir(counts: &mut Vec<usize>, class: usize) -> bool {
     }
 }
 
-/// Ranks by which a base is above its heirs. A class on a ring has the number of classes as its
-/// rank, and all others have lower ones.
-pub fn ranks(alloc: Global, bases: &[Option<usize>]) -> Result<Vec<usize>, NoMemory> {
-    let mut ranks = Vec::from_elem(alloc, bases.len(), bases.len())?;
-    let mut counts = heir_counts(alloc, bases)?;
-    let mut order = without_heirs(alloc, counts.as_slice())?;
+/// Ranks the classes that are in order, and each base after its last heir.
+fn rank_all(
+    bases: &[Option<usize>],
+    ranks: &mut Vec<usize>,
+    counts: &mut Vec<usize>,
+    order: &mut Vec<usize>,
+) -> Result<(), NoMemory> {
     'turns: for turn in 0..bases.len() {
         let Some(class) = order.get(turn) else {
-            return Ok(ranks);
+            return Ok(());
         };
         let class = *class;
         if let Some(rank) = ranks.get_mut(class) {
             *rank = turn;
         }
         if let Some(base) = base_in(bases, class) {
-            if lose_heir(&mut counts, base) {
+            if lose_heir(counts, base) {
                 order.push(base)?;
             }
         }
     }
+    Ok(())
+}
+
+/// Ranks by which a base is above its heirs. A class on a ring has the number of classes as its
+/// rank, and all others have lower ones.
+pub fn ranks(alloc: Global, bases: &[Option<usize>]) -> Result<Vec<usize>, NoMemory> {
+    let mut counts = heir_counts(alloc, bases)?;
+    let mut order = without_heirs(alloc, counts.as_slice())?;
+    let mut ranks = Vec::from_elem(alloc, bases.len(), bases.len())?;
+    rank_all(bases, &mut ranks, &mut counts, &mut order)?;
     Ok(ranks)
 }
 

@@ -119,7 +119,7 @@ fn visit<'a>(
         return Ok(());
     };
     if up_to(&mut walk.opened, &mut walk.line, base_in(bases, class))? {
-        return go_on(alloc, walk, class, heir);
+        go_on(alloc, walk, class, heir)?;
     }
     Ok(())
 }
@@ -199,6 +199,28 @@ fn fault_of(
     }
 }
 
+/// The first member that breaks a rule, given what a walk found.
+fn first_found(
+    alloc: Global,
+    heirs: &[Heir],
+    bases: &[Option<usize>],
+    found: &[Option<Option<HeirsFault>>],
+) -> Result<Option<HeirsFault>, NoMemory>
+    requires bases { bases.now ≡ base_numbers (heirs_of heirs.now) }
+    requires found { AreFaults (heirs_of heirs.now) found.now }
+    ensures { IfOk result (λ x. x ≡ faults.first_by (faults.bad_override (heirs_of heirs.now)) 0 (heirs_of heirs.now)) }
+{
+    let mut number = 0;
+    for heir in heirs {
+        let fault = fault_of(alloc, heirs, bases, found, number, heir)?;
+        if fault.is_some() {
+            return Ok(fault);
+        }
+        number += 1;
+    }
+    Ok(None)
+}
+
 /// The first member that breaks a rule.
 pub fn first_bad_override(
     alloc: Global,
@@ -210,13 +232,5 @@ pub fn first_bad_override(
     ensures { IfOk result (λ x. x ≡ faults.first_by (faults.bad_override (heirs_of heirs.now)) 0 (heirs_of heirs.now)) }
 {
     let walk = walked(alloc, heirs, bases)?;
-    let mut number = 0;
-    for heir in heirs {
-        let fault = fault_of(alloc, heirs, bases, walk.found.as_slice(), number, heir)?;
-        if fault.is_some() {
-            return Ok(fault);
-        }
-        number += 1;
-    }
-    Ok(None)
+    first_found(alloc, heirs, bases, walk.found.as_slice())
 }

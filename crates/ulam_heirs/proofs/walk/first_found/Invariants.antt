@@ -1,7 +1,7 @@
 use Rattle.std.proofs.Common.{◌≡◌, drop}
 use Rattle.ulam_heirs.specs.Faults.{first_by, bad_override}
 use Rattle.ulam_heirs.specs.Views.{heirs_of}
-use Rattle.ulam_heirs.proofs.walk.first_bad_override.Given as goal
+use Rattle.ulam_heirs.proofs.walk.first_found.Given as goal
 
 abbrev pub invariant-loop-heir : goal.invariant-loop-heir
 invariant-loop-heir l = record {
