@@ -43,3 +43,4 @@ pub mod TypedStatements
 pub mod TreeSource
 pub mod ElementRounds
 pub mod ElementBuilds
+pub mod Mapped

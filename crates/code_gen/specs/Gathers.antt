@@ -17,11 +17,10 @@ body_at g f = (g f).body
 unfoldable pub longer : Drafts → Key → ℕ → Option ℕ
 longer g f sum = if is_some (depth g (key_piece g f) 0) then (if nat_le (sum + size (key_piece g f)) 65536 then Some (sum + size (key_piece g f)) else None) else None
 
--- a function's body is added, and the functions that it calls; nothing comes only if the limits don't let it through
-abbrev pub Adds : Drafts → Key → ℕ → Gathered → Gathered → Result (Option ℕ) NoMemory → Type 0
-Adds g f sum old new (Ok (Some more)) = (longer g f sum ≡ Some more) × (map key_of new.keys.items ≡ add_calls (body_at g f) (map key_of old.keys.items)) × (map piece_of new.bodies.items ≡ map piece_of old.bodies.items ++ (body_at g f ∷ []))
-Adds g f sum old new (Ok None) = longer g f sum ≡ None
-Adds g f sum old new (Err e) = Unit {0}
+-- a function's body is added, and the functions that it calls
+pub record Adds (g : Drafts) (f : Key) (old new : Gathered) : Type 0 where
+  pub keys : map key_of new.keys.items ≡ add_calls (body_at g f) (map key_of old.keys.items)
+  pub bodies : map piece_of new.bodies.items ≡ map piece_of old.bodies.items ++ (body_at g f ∷ [])
 
 -- all functions of an element in the order of their calls, and their bodies
 pub record IsGathered (g : Drafts) (main : Key) (x : Gathered) : Type 0 where

@@ -1,6 +1,6 @@
 //! The functions of an element, by first call, and the limits of its code.
 
-ghost use Rattle.std.specs.Prelude.{◌≡◌, ◌≤◌, ◌∷◌, ◌++◌, [], IfOk, OnOk};
+ghost use Rattle.std.specs.Prelude.{◌≡◌, ◌≤◌, ◌∷◌, ◌++◌, [], IfOk, IfSome, OnOk};
 ghost use Rattle.code_gen.specs.Gathers.{Adds, Gathers, body_at, longer};
 ghost use Rattle.code_gen.specs.Laws.{IsGood, IsReady};
 ghost use Rattle.code_gen.specs.Views.{piece_of, key_of};
@@ -57,7 +57,8 @@ fn add_body<S: Source>(
 ) -> Result<Option<u32>, NoMemory>
     requires sum { sum ≤ 65536 }
     requires good { IsGood (S.drafts source.now) (key_of key) }
-    ensures { Adds (S.drafts source.now) (key_of key) sum found.old found.new result }
+    ensures count { IfOk result (λ more. longer (S.drafts source.now) (key_of key) sum ≡ more) }
+    ensures added { IfOk result (λ more. IfSome more (λ n. Adds (S.drafts source.now) (key_of key) found.old found.new)) }
 {
     let body = source.body(alloc, key)?;
     let Some(more) = longer(source, key, &body, sum) else {
