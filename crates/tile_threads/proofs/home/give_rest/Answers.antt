@@ -14,13 +14,21 @@ returns-in_default-clause-lists g c = nothing_left c.args.map.now c.args.tile.no
 pub needs-needs-requires-clause-tile : goal.needs-needs-requires-clause-tile
 needs-needs-requires-clause-tile g c =
     subst (λ t. t < tiles_of c.args.map.now) (sym c.number.ensures)
-    (tile_inside c.args.map.now c.args.tile.now.core (g.D.Board.end c.args.end.now).lists c.requires.done.stopped c.requires.done.underway c.in-Some.x c.in-Some.y (sym c.in-Some.is ∙ c.in_hand.ensures))
+    (tile_inside c.args.map.now c.args.tile.now.core (g.D.Board.end c.args.end.now).lists
+    c.requires.done.stopped c.requires.done.underway c.in-Some.x c.in-Some.y
+    (sym c.in-Some.is ∙ c.in_hand.ensures))
 
 pub needs-needs-requires-clause-x : goal.needs-needs-requires-clause-x
-needs-needs-requires-clause-x g c = (site_inside c.args.map.now c.args.tile.now.core (g.D.Board.end c.args.end.now).lists c.requires.done.stopped c.requires.done.underway c.in-Some.x c.in-Some.y (sym c.in-Some.is ∙ c.in_hand.ensures)).0
+needs-needs-requires-clause-x g c
+    = (site_inside c.args.map.now c.args.tile.now.core (g.D.Board.end c.args.end.now).lists
+    c.requires.done.stopped c.requires.done.underway c.in-Some.x c.in-Some.y
+    (sym c.in-Some.is ∙ c.in_hand.ensures)).0
 
 pub needs-needs-requires-clause-y : goal.needs-needs-requires-clause-y
-needs-needs-requires-clause-y g c = (site_inside c.args.map.now c.args.tile.now.core (g.D.Board.end c.args.end.now).lists c.requires.done.stopped c.requires.done.underway c.in-Some.x c.in-Some.y (sym c.in-Some.is ∙ c.in_hand.ensures)).1
+needs-needs-requires-clause-y g c
+    = (site_inside c.args.map.now c.args.tile.now.core (g.D.Board.end c.args.end.now).lists
+    c.requires.done.stopped c.requires.done.underway c.in-Some.x c.in-Some.y
+    (sym c.in-Some.is ∙ c.in_hand.ensures)).1
 
 pub edge-requires : goal.edge-requires
 edge-requires g c = let n = c.len-i-end.ensures.count in let t = c.loop-i-test.true in omega (arith, n, t)
