@@ -94,10 +94,15 @@ letters_done form count i bytes front back total low high f b so_far =
     ∙ (λ j. Ok ((ap (λ n. take n bytes) k ∙ sym f) j, (ap (λ n. drop n bytes) k ∙ sym b) j))
 
 -- one more value of a list is written
-pub bytes_more : {X : Type 0} (spell : X → List ℕ) (i : ℕ) (xs : List X) (old out new : List ℕ) (d : X) → i < length xs → new ≡ out ++ spell (get_or xs i d) → out ≡ old ++ flat_map spell (take i xs)
+pub bytes_more : {X : Type 0} (spell : X → List ℕ) (i : ℕ) (xs : List X) (old out new : List ℕ) (d : X)
+    → i < length xs → new ≡ out ++ spell (get_or xs i d) → out ≡ old ++ flat_map spell (take i xs)
     → new ≡ old ++ flat_map spell (take (i + 1) xs)
 bytes_more spell i xs old out new d lt e so_far =
-    let one : flat_map spell (get_or xs i d ∷ []) ≡ spell (get_or xs i d) = append-nil (spell (get_or xs i d)) in
+    let one : flat_map spell (get_or xs i d ∷ []) ≡ spell (get_or xs i d) = append-nil
+    (spell (get_or xs i d)) in
     let next : flat_map spell (take (i + 1) xs) ≡ flat_map spell (take i xs) ++ spell (get_or xs i d) =
-    ap (flat_map spell) (take_more xs i d lt) ∙ flat_map-append spell (take i xs) (get_or xs i d ∷ []) ∙ ap (λ z. flat_map spell (take i xs) ++ z) one in
-    e ∙ ap (λ z. z ++ spell (get_or xs i d)) so_far ∙ append_assoc old (flat_map spell (take i xs)) (spell (get_or xs i d)) ∙ ap (λ z. old ++ z) (sym next)
+    ap (flat_map spell) (take_more xs i d lt) ∙ flat_map-append spell (take i xs) (get_or xs i d ∷ [])
+    ∙ ap (λ z. flat_map spell (take i xs) ++ z) one in
+    e ∙ ap (λ z. z ++ spell (get_or xs i d)) so_far
+    ∙ append_assoc old (flat_map spell (take i xs)) (spell (get_or xs i d))
+    ∙ ap (λ z. old ++ z) (sym next)

@@ -220,10 +220,16 @@ keys_of_all refs keys items k is count le ge each = record {
 }
 
 -- one more log is among those that are left
-pub lefts_more : (done new : List (Bor (List Record))) (left : Bor (List Record)) (i : ℕ) (logs : List LogValue) (log : LogValue) (whole : List (List Record)) → i < length logs → log ≡ get_or logs i log → left.now ≡ records_of log
-    → new ≡ done ++ left ∷ [] → lists_behind done ++ map records_of (drop i logs) ≡ whole → lists_behind new ++ map records_of (drop (i + 1) logs) ≡ whole
+pub lefts_more : (done new : List (Bor (List Record))) (left : Bor (List Record)) (i : ℕ)
+    (logs : List LogValue) (log : LogValue) (whole : List (List Record)) → i < length logs
+    → log ≡ get_or logs i log → left.now ≡ records_of log
+    → new ≡ done ++ left ∷ [] → lists_behind done ++ map records_of (drop i logs) ≡ whole
+    → lists_behind new ++ map records_of (drop (i + 1) logs) ≡ whole
 lefts_more done new left i logs log whole lt is own e so_far =
     let rest = map records_of (drop (i + 1) logs) in
-    let next : map records_of (drop i logs) ≡ left.now ∷ rest = ap (map records_of) (drop_more logs i log lt) ∙ ap (λ l. records_of l ∷ rest) (sym is) ∙ ap (λ r. r ∷ rest) (sym own) in
-    ap (λ l. lists_behind l ++ rest) e ∙ ap (λ l. l ++ rest) (map-append (λ (b : Bor (List Record)). b.now) done (left ∷ []))
-    ∙ append_assoc (lists_behind done) (left.now ∷ []) rest ∙ ap (λ l. lists_behind done ++ l) (sym next) ∙ so_far
+    let next : map records_of (drop i logs) ≡ left.now ∷ rest = ap (map records_of)
+    (drop_more logs i log lt) ∙ ap (λ l. records_of l ∷ rest) (sym is) ∙ ap (λ r. r ∷ rest) (sym own) in
+    ap (λ l. lists_behind l ++ rest) e
+    ∙ ap (λ l. l ++ rest) (map-append (λ (b : Bor (List Record)). b.now) done (left ∷ []))
+    ∙ append_assoc (lists_behind done) (left.now ∷ []) rest ∙ ap (λ l. lists_behind done ++ l) (sym next)
+    ∙ so_far

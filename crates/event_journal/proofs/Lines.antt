@@ -31,18 +31,27 @@ pub whole_line : (f : List ℕ) (fs : List (List ℕ)) → f ++ rest_of_line fs 
 whole_line f fs = sym (append_assoc f (more_text fs) (10 ∷ []) ∙ ap (λ z. f ++ z) (more_fields fs))
 
 -- one more line of a list
-pub lines_more : {X : Type 0} (f : X → List (List ℕ)) (i : ℕ) (xs : List X) (out new whole : List ℕ) (d : X) → i < length xs
-    → new ≡ out ++ ended_line (f (get_or xs i d)) → out ++ text_of (map f (drop i xs)) ≡ whole → new ++ text_of (map f (drop (i + 1) xs)) ≡ whole
+pub lines_more : {X : Type 0} (f : X → List (List ℕ)) (i : ℕ) (xs : List X) (out new whole : List ℕ) (d : X)
+    → i < length xs
+    → new ≡ out ++ ended_line (f (get_or xs i d)) → out ++ text_of (map f (drop i xs)) ≡ whole
+    → new ++ text_of (map f (drop (i + 1) xs)) ≡ whole
 lines_more f i xs out new whole d lt e so_far =
-    piece_done out new (ended_line (f (get_or xs i d))) (text_of (map f (drop (i + 1) xs))) whole e (ap (λ l. out ++ text_of (map f l)) (sym (drop_more xs i d lt)) ∙ so_far)
+    piece_done out new (ended_line (f (get_or xs i d))) (text_of (map f (drop (i + 1) xs))) whole e
+    (ap (λ l. out ++ text_of (map f l)) (sym (drop_more xs i d lt)) ∙ so_far)
 
 -- the lines of one more log
-pub logs_more : (i : ℕ) (logs : List LogValue) (out new whole : List ℕ) (log : LogValue) (list : List Abandoned) → i < length logs → log ≡ get_or logs i log → list ≡ abandoned_of log
-    → new ≡ out ++ text_of (map abandoned_fields list) → out ++ text_of (map abandoned_fields (abandoned_in (drop i logs))) ≡ whole → new ++ text_of (map abandoned_fields (abandoned_in (drop (i + 1) logs))) ≡ whole
+pub logs_more : (i : ℕ) (logs : List LogValue) (out new whole : List ℕ) (log : LogValue)
+    (list : List Abandoned) → i < length logs → log ≡ get_or logs i log → list ≡ abandoned_of log
+    → new ≡ out ++ text_of (map abandoned_fields list)
+    → out ++ text_of (map abandoned_fields (abandoned_in (drop i logs))) ≡ whole
+    → new ++ text_of (map abandoned_fields (abandoned_in (drop (i + 1) logs))) ≡ whole
 logs_more i logs out new whole log list lt is own e so_far =
     let rest = abandoned_in (drop (i + 1) logs) in
-    let next : abandoned_in (drop i logs) ≡ list ++ rest = ap abandoned_in (drop_more logs i log lt) ∙ ap (λ l. abandoned_of l ++ rest) (sym is) ∙ ap (λ l. l ++ rest) (sym own) in
-    let parts : text_of (map abandoned_fields (list ++ rest)) ≡ text_of (map abandoned_fields list) ++ text_of (map abandoned_fields rest) =
-    ap text_of (map-append abandoned_fields list rest) ∙ flat_map-append ended_line (map abandoned_fields list) (map abandoned_fields rest) in
+    let next : abandoned_in (drop i logs) ≡ list ++ rest = ap abandoned_in (drop_more logs i log lt)
+    ∙ ap (λ l. abandoned_of l ++ rest) (sym is) ∙ ap (λ l. l ++ rest) (sym own) in
+    let parts : text_of (map abandoned_fields (list ++ rest)) ≡ text_of
+    (map abandoned_fields list) ++ text_of (map abandoned_fields rest) =
+    ap text_of (map-append abandoned_fields list rest)
+    ∙ flat_map-append ended_line (map abandoned_fields list) (map abandoned_fields rest) in
     piece_done out new (text_of (map abandoned_fields list)) (text_of (map abandoned_fields rest)) whole e
     (ap (λ z. out ++ z) (sym (ap (λ l. text_of (map abandoned_fields l)) next ∙ parts)) ∙ so_far)

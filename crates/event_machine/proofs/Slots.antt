@@ -16,8 +16,11 @@ pub fresh_filled : (st : List Datum) (ks : List Operand) (n : ℕ) → n ≤ len
 fresh_filled st ks n h g = fresh_is (reverse (take n st)) ks n (omega (arith, length-reverse (take n st), length-take n st)) g
 
 -- one more slot is filled
-pub fill_more : (i : ℕ) (ks : List Operand) (out new whole : List Datum) (x : Datum) (d : Operand) → i < length ks → x ≡ fill (get_or ks i d) → new ≡ out ++ x ∷ [] → out ++ map fill (drop i ks) ≡ whole → new ++ map fill (drop (i + 1) ks) ≡ whole
+pub fill_more : (i : ℕ) (ks : List Operand) (out new whole : List Datum) (x : Datum) (d : Operand)
+    → i < length ks → x ≡ fill (get_or ks i d) → new ≡ out ++ x ∷ [] → out ++ map fill (drop i ks) ≡ whole
+    → new ++ map fill (drop (i + 1) ks) ≡ whole
 fill_more i ks out new whole x d lt is e so_far =
     let rest = map fill (drop (i + 1) ks) in
-    let next : map fill (drop i ks) ≡ x ∷ rest = ap (map fill) (drop_more ks i d lt) ∙ ap (λ y. y ∷ rest) (sym is) in
+    let next : map fill (drop i ks) ≡ x ∷ rest = ap (map fill) (drop_more ks i d lt)
+    ∙ ap (λ y. y ∷ rest) (sym is) in
     ap (λ l. l ++ rest) e ∙ append_assoc out (x ∷ []) rest ∙ ap (λ l. out ++ l) (sym next) ∙ so_far

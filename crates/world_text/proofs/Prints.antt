@@ -89,29 +89,41 @@ lines_joined [] ys = refl
 lines_joined (x ∷ xs) ys = ap (λ z. ended_line (line_fields x) ++ z) (lines_joined xs ys) ∙ sym (append_assoc (ended_line (line_fields x)) (lines_text xs) (lines_text ys))
 
 -- one more line of a list
-pub lines_more : {X : Type 0} (f : X → Line) (i : ℕ) (xs : List X) (out new whole : List ℕ) (x : X) → i < length xs → x ≡ get_or xs i x
-    → new ≡ out ++ text_of_line (f x) → out ++ lines_text (map f (drop i xs)) ≡ whole → new ++ lines_text (map f (drop (i + 1) xs)) ≡ whole
+pub lines_more : {X : Type 0} (f : X → Line) (i : ℕ) (xs : List X) (out new whole : List ℕ) (x : X)
+    → i < length xs → x ≡ get_or xs i x
+    → new ≡ out ++ text_of_line (f x) → out ++ lines_text (map f (drop i xs)) ≡ whole
+    → new ++ lines_text (map f (drop (i + 1) xs)) ≡ whole
 lines_more f i xs out new whole x lt is e so_far =
-    let next : drop i xs ≡ x ∷ drop (i + 1) xs = drop_more xs i x lt ∙ ap (λ y. y ∷ drop (i + 1) xs) (sym is) in
-    piece_done out new (text_of_line (f x)) (lines_text (map f (drop (i + 1) xs))) whole e (ap (λ l. out ++ lines_text (map f l)) (sym next) ∙ so_far)
+    let next : drop i xs ≡ x ∷ drop (i + 1) xs = drop_more xs i x lt
+    ∙ ap (λ y. y ∷ drop (i + 1) xs) (sym is) in
+    piece_done out new (text_of_line (f x)) (lines_text (map f (drop (i + 1) xs))) whole e
+    (ap (λ l. out ++ lines_text (map f l)) (sym next) ∙ so_far)
 
 -- the line of one more tile, if it is off
 pub off_more : (t : ℕ) (off : List Bool) (out new whole : List ℕ) → t < length off
-    → new ≡ out ++ lines_text (off_one t (get_or off t false)) → out ++ lines_text (off_lines t (drop t off)) ≡ whole → new ++ lines_text (off_lines (t + 1) (drop (t + 1) off)) ≡ whole
+    → new ≡ out ++ lines_text (off_one t (get_or off t false))
+    → out ++ lines_text (off_lines t (drop t off)) ≡ whole
+    → new ++ lines_text (off_lines (t + 1) (drop (t + 1) off)) ≡ whole
 unfolding off_lines
 off_more t off out new whole lt e so_far =
     let rest = off_lines (t + 1) (drop (t + 1) off) in
-    let next : off_lines t (drop t off) ≡ off_one t (get_or off t false) ++ rest = ap (off_lines t) (drop_more off t false lt) in
+    let next : off_lines t (drop t off) ≡ off_one t (get_or off t false) ++ rest = ap (off_lines t)
+    (drop_more off t false lt) in
     piece_done out new (lines_text (off_one t (get_or off t false))) (lines_text rest) whole e
-    (ap (λ z. out ++ z) (sym (ap lines_text next ∙ lines_joined (off_one t (get_or off t false)) rest)) ∙ so_far)
+    (ap (λ z. out ++ z) (sym (ap lines_text next ∙ lines_joined (off_one t (get_or off t false)) rest))
+    ∙ so_far)
 
 -- the lines of one more tile's attempts
-pub tries_more : (m : MapValue) (t : ℕ) (lists : List (List Attempt)) (out new whole : List ℕ) (list : List Attempt) → t < length lists → list ≡ get_or lists t []
-    → new ≡ out ++ lines_text (map (try_line m t) list) → out ++ lines_text (try_lines m t (drop t lists)) ≡ whole → new ++ lines_text (try_lines m (t + 1) (drop (t + 1) lists)) ≡ whole
+pub tries_more : (m : MapValue) (t : ℕ) (lists : List (List Attempt)) (out new whole : List ℕ)
+    (list : List Attempt) → t < length lists → list ≡ get_or lists t []
+    → new ≡ out ++ lines_text (map (try_line m t) list)
+    → out ++ lines_text (try_lines m t (drop t lists)) ≡ whole
+    → new ++ lines_text (try_lines m (t + 1) (drop (t + 1) lists)) ≡ whole
 unfolding try_lines
 tries_more m t lists out new whole list lt is e so_far =
     let rest = try_lines m (t + 1) (drop (t + 1) lists) in
-    let next : try_lines m t (drop t lists) ≡ map (try_line m t) list ++ rest = ap (try_lines m t) (drop_more lists t [] lt) ∙ ap (λ l. map (try_line m t) l ++ rest) (sym is) in
+    let next : try_lines m t (drop t lists) ≡ map (try_line m t) list ++ rest = ap (try_lines m t)
+    (drop_more lists t [] lt) ∙ ap (λ l. map (try_line m t) l ++ rest) (sym is) in
     piece_done out new (lines_text (map (try_line m t) list)) (lines_text rest) whole e
     (ap (λ z. out ++ z) (sym (ap lines_text next ∙ lines_joined (map (try_line m t) list) rest)) ∙ so_far)
 

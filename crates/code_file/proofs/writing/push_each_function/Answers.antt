@@ -10,5 +10,8 @@ returns-in_err-push_function c =
 
 pub loop-function-preserved : goal.loop-function-preserved
 loop-function-preserved c =
-    bytes_more function_bytes c.loop-function.function-index c.args.functions.now c.args.out.now.items c.loop-function.out.items c.push_function.new.out.items c.function-item.result c.loop-function-test.true
-    (c.in_ok-push_function.ensures ∙ ap (λ f. c.loop-function.out.items ++ function_bytes f) c.function-item.is) c.loop-function.invariant
+    bytes_more function_bytes c.loop-function.function-index c.args.functions.now c.args.out.now.items
+    c.loop-function.out.items c.push_function.new.out.items c.function-item.result
+    c.loop-function-test.true
+    (c.in_ok-push_function.ensures ∙ ap (λ f. c.loop-function.out.items ++ function_bytes f)
+    c.function-item.is) c.loop-function.invariant

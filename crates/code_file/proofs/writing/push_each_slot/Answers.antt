@@ -10,4 +10,7 @@ returns-in_err-push_byte c =
     Appends-at_exit _ c.args.out.now.items c.loop-slot.out.items _ _ c.from_residual.result c.from_residual.ensures.1 (_, c.loop-slot.invariant) c.in_err-push_byte.ensures
 
 pub loop-slot-preserved : goal.loop-slot-preserved
-loop-slot-preserved c = bytes_more slot_bytes c.loop-slot.slot-index c.args.slots.now c.args.out.now.items c.loop-slot.out.items c.push_byte.new.out.items _ c.loop-slot-test.true (c.in_ok-push_byte.ensures ∙ ap (λ n. c.loop-slot.out.items ++ be 1 n) c.operand_code.ensures) c.loop-slot.invariant
+loop-slot-preserved c = bytes_more slot_bytes c.loop-slot.slot-index c.args.slots.now c.args.out.now.items
+    c.loop-slot.out.items c.push_byte.new.out.items _ c.loop-slot-test.true
+    (c.in_ok-push_byte.ensures ∙ ap (λ n. c.loop-slot.out.items ++ be 1 n) c.operand_code.ensures)
+    c.loop-slot.invariant

@@ -9,6 +9,8 @@ returns-in_err-push_abandoned_line c =
 
 pub loop-entry-preserved : goal.loop-entry-preserved
 loop-entry-preserved c = record {
-  done = lines_more abandoned_fields c.loop-entry.entry-index c.args.abandoned.now c.loop-entry.out.items c.push_abandoned_line.new.out.items _ _ c.loop-entry-test.true c.in_ok-push_abandoned_line.ensures c.loop-entry.invariant.done;
+  done = lines_more abandoned_fields c.loop-entry.entry-index c.args.abandoned.now c.loop-entry.out.items
+      c.push_abandoned_line.new.out.items _ _ c.loop-entry-test.true c.in_ok-push_abandoned_line.ensures
+      c.loop-entry.invariant.done;
   kept = more_after _ _ _ c.loop-entry.invariant.kept (_, c.in_ok-push_abandoned_line.ensures);
 }

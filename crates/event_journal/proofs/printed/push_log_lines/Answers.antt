@@ -8,6 +8,8 @@ returns-in_err-push_abandoned_lines c =
 
 pub loop-log-preserved : goal.loop-log-preserved
 loop-log-preserved c = record {
-  done = logs_more c.loop-log.log-index c.args.logs.now c.loop-log.out.items c.push_abandoned_lines.new.out.items _ c.log-item.result c.abandoned.result.now c.loop-log-test.true c.log-item.is c.abandoned.ensures c.in_ok-push_abandoned_lines.ensures c.loop-log.invariant.done;
+  done = logs_more c.loop-log.log-index c.args.logs.now c.loop-log.out.items
+      c.push_abandoned_lines.new.out.items _ c.log-item.result c.abandoned.result.now c.loop-log-test.true
+      c.log-item.is c.abandoned.ensures c.in_ok-push_abandoned_lines.ensures c.loop-log.invariant.done;
   kept = more_after _ _ _ c.loop-log.invariant.kept (_, c.in_ok-push_abandoned_lines.ensures);
 }

@@ -9,6 +9,8 @@ returns-in_err-push_record c =
 
 pub loop-entry-preserved : goal.loop-entry-preserved
 loop-entry-preserved c = record {
-  done = lines_more record_fields c.loop-entry.entry-index c.args.records.now c.loop-entry.out.items c.push_record.new.out.items _ _ c.loop-entry-test.true c.in_ok-push_record.ensures c.loop-entry.invariant.done;
+  done = lines_more record_fields c.loop-entry.entry-index c.args.records.now c.loop-entry.out.items
+      c.push_record.new.out.items _ _ c.loop-entry-test.true c.in_ok-push_record.ensures
+      c.loop-entry.invariant.done;
   kept = more_after _ _ _ c.loop-entry.invariant.kept (_, c.in_ok-push_record.ensures);
 }

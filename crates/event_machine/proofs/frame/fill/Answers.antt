@@ -8,7 +8,9 @@ loop-kind-preserved c =
     let room = i.room in
     let push = c.push_reserved.ensures in
     record {
-      rest = fill_more c.loop-kind.kind-index c.args.kinds.now c.loop-kind.slots.items c.push_reserved.new.self.items _ c.filled.result _ c.loop-kind-test.true c.filled.ensures push.items i.rest;
+      rest = fill_more c.loop-kind.kind-index c.args.kinds.now c.loop-kind.slots.items
+          c.push_reserved.new.self.items _ c.filled.result _ c.loop-kind-test.true c.filled.ensures
+          push.items i.rest;
       room = omega (arith, room, push.len, push.capacity, c.loop-kind-test.true);
       same = push.capacity ∙ i.same;
     }

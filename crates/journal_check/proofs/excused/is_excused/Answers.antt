@@ -30,7 +30,9 @@ returns-then-not-was_held c =
     let g = c.args.entry.now in (
       (λ q. cc),
       (λ h.
-          let yes = c.was_held.ensures.1 (subst (λ (l : List Mark). WasHeld c.args.map.now l c.args.abandoned.now g) (sym c.marks_at-other.ensures.value) h.held) in
+          let yes = c.was_held.ensures.1 (subst
+          (λ (l : List Mark). WasHeld c.args.map.now l c.args.abandoned.now g)
+          (sym c.marks_at-other.ensures.value) h.held) in
           let no = c.if-not-was_held.true in cc),
     )
 

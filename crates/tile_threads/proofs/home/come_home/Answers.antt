@@ -20,10 +20,12 @@ pub returns-in_err-push-clause-passes : goal.returns-in_err-push-clause-passes
 returns-in_err-push-clause-passes g c = nothing_said _ c.from_residual.result c.from_residual.ensures.0
 
 pub returns-in_err-push-2-clause-tiles : goal.returns-in_err-push-2-clause-tiles
-returns-in_err-push-2-clause-tiles g c = nothing_said _ c.from_residual-in_err-push-2.result c.from_residual-in_err-push-2.ensures.0
+returns-in_err-push-2-clause-tiles g c = nothing_said _ c.from_residual-in_err-push-2.result
+    c.from_residual-in_err-push-2.ensures.0
 
 pub returns-in_err-push-2-clause-passes : goal.returns-in_err-push-2-clause-passes
-returns-in_err-push-2-clause-passes g c = nothing_said _ c.from_residual-in_err-push-2.result c.from_residual-in_err-push-2.ensures.0
+returns-in_err-push-2-clause-passes g c = nothing_said _ c.from_residual-in_err-push-2.result
+    c.from_residual-in_err-push-2.ensures.0
 
 pub loop-worker-preserved : goal.loop-worker-preserved
 loop-worker-preserved g c =

@@ -1,15 +1,40 @@
 use Rattle.std.proofs.Common.{◌≡◌, ◌<◌, length, refl, sym, ap, ◌∙◌, subst, arith}
-use Rattle.tile_map.specs.Plane.{site}
+use Rattle.tile_map.specs.Plane.{site, tiles_of}
 use Rattle.tile_map.specs.Edges.{needs_of}
 use Rattle.tile_core.specs.Turns.{AgreeOnEdges}
 use Rattle.tile_threads.proofs.LettingGo.{after_some}
 use Rattle.edge_lock.proofs.BoardLaws.{same_end}
-use Rattle.tile_threads.proofs.Resting.{nothing_left, next_is_held, next_is_quiet, is_edge, given_more, given_all}
+use Rattle.tile_threads.proofs.Resting.{nothing_left, site_inside, tile_inside, next_is_held, next_is_quiet, is_edge, given_more, given_all}
 use Rattle.border_cache.proofs.Stored.{end_stays}
 use Rattle.tile_threads.proofs.home.give_rest.Goals as goal
 
 pub returns-in_default-clause-lists : goal.returns-in_default-clause-lists
 returns-in_default-clause-lists g c = nothing_left c.args.map.now c.args.tile.now.core (g.D.Board.end c.args.end.now).lists c.requires.done.stopped c.requires.done.underway (sym c.in_default.is ∙ c.in_hand.ensures)
+
+pub needs-needs-requires-clause-tile : goal.needs-needs-requires-clause-tile
+needs-needs-requires-clause-tile g c =
+    subst (λ t. t < tiles_of c.args.map.now) (sym c.number.ensures)
+    (tile_inside c.args.map.now c.args.tile.now.core (g.D.Board.end c.args.end.now).lists
+    c.requires.done.stopped c.requires.done.underway c.in-Some.x c.in-Some.y
+    (sym c.in-Some.is ∙ c.in_hand.ensures))
+
+pub needs-needs-requires-clause-x : goal.needs-needs-requires-clause-x
+needs-needs-requires-clause-x g c
+    = (site_inside c.args.map.now c.args.tile.now.core (g.D.Board.end c.args.end.now).lists
+    c.requires.done.stopped c.requires.done.underway c.in-Some.x c.in-Some.y
+    (sym c.in-Some.is ∙ c.in_hand.ensures)).0
+
+pub needs-needs-requires-clause-y : goal.needs-needs-requires-clause-y
+needs-needs-requires-clause-y g c
+    = (site_inside c.args.map.now c.args.tile.now.core (g.D.Board.end c.args.end.now).lists
+    c.requires.done.stopped c.requires.done.underway c.in-Some.x c.in-Some.y
+    (sym c.in-Some.is ∙ c.in_hand.ensures)).1
+
+pub edge-requires : goal.edge-requires
+edge-requires g c = let n = c.len-i-end.ensures.count in let t = c.loop-i-test.true in omega (arith, n, t)
+
+pub returns-clause-moved : goal.returns-clause-moved
+returns-clause-moved g c = c.loop-i.invariant.moved
 
 pub give_back-requires-clause-edge : goal.give_back-requires-clause-edge
 give_back-requires-clause-edge g c =

@@ -18,17 +18,22 @@ push_atoms-requires c = let p = named_prints c.args.names.now c.requires.0 (worl
 
 pub returns-in_err-push_off : goal.returns-in_err-push_off
 returns-in_err-push_off c =
-    Appends-at_exit _ c.args.out.now.items _ _ _ c.from_residual-in_err-push_off.result c.from_residual-in_err-push_off.ensures.1 (_, c.in_ok-push_plane.ensures) c.in_err-push_off.ensures
+    Appends-at_exit _ c.args.out.now.items _ _ _ c.from_residual-in_err-push_off.result
+    c.from_residual-in_err-push_off.ensures.1 (_, c.in_ok-push_plane.ensures) c.in_err-push_off.ensures
 
 pub returns-in_err-push_plan : goal.returns-in_err-push_plan
 returns-in_err-push_plan c =
-    Appends-at_exit _ c.args.out.now.items _ _ _ c.from_residual-in_err-push_plan.result c.from_residual-in_err-push_plan.ensures.1
-    (more_after _ _ _ (_, c.in_ok-push_plane.ensures) (_, c.in_ok-push_off.ensures)) c.in_err-push_plan.ensures
+    Appends-at_exit _ c.args.out.now.items _ _ _ c.from_residual-in_err-push_plan.result
+    c.from_residual-in_err-push_plan.ensures.1
+    (more_after _ _ _ (_, c.in_ok-push_plane.ensures) (_, c.in_ok-push_off.ensures))
+    c.in_err-push_plan.ensures
 
 pub returns-in_err-push_atoms : goal.returns-in_err-push_atoms
 returns-in_err-push_atoms c =
-    Appends-at_exit _ c.args.out.now.items _ _ _ c.from_residual-in_err-push_atoms.result c.from_residual-in_err-push_atoms.ensures.1
-    (more_after _ _ _ (more_after _ _ _ (_, c.in_ok-push_plane.ensures) (_, c.in_ok-push_off.ensures)) (_, c.in_ok-push_plan.ensures)) c.in_err-push_atoms.ensures
+    Appends-at_exit _ c.args.out.now.items _ _ _ c.from_residual-in_err-push_atoms.result
+    c.from_residual-in_err-push_atoms.ensures.1
+    (more_after _ _ _ (more_after _ _ _ (_, c.in_ok-push_plane.ensures) (_, c.in_ok-push_off.ensures))
+    (_, c.in_ok-push_plan.ensures)) c.in_err-push_atoms.ensures
 
 pub returns : goal.returns
 returns c =

@@ -9,6 +9,8 @@ returns-in_err-push_atom c =
 
 pub loop-placed-preserved : goal.loop-placed-preserved
 loop-placed-preserved c = record {
-  done = lines_more (atom_line c.args.names.now) c.loop-placed.placed-index c.args.atoms.now c.loop-placed.out.items c.push_atom.new.out.items _ c.placed-item.result c.loop-placed-test.true c.placed-item.is c.in_ok-push_atom.ensures c.loop-placed.invariant.done;
+  done = lines_more (atom_line c.args.names.now) c.loop-placed.placed-index c.args.atoms.now
+      c.loop-placed.out.items c.push_atom.new.out.items _ c.placed-item.result c.loop-placed-test.true
+      c.placed-item.is c.in_ok-push_atom.ensures c.loop-placed.invariant.done;
   kept = more_after _ _ _ c.loop-placed.invariant.kept (_, c.in_ok-push_atom.ensures);
 }

@@ -8,6 +8,7 @@ returns-in_err-push_mark c =
 
 pub loop-tile-preserved : goal.loop-tile-preserved
 loop-tile-preserved c = record {
-  done = off_more c.loop-tile.tile c.args.off.now c.loop-tile.out.items c.push_mark.new.out.items _ c.loop-tile-test.true c.in_ok-push_mark.ensures c.loop-tile.invariant.done;
+  done = off_more c.loop-tile.tile c.args.off.now c.loop-tile.out.items c.push_mark.new.out.items _
+      c.loop-tile-test.true c.in_ok-push_mark.ensures c.loop-tile.invariant.done;
   kept = more_after _ _ _ c.loop-tile.invariant.kept (_, c.in_ok-push_mark.ensures);
 }
