@@ -1,10 +1,10 @@
 -- From the answers of two calls to that of both.
-use Rattle.std.proofs.Common.{◌≡◌, Result, Ok, Err, ◌∙◌, inl, inr, subst, sym}
+use Rattle.std.proofs.Common.{ℕ, ◌≡◌, List, [], ◌∷◌, ◌++◌, Result, Ok, Err, ap, ◌∙◌, inl, inr, subst, sym}
 use Rattle.std.specs.Result.{IsErrAnd}
 use Rattle.feast_base.specs.Outside.{ShelfState}
 use Rattle.feast_base.specs.Stages.{Stage, and_then}
 use Rattle.feast_run.specs.Halting.{HaltValue}
-use Rattle.feast_run.specs.Tellings.{Keeps, Tells}
+use Rattle.feast_run.specs.Tellings.{Keeps, Moves, Tells}
 use Rattle.feast_run.specs.declared.halt.Halt.{Halt}
 use Rattle.feast_run.specs.declared.halt.Halt.TheVariants.{Refused, Missing, NoMemory}
 
@@ -27,3 +27,27 @@ halted value other S T NoMemory h = tt
 pub tells_exit : {X Y A B : Type 0} (value : X → A) (other : Y → B) (S : Stage A HaltValue) (T : A → Stage B HaltValue) (halt : Halt) (r : Result Y Halt) → IsErrAnd r (λ e. e ≡ halt) → Tells {X = X} value S (Err halt) → Tells other (and_then S T) r
 tells_exit value other S T halt (Ok y) is h = absurd is
 tells_exit {X = X} {Y = Y} value other S T halt (Err e) is h = subst (λ (v : Halt). Tells {X = Y} other (and_then S T) (Err v)) (sym is) (halted {X = X} {Y = Y} value other S T halt h)
+
+-- an answer of a stage as that of one with more outcomes
+pub tells_more : {X A : Type 0} (value : X → A) (S T : Stage A HaltValue) → ((o : Result A HaltValue) → S o → T o) →
+    (r : Result X Halt) → Tells value S r → Tells value T r
+tells_more value S T f (Ok x) h = f (Ok (value x)) h
+tells_more value S T f (Err (Refused s)) h = (f _ h.0, h.1)
+tells_more value S T f (Err (Missing w)) h = f _ h
+tells_more value S T f (Err NoMemory) h = tt
+
+-- nothing was noted, and then a call went no further
+moved : (X Y : Type 0) (a b c : ShelfState) (halt : Halt) → Keeps a b → Moves {X = X} b c (Err halt) → Moves {X = Y} a c (Err halt)
+moved X Y a b c (Refused s) p q = keeps_then a b c p q
+moved X Y a b c (Missing w) p q = record {
+  failed = q.failed ∙ ap (λ (ns : List (List ℕ)). ns ++ w.now ∷ []) p.failed;
+  cause = p.later w.now q.cause;
+  later = λ n h. p.later n (q.later n h);
+}
+moved X Y a b c NoMemory p q = keeps_then a b c p q
+
+pub moves_exit : (X Y : Type 0) (a b c : ShelfState) (halt : Halt) (r : Result Y Halt) → IsErrAnd r (λ e. e ≡ halt) →
+    Keeps a b → Moves {X = X} b c (Err halt) → Moves a c r
+moves_exit X Y a b c halt (Ok y) is p q = absurd is
+moves_exit X Y a b c halt (Err e) is p q =
+    subst (λ (v : Halt). Moves {X = Y} a c (Err v)) (sym is) (moved X Y a b c halt p q)

@@ -1,5 +1,5 @@
 -- Reports that are read again: they say their own journal, are audited with `yes`, rewind to the
--- atoms after its first events, and replay to their own atoms.
+-- atoms after their first events, and replay to their own atoms.
 use Rattle.std.specs.Prelude.{ℕ, ◌≡◌, List, ◌++◌, Some, codes, Ok}
 use Rattle.cell_grid.specs.Grid.{GridValue}
 use Rattle.event_journal.specs.Reading.{read_report}

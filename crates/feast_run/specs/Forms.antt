@@ -103,6 +103,24 @@ abbrev pub of_rewind : List (List ℕ) → Option FormValue
 of_rewind [] = None
 of_rewind (world ∷ words) = of_report (rewind world) words
 
+-- the form of the words after a first word, in the order in which the code tells first words apart: from `gen` on
+abbrev pub later_form : List ℕ → List (List ℕ) → Option FormValue
+later_form verb words =
+    if bytes_eq verb (codes "gen") then option_map gen (of_number words)
+    else if bytes_eq verb (codes "audit") then of_journal audit words
+    else if bytes_eq verb (codes "rewind") then of_rewind words
+    else if bytes_eq verb (codes "steppack") then of_code steppack (two_words words)
+    else if bytes_eq verb (codes "runpack") then of_code runpack (two_words words)
+    else None
+
+-- from `run` on
+abbrev pub world_form : List ℕ → List (List ℕ) → Option FormValue
+world_form verb words =
+    if bytes_eq verb (codes "run") then of_world run words
+    else if bytes_eq verb (codes "step") then of_world step words
+    else if bytes_eq verb (codes "replay") then of_journal replay words
+    else later_form verb words
+
 -- the form of the words
 abbrev pub form_of : List (List ℕ) → Option FormValue
 form_of [] = None

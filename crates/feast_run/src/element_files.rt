@@ -2,7 +2,7 @@
 ghost use Rattle.std.specs.Prelude.{◌≡◌, ◌≤◌, [], IfOk, length, slice_index_or};
 ghost use Rattle.element_set.specs.Sets.{set_value};
 ghost use Rattle.feast_run.specs.Forms.{most_files, texts};
-ghost use Rattle.feast_run.specs.Stages.{AreWithin, builds, load_all, set_of};
+ghost use Rattle.feast_run.specs.Stages.{AreWithin, builds, element_limit, load, load_all, set_of};
 ghost use Rattle.feast_run.specs.Tellings.{Moves, Tells};
 
 use crate::halt::{Halt, Input, Refused};
@@ -10,6 +10,21 @@ use crate::loading::{ELEMENT_LIMIT, load_file};
 use element_set::{BuildFault, ElementSet};
 use feast_base::{Shelf, Source};
 use std::alloc::Global;
+
+/// Loads an element file.
+fn load_source<'a, F: Shelf>(
+    alloc: Global,
+    shelf: &mut F,
+    word: &'a str,
+) -> Result<Source, Halt<'a>>
+    ensures files { (F.state shelf.new).files ≡ (F.state shelf.old).files }
+    ensures moves { Moves (F.state shelf.old) (F.state shelf.new) result }
+    ensures tells { Tells (λ s. s.1) (load (F.state shelf.old).files element_limit word.now) result }
+    ensures named { IfOk result (λ s. s.0 ≡ word.now) }
+{
+    let bytes = load_file(alloc, shelf, word, ELEMENT_LIMIT)?;
+    Ok(Source::new(alloc, word, bytes)?)
+}
 
 /// Loads element files, in order.
 fn load_files<'a, F: Shelf>(
@@ -25,8 +40,7 @@ fn load_files<'a, F: Shelf>(
 {
     let mut sources = Vec::new(alloc);
     for word in words {
-        let bytes = load_file(alloc, shelf, word.as_str(), ELEMENT_LIMIT)?;
-        let source = Source::new(alloc, word.as_str(), bytes)?;
+        let source = load_source(alloc, shelf, word.as_str())?;
         sources.push(source)?;
     }
     Ok(sources)

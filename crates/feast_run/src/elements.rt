@@ -11,7 +11,6 @@ use std::alloc::Global;
 use window_sites::Window;
 
 /// The elements of a world.
-#[derive(Drop)]
 pub enum Elements {
     /// Those of element files.
     Sources(ElementSet),
@@ -19,13 +18,32 @@ pub enum Elements {
     Codes(CodeSet),
 }
 
+// Written by hand, not derived: so a caller drops it by one call.
+impl Drop for Elements {
+    fn drop(self) {
+        match self {
+            Elements::Sources(set) => {}
+            Elements::Codes(set) => {}
+        }
+    }
+}
+
 /// What acts on windows as the elements of a world do.
-#[derive(Drop)]
 pub enum ElementActor<'a> {
     /// As the source of element files means.
     Source(Actor<'a>),
     /// As the codes of a code file do.
     Code(CodeActor<'a>),
+}
+
+// Written by hand, not derived: so a caller drops it by one call.
+impl Drop for ElementActor<'_> {
+    fn drop(self) {
+        match self {
+            ElementActor::Source(actor) => {}
+            ElementActor::Code(actor) => {}
+        }
+    }
 }
 
 impl Behave for ElementActor<'_> {

@@ -1,6 +1,6 @@
 //! The forms that the words of a call may have.
 ghost use Rattle.std.specs.Prelude.{◌≡◌, ◌≤◌, IfSome, MatchOption, None, Some, length, option_map};
-ghost use Rattle.feast_run.specs.Forms.{IsFew, asked, form_value, left_of, most_files, of_files, of_number, of_rewind, texts, two_words};
+ghost use Rattle.feast_run.specs.Forms.{IsFew, asked, form_value, later_form, left_of, most_files, of_files, of_number, of_rewind, texts, two_words, world_form};
 
 use text_lines::number;
 
@@ -92,29 +92,12 @@ fn read_rewind(words: &[String]) -> Option<Form<'_>>
     Some(Form::Rewind(world.as_str(), report.as_str(), left, of_files(rest)?))
 }
 
-/// The form of the words.
-pub fn read_form(words: &[String]) -> Option<Form<'_>>
-    ensures value { asked words.now ≡ option_map form_value result }
+/// The form of words after a first word that is none of those up to `replay`.
+fn read_later_form<'a>(verb: &str, rest: &'a [String]) -> Option<Form<'a>>
+    ensures value { later_form verb.now (texts rest.now) ≡ option_map form_value result }
     ensures few { IfSome result IsFew }
 {
-    let (verb, rest) = words.split_first()?;
-    match verb.as_str() {
-        "check" => Some(Form::Check(of_files(rest)?)),
-        "code" => Some(Form::Code(of_files(rest)?)),
-        "pack" => Some(Form::Pack(of_files(rest)?)),
-        "run" => {
-            let (world, rest) = rest.split_first()?;
-            Some(Form::Run(world.as_str(), of_files(rest)?))
-        }
-        "step" => {
-            let (world, rest) = rest.split_first()?;
-            Some(Form::Step(world.as_str(), of_files(rest)?))
-        }
-        "replay" => {
-            let (world, rest) = rest.split_first()?;
-            let (journal, rest) = rest.split_first()?;
-            Some(Form::Replay(world.as_str(), journal.as_str(), of_files(rest)?))
-        }
+    match verb {
         "gen" => Some(Form::Gen(of_number(rest)?)),
         "audit" => {
             let (world, rest) = rest.split_first()?;
@@ -131,5 +114,42 @@ pub fn read_form(words: &[String]) -> Option<Form<'_>>
             Some(Form::RunPack(world, code))
         }
         _ => None,
+    }
+}
+
+/// The form of words after a first word that is none of `check`, `code` and `pack`.
+fn read_world_form<'a>(verb: &str, rest: &'a [String]) -> Option<Form<'a>>
+    ensures value { world_form verb.now (texts rest.now) ≡ option_map form_value result }
+    ensures few { IfSome result IsFew }
+{
+    match verb {
+        "run" => {
+            let (world, rest) = rest.split_first()?;
+            Some(Form::Run(world.as_str(), of_files(rest)?))
+        }
+        "step" => {
+            let (world, rest) = rest.split_first()?;
+            Some(Form::Step(world.as_str(), of_files(rest)?))
+        }
+        "replay" => {
+            let (world, rest) = rest.split_first()?;
+            let (journal, rest) = rest.split_first()?;
+            Some(Form::Replay(world.as_str(), journal.as_str(), of_files(rest)?))
+        }
+        _ => read_later_form(verb, rest),
+    }
+}
+
+/// The form of the words.
+pub fn read_form(words: &[String]) -> Option<Form<'_>>
+    ensures value { asked words.now ≡ option_map form_value result }
+    ensures few { IfSome result IsFew }
+{
+    let (verb, rest) = words.split_first()?;
+    match verb.as_str() {
+        "check" => Some(Form::Check(of_files(rest)?)),
+        "code" => Some(Form::Code(of_files(rest)?)),
+        "pack" => Some(Form::Pack(of_files(rest)?)),
+        verb => read_world_form(verb, rest),
     }
 }

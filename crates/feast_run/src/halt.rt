@@ -4,7 +4,7 @@ use feast_base::{NoMemory, Refusal};
 use std::alloc::AllocFailed;
 
 /// What a refusal is about. It decides the status with which the call ends.
-#[derive(Clone, Copy, Debug, PartialEq, Eq)]
+#[derive(Clone, Copy)]
 pub enum Input {
     /// A file that is too long, whatever it says.
     File,

@@ -1,5 +1,6 @@
 //! The stages of a world: its text, its elements, the names of its atoms, and its map.
 ghost use Rattle.std.specs.Prelude.{◌≡◌, ◌≤◌, IfOk, length};
+ghost use Rattle.cell_grid.specs.Known.{BringsNone};
 ghost use Rattle.code_file.specs.Form.{IsSayable};
 ghost use Rattle.feast_run.specs.Faults.{IsHalt, IsWorldHalt};
 ghost use Rattle.feast_run.specs.Forms.{most_files, texts};
@@ -8,7 +9,7 @@ ghost use Rattle.feast_run.specs.Elements.{code_elements, source_elements};
 ghost use Rattle.feast_run.specs.Halting.{decides};
 ghost use Rattle.feast_run.specs.Stages.{draft_of, named_by, ready, with_sources, world_refused};
 ghost use Rattle.feast_run.specs.Tellings.{Moves, Tells};
-ghost use Rattle.feast_run.specs.Values.{IsReady, ready_value};
+ghost use Rattle.feast_run.specs.Values.{IsReady, elements_value, ready_value};
 ghost use Rattle.element_set.specs.Sets.{Coded, set_value};
 ghost use Rattle.world_text.specs.Named.{named};
 ghost use Rattle.world_text.specs.Printed.{IsNamed};
@@ -29,11 +30,21 @@ use world_runs::map_of;
 use world_text::{RawWorld, World, WorldFault, name, read};
 
 /// A world, its map, and the elements of its atoms.
-#[derive(Drop)]
 pub struct Ready {
     pub world: World,
     pub map: Map,
     pub elements: Elements,
+}
+
+// Written by hand, not derived: so a caller drops it by one call.
+impl Drop for Ready {
+    fn drop(self) {
+        let Ready {
+            world,
+            map,
+            elements,
+        } = self;
+    }
 }
 
 /// The refusal of a world whose file has this word.
@@ -98,6 +109,27 @@ fn named<'a>(
     }
 }
 
+/// A world with its elements.
+fn with_elements<'a>(
+    alloc: Global,
+    word: &'a str,
+    draft: RawWorld,
+    elements: Elements,
+) -> Result<Ready, Halt<'a>>
+    requires few { length (elements_value elements).names ≤ 65535 }
+    requires brings { BringsNone (length (elements_value elements).names) (elements_value elements).meaning }
+    ensures tells { Tells ready_value (named_by word.now draft (elements_value elements)) result }
+    ensures ready { IfOk result IsReady }
+{
+    let world = named(alloc, word, draft, elements.names())?;
+    let map = map_of(alloc, &world)?;
+    Ok(Ready {
+        world,
+        map,
+        elements,
+    })
+}
+
 /// A world with the elements of a set.
 fn with_set<'a>(
     alloc: Global,
@@ -108,14 +140,7 @@ fn with_set<'a>(
     ensures tells { Tells ready_value (named_by word.now draft (source_elements (set_value set))) result }
     ensures ready { IfOk result IsReady }
 {
-    let world = named(alloc, word, draft, set.names())?;
-    let map = map_of(alloc, &world)?;
-    let elements = Elements::Sources(set);
-    Ok(Ready {
-        world,
-        map,
-        elements,
-    })
+    with_elements(alloc, word, draft, Elements::Sources(set))
 }
 
 /// A world with the elements of a code file.
@@ -129,14 +154,7 @@ fn with_codes<'a>(
     ensures tells { Tells ready_value (named_by word.now draft (code_elements set)) result }
     ensures ready { IfOk result IsReady }
 {
-    let world = named(alloc, word, draft, set.names())?;
-    let map = map_of(alloc, &world)?;
-    let elements = Elements::Codes(set);
-    Ok(Ready {
-        world,
-        map,
-        elements,
-    })
+    with_elements(alloc, word, draft, Elements::Codes(set))
 }
 
 /// Loads the element files of a world.

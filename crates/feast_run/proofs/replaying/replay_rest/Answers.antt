@@ -1,3 +1,5 @@
+use Rattle.feast_run.proofs.Telling.{tells_exit}
+use Rattle.feast_run.specs.Outputs.{output_text}
 use Rattle.std.proofs.Common.{◌∙◌, List, All, ap, inr, subst, sym}
 use Rattle.cell_grid.specs.declared.record.Record.{Record}
 use Rattle.feast_run.proofs.Runs.{journal_events, ready_valid}
@@ -23,3 +25,9 @@ returns-clause-tells g c =
       passed = c.in_ok-journal.ensures.tells;
       rest = c.in_ok-text.ensures ∙ ap (atoms_after (ready_value c.args.ready)) c.as_slice.ensures.value;
     })
+
+pub returns-in_err-journal-clause-tells : goal.returns-in_err-journal-clause-tells
+returns-in_err-journal-clause-tells g c =
+    let exit = c.from_residual in
+    tells_exit journal_value output_text _ _ c.in_err-journal.field-0.0 exit.result exit.ensures.1
+    c.in_err-journal.ensures.tells

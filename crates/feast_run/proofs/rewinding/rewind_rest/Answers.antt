@@ -1,5 +1,5 @@
 use Rattle.feast_run.proofs.Runs.{journal_events, ready_valid}
-use Rattle.feast_run.proofs.Telling.{tells_then}
+use Rattle.feast_run.proofs.Telling.{tells_then, tells_exit}
 use Rattle.feast_run.specs.Outputs.{output_text}
 use Rattle.feast_run.specs.Values.{journal_value}
 use Rattle.world_text.specs.Values.{world_value}
@@ -16,3 +16,9 @@ rewind_loaded-requires-clause-live g c =
 
 pub returns-clause-tells : goal.returns-clause-tells
 returns-clause-tells g c = tells_then output_text _ _ (journal_value c.in_ok-journal.journal) c.rewind_loaded.result c.in_ok-journal.ensures.tells c.rewind_loaded.ensures.tells
+
+pub returns-in_err-journal-clause-tells : goal.returns-in_err-journal-clause-tells
+returns-in_err-journal-clause-tells g c =
+    let exit = c.from_residual in
+    tells_exit journal_value output_text _ _ c.in_err-journal.field-0.0 exit.result exit.ensures.1
+    c.in_err-journal.ensures.tells

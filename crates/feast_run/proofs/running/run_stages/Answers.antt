@@ -1,7 +1,13 @@
-use Rattle.feast_run.proofs.Telling.{tells_then}
+use Rattle.feast_run.proofs.Telling.{tells_then, tells_exit}
 use Rattle.feast_run.specs.Outputs.{output_text}
 use Rattle.feast_run.specs.Values.{ready_value}
 use Rattle.feast_run.proofs.running.run_stages.Goals as goal
 
 pub returns-clause-tells : goal.returns-clause-tells
 returns-clause-tells g c = tells_then output_text _ _ (ready_value c.in_ok-ready.ready) c.run_rest.result c.in_ok-ready.ensures.tells c.run_rest.ensures.tells
+
+pub returns-in_err-ready-clause-tells : goal.returns-in_err-ready-clause-tells
+returns-in_err-ready-clause-tells g c =
+    let exit = c.from_residual in
+    tells_exit ready_value output_text _ _ c.in_err-ready.field-0.0 exit.result exit.ensures.1
+    c.in_err-ready.ensures.tells

@@ -1,4 +1,5 @@
-use Rattle.feast_run.proofs.Telling.{tells_then}
+use Rattle.world_text.specs.Drafts.{DraftValue}
+use Rattle.feast_run.proofs.Telling.{tells_then, tells_exit}
 use Rattle.feast_run.specs.Values.{ready_value}
 use Rattle.feast_run.proofs.worlds.make_ready.Goals as goal
 
@@ -6,3 +7,9 @@ pub returns-clause-tells : goal.returns-clause-tells
 returns-clause-tells g c =
     let rest = rw c.in_ok-draft.ensures.files at c.with_element_files.ensures.tells in
     tells_then ready_value _ _ c.in_ok-draft.draft c.with_element_files.result c.in_ok-draft.ensures.tells rest
+
+pub returns-in_err-draft-clause-tells : goal.returns-in_err-draft-clause-tells
+returns-in_err-draft-clause-tells g c =
+    let exit = c.from_residual in
+    tells_exit (λ (d : DraftValue). d) ready_value _ _ c.in_err-draft.field-0.0 exit.result exit.ensures.1
+    c.in_err-draft.ensures.tells

@@ -1,35 +1,6 @@
-use Rattle.std.proofs.Common.{ℕ, Err, List, inr, refl, subst}
 use Rattle.element_set.specs.Sets.{set_value}
 use Rattle.feast_run.proofs.Sound.{set_brings}
-use Rattle.feast_run.proofs.Telling.{tells_exit}
-use Rattle.feast_run.specs.Elements.{source_elements}
-use Rattle.feast_run.specs.Halting.{decides}
-use Rattle.feast_run.specs.Stages.{world_refused}
-use Rattle.feast_run.specs.Tellings.{Tells}
-use Rattle.feast_run.specs.Values.{ready_value}
-use Rattle.world_text.specs.Named.{named}
-use Rattle.world_runs.proofs.Valid.{world_valid}
-use Rattle.world_text.specs.Printed.{IsNamed}
-use Rattle.world_text.specs.Values.{world_value}
 use Rattle.feast_run.proofs.worlds.with_set.Goals as goal
 
-pub map_of-requires : goal.map_of-requires
-map_of-requires c = (world_valid _ (world_value c.in_ok-world.world) c.in_ok-world.ensures.named).map
-
-pub returns-clause-tells : goal.returns-clause-tells
-returns-clause-tells c =
-    let w = world_value c.in_ok-world.world in
-    let passed = rw c.names.ensures.value at c.in_ok-world.ensures.tells in
-    inr (record { value = w; passed = passed; rest = refl })
-
-pub returns-clause-ready : goal.returns-clause-ready
-returns-clause-ready c =
-    let w = world_value c.in_ok-world.world in
-    record { named = subst (λ (names : List (List ℕ)). IsNamed names w) c.names.ensures.value c.in_ok-world.ensures.named; map = c.in_ok-map.ensures; brings = set_brings (set_value c.args.set) }
-
-pub returns-in_err-world-clause-tells : goal.returns-in_err-world-clause-tells
-returns-in_err-world-clause-tells c =
-    let halt = c.in_err-world.field-0.0 in
-    let S = λ (names : List (List ℕ)). decides (world_refused c.args.word.now) (named names c.args.draft) in
-    let halted = subst (λ (names : List (List ℕ)). Tells world_value (S names) (Err halt)) c.names.ensures.value c.in_err-world.ensures.tells in
-    tells_exit world_value ready_value (S (source_elements (set_value c.args.set)).names) _ halt c.from_residual.result c.from_residual.ensures.1 halted
+pub with_elements-requires-clause-brings : goal.with_elements-requires-clause-brings
+with_elements-requires-clause-brings c = set_brings (set_value c.args.set)
