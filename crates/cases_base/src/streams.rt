@@ -1,6 +1,6 @@
 //! The loops over a real file and a real output, with a reader and a writer that fail.
 
-use feast_base::{LoadFault, SinkFailed, read_whole, write_whole};
+use feast_base::{LoadFault, read_whole, write_whole};
 use std::io;
 use std::io::{ErrorKind, Read, Write};
 use std::test::Fail;
@@ -50,14 +50,14 @@ fn a_file_is_read_to_its_end_or_its_fault(rt: HostRuntime) -> Result<(), Fail> {
         };
         let mut into = Vec::new(rt.alloc());
         let told = read_whole(&mut drip, limit, &mut into);
-        assert_eq!(rt; told, answer, "limit {limit}");
-        assert_eq!(rt; into.as_slice(), taken.as_bytes(), "limit {limit}");
+        assert!(rt; told == answer, "limit {limit}");
+        assert!(rt; into.as_slice() == taken.as_bytes(), "limit {limit}");
     }
     Ok(())
 }
 
 /// How a writer fails.
-#[derive(Clone, Copy, Debug, PartialEq, Eq)]
+#[derive(Clone, Copy, Debug)]
 enum Fault {
     Nothing,
     TakesNothing,
@@ -103,12 +103,12 @@ impl Write for Sip {
 #[test]
 fn a_piece_is_written_whole_or_up_to_its_fault(rt: HostRuntime) -> Result<(), Fail> {
     let rows = [
-        (Fault::Nothing, Ok(()), "report\n", 1),
-        (Fault::TakesNothing, Err(SinkFailed), "rep", 0),
-        (Fault::Fails, Err(SinkFailed), "rep", 0),
-        (Fault::FailsToFlush, Err(SinkFailed), "report\n", 1),
+        (Fault::Nothing, true, "report\n", 1),
+        (Fault::TakesNothing, false, "rep", 0),
+        (Fault::Fails, false, "rep", 0),
+        (Fault::FailsToFlush, false, "report\n", 1),
     ];
-    for (fault, answer, got, flushes) in rows {
+    for (fault, is_written, got, flushes) in rows {
         let mut sip = Sip {
             got: Vec::new(rt.alloc()),
             fault,
@@ -116,9 +116,9 @@ fn a_piece_is_written_whole_or_up_to_its_fault(rt: HostRuntime) -> Result<(), Fa
             interrupted: false,
         };
         let told = write_whole(&mut sip, b"report\n");
-        assert_eq!(rt; told, answer, "{fault:?}");
-        assert_eq!(rt; sip.got.as_slice(), got.as_bytes(), "{fault:?}");
-        assert_eq!(rt; sip.flushes, flushes, "{fault:?}");
+        assert!(rt; told.is_ok() == is_written, "{fault:?}");
+        assert!(rt; sip.got.as_slice() == got.as_bytes(), "{fault:?}");
+        assert!(rt; sip.flushes == flushes, "{fault:?}");
     }
     Ok(())
 }
