@@ -1,6 +1,6 @@
 -- A fault of one step as the fault of all. A proof by these does not go through the faults one by one.
 use Rattle.std.proofs.Common.{◌≡◌, Result, Ok, Err}
-use Rattle.std.specs.Prelude.{IsErr, IsErrAnd}
+use Rattle.std.specs.Prelude.{IsErr, IsErrAnd, IfOk}
 use Rattle.ulam_names.specs.declared.fault.NameFault.{NameFault}
 use Rattle.ulam_names.specs.declared.fault.NameFault.TheVariants as n
 use Rattle.ulam_names.specs.Faults.{Fault, Found}
@@ -31,3 +31,8 @@ no_room view y (Err d) told = rw told.1 tt
 pub no_room_by : {X B : Type 0} (view : X → B) (e : NameFault) (y : Found B) (r : Result X NameFault) → IsErr r × IsErrAnd r (λ d. d ≡ e) → e ≡ n.NoMemory → Gives view r y
 no_room_by view e y (Ok z) told none = absurd told.1
 no_room_by view e y (Err d) told none = rw (told.1, none) tt
+
+-- nothing is said of an answer where a fault is passed on
+pub none_ok : {X : Type 0} (P : X → Type 0) (e : NameFault) (r : Result X NameFault) → IsErr r × IsErrAnd r (λ d. d ≡ e) → IfOk r P
+none_ok P e (Ok z) told = absurd told.1
+none_ok P e (Err d) told = tt
