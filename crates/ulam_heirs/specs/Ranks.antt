@@ -9,3 +9,7 @@ rank ranks k = slice_index ranks k
 -- each base has a higher rank than its heirs, or at least the rank `top`
 abbrev pub AreRanked : List (Option ℕ) → List ℕ → ℕ → Type 0
 AreRanked bases ranks top = (k j : ℕ) → base_in bases k ≡ Some j → (rank ranks k < rank ranks j) ⊎ (top ≤ rank ranks j)
+
+-- the same of one class, given its base
+abbrev pub IsRanked : List ℕ → ℕ → ℕ → Option ℕ → Type 0
+IsRanked ranks top k base = (j : ℕ) → base ≡ Some j → (rank ranks k < rank ranks j) ⊎ (top ≤ rank ranks j)

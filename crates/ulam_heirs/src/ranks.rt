@@ -1,7 +1,7 @@
 //! Ranks of classes, by which most are seen not to be their own bases.
 ghost use Rattle.std.specs.Prelude.{◌≡◌, IsTrue};
 ghost use Rattle.ulam_heirs.specs.Ranks as spec;
-ghost use Rattle.ulam_heirs.specs.Ranks.{AreRanked};
+ghost use Rattle.ulam_heirs.specs.Ranks.{AreRanked, IsRanked};
 
 use crate::line::base_in;
 use feast_base::NoMemory;
@@ -88,17 +88,27 @@ pub fn rank(ranks: &[usize], class: usize) -> usize
     }
 }
 
+/// Whether the base of a class has a higher rank than the class, or at least this one.
+fn is_ranked(ranks: &[usize], top: usize, class: usize, base: Option<usize>) -> bool
+    ensures { IsTrue result → IsRanked ranks.now top class base }
+{
+    match base {
+        Some(base) => {
+            let above = rank(ranks, base);
+            rank(ranks, class) < above || top <= above
+        }
+        None => true,
+    }
+}
+
 /// Whether each base has a higher rank than its heirs, or at least this one.
 pub fn are_ranked(bases: &[Option<usize>], ranks: &[usize], top: usize) -> bool
     ensures { IsTrue result → AreRanked bases.now ranks.now top }
 {
     let mut class = 0;
     for base in bases {
-        if let Some(base) = base {
-            let above = rank(ranks, *base);
-            if rank(ranks, class) >= above && above < top {
-                return false;
-            }
+        if !is_ranked(ranks, top, class, *base) {
+            return false;
         }
         class += 1;
     }
