@@ -49,8 +49,7 @@ pub fn declare(
         None => make::then_instr(alloc, Piece::Plain(blank_instr(scene.classes, ty)), keep),
         Some(value) => {
             let value = expr(alloc, scene, value)?;
-            let rest = make::then_instr(alloc, fit(number_type(ty)), keep)?;
-            make::seq(alloc, value, rest)
+            make::three(alloc, value, fit(number_type(ty)), Piece::Plain(keep))
         }
     }
 }
@@ -88,8 +87,7 @@ pub fn give_back(alloc: Global, scene: &Scene, value: &Option<Expr>) -> Result<P
         Some(value) => {
             let value = expr(alloc, scene, value)?;
             let last = give(alloc, scene.result)?;
-            let rest = make::seq(alloc, fit(number_type(scene.result)), last)?;
-            make::seq(alloc, value, rest)
+            make::three(alloc, value, fit(number_type(scene.result)), last)
         }
     }
 }
@@ -110,8 +108,7 @@ fn assign_path(
         None => make::seq(alloc, value, last),
         Some(op) => {
             let update = Piece::Plain(update_instr(op, type_at(scene, path), width));
-            let rest = make::seq(alloc, update, last)?;
-            let rest = make::seq(alloc, value, rest)?;
+            let rest = make::three(alloc, value, update, last)?;
             make::seq(alloc, load(scene, path), rest)
         }
     }
@@ -132,17 +129,12 @@ fn assign_at(
     let at = expr(alloc, scene, index)?;
     let last = store_at(scene, path);
     match op {
-        None => {
-            let rest = make::seq(alloc, value, last)?;
-            make::seq(alloc, at, rest)
-        }
+        None => make::three(alloc, at, value, last),
         Some(op) => {
             let update = Piece::Plain(update_instr(op, type_at(scene, path), width));
-            let rest = make::seq(alloc, update, last)?;
-            let rest = make::seq(alloc, value, rest)?;
+            let rest = make::three(alloc, value, update, last)?;
             let rest = make::seq(alloc, load_at(scene, path), rest)?;
-            let rest = make::seq(alloc, Piece::Plain(Instr::Dup), rest)?;
-            make::seq(alloc, at, rest)
+            make::three(alloc, at, Piece::Plain(Instr::Dup), rest)
         }
     }
 }
