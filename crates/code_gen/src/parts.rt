@@ -108,7 +108,8 @@ fn assign_path(
         None => make::seq(alloc, value, last),
         Some(op) => {
             let update = Piece::Plain(update_instr(op, type_at(scene, path), width));
-            let rest = make::three(alloc, value, update, last)?;
+            let rest = make::seq(alloc, update, last)?;
+            let rest = make::seq(alloc, value, rest)?;
             make::seq(alloc, load(scene, path), rest)
         }
     }
@@ -129,12 +130,17 @@ fn assign_at(
     let at = expr(alloc, scene, index)?;
     let last = store_at(scene, path);
     match op {
-        None => make::three(alloc, at, value, last),
+        None => {
+            let rest = make::seq(alloc, value, last)?;
+            make::seq(alloc, at, rest)
+        }
         Some(op) => {
             let update = Piece::Plain(update_instr(op, type_at(scene, path), width));
-            let rest = make::three(alloc, value, update, last)?;
+            let rest = make::seq(alloc, update, last)?;
+            let rest = make::seq(alloc, value, rest)?;
             let rest = make::seq(alloc, load_at(scene, path), rest)?;
-            make::three(alloc, at, Piece::Plain(Instr::Dup), rest)
+            let rest = make::seq(alloc, Piece::Plain(Instr::Dup), rest)?;
+            make::seq(alloc, at, rest)
         }
     }
 }
