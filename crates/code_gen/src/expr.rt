@@ -65,13 +65,11 @@ fn pair(alloc: Global, op: PairOp, ty: Ty, left: Piece, right: Piece) -> Result<
         }
         PairOp::Either => {
             let choice = make::pick(alloc, right, Piece::Plain(Instr::PushNum(1)))?;
-            let other = make::seq(alloc, Piece::Plain(Instr::NotB), choice)?;
-            make::seq(alloc, left, other)
+            make::three(alloc, left, Piece::Plain(Instr::NotB), choice)
         }
         _ => {
             let instr = pair_instr(op, arith_of(ty), width_of(ty));
-            let rest = make::then_instr(alloc, right, instr)?;
-            make::seq(alloc, left, rest)
+            make::three(alloc, left, right, Piece::Plain(instr))
         }
     }
 }
@@ -194,8 +192,7 @@ fn args(
     let mut piece = args_end(list.len() == casts.len());
     for i in (0..both).rev() {
         let value = expr(alloc, scene, &list[i])?;
-        let rest = make::seq(alloc, fit(casts[i]), piece)?;
-        piece = make::seq(alloc, value, rest)?;
+        piece = make::three(alloc, value, fit(casts[i]), piece)?;
     }
     Ok(piece)
 }

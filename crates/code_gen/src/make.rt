@@ -24,6 +24,14 @@ pub fn seq(alloc: Global, a: Piece, b: Piece) -> Result<Piece, NoMemory>
     Ok(Piece::Seq(boxed(alloc, a)?, boxed(alloc, b)?))
 }
 
+/// Three pieces one after another.
+pub(crate) fn three(alloc: Global, a: Piece, b: Piece, c: Piece) -> Result<Piece, NoMemory>
+    ensures { IfOk result (λ q. piece_of q ≡ seq (piece_of a) (seq (piece_of b) (piece_of c))) }
+{
+    let rest = seq(alloc, b, c)?;
+    seq(alloc, a, rest)
+}
+
 /// A piece and then an instruction.
 pub fn then_instr(alloc: Global, a: Piece, instr: Instr) -> Result<Piece, NoMemory>
     ensures { IfOk result (λ q. piece_of q ≡ seq (piece_of a) (plain instr)) }

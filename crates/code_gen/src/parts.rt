@@ -49,8 +49,7 @@ pub fn declare(
         None => make::then_instr(alloc, Piece::Plain(blank_instr(scene.classes, ty)), keep),
         Some(value) => {
             let value = expr(alloc, scene, value)?;
-            let rest = make::then_instr(alloc, fit(number_type(ty)), keep)?;
-            make::seq(alloc, value, rest)
+            make::three(alloc, value, fit(number_type(ty)), Piece::Plain(keep))
         }
     }
 }
@@ -88,8 +87,7 @@ pub fn give_back(alloc: Global, scene: &Scene, value: &Option<Expr>) -> Result<P
         Some(value) => {
             let value = expr(alloc, scene, value)?;
             let last = give(alloc, scene.result)?;
-            let rest = make::seq(alloc, fit(number_type(scene.result)), last)?;
-            make::seq(alloc, value, rest)
+            make::three(alloc, value, fit(number_type(scene.result)), last)
         }
     }
 }

@@ -67,7 +67,7 @@ loop-k-preserved g c =
     let grown = add_calls (body_at p f) ks in
     let now = c.loop-k.k + 1 in
     let r = next_round p main c.loop-k.k c.loop-k.sum more ks bodies f c.loop-k.invariant.round
-        c.loop-k-test.true at (c.in_ok-step.ensures.count ∙ c.in-Some.is) in
+    c.loop-k-test.true at (c.in_ok-step.ensures.count ∙ c.in-Some.is) in
     let q = subst (λ l. Round p main now more grown l) (sym h.bodies) r in
     record { round = subst (λ l. Round p main now more l (map piece_of new.bodies.items)) (sym h.keys) q }
 
