@@ -5,6 +5,16 @@ use Rattle.element_set.specs.Kept.{set_of_lists}
 use Rattle.element_set.proofs.ClassWalk.{row_fits, elements_fit, elements_then, text_left}
 use Rattle.element_set.proofs.lengths.classes_len.Goals as goal
 
+pub push_class-requires-clause-class : goal.push_class-requires-clause-class
+push_class-requires-clause-class c =
+    let l = c.loop-class in
+    let fit = row_fits c.args.classes.now c.args.layout.now l.class-index c.class-item.result c.requires.fits
+    c.loop-class-test.true c.class-item.is in
+    omega (arith, fit.0, l.invariant.own)
+
+pub overflow_add-own : goal.overflow_add-own
+overflow_add-own c = omega (arith, c.loop-class.invariant.own, c.requires.few, c.loop-class-test.true)
+
 pub push_class-requires-clause-fits : goal.push_class-requires-clause-fits
 push_class-requires-clause-fits c =
     let l = c.loop-class in

@@ -1,0 +1,17 @@
+use Rattle.std.proofs.Common.{[], append-nil, sym}
+use Rattle.feast_base.proofs.Appending.{Appends-at_exit}
+use Rattle.element_set.proofs.print.push_length.Goals as goal
+
+pub returns-in_err-push : goal.returns-in_err-push
+returns-in_err-push c =
+    let exit = c.from_residual in
+    Appends-at_exit _ _ c.args.out.now.items _ _ exit.result exit.ensures.1
+    ([], sym (append-nil c.args.out.now.items))
+    c.in_err-push.ensures
+
+pub returns-in_err-push_number : goal.returns-in_err-push_number
+returns-in_err-push_number c =
+    let exit = c.from_residual-in_err-push_number in
+    Appends-at_exit _ _ c.push.new.out.items _ _ exit.result exit.ensures.1
+    (_, c.in_ok-push.ensures)
+    c.in_err-push_number.ensures
