@@ -77,29 +77,77 @@ fn ended<R: Threads + Sync>(
     ))
 }
 
+/// The line that says that a file couldn't be loaded.
+fn unreadable(alloc: Global, name: &str) -> Result<Vec<u8>, Fail> {
+    let mut line = Vec::from_slice(alloc, name.as_bytes())?;
+    line.extend_from_slice(b": E01 unreadable\n")?;
+    Ok(line)
+}
+
+/// A load of a call fails, which was to give the file of this name, and then the put that says so
+/// fails after seven bytes.
+fn load_fails<R: Threads + Sync + Abort>(
+    rt: &R,
+    alloc: Global,
+    call: &str,
+    load: u64,
+    name: &str,
+) -> Result<(), Fail> {
+    let line = unreadable(alloc, name)?;
+    let (status, written, _) = ended(rt, alloc, call, load, (0, 0))?;
+    assert!(rt; status == Status::Unreadable, "{call}");
+    assert!(rt; written.as_slice() == line.as_slice(), "{call}");
+    let (status, written, _) = ended(rt, alloc, call, load, (1, 7))?;
+    assert!(rt; status == Status::SinkFault, "{call}");
+    assert!(rt;
+        written.as_slice() == &line.as_slice()[..line.len().min(7)],
+        "{call}"
+    );
+    Ok(())
+}
+
+/// Each load of a call fails in turn, and no other is asked for.
+fn loads_fail<R: Threads + Sync + Abort>(
+    rt: &R,
+    alloc: Global,
+    call: &str,
+    names: &[&str],
+) -> Result<(), Fail> {
+    for index in 0..names.len() {
+        load_fails(rt, alloc, call, index as u64 + 1, names[index])?;
+    }
+    let (status, _, _) = ended(rt, alloc, call, names.len() as u64 + 1, (0, 0))?;
+    assert!(rt; status == Status::Done, "{call}");
+    Ok(())
+}
+
 /// A form that loads a file twice, in another order, or goes on after a load that failed, fails here.
 #[test]
 fn each_load_fails_in_turn(rt: HostRuntime) -> Result<(), Fail> {
-    let alloc = rt.alloc();
     for (call, names) in CALLS {
-        for index in 0..names.len() {
-            let (status, written, _) = ended(&rt, alloc, call, index as u64 + 1, (0, 0))?;
-            let mut line = Vec::from_slice(alloc, names[index].as_bytes())?;
-            line.extend_from_slice(b": E01 unreadable\n")?;
-            assert_eq!(rt; status, Status::Unreadable, "{call}");
-            assert_eq!(rt; written.as_slice(), line.as_slice(), "{call}");
-
-            let (status, written, _) = ended(&rt, alloc, call, index as u64 + 1, (1, 7))?;
-            assert_eq!(rt; status, Status::SinkFault, "{call}");
-            assert_eq!(rt;
-                written.as_slice(),
-                &line.as_slice()[..line.len().min(7)],
-                "{call}"
-            );
-        }
-        let (status, _, _) = ended(&rt, alloc, call, names.len() as u64 + 1, (0, 0))?;
-        assert_eq!(rt; status, Status::Done, "{call}");
+        loads_fail(&rt, rt.alloc(), call, names)?;
     }
+    Ok(())
+}
+
+/// A put of a call fails, if it comes to it. The call puts these bytes if none fails.
+fn put_fails<R: Threads + Sync + Abort>(
+    rt: &R,
+    alloc: Global,
+    call: &str,
+    whole: &[u8],
+    (put, keep): (u64, u32),
+) -> Result<(), Fail> {
+    let (status, written, _) = ended(rt, alloc, call, 0, (put, keep))?;
+    let before = if put == 1 { 0usize } else { 4096 };
+    let len = whole.len().min(before + (keep as usize).min(4096));
+    let wanted = if before < whole.len() {
+        Status::SinkFault
+    } else {
+        Status::Done
+    };
+    assert!(rt; status == wanted, "{call}: {put} {keep}");
+    assert!(rt; written.as_slice() == &whole[..len], "{call}: {put} {keep}");
     Ok(())
 }
 
@@ -111,22 +159,9 @@ fn puts_fail<R: Threads + Sync + Abort>(
     stops: &[(u64, u32)],
 ) -> Result<(), Fail> {
     let (_, whole, puts) = ended(rt, alloc, call, 0, (0, 0))?;
-    assert_eq!(rt; puts, if whole.len() > 4096 { 2 } else { 1 }, "{call}");
-    for (put, keep) in stops {
-        let (status, written, _) = ended(rt, alloc, call, 0, (*put, *keep))?;
-        let before = if *put == 1 { 0usize } else { 4096 };
-        if before < whole.len() {
-            let len = whole.len().min(before + (*keep as usize).min(4096));
-            assert_eq!(rt; status, Status::SinkFault, "{call}: {put} {keep}");
-            assert_eq!(rt;
-                written.as_slice(),
-                &whole.as_slice()[..len],
-                "{call}: {put} {keep}"
-            );
-        } else {
-            assert_eq!(rt; status, Status::Done, "{call}");
-            assert_eq!(rt; written.as_slice(), whole.as_slice(), "{call}");
-        }
+    assert!(rt; puts == if whole.len() > 4096 { 2 } else { 1 }, "{call}");
+    for stop in stops {
+        put_fails(rt, alloc, call, whole.as_slice(), *stop)?;
     }
     Ok(())
 }
@@ -144,6 +179,6 @@ fn each_put_fails_in_turn(rt: HostRuntime) -> Result<(), Fail> {
 fn a_generated_run_loads_nothing_and_its_put_fails(rt: HostRuntime) -> Result<(), Fail> {
     let alloc = rt.alloc();
     let (status, _, _) = ended(&rt, alloc, "gen 5", 1, (0, 0))?;
-    assert_eq!(rt; status, Status::Done);
+    assert!(rt; status == Status::Done);
     puts_fail(&rt, alloc, "gen 5", &[(1, 0), (1, 10)])
 }

@@ -119,7 +119,7 @@ const RUNS: [(&str, [u64; 4]); 8] = [
 #[test]
 fn a_gate_is_reached_before_each_attempt(rt: HostRuntime) -> Result<(), Fail> {
     for (text, attempts) in RUNS {
-        assert_eq!(rt; came(&rt, rt.alloc(), text)?, Some(attempts), "{text}");
+        assert!(rt; came(&rt, rt.alloc(), text)? == Some(attempts), "{text}");
     }
     Ok(())
 }
@@ -141,7 +141,7 @@ const GATELESS: [&str; 9] = [
 #[test]
 fn only_runs_reach_their_gate(rt: HostRuntime) -> Result<(), Fail> {
     for text in GATELESS {
-        assert_eq!(rt; came(&rt, rt.alloc(), text)?, Some([0; 4]), "{text}");
+        assert!(rt; came(&rt, rt.alloc(), text)? == Some([0; 4]), "{text}");
     }
     Ok(())
 }

@@ -302,7 +302,7 @@ fn each_attempt_of_four_tiles_is_an_entry(rt: HostRuntime) -> Result<(), Fail> {
         let Some((report, atoms)) = run_and_replay(&rt, alloc, CORNER, COUNTER, &OpenGate)? else {
             return Err(Fail::from("no report"));
         };
-        assert_eq!(rt; entries(report.as_str()), 800);
+        assert!(rt; entries(report.as_str()) == 800);
         assert!(rt; has_atoms(report.as_str(), atoms.as_str()));
     }
     Ok(())

@@ -4,47 +4,39 @@
 use draw_stream::{Attempt, AttemptPlan, Attempts, EventDraws, Script, TileStream};
 use std::test::Fail;
 
+/// Whether an attempt has this centre and this seed.
+fn is_at(attempt: Attempt, centre: u32, seed: u64) -> bool {
+    attempt.centre == centre && attempt.seed == seed
+}
+
 #[test]
 fn a_tile_draws_pairs_of_words_of_its_seed(rt: HostRuntime) {
     let mut stream = TileStream::new(0, 0);
-    assert_eq!(rt;
-        stream.attempt(4096),
-        Attempt {
-            centre: 0x3df,
-            seed: 0x61da_6f3d_c380_d507
-        }
-    );
-    assert_eq!(rt;
-        stream.attempt(64),
-        Attempt {
-            centre: 0x3c,
-            seed: 0x02ee_bf8c_3bbe_5e1a
-        }
-    );
+    assert!(rt; is_at(stream.attempt(4096), 0x3df, 0x61da_6f3d_c380_d507));
+    assert!(rt; is_at(stream.attempt(64), 0x3c, 0x02ee_bf8c_3bbe_5e1a));
 }
 
 #[test]
 fn the_seed_of_a_tile_is_taken_modulo_2_to_the_64(rt: HostRuntime) {
     let mut stream = TileStream::new(u64::MAX, 3);
-    assert_eq!(rt;
-        stream.attempt(64),
-        Attempt {
-            centre: 42,
-            seed: 0x8983_7ec3_9e40_f2c8
-        }
-    );
+    assert!(rt; is_at(stream.attempt(64), 42, 0x8983_7ec3_9e40_f2c8));
 }
 
 #[test]
 fn an_event_draws_words_of_its_seed(rt: HostRuntime) {
-    let mut draws = EventDraws::new(0);
-    assert_eq!(rt; draws.below(u64::MAX), 0xe220_a839_7b1d_cdaf);
-    assert_eq!(rt; draws.below(u64::MAX), 0x6e78_9e6a_a1b9_65f4);
-    assert_eq!(rt; draws.below(10), 9);
-    let mut draws = EventDraws::new(7);
-    assert_eq!(rt; draws.below(u64::MAX), 0x63cb_e1e4_5932_0dd7);
-    assert_eq!(rt; draws.below(u64::MAX), 0x044c_3cd7_f43c_661c);
-    assert_eq!(rt; draws.below(10), 6);
+    let rows = [
+        (0, [0xe220_a839_7b1d_cdaf, 0x6e78_9e6a_a1b9_65f4, 9]),
+        (7, [0x63cb_e1e4_5932_0dd7, 0x044c_3cd7_f43c_661c, 6]),
+    ];
+    for (seed, words) in rows {
+        let mut draws = EventDraws::new(seed);
+        let drawn = [
+            draws.below(u64::MAX),
+            draws.below(u64::MAX),
+            draws.below(10),
+        ];
+        assert_eq!(rt; drawn, words, "seed {seed}");
+    }
 }
 
 /// The attempts, one after another.
@@ -98,16 +90,20 @@ const OF_TILE_3: [Attempt; 4] = [
 ];
 
 #[test]
+fn a_seeded_plan_of_seed_7_has_4_attempts_a_tile(rt: HostRuntime) -> Result<(), Fail> {
+    let off = [false, true, false, false];
+    let plan = AttemptPlan::seeded(rt.alloc(), 7, 4, &off, 256)?;
+    assert!(rt; plan.origin() == Some((7, 4)));
+    assert!(rt; plan.count(3) == 4 && plan.count(1) == 0);
+    assert!(rt; plan.of_tile(rt.alloc(), 0)?.left() == 4);
+    Ok(())
+}
+
+#[test]
 fn a_seeded_plan_of_seed_7_on_tiles_of_16_by_16(rt: HostRuntime) -> Result<(), Fail> {
     let off = [false, true, false, false];
     let plan = AttemptPlan::seeded(rt.alloc(), 7, 4, &off, 256)?;
-    assert_eq!(rt;
-        (plan.origin(), plan.count(3), plan.count(1)),
-        (Some((7, 4)), 4, 0)
-    );
-    let mut attempts = plan.of_tile(rt.alloc(), 0)?;
-    assert_eq!(rt; attempts.left(), 4);
-    assert!(rt; is_followed(&mut attempts, &OF_TILE_0));
+    assert!(rt; is_followed(&mut plan.of_tile(rt.alloc(), 0)?, &OF_TILE_0));
     assert!(rt; is_followed(&mut plan.of_tile(rt.alloc(), 1)?, &[]));
     assert!(rt; is_followed(&mut plan.of_tile(rt.alloc(), 3)?, &OF_TILE_3));
     Ok(())
@@ -117,33 +113,34 @@ fn a_seeded_plan_of_seed_7_on_tiles_of_16_by_16(rt: HostRuntime) -> Result<(), F
 fn the_bound_on_attempts_is_over_the_tiles_that_are_on(rt: HostRuntime) -> Result<(), Fail> {
     let off = [true, false, true];
     let plan = AttemptPlan::seeded(rt.alloc(), 7, 1_000_000, &off, 64)?;
-    assert_eq!(rt;
-        (plan.count(0), plan.count(1), plan.count(2)),
-        (0, 1_000_000, 0)
-    );
+    let counts = [plan.count(0), plan.count(1), plan.count(2)];
+    assert_eq!(rt; counts, [0, 1_000_000, 0]);
     Ok(())
 }
+
+/// The attempts of a script.
+const LINES: [Attempt; 2] = [
+    Attempt { centre: 9, seed: 1 },
+    Attempt {
+        centre: 4,
+        seed: u64::MAX,
+    },
+];
 
 #[test]
 fn a_script_is_followed(rt: HostRuntime) -> Result<(), Fail> {
     let alloc = rt.alloc();
-    let lines = [
-        Attempt { centre: 9, seed: 1 },
-        Attempt {
-            centre: 4,
-            seed: u64::MAX,
-        },
-    ];
     let mut scripts = Vec::new(alloc);
     scripts.push(Script::new(Vec::new(alloc)))?;
-    scripts.push(Script::new(Vec::from_slice(alloc, &lines)?))?;
+    scripts.push(Script::new(Vec::from_slice(alloc, &LINES)?))?;
     let plan = AttemptPlan::scripted(scripts);
-    assert_eq!(rt; (plan.origin(), plan.count(0), plan.count(1)), (None, 0, 2));
+    assert!(rt; plan.origin().is_none());
+    assert!(rt; plan.count(0) == 0 && plan.count(1) == 2);
     assert!(rt; is_followed(&mut plan.of_tile(alloc, 0)?, &[]));
     let mut attempts = plan.of_tile(alloc, 1)?;
-    assert_eq!(rt; attempts.left(), 2);
-    assert!(rt; is_followed(&mut attempts, &lines));
-    assert_eq!(rt; attempts.left(), 0);
+    assert!(rt; attempts.left() == 2);
+    assert!(rt; is_followed(&mut attempts, &LINES));
+    assert!(rt; attempts.left() == 0);
     Ok(())
 }
 
@@ -151,6 +148,6 @@ fn a_script_is_followed(rt: HostRuntime) -> Result<(), Fail> {
 fn a_script_gives_its_attempts_back(rt: HostRuntime) -> Result<(), Fail> {
     let lines = [Attempt { centre: 9, seed: 1 }];
     let script = Script::new(Vec::from_slice(rt.alloc(), &lines)?);
-    assert_eq!(rt; script.into_attempts().as_slice(), lines.as_slice());
+    assert!(rt; script.into_attempts().as_slice() == lines.as_slice());
     Ok(())
 }

@@ -20,11 +20,15 @@ fn sites_have_their_numbers(rt: HostRuntime) {
         (40, offset(40), (4, 0)),
     ];
     for (n, found, (dx, dy)) in sites {
-        assert_eq!(rt; found, (dx, dy), "site {n}");
-        assert_eq!(rt; number(dx, dy), Some(n), "site {n}");
+        assert!(rt; found == (dx, dy), "site {n}");
+        assert!(rt; number(dx, dy) == Some(n), "site {n}");
     }
+}
+
+#[test]
+fn places_outside_the_window_have_no_number(rt: HostRuntime) {
     for (dx, dy) in [(5, 0), (0, -5), (1, 4), (-3, 2), (i32::MIN, i32::MIN)] {
-        assert_eq!(rt; number(dx, dy), None, "({dx}, {dy})");
+        assert!(rt; number(dx, dy).is_none(), "({dx}, {dy})");
     }
 }
 
@@ -36,21 +40,37 @@ fn without_site_1() -> Window {
     Window::new([empty; 41], live)
 }
 
-#[test]
-fn only_live_sites_change(rt: HostRuntime) {
-    let (empty, red, blue) = (Atom::new(0, 0), Atom::new(1, 5), Atom::new(2, 6));
+/// The same, in which `red` is at the centre and `blue` at site 40.
+fn red_and_blue(red: Atom, blue: Atom) -> Window {
     let mut window = without_site_1();
     window.put(0, red);
     window.put(40, blue);
+    window
+}
+
+#[test]
+fn a_site_that_is_not_live_does_not_change(rt: HostRuntime) {
+    let red = Atom::new(1, 5);
+    let mut window = red_and_blue(red, Atom::new(2, 6));
     let before = window;
     window.put(1, red);
     window.swap(0, 1);
     window.swap(1, 0);
-    assert_eq!(rt; window, before);
+    assert!(rt; window == before);
+    assert!(rt; window.is_live(0) && !window.is_live(1));
+}
+
+#[test]
+fn live_sites_are_exchanged(rt: HostRuntime) {
+    let (empty, red, blue) = (Atom::new(0, 0), Atom::new(1, 5), Atom::new(2, 6));
+    let mut window = red_and_blue(red, blue);
+    window.put(1, red);
+    window.swap(0, 1);
+    window.swap(1, 0);
     window.swap(0, 40);
-    assert_eq!(rt; (window.get(0), window.get(40)), (blue, red));
-    assert_eq!(rt; (window.get(3), window.get(1)), (empty, empty));
-    assert_eq!(rt; (window.is_live(0), window.is_live(1)), (true, false));
+    assert!(rt; window.get(0) == blue && window.get(40) == red);
+    assert!(rt; window.get(3) == empty && window.get(1) == empty);
+    assert!(rt; window.is_live(0) && !window.is_live(1));
 }
 
 /// The places of the 41 sites in rows of 12, if the first row and column begin at place 5: computed
@@ -60,22 +80,27 @@ const PLACES: [u8; 41] = [
     60, 53, 42, 66, 31, 79, 20, 92, 9, 105, 22, 94, 35, 83, 48, 72, 61,
 ];
 
-#[test]
-fn a_window_is_read_from_the_rows_of_a_plane(rt: HostRuntime) {
+/// The first 110 places of a plane, each with its number as the state of its atom.
+fn plane() -> [Atom; 110] {
     let mut plane = [Atom::new(0, 0); 110];
     for place in 0..110u8 {
         plane[place as usize] = Atom::new(1, u128::from(place));
     }
+    plane
+}
+
+#[test]
+fn a_window_is_read_from_the_rows_of_a_plane(rt: HostRuntime) {
     let mut window = without_site_1();
-    window.refill(&plane, 5, 12);
+    window.refill(&plane(), 5, 12);
     for n in 0..41u8 {
         let atom = Atom::new(1, u128::from(PLACES[n as usize]));
-        assert_eq!(rt;
-            (window.get(n), window.is_live(n)),
-            (atom, true),
-            "site {n}"
-        );
-        assert_eq!(rt; window.atoms()[n as usize], atom, "site {n}");
+        assert!(rt; window.get(n) == atom && window.is_live(n), "site {n}");
+        assert!(rt; window.atoms()[n as usize] == atom, "site {n}");
     }
-    assert_eq!(rt; Window::empty().get(0), Atom::new(0, 0));
+}
+
+#[test]
+fn a_window_is_empty_at_first(rt: HostRuntime) {
+    assert!(rt; Window::empty().get(0) == Atom::new(0, 0));
 }
