@@ -5,26 +5,44 @@ use stack_code::Instr::*;
 use stack_code::{Answer, Instr, Operand, verify};
 use std::test::Fail;
 
+/// The instructions of a valid code.
+const VALID: [Instr; 4] = [PushNum(0), PushNum(4), Swap, ReturnVoid];
+
+#[test]
+fn a_code_has_what_it_is_made_of(rt: HostRuntime) -> Result<(), Fail> {
+    let raw = code(rt.alloc(), &VALID)?;
+    assert!(rt; raw.kind() == 1);
+    assert!(rt; raw.instrs().len() == 4);
+    assert!(rt; raw.functions().len() == 1);
+    Ok(())
+}
+
 #[test]
 fn verify_gives_the_same_code_where_it_is_valid(rt: HostRuntime) -> Result<(), Fail> {
     let alloc = rt.alloc();
-    let instrs = [PushNum(0), PushNum(4), Swap, ReturnVoid];
-    let raw = code(alloc, &instrs)?;
-    assert_eq!(rt;
-        (raw.kind(), raw.instrs().len(), raw.functions().len()),
-        (1, 4, 1)
-    );
-    match verify(alloc, raw)? {
+    match verify(alloc, code(alloc, &VALID)?)? {
         None => assert!(rt; false, "valid code was refused"),
         Some(code) => {
             assert!(rt; matches!(code.instrs(), [PushNum(0), PushNum(4), Swap, ReturnVoid]));
-            assert_eq!(rt;
-                (code.kind(), code.len(), code.functions().len()),
-                (1, 4, 1)
-            );
+            assert!(rt; code.kind() == 1);
+            assert!(rt; code.len() == 4);
+            assert!(rt; code.functions().len() == 1);
+        }
+    }
+    Ok(())
+}
+
+#[test]
+fn verify_gives_the_same_function_where_it_is_valid(rt: HostRuntime) -> Result<(), Fail> {
+    let alloc = rt.alloc();
+    match verify(alloc, code(alloc, &VALID)?)? {
+        None => assert!(rt; false, "valid code was refused"),
+        Some(code) => {
             let main = &code.functions()[0];
-            assert_eq!(rt; main.name().bytes(), b"behave".as_slice());
-            assert_eq!(rt; (main.base(), main.first(), main.params()), (0, 0, 0));
+            assert!(rt; main.name().bytes() == b"behave".as_slice());
+            assert!(rt; main.base() == 0);
+            assert!(rt; main.first() == 0);
+            assert!(rt; main.params() == 0);
             assert!(rt; matches!(main.slots(), [Operand::Number, Operand::Atom]));
             assert!(rt; matches!(main.answer(), Answer::Nothing));
         }

@@ -31,23 +31,33 @@ fn chosen(alloc: Global, number: i128) -> Result<(u128, u64), Fail> {
 
 #[test]
 fn zero_jumps_and_another_number_goes_on(rt: HostRuntime) -> Result<(), Fail> {
-    let alloc = rt.alloc();
-    assert_eq!(rt; chosen(alloc, 0)?, (256, 5));
-    assert_eq!(rt; chosen(alloc, -3)?, (128, 6));
+    for (number, state, steps) in [(0, 256, 5), (-3, 128, 6)] {
+        assert!(rt; chosen(rt.alloc(), number)? == (state, steps), "{number}");
+    }
     Ok(())
 }
 
 #[test]
-fn windows_after_swaps_and_stores(rt: HostRuntime) -> Result<(), Fail> {
-    let alloc = rt.alloc();
+fn a_swap_moves_the_centre(rt: HostRuntime) -> Result<(), Fail> {
     let mut moved = Window::empty();
     moved.put(4, Atom::new(1, 0));
-    assert!(rt; ends(alloc, &[PushNum(0), PushNum(4), Swap, ReturnVoid], moved)?);
+    assert!(rt;
+        ends(
+            rt.alloc(),
+            &[PushNum(0), PushNum(4), Swap, ReturnVoid],
+            moved
+        )?
+    );
+    Ok(())
+}
+
+#[test]
+fn a_store_changes_its_site(rt: HostRuntime) -> Result<(), Fail> {
     let mut stored = centred();
     stored.put(7, Atom::new(9, 0));
     assert!(rt;
         ends(
-            alloc,
+            rt.alloc(),
             &[PushNum(7), PushAtom(9), StoreSite, ReturnVoid],
             stored
         )?
@@ -131,15 +141,22 @@ fn calling(alloc: Global, end: Instr) -> Result<RawCode, Fail> {
 }
 
 #[test]
-fn calls_take_their_arguments_in_order(rt: HostRuntime) -> Result<(), Fail> {
+fn a_jump_out_of_its_function_is_not_valid(rt: HostRuntime) -> Result<(), Fail> {
     let alloc = rt.alloc();
     let outward = act(alloc, calling(alloc, Jump(9))?, centred())?;
     assert!(rt; outward.is_none(), "a jump out of the function");
+    Ok(())
+}
+
+#[test]
+fn calls_take_their_arguments_in_order(rt: HostRuntime) -> Result<(), Fail> {
+    let alloc = rt.alloc();
     match act(alloc, calling(alloc, ReturnVoid)?, centred())? {
         None => assert!(rt; false, "valid"),
         Some(o) => {
-            assert_eq!(rt; (o.ended, o.steps), (Ended::Done, 10));
-            assert_eq!(rt; o.window.get(0), Atom::new(1, 5 * 128));
+            assert!(rt; matches!(o.ended, Ended::Done));
+            assert!(rt; o.steps == 10);
+            assert!(rt; o.window.get(0) == Atom::new(1, 5 * 128));
         }
     }
     Ok(())

@@ -115,7 +115,7 @@ fn two_threads_that_meet_count_each_hold(rt: HostRuntime) -> Result<(), Fail> {
     let mut met = (false, false);
     for _round in 0..ROUNDS {
         let ((low, high), word) = counted(&rt, rt.alloc())?;
-        assert_eq!(rt; low.wrapping_add(high), word);
+        assert!(rt; low.wrapping_add(high) == word);
         met = (met.0 || low < TRIES, met.1 || high < TRIES);
         if met.0 && met.1 {
             return Ok(());
@@ -159,11 +159,8 @@ fn tried(alloc: Global, refusals: u8) -> Result<Option<(u64, u64)>, Fail> {
 #[test]
 fn a_refusal_is_no_older_than_its_try(rt: HostRuntime) -> Result<(), Fail> {
     for refusals in [1, 2, 5] {
-        assert_eq!(rt;
-            tried(rt.alloc(), refusals)?,
-            Some((0, FURTHER)),
-            "{refusals} refusals"
-        );
+        let holds = tried(rt.alloc(), refusals)?;
+        assert!(rt; holds == Some((0, FURTHER)), "{refusals} refusals");
     }
     Ok(())
 }

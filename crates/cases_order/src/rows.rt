@@ -4,7 +4,8 @@ use crate::plans::{Shape, Try};
 use crate::runs::run;
 use bit_field::Atom;
 use cell_grid::Grid;
-use event_journal::print;
+use event_journal::{Journal, print};
+use feast_base::NoMemory;
 use serial_order::Outcome;
 use std::alloc::Global;
 use std::process::Abort;
@@ -44,6 +45,13 @@ fn lone(grid: &Grid) -> Option<(usize, u128)> {
     found
 }
 
+/// Whether a journal has this text.
+pub fn is_printed_as(alloc: Global, journal: &Journal, expected: &str) -> Result<bool, NoMemory> {
+    let mut text = Vec::new(alloc);
+    print(alloc, journal, &mut text)?;
+    Ok(text.as_slice() == expected.as_bytes())
+}
+
 /// That an outcome has one atom, at this place of the plane in row order and with this state, and
 /// that its journal has this text.
 fn compare(
@@ -54,10 +62,9 @@ fn compare(
     state: u128,
     journal: &str,
 ) {
-    assert_eq!(rt; lone(&outcome.grid), Some((place, state)));
-    let mut text = Vec::new(alloc);
-    print(alloc, &outcome.journal, &mut text).expect(rt, "there is room for the text");
-    assert_eq!(rt; text.as_slice(), journal.as_bytes());
+    assert!(rt; lone(&outcome.grid) == Some((place, state)));
+    let is_same = is_printed_as(alloc, &outcome.journal, journal);
+    assert!(rt; is_same.expect(rt, "there is room for the text"));
 }
 
 #[test]

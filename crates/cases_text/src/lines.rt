@@ -1,23 +1,55 @@
 //! Tests of lines and fields.
 
+use feast_base::NoMemory;
+use std::alloc::Global;
 use std::test::Fail;
 use text_lines::{
     Field, first_field, is_skipped, next_ended, next_line, number, push_line, seed, state,
 };
 
+/// Whether a line and the rest after it are these, or none is there.
+fn is_cut(cut: Option<(&[u8], &[u8])>, expected: Option<(&str, &str)>) -> bool {
+    match (cut, expected) {
+        (Some((line, rest)), Some((text, after))) => {
+            line == text.as_bytes() && rest == after.as_bytes()
+        }
+        (None, None) => true,
+        _ => false,
+    }
+}
+
+/// Texts with their first line, and what follows it.
+const LINES: [(&str, Option<(&str, &str)>); 4] = [
+    ("a\r\nb\n", Some(("a", "b\n"))),
+    ("a\r\r\n", Some(("a\r", ""))),
+    ("a\r", Some(("a\r", ""))),
+    ("", None),
+];
+
+/// Texts with their first line that a line feed ends, and what follows it.
+const ENDED: [(&str, Option<(&str, &str)>); 2] = [("a\r\nb\n", Some(("a\r", "b\n"))), ("a", None)];
+
 #[test]
 fn lines_end_at_line_feeds(rt: HostRuntime) -> Result<(), Fail> {
-    let empty = b"".as_slice();
-    let rest = b"b\n".as_slice();
-    assert_eq!(rt; next_line(b"a\r\nb\n"), Some((b"a".as_slice(), rest)));
-    assert_eq!(rt; next_line(b"a\r\r\n"), Some((b"a\r".as_slice(), empty)));
-    assert_eq!(rt; next_line(b"a\r"), Some((b"a\r".as_slice(), empty)));
-    assert_eq!(rt; next_line(b""), None);
-    assert_eq!(rt; next_ended(b"a\r\nb\n"), Some((b"a\r".as_slice(), rest)));
-    assert_eq!(rt; next_ended(b"a"), None);
-    assert!(rt; is_skipped(b""));
-    assert!(rt; is_skipped(b"# a"));
-    assert!(rt; !is_skipped(b" # a"));
+    for (text, expected) in LINES {
+        assert!(rt; is_cut(next_line(text.as_bytes()), expected), "{text}");
+    }
+    Ok(())
+}
+
+#[test]
+fn a_line_without_a_line_feed_has_not_ended(rt: HostRuntime) -> Result<(), Fail> {
+    for (text, expected) in ENDED {
+        assert!(rt; is_cut(next_ended(text.as_bytes()), expected), "{text}");
+    }
+    Ok(())
+}
+
+#[test]
+fn empty_lines_and_notes_are_skipped(rt: HostRuntime) -> Result<(), Fail> {
+    for (line, expected) in [("", true), ("# a", true), (" # a", false)] {
+        assert!(rt; is_skipped(line.as_bytes()) == expected, "{line}");
+    }
     Ok(())
 }
 
@@ -34,24 +66,39 @@ fn numbers_are_canonical(rt: HostRuntime) -> Result<(), Fail> {
         ("1x", None),
     ];
     for (text, wanted) in table {
-        assert_eq!(rt; number(text.as_bytes()), wanted, "{text}");
+        assert!(rt; number(text.as_bytes()) == wanted, "{text}");
     }
     Ok(())
 }
 
 #[test]
-fn digits_are_of_fixed_number(rt: HostRuntime) -> Result<(), Fail> {
-    assert_eq!(rt; seed(b"00000000000000ff"), Some(255));
-    assert_eq!(rt; seed(b"00000000000000fF"), None);
-    assert_eq!(rt; seed(b"0000000000000ff"), None);
-    assert_eq!(rt; state(b"ff0000000000000000"), Some(255 << 64));
-    assert_eq!(rt; state(b"ff000000000000000"), None);
+fn seeds_have_sixteen_digits(rt: HostRuntime) -> Result<(), Fail> {
+    let table: [(&str, Option<u64>); 3] = [
+        ("00000000000000ff", Some(255)),
+        ("00000000000000fF", None),
+        ("0000000000000ff", None),
+    ];
+    for (text, expected) in table {
+        assert!(rt; seed(text.as_bytes()) == expected, "{text}");
+    }
     Ok(())
 }
 
 #[test]
-fn a_line_is_printed_field_by_field(rt: HostRuntime) -> Result<(), Fail> {
-    let mut out = Vec::new(rt.alloc());
+fn states_have_eighteen_digits(rt: HostRuntime) -> Result<(), Fail> {
+    let table: [(&str, Option<u128>); 2] = [
+        ("ff0000000000000000", Some(255 << 64)),
+        ("ff000000000000000", None),
+    ];
+    for (text, expected) in table {
+        assert!(rt; state(text.as_bytes()) == expected, "{text}");
+    }
+    Ok(())
+}
+
+/// The line of a word, a number, a seed and a state.
+fn four_fields(alloc: Global) -> Result<Vec<u8>, NoMemory> {
+    let mut out = Vec::new(alloc);
     push_line(
         &mut out,
         &[
@@ -61,12 +108,20 @@ fn a_line_is_printed_field_by_field(rt: HostRuntime) -> Result<(), Fail> {
             Field::State(5),
         ],
     )?;
-    assert_eq!(rt;
-        out.as_slice(),
-        b"atom 0 00000000000000ff 000000000000000005\n".as_slice()
-    );
+    Ok(out)
+}
+
+#[test]
+fn a_line_is_printed_field_by_field(rt: HostRuntime) -> Result<(), Fail> {
+    let line = four_fields(rt.alloc())?;
+    assert!(rt; line.as_slice() == b"atom 0 00000000000000ff 000000000000000005\n".as_slice());
+    Ok(())
+}
+
+#[test]
+fn a_space_ends_the_first_field(rt: HostRuntime) -> Result<(), Fail> {
     let (first, rest) = first_field(b"atom 0");
-    assert_eq!(rt; first, b"atom".as_slice());
-    assert_eq!(rt; rest, Some(b"0".as_slice()));
+    assert!(rt; first == b"atom".as_slice());
+    assert!(rt; rest == Some(b"0".as_slice()));
     Ok(())
 }

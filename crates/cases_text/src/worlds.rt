@@ -40,17 +40,19 @@ const PRINTED: [(&str, &str); 3] = [
     ),
 ];
 
+/// Whether a text is a world that is printed as `wanted`.
+fn is_printed_as(alloc: Global, text: &str, wanted: &str) -> Result<bool, Fail> {
+    Ok(match printed(alloc, text)? {
+        Some(out) => out.as_slice() == wanted.as_bytes(),
+        None => false,
+    })
+}
+
 #[test]
 fn a_world_is_printed_as_it_was_read(rt: HostRuntime) -> Result<(), Fail> {
     for (text, wanted) in PRINTED {
-        match printed(rt.alloc(), text)? {
-            Some(out) => assert_eq!(rt; out.as_slice(), wanted.as_bytes(), "{text}"),
-            None => assert!(rt; false, "{text}"),
-        }
-        match printed(rt.alloc(), wanted)? {
-            Some(out) => assert_eq!(rt; out.as_slice(), wanted.as_bytes(), "{text}"),
-            None => assert!(rt; false, "{text}"),
-        }
+        assert!(rt; is_printed_as(rt.alloc(), text, wanted)?, "{text}");
+        assert!(rt; is_printed_as(rt.alloc(), wanted, wanted)?, "{wanted}");
     }
     Ok(())
 }

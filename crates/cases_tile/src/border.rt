@@ -1,7 +1,11 @@
 //! The steps of two tiles at their common border, with the phases and entries compared.
+ghost use Rattle.cases_tile.specs.Pairs.{IsPair};
+
 use crate::pair::{Pair, Side};
 use cell_grid::Record;
 use event_journal::Abandoned;
+use feast_base::NoMemory;
+use std::alloc::Global;
 use std::process::Abort;
 use tile_core::Phase;
 
@@ -35,65 +39,88 @@ const SECOND: Record = Record {
     seed: 0,
 };
 
+/// Steps of both tiles, of which tile 1 comes to the edge while tile 0 has it.
+const CROSSED: [Side; 8] = [
+    Side::Left,
+    Side::Left,
+    Side::Right,
+    Side::Right,
+    Side::Left,
+    Side::Left,
+    Side::Left,
+    Side::Left,
+];
+
+/// The phases that follow these.
+const CROSSED_PHASES: [Phase; 8] = [
+    Phase::Lock,
+    Phase::Refresh,
+    Phase::Lock,
+    Phase::Finished,
+    Phase::Behave,
+    Phase::Write,
+    Phase::Give,
+    Phase::Finished,
+];
+
+/// The attempt that tile 1 gives up then.
+const GIVEN_UP: Abandoned = Abandoned {
+    tile: 1,
+    attempt: 0,
+    x: 16,
+    y: 4,
+    edge: 0,
+    holder: 0,
+    holder_attempt: 0,
+};
+
+/// Makes these steps, and answers whether these phases follow them.
+fn leads_to(
+    pair: &mut Pair,
+    alloc: Global,
+    order: &[Side],
+    expected: &[Phase],
+) -> Result<bool, NoMemory>
+    requires { IsPair pair.old }
+    ensures { IsPair pair.new }
+{
+    let phases = pair.steps(alloc, order)?;
+    Ok(phases.as_slice() == expected)
+}
+
+/// Whether each tile has this one event, and gave up nothing.
+fn has_events(pair: &Pair, left: Record, right: Record) -> bool {
+    pair.left.records() == [left].as_slice()
+        && pair.right.records() == [right].as_slice()
+        && pair.left.abandoned().len() == 0
+        && pair.right.abandoned().len() == 0
+}
+
 #[test]
 fn a_tile_reads_what_its_neighbour_wrote_and_no_more(rt: HostRuntime) {
     let alloc = rt.alloc();
     let mut pair = Pair::new(alloc).expect(&rt, "there is room for two tiles");
-    let left = [Side::Left; 6];
-    let phases = pair.steps(alloc, &left).expect(&rt, "there is room");
-    assert_eq!(rt; phases.as_slice(), WHOLE.as_slice());
-    assert_eq!(rt; pair.board.cells, 0);
-    let right = [Side::Right; 6];
-    let phases = pair.steps(alloc, &right).expect(&rt, "there is room");
-    assert_eq!(rt; phases.as_slice(), WHOLE.as_slice());
-    assert_eq!(rt; pair.left.records(), [FIRST].as_slice());
-    assert_eq!(rt; pair.right.records(), [SECOND].as_slice());
-    assert_eq!(rt;
-        pair.left.abandoned().len() + pair.right.abandoned().len(),
-        0
-    );
-    assert_eq!(rt; pair.board.cells, 32);
-    assert_eq!(rt; (pair.news_bits(0), pair.news_bits(1)), (40, 8));
+    let whole = leads_to(&mut pair, alloc, &[Side::Left; 6], &WHOLE).expect(&rt, "there is room");
+    assert!(rt; whole);
+    assert!(rt; pair.board.cells == 0);
+    let whole = leads_to(&mut pair, alloc, &[Side::Right; 6], &WHOLE).expect(&rt, "there is room");
+    assert!(rt; whole);
+    assert!(rt; has_events(&pair, FIRST, SECOND));
+    assert!(rt; pair.board.cells == 32);
+    assert!(rt; pair.news_bits(0) == 40);
+    assert!(rt; pair.news_bits(1) == 8);
 }
 
 #[test]
 fn a_tile_gives_up_at_an_edge_that_its_neighbour_has(rt: HostRuntime) {
     let alloc = rt.alloc();
     let mut pair = Pair::new(alloc).expect(&rt, "there is room for two tiles");
-    let order = [
-        Side::Left,
-        Side::Left,
-        Side::Right,
-        Side::Right,
-        Side::Left,
-        Side::Left,
-        Side::Left,
-        Side::Left,
-    ];
-    let expected = [
-        Phase::Lock,
-        Phase::Refresh,
-        Phase::Lock,
-        Phase::Finished,
-        Phase::Behave,
-        Phase::Write,
-        Phase::Give,
-        Phase::Finished,
-    ];
-    let phases = pair.steps(alloc, &order).expect(&rt, "there is room");
-    assert_eq!(rt; phases.as_slice(), expected.as_slice());
-    let given_up = Abandoned {
-        tile: 1,
-        attempt: 0,
-        x: 16,
-        y: 4,
-        edge: 0,
-        holder: 0,
-        holder_attempt: 0,
-    };
-    assert_eq!(rt; pair.right.abandoned(), [given_up].as_slice());
-    assert_eq!(rt;
-        (pair.left.records().len(), pair.right.records().len()),
-        (1, 0)
+    let crossed = leads_to(&mut pair, alloc, &CROSSED, &CROSSED_PHASES).expect(
+        &rt,
+        "there is room",
     );
+    assert!(rt; crossed);
+    assert!(rt; pair.right.abandoned() == [GIVEN_UP].as_slice());
+    assert!(rt; pair.left.records().len() == 1);
+    assert!(rt; pair.right.records().len() == 0);
 }
