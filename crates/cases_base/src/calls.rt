@@ -9,11 +9,16 @@ use std::test::Fail;
 use std::{fs, process};
 
 #[test]
-fn names_and_sources_keep_their_bytes(rt: HostRuntime) -> Result<(), Fail> {
-    let alloc = rt.alloc();
-    let name = Name::new(alloc, b"Walker")?;
-    let source = Source::new(alloc, "w", vec![in alloc; 7, 8]?)?;
+fn a_name_keeps_its_bytes(rt: HostRuntime) -> Result<(), Fail> {
+    let name = Name::new(rt.alloc(), b"Walker")?;
     assert!(rt; name.bytes() == b"Walker".as_slice());
+    Ok(())
+}
+
+#[test]
+fn a_source_keeps_its_name_and_its_bytes(rt: HostRuntime) -> Result<(), Fail> {
+    let alloc = rt.alloc();
+    let source = Source::new(alloc, "w", vec![in alloc; 7, 8]?)?;
     assert!(rt; source.name() == "w");
     assert!(rt; source.bytes() == [7, 8].as_slice());
     Ok(())
@@ -150,10 +155,7 @@ fn files_of_the_system_are_loaded(rt: HostRuntime) -> Result<(), Fail> {
     fs::remove_file(&rt, path.as_str())?;
     let missing = shelf.load(path.as_str(), 6, &mut into);
     let told = [whole, longer, missing];
-    assert_eq!(rt;
-        told,
-        [Ok(()), Err(LoadFault::TooLong), Err(LoadFault::Failed)]
-    );
+    assert!(rt; told == [Ok(()), Err(LoadFault::TooLong), Err(LoadFault::Failed)]);
     assert!(rt; into.as_slice() == b"\tfeast\nfea".as_slice());
     Ok(())
 }
