@@ -3,7 +3,7 @@
 use feast_base::text::{push, push_hex, push_number};
 use feast_base::{
     CountLedger, FileShelf, Gate, LoadFault, MemShelf, MemSink, Name, NoLedger, OpenGate, Shelf,
-    Sink, Source, StdSink, Steps, Stop, is_type_name,
+    Sink, SinkFailed, Source, StdSink, Steps, Stop, is_type_name,
 };
 use std::test::Fail;
 use std::{fs, process};
@@ -90,8 +90,6 @@ fn a_sink_in_memory_takes_what_it_has_room_for(rt: HostRuntime) -> Result<(), Fa
     Ok(())
 }
 
-/// Puts 2 to 6 fail: they keep two of three bytes, both of two, none, what there is room for, and by
-/// the first of two stops one.
 #[test]
 fn a_stop_keeps_the_first_bytes_of_its_piece(rt: HostRuntime) -> Result<(), Fail> {
     let alloc = rt.alloc();
@@ -101,18 +99,19 @@ fn a_stop_keeps_the_first_bytes_of_its_piece(rt: HostRuntime) -> Result<(), Fail
         keep: *keep,
     });
     let mut sink = MemSink::stopping(alloc, stops.collect(alloc)?, 12)?;
-    let taken = [
-        sink.put(b"abc").is_ok(),
-        sink.put(b"def").is_ok(),
-        sink.put(b"gh").is_ok(),
-        sink.put(b"i").is_ok(),
-        sink.put(b"jklmno").is_ok(),
-        sink.put(b"jkl").is_ok(),
-        sink.put(b"kl").is_ok(),
-    ];
-    assert_eq!(rt; taken, [true, false, false, false, false, false, true]);
-    assert!(rt; sink.written() == b"abcdeghjkl".as_slice());
-    assert!(rt; sink.calls() == 7);
+    assert_eq!(rt; sink.put(b"abc"), Ok(()));
+    assert_eq!(rt; sink.put(b"def"), Err(SinkFailed), "two of three bytes");
+    assert_eq!(rt;
+        sink.put(b"gh"),
+        Err(SinkFailed),
+        "all, being fewer than nine"
+    );
+    assert_eq!(rt; sink.put(b"i"), Err(SinkFailed), "none");
+    assert_eq!(rt; sink.put(b"jklmno"), Err(SinkFailed), "more than the room");
+    assert_eq!(rt; sink.put(b"jkl"), Err(SinkFailed), "the first of two stops");
+    assert_eq!(rt; sink.put(b"kl"), Ok(()));
+    assert_eq!(rt; sink.written(), b"abcdeghjkl".as_slice());
+    assert_eq!(rt; sink.calls(), 7);
     Ok(())
 }
 
