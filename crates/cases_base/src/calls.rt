@@ -3,17 +3,22 @@
 use feast_base::text::{push, push_hex, push_number};
 use feast_base::{
     CountLedger, FileShelf, Gate, LoadFault, MemShelf, MemSink, Name, NoLedger, OpenGate, Shelf,
-    Sink, Source, StdSink, Steps, Stop, is_type_name,
+    Sink, SinkFailed, Source, StdSink, Steps, Stop, is_type_name,
 };
 use std::test::Fail;
 use std::{fs, process};
 
 #[test]
-fn names_and_sources_keep_their_bytes(rt: HostRuntime) -> Result<(), Fail> {
-    let alloc = rt.alloc();
-    let name = Name::new(alloc, b"Walker")?;
-    let source = Source::new(alloc, "w", vec![in alloc; 7, 8]?)?;
+fn a_name_keeps_its_bytes(rt: HostRuntime) -> Result<(), Fail> {
+    let name = Name::new(rt.alloc(), b"Walker")?;
     assert!(rt; name.bytes() == b"Walker".as_slice());
+    Ok(())
+}
+
+#[test]
+fn a_source_keeps_its_name_and_its_bytes(rt: HostRuntime) -> Result<(), Fail> {
+    let alloc = rt.alloc();
+    let source = Source::new(alloc, "w", vec![in alloc; 7, 8]?)?;
     assert!(rt; source.name() == "w");
     assert!(rt; source.bytes() == [7, 8].as_slice());
     Ok(())
@@ -85,8 +90,6 @@ fn a_sink_in_memory_takes_what_it_has_room_for(rt: HostRuntime) -> Result<(), Fa
     Ok(())
 }
 
-/// Puts 2 to 6 fail: they keep two of three bytes, both of two, none, what there is room for, and by
-/// the first of two stops one.
 #[test]
 fn a_stop_keeps_the_first_bytes_of_its_piece(rt: HostRuntime) -> Result<(), Fail> {
     let alloc = rt.alloc();
@@ -96,18 +99,19 @@ fn a_stop_keeps_the_first_bytes_of_its_piece(rt: HostRuntime) -> Result<(), Fail
         keep: *keep,
     });
     let mut sink = MemSink::stopping(alloc, stops.collect(alloc)?, 12)?;
-    let taken = [
-        sink.put(b"abc").is_ok(),
-        sink.put(b"def").is_ok(),
-        sink.put(b"gh").is_ok(),
-        sink.put(b"i").is_ok(),
-        sink.put(b"jklmno").is_ok(),
-        sink.put(b"jkl").is_ok(),
-        sink.put(b"kl").is_ok(),
-    ];
-    assert_eq!(rt; taken, [true, false, false, false, false, false, true]);
-    assert!(rt; sink.written() == b"abcdeghjkl".as_slice());
-    assert!(rt; sink.calls() == 7);
+    assert_eq!(rt; sink.put(b"abc"), Ok(()));
+    assert_eq!(rt; sink.put(b"def"), Err(SinkFailed), "two of three bytes");
+    assert_eq!(rt;
+        sink.put(b"gh"),
+        Err(SinkFailed),
+        "all, being fewer than nine"
+    );
+    assert_eq!(rt; sink.put(b"i"), Err(SinkFailed), "none");
+    assert_eq!(rt; sink.put(b"jklmno"), Err(SinkFailed), "more than the room");
+    assert_eq!(rt; sink.put(b"jkl"), Err(SinkFailed), "the first of two stops");
+    assert_eq!(rt; sink.put(b"kl"), Ok(()));
+    assert_eq!(rt; sink.written(), b"abcdeghjkl".as_slice());
+    assert_eq!(rt; sink.calls(), 7);
     Ok(())
 }
 
@@ -150,10 +154,7 @@ fn files_of_the_system_are_loaded(rt: HostRuntime) -> Result<(), Fail> {
     fs::remove_file(&rt, path.as_str())?;
     let missing = shelf.load(path.as_str(), 6, &mut into);
     let told = [whole, longer, missing];
-    assert_eq!(rt;
-        told,
-        [Ok(()), Err(LoadFault::TooLong), Err(LoadFault::Failed)]
-    );
+    assert!(rt; told == [Ok(()), Err(LoadFault::TooLong), Err(LoadFault::Failed)]);
     assert!(rt; into.as_slice() == b"\tfeast\nfea".as_slice());
     Ok(())
 }

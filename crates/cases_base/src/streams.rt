@@ -1,6 +1,7 @@
 //! The loops over a real file and a real output, with a reader and a writer that fail.
 
 use feast_base::{LoadFault, read_whole, write_whole};
+use std::alloc::Global;
 use std::io;
 use std::io::{ErrorKind, Read, Write};
 use std::test::Fail;
@@ -32,6 +33,18 @@ impl Read for Drip {
     }
 }
 
+/// The answer of a read of `feast` that fails once this many bytes are left, and what it read.
+fn dripped(alloc: Global, limit: u8, fails_at: Option<usize>) -> (Result<(), LoadFault>, Vec<u8>) {
+    let mut drip = Drip {
+        bytes: b"feast",
+        fails_at,
+        interrupted: false,
+    };
+    let mut into = Vec::new(alloc);
+    let told = read_whole(&mut drip, limit as usize, &mut into);
+    (told, into)
+}
+
 #[test]
 fn a_file_is_read_to_its_end_or_its_fault(rt: HostRuntime) -> Result<(), Fail> {
     let rows = [
@@ -43,13 +56,7 @@ fn a_file_is_read_to_its_end_or_its_fault(rt: HostRuntime) -> Result<(), Fail> {
         (2, Some(1), Err(LoadFault::TooLong), "fea"),
     ];
     for (limit, fails_at, answer, taken) in rows {
-        let mut drip = Drip {
-            bytes: b"feast",
-            fails_at,
-            interrupted: false,
-        };
-        let mut into = Vec::new(rt.alloc());
-        let told = read_whole(&mut drip, limit, &mut into);
+        let (told, into) = dripped(rt.alloc(), limit, fails_at);
         assert!(rt; told == answer, "limit {limit}");
         assert!(rt; into.as_slice() == taken.as_bytes(), "limit {limit}");
     }
