@@ -38,6 +38,7 @@ fn verify_gives_the_same_function_where_it_is_valid(rt: HostRuntime) -> Result<(
     match verify(alloc, code(alloc, &VALID)?)? {
         None => assert!(rt; false, "valid code was refused"),
         Some(code) => {
+            assert!(rt; code.functions().len() == 1);
             let main = &code.functions()[0];
             assert!(rt; main.name().bytes() == b"behave".as_slice());
             assert!(rt; main.base() == 0);
