@@ -8,7 +8,6 @@ use Rattle.edge_lock.specs.PlainBoard.{PlainBoardValue}
 use Rattle.tile_core.specs.Values.{TileValue}
 use Rattle.tile_core.specs.Underway.{IsFreshTile}
 use Rattle.tile_core.specs.Boards.{IsBoardOf, IsOnBoard}
-use Rattle.cases_tile.specs.declared.pair.Pair.{Pair}
 
 -- tile t has only been made, with some atoms and some attempts
 abbrev pub IsJustMade : MapValue → ℕ → TileValue → Type 0
@@ -26,6 +25,3 @@ pub record AreTwo (m : MapValue) (left right : TileValue) (board : PlainBoardVal
   pub higher : IsOnBoard m after_turn right board
   pub lower_number : left.number ≡ 0
   pub higher_number : right.number ≡ 1
-
-abbrev pub IsPair : Pair → Type 0
-IsPair p = AreTwo p.map p.left.core p.right.core p.board.board

@@ -1,5 +1,5 @@
 //! The steps of two tiles at their common border, with the phases and entries compared.
-ghost use Rattle.cases_tile.specs.Pairs.{IsPair};
+ghost use Rattle.cases_tile.specs.Pairs.{AreTwo};
 
 use crate::pair::{Pair, Side};
 use cell_grid::Record;
@@ -81,8 +81,8 @@ fn leads_to(
     order: &[Side],
     expected: &[Phase],
 ) -> Result<bool, NoMemory>
-    requires { IsPair pair.old }
-    ensures { IsPair pair.new }
+    requires { AreTwo pair.old.map pair.old.left.core pair.old.right.core pair.old.board.board }
+    ensures { AreTwo pair.new.map pair.new.left.core pair.new.right.core pair.new.board.board }
 {
     let phases = pair.steps(alloc, order)?;
     Ok(phases.as_slice() == expected)

@@ -4,7 +4,7 @@ ghost use Rattle.tile_map.specs.Plane.{whole_plane};
 ghost use Rattle.border_cache.specs.Copies.{IsGridOf};
 ghost use Rattle.cell_grid.specs.Tried.{after_turn};
 ghost use Rattle.tile_core.specs.Boards.{IsBoardOf, IsOnBoard};
-ghost use Rattle.cases_tile.specs.Pairs.{IsJustMade, OthersStayOn, IsPair};
+ghost use Rattle.cases_tile.specs.Pairs.{IsJustMade, OthersStayOn, AreTwo};
 
 use crate::alone::Turn;
 use crate::counted::CountedBoard;
@@ -88,7 +88,7 @@ impl Pair {
     /// Two tiles with one attempt each, at the two sides of their border: (15, 4), where an atom is,
     /// and (16, 4).
     pub fn new(alloc: Global) -> Result<Pair, NoMemory>
-        ensures { IfOk result (λ p. IsPair p) }
+        ensures { IfOk result (λ p. AreTwo p.map p.left.core p.right.core p.board.board) }
     {
         let map = Map::new(alloc, 2, 1, 16, 16)?;
         let start = first_grid(alloc, &map)?;
@@ -110,8 +110,8 @@ impl Pair {
 
     /// One step of one of the tiles; answers the phase that follows.
     pub fn step(&mut self, side: Side) -> Phase
-        requires { IsPair self.old }
-        ensures { IsPair self.new }
+        requires { AreTwo self.old.map self.old.left.core self.old.right.core self.old.board.board }
+        ensures { AreTwo self.new.map self.new.left.core self.new.right.core self.new.board.board }
     {
         match side {
             Side::Left => advance(&mut self.left, &self.map, &mut self.board),
@@ -121,8 +121,8 @@ impl Pair {
 
     /// One step of one tile after another; answers the phases that follow.
     pub fn steps(&mut self, alloc: Global, order: &[Side]) -> Result<Vec<Phase>, NoMemory>
-        requires { IsPair self.old }
-        ensures { IsPair self.new }
+        requires { AreTwo self.old.map self.old.left.core self.old.right.core self.old.board.board }
+        ensures { AreTwo self.new.map self.new.left.core self.new.right.core self.new.board.board }
     {
         let mut phases = Vec::new(alloc);
         for side in order {
@@ -133,9 +133,9 @@ impl Pair {
 
     /// How many news bits of an end of the edge between the tiles are 1.
     pub fn news_bits(&mut self, end: u32) -> u32
-        requires pair { IsPair self.old }
+        requires pair { AreTwo self.old.map self.old.left.core self.old.right.core self.old.board.board }
         requires end { end < 2 }
-        ensures { IsPair self.new }
+        ensures { AreTwo self.new.map self.new.left.core self.new.right.core self.new.board.board }
     {
         self.board.news_bits(&self.map, 0, end)
     }
