@@ -344,10 +344,13 @@ def left_over(top: pathlib.Path) -> list[str]:
 def main() -> int:
     """Tries all, several at a time, since they mostly wait."""
 
+    # (what a shell starts in the background ignores interrupts, and so would the calls)
+    signal.signal(signal.SIGINT, signal.default_int_handler)
+
     def tried(case: unittest.TestCase) -> unittest.TestResult:
         return case.run(unittest.TestResult()) or unittest.TestResult()
 
-    kinds = (FirstCall, Estimates, Lines)
+    kinds = (FirstCall, Chains, Estimates, Lines)
     names = [(kind, name) for kind in kinds for name in unittest.defaultTestLoader.getTestCaseNames(kind)]
     cases = [kind(name) for kind, name in names if name in (sys.argv[1:] or [name])]
     with concurrent.futures.ThreadPoolExecutor(4) as pool:
