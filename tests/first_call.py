@@ -145,7 +145,8 @@ class FirstCall(unittest.TestCase):
         self.assertEqual([it[0] for it in lines], sorted(it[0] for it in lines), told)
         # (`high` is begun beside others, and once more alone)
         doing = list(dict.fromkeys(it[3] for it in lines))
-        wanted = [f"proving {name}" for name in ("low", "middle", "beside", "high", "feast")] + ["building the program"]
+        proofs = [f"proving {name}" for name in ("low", "middle", "beside", "high", "feast")]
+        wanted = [*proofs, "building the program"]
         self.assertEqual([it for it in doing if it in wanted], wanted, told)
         self.assertEqual(lines[-1][0], "5")
         self.assertRegex(told, r"proved and built in \d+ s; the program by itself is /.*/crates/feast/out/feast\n\Z")
@@ -182,7 +183,8 @@ class FirstCall(unittest.TestCase):
         self.change("machine.py", "return 16", "return 2")
         ended = Call(self, ["run"]).end()
         self.assert_ran(ended, "<run>")
-        self.assertEqual([it for it in self.calls() if it.startswith(("all", "lib", "run"))], [*(f"lib {name}" for name in ("low", "middle", "beside", "high")), "run"])
+        runs = [it for it in self.calls() if it.startswith(("all", "lib", "run"))]
+        self.assertEqual(runs, ["lib low", "lib middle", "lib beside", "lib high", "run"])
         self.assertRegex(ended[2], "1 of 5 crates are proved; .* proving middle\n")
         self.assertNotIn("reading all sources", ended[2])
         self.assertIn("no preview: it wants 4 gigabytes", ended[2])
