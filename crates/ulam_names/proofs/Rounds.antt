@@ -1,9 +1,9 @@
 -- Rounds over all classes, and which class leads to which.
-use Rattle.std.proofs.Common.{◌≡◌, ℕ, zero, suc, ◌+◌, refl, sym, ap, ◌∙◌, List, [], ◌∷◌, length, map, get_or, Bool, true, false, ◌||◌, nat_eq, Some, None, Option, add-one, drop}
+use Rattle.std.proofs.Common.{◌≡◌, ℕ, zero, suc, ◌+◌, refl, sym, ap, ◌∙◌, ◌<◌, List, [], ◌∷◌, ◌++◌, append_assoc, length, map, get_or, Bool, true, false, ◌||◌, nat_eq, Some, None, Option, add-one, drop}
 use Rattle.std.specs.Prelude.{slice_get}
 use Rattle.std.specs.Option.{option_map_or}
 use Rattle.std.specs.List.{list_any}
-use Rattle.std.proofs.lemmas.List.{length-map}
+use Rattle.std.proofs.lemmas.List.{length-map, at_drop_more}
 use Rattle.std.proofs.lemmas.List.Folds.{list_any-append}
 use Rattle.ulam_tree.specs.declared.resolved.Ty.{Ty}
 use Rattle.ulam_tree.specs.Ways.{leads, class_number}
@@ -65,3 +65,13 @@ parts_on p fields n h = parts_at p fields n ∙ rw h refl ∙ ap (λ k. list_any
 pub parts_found : (p : ℕ → Bool) (fields : List (Text × Ty)) (n : ℕ) → list_any p (option_map_or (λ (x : Text × Ty). class_number x.1) (slice_get fields n) []) ≡ true →
     list_any p (field_parts (drop n fields)) ≡ true
 parts_found p fields n h = parts_at p fields n ∙ rw h refl
+
+-- one more mark in a row
+pub mark_on : (g : Head → Bool) (xs : List HalfClass) (i : ℕ) (x : HalfClass) (done more : List Bool) → i < length xs → x ≡ get_or xs i x → more ≡ done ++ (g (head_of x) ∷ []) →
+    done ++ map g (map head_of (drop i xs)) ≡ more ++ map g (map head_of (drop (i + 1) xs))
+mark_on g xs i x done more lt is e =
+    let rest : List Bool = map g (map head_of (drop (i + 1) xs)) in
+    at_drop_more (λ (zs : List HalfClass). done ++ map g (map head_of zs)) xs i x lt
+    ∙ ap (λ (z : HalfClass). done ++ (g (head_of z) ∷ rest)) (sym is)
+    ∙ sym (append_assoc done (g (head_of x) ∷ []) rest)
+    ∙ ap (λ (zs : List Bool). zs ++ rest) (sym e)

@@ -1,6 +1,6 @@
 -- What the walk finds for files and their classes, from the values of the code.
 use Rattle.ulam_tree.specs.Found.{◌>>=◌}
-use Rattle.std.specs.Prelude.{ℕ, ℤ, List, [], map, option_map, Option, Bool, Vec}
+use Rattle.std.specs.Prelude.{ℕ, ℤ, List, [], length, map, option_map, Option, Bool, Vec}
 use Rattle.std.specs.Global.{Global}
 use Rattle.feast_base.specs.declared.place.Place.{Place}
 use Rattle.ulam_tree.specs.declared.type_ref.Width.{Width}
@@ -22,14 +22,16 @@ use Rattle.ulam_names.specs.declared.half.HalfParam.{HalfParam}
 use Rattle.ulam_names.specs.declared.half.Half.{Half}
 use Rattle.ulam_names.specs.declared.half.Pending.{Pending}
 use Rattle.ulam_names.specs.declared.names.Names.{Names}
+use Rattle.ulam_names.specs.declared.scope.Context.{Context}
 use Rattle.ulam_names.specs.Faults.{Found}
 use Rattle.ulam_names.specs.Scopes as s
 use Rattle.ulam_names.specs.Scopes.{no_names}
 use Rattle.ulam_names.specs.Classes as w
+use Rattle.ulam_names.specs.Walk.{body}
 use Rattle.ulam_names.specs.Classes.{Known}
 use Rattle.ulam_names.specs.Files.{all_items}
 use Rattle.ulam_names.specs.NamesView.{names_view}
-use Rattle.ulam_names.specs.Shown.{head_of, param_of as half_param_of, pending_of, half_of, half_class as half_class_of, with_halves, each}
+use Rattle.ulam_names.specs.Shown.{head_of, context_of, param_of as half_param_of, pending_of, half_of, half_class as half_class_of, with_halves, each}
 
 -- Class names
 
@@ -104,10 +106,21 @@ none_cyclic classes = w.none_cyclic (map head_of classes) 0 (map half_class_of c
 
 -- Bodies
 
+-- the body of a function, in its context
+abbrev pub body_in : s.Context → w.Pending → Found r.Body
+body_in c f = body c (w.scope_of c.heads f) (length f.params) f.body
+
+abbrev pub whole_body : Context → Pending → Found r.Body
+whole_body context f = body_in (context_of context) (pending_of f)
+
 abbrev pub param_entries : List HalfClass → List HalfParam → List s.Entry
 param_entries heads params = w.param_entries (map head_of heads) 0 (map half_param_of params)
 
 module _ (known : Known) (heads : List HalfClass) where
+  -- what the names in the body of a function are looked up in
+  abbrev pub whole_context : ℕ → Names → Pending → s.Context
+  whole_context own names f = w.context_of known (map head_of heads) own (names_view names) (pending_of f)
+
   abbrev pub whole_function : ℕ → Names → Pending → Found r.Member
   whole_function own names f = w.whole_member known (map head_of heads) own (names_view names) (w.half_function (pending_of f))
 

@@ -1,5 +1,5 @@
 //! Types of a body.
-ghost use Rattle.std.specs.Prelude.{◌≡◌};
+ghost use Rattle.std.specs.Prelude.{◌≡◌, take, drop};
 ghost use Rattle.ulam_names.specs.Scopes as spec;
 ghost use Rattle.ulam_names.specs.BodyWalk as walk;
 ghost use Rattle.ulam_names.specs.Shown.{IsAsFound};
@@ -12,10 +12,10 @@ use sat_math::{Kind, NumType};
 use ulam_tree::resolved::{Named, Ty};
 use ulam_tree::{TypeRef, Width, Word};
 
-/// A built-in type.
+/// A built-in type that takes a width: one of the first five.
 #[tactic(auto, unfolding(crate::specs::Scopes::built_in))]
-pub fn built_in(name: &[u8]) -> Option<Basic>
-    ensures { result ≡ spec.beside name.now spec.built_in }
+fn sized_type(name: &[u8]) -> Option<Basic>
+    ensures { result ≡ spec.beside name.now (take 5 spec.built_in) }
 {
     if name == b"Int".as_slice() {
         Some(Basic::Sized(Kind::Int, 32))
@@ -27,7 +27,17 @@ pub fn built_in(name: &[u8]) -> Option<Basic>
         Some(Basic::Sized(Kind::Unary, 32))
     } else if name == b"Bool".as_slice() {
         Some(Basic::Sized(Kind::Bool, 1))
-    } else if name == b"Atom".as_slice() {
+    } else {
+        None
+    }
+}
+
+/// A built-in type that takes no width: one of the last five.
+#[tactic(auto, unfolding(crate::specs::Scopes::built_in))]
+fn whole_type(name: &[u8]) -> Option<Basic>
+    ensures { result ≡ spec.beside name.now (drop 5 spec.built_in) }
+{
+    if name == b"Atom".as_slice() {
         Some(Basic::Whole(Ty::Atom))
     } else if name == b"Void".as_slice() {
         Some(Basic::Whole(Ty::Nothing))
@@ -40,6 +50,13 @@ pub fn built_in(name: &[u8]) -> Option<Basic>
     } else {
         None
     }
+}
+
+/// A built-in type.
+pub fn built_in(name: &[u8]) -> Option<Basic>
+    ensures { result ≡ spec.beside name.now spec.built_in }
+{
+    sized_type(name).or(whole_type(name))
 }
 
 /// What a type's name stands for in a body.

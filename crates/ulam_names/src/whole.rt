@@ -2,7 +2,7 @@
 ghost use Rattle.std.specs.Prelude.{◌≡◌, ◌≤◌, length, map, IfOk, IfErr};
 ghost use Rattle.ulam_names.specs.ClassWalk as walk;
 ghost use Rattle.ulam_names.specs.Classes.{is_behave, behaves};
-ghost use Rattle.ulam_names.specs.Shown.{Gives, IsAsFound, each, param_of, half_of, half_class, entries_of};
+ghost use Rattle.ulam_names.specs.Shown.{Gives, IsAsFound, each, each_statement, param_of, half_of, half_class, entries_of, context_of};
 ghost use Rattle.ulam_names.specs.declared.fault.NameFault.TheVariants.{NoMemory as no_memory};
 ghost use Rattle.ulam_tree.specs.RawViews.{word_of};
 ghost use Rattle.ulam_tree.specs.ResolvedViews.{resolved_class, resolved_member, resolved_param};
@@ -17,7 +17,7 @@ use crate::table::Table;
 use feast_base::{Name, NoMemory};
 use std::alloc::Global;
 use ulam_tree::Word;
-use ulam_tree::resolved::{Class, Member, Param, Ty};
+use ulam_tree::resolved::{Class, Member, Param, Statement, Ty};
 
 /// Whether a member is `Void behave()`.
 fn is_behave(member: &Half) -> bool
@@ -108,6 +108,44 @@ fn whole_params(alloc: Global, params: &[HalfParam]) -> Result<Vec<Param>, NameF
     Ok(whole)
 }
 
+/// What the names in the body of a function are looked up in.
+fn whole_context<'c, 'a>(
+    known: &'c Table<'a, bool>,
+    heads: &'c [HalfClass<'a>],
+    own: u32,
+    names: &'c Names<'a>,
+    pending: &Pending<'a>,
+) -> Context<'c, 'a>
+    ensures context { context_of result ≡ walk.whole_context known.now heads.now own names.now pending.now }
+    ensures few { result.params ≤ 8 }
+{
+    Context {
+        heads,
+        classes: known,
+        own,
+        typedefs: &names.typedefs,
+        typedefs_before: pending.typedefs,
+        constants: &names.constants,
+        constants_before: pending.constants,
+        params: pending.params.len() as u32,
+    }
+}
+
+/// The body of a function.
+fn whole_body<'a>(
+    alloc: Global,
+    context: &Context<'_, 'a>,
+    pending: &Pending<'a>,
+) -> Result<Vec<Statement>, NameFault>
+    requires { context.now.params ≤ 8 }
+    ensures { Gives each_statement result (walk.whole_body context.now pending.now) }
+{
+    let params = pending.params.len() as u32;
+    let mut entries = param_entries(alloc, context.heads, pending.params.as_slice())?;
+    let (body, _) = body(alloc, context, &mut entries, 0, params, pending.body)?;
+    Ok(body)
+}
+
 /// A function with its body.
 fn whole_function<'a>(
     alloc: Global,
@@ -119,24 +157,12 @@ fn whole_function<'a>(
 ) -> Result<Member, NameFault>
     ensures { Gives resolved_member result (walk.whole_function known.now heads.now own names.now pending.now) }
 {
-    let params = pending.params.len() as u32;
-    let context = Context {
-        heads,
-        classes: known,
-        own,
-        typedefs: &names.typedefs,
-        typedefs_before: pending.typedefs,
-        constants: &names.constants,
-        constants_before: pending.constants,
-        params,
-    };
-    let mut entries = param_entries(alloc, heads, pending.params.as_slice())?;
-    let (body, _) = body(alloc, &context, &mut entries, 0, params, pending.body)?;
+    let context = whole_context(known, heads, own, names, pending);
     Ok(Member::Function {
         of: pending.of,
         word: copy(alloc, pending.word)?,
         params: whole_params(alloc, pending.params.as_slice())?,
-        body,
+        body: whole_body(alloc, &context, pending)?,
     })
 }
 

@@ -1,6 +1,6 @@
-use Rattle.std.proofs.Common.{◌≡◌, ◌∙◌, sym, ap, List, [], ◌++◌, ◌+◌, drop, map, arith, rules}
+use Rattle.std.proofs.Common.{◌≡◌, ◌∙◌, sym, ap, List, [], ◌++◌, ◌+◌, drop, map, refl}
 use Rattle.std.proofs.lemmas.List.{at_drop_more}
-use Rattle.std.proofs.lemmas.Grind.{common_steps}
+use Rattle.ulam_names.proofs.Faults.{passed_on}
 use Rattle.ulam_tree.specs.RawViews.{item_of, file_of}
 use Rattle.ulam_tree.specs.declared.raw.File.{File}
 use Rattle.ulam_tree.specs.declared.raw.Item.{Item}
@@ -20,7 +20,7 @@ returns-in_err-file_names c =
     ∙ ap (λ (x : File). walk.class_names c.loop-file.known (file_of x ++ all_items rest)) (sym c.file-item.is)
     ∙ ap (λ (zs : List Item). walk.class_names c.loop-file.known (map item_of zs ++ all_items rest)) (sym c.as_slice.ensures.value)
     ∙ names_append c.loop-file.known (map item_of c.as_slice.result.now) (all_items rest) in
-    rw e (first_of (search rules, grind (arith, common_steps)))
+    passed_on _ _ _ _ _ c.from_residual.ensures c.in_err-file_names.ensures (λ f h. e ∙ rw h refl)
 
 pub loop-file-preserved : goal.loop-file-preserved
 loop-file-preserved c =

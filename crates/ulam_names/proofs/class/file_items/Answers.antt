@@ -1,6 +1,6 @@
-use Rattle.std.proofs.Common.{◌≡◌, ◌∙◌, sym, ap, List, ◌∷◌, ◌+◌, drop, map, arith, rules}
+use Rattle.std.proofs.Common.{◌≡◌, ◌∙◌, sym, ap, List, ◌∷◌, ◌+◌, drop, map, refl}
 use Rattle.std.proofs.lemmas.List.{at_drop_more}
-use Rattle.std.proofs.lemmas.Grind.{common_steps}
+use Rattle.ulam_names.proofs.Faults.{passed_on}
 use Rattle.ulam_tree.specs.RawViews.{item_of}
 use Rattle.ulam_tree.specs.declared.raw.Item.{Item}
 use Rattle.ulam_tree.specs.Found.{◌>>=◌, with_front}
@@ -19,7 +19,7 @@ returns-in_err-item c =
     ∙ at_drop_more (λ (zs : List Item). with_front front (walk.items c.args.known.now (map item_of zs))) xs c.loop-one.one-index c.one-item.result c.loop-one-test.true
     ∙ ap (λ (x : Item). with_front front (walk.items c.args.known.now (item_of x ∷ map item_of rest))) (sym c.one-item.is)
     ∙ item_fails c.args.known.now front (item_of c.one-item.result) (map item_of rest) in
-    rw e (first_of (search rules, grind (arith, common_steps)))
+    passed_on _ _ _ _ _ c.from_residual.ensures c.in_err-item.ensures (λ f h. e ∙ rw h refl)
 
 pub loop-one-preserved : goal.loop-one-preserved
 loop-one-preserved c =

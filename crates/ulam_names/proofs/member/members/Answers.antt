@@ -1,6 +1,6 @@
-use Rattle.std.proofs.Common.{◌≡◌, ◌∙◌, sym, ap, List, ◌∷◌, ◌+◌, drop, map, arith, rules}
-use Rattle.std.proofs.lemmas.List.{at_drop_more}
-use Rattle.std.proofs.lemmas.Grind.{common_steps}
+use Rattle.std.proofs.Common.{◌≡◌, ◌∙◌, sym, ap, List, ◌∷◌, ◌+◌, drop, map, Ok, refl}
+use Rattle.std.proofs.lemmas.List.{at_drop_more, at_drop_all, append-nil}
+use Rattle.ulam_names.proofs.Faults.{passed_on}
 use Rattle.ulam_tree.specs.RawViews.{member_of}
 use Rattle.ulam_tree.specs.declared.raw.Member.{Member}
 use Rattle.ulam_tree.specs.Found.{◌>>=◌}
@@ -22,7 +22,7 @@ returns-in_err-member c =
     ∙ at_drop_more (λ (zs : List Member). with_halves front (walk.members c.args.known.now d (map member_of zs))) xs c.loop-one.one-index c.one-item.result c.loop-one-test.true
     ∙ ap (λ (x : Member). with_halves front (walk.members c.args.known.now d (member_of x ∷ map member_of rest))) (sym c.one-item.is)
     ∙ member_fails c.args.known.now d front (member_of c.one-item.result) (map member_of rest) in
-    rw e (first_of (search rules, grind (arith, common_steps)))
+    passed_on _ _ _ _ _ c.from_residual.ensures c.in_err-member.ensures (λ f h. e ∙ rw h refl)
 
 pub loop-one-preserved : goal.loop-one-preserved
 loop-one-preserved c =
@@ -34,3 +34,11 @@ loop-one-preserved c =
     ∙ at_drop_more (λ (zs : List Member). with_halves front (walk.members c.args.known.now d (map member_of zs))) xs c.loop-one.one-index c.one-item.result c.loop-one-test.true
     ∙ ap (λ (x : Member). with_halves front (walk.members c.args.known.now d (member_of x ∷ map member_of rest))) (sym c.one-item.is)
     ∙ members_on c.args.known.now d (names_view c.member.new.names) front (map half_of c.member.new.found.items) (member_of c.one-item.result) (map member_of rest) c.in_ok-member.ensures
+
+pub returns : goal.returns
+returns c =
+    let front : List walk.Half = map half_of c.loop-one.found.items in
+    let d : Names = names_view c.loop-one.names in
+    c.loop-one.invariant
+    ∙ at_drop_all (λ (zs : List Member). with_halves front (walk.members c.args.known.now d (map member_of zs))) c.args.raw.now c.loop-one.one-index c.loop-one-test.false
+    ∙ ap (λ (hs : List walk.Half). Ok (d, hs)) (append-nil front)

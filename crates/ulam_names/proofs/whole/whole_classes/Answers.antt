@@ -1,6 +1,6 @@
-use Rattle.std.proofs.Common.{◌≡◌, ◌∙◌, sym, ap, List, ◌∷◌, ◌+◌, drop, map, arith, rules}
+use Rattle.std.proofs.Common.{◌≡◌, ◌∙◌, sym, ap, List, ◌∷◌, ◌+◌, drop, map, arith, refl}
 use Rattle.std.proofs.lemmas.List.{at_drop_more, map-append}
-use Rattle.std.proofs.lemmas.Grind.{common_steps}
+use Rattle.ulam_names.proofs.Faults.{passed_on}
 use Rattle.ulam_tree.specs.Resolved as r
 use Rattle.ulam_tree.specs.ResolvedViews.{resolved_class}
 use Rattle.ulam_names.specs.declared.half.HalfClass.{HalfClass}
@@ -21,7 +21,7 @@ returns-in_err-whole_class c =
     c.loop-class.invariant.found
     ∙ at_drop_more (λ (zs : List HalfClass). with_front front (walk.whole_classes c.args.known.now heads c.loop-class.own (map half_class zs))) xs c.loop-class.class-index c.class-item.result c.loop-class-test.true
     ∙ ap (λ (x : HalfClass). with_front front (walk.whole_classes c.args.known.now heads c.loop-class.own (half_class x ∷ rest))) (sym c.class-item.is) in
-    rw e (first_of (search rules, grind (arith, common_steps)))
+    passed_on _ _ _ _ _ c.from_residual.ensures c.in_err-whole_class.ensures (λ f h. e ∙ rw h refl)
 
 pub loop-class-preserved : goal.loop-class-preserved
 loop-class-preserved c =

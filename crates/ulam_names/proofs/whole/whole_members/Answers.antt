@@ -1,6 +1,6 @@
-use Rattle.std.proofs.Common.{◌≡◌, ◌∙◌, sym, ap, List, ◌∷◌, ◌+◌, drop, map, arith, rules}
-use Rattle.std.proofs.lemmas.List.{at_drop_more, map-append}
-use Rattle.std.proofs.lemmas.Grind.{common_steps}
+use Rattle.std.proofs.Common.{◌≡◌, ◌∙◌, sym, ap, List, ◌∷◌, ◌+◌, drop, map, Ok, refl}
+use Rattle.std.proofs.lemmas.List.{at_drop_more, at_drop_all, append-nil, map-append}
+use Rattle.ulam_names.proofs.Faults.{passed_on}
 use Rattle.ulam_tree.specs.Resolved as r
 use Rattle.ulam_tree.specs.ResolvedViews.{resolved_member}
 use Rattle.ulam_names.specs.declared.half.Half.{Half}
@@ -26,7 +26,7 @@ returns-in_err-member c =
     ∙ at_drop_more (λ (zs : List Half). with_front front (walk.whole_members c.args.known.now heads c.args.own d (map half_of zs))) c.deref-half-items.result.now c.loop-half.half-index c.half-item.result c.loop-half-test.true
     ∙ ap (λ (x : Half). with_front front (walk.whole_members c.args.known.now heads c.args.own d (half_of x ∷ map half_of (drop (c.loop-half.half-index + 1) c.deref-half-items.result.now)))) (sym c.half-item.is)
     ∙ ap (λ (zs : List Half). with_front front (walk.whole_members c.args.known.now heads c.args.own d (half_of c.half-item.result ∷ map half_of (drop (c.loop-half.half-index + 1) zs)))) seen in
-    rw e (first_of (search rules, grind (arith, common_steps)))
+    passed_on _ _ _ _ _ c.from_residual.ensures c.in_err-member.ensures (λ f h. e ∙ rw h refl)
 
 pub loop-half-preserved : goal.loop-half-preserved
 loop-half-preserved c =
@@ -43,3 +43,13 @@ loop-half-preserved c =
     ∙ ap (λ (zs : List Half). with_front front (walk.whole_members c.args.known.now heads c.args.own d (half_of c.half-item.result ∷ map half_of (drop (c.loop-half.half-index + 1) zs)))) seen
     ∙ member_on c.args.known.now heads c.args.own d front (half_of c.half-item.result) rest (resolved_member c.in_ok-member.member) c.in_ok-member.ensures
     ∙ ap (λ (zs : List r.Member). with_front zs (walk.whole_members c.args.known.now heads c.args.own d rest)) (sym (ap (map resolved_member) c.in_ok-push.ensures.items ∙ map-append resolved_member c.loop-half.found.items _))
+
+pub returns : goal.returns
+returns c =
+    let heads : List Head = map head_of c.args.heads.now in
+    let d : Names = names_view c.args.class.now.names in
+    let front : List r.Member = map resolved_member c.loop-half.found.items in
+    c.loop-half.invariant
+    ∙ ap (λ (zs : List Half). with_front front (walk.whole_members c.args.known.now heads c.args.own d (map half_of (drop c.loop-half.half-index zs)))) (sym c.deref-half-items.ensures.value)
+    ∙ at_drop_all (λ (zs : List Half). with_front front (walk.whole_members c.args.known.now heads c.args.own d (map half_of zs))) c.deref-half-items.result.now c.loop-half.half-index c.loop-half-test.false
+    ∙ ap Ok (append-nil front)
