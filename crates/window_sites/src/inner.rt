@@ -43,12 +43,12 @@ fn read_sites_25_to_32(into: &mut [Atom; 41], plane: &[Atom], low: usize, width:
     into[25] = plane[low + 4 * width + 0];
 }
 
-/// Reads sites 13 to 24, the sites at distance 3.
+/// Reads sites 19 to 24, the eastern half of the sites at distance 3.
 #[inline]
-fn read_sites_13_to_24(into: &mut [Atom; 41], plane: &[Atom], low: usize, width: usize)
+fn read_sites_19_to_24(into: &mut [Atom; 41], plane: &[Atom], low: usize, width: usize)
     requires small { width ≤ 512 }
     requires whole { low + 8 * width + 8 < length plane.now }
-    ensures { into.new ≡ with_sites_read into.old plane.now low width 13 12 }
+    ensures { into.new ≡ with_sites_read into.old plane.now low width 19 6 }
 {
     into[24] = plane[low + 4 * width + 7];
     into[23] = plane[low + 5 * width + 6];
@@ -56,6 +56,15 @@ fn read_sites_13_to_24(into: &mut [Atom; 41], plane: &[Atom], low: usize, width:
     into[21] = plane[low + 6 * width + 5];
     into[20] = plane[low + 2 * width + 5];
     into[19] = plane[low + 7 * width + 4];
+}
+
+/// Reads sites 13 to 18, the western half of the sites at distance 3.
+#[inline]
+fn read_sites_13_to_18(into: &mut [Atom; 41], plane: &[Atom], low: usize, width: usize)
+    requires small { width ≤ 512 }
+    requires whole { low + 8 * width + 8 < length plane.now }
+    ensures { into.new ≡ with_sites_read into.old plane.now low width 13 6 }
+{
     into[18] = plane[low + 1 * width + 4];
     into[17] = plane[low + 6 * width + 3];
     into[16] = plane[low + 2 * width + 3];
@@ -105,7 +114,8 @@ pub(crate) fn read_inner(into: &mut [Atom; 41], plane: &[Atom], low: usize, widt
 {
     read_sites_33_to_40(into, plane, low, width);
     read_sites_25_to_32(into, plane, low, width);
-    read_sites_13_to_24(into, plane, low, width);
+    read_sites_19_to_24(into, plane, low, width);
+    read_sites_13_to_18(into, plane, low, width);
     read_sites_5_to_12(into, plane, low, width);
     read_sites_0_to_4(into, plane, low, width);
 }

@@ -2,7 +2,7 @@ use Rattle.std.proofs.Common.{arith, ◌+◌, ◌*◌, set}
 use Rattle.window_sites.specs.Inner.{with_sites_read}
 use Rattle.window_sites.specs.Sites.{sites}
 use Rattle.window_sites.proofs.Filled.{read_at}
-use Rattle.window_sites.proofs.inner.read_sites_13_to_24.Goals as goal
+use Rattle.window_sites.proofs.inner.read_sites_19_to_24.Goals as goal
 
 pub returns : goal.returns
 unfolding sites with_sites_read
@@ -14,10 +14,4 @@ returns c =
     let a21 = read_at c.args.plane.now (c.args.low + 6 * c.args.width + 5) c.index-plane-low-4.result c.index-plane-low-4.is (omega (arith, h)) in
     let a20 = read_at c.args.plane.now (c.args.low + 2 * c.args.width + 5) c.index-plane-low-5.result c.index-plane-low-5.is (omega (arith, h)) in
     let a19 = read_at c.args.plane.now (c.args.low + 7 * c.args.width + 4) c.index-plane-low-6.result c.index-plane-low-6.is (omega (arith, h)) in
-    let a18 = read_at c.args.plane.now (c.args.low + 1 * c.args.width + 4) c.index-plane-low-7.result c.index-plane-low-7.is (omega (arith, h)) in
-    let a17 = read_at c.args.plane.now (c.args.low + 6 * c.args.width + 3) c.index-plane-low-8.result c.index-plane-low-8.is (omega (arith, h)) in
-    let a16 = read_at c.args.plane.now (c.args.low + 2 * c.args.width + 3) c.index-plane-low-9.result c.index-plane-low-9.is (omega (arith, h)) in
-    let a15 = read_at c.args.plane.now (c.args.low + 5 * c.args.width + 2) c.index-plane-low-10.result c.index-plane-low-10.is (omega (arith, h)) in
-    let a14 = read_at c.args.plane.now (c.args.low + 3 * c.args.width + 2) c.index-plane-low-11.result c.index-plane-low-11.is (omega (arith, h)) in
-    let a13 = read_at c.args.plane.now (c.args.low + 4 * c.args.width + 1) c.index-plane-low-12.result c.index-plane-low-12.is (omega (arith, h)) in
-    λ i. set (set (set (set (set (set (set (set (set (set (set (set c.args.into.now 24 (a24 i)) 23 (a23 i)) 22 (a22 i)) 21 (a21 i)) 20 (a20 i)) 19 (a19 i)) 18 (a18 i)) 17 (a17 i)) 16 (a16 i)) 15 (a15 i)) 14 (a14 i)) 13 (a13 i)
+    λ i. set (set (set (set (set (set c.args.into.now 24 (a24 i)) 23 (a23 i)) 22 (a22 i)) 21 (a21 i)) 20 (a20 i)) 19 (a19 i)
