@@ -43,12 +43,12 @@ fn put_sites_25_to_32(atoms: &mut [Atom], low: usize, width: usize, from: &[Atom
     atoms[low + 4 * width + 0] = from[25];
 }
 
-/// Writes sites 13 to 24, the sites at distance 3.
+/// Writes sites 19 to 24, the eastern half of the sites at distance 3.
 #[inline]
-fn put_sites_13_to_24(atoms: &mut [Atom], low: usize, width: usize, from: &[Atom; 41])
+fn put_sites_19_to_24(atoms: &mut [Atom], low: usize, width: usize, from: &[Atom; 41])
     requires small { width ≤ 512 }
     requires whole { low + 8 * width + 8 < length atoms.old }
-    ensures { atoms.new ≡ with_sites_put atoms.old low width from.now 13 12 }
+    ensures { atoms.new ≡ with_sites_put atoms.old low width from.now 19 6 }
 {
     atoms[low + 4 * width + 7] = from[24];
     atoms[low + 5 * width + 6] = from[23];
@@ -56,6 +56,15 @@ fn put_sites_13_to_24(atoms: &mut [Atom], low: usize, width: usize, from: &[Atom
     atoms[low + 6 * width + 5] = from[21];
     atoms[low + 2 * width + 5] = from[20];
     atoms[low + 7 * width + 4] = from[19];
+}
+
+/// Writes sites 13 to 18, the western half of the sites at distance 3.
+#[inline]
+fn put_sites_13_to_18(atoms: &mut [Atom], low: usize, width: usize, from: &[Atom; 41])
+    requires small { width ≤ 512 }
+    requires whole { low + 8 * width + 8 < length atoms.old }
+    ensures { atoms.new ≡ with_sites_put atoms.old low width from.now 13 6 }
+{
     atoms[low + 1 * width + 4] = from[18];
     atoms[low + 6 * width + 3] = from[17];
     atoms[low + 2 * width + 3] = from[16];
@@ -106,7 +115,8 @@ pub fn put_inner(atoms: &mut [Atom], low: usize, width: usize, from: &[Atom; 41]
 {
     put_sites_33_to_40(atoms, low, width, from);
     put_sites_25_to_32(atoms, low, width, from);
-    put_sites_13_to_24(atoms, low, width, from);
+    put_sites_19_to_24(atoms, low, width, from);
+    put_sites_13_to_18(atoms, low, width, from);
     put_sites_5_to_12(atoms, low, width, from);
     put_sites_0_to_4(atoms, low, width, from);
 }
