@@ -1,9 +1,9 @@
 -- Numbers of bits that are told, and rows of them.
-use Rattle.std.proofs.Common.{◌≡◌, ℕ, zero, suc, ◌+◌, ◌*◌, ◌≤◌, ◌<◌, ◌⊎◌, inl, inr, refl, sym, ap, ◌∙◌, List, [], ◌∷◌, ◌++◌, length, map, get_or, ◌^◌, Bool, true, false, arith, Some, None, Vec, Global, add-one, append_assoc}
+use Rattle.std.proofs.Common.{◌≡◌, ℕ, zero, suc, ◌+◌, ◌*◌, ◌≤◌, ◌<◌, ◌⊎◌, inl, inr, refl, sym, ap, ◌∙◌, List, [], ◌∷◌, ◌++◌, length, map, get_or, ◌^◌, Bool, true, false, arith, Some, None, Vec, Global, add-one, append_assoc, drop}
 use Rattle.std.specs.Prelude.{sum, slice_get, Option, nat_lt, if◌then◌else◌}
 use Rattle.std.proofs.Math.Nat.{le-mul_of_pos_right}
 use Rattle.std.proofs.lemmas.Bool.{cases_lt, lt-ltb, le-ltb}
-use Rattle.std.proofs.lemmas.List.{map-append, length-map}
+use Rattle.std.proofs.lemmas.List.{map-append, length-map, at_drop_more}
 use Rattle.std.proofs.lemmas.List.Sums.{sum_by-cons}
 use Rattle.std.specs.Option.{option_map_or}
 use Rattle.feast_base.specs.declared.place.Place.{Place}
@@ -153,3 +153,13 @@ rows_on rows more r w rest e h =
     ap (λ (x : List ℕ). rows_of rows ++ (x ∷ rest)) (sym h)
     ∙ sym (append_assoc (rows_of rows) (r.items ∷ []) rest)
     ∙ ap (λ (z : List (List ℕ)). z ++ rest) (sym (ap rows_of e ∙ map-append (λ (v : Vec ℕ Global). v.items) rows (r ∷ [])))
+
+-- one more class in a row
+pub row_on : (g : Class → ℕ) (xs : List RawClass) (i : ℕ) (x : RawClass) (done more : List ℕ) → i < length xs → x ≡ get_or xs i x → more ≡ done ++ (g (resolved_class x) ∷ []) →
+    done ++ map g (map resolved_class (drop i xs)) ≡ more ++ map g (map resolved_class (drop (i + 1) xs))
+row_on g xs i x done more lt is e =
+    let rest : List ℕ = map g (map resolved_class (drop (i + 1) xs)) in
+    at_drop_more (λ (zs : List RawClass). done ++ map g (map resolved_class zs)) xs i x lt
+    ∙ ap (λ (z : RawClass). done ++ (g (resolved_class z) ∷ rest)) (sym is)
+    ∙ sym (append_assoc done (g (resolved_class x) ∷ []) rest)
+    ∙ ap (λ (zs : List ℕ). zs ++ rest) (sym e)
