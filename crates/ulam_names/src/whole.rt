@@ -81,7 +81,7 @@ fn param_entries<'a>(
     ensures memory { IfErr result (λ e. e ≡ no_memory) }
 {
     let mut entries = Vec::new(alloc);
-    let mut slot = 0;
+    let mut slot: u32 = 0;
     for param in params {
         entries.push(Entry {
             name: param.word.name.bytes(),
