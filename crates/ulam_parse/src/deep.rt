@@ -14,7 +14,7 @@ use std::alloc::Global;
 const MOST_DEPTH: u32 = 64;
 
 /// The index of the first token at which the nesting is deeper than 64.
-#[tactic(auto, using(crate::proofs::Deeper::deep_more, crate::proofs::Deeper::deep_hit, crate::proofs::Deeper::deep_none))]
+#[tactic(auto, using(crate::proofs::Deeper::deep_none))]
 pub fn first_deep(alloc: Global, tape: &Tape) -> Result<Option<usize>, NoMemory>
     ensures { IfOk result (λ d. deep_from 0 outside (from tape.now 0) ≡ d) }
 {

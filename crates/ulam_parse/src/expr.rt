@@ -8,7 +8,7 @@ ghost use Rattle.ulam_parse.specs.Views.{Reads, Finds, args_in};
 
 use crate::halt::Halt;
 use crate::symbol::{Infix, Opening, Symbol};
-use crate::tables::{infix_of, level, opening_of};
+use crate::tables::{infix_of, level, level_behind, opening_of};
 use crate::take::{count_from, expect, mark_at, past, sees, sees_second, skip, word};
 use crate::tape::Tape;
 use crate::types::{path, type_ref};
@@ -183,11 +183,12 @@ fn more(
         };
         match infix_of(sign.symbol) {
             Infix::Joins(op) => {
-                if least <= level(op) && level(op) <= top {
+                let level = level(op);
+                if least <= level && level <= top {
                     let left = boxed(alloc, value)?;
-                    let (right, behind) = boxed_in(alloc, steps, level(op) + 1, tape, next + 1)?;
+                    let (right, behind) = boxed_in(alloc, steps, level_behind(op), tape, next + 1)?;
                     value = pair(op, left, right, sign.place);
-                    top = level(op);
+                    top = level;
                     next = behind;
                 } else {
                     return Ok((value, next));

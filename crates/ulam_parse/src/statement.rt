@@ -12,7 +12,7 @@ use crate::head::{for_head, if_head, while_head};
 use crate::simple::{declare, maybe, simple};
 use crate::symbol::{Starting, Symbol};
 use crate::tables::starting_of;
-use crate::take::{count_from, mark_at, past, sees, skip};
+use crate::take::{count_from, mark_at, past, skip};
 use crate::tape::Tape;
 use feast_base::{NoMemory, Place};
 use std::alloc::Global;
@@ -172,8 +172,7 @@ fn else_part(
 ) -> Result<(Option<Box<Statement>>, usize), Halt>
     ensures { Reads part_alone (spec.else_part (spec.statement_in steps)) tape.now at result }
 {
-    if sees(Symbol::Else, tape, at) {
-        let next = skip(Symbol::Else, tape, at)?;
+    if let Some(next) = past(Symbol::Else, tape, at) {
         let (no, next) = boxed_in(alloc, steps, tape, next)?;
         Ok((Some(no), next))
     } else {

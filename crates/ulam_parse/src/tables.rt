@@ -1,5 +1,5 @@
 //! What each symbol may begin or join.
-ghost use Rattle.std.specs.Prelude.{◌≡◌, ◌<◌};
+ghost use Rattle.std.specs.Prelude.{◌≡◌, ◌+◌, ◌<◌};
 ghost use Rattle.ulam_parse.specs.Nesting as nest;
 ghost use Rattle.ulam_parse.specs.Tables as table;
 
@@ -52,6 +52,15 @@ pub fn level(op: PairOp) -> u8
         PairOp::Add | PairOp::Sub => 10,
         PairOp::Mul | PairOp::Div | PairOp::Rem => 11,
     }
+}
+
+/// The least level of what may stand behind an operator: operators of one level group from the
+/// left.
+pub fn level_behind(op: PairOp) -> u8
+    ensures value { result ≡ table.level op + 1 }
+    ensures small { result < 13 }
+{
+    level(op) + 1
 }
 
 /// What a symbol begins where an operand is wanted.

@@ -1,0 +1,14 @@
+use Rattle.std.proofs.Common.{◌≡◌, ◌∙◌, ℕ, List, ap}
+use Rattle.std.specs.Prelude.{reverse}
+use Rattle.ulam_heirs.specs.Lines.{Heir, classes_at, line_numbers}
+use Rattle.ulam_heirs.specs.Views.{heirs_of}
+use Rattle.ulam_heirs.proofs.Walks.{numbers_are}
+use Rattle.ulam_heirs.proofs.line.line.Goals as goal
+
+pub returns : goal.returns
+returns c =
+    let hs : List Heir = heirs_of c.args.heirs.now in
+    let upward : List ℕ = c.in_ok-numbers.numbers.items in
+    let turned : c.as_slice.result.now ≡ reverse upward = c.as_slice.ensures.value ∙ c.reverse.ensures.items in
+    c.in_ok-found.ensures
+    ∙ ap (classes_at hs) (turned ∙ ap reverse c.in_ok-numbers.ensures ∙ numbers_are hs c.args.bases.now c.requires c.args.class)
