@@ -1,5 +1,5 @@
 -- Loops that read a number byte by byte, or a list value by value.
-use Rattle.std.proofs.Common.{◌≡◌, ℕ, zero, suc, ◌+◌, ◌-◌, ◌<◌, ◌≤◌, true, false, cond, length, take, drop, get_or, length-drop, List, [], ◌∷◌, ◌++◌, Result, Ok, Err, sym, ap, ◌∙◌, subst, arith}
+use Rattle.std.proofs.Common.{◌≡◌, ℕ, zero, suc, ◌+◌, ◌-◌, ◌<◌, ◌≤◌, true, false, cond, length, take, drop, get_or, length-drop, List, [], ◌∷◌, ◌++◌, Result, Ok, Err, refl, sym, ap, ◌∙◌, subst, arith}
 use Rattle.std.specs.Result.{IsErrAnd}
 use Rattle.std.specs.List.{flat_map}
 use Rattle.std.proofs.lemmas.List.{append-nil, append_assoc, drop_all, drop_more, take_more}
@@ -55,6 +55,11 @@ values_done item count i done bytes total le so_far = let k : count - i ≡ 0 = 
 pub stops_at : {X Y : Type 0} (view : X → Y) (r : Result X Halt) (e : Halt) (read : Result Y ℕ) → IsErrAnd r (λ d. d ≡ e) → Fails e read → Gives view r read
 stops_at view (Ok x) e read is h = absurd is
 stops_at {Y = Y} view (Err d) e read is h = subst (λ (f : Halt). Fails {Y = Y} f read) (sym is) h
+
+-- the exit of a `?`, where an earlier reader stopped
+pub fails_then : {A B : Type 0} (e : Halt) (read : Result A ℕ) (go : A → Result B ℕ) → Fails e read → Fails e (read >>= go)
+fails_then NoMemory read go h = tt
+fails_then (Bad n) read go h = rw h refl
 
 -- one more letter of a name
 abbrev pub letters_from : NameForm → ℕ → List ℕ → Reader (List ℕ)

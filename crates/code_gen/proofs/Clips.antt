@@ -204,7 +204,7 @@ pair_whole op.Gt how w = refl
 pair_whole op.Ge how w = refl
 
 -- an operator, by whether it is a choice
-pair_by : (z : Scene) (o : PairOp) (a b : t.Expr) (p : Place) (ty : Ty) → clip (form_piece z (t.pair o a b p) ty) ≡ pair_of o ty (clip (expr_piece z a)) (clip (expr_piece z b))
+pub pair_by : (z : Scene) (o : PairOp) (a b : t.Expr) (p : Place) (ty : Ty) → clip (form_piece z (t.pair o a b p) ty) ≡ pair_of o ty (clip (expr_piece z a)) (clip (expr_piece z b))
 pair_by z op.Both a b p ty = refl
 pair_by z op.Either a b p ty = refl
 pair_by z op.Add a b p ty = ap (λ i. seq (clip (expr_piece z a)) (seq (clip (expr_piece z b)) (plain i))) (pair_whole op.Add (arith_of ty) (width_of ty))

@@ -44,3 +44,4 @@ pub mod TreeSource
 pub mod ElementRounds
 pub mod ElementBuilds
 pub mod Mapped
+mod Making

@@ -48,6 +48,16 @@ fn back_of(instrs: &[Instr], p: usize) -> Option<u32>
     }
 }
 
+/// Whether an instruction is a `Turn`.
+fn is_turn(instr: Instr) -> bool
+    ensures { result ≡ is_turn (Some instr) }
+{
+    match instr {
+        Instr::Turn => true,
+        _ => false,
+    }
+}
+
 /// Whether the instruction before a place is a `Turn`.
 #[tactic(auto, using(crate::proofs::Arguments::before_first, crate::proofs::Arguments::before_other))]
 fn after_turn(instrs: &[Instr], p: usize) -> bool
@@ -57,8 +67,8 @@ fn after_turn(instrs: &[Instr], p: usize) -> bool
         return false;
     }
     match instrs.get(p - 1) {
-        Some(Instr::Turn) => true,
-        _ => false,
+        Some(instr) => is_turn(*instr),
+        None => false,
     }
 }
 

@@ -1,4 +1,4 @@
-use Rattle.std.proofs.Common.{rules, arith, ◌≡◌, ◌∙◌, ap, drop}
+use Rattle.std.proofs.Common.{rules, arith, refl, sym, ◌≡◌, ◌∙◌, ap, drop}
 use Rattle.std.proofs.lemmas.Grind.{common_steps}
 use Rattle.std.proofs.lemmas.Result.{IfOk-weaker}
 use Rattle.ulam_tree.specs.TypedViews.{typed_args}
@@ -8,7 +8,9 @@ use Rattle.code_gen.specs.Clipped.{clip}
 use Rattle.code_gen.specs.Scheme.{nowhere, call_piece, if_nothing, args_piece}
 use Rattle.code_gen.specs.Seen.{scene_of, callee_of}
 use Rattle.code_gen.specs.Views.{piece_of}
-use Rattle.code_gen.proofs.Clips.{call_done}
+use Rattle.code_gen.proofs.Clips.{call_done, pair_by}
+use Rattle.std.specs.Box.{box_value}
+use Rattle.code_gen.proofs.Making.{made_is}
 use Rattle.code_gen.proofs.TypedCalls.{call_at, args_first}
 use Rattle.code_gen.proofs.expr.+expr.Goals as goal
 
@@ -36,3 +38,27 @@ value_call-returns t c =
     let end : q ≡ if_nothing z.program d (clip nowhere) (clip none) = c.if_nothing-end.ensures ∙ ap (λ (x : Piece). if_nothing z.program d x none) c.nowhere.ensures in
     IfOk-weaker c.seq.result (λ r. piece_of r ≡ seq p q) (λ r. piece_of r ≡ clip (seq (call_piece z.program target arguments) (if_nothing z.program target nowhere none)))
     (λ r e. e ∙ call_done z.program target d arguments nowhere none p q c.callee-target.ensures c.in_ok-made.ensures end) c.seq.ensures
+
+pub expr-returns-in-Path : goal.expr-returns-in-Path
+expr-returns-in-Path t c = rw (c.in-Path.is, c.load.ensures) refl
+
+pub expr-returns-in_ok-index-in-Index : goal.expr-returns-in_ok-index-in-Index
+expr-returns-in_ok-index-in-Index t c =
+    let d : c.deref.result.now ≡ box_value c.in-Index.at = search rules in
+    made_is _ _ _ (rw (c.in-Index.is, c.in_ok-index-in-Index.ensures, d, c.load_at.ensures) refl) c.seq.ensures
+
+pub expr-returns-in_ok-value-in-Cast : goal.expr-returns-in_ok-value-in-Cast
+expr-returns-in_ok-value-in-Cast t c =
+    let d : c.deref-in-Cast.result.now ≡ box_value c.in-Cast.value = search rules in
+    made_is _ _ _ (rw (c.in-Cast.is, c.in_ok-value-in-Cast.ensures, d, c.fit.ensures, c.number_type.ensures) refl) c.seq-in-Cast.ensures
+
+pub expr-returns-in_ok-value-in-Is : goal.expr-returns-in_ok-value-in-Is
+expr-returns-in_ok-value-in-Is t c =
+    let d : c.deref-in-Is.result.now ≡ box_value c.in-Is.value = search rules in
+    made_is _ _ _ (rw (c.in-Is.is, c.in_ok-value-in-Is.ensures, d, c.type_number-kind-in-Is.ensures) refl) c.then_instr-in-Is.ensures
+
+pub expr-returns-in_ok-right-in-Pair : goal.expr-returns-in_ok-right-in-Pair
+expr-returns-in_ok-right-in-Pair t c =
+    let d : c.deref-in-Pair.result.now ≡ box_value c.in-Pair.left = search rules in
+    let b : c.deref-in-Pair-2.result.now ≡ box_value c.in-Pair.right = search rules in
+    made_is _ _ _ (rw (c.in-Pair.is, c.in_ok-left-in-Pair.ensures, c.in_ok-right-in-Pair.ensures, d, b) (sym (pair_by (scene_of c.args.scene.now) _ _ _ _ _))) c.pair.ensures

@@ -1,4 +1,4 @@
-use Rattle.std.proofs.Common.{rules, arith, sym, ◌∙◌, subst}
+use Rattle.std.proofs.Common.{rules, arith, refl, sym, ◌∙◌, subst}
 use Rattle.std.proofs.lemmas.Grind.{common_steps}
 use Rattle.ulam_tree.specs.ResolvedViews.{resolved_args}
 use Rattle.ulam_types.specs.Walk as walk
@@ -80,18 +80,18 @@ pub boxed-returns-in_err-new : goal.boxed-returns-in_err-new
 boxed-returns-in_err-new t c = no_room _ _ _ c.from_residual-in_err-new.ensures
 
 pub built_call-returns-in_err-args : goal.built_call-returns-in_err-args
-built_call-returns-in_err-args t c = passed_on _ _ _ _ _ c.from_residual.ensures c.in_err-args.ensures (λ f h. first_of (search rules, grind (arith, common_steps)))
+built_call-returns-in_err-args t c = passed_on _ _ _ _ _ c.from_residual.ensures c.in_err-args.ensures (λ f h. rw h refl)
 
 pub call-returns-in_err-args-in-Some : goal.call-returns-in_err-args-in-Some
 call-returns-in_err-args-in-Some t c = passed_on _ _ _ _ _ c.from_residual.ensures c.in_err-args-in-Some.ensures (λ f h. first_of (search rules, grind (arith, common_steps)))
 
 pub compound-returns-in_err-inner-in-Group : goal.compound-returns-in_err-inner-in-Group
 unfolding walk.expr
-compound-returns-in_err-inner-in-Group t c = passed_on _ _ _ _ _ c.from_residual.ensures c.in_err-inner-in-Group.ensures (λ f h. first_of (search rules, grind (arith, common_steps)))
+compound-returns-in_err-inner-in-Group t c = passed_on _ _ _ _ _ c.from_residual.ensures c.in_err-inner-in-Group.ensures (λ f h. rw (c.in-Group.is, h) refl)
 
 pub compound-returns-in_err-value-in-Cast : goal.compound-returns-in_err-value-in-Cast
 unfolding walk.expr
-compound-returns-in_err-value-in-Cast t c = passed_on _ _ _ _ _ c.from_residual-in_err-value-in-Cast.ensures c.in_err-value-in-Cast.ensures (λ f h. first_of (search rules, grind (arith, common_steps)))
+compound-returns-in_err-value-in-Cast t c = passed_on _ _ _ _ _ c.from_residual-in_err-value-in-Cast.ensures c.in_err-value-in-Cast.ensures (λ f h. rw (c.in-Cast.is, h) refl)
 
 pub compound-returns-in_err-ty-in-Cast : goal.compound-returns-in_err-ty-in-Cast
 unfolding walk.expr
@@ -99,7 +99,7 @@ compound-returns-in_err-ty-in-Cast t c = passed_on _ _ _ _ _ c.from_residual-in_
 
 pub compound-returns-in_err-value-in-Prefix : goal.compound-returns-in_err-value-in-Prefix
 unfolding walk.expr
-compound-returns-in_err-value-in-Prefix t c = passed_on _ _ _ _ _ c.from_residual-in_err-value-in-Prefix.ensures c.in_err-value-in-Prefix.ensures (λ f h. first_of (search rules, grind (arith, common_steps)))
+compound-returns-in_err-value-in-Prefix t c = passed_on _ _ _ _ _ c.from_residual-in_err-value-in-Prefix.ensures c.in_err-value-in-Prefix.ensures (λ f h. rw (c.in-Prefix.is, h) refl)
 
 pub compound-returns-in_err-ty-in-Prefix : goal.compound-returns-in_err-ty-in-Prefix
 unfolding walk.expr
@@ -139,7 +139,22 @@ args-returns-in_err-push-clause-gives t c = no_room _ _ _ c.from_residual-in_err
 
 pub is-returns-in_err-value : goal.is-returns-in_err-value
 unfolding walk.expr
-is-returns-in_err-value t c = λ want. passed_on _ _ _ _ _ c.from_residual.ensures c.in_err-value.ensures (λ f h. first_of (search rules, grind (arith, common_steps)))
+is-returns-in_err-value t c = λ want. passed_on _ _ _ _ _ c.from_residual.ensures c.in_err-value.ensures (λ f h. rw h refl)
 
 pub is-returns-in_err-value-2 : goal.is-returns-in_err-value-2
 is-returns-in_err-value-2 t c = λ want. no_room _ _ _ c.from_residual-in_err-value-2.ensures
+
+pub compound-returns-in_ok-inner-in-Group : goal.compound-returns-in_ok-inner-in-Group
+unfolding walk.expr
+compound-returns-in_ok-inner-in-Group t c = rw (c.in-Group.is, c.in_ok-inner-in-Group.ensures, c.group.ensures) refl
+
+pub expr-returns-in-Number : goal.expr-returns-in-Number
+unfolding walk.expr
+expr-returns-in-Number t c = rw c.in-Number.is c.number.ensures
+
+pub expr-returns-in-Truth : goal.expr-returns-in-Truth
+unfolding walk.expr
+expr-returns-in-Truth t c = rw (c.in-Truth.is, c.truth_at.ensures) refl
+
+pub expr-returns-in-Group : goal.expr-returns-in-Group
+expr-returns-in-Group t c = c.compound.ensures
