@@ -2,7 +2,7 @@
 use Rattle.std.proofs.Common.{◌≡◌, ℕ, ◌<◌, ◌≤◌, List, [], ◌∷◌, ◌++◌, Result, Ok, Err, length, get_or, refl, sym, ap, ◌∙◌, subst, arith, length-append}
 use Rattle.std.specs.Prelude.{slice_index_or}
 use Rattle.std.specs.Result.{IfOk, IsErr}
-use Rattle.std.proofs.lemmas.List.{append_assoc, get_or_append_left}
+use Rattle.std.proofs.lemmas.List.{append-nil, append_assoc, get_or_append_left}
 use mathlib.Core.Logic.{dite}
 use native.Mathlib.Decide.{ℕ_discrete}
 use Rattle.edge_lock.specs.Passes.{PassValue}
@@ -18,6 +18,15 @@ use Rattle.tile_threads.specs.Whole.{CameHome, worker_of, workers_of}
 pub record HaveComeSoFar {B : Type 0} (m : MapValue) (workers : List (Worker B SharedEndValue)) (passes : List (List PassValue)) : Type 0 where
   pub few : length passes ≤ length workers
   pub each : (t : ℕ) (none : Worker B SharedEndValue) → t < length passes → CameHome m (slice_index_or workers t none).tile.core.number (slice_index_or workers t none).end.passes (passes_of passes t)
+
+-- at first there are none
+pub none_home : {B : Type 0} (m : MapValue) (ws : List (Worker B SharedEndValue)) → HaveComeSoFar m ws []
+none_home m ws = record { few = omega arith; each = λ t none inside. absurd (omega (arith, inside)) }
+
+-- what is made of a list, once nothing of it is left
+pub nothing_more : {X Y : Type 0} (made : List X → List Y) → made [] ≡ [] → (rest : List X) → length rest ≡ 0 → (so_far all : List Y) → so_far ++ made rest ≡ all → so_far ≡ all
+nothing_more made none [] end so_far all is = sym (ap (λ l. so_far ++ l) none ∙ append-nil so_far) ∙ is
+nothing_more made none (x ∷ rest) end so_far all is = absurd (omega (arith, end))
 
 last_passes : (ps : List (List PassValue)) (p : List PassValue) → passes_of (ps ++ p ∷ []) (length ps) ≡ p
 last_passes [] p = refl

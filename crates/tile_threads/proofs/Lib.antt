@@ -1,3 +1,4 @@
+pub mod Halves
 pub mod Working
 pub mod Firsts
 pub mod Lookups

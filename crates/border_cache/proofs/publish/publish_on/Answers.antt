@@ -1,6 +1,8 @@
-use Rattle.std.proofs.Common.{ℕ, ◌≡◌, ◌<◌, ◌++◌, sym, subst}
+use Rattle.std.proofs.Common.{ℕ, ◌≡◌, ◌<◌, ◌++◌, sym, ap, ◌∙◌, subst}
+use Rattle.feast_base.specs.Edges.{registers_of}
 use Rattle.tile_map.specs.Plane.{site}
 use Rattle.tile_map.specs.Laws.{IsPlane}
+use Rattle.edge_lock.proofs.BoardLaws.{same_end}
 use Rattle.border_cache.specs.News.{AreMasks, Covers, border}
 use Rattle.border_cache.specs.Published.{IsPublish}
 use Rattle.border_cache.specs.Windows.{end_at, place_in, sites_on}
@@ -48,3 +50,21 @@ returns-clause-published g c =
       adds_then a b f e p.0 (q.0 ++ r.0) c.requires.held p.1 (adds_then b d f e q.0 r.0 here q.1 r.1),
       subst (λ (x : ℕ × ℕ). IsPublish (border x.0 x.1 places 41) (window_cells v s) (p.0 ++ (q.0 ++ r.0))) (λ i. (count i, end i)) whole,
     )
+
+pub put_bits-requires-clause-registers : goal.put_bits-requires-clause-registers
+put_bits-requires-clause-registers g c = ap (λ f. f c.args.edge) c.put_window-masks.ensures.same.1 ∙ (c.requires.registers ∙ ap registers_of (sym c.shared-sites.ensures.count))
+
+pub put_bits-requires-2-clause-registers : goal.put_bits-requires-2-clause-registers
+put_bits-requires-2-clause-registers g c = ap (λ f. f c.args.edge) (c.put_bits.ensures.same.1 ∙ c.put_window-masks.ensures.same.1) ∙ (c.requires.registers ∙ ap registers_of (sym c.shared-sites.ensures.count))
+
+pub returns-clause-same : goal.returns-clause-same
+returns-clause-same g c =
+    let start = g.D.Board.end c.args.board.now in
+    let first = g.D.Board.end c.put_window-masks.new.board in
+    let second = g.D.Board.end c.put_bits.new.board in
+    same_end start second (g.D.Board.end c.put_bits-2.new.board) (same_end start first second c.put_window-masks.ensures.same c.put_bits.ensures.same) c.put_bits-2.ensures.same
+
+pub returns-clause-moved : goal.returns-clause-moved
+returns-clause-moved g c =
+    let on = g.met.D.Board.moved_on in
+    on c.args.board.now c.put_bits.new.board c.put_bits-2.new.board (on c.args.board.now c.put_window-masks.new.board c.put_bits.new.board c.put_window-masks.ensures.moved c.put_bits.ensures.moved) c.put_bits-2.ensures.moved

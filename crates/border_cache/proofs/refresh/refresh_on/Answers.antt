@@ -1,5 +1,7 @@
-use Rattle.std.proofs.Common.{List, ℕ, ◌≡◌, ◌<◌, [], sym, ◌∙◌, subst, arith}
+use Rattle.std.proofs.Common.{List, ℕ, ◌≡◌, ◌<◌, [], sym, ap, ◌∙◌, subst, arith}
 use Rattle.std.proofs.lemmas.List.{append-nil}
+use Rattle.feast_base.specs.Edges.{registers_of}
+use Rattle.edge_lock.proofs.BoardLaws.{same_end}
 use Rattle.edge_lock.specs.declared.history.Access.{Access}
 use Rattle.tile_map.specs.Plane.{Site, site}
 use Rattle.tile_map.specs.Laws.{IsPlane}
@@ -59,3 +61,12 @@ returns-then-are_clear-clause-refreshes g c =
     let clear = clear_bits news (sym c.are_clear.ensures ∙ c.if-are_clear.true) in
     let none = takes_none e (NewsIn news (IsInWindowOf v.map s e)) v (λ k h. let zero = clear k in omega (arith, zero, h.1)) in
     refreshes_edge s e news v v p.0 [] plane c.requires.holds read none a b (subst (Adds a b e) (sym (append-nil p.0)) p.1)
+
+pub take_news-requires-clause-registers : goal.take_news-requires-clause-registers
+take_news-requires-clause-registers g c = ap (λ f. f c.args.edge) c.read_news-news.ensures.same.1 ∙ (c.requires.registers ∙ ap registers_of (sym c.shared-sites.ensures.count))
+
+pub returns-clause-same : goal.returns-clause-same
+returns-clause-same g c = same_end (g.D.Board.end c.args.board.now) (g.D.Board.end c.read_news-news.new.board) (g.D.Board.end c.take_news.new.board) c.read_news-news.ensures.same c.take_news.ensures.same
+
+pub returns-clause-moved : goal.returns-clause-moved
+returns-clause-moved g c = g.met.D.Board.moved_on c.args.board.now c.read_news-news.new.board c.take_news.new.board c.read_news-news.ensures.moved c.take_news.ensures.moved

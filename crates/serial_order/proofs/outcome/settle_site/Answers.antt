@@ -1,19 +1,28 @@
-use Rattle.std.proofs.Common.{◌≡◌, true, Some, sym, ap, subst, ◌∙◌}
+use Rattle.std.proofs.Common.{◌≡◌, true, length, Some, refl, sym, ap, subst, ◌∙◌, arith}
+use Rattle.std.proofs.lemmas.List.{length-map}
 use Rattle.std.specs.Prelude.{slice_get}
-use Rattle.tile_map.specs.Plane.{site, is_held, is_on}
+use Rattle.tile_map.specs.Plane.{site, tiles_of, is_held, is_on}
 use Rattle.tile_map.specs.Edges.{edges_at}
 use Rattle.border_cache.specs.Copies.{CacheValue, held_cell}
 use Rattle.tile_core.specs.Values.{TileValue}
 use Rattle.serial_order.specs.Scene.{registers_at}
 use Rattle.serial_order.specs.Settled.{settled_cell, IsSettledAt}
 use Rattle.serial_order.specs.Outcomes.{ChangesSite, values_of}
-use Rattle.serial_order.proofs.Filling.{tile_there, sets}
+use Rattle.serial_order.proofs.Filling.{tile_there, live_there, sets}
 use Rattle.serial_order.proofs.Runs.{off_dead, on_live}
 use Rattle.serial_order.proofs.outcome.settle_site.Goals as goal
+
+pub returns-then-not-is_on-clause-change : goal.returns-then-not-is_on-clause-change
+returns-then-not-is_on-clause-change g c = record { grid = c.requires.grid.0; plane = (refl, refl, refl); others = λ u live other. refl }
 
 pub returns-then-not-is_on-clause-settled : goal.returns-then-not-is_on-clause-settled
 returns-then-not-is_on-clause-settled g c = λ tile live is.
     absurd (off_dead c.args.map.now (site c.args.x c.args.y) (ap (is_on c.args.map.now) c.requires.owner ∙ (sym c.is_on.ensures ∙ c.if-not-is_on.true)) live)
+
+pub bounds-tiles-unshared : goal.bounds-tiles-unshared
+bounds-tiles-unshared g c =
+    let count : length c.args.tiles.now ≡ tiles_of c.args.map.now = sym (length-map c.args.tiles.now (λ t. t.core)) ∙ c.requires.tiles.count in
+    omega (arith, count, c.requires.unshared.tile)
 
 pub settled_in-atom-requires-clause-map : goal.settled_in-atom-requires-clause-map
 settled_in-atom-requires-clause-map g c =
@@ -34,6 +43,13 @@ settled_in-atom-requires-clause-held g c =
     let on = ap (is_on m) c.requires.owner ∙ (sym c.is_on.ensures ∙ c.if-not-is_on.false) in
     let live = on_live m c.args.grid.now c.requires.grid c.args.x c.args.y c.requires.x c.requires.y on in
     subst (λ t. is_held m t s ≡ true) c.requires.owner (c.laws.ensures.plane.owners.holder s live)
+
+pub set-requires : goal.set-requires
+set-requires g c =
+    let m = c.args.map.now in
+    let on = ap (is_on m) c.requires.owner ∙ (sym c.is_on.ensures ∙ c.if-not-is_on.false) in
+    let live = on_live m c.args.grid.now c.requires.grid c.args.x c.args.y c.requires.x c.requires.y on in
+    record { live = live_there m (values_of c.args.tiles.now) (registers_at (g.E.EdgeWords.words c.args.words.now).histories) c.args.grid.now c.requires.grid c.args.x c.args.y c.requires.x c.requires.y live }
 
 pub returns-clause-change : goal.returns-clause-change
 returns-clause-change g c =

@@ -1,11 +1,11 @@
-use Rattle.std.proofs.Common.{◌≡◌, ◌+◌, [], ◌∷◌, ◌++◌, drop, length, sym, ap, ◌∙◌, subst, arith, rules, append_assoc, length-drop, vec_len}
+use Rattle.std.proofs.Common.{◌≡◌, ◌+◌, [], ◌∷◌, ◌++◌, drop, length, refl, sym, ap, ◌∙◌, subst, arith, rules, append_assoc, length-drop, vec_len}
 use Rattle.std.specs.Prelude.{All, slice_index_or}
 use Rattle.edge_lock.specs.SharedEnds.{SharedEndValue, shared_end}
 use Rattle.tile_threads.specs.declared.worker.Worker.{Worker}
 use Rattle.edge_lock.proofs.HistorySteps.{all-head, all-tail}
 use Rattle.tile_threads.specs.Whole.{IsDone, tiles_in}
 use Rattle.tile_threads.proofs.Shutting.{next_of}
-use Rattle.tile_threads.proofs.Homing.{HaveComeSoFar, comes_home, nothing_said}
+use Rattle.tile_threads.proofs.Homing.{HaveComeSoFar, none_home, comes_home, nothing_more, nothing_said}
 use Rattle.tile_threads.proofs.home.come_home.Goals as goal
 
 pub take_apart-tile-requires : goal.take_apart-tile-requires
@@ -64,3 +64,22 @@ returns-clause-passes g c =
     let few = i.home.few in
     let count : length c.loop-worker.passes.items ≡ length ws = omega (arith, none, rest, left, dropped, long, few) in
     record { count = count; each = λ t d lt. i.home.each t d (omega (arith, lt, count)) }
+
+pub loop-worker-init : goal.loop-worker-init
+loop-worker-init g c =
+    let P = λ (w : Worker g.row.B.Denot SharedEndValue). IsDone c.args.map.now w.tile.core (shared_end w.end) in
+    let ws = c.args.workers.items in
+    let is = c.into_iter-worker-iterator.ensures.into_iter_gives.0 in
+    record {
+      rest = is ∙ ap (λ n. drop n ws) (sym c.new-passes.ensures.len);
+      tiles = λ j. c.new-tiles.ensures.items j ++ tiles_in (is j);
+      home = subst (HaveComeSoFar c.args.map.now ws) (sym c.new-passes.ensures.items) (none_home c.args.map.now ws);
+      done = subst (All P) (sym is) c.requires;
+    }
+
+pub returns-clause-tiles : goal.returns-clause-tiles
+returns-clause-tiles g c =
+    let left = c.loop-worker.worker-iterator.rest in
+    let none = c.in-None.ensures.steps.0 in
+    let count : length left.items ≡ left.len = search rules in
+    nothing_more (λ ws. tiles_in ws) refl left.items (count ∙ none) c.loop-worker.tiles.items (tiles_in c.args.workers.items) c.loop-worker.invariant.tiles

@@ -1,9 +1,9 @@
-use Rattle.std.proofs.Common.{length, sym, ap, ◌∙◌, subst, arith}
+use Rattle.std.proofs.Common.{◌≡◌, ◌++◌, length, refl, sym, ap, ◌∙◌, subst, arith, rules}
 use Rattle.std.specs.Prelude.{All}
 use Rattle.edge_lock.specs.SharedEnds.{IsPassOf, shared_end_value}
 use Rattle.edge_lock.proofs.HistorySteps.{all-head, all-tail}
 use Rattle.tile_threads.specs.Whole.{workers_of}
-use Rattle.tile_threads.proofs.Homing.{nothing_said, sent_more}
+use Rattle.tile_threads.proofs.Homing.{nothing_more, nothing_said, sent_more}
 use Rattle.tile_threads.proofs.home.send_out.Goals as goal
 
 pub new-requires : goal.new-requires
@@ -30,3 +30,20 @@ loop-tile-preserved g c =
       count = omega (arith, longx, longp, same);
       stand = all-tail (All P) c.in-Some-next.own c.next-in-loop-tile.new.self.rest.items (subst (All (All P)) ps i.stand);
     }
+
+pub loop-tile-init : goal.loop-tile-init
+loop-tile-init g c =
+    let tiles = c.into_iter-tile-iterator.ensures.into_iter_gives.0 in
+    let passes = c.into_iter-passes.ensures.rest in
+    record {
+      done = λ j. c.new-workers.ensures.items j ++ workers_of (tiles j) (passes j);
+      count = ap (λ l. length l) tiles ∙ c.requires.count ∙ sym (ap (λ l. length l) passes);
+      stand = subst (All (All (IsPassOf c.args.edges.now))) (sym passes) c.requires.passes;
+    }
+
+pub returns : goal.returns
+returns g c =
+    let left = c.loop-tile.tile-iterator.rest in
+    let none = c.in-None.ensures.steps.0 in
+    let count : length left.items ≡ left.len = search rules in
+    nothing_more (λ ts. workers_of ts c.loop-tile.passes.rest.items) refl left.items (count ∙ none) c.loop-tile.workers.items (workers_of c.args.tiles.items c.args.passes.items) c.loop-tile.invariant.done

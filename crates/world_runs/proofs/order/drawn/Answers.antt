@@ -1,8 +1,9 @@
-use Rattle.std.proofs.Common.{◌++◌, ◌*◌, ◌%◌, ◌∷◌, [], ap, sym, ◌∙◌, arith}
+use Rattle.std.proofs.Common.{◌≡◌, ◌++◌, ◌*◌, ◌%◌, ◌∷◌, [], ap, sym, ◌∙◌, arith}
 use Rattle.std.specs.Prelude.{◌^◌}
 use Rattle.std.proofs.Math.Nat.{mod-eq_of_lt}
 use Rattle.draw_stream.specs.declared.attempt.Attempt.{Attempt}
 use Rattle.draw_stream.specs.Words.{tile_state, tile_word}
+use Rattle.world_runs.specs.Orders.{drawn_order}
 use Rattle.world_runs.proofs.Drawing.{drawn_none, drawn_two}
 use Rattle.world_runs.proofs.order.drawn.Goals as goal
 
@@ -23,3 +24,14 @@ loop-pair-preserved c =
           (ap (λ (a : Attempt). a.centre) p ∙ ap (λ n. tile_word c.args.seed (2 * c.loop-pair.pair) % n) sites)
           (ap (λ n. c.attempt-words.result.seed % n) sites ∙ ap (λ (a : Attempt). a.seed % c.args.tiles) p)));
     }
+
+pub attempt-words-requires : goal.attempt-words-requires
+attempt-words-requires c = record {
+  some = omega (arith, c.from-sites.ensures, c.requires.some);
+  most = omega (arith, c.from-sites.ensures, c.requires.most);
+}
+
+pub returns : goal.returns
+returns c =
+    let last : c.loop-pair.pair ≡ c.args.pairs = omega (arith, c.loop-pair-test.false, c.loop-pair.auto.pair-end) in
+    c.loop-pair.invariant.order ∙ ap (λ n. drawn_order c.args.seed c.args.tiles (2 * n)) last

@@ -1,11 +1,14 @@
-use Rattle.std.proofs.Common.{◌≡◌, ◌<◌, ℕ, List, All, length, ap, sym, subst, ◌∙◌}
+use Rattle.std.proofs.Common.{◌≡◌, ◌<◌, ℕ, List, All, length, ap, sym, subst, ◌∙◌, arith}
 use Rattle.std.proofs.lemmas.Result.{IfOk-weaker}
 use Rattle.cell_grid.specs.Grid.{IsGrid}
+use Rattle.border_cache.specs.Copies.{IsGridOf}
+use Rattle.tile_map.proofs.Numbers.{tiles_few}
 use Rattle.tile_map.specs.Plane.{MapValue, tiles_of}
 use Rattle.stepped_world.specs.Ends.{IsOutcome}
 use Rattle.world_text.specs.Values.{world_value}
 use Rattle.world_runs.specs.Fresh.{AllCanAttempt, setting_of}
 use Rattle.world_runs.specs.Orders.{order_in}
+use Rattle.serial_order.proofs.Blanks.{some_tiles}
 use Rattle.world_runs.proofs.Beginning.{all_can, all_ready}
 use Rattle.world_runs.proofs.Given.{given_all, holds_along}
 use Rattle.world_runs.proofs.stepping.stepped.Goals as goal
@@ -31,3 +34,19 @@ returns g c =
     let all : h.0 ≡ order_in w = given_all c.into_iter.result h.0 long h.1 ∙ (c.into_iter.ensures.rest ∙ c.in_ok-order.ensures.value) in
     let settled = h.2 (setting_of w meaning) (record { tiles_are = all_ready g.B.Behave.after (world_value c.args.world.now) c.args.map.now meaning c.args.behaves.items c.in_ok-tiles.tiles.items c.in_ok-grid.grid c.requires.map c.requires.world c.plan_fits.ensures (subst IsGrid c.grid.view_is c.grid.invariant.0) c.in_ok-grid.ensures.fits c.in_ok-grid.ensures.grid c.in_ok-tiles.ensures c.requires.one one; edges = c.in_ok-board.ensures.edges }) in
     subst (λ (xs : List ℕ). IsOutcome w.plane (setting_of w meaning) xs o) all (subst (λ (m : MapValue). IsOutcome m (setting_of w meaning) h.0 o) c.requires.map settled)) c.run_settled.ensures.outcome
+
+pub plan_fits-requires : goal.plan_fits-requires
+plan_fits-requires g c =
+    let some = some_tiles (world_value c.args.world.now).plane c.requires.world.map in
+    omega (arith, some, c.requires.world.lists)
+
+pub fresh_tiles-requires-clause-start : goal.fresh_tiles-requires-clause-start
+fresh_tiles-requires-clause-start g c = subst (λ m. IsGridOf m c.in_ok-grid.grid) (sym c.requires.map) c.in_ok-grid.ensures.fits
+
+pub fresh_tiles-requires-clause-lists : goal.fresh_tiles-requires-clause-lists
+fresh_tiles-requires-clause-lists g c = c.requires.world.lists ∙ ap tiles_of (sym c.requires.map)
+
+pub order_of-requires-clause-tiles : goal.order_of-requires-clause-tiles
+order_of-requires-clause-tiles g c =
+    let m = (world_value c.args.world.now).plane in
+    (some_tiles m c.requires.world.map, tiles_few m c.requires.world.map)

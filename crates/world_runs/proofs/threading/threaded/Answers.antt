@@ -1,12 +1,14 @@
-use Rattle.std.proofs.Common.{sym, subst}
+use Rattle.std.proofs.Common.{sym, ap, subst, ◌∙◌, arith}
 use Rattle.std.proofs.lemmas.Result.{IfOk-weaker}
 use Rattle.cell_grid.specs.Grid.{IsGrid}
-use Rattle.tile_map.specs.Plane.{MapValue}
+use Rattle.border_cache.specs.Copies.{IsGridOf}
+use Rattle.tile_map.specs.Plane.{MapValue, tiles_of}
 use Rattle.serial_order.specs.Outcomes.{values_of}
 use Rattle.world_text.specs.Values.{world_value}
 use Rattle.world_runs.specs.Fresh.{AllCanAttempt, setting_of}
 use Rattle.world_runs.specs.OneOrder.{StandsInOneOrder}
 use Rattle.serial_order.specs.Words.{closed_histories}
+use Rattle.serial_order.proofs.Blanks.{some_tiles}
 use Rattle.world_runs.proofs.Beginning.{all_can, all_ready}
 use Rattle.world_runs.proofs.threading.threaded.Goals as goal
 
@@ -34,3 +36,14 @@ returns g c =
     let over = (c.in_ok-tiles-2.ensures (setting_of w meaning) (all_ready g.B.Behave.after (world_value c.args.world.now) c.args.map.now meaning c.args.behaves.items c.in_ok-tiles.tiles.items c.in_ok-grid.grid c.requires.map c.requires.world c.plan_fits.ensures (subst IsGrid c.grid.view_is c.grid.invariant.0) c.in_ok-grid.ensures.fits c.in_ok-grid.ensures.grid c.in_ok-tiles.ensures c.requires.one one)).over in
     let whole : StandsInOneOrder c.args.map.now (setting_of w meaning) o = record { tiles = values_of c.in_ok-tiles-2.tiles.items; edges = closed_histories c.in_ok-tiles-2.edges; settled = settled (setting_of w meaning) over } in
     subst (λ (m : MapValue). StandsInOneOrder m (setting_of w meaning) o) c.requires.map whole) c.settle.ensures.settled
+
+pub plan_fits-requires : goal.plan_fits-requires
+plan_fits-requires g c =
+    let some = some_tiles (world_value c.args.world.now).plane c.requires.world.map in
+    omega (arith, some, c.requires.world.lists)
+
+pub fresh_tiles-requires-clause-start : goal.fresh_tiles-requires-clause-start
+fresh_tiles-requires-clause-start g c = subst (λ m. IsGridOf m c.in_ok-grid.grid) (sym c.requires.map) c.in_ok-grid.ensures.fits
+
+pub fresh_tiles-requires-clause-lists : goal.fresh_tiles-requires-clause-lists
+fresh_tiles-requires-clause-lists g c = c.requires.world.lists ∙ ap tiles_of (sym c.requires.map)

@@ -1,7 +1,10 @@
 use Rattle.std.proofs.Common.{◌≡◌, ℕ, false, sym, ap, ◌∙◌, subst}
 use Rattle.window_sites.specs.Window.{WindowValue}
 use Rattle.tile_map.specs.Plane.{MapValue}
-use Rattle.tile_core.specs.Underway.{GoesOn, tile_at}
+use Rattle.border_cache.specs.Copies.{IsEndOf}
+use Rattle.border_cache.proofs.Stored.{end_stays}
+use Rattle.tile_core.specs.Turns.{common}
+use Rattle.tile_core.specs.Underway.{IsUnderway, GoesOn, tile_at}
 use Rattle.tile_core.specs.Steps.{StepsIn, is_over, rules_of}
 use Rattle.tile_core.proofs.Advance.{drawn_taken, same_taken}
 use Rattle.tile_core.proofs.Falls.{steps_fall}
@@ -58,3 +61,18 @@ loop-phase-preserved g c =
       same = same_end (g.D.Board.end c.args.board.now) (g.D.Board.end c.loop-phase.board) (g.D.Board.end c.advance-phase-in-loop-phase.new.board) i.same e.same;
       moved = g.met.D.Board.moved_on c.args.board.now c.loop-phase.board c.advance-phase-in-loop-phase.new.board i.moved e.moved;
     }
+
+pub advance-phase-requires-in-loop-phase-clause-underway : goal.advance-phase-requires-in-loop-phase-clause-underway
+advance-phase-requires-in-loop-phase-clause-underway g c =
+    let x = c.loop-phase.self in
+    let i = c.loop-phase.invariant in
+    let q = c.requires.underway in
+    (q.0, q.1, subst (λ (p : MapValue × (WindowValue → ℕ → WindowValue)). IsUnderway (common p.0 p.1 q.0) q.1 x.core (g.D.Board.end c.loop-phase.board).lists) (λ j. (sym i.map j, sym i.meaning j)) (i.far q.0 q.1 q.2))
+
+pub advance-phase-requires-in-loop-phase-clause-board : goal.advance-phase-requires-in-loop-phase-clause-board
+advance-phase-requires-in-loop-phase-clause-board g c =
+    let v = c.args.self.now.core in
+    let x = c.loop-phase.self.core in
+    let i = c.loop-phase.invariant in
+    let end = g.D.Board.end c.loop-phase.board in
+    subst (λ m. IsEndOf m x.number end) (sym i.map) (end_stays v.cache.map v.number x.number (g.D.Board.end c.args.board.now) end i.number i.same c.requires.board)
