@@ -1,5 +1,5 @@
 -- Hexadecimal digits, two at a time.
-use Rattle.std.proofs.Common.{ℕ, zero, suc, ◌≡◌, ◌+◌, ◌-◌, ◌*◌, ◌/◌, ◌%◌, ◌^◌, ◌<◌, Bool, true, ◌&&◌, T, eqb, List, ◌∷◌, ◌++◌, get_or, inl, inr, ap, sym, ◌∙◌, arith, eq-zero-or-pos, eqb→eq}
+use Rattle.std.proofs.Common.{ℕ, zero, suc, ◌≡◌, ◌+◌, ◌-◌, ◌*◌, ◌/◌, ◌%◌, ◌^◌, ◌<◌, Bool, true, ◌&&◌, T, eqb, ◌∷◌, get_or, inl, inr, ap, sym, ◌∙◌, arith, eq-zero-or-pos, eqb→eq}
 use Rattle.std.proofs.Math.Nat.{div-div-eq-div-mul}
 use Rattle.std.proofs.lemmas.Nat.{pow-add}
 use lib.Ieee.Fits.{and_l, and_r}

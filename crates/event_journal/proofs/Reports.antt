@@ -13,7 +13,7 @@ use Rattle.event_journal.specs.declared.fault.LineFault.{LineFault}
 use Rattle.event_journal.specs.declared.fault.LineFault.TheVariants.{BadForm}
 use Rattle.event_journal.specs.declared.cursors.LogCursor.{LogCursor}
 use Rattle.event_journal.specs.Reading.{Said, fields_step, line_step, read_report, read_lines, nothing_said, is_over, go_on, IsFault, fault_of}
-use Rattle.event_journal.specs.Cursors.{Serves, last_of, lasts_of, ReadsJournal}
+use Rattle.event_journal.specs.Cursors.{Serves, last_of, lasts_of, ReadsAs, ReadsJournal, ReadsSaid}
 use Rattle.event_journal.specs.declared.fault.JournalFault.{JournalFault}
 use Rattle.event_journal.specs.declared.reader.ReadJournal.{ReadJournal}
 
@@ -60,6 +60,12 @@ pub read_stops : (m : MapValue) (lists : List (List Attempt)) (bytes : List ℕ)
     IsFault (read_report m lists bytes) (fault_of fault) → ReadsJournal m lists bytes r
 read_stops m lists bytes (Ok j) fault is h = absurd is
 read_stops m lists bytes (Err e) fault is h = subst (λ f. IsFault (read_report m lists bytes) (fault_of f)) (sym is) h
+
+-- an answer by what the lines that are left are read as
+pub read_on : (m : MapValue) (lists : List (List Attempt)) (bytes : List ℕ) (asked : Result Said (ℕ × LineFault)) (r : Result ReadJournal JournalFault) → asked ≡ read_report m lists bytes →
+    ReadsSaid asked r → ReadsJournal m lists bytes r
+read_on m lists bytes asked (Ok j) is h = subst (λ q. ReadsAs q j) is h
+read_on m lists bytes asked (Err fault) is h = subst (λ q. IsFault q (fault_of fault)) is h
 
 replicate_more : (n : ℕ) → replicate n None ++ None ∷ [] ≡ replicate {A = Option (ℕ × ℕ)} (suc n) None
 replicate_more zero = refl

@@ -77,3 +77,8 @@ ReadsAs asked j = (d : Said) × (asked ≡ Ok d) × (d.journal ≡ j.records.ite
 abbrev pub ReadsJournal : MapValue → List (List Attempt) → List ℕ → Result ReadJournal JournalFault → Type 0
 ReadsJournal m lists bytes (Ok j) = ReadsAs (read_report m lists bytes) j
 ReadsJournal m lists bytes (Err fault) = IsFault (read_report m lists bytes) (fault_of fault)
+
+-- lines are read: at Ok the records and the abandoned attempts that they say, otherwise their first fault
+abbrev pub ReadsSaid : Result Said (ℕ × LineFault) → Result ReadJournal JournalFault → Type 0
+ReadsSaid asked (Ok j) = ReadsAs asked j
+ReadsSaid asked (Err fault) = IsFault asked (fault_of fault)

@@ -1,9 +1,11 @@
 //! Reading the journal of a report.
 ghost use Rattle.std.specs.Prelude.{◌≡◌, ◌<◌, ◌≤◌, ◌^◌, IfOk, List, None, length, replicate};
 ghost use Rattle.draw_stream.specs.declared.attempt.Attempt.{Attempt};
-ghost use Rattle.tile_map.specs.Plane.{tiles_of};
-ghost use Rattle.event_journal.specs.Reading.{read_report};
-ghost use Rattle.event_journal.specs.Cursors.{AllServe, IsExtent, ReadsJournal, lasts_of};
+ghost use Rattle.text_lines.specs.Fields.{Lacks};
+ghost use Rattle.text_lines.specs.Lines.{ended_lines};
+ghost use Rattle.tile_map.specs.Plane.{MapValue, tiles_of};
+ghost use Rattle.event_journal.specs.Reading.{read_lines};
+ghost use Rattle.event_journal.specs.Cursors.{AllServe, IsExtent, ReadsJournal, ReadsSaid, lasts_of, said_value};
 
 use crate::abandoned::Abandoned;
 use crate::cursors::LogCursor;
@@ -44,6 +46,23 @@ fn cursors(alloc: Global, plan: &AttemptPlan, tiles: u32) -> Result<Vec<LogCurso
     Ok(cursors)
 }
 
+/// What the lines that are read say; `BadLine` with the line after them, of number `n`, if a text
+/// without an LF is left or more lines have to come.
+fn finished(n: u64, left: &[u8], reading: Reading) -> Result<ReadJournal, JournalFault>
+    requires { Lacks left.now 10 }
+    ensures { (m : MapValue) (lists : List (List Attempt)) →
+        ReadsSaid (read_lines m lists n (said_value reading) (ended_lines left.now)) result }
+{
+    if left.is_empty() && is_over(reading.wants) {
+        Ok(ReadJournal {
+            records: reading.journal,
+            abandoned: reading.gone,
+        })
+    } else {
+        Err(JournalFault::BadLine(n))
+    }
+}
+
 /// Reads a report with these cursors, none of which has passed an attempt.
 fn read_lines(
     alloc: Global,
@@ -72,14 +91,7 @@ fn read_lines(
         n += 1;
         left = rest;
     }
-    if left.is_empty() && is_over(reading.wants) {
-        Ok(ReadJournal {
-            records: reading.journal,
-            abandoned: reading.gone,
-        })
-    } else {
-        Err(JournalFault::BadLine(n))
-    }
+    finished(n, left, reading)
 }
 
 /// Reads a whole report for a map and a plan, which has a list of attempts for each tile, and keeps

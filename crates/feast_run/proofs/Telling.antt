@@ -46,6 +46,11 @@ moved X Y a b c (Missing w) p q = record {
 }
 moved X Y a b c NoMemory p q = keeps_then a b c p q
 
+-- a stage that passed, and then what the rest leaves
+pub moves_then : {X : Type 0} (a b c : ShelfState) (r : Result X Halt) → Keeps a b → Moves b c r → Moves a c r
+moves_then {X = X} a b c (Ok x) p q = keeps_then a b c p q
+moves_then {X = X} a b c (Err halt) p q = moved X X a b c halt p q
+
 pub moves_exit : (X Y : Type 0) (a b c : ShelfState) (halt : Halt) (r : Result Y Halt) → IsErrAnd r (λ e. e ≡ halt) →
     Keeps a b → Moves {X = X} b c (Err halt) → Moves a c r
 moves_exit X Y a b c halt (Ok y) is p q = absurd is

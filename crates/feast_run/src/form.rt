@@ -1,6 +1,6 @@
 //! The forms that the words of a call may have.
-ghost use Rattle.std.specs.Prelude.{◌≡◌, ◌≤◌, IfSome, MatchOption, None, Some, length, option_map};
-ghost use Rattle.feast_run.specs.Forms.{IsFew, asked, form_value, later_form, left_of, most_files, of_files, of_number, of_rewind, texts, two_words, world_form};
+ghost use Rattle.std.specs.Prelude.{ℕ, ◌≡◌, ◌≤◌, IfSome, List, MatchOption, None, Some, length, option_map};
+ghost use Rattle.feast_run.specs.Forms.{FormValue, IsFew, asked, form_value, later_form, left_of, most_files, of_files, of_journal, of_number, of_rewind, of_world, texts, two_words, world_form};
 
 use text_lines::number;
 
@@ -80,6 +80,27 @@ fn two_words(words: &[String]) -> Option<(&str, &str)>
     }
 }
 
+/// A word, and the words of element files after it.
+fn world_words(words: &[String]) -> Option<(&str, &[String])>
+    ensures value { (make : List ℕ → List (List ℕ) → FormValue) →
+        of_world make (texts words.now) ≡ option_map (λ p. make p.0.now (texts p.1.now)) result }
+    ensures few { IfSome result (λ p. length p.1.now ≤ most_files) }
+{
+    let (world, rest) = words.split_first()?;
+    Some((world.as_str(), of_files(rest)?))
+}
+
+/// Two words, and the words of element files after them.
+fn report_words(words: &[String]) -> Option<(&str, &str, &[String])>
+    ensures value { (make : List ℕ → List ℕ → List (List ℕ) → FormValue) →
+        of_journal make (texts words.now) ≡ option_map (λ p. make p.0.now p.1.now (texts p.2.now)) result }
+    ensures few { IfSome result (λ p. length p.2.now ≤ most_files) }
+{
+    let (world, rest) = words.split_first()?;
+    let (report, files) = world_words(rest)?;
+    Some((world.as_str(), report, files))
+}
+
 /// The form of a rewind, from the words after its first.
 fn read_rewind(words: &[String]) -> Option<Form<'_>>
     ensures value { of_rewind (texts words.now) ≡ option_map form_value result }
@@ -100,9 +121,8 @@ fn read_later_form<'a>(verb: &str, rest: &'a [String]) -> Option<Form<'a>>
     match verb {
         "gen" => Some(Form::Gen(of_number(rest)?)),
         "audit" => {
-            let (world, rest) = rest.split_first()?;
-            let (report, rest) = rest.split_first()?;
-            Some(Form::Audit(world.as_str(), report.as_str(), of_files(rest)?))
+            let (world, report, files) = report_words(rest)?;
+            Some(Form::Audit(world, report, files))
         }
         "rewind" => read_rewind(rest),
         "steppack" => {
@@ -124,17 +144,16 @@ fn read_world_form<'a>(verb: &str, rest: &'a [String]) -> Option<Form<'a>>
 {
     match verb {
         "run" => {
-            let (world, rest) = rest.split_first()?;
-            Some(Form::Run(world.as_str(), of_files(rest)?))
+            let (world, files) = world_words(rest)?;
+            Some(Form::Run(world, files))
         }
         "step" => {
-            let (world, rest) = rest.split_first()?;
-            Some(Form::Step(world.as_str(), of_files(rest)?))
+            let (world, files) = world_words(rest)?;
+            Some(Form::Step(world, files))
         }
         "replay" => {
-            let (world, rest) = rest.split_first()?;
-            let (journal, rest) = rest.split_first()?;
-            Some(Form::Replay(world.as_str(), journal.as_str(), of_files(rest)?))
+            let (world, journal, files) = report_words(rest)?;
+            Some(Form::Replay(world, journal, files))
         }
         _ => read_later_form(verb, rest),
     }

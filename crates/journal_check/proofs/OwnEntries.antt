@@ -1,5 +1,5 @@
 -- The entries of one tile among those of all.
-use Rattle.std.proofs.Common.{ℕ, zero, suc, ◌≡◌, ◌≢◌, ◌≤◌, ◌<◌, ◌+◌, ◌-◌, ◌==◌, List, [], ◌∷◌, ◌++◌, AllPairs, refl, sym, ap, subst, arith, ◌⊎◌, inl, inr, ⊎_elim, Bool, true, false, ◌&&◌, ◌∙◌, cond, length, drop, take, get_or, set, replicate, filter, eq-eqb, eqb-true, ne_eqb}
+use Rattle.std.proofs.Common.{ℕ, zero, suc, ◌≡◌, ◌≢◌, ◌≤◌, ◌<◌, ◌+◌, ◌-◌, ◌==◌, List, [], ◌∷◌, ◌++◌, AllPairs, refl, sym, ap, subst, arith, ◌⊎◌, inl, inr, ⊎_elim, Bool, true, false, ◌∙◌, cond, length, drop, take, get_or, set, replicate, eq-eqb, eqb-true, ne_eqb}
 use Rattle.std.specs.List.{AllWithin}
 use Rattle.std.specs.List.Sorted.{IsNonDecreasingBy}
 use Rattle.std.proofs.lemmas.Bool.Decides.{nat_tests}

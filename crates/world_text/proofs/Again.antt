@@ -10,7 +10,7 @@ use Rattle.text_lines.specs.Printed.{IsLine, is_field}
 use Rattle.text_lines.proofs.Joined.{fields_again, lines_again}
 use Rattle.text_lines.proofs.Printed.{decimal_digits, number_decimal, hex_hex, decimal_high, hex_high, name_high}
 use Rattle.world_text.specs.Line.{Line, header, tiles, size, off, seed, attempts, try, atom, order_seed, order}
-use Rattle.world_text.specs.Forms.{line_of, form_of, form, short_form, state_of, name_state, numbers_of, order_form}
+use Rattle.world_text.specs.Forms.{line_of, form_of, form, plane_form, short_form, state_of, name_state, numbers_of, order_form}
 use Rattle.world_text.specs.Drafts.{DraftValue, step, nothing_said}
 use Rattle.world_text.specs.Printed.{line_fields}
 use Rattle.world_text.specs.Reading.{read_text, read_lines, line_step, go_on}
@@ -75,7 +75,7 @@ order_again (t ∷ ts) some p =
     rw (not_seed (decimal t) digits, all_numbers (t ∷ ts) p) refl
 
 form_again : (l : Line) → IsPrinted l → form_of (line_fields l) ≡ Some l
-unfolding form_of form short_form take_number one_field name_state state_of
+unfolding form_of form short_form plane_form take_number one_field name_state state_of
 form_again (header true) p = refl
 form_again (header false) p = refl
 form_again (tiles a b) p = rw (number_decimal a p.0, number_decimal b p.1) refl

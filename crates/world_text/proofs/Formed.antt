@@ -8,7 +8,7 @@ use Rattle.text_lines.specs.Fields.{fields, hex_of, hex_worth, is_nibble, nibble
 use Rattle.text_lines.specs.Forms.{with, take_number, one_field, one_number, one_seed, two_numbers}
 use Rattle.text_lines.proofs.Digits.{nibble_in}
 use Rattle.world_text.specs.Line.{Line, IsFormed, header, tiles, size, off, seed, attempts, try, atom, order_seed, order}
-use Rattle.world_text.specs.Forms.{line_of, form_of, form, short_form, order_form, version_form, version_of, try_form, atom_form, name_state, state_of, numbers_of}
+use Rattle.world_text.specs.Forms.{line_of, form_of, form, plane_form, short_form, order_form, version_form, version_of, try_form, atom_form, name_state, state_of, numbers_of}
 
 -- what digits are worth behind others
 worth_below : (ds : List ℕ) (v k : ℕ) → list_all is_nibble ds ≡ true → v < 16 ^ k → fold (λ (v d : ℕ). v * 16 + nibble d) v ds < 16 ^ (k + length ds)
@@ -85,7 +85,7 @@ version_formed f l e = on (bytes_eq f (codes "1")) (bytes_eq f (codes "2")) e
     on false false e = cc
 
 short_formed : (word : List ℕ) (args : List (List ℕ)) (l : Line) → short_form word args ≡ Some l → IsFormed l
-unfolding short_form
+unfolding short_form plane_form
 short_formed word args l e =
     on (bytes_eq word (codes "off")) (bytes_eq word (codes "seed")) (bytes_eq word (codes "attempts")) (bytes_eq word (codes "size")) (bytes_eq word (codes "tiles")) (bytes_eq word (codes "feast")) e
   where

@@ -40,16 +40,21 @@ try_form args = with (take_number args) (λ t. with (take_number t.1) (λ x. wit
 abbrev pub atom_form : List (List ℕ) → Option Line
 atom_form args = with (take_number args) (λ x. with (take_number x.1) (λ y. option_map (λ n. atom x.0 y.0 n.0 n.1) (name_state y.1)))
 
+-- a line of two numbers, or a header
+unfoldable pub plane_form : List ℕ → List (List ℕ) → Option Line
+plane_form word args =
+    if bytes_eq word (codes "size") then option_map (λ p. size p.0 p.1) (two_numbers args)
+    else (if bytes_eq word (codes "tiles") then option_map (λ p. tiles p.0 p.1) (two_numbers args)
+    else (if bytes_eq word (codes "feast") then version_form args
+    else None))
+
 -- a line of one number or two
 unfoldable pub short_form : List ℕ → List (List ℕ) → Option Line
 short_form word args =
     if bytes_eq word (codes "off") then option_map off (one_number args)
     else (if bytes_eq word (codes "seed") then option_map seed (one_number args)
     else (if bytes_eq word (codes "attempts") then option_map attempts (one_number args)
-    else (if bytes_eq word (codes "size") then option_map (λ p. size p.0 p.1) (two_numbers args)
-    else (if bytes_eq word (codes "tiles") then option_map (λ p. tiles p.0 p.1) (two_numbers args)
-    else (if bytes_eq word (codes "feast") then version_form args
-    else None)))))
+    else plane_form word args))
 
 -- what a word and the fields after it say
 unfoldable pub form : List ℕ → List (List ℕ) → Option Line

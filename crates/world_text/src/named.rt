@@ -1,5 +1,5 @@
 //! Giving the atoms of a world the types of their names.
-ghost use Rattle.std.specs.Prelude.{ℕ, ◌≡◌, ◌*◌, ◌≤◌, ◌<◌, ◌^◌, All, IfOk, IfSome, List, length};
+ghost use Rattle.std.specs.Prelude.{ℕ, ◌≡◌, ◌*◌, ◌≤◌, ◌<◌, ◌^◌, All, IfOk, IfSome, List, false, length, not, slice_index_or, slice_set, true};
 ghost use Rattle.draw_stream.specs.Plans.{IsPlan, scripted, tiles_on};
 ghost use Rattle.world_text.specs.declared.draft.RawAtom.{RawAtom};
 ghost use Rattle.world_text.specs.Named.{AreKinds, NamesAtoms, order_by, atom_place, plan_by, type_of};
@@ -46,6 +46,17 @@ fn atom_place(width: u32, height: u32, atom: &RawAtom) -> usize
     (atom.y * width + atom.x) as usize
 }
 
+/// Marks a place as taken, and answers whether it was free.
+fn take_site(marks: &mut Vec<bool>, place: usize) -> bool
+    requires { place < length marks.old.items }
+    ensures free { result ≡ not (slice_index_or marks.old.items place false) }
+    ensures taken { marks.new.items ≡ slice_set marks.old.items place true }
+{
+    let free = !marks[place];
+    marks[place] = true;
+    free
+}
+
 /// The atoms with the types of their names, or the first fault.
 fn name_atoms(
     alloc: Global,
@@ -67,10 +78,9 @@ fn name_atoms(
             return Err(WorldFault::UnknownElement(raw.line));
         };
         let place = atom_place(width, height, raw);
-        if marks[place] {
+        if !take_site(&mut marks, place) {
             return Err(WorldFault::SiteTaken(raw.line));
         }
-        marks[place] = true;
         found.push(Placed {
             x: raw.x,
             y: raw.y,

@@ -1,7 +1,7 @@
 //! What the text of a line says.
 ghost use Rattle.std.specs.Prelude.{◌≡◌, option_map, IfOk};
 ghost use Rattle.text_lines.specs.Fields.{fields_left};
-ghost use Rattle.world_text.specs.Forms.{atom_form, line_of, name_state, numbers_of, order_form, short_form, state_of, try_form, version_form};
+ghost use Rattle.world_text.specs.Forms.{atom_form, line_of, name_state, numbers_of, order_form, plane_form, short_form, state_of, try_form, version_form};
 ghost use Rattle.world_text.specs.Values.{line_value};
 
 use crate::line::Line;
@@ -109,6 +109,25 @@ fn version_form<'a>(args: Option<&'a [u8]>) -> Option<Line<'a>>
     None
 }
 
+/// A line of two numbers, or a header.
+#[tactic(auto, unfolding(crate::specs::Forms::plane_form))]
+fn plane_form<'a>(word: &[u8], args: Option<&'a [u8]>) -> Option<Line<'a>>
+    ensures { option_map line_value result ≡ plane_form word.now (fields_left args.entry) }
+{
+    if word == b"size".as_slice() {
+        let (w, h) = two_numbers(args)?;
+        return Some(Line::Size { w, h });
+    }
+    if word == b"tiles".as_slice() {
+        let (tx, ty) = two_numbers(args)?;
+        return Some(Line::Tiles { tx, ty });
+    }
+    if word == b"feast".as_slice() {
+        return version_form(args);
+    }
+    None
+}
+
 /// A line of one number or two.
 #[tactic(auto, unfolding(crate::specs::Forms::short_form))]
 fn short_form<'a>(word: &[u8], args: Option<&'a [u8]>) -> Option<Line<'a>>
@@ -126,18 +145,7 @@ fn short_form<'a>(word: &[u8], args: Option<&'a [u8]>) -> Option<Line<'a>>
         let count = one_number(args)?;
         return Some(Line::Attempts { count });
     }
-    if word == b"size".as_slice() {
-        let (w, h) = two_numbers(args)?;
-        return Some(Line::Size { w, h });
-    }
-    if word == b"tiles".as_slice() {
-        let (tx, ty) = two_numbers(args)?;
-        return Some(Line::Tiles { tx, ty });
-    }
-    if word == b"feast".as_slice() {
-        return version_form(args);
-    }
-    None
+    plane_form(word, args)
 }
 
 /// What a line says.

@@ -1,8 +1,7 @@
-use Rattle.std.proofs.Common.{◌≡◌, ◌&&◌, ◌==◌, ◌∙◌, ap, sym, refl, arith, length, subst, None, false}
+use Rattle.std.proofs.Common.{◌≡◌, ◌∙◌, ap, sym, refl, arith, subst, None}
 use Rattle.text_lines.specs.Lines.{ended_lines}
-use Rattle.event_journal.proofs.Reports.{walk_start, walk_line, walk_fault, walk_whole, walk_short, read_stops}
-use Rattle.event_journal.proofs.reader.read_lines.Goals.{else-is_empty-via-then-is_empty+else-is_over, else-is_empty-via-else-is_empty}
-use Rattle.event_journal.specs.Reading.{header, nothing_said, read_lines, is_over, IsFault, fault_of}
+use Rattle.event_journal.proofs.Reports.{walk_start, walk_line, walk_fault, read_on, read_stops}
+use Rattle.event_journal.specs.Reading.{header, nothing_said, read_lines, IsFault, fault_of}
 use Rattle.event_journal.specs.Cursors.{said_value, lasts_of}
 use Rattle.event_journal.proofs.reader.read_lines.Goals as goal
 
@@ -47,26 +46,5 @@ returns-in_err-take_fields c = λ lists all.
     (subst (λ r. IsFault r (fault_of fault)) (ap (λ ts. read_lines m lists n old ts) (sym c.in-Some.ensures.0) ∙ c.loop-text.invariant.rest lists all)
     (walk_fault m lists n old c.in-Some.text.now (ended_lines c.in-Some.rest.now) (fault_of fault) (c.in_err-take_fields.ensures.steps lists (c.loop-text.invariant.serve lists all))))
 
-pub returns-then-is_over : goal.returns-then-is_over
-returns-then-is_over c = λ lists all.
-    let m = c.args.map.now in
-    let n = c.loop-text.n in
-    let old = said_value c.loop-text.reading in (
-      old,
-      sym (c.loop-text.invariant.rest lists all)
-          ∙ walk_whole m lists n old c.loop-text.left.now (sym c.is_empty.ensures ∙ c.if-is_empty.true) (sym c.is_over.ensures ∙ c.if-is_over.true),
-      refl,
-      refl,
-    )
-
-pub returns-else-is_empty : goal.returns-else-is_empty
-returns-else-is_empty c = λ lists all.
-    let m = c.args.map.now in
-    let n = c.loop-text.n in
-    let old = said_value c.loop-text.reading in
-    let left = c.loop-text.left.now in
-    let stops : (length left == 0 && is_over old.wants) ≡ false = elim c.else-is_empty.branch [
-      | else-is_empty-via-then-is_empty+else-is_over w ↦ rw (sym c.is_empty.ensures ∙ w.if-is_empty.true, sym w.is_over.ensures ∙ w.if-is_over.false) refl
-      | else-is_empty-via-else-is_empty w ↦ rw (sym c.is_empty.ensures ∙ w.if-is_empty.false) refl
-    ] in
-    sym (c.loop-text.invariant.rest lists all) ∙ walk_short m lists n old left c.in_default.ensures stops
+pub returns : goal.returns
+returns c = λ lists all. read_on c.args.map.now lists c.args.bytes.now _ c.finished.result (c.loop-text.invariant.rest lists all) (c.finished.ensures c.args.map.now lists)

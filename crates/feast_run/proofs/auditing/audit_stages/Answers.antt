@@ -1,4 +1,4 @@
-use Rattle.feast_run.proofs.Telling.{tells_then, tells_exit}
+use Rattle.feast_run.proofs.Telling.{moves_then, tells_then, tells_exit}
 use Rattle.feast_run.specs.Outputs.{output_text}
 use Rattle.feast_run.specs.Values.{ready_value}
 use Rattle.feast_run.proofs.auditing.audit_stages.Goals as goal
@@ -13,3 +13,6 @@ returns-in_err-ready-clause-tells g c =
     let exit = c.from_residual in
     tells_exit ready_value output_text _ _ c.in_err-ready.field-0.0 exit.result exit.ensures.1
     c.in_err-ready.ensures.tells
+
+pub returns-clause-moves : goal.returns-clause-moves
+returns-clause-moves g c = moves_then _ _ _ c.audit_rest.result c.in_ok-ready.ensures.moves c.audit_rest.ensures.moves

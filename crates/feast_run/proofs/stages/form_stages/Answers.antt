@@ -24,3 +24,12 @@ returns-in-StepPack-clause-tells g c = rw c.in-StepPack.is c.steppack_stages.ens
 
 pub returns-in-RunPack-clause-tells : goal.returns-in-RunPack-clause-tells
 returns-in-RunPack-clause-tells g c = rw c.in-RunPack.is c.runpack_stages.ensures.tells
+
+pub returns-in-Check-clause-tells : goal.returns-in-Check-clause-tells
+returns-in-Check-clause-tells g c = rw c.in-Check.is c.check_stages.ensures.tells
+
+pub returns-in-Code-clause-tells : goal.returns-in-Code-clause-tells
+returns-in-Code-clause-tells g c = rw c.in-Code.is c.code_stages.ensures.tells
+
+pub returns-in-Pack-clause-tells : goal.returns-in-Pack-clause-tells
+returns-in-Pack-clause-tells g c = rw c.in-Pack.is c.pack_stages.ensures.tells

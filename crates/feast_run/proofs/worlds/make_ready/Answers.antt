@@ -1,5 +1,5 @@
 use Rattle.world_text.specs.Drafts.{DraftValue}
-use Rattle.feast_run.proofs.Telling.{tells_then, tells_exit}
+use Rattle.feast_run.proofs.Telling.{moves_then, tells_then, tells_exit}
 use Rattle.feast_run.specs.Values.{ready_value}
 use Rattle.feast_run.proofs.worlds.make_ready.Goals as goal
 
@@ -13,3 +13,6 @@ returns-in_err-draft-clause-tells g c =
     let exit = c.from_residual in
     tells_exit (λ (d : DraftValue). d) ready_value _ _ c.in_err-draft.field-0.0 exit.result exit.ensures.1
     c.in_err-draft.ensures.tells
+
+pub returns-clause-moves : goal.returns-clause-moves
+returns-clause-moves g c = moves_then _ _ _ c.with_element_files.result c.in_ok-draft.ensures.moves c.with_element_files.ensures.moves

@@ -1,10 +1,18 @@
-use Rattle.std.proofs.Common.{ℕ, ◌≡◌, ◌+◌, ◌<◌, ◌==◌, ◌∙◌, ap, sym, length, map, take, drop, arith, true, false, Some, is_some, subst, ◌++◌, ◌∷◌, []}
+use Rattle.std.proofs.Common.{ℕ, ◌≡◌, ◌+◌, ◌<◌, ◌==◌, ◌∙◌, Bool, List, ap, sym, length, map, take, drop, arith, true, false, not, refl, Some, is_some, subst, ◌++◌, ◌∷◌, []}
 use Rattle.std.specs.List.{list_any}
-use Rattle.std.proofs.lemmas.List.{get_or_default, length-set}
+use Rattle.std.proofs.lemmas.List.{length-set}
 use Rattle.std.proofs.lemmas.List.{take_all}
 use Rattle.world_text.proofs.Marks.{one_unknown, one_taken, one_fine, places_more, next_atom, no_atoms, marked_more, found_more}
 use Rattle.world_text.specs.Named.{name_fault, atom_place, placed, type_of, AreMarked}
 use Rattle.world_text.proofs.named.name_atoms.Goals as goal
+
+taken_is : (marked free : Bool) → free ≡ not marked → free ≡ false → marked ≡ true
+taken_is true free e f = refl
+taken_is false free e f = cc
+
+free_is : (marked free : Bool) → free ≡ not marked → free ≡ true → marked ≡ false
+free_is true free e f = cc
+free_is false free e f = refl
 
 pub returns-in_default : goal.returns-in_default
 returns-in_default c =
@@ -17,8 +25,8 @@ returns-in_default c =
     let known : is_some (type_of names a.name) ≡ false = ap (λ n. is_some (type_of names n)) (sym c.bytes.ensures) ∙ ap is_some (sym (c.in_default.ensures names c.in_ok-kinds.ensures)) in
     sym c.loop-raw.invariant.rest ∙ next_atom names c.args.width atoms i a (omega arith) (sym c.raw-item.is) ∙ one_unknown names c.args.width before a rest known
 
-pub returns-then-index : goal.returns-then-index
-returns-then-index c =
+pub returns-then-not-take_site : goal.returns-then-not-take_site
+returns-then-not-take_site c =
     let names = c.args.names.now in
     let atoms = c.args.atoms.now in
     let i = c.loop-raw.raw-index in
@@ -28,10 +36,10 @@ returns-then-index c =
     let known : is_some (type_of names a.name) ≡ true = ap (λ n. is_some (type_of names n)) (sym c.bytes.ensures) ∙ ap is_some (sym (c.in-Some.ensures names c.in_ok-kinds.ensures)) in
     let size = c.loop-raw.invariant.size in
     let inside : c.atom_place-place.result < length c.loop-raw.marks.items = omega (arith, size, c.atom_place-place.ensures.below) in
-    let mark : list_any (λ p. p == atom_place c.args.width a) before ≡ c.index.result.now =
+    let mark : list_any (λ p. p == atom_place c.args.width a) before ≡ true =
     ap (λ (k : ℕ). list_any (λ p. p == k) before) (sym c.atom_place-place.ensures.value) ∙ sym (c.loop-raw.invariant.marked c.atom_place-place.result inside)
-    ∙ get_or_default c.loop-raw.marks.items c.atom_place-place.result false c.index.result.now inside ∙ sym c.index.ensures in
-    sym c.loop-raw.invariant.rest ∙ next_atom names c.args.width atoms i a (omega arith) (sym c.raw-item.is) ∙ one_taken names c.args.width before a rest known (mark ∙ c.if-index.true)
+    ∙ taken_is _ _ c.take_site.ensures.free c.if-not-take_site.true in
+    sym c.loop-raw.invariant.rest ∙ next_atom names c.args.width atoms i a (omega arith) (sym c.raw-item.is) ∙ one_taken names c.args.width before a rest known mark
 
 pub loop-raw-preserved : goal.loop-raw-preserved
 loop-raw-preserved c =
@@ -45,16 +53,17 @@ loop-raw-preserved c =
     let known : is_some (type_of names a.name) ≡ true = ap is_some type in
     let size = c.loop-raw.invariant.size in
     let inside : c.atom_place-place.result < length c.loop-raw.marks.items = omega (arith, size, c.atom_place-place.ensures.below) in
-    let mark : list_any (λ p. p == atom_place c.args.width a) before ≡ c.index.result.now =
+    let mark : list_any (λ p. p == atom_place c.args.width a) before ≡ false =
     ap (λ (k : ℕ). list_any (λ p. p == k) before) (sym c.atom_place-place.ensures.value) ∙ sym (c.loop-raw.invariant.marked c.atom_place-place.result inside)
-    ∙ get_or_default c.loop-raw.marks.items c.atom_place-place.result false c.index.result.now inside ∙ sym c.index.ensures in
+    ∙ free_is _ _ c.take_site.ensures.free c.if-not-take_site.false in
     let more = places_more c.args.width atoms i a (omega arith) (sym c.raw-item.is) in
     let marks = marked_more c.loop-raw.marks.items before c.atom_place-place.result c.loop-raw.invariant.marked inside in
     record {
-      rest = sym (sym c.loop-raw.invariant.rest ∙ next_atom names c.args.width atoms i a (omega arith) (sym c.raw-item.is) ∙ one_fine names c.args.width before a rest known (mark ∙ c.if-index.false));
+      rest = sym (sym c.loop-raw.invariant.rest ∙ next_atom names c.args.width atoms i a (omega arith) (sym c.raw-item.is) ∙ one_fine names c.args.width before a rest known mark);
       found = found_more names atoms i c.in-Some.kind a c.new.result c.loop-raw.found.items c.push.new.self.items (omega arith) (sym c.raw-item.is) type c.new.ensures c.loop-raw.invariant.found c.in_ok-push.ensures.items;
-      marked = subst (AreMarked _) (ap (λ k. before ++ k ∷ []) c.atom_place-place.ensures.value ∙ sym more) marks;
-      size = length-set c.loop-raw.marks.items c.atom_place-place.result true ∙ size;
+      marked = subst (λ (q : List Bool). AreMarked q (map (atom_place c.args.width) (take (i + 1) atoms))) (sym c.take_site.ensures.taken)
+          (subst (AreMarked _) (ap (λ k. before ++ k ∷ []) c.atom_place-place.ensures.value ∙ sym more) marks);
+      size = ap length c.take_site.ensures.taken ∙ length-set c.loop-raw.marks.items c.atom_place-place.result true ∙ size;
     }
 
 pub returns : goal.returns
