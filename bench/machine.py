@@ -1,4 +1,4 @@
-"""How long the stack machine takes, by the codes of the crate `bench_machine`.
+"""How long the stack machine takes, by the codes of the crate `bench_parts`.
 
     python3 bench/machine.py            times, in nanoseconds an event
     python3 bench/machine.py --count    instructions of the processor, counted by valgrind
@@ -18,16 +18,16 @@ import tempfile
 HERE = pathlib.Path(__file__).resolve().parent
 sys.path.insert(0, str(HERE))
 sys.dont_write_bytecode = True
-from calls import instructions  # noqa: E402
+from calls import Words, instructions  # noqa: E402
 from whole import build  # noqa: E402
 
-CRATE = HERE.parent / "crates/bench_machine"
-BENCH = CRATE / "out/bench_machine"
+CRATE = HERE.parent / "crates/bench_parts"
+BENCH: Words = [CRATE / "out/bench_parts", "machine"]
 
 
 def lines(*words: str) -> dict[str, int]:
     """What the bench prints for these words: a name and the first number behind it for each line."""
-    text = subprocess.run([BENCH, *words], capture_output=True, check=True, text=True).stdout
+    text = subprocess.run([*BENCH, *words], capture_output=True, check=True, text=True).stdout
     return {name: int(n) for name, n in re.findall(r"^(\w+): (\d+)", text, re.M)}
 
 
@@ -35,9 +35,9 @@ def show_counts(steps: dict[str, int]) -> None:
     """Prints the instructions of an event and of a step of each code."""
     with tempfile.TemporaryDirectory() as name:
         folder = pathlib.Path(name)
-        idle = instructions([BENCH, "none"], folder)
+        idle = instructions([*BENCH, "none"], folder)
         for code, count in steps.items():
-            event = (instructions([BENCH, code], folder) - idle) / lines(code)[code]
+            event = (instructions([*BENCH, code], folder) - idle) / lines(code)[code]
             print(f"{code}: {event:.0f} an event, {event / count:.1f} a step", flush=True)
 
 

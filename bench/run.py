@@ -23,8 +23,8 @@ from calls import Words, instructions  # noqa: E402
 from whole import CRATE, HERE, PROGRAM, build, build_plain, written  # noqa: E402
 from worlds import SIDE, WALKER  # noqa: E402
 
-BENCH_CRATE = HERE.parent / "crates/bench_event"
-BENCH = BENCH_CRATE / "out/bench_event"
+BENCH_CRATE = HERE.parent / "crates/bench_parts"
+BENCH = BENCH_CRATE / "out/bench_parts"
 
 
 class Case(NamedTuple):
@@ -68,7 +68,7 @@ def times(folder: pathlib.Path, plain: pathlib.Path) -> Iterator[Cost]:
     worlds = [folder / f"{every}-{side}" for every, side in CASES]
     for world, (every, side) in zip(worlds, CASES):
         write_world(world, 1_000_000, every, side)
-    rounds = [(picoseconds([BENCH, "time"]), [picoseconds([plain, w, "time"])[0] for w in worlds]) for _ in range(3)]
+    rounds = [(picoseconds([BENCH, "event", "time"]), [picoseconds([plain, w, "time"])[0] for w in worlds]) for _ in range(3)]
     for i in range(len(CASES)):
         yield Cost(min(ours[i] for ours, _ in rounds) / 1000, min(theirs[i] for _, theirs in rounds) / 1000)
 

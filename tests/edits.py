@@ -28,8 +28,7 @@ FEWER = {
     "accepted_laws": 0,
     "pack_laws": 0,
     "feast": 0,
-    "bench_event": 0,
-    "bench_machine": 0,
+    "bench_parts": 0,
 }
 # how the names of crates begin that have only tests
 CASES = "cases_"

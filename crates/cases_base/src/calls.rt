@@ -1,10 +1,13 @@
 //! Worked values, and each public call once.
 
+ghost use Rattle.std.specs.Prelude.{◌≡◌, ◌≤◌, ◌+◌, length};
+
 use feast_base::text::{push, push_hex, push_number};
 use feast_base::{
     CountLedger, FileShelf, Gate, LoadFault, MemShelf, MemSink, Name, NoLedger, OpenGate, Shelf,
-    Sink, SinkFailed, Source, StdSink, Steps, Stop, is_type_name,
+    Sink, Source, StdSink, Steps, Stop, is_type_name,
 };
+use std::alloc::Global;
 use std::test::Fail;
 use std::{fs, process};
 
@@ -19,8 +22,7 @@ fn a_name_keeps_its_bytes(rt: HostRuntime) -> Result<(), Fail> {
 fn a_source_keeps_its_name_and_its_bytes(rt: HostRuntime) -> Result<(), Fail> {
     let alloc = rt.alloc();
     let source = Source::new(alloc, "w", vec![in alloc; 7, 8]?)?;
-    assert!(rt; source.name() == "w");
-    assert!(rt; source.bytes() == [7, 8].as_slice());
+    assert!(rt; source.name() == "w" && source.bytes() == [7, 8].as_slice());
     Ok(())
 }
 
@@ -53,65 +55,95 @@ fn a_type_name_has_at_most_255_bytes(rt: HostRuntime) {
     assert!(rt; !is_type_name(&[b'A'; 256]));
 }
 
-/// The second load is listed as one that fails, and there is no file `e`.
-#[test]
-fn a_shelf_in_memory_loads_the_first_file_of_a_name(rt: HostRuntime) -> Result<(), Fail> {
-    let alloc = rt.alloc();
+/// A file `w`, another of the same name, and no other; the second load is listed as one that fails.
+fn shelf(alloc: Global) -> Result<MemShelf, Fail> {
     let first = Source::new(alloc, "w", vec![in alloc; 1, 2, 3]?)?;
     let second = Source::new(alloc, "w", vec![in alloc; 4]?)?;
-    let mut shelf = MemShelf::new(alloc, vec![in alloc; first, second]?, vec![in alloc; 2]?);
-    let mut into = vec![in alloc; 9]?;
-    let told = [
-        shelf.load("w", 3, &mut into),
-        shelf.load("w", 3, &mut into),
-        shelf.load("e", 3, &mut into),
-        shelf.load("w", 1, &mut into),
-    ];
-    let failed = Err(LoadFault::Failed);
-    assert_eq!(rt; told, [Ok(()), failed, failed, Err(LoadFault::TooLong)]);
+    Ok(MemShelf::new(alloc, vec![in alloc; first, second]?, vec![in alloc; 2]?))
+}
+
+/// Loads by name and limit, one after another, with their answers.
+const LOADS: [(&str, u32, Result<(), LoadFault>); 4] = [
+    ("w", 3, Ok(())),
+    ("w", 3, Err(LoadFault::Failed)),
+    ("e", 3, Err(LoadFault::Failed)),
+    ("w", 1, Err(LoadFault::TooLong)),
+];
+
+#[test]
+fn a_shelf_in_memory_loads_the_first_file_of_a_name(rt: HostRuntime) -> Result<(), Fail> {
+    let mut shelf = shelf(rt.alloc())?;
+    let mut into = vec![in rt.alloc(); 9]?;
+    for (name, limit, answer) in LOADS {
+        let told = shelf.load(name, limit as usize, &mut into);
+        assert!(rt; told == answer, "{name} {limit}");
+    }
     assert!(rt; into.as_slice() == [9, 1, 2, 3, 1, 2].as_slice());
     Ok(())
+}
+
+/// Whether a sink takes a piece.
+fn takes(sink: &mut MemSink, piece: &str) -> bool
+    requires { sink.old.faults ≤ 100 }
+    ensures { sink.new.faults ≤ sink.old.faults + 1 }
+{
+    !piece.is_empty() && sink.put(piece.as_bytes()).is_ok()
+}
+
+/// Whether a new sink takes or refuses each of these pieces as it is to, one after another.
+fn takes_each(sink: &mut MemSink, pieces: &[(&str, bool)]) -> bool
+    requires few { length pieces.now ≤ 100 }
+    requires new { sink.old.faults ≡ 0 }
+{
+    for n in 0..pieces.len() {
+        let (piece, is_taken) = pieces[n];
+        if takes(sink, piece) != is_taken {
+            return false;
+        }
+    }
+    true
 }
 
 /// The second put is listed as one that fails, and three bytes are left for the third.
 #[test]
 fn a_sink_in_memory_takes_what_it_has_room_for(rt: HostRuntime) -> Result<(), Fail> {
-    let alloc = rt.alloc();
-    let mut sink = MemSink::new(alloc, vec![in alloc; 2]?, 6)?;
-    let taken = [
-        sink.put(b"abc").is_ok(),
-        sink.put(b"x").is_ok(),
-        sink.put(b"wxyz").is_ok(),
-        sink.put(b"def").is_ok(),
-    ];
-    assert_eq!(rt; taken, [true, false, false, true]);
+    let mut sink = MemSink::new(rt.alloc(), vec![in rt.alloc(); 2]?, 6)?;
+    let pieces = [("abc", true), ("x", false), ("wxyz", false), ("def", true)];
+    assert!(rt; takes_each(&mut sink, &pieces));
     assert!(rt; sink.written() == b"abcdef".as_slice());
     assert!(rt; sink.calls() == 4);
     Ok(())
 }
 
+/// Stops, two of which name one put.
+const STOPS: [Stop; 6] = [
+    Stop { call: 2, keep: 2 },
+    Stop { call: 3, keep: 9 },
+    Stop { call: 4, keep: 0 },
+    Stop { call: 5, keep: 1 },
+    Stop { call: 6, keep: 1 },
+    Stop { call: 6, keep: 2 },
+];
+
+/// Pieces, of which a sink with these stops and room for 12 bytes keeps two of three bytes; all, being
+/// fewer than nine; none; none, being more than the room; and one, by the first of two stops.
+const STOPPED: [(&str, bool); 7] = [
+    ("abc", true),
+    ("def", false),
+    ("gh", false),
+    ("i", false),
+    ("jklmno", false),
+    ("jkl", false),
+    ("kl", true),
+];
+
 #[test]
 fn a_stop_keeps_the_first_bytes_of_its_piece(rt: HostRuntime) -> Result<(), Fail> {
-    let alloc = rt.alloc();
-    let stops = [(2, 2), (3, 9), (4, 0), (5, 1), (6, 1), (6, 2)];
-    let stops = stops.iter().map(|(call, keep)| Stop {
-        call: *call,
-        keep: *keep,
-    });
-    let mut sink = MemSink::stopping(alloc, stops.collect(alloc)?, 12)?;
-    assert_eq!(rt; sink.put(b"abc"), Ok(()));
-    assert_eq!(rt; sink.put(b"def"), Err(SinkFailed), "two of three bytes");
-    assert_eq!(rt;
-        sink.put(b"gh"),
-        Err(SinkFailed),
-        "all, being fewer than nine"
-    );
-    assert_eq!(rt; sink.put(b"i"), Err(SinkFailed), "none");
-    assert_eq!(rt; sink.put(b"jklmno"), Err(SinkFailed), "more than the room");
-    assert_eq!(rt; sink.put(b"jkl"), Err(SinkFailed), "the first of two stops");
-    assert_eq!(rt; sink.put(b"kl"), Ok(()));
-    assert_eq!(rt; sink.written(), b"abcdeghjkl".as_slice());
-    assert_eq!(rt; sink.calls(), 7);
+    let stops = Vec::from_slice(rt.alloc(), &STOPS)?;
+    let mut sink = MemSink::stopping(rt.alloc(), stops, 12)?;
+    assert!(rt; takes_each(&mut sink, &STOPPED));
+    assert!(rt; sink.written() == b"abcdeghjkl".as_slice());
+    assert!(rt; sink.calls() == 7);
     Ok(())
 }
 
@@ -142,18 +174,32 @@ fn the_open_gate_lets_workers_pass() {
     OpenGate.reach(3, 0);
 }
 
+/// What a shelf answers for a file of six bytes, which it may load whole, for the same with a limit of
+/// two, and for the same once it is gone.
+fn told<F: Shelf>(
+    rt: &HostRuntime,
+    path: &str,
+    shelf: &mut F,
+    into: &mut Vec<u8>,
+) -> Result<[Result<(), LoadFault>; 3], Fail> {
+    fs::write(rt, path, "feast\n")?;
+    let whole = shelf.load(path, 6, into);
+    let longer = shelf.load(path, 2, into);
+    fs::remove_file(rt, path)?;
+    Ok([whole, longer, shelf.load(path, 6, into)])
+}
+
 #[test]
 fn files_of_the_system_are_loaded(rt: HostRuntime) -> Result<(), Fail> {
     let alloc = rt.alloc();
     let path = format!(in alloc; "/tmp/feast_base_{}", process::id(rt.process()))?;
-    fs::write(&rt, path.as_str(), "feast\n")?;
-    let mut shelf = FileShelf::new(&rt, alloc);
     let mut into = vec![in alloc; 9]?;
-    let whole = shelf.load(path.as_str(), 6, &mut into);
-    let longer = shelf.load(path.as_str(), 2, &mut into);
-    fs::remove_file(&rt, path.as_str())?;
-    let missing = shelf.load(path.as_str(), 6, &mut into);
-    let told = [whole, longer, missing];
+    let told = told(
+        &rt,
+        path.as_str(),
+        &mut FileShelf::new(&rt, alloc),
+        &mut into,
+    )?;
     assert!(rt; told == [Ok(()), Err(LoadFault::TooLong), Err(LoadFault::Failed)]);
     assert!(rt; into.as_slice() == b"\tfeast\nfea".as_slice());
     Ok(())

@@ -4,7 +4,6 @@ use feast_base::{LoadFault, read_whole, write_whole};
 use std::alloc::Global;
 use std::io;
 use std::io::{ErrorKind, Read, Write};
-use std::test::Fail;
 
 /// Gives one byte in two calls, the first of which is interrupted, and fails once this many bytes
 /// are left.
@@ -45,22 +44,25 @@ fn dripped(alloc: Global, limit: u8, fails_at: Option<usize>) -> (Result<(), Loa
     (told, into)
 }
 
+/// Limits and the bytes that are left when a read fails, with the answer and what was read.
+const READS: [(u8, Option<usize>, Result<(), LoadFault>, &str); 6] = [
+    (5, None, Ok(()), "feast"),
+    (9, None, Ok(()), "feast"),
+    (4, None, Err(LoadFault::TooLong), "feast"),
+    (9, Some(3), Err(LoadFault::Failed), "fe"),
+    (9, Some(0), Err(LoadFault::Failed), "feast"),
+    (2, Some(1), Err(LoadFault::TooLong), "fea"),
+];
+
 #[test]
-fn a_file_is_read_to_its_end_or_its_fault(rt: HostRuntime) -> Result<(), Fail> {
-    let rows = [
-        (5, None, Ok(()), "feast"),
-        (9, None, Ok(()), "feast"),
-        (4, None, Err(LoadFault::TooLong), "feast"),
-        (9, Some(3), Err(LoadFault::Failed), "fe"),
-        (9, Some(0), Err(LoadFault::Failed), "feast"),
-        (2, Some(1), Err(LoadFault::TooLong), "fea"),
-    ];
-    for (limit, fails_at, answer, taken) in rows {
+fn a_file_is_read_to_its_end_or_its_fault(rt: HostRuntime) {
+    for (limit, fails_at, answer, taken) in READS {
         let (told, into) = dripped(rt.alloc(), limit, fails_at);
-        assert!(rt; told == answer, "limit {limit}");
-        assert!(rt; into.as_slice() == taken.as_bytes(), "limit {limit}");
+        assert!(rt;
+            told == answer && into.as_slice() == taken.as_bytes(),
+            "limit {limit}"
+        );
     }
-    Ok(())
 }
 
 /// How a writer fails.
@@ -107,25 +109,30 @@ impl Write for Sip {
     }
 }
 
+/// Faults, whether the piece is written in spite of them, what is written, and how often it is flushed.
+const WRITES: [(Fault, bool, &str, u8); 4] = [
+    (Fault::Nothing, true, "report\n", 1),
+    (Fault::TakesNothing, false, "rep", 0),
+    (Fault::Fails, false, "rep", 0),
+    (Fault::FailsToFlush, false, "report\n", 1),
+];
+
+/// The answer of a write with a fault, and its writer.
+fn sipped(alloc: Global, fault: Fault) -> (bool, Sip) {
+    let mut sip = Sip {
+        got: Vec::new(alloc),
+        fault,
+        flushes: 0,
+        interrupted: false,
+    };
+    (write_whole(&mut sip, b"report\n").is_ok(), sip)
+}
+
 #[test]
-fn a_piece_is_written_whole_or_up_to_its_fault(rt: HostRuntime) -> Result<(), Fail> {
-    let rows = [
-        (Fault::Nothing, true, "report\n", 1),
-        (Fault::TakesNothing, false, "rep", 0),
-        (Fault::Fails, false, "rep", 0),
-        (Fault::FailsToFlush, false, "report\n", 1),
-    ];
-    for (fault, is_written, got, flushes) in rows {
-        let mut sip = Sip {
-            got: Vec::new(rt.alloc()),
-            fault,
-            flushes: 0,
-            interrupted: false,
-        };
-        let told = write_whole(&mut sip, b"report\n");
-        assert!(rt; told.is_ok() == is_written, "{fault:?}");
+fn a_piece_is_written_whole_or_up_to_its_fault(rt: HostRuntime) {
+    for (fault, is_written, got, flushes) in WRITES {
+        let (told, sip) = sipped(rt.alloc(), fault);
+        assert!(rt; told == is_written && sip.flushes == flushes, "{fault:?}");
         assert!(rt; sip.got.as_slice() == got.as_bytes(), "{fault:?}");
-        assert!(rt; sip.flushes == flushes, "{fault:?}");
     }
-    Ok(())
 }

@@ -5,6 +5,7 @@ use cell_grid::Behave;
 use element_set::ElementSet;
 use feast_base::Source;
 use std::alloc::Global;
+use std::process::Abort;
 use std::test::Fail;
 use window_sites::Window;
 
@@ -36,38 +37,39 @@ fn built(alloc: Global) -> Result<ElementSet, Fail> {
     }
 }
 
+/// That events at these types at the centre and at its eastern neighbour leave these types there.
+fn assert_acts<A: Behave>(rt: &impl Abort, actor: &mut A, rows: &[(u16, u16, (u16, u16))]) {
+    for (centre, east, wanted) in rows {
+        assert!(rt; acted(actor, *centre, *east) == *wanted, "{centre} {east}");
+    }
+}
+
+const OF_TWO_ELEMENTS: [(u16, u16, (u16, u16)); 5] = [
+    (2, 0, (0, 2)),
+    (2, 1, (1, 2)),
+    (1, 2, (1, 2)),
+    (0, 2, (0, 2)),
+    (3, 2, (3, 2)),
+];
+
 #[test]
 fn the_element_at_the_centre_acts(rt: HostRuntime) -> Result<(), Fail> {
-    let alloc = rt.alloc();
-    let set = built(alloc)?;
-    let mut actor = set.actor(alloc)?;
-    for (centre, east, wanted) in [
-        (2, 0, (0, 2)),
-        (2, 1, (1, 2)),
-        (1, 2, (1, 2)),
-        (0, 2, (0, 2)),
-        (3, 2, (3, 2)),
-    ] {
-        assert!(rt;
-            acted(&mut actor, centre, east) == wanted,
-            "{centre} {east}"
-        );
-    }
+    let set = built(rt.alloc())?;
+    assert_acts(&rt, &mut set.actor(rt.alloc())?, &OF_TWO_ELEMENTS);
     Ok(())
 }
 
+const OF_ONE_ELEMENT: [(u16, u16, (u16, u16)); 3] = [
+    (1, 0, (0, 1)),
+    (0, 1, (0, 1)),
+    (2, 1, (2, 1)),
+];
+
 #[test]
 fn the_code_of_the_centre_acts(rt: HostRuntime) -> Result<(), Fail> {
-    let alloc = rt.alloc();
-    let set = code_file::read(alloc, CODE)
-        .ok()
-        .ok_or("the file was refused")?;
-    let mut actor = set.actor(alloc)?;
-    for (centre, east, wanted) in [(1, 0, (0, 1)), (0, 1, (0, 1)), (2, 1, (2, 1))] {
-        assert!(rt;
-            acted(&mut actor, centre, east) == wanted,
-            "{centre} {east}"
-        );
-    }
+    let Ok(set) = code_file::read(rt.alloc(), CODE) else {
+        return Err(Fail::from("the file was refused"));
+    };
+    assert_acts(&rt, &mut set.actor(rt.alloc())?, &OF_ONE_ELEMENT);
     Ok(())
 }

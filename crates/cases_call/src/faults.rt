@@ -77,6 +77,18 @@ fn ended<R: Threads + Sync>(
     ))
 }
 
+/// Whether a call ends so if some loads and a put fail: with this status, after it wrote these bytes.
+fn ends<R: Threads + Sync>(
+    rt: &R,
+    alloc: Global,
+    text: &str,
+    (load, put): (u64, (u64, u32)),
+    (status, written): (Status, &[u8]),
+) -> Result<bool, Fail> {
+    let (told, bytes, _) = ended(rt, alloc, text, load, put)?;
+    Ok(told == status && bytes.as_slice() == written)
+}
+
 /// The line that says that a file couldn't be loaded.
 fn unreadable(alloc: Global, name: &str) -> Result<Vec<u8>, Fail> {
     let mut line = Vec::from_slice(alloc, name.as_bytes())?;
@@ -94,15 +106,11 @@ fn load_fails<R: Threads + Sync + Abort>(
     name: &str,
 ) -> Result<(), Fail> {
     let line = unreadable(alloc, name)?;
-    let (status, written, _) = ended(rt, alloc, call, load, (0, 0))?;
-    assert!(rt; status == Status::Unreadable, "{call}");
-    assert!(rt; written.as_slice() == line.as_slice(), "{call}");
-    let (status, written, _) = ended(rt, alloc, call, load, (1, 7))?;
-    assert!(rt; status == Status::SinkFault, "{call}");
-    assert!(rt;
-        written.as_slice() == &line.as_slice()[..line.len().min(7)],
-        "{call}"
-    );
+    let line = line.as_slice();
+    let whole = (Status::Unreadable, line);
+    assert!(rt; ends(rt, alloc, call, (load, (0, 0)), whole)?, "{call}");
+    let front = (Status::SinkFault, &line[..line.len().min(7)]);
+    assert!(rt; ends(rt, alloc, call, (load, (1, 7)), front)?, "{call}");
     Ok(())
 }
 
@@ -138,7 +146,6 @@ fn put_fails<R: Threads + Sync + Abort>(
     whole: &[u8],
     (put, keep): (u64, u32),
 ) -> Result<(), Fail> {
-    let (status, written, _) = ended(rt, alloc, call, 0, (put, keep))?;
     let before = if put == 1 { 0usize } else { 4096 };
     let len = whole.len().min(before + (keep as usize).min(4096));
     let wanted = if before < whole.len() {
@@ -146,8 +153,8 @@ fn put_fails<R: Threads + Sync + Abort>(
     } else {
         Status::Done
     };
-    assert!(rt; status == wanted, "{call}: {put} {keep}");
-    assert!(rt; written.as_slice() == &whole[..len], "{call}: {put} {keep}");
+    let told = ends(rt, alloc, call, (0, (put, keep)), (wanted, &whole[..len]))?;
+    assert!(rt; told, "{call}: {put} {keep}");
     Ok(())
 }
 

@@ -1,7 +1,7 @@
 //! The texts of a set take as much memory as they are long.
 
 use element_set::ElementSet;
-use feast_base::Source;
+use feast_base::{NoMemory, Source};
 use std::alloc::Global;
 use std::test::Fail;
 
@@ -25,16 +25,24 @@ fn built(alloc: Global, text: &str) -> Result<ElementSet, Fail> {
     }
 }
 
+/// Whether both texts of a set take as much memory as they are long.
+fn are_exact(alloc: Global, set: &ElementSet) -> Result<bool, NoMemory> {
+    let mut shown = Vec::new(alloc);
+    set.print_check(&mut shown)?;
+    if shown.capacity() != shown.len() {
+        return Ok(false);
+    }
+    set.print_code(&mut shown)?;
+    Ok(shown.capacity() == shown.len())
+}
+
 #[test]
 fn texts_of_sets_take_as_much_memory_as_they_are_long(rt: HostRuntime) -> Result<(), Fail> {
-    let alloc = rt.alloc();
     for text in FILES {
-        let set = built(alloc, text)?;
-        let mut shown = Vec::new(alloc);
-        set.print_check(&mut shown)?;
-        assert!(rt; shown.capacity() == shown.len(), "{text}");
-        set.print_code(&mut shown)?;
-        assert!(rt; shown.capacity() == shown.len(), "{text}");
+        let set = built(rt.alloc(), text)?;
+        let told = are_exact(rt.alloc(), &set);
+        drop(set);
+        assert!(rt; told?, "{text}");
     }
     Ok(())
 }

@@ -1,8 +1,8 @@
 //! Runs of several tiles whose workers a gate holds back, or nobody.
 
-use crate::calls::words;
-use feast_base::{Gate, MemShelf, MemSink, OpenGate, Source};
-use feast_run::{Status, feast};
+use crate::calls::{gated, shelf};
+use feast_base::{Gate, MemSink, OpenGate};
+use feast_run::Status;
 use std::alloc::Global;
 use std::sync::atomic::{AtomicU64, Ordering};
 use std::test::Fail;
@@ -147,54 +147,48 @@ impl Gate for KeepingGate<'_> {
     }
 }
 
-/// A file in memory.
-fn source(alloc: Global, name: &str, text: &str) -> Result<Source, Fail> {
-    let bytes = Vec::from_slice(alloc, text.as_bytes())?;
-    Ok(Source::new(alloc, name, bytes)?)
-}
-
-/// What a call over these files appends, if it is Done.
+/// What a call over these files appends. It has to be Done.
 fn shown<R: Threads + Sync, G: Gate>(
     rt: &R,
     alloc: Global,
     text: &str,
-    files: Vec<Source>,
+    files: &[(&str, &str)],
     gate: &G,
-) -> Result<Option<String>, Fail> {
-    let words = words(alloc, text)?;
-    let mut shelf = MemShelf::new(alloc, files, Vec::new(alloc));
+) -> Result<String, Fail> {
+    let mut shelf = shelf(alloc, files, Vec::new(alloc))?;
     let mut sink = MemSink::new(alloc, Vec::new(alloc), 1_000_000)?;
-    let status = feast(rt, alloc, words.as_slice(), &mut shelf, &mut sink, gate);
-    if status != Status::Done {
-        return Ok(None);
-    }
+    let Status::Done = gated(rt, alloc, text, &mut shelf, &mut sink, gate)? else {
+        return Err(Fail::from("the call is not Done"));
+    };
     match str::from_utf8(sink.written()) {
-        Ok(text) => Ok(Some(String::from_str(alloc, text)?)),
-        Err(_) => Ok(None),
+        Ok(text) => Ok(String::from_str(alloc, text)?),
+        Err(_) => Err(Fail::from("what it appends is no text")),
     }
 }
 
-/// The report of a run, and the atoms of its replay.
-fn run_and_replay<R: Threads + Sync, G: Gate>(
+/// The atoms of the replay of a report.
+fn replayed<'a, R: Threads + Sync>(
     rt: &R,
     alloc: Global,
-    world: &str,
-    element: &str,
+    world: &'a str,
+    element: &'a str,
+    report: &'a str,
+) -> Result<String, Fail> {
+    let files = [("w", world), ("e", element), ("j", report)];
+    shown(rt, alloc, "replay w j e", &files, &OpenGate)
+}
+
+/// The report of a run, and the atoms of its replay.
+fn run_and_replay<'a, R: Threads + Sync, G: Gate>(
+    rt: &R,
+    alloc: Global,
+    world: &'a str,
+    element: &'a str,
     gate: &G,
-) -> Result<Option<(String, String)>, Fail> {
-    let files = vec![in alloc; source(alloc, "w", world)?, source(alloc, "e", element)?]?;
-    let Some(report) = shown(rt, alloc, "run w e", files, gate)? else {
-        return Ok(None);
-    };
-    let files = vec![in alloc;
-        source(alloc, "w", world)?,
-        source(alloc, "e", element)?,
-        source(alloc, "j", report.as_str())?,
-    ]?;
-    match shown(rt, alloc, "replay w j e", files, &OpenGate)? {
-        Some(atoms) => Ok(Some((report, atoms))),
-        None => Ok(None),
-    }
+) -> Result<(String, String), Fail> {
+    let report = shown(rt, alloc, "run w e", &[("w", world), ("e", element)], gate)?;
+    let atoms = replayed(rt, alloc, world, element, report.as_str())?;
+    Ok((report, atoms))
 }
 
 /// Whether a report begins with these atoms, and goes on with its journal.
@@ -220,8 +214,25 @@ fn entries(report: &str) -> u64 {
     sum
 }
 
-/// Whether a run with these attempts held back has this many entries and is replayed to its own
-/// atoms, and the gate let nobody go in vain.
+/// Whether a run has this many entries and is replayed to its own atoms, and its report is this one, if
+/// one is given.
+fn is_replayed<'a, R: Threads + Sync, G: Gate>(
+    rt: &R,
+    alloc: Global,
+    (world, element): (&'a str, &'a str),
+    gate: &G,
+    count: u64,
+    report: Option<&str>,
+) -> Result<bool, Fail> {
+    let (shown, atoms) = run_and_replay(rt, alloc, world, element, gate)?;
+    let told = match report {
+        Some(report) => shown.as_str() == report,
+        None => true,
+    };
+    Ok(told && has_atoms(shown.as_str(), atoms.as_str()) && entries(shown.as_str()) == count)
+}
+
+/// Whether that holds of a run with these attempts held back, and the gate let nobody go in vain.
 fn meets<R: Threads + Sync>(
     rt: &R,
     alloc: Global,
@@ -231,37 +242,29 @@ fn meets<R: Threads + Sync>(
     report: Option<&str>,
 ) -> Result<bool, Fail> {
     let gate = KeepingGate::new(keeps);
-    let Some((shown, atoms)) = run_and_replay(rt, alloc, world, WALKER, &gate)? else {
-        return Ok(false);
-    };
-    let told = match report {
-        Some(report) => shown.as_str() == report,
-        None => true,
-    };
-    Ok(
-        told && has_atoms(shown.as_str(), atoms.as_str())
-            && entries(shown.as_str()) == count
-            && gate.missed.load(Ordering::SeqCst) == 0,
-    )
+    let is_replayed = is_replayed(rt, alloc, (world, WALKER), &gate, count, report)?;
+    Ok(is_replayed && gate.missed.load(Ordering::SeqCst) == 0)
 }
+
+/// The first attempts of both tiles, each held back until the other comes.
+const AT_ONCE: [Keep; 2] = [
+    Keep {
+        tile: 0,
+        attempt: 0,
+        until: 0,
+    },
+    Keep {
+        tile: 1,
+        attempt: 0,
+        until: 0,
+    },
+];
 
 /// The first attempt of each tile waits for the first of the other, so both are at the gate at once.
 /// A run on one thread fails here, whichever tile acts first.
 #[test]
 fn two_workers_are_at_the_gate_at_once(rt: HostRuntime) -> Result<(), Fail> {
-    let keeps = [
-        Keep {
-            tile: 0,
-            attempt: 0,
-            until: 0,
-        },
-        Keep {
-            tile: 1,
-            attempt: 0,
-            until: 0,
-        },
-    ];
-    assert!(rt; meets(&rt, rt.alloc(), BORDER, &keeps, 2, None)?);
+    assert!(rt; meets(&rt, rt.alloc(), BORDER, &AT_ONCE, 2, None)?);
     Ok(())
 }
 
@@ -297,13 +300,8 @@ fn the_lower_tile_comes_second(rt: HostRuntime) -> Result<(), Fail> {
 
 #[test]
 fn each_attempt_of_four_tiles_is_an_entry(rt: HostRuntime) -> Result<(), Fail> {
-    let alloc = rt.alloc();
     for _run in 0..10 {
-        let Some((report, atoms)) = run_and_replay(&rt, alloc, CORNER, COUNTER, &OpenGate)? else {
-            return Err(Fail::from("no report"));
-        };
-        assert!(rt; entries(report.as_str()) == 800);
-        assert!(rt; has_atoms(report.as_str(), atoms.as_str()));
+        assert!(rt; is_replayed(&rt, rt.alloc(), (CORNER, COUNTER), &OpenGate, 800, None)?);
     }
     Ok(())
 }

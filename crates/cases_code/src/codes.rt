@@ -2,7 +2,8 @@
 
 use crate::acting::code;
 use stack_code::Instr::*;
-use stack_code::{Answer, Instr, Operand, verify};
+use stack_code::{Answer, Code, Instr, Operand, RawFunction, verify};
+use std::alloc::Global;
 use std::test::Fail;
 
 /// The instructions of a valid code.
@@ -17,37 +18,38 @@ fn a_code_has_what_it_is_made_of(rt: HostRuntime) -> Result<(), Fail> {
     Ok(())
 }
 
+/// The code of these instructions, which `verify` gives.
+fn valid(alloc: Global) -> Result<Code, Fail> {
+    match verify(alloc, code(alloc, &VALID)?)? {
+        None => Err(Fail::from("valid code was refused")),
+        Some(code) => Ok(code),
+    }
+}
+
 #[test]
 fn verify_gives_the_same_code_where_it_is_valid(rt: HostRuntime) -> Result<(), Fail> {
-    let alloc = rt.alloc();
-    match verify(alloc, code(alloc, &VALID)?)? {
-        None => assert!(rt; false, "valid code was refused"),
-        Some(code) => {
-            assert!(rt; matches!(code.instrs(), [PushNum(0), PushNum(4), Swap, ReturnVoid]));
-            assert!(rt; code.kind() == 1);
-            assert!(rt; code.len() == 4);
-            assert!(rt; code.functions().len() == 1);
-        }
-    }
+    let code = valid(rt.alloc())?;
+    assert!(rt; matches!(code.instrs(), [PushNum(0), PushNum(4), Swap, ReturnVoid]));
+    assert!(rt; code.kind() == 1);
+    assert!(rt; code.len() == 4);
     Ok(())
+}
+
+/// Whether a function is the one of these instructions.
+fn is_behave(main: &RawFunction) -> bool {
+    main.name().bytes() == b"behave".as_slice()
+        && main.base() == 0
+        && main.first() == 0
+        && main.params() == 0
+        && matches!(main.slots(), [Operand::Number, Operand::Atom])
+        && matches!(main.answer(), Answer::Nothing)
 }
 
 #[test]
 fn verify_gives_the_same_function_where_it_is_valid(rt: HostRuntime) -> Result<(), Fail> {
-    let alloc = rt.alloc();
-    match verify(alloc, code(alloc, &VALID)?)? {
-        None => assert!(rt; false, "valid code was refused"),
-        Some(code) => {
-            assert!(rt; code.functions().len() == 1);
-            let main = &code.functions()[0];
-            assert!(rt; main.name().bytes() == b"behave".as_slice());
-            assert!(rt; main.base() == 0);
-            assert!(rt; main.first() == 0);
-            assert!(rt; main.params() == 0);
-            assert!(rt; matches!(main.slots(), [Operand::Number, Operand::Atom]));
-            assert!(rt; matches!(main.answer(), Answer::Nothing));
-        }
-    }
+    let code = valid(rt.alloc())?;
+    assert!(rt; code.functions().len() == 1);
+    assert!(rt; is_behave(&code.functions()[0]));
     Ok(())
 }
 

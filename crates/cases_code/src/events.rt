@@ -12,56 +12,52 @@ use std::alloc::Global;
 use std::test::Fail;
 use window_sites::Window;
 
-/// The state of the centre and the steps after two ways of which a number chooses one.
+/// Two ways, of which the first number chooses one.
+const WAYS: [Instr; 7] = [
+    PushNum(0),
+    JumpFalse(4),
+    PushNum(1),
+    Jump(5),
+    PushNum(2),
+    StoreField(0, 64, Kind::Bits),
+    ReturnVoid,
+];
+
+/// The state of the centre and the steps after the way that a number chooses.
 fn chosen(alloc: Global, number: i128) -> Result<(u128, u64), Fail> {
-    let ways = [
-        PushNum(number),
-        JumpFalse(4),
-        PushNum(1),
-        Jump(5),
-        PushNum(2),
-        StoreField(0, 64, Kind::Bits),
-        ReturnVoid,
-    ];
-    Ok(match act(alloc, code(alloc, &ways)?, centred())? {
-        None => (0, 0),
-        Some(o) => (o.window.get(0).state(), o.steps),
-    })
+    let mut ways = WAYS;
+    ways[0] = PushNum(number);
+    let mut window = centred();
+    match act(alloc, code(alloc, &ways)?, &mut window)? {
+        None => Err(Fail::from("not valid")),
+        Some((_, steps)) => Ok((window.get(0).state(), steps)),
+    }
 }
 
 #[test]
 fn zero_jumps_and_another_number_goes_on(rt: HostRuntime) -> Result<(), Fail> {
-    for (number, state, steps) in [(0, 256, 5), (-3, 128, 6)] {
-        assert!(rt; chosen(rt.alloc(), number)? == (state, steps), "{number}");
-    }
+    assert!(rt; chosen(rt.alloc(), 0)? == (256, 5));
+    assert!(rt; chosen(rt.alloc(), -3)? == (128, 6));
     Ok(())
 }
+
+const MOVES: [Instr; 4] = [PushNum(0), PushNum(4), Swap, ReturnVoid];
 
 #[test]
 fn a_swap_moves_the_centre(rt: HostRuntime) -> Result<(), Fail> {
     let mut moved = Window::empty();
     moved.put(4, Atom::new(1, 0));
-    assert!(rt;
-        ends(
-            rt.alloc(),
-            &[PushNum(0), PushNum(4), Swap, ReturnVoid],
-            moved
-        )?
-    );
+    assert!(rt; ends(rt.alloc(), &MOVES, &moved)?);
     Ok(())
 }
+
+const STORES: [Instr; 4] = [PushNum(7), PushAtom(9), StoreSite, ReturnVoid];
 
 #[test]
 fn a_store_changes_its_site(rt: HostRuntime) -> Result<(), Fail> {
     let mut stored = centred();
     stored.put(7, Atom::new(9, 0));
-    assert!(rt;
-        ends(
-            rt.alloc(),
-            &[PushNum(7), PushAtom(9), StoreSite, ReturnVoid],
-            stored
-        )?
-    );
+    assert!(rt; ends(rt.alloc(), &STORES, &stored)?);
     Ok(())
 }
 
@@ -117,47 +113,57 @@ fn failures_have_their_numbers_and_steps(rt: HostRuntime) -> Result<(), Fail> {
     Ok(())
 }
 
-/// A function without parameters and slots, then one of two parameters that gives their
-/// difference. `end` stands where the first ends.
-fn calling(alloc: Global, end: Instr) -> Result<RawCode, Fail> {
-    let none = Vec::new(alloc);
-    let main = RawFunction::new(Name::new(alloc, b"behave")?, 0, 0, 0, none, Answer::Nothing);
+/// The instructions of a function without parameters, and from 6 on those of one that gives the
+/// difference of its two parameters.
+const CALLING: [Instr; 10] = [
+    PushNum(100),
+    PushNum(9),
+    PushNum(4),
+    Call(1),
+    StoreField(0, 64, Kind::Bits),
+    ReturnVoid,
+    LoadLocal(0),
+    LoadLocal(1),
+    SubI,
+    Return,
+];
+
+/// The first of these functions, which has no slots.
+fn main(alloc: Global) -> Result<RawFunction, Fail> {
+    let name = Name::new(alloc, b"behave")?;
+    Ok(RawFunction::new(name, 0, 0, 0, Vec::new(alloc), Answer::Nothing))
+}
+
+/// The second.
+fn sub(alloc: Global) -> Result<RawFunction, Fail> {
     let slots = vec![in alloc; Operand::Number, Operand::Number, Operand::Number]?;
-    let sub = RawFunction::new(Name::new(alloc, b"sub")?, 0, 6, 2, slots, Answer::Number);
-    let instrs = [
-        PushNum(100),
-        PushNum(9),
-        PushNum(4),
-        Call(1),
-        StoreField(0, 64, Kind::Bits),
-        end,
-        LoadLocal(0),
-        LoadLocal(1),
-        SubI,
-        Return,
-    ];
+    let name = Name::new(alloc, b"sub")?;
+    Ok(RawFunction::new(name, 0, 6, 2, slots, Answer::Number))
+}
+
+/// Both functions. `end` stands where the first ends.
+fn calling(alloc: Global, end: Instr) -> Result<RawCode, Fail> {
+    let mut instrs = CALLING;
+    instrs[5] = end;
     let instrs = Vec::from_slice(alloc, &instrs)?;
-    Ok(RawCode::new(1, vec![in alloc; main, sub]?, instrs))
+    let mut functions = Vec::new(alloc);
+    functions.push(main(alloc)?)?;
+    functions.push(sub(alloc)?)?;
+    Ok(RawCode::new(1, functions, instrs))
 }
 
 #[test]
 fn a_jump_out_of_its_function_is_not_valid(rt: HostRuntime) -> Result<(), Fail> {
-    let alloc = rt.alloc();
-    let outward = act(alloc, calling(alloc, Jump(9))?, centred())?;
+    let outward = act(rt.alloc(), calling(rt.alloc(), Jump(9))?, &mut centred())?;
     assert!(rt; outward.is_none(), "a jump out of the function");
     Ok(())
 }
 
 #[test]
 fn calls_take_their_arguments_in_order(rt: HostRuntime) -> Result<(), Fail> {
-    let alloc = rt.alloc();
-    match act(alloc, calling(alloc, ReturnVoid)?, centred())? {
-        None => assert!(rt; false, "valid"),
-        Some(o) => {
-            assert!(rt; matches!(o.ended, Ended::Done));
-            assert!(rt; o.steps == 10);
-            assert!(rt; o.window.get(0) == Atom::new(1, 5 * 128));
-        }
-    }
+    let mut window = centred();
+    let ended = act(rt.alloc(), calling(rt.alloc(), ReturnVoid)?, &mut window)?;
+    assert!(rt; ended == Some((Ended::Done, 10)));
+    assert!(rt; window.get(0) == Atom::new(1, 5 * 128));
     Ok(())
 }

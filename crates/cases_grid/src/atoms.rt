@@ -29,17 +29,18 @@ fn an_atom_has_its_type_and_its_state(rt: HostRuntime) {
     assert!(rt; atom.state() == 0x55_0123_4567_89ab_cdef);
 }
 
+/// First bits, widths and values of fields, with the state that is left where all bits were 1.
+const SET: [(u32, u32, u64, u128); 4] = [
+    (0, 1, 0, 0x3f_ffff_ffff_ffff_ffff),
+    (67, 4, 0, 0x7f_ffff_ffff_ffff_fff0),
+    (7, 64, 0, 0x7f_0000_0000_0000_0000),
+    (63, 8, 0x80, 0x7f_ffff_ffff_ffff_ff80),
+];
+
 #[test]
 fn a_field_is_set_in_its_place(rt: HostRuntime) {
-    let ones = (1u128 << 71) - 1;
-    let fields = [
-        (0, 1, 0, (1u128 << 70) - 1),
-        (67, 4, 0, ones - 15),
-        (7, 64, 0, 0x7f << 64),
-        (63, 8, 0x80, ones - 127),
-    ];
-    for (first, width, value, state) in fields {
-        let mut atom = Atom::new(9, ones);
+    for (first, width, value, state) in SET {
+        let mut atom = Atom::new(9, 0x7f_ffff_ffff_ffff_ffff);
         atom.set(first, width, value);
         assert!(rt; atom == Atom::new(9, state), "{width} bits from {first}");
     }

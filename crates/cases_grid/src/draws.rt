@@ -1,7 +1,11 @@
 //! Worked values. They were computed apart from this crate, from the published description of the
 //! generators.
 
+ghost use Rattle.std.specs.Prelude.{◌≡◌, ◌<◌, IfOk, length};
+
 use draw_stream::{Attempt, AttemptPlan, Attempts, EventDraws, Script, TileStream};
+use feast_base::NoMemory;
+use std::alloc::Global;
 use std::test::Fail;
 
 /// Whether an attempt has this centre and this seed.
@@ -22,21 +26,20 @@ fn the_seed_of_a_tile_is_taken_modulo_2_to_the_64(rt: HostRuntime) {
     assert!(rt; is_at(stream.attempt(64), 42, 0x8983_7ec3_9e40_f2c8));
 }
 
+/// What an event draws first: two words, and a number below 10.
+fn drawn(seed: u64) -> [u64; 3] {
+    let mut draws = EventDraws::new(seed);
+    [
+        draws.below(u64::MAX),
+        draws.below(u64::MAX),
+        draws.below(10),
+    ]
+}
+
 #[test]
 fn an_event_draws_words_of_its_seed(rt: HostRuntime) {
-    let rows = [
-        (0, [0xe220_a839_7b1d_cdaf, 0x6e78_9e6a_a1b9_65f4, 9]),
-        (7, [0x63cb_e1e4_5932_0dd7, 0x044c_3cd7_f43c_661c, 6]),
-    ];
-    for (seed, words) in rows {
-        let mut draws = EventDraws::new(seed);
-        let drawn = [
-            draws.below(u64::MAX),
-            draws.below(u64::MAX),
-            draws.below(10),
-        ];
-        assert_eq!(rt; drawn, words, "seed {seed}");
-    }
+    assert!(rt; drawn(0) == [0xe220_a839_7b1d_cdaf, 0x6e78_9e6a_a1b9_65f4, 9]);
+    assert!(rt; drawn(7) == [0x63cb_e1e4_5932_0dd7, 0x044c_3cd7_f43c_661c, 6]);
 }
 
 /// The attempts, one after another.
@@ -89,32 +92,46 @@ const OF_TILE_3: [Attempt; 4] = [
     },
 ];
 
+/// Whether a plan has these attempts for a tile, one after another.
+fn is_planned(alloc: Global, plan: &AttemptPlan, tile: u32, expected: &[Attempt]) -> bool
+    requires { tile < length plan.now.lists }
+{
+    match plan.of_tile(alloc, tile) {
+        Ok(mut attempts) => {
+            attempts.left() == expected.len() as u64 && is_followed(&mut attempts, expected)
+        }
+        Err(_) => false,
+    }
+}
+
+/// The plan of seed 7 for four tiles, of which tile 1 is off.
+fn of_seed_7(alloc: Global) -> Result<AttemptPlan, NoMemory>
+    ensures { IfOk result (λ p. length p.lists ≡ 4) }
+{
+    AttemptPlan::seeded(alloc, 7, 4, &[false, true, false, false], 256)
+}
+
 #[test]
 fn a_seeded_plan_of_seed_7_has_4_attempts_a_tile(rt: HostRuntime) -> Result<(), Fail> {
-    let off = [false, true, false, false];
-    let plan = AttemptPlan::seeded(rt.alloc(), 7, 4, &off, 256)?;
+    let plan = of_seed_7(rt.alloc())?;
     assert!(rt; plan.origin() == Some((7, 4)));
     assert!(rt; plan.count(3) == 4 && plan.count(1) == 0);
-    assert!(rt; plan.of_tile(rt.alloc(), 0)?.left() == 4);
     Ok(())
 }
 
 #[test]
 fn a_seeded_plan_of_seed_7_on_tiles_of_16_by_16(rt: HostRuntime) -> Result<(), Fail> {
-    let off = [false, true, false, false];
-    let plan = AttemptPlan::seeded(rt.alloc(), 7, 4, &off, 256)?;
-    assert!(rt; is_followed(&mut plan.of_tile(rt.alloc(), 0)?, &OF_TILE_0));
-    assert!(rt; is_followed(&mut plan.of_tile(rt.alloc(), 1)?, &[]));
-    assert!(rt; is_followed(&mut plan.of_tile(rt.alloc(), 3)?, &OF_TILE_3));
+    let plan = of_seed_7(rt.alloc())?;
+    assert!(rt; is_planned(rt.alloc(), &plan, 0, &OF_TILE_0));
+    assert!(rt; is_planned(rt.alloc(), &plan, 1, &[]));
+    assert!(rt; is_planned(rt.alloc(), &plan, 3, &OF_TILE_3));
     Ok(())
 }
 
 #[test]
 fn the_bound_on_attempts_is_over_the_tiles_that_are_on(rt: HostRuntime) -> Result<(), Fail> {
-    let off = [true, false, true];
-    let plan = AttemptPlan::seeded(rt.alloc(), 7, 1_000_000, &off, 64)?;
-    let counts = [plan.count(0), plan.count(1), plan.count(2)];
-    assert_eq!(rt; counts, [0, 1_000_000, 0]);
+    let plan = AttemptPlan::seeded(rt.alloc(), 7, 1_000_000, &[true, false, true], 64)?;
+    assert!(rt; plan.count(0) == 0 && plan.count(1) == 1_000_000 && plan.count(2) == 0);
     Ok(())
 }
 
@@ -127,17 +144,28 @@ const LINES: [Attempt; 2] = [
     },
 ];
 
-#[test]
-fn a_script_is_followed(rt: HostRuntime) -> Result<(), Fail> {
-    let alloc = rt.alloc();
+/// A plan of which tile 0 has no attempt, and tile 1 has those of the script.
+fn written_out(alloc: Global) -> Result<AttemptPlan, NoMemory>
+    ensures { IfOk result (λ p. length p.lists ≡ 2) }
+{
     let mut scripts = Vec::new(alloc);
     scripts.push(Script::new(Vec::new(alloc)))?;
     scripts.push(Script::new(Vec::from_slice(alloc, &LINES)?))?;
-    let plan = AttemptPlan::scripted(scripts);
+    Ok(AttemptPlan::scripted(scripts))
+}
+
+#[test]
+fn a_plan_that_is_written_out_has_its_scripts(rt: HostRuntime) -> Result<(), Fail> {
+    let plan = written_out(rt.alloc())?;
     assert!(rt; plan.origin().is_none());
     assert!(rt; plan.count(0) == 0 && plan.count(1) == 2);
-    assert!(rt; is_followed(&mut plan.of_tile(alloc, 0)?, &[]));
-    let mut attempts = plan.of_tile(alloc, 1)?;
+    assert!(rt; is_planned(rt.alloc(), &plan, 0, &[]));
+    Ok(())
+}
+
+#[test]
+fn a_script_is_followed(rt: HostRuntime) -> Result<(), Fail> {
+    let mut attempts = written_out(rt.alloc())?.of_tile(rt.alloc(), 1)?;
     assert!(rt; attempts.left() == 2);
     assert!(rt; is_followed(&mut attempts, &LINES));
     assert!(rt; attempts.left() == 0);

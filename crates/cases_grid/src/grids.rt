@@ -1,6 +1,6 @@
 //! Worked grids. The windows were computed apart from this crate, from the sorted offsets.
 
-ghost use Rattle.std.specs.Prelude.{◌≡◌};
+ghost use Rattle.std.specs.Prelude.{◌≡◌, ◌<◌};
 ghost use Rattle.cell_grid.specs.Tried.{after_turn, idle-turn};
 
 use bit_field::Atom;
@@ -133,16 +133,24 @@ fn states(window: &Window) -> [u128; 41] {
     states
 }
 
+/// Whether the window at a live site shows these states, and a window shows them into which it is read.
+fn is_shown(grid: &Grid, x: u32, y: u32, kept: &mut Window, shown: &[u128; 41]) -> bool
+    requires columns { grid.now.width ≡ 16 }
+    requires rows { grid.now.height ≡ 12 }
+{
+    if x >= 16 || y >= 12 || !grid.is_live(x, y) {
+        return false;
+    }
+    grid.read_window(x, y, kept);
+    states(kept) == *shown && states(&grid.window_at(x, y)) == *shown
+}
+
 #[test]
 fn windows_show_the_live_sites_around_a_centre(rt: HostRuntime) {
     let grid = numbered(&rt, rt.alloc());
     let mut kept = Window::empty();
-    for (x, y, shown) in WINDOWS {
-        assert!(rt; x < 16 && y < 12);
-        assert!(rt; grid.is_live(x, y), "({x}, {y})");
-        assert!(rt; states(&grid.window_at(x, y)) == shown, "({x}, {y})");
-        grid.read_window(x, y, &mut kept);
-        assert!(rt; states(&kept) == shown, "({x}, {y})");
+    for (x, y, shown) in &WINDOWS {
+        assert!(rt; is_shown(&grid, *x, *y, &mut kept, shown), "({x}, {y})");
     }
 }
 
@@ -199,38 +207,61 @@ fn records_are_replayed_in_their_order(rt: HostRuntime) {
     assert!(rt; grid.get(15, 0).state() == 15);
 }
 
-#[test]
-fn an_event_changes_live_sites_alone(rt: HostRuntime) {
-    let mut grid = numbered(&rt, rt.alloc());
-    assert!(rt; grid.is_live(5, 5) && grid.is_live(11, 2));
-    grid.event(5, 5, 0, &mut Turn);
-    assert!(rt; middle(&grid) == [86, 85, 87]);
-    grid.event(11, 2, 0, &mut Turn);
-    assert!(rt; grid.get(11, 2).state() == 43 && grid.get(12, 2).state() == 0);
-    grid.set(5, 5, Atom::new(0, 0));
-    grid.event(5, 5, 0, &mut Turn);
-    assert!(rt; middle(&grid) == [0, 85, 87]);
+/// Makes an event of `Turn` at a site, if it is live. Answers the states of the middle after it.
+fn turned(grid: &mut Grid, x: u32, y: u32) -> [u128; 3]
+    requires columns { grid.old.width ≡ 16 }
+    requires rows { grid.old.height ≡ 12 }
+    requires column { x < 16 }
+    requires row { y < 12 }
+    ensures columns { grid.new.width ≡ 16 }
+    ensures rows { grid.new.height ≡ 12 }
+{
+    if grid.is_live(x, y) {
+        grid.event(x, y, 0, &mut Turn);
+    }
+    middle(grid)
 }
 
 #[test]
-fn a_journal_goes_by_stamp_and_then_by_tile(rt: HostRuntime) {
-    let at = |stamp: u32, tile: u32| Record {
+fn an_event_changes_live_sites_alone(rt: HostRuntime) {
+    let mut grid = numbered(&rt, rt.alloc());
+    assert!(rt; turned(&mut grid, 5, 5) == [86, 85, 87]);
+    assert!(rt; grid.is_live(11, 2) && turned(&mut grid, 11, 2) == [86, 85, 87]);
+    assert!(rt; grid.get(11, 2).state() == 43 && grid.get(12, 2).state() == 0);
+}
+
+#[test]
+fn an_event_at_an_empty_centre_changes_nothing(rt: HostRuntime) {
+    let mut grid = numbered(&rt, rt.alloc());
+    assert!(rt; turned(&mut grid, 5, 5) == [86, 85, 87]);
+    assert!(rt; grid.is_live(5, 5));
+    grid.set(5, 5, Atom::new(0, 0));
+    assert!(rt; turned(&mut grid, 5, 5) == [0, 85, 87]);
+}
+
+/// Stamps and tiles of two records, and whether the first precedes the second.
+const PAIRS: [((u32, u32), (u32, u32), bool); 4] = [
+    ((1, 5), (2, 0), true),
+    ((2, 0), (2, 1), true),
+    ((2, 1), (2, 1), false),
+    ((2, 0), (1, 5), false),
+];
+
+/// A record with a stamp and a tile.
+fn of_tile((stamp, tile): (u32, u32)) -> Record {
+    Record {
         stamp,
         tile,
         attempt: 0,
         x: 0,
         y: 0,
         seed: 0,
-    };
-    for ((stamp, tile), (later, other), precedes) in [
-        ((1, 5), (2, 0), true),
-        ((2, 0), (2, 1), true),
-        ((2, 1), (2, 1), false),
-        ((2, 0), (1, 5), false),
-    ] {
-        assert!(rt;
-            at(stamp, tile).precedes(&at(later, other)) == precedes,
-            "{stamp} {tile}"
-        );
+    }
+}
+
+#[test]
+fn a_journal_goes_by_stamp_and_then_by_tile(rt: HostRuntime) {
+    for (one, other, precedes) in PAIRS {
+        assert!(rt; of_tile(one).precedes(&of_tile(other)) == precedes);
     }
 }

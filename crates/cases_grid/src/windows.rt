@@ -3,32 +3,37 @@
 use bit_field::Atom;
 use window_sites::{Window, number, offset};
 
+/// Sites and their offsets.
+const SITES: [(u8, (i32, i32)); 12] = [
+    (0, (0, 0)),
+    (1, (-1, 0)),
+    (4, (1, 0)),
+    (5, (-2, 0)),
+    (12, (2, 0)),
+    (18, (0, -3)),
+    (19, (0, 3)),
+    (25, (-4, 0)),
+    (32, (0, -4)),
+    (33, (0, 4)),
+    (36, (2, -2)),
+    (40, (4, 0)),
+];
+
 #[test]
 fn sites_have_their_numbers(rt: HostRuntime) {
-    let sites = [
-        (0, offset(0), (0, 0)),
-        (1, offset(1), (-1, 0)),
-        (4, offset(4), (1, 0)),
-        (5, offset(5), (-2, 0)),
-        (12, offset(12), (2, 0)),
-        (18, offset(18), (0, -3)),
-        (19, offset(19), (0, 3)),
-        (25, offset(25), (-4, 0)),
-        (32, offset(32), (0, -4)),
-        (33, offset(33), (0, 4)),
-        (36, offset(36), (2, -2)),
-        (40, offset(40), (4, 0)),
-    ];
-    for (n, found, (dx, dy)) in sites {
-        assert!(rt; found == (dx, dy), "site {n}");
-        assert!(rt; number(dx, dy) == Some(n), "site {n}");
+    for (n, place) in SITES {
+        assert!(rt; n < 41 && offset(n) == place, "site {n}");
+        assert!(rt; number(place.0, place.1) == Some(n), "site {n}");
     }
 }
 
+/// Places outside the window.
+const OUTSIDE: [(i32, i32); 5] = [(5, 0), (0, -5), (1, 4), (-3, 2), (i32::MIN, i32::MIN)];
+
 #[test]
 fn places_outside_the_window_have_no_number(rt: HostRuntime) {
-    for (dx, dy) in [(5, 0), (0, -5), (1, 4), (-3, 2), (i32::MIN, i32::MIN)] {
-        assert!(rt; number(dx, dy).is_none(), "({dx}, {dy})");
+    for place in OUTSIDE {
+        assert!(rt; number(place.0, place.1).is_none(), "{place:?}");
     }
 }
 
@@ -60,14 +65,21 @@ fn a_site_that_is_not_live_does_not_change(rt: HostRuntime) {
     assert!(rt; window.is_live(0) && !window.is_live(1));
 }
 
-#[test]
-fn live_sites_are_exchanged(rt: HostRuntime) {
-    let (empty, red, blue) = (Atom::new(0, 0), Atom::new(1, 5), Atom::new(2, 6));
+/// The same after `red` was put at site 1, which is not live, and the centre was exchanged with that
+/// site, both ways, and then with site 40.
+fn exchanged(red: Atom, blue: Atom) -> Window {
     let mut window = red_and_blue(red, blue);
     window.put(1, red);
     window.swap(0, 1);
     window.swap(1, 0);
     window.swap(0, 40);
+    window
+}
+
+#[test]
+fn live_sites_are_exchanged(rt: HostRuntime) {
+    let (empty, red, blue) = (Atom::new(0, 0), Atom::new(1, 5), Atom::new(2, 6));
+    let window = exchanged(red, blue);
     assert!(rt; window.get(0) == blue && window.get(40) == red);
     assert!(rt; window.get(3) == empty && window.get(1) == empty);
     assert!(rt; window.is_live(0) && !window.is_live(1));

@@ -6,8 +6,9 @@ use crate::rows::is_printed_as;
 use crate::running::run;
 use bit_field::Atom;
 use cell_grid::Behave;
-use feast_base::Gate;
+use feast_base::{Gate, NoMemory};
 use serial_order::Outcome;
+use std::alloc::Global;
 use std::process::Abort;
 use std::sync::atomic::{AtomicU64, Ordering};
 use std::test::Fail;
@@ -92,6 +93,11 @@ fn has_moved(outcome: &Outcome) -> bool {
     }
 }
 
+/// Whether the atom has moved, and the journal is the one of all attempts.
+fn is_as_told(alloc: Global, outcome: &Outcome) -> Result<bool, NoMemory> {
+    Ok(has_moved(outcome) && is_printed_as(alloc, &outcome.journal, JOURNAL)?)
+}
+
 /// A worker of the one tile makes each attempt an event, in order, and passes the gate between them.
 /// A body that passes the gate for all attempts first, or after each event, fails here.
 #[test]
@@ -104,8 +110,9 @@ fn a_tile_that_is_alone_passes_its_gate_between_its_events(rt: HostRuntime) -> R
     };
     let seen = Seen { events: &events };
     let outcome = run(&rt, alloc, ALONE, (3, 4), &TRIES, seen, &gate)?;
+    let is_as_told = is_as_told(alloc, &outcome);
+    drop(outcome);
+    assert!(rt; is_as_told?);
     assert!(rt; gate.strange.load(Ordering::SeqCst) == 0);
-    assert!(rt; has_moved(&outcome));
-    assert!(rt; is_printed_as(alloc, &outcome.journal, JOURNAL)?);
     Ok(())
 }

@@ -66,7 +66,7 @@ fn step_named<B: Behave>(map: &Map, tiles: &mut [Tile<B>], board: &mut PlainBoar
 }
 
 /// One step of each tile that a list names, one after another.
-pub fn drive<B: Behave>(map: &Map, tiles: &mut [Tile<B>], board: &mut PlainBoard, order: &[u32])
+fn in_order<B: Behave>(map: &Map, tiles: &mut [Tile<B>], board: &mut PlainBoard, order: &[u32])
     requires { IsDriven B.after map.now tiles.old board.old }
     ensures { IsDriven B.after map.now tiles.new board.new }
 {
@@ -86,13 +86,22 @@ fn rest<B: Behave>(map: &Map, tiles: &mut [Tile<B>], board: &mut PlainBoard, til
 }
 
 /// Steps of one tile after another, as many as a worked run needs at most.
-pub fn finish<B: Behave>(map: &Map, tiles: &mut [Tile<B>], board: &mut PlainBoard)
+fn finish<B: Behave>(map: &Map, tiles: &mut [Tile<B>], board: &mut PlainBoard)
     requires { IsDriven B.after map.now tiles.old board.old }
     ensures { IsDriven B.after map.now tiles.new board.new }
 {
     for tile in 0..map.tiles() {
         rest(map, tiles, board, tile);
     }
+}
+
+/// One step of each tile that a list names, one after another, and then of one tile after another.
+pub fn drive<B: Behave>(map: &Map, tiles: &mut [Tile<B>], board: &mut PlainBoard, order: &[u32])
+    requires { IsDriven B.after map.now tiles.old board.old }
+    ensures { IsDriven B.after map.now tiles.new board.new }
+{
+    in_order(map, tiles, board, order);
+    finish(map, tiles, board);
 }
 
 /// Whether a tile is finished.

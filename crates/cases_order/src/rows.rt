@@ -1,14 +1,16 @@
 //! Worked runs, with the resulting atom and journal.
+ghost use Rattle.tile_map.specs.Plane.{AreSizes};
+
 use crate::acts::{Turner, Walker};
 use crate::plans::{Shape, Try};
 use crate::runs::run;
 use bit_field::Atom;
-use cell_grid::Grid;
+use cell_grid::{Behave, Grid};
 use event_journal::{Journal, print};
 use feast_base::NoMemory;
 use serial_order::Outcome;
 use std::alloc::Global;
-use std::process::Abort;
+use std::test::Fail;
 
 /// Two tiles side by side.
 const PAIR: Shape = Shape {
@@ -26,10 +28,130 @@ const CORNER: Shape = Shape {
     h: 8,
 };
 
-/// An attempt of a tile at a site.
-fn at(tile: u32, x: u32, y: u32) -> Try {
-    Try { tile, x, y }
+/// A worked run: what it shows, where its atom begins, the attempts, the order of the first steps, the
+/// place of the atom at the end in row order, its state then, and the journal.
+struct Row {
+    shows: &'static str,
+    site: (u32, u32),
+    tries: &'static [Try],
+    order: &'static [u32],
+    place: usize,
+    state: u128,
+    journal: &'static str,
 }
+
+/// An attempt of each of two tiles, on both sides of their border.
+const AT_THE_BORDER: [Try; 2] = [
+    Try {
+        tile: 0,
+        x: 15,
+        y: 4,
+    },
+    Try {
+        tile: 1,
+        x: 16,
+        y: 4,
+    },
+];
+
+/// Two attempts of tile 0, of which the first is away from the border, and one of tile 1.
+const AND_AWAY: [Try; 3] = [
+    Try {
+        tile: 0,
+        x: 7,
+        y: 4,
+    },
+    Try {
+        tile: 0,
+        x: 8,
+        y: 4,
+    },
+    Try {
+        tile: 1,
+        x: 16,
+        y: 4,
+    },
+];
+
+/// An attempt of each of four tiles, around their corner.
+const AT_THE_CORNER: [Try; 4] = [
+    Try {
+        tile: 0,
+        x: 7,
+        y: 7,
+    },
+    Try {
+        tile: 1,
+        x: 8,
+        y: 7,
+    },
+    Try {
+        tile: 3,
+        x: 8,
+        y: 8,
+    },
+    Try {
+        tile: 2,
+        x: 7,
+        y: 8,
+    },
+];
+
+/// Runs of two tiles.
+const OF_TWO: [Row; 3] = [
+    Row {
+        shows: "an event sees what another tile wrote on its site",
+        site: (15, 4),
+        tries: &AT_THE_BORDER,
+        order: &[0, 0, 0, 0, 0, 0, 1],
+        place: 4 * 32 + 17,
+        state: 0,
+        journal: "journal 2\n1 0 0 15 4 0000000000000000\n2 1 0 16 4 0000000000000000\nabandoned 0\n",
+    },
+    Row {
+        shows: "an attempt is given up where the edge is held",
+        site: (15, 4),
+        tries: &AT_THE_BORDER,
+        order: &[0, 0, 1, 1],
+        place: 4 * 32 + 16,
+        state: 0,
+        journal: "journal 1\n1 0 0 15 4 0000000000000000\nabandoned 1\n1 0 16 4 0 0 0\n",
+    },
+    Row {
+        shows: "an event without an edge is not held up",
+        site: (7, 4),
+        tries: &AND_AWAY,
+        order: &[1, 1, 0, 0, 0, 0, 0, 0],
+        place: 4 * 32 + 8,
+        state: 0,
+        journal: "journal 2\n1 0 0 7 4 0000000000000000\n1 1 0 16 4 0000000000000000\nabandoned 1\n0 1 8 4 0 1 0\n",
+    },
+];
+
+/// Runs of four tiles.
+const OF_FOUR: [Row; 2] = [
+    Row {
+        shows: "an atom goes round a corner of four tiles",
+        site: (7, 7),
+        tries: &AT_THE_CORNER,
+        order: &[
+            0, 0, 0, 0, 0, 0, 0, 0, 0, 0, 1, 1, 1, 1, 1, 1, 1, 1, 1, 1, 3, 3, 3, 3, 3, 3, 3, 3, 3,
+            3, 2, 2, 2, 2, 2, 2, 2, 2, 2, 2,
+        ],
+        place: 7 * 16 + 7,
+        state: 3,
+        journal: "journal 4\n1 0 0 7 7 0000000000000000\n2 1 0 8 7 0000000000000000\n3 3 0 8 8 0000000000000000\n4 2 0 7 8 0000000000000000\nabandoned 0\n",
+    },
+    Row {
+        shows: "a holder that is given up itself is owed to an event",
+        site: (7, 7),
+        tries: &AT_THE_CORNER,
+        order: &[3, 3, 3, 1, 1, 0, 0, 1, 1],
+        place: 7 * 16 + 7,
+        state: 0,
+        journal: "journal 2\n1 2 0 7 8 0000000000000000\n2 3 0 8 8 0000000000000000\nabandoned 2\n0 0 7 7 0 1 0\n1 0 8 7 4 3 0\n",
+    },
+];
 
 /// The place and the state of the one atom of a grid; none if there is no atom, or more than one.
 fn lone(grid: &Grid) -> Option<(usize, u128)> {
@@ -52,79 +174,44 @@ pub fn is_printed_as(alloc: Global, journal: &Journal, expected: &str) -> Result
     Ok(text.as_slice() == expected.as_bytes())
 }
 
-/// That an outcome has one atom, at this place of the plane in row order and with this state, and
-/// that its journal has this text.
-fn compare(
-    rt: &impl Abort,
+/// Whether an outcome has the one atom and the journal of a row.
+fn is_outcome(alloc: Global, outcome: &Outcome, row: &Row) -> Result<bool, NoMemory> {
+    if lone(&outcome.grid) != Some((row.place, row.state)) {
+        return Ok(false);
+    }
+    is_printed_as(alloc, &outcome.journal, row.journal)
+}
+
+/// Whether the run of a row on a plane of this shape ends as the row says. A row has at most 100 attempts.
+fn ends_so<B: Behave + Copy + Drop>(
     alloc: Global,
-    outcome: &Outcome,
-    place: usize,
-    state: u128,
-    journal: &str,
-) {
-    assert!(rt; lone(&outcome.grid) == Some((place, state)));
-    let is_same = is_printed_as(alloc, &outcome.journal, journal);
-    assert!(rt; is_same.expect(rt, "there is room for the text"));
+    shape: Shape,
+    row: &Row,
+    behave: B,
+) -> Result<bool, NoMemory>
+    requires { AreSizes shape.tx shape.ty shape.w shape.h }
+{
+    if row.tries.len() > 100 {
+        return Ok(false);
+    }
+    match run(alloc, shape, row.site, row.tries, row.order, behave)? {
+        None => Ok(false),
+        Some(outcome) => is_outcome(alloc, &outcome, row),
+    }
 }
 
 #[test]
-fn an_event_sees_what_another_tile_wrote_on_its_site(rt: HostRuntime) {
-    let tries = [at(0, 15, 4), at(1, 16, 4)];
-    let order = [0, 0, 0, 0, 0, 0, 1];
-    let outcome = run(rt.alloc(), PAIR, (15, 4), &tries, &order, Walker)
-        .expect(&rt, "there is room")
-        .expect(&rt, "all tiles finish");
-    let journal =
-        "journal 2\n1 0 0 15 4 0000000000000000\n2 1 0 16 4 0000000000000000\nabandoned 0\n";
-    compare(&rt, rt.alloc(), &outcome, 4 * 32 + 17, 0, journal);
+fn two_tiles_come_to_their_border(rt: HostRuntime) -> Result<(), Fail> {
+    for row in &OF_TWO {
+        assert!(rt; ends_so(rt.alloc(), PAIR, row, Walker)?, "{}", row.shows);
+    }
+    Ok(())
 }
 
 #[test]
-fn an_attempt_is_given_up_where_the_edge_is_held(rt: HostRuntime) {
-    let tries = [at(0, 15, 4), at(1, 16, 4)];
-    let order = [0, 0, 1, 1];
-    let outcome = run(rt.alloc(), PAIR, (15, 4), &tries, &order, Walker)
-        .expect(&rt, "there is room")
-        .expect(&rt, "all tiles finish");
-    let journal = "journal 1\n1 0 0 15 4 0000000000000000\nabandoned 1\n1 0 16 4 0 0 0\n";
-    compare(&rt, rt.alloc(), &outcome, 4 * 32 + 16, 0, journal);
-}
-
-#[test]
-fn an_event_without_an_edge_is_not_held_up(rt: HostRuntime) {
-    let tries = [at(0, 7, 4), at(0, 8, 4), at(1, 16, 4)];
-    let order = [1, 1, 0, 0, 0, 0, 0, 0];
-    let outcome = run(rt.alloc(), PAIR, (7, 4), &tries, &order, Walker)
-        .expect(&rt, "there is room")
-        .expect(&rt, "all tiles finish");
-    let journal =
-        "journal 2\n1 0 0 7 4 0000000000000000\n1 1 0 16 4 0000000000000000\nabandoned 1\n0 1 8 4 0 1 0\n";
-    compare(&rt, rt.alloc(), &outcome, 4 * 32 + 8, 0, journal);
-}
-
-#[test]
-fn an_atom_goes_round_a_corner_of_four_tiles(rt: HostRuntime) {
-    let tries = [at(0, 7, 7), at(1, 8, 7), at(3, 8, 8), at(2, 7, 8)];
-    let order = [
-        0, 0, 0, 0, 0, 0, 0, 0, 0, 0, 1, 1, 1, 1, 1, 1, 1, 1, 1, 1, 3, 3, 3, 3, 3, 3, 3, 3, 3, 3,
-        2, 2, 2, 2, 2, 2, 2, 2, 2, 2,
-    ];
-    let outcome = run(rt.alloc(), CORNER, (7, 7), &tries, &order, Turner)
-        .expect(&rt, "there is room")
-        .expect(&rt, "all tiles finish");
-    let journal =
-        "journal 4\n1 0 0 7 7 0000000000000000\n2 1 0 8 7 0000000000000000\n3 3 0 8 8 0000000000000000\n4 2 0 7 8 0000000000000000\nabandoned 0\n";
-    compare(&rt, rt.alloc(), &outcome, 7 * 16 + 7, 3, journal);
-}
-
-#[test]
-fn a_holder_that_is_given_up_itself_is_owed_to_an_event(rt: HostRuntime) {
-    let tries = [at(0, 7, 7), at(1, 8, 7), at(3, 8, 8), at(2, 7, 8)];
-    let order = [3, 3, 3, 1, 1, 0, 0, 1, 1];
-    let outcome = run(rt.alloc(), CORNER, (7, 7), &tries, &order, Turner)
-        .expect(&rt, "there is room")
-        .expect(&rt, "all tiles finish");
-    let journal =
-        "journal 2\n1 2 0 7 8 0000000000000000\n2 3 0 8 8 0000000000000000\nabandoned 2\n0 0 7 7 0 1 0\n1 0 8 7 4 3 0\n";
-    compare(&rt, rt.alloc(), &outcome, 7 * 16 + 7, 0, journal);
+fn four_tiles_come_to_their_corner(rt: HostRuntime) -> Result<(), Fail> {
+    for row in &OF_FOUR {
+        assert!(rt; ends_so(rt.alloc(), CORNER, row, Turner)?, "{}", row.shows);
+    }
+    Ok(())
 }

@@ -2,9 +2,8 @@
 ghost use Rattle.std.specs.Prelude.{◌≤◌, length};
 ghost use Rattle.tile_map.specs.Plane.{AreSizes};
 
-use crate::driving::tiles;
-use crate::plans::{Shape, Try, plan};
-use crate::runs::start;
+use crate::plans::{Shape, Try};
+use crate::runs::fresh;
 use cell_grid::Behave;
 use feast_base::{Gate, NoMemory};
 use serial_order::{Outcome, settle};
@@ -28,10 +27,7 @@ pub fn run<R: Threads + Sync, B: Behave + Copy + Send + Drop, G: Gate>(
     requires few { length tries.now ≤ 100 }
 {
     let map = Map::new(alloc, shape.tx, shape.ty, shape.w, shape.h)?;
-    map.laws();
-    let grid = start(alloc, &map, site.0, site.1)?;
-    let plan = plan(alloc, shape, tries)?;
-    let fresh = tiles(alloc, &map, &grid, &plan, behave)?;
+    let fresh = fresh(alloc, &map, shape, site, tries, behave)?;
     let (played, mut edges) = run_shared(rt, alloc, &map, fresh, gate)?;
     settle(alloc, &map, played, &mut edges)
 }

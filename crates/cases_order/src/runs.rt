@@ -1,9 +1,11 @@
 //! Worked runs.
-ghost use Rattle.std.specs.Prelude.{◌≤◌, IfOk, length};
-ghost use Rattle.tile_map.specs.Plane.{AreSizes};
+ghost use Rattle.std.specs.Prelude.{◌≡◌, ◌≤◌, IfOk, length};
+ghost use Rattle.tile_map.specs.Plane.{AreSizes, whole_plane};
+ghost use Rattle.serial_order.specs.Fresh.{AreFresh};
+ghost use Rattle.serial_order.specs.Scene.{Setting};
 ghost use Rattle.serial_order.specs.Outcomes.{IsPlaneGrid};
 
-use crate::driving::{drive, finish, settled, tiles};
+use crate::driving::{drive, settled, tiles};
 use crate::plans::{Shape, Try, plan};
 use bit_field::Atom;
 use cell_grid::{Behave, Grid};
@@ -11,6 +13,7 @@ use edge_lock::PlainBoard;
 use feast_base::NoMemory;
 use serial_order::{Outcome, blank_grid};
 use std::alloc::Global;
+use tile_core::Tile;
 use tile_map::Map;
 
 /// Gives a site of a grid an atom of type 1 and state 0, if the site is live.
@@ -34,6 +37,27 @@ pub fn start(alloc: Global, map: &Map, x: u32, y: u32) -> Result<Grid, NoMemory>
     Ok(grid)
 }
 
+/// The tiles of a plane of this shape, with one atom at the site, if it is live, and the attempts in
+/// their order.
+pub fn fresh<B: Behave + Copy + Drop>(
+    alloc: Global,
+    map: &Map,
+    shape: Shape,
+    site: (u32, u32),
+    tries: &[Try],
+    behave: B,
+) -> Result<Vec<Tile<B>>, NoMemory>
+    requires sizes { AreSizes shape.tx shape.ty shape.w shape.h }
+    requires map { map.now ≡ whole_plane shape.tx shape.ty shape.w shape.h }
+    requires few { length tries.now ≤ 100 }
+    ensures { IfOk result (λ v. (g : Setting) × AreFresh B.after map.now g v.items) }
+{
+    let start = start(alloc, map, site.0, site.1)?;
+    let plan = plan(alloc, shape, tries)?;
+    let tiles = tiles(alloc, map, &start, &plan, behave)?;
+    Ok(tiles)
+}
+
 /// A run of a plane without tiles that are off: one atom of type 1 and state 0 at the site, the
 /// attempts in their order, steps of the tiles that `order` names, and then of one tile after
 /// another. None if some tile is not finished by then.
@@ -50,11 +74,8 @@ pub fn run<B: Behave + Copy + Drop>(
 {
     let map = Map::new(alloc, shape.tx, shape.ty, shape.w, shape.h)?;
     map.laws();
-    let start = start(alloc, &map, site.0, site.1)?;
-    let plan = plan(alloc, shape, tries)?;
-    let mut tiles = tiles(alloc, &map, &start, &plan, behave)?;
     let mut board = PlainBoard::new(alloc, &map)?;
+    let mut tiles = fresh(alloc, &map, shape, site, tries, behave)?;
     drive(&map, tiles.as_mut_slice(), &mut board, order);
-    finish(&map, tiles.as_mut_slice(), &mut board);
     settled(alloc, &map, tiles, &mut board)
 }

@@ -1,9 +1,10 @@
 //! Planes some tiles of which are off.
 ghost use Rattle.std.specs.Prelude.{◌≡◌, ◌*◌, IfOk};
 
-use crate::planes::{assert_needs, assert_registers, told};
+use crate::planes::{assert_held, assert_needs, assert_registers, told};
 use feast_base::NoMemory;
 use std::alloc::Global;
+use std::process::Abort;
 use tile_map::Map;
 
 /// Three tiles in a row, the middle one off.
@@ -16,33 +17,34 @@ fn row(alloc: Global) -> Result<Map, NoMemory>
 #[test]
 fn a_tile_that_is_off_has_no_edge(rt: HostRuntime) -> Result<(), NoMemory> {
     let map = row(rt.alloc())?;
-    assert_eq!(rt; (map.tiles(), map.edges()), (3, 0));
+    assert!(rt; map.tiles() == 3 && map.edges() == 0);
     assert!(rt; map.is_on(0) && !map.is_on(1) && map.is_on(2));
     assert_needs(&rt, &map, (24, 8), &[(0, 7, 4, &[])]);
     Ok(())
 }
 
+/// Columns and rows, and whether the site is live.
+const LIVE: [(u32, u32, bool); 4] = [(7, 0, true), (8, 0, false), (15, 7, false), (16, 7, true)];
+
 #[test]
 fn sites_of_a_tile_that_is_off_are_not_live(rt: HostRuntime) -> Result<(), NoMemory> {
     let map = row(rt.alloc())?;
-    for (x, y, live) in [(7, 0, true), (8, 0, false), (15, 7, false), (16, 7, true)] {
+    for (x, y, live) in LIVE {
         assert!(rt; map.is_live(x, y) == live, "{x}, {y}");
     }
     Ok(())
 }
 
+const HELD: [(u32, u32, u32, bool); 4] = [
+    (0, 7, 0, true),
+    (0, 8, 0, false),
+    (1, 8, 0, false),
+    (1, 7, 0, false),
+];
+
 #[test]
 fn a_tile_that_is_off_holds_nothing(rt: HostRuntime) -> Result<(), NoMemory> {
-    let map = row(rt.alloc())?;
-    let held = [
-        (0, 7, 0, true),
-        (0, 8, 0, false),
-        (1, 8, 0, false),
-        (1, 7, 0, false),
-    ];
-    for (tile, x, y, holds) in held {
-        assert!(rt; map.holds(tile, x, y) == holds, "tile {tile} at {x}, {y}");
-    }
+    assert_held(&rt, &row(rt.alloc())?, &HELD);
     Ok(())
 }
 
@@ -229,16 +231,22 @@ fn share(map: &Map, shared: &[u32; 20]) -> bool {
     edges.next().is_none()
 }
 
+/// That a plane of 3 by 3 tiles has these edges and needs, if these corners are off.
+fn assert_corners(rt: &impl Abort, alloc: Global, corners: &Corners) -> Result<(), NoMemory> {
+    let [a, b, c, d] = corners.off;
+    let off = [a, false, b, false, false, false, c, false, d];
+    let map = Map::with_off(alloc, 3, 3, 8, 8, &off)?;
+    assert!(rt; share(&map, &corners.shared), "{off:?}");
+    let [middle, east, north] = corners.needs;
+    let wanted = [(4, 8, 8, middle), (4, 15, 11, east), (1, 8, 6, north)];
+    assert_needs(rt, &map, (24, 24), &wanted);
+    Ok(())
+}
+
 #[test]
 fn corners_that_are_off_take_their_strips_along(rt: HostRuntime) -> Result<(), NoMemory> {
     for corners in &CORNERS {
-        let [a, b, c, d] = corners.off;
-        let off = [a, false, b, false, false, false, c, false, d];
-        let map = Map::with_off(rt.alloc(), 3, 3, 8, 8, &off)?;
-        let [middle, east, north] = corners.needs;
-        assert!(rt; share(&map, &corners.shared), "{off:?}");
-        let wanted = [(4, 8, 8, middle), (4, 15, 11, east), (1, 8, 6, north)];
-        assert_needs(&rt, &map, (24, 24), &wanted);
+        assert_corners(&rt, rt.alloc(), corners)?;
     }
     Ok(())
 }
@@ -251,38 +259,40 @@ fn nine(alloc: Global) -> Result<Map, NoMemory>
     Map::with_off(alloc, 3, 3, 8, 8, &off)
 }
 
+const REGISTERS: [(u32, u32, u32, Option<u32>); 14] = [
+    (1, 8, 4, Some(1)),
+    (1, 11, 4, Some(7)),
+    (1, 8, 5, Some(9)),
+    (1, 8, 7, Some(25)),
+    (1, 4, 8, Some(33)),
+    (1, 11, 11, Some(95)),
+    (1, 7, 7, None),
+    (1, 4, 4, None),
+    (1, 3, 8, None),
+    (2, 19, 4, Some(23)),
+    (2, 4, 8, Some(97)),
+    (2, 8, 8, Some(105)),
+    (2, 19, 11, Some(223)),
+    (2, 7, 7, None),
+];
+
 #[test]
 fn sites_that_are_off_have_no_register(rt: HostRuntime) -> Result<(), NoMemory> {
-    let sites = [
-        (1, 8, 4, Some(1)),
-        (1, 11, 4, Some(7)),
-        (1, 8, 5, Some(9)),
-        (1, 8, 7, Some(25)),
-        (1, 4, 8, Some(33)),
-        (1, 11, 11, Some(95)),
-        (1, 7, 7, None),
-        (1, 4, 4, None),
-        (1, 3, 8, None),
-        (2, 19, 4, Some(23)),
-        (2, 4, 8, Some(97)),
-        (2, 8, 8, Some(105)),
-        (2, 19, 11, Some(223)),
-        (2, 7, 7, None),
-    ];
-    assert_registers(&rt, &nine(rt.alloc())?, &sites);
+    assert_registers(&rt, &nine(rt.alloc())?, &REGISTERS);
     Ok(())
 }
 
+const NEEDS: [(u32, u32, u32, &[u32]); 5] = [
+    (1, 4, 4, &[1, 2]),
+    (4, 7, 7, &[2, 6]),
+    (4, 5, 7, &[2, 6]),
+    (4, 0, 0, &[]),
+    (0, 4, 4, &[]),
+];
+
 #[test]
 fn windows_reach_out_of_a_tile_that_is_off(rt: HostRuntime) -> Result<(), NoMemory> {
-    let wanted: [(u32, u32, u32, &[u32]); 5] = [
-        (1, 4, 4, &[1, 2]),
-        (4, 7, 7, &[2, 6]),
-        (4, 5, 7, &[2, 6]),
-        (4, 0, 0, &[]),
-        (0, 4, 4, &[]),
-    ];
     let map = nine(rt.alloc())?;
-    assert_needs(&rt, &map, (24, 24), &wanted);
+    assert_needs(&rt, &map, (24, 24), &NEEDS);
     Ok(())
 }

@@ -30,70 +30,69 @@ const LINES: [(&str, Option<(&str, &str)>); 4] = [
 const ENDED: [(&str, Option<(&str, &str)>); 2] = [("a\r\nb\n", Some(("a\r", "b\n"))), ("a", None)];
 
 #[test]
-fn lines_end_at_line_feeds(rt: HostRuntime) -> Result<(), Fail> {
+fn lines_end_at_line_feeds(rt: HostRuntime) {
     for (text, expected) in LINES {
         assert!(rt; is_cut(next_line(text.as_bytes()), expected), "{text}");
     }
-    Ok(())
 }
 
 #[test]
-fn a_line_without_a_line_feed_has_not_ended(rt: HostRuntime) -> Result<(), Fail> {
+fn a_line_without_a_line_feed_has_not_ended(rt: HostRuntime) {
     for (text, expected) in ENDED {
         assert!(rt; is_cut(next_ended(text.as_bytes()), expected), "{text}");
     }
-    Ok(())
 }
 
+const SKIPPED: [(&str, bool); 3] = [("", true), ("# a", true), (" # a", false)];
+
 #[test]
-fn empty_lines_and_notes_are_skipped(rt: HostRuntime) -> Result<(), Fail> {
-    for (line, expected) in [("", true), ("# a", true), (" # a", false)] {
+fn empty_lines_and_notes_are_skipped(rt: HostRuntime) {
+    for (line, expected) in SKIPPED {
         assert!(rt; is_skipped(line.as_bytes()) == expected, "{line}");
     }
-    Ok(())
 }
 
+const NUMBERS: [(&str, Option<u128>); 8] = [
+    ("0", Some(0)),
+    ("10", Some(10)),
+    ("18446744073709551616", Some(18_446_744_073_709_551_616)),
+    ("100000000000000000000", None),
+    ("01", None),
+    ("", None),
+    ("+1", None),
+    ("1x", None),
+];
+
 #[test]
-fn numbers_are_canonical(rt: HostRuntime) -> Result<(), Fail> {
-    let table: [(&str, Option<u128>); 8] = [
-        ("0", Some(0)),
-        ("10", Some(10)),
-        ("18446744073709551616", Some(18_446_744_073_709_551_616)),
-        ("100000000000000000000", None),
-        ("01", None),
-        ("", None),
-        ("+1", None),
-        ("1x", None),
-    ];
-    for (text, wanted) in table {
+fn numbers_are_canonical(rt: HostRuntime) {
+    for (text, wanted) in NUMBERS {
         assert!(rt; number(text.as_bytes()) == wanted, "{text}");
     }
-    Ok(())
 }
 
+const SEEDS: [(&str, Option<u64>); 3] = [
+    ("00000000000000ff", Some(255)),
+    ("00000000000000fF", None),
+    ("0000000000000ff", None),
+];
+
 #[test]
-fn seeds_have_sixteen_digits(rt: HostRuntime) -> Result<(), Fail> {
-    let table: [(&str, Option<u64>); 3] = [
-        ("00000000000000ff", Some(255)),
-        ("00000000000000fF", None),
-        ("0000000000000ff", None),
-    ];
-    for (text, expected) in table {
+fn seeds_have_sixteen_digits(rt: HostRuntime) {
+    for (text, expected) in SEEDS {
         assert!(rt; seed(text.as_bytes()) == expected, "{text}");
     }
-    Ok(())
 }
 
+const STATES: [(&str, Option<u128>); 2] = [
+    ("ff0000000000000000", Some(0xff_0000_0000_0000_0000)),
+    ("ff000000000000000", None),
+];
+
 #[test]
-fn states_have_eighteen_digits(rt: HostRuntime) -> Result<(), Fail> {
-    let table: [(&str, Option<u128>); 2] = [
-        ("ff0000000000000000", Some(255 << 64)),
-        ("ff000000000000000", None),
-    ];
-    for (text, expected) in table {
+fn states_have_eighteen_digits(rt: HostRuntime) {
+    for (text, expected) in STATES {
         assert!(rt; state(text.as_bytes()) == expected, "{text}");
     }
-    Ok(())
 }
 
 /// The line of a word, a number, a seed and a state.
@@ -119,9 +118,8 @@ fn a_line_is_printed_field_by_field(rt: HostRuntime) -> Result<(), Fail> {
 }
 
 #[test]
-fn a_space_ends_the_first_field(rt: HostRuntime) -> Result<(), Fail> {
+fn a_space_ends_the_first_field(rt: HostRuntime) {
     let (first, rest) = first_field(b"atom 0");
     assert!(rt; first == b"atom".as_slice());
     assert!(rt; rest == Some(b"0".as_slice()));
-    Ok(())
 }

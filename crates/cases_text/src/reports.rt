@@ -1,16 +1,17 @@
 //! Texts of grids and reports, and the memory that they take.
 ghost use Rattle.grid_print.specs.Report.{AreNamed};
-ghost use Rattle.std.specs.Prelude.{IfOk};
+ghost use Rattle.std.specs.Prelude.{◌≤◌, IfOk, length};
 ghost use Rattle.world_text.specs.Printed.{IsPrintable};
 ghost use Rattle.world_text.specs.Values.{world_value};
 
+use crate::worlds::{names, world};
 use cell_grid::{Grid, Record};
 use event_journal::Abandoned;
 use feast_base::{Name, NoMemory};
 use grid_print::{grid_text, report_text};
 use std::alloc::Global;
 use std::test::Fail;
-use world_text::{World, name, read};
+use world_text::World;
 
 /// Worlds with atoms.
 const WORLDS: [&str; 3] = [
@@ -77,33 +78,36 @@ const ABANDONED: [Abandoned; 2] = [
     },
 ];
 
-/// The text of the grid of a world at its start, and the report of these entries over it. None if the
-/// text is not a world.
-fn texts(alloc: Global, text: &[u8]) -> Result<Option<(Vec<u8>, Vec<u8>)>, Fail> {
-    let mut names = Vec::new(alloc);
-    names.push(Name::new(alloc, b"Walker")?)?;
-    let Ok(raw) = read(alloc, text) else {
-        return Ok(None);
+/// Whether the text of a grid, and a report of these entries over it, take as much memory as they are
+/// long.
+fn are_exact(alloc: Global, grid: &Grid, names: &[Name]) -> Result<bool, NoMemory>
+    requires { AreNamed names.now grid.now.atoms }
+{
+    let shown = grid_text(alloc, grid, names)?;
+    if shown.capacity() != shown.len() {
+        return Ok(false);
+    }
+    let report = report_text(alloc, grid, names, &EVENTS, &ABANDONED)?;
+    Ok(report.capacity() == report.len())
+}
+
+/// The same of the grid of a world at its start. The text has to be a world.
+fn has_exact_texts(alloc: Global, text: &[u8], names: &[Name]) -> Result<bool, NoMemory>
+    requires { length names.now ≤ 65535 }
+{
+    let Some(world) = world(alloc, text, names) else {
+        return Ok(false);
     };
-    let Ok(world) = name(alloc, raw, names.as_slice()) else {
-        return Ok(None);
-    };
-    let grid = grid(alloc, &world, names.as_slice())?;
-    let shown = grid_text(alloc, &grid, names.as_slice())?;
-    let report = report_text(alloc, &grid, names.as_slice(), &EVENTS, &ABANDONED)?;
-    Ok(Some((shown, report)))
+    let grid = grid(alloc, &world, names)?;
+    are_exact(alloc, &grid, names)
 }
 
 #[test]
 fn texts_take_as_much_memory_as_they_are_long(rt: HostRuntime) -> Result<(), Fail> {
+    let names = names(rt.alloc())?;
     for text in WORLDS {
-        match texts(rt.alloc(), text.as_bytes())? {
-            Some((shown, report)) => {
-                assert!(rt; shown.capacity() == shown.len(), "{text}");
-                assert!(rt; report.capacity() == report.len(), "{text}");
-            }
-            None => assert!(rt; false, "{text}"),
-        }
+        let is_exact = has_exact_texts(rt.alloc(), text.as_bytes(), names.as_slice())?;
+        assert!(rt; is_exact, "{text}");
     }
     Ok(())
 }

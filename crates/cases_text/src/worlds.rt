@@ -1,26 +1,49 @@
 //! Worlds that are printed again.
+ghost use Rattle.std.specs.Prelude.{◌≡◌, ◌≤◌, IfOk, IfSome, length};
+ghost use Rattle.world_text.specs.Printed.{IsNamed, IsPrintable};
+ghost use Rattle.world_text.specs.Values.{world_value};
 
-use feast_base::Name;
+use feast_base::{Name, NoMemory};
 use std::alloc::Global;
 use std::test::Fail;
-use world_text::{laws, name, print, read, reads_again};
+use world_text::{World, laws, name, print, read, reads_again};
 
-/// The text of a world as it is printed, with Walker and Stone as the elements. None if the text is not
-/// a world.
-fn printed(alloc: Global, text: &str) -> Result<Option<Vec<u8>>, Fail> {
+/// The elements' names.
+pub fn names(alloc: Global) -> Result<Vec<Name>, NoMemory>
+    ensures { IfOk result (λ v. length v.items ≡ 2) }
+{
     let mut names = Vec::new(alloc);
     names.push(Name::new(alloc, b"Walker")?)?;
     names.push(Name::new(alloc, b"Stone")?)?;
-    let Ok(raw) = read(alloc, text.as_bytes()) else {
-        return Ok(None);
+    Ok(names)
+}
+
+/// The world of a text, with these elements. None if the text is not a world.
+pub fn world(alloc: Global, text: &[u8], names: &[Name]) -> Option<World>
+    requires { length names.now ≤ 65535 }
+    ensures named { IfSome result (λ w. IsNamed names.now (world_value w)) }
+    ensures valid { IfSome result (λ w. IsPrintable names.now (world_value w)) }
+{
+    let Ok(raw) = read(alloc, text) else {
+        return None;
     };
-    let Ok(world) = name(alloc, raw, names.as_slice()) else {
+    match name(alloc, raw, names) {
+        Ok(world) => Some(world),
+        Err(_) => None,
+    }
+}
+
+/// The text of a world as it is printed. None if the text is not a world.
+fn printed(alloc: Global, text: &str, names: &[Name]) -> Result<Option<Vec<u8>>, NoMemory>
+    requires { length names.now ≤ 65535 }
+{
+    let Some(world) = world(alloc, text.as_bytes(), names) else {
         return Ok(None);
     };
     laws(&world);
-    reads_again(&world, names.as_slice());
+    reads_again(&world, names);
     let mut out = Vec::new(alloc);
-    print(alloc, &world, names.as_slice(), &mut out)?;
+    print(alloc, &world, names, &mut out)?;
     Ok(Some(out))
 }
 
@@ -41,8 +64,10 @@ const PRINTED: [(&str, &str); 3] = [
 ];
 
 /// Whether a text is a world that is printed as `wanted`.
-fn is_printed_as(alloc: Global, text: &str, wanted: &str) -> Result<bool, Fail> {
-    Ok(match printed(alloc, text)? {
+fn is_printed_as(alloc: Global, text: &str, wanted: &str, names: &[Name]) -> Result<bool, NoMemory>
+    requires { length names.now ≤ 65535 }
+{
+    Ok(match printed(alloc, text, names)? {
         Some(out) => out.as_slice() == wanted.as_bytes(),
         None => false,
     })
@@ -50,9 +75,16 @@ fn is_printed_as(alloc: Global, text: &str, wanted: &str) -> Result<bool, Fail> 
 
 #[test]
 fn a_world_is_printed_as_it_was_read(rt: HostRuntime) -> Result<(), Fail> {
+    let names = names(rt.alloc())?;
     for (text, wanted) in PRINTED {
-        assert!(rt; is_printed_as(rt.alloc(), text, wanted)?, "{text}");
-        assert!(rt; is_printed_as(rt.alloc(), wanted, wanted)?, "{wanted}");
+        assert!(rt;
+            is_printed_as(rt.alloc(), text, wanted, names.as_slice())?,
+            "{text}"
+        );
+        assert!(rt;
+            is_printed_as(rt.alloc(), wanted, wanted, names.as_slice())?,
+            "{wanted}"
+        );
     }
     Ok(())
 }

@@ -96,31 +96,37 @@ fn has_events(pair: &Pair, left: Record, right: Record) -> bool {
         && pair.right.abandoned().len() == 0
 }
 
-#[test]
-fn a_tile_reads_what_its_neighbour_wrote_and_no_more(rt: HostRuntime) {
-    let alloc = rt.alloc();
-    let mut pair = Pair::new(alloc).expect(&rt, "there is room for two tiles");
-    let whole = leads_to(&mut pair, alloc, &[Side::Left; 6], &WHOLE).expect(&rt, "there is room");
-    assert!(rt; whole);
-    assert!(rt; pair.board.cells == 0);
-    let whole = leads_to(&mut pair, alloc, &[Side::Right; 6], &WHOLE).expect(&rt, "there is room");
-    assert!(rt; whole);
-    assert!(rt; has_events(&pair, FIRST, SECOND));
+/// That each tile makes its event, tile 1 after tile 0, and that tile 1 reads what tile 0 wrote.
+fn make_both_events(rt: &impl Abort, alloc: Global, pair: &mut Pair)
+    requires { AreTwo pair.old.map pair.old.left.core pair.old.right.core pair.old.board.board }
+{
+    let whole = leads_to(pair, alloc, &[Side::Left; 6], &WHOLE).expect(rt, "there is room");
+    assert!(rt; whole && pair.board.cells == 0);
+    let whole = leads_to(pair, alloc, &[Side::Right; 6], &WHOLE).expect(rt, "there is room");
+    assert!(rt; whole && has_events(pair, FIRST, SECOND));
     assert!(rt; pair.board.cells == 32);
-    assert!(rt; pair.news_bits(0) == 40);
-    assert!(rt; pair.news_bits(1) == 8);
+    assert!(rt; pair.news_bits(0) == 40 && pair.news_bits(1) == 8);
 }
 
 #[test]
-fn a_tile_gives_up_at_an_edge_that_its_neighbour_has(rt: HostRuntime) {
-    let alloc = rt.alloc();
-    let mut pair = Pair::new(alloc).expect(&rt, "there is room for two tiles");
-    let crossed = leads_to(&mut pair, alloc, &CROSSED, &CROSSED_PHASES).expect(
-        &rt,
-        "there is room",
-    );
-    assert!(rt; crossed);
-    assert!(rt; pair.right.abandoned() == [GIVEN_UP].as_slice());
-    assert!(rt; pair.left.records().len() == 1);
-    assert!(rt; pair.right.records().len() == 0);
+fn a_tile_reads_what_its_neighbour_wrote_and_no_more(rt: HostRuntime) -> Result<(), NoMemory> {
+    let mut pair = Pair::new(rt.alloc())?;
+    make_both_events(&rt, rt.alloc(), &mut pair);
+    Ok(())
+}
+
+/// That tile 1 gives its attempt up, and tile 0 makes its event.
+fn give_one_up(rt: &impl Abort, alloc: Global, pair: &mut Pair)
+    requires { AreTwo pair.old.map pair.old.left.core pair.old.right.core pair.old.board.board }
+{
+    let crossed = leads_to(pair, alloc, &CROSSED, &CROSSED_PHASES).expect(rt, "there is room");
+    assert!(rt; crossed && pair.right.abandoned() == [GIVEN_UP].as_slice());
+    assert!(rt; pair.left.records().len() == 1 && pair.right.records().len() == 0);
+}
+
+#[test]
+fn a_tile_gives_up_at_an_edge_that_its_neighbour_has(rt: HostRuntime) -> Result<(), NoMemory> {
+    let mut pair = Pair::new(rt.alloc())?;
+    give_one_up(&rt, rt.alloc(), &mut pair);
+    Ok(())
 }

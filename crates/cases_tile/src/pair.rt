@@ -18,7 +18,6 @@ use tile_core::{Phase, Tile};
 use tile_map::Map;
 
 /// Two tiles, the board that both act on, and their map.
-#[derive(Drop)]
 pub struct Pair {
     /// The plane.
     pub map: Map,
@@ -28,6 +27,17 @@ pub struct Pair {
     pub right: Tile<Turn>,
     /// The board.
     pub board: CountedBoard,
+}
+
+impl Drop for Pair {
+    fn drop(self) {
+        let Pair {
+            map: _map,
+            left: _left,
+            right: _right,
+            board: _board,
+        } = self;
+    }
 }
 
 /// One of the two tiles.
@@ -84,17 +94,26 @@ fn advance(tile: &mut Tile<Turn>, map: &Map, board: &mut CountedBoard) -> Phase
     tile.advance(map, board)
 }
 
+/// Both tiles with one attempt each, at the two sides of their border: (15, 4), where an atom is, and
+/// (16, 4).
+fn tiles(alloc: Global, map: &Map) -> Result<(Tile<Turn>, Tile<Turn>), NoMemory>
+    requires { map.now ≡ whole_plane 2 1 16 16 }
+    ensures { IfOk result (λ r. IsJustMade map.now 0 r.0.core × IsJustMade map.now 1 r.1.core) }
+{
+    let start = first_grid(alloc, map)?;
+    let left = tile(alloc, map, 0, &start, 79)?;
+    let right = tile(alloc, map, 1, &start, 64)?;
+    Ok((left, right))
+}
+
 impl Pair {
-    /// Two tiles with one attempt each, at the two sides of their border: (15, 4), where an atom is,
-    /// and (16, 4).
+    /// Two tiles with one attempt each, at the two sides of their border.
     pub fn new(alloc: Global) -> Result<Pair, NoMemory>
         ensures { IfOk result (λ p. AreTwo p.map p.left.core p.right.core p.board.board) }
     {
         let map = Map::new(alloc, 2, 1, 16, 16)?;
-        let start = first_grid(alloc, &map)?;
-        let left = tile(alloc, &map, 0, &start, 79)?;
-        let right = tile(alloc, &map, 1, &start, 64)?;
         let plain = PlainBoard::new(alloc, &map)?;
+        let (left, right) = tiles(alloc, &map)?;
         let board = CountedBoard {
             board: plain,
             sites: 128,

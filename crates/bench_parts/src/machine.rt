@@ -1,20 +1,14 @@
-//! A bench of the machine: many events of some codes, each on a fresh window. Without an argument
-//! it prints the number of steps of each code, and with `time` the times too. With the name of a code
-//! it runs only that code, to be counted from outside; with `none` it runs nothing.
-#![tactic(auto)]
+//! A bench of the machine: many events of some codes, each on a fresh window.
 
-mod codes;
-
+use crate::codes::{Which, made};
 use bit_field::Atom;
-use codes::{Which, made};
 use event_machine::Machine;
 use feast_base::{CountLedger, NoLedger, Steps};
 use stack_code::Code;
 use std::alloc::Global;
-use std::env::Env;
+use std::io;
 use std::rt::Clock;
 use std::time::Instant;
-use std::{env, io};
 use window_sites::Window;
 
 /// The number of events of each code.
@@ -80,9 +74,8 @@ fn loaded(alloc: Global, which: Which) -> io::Result<Code> {
     }
 }
 
-/// Runs a code as the argument asks: none for its steps, `time` for its time, its name for its
-/// events.
-fn run(
+/// Runs a code as the word asks: none for its steps, `time` for its time, its name for its events.
+fn run_code(
     rt: &HostRuntime,
     machine: &mut Machine,
     name: &str,
@@ -109,15 +102,16 @@ fn run(
     }
 }
 
-fn main(rt: HostRuntime) -> io::Result<()> {
-    let alloc = rt.alloc();
-    let word = env::args(&rt)?.skip(1).next();
-    let Ok(mut machine) = Machine::new(alloc) else {
+/// Runs the codes. Without a word it prints the number of steps of each code, and with `time` their
+/// times. With the name of a code it runs only that code, to be counted from outside; with `none` it
+/// runs nothing.
+pub fn run(rt: &HostRuntime, word: Option<&str>) -> io::Result<()> {
+    let Ok(mut machine) = Machine::new(rt.alloc()) else {
         return Err(io::ErrorKind::OutOfMemory.into());
     };
     for (name, which) in CODES {
-        let code = loaded(alloc, which)?;
-        run(&rt, &mut machine, name, &code, word.as_deref())?;
+        let code = loaded(rt.alloc(), which)?;
+        run_code(rt, &mut machine, name, &code, word)?;
     }
     Ok(())
 }

@@ -1,21 +1,17 @@
 //! A bench of events: for some ways to fill a grid and to choose centres, the events of one million
-//! attempts. Without an argument it makes them once, to be counted; with `time` it times them.
-#![tactic(auto)]
+//! attempts.
 
 ghost use Rattle.std.specs.Prelude.{◌≤◌};
 
-mod act;
-
-use act::Turn;
+use crate::act::Turn;
 use bit_field::Atom;
 use cell_grid::Grid;
 use draw_stream::{Attempt, TileStream};
 use feast_base::NoMemory;
 use std::alloc::Global;
-use std::env::Env;
+use std::io;
 use std::rt::Clock;
 use std::time::Instant;
-use std::{env, io};
 use window_sites::Window;
 
 /// The number of columns and of rows of the grid.
@@ -106,26 +102,36 @@ fn picoseconds(
     Ok(least / (PART as u128 / 1000))
 }
 
-fn main(rt: HostRuntime) -> io::Result<()> {
-    let alloc = rt.alloc();
-    let timed = env::args(&rt)?.skip(1).next().is_some();
-    for (every, side) in [(1, 56), (1, 64), (20, 56), (20, 64)] {
-        let room = io::ErrorKind::OutOfMemory;
-        let Ok(mut grid) = filled(alloc, every) else {
-            return Err(room.into());
-        };
-        let Ok(attempts) = drawn(alloc, side) else {
-            return Err(room.into());
-        };
-        make(&mut grid, attempts.as_slice(), side);
-        println!(rt;
-            "one site in {every}, centres in {side} by {side}: {}",
-            places(&grid)
-        )?;
-        if timed {
-            let time = picoseconds(&rt, &mut grid, attempts.as_slice(), side)?;
-            println!(rt; "{time} picoseconds an event")?;
-        }
+/// Makes the events of one million attempts on a grid in which one site in `every` has an atom, with
+/// centres in a square of `side` columns and rows, and times them if asked to.
+fn measure(rt: &HostRuntime, every: u32, side: u32, timed: bool) -> io::Result<()>
+    requires atoms { 1 ≤ every }
+    requires some { 1 ≤ side }
+    requires most { side ≤ 64 }
+{
+    let room = io::ErrorKind::OutOfMemory;
+    let Ok(attempts) = drawn(rt.alloc(), side) else {
+        return Err(room.into());
+    };
+    let Ok(mut grid) = filled(rt.alloc(), every) else {
+        return Err(room.into());
+    };
+    make(&mut grid, attempts.as_slice(), side);
+    println!(*rt;
+        "one site in {every}, centres in {side} by {side}: {}",
+        places(&grid)
+    )?;
+    if timed {
+        let time = picoseconds(rt, &mut grid, attempts.as_slice(), side)?;
+        println!(*rt; "{time} picoseconds an event")?;
     }
     Ok(())
+}
+
+/// Makes the events once, to be counted, and times them too if asked to.
+pub fn run(rt: &HostRuntime, timed: bool) -> io::Result<()> {
+    measure(rt, 1, 56, timed)?;
+    measure(rt, 1, 64, timed)?;
+    measure(rt, 20, 56, timed)?;
+    measure(rt, 20, 64, timed)
 }
