@@ -24,9 +24,11 @@ sys.dont_write_bytecode = True
 sys.path.insert(0, str(TOP / "tools"))
 
 from first_call import seconds  # noqa: E402
-from first_call.crates import Crate, crates_of_program, lone_at_the_end  # noqa: E402
+from first_call.crates import Crate, chains, crates_of_program  # noqa: E402
 from first_call.progress import Progress, Status, wall_time  # noqa: E402
+from first_call.proof import Work  # noqa: E402
 from first_call.teller import as_bar  # noqa: E402
+from first_call.turns import Turns  # noqa: E402
 
 CRATES = "low:\nmiddle: low # stands on low\nbeside: low\nhigh: middle beside\nfeast: high low\nother: low\n"
 # What the program of the pretended toolchain writes, and its status.
@@ -135,7 +137,7 @@ class FirstCall(unittest.TestCase):
         time.sleep(0.01)
         (self.top / "crates" / "middle" / "src" / "lib.rt").write_text("// changed\n")
         status, _, told = Call(self, ["run"]).end()
-        self.assertEqual((status, self.count("run")), (STATUS, before + 1))
+        self.assertEqual((status, self.count("run")), (STATUS, before + 1), told)
         self.assertIn("2 of its 5 crates are proved, and the others", told)
 
     def test_progress_is_told_line_by_line(self) -> None:
@@ -143,12 +145,11 @@ class FirstCall(unittest.TestCase):
         self.assertIn("the program is still to be built: its 5 crates are proved first", told)
         lines = re.findall(r"feast: (\d) of 5 crates are proved; (.*) gone, (about .* left|soon done); (.*)", told)
         self.assertEqual([it[0] for it in lines], sorted(it[0] for it in lines), told)
-        # (`high` is begun beside others, and once more alone)
         doing = list(dict.fromkeys(it[3] for it in lines))
-        proofs = [f"proving {name}" for name in ("low", "middle", "beside", "high", "feast")]
-        wanted = [*proofs, "building the program"]
+        proofs = [f"proving {name}" for name in ("low", "middle", "beside", "high")]
+        wanted = [*proofs, "proving and building the program"]
         self.assertEqual([it for it in doing if it in wanted], wanted, told)
-        self.assertEqual(lines[-1][0], "5")
+        self.assertEqual(lines[-1][0], "4")
         self.assertRegex(told, r"proved and built in \d+ s; the program by itself is /.*/crates/feast/out/feast\n\Z")
 
     def test_sources_are_looked_through_first(self) -> None:
@@ -156,12 +157,10 @@ class FirstCall(unittest.TestCase):
         if "side by side" in self.calls()[0]:
             self.assertRegex(told, "0 of 5 .* reading all sources\n(.*\n)*.*proving low")
 
-    def test_last_crates_are_proved_alone(self) -> None:
-        self.change("machine.py", "return max(min(len(os.sched_getaffinity(0)), memory // EACH), 1)", "return 4")
+    def test_program_is_proved_by_the_run_that_builds_it(self) -> None:
         Call(self, ["run"], FEAST_PREVIEW="no").end()
-        beside = ["all check side by side 4", "low is proved", "middle is proved", "beside is proved"]
-        alone = ["lib high --jobs 4", "high is proved", "check feast --jobs 4", "feast is proved"]
-        self.assertEqual(self.calls()[:-2], [*beside, *alone])
+        libraries = [f"{name} is proved" for name in ("low", "middle", "beside", "high")]
+        self.assertEqual(self.calls(), ["all check side by side 7", *libraries, "run", "feast is proved"])
 
     def test_progress_is_a_bar_on_a_terminal(self) -> None:
         ours, theirs = pty.openpty()
@@ -176,7 +175,7 @@ class FirstCall(unittest.TestCase):
         told = read_all(ours)
         out = process.communicate(timeout=60)[0]
         self.assertEqual(out, b"proved call of <run>\n")
-        self.assertRegex(told, r"\r\x1b\[K\[#+\.+\] 1/5 crates, \d+ s gone, \d+ (s|min) left: proving middle\r")
+        self.assertRegex(told, r"\r\x1b\[K\[#+\.+\] 1/5 crates, \d+ s gone, (\d+ (s|min) left|soon done): proving middle\r")
         self.assertRegex(told, r"preview of <run>\r\n")
 
     def test_little_memory_proves_one_after_another(self) -> None:
@@ -268,14 +267,28 @@ class FirstCall(unittest.TestCase):
 
 
 class Chains(unittest.TestCase):
-    """Which crates come last, one after another."""
+    """Which crates others wait for."""
 
-    def test_only_crates_on_all_others_are_alone(self) -> None:
+    def setUp(self) -> None:
         low, beside = Crate("low", TOP, ()), Crate("beside", TOP, ())
-        high, top = Crate("high", TOP, ("low", "beside")), Crate("top", TOP, ("low", "beside", "high"))
-        self.assertEqual(lone_at_the_end([low, beside, high, top]), [high, top])
-        self.assertEqual(lone_at_the_end([low, beside]), [])
-        self.assertEqual(lone_at_the_end([low]), [low])
+        high, top = Crate("high", TOP, ("low",)), Crate("top", TOP, ("low", "beside", "high"))
+        self.chain = chains([low, beside, high, top], {"low": 10.0, "beside": 5.0, "high": 20.0, "top": 10.0})
+
+    def test_longest_chain_counts(self) -> None:
+        self.assertEqual(self.chain, {"low": 40.0, "beside": 15.0, "high": 30.0, "top": 10.0})
+
+    def test_crates_with_short_chains_give_way(self) -> None:
+        nice = Turns(self.chain).niceness
+        self.assertEqual([nice(name) for name in ("low", "high", "beside", "top")], [0, 10, 19, 19])
+
+    def test_process_is_given_its_niceness(self) -> None:
+        process = subprocess.Popen(["sleep", "60"])
+        try:
+            Turns(self.chain).give([Work(process.pid, "high", 0.0), Work(2**22 + 1, "low", 0.0)])
+            self.assertEqual(os.getpriority(os.PRIO_PROCESS, process.pid), min(os.nice(0) + 10, 19))
+        finally:
+            process.kill()
+            process.wait()
 
 
 class Estimates(unittest.TestCase):
@@ -283,7 +296,7 @@ class Estimates(unittest.TestCase):
 
     def test_table_names_crates(self) -> None:
         crates = {crate.name for crate in crates_of_program(TOP)}
-        named = set(seconds.read(seconds.TABLE)) - {seconds.LOOKING, seconds.BUILDING}
+        named = set(seconds.read(seconds.TABLE)) - {seconds.LOOKING}
         self.assertEqual(named - crates, set())
         self.assertGreater(len(named), len(crates) / 2)
 
@@ -294,15 +307,16 @@ class Estimates(unittest.TestCase):
 
     def test_measured_speed_corrects_what_is_left(self) -> None:
         crates = [Crate("low", TOP, ()), Crate("high", TOP, ("low",))]
-        expected = {seconds.LOOKING: 0.0, "low": 100.0, "high": 100.0, seconds.BUILDING: 0.0}
-        progress = Progress(crates, 1, expected, set(expected), {seconds.LOOKING, seconds.BUILDING})
-        self.assertEqual(progress.status().left, 200.0)
-        progress.at_work({"low"})
-        progress.begun["low"] -= 260
+        expected = {seconds.LOOKING: 0.0, "low": 100.0, "high": 100.0}
+        progress = Progress(crates, 1, expected, set(expected), {seconds.LOOKING})
+        self.assertAlmostEqual(progress.status().left, 200.0, delta=0.1)
+        progress.at_work({"low": 130.0})
         progress.finish("low")
+        progress.start -= 260
         status = progress.status()
         self.assertAlmostEqual(status.left, 100 * (60 + 260) / (60 + 100), delta=0.1)
         self.assertAlmostEqual(status.share, 0.5)
+        self.assertEqual(progress.measured(), {"low": 130.0})
 
 
 class Lines(unittest.TestCase):

@@ -7,13 +7,14 @@ from typing import Callable, Optional
 
 from first_call import seconds
 from first_call.children import Child
-from first_call.crates import PROGRAM, Crate, crates_of_program
+from first_call.crates import Crate, chains, crates_of_program
 from first_call.faults import said_of_faults
 from first_call.kept import Kept, kept
-from first_call.machine import lanes_here
+from first_call.machine import room_here
 from first_call.progress import Progress
-from first_call.proof import WAITS, Log, Step, at_work, steps, told_crate
+from first_call.proof import WAITS, Log, Step, spent_by, steps, told_crate, works
 from first_call.teller import Teller, spoken
+from first_call.turns import Turns
 
 
 class Refused(Exception):
@@ -31,8 +32,9 @@ class Build:
         self.pause = pause
         self.run: Optional[Child] = None
         self.crates = crates_of_program(top)
-        self.lanes = lanes_here()
+        self.room = room_here()
         self.progress = self.expected(kept(top, self.crates))
+        self.turns = Turns(chains(self.crates, self.progress.expected))
 
     def expected(self, found: dict[str, Kept]) -> Progress:
         """What is to be done, where this much is kept of each crate."""
@@ -40,9 +42,9 @@ class Build:
         likely = {name: spent * found.get(name, Kept.NOTHING).value for name, spent in whole.items()}
         anew = {name for name in whole if found.get(name, Kept.NOTHING) is Kept.NOTHING}
         done = {name for name, it in found.items() if it is Kept.BUILT}
-        is_looked_through = self.lanes == 1 or len(done) == len(self.crates) - 1
+        is_looked_through = self.room.places == 1 or len(done) == len(self.crates) - 1
         done |= {seconds.LOOKING} if is_looked_through else set()
-        return Progress(self.crates, self.lanes, likely, anew, done)
+        return Progress(self.crates, self.room.lanes, likely, anew, done)
 
     def announce(self) -> None:
         """Says what is to be done, and how long that takes."""
@@ -52,7 +54,7 @@ class Build:
             proved = f"{status.done} of its {status.crates} crates {'is' if status.done == 1 else 'are'} proved"
             crates = f"{proved}, and the others are"
         self.teller.say(
-            f"the program is still to be built: {crates} proved first, {self.lanes} at a time,"
+            f"the program is still to be built: {crates} proved first, {self.room.lanes} at a time,"
             f" in about {spoken(status.left)}"
         )
         self.teller.say("you can interrupt this: what is proved is kept, and the same command goes on from there")
@@ -62,10 +64,10 @@ class Build:
 
     def go(self) -> None:
         """Proves the crates and builds the program."""
-        for step in steps(self.crates, self.lanes):
+        for step in steps(self.crates, self.room):
             self.follow(step)
         os.utime(self.program)
-        seconds.write(self.measured, {**seconds.read(self.measured), **self.progress.measured})
+        seconds.write(self.measured, {**seconds.read(self.measured), **self.progress.measured()})
 
     def follow(self, step: Step) -> None:
         """Runs the toolchain, and shows progress until it ends."""
@@ -76,7 +78,9 @@ class Build:
         while status is None:
             self.pause()
             status = self.run.status()
-            self.progress.at_work(step.work or at_work(self.run.process.pid))
+            running = works(self.run.process.pid)
+            self.turns.give(running)
+            self.progress.at_work(spent_by(running))
             self.take_in(log.new_lines())
             self.teller.status(self.progress.status())
             if status is None and self.is_through(step):

@@ -5,6 +5,7 @@ import os
 import signal
 import subprocess
 import time
+from dataclasses import dataclass
 from pathlib import Path
 from typing import IO, Iterator, Optional, Sequence
 
@@ -55,15 +56,26 @@ def pause() -> None:
     time.sleep(TICK)
 
 
-def commands_of(session: int) -> Iterator[list[str]]:
-    """The words of each process of a session, as the system tells them."""
+@dataclass(frozen=True)
+class Command:
+    """A process: its number, its words, and the seconds that it and those that it has waited for had a processor."""
+
+    process: int
+    words: list[str]
+    spent: float
+
+
+def commands_of(session: int) -> Iterator[Command]:
+    """Each process of a session, as the system tells of it."""
+    ticks = os.sysconf("SC_CLK_TCK")
     for entry in Path("/proc").iterdir():
         if not entry.name.isdigit():
             continue
         try:
-            # Behind the name, which stands in brackets: state, parent, group, session.
+            # Behind the name, which stands in brackets: state, parent, group, session; from the twelfth on, times.
             fields = (entry / "stat").read_text(errors="replace").rpartition(")")[2].split()
             if int(fields[3]) == session:
-                yield (entry / "cmdline").read_bytes().decode(errors="replace").split("\0")
+                words = (entry / "cmdline").read_bytes().decode(errors="replace").split("\0")
+                yield Command(int(entry.name), words, sum(map(int, fields[11:15])) / ticks)
         except (OSError, IndexError, ValueError):
             continue

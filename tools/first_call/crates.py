@@ -4,6 +4,7 @@ from __future__ import annotations
 import re
 from dataclasses import dataclass
 from pathlib import Path
+from typing import Mapping
 
 PROGRAM = "feast"
 
@@ -54,9 +55,10 @@ def crates_of_program(top: Path) -> list[Crate]:
     return sorted(crates, key=lambda crate: len(crate.below))
 
 
-def lone_at_the_end(crates: list[Crate]) -> list[Crate]:
-    """The last crates that stand on all before them, so that nothing can be proved beside them."""
-    begin = len(crates)
-    while begin and len(crates[begin - 1].below) == begin - 1:
-        begin -= 1
-    return crates[begin:]
+def chains(crates: list[Crate], seconds: Mapping[str, float]) -> dict[str, float]:
+    """The seconds of the longest chain of crates, each above the one before it, that begins with each crate."""
+    found: dict[str, float] = {}
+    for crate in reversed(crates):
+        above = (found[it.name] for it in crates if crate.name in it.below)
+        found[crate.name] = seconds[crate.name] + max(above, default=0.0)
+    return found

@@ -3,10 +3,20 @@ from __future__ import annotations
 
 import os
 import re
+from dataclasses import dataclass
 from pathlib import Path
 
-# How many gigabytes one run over all crates wants, and how many each crate that is proved beside others.
-ALL_AT_ONCE, EACH = 12, 4
+# How many gigabytes one run over all crates wants, what each crate takes that is proved beside others, and what is
+# left to all else.
+ALL_AT_ONCE, EACH, REST = 12, 2, 2
+
+
+@dataclass(frozen=True)
+class Room:
+    """How many crates may be under way at once, those that wait for others among them, and by how many processors."""
+
+    places: int
+    lanes: int
 
 
 def free_memory() -> int:
@@ -15,7 +25,8 @@ def free_memory() -> int:
     return int(found[1]) // 1_000_000 if found else 0
 
 
-def lanes_here() -> int:
-    """How many crates to prove side by side: one for each processor that has its memory."""
+def room_here() -> Room:
+    """The room on this machine: one place if it has little memory."""
     memory = free_memory()
-    return max(min(len(os.sched_getaffinity(0)), memory // EACH), 1) if memory >= ALL_AT_ONCE else 1
+    places = (memory - REST) // EACH if memory >= ALL_AT_ONCE else 1
+    return Room(places, min(len(os.sched_getaffinity(0)), places))

@@ -4,12 +4,12 @@ from __future__ import annotations
 import heapq
 import time
 from dataclasses import dataclass, field
-from typing import AbstractSet
+from typing import Mapping
 
-from first_call.crates import Crate
-from first_call.seconds import BUILDING, LOOKING
+from first_call.crates import PROGRAM, Crate, chains
+from first_call.seconds import LOOKING
 
-# With how many seconds that went as expected the measured speed is averaged.
+# With how many seconds by the clock that went as expected the measured speed is averaged.
 SETTLED = 60.0
 # What is left of a crate that takes longer than expected, as a share of that.
 REST = 0.1
@@ -29,22 +29,28 @@ class Status:
 
 
 def wall_time(crates: list[Crate], seconds: dict[str, float], lanes: int) -> float:
-    """How long so many lanes take for what is left of each crate. As the toolchain has it, a free lane takes
-    the next crate, and waits with it for the libraries below."""
-    free = [0.0] * lanes
-    ends: dict[str, float] = {}
-    for crate in crates:
-        begin = max([heapq.heappop(free), *(ends.get(name, 0.0) for name in crate.below)])
-        ends[crate.name] = begin + seconds[crate.name]
-        heapq.heappush(free, ends[crate.name])
-    return max(ends.values())
+    """How long so many lanes take for what is left of each crate, if a free one always takes that crate, of those
+    that wait for no other, which begins the longest chain of crates."""
+    chain = chains(crates, seconds)
+    waiting = sorted(crates, key=lambda crate: -chain[crate.name])
+    running: list[tuple[float, str]] = []
+    done: set[str] = set()
+    now = 0.0
+    while waiting or running:
+        ready = [crate for crate in waiting if done.issuperset(crate.below)][: lanes - len(running)]
+        waiting = [crate for crate in waiting if crate not in ready]
+        for crate in ready:
+            heapq.heappush(running, (now + seconds[crate.name], crate.name))
+        now, name = heapq.heappop(running)
+        done.add(name)
+    return now
 
 
 @dataclass
 class Progress:
-    """The crates in the toolchain's order, how many are proved side by side, the seconds that each and the
-    work beside them is expected to take, which of these are from nothing, and what is done; then when what
-    began, how long what is done took if it was from nothing, and what is at work now."""
+    """The crates in the toolchain's order, by how many processors they are proved, the seconds of one processor that
+    each and the work before them is expected to take, which of these are from nothing, and what is done; then the
+    seconds that each has taken so far, and what is at work now."""
 
     crates: list[Crate]
     lanes: int
@@ -52,57 +58,54 @@ class Progress:
     anew: set[str]
     done: set[str]
     start: float = field(default_factory=time.monotonic)
-    begun: dict[str, float] = field(default_factory=dict)
-    measured: dict[str, float] = field(default_factory=dict)
+    spent: dict[str, float] = field(default_factory=dict)
     now: tuple[str, ...] = ()
 
-    def at_work(self, names: AbstractSet[str]) -> None:
-        """Takes in what is at work at this moment: crates, or the work beside them."""
-        for name in names:
-            self.begun.setdefault(name, time.monotonic())
-        if LOOKING in self.begun and LOOKING not in names:
+    def __post_init__(self) -> None:
+        self.whole = self.ahead()
+
+    def at_work(self, spent: Mapping[str, float]) -> None:
+        """Takes in what is at work at this moment, crates or the work before them, and what each has taken so far."""
+        if LOOKING in self.now and LOOKING not in spent:
             self.finish(LOOKING)
-        self.now = tuple(name for name in self.names() if name in names)
+        self.spent.update(spent)
+        self.now = tuple(name for name in self.names() if name in spent)
 
     def finish(self, name: str) -> None:
-        """Takes in that a crate, or the work beside them, is done."""
-        if name in self.begun and name in self.anew - self.done:
-            self.measured[name] = time.monotonic() - self.begun[name]
+        """Takes in that a crate, or the work before them, is done."""
         self.done.add(name)
         self.now = tuple(it for it in self.now if it != name)
 
     def names(self) -> list[str]:
         """What is to be done, in order."""
-        return [LOOKING, *(crate.name for crate in self.crates), BUILDING]
+        return [LOOKING, *(crate.name for crate in self.crates)]
 
-    def slowness(self) -> float:
-        """How many seconds an expected one has taken so far."""
-        spent = dict(self.measured)
-        for name in self.anew.intersection(self.now):
-            so_far = time.monotonic() - self.begun[name]
-            spent.update({name: so_far} if so_far > self.expected[name] else {})
-        return (SETTLED + sum(spent.values())) / (SETTLED + sum(self.expected[name] for name in spent))
+    def measured(self) -> dict[str, float]:
+        """What was done from nothing, with the seconds that it took."""
+        return {name: self.spent[name] for name in self.anew & self.done & self.spent.keys()}
 
-    def left_of(self, name: str, slowness: float) -> float:
-        """The seconds that are left of a crate, or of the work beside them."""
-        if name in self.done:
-            return 0.0
-        whole = self.expected[name] * slowness
-        so_far = time.monotonic() - self.begun[name] if name in self.begun else 0.0
-        return max(whole - so_far, REST * whole)
+    def left_of(self, name: str) -> float:
+        """The seconds that are left of a crate, or of the work before them."""
+        whole = 0.0 if name in self.done else self.expected[name]
+        return max(whole - self.spent.get(name, 0.0), REST * whole)
+
+    def ahead(self) -> float:
+        """How long what is left takes by the clock, if all goes as expected."""
+        left = {name: self.left_of(name) for name in self.names()}
+        return left[LOOKING] + wall_time(self.crates, left, self.lanes)
 
     def status(self) -> Status:
-        """How far the build is."""
-        slowness = self.slowness()
-        left = {name: self.left_of(name, slowness) for name in self.names()}
-        whole = sum(self.expected[name] for name in left)
+        """How far the build is. What went so far says how much slower than expected the rest will go."""
+        gone, ahead = time.monotonic() - self.start, self.ahead()
+        slowness = (SETTLED + gone) / (SETTLED + self.whole - ahead)
+        whole = sum(self.expected[name] for name in self.names())
         return Status(
             crates=len(self.crates),
             done=sum(crate.name in self.done for crate in self.crates),
-            now=said_of(self.now) or ("between crates" if self.begun else "starting"),
-            share=max(1 - sum(left.values()) / slowness / whole, 0.0),
-            gone=time.monotonic() - self.start,
-            left=left[LOOKING] + wall_time(self.crates, left, self.lanes) + left[BUILDING],
+            now=said_of(self.now) or ("between crates" if self.spent else "starting"),
+            share=max(1 - sum(map(self.left_of, self.names())) / whole, 0.0),
+            gone=gone,
+            left=slowness * ahead,
         )
 
 
@@ -110,6 +113,6 @@ def said_of(now: tuple[str, ...]) -> str:
     """What is at work, in words; empty if nothing is."""
     if LOOKING in now:
         return "reading all sources"
-    if BUILDING in now:
-        return "building the program"
+    if PROGRAM in now:
+        return "proving and building the program"
     return f"proving {', '.join(now)}" if now else ""

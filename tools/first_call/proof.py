@@ -1,9 +1,10 @@
 """The toolchain's runs: which there are, and what one is at.
 
-With memory enough one run proves crates side by side, each by one processor. It first looks through all
-sources at once, which takes seven gigabytes, and tells of each crate when it is through with it. It is ended
-before the last crates, beside which nothing can be proved: each of them is a run of its own, by all
-processors. With less memory each library is a run of its own, one after another. A last run builds the program.
+With memory enough one run proves the libraries side by side, each by one processor. It first looks through all
+sources at once, which takes seven gigabytes, and tells of each crate when it is through with it. It begins
+crates in an order of its own, and one that waits for others below holds its place meanwhile; so it gets more
+places than there are processors. It is ended before the program. With less memory each library is a run of its
+own, one after another. A last run proves the program and builds it.
 """
 from __future__ import annotations
 
@@ -13,8 +14,9 @@ from pathlib import Path
 from typing import Optional
 
 from first_call.children import commands_of
-from first_call.crates import PROGRAM, Crate, lone_at_the_end
-from first_call.seconds import BUILDING, LOOKING
+from first_call.crates import PROGRAM, Crate
+from first_call.machine import Room
+from first_call.seconds import LOOKING
 
 # What the toolchain tells while it waits for another run of its own.
 WAITS = re.compile(r"^rt: (waiting for another rt .*|.*: another copy of the repository is building .*)$")
@@ -22,39 +24,50 @@ WAITS = re.compile(r"^rt: (waiting for another rt .*|.*: another copy of the rep
 
 @dataclass(frozen=True)
 class Step:
-    """A run of the toolchain: its words, its folder, what is done once it has ended, what is at work in it, if
-    that can't be seen from its processes, and the crates that are left to later runs: it is ended once all
-    others are done."""
+    """A run of the toolchain: its words, its folder, what is done once it has ended, and the crates that are
+    left to later runs: it is ended once all others are done."""
 
     words: tuple[str, ...]
     folder: Path
     ends: tuple[str, ...]
-    work: frozenset[str] = frozenset()
     leaves: frozenset[str] = frozenset()
 
 
-def steps(crates: list[Crate], lanes: int) -> list[Step]:
+def steps(crates: list[Crate], room: Room) -> list[Step]:
     """The runs that prove the crates and build the program."""
     home = crates[-1].folder
-    words = ("rt", "run", "--", "check", "/dev/null")
-    last = Step(words, home, (PROGRAM, BUILDING), frozenset({BUILDING}))
-    if lanes == 1:
+    last = Step(("rt", "run", "--jobs", "1", "--", "check", "/dev/null"), home, (PROGRAM,))
+    if room.places == 1:
         return [*(Step(("rt", "lib"), crate.folder, (crate.name,)) for crate in crates[:-1]), last]
-    jobs = ("--jobs", str(lanes))
-    lone = lone_at_the_end(crates)
-    leaves = frozenset(crate.name for crate in lone)
-    first = [Step(("rt", "all", "check", *jobs), home, (), leaves=leaves)] if len(lone) < len(crates) else []
-    libraries = [Step(("rt", "lib", *jobs), crate.folder, (crate.name,)) for crate in lone[:-1]]
-    return [*first, *libraries, Step(("rt", "check", *jobs), home, (PROGRAM,)), last]
+    words = ("rt", "all", "check", "--jobs", str(room.places))
+    return [Step(words, home, (), leaves=frozenset({PROGRAM})), last]
 
 
-def at_work(session: int) -> frozenset[str]:
-    """What the toolchain is at in a session: the crates that it proves, or looking through all sources."""
-    found = set()
-    for words in commands_of(session):
-        if "--crate-name" in words[:-1]:
-            found.add(LOOKING if "--only" in words else words[words.index("--crate-name") + 1])
-    return frozenset(found)
+@dataclass(frozen=True)
+class Work:
+    """A process of the toolchain: what it is at, a crate or looking through all sources, and the seconds of one
+    processor that it has taken."""
+
+    process: int
+    name: str
+    spent: float
+
+
+def works(session: int) -> list[Work]:
+    """The toolchain's processes in a session."""
+    return [
+        Work(it.process, LOOKING if "--only" in it.words else it.words[it.words.index("--crate-name") + 1], it.spent)
+        for it in commands_of(session)
+        if "--crate-name" in it.words[:-1]
+    ]
+
+
+def spent_by(running: list[Work]) -> dict[str, float]:
+    """What is at work, with the seconds that all its processes have taken."""
+    spent: dict[str, float] = {}
+    for work in running:
+        spent[work.name] = spent.get(work.name, 0.0) + work.spent
+    return spent
 
 
 class Log:
