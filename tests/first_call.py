@@ -70,7 +70,8 @@ class FirstCall(unittest.TestCase):
         shutil.copytree(TOP / "tools" / "first_call", self.top / "tools" / "first_call")
         # The pretended toolchain is quicker than the true one, so it is looked at more often; and memory is enough.
         self.change("children.py", "TICK = 0.5", "TICK = 0.1")
-        self.change("machine.py", "int(found[1]) // 1_000_000 if found else 0", "16")
+        self.change("machine.py", "int(found[1]) // 1_000_000 if found else 0", "24")
+        self.change("machine.py", "len(os.sched_getaffinity(0))", "4")
         (self.top / "crates.txt").write_text(CRATES)
         for name in ("low", "middle", "beside", "high", "feast", "other"):
             (self.top / "crates" / name / "src").mkdir(parents=True)
@@ -160,7 +161,7 @@ class FirstCall(unittest.TestCase):
     def test_program_is_proved_by_the_run_that_builds_it(self) -> None:
         Call(self, ["run"], FEAST_PREVIEW="no").end()
         libraries = [f"{name} is proved" for name in ("low", "middle", "beside", "high")]
-        self.assertEqual(self.calls(), ["all check side by side 7", *libraries, "run", "feast is proved"])
+        self.assertEqual(self.calls(), ["all check side by side 16", *libraries, "run", "feast is proved"])
 
     def test_progress_is_a_bar_on_a_terminal(self) -> None:
         ours, theirs = pty.openpty()
@@ -179,7 +180,7 @@ class FirstCall(unittest.TestCase):
         self.assertRegex(told, r"preview of <run>\r\n")
 
     def test_little_memory_proves_one_after_another(self) -> None:
-        self.change("machine.py", "return 16", "return 2")
+        self.change("machine.py", "return 24", "return 2")
         ended = Call(self, ["run"]).end()
         self.assert_ran(ended, "<run>")
         runs = [it for it in self.calls() if it.startswith(("all", "lib", "run"))]

@@ -6,9 +6,9 @@ import re
 from dataclasses import dataclass
 from pathlib import Path
 
-# How many gigabytes one run over all crates wants, what each crate takes that is proved beside others, and what is
-# left to all else.
-ALL_AT_ONCE, EACH, REST = 12, 2, 2
+# How many gigabytes one run over all crates wants, and how many each crate that is proved beside others. With PLENTY
+# all crates can be proved at once that wait for no other, ten at most; there is then a multiple of places.
+ALL_AT_ONCE, EACH, PLENTY, PLACES = 12, 4, 20, 4
 
 
 @dataclass(frozen=True)
@@ -28,5 +28,5 @@ def free_memory() -> int:
 def room_here() -> Room:
     """The room on this machine: one place if it has little memory."""
     memory = free_memory()
-    places = (memory - REST) // EACH if memory >= ALL_AT_ONCE else 1
-    return Room(places, min(len(os.sched_getaffinity(0)), places))
+    lanes = min(len(os.sched_getaffinity(0)), memory // EACH) if memory >= ALL_AT_ONCE else 1
+    return Room(PLACES * lanes if memory >= PLENTY else lanes, lanes)

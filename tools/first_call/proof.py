@@ -3,8 +3,8 @@
 With memory enough one run proves the libraries side by side, each by one processor. It first looks through all
 sources at once, which takes seven gigabytes, and tells of each crate when it is through with it. It begins
 crates in an order of its own, and one that waits for others below holds its place meanwhile; so it gets more
-places than there are processors. It is ended before the program. With less memory each library is a run of its
-own, one after another. A last run proves the program and builds it.
+places than there are processors if memory allows. It is ended before the program. With little memory each library
+is a run of its own, one after another. A last run proves the program and builds it.
 """
 from __future__ import annotations
 
