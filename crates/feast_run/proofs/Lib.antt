@@ -4,6 +4,7 @@ pub mod AuditedLater
 pub mod CodeStages
 pub mod Ended
 pub mod Generated
+pub mod GeneratedSource
 pub mod Judged
 pub mod Laws
 pub mod Loads

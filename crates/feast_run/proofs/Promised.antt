@@ -34,7 +34,7 @@ use Rattle.feast_run.specs.declared.status.Status.{Status}
 use Rattle.feast_run.specs.declared.status.Status.TheVariants as how
 use Rattle.feast_run.specs.declared.halt.Input.{Input}
 use Rattle.feast_run.specs.declared.halt.Input.TheVariants as input
-use Rattle.generated_world.proofs.Accepted.{two_names}
+use Rattle.feast_run.proofs.GeneratedSource.Accepted.{two_names}
 
 -- a form of element files that showed a text, part by part
 set_told : (text : SetValue → List ℕ) (files : List File) (words : List (List ℕ)) (appended : List ℕ) → and_then (set_of (Some files) words) (shows text) (Ok appended) → SetTold text files words appended

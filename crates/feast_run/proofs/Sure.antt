@@ -23,8 +23,8 @@ use Rattle.feast_run.specs.Promises.{IsCodeFile, IsGood, IsGoodReady, IsGoodWorl
 use Rattle.feast_run.specs.Stages.{JournalValue, ReadyValue, builds, draft_of, element_limit, journal_in, journal_limit, journal_of, journal_refused, journal_said, load, load_more, coded, named_by, ready, ready_by, ready_with, set_of, sourced, world_limit, world_refused}
 use Rattle.feast_run.specs.Stepped.{IsSteppedRun, stepped_report}
 use Rattle.feast_run.specs.declared.halt.Input.TheVariants as input
-use Rattle.generated_world.proofs.Accepted.{accepted}
-use Rattle.generated_world.specs.Elements.{source_files}
+use Rattle.feast_run.proofs.GeneratedSource.Accepted.{accepted}
+use Rattle.feast_run.specs.GeneratedElements.{source_files}
 use Rattle.world_text.specs.Drafts.{DraftValue}
 use Rattle.world_text.specs.Named.{WorldValue, named}
 use Rattle.world_text.specs.Reading.{read_text}

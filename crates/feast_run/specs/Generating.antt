@@ -7,7 +7,7 @@ use Rattle.feast_run.specs.Halting.{HaltValue, misses, refuses}
 use Rattle.feast_run.specs.Elements.{ElementsValue, source_elements}
 use Rattle.feast_run.specs.Stages.{ReadyValue, ready_with}
 use Rattle.feast_run.specs.Stepped.{IsSteppedRun, machine_of, stepped_logs}
-use Rattle.generated_world.specs.Elements.{source_files}
+use Rattle.feast_run.specs.GeneratedElements.{source_files}
 use Rattle.generated_world.specs.Generated.{generated}
 use Rattle.generated_world.specs.Summary.{summary}
 

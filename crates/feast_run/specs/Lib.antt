@@ -9,6 +9,7 @@ pub mod Elements
 pub mod Ending
 pub mod Faults
 pub mod Forms
+pub mod GeneratedElements
 pub mod Generating
 pub mod Halting
 pub mod Naming

@@ -23,7 +23,7 @@ use Rattle.feast_run.specs.Elements.{ElementsValue, code_elements, source_elemen
 use Rattle.feast_run.specs.Stages.{JournalValue, coded, ready_with, sourced, draft_of, element_limit, journal_limit, journal_of, journal_said, world_limit}
 use Rattle.feast_run.specs.declared.status.Status.{Status}
 use Rattle.feast_run.specs.declared.status.Status.TheVariants as how
-use Rattle.generated_world.specs.Elements.{source_files}
+use Rattle.feast_run.specs.GeneratedElements.{source_files}
 use Rattle.report_judge.specs.Judging.{judgement_text}
 use Rattle.report_judge.specs.declared.judgement.Judgement.TheVariants.{Yes}
 use Rattle.world_text.specs.Drafts.{DraftValue}

@@ -12,10 +12,11 @@ ghost use Rattle.world_text.specs.Values.{order_value, world_value};
 
 use crate::acting::{actors, tiles_in};
 use crate::elements::Elements;
+use crate::generated_elements::elements;
 use crate::halt::Halt;
 use crate::output::Output;
 use feast_base::NoMemory;
-use generated_world::{elements, generated, summary};
+use generated_world::{generated, summary};
 use serial_order::Outcome;
 use std::alloc::Global;
 use world_runs::{map_of, stepped};

@@ -9,8 +9,8 @@ use Rattle.ulam_names.specs.Classes.{program}
 use Rattle.ulam_names.specs.Scopes.{built_in, of_window, of_random}
 use Rattle.ulam_tree.specs.Resolved as r
 use Rattle.ulam_tree.specs.Ways.{leads}
-use Rattle.generated_world.proofs.Found.{found, is_found}
-use Rattle.generated_world.proofs.Trees.{tree}
+use Rattle.feast_run.proofs.GeneratedSource.Found.{found, is_found}
+use Rattle.feast_run.proofs.GeneratedSource.Trees.{tree}
 
 unfoldable pub classes : List r.Class
 classes = found (program tree)

@@ -12,9 +12,9 @@ use Rattle.ulam_tree.specs.Typed as t
 use Rattle.ulam_tree.specs.Ways.{leads}
 use Rattle.ulam_types.specs.Bodies.{body}
 use Rattle.ulam_types.specs.Walk.{expr}
-use Rattle.generated_world.proofs.Naming.{classes}
-use Rattle.generated_world.proofs.Trees.{tree}
-use Rattle.generated_world.proofs.Typing.{typed}
+use Rattle.feast_run.proofs.GeneratedSource.Naming.{classes}
+use Rattle.feast_run.proofs.GeneratedSource.Trees.{tree}
+use Rattle.feast_run.proofs.GeneratedSource.Typing.{typed}
 
 abbrev pub own_set : SetValue
 own_set = record { classes = typed; layout = layout_of classes }

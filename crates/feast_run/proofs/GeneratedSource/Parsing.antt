@@ -19,9 +19,9 @@ use Rattle.ulam_parse.specs.Statements.{cond, index_in, left, maybe, start, decl
 use Rattle.ulam_parse.specs.Tokens.{Tok, toks, keywords, signs}
 use Rattle.ulam_tree.specs.Raw.{Item}
 use Rattle.ulam_tree.specs.Ways.{leads}
-use Rattle.generated_world.specs.Elements.{source_text}
-use Rattle.generated_world.proofs.Lexing.{pieces, tokens, are_tokens}
-use Rattle.generated_world.proofs.Trees.{tree}
+use Rattle.feast_run.specs.GeneratedElements.{source_text}
+use Rattle.feast_run.proofs.GeneratedSource.Lexing.{pieces, tokens, are_tokens}
+use Rattle.feast_run.proofs.GeneratedSource.Trees.{tree}
 
 -- what the parser sees
 unfoldable pub seen : List Tok

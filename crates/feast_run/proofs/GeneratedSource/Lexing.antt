@@ -4,9 +4,9 @@ use Rattle.std.specs.Prelude.{is_some}
 use Rattle.ulam_lex.specs.declared.token.Token.{Token}
 use Rattle.ulam_lex.specs.Bytes.{keywords, signs}
 use Rattle.ulam_lex.specs.Texts.{IsTokensOf, TextPiece, tokens_after, end_token, most_tokens}
-use Rattle.generated_world.specs.Elements.{source_text}
-use Rattle.generated_world.proofs.Found.{listed, is_listed}
-use Rattle.generated_world.proofs.Reader.{pieces_in, pieces_stand}
+use Rattle.feast_run.specs.GeneratedElements.{source_text}
+use Rattle.feast_run.proofs.GeneratedSource.Found.{listed, is_listed}
+use Rattle.feast_run.proofs.GeneratedSource.Reader.{pieces_in, pieces_stand}
 
 unfoldable pub pieces : List TextPiece
 pieces = listed (pieces_in 200 source_text)

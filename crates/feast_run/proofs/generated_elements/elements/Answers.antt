@@ -1,7 +1,7 @@
 use Rattle.std.proofs.Common.{[], ◌∷◌, Err, ap, ◌∙◌}
 use Rattle.feast_base.specs.Outside.{File}
-use Rattle.generated_world.proofs.Accepted.{is_set, not_refused, short}
-use Rattle.generated_world.proofs.built.elements.Goals as goal
+use Rattle.feast_run.proofs.GeneratedSource.Accepted.{is_set, not_refused, short}
+use Rattle.feast_run.proofs.generated_elements.elements.Goals as goal
 
 pub build-requires-clause-short : goal.build-requires-clause-short
 build-requires-clause-short c = short (c.in_ok-source.field-0 ∷ []) (ap (λ (f : File). f ∷ []) c.in_ok-source.ensures)

@@ -1,7 +1,7 @@
 use Rattle.std.proofs.Common.{◌≡◌, ℕ, List, IfOk, codes, subst}
 use Rattle.feast_base.specs.Outside.{File}
-use Rattle.generated_world.specs.Elements.{source_text}
-use Rattle.generated_world.proofs.built.source.Goals as goal
+use Rattle.feast_run.specs.GeneratedElements.{source_text}
+use Rattle.feast_run.proofs.generated_elements.source.Goals as goal
 
 pub returns : goal.returns
 unfolding source_text

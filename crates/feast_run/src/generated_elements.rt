@@ -1,7 +1,7 @@
 //! The set of the elements of generated worlds.
 ghost use Rattle.std.specs.Prelude.{◌≡◌, IfOk, codes};
 ghost use Rattle.element_set.specs.Sets.{AcceptsFiles, set_value};
-ghost use Rattle.generated_world.specs.Elements.{source_files, source_text};
+ghost use Rattle.feast_run.specs.GeneratedElements.{source_files, source_text};
 
 use element_set::{BuildFault, ElementSet};
 use feast_base::{NoMemory, Source};

@@ -11,9 +11,9 @@ use Rattle.ulam_types.specs.Bodies.{body}
 use Rattle.ulam_types.specs.ProgramTyping.{IsTypedProgram}
 use Rattle.ulam_types.specs.Programs.{program}
 use Rattle.ulam_types.specs.Walk.{expr}
-use Rattle.generated_world.proofs.Found.{found, is_found}
-use Rattle.generated_world.proofs.Naming.{classes}
-use Rattle.generated_world.proofs.Trees.{tree}
+use Rattle.feast_run.proofs.GeneratedSource.Found.{found, is_found}
+use Rattle.feast_run.proofs.GeneratedSource.Naming.{classes}
+use Rattle.feast_run.proofs.GeneratedSource.Trees.{tree}
 
 unfoldable pub typed : List t.Class
 typed = found (program classes)

@@ -10,13 +10,13 @@ use Rattle.element_set.specs.declared.set.ElementSet.{ElementSet}
 use Rattle.element_set.specs.Stages.{flat_set, more_trees, no_trees, tree_of, with_tree}
 use Rattle.feast_base.specs.Outside.{File}
 use Rattle.feast_base.specs.declared.place.Refusal.{Refusal}
-use Rattle.generated_world.specs.Elements.{source_files, source_text}
-use Rattle.generated_world.proofs.Coding.{are_short, own_set, two_names_of}
-use Rattle.generated_world.proofs.Lexing.{tokens, are_tokens, few_tokens}
-use Rattle.generated_world.proofs.Naming.{classes, are_classes, not_wide}
-use Rattle.generated_world.proofs.Parsing.{are_heads, is_flat, is_tree, no_fault, seen}
-use Rattle.generated_world.proofs.Trees.{tree}
-use Rattle.generated_world.proofs.Typing.{typed, are_typed}
+use Rattle.feast_run.specs.GeneratedElements.{source_files, source_text}
+use Rattle.feast_run.proofs.GeneratedSource.Coding.{are_short, own_set, two_names_of}
+use Rattle.feast_run.proofs.GeneratedSource.Lexing.{tokens, are_tokens, few_tokens}
+use Rattle.feast_run.proofs.GeneratedSource.Naming.{classes, are_classes, not_wide}
+use Rattle.feast_run.proofs.GeneratedSource.Parsing.{are_heads, is_flat, is_tree, no_fault, seen}
+use Rattle.feast_run.proofs.GeneratedSource.Trees.{tree}
+use Rattle.feast_run.proofs.GeneratedSource.Typing.{typed, are_typed}
 
 read : tree_of 0 source_text (Ok (record { items = tree; heads = no_heads }))
 unfolding seen
