@@ -45,3 +45,4 @@ pub mod ElementRounds
 pub mod ElementBuilds
 pub mod Mapped
 mod Making
+mod Emitted

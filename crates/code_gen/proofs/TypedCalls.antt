@@ -1,6 +1,7 @@
 -- Calls in the code's trees.
-use Rattle.std.proofs.Common.{◌≡◌, ℕ, ◌<◌, min, List, [], ◌∷◌, length, drop, Option, Bool, true, false, ⊎_elim, refl, ap, sym, ◌∙◌, arith}
+use Rattle.std.proofs.Common.{◌≡◌, ℕ, ◌+◌, ◌<◌, min, List, [], ◌∷◌, length, drop, get_or, Option, Bool, true, false, ⊎_elim, refl, ap, sym, ◌∙◌, arith}
 use Rattle.std.specs.Prelude.{◌==◌, if◌then◌else◌}
+use Rattle.std.proofs.lemmas.List.{drop_more}
 use Rattle.std.proofs.lemmas.Bool.{cases_lt, eqb-true, eqb-false}
 use Rattle.sat_math.specs.declared.NumType.{NumType}
 use Rattle.ulam_tree.specs.Typed as t
@@ -16,7 +17,7 @@ use Rattle.ulam_meaning.specs.Paths.{Scene, callee}
 use Rattle.stack_code.specs.declared.instr.Instr.TheVariants.{Pop}
 use Rattle.code_gen.specs.Pieces.{Piece, none, seq, plain}
 use Rattle.code_gen.specs.Clipped.{clip}
-use Rattle.code_gen.specs.Scheme.{nowhere, call_piece, if_nothing, expr_piece, form_piece, args_piece, statement_piece}
+use Rattle.code_gen.specs.Scheme.{nowhere, fit, call_piece, if_nothing, expr_piece, form_piece, args_piece, statement_piece}
 
 call_is : (x : k.Call) → typed_call x ≡ t.calls (resolved_path (k.out-Call x).path) (typed_args (k.out-Call x).args.items)
 call_is x = ap typed_call (sym (k.roll-out-Call x)) ∙ typed_call_is (k.out-Call x).path (k.out-Call x).args
@@ -66,3 +67,16 @@ args_first z es cs m p e h = by (length es == length cs) refl h
         (λ lt. let at : length es ≡ m = omega (arith, lt, e) in args_more z es cs lt ∙ ap (λ m. clip (args_piece z (typed_args (drop m es)) (drop m cs))) at)
         (λ le. let lt : length cs < length es = omega (arith, le, other) in let at : length cs ≡ m = omega (arith, lt, e) in args_fewer z es cs lt ∙ ap (λ m. clip (args_piece z (typed_args (drop m es)) (drop m cs))) at)
         (cases_lt (length es) (length cs))
+
+-- one more argument before others
+pub args_next : (z : Scene) (es : List Expr) (cs : List (Option NumType)) (i j : ℕ) (x : Expr) (d : Option NumType) (v f p q : Piece) → i + 1 ≡ j → i < length es → i < length cs → x ≡ get_or es i x →
+    v ≡ clip (expr_piece z (typed_expr x)) → f ≡ clip (fit (get_or cs i d)) → p ≡ clip (args_piece z (typed_args (drop j es)) (drop j cs)) → q ≡ seq v (seq f p) →
+    q ≡ clip (args_piece z (typed_args (drop i es)) (drop i cs))
+args_next z es cs i j x d v f p q e h k is ev ef ep eq =
+    let value = clip (expr_piece z (typed_expr (get_or es i x))) in
+    let cast = clip (fit (get_or cs i d)) in
+    eq
+    ∙ ap (λ v. seq v (seq f p)) (ev ∙ ap (λ y. clip (expr_piece z (typed_expr y))) is)
+    ∙ ap (λ f. seq value (seq f p)) ef
+    ∙ ap (λ p. seq value (seq cast p)) (ep ∙ ap (λ k. clip (args_piece z (typed_args (drop k es)) (drop k cs))) (sym e))
+    ∙ sym (ap (λ l. clip (args_piece z (typed_args l) (drop i cs))) (drop_more es i x h) ∙ ap (λ l. clip (args_piece z (typed_args (get_or es i x ∷ drop (i + 1) es)) l)) (drop_more cs i d k))

@@ -1,4 +1,4 @@
-use Rattle.std.proofs.Common.{rules, arith, refl, sym, ◌≡◌, ◌∙◌, ap, drop}
+use Rattle.std.proofs.Common.{rules, ◌-◌, arith, refl, sym, ◌≡◌, ◌∙◌, ap, drop}
 use Rattle.std.proofs.lemmas.Grind.{common_steps}
 use Rattle.std.proofs.lemmas.Result.{IfOk-weaker}
 use Rattle.ulam_tree.specs.TypedViews.{typed_args}
@@ -11,7 +11,7 @@ use Rattle.code_gen.specs.Views.{piece_of}
 use Rattle.code_gen.proofs.Clips.{call_done, pair_by}
 use Rattle.std.specs.Box.{box_value}
 use Rattle.code_gen.proofs.Making.{made_is}
-use Rattle.code_gen.proofs.TypedCalls.{call_at, args_first}
+use Rattle.code_gen.proofs.TypedCalls.{call_at, args_first, args_next}
 use Rattle.code_gen.proofs.expr.+expr.Goals as goal
 
 pub args-loop-i-init : goal.args-loop-i-init
@@ -62,3 +62,8 @@ expr-returns-in_ok-right-in-Pair t c =
     let d : c.deref-in-Pair.result.now ≡ box_value c.in-Pair.left = search rules in
     let b : c.deref-in-Pair-2.result.now ≡ box_value c.in-Pair.right = search rules in
     made_is _ _ _ (rw (c.in-Pair.is, c.in_ok-left-in-Pair.ensures, c.in_ok-right-in-Pair.ensures, d, b) (sym (pair_by (scene_of c.args.scene.now) _ _ _ _ _))) c.pair.ensures
+
+pub args-loop-i-preserved : goal.args-loop-i-preserved
+args-loop-i-preserved t c =
+    let i = c.loop-i.i in
+    args_next (scene_of c.args.scene.now) c.args.list.now c.args.casts.now (i - 1) i c.index-list-i.result _ (piece_of c.in_ok-value.value) (piece_of c.fit.result) (piece_of c.loop-i.piece) (piece_of c.in_ok-piece.piece) (omega arith) (omega (arith, c.min-both.ensures)) (omega (arith, c.min-both.ensures)) c.index-list-i.is c.in_ok-value.ensures c.fit.ensures c.loop-i.invariant c.in_ok-piece.ensures
