@@ -4,7 +4,7 @@ ghost use Rattle.std.specs.Iterator.{IsFinite, HoldsAlong};
 ghost use Rattle.tile_map.specs.Plane.{tiles_of};
 ghost use Rattle.edge_lock.specs.PlainBoard.{sizes_of_board};
 ghost use Rattle.serial_order.specs.Scene.{Setting};
-ghost use Rattle.stepped_world.specs.Running.{IsStart, AreUnderway, Follows, HasFewerAhead, on_board, rest_of, rest_of_all, stands_still, step_of, steps_by};
+ghost use Rattle.stepped_world.specs.Running.{IsStart, AreUnderway, Follows, HasFewerAhead, on_board, is_still, rest_of, rest_of_all, stands_still, step_of, steps_by};
 ghost use Rattle.stepped_world.specs.Ends.{DrainsTo, FromStart, HasRun, IsAsStepped};
 
 use cell_grid::Behave;
@@ -12,12 +12,19 @@ use edge_lock::PlainBoard;
 use tile_core::{Phase, Tile};
 use tile_map::Map;
 
+/// Whether no step does anything in a phase.
+fn is_still(phase: Phase) -> bool
+    ensures { result ≡ is_still phase }
+{
+    matches!(phase, Phase::Finished | Phase::Worn)
+}
+
 /// Whether no step of a tile does anything any more.
-fn is_still<B: Behave>(tiles: &[Tile<B>], tile: u32) -> bool
+fn stands_still<B: Behave>(tiles: &[Tile<B>], tile: u32) -> bool
     requires { tile < length tiles.now }
     ensures { result ≡ stands_still (slice_get tiles.now tile) }
 {
-    matches!(tiles[tile as usize].phase(), Phase::Finished | Phase::Worn)
+    is_still(tiles[tile as usize].phase())
 }
 
 /// Lets a tile make one step.
@@ -39,7 +46,7 @@ fn finish_one<B: Behave>(map: &Map, tiles: &mut [Tile<B>], board: &mut PlainBoar
     ensures follows { Follows B.after map.now (on_board tiles.old board.old) (on_board tiles.new board.new) (rest_of tile) }
     ensures still { IsTrue (stands_still (slice_get tiles.new tile)) }
 {
-    while !is_still(tiles, tile) {
+    while !stands_still(tiles, tile) {
         step_one(map, tiles, board, tile);
     }
 }

@@ -1,12 +1,11 @@
 -- An event at an empty centre: the window as the tile's cells show it is what it sees, and what it leaves.
-use Rattle.std.proofs.Common.{◌≡◌, ℕ, ◌+◌, ◌<◌, Bool, true, false, length, refl, sym, ap, ◌∙◌, arith, Option, Some, None}
-use Rattle.std.specs.Prelude.{is_some, map, slice_index_or, if◌then◌else◌}
+use Rattle.std.proofs.Common.{◌≡◌, ℕ, ◌<◌, Bool, true, false, sym, ap, ◌∙◌, arith}
+use Rattle.std.specs.Prelude.{is_some, map, if◌then◌else◌}
 use Rattle.std.proofs.lemmas.List.FromFn.{length-map-range_with_len, get_or-map-range_with_len}
 use Rattle.bit_field.specs.Atom.{AtomValue, empty_atom}
 use Rattle.window_sites.specs.Inner.{site_numbers}
-use Rattle.window_sites.specs.Window.{WindowValue, atom_at, live_at}
-use Rattle.tile_map.specs.Plane.{Site, MapValue, is_live}
-use Rattle.tile_map.specs.Edges.{window_site}
+use Rattle.window_sites.specs.Window.{atom_at, live_at}
+use Rattle.tile_map.specs.Plane.{Site, is_live}
 use Rattle.border_cache.specs.Cells.{cell_value}
 use Rattle.border_cache.specs.Windows.{is_shown, IsView}
 use Rattle.border_cache.specs.Copies.{CacheValue, held_cell, cell_for, window_cells, shown_atom, Marked, Stamped}

@@ -1,15 +1,16 @@
 -- What contracts see of a state after some of its fields have changed.
-use Rattle.std.proofs.Common.{◌≡◌, ℕ, ◌+◌, [], ◌∷◌, Bool, true, false, List, length, refl, sym, ap, ◌∙◌, subst, arith}
+use Rattle.std.proofs.Common.{◌≡◌, ℕ, zero, suc, ◌+◌, [], ◌∷◌, Bool, true, false, List, length, refl, sym, ap, ◌∙◌, subst, arith}
 use Rattle.std.specs.Prelude.{if◌then◌else◌}
 use Rattle.window_sites.specs.Window.{WindowValue}
 use Rattle.tile_map.specs.Plane.{Site, MapValue, site, is_live}
 use Rattle.border_cache.specs.Windows.{IsView}
 use Rattle.border_cache.specs.Copies.{window_cells}
 use Rattle.tile_core.specs.declared.phase.Phase.{Phase}
-use Rattle.tile_core.specs.declared.phase.Phase.TheVariants.{Draw, Lock, Refresh, Write}
+use Rattle.tile_core.specs.declared.phase.Phase.TheVariants.{Draw, Lock, Refresh, Write, Back}
+use Rattle.draw_stream.specs.declared.attempt.Attempt.{Attempt}
 use Rattle.tile_core.specs.declared.state.State.{State}
-use Rattle.tile_core.specs.Values.{TileValue, no_window}
-use Rattle.tile_core.specs.Steps.{begun, Behaves}
+use Rattle.tile_core.specs.Values.{no_window}
+use Rattle.tile_core.specs.Steps.{begun, over, refused_phase, Behaves}
 use Rattle.tile_core.specs.Kept.{value_of, window_seen, until_written}
 use Rattle.tile_core.proofs.Idle.{seen_view}
 
@@ -35,6 +36,28 @@ begun_value s x y seed found needs p draw same is =
     let none : until_written p a ≡ until_written s.phase b = ap (λ q. until_written q a) is ∙ begun_window found a ∙ sym (ap (λ q. until_written q b) draw) in
     let phase : p ≡ begun needs = is ∙ ap begun same in
     λ i. record (value_of s) { taken = s.taken + 1; x = x; y = y; seed = seed; needs = same i; next = 0; window = none i; phase = phase i }
+
+-- after a refusal
+refused_window : (n : ℕ) (left : List Attempt) (w : WindowValue) → until_written (refused_phase n left) w ≡ no_window
+refused_window zero [] w = refl
+refused_window zero (a ∷ others) w = refl
+refused_window (suc n) left w = refl
+
+pub refused_none : (n : ℕ) (left : List Attempt) → n ≡ 0 → refused_phase n left ≡ over left
+refused_none zero left h = refl
+refused_none (suc n) left h = absurd (omega (arith, h))
+
+pub refused_some : (n : ℕ) (left : List Attempt) → (n ≡ 0 → ⊥) → refused_phase n left ≡ Back
+refused_some zero left h = absurd (h refl)
+refused_some (suc n) left h = refl
+
+pub refused_value : (s : State) (p : Phase) → s.phase ≡ Lock → p ≡ refused_phase s.next s.attempts
+    → record (value_of s) { next = 0; count = s.next; window = until_written p (if s.idle then window_seen s.cache (site s.x s.y) else s.window); phase = p }
+    ≡ record (value_of s) { next = 0; count = s.next; phase = refused_phase s.next s.attempts }
+refused_value s p lock is =
+    let w = (if s.idle then window_seen s.cache (site s.x s.y) else s.window) in
+    let none : until_written p w ≡ until_written s.phase w = ap (λ q. until_written q w) is ∙ refused_window s.next s.attempts w ∙ sym (ap (λ q. until_written q w) lock) in
+    λ i. record (value_of s) { next = 0; count = s.next; window = none i; phase = is i }
 
 module _ (m : MapValue) (meaning : WindowValue → ℕ → WindowValue) (s : State) where
   abbrev c : Site

@@ -1,4 +1,5 @@
-use Rattle.std.proofs.Common.{◌≡◌, ◌≤◌, ◌<◌, ◌+◌, ◌-◌, arith, length, subst}
+use Rattle.std.proofs.Common.{◌≡◌, ◌≤◌, ◌<◌, ◌+◌, ◌-◌, arith, length, subst, take}
+use Rattle.cell_grid.specs.Records.{replay}
 use Rattle.report_judge.specs.Rewinding.{IsAt, reel}
 use Rattle.report_judge.proofs.BackAgain.{alike_then, can_undo, taken_back}
 use Rattle.report_judge.proofs.rewinding.rewound.Goals as goal
@@ -29,3 +30,18 @@ loop-taken-preserved g c =
           (subst (λ q. IsAt after c.args.start records q (reel c.loop-taken.film c.loop-taken.grid)) next c.loop-taken.invariant.at) c.undo.ensures.undoes;
       plane = alike_then c.args.start c.loop-taken.grid c.undo.new.grid c.loop-taken.invariant.plane c.undo.ensures.plane;
     }
+
+pub loop-taken-init : goal.loop-taken-init
+loop-taken-init g c =
+    let records = c.args.records.now in
+    let all : length records ≡ length records + c.args.count - c.args.count = omega arith in
+    record {
+      at = subst (λ k. IsAt (g.B.Behave.after c.args.behave.now) c.args.start records k (reel c.run.new.film c.run.new.grid)) all c.run.ensures.at;
+      plane = c.run.ensures.plane;
+    }
+
+pub returns : goal.returns
+returns g c =
+    let records = c.args.records.now in
+    let left : length records + c.args.count - c.loop-taken._taken ≡ c.args.count = omega (arith, c.loop-taken-test.false, c.loop-taken.auto._taken-end, c.requires.count) in
+    subst (λ k. c.loop-taken.grid ≡ replay (g.B.Behave.after c.args.behave.now) c.args.start (take k records)) left c.loop-taken.invariant.at.grid_is

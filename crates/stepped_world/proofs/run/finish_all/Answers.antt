@@ -30,3 +30,6 @@ returns-clause-follows g c =
     let e : c.loop-tile.tile ≡ tiles_of c.args.map.now = omega (arith, n, past, end) in
     let f = subst (λ k. Follows g.B.Behave.after c.args.map.now (on_board c.args.tiles.now c.args.board.now) (on_board c.loop-tile.tiles c.loop-tile.board) (rest_by (range_with_len 0 k))) e c.loop-tile.invariant.done in
     record { underway = f.underway; like = f.like; still = f.still; sizes = f.sizes }
+
+pub returns-clause-still : goal.returns-clause-still
+returns-clause-still g c = λ t lt. c.loop-tile.invariant.still t (omega (arith, lt, c.tiles-tile-end.ensures.count, c.loop-tile-test.false, c.loop-tile.auto.tile-end))

@@ -19,5 +19,5 @@ returns-clause-follows g c =
     let i = c.loop-tiles.invariant in
     let r = c.requires.ready in
     let n = (i.keeps r.0 r.1).count in let lt = c.requires.tile in
-    let still = sym c.is_still.ensures ∙ c.loop-tiles-test.false in
+    let still = sym c.stands_still.ensures ∙ c.loop-tiles-test.false in
     i.rest c.loop-tiles.tiles c.loop-tiles.board (rests g.B.Behave.after c.args.map.now c.loop-tiles.tiles c.loop-tiles.board c.args.tile (omega (arith, n, lt)) still)

@@ -1,8 +1,7 @@
-use Rattle.std.proofs.Common.{◌≡◌, List, [], ◌∷◌, length, refl, sym, ◌∙◌, arith, ap}
+use Rattle.std.proofs.Common.{◌≡◌, sym, ◌∙◌, arith}
 use Rattle.tile_map.specs.Plane.{site}
 use Rattle.tile_map.specs.Edges.{needs_of}
 use Rattle.tile_map.proofs.Spans.{plane_test}
-use Rattle.tile_core.specs.declared.phase.Phase.TheVariants.{Lock, Refresh}
 use Rattle.tile_core.specs.Steps.{begun}
 use Rattle.tile_core.proofs.Kept.{begun_value, begun_none, begun_some}
 use Rattle.tile_core.proofs.state.State.begin.Goals as goal

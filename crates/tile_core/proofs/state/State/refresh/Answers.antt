@@ -1,7 +1,8 @@
-use Rattle.std.proofs.Common.{refl, sym, ap, subst, inr}
+use Rattle.std.proofs.Common.{refl, sym, ap, subst, inl, inr, arith}
 use Rattle.border_cache.specs.Copies.{IsEndOf}
 use Rattle.border_cache.proofs.Stored.{end_stays}
 use Rattle.tile_core.specs.Kept.{left_window, until_written, value_of}
+use Rattle.tile_core.specs.declared.phase.Phase.TheVariants.{Worn}
 use Rattle.tile_core.specs.Steps.{refreshed}
 use Rattle.std.proofs.Common.{◌++◌}
 use Rattle.tile_core.specs.Clocks.{ReadsClocks}
@@ -51,3 +52,20 @@ refresh-requires-clause-board g c =
 
 pub read_clocks-greatest-requires-clause-rising : goal.read_clocks-greatest-requires-clause-rising
 read_clocks-greatest-requires-clause-rising g c = c.requires.phase.4.needs.rising
+
+pub returns-then-greatest-ge-LAST_STAMP-clause-refreshes : goal.returns-then-greatest-ge-LAST_STAMP-clause-refreshes
+returns-then-greatest-ge-LAST_STAMP-clause-refreshes g c =
+    let s = c.args.self.now in
+    let t = value_of s in
+    let window = ap (λ p. until_written p (left_window s)) c.requires.phase.3 in
+    let a = (g.D.Board.end c.args.board.now).lists in
+    let b = (g.D.Board.end c.read_clocks-greatest.new.board).lists in
+    record {
+      top = c.read_clocks-greatest.result;
+      between = b;
+      clocks = subst (λ n. ReadsClocks t.needs n c.read_clocks-greatest.result a b) c.from.ensures c.read_clocks-greatest.ensures.read;
+      step = inl (record { high = c.if-greatest-ge-LAST_STAMP.true; lists_are = refl; is = λ i. record t { phase = Worn; window = sym window i } });
+    }
+
+pub overflow_add-self : goal.overflow_add-self
+overflow_add-self g c = record { fits = omega (arith, c.if-greatest-ge-LAST_STAMP.false) }
