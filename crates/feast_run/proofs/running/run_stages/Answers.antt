@@ -1,4 +1,4 @@
-use Rattle.feast_run.proofs.Telling.{moves_exit, moves_last, tells_then, tells_exit}
+use Rattle.feast_run.proofs.Telling.{moves_last, tells_then, tells_exit}
 use Rattle.feast_run.specs.Answer.{runs}
 use Rattle.feast_run.specs.Outputs.{output_text}
 use Rattle.feast_run.specs.Values.{ready_value}
