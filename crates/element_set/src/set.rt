@@ -16,7 +16,6 @@ use ulam_tree::typed::Typed;
 
 /// The elements of some files: all classes of the files with their types, the layout of each, and
 /// the code of each element. Contracts see a set as its classes and their layout, by `set_value`.
-#[derive(Drop)]
 pub struct ElementSet {
     pub(crate) typed: Typed,
     pub(crate) layout: Layout,
@@ -26,6 +25,19 @@ pub struct ElementSet {
     ghost kept: { IsKept (set_view typed layout) names.items numbers },
     ghost coded: { codes.items ≡ element_codes (program_of (set_view typed layout)) },
     ghost compiled: { ∥ IsCompiled (set_view typed layout) ∥₁ },
+}
+
+// Written by hand, not derived: so a caller drops it by one call.
+impl Drop for ElementSet {
+    fn drop(self) {
+        let ElementSet {
+            typed,
+            layout,
+            names,
+            numbers,
+            codes,
+        } = self;
+    }
 }
 
 impl ElementSet {

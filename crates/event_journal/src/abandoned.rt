@@ -1,7 +1,7 @@
 //! The attempts that were given up.
 
 /// An attempt that was given up because an edge that it needs was held.
-#[derive(Clone, Copy, Debug, PartialEq, Eq)]
+#[derive(Clone, Copy, PartialEq, Eq)]
 pub struct Abandoned {
     /// The tile that made the attempt.
     pub tile: u32,

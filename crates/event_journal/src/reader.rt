@@ -20,12 +20,18 @@ use text_lines::next_ended;
 use tile_map::Map;
 
 /// The events and the abandoned attempts of a report, in the order of its text.
-#[derive(Drop)]
 pub struct ReadJournal {
     /// The events.
     pub records: Vec<Record>,
     /// The abandoned attempts.
     pub abandoned: Vec<Abandoned>,
+}
+
+// Written by hand, not derived: so a caller drops it by one call.
+impl Drop for ReadJournal {
+    fn drop(self) {
+        let ReadJournal { records, abandoned } = self;
+    }
 }
 
 /// A cursor for each tile of a plan.

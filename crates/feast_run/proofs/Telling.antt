@@ -3,7 +3,7 @@ use Rattle.std.proofs.Common.{ℕ, ◌≡◌, List, [], ◌∷◌, ◌++◌, Res
 use Rattle.std.specs.Result.{IsErrAnd}
 use Rattle.feast_base.specs.Outside.{ShelfState}
 use Rattle.feast_base.specs.Stages.{Stage, and_then}
-use Rattle.feast_run.specs.Halting.{HaltValue}
+use Rattle.feast_run.specs.Halting.{HaltValue, misses}
 use Rattle.feast_run.specs.Tellings.{Keeps, Moves, Tells}
 use Rattle.feast_run.specs.declared.halt.Halt.{Halt}
 use Rattle.feast_run.specs.declared.halt.Halt.TheVariants.{Refused, Missing, NoMemory}
@@ -50,6 +50,13 @@ moved X Y a b c NoMemory p q = keeps_then a b c p q
 pub moves_then : {X : Type 0} (a b c : ShelfState) (r : Result X Halt) → Keeps a b → Moves b c r → Moves a c r
 moves_then {X = X} a b c (Ok x) p q = keeps_then a b c p q
 moves_then {X = X} a b c (Err halt) p q = moved X X a b c halt p q
+
+-- a stage that passed, and then an answer of one that misses no word
+pub moves_last : {X A : Type 0} (value : X → A) (S : Stage A HaltValue) (a b : ShelfState) (r : Result X Halt) → ((w : List ℕ) → S (Err (misses w)) → ⊥) → Keeps a b → Tells value S r → Moves a b r
+moves_last value S a b (Ok x) none p t = p
+moves_last value S a b (Err (Refused s)) none p t = p
+moves_last value S a b (Err (Missing w)) none p t = absurd (none w.now t)
+moves_last value S a b (Err NoMemory) none p t = p
 
 pub moves_exit : (X Y : Type 0) (a b c : ShelfState) (halt : Halt) (r : Result Y Halt) → IsErrAnd r (λ e. e ≡ halt) →
     Keeps a b → Moves {X = X} b c (Err halt) → Moves a c r

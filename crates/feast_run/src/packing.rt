@@ -1,27 +1,29 @@
 //! The stages of a code file.
 ghost use Rattle.std.specs.Prelude.{◌≡◌, ◌≤◌, IfOk, length};
 ghost use Rattle.element_set.specs.Sets.{set_value};
+ghost use Rattle.feast_run.specs.Answer.{shows};
 ghost use Rattle.feast_run.specs.Forms.{most_files, pack, texts};
 ghost use Rattle.feast_run.specs.Outputs.{IsWritable, output_text};
 ghost use Rattle.feast_run.specs.Packed.{pack_text};
 ghost use Rattle.feast_run.specs.Replies.{TellsForm};
-ghost use Rattle.feast_run.specs.Tellings.{Moves};
+ghost use Rattle.feast_run.specs.Tellings.{Moves, Tells};
 
 use crate::element_files::load_set;
 use crate::halt::Halt;
 use crate::output::Output;
 use code_file::write;
 use element_set::ElementSet;
-use feast_base::{NoMemory, Shelf};
+use feast_base::Shelf;
 use std::alloc::Global;
 
 /// The code file of a set's elements.
-fn packed(alloc: Global, set: &ElementSet) -> Result<Vec<u8>, NoMemory>
-    ensures { IfOk result (λ v. v.items ≡ pack_text (set_value set.now)) }
+fn packed<'a>(alloc: Global, set: &ElementSet) -> Result<Output, Halt<'a>>
+    ensures tells { Tells output_text (shows pack_text (set_value set.now)) result }
+    ensures writable { IfOk result IsWritable }
 {
     let mut text = Vec::new(alloc);
     write(set.names(), set.codes(), &mut text)?;
-    Ok(text)
+    Ok(Output::Text(text))
 }
 
 /// The stages of a code file, up to its bytes.
@@ -37,6 +39,5 @@ pub fn pack_stages<'a, F: Shelf>(
     ensures writable { IfOk result IsWritable }
 {
     let set = load_set(alloc, shelf, words)?;
-    let text = packed(alloc, &set)?;
-    Ok(Output::Text(text))
+    packed(alloc, &set)
 }

@@ -1,9 +1,11 @@
 //! The stages of the forms, up to what is written.
 ghost use Rattle.std.specs.Prelude.{◌≡◌, ◌≤◌, IfOk, length};
+ghost use Rattle.element_set.specs.Sets.{check_text, code_text, set_value};
+ghost use Rattle.feast_run.specs.Answer.{shows};
 ghost use Rattle.feast_run.specs.Forms.{IsFew, check, code, form_value, most_files, texts};
 ghost use Rattle.feast_run.specs.Outputs.{IsWritable, output_text};
 ghost use Rattle.feast_run.specs.Replies.{TellsForm};
-ghost use Rattle.feast_run.specs.Tellings.{Moves};
+ghost use Rattle.feast_run.specs.Tellings.{Moves, Tells};
 
 use crate::auditing::audit_stages;
 use crate::element_files::load_set;
@@ -16,9 +18,20 @@ use crate::replaying::replay_stages;
 use crate::rewinding::rewind_stages;
 use crate::running::{run_stages, runpack_stages};
 use crate::stepping::{step_stages, steppack_stages};
+use element_set::ElementSet;
 use feast_base::{Gate, Shelf};
 use std::alloc::Global;
 use std::thread::Threads;
+
+/// The text of a check of a set.
+fn checked<'a>(alloc: Global, set: &ElementSet) -> Result<Output, Halt<'a>>
+    ensures tells { Tells output_text (shows check_text (set_value set.now)) result }
+    ensures writable { IfOk result IsWritable }
+{
+    let mut text = Vec::new(alloc);
+    set.print_check(&mut text)?;
+    Ok(Output::Text(text))
+}
 
 /// The stages of a check, up to its text.
 fn check_stages<'a, F: Shelf>(
@@ -33,8 +46,16 @@ fn check_stages<'a, F: Shelf>(
     ensures writable { IfOk result IsWritable }
 {
     let set = load_set(alloc, shelf, words)?;
+    checked(alloc, &set)
+}
+
+/// The text of the codes of a set.
+fn coded<'a>(alloc: Global, set: &ElementSet) -> Result<Output, Halt<'a>>
+    ensures tells { Tells output_text (shows code_text (set_value set.now)) result }
+    ensures writable { IfOk result IsWritable }
+{
     let mut text = Vec::new(alloc);
-    set.print_check(&mut text)?;
+    set.print_code(&mut text)?;
     Ok(Output::Text(text))
 }
 
@@ -51,9 +72,7 @@ fn code_stages<'a, F: Shelf>(
     ensures writable { IfOk result IsWritable }
 {
     let set = load_set(alloc, shelf, words)?;
-    let mut text = Vec::new(alloc);
-    set.print_code(&mut text)?;
-    Ok(Output::Text(text))
+    coded(alloc, &set)
 }
 
 /// The stages of a form, up to what it writes.

@@ -25,7 +25,6 @@ pub enum Order {
 
 /// A world: `tx` by `ty` tiles of `w` by `h` sites, some of which may be off, the attempts of the
 /// tiles, the atoms at the start, and the order of a stepped run.
-#[derive(Drop)]
 pub struct World {
     /// How many tiles a row of them has, 1 to 8.
     pub tx: u32,
@@ -43,4 +42,20 @@ pub struct World {
     pub atoms: Vec<Placed>,
     /// The order of a stepped run.
     pub order: Order,
+}
+
+// Written by hand, not derived: so a caller drops it by one call.
+impl Drop for World {
+    fn drop(self) {
+        let World {
+            tx,
+            ty,
+            w,
+            h,
+            off,
+            plan,
+            atoms,
+            order,
+        } = self;
+    }
 }

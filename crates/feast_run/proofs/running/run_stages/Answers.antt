@@ -1,4 +1,5 @@
-use Rattle.feast_run.proofs.Telling.{tells_then, tells_exit}
+use Rattle.feast_run.proofs.Telling.{moves_last, tells_then, tells_exit}
+use Rattle.feast_run.specs.Answer.{runs}
 use Rattle.feast_run.specs.Outputs.{output_text}
 use Rattle.feast_run.specs.Values.{ready_value}
 use Rattle.feast_run.proofs.running.run_stages.Goals as goal
@@ -11,3 +12,8 @@ returns-in_err-ready-clause-tells g c =
     let exit = c.from_residual in
     tells_exit ready_value output_text _ _ c.in_err-ready.field-0.0 exit.result exit.ensures.1
     c.in_err-ready.ensures.tells
+
+pub returns-clause-moves : goal.returns-clause-moves
+returns-clause-moves g c =
+    moves_last output_text (runs (ready_value c.in_ok-ready.ready)) _ _ c.run_rest.result (λ w h. absurd h)
+    c.in_ok-ready.ensures.moves c.run_rest.ensures.tells
