@@ -13,11 +13,12 @@ use crate::simple::{cond, declare, maybe, simple};
 use crate::symbol::Symbol;
 use crate::take::{sees, skip};
 use crate::tape::Tape;
-use std::alloc::{AllocError, Global};
+use feast_base::NoMemory;
+use std::alloc::Global;
 use ulam_tree::{Cond, Expr, Statement};
 
 /// A part of a `for` that is present.
-fn part(alloc: Global, statement: Statement) -> Result<Option<Box<Statement>>, AllocError>
+fn part(alloc: Global, statement: Statement) -> Result<Option<Box<Statement>>, NoMemory>
     ensures { IfOk result (λ y. part_alone y ≡ t.part (statement_of statement)) }
 {
     Ok(Some(Box::new(alloc, statement)?))
