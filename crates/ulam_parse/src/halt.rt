@@ -1,10 +1,10 @@
 //! Why reading ended without a tree.
 
 use feast_base::NoMemory;
-use std::alloc::{AllocError, AllocFailed};
+use std::alloc::AllocFailed;
 
 /// Why reading ended without a tree.
-#[derive(Clone, Copy, Debug, PartialEq, Eq)]
+#[derive(Clone, Copy)]
 pub enum Halt {
     /// Memory ran out.
     NoMemory,
@@ -13,17 +13,6 @@ pub enum Halt {
     Left(usize),
     /// The limit on steps was reached. It is more than the number of tokens, so this never happens.
     OutOfSteps,
-}
-
-impl From<AllocError> for Halt {
-    ghost use Rattle.std.specs.Prelude.{◌≡◌};
-    ghost use Rattle.ulam_parse.specs.declared.halt.Halt.TheVariants.{NoMemory};
-
-    ghost from_gives = { λ _ e. e ≡ NoMemory };
-
-    fn from(_: AllocError) -> Halt {
-        Halt::NoMemory
-    }
 }
 
 impl<T: Drop> From<AllocFailed<T>> for Halt {

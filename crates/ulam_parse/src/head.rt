@@ -1,7 +1,5 @@
 //! The heads of `if`, `while` and `for`.
-ghost use Rattle.std.specs.Prelude.{◌≡◌, IfOk};
-ghost use Rattle.ulam_tree.specs.Raw as t;
-ghost use Rattle.ulam_tree.specs.RawViews.{expr_of, cond_of, statement_of, part_alone};
+ghost use Rattle.ulam_tree.specs.RawViews.{expr_of, cond_of, part_alone};
 ghost use Rattle.ulam_parse.specs.Heads.{head_of};
 ghost use Rattle.ulam_parse.specs.Statements as spec;
 ghost use Rattle.ulam_parse.specs.Views.{Reads};
@@ -10,18 +8,12 @@ use crate::expr::expr;
 use crate::for_parts::ForParts;
 use crate::halt::Halt;
 use crate::simple::{cond, declare, maybe, simple};
+use crate::statement::boxed;
 use crate::symbol::Symbol;
 use crate::take::{sees, skip};
 use crate::tape::Tape;
-use std::alloc::{AllocError, Global};
+use std::alloc::Global;
 use ulam_tree::{Cond, Expr, Statement};
-
-/// A part of a `for` that is present.
-fn part(alloc: Global, statement: Statement) -> Result<Option<Box<Statement>>, AllocError>
-    ensures { IfOk result (λ y. part_alone y ≡ t.part (statement_of statement)) }
-{
-    Ok(Some(Box::new(alloc, statement)?))
-}
 
 /// What a `for` does first.
 #[tactic(auto, unfolding(crate::specs::Statements::first_part))]
@@ -36,10 +28,10 @@ fn first_part(
         Ok((None, at))
     } else if sees(Symbol::TypeName, tape, at) {
         let (statement, next) = declare(alloc, tape, at)?;
-        Ok((part(alloc, statement)?, next))
+        Ok((Some(boxed(alloc, statement)?), next))
     } else {
         let (statement, next) = simple(alloc, tape, at)?;
-        Ok((part(alloc, statement)?, next))
+        Ok((Some(boxed(alloc, statement)?), next))
     }
 }
 
@@ -51,8 +43,8 @@ fn step_part(alloc: Global, tape: &Tape, at: usize) -> Result<(Option<Box<Statem
     if sees(Symbol::CloseParen, tape, at) {
         return Ok((None, at));
     }
-    let (statement, next) = simple(alloc, tape, at)?;
-    Ok((part(alloc, statement)?, next))
+    let (step, next) = simple(alloc, tape, at)?;
+    Ok((Some(boxed(alloc, step)?), next))
 }
 
 /// The parts of a `for` that are in its brackets.

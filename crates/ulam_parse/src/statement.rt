@@ -19,7 +19,7 @@ use std::alloc::Global;
 use ulam_tree::{Statement, raw_build as build};
 
 /// A statement in a box.
-fn boxed(alloc: Global, statement: Statement) -> Result<Box<Statement>, NoMemory>
+pub fn boxed(alloc: Global, statement: Statement) -> Result<Box<Statement>, NoMemory>
     ensures { IfOk result (λ b. box_value b ≡ statement) }
 {
     Ok(Box::new(alloc, statement)?)
