@@ -7,6 +7,7 @@ use atom_layout::LayoutFault;
 use code_gen::GenFault;
 use feast_base::{NoMemory, Place, Refusal};
 use std::alloc::{AllocError, AllocFailed};
+use thiserror::Error;
 use ulam_heirs::HeirsFault;
 use ulam_lex::LexFault;
 use ulam_names::NameFault;
@@ -14,12 +15,14 @@ use ulam_parse::ParseFault;
 use ulam_types::TypeFault;
 
 /// Why files are not a set of elements.
-#[derive(Clone, Copy)]
+#[derive(Clone, Copy, Debug, Error)]
 pub enum BuildFault {
     /// The refusal of the first stage that refuses. The file of its place is a number among the
     /// files to be built.
+    #[error("refused")]
     Refused(Refusal),
     /// Memory ran out.
+    #[error("out of memory")]
     NoMemory,
 }
 
