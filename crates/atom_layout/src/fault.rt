@@ -6,7 +6,7 @@ use thiserror::Error;
 
 /// The first class that takes too many bits: the place of its name, and the number of its bits, or
 /// 2^64 - 1 if there are more.
-#[derive(Clone, Copy, Debug, PartialEq, Eq, Error)]
+#[derive(Clone, Copy, Debug, Error)]
 pub enum LayoutFault {
     /// A quark of more than 32 bits.
     #[error("quark takes more than 32 bits")]

@@ -4,7 +4,7 @@ use feast_base::{NoMemory, Place};
 use thiserror::Error;
 
 /// The first element whose code the limits don't let through, or that memory ran out.
-#[derive(Clone, Copy, Debug, PartialEq, Eq, Error)]
+#[derive(Clone, Copy, Debug, Error)]
 pub enum GenFault {
     /// The code would have more than 65,536 instructions, or more than 512 operands at some place.
     /// The place is that of the element's name.

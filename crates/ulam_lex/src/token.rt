@@ -33,7 +33,7 @@ pub struct Token {
 }
 
 /// Why a text has no list of tokens.
-#[derive(Clone, Copy, Debug, PartialEq, Eq, Error)]
+#[derive(Clone, Copy, Debug, Error)]
 pub enum LexFault {
     /// A byte that can't be where it is.
     #[error("bad byte")]
