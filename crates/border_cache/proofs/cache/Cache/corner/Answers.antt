@@ -1,4 +1,4 @@
-use Rattle.std.proofs.Common.{◌≡◌, ℕ, ◌+◌, ◌-◌, ◌*◌, ◌<◌, ◌≤◌, length, true≢false, sym, ap, ◌∙◌, subst, arith}
+use Rattle.std.proofs.Common.{◌≡◌, ℕ, ◌+◌, ◌-◌, ◌*◌, ◌<◌, ◌≤◌, length, true≢false, refl, sym, ap, ◌∙◌, subst, arith}
 use Rattle.std.proofs.lemmas.Nat.{rows}
 use Rattle.tile_map.specs.Plane.{Site, site}
 use Rattle.tile_map.specs.Spans.{left_of, right_of, top_of, bottom_of}
@@ -79,3 +79,6 @@ returns-then-is_all_live-clause-low c =
 
 pub returns-else-is_all_live-clause-found : goal.returns-else-is_all_live-clause-found
 returns-else-is_all_live-clause-found c corners = absurd (true≢false (sym (c.is_all_live.ensures.found corners) ∙ c.if-is_all_live.false))
+
+pub returns-then-is_all_live-clause-found : goal.returns-then-is_all_live-clause-found
+returns-then-is_all_live-clause-found c = λ corners. refl
