@@ -24,7 +24,7 @@ sys.dont_write_bytecode = True
 sys.path.insert(0, str(TOP / "tools"))
 
 from first_call import seconds  # noqa: E402
-from first_call.crates import Crate, chains, crates_of_program  # noqa: E402
+from first_call.crates import Crate, awaited_most, chains, crates_of_program  # noqa: E402
 from first_call.progress import Progress, Status, wall_time  # noqa: E402
 from first_call.proof import Work  # noqa: E402
 from first_call.teller import as_bar  # noqa: E402
@@ -153,15 +153,15 @@ class FirstCall(unittest.TestCase):
         self.assertEqual(lines[-1][0], "4")
         self.assertRegex(told, r"proved and built in \d+ s; the program by itself is /.*/crates/feast/out/feast\n\Z")
 
-    def test_sources_are_looked_through_first(self) -> None:
+    def test_sources_are_looked_through_before_most_crates(self) -> None:
         told = Call(self, ["run"], FEAST_PREVIEW="no").end()[2]
-        if "side by side" in self.calls()[0]:
-            self.assertRegex(told, "0 of 5 .* reading all sources\n(.*\n)*.*proving low")
+        self.assertRegex(told, "0 of 5 .* proving low\n(.*\n)*.*1 of 5 .* reading all sources\n(.*\n)*.*proving middle")
 
     def test_program_is_proved_by_the_run_that_builds_it(self) -> None:
         Call(self, ["run"], FEAST_PREVIEW="no").end()
-        libraries = [f"{name} is proved" for name in ("low", "middle", "beside", "high")]
-        self.assertEqual(self.calls(), ["all check side by side 16", *libraries, "run", "feast is proved"])
+        first = ["lib low --jobs 4", "low is proved"]
+        others = ["all check side by side 16", *(f"{name} is proved" for name in ("middle", "beside", "high"))]
+        self.assertEqual(self.calls(), [*first, *others, "run", "feast is proved"])
 
     def test_progress_is_a_bar_on_a_terminal(self) -> None:
         ours, theirs = pty.openpty()
@@ -277,6 +277,10 @@ class Chains(unittest.TestCase):
 
     def test_longest_chain_counts(self) -> None:
         self.assertEqual(self.chain, {"low": 40.0, "beside": 15.0, "high": 30.0, "top": 10.0})
+
+    def test_lowest_crate_that_most_wait_for(self) -> None:
+        crates = [Crate("aside", TOP, ()), Crate("low", TOP, ()), Crate("high", TOP, ("low",))]
+        self.assertEqual(awaited_most(crates).name, "low")
 
     def test_crates_with_short_chains_give_way(self) -> None:
         nice = Turns(self.chain).niceness

@@ -60,7 +60,7 @@ class Build:
         self.teller.say("you can interrupt this: what is proved is kept, and the same command goes on from there")
         if seconds.LOOKING not in self.progress.done:
             looking = spoken(self.progress.expected[seconds.LOOKING])
-            self.teller.say(f"first all sources are read, which takes about {looking}")
+            self.teller.say(f"before most of them are proved, all sources are read, which takes about {looking}")
 
     def go(self) -> None:
         """Proves the crates and builds the program."""

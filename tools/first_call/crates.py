@@ -55,6 +55,12 @@ def crates_of_program(top: Path) -> list[Crate]:
     return sorted(crates, key=lambda crate: len(crate.below))
 
 
+def awaited_most(crates: list[Crate]) -> Crate:
+    """Of the crates that stand on no other, the one that most others stand on."""
+    lowest = (crate for crate in crates if not crate.below)
+    return max(lowest, key=lambda crate: sum(crate.name in it.below for it in crates))
+
+
 def chains(crates: list[Crate], seconds: Mapping[str, float]) -> dict[str, float]:
     """The seconds of the longest chain of crates, each above the one before it, that begins with each crate."""
     found: dict[str, float] = {}

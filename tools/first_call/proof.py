@@ -1,10 +1,11 @@
 """The toolchain's runs: which there are, and what one is at.
 
-With memory enough one run proves the libraries side by side, each by one processor. It first looks through all
-sources at once, which takes seven gigabytes, and tells of each crate when it is through with it. It begins
-crates in an order of its own, and one that waits for others below holds its place meanwhile; so it gets more
-places than there are processors if memory allows. It is ended before the program. With little memory each library
-is a run of its own, one after another. A last run proves the program and builds it.
+With memory enough a first run proves the library that most others wait for, by all processors, and a second one
+the others side by side, each by one. That one looks through all sources at once before, which takes seven
+gigabytes, and tells of each crate when it is through with it. It begins crates in an order of its own, and one that
+waits for others below holds its place meanwhile; so it gets more places than there are processors if memory allows.
+It is ended before the program. With little memory each library is a run of its own, one after another. A last run
+proves the program and builds it.
 """
 from __future__ import annotations
 
@@ -14,7 +15,7 @@ from pathlib import Path
 from typing import Optional
 
 from first_call.children import commands_of
-from first_call.crates import PROGRAM, Crate
+from first_call.crates import PROGRAM, Crate, awaited_most
 from first_call.machine import Room
 from first_call.seconds import LOOKING
 
@@ -39,8 +40,10 @@ def steps(crates: list[Crate], room: Room) -> list[Step]:
     last = Step(("rt", "run", "--jobs", "1", "--", "check", "/dev/null"), home, (PROGRAM,))
     if room.places == 1:
         return [*(Step(("rt", "lib"), crate.folder, (crate.name,)) for crate in crates[:-1]), last]
+    base = awaited_most(crates)
+    first = Step(("rt", "lib", "--jobs", str(room.lanes)), base.folder, (base.name,))
     words = ("rt", "all", "check", "--jobs", str(room.places))
-    return [Step(words, home, (), leaves=frozenset({PROGRAM})), last]
+    return [first, Step(words, home, (), leaves=frozenset({PROGRAM})), last]
 
 
 @dataclass(frozen=True)
