@@ -24,6 +24,7 @@ sys.dont_write_bytecode = True
 sys.path.insert(0, str(TOP / "tools"))
 
 from first_call import seconds  # noqa: E402
+from first_call.children import GIVING_WAY, Child  # noqa: E402
 from first_call.crates import Crate, awaited_most, chains, crates_of_program  # noqa: E402
 from first_call.progress import Progress, Status, wall_time  # noqa: E402
 from first_call.proof import Work  # noqa: E402
@@ -294,6 +295,21 @@ class Chains(unittest.TestCase):
         finally:
             process.kill()
             process.wait()
+
+
+class Sessions(unittest.TestCase):
+    """How sessions share the processors."""
+
+    def test_session_gives_way(self) -> None:
+        with tempfile.TemporaryFile() as out:
+            child = Child(["sleep", "60"], TOP, out)
+        try:
+            child.give_way()
+            shared = pathlib.Path(f"/proc/{child.process.pid}/autogroup")
+            if shared.exists():
+                self.assertRegex(shared.read_text(), f"nice {GIVING_WAY}")
+        finally:
+            child.end()
 
 
 class Estimates(unittest.TestCase):

@@ -11,6 +11,8 @@ from typing import IO, Iterator, Optional, Sequence
 
 # How long a process has to end by itself, in seconds.
 PATIENCE = 8.0
+# The niceness of a session that gives way.
+GIVING_WAY = 10
 # How often what goes on is looked at, in seconds.
 TICK = 0.5
 
@@ -27,6 +29,13 @@ class Child:
             stderr=subprocess.STDOUT if err is None else err,
             start_new_session=True,
         )
+
+    def give_way(self) -> None:
+        """Has the command's session give way to others, where the system shares processors among sessions."""
+        try:
+            Path(f"/proc/{self.process.pid}/autogroup").write_text(str(GIVING_WAY))
+        except OSError:
+            pass
 
     def status(self) -> Optional[int]:
         """The exit status, below 0 for a signal; None while it runs."""

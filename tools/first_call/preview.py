@@ -75,6 +75,7 @@ class Preview:
         self.out: IO[bytes] = tempfile.TemporaryFile()
         self.err: IO[bytes] = tempfile.TemporaryFile()
         self.child = Child(call.command(), home, self.out, self.err)
+        self.child.give_way()
 
     def answer(self) -> Optional[str]:
         """What is to be shown once the call has ended, None while it runs."""
