@@ -387,7 +387,7 @@ def main() -> int:
     def tried(case: unittest.TestCase) -> unittest.TestResult:
         return case.run(unittest.TestResult()) or unittest.TestResult()
 
-    kinds = (FirstCall, Chains, Estimates, Lines)
+    kinds = [kind for kind in globals().values() if isinstance(kind, type) and issubclass(kind, unittest.TestCase)]
     names = [(kind, name) for kind in kinds for name in unittest.defaultTestLoader.getTestCaseNames(kind)]
     cases = [kind(name) for kind, name in names if name in (sys.argv[1:] or [name])]
     with concurrent.futures.ThreadPoolExecutor(4) as pool:
