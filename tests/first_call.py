@@ -29,7 +29,7 @@ from first_call.crates import Crate, awaited_most, chains, crates_of_program  # 
 from first_call.progress import Progress, Status, wall_time  # noqa: E402
 from first_call.proof import Work  # noqa: E402
 from first_call.teller import as_bar  # noqa: E402
-from first_call.turns import Turns  # noqa: E402
+from first_call.turns import Turns, niceness  # noqa: E402
 
 CRATES = "low:\nmiddle: low # stands on low\nbeside: low\nhigh: middle beside\nfeast: high low\nother: low\n"
 # What the program of the pretended toolchain writes, and its status.
@@ -284,17 +284,17 @@ class Chains(unittest.TestCase):
         self.assertEqual(awaited_most(crates).name, "low")
 
     def test_crates_with_short_chains_give_way(self) -> None:
-        nice = Turns(self.chain).niceness
-        self.assertEqual([nice(name) for name in ("low", "high", "beside", "top")], [0, 10, 19, 19])
+        self.assertEqual([niceness(share) for share in (1.0, 0.75, 0.5, 0.25)], [0, 10, 19, 19])
 
     def test_process_is_given_its_niceness(self) -> None:
-        process = subprocess.Popen(["sleep", "60"])
-        try:
-            Turns(self.chain).give([Work(process.pid, "high", 0.0), Work(2**22 + 1, "low", 0.0)])
-            self.assertEqual(os.getpriority(os.PRIO_PROCESS, process.pid), min(os.nice(0) + 10, 19))
-        finally:
-            process.kill()
-            process.wait()
+        for name, beside, wanted in (("high", "low", 10), ("high", "top", 0)):
+            with self.subTest(f"{name} beside {beside}"):
+                process = subprocess.Popen(["sleep", "60"])
+                Turns(self.chain).give([Work(process.pid, name, 0.0), Work(2**22 + 1, beside, 0.0)])
+                found = os.getpriority(os.PRIO_PROCESS, process.pid)
+                process.kill()
+                process.wait()
+                self.assertEqual(found, min(os.nice(0) + wanted, 19))
 
 
 class Sessions(unittest.TestCase):

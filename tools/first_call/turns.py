@@ -7,7 +7,7 @@ from typing import Mapping, Sequence
 
 from first_call.proof import Work
 
-# The greatest niceness, and the length of a chain, as a share of the longest, from which on crates have less of it.
+# The greatest niceness, and the share of the longest chain from which on crates have less of it.
 MOST, SHORT = 19, 0.5
 
 
@@ -17,20 +17,20 @@ class Turns:
 
     def __init__(self, chain: Mapping[str, float]) -> None:
         self.chain = chain
-        self.longest = max(chain.values())
         self.given: set[int] = set()
 
     def give(self, running: Sequence[Work]) -> None:
-        """Gives each process its niceness, once, by the crate that it proves."""
+        """Gives each process its niceness, once, by its crate and those that are proved beside it then."""
+        longest = max((self.chain.get(work.name, 0.0) for work in running), default=0.0)
         for work in running:
             if work.name in self.chain and work.process not in self.given:
-                make_nicer(work.process, self.niceness(work.name))
+                make_nicer(work.process, niceness(self.chain[work.name] / longest))
         self.given = {work.process for work in running}
 
-    def niceness(self, crate: str) -> int:
-        """0 for the crate with the longest chain, and more the shorter it is."""
-        share = self.chain[crate] / self.longest
-        return round(MOST * min((1 - share) / (1 - SHORT), 1.0))
+
+def niceness(share: float) -> int:
+    """0 for a crate with the longest chain of those at work, and more the smaller a share of that its own has."""
+    return round(MOST * min((1 - share) / (1 - SHORT), 1.0))
 
 
 def make_nicer(process: int, niceness: int) -> None:
