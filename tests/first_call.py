@@ -301,15 +301,12 @@ class Sessions(unittest.TestCase):
     """How sessions share the processors."""
 
     def test_session_gives_way(self) -> None:
-        with tempfile.TemporaryFile() as out:
-            child = Child(["sleep", "60"], TOP, out)
-        try:
-            child.give_way()
-            shared = pathlib.Path(f"/proc/{child.process.pid}/autogroup")
-            if shared.exists():
-                self.assertRegex(shared.read_text(), f"nice {GIVING_WAY}")
-        finally:
-            child.end()
+        child = Child(["sleep", "60"], TOP, sys.stderr.buffer)
+        self.addCleanup(child.end)
+        child.give_way()
+        shared = pathlib.Path(f"/proc/{child.process.pid}/autogroup")
+        if shared.exists():
+            self.assertRegex(shared.read_text(), f"nice {GIVING_WAY}")
 
 
 class Estimates(unittest.TestCase):
