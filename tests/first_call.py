@@ -291,10 +291,9 @@ class Chains(unittest.TestCase):
             with self.subTest(f"{name} beside {beside}"):
                 process = subprocess.Popen(["sleep", "60"])
                 Turns(self.chain).give([Work(process.pid, name, 0.0), Work(2**22 + 1, beside, 0.0)])
-                found = os.getpriority(os.PRIO_PROCESS, process.pid)
-                process.kill()
-                process.wait()
-                self.assertEqual(found, min(os.nice(0) + wanted, 19))
+                self.addCleanup(process.wait)
+                self.addCleanup(process.kill)
+                self.assertEqual(os.getpriority(os.PRIO_PROCESS, process.pid), min(os.nice(0) + wanted, 19))
 
 
 class Sessions(unittest.TestCase):

@@ -6,9 +6,11 @@ import re
 from dataclasses import dataclass
 from pathlib import Path
 
-# How many gigabytes one run over all crates wants, and how many each crate that is proved beside others. With PLENTY
-# all crates can be proved at once that wait for no other, ten at most; there is then a multiple of places.
-ALL_AT_ONCE, EACH, PLENTY, PLACES = 12, 4, 20, 4
+# How many gigabytes one run over all crates wants, and how many it wants for each processor.
+ALL_AT_ONCE, EACH = 12, 4
+# With so many gigabytes there is room for all crates that wait for no other, which have held up to sixteen together;
+# each processor then has so many places.
+PLENTY, PLACES = 20, 4
 
 
 @dataclass(frozen=True)

@@ -49,8 +49,9 @@ def wall_time(crates: list[Crate], seconds: dict[str, float], lanes: int) -> flo
 @dataclass
 class Progress:
     """The crates in the toolchain's order, by how many processors they are proved, the seconds of one processor that
-    each and the work before them is expected to take, which of these are from nothing, and what is done; then the
-    seconds that each has taken so far, and what is at work now."""
+    each of them and looking through all sources is expected to take, which of these are from nothing, and what is
+    done; then the seconds that each has taken so far, and what is at work now. `whole` is what all of it takes by
+    the clock, if it goes as expected."""
 
     crates: list[Crate]
     lanes: int
@@ -60,19 +61,20 @@ class Progress:
     start: float = field(default_factory=time.monotonic)
     spent: dict[str, float] = field(default_factory=dict)
     now: tuple[str, ...] = ()
+    whole: float = field(init=False)
 
     def __post_init__(self) -> None:
         self.whole = self.ahead()
 
     def at_work(self, spent: Mapping[str, float]) -> None:
-        """Takes in what is at work at this moment, crates or the work before them, and what each has taken so far."""
+        """Takes in what is at work at this moment, crates or the look at the sources, and what each has taken."""
         if LOOKING in self.now and LOOKING not in spent:
             self.finish(LOOKING)
         self.spent.update(spent)
         self.now = tuple(name for name in self.names() if name in spent)
 
     def finish(self, name: str) -> None:
-        """Takes in that a crate, or the work before them, is done."""
+        """Takes in that a crate, or the look at the sources, is done."""
         self.done.add(name)
         self.now = tuple(it for it in self.now if it != name)
 
@@ -85,7 +87,7 @@ class Progress:
         return {name: self.spent[name] for name in self.anew & self.done & self.spent.keys()}
 
     def left_of(self, name: str) -> float:
-        """The seconds that are left of a crate, or of the work before them."""
+        """The seconds that are left of a crate, or of the look at the sources."""
         whole = 0.0 if name in self.done else self.expected[name]
         return max(whole - self.spent.get(name, 0.0), REST * whole)
 
