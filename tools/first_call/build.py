@@ -7,7 +7,7 @@ from typing import Callable, Optional
 
 from first_call import seconds
 from first_call.children import Child
-from first_call.crates import Crate, chains, crates_of_program
+from first_call.crates import chains, crates_of_program
 from first_call.faults import said_of_faults
 from first_call.kept import Kept, kept
 from first_call.machine import room_here
